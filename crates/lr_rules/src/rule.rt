@@ -1,0 +1,132 @@
+// The rules of logs, as a configuration gives them.
+use crate::{Listed, Path, Text};
+
+/// When a log is due, besides its sizes and ages.
+#[derive(Clone, Copy, Debug, PartialEq, Eq)]
+pub enum Criterion {
+    Hourly,
+    Daily,
+    /// On this day of the week, with 0 for Sunday, or every seven days; 7 is every seven days alone.
+    Weekly(u8),
+    Monthly,
+    Yearly,
+    /// Above this size, in bytes.
+    Size(u64),
+}
+
+/// How many members of a log are kept.
+#[derive(Clone, Copy, Debug, PartialEq, Eq)]
+pub enum Count {
+    /// At most this many.
+    Keep(u32),
+    /// All of them.
+    Always,
+}
+
+/// How a log is turned over.
+#[derive(Clone, Copy, Debug, PartialEq, Eq)]
+pub enum Way {
+    Rename,
+    Copy,
+    CopyTruncate,
+}
+
+/// Of which moment a stamp tells: that of the run, the same time of the day before, or an hour before.
+#[derive(Clone, Copy, Debug, PartialEq, Eq)]
+pub enum Back {
+    Now,
+    Yesterday,
+    HourAgo,
+}
+
+/// A field of a stamp.
+#[derive(Clone, Copy, Debug, PartialEq, Eq)]
+pub enum Field {
+    Year,
+    Month,
+    Day,
+    Hour,
+    Minute,
+    Second,
+    /// The seconds since 1970.
+    Epoch,
+}
+
+/// A byte of a stamp, or a field of it.
+#[derive(Clone, Copy, Debug, PartialEq, Eq)]
+pub enum Piece {
+    Byte(u8),
+    Field(Field),
+}
+
+/// How the stamp of a dated member is written.
+#[derive(Drop)]
+pub struct Format {
+    pub pieces: Listed<Piece>,
+    pub back: Back,
+}
+
+/// Whether a file or directory is made, and with which mode (permission bits).
+#[derive(Clone, Copy, Debug, PartialEq, Eq)]
+pub enum Make {
+    No,
+    Yes(Option<u32>),
+}
+
+/// The texts of the scripts of a definition.
+#[derive(Drop)]
+pub struct Scripts {
+    pub first: Option<Text>,
+    pub pre: Option<Text>,
+    pub post: Option<Text>,
+    pub last: Option<Text>,
+    pub preremove: Option<Text>,
+}
+
+/// One definition: the words that name its logs, and what holds of them. Sizes are in bytes, ages in days.
+#[derive(Drop)]
+pub struct Rule {
+    /// The file of the definition.
+    pub file: Path,
+    /// The line of its first word there, counted from 1.
+    pub line: u32,
+    pub words: Listed<Text>,
+    pub criterion: Criterion,
+    pub count: Count,
+    pub maxage: Option<u32>,
+    pub minage: Option<u32>,
+    pub minsize: Option<u64>,
+    pub maxsize: Option<u64>,
+    pub ifempty: bool,
+    pub missingok: bool,
+    pub ignore_duplicates: bool,
+    /// The number of the newest member.
+    pub start: u32,
+    pub extension: Option<Text>,
+    pub addextension: Option<Text>,
+    pub olddir: Option<Text>,
+    pub createolddir: Make,
+    pub way: Way,
+    pub create: Make,
+    pub mail: Option<Text>,
+    pub mailfirst: bool,
+    pub shared: bool,
+    pub scripts: Scripts,
+    pub dated: Option<Format>,
+}
+
+/// The definitions of a run, in the order in which they were read.
+#[derive(Drop)]
+pub struct Rules {
+    pub sets: Listed<Rule>,
+}
+
+/// How the members of a log are named.
+#[derive(Drop)]
+pub struct Naming {
+    pub dir: Path,
+    pub base: Text,
+    pub ext: Text,
+    pub start: u32,
+    pub dated: Option<Format>,
+}

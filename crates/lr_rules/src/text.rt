@@ -1,0 +1,64 @@
+// A text is bytes that are UTF-8.
+ghost use Rattle.std.specs.Prelude.{◌≡◌, ◌↔◌, List, ℕ, IfOk, IsErrOf, IsUtf8};
+
+use std::alloc::{AllocError, Global};
+use std::marker::Model;
+use thiserror::Error;
+
+#[derive(Debug, Drop, PartialEq, Eq, Error)]
+pub enum TextFault {
+    #[error("NotUtf8")]
+    NotUtf8,
+    #[error("Memory")]
+    Memory,
+}
+
+#[derive(Drop, Debug)]
+pub struct Text {
+    text: String,
+}
+
+impl Model for Text {
+    ghost use Rattle.std.specs.Prelude.{List, ℕ, string_bytes};
+
+    ghost Value = { List ℕ };
+
+    ghost view = { λ t. string_bytes t.text };
+}
+
+impl Text {
+    pub fn new(alloc: Global, bytes: &[u8]) -> Result<Text, TextFault>
+        ensures ok { IfOk result (λ text. (text ≡ bytes.now) × IsUtf8 bytes.now) }
+        ensures not_utf8 { IsErrOf result TextFault.NotUtf8 ↔ ¬ (IsUtf8 bytes.now) }
+    {
+        let Ok(text) = str::from_utf8(bytes) else {
+            return Err(TextFault::NotUtf8);
+        };
+        match String::from_str(alloc, text) {
+            Ok(text) => Ok(Text { text }),
+            Err(_) => Err(TextFault::Memory),
+        }
+    }
+
+    /// Another text of the same bytes.
+    pub fn copy(&self, alloc: Global) -> Result<Text, AllocError>
+        ensures { IfOk result (λ text. text ≡ self.now) }
+    {
+        Ok(Text {
+            text: String::from_str(alloc, self.text.as_str())?,
+        })
+    }
+
+    pub fn bytes(&self) -> &[u8]
+        ensures bytes { result.now ≡ self.now }
+        ensures utf8 { IsUtf8 self.now }
+    {
+        self.text.as_bytes()
+    }
+
+    pub fn as_str(&self) -> &str
+        ensures { result.now ≡ self.now }
+    {
+        self.text.as_str()
+    }
+}
