@@ -1,0 +1,6 @@
+pub mod Fits
+pub mod Lists
+pub mod Opening
+pub mod Steps
+pub mod Told
+pub mod World

@@ -1,0 +1,14 @@
+//! The disk as contracts see it: its journal, and the calls of the tool.
+#![tactic(auto)]
+
+mod entry;
+mod host;
+mod journal;
+mod sink;
+mod thing;
+
+pub use entry::Entry;
+pub use host::{CallFault, Host, ListFault};
+pub use journal::{Journal, OpenFile, Opening};
+pub use sink::{Sink, SinkFault};
+pub use thing::{Kind, Seen, Thing};

@@ -1,0 +1,31 @@
+// What a path can name.
+
+/// What a path names on a disk.
+#[derive(Clone, Copy, Debug, PartialEq, Eq)]
+pub enum Thing {
+    /// Nothing has the path.
+    Nothing,
+    /// The file with this identity.
+    File(u64),
+    Directory,
+    /// Neither a file nor a directory.
+    Other,
+}
+
+/// What a look can tell apart.
+#[derive(Clone, Copy, Debug, PartialEq, Eq)]
+pub enum Kind {
+    File,
+    Dir,
+    Other,
+}
+
+/// What a look sees. The size is in bytes, the modification moment in seconds since 1970, the mode in permission
+/// bits; they count for files alone.
+#[derive(Clone, Copy, Debug, PartialEq, Eq)]
+pub struct Seen {
+    pub kind: Kind,
+    pub size: u64,
+    pub mtime: i64,
+    pub mode: Option<u32>,
+}
