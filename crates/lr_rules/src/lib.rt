@@ -1,13 +1,24 @@
-//! Words that the crates above share.
+//! The words that all crates share: texts and paths, the rules of logs, civil moments, the faults of a report.
+//!
+//! The contract above it: a `Path` holds a valid path. Begin with `Path::from_word`, which makes the path that a word
+//! of a user names, or says what keeps it from being one:
+//!
+//! ```text
+//! let here = Path::new(alloc, b"/srv")?;
+//! let path = Path::from_word(alloc, &here, b"./logs//app.log")?;   // /srv/logs/app.log
+//! ```
 #![tactic(auto)]
 
 mod civil;
 mod fault;
+mod form;
 mod listed;
 mod memory;
 mod path;
 mod rule;
 mod steps;
+#[cfg(test)]
+mod tests;
 mod text;
 
 pub use civil::{Civil, Moment};

@@ -1,32 +1,40 @@
 // An absolute path: `/`, or parts that each stand behind one `/`.
-ghost use Rattle.std.specs.Prelude.{◌≡◌, ◌≤◌, ◌↔◌, length, List, ℕ, MatchResult, IfOk, IsTrue, None};
-ghost use Rattle.std.specs.Str.{is_utf8, bytes_eq};
-ghost use Rattle.std.specs.List.{list_any, slice_split};
-ghost use Rattle.lr_rules.specs.Path.{path_fault, is_slash, is_empty, is_dots, is_absolute, has_bad_byte, has_empty_part, has_dot_part, joined, last_of, parent_of, last_start_of, Fails};
+ghost use Rattle.std.specs.Prelude.{◌≡◌, ◌≤◌, ◌↔◌, [], ◌++◌, length, MatchResult, OnOk, IfOk, IsTrue, None};
+ghost use Rattle.std.specs.Str.{bytes_eq};
+ghost use Rattle.lr_rules.specs.Path.{path_fault, word_fault, cleaned, behind_slash, kept_parts, is_kept, joined, last_of, parent_of, last_start_of, IsRefusal};
 
-use crate::Text;
+use crate::form::{absolute, fault_of};
+use crate::{Memory, Text};
 use std::alloc::{AllocError, Global};
 use std::marker::Model;
 use thiserror::Error;
 
+/// Why bytes are no path: the first of these that applies. `Memory` is want of memory.
 #[derive(Clone, Copy, Debug, PartialEq, Eq, Error)]
 pub enum PathFault {
+    /// The bytes aren't UTF-8.
     #[error("NotUtf8")]
     NotUtf8,
+    /// There is a newline or a zero byte.
     #[error("BadByte")]
     BadByte,
+    /// There are more than 4,096 bytes.
     #[error("TooLong")]
     TooLong,
+    /// The first byte is no `/`.
     #[error("Relative")]
     Relative,
+    /// Nothing stands between two slashes, or behind the last one.
     #[error("EmptyPart")]
     EmptyPart,
+    /// A part is `.` or `..`.
     #[error("DotPart")]
     DotPart,
     #[error("Memory")]
     Memory,
 }
 
+/// An absolute path, in UTF-8, of at most 4,096 bytes and without newlines. Contracts see its bytes.
 #[derive(Drop, Debug)]
 pub struct Path {
     text: String,
@@ -44,90 +52,7 @@ impl Model for Path {
     ghost invariant = { λ p. path_fault (string_bytes p.text) ≡ None };
 }
 
-fn bad_byte(bytes: &[u8]) -> bool
-    ensures { result ≡ has_bad_byte bytes.now }
-{
-    bytes.iter().any(|b| *b == b'\n' || *b == 0)
-}
-
-fn any_empty(rest: &[u8]) -> bool
-    ensures { result ≡ list_any is_empty (slice_split is_slash rest.now) }
-{
-    rest.split(|b| *b == b'/').any(|part| part.is_empty())
-}
-
-fn any_dots(rest: &[u8]) -> bool
-    ensures { result ≡ list_any is_dots (slice_split is_slash rest.now) }
-{
-    rest.split(|b| *b == b'/').any(are_dots)
-}
-
-fn are_dots(part: &[u8]) -> bool
-    ensures { result ≡ is_dots part.now }
-{
-    match part {
-        [one] => *one == b'.',
-        [one, two] => *one == b'.' && *two == b'.',
-        _ => false,
-    }
-}
-
-fn empty_part(bytes: &[u8]) -> bool
-    ensures { result ≡ has_empty_part bytes.now }
-{
-    match bytes {
-        [] | [_] => false,
-        [_, rest @ ..] => any_empty(rest),
-    }
-}
-
-fn dot_part(bytes: &[u8]) -> bool
-    ensures { result ≡ has_dot_part bytes.now }
-{
-    match bytes {
-        [] => false,
-        [_, rest @ ..] => any_dots(rest),
-    }
-}
-
-fn is_text(bytes: &[u8]) -> bool
-    ensures { result ≡ is_utf8 bytes.now }
-{
-    str::from_utf8(bytes).is_ok()
-}
-
-fn absolute(bytes: &[u8]) -> bool
-    ensures { result ≡ is_absolute bytes.now }
-{
-    match bytes {
-        [] => false,
-        [first, ..] => *first == b'/',
-    }
-}
-
-/// The first thing that keeps bytes from being a path.
-#[tactic(auto, unfolding(crate::specs::Path::path_fault))]
-fn fault_of(bytes: &[u8]) -> Option<PathFault>
-    ensures { result ≡ path_fault bytes.now }
-{
-    if !is_text(bytes) {
-        Some(PathFault::NotUtf8)
-    } else if bad_byte(bytes) {
-        Some(PathFault::BadByte)
-    } else if bytes.len() > 4096 {
-        Some(PathFault::TooLong)
-    } else if !absolute(bytes) {
-        Some(PathFault::Relative)
-    } else if empty_part(bytes) {
-        Some(PathFault::EmptyPart)
-    } else if dot_part(bytes) {
-        Some(PathFault::DotPart)
-    } else {
-        None
-    }
-}
-
-/// Where the part behind the last slash begins.
+// Where the part behind the last slash begins.
 fn last_start(bytes: &[u8]) -> usize
     ensures bound { result ≤ length bytes.now }
     ensures start { result ≡ last_start_of bytes.now }
@@ -140,9 +65,9 @@ fn last_start(bytes: &[u8]) -> usize
 }
 
 impl Path {
-    /// The path of these bytes, or the first thing that keeps them from being one.
+    /// The path of these bytes; a refusal is the first that applies.
     pub fn new(alloc: Global, bytes: &[u8]) -> Result<Path, PathFault>
-        ensures { MatchResult result (λ path. (path ≡ bytes.now) × (path_fault bytes.now ≡ None)) (Fails (path_fault bytes.now)) }
+        ensures { MatchResult result (λ path. (path ≡ bytes.now) × (path_fault bytes.now ≡ None)) (IsRefusal (path_fault bytes.now)) }
     {
         if let Some(fault) = fault_of(bytes) {
             return Err(fault);
@@ -153,6 +78,35 @@ impl Path {
         }
     }
 
+    /// The path that a word of the command line or of a configuration names: a relative word stands behind `here`, and
+    /// empty parts and `.` parts are dropped. A refusal is the first that applies: `Relative` for an empty word, else
+    /// that of `new` for the whole path behind this cleaning.
+    pub fn from_word(alloc: Global, here: &Path, word: &[u8]) -> Result<Path, PathFault>
+        ensures path { MatchResult result (λ path. (path ≡ cleaned here.now word.now) × (word_fault here.now word.now ≡ None)) (IsRefusal (word_fault here.now word.now)) }
+        ensures relative { result ≡ Err PathFault.Relative → word.now ≡ [] }
+        ensures no_empty_part { ¬ (result ≡ Err PathFault.EmptyPart) }
+    {
+        if word.is_empty() {
+            return Err(PathFault::Relative);
+        }
+        match cleaned_bytes(alloc, here.bytes(), word) {
+            Ok(bytes) => Path::from_vec(bytes),
+            Err(_) => Err(PathFault::Memory),
+        }
+    }
+
+    /// The directory in which the path stands; that of `/` is `/`.
+    pub fn parent(&self, alloc: Global) -> Result<Path, Memory>
+        ensures { IfOk result (λ path. path ≡ parent_of self.now) }
+    {
+        match Path::new(alloc, self.parent_bytes()) {
+            Ok(path) => Ok(path),
+            // What stands before a slash of a path is a path, so this is want of memory.
+            Err(_) => Err(Memory),
+        }
+    }
+
+    /// The bytes of the path.
     pub fn bytes(&self) -> &[u8]
         ensures bytes { result.now ≡ self.now }
         ensures path { path_fault self.now ≡ None }
@@ -160,6 +114,7 @@ impl Path {
         self.text.as_bytes()
     }
 
+    /// The path as a text.
     pub fn as_str(&self) -> &str
         ensures { result.now ≡ self.now }
     {
@@ -185,7 +140,7 @@ impl Path {
         }
     }
 
-    /// The bytes of the directory: `/` of `/` and of what stands in it.
+    /// The bytes of the directory: `/` for `/` and for what stands in it.
     pub fn parent_bytes(&self) -> &[u8]
         ensures { result.now ≡ parent_of self.now }
     {
@@ -198,9 +153,9 @@ impl Path {
         }
     }
 
-    /// The path of this last part in the directory.
+    /// The path of what stands under this name in the directory; a refusal is that of `new` for the joined bytes.
     pub fn join(&self, alloc: Global, last: &[u8]) -> Result<Path, PathFault>
-        ensures { MatchResult result (λ path. (path ≡ joined self.now last.now) × (path_fault path ≡ None)) (Fails (path_fault (joined self.now last.now))) }
+        ensures { MatchResult result (λ path. (path ≡ joined self.now last.now) × (path_fault path ≡ None)) (IsRefusal (path_fault (joined self.now last.now))) }
     {
         match joined_bytes(alloc, self.text.as_bytes(), last) {
             Ok(bytes) => Path::from_vec(bytes),
@@ -209,7 +164,7 @@ impl Path {
     }
 
     fn from_vec(bytes: Vec<u8>) -> Result<Path, PathFault>
-        ensures { MatchResult result (λ path. (path ≡ bytes.items) × (path_fault path ≡ None)) (Fails (path_fault bytes.items)) }
+        ensures { MatchResult result (λ path. (path ≡ bytes.items) × (path_fault path ≡ None)) (IsRefusal (path_fault bytes.items)) }
     {
         match String::from_utf8(bytes) {
             Err(_) => Err(PathFault::NotUtf8),
@@ -220,7 +175,7 @@ impl Path {
         }
     }
 
-    /// Another path of the same bytes.
+    /// An equal path.
     pub fn copy(&self, alloc: Global) -> Result<Path, AllocError>
         ensures { IfOk result (λ path. path ≡ self.now) }
     {
@@ -254,5 +209,52 @@ fn joined_bytes(alloc: Global, dir: &[u8], last: &[u8]) -> Result<Vec<u8>, Alloc
     }
     bytes.push(b'/')?;
     bytes.extend_from_slice(last)?;
+    Ok(bytes)
+}
+
+// Whether a part of a word is a part of its path: it is neither empty nor `.`.
+fn part_kept(part: &[u8]) -> bool
+    ensures { result ≡ is_kept part.now }
+{
+    match part {
+        [] => false,
+        [one] => *one != b'.',
+        _ => true,
+    }
+}
+
+// Adds a part behind a slash, where it is kept.
+fn add_part(into: &mut Vec<u8>, part: &[u8]) -> Result<(), AllocError>
+    ensures { OnOk result (into.new.items ≡ into.old.items ++ behind_slash part.now) }
+{
+    if part_kept(part) {
+        into.push(b'/')?;
+        into.extend_from_slice(part)?;
+    }
+    Ok(())
+}
+
+// Adds the parts that are kept, each behind a slash.
+fn add_parts(into: &mut Vec<u8>, bytes: &[u8]) -> Result<(), AllocError>
+    ensures { OnOk result (into.new.items ≡ into.old.items ++ kept_parts bytes.now) }
+{
+    for part in bytes.split(|b| *b == b'/') {
+        add_part(into, part)?;
+    }
+    Ok(())
+}
+
+// The bytes of the path that a word names.
+fn cleaned_bytes(alloc: Global, here: &[u8], word: &[u8]) -> Result<Vec<u8>, AllocError>
+    ensures { IfOk result (λ bytes. bytes.items ≡ cleaned here.now word.now) }
+{
+    let mut bytes = Vec::new(alloc);
+    if !absolute(word) {
+        add_parts(&mut bytes, here)?;
+    }
+    add_parts(&mut bytes, word)?;
+    if bytes.is_empty() {
+        bytes.push(b'/')?;
+    }
     Ok(bytes)
 }

@@ -1,0 +1,90 @@
+// Whether bytes are a path.
+ghost use Rattle.std.specs.Prelude.{◌≡◌};
+ghost use Rattle.std.specs.Str.{is_utf8};
+ghost use Rattle.std.specs.List.{list_any, slice_split};
+ghost use Rattle.lr_rules.specs.Path.{path_fault, is_slash, is_empty, is_dots, is_absolute, has_bad_byte, has_empty_part, has_dot_part};
+
+use crate::PathFault;
+
+fn bad_byte(bytes: &[u8]) -> bool
+    ensures { result ≡ has_bad_byte bytes.now }
+{
+    bytes.iter().any(|b| *b == b'\n' || *b == 0)
+}
+
+fn any_empty(rest: &[u8]) -> bool
+    ensures { result ≡ list_any is_empty (slice_split is_slash rest.now) }
+{
+    rest.split(|b| *b == b'/').any(|part| part.is_empty())
+}
+
+fn any_dots(rest: &[u8]) -> bool
+    ensures { result ≡ list_any is_dots (slice_split is_slash rest.now) }
+{
+    rest.split(|b| *b == b'/').any(are_dots)
+}
+
+fn are_dots(part: &[u8]) -> bool
+    ensures { result ≡ is_dots part.now }
+{
+    match part {
+        [one] => *one == b'.',
+        [one, two] => *one == b'.' && *two == b'.',
+        _ => false,
+    }
+}
+
+fn empty_part(bytes: &[u8]) -> bool
+    ensures { result ≡ has_empty_part bytes.now }
+{
+    match bytes {
+        [] | [_] => false,
+        [_, rest @ ..] => any_empty(rest),
+    }
+}
+
+fn dot_part(bytes: &[u8]) -> bool
+    ensures { result ≡ has_dot_part bytes.now }
+{
+    match bytes {
+        [] => false,
+        [_, rest @ ..] => any_dots(rest),
+    }
+}
+
+fn is_text(bytes: &[u8]) -> bool
+    ensures { result ≡ is_utf8 bytes.now }
+{
+    str::from_utf8(bytes).is_ok()
+}
+
+pub fn absolute(bytes: &[u8]) -> bool
+    ensures { result ≡ is_absolute bytes.now }
+{
+    match bytes {
+        [] => false,
+        [first, ..] => *first == b'/',
+    }
+}
+
+// The first thing that keeps bytes from being a path.
+#[tactic(auto, unfolding(crate::specs::Path::path_fault))]
+pub fn fault_of(bytes: &[u8]) -> Option<PathFault>
+    ensures { result ≡ path_fault bytes.now }
+{
+    if !is_text(bytes) {
+        Some(PathFault::NotUtf8)
+    } else if bad_byte(bytes) {
+        Some(PathFault::BadByte)
+    } else if bytes.len() > 4096 {
+        Some(PathFault::TooLong)
+    } else if !absolute(bytes) {
+        Some(PathFault::Relative)
+    } else if empty_part(bytes) {
+        Some(PathFault::EmptyPart)
+    } else if dot_part(bytes) {
+        Some(PathFault::DotPart)
+    } else {
+        None
+    }
+}
