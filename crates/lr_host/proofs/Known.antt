@@ -10,7 +10,7 @@ use Rattle.lr_host.specs.declared.thing.Seen.{Seen}
 use Rattle.lr_host.specs.declared.entry.Entry.{Entry}
 use Rattle.lr_host.specs.declared.entry.Entry.TheVariants as entry
 use Rattle.lr_host.specs.declared.journal.Journal.{Journal}
-use Rattle.lr_host.specs.World.{World, Past, ◌▸◌, past, world, names}
+use Rattle.lr_host.specs.World.{World, Past, ◌▸◌, past, world, Names, names}
 use Rattle.lr_host.specs.Fits.{Fits, Sees}
 use Rattle.lr_host.specs.Opening.{IsJournal}
 use Rattle.lr_host.specs.Told.{IsIn, WhereTold, Made, at_first, by_writer, by_tool, Left, not_told, is_told, CanCall, Can}
@@ -24,17 +24,23 @@ writers_more : (p q : Past) → Made p [] q → IsMore (names (world p)) (names 
 writers_more p _ at_first = λ y. inl refl
 writers_more p _ (by_writer {q = q} {e = e} m i f) = more_on (names (world p)) (names (world q)) (names (world (q ▸ e))) (writers_more p q m) (λ y. wrote_names q e y i)
 
-one_says : (p q : Past) (e e' : Entry) (es : List Entry) → es ≡ e ∷ [] → Made p es q → ((w : Past) → Fits (world w) e → CanCall (names (world (w ▸ e))) e') → CanCall (names (world q)) e'
-one_says p q e e' es is at_first f = absurd (cc)
-one_says p _ e e' es is (by_writer {q = q} {e = d} m i g) f = can_more (names (world q)) (names (world (q ▸ d))) e' (λ y. wrote_names q d y i) (one_says p q e e' es is m f)
-one_says p _ e e' _ is (by_tool {es = es} {q = q} {e = d} m i g) f = subst (λ x. CanCall (names (world (q ▸ x))) e') (sym same) (f q (subst (Fits (world q)) same g))
+one_tells : (P : Names → Type 0) → ((n n' : Names) → IsMore n n' → P n → P n') → (p q : Past) (e : Entry) (es : List Entry) → es ≡ e ∷ [] → Made p es q
+    → ((w : Past) → Fits (world w) e → P (names (world (w ▸ e)))) → P (names (world q))
+one_tells P stays p q e es is at_first f = absurd (cc)
+one_tells P stays p _ e es is (by_writer {q = q} {e = d} m i g) f = stays (names (world q)) (names (world (q ▸ d))) (λ y. wrote_names q d y i) (one_tells P stays p q e es is m f)
+one_tells P stays p _ e _ is (by_tool {es = es} {q = q} {e = d} m i g) f = subst (λ x. P (names (world (q ▸ x)))) (sym same) (f q (subst (Fits (world q)) same g))
   where
     same : d ≡ e
     same = cc
 
+-- what an entry says of the names and writers can't end is known behind the call that left it
+pub entry_tells : (P : Names → Type 0) → ((n n' : Names) → IsMore n n' → P n → P n') → {e : Entry} {o n : Option Journal} → Left (λ ts. ts ≡ e ∷ []) o n
+    → ((w : Past) → Fits (world w) e → P (names (world (w ▸ e)))) → WhereTold n (λ p. P (names (world p)))
+entry_tells P stays not_told f = tt
+entry_tells P stays {e} (is_told {j = j} {k = k} {es = es} m h) f = one_tells P stays (past j) (past k) e es (sym (reverse-reverse es) ∙ ap reverse h) m f
+
 pub entry_says : {e e' : Entry} {o n : Option Journal} → Left (λ ts. ts ≡ e ∷ []) o n → ((w : Past) → Fits (world w) e → CanCall (names (world (w ▸ e))) e') → Can n e'
-entry_says not_told f = record { can = tt }
-entry_says {e} {e'} (is_told {j = j} {k = k} {es = es} m h) f = record { can = one_says (past j) (past k) e e' es (sym (reverse-reverse es) ∙ ap reverse h) m f }
+entry_says {e} {e'} l f = record { can = entry_tells (λ n. CanCall n e') (λ n n' more c. can_more n n' e' more c) l f }
 
 -- a path where a look saw a file can be read, renamed and so on
 seen_file : (w : World) (t : Thing) (seen : Seen) → Sees w t (Some seen) → seen.kind ≡ kind.File → (g : ℕ) × (t ≡ thing.File g)

@@ -73,7 +73,7 @@ directory_more n n' x more d = ⊎_elim (λ same. same ∙ d) (λ new. absurd (c
 pub file_more : (n n' : Names) (x : Path) → IsMore n n' → IsFileAt n x → IsFileAt n' x
 file_more n n' x more f = (f.0, file_same n n' x more f ∙ f.1)
 
-not_more : (n n' : Names) (x : Path) (t : Thing) → IsMore n n' → ((g : ℕ) → thing.File g ≡ t → ⊥) → n x ≢ t → n' x ≢ t
+pub not_more : (n n' : Names) (x : Path) (t : Thing) → IsMore n n' → ((g : ℕ) → thing.File g ≡ t → ⊥) → n x ≢ t → n' x ≢ t
 not_more n n' x t more nf ne is = ⊎_elim (λ same. ne (sym same ∙ is)) (λ new. nf new.1.0 (sym new.1.1 ∙ is)) (more x)
 
 -- a call that fits the names still fits where files were made

@@ -97,7 +97,7 @@ impl Path {
 
     /// The directory in which the path stands; that of `/` is `/`.
     pub fn parent(&self, alloc: Global) -> Result<Path, Memory>
-        ensures { IfOk result (λ path. path ≡ parent_of self.now) }
+        ensures { IfOk result (λ path. (path ≡ parent_of self.now) × (path_fault path ≡ None)) }
     {
         match Path::new(alloc, self.parent_bytes()) {
             Ok(path) => Ok(path),

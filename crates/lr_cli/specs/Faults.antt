@@ -1,0 +1,46 @@
+-- The fault by which a run tells why it stopped; none for want of memory.
+use Rattle.std.specs.Prelude.{◌≤◌, Contains, length, Option, Some, None}
+use Rattle.lr_rules.specs.declared.path.Path.{Path}
+use Rattle.lr_rules.specs.declared.fault.Fault.{Fault}
+use Rattle.lr_rules.specs.declared.fault.Fault.TheVariants as fault
+use Rattle.lr_rules.specs.declared.fault.ConfKind.{ConfKind}
+use Rattle.lr_rules.specs.declared.fault.ConfKind.TheVariants as conf_kind
+use Rattle.lr_rules.specs.declared.fault.CallKind.TheVariants as call
+use Rattle.lr_cli.specs.declared.conf.ConfStop.{ConfStop}
+use Rattle.lr_cli.specs.declared.conf.ConfStop.TheVariants as stop
+use Rattle.lr_cli.specs.declared.rotation.TurnStop.{TurnStop}
+use Rattle.lr_cli.specs.declared.rotation.TurnStop.TheVariants as turn
+use Rattle.lr_cli.specs.declared.outcome.Outcome.{Outcome}
+use Rattle.lr_cli.specs.declared.outcome.Outcome.TheVariants.{Done}
+
+-- a fault of the configuration as a whole
+abbrev pub conf_fault : Path → ConfKind → Fault
+conf_fault conf kind = fault.Conf conf 0 kind
+
+abbrev pub conf_fault_of : Path → ConfStop → Option Fault
+conf_fault_of conf stop.NoFile = Some (conf_fault conf conf_kind.NoFile)
+conf_fault_of conf stop.NotYet = Some (conf_fault conf conf_kind.NotYet)
+conf_fault_of conf stop.Look = Some (fault.Call call.Look conf)
+conf_fault_of conf stop.Read = Some (fault.Call call.Read conf)
+conf_fault_of conf stop.Memory = None
+
+abbrev pub turn_fault_of : Path → Path → Path → TurnStop → Option Fault
+turn_fault_of conf log dir turn.Missing = Some (fault.Missing log)
+turn_fault_of conf log dir turn.NotFile = Some (fault.NotFile log)
+turn_fault_of conf log dir turn.NoDir = Some (fault.NoDir dir)
+turn_fault_of conf log dir turn.HasMember = Some (conf_fault conf conf_kind.NotYet)
+turn_fault_of conf log dir turn.LookLog = Some (fault.Call call.Look log)
+turn_fault_of conf log dir turn.LookDir = Some (fault.Call call.Look dir)
+turn_fault_of conf log dir turn.List = Some (fault.Call call.List dir)
+turn_fault_of conf log dir turn.Rename = Some (fault.Call call.Rename log)
+turn_fault_of conf log dir turn.Memory = None
+
+-- the report has the fault
+abbrev pub HasFault : Outcome → Fault → Type 0
+HasFault (Done report) f = Contains report.faults f
+HasFault _ f = ⊥
+
+-- the report has one fault at most
+abbrev pub HasOneFault : Outcome → Type 0
+HasOneFault (Done report) = length report.faults ≤ 1
+HasOneFault _ = Unit {0}

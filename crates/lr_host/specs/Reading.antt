@@ -1,0 +1,41 @@
+-- The text that reads of one path give.
+use Rattle.std.specs.Prelude.{◌≡◌, ◌⊎◌, ℕ, ◌+◌, Bool, true, false, List, [], ◌∷◌, ◌++◌, length}
+use Rattle.std.specs.List.{list_any}
+use Rattle.lr_rules.specs.declared.path.Path.{Path}
+use Rattle.lr_rules.specs.Path.{is_empty}
+use Rattle.lr_host.specs.declared.entry.Entry.{Entry}
+use Rattle.lr_host.specs.declared.entry.Entry.TheVariants.{Reads}
+use Rattle.lr_host.specs.Told.{Each}
+
+-- a read of the path
+abbrev pub IsReadOf : Path → Entry → Type 0
+IsReadOf path (Reads x from piece) = x ≡ path
+IsReadOf path _ = ⊥
+
+-- the bytes that these read, joined
+abbrev pub text : List Entry → List ℕ
+text [] = []
+text (Reads x from piece ∷ ts) = piece ++ text ts
+text (_ ∷ ts) = text ts
+
+-- each read begins where the one before ended, the first at this place
+abbrev pub AreJoined : ℕ → List Entry → Type 0
+AreJoined place [] = Unit {0}
+AreJoined place (Reads x from piece ∷ ts) = (from ≡ place) × AreJoined (place + length piece) ts
+AreJoined place (_ ∷ ts) = AreJoined place ts
+
+-- the read gave nothing, so the place was the end
+abbrev pub is_end : Entry → Bool
+is_end (Reads x from piece) = is_empty piece
+is_end _ = false
+
+-- These bytes were read of the path from its first byte on.
+pub record ReadsOf (path : Path) (bytes : List ℕ) (ts : List Entry) : Type 0 where
+  pub only : Each (IsReadOf path) ts
+  pub joined : AreJoined 0 ts
+  pub bytes_are : text ts ≡ bytes
+
+-- They are all bytes of it, or as many as the limit.
+pub record ReadsAll (path : Path) (limit : ℕ) (bytes : List ℕ) (ts : List Entry) : Type 0 where
+  pub reads : ReadsOf path bytes ts
+  pub whole : (length bytes ≡ limit) ⊎ (list_any is_end ts ≡ true)
