@@ -18,8 +18,9 @@ use Rattle.lr_memhost.specs.Names.{named_in, has_path}
 abbrev pub as_file : MemFile → File
 as_file f = record { bytes = f.bytes.items; synced = f.synced; mtime = f.mtime; mode = f.mode }
 
-abbrev pub opened_file : OpenFile → File
-opened_file f = record { bytes = f.bytes; synced = f.synced; mtime = f.mtime; mode = f.mode }
+-- the file of an opening that it is
+abbrev pub as_open : MemFile → OpenFile
+as_open f = record { bytes = f.bytes.items; synced = f.synced; mtime = f.mtime; mode = f.mode }
 
 abbrev pub no_file : File
 no_file = record { bytes = []; synced = 0; mtime = pos 0; mode = None }

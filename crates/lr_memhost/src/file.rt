@@ -21,17 +21,17 @@ pub fn reserve_more(file: &mut MemFile, more: usize) -> Result<(), AllocError>
 }
 
 pub fn flush_file(file: &mut MemFile)
-    ensures { as_file file.new ≡ record (as_file file.old) { synced = vec_len file.old.bytes } }
+    ensures { as_file file.new ≡ record (as_file file.old) { synced = length file.old.bytes.items } }
 {
     file.synced = file.bytes.len() as u64;
 }
 
-pub fn feed_file(file: &mut MemFile, bytes: &[u8], at: i64)
+pub fn feed_file(file: &mut MemFile, bytes: &[u8], at: &i64)
     requires { vec_len file.old.bytes + length bytes.now ≤ vec_capacity file.old.bytes }
-    ensures { as_file file.new ≡ record (as_file file.old) { bytes = file.old.bytes.items ++ bytes.now; mtime = at } }
+    ensures { as_file file.new ≡ record (as_file file.old) { bytes = file.old.bytes.items ++ bytes.now; mtime = at.now } }
 {
     file.bytes.extend_from_slice(bytes).unwrap();
-    file.mtime = at;
+    file.mtime = *at;
 }
 
 /// Bytes from a place on, as far as there is room.

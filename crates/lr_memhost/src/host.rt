@@ -135,16 +135,19 @@ impl MemHost {
         ensures starved { self.old.starved ≤ self.new.starved }
     {
         let number = self.calls;
-        if take_acts(&mut self.disk, &mut self.acts, number).is_err() {
-            self.starved = self.starved.saturating_add(1);
-        }
         self.calls = self.calls.saturating_add(1);
-        listed(&self.failing, number)
+        let how = listed(&self.failing, number);
+        let Ok(()) = take_acts(&mut self.disk, &mut self.acts, number) else {
+            self.starved = self.starved.saturating_add(1);
+            return how;
+        };
+        how
     }
 
     // Counts a fault.
     fn fail_call(&mut self) -> CallFault
-        ensures { self.new ≡ record self.old { faults = one_more self.old.faults } }
+        ensures counted { self.new ≡ record self.old { faults = one_more self.old.faults } }
+        ensures later { self.old.faults ≤ self.new.faults }
     {
         self.faults = self.faults.saturating_add(1);
         CallFault::Failed
@@ -152,7 +155,8 @@ impl MemHost {
 
     // Counts a fault for want of memory.
     fn starve(&mut self) -> CallFault
-        ensures { self.new ≡ record self.old { faults = one_more self.old.faults; starved = one_more self.old.starved } }
+        ensures counted { self.new ≡ record self.old { faults = one_more self.old.faults; starved = one_more self.old.starved } }
+        ensures later { (self.old.faults ≤ self.new.faults) × (self.old.starved ≤ self.new.starved) }
     {
         self.starved = self.starved.saturating_add(1);
         self.fail_call()
@@ -200,10 +204,10 @@ impl Host for MemHost {
             let _ = self.fail_call();
             return Err(ListFault::Failed);
         }
-        match self.disk.list(alloc, dir, names) {
-            Ok(()) => Ok(()),
-            Err(Memory) => Err(ListFault::Memory),
-        }
+        let Ok(()) = self.disk.list(alloc, dir, names) else {
+            return Err(ListFault::Memory);
+        };
+        Ok(())
     }
 
     /// A read gives all that fits. A listed read leaves no entry.
@@ -244,9 +248,9 @@ impl Host for MemHost {
         if how == Some(How::NoEffect) {
             return Err(self.fail_call());
         }
-        if self.disk.rename(from, to).is_err() {
+        let Ok(()) = self.disk.rename(from, to) else {
             return Err(self.starve());
-        }
+        };
         if how.is_some() {
             return Err(self.fail_call());
         }
@@ -269,9 +273,9 @@ impl Host for MemHost {
         if how == Some(How::NoEffect) {
             return Err(self.fail_call());
         }
-        if self.disk.unlink(path).is_err() {
+        let Ok(()) = self.disk.unlink(path) else {
             return Err(self.starve());
-        }
+        };
         if how.is_some() {
             return Err(self.fail_call());
         }

@@ -2,7 +2,7 @@
 ghost use Rattle.std.specs.Prelude.{◌≡◌, ◌++◌, map, Some, IfOk, OnOk};
 ghost use Rattle.lr_host.specs.declared.thing.Thing.TheVariants as thing;
 ghost use Rattle.lr_memhost.specs.Names.{names_of};
-ghost use Rattle.lr_memhost.specs.State.{as_file, opened_file};
+ghost use Rattle.lr_memhost.specs.State.{as_open};
 
 use crate::file::MemFile;
 use crate::state::State;
@@ -38,7 +38,7 @@ fn add_paths(
 }
 
 fn copy_files(alloc: Global, opened: &[OpenFile]) -> Result<Vec<MemFile>, AllocError>
-    ensures { IfOk result (λ files. map as_file files.items ≡ map opened_file opened.now) }
+    ensures { IfOk result (λ files. map as_open files.items ≡ opened.now) }
 {
     let mut files = Vec::new(alloc);
     for file in opened {
@@ -65,7 +65,7 @@ fn copy_holds(alloc: Global, held: &[(u32, u64)]) -> Result<Vec<(u32, Option<u64
 
 pub fn open(alloc: Global, opening: &Opening) -> Result<State, AllocError>
     ensures names { IfOk result (λ state. state.names.items ≡ names_of opening.now) }
-    ensures files { IfOk result (λ state. map as_file state.files.items ≡ map opened_file opening.now.files) }
+    ensures files { IfOk result (λ state. map as_open state.files.items ≡ opening.now.files) }
     ensures holds { IfOk result (λ state. state.holds.items ≡ map (λ h. (h.0, Some h.1)) opening.now.holds) }
 {
     let mut names = Vec::new(alloc);

@@ -9,7 +9,7 @@ use crate::file::{MemFile, feed_file, flush_file, reserve_more};
 use crate::holds::{hold_of, make_hold, set_hold};
 use crate::names::{make_name, set_name, thing_at};
 use lr_host::{Entry, Thing};
-use lr_rules::Path;
+use lr_rules::{Listed, Path};
 use std::alloc::{AllocError, Global};
 
 #[derive(Drop)]
@@ -72,7 +72,7 @@ pub fn apply(alloc: Global, state: &mut State, entry: &Entry)
 {
     match entry {
         Entry::Attach { writer, path, at } => attach(alloc, state, *writer, path, *at),
-        Entry::Feed { writer, bytes, at } => feed(state, *writer, bytes.as_slice(), *at),
+        Entry::Feed { writer, bytes, at } => feed(state, *writer, bytes, at),
         Entry::Flush { writer } => flush(state, *writer),
         Entry::Detach { writer } => detach(state, *writer),
         Entry::Renames { from, to } => rename(state, from, to),
@@ -108,14 +108,14 @@ fn make_file(alloc: Global, state: &mut State, writer: u32, path: &Path, at: i64
     set_hold(&mut state.holds, writer, Some(identity));
 }
 
-fn feed(state: &mut State, writer: u32, bytes: &[u8], at: i64)
+fn feed(state: &mut State, writer: u32, bytes: &Listed<u8>, at: &i64)
     requires { HasRoom state.old writer (length bytes.now) }
-    ensures { (w : World) → Shows state.old w → Shows state.new (effect w (entry.Feed writer bytes.now at)) }
+    ensures { (w : World) → Shows state.old w → Shows state.new (effect w (entry.Feed writer bytes.now at.now)) }
 {
     if let Some(identity) = hold_of(&state.holds, writer) {
         let place = identity as usize;
         if place < state.files.len() {
-            feed_file(&mut state.files[place], bytes, at);
+            feed_file(&mut state.files[place], bytes.as_slice(), at);
         }
     }
 }

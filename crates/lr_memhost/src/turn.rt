@@ -43,18 +43,14 @@ fn take_act(disk: &mut Disk, acts: &mut Vec<Act>, at: usize) -> Result<(), Memor
     ensures came { OnOk result ((a : Act) → a ≡ slice_index_or acts.old.items at a → Comes a (past disk.old) (past disk.new)) }
     ensures err { OnErr result ((acts.new.items ≡ acts.old.items) × (disk.new ≡ disk.old)) }
 {
-    let act = acts.remove(at);
-    if !disk.is_due(&act.what) {
+    let Act { before, what } = acts.remove(at);
+    if !disk.is_due(&what) {
         return Ok(());
     }
-    match disk.enter(act.what) {
+    match disk.enter(what) {
         Ok(()) => Ok(()),
         Err(what) => {
-            let act = Act {
-                before: act.before,
-                what,
-            };
-            acts.insert(at, act).unwrap();
+            acts.insert(at, Act { before, what }).unwrap();
             Err(Memory)
         }
     }

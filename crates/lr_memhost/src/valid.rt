@@ -1,5 +1,5 @@
 // Whether an opening is a disk.
-ghost use Rattle.std.specs.Prelude.{◌≡◌, ◌↔◌, ◌<◌, ◌≤◌, ◌==◌, ℕ, IsTrue, Contains, All, map, length, count_by, [], ◌∷◌};
+ghost use Rattle.std.specs.Prelude.{◌≡◌, ◌≢◌, ◌↔◌, ◌<◌, ◌≤◌, ◌==◌, ℕ, IsTrue, Contains, All, map, length, count_by, [], ◌∷◌};
 ghost use Rattle.lr_rules.specs.Path.{parent_of};
 ghost use Rattle.lr_host.specs.Lists.{AreDistinct, IsNotIn};
 ghost use Rattle.lr_host.specs.Opening.{IsValid, paths_of};
@@ -12,23 +12,13 @@ use lr_rules::Path;
 fn has(paths: &[Path], bytes: &[u8]) -> bool
     ensures { IsTrue result ↔ Contains paths.now bytes.now }
 {
-    for path in paths {
-        if path.bytes() == bytes {
-            return true;
-        }
-    }
-    false
+    paths.iter().any(|path| path.bytes() == bytes)
 }
 
 fn lacks(names: &[(Path, Thing)], path: &Path) -> bool
-    ensures { IsTrue result ↔ IsNotIn path.now (keys names.now) }
+    ensures { IsTrue result ↔ All (λ n. path.now ≢ n.0) names.now }
 {
-    for name in names {
-        if path.is(&name.0) {
-            return false;
-        }
-    }
-    true
+    names.iter().all(|name| !path.is(&name.0))
 }
 
 fn are_once(names: &[(Path, Thing)]) -> bool
@@ -43,7 +33,7 @@ fn are_once(names: &[(Path, Thing)]) -> bool
 }
 
 fn are_inside(names: &[(Path, Thing)], dirs: &[Path]) -> bool
-    ensures { IsTrue result ↔ All (λ x. Contains dirs.now (parent_of x)) (keys names.now) }
+    ensures { IsTrue result ↔ All (λ n. Contains dirs.now (parent_of n.0)) names.now }
 {
     for name in names {
         if !has(dirs, name.0.parent_bytes()) {
@@ -83,14 +73,9 @@ fn are_held(holds: &[(u32, u64)], files: usize) -> bool
 }
 
 fn lacks_writer(holds: &[(u32, u64)], writer: u32) -> bool
-    ensures { IsTrue result ↔ IsNotIn writer (keys holds.now) }
+    ensures { IsTrue result ↔ All (λ h. writer ≢ h.0) holds.now }
 {
-    for hold in holds {
-        if writer == hold.0 {
-            return false;
-        }
-    }
-    true
+    holds.iter().all(|hold| hold.0 != writer)
 }
 
 fn hold_once(holds: &[(u32, u64)]) -> bool
@@ -104,21 +89,12 @@ fn hold_once(holds: &[(u32, u64)]) -> bool
     true
 }
 
-fn is_synced(file: &OpenFile) -> bool
-    ensures { IsTrue result ↔ (file.now.synced ≤ length file.now.bytes) }
-{
-    file.synced <= file.bytes.len() as u64
-}
-
 fn are_synced(files: &[OpenFile]) -> bool
     ensures { IsTrue result ↔ All (λ f. f.synced ≤ length f.bytes) files.now }
 {
-    for file in files {
-        if !is_synced(file) {
-            return false;
-        }
-    }
-    true
+    files
+        .iter()
+        .all(|file| file.synced <= file.bytes.len() as u64)
 }
 
 /// Whether the opening, which names these things, is a disk.
