@@ -1,0 +1,137 @@
+-- What comes before a call, and what the call leaves.
+use Rattle.std.proofs.Common.{◌≡◌, ◌⊎◌, inl, inr, ⊎_elim, ℕ, zero, suc, ◌+◌, ◌<◌, ◌≤◌, Bool, true, false, List, [], ◌∷◌, ◌++◌, length, take, drop, get_or, Option, Some, None, refl, sym, ap, subst, ◌∙◌, arith, append_assoc}
+use Rattle.std.proofs.lemmas.List.{take_more, drop_more, get_or_default, take_all, drop_all, append-nil, take-append-drop}
+use Rattle.std.specs.Prelude.{option_to_list, filter}
+use Rattle.lr_host.specs.declared.entry.Entry.{Entry}
+use Rattle.lr_host.specs.declared.journal.Journal.{Journal}
+use Rattle.lr_host.specs.World.{Past, ◌▸◌, past, world, names}
+use Rattle.lr_host.specs.Fits.{Fits}
+use Rattle.lr_host.specs.Steps.{is_naming}
+use Rattle.lr_host.specs.Told.{Can, CanCall, Made, at_first, by_writer, by_tool, Left, is_told, IsTools, Are}
+use Rattle.lr_host.proofs.Left.{made_on, can_stay}
+use Rattle.lr_memhost.specs.declared.act.Act.{Act}
+use Rattle.lr_memhost.specs.State.{with_entry}
+use Rattle.lr_memhost.specs.Acts.{View, Came, all, stays, enters, passes, stops, Comes, Entered, Turned, Starved, one_more}
+use Rattle.lr_memhost.proofs.JournalLemmas.{past_entry}
+
+pub same_act : (acts : List Act) (at : ℕ) (a b : Act) → at < length acts → a ≡ get_or acts at a → b ≡ get_or acts at b → a ≡ b
+same_act acts at a b lt is is' = is ∙ (get_or_default acts at a b lt ∙ sym is')
+
+-- the acts that were looked at so far came, and those before the place stay
+abbrev pub SoFar : ℕ → Past → List Act → Past → List Act → ℕ → Type 0
+SoFar number p acts q now at = (stopped : Bool) (r : Past) (left : List Act) → Came number stopped q (drop at now) r left → Came number stopped p acts r (take at now ++ left)
+
+pub act_stays : (number : ℕ) (p : Past) (acts : List Act) (q : Past) (now : List Act) (at : ℕ) (a : Act) → a ≡ get_or now at a → at < length now → number < a.before → SoFar number p acts q now at → SoFar number p acts q now (at + 1)
+act_stays number p acts q now at a is lt less so_far stopped r left came =
+    subst (λ l. Came number stopped p acts r l) (sym (ap (λ l. l ++ left) (take_more now at a lt ∙ ap (λ b. take at now ++ b ∷ []) (sym is)) ∙ append_assoc (take at now) (a ∷ []) left))
+    (so_far stopped r (a ∷ left) (subst (λ l. Came number stopped q l r (a ∷ left)) (sym (drop_more now at a lt ∙ ap (λ b. b ∷ drop (at + 1) now) (sym is))) (stays less came)))
+
+came_by : (number : ℕ) (stopped : Bool) (a : Act) (p q r : Past) (acts left : List Act) → a.before ≤ number → Comes a p q → Came number stopped q acts r left → Came number stopped p (a ∷ acts) r left
+came_by number stopped a p q r acts left le (inl f) came = enters le f.0 f.1 (subst (λ m. Came number stopped m acts r left) f.2 came)
+came_by number stopped a p q r acts left le (inr f) came = passes le f.0 (subst (λ m. Came number stopped m acts r left) f.1 came)
+
+take_front : (at : ℕ) (now : List Act) (rest : List Act) → at ≤ length now → take at (take at now ++ rest) ≡ take at now
+take_front zero now rest le = refl
+take_front (suc at) [] rest le = absurd (omega arith)
+take_front (suc at) (a ∷ now) rest le = ap (λ l. a ∷ l) (take_front at now rest (omega arith))
+
+drop_front : (at : ℕ) (now : List Act) (rest : List Act) → at ≤ length now → drop at (take at now ++ rest) ≡ rest
+drop_front zero now rest le = refl
+drop_front (suc at) [] rest le = absurd (omega arith)
+drop_front (suc at) (a ∷ now) rest le = drop_front at now rest (omega arith)
+
+pub act_comes : (number : ℕ) (p : Past) (acts : List Act) (q m : Past) (now then : List Act) (at : ℕ) (a : Act) → a ≡ get_or now at a → at < length now → a.before ≤ number → Comes a q m → then ≡ take at now ++ drop (at + 1) now
+    → SoFar number p acts q now at → SoFar number p acts m then at
+act_comes number p acts q m now then at a is lt le comes e so_far stopped r left came =
+    subst (λ l. Came number stopped p acts r (l ++ left)) (sym (ap (take at) e ∙ take_front at now (drop (at + 1) now) (omega arith)))
+    (so_far stopped r left (subst (λ l. Came number stopped q l r left) (sym (drop_more now at a lt ∙ ap (λ b. b ∷ drop (at + 1) now) (sym is)))
+    (came_by number stopped a q m r (drop (at + 1) now) left le comes (subst (λ l. Came number stopped m l r left) (ap (drop at) e ∙ drop_front at now (drop (at + 1) now) (omega arith)) came))))
+
+pub all_came : (number : ℕ) (p : Past) (acts : List Act) (q : Past) (now : List Act) (at : ℕ) → length now ≤ at → SoFar number p acts q now at → Came number false p acts q now
+all_came number p acts q now at le so_far =
+    subst (λ l. Came number false p acts q l) (append-nil (take at now) ∙ take_all at now le)
+    (so_far false q [] (subst (λ l. Came number false q l q []) (sym (drop_all at now le)) all))
+
+pub stopped_there : (number : ℕ) (p : Past) (acts : List Act) (q : Past) (now : List Act) (at : ℕ) → SoFar number p acts q now at → Came number true p acts q now
+stopped_there number p acts q now at so_far = subst (λ l. Came number true p acts q l) (take-append-drop at now) (so_far true q (drop at now) (stops refl))
+
+-- what writers did
+pub came_made : (number : ℕ) (stopped : Bool) (p : Past) (acts : List Act) (q : Past) (left : List Act) → Came number stopped p acts q left → Made p [] q
+came_made number stopped p _ _ _ all = at_first
+came_made number stopped p _ q _ (stays less came) = came_made number stopped p _ q _ came
+came_made number stopped p _ q left (enters {a = a} le w f came) = made_on p (p ▸ a.what) q [] [] (by_writer at_first w f) (came_made number stopped (p ▸ a.what) _ q left came)
+came_made number stopped p _ q left (passes le unfit came) = came_made number stopped p _ q left came
+came_made number stopped p _ _ _ (stops s) = at_first
+
+-- A call leaves what it says.
+pub turned_left : {P : List Entry → Type 0} {v w : View} → Turned P v w → Left P (Some v.journal) (Some w.journal)
+turned_left {P} {v} {w} t = go t.left t.entered t.has
+  where
+    made : Made (past v.journal) [] t.between
+    made = came_made v.calls t.stopped (past v.journal) v.acts t.between w.acts t.came
+
+    go : (e : Option Entry) → Entered t.between e (past w.journal) → P (option_to_list e) → Left P (Some v.journal) (Some w.journal)
+    go None is has = is_told (subst (λ q. Made (past v.journal) [] q) (sym is) made) has
+    go (Some e) is has = is_told (subst (λ q. Made (past v.journal) (e ∷ []) q) (sym is.2) (by_tool made is.0 is.1)) has
+
+-- nothing was left yet
+first_between : {v m : View} → (t : Turned (Are []) v m) → past m.journal ≡ t.between
+first_between {v} {m} t = go t.left t.entered t.has
+  where
+    go : (e : Option Entry) → Entered t.between e (past m.journal) → option_to_list e ≡ [] → past m.journal ≡ t.between
+    go None is has = is
+    go (Some e) is has = absurd (cc)
+
+-- what comes before a call
+pub turned_first : (v m w : View) (stopped : Bool) → m ≡ v → Came m.calls stopped (past m.journal) m.acts (past w.journal) w.acts → (stopped ≡ true → Starved m w) → w.calls ≡ one_more m.calls → w.failing ≡ m.failing → Turned (Are []) v w
+turned_first v m w stopped is came starved calls failing =
+    subst (λ x. Turned (Are []) x w) is
+    (record { between = past w.journal; stopped = stopped; came = came; starved = starved; left = None; entered = refl; has = refl; calls = calls; failing = failing })
+
+-- the fields that a call leaves alone
+pub record Alike (v w : View) : Type 0 where
+  pub acts : w.acts ≡ v.acts
+  pub failing : w.failing ≡ v.failing
+  pub calls : w.calls ≡ v.calls
+  pub starved : v.starved ≤ w.starved
+
+more_starved : (v m w : View) → m.starved ≤ w.starved → Starved v m → Starved v w
+more_starved v m w le s = omega arith
+
+-- a call that leaves nothing
+pub turned_kept : (P : List Entry → Type 0) {v m w : View} → Turned (Are []) v m → Alike m w → w.journal ≡ m.journal → P [] → Turned P v w
+turned_kept P {v} {m} {w} t alike same has = record {
+  between = t.between;
+  stopped = t.stopped;
+  came = subst (λ l. Came v.calls t.stopped (past v.journal) v.acts t.between l) (sym alike.acts) t.came;
+  starved = λ s. more_starved v m w alike.starved (t.starved s);
+  left = None;
+  entered = ap past same ∙ first_between t;
+  has = has;
+  calls = alike.calls ∙ t.calls;
+  failing = alike.failing ∙ t.failing;
+}
+
+-- a call that leaves its entry
+pub turned_entry : (P : List Entry → Type 0) (e : Entry) {v m w : View} → Turned (Are []) v m → Alike m w → w.journal ≡ with_entry m.journal e → IsTools e → Fits (world (past m.journal)) e → P (e ∷ []) → Turned P v w
+turned_entry P e {v} {m} {w} t alike more tools fits has = record {
+  between = t.between;
+  stopped = t.stopped;
+  came = subst (λ l. Came v.calls t.stopped (past v.journal) v.acts t.between l) (sym alike.acts) t.came;
+  starved = λ s. more_starved v m w alike.starved (t.starved s);
+  left = Some e;
+  entered = (tools, subst (λ q. Fits (world q) e) (first_between t) fits, ap past more ∙ (past_entry m.journal e ∙ ap (λ q. q ▸ e) (first_between t)));
+  has = has;
+  calls = alike.calls ∙ t.calls;
+  failing = alike.failing ∙ t.failing;
+}
+
+pub like : (m w x : View) → w ≡ x → m.starved ≤ w.starved → x.acts ≡ m.acts → x.failing ≡ m.failing → x.calls ≡ m.calls → Alike m w
+like m w x is le acts failing calls = record { acts = ap (λ v. v.acts) is ∙ acts; failing = ap (λ v. v.failing) is ∙ failing; calls = ap (λ v. v.calls) is ∙ calls; starved = le }
+
+pub like_same : (m w x : View) → w ≡ x → x.starved ≡ m.starved → x.acts ≡ m.acts → x.failing ≡ m.failing → x.calls ≡ m.calls → Alike m w
+like_same m w x is starved acts failing calls = like m w x is (let e : w.starved ≡ m.starved = ap (λ v. v.starved) is ∙ starved in omega arith) acts failing calls
+
+-- what fits before the acts fits behind them
+pub still_can : {e : Entry} {v m : View} → Can (Some v.journal) e → Turned (Are []) v m → CanCall (names (world (past m.journal))) e
+still_can can t = (can_stay can (turned_left t) (λ ts is. ap (filter is_naming) is)).can

@@ -1,0 +1,10 @@
+use Rattle.std.proofs.Common.{◌≡◌, ◌≤◌, refl, arith, true, false}
+use Rattle.lr_memhost.proofs.TurnLemmas.{turned_first}
+use Rattle.lr_memhost.proofs.host.MemHost.turn.Goals as goal
+
+pub returns-in_default-clause-turned : goal.returns-in_default-clause-turned
+returns-in_default-clause-turned c =
+    turned_first c.args.self.now _ _ true c.self.view_is c.in_default.ensures.err (λ s. let e = c.saturating_add-self-inside-in_default.ensures in omega arith) c.saturating_add-self-inside.ensures refl
+
+pub returns-clause-turned : goal.returns-clause-turned
+returns-clause-turned c = turned_first c.args.self.now _ _ false c.self.view_is c.in-Ok.ensures.ok (λ s. absurd {_} (cc)) c.saturating_add-self-inside.ensures refl

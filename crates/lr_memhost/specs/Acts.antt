@@ -1,0 +1,81 @@
+-- What each call to a host in memory does: writers act, and then the call is made or fails.
+use Rattle.std.specs.Prelude.{◌≡◌, ◌≢◌, ℕ, ◌+◌, ◌-◌, ◌^◌, ◌<◌, ◌≤◌, min, ◌==◌, ◌⊎◌, Bool, true, cond, List, [], ◌∷◌, length, Option, Some, None, option_to_list}
+use Rattle.lr_host.specs.declared.thing.Thing.{Thing}
+use Rattle.lr_host.specs.declared.thing.Thing.TheVariants as thing
+use Rattle.lr_host.specs.declared.entry.Entry.{Entry}
+use Rattle.lr_host.specs.declared.journal.Journal.{Journal}
+use Rattle.lr_host.specs.World.{Past, ◌▸◌, past, World, world}
+use Rattle.lr_host.specs.Fits.{Fits}
+use Rattle.lr_host.specs.Told.{IsWriters, IsTools, Rose}
+use Rattle.lr_memhost.specs.declared.act.Act.{Act}
+use Rattle.lr_memhost.specs.declared.act.Failing.{Failing}
+use Rattle.lr_memhost.specs.declared.act.How.{How}
+
+-- A host in memory, as contracts see it.
+pub record View : Type 0 where
+  pub journal : Journal
+  -- the acts that are still to come
+  pub acts : List Act
+  pub failing : List Failing
+  -- how many calls there were
+  pub calls : ℕ
+  -- how many calls failed
+  pub faults : ℕ
+  -- how often there was no memory
+  pub starved : ℕ
+
+-- one more; a count at its type's end stands still
+abbrev pub one_more : ℕ → ℕ
+one_more n = min (n + 1) (2 ^ 64 - 1)
+
+-- how the call with this number is to fail, by the first that lists it
+abbrev pub how_of : List Failing → ℕ → Option How
+how_of [] number = None
+how_of (f ∷ fs) number = cond (f.at == number) (Some f.how) (how_of fs number)
+
+-- the next call is listed
+abbrev pub IsListed : View → Type 0
+IsListed v = how_of v.failing v.calls ≢ None
+
+-- there was no memory
+abbrev pub Starved : View → View → Type 0
+Starved before after = Rose before.starved after.starved
+
+-- Before the call with this number came, in order, the acts that were due: each that is a writer's and fits stands in the journal, the others are passed over, and those that aren't due stay. Where it was stopped, the rest stays.
+pub data Came (number : ℕ) (stopped : Bool) : Past → List Act → Past → List Act → Type 0 where
+  all : {p : Past} → Came number stopped p [] p []
+  stays : {p q : Past} {a : Act} {acts left : List Act} → number < a.before → Came number stopped p acts q left → Came number stopped p (a ∷ acts) q (a ∷ left)
+  enters : {p q : Past} {a : Act} {acts left : List Act} → a.before ≤ number → IsWriters a.what → Fits (world p) a.what → Came number stopped (p ▸ a.what) acts q left → Came number stopped p (a ∷ acts) q left
+  passes : {p q : Past} {a : Act} {acts left : List Act} → a.before ≤ number → ¬ (IsWriters a.what × Fits (world p) a.what) → Came number stopped p acts q left → Came number stopped p (a ∷ acts) q left
+  stops : {p : Past} {acts : List Act} → stopped ≡ true → Came number stopped p acts p acts
+
+-- an act that is due came: it stands in the journal where it is a writer's and fits, and is passed over elsewhere
+abbrev pub Comes : Act → Past → Past → Type 0
+Comes a p q = (IsWriters a.what × Fits (world p) a.what × (q ≡ p ▸ a.what)) ⊎ ((IsWriters a.what × Fits (world p) a.what → ⊥) × (q ≡ p))
+
+-- the call left this entry, or none
+abbrev pub Entered : Past → Option Entry → Past → Type 0
+Entered p None q = q ≡ p
+Entered p (Some e) q = IsTools e × Fits (world p) e × (q ≡ p ▸ e)
+
+-- One call: the acts that were due came, and then the call's entries, which have P.
+pub record Turned (P : List Entry → Type 0) (before after : View) : Type 0 where
+  pub between : Past
+  pub stopped : Bool
+  pub came : Came before.calls stopped (past before.journal) before.acts between after.acts
+  pub starved : stopped ≡ true → Starved before after
+  pub left : Option Entry
+  pub entered : Entered between left (past after.journal)
+  pub has : P (option_to_list left)
+  pub calls : after.calls ≡ one_more before.calls
+  pub failing : after.failing ≡ before.failing
+
+-- a read of what a path names gives so many bytes: all that there are from the place on, as far as there is room
+abbrev pub GivesAll : World → Thing → ℕ → ℕ → ℕ → Type 0
+GivesAll w (thing.File g) from room count = count ≡ min room (length (w.files g).bytes - from)
+GivesAll w _ from room count = ⊥
+
+-- these are the bytes of the file that is named
+abbrev pub HasBytes : World → Thing → List ℕ → Type 0
+HasBytes w (thing.File g) bytes = bytes ≡ (w.files g).bytes
+HasBytes w _ bytes = ⊥

@@ -1,0 +1,4 @@
+pub mod Acts
+pub mod Names
+pub mod Pairs
+pub mod State

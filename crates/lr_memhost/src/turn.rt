@@ -1,0 +1,57 @@
+// What comes before each call: the acts of writers that are due.
+ghost use Rattle.std.specs.Prelude.{◌≡◌, ◌<◌, ◌++◌, ◌+◌, true, false, take, drop, length, slice_index_or, OnErr, OnOk};
+ghost use Rattle.lr_host.specs.World.{past};
+ghost use Rattle.lr_memhost.specs.Acts.{how_of, Came, Comes};
+ghost use Rattle.lr_memhost.specs.declared.act.Act.{Act};
+
+use crate::act::{Act, Failing, How};
+use crate::disk::Disk;
+use lr_rules::Memory;
+
+// How the call with this number is to fail.
+pub fn listed(failing: &[Failing], number: u64) -> Option<How>
+    ensures { result ≡ how_of failing.now number }
+{
+    for f in failing {
+        if f.at == number {
+            return Some(f.how);
+        }
+    }
+    None
+}
+
+// Lets the acts come that are due before this call. Where one finds no memory, it and those behind it stay.
+pub fn take_acts(disk: &mut Disk, acts: &mut Vec<Act>, number: u64) -> Result<(), Memory>
+    ensures ok { OnOk result (Came number false (past disk.old) acts.old.items (past disk.new) acts.new.items) }
+    ensures err { OnErr result (Came number true (past disk.old) acts.old.items (past disk.new) acts.new.items) }
+{
+    let mut at = 0;
+    while at < acts.len() {
+        if acts[at].before > number {
+            at += 1;
+        } else {
+            take_act(disk, acts, at)?;
+        }
+    }
+    Ok(())
+}
+
+// Lets the act at this place come; where it finds no memory, it stays.
+fn take_act(disk: &mut Disk, acts: &mut Vec<Act>, at: usize) -> Result<(), Memory>
+    requires { at < length acts.old.items }
+    ensures ok { OnOk result (acts.new.items ≡ take at acts.old.items ++ drop (at + 1) acts.old.items) }
+    ensures came { OnOk result ((a : Act) → a ≡ slice_index_or acts.old.items at a → Comes a (past disk.old) (past disk.new)) }
+    ensures err { OnErr result ((acts.new.items ≡ acts.old.items) × (disk.new ≡ disk.old)) }
+{
+    let Act { before, what } = acts.remove(at);
+    if !disk.is_due(&what) {
+        return Ok(());
+    }
+    match disk.enter(what) {
+        Ok(()) => Ok(()),
+        Err(what) => {
+            acts.insert(at, Act { before, what }).unwrap();
+            Err(Memory)
+        }
+    }
+}
