@@ -1,0 +1,93 @@
+//! The program: rotates the log that a configuration defines.
+//!
+//! `logrotate -f CONF` ends with 0 where the log was rotated, with 1 where there was a fault, with 2 for other words and
+//! with 4 for want of memory. The contract above it is that of `lr_cli::logrotate`; begin there.
+#![tactic(auto)]
+
+mod real;
+
+use lr_cli::{Outcome, Zone, logrotate, status};
+use lr_rules::{Path, PathFault, Text};
+use real::{RealHost, RealSink};
+use std::alloc::Global;
+use std::env;
+use std::io::ErrorKind;
+use std::process::ExitCode;
+
+// Why the machine gives no words or directory: they are no texts, or there is no memory.
+enum Stop {
+    BadWords,
+    Memory,
+}
+
+fn outcome_of(stop: Stop) -> Outcome {
+    match stop {
+        Stop::BadWords => Outcome::BadWords,
+        Stop::Memory => Outcome::OutOfMemory,
+    }
+}
+
+fn stop_of(kind: ErrorKind) -> Stop {
+    if kind == ErrorKind::OutOfMemory {
+        Stop::Memory
+    } else {
+        Stop::BadWords
+    }
+}
+
+// The words of the command line behind the program's name.
+fn words_of(rt: &HostRuntime, alloc: Global) -> Result<Vec<Text>, Stop> {
+    let mut args = match env::args(rt) {
+        Ok(args) => args,
+        Err(e) => return Err(stop_of(e.kind())),
+    };
+    let _name = args.next();
+    let mut words = Vec::new(alloc);
+    for arg in args {
+        let Ok(word) = Text::new(alloc, arg.as_bytes()) else {
+            return Err(Stop::Memory);
+        };
+        if words.push(word).is_err() {
+            return Err(Stop::Memory);
+        }
+    }
+    Ok(words)
+}
+
+// The working directory.
+fn here_of(rt: &HostRuntime, alloc: Global) -> Result<Path, Stop> {
+    let here = match env::current_dir(rt) {
+        Ok(here) => here,
+        Err(e) => return Err(stop_of(e.kind())),
+    };
+    match Path::new(alloc, here.as_str().as_bytes()) {
+        Ok(here) => Ok(here),
+        Err(PathFault::Memory) => Err(Stop::Memory),
+        Err(_) => Err(Stop::BadWords),
+    }
+}
+
+fn run(rt: &HostRuntime) -> Outcome {
+    let alloc = rt.alloc();
+    let words = match words_of(rt, alloc) {
+        Ok(words) => words,
+        Err(stop) => return outcome_of(stop),
+    };
+    let here = match here_of(rt, alloc) {
+        Ok(here) => here,
+        Err(stop) => return outcome_of(stop),
+    };
+    let files: Result<HostRuntime, _> = rt.clone();
+    let output: Result<HostRuntime, _> = rt.clone();
+    let (Ok(files), Ok(output)) = (files, output) else {
+        return Outcome::OutOfMemory;
+    };
+    let mut host = RealHost::new(files);
+    let mut out = RealSink::new(output);
+    logrotate(alloc, &words, &here, &Zone::Utc, 0, &mut host, &mut out)
+}
+
+fn main(rt: HostRuntime) -> ExitCode {
+    let outcome = run(&rt);
+    ExitCode::from(status(&outcome))
+}
