@@ -1,0 +1,12 @@
+pub mod Counting
+pub mod Disk
+pub mod Entries
+pub mod Going
+pub mod Moves
+pub mod Opened
+pub mod Pigeons
+pub mod Rising
+pub mod Sound
+pub mod Stamps
+pub mod Stated
+pub mod Writing

@@ -1,0 +1,18 @@
+//! The laws of what is kept of a log: what each kind of entry, each cut and each opening does to it.
+//!
+//! A law is the contract of a function without a body. Each speaks of every set, numbered or dated, and of every
+//! journal; begin with `safe_goes_on`.
+#![tactic(auto)]
+
+mod keeping;
+mod needs;
+mod safety;
+
+pub use keeping::{changes_keep, elsewhere_keeps, quiet_keeps, writers_keep};
+pub use needs::{
+    dated_log_may_turn, dated_member_may_go, elsewhere_may_follow, log_may_turn, member_may_go,
+    member_may_move, old_member_may_go, ready_at_start, ready_behind_move, writers_may_follow,
+};
+pub use safety::{
+    cut_stays_safe, opening_is_safe, quiet_stays_safe, safe_goes_on, writers_stay_safe,
+};
