@@ -1,6 +1,8 @@
 pub mod Counting
 pub mod Disk
 pub mod Entries
+pub mod Example
+pub mod Existing
 pub mod Going
 pub mod Moves
 pub mod Opened

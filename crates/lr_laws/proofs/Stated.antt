@@ -7,7 +7,7 @@ use Rattle.lr_host.specs.declared.entry.Entry.{Entry}
 use Rattle.lr_host.specs.declared.entry.Entry.TheVariants as entry
 use Rattle.lr_host.specs.declared.journal.Opening.{Opening}
 use Rattle.lr_host.specs.Lists.{AreDistinct}
-use Rattle.lr_host.specs.World.{Past, Opens, ◌▸◌, world, names, Adds, Puts, Moves, step}
+use Rattle.lr_host.specs.World.{Past, Opens, ◌▸◌, world, names, Adds, Puts, Moves, Drops, step}
 use Rattle.lr_host.specs.Fits.{Fits}
 use Rattle.lr_host.specs.Told.{IsWriters}
 use Rattle.lr_host.specs.Opening.{IsJournal, IsValid}
@@ -135,6 +135,17 @@ ready_behind s p from to place limit j safe numbered is is' lt ready = ready_on 
         at : Came (Moves from to) (names (world p)) x g → names (world p) x ≡ thing.File g
         at (made i) = absurd (cc)
         at (moved z i q) = absurd (let same : to ≡ x = cc in let e : place + 1 ≡ k = same_place (s.key to) (s.key x) (place + 1) k is' pl (ap s.key same) in omega arith)
+        at (stayed q l) = q
+
+pub ready_behind_unlink : (s : LogSet) (p : Past) (x : Path) (limit : ℕ) → IsJournal (p ▸ entry.Unlinks x) → IsSafe s p → IsReady s p limit → IsReady s (p ▸ entry.Unlinks x) limit
+ready_behind_unlink s p x limit j safe ready = ready_on s p (entry.Unlinks x) limit limit (sound_safe s p j.0 safe) (λ none. none) (λ none. none) (omega arith) old ready
+  where
+    old : (y : Path) (k g : ℕ) → s.key y ≡ Some (pos k) → k < limit → names (world (p ▸ entry.Unlinks x)) y ≡ thing.File g → names (world p) y ≡ thing.File g
+    old y k g pl below named = at (came (Drops x) (names (world p)) y g named)
+      where
+        at : Came (Drops x) (names (world p)) y g → names (world p) y ≡ thing.File g
+        at (made i) = absurd (cc)
+        at (moved z i q) = absurd (cc)
         at (stayed q l) = q
 
 pub turns_dated : (s : LogSet) (p : Past) (to : Path) (stamp : ℤ) → IsJournal p → IsSafe s p → order s ≡ Dated → s.key to ≡ Some stamp → names (world p) to ≡ thing.Nothing → has_begun s p ≡ false → IsForward s p stamp → MayFollow s p (entry.Renames s.log to)

@@ -7,12 +7,18 @@
 mod keeping;
 mod needs;
 mod safety;
+mod worked;
 
 pub use keeping::{changes_keep, elsewhere_keeps, quiet_keeps, writers_keep};
 pub use needs::{
     dated_log_may_turn, dated_member_may_go, elsewhere_may_follow, log_may_turn, member_may_go,
-    member_may_move, old_member_may_go, ready_at_start, ready_behind_move, writers_may_follow,
+    member_may_move, old_member_may_go, ready_at_start, ready_behind_move, ready_behind_unlink,
+    writers_may_follow,
 };
 pub use safety::{
     cut_stays_safe, opening_is_safe, quiet_stays_safe, safe_goes_on, writers_stay_safe,
+};
+pub use worked::{
+    chain_is_safe, log_first_loses, lowest_first_loses, sets_exist, taken_effect_is_safe,
+    taken_up_is_safe,
 };

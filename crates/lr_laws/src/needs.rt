@@ -69,6 +69,12 @@ pub fn ready_behind_move()
         → IsReady s (p ▸ entry.Renames from to) place }
 {}
 
+/// All are still ready behind an unlink.
+pub fn ready_behind_unlink()
+    ensures { (s : LogSet) (p : Past) (x : Path) (limit : ℕ) → IsJournal (p ▸ entry.Unlinks x) → IsSafe s p
+        → IsReady s p limit → IsReady s (p ▸ entry.Unlinks x) limit }
+{}
+
 /// The log may be renamed to place 0 where that names nothing.
 pub fn log_may_turn()
     ensures { (s : LogSet) (p : Past) (to : Path) → order s ≡ Numbered → s.key to ≡ Some (pos 0)

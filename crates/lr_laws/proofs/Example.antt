@@ -1,0 +1,354 @@
+-- The log with two members.
+use Rattle.std.proofs.Common.{◌≡◌, ◌⊎◌, inl, inr, ℕ, zero, suc, ◌+◌, ◌≤◌, ◌<◌, Bool, true, false, not, ◌&&◌, ◌||◌, ◌++◌, bytes_eq, refl, sym, ◌∙◌, ap, subst, arith, Some, List, [], ◌∷◌, length, pos}
+use Rattle.std.specs.Prelude.{slice_index_or, All, Contains, count_by, ◌==◌, codes}
+use Rattle.std.specs.List.{list_any}
+use Rattle.std.specs.Str.{chars}
+use Rattle.std.proofs.lemmas.List.Elements.{All-cons}
+use Rattle.std.proofs.lemmas.Slice.Eq.{bytes_eq-Decides}
+use Rattle.std.proofs.lemmas.Fmt.{decimal_digit}
+use Rattle.std.specs.Fmt.{decimal}
+use Rattle.lr_rules.specs.declared.path.Path.{Path}
+use Rattle.lr_rules.specs.declared.civil.Moment.{Moment}
+use Rattle.lr_rules.specs.declared.rule.Count.TheVariants.{Keep}
+use Rattle.lr_rules.specs.Path.{parent_of, joined}
+use Rattle.lr_rules.specs.Match.{IsPlain, Matches, ends, itself, no_part, next_part, WordGives, RuleGives}
+use Rattle.lr_rules.specs.Names.{naming_of, IsMemberAt}
+use Rattle.lr_host.specs.declared.thing.Thing.{Thing}
+use Rattle.lr_host.specs.declared.thing.Thing.TheVariants as thing
+use Rattle.lr_host.specs.declared.entry.Entry.{Entry}
+use Rattle.lr_host.specs.declared.entry.Entry.TheVariants.{Starts, Ends, Renames, Unlinks}
+use Rattle.lr_host.specs.declared.journal.OpenFile.{OpenFile}
+use Rattle.lr_host.specs.Lists.{IsNotIn, AreDistinct}
+use Rattle.lr_host.specs.World.{World, Names, Past, Opens, ◌▸◌, world, names, Moves, changed}
+use Rattle.lr_host.specs.Fits.{Fits}
+use Rattle.lr_host.specs.Opening.{IsValid, IsJournal, paths_of}
+use Rattle.lr_host.specs.Sets.{LogSet, Order, Numbered, order, order_of, IsKeyBy}
+use Rattle.lr_host.specs.Runs.{SomeRule, rules_of}
+use Rattle.lr_host.specs.Later.{later, IsGeneration}
+use Rattle.lr_host.specs.Released.{IsReleased}
+use Rattle.lr_host.specs.Kept.{IsKept, Stands, IsWhole}
+use Rattle.lr_host.specs.Safe.{IsSafe, whole, shorter}
+use Rattle.lr_laws.specs.Follow.{MayFollow}
+use Rattle.lr_laws.specs.Room.{IsReady}
+use Rattle.lr_laws.specs.Chain.{log, first, second, third, found, rule, rules, IsOfChain, begins, chain, taken_up, taken_effect, lowest_first, log_first}
+use Rattle.lr_laws.proofs.Disk.{Came, made, moved, stayed, came}
+use Rattle.lr_laws.proofs.Opened.{opened}
+use Rattle.lr_laws.proofs.Going.{safe_on}
+use Rattle.lr_laws.proofs.Moves.{may_turn}
+use Rattle.lr_laws.proofs.Stated.{at_first, quiet_safe, unlinks, moves, ready_first, ready_behind, ready_behind_unlink}
+
+-- ---- the opening is a disk
+
+none_of : {A : Type 0} (P : A → Type 0) → All P []
+none_of P k d lt = absurd (omega arith)
+
+abbrev EachOf : {A : Type 0} → (A → Type 0) → List A → Type 0
+EachOf P [] = Unit {0}
+EachOf P (x ∷ xs) = P x × EachOf P xs
+
+each : {A : Type 0} (P : A → Type 0) (xs : List A) → EachOf P xs → All P xs
+each P [] h = none_of P
+each P (x ∷ xs) h = All-cons P x xs h.0 (each P xs h.1)
+
+abbrev is_new : Path → List Path → Bool
+is_new x [] = true
+is_new x (y ∷ ys) = not (bytes_eq x y) && is_new x ys
+
+abbrev are_new : List Path → Bool
+are_new [] = true
+are_new (y ∷ ys) = is_new y ys && are_new ys
+
+both : (a b : Bool) → (a && b) ≡ true → (a ≡ true) × (b ≡ true)
+both true b h = (refl, h)
+both false b h = absurd (cc)
+
+not_in : (x : Path) (ys : List Path) → is_new x ys ≡ true → IsNotIn x ys
+not_in x [] h = tt
+not_in x (y ∷ ys) h = let s = both (not (bytes_eq x y)) (is_new x ys) h in ((λ same. let t : bytes_eq x y ≡ true = (bytes_eq-Decides x y).1 same in clash (bytes_eq x y) s.0 t), not_in x ys s.1)
+  where
+    clash : (b : Bool) → not b ≡ true → b ≡ true → ⊥
+    clash b p q = cc
+
+distinct : (ys : List Path) → are_new ys ≡ true → AreDistinct ys
+distinct [] h = tt
+distinct (y ∷ ys) h = let s = both (is_new y ys) (are_new ys) h in (not_in y ys s.0, distinct ys s.1)
+
+pub found_valid : IsValid found
+found_valid = record {
+  once = distinct (paths_of found) refl;
+  root = (0, omega arith, refl);
+  inside = each In (paths_of found) (in_v, (in_v, (in_v, (in_root, (in_root, (in_root, tt))))));
+  named = one;
+  known = each Known found.names (omega arith, (omega arith, (omega arith, tt)));
+  held = none_of (λ h. h.1 < length found.files);
+  hold_once = tt;
+  synced = each Synced found.files (omega arith, (omega arith, (omega arith, tt)));
+}
+  where
+    In : Path → Type 0
+    In x = Contains found.dirs (parent_of x)
+
+    Known : Path × ℕ → Type 0
+    Known n = n.1 < length found.files
+
+    Synced : OpenFile → Type 0
+    Synced f = f.synced ≤ length f.bytes
+
+    in_v : (k : ℕ) × (k < length found.dirs) × (slice_index_or found.dirs k (codes "/v") ≡ codes "/v")
+    in_v = (1, omega arith, refl)
+
+    in_root : (k : ℕ) × (k < length found.dirs) × (slice_index_or found.dirs k (codes "/") ≡ codes "/")
+    in_root = (0, omega arith, refl)
+
+    one : (g : ℕ) → g < length found.files → count_by (λ n. n.1 == g) found.names ≡ 1
+    one zero lt = refl
+    one (suc zero) lt = refl
+    one (suc (suc zero)) lt = refl
+    one (suc (suc (suc g))) lt = absurd (omega arith)
+
+-- ---- the rule gives the log, and its naming gives the members
+
+abbrev is_special : ℕ → Bool
+is_special c = c == 63 || c == 42 || c == 91 || c == 92
+
+plain_char : (c : ℕ) (behind : List ℕ) → is_special c ≡ false → IsPlain c behind
+plain_char c behind h = record {
+  no_one = λ e. clash (ap is_special e) h;
+  no_run = λ e. clash (ap is_special e) h;
+  no_class = λ e t signs rest k. clash (ap is_special e) h;
+  no_escape = λ e. absurd (clash (ap is_special e) h);
+}
+  where
+    clash : {b : Bool} → b ≡ true → b ≡ false → ⊥
+    clash p q = cc
+
+or_false : (a b : Bool) → (a || b) ≡ false → (a ≡ false) × (b ≡ false)
+or_false true b h = absurd (cc)
+or_false false b h = (refl, h)
+
+plain_matches : (is_first : Bool) (cs : List ℕ) → list_any is_special cs ≡ false → Matches is_first cs cs
+plain_matches is_first [] h = ends
+plain_matches is_first (c ∷ cs) h = let s = or_false (is_special c) (list_any is_special cs) h in itself (plain_char c cs s.0) (plain_matches false cs s.1)
+
+chars_v : list_any is_special (chars (codes "v")) ≡ false
+unfolding chars
+chars_v = refl
+
+chars_log : list_any is_special (chars (codes "a.log")) ≡ false
+unfolding chars
+chars_log = refl
+
+gives_log : WordGives log log
+gives_log = record {
+  matches = next_part (codes "v") (codes "v") (codes "/a.log") (codes "/a.log") refl refl refl refl (plain_matches true (chars (codes "v")) chars_v)
+      (next_part (codes "a.log") (codes "a.log") [] [] refl refl refl refl (plain_matches true (chars (codes "a.log")) chars_log) no_part);
+  whole = λ w. absurd (cc);
+}
+
+rule_gives : RuleGives rule log
+rule_gives = (0, log, omega arith, refl, gives_log)
+
+some_rule : (s : LogSet) → IsOfChain s → SomeRule (rule ∷ []) s.log (λ r. r.count ≡ Keep 2)
+some_rule s c = (0, rule, omega arith, refl, (subst (λ (x : Path). RuleGives rule x) (sym c.log_is) rule_gives, refl))
+
+numbered : (s : LogSet) → IsOfChain s → order s ≡ Numbered
+numbered s c = ap (λ n. order_of n.dated) c.naming_is
+
+named_by : (d place : ℕ) → d ≡ 1 + place → d < 10 → IsMemberAt (naming_of rule log) place (joined (codes "/v") (codes "a.log" ++ 46 ∷ (48 + d) ∷ []))
+named_by d place e lt = record { bound = omega arith; named = ap (λ (ds : List ℕ). joined (codes "/v") (codes "a.log" ++ 46 ∷ ds ++ [])) (sym (decimal_digit d lt) ∙ ap decimal e) }
+
+key_at : (s : LogSet) → IsOfChain s → (place : ℕ) (x : Path) → IsMemberAt (naming_of rule log) place x → s.key x ≡ Some (pos place)
+key_at s c place x m = (keys x (pos place)).1 (place, refl, subst (λ n. IsMemberAt n place x) (sym c.naming_is) m)
+  where
+    keys : IsKeyBy Numbered s.naming s.key
+    keys = subst (λ (o : Order). IsKeyBy o s.naming s.key) (numbered s c) s.keys
+
+key_first : (s : LogSet) → IsOfChain s → s.key first ≡ Some (pos 0)
+key_first s c = key_at s c 0 first (named_by 1 0 refl (omega arith))
+
+key_second : (s : LogSet) → IsOfChain s → s.key second ≡ Some (pos 1)
+key_second s c = key_at s c 1 second (named_by 2 1 refl (omega arith))
+
+key_third : (s : LogSet) → IsOfChain s → s.key third ≡ Some (pos 2)
+key_third s c = key_at s c 2 third (named_by 3 2 refl (omega arith))
+
+-- ---- step by step
+
+-- a journal of a disk, and safe
+record IsGood (s : LogSet) (p : Past) : Type 0 where
+  journal : IsJournal p
+  safe : IsSafe s p
+
+good_on : (s : LogSet) (p : Past) (e : Entry) → IsGood s p → Fits (world p) e → MayFollow s p e → IsGood s (p ▸ e)
+good_on s p e good f m = record { journal = (good.journal, f); safe = safe_on s p e (good.journal, f) good.safe m }
+
+-- a rename of a file to a path that names nothing
+rename_fits : (w : World) (from to : Path) (g : ℕ) → names w from ≡ thing.File g → names w to ≡ thing.Nothing → names w (parent_of to) ≡ thing.Directory → bytes_eq from to ≡ false → Fits w (Renames from to)
+rename_fits w from to g file free dir other = ((g, file), (λ e. clash_dir (names w to) free e), (λ e. clash_other (names w to) free e), dir, (λ same. let t : bytes_eq from to ≡ true = (bytes_eq-Decides from to).1 same in cc))
+  where
+    clash_dir : (t : Thing) → t ≡ thing.Nothing → t ≡ thing.Directory → ⊥
+    clash_dir t a b = cc
+
+    clash_other : (t : Thing) → t ≡ thing.Nothing → t ≡ thing.Other → ⊥
+    clash_other t a b = cc
+
+-- a member that is ready goes one place further, and those before it stay ready
+record IsReadyGood (s : LogSet) (p : Past) (limit : ℕ) : Type 0 where
+  good : IsGood s p
+  ready : IsReady s p limit
+
+moved_on : (s : LogSet) → IsOfChain s → (p : Past) (from to : Path) (place limit g : ℕ) → IsReadyGood s p limit → place < limit → s.key from ≡ Some (pos place) → s.key to ≡ Some (pos (place + 1))
+    → names (world p) from ≡ thing.File g → names (world p) to ≡ thing.Nothing → names (world p) (parent_of to) ≡ thing.Directory → bytes_eq from to ≡ false → IsReadyGood s (p ▸ Renames from to) place
+moved_on s c p from to place limit g r lt is is' file free dir other = record {
+  good = good_on s p (Renames from to) r.good fits (moves s p from to place r.good.journal r.good.safe (numbered s c) is is' free (r.ready from place is lt));
+  ready = ready_behind s p from to place limit (r.good.journal, fits) r.good.safe (numbered s c) is is' lt r.ready;
+}
+  where
+    fits : Fits (world p) (Renames from to)
+    fits = rename_fits (world p) from to g file free dir other
+
+turned_on : (s : LogSet) → IsOfChain s → (p : Past) (g : ℕ) → IsGood s p → names (world p) log ≡ thing.File g → names (world p) first ≡ thing.Nothing → names (world p) (parent_of first) ≡ thing.Directory → IsGood s (p ▸ Renames log first)
+turned_on s c p g good file free dir = good_on s p (Renames log first) good (rename_fits (world p) log first g file free dir refl) (subst (λ (x : Path). MayFollow s p (Renames x first)) c.log_is (may_turn s p first (numbered s c) (key_first s c) free))
+
+gone_on : (s : LogSet) → IsOfChain s → (p : Past) (g : ℕ) → rules_of p ≡ rule ∷ [] → IsGood s p → names (world p) third ≡ thing.File g → IsGood s (p ▸ Unlinks third)
+gone_on s c p g same good file = good_on s p (Unlinks third) good (g, file) (unlinks s p third 2 2 good.journal good.safe (numbered s c) (key_third s c) (omega arith) (subst (λ rs. SomeRule rs s.log (λ r. r.count ≡ Keep 2)) (sym same) (some_rule s c)))
+
+gone_ready : (s : LogSet) → IsOfChain s → (p : Past) (g limit : ℕ) → rules_of p ≡ rule ∷ [] → IsReadyGood s p limit → names (world p) third ≡ thing.File g → IsReadyGood s (p ▸ Unlinks third) limit
+gone_ready s c p g limit same r file = record { good = gone_on s c p g same r.good file; ready = ready_behind_unlink s p third limit (r.good.journal, (g, file)) r.good.safe r.ready }
+
+begun_on : (s : LogSet) → IsOfChain s → (p : Past) (now : Moment) → IsGood s p → names (world p) (parent_of (codes "/s/status")) ≡ thing.Directory → IsReadyGood s (begins p now) 2
+begun_on s c p now good dir = record { good = here; ready = ready_first s (begins p now) 2 here.safe (numbered s c) refl }
+  where
+    here : IsGood s (begins p now)
+    here = record { journal = (good.journal, dir); safe = quiet_safe s p (Starts (codes "/s/status") now rules) (good.journal, dir) good.safe tt }
+
+ended_on : (s : LogSet) (p : Past) → IsGood s p → (world p).running ≡ true → IsGood s (p ▸ Ends)
+ended_on s p good is = record { journal = (good.journal, is); safe = quiet_safe s p Ends (good.journal, is) good.safe tt }
+
+opens : (s : LogSet) → IsGood s (Opens found)
+opens s = record { journal = found_valid; safe = at_first s found found_valid }
+
+first_run : (s : LogSet) (now : Moment) → IsOfChain s → IsReadyGood s (begins (Opens found) now) 2
+first_run s now c = begun_on s c (Opens found) now (opens s) refl
+
+-- the member at place 1 has moved
+one_moved : (s : LogSet) (now : Moment) → IsOfChain s → IsReadyGood s (begins (Opens found) now ▸ Renames second third) 1
+one_moved s now c = moved_on s c (begins (Opens found) now) second third 1 2 2 (first_run s now c) (omega arith) (key_second s c) (key_third s c) refl refl refl refl
+
+both_moved : (s : LogSet) (now : Moment) → IsOfChain s → IsReadyGood s (begins (Opens found) now ▸ Renames second third ▸ Renames first second) 0
+both_moved s now c = moved_on s c (begins (Opens found) now ▸ Renames second third) first second 0 1 1 (one_moved s now c) (omega arith) (key_first s c) (key_second s c) refl refl refl refl
+
+pub chain_safe : (s : LogSet) (now : Moment) → IsOfChain s → IsJournal (chain now) × IsSafe s (chain now)
+chain_safe s now c = (done.journal, done.safe)
+  where
+    turned : IsGood s (begins (Opens found) now ▸ Renames second third ▸ Renames first second ▸ Renames log first)
+    turned = turned_on s c (begins (Opens found) now ▸ Renames second third ▸ Renames first second) 0 (both_moved s now c).good refl refl refl
+
+    done : IsGood s (chain now)
+    done = ended_on s _ (gone_on s c _ 2 refl turned refl) refl
+
+pub taken_up_safe : (s : LogSet) (now again : Moment) → IsOfChain s → IsJournal (taken_up now again) × IsSafe s (taken_up now again)
+taken_up_safe s now again c = (done.journal, done.safe)
+  where
+    begun : IsReadyGood s (begins (begins (Opens found) now ▸ Renames second third) again) 2
+    begun = begun_on s c _ again (one_moved s now c).good refl
+
+    gone : IsReadyGood s (begins (begins (Opens found) now ▸ Renames second third) again ▸ Unlinks third) 2
+    gone = gone_ready s c _ 2 2 refl begun refl
+
+    moved : IsReadyGood s (begins (begins (Opens found) now ▸ Renames second third) again ▸ Unlinks third ▸ Renames first second) 0
+    moved = moved_on s c _ first second 0 2 1 gone (omega arith) (key_first s c) (key_second s c) refl refl refl refl
+
+    done : IsGood s (taken_up now again)
+    done = ended_on s _ (turned_on s c _ 0 moved.good refl refl refl) refl
+
+pub taken_effect_safe : (s : LogSet) (now again : Moment) → IsOfChain s → IsJournal (taken_effect now again) × IsSafe s (taken_effect now again)
+taken_effect_safe s now again c = (done.journal, done.safe)
+  where
+    ended : IsGood s (begins (Opens found) now ▸ Renames second third ▸ Renames first second ▸ Ends)
+    ended = ended_on s _ (both_moved s now c).good refl
+
+    gone : IsReadyGood s (begins (begins (Opens found) now ▸ Renames second third ▸ Renames first second ▸ Ends) again ▸ Unlinks third) 2
+    gone = gone_ready s c _ 2 2 refl (begun_on s c _ again ended refl) refl
+
+    moved : IsReadyGood s (begins (begins (Opens found) now ▸ Renames second third ▸ Renames first second ▸ Ends) again ▸ Unlinks third ▸ Renames second third) 1
+    moved = moved_on s c _ second third 1 2 1 gone (omega arith) (key_second s c) (key_third s c) refl refl refl refl
+
+    done : IsGood s (taken_effect now again)
+    done = ended_on s _ (gone_on s c _ 1 refl (turned_on s c _ 0 moved.good refl refl refl) refl) refl
+
+-- ---- the wrong orders
+
+-- a rename to a path takes the name of the file there, which had no other
+unnamed_by : (n : Names) (from to : Path) (f g : ℕ) → n from ≡ thing.File f → (f ≡ g → ⊥) → n to ≡ thing.File g → ((x : Path) → n x ≡ thing.File g → x ≡ to) → changed (Moves from to) n to ≡ thing.File f → (x : Path) → changed (Moves from to) n x ≡ thing.File g → ⊥
+unnamed_by n from to f g file other over only now x is = at (came (Moves from to) n x g is)
+  where
+    same_file : (t : Thing) → t ≡ thing.File f → t ≡ thing.File g → f ≡ g
+    same_file t a b = cc
+
+    at : Came (Moves from to) n x g → ⊥
+    at (made i) = cc
+    at (moved z i j) = let e : from ≡ z = cc in other (same_file (n from) file (ap n e ∙ j))
+    at (stayed i l) = other (same_file (changed (Moves from to) n to) now (subst (λ y. changed (Moves from to) n y ≡ thing.File g) (only x i) is))
+
+-- a file that lost its last name by a rename is not kept
+lost_by : (s : LogSet) (p : Past) (from to : Path) (f g : ℕ) → ((x : Path) → names (world p) x ≡ thing.File g → x ≡ to) → names (world p) from ≡ thing.File f → (f ≡ g → ⊥)
+    → names (world p) to ≡ thing.File g → changed (Moves from to) (names (world p)) to ≡ thing.File f → IsGeneration s (p ▸ Renames from to) g → IsKept s (p ▸ Renames from to) → ⊥
+lost_by s p from to f g only file other over now gen kept = go (kept g gen)
+  where
+    gone : (x : Path) → changed (Moves from to) (names (world p)) x ≡ thing.File g → ⊥
+    gone = unnamed_by (names (world p)) from to f g file other over only now
+
+    go : IsReleased s (p ▸ Renames from to) g ⊎ (Stands s (names (world (p ▸ Renames from to))) (later s (p ▸ Renames from to) g) g × IsWhole (p ▸ Renames from to) g) → ⊥
+    go (inl (un, inl (named, none))) = none
+    go (inl (un, inr (unnamed, r))) = unnamed to over
+    go (inr (st, w)) = gone st.at st.named
+
+only_one : (x : Path) (g : ℕ) (y : Path) → names (world (Opens found)) y ≡ thing.File g → names (world (Opens found)) x ≡ thing.File g → x ≡ y
+only_one x g y is it = (opened found found_valid).unique x y g it is
+
+pub lowest_lost : (s : LogSet) (now : Moment) → IsOfChain s → IsKept s (begins (Opens found) now ▸ Renames first second) → ⊥
+lowest_lost s now c = lost_by s (begins (Opens found) now) first second 1 2 (λ x is. only_one x 2 second refl is) refl (λ e. absurd (cc)) refl refl (inr (record { at = second; key = pos 1; member = key_second s c; named = refl }))
+
+pub log_lost : (s : LogSet) (now : Moment) → IsOfChain s → IsKept s (begins (Opens found) now ▸ Renames log first) → ⊥
+log_lost s now c = lost_by s (begins (Opens found) now) log first 0 1 (λ x is. only_one x 1 first refl is) refl (λ e. absurd (cc)) refl refl (inr (record { at = first; key = pos 0; member = key_first s c; named = refl }))
+
+pub lowest_unsafe : (s : LogSet) (now : Moment) → IsOfChain s → IsSafe s (lowest_first now) → ⊥
+lowest_unsafe s now c safe = lowest_lost s now c (safe.each _ (shorter (shorter (shorter (shorter whole))))).kept
+
+pub log_unsafe : (s : LogSet) (now : Moment) → IsOfChain s → IsSafe s (log_first now) → ⊥
+log_unsafe s now c safe = log_lost s now c (safe.each _ (shorter (shorter (shorter (shorter whole))))).kept
+
+-- a rename of a file over another
+rename_over : (w : World) (from to : Path) (f g : ℕ) → names w from ≡ thing.File f → names w to ≡ thing.File g → names w (parent_of to) ≡ thing.Directory → bytes_eq from to ≡ false → Fits w (Renames from to)
+rename_over w from to f g file over dir other = ((f, file), (λ e. clash_dir (names w to) over e), (λ e. clash_other (names w to) over e), dir, (λ same. let t : bytes_eq from to ≡ true = (bytes_eq-Decides from to).1 same in cc))
+  where
+    clash_dir : (t : Thing) → t ≡ thing.File g → t ≡ thing.Directory → ⊥
+    clash_dir t a b = cc
+
+    clash_other : (t : Thing) → t ≡ thing.File g → t ≡ thing.Other → ⊥
+    clash_other t a b = cc
+
+pub lowest_journal : (now : Moment) → IsJournal (lowest_first now)
+lowest_journal now = (
+  (
+    (
+      (((found_valid, refl), rename_over (world (begins (Opens found) now)) first second 1 2 refl refl refl refl), rename_fits (world (begins (Opens found) now ▸ Renames first second)) second third 1 refl refl refl refl),
+      rename_fits (world (begins (Opens found) now ▸ Renames first second ▸ Renames second third)) log first 0 refl refl refl refl,
+    ),
+    (1, refl),
+  ),
+  refl,
+)
+
+pub log_journal : (now : Moment) → IsJournal (log_first now)
+log_journal now = (
+  (
+    (
+      (((found_valid, refl), rename_over (world (begins (Opens found) now)) log first 0 1 refl refl refl refl), rename_fits (world (begins (Opens found) now ▸ Renames log first)) second third 2 refl refl refl refl),
+      rename_fits (world (begins (Opens found) now ▸ Renames log first ▸ Renames second third)) first second 0 refl refl refl refl,
+    ),
+    (2, refl),
+  ),
+  refl,
+)

@@ -1,0 +1,48 @@
+// A log with two members, worked through.
+ghost use Rattle.std.specs.Prelude.{◌≡◌, ℕ, None};
+ghost use Rattle.lr_rules.specs.declared.path.Path.{Path};
+ghost use Rattle.lr_rules.specs.declared.civil.Moment.{Moment};
+ghost use Rattle.lr_rules.specs.declared.rule.Naming.{Naming};
+ghost use Rattle.lr_rules.specs.Names.{IsMemberAt};
+ghost use Rattle.lr_host.specs.declared.entry.Entry.TheVariants as entry;
+ghost use Rattle.lr_host.specs.World.{Opens, ◌▸◌};
+ghost use Rattle.lr_host.specs.Opening.{IsJournal};
+ghost use Rattle.lr_host.specs.Sets.{LogSet};
+ghost use Rattle.lr_host.specs.Kept.{IsKept};
+ghost use Rattle.lr_host.specs.Safe.{IsSafe};
+ghost use Rattle.lr_laws.specs.Chain.{IsOfChain, log, first, second, found, begins, chain, taken_up, taken_effect, lowest_first, log_first};
+
+/// A log and a numbered naming of which it is no member are a set.
+pub fn sets_exist()
+    ensures { (log : Path) (n : Naming) → n.dated ≡ None → ((place : ℕ) → IsMemberAt n place log → ⊥)
+        → (s : LogSet) × (s.log ≡ log) × (s.naming ≡ n) }
+{}
+
+/// The chain from the highest place down, then the log, then the removal: a journal that is safe.
+pub fn chain_is_safe()
+    ensures { (s : LogSet) (now : Moment) → IsOfChain s → IsJournal (chain now) × IsSafe s (chain now) }
+{}
+
+/// So it is where the run was stopped in its middle and the next one takes it up.
+pub fn taken_up_is_safe()
+    ensures { (s : LogSet) (now again : Moment) → IsOfChain s → IsJournal (taken_up now again) × IsSafe s (taken_up now again) }
+{}
+
+/// So it is where a rename that failed took effect.
+pub fn taken_effect_is_safe()
+    ensures { (s : LogSet) (now again : Moment) → IsOfChain s → IsJournal (taken_effect now again) × IsSafe s (taken_effect now again) }
+{}
+
+/// From the lowest place up: a journal, but behind its first rename the second member's file isn't kept.
+pub fn lowest_first_loses()
+    ensures journal { (now : Moment) → IsJournal (lowest_first now) }
+    ensures lost { (s : LogSet) (now : Moment) → IsOfChain s → IsKept s (begins (Opens found) now ▸ entry.Renames first second) → ⊥ }
+    ensures unsafe_ { (s : LogSet) (now : Moment) → IsOfChain s → IsSafe s (lowest_first now) → ⊥ }
+{}
+
+/// The log first, then the chain: a journal, but behind its first rename the first member's file isn't kept.
+pub fn log_first_loses()
+    ensures journal { (now : Moment) → IsJournal (log_first now) }
+    ensures lost { (s : LogSet) (now : Moment) → IsOfChain s → IsKept s (begins (Opens found) now ▸ entry.Renames log first) → ⊥ }
+    ensures unsafe_ { (s : LogSet) (now : Moment) → IsOfChain s → IsSafe s (log_first now) → ⊥ }
+{}
