@@ -3,9 +3,10 @@ use Rattle.std.proofs.Common.{◌≡◌, ◌≢◌, ◌⊎◌, inl, inr, ℕ, ze
 use Rattle.lr_rules.specs.declared.path.Path.{Path}
 use Rattle.lr_host.specs.declared.entry.Entry.{Entry}
 use Rattle.lr_host.specs.declared.entry.Entry.TheVariants.{Attach, Makes}
-use Rattle.lr_host.specs.World.{MayLeave, but, Names, put, Change, Puts, Moves, Drops, changed, World, names, Step, Stays, Adds, Settles, Keeps, making, step, pending_after, durable_after, drawn_after}
+use Rattle.lr_host.specs.World.{MayLeave, but, Names, put, Change, Puts, Moves, Drops, changed, World, names, Step, Stays, Adds, Settles, Keeps, making, step, pending_after, durable_after, drawn_after, names_but}
 use Rattle.lr_host.specs.declared.thing.Thing.{Thing}
 use Rattle.lr_host.specs.declared.thing.Thing.TheVariants as thing
+use Rattle.lr_host.specs.Released.{undone_by}
 use Rattle.lr_host.proofs.Names.{put_cases}
 use Rattle.lr_host.proofs.More.{names_by}
 
@@ -53,9 +54,11 @@ agree_same (Puts x t) n = refl
 agree_same (Moves from to) n = (refl, refl)
 agree_same (Drops x) n = refl
 
+-- ---- what a cut may leave: of the disk the laws ask these five facts, and no other
+
 -- What a cut may leave after a step is what it might have left before, the step's change undone too or kept too.
 pub data LeftBy (w : World) (st : Step) (n : Names) (undone : List Change) : Type 0 where
-  as_it_was : names_by w st ≡ names w → MayLeave w.durable w.pending n undone → LeftBy w st n undone
+  as_it_was : ((x : Path) → names_by w st x ≡ names w x) → MayLeave w.durable w.pending n undone → LeftBy w st n undone
   taken_back : (c : Change) (older : List Change) → st ≡ Adds c → undone ≡ c ∷ older → MayLeave w.durable w.pending n older → LeftBy w st n undone
   kept_too : (c : Change) (m : Names) → st ≡ Adds c → n ≡ changed c m → MayLeave w.durable w.pending m undone → AgreeOn c m (names w) → LeftBy w st n undone
   by_cut : (kept : ℕ) (older : List Change) → st ≡ Keeps kept → undone ≡ [] → n ≡ names_by w st → MayLeave w.durable w.pending n older → LeftBy w st n undone
@@ -64,13 +67,37 @@ pub leaves_now : (w : World) → MayLeave w.durable w.pending (names w) []
 leaves_now w = but 0 (omega arith)
 
 pub left_by : (w : World) (st : Step) (n : Names) (undone : List Change) → MayLeave (durable_after w st) (pending_after w st) n undone → LeftBy w st n undone
-left_by w Stays _ _ (but u le) = as_it_was refl (but u le)
+left_by w Stays _ _ (but u le) = as_it_was (λ x. refl) (but u le)
 left_by w (Adds c) _ _ (but zero le) = kept_too c (names w) refl refl (leaves_now w) (agree_same c (names w))
 left_by w (Adds c) _ _ (but (suc u) le) = taken_back c (take u w.pending) refl refl (but u (omega arith))
-left_by w Settles _ _ (but zero le) = as_it_was refl (leaves_now w)
+left_by w Settles _ _ (but zero le) = as_it_was (λ x. refl) (leaves_now w)
 left_by w Settles _ _ (but (suc u) le) = absurd (omega arith)
 left_by w (Keeps kept) _ _ (but zero le) = by_cut kept (take (length w.pending - kept) w.pending) refl refl refl (but (length w.pending - kept) (omega arith))
 left_by w (Keeps kept) _ _ (but (suc u) le) = absurd (omega arith)
+
+-- a cut that keeps so many changes may leave these names
+pub cut_leaves : (w : World) (kept : ℕ) → MayLeave w.durable w.pending (names_but w (length w.pending - kept)) (undone_by w kept)
+cut_leaves w kept = but (length w.pending - kept) (omega arith)
+
+-- What a cut may leave, some cut that is allowed leaves.
+pub record IsLeftByCut (w : World) (n : Names) (undone : List Change) : Type 0 where
+  pub kept : ℕ
+  pub allowed : kept ≤ length w.pending
+  pub leaves : names_but w (length w.pending - kept) ≡ n
+  pub undoes : undone_by w kept ≡ undone
+
+pub by_some_cut : (w : World) (n : Names) (undone : List Change) → MayLeave w.durable w.pending n undone → IsLeftByCut w n undone
+by_some_cut w _ _ (but u le) = record { kept = length w.pending - u; allowed = omega arith; leaves = ap (names_but w) back; undoes = ap (λ (v : ℕ). take v w.pending) back }
+  where
+    back : length w.pending - (length w.pending - u) ≡ u
+    back = omega arith
+
+-- where nothing is pending, a cut changes no name
+pub nothing_pending : (d n : Names) (undone : List Change) → MayLeave d [] n undone → (n ≡ d) × (undone ≡ [])
+nothing_pending d _ _ (but zero le) = (refl, refl)
+nothing_pending d _ _ (but (suc u) le) = (refl, refl)
+
+-- ---- identities
 
 -- a step makes a file only by a new identity
 abbrev pub IsFresh : ℕ → Step → Type 0

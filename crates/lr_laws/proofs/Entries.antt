@@ -99,12 +99,29 @@ not_true : (b : Bool) → (b ≡ true → ⊥) → b ≡ false
 not_true true m = absurd (m refl)
 not_true false m = refl
 
+-- a file stands under other names that name the same
+stands_alike : (s : LogSet) (n n' : Names) (l g : ℕ) → ((x : Path) → n' x ≡ n x) → Stands s n l g → Stands s n' l g
+stands_alike s n n' l g same st = record {
+  at = st.at;
+  named = same st.at ∙ st.named;
+  only = λ y i. st.only y (sym (same y) ∙ i);
+  placed = ⊎_elim (λ a. inl a) (λ w. inr (within (order s) w)) st.placed;
+}
+  where
+    fewer : (t : ℤ) (ys : List Path) → AreLaterMembers s.key n' t ys → AreLaterMembers s.key n t ys
+    fewer t [] a = tt
+    fewer t (y ∷ ys) a = (((a.0.0.0, sym (same y) ∙ a.0.0.1), a.0.1), fewer t ys a.1)
+
+    within : (o : Order) → IsWithin o s.key n st.at l → IsWithin o s.key n' st.at l
+    within Numbered w = w
+    within Dated w = (w.0, w.1, λ ys d a. w.2 ys d (fewer w.0 ys a))
+
 -- An entry that changes no name and writes over no generation keeps what is kept, whatever came before.
-pub kept_same : (s : LogSet) (p : Past) (e : Entry) → names (world (p ▸ e)) ≡ names (world p) → ((g : ℕ) → leaves s (world p) e g ≡ true → ⊥) → ((g : ℕ) → IsGeneration s p g → IsWritten (world p) e g → ⊥) → IsKept s p → IsKept s (p ▸ e)
+pub kept_same : (s : LogSet) (p : Past) (e : Entry) → ((x : Path) → names (world (p ▸ e)) x ≡ names (world p) x) → ((g : ℕ) → leaves s (world p) e g ≡ true → ⊥) → ((g : ℕ) → IsGeneration s p g → IsWritten (world p) e g → ⊥) → IsKept s p → IsKept s (p ▸ e)
 kept_same s p e same nl nw k g gen' = go (old_one gen')
   where
     before : (x : Path) → names (world (p ▸ e)) x ≡ thing.File g → names (world p) x ≡ thing.File g
-    before x is = sym (ap (λ (m : Names). m x) same) ∙ is
+    before x is = sym (same x) ∙ is
 
     stood_p : is_file (names (world (p ▸ e)) s.log) g ≡ true → stood s p g ≡ true
     stood_p t = stood_now s p g (before s.log (is_file_true (names (world (p ▸ e)) s.log) g t))
@@ -121,7 +138,7 @@ kept_same s p e same nl nw k g gen' = go (old_one gen')
       where
         by : IsReleased s p g ⊎ (Stands s (names (world p)) (later s p g) g × IsWhole p g) → IsReleased s (p ▸ e) g ⊎ (Stands s (names (world (p ▸ e))) (later s (p ▸ e) g) g × IsWhole (p ▸ e) g)
         by (inl r) = inl ((λ x is. released_unnamed s p g r x (before x is)), inr (released_unnamed s p g r, r))
-        by (inr (st, w)) = inr (stands_more s (names (world (p ▸ e))) (later s p g) (later s (p ▸ e) g) g grown (subst (λ (m : Names). Stands s m (later s p g) g) (sym same) st), whole_on p e g (nw g gen) w)
+        by (inr (st, w)) = inr (stands_more s (names (world (p ▸ e))) (later s p g) (later s (p ▸ e) g) g grown (stands_alike s (names (world p)) (names (world (p ▸ e))) (later s p g) g same st), whole_on p e g (nw g gen) w)
 
 module _ (s : LogSet) (p : Past) (e : Entry) (h : IsSound s p) (n : IsToLog s e → ⊥) where
   -- a generation is an old one, or one that the entry makes at the log's path
@@ -377,7 +394,7 @@ module _ (s : LogSet) (p : Past) (e : Entry) (h : IsSound s p) (n : IsToLog s e 
 
           no_new : (g : ℕ) → (step (world p) e ≡ Adds (Puts s.log (thing.File g))) × (g ≡ (world p).drawn) → ⊥
           no_new g (q, drawn) =
-              let named : names (world p) s.log ≡ thing.File g = sym (ap (λ (v : Names). v s.log) same) ∙ (ap (λ (st : Step). names_by (world p) st s.log) q ∙ put_here (names (world p)) s.log s.log (thing.File g) refl) in
+              let named : names (world p) s.log ≡ thing.File g = sym (same s.log) ∙ (ap (λ (st : Step). names_by (world p) st s.log) q ∙ put_here (names (world p)) s.log s.log (thing.File g) refl) in
               let below : g < (world p).drawn = h.fresh (names (world p)) [] (leaves_now (world p)) s.log g named in
               omega arith
 
@@ -389,7 +406,7 @@ module _ (s : LogSet) (p : Past) (e : Entry) (h : IsSound s p) (n : IsToLog s e 
                 where
                   still : Stands s (names (world (p ▸ e))) (later s (p ▸ e) g) g → (IsNamed (names (world p)) g × IsMadeIn undone g) ⊎ (IsUnnamed (names (world p)) g × IsReleased s p g) → Result g
                   still st (inl (named, made_in)) = inl (g1.0, inl ((st.at, st.named), made_in))
-                  still st (inr (unnamed, r)) = absurd (unnamed st.at (sym (ap (λ (v : Names). v st.at) same) ∙ st.named))
+                  still st (inr (unnamed, r)) = absurd (unnamed st.at (sym (same st.at) ∙ st.named))
       from (taken_back c older q took lv') = λ g gen'. subst (λ (u : List Change). Result u g) (sym took) (⊎_elim (old_one g gen') (new_one g) (split g gen'))
         where
           Result : List Change → ℕ → Type 0

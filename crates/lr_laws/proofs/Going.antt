@@ -1,5 +1,5 @@
 -- Safe goes on over each entry that may follow.
-use Rattle.std.proofs.Common.{◌≡◌, inl, inr, ⊎_elim, ℕ, zero, suc, ◌≤◌, ◌-◌, ◌+◌, List, [], ◌∷◌, length, take, Bool, true, false, cond, ◌||◌, bytes_eq, nat_eq, refl, sym, ◌∙◌, ap, subst, arith, Option, Some, None, ℤ, pos}
+use Rattle.std.proofs.Common.{◌≡◌, inl, inr, ⊎_elim, ℕ, ◌≤◌, ◌-◌, ◌+◌, List, [], ◌∷◌, length, Bool, true, false, cond, ◌||◌, bytes_eq, nat_eq, refl, sym, ◌∙◌, ap, subst, arith, Option, Some, None, ℤ, pos}
 use Rattle.lr_rules.specs.declared.rule.Naming.{Naming}
 use Rattle.lr_rules.specs.Names.{IsMemberAt}
 use Rattle.lr_rules.specs.declared.path.Path.{Path}
@@ -7,7 +7,7 @@ use Rattle.lr_host.proofs.More.{names_by}
 use Rattle.lr_host.specs.declared.journal.Opening.{Opening}
 use Rattle.lr_host.specs.declared.entry.Entry.{Entry}
 use Rattle.lr_host.specs.declared.entry.Entry.TheVariants.{Attach, Feed, Flush, Detach, Starts, Ends, Look, List as Lists, Reads, Renames, Makes, Appends, Truncates, Unlinks, SyncsFile, SyncsDir, MakesDir, Runs, Cut}
-use Rattle.lr_host.specs.World.{but, changed, opening_names, named_at_first, Names, Change, Puts, Moves, Drops, names, names_but, Adds, step, making, Past, Opens, ◌▸◌, world, is_file}
+use Rattle.lr_host.specs.World.{changed, opening_names, named_at_first, Names, Change, Puts, Moves, Drops, names, names_but, Adds, step, making, Past, Opens, ◌▸◌, world, is_file}
 use Rattle.lr_host.specs.Fits.{IsFileAt, Fits}
 use Rattle.lr_host.specs.declared.thing.Thing.{Thing}
 use Rattle.lr_host.specs.Sets.{AreLaterMembers, IsKeyBy, Order, Numbered, Dated, IsWithin, LogSet, order}
@@ -21,13 +21,18 @@ use Rattle.lr_laws.proofs.Opened.{IsOpened, AreNamed, named_in_list, opened}
 use Rattle.lr_host.specs.Safe.{IsMachines}
 use Rattle.lr_laws.proofs.Sound.{IsSound, sound, sound_on, or_left, is_file_true, or_cases}
 use Rattle.lr_laws.proofs.Counting.{IsWritten, whole_on}
-use Rattle.lr_laws.proofs.Disk.{leaves_now, Came, made, moved, stayed, came}
+use Rattle.lr_laws.proofs.Disk.{IsLeftByCut, by_some_cut, cut_leaves, nothing_pending, leaves_now, Came, made, moved, stayed, came}
+use Rattle.lr_host.specs.Released.{undone_by}
 use Rattle.lr_laws.proofs.Pigeons.{EachIn, IsListed, pigeons}
 use Rattle.lr_laws.proofs.Entries.{keeps_fewer, kept_same, kept_adds, within_on, IsPermitted, released_unnamed}
 use Rattle.lr_host.specs.declared.thing.Thing.TheVariants as thing
 
+-- the names that a cut leaves
+abbrev left_names : Past → ℕ → Names
+left_names p kept = names_but (world p) (length (world p).pending - kept)
+
 later_cut : (s : LogSet) (p : Past) (kept : ℕ) (lengths : List (ℕ × ℕ)) (g : ℕ) → IsSound s p → later s (p ▸ Cut kept lengths) g ≡ later s p g
-later_cut s p kept lengths g h = go (left_at s p g) (stood s p g) (is_file (names (world (p ▸ Cut kept lengths)) s.log) g) (λ is. h.seen (names_but (world p) (length (world p).pending - kept)) (take (length (world p).pending - kept) (world p).pending) (but (length (world p).pending - kept) (omega arith)) g (is_file_true (names (world (p ▸ Cut kept lengths)) s.log) g is))
+later_cut s p kept lengths g h = go (left_at s p g) (stood s p g) (is_file (names (world (p ▸ Cut kept lengths)) s.log) g) (λ is. h.seen (left_names p kept) (undone_by (world p) kept) (cut_leaves (world p) kept) g (is_file_true (names (world (p ▸ Cut kept lengths)) s.log) g is))
   where
     go : (l : Option ℕ) (b i : Bool) → (i ≡ true → b ≡ true) → counted l (b || i) (rotations s p + 0) (first_place s (opening_of p).names g) ≡ counted l b (rotations s p) (first_place s (opening_of p).names g)
     go (Some n) b i t = omega arith
@@ -41,37 +46,30 @@ old_generation s p e g (inr member) = inr member
 
 generation_before : (s : LogSet) (p : Past) (kept : ℕ) (lengths : List (ℕ × ℕ)) (g : ℕ) → IsSound s p → IsGeneration s (p ▸ Cut kept lengths) g → IsGeneration s p g
 generation_before s p kept lengths g h (inr member) = inr member
-generation_before s p kept lengths g h (inl there) = ⊎_elim (λ was_there. inl was_there) (λ now_there. inl (h.seen (names_but (world p) (length (world p).pending - kept)) (take (length (world p).pending - kept) (world p).pending) (but (length (world p).pending - kept) (omega arith)) g (is_file_true (names (world (p ▸ Cut kept lengths)) s.log) g now_there))) (or_cases (stood s p g) (is_file (names (world (p ▸ Cut kept lengths)) s.log) g) there)
-
--- the names that a cut leaves, and the changes that it undoes
-abbrev left_names : Past → ℕ → Names
-left_names p kept = names_but (world p) (length (world p).pending - kept)
-
-abbrev undone_changes : Past → ℕ → List Change
-undone_changes p kept = take (length (world p).pending - kept) (world p).pending
+generation_before s p kept lengths g h (inl there) = ⊎_elim (λ was_there. inl was_there) (λ now_there. inl (h.seen (left_names p kept) (undone_by (world p) kept) (cut_leaves (world p) kept) g (is_file_true (names (world (p ▸ Cut kept lengths)) s.log) g now_there))) (or_cases (stood s p g) (is_file (names (world (p ▸ Cut kept lengths)) s.log) g) there)
 
 no_clash : (t : Thing) (g : ℕ) → t ≡ thing.Nothing → t ≡ thing.File g → ⊥
 no_clash t g a b = cc
 
 -- a cut leaves what is kept under the names that it leaves
-pub cut_keeps : (s : LogSet) (p : Past) (kept : ℕ) (lengths : List (ℕ × ℕ)) → IsSound s p → IsKeptUnder s p (left_names p kept) (undone_changes p kept) → IsKept s (p ▸ Cut kept lengths)
+pub cut_keeps : (s : LogSet) (p : Past) (kept : ℕ) (lengths : List (ℕ × ℕ)) → IsSound s p → IsKeptUnder s p (left_names p kept) (undone_by (world p) kept) → IsKept s (p ▸ Cut kept lengths)
 cut_keeps s p kept lengths h k g gen = ⊎_elim (λ gone. inl gone) (λ sw. inr (subst (λ (l : ℕ). Stands s (left_names p kept) l g) (sym (later_cut s p kept lengths g h)) sw.0, whole_on p (Cut kept lengths) g (λ none. none) sw.1)) (k g (generation_before s p kept lengths g h gen))
 
-pub cut_kept : (s : LogSet) (p : Past) (kept : ℕ) → IsSound s p → IsKept s (p ▸ Cut kept []) → IsKeptUnder s p (left_names p kept) (undone_changes p kept)
+pub cut_kept : (s : LogSet) (p : Past) (kept : ℕ) → IsSound s p → IsKept s (p ▸ Cut kept []) → IsKeptUnder s p (left_names p kept) (undone_by (world p) kept)
 cut_kept s p kept h k g gen = ⊎_elim (λ gone. inl gone) (λ sw. inr (subst (λ (l : ℕ). Stands s (left_names p kept) l g) (later_cut s p kept [] g h) sw.0, sw.1)) (k g (old_generation s p (Cut kept []) g gen))
 
 -- what is kept now and after each cut
 pub within_now : (s : LogSet) (p : Past) → IsSound s p → IsKeptNow s p → IsKeptWithin s p
-within_now s p h k _ _ (but u le) = subst (λ (v : ℕ). IsKeptUnder s p (names_but (world p) v) (take v (world p).pending)) back (cut_kept s p (length (world p).pending - u) h (k.cut (Cut (length (world p).pending - u) []) tt (record { changes = omega arith; apart = tt; within = tt })))
-  where
-    back : length (world p).pending - (length (world p).pending - u) ≡ u
-    back = omega arith
+within_now s p h k n undone lv =
+    let c : IsLeftByCut (world p) n undone = by_some_cut (world p) n undone lv in
+    let after : IsKept s (p ▸ Cut c.kept []) = k.cut (Cut c.kept []) tt (record { changes = c.allowed; apart = tt; within = tt }) in
+    subst (λ (m : Names). IsKeptUnder s p m undone) c.leaves (subst (λ (us : List Change). IsKeptUnder s p (left_names p c.kept) us) c.undoes (cut_kept s p c.kept h after))
 
 pub now_within : (s : LogSet) (p : Past) → IsSound s p → IsKept s p → IsKeptWithin s p → IsKeptNow s p
 now_within s p h now k = record { kept = now; cut = after }
   where
     after : (c : Entry) → IsMachines c → Fits (world p) c → IsKept s (p ▸ c)
-    after (Cut kept lengths) m f = cut_keeps s p kept lengths h (k (left_names p kept) (undone_changes p kept) (but (length (world p).pending - kept) (omega arith)))
+    after (Cut kept lengths) m f = cut_keeps s p kept lengths h (k (left_names p kept) (undone_by (world p) kept) (cut_leaves (world p) kept))
     after _ m f = absurd m
 
 under_now : (s : LogSet) (p : Past) → IsKept s p → IsKeptUnder s p (names (world p)) []
@@ -130,7 +128,7 @@ pub kept_on : (s : LogSet) (p : Past) (e : Entry) → IsSound s p → IsKept s p
 kept_on s p (Attach writer x at) h k f a nm = go (names (world p) x) refl
   where
     same : (t : Thing) → names (world p) x ≡ t → names_by (world p) (making t x (world p).drawn) ≡ names (world p) → IsKept s (p ▸ Attach writer x at)
-    same t r q = kept_same s p (Attach writer x at) (ap (λ (t : Thing). names_by (world p) (making t x (world p).drawn)) r ∙ q) (λ g l. cc) (λ g gen none. none) k
+    same t r q = kept_same s p (Attach writer x at) (λ y. ap (λ (t : Thing). names_by (world p) (making t x (world p).drawn) y) r ∙ ap (λ (m : Names). m y) q) (λ g l. cc) (λ g gen none. none) k
 
     go : (t : Thing) → names (world p) x ≡ t → IsKept s (p ▸ Attach writer x at)
     go thing.Nothing r = kept_change s p (Attach writer x at) (Puts x (thing.File (world p).drawn)) h (λ none. none) k f a (ap (λ (t : Thing). making t x (world p).drawn) r) (λ g gen none. none)
@@ -141,20 +139,20 @@ kept_on s p (Renames from to) h k f a nm = kept_change s p (Renames from to) (Mo
 kept_on s p (Makes x mode) h k f a nm = kept_change s p (Makes x mode) (Puts x (thing.File (world p).drawn)) h (λ none. none) k f a refl (λ g gen none. none)
 kept_on s p (MakesDir x mode) h k f a nm = kept_change s p (MakesDir x mode) (Puts x thing.Directory) h (λ none. none) k f a refl (λ g gen none. none)
 kept_on s p (Unlinks x) h k f a nm = kept_change s p (Unlinks x) (Drops x) h (λ none. none) k f a refl (λ g gen none. none)
-kept_on s p (Feed writer bytes at) h k f m nm = kept_same s p (Feed writer bytes at) refl (λ g l. cc) (λ g gen none. none) k
-kept_on s p (Flush writer) h k f m nm = kept_same s p (Flush writer) refl (λ g l. cc) (λ g gen none. none) k
-kept_on s p (Appends x bytes) h k f m nm = kept_same s p (Appends x bytes) refl (λ g l. cc) m k
-kept_on s p (Truncates x) h k f m nm = kept_same s p (Truncates x) refl (λ g l. cc) m k
+kept_on s p (Feed writer bytes at) h k f m nm = kept_same s p (Feed writer bytes at) (λ x. refl) (λ g l. cc) (λ g gen none. none) k
+kept_on s p (Flush writer) h k f m nm = kept_same s p (Flush writer) (λ x. refl) (λ g l. cc) (λ g gen none. none) k
+kept_on s p (Appends x bytes) h k f m nm = kept_same s p (Appends x bytes) (λ x. refl) (λ g l. cc) m k
+kept_on s p (Truncates x) h k f m nm = kept_same s p (Truncates x) (λ x. refl) (λ g l. cc) m k
 kept_on s p (Cut kept lengths) h k f m nm = absurd (nm tt)
-kept_on s p (Detach writer) h k f m nm = kept_same s p (Detach writer) refl (λ g l. cc) (λ g gen none. none) k
-kept_on s p (Starts state now rules) h k f m nm = kept_same s p (Starts state now rules) refl (λ g l. cc) (λ g gen none. none) k
-kept_on s p Ends h k f m nm = kept_same s p Ends refl (λ g l. cc) (λ g gen none. none) k
-kept_on s p (Look x seen) h k f m nm = kept_same s p (Look x seen) refl (λ g l. cc) (λ g gen none. none) k
-kept_on s p (Lists x names) h k f m nm = kept_same s p (Lists x names) refl (λ g l. cc) (λ g gen none. none) k
-kept_on s p (Reads x from bytes) h k f m nm = kept_same s p (Reads x from bytes) refl (λ g l. cc) (λ g gen none. none) k
-kept_on s p (SyncsFile x) h k f m nm = kept_same s p (SyncsFile x) refl (λ g l. cc) (λ g gen none. none) k
-kept_on s p (SyncsDir x) h k f m nm = kept_same s p (SyncsDir x) refl (λ g l. cc) (λ g gen none. none) k
-kept_on s p (Runs program args input ended) h k f m nm = kept_same s p (Runs program args input ended) refl (λ g l. cc) (λ g gen none. none) k
+kept_on s p (Detach writer) h k f m nm = kept_same s p (Detach writer) (λ x. refl) (λ g l. cc) (λ g gen none. none) k
+kept_on s p (Starts state now rules) h k f m nm = kept_same s p (Starts state now rules) (λ x. refl) (λ g l. cc) (λ g gen none. none) k
+kept_on s p Ends h k f m nm = kept_same s p Ends (λ x. refl) (λ g l. cc) (λ g gen none. none) k
+kept_on s p (Look x seen) h k f m nm = kept_same s p (Look x seen) (λ x. refl) (λ g l. cc) (λ g gen none. none) k
+kept_on s p (Lists x names) h k f m nm = kept_same s p (Lists x names) (λ x. refl) (λ g l. cc) (λ g gen none. none) k
+kept_on s p (Reads x from bytes) h k f m nm = kept_same s p (Reads x from bytes) (λ x. refl) (λ g l. cc) (λ g gen none. none) k
+kept_on s p (SyncsFile x) h k f m nm = kept_same s p (SyncsFile x) (λ x. refl) (λ g l. cc) (λ g gen none. none) k
+kept_on s p (SyncsDir x) h k f m nm = kept_same s p (SyncsDir x) (λ x. refl) (λ g l. cc) (λ g gen none. none) k
+kept_on s p (Runs program args input ended) h k f m nm = kept_same s p (Runs program args input ended) (λ x. refl) (λ g l. cc) (λ g gen none. none) k
 
 pub kept_any : (s : LogSet) (p : Past) (e : Entry) → IsSound s p → IsKeptNow s p → Fits (world p) e → MayFollow s p e → IsKept s (p ▸ e)
 kept_any s p (Cut kept lengths) h k f m = k.cut (Cut kept lengths) tt f
@@ -253,8 +251,7 @@ safe_at_first s o first = record { none_to_log = tt; each = λ q pre. go q pre }
     k = kept_at_first s o first
 
     within : IsKeptWithin s (Opens o)
-    within _ _ (but zero le) g gen = ⊎_elim (λ r. absurd r) (λ sw. inr sw) (k g gen)
-    within _ _ (but (suc u) le) g gen = ⊎_elim (λ r. absurd r) (λ sw. inr sw) (k g gen)
+    within n undone lv g gen = ⊎_elim (λ r. absurd r) (λ sw. inr (subst (λ (m : Names). Stands s m (later s (Opens o) g) g) (sym (nothing_pending (opening_names o) n undone lv).0) sw.0, sw.1)) (k g gen)
 
     go : (q : Past) → IsPrefix q (Opens o) → IsKeptNow s q
     go _ whole = now_within s (Opens o) h k within

@@ -1,10 +1,10 @@
 -- What holds of the names that a cut may leave, at each prefix.
-use Rattle.std.proofs.Common.{◌≡◌, ◌⊎◌, inl, inr, ℕ, zero, suc, ◌<◌, List, [], length, Bool, true, false, cond, ◌||◌, bytes_eq, nat_eq, refl, sym, ◌∙◌, ap, subst, arith, Some, is_some, ◌&&◌, ⊎_elim}
+use Rattle.std.proofs.Common.{◌≡◌, ◌⊎◌, inl, inr, ℕ, ◌<◌, List, [], length, Bool, true, false, cond, ◌||◌, bytes_eq, nat_eq, refl, sym, ◌∙◌, ap, subst, arith, Some, is_some, ◌&&◌, ⊎_elim}
 use Rattle.std.proofs.lemmas.Slice.Eq.{bytes_eq-Decides}
 use Rattle.lr_rules.specs.declared.path.Path.{Path}
 use Rattle.lr_host.specs.declared.entry.Entry.{Entry}
 use Rattle.lr_host.specs.declared.entry.Entry.TheVariants.{Renames, Attach}
-use Rattle.lr_host.specs.World.{but, Names, Change, Puts, Moves, changed, World, names, Step, Adds, making, step, Past, Opens, ◌▸◌, world, opening_names, is_file}
+use Rattle.lr_host.specs.World.{Names, Change, Puts, Moves, changed, World, names, Step, Adds, making, step, Past, Opens, ◌▸◌, world, opening_names, is_file}
 use Rattle.lr_host.specs.declared.thing.Thing.{Thing}
 use Rattle.lr_host.specs.Kept.{Leaves}
 use Rattle.lr_host.specs.Sets.{LogSet}
@@ -12,7 +12,7 @@ use Rattle.lr_host.specs.Later.{leaves, left_at, stood, IsGeneration, opening_of
 use Rattle.lr_host.specs.Runs.{rotations}
 use Rattle.lr_host.specs.Safe.{IsToLog, NoneToLog}
 use Rattle.lr_laws.proofs.Opened.{IsOpened}
-use Rattle.lr_laws.proofs.Disk.{Came, made, moved, stayed, came, IsLeft, LeftBy, as_it_was, taken_back, kept_too, by_cut, left_by, leaves_now, AgreeOn, step_fresh, made_fresh, drawn_grows, drawn_makes}
+use Rattle.lr_laws.proofs.Disk.{Came, made, moved, stayed, came, IsLeft, LeftBy, as_it_was, taken_back, kept_too, by_cut, left_by, leaves_now, nothing_pending, AgreeOn, step_fresh, made_fresh, drawn_grows, drawn_makes}
 use Rattle.lr_host.proofs.Names.{put_here}
 use Rattle.lr_host.specs.declared.thing.Thing.TheVariants as thing
 use Rattle.lr_host.proofs.More.{names_by}
@@ -155,7 +155,7 @@ module _ (s : LogSet) (p : Past) (e : Entry) (h : IsSound s p) (n : IsToLog s e 
       to_log c z a i = not_to_log s st c z (step_not_to_log s w e n) a i
 
       go : LeftBy w st m undone → ⊥
-      go (as_it_was same k) = h.no_return m undone k x g is other (at_name (names (world (p ▸ e))) (names w) s.log g same it)
+      go (as_it_was same k) = h.no_return m undone k x g is other (sym (same s.log) ∙ it)
       go (taken_back c older a q k) = at (came c (names w) s.log g (at_name (names (world (p ▸ e))) (changed c (names w)) s.log g (now_changed c a) it))
         where
           at : Came c (names w) s.log g → ⊥
@@ -234,8 +234,7 @@ pub sound : (s : LogSet) (p : Past) → IsOpened (opening_of p) → NoneToLog s 
 sound s (Opens o) first t = record { fresh = fresh_first; unique = unique_first; no_return = none; seen = there; known = known_first; left = none_left }
   where
     same : (m : Names) (undone : List Change) → Leaves (Opens o) m undone → m ≡ opening_names o
-    same _ _ (but zero le) = refl
-    same _ _ (but (suc u) le) = refl
+    same m undone l = (nothing_pending (opening_names o) m undone l).0
 
     at_first : (m : Names) (undone : List Change) → Leaves (Opens o) m undone → (x : Path) (g : ℕ) → m x ≡ thing.File g → opening_names o x ≡ thing.File g
     at_first m undone l x g is = sym (ap (λ (v : Names). v x) (same m undone l)) ∙ is

@@ -53,14 +53,14 @@ pub writers : (s : LogSet) (p : Past) (e : Entry) → IsJournal (p ▸ e) → No
 writers s p e j n k i a = let h : IsSound s p = sound_of s p j.0 n in kept_on s p e h k j.1 (may_follow s p e h i a) (written_no_cut e i)
 
 pub quiet : (s : LogSet) (p : Past) (e : Entry) → IsKept s p → ChangesNothing e → IsKept s (p ▸ e)
-quiet s p (entry.Starts state now rules) k i = kept_same s p (entry.Starts state now rules) refl (λ g l. cc) (λ g gen none. none) k
-quiet s p entry.Ends k i = kept_same s p entry.Ends refl (λ g l. cc) (λ g gen none. none) k
-quiet s p (entry.Look x seen) k i = kept_same s p (entry.Look x seen) refl (λ g l. cc) (λ g gen none. none) k
-quiet s p (entry.List dir listed) k i = kept_same s p (entry.List dir listed) refl (λ g l. cc) (λ g gen none. none) k
-quiet s p (entry.Reads x from bytes) k i = kept_same s p (entry.Reads x from bytes) refl (λ g l. cc) (λ g gen none. none) k
-quiet s p (entry.Runs program args input ended) k i = kept_same s p (entry.Runs program args input ended) refl (λ g l. cc) (λ g gen none. none) k
-quiet s p (entry.SyncsFile x) k i = kept_same s p (entry.SyncsFile x) refl (λ g l. cc) (λ g gen none. none) k
-quiet s p (entry.SyncsDir x) k i = kept_same s p (entry.SyncsDir x) refl (λ g l. cc) (λ g gen none. none) k
+quiet s p (entry.Starts state now rules) k i = kept_same s p (entry.Starts state now rules) (λ x. refl) (λ g l. cc) (λ g gen none. none) k
+quiet s p entry.Ends k i = kept_same s p entry.Ends (λ x. refl) (λ g l. cc) (λ g gen none. none) k
+quiet s p (entry.Look x seen) k i = kept_same s p (entry.Look x seen) (λ x. refl) (λ g l. cc) (λ g gen none. none) k
+quiet s p (entry.List dir listed) k i = kept_same s p (entry.List dir listed) (λ x. refl) (λ g l. cc) (λ g gen none. none) k
+quiet s p (entry.Reads x from bytes) k i = kept_same s p (entry.Reads x from bytes) (λ x. refl) (λ g l. cc) (λ g gen none. none) k
+quiet s p (entry.Runs program args input ended) k i = kept_same s p (entry.Runs program args input ended) (λ x. refl) (λ g l. cc) (λ g gen none. none) k
+quiet s p (entry.SyncsFile x) k i = kept_same s p (entry.SyncsFile x) (λ x. refl) (λ g l. cc) (λ g gen none. none) k
+quiet s p (entry.SyncsDir x) k i = kept_same s p (entry.SyncsDir x) (λ x. refl) (λ g l. cc) (λ g gen none. none) k
 quiet s p _ k i = absurd i
 
 pub changes : (s : LogSet) (p : Past) (e : Entry) → IsJournal (p ▸ e) → NoneToLog s p → IsKept s p → ChangesSomething e → MayFollow s p e → IsKept s (p ▸ e)
