@@ -6,9 +6,11 @@ pub mod Existing
 pub mod Going
 pub mod Moves
 pub mod Opened
+pub mod Outside
 pub mod Pigeons
 pub mod Rising
 pub mod Sound
 pub mod Stamps
 pub mod Stated
+pub mod Walk
 pub mod Writing

@@ -1,6 +1,7 @@
 -- What an entry needs so that what is kept stays so.
-use Rattle.std.specs.Prelude.{◌≡◌, ◌≢◌, ℕ, false, List}
+use Rattle.std.specs.Prelude.{◌≡◌, ◌≢◌, ℕ, false, List, [], ◌∷◌, All}
 use Rattle.lr_rules.specs.declared.path.Path.{Path}
+use Rattle.lr_rules.specs.Names.{IsName}
 use Rattle.lr_host.specs.declared.thing.Thing.TheVariants as thing
 use Rattle.lr_host.specs.declared.entry.Entry.{Entry}
 use Rattle.lr_host.specs.declared.entry.Entry.TheVariants as entry
@@ -84,3 +85,18 @@ ChangesSomething _ = ⊥
 abbrev pub NoneAttached : LogSet → Past → Type 0
 NoneAttached s (Opens o) = Unit {0}
 NoneAttached s (p ▸ e) = NoneAttached s p × AttachesNoMember s e
+
+-- the paths that the entry changes, or that it attaches a writer to
+abbrev pub changed_paths : Entry → List Path
+changed_paths (entry.Attach writer x at) = x ∷ []
+changed_paths (entry.Renames from to) = from ∷ to ∷ []
+changed_paths (entry.Makes x mode) = x ∷ []
+changed_paths (entry.Appends x bytes) = x ∷ []
+changed_paths (entry.Truncates x) = x ∷ []
+changed_paths (entry.Unlinks x) = x ∷ []
+changed_paths (entry.MakesDir x mode) = x ∷ []
+changed_paths _ = []
+
+-- none of them is a name of the set
+abbrev pub MeetsNone : LogSet → Entry → Type 0
+MeetsNone s e = All (λ x. IsName s.log s.naming x → ⊥) (changed_paths e)

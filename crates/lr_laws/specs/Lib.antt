@@ -1,3 +1,4 @@
 pub mod Chain
 pub mod Follow
 pub mod Room
+pub mod Rotation

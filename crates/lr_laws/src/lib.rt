@@ -16,7 +16,8 @@ pub use needs::{
     writers_may_follow,
 };
 pub use safety::{
-    cut_stays_safe, opening_is_safe, quiet_stays_safe, safe_goes_on, writers_stay_safe,
+    cut_stays_safe, opening_is_safe, quiet_stays_safe, rotation_stays_safe, safe_goes_on,
+    writers_stay_safe,
 };
 pub use worked::{
     chain_is_safe, log_first_loses, lowest_first_loses, sets_exist, taken_effect_is_safe,

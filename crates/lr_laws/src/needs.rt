@@ -16,12 +16,17 @@ ghost use Rattle.lr_host.specs.Kept.{IsKept};
 ghost use Rattle.lr_host.specs.Safe.{IsSafe, NoneToLog};
 ghost use Rattle.lr_host.specs.Steady.{AttachesNoMember};
 ghost use Rattle.lr_host.specs.Forward.{IsForward};
-ghost use Rattle.lr_laws.specs.Follow.{MayFollow, IsElsewhere};
+ghost use Rattle.lr_laws.specs.Follow.{MayFollow, IsElsewhere, MeetsNone};
 ghost use Rattle.lr_laws.specs.Room.{HasRoom, IsReady};
 
 /// An entry whose paths are neither the log nor members meets its condition.
 pub fn elsewhere_may_follow()
     ensures { (s : LogSet) (p : Past) (e : Entry) → IsJournal p → IsSafe s p → IsElsewhere s e → MayFollow s p e }
+{}
+
+/// Such an entry is each of those whose paths are no names of a numbered set.
+pub fn no_name_is_elsewhere()
+    ensures { (s : LogSet) (e : Entry) → order s ≡ Numbered → MeetsNone s e → IsElsewhere s e }
 {}
 
 /// A writer's entry meets it; of a dated set, where it attaches no member.
