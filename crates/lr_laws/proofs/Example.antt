@@ -1,8 +1,6 @@
 -- The log with two members.
-use Rattle.std.proofs.Common.{◌≡◌, ◌⊎◌, inl, inr, ℕ, zero, suc, ◌+◌, ◌≤◌, ◌<◌, Bool, true, false, not, ◌&&◌, ◌||◌, ◌++◌, bytes_eq, refl, sym, ◌∙◌, ap, subst, arith, Some, List, [], ◌∷◌, length, pos}
+use Rattle.std.proofs.Common.{◌≡◌, ◌⊎◌, inl, inr, ℕ, zero, suc, ◌+◌, ◌≤◌, ◌<◌, Bool, true, false, not, ◌&&◌, ◌++◌, bytes_eq, refl, sym, ◌∙◌, ap, subst, arith, Some, List, [], ◌∷◌, length, pos}
 use Rattle.std.specs.Prelude.{slice_index_or, All, Contains, count_by, ◌==◌, codes}
-use Rattle.std.specs.List.{list_any}
-use Rattle.std.specs.Str.{chars}
 use Rattle.std.proofs.lemmas.List.Elements.{All-cons}
 use Rattle.std.proofs.lemmas.Slice.Eq.{bytes_eq-Decides}
 use Rattle.std.proofs.lemmas.Fmt.{decimal_digit}
@@ -11,8 +9,12 @@ use Rattle.lr_rules.specs.declared.path.Path.{Path}
 use Rattle.lr_rules.specs.declared.civil.Moment.{Moment}
 use Rattle.lr_rules.specs.declared.rule.Count.TheVariants.{Keep}
 use Rattle.lr_rules.specs.Path.{parent_of, joined}
-use Rattle.lr_rules.specs.Match.{IsPlain, Matches, ends, itself, no_part, next_part, WordGives, RuleGives}
-use Rattle.lr_rules.specs.Names.{naming_of, IsMemberAt}
+use Rattle.lr_rules.specs.Match.{WordGives, literal, wildcard, literal_path, is_wildcard, RuleGives}
+use Rattle.lr_rules.specs.declared.rule.Rule.{Rule}
+use Rattle.lr_rules.specs.declared.rule.Way.TheVariants.{Rename}
+use Rattle.std.specs.Prelude.{get_or}
+use Rattle.lr_rules.specs.Names.{naming_of, IsMemberAt, the_log, a_member, a_part, IsName, Meet}
+use Rattle.lr_host.specs.Steady.{IsSteady, IsSteadyAt, IsPassedOver, AttachesNoMember}
 use Rattle.lr_host.specs.declared.thing.Thing.{Thing}
 use Rattle.lr_host.specs.declared.thing.Thing.TheVariants as thing
 use Rattle.lr_host.specs.declared.entry.Entry.{Entry}
@@ -23,14 +25,14 @@ use Rattle.lr_host.specs.World.{World, Names, Past, Opens, ◌▸◌, world, nam
 use Rattle.lr_host.specs.Fits.{Fits}
 use Rattle.lr_host.specs.Opening.{IsValid, IsJournal, paths_of}
 use Rattle.lr_host.specs.Sets.{LogSet, Order, Numbered, order, order_of, IsKeyBy}
-use Rattle.lr_host.specs.Runs.{SomeRule, rules_of}
+use Rattle.lr_host.specs.Runs.{SomeRule, rules_of, state_of}
 use Rattle.lr_host.specs.Later.{later, IsGeneration}
 use Rattle.lr_host.specs.Released.{IsReleased}
 use Rattle.lr_host.specs.Kept.{IsKept, Stands, IsWhole}
 use Rattle.lr_host.specs.Safe.{IsSafe, whole, shorter}
 use Rattle.lr_laws.specs.Follow.{MayFollow}
 use Rattle.lr_laws.specs.Room.{IsReady}
-use Rattle.lr_laws.specs.Chain.{log, first, second, third, found, rule, rules, IsOfChain, begins, chain, taken_up, taken_effect, lowest_first, log_first}
+use Rattle.lr_laws.specs.Chain.{log, first, second, third, found, rule, rules, IsOfChain, begins, chain, resumed, failed_without_effect, failed_with_effect, lowest_first, log_first}
 use Rattle.lr_laws.proofs.Disk.{Came, made, moved, stayed, came}
 use Rattle.lr_laws.proofs.Opened.{opened}
 use Rattle.lr_laws.proofs.Going.{safe_on}
@@ -108,42 +110,8 @@ found_valid = record {
 
 -- ---- the rule gives the log, and its naming gives the members
 
-abbrev is_special : ℕ → Bool
-is_special c = c == 63 || c == 42 || c == 91 || c == 92
-
-plain_char : (c : ℕ) (behind : List ℕ) → is_special c ≡ false → IsPlain c behind
-plain_char c behind h = record {
-  no_one = λ e. clash (ap is_special e) h;
-  no_run = λ e. clash (ap is_special e) h;
-  no_class = λ e t signs rest k. clash (ap is_special e) h;
-  no_escape = λ e. absurd (clash (ap is_special e) h);
-}
-  where
-    clash : {b : Bool} → b ≡ true → b ≡ false → ⊥
-    clash p q = cc
-
-or_false : (a b : Bool) → (a || b) ≡ false → (a ≡ false) × (b ≡ false)
-or_false true b h = absurd (cc)
-or_false false b h = (refl, h)
-
-plain_matches : (is_first : Bool) (cs : List ℕ) → list_any is_special cs ≡ false → Matches is_first cs cs
-plain_matches is_first [] h = ends
-plain_matches is_first (c ∷ cs) h = let s = or_false (is_special c) (list_any is_special cs) h in itself (plain_char c cs s.0) (plain_matches false cs s.1)
-
-chars_v : list_any is_special (chars (codes "v")) ≡ false
-unfolding chars
-chars_v = refl
-
-chars_log : list_any is_special (chars (codes "a.log")) ≡ false
-unfolding chars
-chars_log = refl
-
 gives_log : WordGives log log
-gives_log = record {
-  matches = next_part (codes "v") (codes "v") (codes "/a.log") (codes "/a.log") refl refl refl refl (plain_matches true (chars (codes "v")) chars_v)
-      (next_part (codes "a.log") (codes "a.log") [] [] refl refl refl refl (plain_matches true (chars (codes "a.log")) chars_log) no_part);
-  whole = λ w. absurd (cc);
-}
+gives_log = literal refl refl
 
 rule_gives : RuleGives rule log
 rule_gives = (0, log, omega arith, refl, gives_log)
@@ -247,8 +215,8 @@ chain_safe s now c = (done.journal, done.safe)
     done : IsGood s (chain now)
     done = ended_on s _ (gone_on s c _ 2 refl turned refl) refl
 
-pub taken_up_safe : (s : LogSet) (now again : Moment) → IsOfChain s → IsJournal (taken_up now again) × IsSafe s (taken_up now again)
-taken_up_safe s now again c = (done.journal, done.safe)
+pub resumed_safe : (s : LogSet) (now again : Moment) → IsOfChain s → IsJournal (resumed now again) × IsSafe s (resumed now again)
+resumed_safe s now again c = (done.journal, done.safe)
   where
     begun : IsReadyGood s (begins (begins (Opens found) now ▸ Renames second third) again) 2
     begun = begun_on s c _ again (one_moved s now c).good refl
@@ -259,11 +227,26 @@ taken_up_safe s now again c = (done.journal, done.safe)
     moved : IsReadyGood s (begins (begins (Opens found) now ▸ Renames second third) again ▸ Unlinks third ▸ Renames first second) 0
     moved = moved_on s c _ first second 0 2 1 gone (omega arith) (key_first s c) (key_second s c) refl refl refl refl
 
-    done : IsGood s (taken_up now again)
+    done : IsGood s (resumed now again)
     done = ended_on s _ (turned_on s c _ 0 moved.good refl refl refl) refl
 
-pub taken_effect_safe : (s : LogSet) (now again : Moment) → IsOfChain s → IsJournal (taken_effect now again) × IsSafe s (taken_effect now again)
-taken_effect_safe s now again c = (done.journal, done.safe)
+pub without_effect_safe : (s : LogSet) (now again : Moment) → IsOfChain s → IsJournal (failed_without_effect now again) × IsSafe s (failed_without_effect now again)
+without_effect_safe s now again c = (done.journal, done.safe)
+  where
+    ended : IsGood s (begins (Opens found) now ▸ Renames second third ▸ Ends)
+    ended = ended_on s _ (one_moved s now c).good refl
+
+    gone : IsReadyGood s (begins (begins (Opens found) now ▸ Renames second third ▸ Ends) again ▸ Unlinks third) 2
+    gone = gone_ready s c _ 2 2 refl (begun_on s c _ again ended refl) refl
+
+    moved : IsReadyGood s (begins (begins (Opens found) now ▸ Renames second third ▸ Ends) again ▸ Unlinks third ▸ Renames first second) 0
+    moved = moved_on s c _ first second 0 2 1 gone (omega arith) (key_first s c) (key_second s c) refl refl refl refl
+
+    done : IsGood s (failed_without_effect now again)
+    done = ended_on s _ (turned_on s c _ 0 moved.good refl refl refl) refl
+
+pub with_effect_safe : (s : LogSet) (now again : Moment) → IsOfChain s → IsJournal (failed_with_effect now again) × IsSafe s (failed_with_effect now again)
+with_effect_safe s now again c = (done.journal, done.safe)
   where
     ended : IsGood s (begins (Opens found) now ▸ Renames second third ▸ Renames first second ▸ Ends)
     ended = ended_on s _ (both_moved s now c).good refl
@@ -274,7 +257,7 @@ taken_effect_safe s now again c = (done.journal, done.safe)
     moved : IsReadyGood s (begins (begins (Opens found) now ▸ Renames second third ▸ Renames first second ▸ Ends) again ▸ Unlinks third ▸ Renames second third) 1
     moved = moved_on s c _ second third 1 2 1 gone (omega arith) (key_second s c) (key_third s c) refl refl refl refl
 
-    done : IsGood s (taken_effect now again)
+    done : IsGood s (failed_with_effect now again)
     done = ended_on s _ (gone_on s c _ 1 refl (turned_on s c _ 0 moved.good refl refl refl) refl) refl
 
 -- ---- the wrong orders
@@ -352,3 +335,59 @@ log_journal now = (
   ),
   refl,
 )
+
+-- ---- the premises are met, also by the wrong orders
+
+-- the rule gives no other path
+gives_only : (x : Path) → RuleGives rule x → x ≡ log
+gives_only x (zero, word, lt, is, g) = at g
+  where
+    at : WordGives word x → x ≡ log
+    at (literal l e) = e ∙ ap literal_path (sym is)
+    at (wildcard w m n) = absurd (let f : is_wildcard word ≡ false = ap is_wildcard (sym is) in cc)
+gives_only x (suc k, word, lt, is, g) = absurd (omega arith)
+
+-- names of the set stand in `/v`
+not_name : (y : Path) → get_or y 1 0 ≡ 115 → IsName log (naming_of rule log) y → ⊥
+not_name y at (inl (the_log e)) = let h : get_or y 1 0 ≡ 118 = ap (λ (z : Path). get_or z 1 0) e in omega (arith, at, h)
+not_name y at (inl (a_member last shape e)) = let h : get_or y 1 0 ≡ 118 = ap (λ (z : Path). get_or z 1 0) e in omega (arith, at, h)
+not_name y at (inl (a_part last shape e)) = let h : get_or y 1 0 ≡ 118 = ap (λ (z : Path). get_or z 1 0) e in omega (arith, at, h)
+not_name y at (inr e) = let h : get_or y 1 0 ≡ 118 = ap (λ (z : Path). get_or z 1 0) e in omega (arith, at, h)
+
+no_name : (s : LogSet) → IsOfChain s → (y : Path) → get_or y 1 0 ≡ 115 → IsName s.log s.naming y → ⊥
+no_name s c y at h = not_name y at (subst (λ n. IsName log n y) c.naming_is (subst (λ (l : Path). IsName l s.naming y) c.log_is h))
+
+one_rule : (P : Rule → Type 0) (p : Past) → rules_of p ≡ rule ∷ [] → P rule → All P (rules_of p)
+one_rule P p same h = subst (λ rs. All P rs) (sym same) (All-cons P rule [] h (none_of P))
+
+same_some : (x y : Path) → Some x ≡ Some y → x ≡ y
+same_some x y e = cc
+
+steady_at : (s : LogSet) → IsOfChain s → (p : Past) → rules_of p ≡ rule ∷ [] → state_of p ≡ Some (codes "/s/status") → IsSteadyAt s p
+steady_at s c p same state = record {
+  rules = one_rule (λ r. RuleGives r s.log → (r.way ≡ Rename) × (naming_of r s.log ≡ s.naming)) p same (λ g. (refl, ap (naming_of rule) c.log_is ∙ sym c.naming_is));
+  agree = one_rule (λ r. All (λ q. RuleGives r s.log → RuleGives q s.log → (r.count ≡ q.count) × (r.maxage ≡ q.maxage)) (rules_of p)) p same
+      (one_rule (λ q. RuleGives rule s.log → RuleGives q s.log → (rule.count ≡ q.count) × (rule.maxage ≡ q.maxage)) p same (λ g h. (refl, refl)));
+  state = λ x is h. no_name s c x (sym (ap (λ (z : Path). get_or z 1 0) (at x is))) h;
+  new_state = λ x is h. no_name s c (x ++ codes ".tmp") (sym (ap (λ (z : Path). get_or (z ++ codes ".tmp") 1 0) (at x is))) h;
+  lock = λ x is h. no_name s c (x ++ codes ".lock") (sym (ap (λ (z : Path). get_or (z ++ codes ".lock") 1 0) (at x is))) h;
+  apart = λ x other file. one_rule (λ r. RuleGives r x → Meet s.log s.naming x (naming_of r x) → IsPassedOver s p x) p same (λ g m. absurd (other (gives_only x g ∙ sym c.log_is)));
+}
+  where
+    at : (x : Path) → state_of p ≡ Some x → codes "/s/status" ≡ x
+    at x is = same_some (codes "/s/status") x (sym state ∙ is)
+
+steady_on : (s : LogSet) → IsOfChain s → (p : Past) (e : Entry) → rules_of (p ▸ e) ≡ rule ∷ [] → state_of (p ▸ e) ≡ Some (codes "/s/status") → AttachesNoMember s e → IsSteady s p → IsSteady s (p ▸ e)
+steady_on s c p e same state a st = (st, steady_at s c (p ▸ e) same state, a)
+
+pub chain_steady : (s : LogSet) (now : Moment) → IsOfChain s → IsSteady s (chain now)
+chain_steady s now c = steady_on s c _ Ends refl refl tt (steady_on s c _ (Unlinks third) refl refl tt (steady_on s c _ (Renames log first) refl refl tt (steady_on s c _ (Renames first second) refl refl tt
+    (steady_on s c _ (Renames second third) refl refl tt (steady_on s c _ (Starts (codes "/s/status") now rules) refl refl tt tt)))))
+
+pub lowest_steady : (s : LogSet) (now : Moment) → IsOfChain s → IsSteady s (lowest_first now)
+lowest_steady s now c = steady_on s c _ Ends refl refl tt (steady_on s c _ (Unlinks third) refl refl tt (steady_on s c _ (Renames log first) refl refl tt (steady_on s c _ (Renames second third) refl refl tt
+    (steady_on s c _ (Renames first second) refl refl tt (steady_on s c _ (Starts (codes "/s/status") now rules) refl refl tt tt)))))
+
+pub log_steady : (s : LogSet) (now : Moment) → IsOfChain s → IsSteady s (log_first now)
+log_steady s now c = steady_on s c _ Ends refl refl tt (steady_on s c _ (Unlinks third) refl refl tt (steady_on s c _ (Renames first second) refl refl tt (steady_on s c _ (Renames second third) refl refl tt
+    (steady_on s c _ (Renames log first) refl refl tt (steady_on s c _ (Starts (codes "/s/status") now rules) refl refl tt tt)))))

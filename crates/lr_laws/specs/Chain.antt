@@ -86,13 +86,18 @@ begins p now = p ▸ Starts (codes "/s/status") now rules
 abbrev pub chain : Moment → Past
 chain now = begins (Opens found) now ▸ Renames second third ▸ Renames first second ▸ Renames log first ▸ Unlinks third ▸ Ends
 
--- The run was stopped in the middle of its chain, or its rename of the first member failed without effect; the next run removes the leftover first.
-abbrev pub taken_up : Moment → Moment → Past
-taken_up now again = begins (begins (Opens found) now ▸ Renames second third) again ▸ Unlinks third ▸ Renames first second ▸ Renames log first ▸ Ends
+-- The run is stopped in the middle of its chain; the next one removes the leftover first.
+abbrev pub resumed : Moment → Moment → Past
+resumed now again = begins (begins (Opens found) now ▸ Renames second third) again ▸ Unlinks third ▸ Renames first second ▸ Renames log first ▸ Ends
 
--- The rename of the first member failed, but took effect: the run went no further, and the next one goes on from there.
-abbrev pub taken_effect : Moment → Moment → Past
-taken_effect now again = begins (begins (Opens found) now ▸ Renames second third ▸ Renames first second ▸ Ends) again ▸ Unlinks third ▸ Renames second third ▸ Renames log first ▸ Unlinks third ▸ Ends
+-- The rename of the first member fails without effect; the run goes no further.
+abbrev pub failed_without_effect : Moment → Moment → Past
+failed_without_effect now again = begins (begins (Opens found) now ▸ Renames second third ▸ Ends) again ▸ Unlinks third ▸ Renames first second ▸ Renames log first ▸ Ends
+
+-- The rename of the first member fails, but with its effect; the run goes no further, and the next one goes on from there.
+abbrev pub failed_with_effect : Moment → Moment → Past
+failed_with_effect now again =
+    begins (begins (Opens found) now ▸ Renames second third ▸ Renames first second ▸ Ends) again ▸ Unlinks third ▸ Renames second third ▸ Renames log first ▸ Unlinks third ▸ Ends
 
 -- the wrong order: from the lowest place up
 abbrev pub lowest_first : Moment → Past

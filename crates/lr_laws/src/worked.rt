@@ -10,7 +10,8 @@ ghost use Rattle.lr_host.specs.Opening.{IsJournal};
 ghost use Rattle.lr_host.specs.Sets.{LogSet};
 ghost use Rattle.lr_host.specs.Kept.{IsKept};
 ghost use Rattle.lr_host.specs.Safe.{IsSafe};
-ghost use Rattle.lr_laws.specs.Chain.{IsOfChain, log, first, second, found, begins, chain, taken_up, taken_effect, lowest_first, log_first};
+ghost use Rattle.lr_host.specs.Steady.{IsSteady};
+ghost use Rattle.lr_laws.specs.Chain.{IsOfChain, log, first, second, found, begins, chain, resumed, failed_without_effect, failed_with_effect, lowest_first, log_first};
 
 /// A log and a numbered naming of which it is no member are a set.
 pub fn sets_exist()
@@ -18,31 +19,41 @@ pub fn sets_exist()
         → (s : LogSet) × (s.log ≡ log) × (s.naming ≡ n) }
 {}
 
-/// The chain from the highest place down, then the log, then the removal: a journal that is safe.
+/// The chain from the highest place down, then the log, then the removal: safe.
 pub fn chain_is_safe()
-    ensures { (s : LogSet) (now : Moment) → IsOfChain s → IsJournal (chain now) × IsSafe s (chain now) }
+    ensures steady { (s : LogSet) (now : Moment) → IsOfChain s → IsSteady s (chain now) }
+    ensures safe { (s : LogSet) (now : Moment) → IsOfChain s → IsJournal (chain now) × IsSafe s (chain now) }
 {}
 
-/// So it is where the run was stopped in its middle and the next one takes it up.
-pub fn taken_up_is_safe()
-    ensures { (s : LogSet) (now again : Moment) → IsOfChain s → IsJournal (taken_up now again) × IsSafe s (taken_up now again) }
+/// The same, stopped in its middle and taken up by the next run: safe.
+pub fn resumed_is_safe()
+    ensures { (s : LogSet) (now again : Moment) → IsOfChain s → IsJournal (resumed now again) × IsSafe s (resumed now again) }
 {}
 
-/// So it is where a rename that failed took effect.
-pub fn taken_effect_is_safe()
-    ensures { (s : LogSet) (now again : Moment) → IsOfChain s → IsJournal (taken_effect now again) × IsSafe s (taken_effect now again) }
+/// A rename in the chain fails without effect, and the next run goes on: safe.
+pub fn failed_without_effect_is_safe()
+    ensures { (s : LogSet) (now again : Moment) → IsOfChain s
+        → IsJournal (failed_without_effect now again) × IsSafe s (failed_without_effect now again) }
 {}
 
-/// From the lowest place up: a journal, but behind its first rename the second member's file isn't kept.
+/// It fails with its effect, and the next run goes on: safe.
+pub fn failed_with_effect_is_safe()
+    ensures { (s : LogSet) (now again : Moment) → IsOfChain s
+        → IsJournal (failed_with_effect now again) × IsSafe s (failed_with_effect now again) }
+{}
+
+/// From the lowest place up: a steady journal, but behind its first rename the second member's file isn't kept.
 pub fn lowest_first_loses()
     ensures journal { (now : Moment) → IsJournal (lowest_first now) }
+    ensures steady { (s : LogSet) (now : Moment) → IsOfChain s → IsSteady s (lowest_first now) }
     ensures lost { (s : LogSet) (now : Moment) → IsOfChain s → IsKept s (begins (Opens found) now ▸ entry.Renames first second) → ⊥ }
-    ensures unsafe_ { (s : LogSet) (now : Moment) → IsOfChain s → IsSafe s (lowest_first now) → ⊥ }
+    ensures not_safe { (s : LogSet) (now : Moment) → IsOfChain s → IsSafe s (lowest_first now) → ⊥ }
 {}
 
-/// The log first, then the chain: a journal, but behind its first rename the first member's file isn't kept.
+/// The log first, then the chain: a steady journal, but behind its first rename the first member's file isn't kept.
 pub fn log_first_loses()
     ensures journal { (now : Moment) → IsJournal (log_first now) }
+    ensures steady { (s : LogSet) (now : Moment) → IsOfChain s → IsSteady s (log_first now) }
     ensures lost { (s : LogSet) (now : Moment) → IsOfChain s → IsKept s (begins (Opens found) now ▸ entry.Renames log first) → ⊥ }
-    ensures unsafe_ { (s : LogSet) (now : Moment) → IsOfChain s → IsSafe s (log_first now) → ⊥ }
+    ensures not_safe { (s : LogSet) (now : Moment) → IsOfChain s → IsSafe s (log_first now) → ⊥ }
 {}

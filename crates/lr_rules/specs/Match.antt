@@ -62,6 +62,12 @@ has_sign false (c ∷ cs) = is_sign c || has_sign (c == 92) cs
 abbrev pub is_wildcard : List ℕ → Bool
 is_wildcard word = has_sign false word
 
+-- the path of a literal word: without the backslashes that escape; one at the end of a part is itself
+abbrev pub literal_path : List ℕ → List ℕ
+literal_path [] = []
+literal_path (c ∷ []) = c ∷ []
+literal_path (c ∷ d ∷ cs) = cond (c == 92 && not (is_slash d)) (d ∷ literal_path cs) (c ∷ literal_path (d ∷ cs))
+
 -- the ending of a copy that isn't whole yet
 abbrev pub part_end : List ℕ
 part_end = codes ".logrotate-part"
@@ -70,10 +76,10 @@ part_end = codes ".logrotate-part"
 abbrev pub EndsWith : List ℕ → List ℕ → Type 0
 EndsWith bytes end = (front : List ℕ) × (bytes ≡ front ++ end)
 
--- The word gives the path: a literal one its own path, without the backslashes that escape; a wildcard each that it matches, copies that aren't whole left aside.
-pub record WordGives (word : List ℕ) (x : Path) : Type 0 where
-  pub matches : PathMatches word x
-  pub whole : is_wildcard word ≡ true → EndsWith x part_end → ⊥
+-- The word gives the path: a literal one its own path, a wildcard each that it matches, copies that aren't whole left aside.
+pub data WordGives (word : List ℕ) (x : Path) : Type 0 where
+  literal : is_wildcard word ≡ false → x ≡ literal_path word → WordGives word x
+  wildcard : is_wildcard word ≡ true → PathMatches word x → (EndsWith x part_end → ⊥) → WordGives word x
 
 -- one of the rule's words gives the path
 abbrev pub RuleGives : Rule → Path → Type 0
