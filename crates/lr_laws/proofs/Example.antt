@@ -119,7 +119,7 @@ rule_gives = (0, log, omega arith, refl, gives_log)
 some_rule : (s : LogSet) → IsOfChain s → SomeRule (rule ∷ []) s.log (λ r. r.count ≡ Keep 2)
 some_rule s c = (0, rule, omega arith, refl, (subst (λ (x : Path). RuleGives rule x) (sym c.log_is) rule_gives, refl))
 
-numbered : (s : LogSet) → IsOfChain s → order s ≡ Numbered
+pub numbered : (s : LogSet) → IsOfChain s → order s ≡ Numbered
 numbered s c = ap (λ n. order_of n.dated) c.naming_is
 
 named_by : (d place : ℕ) → d ≡ 1 + place → d < 10 → IsMemberAt (naming_of rule log) place (joined (codes "/v") (codes "a.log" ++ 46 ∷ (48 + d) ∷ []))
@@ -131,7 +131,7 @@ key_at s c place x m = (keys x (pos place)).1 (place, refl, subst (λ n. IsMembe
     keys : IsKeyBy Numbered s.naming s.key
     keys = subst (λ (o : Order). IsKeyBy o s.naming s.key) (numbered s c) s.keys
 
-key_first : (s : LogSet) → IsOfChain s → s.key first ≡ Some (pos 0)
+pub key_first : (s : LogSet) → IsOfChain s → s.key first ≡ Some (pos 0)
 key_first s c = key_at s c 0 first (named_by 1 0 refl (omega arith))
 
 key_second : (s : LogSet) → IsOfChain s → s.key second ≡ Some (pos 1)
@@ -143,9 +143,9 @@ key_third s c = key_at s c 2 third (named_by 3 2 refl (omega arith))
 -- ---- step by step
 
 -- a journal of a disk, and safe
-record IsGood (s : LogSet) (p : Past) : Type 0 where
-  journal : IsJournal p
-  safe : IsSafe s p
+pub record IsGood (s : LogSet) (p : Past) : Type 0 where
+  pub journal : IsJournal p
+  pub safe : IsSafe s p
 
 good_on : (s : LogSet) (p : Past) (e : Entry) → IsGood s p → Fits (world p) e → MayFollow s p e → IsGood s (p ▸ e)
 good_on s p e good f m = record { journal = (good.journal, f); safe = safe_on s p e (good.journal, f) good.safe m }
@@ -206,14 +206,14 @@ one_moved s now c = moved_on s c (begins (Opens found) now) second third 1 2 2 (
 both_moved : (s : LogSet) (now : Moment) → IsOfChain s → IsReadyGood s (begins (Opens found) now ▸ Renames second third ▸ Renames first second) 0
 both_moved s now c = moved_on s c (begins (Opens found) now ▸ Renames second third) first second 0 1 1 (one_moved s now c) (omega arith) (key_first s c) (key_second s c) refl refl refl refl
 
+pub all_turned : (s : LogSet) (now : Moment) → IsOfChain s → IsGood s (begins (Opens found) now ▸ Renames second third ▸ Renames first second ▸ Renames log first)
+all_turned s now c = turned_on s c (begins (Opens found) now ▸ Renames second third ▸ Renames first second) 0 (both_moved s now c).good refl refl refl
+
 pub chain_safe : (s : LogSet) (now : Moment) → IsOfChain s → IsJournal (chain now) × IsSafe s (chain now)
 chain_safe s now c = (done.journal, done.safe)
   where
-    turned : IsGood s (begins (Opens found) now ▸ Renames second third ▸ Renames first second ▸ Renames log first)
-    turned = turned_on s c (begins (Opens found) now ▸ Renames second third ▸ Renames first second) 0 (both_moved s now c).good refl refl refl
-
     done : IsGood s (chain now)
-    done = ended_on s _ (gone_on s c _ 2 refl turned refl) refl
+    done = ended_on s _ (gone_on s c _ 2 refl (all_turned s now c) refl) refl
 
 pub resumed_safe : (s : LogSet) (now again : Moment) → IsOfChain s → IsJournal (resumed now again) × IsSafe s (resumed now again)
 resumed_safe s now again c = (done.journal, done.safe)
@@ -377,7 +377,7 @@ steady_at s c p same state = record {
     at : (x : Path) → state_of p ≡ Some x → codes "/s/status" ≡ x
     at x is = same_some (codes "/s/status") x (sym state ∙ is)
 
-steady_on : (s : LogSet) → IsOfChain s → (p : Past) (e : Entry) → rules_of (p ▸ e) ≡ rule ∷ [] → state_of (p ▸ e) ≡ Some (codes "/s/status") → AttachesNoMember s e → IsSteady s p → IsSteady s (p ▸ e)
+pub steady_on : (s : LogSet) → IsOfChain s → (p : Past) (e : Entry) → rules_of (p ▸ e) ≡ rule ∷ [] → state_of (p ▸ e) ≡ Some (codes "/s/status") → AttachesNoMember s e → IsSteady s p → IsSteady s (p ▸ e)
 steady_on s c p e same state a st = (st, steady_at s c (p ▸ e) same state, a)
 
 pub chain_steady : (s : LogSet) (now : Moment) → IsOfChain s → IsSteady s (chain now)

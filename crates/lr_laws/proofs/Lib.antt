@@ -1,5 +1,6 @@
 pub mod Counting
 pub mod Disk
+pub mod Early
 pub mod Entries
 pub mod Example
 pub mod Existing

@@ -106,3 +106,7 @@ lowest_first now = begins (Opens found) now ▸ Renames first second ▸ Renames
 -- the wrong order: the log, and then the chain
 abbrev pub log_first : Moment → Past
 log_first now = begins (Opens found) now ▸ Renames log first ▸ Renames second third ▸ Renames first second ▸ Unlinks third ▸ Ends
+
+-- the wrong count: the last member that the rule keeps goes
+abbrev pub goes_early : Moment → Past
+goes_early now = begins (Opens found) now ▸ Renames second third ▸ Renames first second ▸ Renames log first ▸ Unlinks second ▸ Ends

@@ -20,6 +20,6 @@ pub use safety::{
     writers_stay_safe,
 };
 pub use worked::{
-    chain_is_safe, failed_with_effect_is_safe, failed_without_effect_is_safe, log_first_loses,
-    lowest_first_loses, resumed_is_safe, sets_exist,
+    chain_is_safe, failed_with_effect_is_safe, failed_without_effect_is_safe, goes_early_loses,
+    log_first_loses, lowest_first_loses, resumed_is_safe, sets_exist,
 };

@@ -11,7 +11,7 @@ ghost use Rattle.lr_host.specs.Sets.{LogSet};
 ghost use Rattle.lr_host.specs.Kept.{IsKept};
 ghost use Rattle.lr_host.specs.Safe.{IsSafe};
 ghost use Rattle.lr_host.specs.Steady.{IsSteady};
-ghost use Rattle.lr_laws.specs.Chain.{IsOfChain, log, first, second, found, begins, chain, resumed, failed_without_effect, failed_with_effect, lowest_first, log_first};
+ghost use Rattle.lr_laws.specs.Chain.{IsOfChain, log, first, second, third, found, begins, chain, resumed, failed_without_effect, failed_with_effect, lowest_first, log_first, goes_early};
 
 /// A log and a numbered naming of which it is no member are a set.
 pub fn sets_exist()
@@ -56,4 +56,13 @@ pub fn log_first_loses()
     ensures steady { (s : LogSet) (now : Moment) → IsOfChain s → IsSteady s (log_first now) }
     ensures lost { (s : LogSet) (now : Moment) → IsOfChain s → IsKept s (begins (Opens found) now ▸ entry.Renames log first) → ⊥ }
     ensures not_safe { (s : LogSet) (now : Moment) → IsOfChain s → IsSafe s (log_first now) → ⊥ }
+{}
+
+/// One member less than the rule keeps: a steady journal, but behind that unlink the file isn't kept.
+pub fn goes_early_loses()
+    ensures journal { (s : LogSet) (now : Moment) → IsOfChain s → IsJournal (goes_early now) }
+    ensures steady { (s : LogSet) (now : Moment) → IsOfChain s → IsSteady s (goes_early now) }
+    ensures lost { (s : LogSet) (now : Moment) → IsOfChain s → IsKept s (begins (Opens found) now ▸ entry.Renames second third
+        ▸ entry.Renames first second ▸ entry.Renames log first ▸ entry.Unlinks second) → ⊥ }
+    ensures not_safe { (s : LogSet) (now : Moment) → IsOfChain s → IsSafe s (goes_early now) → ⊥ }
 {}
