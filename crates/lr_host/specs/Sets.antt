@@ -3,7 +3,7 @@ use Rattle.std.specs.Prelude.{◌≡◌, ◌↔◌, ◌≤◌, ℕ, Bool, ◌||�
 use Rattle.lr_rules.specs.declared.path.Path.{Path}
 use Rattle.lr_rules.specs.declared.rule.Naming.{Naming}
 use Rattle.lr_rules.specs.declared.rule.Format.{Format}
-use Rattle.lr_rules.specs.Names.{IsMemberAt}
+use Rattle.lr_rules.specs.Names.{IsMemberAt, HasMemberShape}
 use Rattle.lr_host.specs.Lists.{AreDistinct}
 use Rattle.lr_host.specs.World.{Names}
 use Rattle.lr_host.specs.Fits.{IsFileAt}
@@ -17,10 +17,10 @@ abbrev pub order_of : Option Format → Order
 order_of None = Numbered
 order_of (Some format) = Dated
 
--- The key of each path is what the naming says: a numbered member's is its place, and no other path has one. Of a dated naming only the order of its stamps counts here, so each key will do.
+-- The key of each path is what the naming says: a numbered member's is its place, and no other path has one. Of a dated naming only the order of its stamps counts here, so any key will do that only paths with a member's shape have.
 abbrev pub IsKeyBy : Order → Naming → (Path → Option ℤ) → Type 0
 IsKeyBy Numbered n key = (x : Path) (k : ℤ) → (key x ≡ Some k) ↔ ((place : ℕ) × (k ≡ pos place) × IsMemberAt n place x)
-IsKeyBy Dated n key = Unit {0}
+IsKeyBy Dated n key = (x : Path) (k : ℤ) → key x ≡ Some k → HasMemberShape n x
 
 -- A log and the naming of its members, of which it is none.
 pub record LogSet : Type 0 where

@@ -5,11 +5,12 @@ use Rattle.std.proofs.lemmas.List.Elements.{All-cons, All-append}
 use Rattle.std.proofs.lemmas.Fmt.{decimal_by_steps}
 use Rattle.std.proofs.lemmas.Slice.Eq.{bytes_eq-Decides}
 use Rattle.lr_rules.specs.declared.path.Path.{Path}
+use Rattle.lr_rules.specs.declared.rule.Naming.{Naming}
 use Rattle.lr_rules.specs.declared.rule.Format.{Format}
-use Rattle.lr_rules.specs.Names.{IsMemberAt, IsRun, AreDigits, IsMiddleShape, the_log, a_member, IsName}
+use Rattle.lr_rules.specs.Names.{IsMemberAt, IsRun, AreDigits, IsMiddleShape, HasMemberShape, IsOwnName, the_log, a_member, IsName, Meet}
 use Rattle.lr_host.specs.declared.entry.Entry.{Entry}
 use Rattle.lr_host.specs.declared.entry.Entry.TheVariants as entry
-use Rattle.lr_host.specs.Sets.{LogSet, Order, Numbered, order, order_of, IsKeyBy, in_set}
+use Rattle.lr_host.specs.Sets.{LogSet, Order, Numbered, Dated, order, order_of, IsKeyBy, in_set}
 use Rattle.lr_laws.specs.Follow.{IsElsewhere, MeetsNone}
 use Rattle.lr_laws.proofs.Sound.{or_cases}
 
@@ -31,8 +32,8 @@ numbered_none None q = refl
 numbered_none (Some format) q = absurd (cc)
 
 -- a numbered member has a member's shape
-member_name : (s : LogSet) (x : Path) (place : ℕ) → order s ≡ Numbered → IsMemberAt s.naming place x → IsName s.log s.naming x
-member_name s x place numbered m = inl (a_member (s.naming.base ++ (46 ∷ decimal (s.naming.start + place)) ++ s.naming.ext) (46 ∷ decimal (s.naming.start + place), middle, refl) m.named)
+member_name : (s : LogSet) (x : Path) (place : ℕ) → order s ≡ Numbered → IsMemberAt s.naming place x → IsOwnName s.log s.naming x
+member_name s x place numbered m = a_member (s.naming.base ++ (46 ∷ decimal (s.naming.start + place)) ++ s.naming.ext) (46 ∷ decimal (s.naming.start + place), middle, refl) m.named
   where
     bound : s.naming.start + place ≤ 4294967295
     bound = m.bound
@@ -40,28 +41,41 @@ member_name s x place numbered m = inl (a_member (s.naming.base ++ (46 ∷ decim
     middle : IsMiddleShape s.naming.dated (46 ∷ decimal (s.naming.start + place))
     middle = subst (λ d. IsMiddleShape d (46 ∷ decimal (s.naming.start + place))) (sym (numbered_none s.naming.dated numbered)) (decimal (s.naming.start + place), refl, decimal_run (s.naming.start + place) (omega arith))
 
-pub in_set_name : (s : LogSet) (x : Path) → order s ≡ Numbered → in_set s x ≡ true → IsName s.log s.naming x
-in_set_name s x numbered h = ⊎_elim (λ e. inl (the_log (sym ((bytes_eq-Decides s.log x).0 e)))) (λ e. keyed (s.key x) refl e) (or_cases (bytes_eq s.log x) (is_some (s.key x)) h)
+shape_name : (s : LogSet) (x : Path) → HasMemberShape s.naming x → IsOwnName s.log s.naming x
+shape_name s x (last, shape, is) = a_member last shape is
+
+-- what has a key has a member's shape
+keyed_name : (s : LogSet) (o : Order) → order s ≡ o → IsKeyBy o s.naming s.key → (x : Path) (k : ℤ) → s.key x ≡ Some k → IsOwnName s.log s.naming x
+keyed_name s Numbered q keys x k is = let m : (place : ℕ) × (k ≡ pos place) × IsMemberAt s.naming place x = (keys x k).0 is in member_name s x m.0 q m.2
+keyed_name s Dated q keys x k is = shape_name s x (keys x k is)
+
+pub in_set_own : (s : LogSet) (x : Path) → in_set s x ≡ true → IsOwnName s.log s.naming x
+in_set_own s x h = ⊎_elim (λ e. the_log (sym ((bytes_eq-Decides s.log x).0 e))) (λ e. keyed (s.key x) refl e) (or_cases (bytes_eq s.log x) (is_some (s.key x)) h)
   where
-    keys : IsKeyBy Numbered s.naming s.key
-    keys = subst (λ (o : Order). IsKeyBy o s.naming s.key) numbered s.keys
-
-    keyed : (v : Option ℤ) → s.key x ≡ v → is_some v ≡ true → IsName s.log s.naming x
+    keyed : (v : Option ℤ) → s.key x ≡ v → is_some v ≡ true → IsOwnName s.log s.naming x
     keyed None q e = absurd (cc)
-    keyed (Some k) q e = let m : (place : ℕ) × (k ≡ pos place) × IsMemberAt s.naming place x = (keys x k).0 q in member_name s x m.0 numbered m.2
+    keyed (Some k) q e = keyed_name s (order s) refl s.keys x k q
 
-outside : (s : LogSet) (x : Path) → order s ≡ Numbered → (IsName s.log s.naming x → ⊥) → in_set s x ≡ false
-outside s x numbered none = go (in_set s x) refl
+outside : (s : LogSet) (x : Path) → (IsName s.log s.naming x → ⊥) → in_set s x ≡ false
+outside s x none = go (in_set s x) refl
   where
     go : (b : Bool) → in_set s x ≡ b → in_set s x ≡ false
-    go true q = absurd (none (in_set_name s x numbered q))
+    go true q = absurd (none (inl (in_set_own s x q)))
     go false q = q
 
-pub no_name_elsewhere : (s : LogSet) (e : Entry) → order s ≡ Numbered → MeetsNone s e → IsElsewhere s e
-no_name_elsewhere s (entry.Attach writer x at) numbered h = outside s x numbered (h 0 x (omega arith))
-no_name_elsewhere s (entry.Renames from to) numbered h = (outside s from numbered (h 0 from (omega arith)), outside s to numbered (h 1 to (omega arith)))
-no_name_elsewhere s (entry.Makes x mode) numbered h = outside s x numbered (h 0 x (omega arith))
-no_name_elsewhere s (entry.Appends x bytes) numbered h = outside s x numbered (h 0 x (omega arith))
-no_name_elsewhere s (entry.Truncates x) numbered h = outside s x numbered (h 0 x (omega arith))
-no_name_elsewhere s (entry.Unlinks x) numbered h = outside s x numbered (h 0 x (omega arith))
-no_name_elsewhere s _ numbered h = tt
+pub no_name_elsewhere : (s : LogSet) (e : Entry) → MeetsNone s e → IsElsewhere s e
+no_name_elsewhere s (entry.Attach writer x at) h = outside s x (h 0 x (omega arith))
+no_name_elsewhere s (entry.Renames from to) h = (outside s from (h 0 from (omega arith)), outside s to (h 1 to (omega arith)))
+no_name_elsewhere s (entry.Makes x mode) h = outside s x (h 0 x (omega arith))
+no_name_elsewhere s (entry.Appends x bytes) h = outside s x (h 0 x (omega arith))
+no_name_elsewhere s (entry.Truncates x) h = outside s x (h 0 x (omega arith))
+no_name_elsewhere s (entry.Unlinks x) h = outside s x (h 0 x (omega arith))
+no_name_elsewhere s _ h = tt
+
+-- what is a name of another set that the set doesn't meet is neither its log nor a member
+pub apart_outside : (s : LogSet) (other : Path) (n : Naming) (x : Path) → (Meet s.log s.naming other n → ⊥) → IsName other n x → in_set s x ≡ false
+apart_outside s other n x apart name = go (in_set s x) refl
+  where
+    go : (b : Bool) → in_set s x ≡ b → in_set s x ≡ false
+    go true q = absurd (apart (x, inl (in_set_own s x q, name)))
+    go false q = q

@@ -11,13 +11,13 @@ mod worked;
 
 pub use keeping::{changes_keep, elsewhere_keeps, quiet_keeps, writers_keep};
 pub use needs::{
-    dated_log_may_turn, dated_member_may_go, elsewhere_may_follow, log_may_turn, member_may_go,
-    member_may_move, old_member_may_go, ready_at_start, ready_behind_move, ready_behind_unlink,
-    writers_may_follow,
+    apart_is_outside, dated_log_may_turn, dated_member_may_go, elsewhere_may_follow, log_may_turn,
+    member_may_go, member_may_move, old_member_may_go, ready_at_start, ready_behind_move,
+    ready_behind_unlink, writers_may_follow,
 };
 pub use safety::{
-    cut_stays_safe, opening_is_safe, quiet_stays_safe, rotation_stays_safe, safe_goes_on,
-    writers_stay_safe,
+    aside_stays_safe, cut_stays_safe, opening_is_safe, quiet_stays_safe, rotation_stays_safe,
+    safe_goes_on, steps_stay_safe, writers_stay_safe,
 };
 pub use worked::{
     chain_is_safe, failed_with_effect_is_safe, failed_without_effect_is_safe, goes_early_loses,

@@ -1,6 +1,8 @@
 // When the entries of a rotation meet their conditions.
 ghost use Rattle.std.specs.Prelude.{◌≡◌, ◌+◌, ◌≤◌, ◌<◌, ℕ, ℤ, pos, List, length, false, Some, ◌⊎◌};
 ghost use Rattle.lr_rules.specs.declared.path.Path.{Path};
+ghost use Rattle.lr_rules.specs.declared.rule.Naming.{Naming};
+ghost use Rattle.lr_rules.specs.Names.{IsName, Meet};
 ghost use Rattle.lr_rules.specs.declared.rule.Count.TheVariants.{Keep};
 ghost use Rattle.lr_host.specs.declared.thing.Thing.TheVariants as thing;
 ghost use Rattle.lr_host.specs.declared.entry.Entry.{Entry};
@@ -9,7 +11,7 @@ ghost use Rattle.lr_host.specs.Lists.{AreDistinct};
 ghost use Rattle.lr_host.specs.World.{Past, ◌▸◌, world, names};
 ghost use Rattle.lr_host.specs.Told.{IsWriters};
 ghost use Rattle.lr_host.specs.Opening.{IsJournal};
-ghost use Rattle.lr_host.specs.Sets.{LogSet, Numbered, Dated, order, AreLaterMembers};
+ghost use Rattle.lr_host.specs.Sets.{LogSet, Numbered, Dated, order, in_set, AreLaterMembers};
 ghost use Rattle.lr_host.specs.Runs.{rules_of, SomeRule, has_begun};
 ghost use Rattle.lr_host.specs.Released.{ByAge};
 ghost use Rattle.lr_host.specs.Kept.{IsKept};
@@ -24,9 +26,15 @@ pub fn elsewhere_may_follow()
     ensures { (s : LogSet) (p : Past) (e : Entry) → IsJournal p → IsSafe s p → IsElsewhere s e → MayFollow s p e }
 {}
 
-/// Such an entry is each of those whose paths are no names of a numbered set.
+/// Such an entry is each of those whose paths are no names of the set.
 pub fn no_name_is_elsewhere()
-    ensures { (s : LogSet) (e : Entry) → order s ≡ Numbered → MeetsNone s e → IsElsewhere s e }
+    ensures { (s : LogSet) (e : Entry) → MeetsNone s e → IsElsewhere s e }
+{}
+
+/// What is a name of a set that this one doesn't meet is neither its log nor a member.
+pub fn apart_is_outside()
+    ensures { (s : LogSet) (other : Path) (n : Naming) (x : Path) → (Meet s.log s.naming other n → ⊥) → IsName other n x
+        → in_set s x ≡ false }
 {}
 
 /// A writer's entry meets it; of a dated set, where it attaches no member.

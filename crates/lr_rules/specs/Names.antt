@@ -99,6 +99,10 @@ IsMiddleShape (Some format) middle = IsStampShape format.pieces middle
 abbrev pub IsMemberShape : Naming → List ℕ → Type 0
 IsMemberShape n last = (middle : List ℕ) × IsMiddleShape n.dated middle × (last ≡ n.base ++ middle ++ n.ext)
 
+-- the path has the shape of a member
+abbrev pub HasMemberShape : Naming → Path → Type 0
+HasMemberShape n x = (last : List ℕ) × IsMemberShape n last × (x ≡ joined n.dir last)
+
 -- ---- the names of a set
 
 -- The path is the log, has a member's shape, or that shape with the ending of a copy that isn't whole.
