@@ -24,7 +24,8 @@ use Rattle.lr_laws.proofs.Counting.{IsWritten, whole_on}
 use Rattle.lr_laws.proofs.Disk.{IsLeftByCut, by_some_cut, cut_leaves, nothing_pending, leaves_now, Came, made, moved, stayed, came}
 use Rattle.lr_host.specs.Released.{undone_by}
 use Rattle.lr_laws.proofs.Pigeons.{EachIn, IsListed, pigeons}
-use Rattle.lr_laws.proofs.Entries.{keeps_fewer, kept_same, kept_adds, within_on, IsPermitted, released_unnamed}
+use Rattle.lr_laws.proofs.Entries.{keeps_fewer, kept_adds, within_on, IsPermitted}
+use Rattle.lr_laws.proofs.Standing.{kept_same, released_unnamed}
 use Rattle.lr_host.specs.declared.thing.Thing.TheVariants as thing
 
 -- the names that a cut leaves

@@ -13,6 +13,7 @@ pub mod Pigeons
 pub mod Rising
 pub mod Sound
 pub mod Stamps
+pub mod Standing
 pub mod Stated
 pub mod Walk
 pub mod Writing

@@ -22,7 +22,8 @@ use Rattle.lr_laws.proofs.Writing.{no_key, member_apart}
 use Rattle.lr_laws.proofs.Disk.{Came, made, moved, stayed, came}
 use Rattle.lr_laws.proofs.Sound.{IsSound, or_right, or_left}
 use Rattle.lr_laws.proofs.Writing.{keeps_attached}
-use Rattle.lr_laws.proofs.Entries.{released_unnamed, grows, keeps_fewer, keeps_numbered, within_numbered, numbered_within}
+use Rattle.lr_laws.proofs.Entries.{grows, keeps_fewer}
+use Rattle.lr_laws.proofs.Standing.{released_unnamed, keeps_numbered, within_numbered, numbered_within}
 use Rattle.lr_host.specs.declared.thing.Thing.TheVariants as thing
 
 same_path : (x : Path) → bytes_eq x x ≡ true

@@ -14,7 +14,8 @@ use Rattle.lr_laws.specs.Room.{later_once_begun, HasRoom}
 use Rattle.lr_laws.proofs.Disk.{leaves_now}
 use Rattle.lr_laws.proofs.Sound.{IsSound, is_file_true}
 use Rattle.lr_laws.proofs.Counting.{stood_before}
-use Rattle.lr_laws.proofs.Entries.{within_numbered, leaves_log, split, released_unnamed}
+use Rattle.lr_laws.proofs.Entries.{leaves_log, split}
+use Rattle.lr_laws.proofs.Standing.{within_numbered, released_unnamed}
 use Rattle.lr_host.specs.declared.thing.Thing.TheVariants as thing
 
 left_within : (s : LogSet) (p : Past) (g n : ℕ) → left_at s p g ≡ Some n → n ≤ rotations s p

@@ -19,7 +19,8 @@ use lib.Signed.{clash_ℤ, <ℤ_irrefl}
 use Rattle.lr_laws.proofs.Disk.{Came, made, moved, stayed, came}
 use Rattle.lr_laws.proofs.Sound.{IsSound, or_left}
 use Rattle.lr_laws.proofs.Pigeons.{EachIn, Taken, taken}
-use Rattle.lr_laws.proofs.Entries.{grows, released_unnamed}
+use Rattle.lr_laws.proofs.Entries.{grows}
+use Rattle.lr_laws.proofs.Standing.{released_unnamed}
 use Rattle.lr_laws.proofs.Moves.{some_rule}
 use Rattle.lr_laws.proofs.Rising.{later_by}
 use Rattle.lr_host.specs.declared.thing.Thing.TheVariants as thing

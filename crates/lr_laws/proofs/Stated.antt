@@ -23,7 +23,8 @@ use Rattle.lr_laws.specs.Room.{HasRoom, IsReady, later_once_begun}
 use Rattle.lr_laws.proofs.Disk.{Came, made, moved, stayed, came, leaves_now}
 use Rattle.lr_laws.proofs.Sound.{IsSound, sound}
 use Rattle.lr_laws.proofs.Opened.{opened}
-use Rattle.lr_laws.proofs.Entries.{split, kept_same}
+use Rattle.lr_laws.proofs.Entries.{split}
+use Rattle.lr_laws.proofs.Standing.{kept_same}
 use Rattle.lr_laws.proofs.Going.{journal_opening, kept_on, safe_on, safe_at_first}
 use Rattle.lr_laws.proofs.Rising.{next_grows, room_at_first, IsStarts}
 use Rattle.lr_laws.proofs.Moves.{elsewhere, may_unlink, may_move}

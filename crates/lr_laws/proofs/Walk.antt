@@ -26,7 +26,7 @@ use Rattle.lr_laws.proofs.Stated.{ready_on}
 use Rattle.lr_laws.proofs.Disk.{Came, made, moved, stayed, came}
 use Rattle.lr_host.proofs.Names.{put_other}
 use Rattle.lr_laws.proofs.Sound.{IsSound, sound, or_left}
-use Rattle.lr_laws.proofs.Entries.{keeps_numbered}
+use Rattle.lr_laws.proofs.Standing.{keeps_numbered}
 use Rattle.lr_laws.proofs.Going.{journal_opening, safe_on}
 use Rattle.lr_laws.proofs.Rising.{IsStarts}
 use Rattle.lr_laws.proofs.Writing.{attached_before, wrote_member, member_apart, may_follow, not_starts, not_to_log}
