@@ -2,7 +2,7 @@
 ghost use Rattle.std.specs.Prelude.{◌≡◌};
 ghost use Rattle.lr_host.specs.declared.entry.Entry.{Entry};
 ghost use Rattle.lr_host.specs.World.{Past, ◌▸◌};
-ghost use Rattle.lr_host.specs.Told.{IsWriters, IsTools};
+ghost use Rattle.lr_host.specs.Told.{IsWriters};
 ghost use Rattle.lr_host.specs.Opening.{IsJournal};
 ghost use Rattle.lr_host.specs.Sets.{LogSet, Dated, order};
 ghost use Rattle.lr_host.specs.Kept.{IsKept};

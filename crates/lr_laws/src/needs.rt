@@ -1,5 +1,5 @@
 // When the entries of a rotation meet their conditions.
-ghost use Rattle.std.specs.Prelude.{◌≡◌, ◌+◌, ◌≤◌, ◌<◌, ℕ, ℤ, pos, List, length, false, Some, ◌⊎◌};
+ghost use Rattle.std.specs.Prelude.{◌≡◌, ◌+◌, ◌≤◌, ◌<◌, ℕ, ℤ, pos, List, length, false, Some};
 ghost use Rattle.lr_rules.specs.declared.path.Path.{Path};
 ghost use Rattle.lr_rules.specs.declared.rule.Naming.{Naming};
 ghost use Rattle.lr_rules.specs.Names.{IsName, Meet};
@@ -14,8 +14,7 @@ ghost use Rattle.lr_host.specs.Opening.{IsJournal};
 ghost use Rattle.lr_host.specs.Sets.{LogSet, Numbered, Dated, order, in_set, AreLaterMembers};
 ghost use Rattle.lr_host.specs.Runs.{rules_of, SomeRule, has_begun};
 ghost use Rattle.lr_host.specs.Released.{ByAge};
-ghost use Rattle.lr_host.specs.Kept.{IsKept};
-ghost use Rattle.lr_host.specs.Safe.{IsSafe, NoneToLog};
+ghost use Rattle.lr_host.specs.Safe.{IsSafe};
 ghost use Rattle.lr_host.specs.Steady.{AttachesNoMember};
 ghost use Rattle.lr_host.specs.Forward.{IsForward};
 ghost use Rattle.lr_laws.specs.Follow.{MayFollow, IsElsewhere, MeetsNone};
