@@ -40,7 +40,7 @@ passed_changes (entry.Unlinks x) es h = absurd (cc)
 passed_changes (entry.MakesDir x mode) es h = absurd (cc)
 passed_changes _ es h = refl
 
-changes_filter : (es : List Entry) → changes_of (filter is_change es) ≡ changes_of es
+pub changes_filter : (es : List Entry) → changes_of (filter is_change es) ≡ changes_of es
 changes_filter [] = refl
 changes_filter (e ∷ es) = go (is_change e) refl (changes_filter es)
   where
@@ -54,7 +54,7 @@ changes_filter (e ∷ es) = go (is_change e) refl (changes_filter es)
     go true h r = over e r
     go false h r = r ∙ sym (passed_changes e es h)
 
-fit_filter : (n : Names) (es : List Entry) → FitAll n (filter is_change es) → FitChanges n es
+pub fit_filter : (n : Names) (es : List Entry) → FitAll n (filter is_change es) → FitChanges n es
 fit_filter n [] fit = tt
 fit_filter n (e ∷ es) fit = go (fit_filter n es) (is_change e) refl fit
   where
@@ -78,7 +78,7 @@ filter_reverse f (e ∷ es) = ap (filter f) (reverse-append (e ∷ []) es) ∙ (
     go true = sym (reverse-append (e ∷ []) (filter f es))
     go false = append-nil (reverse (filter f es))
 
-later_fit : (n : Names) (new es : List Entry) → FitAll n (new ++ es) → FitAll n es
+pub later_fit : (n : Names) (new es : List Entry) → FitAll n (new ++ es) → FitAll n es
 later_fit n [] es fit = fit
 later_fit n (e ∷ new) es fit = later_fit n new es fit.0
 

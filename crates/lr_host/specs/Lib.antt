@@ -1,7 +1,15 @@
 pub mod Fits
+pub mod Forward
+pub mod Kept
+pub mod Later
 pub mod Lists
 pub mod Opening
 pub mod Reading
+pub mod Released
+pub mod Runs
+pub mod Safe
+pub mod Sets
+pub mod Steady
 pub mod Steps
 pub mod Told
 pub mod World

@@ -1,2 +1,4 @@
 pub mod Civil
+pub mod Match
+pub mod Names
 pub mod Path

@@ -1,0 +1,52 @@
+-- A log and its members, and the place of a member.
+use Rattle.std.specs.Prelude.{◌≡◌, ◌↔◌, ◌≤◌, ℕ, Bool, ◌||◌, List, [], ◌∷◌, length, bytes_eq, ℤ, pos, ◌<ℤ◌, Option, Some, None, is_some}
+use Rattle.lr_rules.specs.declared.path.Path.{Path}
+use Rattle.lr_rules.specs.declared.rule.Naming.{Naming}
+use Rattle.lr_rules.specs.declared.rule.Format.{Format}
+use Rattle.lr_rules.specs.Names.{IsMemberAt, HasMemberShape}
+use Rattle.lr_host.specs.Lists.{AreDistinct}
+use Rattle.lr_host.specs.World.{Names}
+use Rattle.lr_host.specs.Fits.{IsFileAt}
+
+-- How members follow one another: by the number in their name, or by the moment of their stamp.
+pub data Order : Type 0 where
+  Numbered : Order
+  Dated : Order
+
+abbrev pub order_of : Option Format → Order
+order_of None = Numbered
+order_of (Some format) = Dated
+
+-- The key of each path is what the naming says: a numbered member's is its place, and no other path has one. Of a dated naming only the order of its stamps counts here, so any key will do that only paths with a member's shape have.
+abbrev pub IsKeyBy : Order → Naming → (Path → Option ℤ) → Type 0
+IsKeyBy Numbered n key = (x : Path) (k : ℤ) → (key x ≡ Some k) ↔ ((place : ℕ) × (k ≡ pos place) × IsMemberAt n place x)
+IsKeyBy Dated n key = (x : Path) (k : ℤ) → key x ≡ Some k → HasMemberShape n x
+
+-- A log and the naming of its members, of which it is none.
+pub record LogSet : Type 0 where
+  pub log : Path
+  pub naming : Naming
+  -- of a numbered member its place, of a dated one the moment of its stamp, None at every other path
+  pub key : Path → Option ℤ
+  pub keys : IsKeyBy (order_of naming.dated) naming key
+  pub log_apart : key log ≡ None
+
+abbrev pub order : LogSet → Order
+order s = order_of s.naming.dated
+
+-- the path is the log or a member
+abbrev pub in_set : LogSet → Path → Bool
+in_set s x = bytes_eq s.log x || is_some (s.key x)
+
+-- a member that names a file and has a later stamp
+abbrev pub IsLaterMember : (Path → Option ℤ) → Names → ℤ → Path → Type 0
+IsLaterMember key n t y = IsFileAt n y × ((u : ℤ) × (key y ≡ Some u) × (t <ℤ u))
+
+abbrev pub AreLaterMembers : (Path → Option ℤ) → Names → ℤ → List Path → Type 0
+AreLaterMembers key n t [] = Unit {0}
+AreLaterMembers key n t (y ∷ ys) = IsLaterMember key n t y × AreLaterMembers key n t ys
+
+-- The path is a member whose place is at most the limit. The place of a numbered member is its key, that of a dated one the number of later members that name files.
+abbrev pub IsWithin : Order → (Path → Option ℤ) → Names → Path → ℕ → Type 0
+IsWithin Numbered key n x limit = (place : ℕ) × (key x ≡ Some (pos place)) × (place ≤ limit)
+IsWithin Dated key n x limit = (t : ℤ) × (key x ≡ Some t) × ((ys : List Path) → AreDistinct ys → AreLaterMembers key n t ys → length ys ≤ limit)

@@ -1,0 +1,81 @@
+-- What is no name of a set is neither its log nor a member.
+use Rattle.std.proofs.Common.{◌≡◌, inl, ⊎_elim, ℕ, ◌+◌, ◌%◌, ◌≤◌, ◌<◌, ◌^◌, Bool, true, false, bytes_eq, refl, sym, subst, arith, Option, Some, None, is_some, List, [], ◌∷◌, ◌++◌, length-append, ℤ, pos}
+use Rattle.std.specs.Prelude.{decimal}
+use Rattle.std.proofs.lemmas.List.Elements.{All-cons, All-append}
+use Rattle.std.proofs.lemmas.Fmt.{decimal_by_steps}
+use Rattle.std.proofs.lemmas.Slice.Eq.{bytes_eq-Decides}
+use Rattle.lr_rules.specs.declared.path.Path.{Path}
+use Rattle.lr_rules.specs.declared.rule.Naming.{Naming}
+use Rattle.lr_rules.specs.declared.rule.Format.{Format}
+use Rattle.lr_rules.specs.Names.{IsMemberAt, IsRun, AreDigits, IsMiddleShape, HasMemberShape, IsOwnName, the_log, a_member, IsName, Meet}
+use Rattle.lr_host.specs.declared.entry.Entry.{Entry}
+use Rattle.lr_host.specs.declared.entry.Entry.TheVariants as entry
+use Rattle.lr_host.specs.Sets.{LogSet, Order, Numbered, Dated, order, order_of, IsKeyBy, in_set}
+use Rattle.lr_laws.specs.Follow.{IsElsewhere, MeetsNone}
+use Rattle.lr_laws.proofs.Sound.{or_cases}
+
+abbrev IsDigit : ℕ → Type 0
+IsDigit d = (48 ≤ d) × (d ≤ 57)
+
+one_digit : (d : ℕ) → d < 10 → AreDigits ((48 + d) ∷ [])
+one_digit d lt = All-cons IsDigit (48 + d) [] (omega arith, omega arith) (λ k x le. absurd (omega arith))
+
+-- a number is written as a run of digits
+decimal_run : (n : ℕ) → n < 2 ^ 64 → IsRun (decimal n)
+decimal_run n lt = decimal_by_steps (λ n ds. IsRun ds) (λ d small. (omega arith, one_digit d small)) more n lt
+  where
+    more : (n : ℕ) (ds : List ℕ) → 10 ≤ n → IsRun ds → IsRun (ds ++ ((48 + n % 10) ∷ []))
+    more n ds big r = (omega (arith, length-append ds ((48 + n % 10) ∷ [])), All-append IsDigit ds ((48 + n % 10) ∷ []) r.1 (one_digit (n % 10) (omega arith)))
+
+numbered_none : (d : Option Format) → order_of d ≡ Numbered → d ≡ None
+numbered_none None q = refl
+numbered_none (Some format) q = absurd (cc)
+
+-- a numbered member has a member's shape
+member_name : (s : LogSet) (x : Path) (place : ℕ) → order s ≡ Numbered → IsMemberAt s.naming place x → IsOwnName s.log s.naming x
+member_name s x place numbered m = a_member (s.naming.base ++ (46 ∷ decimal (s.naming.start + place)) ++ s.naming.ext) (46 ∷ decimal (s.naming.start + place), middle, refl) m.named
+  where
+    bound : s.naming.start + place ≤ 4294967295
+    bound = m.bound
+
+    middle : IsMiddleShape s.naming.dated (46 ∷ decimal (s.naming.start + place))
+    middle = subst (λ d. IsMiddleShape d (46 ∷ decimal (s.naming.start + place))) (sym (numbered_none s.naming.dated numbered)) (decimal (s.naming.start + place), refl, decimal_run (s.naming.start + place) (omega arith))
+
+shape_name : (s : LogSet) (x : Path) → HasMemberShape s.naming x → IsOwnName s.log s.naming x
+shape_name s x (last, shape, is) = a_member last shape is
+
+-- what has a key has a member's shape
+keyed_name : (s : LogSet) (o : Order) → order s ≡ o → IsKeyBy o s.naming s.key → (x : Path) (k : ℤ) → s.key x ≡ Some k → IsOwnName s.log s.naming x
+keyed_name s Numbered q keys x k is = let m : (place : ℕ) × (k ≡ pos place) × IsMemberAt s.naming place x = (keys x k).0 is in member_name s x m.0 q m.2
+keyed_name s Dated q keys x k is = shape_name s x (keys x k is)
+
+pub in_set_own : (s : LogSet) (x : Path) → in_set s x ≡ true → IsOwnName s.log s.naming x
+in_set_own s x h = ⊎_elim (λ e. the_log (sym ((bytes_eq-Decides s.log x).0 e))) (λ e. keyed (s.key x) refl e) (or_cases (bytes_eq s.log x) (is_some (s.key x)) h)
+  where
+    keyed : (v : Option ℤ) → s.key x ≡ v → is_some v ≡ true → IsOwnName s.log s.naming x
+    keyed None q e = absurd (cc)
+    keyed (Some k) q e = keyed_name s (order s) refl s.keys x k q
+
+outside : (s : LogSet) (x : Path) → (IsName s.log s.naming x → ⊥) → in_set s x ≡ false
+outside s x none = go (in_set s x) refl
+  where
+    go : (b : Bool) → in_set s x ≡ b → in_set s x ≡ false
+    go true q = absurd (none (inl (in_set_own s x q)))
+    go false q = q
+
+pub no_name_elsewhere : (s : LogSet) (e : Entry) → MeetsNone s e → IsElsewhere s e
+no_name_elsewhere s (entry.Attach writer x at) h = outside s x (h 0 x (omega arith))
+no_name_elsewhere s (entry.Renames from to) h = (outside s from (h 0 from (omega arith)), outside s to (h 1 to (omega arith)))
+no_name_elsewhere s (entry.Makes x mode) h = outside s x (h 0 x (omega arith))
+no_name_elsewhere s (entry.Appends x bytes) h = outside s x (h 0 x (omega arith))
+no_name_elsewhere s (entry.Truncates x) h = outside s x (h 0 x (omega arith))
+no_name_elsewhere s (entry.Unlinks x) h = outside s x (h 0 x (omega arith))
+no_name_elsewhere s _ h = tt
+
+-- what is a name of another set that the set doesn't meet is neither its log nor a member
+pub apart_outside : (s : LogSet) (other : Path) (n : Naming) (x : Path) → (Meet s.log s.naming other n → ⊥) → IsName other n x → in_set s x ≡ false
+apart_outside s other n x apart name = go (in_set s x) refl
+  where
+    go : (b : Bool) → in_set s x ≡ b → in_set s x ≡ false
+    go true q = absurd (apart (x, inl (in_set_own s x q, name)))
+    go false q = q

@@ -1,0 +1,5 @@
+pub mod Chain
+pub mod Follow
+pub mod Room
+pub mod Rotation
+pub mod Stays

@@ -1,0 +1,55 @@
+-- The entries of one rotation of a numbered set, as a list.
+use Rattle.std.specs.Prelude.{◌≡◌, ◌⊎◌, ℕ, ◌+◌, ◌≤◌, ◌<◌, Bool, true, false, bytes_eq, List, [], ◌∷◌, ℤ, pos, negsuc, Option, Some, None}
+use Rattle.lr_rules.specs.declared.path.Path.{Path}
+use Rattle.lr_rules.specs.declared.rule.Count.TheVariants.{Keep}
+use Rattle.lr_host.specs.declared.thing.Thing.TheVariants as thing
+use Rattle.lr_host.specs.declared.entry.Entry.{Entry}
+use Rattle.lr_host.specs.declared.entry.Entry.TheVariants.{Attach, Feed, Flush, Detach, Starts, Renames, Makes, Unlinks, Cut}
+use Rattle.lr_host.specs.World.{Names, Past, world, names, names_after}
+use Rattle.lr_host.specs.Steps.{changes_of}
+use Rattle.lr_host.specs.Sets.{LogSet}
+use Rattle.lr_host.specs.Runs.{rules_of, SomeRule}
+use Rattle.lr_host.specs.Released.{ByAge}
+use Rattle.lr_laws.specs.Follow.{IsElsewhere}
+
+-- the member at this place may go: the rule's count says so, or a look of the run saw the file that it names too old
+abbrev pub IsPastCount : LogSet → Past → ℕ → Type 0
+IsPastCount s p place = (count : ℕ) × SomeRule (rules_of p) s.log (λ r. r.count ≡ Keep count) × (count ≤ place)
+
+abbrev pub IsPastAge : LogSet → Past → Names → Path → Type 0
+IsPastAge s p n x = (g : ℕ) → n x ≡ thing.File g → SomeRule (rules_of p) s.log (ByAge p g)
+
+-- A step of a rotation that began behind p, where the names are n and members below the limit haven't moved: such a member goes one place further, or the log goes to place 0, to a path that names nothing; a member goes that may; the log is made anew.
+abbrev pub IsStep : LogSet → Past → ℕ → Names → Entry → Type 0
+IsStep s p limit n (Renames from to) = (n to ≡ thing.Nothing)
+    × (((place : ℕ) × (place < limit) × (s.key from ≡ Some (pos place)) × (s.key to ≡ Some (pos (place + 1)))) ⊎ ((from ≡ s.log) × (s.key to ≡ Some (pos 0))))
+IsStep s p limit n (Unlinks x) = (place : ℕ) × (s.key x ≡ Some (pos place)) × (IsPastCount s p place ⊎ IsPastAge s p n x)
+IsStep s p limit n (Makes x mode) = x ≡ s.log
+IsStep s p limit n _ = ⊥
+
+abbrev pub limit_by : Option ℤ → Bool → ℕ → ℕ
+limit_by (Some (pos place)) is_log limit = place
+limit_by (Some (negsuc k)) is_log limit = 0
+limit_by None true limit = 0
+limit_by None false limit = limit
+
+-- the place below which members haven't moved
+abbrev pub limit_after : LogSet → ℕ → List Entry → ℕ
+limit_after s limit [] = limit
+limit_after s limit (Renames from to ∷ es) = limit_by (s.key from) (bytes_eq s.log from) (limit_after s limit es)
+limit_after s limit (_ ∷ es) = limit_after s limit es
+
+-- an entry of the tool in this run, on no path of the set
+abbrev pub IsAside : LogSet → Entry → Type 0
+IsAside s (Starts state now rules) = ⊥
+IsAside s (Attach writer x at) = ⊥
+IsAside s (Feed writer bytes at) = ⊥
+IsAside s (Flush writer) = ⊥
+IsAside s (Detach writer) = ⊥
+IsAside s (Cut names_kept lengths) = ⊥
+IsAside s e = IsElsewhere s e
+
+-- These entries behind p, the newest first, are steps of one rotation of the set, highest place first, or lie aside.
+abbrev pub IsRotation : LogSet → Past → ℕ → List Entry → Type 0
+IsRotation s p limit [] = Unit {0}
+IsRotation s p limit (e ∷ es) = IsRotation s p limit es × (IsAside s e ⊎ IsStep s p (limit_after s limit es) (names_after (names (world p)) (changes_of es)) e)

@@ -1,0 +1,61 @@
+// How the promise goes on.
+ghost use Rattle.std.specs.Prelude.{◌≡◌, ℕ, Bool, List, Option};
+ghost use Rattle.lr_host.specs.declared.entry.Entry.{Entry};
+ghost use Rattle.lr_host.specs.declared.journal.Opening.{Opening};
+ghost use Rattle.lr_host.specs.World.{Past, Opens, ◌▸◌, world, names};
+ghost use Rattle.lr_host.specs.Fits.{Fits};
+ghost use Rattle.lr_host.specs.Opening.{IsJournal, IsValid};
+ghost use Rattle.lr_host.specs.Told.{IsWriters, Made, Each, Left};
+ghost use Rattle.lr_host.specs.Sets.{LogSet, Numbered, order};
+ghost use Rattle.lr_host.specs.Safe.{IsSafe, IsMachines};
+ghost use Rattle.lr_host.specs.Steady.{IsSteady};
+ghost use Rattle.lr_laws.specs.Follow.{MayFollow, ChangesNothing, NoneAttached};
+ghost use Rattle.lr_host.specs.Steps.{FitChanges, CanAll, Took};
+ghost use Rattle.lr_laws.specs.Room.{IsReady};
+ghost use Rattle.lr_laws.specs.Rotation.{IsRotation, IsAside};
+ghost use Rattle.lr_laws.specs.Stays.{StaysSafe, Rotates};
+ghost use Rattle.lr_host.specs.declared.journal.Journal.{Journal};
+
+/// A journal without entries is safe.
+pub fn opening_is_safe()
+    ensures { (s : LogSet) (o : Opening) → IsValid o → IsSafe s (Opens o) }
+{}
+
+/// Where a journal is safe, it is safe behind an entry that meets its condition, and after each cut that is allowed there.
+pub fn safe_goes_on()
+    ensures { (s : LogSet) (p : Past) (e : Entry) → IsJournal (p ▸ e) → IsSafe s p → MayFollow s p e → IsSafe s (p ▸ e) }
+{}
+
+/// So it is behind each entry of a writer in a steady journal.
+pub fn writers_stay_safe()
+    ensures { (s : LogSet) (p : Past) (e : Entry) → IsJournal (p ▸ e) → IsSafe s p → IsWriters e → IsSteady s (p ▸ e) → IsSafe s (p ▸ e) }
+{}
+
+/// So it is behind each entry of the tool that changes no name and no byte.
+pub fn quiet_stays_safe()
+    ensures { (s : LogSet) (p : Past) (e : Entry) → IsJournal (p ▸ e) → IsSafe s p → ChangesNothing e → IsSafe s (p ▸ e) }
+{}
+
+/// So it is behind each cut that is allowed.
+pub fn cut_stays_safe()
+    ensures { (s : LogSet) (p : Past) (c : Entry) → IsJournal p → IsSafe s p → IsMachines c → Fits (world p) c → IsSafe s (p ▸ c) }
+{}
+
+/// So it is behind the entries of one rotation of a numbered set, with entries aside and writers' entries between them:
+/// members below the limit move up, highest place first, then the log; those past the count or too old go.
+pub fn rotation_stays_safe()
+    ensures { (s : LogSet) (p q : Past) (limit : ℕ) (es : List Entry) → order s ≡ Numbered → IsJournal p → IsSafe s p
+        → IsReady s p limit → Made p es q → FitChanges (names (world p)) es → IsRotation s p limit es → NoneAttached s q → IsSafe s q }
+{}
+
+/// So it is behind entries of the tool on no path of the set, with writers' entries between them; of numbered and dated sets.
+pub fn aside_stays_safe()
+    ensures { (s : LogSet) (p q : Past) (es : List Entry) → IsJournal p → IsSafe s p → Made p es q → Each (IsAside s) es
+        → NoneAttached s q → IsSafe s q }
+{}
+
+/// Over calls that leave the change entries of a first part of these steps, each set is safe of which they are a rotation.
+pub fn steps_stay_safe()
+    ensures { (steps : List Entry) (ok : Bool) (before after : Option Journal) → Left (Took steps ok) before after
+        → CanAll before steps → StaysSafe (Rotates steps) before after }
+{}
