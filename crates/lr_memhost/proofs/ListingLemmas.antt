@@ -1,6 +1,6 @@
 -- The names that stand in a directory.
 use Rattle.std.proofs.lemmas.List.{take_more, drop_more}
-use Rattle.std.proofs.Common.{◌≡◌, ◌≢◌, ◌↔◌, ℕ, zero, suc, ◌+◌, ◌<◌, ◌≤◌, length, get_or, take, drop, append_assoc, arith, Bool, true, false, not, cond, ◌||◌, ◌&&◌, List, [], ◌∷◌, ◌++◌, Option, None, refl, sym, ◌∙◌, ap, subst, Contains, bytes_eq}
+use Rattle.std.proofs.Common.{◌≡◌, ◌≢◌, ℕ, ◌+◌, ◌<◌, length, get_or, take, drop, append_assoc, Bool, true, false, not, cond, ◌||◌, ◌&&◌, List, [], ◌∷◌, ◌++◌, None, refl, sym, ◌∙◌, ap, subst, bytes_eq}
 use Rattle.std.specs.List.{list_any}
 use Rattle.std.specs.Cmp.{IsEquivalence}
 use Rattle.std.proofs.lemmas.Map.Views.{list_any-from_Contains, Contains-from_any}
@@ -14,7 +14,7 @@ use Rattle.lr_host.specs.Fits.{IsPart, AreNamesIn}
 use Rattle.lr_host.specs.Lists.{AreDistinct, IsNotIn}
 use Rattle.lr_memhost.specs.Pairs.{keys}
 use Rattle.lr_memhost.specs.Names.{named_in, has_path, is_nothing, is_in, name_of, listed_in}
-use Rattle.lr_memhost.proofs.PairLemmas.{bytes_tell, valued_has}
+use Rattle.lr_memhost.proofs.PairLemmas.{bytes_tell}
 
 abbrev Pair : Type 0
 Pair = Path × Thing

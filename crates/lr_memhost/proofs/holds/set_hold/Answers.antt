@@ -1,4 +1,4 @@
-use Rattle.std.proofs.Common.{◌≡◌, ◌<◌, length, None, nat_eq, ap, ◌∙◌, arith}
+use Rattle.std.proofs.Common.{◌<◌, length, None, nat_eq, ap, ◌∙◌, arith}
 use Rattle.lr_memhost.specs.Pairs.{with_value}
 use Rattle.lr_memhost.specs.State.{hold_in}
 use Rattle.lr_memhost.proofs.PairLemmas.{set_is, numbers_tell}

@@ -1,6 +1,5 @@
-use Rattle.std.proofs.Common.{◌≡◌, ◌++◌, [], take, drop, length, sym, ap, subst, ◌∙◌, arith}
-use Rattle.std.proofs.lemmas.List.{take_all, drop_all}
-use Rattle.lr_memhost.specs.Names.{listed_in}
+use Rattle.std.proofs.Common.{subst, arith}
+use Rattle.std.proofs.lemmas.List.{take_all}
 use Rattle.lr_memhost.proofs.ListingLemmas.{ArePaths, listed_are, listed_more, paths_more, take_kept}
 use Rattle.lr_memhost.proofs.listing.add_names.Goals as goal
 

@@ -1,4 +1,4 @@
-use Rattle.std.proofs.Common.{◌≡◌, ◌<◌, length, bytes_eq, sym, ap, ◌∙◌, arith}
+use Rattle.std.proofs.Common.{◌<◌, length, bytes_eq, sym, ap, ◌∙◌, arith}
 use Rattle.lr_host.specs.declared.thing.Thing.TheVariants as thing
 use Rattle.lr_memhost.specs.Pairs.{keys, with_value}
 use Rattle.lr_memhost.specs.Names.{named_in}

@@ -1,5 +1,5 @@
-use Rattle.std.proofs.Common.{◌≡◌, refl, arith, sym, ap, ◌∙◌, length}
-use Rattle.lr_memhost.specs.State.{hold_in, as_file}
+use Rattle.std.proofs.Common.{refl, arith, ap, ◌∙◌}
+use Rattle.lr_memhost.specs.State.{hold_in}
 use Rattle.lr_memhost.proofs.StateLemmas.{shows_flushed}
 use Rattle.lr_memhost.proofs.state.flush.Goals as goal
 

@@ -1,4 +1,4 @@
-use Rattle.std.proofs.Common.{◌≡◌, ℕ, ◌++◌, [], ◌∷◌, refl, arith, sym, ap, subst, ◌∙◌, cond, bytes_eq, nat_eq, Some, None, to_z, of_z, w64, length, List, true}
+use Rattle.std.proofs.Common.{◌≡◌, ℕ, ◌++◌, [], ◌∷◌, refl, ap, subst, ◌∙◌, cond, nat_eq, Some, None, to_z, of_z, w64, length, List, true}
 use Rattle.std.specs.Prelude.{ℤ, Result, Ok, Err, IsOk, is_ok}
 use Rattle.std.proofs.lemmas.Int.{to_z-of_z}
 use Rattle.std.specs.Vec.{with_items}
@@ -10,7 +10,7 @@ use Rattle.lr_memhost.specs.declared.file.MemFile.{MemFile}
 use Rattle.lr_memhost.specs.declared.state.State.{State}
 use Rattle.lr_memhost.specs.Pairs.{keys}
 use Rattle.lr_memhost.specs.Names.{named_in}
-use Rattle.lr_memhost.specs.State.{hold_in, as_file}
+use Rattle.lr_memhost.specs.State.{hold_in}
 use Rattle.lr_memhost.proofs.StateLemmas.{shows_made}
 use Rattle.lr_memhost.proofs.state.make_file.Goals as goal
 

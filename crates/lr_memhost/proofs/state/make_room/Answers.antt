@@ -1,4 +1,4 @@
-use Rattle.std.proofs.Common.{◌≡◌, ℕ, ◌+◌, ◌≤◌, Option, Some, refl, arith, sym, ap, ◌∙◌, subst}
+use Rattle.std.proofs.Common.{◌≡◌, ◌+◌, ◌≤◌, Some, refl, arith, sym, ap, ◌∙◌, subst}
 use Rattle.std.specs.Prelude.{vec_len, vec_capacity, slice_get, slice_set}
 use Rattle.lr_memhost.specs.State.{hold_in}
 use Rattle.lr_memhost.proofs.StateLemmas.{set_same, shows_kept, get_set, get_none}

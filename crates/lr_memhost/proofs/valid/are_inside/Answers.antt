@@ -1,4 +1,4 @@
-use Rattle.std.proofs.Common.{◌≡◌, ◌<◌, true, Contains, get_or, sym, ap, subst, ◌∙◌}
+use Rattle.std.proofs.Common.{◌≡◌, true, Contains, sym, subst, ◌∙◌}
 use Rattle.lr_rules.specs.Path.{parent_of}
 use Rattle.lr_memhost.proofs.ValidLemmas.{each_more}
 use Rattle.lr_memhost.proofs.valid.are_inside.Goals as goal

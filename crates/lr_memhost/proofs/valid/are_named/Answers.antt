@@ -1,4 +1,4 @@
-use Rattle.std.proofs.Common.{◌≡◌, ℕ, ◌<◌, ◌==◌, count_by, arith, sym, ◌∙◌, below_more}
+use Rattle.std.proofs.Common.{◌≡◌, ◌==◌, count_by, arith, sym, ◌∙◌, below_more}
 use Rattle.lr_memhost.proofs.valid.are_named.Goals as goal
 
 pub returns-then-names_of_file-ne1 : goal.returns-then-names_of_file-ne1

@@ -1,6 +1,6 @@
-use Rattle.std.proofs.Common.{◌≡◌, ◌≢◌, ◌+◌, true, drop, get_or, All, sym, subst, arith, ◌∙◌}
+use Rattle.std.proofs.Common.{◌≡◌, ◌≢◌, ◌+◌, true, get_or, All, sym, subst, ◌∙◌}
 use Rattle.std.proofs.lemmas.List.{take_rest}
-use Rattle.lr_memhost.proofs.ValidLemmas.{once_on, once_new, once_all}
+use Rattle.lr_memhost.proofs.ValidLemmas.{once_on, once_new}
 use Rattle.lr_memhost.proofs.valid.are_once.Goals as goal
 
 pub returns-then-not-lacks : goal.returns-then-not-lacks

@@ -1,4 +1,4 @@
-use Rattle.std.proofs.Common.{◌≡◌, ℕ, ◌<◌, ◌≤◌, ◌==◌, [], ◌∷◌, length, count_by, sym, ap, subst, ◌∙◌, Contains, All}
+use Rattle.std.proofs.Common.{◌≡◌, ◌<◌, ◌≤◌, ◌==◌, [], ◌∷◌, length, count_by, sym, ap, subst, ◌∙◌, Contains, All}
 use Rattle.lr_rules.specs.Path.{parent_of}
 use Rattle.lr_host.specs.Lists.{AreDistinct}
 use Rattle.lr_host.specs.Opening.{paths_of}

@@ -1,5 +1,5 @@
-use Rattle.std.proofs.Common.{◌≡◌, sym, subst}
-use Rattle.lr_host.specs.World.{◌▸◌, world, past, effect}
+use Rattle.std.proofs.Common.{sym, subst}
+use Rattle.lr_host.specs.World.{world, past, effect}
 use Rattle.lr_memhost.specs.State.{Shows}
 use Rattle.lr_memhost.proofs.JournalLemmas.{past_more}
 use Rattle.lr_memhost.proofs.disk.Disk.enter.Goals as goal

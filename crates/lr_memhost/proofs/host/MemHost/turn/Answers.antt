@@ -1,4 +1,4 @@
-use Rattle.std.proofs.Common.{◌≡◌, ◌≤◌, refl, arith, true, false}
+use Rattle.std.proofs.Common.{refl, arith, true, false}
 use Rattle.lr_memhost.proofs.TurnLemmas.{turned_first}
 use Rattle.lr_memhost.proofs.host.MemHost.turn.Goals as goal
 

@@ -1,8 +1,6 @@
-use Rattle.std.proofs.Common.{◌≡◌, inl, inr, refl, sym, ap, subst, ◌∙◌, arith, [], ◌∷◌, Some, None, Ok, Err, take, drop, length}
-use Rattle.lr_host.specs.declared.entry.Entry.TheVariants as entry
-use Rattle.lr_host.specs.World.{world, past, names}
-use Rattle.lr_host.specs.Told.{Are, Gave, Did}
-use Rattle.lr_memhost.specs.Acts.{View, Turned}
+use Rattle.std.proofs.Common.{inl, inr, refl, sym, ap, subst, ◌∙◌, arith, []}
+use Rattle.lr_host.specs.Told.{Are}
+use Rattle.lr_memhost.specs.Acts.{Turned}
 use Rattle.lr_memhost.proofs.TurnLemmas.{turned_left, turned_kept, turned_entry, like, like_same, still_can}
 use Rattle.lr_memhost.proofs.host.MemHostHost.unlink.Goals as goal
 
