@@ -1,0 +1,10 @@
+pub mod Lines
+pub mod Ascii
+pub mod SignsOf
+pub mod Scanned
+pub mod Braces
+pub mod Parted
+pub mod First
+pub mod LawsOf
+pub mod Spans
+pub mod Scripts
