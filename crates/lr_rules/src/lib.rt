@@ -2,6 +2,7 @@
 #![tactic(auto)]
 
 mod civil;
+mod clock;
 mod fault;
 mod listed;
 mod memory;
@@ -11,6 +12,7 @@ mod steps;
 mod text;
 
 pub use civil::{Civil, Moment};
+pub use clock::Clock;
 pub use fault::{CallKind, ConfKind, Ended, Fault, Notice, Phase, StateKind, ZoneWhy};
 pub use listed::Listed;
 pub use memory::Memory;
