@@ -164,13 +164,16 @@ fn clocks_show_what_zoneinfo_shows(rt: HostRuntime) -> Result<(), Fail> {
         let clock = clock_of(rt.alloc(), &zone, seconds).ok().ok_or("no clock")?;
         assert_eq!(rt; clock.now.seconds, seconds);
         assert_eq!(rt; Some(clock.now.civil), civil(now), "now at {seconds}");
-        assert_eq!(rt; clock.yesterday.seconds, (seconds - 86_400).max(0));
+        assert_eq!(rt;
+            clock.yesterday.seconds,
+            seconds.saturating_sub(86_400).max(0)
+        );
         assert_eq!(rt;
             Some(clock.yesterday.civil),
             civil(day),
             "a day before {seconds}"
         );
-        assert_eq!(rt; clock.hour_ago.seconds, (seconds - 3600).max(0));
+        assert_eq!(rt; clock.hour_ago.seconds, seconds.saturating_sub(3600).max(0));
         assert_eq!(rt;
             Some(clock.hour_ago.civil),
             civil(hour),
@@ -300,7 +303,14 @@ fn answer(alloc: Global, case: &Case) -> Result<Due, Fail> {
         seconds,
         civil: civil(parts).ok_or("a moment")?,
     };
-    Ok(due_at(&rule, case.size, seconds - case.age, last, &now, case.force))
+    Ok(due_at(
+        &rule,
+        case.size,
+        seconds.saturating_sub(case.age),
+        last,
+        &now,
+        case.force,
+    ))
 }
 
 const EARLY: Due = Due::No(WhyNot::Early);
