@@ -10,6 +10,7 @@
 #![tactic(auto)]
 
 mod civil;
+mod clock;
 mod fault;
 mod form;
 mod listed;
@@ -22,6 +23,7 @@ mod tests;
 mod text;
 
 pub use civil::{Civil, Moment};
+pub use clock::Clock;
 pub use fault::{CallKind, ConfKind, Ended, Fault, Notice, Phase, StateKind, ZoneWhy};
 pub use listed::Listed;
 pub use memory::Memory;

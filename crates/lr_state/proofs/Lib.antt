@@ -1,0 +1,12 @@
+mod Cuts
+mod Dates
+mod Days
+mod Decimals
+mod Left
+mod Lengths
+mod Lines
+mod Names
+mod Numbers
+mod Pieces
+mod Texts
+mod Views

@@ -1,0 +1,166 @@
+-- What a state text says: the grammar of its lines, the table that they make, and their faults.
+use Rattle.std.specs.Prelude.{Bool, true, false, not, ◌&&◌, ◌||◌, ◌==◌, ◌≡◌, ◌≢◌, ◌⊎◌, ℕ, pos, ◌+◌, ◌-◌, ◌*◌, ◌<◌, ◌≤◌, nat_lt, nat_le, List, [], ◌∷◌, ◌++◌, length, map, take, Result, Ok, Err, Option, Some, None, IsSome, codes, if◌then◌else◌}
+use Rattle.std.specs.List.{list_all, flat_map, slice_split}
+use Rattle.std.specs.Str.{bytes_eq}
+use Rattle.lr_rules.specs.declared.civil.Civil.{Civil}
+use Rattle.lr_rules.specs.declared.fault.StateKind.{StateKind}
+use Rattle.lr_rules.specs.declared.fault.StateKind.TheVariants.{TooBig, BadTop, BadName, BadDate, Twice}
+use Rattle.lr_state.specs.Table.{Entry, moment_of, is_name}
+
+-- a space, a tab or a carriage return
+abbrev pub is_blank : ℕ → Bool
+is_blank b = (b == 32) || ((b == 9) || (b == 13))
+
+abbrev pub is_other : ℕ → Bool
+is_other b = not (is_blank b)
+
+abbrev pub is_digit : ℕ → Bool
+is_digit b = nat_le 48 b && nat_le b 57
+
+abbrev pub is_newline : ℕ → Bool
+is_newline b = b == 10
+
+-- the end, or a blank
+abbrev pub is_end : List ℕ → Bool
+is_end [] = true
+is_end (b ∷ bs) = is_blank b
+
+-- the lines behind a newline, where there is one
+abbrev pub lines_behind : Option (List ℕ) → List (List ℕ)
+lines_behind None = []
+lines_behind (Some text) = slice_split is_newline text
+
+-- a sign of a quoted name: a byte, with a backslash in front or without
+abbrev pub Sign : Type 0
+Sign = Bool × ℕ
+
+abbrev pub spelling : Sign → List ℕ
+spelling s = if s.0 then 92 ∷ s.1 ∷ [] else s.1 ∷ []
+
+-- a quote and a backslash have a backslash in front
+abbrev pub is_sign : Sign → Bool
+is_sign s = s.0 || not ((s.1 == 34) || (s.1 == 92))
+
+abbrev pub byte_of : Sign → ℕ
+byte_of s = s.1
+
+-- the line begins with the name between quotes, and the rest is behind them
+pub record IsQuoted (line name rest : List ℕ) : Type 0 where
+  pub signs : List Sign
+  pub each : list_all is_sign signs ≡ true
+  pub line_is : line ≡ 34 ∷ (flat_map spelling signs ++ 34 ∷ rest)
+  pub name_is : name ≡ map byte_of signs
+
+-- the line begins with the name as it is: it begins with a slash and holds no blank
+pub record IsBare (line name rest : List ℕ) : Type 0 where
+  pub slash : take 1 name ≡ 47 ∷ []
+  pub no_blank : list_all is_other name ≡ true
+  pub line_is : line ≡ name ++ rest
+  pub ends : is_end rest ≡ true
+
+-- the line begins with a name of a log, and the rest is behind it
+abbrev pub IsNamed : List ℕ → List ℕ → List ℕ → Type 0
+IsNamed line name rest = (IsQuoted line name rest ⊎ IsBare line name rest) × (is_name name ≡ true)
+
+-- the value of digits behind a number
+abbrev pub value_from : ℕ → List ℕ → ℕ
+value_from n [] = n
+value_from n (d ∷ ds) = value_from (n * 10 + (d - 48)) ds
+
+-- a number of at most so many digits, with zeros in front or without
+pub record IsNumber (most : ℕ) (digits : List ℕ) (n : ℕ) : Type 0 where
+  pub some : 0 < length digits
+  pub few : length digits ≤ most
+  pub each : list_all is_digit digits ≡ true
+  pub value : n ≡ value_from 0 digits
+
+-- a time of the day
+pub record IsClockTime (text : List ℕ) (hour minute second : ℕ) : Type 0 where
+  pub h : List ℕ
+  pub m : List ℕ
+  pub s : List ℕ
+  pub text_is : text ≡ 45 ∷ (h ++ 58 ∷ (m ++ 58 ∷ s))
+  pub hour_is : IsNumber 2 h hour
+  pub minute_is : IsNumber 2 m minute
+  pub second_is : IsNumber 2 s second
+
+-- without a time it is 0:0:0
+abbrev pub IsTime : List ℕ → ℕ → ℕ → ℕ → Type 0
+IsTime text hour minute second =
+    ((text ≡ []) × (hour ≡ 0) × (minute ≡ 0) × (second ≡ 0)) ⊎ IsClockTime text hour minute second
+
+-- behind a name stand blanks, a date with a time or without, and maybe blanks
+pub record IsDated (rest : List ℕ) (at : Civil) : Type 0 where
+  pub gap : List ℕ
+  pub y : List ℕ
+  pub m : List ℕ
+  pub d : List ℕ
+  pub time : List ℕ
+  pub behind : List ℕ
+  pub rest_is : rest ≡ gap ++ (y ++ 45 ∷ (m ++ 45 ∷ (d ++ (time ++ behind))))
+  pub gap_some : 0 < length gap
+  pub gap_blank : list_all is_blank gap ≡ true
+  pub behind_blank : list_all is_blank behind ≡ true
+  pub year : ℕ
+  pub year_is : IsNumber 4 y year
+  pub at_year : at.year ≡ pos year
+  pub month_is : IsNumber 2 m at.month
+  pub day_is : IsNumber 2 d at.day
+  pub time_is : IsTime time at.hour at.minute at.second
+
+-- behind the entries of the lines before it, a line leaves them, where it is empty, or adds its own
+abbrev pub Adds : List Entry → List ℕ → List Entry → Type 0
+Adds before line after =
+    ((line ≡ []) × (after ≡ before))
+    ⊎ ((name : List ℕ) × (rest : List ℕ) × (at : Civil) × IsNamed line name rest × IsDated rest at
+    × (moment_of before name ≡ None) × (after ≡ before ++ (name, at) ∷ []))
+
+-- the first fault of a line, behind the entries of the lines before it
+abbrev pub HasFault : List Entry → List ℕ → StateKind → Type 0
+HasFault before line TooBig = ⊥
+HasFault before line BadTop = ⊥
+HasFault before line BadName = (line ≢ []) × ((name rest : List ℕ) → IsNamed line name rest → ⊥)
+HasFault before line BadDate =
+    (name : List ℕ) × (rest : List ℕ) × IsNamed line name rest × ((at : Civil) → IsDated rest at → ⊥)
+HasFault before line Twice =
+    (name : List ℕ) × (rest : List ℕ) × (at : Civil) × IsNamed line name rest × IsDated rest at
+    × IsSome (moment_of before name)
+
+-- what a text says: a table, or its first fault and the line of it
+abbrev pub Said : Type 0
+Said = Result (List Entry) (ℕ × StateKind)
+
+-- what the lines from this number on say, behind the entries of the lines before them
+abbrev pub LinesSay : ℕ → List Entry → List (List ℕ) → Said → Type 0
+LinesSay number before [] said = said ≡ Ok before
+LinesSay number before (line ∷ lines) said =
+    ((kind : StateKind) × HasFault before line kind × (said ≡ Err (number, kind)))
+    ⊎ ((after : List Entry) × Adds before line after × LinesSay (number + 1) after lines said)
+
+abbrev pub top_2 : List ℕ
+top_2 = codes "logrotate state -- version 2"
+
+abbrev pub top_1 : List ℕ
+top_1 = codes "logrotate state -- version 1"
+
+abbrev pub is_top : List ℕ → Bool
+is_top line = bytes_eq line top_2 || bytes_eq line top_1
+
+-- what the lines behind the first say, where that names the version
+abbrev pub BehindTop : Bool → List (List ℕ) → Said → Type 0
+BehindTop true lines said = LinesSay 2 [] lines said
+BehindTop false lines said = said ≡ Err (1, BadTop)
+
+abbrev pub TextLinesSay : List (List ℕ) → Said → Type 0
+TextLinesSay [] said = said ≡ Ok []
+TextLinesSay (top ∷ lines) said = BehindTop (is_top top) lines said
+
+-- what a text says that may be too big
+abbrev pub SizedTextSays : Bool → List ℕ → Said → Type 0
+SizedTextSays true text said = said ≡ Err (0, TooBig)
+SizedTextSays false text said = TextLinesSay (slice_split is_newline text) said
+
+-- what a state text says: an empty one has no entries
+abbrev pub TextSays : List ℕ → Said → Type 0
+TextSays [] said = said ≡ Ok []
+TextSays (b ∷ bs) said = SizedTextSays (nat_lt 67_108_864 (length (b ∷ bs))) (b ∷ bs) said

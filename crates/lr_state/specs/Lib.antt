@@ -1,0 +1,6 @@
+pub mod Answer
+pub mod Grammar
+pub mod Piece
+pub mod Reading
+pub mod Table
+pub mod Written
