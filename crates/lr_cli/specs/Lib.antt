@@ -1,7 +1,9 @@
 pub mod Answer
+pub mod Family
 pub mod Faults
 pub mod Form
 pub mod Member
+pub mod Rotation
 pub mod Status
 pub mod Stops
 pub mod Words
