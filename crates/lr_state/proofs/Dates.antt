@@ -1,10 +1,10 @@
 -- Moments behind names: the reader's steps and the grammar agree.
-use Rattle.std.proofs.Common.{◌≡◌, ◌∙◌, ap, sym, subst, refl, ℕ, pos, ◌+◌, ◌-◌, ◌<◌, ◌≤◌, Bool, true, false, not, ◌&&◌, ◌||◌, ◌==◌, cond, List, [], ◌∷◌, ◌++◌, length, Option, Some, None, append_assoc, arith, ◌⊎◌, inl, inr}
+use Rattle.std.proofs.Common.{◌≡◌, ◌∙◌, ap, sym, subst, refl, ℕ, ◌<◌, Bool, true, false, not, ◌||◌, ◌==◌, cond, List, [], ◌∷◌, ◌++◌, length, Option, Some, None, append_assoc, arith, inl, inr}
 use Rattle.std.specs.List.{list_all}
-use Rattle.std.proofs.lemmas.Bool.{and_parts, and_from, not-true, eqb-true, cond-true, cond-false, leb-true, eqb-false}
+use Rattle.std.proofs.lemmas.Bool.{and_parts, and_from, eqb-true, cond-true, leb-true}
 use Rattle.lr_rules.specs.declared.civil.Civil.{Civil}
-use Rattle.lr_state.specs.Grammar.{is_blank, is_other, is_digit, is_end, IsNumber, IsClockTime, IsTime, IsDated}
-use Rattle.lr_state.specs.Reading.{Number, Clock, Parts, HasParts, before, from_first, past_gap, behind, two_in, four_in, clock_in, time_in, parts_in, ◌>>=◌}
+use Rattle.lr_state.specs.Grammar.{is_blank, is_other, is_digit, IsNumber, IsClockTime, IsTime, IsDated}
+use Rattle.lr_state.specs.Reading.{Clock, Parts, HasParts, before, from_first, past_gap, behind, two_in, four_in, clock_in, time_in, parts_in, ◌>>=◌}
 use Rattle.lr_state.proofs.Names.{starts, cut-complete, cut-sound}
 use Rattle.lr_state.proofs.Numbers.{no_digit, two-sound, two-complete, four-sound, four-complete}
 

@@ -1,8 +1,8 @@
 -- Numbers as they are written are numbers of the grammar.
-use Rattle.std.proofs.Common.{◌≡◌, ◌∙◌, ap, sym, subst, refl, ℕ, ◌+◌, ◌-◌, ◌*◌, ◌/◌, ◌%◌, ◌<◌, ◌≤◌, Bool, true, false, not, ◌&&◌, cond, List, [], ◌∷◌, length, arith, nat_lt, nat_le}
+use Rattle.std.proofs.Common.{◌≡◌, refl, ℕ, ◌+◌, ◌*◌, ◌/◌, ◌%◌, ◌<◌, ◌≤◌, Bool, true, false, not, cond, List, [], ◌∷◌, arith, nat_lt}
 use Rattle.std.specs.List.{list_all}
-use Rattle.std.proofs.lemmas.Bool.{and_parts, and_from, cond-true, cond-false, ltb-true, ltb-false, le-leb, leb-true, eqb-true}
-use Rattle.lr_state.specs.Grammar.{is_digit, is_newline, value_from, IsNumber}
+use Rattle.std.proofs.lemmas.Bool.{and_parts, and_from, ltb-true, ltb-false, le-leb, leb-true, eqb-true}
+use Rattle.lr_state.specs.Grammar.{is_digit, is_newline, IsNumber}
 use Rattle.lr_state.specs.Written.{decimal}
 
 digit : (d : ℕ) → d < 10 → is_digit (48 + d) ≡ true

@@ -1,5 +1,5 @@
 -- The lines that are left to read.
-use Rattle.std.proofs.Common.{◌≡◌, ◌∙◌, ap, sym, subst, ℕ, List, [], ◌∷◌, ◌+◌, ◌<◌, ◌≤◌, length, Option, Some, None, IfSome, Result, Ok, Err, ◌⊎◌, inl, inr, arith}
+use Rattle.std.proofs.Common.{◌≡◌, ◌∙◌, ap, subst, ℕ, List, ◌∷◌, ◌+◌, ◌<◌, ◌≤◌, length, Option, Some, None, IfSome, Ok, Err, inl, inr, arith}
 use Rattle.std.specs.Borrow.{Bor}
 use Rattle.lr_rules.specs.declared.fault.StateKind.{StateKind}
 use Rattle.lr_state.specs.Answer.{LineSaysOnly}

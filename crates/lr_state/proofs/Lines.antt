@@ -1,13 +1,13 @@
 -- What a line says, and that it says nothing else.
-use Rattle.std.proofs.Common.{◌≡◌, ◌∙◌, ap, sym, subst, refl, ℕ, ℤ, pos, Bool, true, false, cond, List, [], ◌∷◌, ◌++◌, Option, Some, None, IsSome, is_some, Result, Ok, Err, inl, inr, arith}
+use Rattle.std.proofs.Common.{◌≡◌, ◌∙◌, ap, sym, subst, refl, ℕ, ℤ, pos, true, false, List, [], ◌∷◌, ◌++◌, Option, Some, None, is_some, Result, Ok, Err, inl, inr}
 use Rattle.std.proofs.Props.{props}
 use Rattle.lr_rules.specs.Civil.{IsMoment}
 use Rattle.lr_rules.specs.declared.civil.Civil.{Civil}
 use Rattle.lr_rules.specs.declared.fault.StateKind.{StateKind}
 use Rattle.lr_rules.specs.declared.fault.StateKind.TheVariants.{TooBig, BadTop, BadName, BadDate, Twice}
 use Rattle.lr_state.specs.Answer.{LineSays, LineSaysOnly}
-use Rattle.lr_state.specs.Grammar.{IsNamed, IsDated, Adds}
-use Rattle.lr_state.specs.Reading.{Named, Parts, HasParts, IsMomentOf, named_answer, parts_behind, parts_in, name_in, checked}
+use Rattle.lr_state.specs.Grammar.{IsNamed, IsDated}
+use Rattle.lr_state.specs.Reading.{Named, Parts, HasParts, IsMomentOf, parts_in, name_in, checked}
 use Rattle.lr_state.specs.Table.{Entry, moment_of}
 use Rattle.lr_state.proofs.Names.{named-sound, named-complete}
 use Rattle.lr_state.proofs.Dates.{parts_of, parts-sound, parts-complete}

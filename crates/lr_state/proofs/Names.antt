@@ -1,5 +1,5 @@
 -- Names in front of lines: the reader's steps and the grammar agree.
-use Rattle.std.proofs.Common.{◌≡◌, ◌∙◌, ap, sym, subst, refl, ℕ, Bool, true, false, not, ◌||◌, ◌&&◌, ◌==◌, cond, List, [], ◌∷◌, ◌++◌, length, take, drop, map, Option, Some, None, append_assoc, ◌⊎◌, inl, inr}
+use Rattle.std.proofs.Common.{◌≡◌, ◌∙◌, ap, sym, subst, refl, ℕ, Bool, true, false, not, ◌||◌, ◌==◌, cond, List, [], ◌∷◌, ◌++◌, take, map, Option, Some, None, append_assoc, ◌⊎◌, inl, inr}
 use Rattle.std.specs.List.{list_all, flat_map}
 use Rattle.std.proofs.lemmas.Bool.{and_parts, and_from, not-true, eqb-true, cond-true, cond-false}
 use Rattle.lr_state.specs.Grammar.{Sign, spelling, is_sign, byte_of, is_blank, is_other, is_end, IsQuoted, IsBare, IsNamed}

@@ -1,5 +1,5 @@
 -- Pieces written one behind the other.
-use Rattle.std.proofs.Common.{◌≡◌, ◌∙◌, ap, sym, refl, ℕ, ◌+◌, ◌<◌, ◌≤◌, List, [], ◌∷◌, ◌++◌, length, take, append_assoc, length-append, arith, get_or}
+use Rattle.std.proofs.Common.{◌∙◌, ap, ℕ, List, ◌++◌, take, append_assoc, length-append, arith}
 use Rattle.lr_state.specs.Piece.{Writes}
 
 pub then_writes : (o m n : List ℕ) (a b c : ℕ) (p q : List ℕ) → Writes o a m b p → Writes m b n c q → Writes o a n c (p ++ q)

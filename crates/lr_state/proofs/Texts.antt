@@ -1,8 +1,8 @@
 -- What is written for a table says that table.
-use Rattle.std.proofs.Common.{◌≡◌, ◌∙◌, ap, sym, subst, refl, ℕ, ℤ, pos, negsuc, ◌+◌, ◌<◌, ◌≤◌, ◌≤ℤ◌, unsigned_abs, Bool, true, false, not, ◌&&◌, ◌||◌, ◌==◌, cond, List, [], ◌∷◌, ◌++◌, length, map, Option, Some, None, is_some, Ok, inl, inr, append_assoc, arith, nat_lt}
+use Rattle.std.proofs.Common.{◌≡◌, ◌∙◌, ap, sym, subst, refl, ℕ, ℤ, pos, negsuc, ◌+◌, ◌<◌, ◌≤◌, ◌≤ℤ◌, unsigned_abs, Bool, true, false, not, ◌&&◌, ◌||◌, ◌==◌, cond, List, [], ◌∷◌, ◌++◌, length, map, Option, Some, None, is_some, Ok, inl, inr, append_assoc, arith}
 use Rattle.std.specs.List.{list_all, list_any, flat_map, slice_split, onto_first}
 use Rattle.std.specs.Str.{bytes_eq}
-use Rattle.std.proofs.lemmas.Bool.{and_parts, and_from, not-true, cond-true, cond-false, le-ltb}
+use Rattle.std.proofs.lemmas.Bool.{and_parts, and_from, not-true, le-ltb}
 use Rattle.std.proofs.lemmas.List.{append-nil}
 use Rattle.std.proofs.lemmas.List.Folds.{list_all-append}
 use Rattle.std.proofs.lemmas.List.Splits.{slice_split-cons_no}
@@ -10,7 +10,7 @@ use Rattle.jiff_core.proofs.CalendarLemmas.{days_in_month_bounds}
 use Rattle.jiff_core.proofs.SignedLemmas.{signed_arith}
 use Rattle.lr_rules.specs.Path.{is_bad, has_bad_byte}
 use Rattle.lr_rules.specs.declared.civil.Civil.{Civil}
-use Rattle.lr_state.specs.Grammar.{Sign, spelling, is_sign, byte_of, is_newline, is_digit, IsNumber, IsNamed, IsDated, LinesSay, TextSays}
+use Rattle.lr_state.specs.Grammar.{Sign, spelling, is_sign, byte_of, is_newline, IsNumber, IsNamed, IsDated, LinesSay, TextSays}
 use Rattle.lr_state.specs.Table.{Entry, moment_of, is_name, is_table}
 use Rattle.lr_state.specs.Written.{escaped, decimal, moment_text, line_text, line_of, text_of}
 use Rattle.lr_state.proofs.Views.{bytes_swapped}

@@ -1,5 +1,5 @@
 -- The map as clauses see it, and that each call keeps it a table.
-use Rattle.std.proofs.Common.{◌≡◌, ◌∙◌, ap, sym, subst, refl, ℕ, zero, suc, ◌≤◌, length, slice_get, nat_lt, nat_le, Bool, true, false, not, ◌||◌, ◌&&◌, cond, List, [], ◌∷◌, ◌++◌, map, filter, Option, Some, None, IsSome, is_some, Vec, Global, true≢false}
+use Rattle.std.proofs.Common.{◌≡◌, ◌∙◌, ap, sym, subst, refl, ℕ, zero, suc, ◌≤◌, length, slice_get, nat_lt, nat_le, Bool, true, false, not, ◌&&◌, cond, List, [], ◌∷◌, ◌++◌, map, filter, Option, Some, None, IsSome, is_some, Vec, Global, true≢false}
 use Rattle.std.specs.Str.{bytes_eq, is_utf8}
 use Rattle.lr_rules.specs.Path.{has_bad_byte}
 use Rattle.std.specs.Map.{lookup, set_value}

@@ -173,6 +173,7 @@ fn line_of(alloc: Global, state: &State, k: usize) -> Result<String, Fail> {
     Ok(String::from_str(alloc, line)?)
 }
 
+#[tactic(auto, unfolding(crate::specs::Table::is_name))]
 #[test]
 fn tables_are_kept_and_written(rt: HostRuntime) -> Result<(), Fail> {
     let alloc = rt.alloc();

@@ -1,4 +1,4 @@
-use Rattle.std.proofs.Common.{◌∙◌, ap, length, take, drop, ℕ}
+use Rattle.std.proofs.Common.{◌∙◌, ap, drop, ℕ}
 use Rattle.lr_state.specs.Grammar.{is_other}
 use Rattle.lr_state.proofs.Cuts.{drop-first, take-rest}
 use Rattle.lr_state.proofs.moment.skip_blanks.Goals as goal

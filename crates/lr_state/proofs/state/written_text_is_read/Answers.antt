@@ -1,4 +1,4 @@
-use Rattle.std.proofs.Common.{◌≡◌, ◌∙◌, ap, sym, subst, List, true, length, ◌≤◌, Ok}
+use Rattle.std.proofs.Common.{◌≡◌, subst, List, true}
 use Rattle.lr_state.specs.Table.{Entry, is_table}
 use Rattle.lr_state.proofs.Texts.{text-says}
 use Rattle.lr_state.proofs.state.written_text_is_read.Goals as goal

@@ -1,7 +1,7 @@
 use Rattle.std.proofs.Common.{◌≡◌, ◌∙◌, ap, sym, subst, ℕ, List, ◌∷◌, ◌+◌, length, Option, option_map, Err, arith}
 use Rattle.lr_rules.specs.declared.fault.StateKind.{StateKind}
 use Rattle.std.specs.Borrow.{Bor}
-use Rattle.lr_state.specs.Grammar.{Said, LinesSay, lines_behind}
+use Rattle.lr_state.specs.Grammar.{LinesSay, lines_behind}
 use Rattle.lr_state.specs.Reading.{seen}
 use Rattle.lr_state.proofs.Left.{left_len, shorter-left, fault-only, next-onward, next-back}
 use Rattle.lr_state.proofs.text.read_lines.Goals as goal

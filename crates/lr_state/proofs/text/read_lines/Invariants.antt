@@ -1,4 +1,4 @@
-use Rattle.std.proofs.Common.{◌≡◌, ◌+◌, ◌≤◌, ℕ, [], length, option_map}
+use Rattle.std.proofs.Common.{◌+◌, ◌≤◌, [], option_map}
 use Rattle.lr_state.specs.Grammar.{Said, LinesSay, lines_behind}
 use Rattle.lr_state.specs.Reading.{seen}
 use Rattle.lr_state.proofs.Left.{left_len}

@@ -1,4 +1,4 @@
-use Rattle.std.proofs.Common.{◌≡◌, ◌∙◌, ap, refl, List, ℕ, [], ◌∷◌, ◌++◌, false, is_some, map}
+use Rattle.std.proofs.Common.{◌≡◌, ◌∙◌, ap, refl, List, [], ◌∷◌, ◌++◌, false, is_some, map}
 use Rattle.lr_state.specs.Table.{Entry, moment_of, is_table}
 use Rattle.lr_state.proofs.Views.{Held, shown, insert_entry-shown, put-new, table-put}
 use Rattle.lr_state.proofs.state.State.add.Goals as goal

@@ -1,4 +1,4 @@
-use Rattle.std.proofs.Common.{◌≡◌, ◌∙◌, ◌≤◌, ap, sym, subst, List, ℕ, length, Some, slice_get, option_map, map}
+use Rattle.std.proofs.Common.{◌∙◌, ◌≤◌, ap, sym, subst, List, ℕ, length, option_map}
 use Rattle.std.proofs.lemmas.Option.{slice_get-map}
 use Rattle.lr_state.proofs.Views.{shown, table-name, name-short}
 use Rattle.lr_state.proofs.state.State.entry.Goals as goal

@@ -1,4 +1,4 @@
-use Rattle.std.proofs.Common.{rules, ◌≡◌, ◌∙◌, ap, sym, subst, IsSome, Option, None, ℕ, List, map, true≢false}
+use Rattle.std.proofs.Common.{rules, ◌≡◌, ◌∙◌, ap, sym, subst, IsSome, Option, None, List, map, true≢false}
 use Rattle.std.specs.Map.{lookup}
 use Rattle.lr_rules.specs.declared.civil.Civil.{Civil}
 use Rattle.lr_state.specs.Table.{Entry, moment_of, put, is_table}

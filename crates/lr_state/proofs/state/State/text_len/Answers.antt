@@ -1,4 +1,4 @@
-use Rattle.std.proofs.Common.{◌≡◌, ◌∙◌, ap, ℕ, ◌+◌, ◌<◌, List, length, length-append, take, arith}
+use Rattle.std.proofs.Common.{◌∙◌, ap, ◌<◌, length, length-append, take, arith}
 use Rattle.std.specs.List.{flat_map}
 use Rattle.lr_state.specs.Written.{line_of}
 use Rattle.lr_state.proofs.Lengths.{entry-at, flat-next}
