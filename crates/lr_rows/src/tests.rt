@@ -1,0 +1,232 @@
+// Rows worked out by hand: a disk, a call of the program, its answer, and what the disk has behind it.
+use lr_cli::{Outcome, Zone, logrotate, status};
+use lr_host::{OpenFile, Opening, Sink, SinkFault};
+use lr_memhost::{Failing, How, MemHost};
+use lr_rules::{Fault, Listed, Path, Text};
+use std::alloc::Global;
+use std::test::Fail;
+
+// An output that takes everything, and keeps nothing.
+#[derive(Drop)]
+struct Dropped {}
+
+impl Sink for Dropped {
+    ghost use Rattle.std.specs.Prelude.{None};
+
+    ghost taken = { λ _. None };
+
+    ghost faults = { λ _. 0 };
+
+    fn put(&mut self, piece: &[u8]) -> Result<usize, SinkFault> {
+        Ok(piece.len())
+    }
+}
+
+type Files = &'static [(&'static [u8], &'static [u8])];
+
+// The directories are `/`, `/v` and `/etc`.
+#[derive(Clone, Copy)]
+struct Row {
+    conf: &'static [u8],
+    files: Files,
+    failing: Option<Failing>,
+    answer: &'static str,
+    status: u8,
+    after: Files,
+    gone: &'static [&'static [u8]],
+}
+
+const TWO: &[u8] = b"/v/a.log {\nrotate 2\n}\n";
+
+const ROWS: [Row; 6] = [
+    // A log without members.
+    Row {
+        conf: TWO,
+        files: &[(b"/v/a.log", b"C"), (b"/v/b.log", b"D")],
+        failing: None,
+        answer: "Done",
+        status: 0,
+        after: &[(b"/v/a.log.1", b"C"), (b"/v/b.log", b"D")],
+        gone: &[b"/v/a.log", b"/v/a.log.2"],
+    },
+    // A literal log that is missing.
+    Row {
+        conf: b"/v/none.log {\nrotate 2\n}\n",
+        files: &[(b"/v/a.log", b"C")],
+        failing: None,
+        answer: "Missing",
+        status: 1,
+        after: &[(b"/v/a.log", b"C")],
+        gone: &[b"/v/none.log.1"],
+    },
+    // A directory as a log.
+    Row {
+        conf: b"/v {\nrotate 2\n}\n",
+        files: &[(b"/v/a.log", b"C")],
+        failing: None,
+        answer: "NotFile",
+        status: 1,
+        after: &[(b"/v/a.log", b"C")],
+        gone: &[b"/v.1"],
+    },
+    // A configuration of another form.
+    Row {
+        conf: b"/v/a.log {\nrotate many\n}\n",
+        files: &[(b"/v/a.log", b"C")],
+        failing: None,
+        answer: "Conf",
+        status: 1,
+        after: &[(b"/v/a.log", b"C")],
+        gone: &[b"/v/a.log.1"],
+    },
+    // The first call fails.
+    Row {
+        conf: TWO,
+        files: &[(b"/v/a.log", b"C")],
+        failing: Some(Failing {
+            at: 0,
+            how: How::NoEffect,
+        }),
+        answer: "Call",
+        status: 1,
+        after: &[(b"/v/a.log", b"C")],
+        gone: &[b"/v/a.log.1"],
+    },
+    // No call is so late.
+    Row {
+        conf: TWO,
+        files: &[(b"/v/a.log", b"C")],
+        failing: Some(Failing {
+            at: 1000,
+            how: How::NoEffect,
+        }),
+        answer: "Done",
+        status: 0,
+        after: &[(b"/v/a.log.1", b"C")],
+        gone: &[b"/v/a.log"],
+    },
+];
+
+fn file(alloc: Global, bytes: &[u8]) -> Result<OpenFile, Fail> {
+    Ok(OpenFile {
+        bytes: Listed::from_vec(Vec::from_slice(alloc, bytes)?),
+        synced: bytes.len() as u64,
+        mtime: 1_705_190_000,
+        mode: None,
+    })
+}
+
+fn opening(alloc: Global, conf: &[u8], files: Files) -> Result<Opening, Fail> {
+    let mut list = Listed::new(alloc);
+    let mut names = Listed::new(alloc);
+    list.push(file(alloc, conf)?)?;
+    names.push((Path::new(alloc, b"/etc/c")?, 0))?;
+    for (path, bytes) in files {
+        let identity = list.len() as u64;
+        list.push(file(alloc, bytes)?)?;
+        names.push((Path::new(alloc, path)?, identity))?;
+    }
+    let mut dirs = Listed::new(alloc);
+    for dir in [b"/".as_slice(), b"/v", b"/etc"] {
+        dirs.push(Path::new(alloc, dir)?)?;
+    }
+    Ok(Opening {
+        files: list,
+        dirs,
+        others: Listed::new(alloc),
+        names,
+        holds: Listed::new(alloc),
+    })
+}
+
+fn host_of(alloc: Global, row: &Row) -> Result<MemHost, Fail> {
+    let mut failing = Vec::new(alloc);
+    if let Some(one) = row.failing {
+        failing.push(one)?;
+    }
+    let made = MemHost::new(
+        alloc,
+        opening(alloc, row.conf, row.files)?,
+        Vec::new(alloc),
+        failing,
+        Vec::new(alloc),
+        4096,
+    );
+    match made {
+        Ok(host) => Ok(host),
+        Err(_) => Err(Fail::from("the opening is not one of a disk")),
+    }
+}
+
+// The outcome, or its first fault, by name.
+fn name_of(outcome: &Outcome) -> &'static str {
+    match outcome {
+        Outcome::BadWords => "BadWords",
+        Outcome::Held => "Held",
+        Outcome::OutOfMemory => "OutOfMemory",
+        Outcome::Done(report) => match report.faults.as_slice().first() {
+            None => "Done",
+            Some(Fault::Conf { .. }) => "Conf",
+            Some(Fault::Missing(_)) => "Missing",
+            Some(Fault::NotFile(_)) => "NotFile",
+            Some(Fault::Call { .. }) => "Call",
+            Some(_) => "another fault",
+        },
+    }
+}
+
+fn call(alloc: Global, words: &[&[u8]], host: &mut MemHost) -> Result<Outcome, Fail> {
+    let here = Path::new(alloc, b"/h")?;
+    let mut list = Vec::new(alloc);
+    for word in words {
+        list.push(Text::new(alloc, word)?)?;
+    }
+    let mut out = Dropped {};
+    Ok(logrotate(
+        alloc,
+        &list,
+        &here,
+        &Zone::Utc,
+        1_705_190_700,
+        host,
+        &mut out,
+    ))
+}
+
+#[test]
+fn rows(rt: HostRuntime) -> Result<(), Fail> {
+    for row in &ROWS {
+        let mut host = host_of(rt.alloc(), row)?;
+        let outcome = call(rt.alloc(), &[b"-f", b"/etc/c"], &mut host)?;
+        assert_eq!(rt; name_of(&outcome), row.answer);
+        assert_eq!(rt; status(&outcome), row.status);
+        for (path, bytes) in row.after {
+            assert_eq!(rt; host.file(&Path::new(rt.alloc(), path)?), Some(*bytes));
+        }
+        for path in row.gone {
+            assert_eq!(rt; host.file(&Path::new(rt.alloc(), path)?), None);
+        }
+        assert_eq!(rt; host.starved(), 0);
+    }
+    Ok(())
+}
+
+// Words that aren't the program's: no call is made.
+#[test]
+fn words(rt: HostRuntime) -> Result<(), Fail> {
+    let rows: [&[&[u8]]; 5] = [
+        &[b"--frob", b"/etc/c"],
+        &[],
+        &[b"-f"],
+        &[b"-f", b"/etc/c", b"/etc/c"],
+        &[b"-f", b"../c"],
+    ];
+    for words in rows {
+        let mut host = host_of(rt.alloc(), &ROWS[0])?;
+        let outcome = call(rt.alloc(), words, &mut host)?;
+        assert_eq!(rt; name_of(&outcome), "BadWords");
+        assert_eq!(rt; status(&outcome), 2);
+        assert_eq!(rt; host.calls(), 0);
+    }
+    Ok(())
+}
