@@ -24,7 +24,7 @@ fn is_text(bytes: &[u8]) -> bool
 
 /// Whether these bytes are the name of a log.
 #[tactic(auto, unfolding(crate::specs::Table::is_name))]
-fn good(name: &[u8]) -> bool
+pub(crate) fn good(name: &[u8]) -> bool
     ensures { result ≡ is_name name.now }
 {
     let text = is_text(name);

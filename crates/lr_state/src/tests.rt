@@ -1,5 +1,6 @@
 // Tables of texts and answers, worked out by hand.
 use super::*;
+use crate::name::good;
 use lr_rules::{Civil, StateKind};
 use std::alloc::Global;
 use std::test::*;
@@ -173,58 +174,79 @@ fn line_of(alloc: Global, state: &State, k: usize) -> Result<String, Fail> {
     Ok(String::from_str(alloc, line)?)
 }
 
-#[tactic(auto, unfolding(crate::specs::Table::is_name))]
-#[test]
-fn tables_are_kept_and_written(rt: HostRuntime) -> Result<(), Fail> {
-    let alloc = rt.alloc();
-    let old = civil((2023, 1, 12, 0, 5, 0)).ok_or("a moment")?;
-    let edge = civil((2023, 1, 13, 0, 5, 0)).ok_or("a moment")?;
-    let now = civil((2024, 1, 14, 0, 5, 0)).ok_or("a moment")?;
+fn put(state: &mut State, name: &[u8], at: Parts) -> Result<(), Fail> {
+    if !good(name) {
+        return Err("no name of a log".into());
+    }
+    state.set(name, civil(at).ok_or("a moment")?)?;
+    Ok(())
+}
+
+const OLD: Parts = (2023, 1, 12, 0, 5, 0);
+
+const EDGE: Parts = (2023, 1, 13, 0, 5, 0);
+
+const NOW: Parts = (2024, 1, 14, 0, 5, 0);
+
+fn table(alloc: Global) -> Result<State, Fail> {
+    let rows: [(&[u8], Parts); 5] = [
+        (b"/v/a", NOW),
+        (b"/v/b\"\\ c", EDGE),
+        (b"/v/c", OLD),
+        (b"/v/d", NOW),
+        (b"/v/a", OLD),
+    ];
     let mut state = State::new(alloc);
-    assert_eq!(rt; state.text_len(), 29);
-    assert_eq!(rt; first_line(), b"logrotate state -- version 2\n".as_slice());
-    state.set(b"/v/a", old)?;
-    state.set(b"/v/b\"\\ c", edge)?;
-    state.set(b"/v/c", old)?;
-    state.set(b"/v/d", now)?;
-    state.set(b"/v/a", old)?;
+    for (name, at) in rows {
+        put(&mut state, name, at)?;
+    }
+    Ok(state)
+}
+
+const WRITTEN: [&str; 4] = [
+    "\"/v/a\" 2023-1-12-0:5:0\n",
+    "\"/v/b\\\"\\\\ c\" 2023-1-13-0:5:0\n",
+    "\"/v/c\" 2023-1-12-0:5:0\n",
+    "\"/v/d\" 2024-1-14-0:5:0\n",
+];
+
+#[test]
+fn lines_are_written_in_order(rt: HostRuntime) -> Result<(), Fail> {
+    let state = table(rt.alloc())?;
+    let mut text = String::from_str(rt.alloc(), TOP)?;
+    for (k, line) in WRITTEN.iter().enumerate() {
+        assert_eq!(rt; line_of(rt.alloc(), &state, k)?.as_str(), *line);
+        text.push_str(*line)?;
+    }
+    assert_eq!(rt; state.text_len(), text.len() as u64);
+    assert_eq!(rt; first_line(), TOP.as_bytes());
+    let state = State::read(rt.alloc(), text.as_bytes())
+        .ok()
+        .ok_or("no table")?;
     assert_eq!(rt; state.len(), 4);
-    assert_eq!(rt;
-        line_of(alloc, &state, 0)?.as_str(),
-        "\"/v/a\" 2023-1-12-0:5:0\n"
-    );
-    assert_eq!(rt;
-        line_of(alloc, &state, 1)?.as_str(),
-        "\"/v/b\\\"\\\\ c\" 2023-1-13-0:5:0\n"
-    );
-    assert_eq!(rt;
-        line_of(alloc, &state, 3)?.as_str(),
-        "\"/v/d\" 2024-1-14-0:5:0\n"
-    );
-    assert_eq!(rt; state.text_len(), 29 + 23 + 29 + 23 + 23);
+    Ok(())
+}
+
+#[test]
+fn old_entries_of_unused_names_are_left_out(rt: HostRuntime) -> Result<(), Fail> {
+    let mut state = table(rt.alloc())?;
+    let now = civil(NOW).ok_or("a moment")?;
     state.purge(|name: &[u8]| -> bool { name == b"/v/c".as_slice() }, &now);
+    for k in 0..3 {
+        assert_eq!(rt; line_of(rt.alloc(), &state, k)?.as_str(), WRITTEN[k + 1]);
+    }
+    assert_eq!(rt; state.len(), 3);
     assert_eq!(rt; state.get(b"/v/a"), None);
-    assert_eq!(rt; state.get(b"/v/c"), Some(old));
+    Ok(())
+}
+
+#[test]
+fn a_name_with_signs_is_read_and_written(rt: HostRuntime) -> Result<(), Fail> {
+    let text = b"logrotate state -- version 2\n\"/v/a\\\"b\\\\c\" 2024-1-13";
+    let state = State::read(rt.alloc(), text).ok().ok_or("no table")?;
+    assert_eq!(rt; state.get(b"/v/a\"b\\c"), civil((2024, 1, 13, 0, 0, 0)));
     assert_eq!(rt;
-        line_of(alloc, &state, 0)?.as_str(),
-        "\"/v/b\\\"\\\\ c\" 2023-1-13-0:5:0\n"
-    );
-    assert_eq!(rt;
-        line_of(alloc, &state, 1)?.as_str(),
-        "\"/v/c\" 2023-1-12-0:5:0\n"
-    );
-    state.set(b"/v/a", now)?;
-    assert_eq!(rt;
-        line_of(alloc, &state, 3)?.as_str(),
-        "\"/v/a\" 2024-1-14-0:5:0\n"
-    );
-    let read = State::read(
-        alloc,
-        b"logrotate state -- version 2\n\"/v/a\\\"b\\\\c\" 2024-1-13",
-    );
-    let state = read.ok().ok_or("no table")?;
-    assert_eq!(rt;
-        line_of(alloc, &state, 0)?.as_str(),
+        line_of(rt.alloc(), &state, 0)?.as_str(),
         "\"/v/a\\\"b\\\\c\" 2024-1-13-0:0:0\n"
     );
     Ok(())
