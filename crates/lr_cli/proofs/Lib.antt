@@ -1,7 +1,13 @@
 pub mod Because
 pub mod Digits
+pub mod Every
+pub mod Fitting
+pub mod Looking
+pub mod Numbers
 pub mod Plain
 pub mod Renames
+pub mod Seen
 pub mod Sights
+pub mod Stepping
 pub mod Texts
 pub mod Turned

@@ -1,7 +1,9 @@
+pub mod Acts
 pub mod Answer
 pub mod Family
 pub mod Faults
 pub mod Form
+pub mod Looks
 pub mod Member
 pub mod Rotation
 pub mod Status

@@ -1,7 +1,7 @@
 use Rattle.std.proofs.Common.{sym, subst}
 use Rattle.lr_host.proofs.Left.{left_both}
 use Rattle.lr_host.proofs.Known.{seen_can_read}
-use Rattle.lr_cli.specs.Answer.{IsFile, IsDir, IsNothingOrOther}
+use Rattle.lr_cli.specs.Looks.{IsFile, IsDir, IsNothingOrOther}
 use Rattle.lr_cli.proofs.Sights.{sees, quiet_none, quiet_look, quiet_reads, quiet_on}
 use Rattle.lr_cli.proofs.conf.read_conf.Goals as goal
 

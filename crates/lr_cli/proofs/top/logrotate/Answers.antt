@@ -1,6 +1,6 @@
 use Rattle.std.proofs.Common.{◌≡◌, [], refl, ap, ◌∙◌, Err}
 use Rattle.lr_host.proofs.Left.{left_first, left_as}
-use Rattle.lr_cli.specs.Answer.{ChangeNothing}
+use Rattle.lr_cli.specs.Looks.{ChangeNothing}
 use Rattle.lr_cli.proofs.Because.{answered}
 use Rattle.lr_cli.proofs.top.logrotate.Goals as goal
 
