@@ -1,7 +1,12 @@
+pub mod Aside
 pub mod Because
+pub mod Chain
 pub mod Digits
+pub mod MemberPaths
+pub mod Numbers
 pub mod Plain
 pub mod Renames
 pub mod Sights
 pub mod Texts
 pub mod Turned
+pub mod Walks
