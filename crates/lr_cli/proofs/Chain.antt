@@ -67,7 +67,7 @@ moved_other log p k m i j n a b = put_other (put (names (world p)) (member_at lo
 abbrev pub AreGaps : Path → ℕ → List ℕ → Past → Type 0
 AreGaps log top ks p = (m : ℕ) → IsNumber m → m ≤ top → (In m ks → ⊥) → names (world p) (member_at log m) ≡ thing.Nothing
 
-split : (a b : ℕ) → (a < b) ⊎ (a ≡ b) ⊎ (b < a)
+pub split : (a b : ℕ) → (a < b) ⊎ (a ≡ b) ⊎ (b < a)
 split a b = ⊎_elim (λ e. inr (inl e)) (λ ne. by (nat_lt a b) refl ne) (same_or_not a b)
   where
     by : (t : Bool) → nat_lt a b ≡ t → (a ≡ b → ⊥) → (a < b) ⊎ (a ≡ b) ⊎ (b < a)

@@ -2,6 +2,7 @@ pub mod Aside
 pub mod Because
 pub mod Chain
 pub mod Digits
+pub mod FamilyTurned
 pub mod MemberPaths
 pub mod Numbers
 pub mod Plain
