@@ -102,3 +102,86 @@ ended log (suc c) numbers u q small w = go (list_any (λ number. number == suc c
       gone = λ h. quiet_members log u q (suc c + 1) w (omega arith, omega arith) ∙ h (omega arith) (λ i. let t : list_any (λ number. number == suc c) numbers ≡ true = in_any (suc c) numbers i in cc);
       kept = λ m n ne. quiet_members log u q m w n;
     }
+
+-- What a turn leaves, member by member.
+turned_first : (before : ℕ → Thing) (log : Thing) (count : ℕ) → 1 ≤ count → turned before log count 1 ≡ log
+turned_first before log count le = ap (λ b. cond b log thing.Nothing) (le-leb 1 count le)
+
+turned_up : (before : ℕ → Thing) (log : Thing) (count k : ℕ) → suc (suc k) ≤ count → turned before log count (suc (suc k)) ≡ before (suc k)
+turned_up before log count k le = ap (λ b. cond b (before (suc k)) thing.Nothing) (le-leb (suc (suc k)) count le)
+
+not_le : (m count : ℕ) (b : Bool) → nat_le m count ≡ b → count < m → b ≡ false
+not_le m count true e lt = absurd (let le : m ≤ count = leb-true m count e in omega arith)
+not_le m count false e lt = refl
+
+turned_out : (before : ℕ → Thing) (log : Thing) (count m : ℕ) → count < m → turned before log count m ≡ thing.Nothing
+turned_out before log count zero lt = refl
+turned_out before log count (suc zero) lt = ap (λ b. cond b log thing.Nothing) (not_le 1 count (nat_le 1 count) refl lt)
+turned_out before log count (suc (suc k)) lt = ap (λ b. cond b (before (suc k)) thing.Nothing) (not_le (suc (suc k)) count (nat_le (suc (suc k)) count) refl lt)
+
+module _ (log : Path) (count : ℕ) (numbers : List ℕ) (p q : Past) (path : path_fault log ≡ None) (small : count < 4294967295) (a : AreMembers log (names (world p)) numbers) (s : Moved log count numbers p q) where
+  abbrev t : Past
+  t = s.turning
+
+  abbrev u : Past
+  u = renamed log s.turning
+
+  at_end : Ended log count numbers u q
+  at_end = ended log count numbers u q small s.rest
+
+  first_now : names (world u) (member_at log 1) ≡ thing.File s.file.0
+  first_now = put_here (put (names (world t)) log thing.Nothing) (member_at log 1) (member_at log 1) (names (world t) log) refl ∙ s.file.1
+
+  rename_other : (x : Path) → (x ≡ member_at log 1 → ⊥) → (x ≡ log → ⊥) → names (world u) x ≡ names (world t) x
+  rename_other x m l = put_other (put (names (world t)) log thing.Nothing) (member_at log 1) x (names (world t) log) m ∙ put_other (names (world t)) log x thing.Nothing l
+
+  rename_member : (m : ℕ) → IsNumber m → 1 < m → names (world u) (member_at log m) ≡ names (world t) (member_at log m)
+  rename_member m n lt = rename_other (member_at log m) (λ e. let same : m ≡ 1 = member_same log m 1 n (omega arith, omega arith) e in omega arith) (λ e. member_other log m path (omega (arith, n.1)) (sym e))
+
+  pub log_gone : names (world u) log ≡ thing.Nothing
+  log_gone = put_other (put (names (world t)) log thing.Nothing) (member_at log 1) log (names (world t) log) (λ e. member_other log 1 path (omega arith) e) ∙ put_here (names (world t)) log log thing.Nothing refl
+
+  abbrev result : ℕ → Thing
+  result m = turned (λ k. names (world p) (member_at log k)) (thing.File s.file.0) count m
+
+  -- the member that is one too many
+  one_gone : names (world q) (member_at log (count + 1)) ≡ thing.Nothing
+  one_gone = at_end.gone (λ some none. rename_member (count + 1) (omega arith, omega arith) (omega arith) ∙ (s.up count some (omega arith) ∙ a.others count (some, omega arith) (λ c. none (contains_in count numbers c))))
+
+  below : (m : ℕ) → IsNumber m → m ≤ count → names (world u) (member_at log m) ≡ result m
+  below zero n le = absurd (omega (arith, n.0))
+  below (suc zero) n le = first_now ∙ sym (turned_first (λ k. names (world p) (member_at log k)) (thing.File s.file.0) count le)
+  below (suc (suc k)) n le =
+      rename_member (suc (suc k)) n (omega arith) ∙ (subst (λ (m : ℕ). names (world t) (member_at log m) ≡ names (world p) (member_at log (suc k))) (omega arith) (s.up (suc k) (omega arith) (omega arith))
+      ∙ sym (turned_up (λ k. names (world p) (member_at log k)) (thing.File s.file.0) count k le))
+
+  pub members_now : (m : ℕ) → IsNumber m → names (world q) (member_at log m) ≡ result m
+  members_now m n = ⊎_elim (λ lt. at_end.kept m n (λ e. omega arith) ∙ below m n (omega arith)) (λ rest. ⊎_elim (λ e. here e) (λ lt. over lt) rest) (split m (count + 1))
+    where
+      here : m ≡ count + 1 → names (world q) (member_at log m) ≡ result m
+      here e = subst (λ (x : ℕ). names (world q) (member_at log x) ≡ thing.Nothing) (sym e) one_gone ∙ sym (turned_out (λ k. names (world p) (member_at log k)) (thing.File s.file.0) count m (omega arith))
+
+      over : count + 1 < m → names (world q) (member_at log m) ≡ result m
+      over lt = at_end.kept m n (λ e. omega arith) ∙ (rename_member m n (omega arith) ∙ (s.above m n lt ∙ sym (turned_out (λ k. names (world p) (member_at log k)) (thing.File s.file.0) count m (omega arith))))
+
+  no_member : IsNoMember log log
+  no_member m n e = member_other log m path (omega (arith, n.1)) e
+
+  file_same : (f g : ℕ) → thing.File f ≡ thing.File g → g ≡ f
+  file_same f g e = cc
+
+  pub log_first : (names (world p) log ≡ thing.File s.file.0) ⊎ ((names (world p) log ≡ thing.Nothing) × ((world p).drawn ≤ s.file.0))
+  log_first = ⊎_elim (λ same. inl (sym same ∙ s.file.1)) (λ new. inr (new.0, subst (λ (g : ℕ). (world p).drawn ≤ g) (file_same s.file.0 new.1.0 (sym s.file.1 ∙ new.1.1)) new.1.2)) (s.aside.others log no_member)
+
+  renamed_drawn : (world t).drawn ≤ (world u).drawn
+  renamed_drawn = drawn_grows (world t) (Rattle.lr_host.specs.World.step (world t) (Renames log (member_at log 1)))
+
+  pub log_last : (names (world q) log ≡ thing.Nothing) ⊎ ((g : ℕ) × (names (world q) log ≡ thing.File g) × ((world t).drawn ≤ g))
+  log_last = ⊎_elim (λ same. inl (same ∙ log_gone)) (λ new. inr (new.1.0, new.1.1, omega (arith, new.1.2, renamed_drawn))) (at_end.aside.others log no_member)
+
+  pub others_now : (x : Path) → (x ≡ log → ⊥) → IsNoMember log x → IsOrMade p q x
+  others_now x l n = or_made_on p t q x s.aside.drawn (s.aside.others x n)
+      (or_made_on t u q x renamed_drawn (inl (rename_other x (n 1 (omega arith, omega arith)) l)) (at_end.aside.others x n))
+
+  pub until_end : IsBehind u q
+  until_end = at_end.aside.behind

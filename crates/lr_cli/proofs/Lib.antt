@@ -3,6 +3,7 @@ pub mod Because
 pub mod Chain
 pub mod Digits
 pub mod FamilyTurned
+pub mod Fed
 pub mod MemberPaths
 pub mod Numbers
 pub mod Plain
