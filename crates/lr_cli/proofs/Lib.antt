@@ -2,13 +2,16 @@ pub mod Aside
 pub mod Because
 pub mod Chain
 pub mod Digits
+pub mod Drawn
 pub mod FamilyTurned
 pub mod Fed
 pub mod MemberPaths
+pub mod MembersFound
 pub mod Numbers
 pub mod Plain
 pub mod Renames
 pub mod Sights
 pub mod Texts
 pub mod Turned
+pub mod TurnedLaw
 pub mod Walks

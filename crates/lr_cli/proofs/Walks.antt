@@ -65,10 +65,10 @@ last_attached log p _ q e (another {q = r} {e = d} n f) is other =
     let s = front_same r q d e is in
     (subst (NoMemberAttached log p) s.0 n, subst (AttachesNone log) s.1 (attaches_none log d f))
 
-before_last : (log : Path) (p q : Past) (e : Entry) (es : List Entry) → Made p es q → NoMemberAttached log p (q ▸ e) → NoMemberAttached log p q × AttachesNone log e
+pub before_last : (log : Path) (p q : Past) (e : Entry) (es : List Entry) → Made p es q → NoMemberAttached log p (q ▸ e) → NoMemberAttached log p q × AttachesNone log e
 before_last log p q e es m n = last_attached log p (q ▸ e) q e n refl (λ same. let a = made_size p q es m in let b : size p ≡ size q + 1 = ap size same in omega arith)
 
-changes_more : (e : Entry) (es : List Entry) → filter is_change (reverse (e ∷ es)) ≡ filter is_change (reverse es) ++ filter is_change (e ∷ [])
+pub changes_more : (e : Entry) (es : List Entry) → filter is_change (reverse (e ∷ es)) ≡ filter is_change (reverse es) ++ filter is_change (e ∷ [])
 changes_more e es = ap (filter is_change) (reverse-append (e ∷ []) es) ∙ filter-append is_change (reverse es) (e ∷ [])
 
 -- what the tool left is such a walk
