@@ -1,5 +1,6 @@
 pub mod Aside
 pub mod Because
+pub mod CallTurned
 pub mod Chain
 pub mod Digits
 pub mod Drawn
