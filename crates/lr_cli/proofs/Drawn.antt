@@ -1,13 +1,13 @@
 -- In a journal each file that is held or named was drawn, and no other has bytes.
-use Rattle.std.proofs.Common.{◌≡◌, ◌⊎◌, inl, inr, ⊎_elim, ℕ, zero, suc, ◌+◌, ◌-◌, ◌<◌, ◌≤◌, Bool, true, false, cond, nat_eq, eqb-true, refl, sym, ◌∙◌, ap, subst, arith, List, [], ◌∷◌, ◌++◌, length, drop, take, bytes_eq, Option, Some, None, All}
+use Rattle.std.proofs.Common.{◌≡◌, ⊎_elim, ℕ, zero, suc, ◌+◌, ◌-◌, ◌<◌, ◌≤◌, Bool, true, false, cond, nat_eq, eqb-true, refl, ◌∙◌, ap, subst, arith, List, [], ◌∷◌, ◌++◌, length, drop, take, bytes_eq, Option, Some, None, All}
 use Rattle.lr_rules.specs.declared.path.Path.{Path}
 use Rattle.lr_host.specs.declared.thing.Thing.{Thing}
 use Rattle.lr_host.specs.declared.thing.Thing.TheVariants as thing
 use Rattle.lr_host.specs.declared.entry.Entry.{Entry}
-use Rattle.lr_host.specs.declared.entry.Entry.TheVariants.{Attach, Feed, Detach, Makes, MakesDir, Appends, Truncates, Cut}
+use Rattle.lr_host.specs.declared.entry.Entry.TheVariants.{Attach, Feed, Detach, Makes, Appends, Truncates, Cut}
 use Rattle.lr_host.specs.declared.journal.Opening.{Opening}
 use Rattle.lr_host.specs.declared.journal.OpenFile.{OpenFile}
-use Rattle.lr_host.specs.World.{World, Past, Opens, ◌▸◌, world, opened, effect, Names, names, names_after, put, Change, Puts, Moves, Drops, changed, Step, Stays, Adds, Settles, Keeps, step, making, makes, drawn_by, drawn_after, durable_after, pending_after, bytes_after, holds_after, attached, holds_file, is_file, length_of, cut_to, opening_file, opening_hold, opening_names, named_at_first, in_list}
+use Rattle.lr_host.specs.World.{World, Past, Opens, ◌▸◌, world, effect, Names, names, names_after, put, Change, Puts, Moves, Drops, changed, Step, Stays, Adds, Settles, Keeps, step, making, makes, drawn_by, drawn_after, durable_after, pending_after, bytes_after, holds_after, attached, holds_file, is_file, length_of, cut_to, opening_file, opening_hold, opening_names, named_at_first, in_list}
 use Rattle.lr_host.specs.Opening.{IsValid, IsJournal}
 use Rattle.lr_host.proofs.Names.{put_cases}
 use Rattle.lr_cli.proofs.Fed.{IsDrawn}

@@ -1,23 +1,22 @@
 -- The change entries of a rotation turn the family of the log.
-use Rattle.std.proofs.Common.{◌≡◌, ◌⊎◌, inl, inr, ⊎_elim, ℕ, zero, suc, ◌+◌, ◌<◌, ◌≤◌, Bool, true, false, cond, ◌==◌, nat_lt, nat_le, ltb-true, lt-ltb, leb-true, le-leb, refl, sym, ◌∙◌, ap, subst, arith, List, [], ◌∷◌, ◌++◌, map, Option, None}
+use Rattle.std.proofs.Common.{◌≡◌, ◌⊎◌, inl, inr, ⊎_elim, ℕ, zero, suc, ◌+◌, ◌<◌, ◌≤◌, Bool, true, false, cond, ◌==◌, nat_lt, nat_le, ltb-true, lt-ltb, leb-true, le-leb, refl, sym, ◌∙◌, ap, subst, arith, List, [], ◌∷◌, ◌++◌, map, None}
 use Rattle.std.specs.List.{list_any}
 use Rattle.lr_rules.specs.declared.path.Path.{Path}
 use Rattle.lr_rules.specs.Path.{path_fault}
 use Rattle.lr_host.specs.declared.thing.Thing.{Thing}
 use Rattle.lr_host.specs.declared.thing.Thing.TheVariants as thing
-use Rattle.lr_host.specs.declared.entry.Entry.{Entry}
 use Rattle.lr_host.specs.declared.entry.Entry.TheVariants.{Renames}
 use Rattle.lr_host.specs.World.{Past, ◌▸◌, world, names, put}
 use Rattle.lr_host.specs.Fits.{IsFileAt}
 use Rattle.lr_host.proofs.Names.{put_here, put_other}
 use Rattle.lr_cli.specs.Member.{IsNumber}
 use Rattle.lr_cli.specs.Rotation.{member_at, unlink_of, move_of, leftovers, moved, one_too_many, rotation}
-use Rattle.lr_cli.specs.Family.{AreMembers, turned, IsBehind, itself, one_more}
+use Rattle.lr_cli.specs.Family.{AreMembers, turned, IsBehind}
 use Rattle.lr_cli.proofs.MemberPaths.{member_same, member_other}
-use Rattle.lr_cli.proofs.Numbers.{In, FallsFrom, contains_in, in_contains, in_or_not, in_filter, filter_in, falls_filter, falls, is_number, in_any, any_in}
-use Rattle.lr_cli.proofs.Walks.{Quiet, Walk}
-use Rattle.lr_cli.proofs.Aside.{IsNoMember, IsOrMade, Aside, aside_on, behind_on, or_made_on, quiet_aside, quiet_members, drawn_grows}
-use Rattle.lr_cli.proofs.Chain.{Dropped, Shifted, AreGaps, drops, moves, split}
+use Rattle.lr_cli.proofs.Numbers.{In, FallsFrom, contains_in, in_or_not, in_filter, filter_in, falls_filter, falls, is_number, in_any}
+use Rattle.lr_cli.proofs.Walks.{Walk}
+use Rattle.lr_cli.proofs.Aside.{IsNoMember, IsOrMade, Aside, aside_on, or_made_on, quiet_aside, quiet_members, drawn_grows}
+use Rattle.lr_cli.proofs.Chain.{Dropped, AreGaps, drops, moves, split}
 
 abbrev pub renamed : Path → Past → Past
 renamed log t = t ▸ Renames log (member_at log 1)

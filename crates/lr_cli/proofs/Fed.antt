@@ -1,5 +1,5 @@
 -- The bytes of files, where the tool renames and unlinks alone: the old ones, or none where the file was made, and then what writers fed.
-use Rattle.std.proofs.Common.{◌≡◌, ◌⊎◌, inl, inr, ⊎_elim, ℕ, ℤ, ◌+◌, ◌<◌, ◌≤◌, Bool, true, false, cond, nat_eq, nat_le, leb-true, le-leb, eqb-true, refl, sym, ◌∙◌, ap, subst, arith, List, [], ◌∷◌, ◌++◌, length, drop, append_assoc, append-nil, Option, Some, None}
+use Rattle.std.proofs.Common.{◌≡◌, ⊎_elim, ℕ, ℤ, ◌+◌, ◌<◌, ◌≤◌, Bool, true, false, cond, nat_eq, nat_le, leb-true, le-leb, eqb-true, refl, sym, ◌∙◌, ap, subst, arith, List, [], ◌∷◌, ◌++◌, length, drop, append_assoc, append-nil, Option, Some, None}
 use Rattle.std.proofs.Math.Seq.{drop-append_seam}
 use Rattle.lr_rules.specs.declared.path.Path.{Path}
 use Rattle.lr_host.specs.declared.thing.Thing.{Thing}
@@ -7,14 +7,14 @@ use Rattle.lr_host.specs.declared.thing.Thing.TheVariants as thing
 use Rattle.lr_host.specs.declared.entry.Entry.{Entry}
 use Rattle.lr_host.specs.declared.entry.Entry.TheVariants as entry
 use Rattle.lr_host.specs.declared.entry.Entry.TheVariants.{Attach, Feed, Flush, Detach, Starts, Renames, Makes, MakesDir, Appends, Truncates, Unlinks}
-use Rattle.lr_host.specs.World.{World, Past, ◌▸◌, world, names, put, step, making, makes, drawn_after, holds_file, attached}
+use Rattle.lr_host.specs.World.{World, Past, ◌▸◌, world, names, put, making, makes, drawn_after, holds_file, attached}
 use Rattle.lr_host.specs.Told.{IsWriters, IsTools, Each}
 use Rattle.lr_host.specs.Steps.{is_change}
 use Rattle.lr_host.proofs.More.{attach_names}
 use Rattle.lr_host.proofs.Names.{put_cases}
 use Rattle.lr_cli.specs.Family.{fed}
 use Rattle.lr_cli.proofs.Walks.{Quiet, here, wrote, looked, Walk}
-use Rattle.lr_cli.proofs.Aside.{drawn_grows, looked_names}
+use Rattle.lr_cli.proofs.Aside.{drawn_grows}
 
 -- Each file that is held or named was drawn, and no other has bytes.
 pub record IsDrawn (w : World) : Type 0 where

@@ -1,5 +1,5 @@
 -- The paths of members: each number has its own, and none is the log's.
-use Rattle.std.proofs.Common.{◌≡◌, ℕ, ◌+◌, ◌<◌, ◌≤◌, ◌^◌, Bool, true, false, ◌||◌, cond, nat_eq, List, [], ◌∷◌, ◌++◌, length, Option, None, refl, ap, ◌∙◌, subst, arith, length-append, eqb-true}
+use Rattle.std.proofs.Common.{◌≡◌, ℕ, ◌+◌, ◌<◌, ◌^◌, Bool, true, false, ◌||◌, cond, nat_eq, List, [], ◌∷◌, ◌++◌, length, None, refl, ap, ◌∙◌, subst, arith, length-append, eqb-true}
 use Rattle.std.specs.Prelude.{decimal}
 use Rattle.std.specs.List.{list_any}
 use Rattle.std.proofs.lemmas.List.{append_cancel_left}
@@ -7,7 +7,7 @@ use Rattle.std.proofs.lemmas.Fmt.{decimal_injective, decimal_is_IsNumeral}
 use Rattle.std.specs.Str.Parse.{AllDigits}
 use Rattle.std.specs.Char.{digit_value}
 use Rattle.lr_rules.specs.declared.path.Path.{Path}
-use Rattle.lr_rules.specs.Path.{path_fault, parent_of, last_of, joined, is_slash, is_empty}
+use Rattle.lr_rules.specs.Path.{path_fault, parent_of, last_of, is_slash, is_empty}
 use Rattle.lr_rules.proofs.PathLemmas.{last_joined, last_plain}
 use Rattle.lr_host.specs.Fits.{IsPart}
 use Rattle.lr_cli.specs.Member.{IsNumber, member_name}

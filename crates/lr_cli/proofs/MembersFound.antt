@@ -1,7 +1,6 @@
 -- A listing of the log's directory, and a look at each member that it lists, say which members stand.
-use Rattle.std.proofs.Common.{◌≡◌, ◌≢◌, ◌⊎◌, inl, inr, ⊎_elim, ℕ, ◌<◌, Bool, true, false, cond, refl, sym, ◌∙◌, ap, subst, arith, List, [], ◌∷◌, ◌++◌, reverse, Option, Some, None, Contains, All}
+use Rattle.std.proofs.Common.{◌≡◌, ◌≢◌, ◌⊎◌, inl, inr, ℕ, Bool, true, false, cond, refl, sym, ◌∙◌, subst, arith, List, [], ◌∷◌, Some, None, Contains, All}
 use Rattle.std.specs.Prelude.{filter, ◌↔◌}
-use Rattle.std.proofs.lemmas.List.{reverse-append, reverse-reverse}
 use Rattle.lr_rules.specs.declared.path.Path.{Path}
 use Rattle.lr_rules.specs.Path.{path_fault, parent_of, last_of}
 use Rattle.lr_host.specs.declared.thing.Thing.{Thing}
@@ -15,7 +14,6 @@ use Rattle.lr_host.specs.World.{World, Past, ◌▸◌, world, names}
 use Rattle.lr_host.specs.Fits.{Fits, Sees, IsFileAt}
 use Rattle.lr_host.specs.Told.{IsIn, Made, at_first, by_writer, by_tool}
 use Rattle.lr_host.specs.Steps.{is_change}
-use Rattle.lr_host.proofs.Left.{filter_reverse}
 use Rattle.lr_cli.specs.Member.{IsNumber, member_name}
 use Rattle.lr_cli.specs.Rotation.{member_at}
 use Rattle.lr_cli.specs.Family.{AreFalling, AreMembers, NoMemberAttached}
