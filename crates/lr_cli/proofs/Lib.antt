@@ -16,3 +16,4 @@ pub mod Texts
 pub mod Turned
 pub mod TurnedLaw
 pub mod Walks
+pub mod WorkedTurn
