@@ -14,7 +14,7 @@ use Rattle.lr_cli.specs.Rotation.{member_at, unlink_of, move_of, leftovers, move
 use Rattle.lr_cli.specs.Family.{AreMembers, turned, IsBehind}
 use Rattle.lr_cli.proofs.MemberPaths.{member_same, member_other}
 use Rattle.lr_cli.proofs.Numbers.{In, FallsFrom, contains_in, in_or_not, in_filter, filter_in, falls_filter, falls, is_number, in_any}
-use Rattle.lr_cli.proofs.Walks.{Walk}
+use Rattle.lr_cli.proofs.Walks.{Quiet, Walk}
 use Rattle.lr_cli.proofs.Aside.{IsNoMember, IsOrMade, Aside, aside_on, or_made_on, quiet_aside, quiet_members, drawn_grows}
 use Rattle.lr_cli.proofs.Chain.{Dropped, AreGaps, drops, moves, split}
 
@@ -35,9 +35,6 @@ all_fall : (log : Path) (p : Past) (numbers : List ℕ) → AreMembers log (name
 all_fall log p numbers a = falls 4294967296 numbers a.falling (λ m i. let n = is_number numbers m a.within i in (n.0, omega (arith, n.1)))
 
 module _ (log : Path) (count : ℕ) (numbers : List ℕ) (p : Past) (small : count < 4294967295) (a : AreMembers log (names (world p)) numbers) where
-  left : List ℕ
-  left = leftovers count numbers
-
   left_falls : FallsFrom 4294967296 (leftovers count numbers)
   left_falls = falls_filter (λ number. nat_lt count number) 4294967296 4294967296 numbers (all_fall log p numbers a) (λ m i t. let n = is_number numbers m a.within i in omega (arith, n.1))
 
@@ -74,6 +71,18 @@ module _ (log : Path) (count : ℕ) (numbers : List ℕ) (p : Past) (small : cou
         file = s.1.2.0;
         rest = s.1.3;
       }
+
+-- the same from an earlier moment, where nothing was changed up to this one
+abbrev pub moved_back : (log : Path) (count : ℕ) (numbers : List ℕ) (p r q : Past) → count < 4294967295 → Quiet log p r → Moved log count numbers r q → Moved log count numbers p q
+moved_back log count numbers p r q small quiet s = record {
+  turning = s.turning;
+  aside = aside_on log p r s.turning (quiet_aside log p r quiet) s.aside;
+  first = s.first;
+  up = λ m some le. s.up m some le ∙ quiet_members log p r m quiet (some, omega arith);
+  above = s.above;
+  file = s.file;
+  rest = s.rest;
+}
 
 -- Behind the log's rename: the member that was one too many is gone.
 pub record Ended (log : Path) (count : ℕ) (numbers : List ℕ) (u q : Past) : Type 0 where

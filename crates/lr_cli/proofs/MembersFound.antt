@@ -41,7 +41,8 @@ made_quiet log p _ _ n (by_tool {es = es} {q = q} {e = e} m i f) h =
     let s = no_changes e (filter is_change es) (is_change e) refl h in
     looked (made_quiet log p q es b.0 m s.1) i f s.0
 
-moment : (log : Path) (p q : Past) (e : Entry) (es : List Entry) → NoMemberAttached log p q → Made p es q → filter is_change es ≡ [] → IsIn e es → Moment log p q e
+-- that of an entry of the tool's
+pub moment : (log : Path) (p q : Past) (e : Entry) (es : List Entry) → NoMemberAttached log p q → Made p es q → filter is_change es ≡ [] → IsIn e es → Moment log p q e
 moment log p _ e _ n at_first h i = absurd i
 moment log p _ e es n (by_writer {q = q} {e = d} m w f) h i =
     let b = before_last log p q d es m n in
@@ -60,7 +61,7 @@ moment log p _ e _ n (by_tool {es = es} {q = q} {e = d} m w f) h i = go (λ ther
     go rest (inr there) = let r = rest there in record { at = r.at; since = r.since; fits = r.fits; until = looked r.until w f s.0 }
 
 -- where a look saw a file, a file stands
-seen_file : (w : World) (t : Thing) (seen : Seen) → Sees w t (Some seen) → seen.kind ≡ kind.File → (g : ℕ) × (t ≡ thing.File g)
+pub seen_file : (w : World) (t : Thing) (seen : Seen) → Sees w t (Some seen) → seen.kind ≡ kind.File → (g : ℕ) × (t ≡ thing.File g)
 seen_file w thing.Nothing seen s k = absurd (let none : Some seen ≡ None = s in cc)
 seen_file w (thing.File g) seen s k = (g, refl)
 seen_file w thing.Directory seen s k = absurd (let dir : seen.kind ≡ kind.Dir = s in cc)

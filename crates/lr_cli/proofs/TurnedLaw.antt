@@ -40,24 +40,25 @@ rotation_turns log count numbers =
     each_append IsTurn (map (unlink_of log) (leftovers count numbers)) (map (move_of log) (moved count numbers) ++ (Renames log (member_at log 1) ∷ one_too_many log count numbers)) (each_unlink log (leftovers count numbers))
     (each_append IsTurn (map (move_of log) (moved count numbers)) (Renames log (member_at log 1) ∷ one_too_many log count numbers) (each_move log (moved count numbers)) (tt, each_last log count numbers))
 
-walk_turned : (log : Path) (count : ℕ) (numbers : List ℕ) (p q : Past) → path_fault log ≡ None → count < 4294967295 → IsDrawn (world p) → AreMembers log (names (world p)) numbers → Walk log p (rotation log count numbers) q → IsTurned log count p q
-walk_turned log count numbers p q path small drawn a w =
-    let s : Moved log count numbers p q = moved_up log count numbers p small a q w in
-    record {
-      turning = s.turning;
-      since = s.aside.behind;
-      until = until_end log count numbers p q path small a s;
-      file = s.file.0;
-      was_log = s.file.1;
-      at_first = log_first log count numbers p q path small a s;
-      members = λ m n. members_now log count numbers p q path small a s m n;
-      log_now = log_last log count numbers p q path small a s;
-      others = λ x l n. others_now log count numbers p q path small a s x l n;
-      bytes = fed_bytes log p q (rotation log count numbers) drawn (rotation_turns log count numbers) w;
-    }
+-- from what stood just before the log's rename
+abbrev pub moved_turned : (log : Path) (count : ℕ) (numbers : List ℕ) (p q : Past) → path_fault log ≡ None → count < 4294967295 → IsJournal p → AreMembers log (names (world p)) numbers → Moved log count numbers p q → Walk log p (rotation log count numbers) q
+    → IsTurned log count p q
+moved_turned log count numbers p q path small j a s w = record {
+  turning = s.turning;
+  since = s.aside.behind;
+  until = until_end log count numbers p q path small a s;
+  file = s.file.0;
+  was_log = s.file.1;
+  at_first = log_first log count numbers p q path small a s;
+  members = λ m n. members_now log count numbers p q path small a s m n;
+  log_now = log_last log count numbers p q path small a s;
+  others = λ x l n. others_now log count numbers p q path small a s x l n;
+  bytes = fed_bytes log p q (rotation log count numbers) (journal_drawn p j) (rotation_turns log count numbers) w;
+}
 
 -- Where the change entries that the tool left are those of the rotation, and no writer attached a member, the family was turned.
 pub turned_law : (log : Path) (count : ℕ) (numbers : List ℕ) (p q : Past) (es : List Entry) → path_fault log ≡ None → count < 4294967295 → IsJournal p → AreMembers log (names (world p)) numbers → NoMemberAttached log p q
     → Made p es q → filter is_change (reverse es) ≡ rotation log count numbers → IsTurned log count p q
 turned_law log count numbers p q es path small j a none made are =
-    walk_turned log count numbers p q path small (journal_drawn p j) a (subst (λ (cs : List Entry). Walk log p cs q) are (made_walk log p q es made none))
+    let w : Walk log p (rotation log count numbers) q = subst (λ (cs : List Entry). Walk log p cs q) are (made_walk log p q es made none) in
+    moved_turned log count numbers p q path small j a (moved_up log count numbers p small a q w) w
