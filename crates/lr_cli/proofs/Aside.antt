@@ -5,7 +5,7 @@ use Rattle.lr_host.specs.declared.thing.Thing.TheVariants as thing
 use Rattle.lr_host.specs.declared.entry.Entry.{Entry}
 use Rattle.lr_host.specs.declared.entry.Entry.TheVariants as entry
 use Rattle.lr_host.specs.declared.entry.Entry.TheVariants.{Attach, Feed, Flush, Detach, Starts, Renames, Makes, MakesDir, Appends, Truncates, Unlinks}
-use Rattle.lr_host.specs.World.{World, Past, ◌▸◌, world, names, Step, Stays, Adds, Settles, Keeps, step, effect, drawn_after}
+use Rattle.lr_host.specs.World.{World, Past, ◌▸◌, world, names, Step, Stays, Adds, Settles, Keeps, step, drawn_after, put}
 use Rattle.lr_host.specs.Told.{IsWriters, IsTools}
 use Rattle.lr_host.specs.Steps.{is_change}
 use Rattle.lr_host.proofs.More.{attach_names}
@@ -107,4 +107,4 @@ moved_aside log p k j i h = one_aside log p (Renames (member_at log k) (member_a
     (λ x n. inl (renamed_other (member_at log k) (member_at log j) x (n k i) (n j h)))
   where
     renamed_other : (from to x : Path) → x ≢ from → x ≢ to → names (world (p ▸ Renames from to)) x ≡ names (world p) x
-    renamed_other from to x a b = put_other (Rattle.lr_host.specs.World.put (names (world p)) from thing.Nothing) to x (names (world p) from) b ∙ put_other (names (world p)) from x thing.Nothing a
+    renamed_other from to x a b = put_other (put (names (world p)) from thing.Nothing) to x (names (world p) from) b ∙ put_other (names (world p)) from x thing.Nothing a

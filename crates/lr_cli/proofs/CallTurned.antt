@@ -1,5 +1,5 @@
 -- A call that lists the log's directory, looks at each member, and then rotates: it turns the family that stood as it began.
-use Rattle.std.proofs.Common.{◌≡◌, ◌⊎◌, inl, inr, ⊎_elim, ℕ, ◌<◌, arith, refl, sym, ◌∙◌, ap, subst, List, [], ◌∷◌, ◌++◌, reverse, Option, Some, None}
+use Rattle.std.proofs.Common.{◌≡◌, inl, inr, ⊎_elim, ℕ, ◌<◌, arith, sym, ◌∙◌, ap, subst, List, [], ◌∷◌, ◌++◌, reverse, Some, None}
 use Rattle.std.specs.Prelude.{filter}
 use Rattle.std.proofs.lemmas.List.{reverse-append, reverse-reverse}
 use Rattle.std.proofs.lemmas.List.Elements.{filter-append}
@@ -69,6 +69,7 @@ stays_file p q x g h is = ⊎_elim (λ same. same ∙ is) (λ new. absurd (clash
     clash : (t : Thing) → t ≡ thing.Nothing → t ≡ thing.File g → ⊥
     clash t a b = cc
 
+-- An entry among others.
 in_append : (e : Entry) (xs ys : List Entry) → IsIn e ys → IsIn e (xs ++ ys)
 in_append e [] ys h = h
 in_append e (x ∷ xs) ys h = inr (in_append e xs ys h)
@@ -114,6 +115,7 @@ pub record IsTurnedWhole (log : Path) (count : ℕ) (p q : Past) : Type 0 where
   pub until : IsBehind first turned.turning
   pub log_stood : names (world first) log ≡ thing.File turned.file
 
+-- The entries of the call are those that found the members, and then the rest.
 module _ (log : Path) (count : ℕ) (numbers : List ℕ) (p q : Past) (es front back : List Entry) (path : path_fault log ≡ None) (none : NoMemberAttached log p q) (made : Made p es q) (are : reverse es ≡ front ++ back) (found : Found log numbers front) where
   backwards : es ≡ reverse back ++ reverse front
   backwards = sym (reverse-reverse es) ∙ (ap reverse are ∙ reverse-append front back)
@@ -124,6 +126,7 @@ module _ (log : Path) (count : ℕ) (numbers : List ℕ) (p q : Past) (es front 
   still : filter is_change (reverse front) ≡ []
   still = filter_reverse is_change front ∙ ap reverse found.still
 
+  -- no member was attached up to the first change
   none_first : NoMemberAttached log p cut.at
   none_first = attached_before log p cut.at q (reverse front) (reverse back) cut.first cut.second none
 
@@ -186,4 +189,11 @@ pub left_turned : (log : Path) (count : ℕ) (numbers : List ℕ) (j k : Journal
 left_turned log count numbers j k path small journal none (is_told {es = es} made t) = (
   call_members log count numbers (past j) (past k) es t.front t.back path none made t.joined t.first,
   call_turns log count numbers (past j) (past k) es t.front t.back path none made t.joined t.first small journal t.second,
+)
+
+pub left_turned_whole : (log : Path) (count : ℕ) (numbers : List ℕ) (j k : Journal) → path_fault log ≡ None → count < 4294967295 → IsJournal (past j) → NoMemberAttached log (past j) (past k)
+    → Left (Then (λ ts. Found log numbers ts × SawFile log ts) (λ ts. filter is_change ts ≡ rotation log count numbers)) (Some j) (Some k) → AreMembers log (names (world (past j))) numbers × IsTurnedWhole log count (past j) (past k)
+left_turned_whole log count numbers j k path small journal none (is_told {es = es} made t) = (
+  call_members log count numbers (past j) (past k) es t.front t.back path none made t.joined t.first.0,
+  call_turns_whole log count numbers (past j) (past k) es t.front t.back path none made t.joined t.first.0 small journal t.second t.first.1,
 )

@@ -23,27 +23,29 @@ AreBelow d [] = Unit {0}
 AreBelow d (c ∷ cs) = IsBelow d c × AreBelow d cs
 
 -- what the names name is below it
-abbrev Names_below : ℕ → Names → Type 0
-Names_below d n = (x : Path) (g : ℕ) → n x ≡ thing.File g → g < d
+abbrev AreNamesBelow : ℕ → Names → Type 0
+AreNamesBelow d n = (x : Path) (g : ℕ) → n x ≡ thing.File g → g < d
 
 no_file : (g : ℕ) → thing.Nothing ≡ thing.File g → ⊥
 no_file g e = cc
 
-put_below : (d : ℕ) (n : Names) (x : Path) (t : Thing) → ((g : ℕ) → t ≡ thing.File g → g < d) → Names_below d n → Names_below d (put n x t)
+-- Names after changes name what is below, where the names before and the changes do.
+put_below : (d : ℕ) (n : Names) (x : Path) (t : Thing) → ((g : ℕ) → t ≡ thing.File g → g < d) → AreNamesBelow d n → AreNamesBelow d (put n x t)
 put_below d n x t here h y g e = ⊎_elim (λ at. here g at.1) (λ old. h y g old.1) (put_cases n x t y (thing.File g) e)
 
 thing_below : (d : ℕ) (x : Path) (t : Thing) (g : ℕ) → IsBelow d (Puts x t) → t ≡ thing.File g → g < d
 thing_below d x t g b e = let c : IsBelow d (Puts x (thing.File g)) = subst (λ (v : Thing). IsBelow d (Puts x v)) e b in c
 
-changed_below : (d : ℕ) (n : Names) (c : Change) → IsBelow d c → Names_below d n → Names_below d (changed c n)
+changed_below : (d : ℕ) (n : Names) (c : Change) → IsBelow d c → AreNamesBelow d n → AreNamesBelow d (changed c n)
 changed_below d n (Puts x t) b h = put_below d n x t (λ g e. thing_below d x t g b e) h
 changed_below d n (Moves from to) b h = put_below d (put n from thing.Nothing) to (n from) (λ g e. h from g e) (put_below d n from thing.Nothing (λ g e. absurd (no_file g e)) h)
 changed_below d n (Drops x) b h = put_below d n x thing.Nothing (λ g e. absurd (no_file g e)) h
 
-after_below : (d : ℕ) (n : Names) (cs : List Change) → AreBelow d cs → Names_below d n → Names_below d (names_after n cs)
+after_below : (d : ℕ) (n : Names) (cs : List Change) → AreBelow d cs → AreNamesBelow d n → AreNamesBelow d (names_after n cs)
 after_below d n [] b h = h
 after_below d n (c ∷ cs) b h = changed_below d (names_after n cs) c b.0 (after_below d n cs b.1 h)
 
+-- below a greater one too
 below_more : (d e : ℕ) (c : Change) → d ≤ e → IsBelow d c → IsBelow e c
 below_more d e (Puts x (thing.File g)) le b = let lt : g < d = b in omega arith
 below_more d e (Puts x thing.Nothing) le b = tt
@@ -64,11 +66,11 @@ drop_below d (suc k) (c ∷ cs) b = drop_below d k cs b.1
 -- The same of what a cut may leave.
 record IsSettled (w : World) : Type 0 where
   held : (v g : ℕ) → w.holds v ≡ Some g → g < w.drawn
-  durable : Names_below w.drawn w.durable
+  durable : AreNamesBelow w.drawn w.durable
   pending : AreBelow w.drawn w.pending
   empty : (id : ℕ) → w.drawn ≤ id → (w.files id).bytes ≡ []
 
-now_named : (w : World) → IsSettled w → Names_below w.drawn (names w)
+now_named : (w : World) → IsSettled w → AreNamesBelow w.drawn (names w)
 now_named w h = after_below w.drawn w.durable w.pending h.pending h.durable
 
 -- a file that the step makes is the next one
@@ -95,11 +97,12 @@ change_below w (Puts x thing.Other) n = tt
 change_below w (Moves from to) n = tt
 change_below w (Drops x) n = tt
 
+-- Any entry leaves it so.
 module _ (w : World) (h : IsSettled w) where
   more : (st : Step) (g : ℕ) → g < w.drawn → g < drawn_after w st
   more st g lt = omega (arith, drawn_grows w st)
 
-  durable_on : (st : Step) → IsNext w st → Names_below (drawn_after w st) (durable_after w st)
+  durable_on : (st : Step) → IsNext w st → AreNamesBelow (drawn_after w st) (durable_after w st)
   durable_on Stays n = h.durable
   durable_on (Adds c) n = λ x g e. more (Adds c) g (h.durable x g e)
   durable_on Settles n = now_named w h
@@ -168,6 +171,7 @@ module _ (w : World) (h : IsSettled w) where
     empty = λ id le. or_empty (makes (step w e) id) (bytes_after w e id) (bytes_on e id (omega (arith, drawn_grows w (step w e))));
   }
 
+-- At a valid opening each held and named identity is one of its files.
 hold_below : (d : ℕ) (hs : List (ℕ × ℕ)) (v g : ℕ) → All (λ h. h.1 < d) hs → opening_hold hs v ≡ Some g → g < d
 hold_below d [] v g a e = absurd (cc)
 hold_below d (h ∷ hs) v g a e = by (λ i. hold_below d hs v g (λ k z lt. a (suc k) z (omega arith)) i) (nat_eq h.0 v) e

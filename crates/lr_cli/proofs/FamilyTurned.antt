@@ -6,17 +6,17 @@ use Rattle.lr_rules.specs.Path.{path_fault}
 use Rattle.lr_host.specs.declared.thing.Thing.{Thing}
 use Rattle.lr_host.specs.declared.thing.Thing.TheVariants as thing
 use Rattle.lr_host.specs.declared.entry.Entry.TheVariants.{Renames}
-use Rattle.lr_host.specs.World.{Past, ◌▸◌, world, names, put}
+use Rattle.lr_host.specs.World.{Past, ◌▸◌, world, names, put, step}
 use Rattle.lr_host.specs.Fits.{IsFileAt}
 use Rattle.lr_host.proofs.Names.{put_here, put_other}
 use Rattle.lr_cli.specs.Member.{IsNumber}
 use Rattle.lr_cli.specs.Rotation.{member_at, unlink_of, move_of, leftovers, moved, one_too_many, rotation}
 use Rattle.lr_cli.specs.Family.{AreMembers, turned, IsBehind}
 use Rattle.lr_cli.proofs.MemberPaths.{member_same, member_other}
-use Rattle.lr_cli.proofs.Numbers.{In, FallsFrom, contains_in, in_or_not, in_filter, filter_in, falls_filter, falls, is_number, in_any}
+use Rattle.lr_cli.proofs.NumberLists.{In, FallsFrom, contains_in, in_or_not, in_filter, filter_in, falls_filter, falls, is_number, in_any}
 use Rattle.lr_cli.proofs.Walks.{Quiet, Walk}
 use Rattle.lr_cli.proofs.Aside.{IsNoMember, IsOrMade, Aside, aside_on, or_made_on, quiet_aside, quiet_members, drawn_grows}
-use Rattle.lr_cli.proofs.Chain.{Dropped, AreGaps, drops, moves, split}
+use Rattle.lr_cli.proofs.ChainMoves.{Dropped, AreGaps, drops, moves, split}
 
 abbrev pub renamed : Path → Past → Past
 renamed log t = t ▸ Renames log (member_at log 1)
@@ -34,6 +34,7 @@ pub record Moved (log : Path) (count : ℕ) (numbers : List ℕ) (p q : Past) : 
 all_fall : (log : Path) (p : Past) (numbers : List ℕ) → AreMembers log (names (world p)) numbers → FallsFrom 4294967296 numbers
 all_fall log p numbers a = falls 4294967296 numbers a.falling (λ m i. let n = is_number numbers m a.within i in (n.0, omega (arith, n.1)))
 
+-- The leftovers are unlinked and the members moved.
 module _ (log : Path) (count : ℕ) (numbers : List ℕ) (p : Past) (small : count < 4294967295) (a : AreMembers log (names (world p)) numbers) where
   left_falls : FallsFrom 4294967296 (leftovers count numbers)
   left_falls = falls_filter (λ number. nat_lt count number) 4294967296 4294967296 numbers (all_fall log p numbers a) (λ m i t. let n = is_number numbers m a.within i in omega (arith, n.1))
@@ -90,6 +91,7 @@ pub record Ended (log : Path) (count : ℕ) (numbers : List ℕ) (u q : Past) : 
   pub gone : (1 ≤ count → (In count numbers → ⊥) → names (world u) (member_at log (count + 1)) ≡ thing.Nothing) → names (world q) (member_at log (count + 1)) ≡ thing.Nothing
   pub kept : (m : ℕ) → IsNumber m → (m ≡ count + 1 → ⊥) → names (world q) (member_at log m) ≡ names (world u) (member_at log m)
 
+-- by an unlink, where one is due
 unlinked_last : (log : Path) (count k : ℕ) (numbers : List ℕ) (u q : Past) → k ≡ count + 1 → count < 4294967295 → Walk log u (unlink_of log k ∷ []) q → Ended log count numbers u q
 unlinked_last log count k numbers u q e small w =
     let d = drops log (k + 1) (k ∷ []) [] u q (omega arith, omega arith, tt) (omega arith) w in
@@ -127,6 +129,7 @@ turned_out before log count zero lt = refl
 turned_out before log count (suc zero) lt = ap (λ b. cond b log thing.Nothing) (not_le 1 count (nat_le 1 count) refl lt)
 turned_out before log count (suc (suc k)) lt = ap (λ b. cond b (before (suc k)) thing.Nothing) (not_le (suc (suc k)) count (nat_le (suc (suc k)) count) refl lt)
 
+-- The log is renamed, and the member that is one too many goes.
 module _ (log : Path) (count : ℕ) (numbers : List ℕ) (p q : Past) (path : path_fault log ≡ None) (small : count < 4294967295) (a : AreMembers log (names (world p)) numbers) (s : Moved log count numbers p q) where
   abbrev t : Past
   t = s.turning
@@ -182,7 +185,7 @@ module _ (log : Path) (count : ℕ) (numbers : List ℕ) (p q : Past) (path : pa
   log_first = ⊎_elim (λ same. inl (sym same ∙ s.file.1)) (λ new. inr (new.0, subst (λ (g : ℕ). (world p).drawn ≤ g) (file_same s.file.0 new.1.0 (sym s.file.1 ∙ new.1.1)) new.1.2)) (s.aside.others log no_member)
 
   renamed_drawn : (world t).drawn ≤ (world u).drawn
-  renamed_drawn = drawn_grows (world t) (Rattle.lr_host.specs.World.step (world t) (Renames log (member_at log 1)))
+  renamed_drawn = drawn_grows (world t) (step (world t) (Renames log (member_at log 1)))
 
   pub log_last : (names (world q) log ≡ thing.Nothing) ⊎ ((g : ℕ) × (names (world q) log ≡ thing.File g) × ((world t).drawn ≤ g))
   log_last = ⊎_elim (λ same. inl (same ∙ log_gone)) (λ new. inr (new.1.0, new.1.1, omega (arith, new.1.2, renamed_drawn))) (at_end.aside.others log no_member)

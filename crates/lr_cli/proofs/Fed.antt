@@ -155,6 +155,7 @@ module _ (p q : Past) (h : Feeds p q) (writer : ℕ) (x : Path) (at : ℤ) where
     none = λ id le. h.none id (omega (arith, grown (names w x)));
   }
 
+-- Each kind of entry.
 feeds_wrote : (p q : Past) (e : Entry) → IsWriters e → Feeds p q → Feeds p (q ▸ e)
 feeds_wrote p q (Attach writer x at) i h = feeds_attached p q h writer x at
 feeds_wrote p q (Feed writer bytes at) i h = feeds_fed p q h writer bytes at

@@ -1,14 +1,14 @@
 pub mod Aside
 pub mod Because
 pub mod CallTurned
-pub mod Chain
+pub mod ChainMoves
 pub mod Digits
 pub mod Drawn
 pub mod FamilyTurned
 pub mod Fed
 pub mod MemberPaths
 pub mod MembersFound
-pub mod Numbers
+pub mod NumberLists
 pub mod Plain
 pub mod Renames
 pub mod Sights

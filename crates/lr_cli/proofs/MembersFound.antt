@@ -18,7 +18,7 @@ use Rattle.lr_cli.specs.Member.{IsNumber, member_name}
 use Rattle.lr_cli.specs.Rotation.{member_at}
 use Rattle.lr_cli.specs.Family.{AreFalling, AreMembers, NoMemberAttached}
 use Rattle.lr_cli.proofs.MemberPaths.{name_part}
-use Rattle.lr_cli.proofs.Numbers.{is_number, contains_in}
+use Rattle.lr_cli.proofs.NumberLists.{is_number, contains_in}
 use Rattle.lr_cli.proofs.Walks.{AttachesNone, Quiet, here, wrote, looked, before_last}
 use Rattle.lr_cli.proofs.Aside.{quiet_members}
 

@@ -14,7 +14,7 @@ use Rattle.lr_host.proofs.Left.{each_append}
 use Rattle.lr_cli.specs.Rotation.{member_at, unlink_of, move_of, leftovers, moved, one_too_many, rotation}
 use Rattle.lr_cli.specs.Family.{AreMembers, NoMemberAttached, IsTurned}
 use Rattle.lr_cli.proofs.Walks.{Walk, made_walk}
-use Rattle.lr_cli.proofs.Fed.{IsTurn, IsDrawn, fed_bytes}
+use Rattle.lr_cli.proofs.Fed.{IsTurn, fed_bytes}
 use Rattle.lr_cli.proofs.Drawn.{journal_drawn}
 use Rattle.lr_cli.proofs.FamilyTurned.{Moved, moved_up, members_now, log_first, log_last, others_now, until_end}
 

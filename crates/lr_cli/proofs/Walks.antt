@@ -30,6 +30,7 @@ abbrev pub Walk : Path → Past → List Entry → Past → Type 0
 Walk log p [] q = Quiet log p q
 Walk log p (e ∷ cs) q = (r : Past) × Quiet log p r × Fits (world r) e × Walk log (r ▸ e) cs q
 
+-- one entry more behind them: a quiet one, or a change
 walk_quiet : (log : Path) (p q : Past) (e : Entry) (cs : List Entry) → ((r : Past) → Quiet log r q → Quiet log r (q ▸ e)) → Walk log p cs q → Walk log p cs (q ▸ e)
 walk_quiet log p q e [] f w = f p w
 walk_quiet log p q e (c ∷ cs) f w = (w.0, w.1, w.2, walk_quiet log (w.0 ▸ c) q e cs f w.3)
@@ -43,6 +44,7 @@ abbrev size : Past → ℕ
 size (Opens o) = 0
 size (p ▸ e) = size p + 1
 
+-- what goes on isn't shorter
 made_size : (p q : Past) (es : List Entry) → Made p es q → size p ≤ size q
 made_size p _ _ at_first = omega arith
 made_size p _ es (by_writer {q = q} m i f) = let r = made_size p q es m in omega arith
@@ -51,11 +53,11 @@ made_size p _ _ (by_tool {es = es} {q = q} m i f) = let r = made_size p q es m i
 front_same : (q r : Past) (e d : Entry) → q ▸ e ≡ r ▸ d → (q ≡ r) × (e ≡ d)
 front_same q r e d h = (cc, cc)
 
+-- an entry that is no attach
 attaches_none : (log : Path) (e : Entry) → ((writer : ℕ) (path : Path) (at : _) → e ≢ Attach writer path at) → AttachesNone log e
 attaches_none log (Attach writer path at) h = absurd (h writer path at refl)
 attaches_none log _ h = tt
 
--- what is said of the last entry
 last_attached : (log : Path) (p r q : Past) (e : Entry) → NoMemberAttached log p r → r ≡ q ▸ e → (p ≡ q ▸ e → ⊥) → NoMemberAttached log p q × AttachesNone log e
 last_attached log p _ q e from_here is other = absurd (other is)
 last_attached log p _ q e (attached {q = r} {writer = writer} {path = path} {at = at} n f) is other =
@@ -65,10 +67,11 @@ last_attached log p _ q e (another {q = r} {e = d} n f) is other =
     let s = front_same r q d e is in
     (subst (NoMemberAttached log p) s.0 n, subst (AttachesNone log) s.1 (attaches_none log d f))
 
+-- before the last entry, and of it
 pub before_last : (log : Path) (p q : Past) (e : Entry) (es : List Entry) → Made p es q → NoMemberAttached log p (q ▸ e) → NoMemberAttached log p q × AttachesNone log e
 before_last log p q e es m n = last_attached log p (q ▸ e) q e n refl (λ same. let a = made_size p q es m in let b : size p ≡ size q + 1 = ap size same in omega arith)
 
-pub changes_more : (e : Entry) (es : List Entry) → filter is_change (reverse (e ∷ es)) ≡ filter is_change (reverse es) ++ filter is_change (e ∷ [])
+changes_more : (e : Entry) (es : List Entry) → filter is_change (reverse (e ∷ es)) ≡ filter is_change (reverse es) ++ filter is_change (e ∷ [])
 changes_more e es = ap (filter is_change) (reverse-append (e ∷ []) es) ∙ filter-append is_change (reverse es) (e ∷ [])
 
 -- what the tool left is such a walk

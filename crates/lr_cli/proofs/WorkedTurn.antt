@@ -1,5 +1,5 @@
 -- A log with two members that is turned with a count of 2, while one writer holds its file and another makes a new log.
-use Rattle.std.proofs.Common.{◌≡◌, ◌⊎◌, inl, inr, ℕ, zero, suc, ◌+◌, ◌≤◌, ◌<◌, Bool, true, false, not, ◌&&◌, cond, bytes_eq, refl, sym, ◌∙◌, ap, subst, arith, Option, Some, None, List, [], ◌∷◌, ◌++◌, length, reverse, pos, All, Contains, decimal, codes}
+use Rattle.std.proofs.Common.{◌≡◌, inl, inr, ℕ, zero, suc, ◌+◌, ◌≤◌, ◌<◌, Bool, true, false, not, ◌&&◌, bytes_eq, refl, sym, ◌∙◌, ap, subst, arith, None, List, [], ◌∷◌, ◌++◌, length, reverse, pos, All, Contains, codes}
 use Rattle.std.specs.Prelude.{slice_index_or, count_by, ◌==◌, filter, IsAscii}
 use Rattle.std.specs.Str.{is_utf8}
 use Rattle.std.proofs.lemmas.Str.{is_utf8-from_IsUtf8, IsUtf8-from_ascii}
@@ -8,7 +8,7 @@ use Rattle.std.proofs.lemmas.List.Elements.{All-cons}
 use Rattle.std.proofs.lemmas.Slice.Eq.{bytes_eq-Decides}
 use Rattle.std.proofs.lemmas.Fmt.{decimal_digit}
 use Rattle.lr_rules.specs.declared.path.Path.{Path}
-use Rattle.lr_rules.specs.Path.{path_fault, parent_of, joined}
+use Rattle.lr_rules.specs.Path.{path_fault, parent_of}
 use Rattle.lr_host.specs.declared.thing.Thing.TheVariants as thing
 use Rattle.lr_host.specs.declared.entry.Entry.{Entry}
 use Rattle.lr_host.specs.declared.entry.Entry.TheVariants.{Attach, Feed, Renames, Unlinks}
@@ -23,7 +23,7 @@ use Rattle.lr_cli.specs.Member.{IsNumber}
 use Rattle.lr_cli.specs.Rotation.{member_at, rotation}
 use Rattle.lr_cli.specs.Family.{AreMembers, NoMemberAttached, from_here, attached, another, IsTurned}
 use Rattle.lr_cli.proofs.MemberPaths.{member_same, member_other}
-use Rattle.lr_cli.proofs.Numbers.{In, contains_in, in_contains}
+use Rattle.lr_cli.proofs.NumberLists.{In, contains_in, in_contains}
 use Rattle.lr_cli.proofs.TurnedLaw.{turned_law}
 
 abbrev pub log : Path
@@ -63,6 +63,7 @@ renaming = moving ▸ Feed 7 (codes "y") (pos 2) ▸ Renames log first
 abbrev pub over : Past
 over = renaming ▸ Attach 8 log (pos 3) ▸ Feed 7 (codes "z") (pos 4) ▸ Unlinks third ▸ Feed 8 (codes "w") (pos 5)
 
+-- what the tool left, the newest first
 abbrev left : List Entry
 left = Unlinks third ∷ Renames log first ∷ Renames first second ∷ Renames second third ∷ []
 
@@ -96,9 +97,11 @@ pub path : path_fault log ≡ None
 unfolding path_fault
 path = let t : is_utf8 log ≡ true = is_utf8-from_IsUtf8 log (IsUtf8-from_ascii log ascii) in rw t
 
+-- a member's path by its one digit
 at : (d : ℕ) → d < 10 → member_at log d ≡ codes "/v/a.log." ++ (48 + d) ∷ []
 at d lt = ap (λ (ds : List ℕ). codes "/v/a.log." ++ ds) (decimal_digit d lt)
 
+-- the rotation by its paths
 by_paths : Path → Path → Path → List Entry
 by_paths a b c = Renames b c ∷ Renames a b ∷ Renames log a ∷ Unlinks c ∷ []
 
@@ -119,6 +122,7 @@ unnamed x a b c d e = rw (a, b, c, d, e)
 other_member : (m d : ℕ) → d < 10 → 1 ≤ d → IsNumber m → (m ≡ d → ⊥) → bytes_eq (codes "/v/a.log." ++ (48 + d) ∷ []) (member_at log m) ≡ false
 other_member m d lt some i ne = apart (codes "/v/a.log." ++ (48 + d) ∷ []) (member_at log m) (λ e. ne (member_same log m d i (some, omega arith) (sym e ∙ sym (at d lt))))
 
+-- the two members stand, and no other
 opened : AreMembers log (names (world begun)) (2 ∷ 1 ∷ [])
 opened = record {
   falling = (omega arith, tt);
@@ -158,11 +162,12 @@ distinct : (ys : List Path) → are_new ys ≡ true → AreDistinct ys
 distinct [] h = tt
 distinct (y ∷ ys) h = let s = both (is_new y ys) (are_new ys) h in (not_in y ys s.0, distinct ys s.1)
 
+-- the opening is a disk
 valid : IsValid stood
 valid = record {
   once = distinct (paths_of stood) refl;
   root = (0, omega arith, refl);
-  inside = each In_dirs (paths_of stood) (in_v, (in_v, (in_v, (in_root, (in_root, tt)))));
+  inside = each InDirs (paths_of stood) (in_v, (in_v, (in_v, (in_root, (in_root, tt)))));
   named = one;
   known = each Known stood.names (omega arith, (omega arith, (omega arith, tt)));
   held = each (λ (h : ℕ × ℕ). h.1 < 3) stood.holds (omega arith, tt);
@@ -170,8 +175,8 @@ valid = record {
   synced = each Synced stood.files (omega arith, (omega arith, (omega arith, tt)));
 }
   where
-    In_dirs : Path → Type 0
-    In_dirs x = Contains stood.dirs (parent_of x)
+    InDirs : Path → Type 0
+    InDirs x = Contains stood.dirs (parent_of x)
 
     Known : Path × ℕ → Type 0
     Known n = n.1 < length stood.files
@@ -194,5 +199,10 @@ valid = record {
 pub worked : IsTurned log 2 begun over
 worked = turned_law log 2 (2 ∷ 1 ∷ []) begun over left path (omega arith) valid opened unattached made are
 
+-- what the paths name then
 pub worked_names : (names (world over) first ≡ thing.File 0) × (names (world over) second ≡ thing.File 1) × (names (world over) third ≡ thing.Nothing) × (names (world over) log ≡ thing.File 3)
 worked_names = (refl, refl, refl, refl)
+
+-- the log's file has what its writer fed before and behind the rename
+pub worked_bytes : ((world over).files 0).bytes ≡ codes "Cxyz"
+worked_bytes = worked.bytes 0

@@ -9,7 +9,7 @@ use Rattle.lr_host.proofs.Names.{put_here, put_other}
 use Rattle.lr_cli.specs.Member.{IsNumber}
 use Rattle.lr_cli.specs.Rotation.{member_at, unlink_of, move_of}
 use Rattle.lr_cli.proofs.MemberPaths.{member_same}
-use Rattle.lr_cli.proofs.Numbers.{In, FallsFrom, below_top, same_or_not}
+use Rattle.lr_cli.proofs.NumberLists.{In, FallsFrom, below_top, same_or_not}
 use Rattle.lr_cli.proofs.Walks.{Quiet, Walk}
 use Rattle.lr_cli.proofs.Aside.{Aside, aside_first, aside_on, quiet_aside, quiet_members, unlinked_aside, moved_aside}
 

@@ -63,6 +63,7 @@ below_top top m [] f i = absurd i
 below_top top m (k ∷ ks) f (inl e) = (omega (arith, f.0), omega (arith, f.1))
 below_top top m (k ∷ ks) f (inr i) = let r = below_top k m ks f.2 i in (r.0, omega (arith, r.1, f.1))
 
+-- what passes a test falls too, from any top above it
 pub falls_filter : (f : ℕ → Bool) (top new : ℕ) (ks : List ℕ) → FallsFrom top ks → ((m : ℕ) → In m ks → f m ≡ true → m < new) → FallsFrom new (filter f ks)
 falls_filter f top new [] a b = tt
 falls_filter f top new (k ∷ ks) a b = go (f k) refl (falls_filter f k k ks a.2 (λ m i t. (below_top k m ks a.2 i).1)) (falls_filter f k new ks a.2 (λ m i t. b m (inr i) t))
