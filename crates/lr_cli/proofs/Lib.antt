@@ -1,8 +1,17 @@
+pub mod Aside
 pub mod Because
+pub mod CallTurned
+pub mod ChainMoves
 pub mod Digits
+pub mod Drawn
 pub mod Every
+pub mod FamilyTurned
+pub mod Fed
 pub mod Fitting
 pub mod Looking
+pub mod MemberPaths
+pub mod MembersFound
+pub mod NumberLists
 pub mod Numbers
 pub mod Plain
 pub mod Renames
@@ -11,3 +20,6 @@ pub mod Sights
 pub mod Stepping
 pub mod Texts
 pub mod Turned
+pub mod TurnedLaw
+pub mod Walks
+pub mod WorkedTurn
