@@ -14,6 +14,7 @@ use Rattle.lr_host.specs.Steps.{is_change}
 use Rattle.lr_host.proofs.Left.{filter_reverse, made_on}
 use Rattle.lr_cli.specs.Rotation.{rotation}
 use Rattle.lr_cli.specs.Family.{AreMembers, NoMemberAttached, from_here, attached, another, IsTurned, IsBehind}
+use Rattle.lr_cli.specs.Turning.{IsTurnedWhole}
 use Rattle.lr_host.specs.declared.thing.Thing.TheVariants as thing
 use Rattle.lr_cli.proofs.Walks.{AttachesNone, Quiet, Walk, made_walk, before_last}
 use Rattle.lr_cli.proofs.MembersFound.{AreFound, SawFile, members_before, members_law, made_quiet, Moment, moment, seen_file}
@@ -70,11 +71,11 @@ stays_file p q x g h is = ⊎_elim (λ same. same ∙ is) (λ new. absurd (clash
     clash t a b = cc
 
 -- An entry among others.
-in_append : (e : Entry) (xs ys : List Entry) → IsIn e ys → IsIn e (xs ++ ys)
+pub in_append : (e : Entry) (xs ys : List Entry) → IsIn e ys → IsIn e (xs ++ ys)
 in_append e [] ys h = h
 in_append e (x ∷ xs) ys h = inr (in_append e xs ys h)
 
-in_front : (e : Entry) (xs ys : List Entry) → IsIn e xs → IsIn e (xs ++ ys)
+pub in_front : (e : Entry) (xs ys : List Entry) → IsIn e xs → IsIn e (xs ++ ys)
 in_front e [] ys h = absurd h
 in_front e (x ∷ xs) ys (inl s) = inl s
 in_front e (x ∷ xs) ys (inr h) = inr (in_front e xs ys h)
@@ -106,14 +107,6 @@ found_behind log numbers xs ys still f = record {
   still = filter-append is_change xs ys ∙ (ap (λ (zs : List Entry). zs ++ filter is_change ys) still ∙ f.still);
   members = found_in log numbers ys (xs ++ ys) (λ e h. in_append e xs ys h) f.members;
 }
-
--- The family was turned, and its file is the one that the log named before the first change: nothing was changed up to that moment.
-pub record IsTurnedWhole (log : Path) (count : ℕ) (p q : Past) : Type 0 where
-  pub turned : IsTurned log count p q
-  pub first : Past
-  pub still : Quiet log p first
-  pub until : IsBehind first turned.turning
-  pub log_stood : names (world first) log ≡ thing.File turned.file
 
 -- The entries of the call are those that found the members, and then the rest.
 module _ (log : Path) (count : ℕ) (numbers : List ℕ) (p q : Past) (es front back : List Entry) (path : path_fault log ≡ None) (none : NoMemberAttached log p q) (made : Made p es q) (are : reverse es ≡ front ++ back) (found : Found log numbers front) where

@@ -5,6 +5,7 @@ pub mod ChainMoves
 pub mod Digits
 pub mod Drawn
 pub mod Every
+pub mod FamilySeen
 pub mod FamilyTurned
 pub mod Fed
 pub mod Fitting

@@ -13,17 +13,7 @@ use Rattle.lr_host.specs.Steps.{is_change}
 use Rattle.lr_cli.specs.Member.{IsNumber}
 use Rattle.lr_cli.specs.Rotation.{member_at}
 use Rattle.lr_cli.specs.Family.{NoMemberAttached, from_here, attached, another}
-
--- the entry attaches no writer to a member of the log
-abbrev pub AttachesNone : Path → Entry → Type 0
-AttachesNone log (Attach writer path at) = (number : ℕ) → IsNumber number → path ≢ member_at log number
-AttachesNone log _ = Unit {0}
-
--- Entries that change nothing of the tool's, and writers', none of which attaches a member.
-pub data Quiet (log : Path) (p : Past) : Past → Type 0 where
-  here : Quiet log p p
-  wrote : {q : Past} {e : Entry} → Quiet log p q → IsWriters e → Fits (world q) e → AttachesNone log e → Quiet log p (q ▸ e)
-  looked : {q : Past} {e : Entry} → Quiet log p q → IsTools e → Fits (world q) e → is_change e ≡ false → Quiet log p (q ▸ e)
+pub use Rattle.lr_cli.specs.Quiet.{AttachesNone, Quiet, here, wrote, looked}
 
 -- these change entries, the oldest first, with quiet entries round them
 abbrev pub Walk : Path → Past → List Entry → Past → Type 0
