@@ -1,7 +1,7 @@
 // Rows worked out by hand: a disk, a call of the program, its answer, and what the disk has behind it.
 use lr_cli::{Outcome, Zone, logrotate, status};
-use lr_host::{OpenFile, Opening, Sink, SinkFault};
-use lr_memhost::{Failing, How, MemHost};
+use lr_host::{Entry, OpenFile, Opening, Sink, SinkFault};
+use lr_memhost::{Act, Failing, How, MemHost};
 use lr_rules::{Fault, Listed, Path, Text};
 use std::alloc::Global;
 use std::test::Fail;
@@ -24,7 +24,7 @@ impl Sink for Dropped {
 
 type Files = &'static [(&'static [u8], &'static [u8])];
 
-// The directories are `/`, `/v` and `/etc`.
+// The directories are `/`, `/v`, `/etc` and `/v/d.log.1`.
 #[derive(Clone, Copy)]
 struct Row {
     conf: &'static [u8],
@@ -38,7 +38,7 @@ struct Row {
 
 const TWO: &[u8] = b"/v/a.log {\nrotate 2\n}\n";
 
-const ROWS: [Row; 6] = [
+const ROWS: [Row; 11] = [
     // A log without members.
     Row {
         conf: TWO,
@@ -48,6 +48,77 @@ const ROWS: [Row; 6] = [
         status: 0,
         after: &[(b"/v/a.log.1", b"C"), (b"/v/b.log", b"D")],
         gone: &[b"/v/a.log", b"/v/a.log.2"],
+    },
+    // One member.
+    Row {
+        conf: TWO,
+        files: &[(b"/v/a.log", b"C"), (b"/v/a.log.1", b"A")],
+        failing: None,
+        answer: "Done",
+        status: 0,
+        after: &[(b"/v/a.log.1", b"C"), (b"/v/a.log.2", b"A")],
+        gone: &[b"/v/a.log", b"/v/a.log.3"],
+    },
+    // Two members, of which the last is unlinked.
+    Row {
+        conf: TWO,
+        files: &[
+            (b"/v/a.log", b"C"),
+            (b"/v/a.log.1", b"A"),
+            (b"/v/a.log.2", b"B"),
+        ],
+        failing: None,
+        answer: "Done",
+        status: 0,
+        after: &[(b"/v/a.log.1", b"C"), (b"/v/a.log.2", b"A")],
+        gone: &[b"/v/a.log", b"/v/a.log.3"],
+    },
+    // A gap, leftovers, and names that are no members'.
+    Row {
+        conf: TWO,
+        files: &[
+            (b"/v/a.log", b"C"),
+            (b"/v/a.log.2", b"B"),
+            (b"/v/a.log.4", b"D"),
+            (b"/v/a.log.10", b"E"),
+            (b"/v/a.log.01", b"F"),
+            (b"/v/a.log.4294967296", b"G"),
+        ],
+        failing: None,
+        answer: "Done",
+        status: 0,
+        after: &[
+            (b"/v/a.log.1", b"C"),
+            (b"/v/a.log.01", b"F"),
+            (b"/v/a.log.4294967296", b"G"),
+        ],
+        gone: &[
+            b"/v/a.log",
+            b"/v/a.log.2",
+            b"/v/a.log.3",
+            b"/v/a.log.4",
+            b"/v/a.log.10",
+        ],
+    },
+    // No member is kept.
+    Row {
+        conf: b"/v/a.log {\nrotate 0\n}\n",
+        files: &[(b"/v/a.log", b"C"), (b"/v/a.log.1", b"A")],
+        failing: None,
+        answer: "Done",
+        status: 0,
+        after: &[],
+        gone: &[b"/v/a.log", b"/v/a.log.1", b"/v/a.log.2"],
+    },
+    // A member that is a directory: nothing is changed.
+    Row {
+        conf: b"/v/d.log {\nrotate 2\n}\n",
+        files: &[(b"/v/d.log", b"C"), (b"/v/d.log.2", b"A")],
+        failing: None,
+        answer: "NotFile",
+        status: 1,
+        after: &[(b"/v/d.log", b"C"), (b"/v/d.log.2", b"A")],
+        gone: &[b"/v/d.log.3"],
     },
     // A literal log that is missing.
     Row {
@@ -127,7 +198,7 @@ fn opening(alloc: Global, conf: &[u8], files: Files) -> Result<Opening, Fail> {
         names.push((Path::new(alloc, path)?, identity))?;
     }
     let mut dirs = Listed::new(alloc);
-    for dir in [b"/".as_slice(), b"/v", b"/etc"] {
+    for dir in [b"/".as_slice(), b"/v", b"/etc", b"/v/d.log.1"] {
         dirs.push(Path::new(alloc, dir)?)?;
     }
     Ok(Opening {
@@ -228,5 +299,75 @@ fn words(rt: HostRuntime) -> Result<(), Fail> {
         assert_eq!(rt; status(&outcome), 2);
         assert_eq!(rt; host.calls(), 0);
     }
+    Ok(())
+}
+
+// How many of the log's paths name a file with these bytes.
+fn standing(alloc: Global, host: &MemHost, bytes: &[u8]) -> Result<usize, Fail> {
+    let mut count = 0usize;
+    for path in [
+        b"/v/a.log".as_slice(),
+        b"/v/a.log.1",
+        b"/v/a.log.2",
+        b"/v/a.log.3",
+    ] {
+        if host.file(&Path::new(alloc, path)?) == Some(bytes) {
+            count = count.saturating_add(1);
+        }
+    }
+    Ok(count)
+}
+
+// Whichever call fails, and whether it has its effect or not, the log and its member stand under one name each, until
+// the count is kept.
+#[test]
+fn each_call_fails_once(rt: HostRuntime) -> Result<(), Fail> {
+    let row = Row {
+        files: &[(b"/v/a.log", b"C"), (b"/v/a.log.1", b"A")],
+        ..ROWS[0]
+    };
+    for how in [How::NoEffect, How::WithEffect] {
+        for at in 0..16 {
+            let failing = Some(Failing { at, how });
+            let mut host = host_of(rt.alloc(), &Row { failing, ..row })?;
+            let outcome = call(rt.alloc(), &[b"-f", b"/etc/c"], &mut host)?;
+            let wanted = if at < host.calls() { "Call" } else { "Done" };
+            assert_eq!(rt; name_of(&outcome), wanted);
+            assert_eq!(rt; standing(rt.alloc(), &host, b"C")?, 1);
+            assert_eq!(rt; standing(rt.alloc(), &host, b"A")?, 1);
+        }
+    }
+    Ok(())
+}
+
+// A writer holds the log and appends before each of the first calls: its bytes go with its file.
+#[test]
+fn writers_act_between_calls(rt: HostRuntime) -> Result<(), Fail> {
+    let mut host = host_of(rt.alloc(), &ROWS[0])?;
+    let path = Path::new(rt.alloc(), b"/v/a.log")?;
+    host.act(Act {
+        before: 0,
+        what: Entry::Attach {
+            writer: 1,
+            path,
+            at: 1_705_190_600,
+        },
+    })?;
+    for before in 0..6 {
+        let mut bytes = Listed::new(rt.alloc());
+        bytes.push(b'w')?;
+        host.act(Act {
+            before,
+            what: Entry::Feed {
+                writer: 1,
+                bytes,
+                at: 1_705_190_600,
+            },
+        })?;
+    }
+    let outcome = call(rt.alloc(), &[b"-f", b"/etc/c"], &mut host)?;
+    assert_eq!(rt; name_of(&outcome), "Done");
+    let newest = Path::new(rt.alloc(), b"/v/a.log.1")?;
+    assert_eq!(rt; host.file(&newest), Some(b"Cwwwwww".as_slice()));
     Ok(())
 }
