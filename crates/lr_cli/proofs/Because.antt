@@ -63,7 +63,7 @@ quiet_rule conf log count ts r = quiet_reading conf r.bytes ts r.read
 quiet_meets : (log path : Path) (ts : List Entry) → SeesToNoFile log path ts → ChangeNothing ts
 quiet_meets log path ts t = quiet_then (Sees log IsFile) _ ts (λ us p. quiet_sight log IsFile us p)
     (λ us p. quiet_then (Sees (parent_of log) IsDir) _ us (λ vs q. quiet_sight (parent_of log) IsDir vs q) (λ vs q. quiet_then _ _ vs (λ ws r. ap (filter is_change) r)
-      (λ ws r. quiet_then _ _ ws (λ xs u. quiet_files q.before xs u) (λ xs u. quiet_sight path IsNotFile xs u) r) q.looks) p) t
+    (λ ws r. quiet_then _ _ ws (λ xs u. quiet_files q.before xs u) (λ xs u. quiet_sight path IsNotFile xs u) r) q.looks) p) t
 
 turn_still : (log : Path) (count : ℕ) (s : TurnStop) (ts : List Entry) → ((step : Step) → s ≡ turn.Refused step → ⊥) → TurnStopped log count s ts → ChangeNothing ts
 turn_still log count turn.Missing ts n r = quiet_sight log IsNothing ts r

@@ -79,21 +79,29 @@ module _ (log : Path) (path : path_fault log ≡ None) (dir_path : path_fault (p
   unlinks_fit : (n : Names) (count : ℕ) (ls ms : List ℕ) (rest : List Entry) → Every IsNumber ls → Every IsNumber ms → Falls ls → Every (λ l. count < l) ls → Every (λ m. m ≤ count) ms → Ready n → Stand n ls → Stand n ms
       → ((n' : Names) → Ready n' → Stand n' ms → FitOn n' rest) → FitOn n (map (unlink_of log) ls ++ rest)
   unlinks_fit n count [] ms rest il im falls high low r fl fm then = then n r fm
-  unlinks_fit n count (l ∷ ls) ms rest il im falls high low r fl fm then = (fl.0,
+  unlinks_fit n count (l ∷ ls) ms rest il im falls high low r fl fm then = (
+    fl.0,
     unlinks_fit (put n (member_at log l) thing.Nothing) count ls ms rest il.1 im falls.1 high.1 low (ready_put n l thing.Nothing il.0 nothing_there r)
-    (files_put n l thing.Nothing ls il.0 il.1 (every_as (λ k. k < l) (λ k. k ≡ l → ⊥) ls (λ k lt e. omega (arith, lt, e)) falls.0) fl.1)
-    (files_put n l thing.Nothing ms il.0 im (every_as (λ k. k ≤ count) (λ k. k ≡ l → ⊥) ms (λ k le e. omega (arith, le, e, high.0)) low) fm) then)
+        (files_put n l thing.Nothing ls il.0 il.1 (every_as (λ k. k < l) (λ k. k ≡ l → ⊥) ls (λ k lt e. omega (arith, lt, e)) falls.0) fl.1)
+        (files_put n l thing.Nothing ms il.0 im (every_as (λ k. k ≤ count) (λ k. k ≡ l → ⊥) ms (λ k le e. omega (arith, le, e, high.0)) low) fm) then,
+  )
 
   moves_fit : (n : Names) (count : ℕ) (H : Type 0) (ms : List ℕ) (rest : List Entry) → count < 1000000 → Every IsNumber ms → Falls ms → Every (λ m. m ≤ count) ms → Ready n → Stand n ms
       → (H → IsFileAt n (member_at log (count + 1)) ⊎ IsHead count ms) → ((n' : Names) → Ready n' → (H → IsFileAt n' (member_at log (count + 1))) → FitOn n' rest) → FitOn n (map (move_of log) ms ++ rest)
   moves_fit n count H [] rest small im falls low r fm top then = then n r (λ h. ⊎_elim (λ f. f) (λ no. absurd no) (top h))
   moves_fit n count H (m ∷ ms) rest small im falls low r fm top then = (
-    (fm.0, (r.free (m + 1) next).0, (r.free (m + 1) next).1, ap n (member_parent log (m + 1) path dir_path (omega (arith, low.0, small))) ∙ r.dir,
-      λ e. let same : m ≡ m + 1 = member_apart log m (m + 1) path (omega (arith, low.0, small)) (omega (arith, low.0, small)) e in omega (arith, same)),
+    (
+      fm.0,
+      (r.free (m + 1) next).0,
+      (r.free (m + 1) next).1,
+      ap n (member_parent log (m + 1) path dir_path (omega (arith, low.0, small))) ∙ r.dir,
+      λ e. let same : m ≡ m + 1 = member_apart log m (m + 1) path (omega (arith, low.0, small)) (omega (arith, low.0, small)) e in omega (arith, same),
+    ),
     moves_fit after count H ms rest small im.1 falls.1 low.1 (ready_put gone (m + 1) (n (member_at log m)) next there (ready_put n m thing.Nothing im.0 nothing_there r))
-      (files_put gone (m + 1) (n (member_at log m)) ms next im.1 (every_as (λ k. k < m) (λ k. k ≡ m + 1 → ⊥) ms (λ k lt e. omega (arith, lt, e)) falls.0)
+        (files_put gone (m + 1) (n (member_at log m)) ms next im.1 (every_as (λ k. k < m) (λ k. k ≡ m + 1 → ⊥) ms (λ k lt e. omega (arith, lt, e)) falls.0)
         (files_put n m thing.Nothing ms im.0 im.1 (every_as (λ k. k < m) (λ k. k ≡ m → ⊥) ms (λ k lt e. omega (arith, lt, e)) falls.0) fm.1))
-      (λ h. at_top (m == count) refl (top h)) then)
+        (λ h. at_top (m == count) refl (top h)) then,
+  )
     where
       next : IsNumber (m + 1)
       next = (omega arith, omega (arith, low.0, small))
@@ -112,13 +120,14 @@ module _ (log : Path) (path : path_fault log ≡ None) (dir_path : path_fault (p
       at_top false e (inl f) =
           let ne : m ≡ count → ⊥ = λ (s : m ≡ count). (let t : (m == count) ≡ true = eq-eqb m count s in cc) in
           inl (file_put gone (m + 1) (count + 1) (n (member_at log m)) next (omega arith, omega (arith, small)) (λ s. ne (omega (arith, s)))
-            (file_put n m (count + 1) thing.Nothing im.0 (omega arith, omega (arith, small)) (λ s. omega (arith, s, low.0)) f))
+          (file_put n m (count + 1) thing.Nothing im.0 (omega arith, omega (arith, small)) (λ s. omega (arith, s, low.0)) f))
       at_top false e (inr s) = absurd (let t : (m == count) ≡ true = eq-eqb m count s in cc)
 
   last_fits : (n : Names) (count : ℕ) (numbers : List ℕ) → count < 1000000 → Ready n → (list_any (λ k. k == count) numbers ≡ true → IsFileAt n (member_at log (count + 1))) → FitOn n (entry.Renames log (member_at log 1) ∷ one_too_many log count numbers)
   last_fits n count numbers small r top = (
     (r.log_file, (r.free 1 one).0, (r.free 1 one).1, ap n (member_parent log 1 path dir_path (omega arith)) ∙ r.dir, member_other log 1 path (omega arith)),
-    last count small top)
+    last count small top,
+  )
     where
       one : IsNumber 1
       one = (omega arith, omega arith)
@@ -138,7 +147,7 @@ module _ (log : Path) (path : path_fault log ≡ None) (dir_path : path_fault (p
 
           go : (b : Bool) → list_any (λ k. k == suc c) numbers ≡ b → FitOn after (cond b (unlink_of log (suc c + 1) ∷ []) [])
           go true e = let f : IsFileAt n (member_at log (suc c + 1)) = top e in
-            ((f.0, put_other gone (member_at log 1) (member_at log (suc c + 1)) (n log) apart ∙ (put_other n log (member_at log (suc c + 1)) thing.Nothing (λ s. member_other log (suc c + 1) path (omega (arith, small)) (sym s)) ∙ f.1)), tt)
+              ((f.0, put_other gone (member_at log 1) (member_at log (suc c + 1)) (n log) apart ∙ (put_other n log (member_at log (suc c + 1)) thing.Nothing (λ s. member_other log (suc c + 1) path (omega (arith, small)) (sym s)) ∙ f.1)), tt)
           go false e = tt
 
   -- the whole rotation fits
@@ -146,13 +155,13 @@ module _ (log : Path) (path : path_fault log ≡ None) (dir_path : path_fault (p
   rotation_fits n count numbers small falling within r stand =
       subst (λ (xs : List Entry). FitAll n xs) (append-nil (reverse (rotation log count numbers)))
       (fit_behind n [] (rotation log count numbers) tt
-        (unlinks_fit n count (leftovers count numbers) (moved count numbers) (map (move_of log) (moved count numbers) ++ (entry.Renames log (member_at log 1) ∷ one_too_many log count numbers))
-          (every_filter IsNumber (λ k. nat_lt count k) numbers within) (every_filter IsNumber (λ k. nat_le k count) numbers within) (falls_filter (λ k. nat_lt count k) numbers falls)
-          (every_as (λ k. nat_lt count k ≡ true) (λ k. count < k) (leftovers count numbers) above (every_passes (λ k. nat_lt count k) numbers)) low r
-          (every_filter (λ k. IsFileAt n (member_at log k)) (λ k. nat_lt count k) numbers stand) (every_filter (λ k. IsFileAt n (member_at log k)) (λ k. nat_le k count) numbers stand)
-          (λ n' r' stand'. moves_fit n' count (list_any (λ k. k == count) numbers ≡ true) (moved count numbers) (entry.Renames log (member_at log 1) ∷ one_too_many log count numbers) small
-            (every_filter IsNumber (λ k. nat_le k count) numbers within) (falls_filter (λ k. nat_le k count) numbers falls) low r' stand' (λ h. inr (head_of count numbers falls h))
-            (λ n'' r'' top. last_fits n'' count numbers small r'' top))))
+      (unlinks_fit n count (leftovers count numbers) (moved count numbers) (map (move_of log) (moved count numbers) ++ (entry.Renames log (member_at log 1) ∷ one_too_many log count numbers))
+      (every_filter IsNumber (λ k. nat_lt count k) numbers within) (every_filter IsNumber (λ k. nat_le k count) numbers within) (falls_filter (λ k. nat_lt count k) numbers falls)
+      (every_as (λ k. nat_lt count k ≡ true) (λ k. count < k) (leftovers count numbers) above (every_passes (λ k. nat_lt count k) numbers)) low r
+      (every_filter (λ k. IsFileAt n (member_at log k)) (λ k. nat_lt count k) numbers stand) (every_filter (λ k. IsFileAt n (member_at log k)) (λ k. nat_le k count) numbers stand)
+      (λ n' r' stand'. moves_fit n' count (list_any (λ k. k == count) numbers ≡ true) (moved count numbers) (entry.Renames log (member_at log 1) ∷ one_too_many log count numbers) small
+      (every_filter IsNumber (λ k. nat_le k count) numbers within) (falls_filter (λ k. nat_le k count) numbers falls) low r' stand' (λ h. inr (head_of count numbers falls h))
+      (λ n'' r'' top. last_fits n'' count numbers small r'' top))))
     where
       falls : Falls numbers
       falls = falls_all numbers falling

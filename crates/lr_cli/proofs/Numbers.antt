@@ -55,14 +55,14 @@ falls (m ∷ k ∷ ks) h = (h 0 (omega arith), falls (k ∷ ks) (λ i lt. h (suc
 
 falling_reverse : (xs : List ℕ) → IsStrictlyIncreasing xs → AreFalling (reverse xs)
 falling_reverse xs up = falls (reverse xs) (λ k lt.
-  let size : length (reverse xs) ≡ length xs = length-reverse xs in
-  let j : ℕ = length xs - 1 - suc k in
-  let here : get_or (reverse xs) (suc k) 0 ≡ get_or xs (length xs - 1 - suc k) 0 = get_or-reverse xs (suc k) 0 (omega (arith, size)) in
-  let there : get_or (reverse xs) k 0 ≡ get_or xs (length xs - 1 - k) 0 = get_or-reverse xs k 0 (omega (arith, size)) in
-  let next : length xs - 1 - k ≡ length xs - 1 - suc k + 1 = omega (arith, size) in
-  let rise : get_or xs (length xs - 1 - suc k) 0 < get_or xs (length xs - 1 - suc k + 1) 0 = up (length xs - 1 - suc k) (omega (arith, size)) in
-  let moved : get_or xs (length xs - 1 - k) 0 ≡ get_or xs (length xs - 1 - suc k + 1) 0 = ap (λ (i : ℕ). get_or xs i 0) next in
-  omega (arith, here, there, rise, moved))
+    let size : length (reverse xs) ≡ length xs = length-reverse xs in
+    let j : ℕ = length xs - 1 - suc k in
+    let here : get_or (reverse xs) (suc k) 0 ≡ get_or xs (length xs - 1 - suc k) 0 = get_or-reverse xs (suc k) 0 (omega (arith, size)) in
+    let there : get_or (reverse xs) k 0 ≡ get_or xs (length xs - 1 - k) 0 = get_or-reverse xs k 0 (omega (arith, size)) in
+    let next : length xs - 1 - k ≡ length xs - 1 - suc k + 1 = omega (arith, size) in
+    let rise : get_or xs (length xs - 1 - suc k) 0 < get_or xs (length xs - 1 - suc k + 1) 0 = up (length xs - 1 - suc k) (omega (arith, size)) in
+    let moved : get_or xs (length xs - 1 - k) 0 ≡ get_or xs (length xs - 1 - suc k + 1) 0 = ap (λ (i : ℕ). get_or xs i 0) next in
+    omega (arith, here, there, rise, moved))
 
 pub sorted_falls : (sorted kept new : List ℕ) → IsSorted nat_cmp sorted → kept ≡ dedup eqb sorted → new ≡ reverse kept → AreFalling new
 sorted_falls sorted kept new up e f = subst AreFalling (sym (f ∙ ap reverse e)) (falling_reverse (dedup eqb sorted) (IsStrictlyIncreasing-dedup sorted up))

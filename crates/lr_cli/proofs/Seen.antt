@@ -151,9 +151,9 @@ fits log count numbers p q es path dir_path small m h =
     member_file k c =
         let among = Contains-permutation (map (member_at log) numbers) s.paths (member_at log k) s.in_order.each (in_map log numbers k c.0 c.1 c.2) in
         file_now (member_at log k) (looked_back (member_at log k) (λ s. s.kind ≡ kind.File) ts a.front a.back a.joined
-          (looked_back (member_at log k) (λ s. s.kind ≡ kind.File) a.back a.second.front a.second.back a.second.joined
-            (looked_back (member_at log k) (λ s. s.kind ≡ kind.File) a.second.back s.looks.front s.looks.back s.looks.joined
-              (files_looked s.paths s.looks.back (member_at log k) s.looks.second among.0 among.1 among.2))))
+        (looked_back (member_at log k) (λ s. s.kind ≡ kind.File) a.back a.second.front a.second.back a.second.joined
+        (looked_back (member_at log k) (λ s. s.kind ≡ kind.File) a.second.back s.looks.front s.looks.back s.looks.joined
+        (files_looked s.paths s.looks.back (member_at log k) s.looks.second among.0 among.1 among.2))))
 
     listing : Entry
     listing = entry.List (parent_of log) h.names

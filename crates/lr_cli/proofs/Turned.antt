@@ -75,7 +75,7 @@ sees_numbers log dir numbers e a b l = left_as (left_both (left_both a (sees_at 
 pub quiet_numbers : (log : Path) (numbers : List ℕ) (ts : List Entry) → SeesNumbers log numbers ts → ChangeNothing ts
 quiet_numbers log numbers ts s = quiet_then (Sees log IsFile) _ ts (λ us p. quiet_sight log IsFile us p)
     (λ us p. quiet_then (Sees (parent_of log) IsDir) _ us (λ vs q. quiet_sight (parent_of log) IsDir vs q)
-      (λ vs q. ap (filter is_change) q.looks.joined ∙ (filter-append is_change q.looks.front q.looks.back ∙ (ap (λ zs. zs ++ filter is_change q.looks.back) (ap (filter is_change) q.looks.first) ∙ quiet_files q.paths q.looks.back q.looks.second))) p) s.sees
+    (λ vs q. ap (filter is_change) q.looks.joined ∙ (filter-append is_change q.looks.front q.looks.back ∙ (ap (λ zs. zs ++ filter is_change q.looks.back) (ap (filter is_change) q.looks.first) ∙ quiet_files q.paths q.looks.back q.looks.second))) p) s.sees
 
 pub see_stops : (log : Path) (count : ℕ) (s : TurnStop) (ts : List Entry) → SeeStopped log s ts → TurnStopped log count s ts
 see_stops log count turn.Missing ts r = r

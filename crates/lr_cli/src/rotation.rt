@@ -81,12 +81,7 @@ fn look_for_dir<H: Host>(host: &mut H, dir: &Path) -> Result<(), TurnStop>
 }
 
 // Looks at the log, its directory and its members; the numbers of the members, the highest first.
-fn see<H: Host>(
-    alloc: Global,
-    host: &mut H,
-    log: &Path,
-    dir: &Path,
-) -> Result<Vec<u32>, TurnStop>
+fn see<H: Host>(alloc: Global, host: &mut H, log: &Path, dir: &Path) -> Result<Vec<u32>, TurnStop>
     requires dir { dir.now ≡ parent_of log.now }
     ensures told { IfOk result (λ numbers. Left (SeesNumbers log.now numbers.items) (H.told host.old) (H.told host.new)) }
     ensures stopped { IfErr result (λ stop. Left (SeeStopped log.now stop) (H.told host.old) (H.told host.new)) }
