@@ -116,13 +116,20 @@ module _ (log : Path) (top k : ℕ) (ks : List ℕ) (p q : Past) (f : FallsFrom 
 -- renames of members to the next number, the highest first
 pub moves : (log : Path) (top : ℕ) (ks : List ℕ) (rest : List Entry) (p q : Past) → FallsFrom top ks → 1 ≤ top → top ≤ 4294967295 → AreGaps log top ks p → Walk log p (map (move_of log) ks ++ rest) q
     → (r : Past) × Walk log r rest q × Aside log p r × Shifted log top p r
-moves log top [] rest p q f some le gaps w = (p, w, aside_first log p, record {
-  first = gaps 1 (omega arith, omega arith) some (λ h. h);
-  up = λ m a b. gaps (m + 1) (omega arith, omega arith) (omega arith) (λ h. h) ∙ sym (gaps m (a, omega arith) (omega arith) (λ h. h));
-  above = λ m n lt. refl;
-})
+moves log top [] rest p q f some le gaps w = (
+  p,
+  w,
+  aside_first log p,
+  record {
+    first = gaps 1 (omega arith, omega arith) some (λ h. h);
+    up = λ m a b. gaps (m + 1) (omega arith, omega arith) (omega arith) (λ h. h) ∙ sym (gaps m (a, omega arith) (omega arith) (λ h. h));
+    above = λ m n lt. refl;
+  },
+)
 moves log top (k ∷ ks) rest p q f some le gaps w =
-    let s = moves log k ks rest (w.0 ▸ Renames (member_at log k) (member_at log (k + 1))) q f.2 f.0 (omega (arith, f.1)) (gaps_on log top k ks p w.0 f le gaps w.1) w.3 in
-    (s.0, s.1,
-    aside_on log p w.0 s.0 (quiet_aside log p w.0 w.1) (aside_on log w.0 (w.0 ▸ Renames (member_at log k) (member_at log (k + 1))) s.0 (moved_aside log w.0 k (k + 1) (f.0, omega (arith, f.1)) (omega arith, omega (arith, f.1))) s.2),
-    shifted_on log top k ks p w.0 f le gaps w.1 s.0 s.3)
+    let s = moves log k ks rest (w.0 ▸ Renames (member_at log k) (member_at log (k + 1))) q f.2 f.0 (omega (arith, f.1)) (gaps_on log top k ks p w.0 f le gaps w.1) w.3 in (
+      s.0,
+      s.1,
+      aside_on log p w.0 s.0 (quiet_aside log p w.0 w.1) (aside_on log w.0 (w.0 ▸ Renames (member_at log k) (member_at log (k + 1))) s.0 (moved_aside log w.0 k (k + 1) (f.0, omega (arith, f.1)) (omega arith, omega (arith, f.1))) s.2),
+      shifted_on log top k ks p w.0 f le gaps w.1 s.0 s.3,
+    )

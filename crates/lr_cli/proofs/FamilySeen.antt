@@ -48,9 +48,9 @@ files_seen : (paths : List Path) (ts : List Entry) → SeesFiles paths ts → Al
 files_seen [] ts s = All-nil (λ x. SawFile x ts)
 files_seen (x ∷ xs) ts s =
     subst (λ us. All (λ y. SawFile y us) (x ∷ xs)) (sym s.joined)
-      (All-cons (λ y. SawFile y (s.front ++ s.back)) x xs
-        (saw_front x s.front s.back (look_seen x s.first.seen s.front s.first.is s.first.look))
-        (λ k d lt. saw_behind _ s.front s.back (files_seen xs s.back s.second k d lt)))
+    (All-cons (λ y. SawFile y (s.front ++ s.back)) x xs
+    (saw_front x s.front s.back (look_seen x s.first.seen s.front s.first.is s.first.look))
+    (λ k d lt. saw_behind _ s.front s.back (files_seen xs s.back s.second k d lt)))
 
 stands_found : (log : Path) (listed : List (List ℕ)) (numbers : List ℕ) (ts : List Entry) → Stands log listed numbers ts → AreFound log ts numbers
 stands_found log listed numbers ts s = record {
@@ -83,8 +83,8 @@ are_behind log xs ys numbers f = record {
 family_found : (log : Path) (listed : List (List ℕ)) (numbers : List ℕ) (ts : List Entry) → SeesFamily log listed numbers ts → AreFound log ts numbers
 family_found log listed numbers ts s =
     subst (λ us. AreFound log us numbers) (sym s.joined) (are_behind log s.front s.back numbers
-      (subst (λ us. AreFound log us numbers) (sym s.second.joined) (are_behind log s.second.front s.second.back numbers
-        (stands_found log listed numbers s.second.back s.second.second))))
+    (subst (λ us. AreFound log us numbers) (sym s.second.joined) (are_behind log s.second.front s.second.back numbers
+    (stands_found log listed numbers s.second.back s.second.second))))
 
 -- parts that change nothing, one behind the other
 still_both : (ts xs ys : List Entry) → ts ≡ xs ++ ys → filter is_change xs ≡ [] → filter is_change ys ≡ [] → filter is_change ts ≡ []
@@ -94,8 +94,8 @@ family_still : (log : Path) (listed : List (List ℕ)) (numbers : List ℕ) (ts 
 family_still log listed numbers ts s =
     let looks = s.second.second.looks in
     still_both ts s.front s.back s.joined (quiet_sight log IsFile s.front s.first)
-      (still_both s.back s.second.front s.second.back s.second.joined (ap (filter is_change) s.second.first.look)
-        (still_both s.second.back looks.front looks.back looks.joined (ap (filter is_change) looks.first) (quiet_files _ looks.back looks.second)))
+    (still_both s.back s.second.front s.second.back s.second.joined (ap (filter is_change) s.second.first.look)
+    (still_both s.second.back looks.front looks.back looks.joined (ap (filter is_change) looks.first) (quiet_files _ looks.back looks.second)))
 
 -- A run that turned its log over found the members, and then made the changes of the rotation.
 pub turned_found : (conf : Path) (ts : List Entry) (t : Turned conf ts) → Then (λ us. Found t.log t.numbers us × SawFile t.log us) (λ us. filter is_change us ≡ rotation t.log t.count t.numbers) ts
@@ -207,7 +207,7 @@ pub family_turned : (here : Path) (words : List (List ℕ)) (conf : Path) (resul
     → result ≡ Done report → report.faults ≡ [] → o ≡ Some j → n ≡ Some k → IsJournal (past j) → TurnsFamily here words j k
 family_turned here words conf result report o n j k w left done none told_j told_k journal =
     turned_call here words conf j k w journal
-      (subst (λ (m : Option Journal). Left (Turned conf) (Some j) m) told_k
-        (subst (λ (m : Option Journal). Left (Turned conf) m n) told_j
-          (subst (λ (fs : List Fault). Left (Reports conf fs) o n) none
-            (subst (λ (r : Outcome). Left (Answers conf r) o n) done left))))
+    (subst (λ (m : Option Journal). Left (Turned conf) (Some j) m) told_k
+    (subst (λ (m : Option Journal). Left (Turned conf) m n) told_j
+    (subst (λ (fs : List Fault). Left (Reports conf fs) o n) none
+    (subst (λ (r : Outcome). Left (Answers conf r) o n) done left))))
