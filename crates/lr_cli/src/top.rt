@@ -19,7 +19,7 @@ use std::alloc::Global;
 /// One call of the program: reads the configuration that the words name, from the directory `here` on, and rotates the
 /// log that it defines. The zone, the moment `now` (in seconds since 1970) and the output aren't used yet.
 ///
-/// Whatever it answers, it has changed nothing but the names of the log and its newest member.
+/// Whatever it answers, it has changed nothing but the names of the log and its members.
 pub fn logrotate<H: Host, K: Sink>(
     alloc: Global,
     words: &[Text],
