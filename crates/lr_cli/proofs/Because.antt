@@ -18,8 +18,8 @@ use Rattle.lr_cli.specs.declared.rotation.TurnStop.{TurnStop}
 use Rattle.lr_cli.specs.declared.rotation.TurnStop.TheVariants as turn
 use Rattle.lr_cli.specs.declared.outcome.Outcome.{Outcome}
 use Rattle.lr_cli.specs.declared.outcome.Outcome.TheVariants.{Done, OutOfMemory, BadWords, Held}
-use Rattle.lr_cli.specs.Answer.{ReadsNoRule, ReadsRule, WithRule, IsNotYet, directory, form, Turns, BreaksOff, SeesToNoFile, NotFileBecause, Because, Answers, Answered}
-use Rattle.lr_cli.specs.Looks.{ChangeNothing, Sees, IsFile, IsDir, IsNothing, IsNoFile, IsNotFile, IsNoDir, SeesNumbers}
+use Rattle.lr_cli.specs.Answer.{ReadsNoRule, ReadsRule, WithRule, IsNotYet, directory, form, Turns, BreaksOff, LookBecause, at_log, at_dir, at_member, NotFileBecause, Because, Answers, Answered}
+use Rattle.lr_cli.specs.Looks.{ChangeNothing, Sees, IsFile, IsDir, IsNothing, IsNoFile, IsNotFile, IsNoDir, SeesUpTo, SeesNumbers}
 use Rattle.lr_cli.proofs.Looking.{quiet_files}
 use Rattle.lr_cli.specs.Words.{AreWords}
 use Rattle.lr_cli.specs.Stops.{RuleStopped, TurnStopped}
@@ -46,8 +46,8 @@ not_yet conf ts (inr n) = form n
 pub conf_because : (conf : Path) (s : ConfStop) (f : Fault) (ts : List Entry) → conf_fault_of conf s ≡ Some f → RuleStopped conf s ts → Because conf f ts
 conf_because conf stop.NoFile f ts e r = subst (λ g. Because conf g ts) (fault_is _ _ e) (refl, refl, r)
 conf_because conf stop.NotYet f ts e r = subst (λ g. Because conf g ts) (fault_is _ _ e) (refl, refl, not_yet conf ts r)
-conf_because conf stop.Look f ts e r = subst (λ g. Because conf g ts) (fault_is _ _ e) r
-conf_because conf stop.Read f ts e r = subst (λ g. Because conf g ts) (fault_is _ _ e) r
+conf_because conf stop.Look f ts e r = subst (λ g. Because conf g ts) (fault_is _ _ e) (inl (refl, r))
+conf_because conf stop.Read f ts e r = subst (λ g. Because conf g ts) (fault_is _ _ e) (refl, r)
 conf_because conf stop.Memory f ts e r = absurd (cc)
 
 pub conf_quiet : (conf : Path) (s : ConfStop) (ts : List Entry) → conf_fault_of conf s ≡ None → RuleStopped conf s ts → ChangeNothing ts
@@ -60,20 +60,20 @@ conf_quiet conf stop.Memory ts e r = r
 pub quiet_rule : (conf log : Path) (count : ℕ) (ts : List Entry) → ReadsRule conf log count ts → ChangeNothing ts
 quiet_rule conf log count ts r = quiet_reading conf r.bytes ts r.read
 
-quiet_meets : (log path : Path) (ts : List Entry) → SeesToNoFile log path ts → ChangeNothing ts
-quiet_meets log path ts t = quiet_then (Sees log IsFile) _ ts (λ us p. quiet_sight log IsFile us p)
+quiet_upto : (log path : Path) (P : List Entry → Type 0) (ts : List Entry) → ((us : List Entry) → P us → ChangeNothing us) → SeesUpTo log path P ts → ChangeNothing ts
+quiet_upto log path P ts still t = quiet_then (Sees log IsFile) _ ts (λ us p. quiet_sight log IsFile us p)
     (λ us p. quiet_then (Sees (parent_of log) IsDir) _ us (λ vs q. quiet_sight (parent_of log) IsDir vs q) (λ vs q. quiet_then _ _ vs (λ ws r. ap (filter is_change) r)
-    (λ ws r. quiet_then _ _ ws (λ xs u. quiet_files q.before xs u) (λ xs u. quiet_sight path IsNotFile xs u) r) q.looks) p) t
+    (λ ws r. quiet_then _ _ ws (λ xs u. quiet_files q.before xs u) still r) q.looks) p) t
 
 turn_still : (log : Path) (count : ℕ) (s : TurnStop) (ts : List Entry) → ((step : Step) → s ≡ turn.Refused step → ⊥) → TurnStopped log count s ts → ChangeNothing ts
 turn_still log count turn.Missing ts n r = quiet_sight log IsNothing ts r
 turn_still log count turn.NotFile ts n r = quiet_sight log IsNoFile ts r
 turn_still log count turn.NoDir ts n r = quiet_then (Sees log IsFile) (Sees (parent_of log) IsNoDir) ts (λ us p. quiet_sight log IsFile us p) (λ us p. quiet_sight (parent_of log) IsNoDir us p) r
-turn_still log count (turn.MemberNotFile path) ts n r = quiet_meets log path ts r
-turn_still log count (turn.LookMember path) ts n r = r
-turn_still log count turn.LookLog ts n r = r
-turn_still log count turn.LookDir ts n r = r
-turn_still log count turn.List ts n r = r
+turn_still log count (turn.MemberNotFile path) ts n r = quiet_upto log path (Sees path IsNotFile) ts (λ xs u. quiet_sight path IsNotFile xs u) r
+turn_still log count (turn.LookMember path) ts n r = quiet_upto log path (Are []) ts (λ xs u. ap (filter is_change) u) r
+turn_still log count turn.LookLog ts n r = ap (filter is_change) r
+turn_still log count turn.LookDir ts n r = quiet_sight log IsFile ts r
+turn_still log count turn.List ts n r = quiet_then (Sees log IsFile) (Sees (parent_of log) IsDir) ts (λ us p. quiet_sight log IsFile us p) (λ us p. quiet_sight (parent_of log) IsDir us p) r
 turn_still log count (turn.Refused step) ts n r = absurd (n step refl)
 turn_still log count turn.Memory ts n r = r
 
@@ -93,10 +93,10 @@ turn_because conf log dir count turn.NotFile f ts d e t = subst (λ g. Because c
 turn_because conf log dir count turn.NoDir f ts d e t =
     subst (λ g. Because conf g ts) (fault_is _ _ e) (with_rule conf log count (TurnStopped log count turn.NoDir) (λ l n us. (dir ≡ parent_of l) × Then (Sees l IsFile) (Sees (parent_of l) IsNoDir) us) ts (λ us r. (d, r)) t)
 turn_because conf log dir count (turn.MemberNotFile path) f ts d e t = subst (λ g. Because conf g ts) (fault_is _ _ e) (with_rule conf log count (TurnStopped log count (turn.MemberNotFile path)) (λ l n us. NotFileBecause l path us) ts (λ us r. inr r) t)
-turn_because conf log dir count (turn.LookMember path) f ts d e t = subst (λ g. Because conf g ts) (fault_is _ _ e) (turn_quiet conf log count (turn.LookMember path) ts (λ step n. cc) t)
-turn_because conf log dir count turn.LookLog f ts d e t = subst (λ g. Because conf g ts) (fault_is _ _ e) (turn_quiet conf log count turn.LookLog ts (λ step n. cc) t)
-turn_because conf log dir count turn.LookDir f ts d e t = subst (λ g. Because conf g ts) (fault_is _ _ e) (turn_quiet conf log count turn.LookDir ts (λ step n. cc) t)
-turn_because conf log dir count turn.List f ts d e t = subst (λ g. Because conf g ts) (fault_is _ _ e) (turn_quiet conf log count turn.List ts (λ step n. cc) t)
+turn_because conf log dir count (turn.LookMember path) f ts d e t = subst (λ g. Because conf g ts) (fault_is _ _ e) (inr (with_rule conf log count (TurnStopped log count (turn.LookMember path)) (λ l n us. LookBecause l path us) ts (λ us r. at_member r) t))
+turn_because conf log dir count turn.LookLog f ts d e t = subst (λ g. Because conf g ts) (fault_is _ _ e) (inr (with_rule conf log count (TurnStopped log count turn.LookLog) (λ l n us. LookBecause l log us) ts (λ us r. at_log refl r) t))
+turn_because conf log dir count turn.LookDir f ts d e t = subst (λ g. Because conf g ts) (fault_is _ _ e) (inr (with_rule conf log count (TurnStopped log count turn.LookDir) (λ l n us. LookBecause l dir us) ts (λ us r. at_dir d r) t))
+turn_because conf log dir count turn.List f ts d e t = subst (λ g. Because conf g ts) (fault_is _ _ e) (with_rule conf log count (TurnStopped log count turn.List) (λ l n us. (dir ≡ parent_of l) × Then (Sees l IsFile) (Sees (parent_of l) IsDir) us) ts (λ us r. (d, r)) t)
 turn_because conf log dir count (turn.Refused (step.Unlink path)) f ts d e t =
     subst (λ g. Because conf g ts) (fault_is _ _ e) (with_rule conf log count (TurnStopped log count (turn.Refused (step.Unlink path))) (λ l n us. BreaksOff l n (Unlinks path) us) ts (λ us r. r) t)
 turn_because conf log dir count (turn.Refused (step.Rename from to)) f ts d e t =

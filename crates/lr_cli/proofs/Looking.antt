@@ -10,12 +10,12 @@ use Rattle.lr_host.specs.declared.thing.Kind.TheVariants as kind
 use Rattle.lr_host.specs.declared.entry.Entry.{Entry}
 use Rattle.lr_host.specs.declared.entry.Entry.TheVariants as entry
 use Rattle.lr_host.specs.declared.journal.Journal.{Journal}
-use Rattle.lr_host.specs.Told.{Left}
+use Rattle.lr_host.specs.Told.{Left, Are}
 use Rattle.lr_host.specs.Steps.{is_change}
 use Rattle.lr_host.proofs.Left.{left_as, left_then, left_both}
 use Rattle.lr_cli.specs.declared.family.LookStop.{LookStop}
 use Rattle.lr_cli.specs.declared.family.LookStop.TheVariants as look
-use Rattle.lr_cli.specs.Looks.{ChangeNothing, Sees, SeesFiles, IsFile, IsNotFile, AreListed, AreInOrder, StandsWith, MeetsNoFile}
+use Rattle.lr_cli.specs.Looks.{ChangeNothing, Sees, SeesFiles, IsFile, IsNotFile, AreListed, AreInOrder, StandsWith, Reaches}
 use Rattle.lr_cli.specs.Family.{AreFalling}
 use Rattle.lr_cli.specs.Member.{HasNumbers}
 use Rattle.lr_cli.specs.Stops.{OneStopped, FirstStopped, SomeStopped}
@@ -54,17 +54,6 @@ pub quiet_files : (paths : List Path) (ts : List Entry) → SeesFiles paths ts �
 quiet_files [] ts p = ap (filter is_change) p
 quiet_files (x ∷ xs) ts p = ap (filter is_change) p.joined ∙ (filter-append is_change p.front p.back ∙ (ap (λ zs. zs ++ filter is_change p.back) (ap (filter is_change) p.first.look) ∙ quiet_files xs p.back p.second))
 
-quiet_one : (path : Path) (s : LookStop) (ts : List Entry) → OneStopped path s ts → ChangeNothing ts
-quiet_one path look.NotFile ts p = ap (filter is_change) p.look
-quiet_one path look.Call ts p = ap (filter is_change) p
-
-quiet_first : (paths : List Path) (s : LookStop) (ts : List Entry) → FirstStopped paths s ts → ChangeNothing ts
-quiet_first [] s ts p = absurd p
-quiet_first (x ∷ xs) s ts p = quiet_one x s ts p
-
-pub quiet_stopped : (paths : List Path) (s : LookStop) (at : ℕ) (ts : List Entry) → SomeStopped paths s at ts → ChangeNothing ts
-quiet_stopped paths s at ts p = ap (filter is_change) p.joined ∙ (filter-append is_change p.front p.back ∙ (ap (λ zs. zs ++ filter is_change p.back) (quiet_files (take at paths) p.front p.first) ∙ quiet_first (drop at paths) s p.back p.second))
-
 split_path : (paths : List Path) (at : ℕ) (path : Path) → path ≡ get_or paths at path → at < length paths → paths ≡ take at paths ++ path ∷ drop (at + 1) paths
 split_path paths at path is lt = sym (take-append-drop at paths) ∙ ap (λ ps. take at paths ++ ps) (drop_more paths at path lt ∙ ap (λ y. y ∷ drop (at + 1) paths) (sym is))
 
@@ -84,10 +73,10 @@ stands log dir names numbers paths ps e f listed in_order a b = left_as (left_bo
   };
 })
 
--- the member at this place was seen as no file
-pub meets : (log dir : Path) (names : List (List ℕ)) (numbers : List ℕ) (paths ps : List Path) (at : ℕ) (path : Path) (s : LookStop) {o m n : Option Journal} → dir ≡ parent_of log → ps ≡ paths → s ≡ look.NotFile → AreListed log names numbers → AreInOrder log numbers paths → path ≡ get_or paths at path → at < length paths
-    → Left (λ ts. ts ≡ entry.List dir names ∷ []) o m → Left (SomeStopped ps s at) m n → Left (MeetsNoFile log path) o n
-meets log dir names numbers paths ps at path s e f k listed in_order is lt a b = left_as (left_both (left_as a (λ ts h. h ∙ ap (λ (d : Path). entry.List d names ∷ []) e)) (left_as b (λ ts h. subst (λ r. SomeStopped paths r at ts) k (subst (λ qs. SomeStopped qs s at ts) f h)))) (λ ts t. record {
+-- the member at this place stopped the looks
+pub reaches : (log dir : Path) (names : List (List ℕ)) (numbers : List ℕ) (paths ps : List Path) (at : ℕ) (path : Path) (s : LookStop) {o m n : Option Journal} → dir ≡ parent_of log → ps ≡ paths → AreListed log names numbers → AreInOrder log numbers paths → path ≡ get_or paths at path → at < length paths
+    → Left (λ ts. ts ≡ entry.List dir names ∷ []) o m → Left (SomeStopped ps s at) m n → Left (Reaches log path (OneStopped path s)) o n
+reaches log dir names numbers paths ps at path s e f listed in_order is lt a b = left_as (left_both (left_as a (λ ts h. h ∙ ap (λ (d : Path). entry.List d names ∷ []) e)) (left_as b (λ ts h. subst (λ qs. SomeStopped qs s at ts) f h))) (λ ts t. record {
   names = names;
   numbers = numbers;
   before = take at paths;
@@ -104,11 +93,13 @@ meets log dir names numbers paths ps at path s e f k listed in_order is lt a b =
       back = t.second.back;
       joined = t.second.joined;
       first = t.second.first;
-      second = subst (λ ps. FirstStopped ps look.NotFile t.second.back) (drop_more paths at path lt ∙ ap (λ y. y ∷ drop (at + 1) paths) (sym is)) t.second.second;
+      second = subst (λ qs. FirstStopped qs s t.second.back) (drop_more paths at path lt ∙ ap (λ y. y ∷ drop (at + 1) paths) (sym is)) t.second.second;
     };
   };
 })
 
--- a look that failed
-pub stops_still : (dir : Path) (names : List (List ℕ)) (paths : List Path) (s : LookStop) (at : ℕ) {o m n : Option Journal} → Left (λ ts. ts ≡ entry.List dir names ∷ []) o m → Left (SomeStopped paths s at) m n → Left ChangeNothing o n
-stops_still dir names paths s at a b = left_then a b (λ xs ys p q. filter-append is_change xs ys ∙ (ap (λ zs. zs ++ filter is_change ys) (ap (filter is_change) p) ∙ quiet_stopped paths s at ys q))
+pub meets : (log path : Path) (s : LookStop) {o n : Option Journal} → s ≡ look.NotFile → Left (Reaches log path (OneStopped path s)) o n → Left (Reaches log path (Sees path IsNotFile)) o n
+meets log path s k l = left_as l (λ ts r. subst (λ z. Reaches log path (OneStopped path z) ts) k r)
+
+pub misses : (log path : Path) (s : LookStop) {o n : Option Journal} → s ≡ look.Call → Left (Reaches log path (OneStopped path s)) o n → Left (Reaches log path (Are [])) o n
+misses log path s k l = left_as l (λ ts r. subst (λ z. Reaches log path (OneStopped path z) ts) k r)

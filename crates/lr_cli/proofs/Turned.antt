@@ -1,6 +1,7 @@
 -- What the looks at a family and the steps behind them leave together.
-use Rattle.std.proofs.Common.{◌≡◌, ℕ, ◌<◌, List, ◌++◌, length, map, get_or, refl, ap, ◌∙◌, subst, append_assoc, Option}
+use Rattle.std.proofs.Common.{◌≡◌, ℕ, ◌<◌, List, ◌++◌, length, map, get_or, refl, ap, ◌∙◌, subst, append_assoc, Option, sym}
 use Rattle.std.specs.Prelude.{filter}
+use Rattle.std.proofs.lemmas.List.{append-nil}
 use Rattle.std.proofs.lemmas.List.Elements.{filter-append}
 use Rattle.lr_rules.specs.declared.path.Path.{Path}
 use Rattle.lr_rules.specs.Path.{parent_of}
@@ -40,12 +41,12 @@ quiet_then P Q ts p q t = ap (filter is_change) t.joined ∙ (filter-append is_c
 pub log_stops : (log : Path) (s : TurnStop) (ts : List Entry) → LogStopped log s ts → SeeStopped log s ts
 log_stops log turn.Missing ts r = r
 log_stops log turn.NotFile ts r = r
-log_stops log turn.LookLog ts r = ap (filter is_change) r
+log_stops log turn.LookLog ts r = r
 log_stops log _ ts r = absurd r
 
 dir_case : (log : Path) (s : TurnStop) (xs ys : List Entry) → Sees log IsFile xs → DirStopped (parent_of log) s ys → SeeStopped log s (xs ++ ys)
 dir_case log turn.NoDir xs ys p q = record { front = xs; back = ys; joined = refl; first = p; second = q }
-dir_case log turn.LookDir xs ys p q = filter-append is_change xs ys ∙ (ap (λ zs. zs ++ filter is_change ys) (quiet_sight log IsFile xs p) ∙ ap (filter is_change) q)
+dir_case log turn.LookDir xs ys p q = subst (λ zs. Sees log IsFile (xs ++ zs)) (sym q) (subst (λ zs. Sees log IsFile zs) (sym (append-nil xs)) p)
 dir_case log _ xs ys p q = absurd q
 
 pub dir_stops : (log dir : Path) (s : TurnStop) {o m n : Option Journal} → dir ≡ parent_of log → Left (Sees log IsFile) o m → Left (DirStopped dir s) m n → Left (SeeStopped log s) o n
@@ -57,8 +58,8 @@ quiet_both log dir xs ys p q =
 
 stand_case : (log : Path) (s : TurnStop) (xs ys : List Entry) → Then (Sees log IsFile) (Sees (parent_of log) IsDir) xs → StandStopped log s ys → SeeStopped log s (xs ++ ys)
 stand_case log (turn.MemberNotFile path) xs ys p q = then_assoc (xs ++ ys) (record { front = xs; back = ys; joined = refl; first = p; second = q })
-stand_case log (turn.LookMember path) xs ys p q = quiet_both log (parent_of log) xs ys p q
-stand_case log turn.List xs ys p q = quiet_both log (parent_of log) xs ys p q
+stand_case log (turn.LookMember path) xs ys p q = then_assoc (xs ++ ys) (record { front = xs; back = ys; joined = refl; first = p; second = q })
+stand_case log turn.List xs ys p q = subst (λ zs. Then (Sees log IsFile) (Sees (parent_of log) IsDir) (xs ++ zs)) (sym q) (subst (λ zs. Then (Sees log IsFile) (Sees (parent_of log) IsDir) zs) (sym (append-nil xs)) p)
 stand_case log turn.Memory xs ys p q = quiet_both log (parent_of log) xs ys p q
 stand_case log _ xs ys p q = absurd q
 

@@ -10,14 +10,14 @@ use Rattle.lr_rules.specs.declared.fault.CallKind.TheVariants as call
 use Rattle.lr_rules.specs.Path.{parent_of}
 use Rattle.lr_host.specs.declared.entry.Entry.{Entry}
 use Rattle.lr_host.specs.declared.entry.Entry.TheVariants.{Renames, Unlinks}
-use Rattle.lr_host.specs.Told.{Then, Are}
+use Rattle.lr_host.specs.Told.{Then, Are, Each}
 use Rattle.lr_host.specs.Steps.{is_change}
-use Rattle.lr_host.specs.Reading.{ReadsAll}
+use Rattle.lr_host.specs.Reading.{IsReadOf, ReadsAll}
 use Rattle.lr_cli.specs.declared.outcome.Outcome.{Outcome}
 use Rattle.lr_cli.specs.declared.outcome.Outcome.TheVariants.{Done, BadWords, Held, OutOfMemory}
 use Rattle.lr_cli.specs.Acts.{StopsAt}
 use Rattle.lr_cli.specs.Form.{Defines, IsNoForm}
-use Rattle.lr_cli.specs.Looks.{ChangeNothing, Sees, IsFile, IsDir, IsNothing, IsNothingOrOther, IsNoFile, IsNoDir, MeetsNoFile, SeesFamily, SeesNumbers}
+use Rattle.lr_cli.specs.Looks.{ChangeNothing, Sees, IsFile, IsDir, IsNothing, IsNothingOrOther, IsNoFile, IsNotFile, IsNoDir, SeesFamily, SeesUpTo, SeesNumbers}
 use Rattle.lr_cli.specs.Rotation.{rotation}
 use Rattle.lr_cli.specs.Words.{AreWords}
 
@@ -47,10 +47,6 @@ pub record BreaksOff (log : Path) (count : ℕ) (refused : Entry) (ts : List Ent
   pub numbers : List ℕ
   pub run : Then (SeesNumbers log numbers) (StopsAt (rotation log count numbers) refused) ts
 
--- The first member in order of bytes that wasn't seen as a file has this path.
-abbrev pub SeesToNoFile : Path → Path → List Entry → Type 0
-SeesToNoFile log path = Then (Sees log IsFile) (Then (Sees (parent_of log) IsDir) (MeetsNoFile log path))
-
 -- The configuration defines a log with a count, of which this holds.
 pub record WithRule (conf : Path) (P : Path → ℕ → List Entry → Type 0) (ts : List Entry) : Type 0 where
   pub log : Path
@@ -77,15 +73,24 @@ ConfBecause conf conf_kind.NoFile ts = Sees conf IsNothingOrOther ts
 ConfBecause conf conf_kind.NotYet ts = IsNotYet conf ts
 ConfBecause conf _ ts = ⊥
 
--- where a call failed: a step of the rotation may have been made, any other call changed nothing
+-- The look at this path failed: at the log, its directory or a member, and those before it in order were made.
+pub data LookBecause (log path : Path) (ts : List Entry) : Type 0 where
+  at_log : path ≡ log → ts ≡ [] → LookBecause log path ts
+  at_dir : path ≡ parent_of log → Sees log IsFile ts → LookBecause log path ts
+  at_member : SeesUpTo log path (Are []) ts → LookBecause log path ts
+
+-- Where a call failed. A look, a listing and a read leave no entry; a step of the rotation may have been made.
 abbrev pub CallBecause : Path → CallKind → Path → List Entry → Type 0
+CallBecause conf call.Look path ts = ((path ≡ conf) × (ts ≡ [])) ⊎ WithRule conf (λ log count us. LookBecause log path us) ts
+CallBecause conf call.Read path ts = (path ≡ conf) × Then (Sees conf IsFile) (Each (IsReadOf conf)) ts
+CallBecause conf call.List path ts = WithRule conf (λ log count us. (path ≡ parent_of log) × Then (Sees log IsFile) (Sees (parent_of log) IsDir) us) ts
 CallBecause conf call.Rename path ts = WithRule conf (λ log count us. (to : Path) × BreaksOff log count (Renames path to) us) ts
 CallBecause conf call.Unlink path ts = WithRule conf (λ log count us. BreaksOff log count (Unlinks path) us) ts
-CallBecause conf _ path ts = ChangeNothing ts
+CallBecause conf _ path ts = ⊥
 
 -- The log itself, or the first member in order of bytes that isn't one, was seen as no regular file.
 abbrev pub NotFileBecause : Path → Path → List Entry → Type 0
-NotFileBecause log path ts = ((path ≡ log) × Sees log IsNoFile ts) ⊎ SeesToNoFile log path ts
+NotFileBecause log path ts = ((path ≡ log) × Sees log IsNoFile ts) ⊎ SeesUpTo log path (Sees path IsNotFile) ts
 
 -- The cause of each fault.
 abbrev pub Because : Path → Fault → List Entry → Type 0

@@ -86,19 +86,23 @@ pub record StandsWith (log : Path) (numbers : List ℕ) (ts : List Entry) : Type
   pub names : List (List ℕ)
   pub stands : Stands log names numbers ts
 
--- The first member in order of bytes that wasn't seen as a file has this path.
-pub record MeetsNoFile (log path : Path) (ts : List Entry) : Type 0 where
+-- The members before this one, in order of bytes, were looked at and seen as files, and of it P holds.
+pub record Reaches (log path : Path) (P : List Entry → Type 0) (ts : List Entry) : Type 0 where
   pub names : List (List ℕ)
   pub numbers : List ℕ
   pub before : List Path
   pub after : List Path
   pub listed : AreListed log names numbers
   pub in_order : AreInOrder log numbers (before ++ path ∷ after)
-  pub looks : Then (Are (entry.List (parent_of log) names ∷ [])) (Then (SeesFiles before) (Sees path IsNotFile)) ts
+  pub looks : Then (Are (entry.List (parent_of log) names ∷ [])) (Then (SeesFiles before) P) ts
 
 -- The log was seen as a file, its directory as one, and its members as files.
 abbrev pub SeesFamily : Path → List (List ℕ) → List ℕ → List Entry → Type 0
 SeesFamily log names numbers = Then (Sees log IsFile) (Then (Sees (parent_of log) IsDir) (Stands log names numbers))
+
+-- The log and its directory were seen, and of the members up to this one P holds.
+abbrev pub SeesUpTo : Path → Path → (List Entry → Type 0) → List Entry → Type 0
+SeesUpTo log path P = Then (Sees log IsFile) (Then (Sees (parent_of log) IsDir) (Reaches log path P))
 
 -- The same of a listing with some names, where the members have these numbers.
 pub record SeesNumbers (log : Path) (numbers : List ℕ) (ts : List Entry) : Type 0 where

@@ -3,7 +3,8 @@ use Rattle.std.specs.Prelude.{◌≡◌, ◌⊎◌, ℕ, List, [], ◌∷◌, ta
 use Rattle.lr_rules.specs.declared.path.Path.{Path}
 use Rattle.lr_rules.specs.Path.{parent_of}
 use Rattle.lr_host.specs.declared.entry.Entry.{Entry}
-use Rattle.lr_host.specs.Told.{Then}
+use Rattle.lr_host.specs.Told.{Then, Are, Each}
+use Rattle.lr_host.specs.Reading.{IsReadOf}
 use Rattle.lr_cli.specs.declared.conf.ConfStop.{ConfStop}
 use Rattle.lr_cli.specs.declared.conf.ConfStop.TheVariants as stop
 use Rattle.lr_cli.specs.declared.family.LookStop.{LookStop}
@@ -11,13 +12,15 @@ use Rattle.lr_cli.specs.declared.family.LookStop.TheVariants as look
 use Rattle.lr_cli.specs.declared.rotation.TurnStop.{TurnStop}
 use Rattle.lr_cli.specs.declared.rotation.TurnStop.TheVariants as turn
 use Rattle.lr_cli.specs.Acts.{entry_of}
-use Rattle.lr_cli.specs.Looks.{ChangeNothing, Sees, SeesFiles, IsFile, IsDir, IsNothing, IsNothingOrOther, IsNoFile, IsNotFile, IsNoDir, MeetsNoFile}
-use Rattle.lr_cli.specs.Answer.{ReadsNoRule, SeesToNoFile, BreaksOff}
+use Rattle.lr_cli.specs.Looks.{ChangeNothing, Sees, SeesFiles, IsFile, IsDir, IsNothing, IsNothingOrOther, IsNoFile, IsNotFile, IsNoDir, Reaches, SeesUpTo}
+use Rattle.lr_cli.specs.Answer.{ReadsNoRule, BreaksOff}
 
 -- the configuration wasn't read
 abbrev pub ConfStopped : Path → ConfStop → List Entry → Type 0
 ConfStopped conf stop.NoFile ts = Sees conf IsNothingOrOther ts
 ConfStopped conf stop.NotYet ts = Sees conf IsDir ts
+ConfStopped conf stop.Look ts = ts ≡ []
+ConfStopped conf stop.Read ts = Then (Sees conf IsFile) (Each (IsReadOf conf)) ts
 ConfStopped conf _ ts = ChangeNothing ts
 
 -- or gives no log
@@ -60,9 +63,9 @@ SomeStopped paths s at = Then (SeesFiles (take at paths)) (FirstStopped (drop at
 
 -- the directory wasn't listed, or some member wasn't seen as a file
 abbrev pub StandStopped : Path → TurnStop → List Entry → Type 0
-StandStopped log (turn.MemberNotFile path) ts = MeetsNoFile log path ts
-StandStopped log (turn.LookMember path) ts = ChangeNothing ts
-StandStopped log turn.List ts = ChangeNothing ts
+StandStopped log (turn.MemberNotFile path) ts = Reaches log path (Sees path IsNotFile) ts
+StandStopped log (turn.LookMember path) ts = Reaches log path (Are []) ts
+StandStopped log turn.List ts = ts ≡ []
 StandStopped log turn.Memory ts = ChangeNothing ts
 StandStopped log _ ts = ⊥
 
@@ -71,9 +74,13 @@ abbrev pub SeeStopped : Path → TurnStop → List Entry → Type 0
 SeeStopped log turn.Missing ts = Sees log IsNothing ts
 SeeStopped log turn.NotFile ts = Sees log IsNoFile ts
 SeeStopped log turn.NoDir ts = Then (Sees log IsFile) (Sees (parent_of log) IsNoDir) ts
-SeeStopped log (turn.MemberNotFile path) ts = SeesToNoFile log path ts
+SeeStopped log turn.LookLog ts = ts ≡ []
+SeeStopped log turn.LookDir ts = Sees log IsFile ts
+SeeStopped log turn.List ts = Then (Sees log IsFile) (Sees (parent_of log) IsDir) ts
+SeeStopped log (turn.MemberNotFile path) ts = SeesUpTo log path (Sees path IsNotFile) ts
+SeeStopped log (turn.LookMember path) ts = SeesUpTo log path (Are []) ts
+SeeStopped log turn.Memory ts = ChangeNothing ts
 SeeStopped log (turn.Refused step) ts = ⊥
-SeeStopped log _ ts = ChangeNothing ts
 
 -- or a step was refused
 abbrev pub TurnStopped : Path → ℕ → TurnStop → List Entry → Type 0

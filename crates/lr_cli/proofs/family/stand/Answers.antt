@@ -2,14 +2,11 @@ use Rattle.std.proofs.Common.{◌≡◌, ◌<◌, ℕ, List, [], drop, length, a
 use Rattle.lr_rules.specs.declared.path.Path.{Path}
 use Rattle.lr_cli.specs.Looks.{AreInOrder}
 use Rattle.lr_cli.proofs.Sights.{quiet_none, quiet_list, lists}
-use Rattle.lr_cli.proofs.Looking.{listed_as, stands, meets, stops_still}
+use Rattle.lr_cli.proofs.Looking.{listed_as, stands, reaches, meets, misses}
 use Rattle.lr_cli.proofs.family.stand.Goals as goal
 
 listed : (old new : List (List ℕ)) → old ≡ [] → drop (length old) new ≡ new
 listed old new e = ap (λ (xs : List (List ℕ)). drop (length xs) new) e
-
-pub returns-in-Err-Failed-clause-stopped : goal.returns-in-Err-Failed-clause-stopped
-returns-in-Err-Failed-clause-stopped g c = quiet_none c.in-Err-Failed.ensures.told
 
 pub returns-in-Err-Memory-clause-stopped : goal.returns-in-Err-Memory-clause-stopped
 returns-in-Err-Memory-clause-stopped g c = quiet_none c.in-Err-Memory.ensures.told
@@ -29,12 +26,20 @@ returns-in-Ok-look_at_all-clause-told g c =
 
 pub returns-in-Err-NotFile-default-clause-stopped : goal.returns-in-Err-NotFile-default-clause-stopped
 returns-in-Err-NotFile-default-clause-stopped g c =
-    meets c.args.log.now c.args.dir.now c.list.new.names.items c.in-Ok-members_among.numbers.items c.in-Ok-paths_in_order.paths.items c.deref-3.result.now c.in-Err-NotFile-default.at c.swap_remove.result c.in-Err-NotFile-default.field-0-0
-    c.requires.dir c.deref-3.ensures.value c.in-Err-NotFile-default.field-0-0-is
+    meets c.args.log.now c.swap_remove.result c.in-Err-NotFile-default.field-0-0 c.in-Err-NotFile-default.field-0-0-is
+    (reaches c.args.log.now c.args.dir.now c.list.new.names.items c.in-Ok-members_among.numbers.items c.in-Ok-paths_in_order.paths.items c.deref-3.result.now c.in-Err-NotFile-default.at c.swap_remove.result c.in-Err-NotFile-default.field-0-0
+    c.requires.dir c.deref-3.ensures.value
     (listed_as c.args.log.now c.last.result.now c.list.new.names.items c.deref.result.now c.in-Ok-members_among.numbers.items c.last.ensures c.deref.ensures.value c.in-Ok-members_among.ensures.falling c.in-Ok-members_among.ensures.all)
     (subst (λ (ns : List ℕ). AreInOrder c.args.log.now ns c.in-Ok-paths_in_order.paths.items) c.deref-2.ensures.value c.in-Ok-paths_in_order.ensures)
     c.swap_remove.ensures.value (subst (λ (ps : List Path). c.in-Err-NotFile-default.at < length ps) c.deref-3.ensures.value c.in-Err-NotFile-default.ensures.within)
-    (lists c.args.dir.now _ c.list.new.names.items c.in-Ok.ensures.told (listed c.new-names.result.items c.list.new.names.items c.new-names.ensures.items)) c.in-Err-NotFile-default.ensures.stopped
+    (lists c.args.dir.now _ c.list.new.names.items c.in-Ok.ensures.told (listed c.new-names.result.items c.list.new.names.items c.new-names.ensures.items)) c.in-Err-NotFile-default.ensures.stopped)
 
 pub returns-clause-stopped : goal.returns-clause-stopped
-returns-clause-stopped g c = stops_still c.args.dir.now _ c.deref-3.result.now _ _ c.in-Ok.ensures.told c.in-Err-Call-default.ensures.stopped
+returns-clause-stopped g c =
+    misses c.args.log.now c.swap_remove-in-Err-Call-default.result c.in-Err-Call-default.field-0-0 c.in-Err-Call-default.field-0-0-is
+    (reaches c.args.log.now c.args.dir.now c.list.new.names.items c.in-Ok-members_among.numbers.items c.in-Ok-paths_in_order.paths.items c.deref-3.result.now c.in-Err-Call-default.at c.swap_remove-in-Err-Call-default.result c.in-Err-Call-default.field-0-0
+    c.requires.dir c.deref-3.ensures.value
+    (listed_as c.args.log.now c.last.result.now c.list.new.names.items c.deref.result.now c.in-Ok-members_among.numbers.items c.last.ensures c.deref.ensures.value c.in-Ok-members_among.ensures.falling c.in-Ok-members_among.ensures.all)
+    (subst (λ (ns : List ℕ). AreInOrder c.args.log.now ns c.in-Ok-paths_in_order.paths.items) c.deref-2.ensures.value c.in-Ok-paths_in_order.ensures)
+    c.swap_remove-in-Err-Call-default.ensures.value (subst (λ (ps : List Path). c.in-Err-Call-default.at < length ps) c.deref-3.ensures.value c.in-Err-Call-default.ensures.within)
+    (lists c.args.dir.now _ c.list.new.names.items c.in-Ok.ensures.told (listed c.new-names.result.items c.list.new.names.items c.new-names.ensures.items)) c.in-Err-Call-default.ensures.stopped)
