@@ -1,6 +1,6 @@
 -- Each fault of a run has its cause.
 use Rattle.std.proofs.Common.{◌≡◌, ◌⊎◌, inl, inr, ℕ, zero, suc, ◌+◌, ◌==◌, Bool, true, false, cond, List, [], ◌∷◌, ◌++◌, map, refl, sym, ap, ◌∙◌, subst, Option, Some, None}
-use Rattle.std.specs.Prelude.{filter, IfSome, IfNone, IsSome}
+use Rattle.std.specs.Prelude.{filter, IfSome, IfNone}
 use Rattle.std.proofs.lemmas.List.Elements.{filter-append}
 use Rattle.lr_rules.specs.declared.path.Path.{Path}
 use Rattle.lr_rules.specs.declared.fault.Fault.{Fault}
@@ -23,7 +23,7 @@ use Rattle.lr_cli.specs.Looks.{ChangeNothing, Sees, IsFile, IsDir, IsNothing, Is
 use Rattle.lr_cli.proofs.Looking.{quiet_files}
 use Rattle.lr_cli.specs.Words.{AreWords}
 use Rattle.lr_cli.specs.Stops.{RuleStopped, TurnStopped}
-use Rattle.lr_cli.specs.Faults.{conf_fault_of, turn_fault_of}
+use Rattle.lr_cli.specs.Faults.{conf_fault_of, turn_fault_of, MayLackMemory}
 use Rattle.lr_cli.specs.declared.step.Step.{Step}
 use Rattle.lr_cli.specs.declared.step.Step.TheVariants as step
 use Rattle.lr_cli.specs.Rotation.{rotation, unlink_of, move_of, leftovers, moved, one_too_many, member_at}
@@ -150,8 +150,9 @@ pub some_fault : (r wanted : Option Fault) (f : Fault) → IfSome r (λ g. wante
 some_fault (Some g) wanted f s e = s ∙ e
 some_fault None wanted f s e = absurd (cc)
 
-pub no_fault : (r : Option Fault) → IsSome r → r ≡ None → ⊥
-no_fault r s e = let h : IsSome {T = Fault} None = subst IsSome e s in cc
+pub no_fault : (r : Option Fault) (s : TurnStop) (step : Step) → IfNone r (MayLackMemory s) → r ≡ None → s ≡ turn.Refused step → ⊥
+no_fault (Some f) s step lacks e n = absurd (cc)
+no_fault None s step lacks e n = subst MayLackMemory n lacks
 
 pub answered : (here : Path) (words : List (List ℕ)) (conf : Path) (result : Outcome) (ts : List Entry) → AreWords here words conf → Answers conf result ts → Answered here words result ts
 answered here words conf (Done report) ts w a = (conf, w, a)

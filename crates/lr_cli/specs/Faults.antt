@@ -43,6 +43,12 @@ turn_fault_of log dir (turn.LookMember path) = Some (fault.Call call.Look path)
 turn_fault_of log dir (turn.Refused step) = Some (step_fault step)
 turn_fault_of log dir turn.Memory = None
 
+-- where the fault itself takes memory, or there was none
+abbrev pub MayLackMemory : TurnStop → Type 0
+MayLackMemory turn.Missing = Unit {0}
+MayLackMemory turn.Memory = Unit {0}
+MayLackMemory _ = ⊥
+
 -- the report has the fault
 abbrev pub HasFault : Outcome → Fault → Type 0
 HasFault (Done report) f = Contains report.faults f

@@ -1,7 +1,6 @@
 // The fault that tells why a run stopped.
-ghost use Rattle.std.specs.Prelude.{◌≡◌, Some, IfSome, IsSome};
-ghost use Rattle.lr_cli.specs.declared.step.Step.{Step};
-ghost use Rattle.lr_cli.specs.Faults.{conf_fault, conf_fault_of, step_fault, turn_fault_of};
+ghost use Rattle.std.specs.Prelude.{◌≡◌, Some, IfSome, IfNone};
+ghost use Rattle.lr_cli.specs.Faults.{conf_fault, conf_fault_of, step_fault, turn_fault_of, MayLackMemory};
 
 use crate::conf::ConfStop;
 use crate::rotation::TurnStop;
@@ -42,10 +41,10 @@ fn fault_of_step(step: Step) -> Fault
     }
 }
 
-/// The fault of a log that wasn't turned over; None for want of memory, which is none where a step was refused.
+/// The fault of a log that wasn't turned over; None for want of memory, which only the fault of a missing log takes.
 pub fn fault_of_turn(alloc: Global, log: Path, dir: Path, stop: TurnStop) -> Option<Fault>
     ensures fault { IfSome result (λ fault. turn_fault_of log dir stop ≡ Some fault) }
-    ensures refused { (step : Step) → stop ≡ TurnStop.Refused step → IsSome result }
+    ensures none { IfNone result (MayLackMemory stop) }
 {
     match stop {
         TurnStop::Missing => match Text::new(alloc, log.bytes()) {

@@ -27,4 +27,4 @@ returns-clause-told g c =
     answers c.args.conf (Then (ReadsRule c.args.conf c.in-Ok-read_rule.rule.log c.in-Ok-read_rule.rule.count) (TurnStopped c.in-Ok-read_rule.rule.log c.in-Ok-read_rule.rule.count c.in-Err-turn.stop)) c.fault_of_turn.result c.with_fault-in-Err-turn.result
     c.with_fault-in-Err-turn.ensures.some c.with_fault-in-Err-turn.ensures.none (left_both c.in-Ok-read_rule.ensures.told c.in-Err-turn.ensures.stopped)
     (λ f ts e t. turn_because c.args.conf c.in-Ok-read_rule.rule.log c.in-Ok-parent.dir c.in-Ok-read_rule.rule.count c.in-Err-turn.stop f ts c.in-Ok-parent.ensures.0 (some_fault _ _ f c.fault_of_turn.ensures.fault e) t)
-    (λ ts e t. turn_quiet c.args.conf c.in-Ok-read_rule.rule.log c.in-Ok-read_rule.rule.count c.in-Err-turn.stop ts (λ step n. no_fault _ (c.fault_of_turn.ensures.refused step n) e) t)
+    (λ ts e t. turn_quiet c.args.conf c.in-Ok-read_rule.rule.log c.in-Ok-read_rule.rule.count c.in-Err-turn.stop ts (λ step n. no_fault c.fault_of_turn.result c.in-Err-turn.stop step c.fault_of_turn.ensures.none e n) t)
