@@ -318,53 +318,73 @@ fn standing(alloc: Global, host: &MemHost, bytes: &[u8]) -> Result<usize, Fail> 
     Ok(count)
 }
 
-// Whichever call fails, and whether it has its effect or not, the log and its member stand under one name each, until
-// the count is kept.
-#[test]
-fn each_call_fails_once(rt: HostRuntime) -> Result<(), Fail> {
+// The outcome of a call over a log with one member, where one call fails; an error unless both files stand under one
+// name each.
+fn outcome_where(alloc: Global, failing: Failing) -> Result<(bool, &'static str), Fail> {
     let row = Row {
         files: &[(b"/v/a.log", b"C"), (b"/v/a.log.1", b"A")],
+        failing: Some(failing),
         ..ROWS[0]
     };
+    let mut host = host_of(alloc, &row)?;
+    let outcome = call(alloc, &[b"-f", b"/etc/c"], &mut host)?;
+    for bytes in [b"C".as_slice(), b"A"] {
+        if standing(alloc, &host, bytes)? != 1 {
+            return Err(Fail::from("a file stands under no name, or under two"));
+        }
+    }
+    Ok((failing.at < host.calls(), name_of(&outcome)))
+}
+
+// Whichever call fails, and whether it has its effect or not, the log and its member stand under one name each.
+#[test]
+fn each_call_fails_once(rt: HostRuntime) -> Result<(), Fail> {
     for how in [How::NoEffect, How::WithEffect] {
         for at in 0..16 {
-            let failing = Some(Failing { at, how });
-            let mut host = host_of(rt.alloc(), &Row { failing, ..row })?;
-            let outcome = call(rt.alloc(), &[b"-f", b"/etc/c"], &mut host)?;
-            let wanted = if at < host.calls() { "Call" } else { "Done" };
-            assert_eq!(rt; name_of(&outcome), wanted);
-            assert_eq!(rt; standing(rt.alloc(), &host, b"C")?, 1);
-            assert_eq!(rt; standing(rt.alloc(), &host, b"A")?, 1);
+            let (was_made, name) = outcome_where(rt.alloc(), Failing { at, how })?;
+            assert_eq!(rt; name, if was_made { "Call" } else { "Done" });
         }
     }
     Ok(())
 }
 
-// A writer holds the log and appends before each of the first calls: its bytes go with its file.
-#[test]
-fn writers_act_between_calls(rt: HostRuntime) -> Result<(), Fail> {
-    let mut host = host_of(rt.alloc(), &ROWS[0])?;
-    let path = Path::new(rt.alloc(), b"/v/a.log")?;
-    host.act(Act {
+fn attach(alloc: Global) -> Result<Act, Fail> {
+    Ok(Act {
         before: 0,
         what: Entry::Attach {
             writer: 1,
-            path,
+            path: Path::new(alloc, b"/v/a.log")?,
             at: 1_705_190_600,
         },
-    })?;
+    })
+}
+
+fn feed(alloc: Global, before: u64) -> Result<Act, Fail> {
+    let bytes = Listed::from_vec(Vec::from_slice(alloc, b"w")?);
+    Ok(Act {
+        before,
+        what: Entry::Feed {
+            writer: 1,
+            bytes,
+            at: 1_705_190_600,
+        },
+    })
+}
+
+// A writer holds the log and appends before each of the first calls.
+fn written(alloc: Global) -> Result<MemHost, Fail> {
+    let mut host = host_of(alloc, &ROWS[0])?;
+    host.act(attach(alloc)?)?;
     for before in 0..6 {
-        let mut bytes = Listed::new(rt.alloc());
-        bytes.push(b'w')?;
-        host.act(Act {
-            before,
-            what: Entry::Feed {
-                writer: 1,
-                bytes,
-                at: 1_705_190_600,
-            },
-        })?;
+        host.act(feed(alloc, before)?)?;
     }
+    Ok(host)
+}
+
+// The bytes of a writer go with its file.
+#[test]
+fn writers_act_between_calls(rt: HostRuntime) -> Result<(), Fail> {
+    let mut host = written(rt.alloc())?;
     let outcome = call(rt.alloc(), &[b"-f", b"/etc/c"], &mut host)?;
     assert_eq!(rt; name_of(&outcome), "Done");
     let newest = Path::new(rt.alloc(), b"/v/a.log.1")?;
