@@ -210,14 +210,19 @@ fn opening(alloc: Global, conf: &[u8], files: Files) -> Result<Opening, Fail> {
     })
 }
 
-fn host_of(alloc: Global, row: &Row) -> Result<MemHost, Fail> {
+fn host_of(
+    alloc: Global,
+    conf: &[u8],
+    files: Files,
+    failing_call: Option<Failing>,
+) -> Result<MemHost, Fail> {
     let mut failing = Vec::new(alloc);
-    if let Some(one) = row.failing {
+    if let Some(one) = failing_call {
         failing.push(one)?;
     }
     let made = MemHost::new(
         alloc,
-        opening(alloc, row.conf, row.files)?,
+        opening(alloc, conf, files)?,
         Vec::new(alloc),
         failing,
         Vec::new(alloc),
@@ -264,20 +269,32 @@ fn call(alloc: Global, words: &[&[u8]], host: &mut MemHost) -> Result<Outcome, F
     ))
 }
 
+fn has(alloc: Global, host: &MemHost, path: &[u8], bytes: Option<&[u8]>) -> Result<(), Fail> {
+    if host.file(&Path::new(alloc, path)?) != bytes {
+        return Err(Fail::from("a path names other bytes"));
+    }
+    Ok(())
+}
+
+fn meets(alloc: Global, row: &Row) -> Result<(), Fail> {
+    let mut host = host_of(alloc, row.conf, row.files, row.failing)?;
+    let outcome = call(alloc, &[b"-f", b"/etc/c"], &mut host)?;
+    if name_of(&outcome) != row.answer || status(&outcome) != row.status {
+        return Err(Fail::from("another answer"));
+    }
+    for (path, bytes) in row.after {
+        has(alloc, &host, path, Some(*bytes))?;
+    }
+    for path in row.gone {
+        has(alloc, &host, path, None)?;
+    }
+    Ok(())
+}
+
 #[test]
 fn rows(rt: HostRuntime) -> Result<(), Fail> {
     for row in &ROWS {
-        let mut host = host_of(rt.alloc(), row)?;
-        let outcome = call(rt.alloc(), &[b"-f", b"/etc/c"], &mut host)?;
-        assert_eq!(rt; name_of(&outcome), row.answer);
-        assert_eq!(rt; status(&outcome), row.status);
-        for (path, bytes) in row.after {
-            assert_eq!(rt; host.file(&Path::new(rt.alloc(), path)?), Some(*bytes));
-        }
-        for path in row.gone {
-            assert_eq!(rt; host.file(&Path::new(rt.alloc(), path)?), None);
-        }
-        assert_eq!(rt; host.starved(), 0);
+        meets(rt.alloc(), row)?;
     }
     Ok(())
 }
@@ -293,7 +310,7 @@ fn words(rt: HostRuntime) -> Result<(), Fail> {
         &[b"-f", b"../c"],
     ];
     for words in rows {
-        let mut host = host_of(rt.alloc(), &ROWS[0])?;
+        let mut host = host_of(rt.alloc(), TWO, &[], None)?;
         let outcome = call(rt.alloc(), words, &mut host)?;
         assert_eq!(rt; name_of(&outcome), "BadWords");
         assert_eq!(rt; status(&outcome), 2);
@@ -321,12 +338,8 @@ fn standing(alloc: Global, host: &MemHost, bytes: &[u8]) -> Result<usize, Fail> 
 // The outcome of a call over a log with one member, where one call fails; an error unless both files stand under one
 // name each.
 fn outcome_where(alloc: Global, failing: Failing) -> Result<(bool, &'static str), Fail> {
-    let row = Row {
-        files: &[(b"/v/a.log", b"C"), (b"/v/a.log.1", b"A")],
-        failing: Some(failing),
-        ..ROWS[0]
-    };
-    let mut host = host_of(alloc, &row)?;
+    let files: Files = &[(b"/v/a.log", b"C"), (b"/v/a.log.1", b"A")];
+    let mut host = host_of(alloc, TWO, files, Some(failing))?;
     let outcome = call(alloc, &[b"-f", b"/etc/c"], &mut host)?;
     for bytes in [b"C".as_slice(), b"A"] {
         if standing(alloc, &host, bytes)? != 1 {
@@ -373,7 +386,7 @@ fn feed(alloc: Global, before: u64) -> Result<Act, Fail> {
 
 // A writer holds the log and appends before each of the first calls.
 fn written(alloc: Global) -> Result<MemHost, Fail> {
-    let mut host = host_of(alloc, &ROWS[0])?;
+    let mut host = host_of(alloc, TWO, &[(b"/v/a.log", b"C")], None)?;
     host.act(attach(alloc)?)?;
     for before in 0..6 {
         host.act(feed(alloc, before)?)?;
