@@ -1,8 +1,12 @@
--- When the log can be renamed to its newest member.
-use Rattle.std.proofs.Common.{◌≡◌, ◌≢◌, ℕ, ◌+◌, Bool, true, false, ◌||◌, List, [], ◌∷◌, ◌++◌, length, Option, Some, None, refl, ap, ◌∙◌, arith, length-append}
-use Rattle.std.specs.Prelude.{Contains, Any, decimal}
+-- When files can be renamed to members.
+use Rattle.std.proofs.Common.{◌≡◌, ◌≢◌, ℕ, ◌+◌, ◌<◌, ◌^◌, drop, sym, Bool, true, false, ◌||◌, List, [], ◌∷◌, ◌++◌, length, Option, Some, None, refl, ap, ◌∙◌, arith, length-append}
+use Rattle.std.specs.Prelude.{Contains, decimal}
 use Rattle.std.specs.List.{list_any}
-use Rattle.std.proofs.lemmas.Fmt.{decimal_digit}
+use Rattle.std.specs.Str.Parse.{AllDigits}
+use Rattle.std.specs.Char.{digit_value}
+use Rattle.std.proofs.lemmas.Bool.Decides.{nat_tests}
+use Rattle.std.proofs.lemmas.Fmt.{decimal_is_IsNumeral, decimal_injective}
+use Rattle.lr_cli.proofs.Plain.{rest_behind}
 use Rattle.lr_rules.specs.declared.path.Path.{Path}
 use Rattle.lr_rules.specs.Path.{path_fault, parent_of, last_of, joined, is_slash, is_empty}
 use Rattle.lr_rules.proofs.PathLemmas.{parent_joined, last_joined, last_plain}
@@ -12,22 +16,22 @@ use Rattle.lr_host.specs.declared.thing.Thing.{Thing}
 use Rattle.lr_host.specs.declared.thing.Thing.TheVariants as thing
 use Rattle.lr_host.specs.declared.entry.Entry.TheVariants as entry
 use Rattle.lr_host.specs.declared.journal.Journal.{Journal}
-use Rattle.lr_host.specs.World.{World, Names, Past, ◌▸◌, world, names}
+use Rattle.lr_host.specs.World.{World, Names, world, names}
 use Rattle.lr_host.specs.Fits.{Sees, IsPart}
 use Rattle.lr_host.specs.Told.{Left, Can, WhereTold}
 use Rattle.lr_host.proofs.More.{IsMore, not_more}
 use Rattle.lr_host.proofs.Known.{entry_tells, entry_says}
-use Rattle.lr_cli.specs.Member.{IsMemberName, member_name}
-use Rattle.lr_cli.specs.Answer.{newest}
+use Rattle.lr_cli.specs.Member.{member_name}
+use Rattle.lr_cli.specs.Rotation.{member_at}
 
 -- a file can be renamed there
 abbrev pub IsFree : Names → Path → Type 0
 IsFree n x = (n x ≢ thing.Directory) × (n x ≢ thing.Other)
 
-free_more : (x : Path) (n n' : Names) → IsMore n n' → IsFree n x → IsFree n' x
+pub free_more : (x : Path) (n n' : Names) → IsMore n n' → IsFree n x → IsFree n' x
 free_more x n n' more f = (not_more n n' x thing.Directory more (λ g e. cc) f.0, not_more n n' x thing.Other more (λ g e. cc) f.1)
 
-nothing_free : (t : Thing) → (t ≢ thing.Nothing → ⊥) → (t ≢ thing.Directory) × (t ≢ thing.Other)
+pub nothing_free : (t : Thing) → (t ≢ thing.Nothing → ⊥) → (t ≢ thing.Directory) × (t ≢ thing.Other)
 nothing_free thing.Nothing h = ((λ e. cc), (λ e. cc))
 nothing_free (thing.File g) h = ((λ e. cc), (λ e. cc))
 nothing_free thing.Directory h = absurd (h (λ e. cc))
@@ -38,16 +42,6 @@ pub unlisted_free : (dir : Path) (name : List ℕ) (listed : List (List ℕ)) {o
     → WhereTold n (λ p. IsFree (names (world p)) (joined dir name))
 unlisted_free dir name listed l part absent = entry_tells (λ n. IsFree n (joined dir name)) (λ n n' more f. free_more (joined dir name) n n' more f) l
     (λ w fits. nothing_free (names (world w) (joined dir name)) (λ some. absent ((fits.1.all name).1 (part, some))))
-
--- what makes a rename fit
-pub can_rename : (from to dir : Path) {o : Option Journal} → Can o (entry.Reads from 0 []) → WhereTold o (λ p. IsFree (names (world p)) to) → Can o (entry.List dir []) → parent_of to ≡ dir → (from ≡ to → ⊥)
-    → Can o (entry.Renames from to)
-can_rename from to dir {o} file free list e differ = record { can = go o file.can free list.can }
-  where
-    go : (o : Option Journal) → WhereTold o (λ p. (g : ℕ) × (names (world p) from ≡ thing.File g)) → WhereTold o (λ p. IsFree (names (world p)) to) → WhereTold o (λ p. names (world p) dir ≡ thing.Directory)
-        → WhereTold o (λ p. ((g : ℕ) × (names (world p) from ≡ thing.File g)) × (names (world p) to ≢ thing.Directory) × (names (world p) to ≢ thing.Other) × (names (world p) (parent_of to) ≡ thing.Directory) × (from ≢ to))
-    go None a b d = tt
-    go (Some j) a b d = (a, b.0, b.1, ap (names (world (Rattle.lr_host.specs.World.past j))) e ∙ d, differ)
 
 or_false : (a b : Bool) → a ≡ false → b ≡ false → (a || b) ≡ false
 or_false true b p q = absurd (cc)
@@ -61,29 +55,40 @@ any-append (x ∷ xs) ys p q = or_false (is_slash x) (list_any is_slash (xs ++ y
     first true b h = absurd (cc)
     first false b h = (refl, h)
 
-plain_member : (base : List ℕ) → list_any is_slash base ≡ false → list_any is_slash (member_name base 1) ≡ false
-plain_member base plain = any-append base (46 ∷ decimal 1) plain (ap (λ ds. list_any is_slash (46 ∷ ds)) (decimal_digit 1 (omega arith)))
+all_digits : (ds : List ℕ) → AllDigits 10 ds → list_any is_slash ds ≡ false
+all_digits [] h = refl
+all_digits (d ∷ ds) h = or_false (is_slash d) (list_any is_slash ds) (plain_digit d h.0) (all_digits ds h.1)
+  where
+    plain_digit : (d : ℕ) → digit_value d < 10 → is_slash d ≡ false
+    plain_digit d small = grind (arith, nat_tests)
 
-some_member : (base : List ℕ) (n : ℕ) → is_empty (member_name base n) ≡ false
-some_member [] n = refl
-some_member (b ∷ bs) n = refl
+plain_member : (base : List ℕ) (number : ℕ) → list_any is_slash base ≡ false → number < 2 ^ 64 → list_any is_slash (member_name base number) ≡ false
+plain_member base number plain small = any-append base (46 ∷ decimal number) plain (all_digits (decimal number) (decimal_is_IsNumeral number small).0.1)
 
--- the newest member's name can stand behind a slash
-pub newest_part : (log : Path) → path_fault log ≡ None → IsPart (member_name (last_of log) 1)
-newest_part log path = (some_member (last_of log) 1, plain_member (last_of log) (last_plain log path))
+some_member : (base : List ℕ) (number : ℕ) → is_empty (member_name base number) ≡ false
+some_member [] number = refl
+some_member (b ∷ bs) number = refl
 
-pub newest_parent : (log : Path) → path_fault log ≡ None → path_fault (parent_of log) ≡ None → parent_of (newest log) ≡ parent_of log
-newest_parent log path dir = parent_joined (parent_of log) (member_name (last_of log) 1) dir (plain_member (last_of log) (last_plain log path))
+-- a member's name can stand behind a slash
+pub member_part : (log : Path) (number : ℕ) → path_fault log ≡ None → number < 2 ^ 64 → IsPart (member_name (last_of log) number)
+member_part log number path small = (some_member (last_of log) number, plain_member (last_of log) number (last_plain log path) small)
 
-pub newest_other : (log : Path) → path_fault log ≡ None → log ≡ newest log → ⊥
-newest_other log path e =
-    let last : last_of log ≡ member_name (last_of log) 1 = ap last_of e ∙ last_joined (parent_of log) (member_name (last_of log) 1) (plain_member (last_of log) (last_plain log path)) in
-    let size : length (member_name (last_of log) 1) ≡ length (last_of log) + (length (decimal 1) + 1) = length-append (last_of log) (46 ∷ decimal 1) ∙ omega arith in
+pub member_parent : (log : Path) (number : ℕ) → path_fault log ≡ None → path_fault (parent_of log) ≡ None → number < 2 ^ 64 → parent_of (member_at log number) ≡ parent_of log
+member_parent log number path dir small = parent_joined (parent_of log) (member_name (last_of log) number) dir (plain_member (last_of log) number (last_plain log path) small)
+
+pub member_last : (log : Path) (number : ℕ) → path_fault log ≡ None → number < 2 ^ 64 → last_of (member_at log number) ≡ member_name (last_of log) number
+member_last log number path small = last_joined (parent_of log) (member_name (last_of log) number) (plain_member (last_of log) number (last_plain log path) small)
+
+pub member_other : (log : Path) (number : ℕ) → path_fault log ≡ None → number < 2 ^ 64 → log ≡ member_at log number → ⊥
+member_other log number path small e =
+    let last : last_of log ≡ member_name (last_of log) number = ap last_of e ∙ member_last log number path small in
+    let size : length (member_name (last_of log) number) ≡ length (last_of log) + (length (decimal number) + 1) = length-append (last_of log) (46 ∷ decimal number) ∙ omega arith in
     omega (arith, ap length last, size)
 
--- no member is listed, so the newest isn't
-pub newest_unlisted : (base : List ℕ) (listed : List (List ℕ)) → (Any (IsMemberName base) listed → ⊥) → Contains listed (member_name base 1) → ⊥
-newest_unlisted base listed none c = none (c.0, member_name base 1, c.1, c.2, (1, (omega arith, omega arith), refl))
+-- members with other numbers have other paths
+pub member_apart : (log : Path) (m n : ℕ) → path_fault log ≡ None → m < 2 ^ 64 → n < 2 ^ 64 → member_at log m ≡ member_at log n → m ≡ n
+member_apart log m n path i j e =
+    decimal_injective m n i j (sym (rest_behind (last_of log) (decimal m)) ∙ (ap (drop (length (last_of log) + 1)) (sym (member_last log m path i) ∙ (ap last_of e ∙ member_last log n path j)) ∙ rest_behind (last_of log) (decimal n)))
 
 -- a path where a look saw a directory can be listed
 seen_dir : (w : World) (t : Thing) (seen : Seen) → Sees w t (Some seen) → seen.kind ≡ kind.Dir → t ≡ thing.Directory

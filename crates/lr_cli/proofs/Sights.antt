@@ -15,7 +15,8 @@ use Rattle.lr_host.specs.Reading.{IsReadOf, ReadsAll}
 use Rattle.lr_host.proofs.Left.{left_as, left_then}
 use Rattle.lr_cli.specs.declared.conf.ConfStop.{ConfStop}
 use Rattle.lr_cli.specs.declared.conf.ConfStop.TheVariants as stop
-use Rattle.lr_cli.specs.Answer.{ChangeNothing, Sees, IsFile, IsNoFile, IsNoDir, ReadsConf}
+use Rattle.lr_cli.specs.Answer.{ReadsConf}
+use Rattle.lr_cli.specs.Looks.{ChangeNothing, Sees, IsFile, IsNoFile, IsNoDir}
 use Rattle.lr_cli.specs.Stops.{ConfStopped, RuleStopped}
 
 -- a look, and what it saw
@@ -84,3 +85,7 @@ file_no_dir seen s e k = subst IsNoDir (sym e) (λ f. cc)
 
 pub other_no_dir : (seen : Option Seen) (s : Seen) → seen ≡ Some s → s.kind ≡ kind.Other → IsNoDir seen
 other_no_dir seen s e k = subst IsNoDir (sym e) (λ f. cc)
+
+-- a listing
+pub quiet_list : (dir : Path) (names : List (List ℕ)) {o n : Option Journal} → Left (λ ts. ts ≡ entry.List dir names ∷ []) o n → Left ChangeNothing o n
+quiet_list dir names l = left_as l (λ ts e. ap (filter is_change) e)

@@ -1,5 +1,5 @@
 -- What a run answers, beside the entries that it leaves.
-use Rattle.std.specs.Prelude.{◌≡◌, ◌≢◌, ◌⊎◌, ℕ, ◌<◌, List, [], ◌∷◌, Option, Some, None, filter, Any}
+use Rattle.std.specs.Prelude.{◌≡◌, ◌⊎◌, ℕ, List, [], ◌∷◌, filter}
 use Rattle.lr_rules.specs.declared.path.Path.{Path}
 use Rattle.lr_rules.specs.declared.fault.Fault.{Fault}
 use Rattle.lr_rules.specs.declared.fault.Fault.TheVariants as fault
@@ -7,42 +7,19 @@ use Rattle.lr_rules.specs.declared.fault.ConfKind.{ConfKind}
 use Rattle.lr_rules.specs.declared.fault.ConfKind.TheVariants as conf_kind
 use Rattle.lr_rules.specs.declared.fault.CallKind.{CallKind}
 use Rattle.lr_rules.specs.declared.fault.CallKind.TheVariants as call
-use Rattle.lr_rules.specs.Path.{parent_of, last_of, joined}
-use Rattle.lr_host.specs.declared.thing.Seen.{Seen}
-use Rattle.lr_host.specs.declared.thing.Kind.TheVariants as kind
+use Rattle.lr_rules.specs.Path.{parent_of}
 use Rattle.lr_host.specs.declared.entry.Entry.{Entry}
-use Rattle.lr_host.specs.declared.entry.Entry.TheVariants as entry
-use Rattle.lr_host.specs.Told.{Then, Are}
+use Rattle.lr_host.specs.declared.entry.Entry.TheVariants.{Renames, Unlinks}
+use Rattle.lr_host.specs.Told.{Then, Are, Each}
 use Rattle.lr_host.specs.Steps.{is_change}
-use Rattle.lr_host.specs.Reading.{ReadsAll}
+use Rattle.lr_host.specs.Reading.{IsReadOf, ReadsAll}
 use Rattle.lr_cli.specs.declared.outcome.Outcome.{Outcome}
 use Rattle.lr_cli.specs.declared.outcome.Outcome.TheVariants.{Done, BadWords, Held, OutOfMemory}
+use Rattle.lr_cli.specs.Acts.{StopsAt}
 use Rattle.lr_cli.specs.Form.{Defines, IsNoForm}
-use Rattle.lr_cli.specs.Member.{IsMemberName, member_name}
+use Rattle.lr_cli.specs.Looks.{ChangeNothing, Sees, IsFile, IsDir, IsNothing, IsNothingOrOther, IsNoFile, IsNotFile, IsNoDir, SeesFamily, SeesUpTo, SeesNumbers}
+use Rattle.lr_cli.specs.Rotation.{rotation}
 use Rattle.lr_cli.specs.Words.{AreWords}
-
--- no entry changes a name or a byte
-abbrev pub ChangeNothing : List Entry → Type 0
-ChangeNothing ts = filter is_change ts ≡ []
-
--- a regular file was seen, a directory, neither of them
-abbrev pub IsFile : Option Seen → Type 0
-IsFile (Some seen) = seen.kind ≡ kind.File
-IsFile None = ⊥
-
-abbrev pub IsDir : Option Seen → Type 0
-IsDir (Some seen) = seen.kind ≡ kind.Dir
-IsDir None = ⊥
-
-abbrev pub IsOther : Option Seen → Type 0
-IsOther (Some seen) = seen.kind ≡ kind.Other
-IsOther None = ⊥
-
--- one look at a path, which saw such a thing
-pub record Sees (path : Path) (P : Option Seen → Type 0) (ts : List Entry) : Type 0 where
-  pub seen : Option Seen
-  pub is : P seen
-  pub look : ts ≡ entry.Look path seen ∷ []
 
 -- The configuration was read, and is this text.
 abbrev pub ReadsConf : Path → List ℕ → List Entry → Type 0
@@ -60,62 +37,35 @@ pub record ReadsNoRule (conf : Path) (ts : List Entry) : Type 0 where
   pub defines_none : IsNoForm bytes
   pub read : ReadsConf conf bytes ts
 
--- a listing that has the name of a member, one that hasn't
-pub record ListsMember (dir : Path) (base : List ℕ) (ts : List Entry) : Type 0 where
-  pub names : List (List ℕ)
-  pub has : Any (IsMemberName base) names
-  pub list : ts ≡ entry.List dir names ∷ []
+-- The log was turned over: its family was seen, and then the entries are those of one rotation.
+pub record Turns (log : Path) (count : ℕ) (ts : List Entry) : Type 0 where
+  pub numbers : List ℕ
+  pub run : Then (SeesNumbers log numbers) (Are (rotation log count numbers)) ts
 
-pub record ListsNone (dir : Path) (base : List ℕ) (ts : List Entry) : Type 0 where
-  pub names : List (List ℕ)
-  pub lacks : Any (IsMemberName base) names → ⊥
-  pub list : ts ≡ entry.List dir names ∷ []
+-- A step of the rotation was refused: the steps before it were made, and its own entry stands or not.
+pub record BreaksOff (log : Path) (count : ℕ) (refused : Entry) (ts : List Entry) : Type 0 where
+  pub numbers : List ℕ
+  pub run : Then (SeesNumbers log numbers) (StopsAt (rotation log count numbers) refused) ts
 
--- The log was seen as a file, its directory as one, and it has no member.
-abbrev pub StandsAlone : Path → List Entry → Type 0
-StandsAlone log = Then (Sees log IsFile) (Then (Sees (parent_of log) IsDir) (ListsNone (parent_of log) (last_of log)))
-
--- the newest member of a log
-abbrev pub newest : Path → Path
-newest log = joined (parent_of log) (member_name (last_of log) 1)
-
--- The log was renamed.
-abbrev pub Turns : Path → List Entry → Type 0
-Turns log = Then (StandsAlone log) (Are (entry.Renames log (newest log) ∷ []))
-
--- the rename was asked for, and refused: its entry stands or not
-abbrev pub FailsToTurn : Path → List Entry → Type 0
-FailsToTurn log = Then (StandsAlone log) (λ ts. (ts ≡ []) ⊎ (ts ≡ entry.Renames log (newest log) ∷ []))
-
--- The configuration defines a log with a count above 0, of which this holds.
-pub record WithRule (conf : Path) (P : Path → List Entry → Type 0) (ts : List Entry) : Type 0 where
+-- The configuration defines a log with a count, of which this holds.
+pub record WithRule (conf : Path) (P : Path → ℕ → List Entry → Type 0) (ts : List Entry) : Type 0 where
   pub log : Path
   pub count : ℕ
-  pub some : 0 < count
-  pub run : Then (ReadsRule conf log count) (P log) ts
+  pub run : Then (ReadsRule conf log count) (P log count) ts
 
--- what isn't built yet: a directory as the configuration, a text of another form, a count of 0, a log with a member
+-- The log that the configuration defines was turned over, where the listing had these names.
+pub record Turned (conf : Path) (ts : List Entry) : Type 0 where
+  pub log : Path
+  pub count : ℕ
+  pub names : List (List ℕ)
+  pub numbers : List ℕ
+  pub run : Then (ReadsRule conf log count) (Then (SeesFamily log names numbers) (Are (rotation log count numbers))) ts
+  pub changes : filter is_change ts ≡ rotation log count numbers
+
+-- what isn't built yet: a directory as the configuration, a text of another form
 pub data IsNotYet (conf : Path) (ts : List Entry) : Type 0 where
   directory : Sees conf IsDir ts → IsNotYet conf ts
   form : ReadsNoRule conf ts → IsNotYet conf ts
-  zero : (log : Path) → ReadsRule conf log 0 ts → IsNotYet conf ts
-  member : WithRule conf (λ log. Then (Sees log IsFile) (Then (Sees (parent_of log) IsDir) (ListsMember (parent_of log) (last_of log)))) ts → IsNotYet conf ts
-
-abbrev pub IsNothingOrOther : Option Seen → Type 0
-IsNothingOrOther None = Unit {0}
-IsNothingOrOther (Some seen) = seen.kind ≡ kind.Other
-
-abbrev pub IsNothing : Option Seen → Type 0
-IsNothing None = Unit {0}
-IsNothing (Some seen) = ⊥
-
-abbrev pub IsNoFile : Option Seen → Type 0
-IsNoFile None = ⊥
-IsNoFile (Some seen) = seen.kind ≢ kind.File
-
-abbrev pub IsNoDir : Option Seen → Type 0
-IsNoDir None = Unit {0}
-IsNoDir (Some seen) = seen.kind ≢ kind.Dir
 
 -- the causes of the faults of a configuration
 abbrev pub ConfBecause : Path → ConfKind → List Entry → Type 0
@@ -123,23 +73,37 @@ ConfBecause conf conf_kind.NoFile ts = Sees conf IsNothingOrOther ts
 ConfBecause conf conf_kind.NotYet ts = IsNotYet conf ts
 ConfBecause conf _ ts = ⊥
 
--- where a call failed: a rename may have been made, any other call changed nothing
+-- The look at this path failed: at the log, its directory or a member, and those before it in order were made.
+pub data LookBecause (log path : Path) (ts : List Entry) : Type 0 where
+  at_log : path ≡ log → ts ≡ [] → LookBecause log path ts
+  at_dir : path ≡ parent_of log → Sees log IsFile ts → LookBecause log path ts
+  at_member : SeesUpTo log path (Are []) ts → LookBecause log path ts
+
+-- Where a call failed. A look, a listing and a read leave no entry; a step of the rotation may have been made.
 abbrev pub CallBecause : Path → CallKind → Path → List Entry → Type 0
-CallBecause conf call.Rename path ts = WithRule conf (λ log us. (path ≡ log) × FailsToTurn log us) ts
-CallBecause conf _ path ts = ChangeNothing ts
+CallBecause conf call.Look path ts = ((path ≡ conf) × (ts ≡ [])) ⊎ WithRule conf (λ log count us. LookBecause log path us) ts
+CallBecause conf call.Read path ts = (path ≡ conf) × Then (Sees conf IsFile) (Each (IsReadOf conf)) ts
+CallBecause conf call.List path ts = WithRule conf (λ log count us. (path ≡ parent_of log) × Then (Sees log IsFile) (Sees (parent_of log) IsDir) us) ts
+CallBecause conf call.Rename path ts = WithRule conf (λ log count us. (to : Path) × BreaksOff log count (Renames path to) us) ts
+CallBecause conf call.Unlink path ts = WithRule conf (λ log count us. BreaksOff log count (Unlinks path) us) ts
+CallBecause conf _ path ts = ⊥
+
+-- The log itself, or the first member in order of bytes that isn't one, was seen as no regular file.
+abbrev pub NotFileBecause : Path → Path → List Entry → Type 0
+NotFileBecause log path ts = ((path ≡ log) × Sees log IsNoFile ts) ⊎ SeesUpTo log path (Sees path IsNotFile) ts
 
 -- The cause of each fault.
 abbrev pub Because : Path → Fault → List Entry → Type 0
 Because conf (fault.Conf file line kind) ts = (file ≡ conf) × (line ≡ 0) × ConfBecause conf kind ts
-Because conf (fault.Missing word) ts = WithRule conf (λ log us. (word ≡ log) × Sees log IsNothing us) ts
-Because conf (fault.NotFile path) ts = WithRule conf (λ log us. (path ≡ log) × Sees log IsNoFile us) ts
-Because conf (fault.NoDir path) ts = WithRule conf (λ log us. (path ≡ parent_of log) × Then (Sees log IsFile) (Sees (parent_of log) IsNoDir) us) ts
+Because conf (fault.Missing word) ts = WithRule conf (λ log count us. (word ≡ log) × Sees log IsNothing us) ts
+Because conf (fault.NotFile path) ts = WithRule conf (λ log count us. NotFileBecause log path us) ts
+Because conf (fault.NoDir path) ts = WithRule conf (λ log count us. (path ≡ parent_of log) × Then (Sees log IsFile) (Sees (parent_of log) IsNoDir) us) ts
 Because conf (fault.Call kind path) ts = CallBecause conf kind path ts
 Because conf _ ts = ⊥
 
 -- A report without faults has the log turned over; one with a fault has its cause.
 abbrev pub Reports : Path → List Fault → List Entry → Type 0
-Reports conf [] ts = WithRule conf Turns ts
+Reports conf [] ts = Turned conf ts
 Reports conf (f ∷ []) ts = Because conf f ts
 Reports conf _ ts = ⊥
 

@@ -10,6 +10,8 @@ use Rattle.lr_cli.specs.declared.conf.ConfStop.{ConfStop}
 use Rattle.lr_cli.specs.declared.conf.ConfStop.TheVariants as stop
 use Rattle.lr_cli.specs.declared.rotation.TurnStop.{TurnStop}
 use Rattle.lr_cli.specs.declared.rotation.TurnStop.TheVariants as turn
+use Rattle.lr_cli.specs.declared.step.Step.{Step}
+use Rattle.lr_cli.specs.declared.step.Step.TheVariants as step
 use Rattle.lr_cli.specs.declared.outcome.Outcome.{Outcome}
 use Rattle.lr_cli.specs.declared.outcome.Outcome.TheVariants.{Done}
 
@@ -24,16 +26,28 @@ conf_fault_of conf stop.Look = Some (fault.Call call.Look conf)
 conf_fault_of conf stop.Read = Some (fault.Call call.Read conf)
 conf_fault_of conf stop.Memory = None
 
-abbrev pub turn_fault_of : Path → Path → Path → TurnStop → Option Fault
-turn_fault_of conf log dir turn.Missing = Some (fault.Missing log)
-turn_fault_of conf log dir turn.NotFile = Some (fault.NotFile log)
-turn_fault_of conf log dir turn.NoDir = Some (fault.NoDir dir)
-turn_fault_of conf log dir turn.HasMember = Some (conf_fault conf conf_kind.NotYet)
-turn_fault_of conf log dir turn.LookLog = Some (fault.Call call.Look log)
-turn_fault_of conf log dir turn.LookDir = Some (fault.Call call.Look dir)
-turn_fault_of conf log dir turn.List = Some (fault.Call call.List dir)
-turn_fault_of conf log dir turn.Rename = Some (fault.Call call.Rename log)
-turn_fault_of conf log dir turn.Memory = None
+-- the fault of a step that was refused; the path of a rename is the one that it goes from
+abbrev pub step_fault : Step → Fault
+step_fault (step.Unlink path) = fault.Call call.Unlink path
+step_fault (step.Rename from to) = fault.Call call.Rename from
+
+abbrev pub turn_fault_of : Path → Path → TurnStop → Option Fault
+turn_fault_of log dir turn.Missing = Some (fault.Missing log)
+turn_fault_of log dir turn.NotFile = Some (fault.NotFile log)
+turn_fault_of log dir turn.NoDir = Some (fault.NoDir dir)
+turn_fault_of log dir turn.LookLog = Some (fault.Call call.Look log)
+turn_fault_of log dir turn.LookDir = Some (fault.Call call.Look dir)
+turn_fault_of log dir turn.List = Some (fault.Call call.List dir)
+turn_fault_of log dir (turn.MemberNotFile path) = Some (fault.NotFile path)
+turn_fault_of log dir (turn.LookMember path) = Some (fault.Call call.Look path)
+turn_fault_of log dir (turn.Refused step) = Some (step_fault step)
+turn_fault_of log dir turn.Memory = None
+
+-- where the fault itself takes memory, or there was none
+abbrev pub MayLackMemory : TurnStop → Type 0
+MayLackMemory turn.Missing = Unit {0}
+MayLackMemory turn.Memory = Unit {0}
+MayLackMemory _ = ⊥
 
 -- the report has the fault
 abbrev pub HasFault : Outcome → Fault → Type 0

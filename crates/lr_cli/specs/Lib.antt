@@ -1,9 +1,13 @@
+pub mod Acts
 pub mod Answer
 pub mod Family
 pub mod Faults
 pub mod Form
+pub mod Looks
 pub mod Member
+pub mod Quiet
 pub mod Rotation
 pub mod Status
 pub mod Stops
+pub mod Turning
 pub mod Words

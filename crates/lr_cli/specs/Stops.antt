@@ -1,19 +1,26 @@
 -- What stands where a part of a run stopped.
-use Rattle.std.specs.Prelude.{◌≡◌, ◌⊎◌, ℕ, List, []}
+use Rattle.std.specs.Prelude.{◌≡◌, ◌⊎◌, ℕ, List, [], ◌∷◌, take, drop}
 use Rattle.lr_rules.specs.declared.path.Path.{Path}
-use Rattle.lr_rules.specs.Path.{parent_of, last_of}
+use Rattle.lr_rules.specs.Path.{parent_of}
 use Rattle.lr_host.specs.declared.entry.Entry.{Entry}
-use Rattle.lr_host.specs.Told.{Then}
+use Rattle.lr_host.specs.Told.{Then, Are, Each}
+use Rattle.lr_host.specs.Reading.{IsReadOf}
 use Rattle.lr_cli.specs.declared.conf.ConfStop.{ConfStop}
 use Rattle.lr_cli.specs.declared.conf.ConfStop.TheVariants as stop
+use Rattle.lr_cli.specs.declared.family.LookStop.{LookStop}
+use Rattle.lr_cli.specs.declared.family.LookStop.TheVariants as look
 use Rattle.lr_cli.specs.declared.rotation.TurnStop.{TurnStop}
 use Rattle.lr_cli.specs.declared.rotation.TurnStop.TheVariants as turn
-use Rattle.lr_cli.specs.Answer.{ChangeNothing, Sees, IsFile, IsDir, IsNothing, IsNothingOrOther, IsNoFile, IsNoDir, ReadsNoRule, ListsMember, FailsToTurn}
+use Rattle.lr_cli.specs.Acts.{entry_of}
+use Rattle.lr_cli.specs.Looks.{ChangeNothing, Sees, SeesFiles, IsFile, IsDir, IsNothing, IsNothingOrOther, IsNoFile, IsNotFile, IsNoDir, Reaches, SeesUpTo}
+use Rattle.lr_cli.specs.Answer.{ReadsNoRule, BreaksOff}
 
 -- the configuration wasn't read
 abbrev pub ConfStopped : Path → ConfStop → List Entry → Type 0
 ConfStopped conf stop.NoFile ts = Sees conf IsNothingOrOther ts
 ConfStopped conf stop.NotYet ts = Sees conf IsDir ts
+ConfStopped conf stop.Look ts = ts ≡ []
+ConfStopped conf stop.Read ts = Then (Sees conf IsFile) (Each (IsReadOf conf)) ts
 ConfStopped conf _ ts = ChangeNothing ts
 
 -- or gives no log
@@ -40,25 +47,50 @@ DirStopped dir turn.NoDir ts = Sees dir IsNoDir ts
 DirStopped dir turn.LookDir ts = ts ≡ []
 DirStopped dir _ ts = ⊥
 
--- the directory wasn't listed, or has a member
-abbrev pub ListStopped : Path → List ℕ → TurnStop → List Entry → Type 0
-ListStopped dir base turn.HasMember ts = ListsMember dir base ts
-ListStopped dir base turn.List ts = ts ≡ []
-ListStopped dir base turn.Memory ts = ChangeNothing ts
-ListStopped dir base _ ts = ⊥
+-- one member wasn't seen as a file
+abbrev pub OneStopped : Path → LookStop → List Entry → Type 0
+OneStopped path look.NotFile ts = Sees path IsNotFile ts
+OneStopped path look.Call ts = ts ≡ []
 
--- the log wasn't renamed, or the rename failed
-abbrev pub TurnStopped : Path → TurnStop → List Entry → Type 0
-TurnStopped log turn.Missing ts = Sees log IsNothing ts
-TurnStopped log turn.NotFile ts = Sees log IsNoFile ts
-TurnStopped log turn.NoDir ts = Then (Sees log IsFile) (Sees (parent_of log) IsNoDir) ts
-TurnStopped log turn.HasMember ts = Then (Sees log IsFile) (Then (Sees (parent_of log) IsDir) (ListsMember (parent_of log) (last_of log))) ts
-TurnStopped log turn.Rename ts = FailsToTurn log ts
-TurnStopped log _ ts = ChangeNothing ts
+-- the first of these paths wasn't
+abbrev pub FirstStopped : List Path → LookStop → List Entry → Type 0
+FirstStopped [] s ts = ⊥
+FirstStopped (path ∷ paths) s ts = OneStopped path s ts
+
+-- the path at this place wasn't, and those before it were
+abbrev pub SomeStopped : List Path → LookStop → ℕ → List Entry → Type 0
+SomeStopped paths s at = Then (SeesFiles (take at paths)) (FirstStopped (drop at paths) s)
+
+-- the directory wasn't listed, or some member wasn't seen as a file
+abbrev pub StandStopped : Path → TurnStop → List Entry → Type 0
+StandStopped log (turn.MemberNotFile path) ts = Reaches log path (Sees path IsNotFile) ts
+StandStopped log (turn.LookMember path) ts = Reaches log path (Are []) ts
+StandStopped log turn.List ts = ts ≡ []
+StandStopped log turn.Memory ts = ChangeNothing ts
+StandStopped log _ ts = ⊥
+
+-- the looks weren't all made, or don't show a log that can be turned over
+abbrev pub SeeStopped : Path → TurnStop → List Entry → Type 0
+SeeStopped log turn.Missing ts = Sees log IsNothing ts
+SeeStopped log turn.NotFile ts = Sees log IsNoFile ts
+SeeStopped log turn.NoDir ts = Then (Sees log IsFile) (Sees (parent_of log) IsNoDir) ts
+SeeStopped log turn.LookLog ts = ts ≡ []
+SeeStopped log turn.LookDir ts = Sees log IsFile ts
+SeeStopped log turn.List ts = Then (Sees log IsFile) (Sees (parent_of log) IsDir) ts
+SeeStopped log (turn.MemberNotFile path) ts = SeesUpTo log path (Sees path IsNotFile) ts
+SeeStopped log (turn.LookMember path) ts = SeesUpTo log path (Are []) ts
+SeeStopped log turn.Memory ts = ChangeNothing ts
+SeeStopped log (turn.Refused step) ts = ⊥
+
+-- or a step was refused
+abbrev pub TurnStopped : Path → ℕ → TurnStop → List Entry → Type 0
+TurnStopped log count (turn.Refused step) ts = BreaksOff log count (entry_of step) ts
+TurnStopped log count s ts = SeeStopped log s ts
 
 abbrev pub IsTurnCall : TurnStop → Type 0
 IsTurnCall turn.LookLog = Unit {0}
 IsTurnCall turn.LookDir = Unit {0}
 IsTurnCall turn.List = Unit {0}
-IsTurnCall turn.Rename = Unit {0}
+IsTurnCall (turn.LookMember path) = Unit {0}
+IsTurnCall (turn.Refused step) = Unit {0}
 IsTurnCall _ = ⊥

@@ -1,5 +1,5 @@
 // Reading the configuration.
-ghost use Rattle.std.specs.Prelude.{◌≡◌, IfOk, IfErr};
+ghost use Rattle.std.specs.Prelude.{◌≡◌, ◌<◌, IfOk, IfErr};
 ghost use Rattle.lr_host.specs.Told.{Left, NoneFell, Rose};
 ghost use Rattle.lr_cli.specs.Answer.{ReadsConf, ReadsRule};
 ghost use Rattle.lr_cli.specs.Stops.{ConfStopped, RuleStopped, IsConfCall};
@@ -54,6 +54,7 @@ pub fn read_conf<H: Host>(alloc: Global, host: &mut H, conf: &Path) -> Result<Ve
 
 /// The log that the configuration defines, and how many members of it are kept.
 pub fn read_rule<H: Host>(alloc: Global, host: &mut H, conf: &Path) -> Result<LogRule, ConfStop>
+    ensures small { IfOk result (λ rule. rule.count < 1000000) }
     ensures told { IfOk result (λ rule. Left (ReadsRule conf.now rule.log rule.count) (H.told host.old) (H.told host.new)) }
     ensures stopped { IfErr result (λ stop. Left (RuleStopped conf.now stop) (H.told host.old) (H.told host.new)) }
     ensures cause { IfErr result (λ stop. IsConfCall stop → Rose (H.counts host.old).faults (H.counts host.new).faults) }

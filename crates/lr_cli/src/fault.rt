@@ -1,9 +1,10 @@
 // The fault that tells why a run stopped.
-ghost use Rattle.std.specs.Prelude.{◌≡◌, Some, IfSome, IsSome};
-ghost use Rattle.lr_cli.specs.Faults.{conf_fault, conf_fault_of, turn_fault_of};
+ghost use Rattle.std.specs.Prelude.{◌≡◌, Some, IfSome, IfNone};
+ghost use Rattle.lr_cli.specs.Faults.{conf_fault, conf_fault_of, step_fault, turn_fault_of, MayLackMemory};
 
 use crate::conf::ConfStop;
 use crate::rotation::TurnStop;
+use crate::step::Step;
 use lr_rules::{CallKind, ConfKind, Fault, Path, Text};
 use std::alloc::Global;
 
@@ -30,16 +31,20 @@ pub fn fault_of_conf(conf: Path, stop: ConfStop) -> Option<Fault>
     }
 }
 
-/// The fault of a log that wasn't turned over; None for want of memory, which is none where the rename failed.
-pub fn fault_of_turn(
-    alloc: Global,
-    conf: Path,
-    log: Path,
-    dir: Path,
-    stop: TurnStop,
-) -> Option<Fault>
-    ensures fault { IfSome result (λ fault. turn_fault_of conf log dir stop ≡ Some fault) }
-    ensures rename { stop ≡ TurnStop.Rename → IsSome result }
+// The fault of a step that was refused.
+fn fault_of_step(step: Step) -> Fault
+    ensures { result ≡ step_fault step }
+{
+    match step {
+        Step::Unlink(path) => Fault::Call(CallKind::Unlink, path),
+        Step::Rename(from, _) => Fault::Call(CallKind::Rename, from),
+    }
+}
+
+/// The fault of a log that wasn't turned over; None for want of memory, which only the fault of a missing log takes.
+pub fn fault_of_turn(alloc: Global, log: Path, dir: Path, stop: TurnStop) -> Option<Fault>
+    ensures fault { IfSome result (λ fault. turn_fault_of log dir stop ≡ Some fault) }
+    ensures none { IfNone result (MayLackMemory stop) }
 {
     match stop {
         TurnStop::Missing => match Text::new(alloc, log.bytes()) {
@@ -49,11 +54,12 @@ pub fn fault_of_turn(
         },
         TurnStop::NotFile => Some(Fault::NotFile(log)),
         TurnStop::NoDir => Some(Fault::NoDir(dir)),
-        TurnStop::HasMember => Some(of_conf(conf, ConfKind::NotYet)),
         TurnStop::LookLog => Some(Fault::Call(CallKind::Look, log)),
         TurnStop::LookDir => Some(Fault::Call(CallKind::Look, dir)),
         TurnStop::List => Some(Fault::Call(CallKind::List, dir)),
-        TurnStop::Rename => Some(Fault::Call(CallKind::Rename, log)),
+        TurnStop::MemberNotFile(path) => Some(Fault::NotFile(path)),
+        TurnStop::LookMember(path) => Some(Fault::Call(CallKind::Look, path)),
+        TurnStop::Refused(step) => Some(fault_of_step(step)),
         TurnStop::Memory => None,
     }
 }

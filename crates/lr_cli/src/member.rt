@@ -1,9 +1,9 @@
 // The names of a log's members.
-ghost use Rattle.std.specs.Prelude.{◌≡◌, ◌↔◌, ◌++◌, ◌∷◌, ℕ, decimal, IfOk, IfSome, IfNone, IsTrue, Any};
+ghost use Rattle.std.specs.Prelude.{◌≡◌, ◌++◌, ◌∷◌, ℕ, decimal, IfOk, IfSome, IfNone};
 ghost use Rattle.lr_rules.specs.Path.{joined};
 ghost use Rattle.lr_cli.specs.Member.{IsNumber, IsMemberName, member_name, is_behind, is_plain};
 
-use lr_rules::{Memory, Path, Text};
+use lr_rules::{Memory, Path};
 use std::alloc::{AllocError, Global};
 
 // Whether the first byte can begin a plain number above 0.
@@ -51,15 +51,6 @@ pub fn number_of(base: &[u8], name: &[u8]) -> Option<u32>
     } else {
         None
     }
-}
-
-/// Whether a member of the log is among the names.
-pub fn has_member(base: &[u8], names: &[Text]) -> bool
-    ensures { IsTrue result ↔ Any (IsMemberName base.now) names.now }
-{
-    names
-        .iter()
-        .any(|name| number_of(base, name.bytes()).is_some())
 }
 
 // The name of the member with this number.

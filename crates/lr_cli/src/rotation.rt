@@ -1,18 +1,21 @@
 // Turning a log over.
-ghost use Rattle.std.specs.Prelude.{◌≡◌, [], None, OnOk, IfErr};
+ghost use Rattle.std.specs.Prelude.{◌≡◌, ◌<◌, [], None, OnOk, IfOk, IfErr};
 ghost use Rattle.lr_rules.specs.Path.{parent_of, path_fault};
 ghost use Rattle.lr_host.specs.declared.entry.Entry.TheVariants as entry;
 ghost use Rattle.lr_host.specs.Told.{Left, Can, NoneFell, Rose};
-ghost use Rattle.lr_cli.specs.Answer.{Sees, IsFile, IsDir, ListsNone, Turns, newest};
-ghost use Rattle.lr_cli.specs.Stops.{LogStopped, DirStopped, ListStopped, TurnStopped, IsTurnCall};
+ghost use Rattle.lr_cli.specs.Answer.{Turns};
+ghost use Rattle.lr_cli.specs.Looks.{Sees, IsFile, IsDir, SeesNumbers};
+ghost use Rattle.lr_cli.specs.Stops.{LogStopped, DirStopped, SeeStopped, TurnStopped, IsTurnCall};
 
-use crate::member::has_member;
-use lr_host::{Host, Kind, ListFault};
+use crate::family::stand;
+use crate::plan::steps_of;
+use crate::step::{Step, take_steps};
+use lr_host::{Host, Kind};
 use lr_rules::Path;
 use std::alloc::Global;
 
 /// Why a log isn't turned over.
-#[derive(Clone, Copy, Debug, PartialEq, Eq)]
+#[derive(Drop)]
 pub enum TurnStop {
     /// Nothing has its path.
     Missing,
@@ -20,16 +23,18 @@ pub enum TurnStop {
     NotFile,
     /// Its directory was seen as none.
     NoDir,
-    /// It has a member, which can't be moved yet.
-    HasMember,
     /// The look at it failed.
     LookLog,
     /// The look at its directory failed.
     LookDir,
     /// The listing of its directory failed.
     List,
-    /// The rename failed, with or without its effect.
-    Rename,
+    /// This member wasn't seen as a regular file.
+    MemberNotFile(Path),
+    /// The look at this member failed.
+    LookMember(Path),
+    /// This step failed, with or without its effect.
+    Refused(Step),
     Memory,
 }
 
@@ -75,40 +80,11 @@ fn look_for_dir<H: Host>(host: &mut H, dir: &Path) -> Result<(), TurnStop>
     }
 }
 
-// Lists the directory, which has no member with this base.
-fn list_none<H: Host>(alloc: Global, host: &mut H, dir: &Path, base: &[u8]) -> Result<(), TurnStop>
-    requires { Can (H.told host.old) (entry.List dir.now []) }
-    ensures told { OnOk result (Left (ListsNone dir.now base.now) (H.told host.old) (H.told host.new)) }
-    ensures stopped { IfErr result (λ stop. Left (ListStopped dir.now base.now stop) (H.told host.old) (H.told host.new)) }
-    ensures cause { IfErr result (λ stop. IsTurnCall stop → Rose (H.counts host.old).faults (H.counts host.new).faults) }
-    ensures counts { NoneFell (H.counts host.old) (H.counts host.new) }
-{
-    let mut names = Vec::new(alloc);
-    match host.list(alloc, dir, &mut names) {
-        Ok(()) => {}
-        Err(ListFault::Failed) => return Err(TurnStop::List),
-        Err(ListFault::Memory) => return Err(TurnStop::Memory),
-    }
-    if has_member(base, &names) {
-        return Err(TurnStop::HasMember);
-    }
-    Ok(())
-}
-
-/// Looks at the log and its directory, and renames the log to its newest member where it has no member yet.
-pub fn turn<H: Host>(
-    alloc: Global,
-    host: &mut H,
-    log: &Path,
-    dir: &Path,
-    member: &Path,
-) -> Result<(), TurnStop>
-    requires path { path_fault log.now ≡ None }
+// Looks at the log, its directory and its members; the numbers of the members, the highest first.
+fn see<H: Host>(alloc: Global, host: &mut H, log: &Path, dir: &Path) -> Result<Vec<u32>, TurnStop>
     requires dir { dir.now ≡ parent_of log.now }
-    requires dir_path { path_fault dir.now ≡ None }
-    requires member { member.now ≡ newest log.now }
-    ensures told { OnOk result (Left (Turns log.now) (H.told host.old) (H.told host.new)) }
-    ensures stopped { IfErr result (λ stop. Left (TurnStopped log.now stop) (H.told host.old) (H.told host.new)) }
+    ensures told { IfOk result (λ numbers. Left (SeesNumbers log.now numbers.items) (H.told host.old) (H.told host.new)) }
+    ensures stopped { IfErr result (λ stop. Left (SeeStopped log.now stop) (H.told host.old) (H.told host.new)) }
     ensures cause { IfErr result (λ stop. IsTurnCall stop → Rose (H.counts host.old).faults (H.counts host.new).faults) }
     ensures counts { NoneFell (H.counts host.old) (H.counts host.new) }
 {
@@ -118,11 +94,39 @@ pub fn turn<H: Host>(
     if let Err(stop) = look_for_dir(host, dir) {
         return Err(stop);
     }
-    if let Err(stop) = list_none(alloc, host, dir, log.last()) {
-        return Err(stop);
+    match stand(alloc, host, log, dir) {
+        Ok(numbers) => Ok(numbers),
+        Err(stop) => Err(stop),
     }
-    match host.rename(log, member) {
+}
+
+/// Looks at the log, its directory and its members, and turns the log over. All memory is taken before the first
+/// change.
+pub fn turn<H: Host>(
+    alloc: Global,
+    host: &mut H,
+    log: &Path,
+    dir: &Path,
+    count: u32,
+) -> Result<(), TurnStop>
+    requires path { path_fault log.now ≡ None }
+    requires dir { dir.now ≡ parent_of log.now }
+    requires dir_path { path_fault dir.now ≡ None }
+    requires small { count < 1000000 }
+    ensures told { OnOk result (Left (Turns log.now count) (H.told host.old) (H.told host.new)) }
+    ensures stopped { IfErr result (λ stop. Left (TurnStopped log.now count stop) (H.told host.old) (H.told host.new)) }
+    ensures cause { IfErr result (λ stop. IsTurnCall stop → Rose (H.counts host.old).faults (H.counts host.new).faults) }
+    ensures counts { NoneFell (H.counts host.old) (H.counts host.new) }
+{
+    let numbers = match see(alloc, host, log, dir) {
+        Ok(numbers) => numbers,
+        Err(stop) => return Err(stop),
+    };
+    let Ok(mut steps) = steps_of(alloc, log, dir, count, &numbers) else {
+        return Err(TurnStop::Memory);
+    };
+    match take_steps(host, &steps) {
         Ok(()) => Ok(()),
-        Err(_) => Err(TurnStop::Rename),
+        Err(at) => Err(TurnStop::Refused(steps.swap_remove(at))),
     }
 }

@@ -7,10 +7,9 @@ ghost use Rattle.lr_host.specs.Told.{Left, NoneFell, Rose};
 ghost use Rattle.lr_cli.specs.Answer.{Answers};
 ghost use Rattle.lr_cli.specs.Faults.{HasFault, HasOneFault};
 
-use crate::conf::{ConfStop, read_rule};
+use crate::conf::read_rule;
 use crate::fault::{fault_of_conf, fault_of_turn};
 use crate::form::LogRule;
-use crate::member::member_path;
 use crate::outcome::{Outcome, Report};
 use crate::rotation::turn;
 use lr_host::Host;
@@ -44,7 +43,7 @@ fn with_fault(alloc: Global, room: Vec<Fault>, fault: Option<Fault>) -> Outcome
     })
 }
 
-/// Reads the configuration, and turns over the log that it defines. All memory is taken before the log is renamed.
+/// Reads the configuration, and turns over the log that it defines. All memory is taken before the first change.
 pub fn run_conf<H: Host>(alloc: Global, host: &mut H, conf: Path) -> Outcome
     ensures told { Left (Answers conf result) (H.told host.old) (H.told host.new) }
     ensures call { (kind : CallKind) (path : Path) → HasFault result (fault.Call kind path) → Rose (H.counts host.old).faults (H.counts host.new).faults }
@@ -60,18 +59,12 @@ pub fn run_conf<H: Host>(alloc: Global, host: &mut H, conf: Path) -> Outcome
         Ok(rule) => rule,
         Err(stop) => return with_fault(alloc, room, fault_of_conf(conf, stop)),
     };
-    if rule.count == 0 {
-        return with_fault(alloc, room, fault_of_conf(conf, ConfStop::NotYet));
-    }
-    let LogRule { log, count: _ } = rule;
+    let LogRule { log, count } = rule;
     let Ok(dir) = log.parent(alloc) else {
         return Outcome::OutOfMemory;
     };
-    let Ok(member) = member_path(alloc, &dir, log.last(), 1) else {
-        return Outcome::OutOfMemory;
-    };
-    match turn(alloc, host, &log, &dir, &member) {
+    match turn(alloc, host, &log, &dir, count) {
         Ok(()) => without_fault(alloc),
-        Err(stop) => with_fault(alloc, room, fault_of_turn(alloc, conf, log, dir, stop)),
+        Err(stop) => with_fault(alloc, room, fault_of_turn(alloc, log, dir, stop)),
     }
 }

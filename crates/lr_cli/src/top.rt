@@ -1,5 +1,5 @@
 // The top call.
-ghost use Rattle.std.specs.Prelude.{◌≡◌};
+ghost use Rattle.std.specs.Prelude.{◌≡◌, [], Some};
 ghost use Rattle.lr_rules.specs.declared.path.Path.{Path};
 ghost use Rattle.lr_rules.specs.declared.fault.CallKind.{CallKind};
 ghost use Rattle.lr_rules.specs.declared.fault.Fault.TheVariants as fault;
@@ -7,7 +7,11 @@ ghost use Rattle.lr_host.specs.Told.{Left, NoneFell, Rose};
 ghost use Rattle.lr_cli.specs.declared.outcome.Report.{Report};
 ghost use Rattle.lr_cli.specs.Answer.{Answered};
 ghost use Rattle.lr_cli.specs.Faults.{HasFault, HasOneFault};
+ghost use Rattle.lr_cli.specs.Turning.{TurnsFamily};
 ghost use Rattle.lr_cli.specs.Words.{AreWords};
+ghost use Rattle.lr_host.specs.declared.journal.Journal.{Journal};
+ghost use Rattle.lr_host.specs.World.{past};
+ghost use Rattle.lr_host.specs.Opening.{IsJournal};
 
 use crate::outcome::{Outcome, Zone};
 use crate::run::run_conf;
@@ -19,7 +23,7 @@ use std::alloc::Global;
 /// One call of the program: reads the configuration that the words name, from the directory `here` on, and rotates the
 /// log that it defines. The zone, the moment `now` (in seconds since 1970) and the output aren't used yet.
 ///
-/// Whatever it answers, it has changed nothing but the names of the log and its newest member.
+/// Whatever it answers, it has changed nothing but the names of the log and its members.
 pub fn logrotate<H: Host, K: Sink>(
     alloc: Global,
     words: &[Text],
@@ -31,6 +35,9 @@ pub fn logrotate<H: Host, K: Sink>(
 ) -> Outcome
     // What the calls showed, and what the answer has to do with it.
     ensures told { Left (Answered here.now words.now result) (H.told host.old) (H.told host.new) }
+
+    // What becomes of the log and its members, file by file.
+    ensures turned { (report : Report) → result ≡ Outcome.Done report → report.faults ≡ [] → (j k : Journal) → H.told host.old ≡ Some j → H.told host.new ≡ Some k → IsJournal (past j) → TurnsFamily here.now words.now j k }
 
     // Also where the host tells nothing: the words, the causes of a failed call.
     ensures bad_words { result ≡ Outcome.BadWords → (conf : Path) → AreWords here.now words.now conf → ⊥ }

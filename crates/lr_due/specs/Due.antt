@@ -8,10 +8,10 @@ use Rattle.lr_rules.specs.declared.civil.Moment.{Moment}
 use Rattle.lr_rules.specs.declared.rule.Rule.{Rule}
 use Rattle.lr_rules.specs.declared.rule.Criterion.{Criterion}
 use Rattle.lr_rules.specs.declared.rule.Criterion.TheVariants.{Hourly, Daily, Weekly, Monthly, Yearly, Size}
-use Rattle.lr_due.specs.declared.table.Due.{Due}
-use Rattle.lr_due.specs.declared.table.Due.TheVariants.{Yes, No}
-use Rattle.lr_due.specs.declared.table.Why.TheVariants as why
-use Rattle.lr_due.specs.declared.table.WhyNot.TheVariants as why_not
+use Rattle.lr_due.specs.declared.answer.Due.{Due}
+use Rattle.lr_due.specs.declared.answer.Due.TheVariants.{Yes, No}
+use Rattle.lr_due.specs.declared.answer.Why.TheVariants as why
+use Rattle.lr_due.specs.declared.answer.WhyNot.TheVariants as why_not
 
 -- the whole days in so many seconds, 0 where they are below 0
 abbrev pub whole_days : ℤ → ℕ

@@ -2,43 +2,10 @@
 ghost use Rattle.std.specs.Prelude.{◌≡◌};
 ghost use Rattle.lr_due.specs.Due.{age_days, is_young, is_spared_empty, is_above, is_within, size_limit, seconds_ahead, days_past, is_ahead, is_on_day, has_turned, has_turned_since, due_of};
 
+use crate::answer::{Due, Why, WhyNot};
 use crate::calendar::weekday;
+use lr_host::Seen;
 use lr_rules::{Civil, Criterion, Moment, Rule};
-
-/// Whether a log is due, and by which case.
-#[derive(Clone, Copy, Debug, PartialEq, Eq)]
-pub enum Due {
-    Yes(Why),
-    No(WhyNot),
-}
-
-/// Why a log is due.
-#[derive(Clone, Copy, Debug, PartialEq, Eq)]
-pub enum Why {
-    /// The run was asked to rotate in any case.
-    Forced,
-    /// It is above the size of the criterion.
-    Size,
-    /// It is above the size at which it is due whatever the criterion says.
-    MaxSize,
-    /// Its hour, day, week, month or year has passed.
-    Calendar,
-    /// The state tells of a moment more than 25 hours ahead, which can't be right.
-    Future,
-}
-
-/// Why a log is not due.
-#[derive(Clone, Copy, Debug, PartialEq, Eq)]
-pub enum WhyNot {
-    /// It was written too few days ago.
-    Young,
-    /// It is empty, and empty logs aren't rotated.
-    Empty,
-    /// It is not above a size.
-    Small,
-    /// Its hour, day, week, month or year hasn't passed, or the state doesn't know it yet.
-    Early,
-}
 
 /// The whole days of 86,400 seconds since the log was written; 0 where that moment is ahead.
 fn age_in_days(mtime: i64, now: i64) -> u64
@@ -160,20 +127,15 @@ fn week_turned(day: u8, last: &Civil, now: &Civil) -> bool
     on_day(day, now) && days >= 1
 }
 
-/// Whether a log of this size (bytes) and modification moment (seconds since 1970) is due now, where the state has
-/// `last` as the moment of its last rotation: the answer of the first case that applies. The directives are those of
-/// logrotate(8).
+/// Whether a log that was seen so is due now, where the state has `last` as the moment of its last rotation: the answer
+/// of the first case that applies. Of what was seen, its size (bytes) and its modification moment (seconds since 1970)
+/// count. The directives are those of logrotate(8).
 #[tactic(auto, unfolding(crate::specs::Due::due_of))]
-pub fn due_at(
-    rule: &Rule,
-    size: u64,
-    mtime: i64,
-    last: Option<Civil>,
-    now: &Moment,
-    force: bool,
-) -> Due
-    ensures { result ≡ due_of rule.now size mtime last now.now force }
+pub fn due(rule: &Rule, seen: &Seen, last: Option<Civil>, now: &Moment, force: bool) -> Due
+    ensures { result ≡ due_of rule.now seen.now.size seen.now.mtime last now.now force }
 {
+    let size = seen.size;
+    let mtime = seen.mtime;
     if spares_empty(rule, size) {
         return Due::No(WhyNot::Empty);
     }

@@ -1,5 +1,6 @@
 // Tables of answers from outside: civil times by Python's zoneinfo, due rows by hand.
 use super::*;
+use lr_host::{Kind, Seen};
 use lr_rules::{
     Civil, Clock, Count, Criterion, Listed, Make, Moment, Path, Rule, Scripts, Text, Way,
 };
@@ -303,14 +304,13 @@ fn answer(alloc: Global, case: &Case) -> Result<Due, Fail> {
         seconds,
         civil: civil(parts).ok_or("a moment")?,
     };
-    Ok(due_at(
-        &rule,
-        case.size,
-        seconds.saturating_sub(case.age),
-        last,
-        &now,
-        case.force,
-    ))
+    let seen = Seen {
+        kind: Kind::File,
+        size: case.size,
+        mtime: seconds.saturating_sub(case.age),
+        mode: None,
+    };
+    Ok(due(&rule, &seen, last, &now, case.force))
 }
 
 const EARLY: Due = Due::No(WhyNot::Early);

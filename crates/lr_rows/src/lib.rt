@@ -5,4 +5,6 @@
 #![tactic(auto)]
 
 #[cfg(test)]
+mod openings;
+#[cfg(test)]
 mod tests;

@@ -1,7 +1,7 @@
 // Rows worked out by hand: a disk, a call of the program, its answer, and what the disk has behind it.
 use lr_cli::{Outcome, Zone, logrotate, status};
-use lr_host::{OpenFile, Opening, Sink, SinkFault};
-use lr_memhost::{Failing, How, MemHost};
+use lr_host::{Entry, OpenFile, Opening, Sink, SinkFault};
+use lr_memhost::{Act, Failing, How, MemHost};
 use lr_rules::{Fault, Listed, Path, Text};
 use std::alloc::Global;
 use std::test::Fail;
@@ -24,7 +24,7 @@ impl Sink for Dropped {
 
 type Files = &'static [(&'static [u8], &'static [u8])];
 
-// The directories are `/`, `/v` and `/etc`.
+// The directories are `/`, `/v`, `/etc` and `/v/d.log.1`.
 #[derive(Clone, Copy)]
 struct Row {
     conf: &'static [u8],
@@ -38,7 +38,7 @@ struct Row {
 
 const TWO: &[u8] = b"/v/a.log {\nrotate 2\n}\n";
 
-const ROWS: [Row; 6] = [
+const ROWS: [Row; 11] = [
     // A log without members.
     Row {
         conf: TWO,
@@ -48,6 +48,77 @@ const ROWS: [Row; 6] = [
         status: 0,
         after: &[(b"/v/a.log.1", b"C"), (b"/v/b.log", b"D")],
         gone: &[b"/v/a.log", b"/v/a.log.2"],
+    },
+    // One member.
+    Row {
+        conf: TWO,
+        files: &[(b"/v/a.log", b"C"), (b"/v/a.log.1", b"A")],
+        failing: None,
+        answer: "Done",
+        status: 0,
+        after: &[(b"/v/a.log.1", b"C"), (b"/v/a.log.2", b"A")],
+        gone: &[b"/v/a.log", b"/v/a.log.3"],
+    },
+    // Two members, of which the last is unlinked.
+    Row {
+        conf: TWO,
+        files: &[
+            (b"/v/a.log", b"C"),
+            (b"/v/a.log.1", b"A"),
+            (b"/v/a.log.2", b"B"),
+        ],
+        failing: None,
+        answer: "Done",
+        status: 0,
+        after: &[(b"/v/a.log.1", b"C"), (b"/v/a.log.2", b"A")],
+        gone: &[b"/v/a.log", b"/v/a.log.3"],
+    },
+    // A gap, leftovers, and names that are no members'.
+    Row {
+        conf: TWO,
+        files: &[
+            (b"/v/a.log", b"C"),
+            (b"/v/a.log.2", b"B"),
+            (b"/v/a.log.4", b"D"),
+            (b"/v/a.log.10", b"E"),
+            (b"/v/a.log.01", b"F"),
+            (b"/v/a.log.4294967296", b"G"),
+        ],
+        failing: None,
+        answer: "Done",
+        status: 0,
+        after: &[
+            (b"/v/a.log.1", b"C"),
+            (b"/v/a.log.01", b"F"),
+            (b"/v/a.log.4294967296", b"G"),
+        ],
+        gone: &[
+            b"/v/a.log",
+            b"/v/a.log.2",
+            b"/v/a.log.3",
+            b"/v/a.log.4",
+            b"/v/a.log.10",
+        ],
+    },
+    // No member is kept.
+    Row {
+        conf: b"/v/a.log {\nrotate 0\n}\n",
+        files: &[(b"/v/a.log", b"C"), (b"/v/a.log.1", b"A")],
+        failing: None,
+        answer: "Done",
+        status: 0,
+        after: &[],
+        gone: &[b"/v/a.log", b"/v/a.log.1", b"/v/a.log.2"],
+    },
+    // A member that is a directory: nothing is changed.
+    Row {
+        conf: b"/v/d.log {\nrotate 2\n}\n",
+        files: &[(b"/v/d.log", b"C"), (b"/v/d.log.2", b"A")],
+        failing: None,
+        answer: "NotFile",
+        status: 1,
+        after: &[(b"/v/d.log", b"C"), (b"/v/d.log.2", b"A")],
+        gone: &[b"/v/d.log.3"],
     },
     // A literal log that is missing.
     Row {
@@ -127,7 +198,7 @@ fn opening(alloc: Global, conf: &[u8], files: Files) -> Result<Opening, Fail> {
         names.push((Path::new(alloc, path)?, identity))?;
     }
     let mut dirs = Listed::new(alloc);
-    for dir in [b"/".as_slice(), b"/v", b"/etc"] {
+    for dir in [b"/".as_slice(), b"/v", b"/etc", b"/v/d.log.1"] {
         dirs.push(Path::new(alloc, dir)?)?;
     }
     Ok(Opening {
@@ -139,14 +210,19 @@ fn opening(alloc: Global, conf: &[u8], files: Files) -> Result<Opening, Fail> {
     })
 }
 
-fn host_of(alloc: Global, row: &Row) -> Result<MemHost, Fail> {
+fn host_of(
+    alloc: Global,
+    conf: &[u8],
+    files: Files,
+    failing_call: Option<Failing>,
+) -> Result<MemHost, Fail> {
     let mut failing = Vec::new(alloc);
-    if let Some(one) = row.failing {
+    if let Some(one) = failing_call {
         failing.push(one)?;
     }
     let made = MemHost::new(
         alloc,
-        opening(alloc, row.conf, row.files)?,
+        opening(alloc, conf, files)?,
         Vec::new(alloc),
         failing,
         Vec::new(alloc),
@@ -193,20 +269,32 @@ fn call(alloc: Global, words: &[&[u8]], host: &mut MemHost) -> Result<Outcome, F
     ))
 }
 
+fn has(alloc: Global, host: &MemHost, path: &[u8], bytes: Option<&[u8]>) -> Result<(), Fail> {
+    if host.file(&Path::new(alloc, path)?) != bytes {
+        return Err(Fail::from("a path names other bytes"));
+    }
+    Ok(())
+}
+
+fn meets(alloc: Global, row: &Row) -> Result<(), Fail> {
+    let mut host = host_of(alloc, row.conf, row.files, row.failing)?;
+    let outcome = call(alloc, &[b"-f", b"/etc/c"], &mut host)?;
+    if name_of(&outcome) != row.answer || status(&outcome) != row.status {
+        return Err(Fail::from("another answer"));
+    }
+    for (path, bytes) in row.after {
+        has(alloc, &host, path, Some(*bytes))?;
+    }
+    for path in row.gone {
+        has(alloc, &host, path, None)?;
+    }
+    Ok(())
+}
+
 #[test]
 fn rows(rt: HostRuntime) -> Result<(), Fail> {
     for row in &ROWS {
-        let mut host = host_of(rt.alloc(), row)?;
-        let outcome = call(rt.alloc(), &[b"-f", b"/etc/c"], &mut host)?;
-        assert_eq!(rt; name_of(&outcome), row.answer);
-        assert_eq!(rt; status(&outcome), row.status);
-        for (path, bytes) in row.after {
-            assert_eq!(rt; host.file(&Path::new(rt.alloc(), path)?), Some(*bytes));
-        }
-        for path in row.gone {
-            assert_eq!(rt; host.file(&Path::new(rt.alloc(), path)?), None);
-        }
-        assert_eq!(rt; host.starved(), 0);
+        meets(rt.alloc(), row)?;
     }
     Ok(())
 }
@@ -222,11 +310,97 @@ fn words(rt: HostRuntime) -> Result<(), Fail> {
         &[b"-f", b"../c"],
     ];
     for words in rows {
-        let mut host = host_of(rt.alloc(), &ROWS[0])?;
+        let mut host = host_of(rt.alloc(), TWO, &[], None)?;
         let outcome = call(rt.alloc(), words, &mut host)?;
         assert_eq!(rt; name_of(&outcome), "BadWords");
         assert_eq!(rt; status(&outcome), 2);
         assert_eq!(rt; host.calls(), 0);
     }
+    Ok(())
+}
+
+// How many of the log's paths name a file with these bytes.
+fn standing(alloc: Global, host: &MemHost, bytes: &[u8]) -> Result<usize, Fail> {
+    let mut count = 0usize;
+    for path in [
+        b"/v/a.log".as_slice(),
+        b"/v/a.log.1",
+        b"/v/a.log.2",
+        b"/v/a.log.3",
+    ] {
+        if host.file(&Path::new(alloc, path)?) == Some(bytes) {
+            count = count.saturating_add(1);
+        }
+    }
+    Ok(count)
+}
+
+// The outcome of a call over a log with one member, where one call fails; an error unless both files stand under one
+// name each.
+fn outcome_where(alloc: Global, failing: Failing) -> Result<(bool, &'static str), Fail> {
+    let files: Files = &[(b"/v/a.log", b"C"), (b"/v/a.log.1", b"A")];
+    let mut host = host_of(alloc, TWO, files, Some(failing))?;
+    let outcome = call(alloc, &[b"-f", b"/etc/c"], &mut host)?;
+    for bytes in [b"C".as_slice(), b"A"] {
+        if standing(alloc, &host, bytes)? != 1 {
+            return Err(Fail::from("a file stands under no name, or under two"));
+        }
+    }
+    Ok((failing.at < host.calls(), name_of(&outcome)))
+}
+
+// Whichever call fails, and whether it has its effect or not, the log and its member stand under one name each.
+#[test]
+fn each_call_fails_once(rt: HostRuntime) -> Result<(), Fail> {
+    for how in [How::NoEffect, How::WithEffect] {
+        for at in 0..16 {
+            let (was_made, name) = outcome_where(rt.alloc(), Failing { at, how })?;
+            assert_eq!(rt; name, if was_made { "Call" } else { "Done" });
+        }
+    }
+    Ok(())
+}
+
+fn attach(alloc: Global) -> Result<Act, Fail> {
+    Ok(Act {
+        before: 0,
+        what: Entry::Attach {
+            writer: 1,
+            path: Path::new(alloc, b"/v/a.log")?,
+            at: 1_705_190_600,
+        },
+    })
+}
+
+fn feed(alloc: Global, before: u64) -> Result<Act, Fail> {
+    let bytes = Listed::from_vec(Vec::from_slice(alloc, b"w")?);
+    Ok(Act {
+        before,
+        what: Entry::Feed {
+            writer: 1,
+            bytes,
+            at: 1_705_190_600,
+        },
+    })
+}
+
+// A writer holds the log and appends before each of the first calls.
+fn written(alloc: Global) -> Result<MemHost, Fail> {
+    let mut host = host_of(alloc, TWO, &[(b"/v/a.log", b"C")], None)?;
+    host.act(attach(alloc)?)?;
+    for before in 0..6 {
+        host.act(feed(alloc, before)?)?;
+    }
+    Ok(host)
+}
+
+// The bytes of a writer go with its file.
+#[test]
+fn writers_act_between_calls(rt: HostRuntime) -> Result<(), Fail> {
+    let mut host = written(rt.alloc())?;
+    let outcome = call(rt.alloc(), &[b"-f", b"/etc/c"], &mut host)?;
+    assert_eq!(rt; name_of(&outcome), "Done");
+    let newest = Path::new(rt.alloc(), b"/v/a.log.1")?;
+    assert_eq!(rt; host.file(&newest), Some(b"Cwwwwww".as_slice()));
     Ok(())
 }

@@ -1,5 +1,5 @@
 use Rattle.std.proofs.Common.{sym, subst}
-use Rattle.lr_cli.specs.Answer.{IsDir, IsNoDir}
+use Rattle.lr_cli.specs.Looks.{IsDir, IsNoDir}
 use Rattle.lr_cli.proofs.Sights.{sees, file_no_dir, other_no_dir}
 use Rattle.lr_cli.proofs.Renames.{seen_can_list}
 use Rattle.lr_cli.proofs.rotation.look_for_dir.Goals as goal

@@ -1,6 +1,6 @@
 use Rattle.std.proofs.Common.{sym, subst}
 use Rattle.lr_host.proofs.Known.{seen_can_read}
-use Rattle.lr_cli.specs.Answer.{IsFile, IsNothing, IsNoFile}
+use Rattle.lr_cli.specs.Looks.{IsFile, IsNothing, IsNoFile}
 use Rattle.lr_cli.proofs.Sights.{sees, dir_no_file, other_no_file}
 use Rattle.lr_cli.proofs.rotation.look_for_log.Goals as goal
 

@@ -1,32 +1,34 @@
-use Rattle.std.proofs.Common.{[], ◌∷◌, ap, ◌∙◌, ⊎_elim, inl, inr}
-use Rattle.lr_host.specs.declared.entry.Entry.TheVariants as entry
+use Rattle.std.proofs.Common.{◌≡◌, ◌<◌, List, length, map, sym, ap, ◌∙◌, subst, None}
 use Rattle.lr_rules.specs.declared.path.Path.{Path}
-use Rattle.lr_host.proofs.Left.{left_as, left_both}
-use Rattle.lr_cli.proofs.Turned.{log_stops, dir_stops, list_stops, stands_alone, alone_renames}
+use Rattle.lr_rules.specs.Path.{path_fault}
+use Rattle.lr_host.proofs.Left.{left_as}
+use Rattle.lr_host.specs.declared.entry.Entry.{Entry}
+use Rattle.lr_host.specs.Steps.{CanAll}
+use Rattle.lr_cli.specs.declared.step.Step.{Step}
+use Rattle.lr_cli.specs.Acts.{entry_of, StopsBy}
+use Rattle.lr_cli.specs.Rotation.{rotation}
+use Rattle.lr_cli.proofs.Seen.{turn_fits}
+use Rattle.lr_cli.proofs.Turned.{see_stops, quiet_numbers, turns, breaks_off}
 use Rattle.lr_cli.proofs.rotation.turn.Goals as goal
 
 pub returns-in-Err-clause-stopped : goal.returns-in-Err-clause-stopped
-returns-in-Err-clause-stopped g c = left_as c.in-Err.ensures.stopped (λ ts r. log_stops c.args.log.now c.in-Err.stop ts r)
+returns-in-Err-clause-stopped g c = left_as c.in-Err.ensures.stopped (λ ts r. see_stops c.args.log.now c.args.count c.in-Err.stop ts r)
 
-pub returns-in-Err-look_for_dir-clause-stopped : goal.returns-in-Err-look_for_dir-clause-stopped
-returns-in-Err-look_for_dir-clause-stopped g c =
-    dir_stops c.args.log.now c.args.dir.now c.in-Err-look_for_dir.stop c.requires.dir c.in_default.ensures.told c.in-Err-look_for_dir.ensures.stopped
+pub returns-in_default-clause-stopped : goal.returns-in_default-clause-stopped
+returns-in_default-clause-stopped g c = left_as c.in-Ok.ensures.told (λ ts s. quiet_numbers c.args.log.now c.in-Ok.numbers.items ts s)
 
-pub returns-in-Err-list_none-clause-stopped : goal.returns-in-Err-list_none-clause-stopped
-returns-in-Err-list_none-clause-stopped g c =
-    list_stops c.args.log.now c.args.dir.now c.last.result.now c.in-Err-list_none.stop c.requires.dir c.last.ensures c.in_default.ensures.told c.in_default-look_for_dir.ensures.told c.in-Err-list_none.ensures.stopped
+pub take_steps-requires : goal.take_steps-requires
+take_steps-requires g c =
+    subst (λ (es : List Entry). CanAll (g.H.Host.told c.see.new.host) es) (sym (ap (map entry_of) c.deref-2.ensures.value ∙ (c.in-Ok-steps_of.ensures ∙ ap (rotation c.args.log.now c.args.count) c.deref.ensures.value)))
+    (turn_fits c.args.log.now c.args.count c.in-Ok.numbers.items c.requires.path (subst (λ (d : Path). path_fault d ≡ None) c.requires.dir c.requires.dir_path) c.requires.small c.in-Ok.ensures.told)
 
-pub rename-requires : goal.rename-requires
-rename-requires g c =
-    alone_renames c.args.log.now c.args.dir.now c.args.member.now c.last.result.now c.requires.path c.requires.dir c.requires.dir_path c.requires.member c.last.ensures
-    c.in_default.ensures.file c.in_default-look_for_dir.ensures.told c.in_default-look_for_dir.ensures.dir c.in_default-list_none.ensures.told
+pub returns-in-Ok-take_steps-clause-told : goal.returns-in-Ok-take_steps-clause-told
+returns-in-Ok-take_steps-clause-told g c =
+    turns c.args.log.now c.args.count c.in-Ok.numbers.items c.deref-2.result.now (ap (map entry_of) c.deref-2.ensures.value ∙ (c.in-Ok-steps_of.ensures ∙ ap (rotation c.args.log.now c.args.count) c.deref.ensures.value))
+    c.in-Ok.ensures.told c.in-Ok-take_steps.ensures.told
 
-pub returns-in-Ok-clause-told : goal.returns-in-Ok-clause-told
-returns-in-Ok-clause-told g c =
-    left_both (stands_alone c.args.log.now c.args.dir.now c.last.result.now c.requires.dir c.last.ensures c.in_default.ensures.told c.in_default-look_for_dir.ensures.told c.in_default-list_none.ensures.told)
-    (left_as c.in-Ok.ensures.told (λ ts e. e ∙ ap (λ (to : Path). entry.Renames c.args.log.now to ∷ []) c.requires.member))
-
-pub returns-in-Err-rename-clause-stopped : goal.returns-in-Err-rename-clause-stopped
-returns-in-Err-rename-clause-stopped g c =
-    left_both (stands_alone c.args.log.now c.args.dir.now c.last.result.now c.requires.dir c.last.ensures c.in_default.ensures.told c.in_default-look_for_dir.ensures.told c.in_default-list_none.ensures.told)
-    (left_as c.in-Err-rename.ensures.told (λ ts r. ⊎_elim (λ none. inl none) (λ e. inr (e ∙ ap (λ (to : Path). entry.Renames c.args.log.now to ∷ []) c.requires.member)) r))
+pub returns-clause-stopped : goal.returns-clause-stopped
+returns-clause-stopped g c =
+    breaks_off c.args.log.now c.args.count c.in-Ok.numbers.items c.in-Ok-steps_of.steps.items c.in-Err-take_steps.at c.swap_remove.result (c.in-Ok-steps_of.ensures ∙ ap (rotation c.args.log.now c.args.count) c.deref.ensures.value)
+    c.swap_remove.ensures.value (subst (λ (xs : List Step). c.in-Err-take_steps.at < length xs) c.deref-2.ensures.value c.in-Err-take_steps.ensures.within) c.in-Ok.ensures.told
+    (left_as c.in-Err-take_steps.ensures.refused (λ ts r. subst (λ (xs : List Step). StopsBy xs c.in-Err-take_steps.at ts) c.deref-2.ensures.value r))

@@ -1,7 +1,8 @@
 use Rattle.std.proofs.Common.{◌≡◌, [], refl, ap, ◌∙◌, Err}
 use Rattle.lr_host.proofs.Left.{left_first, left_as}
-use Rattle.lr_cli.specs.Answer.{ChangeNothing}
+use Rattle.lr_cli.specs.Looks.{ChangeNothing}
 use Rattle.lr_cli.proofs.Because.{answered}
+use Rattle.lr_cli.proofs.FamilySeen.{family_turned}
 use Rattle.lr_cli.proofs.top.logrotate.Goals as goal
 
 pub returns-in-Ok-clause-told : goal.returns-in-Ok-clause-told
@@ -16,3 +17,6 @@ returns-in-Err-Refused-clause-bad_words g c = λ e. c.conf_of.ensures.refused (c
 
 pub returns-in-Err-Memory-clause-told : goal.returns-in-Err-Memory-clause-told
 returns-in-Err-Memory-clause-told g c = left_first ChangeNothing _ refl
+
+pub returns-in-Ok-clause-turned : goal.returns-in-Ok-clause-turned
+returns-in-Ok-clause-turned g c = λ report done none j k told_j told_k journal. family_turned c.args.here.now c.args.words.now c.in-Ok.conf c.run_conf.result report _ _ j k c.in-Ok.ensures.conf c.run_conf.ensures.told done none told_j told_k journal
