@@ -214,24 +214,23 @@ fn host_of(
     alloc: Global,
     conf: &[u8],
     files: Files,
-    failing_call: Option<Failing>,
+    failing: Option<Failing>,
 ) -> Result<MemHost, Fail> {
-    let mut failing = Vec::new(alloc);
-    if let Some(one) = failing_call {
-        failing.push(one)?;
-    }
     let made = MemHost::new(
         alloc,
         opening(alloc, conf, files)?,
         Vec::new(alloc),
-        failing,
+        Vec::new(alloc),
         Vec::new(alloc),
         4096,
     );
-    match made {
-        Ok(host) => Ok(host),
-        Err(_) => Err(Fail::from("the opening is not one of a disk")),
+    let Ok(mut host) = made else {
+        return Err(Fail::from("the opening is not one of a disk"));
+    };
+    if let Some(one) = failing {
+        host.fail(one)?;
     }
+    Ok(host)
 }
 
 // The outcome, or its first fault, by name.
