@@ -11,6 +11,7 @@
 
 mod civil;
 mod clock;
+mod copies;
 mod fault;
 mod form;
 mod listed;
@@ -24,6 +25,7 @@ mod text;
 
 pub use civil::{Civil, Moment};
 pub use clock::Clock;
+pub use copies::copy_texts;
 pub use fault::{CallKind, ConfKind, Ended, Fault, Notice, Phase, StateKind, ZoneWhy};
 pub use listed::Listed;
 pub use memory::Memory;
