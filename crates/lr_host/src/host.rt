@@ -1,11 +1,14 @@
 // The calls of the tool on a disk.
-ghost use Rattle.std.specs.Prelude.{◌≡◌, ◌≤◌, ◌<◌, [], take, drop, length, Option, OnErr, IfOk};
+ghost use Rattle.std.specs.Prelude.{◌≡◌, ◌≢◌, ◌≤◌, ◌<◌, [], ◌∷◌, pos, true, false, take, drop, length, Option, option_copied, Ok, Err, OnErr, IfOk};
+ghost use Rattle.lr_rules.specs.declared.fault.Ended.TheVariants as ended;
 ghost use Rattle.lr_host.specs.declared.journal.Journal.{Journal};
 ghost use Rattle.lr_host.specs.declared.entry.Entry.TheVariants as entry;
-ghost use Rattle.lr_host.specs.Told.{Counts, NoneFell, Rose, Left, Gave, Did, Can};
+ghost use Rattle.lr_host.specs.declared.thing.Thing.TheVariants as thing;
+ghost use Rattle.lr_host.specs.World.{world, names};
+ghost use Rattle.lr_host.specs.Told.{Counts, NoneFell, Rose, Left, Are, Gave, Did, DidWhere, DidPart, DidRun, WhereTold, Can};
 
 use crate::{Journal, Seen};
-use lr_rules::{Path, Text};
+use lr_rules::{Ended, Moment, Path, Rules, Text};
 use std::alloc::Global;
 
 /// A call failed: it did what it was asked for, or nothing, and the count of faults rose.
@@ -21,6 +24,13 @@ pub enum ListFault {
     Memory,
 }
 
+/// A program could not be run, or there was no memory for it.
+#[derive(Clone, Copy, Debug, PartialEq, Eq)]
+pub enum RunFault {
+    Failed,
+    Memory,
+}
+
 /// A disk, as the tool works on it. Each call leaves one entry in the journal, where the host tells it, behind those
 /// of the writers who acted since the call before.
 pub trait Host {
@@ -29,6 +39,21 @@ pub trait Host {
 
     /// How often a call failed, a program ended badly, another held the lock.
     ghost counts: { Self → Counts };
+
+    /// Takes the lock of this state path, and begins a run at this moment by these rules; false, and no run, where
+    /// another has the lock. A call that leaves its entry has made the room for that of `end`.
+    fn begin(&mut self, state: &Path, now: &Moment, rules: &Rules) -> Result<bool, CallFault>
+        requires { Can (told self.old) (entry.Starts state.now now.now rules.now) }
+        ensures told { Left (DidWhere result (entry.Starts state.now now.now rules.now)) (told self.old) (told self.new) }
+        ensures held { result ≡ Ok false → Rose (counts self.old).held (counts self.new).held }
+        ensures cause { OnErr result (Rose (counts self.old).faults (counts self.new).faults) }
+        ensures counts { NoneFell (counts self.old) (counts self.new) };
+
+    /// Ends the run, and gives the lock back; it can't fail.
+    fn end(&mut self)
+        requires { WhereTold (told self.old) (λ p. (world p).running ≡ true) }
+        ensures told { Left (Are (entry.Ends ∷ [])) (told self.old) (told self.new) }
+        ensures counts { NoneFell (counts self.old) (counts self.new) };
 
     /// What stands at the path, None where nothing does. Links are followed only where `follow` holds.
     fn look(&mut self, path: &Path, follow: bool) -> Result<Option<Seen>, CallFault>
@@ -61,10 +86,73 @@ pub trait Host {
         ensures cause { OnErr result (Rose (counts self.old).faults (counts self.new).faults) }
         ensures counts { NoneFell (counts self.old) (counts self.new) };
 
+    /// Makes an empty file, of this mode where one is given; false, and no change, where the path is named.
+    fn make_new(&mut self, path: &Path, mode: Option<u32>) -> Result<bool, CallFault>
+        requires { Can (told self.old) (entry.Makes path.now mode) }
+        ensures told { Left (DidWhere result (entry.Makes path.now mode)) (told self.old) (told self.new) }
+        ensures named { result ≡ Ok false → WhereTold (told self.new) (λ p. names (world p) path.now ≢ thing.Nothing) }
+        ensures cause { OnErr result (Rose (counts self.old).faults (counts self.new).faults) }
+        ensures counts { NoneFell (counts self.old) (counts self.new) };
+
+    /// Appends a first part of the piece, at least one byte of a piece that isn't empty; the answer is its length.
+    /// Where the call fails, a first part may stand.
+    fn append(&mut self, path: &Path, piece: &[u8]) -> Result<usize, CallFault>
+        requires { Can (told self.old) (entry.Appends path.now []) }
+        ensures bound { IfOk result (λ count. count ≤ length piece.now) }
+        ensures some { IfOk result (λ count. 0 < length piece.now → 0 < count) }
+        ensures told { Left (DidPart result path.now piece.now) (told self.old) (told self.new) }
+        ensures cause { OnErr result (Rose (counts self.old).faults (counts self.new).faults) }
+        ensures counts { NoneFell (counts self.old) (counts self.new) };
+
+    /// Empties a file.
+    fn truncate(&mut self, path: &Path) -> Result<(), CallFault>
+        requires { Can (told self.old) (entry.Truncates path.now) }
+        ensures told { Left (Did result (entry.Truncates path.now)) (told self.old) (told self.new) }
+        ensures cause { OnErr result (Rose (counts self.old).faults (counts self.new).faults) }
+        ensures counts { NoneFell (counts self.old) (counts self.new) };
+
     /// Takes a file's path away; the file lives while a writer holds it.
     fn unlink(&mut self, path: &Path) -> Result<(), CallFault>
         requires { Can (told self.old) (entry.Unlinks path.now) }
         ensures told { Left (Did result (entry.Unlinks path.now)) (told self.old) (told self.new) }
         ensures cause { OnErr result (Rose (counts self.old).faults (counts self.new).faults) }
+        ensures counts { NoneFell (counts self.old) (counts self.new) };
+
+    /// Makes the bytes of a file and all name changes so far durable.
+    fn sync_file(&mut self, path: &Path) -> Result<(), CallFault>
+        requires { Can (told self.old) (entry.SyncsFile path.now) }
+        ensures told { Left (Did result (entry.SyncsFile path.now)) (told self.old) (told self.new) }
+        ensures cause { OnErr result (Rose (counts self.old).faults (counts self.new).faults) }
+        ensures counts { NoneFell (counts self.old) (counts self.new) };
+
+    /// Makes all name changes so far durable.
+    fn sync_dir(&mut self, path: &Path) -> Result<(), CallFault>
+        requires { Can (told self.old) (entry.SyncsDir path.now) }
+        ensures told { Left (Did result (entry.SyncsDir path.now)) (told self.old) (told self.new) }
+        ensures cause { OnErr result (Rose (counts self.old).faults (counts self.new).faults) }
+        ensures counts { NoneFell (counts self.old) (counts self.new) };
+
+    /// Makes a directory, of this mode where one is given; false, and no change, where the path is named.
+    fn make_dir(&mut self, path: &Path, mode: Option<u32>) -> Result<bool, CallFault>
+        requires { Can (told self.old) (entry.MakesDir path.now mode) }
+        ensures told { Left (DidWhere result (entry.MakesDir path.now mode)) (told self.old) (told self.new) }
+        ensures named { result ≡ Ok false → WhereTold (told self.new) (λ p. names (world p) path.now ≢ thing.Nothing) }
+        ensures cause { OnErr result (Rose (counts self.old).faults (counts self.new).faults) }
+        ensures counts { NoneFell (counts self.old) (counts self.new) };
+
+    /// Runs a program with these arguments behind its path, and with the file as its input where one is given; the
+    /// answer is how it ended. After want of memory it wasn't run.
+    fn run(
+        &mut self,
+        alloc: Global,
+        program: &Path,
+        args: &[Text],
+        input: Option<&Path>,
+    ) -> Result<Ended, RunFault>
+        requires { Can (told self.old) (entry.Runs program.now args.now (option_copied input) ended.Killed) }
+        ensures told { Left (DidRun result (λ end. entry.Runs program.now args.now (option_copied input.entry) end)) (told self.old) (told self.new) }
+        ensures memory { result ≡ Err RunFault.Memory → Left (Are []) (told self.old) (told self.new) }
+        ensures bad { IfOk result (λ end. end ≢ ended.Exit (pos 0) → Rose (counts self.old).bad_ends (counts self.new).bad_ends) }
+        ensures cause { result ≡ Err RunFault.Failed → Rose (counts self.old).faults (counts self.new).faults }
         ensures counts { NoneFell (counts self.old) (counts self.new) };
 }

@@ -8,7 +8,7 @@ mod sink;
 mod thing;
 
 pub use entry::Entry;
-pub use host::{CallFault, Host, ListFault};
+pub use host::{CallFault, Host, ListFault, RunFault};
 pub use journal::{Journal, OpenFile, Opening};
 pub use sink::{Sink, SinkFault};
 pub use thing::{Kind, Seen, Thing};

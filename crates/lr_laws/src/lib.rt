@@ -12,8 +12,8 @@ mod worked;
 pub use keeping::{changes_keep, elsewhere_keeps, quiet_keeps, writers_keep};
 pub use needs::{
     apart_is_outside, dated_log_may_turn, dated_member_may_go, elsewhere_may_follow, log_may_turn,
-    member_may_go, member_may_move, old_member_may_go, ready_at_start, ready_behind_move,
-    ready_behind_unlink, writers_may_follow,
+    member_may_go, member_may_move, no_name_is_elsewhere, old_member_may_go, ready_at_start,
+    ready_behind_move, ready_behind_unlink, writers_may_follow,
 };
 pub use safety::{
     aside_stays_safe, cut_stays_safe, opening_is_safe, quiet_stays_safe, rotation_stays_safe,

@@ -22,10 +22,10 @@ Pair = Path × Thing
 same : (p q : List ℕ) → bytes_eq p q ≡ true → p ≡ q
 same p q h = (bytes_tell p q).0 h
 
-itself : (p q : List ℕ) → p ≡ q → bytes_eq p q ≡ true
+pub itself : (p q : List ℕ) → p ≡ q → bytes_eq p q ≡ true
 itself p q e = (bytes_tell p q).1 e
 
-or_cases : (a b : Bool) (P : Type 0) → (a || b) ≡ true → (a ≡ true → P) → (b ≡ true → P) → P
+pub or_cases : (a b : Bool) (P : Type 0) → (a || b) ≡ true → (a ≡ true → P) → (b ≡ true → P) → P
 or_cases true b P h f g = f refl
 or_cases false b P h f g = g h
 
@@ -76,7 +76,7 @@ whole : (dir : Path) (n : Pair) → path_fault n.0 ≡ None → Inside dir n →
 whole dir n path i = subst (λ d. joined d (last_of n.0) ≡ n.0) i.parent (joined_parts n.0 path)
 
 -- the value of a key that stands further behind
-later_value : (ns : List Pair) (m : Pair) (x : Path) → IsNotIn m.0 (keys ns) → has_path ns x ≡ true → named_in (m ∷ ns) x ≡ named_in ns x
+pub later_value : (ns : List Pair) (m : Pair) (x : Path) → IsNotIn m.0 (keys ns) → has_path ns x ≡ true → named_in (m ∷ ns) x ≡ named_in ns x
 later_value ns m x new h = go (bytes_eq m.0 x) refl
   where
     found : (ns : List Pair) → IsNotIn x (keys ns) → has_path ns x ≡ true → ⊥

@@ -1,5 +1,6 @@
 -- The state in memory of an opening.
 use Rattle.std.proofs.Common.{◌≡◌, ℕ, zero, suc, ◌<◌, ◌≤◌, Bool, true, false, cond, ◌||◌, List, [], ◌∷◌, ◌++◌, length, map, All, Some, None, refl, sym, ap, subst, ◌∙◌, arith, bytes_eq, nat_eq}
+use Rattle.std.specs.Prelude.{pos}
 use Rattle.std.proofs.lemmas.List.{length-map}
 use Rattle.lr_rules.specs.declared.path.Path.{Path}
 use Rattle.lr_host.specs.declared.thing.Thing.{Thing}
@@ -15,6 +16,7 @@ use Rattle.lr_memhost.specs.Pairs.{keys}
 use Rattle.lr_memhost.specs.Names.{named_in, names_of}
 use Rattle.lr_memhost.specs.State.{Shows, as_open, file_at, hold_in}
 use Rattle.lr_memhost.proofs.PairLemmas.{bytes_tell}
+use Rattle.lr_memhost.proofs.UndoLemmas.{remembers_settled}
 
 -- the paths of an opening, in their order
 keys_paths : (t : Thing) (ps : List Path) → keys (map (λ p. (p, t)) ps) ≡ ps
@@ -117,8 +119,8 @@ unmade [] id le = refl
 unmade (f ∷ os) zero le = absurd (omega arith)
 unmade (f ∷ os) (suc id) le = unmade os id (omega arith)
 
-pub shows_opened : (s : State) (o : Opening) → s.names.items ≡ names_of o → map as_open s.files.items ≡ o.files → s.holds.items ≡ map (λ h. (h.0, Some h.1)) o.holds → IsValid o → Shows s (opened o)
-shows_opened s o same_names same_files same_holds v = record {
+pub shows_opened : (s : State) (o : Opening) → s.names.items ≡ names_of o → map as_open s.files.items ≡ o.files → s.holds.items ≡ map (λ h. (h.0, Some h.1)) o.holds → s.undos.items ≡ [] → s.moment ≡ pos 0 → IsValid o → Shows s (opened o)
+shows_opened s o same_names same_files same_holds undos now v = record {
   named = λ x. ap (λ ns. named_in ns x) same_names ∙ named o.names o.dirs o.others x v.once;
   once = subst AreDistinct (sym (ap keys same_names ∙ keys_names o)) v.once;
   drawn = sym (length-map s.files.items as_open) ∙ ap length same_files;
@@ -126,4 +128,6 @@ shows_opened s o same_names same_files same_holds v = record {
   holds = λ u. ap (λ hs. hold_in hs u) same_holds ∙ held o.holds u;
   below = below_opened o v;
   unmade = unmade o.files;
+  now = now;
+  remembers = remembers_settled (opening_names o) undos (λ x. ap (λ ns. named_in ns x) same_names ∙ named o.names o.dirs o.others x v.once) (below_opened o v);
 }

@@ -1,16 +1,22 @@
 -- What comes before a call, and what the call leaves.
-use Rattle.std.proofs.Common.{◌≡◌, inl, inr, ℕ, zero, suc, ◌+◌, ◌<◌, ◌≤◌, Bool, true, false, List, [], ◌∷◌, ◌++◌, length, take, drop, get_or, Option, Some, None, refl, sym, ap, subst, ◌∙◌, arith, append_assoc}
+use Rattle.std.proofs.Common.{◌≡◌, ◌≢◌, ◌⊎◌, inl, inr, ℕ, zero, suc, ◌+◌, ◌<◌, ◌≤◌, Bool, true, false, List, [], ◌∷◌, ◌++◌, length, take, drop, get_or, Option, Some, None, refl, sym, ap, subst, ◌∙◌, arith, append_assoc}
 use Rattle.std.proofs.lemmas.List.{take_more, drop_more, get_or_default, take_all, drop_all, append-nil, take-append-drop}
-use Rattle.std.specs.Prelude.{option_to_list, filter}
+use Rattle.std.specs.Prelude.{option_to_list, filter, Result, Ok, Err, IfOk, IsErr}
+use Rattle.lr_rules.specs.declared.path.Path.{Path}
+use Rattle.lr_host.specs.declared.thing.Thing.{Thing}
+use Rattle.lr_host.specs.declared.thing.Thing.TheVariants as thing
+use Rattle.lr_host.specs.declared.entry.Entry.TheVariants as entry
+use Rattle.lr_host.specs.declared.journal.Journal.{Journal}
 use Rattle.lr_host.specs.declared.entry.Entry.{Entry}
 use Rattle.lr_host.specs.World.{Past, ◌▸◌, past, world, names}
 use Rattle.lr_host.specs.Fits.{Fits}
 use Rattle.lr_host.specs.Steps.{is_naming}
-use Rattle.lr_host.specs.Told.{Can, CanCall, Made, at_first, by_writer, by_tool, Left, is_told, IsTools, Are}
+use Rattle.lr_host.specs.Told.{NoneFell, IsWriters, Can, CanCall, Made, at_first, by_writer, by_tool, Left, is_told, IsTools, Are, DidWhere, DidPart}
 use Rattle.lr_host.proofs.Left.{made_on, can_stay}
 use Rattle.lr_memhost.specs.declared.act.Act.{Act}
 use Rattle.lr_memhost.specs.State.{with_entry}
-use Rattle.lr_memhost.specs.Acts.{View, Came, all, stays, enters, passes, stops, Comes, Entered, Turned, Starved, one_more}
+use Rattle.lr_memhost.specs.How.{downs}
+use Rattle.lr_memhost.specs.Acts.{View, how_at, Came, all, stays, enters, passes, stops, Comes, Entered, Turned, Starved, one_more, counts_of, IsSure, IsMaking}
 use Rattle.lr_memhost.proofs.JournalLemmas.{past_entry}
 
 pub same_act : (acts : List Act) (at : ℕ) (a b : Act) → at < length acts → a ≡ get_or acts at a → b ≡ get_or acts at b → a ≡ b
@@ -82,16 +88,17 @@ first_between {v} {m} t = go t.left t.entered t.has
     go (Some e) is has = absurd (cc)
 
 -- what comes before a call
-pub turned_first : (v m w : View) (stopped : Bool) → m ≡ v → Came m.calls stopped (past m.journal) m.acts (past w.journal) w.acts → (stopped ≡ true → Starved m w) → w.calls ≡ one_more m.calls → w.failing ≡ m.failing → Turned (Are []) v w
-turned_first v m w stopped is came starved calls failing =
+pub turned_first : (v m w : View) (stopped : Bool) → m ≡ v → Came m.calls stopped (past m.journal) m.acts (past w.journal) w.acts → (stopped ≡ true → Starved m w) → w.calls ≡ one_more m.calls → w.failing ≡ m.failing → w.down ≡ downs (how_at m) → Turned (Are []) v w
+turned_first v m w stopped is came starved calls failing down =
     subst (λ x. Turned (Are []) x w) is
-    (record { between = past w.journal; stopped = stopped; came = came; starved = starved; left = None; entered = refl; has = refl; calls = calls; failing = failing })
+    (record { between = past w.journal; stopped = stopped; came = came; starved = starved; left = None; entered = refl; has = refl; calls = calls; failing = failing; down = down })
 
 -- the fields that a call leaves alone
 pub record Alike (v w : View) : Type 0 where
   pub acts : w.acts ≡ v.acts
   pub failing : w.failing ≡ v.failing
   pub calls : w.calls ≡ v.calls
+  pub down : w.down ≡ v.down
   pub starved : v.starved ≤ w.starved
 
 more_starved : (v m w : View) → m.starved ≤ w.starved → Starved v m → Starved v w
@@ -109,6 +116,7 @@ turned_kept P {v} {m} {w} t alike same has = record {
   has = has;
   calls = alike.calls ∙ t.calls;
   failing = alike.failing ∙ t.failing;
+  down = alike.down ∙ t.down;
 }
 
 -- a call that leaves its entry
@@ -123,14 +131,118 @@ turned_entry P e {v} {m} {w} t alike more tools fits has = record {
   has = has;
   calls = alike.calls ∙ t.calls;
   failing = alike.failing ∙ t.failing;
+  down = alike.down ∙ t.down;
 }
 
-pub like : (m w x : View) → w ≡ x → m.starved ≤ w.starved → x.acts ≡ m.acts → x.failing ≡ m.failing → x.calls ≡ m.calls → Alike m w
-like m w x is le acts failing calls = record { acts = ap (λ v. v.acts) is ∙ acts; failing = ap (λ v. v.failing) is ∙ failing; calls = ap (λ v. v.calls) is ∙ calls; starved = le }
+pub like : (m w x : View) → w ≡ x → m.starved ≤ w.starved → x.acts ≡ m.acts → x.failing ≡ m.failing → x.calls ≡ m.calls → x.down ≡ m.down → Alike m w
+like m w x is le acts failing calls down = record { acts = ap (λ v. v.acts) is ∙ acts; failing = ap (λ v. v.failing) is ∙ failing; calls = ap (λ v. v.calls) is ∙ calls; down = ap (λ v. v.down) is ∙ down; starved = le }
 
-pub like_same : (m w x : View) → w ≡ x → x.starved ≡ m.starved → x.acts ≡ m.acts → x.failing ≡ m.failing → x.calls ≡ m.calls → Alike m w
-like_same m w x is starved acts failing calls = like m w x is (let e : w.starved ≡ m.starved = ap (λ v. v.starved) is ∙ starved in omega arith) acts failing calls
+pub like_same : (m w x : View) → w ≡ x → x.starved ≡ m.starved → x.acts ≡ m.acts → x.failing ≡ m.failing → x.calls ≡ m.calls → x.down ≡ m.down → Alike m w
+like_same m w x is starved acts failing calls down = like m w x is (let e : w.starved ≡ m.starved = ap (λ v. v.starved) is ∙ starved in omega arith) acts failing calls down
 
 -- what fits before the acts fits behind them
 pub still_can : {e : Entry} {v m : View} → Can (Some v.journal) e → Turned (Are []) v m → CanCall (names (world (past m.journal))) e
 still_can can t = (can_stay can (turned_left t) (λ ts is. ap (filter is_naming) is)).can
+
+-- no count fell where the rest is as it was
+pub none_fell : (v w : View) → v.faults ≤ w.faults → w.rest ≡ v.rest → NoneFell (counts_of v) (counts_of w)
+none_fell v w le same = (le, at_least (ap (λ r. r.bad_ends) same), at_least (ap (λ r. r.held) same))
+  where
+    at_least : {a b : ℕ} → b ≡ a → a ≤ b
+    at_least e = omega arith
+
+-- an entry that was made for a call, where there was memory for it
+pub sure_if : {E : Type 0} (r : Result Entry E) (e : Entry) (told : Option Journal) → IfOk r (λ x. x ≡ e) → IsSure e → Can told e → IfOk r (λ x. IsSure x × Can told x)
+sure_if (Ok x) e told is sure can = subst (λ y. IsSure y × Can told y) (sym is) (sure, can)
+sure_if (Err f) e told is sure can = tt
+
+pub making_if : {E : Type 0} (r : Result Entry E) (path : Path) (e : Entry) (told : Option Journal) → IfOk r (λ x. x ≡ e) → IsMaking path e → Can told e → IfOk r (λ x. IsMaking path x × Can told x)
+making_if (Ok x) path e told is making can = subst (λ y. IsMaking path y × Can told y) (sym is) (making, can)
+making_if (Err f) path e told is making can = tt
+
+pub sure_tools : (e : Entry) → IsSure e → IsTools e
+sure_tools (entry.Starts state now rules) s = tt
+sure_tools (entry.Renames from to) s = tt
+sure_tools (entry.Appends x bytes) s = tt
+sure_tools (entry.Truncates x) s = tt
+sure_tools (entry.Unlinks x) s = tt
+sure_tools (entry.SyncsFile x) s = tt
+sure_tools (entry.SyncsDir x) s = tt
+sure_tools _ s = absurd s
+
+pub sure_fits : (p : Past) (e : Entry) → IsSure e → CanCall (names (world p)) e → Fits (world p) e
+sure_fits p (entry.Starts state now rules) s can = can
+sure_fits p (entry.Renames from to) s can = can
+sure_fits p (entry.Appends x bytes) s can = can
+sure_fits p (entry.Truncates x) s can = can
+sure_fits p (entry.Unlinks x) s can = can
+sure_fits p (entry.SyncsFile x) s can = can
+sure_fits p (entry.SyncsDir x) s can = can
+sure_fits p _ s can = absurd s
+
+pub making_tools : (path : Path) (e : Entry) → IsMaking path e → IsTools e
+making_tools path (entry.Makes x mode) m = tt
+making_tools path (entry.MakesDir x mode) m = tt
+making_tools path _ m = absurd m
+
+pub making_fits : (p : Past) (path : Path) (e : Entry) → IsMaking path e → CanCall (names (world p)) e → names (world p) path ≡ thing.Nothing → Fits (world p) e
+making_fits p path (entry.Makes x mode) m can free = (can, ap (names (world p)) m ∙ free)
+making_fits p path (entry.MakesDir x mode) m can free = (can, ap (names (world p)) m ∙ free)
+making_fits p path _ m can free = absurd m
+
+-- what isn't something is nothing
+is_free : (t : Thing) → ¬ (t ≢ thing.Nothing) → t ≡ thing.Nothing
+is_free thing.Nothing some = refl
+is_free (thing.File g) some = absurd (some (λ e. cc))
+is_free thing.Directory some = absurd (some (λ e. cc))
+is_free thing.Other some = absurd (some (λ e. cc))
+
+pub free_if : (t : Thing) (named : Bool) → (t ≢ thing.Nothing → named ≡ true) → named ≡ false → t ≡ thing.Nothing
+free_if t named told is = is_free t (λ some. let e = told some in absurd (cc))
+
+-- writers leave whether a run stands
+came_running : (number : ℕ) (stopped : Bool) (p : Past) (acts : List Act) (q : Past) (left : List Act) → Came number stopped p acts q left → (world q).running ≡ (world p).running
+came_running number stopped p _ _ _ all = refl
+came_running number stopped p _ q _ (stays less came) = came_running number stopped p _ q _ came
+came_running number stopped p _ q left (enters {a = a} le w f came) = came_running number stopped (p ▸ a.what) _ q left came ∙ wrote (a.what) w
+  where
+    wrote : (e : Entry) → IsWriters e → (world (p ▸ e)).running ≡ (world p).running
+    wrote (entry.Attach v x at) i = refl
+    wrote (entry.Feed v bytes at) i = refl
+    wrote (entry.Flush v) i = refl
+    wrote (entry.Detach v) i = refl
+    wrote _ i = absurd i
+came_running number stopped p _ q left (passes le unfit came) = came_running number stopped p _ q left came
+came_running number stopped p _ _ _ (stops s) = refl
+
+pub still_running : {v m : View} → Turned (Are []) v m → (world (past v.journal)).running ≡ true → (world (past m.journal)).running ≡ true
+still_running {v} {m} t runs = ap (λ q. (world q).running) (first_between t) ∙ (came_running v.calls t.stopped (past v.journal) v.acts t.between m.acts t.came ∙ runs)
+
+-- what a call left, said otherwise
+pub turned_as : {P : List Entry → Type 0} (Q : List Entry → Type 0) → ((ts : List Entry) → P ts → Q ts) → {v w : View} → Turned P v w → Turned Q v w
+turned_as Q more t = record { between = t.between; stopped = t.stopped; came = t.came; starved = t.starved; left = t.left; entered = t.entered; has = more (option_to_list t.left) t.has; calls = t.calls; failing = t.failing; down = t.down }
+
+-- what a call left, of a host that is as it was in all that a call tells
+pub turned_rest : (P : List Entry → Type 0) {v w x : View} → Turned P v w → Alike w x → x.journal ≡ w.journal → Turned P v x
+turned_rest P {v} {w} {x} t alike same = record {
+  between = t.between;
+  stopped = t.stopped;
+  came = subst (λ l. Came v.calls t.stopped (past v.journal) v.acts t.between l) (sym alike.acts) t.came;
+  starved = λ s. more_starved v w x alike.starved (t.starved s);
+  left = t.left;
+  entered = subst (λ j. Entered t.between t.left (past j)) (sym same) t.entered;
+  has = t.has;
+  calls = alike.calls ∙ t.calls;
+  failing = alike.failing ∙ t.failing;
+  down = alike.down ∙ t.down;
+}
+
+-- what a call left that failed, of the error that it hands on
+pub failed_where : {E : Type 0} (r : Result Bool E) (e : Entry) → IsErr r → (ts : List Entry) → (ts ≡ []) ⊎ (ts ≡ e ∷ []) → DidWhere r e ts
+failed_where (Ok x) e err ts has = absurd (cc)
+failed_where (Err f) e err ts has = has
+
+pub failed_part : {E : Type 0} (r : Result ℕ E) (x : Path) (piece : List ℕ) (count : ℕ) → IsErr r → count ≤ length piece → (ts : List Entry) → (ts ≡ []) ⊎ (ts ≡ entry.Appends x (take count piece) ∷ []) → DidPart r x piece ts
+failed_part (Ok n) x piece count err le ts has = absurd (cc)
+failed_part (Err f) x piece count err le ts (inl none) = inl none
+failed_part (Err f) x piece count err le ts (inr some) = inr (count, le, some)

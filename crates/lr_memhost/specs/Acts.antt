@@ -1,15 +1,37 @@
 -- What each call to a host in memory does: writers act, and then the call is made or fails.
-use Rattle.std.specs.Prelude.{◌≡◌, ◌≢◌, ℕ, ◌+◌, ◌-◌, ◌^◌, ◌<◌, ◌≤◌, min, ◌==◌, ◌⊎◌, Bool, true, cond, List, [], ◌∷◌, length, Option, Some, None, option_to_list}
+use Rattle.std.specs.Ordering.{int_eq}
+use Rattle.std.specs.Prelude.{◌≡◌, ◌≢◌, ℕ, ◌+◌, ◌-◌, ◌^◌, ◌<◌, ◌≤◌, min, ◌==◌, ◌⊎◌, Bool, true, false, not, cond, pos, List, [], ◌∷◌, drop, length, Option, Some, None, option_to_list}
+use Rattle.lr_rules.specs.declared.path.Path.{Path}
 use Rattle.lr_host.specs.declared.thing.Thing.{Thing}
 use Rattle.lr_host.specs.declared.thing.Thing.TheVariants as thing
 use Rattle.lr_host.specs.declared.entry.Entry.{Entry}
+use Rattle.lr_host.specs.declared.entry.Entry.TheVariants as entry
 use Rattle.lr_host.specs.declared.journal.Journal.{Journal}
 use Rattle.lr_host.specs.World.{Past, ◌▸◌, past, World, world}
 use Rattle.lr_host.specs.Fits.{Fits}
-use Rattle.lr_host.specs.Told.{IsWriters, IsTools, Rose}
+use Rattle.lr_rules.specs.declared.fault.Ended.{Ended}
+use Rattle.lr_rules.specs.declared.fault.Ended.TheVariants as ended
+use Rattle.lr_host.specs.Told.{Counts, IsWriters, IsTools, Rose}
 use Rattle.lr_memhost.specs.declared.act.Act.{Act}
 use Rattle.lr_memhost.specs.declared.act.Failing.{Failing}
 use Rattle.lr_memhost.specs.declared.act.How.{How}
+use Rattle.lr_memhost.specs.declared.act.How.TheVariants as how
+use Rattle.lr_memhost.specs.How.{downs}
+
+-- What a host has besides its disk, its acts and its calls.
+pub record Rest : Type 0 where
+  -- the ends of the programs to come
+  pub ends : List Ended
+  -- how many bytes an append takes at most
+  pub piece : ℕ
+  -- the run has the lock
+  pub mine : Bool
+  -- another has the lock
+  pub another : Bool
+  -- how many programs ended badly
+  pub bad_ends : ℕ
+  -- how often the lock was taken already
+  pub held : ℕ
 
 -- A host in memory, as contracts see it.
 pub record View : Type 0 where
@@ -23,19 +45,46 @@ pub record View : Type 0 where
   pub faults : ℕ
   -- how often there was no memory
   pub starved : ℕ
+  -- a Stop came, and no revival since
+  pub down : Bool
+  pub rest : Rest
+
+abbrev pub counts_of : View → Counts
+counts_of v = record { faults = v.faults; bad_ends = v.rest.bad_ends; held = v.rest.held }
+
+-- nobody has the lock
+abbrev pub IsFree : Rest → Type 0
+IsFree r = (r.mine ≡ false) × (r.another ≡ false)
+
+-- how the next program ends
+abbrev pub first_end : List Ended → Ended
+first_end [] = ended.Exit (pos 0)
+first_end (e ∷ es) = e
+
+abbrev pub is_bad : Ended → Bool
+is_bad (ended.Exit code) = not (int_eq code (pos 0))
+is_bad ended.Killed = true
 
 -- one more; a count at its type's end stands still
 abbrev pub one_more : ℕ → ℕ
 one_more n = min (n + 1) (2 ^ 64 - 1)
+
+-- a program ran
+abbrev pub after_end : Rest → Rest
+after_end r = record { ends = drop 1 r.ends; piece = r.piece; mine = r.mine; another = r.another; bad_ends = cond (is_bad (first_end r.ends)) (one_more r.bad_ends) r.bad_ends; held = r.held }
 
 -- how the call with this number is to fail, by the first that lists it
 abbrev pub how_of : List Failing → ℕ → Option How
 how_of [] number = None
 how_of (f ∷ fs) number = cond (f.at == number) (Some f.how) (how_of fs number)
 
--- the next call is listed
+-- how the next call is to fail
+abbrev pub how_at : View → Option How
+how_at v = cond v.down (Some how.Stop) (how_of v.failing v.calls)
+
+-- the next call is listed, or comes after a Stop
 abbrev pub IsListed : View → Type 0
-IsListed v = how_of v.failing v.calls ≢ None
+IsListed v = how_at v ≢ None
 
 -- there was no memory
 abbrev pub Starved : View → View → Type 0
@@ -69,6 +118,7 @@ pub record Turned (P : List Entry → Type 0) (before after : View) : Type 0 whe
   pub has : P (option_to_list left)
   pub calls : after.calls ≡ one_more before.calls
   pub failing : after.failing ≡ before.failing
+  pub down : after.down ≡ downs (how_at before)
 
 -- a read of what a path names gives so many bytes: all that there are from the place on, as far as there is room
 abbrev pub GivesAll : World → Thing → ℕ → ℕ → ℕ → Type 0
@@ -79,3 +129,20 @@ GivesAll w _ from room count = ⊥
 abbrev pub HasBytes : World → Thing → List ℕ → Type 0
 HasBytes w (thing.File g) bytes = bytes ≡ (w.files g).bytes
 HasBytes w _ bytes = ⊥
+
+-- the entries whose call may be made wherever it fits
+abbrev pub IsSure : Entry → Type 0
+IsSure (entry.Starts state now rules) = Unit {0}
+IsSure (entry.Renames from to) = Unit {0}
+IsSure (entry.Appends x bytes) = Unit {0}
+IsSure (entry.Truncates x) = Unit {0}
+IsSure (entry.Unlinks x) = Unit {0}
+IsSure (entry.SyncsFile x) = Unit {0}
+IsSure (entry.SyncsDir x) = Unit {0}
+IsSure _ = ⊥
+
+-- the entries that make something new of this path
+abbrev pub IsMaking : Path → Entry → Type 0
+IsMaking path (entry.Makes x mode) = x ≡ path
+IsMaking path (entry.MakesDir x mode) = x ≡ path
+IsMaking path _ = ⊥

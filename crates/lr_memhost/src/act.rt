@@ -1,4 +1,7 @@
 // What a host in memory is told beforehand: what writers do, and which calls fail.
+ghost use Rattle.std.specs.Prelude.{◌≡◌};
+ghost use Rattle.lr_memhost.specs.How.{downs, idles};
+
 use lr_host::Entry;
 
 /// An act of a writer. It comes just before the call with the number `before`, or before the first call after it was
@@ -16,6 +19,31 @@ pub enum How {
     NoEffect,
     /// It does what it was asked for, where it changes something.
     WithEffect,
+    /// An append leaves its first so many bytes, or all where it has fewer; any other call does nothing.
+    Part(usize),
+    /// It does nothing, nor does any later call but the end of a run, until the host is revived.
+    Stop,
+}
+
+/// Whether the host is down behind a call that fails so.
+pub fn is_stop(how: Option<How>) -> bool
+    ensures { result ≡ downs how }
+{
+    match how {
+        Some(How::Stop) => true,
+        _ => false,
+    }
+}
+
+/// Whether a call that is no append does nothing.
+pub fn is_idle(how: Option<How>) -> bool
+    ensures { result ≡ idles how }
+{
+    match how {
+        None => false,
+        Some(How::WithEffect) => false,
+        _ => true,
+    }
 }
 
 /// The call with the number `at` fails. Where several list the same call, the first counts.

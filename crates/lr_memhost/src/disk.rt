@@ -1,23 +1,29 @@
 // A disk in memory, which contracts see as the journal of its steps.
-ghost use Rattle.std.specs.Prelude.{◌≡◌, ◌<◌, ◌≤◌, ◌↔◌, ◌∷◌, ◌++◌, pos, Some, List, ℕ, [], min, length, take, drop, MatchResult, MatchOption, IfOk, OnOk, OnErr, IsTrue};
+ghost use Rattle.std.specs.Prelude.{◌≡◌, ◌≢◌, ◌<◌, ◌≤◌, ◌↔◌, ◌∷◌, ◌++◌, true, pos, Some, List, ℕ, [], length, take, drop, vec_len, vec_capacity, MatchResult, MatchOption, IfOk, OnOk, OnErr, IsTrue};
 ghost use Rattle.lr_host.specs.declared.entry.Entry.{Entry};
 ghost use Rattle.lr_host.specs.declared.entry.Entry.TheVariants as entry;
 ghost use Rattle.lr_host.specs.World.{world, past, names};
-ghost use Rattle.lr_host.specs.Fits.{Fits, Sees, Gives, AreNamesIn, IsFileAt, IsDirectoryAt};
+ghost use Rattle.lr_host.specs.declared.thing.Thing.TheVariants as thing;
+ghost use Rattle.lr_host.specs.Fits.{Fits, IsCut, Sees, Gives, IsFileAt, IsDirectoryAt};
 ghost use Rattle.lr_host.specs.Told.{IsWriters};
-ghost use Rattle.lr_host.specs.Opening.{IsValid};
-ghost use Rattle.lr_memhost.specs.State.{IsTaken, with_entry, opened_journal};
+ghost use Rattle.lr_host.specs.Opening.{IsValid, IsJournal};
+ghost use Rattle.lr_host.specs.Sets.{LogSet};
+ghost use Rattle.lr_host.specs.Safe.{IsSafe};
+ghost use Rattle.lr_memhost.specs.State.{with_entry, opened_journal};
 ghost use Rattle.lr_memhost.specs.Acts.{GivesAll, HasBytes};
 
+use crate::entries::copy_lengths;
 use crate::file::read_bytes;
 use crate::holds::hold_of;
-use crate::listing::{add_names, copy_texts};
+use crate::lengths::{are_apart, are_within};
+use crate::listing::add_names;
 use crate::names::thing_at;
 use crate::opened::open;
 use crate::state::{State, apply, prepare};
+use crate::undo::{copy_names, take_back};
 use crate::valid::is_valid;
 use lr_host::{Entry, Journal, Kind, Opening, Seen, Thing};
-use lr_rules::{Listed, Memory, Path, Text};
+use lr_rules::{Listed, Memory, Path, Text, copy_texts};
 use std::alloc::Global;
 use std::marker::Model;
 use std::mem::replace;
@@ -27,6 +33,8 @@ pub struct Disk {
     alloc: Global,
     journal: Journal,
     state: State,
+    // Holds nothing. While a run stands, it has room for all entries and the run's end.
+    room: Vec<Entry>,
 }
 
 impl Model for Disk {
@@ -34,12 +42,12 @@ impl Model for Disk {
 
     ghost Value = { Journal };
 
-    ghost use Rattle.lr_host.specs.World.{world, past};
-    ghost use Rattle.lr_memhost.specs.State.{Shows};
+    ghost use Rattle.std.specs.Prelude.{vec_len, vec_capacity};
+    ghost use Rattle.lr_memhost.specs.State.{IsDisk};
 
     ghost view = { λ d. d.journal };
 
-    ghost invariant = { λ d. Shows d.state (world (past d.journal)) };
+    ghost invariant = { λ d. IsDisk d.state (vec_len d.room) (vec_capacity d.room) d.journal };
 }
 
 // Adds an entry; where there is no memory for it, it comes back.
@@ -55,6 +63,20 @@ fn add(alloc: Global, entries: &mut Listed<Entry>, entry: Entry) -> Result<(), E
     }
 }
 
+// Adds an entry by moving all of them to a vector that has the room.
+fn add_in_room(alloc: Global, entries: &mut Listed<Entry>, room: &mut Vec<Entry>, entry: Entry)
+    requires empty { vec_len room.old ≡ 0 }
+    requires room { length entries.old < vec_capacity room.old }
+    ensures entries { entries.new ≡ entries.old ++ entry ∷ [] }
+    ensures empty { vec_len room.new ≡ 0 }
+{
+    let mut items = replace(entries, Listed::new(alloc)).into_vec();
+    let mut all = replace(room, Vec::new(alloc));
+    all.append(&mut items).unwrap();
+    all.push(entry).unwrap();
+    *entries = Listed::from_vec(all);
+}
+
 fn newest(entries: &Listed<Entry>) -> &Entry
     requires { 0 < length entries.now }
     ensures { (es : List Entry) (e : Entry) → entries.now ≡ es ++ e ∷ [] → result.now ≡ e }
@@ -66,22 +88,26 @@ fn newest(entries: &Listed<Entry>) -> &Entry
 impl Disk {
     /// A disk at its opening; None where the opening isn't one of a disk.
     pub fn new(alloc: Global, opening: Opening) -> Result<Option<Disk>, Memory>
-        ensures { IfOk result (λ made. MatchOption made (¬ IsValid opening) (λ disk. (disk ≡ opened_journal opening) × IsValid opening)) }
+        ensures { IfOk result (λ made. MatchOption made (¬ IsValid opening) (λ disk. (disk ≡ opened_journal opening) × IsValid opening × ((s : LogSet) → IsSafe s (past disk)))) }
     {
         let state = open(alloc, &opening)?;
         if !is_valid(&opening, &state.names) {
             return Ok(None);
         }
         let entries = Listed::new(alloc);
+        let room = Vec::new(alloc);
         Ok(Some(Disk {
             alloc,
             journal: Journal { opening, entries },
             state,
+            room,
         }))
     }
 
+    /// The journal, which is one of a disk.
     pub fn journal(&self) -> &Journal
-        ensures { result.now ≡ self.now }
+        ensures is { result.now ≡ self.now }
+        ensures journal { IsJournal (past self.now) }
     {
         &self.journal
     }
@@ -98,15 +124,90 @@ impl Disk {
 
     /// Takes an entry into the journal, and does what it does; where there is no memory, it comes back.
     pub fn enter(&mut self, entry: Entry) -> Result<(), Entry>
-        requires { IsTaken entry }
+        requires { Fits (world (past self.old)) entry }
         ensures { MatchResult result (λ _. self.new ≡ with_entry self.old entry) (λ back. (back ≡ entry) × (self.new ≡ self.old)) }
     {
-        if prepare(self.alloc, &mut self.state, &entry).is_err() {
+        let Ok(spare) = prepare(self.alloc, &mut self.state, &entry) else {
             return Err(entry);
-        }
+        };
+        let Some(more) = self.journal.entries.len().checked_add(2) else {
+            return Err(entry);
+        };
+        let Ok(()) = self.room.reserve(more) else {
+            return Err(entry);
+        };
         add(self.alloc, &mut self.journal.entries, entry)?;
-        apply(self.alloc, &mut self.state, newest(&self.journal.entries));
+        apply(
+            self.alloc,
+            &mut self.state,
+            newest(&self.journal.entries),
+            spare,
+        );
         Ok(())
+    }
+
+    /// Ends a run; the room for the entry was made before.
+    pub fn end(&mut self)
+        requires { (world (past self.old)).running ≡ true }
+        ensures { self.new ≡ with_entry self.old entry.Ends }
+    {
+        let added = add(self.alloc, &mut self.journal.entries, Entry::Ends);
+        if let Err(entry) = added {
+            add_in_room(self.alloc, &mut self.journal.entries, &mut self.room, entry);
+        }
+    }
+
+    /// How many name changes came since the last sync.
+    pub fn unsynced(&self) -> usize
+        ensures { result ≡ length (world (past self.now)).pending }
+    {
+        self.state.undos.len()
+    }
+
+    /// Whether the machine may stop so that the first so many name changes stay, and the listed files (identity,
+    /// length) are cut so.
+    pub fn allows(&self, names_kept: usize, lengths: &[(u64, u64)]) -> Result<bool, Memory>
+        ensures { IfOk result (λ yes. IsTrue yes ↔ IsCut (world (past self.now)) names_kept lengths.now) }
+    {
+        if names_kept > self.state.undos.len() {
+            return Ok(false);
+        }
+        if !are_apart(lengths) {
+            return Ok(false);
+        }
+        let mut names = copy_names(self.alloc, &self.state.names)?;
+        take_back(&mut names, &self.state.undos, names_kept);
+        Ok(are_within(&self.state.files, &names, lengths))
+    }
+
+    /// Lets the machine stop so.
+    pub fn cut(&mut self, names_kept: usize, lengths: &[(u64, u64)]) -> Result<(), Memory>
+        requires { IsCut (world (past self.old)) names_kept lengths.now }
+        ensures entry { MatchResult result (λ _. self.new ≡ with_entry self.old (entry.Cut names_kept lengths.now)) (λ _. self.new ≡ self.old) }
+        ensures safe { OnOk result ((s : LogSet) → IsSafe s (past self.old) → IsSafe s (past self.new)) }
+    {
+        let lengths = copy_lengths(self.alloc, lengths)?;
+        let Ok(()) = self.enter(Entry::Cut {
+            names_kept,
+            lengths,
+        }) else {
+            return Err(Memory);
+        };
+        Ok(())
+    }
+
+    /// What the path names.
+    pub fn thing(&self, path: &Path) -> Thing
+        ensures { result ≡ names (world (past self.now)) path.now }
+    {
+        thing_at(&self.state.names, path.bytes())
+    }
+
+    /// Whether something has the path.
+    pub fn is_named(&self, path: &Path) -> bool
+        ensures { IsTrue result ↔ (names (world (past self.now)) path.now ≢ thing.Nothing) }
+    {
+        thing_at(&self.state.names, path.bytes()) != Thing::Nothing
     }
 
     /// Whether it is a writer's entry that fits.
@@ -191,7 +292,7 @@ impl Disk {
     {
         let start = into.len();
         add_names(alloc, into, &self.state.names, dir)?;
-        let names = Listed::from_vec(copy_texts(self.alloc, &into[start..])?);
+        let names = copy_texts(self.alloc, &into[start..])?;
         let dir = dir.copy(self.alloc)?;
         let Ok(()) = self.enter(Entry::List { dir, names }) else {
             return Err(Memory);
@@ -229,27 +330,6 @@ impl Disk {
             return Err(Memory);
         };
         Ok(count)
-    }
-
-    pub fn rename(&mut self, from: &Path, to: &Path) -> Result<(), Memory>
-        ensures { MatchResult result (λ _. self.new ≡ with_entry self.old (entry.Renames from.now to.now)) (λ _. self.new ≡ self.old) }
-    {
-        let from = from.copy(self.alloc)?;
-        let to = to.copy(self.alloc)?;
-        let Ok(()) = self.enter(Entry::Renames { from, to }) else {
-            return Err(Memory);
-        };
-        Ok(())
-    }
-
-    pub fn unlink(&mut self, path: &Path) -> Result<(), Memory>
-        ensures { MatchResult result (λ _. self.new ≡ with_entry self.old (entry.Unlinks path.now)) (λ _. self.new ≡ self.old) }
-    {
-        let path = path.copy(self.alloc)?;
-        let Ok(()) = self.enter(Entry::Unlinks { path }) else {
-            return Err(Memory);
-        };
-        Ok(())
     }
 }
 

@@ -1,6 +1,6 @@
 // A file in memory.
 ghost use Rattle.std.specs.Prelude.{◌≡◌, ◌≤◌, ◌<◌, ◌+◌, ◌++◌, ◌-◌, min, length, take, drop, OnOk, vec_len, vec_capacity};
-ghost use Rattle.lr_memhost.specs.State.{as_file};
+ghost use Rattle.lr_memhost.specs.State.{as_file, fed_file, synced_file, emptied_file, cut_file};
 
 use std::alloc::AllocError;
 
@@ -21,17 +21,35 @@ pub fn reserve_more(file: &mut MemFile, more: usize) -> Result<(), AllocError>
 }
 
 pub fn flush_file(file: &mut MemFile)
-    ensures { as_file file.new ≡ record (as_file file.old) { synced = length file.old.bytes.items } }
+    ensures { as_file file.new ≡ synced_file (as_file file.old) }
 {
     file.synced = file.bytes.len() as u64;
 }
 
-pub fn feed_file(file: &mut MemFile, bytes: &[u8], at: &i64)
+pub fn feed_file(file: &mut MemFile, bytes: &[u8], at: i64)
     requires { vec_len file.old.bytes + length bytes.now ≤ vec_capacity file.old.bytes }
-    ensures { as_file file.new ≡ record (as_file file.old) { bytes = file.old.bytes.items ++ bytes.now; mtime = at.now } }
+    ensures { as_file file.new ≡ fed_file bytes.now at (as_file file.old) }
 {
     file.bytes.extend_from_slice(bytes).unwrap();
-    file.mtime = *at;
+    file.mtime = at;
+}
+
+pub fn empty_file(file: &mut MemFile, at: i64)
+    ensures { as_file file.new ≡ emptied_file at (as_file file.old) }
+{
+    file.bytes.clear();
+    file.synced = 0;
+    file.mtime = at;
+}
+
+/// Cuts the bytes to a length, where one is given; what is left is synced.
+pub fn shorten_file(file: &mut MemFile, limit: Option<u64>)
+    ensures { as_file file.new ≡ cut_file limit (as_file file.old) }
+{
+    if let Some(limit) = limit {
+        file.bytes.truncate(limit as usize);
+    }
+    file.synced = file.bytes.len() as u64;
 }
 
 /// Bytes from a place on, as far as there is room.

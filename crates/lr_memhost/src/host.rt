@@ -1,20 +1,21 @@
-// The host in memory: writers act before each call, and listed calls fail.
-ghost use Rattle.std.specs.Prelude.{◌≡◌, ◌≤◌, ◌<◌, ◌⊎◌, ◌↔◌, ◌∷◌, ◌++◌, List, [], ℕ, Some, None, take, drop, length, Option, OnErr, OnOk, IfOk, IsErr, MatchResult, MatchOption};
+// The host in memory: writers act before each call, listed calls fail, and the machine may stop.
+ghost use Rattle.std.specs.Prelude.{◌≡◌, ◌<◌, ◌∷◌, ◌++◌, [], true, false, length, OnErr, OnOk, IfOk, IsErrOf, MatchOption};
 ghost use Rattle.lr_host.specs.declared.entry.Entry.TheVariants as entry;
-ghost use Rattle.lr_host.specs.declared.journal.Journal.{Journal};
 ghost use Rattle.lr_host.specs.World.{world, past, names};
-ghost use Rattle.lr_host.specs.Fits.{IsFileAt};
+ghost use Rattle.lr_host.specs.Fits.{IsFileAt, IsCut};
 ghost use Rattle.lr_host.specs.Opening.{IsValid, IsJournal};
-ghost use Rattle.lr_host.specs.Told.{Counts, NoneFell, Rose, Left, Are, Gave, Did, Can};
-ghost use Rattle.lr_memhost.specs.State.{opened_journal};
-ghost use Rattle.lr_memhost.specs.Acts.{View, how_of, one_more, IsListed, Starved, Came, Turned, GivesAll, HasBytes};
-ghost use Rattle.lr_memhost.specs.declared.act.How.TheVariants as how;
+ghost use Rattle.lr_host.specs.Sets.{LogSet};
+ghost use Rattle.lr_host.specs.Safe.{IsSafe};
+ghost use Rattle.lr_memhost.specs.State.{opened_journal, with_entry};
+ghost use Rattle.lr_memhost.specs.Acts.{View, HasBytes};
 
-use crate::act::{Act, Failing, How};
+mod calls;
+mod parts;
+
+use crate::act::{Act, Failing};
 use crate::disk::Disk;
-use crate::turn::{listed, take_acts};
-use lr_host::{CallFault, Host, Journal, ListFault, Opening, Seen};
-use lr_rules::{Ended, Memory, Path, Text};
+use lr_host::{Journal, Opening, Thing};
+use lr_rules::{Ended, Memory, Path};
 use std::alloc::Global;
 use std::marker::Model;
 
@@ -25,18 +26,32 @@ pub enum MemFault {
     Memory,
 }
 
+/// The machine can't stop so now; or there was no memory.
+#[derive(Clone, Copy, Debug, PartialEq, Eq)]
+pub enum CutFault {
+    NotAllowed,
+    Memory,
+}
+
 /// A disk in memory.
 #[derive(Drop)]
 pub struct MemHost {
+    alloc: Global,
     disk: Disk,
     acts: Vec<Act>,
     failing: Vec<Failing>,
-    // The ends of the programs to come, and how many bytes an append takes, for the calls that run and append.
     ends: Vec<Ended>,
     piece: usize,
     calls: u64,
     faults: u64,
     starved: u64,
+    bad_ends: u64,
+    held: u64,
+    // A Stop came.
+    down: bool,
+    // The run has the lock; another has it.
+    mine: bool,
+    another: bool,
 }
 
 impl Model for MemHost {
@@ -44,12 +59,17 @@ impl Model for MemHost {
 
     ghost Value = { View };
 
-    ghost view = { λ h. record { journal = h.disk; acts = h.acts.items; failing = h.failing.items; calls = h.calls; faults = h.faults; starved = h.starved } };
+    ghost view = { λ h. record { journal = h.disk; acts = h.acts.items; failing = h.failing.items; calls = h.calls; faults = h.faults; starved = h.starved; down = h.down; rest = record { ends = h.ends.items; piece = h.piece; mine = h.mine; another = h.another; bad_ends = h.bad_ends; held = h.held } } };
+
+    ghost use Rattle.std.specs.Prelude.{◌<◌};
+
+    ghost invariant = { λ h. 0 < h.piece };
 }
 
 impl MemHost {
     /// A disk as this opening has it, before which writers act so and of whose calls these fail. `ends` are the ends
     /// of the programs that are run, in order; past them each ends with 0. An append takes at most `piece` bytes.
+    /// Calls are numbered from 0 through the host's life.
     pub fn new(
         alloc: Global,
         opening: Opening,
@@ -58,7 +78,8 @@ impl MemHost {
         ends: Vec<Ended>,
         piece: usize,
     ) -> Result<MemHost, MemFault>
-        ensures ok { IfOk result (λ h. (h ≡ record { journal = opened_journal opening; acts = acts.items; failing = failing.items; calls = 0; faults = 0; starved = 0 }) × IsJournal (past h.journal)) }
+        ensures ok { IfOk result (λ h. h ≡ record { journal = opened_journal opening; acts = acts.items; failing = failing.items; calls = 0; faults = 0; starved = 0; down = false; rest = record { ends = ends.items; piece = piece; mine = false; another = false; bad_ends = 0; held = 0 } }) }
+        ensures safe { IfOk result (λ h. (s : LogSet) → IsSafe s (past h.journal)) }
         ensures valid { OnOk result (IsValid opening × (0 < piece)) }
         ensures bad { result ≡ Err MemFault.BadOpening → ¬ (IsValid opening × (0 < piece)) }
     {
@@ -67,6 +88,7 @@ impl MemHost {
         }
         match Disk::new(alloc, opening) {
             Ok(Some(disk)) => Ok(MemHost {
+                alloc,
                 disk,
                 acts,
                 failing,
@@ -75,6 +97,11 @@ impl MemHost {
                 calls: 0,
                 faults: 0,
                 starved: 0,
+                bad_ends: 0,
+                held: 0,
+                down: false,
+                mine: false,
+                another: false,
             }),
             Ok(None) => Err(MemFault::BadOpening),
             Err(Memory) => Err(MemFault::Memory),
@@ -99,11 +126,63 @@ impl MemHost {
         Ok(())
     }
 
-    /// The journal so far.
+    /// Ends what a `Stop` began, and frees the lock, whoever has it.
+    pub fn revive(&mut self)
+        ensures { self.new ≡ record self.old { down = false; rest = record self.old.rest { mine = false; another = false } } }
+    {
+        self.down = false;
+        self.mine = false;
+        self.another = false;
+    }
+
+    /// Lets another take the lock, or give it back; a lock that the run has stays its own.
+    pub fn hold(&mut self, by_another: bool)
+        ensures { self.new ≡ record self.old { rest = record self.old.rest { another = by_another } } }
+    {
+        self.another = by_another;
+    }
+
+    /// The machine stops: of the name changes since the last sync the first `names_kept` stay, each listed file
+    /// (identity, length in bytes) is cut to its length, and writers let go. What is left counts as synced. After
+    /// `NotAllowed` and `Memory` all is as it was.
+    pub fn cut(&mut self, names_kept: usize, lengths: &[(u64, u64)]) -> Result<(), CutFault>
+        ensures ok { OnOk result (self.new ≡ record self.old { journal = with_entry self.old.journal (entry.Cut names_kept lengths.now) }) }
+        ensures allowed { OnOk result (IsCut (world (past self.old.journal)) names_kept lengths.now) }
+        ensures refused { result ≡ Err CutFault.NotAllowed → ¬ IsCut (world (past self.old.journal)) names_kept lengths.now }
+        ensures err { OnErr result (self.new ≡ self.old) }
+        ensures safe { OnOk result ((s : LogSet) → IsSafe s (past self.old.journal) → IsSafe s (past self.new.journal)) }
+    {
+        match self.disk.allows(names_kept, lengths) {
+            Ok(true) => {}
+            Ok(false) => return Err(CutFault::NotAllowed),
+            Err(Memory) => return Err(CutFault::Memory),
+        }
+        match self.disk.cut(names_kept, lengths) {
+            Ok(()) => Ok(()),
+            Err(Memory) => Err(CutFault::Memory),
+        }
+    }
+
+    /// How many name changes came since the last sync.
+    pub fn unsynced(&self) -> usize
+        ensures { result ≡ length (world (past self.now.journal)).pending }
+    {
+        self.disk.unsynced()
+    }
+
+    /// The journal so far, which is one of a disk.
     pub fn journal(&self) -> &Journal
-        ensures { result.now ≡ self.now.journal }
+        ensures is { result.now ≡ self.now.journal }
+        ensures journal { IsJournal (past self.now.journal) }
     {
         self.disk.journal()
+    }
+
+    /// What the path names: with it a caller can test what a call asks for.
+    pub fn thing(&self, path: &Path) -> Thing
+        ensures { result ≡ names (world (past self.now.journal)) path.now }
+    {
+        self.disk.thing(path)
     }
 
     /// The bytes of the regular file that has the path.
@@ -125,160 +204,5 @@ impl MemHost {
         ensures { result ≡ self.now.starved }
     {
         self.starved
-    }
-
-    // Lets writers act, numbers the call and says how it is to fail.
-    fn turn(&mut self) -> Option<How>
-        ensures listed { result ≡ how_of self.old.failing self.old.calls }
-        ensures turned { Turned (Are []) self.old self.new }
-        ensures faults { self.new.faults ≡ self.old.faults }
-        ensures starved { self.old.starved ≤ self.new.starved }
-    {
-        let number = self.calls;
-        self.calls = self.calls.saturating_add(1);
-        let how = listed(&self.failing, number);
-        let Ok(()) = take_acts(&mut self.disk, &mut self.acts, number) else {
-            self.starved = self.starved.saturating_add(1);
-            return how;
-        };
-        how
-    }
-
-    // Counts a fault.
-    fn fail_call(&mut self) -> CallFault
-        ensures counted { self.new ≡ record self.old { faults = one_more self.old.faults } }
-        ensures later { self.old.faults ≤ self.new.faults }
-    {
-        self.faults = self.faults.saturating_add(1);
-        CallFault::Failed
-    }
-
-    // Counts a fault for want of memory.
-    fn starve(&mut self) -> CallFault
-        ensures counted { self.new ≡ record self.old { faults = one_more self.old.faults; starved = one_more self.old.starved } }
-        ensures later { (self.old.faults ≤ self.new.faults) × (self.old.starved ≤ self.new.starved) }
-    {
-        self.starved = self.starved.saturating_add(1);
-        self.fail_call()
-    }
-}
-
-impl Host for MemHost {
-    ghost use Rattle.std.specs.Prelude.{Some};
-    ghost use Rattle.lr_host.specs.Told.{Counts};
-
-    ghost told = { λ h. Some h.journal };
-
-    ghost counts = { λ h. record { faults = h.faults; bad_ends = 0; held = 0 } };
-
-    /// A listed look leaves no entry.
-    fn look(&mut self, path: &Path, _follow: bool) -> Result<Option<Seen>, CallFault>
-        ensures told { Left (Gave result (λ seen. entry.Look path.now seen)) (Some self.old.journal) (Some self.new.journal) }
-        ensures cause { OnErr result (Rose self.old.faults self.new.faults) }
-        ensures counts { self.old.faults ≤ self.new.faults }
-        ensures turned { Turned (Gave result (λ seen. entry.Look path.now seen)) self.old self.new }
-        ensures only { OnErr result (IsListed self.old ⊎ Starved self.old self.new) }
-        ensures listed { IsListed self.old → IsErr result }
-    {
-        if self.turn().is_some() {
-            return Err(self.fail_call());
-        }
-        match self.disk.look(path) {
-            Ok(seen) => Ok(seen),
-            Err(Memory) => Err(self.starve()),
-        }
-    }
-
-    /// A listed listing leaves no entry.
-    fn list(&mut self, alloc: Global, dir: &Path, names: &mut Vec<Text>) -> Result<(), ListFault>
-        requires { Can (Some self.old.journal) (entry.List dir.now []) }
-        ensures kept { take (length names.old.items) names.new.items ≡ names.old.items }
-        ensures told { Left (Gave result (λ done. entry.List dir.now (drop (length names.old.items) names.new.items))) (Some self.old.journal) (Some self.new.journal) }
-        ensures cause { result ≡ Err ListFault.Failed → Rose self.old.faults self.new.faults }
-        ensures counts { self.old.faults ≤ self.new.faults }
-        ensures turned { Turned (Gave result (λ done. entry.List dir.now (drop (length names.old.items) names.new.items))) self.old self.new }
-        ensures only { result ≡ Err ListFault.Failed → IsListed self.old }
-        ensures listed { IsListed self.old → result ≡ Err ListFault.Failed }
-    {
-        if self.turn().is_some() {
-            let _ = self.fail_call();
-            return Err(ListFault::Failed);
-        }
-        let Ok(()) = self.disk.list(alloc, dir, names) else {
-            return Err(ListFault::Memory);
-        };
-        Ok(())
-    }
-
-    /// A read gives all that fits. A listed read leaves no entry.
-    fn read(&mut self, path: &Path, from: u64, into: &mut [u8]) -> Result<usize, CallFault>
-        requires room { 0 < length into.old }
-        requires file { Can (Some self.old.journal) (entry.Reads path.now 0 []) }
-        ensures bound { IfOk result (λ count. count ≤ length into.new) }
-        ensures told { Left (Gave result (λ count. entry.Reads path.now from (take count into.new))) (Some self.old.journal) (Some self.new.journal) }
-        ensures cause { OnErr result (Rose self.old.faults self.new.faults) }
-        ensures counts { self.old.faults ≤ self.new.faults }
-        ensures turned { Turned (Gave result (λ count. entry.Reads path.now from (take count into.new))) self.old self.new }
-        ensures only { OnErr result (IsListed self.old ⊎ Starved self.old self.new) }
-        ensures listed { IsListed self.old → IsErr result }
-        ensures all { let w = world (past self.new.journal) in IfOk result (λ count. GivesAll w (names w path.now) from (length into.new) count) }
-    {
-        if self.turn().is_some() {
-            return Err(self.fail_call());
-        }
-        match self.disk.read(path, from, into) {
-            Ok(count) => Ok(count),
-            Err(Memory) => Err(self.starve()),
-        }
-    }
-
-    /// A listed rename without effect leaves nothing, one with effect its entry, where there is memory for it.
-    fn rename(&mut self, from: &Path, to: &Path) -> Result<(), CallFault>
-        requires { Can (Some self.old.journal) (entry.Renames from.now to.now) }
-        ensures told { Left (Did result (entry.Renames from.now to.now)) (Some self.old.journal) (Some self.new.journal) }
-        ensures cause { OnErr result (Rose self.old.faults self.new.faults) }
-        ensures counts { self.old.faults ≤ self.new.faults }
-        ensures turned { Turned (Did result (entry.Renames from.now to.now)) self.old self.new }
-        ensures only { OnErr result (IsListed self.old ⊎ Starved self.old self.new) }
-        ensures listed { IsListed self.old → IsErr result }
-        ensures nothing { how_of self.old.failing self.old.calls ≡ Some how.NoEffect → Turned (Are []) self.old self.new }
-        ensures effect { how_of self.old.failing self.old.calls ≡ Some how.WithEffect → Turned (Are (entry.Renames from.now to.now ∷ [])) self.old self.new ⊎ Starved self.old self.new }
-    {
-        let how = self.turn();
-        if how == Some(How::NoEffect) {
-            return Err(self.fail_call());
-        }
-        let Ok(()) = self.disk.rename(from, to) else {
-            return Err(self.starve());
-        };
-        if how.is_some() {
-            return Err(self.fail_call());
-        }
-        Ok(())
-    }
-
-    /// A listed unlinking without effect leaves nothing, one with effect its entry, where there is memory for it.
-    fn unlink(&mut self, path: &Path) -> Result<(), CallFault>
-        requires { Can (Some self.old.journal) (entry.Unlinks path.now) }
-        ensures told { Left (Did result (entry.Unlinks path.now)) (Some self.old.journal) (Some self.new.journal) }
-        ensures cause { OnErr result (Rose self.old.faults self.new.faults) }
-        ensures counts { self.old.faults ≤ self.new.faults }
-        ensures turned { Turned (Did result (entry.Unlinks path.now)) self.old self.new }
-        ensures only { OnErr result (IsListed self.old ⊎ Starved self.old self.new) }
-        ensures listed { IsListed self.old → IsErr result }
-        ensures nothing { how_of self.old.failing self.old.calls ≡ Some how.NoEffect → Turned (Are []) self.old self.new }
-        ensures effect { how_of self.old.failing self.old.calls ≡ Some how.WithEffect → Turned (Are (entry.Unlinks path.now ∷ [])) self.old self.new ⊎ Starved self.old self.new }
-    {
-        let how = self.turn();
-        if how == Some(How::NoEffect) {
-            return Err(self.fail_call());
-        }
-        let Ok(()) = self.disk.unlink(path) else {
-            return Err(self.starve());
-        };
-        if how.is_some() {
-            return Err(self.fail_call());
-        }
-        Ok(())
     }
 }

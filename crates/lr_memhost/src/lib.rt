@@ -4,16 +4,27 @@
 #![tactic(auto)]
 
 mod act;
+mod bytes;
+#[cfg(test)]
+mod calling;
+mod change;
 mod disk;
+mod entries;
 mod file;
 mod holds;
 mod host;
+mod lengths;
 mod listing;
 mod names;
 mod opened;
+mod sink;
 mod state;
+#[cfg(test)]
+mod tests;
 mod turn;
+mod undo;
 mod valid;
 
 pub use act::{Act, Failing, How};
-pub use host::{MemFault, MemHost};
+pub use host::{CutFault, MemFault, MemHost};
+pub use sink::MemSink;

@@ -58,14 +58,3 @@ pub fn add_names(
     }
     Ok(())
 }
-
-/// A copy of the texts.
-pub fn copy_texts(alloc: Global, texts: &[Text]) -> Result<Vec<Text>, AllocError>
-    ensures { IfOk result (λ copy. copy.items ≡ texts.now) }
-{
-    let mut copy = Vec::new(alloc);
-    for text in texts {
-        copy.push(text.copy(alloc)?)?;
-    }
-    Ok(copy)
-}

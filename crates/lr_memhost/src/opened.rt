@@ -1,5 +1,5 @@
 // The state in memory of an opening.
-ghost use Rattle.std.specs.Prelude.{◌≡◌, ◌++◌, map, Some, IfOk, OnOk};
+ghost use Rattle.std.specs.Prelude.{◌≡◌, ◌++◌, [], pos, map, Some, IfOk, OnOk};
 ghost use Rattle.lr_host.specs.declared.thing.Thing.TheVariants as thing;
 ghost use Rattle.lr_memhost.specs.Names.{names_of};
 ghost use Rattle.lr_memhost.specs.State.{as_open};
@@ -67,6 +67,8 @@ pub fn open(alloc: Global, opening: &Opening) -> Result<State, AllocError>
     ensures names { IfOk result (λ state. state.names.items ≡ names_of opening.now) }
     ensures files { IfOk result (λ state. map as_open state.files.items ≡ opening.now.files) }
     ensures holds { IfOk result (λ state. state.holds.items ≡ map (λ h. (h.0, Some h.1)) opening.now.holds) }
+    ensures undos { IfOk result (λ state. state.undos.items ≡ []) }
+    ensures now { IfOk result (λ state. state.moment ≡ pos 0) }
 {
     let mut names = Vec::new(alloc);
     add_files(alloc, &mut names, opening.names.as_slice())?;
@@ -78,5 +80,7 @@ pub fn open(alloc: Global, opening: &Opening) -> Result<State, AllocError>
         names,
         files,
         holds,
+        undos: Vec::new(alloc),
+        moment: 0,
     })
 }

@@ -10,7 +10,7 @@ some_is (Some g) h = (g, refl)
 pub returns : goal.returns
 returns c =
     let o : Option ℕ = (world (past c.args.self.now)).holds c.args.writer in
-    let e : is_some o ≡ c.is_some.result = let h = c.self.invariant.holds c.args.writer in cc in (
+    let e : is_some o ≡ c.is_some.result = let h = c.self.invariant.shows.holds c.args.writer in cc in (
       (λ t. some_is o (e ∙ t)),
       (λ s. sym e ∙ ap is_some s.1),
     )

@@ -1,0 +1,31 @@
+use Rattle.std.proofs.Common.{refl, sym, ap, subst, arith, []}
+use Rattle.lr_host.specs.Told.{Are}
+use Rattle.lr_memhost.specs.Acts.{Turned}
+use Rattle.lr_memhost.proofs.TurnLemmas.{turned_left, turned_kept, turned_entry, like_same, still_can}
+use Rattle.lr_memhost.proofs.host.calls.MemHostHost.list.Goals as goal
+
+pub list-requires : goal.list-requires
+list-requires c = still_can c.requires (subst (λ m. Turned (Are []) c.args.self.now m) (sym c.self.view_is) c.turn.ensures.turned)
+
+pub returns-then-is_some-clause-turned : goal.returns-then-is_some-clause-turned
+returns-then-is_some-clause-turned c =
+    turned_kept _ c.turn.ensures.turned (like_same _ _ _ c.fail_call.ensures.counted refl refl refl refl refl) (ap (λ v. v.journal) c.fail_call.ensures.counted) refl
+
+pub returns-then-is_some-clause-told : goal.returns-then-is_some-clause-told
+returns-then-is_some-clause-told c = turned_left (returns-then-is_some-clause-turned c)
+
+pub returns-clause-turned : goal.returns-clause-turned
+returns-clause-turned c =
+    let t : Turned (Are []) c.args.self.now _ = subst (λ m. Turned (Are []) c.args.self.now m) (sym c.self.view_is) c.turn.ensures.turned in
+    turned_entry _ _ t (record { acts = refl; failing = refl; calls = refl; down = refl; starved = omega arith }) c.in-Ok.ensures.ok.0 tt c.in-Ok.ensures.ok.1 refl
+
+pub returns-clause-told : goal.returns-clause-told
+returns-clause-told c = turned_left (returns-clause-turned c)
+
+pub returns-in_default-clause-turned : goal.returns-in_default-clause-turned
+returns-in_default-clause-turned c =
+    let t : Turned (Are []) c.args.self.now _ = subst (λ m. Turned (Are []) c.args.self.now m) (sym c.self.view_is) c.turn.ensures.turned in
+    turned_kept _ t (record { acts = refl; failing = refl; calls = refl; down = refl; starved = omega arith }) c.in_default.ensures.err refl
+
+pub returns-in_default-clause-told : goal.returns-in_default-clause-told
+returns-in_default-clause-told c = turned_left (returns-in_default-clause-turned c)

@@ -1,0 +1,38 @@
+use Rattle.std.proofs.Common.{refl, sym, ap, subst, ◌∙◌, arith, [], take, length}
+use Rattle.lr_host.specs.declared.entry.Entry.TheVariants as entry
+use Rattle.lr_host.specs.World.{world, past, names}
+use Rattle.lr_host.specs.Told.{Are}
+use Rattle.lr_memhost.specs.Acts.{Turned, GivesAll}
+use Rattle.lr_memhost.proofs.JournalLemmas.{past_entry}
+use Rattle.lr_memhost.proofs.TurnLemmas.{turned_left, turned_kept, turned_entry, like, like_same, still_can}
+use Rattle.lr_memhost.proofs.host.calls.MemHostHost.read.Goals as goal
+
+pub read-requires-clause-file : goal.read-requires-clause-file
+read-requires-clause-file c = still_can c.requires.file (subst (λ m. Turned (Are []) c.args.self.now m) (sym c.self.view_is) c.turn.ensures.turned)
+
+pub returns-then-is_some-clause-turned : goal.returns-then-is_some-clause-turned
+returns-then-is_some-clause-turned c =
+    turned_kept _ c.turn.ensures.turned (like_same _ _ _ c.fail_call.ensures.counted refl refl refl refl refl) (ap (λ v. v.journal) c.fail_call.ensures.counted) refl
+
+pub returns-then-is_some-clause-told : goal.returns-then-is_some-clause-told
+returns-then-is_some-clause-told c = turned_left (returns-then-is_some-clause-turned c)
+
+pub returns-in-Ok-clause-turned : goal.returns-in-Ok-clause-turned
+returns-in-Ok-clause-turned c =
+    turned_entry _ _ (subst (λ m. Turned (Are []) c.args.self.now m) (sym c.self.view_is) c.turn.ensures.turned) (record { acts = refl; failing = refl; calls = refl; down = refl; starved = omega arith }) c.in-Ok.ensures.read.0 tt c.in-Ok.ensures.read.1 refl
+
+pub returns-in-Ok-clause-told : goal.returns-in-Ok-clause-told
+returns-in-Ok-clause-told c = turned_left (returns-in-Ok-clause-turned c)
+
+pub returns-in-Ok-clause-all : goal.returns-in-Ok-clause-all
+returns-in-Ok-clause-all c =
+    let e = entry.Reads c.args.path.now c.args.from (take c.in-Ok.count c.read.new.into) in
+    subst (λ p. GivesAll (world p) (names (world p) c.args.path.now) c.args.from (length c.read.new.into) c.in-Ok.count) (sym (ap past c.in-Ok.ensures.read.0 ∙ past_entry c.self.inside.disk e)) c.in-Ok.ensures.all
+
+pub returns-in-Err-clause-turned : goal.returns-in-Err-clause-turned
+returns-in-Err-clause-turned c =
+    turned_kept _ (subst (λ m. Turned (Are []) c.args.self.now m) (sym c.self.view_is) c.turn.ensures.turned) (like _ _ _ c.starve.ensures.counted c.starve.ensures.later.1 refl refl refl refl)
+    (ap (λ v. v.journal) c.starve.ensures.counted ∙ c.in-Err.ensures.read) refl
+
+pub returns-in-Err-clause-told : goal.returns-in-Err-clause-told
+returns-in-Err-clause-told c = turned_left (returns-in-Err-clause-turned c)
