@@ -1,0 +1,15 @@
+//! The printed lines of a run: its notices, its faults, and why it ended.
+//!
+//! The contract above it: the lines of a report are put whole, or, where the output fails, a first part of them. Begin
+//! with `put_lines`:
+//!
+//! ```text
+//! put_lines(&notices, &faults, &mut out)?;   // logrotate: /v/a.log: no such log
+//! ```
+#![tactic(auto)]
+
+mod kinds;
+mod lines;
+mod put;
+
+pub use lines::{put_fault, put_lines, put_notice, put_said};
