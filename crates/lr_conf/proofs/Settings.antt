@@ -1,0 +1,190 @@
+-- One more setting.
+use Rattle.std.proofs.Common.{◌≡◌, Bool, true, false, cond, ◌||◌, List, [], ◌∷◌, ◌++◌, Option, Some, None, refl, ap, sym, ◌∙◌}
+use Rattle.std.specs.List.{filter_map, list_any, cons_option}
+use Rattle.std.proofs.lemmas.List.Elements.{filter_map-append}
+use Rattle.lr_rules.specs.declared.rule.Criterion.TheVariants as criterion
+use Rattle.lr_rules.specs.declared.rule.Count.TheVariants as count
+use Rattle.lr_rules.specs.declared.rule.Make.TheVariants as make
+use Rattle.lr_rules.specs.declared.rule.Way.{Way}
+use Rattle.lr_rules.specs.declared.rule.Way.TheVariants as way
+use Rattle.lr_conf.specs.declared.fields.Fields.{Fields}
+use Rattle.lr_conf.specs.declared.set.Set.{Set}
+use Rattle.lr_conf.specs.declared.set.Set.TheVariants as set
+use Rattle.lr_conf.specs.Fields.{fields_of, last_or, last_set, criterion_set, count_set, ifempty_set, missingok_set, olddir_set, createolddir_set, create_set, mail_set, mailfirst_set, shared_set, dated_set, names_way, undoes, way_of}
+use Rattle.lr_conf.specs.Fold.{with_set, without}
+
+abbrev given_or : {A : Type 0} → Option A → A → A
+given_or None d = d
+given_or (Some x) d = x
+
+last-push : {A : Type 0} (d : A) (xs : List A) (o : Option A) → last_or d (xs ++ cons_option o []) ≡ given_or o (last_or d xs)
+last-push d [] None = refl
+last-push d [] (Some v) = refl
+last-push d (x ∷ xs) o = last-push x xs o
+
+last_set-push : {A : Type 0} (sets : Set → Option A) (d : A) (vs : List Set) (v : Set) → last_set sets d (vs ++ v ∷ []) ≡ given_or (sets v) (last_set sets d vs)
+last_set-push sets d vs v = ap (last_or d) (filter_map-append sets vs (v ∷ [])) ∙ last-push d (filter_map sets vs) (sets v)
+
+-- ---- the way
+
+abbrev way_behind : Set → Way → Way
+way_behind (set.Way w) x = w
+way_behind (set.NotWay n) x = without n x
+way_behind v x = x
+
+any-push : {A : Type 0} (p : A → Bool) (xs : List A) (x : A) → list_any p (xs ++ x ∷ []) ≡ (list_any p xs || p x)
+any-push p [] x = by (p x)
+  where
+    by : (b : Bool) → (b || false) ≡ (false || b)
+    by true = refl
+    by false = refl
+any-push p (y ∷ ys) x = by (p y) (any-push p ys x)
+  where
+    by : (b : Bool) → list_any p (ys ++ x ∷ []) ≡ (list_any p ys || p x) → (b || list_any p (ys ++ x ∷ [])) ≡ ((b || list_any p ys) || p x)
+    by true h = refl
+    by false h = h
+
+still_rename : (v : Set) → names_way v ≡ false → way_behind v way.Rename ≡ way.Rename
+still_rename (set.Way w) h = absurd (cc)
+still_rename (set.NotWay way.Rename) h = refl
+still_rename (set.NotWay way.Copy) h = refl
+still_rename (set.NotWay way.CopyTruncate) h = refl
+still_rename (set.Criterion c) h = refl
+still_rename (set.Count n) h = refl
+still_rename (set.IfEmpty b) h = refl
+still_rename (set.MissingOk b) h = refl
+still_rename (set.Olddir dir) h = refl
+still_rename (set.CreateOlddir m) h = refl
+still_rename (set.Create m) h = refl
+still_rename (set.Mail address) h = refl
+still_rename (set.MailFirst b) h = refl
+still_rename (set.Shared b) h = refl
+still_rename (set.Dated b) h = refl
+
+undone : (w : Way) (v : Set) → names_way v ≡ false → cond (undoes w v) way.Rename w ≡ way_behind v w
+undone w (set.Way x) h = absurd (cc)
+undone way.Rename (set.NotWay way.Rename) h = refl
+undone way.Rename (set.NotWay way.Copy) h = refl
+undone way.Rename (set.NotWay way.CopyTruncate) h = refl
+undone way.Copy (set.NotWay way.Rename) h = refl
+undone way.Copy (set.NotWay way.Copy) h = refl
+undone way.Copy (set.NotWay way.CopyTruncate) h = refl
+undone way.CopyTruncate (set.NotWay way.Rename) h = refl
+undone way.CopyTruncate (set.NotWay way.Copy) h = refl
+undone way.CopyTruncate (set.NotWay way.CopyTruncate) h = refl
+undone way.Rename v h = still_rename v h
+undone way.Copy v h = plain v h
+  where
+    plain : (v : Set) → names_way v ≡ false → cond (undoes way.Copy v) way.Rename way.Copy ≡ way_behind v way.Copy
+    plain (set.Way w) h = absurd (cc)
+    plain (set.NotWay way.Rename) h = refl
+    plain (set.NotWay way.Copy) h = refl
+    plain (set.NotWay way.CopyTruncate) h = refl
+    plain v h = refl
+undone way.CopyTruncate v h = plain v h
+  where
+    plain : (v : Set) → names_way v ≡ false → cond (undoes way.CopyTruncate v) way.Rename way.CopyTruncate ≡ way_behind v way.CopyTruncate
+    plain (set.Way w) h = absurd (cc)
+    plain (set.NotWay way.Rename) h = refl
+    plain (set.NotWay way.Copy) h = refl
+    plain (set.NotWay way.CopyTruncate) h = refl
+    plain v h = refl
+
+-- the way of a setting and what stands behind it
+abbrev by_more : Way → Bool → Way → Bool → Way
+by_more w named rest gone = cond named rest (cond gone way.Rename w)
+
+only_way : (v : Set) → names_way v ≡ true → (w : Way) × (v ≡ set.Way w)
+only_way (set.Way w) h = (w, refl)
+only_way (set.NotWay n) h = absurd (cc)
+only_way (set.Criterion c) h = absurd (cc)
+only_way (set.Count n) h = absurd (cc)
+only_way (set.IfEmpty b) h = absurd (cc)
+only_way (set.MissingOk b) h = absurd (cc)
+only_way (set.Olddir dir) h = absurd (cc)
+only_way (set.CreateOlddir m) h = absurd (cc)
+only_way (set.Create m) h = absurd (cc)
+only_way (set.Mail address) h = absurd (cc)
+only_way (set.MailFirst b) h = absurd (cc)
+only_way (set.Shared b) h = absurd (cc)
+only_way (set.Dated b) h = absurd (cc)
+
+-- behind a setting that names a way
+way-step : (w : Way) (us : List Set) (v : Set) → way_of (us ++ v ∷ []) ≡ way_behind v (way_of us) → way_of (set.Way w ∷ us ++ v ∷ []) ≡ way_behind v (way_of (set.Way w ∷ us))
+way-step w us v rest =
+    ap (λ b. by_more w b (way_of (us ++ v ∷ [])) (list_any (undoes w) (us ++ v ∷ []))) (any-push names_way us v)
+    ∙ ap (λ b. by_more w (list_any names_way us || names_way v) (way_of (us ++ v ∷ [])) b) (any-push (undoes w) us v)
+    ∙ ap (λ r. by_more w (list_any names_way us || names_way v) r (list_any (undoes w) us || undoes w v)) rest
+    ∙ by_tests (list_any names_way us) (names_way v) refl (list_any (undoes w) us)
+  where
+    as_way : (w : Way) (x y : Way) → way_behind (set.Way w) x ≡ way_behind (set.Way w) y
+    as_way w x y = refl
+
+    same : (v : Set) → names_way v ≡ true → (x y : Way) → way_behind v x ≡ way_behind v y
+    same v h x y = let o = only_way v h in ap (λ s. way_behind s x) o.1 ∙ sym (ap (λ s. way_behind s y) o.1)
+
+    by_tests : (n m : Bool) → names_way v ≡ m → (g : Bool) → by_more w (n || m) (way_behind v (way_of us)) (g || undoes w v) ≡ way_behind v (by_more w n (way_of us) g)
+    by_tests true m is g = refl
+    by_tests false true is g = same v is (way_of us) (cond g way.Rename w)
+    by_tests false false is true = sym (still_rename v is)
+    by_tests false false is false = undone w v is
+
+way-push : (vs : List Set) (v : Set) → way_of (vs ++ v ∷ []) ≡ way_behind v (way_of vs)
+way-push [] (set.Way w) = refl
+way-push [] (set.NotWay way.Rename) = refl
+way-push [] (set.NotWay way.Copy) = refl
+way-push [] (set.NotWay way.CopyTruncate) = refl
+way-push [] v = refl
+way-push (set.Way w ∷ us) v = way-step w us v (way-push us v)
+way-push (u ∷ us) v = way-push us v
+
+-- ---- all fields
+
+abbrev fields_behind : Set → Fields → Fields
+fields_behind v f = record {
+  criterion = given_or (criterion_set v) f.criterion;
+  count = given_or (count_set v) f.count;
+  ifempty = given_or (ifempty_set v) f.ifempty;
+  missingok = given_or (missingok_set v) f.missingok;
+  olddir = given_or (olddir_set v) f.olddir;
+  createolddir = given_or (createolddir_set v) f.createolddir;
+  way = way_behind v f.way;
+  create = given_or (create_set v) f.create;
+  mail = given_or (mail_set v) f.mail;
+  mailfirst = given_or (mailfirst_set v) f.mailfirst;
+  shared = given_or (shared_set v) f.shared;
+  dated = given_or (dated_set v) f.dated;
+}
+
+behind_is : (v : Set) (f : Fields) → fields_behind v f ≡ with_set f v
+behind_is (set.Criterion c) f = refl
+behind_is (set.Count n) f = refl
+behind_is (set.IfEmpty b) f = refl
+behind_is (set.MissingOk b) f = refl
+behind_is (set.Olddir dir) f = refl
+behind_is (set.CreateOlddir m) f = refl
+behind_is (set.Way w) f = refl
+behind_is (set.NotWay n) f = refl
+behind_is (set.Create m) f = refl
+behind_is (set.Mail address) f = refl
+behind_is (set.MailFirst b) f = refl
+behind_is (set.Shared b) f = refl
+behind_is (set.Dated b) f = refl
+
+-- what settings set with one more behind them
+pub fields-push : (vs : List Set) (v : Set) → fields_of (vs ++ v ∷ []) ≡ with_set (fields_of vs) v
+fields-push vs v =
+    let e1 = last_set-push criterion_set (criterion.Size 1048576) vs v in
+    let e2 = last_set-push count_set (count.Keep 0) vs v in
+    let e3 = last_set-push ifempty_set true vs v in
+    let e4 = last_set-push missingok_set false vs v in
+    let e5 = last_set-push olddir_set None vs v in
+    let e6 = last_set-push createolddir_set make.No vs v in
+    let e7 = way-push vs v in
+    let e8 = last_set-push create_set make.No vs v in
+    let e9 = last_set-push mail_set None vs v in
+    let e10 = last_set-push mailfirst_set false vs v in
+    let e11 = last_set-push shared_set false vs v in
+    let e12 = last_set-push dated_set false vs v in
+    let all : fields_of (vs ++ v ∷ []) ≡ fields_behind v (fields_of vs) = cc (e1, e2, e3, e4, e5, e6, e7, e8, e9, e10, e11, e12) in
+    all ∙ behind_is v (fields_of vs)

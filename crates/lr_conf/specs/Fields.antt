@@ -1,0 +1,108 @@
+-- The fields of a definition: what the last line that sets a field sets it to, or its default.
+use Rattle.std.specs.Prelude.{ℕ, Bool, true, false, List, [], ◌∷◌, Option, Some, None, if◌then◌else◌}
+use Rattle.std.specs.List.{list_any, filter_map}
+use Rattle.lr_rules.specs.declared.rule.Criterion.{Criterion}
+use Rattle.lr_rules.specs.declared.rule.Criterion.TheVariants as criterion
+use Rattle.lr_rules.specs.declared.rule.Count.{Count}
+use Rattle.lr_rules.specs.declared.rule.Count.TheVariants as count
+use Rattle.lr_rules.specs.declared.rule.Make.{Make}
+use Rattle.lr_rules.specs.declared.rule.Make.TheVariants as make
+use Rattle.lr_rules.specs.declared.rule.Way.{Way}
+use Rattle.lr_rules.specs.declared.rule.Way.TheVariants as way
+use Rattle.lr_conf.specs.declared.set.Set.{Set}
+use Rattle.lr_conf.specs.declared.set.Set.TheVariants as set
+use Rattle.lr_conf.specs.declared.fields.Fields.{Fields}
+
+-- ---- what a setting sets, field by field
+
+abbrev pub criterion_set : Set → Option Criterion
+criterion_set (set.Criterion c) = Some c
+criterion_set s = None
+
+abbrev pub count_set : Set → Option Count
+count_set (set.Count n) = Some n
+count_set s = None
+
+abbrev pub ifempty_set : Set → Option Bool
+ifempty_set (set.IfEmpty b) = Some b
+ifempty_set s = None
+
+abbrev pub missingok_set : Set → Option Bool
+missingok_set (set.MissingOk b) = Some b
+missingok_set s = None
+
+abbrev pub olddir_set : Set → Option (Option (List ℕ))
+olddir_set (set.Olddir dir) = Some dir
+olddir_set s = None
+
+abbrev pub createolddir_set : Set → Option Make
+createolddir_set (set.CreateOlddir m) = Some m
+createolddir_set s = None
+
+abbrev pub create_set : Set → Option Make
+create_set (set.Create m) = Some m
+create_set s = None
+
+abbrev pub mail_set : Set → Option (Option (List ℕ))
+mail_set (set.Mail address) = Some address
+mail_set s = None
+
+abbrev pub mailfirst_set : Set → Option Bool
+mailfirst_set (set.MailFirst b) = Some b
+mailfirst_set s = None
+
+abbrev pub shared_set : Set → Option Bool
+shared_set (set.Shared b) = Some b
+shared_set s = None
+
+abbrev pub dated_set : Set → Option Bool
+dated_set (set.Dated b) = Some b
+dated_set s = None
+
+-- ---- the last of them
+
+abbrev pub last_or : {A : Type 0} → A → List A → A
+last_or default [] = default
+last_or default (x ∷ xs) = last_or x xs
+
+-- the value that the last of the settings sets, or else the default
+abbrev pub last_set : {A : Type 0} → (Set → Option A) → A → List Set → A
+last_set sets default settings = last_or default (filter_map sets settings)
+
+-- ---- the way, which is one field: `nocopy` and `nocopytruncate` set it back where it is theirs alone
+
+abbrev pub names_way : Set → Bool
+names_way (set.Way w) = true
+names_way s = false
+
+abbrev pub undoes : Way → Set → Bool
+undoes way.Copy (set.NotWay way.Copy) = true
+undoes way.CopyTruncate (set.NotWay way.CopyTruncate) = true
+undoes w s = false
+
+-- the way of the last setting that names one, unless one behind it undoes that way
+abbrev pub way_of : List Set → Way
+way_of [] = way.Rename
+way_of (set.Way w ∷ more) =
+    if list_any names_way more then way_of more
+    else if list_any (undoes w) more then way.Rename
+    else w
+way_of (s ∷ more) = way_of more
+
+-- ---- all fields
+
+abbrev pub fields_of : List Set → Fields
+fields_of settings = record {
+  criterion = last_set criterion_set (criterion.Size 1048576) settings;
+  count = last_set count_set (count.Keep 0) settings;
+  ifempty = last_set ifempty_set true settings;
+  missingok = last_set missingok_set false settings;
+  olddir = last_set olddir_set None settings;
+  createolddir = last_set createolddir_set make.No settings;
+  way = way_of settings;
+  create = last_set create_set make.No settings;
+  mail = last_set mail_set None settings;
+  mailfirst = last_set mailfirst_set false settings;
+  shared = last_set shared_set false settings;
+  dated = last_set dated_set false settings;
+}

@@ -1,0 +1,7 @@
+pub mod Forms
+pub mod Values
+pub mod Says
+pub mod Fields
+pub mod Meaning
+pub mod Fold
+pub mod Limits

@@ -1,0 +1,337 @@
+-- What the lines of a configuration mean, told of whole lists of lines.
+use Rattle.std.specs.Prelude.{ℕ, Bool, true, false, ◌&&◌, ◌||◌, List, [], ◌∷◌, ◌++◌, Option, Some, None, reverse, find, flat_map, is_some, if◌then◌else◌}
+use Rattle.std.specs.List.{list_any, filter_map}
+use Rattle.lr_lex.specs.declared.item.Item.{Item}
+use Rattle.lr_rules.specs.declared.path.Path.{Path}
+use Rattle.lr_rules.specs.declared.fault.ConfKind.{ConfKind}
+use Rattle.lr_rules.specs.declared.fault.ConfKind.TheVariants as kind
+use Rattle.lr_rules.specs.declared.fault.Fault.{Fault}
+use Rattle.lr_rules.specs.declared.fault.Fault.TheVariants as fault
+use Rattle.lr_rules.specs.declared.fault.Notice.{Notice}
+use Rattle.lr_rules.specs.declared.rule.Back.TheVariants as back
+use Rattle.lr_rules.specs.declared.rule.Criterion.{Criterion}
+use Rattle.lr_rules.specs.declared.rule.Criterion.TheVariants as criterion
+use Rattle.lr_rules.specs.declared.rule.Field.TheVariants as field
+use Rattle.lr_rules.specs.declared.rule.Format.{Format}
+use Rattle.lr_rules.specs.declared.rule.Piece.{Piece}
+use Rattle.lr_rules.specs.declared.rule.Piece.TheVariants as piece
+use Rattle.lr_rules.specs.declared.rule.Rule.{Rule}
+use Rattle.lr_conf.specs.declared.fields.Fields.{Fields}
+use Rattle.lr_conf.specs.declared.set.Set.{Set}
+use Rattle.lr_conf.specs.declared.said.Said.{Said}
+use Rattle.lr_conf.specs.declared.said.Said.TheVariants as says
+use Rattle.lr_conf.specs.Says.{line_of, has_brace, closes, said}
+use Rattle.lr_conf.specs.Fields.{fields_of}
+
+-- ---- lines
+
+-- A line of a file, as an item; a line with a fault that its reading told; the end of a file.
+pub data Line : Type 0 where
+  Read : Path → Item → Line
+  Spoiled : Line
+  End : Path → Line
+
+abbrev pub file_of : Line → Path
+file_of (Read file i) = file
+file_of Spoiled = []
+file_of (End file) = file
+
+-- A line outside definitions, as it was read there: its number, whether it ends with a brace, and what it says.
+pub data Past : Type 0 where
+  stands : ℕ → Bool → Said → Past
+  spoiled : Past
+  file_ends : Past
+
+-- ---- parts of a list
+
+-- what stands before the first that passes p
+abbrev pub before : {A : Type 0} → (A → Bool) → List A → List A
+before p [] = []
+before p (e ∷ es) = if p e then [] else (e ∷ before p es)
+
+-- what stands up to the first that passes p, with it
+abbrev pub through : {A : Type 0} → (A → Bool) → List A → List A
+through p [] = []
+through p (e ∷ es) = e ∷ (if p e then [] else through p es)
+
+abbrev pub list_of : {A : Type 0} → Option A → List A
+list_of None = []
+list_of (Some x) = x ∷ []
+
+-- ---- lines outside definitions
+
+abbrev pub set_of : Said → Option Set
+set_of (says.Sets v) = Some v
+set_of s = None
+
+abbrev pub set_past : Past → Option Set
+set_past (stands at brace s) = set_of s
+set_past p = None
+
+-- what lines outside definitions set
+abbrev pub settings : List Past → List Set
+settings out = filter_map set_past out
+
+abbrev pub names_past : Past → Option (ℕ × List (List ℕ))
+names_past (stands at brace (says.Names ws)) = Some (at, ws)
+names_past p = None
+
+-- it ends with a brace, by which a definition begins
+abbrev pub opens : Past → Bool
+opens (stands at brace s) = brace
+opens p = false
+
+-- a directive, a `}` or the end of a file: names that are pending before it have no brace
+abbrev pub leaves_names : Past → Bool
+leaves_names (stands at brace (says.Sets v)) = true
+leaves_names (stands at brace says.Quiet) = true
+leaves_names (stands at brace (says.Passed word)) = true
+leaves_names (stands at brace says.Close) = true
+leaves_names (stands at brace (says.Bad k)) = true
+leaves_names file_ends = true
+leaves_names p = false
+
+-- behind it no names are pending
+abbrev pub settles : Past → Bool
+settles p = leaves_names p || opens p
+
+-- the names at the end of these lines, with the line of each
+abbrev pub pending : List Past → List (ℕ × List (List ℕ))
+pending out = filter_map names_past (reverse (before settles (reverse out)))
+
+abbrev pub first_line : List (ℕ × List (List ℕ)) → Option ℕ
+first_line [] = None
+first_line (n ∷ ns) = Some n.0
+
+-- the line of the first name that is pending behind lines, which are told from the last one back
+abbrev pub first_back : List Past → Option ℕ
+first_back back = first_line (filter_map names_past (reverse (before settles back)))
+
+-- the line of the first of the pending names, and all their words
+abbrev pub first_pending : List Past → Option ℕ
+first_pending out = first_back (reverse out)
+
+abbrev pub words_pending : List Past → List (List ℕ)
+words_pending out = flat_map (λ n. n.1) (pending out)
+
+abbrev pub or_line : Option ℕ → ℕ → ℕ
+or_line None at = at
+or_line (Some first) at = first
+
+-- the line of the first name of the definition that this line opens; none where it drops it
+abbrev pub opened : Option ℕ → Past → Option ℕ
+opened first (stands at brace (says.Names ws)) = Some (or_line first at)
+opened first (stands at brace says.Open) = first
+opened first p = None
+
+-- ---- the one name that a file may have so far
+
+abbrev pub is_end : Past → Bool
+is_end file_ends = true
+is_end p = false
+
+-- a definition with a name begins at one of these lines, which are told from the last one back
+abbrev pub begins : List Past → Bool
+begins [] = false
+begins (p ∷ back) = (opens p && is_some (opened (first_back back) p)) || begins back
+
+-- one begins in this file
+abbrev pub begun : List Past → Bool
+begun out = begins (before is_end (reverse out))
+
+-- the file has a name: that of a definition, or one that is pending
+abbrev pub has_name : List Past → Bool
+has_name out = begun out || is_some (first_pending out)
+
+-- what a line says outside definitions, where its file has a name already or has none
+abbrev pub judged : Said → Bool → Said
+judged (says.Names ws) named = if named then says.BadNames kind.NotYet else says.Names ws
+judged (says.BadNames k) named = if named then says.BadNames kind.NotYet else says.BadNames k
+judged s named = s
+
+abbrev pub past_of : Bool → Line → Past
+past_of named (Read file i) = stands (line_of i) (has_brace i) (judged (said false i) named)
+past_of named Spoiled = spoiled
+past_of named (End file) = file_ends
+
+-- how a line is read outside definitions, behind these
+abbrev pub past : List Past → Line → Past
+past out e = past_of (has_name out) e
+
+-- ---- notices and faults
+
+abbrev pub notice_of : Path → ℕ → Said → Option Notice
+notice_of file at (says.Passed word) = Some (record { file = file; line = at; word = Some word })
+notice_of file at s = None
+
+abbrev pub conf : Path → ConfKind → ℕ → Fault
+conf file k at = fault.Conf file at k
+
+abbrev pub at_line : Path → ConfKind → Option ℕ → List Fault
+at_line file k None = []
+at_line file k (Some at) = conf file k at ∷ []
+
+abbrev pub notice_past : Path → Past → Option Notice
+notice_past file (stands at brace s) = notice_of file at s
+notice_past file p = None
+
+-- the line of the names that the line leaves without a brace
+abbrev pub left_names : Option ℕ → Past → Option ℕ
+left_names first p = if leaves_names p then first else None
+
+-- a brace that closes or opens where no names are pending
+abbrev pub stray_at : Path → Option ℕ → ℕ → List Fault
+stray_at file None at = conf file kind.Stray at ∷ []
+stray_at file (Some first) at = []
+
+-- the fault of a line outside definitions, for itself, where names are pending from the line `first` on or none are
+abbrev pub own_fault : Path → Option ℕ → Past → List Fault
+own_fault file first (stands at brace says.Close) = stray_at file first at
+own_fault file first (stands at brace says.Open) = stray_at file first at
+own_fault file first (stands at brace says.Unknown) = conf file kind.Unknown at ∷ []
+own_fault file first (stands at brace (says.Bad k)) = conf file k at ∷ []
+own_fault file first (stands at brace (says.BadNames k)) = conf file k at ∷ []
+own_fault file first p = []
+
+abbrev pub line_faults : Path → Option ℕ → Past → List Fault
+line_faults file first p = at_line file kind.NoBrace (left_names first p) ++ own_fault file first p
+
+-- ---- definitions
+
+abbrev pub words_with : List (List ℕ) → Past → List (List ℕ)
+words_with words (stands at brace (says.Names ws)) = words ++ ws
+words_with words p = words
+
+-- it ends the definition that it stands in
+abbrev pub ends : Line → Bool
+ends (Read file i) = closes i
+ends Spoiled = false
+ends (End file) = true
+
+abbrev pub is_bad : Said → Bool
+is_bad (says.Bad k) = true
+is_bad s = false
+
+-- it drops the definition that it stands in
+abbrev pub drops : Line → Bool
+drops (Read file i) = is_bad (said true i)
+drops Spoiled = true
+drops (End file) = false
+
+abbrev pub set_in : Line → Option Set
+set_in (Read file i) = set_of (said true i)
+set_in e = None
+
+abbrev pub notice_in : Line → Option Notice
+notice_in (Read file i) = notice_of file (line_of i) (said true i)
+notice_in e = None
+
+abbrev pub fault_of : Path → ℕ → Said → Option Fault
+fault_of file at says.Unknown = Some (conf file kind.Unknown at)
+fault_of file at (says.Bad k) = Some (conf file k at)
+fault_of file at s = None
+
+abbrev pub fault_in : Line → Option Fault
+fault_in (Read file i) = fault_of file (line_of i) (said true i)
+fault_in e = None
+
+-- ---- rules
+
+-- `-%Y%m%d`, and with the hour where the criterion is hourly
+abbrev pub default_pieces : Criterion → List Piece
+default_pieces criterion.Hourly = piece.Byte 45 ∷ piece.Field field.Year ∷ piece.Field field.Month ∷ piece.Field field.Day ∷ piece.Field field.Hour ∷ []
+default_pieces c = piece.Byte 45 ∷ piece.Field field.Year ∷ piece.Field field.Month ∷ piece.Field field.Day ∷ []
+
+abbrev pub default_format : Criterion → Format
+default_format c = record { pieces = default_pieces c; back = back.Now }
+
+abbrev pub format_of : Fields → Option Format
+format_of f = if f.dated then Some (default_format f.criterion) else None
+
+-- the rule of a definition that is whole
+abbrev pub rule_of : Path → ℕ → List (List ℕ) → Fields → Rule
+rule_of file at words f = record {
+  file = file;
+  line = at;
+  words = words;
+  criterion = f.criterion;
+  count = f.count;
+  maxage = None;
+  minage = None;
+  minsize = None;
+  maxsize = None;
+  ifempty = f.ifempty;
+  missingok = f.missingok;
+  ignore_duplicates = false;
+  start = 1;
+  extension = None;
+  addextension = None;
+  olddir = f.olddir;
+  createolddir = f.createolddir;
+  way = f.way;
+  create = f.create;
+  mail = f.mail;
+  mailfirst = f.mailfirst;
+  shared = f.shared;
+  scripts = record { first = None; pre = None; post = None; last = None; preremove = None };
+  dated = format_of f;
+}
+
+-- ---- what lines mean
+
+pub record Meaning : Type 0 where
+  pub rules : List Rule
+  pub notices : List Notice
+  pub faults : List Fault
+
+abbrev pub nothing : Meaning
+nothing = record { rules = []; notices = []; faults = [] }
+
+infixr 20 ◌and◌
+abbrev pub ◌and◌ : Meaning → Meaning → Meaning
+m and n = record { rules = m.rules ++ n.rules; notices = m.notices ++ n.notices; faults = m.faults ++ n.faults }
+
+-- faults alone
+abbrev pub told : List Fault → Meaning
+told faults = record { rules = []; notices = []; faults = faults }
+
+-- what ends a definition that no line drops: its rule, or no brace before the end of the file
+abbrev pub of_end : ℕ → List (List ℕ) → Fields → Option Line → Meaning
+of_end at words f (Some (Read file i)) = record { rules = rule_of file at words f ∷ []; notices = []; faults = [] }
+of_end at words f (Some (End file)) = told (conf file kind.NoBrace at ∷ [])
+of_end at words f other = nothing
+
+-- A definition whose first name stands at this line: its words, what was set before its lines, and its lines with what
+-- follows.
+abbrev pub of_definition : ℕ → List (List ℕ) → List Set → List Line → Meaning
+of_definition at words before_it es =
+    let body = before ends es in
+    record {
+      rules = [];
+      notices = filter_map notice_in (through drops body);
+      faults = filter_map fault_in (through drops body);
+    }
+    and (if list_any drops body then nothing else of_end at words (fields_of (before_it ++ filter_map set_in body)) (find ends es))
+
+-- one that a fault of its first line drops says nothing
+abbrev pub of_body : Option ℕ → List (List ℕ) → List Set → List Line → Meaning
+of_body None words before_it es = nothing
+of_body (Some at) words before_it es = of_definition at words before_it es
+
+-- what begins at a line that opens a definition
+abbrev pub of_opening : List Past → Past → List Line → Meaning
+of_opening out p es =
+    if opens p then of_body (opened (first_pending out) p) (words_with (words_pending out) p) (settings (out ++ p ∷ [])) es
+    else nothing
+
+-- a line outside definitions, for itself
+abbrev pub of_line : Path → Option ℕ → Past → Meaning
+of_line file first p = record { rules = []; notices = list_of (notice_past file p); faults = line_faults file first p }
+
+-- What lines mean: in a definition or not, the lines before them that stand outside definitions, and the lines.
+abbrev pub meaning : Bool → List Past → List Line → Meaning
+meaning inside out [] = nothing
+meaning true out (e ∷ es) = if ends e then meaning false (out ++ past out e ∷ []) es else meaning true out es
+meaning false out (e ∷ es) =
+    of_line (file_of e) (first_pending out) (past out e)
+    and (of_opening out (past out e) es and meaning (opens (past out e)) (out ++ past out e ∷ []) es)

@@ -1,0 +1,159 @@
+-- What one line says by itself, inside a definition or outside: the first fault that applies to it, else its meaning.
+use Rattle.std.specs.Prelude.{ℕ, Bool, true, false, not, ◌&&◌, ◌||◌, List, [], ◌∷◌, Option, Some, None, find, map, option_map, length, nat_lt, bytes_eq, codes, if◌then◌else◌}
+use Rattle.lr_lex.specs.declared.item.Item.{Item}
+use Rattle.lr_lex.specs.declared.item.Item.TheVariants as item
+use Rattle.lr_lex.specs.declared.word.Word.{Word}
+use Rattle.lr_rules.specs.declared.fault.ConfKind.{ConfKind}
+use Rattle.lr_rules.specs.declared.fault.ConfKind.TheVariants as kind
+use Rattle.lr_rules.specs.declared.rule.Count.TheVariants as count
+use Rattle.lr_rules.specs.Match.{is_wildcard}
+use Rattle.lr_tables.specs.declared.directive.Directive.{Directive}
+use Rattle.lr_tables.specs.Directives.{directive_table}
+use Rattle.lr_conf.specs.declared.form.Form.{Form}
+use Rattle.lr_conf.specs.declared.form.Form.TheVariants as form
+use Rattle.lr_conf.specs.declared.set.Set.TheVariants as set
+use Rattle.lr_conf.specs.declared.said.Said.{Said}
+use Rattle.lr_conf.specs.declared.said.Said.TheVariants as says
+use Rattle.lr_conf.specs.Forms.{form_of}
+use Rattle.lr_conf.specs.Values.{is_number, number_of, is_too_large, is_log_name, kept_name}
+
+-- ---- where an item stands
+
+abbrev pub line_of : Item → ℕ
+line_of (item.Line ws names brace stray line) = line
+line_of (item.Close line) = line
+line_of (item.Script word text brace stray line) = line
+
+-- its line ends with a brace that opens
+abbrev pub has_brace : Item → Bool
+has_brace (item.Line ws names brace stray line) = brace
+has_brace (item.Close line) = false
+has_brace (item.Script word text brace stray line) = brace
+
+-- it closes a definition
+abbrev pub closes : Item → Bool
+closes (item.Close line) = true
+closes i = false
+
+-- ---- the directive of a line
+
+-- the directive with this word
+unfoldable pub directive_of : List ℕ → Option Directive
+directive_of word = option_map (λ row. row.directive) (find (λ row. bytes_eq row.word word) directive_table)
+
+-- ---- faults
+
+-- the first of these faults that applies
+abbrev pub first_fault : List (Bool × ConfKind) → Option ConfKind
+first_fault [] = None
+first_fault (check ∷ checks) = if check.0 then Some check.1 else first_fault checks
+
+abbrev pub is_minus_one : List ℕ → Bool
+is_minus_one value = bytes_eq value (codes "-1")
+
+-- a form of a directive that isn't built yet: for `rotate` it is -1
+abbrev pub is_later : Form → List (List ℕ) → Bool
+is_later form.Script vs = true
+is_later form.Outside vs = true
+is_later form.Later vs = true
+is_later form.Count (v ∷ vs) = is_minus_one v
+is_later f vs = false
+
+abbrev pub is_passed : Form → Bool
+is_passed form.Passed = true
+is_passed f = false
+
+abbrev pub is_script : Form → Bool
+is_script form.Script = true
+is_script f = false
+
+abbrev pub is_outside : Form → Bool
+is_outside form.Outside = true
+is_outside f = false
+
+-- it needs a value and has none
+abbrev pub lacks_value : Form → List (List ℕ) → Bool
+lacks_value form.Count [] = true
+lacks_value f vs = false
+
+-- more words than it takes, or a word that stands nowhere by itself
+abbrev pub has_more : Form → List (List ℕ) → Bool
+has_more form.Ending vs = true
+has_more form.Count vs = nat_lt 1 (length vs)
+has_more form.Passed vs = false
+has_more f vs = nat_lt 0 (length vs)
+
+-- the faults of a line that begins with a directive, in the order in which they apply: behind NestedBrace and Unknown,
+-- and before those of its value
+abbrev pub checks : Bool → Bool → Bool → Form → List (List ℕ) → List (Bool × ConfKind)
+checks inside brace stray f vs =
+    (not inside && is_script f, kind.OutsideSet) ∷
+    (inside && is_outside f, kind.InsideSet) ∷
+    (is_later f vs, kind.NotYet) ∷
+    (lacks_value f vs, kind.MissingValue) ∷
+    (brace || (stray && not (is_passed f)) || has_more f vs, kind.Stray) ∷
+    []
+
+-- ---- meanings
+
+-- the count that a value says, or its fault
+abbrev pub count_says : List (List ℕ) → Said
+count_says [] = says.Quiet
+count_says (v ∷ vs) =
+    if not (is_number v) then says.Bad kind.BadNumber
+    else if is_too_large v then says.Bad kind.TooLarge
+    else says.Sets (set.Count (count.Keep (number_of v)))
+
+-- what a line says to which none of those faults applies
+abbrev pub means : Form → List ℕ → List (List ℕ) → Said
+means form.Passed word vs = says.Passed word
+means form.Count word vs = count_says vs
+means (form.Plain s) word vs = says.Sets s
+means f word vs = says.Quiet
+
+abbrev pub or_bad : Option ConfKind → Said → Said
+or_bad None s = s
+or_bad (Some k) s = says.Bad k
+
+abbrev pub by_form : Bool → Bool → Bool → List ℕ → List (List ℕ) → Option Form → Said
+by_form inside brace stray word vs None = says.Unknown
+by_form inside brace stray word vs (Some f) = or_bad (first_fault (checks inside brace stray f vs)) (means f word vs)
+
+abbrev pub texts : List Word → List (List ℕ)
+texts ws = map (λ w. w.text) ws
+
+-- a line whose first sign begins no name
+abbrev pub words_say : Bool → Bool → Bool → List Word → Said
+words_say inside brace stray [] = if inside then says.Bad kind.NestedBrace else says.Open
+words_say inside brace stray (w ∷ ws) =
+    if inside && brace then says.Bad kind.NestedBrace
+    else by_form inside brace stray w.text (texts ws) (option_map form_of (directive_of w.text))
+
+-- a line of one name, outside definitions: so far it is no pattern
+abbrev pub name_says : Bool → List ℕ → Said
+name_says stray name =
+    if is_wildcard name then says.BadNames kind.NotYet
+    else if stray then says.BadNames kind.Stray
+    else if not (is_log_name name) then says.BadNames kind.BadPath
+    else says.Names (kept_name name ∷ [])
+
+-- a line of names, outside definitions: so far of one
+abbrev pub names_say : Bool → List Word → Said
+names_say stray [] = says.BadNames kind.NotYet
+names_say stray (w ∷ []) = name_says stray w.text
+names_say stray (w ∷ v ∷ ws) = says.BadNames kind.NotYet
+
+abbrev pub nested : Bool → ConfKind → Said
+nested brace k = says.Bad (if brace then kind.NestedBrace else k)
+
+abbrev pub script_says : Bool → Bool → Said
+script_says inside brace = if inside then nested brace kind.NotYet else says.Bad kind.OutsideSet
+
+-- what a line says
+abbrev pub said : Bool → Item → Said
+said inside (item.Close line) = says.Close
+said inside (item.Script word text brace stray line) = script_says inside brace
+said inside (item.Line ws names brace stray line) =
+    if not names then words_say inside brace stray ws
+    else if inside then nested brace kind.Stray
+    else names_say stray ws

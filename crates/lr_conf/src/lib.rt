@@ -1,0 +1,47 @@
+//! What the lines of a configuration of logrotate(8) mean: its rules, notices and faults.
+//!
+//! The contract: a [`Layer`] that took some items, and then takes those that come, gives what all these lines mean, a
+//! definition over the whole list: a field of a rule has the value of the last line that sets it, outside definitions
+//! before the rule's `{` or inside it, else its default. Begin with [`Layer::new`].
+//!
+//! A line that isn't understood gives one fault, the first that applies in the order of `lr_rules::ConfKind`. Inside a
+//! definition it drops that definition up to its `}`, where the first word is a directive; a line that begins with
+//! another word is told and ignored. [`say`] reads one line by itself.
+//!
+//! ```text
+//! let mut layer = Layer::new(alloc)?;
+//! layer.enter(file);
+//! // each item of a `lr_lex::Lexer`
+//! layer.take(item)?;
+//! let unclosed = layer.close_file();
+//! layer.leave();
+//! let (rules, notices) = layer.finish();
+//! ```
+#![tactic(auto)]
+
+mod fields;
+mod files;
+mod form;
+mod inside;
+mod laws;
+mod layer;
+mod name;
+mod number;
+mod outside;
+mod place;
+mod reading;
+mod row;
+mod said;
+mod set;
+mod stop;
+mod taking;
+
+pub use laws::{last_count, last_criterion, rules_meet_limits};
+pub use layer::Layer;
+pub use reading::say;
+pub use said::{Said, closes, has_brace, line_of};
+pub use set::Set;
+pub use stop::{Include, LayerStop};
+
+#[cfg(test)]
+mod tests;

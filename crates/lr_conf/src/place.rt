@@ -1,0 +1,9 @@
+// Where a line stands.
+
+/// Whether a definition is being read, and whether a fault dropped it.
+#[derive(Clone, Copy, Debug, PartialEq, Eq)]
+pub enum Place {
+    Outside,
+    Good,
+    Dropped,
+}

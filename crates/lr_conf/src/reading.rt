@@ -1,0 +1,256 @@
+// Reading a line by itself.
+ghost use Rattle.std.specs.Prelude.{◌≡◌, ◌∷◌, [], IfOk, MatchOption, option_map};
+ghost use Rattle.lr_conf.specs.Says.{is_minus_one, is_later, is_passed, is_script, is_outside, lacks_value, has_more, checks, first_fault, count_says, means, or_bad, by_form, texts, words_say, names_say, name_says, nested, script_says, directive_of, said};
+ghost use Rattle.lr_conf.specs.Forms.{form_of};
+
+use crate::form::{Form, form_of};
+use crate::name::{is_log_name, is_wildcard, kept_name};
+use crate::number::{is_number, small_number};
+use crate::row::directive_of;
+use crate::said::Said;
+use crate::set::Set;
+use lr_lex::{Item, Word};
+use lr_rules::{ConfKind, Count, Listed, Memory, Text};
+use std::alloc::Global;
+
+// ---- faults of a line that begins with a directive
+
+fn minus_one(value: &[u8]) -> bool
+    ensures { result ≡ is_minus_one value.now }
+{
+    value == b"-1".as_slice()
+}
+
+fn later(form: &Form, values: &[Word]) -> bool
+    ensures { result ≡ is_later form.now (texts values.now) }
+{
+    match form {
+        Form::Script | Form::Outside | Form::Later => true,
+        Form::Count => match values {
+            [] => false,
+            [value, ..] => minus_one(value.text.bytes()),
+        },
+        _ => false,
+    }
+}
+
+fn passed(form: &Form) -> bool
+    ensures { result ≡ is_passed form.now }
+{
+    match form {
+        Form::Passed => true,
+        _ => false,
+    }
+}
+
+fn script(form: &Form) -> bool
+    ensures { result ≡ is_script form.now }
+{
+    match form {
+        Form::Script => true,
+        _ => false,
+    }
+}
+
+fn outside(form: &Form) -> bool
+    ensures { result ≡ is_outside form.now }
+{
+    match form {
+        Form::Outside => true,
+        _ => false,
+    }
+}
+
+fn lacks_value(form: &Form, values: &[Word]) -> bool
+    ensures { result ≡ lacks_value form.now (texts values.now) }
+{
+    match form {
+        Form::Count => match values {
+            [] => true,
+            [_, ..] => false,
+        },
+        _ => false,
+    }
+}
+
+fn has_more(form: &Form, values: &[Word]) -> bool
+    ensures { result ≡ has_more form.now (texts values.now) }
+{
+    match form {
+        Form::Ending => true,
+        Form::Count => values.len() > 1,
+        Form::Passed => false,
+        _ => values.len() > 0,
+    }
+}
+
+/// The first fault of the line, those of its value aside.
+fn fault_of(
+    inside: bool,
+    brace: bool,
+    stray: bool,
+    form: &Form,
+    values: &[Word],
+) -> Option<ConfKind>
+    ensures { result ≡ first_fault (checks inside brace stray form.now (texts values.now)) }
+{
+    if !inside && script(form) {
+        Some(ConfKind::OutsideSet)
+    } else if inside && outside(form) {
+        Some(ConfKind::InsideSet)
+    } else if later(form, values) {
+        Some(ConfKind::NotYet)
+    } else if lacks_value(form, values) {
+        Some(ConfKind::MissingValue)
+    } else if brace || (stray && !passed(form)) || has_more(form, values) {
+        Some(ConfKind::Stray)
+    } else {
+        None
+    }
+}
+
+// ---- meanings
+
+fn number_says(value: &[u8]) -> Said
+    ensures { result ≡ count_says (value.now ∷ []) }
+{
+    if !is_number(value) {
+        return Said::Bad(ConfKind::BadNumber);
+    }
+    match small_number(value) {
+        None => Said::Bad(ConfKind::TooLarge),
+        Some(count) => Said::Sets(Set::Count(Count::Keep(count))),
+    }
+}
+
+fn count_says(values: &[Word]) -> Said
+    ensures { result ≡ count_says (texts values.now) }
+{
+    match values {
+        [] => Said::Quiet,
+        [value, ..] => number_says(value.text.bytes()),
+    }
+}
+
+fn means(form: Form, word: Text, values: &[Word]) -> Said
+    ensures { result ≡ means form word (texts values.now) }
+{
+    match form {
+        Form::Passed => Said::Passed(word),
+        Form::Count => count_says(values),
+        Form::Plain(set) => Said::Sets(set),
+        _ => Said::Quiet,
+    }
+}
+
+/// The first word and the others.
+fn split_first(words: Vec<Word>) -> Option<(Word, Vec<Word>)>
+    ensures { MatchOption result (words.items ≡ []) (λ p. words.items ≡ p.0 ∷ p.1.items) }
+{
+    let mut words = words;
+    if words.is_empty() {
+        None
+    } else {
+        let first = words.remove(0);
+        Some((first, words))
+    }
+}
+
+fn directive_says(inside: bool, brace: bool, stray: bool, word: Text, values: &[Word]) -> Said
+    ensures { result ≡ by_form inside brace stray word (texts values.now) (option_map form_of (directive_of word)) }
+{
+    let Some(directive) = directive_of(word.bytes()) else {
+        return Said::Unknown;
+    };
+    let form = form_of(directive);
+    match fault_of(inside, brace, stray, &form, values) {
+        Some(kind) => Said::Bad(kind),
+        None => means(form, word, values),
+    }
+}
+
+/// What a line says whose first sign begins no name.
+fn words_say(words: Listed<Word>, inside: bool, brace: bool, stray: bool) -> Said
+    ensures { result ≡ words_say inside brace stray words }
+{
+    let Some((word, values)) = split_first(words.into_vec()) else {
+        return if inside {
+            Said::Bad(ConfKind::NestedBrace)
+        } else {
+            Said::Open
+        };
+    };
+    if inside && brace {
+        return Said::Bad(ConfKind::NestedBrace);
+    }
+    directive_says(inside, brace, stray, word.text, values.as_slice())
+}
+
+/// What a line of one name says, outside definitions.
+fn name_says(alloc: Global, name: &[u8], stray: bool) -> Result<Said, Memory>
+    ensures { IfOk result (λ s. s ≡ name_says stray name.now) }
+{
+    if is_wildcard(name) {
+        return Ok(Said::BadNames(ConfKind::NotYet));
+    }
+    if stray {
+        return Ok(Said::BadNames(ConfKind::Stray));
+    }
+    if !is_log_name(alloc, name)? {
+        return Ok(Said::BadNames(ConfKind::BadPath));
+    }
+    let mut names = Listed::new(alloc);
+    names.push(kept_name(alloc, name)?)?;
+    Ok(Said::Names(names))
+}
+
+fn names_say(alloc: Global, words: &[Word], stray: bool) -> Result<Said, Memory>
+    ensures { IfOk result (λ s. s ≡ names_say stray words.now) }
+{
+    match words {
+        [word] => name_says(alloc, word.text.bytes(), stray),
+        _ => Ok(Said::BadNames(ConfKind::NotYet)),
+    }
+}
+
+/// The fault of a line that may stand in no definition, where it stands in one.
+fn nested(brace: bool, kind: ConfKind) -> Said
+    ensures { result ≡ nested brace kind }
+{
+    Said::Bad(if brace { ConfKind::NestedBrace } else { kind })
+}
+
+fn script_says(inside: bool, brace: bool) -> Said
+    ensures { result ≡ script_says inside brace }
+{
+    if inside {
+        nested(brace, ConfKind::NotYet)
+    } else {
+        Said::Bad(ConfKind::OutsideSet)
+    }
+}
+
+/// What a line says, inside a definition or outside. The first fault that applies is the line's.
+pub fn say(alloc: Global, item: Item, inside: bool) -> Result<Said, Memory>
+    ensures { IfOk result (λ s. s ≡ said inside item) }
+{
+    match item {
+        Item::Close { .. } => Ok(Said::Close),
+        Item::Script { brace, .. } => Ok(script_says(inside, brace)),
+        Item::Line {
+            words,
+            names,
+            brace,
+            stray,
+            ..
+        } => {
+            if !names {
+                Ok(words_say(words, inside, brace, stray))
+            } else if inside {
+                Ok(nested(brace, ConfKind::Stray))
+            } else {
+                names_say(alloc, words.as_slice(), stray)
+            }
+        }
+    }
+}
