@@ -1,14 +1,19 @@
 //! The program: rotates the log that a configuration defines.
 //!
 //! `logrotate -f CONF` ends with 0 where the log was rotated, with 1 where there was a fault, with 2 for other words and
-//! with 4 for want of memory. The contract above it is that of `lr_cli::logrotate`; begin there.
+//! with 4 for want of memory. Standard output gets a line for each fault, or one line that says why there is no report.
+//! The contract above it is that of `lr_cli::logrotate`; begin there.
 #![tactic(auto)]
 
+mod calls;
 mod real;
+mod sink;
 
-use lr_cli::{Outcome, Zone, logrotate, status};
+use lr_cli::{Outcome, Zone, logrotate, printed, status};
+use lr_host::Sink;
 use lr_rules::{Path, PathFault, Text};
-use real::{RealHost, RealSink};
+use real::RealHost;
+use sink::RealSink;
 use std::alloc::Global;
 use std::env;
 use std::io::ErrorKind;
@@ -67,27 +72,28 @@ fn here_of(rt: &HostRuntime, alloc: Global) -> Result<Path, Stop> {
     }
 }
 
-fn run(rt: &HostRuntime) -> Outcome {
+fn run<K: Sink>(rt: &HostRuntime, out: &mut K) -> Outcome {
     let alloc = rt.alloc();
     let words = match words_of(rt, alloc) {
         Ok(words) => words,
-        Err(stop) => return outcome_of(stop),
+        Err(stop) => return printed(outcome_of(stop), out),
     };
     let here = match here_of(rt, alloc) {
         Ok(here) => here,
-        Err(stop) => return outcome_of(stop),
+        Err(stop) => return printed(outcome_of(stop), out),
     };
-    let files: Result<HostRuntime, _> = rt.clone();
-    let output: Result<HostRuntime, _> = rt.clone();
-    let (Ok(files), Ok(output)) = (files, output) else {
-        return Outcome::OutOfMemory;
+    let Ok(files) = rt.clone() else {
+        return printed(Outcome::OutOfMemory, out);
     };
     let mut host = RealHost::new(files);
-    let mut out = RealSink::new(output);
-    logrotate(alloc, &words, &here, &Zone::Utc, 0, &mut host, &mut out)
+    logrotate(alloc, &words, &here, &Zone::Utc, 0, &mut host, out)
 }
 
+// Without a runtime for it there is no output, so nothing is said then.
 fn main(rt: HostRuntime) -> ExitCode {
-    let outcome = run(&rt);
+    let outcome = match rt.clone() {
+        Ok(output) => run(&rt, &mut RealSink::new(output)),
+        Err(_) => Outcome::OutOfMemory,
+    };
     ExitCode::from(status(&outcome))
 }

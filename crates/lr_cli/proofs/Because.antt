@@ -1,5 +1,5 @@
 -- Each fault of a run has its cause.
-use Rattle.std.proofs.Common.{◌≡◌, ◌⊎◌, inl, inr, ℕ, zero, suc, ◌+◌, ◌==◌, Bool, true, false, cond, List, [], ◌∷◌, ◌++◌, map, refl, sym, ap, ◌∙◌, subst, Option, Some, None}
+use Rattle.std.proofs.Common.{◌≡◌, ◌⊎◌, inl, inr, ℕ, zero, suc, ◌+◌, ◌==◌, Bool, true, false, cond, List, [], ◌∷◌, ◌++◌, map, refl, sym, ap, ◌∙◌, subst, Option, Some, None, Err}
 use Rattle.std.specs.Prelude.{filter, IfSome, IfNone}
 use Rattle.std.proofs.lemmas.List.Elements.{filter-append}
 use Rattle.lr_rules.specs.declared.path.Path.{Path}
@@ -18,23 +18,26 @@ use Rattle.lr_cli.specs.declared.rotation.TurnStop.{TurnStop}
 use Rattle.lr_cli.specs.declared.rotation.TurnStop.TheVariants as turn
 use Rattle.lr_cli.specs.declared.outcome.Outcome.{Outcome}
 use Rattle.lr_cli.specs.declared.outcome.Outcome.TheVariants.{Done, OutOfMemory, BadWords, Held}
-use Rattle.lr_cli.specs.Answer.{ReadsNoRule, ReadsRule, WithRule, IsNotYet, directory, form, Turns, BreaksOff, LookBecause, at_log, at_dir, at_member, NotFileBecause, Because, Answers, Answered}
-use Rattle.lr_cli.specs.Looks.{ChangeNothing, Sees, IsFile, IsDir, IsNothing, IsNoFile, IsNotFile, IsNoDir, SeesUpTo, SeesNumbers}
-use Rattle.lr_cli.proofs.Looking.{quiet_files}
+use Rattle.lr_cli.specs.Answer.{ReadsNoRule, ReadsRule, WithRule, IsNotYet, directory, form, Turns, BreaksOff, LookBecause, at_log, at_dir, at_member, NotFileBecause, Because, LacksMemory, at_first, at_conf, at_missing, at_listing, at_steps, Turned, Answers, Answered}
+use Rattle.lr_cli.specs.Looks.{ChangeNothing, Sees, IsFile, IsDir, IsNothing, IsNoDir, MayList, SeesNumbers}
+use Rattle.lr_host.specs.declared.entry.Entry.TheVariants as entry
+use Rattle.lr_host.specs.Told.{Each}
+use Rattle.lr_host.specs.Reading.{IsReadOf}
 use Rattle.lr_cli.specs.Words.{AreWords}
 use Rattle.lr_cli.specs.Stops.{RuleStopped, TurnStopped}
-use Rattle.lr_cli.specs.Faults.{conf_fault_of, turn_fault_of, MayLackMemory}
-use Rattle.lr_cli.specs.declared.step.Step.{Step}
+use Rattle.lr_cli.specs.declared.run.RunStop.{RunStop}
+use Rattle.lr_cli.specs.declared.run.RunStop.TheVariants as run
+use Rattle.lr_cli.specs.Faults.{answer_of, conf_fault_of, turn_fault_of, MayLackMemory}
 use Rattle.lr_cli.specs.declared.step.Step.TheVariants as step
 use Rattle.lr_cli.specs.Rotation.{rotation, unlink_of, move_of, leftovers, moved, one_too_many, member_at}
-use Rattle.lr_cli.proofs.Sights.{quiet_sight, quiet_reading}
+use Rattle.lr_cli.proofs.Sights.{quiet_sight, quiet_reading, quiet_reads}
 use Rattle.lr_cli.proofs.Turned.{quiet_then, quiet_numbers}
 
 -- the answer with a fault, or for want of memory
-pub answers : (conf : Path) (P : List Entry → Type 0) (told : Option Fault) (result : Outcome) {o n : Option Journal} → IfSome told (λ f. result ≡ Done (record { notices = []; faults = f ∷ [] })) → IfNone told (result ≡ OutOfMemory)
-    → Left P o n → ((f : Fault) (ts : List Entry) → told ≡ Some f → P ts → Because conf f ts) → ((ts : List Entry) → told ≡ None → P ts → ChangeNothing ts) → Left (Answers conf result) o n
-answers conf P (Some f) result s m l because quiet = left_as l (λ ts p. subst (λ r. Answers conf r ts) (sym s) (because f ts refl p))
-answers conf P None result s m l because quiet = left_as l (λ ts p. subst (λ r. Answers conf r ts) (sym m) (quiet ts refl p))
+pub answers : (conf : Path) (P : List Entry → Type 0) (told : Option Fault) (result : RunStop) {o n : Option Journal} → IfSome told (λ f. result ≡ run.Fault f) → IfNone told (result ≡ run.Memory)
+    → Left P o n → ((f : Fault) (ts : List Entry) → told ≡ Some f → P ts → Because conf f ts) → ((ts : List Entry) → told ≡ None → P ts → LacksMemory conf ts) → Left (Answers conf (answer_of (Err result))) o n
+answers conf P (Some f) result s m l because lacks = left_as l (λ ts p. subst (λ r. Answers conf (answer_of (Err r)) ts) (sym s) (because f ts refl p))
+answers conf P None result s m l because lacks = left_as l (λ ts p. subst (λ r. Answers conf (answer_of (Err r)) ts) (sym m) (lacks ts refl p))
 
 fault_is : (f g : Fault) → Some f ≡ Some g → f ≡ g
 fault_is f g e = cc
@@ -50,35 +53,15 @@ conf_because conf stop.Look f ts e r = subst (λ g. Because conf g ts) (fault_is
 conf_because conf stop.Read f ts e r = subst (λ g. Because conf g ts) (fault_is _ _ e) (refl, r)
 conf_because conf stop.Memory f ts e r = absurd (cc)
 
-pub conf_quiet : (conf : Path) (s : ConfStop) (ts : List Entry) → conf_fault_of conf s ≡ None → RuleStopped conf s ts → ChangeNothing ts
-conf_quiet conf stop.NoFile ts e r = absurd (cc)
-conf_quiet conf stop.NotYet ts e r = absurd (cc)
-conf_quiet conf stop.Look ts e r = absurd (cc)
-conf_quiet conf stop.Read ts e r = absurd (cc)
-conf_quiet conf stop.Memory ts e r = r
+pub conf_lacks : (conf : Path) (s : ConfStop) (ts : List Entry) → conf_fault_of conf s ≡ None → RuleStopped conf s ts → LacksMemory conf ts
+conf_lacks conf stop.NoFile ts e r = absurd (cc)
+conf_lacks conf stop.NotYet ts e r = absurd (cc)
+conf_lacks conf stop.Look ts e r = absurd (cc)
+conf_lacks conf stop.Read ts e r = absurd (cc)
+conf_lacks conf stop.Memory ts e r = at_conf r
 
 pub quiet_rule : (conf log : Path) (count : ℕ) (ts : List Entry) → ReadsRule conf log count ts → ChangeNothing ts
 quiet_rule conf log count ts r = quiet_reading conf r.bytes ts r.read
-
-quiet_upto : (log path : Path) (P : List Entry → Type 0) (ts : List Entry) → ((us : List Entry) → P us → ChangeNothing us) → SeesUpTo log path P ts → ChangeNothing ts
-quiet_upto log path P ts still t = quiet_then (Sees log IsFile) _ ts (λ us p. quiet_sight log IsFile us p)
-    (λ us p. quiet_then (Sees (parent_of log) IsDir) _ us (λ vs q. quiet_sight (parent_of log) IsDir vs q) (λ vs q. quiet_then _ _ vs (λ ws r. ap (filter is_change) r)
-    (λ ws r. quiet_then _ _ ws (λ xs u. quiet_files q.before xs u) still r) q.looks) p) t
-
-turn_still : (log : Path) (count : ℕ) (s : TurnStop) (ts : List Entry) → ((step : Step) → s ≡ turn.Refused step → ⊥) → TurnStopped log count s ts → ChangeNothing ts
-turn_still log count turn.Missing ts n r = quiet_sight log IsNothing ts r
-turn_still log count turn.NotFile ts n r = quiet_sight log IsNoFile ts r
-turn_still log count turn.NoDir ts n r = quiet_then (Sees log IsFile) (Sees (parent_of log) IsNoDir) ts (λ us p. quiet_sight log IsFile us p) (λ us p. quiet_sight (parent_of log) IsNoDir us p) r
-turn_still log count (turn.MemberNotFile path) ts n r = quiet_upto log path (Sees path IsNotFile) ts (λ xs u. quiet_sight path IsNotFile xs u) r
-turn_still log count (turn.LookMember path) ts n r = quiet_upto log path (Are []) ts (λ xs u. ap (filter is_change) u) r
-turn_still log count turn.LookLog ts n r = ap (filter is_change) r
-turn_still log count turn.LookDir ts n r = quiet_sight log IsFile ts r
-turn_still log count turn.List ts n r = quiet_then (Sees log IsFile) (Sees (parent_of log) IsDir) ts (λ us p. quiet_sight log IsFile us p) (λ us p. quiet_sight (parent_of log) IsDir us p) r
-turn_still log count (turn.Refused step) ts n r = absurd (n step refl)
-turn_still log count turn.Memory ts n r = r
-
-pub turn_quiet : (conf log : Path) (count : ℕ) (s : TurnStop) (ts : List Entry) → ((step : Step) → s ≡ turn.Refused step → ⊥) → Then (ReadsRule conf log count) (TurnStopped log count s) ts → ChangeNothing ts
-turn_quiet conf log count s ts n t = quiet_then (ReadsRule conf log count) (TurnStopped log count s) ts (λ us r. quiet_rule conf log count us r) (λ us r. turn_still log count s us n r) t
 
 with_rule : (conf log : Path) (count : ℕ) (P : List Entry → Type 0) (Q : Path → ℕ → List Entry → Type 0) (ts : List Entry) → ((us : List Entry) → P us → Q log count us) → Then (ReadsRule conf log count) P ts → WithRule conf Q ts
 with_rule conf log count P Q ts f t = record {
@@ -86,6 +69,15 @@ with_rule conf log count P Q ts f t = record {
   count = count;
   run = record { front = t.front; back = t.back; joined = t.joined; first = t.first; second = f t.back t.second };
 }
+
+pub turn_lacks : (conf log : Path) (count : ℕ) (s : TurnStop) (ts : List Entry) → MayLackMemory s → Then (ReadsRule conf log count) (TurnStopped log count s) ts → LacksMemory conf ts
+turn_lacks conf log count turn.Missing ts may t = at_missing (with_rule conf log count (TurnStopped log count turn.Missing) (λ l n us. Sees l IsNothing us) ts (λ us r. r) t)
+turn_lacks conf log count turn.Memory ts may t = go t.second
+  where
+    go : MayList log t.back ⊎ ((numbers : List ℕ) × SeesNumbers log numbers t.back) → LacksMemory conf ts
+    go (inl r) = at_listing (record { log = log; count = count; run = record { front = t.front; back = t.back; joined = t.joined; first = t.first; second = r } })
+    go (inr r) = at_steps (record { log = log; count = count; run = record { front = t.front; back = t.back; joined = t.joined; first = t.first; second = r } })
+turn_lacks conf log count _ ts may t = absurd may
 
 pub turn_because : (conf log dir : Path) (count : ℕ) (s : TurnStop) (f : Fault) (ts : List Entry) → dir ≡ parent_of log → turn_fault_of log dir s ≡ Some f → Then (ReadsRule conf log count) (TurnStopped log count s) ts → Because conf f ts
 turn_because conf log dir count turn.Missing f ts d e t = subst (λ g. Because conf g ts) (fault_is _ _ e) (with_rule conf log count (TurnStopped log count turn.Missing) (λ l n us. (log ≡ l) × Sees l IsNothing us) ts (λ us r. (refl, r)) t)
@@ -128,8 +120,8 @@ rotation_changes log count ks = all_change (map (unlink_of log) (leftovers count
     (all_change (map (move_of log) (moved count ks)) (Renames log (member_at log 1) ∷ one_too_many log count ks) (moves_change log (moved count ks)) (ap (λ es. Renames log (member_at log 1) ∷ es) (last_change log count ks)))
 
 -- the log was turned over
-pub turned : (conf log : Path) (count : ℕ) (result : Outcome) (ts : List Entry) → result ≡ Done (record { notices = []; faults = [] }) → Then (ReadsRule conf log count) (Turns log count) ts → Answers conf result ts
-turned conf log count result ts e t = subst (λ r. Answers conf r ts) (sym e) (record {
+pub turned : (conf log : Path) (count : ℕ) (ts : List Entry) → Then (ReadsRule conf log count) (Turns log count) ts → Turned conf ts
+turned conf log count ts t = record {
   log = log;
   count = count;
   names = s.names;
@@ -138,7 +130,7 @@ turned conf log count result ts e t = subst (λ r. Answers conf r ts) (sym e) (r
   changes = ap (filter is_change) t.joined ∙ (filter-append is_change t.front t.back ∙ (ap (λ zs. zs ++ filter is_change t.back) (quiet_rule conf log count t.front t.first)
       ∙ (ap (filter is_change) u.joined ∙ (filter-append is_change u.front u.back ∙ (ap (λ zs. zs ++ filter is_change u.back) (quiet_numbers log t.second.numbers u.front s)
       ∙ (ap (filter is_change) u.second ∙ rotation_changes log count t.second.numbers))))));
-})
+}
   where
     u : Then (SeesNumbers log t.second.numbers) (Are (rotation log count t.second.numbers)) t.back
     u = t.second.run
@@ -150,12 +142,28 @@ pub some_fault : (r wanted : Option Fault) (f : Fault) → IfSome r (λ g. wante
 some_fault (Some g) wanted f s e = s ∙ e
 some_fault None wanted f s e = absurd (cc)
 
-pub no_fault : (r : Option Fault) (s : TurnStop) (step : Step) → IfNone r (MayLackMemory s) → r ≡ None → s ≡ turn.Refused step → ⊥
-no_fault (Some f) s step lacks e n = absurd (cc)
-no_fault None s step lacks e n = subst MayLackMemory n lacks
+pub may_lack : (r : Option Fault) (s : TurnStop) → IfNone r (MayLackMemory s) → r ≡ None → MayLackMemory s
+may_lack (Some f) s lacks e = absurd (cc)
+may_lack None s lacks e = lacks
+
+-- want of memory changes nothing
+with_quiet : (conf : Path) (Q : Path → ℕ → List Entry → Type 0) (ts : List Entry) → ((log : Path) (count : ℕ) (us : List Entry) → Q log count us → ChangeNothing us) → WithRule conf Q ts → ChangeNothing ts
+with_quiet conf Q ts still w = quiet_then (ReadsRule conf w.log w.count) (Q w.log w.count) ts (λ us r. quiet_rule conf w.log w.count us r) (λ us r. still w.log w.count us r) w.run
+
+list_quiet : (log : Path) (ts : List Entry) → (ts ≡ []) ⊎ ((names : List (List ℕ)) × (ts ≡ entry.List (parent_of log) names ∷ [])) → ChangeNothing ts
+list_quiet log ts (inl e) = ap (filter is_change) e
+list_quiet log ts (inr (names, e)) = ap (filter is_change) e
+
+lacks_quiet : (conf : Path) (ts : List Entry) → LacksMemory conf ts → ChangeNothing ts
+lacks_quiet conf ts (at_first e) = ap (filter is_change) e
+lacks_quiet conf ts (at_conf t) = quiet_then (Sees conf IsFile) (Each (IsReadOf conf)) ts (λ us s. quiet_sight conf IsFile us s) (λ us r. quiet_reads conf us r) t
+lacks_quiet conf ts (at_missing w) = with_quiet conf _ ts (λ log count us s. quiet_sight log IsNothing us s) w
+lacks_quiet conf ts (at_listing w) =
+    with_quiet conf _ ts (λ log count us t. quiet_then (Sees log IsFile) _ us (λ vs s. quiet_sight log IsFile vs s) (λ vs t'. quiet_then (Sees (parent_of log) IsDir) _ vs (λ xs s. quiet_sight (parent_of log) IsDir xs s) (λ xs l. list_quiet log xs l) t') t) w
+lacks_quiet conf ts (at_steps w) = with_quiet conf _ ts (λ log count us s. quiet_numbers log s.0 us s.1) w
 
 pub answered : (here : Path) (words : List (List ℕ)) (conf : Path) (result : Outcome) (ts : List Entry) → AreWords here words conf → Answers conf result ts → Answered here words result ts
 answered here words conf (Done report) ts w a = (conf, w, a)
-answered here words conf OutOfMemory ts w a = a
+answered here words conf OutOfMemory ts w a = (lacks_quiet conf ts a, inr (conf, w, a))
 answered here words conf BadWords ts w a = absurd a
 answered here words conf Held ts w a = absurd a

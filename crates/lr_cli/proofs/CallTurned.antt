@@ -13,7 +13,7 @@ use Rattle.lr_host.specs.Told.{IsIn, Made, at_first, by_writer, by_tool, Left, i
 use Rattle.lr_host.specs.Steps.{is_change}
 use Rattle.lr_host.proofs.Left.{filter_reverse, made_on}
 use Rattle.lr_cli.specs.Rotation.{rotation}
-use Rattle.lr_cli.specs.Family.{AreMembers, NoMemberAttached, from_here, attached, another, IsTurned, IsBehind}
+use Rattle.lr_cli.specs.Family.{AreMembers, NoMemberAttached, from_here, attached, another, IsTurned}
 use Rattle.lr_cli.specs.Turning.{IsTurnedWhole}
 use Rattle.lr_host.specs.declared.thing.Thing.TheVariants as thing
 use Rattle.lr_cli.proofs.Walks.{AttachesNone, Quiet, Walk, made_walk, before_last}

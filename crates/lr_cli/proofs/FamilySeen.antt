@@ -1,5 +1,5 @@
 -- What a call saw of the family of its log, in the words of the law by which a family is turned.
-use Rattle.std.proofs.Common.{◌≡◌, inl, inr, ℕ, zero, suc, ◌+◌, ◌-◌, ◌<◌, ◌≤◌, ◌^◌, Bool, true, false, ◌&&◌, List, [], ◌∷◌, ◌++◌, length, take, drop, get_or, Option, Some, None, refl, sym, ◌∙◌, ap, subst, arith, lit≤, append_assoc, All, Contains}
+use Rattle.std.proofs.Common.{◌≡◌, inl, ℕ, zero, suc, ◌+◌, ◌-◌, ◌<◌, ◌≤◌, ◌^◌, Bool, true, false, ◌&&◌, List, [], ◌∷◌, ◌++◌, length, take, drop, get_or, Option, Some, None, refl, sym, ◌∙◌, ap, subst, arith, lit≤, append_assoc, All, Contains}
 use Rattle.std.specs.Prelude.{filter, map, slice_range, slice_index, bytes_eq, reverse, is_none}
 use Rattle.std.specs.List.{list_all}
 use Rattle.std.specs.Str.Parse.{digits_value, AllDigits}
@@ -14,9 +14,9 @@ use Rattle.lr_host.specs.declared.thing.Seen.{Seen}
 use Rattle.lr_host.specs.declared.entry.Entry.{Entry}
 use Rattle.lr_host.specs.declared.entry.Entry.TheVariants as entry
 use Rattle.lr_host.specs.declared.journal.Journal.{Journal}
-use Rattle.lr_host.specs.World.{past, names, world}
+use Rattle.lr_host.specs.World.{past}
 use Rattle.lr_host.specs.Opening.{IsJournal}
-use Rattle.lr_host.specs.Told.{Then, Are, IsIn, Left, is_told}
+use Rattle.lr_host.specs.Told.{Then, IsIn, Left, is_told}
 use Rattle.lr_host.specs.Steps.{is_change}
 use Rattle.lr_cli.specs.Form.{is_digit, is_blank, open_text, close_text, can_be_log, Defines}
 use Rattle.lr_cli.specs.Looks.{Sees, SeesFiles, SeesFamily, Stands, IsFile, IsDir}

@@ -5,6 +5,7 @@ pub mod ChainMoves
 pub mod Digits
 pub mod Drawn
 pub mod Every
+pub mod Exactly
 pub mod FamilySeen
 pub mod FamilyTurned
 pub mod Fed
@@ -12,8 +13,11 @@ pub mod Fitting
 pub mod Looking
 pub mod MemberPaths
 pub mod MembersFound
+pub mod NoExcuse
 pub mod NumberLists
 pub mod Numbers
+pub mod OneCause
+pub mod OutAside
 pub mod Plain
 pub mod Renames
 pub mod Seen

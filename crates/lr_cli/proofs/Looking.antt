@@ -1,5 +1,5 @@
 -- What looks at paths, one after another, leave.
-use Rattle.std.proofs.Common.{◌≡◌, ℕ, ◌+◌, ◌<◌, List, [], ◌∷◌, ◌++◌, length, take, drop, get_or, Option, Some, refl, sym, ap, ◌∙◌, subst, append_assoc}
+use Rattle.std.proofs.Common.{◌≡◌, ◌⊎◌, inr, ℕ, ◌+◌, ◌<◌, List, [], ◌∷◌, ◌++◌, length, take, drop, get_or, Option, Some, refl, sym, ap, ◌∙◌, subst, append_assoc}
 use Rattle.std.specs.Prelude.{filter}
 use Rattle.std.proofs.lemmas.List.{append-nil, take_more, drop_more, take-append-drop}
 use Rattle.std.proofs.lemmas.List.Elements.{filter-append}
@@ -59,6 +59,10 @@ split_path paths at path is lt = sym (take-append-drop at paths) ∙ ap (λ ps. 
 
 pub listed_as : (log : Path) (base : List ℕ) (names given : List (List ℕ)) (numbers : List ℕ) → base ≡ last_of log → given ≡ names → AreFalling numbers → HasNumbers base given numbers → AreListed log names numbers
 listed_as log base names given numbers e f falling all = record { falling = falling; all = subst (λ (ns : List (List ℕ)). HasNumbers (last_of log) ns numbers) f (subst (λ (b : List ℕ). HasNumbers b given numbers) e all) }
+
+-- a listing, and then no more
+pub may_list : (log dir : Path) (names : List (List ℕ)) (ts : List Entry) → dir ≡ parent_of log → ts ≡ entry.List dir names ∷ [] → (ts ≡ []) ⊎ ((ns : List (List ℕ)) × (ts ≡ entry.List (parent_of log) ns ∷ []))
+may_list log dir names ts e is = inr (names, is ∙ ap (λ (d : Path). entry.List d names ∷ []) e)
 
 -- each member was seen as a file
 pub stands : (log dir : Path) (names : List (List ℕ)) (numbers : List ℕ) (paths ps : List Path) {o m n : Option Journal} → dir ≡ parent_of log → ps ≡ paths → AreListed log names numbers → AreInOrder log numbers paths

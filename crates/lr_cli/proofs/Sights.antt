@@ -9,10 +9,10 @@ use Rattle.lr_host.specs.declared.entry.Entry.{Entry}
 use Rattle.lr_host.specs.declared.entry.Entry.TheVariants as entry
 use Rattle.lr_host.specs.declared.entry.Entry.TheVariants.{Reads}
 use Rattle.lr_host.specs.declared.journal.Journal.{Journal}
-use Rattle.lr_host.specs.Told.{Left, Each}
+use Rattle.lr_host.specs.Told.{Left, Then, Each}
 use Rattle.lr_host.specs.Steps.{is_change}
-use Rattle.lr_host.specs.Reading.{IsReadOf, ReadsAll}
-use Rattle.lr_host.proofs.Left.{left_as, left_then}
+use Rattle.lr_host.specs.Reading.{IsReadOf}
+use Rattle.lr_host.proofs.Left.{left_as}
 use Rattle.lr_cli.specs.declared.conf.ConfStop.{ConfStop}
 use Rattle.lr_cli.specs.declared.conf.ConfStop.TheVariants as stop
 use Rattle.lr_cli.specs.Answer.{ReadsConf}
@@ -23,14 +23,6 @@ use Rattle.lr_cli.specs.Stops.{ConfStopped, RuleStopped}
 pub sees : (x : Path) (P : Option Seen → Type 0) (seen : Option Seen) {o n : Option Journal} → Left (λ ts. ts ≡ entry.Look x seen ∷ []) o n → P seen → Left (Sees x P) o n
 sees x P seen l p = left_as l (λ ts e. record { seen = seen; is = p; look = e })
 
--- no entry
-pub quiet_none : {o n : Option Journal} → Left (λ ts. ts ≡ []) o n → Left ChangeNothing o n
-quiet_none l = left_as l (λ ts e. ap (filter is_change) e)
-
--- a look
-pub quiet_look : (x : Path) (seen : Option Seen) {o n : Option Journal} → Left (λ ts. ts ≡ entry.Look x seen ∷ []) o n → Left ChangeNothing o n
-quiet_look x seen l = left_as l (λ ts e. ap (filter is_change) e)
-
 reads_quiet : (f : Entry → Bool) → ((x : Path) (from : ℕ) (piece : List ℕ) → f (Reads x from piece) ≡ false) → (x : Path) (ts : List Entry) → Each (IsReadOf x) ts → filter f ts ≡ []
 reads_quiet f passed x [] only = refl
 reads_quiet f passed x (Reads y from piece ∷ ts) only = go (f (Reads y from piece)) (passed y from piece) (reads_quiet f passed x ts only.1)
@@ -40,15 +32,8 @@ reads_quiet f passed x (Reads y from piece ∷ ts) only = go (f (Reads y from pi
     go false e r = r
 reads_quiet f passed x (_ ∷ ts) only = absurd only.0
 
-pub quiet_reads : (x : Path) {o n : Option Journal} → Left (Each (IsReadOf x)) o n → Left ChangeNothing o n
-quiet_reads x l = left_as l (λ ts only. reads_quiet is_change (λ y from piece. refl) x ts only)
-
-pub quiet_on : {o m n : Option Journal} → Left ChangeNothing o m → Left ChangeNothing m n → Left ChangeNothing o n
-quiet_on a b = left_then a b (λ xs ys p q. filter-append is_change xs ys ∙ (ap (λ zs. zs ++ filter is_change ys) p ∙ q))
-
--- reads of all of a text
-pub quiet_text : (x : Path) (limit : ℕ) (bytes : List ℕ) {o n : Option Journal} → Left (ReadsAll x limit bytes) o n → Left ChangeNothing o n
-quiet_text x limit bytes l = quiet_reads x (left_as l (λ ts r. r.reads.only))
+pub quiet_reads : (x : Path) (ts : List Entry) → Each (IsReadOf x) ts → ChangeNothing ts
+quiet_reads x ts only = reads_quiet is_change (λ y from piece. refl) x ts only
 
 pub quiet_sight : (x : Path) (P : Option Seen → Type 0) (ts : List Entry) → Sees x P ts → ChangeNothing ts
 quiet_sight x P ts s = ap (filter is_change) s.look
@@ -58,8 +43,8 @@ pub quiet_reading : (conf : Path) (bytes : List ℕ) (ts : List Entry) → Reads
 quiet_reading conf bytes ts r = ap (filter is_change) r.joined ∙ (filter-append is_change r.front r.back
     ∙ (ap (λ zs. zs ++ filter is_change r.back) (quiet_sight conf IsFile r.front r.first) ∙ reads_quiet is_change (λ y from piece. refl) conf r.back r.second.reads.only))
 
-pub quiet_conf : (conf : Path) (bytes : List ℕ) {o n : Option Journal} → Left (ReadsConf conf bytes) o n → Left ChangeNothing o n
-quiet_conf conf bytes l = left_as l (λ ts r. quiet_reading conf bytes ts r)
+pub only_reads : (conf : Path) (bytes : List ℕ) (ts : List Entry) → ReadsConf conf bytes ts → Then (Sees conf IsFile) (Each (IsReadOf conf)) ts
+only_reads conf bytes ts r = record { front = r.front; back = r.back; joined = r.joined; first = r.first; second = r.second.reads.only }
 
 -- what isn't the configuration's is no rule either
 pub rule_stopped : (conf : Path) (s : ConfStop) (ts : List Entry) → ConfStopped conf s ts → RuleStopped conf s ts
@@ -85,7 +70,3 @@ file_no_dir seen s e k = subst IsNoDir (sym e) (λ f. cc)
 
 pub other_no_dir : (seen : Option Seen) (s : Seen) → seen ≡ Some s → s.kind ≡ kind.Other → IsNoDir seen
 other_no_dir seen s e k = subst IsNoDir (sym e) (λ f. cc)
-
--- a listing
-pub quiet_list : (dir : Path) (names : List (List ℕ)) {o n : Option Journal} → Left (λ ts. ts ≡ entry.List dir names ∷ []) o n → Left ChangeNothing o n
-quiet_list dir names l = left_as l (λ ts e. ap (filter is_change) e)

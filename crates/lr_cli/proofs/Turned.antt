@@ -1,5 +1,5 @@
 -- What the looks at a family and the steps behind them leave together.
-use Rattle.std.proofs.Common.{◌≡◌, ℕ, ◌<◌, List, ◌++◌, length, map, get_or, refl, ap, ◌∙◌, subst, append_assoc, Option, sym}
+use Rattle.std.proofs.Common.{◌≡◌, inl, ℕ, ◌<◌, List, ◌++◌, length, map, get_or, refl, ap, ◌∙◌, subst, append_assoc, Option, sym}
 use Rattle.std.specs.Prelude.{filter}
 use Rattle.std.proofs.lemmas.List.{append-nil}
 use Rattle.std.proofs.lemmas.List.Elements.{filter-append}
@@ -52,15 +52,11 @@ dir_case log _ xs ys p q = absurd q
 pub dir_stops : (log dir : Path) (s : TurnStop) {o m n : Option Journal} → dir ≡ parent_of log → Left (Sees log IsFile) o m → Left (DirStopped dir s) m n → Left (SeeStopped log s) o n
 dir_stops log dir s e a b = left_then a b (λ xs ys p q. dir_case log s xs ys p (subst (λ d. DirStopped d s ys) e q))
 
-quiet_both : (log dir : Path) (xs ys : List Entry) → Then (Sees log IsFile) (Sees dir IsDir) xs → ChangeNothing ys → ChangeNothing (xs ++ ys)
-quiet_both log dir xs ys p q =
-    filter-append is_change xs ys ∙ (ap (λ zs. zs ++ filter is_change ys) (quiet_then (Sees log IsFile) (Sees dir IsDir) xs (λ us s. quiet_sight log IsFile us s) (λ us s. quiet_sight dir IsDir us s) p) ∙ q)
-
 stand_case : (log : Path) (s : TurnStop) (xs ys : List Entry) → Then (Sees log IsFile) (Sees (parent_of log) IsDir) xs → StandStopped log s ys → SeeStopped log s (xs ++ ys)
 stand_case log (turn.MemberNotFile path) xs ys p q = then_assoc (xs ++ ys) (record { front = xs; back = ys; joined = refl; first = p; second = q })
 stand_case log (turn.LookMember path) xs ys p q = then_assoc (xs ++ ys) (record { front = xs; back = ys; joined = refl; first = p; second = q })
 stand_case log turn.List xs ys p q = subst (λ zs. Then (Sees log IsFile) (Sees (parent_of log) IsDir) (xs ++ zs)) (sym q) (subst (λ zs. Then (Sees log IsFile) (Sees (parent_of log) IsDir) zs) (sym (append-nil xs)) p)
-stand_case log turn.Memory xs ys p q = quiet_both log (parent_of log) xs ys p q
+stand_case log turn.Memory xs ys p q = then_assoc (xs ++ ys) (record { front = xs; back = ys; joined = refl; first = p; second = q })
 stand_case log _ xs ys p q = absurd q
 
 pub stand_stops : (log dir : Path) (s : TurnStop) {o m n k : Option Journal} → dir ≡ parent_of log → Left (Sees log IsFile) o m → Left (Sees dir IsDir) m n → Left (StandStopped log s) n k → Left (SeeStopped log s) o k
@@ -88,7 +84,7 @@ see_stops log count turn.List ts r = r
 see_stops log count (turn.MemberNotFile path) ts r = r
 see_stops log count (turn.LookMember path) ts r = r
 see_stops log count (turn.Refused step) ts r = absurd r
-see_stops log count turn.Memory ts r = r
+see_stops log count turn.Memory ts r = inl r
 
 -- the steps behind the looks
 pub turns : (log : Path) (count : ℕ) (numbers : List ℕ) (steps : List Step) {o m n : Option Journal} → map entry_of steps ≡ rotation log count numbers → Left (SeesNumbers log numbers) o m → Left (Are (map entry_of steps)) m n → Left (Turns log count) o n

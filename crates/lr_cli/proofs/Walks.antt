@@ -8,10 +8,8 @@ use Rattle.lr_host.specs.declared.entry.Entry.{Entry}
 use Rattle.lr_host.specs.declared.entry.Entry.TheVariants.{Attach}
 use Rattle.lr_host.specs.World.{Past, Opens, ◌▸◌, world}
 use Rattle.lr_host.specs.Fits.{Fits}
-use Rattle.lr_host.specs.Told.{IsWriters, IsTools, Made, at_first, by_writer, by_tool}
+use Rattle.lr_host.specs.Told.{Made, at_first, by_writer, by_tool}
 use Rattle.lr_host.specs.Steps.{is_change}
-use Rattle.lr_cli.specs.Member.{IsNumber}
-use Rattle.lr_cli.specs.Rotation.{member_at}
 use Rattle.lr_cli.specs.Family.{NoMemberAttached, from_here, attached, another}
 pub use Rattle.lr_cli.specs.Quiet.{AttachesNone, Quiet, here, wrote, looked}
 

@@ -17,7 +17,7 @@ use Rattle.lr_cli.specs.declared.outcome.Outcome.{Outcome}
 use Rattle.lr_cli.specs.declared.outcome.Outcome.TheVariants.{Done, BadWords, Held, OutOfMemory}
 use Rattle.lr_cli.specs.Acts.{StopsAt}
 use Rattle.lr_cli.specs.Form.{Defines, IsNoForm}
-use Rattle.lr_cli.specs.Looks.{ChangeNothing, Sees, IsFile, IsDir, IsNothing, IsNothingOrOther, IsNoFile, IsNotFile, IsNoDir, SeesFamily, SeesUpTo, SeesNumbers}
+use Rattle.lr_cli.specs.Looks.{ChangeNothing, Sees, IsFile, IsDir, IsNothing, IsNothingOrOther, IsNoFile, IsNotFile, IsNoDir, SeesFamily, SeesUpTo, MayList, SeesNumbers}
 use Rattle.lr_cli.specs.Rotation.{rotation}
 use Rattle.lr_cli.specs.Words.{AreWords}
 
@@ -107,15 +107,25 @@ Reports conf [] ts = Turned conf ts
 Reports conf (f ∷ []) ts = Because conf f ts
 Reports conf _ ts = ⊥
 
+-- Where there was no memory: before the first call; for the configuration's text or behind it; to tell a missing log;
+-- behind the looks at the log and its directory, or the listing; behind the looks at the members.
+pub data LacksMemory (conf : Path) (ts : List Entry) : Type 0 where
+  at_first : ts ≡ [] → LacksMemory conf ts
+  at_conf : Then (Sees conf IsFile) (Each (IsReadOf conf)) ts → LacksMemory conf ts
+  at_missing : WithRule conf (λ log count us. Sees log IsNothing us) ts → LacksMemory conf ts
+  at_listing : WithRule conf (λ log count us. MayList log us) ts → LacksMemory conf ts
+  at_steps : WithRule conf (λ log count us. (numbers : List ℕ) × SeesNumbers log numbers us) ts → LacksMemory conf ts
+
 -- What the run over a configuration left, by its answer.
 abbrev pub Answers : Path → Outcome → List Entry → Type 0
 Answers conf (Done report) ts = Reports conf report.faults ts
-Answers conf OutOfMemory ts = ChangeNothing ts
+Answers conf OutOfMemory ts = LacksMemory conf ts
 Answers conf _ ts = ⊥
 
--- What a call of the program left, by its answer. Done is answered only for words that name a configuration.
+-- What a call of the program left, by its answer. Done is answered only for words that name a configuration; where the
+-- words' path had no memory, nothing is called.
 abbrev pub Answered : Path → List (List ℕ) → Outcome → List Entry → Type 0
 Answered here words (Done report) ts = (conf : Path) × AreWords here words conf × Reports conf report.faults ts
-Answered here words OutOfMemory ts = ChangeNothing ts
+Answered here words OutOfMemory ts = ChangeNothing ts × ((ts ≡ []) ⊎ ((conf : Path) × AreWords here words conf × LacksMemory conf ts))
 Answered here words BadWords ts = ts ≡ []
 Answered here words Held ts = ⊥

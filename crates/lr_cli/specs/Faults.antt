@@ -1,5 +1,5 @@
 -- The fault by which a run tells why it stopped; none for want of memory.
-use Rattle.std.specs.Prelude.{◌≤◌, Contains, length, Option, Some, None}
+use Rattle.std.specs.Prelude.{◌≤◌, [], ◌∷◌, Contains, length, Option, Some, None, Result, Ok, Err}
 use Rattle.lr_rules.specs.declared.path.Path.{Path}
 use Rattle.lr_rules.specs.declared.fault.Fault.{Fault}
 use Rattle.lr_rules.specs.declared.fault.Fault.TheVariants as fault
@@ -12,8 +12,10 @@ use Rattle.lr_cli.specs.declared.rotation.TurnStop.{TurnStop}
 use Rattle.lr_cli.specs.declared.rotation.TurnStop.TheVariants as turn
 use Rattle.lr_cli.specs.declared.step.Step.{Step}
 use Rattle.lr_cli.specs.declared.step.Step.TheVariants as step
+use Rattle.lr_cli.specs.declared.run.RunStop.{RunStop}
+use Rattle.lr_cli.specs.declared.run.RunStop.TheVariants as run
 use Rattle.lr_cli.specs.declared.outcome.Outcome.{Outcome}
-use Rattle.lr_cli.specs.declared.outcome.Outcome.TheVariants.{Done}
+use Rattle.lr_cli.specs.declared.outcome.Outcome.TheVariants.{Done, OutOfMemory}
 
 -- a fault of the configuration as a whole
 abbrev pub conf_fault : Path → ConfKind → Fault
@@ -48,6 +50,12 @@ abbrev pub MayLackMemory : TurnStop → Type 0
 MayLackMemory turn.Missing = Unit {0}
 MayLackMemory turn.Memory = Unit {0}
 MayLackMemory _ = ⊥
+
+-- the answer of a run that turned its log over, or stopped so
+abbrev pub answer_of : Result Unit RunStop → Outcome
+answer_of (Ok x) = Done (record { notices = []; faults = [] })
+answer_of (Err (run.Fault f)) = Done (record { notices = []; faults = f ∷ [] })
+answer_of (Err run.Memory) = OutOfMemory
 
 -- the report has the fault
 abbrev pub HasFault : Outcome → Fault → Type 0

@@ -1,10 +1,12 @@
 pub mod Acts
 pub mod Answer
+pub mod Exact
 pub mod Family
 pub mod Faults
 pub mod Form
 pub mod Looks
 pub mod Member
+pub mod Printed
 pub mod Quiet
 pub mod Rotation
 pub mod Status

@@ -1,5 +1,5 @@
 -- What the looks at a log, its directory and its members show.
-use Rattle.std.specs.Prelude.{◌≡◌, ◌≢◌, ℕ, List, [], ◌∷◌, ◌++◌, map, filter, Option, Some, None}
+use Rattle.std.specs.Prelude.{◌≡◌, ◌≢◌, ◌⊎◌, ℕ, List, [], ◌∷◌, ◌++◌, map, filter, Option, Some, None}
 use Rattle.std.specs.List.Sorted.{IsPermutation, IsSorted}
 use Rattle.std.specs.Ordering.{nat_cmp}
 use Rattle.std.specs.Cmp.Lexicographic.{slice_cmp}
@@ -103,6 +103,10 @@ SeesFamily log names numbers = Then (Sees log IsFile) (Then (Sees (parent_of log
 -- The log and its directory were seen, and of the members up to this one P holds.
 abbrev pub SeesUpTo : Path → Path → (List Entry → Type 0) → List Entry → Type 0
 SeesUpTo log path P = Then (Sees log IsFile) (Then (Sees (parent_of log) IsDir) (Reaches log path P))
+
+-- The log was seen as a file, its directory as one, and maybe listed.
+abbrev pub MayList : Path → List Entry → Type 0
+MayList log = Then (Sees log IsFile) (Then (Sees (parent_of log) IsDir) (λ ts. (ts ≡ []) ⊎ ((names : List (List ℕ)) × (ts ≡ entry.List (parent_of log) names ∷ []))))
 
 -- The same of a listing with some names, where the members have these numbers.
 pub record SeesNumbers (log : Path) (numbers : List ℕ) (ts : List Entry) : Type 0 where

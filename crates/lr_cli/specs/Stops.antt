@@ -3,6 +3,7 @@ use Rattle.std.specs.Prelude.{◌≡◌, ◌⊎◌, ℕ, List, [], ◌∷◌, ta
 use Rattle.lr_rules.specs.declared.path.Path.{Path}
 use Rattle.lr_rules.specs.Path.{parent_of}
 use Rattle.lr_host.specs.declared.entry.Entry.{Entry}
+use Rattle.lr_host.specs.declared.entry.Entry.TheVariants as entry
 use Rattle.lr_host.specs.Told.{Then, Are, Each}
 use Rattle.lr_host.specs.Reading.{IsReadOf}
 use Rattle.lr_cli.specs.declared.conf.ConfStop.{ConfStop}
@@ -12,7 +13,7 @@ use Rattle.lr_cli.specs.declared.family.LookStop.TheVariants as look
 use Rattle.lr_cli.specs.declared.rotation.TurnStop.{TurnStop}
 use Rattle.lr_cli.specs.declared.rotation.TurnStop.TheVariants as turn
 use Rattle.lr_cli.specs.Acts.{entry_of}
-use Rattle.lr_cli.specs.Looks.{ChangeNothing, Sees, SeesFiles, IsFile, IsDir, IsNothing, IsNothingOrOther, IsNoFile, IsNotFile, IsNoDir, Reaches, SeesUpTo}
+use Rattle.lr_cli.specs.Looks.{Sees, SeesFiles, IsFile, IsDir, IsNothing, IsNothingOrOther, IsNoFile, IsNotFile, IsNoDir, Reaches, SeesUpTo, MayList, SeesNumbers}
 use Rattle.lr_cli.specs.Answer.{ReadsNoRule, BreaksOff}
 
 -- the configuration wasn't read
@@ -20,8 +21,7 @@ abbrev pub ConfStopped : Path → ConfStop → List Entry → Type 0
 ConfStopped conf stop.NoFile ts = Sees conf IsNothingOrOther ts
 ConfStopped conf stop.NotYet ts = Sees conf IsDir ts
 ConfStopped conf stop.Look ts = ts ≡ []
-ConfStopped conf stop.Read ts = Then (Sees conf IsFile) (Each (IsReadOf conf)) ts
-ConfStopped conf _ ts = ChangeNothing ts
+ConfStopped conf _ ts = Then (Sees conf IsFile) (Each (IsReadOf conf)) ts
 
 -- or gives no log
 abbrev pub RuleStopped : Path → ConfStop → List Entry → Type 0
@@ -66,7 +66,7 @@ abbrev pub StandStopped : Path → TurnStop → List Entry → Type 0
 StandStopped log (turn.MemberNotFile path) ts = Reaches log path (Sees path IsNotFile) ts
 StandStopped log (turn.LookMember path) ts = Reaches log path (Are []) ts
 StandStopped log turn.List ts = ts ≡ []
-StandStopped log turn.Memory ts = ChangeNothing ts
+StandStopped log turn.Memory ts = (ts ≡ []) ⊎ ((names : List (List ℕ)) × (ts ≡ entry.List (parent_of log) names ∷ []))
 StandStopped log _ ts = ⊥
 
 -- the looks weren't all made, or don't show a log that can be turned over
@@ -79,12 +79,13 @@ SeeStopped log turn.LookDir ts = Sees log IsFile ts
 SeeStopped log turn.List ts = Then (Sees log IsFile) (Sees (parent_of log) IsDir) ts
 SeeStopped log (turn.MemberNotFile path) ts = SeesUpTo log path (Sees path IsNotFile) ts
 SeeStopped log (turn.LookMember path) ts = SeesUpTo log path (Are []) ts
-SeeStopped log turn.Memory ts = ChangeNothing ts
+SeeStopped log turn.Memory ts = MayList log ts
 SeeStopped log (turn.Refused step) ts = ⊥
 
--- or a step was refused
+-- or a step was refused, or wasn't made for want of memory
 abbrev pub TurnStopped : Path → ℕ → TurnStop → List Entry → Type 0
 TurnStopped log count (turn.Refused step) ts = BreaksOff log count (entry_of step) ts
+TurnStopped log count turn.Memory ts = MayList log ts ⊎ ((numbers : List ℕ) × SeesNumbers log numbers ts)
 TurnStopped log count s ts = SeeStopped log s ts
 
 abbrev pub IsTurnCall : TurnStop → Type 0

@@ -1,7 +1,7 @@
 // The words of the command line.
 ghost use Rattle.std.specs.Prelude.{◌≡◌, ◌↔◌, IfOk, IsTrue, codes};
 ghost use Rattle.lr_rules.specs.declared.path.Path.{Path};
-ghost use Rattle.lr_cli.specs.Words.{AreWords};
+ghost use Rattle.lr_cli.specs.Words.{AreWords, HaveForm};
 
 use lr_rules::{Path, PathFault, Text};
 use std::alloc::Global;
@@ -23,6 +23,7 @@ fn is_force(word: &Text) -> bool
 pub fn conf_of(alloc: Global, words: &[Text], here: &Path) -> Result<Path, WordsFault>
     ensures conf { IfOk result (AreWords here.now words.now) }
     ensures refused { result ≡ Err WordsFault.Refused → (conf : Path) → AreWords here.now words.now conf → ⊥ }
+    ensures memory { result ≡ Err WordsFault.Memory → HaveForm words.now }
 {
     let [flag, word] = words else {
         return Err(WordsFault::Refused);

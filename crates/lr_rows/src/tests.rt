@@ -1,182 +1,12 @@
-// Rows worked out by hand: a disk, a call of the program, its answer, and what the disk has behind it.
+// Calls of the program over the host and the output in memory: its answer, what it prints, and what the disk has
+// behind it.
+use crate::rows::{Files, ROWS, Row, TWO};
 use lr_cli::{Outcome, Zone, logrotate, status};
-use lr_host::{Entry, OpenFile, Opening, Sink, SinkFault};
-use lr_memhost::{Act, Failing, How, MemHost};
+use lr_host::{Entry, OpenFile, Opening};
+use lr_memhost::{Act, Failing, How, MemHost, MemSink};
 use lr_rules::{Fault, Listed, Path, Text};
 use std::alloc::Global;
 use std::test::Fail;
-
-// An output that takes everything, and keeps nothing.
-#[derive(Drop)]
-struct Dropped {}
-
-impl Sink for Dropped {
-    ghost use Rattle.std.specs.Prelude.{None};
-
-    ghost taken = { λ _. None };
-
-    ghost faults = { λ _. 0 };
-
-    fn put(&mut self, piece: &[u8]) -> Result<usize, SinkFault> {
-        Ok(piece.len())
-    }
-}
-
-type Files = &'static [(&'static [u8], &'static [u8])];
-
-// The directories are `/`, `/v`, `/etc` and `/v/d.log.1`.
-#[derive(Clone, Copy)]
-struct Row {
-    conf: &'static [u8],
-    files: Files,
-    failing: Option<Failing>,
-    answer: &'static str,
-    status: u8,
-    after: Files,
-    gone: &'static [&'static [u8]],
-}
-
-const TWO: &[u8] = b"/v/a.log {\nrotate 2\n}\n";
-
-const ROWS: [Row; 11] = [
-    // A log without members.
-    Row {
-        conf: TWO,
-        files: &[(b"/v/a.log", b"C"), (b"/v/b.log", b"D")],
-        failing: None,
-        answer: "Done",
-        status: 0,
-        after: &[(b"/v/a.log.1", b"C"), (b"/v/b.log", b"D")],
-        gone: &[b"/v/a.log", b"/v/a.log.2"],
-    },
-    // One member.
-    Row {
-        conf: TWO,
-        files: &[(b"/v/a.log", b"C"), (b"/v/a.log.1", b"A")],
-        failing: None,
-        answer: "Done",
-        status: 0,
-        after: &[(b"/v/a.log.1", b"C"), (b"/v/a.log.2", b"A")],
-        gone: &[b"/v/a.log", b"/v/a.log.3"],
-    },
-    // Two members, of which the last is unlinked.
-    Row {
-        conf: TWO,
-        files: &[
-            (b"/v/a.log", b"C"),
-            (b"/v/a.log.1", b"A"),
-            (b"/v/a.log.2", b"B"),
-        ],
-        failing: None,
-        answer: "Done",
-        status: 0,
-        after: &[(b"/v/a.log.1", b"C"), (b"/v/a.log.2", b"A")],
-        gone: &[b"/v/a.log", b"/v/a.log.3"],
-    },
-    // A gap, leftovers, and names that are no members'.
-    Row {
-        conf: TWO,
-        files: &[
-            (b"/v/a.log", b"C"),
-            (b"/v/a.log.2", b"B"),
-            (b"/v/a.log.4", b"D"),
-            (b"/v/a.log.10", b"E"),
-            (b"/v/a.log.01", b"F"),
-            (b"/v/a.log.4294967296", b"G"),
-        ],
-        failing: None,
-        answer: "Done",
-        status: 0,
-        after: &[
-            (b"/v/a.log.1", b"C"),
-            (b"/v/a.log.01", b"F"),
-            (b"/v/a.log.4294967296", b"G"),
-        ],
-        gone: &[
-            b"/v/a.log",
-            b"/v/a.log.2",
-            b"/v/a.log.3",
-            b"/v/a.log.4",
-            b"/v/a.log.10",
-        ],
-    },
-    // No member is kept.
-    Row {
-        conf: b"/v/a.log {\nrotate 0\n}\n",
-        files: &[(b"/v/a.log", b"C"), (b"/v/a.log.1", b"A")],
-        failing: None,
-        answer: "Done",
-        status: 0,
-        after: &[],
-        gone: &[b"/v/a.log", b"/v/a.log.1", b"/v/a.log.2"],
-    },
-    // A member that is a directory: nothing is changed.
-    Row {
-        conf: b"/v/d.log {\nrotate 2\n}\n",
-        files: &[(b"/v/d.log", b"C"), (b"/v/d.log.2", b"A")],
-        failing: None,
-        answer: "NotFile",
-        status: 1,
-        after: &[(b"/v/d.log", b"C"), (b"/v/d.log.2", b"A")],
-        gone: &[b"/v/d.log.3"],
-    },
-    // A literal log that is missing.
-    Row {
-        conf: b"/v/none.log {\nrotate 2\n}\n",
-        files: &[(b"/v/a.log", b"C")],
-        failing: None,
-        answer: "Missing",
-        status: 1,
-        after: &[(b"/v/a.log", b"C")],
-        gone: &[b"/v/none.log.1"],
-    },
-    // A directory as a log.
-    Row {
-        conf: b"/v {\nrotate 2\n}\n",
-        files: &[(b"/v/a.log", b"C")],
-        failing: None,
-        answer: "NotFile",
-        status: 1,
-        after: &[(b"/v/a.log", b"C")],
-        gone: &[b"/v.1"],
-    },
-    // A configuration of another form.
-    Row {
-        conf: b"/v/a.log {\nrotate many\n}\n",
-        files: &[(b"/v/a.log", b"C")],
-        failing: None,
-        answer: "Conf",
-        status: 1,
-        after: &[(b"/v/a.log", b"C")],
-        gone: &[b"/v/a.log.1"],
-    },
-    // The first call fails.
-    Row {
-        conf: TWO,
-        files: &[(b"/v/a.log", b"C")],
-        failing: Some(Failing {
-            at: 0,
-            how: How::NoEffect,
-        }),
-        answer: "Call",
-        status: 1,
-        after: &[(b"/v/a.log", b"C")],
-        gone: &[b"/v/a.log.1"],
-    },
-    // No call is so late.
-    Row {
-        conf: TWO,
-        files: &[(b"/v/a.log", b"C")],
-        failing: Some(Failing {
-            at: 1000,
-            how: How::NoEffect,
-        }),
-        answer: "Done",
-        status: 0,
-        after: &[(b"/v/a.log.1", b"C")],
-        gone: &[b"/v/a.log"],
-    },
-];
 
 fn file(alloc: Global, bytes: &[u8]) -> Result<OpenFile, Fail> {
     Ok(OpenFile {
@@ -233,6 +63,26 @@ fn host_of(
     Ok(host)
 }
 
+// An output of which one put fails, if any.
+fn sink_of(alloc: Global, failing: Option<u64>) -> Result<MemSink, Fail> {
+    let mut list = Vec::new(alloc);
+    if let Some(at) = failing {
+        list.push(at)?;
+    }
+    Ok(MemSink::new(alloc, list))
+}
+
+fn fault_name(fault: &Fault) -> &'static str {
+    match fault {
+        Fault::Conf { .. } => "Conf",
+        Fault::Missing(_) => "Missing",
+        Fault::NotFile(_) => "NotFile",
+        Fault::Call { .. } => "Call",
+        Fault::Out => "Out",
+        _ => "another fault",
+    }
+}
+
 // The outcome, or its first fault, by name.
 fn name_of(outcome: &Outcome) -> &'static str {
     match outcome {
@@ -241,31 +91,40 @@ fn name_of(outcome: &Outcome) -> &'static str {
         Outcome::OutOfMemory => "OutOfMemory",
         Outcome::Done(report) => match report.faults.as_slice().first() {
             None => "Done",
-            Some(Fault::Conf { .. }) => "Conf",
-            Some(Fault::Missing(_)) => "Missing",
-            Some(Fault::NotFile(_)) => "NotFile",
-            Some(Fault::Call { .. }) => "Call",
-            Some(_) => "another fault",
+            Some(fault) => fault_name(fault),
         },
     }
 }
 
-fn call(alloc: Global, words: &[&[u8]], host: &mut MemHost) -> Result<Outcome, Fail> {
+// Whether the outcome is a report with these faults.
+fn is_report(outcome: &Outcome, faults: &[&str]) -> bool {
+    let Outcome::Done(report) = outcome else {
+        return false;
+    };
+    let told = report.faults.as_slice();
+    if told.len() != faults.len() {
+        return false;
+    }
+    for at in 0..told.len() {
+        if fault_name(&told[at]) != faults[at] {
+            return false;
+        }
+    }
+    true
+}
+
+fn call(
+    alloc: Global,
+    words: &[&[u8]],
+    host: &mut MemHost,
+    out: &mut MemSink,
+) -> Result<Outcome, Fail> {
     let here = Path::new(alloc, b"/h")?;
     let mut list = Vec::new(alloc);
     for word in words {
         list.push(Text::new(alloc, word)?)?;
     }
-    let mut out = Dropped {};
-    Ok(logrotate(
-        alloc,
-        &list,
-        &here,
-        &Zone::Utc,
-        1_705_190_700,
-        host,
-        &mut out,
-    ))
+    Ok(logrotate(alloc, &list, &here, &Zone::Utc, 1_705_190_700, host, out))
 }
 
 fn has(alloc: Global, host: &MemHost, path: &[u8], bytes: Option<&[u8]>) -> Result<(), Fail> {
@@ -277,9 +136,13 @@ fn has(alloc: Global, host: &MemHost, path: &[u8], bytes: Option<&[u8]>) -> Resu
 
 fn meets(alloc: Global, row: &Row) -> Result<(), Fail> {
     let mut host = host_of(alloc, row.conf, row.files, row.failing)?;
-    let outcome = call(alloc, &[b"-f", b"/etc/c"], &mut host)?;
-    if name_of(&outcome) != row.answer || status(&outcome) != row.status {
+    let mut out = sink_of(alloc, row.failing_put)?;
+    let outcome = call(alloc, &[b"-f", b"/etc/c"], &mut host, &mut out)?;
+    if !is_report(&outcome, row.faults) || status(&outcome) != row.status {
         return Err(Fail::from("another answer"));
+    }
+    if out.bytes() != row.printed {
+        return Err(Fail::from("another text is printed"));
     }
     for (path, bytes) in row.after {
         has(alloc, &host, path, Some(*bytes))?;
@@ -310,11 +173,24 @@ fn words(rt: HostRuntime) -> Result<(), Fail> {
     ];
     for words in rows {
         let mut host = host_of(rt.alloc(), TWO, &[], None)?;
-        let outcome = call(rt.alloc(), words, &mut host)?;
+        let mut out = sink_of(rt.alloc(), None)?;
+        let outcome = call(rt.alloc(), words, &mut host, &mut out)?;
         assert_eq!(rt; name_of(&outcome), "BadWords");
         assert_eq!(rt; status(&outcome), 2);
         assert_eq!(rt; host.calls(), 0);
+        assert_eq!(rt; out.bytes(), b"logrotate: bad command line\n".as_slice());
     }
+    Ok(())
+}
+
+// Without a report the output's fault is passed over.
+#[test]
+fn words_over_a_failing_output(rt: HostRuntime) -> Result<(), Fail> {
+    let mut host = host_of(rt.alloc(), TWO, &[], None)?;
+    let mut out = sink_of(rt.alloc(), Some(0))?;
+    let outcome = call(rt.alloc(), &[b"--frob"], &mut host, &mut out)?;
+    assert_eq!(rt; name_of(&outcome), "BadWords");
+    assert_eq!(rt; out.bytes(), b"".as_slice());
     Ok(())
 }
 
@@ -339,7 +215,8 @@ fn standing(alloc: Global, host: &MemHost, bytes: &[u8]) -> Result<usize, Fail> 
 fn outcome_where(alloc: Global, failing: Failing) -> Result<(bool, &'static str), Fail> {
     let files: Files = &[(b"/v/a.log", b"C"), (b"/v/a.log.1", b"A")];
     let mut host = host_of(alloc, TWO, files, Some(failing))?;
-    let outcome = call(alloc, &[b"-f", b"/etc/c"], &mut host)?;
+    let mut out = sink_of(alloc, None)?;
+    let outcome = call(alloc, &[b"-f", b"/etc/c"], &mut host, &mut out)?;
     for bytes in [b"C".as_slice(), b"A"] {
         if standing(alloc, &host, bytes)? != 1 {
             return Err(Fail::from("a file stands under no name, or under two"));
@@ -397,7 +274,8 @@ fn written(alloc: Global) -> Result<MemHost, Fail> {
 #[test]
 fn writers_act_between_calls(rt: HostRuntime) -> Result<(), Fail> {
     let mut host = written(rt.alloc())?;
-    let outcome = call(rt.alloc(), &[b"-f", b"/etc/c"], &mut host)?;
+    let mut out = sink_of(rt.alloc(), None)?;
+    let outcome = call(rt.alloc(), &[b"-f", b"/etc/c"], &mut host, &mut out)?;
     assert_eq!(rt; name_of(&outcome), "Done");
     let newest = Path::new(rt.alloc(), b"/v/a.log.1")?;
     assert_eq!(rt; host.file(&newest), Some(b"Cwwwwww".as_slice()));

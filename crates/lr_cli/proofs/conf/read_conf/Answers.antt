@@ -2,7 +2,7 @@ use Rattle.std.proofs.Common.{sym, subst}
 use Rattle.lr_host.proofs.Left.{left_both}
 use Rattle.lr_host.proofs.Known.{seen_can_read}
 use Rattle.lr_cli.specs.Looks.{IsFile, IsDir, IsNothingOrOther}
-use Rattle.lr_cli.proofs.Sights.{sees, quiet_look, quiet_reads, quiet_on}
+use Rattle.lr_cli.proofs.Sights.{sees}
 use Rattle.lr_cli.proofs.conf.read_conf.Goals as goal
 
 pub returns-in_default-look-clause-stopped : goal.returns-in_default-look-clause-stopped
@@ -24,4 +24,4 @@ pub returns-in-Err-Call-clause-stopped : goal.returns-in-Err-Call-clause-stopped
 returns-in-Err-Call-clause-stopped g c = left_both (sees c.args.conf.now IsFile c.in-Ok.look c.in-Ok.ensures.told (subst IsFile (sym c.in-Some.is) c.in-File.is)) c.in-Err-Call.ensures.stopped
 
 pub returns-in-Err-Memory-clause-stopped : goal.returns-in-Err-Memory-clause-stopped
-returns-in-Err-Memory-clause-stopped g c = quiet_on (quiet_look c.args.conf.now c.in-Ok.look c.in-Ok.ensures.told) (quiet_reads c.args.conf.now c.in-Err-Memory.ensures.stopped)
+returns-in-Err-Memory-clause-stopped g c = left_both (sees c.args.conf.now IsFile c.in-Ok.look c.in-Ok.ensures.told (subst IsFile (sym c.in-Some.is) c.in-File.is)) c.in-Err-Memory.ensures.stopped

@@ -2,7 +2,7 @@ use Rattle.std.proofs.Common.{inr, List, ℕ, subst, ap, ◌∙◌, Err}
 use Rattle.lr_host.proofs.Left.{left_as}
 use Rattle.lr_cli.specs.Form.{Defines, IsNoForm}
 use Rattle.lr_cli.proofs.Digits.{small_count}
-use Rattle.lr_cli.proofs.Sights.{rule_stopped, quiet_conf}
+use Rattle.lr_cli.proofs.Sights.{rule_stopped, only_reads}
 use Rattle.lr_cli.proofs.conf.read_rule.Goals as goal
 
 pub returns-in-Err-clause-stopped : goal.returns-in-Err-clause-stopped
@@ -26,4 +26,4 @@ returns-in-Err-NoForm-clause-stopped g c = left_as c.in-Ok.ensures.told (λ ts r
 }))
 
 pub returns-clause-stopped : goal.returns-clause-stopped
-returns-clause-stopped g c = quiet_conf c.args.conf.now c.in-Ok.bytes.items c.in-Ok.ensures.told
+returns-clause-stopped g c = left_as c.in-Ok.ensures.told (λ ts r. only_reads c.args.conf.now c.in-Ok.bytes.items ts r)

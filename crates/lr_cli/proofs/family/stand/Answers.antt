@@ -1,21 +1,22 @@
-use Rattle.std.proofs.Common.{◌≡◌, ◌<◌, ℕ, List, [], drop, length, ap, subst}
+use Rattle.std.proofs.Common.{◌≡◌, ◌<◌, inl, ℕ, List, [], drop, length, ap, subst}
 use Rattle.lr_rules.specs.declared.path.Path.{Path}
 use Rattle.lr_cli.specs.Looks.{AreInOrder}
-use Rattle.lr_cli.proofs.Sights.{quiet_none, quiet_list, lists}
-use Rattle.lr_cli.proofs.Looking.{listed_as, stands, reaches, meets, misses}
+use Rattle.lr_cli.proofs.Sights.{lists}
+use Rattle.lr_host.proofs.Left.{left_as}
+use Rattle.lr_cli.proofs.Looking.{may_list, listed_as, stands, reaches, meets, misses}
 use Rattle.lr_cli.proofs.family.stand.Goals as goal
 
 listed : (old new : List (List ℕ)) → old ≡ [] → drop (length old) new ≡ new
 listed old new e = ap (λ (xs : List (List ℕ)). drop (length xs) new) e
 
 pub returns-in-Err-Memory-clause-stopped : goal.returns-in-Err-Memory-clause-stopped
-returns-in-Err-Memory-clause-stopped g c = quiet_none c.in-Err-Memory.ensures.told
+returns-in-Err-Memory-clause-stopped g c = left_as c.in-Err-Memory.ensures.told (λ ts e. inl e)
 
 pub returns-in_default-clause-stopped : goal.returns-in_default-clause-stopped
-returns-in_default-clause-stopped g c = quiet_list c.args.dir.now _ c.in-Ok.ensures.told
+returns-in_default-clause-stopped g c = left_as c.in-Ok.ensures.told (λ ts e. may_list c.args.log.now c.args.dir.now _ ts c.requires.dir e)
 
 pub returns-in_default-paths_in_order-clause-stopped : goal.returns-in_default-paths_in_order-clause-stopped
-returns-in_default-paths_in_order-clause-stopped g c = quiet_list c.args.dir.now _ c.in-Ok.ensures.told
+returns-in_default-paths_in_order-clause-stopped g c = left_as c.in-Ok.ensures.told (λ ts e. may_list c.args.log.now c.args.dir.now _ ts c.requires.dir e)
 
 pub returns-in-Ok-look_at_all-clause-told : goal.returns-in-Ok-look_at_all-clause-told
 returns-in-Ok-look_at_all-clause-told g c =

@@ -1,4 +1,4 @@
-use Rattle.std.proofs.Common.{◌≡◌, ◌<◌, List, length, map, sym, ap, ◌∙◌, subst, None}
+use Rattle.std.proofs.Common.{◌≡◌, ◌<◌, inr, List, length, map, sym, ap, ◌∙◌, subst, None}
 use Rattle.lr_rules.specs.declared.path.Path.{Path}
 use Rattle.lr_rules.specs.Path.{path_fault}
 use Rattle.lr_host.proofs.Left.{left_as}
@@ -8,14 +8,14 @@ use Rattle.lr_cli.specs.declared.step.Step.{Step}
 use Rattle.lr_cli.specs.Acts.{entry_of, StopsBy}
 use Rattle.lr_cli.specs.Rotation.{rotation}
 use Rattle.lr_cli.proofs.Seen.{turn_fits}
-use Rattle.lr_cli.proofs.Turned.{see_stops, quiet_numbers, turns, breaks_off}
+use Rattle.lr_cli.proofs.Turned.{see_stops, turns, breaks_off}
 use Rattle.lr_cli.proofs.rotation.turn.Goals as goal
 
 pub returns-in-Err-clause-stopped : goal.returns-in-Err-clause-stopped
 returns-in-Err-clause-stopped g c = left_as c.in-Err.ensures.stopped (λ ts r. see_stops c.args.log.now c.args.count c.in-Err.stop ts r)
 
 pub returns-in_default-clause-stopped : goal.returns-in_default-clause-stopped
-returns-in_default-clause-stopped g c = left_as c.in-Ok.ensures.told (λ ts s. quiet_numbers c.args.log.now c.in-Ok.numbers.items ts s)
+returns-in_default-clause-stopped g c = left_as c.in-Ok.ensures.told (λ ts s. inr (c.in-Ok.numbers.items, s))
 
 pub take_steps-requires : goal.take_steps-requires
 take_steps-requires g c =

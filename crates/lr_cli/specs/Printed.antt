@@ -1,0 +1,36 @@
+-- What a call prints, and what its report says beside the output's own fault.
+use Rattle.std.specs.Prelude.{ℕ, List, [], ◌∷◌, codes}
+use Rattle.lr_rules.specs.declared.fault.Fault.{Fault}
+use Rattle.lr_rules.specs.declared.fault.Fault.TheVariants as fault
+use Rattle.lr_report.specs.Lines.{line, lines}
+use Rattle.lr_cli.specs.declared.outcome.Outcome.{Outcome}
+use Rattle.lr_cli.specs.declared.outcome.Outcome.TheVariants.{Done, BadWords, Held, OutOfMemory}
+
+-- the fault alone, and nothing for `Out`
+abbrev pub no_out : Fault → List Fault
+no_out fault.Out = []
+no_out f = f ∷ []
+
+-- the faults but a last `Out`
+abbrev pub but_out : List Fault → List Fault
+but_out [] = []
+but_out (f ∷ []) = no_out f
+but_out (f ∷ g ∷ fs) = f ∷ but_out (g ∷ fs)
+
+-- the answer, its `Out` left aside
+abbrev pub without_out : Outcome → Outcome
+without_out (Done report) = Done (record { notices = report.notices; faults = but_out report.faults })
+without_out BadWords = BadWords
+without_out Held = Held
+without_out OutOfMemory = OutOfMemory
+
+-- all that there is to say of an answer: the lines of its report, or one line
+abbrev pub text_of : Outcome → List ℕ
+text_of (Done report) = lines report.notices report.faults
+text_of BadWords = line (codes "bad command line")
+text_of Held = line (codes "state file is locked")
+text_of OutOfMemory = line (codes "out of memory")
+
+-- What is printed of an answer: its text but for the line of `Out`, which only comes where the output failed.
+abbrev pub printed_of : Outcome → List ℕ
+printed_of outcome = text_of (without_out outcome)

@@ -1,0 +1,128 @@
+// What a call prints, and the report that it answers.
+ghost use Rattle.std.specs.Prelude.{◌≡◌, ◌≤◌, ◌<◌, ◌⊎◌, [], Contains, Err, OnErr, OnOk, vec_len, vec_capacity};
+ghost use Rattle.lr_rules.specs.declared.fault.Fault.TheVariants as fault;
+ghost use Rattle.lr_host.specs.Told.{Rose};
+ghost use Rattle.lr_report.specs.Lines.{lines};
+ghost use Rattle.lr_report.specs.Puts.{Took, TookPart};
+ghost use Rattle.lr_cli.specs.declared.outcome.Report.{Report};
+ghost use Rattle.lr_cli.specs.Faults.{answer_of, HasFault};
+ghost use Rattle.lr_cli.specs.Printed.{printed_of, text_of, without_out};
+
+use crate::outcome::{Outcome, Report};
+use crate::run::RunStop;
+use lr_host::{Sink, SinkFault};
+use lr_report::{put_lines, put_said};
+use lr_rules::{Fault, Listed};
+use std::alloc::Global;
+
+/// Puts the lines of a report: of its notices, then of its faults, each in order. It takes no memory, and stops at the
+/// first fault of the output.
+pub fn put_report<K: Sink>(report: &Report, out: &mut K) -> Result<(), SinkFault>
+    ensures whole { OnOk result (Took (lines report.now.notices report.now.faults) (K.taken out.old) (K.taken out.new)) }
+    ensures part { TookPart (lines report.now.notices report.now.faults) (K.taken out.old) (K.taken out.new) }
+    ensures cause { OnErr result (Rose (K.faults out.old) (K.faults out.new)) }
+    ensures counts { K.faults out.old ≤ K.faults out.new }
+{
+    put_lines(report.notices.as_slice(), report.faults.as_slice(), out)
+}
+
+/// Puts all that there is to say of an outcome: the lines of its report, or its one line.
+pub fn put_outcome<K: Sink>(outcome: &Outcome, out: &mut K) -> Result<(), SinkFault>
+    ensures whole { OnOk result (Took (text_of outcome.now) (K.taken out.old) (K.taken out.new)) }
+    ensures part { TookPart (text_of outcome.now) (K.taken out.old) (K.taken out.new) }
+    ensures cause { OnErr result (Rose (K.faults out.old) (K.faults out.new)) }
+    ensures counts { K.faults out.old ≤ K.faults out.new }
+{
+    match outcome {
+        Outcome::Done(report) => put_report(report, out),
+        Outcome::BadWords => put_said(b"bad command line", out),
+        Outcome::Held => put_said(b"state file is locked", out),
+        Outcome::OutOfMemory => put_said(b"out of memory", out),
+    }
+}
+
+/// The outcome, of which all that there is to say was put. The output's faults are ignored: so ends a call that has no
+/// report.
+pub fn printed<K: Sink>(outcome: Outcome, out: &mut K) -> Outcome
+    ensures same { result ≡ outcome }
+    ensures printed { TookPart (text_of outcome) (K.taken out.old) (K.taken out.new) }
+    ensures whole { Took (text_of outcome) (K.taken out.old) (K.taken out.new) ⊎ Rose (K.faults out.old) (K.faults out.new) }
+    ensures counts { K.faults out.old ≤ K.faults out.new }
+{
+    let _ = put_outcome(&outcome, out);
+    outcome
+}
+
+#[tactic(auto, using(crate::proofs::OutAside::all_stay))]
+fn report_of(alloc: Global, faults: Vec<Fault>) -> Outcome
+    requires no_out { Contains faults.items fault.Out → ⊥ }
+    ensures report { result ≡ Outcome.Done (record { notices = []; faults = faults.items }) }
+    ensures faults { without_out result ≡ Outcome.Done (record { notices = []; faults = faults.items }) }
+{
+    Outcome::Done(Report {
+        notices: Listed::new(alloc),
+        faults: Listed::from_vec(faults),
+    })
+}
+
+#[tactic(auto, using(crate::proofs::OutAside::last_goes, crate::proofs::OutAside::has_out))]
+// The report with `Out` behind these faults, for which there is room.
+fn report_with_out(alloc: Global, faults: Vec<Fault>) -> Outcome
+    requires room { vec_len faults < vec_capacity faults }
+    ensures faults { without_out result ≡ Outcome.Done (record { notices = []; faults = faults.items }) }
+    ensures out { HasFault result fault.Out }
+{
+    let mut faults = faults;
+    faults.push(Fault::Out).unwrap();
+    Outcome::Done(Report {
+        notices: Listed::new(alloc),
+        faults: Listed::from_vec(faults),
+    })
+}
+
+#[tactic(auto, using(crate::proofs::OutAside::part_printed, crate::proofs::OutAside::whole_printed))]
+// The report of these faults, which are put. Where the output fails, it has `Out` behind them, for which there is room.
+fn report<K: Sink>(alloc: Global, faults: Vec<Fault>, out: &mut K) -> Outcome
+    requires room { vec_len faults < vec_capacity faults }
+    requires no_out { Contains faults.items fault.Out → ⊥ }
+    ensures faults { without_out result ≡ Outcome.Done (record { notices = []; faults = faults.items }) }
+    ensures printed { TookPart (printed_of result) (K.taken out.old) (K.taken out.new) }
+    ensures broken_off { Took (printed_of result) (K.taken out.old) (K.taken out.new) ⊎ HasFault result fault.Out }
+    ensures out { HasFault result fault.Out → Rose (K.faults out.old) (K.faults out.new) }
+    ensures counts { K.faults out.old ≤ K.faults out.new }
+{
+    match put_lines(&[], &faults, out) {
+        Ok(()) => report_of(alloc, faults),
+        Err(_) => report_with_out(alloc, faults),
+    }
+}
+
+/// The answer of a run that turned its log over, or stopped so, printed. The room is for its one fault and for `Out`, so
+/// no memory is taken here.
+pub fn finish<K: Sink>(
+    alloc: Global,
+    room: Vec<Fault>,
+    run: Result<(), RunStop>,
+    out: &mut K,
+) -> Outcome
+    requires empty { room.items ≡ [] }
+    requires len { vec_len room ≡ 0 }
+    requires room { 2 ≤ vec_capacity room }
+    requires no_out { run ≡ Err (RunStop.Fault fault.Out) → ⊥ }
+    ensures answer { without_out result ≡ answer_of run }
+    ensures printed { TookPart (printed_of result) (K.taken out.old) (K.taken out.new) }
+    ensures whole { Took (printed_of result) (K.taken out.old) (K.taken out.new) ⊎ Rose (K.faults out.old) (K.faults out.new) }
+    ensures broken_off { (report : Report) → result ≡ Outcome.Done report → Took (printed_of result) (K.taken out.old) (K.taken out.new) ⊎ Contains report.faults fault.Out }
+    ensures out { HasFault result fault.Out → Rose (K.faults out.old) (K.faults out.new) }
+    ensures counts { K.faults out.old ≤ K.faults out.new }
+{
+    let mut faults = room;
+    match run {
+        Ok(()) => report(alloc, faults, out),
+        Err(RunStop::Fault(fault)) => {
+            faults.push(fault).unwrap();
+            report(alloc, faults, out)
+        }
+        Err(RunStop::Memory) => printed(Outcome::OutOfMemory, out),
+    }
+}
