@@ -1,0 +1,7 @@
+pub mod Exact
+pub mod Listing
+pub mod Looking
+pub mod Middles
+pub mod Plain
+pub mod Unique
+pub mod Whole

@@ -1,0 +1,14 @@
+use Rattle.std.proofs.Common.{◌≡◌, List, ◌++◌}
+use Rattle.std.specs.Vec.Iter.{into_iter_items}
+use Rattle.lr_host.specs.Told.{Left, NoneFell}
+use Rattle.lr_family.specs.declared.spot.Spot.{Spot}
+use Rattle.lr_family.specs.Looks.{Shows}
+use Rattle.lr_family.proofs.look.look_at_all.Given as goal
+
+abbrev pub invariant-loop-spot : goal.invariant-loop-spot
+invariant-loop-spot g l = record {
+  done : List Spot;
+  seam : into_iter_items l.initial.spot-iterator ≡ done ++ into_iter_items l.spot-iterator;
+  told : Left (Shows done l.members.items) (g.H.Host.told l.initial.host) (g.H.Host.told l.host);
+  counts : NoneFell (g.H.Host.counts l.initial.host) (g.H.Host.counts l.host);
+}

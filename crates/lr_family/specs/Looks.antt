@@ -1,0 +1,90 @@
+-- What looks showed.
+use Rattle.std.specs.Prelude.{◌≡◌, ◌≢◌, ◌⊎◌, ℕ, Bool, true, false, List, [], ◌∷◌, ◌++◌, map, flat_map, All, Option, Some, None}
+use Rattle.lr_rules.specs.declared.path.Path.{Path}
+use Rattle.lr_host.specs.declared.thing.Kind.{Kind}
+use Rattle.lr_host.specs.declared.thing.Kind.TheVariants as kind
+use Rattle.lr_host.specs.declared.thing.Seen.{Seen}
+use Rattle.lr_host.specs.declared.entry.Entry.{Entry}
+use Rattle.lr_host.specs.declared.entry.Entry.TheVariants as entry
+use Rattle.lr_host.specs.Told.{Then, Are}
+use Rattle.lr_family.specs.declared.place.Place.TheVariants as at
+use Rattle.lr_family.specs.declared.spot.Spot.{Spot}
+use Rattle.lr_family.specs.declared.stand.Member.{Member}
+
+-- one look at a path, which saw such a thing
+pub record Sees (path : Path) (P : Option Seen → Type 0) (ts : List Entry) : Type 0 where
+  pub seen : Option Seen
+  pub is : P seen
+  pub look : ts ≡ entry.Look path seen ∷ []
+
+-- nothing was seen, a directory, something else than a directory
+abbrev pub IsNothing : Option Seen → Type 0
+IsNothing seen = seen ≡ None
+
+abbrev pub IsDir : Option Seen → Type 0
+IsDir None = ⊥
+IsDir (Some seen) = seen.kind ≡ kind.Dir
+
+abbrev pub IsNoDir : Option Seen → Type 0
+IsNoDir None = ⊥
+IsNoDir (Some seen) = seen.kind ≢ kind.Dir
+
+-- something else than a regular file; a regular file, or nothing
+abbrev pub IsNoFile : Option Seen → Type 0
+IsNoFile None = ⊥
+IsNoFile (Some seen) = seen.kind ≢ kind.File
+
+abbrev pub IsFileOrGone : Option Seen → Type 0
+IsFileOrGone None = Unit {0}
+IsFileOrGone (Some seen) = seen.kind ≡ kind.File
+
+abbrev pub is_dir_kind : Kind → Bool
+is_dir_kind kind.Dir = true
+is_dir_kind _ = false
+
+-- whether a directory was seen
+abbrev pub is_dir : Option Seen → Bool
+is_dir None = false
+is_dir (Some seen) = is_dir_kind seen.kind
+
+-- A look at a member's path, and what it saw.
+pub record Sight : Type 0 where
+  pub spot : Spot
+  pub seen : Option Seen
+
+abbrev pub look_of : Sight → Entry
+look_of sight = entry.Look sight.spot.path sight.seen
+
+-- the member that was seen, where one was
+abbrev pub seen_at : Spot → Option Seen → List Member
+seen_at spot None = []
+seen_at spot (Some seen) = record { path = spot.path; place = at.Number spot.place; seen = seen } ∷ []
+
+abbrev pub member_of : Sight → List Member
+member_of sight = seen_at sight.spot sight.seen
+
+abbrev pub AreFilesOrGone : List Sight → Type 0
+AreFilesOrGone sights = All (λ sight. IsFileOrGone sight.seen) sights
+
+-- One look at each of these, in order, saw a regular file or nothing; the members are those where it saw a file.
+pub record Shows (spots : List Spot) (members : List Member) (ts : List Entry) : Type 0 where
+  pub sights : List Sight
+  pub each : map (λ sight. sight.spot) sights ≡ spots
+  pub files : AreFilesOrGone sights
+  pub members_are : members ≡ flat_map member_of sights
+  pub looks : ts ≡ map look_of sights
+
+-- The first of these were looked at so, and behind them P holds of the one at this path.
+pub record ShowsTo (spots : List Spot) (path : Path) (P : List Entry → Type 0) (ts : List Entry) : Type 0 where
+  pub before : List Sight
+  pub place : ℕ
+  pub after : List Spot
+  pub each : spots ≡ map (λ sight. sight.spot) before ++ record { place = place; path = path } ∷ after
+  pub files : AreFilesOrGone before
+  pub looks : Then (Are (map look_of before)) P ts
+
+-- The first of these, up to some, were looked at so.
+pub record ShowsSome (ts : List Entry) : Type 0 where
+  pub sights : List Sight
+  pub files : AreFilesOrGone sights
+  pub looks : ts ≡ map look_of sights

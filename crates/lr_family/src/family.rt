@@ -1,0 +1,94 @@
+// A log and the names of its members.
+ghost use Rattle.std.specs.Prelude.{◌≡◌, ◌<◌, ◌+◌, ◌↔◌, ℕ, Some, None, IfOk, IfSome, IfErr, IsErrOf};
+ghost use Rattle.lr_rules.specs.Names.{IsMemberAt};
+ghost use Rattle.lr_host.specs.Told.{Left, NoneFell, Rose};
+ghost use Rattle.lr_family.specs.declared.place.Place.TheVariants as at;
+ghost use Rattle.lr_family.specs.Kin.{IsKin};
+ghost use Rattle.lr_family.specs.Places.{IsPlaceOf};
+ghost use Rattle.lr_family.specs.Stands.{ShowsStand, ShowsStop, IsExactly, IsFailedCall};
+
+use crate::number::{member_path, place_of_path};
+use crate::place::{NameStop, Place};
+use crate::stand::{Stand, StandStop};
+use crate::standing::stand_by;
+use lr_host::Host;
+use lr_rules::{Naming, Path};
+use std::alloc::Global;
+
+/// A log and how its members are named. The directory has at most 2,600 bytes, base and extension together at most 400,
+/// and no `/`, newline or zero byte; so each member's path is a path. The log is no member.
+#[derive(Drop)]
+pub struct Family {
+    log: Path,
+    naming: Naming,
+    ghost kin: { IsKin log naming },
+}
+
+impl Family {
+    /// The family of the log by this naming, without taking memory.
+    pub fn of(log: Path, naming: Naming) -> Family
+        requires kin { IsKin log naming }
+        ensures log { result.log ≡ log }
+        ensures naming { result.naming ≡ naming }
+    {
+        Family { log, naming }
+    }
+
+    /// The log.
+    pub fn log(&self) -> &Path
+        ensures { result.now ≡ self.now.log }
+    {
+        &self.log
+    }
+
+    /// How the members are named.
+    pub fn naming(&self) -> &Naming
+        ensures { result.now ≡ self.now.naming }
+    {
+        &self.naming
+    }
+
+    /// The path of the member at this place, of a numbered family. `TooHigh` comes exactly where its number would be
+    /// above 4,294,967,295.
+    pub fn name_at(&self, alloc: Global, place: u32) -> Result<Path, NameStop>
+        requires numbered { self.now.naming.dated ≡ None }
+        ensures path { IfOk result (λ path. IsMemberAt self.now.naming place path) }
+        ensures too_high { IsErrOf result NameStop.TooHigh ↔ (4294967295 < self.now.naming.start + place) }
+    {
+        let Some(number) = self.naming.start.checked_add(place) else {
+            return Err(NameStop::TooHigh);
+        };
+        match member_path(alloc, &self.naming, number) {
+            Ok(path) => Ok(path),
+            Err(_) => Err(NameStop::Memory),
+        }
+    }
+
+    /// The place of the member with this path, of a numbered family; None exactly where the path is no member's. It
+    /// takes no memory.
+    pub fn place_of(&self, path: &Path) -> Option<Place>
+        requires numbered { self.now.naming.dated ≡ None }
+        ensures member { IfSome result (λ place. IsPlaceOf self.now.naming place path.now) }
+        ensures inverse { (place : ℕ) → (result ≡ Some (at.Number place)) ↔ IsMemberAt self.now.naming place path.now }
+    {
+        match place_of_path(&self.naming, path) {
+            Some(place) => Some(Place::Number(place)),
+            None => None,
+        }
+    }
+
+    /// Which members of a numbered family stand: looks for the directory, lists it, and looks at each member among the
+    /// names, in order of bytes. Where the directory isn't there, looks for its parent. A name that is gone since it was
+    /// listed is no member. `NotFile` comes exactly where the directory is named but is no directory, or a member isn't a
+    /// regular file.
+    pub fn stand<H: Host>(&self, alloc: Global, host: &mut H) -> Result<Stand, StandStop>
+        requires numbered { self.now.naming.dated ≡ None }
+        ensures told { IfOk result (λ stand. Left (ShowsStand self.now.naming stand) (H.told host.old) (H.told host.new)) }
+        ensures stopped { IfErr result (λ stop. Left (ShowsStop self.now.naming stop) (H.told host.old) (H.told host.new)) }
+        ensures exactly { Left (IsExactly self.now.naming result) (H.told host.old) (H.told host.new) }
+        ensures cause { IfErr result (λ stop. IsFailedCall stop → Rose (H.counts host.old).faults (H.counts host.new).faults) }
+        ensures counts { NoneFell (H.counts host.old) (H.counts host.new) }
+    {
+        stand_by(alloc, host, &self.naming)
+    }
+}

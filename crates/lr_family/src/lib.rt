@@ -1,0 +1,31 @@
+//! The names of a log's members, both ways, and which members stand.
+//!
+//! The contract above it: a member's name and its place determine each other, and what `Family::stand` answers is what
+//! its looks showed. Begin with `Family::of`:
+//!
+//! ```text
+//! let family = Family::of(log, naming);
+//! let newest = family.name_at(alloc, 0)?;       // /var/log/app.log.1
+//! let place = family.place_of(&newest);         // Some(Place::Number(0))
+//! ```
+#![tactic(auto)]
+
+mod directory;
+mod family;
+mod kin;
+mod laws;
+mod look;
+mod members;
+mod number;
+mod place;
+mod spot;
+mod stand;
+mod standing;
+#[cfg(test)]
+mod tests;
+
+pub use family::Family;
+pub use kin::are_kin;
+pub use laws::{name_is_read_back, path_is_named_again};
+pub use place::{NameStop, Place};
+pub use stand::{Member, Stand, StandStop};

@@ -1,0 +1,92 @@
+// The looks at a family's members.
+ghost use Rattle.std.specs.Prelude.{◌≡◌, [], ◌∷◌, ◌++◌, IfOk, IfErr, OnOk, Err};
+ghost use Rattle.lr_host.specs.declared.entry.Entry.TheVariants as entry;
+ghost use Rattle.lr_host.specs.Told.{Left, Are, NoneFell, Rose};
+ghost use Rattle.lr_family.specs.Looks.{IsFileOrGone, Shows, seen_at};
+ghost use Rattle.lr_family.specs.Stands.{IsFailedCall};
+ghost use Rattle.lr_family.specs.Stops.{OneStopped, SomeStopped, stop_of};
+
+use crate::place::Place;
+use crate::spot::Spot;
+use crate::stand::{Member, StandStop};
+use lr_host::{Host, Kind, Seen};
+use lr_rules::{CallKind, Memory, Path};
+use std::alloc::Global;
+
+// Why a path isn't seen as a regular file or as nothing.
+#[derive(Clone, Copy, Debug, PartialEq, Eq)]
+pub enum LookStop {
+    /// The look failed.
+    Call,
+    /// It saw another kind of thing.
+    NotFile,
+}
+
+// Looks at one path: a regular file, or nothing.
+fn look_at<H: Host>(host: &mut H, path: &Path) -> Result<Option<Seen>, LookStop>
+    ensures file { IfOk result IsFileOrGone }
+    ensures told { IfOk result (λ seen. Left (Are (entry.Look path.now seen ∷ [])) (H.told host.old) (H.told host.new)) }
+    ensures stopped { IfErr result (λ stop. Left (OneStopped path.now stop) (H.told host.old) (H.told host.new)) }
+    ensures cause { result ≡ Err LookStop.Call → Rose (H.counts host.old).faults (H.counts host.new).faults }
+    ensures counts { NoneFell (H.counts host.old) (H.counts host.new) }
+{
+    let Ok(look) = host.look(path, false) else {
+        return Err(LookStop::Call);
+    };
+    let Some(seen) = look else {
+        return Ok(None);
+    };
+    match seen.kind {
+        Kind::File => Ok(Some(seen)),
+        Kind::Dir => Err(LookStop::NotFile),
+        Kind::Other => Err(LookStop::NotFile),
+    }
+}
+
+// The stop at this path.
+fn stop_at(stop: LookStop, path: Path) -> StandStop
+    ensures { result ≡ stop_of stop path }
+{
+    match stop {
+        LookStop::Call => StandStop::Call(CallKind::Look, path),
+        LookStop::NotFile => StandStop::NotFile(path),
+    }
+}
+
+// Adds the member, where the look saw one: a name that is gone since it was listed is no member.
+fn add_seen(members: &mut Vec<Member>, spot: Spot, seen: Option<Seen>) -> Result<(), Memory>
+    ensures { OnOk result (members.new.items ≡ members.old.items ++ seen_at spot seen) }
+{
+    if let Some(seen) = seen {
+        members.push(Member {
+            path: spot.path,
+            place: Place::Number(spot.place),
+            seen,
+        })?;
+    }
+    Ok(())
+}
+
+/// Looks at each member, in order, and gives those that it saw.
+pub fn look_at_all<H: Host>(
+    alloc: Global,
+    host: &mut H,
+    spots: Vec<Spot>,
+) -> Result<Vec<Member>, StandStop>
+    ensures told { IfOk result (λ members. Left (Shows spots.items members.items) (H.told host.old) (H.told host.new)) }
+    ensures stopped { IfErr result (λ stop. Left (SomeStopped spots.items stop) (H.told host.old) (H.told host.new)) }
+    ensures cause { IfErr result (λ stop. IsFailedCall stop → Rose (H.counts host.old).faults (H.counts host.new).faults) }
+    ensures counts { NoneFell (H.counts host.old) (H.counts host.new) }
+{
+    let mut members = Vec::new(alloc);
+    for spot in spots {
+        let seen = match look_at(host, &spot.path) {
+            Ok(seen) => seen,
+            Err(stop) => return Err(stop_at(stop, spot.path)),
+        };
+        if add_seen(&mut members, spot, seen).is_err() {
+            return Err(StandStop::Memory);
+        }
+    }
+    Ok(members)
+}

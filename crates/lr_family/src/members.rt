@@ -1,0 +1,73 @@
+// The members in a directory that is there.
+ghost use Rattle.std.specs.Prelude.{◌≡◌, [], IfOk, IfErr};
+ghost use Rattle.std.specs.Ordering.{nat_cmp};
+ghost use Rattle.std.specs.List.Sorted.{IsPermutation};
+ghost use Rattle.lr_host.specs.declared.entry.Entry.TheVariants as entry;
+ghost use Rattle.lr_host.specs.Told.{Left, Can, NoneFell, Rose};
+ghost use Rattle.lr_family.specs.Stands.{StandsIn, AreNewestFirst, IsFailedCall, number_in};
+ghost use Rattle.lr_family.specs.Directory.{InStopped};
+
+use crate::look::look_at_all;
+use crate::place::Place;
+use crate::spot::spots_among;
+use crate::stand::{Member, StandStop};
+use lr_host::{Host, ListFault};
+use lr_rules::{CallKind, Naming, Path};
+use std::alloc::Global;
+use std::cmp::Ordering;
+
+// The number of the place.
+fn number_of(place: &Place) -> u32
+    ensures { result ≡ number_in place.now }
+{
+    match *place {
+        Place::Number(number) => number,
+        // A numbered family has no stamps.
+        Place::Stamp(_) => 0,
+    }
+}
+
+fn by_place(a: &Member, b: &Member) -> Ordering
+    ensures { result ≡ nat_cmp (number_in a.now.place) (number_in b.now.place) }
+{
+    number_of(&a.place).cmp(&number_of(&b.place))
+}
+
+fn sort_newest(members: &mut Vec<Member>)
+    ensures same { IsPermutation members.old.items members.new.items }
+    ensures newest { AreNewestFirst members.new.items }
+{
+    members.sort_unstable_by(|a, b| by_place(a, b));
+}
+
+/// Lists the directory of the family, and looks at each member among its names, in order of bytes.
+pub fn members_in<H: Host>(
+    alloc: Global,
+    host: &mut H,
+    naming: &Naming,
+    dir: Path,
+) -> Result<Vec<Member>, StandStop>
+    requires list { Can (H.told host.old) (entry.List dir []) }
+    requires dir { dir ≡ naming.now.dir }
+    ensures told { IfOk result (λ members. Left (StandsIn naming.now members.items) (H.told host.old) (H.told host.new)) }
+    ensures stopped { IfErr result (λ stop. Left (InStopped naming.now stop) (H.told host.old) (H.told host.new)) }
+    ensures cause { IfErr result (λ stop. IsFailedCall stop → Rose (H.counts host.old).faults (H.counts host.new).faults) }
+    ensures counts { NoneFell (H.counts host.old) (H.counts host.new) }
+{
+    let mut names = Vec::new(alloc);
+    match host.list(alloc, &dir, &mut names) {
+        Ok(()) => {}
+        Err(ListFault::Failed) => return Err(StandStop::Call(CallKind::List, dir)),
+        Err(ListFault::Memory) => return Err(StandStop::Memory),
+    }
+    let Ok(spots) = spots_among(alloc, naming, &names) else {
+        return Err(StandStop::Memory);
+    };
+    match look_at_all(alloc, host, spots) {
+        Ok(mut members) => {
+            sort_newest(&mut members);
+            Ok(members)
+        }
+        Err(stop) => Err(stop),
+    }
+}

@@ -1,0 +1,18 @@
+// The places of members, and why a place has no name.
+
+/// The place of a member in its family.
+#[derive(Clone, Copy, Debug, PartialEq, Eq)]
+pub enum Place {
+    /// Of a numbered member: its number less the start; 0 is the newest.
+    Number(u32),
+    /// Of a dated member: the moment of its stamp, in seconds since 1970.
+    Stamp(i64),
+}
+
+/// Why a place has no name.
+#[derive(Clone, Copy, Debug, PartialEq, Eq)]
+pub enum NameStop {
+    /// The member's number would be above 4,294,967,295.
+    TooHigh,
+    Memory,
+}
