@@ -1,10 +1,11 @@
 -- The faults of a report but for its `Out`.
-use Rattle.std.proofs.Common.{◌≡◌, ⊎_elim, ℕ, List, [], ◌∷◌, ◌++◌, refl, sym, ap, subst, arith, Option, Contains}
+use Rattle.std.proofs.Common.{◌≡◌, ⊎_elim, ℕ, List, [], ◌∷◌, ◌++◌, refl, sym, ap, ◌∙◌, subst, arith, Option, Result, Ok, Err, Contains}
 use Rattle.std.proofs.lemmas.List.Elements.{Contains-push, Contains-push_cases, Contains-append_right, Contains-append_left, Contains-append_cases}
 use Rattle.lr_rules.specs.declared.path.Path.{Path}
 use Rattle.lr_rules.specs.declared.fault.CallKind.{CallKind}
 use Rattle.lr_rules.specs.declared.fault.Fault.{Fault}
 use Rattle.lr_rules.specs.declared.fault.Fault.TheVariants as fault
+use Rattle.lr_rules.specs.declared.fault.Notice.{Notice}
 use Rattle.lr_host.specs.declared.entry.Entry.{Entry}
 use Rattle.lr_host.specs.declared.journal.Journal.{Journal}
 use Rattle.lr_host.specs.Told.{Left}
@@ -12,7 +13,10 @@ use Rattle.lr_report.specs.Lines.{lines}
 use Rattle.lr_report.specs.Puts.{Took, TookPart}
 use Rattle.lr_cli.specs.declared.outcome.Outcome.{Outcome}
 use Rattle.lr_cli.specs.declared.outcome.Outcome.TheVariants.{Done, BadWords, Held, OutOfMemory}
-use Rattle.lr_cli.specs.Faults.{HasFault}
+use Rattle.lr_cli.specs.declared.outcome.Report.{Report}
+use Rattle.lr_cli.specs.declared.run.RunStop.{RunStop}
+use Rattle.lr_cli.specs.declared.run.RunStop.TheVariants as run
+use Rattle.lr_cli.specs.Faults.{answer_of, HasFault}
 use Rattle.lr_cli.specs.Printed.{no_out, but_out, without_out, text_of, printed_of}
 
 -- what is in a list of one is that one
@@ -85,6 +89,19 @@ call_has (Done report) kind path h = call_stays report.faults kind path h
 call_has BadWords kind path h = h
 call_has Held kind path h = h
 call_has OutOfMemory kind path h = h
+
+-- no notice is told of a run so far
+abbrev notices_of : Outcome → List Notice
+notices_of (Done report) = report.notices
+notices_of _ = []
+
+none_of_run : (stopped : Result Unit RunStop) → notices_of (answer_of stopped) ≡ []
+none_of_run (Ok x) = refl
+none_of_run (Err (run.Fault f)) = refl
+none_of_run (Err run.Memory) = refl
+
+pub no_notice : (o : Outcome) (stopped : Result Unit RunStop) (report : Report) → without_out o ≡ answer_of stopped → o ≡ Done report → report.notices ≡ []
+no_notice o stopped report e done = ap notices_of (sym (ap without_out done) ∙ e) ∙ none_of_run stopped
 
 -- what is left is the same where the answers are
 pub left_with : (P : Outcome → List Entry → Type 0) (a b : Outcome) (o n : Option Journal) → a ≡ b → Left (P b) o n → Left (P a) o n

@@ -61,6 +61,9 @@ pub fn logrotate<H: Host, K: Sink>(
     ensures out { HasFault result fault.Out → Rose (K.faults out.old) (K.faults out.new) }
     ensures last { ¬ (HasFault (without_out result) fault.Out) }
 
+    // No notices are told so far.
+    ensures notices { (report : Report) → result ≡ Outcome.Done report → report.notices ≡ [] }
+
     // Also where the host tells nothing: the words, want of memory, failed calls.
     ensures bad_words { result ≢ Outcome.OutOfMemory → (result ≡ Outcome.BadWords ↔ ((conf : Path) → AreWords here.now words.now conf → ⊥)) }
     ensures memory { result ≡ Outcome.OutOfMemory → HaveForm words.now }

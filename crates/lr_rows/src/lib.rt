@@ -11,4 +11,6 @@ mod openings;
 #[cfg(test)]
 mod rows;
 #[cfg(test)]
+mod stands;
+#[cfg(test)]
 mod tests;

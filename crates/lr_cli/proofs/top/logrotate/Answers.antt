@@ -10,7 +10,7 @@ use Rattle.lr_cli.proofs.Because.{answered}
 use Rattle.lr_cli.proofs.Exactly.{exactly, goes_well, excused}
 use Rattle.lr_cli.proofs.FamilySeen.{family_turned}
 use Rattle.lr_cli.proofs.NoExcuse.{takes_memory}
-use Rattle.lr_cli.proofs.OutAside.{left_with, from_memory, call_has}
+use Rattle.lr_cli.proofs.OutAside.{left_with, from_memory, call_has, no_notice}
 use Rattle.lr_cli.proofs.top.logrotate.Goals as goal
 
 pub returns-in-Err-Refused-clause-told : goal.returns-in-Err-Refused-clause-told
@@ -74,3 +74,6 @@ returns-clause-turned g c =
 pub returns-clause-call : goal.returns-clause-call
 returns-clause-call g c =
     λ kind path h. c.run_conf-run.ensures.call kind path (subst (λ o. HasFault o (fault.Call kind path)) c.finish.ensures.answer (call_has c.finish.result kind path h))
+
+pub returns-clause-notices : goal.returns-clause-notices
+returns-clause-notices g c = λ report done. no_notice c.finish.result c.run_conf-run.result report c.finish.ensures.answer done
