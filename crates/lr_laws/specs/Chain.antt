@@ -1,13 +1,15 @@
 -- A log with two members whose rule keeps two, and what runs do to it.
-use Rattle.std.specs.Prelude.{◌≡◌, ℕ, List, [], ◌∷◌, None, pos, false, true, codes}
+use Rattle.std.specs.Prelude.{◌≡◌, ℕ, List, [], ◌∷◌, None, pos, false, true, refl, codes}
+use Rattle.std.specs.List.{list_all}
 use Rattle.lr_rules.specs.declared.path.Path.{Path}
 use Rattle.lr_rules.specs.declared.civil.Moment.{Moment}
 use Rattle.lr_rules.specs.declared.rule.Rule.{Rule}
-use Rattle.lr_rules.specs.declared.rule.Rules.{Rules}
+use Rattle.lr_rules.specs.declared.rules.Rules.{Rules}
 use Rattle.lr_rules.specs.declared.rule.Criterion.TheVariants.{Daily}
 use Rattle.lr_rules.specs.declared.rule.Count.TheVariants.{Keep}
 use Rattle.lr_rules.specs.declared.rule.Way.TheVariants.{Rename}
 use Rattle.lr_rules.specs.declared.rule.Make.TheVariants.{No}
+use Rattle.lr_rules.specs.Limits.{meets_limits}
 use Rattle.lr_rules.specs.Names.{naming_of}
 use Rattle.lr_host.specs.declared.journal.Opening.{Opening}
 use Rattle.lr_host.specs.declared.journal.OpenFile.{OpenFile}
@@ -70,8 +72,12 @@ rule = record {
   dated = None;
 }
 
+-- it meets the limits of its values
+pub within_limits : list_all meets_limits (rule ∷ []) ≡ true
+within_limits = refl
+
 abbrev pub rules : Rules
-rules = record { sets = rule ∷ [] }
+rules = record { sets = rule ∷ []; limits = within_limits }
 
 -- a set of this log and of the naming that the rule gives it
 pub record IsOfChain (s : LogSet) : Type 0 where

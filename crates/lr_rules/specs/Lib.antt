@@ -1,4 +1,5 @@
 pub mod Civil
+pub mod Limits
 pub mod Match
 pub mod Names
 pub mod Path

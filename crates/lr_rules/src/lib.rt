@@ -18,6 +18,7 @@ mod listed;
 mod memory;
 mod path;
 mod rule;
+mod rules;
 mod steps;
 #[cfg(test)]
 mod tests;
@@ -30,8 +31,7 @@ pub use fault::{CallKind, ConfKind, Ended, Fault, Notice, Phase, StateKind, Zone
 pub use listed::Listed;
 pub use memory::Memory;
 pub use path::{Path, PathFault};
-pub use rule::{
-    Back, Count, Criterion, Field, Format, Make, Naming, Piece, Rule, Rules, Scripts, Way,
-};
+pub use rule::{Back, Count, Criterion, Field, Format, Make, Naming, Piece, Rule, Scripts, Way};
+pub use rules::Rules;
 pub use steps::Steps;
 pub use text::{Text, TextFault};

@@ -115,12 +115,6 @@ pub struct Rule {
     pub dated: Option<Format>,
 }
 
-/// The definitions of a run, in the order in which they were read.
-#[derive(Drop)]
-pub struct Rules {
-    pub sets: Listed<Rule>,
-}
-
 /// How the members of a log are named.
 #[derive(Drop)]
 pub struct Naming {
