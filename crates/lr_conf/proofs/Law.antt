@@ -14,8 +14,8 @@ use Rattle.lr_conf.specs.declared.said.Said.{Said}
 use Rattle.lr_conf.specs.declared.said.Said.TheVariants as says
 use Rattle.lr_conf.specs.Says.{said}
 use Rattle.lr_conf.specs.Fields.{fields_of}
-use Rattle.lr_conf.specs.Meaning.{Line, Read, Spoiled, End, Past, stands, spoiled, file_ends, Meaning, ◌and◌, nothing, told, conf, list_of, before, through, set_of, set_past, settings, names_past, settles, pending, first_line, first_pending, words_pending, is_end, begins, begun, opened, past, notice_of, fault_of, drops, is_bad, set_in, notice_in, fault_in, ends, opens, rule_of, of_end, of_definition, of_body, of_opening, of_line, meaning, file_of, or_line}
-use Rattle.lr_conf.specs.Fold.{State, run, with_set, with_said, said_inside, outside, turned, default_fields}
+use Rattle.lr_conf.specs.Meaning.{Line, Read, Spoiled, End, Past, stands, spoiled, file_ends, Meaning, ◌and◌, told, conf, list_of, before, through, behind as behind_first, set_of, set_past, settings, names_past, settles, pending, first_line, first_pending, words_pending, is_end, begins, begun, opened, past, notice_of, fault_of, drops, is_bad, set_in, notice_in, fault_in, ends, opens, rule_of, of_end, of_definition, of_body, of_opening, of_line, of_spoilt, meaning, file_of, or_line}
+use Rattle.lr_conf.specs.Draft.{State, run, with_set, with_said, said_inside, outside, turned, default_fields}
 use Rattle.lr_conf.proofs.Settings.{fields-push}
 
 -- ---- one more line outside definitions
@@ -93,7 +93,7 @@ cut (stands at b v ∷ back) = by (settles (stands at b v)) (cut back)
     by : (c : Bool) → before settles (before is_end back) ≡ before settles back → cond c [] (stands at b v ∷ before settles (before is_end back)) ≡ cond c [] (stands at b v ∷ before settles back)
     by true h = refl
     by false h = ap (λ x. stands at b v ∷ x) h
-cut (spoiled ∷ back) = ap (λ x. spoiled ∷ x) (cut back)
+cut (spoiled f ∷ back) = ap (λ x. spoiled f ∷ x) (cut back)
 cut (file_ends ∷ back) = refl
 
 begun-push : (out : List Past) (p : Past) → begun (out ++ p ∷ []) ≡ cond (is_end p) false ((opens p && is_some (opened (first_pending out) p)) || begun out)
@@ -120,7 +120,7 @@ GoodLaw es = (out : List Past) (vs : List Set) (at : ℕ) (ws : List (List ℕ))
     → run (st Good (fields_of (settings out)) ws (Some at) (begun out) (fields_of vs)) es ≡ (of_definition at ws vs es and meaning true out es)
 
 abbrev pub DroppedLaw : List Line → Type 0
-DroppedLaw es = (out : List Past) (ws : List (List ℕ)) (first : Option ℕ) (f : Fields) → run (st Dropped (fields_of (settings out)) ws first (begun out) f) es ≡ meaning true out es
+DroppedLaw es = (out : List Past) (ws : List (List ℕ)) (first : Option ℕ) (f : Fields) → run (st Dropped (fields_of (settings out)) ws first (begun out) f) es ≡ (of_spoilt (before ends es) and meaning true out es)
 
 pub record Laws (es : List Line) : Type 0 where
   pub out : OutsideLaw es
@@ -145,7 +145,7 @@ next es out p d ws first nm f law de we fe ne =
 next_dropped : (es : List Line) (out : List Past) (p : Past) (d : Fields) (nm : Bool) (f : Fields) → DroppedLaw es
     → with_option (set_past p) (fields_of (settings out)) ≡ d
     → cond (is_end p) false ((opens p && is_some (opened (first_pending out) p)) || begun out) ≡ nm
-    → run (st Dropped d [] None nm f) es ≡ meaning true (out ++ p ∷ []) es
+    → run (st Dropped d [] None nm f) es ≡ (of_spoilt (before ends es) and meaning true (out ++ p ∷ []) es)
 next_dropped es out p d nm f law de ne =
     ap (λ x. run (st Dropped x [] None nm f) es) (sym de ∙ sym (defaults-push out p))
     ∙ ap (λ x. run (st Dropped (fields_of (settings (out ++ p ∷ []))) [] None x f) es) (sym ne ∙ sym (begun-push out p))
@@ -212,7 +212,7 @@ brace-law at (says.BadNames k) es l out f = next_dropped es out (stands at true 
 step-law : (p : Past) (es : List Line) → Laws es → (out : List Past) (f : Fields) → run (outside (behind out f) p) es ≡ follows out p es
 step-law (stands at false v) es l out f = plain-law at v es l out f
 step-law (stands at true v) es l out f = brace-law at v es l out f
-step-law spoiled es l out f = stays spoiled es l out f refl refl refl refl refl
+step-law (spoiled e) es l out f = stays (spoiled e) es l out f refl refl refl refl refl
 step-law file_ends es l out f = next es out file_ends _ [] None false f l.out refl refl refl refl
 
 outside-law : (e : Line) (es : List Line) → Laws es → OutsideLaw (e ∷ es)
@@ -224,7 +224,7 @@ dropped-law : (e : Line) (es : List Line) → Laws es → DroppedLaw (e ∷ es)
 dropped-law (Read file (item.Close line)) es l out ws first f = next es out (stands line false says.Close) _ [] None (begun out) f l.out refl refl refl refl
 dropped-law (Read file (item.Line words names brace stray line)) es l out ws first f = l.drop out ws first f
 dropped-law (Read file (item.Script word text brace stray line)) es l out ws first f = l.drop out ws first f
-dropped-law Spoiled es l out ws first f = l.drop out ws first f
+dropped-law (Spoiled e) es l out ws first f = ap (λ m. told (e ∷ []) and m) (l.drop out ws first f)
 dropped-law (End file) es l out ws first f = next es out file_ends _ [] None false f l.out refl refl refl refl
 
 -- ---- definitions that no line dropped so far
@@ -237,13 +237,13 @@ from_line file line v at ws vs es =
       notices = cons_option (notice_of file line v) (filter_map notice_in (cond (is_bad v) [] (through drops (before ends es))));
       faults = cons_option (fault_of file line v) (filter_map fault_in (cond (is_bad v) [] (through drops (before ends es))));
     }
-    and (cond (is_bad v || list_any drops (before ends es)) nothing (of_end at ws (fields_of (vs ++ cons_option (set_of v) (filter_map set_in (before ends es)))) (find ends es)))
+    and (cond (is_bad v || list_any drops (before ends es)) (of_spoilt (cond (is_bad v) (before ends es) (behind_first drops (before ends es)))) (of_end at ws (fields_of (vs ++ cons_option (set_of v) (filter_map set_in (before ends es)))) (find ends es)))
 
 -- the same, with the fields told
 abbrev ended : ℕ → List (List ℕ) → List Line → Fields → Meaning
 ended at ws es f =
     record { rules = []; notices = filter_map notice_in (through drops (before ends es)); faults = filter_map fault_in (through drops (before ends es)) }
-    and (cond (list_any drops (before ends es)) nothing (of_end at ws f (find ends es)))
+    and (cond (list_any drops (before ends es)) (of_spoilt (behind_first drops (before ends es))) (of_end at ws f (find ends es)))
 
 inside-law : (file : Path) (line : ℕ) (v : Said) (es : List Line) → Laws es → (out : List Past) (vs : List Set) (at : ℕ) (ws : List (List ℕ))
     → (said_inside file line v and run (with_said (st Good (fields_of (settings out)) ws (Some at) (begun out) (fields_of vs)) v) es) ≡ (from_line file line v at ws vs es and meaning true out es)
@@ -267,7 +267,7 @@ good-law (Read file (item.Close line)) es l out vs at ws =
     ∙ ap (λ s. record { rules = rule_of file at ws (fields_of s) ∷ []; notices = []; faults = [] } and meaning false (out ++ stands line false says.Close ∷ []) es) (sym (append-nil vs))
 good-law (Read file (item.Line words names brace stray line)) es l out vs at ws = inside-law file line (said true (item.Line words names brace stray line)) es l out vs at ws
 good-law (Read file (item.Script word text brace stray line)) es l out vs at ws = inside-law file line (said true (item.Script word text brace stray line)) es l out vs at ws
-good-law Spoiled es l out vs at ws = l.drop out ws (Some at) (fields_of vs)
+good-law (Spoiled e) es l out vs at ws = ap (λ m. told (e ∷ []) and m) (l.drop out ws (Some at) (fields_of vs))
 good-law (End file) es l out vs at ws =
     ap (λ m. told (conf file kind.NoBrace at ∷ []) and m) (next es out file_ends _ [] None false (fields_of vs) l.out refl refl refl refl)
 

@@ -8,4 +8,6 @@ pub mod Law
 pub mod Each
 pub mod KeptNames
 pub mod LogWords
+pub mod Plain
 pub mod Limits
+pub mod OneLog

@@ -1,277 +1,106 @@
--- The values that lines set, and so those of rules, meet their limits.
-use Rattle.std.proofs.Common.{◌≡◌, ℕ, ◌≤◌, Bool, true, false, cond, not, ◌&&◌, List, [], ◌∷◌, ◌++◌, reverse, Option, Some, None, option_map, All, refl, arith}
-use Rattle.std.specs.List.{AllByRecursion as Each, filter_map, flat_map, list_any, find}
-use Rattle.std.proofs.lemmas.List.Elements.{All-from_recursion}
+-- Each rule meets the limits of its values, whichever lines come.
+use Rattle.std.proofs.Common.{◌≡◌, ℕ, ◌≤◌, Bool, true, false, cond, not, ◌&&◌, List, [], ◌∷◌, length, Option, Some, None, Result, Ok, Err, MatchOption, nat_le, nat_lt, refl, ap, sym, ◌∙◌, arith}
+use Rattle.std.specs.List.{AllByRecursion as Each, list_all}
 use Rattle.std.proofs.lemmas.Bool.Decides.{nat_tests}
-use Rattle.lr_lex.specs.declared.item.Item.{Item}
-use Rattle.lr_lex.specs.declared.item.Item.TheVariants as item
-use Rattle.lr_lex.specs.declared.word.Word.{Word}
+use Rattle.std.proofs.lemmas.List.Elements.{recursion_from_All}
+use Rattle.std.specs.Str.{is_utf8}
 use Rattle.lr_rules.specs.declared.path.Path.{Path}
+use Rattle.lr_rules.specs.declared.path.PathFault.TheVariants as fault
 use Rattle.lr_rules.specs.declared.fault.ConfKind.{ConfKind}
-use Rattle.lr_rules.specs.declared.fault.ConfKind.TheVariants as kind
+use Rattle.lr_rules.specs.declared.fault.Fault.{Fault}
+use Rattle.lr_rules.specs.declared.rule.Count.{Count}
 use Rattle.lr_rules.specs.declared.rule.Count.TheVariants as count
-use Rattle.lr_rules.specs.declared.rule.Make.TheVariants as make
-use Rattle.lr_rules.specs.Match.{is_wildcard}
-use Rattle.lr_tables.specs.declared.directive.Directive.{Directive}
-use Rattle.lr_tables.specs.declared.directive.Directive.TheVariants as is
-use Rattle.lr_conf.specs.declared.fields.Fields.{Fields}
-use Rattle.lr_conf.specs.declared.form.Form.{Form}
-use Rattle.lr_conf.specs.declared.form.Form.TheVariants as form
-use Rattle.lr_conf.specs.declared.set.Set.{Set}
-use Rattle.lr_conf.specs.declared.set.Set.TheVariants as set
-use Rattle.lr_conf.specs.declared.said.Said.{Said}
-use Rattle.lr_conf.specs.declared.said.Said.TheVariants as says
-use Rattle.lr_conf.specs.Forms.{form_of}
-use Rattle.lr_conf.specs.Values.{is_number, number_of, is_too_large, is_log_name, kept_name}
-use Rattle.lr_conf.specs.Says.{directive_of, checks, first_fault, count_says, means, or_bad, by_form, texts, words_say, name_says, names_say, said}
-use Rattle.lr_conf.specs.Fields.{fields_of, last_set, count_set, olddir_set, createolddir_set, create_set, mail_set}
-use Rattle.lr_conf.specs.Meaning.{Line, Read, Spoiled, End, Past, stands, spoiled, file_ends, Meaning, nothing, set_of, set_past, settings, names_past, settles, pending, words_pending, first_pending, words_with, opened, opens, judged, past_of, past, has_name, before, ends, drops, set_in, rule_of, of_end, of_body, of_opening, meaning}
-use Rattle.lr_conf.specs.Limits.{IsLogWord, IsSmallCount, MeetsLimits}
-use Rattle.lr_conf.proofs.Each.{append, backwards, front, Given, one_more, mapped, last}
-use Rattle.lr_conf.proofs.LogWords.{log_word}
+use Rattle.lr_rules.specs.declared.rule.Rule.{Rule}
+use Rattle.lr_rules.specs.Path.{path_fault, is_absolute, has_bad_byte, has_empty_part, has_dot_part}
+use Rattle.lr_rules.specs.Match.{literal_path}
+use Rattle.lr_rules.specs.Limits.{is_path_text, can_be_log, is_literal_word, is_pattern_word, is_log_word, is_count, meets_limits}
+use Rattle.lr_conf.specs.declared.draft.Draft.{Draft}
+use Rattle.lr_conf.specs.declared.stop.Include.{Include}
+use Rattle.lr_conf.specs.declared.stop.LayerStop.{LayerStop}
+use Rattle.lr_conf.specs.declared.stop.LayerStop.TheVariants as stop
+use Rattle.lr_conf.specs.Meaning.{Line, End, Meaning, ◌and◌, told, conf, meaning}
+use Rattle.lr_conf.specs.Draft.{coming_from, TookIn, faults_of}
+use Rattle.lr_conf.specs.Plain.{IsLogWord, IsSmallCount, IsPlainRule}
+use Rattle.lr_conf.proofs.Plain.{plain}
 
--- ---- what a line says
+-- ---- values
 
-abbrev OkSet : Set → Type 0
-OkSet (set.Count c) = IsSmallCount c
-OkSet (set.Olddir dir) = dir ≡ None
-OkSet (set.CreateOlddir m) = m ≡ make.No
-OkSet (set.Create m) = m ≡ make.No
-OkSet (set.Mail address) = address ≡ None
-OkSet s = Unit {0}
-
-abbrev OkSaid : Said → Type 0
-OkSaid (says.Sets v) = OkSet v
-OkSaid (says.Names ws) = Each IsLogWord ws
-OkSaid s = Unit {0}
-
-abbrev OkForm : Form → Type 0
-OkForm (form.Plain v) = OkSet v
-OkForm f = Unit {0}
-
-form_ok : (d : Directive) → OkForm (form_of d)
-form_ok is.Noolddir = refl
-form_ok is.Nocreateolddir = refl
-form_ok is.Nocreate = refl
-form_ok is.Nomail = refl
-form_ok d = tt
-
-small : (v : List ℕ) → is_too_large v ≡ false → number_of v ≤ 999999
-unfolding is_too_large
-small v h = grind (arith, nat_tests)
-
-count_ok : (vs : List (List ℕ)) → OkSaid (count_says vs)
-count_ok [] = tt
-count_ok (v ∷ vs) = by (is_number v) (is_too_large v) refl
+path_text : (bytes : List ℕ) → path_fault bytes ≡ None → is_path_text bytes ≡ true
+unfolding path_fault
+path_text bytes h = by (is_utf8 bytes) (has_bad_byte bytes) (nat_lt 4096 (length bytes)) (is_absolute bytes) (has_empty_part bytes) (has_dot_part bytes) h
   where
-    by : (n large : Bool) → is_too_large v ≡ large → OkSaid (cond (not n) (says.Bad kind.BadNumber) (cond large (says.Bad kind.TooLarge) (says.Sets (set.Count (count.Keep (number_of v))))))
-    by false large h = tt
-    by true true h = tt
-    by true false h = small v h
+    by : (utf8 bad long absolute empty dot : Bool)
+        → cond (not utf8) (Some fault.NotUtf8) (cond bad (Some fault.BadByte) (cond long (Some fault.TooLong) (cond (not absolute) (Some fault.Relative) (cond empty (Some fault.EmptyPart) (cond dot (Some fault.DotPart) None))))) ≡ None
+        → (not bad && (absolute && (not empty && not dot))) ≡ true
+    by false bad long absolute empty dot h = absurd (cc)
+    by true true long absolute empty dot h = absurd (cc)
+    by true false true absolute empty dot h = absurd (cc)
+    by true false false false empty dot h = absurd (cc)
+    by true false false true true dot h = absurd (cc)
+    by true false false true false true h = absurd (cc)
+    by true false false true false false h = refl
 
-means_ok : (f : Form) (word : List ℕ) (vs : List (List ℕ)) → OkForm f → OkSaid (means f word vs)
-means_ok form.Passed word vs ok = tt
-means_ok form.Count word vs ok = count_ok vs
-means_ok (form.Plain v) word vs ok = ok
-means_ok f word vs ok = tt
+word_meets : (word : List ℕ) → IsLogWord word → is_log_word word ≡ true
+word_meets word w =
+    ap (λ b. cond b (is_pattern_word word) (is_literal_word word)) w.no_pattern
+    ∙ ap (λ b. b && can_be_log (literal_path word)) (path_text (literal_path word) w.path)
+    ∙ w.log
 
-form_says_ok : (inside brace stray : Bool) (word : List ℕ) (vs : List (List ℕ)) (o : Option Directive) → OkSaid (by_form inside brace stray word vs (option_map form_of o))
-form_says_ok inside brace stray word vs None = tt
-form_says_ok inside brace stray word vs (Some d) = by (first_fault (checks inside brace stray (form_of d) vs))
-  where
-    by : (o : Option ConfKind) → OkSaid (or_bad o (means (form_of d) word vs))
-    by None = means_ok (form_of d) word vs (form_ok d)
-    by (Some k) = tt
+words_meet : (words : List (List ℕ)) → Each IsLogWord words → list_all is_log_word words ≡ true
+words_meet [] a = refl
+words_meet (w ∷ ws) a = ap (λ b. b && list_all is_log_word ws) (word_meets w a.0) ∙ words_meet ws a.1
 
-words_ok : (inside brace stray : Bool) (ws : List Word) → OkSaid (words_say inside brace stray ws)
-words_ok true brace stray [] = tt
-words_ok false brace stray [] = tt
-words_ok inside brace stray (w ∷ ws) = by (inside && brace)
-  where
-    by : (b : Bool) → OkSaid (cond b (says.Bad kind.NestedBrace) (by_form inside brace stray w.text (texts ws) (option_map form_of (directive_of w.text))))
-    by true = tt
-    by false = form_says_ok inside brace stray w.text (texts ws) (directive_of w.text)
+small : (n : ℕ) → n ≤ 999999 → nat_le n 999999 ≡ true
+small n h = grind (arith, nat_tests)
 
-name_ok : (stray : Bool) (name : List ℕ) → OkSaid (name_says stray name)
-name_ok stray name = by (is_wildcard name) stray (is_log_name name) refl refl
-  where
-    by : (wild stray log : Bool) → is_wildcard name ≡ wild → is_log_name name ≡ log
-        → OkSaid (cond wild (says.BadNames kind.NotYet) (cond stray (says.BadNames kind.Stray) (cond (not log) (says.BadNames kind.BadPath) (says.Names (kept_name name ∷ [])))))
-    by true stray log w l = tt
-    by false true log w l = tt
-    by false false false w l = tt
-    by false false true w l = (log_word name w l, tt)
+count_meets : (c : Count) → IsSmallCount c → is_count c ≡ true
+count_meets (count.Keep n) h = small n h
+count_meets count.Always h = refl
 
-names_ok : (stray : Bool) (ws : List Word) → OkSaid (names_say stray ws)
-names_ok stray [] = tt
-names_ok stray (w ∷ []) = name_ok stray w.text
-names_ok stray (w ∷ v ∷ ws) = tt
+rule_meets : (r : Rule) → IsPlainRule r → meets_limits r ≡ true
+rule_meets r p =
+    let words : list_all is_log_word r.words ≡ true = words_meet r.words (recursion_from_All IsLogWord r.words p.words) in
+    let count : is_count r.count ≡ true = count_meets r.count p.count in
+    rw (words, p.criterion, count, p.maxage, p.minage, p.minsize, p.maxsize, p.start, p.extension, p.addextension, p.olddir, p.createolddir, p.create, p.mail, p.dated) refl
 
-said_ok : (inside : Bool) (i : Item) → OkSaid (said inside i)
-said_ok inside (item.Close line) = tt
-said_ok true (item.Script word text brace stray line) = tt
-said_ok false (item.Script word text brace stray line) = tt
-said_ok inside (item.Line ws false brace stray line) = words_ok inside brace stray ws
-said_ok true (item.Line ws true brace stray line) = tt
-said_ok false (item.Line ws true brace stray line) = names_ok stray ws
+rules_meet : (rs : List Rule) → Each IsPlainRule rs → list_all meets_limits rs ≡ true
+rules_meet [] a = refl
+rules_meet (r ∷ rs) a = ap (λ b. b && list_all meets_limits rs) (rule_meets r a.0) ∙ rules_meet rs a.1
 
-judged_ok : (v : Said) (named : Bool) → OkSaid v → OkSaid (judged v named)
-judged_ok (says.Names ws) true ok = tt
-judged_ok (says.Names ws) false ok = ok
-judged_ok (says.BadNames k) true ok = tt
-judged_ok (says.BadNames k) false ok = tt
-judged_ok v named ok = ok
+pub limits : (lines : List Line) → list_all meets_limits (meaning false [] lines).rules ≡ true
+limits lines = rules_meet (meaning false [] lines).rules (plain lines)
 
-abbrev OkPast : Past → Type 0
-OkPast (stands at brace v) = OkSaid v
-OkPast p = Unit {0}
+-- ---- drafts
 
-past_ok : (named : Bool) (e : Line) → OkPast (past_of named e)
-past_ok named (Read file i) = judged_ok (said false i) named (said_ok false i)
-past_ok named Spoiled = tt
-past_ok named (End file) = tt
+-- whichever lines come, each rule meets its limits
+abbrev pub Limited : Draft → Type 0
+Limited d = (lines : List Line) → list_all meets_limits (coming_from d lines).rules ≡ true
 
--- ---- settings and names
+abbrev all_meet : Meaning → Bool
+all_meet m = list_all meets_limits m.rules
 
-set_ok : (v : Said) → OkSaid v → Given OkSet (set_of v)
-set_ok (says.Sets v) ok = ok
-set_ok v ok = tt
+pub from_new : (d : Draft) → ((lines : List Line) → coming_from d lines ≡ meaning false [] lines) → Limited d
+from_new d e lines = ap all_meet (e lines) ∙ limits lines
 
-set_past_ok : (p : Past) → OkPast p → Given OkSet (set_past p)
-set_past_ok (stands at brace v) ok = set_ok v ok
-set_past_ok spoiled ok = tt
-set_past_ok file_ends ok = tt
+pub from_same : (old new : Draft) → ((lines : List Line) → coming_from new lines ≡ coming_from old lines) → Limited old → Limited new
+from_same old new e h lines = ap all_meet (e lines) ∙ h lines
 
-set_in_ok : (e : Line) → Given OkSet (set_in e)
-set_in_ok (Read file i) = set_ok (said true i) (said_ok true i)
-set_in_ok Spoiled = tt
-set_in_ok (End file) = tt
+pub behind_silent : (old new : Draft) (e : Line) → ((lines : List Line) → coming_from old (e ∷ lines) ≡ coming_from new lines) → Limited old → Limited new
+behind_silent old new e is h lines = sym (ap all_meet (is lines)) ∙ h (e ∷ lines)
 
-body_ok : (es : List Line) → Each OkSet (filter_map set_in es)
-body_ok [] = tt
-body_ok (e ∷ es) = one_more OkSet (set_in e) (filter_map set_in es) (set_in_ok e) (body_ok es)
+pub behind_told : (old new : Draft) (e : Line) (faults : List Fault) → ((lines : List Line) → coming_from old (e ∷ lines) ≡ (told faults and coming_from new lines)) → Limited old → Limited new
+behind_told old new e faults is h lines = sym (ap all_meet (is lines)) ∙ h (e ∷ lines)
 
-abbrev OkNames : (ℕ × List (List ℕ)) → Type 0
-OkNames n = Each IsLogWord n.1
+pub behind_line : (old new : Draft) (file : Path) (e : Line) (r : Result (Option Include) LayerStop) → TookIn old new file e r → Limited old → Limited new
+behind_line old new file e (Ok None) is h = behind_silent old new e is h
+behind_line old new file e (Ok (Some include)) is h = absurd is
+behind_line old new file e (Err stop.Memory) is h = from_same old new is h
+behind_line old new file e (Err (stop.Conf at k)) is h = behind_told old new e (faults_of file (stop.Conf at k)) is h
+behind_line old new file e (Err (stop.NoBraceAnd first at k)) is h = behind_told old new e (faults_of file (stop.NoBraceAnd first at k)) is h
 
-names_past_ok : (p : Past) → OkPast p → Given OkNames (names_past p)
-names_past_ok (stands at brace (says.Names ws)) ok = ok
-names_past_ok p ok = tt
-
-joined_ok : (ns : List (ℕ × List (List ℕ))) → Each OkNames ns → Each IsLogWord (flat_map (λ n. n.1) ns)
-joined_ok [] ok = tt
-joined_ok (n ∷ ns) ok = append IsLogWord n.1 (flat_map (λ n. n.1) ns) ok.0 (joined_ok ns ok.1)
-
-words_pending_ok : (out : List Past) → Each OkPast out → Each IsLogWord (words_pending out)
-words_pending_ok out ok =
-    joined_ok (pending out)
-    (mapped OkPast OkNames names_past names_past_ok (reverse (before settles (reverse out)))
-    (backwards OkPast (before settles (reverse out)) (front OkPast settles (reverse out) (backwards OkPast out ok))))
-
-words_with_ok : (words : List (List ℕ)) (p : Past) → Each IsLogWord words → OkPast p → Each IsLogWord (words_with words p)
-words_with_ok words (stands at brace (says.Names ws)) a ok = append IsLogWord words ws a ok
-words_with_ok words p a ok = a
-
--- ---- rules
-
-pub record OkFields (f : Fields) : Type 0 where
-  pub count : IsSmallCount f.count
-  pub olddir : f.olddir ≡ None
-  pub createolddir : f.createolddir ≡ make.No
-  pub create : f.create ≡ make.No
-  pub mail : f.mail ≡ None
-
-count_given : (v : Set) → OkSet v → Given IsSmallCount (count_set v)
-count_given (set.Count c) ok = ok
-count_given v ok = tt
-
-olddir_given : (v : Set) → OkSet v → Given (λ o. o ≡ None) (olddir_set v)
-olddir_given (set.Olddir dir) ok = ok
-olddir_given v ok = tt
-
-createolddir_given : (v : Set) → OkSet v → Given (λ m. m ≡ make.No) (createolddir_set v)
-createolddir_given (set.CreateOlddir m) ok = ok
-createolddir_given v ok = tt
-
-create_given : (v : Set) → OkSet v → Given (λ m. m ≡ make.No) (create_set v)
-create_given (set.Create m) ok = ok
-create_given v ok = tt
-
-mail_given : (v : Set) → OkSet v → Given (λ o. o ≡ None) (mail_set v)
-mail_given (set.Mail address) ok = ok
-mail_given v ok = tt
-
-last_given : {A : Type 0} (P : A → Type 0) (sets : Set → Option A) (d : A) → P d → ((v : Set) → OkSet v → Given P (sets v)) → (vs : List Set) → Each OkSet vs → P (last_set sets d vs)
-last_given P sets d h given vs ok = last P d (filter_map sets vs) h (mapped OkSet P sets given vs ok)
-
-fields_ok : (vs : List Set) → Each OkSet vs → OkFields (fields_of vs)
-fields_ok vs ok = record {
-  count = last_given IsSmallCount count_set (count.Keep 0) (omega arith) count_given vs ok;
-  olddir = last_given (λ o. o ≡ None) olddir_set None refl olddir_given vs ok;
-  createolddir = last_given (λ m. m ≡ make.No) createolddir_set make.No refl createolddir_given vs ok;
-  create = last_given (λ m. m ≡ make.No) create_set make.No refl create_given vs ok;
-  mail = last_given (λ o. o ≡ None) mail_set None refl mail_given vs ok;
-}
-
-rule_ok : (file : Path) (at : ℕ) (words : List (List ℕ)) (f : Fields) → Each IsLogWord words → OkFields f → MeetsLimits (rule_of file at words f)
-rule_ok file at words f w ok = record {
-  words = All-from_recursion IsLogWord words w;
-  count = ok.count;
-  olddir = ok.olddir;
-  createolddir = ok.createolddir;
-  create = ok.create;
-  mail = ok.mail;
-  start = refl;
-  extension = refl;
-  addextension = refl;
-  maxage = refl;
-  minage = refl;
-  minsize = refl;
-  maxsize = refl;
-}
-
--- ---- meanings
-
-abbrev Rules : Meaning → Type 0
-Rules m = Each MeetsLimits m.rules
-
-end_ok : (at : ℕ) (words : List (List ℕ)) (f : Fields) (o : Option Line) → Each IsLogWord words → OkFields f → Rules (of_end at words f o)
-end_ok at words f None w ok = tt
-end_ok at words f (Some (Read file i)) w ok = (rule_ok file at words f w ok, tt)
-end_ok at words f (Some Spoiled) w ok = tt
-end_ok at words f (Some (End file)) w ok = tt
-
-either : (b : Bool) (m n : Meaning) → Rules m → Rules n → Rules (cond b m n)
-either true m n a c = a
-either false m n a c = c
-
-body_means_ok : (o : Option ℕ) (words : List (List ℕ)) (vs : List Set) (es : List Line) → Each IsLogWord words → Each OkSet vs → Rules (of_body o words vs es)
-body_means_ok None words vs es w ok = tt
-body_means_ok (Some at) words vs es w ok =
-    let body = before ends es in
-    let f = fields_of (vs ++ filter_map set_in body) in
-    either (list_any drops body) nothing (of_end at words f (find ends es)) tt
-    (end_ok at words f (find ends es) w (fields_ok (vs ++ filter_map set_in body) (append OkSet vs (filter_map set_in body) ok (body_ok body))))
-
-opening_ok : (out : List Past) (p : Past) (es : List Line) → Each OkPast out → OkPast p → Rules (of_opening out p es)
-opening_ok out p es ok here =
-    either (opens p) (of_body (opened (first_pending out) p) (words_with (words_pending out) p) (settings (out ++ p ∷ [])) es) nothing
-    (body_means_ok (opened (first_pending out) p) (words_with (words_pending out) p) (settings (out ++ p ∷ [])) es
-    (words_with_ok (words_pending out) p (words_pending_ok out ok) here)
-    (mapped OkPast OkSet set_past set_past_ok (out ++ p ∷ []) (append OkPast out (p ∷ []) ok (here, tt))))
-    tt
-
-meaning_ok : (es : List Line) (inside : Bool) (out : List Past) → Each OkPast out → Rules (meaning inside out es)
-meaning_ok [] true out ok = tt
-meaning_ok [] false out ok = tt
-meaning_ok (e ∷ es) true out ok =
-    either (ends e) (meaning false (out ++ past out e ∷ []) es) (meaning true out es)
-    (meaning_ok es false (out ++ past out e ∷ []) (append OkPast out (past out e ∷ []) ok (past_ok (has_name out) e, tt)))
-    (meaning_ok es true out ok)
-meaning_ok (e ∷ es) false out ok =
-    append MeetsLimits (of_opening out (past out e) es).rules (meaning (opens (past out e)) (out ++ past out e ∷ []) es).rules
-    (opening_ok out (past out e) es ok (past_ok (has_name out) e))
-    (meaning_ok es (opens (past out e)) (out ++ past out e ∷ []) (append OkPast out (past out e ∷ []) ok (past_ok (has_name out) e, tt)))
-
-pub limits : (lines : List Line) → All MeetsLimits (meaning false [] lines).rules
-limits lines = All-from_recursion MeetsLimits (meaning false [] lines).rules (meaning_ok lines false [] tt)
+-- what the end of a file answers
+pub behind_end : (old new : Draft) (file : Path) (r : Option (ℕ × ConfKind))
+    → MatchOption r ((lines : List Line) → coming_from old (End file ∷ lines) ≡ coming_from new lines) (λ t. (lines : List Line) → coming_from old (End file ∷ lines) ≡ (told (conf file t.1 t.0 ∷ []) and coming_from new lines))
+    → Limited old → Limited new
+behind_end old new file None is h = behind_silent old new (End file) is h
+behind_end old new file (Some t) is h = behind_told old new (End file) (conf file t.1 t.0 ∷ []) is h

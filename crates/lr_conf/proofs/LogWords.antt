@@ -3,9 +3,10 @@ use Rattle.std.proofs.Common.{◌≡◌, ℕ, Bool, true, false, cond, ◌&&◌,
 use Rattle.lr_rules.specs.declared.path.PathFault.{PathFault}
 use Rattle.lr_rules.specs.declared.path.PathFault.TheVariants as fault
 use Rattle.lr_rules.specs.Path.{path_fault, word_fault, is_absolute, is_empty, kept_parts, or_root, cleaned}
+use Rattle.lr_rules.specs.Limits.{can_be_log}
 use Rattle.lr_rules.specs.Match.{is_wildcard, literal_path}
-use Rattle.lr_conf.specs.Values.{root, can_be_log, names_log, is_log_name, kept_name}
-use Rattle.lr_conf.specs.Limits.{IsLogWord}
+use Rattle.lr_conf.specs.Values.{root, names_log, is_log_name, kept_name}
+use Rattle.lr_conf.specs.Plain.{IsLogWord}
 use Rattle.lr_conf.proofs.Numbers.{both}
 use Rattle.lr_conf.proofs.KeptNames.{path_of_kept, plain_kept}
 

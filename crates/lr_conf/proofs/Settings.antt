@@ -11,7 +11,7 @@ use Rattle.lr_conf.specs.declared.fields.Fields.{Fields}
 use Rattle.lr_conf.specs.declared.set.Set.{Set}
 use Rattle.lr_conf.specs.declared.set.Set.TheVariants as set
 use Rattle.lr_conf.specs.Fields.{fields_of, last_or, last_set, criterion_set, count_set, ifempty_set, missingok_set, olddir_set, createolddir_set, create_set, mail_set, mailfirst_set, shared_set, dated_set, names_way, undoes, way_of}
-use Rattle.lr_conf.specs.Fold.{with_set, without}
+use Rattle.lr_conf.specs.Draft.{with_set, without}
 
 abbrev given_or : {A : Type 0} → Option A → A → A
 given_or None d = d

@@ -3,5 +3,6 @@ pub mod Values
 pub mod Says
 pub mod Fields
 pub mod Meaning
+pub mod Draft
 pub mod Fold
-pub mod Limits
+pub mod Plain

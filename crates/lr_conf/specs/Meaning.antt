@@ -25,21 +25,22 @@ use Rattle.lr_conf.specs.Fields.{fields_of}
 
 -- ---- lines
 
--- A line of a file, as an item; a line with a fault that its reading told; the end of a file.
+-- A line of a file, as an item; a line with the fault that its reading told; the end of a file.
 pub data Line : Type 0 where
   Read : Path → Item → Line
-  Spoiled : Line
+  Spoiled : Fault → Line
   End : Path → Line
 
 abbrev pub file_of : Line → Path
 file_of (Read file i) = file
-file_of Spoiled = []
+file_of (Spoiled f) = []
 file_of (End file) = file
 
--- A line outside definitions, as it was read there: its number, whether it ends with a brace, and what it says.
+-- A line outside definitions, as it was read there: its number, whether it ends with a brace, and what it says; or the
+-- fault that its reading told.
 pub data Past : Type 0 where
   stands : ℕ → Bool → Said → Past
-  spoiled : Past
+  spoiled : Fault → Past
   file_ends : Past
 
 -- ---- parts of a list
@@ -53,6 +54,11 @@ before p (e ∷ es) = if p e then [] else (e ∷ before p es)
 abbrev pub through : {A : Type 0} → (A → Bool) → List A → List A
 through p [] = []
 through p (e ∷ es) = e ∷ (if p e then [] else through p es)
+
+-- what stands behind the first that passes p
+abbrev pub behind : {A : Type 0} → (A → Bool) → List A → List A
+behind p [] = []
+behind p (e ∷ es) = if p e then es else behind p es
 
 abbrev pub list_of : {A : Type 0} → Option A → List A
 list_of None = []
@@ -151,7 +157,7 @@ judged s named = s
 
 abbrev pub past_of : Bool → Line → Past
 past_of named (Read file i) = stands (line_of i) (has_brace i) (judged (said false i) named)
-past_of named Spoiled = spoiled
+past_of named (Spoiled f) = spoiled f
 past_of named (End file) = file_ends
 
 -- how a line is read outside definitions, behind these
@@ -191,6 +197,7 @@ own_fault file first (stands at brace says.Open) = stray_at file first at
 own_fault file first (stands at brace says.Unknown) = conf file kind.Unknown at ∷ []
 own_fault file first (stands at brace (says.Bad k)) = conf file k at ∷ []
 own_fault file first (stands at brace (says.BadNames k)) = conf file k at ∷ []
+own_fault file first (spoiled f) = f ∷ []
 own_fault file first p = []
 
 abbrev pub line_faults : Path → Option ℕ → Past → List Fault
@@ -205,7 +212,7 @@ words_with words p = words
 -- it ends the definition that it stands in
 abbrev pub ends : Line → Bool
 ends (Read file i) = closes i
-ends Spoiled = false
+ends (Spoiled f) = false
 ends (End file) = true
 
 abbrev pub is_bad : Said → Bool
@@ -215,7 +222,7 @@ is_bad s = false
 -- it drops the definition that it stands in
 abbrev pub drops : Line → Bool
 drops (Read file i) = is_bad (said true i)
-drops Spoiled = true
+drops (Spoiled f) = true
 drops (End file) = false
 
 abbrev pub set_in : Line → Option Set
@@ -233,7 +240,13 @@ fault_of file at s = None
 
 abbrev pub fault_in : Line → Option Fault
 fault_in (Read file i) = fault_of file (line_of i) (said true i)
+fault_in (Spoiled f) = Some f
 fault_in e = None
+
+-- the fault that the line's reading told
+abbrev pub spoilt_fault : Line → Option Fault
+spoilt_fault (Spoiled f) = Some f
+spoilt_fault e = None
 
 -- ---- rules
 
@@ -301,8 +314,12 @@ of_end at words f (Some (Read file i)) = record { rules = rule_of file at words 
 of_end at words f (Some (End file)) = told (conf file kind.NoBrace at ∷ [])
 of_end at words f other = nothing
 
+-- of lines in a definition that is dropped, the faults that their reading told
+abbrev pub of_spoilt : List Line → Meaning
+of_spoilt es = told (filter_map spoilt_fault es)
+
 -- A definition whose first name stands at this line: its words, what was set before its lines, and its lines with what
--- follows.
+-- follows. Behind the line that drops it only spoilt lines are told.
 abbrev pub of_definition : ℕ → List (List ℕ) → List Set → List Line → Meaning
 of_definition at words before_it es =
     let body = before ends es in
@@ -311,11 +328,11 @@ of_definition at words before_it es =
       notices = filter_map notice_in (through drops body);
       faults = filter_map fault_in (through drops body);
     }
-    and (if list_any drops body then nothing else of_end at words (fields_of (before_it ++ filter_map set_in body)) (find ends es))
+    and (if list_any drops body then of_spoilt (behind drops body) else of_end at words (fields_of (before_it ++ filter_map set_in body)) (find ends es))
 
--- one that a fault of its first line drops says nothing
+-- one that a fault of its first line drops says nothing, its spoilt lines aside
 abbrev pub of_body : Option ℕ → List (List ℕ) → List Set → List Line → Meaning
-of_body None words before_it es = nothing
+of_body None words before_it es = of_spoilt (before ends es)
 of_body (Some at) words before_it es = of_definition at words before_it es
 
 -- what begins at a line that opens a definition

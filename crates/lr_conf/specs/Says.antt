@@ -48,16 +48,12 @@ abbrev pub first_fault : List (Bool × ConfKind) → Option ConfKind
 first_fault [] = None
 first_fault (check ∷ checks) = if check.0 then Some check.1 else first_fault checks
 
-abbrev pub is_minus_one : List ℕ → Bool
-is_minus_one value = bytes_eq value (codes "-1")
-
--- a form of a directive that isn't built yet: for `rotate` it is -1
-abbrev pub is_later : Form → List (List ℕ) → Bool
-is_later form.Script vs = true
-is_later form.Outside vs = true
-is_later form.Later vs = true
-is_later form.Count (v ∷ vs) = is_minus_one v
-is_later f vs = false
+-- a directive that isn't built yet
+abbrev pub is_later : Form → Bool
+is_later form.Script = true
+is_later form.Outside = true
+is_later form.Later = true
+is_later f = false
 
 abbrev pub is_passed : Form → Bool
 is_passed form.Passed = true
@@ -89,18 +85,22 @@ abbrev pub checks : Bool → Bool → Bool → Form → List (List ℕ) → List
 checks inside brace stray f vs =
     (not inside && is_script f, kind.OutsideSet) ∷
     (inside && is_outside f, kind.InsideSet) ∷
-    (is_later f vs, kind.NotYet) ∷
+    (is_later f, kind.NotYet) ∷
     (lacks_value f vs, kind.MissingValue) ∷
     (brace || (stray && not (is_passed f)) || has_more f vs, kind.Stray) ∷
     []
 
 -- ---- meanings
 
--- the count that a value says, or its fault
+abbrev pub is_minus_one : List ℕ → Bool
+is_minus_one value = bytes_eq value (codes "-1")
+
+-- the count that a value says, or its fault: by -1 all members are kept
 abbrev pub count_says : List (List ℕ) → Said
 count_says [] = says.Quiet
 count_says (v ∷ vs) =
-    if not (is_number v) then says.Bad kind.BadNumber
+    if is_minus_one v then says.Sets (set.Count count.Always)
+    else if not (is_number v) then says.Bad kind.BadNumber
     else if is_too_large v then says.Bad kind.TooLarge
     else says.Sets (set.Count (count.Keep (number_of v)))
 

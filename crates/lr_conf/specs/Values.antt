@@ -1,9 +1,10 @@
 -- The values of directives: numbers and names of logs.
-use Rattle.std.specs.Prelude.{ℕ, Bool, true, false, ◌==◌, ◌-◌, not, ◌&&◌, List, [], ◌∷◌, ◌++◌, length, drop, nat_le, nat_lt, bytes_eq, is_none, if◌then◌else◌}
+use Rattle.std.specs.Prelude.{ℕ, Bool, true, false, ◌==◌, not, ◌&&◌, List, [], ◌∷◌, ◌++◌, nat_le, nat_lt, is_none, if◌then◌else◌}
 use Rattle.std.specs.List.{list_all, slice_split}
 use Rattle.std.specs.Str.Parse.{digits_value}
-use Rattle.lr_rules.specs.Path.{is_slash, is_absolute, is_empty, word_fault, cleaned, last_of}
-use Rattle.lr_rules.specs.Match.{literal_path, part_end}
+use Rattle.lr_rules.specs.Limits.{can_be_log}
+use Rattle.lr_rules.specs.Match.{literal_path}
+use Rattle.lr_rules.specs.Path.{is_slash, is_absolute, is_empty, word_fault, cleaned}
 
 -- ---- numbers
 
@@ -24,16 +25,8 @@ is_too_large text = nat_lt 999999 (number_of text)
 
 -- ---- names of logs
 
-abbrev pub ends_with : List ℕ → List ℕ → Bool
-ends_with end bytes = nat_le (length end) (length bytes) && bytes_eq (drop (length bytes - length end) bytes) end
-
 abbrev pub root : List ℕ
 root = 47 ∷ []
-
--- a path that can be a log's: of 2,048 bytes at most, with a last part of 1 to 255, and no copy that isn't whole
-abbrev pub can_be_log : List ℕ → Bool
-can_be_log path =
-    nat_le (length path) 2048 && (nat_le 1 (length (last_of path)) && (nat_le (length (last_of path)) 255 && not (ends_with part_end path)))
 
 -- an absolute word, without the backslashes that escape, that names such a path
 abbrev pub names_log : List ℕ → Bool

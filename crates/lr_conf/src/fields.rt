@@ -1,6 +1,6 @@
 // The fields that lines set.
 ghost use Rattle.std.specs.Prelude.{◌≡◌, IfOk};
-ghost use Rattle.lr_conf.specs.Fold.{with_set, without, default_fields};
+ghost use Rattle.lr_conf.specs.Draft.{with_set, without, default_fields};
 
 use crate::set::Set;
 use lr_rules::{Count, Criterion, Make, Memory, Text, Way};

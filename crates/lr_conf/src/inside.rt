@@ -1,10 +1,10 @@
 // Lines in a definition.
 ghost use Rattle.std.specs.Prelude.{◌≡◌, ◌<◌, length, IfOk};
 ghost use Rattle.lr_conf.specs.Meaning.{default_pieces, format_of, rule_of};
-ghost use Rattle.lr_conf.specs.Fold.{SaysInside, Closes, file_of_layer, entered};
+ghost use Rattle.lr_conf.specs.Draft.{SaysInside, Closes, file_of_draft, files_of};
 
+use crate::draft::Draft;
 use crate::fields::{Fields, default_fields, set_field};
-use crate::layer::Layer;
 use crate::place::Place;
 use crate::said::Said;
 use crate::stop::{Include, LayerStop};
@@ -90,11 +90,11 @@ fn rule_of(
     }
 }
 
-impl Layer {
+impl Draft {
     /// The line that ends a definition, which gives its rule.
     pub(crate) fn close(&mut self) -> Result<Option<Include>, LayerStop>
-        requires { 0 < length (entered self.old) }
-        ensures { Closes self.old self.new (file_of_layer self.old) result }
+        requires { 0 < length (files_of self.old) }
+        ensures { Closes self.old self.new (file_of_draft self.old) result }
     {
         let file = self.files.top().copy(self.alloc)?;
         let dated = format_of(self.alloc, &self.fields)?;
@@ -109,8 +109,8 @@ impl Layer {
 
     /// A line in a definition that doesn't end it.
     pub(crate) fn inside(&mut self, at: u32, said: Said) -> Result<Option<Include>, LayerStop>
-        requires { 0 < length (entered self.old) }
-        ensures { SaysInside self.old self.new (file_of_layer self.old) at said result }
+        requires { 0 < length (files_of self.old) }
+        ensures { SaysInside self.old self.new (file_of_draft self.old) at said result }
     {
         match said {
             Said::Sets(set) => set_field(&mut self.fields, set),

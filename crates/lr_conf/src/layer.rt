@@ -1,53 +1,36 @@
 // The layer takes lines in, and makes rules of them.
-ghost use Rattle.std.specs.Prelude.{◌≡◌, ◌<◌, ◌-◌, List, [], ◌∷◌, ◌++◌, false, length, take, IfOk, MatchOption};
-ghost use Rattle.lr_conf.specs.Meaning.{Line, Read, Spoiled, End, meaning, told, conf, ◌and◌};
-ghost use Rattle.lr_conf.specs.Fold.{coming, Took, file_of_layer, entered};
+ghost use Rattle.std.specs.Prelude.{◌≡◌, List, true};
+ghost use Rattle.std.specs.List.{list_all};
+ghost use Rattle.lr_rules.specs.Limits.{meets_limits};
+ghost use Rattle.lr_conf.specs.Meaning.{Line};
+ghost use Rattle.lr_conf.specs.Draft.{coming_from};
 
-use crate::fields::{Fields, default_fields};
-use crate::files::Files;
-use crate::place::Place;
+use crate::draft::Draft;
 use crate::stop::{Include, LayerStop};
 use lr_lex::Item;
-use lr_rules::{ConfKind, Listed, Memory, Notice, Path, Rule, Rules, Text};
+use lr_rules::{ConfKind, Listed, Memory, Notice, Path, Rules};
 use std::alloc::Global;
 
-/// What the lines of a configuration made so far.
+/// What the lines of a configuration made so far. Whichever lines come, each rule meets the limits of its values.
 #[derive(Drop)]
 pub struct Layer {
-    pub(crate) alloc: Global,
-    pub(crate) files: Files,
-    pub(crate) place: Place,
-    /// The fields that lines outside definitions set.
-    pub(crate) defaults: Fields,
-    /// The words of the definition, or the names that are pending.
-    pub(crate) words: Vec<Text>,
-    /// The line of the first of them.
-    pub(crate) first: Option<u32>,
-    /// Whether a definition with a name began in the file.
-    pub(crate) begun: bool,
-    /// The fields of the definition.
-    pub(crate) fields: Fields,
-    pub(crate) rules: Vec<Rule>,
-    pub(crate) notices: Vec<Notice>,
+    draft: Draft,
+    ghost limits: { (lines : List Line) → list_all meets_limits (coming_from draft lines).rules ≡ true },
 }
 
 impl Layer {
+    ghost use Rattle.std.specs.Prelude.{◌<◌, ◌-◌, [], ◌∷◌, ◌++◌, false, length, take, IfOk, MatchOption};
+    ghost use Rattle.lr_rules.specs.declared.fault.Fault.{Fault};
+    ghost use Rattle.lr_conf.specs.Meaning.{Read, Spoiled, End, meaning, told, conf, ◌and◌};
+    ghost use Rattle.lr_conf.specs.Fold.{coming, Took, file_of_layer, entered};
+
     /// A layer that took no line, with room for 8 entered files.
     pub fn new(alloc: Global) -> Result<Layer, Memory>
         ensures files { IfOk result (λ layer. entered layer ≡ []) }
         ensures means { IfOk result (λ layer. (lines : List Line) → coming layer lines ≡ meaning false [] lines) }
     {
         Ok(Layer {
-            alloc,
-            files: Files::new(alloc)?,
-            place: Place::Outside,
-            defaults: default_fields(),
-            words: Vec::new(alloc),
-            first: None,
-            begun: false,
-            fields: default_fields(),
-            rules: Vec::new(alloc),
-            notices: Vec::new(alloc),
+            draft: Draft::new(alloc)?,
         })
     }
 
@@ -57,7 +40,7 @@ impl Layer {
         ensures files { entered self.new ≡ entered self.old ++ file ∷ [] }
         ensures same { (lines : List Line) → coming self.new lines ≡ coming self.old lines }
     {
-        self.files.enter(file);
+        self.draft.enter(file);
     }
 
     /// The lines that come are those of the file that was entered before.
@@ -66,7 +49,7 @@ impl Layer {
         ensures files { entered self.new ≡ take (length (entered self.old) - 1) (entered self.old) }
         ensures same { (lines : List Line) → coming self.new lines ≡ coming self.old lines }
     {
-        self.files.leave();
+        self.draft.leave();
     }
 
     /// Takes an item of the file in. A fault is told, and the line that has it; `Memory` leaves all as it was, and the
@@ -76,19 +59,17 @@ impl Layer {
         ensures files { entered self.new ≡ entered self.old }
         ensures means { Took self.old self.new (file_of_layer self.old) (Read (file_of_layer self.old) item) result }
     {
-        self.take_in(item)
+        self.draft.take(item)
     }
 
-    /// A line has a fault that its reading told: it drops the definition that is being read, where one is. Names that
-    /// are pending stay.
-    pub fn spoil(&mut self, _line: u32)
+    /// A line has a fault that its reading told, whichever it is: it drops the definition that is being read, where one
+    /// is. Names that are pending stay. The caller tells the fault, also in a definition that is dropped already.
+    pub fn spoil(&mut self, line: u32)
         requires { 0 < length (entered self.old) }
         ensures files { entered self.new ≡ entered self.old }
-        ensures means { (lines : List Line) → coming self.old (Spoiled ∷ lines) ≡ coming self.new lines }
+        ensures means { (f : Fault) (lines : List Line) → coming self.old (Spoiled f ∷ lines) ≡ (told (f ∷ []) and coming self.new lines) }
     {
-        if self.place == Place::Good {
-            self.place = Place::Dropped;
-        }
+        self.draft.spoil(line);
     }
 
     /// The file ends: names, or a definition that no fault dropped, are pending no more. Where there were any, the line
@@ -100,7 +81,7 @@ impl Layer {
             ((lines : List Line) → coming self.old (End (file_of_layer self.old) ∷ lines) ≡ coming self.new lines)
             (λ r. (lines : List Line) → coming self.old (End (file_of_layer self.old) ∷ lines) ≡ (told (conf (file_of_layer self.old) r.1 r.0 ∷ []) and coming self.new lines)) }
     {
-        self.end_file()
+        self.draft.close_file()
     }
 
     /// The rules and the notices of all that was taken.
@@ -108,7 +89,7 @@ impl Layer {
         ensures rules { result.0.sets ≡ (coming self []).rules }
         ensures notices { result.1.items ≡ (coming self []).notices }
     {
-        let Layer { rules, notices, .. } = self;
+        let (rules, notices) = self.draft.finish();
         (
             Rules {
                 sets: Listed::from_vec(rules),

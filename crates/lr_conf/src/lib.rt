@@ -6,19 +6,24 @@
 //!
 //! A line that isn't understood gives one fault, the first that applies in the order of `lr_rules::ConfKind`. Inside a
 //! definition it drops that definition up to its `}`, where the first word is a directive; a line that begins with
-//! another word is told and ignored. [`say`] reads one line by itself.
+//! another word is told and ignored. A fault of the lexer drops its definition too; the layer isn't given which one, and
+//! the meaning has it in its place among the others, behind a fault that dropped the definition too. [`say`] reads one
+//! line by itself.
 //!
 //! ```text
 //! let mut layer = Layer::new(alloc)?;
 //! layer.enter(file);
 //! // each item of a `lr_lex::Lexer`
 //! layer.take(item)?;
+//! // each of its faults, which the caller tells
+//! layer.spoil(line);
 //! let unclosed = layer.close_file();
 //! layer.leave();
 //! let (rules, notices) = layer.finish();
 //! ```
 #![tactic(auto)]
 
+mod draft;
 mod fields;
 mod files;
 mod form;
@@ -36,7 +41,7 @@ mod set;
 mod stop;
 mod taking;
 
-pub use laws::{last_count, last_criterion, rules_meet_limits};
+pub use laws::{last_count, last_criterion, one_log_a_file, rules_are_plain, rules_meet_limits};
 pub use layer::Layer;
 pub use reading::say;
 pub use said::{Said, closes, has_brace, line_of};

@@ -1,8 +1,10 @@
 // Names of logs.
 ghost use Rattle.std.specs.Prelude.{◌≡◌, ◌<◌, ◌≤◌, ◌+◌, ◌++◌, ◌∷◌, drop, length, slice_index, OnOk, IfOk};
+ghost use Rattle.lr_rules.specs.Limits.{can_be_log};
+ghost use Rattle.lr_rules.specs.Names.{ends_with};
 ghost use Rattle.lr_rules.specs.Match.{is_sign, is_wildcard, literal_path, part_end};
 ghost use Rattle.lr_rules.specs.Path.{is_absolute};
-ghost use Rattle.lr_conf.specs.Values.{root, ends_with, can_be_log, names_log, is_log_name, is_step, behind_slash, kept_name};
+ghost use Rattle.lr_conf.specs.Values.{root, names_log, is_log_name, is_step, behind_slash, kept_name};
 
 use lr_rules::{Memory, Path, PathFault, Text};
 use std::alloc::{AllocError, Global};

@@ -3,10 +3,10 @@ ghost use Rattle.std.specs.Prelude.{◌≡◌, ◌<◌, ◌∷◌, ◌++◌, [],
 ghost use Rattle.lr_conf.specs.declared.place.Place.TheVariants as place;
 ghost use Rattle.lr_conf.specs.declared.said.Said.TheVariants as says;
 ghost use Rattle.lr_conf.specs.Meaning.{judged, stands};
-ghost use Rattle.lr_conf.specs.Fold.{Speaks, Noticed, SameRest, Aside, Unchanged, Settled, stray_kind, answer_of, file_of_layer, entered, without_names, state_of};
+ghost use Rattle.lr_conf.specs.Draft.{Speaks, Noticed, SameRest, Aside, Unchanged, Settled, stray_kind, answer_of, file_of_draft, files_of, without_names, state_of};
 
+use crate::draft::Draft;
 use crate::fields::{copy_fields, set_field};
-use crate::layer::Layer;
 use crate::place::Place;
 use crate::said::Said;
 use crate::stop::{Include, LayerStop};
@@ -44,11 +44,11 @@ fn stray_kind(first: &Option<u32>) -> Option<ConfKind>
     }
 }
 
-impl Layer {
+impl Draft {
     /// Gives the notice of a word that is passed over.
     pub(crate) fn notice(&mut self, at: u32, word: Text) -> Result<(), Memory>
-        requires { 0 < length (entered self.old) }
-        ensures ok { OnOk result (Noticed self.old self.new (record { file = file_of_layer self.old; line = at; word = Some word })) }
+        requires { 0 < length (files_of self.old) }
+        ensures ok { OnOk result (Noticed self.old self.new (record { file = file_of_draft self.old; line = at; word = Some word })) }
         ensures err { OnErr result (Unchanged self.old self.new) }
     {
         let file = self.files.top().copy(self.alloc)?;
@@ -78,7 +78,7 @@ impl Layer {
         names: Listed<Text>,
     ) -> Result<Option<Include>, LayerStop>
         requires { self.old.place ≡ place.Outside }
-        ensures { Speaks self.old self.new (file_of_layer self.old) (stands at brace (says.Names names)) result }
+        ensures { Speaks self.old self.new (file_of_draft self.old) (stands at brace (says.Names names)) result }
     {
         let mut names = names.into_vec();
         if brace {
@@ -99,7 +99,7 @@ impl Layer {
     /// A brace alone: it opens a definition of the names that are pending.
     fn open(&mut self, at: u32, brace: bool) -> Result<Option<Include>, LayerStop>
         requires { self.old.place ≡ place.Outside }
-        ensures { Speaks self.old self.new (file_of_layer self.old) (stands at brace says.Open) result }
+        ensures { Speaks self.old self.new (file_of_draft self.old) (stands at brace says.Open) result }
     {
         if self.first.is_none() {
             if brace {
@@ -153,8 +153,8 @@ impl Layer {
         said: Said,
     ) -> Result<Option<Include>, LayerStop>
         requires place { self.old.place ≡ place.Outside }
-        requires files { 0 < length (entered self.old) }
-        ensures { Speaks self.old self.new (file_of_layer self.old) (stands at brace said) result }
+        requires files { 0 < length (files_of self.old) }
+        ensures { Speaks self.old self.new (file_of_draft self.old) (stands at brace said) result }
     {
         match said {
             Said::Names(names) => self.names(at, brace, names),

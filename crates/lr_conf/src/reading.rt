@@ -15,21 +15,11 @@ use std::alloc::Global;
 
 // ---- faults of a line that begins with a directive
 
-fn minus_one(value: &[u8]) -> bool
-    ensures { result ≡ is_minus_one value.now }
-{
-    value == b"-1".as_slice()
-}
-
-fn later(form: &Form, values: &[Word]) -> bool
-    ensures { result ≡ is_later form.now (texts values.now) }
+fn later(form: &Form) -> bool
+    ensures { result ≡ is_later form.now }
 {
     match form {
         Form::Script | Form::Outside | Form::Later => true,
-        Form::Count => match values {
-            [] => false,
-            [value, ..] => minus_one(value.text.bytes()),
-        },
         _ => false,
     }
 }
@@ -98,7 +88,7 @@ fn fault_of(
         Some(ConfKind::OutsideSet)
     } else if inside && outside(form) {
         Some(ConfKind::InsideSet)
-    } else if later(form, values) {
+    } else if later(form) {
         Some(ConfKind::NotYet)
     } else if lacks_value(form, values) {
         Some(ConfKind::MissingValue)
@@ -111,9 +101,18 @@ fn fault_of(
 
 // ---- meanings
 
+fn minus_one(value: &[u8]) -> bool
+    ensures { result ≡ is_minus_one value.now }
+{
+    value == b"-1".as_slice()
+}
+
 fn number_says(value: &[u8]) -> Said
     ensures { result ≡ count_says (value.now ∷ []) }
 {
+    if minus_one(value) {
+        return Said::Sets(Set::Count(Count::Always));
+    }
     if !is_number(value) {
         return Said::Bad(ConfKind::BadNumber);
     }

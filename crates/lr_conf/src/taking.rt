@@ -2,9 +2,9 @@
 ghost use Rattle.std.specs.Prelude.{◌≡◌, ◌<◌, length};
 ghost use Rattle.lr_conf.specs.declared.place.Place.TheVariants as place;
 ghost use Rattle.lr_conf.specs.Meaning.{Read};
-ghost use Rattle.lr_conf.specs.Fold.{Steps, EndsFile, file_of_layer, entered};
+ghost use Rattle.lr_conf.specs.Draft.{Steps, EndsFile, file_of_draft, files_of};
 
-use crate::layer::Layer;
+use crate::draft::Draft;
 use crate::outside::judged;
 use crate::place::Place;
 use crate::reading::say;
@@ -13,11 +13,11 @@ use crate::stop::{Include, LayerStop};
 use lr_lex::Item;
 use lr_rules::ConfKind;
 
-impl Layer {
+impl Draft {
     fn take_outside(&mut self, item: Item) -> Result<Option<Include>, LayerStop>
         requires place { self.old.place ≡ place.Outside }
-        requires files { 0 < length (entered self.old) }
-        ensures { Steps self.old self.new (file_of_layer self.old) (Read (file_of_layer self.old) item) result }
+        requires files { 0 < length (files_of self.old) }
+        ensures { Steps self.old self.new (file_of_draft self.old) (Read (file_of_draft self.old) item) result }
     {
         let at = line_of(&item);
         let brace = has_brace(&item);
@@ -28,8 +28,8 @@ impl Layer {
 
     fn take_inside(&mut self, item: Item) -> Result<Option<Include>, LayerStop>
         requires place { self.old.place ≡ place.Good }
-        requires files { 0 < length (entered self.old) }
-        ensures { Steps self.old self.new (file_of_layer self.old) (Read (file_of_layer self.old) item) result }
+        requires files { 0 < length (files_of self.old) }
+        ensures { Steps self.old self.new (file_of_draft self.old) (Read (file_of_draft self.old) item) result }
     {
         if closes(&item) {
             return self.close();
@@ -41,7 +41,7 @@ impl Layer {
 
     fn take_dropped(&mut self, item: Item) -> Result<Option<Include>, LayerStop>
         requires { self.old.place ≡ place.Dropped }
-        ensures { Steps self.old self.new (file_of_layer self.old) (Read (file_of_layer self.old) item) result }
+        ensures { Steps self.old self.new (file_of_draft self.old) (Read (file_of_draft self.old) item) result }
     {
         if closes(&item) {
             let _first = self.settle();
@@ -52,8 +52,8 @@ impl Layer {
 
     /// Takes an item in.
     pub(crate) fn take_in(&mut self, item: Item) -> Result<Option<Include>, LayerStop>
-        requires { 0 < length (entered self.old) }
-        ensures { Steps self.old self.new (file_of_layer self.old) (Read (file_of_layer self.old) item) result }
+        requires { 0 < length (files_of self.old) }
+        ensures { Steps self.old self.new (file_of_draft self.old) (Read (file_of_draft self.old) item) result }
     {
         match self.place {
             Place::Outside => self.take_outside(item),
@@ -64,7 +64,7 @@ impl Layer {
 
     /// Takes the end of the file in.
     pub(crate) fn end_file(&mut self) -> Option<(u32, ConfKind)>
-        ensures { EndsFile self.old self.new (file_of_layer self.old) result }
+        ensures { EndsFile self.old self.new (file_of_draft self.old) result }
     {
         let place = self.place;
         let first = self.settle();

@@ -148,7 +148,7 @@ fn told_both(alloc: Global, first: &[u8], second: &[u8]) -> Result<String, Alloc
     Ok(out)
 }
 
-fn field_rows() -> [(&'static [u8], &'static str); 11] {
+fn field_rows() -> [(&'static [u8], &'static str); 14] {
     [
         // the last line that sets a field, outside before the brace or inside
         (b"rotate 4\n/v/a {\nrotate 2\n}\n", "/c:2 rule /v/a 2;"),
@@ -157,6 +157,9 @@ fn field_rows() -> [(&'static [u8], &'static str); 11] {
         (b"rotate 4\nrotate 5\n/v/a {\n}", "/c:3 rule /v/a 5;"),
         (b"/v/a {\nrotate 4\nrotate 5\n}", "/c:1 rule /v/a 5;"),
         (b"rotate 0004\nrotate = 3\n/v/a\n{\n}", "/c:3 rule /v/a 3;"),
+        (b"rotate -1\n/v/a {\n}", "/c:2 rule /v/a all;"),
+        (b"/v/a {\nrotate 3\nrotate -1\n}", "/c:1 rule /v/a all;"),
+        (b"rotate -1\n/v/a {\nrotate 2\n}", "/c:2 rule /v/a 2;"),
         (b"missingok\n/v/a {\n}", "/c:2 rule /v/a 0 missingok;"),
         (b"missingok\n/v/a {\nnomissingok\n}", "/c:2 rule /v/a 0;"),
         (
@@ -169,7 +172,7 @@ fn field_rows() -> [(&'static [u8], &'static str); 11] {
     ]
 }
 
-fn fault_rows() -> [(&'static [u8], &'static str); 42] {
+fn fault_rows() -> [(&'static [u8], &'static str); 44] {
     [
         // one line
         (b"rotate x", "1 BadNumber;"),
@@ -182,8 +185,10 @@ fn fault_rows() -> [(&'static [u8], &'static str); 42] {
         (b"rotate x y", "1 Stray;"),
         (b"rotate }", "1 Stray;"),
         (b"rotate \"}\"", "1 BadNumber;"),
-        (b"rotate -1", "1 NotYet;"),
+        (b"rotate -1", ""),
         (b"rotate -2", "1 BadNumber;"),
+        (b"rotate -01", "1 BadNumber;"),
+        (b"rotate -1 1", "1 Stray;"),
         (b"missingok 3", "1 Stray;"),
         (b"daily 3", "1 NotYet;"),
         (b"include /x", "1 NotYet;"),
@@ -226,7 +231,7 @@ fn fault_rows() -> [(&'static [u8], &'static str); 42] {
     ]
 }
 
-fn body_rows() -> [(&'static [u8], &'static str); 13] {
+fn body_rows() -> [(&'static [u8], &'static str); 15] {
     [
         (b"/v/a {\nfrob\nrotate 3\n}", "2 Unknown;/c:1 rule /v/a 3;"),
         (
@@ -248,6 +253,12 @@ fn body_rows() -> [(&'static [u8], &'static str); 13] {
         (b"/v/a {\ninclude /x\n}", "2 InsideSet;"),
         (b"/v/a {\nprerotate\nx\nendscript\n}", "2 NotYet;"),
         (b"/v/a {\nmail \"x\n}", "2 OpenQuote;"),
+        // behind the fault that drops it only the reading's own faults are told
+        (
+            b"/v/a {\nrotate x\nmail \"x\nrotate y\n}",
+            "2 BadNumber;3 OpenQuote;",
+        ),
+        (b"frob {\nmail \"x\nrotate y\n}", "1 Unknown;2 OpenQuote;"),
         (b"/v/a {\nrotate 1", "1 NoBrace;"),
         (b"/v/a {\nrotate x", "2 BadNumber;"),
     ]

@@ -1,5 +1,5 @@
-use Rattle.lr_conf.proofs.Law.{from_start}
+use Rattle.lr_conf.proofs.Limits.{from_new}
 use Rattle.lr_conf.proofs.layer.Layer.new.Goals as goal
 
-pub returns-clause-means : goal.returns-clause-means
-returns-clause-means c lines = rw (c.default_fields.ensures, c.default_fields-2.ensures, c.new-2.ensures.items, c.new-3.ensures.items, c.new-4.ensures.items) (from_start lines)
+pub invariant_of-result : goal.invariant_of-result
+invariant_of-result c = record { limits = from_new c.in_ok-new.field-0 c.in_ok-new.ensures.means }

@@ -1,14 +1,14 @@
 use Rattle.std.proofs.Common.{sym, subst}
 use Rattle.lr_conf.specs.Meaning.{stands}
-use Rattle.lr_conf.specs.Fold.{Speaks, file_of_layer}
+use Rattle.lr_conf.specs.Draft.{Speaks, file_of_draft}
 use Rattle.lr_conf.proofs.Spoken.{bad, quiet, close, sets, passed}
-use Rattle.lr_conf.proofs.layer.Layer.outside.Goals as goal
+use Rattle.lr_conf.proofs.draft.Draft.outside.Goals as goal
 
 pub returns-in-Bad : goal.returns-in-Bad
 returns-in-Bad c =
     let old = c.args.self.now in
     let new = c.leave_names.new.self in
-    let file = file_of_layer old in
+    let file = file_of_draft old in
     subst (λ v. Speaks old new file (stands c.args.at c.args.brace v) c.leave_names.result) (sym c.in-Bad.is)
     (bad old new file c.args.at c.args.brace c.in-Bad.kind c.leave_names.result c.leave_names.ensures)
 
@@ -16,7 +16,7 @@ pub returns-in-Quiet : goal.returns-in-Quiet
 returns-in-Quiet c =
     let old = c.args.self.now in
     let new = c.leave_names-in-Quiet.new.self in
-    let file = file_of_layer old in
+    let file = file_of_draft old in
     subst (λ v. Speaks old new file (stands c.args.at c.args.brace v) c.leave_names-in-Quiet.result) (sym c.in-Quiet.is)
     (quiet old new file c.args.at c.args.brace c.leave_names-in-Quiet.result c.leave_names-in-Quiet.ensures)
 
@@ -24,7 +24,7 @@ pub returns-in-Close : goal.returns-in-Close
 returns-in-Close c =
     let old = c.args.self.now in
     let new = c.leave_names-in-Close.new.self in
-    let file = file_of_layer old in
+    let file = file_of_draft old in
     subst (λ v. Speaks old new file (stands c.args.at c.args.brace v) c.leave_names-in-Close.result) (sym c.in-Close.is)
     (close old new file c.args.at c.args.brace c.stray_kind-own.result c.leave_names-in-Close.result c.stray_kind-own.ensures c.leave_names-in-Close.ensures)
 
@@ -32,7 +32,7 @@ pub returns-in-Sets : goal.returns-in-Sets
 returns-in-Sets c =
     let old = c.args.self.now in
     let new = c.leave_names-in-Sets.new.self in
-    let file = file_of_layer old in
+    let file = file_of_draft old in
     subst (λ v. Speaks old new file (stands c.args.at c.args.brace v) c.leave_names-in-Sets.result) (sym c.in-Sets.is)
     (sets old new file c.args.at c.args.brace c.in-Sets.set c.set_field.new.fields c.leave_names-in-Sets.result c.set_field.ensures c.leave_names-in-Sets.ensures)
 
@@ -40,6 +40,6 @@ pub returns-in_ok-notice-in-Passed : goal.returns-in_ok-notice-in-Passed
 returns-in_ok-notice-in-Passed c =
     let old = c.args.self.now in
     let new = c.leave_names-in-Passed.new.self in
-    let file = file_of_layer old in
+    let file = file_of_draft old in
     subst (λ v. Speaks old new file (stands c.args.at c.args.brace v) c.leave_names-in-Passed.result) (sym c.in-Passed.is)
     (passed old c.notice.new.self new file c.args.at c.args.brace c.in-Passed.word c.leave_names-in-Passed.result c.in_ok-notice-in-Passed.ensures.ok c.leave_names-in-Passed.ensures)

@@ -1,0 +1,9 @@
+use Rattle.std.proofs.lemmas.List.Elements.{All-from_recursion}
+use Rattle.lr_conf.specs.Meaning.{meaning}
+use Rattle.lr_conf.specs.Plain.{IsPlainRule}
+use Rattle.std.proofs.Common.{false, []}
+use Rattle.lr_conf.proofs.Plain.{plain}
+use Rattle.lr_conf.proofs.laws.rules_are_plain.Goals as goal
+
+pub returns : goal.returns
+returns c lines = All-from_recursion IsPlainRule (meaning false [] lines).rules (plain lines)

@@ -1,0 +1,297 @@
+-- What a draft keeps, and how it takes a line in.
+use Rattle.std.specs.Prelude.{◌≡◌, ℕ, Bool, true, false, ◌||◌, List, [], ◌∷◌, ◌++◌, Option, Some, None, Result, Ok, Err, is_some, if◌then◌else◌}
+use Rattle.lr_rules.specs.declared.path.Path.{Path}
+use Rattle.lr_rules.specs.declared.fault.ConfKind.{ConfKind}
+use Rattle.lr_rules.specs.declared.fault.ConfKind.TheVariants as kind
+use Rattle.lr_rules.specs.declared.fault.Fault.{Fault}
+use Rattle.lr_rules.specs.declared.fault.Notice.{Notice}
+use Rattle.lr_rules.specs.declared.rule.Criterion.TheVariants as criterion
+use Rattle.lr_rules.specs.declared.rule.Count.TheVariants as count
+use Rattle.lr_rules.specs.declared.rule.Make.TheVariants as make
+use Rattle.lr_rules.specs.declared.rule.Rule.{Rule}
+use Rattle.lr_rules.specs.declared.rule.Way.{Way}
+use Rattle.lr_rules.specs.declared.rule.Way.TheVariants as way
+use Rattle.lr_conf.specs.declared.fields.Fields.{Fields}
+use Rattle.lr_conf.specs.declared.set.Set.{Set}
+use Rattle.lr_conf.specs.declared.set.Set.TheVariants as set
+use Rattle.lr_conf.specs.declared.said.Said.{Said}
+use Rattle.lr_conf.specs.declared.said.Said.TheVariants as says
+use Rattle.lr_conf.specs.declared.place.Place.{Place}
+use Rattle.lr_conf.specs.declared.place.Place.TheVariants.{Outside, Good, Dropped}
+use Rattle.lr_conf.specs.declared.stop.Include.{Include}
+use Rattle.lr_conf.specs.declared.stop.LayerStop.{LayerStop}
+use Rattle.lr_conf.specs.declared.stop.LayerStop.TheVariants as stop
+use Rattle.lr_conf.specs.declared.draft.Draft.{Draft}
+use Rattle.lr_conf.specs.Says.{line_of, closes, said}
+use Rattle.lr_conf.specs.Fields.{last_or}
+use Rattle.lr_conf.specs.Meaning.{Line, file_of, Read, Spoiled, End, Past, stands, spoiled, file_ends, Meaning, ◌and◌, nothing, told, conf, list_of, of_line, of_spoilt, opened, or_line, past_of, ends, notice_of, notice_past, line_faults, fault_of, rule_of}
+
+-- ---- fields
+
+abbrev pub default_fields : Fields
+default_fields = record {
+  criterion = criterion.Size 1048576;
+  count = count.Keep 0;
+  ifempty = true;
+  missingok = false;
+  olddir = None;
+  createolddir = make.No;
+  way = way.Rename;
+  create = make.No;
+  mail = None;
+  mailfirst = false;
+  shared = false;
+  dated = false;
+}
+
+-- the way, set back to renames where it is this one
+abbrev pub without : Way → Way → Way
+without way.Copy way.Copy = way.Rename
+without way.CopyTruncate way.CopyTruncate = way.Rename
+without n w = w
+
+abbrev pub with_set : Fields → Set → Fields
+with_set f (set.Criterion c) = record f { criterion = c }
+with_set f (set.Count n) = record f { count = n }
+with_set f (set.IfEmpty b) = record f { ifempty = b }
+with_set f (set.MissingOk b) = record f { missingok = b }
+with_set f (set.Olddir dir) = record f { olddir = dir }
+with_set f (set.CreateOlddir m) = record f { createolddir = m }
+with_set f (set.Way w) = record f { way = w }
+with_set f (set.NotWay n) = record f { way = without n f.way }
+with_set f (set.Create m) = record f { create = m }
+with_set f (set.Mail address) = record f { mail = address }
+with_set f (set.MailFirst b) = record f { mailfirst = b }
+with_set f (set.Shared b) = record f { shared = b }
+with_set f (set.Dated b) = record f { dated = b }
+
+-- ---- states
+
+-- In a definition: its words, the line of its first name, its fields so far. Outside: the names that are pending.
+pub record State : Type 0 where
+  pub place : Place
+  pub defaults : Fields
+  pub words : List (List ℕ)
+  pub first : Option ℕ
+  -- a definition with a name began in this file
+  pub begun : Bool
+  pub fields : Fields
+
+-- the file has a name
+abbrev pub has_a_name : State → Bool
+has_a_name s = s.begun || is_some s.first
+
+abbrev pub without_names : State → State
+without_names s = record s { words = []; first = None }
+
+-- the state behind what a line says outside definitions, its brace aside
+abbrev pub spoken : State → ℕ → Said → State
+spoken s at (says.Names ws) = record s { words = s.words ++ ws; first = Some (or_line s.first at) }
+spoken s at says.Open = s
+spoken s at says.Unknown = s
+spoken s at (says.BadNames k) = s
+spoken s at (says.Sets v) = record s { defaults = with_set s.defaults v; words = []; first = None }
+spoken s at says.Quiet = without_names s
+spoken s at (says.Passed word) = without_names s
+spoken s at says.Close = without_names s
+spoken s at (says.Bad k) = without_names s
+
+-- a brace opens a definition, with names or without
+abbrev pub turned : Bool → Option ℕ → State → State
+turned false o s = s
+turned true (Some at) s = record s { place = Good; begun = true; fields = s.defaults }
+turned true None s = record s { place = Dropped; words = []; first = None }
+
+abbrev pub outside : State → Past → State
+outside s (stands at brace v) = turned brace (opened s.first (stands at brace v)) (spoken s at v)
+outside s (spoiled f) = s
+outside s file_ends = record s { words = []; first = None; begun = false }
+
+-- behind the end of a definition
+abbrev pub left : State → Line → State
+left s (End file) = record s { place = Outside; words = []; first = None; begun = false }
+left s e = record s { place = Outside; words = []; first = None }
+
+abbrev pub with_said : State → Said → State
+with_said s (says.Sets v) = record s { fields = with_set s.fields v }
+with_said s (says.Bad k) = record s { place = Dropped }
+with_said s v = s
+
+abbrev pub good : State → Line → State
+good s (Read file i) = if closes i then record s { place = Outside; words = []; first = None; fields = default_fields } else with_said s (said true i)
+good s (Spoiled f) = record s { place = Dropped }
+good s (End file) = left s (End file)
+
+abbrev pub dropped : State → Line → State
+dropped s e = if ends e then left s e else s
+
+abbrev pub step : Place → State → Line → State
+step Outside s e = outside s (past_of (has_a_name s) e)
+step Good s e = good s e
+step Dropped s e = dropped s e
+
+-- ---- what a line gives
+
+abbrev pub said_inside : Path → ℕ → Said → Meaning
+said_inside file at v = record { rules = []; notices = list_of (notice_of file at v); faults = list_of (fault_of file at v) }
+
+abbrev pub first_of : State → ℕ
+first_of s = or_line s.first 0
+
+abbrev pub gives_good : State → Line → Meaning
+gives_good s (Read file i) =
+    if closes i then record { rules = rule_of file (first_of s) s.words s.fields ∷ []; notices = []; faults = [] }
+    else said_inside file (line_of i) (said true i)
+gives_good s (Spoiled f) = told (f ∷ [])
+gives_good s (End file) = told (conf file kind.NoBrace (first_of s) ∷ [])
+
+abbrev pub gives_outside : State → Line → Meaning
+gives_outside s e = of_line (file_of e) s.first (past_of (has_a_name s) e)
+
+abbrev pub gives : Place → State → Line → Meaning
+gives Outside s e = gives_outside s e
+gives Good s e = gives_good s e
+gives Dropped s e = of_spoilt (e ∷ [])
+
+-- what lines give from a state on
+abbrev pub run : State → List Line → Meaning
+run s [] = nothing
+run s (e ∷ es) = gives s.place s e and run (step s.place s e) es
+
+-- ---- drafts
+
+-- rules and notices are kept
+abbrev pub kept : List Rule → List Notice → Meaning
+kept rules notices = record { rules = rules; notices = notices; faults = [] }
+
+abbrev pub state_of : Draft → State
+state_of k = record { place = k.place; defaults = k.defaults; words = k.words.items; first = k.first; begun = k.begun; fields = k.fields }
+
+-- what is kept, and what lines give from then on
+abbrev pub coming_from : Draft → List Line → Meaning
+coming_from k lines = kept k.rules.items k.notices.items and run (state_of k) lines
+
+-- one line was taken in
+pub record Stepped (old : Draft) (new : Draft) (e : Line) (faults : List Fault) : Type 0 where
+  pub state : state_of new ≡ step old.place (state_of old) e
+  pub rules : new.rules.items ≡ old.rules.items ++ (gives old.place (state_of old) e).rules
+  pub notices : new.notices.items ≡ old.notices.items ++ (gives old.place (state_of old) e).notices
+  pub faults_are : (gives old.place (state_of old) e).faults ≡ faults
+  pub files : new.files ≡ old.files
+
+-- nothing was taken in
+pub record Unchanged (old : Draft) (new : Draft) : Type 0 where
+  pub state : state_of new ≡ state_of old
+  pub rules : new.rules.items ≡ old.rules.items
+  pub notices : new.notices.items ≡ old.notices.items
+  pub files : new.files ≡ old.files
+
+-- the faults that an answer tells
+abbrev pub faults_of : Path → LayerStop → List Fault
+faults_of file (stop.Conf at k) = conf file k at ∷ []
+faults_of file (stop.NoBraceAnd first at k) = conf file kind.NoBrace first ∷ conf file k at ∷ []
+faults_of file stop.Memory = []
+
+abbrev pub Steps : Draft → Draft → Path → Line → Result (Option Include) LayerStop → Type 0
+Steps old new file e (Ok None) = Stepped old new e []
+Steps old new file e (Ok (Some include)) = ⊥
+Steps old new file e (Err stop.Memory) = Unchanged old new
+Steps old new file e (Err fault) = Stepped old new e (faults_of file fault)
+
+-- What a call answered that took a line, and how lines go on behind it.
+abbrev pub TookIn : Draft → Draft → Path → Line → Result (Option Include) LayerStop → Type 0
+TookIn old new file e (Ok None) = (lines : List Line) → coming_from old (e ∷ lines) ≡ coming_from new lines
+TookIn old new file e (Ok (Some include)) = ⊥
+TookIn old new file e (Err stop.Memory) = (lines : List Line) → coming_from new lines ≡ coming_from old lines
+TookIn old new file e (Err fault) = (lines : List Line) → coming_from old (e ∷ lines) ≡ (told (faults_of file fault) and coming_from new lines)
+
+-- the files that were entered and not left, and the last of them, which is read
+abbrev pub files_of : Draft → List Path
+files_of k = k.files
+
+abbrev pub file_of_draft : Draft → Path
+file_of_draft k = last_or [] k.files
+
+-- ---- steps of the code
+
+-- all but the state is the same
+pub record SameRest (old : Draft) (new : Draft) : Type 0 where
+  pub rules : new.rules.items ≡ old.rules.items
+  pub notices : new.notices.items ≡ old.notices.items
+  pub files : new.files ≡ old.files
+
+-- all but one more notice is the same
+pub record Noticed (old : Draft) (new : Draft) (n : Notice) : Type 0 where
+  pub state : state_of new ≡ state_of old
+  pub rules : new.rules.items ≡ old.rules.items
+  pub notices : new.notices.items ≡ old.notices.items ++ n ∷ []
+  pub files : new.files ≡ old.files
+
+abbrev pub answer_of : Option ℕ → ℕ → Option ConfKind → Result (Option Include) LayerStop
+answer_of None at None = Ok None
+answer_of None at (Some k) = Err (stop.Conf at k)
+answer_of (Some first) at None = Err (stop.Conf first kind.NoBrace)
+answer_of (Some first) at (Some k) = Err (stop.NoBraceAnd first at k)
+
+-- a `}` is stray where no names are pending
+abbrev pub stray_kind : Option ℕ → Option ConfKind
+stray_kind None = Some kind.Stray
+stray_kind (Some first) = None
+
+-- a line outside definitions was taken in
+pub record Spoke (old : Draft) (new : Draft) (file : Path) (p : Past) (faults : List Fault) : Type 0 where
+  pub state : state_of new ≡ outside (state_of old) p
+  pub rules : new.rules.items ≡ old.rules.items
+  pub notices : new.notices.items ≡ old.notices.items ++ list_of (notice_past file p)
+  pub faults_are : line_faults file old.first p ≡ faults
+  pub files : new.files ≡ old.files
+
+abbrev pub Speaks : Draft → Draft → Path → Past → Result (Option Include) LayerStop → Type 0
+Speaks old new file p (Ok None) = Spoke old new file p []
+Speaks old new file p (Ok (Some include)) = ⊥
+Speaks old new file p (Err stop.Memory) = Unchanged old new
+Speaks old new file p (Err fault) = Spoke old new file p (faults_of file fault)
+
+-- names that are pending were let go
+pub record Settled (old : Draft) (new : Draft) (at : ℕ) (brace : Bool) (own : Option ConfKind) (r : Result (Option Include) LayerStop) : Type 0 where
+  pub state : state_of new ≡ turned brace None (without_names (state_of old))
+  pub rest : SameRest old new
+  pub answer : r ≡ answer_of old.first at own
+
+-- a line with this fault, which leaves pending names, was taken in
+pub record Aside (old : Draft) (new : Draft) (at : ℕ) (brace : Bool) (k : ConfKind) (r : Result (Option Include) LayerStop) : Type 0 where
+  pub state : state_of new ≡ turned brace None (state_of old)
+  pub rest : SameRest old new
+  pub answer : r ≡ Err (stop.Conf at k)
+
+-- the line that ends a definition was taken in
+pub record Closed (old : Draft) (new : Draft) (file : Path) : Type 0 where
+  pub state : state_of new ≡ record (state_of old) { place = Outside; words = []; first = None; fields = default_fields }
+  pub rules : new.rules.items ≡ old.rules.items ++ rule_of file (first_of (state_of old)) old.words.items old.fields ∷ []
+  pub notices : new.notices.items ≡ old.notices.items
+  pub files : new.files ≡ old.files
+
+abbrev pub Closes : Draft → Draft → Path → Result (Option Include) LayerStop → Type 0
+Closes old new file (Ok None) = Closed old new file
+Closes old new file (Ok (Some include)) = ⊥
+Closes old new file (Err stop.Memory) = Unchanged old new
+Closes old new file (Err fault) = ⊥
+
+-- a line in a definition that doesn't end it was taken in
+pub record SaidInside (old : Draft) (new : Draft) (file : Path) (at : ℕ) (v : Said) (faults : List Fault) : Type 0 where
+  pub state : state_of new ≡ with_said (state_of old) v
+  pub rules : new.rules.items ≡ old.rules.items
+  pub notices : new.notices.items ≡ old.notices.items ++ list_of (notice_of file at v)
+  pub faults_are : list_of (fault_of file at v) ≡ faults
+  pub files : new.files ≡ old.files
+
+abbrev pub SaysInside : Draft → Draft → Path → ℕ → Said → Result (Option Include) LayerStop → Type 0
+SaysInside old new file at v (Ok None) = SaidInside old new file at v []
+SaysInside old new file at v (Ok (Some include)) = ⊥
+SaysInside old new file at v (Err stop.Memory) = Unchanged old new
+SaysInside old new file at v (Err fault) = SaidInside old new file at v (faults_of file fault)
+
+-- the end of a file was taken in
+abbrev pub EndsFile : Draft → Draft → Path → Option (ℕ × ConfKind) → Type 0
+EndsFile old new file None = Stepped old new (End file) []
+EndsFile old new file (Some r) = Stepped old new (End file) (conf file r.1 r.0 ∷ [])

@@ -1,0 +1,59 @@
+-- What holds of the rules so far, where not all directives are built.
+use Rattle.std.specs.Prelude.{◌≡◌, ◌≤◌, ℕ, Bool, true, false, List, [], ◌∷◌, None, All, length}
+use Rattle.lr_rules.specs.declared.rule.Count.{Count}
+use Rattle.lr_rules.specs.declared.rule.Count.TheVariants as count
+use Rattle.lr_rules.specs.declared.rule.Criterion.TheVariants as criterion
+use Rattle.lr_rules.specs.declared.rule.Make.TheVariants as make
+use Rattle.lr_rules.specs.declared.rule.Rule.{Rule}
+use Rattle.lr_rules.specs.declared.rule.Way.TheVariants as way
+use Rattle.lr_rules.specs.Limits.{can_be_log}
+use Rattle.lr_rules.specs.Match.{is_wildcard, literal_path}
+use Rattle.lr_rules.specs.Path.{path_fault}
+use Rattle.lr_conf.specs.Meaning.{Line, End}
+
+-- the word is no pattern, and its path, without the backslashes that escape, is one that a log can have
+pub record IsLogWord (word : List ℕ) : Type 0 where
+  pub no_pattern : is_wildcard word ≡ false
+  pub path : path_fault (literal_path word) ≡ None
+  pub log : can_be_log (literal_path word) ≡ true
+
+abbrev pub IsSmallCount : Count → Type 0
+IsSmallCount (count.Keep n) = n ≤ 999999
+IsSmallCount count.Always = Unit {0}
+
+-- its words name logs, its count is within its limit, and what no line can set yet has its default
+pub record IsPlainRule (r : Rule) : Type 0 where
+  pub words : All IsLogWord r.words
+  pub criterion : r.criterion ≡ criterion.Size 1048576
+  pub count : IsSmallCount r.count
+  pub maxage : r.maxage ≡ None
+  pub minage : r.minage ≡ None
+  pub minsize : r.minsize ≡ None
+  pub maxsize : r.maxsize ≡ None
+  pub ifempty : r.ifempty ≡ true
+  pub ignore_duplicates : r.ignore_duplicates ≡ false
+  pub start : r.start ≡ 1
+  pub extension : r.extension ≡ None
+  pub addextension : r.addextension ≡ None
+  pub olddir : r.olddir ≡ None
+  pub createolddir : r.createolddir ≡ make.No
+  pub way : r.way ≡ way.Rename
+  pub create : r.create ≡ make.No
+  pub mail : r.mail ≡ None
+  pub mailfirst : r.mailfirst ≡ false
+  pub shared : r.shared ≡ false
+  pub scripts : r.scripts ≡ record { first = None; pre = None; post = None; last = None; preremove = None }
+  pub dated : r.dated ≡ None
+
+-- ---- one log a file
+
+-- the line is the end of a file
+abbrev pub ends_file : Line → Bool
+ends_file (End file) = true
+ends_file e = false
+
+-- no rule, or one of one word
+abbrev pub AtMostOneLog : List Rule → Type 0
+AtMostOneLog [] = Unit {0}
+AtMostOneLog (r ∷ []) = length r.words ≡ 1
+AtMostOneLog (r ∷ s ∷ rs) = ⊥

@@ -1,0 +1,115 @@
+// What lines made, as it is kept from one line to the next.
+ghost use Rattle.std.specs.Prelude.{◌≡◌, ◌<◌, ◌-◌, List, [], ◌∷◌, ◌++◌, false, length, take, IfOk, MatchOption};
+ghost use Rattle.lr_rules.specs.declared.fault.Fault.{Fault};
+ghost use Rattle.lr_conf.specs.Meaning.{Line, Read, Spoiled, End, meaning, told, conf, ◌and◌};
+ghost use Rattle.lr_conf.specs.Draft.{coming_from, TookIn, file_of_draft, files_of};
+
+use crate::fields::{Fields, default_fields};
+use crate::files::Files;
+use crate::place::Place;
+use crate::stop::{Include, LayerStop};
+use lr_lex::Item;
+use lr_rules::{ConfKind, Memory, Notice, Path, Rule, Text};
+use std::alloc::Global;
+
+/// What the lines of a configuration made so far: rules and notices, and what lines to come are read by.
+#[derive(Drop)]
+pub struct Draft {
+    pub(crate) alloc: Global,
+    pub(crate) files: Files,
+    pub(crate) place: Place,
+    /// The fields that lines outside definitions set.
+    pub(crate) defaults: Fields,
+    /// The words of the definition, or the names that are pending.
+    pub(crate) words: Vec<Text>,
+    /// The line of the first of them.
+    pub(crate) first: Option<u32>,
+    /// Whether a definition with a name began in the file.
+    pub(crate) begun: bool,
+    /// The fields of the definition.
+    pub(crate) fields: Fields,
+    pub(crate) rules: Vec<Rule>,
+    pub(crate) notices: Vec<Notice>,
+}
+
+impl Draft {
+    /// A draft of no line, with room for 8 entered files.
+    pub fn new(alloc: Global) -> Result<Draft, Memory>
+        ensures files { IfOk result (λ draft. files_of draft ≡ []) }
+        ensures means { IfOk result (λ draft. (lines : List Line) → coming_from draft lines ≡ meaning false [] lines) }
+    {
+        Ok(Draft {
+            alloc,
+            files: Files::new(alloc)?,
+            place: Place::Outside,
+            defaults: default_fields(),
+            words: Vec::new(alloc),
+            first: None,
+            begun: false,
+            fields: default_fields(),
+            rules: Vec::new(alloc),
+            notices: Vec::new(alloc),
+        })
+    }
+
+    /// The lines that come are those of this file.
+    pub fn enter(&mut self, file: Path)
+        requires { length (files_of self.old) < 8 }
+        ensures files { files_of self.new ≡ files_of self.old ++ file ∷ [] }
+        ensures same { (lines : List Line) → coming_from self.new lines ≡ coming_from self.old lines }
+    {
+        self.files.enter(file);
+    }
+
+    /// The lines that come are those of the file that was entered before.
+    pub fn leave(&mut self)
+        requires { 0 < length (files_of self.old) }
+        ensures files { files_of self.new ≡ take (length (files_of self.old) - 1) (files_of self.old) }
+        ensures same { (lines : List Line) → coming_from self.new lines ≡ coming_from self.old lines }
+    {
+        self.files.leave();
+    }
+
+    /// Takes an item of the file in. A fault is told, and the line that has it; `Memory` leaves all as it was, and the
+    /// item is lost.
+    pub fn take(&mut self, item: Item) -> Result<Option<Include>, LayerStop>
+        requires { 0 < length (files_of self.old) }
+        ensures files { files_of self.new ≡ files_of self.old }
+        ensures means { TookIn self.old self.new (file_of_draft self.old) (Read (file_of_draft self.old) item) result }
+    {
+        self.take_in(item)
+    }
+
+    /// A line has a fault that its reading told: it drops the definition that is being read, where one is. Names that
+    /// are pending stay.
+    pub fn spoil(&mut self, _line: u32)
+        requires { 0 < length (files_of self.old) }
+        ensures files { files_of self.new ≡ files_of self.old }
+        ensures means { (f : Fault) (lines : List Line) → coming_from self.old (Spoiled f ∷ lines) ≡ (told (f ∷ []) and coming_from self.new lines) }
+    {
+        if self.place == Place::Good {
+            self.place = Place::Dropped;
+        }
+    }
+
+    /// The file ends: names, or a definition that no fault dropped, are pending no more. Where there were any, the line
+    /// of the first name is told, with NoBrace.
+    pub fn close_file(&mut self) -> Option<(u32, ConfKind)>
+        requires { 0 < length (files_of self.old) }
+        ensures files { files_of self.new ≡ files_of self.old }
+        ensures means { MatchOption result
+            ((lines : List Line) → coming_from self.old (End (file_of_draft self.old) ∷ lines) ≡ coming_from self.new lines)
+            (λ r. (lines : List Line) → coming_from self.old (End (file_of_draft self.old) ∷ lines) ≡ (told (conf (file_of_draft self.old) r.1 r.0 ∷ []) and coming_from self.new lines)) }
+    {
+        self.end_file()
+    }
+
+    /// The rules and the notices of all that was taken.
+    pub fn finish(self) -> (Vec<Rule>, Vec<Notice>)
+        ensures rules { result.0.items ≡ (coming_from self []).rules }
+        ensures notices { result.1.items ≡ (coming_from self []).notices }
+    {
+        let Draft { rules, notices, .. } = self;
+        (rules, notices)
+    }
+}
