@@ -1,0 +1,4 @@
+pub mod Lines
+pub mod Looks
+pub mod Readers
+pub mod Reading

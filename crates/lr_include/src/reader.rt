@@ -1,0 +1,128 @@
+// Reading the lines of a file.
+ghost use Rattle.std.specs.Prelude.{◌≡◌, ◌<◌, ◌^◌, List, [], ◌∷◌, ◌++◌, All, false, length, IfOk, OnOk};
+ghost use Rattle.lr_conf.specs.Meaning.{Line, Read, Spoiled, End, meaning, conf};
+ghost use Rattle.lr_conf.specs.Fold.{entered};
+ghost use Rattle.lr_include.specs.Lines.{lines_of};
+ghost use Rattle.lr_include.specs.Readers.{means, meaning_of, IsConf};
+
+use crate::kind::conf_kind;
+use crate::reading::Reading;
+use lr_conf::{Layer, LayerStop};
+use lr_lex::{Item, Lexer};
+use lr_rules::{ConfKind, Fault, Listed, Memory, Path};
+use std::alloc::Global;
+
+/// What lines made so far, with their faults.
+#[derive(Drop)]
+pub struct Reader {
+    pub alloc: Global,
+    pub layer: Layer,
+    pub faults: Vec<Fault>,
+}
+
+impl Reader {
+    /// A reader without lines, of this file.
+    pub fn new(alloc: Global, file: &Path) -> Result<Reader, Memory>
+        ensures files { IfOk result (λ r. entered r.layer ≡ file.now ∷ []) }
+        ensures means { IfOk result (λ r. (lines : List Line) → means r lines ≡ meaning false [] lines) }
+        ensures none { IfOk result (λ r. r.faults.items ≡ []) }
+    {
+        let mut layer = Layer::new(alloc)?;
+        layer.enter(file.copy(alloc)?);
+        Ok(Reader {
+            alloc,
+            layer,
+            faults: Vec::new(alloc),
+        })
+    }
+
+    /// Tells a fault of the file.
+    pub fn tell(&mut self, file: &Path, line: u32, kind: ConfKind) -> Result<(), Memory>
+        ensures layer { self.new.layer ≡ self.old.layer }
+        ensures told { OnOk result (self.new.faults.items ≡ self.old.faults.items ++ conf file.now kind line ∷ []) }
+        ensures kinds { OnOk result (All IsConf self.old.faults.items → All IsConf self.new.faults.items) }
+    {
+        let file = file.copy(self.alloc)?;
+        self.faults.push(Fault::Conf { file, line, kind })?;
+        Ok(())
+    }
+
+    /// Takes an item of the file in, and tells its faults.
+    pub fn take(&mut self, file: &Path, item: Item) -> Result<(), Memory>
+        requires { entered self.old.layer ≡ file.now ∷ [] }
+        ensures files { entered self.new.layer ≡ entered self.old.layer }
+        ensures means { OnOk result ((lines : List Line) → means self.old (Read file.now item ∷ lines) ≡ means self.new lines) }
+        ensures kinds { OnOk result (All IsConf self.old.faults.items → All IsConf self.new.faults.items) }
+    {
+        match self.layer.take(item) {
+            Ok(_) => Ok(()),
+            Err(LayerStop::Conf(line, kind)) => self.tell(file, line, kind),
+            Err(LayerStop::NoBraceAnd(first, line, kind)) => {
+                self.tell(file, first, ConfKind::NoBrace)?;
+                self.tell(file, line, kind)
+            }
+            Err(LayerStop::Memory) => Err(Memory),
+        }
+    }
+
+    /// Takes a line of the file in that has a fault, and tells it.
+    pub fn spoil(&mut self, file: &Path, line: u32, kind: ConfKind) -> Result<(), Memory>
+        requires { entered self.old.layer ≡ file.now ∷ [] }
+        ensures files { entered self.new.layer ≡ entered self.old.layer }
+        ensures means { OnOk result ((lines : List Line) → means self.old (Spoiled (conf file.now kind line) ∷ lines) ≡ means self.new lines) }
+        ensures kinds { OnOk result (All IsConf self.old.faults.items → All IsConf self.new.faults.items) }
+    {
+        self.layer.spoil(line);
+        self.tell(file, line, kind)
+    }
+
+    /// Takes the lines of a text in.
+    pub fn take_text(&mut self, file: &Path, bytes: &[u8]) -> Result<(), Memory>
+        requires files { entered self.old.layer ≡ file.now ∷ [] }
+        requires size { length bytes.now < 2 ^ 32 }
+        ensures files { entered self.new.layer ≡ entered self.old.layer }
+        ensures means { OnOk result ((lines : List Line) → means self.old (lines_of file.now bytes.now ++ lines) ≡ means self.new lines) }
+        ensures kinds { OnOk result (All IsConf self.old.faults.items → All IsConf self.new.faults.items) }
+    {
+        let mut lexer = Lexer::new(self.alloc, bytes);
+        loop {
+            match lexer.next() {
+                Ok(Some(item)) => self.take(file, item)?,
+                Ok(None) => return Ok(()),
+                Err(fault) => {
+                    let Some(kind) = conf_kind(fault.kind) else {
+                        return Err(Memory);
+                    };
+                    self.spoil(file, fault.line, kind)?;
+                }
+            }
+        }
+    }
+
+    /// Takes the end of the file in, and tells its fault.
+    pub fn close(&mut self, file: &Path) -> Result<(), Memory>
+        requires { entered self.old.layer ≡ file.now ∷ [] }
+        ensures files { entered self.new.layer ≡ entered self.old.layer }
+        ensures means { OnOk result ((lines : List Line) → means self.old (End file.now ∷ lines) ≡ means self.new lines) }
+        ensures kinds { OnOk result (All IsConf self.old.faults.items → All IsConf self.new.faults.items) }
+    {
+        match self.layer.close_file() {
+            Some((line, kind)) => self.tell(file, line, kind),
+            None => Ok(()),
+        }
+    }
+
+    /// The rules, notices and faults of all that was taken.
+    pub fn finish(self) -> Reading
+        ensures means { meaning_of result ≡ means self [] }
+        ensures faults { result.faults ≡ self.faults.items }
+    {
+        let Reader { layer, faults, .. } = self;
+        let (rules, notices) = layer.finish();
+        Reading {
+            rules,
+            notices: Listed::from_vec(notices),
+            faults: Listed::from_vec(faults),
+        }
+    }
+}
