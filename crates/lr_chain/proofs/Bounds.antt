@@ -1,0 +1,78 @@
+-- The numbers of members, and of what stands behind them, are low enough.
+use Rattle.std.proofs.Common.{◌≡◌, ℕ, ◌+◌, ◌==◌, ◌<◌, ◌≤◌, Bool, true, false, List, [], ◌∷◌, length, get_or, map, reverse, refl, sym, ap, ◌∙◌, subst, arith, eqb-true, eq-eqb}
+use Rattle.std.specs.Prelude.{All, Any, nat_le, ◌↔◌}
+use Rattle.std.specs.List.{list_any}
+use Rattle.std.proofs.lemmas.Bool.Decides.{nat_tests}
+use Rattle.std.proofs.lemmas.List.{reverse-append}
+use Rattle.std.proofs.lemmas.List.Elements.{All-nil, All-cons, All-head, All-tail, All-append, All-map, All-weaker}
+use Rattle.std.proofs.lemmas.List.Folds.{list_any_at, Any-from_list_any}
+use Rattle.lr_rules.specs.declared.path.Path.{Path}
+use Rattle.lr_rules.specs.declared.rule.Count.{Count}
+use Rattle.lr_rules.specs.declared.rule.Count.TheVariants as count
+use Rattle.lr_rules.specs.declared.rule.Naming.{Naming}
+use Rattle.lr_family.specs.declared.place.Place.{Place}
+use Rattle.lr_family.specs.declared.place.Place.TheVariants as at
+use Rattle.lr_family.specs.declared.stand.Member.{Member}
+use Rattle.lr_family.specs.declared.stand.Stand.{Stand}
+use Rattle.lr_family.specs.Places.{IsPlaceOf}
+use Rattle.lr_family.specs.Stands.{number_in}
+use Rattle.lr_chain.specs.Rotation.{places_of, is_left}
+use Rattle.lr_chain.specs.Ready.{AreNamed, HaveNames, HaveNext, IsCount, NoneTooHigh, HasTooHigh, IsTooHigh, is_highest, highest_path}
+use Rattle.lr_chain.proofs.Highest.{path_is}
+
+pub all_reverse : (P : ℕ → Type 0) (xs : List ℕ) → All P xs → All P (reverse xs)
+all_reverse P [] h = h
+all_reverse P (x ∷ xs) h = subst (All P) (sym (reverse-append (x ∷ []) xs)) (All-append P (reverse xs) (x ∷ []) (all_reverse P xs (All-tail P x xs h)) (All-cons P x [] (All-head P x xs h) (All-nil P)))
+
+bound_of : (n : Naming) (place : Place) (path : Path) → IsPlaceOf n place path → n.start + number_in place ≤ 4294967295
+bound_of n (at.Number k) path named = named.bound
+bound_of n (at.Stamp s) path named = absurd named
+
+pub have_names : (n : Naming) (members : List Member) → AreNamed n members → HaveNames n (places_of members)
+have_names n members named = all_reverse (λ place. n.start + place ≤ 4294967295) (map (λ m. number_in m.place) members)
+    (All-map (λ place. n.start + place ≤ 4294967295) (λ m. number_in m.place) members
+    (All-weaker (λ m. IsPlaceOf n m.place m.path) (λ m. n.start + number_in m.place ≤ 4294967295) (λ m. bound_of n m.place m.path) members named))
+
+none_at : {X : Type 0} (p : X → Bool) (xs : List X) (k : ℕ) (d : X) → k < length xs → list_any p xs ≡ false → p (get_or xs k d) ≡ false
+none_at p xs k d lt e = go (p (get_or xs k d)) refl
+  where
+    go : (b : Bool) → p (get_or xs k d) ≡ b → p (get_or xs k d) ≡ false
+    go true h = let t : list_any p xs ≡ true = list_any_at p xs k d lt h in absurd (cc)
+    go false h = h
+
+next_of : (n : Naming) (c : Count) (m : Member) → n.start ≤ 999999 → IsCount c → IsPlaceOf n m.place m.path → (c ≡ count.Always → is_highest n m ≡ false)
+    → is_left c (number_in m.place) ≡ false → n.start + (number_in m.place + 1) ≤ 4294967295
+next_of n (count.Keep k) m start small named low h = by_count (number_in m.place) h
+  where
+    by_count : (place : ℕ) → nat_le k place ≡ false → n.start + (place + 1) ≤ 4294967295
+    by_count place h = let lt : place < k = grind (arith, nat_tests) in omega arith
+next_of n count.Always m start small named low h = by_bound (number_in m.place) (bound_of n m.place m.path named) (low refl)
+  where
+    by_bound : (place : ℕ) → n.start + place ≤ 4294967295 → (n.start + place == 4294967295) ≡ false → n.start + (place + 1) ≤ 4294967295
+    by_bound place le ne = grind (arith, nat_tests)
+
+pub have_next : (n : Naming) (c : Count) (members : List Member) → n.start ≤ 999999 → IsCount c → AreNamed n members → NoneTooHigh n c members → HaveNext n c (places_of members)
+have_next n c members start small named low = all_reverse (λ place. is_left c place ≡ false → n.start + (place + 1) ≤ 4294967295) (map (λ m. number_in m.place) members)
+    (All-map (λ place. is_left c place ≡ false → n.start + (place + 1) ≤ 4294967295) (λ m. number_in m.place) members
+    (λ k d lt. next_of n c (get_or members k d) start small (named k d lt) (λ e. none_at (is_highest n) members k d lt (low e))))
+
+-- the told path is that of each member that stands highest
+pub too_high_is : (n : Naming) (stand : Stand) (c : Count) (members : List Member) (path told x : Path) → stand.there ≡ true → members ≡ stand.members → AreNamed n stand.members → HasTooHigh n c members path → told ≡ path
+    → (told ≡ x) ↔ IsTooHigh n stand c x
+too_high_is n stand c members path told x there same named has is = (λ e. (there, has.0, some e), λ h. same_path h)
+  where
+    some : told ≡ x → Any (λ m. (n.start + number_in m.place ≡ 4294967295) × (m.path ≡ x)) stand.members
+    some e = let a = Any-from_list_any (is_highest n) stand.members (sym (ap (list_any (is_highest n)) same) ∙ has.1) in
+        (a.0, a.1, a.2, a.3, (eqb-true (n.start + number_in a.1.place) 4294967295 a.4, path_is n a.1 (subst (λ (m : Member). IsPlaceOf n m.place m.path) a.3 (named a.0 a.1 a.2)) a.4 ∙ (sym has.2 ∙ (sym is ∙ e))))
+
+    same_path : IsTooHigh n stand c x → told ≡ x
+    same_path h = let a = h.2 in
+        is ∙ (has.2 ∙ (sym (path_is n a.1 (subst (λ (m : Member). IsPlaceOf n m.place m.path) a.3 (named a.0 a.1 a.2)) (eq-eqb (n.start + number_in a.1.place) 4294967295 a.4.0)) ∙ a.4.1))
+
+-- where no member's path is told so, none stands highest
+pub none_too_high : (n : Naming) (stand : Stand) (c : Count) → stand.there ≡ true → AreNamed n stand.members → ((path : Path) → IsTooHigh n stand c path → ⊥) → NoneTooHigh n c stand.members
+none_too_high n stand c there named low e = go (list_any (is_highest n) stand.members) refl
+  where
+    go : (b : Bool) → list_any (is_highest n) stand.members ≡ b → list_any (is_highest n) stand.members ≡ false
+    go true h = absurd (low (highest_path n) ((too_high_is n stand c stand.members (highest_path n) (highest_path n) (highest_path n) there refl named (e, h, refl) refl).0 refl))
+    go false h = h

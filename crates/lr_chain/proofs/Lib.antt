@@ -1,0 +1,12 @@
+pub mod Bounds
+pub mod Chaining
+pub mod Every
+pub mod Fitting
+pub mod Has
+pub mod Highest
+pub mod Lasting
+pub mod Parts
+pub mod Paths
+pub mod Retiring
+pub mod Turned
+pub mod Whole

@@ -1,0 +1,5 @@
+pub mod Ready
+pub mod Rotation
+pub mod Standing
+pub mod Stops
+pub mod Turning

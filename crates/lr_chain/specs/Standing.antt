@@ -1,0 +1,25 @@
+-- How the members of a rotation stand under the names of a disk, so that its steps fit.
+use Rattle.std.specs.Prelude.{◌≡◌, ◌+◌, ◌≤◌, ℕ, List, reverse, Contains}
+use Rattle.std.specs.List.Sorted.{IsStrictlyIncreasing}
+use Rattle.lr_rules.specs.declared.path.Path.{Path}
+use Rattle.lr_rules.specs.declared.rule.Count.{Count}
+use Rattle.lr_rules.specs.declared.rule.Naming.{Naming}
+use Rattle.lr_host.specs.declared.thing.Thing.TheVariants as thing
+use Rattle.lr_host.specs.World.{Names}
+use Rattle.lr_host.specs.Fits.{IsFileAt, IsDirectoryAt}
+use Rattle.lr_host.specs.Steps.{FitAll}
+use Rattle.lr_family.specs.Spots.{path_at}
+use Rattle.lr_chain.specs.Rotation.{rotation}
+
+-- The log is a regular file, the family's directory a directory; the members at just these places, each below the one
+-- before it, are regular files, and nothing has the path of another member.
+pub record StandSo (log : Path) (n : Naming) (places : List ℕ) (names : Names) : Type 0 where
+  pub falling : IsStrictlyIncreasing (reverse places)
+  pub log_file : IsFileAt names log
+  pub dir : IsDirectoryAt names n.dir
+  pub members : (place : ℕ) → Contains places place → IsFileAt names (path_at n place)
+  pub others : (place : ℕ) → n.start + place ≤ 4294967295 → (Contains places place → ⊥) → names (path_at n place) ≡ thing.Nothing
+
+-- wherever they stand so, the steps of the rotation fit one after another
+abbrev pub FitsWhereTheyStand : Path → Naming → Count → List ℕ → Type 0
+FitsWhereTheyStand log n c places = (names : Names) → StandSo log n places names → FitAll names (reverse (rotation n c log places))

@@ -1,0 +1,28 @@
+//! One rotation of a log: the chain of renames, and the removals before and behind it.
+//!
+//! The contract above it: what is prepared are the steps of one rotation, and each call leaves just the entries of its
+//! steps, in order. Begin with `prepare`:
+//!
+//! ```text
+//! let ready = prepare(alloc, &family, &stand, Count::Keep(7))?;
+//! retire(alloc, &mut host, ready.leftovers.as_slice())?;
+//! turn(&mut host, &ready)?;                                     // /var/log/app.log is /var/log/app.log.1
+//! retire(alloc, &mut host, ready.retire.as_slice())?;
+//! ```
+#![tactic(auto)]
+
+mod chain;
+mod laws;
+mod place;
+mod plan;
+mod preparing;
+mod ready;
+mod retirement;
+#[cfg(test)]
+mod tests;
+
+pub use chain::{ChainStop, shift, turn};
+pub use laws::{rotation_fits, rotation_turns, steps_of_ready};
+pub use preparing::prepare;
+pub use ready::{Move, PrepareStop, Ready};
+pub use retirement::retire;

@@ -1,0 +1,96 @@
+// What makes a rotation ready.
+ghost use Rattle.std.specs.Prelude.{◌≡◌, ◌≢◌, ◌≤◌, ◌↔◌, true, None, Err, IfOk, IfErr, MatchOption};
+ghost use Rattle.std.specs.List.{list_any};
+ghost use Rattle.lr_rules.specs.declared.path.Path.{Path};
+ghost use Rattle.lr_chain.specs.Rotation.{places_of};
+ghost use Rattle.lr_chain.specs.Standing.{FitsWhereTheyStand};
+ghost use Rattle.lr_chain.specs.Turning.{TurnsWhereTheyStand};
+ghost use Rattle.lr_chain.specs.Ready.{IsReady, IsCount, AreNamed, NoneTooHigh, HasTooHigh, IsMissing, IsTooHigh};
+
+use crate::laws::{rotation_fits, rotation_turns};
+use crate::place::{highest, path_there, places};
+use crate::plan::{last_removal, leftover_removals, moves_of};
+use crate::ready::{PrepareStop, Ready};
+use lr_family::{Family, Member, Stand};
+use lr_rules::{Count, Listed, Make, Memory, Naming, Path};
+use std::alloc::Global;
+
+// The path of a member whose number would have to become too high.
+fn too_high<'a>(naming: &Naming, count: Count, members: &'a [Member]) -> Option<&'a Path>
+    requires { AreNamed naming.now members.now }
+    ensures { MatchOption result (NoneTooHigh naming.now count members.now) (λ path. HasTooHigh naming.now count members.now path.now) }
+{
+    match count {
+        Count::Keep(_) => None,
+        Count::Always => highest(naming, members),
+    }
+}
+
+// The rotation, with all its paths.
+fn ready_of(
+    alloc: Global,
+    family: &Family,
+    count: Count,
+    members: &[Member],
+) -> Result<Ready, Memory>
+    requires numbered { family.now.naming.dated ≡ None }
+    requires start { family.now.naming.start ≤ 999999 }
+    requires count { IsCount count }
+    requires named { AreNamed family.now.naming members.now }
+    requires low { NoneTooHigh family.now.naming count members.now }
+    ensures { IfOk result (IsReady family.now.log family.now.naming count members.now) }
+{
+    let places = places(alloc, members)?;
+    let leftovers = leftover_removals(alloc, family, count, &places)?;
+    let moves = moves_of(alloc, family, count, &places)?;
+    let last = last_removal(alloc, family, count, &places)?;
+    Ok(Ready {
+        leftovers: Listed::from_vec(leftovers),
+        dir: None,
+        moves: Listed::from_vec(moves),
+        log: family.log().copy(alloc)?,
+        target: path_there(alloc, family, 0)?,
+        make: Make::No,
+        retire: Listed::from_vec(last),
+    })
+}
+
+/// Makes the rotation of a numbered family ready, where these members stand. `NoDir` and `TooHigh` come before all that
+/// takes memory, but for the copy of their own path. `Taken` has no case yet.
+pub fn prepare(
+    alloc: Global,
+    family: &Family,
+    stand: &Stand,
+    count: Count,
+) -> Result<Ready, PrepareStop>
+    requires numbered { family.now.naming.dated ≡ None }
+    requires start { family.now.naming.start ≤ 999999 }
+    requires count { IsCount count }
+    requires named { AreNamed family.now.naming stand.now.members }
+    ensures ready { IfOk result (IsReady family.now.log family.now.naming count stand.now.members) }
+    ensures fits { IfOk result (λ ready. FitsWhereTheyStand family.now.log family.now.naming count (places_of stand.now.members)) }
+    ensures turns { IfOk result (λ ready. TurnsWhereTheyStand family.now.log family.now.naming count (places_of stand.now.members)) }
+    ensures no_dir { result ≢ Err PrepareStop.Memory → (path : Path) → (result ≡ Err (PrepareStop.NoDir path)) ↔ IsMissing family.now.naming stand.now path }
+    ensures too_high { result ≢ Err PrepareStop.Memory → (path : Path) → (result ≡ Err (PrepareStop.TooHigh path)) ↔ IsTooHigh family.now.naming stand.now count path }
+    ensures taken { (path : Path) → result ≢ Err (PrepareStop.Taken path) }
+{
+    if !stand.there {
+        return match family.naming().dir.copy(alloc) {
+            Ok(dir) => Err(PrepareStop::NoDir(dir)),
+            Err(_) => Err(PrepareStop::Memory),
+        };
+    }
+    let members = stand.members.as_slice();
+    if let Some(path) = too_high(family.naming(), count, members) {
+        return match path.copy(alloc) {
+            Ok(path) => Err(PrepareStop::TooHigh(path)),
+            Err(_) => Err(PrepareStop::Memory),
+        };
+    }
+    rotation_fits(family, stand, count);
+    rotation_turns(family, stand, count);
+    match ready_of(alloc, family, count, members) {
+        Ok(ready) => Ok(ready),
+        Err(_) => Err(PrepareStop::Memory),
+    }
+}
