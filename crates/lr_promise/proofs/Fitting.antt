@@ -1,0 +1,338 @@
+-- What stands while a family is turned, and that the steps fit one after another.
+use Rattle.std.proofs.Common.{◌≡◌, ◌≢◌, ◌⊎◌, inl, inr, ⊎_elim, ℕ, zero, suc, ◌+◌, ◌<◌, ◌≤◌, ◌==◌, Bool, true, false, not, cond, List, [], ◌∷◌, ◌++◌, map, reverse, refl, sym, ap, ◌∙◌, subst, append_assoc, arith, eqb-true, eq-eqb, nat_le, All}
+use Rattle.std.specs.Prelude.{Contains, filter}
+use Rattle.std.specs.List.{list_any}
+use Rattle.std.proofs.lemmas.List.{reverse-append, append-nil}
+use Rattle.std.proofs.lemmas.Bool.Decides.{nat_tests}
+use Rattle.lr_rules.specs.declared.path.Path.{Path}
+use Rattle.lr_rules.specs.declared.rule.Count.{Count}
+use Rattle.lr_rules.specs.declared.rule.Count.TheVariants as count
+use Rattle.lr_rules.specs.declared.rule.Naming.{Naming}
+use Rattle.lr_host.specs.declared.thing.Thing.{Thing}
+use Rattle.lr_host.specs.declared.thing.Thing.TheVariants as thing
+use Rattle.lr_host.specs.declared.entry.Entry.{Entry}
+use Rattle.lr_host.specs.declared.entry.Entry.TheVariants as entry
+use Rattle.lr_host.specs.World.{Names, put, names_after}
+use Rattle.lr_host.specs.Fits.{IsFileAt, IsDirectoryAt}
+use Rattle.lr_host.specs.Told.{CanCall}
+use Rattle.lr_host.specs.Steps.{changes_of, FitAll}
+use Rattle.lr_host.proofs.Names.{put_here, put_other}
+use Rattle.lr_family.specs.Spots.{path_at}
+use Rattle.lr_chain.specs.Rotation.{is_left, leftovers, kept, one_too_many, unlink_at, move_at, rotation}
+use Rattle.lr_promise.specs.Members.{IsFamily, HasName, AreThere, HaveNext}
+use Rattle.lr_promise.proofs.Places.{Every, Falls, every_as, every_from, every_all, every_filter, every_passes, falls_filter, falls_all, IsHead, head_of}
+use Rattle.lr_promise.proofs.Paths.{path_parent, path_same, path_other}
+
+-- the first of them first
+abbrev FitOn : Names → List Entry → Type 0
+FitOn m [] = Unit {0}
+FitOn m (e ∷ es) = CanCall m e × FitOn (names_after m (changes_of (e ∷ []))) es
+
+pub after_one : (m : Names) (done : List Entry) (e : Entry) → names_after (names_after m (changes_of done)) (changes_of (e ∷ [])) ≡ names_after m (changes_of (e ∷ done))
+after_one m done (entry.Renames from to) = refl
+after_one m done (entry.Unlinks x) = refl
+after_one m done (entry.MakesDir x mode) = refl
+after_one m done _ = refl
+
+fit_behind : (m : Names) (done es : List Entry) → FitAll m done → FitOn (names_after m (changes_of done)) es → FitAll m (reverse es ++ done)
+fit_behind m done [] fit on = fit
+fit_behind m done (e ∷ es) fit on =
+    subst (λ (xs : List Entry). FitAll m xs) (sym (ap (λ xs. xs ++ done) (reverse-append (e ∷ []) es) ∙ append_assoc (reverse es) (e ∷ []) done))
+    (fit_behind m (e ∷ done) es (fit, on.0) (subst (λ (v : Names). FitOn v es) (after_one m done e) on.1))
+
+-- the file of a name that names one
+pub there_or_not : (t : Thing) (g : ℕ) → t ≡ thing.File g → t ≡ thing.Directory → ⊥
+there_or_not t g a b = cc
+
+-- What stands between two steps: these leftovers and these members are still to be taken, and up to the limit no other place names anything.
+pub record Before (log : Path) (n : Naming) (m : Names) (limit : ℕ) (ls ks : List ℕ) : Type 0 where
+  pub log_file : IsFileAt m log
+  pub dir : IsDirectoryAt m n.dir
+  pub left_files : Every (λ k. IsFileAt m (path_at n k)) ls
+  pub kept_files : Every (λ k. IsFileAt m (path_at n k)) ks
+  pub gap : (j : ℕ) → HasName n j → j ≤ limit → Every (λ k. k ≢ j) ls → Every (λ k. k ≢ j) ks → m (path_at n j) ≡ thing.Nothing
+
+module _ (log : Path) (n : Naming) (family : IsFamily log n) where
+  other_place : (i j : ℕ) → HasName n i → HasName n j → (i ≡ j → ⊥) → path_at n i ≡ path_at n j → ⊥
+  other_place i j p q ne e = ne (path_same n i j p q e)
+
+  file_put : (m : Names) (j k : ℕ) (t : Thing) → HasName n j → HasName n k → (k ≡ j → ⊥) → IsFileAt m (path_at n k) → IsFileAt (put m (path_at n j) t) (path_at n k)
+  file_put m j k t p q ne f = (f.0, put_other m (path_at n j) (path_at n k) t (other_place k j q p ne) ∙ f.1)
+
+  files_put : (m : Names) (j : ℕ) (t : Thing) (ks : List ℕ) → HasName n j → Every (HasName n) ks → Every (λ k. k ≢ j) ks → Every (λ k. IsFileAt m (path_at n k)) ks → Every (λ k. IsFileAt (put m (path_at n j) t) (path_at n k)) ks
+  files_put m j t [] i js nes fs = tt
+  files_put m j t (k ∷ ks) i js nes fs = (file_put m j k t i js.0 nes.0 fs.0, files_put m j t ks i js.1 nes.1 fs.1)
+
+  log_put : (m : Names) (j : ℕ) (t : Thing) → HasName n j → IsFileAt m log → IsFileAt (put m (path_at n j) t) log
+  log_put m j t i f = (f.0, put_other m (path_at n j) log t (path_other log n j family i) ∙ f.1)
+
+  -- a path that names a file or nothing is not the directory's
+  dir_put : (m : Names) (x : Path) (t : Thing) → (m x ≡ thing.Directory → ⊥) → IsDirectoryAt m n.dir → IsDirectoryAt (put m x t) n.dir
+  dir_put m x t other d = put_other m x n.dir t (λ e. other (ap m (sym e) ∙ d)) ∙ d
+
+  file_no_dir : (m : Names) (x : Path) → IsFileAt m x → m x ≡ thing.Directory → ⊥
+  file_no_dir m x f d = there_or_not (m x) f.0 f.1 d
+
+  nothing_no : (t : Thing) → t ≡ thing.Nothing → (t ≢ thing.Directory) × (t ≢ thing.Other)
+  nothing_no t e = ((λ d. cc), (λ d. cc))
+
+  -- a leftover goes
+  pub unlinked : (m : Names) (limit l : ℕ) (ls ks : List ℕ) → HasName n l → Every (HasName n) ls → Every (HasName n) ks → Every (λ k. k ≢ l) ls → Every (λ k. k ≢ l) ks → Before log n m limit (l ∷ ls) ks
+      → Before log n (put m (path_at n l) thing.Nothing) limit ls ks
+  unlinked m limit l ls ks il ils iks nls nks b = record {
+    log_file = log_put m l thing.Nothing il b.log_file;
+    dir = dir_put m (path_at n l) thing.Nothing (file_no_dir m (path_at n l) b.left_files.0) b.dir;
+    left_files = files_put m l thing.Nothing ls il ils nls b.left_files.1;
+    kept_files = files_put m l thing.Nothing ks il iks nks b.kept_files;
+    gap = λ j ij le ol ok. at j ij le ol ok (l == j) refl;
+  }
+    where
+      at : (j : ℕ) → HasName n j → j ≤ limit → Every (λ k. k ≢ j) ls → Every (λ k. k ≢ j) ks → (b : Bool) → (l == j) ≡ b → put m (path_at n l) thing.Nothing (path_at n j) ≡ thing.Nothing
+      at j ij le ol ok true e = put_here m (path_at n l) (path_at n j) thing.Nothing (ap (path_at n) (sym (eqb-true l j e)))
+      at j ij le ol ok false e =
+          let ne : l ≡ j → ⊥ = λ (s : l ≡ j). (let t : (l == j) ≡ true = eq-eqb l j s in cc) in
+          put_other m (path_at n l) (path_at n j) thing.Nothing (other_place j l ij il (λ s. ne (sym s))) ∙ b.gap j ij le (ne, ol) ok
+
+  -- a member is moved one place on
+  pub moved : (m : Names) (limit k : ℕ) (ks : List ℕ) → HasName n k → HasName n (k + 1) → Every (HasName n) ks → Every (λ j. j < k) ks → k < limit → Before log n m limit [] (k ∷ ks)
+      → Before log n (put (put m (path_at n k) thing.Nothing) (path_at n (k + 1)) (m (path_at n k))) k [] ks
+  moved m limit k ks ik next iks falls lt b = record {
+    log_file = log_put gone (k + 1) (m (path_at n k)) next (log_put m k thing.Nothing ik b.log_file);
+    dir = dir_put gone (path_at n (k + 1)) (m (path_at n k)) target_no_dir (dir_put m (path_at n k) thing.Nothing (file_no_dir m (path_at n k) b.kept_files.0) b.dir);
+    left_files = tt;
+    kept_files = files_put gone (k + 1) (m (path_at n k)) ks next iks (every_as (λ j. j < k) (λ j. j ≢ k + 1) ks (λ j lt e. omega (arith, lt, e)) falls)
+        (files_put m k thing.Nothing ks ik iks (every_as (λ j. j < k) (λ j. j ≢ k) ks (λ j lt e. omega (arith, lt, e)) falls) b.kept_files.1);
+    gap = λ j ij le ol ok. at j ij le ok (k == j) refl;
+  }
+    where
+      gone : Names
+      gone = put m (path_at n k) thing.Nothing
+
+      free : m (path_at n (k + 1)) ≡ thing.Nothing
+      free = b.gap (k + 1) next (omega arith) tt ((λ e. omega (arith, e)), every_as (λ j. j < k) (λ j. j ≢ k + 1) ks (λ j lt e. omega (arith, lt, e)) falls)
+
+      target_free : gone (path_at n (k + 1)) ≡ thing.Nothing
+      target_free = put_other m (path_at n k) (path_at n (k + 1)) thing.Nothing (other_place (k + 1) k next ik (λ e. omega (arith, e))) ∙ free
+
+      target_no_dir : gone (path_at n (k + 1)) ≡ thing.Directory → ⊥
+      target_no_dir d = (nothing_no (gone (path_at n (k + 1))) target_free).0 d
+
+      at : (j : ℕ) → HasName n j → j ≤ k → Every (λ i. i ≢ j) ks → (b : Bool) → (k == j) ≡ b → put gone (path_at n (k + 1)) (m (path_at n k)) (path_at n j) ≡ thing.Nothing
+      at j ij le ok true e =
+          put_other gone (path_at n (k + 1)) (path_at n j) (m (path_at n k)) (other_place j (k + 1) ij next (λ s. omega (arith, s, le)))
+          ∙ put_here m (path_at n k) (path_at n j) thing.Nothing (ap (path_at n) (sym (eqb-true k j e)))
+      at j ij le ok false e =
+          let ne : k ≡ j → ⊥ = λ (s : k ≡ j). (let t : (k == j) ≡ true = eq-eqb k j s in cc) in
+          put_other gone (path_at n (k + 1)) (path_at n j) (m (path_at n k)) (other_place j (k + 1) ij next (λ s. omega (arith, s, le)))
+          ∙ (put_other m (path_at n k) (path_at n j) thing.Nothing (other_place j k ij ik (λ s. ne (sym s))) ∙ b.gap j ij (omega (arith, le, lt)) tt (ne, ok))
+
+  -- the place to which a member is moved is free
+  pub move_free : (m : Names) (limit k : ℕ) (ks : List ℕ) → HasName n (k + 1) → Every (λ j. j < k) ks → k < limit → Before log n m limit [] (k ∷ ks) → m (path_at n (k + 1)) ≡ thing.Nothing
+  move_free m limit k ks next falls lt b = b.gap (k + 1) next (omega arith) tt ((λ e. omega (arith, e)), every_as (λ j. j < k) (λ j. j ≢ k + 1) ks (λ j lt e. omega (arith, lt, e)) falls)
+
+  pub log_free : (m : Names) (limit : ℕ) → HasName n 0 → Before log n m limit [] [] → m (path_at n 0) ≡ thing.Nothing
+  log_free m limit i b = b.gap 0 i (omega arith) tt tt
+
+  -- ---- what fits
+
+  unlinks_fit : (m : Names) (limit : ℕ) (ls ks : List ℕ) (rest : List Entry) → Every (HasName n) ls → Every (HasName n) ks → Falls ls → Every (λ l. Every (λ k. k ≢ l) ks) ls → Before log n m limit ls ks
+      → ((v : Names) → Before log n v limit [] ks → FitOn v rest) → FitOn m (map (unlink_at n) ls ++ rest)
+  unlinks_fit m limit [] ks rest il ik falls apart b then = then m b
+  unlinks_fit m limit (l ∷ ls) ks rest il ik falls apart b then = (
+    b.left_files.0,
+    unlinks_fit (put m (path_at n l) thing.Nothing) limit ls ks rest il.1 ik falls.1 apart.1 (unlinked m limit l ls ks il.0 il.1 ik (every_as (λ k. k < l) (λ k. k ≢ l) ls (λ k lt e. omega (arith, lt, e)) falls.0) apart.0 b) then,
+  )
+
+  moves_fit : (m : Names) (limit top : ℕ) (H : Type 0) (ks : List ℕ) (rest : List Entry) → Every (HasName n) ks → Every (λ k. HasName n (k + 1)) ks → Falls ks → Every (λ k. k < limit) ks
+      → (H → HasName n (top + 1) × Every (λ k. k ≤ top) ks) → Before log n m limit [] ks → (H → IsFileAt m (path_at n (top + 1)) ⊎ IsHead top ks)
+      → ((v : Names) (l : ℕ) → Before log n v l [] [] → (H → IsFileAt v (path_at n (top + 1))) → FitOn v rest) → FitOn m (map (move_at n) ks ++ rest)
+  moves_fit m limit top H [] rest ik next falls small low b high then = then m limit b (λ h. ⊎_elim (λ f. f) (λ no. absurd no) (high h))
+  moves_fit m limit top H (k ∷ ks) rest ik next falls small low b high then = (
+    (
+      b.kept_files.0,
+      (nothing_no (m (path_at n (k + 1))) free).0,
+      (nothing_no (m (path_at n (k + 1))) free).1,
+      ap m (path_parent log n (k + 1) family next.0) ∙ b.dir,
+      λ e. let same : k ≡ k + 1 = path_same n k (k + 1) ik.0 next.0 e in omega (arith, same),
+    ),
+    moves_fit after k top H ks rest ik.1 next.1 falls.1 falls.0 (λ h. ((low h).0, (low h).1.1)) (moved m limit k ks ik.0 next.0 ik.1 falls.0 small.0 b) (λ h. at_top h (k == top) refl (high h)) then,
+  )
+    where
+      free : m (path_at n (k + 1)) ≡ thing.Nothing
+      free = move_free m limit k ks next.0 falls.0 small.0 b
+
+      gone : Names
+      gone = put m (path_at n k) thing.Nothing
+
+      after : Names
+      after = put gone (path_at n (k + 1)) (m (path_at n k))
+
+      at_top : H → (b : Bool) → (k == top) ≡ b → IsFileAt m (path_at n (top + 1)) ⊎ (k ≡ top) → IsFileAt after (path_at n (top + 1)) ⊎ IsHead top ks
+      at_top h true e was = inl (b.kept_files.0.0, put_here gone (path_at n (k + 1)) (path_at n (top + 1)) (m (path_at n k)) (ap (λ (i : ℕ). path_at n (i + 1)) (sym (eqb-true k top e))) ∙ b.kept_files.0.1)
+      at_top h false e (inl f) =
+          let ne : k ≡ top → ⊥ = λ (s : k ≡ top). (let t : (k == top) ≡ true = eq-eqb k top s in cc) in
+          inl (file_put gone (k + 1) (top + 1) (m (path_at n k)) next.0 (low h).0 (λ s. ne (omega (arith, s)))
+          (file_put m k (top + 1) thing.Nothing ik.0 (low h).0 (λ s. omega (arith, s, (low h).1.0)) f))
+      at_top h false e (inr s) = absurd (let t : (k == top) ≡ true = eq-eqb k top s in cc)
+
+-- of which places the last one must be a member's
+abbrev IsTop : Count → List ℕ → Type 0
+IsTop (count.Keep (suc k)) places = list_any (λ place. place == k) places ≡ true
+IsTop _ places = ⊥
+
+abbrev top_of : Count → ℕ
+top_of (count.Keep (suc k)) = k
+top_of _ = 0
+
+last_fits : (log : Path) (n : Naming) (family : IsFamily log n) (m : Names) (limit : ℕ) (c : Count) (places : List ℕ) → HasName n 0 → (IsTop c places → HasName n (top_of c + 1)) → Before log n m limit [] []
+    → (IsTop c places → IsFileAt m (path_at n (top_of c + 1))) → FitOn m (entry.Renames log (path_at n 0) ∷ map (unlink_at n) (one_too_many c places))
+last_fits log n family m limit c places first named b high = (
+  (
+    b.log_file,
+    (nothing_no log n family (m (path_at n 0)) (log_free log n family m limit first b)).0,
+    (nothing_no log n family (m (path_at n 0)) (log_free log n family m limit first b)).1,
+    ap m (path_parent log n 0 family first) ∙ b.dir,
+    path_other log n 0 family first,
+  ),
+  last c named high,
+)
+  where
+    gone : Names
+    gone = put m log thing.Nothing
+
+    after : Names
+    after = put gone (path_at n 0) (m log)
+
+    last : (c : Count) → (IsTop c places → HasName n (top_of c + 1)) → (IsTop c places → IsFileAt m (path_at n (top_of c + 1))) → FitOn after (map (unlink_at n) (one_too_many c places))
+    last count.Always named high = tt
+    last (count.Keep zero) named high = ((b.log_file.0, put_here gone (path_at n 0) (path_at n 0) (m log) refl ∙ b.log_file.1), tt)
+    last (count.Keep (suc k)) named high = go (list_any (λ place. place == k) places) refl
+      where
+        one_more : (place : ℕ) → place + 1 ≡ suc place
+        one_more place = omega arith
+
+        at_top : list_any (λ place. place == k) places ≡ true → IsFileAt after (path_at n (k + 1))
+        at_top e =
+            let f : IsFileAt m (path_at n (k + 1)) = high e in
+            let i : HasName n (k + 1) = named e in
+            (f.0, put_other gone (path_at n 0) (path_at n (k + 1)) (m log) (other_place log n family (k + 1) 0 i first (λ s. omega (arith, s))) ∙ (put_other m log (path_at n (k + 1)) thing.Nothing (λ s. path_other log n (k + 1) family i (sym s)) ∙ f.1))
+
+        go : (b : Bool) → list_any (λ place. place == k) places ≡ b → FitOn after (map (unlink_at n) (cond b (suc k ∷ []) []))
+        go true e = (subst (λ (i : ℕ). IsFileAt after (path_at n i)) (one_more k) (at_top e), tt)
+        go false e = tt
+
+-- ---- the places of a rotation
+
+pub not_true : (b : Bool) → not b ≡ true → b ≡ false
+not_true true h = absurd (cc)
+not_true false h = refl
+
+is_left_apart : (c : Count) (k l : ℕ) → is_left c k ≡ false → is_left c l ≡ true → k ≢ l
+is_left_apart c k l p q e = let same : is_left c k ≡ is_left c l = ap (is_left c) e in clash (is_left c k) (is_left c l) p q same
+  where
+    clash : (a b : Bool) → a ≡ false → b ≡ true → a ≡ b → ⊥
+    clash a b p q e = cc
+
+pub kept_stay : (c : Count) (places : List ℕ) → Every (λ k. is_left c k ≡ false) (kept c places)
+kept_stay c places = every_as (λ k. not (is_left c k) ≡ true) (λ k. is_left c k ≡ false) (kept c places) (λ k h. not_true (is_left c k) h) (every_passes (λ k. not (is_left c k)) places)
+
+pub left_apart : (c : Count) (places : List ℕ) → Every (λ l. Every (λ k. k ≢ l) (kept c places)) (leftovers c places)
+left_apart c places =
+    every_as (λ l. is_left c l ≡ true) (λ l. Every (λ k. k ≢ l) (kept c places)) (leftovers c places)
+    (λ l t. every_as (λ k. is_left c k ≡ false) (λ k. k ≢ l) (kept c places) (λ k h. is_left_apart c k l h t) (kept_stay c places))
+    (every_passes (is_left c) places)
+
+pub kept_below : (c k : ℕ) → is_left (count.Keep c) k ≡ false → k < c
+kept_below c k h = grind (arith, nat_tests)
+
+-- each member that is moved comes to a place that has a name
+pub kept_next : (n : Naming) (c : Count) (places : List ℕ) → HaveNext n c places → Every (λ k. HasName n (k + 1)) (kept c places)
+kept_next n (count.Keep c) places h = every_as (λ k. is_left (count.Keep c) k ≡ false) (λ k. HasName n (k + 1)) (kept (count.Keep c) places) (λ k e. next k (kept_below c k e)) (kept_stay (count.Keep c) places)
+  where
+    next : (k : ℕ) → k < c → HasName n (k + 1)
+    next k lt = omega arith
+kept_next n count.Always places h = every_filter (λ k. HasName n (k + 1)) (λ k. not (is_left count.Always k)) places (every_all (λ k. HasName n (k + 1)) places h.1)
+
+pub first_named : (n : Naming) (c : Count) (places : List ℕ) → HaveNext n c places → HasName n 0
+first_named n (count.Keep c) places h = omega arith
+first_named n count.Always places h = h.0
+
+top_named : (n : Naming) (c : Count) (places : List ℕ) → HaveNext n c places → IsTop c places → HasName n (top_of c + 1) × Every (λ k. k ≤ top_of c) (kept c places)
+top_named n (count.Keep (suc k)) places h t = (omega arith, every_as (λ j. is_left (count.Keep (suc k)) j ≡ false) (λ j. j ≤ k) (kept (count.Keep (suc k)) places) (λ j e. le j (kept_below (suc k) j e)) (kept_stay (count.Keep (suc k)) places))
+  where
+    le : (j : ℕ) → j < suc k → j ≤ k
+    le j lt = omega arith
+top_named n (count.Keep zero) places h t = absurd t
+top_named n count.Always places h t = absurd t
+
+top_head : (c : Count) (places : List ℕ) → Falls places → IsTop c places → IsHead (top_of c) (kept c places)
+top_head (count.Keep (suc k)) places falls t = head_of (λ place. not (is_left (count.Keep (suc k)) place)) k places is above falls t
+  where
+    is : not (nat_le (suc k) k) ≡ true
+    is = grind (arith, nat_tests)
+
+    above : (j : ℕ) → k < j → not (nat_le (suc k) j) ≡ false
+    above j lt = grind (arith, nat_tests)
+top_head (count.Keep zero) places falls t = absurd t
+top_head count.Always places falls t = absurd t
+
+-- a limit above all places
+abbrev pub above_all : ℕ
+above_all = 4294967296
+
+pub all_below : (n : Naming) (ks : List ℕ) → Every (HasName n) ks → Every (λ k. k < above_all) ks
+all_below n ks h = every_as (HasName n) (λ k. k < above_all) ks below h
+  where
+    below : (k : ℕ) → HasName n k → k < above_all
+    below k i = omega arith
+
+-- what stands before the first step
+pub at_start : (log : Path) (n : Naming) (m : Names) (c : Count) (places : List ℕ) → IsFileAt m log → AreThere n m places → Before log n m above_all (leftovers c places) (kept c places)
+at_start log n m c places f t = record {
+  log_file = f;
+  dir = t.dir;
+  left_files = every_filter (λ k. IsFileAt m (path_at n k)) (is_left c) places files;
+  kept_files = every_filter (λ k. IsFileAt m (path_at n k)) (λ k. not (is_left c k)) places files;
+  gap = λ j i le ol ok. t.others j i (λ in_places. none j ol ok in_places);
+}
+  where
+    files : Every (λ k. IsFileAt m (path_at n k)) places
+    files = every_from (λ k. IsFileAt m (path_at n k)) places t.files
+
+    one : (j : ℕ) (ks : List ℕ) → Every (λ k. k ≢ j) (filter (is_left c) ks) → Every (λ k. k ≢ j) (filter (λ k. not (is_left c k)) ks) → Every (λ k. k ≢ j) ks
+    one j [] ol ok = tt
+    one j (k ∷ ks) ol ok = go (is_left c k) (λ ol ok. one j ks ol ok) ol ok
+      where
+        go : (b : Bool) → (Every (λ k. k ≢ j) (filter (is_left c) ks) → Every (λ k. k ≢ j) (filter (λ k. not (is_left c k)) ks) → Every (λ k. k ≢ j) ks)
+            → Every (λ k. k ≢ j) (cond b (k ∷ filter (is_left c) ks) (filter (is_left c) ks)) → Every (λ k. k ≢ j) (cond (not b) (k ∷ filter (λ k. not (is_left c k)) ks) (filter (λ k. not (is_left c k)) ks)) → Every (λ k. k ≢ j) (k ∷ ks)
+        go true further ol ok = (ol.0, further ol.1 ok)
+        go false further ol ok = (ok.0, further ol ok.1)
+
+    at : (j i : ℕ) (ks : List ℕ) → Every (λ k. k ≢ j) ks → i < Rattle.std.proofs.Common.length ks → Rattle.std.proofs.Common.get_or ks i j ≡ j → ⊥
+    at j i [] a lt e = omega arith
+    at j zero (k ∷ ks) a lt e = a.0 e
+    at j (suc i) (k ∷ ks) a lt e = at j i ks a.1 (omega arith) e
+
+    none : (j : ℕ) → Every (λ k. k ≢ j) (leftovers c places) → Every (λ k. k ≢ j) (kept c places) → Contains places j → ⊥
+    none j ol ok r = at j r.0 places (one j places ol ok) r.1 r.2
+
+-- the whole rotation fits
+pub fits : (m : Names) (log : Path) (n : Naming) (c : Count) (places : List ℕ) → IsFamily log n → IsFileAt m log → AreThere n m places → HaveNext n c places → FitAll m (reverse (rotation n c log places))
+fits m log n c places family f t next =
+    subst (λ (xs : List Entry). FitAll m xs) (append-nil (reverse (rotation n c log places)))
+    (fit_behind m [] (rotation n c log places) tt
+    (unlinks_fit log n family m above_all (leftovers c places) (kept c places) ((map (move_at n) (kept c places) ++ entry.Renames log (path_at n 0) ∷ []) ++ map (unlink_at n) (one_too_many c places))
+    (every_filter (HasName n) (is_left c) places named) kept_named (falls_filter (is_left c) places falls) (left_apart c places) (at_start log n m c places f t)
+    (λ v b. subst (FitOn v) (sym (append_assoc (map (move_at n) (kept c places)) (entry.Renames log (path_at n 0) ∷ []) (map (unlink_at n) (one_too_many c places))))
+    (moves_fit log n family v above_all (top_of c) (IsTop c places) (kept c places) (entry.Renames log (path_at n 0) ∷ map (unlink_at n) (one_too_many c places))
+    kept_named (kept_next n c places next) (falls_filter (λ k. not (is_left c k)) places falls) (all_below n (kept c places) kept_named) (top_named n c places next) b (λ h. inr (top_head c places falls h))
+    (λ w l b' high. last_fits log n family w l c places (first_named n c places next) (λ h. (top_named n c places next h).0) b' high)))))
+  where
+    falls : Falls places
+    falls = falls_all places t.falling
+
+    named : Every (HasName n) places
+    named = every_all (HasName n) places t.named
+
+    kept_named : Every (HasName n) (kept c places)
+    kept_named = every_filter (HasName n) (λ k. not (is_left c k)) places named

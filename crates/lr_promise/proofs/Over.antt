@@ -1,0 +1,88 @@
+-- Over a first part of the steps of a rotation: the set of its log stays safe, and to other sets they lie aside.
+use Rattle.std.proofs.Common.{◌≡◌, Bool, true, false, cond, refl, sym, ◌∙◌, ap, subst, Some, List, [], ◌∷◌, ◌++◌, reverse, length, take}
+use Rattle.std.specs.Prelude.{filter}
+use Rattle.std.proofs.Math.Seq.{take-append_seam}
+use Rattle.lr_host.specs.declared.entry.Entry.{Entry}
+use Rattle.lr_host.specs.declared.entry.Entry.TheVariants as entry
+use Rattle.lr_host.specs.declared.journal.Journal.{Journal}
+use Rattle.lr_host.specs.World.{Past, Opens, ◌▸◌, past, then, world, names}
+use Rattle.lr_host.specs.Told.{Each, IsTools, Made, at_first, by_writer, by_tool, Left, is_told}
+use Rattle.lr_host.specs.Steps.{FitAll, is_change, CanAll, Took}
+use Rattle.lr_host.specs.Opening.{IsJournal}
+use Rattle.lr_host.specs.Sets.{LogSet}
+use Rattle.lr_host.specs.Safe.{IsSafe}
+use Rattle.lr_host.proofs.Left.{filter_reverse}
+use Rattle.lr_laws.specs.Follow.{NoneAttached}
+use Rattle.lr_laws.specs.Rotation.{IsAside}
+use Rattle.lr_laws.specs.Stays.{Rotates}
+use Rattle.lr_laws.proofs.Calls.{took}
+use Rattle.lr_promise.specs.Shape.{IsFirstOf}
+use Rattle.lr_promise.proofs.Moments.{each_back}
+
+then_append : (p : Past) (xs ys : List Entry) → then p (xs ++ ys) ≡ then (then p xs) ys
+then_append p [] ys = refl
+then_append p (e ∷ es) ys = then_append (p ▸ e) es ys
+
+-- a journal has this past
+journal_of : (p : Past) → (j : Journal) × (past j ≡ p)
+journal_of (Opens o) = (record { opening = o; entries = [] }, refl)
+journal_of (p ▸ e) = let r = journal_of p in (record { opening = r.0.opening; entries = r.0.entries ++ e ∷ [] }, then_append (Opens r.0.opening) r.0.entries (e ∷ []) ∙ ap (λ q. q ▸ e) r.1)
+
+abbrev StaysSafeOver : LogSet → List Entry → List Entry → Past → Past → Type 0
+StaysSafeOver s steps es v q = Made v es q → FitAll (names (world v)) (reverse steps) → Rotates steps s v → NoneAttached s q → IsJournal v → IsSafe s v → IsSafe s q
+
+first_upto : (steps ts : List Entry) → IsFirstOf steps ts → ts ≡ take (length ts) steps
+first_upto steps ts f = sym (take-append_seam ts f.0) ∙ ap (take (length ts)) (sym f.1)
+
+over_journals : (s : LogSet) (steps es : List Entry) (j k : Journal) → IsFirstOf steps (filter is_change (reverse es)) → StaysSafeOver s steps es (past j) (past k)
+over_journals s steps es j k first m fit rotates none journal safe = took steps false (Some j) (Some k) left can s rotates none journal safe
+  where
+    left : Left (Took steps false) (Some j) (Some k)
+    left = is_told m (first_upto steps (filter is_change (reverse es)) first, λ t. absurd (cc))
+
+    can : CanAll (Some j) steps
+    can = record { can = fit }
+
+pub over_steps : (s : LogSet) (steps es : List Entry) (v q : Past) → IsFirstOf steps (filter is_change (reverse es)) → StaysSafeOver s steps es v q
+over_steps s steps es v q first =
+    let j = journal_of v in
+    let k = journal_of q in
+    subst (λ (x : Past). StaysSafeOver s steps es x q) j.1 (subst (λ (y : Past). StaysSafeOver s steps es (past j.0) y) k.1 (over_journals s steps es j.0 k.0 first))
+
+-- ---- the sets of other logs
+
+aside_where : (s : LogSet) (e : Entry) → IsTools e → is_change e ≡ false → IsAside s e
+aside_where s (entry.Renames from to) t h = absurd (cc)
+aside_where s (entry.Unlinks x) t h = absurd (cc)
+aside_where s (entry.MakesDir x mode) t h = absurd (cc)
+aside_where s (entry.Makes x mode) t h = absurd (cc)
+aside_where s (entry.Appends x bytes) t h = absurd (cc)
+aside_where s (entry.Truncates x) t h = absurd (cc)
+aside_where s (entry.Starts state now rules) t h = absurd (cc)
+aside_where s entry.Ends t h = tt
+aside_where s (entry.Look x seen) t h = tt
+aside_where s (entry.List dir listed) t h = tt
+aside_where s (entry.Reads x from piece) t h = tt
+aside_where s (entry.SyncsFile x) t h = tt
+aside_where s (entry.SyncsDir x) t h = tt
+aside_where s (entry.Runs program args input ended) t h = tt
+aside_where s _ t h = absurd t
+
+-- where the changes lie aside, all that the tool left does
+aside_all : (s : LogSet) (v q : Past) (es : List Entry) → Made v es q → Each (IsAside s) (filter is_change es) → Each (IsAside s) es
+aside_all s v _ _ at_first a = tt
+aside_all s v _ es (by_writer {q = q} m i f) a = aside_all s v q es m a
+aside_all s v _ _ (by_tool {es = es} {q = q} {e = e} m i f) a = go (λ b. aside_all s v q es m b) (is_change e) refl a
+  where
+    go : (Each (IsAside s) (filter is_change es) → Each (IsAside s) es) → (b : Bool) → is_change e ≡ b → Each (IsAside s) (cond b (e ∷ filter is_change es) (filter is_change es)) → Each (IsAside s) (e ∷ es)
+    go further true h a = (a.0, further a.1)
+    go further false h a = (aside_where s e i h, further a)
+
+pub each_first : (P : Entry → Type 0) (xs ys : List Entry) → Each P (xs ++ ys) → Each P xs
+each_first P [] ys a = tt
+each_first P (x ∷ xs) ys a = (a.0, each_first P xs ys a.1)
+
+-- a first part of steps that lie aside, and what stands between them that changes nothing, lies aside
+pub first_aside : (s : LogSet) (steps back : List Entry) (v q : Past) → IsFirstOf steps (filter is_change back) → Each (IsAside s) steps → Made v (reverse back) q → Each (IsAside s) (reverse back)
+first_aside s steps back v q first aside m =
+    aside_all s v q (reverse back) m (subst (Each (IsAside s)) (sym (filter_reverse is_change back)) (each_back (IsAside s) (filter is_change back) (each_first (IsAside s) (filter is_change back) first.0 (subst (Each (IsAside s)) first.1 aside))))

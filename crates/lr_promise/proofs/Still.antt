@@ -1,0 +1,129 @@
+-- Entries over which a run stays the same, and begins no rotation of a set.
+use Rattle.std.proofs.Common.{◌≡◌, Bool, true, false, ◌||◌, cond, refl, ◌∙◌, List, [], ◌∷◌, reverse}
+use Rattle.std.specs.Prelude.{filter}
+use Rattle.lr_host.specs.declared.entry.Entry.{Entry}
+use Rattle.lr_host.specs.declared.entry.Entry.TheVariants as entry
+use Rattle.lr_host.specs.World.{Past, ◌▸◌}
+use Rattle.lr_host.specs.Told.{Each, IsWriters, Made, at_first, by_writer, by_tool}
+use Rattle.lr_host.specs.Steps.{is_change}
+use Rattle.lr_host.specs.Opening.{IsJournal}
+use Rattle.lr_host.specs.Sets.{LogSet, in_set}
+use Rattle.lr_host.specs.Runs.{rules_of, has_begun}
+use Rattle.lr_host.specs.Safe.{IsSafe}
+use Rattle.lr_host.specs.Steady.{IsSteady}
+use Rattle.lr_laws.specs.Rotation.{IsAside}
+use Rattle.lr_laws.proofs.Calls.{aside_walked}
+use Rattle.lr_promise.specs.Shape.{IsQuietEntry, AreQuiet}
+use Rattle.lr_promise.proofs.Cuts.{none_attached}
+use Rattle.lr_promise.proofs.Moments.{each_back}
+
+quiet_aside : (s : LogSet) (e : Entry) → IsQuietEntry e → IsAside s e
+quiet_aside s (entry.Look x seen) i = tt
+quiet_aside s (entry.List dir listed) i = tt
+quiet_aside s (entry.Reads x from bytes) i = tt
+quiet_aside s (entry.Runs program args input ended) i = tt
+quiet_aside s (entry.SyncsFile x) i = tt
+quiet_aside s (entry.SyncsDir x) i = tt
+quiet_aside s entry.Ends i = tt
+quiet_aside s _ i = absurd i
+
+each_as : (P Q : Entry → Type 0) (es : List Entry) → ((e : Entry) → P e → Q e) → Each P es → Each Q es
+each_as P Q [] f a = tt
+each_as P Q (e ∷ es) f a = (f e a.0, each_as P Q es f a.1)
+
+pub quiet_safe_on : (s : LogSet) (p q : Past) (es : List Entry) → AreQuiet es → IsJournal p → IsSafe s p → Made p (reverse es) q → IsSteady s q → IsSafe s q
+quiet_safe_on s p q es quiet j safe m st = aside_walked s p q (reverse es) j safe m (each_as IsQuietEntry (IsAside s) (reverse es) (quiet_aside s) (each_back IsQuietEntry es quiet)) (none_attached s q st)
+
+-- the run is the same, and has begun no rotation
+pub record IsStill (s : LogSet) (p q : Past) : Type 0 where
+  pub rules : rules_of q ≡ rules_of p
+  pub begun : has_begun s p ≡ false → has_begun s q ≡ false
+
+passed : (b : Bool) → b ≡ false → (b || false) ≡ false
+passed true h = absurd (cc)
+passed false h = refl
+
+quiet_still : (s : LogSet) (p : Past) (e : Entry) → IsQuietEntry e → IsStill s p (p ▸ e)
+quiet_still s p (entry.Look x seen) i = record { rules = refl; begun = passed (has_begun s p) }
+quiet_still s p (entry.List dir listed) i = record { rules = refl; begun = passed (has_begun s p) }
+quiet_still s p (entry.Reads x from bytes) i = record { rules = refl; begun = passed (has_begun s p) }
+quiet_still s p (entry.Runs program args input ended) i = record { rules = refl; begun = passed (has_begun s p) }
+quiet_still s p (entry.SyncsFile x) i = record { rules = refl; begun = passed (has_begun s p) }
+quiet_still s p (entry.SyncsDir x) i = record { rules = refl; begun = passed (has_begun s p) }
+quiet_still s p entry.Ends i = record { rules = refl; begun = passed (has_begun s p) }
+quiet_still s p _ i = absurd i
+
+wrote_still : (s : LogSet) (p : Past) (e : Entry) → IsWriters e → IsStill s p (p ▸ e)
+wrote_still s p (entry.Attach writer x at) i = record { rules = refl; begun = passed (has_begun s p) }
+wrote_still s p (entry.Feed writer bytes at) i = record { rules = refl; begun = passed (has_begun s p) }
+wrote_still s p (entry.Flush writer) i = record { rules = refl; begun = passed (has_begun s p) }
+wrote_still s p (entry.Detach writer) i = record { rules = refl; begun = passed (has_begun s p) }
+wrote_still s p _ i = absurd i
+
+pub still_on : (s : LogSet) (p q r : Past) → IsStill s p q → IsStill s q r → IsStill s p r
+still_on s p q r a b = record { rules = b.rules ∙ a.rules; begun = λ h. b.begun (a.begun h) }
+
+pub made_still : (s : LogSet) (p q : Past) (es : List Entry) → Made p es q → AreQuiet es → IsStill s p q
+made_still s p _ _ at_first quiet = record { rules = refl; begun = λ h. h }
+made_still s p _ es (by_writer {q = q} {e = e} m i f) quiet = still_on s p q (q ▸ e) (made_still s p q es m quiet) (wrote_still s q e i)
+made_still s p _ _ (by_tool {es = es} {q = q} {e = e} m i f) quiet = still_on s p q (q ▸ e) (made_still s p q es m quiet.1) (quiet_still s q e quiet.0)
+
+-- ---- entries aside
+
+false_or : (a b : Bool) → a ≡ false → b ≡ false → (a || b) ≡ false
+false_or true b p q = absurd (cc)
+false_or false b p q = q
+
+aside_still : (s : LogSet) (p : Past) (e : Entry) → IsAside s e → IsStill s p (p ▸ e)
+aside_still s p (entry.Renames from to) out = record { rules = refl; begun = λ h. false_or (has_begun s p) (in_set s from || in_set s to) h (false_or (in_set s from) (in_set s to) out.0 out.1) }
+aside_still s p (entry.Unlinks x) out = record { rules = refl; begun = λ h. false_or (has_begun s p) (in_set s x) h out }
+aside_still s p (entry.Makes x mode) out = record { rules = refl; begun = λ h. false_or (has_begun s p) (in_set s x) h out }
+aside_still s p (entry.Starts state now rules) out = absurd out
+aside_still s p (entry.Attach writer x at) out = absurd out
+aside_still s p (entry.Feed writer bytes at) out = absurd out
+aside_still s p (entry.Flush writer) out = absurd out
+aside_still s p (entry.Detach writer) out = absurd out
+aside_still s p (entry.Cut kept lengths) out = absurd out
+aside_still s p entry.Ends out = record { rules = refl; begun = passed (has_begun s p) }
+aside_still s p (entry.Look x seen) out = record { rules = refl; begun = passed (has_begun s p) }
+aside_still s p (entry.List dir listed) out = record { rules = refl; begun = passed (has_begun s p) }
+aside_still s p (entry.Reads x from bytes) out = record { rules = refl; begun = passed (has_begun s p) }
+aside_still s p (entry.Appends x bytes) out = record { rules = refl; begun = passed (has_begun s p) }
+aside_still s p (entry.Truncates x) out = record { rules = refl; begun = passed (has_begun s p) }
+aside_still s p (entry.SyncsFile x) out = record { rules = refl; begun = passed (has_begun s p) }
+aside_still s p (entry.SyncsDir x) out = record { rules = refl; begun = passed (has_begun s p) }
+aside_still s p (entry.MakesDir x mode) out = record { rules = refl; begun = passed (has_begun s p) }
+aside_still s p (entry.Runs program args input ended) out = record { rules = refl; begun = passed (has_begun s p) }
+
+pub made_aside : (s : LogSet) (p q : Past) (es : List Entry) → Made p es q → Each (IsAside s) es → IsStill s p q
+made_aside s p _ _ at_first out = record { rules = refl; begun = λ h. h }
+made_aside s p _ es (by_writer {q = q} {e = e} m i f) out = still_on s p q (q ▸ e) (made_aside s p q es m out) (wrote_still s q e i)
+made_aside s p _ _ (by_tool {es = es} {q = q} {e = e} m i f) out = still_on s p q (q ▸ e) (made_aside s p q es m out.1) (aside_still s q e out.0)
+
+-- ---- entries that start no run
+
+abbrev pub IsNoStart : Entry → Type 0
+IsNoStart (entry.Starts state now rules) = ⊥
+IsNoStart _ = Unit {0}
+
+one_same : (p : Past) (e : Entry) → IsNoStart e → rules_of (p ▸ e) ≡ rules_of p
+one_same p (entry.Starts state now rules) i = absurd i
+one_same p _ i = refl
+
+wrote_no_start : (e : Entry) → IsWriters e → IsNoStart e
+wrote_no_start (entry.Starts state now rules) i = i
+wrote_no_start _ i = tt
+
+no_change_no_start : (e : Entry) → is_change e ≡ false → IsNoStart e
+no_change_no_start (entry.Starts state now rules) h = absurd (cc)
+no_change_no_start _ h = tt
+
+-- where no change starts a run, its rules are the same
+pub rules_same : (p q : Past) (es : List Entry) → Made p es q → Each IsNoStart (filter is_change es) → rules_of q ≡ rules_of p
+rules_same p _ _ at_first a = refl
+rules_same p _ es (by_writer {q = q} {e = e} m i f) a = one_same q e (wrote_no_start e i) ∙ rules_same p q es m a
+rules_same p _ _ (by_tool {es = es} {q = q} {e = e} m i f) a = go (λ b. rules_same p q es m b) (is_change e) refl a
+  where
+    go : (Each IsNoStart (filter is_change es) → rules_of q ≡ rules_of p) → (b : Bool) → is_change e ≡ b → Each IsNoStart (cond b (e ∷ filter is_change es) (filter is_change es)) → rules_of (q ▸ e) ≡ rules_of p
+    go further true h a = one_same q e a.0 ∙ further a.1
+    go further false h a = one_same q e (no_change_no_start e h) ∙ further a

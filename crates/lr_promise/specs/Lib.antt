@@ -1,0 +1,4 @@
+pub mod Members
+pub mod Promise
+pub mod Shape
+pub mod Worked

@@ -1,0 +1,14 @@
+-- The promise over a call: each set stays safe.
+use Rattle.std.specs.Prelude.{Option, Some, None}
+use Rattle.lr_host.specs.declared.journal.Journal.{Journal}
+use Rattle.lr_host.specs.World.{past}
+use Rattle.lr_host.specs.Opening.{IsJournal}
+use Rattle.lr_host.specs.Sets.{LogSet}
+use Rattle.lr_host.specs.Safe.{IsSafe}
+use Rattle.lr_host.specs.Steady.{IsSteady}
+
+-- Where the journal is told, each set that was safe in the journal before is safe in the journal after, where it is steady in that.
+abbrev pub KeepsSafe : Option Journal → Option Journal → Type 0
+KeepsSafe (Some j) (Some k) = (s : LogSet) → IsJournal (past j) → IsSafe s (past j) → IsSteady s (past k) → IsSafe s (past k)
+KeepsSafe None None = Unit {0}
+KeepsSafe _ _ = ⊥
