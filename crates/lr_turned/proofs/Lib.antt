@@ -1,0 +1,12 @@
+pub mod Aside
+pub mod ChainMoves
+pub mod Drawn
+pub mod FamilyTurned
+pub mod Fed
+pub mod MembersFound
+pub mod PlaceLists
+pub mod RunTurned
+pub mod Started
+pub mod TurnedLaw
+pub mod Walks
+pub mod WorkedTurn

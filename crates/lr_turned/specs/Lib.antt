@@ -1,0 +1,4 @@
+pub mod Quiet
+pub mod Turned
+pub mod Turning
+pub mod Worked
