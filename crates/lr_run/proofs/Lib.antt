@@ -1,0 +1,14 @@
+pub mod Acting
+pub mod Courses
+pub mod Ending
+pub mod Exactness
+pub mod Fits
+pub mod Kindred
+pub mod Named
+pub mod Renaming
+pub mod Shape
+pub mod Shaping
+pub mod Sights
+pub mod Turned
+pub mod Unlinking
+pub mod Verdict

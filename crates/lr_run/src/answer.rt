@@ -1,0 +1,18 @@
+// What a run answers.
+use lr_rules::Fault;
+
+/// Why there was no run, or why it ended early.
+#[derive(Clone, Copy, Debug, PartialEq, Eq)]
+pub enum RunStop {
+    /// Another holds the lock.
+    Held,
+    /// Want of memory, before the first change.
+    Memory,
+}
+
+/// What a run came to.
+#[derive(Drop)]
+pub struct Ran {
+    /// The faults that were handed in, and behind them the run's own. There is room for one more.
+    pub faults: Vec<Fault>,
+}
