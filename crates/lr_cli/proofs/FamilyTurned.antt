@@ -1,198 +1,331 @@
--- The change entries of a rotation turn the family of the log.
-use Rattle.std.proofs.Common.{◌≡◌, ◌⊎◌, inl, inr, ⊎_elim, ℕ, zero, suc, ◌+◌, ◌<◌, ◌≤◌, Bool, true, false, cond, ◌==◌, nat_lt, nat_le, ltb-true, lt-ltb, leb-true, le-leb, refl, sym, ◌∙◌, ap, subst, arith, List, [], ◌∷◌, ◌++◌, map, None}
-use Rattle.std.specs.List.{list_any}
+-- Where a report has no fault but those of the configuration, its log was turned, file by file, or was let be missing.
+use Rattle.std.proofs.Common.{◌≡◌, ℕ, List, [], ◌∷◌, ◌++◌, reverse, ℤ, Option, Some, None, All, Contains, refl, sym, ap, ◌∙◌, subst, arith, inl, ⊎_elim, append_assoc, append-nil, get_or}
+use Rattle.std.specs.Prelude.{filter}
+use Rattle.std.specs.List.{AllByRecursion as Every}
+use Rattle.std.proofs.lemmas.List.{reverse-reverse}
+use Rattle.std.proofs.lemmas.List.Elements.{filter-append, recursion_from_All, All-nil, All-contains_itself}
 use Rattle.lr_rules.specs.declared.path.Path.{Path}
-use Rattle.lr_rules.specs.Path.{path_fault}
+use Rattle.lr_rules.specs.declared.civil.Moment.{Moment}
+use Rattle.lr_rules.specs.declared.fault.Fault.{Fault}
+use Rattle.lr_rules.specs.declared.fault.Fault.TheVariants as fault
+use Rattle.lr_rules.specs.declared.fault.Notice.{Notice}
+use Rattle.lr_rules.specs.declared.rule.Naming.{Naming}
+use Rattle.lr_rules.specs.declared.rule.Rule.{Rule}
+use Rattle.lr_rules.specs.declared.rules.Rules.{Rules}
+use Rattle.lr_rules.specs.Match.{literal_path}
+use Rattle.lr_rules.specs.Names.{naming_of, family_dir}
+use Rattle.lr_rules.specs.Path.{path_fault, parent_of}
+use Rattle.lr_host.specs.declared.entry.Entry.{Entry}
 use Rattle.lr_host.specs.declared.thing.Thing.{Thing}
 use Rattle.lr_host.specs.declared.thing.Thing.TheVariants as thing
-use Rattle.lr_host.specs.declared.entry.Entry.TheVariants.{Renames}
-use Rattle.lr_host.specs.World.{Past, ◌▸◌, world, names, put, step}
-use Rattle.lr_host.specs.Fits.{IsFileAt}
-use Rattle.lr_host.proofs.Names.{put_here, put_other}
-use Rattle.lr_cli.specs.Member.{IsNumber}
-use Rattle.lr_cli.specs.Rotation.{member_at, unlink_of, move_of, leftovers, moved, one_too_many, rotation}
-use Rattle.lr_cli.specs.Family.{AreMembers, turned, IsBehind}
-use Rattle.lr_cli.proofs.MemberPaths.{member_same, member_other}
-use Rattle.lr_cli.proofs.NumberLists.{In, FallsFrom, contains_in, in_or_not, in_filter, filter_in, falls_filter, falls, is_number, in_any}
-use Rattle.lr_cli.proofs.Walks.{Quiet, Walk}
-use Rattle.lr_cli.proofs.Aside.{IsNoMember, IsOrMade, Aside, aside_on, or_made_on, quiet_aside, quiet_members, drawn_grows}
-use Rattle.lr_cli.proofs.ChainMoves.{Dropped, AreGaps, drops, moves, split}
+use Rattle.lr_host.specs.declared.entry.Entry.TheVariants as entry
+use Rattle.lr_host.specs.declared.entry.Entry.TheVariants.{Look, Starts, Ends}
+use Rattle.lr_host.specs.declared.journal.Journal.{Journal}
+use Rattle.lr_host.specs.World.{World, Past, ◌▸◌, past, world, names}
+use Rattle.lr_host.specs.Opening.{IsJournal}
+use Rattle.lr_host.specs.Fits.{Sees as HostSees}
+use Rattle.lr_host.specs.Told.{Made, at_first, by_writer, by_tool, Then, Left, is_told}
+use Rattle.lr_host.proofs.Left.{filter_reverse}
+use Rattle.lr_host.specs.Steps.{is_change}
+use Rattle.lr_conf.specs.Meaning.{Meaning, told}
+use Rattle.lr_conf.specs.Plain.{IsPlainRule, AtMostOneLog}
+use Rattle.lr_family.specs.declared.stand.Stand.{Stand}
+use Rattle.lr_family.specs.Kin.{IsKin}
+use Rattle.lr_family.specs.Looks.{Sees, IsNothing}
+use Rattle.lr_family.specs.Stands.{ShowsStand}
+use Rattle.lr_chain.specs.Rotation.{places_of, rotation}
+use Rattle.lr_include.specs.Readers.{IsConf}
+use Rattle.lr_include.specs.Reading.{ReadsAs, means, look_failed, read_failed, MeansAs, no_file, directory, whole, cut}
+use Rattle.lr_include.proofs.Plain.{whole_plain, whole_one, cut_plain, cut_one}
+use Rattle.lr_promise.specs.Members.{IsFamily, HasName, HaveNext}
+use Rattle.lr_promise.specs.Shape.{AreQuiet, Among, IsFile}
+use Rattle.lr_promise.proofs.Lists.{In, in_front, in_back, in_turned}
+use Rattle.lr_promise.proofs.Given.{given_one, have_next}
+use Rattle.lr_promise.proofs.Shapes.{quiet_both, sees_quiet, stand_quiet, changes_kept, rotation_changes}
+use Rattle.lr_promise.proofs.Shown.{shown}
+use Rattle.lr_run.specs.Built.{IsBuilt, IsBuiltRule, IsLogWord, IsOneWord}
+use Rattle.lr_run.specs.Logs.{Log, log_of}
+use Rattle.lr_run.specs.Runs.{Inside, NoFault, no_rule, one_log, Because, at_dir, at_look, at_begin, at_log, Runs}
+use Rattle.lr_run.specs.Turning.{GoesWell, turned, let_be, Turns}
+use Rattle.lr_run.proofs.Kindred.{kin_at}
+use Rattle.lr_run.proofs.Named.{plain_naming}
+use Rattle.lr_turned.specs.Quiet.{is_disk_change, NoMemberAttached, from_here, attached, another}
+use Rattle.lr_turned.specs.Turning.{TurnsOver}
+use Rattle.lr_turned.proofs.Aside.{quiet_or_made}
+use Rattle.lr_turned.proofs.MembersFound.{moment}
+use Rattle.lr_turned.proofs.RunTurned.{run_members, run_whole}
+use Rattle.lr_turned.proofs.Started.{started_over}
+use Rattle.lr_cli.specs.declared.outcome.Outcome.{Outcome}
+use Rattle.lr_cli.specs.declared.outcome.Outcome.TheVariants.{Done}
+use Rattle.lr_cli.specs.declared.outcome.Report.{Report}
+use Rattle.lr_cli.specs.Answer.{state_path, ChangeNothing, Reports, Answers, AnsweredAt}
+use Rattle.lr_cli.specs.Turning.{Becomes, TurnsFamily}
+use Rattle.lr_cli.specs.Turning.{turned as is_turned}
+use Rattle.lr_cli.specs.Turning.{let_be as is_let_be}
+use Rattle.lr_cli.specs.Words.{AreWords}
+use Rattle.lr_cli.proofs.Built.{built}
+use Rattle.lr_cli.proofs.ParentPath.{parent_path}
+use Rattle.lr_cli.proofs.Still.{still, both_still, conf_quiet}
 
-abbrev pub renamed : Path → Past → Past
-renamed log t = t ▸ Renames log (member_at log 1)
+-- ---- the run has no fault of its own
 
--- Just before the log is renamed.
-pub record Moved (log : Path) (count : ℕ) (numbers : List ℕ) (p q : Past) : Type 0 where
-  pub turning : Past
-  pub aside : Aside log p turning
-  pub first : names (world turning) (member_at log 1) ≡ thing.Nothing
-  pub up : (m : ℕ) → 1 ≤ m → m ≤ count → names (world turning) (member_at log (m + 1)) ≡ names (world p) (member_at log m)
-  pub above : (m : ℕ) → IsNumber m → count + 1 < m → names (world turning) (member_at log m) ≡ thing.Nothing
-  pub file : IsFileAt (names (world turning)) log
-  pub rest : Walk log (renamed log turning) (one_too_many log count numbers) q
+behind_all : (P : Fault → Type 0) (xs ys : List Fault) → Every P (xs ++ ys) → Every P ys
+behind_all P [] ys each = each
+behind_all P (x ∷ xs) ys each = behind_all P xs ys each.1
 
-all_fall : (log : Path) (p : Past) (numbers : List ℕ) → AreMembers log (names (world p)) numbers → FallsFrom 4294967296 numbers
-all_fall log p numbers a = falls 4294967296 numbers a.falling (λ m i. let n = is_number numbers m a.within i in (n.0, omega (arith, n.1)))
+no_conf : (state : Path) (now : Moment) (rules : Rules) (f : Fault) (ts : List Entry) → IsConf f → Because state now rules f ts → ⊥
+no_conf state now rules (fault.Conf file line kind) ts i (at_dir e s) = absurd (cc)
+no_conf state now rules (fault.Conf file line kind) ts i (at_look e s) = absurd (cc)
+no_conf state now rules (fault.Conf file line kind) ts i (at_begin e s) = absurd (cc)
+no_conf state now rules (fault.Conf file line kind) ts i (at_log s) = s.within.holds
+no_conf state now rules _ ts i b = absurd i
 
--- The leftovers are unlinked and the members moved.
-module _ (log : Path) (count : ℕ) (numbers : List ℕ) (p : Past) (small : count < 4294967295) (a : AreMembers log (names (world p)) numbers) where
-  left_falls : FallsFrom 4294967296 (leftovers count numbers)
-  left_falls = falls_filter (λ number. nat_lt count number) 4294967296 4294967296 numbers (all_fall log p numbers a) (λ m i t. let n = is_number numbers m a.within i in omega (arith, n.1))
+no_own : (state : Path) (now : Moment) (rules : Rules) (own : List Fault) (ts : List Entry) → Every IsConf own → Runs state now rules own ts → own ≡ []
+no_own state now rules [] ts each r = refl
+no_own state now rules (f ∷ []) ts each r = absurd (no_conf state now rules f ts each.0 r)
+no_own state now rules (f ∷ g ∷ fs) ts each r = absurd r
 
-  moved_falls : FallsFrom (count + 1) (moved count numbers)
-  moved_falls = falls_filter (λ number. nat_le number count) 4294967296 (count + 1) numbers (all_fall log p numbers a) (λ m i t. let le : m ≤ count = leb-true m count t in omega arith)
+-- ---- the rules are such as a run takes
 
-  -- above the count nothing is left behind the first unlinks
-  dropped_above : (r : Past) (m : ℕ) → Dropped log (leftovers count numbers) p r → IsNumber m → count < m → names (world r) (member_at log m) ≡ thing.Nothing
-  dropped_above r m d n lt = ⊎_elim (λ i. d.gone m n (in_filter (λ number. nat_lt count number) m numbers i (lt-ltb count m lt)))
-      (λ none. d.kept m n (λ h. none (filter_in (λ number. nat_lt count number) m numbers h).0) ∙ a.others m n (λ c. none (contains_in m numbers c))) (in_or_not m numbers)
+record ArePlain (rules : List Rule) : Type 0 where
+  plain : All IsPlainRule rules
+  one : AtMostOneLog rules
 
-  dropped_below : (r : Past) (m : ℕ) → Dropped log (leftovers count numbers) p r → IsNumber m → m ≤ count → names (world r) (member_at log m) ≡ names (world p) (member_at log m)
-  dropped_below r m d n le = d.kept m n (λ h. let lt : count < m = ltb-true count m (filter_in (λ number. nat_lt count number) m numbers h).1 in omega arith)
+none_plain : (faults : List Fault) (m : Meaning) → m ≡ told faults → ArePlain m.rules
+none_plain faults m e = subst (λ (v : Meaning). ArePlain v.rules) (sym e) (record { plain = All-nil IsPlainRule; one = tt })
 
-  dropped_gaps : (r : Past) → Dropped log (leftovers count numbers) p r → AreGaps log (count + 1) (moved count numbers) r
-  dropped_gaps r d m n le none = ⊎_elim (λ lt. dropped_above r m d n lt) (λ below. low below) (low_or_high m)
-    where
-      low_or_high : (m : ℕ) → (count < m) ⊎ (m ≤ count)
-      low_or_high m = ⊎_elim (λ lt. inl lt) (λ rest. ⊎_elim (λ e. inr (omega arith)) (λ lt. inr (omega arith)) rest) (split count m)
+means_plain : (conf : Path) (m : Meaning) (ts : List Entry) → MeansAs conf m ts → ArePlain m.rules
+means_plain conf m ts (no_file s e) = none_plain _ m e
+means_plain conf m ts (directory s e) = none_plain _ m e
+means_plain conf m ts (whole bytes n r e) = subst (λ (v : Meaning). ArePlain v.rules) (sym e) (record { plain = whole_plain conf bytes; one = whole_one conf bytes })
+means_plain conf m ts (cut bytes n r e) = subst (λ (v : Meaning). ArePlain v.rules) (sym e) (record { plain = cut_plain conf bytes; one = cut_one conf bytes })
 
-      low : m ≤ count → names (world r) (member_at log m) ≡ thing.Nothing
-      low le = dropped_below r m d n le ∙ a.others m n (λ c. none (in_filter (λ number. nat_le number count) m numbers (contains_in m numbers c) (le-leb m count le)))
+reads_plain : (conf : Path) (m : Meaning) (ts : List Entry) → ReadsAs conf m ts → ArePlain m.rules
+reads_plain conf m ts (means r) = means_plain conf m ts r
+reads_plain conf m ts (look_failed n e) = none_plain _ m e
+reads_plain conf m ts (read_failed r e) = none_plain _ m e
 
-  pub moved_up : (q : Past) → Walk log p (rotation log count numbers) q → Moved log count numbers p q
-  moved_up q w =
-      let d = drops log 4294967296 (leftovers count numbers) (map (move_of log) (moved count numbers) ++ (Renames log (member_at log 1) ∷ one_too_many log count numbers)) p q left_falls (omega arith) w in
-      let s = moves log (count + 1) (moved count numbers) (Renames log (member_at log 1) ∷ one_too_many log count numbers) d.0 q moved_falls (omega arith) (omega arith) (dropped_gaps d.0 d.3) d.1 in
-      record {
-        turning = s.1.0;
-        aside = aside_on log p d.0 s.1.0 d.2 (aside_on log d.0 s.0 s.1.0 s.2 (quiet_aside log s.0 s.1.0 s.1.1));
-        first = quiet_members log s.0 s.1.0 1 s.1.1 (omega arith, omega arith) ∙ s.3.first;
-        up = λ m some le. quiet_members log s.0 s.1.0 (m + 1) s.1.1 (omega arith, omega arith) ∙ (s.3.up m some (omega arith) ∙ dropped_below d.0 m d.3 (some, omega arith) le);
-        above = λ m n lt. quiet_members log s.0 s.1.0 m s.1.1 n ∙ (s.3.above m n lt ∙ dropped_above d.0 m d.3 n (omega arith));
-        file = s.1.2.0;
-        rest = s.1.3;
-      }
+reads_built : (conf : Path) (m : Meaning) (ts : List Entry) → ReadsAs conf m ts → IsBuilt m.rules
+reads_built conf m ts r = let p = reads_plain conf m ts r in built m.rules p.plain p.one
 
--- the same from an earlier moment, where nothing was changed up to this one
-abbrev pub moved_back : (log : Path) (count : ℕ) (numbers : List ℕ) (p r q : Past) → count < 4294967295 → Quiet log p r → Moved log count numbers r q → Moved log count numbers p q
-moved_back log count numbers p r q small quiet s = record {
-  turning = s.turning;
-  aside = aside_on log p r s.turning (quiet_aside log p r quiet) s.aside;
-  first = s.first;
-  up = λ m some le. s.up m some le ∙ quiet_members log p r m quiet (some, omega arith);
-  above = s.above;
-  file = s.file;
-  rest = s.rest;
+-- ---- the log of the one rule
+
+one_word : (words : List (List ℕ)) (word : List ℕ) → IsOneWord words → words ≡ word ∷ [] → IsLogWord word
+one_word words word one e = let w : IsOneWord (word ∷ []) = subst IsOneWord e one in w
+
+own_dir : (rule : Rule) (log : Path) → rule.olddir ≡ None → path_fault log ≡ None → path_fault (naming_of rule log).dir ≡ None
+own_dir rule log none path = ap (λ o. path_fault (family_dir (parent_of log) o)) none ∙ parent_path log path
+
+family : (rule : Rule) (word : List ℕ) → IsBuiltRule rule → IsLogWord word → IsFamily (literal_path word) (naming_of rule (literal_path word))
+family rule word b w = record {
+  numbered = b.plain.dated;
+  kin = subst (λ (n : Naming). IsKin (literal_path word) n) (sym (plain_naming rule (literal_path word) b.plain)) (kin_at rule.start (literal_path word) w.path w.log);
+  dir = own_dir rule (literal_path word) b.plain.olddir w.path;
 }
 
--- Behind the log's rename: the member that was one too many is gone.
-pub record Ended (log : Path) (count : ℕ) (numbers : List ℕ) (u q : Past) : Type 0 where
-  pub aside : Aside log u q
-  pub gone : (1 ≤ count → (In count numbers → ⊥) → names (world u) (member_at log (count + 1)) ≡ thing.Nothing) → names (world q) (member_at log (count + 1)) ≡ thing.Nothing
-  pub kept : (m : ℕ) → IsNumber m → (m ≡ count + 1 → ⊥) → names (world q) (member_at log m) ≡ names (world u) (member_at log m)
+-- ---- what the entries are
 
--- by an unlink, where one is due
-unlinked_last : (log : Path) (count k : ℕ) (numbers : List ℕ) (u q : Past) → k ≡ count + 1 → count < 4294967295 → Walk log u (unlink_of log k ∷ []) q → Ended log count numbers u q
-unlinked_last log count k numbers u q e small w =
-    let d = drops log (k + 1) (k ∷ []) [] u q (omega arith, omega arith, tt) (omega arith) w in
-    record {
-      aside = aside_on log u d.0 q d.2 (quiet_aside log d.0 q d.1);
-      gone = λ h. subst (λ (x : ℕ). names (world q) (member_at log x) ≡ thing.Nothing) e (quiet_members log d.0 q k d.1 (omega arith, omega arith) ∙ d.3.gone k (omega arith, omega arith) (inl refl));
-      kept = λ m n ne. quiet_members log d.0 q m d.1 n ∙ d.3.kept m n (λ i. ⊎_elim (λ s. ne (sym s ∙ e)) (λ none. none) i);
-    }
+-- The entries of the reading, of the start, and of the log.
+module _ (conf : Path) (now : Moment) (m : Meaning) (rules : Rules) (ts : List Entry) (read : List Entry) (ran : List Entry) (joined : ts ≡ read ++ ran) (reads : ReadsAs conf m read) (P : List Entry → Type 0) (i : Inside state_path now rules P ran) where
+  abbrev begun : Entry
+  begun = Starts state_path now rules
 
-ended : (log : Path) (count : ℕ) (numbers : List ℕ) (u q : Past) → count < 4294967295 → Walk log u (one_too_many log count numbers) q → Ended log count numbers u q
-ended log zero numbers u q small w = unlinked_last log 0 1 numbers u q (omega arith) small w
-ended log (suc c) numbers u q small w = go (list_any (λ number. number == suc c) numbers) refl w
-  where
-    go : (b : Bool) → list_any (λ number. number == suc c) numbers ≡ b → Walk log u (cond b (unlink_of log (suc c + 1) ∷ []) []) q → Ended log (suc c) numbers u q
-    go true e w = unlinked_last log (suc c) (suc c + 1) numbers u q refl small w
-    go false e w = record {
-      aside = quiet_aside log u q w;
-      gone = λ h. quiet_members log u q (suc c + 1) w (omega arith, omega arith) ∙ h (omega arith) (λ i. let t : list_any (λ number. number == suc c) numbers ≡ true = in_any (suc c) numbers i in cc);
-      kept = λ m n ne. quiet_members log u q m w n;
-    }
+  abbrev before_start : List Entry
+  before_start = read ++ Look (parent_of state_path) i.seen ∷ []
 
--- What a turn leaves, member by member.
-turned_first : (before : ℕ → Thing) (log : Thing) (count : ℕ) → 1 ≤ count → turned before log count 1 ≡ log
-turned_first before log count le = ap (λ b. cond b log thing.Nothing) (le-leb 1 count le)
+  whole_is : ts ≡ before_start ++ begun ∷ (i.between ++ Ends ∷ [])
+  whole_is = joined ∙ (ap (λ us. read ++ us) i.entries ∙ sym (append_assoc read (Look (parent_of state_path) i.seen ∷ []) (begun ∷ (i.between ++ Ends ∷ []))))
 
-turned_up : (before : ℕ → Thing) (log : Thing) (count k : ℕ) → suc (suc k) ≤ count → turned before log count (suc (suc k)) ≡ before (suc k)
-turned_up before log count k le = ap (λ b. cond b (before (suc k)) thing.Nothing) (le-leb (suc (suc k)) count le)
+  quiet_before : AreQuiet before_start
+  quiet_before = quiet_both read (Look (parent_of state_path) i.seen ∷ []) (conf_quiet conf m read reads) (tt, tt)
 
-not_le : (m count : ℕ) (b : Bool) → nat_le m count ≡ b → count < m → b ≡ false
-not_le m count true e lt = absurd (let le : m ≤ count = leb-true m count e in omega arith)
-not_le m count false e lt = refl
+  -- a quiet part between makes no change
+  pub quiet_still : AreQuiet i.between → ChangeNothing ts
+  quiet_still q =
+      ap (filter is_disk_change) whole_is
+      ∙ both_still before_start (begun ∷ (i.between ++ Ends ∷ [])) (still _ quiet_before) (both_still i.between (Ends ∷ []) (still i.between q) refl)
 
-turned_out : (before : ℕ → Thing) (log : Thing) (count m : ℕ) → count < m → turned before log count m ≡ thing.Nothing
-turned_out before log count zero lt = refl
-turned_out before log count (suc zero) lt = ap (λ b. cond b log thing.Nothing) (not_le 1 count (nat_le 1 count) refl lt)
-turned_out before log count (suc (suc k)) lt = ap (λ b. cond b (before (suc k)) thing.Nothing) (not_le (suc (suc k)) count (nat_le (suc (suc k)) count) refl lt)
-
--- The log is renamed, and the member that is one too many goes.
-module _ (log : Path) (count : ℕ) (numbers : List ℕ) (p q : Past) (path : path_fault log ≡ None) (small : count < 4294967295) (a : AreMembers log (names (world p)) numbers) (s : Moved log count numbers p q) where
-  abbrev t : Past
-  t = s.turning
-
-  abbrev u : Past
-  u = renamed log s.turning
-
-  at_end : Ended log count numbers u q
-  at_end = ended log count numbers u q small s.rest
-
-  first_now : names (world u) (member_at log 1) ≡ thing.File s.file.0
-  first_now = put_here (put (names (world t)) log thing.Nothing) (member_at log 1) (member_at log 1) (names (world t) log) refl ∙ s.file.1
-
-  rename_other : (x : Path) → (x ≡ member_at log 1 → ⊥) → (x ≡ log → ⊥) → names (world u) x ≡ names (world t) x
-  rename_other x m l = put_other (put (names (world t)) log thing.Nothing) (member_at log 1) x (names (world t) log) m ∙ put_other (names (world t)) log x thing.Nothing l
-
-  rename_member : (m : ℕ) → IsNumber m → 1 < m → names (world u) (member_at log m) ≡ names (world t) (member_at log m)
-  rename_member m n lt = rename_other (member_at log m) (λ e. let same : m ≡ 1 = member_same log m 1 n (omega arith, omega arith) e in omega arith) (λ e. member_other log m path (omega (arith, n.1)) (sym e))
-
-  pub log_gone : names (world u) log ≡ thing.Nothing
-  log_gone = put_other (put (names (world t)) log thing.Nothing) (member_at log 1) log (names (world t) log) (λ e. member_other log 1 path (omega arith) e) ∙ put_here (names (world t)) log log thing.Nothing refl
-
-  abbrev result : ℕ → Thing
-  result m = turned (λ k. names (world p) (member_at log k)) (thing.File s.file.0) count m
-
-  -- the member that is one too many
-  one_gone : names (world q) (member_at log (count + 1)) ≡ thing.Nothing
-  one_gone = at_end.gone (λ some none. rename_member (count + 1) (omega arith, omega arith) (omega arith) ∙ (s.up count some (omega arith) ∙ a.others count (some, omega arith) (λ c. none (contains_in count numbers c))))
-
-  below : (m : ℕ) → IsNumber m → m ≤ count → names (world u) (member_at log m) ≡ result m
-  below zero n le = absurd (omega (arith, n.0))
-  below (suc zero) n le = first_now ∙ sym (turned_first (λ k. names (world p) (member_at log k)) (thing.File s.file.0) count le)
-  below (suc (suc k)) n le =
-      rename_member (suc (suc k)) n (omega arith) ∙ (subst (λ (m : ℕ). names (world t) (member_at log m) ≡ names (world p) (member_at log (suc k))) (omega arith) (s.up (suc k) (omega arith) (omega arith))
-      ∙ sym (turned_up (λ k. names (world p) (member_at log k)) (thing.File s.file.0) count k le))
-
-  pub members_now : (m : ℕ) → IsNumber m → names (world q) (member_at log m) ≡ result m
-  members_now m n = ⊎_elim (λ lt. at_end.kept m n (λ e. omega arith) ∙ below m n (omega arith)) (λ rest. ⊎_elim (λ e. here e) (λ lt. over lt) rest) (split m (count + 1))
+  -- a whole turn between
+  pub turns_over : (log : Log) (w : Turns log i.between) → TurnsOver log.path log.naming log.count w.stand ts
+  turns_over log w =
+      subst (TurnsOver log.path log.naming log.count w.stand) (sym (whole_is ∙ ap (λ us. before_start ++ begun ∷ us) parts))
+      (started_over log.path log.naming log.count w.stand state_path now rules before_start w.run.front (w.run.back ++ Ends ∷ []) quiet_before quiet_looks log_seen w.run.second.0.there stand_seen changes)
     where
-      here : m ≡ count + 1 → names (world q) (member_at log m) ≡ result m
-      here e = subst (λ (x : ℕ). names (world q) (member_at log x) ≡ thing.Nothing) (sym e) one_gone ∙ sym (turned_out (λ k. names (world p) (member_at log k)) (thing.File s.file.0) count m (omega arith))
+      parts : i.between ++ Ends ∷ [] ≡ w.run.front ++ (w.run.back ++ Ends ∷ [])
+      parts = ap (λ us. us ++ Ends ∷ []) w.run.joined ∙ append_assoc w.run.front w.run.back (Ends ∷ [])
 
-      over : count + 1 < m → names (world q) (member_at log m) ≡ result m
-      over lt = at_end.kept m n (λ e. omega arith) ∙ (rename_member m n (omega arith) ∙ (s.above m n lt ∙ sym (turned_out (λ k. names (world p) (member_at log k)) (thing.File s.file.0) count m (omega arith))))
+      looks : Then (Sees log.path IsFile) (ShowsStand log.naming w.stand) w.run.front
+      looks = record { front = w.run.first.front; back = w.run.first.back; joined = w.run.first.joined; first = w.run.first.first; second = w.run.first.second }
 
-  no_member : IsNoMember log log
-  no_member m n e = member_other log m path (omega (arith, n.1)) e
+      quiet_looks : AreQuiet w.run.front
+      quiet_looks = subst AreQuiet (sym looks.joined) (quiet_both looks.front looks.back (sees_quiet log.path looks.front looks.first) (stand_quiet log.naming w.stand looks.back looks.second))
 
-  file_same : (f g : ℕ) → thing.File f ≡ thing.File g → g ≡ f
-  file_same f g e = cc
+      log_seen : Among (Sees log.path IsFile) w.run.front
+      log_seen = record { before = []; part = looks.front; after = looks.back; joined = looks.joined; is = looks.first }
 
-  pub log_first : (names (world p) log ≡ thing.File s.file.0) ⊎ ((names (world p) log ≡ thing.Nothing) × ((world p).drawn ≤ s.file.0))
-  log_first = ⊎_elim (λ same. inl (sym same ∙ s.file.1)) (λ new. inr (new.0, subst (λ (g : ℕ). (world p).drawn ≤ g) (file_same s.file.0 new.1.0 (sym s.file.1 ∙ new.1.1)) new.1.2)) (s.aside.others log no_member)
+      stand_seen : Among (ShowsStand log.naming w.stand) w.run.front
+      stand_seen = record { before = looks.front; part = looks.back; after = []; joined = looks.joined ∙ ap (λ us. looks.front ++ us) (sym (append-nil looks.back)); is = looks.second }
 
-  renamed_drawn : (world t).drawn ≤ (world u).drawn
-  renamed_drawn = drawn_grows (world t) (step (world t) (Renames log (member_at log 1)))
+      changes : filter is_change (w.run.back ++ Ends ∷ []) ≡ rotation log.naming log.count log.path (places_of w.stand.members)
+      changes = filter-append is_change w.run.back (Ends ∷ []) ∙ (append-nil (filter is_change w.run.back)
+          ∙ (ap (filter is_change) w.run.second.1 ∙ changes_kept (rotation log.naming log.count log.path (places_of w.stand.members)) (rotation_changes log.naming log.count log.path (places_of w.stand.members))))
 
-  pub log_last : (names (world q) log ≡ thing.Nothing) ⊎ ((g : ℕ) × (names (world q) log ≡ thing.File g) × ((world t).drawn ≤ g))
-  log_last = ⊎_elim (λ same. inl (same ∙ log_gone)) (λ new. inr (new.1.0, new.1.1, omega (arith, new.1.2, renamed_drawn))) (at_end.aside.others log no_member)
+  -- and where nothing was seen at the log's path
+  pub seen_nothing : (x : Path) → Sees x IsNothing i.between → Among (Sees x IsNothing) ts
+  seen_nothing x s = record {
+    before = before_start ++ begun ∷ [];
+    part = i.between;
+    after = Ends ∷ [];
+    joined = whole_is ∙ sym (append_assoc before_start (begun ∷ []) (i.between ++ Ends ∷ []));
+    is = s;
+  }
 
-  pub others_now : (x : Path) → (x ≡ log → ⊥) → IsNoMember log x → IsOrMade p q x
-  others_now x l n = or_made_on p t q x s.aside.drawn (s.aside.others x n)
-      (or_made_on t u q x renamed_drawn (inl (rename_other x (n 1 (omega arith, omega arith)) l)) (at_end.aside.others x n))
+-- the changes of such entries
+over_changes : (log : Log) (stand : Stand) (ts : List Entry) → TurnsOver log.path log.naming log.count stand ts → filter is_disk_change ts ≡ rotation log.naming log.count log.path (places_of stand.members)
+over_changes log stand ts o = ap (filter is_disk_change) o.joined ∙ (filter-append is_disk_change o.front o.back ∙ (ap (λ us. us ++ filter is_disk_change o.back) o.still ∙ o.changes))
 
-  pub until_end : IsBehind u q
-  until_end = at_end.aside.behind
+-- ---- where nothing was seen and nothing was changed
+
+-- the naming of a family of which no place has a name
+abbrev nameless : Naming
+nameless = record { dir = []; base = []; ext = []; start = 4294967296; dated = None }
+
+no_name : (place : ℕ) → HasName nameless place → ⊥
+no_name place h = omega arith
+
+none_more : (p q : Past) (e : Entry) → NoMemberAttached nameless p q → NoMemberAttached nameless p (q ▸ e)
+none_more p q (entry.Attach writer x at) h = attached h (λ place i. absurd (no_name place i))
+none_more p q _ h = another h (λ writer x at same. cc)
+
+none_attached : (p q : Past) (es : List Entry) → Made p es q → NoMemberAttached nameless p q
+none_attached p _ _ at_first = from_here
+none_attached p _ es (by_writer {q = q} {e = e} m i f) = none_more p q e (none_attached p q es m)
+none_attached p _ _ (by_tool {es = es} {q = q} {e = e} m i f) = none_more p q e (none_attached p q es m)
+
+look_none : (x : Path) (ts : List Entry) → Among (Sees x IsNothing) ts → In (Look x None) ts
+look_none x ts a = subst (In (Look x None)) (sym a.joined) (in_back (Look x None) a.before (a.part ++ a.after) (in_front (Look x None) a.part a.after
+    (subst (In (Look x None)) (sym (a.is.look ∙ ap (λ seen. Look x seen ∷ []) a.is.is)) (inl refl))))
+
+seen_none : (w : World) (t : Thing) → HostSees w t None → t ≡ thing.Nothing
+seen_none w thing.Nothing s = refl
+seen_none w (thing.File g) s = absurd s
+seen_none w thing.Directory s = absurd s
+seen_none w thing.Other s = absurd s
+
+no_change : (es : List Entry) → ChangeNothing (reverse es) → filter is_disk_change es ≡ []
+no_change es h = sym (reverse-reverse (filter is_disk_change es)) ∙ ap reverse (sym (filter_reverse is_disk_change es) ∙ h)
+
+-- then nothing was there before
+nothing_before : (x : Path) (p q : Past) (es : List Entry) → Made p es q → ChangeNothing (reverse es) → Among (Sees x IsNothing) (reverse es) → names (world p) x ≡ thing.Nothing
+nothing_before x p q es made still saw =
+    let at = moment nameless p q (Look x None) es (none_attached p q es made) made (no_change es still) (in_turned (Look x None) es (look_none x (reverse es) saw)) in
+    ⊎_elim (λ same. sym same ∙ seen_none (world at.at) (names (world at.at) x) at.fits) (λ new. new.0) (quiet_or_made nameless p at.at x at.since)
+
+-- ---- what becomes of the log
+
+next_places : (rules : Rules) (rule : Rule) (word : List ℕ) (w : IsLogWord word) (ts : List Entry) → rules.sets ≡ rule ∷ [] → rule.words ≡ word ∷ [] → (t : Turns (log_of rule word) ts)
+    → HaveNext (naming_of rule (literal_path word)) rule.count (places_of t.stand.members)
+next_places rules rule word w ts rules_are words_are t = have_next rules (literal_path word) (naming_of rule (literal_path word)) rule.count t.stand.members
+    (given_one rules.sets (literal_path word) (naming_of rule (literal_path word)) rule.count (record { rule = rule; word = word; rules_are = rules_are; words_are = words_are; literal = w.literal; log_is = refl; naming_is = refl; count_is = refl }))
+    (λ k d lt. named (get_or (places_of t.stand.members) k d) (All-contains_itself (places_of t.stand.members) k d lt))
+    (λ h. t.run.second.0.low h.1.1.path (t.run.second.0.there, h.0, (h.1.0, h.1.1, h.1.2, h.1.3, (h.1.4, refl))))
+  where
+    named : (place : ℕ) → Contains (places_of t.stand.members) place → HasName (naming_of rule (literal_path word)) place
+    named = (shown (naming_of rule (literal_path word)) t.stand t.run.first.back t.run.second.0.there t.run.first.second).named
+
+same_log : (rules : List Rule) (rule other : Rule) (word next : List ℕ) → rules ≡ rule ∷ [] → rules ≡ other ∷ [] → rule.words ≡ word ∷ [] → other.words ≡ next ∷ [] → log_of other next ≡ log_of rule word
+same_log rules rule other word next e f w v =
+    let same_rule : other ≡ rule = (let q : other ∷ [] ≡ rule ∷ [] = sym f ∙ e in cc) in
+    let same_words : next ∷ [] ≡ word ∷ [] = sym v ∙ (ap (λ (r : Rule). r.words) same_rule ∙ w) in
+    let same_word : next ≡ word = cc in
+    ap (λ (r : Rule). log_of r next) same_rule ∙ ap (log_of rule) same_word
+
+module _ (conf : Path) (now : Moment) (m : Meaning) (rules : Rules) (p q : Past) (es read ran : List Entry) (made : Made p es q) (journal : IsJournal p) (rules_are : rules.sets ≡ m.rules) (joined : reverse es ≡ read ++ ran) (reads : ReadsAs conf m read)
+    (i : Inside state_path now rules (NoFault rules.sets) ran) where
+  ok_rules : IsBuilt rules.sets
+  ok_rules = subst IsBuilt (sym rules_are) (reads_built conf m read reads)
+
+  becomes : (rule : Rule) (word : List ℕ) → rules.sets ≡ rule ∷ [] → rule.words ≡ word ∷ [] → GoesWell (log_of rule word) i.between → Becomes (log_of rule word) (reverse es) p q
+  becomes rule word e w (let_be ok s) = is_let_be ok
+      (nothing_before (literal_path word) p q es made
+      (quiet_still conf now m rules (reverse es) read ran joined reads (NoFault rules.sets) i (sees_quiet (literal_path word) i.between s))
+      (seen_nothing conf now m rules (reverse es) read ran joined reads (NoFault rules.sets) i (literal_path word) s))
+      (seen_nothing conf now m rules (reverse es) read ran joined reads (NoFault rules.sets) i (literal_path word) s)
+      (quiet_still conf now m rules (reverse es) read ran joined reads (NoFault rules.sets) i (sees_quiet (literal_path word) i.between s))
+  becomes rule word e w (turned t) =
+      is_turned t.stand (over_changes (log_of rule word) t.stand (reverse es) over)
+      (λ none. (run_members (literal_path word) n rule.count t.stand p q es made journal fam next none over, run_whole (literal_path word) n rule.count t.stand p q es made journal fam next none over))
+    where
+      n : Naming
+      n = naming_of rule (literal_path word)
+
+      ok_rule : IsBuiltRule rule
+      ok_rule = let b : IsBuilt (rule ∷ []) = subst IsBuilt e ok_rules in b
+
+      good : IsLogWord word
+      good = one_word rule.words word ok_rule.word w
+
+      over : TurnsOver (literal_path word) (naming_of rule (literal_path word)) rule.count t.stand (reverse es)
+      over = turns_over conf now m rules (reverse es) read ran joined reads (NoFault rules.sets) i (log_of rule word) t
+
+      fam : IsFamily (literal_path word) (naming_of rule (literal_path word))
+      fam = family rule word ok_rule good
+
+      next : HaveNext (naming_of rule (literal_path word)) rule.count (places_of t.stand.members)
+      next = next_places rules rule word good i.between e w t
+
+  each_log : (rule : Rule) (word : List ℕ) → rules.sets ≡ rule ∷ [] → rule.words ≡ word ∷ [] → NoFault rules.sets i.between → Becomes (log_of rule word) (reverse es) p q
+  each_log rule word e w (no_rule n k) = absurd (let clash : rule ∷ [] ≡ [] = sym e ∙ n in cc)
+  each_log rule word e w (one_log l) = subst (λ (log : Log). Becomes log (reverse es) p q) (same_log rules.sets rule l.rule word l.word e l.rules_are w l.words_are) (becomes l.rule l.word l.rules_are l.words_are l.holds)
+
+  no_log : rules.sets ≡ [] → NoFault rules.sets i.between → ChangeNothing (reverse es)
+  no_log n (no_rule k e) = quiet_still conf now m rules (reverse es) read ran joined reads (NoFault rules.sets) i (subst AreQuiet (sym e) tt)
+  no_log n (one_log l) = absurd (let clash : l.rule ∷ [] ≡ [] = sym l.rules_are ∙ n in cc)
+
+-- the same of the entries that a told clause gives
+pub turns_family : (conf : Path) (now : Moment) (notices : List Notice) (faults : List Fault) (j k : Journal) (es : List Entry) → Made (past j) es (past k) → Reports conf now notices faults (reverse es) → All IsConf faults → IsJournal (past j) → TurnsFamily conf j k
+turns_family conf now notices faults j k es made r all journal = record {
+  meaning = r.meaning;
+  now = now;
+  rules = r.rules;
+  rules_are = r.rules_are;
+  one = (reads_plain conf r.meaning r.entries.front r.entries.first).one;
+  entries = es;
+  made = made;
+  run = record { front = r.entries.front; back = r.entries.back; joined = r.entries.joined; first = r.entries.first; second = inside };
+  each = λ rule word e w. each_log conf now r.meaning r.rules (past j) (past k) es r.entries.front r.entries.back made journal r.rules_are r.entries.joined r.entries.first inside rule word (r.rules_are ∙ e) w inside.within;
+  none = λ e. no_log conf now r.meaning r.rules (past j) (past k) es r.entries.front r.entries.back made journal r.rules_are r.entries.joined r.entries.first inside (r.rules_are ∙ e) inside.within;
+}
+  where
+    own_conf : Every IsConf r.own
+    own_conf = behind_all IsConf r.meaning.faults r.own (recursion_from_All IsConf (r.meaning.faults ++ r.own) (subst (λ (fs : List Fault). All IsConf fs) r.faults_are all))
+
+    inside : Inside state_path now r.rules (NoFault r.rules.sets) r.entries.back
+    inside = subst (λ (fs : List Fault). Runs state_path now r.rules fs r.entries.back) (no_own state_path now r.rules r.own r.entries.back own_conf r.entries.second) r.entries.second
+
+-- From what a call is told to have left, in a journal, the reports of a configuration without other faults.
+pub family_turned : (conf : Path) (now : Moment) (notices : List Notice) (faults : List Fault) (j k : Journal) → Left (Reports conf now notices faults) (Some j) (Some k) → All IsConf faults → IsJournal (past j) → TurnsFamily conf j k
+family_turned conf now notices faults j k (is_told {es = es} made r) all journal = turns_family conf now notices faults j k es made r all journal
+
+-- ---- from the clause of a call
+
+-- that a run with this configuration left its answer
+pub answer_turned : (conf : Path) (now : Moment) (outcome : Outcome) (report : Report) (o n : Option Journal) (j k : Journal) → Left (Answers conf now outcome) o n → outcome ≡ Done report → All IsConf report.faults → o ≡ Some j → n ≡ Some k → IsJournal (past j) → TurnsFamily conf j k
+answer_turned conf now outcome report o n j k left done all told_j told_k journal =
+    family_turned conf now report.notices report.faults j k
+    (subst (λ (m : Option Journal). Left (Reports conf now report.notices report.faults) (Some j) m) told_k
+    (subst (λ (m : Option Journal). Left (Reports conf now report.notices report.faults) m n) told_j
+    (subst (λ (r : Outcome). Left (Answers conf now r) o n) done left))) all journal
+
+from_entries : (here : Path) (words : List (List ℕ)) (seconds : ℤ) (report : Report) (j k : Journal) → Left (AnsweredAt here words seconds (Done report)) (Some j) (Some k) → All IsConf report.faults → IsJournal (past j) → (conf : Path) × AreWords here words conf × TurnsFamily conf j k
+from_entries here words seconds report j k (is_told {es = es} made a) all journal =
+    (a.answered.0, a.answered.1, turns_family a.answered.0 a.now report.notices report.faults j k es made a.answered.2 all journal)
+
+-- that a call with these words left its answer
+pub answered_turned : (here : Path) (words : List (List ℕ)) (seconds : ℤ) (outcome : Outcome) (report : Report) (o n : Option Journal) (j k : Journal) → Left (AnsweredAt here words seconds outcome) o n → outcome ≡ Done report → All IsConf report.faults → o ≡ Some j → n ≡ Some k → IsJournal (past j)
+    → (conf : Path) × AreWords here words conf × TurnsFamily conf j k
+answered_turned here words seconds outcome report o n j k left done all told_j told_k journal =
+    from_entries here words seconds report j k
+    (subst (λ (m : Option Journal). Left (AnsweredAt here words seconds (Done report)) (Some j) m) told_k
+    (subst (λ (m : Option Journal). Left (AnsweredAt here words seconds (Done report)) m n) told_j
+    (subst (λ (r : Outcome). Left (AnsweredAt here words seconds r) o n) done left))) all journal

@@ -1,5 +1,5 @@
 -- The faults of a report but for its `Out`.
-use Rattle.std.proofs.Common.{◌≡◌, ⊎_elim, ℕ, List, [], ◌∷◌, ◌++◌, refl, sym, ap, ◌∙◌, subst, arith, Option, Result, Ok, Err, Contains}
+use Rattle.std.proofs.Common.{◌≡◌, ⊎_elim, ℕ, List, [], ◌∷◌, ◌++◌, refl, sym, ap, subst, arith, Option, Contains}
 use Rattle.std.proofs.lemmas.List.Elements.{Contains-push, Contains-push_cases, Contains-append_right, Contains-append_left, Contains-append_cases}
 use Rattle.lr_rules.specs.declared.path.Path.{Path}
 use Rattle.lr_rules.specs.declared.fault.CallKind.{CallKind}
@@ -13,14 +13,11 @@ use Rattle.lr_report.specs.Lines.{lines}
 use Rattle.lr_report.specs.Puts.{Took, TookPart}
 use Rattle.lr_cli.specs.declared.outcome.Outcome.{Outcome}
 use Rattle.lr_cli.specs.declared.outcome.Outcome.TheVariants.{Done, BadWords, Held, OutOfMemory}
-use Rattle.lr_cli.specs.declared.outcome.Report.{Report}
-use Rattle.lr_cli.specs.declared.run.RunStop.{RunStop}
-use Rattle.lr_cli.specs.declared.run.RunStop.TheVariants as run
-use Rattle.lr_cli.specs.Faults.{answer_of, HasFault}
+use Rattle.lr_cli.specs.Faults.{HasFault}
 use Rattle.lr_cli.specs.Printed.{no_out, but_out, without_out, text_of, printed_of}
 
 -- what is in a list of one is that one
-Contains-only : {X : Type 0} (x y : X) → Contains (x ∷ []) y → x ≡ y
+pub Contains-only : {X : Type 0} (x y : X) → Contains (x ∷ []) y → x ≡ y
 Contains-only x y h = ⊎_elim (λ (a : Contains [] y). absurd (omega (arith, a.1))) (λ e. e) (Contains-push_cases [] x y h)
 
 -- a fault that isn't `Out` stays
@@ -63,19 +60,19 @@ call_stays (f ∷ g ∷ fs) kind path h =
     ⊎_elim (λ a. Contains-append_left (f ∷ []) (but_out (g ∷ fs)) (fault.Call kind path) a) (λ b. Contains-append_right (f ∷ []) (but_out (g ∷ fs)) (fault.Call kind path) (call_stays (g ∷ fs) kind path b))
     (Contains-append_cases (f ∷ []) (g ∷ fs) (fault.Call kind path) h)
 
--- the answer with these faults
-abbrev pub report_with : List Fault → Outcome
-report_with fs = Done (record { notices = []; faults = fs })
+-- the answer with these notices and faults
+abbrev pub report_with : List Notice → List Fault → Outcome
+report_with ns fs = Done (record { notices = ns; faults = fs })
 
-pub has_out : (o : Outcome) (fs : List Fault) → o ≡ report_with (fs ++ fault.Out ∷ []) → HasFault o fault.Out
-has_out o fs e = subst (λ r. HasFault r fault.Out) (sym e) (Contains-push fs fault.Out)
+pub has_out : (o : Outcome) (ns : List Notice) (fs : List Fault) → o ≡ report_with ns (fs ++ fault.Out ∷ []) → HasFault o fault.Out
+has_out o ns fs e = subst (λ r. HasFault r fault.Out) (sym e) (Contains-push fs fault.Out)
 
--- the text of these faults is printed of the answer with them
-pub part_printed : (o : Outcome) (fs : List Fault) (before after : Option (List ℕ)) → without_out o ≡ report_with fs → TookPart (lines [] fs) before after → TookPart (printed_of o) before after
-part_printed o fs before after e h = subst (λ r. TookPart (text_of r) before after) (sym e) h
+-- the text of these notices and faults is printed of the answer with them
+pub part_printed : (o : Outcome) (ns : List Notice) (fs : List Fault) (before after : Option (List ℕ)) → without_out o ≡ report_with ns fs → TookPart (lines ns fs) before after → TookPart (printed_of o) before after
+part_printed o ns fs before after e h = subst (λ r. TookPart (text_of r) before after) (sym e) h
 
-pub whole_printed : (o : Outcome) (fs : List Fault) (before after : Option (List ℕ)) → without_out o ≡ report_with fs → Took (lines [] fs) before after → Took (printed_of o) before after
-whole_printed o fs before after e h = subst (λ r. Took (text_of r) before after) (sym e) h
+pub whole_printed : (o : Outcome) (ns : List Notice) (fs : List Fault) (before after : Option (List ℕ)) → without_out o ≡ report_with ns fs → Took (lines ns fs) before after → Took (printed_of o) before after
+whole_printed o ns fs before after e h = subst (λ r. Took (text_of r) before after) (sym e) h
 
 -- the answer is the same without its `Out`
 pub from_memory : (o : Outcome) → without_out o ≡ OutOfMemory → o ≡ OutOfMemory
@@ -90,18 +87,11 @@ call_has BadWords kind path h = h
 call_has Held kind path h = h
 call_has OutOfMemory kind path h = h
 
--- no notice is told of a run so far
-abbrev notices_of : Outcome → List Notice
-notices_of (Done report) = report.notices
-notices_of _ = []
-
-none_of_run : (stopped : Result Unit RunStop) → notices_of (answer_of stopped) ≡ []
-none_of_run (Ok x) = refl
-none_of_run (Err (run.Fault f)) = refl
-none_of_run (Err run.Memory) = refl
-
-pub no_notice : (o : Outcome) (stopped : Result Unit RunStop) (report : Report) → without_out o ≡ answer_of stopped → o ≡ Done report → report.notices ≡ []
-no_notice o stopped report e done = ap notices_of (sym (ap without_out done) ∙ e) ∙ none_of_run stopped
+pub from_held : (o : Outcome) → without_out o ≡ Held → o ≡ Held
+from_held (Done report) e = absurd (cc)
+from_held BadWords e = absurd (cc)
+from_held Held e = refl
+from_held OutOfMemory e = absurd (cc)
 
 -- what is left is the same where the answers are
 pub left_with : (P : Outcome → List Entry → Type 0) (a b : Outcome) (o n : Option Journal) → a ≡ b → Left (P b) o n → Left (P a) o n

@@ -1,15 +1,7 @@
-pub mod Acts
 pub mod Answer
 pub mod Exact
-pub mod Family
 pub mod Faults
-pub mod Form
-pub mod Looks
-pub mod Member
 pub mod Printed
-pub mod Quiet
-pub mod Rotation
 pub mod Status
-pub mod Stops
 pub mod Turning
 pub mod Words

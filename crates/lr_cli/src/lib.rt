@@ -1,34 +1,27 @@
-//! The top call.
+//! The top call: from the words of the command line to the exit status.
+//!
+//! The contract above it: a log that stood as a file is under one name of its set, with its bytes, until its count of
+//! later rotations were begun, whatever call failed and wherever the run stopped (`safe`); and the report is just what
+//! the bytes of the configuration mean and the entries of the run show (`told`, `exactly`). Begin with `logrotate`:
+//!
+//! ```text
+//! let outcome = logrotate(alloc, &words, &here, &Zone::Utc, now, &mut host, &mut out);
+//! let code = status(&outcome);   // 0 where the report has no fault
+//! ```
 #![tactic(auto)]
 
-mod conf;
-mod family;
-mod fault;
-mod form;
-mod listing;
-mod member;
+mod moment;
 mod outcome;
-mod plan;
-mod reading;
 mod report;
-mod rotation;
 mod run;
-mod step;
+mod told;
 mod top;
 mod words;
 
-pub use conf::{ConfStop, read_conf, read_rule};
-pub use family::stand;
-pub use fault::{fault_of_conf, fault_of_turn};
-pub use form::{FormFault, LogRule, rule_of};
-pub use listing::{members_among, paths_in_order};
-pub use member::{member_path, number_of};
+pub use moment::{first_civil, state_file};
 pub use outcome::{Outcome, Report, Zone, status};
-pub use plan::steps_of;
-pub use reading::{ReadStop, read_text};
 pub use report::{printed, put_outcome, put_report};
-pub use rotation::{TurnStop, turn};
-pub use run::{RunStop, run_conf};
-pub use step::{Step, take_steps};
+pub use run::run_conf;
+pub use told::Told;
 pub use top::logrotate;
 pub use words::{WordsFault, conf_of};

@@ -1,5 +1,5 @@
 // What a call prints, and the report that it answers.
-ghost use Rattle.std.specs.Prelude.{◌≡◌, ◌≤◌, ◌<◌, ◌⊎◌, [], Contains, Err, OnErr, OnOk, vec_len, vec_capacity};
+ghost use Rattle.std.specs.Prelude.{◌≡◌, ◌≤◌, ◌<◌, ◌+◌, ◌⊎◌, Contains, IfOk, OnErr, OnOk, vec_len, vec_capacity};
 ghost use Rattle.lr_rules.specs.declared.fault.Fault.TheVariants as fault;
 ghost use Rattle.lr_host.specs.Told.{Rose};
 ghost use Rattle.lr_report.specs.Lines.{lines};
@@ -9,11 +9,11 @@ ghost use Rattle.lr_cli.specs.Faults.{answer_of, HasFault};
 ghost use Rattle.lr_cli.specs.Printed.{printed_of, text_of, without_out};
 
 use crate::outcome::{Outcome, Report};
-use crate::run::RunStop;
+use crate::told::Told;
 use lr_host::{Sink, SinkFault};
 use lr_report::{put_lines, put_said};
-use lr_rules::{Fault, Listed};
-use std::alloc::Global;
+use lr_rules::{Fault, Listed, Notice};
+use lr_run::RunStop;
 
 /// Puts the lines of a report: of its notices, then of its faults, each in order. It takes no memory, and stops at the
 /// first fault of the output.
@@ -54,61 +54,54 @@ pub fn printed<K: Sink>(outcome: Outcome, out: &mut K) -> Outcome
 }
 
 #[tactic(auto, using(crate::proofs::OutAside::all_stay))]
-fn report_of(alloc: Global, faults: Vec<Fault>) -> Outcome
+fn report_of(notices: Listed<Notice>, faults: Vec<Fault>) -> Outcome
     requires no_out { Contains faults.items fault.Out → ⊥ }
-    ensures report { result ≡ Outcome.Done (record { notices = []; faults = faults.items }) }
-    ensures faults { without_out result ≡ Outcome.Done (record { notices = []; faults = faults.items }) }
+    ensures report { result ≡ Outcome.Done (record { notices = notices; faults = faults.items }) }
+    ensures faults { without_out result ≡ Outcome.Done (record { notices = notices; faults = faults.items }) }
 {
     Outcome::Done(Report {
-        notices: Listed::new(alloc),
+        notices,
         faults: Listed::from_vec(faults),
     })
 }
 
 #[tactic(auto, using(crate::proofs::OutAside::last_goes, crate::proofs::OutAside::has_out))]
 // The report with `Out` behind these faults, for which there is room.
-fn report_with_out(alloc: Global, faults: Vec<Fault>) -> Outcome
+fn report_with_out(notices: Listed<Notice>, faults: Vec<Fault>) -> Outcome
     requires room { vec_len faults < vec_capacity faults }
-    ensures faults { without_out result ≡ Outcome.Done (record { notices = []; faults = faults.items }) }
+    ensures faults { without_out result ≡ Outcome.Done (record { notices = notices; faults = faults.items }) }
     ensures out { HasFault result fault.Out }
 {
     let mut faults = faults;
     faults.push(Fault::Out).unwrap();
     Outcome::Done(Report {
-        notices: Listed::new(alloc),
+        notices,
         faults: Listed::from_vec(faults),
     })
 }
 
 #[tactic(auto, using(crate::proofs::OutAside::part_printed, crate::proofs::OutAside::whole_printed))]
-// The report of these faults, which are put. Where the output fails, it has `Out` behind them, for which there is room.
-fn report<K: Sink>(alloc: Global, faults: Vec<Fault>, out: &mut K) -> Outcome
+// The report of these notices and faults, which are put. Where the output fails, it has `Out` behind them, for which
+// there is room.
+fn report<K: Sink>(notices: Listed<Notice>, faults: Vec<Fault>, out: &mut K) -> Outcome
     requires room { vec_len faults < vec_capacity faults }
     requires no_out { Contains faults.items fault.Out → ⊥ }
-    ensures faults { without_out result ≡ Outcome.Done (record { notices = []; faults = faults.items }) }
+    ensures faults { without_out result ≡ Outcome.Done (record { notices = notices; faults = faults.items }) }
     ensures printed { TookPart (printed_of result) (K.taken out.old) (K.taken out.new) }
     ensures broken_off { Took (printed_of result) (K.taken out.old) (K.taken out.new) ⊎ HasFault result fault.Out }
     ensures out { HasFault result fault.Out → Rose (K.faults out.old) (K.faults out.new) }
     ensures counts { K.faults out.old ≤ K.faults out.new }
 {
-    match put_lines(&[], &faults, out) {
-        Ok(()) => report_of(alloc, faults),
-        Err(_) => report_with_out(alloc, faults),
+    match put_lines(notices.as_slice(), &faults, out) {
+        Ok(()) => report_of(notices, faults),
+        Err(_) => report_with_out(notices, faults),
     }
 }
 
-/// The answer of a run that turned its log over, or stopped so, printed. The room is for its one fault and for `Out`, so
-/// no memory is taken here.
-pub fn finish<K: Sink>(
-    alloc: Global,
-    room: Vec<Fault>,
-    run: Result<(), RunStop>,
-    out: &mut K,
-) -> Outcome
-    requires empty { room.items ≡ [] }
-    requires len { vec_len room ≡ 0 }
-    requires room { 2 ≤ vec_capacity room }
-    requires no_out { run ≡ Err (RunStop.Fault fault.Out) → ⊥ }
+/// The answer of a run that told this, or stopped so, printed. There is room for `Out`, so no memory is taken here.
+pub fn finish<K: Sink>(run: Result<Told, RunStop>, out: &mut K) -> Outcome
+    requires room { IfOk run (λ told. vec_len told.faults + 1 ≤ vec_capacity told.faults) }
+    requires no_out { IfOk run (λ told. Contains told.faults.items fault.Out → ⊥) }
     ensures answer { without_out result ≡ answer_of run }
     ensures printed { TookPart (printed_of result) (K.taken out.old) (K.taken out.new) }
     ensures whole { Took (printed_of result) (K.taken out.old) (K.taken out.new) ⊎ Rose (K.faults out.old) (K.faults out.new) }
@@ -116,13 +109,9 @@ pub fn finish<K: Sink>(
     ensures out { HasFault result fault.Out → Rose (K.faults out.old) (K.faults out.new) }
     ensures counts { K.faults out.old ≤ K.faults out.new }
 {
-    let mut faults = room;
     match run {
-        Ok(()) => report(alloc, faults, out),
-        Err(RunStop::Fault(fault)) => {
-            faults.push(fault).unwrap();
-            report(alloc, faults, out)
-        }
+        Ok(told) => report(told.notices, told.faults, out),
+        Err(RunStop::Held) => printed(Outcome::Held, out),
         Err(RunStop::Memory) => printed(Outcome::OutOfMemory, out),
     }
 }

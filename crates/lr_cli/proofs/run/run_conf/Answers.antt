@@ -1,27 +1,50 @@
-use Rattle.std.proofs.Common.{sym, ◌∙◌}
-use Rattle.lr_host.proofs.Left.{left_as, left_both}
-use Rattle.lr_cli.specs.Answer.{ReadsRule, at_conf}
-use Rattle.lr_cli.specs.Stops.{RuleStopped, TurnStopped}
-use Rattle.lr_host.specs.Told.{Then}
-use Rattle.lr_cli.proofs.Because.{answers, conf_because, conf_lacks, turn_because, turn_lacks, turned, some_fault, may_lack}
-use Rattle.lr_cli.proofs.Sights.{only_reads}
+use Rattle.std.proofs.Common.{ap, ◌∙◌, subst, List, ◌++◌, Contains}
+use Rattle.std.specs.Prelude.{drop, length}
+use Rattle.lr_rules.specs.declared.fault.Fault.{Fault}
+use Rattle.lr_rules.specs.declared.fault.Fault.TheVariants as fault
+use Rattle.lr_cli.proofs.Built.{built}
+use Rattle.lr_cli.proofs.Exactness.{both_exactly}
+use Rattle.lr_cli.proofs.Reading.{reports, stopped, lacks_at_conf, none_of_both, reading_no_out, either_call, rose_then, rose_after, any_call, conf_shape, lacking_shape}
 use Rattle.lr_cli.proofs.run.run_conf.Goals as goal
 
-pub returns-in-Err-clause-told : goal.returns-in-Err-clause-told
-returns-in-Err-clause-told g c =
-    answers c.args.conf (RuleStopped c.args.conf c.in-Err.stop) c.fault_of_conf.result c.stop_of.result c.stop_of.ensures.some c.stop_of.ensures.none c.in-Err.ensures.stopped
-    (λ f ts e r. conf_because c.args.conf c.in-Err.stop f ts (sym c.fault_of_conf.ensures ∙ e) r) (λ ts e r. conf_lacks c.args.conf c.in-Err.stop ts (sym c.fault_of_conf.ensures ∙ e) r)
-
 pub returns-in_default-clause-told : goal.returns-in_default-clause-told
-returns-in_default-clause-told g c = left_as c.in-Ok.ensures.told (λ ts r. at_conf (only_reads c.args.conf r.bytes ts r.read))
+returns-in_default-clause-told g c = lacks_at_conf c.args.conf.now c.args.now.now c.in_default.ensures.lacking
 
-pub returns-in-Ok-turn-clause-told : goal.returns-in-Ok-turn-clause-told
-returns-in-Ok-turn-clause-told g c =
-    left_as (left_both c.in-Ok.ensures.told c.in-Ok-turn.ensures.told) (λ ts t. turned c.args.conf c.in-Ok.rule.log c.in-Ok.rule.count ts t)
+pub run-requires : goal.run-requires
+run-requires g c = built c.in-Ok.reading.rules.sets c.in-Ok.ensures.plain c.in-Ok.ensures.one
+
+pub returns-in-Ok-run-clause-told : goal.returns-in-Ok-run-clause-told
+returns-in-Ok-run-clause-told g c =
+    reports c.args.conf.now c.args.state.now c.args.now.now c.in-Ok.reading _ _ c.requires.state
+    (c.in-Ok-run.ensures.earlier ∙ ap (λ fs. fs ++ drop (length c.into_vec.result.items) c.in-Ok-run.ran.faults.items) c.into_vec.ensures) c.in-Ok.ensures.told c.in-Ok-run.ensures.told
+
+pub returns-in-Ok-run-clause-no_out : goal.returns-in-Ok-run-clause-no_out
+returns-in-Ok-run-clause-no_out g c =
+    none_of_both c.into_vec.result.items _ _ fault.Out c.in-Ok-run.ensures.earlier
+    (λ h. reading_no_out c.in-Ok.reading.faults c.in-Ok.ensures.only (subst (λ (fs : List Fault). Contains fs fault.Out) c.into_vec.ensures h)) c.in-Ok-run.ensures.no_out
+
+pub returns-in-Ok-run-clause-call : goal.returns-in-Ok-run-clause-call
+returns-in-Ok-run-clause-call g c =
+    λ kind path. either_call c.into_vec.result.items (drop (length c.into_vec.result.items) c.in-Ok-run.ran.faults.items) _ (fault.Call kind path) _ c.in-Ok-run.ensures.earlier
+    (λ h. rose_then _ _ _ (c.in-Ok.ensures.cause kind path (subst (λ (fs : List Fault). Contains fs (fault.Call kind path)) c.into_vec.ensures h)) c.run.ensures.counts.0)
+    (λ h. rose_after _ _ _ c.read_conf.ensures.counts.0 (c.in-Ok-run.ensures.cause (any_call _ kind path h)))
 
 pub returns-clause-told : goal.returns-clause-told
-returns-clause-told g c =
-    answers c.args.conf (Then (ReadsRule c.args.conf c.in-Ok.rule.log c.in-Ok.rule.count) (TurnStopped c.in-Ok.rule.log c.in-Ok.rule.count c.in-Err-turn.stop)) c.fault_of_turn.result c.stop_of-in-Err-turn.result
-    c.stop_of-in-Err-turn.ensures.some c.stop_of-in-Err-turn.ensures.none (left_both c.in-Ok.ensures.told c.in-Err-turn.ensures.stopped)
-    (λ f ts e t. turn_because c.args.conf c.in-Ok.rule.log c.in-Ok-parent.dir c.in-Ok.rule.count c.in-Err-turn.stop f ts c.in-Ok-parent.ensures.0 (some_fault _ _ f c.fault_of_turn.ensures.fault e) t)
-    (λ ts e t. turn_lacks c.args.conf c.in-Ok.rule.log c.in-Ok.rule.count c.in-Err-turn.stop ts (may_lack c.fault_of_turn.result c.in-Err-turn.stop c.fault_of_turn.ensures.none e) t)
+returns-clause-told g c = stopped c.args.conf.now c.args.state.now c.args.now.now c.in-Ok.reading c.in-Err.stop c.requires.state c.in-Ok.ensures.told c.in-Err.ensures.told
+
+pub returns-in_default-clause-shape : goal.returns-in_default-clause-shape
+returns-in_default-clause-shape g c = lacking_shape c.args.conf.now c.in_default.ensures.lacking
+
+pub returns-in-Ok-run-clause-shape : goal.returns-in-Ok-run-clause-shape
+returns-in-Ok-run-clause-shape g c = conf_shape c.args.conf.now _ c.in-Ok.ensures.told c.run.ensures.shape
+
+pub returns-clause-shape : goal.returns-clause-shape
+returns-clause-shape g c = conf_shape c.args.conf.now _ c.in-Ok.ensures.told c.run.ensures.shape
+
+pub returns-in-Ok-run-clause-exactly : goal.returns-in-Ok-run-clause-exactly
+returns-in-Ok-run-clause-exactly g c =
+    λ calm. both_exactly c.args.conf.now c.args.state.now c.args.now.now c.in-Ok.reading (drop (length c.into_vec.result.items) c.in-Ok-run.ran.faults.items) c.in-Ok-run.ran.faults.items c.requires.state
+    (λ a. calm (rose_after _ _ _ c.read_conf.ensures.counts.0 (c.in-Ok-run.ensures.cause a)))
+    (c.in-Ok-run.ensures.earlier ∙ ap (λ fs. fs ++ drop (length c.into_vec.result.items) c.in-Ok-run.ran.faults.items) c.into_vec.ensures)
+    (c.in-Ok.ensures.exactly (λ rose. calm (rose_then _ _ _ rose c.run.ensures.counts.0)))
+    (c.in-Ok-run.ensures.exactly (λ rose. calm (rose_after _ _ _ c.read_conf.ensures.counts.0 rose)) (λ e. cc))
