@@ -1,6 +1,7 @@
 -- What a call of the program leaves, by its answer.
-use Rattle.std.specs.Prelude.{◌≡◌, ◌⊎◌, ℕ, ℤ, List, [], ◌++◌, filter, codes}
+use Rattle.std.specs.Prelude.{◌≡◌, ◌⊎◌, ℕ, ℤ, pos, List, [], ◌++◌, filter, codes}
 use Rattle.lr_rules.specs.declared.path.Path.{Path}
+use Rattle.lr_rules.specs.declared.civil.Civil.{Civil}
 use Rattle.lr_rules.specs.declared.civil.Moment.{Moment}
 use Rattle.lr_rules.specs.declared.fault.Fault.{Fault}
 use Rattle.lr_rules.specs.declared.fault.Notice.{Notice}
@@ -24,6 +25,20 @@ use Rattle.lr_cli.specs.Words.{AreWords}
 -- the state file of each run, so far
 abbrev pub state_path : Path
 state_path = codes "/var/lib/logrotate/status"
+
+-- the first moment of 1970, which is the civil part of each run's moment so far
+pub record IsFirst (civil : Civil) : Type 0 where
+  pub year : civil.year ≡ pos 1970
+  pub month : civil.month ≡ 1
+  pub day : civil.day ≡ 1
+  pub hour : civil.hour ≡ 0
+  pub minute : civil.minute ≡ 0
+  pub second : civil.second ≡ 0
+
+-- the moment of a run, of the seconds since 1970
+pub record IsNow (seconds : ℤ) (now : Moment) : Type 0 where
+  pub seconds_are : now.seconds ≡ seconds
+  pub civil_is : IsFirst now.civil
 
 -- no entry changes a name or bytes
 abbrev pub ChangeNothing : List Entry → Type 0
@@ -65,8 +80,8 @@ Answered here words now BadWords ts = ts ≡ []
 Answered here words now OutOfMemory ts = (ts ≡ []) ⊎ ((conf : Path) × AreWords here words conf × Answers conf now OutOfMemory ts)
 Answered here words now outcome ts = (conf : Path) × AreWords here words conf × Answers conf now outcome ts
 
--- the same for some moment of these seconds since 1970
+-- the same for the moment of a run at these seconds
 pub record AnsweredAt (here : Path) (words : List (List ℕ)) (seconds : ℤ) (outcome : Outcome) (ts : List Entry) : Type 0 where
   pub now : Moment
-  pub is_now : now.seconds ≡ seconds
+  pub is_now : IsNow seconds now
   pub answered : Answered here words now outcome ts

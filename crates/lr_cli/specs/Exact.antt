@@ -9,7 +9,7 @@ use Rattle.lr_rules.specs.declared.fault.Notice.{Notice}
 use Rattle.lr_host.specs.declared.entry.Entry.{Entry}
 use Rattle.lr_cli.specs.declared.outcome.Outcome.{Outcome}
 use Rattle.lr_cli.specs.declared.outcome.Outcome.TheVariants.{Done}
-use Rattle.lr_cli.specs.Answer.{Reports}
+use Rattle.lr_cli.specs.Answer.{IsNow, Reports}
 use Rattle.lr_cli.specs.Words.{AreWords}
 
 -- the answer is a report with just these notices and faults
@@ -28,8 +28,8 @@ Exactly here words now outcome ts =
     (conf : Path) → AreWords here words conf → (notices : List Notice) (faults : List Fault) → HasNoCall faults
     → HasReport outcome notices faults ↔ Reports conf now notices faults ts
 
--- the same for some moment of these seconds since 1970
+-- the same for the moment of a run at these seconds
 pub record ExactlyAt (here : Path) (words : List (List ℕ)) (seconds : ℤ) (outcome : Outcome) (ts : List Entry) : Type 0 where
   pub now : Moment
-  pub is_now : now.seconds ≡ seconds
+  pub is_now : IsNow seconds now
   pub exactly : Exactly here words now outcome ts

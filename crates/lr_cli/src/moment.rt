@@ -1,12 +1,14 @@
 // When a run is made, and where its state file is.
 ghost use Rattle.std.specs.Prelude.{◌≡◌, IfOk};
-ghost use Rattle.lr_cli.specs.Answer.{state_path};
+ghost use Rattle.lr_cli.specs.Answer.{IsFirst, state_path};
 
 use lr_rules::{Civil, Memory, Path};
 use std::alloc::Global;
 
 /// The first moment of 1970. So far it is the civil part of each run's moment: only the seconds are those of the run.
-pub fn first_civil() -> Civil {
+pub fn first_civil() -> Civil
+    ensures { IsFirst result }
+{
     Civil::new(1970, 1, 1, 0, 0, 0).unwrap()
 }
 
