@@ -1,9 +1,1 @@
-pub mod JournalLemmas
-pub mod LengthLemmas
-pub mod ListingLemmas
-pub mod OpenedLemmas
-pub mod PairLemmas
-pub mod StateLemmas
 pub mod TurnLemmas
-pub mod UndoLemmas
-pub mod ValidLemmas

@@ -14,10 +14,10 @@ use Rattle.lr_host.specs.Steps.{is_naming}
 use Rattle.lr_host.specs.Told.{NoneFell, IsWriters, Can, CanCall, Made, at_first, by_writer, by_tool, Left, is_told, IsTools, Are, DidWhere, DidPart}
 use Rattle.lr_host.proofs.Left.{made_on, can_stay}
 use Rattle.lr_memhost.specs.declared.act.Act.{Act}
-use Rattle.lr_memhost.specs.State.{with_entry}
+use Rattle.lr_disk.specs.State.{with_entry}
 use Rattle.lr_memhost.specs.How.{downs}
 use Rattle.lr_memhost.specs.Acts.{View, how_at, Came, all, stays, enters, passes, stops, Comes, Entered, Turned, Starved, one_more, counts_of, IsSure, IsMaking}
-use Rattle.lr_memhost.proofs.JournalLemmas.{past_entry}
+use Rattle.lr_disk.proofs.JournalLemmas.{past_entry}
 
 pub same_act : (acts : List Act) (at : ℕ) (a b : Act) → at < length acts → a ≡ get_or acts at a → b ≡ get_or acts at b → a ≡ b
 same_act acts at a b lt is is' = is ∙ (get_or_default acts at a b lt ∙ sym is')

@@ -1,13 +1,11 @@
 -- What each call to a host in memory does: writers act, and then the call is made or fails.
 use Rattle.std.specs.Ordering.{int_eq}
-use Rattle.std.specs.Prelude.{◌≡◌, ◌≢◌, ℕ, ◌+◌, ◌-◌, ◌^◌, ◌<◌, ◌≤◌, min, ◌==◌, ◌⊎◌, Bool, true, false, not, cond, pos, List, [], ◌∷◌, drop, length, Option, Some, None, option_to_list}
+use Rattle.std.specs.Prelude.{◌≡◌, ◌≢◌, ℕ, ◌+◌, ◌-◌, ◌^◌, ◌<◌, ◌≤◌, min, ◌==◌, ◌⊎◌, Bool, true, false, not, cond, pos, List, [], ◌∷◌, drop, Option, Some, None, option_to_list}
 use Rattle.lr_rules.specs.declared.path.Path.{Path}
-use Rattle.lr_host.specs.declared.thing.Thing.{Thing}
-use Rattle.lr_host.specs.declared.thing.Thing.TheVariants as thing
 use Rattle.lr_host.specs.declared.entry.Entry.{Entry}
 use Rattle.lr_host.specs.declared.entry.Entry.TheVariants as entry
 use Rattle.lr_host.specs.declared.journal.Journal.{Journal}
-use Rattle.lr_host.specs.World.{Past, ◌▸◌, past, World, world}
+use Rattle.lr_host.specs.World.{Past, ◌▸◌, past, world}
 use Rattle.lr_host.specs.Fits.{Fits}
 use Rattle.lr_rules.specs.declared.fault.Ended.{Ended}
 use Rattle.lr_rules.specs.declared.fault.Ended.TheVariants as ended
@@ -119,16 +117,6 @@ pub record Turned (P : List Entry → Type 0) (before after : View) : Type 0 whe
   pub calls : after.calls ≡ one_more before.calls
   pub failing : after.failing ≡ before.failing
   pub down : after.down ≡ downs (how_at before)
-
--- a read of what a path names gives so many bytes: all that there are from the place on, as far as there is room
-abbrev pub GivesAll : World → Thing → ℕ → ℕ → ℕ → Type 0
-GivesAll w (thing.File g) from room count = count ≡ min room (length (w.files g).bytes - from)
-GivesAll w _ from room count = ⊥
-
--- these are the bytes of the file that is named
-abbrev pub HasBytes : World → Thing → List ℕ → Type 0
-HasBytes w (thing.File g) bytes = bytes ≡ (w.files g).bytes
-HasBytes w _ bytes = ⊥
 
 -- the entries whose call may be made wherever it fits
 abbrev pub IsSure : Entry → Type 0

@@ -109,14 +109,3 @@ pub fn runs(
         ended,
     })
 }
-
-/// The lengths of a cut.
-pub fn copy_lengths(alloc: Global, lengths: &[(u64, u64)]) -> Result<Listed<(u64, u64)>, Memory>
-    ensures { IfOk result (λ copy. copy ≡ lengths.now) }
-{
-    let mut copy = Vec::new(alloc);
-    for pair in lengths {
-        copy.push(*pair)?;
-    }
-    Ok(Listed::from_vec(copy))
-}

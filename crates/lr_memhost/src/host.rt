@@ -6,14 +6,15 @@ ghost use Rattle.lr_host.specs.Fits.{IsFileAt, IsCut};
 ghost use Rattle.lr_host.specs.Opening.{IsValid, IsJournal};
 ghost use Rattle.lr_host.specs.Sets.{LogSet};
 ghost use Rattle.lr_host.specs.Safe.{IsSafe};
-ghost use Rattle.lr_memhost.specs.State.{opened_journal, with_entry};
-ghost use Rattle.lr_memhost.specs.Acts.{View, HasBytes};
+ghost use Rattle.lr_disk.specs.State.{opened_journal, with_entry};
+ghost use Rattle.lr_disk.specs.Bytes.{HasBytes};
+ghost use Rattle.lr_memhost.specs.Acts.{View};
 
 mod calls;
 mod parts;
 
 use crate::act::{Act, Failing};
-use crate::disk::Disk;
+use lr_disk::Disk;
 use lr_host::{Journal, Opening, Thing};
 use lr_rules::{Ended, Memory, Path};
 use std::alloc::Global;
@@ -33,7 +34,7 @@ pub enum CutFault {
     Memory,
 }
 
-/// A disk in memory.
+/// A host over a disk in memory.
 #[derive(Drop)]
 pub struct MemHost {
     alloc: Global,

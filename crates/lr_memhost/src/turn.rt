@@ -5,7 +5,7 @@ ghost use Rattle.lr_memhost.specs.Acts.{how_of, Came, Comes};
 ghost use Rattle.lr_memhost.specs.declared.act.Act.{Act};
 
 use crate::act::{Act, Failing, How};
-use crate::disk::Disk;
+use lr_disk::Disk;
 use lr_rules::Memory;
 
 // How the call with this number is to fail.

@@ -5,8 +5,9 @@ ghost use Rattle.lr_host.specs.declared.entry.Entry.TheVariants as entry;
 ghost use Rattle.lr_host.specs.declared.thing.Thing.TheVariants as thing;
 ghost use Rattle.lr_host.specs.World.{world, past, names};
 ghost use Rattle.lr_host.specs.Told.{NoneFell, Rose, Left, Are, Gave, Did, DidWhere, DidPart, DidRun, WhereTold, Can};
+ghost use Rattle.lr_disk.specs.Bytes.{GivesAll};
 ghost use Rattle.lr_memhost.specs.How.{idles};
-ghost use Rattle.lr_memhost.specs.Acts.{View, counts_of, how_at, one_more, first_end, after_end, IsFree, IsListed, Starved, Turned, GivesAll};
+ghost use Rattle.lr_memhost.specs.Acts.{View, counts_of, how_at, one_more, first_end, after_end, IsFree, IsListed, Starved, Turned};
 ghost use Rattle.lr_memhost.specs.declared.act.How.TheVariants as way;
 
 use super::MemHost;

@@ -2,7 +2,7 @@ use Rattle.std.proofs.Common.{◌≡◌, inl, inr, true, refl, sym, ap, subst, �
 use Rattle.lr_host.specs.World.{◌▸◌, world, past}
 use Rattle.lr_host.specs.Fits.{Fits}
 use Rattle.lr_host.specs.Told.{IsWriters}
-use Rattle.lr_memhost.proofs.JournalLemmas.{past_entry}
+use Rattle.lr_disk.proofs.JournalLemmas.{past_entry}
 use Rattle.lr_memhost.proofs.TurnLemmas.{same_act}
 use Rattle.lr_memhost.proofs.turn.take_act.Goals as goal
 

@@ -2,8 +2,9 @@ use Rattle.std.proofs.Common.{refl, sym, ap, subst, ◌∙◌, arith, [], take, 
 use Rattle.lr_host.specs.declared.entry.Entry.TheVariants as entry
 use Rattle.lr_host.specs.World.{world, past, names}
 use Rattle.lr_host.specs.Told.{Are}
-use Rattle.lr_memhost.specs.Acts.{Turned, GivesAll}
-use Rattle.lr_memhost.proofs.JournalLemmas.{past_entry}
+use Rattle.lr_disk.specs.Bytes.{GivesAll}
+use Rattle.lr_memhost.specs.Acts.{Turned}
+use Rattle.lr_disk.proofs.JournalLemmas.{past_entry}
 use Rattle.lr_memhost.proofs.TurnLemmas.{turned_left, turned_kept, turned_entry, like, like_same, still_can}
 use Rattle.lr_memhost.proofs.host.calls.MemHostHost.read.Goals as goal
 

@@ -1,0 +1,22 @@
+-- The lengths that a cut may give files.
+use Rattle.std.specs.Prelude.{ℕ, ◌≤◌, Bool, false, ◌||◌, List, [], ◌∷◌, length}
+use Rattle.lr_rules.specs.declared.path.Path.{Path}
+use Rattle.lr_host.specs.declared.thing.Thing.{Thing}
+use Rattle.lr_host.specs.World.{Names, is_file}
+use Rattle.lr_host.specs.Fits.{IsNamed}
+use Rattle.lr_disk.specs.declared.file.MemFile.{MemFile}
+use Rattle.lr_disk.specs.State.{file_at}
+
+-- some pair has the file
+abbrev pub has_file : List (Path × Thing) → ℕ → Bool
+has_file [] id = false
+has_file (n ∷ ns) id = is_file n.1 id || has_file ns id
+
+-- the file is named, and the length lies from its synced length to its length
+abbrev pub IsLength : List MemFile → Names → ℕ × ℕ → Type 0
+IsLength fs n l = IsNamed n l.0 × ((file_at fs l.0).synced ≤ l.1) × (l.1 ≤ length (file_at fs l.0).bytes)
+
+-- each is so
+abbrev pub AreWithin : List MemFile → Names → List (ℕ × ℕ) → Type 0
+AreWithin fs n [] = Unit {0}
+AreWithin fs n (l ∷ ls) = IsLength fs n l × AreWithin fs n ls

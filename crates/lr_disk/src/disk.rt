@@ -1,0 +1,351 @@
+// A disk in memory, which contracts see as the journal of its steps.
+ghost use Rattle.std.specs.Prelude.{◌≡◌, ◌≢◌, ◌<◌, ◌≤◌, ◌↔◌, ◌∷◌, ◌++◌, true, pos, Some, List, ℕ, [], length, take, drop, vec_len, vec_capacity, MatchResult, MatchOption, IfOk, OnOk, OnErr, IsTrue};
+ghost use Rattle.lr_host.specs.declared.entry.Entry.{Entry};
+ghost use Rattle.lr_host.specs.declared.entry.Entry.TheVariants as entry;
+ghost use Rattle.lr_host.specs.World.{world, past, names};
+ghost use Rattle.lr_host.specs.declared.thing.Thing.TheVariants as thing;
+ghost use Rattle.lr_host.specs.Fits.{Fits, IsCut, Sees, Gives, IsFileAt, IsDirectoryAt};
+ghost use Rattle.lr_host.specs.Told.{IsWriters};
+ghost use Rattle.lr_host.specs.Opening.{IsValid, IsJournal};
+ghost use Rattle.lr_host.specs.Sets.{LogSet};
+ghost use Rattle.lr_host.specs.Safe.{IsSafe};
+ghost use Rattle.lr_disk.specs.State.{with_entry, opened_journal};
+ghost use Rattle.lr_disk.specs.Bytes.{GivesAll, HasBytes};
+
+use crate::file::read_bytes;
+use crate::holds::hold_of;
+use crate::lengths::{are_apart, are_within, copy_lengths};
+use crate::listing::add_names;
+use crate::names::thing_at;
+use crate::opened::open;
+use crate::state::{State, apply, prepare};
+use crate::undo::{copy_names, take_back};
+use crate::valid::is_valid;
+use lr_host::{Entry, Journal, Kind, Opening, Seen, Thing};
+use lr_rules::{Listed, Memory, Path, Text, copy_texts};
+use std::alloc::Global;
+use std::marker::Model;
+use std::mem::replace;
+
+/// A disk in memory, with the journal of its entries.
+#[derive(Drop)]
+pub struct Disk {
+    alloc: Global,
+    journal: Journal,
+    state: State,
+    // Holds nothing. While a run stands, it has room for all entries and the run's end.
+    room: Vec<Entry>,
+}
+
+impl Model for Disk {
+    ghost use Rattle.lr_host.specs.declared.journal.Journal.{Journal};
+
+    ghost Value = { Journal };
+
+    ghost use Rattle.std.specs.Prelude.{vec_len, vec_capacity};
+    ghost use Rattle.lr_disk.specs.State.{IsDisk};
+
+    ghost view = { λ d. d.journal };
+
+    ghost invariant = { λ d. IsDisk d.state (vec_len d.room) (vec_capacity d.room) d.journal };
+}
+
+// Adds an entry; where there is no memory for it, it comes back.
+fn add(alloc: Global, entries: &mut Listed<Entry>, entry: Entry) -> Result<(), Entry>
+    ensures { MatchResult result (λ _. entries.new ≡ entries.old ++ entry ∷ []) (λ back. (back ≡ entry) × (entries.new ≡ entries.old)) }
+{
+    let mut items = replace(entries, Listed::new(alloc)).into_vec();
+    let pushed = items.push(entry);
+    *entries = Listed::from_vec(items);
+    match pushed {
+        Ok(()) => Ok(()),
+        Err(failed) => Err(failed.value),
+    }
+}
+
+// Adds an entry by moving all of them to a vector that has the room.
+fn add_in_room(alloc: Global, entries: &mut Listed<Entry>, room: &mut Vec<Entry>, entry: Entry)
+    requires empty { vec_len room.old ≡ 0 }
+    requires room { length entries.old < vec_capacity room.old }
+    ensures entries { entries.new ≡ entries.old ++ entry ∷ [] }
+    ensures empty { vec_len room.new ≡ 0 }
+{
+    let mut items = replace(entries, Listed::new(alloc)).into_vec();
+    let mut all = replace(room, Vec::new(alloc));
+    all.append(&mut items).unwrap();
+    all.push(entry).unwrap();
+    *entries = Listed::from_vec(all);
+}
+
+fn newest(entries: &Listed<Entry>) -> &Entry
+    requires { 0 < length entries.now }
+    ensures { (es : List Entry) (e : Entry) → entries.now ≡ es ++ e ∷ [] → result.now ≡ e }
+{
+    let items = entries.as_slice();
+    &items[items.len() - 1]
+}
+
+impl Disk {
+    /// A disk at its opening, with no entries; None where the opening isn't one of a disk. After `Memory` there is no
+    /// disk, and the opening is gone.
+    pub fn new(alloc: Global, opening: Opening) -> Result<Option<Disk>, Memory>
+        ensures { IfOk result (λ made. MatchOption made (¬ IsValid opening) (λ disk. (disk ≡ opened_journal opening) × IsValid opening × ((s : LogSet) → IsSafe s (past disk)))) }
+    {
+        let state = open(alloc, &opening)?;
+        if !is_valid(&opening, &state.names) {
+            return Ok(None);
+        }
+        let entries = Listed::new(alloc);
+        let room = Vec::new(alloc);
+        Ok(Some(Disk {
+            alloc,
+            journal: Journal { opening, entries },
+            state,
+            room,
+        }))
+    }
+
+    /// The journal, which is one of a disk.
+    pub fn journal(&self) -> &Journal
+        ensures is { result.now ≡ self.now }
+        ensures journal { IsJournal (past self.now) }
+    {
+        &self.journal
+    }
+
+    /// The bytes of the regular file that has the path; None where none has it.
+    pub fn file(&self, path: &Path) -> Option<&[u8]>
+        ensures { MatchOption result (¬ (IsFileAt (names (world (past self.now))) path.now)) (λ bytes. HasBytes (world (past self.now)) (names (world (past self.now)) path.now) bytes.now) }
+    {
+        match thing_at(&self.state.names, path.bytes()) {
+            Thing::File(identity) => Some(self.state.files[identity as usize].bytes.as_slice()),
+            _ => None,
+        }
+    }
+
+    /// Takes an entry that fits into the journal, and does what it does; where there is no memory, it comes back, and all
+    /// is as it was.
+    pub fn enter(&mut self, entry: Entry) -> Result<(), Entry>
+        requires { Fits (world (past self.old)) entry }
+        ensures { MatchResult result (λ _. self.new ≡ with_entry self.old entry) (λ back. (back ≡ entry) × (self.new ≡ self.old)) }
+    {
+        let Ok(spare) = prepare(self.alloc, &mut self.state, &entry) else {
+            return Err(entry);
+        };
+        let Some(more) = self.journal.entries.len().checked_add(2) else {
+            return Err(entry);
+        };
+        let Ok(()) = self.room.reserve(more) else {
+            return Err(entry);
+        };
+        add(self.alloc, &mut self.journal.entries, entry)?;
+        apply(
+            self.alloc,
+            &mut self.state,
+            newest(&self.journal.entries),
+            spare,
+        );
+        Ok(())
+    }
+
+    /// Ends the run that stands. It can't fail: the room for the entry was made before.
+    pub fn end(&mut self)
+        requires { (world (past self.old)).running ≡ true }
+        ensures { self.new ≡ with_entry self.old entry.Ends }
+    {
+        let added = add(self.alloc, &mut self.journal.entries, Entry::Ends);
+        if let Err(entry) = added {
+            add_in_room(self.alloc, &mut self.journal.entries, &mut self.room, entry);
+        }
+    }
+
+    /// How many name changes came since the last sync.
+    pub fn unsynced(&self) -> usize
+        ensures { result ≡ length (world (past self.now)).pending }
+    {
+        self.state.undos.len()
+    }
+
+    /// Whether the machine may stop so that of the name changes since the last sync the first `names_kept` stay, and each
+    /// listed file (identity, length in bytes) is cut to its length. After `Memory` it isn't known.
+    pub fn allows(&self, names_kept: usize, lengths: &[(u64, u64)]) -> Result<bool, Memory>
+        ensures { IfOk result (λ yes. IsTrue yes ↔ IsCut (world (past self.now)) names_kept lengths.now) }
+    {
+        if names_kept > self.state.undos.len() {
+            return Ok(false);
+        }
+        if !are_apart(lengths) {
+            return Ok(false);
+        }
+        let mut names = copy_names(self.alloc, &self.state.names)?;
+        take_back(&mut names, &self.state.undos, names_kept);
+        Ok(are_within(&self.state.files, &names, lengths))
+    }
+
+    /// The machine stops so, as `allows` says that it may, and writers let go. What is left counts as synced. After
+    /// `Memory` all is as it was.
+    pub fn cut(&mut self, names_kept: usize, lengths: &[(u64, u64)]) -> Result<(), Memory>
+        requires { IsCut (world (past self.old)) names_kept lengths.now }
+        ensures entry { MatchResult result (λ _. self.new ≡ with_entry self.old (entry.Cut names_kept lengths.now)) (λ _. self.new ≡ self.old) }
+        ensures safe { OnOk result ((s : LogSet) → IsSafe s (past self.old) → IsSafe s (past self.new)) }
+    {
+        let lengths = copy_lengths(self.alloc, lengths)?;
+        let Ok(()) = self.enter(Entry::Cut {
+            names_kept,
+            lengths,
+        }) else {
+            return Err(Memory);
+        };
+        Ok(())
+    }
+
+    /// What the path names.
+    pub fn thing(&self, path: &Path) -> Thing
+        ensures { result ≡ names (world (past self.now)) path.now }
+    {
+        thing_at(&self.state.names, path.bytes())
+    }
+
+    /// Whether something has the path.
+    pub fn is_named(&self, path: &Path) -> bool
+        ensures { IsTrue result ↔ (names (world (past self.now)) path.now ≢ thing.Nothing) }
+    {
+        thing_at(&self.state.names, path.bytes()) != Thing::Nothing
+    }
+
+    /// Whether it is a writer's entry, and fits.
+    pub fn is_due(&self, entry: &Entry) -> bool
+        ensures { IsTrue result ↔ (IsWriters entry.now × Fits (world (past self.now)) entry.now) }
+    {
+        match entry {
+            Entry::Attach {
+                writer,
+                path,
+                at: _,
+            } => self.can_attach(*writer, path),
+            Entry::Feed {
+                writer,
+                bytes: _,
+                at: _,
+            } => self.holds(*writer),
+            Entry::Flush { writer } => self.holds(*writer),
+            Entry::Detach { writer } => self.holds(*writer),
+            _ => false,
+        }
+    }
+
+    fn holds(&self, writer: u32) -> bool
+        ensures { IsTrue result ↔ ((g : ℕ) × ((world (past self.now)).holds writer ≡ Some g)) }
+    {
+        hold_of(&self.state.holds, writer).is_some()
+    }
+
+    fn can_attach(&self, writer: u32, path: &Path) -> bool
+        ensures { IsTrue result ↔ Fits (world (past self.now)) (entry.Attach writer path.now (pos 0)) }
+    {
+        if hold_of(&self.state.holds, writer).is_some() {
+            return false;
+        }
+        match thing_at(&self.state.names, path.bytes()) {
+            Thing::Nothing => {
+                thing_at(&self.state.names, path.parent_bytes()) == Thing::Directory
+            }
+            Thing::File(_) => true,
+            _ => false,
+        }
+    }
+
+    fn see(&self, path: &Path) -> Option<Seen>
+        ensures { Sees (world (past self.now)) (names (world (past self.now)) path.now) result }
+    {
+        match thing_at(&self.state.names, path.bytes()) {
+            Thing::Nothing => None,
+            Thing::File(identity) => {
+                let file = &self.state.files[identity as usize];
+                Some(Seen {
+                    kind: Kind::File,
+                    size: file.bytes.len() as u64,
+                    mtime: file.mtime,
+                    mode: file.mode,
+                })
+            }
+            Thing::Directory => Some(seen_as(Kind::Dir)),
+            Thing::Other => Some(seen_as(Kind::Other)),
+        }
+    }
+
+    /// Looks at the path: what stands there, its size in bytes; None where nothing has it. After `Memory` all is as it
+    /// was.
+    pub fn look(&mut self, path: &Path) -> Result<Option<Seen>, Memory>
+        ensures { MatchResult result (λ seen. (self.new ≡ with_entry self.old (entry.Look path.now seen)) × Fits (world (past self.old)) (entry.Look path.now seen)) (λ _. self.new ≡ self.old) }
+    {
+        let seen = self.see(path);
+        let path = path.copy(self.alloc)?;
+        let Ok(()) = self.enter(Entry::Look { path, seen }) else {
+            return Err(Memory);
+        };
+        Ok(seen)
+    }
+
+    /// Adds the names of what stands in the directory, behind what the vector has. After `Memory` the disk is as it was,
+    /// and some of the names may stand in the vector.
+    pub fn list(&mut self, alloc: Global, dir: &Path, into: &mut Vec<Text>) -> Result<(), Memory>
+        requires { IsDirectoryAt (names (world (past self.old))) dir.now }
+        ensures kept { take (length into.old.items) into.new.items ≡ into.old.items }
+        ensures ok { let e = entry.List dir.now (drop (length into.old.items) into.new.items) in OnOk result ((self.new ≡ with_entry self.old e) × Fits (world (past self.old)) e) }
+        ensures err { OnErr result (self.new ≡ self.old) }
+    {
+        let start = into.len();
+        add_names(alloc, into, &self.state.names, dir)?;
+        let names = copy_texts(self.alloc, &into[start..])?;
+        let dir = dir.copy(self.alloc)?;
+        let Ok(()) = self.enter(Entry::List { dir, names }) else {
+            return Err(Memory);
+        };
+        Ok(())
+    }
+
+    fn give(&self, path: &Path, from: u64, into: &mut [u8]) -> usize
+        requires room { 0 < length into.old }
+        requires file { IsFileAt (names (world (past self.now))) path.now }
+        ensures bound { result ≤ length into.new }
+        ensures gives { Gives (world (past self.now)) (names (world (past self.now)) path.now) from (take result into.new) }
+        ensures all { GivesAll (world (past self.now)) (names (world (past self.now)) path.now) from (length into.new) result }
+    {
+        match thing_at(&self.state.names, path.bytes()) {
+            Thing::File(identity) => {
+                read_bytes(&self.state.files[identity as usize].bytes, from, into)
+            }
+            _ => 0,
+        }
+    }
+
+    /// Reads bytes of a file from a place on, in bytes from its begin: all that there are, as far as there is room. After
+    /// `Memory` the disk is as it was, and bytes may stand in `into`.
+    pub fn read(&mut self, path: &Path, from: u64, into: &mut [u8]) -> Result<usize, Memory>
+        requires room { 0 < length into.old }
+        requires file { IsFileAt (names (world (past self.old))) path.now }
+        ensures bound { IfOk result (λ count. count ≤ length into.new) }
+        ensures read { MatchResult result (λ count. let e = entry.Reads path.now from (take count into.new) in (self.new ≡ with_entry self.old e) × Fits (world (past self.old)) e) (λ _. self.new ≡ self.old) }
+        ensures all { IfOk result (λ count. GivesAll (world (past self.old)) (names (world (past self.old)) path.now) from (length into.new) count) }
+    {
+        let count = self.give(path, from, into);
+        let bytes = Listed::from_vec(into[..count].to_vec(self.alloc)?);
+        let path = path.copy(self.alloc)?;
+        let Ok(()) = self.enter(Entry::Reads { path, from, bytes }) else {
+            return Err(Memory);
+        };
+        Ok(count)
+    }
+}
+
+fn seen_as(kind: Kind) -> Seen
+    ensures { result.kind ≡ kind }
+{
+    Seen {
+        kind,
+        size: 0,
+        mtime: 0,
+        mode: None,
+    }
+}

@@ -1,0 +1,86 @@
+// The state in memory of an opening.
+ghost use Rattle.std.specs.Prelude.{◌≡◌, ◌++◌, [], pos, map, Some, IfOk, OnOk};
+ghost use Rattle.lr_host.specs.declared.thing.Thing.TheVariants as thing;
+ghost use Rattle.lr_disk.specs.Names.{names_of};
+ghost use Rattle.lr_disk.specs.State.{as_open};
+
+use crate::file::MemFile;
+use crate::state::State;
+use lr_host::{OpenFile, Opening, Thing};
+use lr_rules::Path;
+use std::alloc::{AllocError, Global};
+
+fn add_files(
+    alloc: Global,
+    names: &mut Vec<(Path, Thing)>,
+    named: &[(Path, u64)],
+) -> Result<(), AllocError>
+    ensures { OnOk result (names.new.items ≡ names.old.items ++ map (λ n. (n.0, thing.File n.1)) named.now) }
+{
+    for name in named {
+        names.push((name.0.copy(alloc)?, Thing::File(name.1)))?;
+    }
+    Ok(())
+}
+
+fn add_paths(
+    alloc: Global,
+    names: &mut Vec<(Path, Thing)>,
+    paths: &[Path],
+    thing: Thing,
+) -> Result<(), AllocError>
+    ensures { OnOk result (names.new.items ≡ names.old.items ++ map (λ p. (p, thing)) paths.now) }
+{
+    for path in paths {
+        names.push((path.copy(alloc)?, thing))?;
+    }
+    Ok(())
+}
+
+fn copy_files(alloc: Global, opened: &[OpenFile]) -> Result<Vec<MemFile>, AllocError>
+    ensures { IfOk result (λ files. map as_open files.items ≡ opened.now) }
+{
+    let mut files = Vec::new(alloc);
+    for file in opened {
+        let bytes = file.bytes.as_slice().to_vec(alloc)?;
+        files.push(MemFile {
+            bytes,
+            synced: file.synced,
+            mtime: file.mtime,
+            mode: file.mode,
+        })?;
+    }
+    Ok(files)
+}
+
+fn copy_holds(alloc: Global, held: &[(u32, u64)]) -> Result<Vec<(u32, Option<u64>)>, AllocError>
+    ensures { IfOk result (λ holds. holds.items ≡ map (λ h. (h.0, Some h.1)) held.now) }
+{
+    let mut holds = Vec::new(alloc);
+    for hold in held {
+        holds.push((hold.0, Some(hold.1)))?;
+    }
+    Ok(holds)
+}
+
+pub fn open(alloc: Global, opening: &Opening) -> Result<State, AllocError>
+    ensures names { IfOk result (λ state. state.names.items ≡ names_of opening.now) }
+    ensures files { IfOk result (λ state. map as_open state.files.items ≡ opening.now.files) }
+    ensures holds { IfOk result (λ state. state.holds.items ≡ map (λ h. (h.0, Some h.1)) opening.now.holds) }
+    ensures undos { IfOk result (λ state. state.undos.items ≡ []) }
+    ensures now { IfOk result (λ state. state.moment ≡ pos 0) }
+{
+    let mut names = Vec::new(alloc);
+    add_files(alloc, &mut names, opening.names.as_slice())?;
+    add_paths(alloc, &mut names, opening.dirs.as_slice(), Thing::Directory)?;
+    add_paths(alloc, &mut names, opening.others.as_slice(), Thing::Other)?;
+    let files = copy_files(alloc, opening.files.as_slice())?;
+    let holds = copy_holds(alloc, opening.holds.as_slice())?;
+    Ok(State {
+        names,
+        files,
+        holds,
+        undos: Vec::new(alloc),
+        moment: 0,
+    })
+}

@@ -1,6 +1,0 @@
-use Rattle.std.proofs.Common.{◌≡◌, drop}
-use Rattle.lr_memhost.specs.Names.{named_in}
-use Rattle.lr_memhost.proofs.names.thing_at.Given as goal
-
-abbrev pub invariant-loop-pair : goal.invariant-loop-pair
-invariant-loop-pair l = named_in (drop l.pair-index l.names) l.path ≡ named_in l.names l.path

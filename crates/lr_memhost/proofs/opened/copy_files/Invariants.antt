@@ -1,6 +1,0 @@
-use Rattle.std.proofs.Common.{◌≡◌, take, map}
-use Rattle.lr_memhost.specs.State.{as_open}
-use Rattle.lr_memhost.proofs.opened.copy_files.Given as goal
-
-abbrev pub invariant-loop-file : goal.invariant-loop-file
-invariant-loop-file l = map as_open l.files.items ≡ take l.file-index l.opened

@@ -1,7 +1,0 @@
-use Rattle.std.proofs.Common.{◌↔◌, drop}
-use Rattle.lr_host.specs.Lists.{AreDistinct}
-use Rattle.lr_memhost.specs.Pairs.{keys}
-use Rattle.lr_memhost.proofs.valid.hold_once.Given as goal
-
-abbrev pub invariant-loop-i : goal.invariant-loop-i
-invariant-loop-i l = AreDistinct (keys (drop l.i l.holds)) ↔ AreDistinct (keys l.holds)
