@@ -1,26 +1,15 @@
 // Openings that are those of a disk, and openings with one thing that no disk has.
+use crate::disks::paths;
 use lr_host::{OpenFile, Opening};
 use lr_memhost::{MemFault, MemHost};
 use lr_rules::{Listed, Path};
 use std::alloc::Global;
 use std::test::Fail;
 
-fn path(alloc: Global, bytes: &[u8]) -> Result<Path, Fail> {
-    Ok(Path::new(alloc, bytes)?)
-}
-
-fn paths(alloc: Global, all: &[&[u8]]) -> Result<Listed<Path>, Fail> {
-    let mut paths = Vec::new(alloc);
-    for bytes in all {
-        paths.push(path(alloc, bytes)?)?;
-    }
-    Ok(Listed::from_vec(paths))
-}
-
 fn named(alloc: Global, all: &[(&[u8], u64)]) -> Result<Listed<(Path, u64)>, Fail> {
     let mut named = Vec::new(alloc);
     for (bytes, identity) in all {
-        named.push((path(alloc, bytes)?, *identity))?;
+        named.push((Path::new(alloc, bytes)?, *identity))?;
     }
     Ok(Listed::from_vec(named))
 }

@@ -1,8 +1,8 @@
 // Which members of a family stand: disks, namings, and the answers worked out by hand.
+use crate::disks::host_of;
 use lr_family::{Family, Place, Stand, StandStop, are_kin};
-use lr_host::{OpenFile, Opening};
 use lr_memhost::{Failing, How, MemHost};
-use lr_rules::{CallKind, Listed, Naming, Path, Text};
+use lr_rules::{CallKind, Naming, Path, Text};
 use std::alloc::Global;
 use std::test::Fail;
 
@@ -17,7 +17,8 @@ enum Wanted {
     Call(CallKind, &'static [u8]),
 }
 
-// The directories are `/`, `/v`, `/v/e`, `/v/d.1`, `/v/d.10` and `/v/d.2`.
+const DIRS: [&[u8]; 6] = [b"/", b"/v", b"/v/e", b"/v/d.1", b"/v/d.10", b"/v/d.2"];
+
 #[derive(Clone, Copy)]
 struct Row {
     dir: &'static [u8],
@@ -122,51 +123,12 @@ const ROWS: [Row; 13] = [
     },
 ];
 
-fn opening(alloc: Global, files: &[&[u8]]) -> Result<Opening, Fail> {
-    let mut list = Listed::new(alloc);
-    let mut names = Listed::new(alloc);
-    for path in files {
-        let identity = list.len() as u64;
-        list.push(OpenFile {
-            bytes: Listed::new(alloc),
-            synced: 0,
-            mtime: 7,
-            mode: None,
-        })?;
-        names.push((Path::new(alloc, path)?, identity))?;
+fn host(alloc: Global, row: &Row) -> Result<MemHost, Fail> {
+    let mut files = Vec::new(alloc);
+    for path in row.files {
+        files.push((*path, b"".as_slice()))?;
     }
-    let mut dirs = Listed::new(alloc);
-    for dir in [
-        b"/".as_slice(),
-        b"/v",
-        b"/v/e",
-        b"/v/d.1",
-        b"/v/d.10",
-        b"/v/d.2",
-    ] {
-        dirs.push(Path::new(alloc, dir)?)?;
-    }
-    Ok(Opening {
-        files: list,
-        dirs,
-        others: Listed::new(alloc),
-        names,
-        holds: Listed::new(alloc),
-    })
-}
-
-fn host_of(alloc: Global, row: &Row) -> Result<MemHost, Fail> {
-    let made = MemHost::new(
-        alloc,
-        opening(alloc, row.files)?,
-        Vec::new(alloc),
-        Vec::new(alloc),
-        Vec::new(alloc),
-        4096,
-    );
-    let Ok(mut host) = made else {
-        return Err(Fail::from("the opening is not one of a disk"));
-    };
+    let mut host = host_of(alloc, &DIRS, &files, &[])?;
     if let Some(at) = row.failing {
         let how = How::NoEffect;
         host.fail(Failing { at, how })?;
@@ -187,7 +149,7 @@ fn stands(alloc: Global, row: &Row) -> Result<Result<Stand, StandStop>, Fail> {
         return Err(Fail::from("no family"));
     }
     let family = Family::of(log, naming);
-    let mut host = host_of(alloc, row)?;
+    let mut host = host(alloc, row)?;
     Ok(family.stand(alloc, &mut host))
 }
 

@@ -2,7 +2,7 @@
 use lr_cli::{Outcome, Zone, logrotate};
 use lr_host::{OpenFile, Opening};
 use lr_memhost::{MemHost, MemSink};
-use lr_rules::{Ended, Listed, Path, Text};
+use lr_rules::{Listed, Path, Text};
 use std::alloc::Global;
 use std::test::Fail;
 
@@ -37,8 +37,7 @@ fn paths(alloc: Global, all: &[&[u8]]) -> Result<Listed<Path>, Fail> {
     Ok(paths)
 }
 
-/// The opening of a disk with these directories and files.
-pub fn opening(alloc: Global, dirs: &[&[u8]], all: &[(&[u8], &[u8])]) -> Result<Opening, Fail> {
+fn opening(alloc: Global, dirs: &[&[u8]], all: &[(&[u8], &[u8])]) -> Result<Opening, Fail> {
     let mut files = Listed::new(alloc);
     let mut names = Listed::new(alloc);
     for (path, bytes) in all {
@@ -55,19 +54,14 @@ pub fn opening(alloc: Global, dirs: &[&[u8]], all: &[(&[u8], &[u8])]) -> Result<
     })
 }
 
-/// A disk with these directories and files, of which programs end so.
-pub fn host_of(
-    alloc: Global,
-    dirs: &[&[u8]],
-    files: &[(&[u8], &[u8])],
-    ends: &[Ended],
-) -> Result<MemHost, Fail> {
+/// A disk with these directories and files.
+pub fn host_of(alloc: Global, dirs: &[&[u8]], files: &[(&[u8], &[u8])]) -> Result<MemHost, Fail> {
     let made = MemHost::new(
         alloc,
         opening(alloc, dirs, files)?,
         Vec::new(alloc),
         Vec::new(alloc),
-        Vec::from_slice(alloc, ends)?,
+        Vec::new(alloc),
         4096,
     );
     let Ok(host) = made else {
@@ -83,7 +77,7 @@ pub fn disk(alloc: Global, conf: &[u8], files: &[(&[u8], &[u8])]) -> Result<MemH
     for one in files {
         all.push(*one)?;
     }
-    host_of(alloc, &DIRS, &all, &[])
+    host_of(alloc, &DIRS, &all)
 }
 
 /// An output of which one put fails, if any.

@@ -9,15 +9,11 @@ mod again;
 #[cfg(test)]
 mod broken;
 #[cfg(test)]
-mod chains;
-#[cfg(test)]
 mod conf_rows;
 #[cfg(test)]
 mod confs;
 #[cfg(test)]
 mod disk;
-#[cfg(test)]
-mod programs;
 #[cfg(test)]
 mod rows;
 #[cfg(test)]

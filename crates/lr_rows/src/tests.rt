@@ -186,7 +186,7 @@ fn a_whole_run(rt: HostRuntime) -> Result<(), Fail> {
 fn no_state_directory(rt: HostRuntime) -> Result<(), Fail> {
     let alloc = rt.alloc();
     let files: Files = &[(b"/etc/c", TWO), (b"/v/a.log", b"C")];
-    let mut host = host_of(alloc, &DIRS[..6], files, &[])?;
+    let mut host = host_of(alloc, &DIRS[..6], files)?;
     let mut out = sink_of(alloc, None)?;
     let outcome = call(alloc, &WORDS, &mut host, &mut out)?;
     assert_eq!(rt; status(&outcome), 1);

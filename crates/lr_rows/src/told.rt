@@ -4,8 +4,8 @@ use lr_memhost::MemHost;
 use lr_rules::{Count, Memory, Path, Rules};
 use std::alloc::Global;
 
-/// Adds the line of a word and a path.
-pub fn put(into: &mut Vec<u8>, word: &[u8], path: &Path) -> Result<(), Memory> {
+// Adds the line of a word and a path.
+fn put(into: &mut Vec<u8>, word: &[u8], path: &Path) -> Result<(), Memory> {
     into.extend_from_slice(word)?;
     into.push(b' ')?;
     into.extend_from_slice(path.bytes())?;
@@ -13,8 +13,8 @@ pub fn put(into: &mut Vec<u8>, word: &[u8], path: &Path) -> Result<(), Memory> {
     Ok(())
 }
 
-/// Adds the line of a rename.
-pub fn put_rename(into: &mut Vec<u8>, from: &Path, to: &Path) -> Result<(), Memory> {
+// Adds the line of a rename.
+fn put_rename(into: &mut Vec<u8>, from: &Path, to: &Path) -> Result<(), Memory> {
     into.extend_from_slice(b"rename ")?;
     into.extend_from_slice(from.bytes())?;
     put(into, b"", to)

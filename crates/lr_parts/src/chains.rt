@@ -3,15 +3,21 @@ ghost use Rattle.std.specs.Prelude.{◌≡◌, ◌↔◌, None, true, IfOk};
 ghost use Rattle.lr_family.specs.Places.{IsPlaceOf};
 ghost use Rattle.lr_chain.specs.Ready.{IsCount, AreNamed};
 
-use crate::disk::{DIRS, Files, host_of};
-use crate::rows::THREE;
-use crate::told::{put, put_rename};
+use crate::disks::{host_of, put};
 use lr_chain::{PrepareStop, Ready, prepare};
 use lr_family::{Family, Member, Place, are_kin};
 use lr_rules::{Count, Memory, Naming, Path, Text};
 use lr_scripts::Removal;
 use std::alloc::Global;
 use std::test::Fail;
+
+type Files = &'static [(&'static [u8], &'static [u8])];
+
+const THREE: Files = &[
+    (b"/v/a.log", b"C"),
+    (b"/v/a.log.1", b"A"),
+    (b"/v/a.log.2", b"B"),
+];
 
 // What stands, the count, and the steps of a rotation, or why there is none.
 const ROWS: [(Files, Count, &[u8]); 6] = [
@@ -110,6 +116,12 @@ fn are_named(family: &Family, members: &[Member]) -> bool
     true
 }
 
+fn put_rename(into: &mut Vec<u8>, from: &Path, to: &Path) -> Result<(), Memory> {
+    into.extend_from_slice(b"rename ")?;
+    into.extend_from_slice(from.bytes())?;
+    put(into, b"", to)
+}
+
 fn put_removals(into: &mut Vec<u8>, removals: &[Removal]) -> Result<(), Memory> {
     for removal in removals {
         put(into, b"unlink", &removal.path)?;
@@ -143,7 +155,7 @@ fn prepared(
     count: Count,
 ) -> Result<Vec<u8>, Fail> {
     let family = family(alloc, dir)?;
-    let mut host = host_of(alloc, &DIRS, files, &[])?;
+    let mut host = host_of(alloc, &[b"/", b"/v"], files, &[])?;
     let Ok(stand) = family.stand(alloc, &mut host) else {
         return Err(Fail::from("it isn't known what stands"));
     };

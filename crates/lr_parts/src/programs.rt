@@ -3,11 +3,10 @@ ghost use Rattle.std.specs.Prelude.{◌≡◌, None, IfOk, IfSome, OnOk};
 ghost use Rattle.lr_host.specs.Steps.{CanAll};
 ghost use Rattle.lr_scripts.specs.Removals.{steps_of_removal};
 
-use crate::disk::{DIRS, has, host_of};
-use crate::told::entries;
-use lr_host::Thing;
+use crate::disks::{host_of, put};
+use lr_host::{Entry, Thing};
 use lr_memhost::{Failing, How, MemHost};
-use lr_rules::{CallKind, Ended, Listed, Path, Phase, Text};
+use lr_rules::{CallKind, Ended, Listed, Memory, Path, Phase, Text};
 use lr_scripts::{Bad, Command, Removal, remove, run_phase};
 use std::alloc::Global;
 use std::test::Fail;
@@ -25,7 +24,24 @@ fn command(alloc: Global, program: &[u8]) -> Result<Command, Fail>
 }
 
 fn host(alloc: Global, ends: &[Ended]) -> Result<MemHost, Fail> {
-    host_of(alloc, &DIRS, &[(b"/v/a.log.1", b"A")], ends)
+    host_of(alloc, &[b"/", b"/v"], &[(b"/v/a.log.1", b"A")], ends)
+}
+
+fn put_entry(into: &mut Vec<u8>, entry: &Entry) -> Result<(), Memory> {
+    match entry {
+        Entry::Runs { program, .. } => put(into, b"run", program),
+        Entry::Unlinks { path } => put(into, b"unlink", path),
+        _ => Ok(into.extend_from_slice(b"another entry\n")?),
+    }
+}
+
+// All entries, a line for each.
+fn entries(alloc: Global, host: &MemHost) -> Result<Vec<u8>, Memory> {
+    let mut text = Vec::new(alloc);
+    for entry in host.journal().entries.as_slice() {
+        put_entry(&mut text, entry)?;
+    }
+    Ok(text)
 }
 
 #[test]
@@ -192,7 +208,7 @@ fn meets(alloc: Global, row: &Row) -> Result<bool, Fail> {
     is_there(&host, &removal)?;
     let answer = remove(alloc, &mut host, &removal);
     let told = entries(alloc, &host)?;
-    let stays = has(alloc, &host, b"/v/a.log.1", Some(b"A"))?;
+    let stays = host.file(&removal.path) == Some(b"A");
     Ok(answer == row.answer && told.as_slice() == row.told && stays == row.stays)
 }
 
