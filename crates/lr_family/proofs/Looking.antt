@@ -1,23 +1,22 @@
 -- What looks at members, one after another, leave.
-use Rattle.std.proofs.Common.{◌≡◌, ℕ, List, [], ◌∷◌, ◌++◌, Option, Some, None, refl, sym, ap, ◌∙◌, subst, map, append_assoc}
-use Rattle.std.specs.Prelude.{flat_map, All}
+use Rattle.std.proofs.Common.{◌≡◌, List, [], ◌∷◌, ◌++◌, Option, Some, refl, sym, ap, ◌∙◌, subst, map}
+use Rattle.std.specs.Prelude.{flat_map}
 use Rattle.std.proofs.lemmas.List.{append-nil, map-append}
 use Rattle.std.proofs.lemmas.List.Elements.{All-append, All-nil, All-cons}
 use Rattle.std.proofs.lemmas.Grind.{flat_map-append}
 use Rattle.lr_rules.specs.declared.path.Path.{Path}
-use Rattle.lr_rules.specs.declared.fault.CallKind.TheVariants as call
 use Rattle.lr_host.specs.declared.thing.Kind.TheVariants as kind
 use Rattle.lr_host.specs.declared.thing.Seen.{Seen}
 use Rattle.lr_host.specs.declared.entry.Entry.{Entry}
 use Rattle.lr_host.specs.declared.entry.Entry.TheVariants as entry
 use Rattle.lr_host.specs.declared.journal.Journal.{Journal}
-use Rattle.lr_host.specs.Told.{Left, Then, Are}
-use Rattle.lr_host.proofs.Left.{left_first, left_as, left_then, left_both}
+use Rattle.lr_host.specs.Told.{Left, Are}
+use Rattle.lr_host.proofs.Left.{left_first, left_as, left_then}
 use Rattle.lr_family.specs.declared.look.LookStop.{LookStop}
 use Rattle.lr_family.specs.declared.look.LookStop.TheVariants as look
 use Rattle.lr_family.specs.declared.spot.Spot.{Spot}
 use Rattle.lr_family.specs.declared.stand.Member.{Member}
-use Rattle.lr_family.specs.Looks.{Sees, IsNoFile, IsFileOrGone, Sight, look_of, seen_at, member_of, AreFilesOrGone, Shows, ShowsTo, ShowsSome}
+use Rattle.lr_family.specs.Looks.{Sees, IsNoFile, IsFileOrGone, Sight, look_of, seen_at, member_of, Shows, ShowsTo, ShowsSome}
 use Rattle.lr_family.specs.Stops.{stop_of, OneStopped, SomeStopped}
 
 -- a look, and what it saw

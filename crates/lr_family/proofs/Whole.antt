@@ -1,5 +1,5 @@
 -- What the parts of a stand leave, taken together.
-use Rattle.std.proofs.Common.{◌≡◌, ◌⊎◌, inl, inr, ℕ, Bool, true, false, List, [], ◌∷◌, ◌++◌, length, drop, Option, Some, None, Result, Ok, Err, refl, sym, ap, ◌∙◌, subst, map}
+use Rattle.std.proofs.Common.{◌≡◌, inl, inr, ℕ, Bool, true, false, List, [], ◌∷◌, ◌++◌, Option, Some, None, refl, sym, ap, ◌∙◌, subst}
 use Rattle.std.proofs.lemmas.List.{append-nil}
 use Rattle.std.proofs.lemmas.List.Elements.{All-nil}
 use Rattle.std.specs.List.Sorted.{IsPermutation}
@@ -27,8 +27,8 @@ use Rattle.lr_family.specs.declared.stand.StandStop.TheVariants as stop
 use Rattle.lr_family.specs.declared.directory.DirStop.{DirStop}
 use Rattle.lr_family.specs.declared.directory.DirStop.TheVariants as dir
 use Rattle.lr_family.specs.Spots.{AreSpots}
-use Rattle.lr_family.specs.Looks.{Sees, IsNothing, IsDir, IsNoDir, IsNoFile, IsFileOrGone, Sight, look_of, is_dir, Shows, ShowsTo, ShowsSome}
-use Rattle.lr_family.specs.Stands.{AreNewestFirst, Lists, StandsIn, Reaches, ShowsAs, ShowsStop, ShowsSoFar}
+use Rattle.lr_family.specs.Looks.{Sees, IsNothing, IsDir, IsNoDir, IsFileOrGone, is_dir, Shows}
+use Rattle.lr_family.specs.Stands.{AreNewestFirst, Lists, StandsIn, Reaches, ShowsAs, ShowsStop}
 use Rattle.lr_family.specs.Stops.{SomeStopped}
 use Rattle.lr_family.specs.Directory.{DirSeen, DirStopped, ParentStopped, InStoppedAt, InStopped}
 

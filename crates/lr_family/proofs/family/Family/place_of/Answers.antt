@@ -1,6 +1,4 @@
-use Rattle.std.proofs.Common.{◌≡◌, ℕ, subst}
-use Rattle.lr_rules.specs.declared.path.Path.{Path}
-use Rattle.lr_rules.specs.declared.rule.Naming.{Naming}
+use Rattle.std.proofs.Common.{ℕ, subst}
 use Rattle.lr_rules.specs.Names.{IsMemberAt}
 use Rattle.lr_family.proofs.Unique.{read_place}
 use Rattle.lr_family.proofs.family.Family.place_of.Goals as goal
