@@ -14,10 +14,10 @@ use Rattle.lr_family.specs.declared.place.Place.{Place}
 use Rattle.lr_family.specs.declared.place.Place.TheVariants as at
 use Rattle.lr_family.specs.declared.stand.Member.{Member}
 use Rattle.lr_family.specs.declared.stand.Stand.{Stand}
-use Rattle.lr_family.specs.Places.{IsPlaceOf}
+use Rattle.lr_family.specs.Places.{IsPlaceOf, AreNamed}
 use Rattle.lr_family.specs.Stands.{number_in}
 use Rattle.lr_chain.specs.Rotation.{places_of, is_left}
-use Rattle.lr_chain.specs.Ready.{AreNamed, HaveNames, HaveNext, IsCount, NoneTooHigh, HasTooHigh, IsTooHigh, is_highest, highest_path}
+use Rattle.lr_chain.specs.Ready.{HaveNames, HaveNext, IsCount, NoneTooHigh, HasTooHigh, IsTooHigh, is_highest, highest_path}
 use Rattle.lr_chain.proofs.Highest.{path_is}
 
 pub all_reverse : (P : ℕ → Type 0) (xs : List ℕ) → All P xs → All P (reverse xs)

@@ -9,9 +9,9 @@ use Rattle.lr_family.specs.declared.place.Place.{Place}
 use Rattle.lr_family.specs.declared.place.Place.TheVariants as at
 use Rattle.lr_family.specs.declared.stand.Member.{Member}
 use Rattle.lr_family.specs.Named.{member_name}
-use Rattle.lr_family.specs.Places.{IsPlaceOf}
+use Rattle.lr_family.specs.Places.{IsPlaceOf, AreNamed}
 use Rattle.lr_family.specs.Stands.{number_in}
-use Rattle.lr_chain.specs.Ready.{AreNamed, is_highest, highest_path}
+use Rattle.lr_chain.specs.Ready.{is_highest, highest_path}
 
 by_place : (n : Naming) (place : Place) (path : Path) → IsPlaceOf n place path → n.start + number_in place ≡ 4294967295 → path ≡ highest_path n
 by_place n (at.Number k) path named e = named.named ∙ ap (λ (i : ℕ). joined n.dir (member_name n i)) e

@@ -12,7 +12,6 @@ use Rattle.lr_host.specs.declared.entry.Entry.TheVariants.{Renames}
 use Rattle.lr_family.specs.declared.stand.Member.{Member}
 use Rattle.lr_family.specs.declared.stand.Stand.{Stand}
 use Rattle.lr_family.specs.Named.{member_name}
-use Rattle.lr_family.specs.Places.{IsPlaceOf}
 use Rattle.lr_family.specs.Spots.{path_at}
 use Rattle.lr_family.specs.Stands.{number_in}
 use Rattle.lr_scripts.specs.declared.removal.Removal.{Removal}
@@ -42,10 +41,6 @@ pub record IsReady (log : Path) (n : Naming) (c : Count) (members : List Member)
 abbrev pub IsCount : Count → Type 0
 IsCount (count.Keep n) = n ≤ 999999
 IsCount count.Always = Unit {0}
-
--- each member has the path of its place
-abbrev pub AreNamed : Naming → List Member → Type 0
-AreNamed n members = All (λ m. IsPlaceOf n m.place m.path) members
 
 -- these places have names; so have those behind them of members that are moved
 abbrev pub HaveNames : Naming → List ℕ → Type 0

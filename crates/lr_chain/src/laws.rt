@@ -1,8 +1,9 @@
 // What a ready rotation is, whole.
 ghost use Rattle.std.specs.Prelude.{◌≡◌, ◌≤◌, ◌++◌, true, None};
 ghost use Rattle.lr_rules.specs.declared.path.Path.{Path};
+ghost use Rattle.lr_family.specs.Places.{AreNamed};
 ghost use Rattle.lr_chain.specs.Rotation.{places_of, rotation};
-ghost use Rattle.lr_chain.specs.Ready.{IsReady, IsCount, AreNamed, IsTooHigh, turn_of, removals_of};
+ghost use Rattle.lr_chain.specs.Ready.{IsReady, IsCount, IsTooHigh, turn_of, removals_of};
 ghost use Rattle.lr_chain.specs.Standing.{FitsWhereTheyStand};
 ghost use Rattle.lr_chain.specs.Turning.{TurnsWhereTheyStand};
 

@@ -1,10 +1,11 @@
 // The places of members.
 ghost use Rattle.std.specs.Prelude.{◌≡◌, ◌+◌, ◌==◌, ◌≤◌, ℕ, map, reverse, false, true, MatchOption, IfOk, None};
 ghost use Rattle.std.specs.List.{list_any};
+ghost use Rattle.lr_family.specs.Places.{AreNamed};
 ghost use Rattle.lr_family.specs.Spots.{path_at};
 ghost use Rattle.lr_family.specs.Stands.{number_in};
 ghost use Rattle.lr_chain.specs.Rotation.{places_of, is_left};
-ghost use Rattle.lr_chain.specs.Ready.{AreNamed, is_highest, highest_path};
+ghost use Rattle.lr_chain.specs.Ready.{is_highest, highest_path};
 
 use lr_family::{Family, Member, Place};
 use lr_rules::{Count, Memory, Naming, Path};

@@ -2,10 +2,11 @@
 ghost use Rattle.std.specs.Prelude.{◌≡◌, ◌≢◌, ◌≤◌, ◌↔◌, true, None, Err, IfOk, IfErr, MatchOption};
 ghost use Rattle.std.specs.List.{list_any};
 ghost use Rattle.lr_rules.specs.declared.path.Path.{Path};
+ghost use Rattle.lr_family.specs.Places.{AreNamed};
 ghost use Rattle.lr_chain.specs.Rotation.{places_of};
 ghost use Rattle.lr_chain.specs.Standing.{FitsWhereTheyStand};
 ghost use Rattle.lr_chain.specs.Turning.{TurnsWhereTheyStand};
-ghost use Rattle.lr_chain.specs.Ready.{IsReady, IsCount, AreNamed, NoneTooHigh, HasTooHigh, IsMissing, IsTooHigh};
+ghost use Rattle.lr_chain.specs.Ready.{IsReady, IsCount, NoneTooHigh, HasTooHigh, IsMissing, IsTooHigh};
 
 use crate::laws::{rotation_fits, rotation_turns};
 use crate::place::{highest, path_there, places};

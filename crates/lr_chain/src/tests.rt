@@ -1,7 +1,7 @@
 // What no clause says: that a rotation is prepared where memory is ample, and that its steps look as they should.
 ghost use Rattle.std.specs.Prelude.{◌≡◌, ◌↔◌, None, true, IfOk};
-ghost use Rattle.lr_family.specs.Places.{IsPlaceOf};
-ghost use Rattle.lr_chain.specs.Ready.{IsCount, AreNamed};
+ghost use Rattle.lr_family.specs.Places.{IsPlaceOf, AreNamed};
+ghost use Rattle.lr_chain.specs.Ready.{IsCount};
 
 use crate::{PrepareStop, Ready, prepare};
 use lr_family::{Family, Member, Place, Stand, are_kin};

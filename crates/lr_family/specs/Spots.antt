@@ -1,10 +1,11 @@
 -- The members that a listing names, in order of bytes.
-use Rattle.std.specs.Prelude.{◌≡◌, ◌≤◌, ◌+◌, ◌⊎◌, ◌↔◌, ℕ, List, map, Contains}
+use Rattle.std.specs.Prelude.{◌≤◌, ◌+◌, ◌⊎◌, ◌↔◌, ℕ, List, map, All, Contains}
 use Rattle.std.specs.List.Sorted.{IsPermutation, IsSortedByKey, IsStrictlyIncreasing}
 use Rattle.std.specs.Ordering.{nat_cmp}
 use Rattle.std.specs.Cmp.Lexicographic.{slice_cmp}
 use Rattle.lr_rules.specs.declared.path.Path.{Path}
 use Rattle.lr_rules.specs.declared.rule.Naming.{Naming}
+use Rattle.lr_rules.specs.Names.{IsMemberAt}
 use Rattle.lr_rules.specs.Path.{joined}
 use Rattle.lr_family.specs.declared.spot.Spot.{Spot}
 use Rattle.lr_family.specs.Named.{member_name, IsNamedAt}
@@ -15,6 +16,10 @@ path_at n place = joined n.dir (member_name n (n.start + place))
 
 abbrev pub spot_at : Naming → ℕ → Spot
 spot_at n place = record { place = place; path = path_at n place }
+
+-- each of these has the path of its place
+abbrev pub HavePaths : Naming → List Spot → Type 0
+HavePaths n spots = All (λ spot. IsMemberAt n spot.place spot.path) spots
 
 -- the place has a member, whose name is among these
 abbrev pub IsListedAt : Naming → List (List ℕ) → ℕ → Type 0

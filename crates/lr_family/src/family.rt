@@ -4,7 +4,7 @@ ghost use Rattle.lr_rules.specs.Names.{IsMemberAt};
 ghost use Rattle.lr_host.specs.Told.{Left, NoneFell, Rose};
 ghost use Rattle.lr_family.specs.declared.place.Place.TheVariants as at;
 ghost use Rattle.lr_family.specs.Kin.{IsKin};
-ghost use Rattle.lr_family.specs.Places.{IsPlaceOf};
+ghost use Rattle.lr_family.specs.Places.{IsPlaceOf, AreNamed};
 ghost use Rattle.lr_family.specs.Stands.{ShowsStand, ShowsStop, IsExactly, IsFailedCall};
 
 use crate::number::{member_path, place_of_path};
@@ -79,12 +79,13 @@ impl Family {
 
     /// Which members of a numbered family stand: looks for the directory, lists it, and looks at each member among the
     /// names, in order of bytes. Where the directory isn't there, looks for its parent. A name that is gone since it was
-    /// listed is no member. `NotFile` comes exactly where the directory is named but is no directory, or a member isn't a
-    /// regular file.
+    /// listed is no member. Each member has the path of its place. `NotFile` comes exactly where the directory is named
+    /// but is no directory, or a member isn't a regular file.
     pub fn stand<H: Host>(&self, alloc: Global, host: &mut H) -> Result<Stand, StandStop>
         requires numbered { self.now.naming.dated ≡ None }
         ensures told { IfOk result (λ stand. Left (ShowsStand self.now.naming stand) (H.told host.old) (H.told host.new)) }
         ensures stopped { IfErr result (λ stop. Left (ShowsStop self.now.naming stop) (H.told host.old) (H.told host.new)) }
+        ensures named { IfOk result (λ stand. AreNamed self.now.naming stand.members) }
         ensures exactly { Left (IsExactly self.now.naming result) (H.told host.old) (H.told host.new) }
         ensures cause { IfErr result (λ stop. IsFailedCall stop → Rose (H.counts host.old).faults (H.counts host.new).faults) }
         ensures counts { NoneFell (H.counts host.old) (H.counts host.new) }

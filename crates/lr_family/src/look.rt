@@ -1,8 +1,11 @@
 // The looks at a family's members.
 ghost use Rattle.std.specs.Prelude.{◌≡◌, [], ◌∷◌, ◌++◌, IfOk, IfErr, OnOk, Err};
+ghost use Rattle.lr_rules.specs.declared.rule.Naming.{Naming};
 ghost use Rattle.lr_host.specs.declared.entry.Entry.TheVariants as entry;
 ghost use Rattle.lr_host.specs.Told.{Left, Are, NoneFell, Rose};
 ghost use Rattle.lr_family.specs.Looks.{IsFileOrGone, Shows, seen_at};
+ghost use Rattle.lr_family.specs.Places.{AreNamed};
+ghost use Rattle.lr_family.specs.Spots.{HavePaths};
 ghost use Rattle.lr_family.specs.Stands.{IsFailedCall};
 ghost use Rattle.lr_family.specs.Stops.{OneStopped, SomeStopped, stop_of};
 
@@ -75,6 +78,7 @@ pub fn look_at_all<H: Host>(
 ) -> Result<Vec<Member>, StandStop>
     ensures told { IfOk result (λ members. Left (Shows spots.items members.items) (H.told host.old) (H.told host.new)) }
     ensures stopped { IfErr result (λ stop. Left (SomeStopped spots.items stop) (H.told host.old) (H.told host.new)) }
+    ensures named { IfOk result (λ members. (n : Naming) → HavePaths n spots.items → AreNamed n members.items) }
     ensures cause { IfErr result (λ stop. IsFailedCall stop → Rose (H.counts host.old).faults (H.counts host.new).faults) }
     ensures counts { NoneFell (H.counts host.old) (H.counts host.new) }
 {

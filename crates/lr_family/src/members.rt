@@ -4,6 +4,7 @@ ghost use Rattle.std.specs.Ordering.{nat_cmp};
 ghost use Rattle.std.specs.List.Sorted.{IsPermutation};
 ghost use Rattle.lr_host.specs.declared.entry.Entry.TheVariants as entry;
 ghost use Rattle.lr_host.specs.Told.{Left, Can, NoneFell, Rose};
+ghost use Rattle.lr_family.specs.Places.{AreNamed};
 ghost use Rattle.lr_family.specs.Stands.{StandsIn, AreNewestFirst, IsFailedCall, number_in};
 ghost use Rattle.lr_family.specs.Directory.{InStopped};
 
@@ -51,6 +52,7 @@ pub fn members_in<H: Host>(
     requires dir { dir ≡ naming.now.dir }
     ensures told { IfOk result (λ members. Left (StandsIn naming.now members.items) (H.told host.old) (H.told host.new)) }
     ensures stopped { IfErr result (λ stop. Left (InStopped naming.now stop) (H.told host.old) (H.told host.new)) }
+    ensures named { IfOk result (λ members. AreNamed naming.now members.items) }
     ensures cause { IfErr result (λ stop. IsFailedCall stop → Rose (H.counts host.old).faults (H.counts host.new).faults) }
     ensures counts { NoneFell (H.counts host.old) (H.counts host.new) }
 {

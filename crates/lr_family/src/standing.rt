@@ -1,6 +1,7 @@
 // What stands of a family.
 ghost use Rattle.std.specs.Prelude.{◌≡◌, IfOk, IfErr};
 ghost use Rattle.lr_host.specs.Told.{Left, NoneFell, Rose};
+ghost use Rattle.lr_family.specs.Places.{AreNamed};
 ghost use Rattle.lr_family.specs.Stands.{ShowsStand, ShowsStop, IsFailedCall};
 
 use crate::directory::{DirStop, look_for_dir, parent_there};
@@ -14,6 +15,7 @@ use std::alloc::Global;
 pub fn stand_by<H: Host>(alloc: Global, host: &mut H, naming: &Naming) -> Result<Stand, StandStop>
     ensures told { IfOk result (λ stand. Left (ShowsStand naming.now stand) (H.told host.old) (H.told host.new)) }
     ensures stopped { IfErr result (λ stop. Left (ShowsStop naming.now stop) (H.told host.old) (H.told host.new)) }
+    ensures named { IfOk result (λ stand. AreNamed naming.now stand.members) }
     ensures cause { IfErr result (λ stop. IsFailedCall stop → Rose (H.counts host.old).faults (H.counts host.new).faults) }
     ensures counts { NoneFell (H.counts host.old) (H.counts host.new) }
 {

@@ -1,11 +1,10 @@
 // Rotations that are made ready of what stands on a disk.
 ghost use Rattle.std.specs.Prelude.{◌≡◌, ◌↔◌, None, true, IfOk};
-ghost use Rattle.lr_family.specs.Places.{IsPlaceOf};
-ghost use Rattle.lr_chain.specs.Ready.{IsCount, AreNamed};
+ghost use Rattle.lr_chain.specs.Ready.{IsCount};
 
 use crate::disks::{host_of, put};
 use lr_chain::{PrepareStop, Ready, prepare};
-use lr_family::{Family, Member, Place, are_kin};
+use lr_family::{Family, are_kin};
 use lr_rules::{Count, Memory, Naming, Path, Text};
 use lr_scripts::Removal;
 use std::alloc::Global;
@@ -91,31 +90,6 @@ fn is_count(count: Count) -> bool
     }
 }
 
-fn is_named(family: &Family, member: &Member) -> bool
-    requires { family.now.naming.dated ≡ None }
-    ensures { result ≡ true → IsPlaceOf family.now.naming member.now.place member.now.path }
-{
-    let Some(Place::Number(there)) = family.place_of(&member.path) else {
-        return false;
-    };
-    let Place::Number(place) = member.place else {
-        return false;
-    };
-    place == there
-}
-
-fn are_named(family: &Family, members: &[Member]) -> bool
-    requires { family.now.naming.dated ≡ None }
-    ensures { result ≡ true → AreNamed family.now.naming members.now }
-{
-    for member in members {
-        if !is_named(family, member) {
-            return false;
-        }
-    }
-    true
-}
-
 fn put_rename(into: &mut Vec<u8>, from: &Path, to: &Path) -> Result<(), Memory> {
     into.extend_from_slice(b"rename ")?;
     into.extend_from_slice(from.bytes())?;
@@ -159,8 +133,8 @@ fn prepared(
     let Ok(stand) = family.stand(alloc, &mut host) else {
         return Err(Fail::from("it isn't known what stands"));
     };
-    if !is_count(count) || !are_named(&family, stand.members.as_slice()) {
-        return Err(Fail::from("no count, or a member of another name"));
+    if !is_count(count) {
+        return Err(Fail::from("no count"));
     }
     let mut text = Vec::new(alloc);
     match prepare(alloc, &family, &stand, count) {

@@ -64,7 +64,7 @@ stand_ends l stand.Memory r ts e t = subst (λ (x : Result (Option Fault) Memory
 alone : (l : Log) (s : Stand) (P : Stand → Type 0) (ts : List Entry) → P s → Behind l (ShowsStand l.naming s) ts → WithStand l (λ s us. P s × (us ≡ [])) ts
 alone l s P ts p t = record { stand = s; run = record { front = ts; back = []; joined = sym (append-nil ts); first = t; second = (p, refl) } }
 
-pub no_steps : (l : Log) (s : Stand) (m : Memory) (ts : List Entry) → Behind l (ShowsStand l.naming s) ts → LogEnds l (Err m) ts
+no_steps : (l : Log) (s : Stand) (m : Memory) (ts : List Entry) → Behind l (ShowsStand l.naming s) ts → LogEnds l (Err m) ts
 no_steps l s m ts t = at_steps (record { stand = s; run = record { front = ts; back = []; joined = sym (append-nil ts); first = t; second = refl } })
 
 pub prepare_ends : (l : Log) (s : Stand) (p : PrepareStop) (was : Result Ready PrepareStop) (r : Result (Option Fault) Memory) (ts : List Entry) → was ≡ Err p → r ≡ prepare_fault_of p

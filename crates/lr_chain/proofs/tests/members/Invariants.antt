@@ -1,4 +1,4 @@
-use Rattle.lr_chain.specs.Ready.{AreNamed}
+use Rattle.lr_family.specs.Places.{AreNamed}
 use Rattle.lr_chain.proofs.tests.members.Given as goal
 
 abbrev pub invariant-loop-place : goal.invariant-loop-place

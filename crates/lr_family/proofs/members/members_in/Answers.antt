@@ -1,6 +1,7 @@
 use Rattle.std.proofs.Common.{◌≡◌, inl, ℕ, List, [], drop, length, ap}
 use Rattle.lr_host.proofs.Left.{left_as}
 use Rattle.lr_family.proofs.Whole.{lists, stands_in, in_stopped, only_listed}
+use Rattle.lr_family.proofs.Placed.{spots_named, named_sorted}
 use Rattle.lr_family.proofs.members.members_in.Goals as goal
 
 whole : (old new : List (List ℕ)) → old ≡ [] → drop (length old) new ≡ new
@@ -20,6 +21,10 @@ returns-in-Ok-look_at_all-clause-told g c =
     stands_in c.args.naming.now c.in-Ok-spots_among.spots.items c.in-Ok-look_at_all.members.items c.sort_newest.new.members.items c.sort_newest.ensures.same c.sort_newest.ensures.newest
     (lists c.args.naming.now c.args.dir _ c.list.new.names.items c.deref.result.now c.in-Ok-spots_among.spots.items c.requires.dir (whole c.new-names.result.items c.list.new.names.items c.new-names.ensures.items) c.deref.ensures.value c.in-Ok-spots_among.ensures c.in-Ok.ensures.told)
     c.in-Ok-look_at_all.ensures.told
+
+pub returns-in-Ok-look_at_all-clause-named : goal.returns-in-Ok-look_at_all-clause-named
+returns-in-Ok-look_at_all-clause-named g c = named_sorted c.args.naming.now c.in-Ok-look_at_all.members.items c.sort_newest.new.members.items c.sort_newest.ensures.same
+    (c.in-Ok-look_at_all.ensures.named c.args.naming.now (spots_named c.args.naming.now c.deref.result.now c.in-Ok-spots_among.spots.items c.in-Ok-spots_among.ensures))
 
 pub returns-clause-stopped : goal.returns-clause-stopped
 returns-clause-stopped g c =

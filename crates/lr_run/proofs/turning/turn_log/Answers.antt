@@ -2,7 +2,7 @@ use Rattle.std.proofs.Common.{Ok, Err, refl}
 use Rattle.lr_host.proofs.Left.{left_as, left_both}
 use Rattle.lr_chain.specs.Rotation.{leftovers, places_of}
 use Rattle.lr_run.specs.Logs.{log_in}
-use Rattle.lr_run.proofs.Turned.{log_ends, stand_ends, no_steps, prepare_ends, bare_all, may_turn, ready_can, turned_over, broken_off}
+use Rattle.lr_run.proofs.Turned.{log_ends, stand_ends, prepare_ends, bare_all, may_turn, ready_can, turned_over, broken_off}
 use Rattle.lr_run.proofs.turning.turn_log.Goals as goal
 
 pub returns-in-Err-clause-told : goal.returns-in-Err-clause-told
@@ -10,9 +10,6 @@ returns-in-Err-clause-told g c = left_as c.in-Err.ensures.stopped (λ ts s. log_
 
 pub returns-in-Err-stand-clause-told : goal.returns-in-Err-stand-clause-told
 returns-in-Err-stand-clause-told g c = left_as (left_both c.in_default.ensures.told c.in-Err-stand.ensures.stopped) (λ ts s. stand_ends (log_in c.args.target) c.in-Err-stand.stop c.stand_fault.result ts c.stand_fault.ensures s)
-
-pub returns-then-not-are_named-clause-told : goal.returns-then-not-are_named-clause-told
-returns-then-not-are_named-clause-told g c = left_as (left_both c.in_default.ensures.told c.in-Ok.ensures.told) (λ ts s. no_steps (log_in c.args.target) c.in-Ok.stand _ ts s)
 
 pub returns-in-Err-prepare-clause-told : goal.returns-in-Err-prepare-clause-told
 returns-in-Err-prepare-clause-told g c = left_as (left_both c.in_default.ensures.told c.in-Ok.ensures.told)
