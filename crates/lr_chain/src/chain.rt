@@ -27,7 +27,8 @@ fn move_one<H: Host>(host: &mut H, step: &Move) -> Result<(), CallFault>
     host.rename(&step.from, &step.to)
 }
 
-/// Moves the members one place on, the highest place first. It takes no memory.
+/// Makes the moves of the members, in order: of what `prepare` gave, each goes one place on, the highest place first. It
+/// takes no memory.
 pub fn shift<'a, H: Host>(host: &mut H, ready: &'a Ready) -> Result<(), ChainStop<'a>>
     requires no_dir { ready.now.dir ≡ None }
     requires fits { CanAll (H.told host.old) (shift_of ready.now) }

@@ -56,8 +56,9 @@ fn ready_of(
     })
 }
 
-/// Makes the rotation of a numbered family ready, where these members stand. `NoDir` and `TooHigh` come before all that
-/// takes memory, but for the copy of their own path. `Taken` has no case yet.
+/// Makes the rotation of a numbered family ready, where these members stand. Want of memory aside, `NoDir` comes exactly
+/// where the family's directory wasn't there, and `TooHigh` exactly where all members are kept and one has the highest
+/// number that there is. `Taken` has no case yet.
 pub fn prepare(
     alloc: Global,
     family: &Family,

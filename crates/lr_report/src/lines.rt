@@ -176,8 +176,8 @@ fn put_faults<K: Sink>(faults: &[Fault], out: &mut K) -> Result<(), SinkFault>
 }
 
 #[tactic(auto, using(crate::proofs::PutLemmas::part_first))]
-/// Puts the lines of the notices, then of the faults, each in order. It takes no memory, and stops at the first fault
-/// of the output.
+/// Puts the lines of the notices, then of the faults, each in order; of an output that fails, a first part of them came.
+/// It takes no memory.
 pub fn put_lines<K: Sink>(
     notices: &[Notice],
     faults: &[Fault],
