@@ -50,7 +50,7 @@ fn of_file(file: Path, kind: ConfKind) -> Fault
 /// The rules, notices and faults of the configuration file at this path; links are followed. Where nothing stands there,
 /// or neither a file nor a directory, the one fault is NoFile, and of a directory it is NotYet.
 ///
-/// Want of memory comes before the first call or once the file was seen.
+/// Where it ends for want of memory, no entry was left, or the file was seen as a file.
 pub fn read_conf<H: Host>(alloc: Global, host: &mut H, conf: &Path) -> Result<Reading, Memory>
     // What the calls showed, and what it has to do with the reading; where none failed, they show it and no other.
     ensures told { IfOk result (λ r. Left (ReadsAs conf.now (meaning_of r)) (H.told host.old) (H.told host.new)) }
