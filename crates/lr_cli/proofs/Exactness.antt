@@ -20,7 +20,7 @@ use Rattle.lr_host.specs.declared.journal.Journal.{Journal}
 use Rattle.lr_host.specs.Told.{Left, Then}
 use Rattle.lr_host.proofs.Left.{left_as, left_both}
 use Rattle.lr_conf.specs.Meaning.{Meaning, told}
-use Rattle.lr_family.specs.Looks.{Sees}
+use Rattle.lr_host.specs.Looks.{Sees}
 use Rattle.lr_include.specs.declared.reading.Reading.{Reading}
 use Rattle.lr_include.specs.Readers.{meaning_of}
 use Rattle.lr_include.specs.Reading.{MeansAs, ReadsAs, means, look_failed, read_failed}

@@ -31,14 +31,14 @@ use Rattle.lr_conf.specs.Meaning.{Meaning, told}
 use Rattle.lr_conf.specs.Plain.{IsPlainRule, AtMostOneLog}
 use Rattle.lr_family.specs.declared.stand.Stand.{Stand}
 use Rattle.lr_family.specs.Kin.{IsKin}
-use Rattle.lr_family.specs.Looks.{Sees, IsNothing}
+use Rattle.lr_host.specs.Looks.{Sees, IsNothing, IsFile}
 use Rattle.lr_family.specs.Stands.{ShowsStand}
 use Rattle.lr_chain.specs.Rotation.{places_of, rotation}
 use Rattle.lr_include.specs.Readers.{IsConf}
 use Rattle.lr_include.specs.Reading.{ReadsAs, means, look_failed, read_failed, MeansAs, no_file, directory, whole, cut}
 use Rattle.lr_include.proofs.Plain.{whole_plain, whole_one, cut_plain, cut_one}
 use Rattle.lr_promise.specs.Members.{IsFamily, HasName, HaveNext}
-use Rattle.lr_promise.specs.Shape.{AreQuiet, Among, IsFile}
+use Rattle.lr_promise.specs.Shape.{AreQuiet, Among}
 use Rattle.lr_promise.proofs.Lists.{In, in_front, in_back, in_turned}
 use Rattle.lr_promise.proofs.Given.{given_one, have_next}
 use Rattle.lr_promise.proofs.Shapes.{quiet_both, sees_quiet, stand_quiet, changes_kept, rotation_changes}

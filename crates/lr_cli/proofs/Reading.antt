@@ -19,11 +19,9 @@ use Rattle.lr_host.proofs.Left.{left_as, left_both, left_then}
 use Rattle.lr_promise.specs.Shape.{AreQuiet, IsRun, not_yet}
 use Rattle.lr_promise.proofs.Shapes.{quiet_both}
 use Rattle.lr_conf.specs.Meaning.{Meaning}
-use Rattle.lr_family.specs.Looks.{Sees, IsDir}
+use Rattle.lr_host.specs.Looks.{Sees, IsDir, IsFile}
 use Rattle.lr_include.specs.declared.reading.Reading.{Reading}
 use Rattle.lr_include.specs.Readers.{meaning_of, IsConfOrCall}
-use Rattle.lr_include.specs.Looks.{IsFile}
-use Rattle.lr_include.specs.Looks.{Sees as SeesConf}
 use Rattle.lr_include.specs.Reading.{ReadsAs, MeansAs, no_file, directory, whole, cut}
 use Rattle.lr_run.specs.Faults.{IsCall}
 use Rattle.lr_run.specs.Runs.{Runs}
@@ -84,17 +82,17 @@ reads_are_front x [] us each h = none_front us h
 reads_are_front x (entry.Reads y from piece ∷ ts) us each h = ap (λ vs. entry.Reads y from piece ∷ vs) (reads_are_front x ts us each.1 h)
 reads_are_front x (_ ∷ ts) us each h = absurd each.0
 
-conf_is_front : (conf : Path) (P : Option Seen → Type 0) (ts us : List Entry) → Then (SeesConf conf P) (Each (IsReadOf conf)) ts → begins_by_read us ≡ false → conf_front (ts ++ us) ≡ ts
+conf_is_front : (conf : Path) (P : Option Seen → Type 0) (ts us : List Entry) → Then (Sees conf P) (Each (IsReadOf conf)) ts → begins_by_read us ≡ false → conf_front (ts ++ us) ≡ ts
 conf_is_front conf P ts us t h =
     ap conf_front (ap (λ vs. vs ++ us) whole) ∙ (ap (λ vs. entry.Look conf t.first.seen ∷ vs) (reads_are_front conf t.back us t.second h) ∙ sym whole)
   where
     whole : ts ≡ entry.Look conf t.first.seen ∷ t.back
     whole = t.joined ∙ ap (λ vs. vs ++ t.back) t.first.look
 
-alone : (conf : Path) (P : Option Seen → Type 0) (ts : List Entry) → SeesConf conf P ts → Then (SeesConf conf P) (Each (IsReadOf conf)) ts
+alone : (conf : Path) (P : Option Seen → Type 0) (ts : List Entry) → Sees conf P ts → Then (Sees conf P) (Each (IsReadOf conf)) ts
 alone conf P ts s = record { front = ts; back = []; joined = sym (append-nil ts); first = s; second = tt }
 
-only_reads : (conf : Path) (bytes : List ℕ) (ts : List Entry) → Then (SeesConf conf IsFile) (ReadsAll conf 1048577 bytes) ts → Then (SeesConf conf IsFile) (Each (IsReadOf conf)) ts
+only_reads : (conf : Path) (bytes : List ℕ) (ts : List Entry) → Then (Sees conf IsFile) (ReadsAll conf 1048577 bytes) ts → Then (Sees conf IsFile) (Each (IsReadOf conf)) ts
 only_reads conf bytes ts t = record { front = t.front; back = t.back; joined = t.joined; first = t.first; second = t.second.reads.only }
 
 pub means_front : (conf : Path) (m : Meaning) (ts us : List Entry) → MeansAs conf m ts → begins_by_read us ≡ false → conf_front (ts ++ us) ≡ ts
@@ -105,10 +103,10 @@ means_front conf m ts us (cut bytes n r e) h = conf_is_front conf _ ts us (only_
 
 -- ---- want of memory
 
-pub lacks_at_conf : (conf : Path) (now : Moment) {o n : Option Journal} → Left (λ ts. (ts ≡ []) ⊎ Then (SeesConf conf IsFile) (Each (IsReadOf conf)) ts) o n → Left (λ ts. ChangeNothing ts × LacksMemory conf now ts) o n
+pub lacks_at_conf : (conf : Path) (now : Moment) {o n : Option Journal} → Left (λ ts. (ts ≡ []) ⊎ Then (Sees conf IsFile) (Each (IsReadOf conf)) ts) o n → Left (λ ts. ChangeNothing ts × LacksMemory conf now ts) o n
 lacks_at_conf conf now l = left_as l by
   where
-    by : (ts : List Entry) → (ts ≡ []) ⊎ Then (SeesConf conf IsFile) (Each (IsReadOf conf)) ts → ChangeNothing ts × LacksMemory conf now ts
+    by : (ts : List Entry) → (ts ≡ []) ⊎ Then (Sees conf IsFile) (Each (IsReadOf conf)) ts → ChangeNothing ts × LacksMemory conf now ts
     by ts (inl none) = (ap (filter is_disk_change) none, at_first none)
     by ts (inr t) = (still ts (file_quiet conf ts t), at_conf t)
 
@@ -176,12 +174,12 @@ run_behind xs ys q r = record {
 pub conf_shape : (conf : Path) (m : Meaning) {o k n : Option Journal} → Left (ReadsAs conf m) o k → Left IsRun k n → Left IsRun o n
 conf_shape conf m a b = left_then a b (λ xs ys p q. run_behind xs ys (conf_quiet conf m xs p) q)
 
-pub lacking_shape : (conf : Path) {o n : Option Journal} → Left (λ ts. (ts ≡ []) ⊎ Then (SeesConf conf IsFile) (Each (IsReadOf conf)) ts) o n → Left IsRun o n
+pub lacking_shape : (conf : Path) {o n : Option Journal} → Left (λ ts. (ts ≡ []) ⊎ Then (Sees conf IsFile) (Each (IsReadOf conf)) ts) o n → Left IsRun o n
 lacking_shape conf l = left_as l by
   where
     alone_run : (ts : List Entry) → AreQuiet ts → IsRun ts
     alone_run ts q = record { front = ts; rest = []; joined = sym (append-nil ts); quiet = q; goes_on = not_yet refl }
 
-    by : (ts : List Entry) → (ts ≡ []) ⊎ Then (SeesConf conf IsFile) (Each (IsReadOf conf)) ts → IsRun ts
+    by : (ts : List Entry) → (ts ≡ []) ⊎ Then (Sees conf IsFile) (Each (IsReadOf conf)) ts → IsRun ts
     by ts (inl none) = alone_run ts (subst AreQuiet (sym none) tt)
     by ts (inr t) = alone_run ts (file_quiet conf ts t)

@@ -13,8 +13,7 @@ use Rattle.lr_host.specs.Reading.{IsReadOf, ReadsAll}
 use Rattle.lr_conf.specs.Meaning.{Meaning}
 use Rattle.lr_family.specs.Looks.{Sight, look_of, ShowsSome}
 use Rattle.lr_family.specs.Stands.{ShowsSoFar}
-use Rattle.lr_include.specs.Looks.{IsFile}
-use Rattle.lr_include.specs.Looks.{Sees as SeesConf}
+use Rattle.lr_host.specs.Looks.{IsFile, Sees}
 use Rattle.lr_include.specs.Reading.{ReadsAs, means, look_failed, read_failed, no_file, directory, whole, cut}
 use Rattle.lr_promise.specs.Shape.{IsQuietEntry, AreQuiet}
 use Rattle.lr_promise.proofs.Shapes.{quiet_both, sees_quiet, stand_quiet}
@@ -46,7 +45,7 @@ then_still P Q ts p q t = subst ChangeNothing (sym t.joined) (both_still t.front
 
 -- ---- the configuration
 
-conf_look : (conf : Path) (P : _ → Type 0) (ts : List Entry) → SeesConf conf P ts → AreQuiet ts
+conf_look : (conf : Path) (P : _ → Type 0) (ts : List Entry) → Sees conf P ts → AreQuiet ts
 conf_look conf P ts s = subst AreQuiet (sym s.look) (tt, tt)
 
 reads_quiet : (conf : Path) (ts : List Entry) → Each (IsReadOf conf) ts → AreQuiet ts
@@ -54,10 +53,10 @@ reads_quiet conf [] each = tt
 reads_quiet conf (entry.Reads x from piece ∷ ts) each = (tt, reads_quiet conf ts each.1)
 reads_quiet conf (_ ∷ ts) each = absurd each.0
 
-pub file_quiet : (conf : Path) (ts : List Entry) → Then (SeesConf conf IsFile) (Each (IsReadOf conf)) ts → AreQuiet ts
+pub file_quiet : (conf : Path) (ts : List Entry) → Then (Sees conf IsFile) (Each (IsReadOf conf)) ts → AreQuiet ts
 file_quiet conf ts t = subst AreQuiet (sym t.joined) (quiet_both t.front t.back (conf_look conf IsFile t.front t.first) (reads_quiet conf t.back t.second))
 
-whole_quiet : (conf : Path) (bytes : List ℕ) (ts : List Entry) → Then (SeesConf conf IsFile) (ReadsAll conf 1048577 bytes) ts → AreQuiet ts
+whole_quiet : (conf : Path) (bytes : List ℕ) (ts : List Entry) → Then (Sees conf IsFile) (ReadsAll conf 1048577 bytes) ts → AreQuiet ts
 whole_quiet conf bytes ts t = subst AreQuiet (sym t.joined) (quiet_both t.front t.back (conf_look conf IsFile t.front t.first) (reads_quiet conf t.back t.second.reads.only))
 
 pub conf_quiet : (conf : Path) (m : Meaning) (ts : List Entry) → ReadsAs conf m ts → AreQuiet ts

@@ -11,9 +11,7 @@ use Rattle.lr_host.specs.declared.entry.Entry.{Entry}
 use Rattle.lr_host.specs.Told.{Then, Each}
 use Rattle.lr_host.specs.Reading.{IsReadOf}
 use Rattle.lr_conf.specs.Meaning.{Meaning}
-use Rattle.lr_family.specs.Looks.{Sees, IsDir}
-use Rattle.lr_include.specs.Looks.{IsFile}
-use Rattle.lr_include.specs.Looks.{Sees as SeesConf}
+use Rattle.lr_host.specs.Looks.{Sees, IsDir, IsFile}
 use Rattle.lr_include.specs.Reading.{ReadsAs}
 use Rattle.lr_run.specs.Runs.{Runs}
 use Rattle.lr_run.specs.Runs.{LacksMemory as RunLacks}
@@ -63,7 +61,7 @@ pub record FindsLock (conf : Path) (ts : List Entry) : Type 0 where
 -- Where there was no memory: before the first call, for the configuration's text or its rules, or in the run.
 pub data LacksMemory (conf : Path) (now : Moment) (ts : List Entry) : Type 0 where
   at_first : ts ≡ [] → LacksMemory conf now ts
-  at_conf : Then (SeesConf conf IsFile) (Each (IsReadOf conf)) ts → LacksMemory conf now ts
+  at_conf : Then (Sees conf IsFile) (Each (IsReadOf conf)) ts → LacksMemory conf now ts
   at_run : (meaning : Meaning) (rules : Rules) → rules.sets ≡ meaning.rules → Then (ReadsAs conf meaning) (RunLacks state_path now rules) ts → LacksMemory conf now ts
 
 -- What a call left that was to run with this configuration.

@@ -12,7 +12,7 @@ use Rattle.lr_host.specs.Told.{Made, Then}
 use Rattle.lr_conf.specs.Meaning.{Meaning}
 use Rattle.lr_conf.specs.Plain.{AtMostOneLog}
 use Rattle.lr_family.specs.declared.stand.Stand.{Stand}
-use Rattle.lr_family.specs.Looks.{Sees, IsNothing}
+use Rattle.lr_host.specs.Looks.{Sees, IsNothing}
 use Rattle.lr_chain.specs.Rotation.{places_of, rotation}
 use Rattle.lr_include.specs.Reading.{ReadsAs}
 use Rattle.lr_promise.specs.Members.{AreThere}

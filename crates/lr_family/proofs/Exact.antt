@@ -20,7 +20,8 @@ use Rattle.lr_family.specs.declared.stand.Member.{Member}
 use Rattle.lr_family.specs.declared.stand.Stand.{Stand}
 use Rattle.lr_family.specs.declared.stand.StandStop.{StandStop}
 use Rattle.lr_family.specs.declared.stand.StandStop.TheVariants as stop
-use Rattle.lr_family.specs.Looks.{Sees, IsNothing, IsDir, IsNoDir, IsNoFile, IsFileOrGone, Sight, look_of, AreFilesOrGone, ShowsSome}
+use Rattle.lr_host.specs.Looks.{Sees, IsNothing, IsDir, IsNoDir, IsNoFile, IsFileOrGone}
+use Rattle.lr_family.specs.Looks.{Sight, look_of, AreFilesOrGone, ShowsSome}
 use Rattle.lr_family.specs.Stands.{Lists, StandsIn, Reaches, ShowsAs, ShowsStand, ShowsNoFile, StopsAtLook, StopsAtCall, ShowsSoFar, ShowsStop, IsExactly}
 
 -- the path of which the looks at members show that it is no file

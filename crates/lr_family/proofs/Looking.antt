@@ -16,7 +16,8 @@ use Rattle.lr_family.specs.declared.look.LookStop.{LookStop}
 use Rattle.lr_family.specs.declared.look.LookStop.TheVariants as look
 use Rattle.lr_family.specs.declared.spot.Spot.{Spot}
 use Rattle.lr_family.specs.declared.stand.Member.{Member}
-use Rattle.lr_family.specs.Looks.{Sees, IsNoFile, IsFileOrGone, Sight, look_of, seen_at, member_of, Shows, ShowsTo, ShowsSome}
+use Rattle.lr_host.specs.Looks.{Sees, IsNoFile, IsFileOrGone}
+use Rattle.lr_family.specs.Looks.{Sight, look_of, seen_at, member_of, Shows, ShowsTo, ShowsSome}
 use Rattle.lr_family.specs.Stops.{stop_of, OneStopped, SomeStopped}
 
 -- a look, and what it saw

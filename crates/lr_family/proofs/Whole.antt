@@ -27,7 +27,8 @@ use Rattle.lr_family.specs.declared.stand.StandStop.TheVariants as stop
 use Rattle.lr_family.specs.declared.directory.DirStop.{DirStop}
 use Rattle.lr_family.specs.declared.directory.DirStop.TheVariants as dir
 use Rattle.lr_family.specs.Spots.{AreSpots}
-use Rattle.lr_family.specs.Looks.{Sees, IsNothing, IsDir, IsNoDir, IsFileOrGone, is_dir, Shows}
+use Rattle.lr_host.specs.Looks.{Sees, IsNothing, IsDir, IsNoDir, IsFileOrGone, is_dir}
+use Rattle.lr_family.specs.Looks.{Shows}
 use Rattle.lr_family.specs.Stands.{AreNewestFirst, Lists, StandsIn, Reaches, ShowsAs, ShowsStop}
 use Rattle.lr_family.specs.Stops.{SomeStopped}
 use Rattle.lr_family.specs.Directory.{DirSeen, DirStopped, ParentStopped, InStoppedAt, InStopped}

@@ -12,7 +12,8 @@ use Rattle.lr_family.specs.declared.directory.DirStop.{DirStop}
 use Rattle.lr_family.specs.declared.directory.DirStop.TheVariants as dir
 use Rattle.lr_family.specs.declared.stand.StandStop.{StandStop}
 use Rattle.lr_family.specs.declared.stand.StandStop.TheVariants as stop
-use Rattle.lr_family.specs.Looks.{Sees, IsNothing, IsDir, IsNoDir, IsNoFile, ShowsSome}
+use Rattle.lr_host.specs.Looks.{Sees, IsNothing, IsDir, IsNoDir, IsNoFile}
+use Rattle.lr_family.specs.Looks.{ShowsSome}
 use Rattle.lr_family.specs.Stands.{Reaches}
 
 -- the directory was seen, or nothing

@@ -1,51 +1,14 @@
 -- What looks showed.
-use Rattle.std.specs.Prelude.{◌≡◌, ◌≢◌, ℕ, Bool, true, false, List, [], ◌∷◌, ◌++◌, map, flat_map, All, Option, Some, None}
+use Rattle.std.specs.Prelude.{◌≡◌, ℕ, List, [], ◌∷◌, ◌++◌, map, flat_map, All, Option, Some, None}
 use Rattle.lr_rules.specs.declared.path.Path.{Path}
-use Rattle.lr_host.specs.declared.thing.Kind.{Kind}
-use Rattle.lr_host.specs.declared.thing.Kind.TheVariants as kind
 use Rattle.lr_host.specs.declared.thing.Seen.{Seen}
 use Rattle.lr_host.specs.declared.entry.Entry.{Entry}
 use Rattle.lr_host.specs.declared.entry.Entry.TheVariants as entry
+use Rattle.lr_host.specs.Looks.{IsFileOrGone}
 use Rattle.lr_host.specs.Told.{Then, Are}
 use Rattle.lr_family.specs.declared.place.Place.TheVariants as at
 use Rattle.lr_family.specs.declared.spot.Spot.{Spot}
 use Rattle.lr_family.specs.declared.stand.Member.{Member}
-
--- one look at a path, which saw such a thing
-pub record Sees (path : Path) (P : Option Seen → Type 0) (ts : List Entry) : Type 0 where
-  pub seen : Option Seen
-  pub is : P seen
-  pub look : ts ≡ entry.Look path seen ∷ []
-
--- nothing was seen, a directory, something else than a directory
-abbrev pub IsNothing : Option Seen → Type 0
-IsNothing seen = seen ≡ None
-
-abbrev pub IsDir : Option Seen → Type 0
-IsDir None = ⊥
-IsDir (Some seen) = seen.kind ≡ kind.Dir
-
-abbrev pub IsNoDir : Option Seen → Type 0
-IsNoDir None = ⊥
-IsNoDir (Some seen) = seen.kind ≢ kind.Dir
-
--- something else than a regular file; a regular file, or nothing
-abbrev pub IsNoFile : Option Seen → Type 0
-IsNoFile None = ⊥
-IsNoFile (Some seen) = seen.kind ≢ kind.File
-
-abbrev pub IsFileOrGone : Option Seen → Type 0
-IsFileOrGone None = Unit {0}
-IsFileOrGone (Some seen) = seen.kind ≡ kind.File
-
-abbrev pub is_dir_kind : Kind → Bool
-is_dir_kind kind.Dir = true
-is_dir_kind _ = false
-
--- whether a directory was seen
-abbrev pub is_dir : Option Seen → Bool
-is_dir None = false
-is_dir (Some seen) = is_dir_kind seen.kind
 
 -- A look at a member's path, and what it saw.
 pub record Sight : Type 0 where

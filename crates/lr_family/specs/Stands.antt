@@ -18,7 +18,8 @@ use Rattle.lr_family.specs.declared.stand.Stand.{Stand}
 use Rattle.lr_family.specs.declared.stand.StandStop.{StandStop}
 use Rattle.lr_family.specs.declared.stand.StandStop.TheVariants as stop
 use Rattle.lr_family.specs.Spots.{AreSpots}
-use Rattle.lr_family.specs.Looks.{Sees, IsNothing, IsDir, IsNoDir, IsNoFile, is_dir, Shows, ShowsTo, ShowsSome}
+use Rattle.lr_host.specs.Looks.{Sees, IsNothing, IsDir, IsNoDir, IsNoFile, is_dir}
+use Rattle.lr_family.specs.Looks.{Shows, ShowsTo, ShowsSome}
 
 -- the number of a place; a numbered family has no stamps
 abbrev pub number_in : Place → ℕ

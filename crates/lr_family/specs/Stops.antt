@@ -9,7 +9,8 @@ use Rattle.lr_family.specs.declared.look.LookStop.TheVariants as look
 use Rattle.lr_family.specs.declared.spot.Spot.{Spot}
 use Rattle.lr_family.specs.declared.stand.StandStop.{StandStop}
 use Rattle.lr_family.specs.declared.stand.StandStop.TheVariants as stop
-use Rattle.lr_family.specs.Looks.{Sees, IsNoFile, ShowsTo, ShowsSome}
+use Rattle.lr_host.specs.Looks.{Sees, IsNoFile}
+use Rattle.lr_family.specs.Looks.{ShowsTo, ShowsSome}
 
 abbrev pub stop_of : LookStop → Path → StandStop
 stop_of look.Call path = stop.Call call.Look path

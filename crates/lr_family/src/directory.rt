@@ -3,7 +3,7 @@ ghost use Rattle.std.specs.Prelude.{◌≡◌, [], true, IfOk, IfErr, Ok, Err};
 ghost use Rattle.lr_rules.specs.Path.{parent_of};
 ghost use Rattle.lr_host.specs.declared.entry.Entry.TheVariants as entry;
 ghost use Rattle.lr_host.specs.Told.{Left, Can, NoneFell, Rose};
-ghost use Rattle.lr_family.specs.Looks.{Sees, is_dir};
+ghost use Rattle.lr_host.specs.Looks.{Sees, is_dir};
 ghost use Rattle.lr_family.specs.Stands.{IsFailedCall};
 ghost use Rattle.lr_family.specs.Directory.{DirSeen, DirStopped, ParentStopped};
 

@@ -3,7 +3,8 @@ ghost use Rattle.std.specs.Prelude.{◌≡◌, [], ◌∷◌, ◌++◌, IfOk, If
 ghost use Rattle.lr_rules.specs.declared.rule.Naming.{Naming};
 ghost use Rattle.lr_host.specs.declared.entry.Entry.TheVariants as entry;
 ghost use Rattle.lr_host.specs.Told.{Left, Are, NoneFell, Rose};
-ghost use Rattle.lr_family.specs.Looks.{IsFileOrGone, Shows, seen_at};
+ghost use Rattle.lr_host.specs.Looks.{IsFileOrGone};
+ghost use Rattle.lr_family.specs.Looks.{Shows, seen_at};
 ghost use Rattle.lr_family.specs.Places.{AreNamed};
 ghost use Rattle.lr_family.specs.Spots.{HavePaths};
 ghost use Rattle.lr_family.specs.Stands.{IsFailedCall};

@@ -3,6 +3,7 @@ pub mod Forward
 pub mod Kept
 pub mod Later
 pub mod Lists
+pub mod Looks
 pub mod Opening
 pub mod Reading
 pub mod Released

@@ -19,7 +19,7 @@ use Rattle.lr_host.proofs.Left.{left_as}
 use Rattle.lr_include.specs.declared.reading.Reading.{Reading}
 use Rattle.lr_include.specs.Readers.{meaning_of}
 use Rattle.lr_include.specs.Lines.{whole_means, cut_means, bytes_mean}
-use Rattle.lr_include.specs.Looks.{Sees, IsFile, IsDir, IsNothingOrOther}
+use Rattle.lr_host.specs.Looks.{Sees, IsFile, IsDir, IsNothingOrOther}
 use Rattle.lr_include.specs.Reading.{ReadsFile, MeansAs, no_file, directory, whole, cut, ReadsAs, means, IsReading, of_bytes}
 
 -- ---- what entries show

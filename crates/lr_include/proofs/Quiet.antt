@@ -10,7 +10,7 @@ use Rattle.lr_host.specs.declared.entry.Entry.TheVariants.{Reads}
 use Rattle.lr_host.specs.Told.{Then, Each}
 use Rattle.lr_host.specs.Steps.{is_change}
 use Rattle.lr_host.specs.Reading.{IsReadOf}
-use Rattle.lr_include.specs.Looks.{Sees, IsFile}
+use Rattle.lr_host.specs.Looks.{Sees, IsFile}
 use Rattle.lr_include.specs.Reading.{ReadsFile, no_file, directory, whole, cut, ReadsAs, means, look_failed, read_failed}
 
 quiet_reads : (x : Path) (ts : List Entry) → Each (IsReadOf x) ts → filter is_change ts ≡ []

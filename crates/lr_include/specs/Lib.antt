@@ -1,4 +1,3 @@
 pub mod Lines
-pub mod Looks
 pub mod Readers
 pub mod Reading

@@ -10,7 +10,7 @@ use Rattle.lr_host.specs.declared.entry.Entry.{Entry}
 use Rattle.lr_host.specs.Told.{Then, Each}
 use Rattle.lr_host.specs.Reading.{IsReadOf, ReadsAll}
 use Rattle.lr_include.specs.Lines.{whole_means, cut_means, bytes_mean}
-use Rattle.lr_include.specs.Looks.{Sees, IsFile, IsDir, IsNothingOrOther}
+use Rattle.lr_host.specs.Looks.{Sees, IsFile, IsDir, IsNothingOrOther}
 
 -- the file was seen, and these bytes of it were read: all, or one more than 1,048,576
 abbrev pub ReadsFile : Path → List ℕ → List Entry → Type 0

@@ -8,7 +8,7 @@ ghost use Rattle.lr_conf.specs.Plain.{IsPlainRule, AtMostOneLog};
 ghost use Rattle.lr_host.specs.Told.{Left, Then, Each, NoneFell, Rose};
 ghost use Rattle.lr_host.specs.Reading.{IsReadOf};
 ghost use Rattle.lr_include.specs.Readers.{meaning_of, IsConfOrCall};
-ghost use Rattle.lr_include.specs.Looks.{Sees, IsFile};
+ghost use Rattle.lr_host.specs.Looks.{Sees, IsFile};
 ghost use Rattle.lr_include.specs.Reading.{MeansAs, ReadsAs, IsReading};
 
 use crate::reading::Reading;

@@ -26,7 +26,8 @@ use Rattle.lr_family.specs.declared.stand.Member.{Member}
 use Rattle.lr_family.specs.declared.stand.Stand.{Stand}
 use Rattle.lr_family.specs.Named.{framed, member_name}
 use Rattle.lr_family.specs.Spots.{path_at, spot_at, HasPlaces, AreSpots}
-use Rattle.lr_family.specs.Looks.{Sight, IsFileOrGone, Shows}
+use Rattle.lr_host.specs.Looks.{IsFileOrGone}
+use Rattle.lr_family.specs.Looks.{Sight, Shows}
 use Rattle.lr_family.specs.Stands.{AreNewestFirst, ShowsStand}
 use Rattle.lr_family.proofs.Unique.{named_same, joined_same}
 use Rattle.lr_chain.specs.Rotation.{places_of, rotation}

@@ -21,11 +21,11 @@ use Rattle.lr_laws.specs.Follow.{NoneAttached}
 use Rattle.lr_family.specs.declared.stand.Stand.{Stand}
 use Rattle.lr_family.specs.Named.{member_name}
 use Rattle.lr_family.specs.Spots.{path_at}
-use Rattle.lr_family.specs.Looks.{Sees}
+use Rattle.lr_host.specs.Looks.{Sees, IsFile}
 use Rattle.lr_family.specs.Stands.{ShowsStand}
 use Rattle.lr_chain.specs.Rotation.{places_of}
 use Rattle.lr_promise.specs.Members.{IsFamily, HasName, AreThere}
-use Rattle.lr_promise.specs.Shape.{IsQuietEntry, AreQuiet, Among, IsFile}
+use Rattle.lr_promise.specs.Shape.{IsQuietEntry, AreQuiet, Among}
 use Rattle.lr_promise.proofs.Lists.{In, in_front, in_back, in_turned}
 use Rattle.lr_promise.proofs.Paths.{name_part}
 use Rattle.lr_promise.proofs.Shown.{Shown, shown}

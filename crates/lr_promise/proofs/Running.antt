@@ -28,11 +28,11 @@ use Rattle.lr_laws.specs.Rotation.{IsAside}
 use Rattle.lr_laws.specs.Stays.{Rotates}
 use Rattle.lr_laws.proofs.Calls.{aside_walked}
 use Rattle.lr_laws.proofs.Stated.{quiet_safe}
-use Rattle.lr_family.specs.Looks.{Sees}
+use Rattle.lr_host.specs.Looks.{Sees, IsFile}
 use Rattle.lr_family.specs.Stands.{ShowsStand}
 use Rattle.lr_chain.specs.Rotation.{places_of, leftovers, kept, one_too_many, unlink_at, move_at, rotation}
 use Rattle.lr_promise.specs.Members.{IsFamily, HasName, AreThere, HaveNext}
-use Rattle.lr_promise.specs.Shape.{IsQuietEntry, AreQuiet, Among, IsFile, IsFirstOf, IsTail, changes_nothing, turns_one, HasStarted, not_yet, started, IsRun, IsGiven, AreTurns, no_more, one_more, turns_some, IsTurn}
+use Rattle.lr_promise.specs.Shape.{IsQuietEntry, AreQuiet, Among, IsFirstOf, IsTail, changes_nothing, turns_one, HasStarted, not_yet, started, IsRun, IsGiven, AreTurns, no_more, one_more, turns_some, IsTurn}
 use Rattle.lr_promise.specs.Promise.{KeepsSafe}
 use Rattle.lr_promise.proofs.Places.{every_all}
 use Rattle.lr_promise.proofs.Cuts.{Cut, cut, CutAt, cut_one, made_journal, made_more, steady_before, steady_at, none_attached}

@@ -18,10 +18,11 @@ use Rattle.lr_host.proofs.Left.{each_append}
 use Rattle.lr_family.specs.declared.stand.Stand.{Stand}
 use Rattle.lr_family.specs.declared.stand.Member.{Member}
 use Rattle.lr_family.specs.Spots.{path_at}
-use Rattle.lr_family.specs.Looks.{Sees, Sight, look_of}
+use Rattle.lr_host.specs.Looks.{Sees, IsFile}
+use Rattle.lr_family.specs.Looks.{Sight, look_of}
 use Rattle.lr_family.specs.Stands.{StandsIn, ShowsAs, ShowsStand}
 use Rattle.lr_chain.specs.Rotation.{leftovers, kept, one_too_many, unlink_at, move_at, places_of, rotation}
-use Rattle.lr_promise.specs.Shape.{IsQuietEntry, AreQuiet, IsFirstOf, IsFile, IsOneTooHigh, IsTurn, AreTurns, no_more, one_more, IsTail, changes_nothing, turns_one, turns_some, not_yet, started, IsRun}
+use Rattle.lr_promise.specs.Shape.{IsQuietEntry, AreQuiet, IsFirstOf, IsOneTooHigh, IsTurn, AreTurns, no_more, one_more, IsTail, changes_nothing, turns_one, turns_some, not_yet, started, IsRun}
 
 -- ---- entries that change nothing
 

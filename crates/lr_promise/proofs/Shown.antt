@@ -20,7 +20,8 @@ use Rattle.lr_family.specs.declared.stand.Member.{Member}
 use Rattle.lr_family.specs.declared.stand.Stand.{Stand}
 use Rattle.lr_family.specs.Named.{member_name}
 use Rattle.lr_family.specs.Spots.{path_at, spot_at}
-use Rattle.lr_family.specs.Looks.{Sees, IsDir, IsFileOrGone, Sight, look_of, seen_at, member_of, AreFilesOrGone}
+use Rattle.lr_host.specs.Looks.{Sees, IsDir, IsFileOrGone}
+use Rattle.lr_family.specs.Looks.{Sight, look_of, seen_at, member_of, AreFilesOrGone}
 use Rattle.lr_family.specs.Stands.{number_in, StandsIn, ShowsAs, ShowsStand}
 use Rattle.lr_chain.specs.Rotation.{places_of}
 use Rattle.lr_promise.specs.Members.{AreFalling, HasName}

@@ -1,5 +1,5 @@
 -- The entries of a run, as far as it came.
-use Rattle.std.specs.Prelude.{◌≡◌, ◌+◌, ℕ, true, false, List, [], ◌∷◌, ◌++◌, filter, Any, Contains, Option, Some, None}
+use Rattle.std.specs.Prelude.{◌≡◌, ◌+◌, ℕ, true, false, List, [], ◌∷◌, ◌++◌, filter, Any, Contains}
 use Rattle.lr_rules.specs.declared.path.Path.{Path}
 use Rattle.lr_rules.specs.declared.civil.Moment.{Moment}
 use Rattle.lr_rules.specs.declared.rule.Count.{Count}
@@ -9,8 +9,6 @@ use Rattle.lr_rules.specs.declared.rule.Rule.{Rule}
 use Rattle.lr_rules.specs.declared.rules.Rules.{Rules}
 use Rattle.lr_rules.specs.Match.{is_wildcard, literal_path}
 use Rattle.lr_rules.specs.Names.{naming_of}
-use Rattle.lr_host.specs.declared.thing.Kind.TheVariants as kind
-use Rattle.lr_host.specs.declared.thing.Seen.{Seen}
 use Rattle.lr_host.specs.declared.entry.Entry.{Entry}
 use Rattle.lr_host.specs.declared.entry.Entry.TheVariants as entry
 use Rattle.lr_host.specs.Lists.{IsNotIn}
@@ -18,7 +16,7 @@ use Rattle.lr_host.specs.Told.{Each}
 use Rattle.lr_host.specs.Steps.{is_change}
 use Rattle.lr_family.specs.declared.stand.Member.{Member}
 use Rattle.lr_family.specs.declared.stand.Stand.{Stand}
-use Rattle.lr_family.specs.Looks.{Sees}
+use Rattle.lr_host.specs.Looks.{Sees, IsFile}
 use Rattle.lr_family.specs.Stands.{number_in, ShowsStand}
 use Rattle.lr_chain.specs.Rotation.{places_of, rotation}
 use Rattle.lr_promise.specs.Members.{IsFamily}
@@ -48,11 +46,6 @@ pub record Among (P : List Entry → Type 0) (ts : List Entry) : Type 0 where
   pub after : List Entry
   pub joined : ts ≡ before ++ (part ++ after)
   pub is : P part
-
--- a regular file was seen
-abbrev pub IsFile : Option Seen → Type 0
-IsFile None = ⊥
-IsFile (Some seen) = seen.kind ≡ kind.File
 
 -- The rules are one, with one word: the path of this log. The rule gives the log this naming and this count.
 pub record IsOneLog (rules : List Rule) (log : Path) (n : Naming) (c : Count) : Type 0 where

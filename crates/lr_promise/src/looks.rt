@@ -8,11 +8,11 @@ ghost use Rattle.lr_host.specs.Told.{Made};
 ghost use Rattle.lr_host.specs.Sets.{LogSet};
 ghost use Rattle.lr_laws.specs.Follow.{NoneAttached};
 ghost use Rattle.lr_family.specs.declared.stand.Stand.{Stand};
-ghost use Rattle.lr_family.specs.Looks.{Sees};
+ghost use Rattle.lr_host.specs.Looks.{Sees, IsFile};
 ghost use Rattle.lr_family.specs.Stands.{ShowsStand};
 ghost use Rattle.lr_chain.specs.Rotation.{places_of};
 ghost use Rattle.lr_promise.specs.Members.{IsFamily, AreThere};
-ghost use Rattle.lr_promise.specs.Shape.{AreQuiet, Among, IsFile};
+ghost use Rattle.lr_promise.specs.Shape.{AreQuiet, Among};
 
 /// While nothing was changed, a path where a look saw a regular file names one.
 pub fn look_shows_file()

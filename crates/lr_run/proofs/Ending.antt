@@ -14,7 +14,7 @@ use Rattle.lr_host.specs.declared.entry.Entry.TheVariants.{Look, Starts, Ends}
 use Rattle.lr_host.specs.declared.journal.Journal.{Journal}
 use Rattle.lr_host.specs.Told.{Left, Are}
 use Rattle.lr_host.proofs.Left.{left_then, left_both}
-use Rattle.lr_family.specs.Looks.{Sees, IsDir}
+use Rattle.lr_host.specs.Looks.{Sees, IsDir}
 use Rattle.lr_run.specs.declared.answer.RunStop.{RunStop}
 use Rattle.lr_run.specs.declared.answer.RunStop.TheVariants as stop
 use Rattle.lr_run.specs.declared.target.Target.{Target}

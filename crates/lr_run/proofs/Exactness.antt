@@ -10,13 +10,12 @@ use Rattle.lr_rules.specs.Path.{parent_of}
 use Rattle.lr_host.specs.declared.thing.Seen.{Seen}
 use Rattle.lr_host.specs.declared.entry.Entry.{Entry}
 use Rattle.lr_host.specs.declared.entry.Entry.TheVariants.{Look, Starts, Ends}
-use Rattle.lr_family.specs.Looks.{Sees, IsDir}
+use Rattle.lr_host.specs.Looks.{Sees, IsDir, IsNotDir}
 use Rattle.lr_run.specs.declared.answer.RunStop.{RunStop}
 use Rattle.lr_run.specs.declared.answer.RunStop.TheVariants as stop
 use Rattle.lr_run.specs.Exact.{HasNoCall, Exactly, IsExcused}
 use Rattle.lr_run.specs.Faults.{IsCall, MayBeCall}
 use Rattle.lr_run.specs.Logs.{Log, WithLog, log_of}
-use Rattle.lr_run.specs.Looks.{IsNotDir}
 use Rattle.lr_run.specs.Turning.{GoesWell, LogBecause, LogLacks}
 use Rattle.lr_run.specs.Runs.{Inside, NoFault, no_rule, one_log, at_dir, at_look, at_begin, at_log, Runs, LacksMemory, at_first, Answers, faults_of, Because}
 use Rattle.lr_run.proofs.Verdict.{by_log, well_told, because_told, TakeMemory, lacks_told}

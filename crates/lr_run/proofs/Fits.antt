@@ -25,7 +25,8 @@ use Rattle.lr_family.specs.declared.stand.Member.{Member}
 use Rattle.lr_family.specs.declared.stand.Stand.{Stand}
 use Rattle.lr_family.specs.Named.{member_name}
 use Rattle.lr_family.specs.Spots.{path_at}
-use Rattle.lr_family.specs.Looks.{Sees, IsDir, IsNothing, is_dir, Sight, look_of}
+use Rattle.lr_host.specs.Looks.{Sees, IsDir, IsNothing, is_dir, IsFile}
+use Rattle.lr_family.specs.Looks.{Sight, look_of}
 use Rattle.lr_family.specs.Stands.{number_in, StandsIn, ShowsAs, ShowsStand}
 use Rattle.lr_chain.specs.Ready.{IsCount, IsTooHigh}
 use Rattle.lr_chain.specs.Rotation.{places_of, rotation}
@@ -36,7 +37,6 @@ use Rattle.lr_promise.proofs.Paths.{name_part, path_same, path_other}
 use Rattle.lr_promise.proofs.Shown.{Shown, shown}
 use Rattle.lr_promise.proofs.Moments.{each_turned, among_shown}
 use Rattle.lr_promise.proofs.Fitting.{fits}
-use Rattle.lr_run.specs.Looks.{IsFile}
 
 -- ---- what fits under some names fits under more
 

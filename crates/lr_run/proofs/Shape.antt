@@ -17,7 +17,8 @@ use Rattle.lr_host.specs.Told.{Each, Then, Are}
 use Rattle.lr_host.proofs.Left.{each_append}
 use Rattle.lr_family.specs.declared.stand.Stand.{Stand}
 use Rattle.lr_family.specs.declared.stand.Member.{Member}
-use Rattle.lr_family.specs.Looks.{Sees, IsDir, IsNothing, IsNoDir, IsNoFile, is_dir, Sight, look_of, ShowsSome}
+use Rattle.lr_host.specs.Looks.{Sees, IsDir, IsNothing, IsNoDir, IsNoFile, is_dir, IsFile}
+use Rattle.lr_family.specs.Looks.{Sight, look_of, ShowsSome}
 use Rattle.lr_family.specs.Spots.{path_at}
 use Rattle.lr_family.specs.Stands.{Lists, StandsIn, Reaches, ShowsAs, ShowsStand, ShowsNoFile, ShowsSoFar, StopsAtCall, StopsAtLook}
 use Rattle.lr_chain.specs.Rotation.{rotation, leftovers, kept, one_too_many, unlink_at, move_at, leftover_steps, shift_steps, turn_steps, retire_steps}
@@ -25,7 +26,6 @@ use Rattle.lr_chain.specs.Stops.{StopsAt}
 use Rattle.lr_promise.specs.Shape.{IsFirstOf}
 use Rattle.lr_run.specs.Acts.{BreaksOffAt}
 use Rattle.lr_run.specs.Logs.{Log}
-use Rattle.lr_run.specs.Looks.{IsFile}
 use Rattle.lr_run.specs.Turning.{Behind, WithStand, rotation_of, GoesWell, turned, let_be, MayTurn, LogBecause, CallBecause, LogLacks, at_stand, at_steps, LogEnds}
 
 -- a look or a listing

@@ -19,7 +19,7 @@ use Rattle.lr_host.specs.Told.{Each}
 use Rattle.lr_host.specs.Steps.{is_change}
 use Rattle.lr_host.proofs.Left.{each_append}
 use Rattle.lr_family.specs.Kin.{IsKin}
-use Rattle.lr_family.specs.Looks.{Sees, IsDir}
+use Rattle.lr_host.specs.Looks.{Sees, IsDir, IsNotDir}
 use Rattle.lr_chain.specs.Rotation.{places_of, rotation}
 use Rattle.lr_promise.specs.Members.{IsFamily}
 use Rattle.lr_promise.specs.Shape.{IsQuietEntry, AreQuiet, IsFirstOf, IsTurn, IsTail, changes_nothing, turns_one, not_yet, started, IsRun}
@@ -28,7 +28,6 @@ use Rattle.lr_run.specs.declared.answer.RunStop.TheVariants as stop
 use Rattle.lr_run.specs.declared.target.Target.{Target}
 use Rattle.lr_run.specs.Built.{IsBuilt, IsBuiltRule, IsLogWord, IsOneWord}
 use Rattle.lr_run.specs.Logs.{Log, WithLog, log_of, IsAsked}
-use Rattle.lr_run.specs.Looks.{IsNotDir}
 use Rattle.lr_run.specs.Turning.{GoesWell, LogLacks}
 use Rattle.lr_run.specs.Runs.{Inside, NoFault, no_rule, one_log, Because, at_dir, at_look, at_begin, at_log, at_first, Answers}
 use Rattle.lr_run.proofs.Kindred.{kin_at}

@@ -2,7 +2,7 @@
 use Rattle.std.proofs.Common.{◌≡◌, sym, subst, Option, Some}
 use Rattle.lr_host.specs.declared.thing.Seen.{Seen}
 use Rattle.lr_host.specs.declared.thing.Kind.TheVariants as kind
-use Rattle.lr_run.specs.Looks.{IsFile, IsNotDir}
+use Rattle.lr_host.specs.Looks.{IsFile, IsNotDir}
 
 pub is_file_seen : (look : Option Seen) (seen : Seen) → look ≡ Some seen → seen.kind ≡ kind.File → IsFile look
 is_file_seen look seen e k = subst IsFile (sym e) k

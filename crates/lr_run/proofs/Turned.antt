@@ -18,7 +18,7 @@ use Rattle.lr_family.specs.declared.stand.Stand.{Stand}
 use Rattle.lr_family.specs.declared.stand.StandStop.{StandStop}
 use Rattle.lr_family.specs.declared.stand.StandStop.TheVariants as stand
 use Rattle.lr_family.specs.Kin.{IsKin}
-use Rattle.lr_family.specs.Looks.{Sees}
+use Rattle.lr_host.specs.Looks.{Sees, IsFile}
 use Rattle.lr_family.specs.Stands.{ShowsStand, ShowsStop}
 use Rattle.lr_scripts.specs.declared.removal.Removal.{Removal}
 use Rattle.lr_chain.specs.declared.ready.PrepareStop.{PrepareStop}
@@ -34,7 +34,7 @@ use Rattle.lr_run.specs.declared.target.Target.{Target}
 use Rattle.lr_run.specs.Acts.{IsBare, AreBare, steps_of, BreaksOffAt}
 use Rattle.lr_run.specs.Faults.{log_fault_of, stand_fault_of, prepare_fault_of}
 use Rattle.lr_run.specs.Logs.{Log, log_in, IsPlain}
-use Rattle.lr_run.specs.Looks.{IsFile, LogStopped}
+use Rattle.lr_run.specs.Looks.{LogStopped}
 use Rattle.lr_run.specs.Turning.{Behind, WithStand, rotation_of, MayTurn, turned, let_be, LogBecause, CallBecause, at_stand, at_steps, LogEnds}
 use Rattle.lr_run.proofs.Fits.{rotation_can, next_of}
 use Rattle.lr_run.proofs.Kindred.{kin_at}

@@ -24,7 +24,8 @@ use Rattle.lr_family.specs.declared.stand.Member.{Member}
 use Rattle.lr_family.specs.declared.stand.Stand.{Stand}
 use Rattle.lr_family.specs.Named.{member_name}
 use Rattle.lr_family.specs.Spots.{path_at, spot_at}
-use Rattle.lr_family.specs.Looks.{Sees, IsNothing, IsDir, IsNoDir, IsNoFile, IsFileOrGone, Sight, look_of, seen_at, member_of, AreFilesOrGone, is_dir, ShowsSome}
+use Rattle.lr_host.specs.Looks.{Sees, IsNothing, IsDir, IsNoDir, IsNoFile, IsFileOrGone, is_dir, IsFile}
+use Rattle.lr_family.specs.Looks.{Sight, look_of, seen_at, member_of, AreFilesOrGone, ShowsSome}
 use Rattle.lr_family.specs.Stands.{number_in, Lists, StandsIn, Reaches, ShowsAs, ShowsStand, ShowsNoFile, ShowsSoFar}
 use Rattle.lr_chain.specs.Ready.{highest_path, IsTooHigh}
 use Rattle.lr_chain.specs.Rotation.{places_of, rotation, leftover_steps, shift_steps, turn_steps, retire_steps}
@@ -32,7 +33,6 @@ use Rattle.lr_promise.proofs.Lists.{In, in_from, in_to, in_map, in_unmap}
 use Rattle.lr_run.specs.Exact.{TakesMemory}
 use Rattle.lr_run.specs.Faults.{IsCall}
 use Rattle.lr_run.specs.Logs.{Log}
-use Rattle.lr_run.specs.Looks.{IsFile}
 use Rattle.lr_run.specs.Turning.{Behind, GoesWell, turned, let_be, LogBecause, LogLacks, at_stand, at_steps}
 use Rattle.lr_run.proofs.Shape.{IsLooking, AreLooking, looking_stands, each_rotation, looking_sights}
 

@@ -1,24 +1,12 @@
 -- What looks showed of the log and of the state's directory.
-use Rattle.std.specs.Prelude.{◌≡◌, ◌≢◌, List, [], Option, Some, None}
+use Rattle.std.specs.Prelude.{◌≡◌, List, []}
 use Rattle.lr_rules.specs.declared.path.Path.{Path}
-use Rattle.lr_host.specs.declared.thing.Kind.TheVariants as kind
-use Rattle.lr_host.specs.declared.thing.Seen.{Seen}
 use Rattle.lr_host.specs.declared.entry.Entry.{Entry}
-use Rattle.lr_family.specs.Looks.{Sees, IsNothing, IsNoFile}
+use Rattle.lr_host.specs.Looks.{Sees, IsNothing, IsNoFile, IsNotDir}
 use Rattle.lr_run.specs.declared.look.LogStop.{LogStop}
 use Rattle.lr_run.specs.declared.look.LogStop.TheVariants as log
 use Rattle.lr_run.specs.declared.look.DirStop.{DirStop}
 use Rattle.lr_run.specs.declared.look.DirStop.TheVariants as dir
-
--- a regular file was seen
-abbrev pub IsFile : Option Seen → Type 0
-IsFile None = ⊥
-IsFile (Some seen) = seen.kind ≡ kind.File
-
--- nothing was seen, or something else than a directory
-abbrev pub IsNotDir : Option Seen → Type 0
-IsNotDir None = Unit {0}
-IsNotDir (Some seen) = seen.kind ≢ kind.Dir
 
 -- the log wasn't seen as a file
 abbrev pub LogStopped : Path → LogStop → List Entry → Type 0

@@ -13,13 +13,12 @@ use Rattle.lr_host.specs.declared.thing.Seen.{Seen}
 use Rattle.lr_host.specs.declared.entry.Entry.{Entry}
 use Rattle.lr_host.specs.declared.entry.Entry.TheVariants.{Look, Starts, Ends}
 use Rattle.lr_host.specs.Told.{Then}
-use Rattle.lr_family.specs.Looks.{Sees, IsDir}
+use Rattle.lr_host.specs.Looks.{Sees, IsDir, IsNotDir}
 use Rattle.lr_run.specs.declared.answer.Ran.{Ran}
 use Rattle.lr_run.specs.declared.answer.RunStop.{RunStop}
 use Rattle.lr_run.specs.declared.answer.RunStop.TheVariants as stop
 use Rattle.lr_run.specs.declared.target.Target.{Target}
 use Rattle.lr_run.specs.Logs.{WithLog, log_in}
-use Rattle.lr_run.specs.Looks.{IsNotDir}
 use Rattle.lr_run.specs.Turning.{GoesWell, LogBecause, LogLacks, LogEnds}
 
 -- The state's directory was seen, the run began and ended, and of the entries between the two this holds.

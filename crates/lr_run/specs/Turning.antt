@@ -10,13 +10,12 @@ use Rattle.lr_host.specs.declared.entry.Entry.{Entry}
 use Rattle.lr_host.specs.Told.{Then, Are}
 use Rattle.lr_family.specs.declared.stand.Member.{Member}
 use Rattle.lr_family.specs.declared.stand.Stand.{Stand}
-use Rattle.lr_family.specs.Looks.{Sees, IsNothing, IsNoFile}
+use Rattle.lr_host.specs.Looks.{Sees, IsNothing, IsNoFile, IsFile}
 use Rattle.lr_family.specs.Stands.{ShowsStand, ShowsNoFile, ShowsSoFar, StopsAtCall}
 use Rattle.lr_chain.specs.Ready.{IsMissing, IsTooHigh}
 use Rattle.lr_chain.specs.Rotation.{places_of, rotation}
 use Rattle.lr_run.specs.Acts.{BreaksOffAt}
 use Rattle.lr_run.specs.Logs.{Log}
-use Rattle.lr_run.specs.Looks.{IsFile}
 
 -- the log was seen as a file, and of what followed this holds
 abbrev pub Behind : Log → (List Entry → Type 0) → List Entry → Type 0

@@ -2,8 +2,8 @@
 ghost use Rattle.std.specs.Prelude.{◌≡◌, [], OnOk, IfErr, Err};
 ghost use Rattle.lr_host.specs.declared.entry.Entry.TheVariants as entry;
 ghost use Rattle.lr_host.specs.Told.{Left, Can, NoneFell, Rose};
-ghost use Rattle.lr_family.specs.Looks.{Sees, IsDir};
-ghost use Rattle.lr_run.specs.Looks.{IsFile, LogStopped, DirStopped};
+ghost use Rattle.lr_host.specs.Looks.{Sees, IsDir, IsFile};
+ghost use Rattle.lr_run.specs.Looks.{LogStopped, DirStopped};
 
 use lr_host::{Host, Kind};
 use lr_rules::Path;

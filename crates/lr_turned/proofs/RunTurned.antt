@@ -19,10 +19,10 @@ use Rattle.lr_host.specs.Opening.{IsJournal}
 use Rattle.lr_host.specs.Told.{Made, at_first, by_writer, by_tool, Left, is_told}
 use Rattle.lr_host.proofs.Left.{filter_reverse, made_on}
 use Rattle.lr_family.specs.declared.stand.Stand.{Stand}
-use Rattle.lr_family.specs.Looks.{Sees}
+use Rattle.lr_host.specs.Looks.{Sees, IsFile}
 use Rattle.lr_chain.specs.Rotation.{places_of, rotation}
 use Rattle.lr_promise.specs.Members.{IsFamily, AreThere, HaveNext}
-use Rattle.lr_promise.specs.Shape.{Among, IsFile}
+use Rattle.lr_promise.specs.Shape.{Among}
 use Rattle.lr_promise.proofs.Lists.{In, in_front, in_back, in_reverse}
 use Rattle.lr_promise.proofs.Moments.{among_shown}
 use Rattle.lr_promise.proofs.Paths.{path_other}

@@ -12,10 +12,10 @@ use Rattle.lr_host.specs.declared.entry.Entry.TheVariants as entry
 use Rattle.lr_host.specs.Told.{Each}
 use Rattle.lr_host.specs.Steps.{is_change}
 use Rattle.lr_family.specs.declared.stand.Stand.{Stand}
-use Rattle.lr_family.specs.Looks.{Sees}
+use Rattle.lr_host.specs.Looks.{Sees, IsFile}
 use Rattle.lr_family.specs.Stands.{ShowsStand}
 use Rattle.lr_chain.specs.Rotation.{places_of, rotation}
-use Rattle.lr_promise.specs.Shape.{AreQuiet, Among, IsFile}
+use Rattle.lr_promise.specs.Shape.{AreQuiet, Among}
 use Rattle.lr_turned.specs.Quiet.{is_disk_change}
 use Rattle.lr_turned.specs.Turning.{TurnsOver}
 use Rattle.lr_turned.proofs.Fed.{IsTurn}

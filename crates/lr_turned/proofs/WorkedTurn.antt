@@ -25,7 +25,8 @@ use Rattle.lr_host.specs.Told.{Made, at_first, by_writer, by_tool}
 use Rattle.lr_family.specs.declared.spot.Spot.{Spot}
 use Rattle.lr_family.specs.Named.{member_name}
 use Rattle.lr_family.specs.Spots.{path_at, spot_at, HasPlaces, AreSpots}
-use Rattle.lr_family.specs.Looks.{IsFileOrGone, Sight}
+use Rattle.lr_host.specs.Looks.{IsFileOrGone}
+use Rattle.lr_family.specs.Looks.{Sight}
 use Rattle.lr_family.specs.Stands.{StandsIn, ShowsStand}
 use Rattle.lr_chain.specs.Rotation.{places_of, rotation}
 use Rattle.lr_promise.specs.Members.{IsFamily, HaveNext}

@@ -7,10 +7,10 @@ use Rattle.lr_host.specs.declared.thing.Thing.TheVariants as thing
 use Rattle.lr_host.specs.declared.entry.Entry.{Entry}
 use Rattle.lr_host.specs.World.{Past, world, names}
 use Rattle.lr_family.specs.declared.stand.Stand.{Stand}
-use Rattle.lr_family.specs.Looks.{Sees}
+use Rattle.lr_host.specs.Looks.{Sees, IsFile}
 use Rattle.lr_family.specs.Stands.{ShowsStand}
 use Rattle.lr_chain.specs.Rotation.{places_of, rotation}
-use Rattle.lr_promise.specs.Shape.{Among, IsFile}
+use Rattle.lr_promise.specs.Shape.{Among}
 use Rattle.lr_turned.specs.Quiet.{is_disk_change, Quiet}
 use Rattle.lr_turned.specs.Turned.{IsBehind, IsTurned}
 

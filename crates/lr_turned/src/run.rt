@@ -13,11 +13,11 @@ ghost use Rattle.lr_host.specs.Opening.{IsJournal};
 ghost use Rattle.lr_host.specs.Told.{Made, Left};
 ghost use Rattle.lr_host.specs.Steps.{is_change};
 ghost use Rattle.lr_family.specs.declared.stand.Stand.{Stand};
-ghost use Rattle.lr_family.specs.Looks.{Sees};
+ghost use Rattle.lr_host.specs.Looks.{Sees, IsFile};
 ghost use Rattle.lr_family.specs.Stands.{ShowsStand};
 ghost use Rattle.lr_chain.specs.Rotation.{places_of, rotation};
 ghost use Rattle.lr_promise.specs.Members.{IsFamily, AreThere, HaveNext};
-ghost use Rattle.lr_promise.specs.Shape.{AreQuiet, Among, IsFile};
+ghost use Rattle.lr_promise.specs.Shape.{AreQuiet, Among};
 ghost use Rattle.lr_turned.specs.Quiet.{NoMemberAttached};
 ghost use Rattle.lr_turned.specs.Turning.{TurnsOver, IsTurnedWhole};
 

@@ -1,5 +1,5 @@
 use Rattle.std.proofs.Common.{None, Some}
-use Rattle.lr_family.specs.Looks.{IsNoFile}
+use Rattle.lr_host.specs.Looks.{IsNoFile}
 use Rattle.lr_family.proofs.Looking.{sees, saw, dir_no_file, other_no_file}
 use Rattle.lr_family.proofs.look.look_at.Goals as goal
 

@@ -10,7 +10,7 @@ use Rattle.lr_host.proofs.Left.{left_first, left_as, left_both}
 use Rattle.lr_host.proofs.Known.{seen_can_read}
 use Rattle.lr_include.specs.Readers.{meaning_of}
 use Rattle.lr_include.specs.Lines.{bytes_mean}
-use Rattle.lr_include.specs.Looks.{IsFile, IsDir, IsNothingOrOther}
+use Rattle.lr_host.specs.Looks.{IsFile, IsDir, IsNothingOrOther}
 use Rattle.lr_include.specs.Reading.{look_failed, read_failed, of_stop}
 use Rattle.lr_include.proofs.Texts.{on_err}
 use Rattle.lr_include.proofs.Means.{sees, means_told, means_exactly, means_none, means_dir, read_told, read_exactly, read_means, only_reads}

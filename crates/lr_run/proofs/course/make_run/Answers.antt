@@ -3,9 +3,9 @@ use Rattle.lr_rules.specs.declared.path.Path.{Path}
 use Rattle.lr_rules.specs.declared.fault.CallKind.TheVariants as call
 use Rattle.lr_rules.specs.declared.fault.Fault.TheVariants as fault
 use Rattle.lr_host.proofs.Left.{left_as, left_first}
-use Rattle.lr_family.specs.Looks.{Sees}
+use Rattle.lr_host.specs.Looks.{Sees, IsNotDir}
 use Rattle.lr_run.specs.declared.look.DirStop.{DirStop}
-use Rattle.lr_run.specs.Looks.{IsNotDir, DirStopped}
+use Rattle.lr_run.specs.Looks.{DirStopped}
 use Rattle.lr_run.specs.declared.answer.RunStop.TheVariants as stop
 use Rattle.lr_promise.specs.Shape.{IsRun}
 use Rattle.lr_run.specs.Runs.{Answers, given_of, at_first, at_dir, at_look}

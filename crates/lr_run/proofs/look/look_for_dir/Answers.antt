@@ -1,8 +1,7 @@
 use Rattle.std.proofs.Common.{sym, subst}
-use Rattle.lr_family.specs.Looks.{IsDir}
+use Rattle.lr_host.specs.Looks.{IsDir, IsNotDir}
 use Rattle.lr_family.proofs.Looking.{sees}
 use Rattle.lr_family.proofs.Whole.{can_list, is_dir_seen}
-use Rattle.lr_run.specs.Looks.{IsNotDir}
 use Rattle.lr_run.proofs.Sights.{file_not_dir, other_not_dir}
 use Rattle.lr_run.proofs.look.look_for_dir.Goals as goal
 

@@ -1,6 +1,5 @@
-use Rattle.lr_family.specs.Looks.{IsNothing, IsNoFile}
+use Rattle.lr_host.specs.Looks.{IsNothing, IsNoFile, IsFile}
 use Rattle.lr_family.proofs.Looking.{sees, dir_no_file, other_no_file}
-use Rattle.lr_run.specs.Looks.{IsFile}
 use Rattle.lr_run.proofs.Sights.{is_file_seen}
 use Rattle.lr_run.proofs.look.look_for_log.Goals as goal
 
