@@ -66,8 +66,8 @@ pub fn read_conf<H: Host>(alloc: Global, host: &mut H, conf: &Path) -> Result<Re
     ensures counts { NoneFell (H.counts host.old) (H.counts host.new) }
 {
     let file = conf.copy(alloc)?;
-    // For the fault of a file that isn't read, and one that the caller adds.
-    let faults = Vec::with_capacity(alloc, 2)?;
+    // For the fault of a file that isn't read.
+    let faults = Vec::with_capacity(alloc, 1)?;
     let Ok(look) = host.look(conf, true) else {
         return Ok(alone(alloc, faults, Fault::Call(CallKind::Look, file)));
     };
