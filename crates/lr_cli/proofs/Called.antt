@@ -49,7 +49,7 @@ second (a ∷ b ∷ xs) = b
 second _ = []
 
 -- words name one configuration
-one_conf : (here : Path) (words : List (List ℕ)) (conf other : Path) → AreWords here words conf → AreWords here words other → conf ≡ other
+pub one_conf : (here : Path) (words : List (List ℕ)) (conf other : Path) → AreWords here words conf → AreWords here words other → conf ≡ other
 one_conf here words conf other a b = a.names ∙ (ap (cleaned here) (ap second (sym a.two ∙ b.two)) ∙ sym b.names)
 
 -- of words that name a configuration; the answer is what the run told

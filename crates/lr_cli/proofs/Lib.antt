@@ -1,6 +1,7 @@
 pub mod Built
 pub mod Called
 pub mod Exactness
+pub mod Excused
 pub mod FamilyTurned
 pub mod OutAside
 pub mod ParentPath

@@ -1,5 +1,6 @@
 pub mod Answer
 pub mod Exact
+pub mod Excused
 pub mod Faults
 pub mod Printed
 pub mod Status

@@ -9,6 +9,7 @@ ghost use Rattle.lr_host.specs.Told.{Left, NoneFell, Rose};
 ghost use Rattle.lr_promise.specs.Shape.{IsRun};
 ghost use Rattle.lr_cli.specs.Answer.{Answers, Reports, state_path};
 ghost use Rattle.lr_cli.specs.Exact.{HasNoCall};
+ghost use Rattle.lr_cli.specs.Excused.{IsExcused};
 ghost use Rattle.lr_cli.specs.Faults.{answer_of, HasFault};
 
 use crate::told::Told;
@@ -29,6 +30,7 @@ pub fn run_conf<H: Host>(
     requires state { state.now ≡ state_path }
     ensures told { Left (Answers conf.now now.now (answer_of result)) (H.told host.old) (H.told host.new) }
     ensures exactly { (Rose (H.counts host.old).faults (H.counts host.new).faults → ⊥) → IfOk result (λ told. Left (λ ts. (notices : List Notice) (faults : List Fault) → HasNoCall faults → ((told.notices ≡ notices) × (told.faults.items ≡ faults)) ↔ Reports conf.now now.now notices faults ts) (H.told host.old) (H.told host.new)) }
+    ensures excused { result ≡ Err RunStop.Memory → Left (IsExcused conf.now now.now) (H.told host.old) (H.told host.new) }
     ensures shape { Left IsRun (H.told host.old) (H.told host.new) }
     ensures room { IfOk result (λ told. vec_len told.faults + 1 ≤ vec_capacity told.faults) }
     ensures no_out { IfOk result (λ told. Contains told.faults.items fault.Out → ⊥) }

@@ -15,6 +15,7 @@ ghost use Rattle.lr_report.specs.Puts.{Took, TookPart};
 ghost use Rattle.lr_cli.specs.declared.outcome.Report.{Report};
 ghost use Rattle.lr_cli.specs.Answer.{AnsweredAt};
 ghost use Rattle.lr_cli.specs.Exact.{ExactlyAt};
+ghost use Rattle.lr_cli.specs.Excused.{ExcusedAt};
 ghost use Rattle.lr_cli.specs.Faults.{HasFault};
 ghost use Rattle.lr_cli.specs.Printed.{printed_of, without_out};
 ghost use Rattle.lr_cli.specs.Words.{AreWords, HaveForm};
@@ -48,6 +49,10 @@ pub fn logrotate<H: Host, K: Sink>(
     // Where no call failed, there was memory and the lock was free, a report comes exactly where the calls showed its
     // notices and faults.
     ensures exactly { (Rose (H.counts host.old).faults (H.counts host.new).faults → ⊥) → result ≢ Outcome.OutOfMemory → result ≢ Outcome.Held → Left (ExactlyAt here.now words.now now (without_out result)) (H.told host.old) (H.told host.new) }
+
+    // Want of memory in the run takes the place of none of its faults, but of failed calls and of those that take memory to
+    // be told.
+    ensures excused { result ≡ Outcome.OutOfMemory → Left (ExcusedAt here.now words.now now) (H.told host.old) (H.told host.new) }
 
     // A set that was safe in the journal before is safe in the journal after, where it is steady there: whatever failed, and
     // wherever the run stopped.

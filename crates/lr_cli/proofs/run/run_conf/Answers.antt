@@ -1,9 +1,12 @@
-use Rattle.std.proofs.Common.{ap, ◌∙◌, subst, List, ◌++◌, Contains}
+use Rattle.std.proofs.Common.{Err, refl, ap, ◌∙◌, subst, List, ◌++◌, Contains}
 use Rattle.std.specs.Prelude.{drop, length}
 use Rattle.lr_rules.specs.declared.fault.Fault.{Fault}
 use Rattle.lr_rules.specs.declared.fault.Fault.TheVariants as fault
 use Rattle.lr_cli.proofs.Built.{built}
 use Rattle.lr_cli.proofs.Exactness.{both_exactly}
+use Rattle.lr_cli.proofs.Excused.{excused_run, memory_it_was}
+use Rattle.lr_cli.specs.Excused.{at_conf}
+use Rattle.lr_host.proofs.Left.{left_as}
 use Rattle.lr_cli.proofs.Reading.{reports, stopped, lacks_at_conf, none_of_both, reading_no_out, either_call, rose_then, rose_after, any_call, conf_shape, lacking_shape}
 use Rattle.lr_cli.proofs.run.run_conf.Goals as goal
 
@@ -48,3 +51,9 @@ returns-in-Ok-run-clause-exactly g c =
     (c.in-Ok-run.ensures.earlier ∙ ap (λ fs. fs ++ drop (length c.into_vec.result.items) c.in-Ok-run.ran.faults.items) c.into_vec.ensures)
     (c.in-Ok.ensures.exactly (λ rose. calm (rose_then _ _ _ rose c.run.ensures.counts.0)))
     (c.in-Ok-run.ensures.exactly (λ rose. calm (rose_after _ _ _ c.read_conf.ensures.counts.0 rose)) (λ e. cc))
+
+pub returns-in_default-clause-excused : goal.returns-in_default-clause-excused
+returns-in_default-clause-excused g c = λ e. left_as c.in_default.ensures.lacking (λ ts h. at_conf h)
+
+pub returns-clause-excused : goal.returns-clause-excused
+returns-clause-excused g c = λ e. excused_run c.args.conf.now c.args.state.now c.args.now.now c.in-Ok.reading c.requires.state c.in-Ok.ensures.told (c.in-Err.ensures.excused (ap Err (memory_it_was c.in-Err.stop _ refl e)))

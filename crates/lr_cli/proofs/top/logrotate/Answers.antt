@@ -9,6 +9,7 @@ use Rattle.lr_cli.specs.Faults.{answer_of, HasFault}
 use Rattle.lr_cli.specs.Printed.{without_out}
 use Rattle.lr_cli.proofs.OutAside.{call_has}
 use Rattle.lr_cli.proofs.Called.{answered_at, nothing_called, exactly_at, exactly_none, told_ok, told_exactly, moment_at, is_now}
+use Rattle.lr_cli.proofs.Excused.{excused_at, excused_first, found_none}
 use Rattle.lr_cli.proofs.FamilyTurned.{answered_turned}
 use Rattle.lr_cli.proofs.top.logrotate.Goals as goal
 
@@ -58,3 +59,14 @@ returns-clause-exactly g c =
 
 pub returns-clause-turned : goal.returns-clause-turned
 returns-clause-turned g c = λ report before after done all told_before told_after journal. answered_turned c.args.here.now c.args.words.now c.args.now _ report _ _ before after (returns-clause-told g c) done all told_before told_after journal
+
+pub returns-in-Err-Memory-clause-excused : goal.returns-in-Err-Memory-clause-excused
+returns-in-Err-Memory-clause-excused g c = λ e. excused_first c.args.here.now c.args.words.now c.args.now (moment_at c.args.now c.first_civil.result) _ (is_now c.args.now _ c.ranges.now.sfits c.first_civil.ensures)
+
+pub returns-in_default-clause-excused : goal.returns-in_default-clause-excused
+returns-in_default-clause-excused g c = λ e. excused_first c.args.here.now c.args.words.now c.args.now (moment_at c.args.now c.first_civil.result) _ (is_now c.args.now _ c.ranges.now.sfits c.first_civil.ensures)
+
+pub returns-clause-excused : goal.returns-clause-excused
+returns-clause-excused g c =
+    λ e. excused_at c.args.here.now c.args.words.now c.args.now (moment_at c.args.now c.first_civil.result) c.in-Ok.conf _ _ (is_now c.args.now _ c.ranges.now.sfits c.first_civil.ensures) c.in-Ok.ensures.conf
+    (c.run_conf-run.ensures.excused (found_none c.run_conf-run.result c.finish.result c.finish.ensures.answer e))
