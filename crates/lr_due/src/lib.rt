@@ -6,9 +6,11 @@
 
 mod answer;
 mod calendar;
-mod table;
 #[cfg(test)]
-mod tests;
+mod clock_tests;
+#[cfg(test)]
+mod due_tests;
+mod table;
 mod zone;
 
 pub use answer::{Due, Why, WhyNot};
