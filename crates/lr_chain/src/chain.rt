@@ -1,6 +1,6 @@
 // The renames of one rotation.
 ghost use Rattle.std.specs.Prelude.{◌≡◌, None, OnOk, OnErr, IfErr};
-ghost use Rattle.lr_host.specs.Told.{Left, Are, Did, Can, NoneFell, Rose};
+ghost use Rattle.lr_host.specs.Told.{Left, Are, Did, Can, Onward, Rose};
 ghost use Rattle.lr_host.specs.Steps.{CanAll};
 ghost use Rattle.lr_chain.specs.Ready.{move_step, shift_of, turn_of};
 ghost use Rattle.lr_chain.specs.Stops.{ChainStopped, ChainCause};
@@ -22,7 +22,7 @@ fn move_one<H: Host>(host: &mut H, step: &Move) -> Result<(), CallFault>
     requires { Can (H.told host.old) (move_step step.now) }
     ensures told { Left (Did result (move_step step.now)) (H.told host.old) (H.told host.new) }
     ensures cause { OnErr result (Rose (H.counts host.old).faults (H.counts host.new).faults) }
-    ensures counts { NoneFell (H.counts host.old) (H.counts host.new) }
+    ensures counts { Onward (H.counts host.old) (H.counts host.new) }
 {
     host.rename(&step.from, &step.to)
 }
@@ -35,7 +35,7 @@ pub fn shift<'a, H: Host>(host: &mut H, ready: &'a Ready) -> Result<(), ChainSto
     ensures told { OnOk result (Left (Are (shift_of ready.now)) (H.told host.old) (H.told host.new)) }
     ensures refused { IfErr result (λ stop. Left (ChainStopped (shift_of ready.now) stop) (H.told host.old) (H.told host.new)) }
     ensures cause { IfErr result (λ stop. ChainCause (shift_of ready.now) stop (H.counts host.old) (H.counts host.new)) }
-    ensures counts { NoneFell (H.counts host.old) (H.counts host.new) }
+    ensures counts { Onward (H.counts host.old) (H.counts host.new) }
 {
     let moves = ready.moves.as_slice();
     for at in 0..moves.len() {
@@ -54,7 +54,7 @@ pub fn turn<'a, H: Host>(host: &mut H, ready: &'a Ready) -> Result<(), ChainStop
     ensures told { OnOk result (Left (Are (turn_of ready.now)) (H.told host.old) (H.told host.new)) }
     ensures refused { IfErr result (λ stop. Left (ChainStopped (turn_of ready.now) stop) (H.told host.old) (H.told host.new)) }
     ensures cause { IfErr result (λ stop. ChainCause (turn_of ready.now) stop (H.counts host.old) (H.counts host.new)) }
-    ensures counts { NoneFell (H.counts host.old) (H.counts host.new) }
+    ensures counts { Onward (H.counts host.old) (H.counts host.new) }
 {
     if let Err(stop) = shift(host, ready) {
         return Err(stop);

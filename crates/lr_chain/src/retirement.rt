@@ -1,6 +1,6 @@
 // The removals of one rotation.
 ghost use Rattle.std.specs.Prelude.{OnOk, IfErr};
-ghost use Rattle.lr_host.specs.Told.{Left, Are, NoneFell};
+ghost use Rattle.lr_host.specs.Told.{Left, Are, Onward};
 ghost use Rattle.lr_host.specs.Steps.{CanAll};
 ghost use Rattle.lr_chain.specs.Ready.{removals_of};
 ghost use Rattle.lr_chain.specs.Stops.{RetireStopped, RetireCause};
@@ -16,7 +16,7 @@ pub fn retire<H: Host>(alloc: Global, host: &mut H, list: &[Removal]) -> Result<
     ensures told { OnOk result (Left (Are (removals_of list.now)) (H.told host.old) (H.told host.new)) }
     ensures refused { IfErr result (λ stop. Left (RetireStopped list.now stop.0 stop.1) (H.told host.old) (H.told host.new)) }
     ensures cause { IfErr result (λ stop. RetireCause list.now stop.0 stop.1 (H.counts host.old) (H.counts host.new)) }
-    ensures counts { NoneFell (H.counts host.old) (H.counts host.new) }
+    ensures counts { Onward (H.counts host.old) (H.counts host.new) }
 {
     for at in 0..list.len() {
         if let Err(why) = remove(alloc, host, &list[at]) {

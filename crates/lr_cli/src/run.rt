@@ -5,7 +5,7 @@ ghost use Rattle.lr_rules.specs.declared.fault.CallKind.{CallKind};
 ghost use Rattle.lr_rules.specs.declared.fault.Fault.{Fault};
 ghost use Rattle.lr_rules.specs.declared.fault.Fault.TheVariants as fault;
 ghost use Rattle.lr_rules.specs.declared.fault.Notice.{Notice};
-ghost use Rattle.lr_host.specs.Told.{Left, NoneFell, Rose};
+ghost use Rattle.lr_host.specs.Told.{Left, Onward, Rose};
 ghost use Rattle.lr_promise.specs.Shape.{IsRun};
 ghost use Rattle.lr_cli.specs.Answer.{Answers, Reports, state_path};
 ghost use Rattle.lr_cli.specs.Exact.{HasNoCall};
@@ -36,7 +36,7 @@ pub fn run_conf<H: Host>(
     ensures no_out { IfOk result (λ told. Contains told.faults.items fault.Out → ⊥) }
     ensures call { (kind : CallKind) (path : Path) → HasFault (answer_of result) (fault.Call kind path) → Rose (H.counts host.old).faults (H.counts host.new).faults }
     ensures held { result ≡ Err RunStop.Held → Rose (H.counts host.old).held (H.counts host.new).held }
-    ensures counts { NoneFell (H.counts host.old) (H.counts host.new) }
+    ensures counts { Onward (H.counts host.old) (H.counts host.new) }
 {
     let Ok(reading) = read_conf(alloc, host, conf) else {
         return Err(RunStop::Memory);

@@ -8,7 +8,7 @@ ghost use Rattle.lr_host.specs.World.{past};
 ghost use Rattle.lr_host.specs.Opening.{IsJournal};
 ghost use Rattle.lr_include.specs.Readers.{IsConf};
 ghost use Rattle.lr_cli.specs.Turning.{TurnsFamily};
-ghost use Rattle.lr_host.specs.Told.{Left, NoneFell, Rose};
+ghost use Rattle.lr_host.specs.Told.{Left, Onward, Rose};
 ghost use Rattle.lr_promise.specs.Promise.{KeepsSafe};
 ghost use Rattle.lr_promise.specs.Shape.{IsRun};
 ghost use Rattle.lr_report.specs.Puts.{Took, TookPart};
@@ -78,7 +78,7 @@ pub fn logrotate<H: Host, K: Sink>(
     ensures words { (report : Report) → result ≡ Outcome.Done report → (conf : Path) × AreWords here.now words.now conf }
     ensures call { (kind : CallKind) (path : Path) → HasFault result (fault.Call kind path) → Rose (H.counts host.old).faults (H.counts host.new).faults }
     ensures held { result ≡ Outcome.Held → Rose (H.counts host.old).held (H.counts host.new).held }
-    ensures counts { NoneFell (H.counts host.old) (H.counts host.new) }
+    ensures counts { Onward (H.counts host.old) (H.counts host.new) }
     ensures sink_counts { K.faults out.old ≤ K.faults out.new }
 {
     let moment = Moment {

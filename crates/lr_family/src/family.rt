@@ -1,7 +1,7 @@
 // A log and the names of its members.
 ghost use Rattle.std.specs.Prelude.{◌≡◌, ◌<◌, ◌+◌, ◌↔◌, ℕ, Some, None, IfOk, IfSome, IfErr, IsErrOf};
 ghost use Rattle.lr_rules.specs.Names.{IsMemberAt};
-ghost use Rattle.lr_host.specs.Told.{Left, NoneFell, Rose};
+ghost use Rattle.lr_host.specs.Told.{Left, Onward, Rose};
 ghost use Rattle.lr_family.specs.declared.place.Place.TheVariants as at;
 ghost use Rattle.lr_family.specs.Kin.{IsKin};
 ghost use Rattle.lr_family.specs.Places.{IsPlaceOf, AreNamed};
@@ -88,7 +88,7 @@ impl Family {
         ensures named { IfOk result (λ stand. AreNamed self.now.naming stand.members) }
         ensures exactly { Left (IsExactly self.now.naming result) (H.told host.old) (H.told host.new) }
         ensures cause { IfErr result (λ stop. IsFailedCall stop → Rose (H.counts host.old).faults (H.counts host.new).faults) }
-        ensures counts { NoneFell (H.counts host.old) (H.counts host.new) }
+        ensures counts { Onward (H.counts host.old) (H.counts host.new) }
     {
         stand_by(alloc, host, &self.naming)
     }

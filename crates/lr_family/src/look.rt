@@ -2,7 +2,7 @@
 ghost use Rattle.std.specs.Prelude.{◌≡◌, [], ◌∷◌, ◌++◌, IfOk, IfErr, OnOk, Err};
 ghost use Rattle.lr_rules.specs.declared.rule.Naming.{Naming};
 ghost use Rattle.lr_host.specs.declared.entry.Entry.TheVariants as entry;
-ghost use Rattle.lr_host.specs.Told.{Left, Are, NoneFell, Rose};
+ghost use Rattle.lr_host.specs.Told.{Left, Are, Onward, Rose};
 ghost use Rattle.lr_host.specs.Looks.{IsFileOrGone};
 ghost use Rattle.lr_family.specs.Looks.{Shows, seen_at};
 ghost use Rattle.lr_family.specs.Places.{AreNamed};
@@ -32,7 +32,7 @@ fn look_at<H: Host>(host: &mut H, path: &Path) -> Result<Option<Seen>, LookStop>
     ensures told { IfOk result (λ seen. Left (Are (entry.Look path.now seen ∷ [])) (H.told host.old) (H.told host.new)) }
     ensures stopped { IfErr result (λ stop. Left (OneStopped path.now stop) (H.told host.old) (H.told host.new)) }
     ensures cause { result ≡ Err LookStop.Call → Rose (H.counts host.old).faults (H.counts host.new).faults }
-    ensures counts { NoneFell (H.counts host.old) (H.counts host.new) }
+    ensures counts { Onward (H.counts host.old) (H.counts host.new) }
 {
     let Ok(look) = host.look(path, false) else {
         return Err(LookStop::Call);
@@ -81,7 +81,7 @@ pub fn look_at_all<H: Host>(
     ensures stopped { IfErr result (λ stop. Left (SomeStopped spots.items stop) (H.told host.old) (H.told host.new)) }
     ensures named { IfOk result (λ members. (n : Naming) → HavePaths n spots.items → AreNamed n members.items) }
     ensures cause { IfErr result (λ stop. IsFailedCall stop → Rose (H.counts host.old).faults (H.counts host.new).faults) }
-    ensures counts { NoneFell (H.counts host.old) (H.counts host.new) }
+    ensures counts { Onward (H.counts host.old) (H.counts host.new) }
 {
     let mut members = Vec::new(alloc);
     for spot in spots {

@@ -3,7 +3,7 @@ ghost use Rattle.std.specs.Prelude.{◌≡◌, [], IfOk, IfErr};
 ghost use Rattle.std.specs.Ordering.{nat_cmp};
 ghost use Rattle.std.specs.List.Sorted.{IsPermutation};
 ghost use Rattle.lr_host.specs.declared.entry.Entry.TheVariants as entry;
-ghost use Rattle.lr_host.specs.Told.{Left, Can, NoneFell, Rose};
+ghost use Rattle.lr_host.specs.Told.{Left, Can, Onward, Rose};
 ghost use Rattle.lr_family.specs.Places.{AreNamed};
 ghost use Rattle.lr_family.specs.Stands.{StandsIn, AreNewestFirst, IsFailedCall, number_in};
 ghost use Rattle.lr_family.specs.Directory.{InStopped};
@@ -54,7 +54,7 @@ pub fn members_in<H: Host>(
     ensures stopped { IfErr result (λ stop. Left (InStopped naming.now stop) (H.told host.old) (H.told host.new)) }
     ensures named { IfOk result (λ members. AreNamed naming.now members.items) }
     ensures cause { IfErr result (λ stop. IsFailedCall stop → Rose (H.counts host.old).faults (H.counts host.new).faults) }
-    ensures counts { NoneFell (H.counts host.old) (H.counts host.new) }
+    ensures counts { Onward (H.counts host.old) (H.counts host.new) }
 {
     let mut names = Vec::new(alloc);
     match host.list(alloc, &dir, &mut names) {

@@ -1,6 +1,6 @@
 // What stands of a family.
 ghost use Rattle.std.specs.Prelude.{◌≡◌, IfOk, IfErr};
-ghost use Rattle.lr_host.specs.Told.{Left, NoneFell, Rose};
+ghost use Rattle.lr_host.specs.Told.{Left, Onward, Rose};
 ghost use Rattle.lr_family.specs.Places.{AreNamed};
 ghost use Rattle.lr_family.specs.Stands.{ShowsStand, ShowsStop, IsFailedCall};
 
@@ -17,7 +17,7 @@ pub fn stand_by<H: Host>(alloc: Global, host: &mut H, naming: &Naming) -> Result
     ensures stopped { IfErr result (λ stop. Left (ShowsStop naming.now stop) (H.told host.old) (H.told host.new)) }
     ensures named { IfOk result (λ stand. AreNamed naming.now stand.members) }
     ensures cause { IfErr result (λ stop. IsFailedCall stop → Rose (H.counts host.old).faults (H.counts host.new).faults) }
-    ensures counts { NoneFell (H.counts host.old) (H.counts host.new) }
+    ensures counts { Onward (H.counts host.old) (H.counts host.new) }
 {
     // Before the first look, so that a thing of another kind is told however short memory is then.
     let Ok(dir) = naming.dir.copy(alloc) else {

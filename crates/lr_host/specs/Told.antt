@@ -10,15 +10,20 @@ use Rattle.lr_host.specs.declared.journal.Journal.{Journal}
 use Rattle.lr_host.specs.World.{Past, ◌▸◌, past, world, Names, names}
 use Rattle.lr_host.specs.Fits.{Fits, IsFileAt, MaybeFileAt, IsDirectoryAt}
 
--- The counts of a host.
+-- The counts of a host, and whether the run has the lock.
 pub record Counts : Type 0 where
   pub faults : ℕ
   pub bad_ends : ℕ
   pub held : ℕ
+  pub locked : Bool
 
 -- no count fell
 abbrev pub NoneFell : Counts → Counts → Type 0
 NoneFell before now = (before.faults ≤ now.faults) × (before.bad_ends ≤ now.bad_ends) × (before.held ≤ now.held)
+
+-- no count fell, and the run has the lock where it had it
+abbrev pub Onward : Counts → Counts → Type 0
+Onward before now = NoneFell before now × (now.locked ≡ before.locked)
 
 -- the count has risen; at its greatest value it counts as risen
 abbrev pub Rose : ℕ → ℕ → Type 0

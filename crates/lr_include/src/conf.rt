@@ -5,7 +5,7 @@ ghost use Rattle.lr_rules.specs.declared.path.Path.{Path};
 ghost use Rattle.lr_rules.specs.declared.fault.Fault.TheVariants as fault;
 ghost use Rattle.lr_conf.specs.Meaning.{Meaning, told, conf};
 ghost use Rattle.lr_conf.specs.Plain.{IsPlainRule, AtMostOneLog};
-ghost use Rattle.lr_host.specs.Told.{Left, Then, Each, NoneFell, Rose};
+ghost use Rattle.lr_host.specs.Told.{Left, Then, Each, Onward, Rose};
 ghost use Rattle.lr_host.specs.Reading.{IsReadOf};
 ghost use Rattle.lr_include.specs.Readers.{meaning_of, IsConfOrCall};
 ghost use Rattle.lr_host.specs.Looks.{Sees, IsFile};
@@ -63,7 +63,7 @@ pub fn read_conf<H: Host>(alloc: Global, host: &mut H, conf: &Path) -> Result<Re
     ensures only { IfOk result (λ r. All IsConfOrCall r.faults) }
     ensures plain { IfOk result (λ r. All IsPlainRule r.rules.sets) }
     ensures one { IfOk result (λ r. AtMostOneLog r.rules.sets) }
-    ensures counts { NoneFell (H.counts host.old) (H.counts host.new) }
+    ensures counts { Onward (H.counts host.old) (H.counts host.new) }
 {
     let file = conf.copy(alloc)?;
     // For the fault of a file that isn't read.

@@ -1,7 +1,7 @@
 // Reading a file from its first byte on.
 ghost use Rattle.std.specs.Prelude.{◌≡◌, ◌≤◌, ◌<◌, ◌+◌, ◌++◌, [], ◌∷◌, drop, length, IfOk, OnOk, OnErr};
 ghost use Rattle.lr_host.specs.declared.entry.Entry.TheVariants as entry;
-ghost use Rattle.lr_host.specs.Told.{Left, Are, Each, Can, NoneFell, Rose};
+ghost use Rattle.lr_host.specs.Told.{Left, Are, Each, Can, Onward, Rose};
 ghost use Rattle.lr_host.specs.Reading.{IsReadOf, ReadsAll};
 
 use lr_host::Host;
@@ -30,7 +30,7 @@ fn read_on<H: Host>(
     ensures count { IfOk result (λ count. length bytes.new.items ≡ length bytes.old.items + count) }
     ensures within { IfOk result (λ count. count ≤ length piece.new) }
     ensures cause { result ≡ Err ReadStop.Call → Rose (H.counts host.old).faults (H.counts host.new).faults }
-    ensures counts { NoneFell (H.counts host.old) (H.counts host.new) }
+    ensures counts { Onward (H.counts host.old) (H.counts host.new) }
 {
     let Ok(count) = host.read(path, bytes.len() as u64, piece) else {
         return Err(ReadStop::Call);
@@ -54,7 +54,7 @@ fn read_up_to<H: Host>(
     ensures stopped { OnErr result (Left (Each (IsReadOf path.now)) (H.told host.old) (H.told host.new)) }
     ensures within { OnOk result (length bytes.new.items ≤ length piece.old) }
     ensures cause { result ≡ Err ReadStop.Call → Rose (H.counts host.old).faults (H.counts host.new).faults }
-    ensures counts { NoneFell (H.counts host.old) (H.counts host.new) }
+    ensures counts { Onward (H.counts host.old) (H.counts host.new) }
 {
     while bytes.len() < piece.len() {
         let room = piece.len() - bytes.len();
@@ -78,7 +78,7 @@ pub fn read_text<H: Host>(
     ensures stopped { OnErr result (Left (Each (IsReadOf path.now)) (H.told host.old) (H.told host.new)) }
     ensures within { IfOk result (λ bytes. length bytes.items ≤ limit) }
     ensures cause { result ≡ Err ReadStop.Call → Rose (H.counts host.old).faults (H.counts host.new).faults }
-    ensures counts { NoneFell (H.counts host.old) (H.counts host.new) }
+    ensures counts { Onward (H.counts host.old) (H.counts host.new) }
 {
     let mut bytes = Vec::new(alloc);
     let Ok(mut piece) = vec![in alloc; 0u8; limit] else {

@@ -11,7 +11,7 @@ use Rattle.lr_host.specs.declared.entry.Entry.{Entry}
 use Rattle.lr_host.specs.World.{Past, ◌▸◌, past, world, names}
 use Rattle.lr_host.specs.Fits.{Fits}
 use Rattle.lr_host.specs.Steps.{is_naming}
-use Rattle.lr_host.specs.Told.{NoneFell, IsWriters, Can, CanCall, Made, at_first, by_writer, by_tool, Left, is_told, IsTools, Are, DidWhere, DidPart}
+use Rattle.lr_host.specs.Told.{Onward, IsWriters, Can, CanCall, Made, at_first, by_writer, by_tool, Left, is_told, IsTools, Are, DidWhere, DidPart}
 use Rattle.lr_host.proofs.Left.{made_on, can_stay}
 use Rattle.lr_memhost.specs.declared.act.Act.{Act}
 use Rattle.lr_disk.specs.State.{with_entry}
@@ -145,7 +145,7 @@ pub still_can : {e : Entry} {v m : View} → Can (Some v.journal) e → Turned (
 still_can can t = (can_stay can (turned_left t) (λ ts is. ap (filter is_naming) is)).can
 
 -- no count fell where the rest is as it was
-pub none_fell : (v w : View) → v.faults ≤ w.faults → w.rest ≡ v.rest → NoneFell (counts_of v) (counts_of w)
+pub none_fell : (v w : View) → v.faults ≤ w.faults → w.rest ≡ v.rest → Onward (counts_of v) (counts_of w)
 none_fell v w le same = (le, at_least (ap (λ r. r.bad_ends) same), at_least (ap (λ r. r.held) same))
   where
     at_least : {a b : ℕ} → b ≡ a → a ≤ b

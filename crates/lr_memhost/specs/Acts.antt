@@ -48,7 +48,7 @@ pub record View : Type 0 where
   pub rest : Rest
 
 abbrev pub counts_of : View → Counts
-counts_of v = record { faults = v.faults; bad_ends = v.rest.bad_ends; held = v.rest.held }
+counts_of v = record { faults = v.faults; bad_ends = v.rest.bad_ends; held = v.rest.held; locked = v.rest.mine }
 
 -- nobody has the lock
 abbrev pub IsFree : Rest → Type 0

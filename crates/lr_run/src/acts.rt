@@ -3,7 +3,7 @@ ghost use Rattle.std.specs.Prelude.{◌≡◌, ◌<◌, ◌++◌, length, slice_
 ghost use Rattle.lr_rules.specs.declared.path.Path.{Path};
 ghost use Rattle.lr_rules.specs.declared.fault.CallKind.TheVariants as call;
 ghost use Rattle.lr_rules.specs.declared.fault.Fault.TheVariants as fault;
-ghost use Rattle.lr_host.specs.Told.{Left, Are, NoneFell, Rose};
+ghost use Rattle.lr_host.specs.Told.{Left, Are, Onward, Rose};
 ghost use Rattle.lr_host.specs.Steps.{CanAll};
 ghost use Rattle.lr_host.specs.declared.entry.Entry.TheVariants as entry;
 ghost use Rattle.lr_chain.specs.declared.ready.Move.{Move};
@@ -25,7 +25,7 @@ fn unlink_all<H: Host>(alloc: Global, host: &mut H, list: &[Removal]) -> Result<
     ensures within { IfErr result (λ at. at < length list.now) }
     ensures refused { IfErr result (λ at. (path : Path) → IsRemoved list.now at path → Left (StopsAt (removals_of list.now) (entry.Unlinks path)) (H.told host.old) (H.told host.new)) }
     ensures cause { OnErr result (Rose (H.counts host.old).faults (H.counts host.new).faults) }
-    ensures counts { NoneFell (H.counts host.old) (H.counts host.new) }
+    ensures counts { Onward (H.counts host.old) (H.counts host.new) }
 {
     match retire(alloc, host, list) {
         Ok(()) => Ok(()),
@@ -66,7 +66,7 @@ fn rename_all<H: Host>(host: &mut H, ready: &Ready) -> Result<(), Option<usize>>
     ensures within { IfErr result (λ place. IfSome place (λ at. at < length ready.now.moves)) }
     ensures refused { IfErr result (λ place. (path : Path) → IsMoved ready.now place path → Left (StopsFrom (turn_of ready.now) path) (H.told host.old) (H.told host.new)) }
     ensures cause { OnErr result (Rose (H.counts host.old).faults (H.counts host.new).faults) }
-    ensures counts { NoneFell (H.counts host.old) (H.counts host.new) }
+    ensures counts { Onward (H.counts host.old) (H.counts host.new) }
 {
     match turn(host, ready) {
         Ok(()) => Ok(()),
@@ -102,7 +102,7 @@ pub fn act<H: Host>(alloc: Global, host: &mut H, ready: Ready) -> Result<(), Fau
     ensures refused { IfErr result (λ f. Left (BreaksOffAt (steps_of ready) f) (H.told host.old) (H.told host.new)) }
     ensures no_out { result ≡ Err fault.Out → ⊥ }
     ensures cause { OnErr result (Rose (H.counts host.old).faults (H.counts host.new).faults) }
-    ensures counts { NoneFell (H.counts host.old) (H.counts host.new) }
+    ensures counts { Onward (H.counts host.old) (H.counts host.new) }
 {
     if let Err(at) = unlink_all(alloc, host, ready.leftovers.as_slice()) {
         let Ready { leftovers, .. } = ready;

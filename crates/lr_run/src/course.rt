@@ -2,7 +2,7 @@
 ghost use Rattle.std.specs.Prelude.{◌≡◌, Ok, Err, Some, IfOk, IfSome};
 ghost use Rattle.lr_rules.specs.declared.fault.Fault.TheVariants as fault;
 ghost use Rattle.lr_host.specs.declared.entry.Entry.TheVariants as entry;
-ghost use Rattle.lr_host.specs.Told.{Left, Can, NoneFell, Rose};
+ghost use Rattle.lr_host.specs.Told.{Left, Can, Onward, Rose};
 ghost use Rattle.lr_promise.specs.Shape.{IsRun};
 ghost use Rattle.lr_run.specs.Built.{IsBuilt};
 ghost use Rattle.lr_run.specs.Faults.{MayBeCall};
@@ -27,7 +27,7 @@ fn work<H: Host>(
     ensures told { Left (WorkEnds target result) (H.told host.old) (H.told host.new) }
     ensures cause { IfOk result (λ fault. MayBeCall fault → Rose (H.counts host.old).faults (H.counts host.new).faults) }
     ensures no_out { result ≡ Ok (Some fault.Out) → ⊥ }
-    ensures counts { NoneFell (H.counts host.old) (H.counts host.new) }
+    ensures counts { Onward (H.counts host.old) (H.counts host.new) }
 {
     match target {
         Some(target) => turn_log(alloc, host, target),
@@ -52,7 +52,7 @@ fn take_course<H: Host>(
     ensures held { result ≡ Err RunStop.Held → Rose (H.counts host.old).held (H.counts host.new).held }
     ensures cause { IfOk result (λ fault. MayBeCall fault → Rose (H.counts host.old).faults (H.counts host.new).faults) }
     ensures no_out { result ≡ Ok (Some fault.Out) → ⊥ }
-    ensures counts { NoneFell (H.counts host.old) (H.counts host.new) }
+    ensures counts { Onward (H.counts host.old) (H.counts host.new) }
 {
     let begun = match host.begin(state, now, rules) {
         Ok(begun) => begun,
@@ -83,7 +83,7 @@ pub fn make_run<H: Host>(
     ensures held { result ≡ Err RunStop.Held → Rose (H.counts host.old).held (H.counts host.new).held }
     ensures cause { IfOk result (λ fault. MayBeCall fault → Rose (H.counts host.old).faults (H.counts host.new).faults) }
     ensures no_out { result ≡ Ok (Some fault.Out) → ⊥ }
-    ensures counts { NoneFell (H.counts host.old) (H.counts host.new) }
+    ensures counts { Onward (H.counts host.old) (H.counts host.new) }
 {
     let Ok(target) = asked(alloc, rules) else {
         return Err(RunStop::Memory);

@@ -1,7 +1,7 @@
 // The looks at the state's directory and at the log.
 ghost use Rattle.std.specs.Prelude.{◌≡◌, [], OnOk, IfErr, Err};
 ghost use Rattle.lr_host.specs.declared.entry.Entry.TheVariants as entry;
-ghost use Rattle.lr_host.specs.Told.{Left, Can, NoneFell, Rose};
+ghost use Rattle.lr_host.specs.Told.{Left, Can, Onward, Rose};
 ghost use Rattle.lr_host.specs.Looks.{Sees, IsDir, IsFile};
 ghost use Rattle.lr_run.specs.Looks.{LogStopped, DirStopped};
 
@@ -24,7 +24,7 @@ pub fn look_for_log<H: Host>(host: &mut H, log: &Path) -> Result<(), LogStop>
     ensures told { OnOk result (Left (Sees log.now IsFile) (H.told host.old) (H.told host.new)) }
     ensures stopped { IfErr result (λ stop. Left (LogStopped log.now stop) (H.told host.old) (H.told host.new)) }
     ensures cause { result ≡ Err LogStop.Call → Rose (H.counts host.old).faults (H.counts host.new).faults }
-    ensures counts { NoneFell (H.counts host.old) (H.counts host.new) }
+    ensures counts { Onward (H.counts host.old) (H.counts host.new) }
 {
     let Ok(look) = host.look(log, false) else {
         return Err(LogStop::Call);
@@ -54,7 +54,7 @@ pub fn look_for_dir<H: Host>(host: &mut H, dir: &Path) -> Result<(), DirStop>
     ensures stopped { IfErr result (λ stop. Left (DirStopped dir.now stop) (H.told host.old) (H.told host.new)) }
     ensures there { OnOk result (Can (H.told host.new) (entry.List dir.now [])) }
     ensures cause { result ≡ Err DirStop.Call → Rose (H.counts host.old).faults (H.counts host.new).faults }
-    ensures counts { NoneFell (H.counts host.old) (H.counts host.new) }
+    ensures counts { Onward (H.counts host.old) (H.counts host.new) }
 {
     let Ok(look) = host.look(dir, true) else {
         return Err(DirStop::Call);

@@ -1,7 +1,7 @@
 // The work of a run on its log.
 ghost use Rattle.std.specs.Prelude.{◌≡◌, Ok, Some, IfOk};
 ghost use Rattle.lr_rules.specs.declared.fault.Fault.TheVariants as fault;
-ghost use Rattle.lr_host.specs.Told.{Left, NoneFell, Rose};
+ghost use Rattle.lr_host.specs.Told.{Left, Onward, Rose};
 ghost use Rattle.lr_run.specs.Faults.{MayBeCall};
 ghost use Rattle.lr_run.specs.Logs.{log_in, IsPlain};
 ghost use Rattle.lr_run.specs.Turning.{LogEnds};
@@ -26,7 +26,7 @@ pub fn turn_log<H: Host>(
     ensures told { Left (LogEnds (log_in target) result) (H.told host.old) (H.told host.new) }
     ensures cause { IfOk result (λ fault. MayBeCall fault → Rose (H.counts host.old).faults (H.counts host.new).faults) }
     ensures no_out { result ≡ Ok (Some fault.Out) → ⊥ }
-    ensures counts { NoneFell (H.counts host.old) (H.counts host.new) }
+    ensures counts { Onward (H.counts host.old) (H.counts host.new) }
 {
     let Target {
         word,

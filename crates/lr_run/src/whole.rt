@@ -2,7 +2,7 @@
 ghost use Rattle.std.specs.Prelude.{Any, Contains, Err, IfOk, length, vec_len, ◌++◌, ◌+◌, ◌≡◌, ◌≢◌, ◌≤◌};
 ghost use Rattle.std.specs.Vec.{vec_capacity};
 ghost use Rattle.lr_rules.specs.declared.fault.Fault.TheVariants as fault;
-ghost use Rattle.lr_host.specs.Told.{Left, NoneFell, Rose};
+ghost use Rattle.lr_host.specs.Told.{Left, Onward, Rose};
 ghost use Rattle.lr_promise.specs.Promise.{KeepsSafe};
 ghost use Rattle.lr_promise.specs.Shape.{IsRun};
 ghost use Rattle.lr_run.specs.Built.{IsBuilt};
@@ -50,7 +50,7 @@ pub fn run<H: Host>(
     ensures held { result ≡ Err RunStop.Held → Rose (H.counts host.old).held (H.counts host.new).held }
     ensures cause { IfOk result (λ ran. Any IsCall (own_of earlier.items ran.faults.items) → Rose (H.counts host.old).faults (H.counts host.new).faults) }
     ensures no_out { IfOk result (λ ran. Contains (own_of earlier.items ran.faults.items) fault.Out → ⊥) }
-    ensures counts { NoneFell (H.counts host.old) (H.counts host.new) }
+    ensures counts { Onward (H.counts host.old) (H.counts host.new) }
 {
     let mut faults = earlier;
     let Ok(()) = faults.reserve(2) else {

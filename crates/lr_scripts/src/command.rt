@@ -1,7 +1,7 @@
 // Running one program.
 ghost use Rattle.std.specs.Prelude.{[], ◌∷◌, pos, OnOk, IfErr};
 ghost use Rattle.lr_rules.specs.declared.fault.Ended.TheVariants as ended;
-ghost use Rattle.lr_host.specs.Told.{Left, Are, Can, NoneFell};
+ghost use Rattle.lr_host.specs.Told.{Left, Are, Can, Onward};
 ghost use Rattle.lr_scripts.specs.Programs.{runs, RunRefused, RunCause};
 
 use lr_host::{Host, RunFault};
@@ -40,7 +40,7 @@ pub fn run_phase<H: Host>(
     ensures told { OnOk result (Left (Are (runs command.now (ended.Exit (pos 0)) ∷ [])) (H.told host.old) (H.told host.new)) }
     ensures refused { IfErr result (λ why. Left (RunRefused command.now why) (H.told host.old) (H.told host.new)) }
     ensures cause { IfErr result (λ why. RunCause phase why (H.counts host.old) (H.counts host.new)) }
-    ensures counts { NoneFell (H.counts host.old) (H.counts host.new) }
+    ensures counts { Onward (H.counts host.old) (H.counts host.new) }
 {
     let input = command.input.as_ref();
     match host.run(alloc, &command.program, command.args.as_slice(), input) {

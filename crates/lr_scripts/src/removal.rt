@@ -1,7 +1,7 @@
 // Removing a file.
 ghost use Rattle.std.specs.Prelude.{OnOk, IfErr, option_copied};
 ghost use Rattle.lr_rules.specs.declared.fault.Ended.TheVariants as ended;
-ghost use Rattle.lr_host.specs.Told.{Left, Are, NoneFell};
+ghost use Rattle.lr_host.specs.Told.{Left, Are, Onward};
 ghost use Rattle.lr_host.specs.Steps.{CanAll};
 ghost use Rattle.lr_scripts.specs.Programs.{runs_of, MaybeRefused, MaybeCause};
 ghost use Rattle.lr_scripts.specs.Removals.{steps_of_removal, RemovalRefused, RemovalCause};
@@ -30,7 +30,7 @@ fn run_where_given<H: Host>(
     ensures told { OnOk result (Left (Are (runs_of (option_copied command.entry))) (H.told host.old) (H.told host.new)) }
     ensures refused { IfErr result (λ why. Left (MaybeRefused (option_copied command.entry) why) (H.told host.old) (H.told host.new)) }
     ensures cause { IfErr result (λ why. MaybeCause phase (option_copied command.entry) why (H.counts host.old) (H.counts host.new)) }
-    ensures counts { NoneFell (H.counts host.old) (H.counts host.new) }
+    ensures counts { Onward (H.counts host.old) (H.counts host.new) }
 {
     match command {
         Some(command) => run_phase(alloc, host, phase, command),
@@ -45,7 +45,7 @@ pub fn remove<H: Host>(alloc: Global, host: &mut H, removal: &Removal) -> Result
     ensures told { OnOk result (Left (Are (steps_of_removal removal.now)) (H.told host.old) (H.told host.new)) }
     ensures refused { IfErr result (λ why. Left (RemovalRefused removal.now why) (H.told host.old) (H.told host.new)) }
     ensures cause { IfErr result (λ why. RemovalCause removal.now why (H.counts host.old) (H.counts host.new)) }
-    ensures counts { NoneFell (H.counts host.old) (H.counts host.new) }
+    ensures counts { Onward (H.counts host.old) (H.counts host.new) }
 {
     run_where_given(alloc, host, Phase::Preremove, removal.preremove.as_ref())?;
     run_where_given(alloc, host, Phase::Mail, removal.mail.as_ref())?;

@@ -4,7 +4,7 @@ ghost use Rattle.lr_rules.specs.declared.fault.Ended.TheVariants as ended;
 ghost use Rattle.lr_host.specs.declared.entry.Entry.TheVariants as entry;
 ghost use Rattle.lr_host.specs.declared.thing.Thing.TheVariants as thing;
 ghost use Rattle.lr_host.specs.World.{world, past, names};
-ghost use Rattle.lr_host.specs.Told.{NoneFell, Rose, Left, Are, Gave, Did, DidWhere, DidPart, DidRun, WhereTold, Can};
+ghost use Rattle.lr_host.specs.Told.{Onward, Rose, Left, Are, Gave, Did, DidWhere, DidPart, DidRun, WhereTold, Can};
 ghost use Rattle.lr_disk.specs.Bytes.{GivesAll};
 ghost use Rattle.lr_memhost.specs.How.{idles};
 ghost use Rattle.lr_memhost.specs.Acts.{View, counts_of, how_at, one_more, first_end, after_end, IsFree, IsListed, Starved, Turned};
@@ -35,7 +35,7 @@ impl Host for MemHost {
         ensures told { Left (DidWhere result (entry.Starts state.now now.now rules.now)) (Some self.old.journal) (Some self.new.journal) }
         ensures held { result ≡ Ok false → Rose self.old.rest.held self.new.rest.held }
         ensures cause { OnErr result (Rose self.old.faults self.new.faults) }
-        ensures counts { NoneFell (counts_of self.old) (counts_of self.new) }
+        ensures counts { Onward (counts_of self.old) (counts_of self.new) }
         ensures turned { Turned (DidWhere result (entry.Starts state.now now.now rules.now)) self.old self.new }
         ensures only { OnErr result (IsListed self.old ⊎ Starved self.old self.new) }
         ensures listed { IsListed self.old → IsErr result }
@@ -59,7 +59,7 @@ impl Host for MemHost {
     fn end(&mut self)
         requires { (world (past self.old.journal)).running ≡ true }
         ensures told { Left (Are (entry.Ends ∷ [])) (Some self.old.journal) (Some self.new.journal) }
-        ensures counts { NoneFell (counts_of self.old) (counts_of self.new) }
+        ensures counts { Onward (counts_of self.old) (counts_of self.new) }
         ensures turned { Turned (Are (entry.Ends ∷ [])) self.old self.new }
         ensures faults { self.new.faults ≡ self.old.faults }
         ensures rest { self.new.rest ≡ record self.old.rest { mine = false } }
@@ -73,7 +73,7 @@ impl Host for MemHost {
     fn look(&mut self, path: &Path, _follow: bool) -> Result<Option<Seen>, CallFault>
         ensures told { Left (Gave result (λ seen. entry.Look path.now seen)) (Some self.old.journal) (Some self.new.journal) }
         ensures cause { OnErr result (Rose self.old.faults self.new.faults) }
-        ensures counts { NoneFell (counts_of self.old) (counts_of self.new) }
+        ensures counts { Onward (counts_of self.old) (counts_of self.new) }
         ensures rest { self.new.rest ≡ self.old.rest }
         ensures turned { Turned (Gave result (λ seen. entry.Look path.now seen)) self.old self.new }
         ensures only { OnErr result (IsListed self.old ⊎ Starved self.old self.new) }
@@ -94,7 +94,7 @@ impl Host for MemHost {
         ensures kept { take (length names.old.items) names.new.items ≡ names.old.items }
         ensures told { Left (Gave result (λ done. entry.List dir.now (drop (length names.old.items) names.new.items))) (Some self.old.journal) (Some self.new.journal) }
         ensures cause { result ≡ Err ListFault.Failed → Rose self.old.faults self.new.faults }
-        ensures counts { NoneFell (counts_of self.old) (counts_of self.new) }
+        ensures counts { Onward (counts_of self.old) (counts_of self.new) }
         ensures rest { self.new.rest ≡ self.old.rest }
         ensures turned { Turned (Gave result (λ done. entry.List dir.now (drop (length names.old.items) names.new.items))) self.old self.new }
         ensures only { result ≡ Err ListFault.Failed → IsListed self.old }
@@ -117,7 +117,7 @@ impl Host for MemHost {
         ensures bound { IfOk result (λ count. count ≤ length into.new) }
         ensures told { Left (Gave result (λ count. entry.Reads path.now from (take count into.new))) (Some self.old.journal) (Some self.new.journal) }
         ensures cause { OnErr result (Rose self.old.faults self.new.faults) }
-        ensures counts { NoneFell (counts_of self.old) (counts_of self.new) }
+        ensures counts { Onward (counts_of self.old) (counts_of self.new) }
         ensures rest { self.new.rest ≡ self.old.rest }
         ensures turned { Turned (Gave result (λ count. entry.Reads path.now from (take count into.new))) self.old self.new }
         ensures only { OnErr result (IsListed self.old ⊎ Starved self.old self.new) }
@@ -138,7 +138,7 @@ impl Host for MemHost {
         requires { Can (Some self.old.journal) (entry.Renames from.now to.now) }
         ensures told { Left (Did result (entry.Renames from.now to.now)) (Some self.old.journal) (Some self.new.journal) }
         ensures cause { OnErr result (Rose self.old.faults self.new.faults) }
-        ensures counts { NoneFell (counts_of self.old) (counts_of self.new) }
+        ensures counts { Onward (counts_of self.old) (counts_of self.new) }
         ensures turned { Turned (Did result (entry.Renames from.now to.now)) self.old self.new }
         ensures only { OnErr result (IsListed self.old ⊎ Starved self.old self.new) }
         ensures listed { IsListed self.old → IsErr result }
@@ -158,7 +158,7 @@ impl Host for MemHost {
         ensures told { Left (DidWhere result (entry.Makes path.now mode)) (Some self.old.journal) (Some self.new.journal) }
         ensures named { result ≡ Ok false → names (world (past self.new.journal)) path.now ≢ thing.Nothing }
         ensures cause { OnErr result (Rose self.old.faults self.new.faults) }
-        ensures counts { NoneFell (counts_of self.old) (counts_of self.new) }
+        ensures counts { Onward (counts_of self.old) (counts_of self.new) }
         ensures turned { Turned (DidWhere result (entry.Makes path.now mode)) self.old self.new }
         ensures only { OnErr result (IsListed self.old ⊎ Starved self.old self.new) }
         ensures listed { IsListed self.old → IsErr result }
@@ -179,7 +179,7 @@ impl Host for MemHost {
         ensures some { IfOk result (λ count. 0 < length piece.now → 0 < count) }
         ensures told { Left (DidPart result path.now piece.now) (Some self.old.journal) (Some self.new.journal) }
         ensures cause { OnErr result (Rose self.old.faults self.new.faults) }
-        ensures counts { NoneFell (counts_of self.old) (counts_of self.new) }
+        ensures counts { Onward (counts_of self.old) (counts_of self.new) }
         ensures turned { Turned (DidPart result path.now piece.now) self.old self.new }
         ensures only { OnErr result (IsListed self.old ⊎ Starved self.old self.new) }
         ensures listed { IsListed self.old → IsErr result }
@@ -210,7 +210,7 @@ impl Host for MemHost {
         requires { Can (Some self.old.journal) (entry.Truncates path.now) }
         ensures told { Left (Did result (entry.Truncates path.now)) (Some self.old.journal) (Some self.new.journal) }
         ensures cause { OnErr result (Rose self.old.faults self.new.faults) }
-        ensures counts { NoneFell (counts_of self.old) (counts_of self.new) }
+        ensures counts { Onward (counts_of self.old) (counts_of self.new) }
         ensures turned { Turned (Did result (entry.Truncates path.now)) self.old self.new }
         ensures only { OnErr result (IsListed self.old ⊎ Starved self.old self.new) }
         ensures listed { IsListed self.old → IsErr result }
@@ -228,7 +228,7 @@ impl Host for MemHost {
         requires { Can (Some self.old.journal) (entry.Unlinks path.now) }
         ensures told { Left (Did result (entry.Unlinks path.now)) (Some self.old.journal) (Some self.new.journal) }
         ensures cause { OnErr result (Rose self.old.faults self.new.faults) }
-        ensures counts { NoneFell (counts_of self.old) (counts_of self.new) }
+        ensures counts { Onward (counts_of self.old) (counts_of self.new) }
         ensures turned { Turned (Did result (entry.Unlinks path.now)) self.old self.new }
         ensures only { OnErr result (IsListed self.old ⊎ Starved self.old self.new) }
         ensures listed { IsListed self.old → IsErr result }
@@ -246,7 +246,7 @@ impl Host for MemHost {
         requires { Can (Some self.old.journal) (entry.SyncsFile path.now) }
         ensures told { Left (Did result (entry.SyncsFile path.now)) (Some self.old.journal) (Some self.new.journal) }
         ensures cause { OnErr result (Rose self.old.faults self.new.faults) }
-        ensures counts { NoneFell (counts_of self.old) (counts_of self.new) }
+        ensures counts { Onward (counts_of self.old) (counts_of self.new) }
         ensures turned { Turned (Did result (entry.SyncsFile path.now)) self.old self.new }
         ensures only { OnErr result (IsListed self.old ⊎ Starved self.old self.new) }
         ensures listed { IsListed self.old → IsErr result }
@@ -264,7 +264,7 @@ impl Host for MemHost {
         requires { Can (Some self.old.journal) (entry.SyncsDir path.now) }
         ensures told { Left (Did result (entry.SyncsDir path.now)) (Some self.old.journal) (Some self.new.journal) }
         ensures cause { OnErr result (Rose self.old.faults self.new.faults) }
-        ensures counts { NoneFell (counts_of self.old) (counts_of self.new) }
+        ensures counts { Onward (counts_of self.old) (counts_of self.new) }
         ensures turned { Turned (Did result (entry.SyncsDir path.now)) self.old self.new }
         ensures only { OnErr result (IsListed self.old ⊎ Starved self.old self.new) }
         ensures listed { IsListed self.old → IsErr result }
@@ -284,7 +284,7 @@ impl Host for MemHost {
         ensures told { Left (DidWhere result (entry.MakesDir path.now mode)) (Some self.old.journal) (Some self.new.journal) }
         ensures named { result ≡ Ok false → names (world (past self.new.journal)) path.now ≢ thing.Nothing }
         ensures cause { OnErr result (Rose self.old.faults self.new.faults) }
-        ensures counts { NoneFell (counts_of self.old) (counts_of self.new) }
+        ensures counts { Onward (counts_of self.old) (counts_of self.new) }
         ensures turned { Turned (DidWhere result (entry.MakesDir path.now mode)) self.old self.new }
         ensures only { OnErr result (IsListed self.old ⊎ Starved self.old self.new) }
         ensures listed { IsListed self.old → IsErr result }
@@ -311,7 +311,7 @@ impl Host for MemHost {
         ensures memory { result ≡ Err RunFault.Memory → Left (Are []) (Some self.old.journal) (Some self.new.journal) }
         ensures bad { IfOk result (λ end. end ≢ ended.Exit (pos 0) → Rose self.old.rest.bad_ends self.new.rest.bad_ends) }
         ensures cause { result ≡ Err RunFault.Failed → Rose self.old.faults self.new.faults }
-        ensures counts { NoneFell (counts_of self.old) (counts_of self.new) }
+        ensures counts { Onward (counts_of self.old) (counts_of self.new) }
         ensures turned { Turned (DidRun result (λ end. entry.Runs program.now args.now (option_copied input.entry) end)) self.old self.new }
         ensures only { result ≡ Err RunFault.Failed → IsListed self.old }
         ensures listed { IsListed self.old → IsErr result }

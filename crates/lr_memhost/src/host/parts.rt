@@ -4,7 +4,7 @@ ghost use Rattle.lr_rules.specs.declared.fault.Ended.{Ended};
 ghost use Rattle.lr_host.specs.declared.entry.Entry.{Entry};
 ghost use Rattle.lr_host.specs.declared.thing.Thing.TheVariants as thing;
 ghost use Rattle.lr_host.specs.World.{world, past, names};
-ghost use Rattle.lr_host.specs.Told.{NoneFell, Rose, Are, Did, DidWhere, Can};
+ghost use Rattle.lr_host.specs.Told.{Onward, Rose, Are, Did, DidWhere, Can};
 ghost use Rattle.lr_memhost.specs.How.{idles};
 ghost use Rattle.lr_memhost.specs.Acts.{counts_of, how_at, one_more, first_end, is_bad, after_end, IsFree, Starved, Turned, IsSure, IsMaking};
 ghost use Rattle.lr_memhost.specs.declared.act.How.TheVariants as way;

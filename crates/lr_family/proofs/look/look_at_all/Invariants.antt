@@ -1,7 +1,7 @@
 use Rattle.std.proofs.Common.{◌≡◌, List, ◌++◌}
 use Rattle.std.specs.Vec.Iter.{into_iter_items}
 use Rattle.lr_rules.specs.declared.rule.Naming.{Naming}
-use Rattle.lr_host.specs.Told.{Left, NoneFell}
+use Rattle.lr_host.specs.Told.{Left, Onward}
 use Rattle.lr_family.specs.declared.spot.Spot.{Spot}
 use Rattle.lr_family.specs.Looks.{Shows}
 use Rattle.lr_family.specs.Places.{AreNamed}
@@ -14,5 +14,5 @@ invariant-loop-spot g l = record {
   seam : into_iter_items l.initial.spot-iterator ≡ done ++ into_iter_items l.spot-iterator;
   told : Left (Shows done l.members.items) (g.H.Host.told l.initial.host) (g.H.Host.told l.host);
   named : (n : Naming) → HavePaths n done → AreNamed n l.members.items;
-  counts : NoneFell (g.H.Host.counts l.initial.host) (g.H.Host.counts l.host);
+  counts : Onward (g.H.Host.counts l.initial.host) (g.H.Host.counts l.host);
 }

@@ -1,6 +1,6 @@
 use Rattle.std.proofs.Common.{◌≤◌, ◌-◌, [], length}
 use Rattle.lr_host.specs.declared.entry.Entry.TheVariants as entry
-use Rattle.lr_host.specs.Told.{Left, Can, NoneFell}
+use Rattle.lr_host.specs.Told.{Left, Can, Onward}
 use Rattle.lr_host.specs.Reading.{ReadsOf}
 use Rattle.lr_include.proofs.text.read_up_to.Given as goal
 
@@ -9,7 +9,7 @@ invariant-loop-piece g l = record {
   told : Left (ReadsOf l.path l.bytes.items) (g.H.Host.told l.initial.host) (g.H.Host.told l.host);
   file : Can (g.H.Host.told l.host) (entry.Reads l.path 0 []);
   within : length l.bytes.items ≤ length l.initial.piece;
-  counts : NoneFell (g.H.Host.counts l.initial.host) (g.H.Host.counts l.host);
+  counts : Onward (g.H.Host.counts l.initial.host) (g.H.Host.counts l.host);
 }
 
 abbrev pub decreases-loop-piece : goal.decreases-loop-piece
