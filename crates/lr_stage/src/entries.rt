@@ -1,0 +1,153 @@
+// What the entries of a journal are, as a text with a line for each.
+use lr_line::put_quoted;
+use lr_host::Entry;
+use lr_rules::{Count, Ended, Path, Rules, Text};
+use std::alloc::{AllocError, Global};
+
+fn put(into: &mut Vec<u8>, word: &[u8], path: &Path) -> Result<(), AllocError> {
+    into.extend_from_slice(word)?;
+    into.push(b' ')?;
+    into.extend_from_slice(path.bytes())
+}
+
+fn put_two(into: &mut Vec<u8>, word: &[u8], path: &Path, other: &Path) -> Result<(), AllocError> {
+    put(into, word, path)?;
+    into.push(b' ')?;
+    into.extend_from_slice(other.bytes())
+}
+
+fn put_bytes(into: &mut Vec<u8>, word: &[u8], path: &Path, bytes: &[u8]) -> Result<(), AllocError> {
+    put(into, word, path)?;
+    into.push(b' ')?;
+    put_quoted(into, bytes)
+}
+
+fn put_count(into: &mut Vec<u8>, alloc: Global, count: Count) -> Result<(), AllocError> {
+    let text = match count {
+        Count::Keep(most) => format!(in alloc; " keep {most}")?,
+        Count::Always => format!(in alloc; " keep all")?,
+    };
+    into.extend_from_slice(text.as_bytes())
+}
+
+// A begin, with the count of each of its rules.
+fn put_begin(
+    into: &mut Vec<u8>,
+    alloc: Global,
+    state: &Path,
+    rules: &Rules,
+) -> Result<(), AllocError> {
+    put(into, b"begin", state)?;
+    for rule in rules.sets.as_slice() {
+        put_count(into, alloc, rule.count)?;
+    }
+    Ok(())
+}
+
+fn put_ended(into: &mut Vec<u8>, alloc: Global, ended: Ended) -> Result<(), AllocError> {
+    let text = match ended {
+        Ended::Exit(status) => format!(in alloc; " exit {status}")?,
+        Ended::Killed => format!(in alloc; " killed")?,
+    };
+    into.extend_from_slice(text.as_bytes())
+}
+
+// A program with its arguments, its input and its end.
+fn put_run(
+    into: &mut Vec<u8>,
+    alloc: Global,
+    program: &Path,
+    args: &[Text],
+    input: Option<&Path>,
+    ended: Ended,
+) -> Result<(), AllocError> {
+    put(into, b"run", program)?;
+    for arg in args {
+        into.push(b' ')?;
+        put_quoted(into, arg.bytes())?;
+    }
+    if let Some(path) = input {
+        put(into, b" <", path)?;
+    }
+    put_ended(into, alloc, ended)
+}
+
+fn put_entry(into: &mut Vec<u8>, alloc: Global, entry: &Entry) -> Result<(), AllocError> {
+    match entry {
+        Entry::Starts { state, rules, .. } => put_begin(into, alloc, state, rules),
+        Entry::Ends => into.extend_from_slice(b"end"),
+        Entry::Look { path, .. } => put(into, b"look", path),
+        Entry::List { dir, .. } => put(into, b"list", dir),
+        Entry::Reads { path, .. } => put(into, b"read", path),
+        Entry::Renames { from, to } => put_two(into, b"rename", from, to),
+        Entry::Makes { path, .. } => put(into, b"make", path),
+        Entry::Appends { path, bytes } => put_bytes(into, b"append", path, bytes.as_slice()),
+        Entry::Truncates { path } => put(into, b"truncate", path),
+        Entry::Unlinks { path } => put(into, b"unlink", path),
+        Entry::SyncsFile { path } => put(into, b"sync", path),
+        Entry::SyncsDir { path } => put(into, b"sync-dir", path),
+        Entry::MakesDir { path, .. } => put(into, b"make-dir", path),
+        Entry::Runs {
+            program,
+            args,
+            input,
+            ended,
+        } => put_run(
+            into,
+            alloc,
+            program,
+            args.as_slice(),
+            input.as_ref(),
+            *ended,
+        ),
+        _ => into.extend_from_slice(b"writer"),
+    }
+}
+
+// An entry of the tool that leaves the disk as it was.
+fn is_quiet(entry: &Entry) -> bool {
+    matches!(
+        entry,
+        Entry::Starts { .. }
+            | Entry::Ends
+            | Entry::Look { .. }
+            | Entry::List { .. }
+            | Entry::Reads { .. }
+    )
+}
+
+// An act of a writer, or a cut.
+fn is_from_outside(entry: &Entry) -> bool {
+    matches!(
+        entry,
+        Entry::Attach { .. }
+            | Entry::Feed { .. }
+            | Entry::Flush { .. }
+            | Entry::Detach { .. }
+            | Entry::Cut { .. }
+    )
+}
+
+/// The calls among the entries behind the first `from`.
+pub fn entries_text(alloc: Global, all: &[Entry], from: usize) -> Result<Vec<u8>, AllocError> {
+    let mut text = Vec::new(alloc);
+    for (at, entry) in all.iter().enumerate() {
+        if at >= from && !is_from_outside(entry) {
+            put_entry(&mut text, alloc, entry)?;
+            text.push(b'\n')?;
+        }
+    }
+    Ok(text)
+}
+
+/// The calls that change something, among the entries behind the first `from`.
+pub fn changes_text(alloc: Global, all: &[Entry], from: usize) -> Result<Vec<u8>, AllocError> {
+    let mut text = Vec::new(alloc);
+    for (at, entry) in all.iter().enumerate() {
+        if at >= from && !is_from_outside(entry) && !is_quiet(entry) {
+            put_entry(&mut text, alloc, entry)?;
+            text.push(b'\n')?;
+        }
+    }
+    Ok(text)
+}
