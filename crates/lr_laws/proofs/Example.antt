@@ -134,10 +134,10 @@ key_at s c place x m = (keys x (pos place)).1 (place, refl, subst (λ n. IsMembe
 pub key_first : (s : LogSet) → IsOfChain s → s.key first ≡ Some (pos 0)
 key_first s c = key_at s c 0 first (named_by 1 0 refl (omega arith))
 
-key_second : (s : LogSet) → IsOfChain s → s.key second ≡ Some (pos 1)
+pub key_second : (s : LogSet) → IsOfChain s → s.key second ≡ Some (pos 1)
 key_second s c = key_at s c 1 second (named_by 2 1 refl (omega arith))
 
-key_third : (s : LogSet) → IsOfChain s → s.key third ≡ Some (pos 2)
+pub key_third : (s : LogSet) → IsOfChain s → s.key third ≡ Some (pos 2)
 key_third s c = key_at s c 2 third (named_by 3 2 refl (omega arith))
 
 -- ---- step by step
@@ -161,11 +161,11 @@ rename_fits w from to g file free dir other = ((g, file), (λ e. clash_dir (name
     clash_other t a b = cc
 
 -- a member that is ready goes one place further, and those before it stay ready
-record IsReadyGood (s : LogSet) (p : Past) (limit : ℕ) : Type 0 where
-  good : IsGood s p
-  ready : IsReady s p limit
+pub record IsReadyGood (s : LogSet) (p : Past) (limit : ℕ) : Type 0 where
+  pub good : IsGood s p
+  pub ready : IsReady s p limit
 
-moved_on : (s : LogSet) → IsOfChain s → (p : Past) (from to : Path) (place limit g : ℕ) → IsReadyGood s p limit → place < limit → s.key from ≡ Some (pos place) → s.key to ≡ Some (pos (place + 1))
+pub moved_on : (s : LogSet) → IsOfChain s → (p : Past) (from to : Path) (place limit g : ℕ) → IsReadyGood s p limit → place < limit → s.key from ≡ Some (pos place) → s.key to ≡ Some (pos (place + 1))
     → names (world p) from ≡ thing.File g → names (world p) to ≡ thing.Nothing → names (world p) (parent_of to) ≡ thing.Directory → bytes_eq from to ≡ false → IsReadyGood s (p ▸ Renames from to) place
 moved_on s c p from to place limit g r lt is is' file free dir other = record {
   good = good_on s p (Renames from to) r.good fits (moves s p from to place r.good.journal r.good.safe (numbered s c) is is' free (r.ready from place is lt));
@@ -175,25 +175,25 @@ moved_on s c p from to place limit g r lt is is' file free dir other = record {
     fits : Fits (world p) (Renames from to)
     fits = rename_fits (world p) from to g file free dir other
 
-turned_on : (s : LogSet) → IsOfChain s → (p : Past) (g : ℕ) → IsGood s p → names (world p) log ≡ thing.File g → names (world p) first ≡ thing.Nothing → names (world p) (parent_of first) ≡ thing.Directory → IsGood s (p ▸ Renames log first)
+pub turned_on : (s : LogSet) → IsOfChain s → (p : Past) (g : ℕ) → IsGood s p → names (world p) log ≡ thing.File g → names (world p) first ≡ thing.Nothing → names (world p) (parent_of first) ≡ thing.Directory → IsGood s (p ▸ Renames log first)
 turned_on s c p g good file free dir = good_on s p (Renames log first) good (rename_fits (world p) log first g file free dir refl) (subst (λ (x : Path). MayFollow s p (Renames x first)) c.log_is (may_turn s p first (numbered s c) (key_first s c) free))
 
-gone_on : (s : LogSet) → IsOfChain s → (p : Past) (g : ℕ) → rules_of p ≡ rule ∷ [] → IsGood s p → names (world p) third ≡ thing.File g → IsGood s (p ▸ Unlinks third)
+pub gone_on : (s : LogSet) → IsOfChain s → (p : Past) (g : ℕ) → rules_of p ≡ rule ∷ [] → IsGood s p → names (world p) third ≡ thing.File g → IsGood s (p ▸ Unlinks third)
 gone_on s c p g same good file = good_on s p (Unlinks third) good (g, file) (unlinks s p third 2 2 good.journal good.safe (numbered s c) (key_third s c) (omega arith) (subst (λ rs. SomeRule rs s.log (λ r. r.count ≡ Keep 2)) (sym same) (some_rule s c)))
 
 gone_ready : (s : LogSet) → IsOfChain s → (p : Past) (g limit : ℕ) → rules_of p ≡ rule ∷ [] → IsReadyGood s p limit → names (world p) third ≡ thing.File g → IsReadyGood s (p ▸ Unlinks third) limit
 gone_ready s c p g limit same r file = record { good = gone_on s c p g same r.good file; ready = ready_behind_unlink s p third limit (r.good.journal, (g, file)) r.good.safe r.ready }
 
-begun_on : (s : LogSet) → IsOfChain s → (p : Past) (now : Moment) → IsGood s p → names (world p) (parent_of (codes "/s/status")) ≡ thing.Directory → IsReadyGood s (begins p now) 2
+pub begun_on : (s : LogSet) → IsOfChain s → (p : Past) (now : Moment) → IsGood s p → names (world p) (parent_of (codes "/s/status")) ≡ thing.Directory → IsReadyGood s (begins p now) 2
 begun_on s c p now good dir = record { good = here; ready = ready_first s (begins p now) 2 here.safe (numbered s c) refl }
   where
     here : IsGood s (begins p now)
     here = record { journal = (good.journal, dir); safe = quiet_safe s p (Starts (codes "/s/status") now rules) (good.journal, dir) good.safe tt }
 
-ended_on : (s : LogSet) (p : Past) → IsGood s p → (world p).running ≡ true → IsGood s (p ▸ Ends)
+pub ended_on : (s : LogSet) (p : Past) → IsGood s p → (world p).running ≡ true → IsGood s (p ▸ Ends)
 ended_on s p good is = record { journal = (good.journal, is); safe = quiet_safe s p Ends (good.journal, is) good.safe tt }
 
-opens : (s : LogSet) → IsGood s (Opens found)
+pub opens : (s : LogSet) → IsGood s (Opens found)
 opens s = record { journal = found_valid; safe = at_first s found found_valid }
 
 first_run : (s : LogSet) (now : Moment) → IsOfChain s → IsReadyGood s (begins (Opens found) now) 2
