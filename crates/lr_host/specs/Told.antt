@@ -46,7 +46,7 @@ IsTools (entry.Detach writer) = ⊥
 IsTools (entry.Cut kept lengths) = ⊥
 IsTools _ = Unit {0}
 
--- The tool left these entries, the newest first, and writers theirs between them; each fits the world before it.
+-- The tool left these entries, the newest first, and writers theirs between them; each fits the world before it. Writers may act also behind the last of them, up to the answer.
 pub data Made (p : Past) : List Entry → Past → Type 0 where
   at_first : Made p [] p
   by_writer : {es : List Entry} {q : Past} {e : Entry} → Made p es q → IsWriters e → Fits (world q) e → Made p es (q ▸ e)

@@ -1,6 +1,7 @@
 -- The limits that the values of a rule meet.
 use Rattle.std.specs.Prelude.{◌+◌, ℕ, Bool, true, false, not, ◌&&◌, ◌||◌, ◌==◌, List, [], ◌∷◌, length, Option, Some, None, nat_le, if◌then◌else◌}
 use Rattle.std.specs.List.{list_any, list_all}
+use Rattle.std.specs.Str.{is_utf8}
 use Rattle.lr_rules.specs.declared.rule.Count.{Count}
 use Rattle.lr_rules.specs.declared.rule.Count.TheVariants as count
 use Rattle.lr_rules.specs.declared.rule.Criterion.{Criterion}
@@ -105,11 +106,21 @@ abbrev pub is_plain_piece : Piece → Bool
 is_plain_piece (piece.Byte b) = not (b == 37 || (is_slash b || is_bad b))
 is_plain_piece (piece.Field f) = true
 
+-- the letter of a field
+abbrev pub letter : Field → ℕ
+letter field.Year = 89
+letter field.Month = 109
+letter field.Day = 100
+letter field.Hour = 72
+letter field.Minute = 77
+letter field.Second = 83
+letter field.Epoch = 115
+
 -- the bytes by which the format was written: `%` and a letter for a field
-abbrev pub written : List Piece → ℕ
-written [] = 0
-written (piece.Byte b ∷ pieces) = 1 + written pieces
-written (piece.Field f ∷ pieces) = 2 + written pieces
+abbrev pub written : List Piece → List ℕ
+written [] = []
+written (piece.Byte b ∷ pieces) = b ∷ written pieces
+written (piece.Field f ∷ pieces) = 37 ∷ letter f ∷ written pieces
 
 -- no field of these ranks stands more than once, and where one stands, those before it do
 abbrev pub are_first : List Piece → Bool
@@ -123,7 +134,7 @@ is_epoch_alone pieces =
     times 6 pieces == 1 && (times 0 pieces == 0 && (times 1 pieces == 0 && (times 2 pieces == 0 && (times 3 pieces == 0 && (times 4 pieces == 0 && times 5 pieces == 0)))))
 
 abbrev pub is_format : Format → Bool
-is_format f = list_all is_plain_piece f.pieces && (nat_le (written f.pieces) 64 && (are_first f.pieces || is_epoch_alone f.pieces))
+is_format f = list_all is_plain_piece f.pieces && (is_utf8 (written f.pieces) && (nat_le (length (written f.pieces)) 64 && (are_first f.pieces || is_epoch_alone f.pieces)))
 
 -- ---- rules
 

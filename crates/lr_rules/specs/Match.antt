@@ -5,12 +5,17 @@ use Rattle.lr_rules.specs.declared.path.Path.{Path}
 use Rattle.lr_rules.specs.declared.rule.Rule.{Rule}
 use Rattle.lr_rules.specs.Path.{is_slash}
 
--- the signs of a class hold the character: single ones, and ranges `a-b`; a `-` at either end is itself
+-- single signs, and ranges `a-b`, hold the character; a `-` at the end is itself
+abbrev pub ranges_have : List ℕ → ℕ → Bool
+ranges_have [] c = false
+ranges_have (a ∷ []) c = a == c
+ranges_have (a ∷ b ∷ []) c = a == c || b == c
+ranges_have (a ∷ dash ∷ b ∷ signs) c = cond (dash == 45) ((nat_le a c && nat_le c b) || ranges_have signs c) (a == c || ranges_have (dash ∷ b ∷ signs) c)
+
+-- the signs of a class hold the character: a `-` at the head is itself too
 abbrev pub class_has : List ℕ → ℕ → Bool
 class_has [] c = false
-class_has (a ∷ []) c = a == c
-class_has (a ∷ b ∷ []) c = a == c || b == c
-class_has (a ∷ dash ∷ b ∷ signs) c = cond (dash == 45) ((nat_le a c && nat_le c b) || class_has signs c) (a == c || class_has (dash ∷ b ∷ signs) c)
+class_has (a ∷ signs) c = cond (a == 45) (a == c || ranges_have signs c) (ranges_have (a ∷ signs) c)
 
 -- it closes a class
 abbrev pub is_close : ℕ → Bool
