@@ -2,16 +2,13 @@
 use Rattle.std.proofs.Common.{◌≡◌, ℕ, Bool, true, false, not, cond, ◌||◌, List, [], ◌∷◌, ◌++◌, Option, Some, None, refl, ap, ◌∙◌, subst, sym, append_assoc, nat_lt, length}
 use Rattle.std.specs.List.{list_any, slice_split, onto_first, All}
 use Rattle.std.specs.Str.{is_utf8}
+use Rattle.std.proofs.lemmas.Bool.{or_parts}
 use Rattle.std.proofs.lemmas.List.{append-nil}
 use Rattle.std.proofs.lemmas.List.Elements.{All-nil, All-cons}
 use Rattle.std.proofs.lemmas.List.Splits.{slice_split_none, slice_split_at}
 use Rattle.lr_rules.specs.declared.path.PathFault.{PathFault}
 use Rattle.lr_rules.specs.declared.path.PathFault.TheVariants as fault
 use Rattle.lr_rules.specs.Path.{path_fault, is_slash, is_empty, is_absolute, has_bad_byte, has_empty_part, has_dot_part, is_kept, behind_slash, behind_slashes, kept_parts, or_root, cleaned}
-
-or_false : (a b : Bool) → (a || b) ≡ false → (a ≡ false) × (b ≡ false)
-or_false true b h = absurd (cc)
-or_false false b h = (refl, h)
 
 -- parts without a slash
 abbrev ArePlain : List (List ℕ) → Type 0
@@ -40,7 +37,7 @@ slashes-append (p ∷ ps) qs = ap (λ xs. behind_slash p ++ xs) (slashes-append 
 
 all_plain : (bs : List ℕ) → list_any is_slash bs ≡ false → All (λ b. is_slash b ≡ false) bs
 all_plain [] h = All-nil (λ b. is_slash b ≡ false)
-all_plain (b ∷ bs) h = let o = or_false (is_slash b) (list_any is_slash bs) h in All-cons (λ b. is_slash b ≡ false) b bs o.0 (all_plain bs o.1)
+all_plain (b ∷ bs) h = let o = or_parts (is_slash b) (list_any is_slash bs) h in All-cons (λ b. is_slash b ≡ false) b bs o.0 (all_plain bs o.1)
 
 -- no part is empty
 abbrev IsFull : List ℕ → Type 0
