@@ -1,3 +1,4 @@
+pub mod Between
 pub mod Civil
 pub mod Limits
 pub mod Match

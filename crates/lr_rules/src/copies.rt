@@ -1,7 +1,7 @@
 // Copies of rules.
 ghost use Rattle.std.specs.Prelude.{◌≡◌, IfOk};
 
-use crate::{Format, Listed, Memory, Rule, Rules, Scripts, Text};
+use crate::{Format, Listed, Memory, Path, Rule, Rules, Scripts, Text};
 use std::alloc::Global;
 
 /// A copy of the texts.
@@ -24,15 +24,42 @@ fn copy_text(alloc: Global, text: &Option<Text>) -> Result<Option<Text>, Memory>
     }
 }
 
+// Rules and scripts are copied by parts, each with few ways out of it, and put together where nothing can fail: the
+// check of a function grows much faster than the number of values that it may have to let go.
+
+// The scripts before a rotation: `first` and `pre`.
+fn copy_early(alloc: Global, scripts: &Scripts) -> Result<(Option<Text>, Option<Text>), Memory>
+    ensures { IfOk result (λ copy. (copy.0 ≡ scripts.now.first) × (copy.1 ≡ scripts.now.pre)) }
+{
+    let first = copy_text(alloc, &scripts.first)?;
+    let pre = copy_text(alloc, &scripts.pre)?;
+    Ok((first, pre))
+}
+
+// The scripts behind one: `post`, `last` and `preremove`.
+fn copy_late(
+    alloc: Global,
+    scripts: &Scripts,
+) -> Result<(Option<Text>, Option<Text>, Option<Text>), Memory>
+    ensures { IfOk result (λ copy. (copy.0 ≡ scripts.now.post) × (copy.1 ≡ scripts.now.last) × (copy.2 ≡ scripts.now.preremove)) }
+{
+    let post = copy_text(alloc, &scripts.post)?;
+    let last = copy_text(alloc, &scripts.last)?;
+    let preremove = copy_text(alloc, &scripts.preremove)?;
+    Ok((post, last, preremove))
+}
+
 fn copy_scripts(alloc: Global, scripts: &Scripts) -> Result<Scripts, Memory>
     ensures { IfOk result (λ copy. copy ≡ scripts.now) }
 {
+    let (first, pre) = copy_early(alloc, scripts)?;
+    let (post, last, preremove) = copy_late(alloc, scripts)?;
     Ok(Scripts {
-        first: copy_text(alloc, &scripts.first)?,
-        pre: copy_text(alloc, &scripts.pre)?,
-        post: copy_text(alloc, &scripts.post)?,
-        last: copy_text(alloc, &scripts.last)?,
-        preremove: copy_text(alloc, &scripts.preremove)?,
+        first,
+        pre,
+        post,
+        last,
+        preremove,
     })
 }
 
@@ -48,13 +75,72 @@ fn copy_format(alloc: Global, format: &Option<Format>) -> Result<Option<Format>,
     }
 }
 
-fn copy_rule(alloc: Global, rule: &Rule) -> Result<Rule, Memory>
-    ensures { IfOk result (λ copy. copy ≡ rule.now) }
+// What takes memory of a rule: where it stands, the names of its members, and what is run and written.
+#[derive(Drop)]
+struct Place {
+    file: Path,
+    words: Listed<Text>,
+}
+
+#[derive(Drop)]
+struct Ends {
+    extension: Option<Text>,
+    addextension: Option<Text>,
+    olddir: Option<Text>,
+}
+
+#[derive(Drop)]
+struct Acts {
+    mail: Option<Text>,
+    scripts: Scripts,
+    dated: Option<Format>,
+}
+
+fn copy_place(alloc: Global, rule: &Rule) -> Result<Place, Memory>
+    ensures { IfOk result (λ place. (place.file ≡ rule.now.file) × (place.words ≡ rule.now.words)) }
 {
-    Ok(Rule {
-        file: rule.file.copy(alloc)?,
+    let file = rule.file.copy(alloc)?;
+    let words = copy_texts(alloc, rule.words.as_slice())?;
+    Ok(Place { file, words })
+}
+
+fn copy_ends(alloc: Global, rule: &Rule) -> Result<Ends, Memory>
+    ensures { IfOk result (λ ends. (ends.extension ≡ rule.now.extension) × (ends.addextension ≡ rule.now.addextension) × (ends.olddir ≡ rule.now.olddir)) }
+{
+    let extension = copy_text(alloc, &rule.extension)?;
+    let addextension = copy_text(alloc, &rule.addextension)?;
+    let olddir = copy_text(alloc, &rule.olddir)?;
+    Ok(Ends {
+        extension,
+        addextension,
+        olddir,
+    })
+}
+
+fn copy_acts(alloc: Global, rule: &Rule) -> Result<Acts, Memory>
+    ensures { IfOk result (λ acts. (acts.mail ≡ rule.now.mail) × (acts.scripts ≡ rule.now.scripts) × (acts.dated ≡ rule.now.dated)) }
+{
+    let mail = copy_text(alloc, &rule.mail)?;
+    let scripts = copy_scripts(alloc, &rule.scripts)?;
+    let dated = copy_format(alloc, &rule.dated)?;
+    Ok(Acts {
+        mail,
+        scripts,
+        dated,
+    })
+}
+
+// A rule of these parts, and else as this one.
+fn rule_of(rule: &Rule, place: Place, ends: Ends, acts: Acts) -> Rule
+    ensures { (place.file ≡ rule.now.file) × (place.words ≡ rule.now.words)
+        → (ends.extension ≡ rule.now.extension) × (ends.addextension ≡ rule.now.addextension) × (ends.olddir ≡ rule.now.olddir)
+        → (acts.mail ≡ rule.now.mail) × (acts.scripts ≡ rule.now.scripts) × (acts.dated ≡ rule.now.dated)
+        → result ≡ rule.now }
+{
+    Rule {
+        file: place.file,
         line: rule.line,
-        words: copy_texts(alloc, rule.words.as_slice())?,
+        words: place.words,
         criterion: rule.criterion,
         count: rule.count,
         maxage: rule.maxage,
@@ -65,18 +151,27 @@ fn copy_rule(alloc: Global, rule: &Rule) -> Result<Rule, Memory>
         missingok: rule.missingok,
         ignore_duplicates: rule.ignore_duplicates,
         start: rule.start,
-        extension: copy_text(alloc, &rule.extension)?,
-        addextension: copy_text(alloc, &rule.addextension)?,
-        olddir: copy_text(alloc, &rule.olddir)?,
+        extension: ends.extension,
+        addextension: ends.addextension,
+        olddir: ends.olddir,
         createolddir: rule.createolddir,
         way: rule.way,
         create: rule.create,
-        mail: copy_text(alloc, &rule.mail)?,
+        mail: acts.mail,
         mailfirst: rule.mailfirst,
         shared: rule.shared,
-        scripts: copy_scripts(alloc, &rule.scripts)?,
-        dated: copy_format(alloc, &rule.dated)?,
-    })
+        scripts: acts.scripts,
+        dated: acts.dated,
+    }
+}
+
+fn copy_rule(alloc: Global, rule: &Rule) -> Result<Rule, Memory>
+    ensures { IfOk result (λ copy. copy ≡ rule.now) }
+{
+    let place = copy_place(alloc, rule)?;
+    let ends = copy_ends(alloc, rule)?;
+    let acts = copy_acts(alloc, rule)?;
+    Ok(rule_of(rule, place, ends, acts))
 }
 
 impl Rules {

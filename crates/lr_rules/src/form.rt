@@ -1,12 +1,13 @@
 // Whether bytes are a path.
 ghost use Rattle.std.specs.Prelude.{◌≡◌};
-ghost use Rattle.std.specs.Str.{is_utf8};
 ghost use Rattle.std.specs.List.{list_any, slice_split};
 ghost use Rattle.lr_rules.specs.Path.{path_fault, is_slash, is_empty, is_dots, is_absolute, has_bad_byte, has_empty_part, has_dot_part};
 
 use crate::PathFault;
+use crate::text::is_utf8;
 
-fn bad_byte(bytes: &[u8]) -> bool
+/// Whether a newline or a zero byte is among the bytes.
+pub fn has_bad_byte(bytes: &[u8]) -> bool
     ensures { result ≡ has_bad_byte bytes.now }
 {
     bytes.iter().any(|b| *b == b'\n' || *b == 0)
@@ -52,12 +53,6 @@ fn dot_part(bytes: &[u8]) -> bool
     }
 }
 
-fn is_text(bytes: &[u8]) -> bool
-    ensures { result ≡ is_utf8 bytes.now }
-{
-    str::from_utf8(bytes).is_ok()
-}
-
 pub fn absolute(bytes: &[u8]) -> bool
     ensures { result ≡ is_absolute bytes.now }
 {
@@ -72,9 +67,9 @@ pub fn absolute(bytes: &[u8]) -> bool
 pub fn fault_of(bytes: &[u8]) -> Option<PathFault>
     ensures { result ≡ path_fault bytes.now }
 {
-    if !is_text(bytes) {
+    if !is_utf8(bytes) {
         Some(PathFault::NotUtf8)
-    } else if bad_byte(bytes) {
+    } else if has_bad_byte(bytes) {
         Some(PathFault::BadByte)
     } else if bytes.len() > 4096 {
         Some(PathFault::TooLong)

@@ -9,6 +9,7 @@
 //! ```
 #![tactic(auto)]
 
+mod between;
 mod civil;
 mod clock;
 mod copies;
@@ -28,10 +29,11 @@ pub use civil::{Civil, Moment};
 pub use clock::Clock;
 pub use copies::copy_texts;
 pub use fault::{CallKind, ConfKind, Ended, Fault, Notice, Phase, StateKind, ZoneWhy};
+pub use form::has_bad_byte;
 pub use listed::Listed;
 pub use memory::Memory;
 pub use path::{Path, PathFault};
 pub use rule::{Back, Count, Criterion, Field, Format, Make, Naming, Piece, Rule, Scripts, Way};
 pub use rules::Rules;
 pub use steps::Steps;
-pub use text::{Text, TextFault};
+pub use text::{Text, TextFault, is_utf8};

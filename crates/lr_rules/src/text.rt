@@ -1,9 +1,17 @@
 // A text is bytes that are UTF-8.
 ghost use Rattle.std.specs.Prelude.{◌≡◌, ◌↔◌, List, ℕ, IfOk, IsErrOf, IsUtf8};
+ghost use Rattle.std.specs.Str.{is_utf8};
 
 use std::alloc::{AllocError, Global};
 use std::marker::Model;
 use thiserror::Error;
+
+/// Whether the bytes are UTF-8.
+pub fn is_utf8(bytes: &[u8]) -> bool
+    ensures { result ≡ is_utf8 bytes.now }
+{
+    str::from_utf8(bytes).is_ok()
+}
 
 #[derive(Debug, Drop, PartialEq, Eq, Error)]
 pub enum TextFault {
