@@ -10,7 +10,7 @@ use lr_host::{CallFault, Host};
 use lr_rules::{CallKind, Path};
 
 /// Why the renames of a rotation broke off.
-#[derive(Clone, Copy, Debug)]
+#[derive(Clone, Copy)]
 pub enum ChainStop<'a> {
     /// The call failed; the path is the one that it would take the name from.
     Call(CallKind, &'a Path),

@@ -19,7 +19,7 @@ pub struct Command {
 }
 
 /// Why a program, or the removal of a file, was refused.
-#[derive(Clone, Copy, Debug, PartialEq, Eq)]
+#[derive(Clone, Copy, PartialEq, Eq)]
 pub enum Bad {
     /// The program of this phase ended so, and not with 0.
     Script(Phase, Ended),
