@@ -3,10 +3,9 @@ ghost use Rattle.std.specs.Prelude.{◌≡◌, ◌<◌, ◌≤◌, ◌+◌, ◌+
 ghost use Rattle.lr_rules.specs.Limits.{can_be_log};
 ghost use Rattle.lr_rules.specs.Names.{ends_with};
 ghost use Rattle.lr_rules.specs.Match.{is_sign, is_wildcard, literal_path, part_end};
-ghost use Rattle.lr_rules.specs.Path.{is_absolute};
 ghost use Rattle.lr_conf.specs.Values.{root, names_log, is_log_name, is_step, behind_slash, kept_name};
 
-use lr_rules::{Memory, Path, PathFault, Text};
+use lr_rules::{Memory, Path, PathFault, Text, is_absolute};
 use std::alloc::{AllocError, Global};
 
 fn sign(byte: u8) -> bool
@@ -76,15 +75,6 @@ fn can_be_log(path: &Path) -> bool
     bytes.len() <= 2048 && (1 <= last.len() && (last.len() <= 255 && !has_end(PART_END, bytes)))
 }
 
-fn absolute(word: &[u8]) -> bool
-    ensures { result ≡ is_absolute word.now }
-{
-    match word {
-        [] => false,
-        [first, ..] => *first == b'/',
-    }
-}
-
 fn root_path(alloc: Global) -> Result<Path, Memory>
     ensures { IfOk result (λ path. path ≡ root) }
 {
@@ -97,7 +87,7 @@ fn root_path(alloc: Global) -> Result<Path, Memory>
 fn names_log(alloc: Global, literal: &[u8]) -> Result<bool, Memory>
     ensures { IfOk result (λ is. is ≡ names_log literal.now) }
 {
-    if !absolute(literal) {
+    if !is_absolute(literal) {
         return Ok(false);
     }
     let root = root_path(alloc)?;

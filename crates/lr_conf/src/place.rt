@@ -1,7 +1,7 @@
 // Where a line stands.
 
 /// Whether a definition is being read, and whether a fault dropped it.
-#[derive(Clone, Copy, Debug, PartialEq, Eq)]
+#[derive(Clone, Copy, PartialEq, Eq)]
 pub enum Place {
     Outside,
     Good,

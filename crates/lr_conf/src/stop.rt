@@ -3,14 +3,14 @@ use lr_rules::{ConfKind, Memory, Path};
 use std::alloc::{AllocError, AllocFailed};
 
 /// A line that asks for another file to be read in its place.
-#[derive(Drop, Debug)]
+#[derive(Drop)]
 pub struct Include {
     pub path: Path,
     pub line: u32,
 }
 
 /// Why a line gives no more than its notices. Each fault stands with its line.
-#[derive(Clone, Copy, Debug, PartialEq, Eq)]
+#[derive(Clone, Copy)]
 pub enum LayerStop {
     /// One fault.
     Conf(u32, ConfKind),

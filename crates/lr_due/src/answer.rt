@@ -1,14 +1,14 @@
 // What is said of a log.
 
 /// Whether a log is due, and by which case.
-#[derive(Clone, Copy, Debug, PartialEq, Eq)]
+#[derive(Clone, Copy)]
 pub enum Due {
     Yes(Why),
     No(WhyNot),
 }
 
 /// Why a log is due.
-#[derive(Clone, Copy, Debug, PartialEq, Eq)]
+#[derive(Clone, Copy)]
 pub enum Why {
     /// The run was asked to rotate in any case.
     Forced,
@@ -23,7 +23,7 @@ pub enum Why {
 }
 
 /// Why a log is not due.
-#[derive(Clone, Copy, Debug, PartialEq, Eq)]
+#[derive(Clone, Copy)]
 pub enum WhyNot {
     /// It was written too few days ago.
     Young,

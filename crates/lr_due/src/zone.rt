@@ -22,7 +22,7 @@ pub enum ZoneText {
 }
 
 /// Why there is no clock. Nothing is left behind.
-#[derive(Clone, Copy, Debug, PartialEq, Eq)]
+#[derive(Clone, Copy)]
 pub enum ZoneStop {
     /// The seconds are below 0 or above 250,000,000,000.
     Range,

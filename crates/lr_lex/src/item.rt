@@ -31,13 +31,13 @@ pub enum Item {
 }
 
 /// A fault, and the line that has it; of a script's text it is the line of the script's word.
-#[derive(Clone, Copy, Debug, PartialEq, Eq)]
+#[derive(Clone, Copy)]
 pub struct LexFault {
     pub line: u32,
     pub kind: LexKind,
 }
 
-#[derive(Clone, Copy, Debug, PartialEq, Eq)]
+#[derive(Clone, Copy)]
 pub enum LexKind {
     /// A line outside scripts has more than 8,192 bytes.
     LineTooLong,

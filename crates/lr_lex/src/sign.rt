@@ -6,7 +6,7 @@ use lr_rules::{Listed, Memory};
 use std::alloc::Global;
 
 /// What a byte of a line is.
-#[derive(Clone, Copy, Debug, PartialEq, Eq)]
+#[derive(Clone, Copy)]
 pub enum Sign {
     /// A blank outside quotes, which parts words.
     Blank,

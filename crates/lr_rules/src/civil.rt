@@ -6,7 +6,7 @@ ghost use Rattle.lr_rules.specs.Civil.{IsMoment, moment_seconds};
 use jiff::civil::Date;
 
 /// A moment of the years 1 to 9999 on a calendar and a clock.
-#[derive(Clone, Copy, Debug, PartialEq, Eq)]
+#[derive(Clone, Copy)]
 pub struct Civil {
     pub year: i16,
     pub month: u8,
@@ -67,7 +67,7 @@ impl Civil {
 }
 
 /// An instant, in seconds since 1970, and how a calendar and a clock show it.
-#[derive(Clone, Copy, Debug, PartialEq, Eq)]
+#[derive(Clone, Copy)]
 pub struct Moment {
     pub seconds: i64,
     pub civil: Civil,

@@ -6,7 +6,7 @@ use crate::Moment;
 
 /// The moment of a run, the same time of the day before, and the moment an hour before. The seconds of each are from
 /// 0 to 250,000,000,000.
-#[derive(Clone, Copy, Debug, PartialEq, Eq)]
+#[derive(Clone, Copy)]
 pub struct Clock {
     pub now: Moment,
     pub yesterday: Moment,

@@ -121,8 +121,8 @@ fn copy_acts(alloc: Global, rule: &Rule) -> Result<Acts, Memory>
     ensures { IfOk result (λ acts. (acts.mail ≡ rule.now.mail) × (acts.scripts ≡ rule.now.scripts) × (acts.dated ≡ rule.now.dated)) }
 {
     let mail = copy_text(alloc, &rule.mail)?;
-    let scripts = copy_scripts(alloc, &rule.scripts)?;
     let dated = copy_format(alloc, &rule.dated)?;
+    let scripts = copy_scripts(alloc, &rule.scripts)?;
     Ok(Acts {
         mail,
         scripts,

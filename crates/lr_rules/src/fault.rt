@@ -2,7 +2,7 @@
 use crate::{Path, Text};
 
 /// One fault of a run. Each comes only with its cause, which the clauses of the call that answers it say.
-#[derive(Drop, Debug)]
+#[derive(Drop)]
 pub enum Fault {
     /// A fault of a line of a configuration file; line 0 is the file as a whole.
     Conf {
@@ -48,7 +48,7 @@ pub enum Fault {
 }
 
 /// The kinds of faults of configuration lines, in the order in which they apply to one line.
-#[derive(Clone, Copy, Debug, PartialEq, Eq)]
+#[derive(Clone, Copy)]
 pub enum ConfKind {
     LineTooLong,
     NotUtf8,
@@ -77,7 +77,7 @@ pub enum ConfKind {
 }
 
 /// The kinds of faults of the state file, in the order in which they apply.
-#[derive(Clone, Copy, Debug, PartialEq, Eq)]
+#[derive(Clone, Copy)]
 pub enum StateKind {
     TooBig,
     BadTop,
@@ -87,7 +87,7 @@ pub enum StateKind {
 }
 
 /// Why a time zone can't be had.
-#[derive(Clone, Copy, Debug, PartialEq, Eq)]
+#[derive(Clone, Copy)]
 pub enum ZoneWhy {
     NotFile,
     TooBig,
@@ -123,14 +123,14 @@ pub enum Phase {
 }
 
 /// How a program ended: with an exit status, or by a signal.
-#[derive(Clone, Copy, Debug, PartialEq, Eq)]
+#[derive(Clone, Copy, PartialEq, Eq)]
 pub enum Ended {
     Exit(i32),
     Killed,
 }
 
 /// What was passed over at a line: a word, or without one the owner and group of a made file.
-#[derive(Drop, Debug)]
+#[derive(Drop)]
 pub struct Notice {
     pub file: Path,
     pub line: u32,

@@ -53,7 +53,8 @@ fn dot_part(bytes: &[u8]) -> bool
     }
 }
 
-pub fn absolute(bytes: &[u8]) -> bool
+/// Whether the first byte is a slash.
+pub fn is_absolute(bytes: &[u8]) -> bool
     ensures { result ≡ is_absolute bytes.now }
 {
     match bytes {
@@ -73,7 +74,7 @@ pub fn fault_of(bytes: &[u8]) -> Option<PathFault>
         Some(PathFault::BadByte)
     } else if bytes.len() > 4096 {
         Some(PathFault::TooLong)
-    } else if !absolute(bytes) {
+    } else if !is_absolute(bytes) {
         Some(PathFault::Relative)
     } else if empty_part(bytes) {
         Some(PathFault::EmptyPart)

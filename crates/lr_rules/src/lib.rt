@@ -29,7 +29,7 @@ pub use civil::{Civil, Moment};
 pub use clock::Clock;
 pub use copies::copy_texts;
 pub use fault::{CallKind, ConfKind, Ended, Fault, Notice, Phase, StateKind, ZoneWhy};
-pub use form::has_bad_byte;
+pub use form::{has_bad_byte, is_absolute};
 pub use listed::Listed;
 pub use memory::Memory;
 pub use path::{Path, PathFault};

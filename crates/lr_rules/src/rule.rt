@@ -2,7 +2,7 @@
 use crate::{Listed, Path, Text};
 
 /// When a log is due, besides its sizes and ages.
-#[derive(Clone, Copy, Debug, PartialEq, Eq)]
+#[derive(Clone, Copy)]
 pub enum Criterion {
     Hourly,
     Daily,
@@ -15,7 +15,7 @@ pub enum Criterion {
 }
 
 /// How many members of a log are kept.
-#[derive(Clone, Copy, Debug, PartialEq, Eq)]
+#[derive(Clone, Copy)]
 pub enum Count {
     /// At most this many.
     Keep(u32),
@@ -24,7 +24,7 @@ pub enum Count {
 }
 
 /// How a log is turned over.
-#[derive(Clone, Copy, Debug, PartialEq, Eq)]
+#[derive(Clone, Copy)]
 pub enum Way {
     Rename,
     Copy,
@@ -32,7 +32,7 @@ pub enum Way {
 }
 
 /// Of which moment a stamp tells: that of the run, the same time of the day before, or an hour before.
-#[derive(Clone, Copy, Debug, PartialEq, Eq)]
+#[derive(Clone, Copy)]
 pub enum Back {
     Now,
     Yesterday,
@@ -40,7 +40,7 @@ pub enum Back {
 }
 
 /// A field of a stamp.
-#[derive(Clone, Copy, Debug, PartialEq, Eq)]
+#[derive(Clone, Copy)]
 pub enum Field {
     Year,
     Month,
@@ -53,7 +53,7 @@ pub enum Field {
 }
 
 /// A byte of a stamp, or a field of it.
-#[derive(Clone, Copy, Debug, PartialEq, Eq)]
+#[derive(Clone, Copy)]
 pub enum Piece {
     Byte(u8),
     Field(Field),
@@ -67,7 +67,7 @@ pub struct Format {
 }
 
 /// Whether a file or directory is made, and with which mode (permission bits).
-#[derive(Clone, Copy, Debug, PartialEq, Eq)]
+#[derive(Clone, Copy)]
 pub enum Make {
     No,
     Yes(Option<u32>),

@@ -3,8 +3,9 @@ ghost use Rattle.std.specs.Prelude.{◌≡◌, ◌↔◌, List, ℕ, IfOk, IsErr
 ghost use Rattle.std.specs.Str.{is_utf8};
 
 use std::alloc::{AllocError, Global};
+use std::error::Error;
+use std::fmt;
 use std::marker::Model;
-use thiserror::Error;
 
 /// Whether the bytes are UTF-8.
 pub fn is_utf8(bytes: &[u8]) -> bool
@@ -13,15 +14,24 @@ pub fn is_utf8(bytes: &[u8]) -> bool
     str::from_utf8(bytes).is_ok()
 }
 
-#[derive(Debug, Drop, PartialEq, Eq, Error)]
+#[derive(Clone, Copy, Debug, PartialEq, Eq)]
 pub enum TextFault {
-    #[error("NotUtf8")]
     NotUtf8,
-    #[error("Memory")]
     Memory,
 }
 
-#[derive(Drop, Debug)]
+impl fmt::Display for TextFault {
+    fn fmt<W: fmt::Write>(&self, f: &mut fmt::Formatter<W>) -> fmt::Result {
+        f.write_str(match self {
+            TextFault::NotUtf8 => "NotUtf8",
+            TextFault::Memory => "Memory",
+        })
+    }
+}
+
+impl Error for TextFault {}
+
+#[derive(Drop)]
 pub struct Text {
     text: String,
 }

@@ -11,7 +11,7 @@ use lr_rules::StateKind;
 use std::alloc::Global;
 
 /// Why a state text gives no table. Nothing is left behind.
-#[derive(Clone, Copy, Debug, PartialEq, Eq)]
+#[derive(Clone, Copy)]
 pub enum StateStop {
     /// The first line with a fault, counted from 1, or 0 for the text as a whole, and its first fault.
     Bad(u32, StateKind),

@@ -1,7 +1,7 @@
 // The directives.
 
 /// A directive of a configuration, as logrotate(8) has it: one for each word, named as the word is.
-#[derive(Clone, Copy, Debug, PartialEq, Eq)]
+#[derive(Clone, Copy)]
 pub enum Directive {
     Addextension,
     Allowhardlink,

@@ -10,7 +10,7 @@ use std::cmp::Ordering;
 use std::sync::ledger::Ledger;
 
 /// A directive's word, and the directive that it sets back to its default, where it does so.
-#[derive(Clone, Copy, Debug)]
+#[derive(Clone, Copy)]
 pub struct Row {
     pub word: &'static [u8],
     pub directive: Directive,
