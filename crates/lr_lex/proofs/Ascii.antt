@@ -1,7 +1,8 @@
 -- Text from which bytes below 128 are taken out, or put for one another.
 use Rattle.std.proofs.Common.{◌≡◌, ℕ, zero, suc, ◌+◌, ◌<◌, ◌||◌, ◌&&◌, not, Bool, true, false, cond, eqb, List, [], ◌∷◌, ◌++◌, length, take, drop, get_or, refl, ap, sym, subst, ◌∙◌, append_assoc, append-nil, arith, length-append, eqb-true}
 use Rattle.std.specs.Prelude.{IsUtf8}
-use Rattle.std.proofs.lemmas.List.{map-append}
+use Rattle.std.proofs.lemmas.Bool.{and_parts}
+use Rattle.std.proofs.lemmas.List.{map-append, take_at}
 use Rattle.std.proofs.lemmas.Str.{IsUtf8-append, IsUtf8-take, IsUtf8-drop, IsUtf8-from_ascii, IsUtf8-from_is_utf8, IsCharBoundary-before_ascii, IsCharBoundary-after_ascii}
 use Rattle.lr_lex.specs.declared.sign.Sign.{Sign}
 use Rattle.lr_lex.specs.declared.sign.Sign.TheVariants.{Blank, Mark, Plain, Quoted}
@@ -14,10 +15,6 @@ use Rattle.lr_lex.specs.Scanning.{sign_byte, sign_bytes, behind_sign}
 at_middle : (xs ys : List ℕ) (b : ℕ) → get_or (xs ++ b ∷ ys) (length xs) 0 ≡ b
 at_middle [] ys b = refl
 at_middle (x ∷ xs) ys b = at_middle xs ys b
-
-take_middle : (xs ys : List ℕ) → take (length xs) (xs ++ ys) ≡ xs
-take_middle [] ys = refl
-take_middle (x ∷ xs) ys = ap (λ l. x ∷ l) (take_middle xs ys)
 
 drop_middle : (xs ys : List ℕ) (b : ℕ) → drop (suc (length xs)) (xs ++ b ∷ ys) ≡ ys
 drop_middle [] ys b = refl
@@ -33,7 +30,7 @@ parts xs ys b small u =
     let next : length xs + 1 ≡ suc (length xs) = omega arith in
     let front : IsUtf8 (take (length xs) all) = IsUtf8-take all (length xs) u (IsCharBoundary-before_ascii all (length xs) inside low) in
     let back : IsUtf8 (drop (length xs + 1) all) = IsUtf8-drop all (length xs + 1) u (IsCharBoundary-after_ascii all (length xs) u inside low) in
-    (subst IsUtf8 (take_middle xs (b ∷ ys)) front, subst IsUtf8 (ap (λ n. drop n all) next ∙ drop_middle xs ys b) back)
+    (subst IsUtf8 (take_at xs (b ∷ ys) (length xs) refl) front, subst IsUtf8 (ap (λ n. drop n all) next ∙ drop_middle xs ys b) back)
 
 one_ascii : (b : ℕ) → b < 128 → (i : ℕ) → get_or (b ∷ []) i 0 < 128
 one_ascii b small zero = small
@@ -151,10 +148,6 @@ signs-utf8 names (b ∷ c ∷ bs) q pre small u = by_test (eqb b 92) refl (λ p 
 pub line-utf8 : (names : Bool) (line : List ℕ) → IsUtf8 line → IsUtf8 (sign_bytes (signs names 0 line))
 line-utf8 names line u = signs-utf8 names line 0 [] (omega arith) u
 
-first-true : (a b : Bool) → (a && b) ≡ true → a ≡ true
-first-true true b e = refl
-first-true false b e = absurd (cc)
-
 pub utf8_of_text : (bytes : List ℕ) → is_text bytes ≡ true → IsUtf8 bytes
 unfolding is_text
-utf8_of_text bytes e = IsUtf8-from_is_utf8 bytes (first-true (is_utf8 bytes) (not (list_any is_zero bytes)) e)
+utf8_of_text bytes e = IsUtf8-from_is_utf8 bytes (and_parts (is_utf8 bytes) (not (list_any is_zero bytes)) e).0

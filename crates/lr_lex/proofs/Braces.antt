@@ -1,6 +1,7 @@
 -- The brace at the end of a line's signs.
 use Rattle.std.proofs.Common.{◌≡◌, ℕ, zero, suc, ◌+◌, ◌-◌, ◌<◌, Bool, true, false, cond, ◌&&◌, ◌||◌, List, [], ◌∷◌, ◌++◌, length, take, drop, get_or, refl, ap, sym, subst, ◌∙◌, arith, eqb-true, take-append-drop, length-drop, take_all}
 use Rattle.std.specs.Prelude.{IsUtf8}
+use Rattle.std.proofs.lemmas.Bool.{and_parts, and_right}
 use Rattle.std.specs.List.{list_all}
 use Rattle.lr_lex.specs.declared.sign.Sign.{Sign}
 use Rattle.lr_lex.specs.declared.sign.Sign.TheVariants.{Blank, Mark, Plain, Quoted}
@@ -10,19 +11,11 @@ use Rattle.std.proofs.lemmas.Str.{IsUtf8-append}
 use Rattle.lr_lex.proofs.Ascii.{utf8_around, one_text}
 use Rattle.lr_lex.proofs.SignsOf.{more_signs}
 
-and-false : (a : Bool) → (a && false) ≡ false
-and-false true = refl
-and-false false = refl
-
-or-true : (a : Bool) → (a || true) ≡ true
-or-true true = refl
-or-true false = refl
-
 -- a sign that is no blank is among them
 not-all : (ss : List Sign) (k : ℕ) → k < length ss → is_gap (get_or ss k Blank) ≡ false → list_all is_gap ss ≡ false
 not-all [] k lt ink = absurd (omega arith)
 not-all (s ∷ ss) zero lt ink = ap (λ b. b && list_all is_gap ss) ink
-not-all (s ∷ ss) (suc k) lt ink = ap (λ b. is_gap s && b) (not-all ss k (omega arith) ink) ∙ and-false (is_gap s)
+not-all (s ∷ ss) (suc k) lt ink = ap (λ b. is_gap s && b) (not-all ss k (omega arith) ink) ∙ and_right (is_gap s) false refl
 
 plain-ink : (s : Sign) (b : ℕ) → is_plain b s ≡ true → is_gap s ≡ false
 plain-ink Blank b e = absurd (cc)
@@ -59,32 +52,24 @@ cut-open (s ∷ ss) zero lt at blanks =
     record { brace = ap (λ b. b || opens ss) both; signs = ap (λ b. cond b [] (s ∷ before_open ss)) both }
 cut-open (s ∷ ss) (suc k) lt at blanks =
     let ink : list_all is_gap ss ≡ false = not-all ss k (omega arith) (plain-ink (get_or ss k Blank) 123 at) in
-    let other : (is_open s && list_all is_gap ss) ≡ false = ap (λ b. is_open s && b) ink ∙ and-false (is_open s) in
+    let other : (is_open s && list_all is_gap ss) ≡ false = ap (λ b. is_open s && b) ink ∙ and_right (is_open s) false refl in
     step-on s ss (take k ss) true other (cut-open ss k (omega arith) at blanks)
 
 shut-and : (s : Sign) (b : Bool) → is_open s ≡ false → (is_open s && b) ≡ false
 shut-and s b e = ap (λ x. x && b) e
 
-first-gap : (g b : Bool) → (g && b) ≡ true → g ≡ true
-first-gap true b e = refl
-first-gap false b e = absurd (cc)
-
-rest-gap : (g b : Bool) → (g && b) ≡ true → b ≡ true
-rest-gap true b e = e
-rest-gap false b e = absurd (cc)
-
 cut-blanks : (ss : List Sign) → list_all is_gap ss ≡ true → Cuts ss false ss
 cut-blanks [] blanks = record { brace = refl; signs = refl }
 cut-blanks (s ∷ ss) blanks =
-    step-on s ss ss false (shut-and s (list_all is_gap ss) (gap-shut s (first-gap (is_gap s) (list_all is_gap ss) blanks)))
-    (cut-blanks ss (rest-gap (is_gap s) (list_all is_gap ss) blanks))
+    step-on s ss ss false (shut-and s (list_all is_gap ss) (gap-shut s (and_parts (is_gap s) (list_all is_gap ss) blanks).0))
+    (cut-blanks ss (and_parts (is_gap s) (list_all is_gap ss) blanks).1)
 
 cut-ink : (ss : List Sign) (k : ℕ) → k < length ss → is_gap (get_or ss k Blank) ≡ false → is_open (get_or ss k Blank) ≡ false → list_all is_gap (drop (suc k) ss) ≡ true → Cuts ss false ss
 cut-ink [] k lt ink shut blanks = absurd (omega arith)
 cut-ink (s ∷ ss) zero lt ink shut blanks = step-on s ss ss false (shut-and s (list_all is_gap ss) shut) (cut-blanks ss blanks)
 cut-ink (s ∷ ss) (suc k) lt ink shut blanks =
     let some : list_all is_gap ss ≡ false = not-all ss k (omega arith) ink in
-    let other : (is_open s && list_all is_gap ss) ≡ false = ap (λ b. is_open s && b) some ∙ and-false (is_open s) in
+    let other : (is_open s && list_all is_gap ss) ≡ false = ap (λ b. is_open s && b) some ∙ and_right (is_open s) false refl in
     step-on s ss ss false other (cut-ink ss k (omega arith) ink shut blanks)
 
 -- ---- by the end of what is no blank
@@ -121,6 +106,3 @@ utf8_from ss k b lt small is u =
     let rest : IsUtf8 (sign_bytes (drop (k + 1) ss)) = (utf8_parts ss k b lt small is u).1 in
     let all : IsUtf8 (b ∷ sign_bytes (drop (k + 1) ss)) = IsUtf8-append (b ∷ []) (sign_bytes (drop (k + 1) ss)) (one_text b small) rest in
     subst IsUtf8 (ap (λ x. x ∷ sign_bytes (drop (k + 1) ss)) (sym e) ∙ ap sign_bytes (sym (more_signs ss k lt))) all
-
-pub take-rest : {A : Type 0} (n : ℕ) (xs : List A) → take (length xs - n) (drop n xs) ≡ drop n xs
-take-rest n xs = rw (← length-drop n xs) (take_all (length (drop n xs)) (drop n xs) (omega arith))

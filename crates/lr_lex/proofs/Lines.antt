@@ -35,6 +35,3 @@ after_line-none [] none = refl
 after_line-none (b ∷ rest) none =
     cond-false _ _ _ (ne_eqb b 10 (none 0 (omega arith)))
     ∙ after_line-none rest (λ k a. none (suc k) (omega arith))
-
-pub take-rest : (n : ℕ) (xs : List ℕ) → take (length xs - n) (drop n xs) ≡ drop n xs
-take-rest n xs = rw (← length-drop n xs) (take_all (length (drop n xs)) (drop n xs) (omega arith))

@@ -1,5 +1,7 @@
 -- The bytes of a script.
 use Rattle.std.proofs.Common.{◌≡◌, ℕ, ◌+◌, ◌-◌, ◌<◌, ◌⊎◌, inl, inr, Bool, true, false, cond, not, eqb, ◌&&◌, ◌||◌, List, [], ◌∷◌, ◌++◌, length, take, refl, sym, ap, subst, ◌∙◌, arith, length-append, eqb-true}
+use Rattle.std.proofs.lemmas.Bool.{or_parts}
+use Rattle.std.proofs.lemmas.List.{take_at}
 use Rattle.std.specs.Str.{is_utf8}
 use Rattle.std.specs.List.{list_any}
 use Rattle.std.proofs.lemmas.Str.{IsUtf8-append, IsUtf8-from_is_utf8, is_utf8-from_IsUtf8}
@@ -53,18 +55,10 @@ closed-test : (text bs : List ℕ) → Closed text bs → is_text bs ≡ is_text
 closed-test text bs (inl e) = ap is_text (sym e)
 closed-test text bs (inr e) = newline-test bs ∙ ap is_text (sym e)
 
-first-false : (a b : Bool) → (a || b) ≡ false → a ≡ false
-first-false true b e = absurd (cc)
-first-false false b e = refl
-
-rest-false : (a b : Bool) → (a || b) ≡ false → b ≡ false
-rest-false true b e = absurd (cc)
-rest-false false b e = e
-
 all-body : (ls : List Line) → ended ls ≡ false → body ls ≡ ls
 all-body [] e = refl
 all-body (l ∷ ls) e =
-    ap (λ t. cond t [] (l ∷ body ls)) (first-false (is_end l) (ended ls) e) ∙ ap (λ x. l ∷ x) (all-body ls (rest-false (is_end l) (ended ls) e))
+    ap (λ t. cond t [] (l ∷ body ls)) (or_parts (is_end l) (ended ls) e).0 ∙ ap (λ x. l ∷ x) (all-body ls (or_parts (is_end l) (ended ls) e).1)
 
 -- a script without end is all lines
 pub open-test : (n at : ℕ) (bs : List ℕ) → ended (lines n at bs) ≡ false → is_text bs ≡ is_text (script_text (body (lines n at bs)))
@@ -85,14 +79,10 @@ front-of (b ∷ bs) = by_test (eqb b 10) refl (front-of bs)
     by_test true e f = let is : b ≡ 10 = eqb-true b 10 e in (10 ∷ [], ap (λ x. x ∷ bs) is, λ h. refl)
     by_test false e (front, whole, line) = (b ∷ front, ap (λ l. b ∷ l) whole, λ h. ap (λ l. b ∷ l) (line h))
 
-take_front : (xs ys : List ℕ) → take (length xs) (xs ++ ys) ≡ xs
-take_front [] ys = refl
-take_front (x ∷ xs) ys = ap (λ l. x ∷ l) (take_front xs ys)
-
 pub before : (front behind all : List ℕ) → all ≡ front ++ behind → take (length all - length behind) all ≡ front
 before front behind all e =
     let n : length all - length behind ≡ length front = let f = ap length e ∙ length-append front behind in omega (arith, f) in
-    ap (λ k. take k all) n ∙ ap (take (length front)) e ∙ take_front front behind
+    ap (λ k. take k all) n ∙ ap (take (length front)) e ∙ take_at front behind (length front) refl
 
 pub zero-length : (n : ℕ) → true ≡ eqb n 0 → n ≡ 0
 zero-length n e = eqb-true n 0 (sym e)

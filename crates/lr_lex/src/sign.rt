@@ -1,6 +1,6 @@
 // The signs of a line.
-ghost use Rattle.std.specs.Prelude.{◌≡◌, IfOk, length};
-ghost use Rattle.lr_lex.specs.Signs.{is_blank, sign_of, quote_behind, escape, line_signs, HasLength};
+ghost use Rattle.std.specs.Prelude.{◌≡◌, [], IfOk, OnOk, length};
+ghost use Rattle.lr_lex.specs.Signs.{is_blank, sign_of, quote_behind, escape, signs, left_open, line_signs, HasLength};
 
 use lr_rules::{Listed, Memory};
 use std::alloc::Global;
@@ -65,26 +65,38 @@ fn backslash(names: bool) -> Sign
     }
 }
 
+// Adds the signs of a line, of names or not, where there are none so far; the answer is the quote that is left open, or
+// 0. The list is the caller's, so that no way out of the loop has to let it go.
+fn add_signs(into: &mut Listed<Sign>, line: &[u8], names: bool) -> Result<u8, Memory>
+    requires { into.old ≡ [] }
+    ensures signs { OnOk result (into.new ≡ signs names 0 line.now) }
+    ensures size { OnOk result (length into.new ≡ length line.now) }
+    ensures quote { IfOk result (λ quote. quote ≡ left_open 0 line.now) }
+{
+    let mut quote = 0;
+    let mut i = 0;
+    while i < line.len() {
+        let byte = line[i];
+        if byte == b'\\' && i + 1 < line.len() {
+            into.push(backslash(names))?;
+            into.push(Sign::Quoted(line[i + 1]))?;
+            i += 2;
+        } else {
+            into.push(read_sign(quote, byte))?;
+            quote = quote_after(quote, byte);
+            i += 1;
+        }
+    }
+    Ok(quote)
+}
+
 /// The signs of a line, of names or not; none where a quote doesn't close on it.
 pub fn signs_of(alloc: Global, line: &[u8], names: bool) -> Result<Option<Listed<Sign>>, Memory>
     ensures signs { IfOk result (λ found. found ≡ line_signs names line.now) }
     ensures size { IfOk result (λ found. HasLength (length line.now) found) }
 {
     let mut signs = Listed::from_vec(Vec::with_capacity(alloc, line.len())?);
-    let mut quote = 0;
-    let mut i = 0;
-    while i < line.len() {
-        let byte = line[i];
-        if byte == b'\\' && i + 1 < line.len() {
-            signs.push(backslash(names))?;
-            signs.push(Sign::Quoted(line[i + 1]))?;
-            i += 2;
-        } else {
-            signs.push(read_sign(quote, byte))?;
-            quote = quote_after(quote, byte);
-            i += 1;
-        }
-    }
+    let quote = add_signs(&mut signs, line, names)?;
     if quote != 0 {
         return Ok(None);
     }

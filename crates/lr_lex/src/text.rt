@@ -1,17 +1,10 @@
 // Bytes that are text.
 ghost use Rattle.std.specs.Prelude.{◌≡◌, IfOk, IsUtf8};
-ghost use Rattle.std.specs.Str.{is_utf8};
 ghost use Rattle.std.specs.List.{list_any};
 ghost use Rattle.lr_lex.specs.Items.{is_text, is_zero};
 
-use lr_rules::{Memory, Text, TextFault};
+use lr_rules::{Memory, Text, TextFault, is_utf8};
 use std::alloc::Global;
-
-fn utf8(bytes: &[u8]) -> bool
-    ensures { result ≡ is_utf8 bytes.now }
-{
-    str::from_utf8(bytes).is_ok()
-}
 
 fn has_zero(bytes: &[u8]) -> bool
     ensures { result ≡ list_any is_zero bytes.now }
@@ -24,7 +17,7 @@ fn has_zero(bytes: &[u8]) -> bool
 pub fn is_text(bytes: &[u8]) -> bool
     ensures { result ≡ is_text bytes.now }
 {
-    utf8(bytes) && !has_zero(bytes)
+    is_utf8(bytes) && !has_zero(bytes)
 }
 
 /// The text of bytes that are UTF-8.
