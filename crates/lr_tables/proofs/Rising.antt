@@ -8,7 +8,7 @@ use Rattle.lr_tables.specs.Table.{IsRowOf, words, rising}
 use Rattle.lr_tables.specs.declared.keyed.Row.{Row}
 use Rattle.std.proofs.lemmas.Option.{slice_get-map, slice_get-get_or}
 use Rattle.std.specs.Option.{option_map}
-use Rattle.std.proofs.lemmas.Bool.{cases_lt}
+use Rattle.std.proofs.lemmas.Bool.{cases_lt, and_parts}
 use Rattle.std.proofs.lemmas.Map.Text.{is_eq-slice_cmp}
 use Rattle.std.proofs.lemmas.Slice.Eq.{bytes_eq-Decides}
 use Rattle.std.proofs.Common.{inl, inr, get_or, ◌⊎◌}
@@ -21,29 +21,24 @@ pub half : (size more limit steps : ℕ) → 0 < size → 2 * more ≤ size → 
 half size more limit steps some halved (zero, is, fits) = absurd (omega (arith, fits))
 half size more limit steps some halved (suc e, is, fits) = (e, omega (arith, is), omega (arith, fits))
 
-both : (a b : Bool) → IsTrue (a && b) → IsTrue a × IsTrue b
-both true true h = (refl, refl)
-both true false h = absurd (cc)
-both false b h = absurd (cc)
-
 less_of : (o : Ordering) → IsTrue (is_lt o) → o ≡ Less
 less_of Less h = refl
 less_of Equal h = absurd (cc)
 less_of Greater h = absurd (cc)
 
 first_below : (x y : List ℕ) (ws : List (List ℕ)) → IsTrue (rising (x ∷ y ∷ ws)) → slice_cmp nat_cmp x y ≡ Less
-first_below x y ws r = less_of (slice_cmp nat_cmp x y) (both _ _ r).0
+first_below x y ws r = less_of (slice_cmp nat_cmp x y) (and_parts _ _ r).0
 
 -- each word behind the first is after it
 head_below : (x : List ℕ) (ws : List (List ℕ)) → IsTrue (rising (x ∷ ws)) → (j : ℕ) (b : List ℕ) → slice_get ws j ≡ Some b → slice_cmp nat_cmp x b ≡ Less
 head_below x [] r j b at = absurd (cc)
 head_below x (y ∷ ws) r zero b at = let e : y ≡ b = cc in rw (← e) (first_below x y ws r)
 head_below x (y ∷ ws) r (suc j) b at =
-    nat_list_cmp_total.trans x y b (first_below x y ws r) (head_below y ws (both (is_lt (slice_cmp nat_cmp x y)) _ r).1 j b at)
+    nat_list_cmp_total.trans x y b (first_below x y ws r) (head_below y ws (and_parts (is_lt (slice_cmp nat_cmp x y)) _ r).1 j b at)
 
 tail_rising : (x : List ℕ) (ws : List (List ℕ)) → IsTrue (rising (x ∷ ws)) → IsTrue (rising ws)
 tail_rising x [] r = refl
-tail_rising x (y ∷ ws) r = (both (is_lt (slice_cmp nat_cmp x y)) _ r).1
+tail_rising x (y ∷ ws) r = (and_parts (is_lt (slice_cmp nat_cmp x y)) _ r).1
 
 -- an earlier word is before a later one
 pub below : (ws : List (List ℕ)) → IsTrue (rising ws) → (i j : ℕ) → i < j → (a b : List ℕ) → slice_get ws i ≡ Some a → slice_get ws j ≡ Some b → slice_cmp nat_cmp a b ≡ Less
