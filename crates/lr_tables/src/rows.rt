@@ -16,12 +16,7 @@ macro_rules! undone {
     ($other:ident) => { Some(Directive::$other) };
 }
 
-/// The directives of logrotate(8), those that are passed over among them. No memory is taken.
-pub fn directives() -> Keyed<65>
-    ensures { contents result.rows ≡ directive_table }
-{
-    Keyed {
-        rows: rows![
+static ROWS: [Row; 65] = rows![
         b"addextension" => Addextension,
         b"allowhardlink" => Allowhardlink,
         b"compress" => Compress,
@@ -87,6 +82,11 @@ pub fn directives() -> Keyed<65>
         b"uncompresscmd" => Uncompresscmd,
         b"weekly" => Weekly,
         b"yearly" => Yearly
-    ],
-    }
+];
+
+/// The directives of logrotate(8), those that are passed over among them. No memory is taken.
+pub fn directives() -> Keyed<65>
+    ensures { contents result.rows.now ≡ directive_table }
+{
+    Keyed { rows: &ROWS }
 }
