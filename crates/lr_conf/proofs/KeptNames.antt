@@ -1,6 +1,7 @@
 -- A name as a rule has it gives the path of the name, and is no pattern where the name is none.
 use Rattle.std.proofs.Common.{◌≡◌, ℕ, ◌==◌, Bool, true, false, cond, not, ◌&&◌, ◌||◌, List, [], ◌∷◌, ◌++◌, map, refl, ap, sym, ◌∙◌, arith}
 use Rattle.std.specs.List.{slice_split, onto_first, list_any}
+use Rattle.std.proofs.lemmas.Bool.{and_right}
 use Rattle.std.proofs.lemmas.Bool.Decides.{nat_tests}
 use Rattle.lr_rules.specs.Path.{is_slash, is_kept, kept_parts, behind_slashes as path_parts}
 use Rattle.lr_rules.specs.Match.{is_sign, has_sign, literal_path}
@@ -123,14 +124,10 @@ tail_of (p ∷ ps) = by (is_step p) (tail_of ps)
     by true t = goes_on (p ++ behind_slashes ps)
     by false t = t
 
-no_escape : (b : Bool) → (b && false) ≡ false
-no_escape true = refl
-no_escape false = refl
-
 literal_append : (p rest : List ℕ) → Tail rest → literal_path (p ++ rest) ≡ literal_path p ++ literal_path rest
 literal_append [] rest t = refl
 literal_append (c ∷ []) _ ends = refl
-literal_append (c ∷ []) _ (goes_on rest) = ap (λ e. cond e (47 ∷ literal_path rest) (c ∷ literal_path (47 ∷ rest))) (no_escape (c == 92))
+literal_append (c ∷ []) _ (goes_on rest) = ap (λ e. cond e (47 ∷ literal_path rest) (c ∷ literal_path (47 ∷ rest))) (and_right (c == 92) false refl)
 literal_append (c ∷ d ∷ cs) rest t = by (escapes c d) (literal_append cs rest t) (literal_append (d ∷ cs) rest t)
   where
     by : (e : Bool) → literal_path (cs ++ rest) ≡ literal_path cs ++ literal_path rest → literal_path (d ∷ cs ++ rest) ≡ literal_path (d ∷ cs) ++ literal_path rest

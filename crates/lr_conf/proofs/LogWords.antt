@@ -7,7 +7,7 @@ use Rattle.lr_rules.specs.Limits.{can_be_log}
 use Rattle.lr_rules.specs.Match.{is_wildcard, literal_path}
 use Rattle.lr_conf.specs.Values.{root, names_log, is_log_name, kept_name}
 use Rattle.lr_conf.specs.Plain.{IsLogWord}
-use Rattle.lr_conf.proofs.Numbers.{both}
+use Rattle.std.proofs.lemmas.Bool.{and_parts}
 use Rattle.lr_conf.proofs.KeptNames.{path_of_kept, plain_kept}
 
 none_of : (b : Bool) (o : Option PathFault) → is_none (cond b (Some fault.Relative) o) ≡ true → o ≡ None
@@ -17,8 +17,8 @@ none_of false (Some f) h = absurd (cc)
 
 log_path : (literal : List ℕ) → names_log literal ≡ true → (path_fault (kept_parts literal) ≡ None) × (can_be_log (kept_parts literal) ≡ true)
 log_path literal h =
-    let a = both (is_absolute literal) (is_none (word_fault root literal) && can_be_log (cleaned root literal)) h in
-    let b = both (is_none (word_fault root literal)) (can_be_log (cleaned root literal)) a.1 in
+    let a = and_parts (is_absolute literal) (is_none (word_fault root literal) && can_be_log (cleaned root literal)) h in
+    let b = and_parts (is_none (word_fault root literal)) (can_be_log (cleaned root literal)) a.1 in
     let e : cleaned root literal ≡ or_root (kept_parts literal) = ap (λ c. or_root (cond c [] (kept_parts root) ++ kept_parts literal)) a.0 in
     by (kept_parts literal) refl (sym (ap path_fault e) ∙ none_of (is_empty literal) (path_fault (cleaned root literal)) b.0) (sym (ap can_be_log e) ∙ b.1)
   where

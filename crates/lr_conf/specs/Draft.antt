@@ -44,6 +44,10 @@ default_fields = record {
   dated = false;
 }
 
+-- the fields that a definition begins with, where the line has a brace
+abbrev pub fields_at : Bool → Fields → Option Fields
+fields_at brace defaults = if brace then Some defaults else None
+
 -- the way, set back to renames where it is this one
 abbrev pub without : Way → Way → Way
 without way.Copy way.Copy = way.Rename

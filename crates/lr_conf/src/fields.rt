@@ -3,7 +3,7 @@ ghost use Rattle.std.specs.Prelude.{◌≡◌, IfOk};
 ghost use Rattle.lr_conf.specs.Draft.{with_set, without, default_fields};
 
 use crate::set::Set;
-use lr_rules::{Count, Criterion, Make, Memory, Text, Way};
+use lr_rules::{Count, Criterion, Make, Memory, Text, Way, copy_text};
 use std::alloc::Global;
 
 /// The fields of a definition, or the defaults that lines outside definitions made. Sizes are in bytes.
@@ -41,15 +41,6 @@ pub fn default_fields() -> Fields
         mailfirst: false,
         shared: false,
         dated: false,
-    }
-}
-
-fn copy_text(alloc: Global, text: &Option<Text>) -> Result<Option<Text>, Memory>
-    ensures { IfOk result (λ copy. copy ≡ text.now) }
-{
-    match text {
-        Some(text) => Ok(Some(text.copy(alloc)?)),
-        None => Ok(None),
     }
 }
 

@@ -96,9 +96,9 @@ impl Draft {
         requires { 0 < length (files_of self.old) }
         ensures { Closes self.old self.new (file_of_draft self.old) result }
     {
-        let file = self.files.top().copy(self.alloc)?;
-        let dated = format_of(self.alloc, &self.fields)?;
         self.rules.reserve(1)?;
+        let dated = format_of(self.alloc, &self.fields)?;
+        let file = self.files.top().copy(self.alloc)?;
         let words = Listed::from_vec(mem::replace(&mut self.words, Vec::new(self.alloc)));
         let fields = mem::replace(&mut self.fields, default_fields());
         let line = self.first.take().unwrap_or(0);

@@ -1,12 +1,12 @@
 // Lines outside definitions.
-ghost use Rattle.std.specs.Prelude.{◌≡◌, ◌<◌, ◌∷◌, ◌++◌, [], Some, OnOk, OnErr, length};
+ghost use Rattle.std.specs.Prelude.{◌≡◌, ◌<◌, ◌∷◌, ◌++◌, [], Some, IfOk, OnOk, OnErr, length};
 ghost use Rattle.lr_conf.specs.declared.place.Place.TheVariants as place;
 ghost use Rattle.lr_conf.specs.declared.said.Said.TheVariants as says;
 ghost use Rattle.lr_conf.specs.Meaning.{judged, stands};
-ghost use Rattle.lr_conf.specs.Draft.{Speaks, Noticed, SameRest, Aside, Unchanged, Settled, stray_kind, answer_of, file_of_draft, files_of, without_names, state_of};
+ghost use Rattle.lr_conf.specs.Draft.{Speaks, Noticed, SameRest, Aside, Unchanged, fields_at, Settled, stray_kind, answer_of, file_of_draft, files_of, without_names, state_of};
 
 use crate::draft::Draft;
-use crate::fields::{copy_fields, set_field};
+use crate::fields::{Fields, copy_fields, set_field};
 use crate::place::Place;
 use crate::said::Said;
 use crate::stop::{Include, LayerStop};
@@ -70,6 +70,17 @@ impl Draft {
         self.first.take()
     }
 
+    // The fields of a definition that begins here, where the line has a brace.
+    fn fields_at(&self, brace: bool) -> Result<Option<Fields>, Memory>
+        ensures { IfOk result (λ begun. begun ≡ fields_at brace self.now.defaults) }
+    {
+        if brace {
+            Ok(Some(copy_fields(self.alloc, &self.defaults)?))
+        } else {
+            Ok(None)
+        }
+    }
+
     /// Names of logs.
     fn names(
         &mut self,
@@ -80,15 +91,12 @@ impl Draft {
         requires { self.old.place ≡ place.Outside }
         ensures { Speaks self.old self.new (file_of_draft self.old) (stands at brace (says.Names names)) result }
     {
-        let mut names = names.into_vec();
-        if brace {
-            let fields = copy_fields(self.alloc, &self.defaults)?;
-            self.words.append(&mut names)?;
+        let begun = self.fields_at(brace)?;
+        self.words.append(&mut names.into_vec())?;
+        if let Some(fields) = begun {
             self.fields = fields;
             self.begun = true;
             self.place = Place::Good;
-        } else {
-            self.words.append(&mut names)?;
         }
         if self.first.is_none() {
             self.first = Some(at);
