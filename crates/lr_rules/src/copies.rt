@@ -15,7 +15,8 @@ pub fn copy_texts(alloc: Global, texts: &[Text]) -> Result<Listed<Text>, Memory>
     Ok(Listed::from_vec(copy))
 }
 
-fn copy_text(alloc: Global, text: &Option<Text>) -> Result<Option<Text>, Memory>
+/// A copy of the text, where there is one.
+pub fn copy_text(alloc: Global, text: &Option<Text>) -> Result<Option<Text>, Memory>
     ensures { IfOk result (λ copy. copy ≡ text.now) }
 {
     match text {
