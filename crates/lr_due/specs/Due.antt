@@ -2,7 +2,7 @@
 use Rattle.std.specs.Prelude.{ℕ, ◌+◌, ◌/◌, ◌%◌, ◌==◌, ℤ, pos, negsuc, ◌-ℤ◌, Bool, true, false, not, ◌&&◌, ◌||◌, List, [], ◌∷◌, Option, Some, None, nat_lt, nat_le, int_lt, int_le, if◌then◌else◌}
 use Rattle.std.specs.Ordering.{int_eq}
 use Rattle.jiff_core.specs.Calendar.{days_from_civil, weekday_number}
-use Rattle.lr_rules.specs.Civil.{moment_seconds}
+use Rattle.lr_rules.specs.Between.{seconds_between}
 use Rattle.lr_rules.specs.declared.civil.Civil.{Civil}
 use Rattle.lr_rules.specs.declared.civil.Moment.{Moment}
 use Rattle.lr_rules.specs.declared.rule.Rule.{Rule}
@@ -50,10 +50,6 @@ size_limit (Weekly day) = None
 size_limit Monthly = None
 size_limit Yearly = None
 
--- civil seconds since 1970-01-01 0:0:0
-abbrev pub civil_seconds_of : Civil → ℤ
-civil_seconds_of c = moment_seconds c.year c.month c.day c.hour c.minute c.second
-
 -- the number of the day, where 1970-01-01 is 0
 abbrev pub day_of : Civil → ℤ
 day_of c = days_from_civil c.year c.month c.day
@@ -67,10 +63,6 @@ is_same_month a b = int_eq a.year b.year && (a.month == b.month)
 
 abbrev pub is_same_date : Civil → Civil → Bool
 is_same_date a b = is_same_month a b && (a.day == b.day)
-
--- how many civil seconds a moment is ahead of another
-abbrev pub seconds_ahead : Civil → Civil → ℤ
-seconds_ahead last now = civil_seconds_of last -ℤ civil_seconds_of now
 
 -- how many dates a moment is past another
 abbrev pub days_past : Civil → Civil → ℤ
@@ -99,7 +91,7 @@ is_unknown (Some last) = false
 -- the state's moment is more than so many civil seconds ahead
 abbrev pub is_ahead : ℤ → Option Civil → Civil → Bool
 is_ahead seconds None now = false
-is_ahead seconds (Some last) now = int_lt seconds (seconds_ahead last now)
+is_ahead seconds (Some last) now = int_lt seconds (seconds_between now last)
 
 -- the criterion has turned since the state's moment
 abbrev pub has_turned_since : Criterion → Option Civil → Civil → Bool

@@ -11,7 +11,7 @@ use Rattle.jiff_tz.specs.TzifReader.{read_tzif}
 use Rattle.jiff_tz.specs.Tzif.{tzif_view, RuleAgrees, HasBadRule}
 use Rattle.jiff_tz.specs.Zone.{offset_at}
 use Rattle.jiff.specs.Placed.{IsPosixZone}
-use Rattle.lr_rules.specs.Civil.{moment_seconds}
+use Rattle.lr_rules.specs.Between.{civil_seconds}
 use Rattle.lr_rules.specs.declared.civil.Civil.{Civil}
 use Rattle.lr_rules.specs.declared.clock.Clock.{Clock}
 use Rattle.lr_due.specs.declared.zone.ZoneText.{ZoneText}
@@ -60,7 +60,7 @@ IsRefusal (Err Memory) = Unit {0}
 -- the civil moment is what a clock in the zone shows at that second
 abbrev pub ShowsAt : TimeZone → ℤ → Civil → Type 0
 ShowsAt tz seconds c =
-    moment_seconds c.year c.month c.day c.hour c.minute c.second
+    civil_seconds c
     ≡ seconds +ℤ offset_at tz (nanos_of_seconds seconds)
 
 -- the same time of the civil day before

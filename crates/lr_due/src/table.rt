@@ -1,6 +1,6 @@
 // The table of cases by which a log is due or not.
 ghost use Rattle.std.specs.Prelude.{◌≡◌};
-ghost use Rattle.lr_due.specs.Due.{age_days, is_young, is_spared_empty, is_above, is_within, size_limit, seconds_ahead, days_past, is_ahead, is_on_day, has_turned, has_turned_since, due_of};
+ghost use Rattle.lr_due.specs.Due.{age_days, is_young, is_spared_empty, is_above, is_within, size_limit, days_past, is_ahead, is_on_day, has_turned, has_turned_since, due_of};
 
 use crate::answer::{Due, Why, WhyNot};
 use crate::calendar::weekday;
@@ -62,18 +62,12 @@ fn limit_of(criterion: Criterion) -> Option<u64>
     }
 }
 
-fn seconds_between(last: &Civil, now: &Civil) -> i64
-    ensures { result ≡ seconds_ahead last.now now.now }
-{
-    last.seconds() - now.seconds()
-}
-
 /// Whether the state's moment is more than so many civil seconds ahead.
 fn ahead(seconds: i64, last: Option<Civil>, now: &Civil) -> bool
     ensures { result ≡ is_ahead seconds last now.now }
 {
     match last {
-        Some(last) => seconds_between(&last, now) > seconds,
+        Some(last) => last.seconds_since(now) > seconds,
         None => false,
     }
 }
