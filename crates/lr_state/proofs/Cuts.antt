@@ -17,9 +17,6 @@ by_found n len false le e = omega (arith, ltb-false n len e)
 pub unwrap_position : (p : ℕ → Bool) (xs : List ℕ) → unwrap_or (position p xs) (length xs) ≡ position_or_len p xs
 unwrap_position p xs = by_found (position_or_len p xs) (length xs) (nat_lt (position_or_len p xs) (length xs)) (first-le p xs) refl
 
-pub take-rest : (n : ℕ) (xs : List ℕ) → take (length xs - n) (drop n xs) ≡ drop n xs
-take-rest n xs = rw (← length-drop n xs) (take_all (length (drop n xs)) (drop n xs) (omega arith))
-
 none_by : (p : ℕ → Bool) (x : ℕ) (xs : List ℕ) (b : Bool) → p x ≡ b → suc (length xs) ≤ cond (not b) (1 + position_or_len p xs) 0
     → (length xs ≤ position_or_len p xs → slice_split p xs ≡ xs ∷ []) → slice_split p (x ∷ xs) ≡ (x ∷ xs) ∷ []
 none_by p x xs true e le next = absurd (omega arith)

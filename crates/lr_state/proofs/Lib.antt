@@ -1,6 +1,5 @@
 mod Cuts
 mod Dates
-mod Days
 mod Decimals
 mod Left
 mod Lengths

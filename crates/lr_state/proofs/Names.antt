@@ -1,7 +1,7 @@
 -- Names in front of lines: the reader's steps and the grammar agree.
 use Rattle.std.proofs.Common.{◌≡◌, ◌∙◌, ap, sym, subst, refl, ℕ, Bool, true, false, not, ◌||◌, ◌==◌, cond, List, [], ◌∷◌, ◌++◌, take, map, Option, Some, None, append_assoc, ◌⊎◌, inl, inr}
 use Rattle.std.specs.List.{list_all, flat_map}
-use Rattle.std.proofs.lemmas.Bool.{and_parts, and_from, not-true, eqb-true, cond-true, cond-false}
+use Rattle.std.proofs.lemmas.Bool.{and_parts, and_from, or_parts, not-true, eqb-true, cond-true, cond-false}
 use Rattle.lr_state.specs.Grammar.{Sign, spelling, is_sign, byte_of, is_blank, is_other, is_end, IsQuoted, IsBare, IsNamed}
 use Rattle.lr_state.specs.Table.{is_name}
 use Rattle.lr_state.specs.Reading.{Named, with_byte, with_front, quoted, before, from_first, name_in, checked}
@@ -16,10 +16,6 @@ pub record IsCut (p : ℕ → Bool) (xs front back : List ℕ) : Type 0 where
   pub whole : front ++ back ≡ xs
   pub clear : list_all (λ b. not (p b)) front ≡ true
   pub stops : starts p back ≡ true
-
-or_false : (a b : Bool) → (a || b) ≡ false → (a ≡ false) × (b ≡ false)
-or_false true b e = absurd (cc e)
-or_false false b e = (refl, e)
 
 -- the name so far stands in front of what is still to be read
 pub front-byte : (xs : List ℕ) (b : ℕ) (o : Option Named) → with_front (xs ++ b ∷ []) o ≡ with_front xs (with_byte b o)
@@ -108,7 +104,7 @@ quoted-complete [] rest each = refl
 quoted-complete ((true, b) ∷ signs) rest each = ap (with_byte b) (quoted-complete signs rest each)
 quoted-complete ((false, b) ∷ signs) rest each =
     let parts = and_parts (not ((b == 34) || (b == 92))) (list_all is_sign signs) each in
-    let none = or_false (b == 34) (b == 92) (not-true _ parts.0) in
+    let none = or_parts (b == 34) (b == 92) (not-true _ parts.0) in
     cond-false _ _ _ none.0 ∙ cond-false _ _ _ none.1 ∙ ap (with_byte b) (quoted-complete signs rest parts.1)
 
 checked-some : (o : Option Named) (x : Named) → checked o ≡ Some x → (o ≡ Some x) × (is_name x.0 ≡ true)

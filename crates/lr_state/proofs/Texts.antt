@@ -172,7 +172,7 @@ apart-next before e (x ∷ xs) apart new =
     by true is h = absurd (cc h)
     by false is h = (is, h)
 
-none_from : (o : Option Civil) → is_some o ≡ false → o ≡ None
+pub none_from : (o : Option Civil) → is_some o ≡ false → o ≡ None
 none_from None e = refl
 none_from (Some at) e = absurd (cc e)
 

@@ -2,7 +2,7 @@
 use Rattle.std.specs.Prelude.{Bool, true, not, ◌&&◌, ◌≡◌, ℕ, ℤ, pos, ◌-ℤ◌, int_lt, nat_lt, nat_le, List, [], ◌∷◌, length, Option, Some, None, is_some, if◌then◌else◌}
 use Rattle.std.specs.Borrow.{Bor}
 use Rattle.std.specs.Str.{bytes_eq, is_utf8}
-use Rattle.lr_rules.specs.Civil.{moment_seconds}
+use Rattle.lr_rules.specs.Between.{seconds_between}
 use Rattle.lr_rules.specs.Path.{has_bad_byte}
 use Rattle.lr_rules.specs.declared.civil.Civil.{Civil}
 
@@ -28,15 +28,9 @@ unfoldable pub is_table : List Entry → Bool
 is_table [] = true
 is_table (e ∷ es) = is_name e.0 && not (is_some (moment_of es e.0)) && is_table es
 
--- how many civil seconds a moment is before now
-abbrev pub civil_seconds_since : Civil → Civil → ℤ
-civil_seconds_since at now =
-    moment_seconds now.year now.month now.day now.hour now.minute now.second
-    -ℤ moment_seconds at.year at.month at.day at.hour at.minute at.second
-
 -- more than 366 times 86,400 civil seconds before now
 abbrev pub is_old : Civil → Civil → Bool
-is_old at now = int_lt (pos 31_622_400) (civil_seconds_since at now)
+is_old at now = int_lt (pos 31_622_400) (seconds_between at now)
 
 -- a closure on names answers by the test
 abbrev pub IsNameTest : (Bor (List ℕ) → Bool → Type 0) → (List ℕ → Bool) → Type 0

@@ -1,34 +1,21 @@
 // Names in front of a line, between quotes or as they are.
 ghost use Rattle.std.specs.Prelude.{◌≡◌, ◌≤◌, length, false, IfOk, option_map};
 ghost use Rattle.std.specs.List.{position_or_len};
-ghost use Rattle.std.specs.Str.{is_utf8};
-ghost use Rattle.lr_rules.specs.Path.{has_bad_byte};
 ghost use Rattle.lr_state.specs.Grammar.{is_blank};
 ghost use Rattle.lr_state.specs.Reading.{seen_name, quoted, bare, name_in, checked};
 ghost use Rattle.lr_state.specs.Table.{is_name};
 
 use crate::moment::blank;
+use lr_rules::{has_bad_byte, is_utf8};
 use std::alloc::{AllocError, Global};
-
-fn bad_byte(name: &[u8]) -> bool
-    ensures { result ≡ has_bad_byte name.now }
-{
-    name.iter().any(|b| *b == b'\n' || *b == 0)
-}
-
-fn is_text(bytes: &[u8]) -> bool
-    ensures { result ≡ is_utf8 bytes.now }
-{
-    str::from_utf8(bytes).is_ok()
-}
 
 /// Whether these bytes are the name of a log.
 #[tactic(auto, unfolding(crate::specs::Table::is_name))]
 pub(crate) fn good(name: &[u8]) -> bool
     ensures { result ≡ is_name name.now }
 {
-    let text = is_text(name);
-    let bad = bad_byte(name);
+    let text = is_utf8(name);
+    let bad = has_bad_byte(name);
     !name.is_empty() && name.len() <= 4096 && text && !bad
 }
 

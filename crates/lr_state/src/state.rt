@@ -1,7 +1,7 @@
 // The table of a state file.
 ghost use Rattle.std.specs.Prelude.{◌≡◌, ◌<◌, ◌≤◌, ◌^◌, ◌-◌, ℕ, List, [], filter, not, Bool, ◌||◌, ◌++◌, ◌∷◌, OnOk, OnErr, IsSome, IsOk, IsTrue, Some, Ok, length, take, min, slice_get};
 ghost use Rattle.lr_state.specs.Grammar.{TextSays};
-ghost use Rattle.lr_state.specs.Table.{Entry, moment_of, put, is_name, civil_seconds_since, is_old, IsNameTest};
+ghost use Rattle.lr_state.specs.Table.{Entry, moment_of, put, is_name, is_old, IsNameTest};
 ghost use Rattle.lr_state.specs.Written.{line_of, text_of};
 
 use crate::write::put_line;
@@ -28,18 +28,11 @@ impl Model for State {
     ghost invariant = { λ s. is_table (map (λ e. (e.0.items, e.1)) s.entries.entries) ≡ true };
 }
 
-/// How many civil seconds a moment is before now.
-fn seconds_since(at: &Civil, now: &Civil) -> i64
-    ensures { result ≡ civil_seconds_since at.now now.now }
-{
-    now.seconds() - at.seconds()
-}
-
 /// Whether a moment is more than 366 times 86,400 civil seconds before now.
 fn is_past(at: &Civil, now: &Civil) -> bool
     ensures { result ≡ is_old at.now now.now }
 {
-    seconds_since(at, now) > 31_622_400
+    now.seconds_since(at) > 31_622_400
 }
 
 impl State {

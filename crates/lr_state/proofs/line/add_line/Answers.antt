@@ -3,6 +3,7 @@ use Rattle.lr_rules.specs.declared.civil.Civil.{Civil}
 use Rattle.lr_state.specs.Answer.{LineSaysOnly}
 use Rattle.lr_state.specs.Reading.{seen_name}
 use Rattle.lr_state.specs.Table.{Entry, moment_of}
+use Rattle.lr_state.proofs.Texts.{none_from}
 use Rattle.lr_state.proofs.Lines.{says-bad_name, says-bad_date, says-twice, says-new}
 use Rattle.lr_state.proofs.line.add_line.Goals as goal
 
@@ -10,10 +11,6 @@ full : (line : List ℕ) (b : Bool) → b ≡ (length line == 0) → b ≡ false
 full line b is filled e =
     let never : false ≡ true = sym filled ∙ is ∙ ap (λ (l : List ℕ). length l == 0) e in
     absurd (cc never)
-
-none_from : (o : Option Civil) → is_some o ≡ false → o ≡ None
-none_from None e = refl
-none_from (Some at) e = absurd (cc e)
 
 pub returns-in_default : goal.returns-in_default
 returns-in_default c =

@@ -2,7 +2,7 @@ use Rattle.std.proofs.Common.{◌≡◌, ◌∙◌, ap, sym, subst, refl, ℕ, �
 use Rattle.std.proofs.lemmas.Bool.{cond-false, ne_eqb}
 use Rattle.std.proofs.lemmas.List.{drop_all, append-nil}
 use Rattle.lr_state.specs.Reading.{Named, with_front, quoted}
-use Rattle.lr_state.proofs.Cuts.{take-rest}
+use Rattle.std.proofs.lemmas.List.{take_rest}
 use Rattle.lr_state.proofs.Names.{front-byte}
 use Rattle.lr_state.proofs.name.between_quotes.Goals as goal
 use Rattle.lr_state.proofs.name.between_quotes.Goals.{then-escape+in_ok-push, else-escape+else-byte-eq34+then-byte-eq92, else-escape+else-byte-eq34+else-byte-eq92+in_ok-push-2}
@@ -67,7 +67,7 @@ loop-at-preserved c =
 pub returns-then-byte-eq34 : goal.returns-then-byte-eq34
 returns-then-byte-eq34 c =
     let at = c.loop-at.at in
-    let rest : take (length c.args.text.now - (at + 1)) (drop (at + 1) c.args.text.now) ≡ drop (at + 1) c.args.text.now = take-rest (at + 1) c.args.text.now in
+    let rest : take (length c.args.text.now - (at + 1)) (drop (at + 1) c.args.text.now) ≡ drop (at + 1) c.args.text.now = take_rest c.args.text.now (at + 1) in
     ap (λ (xs : List ℕ). Some (c.loop-at.name.items, xs)) rest
     ∙ step-quote c.args.text.now at c.loop-at.name.items (omega arith) c.if-byte-eq34.true
     ∙ subst (λ (e : Bool). with_front c.loop-at.name.items (quoted e (drop at c.args.text.now)) ≡ quoted false c.args.text.now) c.if-escape.false c.loop-at.invariant
