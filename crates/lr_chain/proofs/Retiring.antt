@@ -55,12 +55,12 @@ next_refused list at x why is lt so_far now = left_as (left_both so_far now) (λ
 -- a cause since later is one since earlier
 run_since : (phase : Phase) (o : Option Command) (why : Bad) (before mid now : Counts) → Onward before mid → MaybeCause phase o why mid now → MaybeCause phase o why before now
 run_since phase None why before mid now fell cause = absurd cause
-run_since phase (Some command) (bad.Script told end) before mid now fell cause = (cause.0, cause.1, omega (arith, fell.1, cause.2))
-run_since phase (Some command) (bad.Call kind) before mid now fell cause = (cause.0, omega (arith, fell.0, cause.1))
+run_since phase (Some command) (bad.Script told end) before mid now fell cause = (cause.0, cause.1, omega (arith, fell.0.1, cause.2))
+run_since phase (Some command) (bad.Call kind) before mid now fell cause = (cause.0, omega (arith, fell.0.0, cause.1))
 run_since phase (Some command) bad.Memory before mid now fell cause = tt
 
 cause_since : (x : Removal) (why : Bad) (before mid now : Counts) → Onward before mid → RemovalCause x why mid now → RemovalCause x why before now
-cause_since x (bad.Call call.Unlink) before mid now fell cause = omega (arith, fell.0, cause)
+cause_since x (bad.Call call.Unlink) before mid now fell cause = omega (arith, fell.0.0, cause)
 cause_since x why before mid now fell cause = ⊎_elim (λ p. inl (run_since phase.Preremove x.preremove why before mid now fell p)) (λ p. inr (run_since phase.Mail x.mail why before mid now fell p)) cause
 
 pub next_cause : (list : List Removal) (at : ℕ) (x : Removal) (why : Bad) (before mid now : Counts) → x ≡ get_or list at x → at < length list → Onward before mid → RemovalCause x why mid now → RetireCause list at why before now

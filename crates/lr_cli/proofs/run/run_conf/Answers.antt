@@ -29,8 +29,8 @@ returns-in-Ok-run-clause-no_out g c =
 pub returns-in-Ok-run-clause-call : goal.returns-in-Ok-run-clause-call
 returns-in-Ok-run-clause-call g c =
     λ kind path. either_call c.into_vec.result.items (drop (length c.into_vec.result.items) c.in-Ok-run.ran.faults.items) _ (fault.Call kind path) _ c.in-Ok-run.ensures.earlier
-    (λ h. rose_then _ _ _ (c.in-Ok.ensures.cause kind path (subst (λ (fs : List Fault). Contains fs (fault.Call kind path)) c.into_vec.ensures h)) c.run.ensures.counts.0)
-    (λ h. rose_after _ _ _ c.read_conf.ensures.counts.0 (c.in-Ok-run.ensures.cause (any_call _ kind path h)))
+    (λ h. rose_then _ _ _ (c.in-Ok.ensures.cause kind path (subst (λ (fs : List Fault). Contains fs (fault.Call kind path)) c.into_vec.ensures h)) c.run.ensures.counts.0.0)
+    (λ h. rose_after _ _ _ c.read_conf.ensures.counts.0.0 (c.in-Ok-run.ensures.cause (any_call _ kind path h)))
 
 pub returns-clause-told : goal.returns-clause-told
 returns-clause-told g c = stopped c.args.conf.now c.args.state.now c.args.now.now c.in-Ok.reading c.in-Err.stop c.requires.state c.in-Ok.ensures.told c.in-Err.ensures.told
@@ -47,10 +47,10 @@ returns-clause-shape g c = conf_shape c.args.conf.now _ c.in-Ok.ensures.told c.r
 pub returns-in-Ok-run-clause-exactly : goal.returns-in-Ok-run-clause-exactly
 returns-in-Ok-run-clause-exactly g c =
     λ calm. both_exactly c.args.conf.now c.args.state.now c.args.now.now c.in-Ok.reading (drop (length c.into_vec.result.items) c.in-Ok-run.ran.faults.items) c.in-Ok-run.ran.faults.items c.requires.state
-    (λ a. calm (rose_after _ _ _ c.read_conf.ensures.counts.0 (c.in-Ok-run.ensures.cause a)))
+    (λ a. calm (rose_after _ _ _ c.read_conf.ensures.counts.0.0 (c.in-Ok-run.ensures.cause a)))
     (c.in-Ok-run.ensures.earlier ∙ ap (λ fs. fs ++ drop (length c.into_vec.result.items) c.in-Ok-run.ran.faults.items) c.into_vec.ensures)
-    (c.in-Ok.ensures.exactly (λ rose. calm (rose_then _ _ _ rose c.run.ensures.counts.0)))
-    (c.in-Ok-run.ensures.exactly (λ rose. calm (rose_after _ _ _ c.read_conf.ensures.counts.0 rose)) (λ e. cc))
+    (c.in-Ok.ensures.exactly (λ rose. calm (rose_then _ _ _ rose c.run.ensures.counts.0.0)))
+    (c.in-Ok-run.ensures.exactly (λ rose. calm (rose_after _ _ _ c.read_conf.ensures.counts.0.0 rose)) (λ e. cc))
 
 pub returns-in_default-clause-excused : goal.returns-in_default-clause-excused
 returns-in_default-clause-excused g c = λ e. left_as c.in_default.ensures.lacking (λ ts h. at_conf h)
