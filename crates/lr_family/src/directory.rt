@@ -13,7 +13,7 @@ use lr_rules::{CallKind, Path};
 use std::alloc::Global;
 
 /// Why it isn't known whether the directory is there.
-#[derive(Clone, Copy, Debug, PartialEq, Eq)]
+#[derive(Clone, Copy)]
 pub enum DirStop {
     /// The look failed.
     Call,

@@ -18,7 +18,7 @@ use lr_rules::{CallKind, Memory, Path};
 use std::alloc::Global;
 
 // Why a path isn't seen as a regular file or as nothing.
-#[derive(Clone, Copy, Debug, PartialEq, Eq)]
+#[derive(Clone, Copy)]
 pub enum LookStop {
     /// The look failed.
     Call,

@@ -1,7 +1,7 @@
 // The places of members, and why a place has no name.
 
 /// The place of a member in its family.
-#[derive(Clone, Copy, Debug, PartialEq, Eq)]
+#[derive(Clone, Copy, PartialEq, Eq)]
 pub enum Place {
     /// Of a numbered member: its number less the start; 0 is the newest.
     Number(u32),
@@ -10,7 +10,7 @@ pub enum Place {
 }
 
 /// Why a place has no name.
-#[derive(Clone, Copy, Debug, PartialEq, Eq)]
+#[derive(Clone, Copy)]
 pub enum NameStop {
     /// The member's number would be above 4,294,967,295.
     TooHigh,
