@@ -1,5 +1,5 @@
 // The numbers in the names of members.
-ghost use Rattle.std.specs.Prelude.{◌≡◌, ◌≢◌, ◌≤◌, ℕ, List, decimal, IfOk, IfSome, IfNone, MatchOption};
+ghost use Rattle.std.specs.Prelude.{◌≡◌, ◌≢◌, ◌≤◌, ◌++◌, ℕ, List, decimal, OnOk, IfOk, IfSome, IfNone, MatchOption};
 ghost use Rattle.lr_rules.specs.Names.{IsMemberAt};
 ghost use Rattle.lr_rules.specs.Path.{joined};
 ghost use Rattle.lr_family.specs.Named.{framed, member_name, is_plain, IsNamedAt};
@@ -94,16 +94,24 @@ pub fn place_of_path(naming: &Naming, path: &Path) -> Option<u32>
     }
 }
 
+// Adds the name of the member with these digits.
+fn add_name(name: &mut Vec<u8>, naming: &Naming, digits: &[u8]) -> Result<(), AllocError>
+    ensures { OnOk result (name.new.items ≡ name.old.items ++ framed naming.now.base digits.now naming.now.ext) }
+{
+    name.extend_from_slice(naming.base.bytes())?;
+    name.push(b'.')?;
+    name.extend_from_slice(digits)?;
+    name.extend_from_slice(naming.ext.bytes())?;
+    Ok(())
+}
+
 // The name of the member with this number.
 fn name_of(alloc: Global, naming: &Naming, number: u32) -> Result<Vec<u8>, AllocError>
     ensures { IfOk result (λ name. name.items ≡ member_name naming.now number) }
 {
     let digits = format!(in alloc; "{number}")?;
     let mut name = Vec::new(alloc);
-    name.extend_from_slice(naming.base.bytes())?;
-    name.push(b'.')?;
-    name.extend_from_slice(digits.as_bytes())?;
-    name.extend_from_slice(naming.ext.bytes())?;
+    add_name(&mut name, naming, digits.as_bytes())?;
     Ok(name)
 }
 
