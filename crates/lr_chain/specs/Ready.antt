@@ -27,6 +27,22 @@ removal_at n place = record { path = path_at n place; preremove = None; mail = N
 abbrev pub move_from : Naming → ℕ → Move
 move_from n place = record { from = path_at n place; to = path_at n (place + 1) }
 
+-- the log's way alone
+abbrev pub at_rest : Path → Naming → Ready
+at_rest log n = record { leftovers = []; dir = None; moves = []; log = log; target = path_at n 0; make = make.No; retire = [] }
+
+-- with what is to be done with the members at these places
+abbrev pub with_members : Naming → Count → List ℕ → Ready → Ready
+with_members n c places ready = record {
+  leftovers = map (removal_at n) (leftovers c places);
+  dir = ready.dir;
+  moves = map (move_from n) (kept c places);
+  log = ready.log;
+  target = ready.target;
+  make = ready.make;
+  retire = map (removal_at n) (one_too_many c places);
+}
+
 -- The rotation is ready: its parts are those of one rotation of the log, where these members stand.
 pub record IsReady (log : Path) (n : Naming) (c : Count) (members : List Member) (ready : Ready) : Type 0 where
   pub leftovers_are : ready.leftovers ≡ map (removal_at n) (leftovers c (places_of members))

@@ -1,12 +1,12 @@
 // What makes a rotation ready.
-ghost use Rattle.std.specs.Prelude.{◌≡◌, ◌≢◌, ◌≤◌, ◌↔◌, true, None, Err, IfOk, IfErr, MatchOption};
+ghost use Rattle.std.specs.Prelude.{◌≡◌, ◌≢◌, ◌≤◌, ◌↔◌, true, None, Err, OnOk, IfOk, IfErr, MatchOption};
 ghost use Rattle.std.specs.List.{list_any};
 ghost use Rattle.lr_rules.specs.declared.path.Path.{Path};
 ghost use Rattle.lr_family.specs.Places.{AreNamed};
 ghost use Rattle.lr_chain.specs.Rotation.{places_of};
 ghost use Rattle.lr_chain.specs.Standing.{FitsWhereTheyStand};
 ghost use Rattle.lr_chain.specs.Turning.{TurnsWhereTheyStand};
-ghost use Rattle.lr_chain.specs.Ready.{IsReady, IsCount, NoneTooHigh, HasTooHigh, IsMissing, IsTooHigh};
+ghost use Rattle.lr_chain.specs.Ready.{IsReady, IsCount, HaveNames, HaveNext, NoneTooHigh, HasTooHigh, IsMissing, IsTooHigh, at_rest, with_members};
 
 use crate::laws::{rotation_fits, rotation_turns};
 use crate::place::{highest, path_there, places};
@@ -27,6 +27,46 @@ fn too_high<'a>(naming: &Naming, count: Count, members: &'a [Member]) -> Option<
     }
 }
 
+// The rotation where no member stands and none is kept: the log's way alone.
+fn at_rest(alloc: Global, family: &Family) -> Result<Ready, Memory>
+    requires numbered { family.now.naming.dated ≡ None }
+    requires start { family.now.naming.start ≤ 999999 }
+    ensures { IfOk result (λ ready. ready ≡ at_rest family.now.log family.now.naming) }
+{
+    let log = family.log().copy(alloc)?;
+    let target = path_there(alloc, family, 0)?;
+    Ok(Ready {
+        leftovers: Listed::new(alloc),
+        dir: None,
+        moves: Listed::new(alloc),
+        log,
+        target,
+        make: Make::No,
+        retire: Listed::new(alloc),
+    })
+}
+
+// Puts in what is to be done with the members at these places.
+fn put_members(
+    alloc: Global,
+    family: &Family,
+    count: Count,
+    places: &[u32],
+    ready: &mut Ready,
+) -> Result<(), Memory>
+    requires numbered { family.now.naming.dated ≡ None }
+    requires start { family.now.naming.start ≤ 999999 }
+    requires count { IsCount count }
+    requires named { HaveNames family.now.naming places.now }
+    requires next { HaveNext family.now.naming count places.now }
+    ensures { OnOk result (ready.new ≡ with_members family.now.naming count places.now ready.old) }
+{
+    ready.leftovers = Listed::from_vec(leftover_removals(alloc, family, count, places)?);
+    ready.moves = Listed::from_vec(moves_of(alloc, family, count, places)?);
+    ready.retire = Listed::from_vec(last_removal(alloc, family, count, places)?);
+    Ok(())
+}
+
 // The rotation, with all its paths.
 fn ready_of(
     alloc: Global,
@@ -42,18 +82,9 @@ fn ready_of(
     ensures { IfOk result (IsReady family.now.log family.now.naming count members.now) }
 {
     let places = places(alloc, members)?;
-    let leftovers = leftover_removals(alloc, family, count, &places)?;
-    let moves = moves_of(alloc, family, count, &places)?;
-    let last = last_removal(alloc, family, count, &places)?;
-    Ok(Ready {
-        leftovers: Listed::from_vec(leftovers),
-        dir: None,
-        moves: Listed::from_vec(moves),
-        log: family.log().copy(alloc)?,
-        target: path_there(alloc, family, 0)?,
-        make: Make::No,
-        retire: Listed::from_vec(last),
-    })
+    let mut ready = at_rest(alloc, family)?;
+    put_members(alloc, family, count, &places, &mut ready)?;
+    Ok(ready)
 }
 
 /// Makes the rotation of a numbered family ready, where these members stand. Want of memory aside, `NoDir` comes exactly
