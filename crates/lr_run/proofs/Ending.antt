@@ -12,8 +12,8 @@ use Rattle.lr_rules.specs.Path.{parent_of}
 use Rattle.lr_host.specs.declared.entry.Entry.{Entry}
 use Rattle.lr_host.specs.declared.entry.Entry.TheVariants.{Look, Starts, Ends}
 use Rattle.lr_host.specs.declared.journal.Journal.{Journal}
-use Rattle.lr_host.specs.Told.{Left, Are}
-use Rattle.lr_host.proofs.Left.{left_then, left_both}
+use Rattle.lr_host.specs.Told.{Left, Then, Are}
+use Rattle.lr_host.proofs.Left.{left_then}
 use Rattle.lr_host.specs.Looks.{Sees, IsDir}
 use Rattle.lr_run.specs.declared.answer.RunStop.{RunStop}
 use Rattle.lr_run.specs.declared.answer.RunStop.TheVariants as stop
@@ -39,17 +39,17 @@ work_ended state now rules (Some t) (Some f) ts us vs asked a h b = inr (begun s
 work_ended state now rules None None ts us vs asked a h b = begun state now rules (NoFault rules.sets) ts us vs a (no_rule asked h) b
 work_ended state now rules None (Some f) ts us vs asked a h b = absurd h
 
-pub course_ended : (state : Path) (now : Moment) (rules : Rules) (t : Option Target) (f : Option Fault) {o m k n : Option Journal} → IsAsked rules.sets t
-    → Left (Are (Starts state now rules ∷ [])) o m → Left (WorkEnds t (Ok f)) m k → Left (Are (Ends ∷ [])) k n → Left (CourseEnds state now rules (Ok f)) o n
-course_ended state now rules t f asked a b c = left_then a (left_both b c) (λ ts us p q. subst (λ (xs : List Entry). CourseEnds state now rules (Ok f) (ts ++ xs)) (sym q.joined) (work_ended state now rules t f ts q.front q.back asked p q.first q.second))
+pub course_ended : (state : Path) (now : Moment) (rules : Rules) (t : Option Target) (f : Option Fault) {o m n : Option Journal} → IsAsked rules.sets t
+    → Left (Are (Starts state now rules ∷ [])) o m → Left (Then (WorkEnds t (Ok f)) (Are (Ends ∷ []))) m n → Left (CourseEnds state now rules (Ok f)) o n
+course_ended state now rules t f asked a b = left_then a b (λ ts us p q. subst (λ (xs : List Entry). CourseEnds state now rules (Ok f) (ts ++ xs)) (sym q.joined) (work_ended state now rules t f ts q.front q.back asked p q.first q.second))
 
 work_lacking : (state : Path) (now : Moment) (rules : Rules) (t : Option Target) (m : Memory) (ts us vs : List Entry) → IsAsked rules.sets t → ts ≡ Starts state now rules ∷ [] → WorkEnds t (Err m) us → vs ≡ Ends ∷ [] → CourseEnds state now rules (Err stop.Memory) (ts ++ (us ++ vs))
 work_lacking state now rules (Some t) m ts us vs asked a h b = begun state now rules (WithLog rules.sets LogLacks) ts us vs a (with_log rules.sets t LogLacks us asked h) b
 work_lacking state now rules None m ts us vs asked a h b = absurd h
 
-pub course_lacking : (state : Path) (now : Moment) (rules : Rules) (t : Option Target) (e : Memory) {o m k n : Option Journal} → IsAsked rules.sets t
-    → Left (Are (Starts state now rules ∷ [])) o m → Left (WorkEnds t (Err e)) m k → Left (Are (Ends ∷ [])) k n → Left (CourseEnds state now rules (Err stop.Memory)) o n
-course_lacking state now rules t e asked a b c = left_then a (left_both b c) (λ ts us p q. subst (λ (xs : List Entry). CourseEnds state now rules (Err stop.Memory) (ts ++ xs)) (sym q.joined) (work_lacking state now rules t e ts q.front q.back asked p q.first q.second))
+pub course_lacking : (state : Path) (now : Moment) (rules : Rules) (t : Option Target) (e : Memory) {o m n : Option Journal} → IsAsked rules.sets t
+    → Left (Are (Starts state now rules ∷ [])) o m → Left (Then (WorkEnds t (Err e)) (Are (Ends ∷ []))) m n → Left (CourseEnds state now rules (Err stop.Memory)) o n
+course_lacking state now rules t e asked a b = left_then a b (λ ts us p q. subst (λ (xs : List Entry). CourseEnds state now rules (Err stop.Memory) (ts ++ xs)) (sym q.joined) (work_lacking state now rules t e ts q.front q.back asked p q.first q.second))
 
 -- behind the look at the state's directory
 inside : (state : Path) (now : Moment) (rules : Rules) (P : List Entry → Type 0) (ts us : List Entry) → Sees (parent_of state) IsDir ts → Begun state now rules P us → Inside state now rules P (ts ++ us)

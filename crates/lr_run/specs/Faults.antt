@@ -9,8 +9,15 @@ use Rattle.lr_family.specs.declared.stand.StandStop.{StandStop}
 use Rattle.lr_family.specs.declared.stand.StandStop.TheVariants as stand
 use Rattle.lr_chain.specs.declared.ready.PrepareStop.{PrepareStop}
 use Rattle.lr_chain.specs.declared.ready.PrepareStop.TheVariants as prepare
+use Rattle.lr_run.specs.declared.look.DirStop.{DirStop}
+use Rattle.lr_run.specs.declared.look.DirStop.TheVariants as dir
 use Rattle.lr_run.specs.declared.look.LogStop.{LogStop}
 use Rattle.lr_run.specs.declared.look.LogStop.TheVariants as log
+
+-- of a directory that isn't seen as one
+abbrev pub dir_fault_of : DirStop → Path → Fault
+dir_fault_of dir.NoDir path = fault.NoDir path
+dir_fault_of dir.Call path = fault.Call call.Look path
 
 -- of a log that isn't seen as a file: none where it may be missing
 abbrev pub log_fault_of : LogStop → List ℕ → Path → Bool → Option Fault

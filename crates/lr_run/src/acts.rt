@@ -91,6 +91,23 @@ fn rename_fault(ready: Ready, place: Option<usize>) -> Fault
     }
 }
 
+// The fault of the removal of the leftover at this place; then that of the member that is one too many.
+fn leftover_fault(ready: Ready, at: usize) -> Fault
+    requires { at < length ready.leftovers }
+    ensures { (path : Path) × IsRemoved ready.leftovers at path × (result ≡ fault.Call call.Unlink path) }
+{
+    let Ready { leftovers, .. } = ready;
+    unlink_fault(leftovers, at)
+}
+
+fn retire_fault(ready: Ready, at: usize) -> Fault
+    requires { at < length ready.retire }
+    ensures { (path : Path) × IsRemoved ready.retire at path × (result ≡ fault.Call call.Unlink path) }
+{
+    let Ready { retire, .. } = ready;
+    unlink_fault(retire, at)
+}
+
 /// Makes a rotation without programs: unlinks the leftovers, renames the members and the log, and unlinks the member
 /// that is then one too many. Where a call is refused, what comes behind it is left undone. It takes no memory.
 pub fn act<H: Host>(alloc: Global, host: &mut H, ready: Ready) -> Result<(), Fault>
@@ -105,15 +122,13 @@ pub fn act<H: Host>(alloc: Global, host: &mut H, ready: Ready) -> Result<(), Fau
     ensures counts { Onward (H.counts host.old) (H.counts host.new) }
 {
     if let Err(at) = unlink_all(alloc, host, ready.leftovers.as_slice()) {
-        let Ready { leftovers, .. } = ready;
-        return Err(unlink_fault(leftovers, at));
+        return Err(leftover_fault(ready, at));
     }
     if let Err(place) = rename_all(host, &ready) {
         return Err(rename_fault(ready, place));
     }
     if let Err(at) = unlink_all(alloc, host, ready.retire.as_slice()) {
-        let Ready { retire, .. } = ready;
-        return Err(unlink_fault(retire, at));
+        return Err(retire_fault(ready, at));
     }
     Ok(())
 }

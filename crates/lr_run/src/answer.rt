@@ -2,7 +2,7 @@
 use lr_rules::Fault;
 
 /// Why there was no run, or why it ended early.
-#[derive(Clone, Copy, Debug, PartialEq, Eq)]
+#[derive(Clone, Copy)]
 pub enum RunStop {
     /// Another holds the lock.
     Held,

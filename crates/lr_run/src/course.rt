@@ -1,8 +1,10 @@
 // A run from its begin to its end.
-ghost use Rattle.std.specs.Prelude.{◌≡◌, Ok, Err, Some, IfOk, IfSome};
+ghost use Rattle.std.specs.Prelude.{◌≡◌, [], ◌∷◌, true, false, Ok, Err, Some, IfOk, IfSome};
+ghost use Rattle.lr_rules.specs.Path.{parent_of};
 ghost use Rattle.lr_rules.specs.declared.fault.Fault.TheVariants as fault;
 ghost use Rattle.lr_host.specs.declared.entry.Entry.TheVariants as entry;
-ghost use Rattle.lr_host.specs.Told.{Left, Can, Onward, Rose};
+ghost use Rattle.lr_host.specs.Told.{Left, Then, Are, Can, NoneFell, Onward, Rose, WhereTold};
+ghost use Rattle.lr_host.specs.World.{world};
 ghost use Rattle.lr_promise.specs.Shape.{IsRun};
 ghost use Rattle.lr_run.specs.Built.{IsBuilt};
 ghost use Rattle.lr_run.specs.Faults.{MayBeCall};
@@ -10,7 +12,8 @@ ghost use Rattle.lr_run.specs.Logs.{IsAsked, IsPlain};
 ghost use Rattle.lr_run.specs.Runs.{Answers, given_of, WorkEnds, CourseEnds};
 
 use crate::answer::RunStop;
-use crate::look::{DirStop, look_for_dir};
+use crate::fault::dir_fault;
+use crate::look::look_for_dir;
 use crate::target::{Target, asked};
 use crate::turning::turn_log;
 use lr_host::Host;
@@ -35,6 +38,25 @@ fn work<H: Host>(
     }
 }
 
+// What stands between the begin and the end, and the end.
+fn work_to_end<H: Host>(
+    alloc: Global,
+    host: &mut H,
+    target: Option<Target>,
+) -> Result<Option<Fault>, Memory>
+    requires plain { IfSome target IsPlain }
+    requires on { WhereTold (H.told host.old) (λ p. (world p).running ≡ true) }
+    ensures told { Left (Then (WorkEnds target result) (Are (entry.Ends ∷ []))) (H.told host.old) (H.told host.new) }
+    ensures cause { IfOk result (λ fault. MayBeCall fault → Rose (H.counts host.old).faults (H.counts host.new).faults) }
+    ensures no_out { result ≡ Ok (Some fault.Out) → ⊥ }
+    ensures lock { (H.counts host.new).locked ≡ false }
+    ensures counts { NoneFell (H.counts host.old) (H.counts host.new) }
+{
+    let done = work(alloc, host, target);
+    host.end();
+    done
+}
+
 // Begins the run, and where it began, turns its log over and ends it; `name` is the state's path once more.
 fn take_course<H: Host>(
     alloc: Global,
@@ -54,18 +76,59 @@ fn take_course<H: Host>(
     ensures no_out { result ≡ Ok (Some fault.Out) → ⊥ }
     ensures counts { Onward (H.counts host.old) (H.counts host.new) }
 {
-    let begun = match host.begin(state, now, rules) {
-        Ok(begun) => begun,
-        Err(_) => return Ok(Some(Fault::Call(CallKind::Begin, name))),
-    };
-    if !begun {
-        return Err(RunStop::Held);
+    match host.begin(state, now, rules) {
+        Ok(true) => match work_to_end(alloc, host, target) {
+            Ok(fault) => Ok(fault),
+            Err(_) => Err(RunStop::Memory),
+        },
+        Ok(false) => Err(RunStop::Held),
+        Err(_) => Ok(Some(Fault::Call(CallKind::Begin, name))),
     }
-    let done = work(alloc, host, target);
-    host.end();
-    match done {
-        Ok(fault) => Ok(fault),
-        Err(_) => Err(RunStop::Memory),
+}
+
+// What is made ready before the first call of a run.
+#[derive(Drop)]
+struct Parts {
+    target: Option<Target>,
+    // The state's directory, and its path once more.
+    dir: Path,
+    name: Path,
+}
+
+fn parts_of(alloc: Global, rules: &Rules, state: &Path) -> Result<Parts, Memory>
+    requires { IsBuilt rules.now.sets }
+    ensures asked { IfOk result (λ parts. IsAsked rules.now.sets parts.target) }
+    ensures dir { IfOk result (λ parts. parts.dir ≡ parent_of state.now) }
+    ensures name { IfOk result (λ parts. parts.name ≡ state.now) }
+{
+    let dir = state.parent(alloc)?;
+    let name = state.copy(alloc)?;
+    let target = asked(alloc, rules)?;
+    Ok(Parts { target, dir, name })
+}
+
+// Looks for the state's directory, and takes the course.
+fn run_parts<H: Host>(
+    alloc: Global,
+    host: &mut H,
+    rules: &Rules,
+    state: &Path,
+    now: &Moment,
+    parts: Parts,
+) -> Result<Option<Fault>, RunStop>
+    requires asked { IsAsked rules.now.sets parts.target }
+    requires dir { parts.dir ≡ parent_of state.now }
+    requires name { parts.name ≡ state.now }
+    ensures told { Left (Answers state.now now.now rules.now (given_of result)) (H.told host.old) (H.told host.new) }
+    ensures held { result ≡ Err RunStop.Held → Rose (H.counts host.old).held (H.counts host.new).held }
+    ensures cause { IfOk result (λ fault. MayBeCall fault → Rose (H.counts host.old).faults (H.counts host.new).faults) }
+    ensures no_out { result ≡ Ok (Some fault.Out) → ⊥ }
+    ensures counts { Onward (H.counts host.old) (H.counts host.new) }
+{
+    let Parts { target, dir, name } = parts;
+    match look_for_dir(host, &dir) {
+        Ok(()) => take_course(alloc, host, state, now, rules, target, name),
+        Err(stop) => Ok(Some(dir_fault(stop, dir))),
     }
 }
 
@@ -85,18 +148,8 @@ pub fn make_run<H: Host>(
     ensures no_out { result ≡ Ok (Some fault.Out) → ⊥ }
     ensures counts { Onward (H.counts host.old) (H.counts host.new) }
 {
-    let Ok(target) = asked(alloc, rules) else {
-        return Err(RunStop::Memory);
-    };
-    let Ok(dir) = state.parent(alloc) else {
-        return Err(RunStop::Memory);
-    };
-    let Ok(name) = state.copy(alloc) else {
-        return Err(RunStop::Memory);
-    };
-    match look_for_dir(host, &dir) {
-        Ok(()) => take_course(alloc, host, state, now, rules, target, name),
-        Err(DirStop::NoDir) => Ok(Some(Fault::NoDir(dir))),
-        Err(DirStop::Call) => Ok(Some(Fault::Call(CallKind::Look, dir))),
+    match parts_of(alloc, rules, state) {
+        Ok(parts) => run_parts(alloc, host, rules, state, now, parts),
+        Err(_) => Err(RunStop::Memory),
     }
 }

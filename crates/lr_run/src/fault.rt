@@ -1,17 +1,34 @@
 // The fault that tells why a part of a run stopped.
 ghost use Rattle.std.specs.Prelude.{◌≡◌};
-ghost use Rattle.lr_run.specs.Faults.{log_fault_of, stand_fault_of, prepare_fault_of};
+ghost use Rattle.lr_run.specs.Faults.{dir_fault_of, log_fault_of, stand_fault_of, prepare_fault_of};
 
-use crate::look::LogStop;
+use crate::look::{DirStop, LogStop};
+use crate::target::Target;
 use lr_chain::PrepareStop;
 use lr_family::StandStop;
-use lr_rules::{CallKind, Fault, Memory, Path, Text};
+use lr_rules::{CallKind, Fault, Memory, Path};
+
+/// The fault of the state's directory, which isn't seen as one.
+pub fn dir_fault(stop: DirStop, dir: Path) -> Fault
+    ensures { result ≡ dir_fault_of stop dir }
+{
+    match stop {
+        DirStop::NoDir => Fault::NoDir(dir),
+        DirStop::Call => Fault::Call(CallKind::Look, dir),
+    }
+}
 
 /// The fault of a log that isn't seen as a regular file; None where nothing stands there and its rule lets it be
 /// missing.
-pub fn log_fault(stop: LogStop, word: Text, log: Path, missingok: bool) -> Option<Fault>
-    ensures { result ≡ log_fault_of stop word log missingok }
+pub fn log_fault(stop: LogStop, target: Target) -> Option<Fault>
+    ensures { result ≡ log_fault_of stop target.word target.log target.missingok }
 {
+    let Target {
+        word,
+        log,
+        missingok,
+        ..
+    } = target;
     match stop {
         LogStop::Nothing => {
             if missingok {

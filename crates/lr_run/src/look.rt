@@ -9,7 +9,7 @@ use lr_host::{Host, Kind};
 use lr_rules::Path;
 
 /// Why the log isn't seen as a regular file.
-#[derive(Clone, Copy, Debug, PartialEq, Eq)]
+#[derive(Clone, Copy)]
 pub enum LogStop {
     /// Nothing has its path.
     Nothing,
@@ -40,7 +40,7 @@ pub fn look_for_log<H: Host>(host: &mut H, log: &Path) -> Result<(), LogStop>
 }
 
 /// Why a directory isn't seen as one.
-#[derive(Clone, Copy, Debug, PartialEq, Eq)]
+#[derive(Clone, Copy)]
 pub enum DirStop {
     /// Nothing has its path, or another kind of thing.
     NoDir,

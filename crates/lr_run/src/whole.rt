@@ -23,7 +23,7 @@ fn add(faults: &mut Vec<Fault>, own: Option<Fault>)
     ensures room { vec_len faults.new + 1 ≤ vec_capacity faults.new }
 {
     if let Some(fault) = own {
-        let _ = faults.push(fault);
+        faults.push_reserved(fault);
     }
 }
 

@@ -17,9 +17,9 @@ unlink_all-requires-clause-fits g c = subst (λ (xs : List Removal). CanAll (g.H
 
 pub returns-in-Err-clause-refused : goal.returns-in-Err-clause-refused
 returns-in-Err-clause-refused g c =
-    breaks_at_unlink [] (removals_of c.args.ready.leftovers) (turn_of c.args.ready ++ removals_of c.args.ready.retire) c.unlink_fault.result c.unlink_fault.ensures.0 c.unlink_fault.ensures.2 (left_first (Are []) _ refl)
-    (subst (λ (xs : List Removal). Left (StopsAt (removals_of xs) (Unlinks c.unlink_fault.ensures.0)) (g.H.Host.told c.args.host.now) (g.H.Host.told c.unlink_all.new.host)) c.as_slice.ensures
-    (c.in-Err.ensures.refused c.unlink_fault.ensures.0 (subst (λ (xs : List Removal). IsRemoved xs c.in-Err.at c.unlink_fault.ensures.0) (sym c.as_slice.ensures) c.unlink_fault.ensures.1)))
+    breaks_at_unlink [] (removals_of c.args.ready.leftovers) (turn_of c.args.ready ++ removals_of c.args.ready.retire) c.leftover_fault.result c.leftover_fault.ensures.0 c.leftover_fault.ensures.2 (left_first (Are []) _ refl)
+    (subst (λ (xs : List Removal). Left (StopsAt (removals_of xs) (Unlinks c.leftover_fault.ensures.0)) (g.H.Host.told c.args.host.now) (g.H.Host.told c.unlink_all.new.host)) c.as_slice.ensures
+    (c.in-Err.ensures.refused c.leftover_fault.ensures.0 (subst (λ (xs : List Removal). IsRemoved xs c.in-Err.at c.leftover_fault.ensures.0) (sym c.as_slice.ensures) c.leftover_fault.ensures.1)))
 
 pub rename_all-requires-clause-fits : goal.rename_all-requires-clause-fits
 rename_all-requires-clause-fits g c =
@@ -40,10 +40,10 @@ unlink_all-requires-2-clause-fits g c =
 
 pub returns-in-Err-unlink_all-clause-refused : goal.returns-in-Err-unlink_all-clause-refused
 returns-in-Err-unlink_all-clause-refused g c =
-    breaks_at_last (removals_of c.args.ready.leftovers) (turn_of c.args.ready) (removals_of c.args.ready.retire) c.unlink_fault-in-Err-unlink_all.result c.unlink_fault-in-Err-unlink_all.ensures.0 c.unlink_fault-in-Err-unlink_all.ensures.2
+    breaks_at_last (removals_of c.args.ready.leftovers) (turn_of c.args.ready) (removals_of c.args.ready.retire) c.retire_fault.result c.retire_fault.ensures.0 c.retire_fault.ensures.2
     (left_as c.in_default.ensures.told (λ ts t. t ∙ ap removals_of c.as_slice.ensures)) c.in_default-rename_all.ensures.told
-    (subst (λ (xs : List Removal). Left (StopsAt (removals_of xs) (Unlinks c.unlink_fault-in-Err-unlink_all.ensures.0)) (g.H.Host.told c.rename_all.new.host) (g.H.Host.told c.unlink_all-2.new.host)) c.as_slice-2.ensures
-    (c.in-Err-unlink_all.ensures.refused c.unlink_fault-in-Err-unlink_all.ensures.0 (subst (λ (xs : List Removal). IsRemoved xs c.in-Err-unlink_all.at c.unlink_fault-in-Err-unlink_all.ensures.0) (sym c.as_slice-2.ensures) c.unlink_fault-in-Err-unlink_all.ensures.1)))
+    (subst (λ (xs : List Removal). Left (StopsAt (removals_of xs) (Unlinks c.retire_fault.ensures.0)) (g.H.Host.told c.rename_all.new.host) (g.H.Host.told c.unlink_all-2.new.host)) c.as_slice-2.ensures
+    (c.in-Err-unlink_all.ensures.refused c.retire_fault.ensures.0 (subst (λ (xs : List Removal). IsRemoved xs c.in-Err-unlink_all.at c.retire_fault.ensures.0) (sym c.as_slice-2.ensures) c.retire_fault.ensures.1)))
 
 pub returns-clause-told : goal.returns-clause-told
 returns-clause-told g c =

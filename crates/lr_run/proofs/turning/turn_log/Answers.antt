@@ -1,31 +1,13 @@
-use Rattle.std.proofs.Common.{Ok, Err, refl}
-use Rattle.lr_host.proofs.Left.{left_as, left_both}
-use Rattle.lr_chain.specs.Rotation.{leftovers, places_of}
+use Rattle.lr_host.proofs.Left.{left_as}
 use Rattle.lr_run.specs.Logs.{log_in}
-use Rattle.lr_run.proofs.Turned.{log_ends, stand_ends, prepare_ends, bare_all, may_turn, ready_can, turned_over, broken_off}
+use Rattle.lr_run.proofs.Turned.{log_ends}
 use Rattle.lr_run.proofs.turning.turn_log.Goals as goal
+
+pub turn_family-requires-clause-seen : goal.turn_family-requires-clause-seen
+turn_family-requires-clause-seen g c = (g.H.Host.told c.args.host.now, c.in-Ok.ensures.told)
+
+pub returns-in-Ok-clause-told : goal.returns-in-Ok-clause-told
+returns-in-Ok-clause-told g c = c.turn_family.ensures.told (g.H.Host.told c.args.host.now) c.in-Ok.ensures.told
 
 pub returns-in-Err-clause-told : goal.returns-in-Err-clause-told
 returns-in-Err-clause-told g c = left_as c.in-Err.ensures.stopped (λ ts s. log_ends (log_in c.args.target) c.in-Err.stop c.log_fault.result ts c.log_fault.ensures s)
-
-pub returns-in-Err-stand-clause-told : goal.returns-in-Err-stand-clause-told
-returns-in-Err-stand-clause-told g c = left_as (left_both c.in_default.ensures.told c.in-Err-stand.ensures.stopped) (λ ts s. stand_ends (log_in c.args.target) c.in-Err-stand.stop c.stand_fault.result ts c.stand_fault.ensures s)
-
-pub returns-in-Err-prepare-clause-told : goal.returns-in-Err-prepare-clause-told
-returns-in-Err-prepare-clause-told g c = left_as (left_both c.in_default.ensures.told c.in-Ok.ensures.told)
-    (λ ts s. prepare_ends (log_in c.args.target) c.in-Ok.stand c.in-Err-prepare.stop (Err c.in-Err-prepare.stop) c.prepare_fault.result ts refl c.prepare_fault.ensures c.in-Err-prepare.ensures.no_dir c.in-Err-prepare.ensures.too_high c.in-Err-prepare.ensures.taken s)
-
-pub act-requires-clause-bare_first : goal.act-requires-clause-bare_first
-act-requires-clause-bare_first g c = bare_all c.args.target.family.naming (leftovers c.args.target.count (places_of c.in-Ok.stand.members)) c.in-Ok-prepare.ready.leftovers c.in-Ok-prepare.ensures.ready.leftovers_are
-
-pub act-requires-clause-fits : goal.act-requires-clause-fits
-act-requires-clause-fits g c = ready_can c.args.target c.in-Ok.stand c.in-Ok-prepare.ready c.requires c.in-Ok-prepare.ensures.ready
-    (may_turn (log_in c.args.target) c.in-Ok.stand c.in-Ok-prepare.ready (Ok c.in-Ok-prepare.ready) refl c.in-Ok-prepare.ensures.no_dir c.in-Ok-prepare.ensures.too_high) c.in_default.ensures.told c.in-Ok.ensures.told
-
-pub returns-in-Ok-act-clause-told : goal.returns-in-Ok-act-clause-told
-returns-in-Ok-act-clause-told g c = turned_over c.args.target c.in-Ok.stand c.in-Ok-prepare.ready c.requires c.in-Ok-prepare.ensures.ready
-    (may_turn (log_in c.args.target) c.in-Ok.stand c.in-Ok-prepare.ready (Ok c.in-Ok-prepare.ready) refl c.in-Ok-prepare.ensures.no_dir c.in-Ok-prepare.ensures.too_high) c.in_default.ensures.told c.in-Ok.ensures.told c.in-Ok-act.ensures.told
-
-pub returns-clause-told : goal.returns-clause-told
-returns-clause-told g c = broken_off c.args.target c.in-Ok.stand c.in-Ok-prepare.ready c.in-Err-act.fault c.requires c.in-Ok-prepare.ensures.ready
-    (may_turn (log_in c.args.target) c.in-Ok.stand c.in-Ok-prepare.ready (Ok c.in-Ok-prepare.ready) refl c.in-Ok-prepare.ensures.no_dir c.in-Ok-prepare.ensures.too_high) c.in_default.ensures.told c.in-Ok.ensures.told c.in-Err-act.ensures.refused
