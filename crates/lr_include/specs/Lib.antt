@@ -1,3 +1,4 @@
 pub mod Lines
+pub mod Looking
 pub mod Readers
 pub mod Reading

@@ -3,7 +3,7 @@ ghost use Rattle.std.specs.Prelude.{◌≡◌, ◌≤◌, ◌⊎◌, ◌↔◌, 
 ghost use Rattle.lr_rules.specs.declared.fault.CallKind.{CallKind};
 ghost use Rattle.lr_rules.specs.declared.path.Path.{Path};
 ghost use Rattle.lr_rules.specs.declared.fault.Fault.TheVariants as fault;
-ghost use Rattle.lr_conf.specs.Meaning.{Meaning, told, conf};
+ghost use Rattle.lr_conf.specs.Meaning.{Meaning, told};
 ghost use Rattle.lr_conf.specs.Plain.{IsPlainRule, AtMostOneLog};
 ghost use Rattle.lr_host.specs.Told.{Left, Then, Each, Onward, Rose};
 ghost use Rattle.lr_host.specs.Reading.{IsReadOf};
@@ -11,11 +11,12 @@ ghost use Rattle.lr_include.specs.Readers.{meaning_of, IsConfOrCall};
 ghost use Rattle.lr_host.specs.Looks.{Sees, IsFile};
 ghost use Rattle.lr_include.specs.Reading.{MeansAs, ReadsAs, IsReading};
 
+use crate::look::{look_for_file, stop_fault};
 use crate::reading::Reading;
 use crate::text::{ReadStop, read_text};
 use crate::whole::{LIMIT, read_bytes};
-use lr_host::{Host, Kind};
-use lr_rules::{CallKind, ConfKind, Fault, Listed, Memory, Path, Rules};
+use lr_host::Host;
+use lr_rules::{CallKind, Fault, Listed, Memory, Path, Rules};
 use std::alloc::Global;
 
 /// One fault, for which there is room.
@@ -33,17 +34,6 @@ fn alone(alloc: Global, mut faults: Vec<Fault>, fault: Fault) -> Reading
         },
         notices: Listed::new(alloc),
         faults: Listed::from_vec(faults),
-    }
-}
-
-// A fault of the file as a whole.
-fn of_file(file: Path, kind: ConfKind) -> Fault
-    ensures { result ≡ conf file kind 0 }
-{
-    Fault::Conf {
-        file,
-        line: 0,
-        kind,
     }
 }
 
@@ -68,16 +58,8 @@ pub fn read_conf<H: Host>(alloc: Global, host: &mut H, conf: &Path) -> Result<Re
     let file = conf.copy(alloc)?;
     // For the fault of a file that isn't read.
     let faults = Vec::with_capacity(alloc, 1)?;
-    let Ok(look) = host.look(conf, true) else {
-        return Ok(alone(alloc, faults, Fault::Call(CallKind::Look, file)));
-    };
-    let Some(seen) = look else {
-        return Ok(alone(alloc, faults, of_file(file, ConfKind::NoFile)));
-    };
-    match seen.kind {
-        Kind::File => {}
-        Kind::Dir => return Ok(alone(alloc, faults, of_file(file, ConfKind::NotYet))),
-        Kind::Other => return Ok(alone(alloc, faults, of_file(file, ConfKind::NoFile))),
+    if let Err(stop) = look_for_file(host, conf) {
+        return Ok(alone(alloc, faults, stop_fault(stop, file)));
     }
     match read_text(alloc, host, conf, LIMIT + 1) {
         Ok(bytes) => read_bytes(alloc, conf, &bytes),

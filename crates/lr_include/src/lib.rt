@@ -17,6 +17,7 @@
 mod conf;
 mod kind;
 mod laws;
+mod look;
 mod reader;
 mod reading;
 mod text;

@@ -1,9 +1,9 @@
 // Reading the lines of a file.
-ghost use Rattle.std.specs.Prelude.{◌≡◌, ◌<◌, ◌^◌, List, [], ◌∷◌, ◌++◌, All, false, length, IfOk, OnOk};
-ghost use Rattle.lr_conf.specs.Meaning.{Line, Read, Spoiled, End, meaning, conf};
+ghost use Rattle.std.specs.Prelude.{◌≡◌, ◌<◌, ◌^◌, List, [], ◌∷◌, ◌++◌, All, length, IfOk, OnOk};
+ghost use Rattle.lr_conf.specs.Meaning.{Line, Read, Spoiled, End, conf};
 ghost use Rattle.lr_conf.specs.Fold.{entered};
 ghost use Rattle.lr_include.specs.Lines.{lines_of};
-ghost use Rattle.lr_include.specs.Readers.{means, meaning_of, IsConf};
+ghost use Rattle.lr_include.specs.Readers.{means, meaning_of, IsConf, IsFresh};
 
 use crate::kind::conf_kind;
 use crate::reading::Reading;
@@ -24,11 +24,12 @@ impl Reader {
     /// A reader without lines, of this file.
     pub fn new(alloc: Global, file: &Path) -> Result<Reader, Memory>
         ensures files { IfOk result (λ r. entered r.layer ≡ file.now ∷ []) }
-        ensures means { IfOk result (λ r. (lines : List Line) → means r lines ≡ meaning false [] lines) }
+        ensures means { IfOk result IsFresh }
         ensures none { IfOk result (λ r. r.faults.items ≡ []) }
     {
+        let file = file.copy(alloc)?;
         let mut layer = Layer::new(alloc)?;
-        layer.enter(file.copy(alloc)?);
+        layer.enter(file);
         Ok(Reader {
             alloc,
             layer,

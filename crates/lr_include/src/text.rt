@@ -9,7 +9,7 @@ use lr_rules::Path;
 use std::alloc::Global;
 
 /// Why a file can't be read: a call failed, or there is no memory.
-#[derive(Clone, Copy, Debug, PartialEq, Eq)]
+#[derive(Clone, Copy)]
 pub enum ReadStop {
     Call,
     Memory,

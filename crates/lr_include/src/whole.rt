@@ -1,8 +1,9 @@
 // Bytes of a file, and what they mean.
-ghost use Rattle.std.specs.Prelude.{◌≡◌, ◌≤◌, ◌<◌, All, take, length, IfOk};
+ghost use Rattle.std.specs.Prelude.{◌≡◌, ◌≤◌, ◌<◌, [], ◌∷◌, All, take, length, IfOk, OnOk};
+ghost use Rattle.lr_conf.specs.Fold.{entered};
 ghost use Rattle.lr_conf.specs.Plain.{IsPlainRule, AtMostOneLog};
 ghost use Rattle.lr_include.specs.Lines.{LinesEnd, whole_lines, whole_means, cut_means, bytes_mean};
-ghost use Rattle.lr_include.specs.Readers.{meaning_of, IsConf};
+ghost use Rattle.lr_include.specs.Readers.{means, meaning_of, IsConf, IsFresh};
 
 use crate::reader::Reader;
 use crate::reading::Reading;
@@ -40,34 +41,44 @@ fn first_part(bytes: &[u8], count: usize) -> &[u8]
     &bytes[..count]
 }
 
-/// A file that was read to its end.
-fn read_whole(alloc: Global, file: &Path, bytes: &[u8]) -> Result<Reading, Memory>
-    requires { length bytes.now ≤ 1048576 }
-    ensures means { IfOk result (λ r. meaning_of r ≡ whole_means file.now bytes.now) }
-    ensures kinds { IfOk result (λ r. All IsConf r.faults) }
-    ensures plain { IfOk result (λ r. All IsPlainRule r.rules.sets) }
-    ensures one { IfOk result (λ r. AtMostOneLog r.rules.sets) }
+// Takes in a file that was read to its end.
+fn take_whole(reader: &mut Reader, file: &Path, bytes: &[u8]) -> Result<(), Memory>
+    requires files { entered reader.old.layer ≡ file.now ∷ [] }
+    requires fresh { IsFresh reader.old }
+    requires size { length bytes.now ≤ 1048576 }
+    ensures means { OnOk result (means reader.new [] ≡ whole_means file.now bytes.now) }
+    ensures kinds { OnOk result (All IsConf reader.old.faults.items → All IsConf reader.new.faults.items) }
 {
-    let mut reader = Reader::new(alloc, file)?;
     reader.take_text(file, bytes)?;
-    reader.close(file)?;
-    Ok(reader.finish())
+    reader.close(file)
 }
 
-/// A file with more bytes than are read.
-fn read_cut(alloc: Global, file: &Path, bytes: &[u8]) -> Result<Reading, Memory>
-    requires { 1048576 < length bytes.now }
-    ensures means { IfOk result (λ r. meaning_of r ≡ cut_means file.now bytes.now) }
-    ensures kinds { IfOk result (λ r. All IsConf r.faults) }
-    ensures plain { IfOk result (λ r. All IsPlainRule r.rules.sets) }
-    ensures one { IfOk result (λ r. AtMostOneLog r.rules.sets) }
+// Takes in a file with more bytes than are read.
+fn take_cut(reader: &mut Reader, file: &Path, bytes: &[u8]) -> Result<(), Memory>
+    requires files { entered reader.old.layer ≡ file.now ∷ [] }
+    requires fresh { IsFresh reader.old }
+    requires size { 1048576 < length bytes.now }
+    ensures means { OnOk result (means reader.new [] ≡ cut_means file.now bytes.now) }
+    ensures kinds { OnOk result (All IsConf reader.old.faults.items → All IsConf reader.new.faults.items) }
 {
-    let mut reader = Reader::new(alloc, file)?;
     let part = first_part(bytes, LIMIT);
     let lines = whole_lines(part);
     reader.take_text(file, lines)?;
-    reader.tell(file, 0, ConfKind::TooBig)?;
-    Ok(reader.finish())
+    reader.tell(file, 0, ConfKind::TooBig)
+}
+
+// Takes in a file with these bytes.
+fn take_bytes(reader: &mut Reader, file: &Path, bytes: &[u8]) -> Result<(), Memory>
+    requires files { entered reader.old.layer ≡ file.now ∷ [] }
+    requires fresh { IsFresh reader.old }
+    ensures means { OnOk result (means reader.new [] ≡ bytes_mean file.now bytes.now) }
+    ensures kinds { OnOk result (All IsConf reader.old.faults.items → All IsConf reader.new.faults.items) }
+{
+    if bytes.len() > LIMIT {
+        take_cut(reader, file, bytes)
+    } else {
+        take_whole(reader, file, bytes)
+    }
 }
 
 /// The rules, notices and faults of a file with these bytes. Of more than 1,048,576 bytes the whole lines within so many
@@ -78,9 +89,7 @@ pub fn read_bytes(alloc: Global, file: &Path, bytes: &[u8]) -> Result<Reading, M
     ensures plain { IfOk result (λ r. All IsPlainRule r.rules.sets) }
     ensures one { IfOk result (λ r. AtMostOneLog r.rules.sets) }
 {
-    if bytes.len() > LIMIT {
-        read_cut(alloc, file, bytes)
-    } else {
-        read_whole(alloc, file, bytes)
-    }
+    let mut reader = Reader::new(alloc, file)?;
+    take_bytes(&mut reader, file, bytes)?;
+    Ok(reader.finish())
 }

@@ -1,20 +1,53 @@
-use Rattle.std.proofs.Common.{◌≡◌, [], ◌∷◌, refl, sym, ap, ◌∙◌, subst, arith, inl, inr, IfOk}
-use Rattle.std.specs.Prelude.{List, ℕ}
+use Rattle.std.proofs.Common.{◌≡◌, [], ◌∷◌, refl, sym, ap, ◌∙◌, subst, arith, rules, inl, inr, IfOk, Option}
+use Rattle.std.specs.Prelude.{List, ℕ, ◌↔◌, All, Contains}
 use Rattle.lr_rules.specs.declared.path.Path.{Path}
 use Rattle.lr_rules.specs.declared.fault.ConfKind.TheVariants as kind
+use Rattle.lr_rules.specs.declared.fault.CallKind.{CallKind}
 use Rattle.lr_rules.specs.declared.fault.CallKind.TheVariants as call
 use Rattle.lr_rules.specs.declared.fault.Fault.TheVariants as fault
 use Rattle.lr_rules.specs.declared.fault.Fault.{Fault}
-use Rattle.lr_conf.specs.Meaning.{told, conf}
+use Rattle.lr_conf.specs.Meaning.{Meaning, told, conf}
+use Rattle.lr_host.specs.declared.journal.Journal.{Journal}
+use Rattle.lr_host.specs.Told.{Left}
 use Rattle.lr_host.proofs.Left.{left_first, left_as, left_both}
-use Rattle.lr_host.proofs.Known.{seen_can_read}
-use Rattle.lr_include.specs.Readers.{meaning_of}
+use Rattle.lr_include.specs.declared.look.FileStop.{FileStop}
+use Rattle.lr_include.specs.declared.look.FileStop.TheVariants as stop
+use Rattle.lr_include.specs.Readers.{meaning_of, IsConfOrCall}
 use Rattle.lr_include.specs.Lines.{bytes_mean}
-use Rattle.lr_host.specs.Looks.{IsFile, IsDir, IsNothingOrOther}
-use Rattle.lr_include.specs.Reading.{look_failed, read_failed, of_stop}
+use Rattle.lr_include.specs.Looking.{FileStopped, fault_of_stop}
+use Rattle.lr_include.specs.Reading.{MeansAs, ReadsAs, look_failed, read_failed, IsReading, of_stop}
 use Rattle.lr_include.proofs.Texts.{on_err}
-use Rattle.lr_include.proofs.Means.{sees, means_told, means_exactly, means_none, means_dir, read_told, read_exactly, read_means, only_reads}
+use Rattle.lr_include.proofs.Means.{means_told, means_exactly, means_none, means_dir, read_told, read_exactly, read_means, only_reads}
 use Rattle.lr_include.proofs.conf.read_conf.Goals as goal
+
+-- ---- a file that isn't read
+
+stop_told : (file : Path) (s : FileStop) (m : Meaning) {o n : Option Journal} → m ≡ told (fault_of_stop s file ∷ []) → Left (FileStopped file s) o n → Left (ReadsAs file m) o n
+stop_told file stop.Call m e l = left_as l (λ ts h. look_failed h e)
+stop_told file stop.NoFile m e l = means_told file m (means_none file m l e)
+stop_told file stop.Dir m e l = means_told file m (means_dir file m l e)
+
+stop_exactly : (file : Path) (s : FileStop) (m : Meaning) {o n : Option Journal} → m ≡ told (fault_of_stop s file ∷ []) → (s ≡ stop.Call → ⊥) → Left (FileStopped file s) o n → Left (λ ts. (k : Meaning) → m ≡ k ↔ MeansAs file k ts) o n
+stop_exactly file stop.Call m e calm l = absurd (calm refl)
+stop_exactly file stop.NoFile m e calm l = means_exactly file m (means_none file m l e)
+stop_exactly file stop.Dir m e calm l = means_exactly file m (means_dir file m l e)
+
+stop_means : (file : Path) (s : FileStop) (m : Meaning) → m ≡ told (fault_of_stop s file ∷ []) → IsReading file m
+stop_means file stop.Call m e = of_stop (fault.Call call.Look file) (2, omega arith, refl) e
+stop_means file stop.NoFile m e = of_stop (conf file kind.NoFile 0) (0, omega arith, refl) e
+stop_means file stop.Dir m e = of_stop (conf file kind.NotYet 0) (1, omega arith, refl) e
+
+stop_only : (file : Path) (s : FileStop) → All IsConfOrCall (fault_of_stop s file ∷ [])
+stop_only file stop.Call = search rules
+stop_only file stop.NoFile = search rules
+stop_only file stop.Dir = search rules
+
+stop_called : (file : Path) (s : FileStop) (kind : CallKind) (path : Path) → Contains (fault_of_stop s file ∷ []) (fault.Call kind path) → s ≡ stop.Call
+stop_called file stop.Call kind path h = refl
+stop_called file stop.NoFile kind path h = search rules
+stop_called file stop.Dir kind path h = search rules
+
+-- ---- the goals
 
 pub returns-in_err-file-clause-lacking : goal.returns-in_err-file-clause-lacking
 returns-in_err-file-clause-lacking g c = on_err c.from_residual.result _ (left_first _ _ (inl refl))
@@ -22,82 +55,50 @@ returns-in_err-file-clause-lacking g c = on_err c.from_residual.result _ (left_f
 pub returns-in_err-faults-clause-lacking : goal.returns-in_err-faults-clause-lacking
 returns-in_err-faults-clause-lacking g c = on_err c.from_residual-in_err-faults.result _ (left_first _ _ (inl refl))
 
-pub returns-in_default-clause-told : goal.returns-in_default-clause-told
-returns-in_default-clause-told g c = left_as c.in_default.ensures.told (λ ts e. look_failed e (c.alone.ensures.means ∙ ap (λ (x : Path). told (fault.Call call.Look x ∷ [])) c.in_ok-file.ensures))
+pub returns-in-Err-clause-told : goal.returns-in-Err-clause-told
+returns-in-Err-clause-told g c = stop_told c.args.conf.now c.in-Err.stop _
+    (c.alone.ensures.means ∙ ap (λ (f : Fault). told (f ∷ [])) (c.stop_fault.ensures ∙ ap (fault_of_stop c.in-Err.stop) c.in_ok-file.ensures)) c.in-Err.ensures.stopped
 
-pub returns-in_default-look-clause-told : goal.returns-in_default-look-clause-told
-returns-in_default-look-clause-told g c = means_told c.args.conf.now _
-    (means_none c.args.conf.now _ (sees c.args.conf.now IsNothingOrOther c.in-Ok.look c.in-Ok.ensures.told (subst IsNothingOrOther (sym c.in_default-look.is) tt))
-    (c.alone-in_default-look.ensures.means ∙ ap (λ (f : Fault). told (f ∷ [])) (c.of_file.ensures ∙ ap (λ (x : Path). conf x kind.NoFile 0) c.in_ok-file.ensures)))
+pub returns-in-Err-clause-exactly : goal.returns-in-Err-clause-exactly
+returns-in-Err-clause-exactly g c = λ calm. stop_exactly c.args.conf.now c.in-Err.stop _
+    (c.alone.ensures.means ∙ ap (λ (f : Fault). told (f ∷ [])) (c.stop_fault.ensures ∙ ap (fault_of_stop c.in-Err.stop) c.in_ok-file.ensures)) (λ e. calm (c.look_for_file.ensures.cause (cc))) c.in-Err.ensures.stopped
 
-pub returns-in_default-look-clause-exactly : goal.returns-in_default-look-clause-exactly
-returns-in_default-look-clause-exactly g c = λ calm. means_exactly c.args.conf.now _
-    (means_none c.args.conf.now _ (sees c.args.conf.now IsNothingOrOther c.in-Ok.look c.in-Ok.ensures.told (subst IsNothingOrOther (sym c.in_default-look.is) tt))
-    (c.alone-in_default-look.ensures.means ∙ ap (λ (f : Fault). told (f ∷ [])) (c.of_file.ensures ∙ ap (λ (x : Path). conf x kind.NoFile 0) c.in_ok-file.ensures)))
+pub returns-in-Err-clause-means : goal.returns-in-Err-clause-means
+returns-in-Err-clause-means g c = stop_means c.args.conf.now c.in-Err.stop _
+    (c.alone.ensures.means ∙ ap (λ (f : Fault). told (f ∷ [])) (c.stop_fault.ensures ∙ ap (fault_of_stop c.in-Err.stop) c.in_ok-file.ensures))
 
-pub returns-in-Dir-clause-told : goal.returns-in-Dir-clause-told
-returns-in-Dir-clause-told g c = means_told c.args.conf.now _
-    (means_dir c.args.conf.now _ (sees c.args.conf.now IsDir c.in-Ok.look c.in-Ok.ensures.told (subst IsDir (sym c.in-Some.is) c.in-Dir.is))
-    (c.alone-in-Dir.ensures.means ∙ ap (λ (f : Fault). told (f ∷ [])) (c.of_file-in-Dir.ensures ∙ ap (λ (x : Path). conf x kind.NotYet 0) c.in_ok-file.ensures)))
+pub returns-in-Err-clause-cause : goal.returns-in-Err-clause-cause
+returns-in-Err-clause-cause g c = λ kind path h.
+    let is = ap (λ (m : Meaning). m.faults) (c.alone.ensures.means ∙ ap (λ (f : Fault). told (f ∷ [])) c.stop_fault.ensures) in
+    let call = stop_called _ c.in-Err.stop kind path (subst (λ (fs : List Fault). Contains fs (fault.Call kind path)) is h) in
+    c.look_for_file.ensures.cause (cc)
 
-pub returns-in-Dir-clause-exactly : goal.returns-in-Dir-clause-exactly
-returns-in-Dir-clause-exactly g c = λ calm. means_exactly c.args.conf.now _
-    (means_dir c.args.conf.now _ (sees c.args.conf.now IsDir c.in-Ok.look c.in-Ok.ensures.told (subst IsDir (sym c.in-Some.is) c.in-Dir.is))
-    (c.alone-in-Dir.ensures.means ∙ ap (λ (f : Fault). told (f ∷ [])) (c.of_file-in-Dir.ensures ∙ ap (λ (x : Path). conf x kind.NotYet 0) c.in_ok-file.ensures)))
+pub returns-in-Err-clause-only : goal.returns-in-Err-clause-only
+returns-in-Err-clause-only g c =
+    let is = ap (λ (m : Meaning). m.faults) (c.alone.ensures.means ∙ ap (λ (f : Fault). told (f ∷ [])) c.stop_fault.ensures) in
+    subst (λ (fs : List Fault). All IsConfOrCall fs) (sym is) (stop_only _ c.in-Err.stop)
 
-pub returns-in-Other-clause-told : goal.returns-in-Other-clause-told
-returns-in-Other-clause-told g c = means_told c.args.conf.now _
-    (means_none c.args.conf.now _ (sees c.args.conf.now IsNothingOrOther c.in-Ok.look c.in-Ok.ensures.told (subst IsNothingOrOther (sym c.in-Some.is) c.in-Other.is))
-    (c.alone-in-Other.ensures.means ∙ ap (λ (f : Fault). told (f ∷ [])) (c.of_file-in-Other.ensures ∙ ap (λ (x : Path). conf x kind.NoFile 0) c.in_ok-file.ensures)))
-
-pub returns-in-Other-clause-exactly : goal.returns-in-Other-clause-exactly
-returns-in-Other-clause-exactly g c = λ calm. means_exactly c.args.conf.now _
-    (means_none c.args.conf.now _ (sees c.args.conf.now IsNothingOrOther c.in-Ok.look c.in-Ok.ensures.told (subst IsNothingOrOther (sym c.in-Some.is) c.in-Other.is))
-    (c.alone-in-Other.ensures.means ∙ ap (λ (f : Fault). told (f ∷ [])) (c.of_file-in-Other.ensures ∙ ap (λ (x : Path). conf x kind.NoFile 0) c.in_ok-file.ensures)))
-
-pub read_text-requires : goal.read_text-requires
-read_text-requires g c = record { file = seen_can_read (rw c.in-Some.is at c.in-Ok.ensures.told) c.in-File.is }
-
-pub returns-in-Ok-read_text-clause-told : goal.returns-in-Ok-read_text-clause-told
-returns-in-Ok-read_text-clause-told g c = read_told c.args.conf.now c.in-Ok-read_text.bytes.items _
-    (left_both (sees c.args.conf.now IsFile c.in-Ok.look c.in-Ok.ensures.told (subst IsFile (sym c.in-Some.is) c.in-File.is)) c.in-Ok-read_text.ensures.told)
+pub returns-in-Ok-clause-told : goal.returns-in-Ok-clause-told
+returns-in-Ok-clause-told g c = read_told c.args.conf.now c.in-Ok.bytes.items _ (left_both c.in_default.ensures.told c.in-Ok.ensures.told)
     (subst (λ (bs : List ℕ). IfOk c.read_bytes.result (λ x. meaning_of x ≡ bytes_mean c.args.conf.now bs)) c.deref.ensures.value c.read_bytes.ensures.means)
 
-pub returns-in-Ok-read_text-clause-exactly : goal.returns-in-Ok-read_text-clause-exactly
-returns-in-Ok-read_text-clause-exactly g c = λ calm. read_exactly c.args.conf.now c.in-Ok-read_text.bytes.items _
-    (left_both (sees c.args.conf.now IsFile c.in-Ok.look c.in-Ok.ensures.told (subst IsFile (sym c.in-Some.is) c.in-File.is)) c.in-Ok-read_text.ensures.told)
+pub returns-in-Ok-clause-exactly : goal.returns-in-Ok-clause-exactly
+returns-in-Ok-clause-exactly g c = λ calm. read_exactly c.args.conf.now c.in-Ok.bytes.items _ (left_both c.in_default.ensures.told c.in-Ok.ensures.told)
     (subst (λ (bs : List ℕ). IfOk c.read_bytes.result (λ x. meaning_of x ≡ bytes_mean c.args.conf.now bs)) c.deref.ensures.value c.read_bytes.ensures.means)
 
-pub returns-in-Ok-read_text-clause-lacking : goal.returns-in-Ok-read_text-clause-lacking
-returns-in-Ok-read_text-clause-lacking g c = on_err c.read_bytes.result _ (only_reads c.args.conf.now c.in-Ok-read_text.bytes.items
-    (left_both (sees c.args.conf.now IsFile c.in-Ok.look c.in-Ok.ensures.told (subst IsFile (sym c.in-Some.is) c.in-File.is)) c.in-Ok-read_text.ensures.told))
+pub returns-in-Ok-clause-lacking : goal.returns-in-Ok-clause-lacking
+returns-in-Ok-clause-lacking g c = on_err c.read_bytes.result _ (only_reads c.args.conf.now c.in-Ok.bytes.items (left_both c.in_default.ensures.told c.in-Ok.ensures.told))
+
+pub returns-in-Ok-clause-means : goal.returns-in-Ok-clause-means
+returns-in-Ok-clause-means g c = read_means c.args.conf.now c.deref.result.now c.read_bytes.result c.read_bytes.ensures.means
 
 pub returns-in-Err-Call-clause-told : goal.returns-in-Err-Call-clause-told
 returns-in-Err-Call-clause-told g c =
-    left_as (left_both (sees c.args.conf.now IsFile c.in-Ok.look c.in-Ok.ensures.told (subst IsFile (sym c.in-Some.is) c.in-File.is)) c.in-Err-Call.ensures.stopped)
+    left_as (left_both c.in_default.ensures.told c.in-Err-Call.ensures.stopped)
     (λ ts t. read_failed t (c.alone-in-Err-Call.ensures.means ∙ ap (λ (x : Path). told (fault.Call call.Read x ∷ [])) c.in_ok-file.ensures))
-
-pub returns-in-Err-Memory-clause-lacking : goal.returns-in-Err-Memory-clause-lacking
-returns-in-Err-Memory-clause-lacking g c =
-    left_as (left_both (sees c.args.conf.now IsFile c.in-Ok.look c.in-Ok.ensures.told (subst IsFile (sym c.in-Some.is) c.in-File.is)) c.in-Err-Memory.ensures.stopped) (λ ts t. inr t)
-
-pub returns-in_default-clause-means : goal.returns-in_default-clause-means
-returns-in_default-clause-means g c = of_stop (fault.Call call.Look c.args.conf.now) (2, omega arith, refl) (c.alone.ensures.means ∙ ap (λ (x : Path). told (fault.Call call.Look x ∷ [])) c.in_ok-file.ensures)
-
-pub returns-in_default-look-clause-means : goal.returns-in_default-look-clause-means
-returns-in_default-look-clause-means g c = of_stop (conf c.args.conf.now kind.NoFile 0) (0, omega arith, refl)
-    (c.alone-in_default-look.ensures.means ∙ ap (λ (f : Fault). told (f ∷ [])) (c.of_file.ensures ∙ ap (λ (x : Path). conf x kind.NoFile 0) c.in_ok-file.ensures))
-
-pub returns-in-Dir-clause-means : goal.returns-in-Dir-clause-means
-returns-in-Dir-clause-means g c = of_stop (conf c.args.conf.now kind.NotYet 0) (1, omega arith, refl)
-    (c.alone-in-Dir.ensures.means ∙ ap (λ (f : Fault). told (f ∷ [])) (c.of_file-in-Dir.ensures ∙ ap (λ (x : Path). conf x kind.NotYet 0) c.in_ok-file.ensures))
-
-pub returns-in-Other-clause-means : goal.returns-in-Other-clause-means
-returns-in-Other-clause-means g c = of_stop (conf c.args.conf.now kind.NoFile 0) (0, omega arith, refl)
-    (c.alone-in-Other.ensures.means ∙ ap (λ (f : Fault). told (f ∷ [])) (c.of_file-in-Other.ensures ∙ ap (λ (x : Path). conf x kind.NoFile 0) c.in_ok-file.ensures))
-
-pub returns-in-Ok-read_text-clause-means : goal.returns-in-Ok-read_text-clause-means
-returns-in-Ok-read_text-clause-means g c = read_means c.args.conf.now c.deref.result.now c.read_bytes.result c.read_bytes.ensures.means
 
 pub returns-in-Err-Call-clause-means : goal.returns-in-Err-Call-clause-means
 returns-in-Err-Call-clause-means g c = of_stop (fault.Call call.Read c.args.conf.now) (3, omega arith, refl) (c.alone-in-Err-Call.ensures.means ∙ ap (λ (x : Path). told (fault.Call call.Read x ∷ [])) c.in_ok-file.ensures)
+
+pub returns-in-Err-Memory-clause-lacking : goal.returns-in-Err-Memory-clause-lacking
+returns-in-Err-Memory-clause-lacking g c = left_as (left_both c.in_default.ensures.told c.in-Err-Memory.ensures.stopped) (λ ts t. inr t)
