@@ -6,7 +6,7 @@ use crate::look::{DirStop, LogStop};
 use crate::target::Target;
 use lr_chain::PrepareStop;
 use lr_family::StandStop;
-use lr_rules::{CallKind, Fault, Memory, Path};
+use lr_rules::{CallKind, Fault, Memory, Path, Text};
 
 /// The fault of the state's directory, which isn't seen as one.
 pub fn dir_fault(stop: DirStop, dir: Path) -> Fault
@@ -15,6 +15,22 @@ pub fn dir_fault(stop: DirStop, dir: Path) -> Fault
     match stop {
         DirStop::NoDir => Fault::NoDir(dir),
         DirStop::Call => Fault::Call(CallKind::Look, dir),
+    }
+}
+
+fn fault_at(stop: LogStop, word: Text, log: Path, missingok: bool) -> Option<Fault>
+    ensures { result ≡ log_fault_of stop word log missingok }
+{
+    match stop {
+        LogStop::Nothing => {
+            if missingok {
+                None
+            } else {
+                Some(Fault::Missing(word))
+            }
+        }
+        LogStop::NotFile => Some(Fault::NotFile(log)),
+        LogStop::Call => Some(Fault::Call(CallKind::Look, log)),
     }
 }
 
@@ -29,17 +45,7 @@ pub fn log_fault(stop: LogStop, target: Target) -> Option<Fault>
         missingok,
         ..
     } = target;
-    match stop {
-        LogStop::Nothing => {
-            if missingok {
-                None
-            } else {
-                Some(Fault::Missing(word))
-            }
-        }
-        LogStop::NotFile => Some(Fault::NotFile(log)),
-        LogStop::Call => Some(Fault::Call(CallKind::Look, log)),
-    }
+    fault_at(stop, word, log, missingok)
 }
 
 /// The fault of a family of which it isn't known what stands.
