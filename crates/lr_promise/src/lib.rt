@@ -3,12 +3,10 @@
 //! A law is the contract of a function without a body; begin with `run_stays_safe`.
 #![tactic(auto)]
 
-mod looks;
 mod run;
 mod turn;
 mod worked;
 
-pub use looks::{look_shows_file, looks_show_members, members_stood_before};
 pub use run::{call_stays_safe, run_stays_safe};
 pub use turn::{rotation_fits, rotation_is_aside, rotation_is_one};
 pub use worked::worked_is_run;
