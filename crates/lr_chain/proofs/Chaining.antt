@@ -7,9 +7,11 @@ use Rattle.lr_rules.specs.declared.fault.CallKind.TheVariants as call
 use Rattle.lr_host.specs.declared.entry.Entry.{Entry}
 use Rattle.lr_host.specs.declared.entry.Entry.TheVariants.{Renames}
 use Rattle.lr_host.specs.declared.journal.Journal.{Journal}
-use Rattle.lr_host.specs.Told.{Left, Are, Can, Counts, IsIn}
+use Rattle.lr_host.specs.Told.{Left, Are, Can, Counts}
 use Rattle.lr_host.specs.Steps.{CanAll, is_change}
 use Rattle.lr_host.proofs.Left.{left_then, left_as, can_rest, can_first}
+use Rattle.lr_host.specs.Lists.{IsIn}
+use Rattle.lr_host.proofs.Lists.{in_back, in_front}
 use Rattle.lr_chain.specs.declared.ready.Move.{Move}
 use Rattle.lr_chain.specs.declared.chain.ChainStop.{ChainStop}
 use Rattle.lr_chain.specs.declared.chain.ChainStop.TheVariants as stop
@@ -64,22 +66,13 @@ pub last_can : (xs : List Entry) (e : Entry) {o m : Option Journal} → CanAll o
 last_can xs e can so_far = can_first e [] (can_rest xs (e ∷ []) can so_far (λ ts t. ap (filter is_change) t))
 
 -- one of the steps
-in_split : (before : List Entry) (e : Entry) (after : List Entry) → IsIn e (before ++ e ∷ after)
-in_split [] e after = inl refl
-in_split (x ∷ before) e after = inr (in_split before e after)
-
-in_more : (xs ys : List Entry) (e : Entry) → IsIn e xs → IsIn e (xs ++ ys)
-in_more [] ys e is = absurd is
-in_more (x ∷ xs) ys e (inl is) = inl is
-in_more (x ∷ xs) ys e (inr is) = inr (in_more xs ys e is)
-
 pub move_from : (moves all : List Move) (at : ℕ) (x : Move) → moves ≡ all → x ≡ get_or moves at x → at < length moves → IsFrom (map move_step all) x.from
 move_from moves all at x same is lt =
-    (x.to, subst (λ steps. IsIn (move_step x) steps) (split_at moves at x is lt ∙ ap (map move_step) same) (in_split (map move_step (take at moves)) (move_step x) (map move_step (drop (at + 1) moves))))
+    (x.to, subst (λ steps. IsIn (move_step x) steps) (split_at moves at x is lt ∙ ap (map move_step) same) (in_back (move_step x) (map move_step (take at moves)) ((move_step x) ∷ (map move_step (drop (at + 1) moves))) (inl refl)))
 
 pub last_from : (moves : List Move) (log target : Path) → IsFrom (map move_step moves ++ Renames log target ∷ []) log
-last_from moves log target = (target, in_split (map move_step moves) (Renames log target) [])
+last_from moves log target = (target, in_back (Renames log target) (map move_step moves) ((Renames log target) ∷ []) (inl refl))
 
 pub cause_more : (xs ys : List Entry) (why : ChainStop) (before now : Counts) → ChainCause xs why before now → ChainCause (xs ++ ys) why before now
-cause_more xs ys (stop.Call kind path) before now c = (c.0, (c.1.0, in_more xs ys (Renames path.now c.1.0) c.1.1), c.2)
+cause_more xs ys (stop.Call kind path) before now c = (c.0, (c.1.0, in_front (Renames path.now c.1.0) xs ys c.1.1), c.2)
 cause_more xs ys (stop.NotFile path) before now c = absurd c

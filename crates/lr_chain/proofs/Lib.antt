@@ -8,5 +8,6 @@ pub mod Lasting
 pub mod Parts
 pub mod Paths
 pub mod Retiring
+pub mod Steps
 pub mod Turned
 pub mod Whole

@@ -4,7 +4,8 @@ use Rattle.lr_rules.specs.declared.path.Path.{Path}
 use Rattle.lr_rules.specs.declared.fault.CallKind.TheVariants as call
 use Rattle.lr_host.specs.declared.entry.Entry.{Entry}
 use Rattle.lr_host.specs.declared.entry.Entry.TheVariants.{Renames}
-use Rattle.lr_host.specs.Told.{Counts, Rose, Then, Are, IsIn}
+use Rattle.lr_host.specs.Told.{Counts, Rose, Then, Are}
+use Rattle.lr_host.specs.Lists.{IsIn}
 use Rattle.lr_scripts.specs.declared.command.Bad.{Bad}
 use Rattle.lr_scripts.specs.declared.removal.Removal.{Removal}
 use Rattle.lr_scripts.specs.Removals.{RemovalRefused, RemovalCause}

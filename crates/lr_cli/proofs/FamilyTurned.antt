@@ -1,8 +1,7 @@
 -- Where a report has no fault but those of the configuration, its log was turned, file by file, or was let be missing.
-use Rattle.std.proofs.Common.{◌≡◌, ℕ, List, [], ◌∷◌, ◌++◌, reverse, ℤ, Option, Some, None, All, Contains, refl, sym, ap, ◌∙◌, subst, arith, inl, ⊎_elim, append_assoc, append-nil, get_or}
+use Rattle.std.proofs.Common.{◌≡◌, ℕ, List, [], ◌∷◌, ◌++◌, reverse, ℤ, Option, Some, None, All, Contains, refl, sym, ap, ◌∙◌, subst, inl, append_assoc, append-nil, get_or}
 use Rattle.std.specs.Prelude.{filter}
 use Rattle.std.specs.List.{AllByRecursion as Every}
-use Rattle.std.proofs.lemmas.List.{reverse-reverse}
 use Rattle.std.proofs.lemmas.List.Elements.{filter-append, recursion_from_All, All-nil, All-contains_itself}
 use Rattle.lr_rules.specs.declared.path.Path.{Path}
 use Rattle.lr_rules.specs.declared.civil.Moment.{Moment}
@@ -21,27 +20,32 @@ use Rattle.lr_host.specs.declared.thing.Thing.TheVariants as thing
 use Rattle.lr_host.specs.declared.entry.Entry.TheVariants as entry
 use Rattle.lr_host.specs.declared.entry.Entry.TheVariants.{Look, Starts, Ends}
 use Rattle.lr_host.specs.declared.journal.Journal.{Journal}
-use Rattle.lr_host.specs.World.{World, Past, ◌▸◌, past, world, names}
+use Rattle.lr_host.specs.World.{Past, past, world, names}
 use Rattle.lr_host.specs.Opening.{IsJournal}
-use Rattle.lr_host.specs.Fits.{Sees as HostSees}
-use Rattle.lr_host.specs.Told.{Made, at_first, by_writer, by_tool, Then, Left, is_told}
-use Rattle.lr_host.proofs.Left.{filter_reverse}
+use Rattle.lr_host.specs.Told.{Made, Then, Left, is_told}
 use Rattle.lr_host.specs.Steps.{is_change}
 use Rattle.lr_conf.specs.Meaning.{Meaning, told}
 use Rattle.lr_conf.specs.Plain.{IsPlainRule, AtMostOneLog}
 use Rattle.lr_family.specs.declared.stand.Stand.{Stand}
 use Rattle.lr_family.specs.Kin.{IsKin}
 use Rattle.lr_host.specs.Looks.{Sees, IsNothing, IsFile}
+use Rattle.lr_host.proofs.Each.{all_pass}
+use Rattle.lr_host.specs.Lists.{IsIn}
+use Rattle.lr_host.proofs.Lists.{in_front, in_back, from_reverse}
+use Rattle.lr_host.specs.Quiet.{AreQuiet, is_disk_change, ChangeNothing}
+use Rattle.lr_host.proofs.Quiet.{quiet_both, sees_quiet, quiet_still, still_both, IsAny, since_any, moment, still_in_order, quiet_more}
+use Rattle.lr_host.proofs.More.{nothing_before}
+use Rattle.lr_host.proofs.Looked.{seen_none}
 use Rattle.lr_family.specs.Stands.{ShowsStand}
+use Rattle.lr_family.proofs.OnlyLooks.{looks_quiet, looking_stand}
 use Rattle.lr_chain.specs.Rotation.{places_of, rotation}
 use Rattle.lr_include.specs.Readers.{IsConf}
 use Rattle.lr_include.specs.Reading.{ReadsAs, means, look_failed, read_failed, MeansAs, no_file, directory, whole, cut}
 use Rattle.lr_include.proofs.Plain.{whole_plain, whole_one, cut_plain, cut_one}
 use Rattle.lr_promise.specs.Members.{IsFamily, HasName, HaveNext}
-use Rattle.lr_promise.specs.Shape.{AreQuiet, Among}
-use Rattle.lr_promise.proofs.Lists.{In, in_front, in_back, in_turned}
+use Rattle.lr_promise.specs.Shape.{Among}
 use Rattle.lr_promise.proofs.Given.{given_one, have_next}
-use Rattle.lr_promise.proofs.Shapes.{quiet_both, sees_quiet, stand_quiet, changes_kept, rotation_changes}
+use Rattle.lr_promise.proofs.Shapes.{rotation_changes}
 use Rattle.lr_promise.proofs.Shown.{shown}
 use Rattle.lr_run.specs.Built.{IsBuilt, IsBuiltRule, IsLogWord, IsOneWord}
 use Rattle.lr_run.specs.Logs.{Log, log_of}
@@ -49,23 +53,20 @@ use Rattle.lr_run.specs.Runs.{Inside, NoFault, no_rule, one_log, Because, at_dir
 use Rattle.lr_run.specs.Turning.{GoesWell, turned, let_be, Turns}
 use Rattle.lr_run.proofs.Kindred.{kin_at}
 use Rattle.lr_run.proofs.Named.{plain_naming}
-use Rattle.lr_turned.specs.Quiet.{is_disk_change, NoMemberAttached, from_here, attached, another}
 use Rattle.lr_turned.specs.Turning.{TurnsOver}
-use Rattle.lr_turned.proofs.Aside.{quiet_or_made}
-use Rattle.lr_turned.proofs.MembersFound.{moment}
 use Rattle.lr_turned.proofs.RunTurned.{run_members, run_whole}
 use Rattle.lr_turned.proofs.Started.{started_over}
 use Rattle.lr_cli.specs.declared.outcome.Outcome.{Outcome}
 use Rattle.lr_cli.specs.declared.outcome.Outcome.TheVariants.{Done}
 use Rattle.lr_cli.specs.declared.outcome.Report.{Report}
-use Rattle.lr_cli.specs.Answer.{state_path, ChangeNothing, Reports, Answers, AnsweredAt}
+use Rattle.lr_cli.specs.Answer.{state_path, Reports, Answers, AnsweredAt}
 use Rattle.lr_cli.specs.Turning.{Becomes, TurnsFamily}
 use Rattle.lr_cli.specs.Turning.{turned as is_turned}
 use Rattle.lr_cli.specs.Turning.{let_be as is_let_be}
 use Rattle.lr_cli.specs.Words.{AreWords}
 use Rattle.lr_cli.proofs.Built.{built}
 use Rattle.lr_cli.proofs.ParentPath.{parent_path}
-use Rattle.lr_cli.proofs.Still.{still, both_still, conf_quiet}
+use Rattle.lr_cli.proofs.Still.{conf_quiet}
 
 -- ---- the run has no fault of its own
 
@@ -137,13 +138,13 @@ module _ (conf : Path) (now : Moment) (m : Meaning) (rules : Rules) (ts : List E
   whole_is = joined ∙ (ap (λ us. read ++ us) i.entries ∙ sym (append_assoc read (Look (parent_of state_path) i.seen ∷ []) (begun ∷ (i.between ++ Ends ∷ []))))
 
   quiet_before : AreQuiet before_start
-  quiet_before = quiet_both read (Look (parent_of state_path) i.seen ∷ []) (conf_quiet conf m read reads) (tt, tt)
+  quiet_before = quiet_both read (Look (parent_of state_path) i.seen ∷ []) (conf_quiet conf m read reads) ((tt, refl), tt)
 
   -- a quiet part between makes no change
-  pub quiet_still : AreQuiet i.between → ChangeNothing ts
-  quiet_still q =
+  pub still_between : AreQuiet i.between → ChangeNothing ts
+  still_between q =
       ap (filter is_disk_change) whole_is
-      ∙ both_still before_start (begun ∷ (i.between ++ Ends ∷ [])) (still _ quiet_before) (both_still i.between (Ends ∷ []) (still i.between q) refl)
+      ∙ still_both before_start (begun ∷ (i.between ++ Ends ∷ [])) (quiet_still _ quiet_before) (still_both i.between (Ends ∷ []) (quiet_still i.between q) refl)
 
   -- a whole turn between
   pub turns_over : (log : Log) (w : Turns log i.between) → TurnsOver log.path log.naming log.count w.stand ts
@@ -158,7 +159,7 @@ module _ (conf : Path) (now : Moment) (m : Meaning) (rules : Rules) (ts : List E
       looks = record { front = w.run.first.front; back = w.run.first.back; joined = w.run.first.joined; first = w.run.first.first; second = w.run.first.second }
 
       quiet_looks : AreQuiet w.run.front
-      quiet_looks = subst AreQuiet (sym looks.joined) (quiet_both looks.front looks.back (sees_quiet log.path looks.front looks.first) (stand_quiet log.naming w.stand looks.back looks.second))
+      quiet_looks = subst AreQuiet (sym looks.joined) (quiet_both looks.front looks.back (sees_quiet log.path looks.front looks.first) (looks_quiet looks.back (looking_stand log.naming w.stand looks.back looks.second)))
 
       log_seen : Among (Sees log.path IsFile) w.run.front
       log_seen = record { before = []; part = looks.front; after = looks.back; joined = looks.joined; is = looks.first }
@@ -168,7 +169,7 @@ module _ (conf : Path) (now : Moment) (m : Meaning) (rules : Rules) (ts : List E
 
       changes : filter is_change (w.run.back ++ Ends ∷ []) ≡ rotation log.naming log.count log.path (places_of w.stand.members)
       changes = filter-append is_change w.run.back (Ends ∷ []) ∙ (append-nil (filter is_change w.run.back)
-          ∙ (ap (filter is_change) w.run.second.1 ∙ changes_kept (rotation log.naming log.count log.path (places_of w.stand.members)) (rotation_changes log.naming log.count log.path (places_of w.stand.members))))
+          ∙ (ap (filter is_change) w.run.second.1 ∙ all_pass is_change (rotation log.naming log.count log.path (places_of w.stand.members)) (rotation_changes log.naming log.count log.path (places_of w.stand.members))))
 
   -- and where nothing was seen at the log's path
   pub seen_nothing : (x : Path) → Sees x IsNothing i.between → Among (Sees x IsNothing) ts
@@ -186,40 +187,15 @@ over_changes log stand ts o = ap (filter is_disk_change) o.joined ∙ (filter-ap
 
 -- ---- where nothing was seen and nothing was changed
 
--- the naming of a family of which no place has a name
-abbrev nameless : Naming
-nameless = record { dir = []; base = []; ext = []; start = 4294967296; dated = None }
-
-no_name : (place : ℕ) → HasName nameless place → ⊥
-no_name place h = omega arith
-
-none_more : (p q : Past) (e : Entry) → NoMemberAttached nameless p q → NoMemberAttached nameless p (q ▸ e)
-none_more p q (entry.Attach writer x at) h = attached h (λ place i. absurd (no_name place i))
-none_more p q _ h = another h (λ writer x at same. cc)
-
-none_attached : (p q : Past) (es : List Entry) → Made p es q → NoMemberAttached nameless p q
-none_attached p _ _ at_first = from_here
-none_attached p _ es (by_writer {q = q} {e = e} m i f) = none_more p q e (none_attached p q es m)
-none_attached p _ _ (by_tool {es = es} {q = q} {e = e} m i f) = none_more p q e (none_attached p q es m)
-
-look_none : (x : Path) (ts : List Entry) → Among (Sees x IsNothing) ts → In (Look x None) ts
-look_none x ts a = subst (In (Look x None)) (sym a.joined) (in_back (Look x None) a.before (a.part ++ a.after) (in_front (Look x None) a.part a.after
-    (subst (In (Look x None)) (sym (a.is.look ∙ ap (λ seen. Look x seen ∷ []) a.is.is)) (inl refl))))
-
-seen_none : (w : World) (t : Thing) → HostSees w t None → t ≡ thing.Nothing
-seen_none w thing.Nothing s = refl
-seen_none w (thing.File g) s = absurd s
-seen_none w thing.Directory s = absurd s
-seen_none w thing.Other s = absurd s
-
-no_change : (es : List Entry) → ChangeNothing (reverse es) → filter is_disk_change es ≡ []
-no_change es h = sym (reverse-reverse (filter is_disk_change es)) ∙ ap reverse (sym (filter_reverse is_disk_change es) ∙ h)
+look_none : (x : Path) (ts : List Entry) → Among (Sees x IsNothing) ts → IsIn (Look x None) ts
+look_none x ts a = subst (IsIn (Look x None)) (sym a.joined) (in_back (Look x None) a.before (a.part ++ a.after) (in_front (Look x None) a.part a.after
+    (subst (IsIn (Look x None)) (sym (a.is.look ∙ ap (λ seen. Look x seen ∷ []) a.is.is)) (inl refl))))
 
 -- then nothing was there before
-nothing_before : (x : Path) (p q : Past) (es : List Entry) → Made p es q → ChangeNothing (reverse es) → Among (Sees x IsNothing) (reverse es) → names (world p) x ≡ thing.Nothing
-nothing_before x p q es made still saw =
-    let at = moment nameless p q (Look x None) es (none_attached p q es made) made (no_change es still) (in_turned (Look x None) es (look_none x (reverse es) saw)) in
-    ⊎_elim (λ same. sym same ∙ seen_none (world at.at) (names (world at.at) x) at.fits) (λ new. new.0) (quiet_or_made nameless p at.at x at.since)
+nothing_there : (x : Path) (p q : Past) (es : List Entry) → Made p es q → ChangeNothing (reverse es) → Among (Sees x IsNothing) (reverse es) → names (world p) x ≡ thing.Nothing
+nothing_there x p q es made still saw =
+    let at = moment IsAny p q (Look x None) es (since_any p q es made) made (still_in_order es still) (from_reverse (Look x None) es (look_none x (reverse es) saw)) in
+    nothing_before (names (world p)) (names (world at.at)) x (quiet_more IsAny p at.at at.since) (seen_none (world at.at) (names (world at.at) x) at.fits)
 
 -- ---- what becomes of the log
 
@@ -247,11 +223,11 @@ module _ (conf : Path) (now : Moment) (m : Meaning) (rules : Rules) (p q : Past)
 
   becomes : (rule : Rule) (word : List ℕ) → rules.sets ≡ rule ∷ [] → rule.words ≡ word ∷ [] → GoesWell (log_of rule word) i.between → Becomes (log_of rule word) (reverse es) p q
   becomes rule word e w (let_be ok s) = is_let_be ok
-      (nothing_before (literal_path word) p q es made
-      (quiet_still conf now m rules (reverse es) read ran joined reads (NoFault rules.sets) i (sees_quiet (literal_path word) i.between s))
+      (nothing_there (literal_path word) p q es made
+      (still_between conf now m rules (reverse es) read ran joined reads (NoFault rules.sets) i (sees_quiet (literal_path word) i.between s))
       (seen_nothing conf now m rules (reverse es) read ran joined reads (NoFault rules.sets) i (literal_path word) s))
       (seen_nothing conf now m rules (reverse es) read ran joined reads (NoFault rules.sets) i (literal_path word) s)
-      (quiet_still conf now m rules (reverse es) read ran joined reads (NoFault rules.sets) i (sees_quiet (literal_path word) i.between s))
+      (still_between conf now m rules (reverse es) read ran joined reads (NoFault rules.sets) i (sees_quiet (literal_path word) i.between s))
   becomes rule word e w (turned t) =
       is_turned t.stand (over_changes (log_of rule word) t.stand (reverse es) over)
       (λ none. (run_members (literal_path word) n rule.count t.stand p q es made journal fam next none over, run_whole (literal_path word) n rule.count t.stand p q es made journal fam next none over))
@@ -279,7 +255,7 @@ module _ (conf : Path) (now : Moment) (m : Meaning) (rules : Rules) (p q : Past)
   each_log rule word e w (one_log l) = subst (λ (log : Log). Becomes log (reverse es) p q) (same_log rules.sets rule l.rule word l.word e l.rules_are w l.words_are) (becomes l.rule l.word l.rules_are l.words_are l.holds)
 
   no_log : rules.sets ≡ [] → NoFault rules.sets i.between → ChangeNothing (reverse es)
-  no_log n (no_rule k e) = quiet_still conf now m rules (reverse es) read ran joined reads (NoFault rules.sets) i (subst AreQuiet (sym e) tt)
+  no_log n (no_rule k e) = still_between conf now m rules (reverse es) read ran joined reads (NoFault rules.sets) i (subst AreQuiet (sym e) tt)
   no_log n (one_log l) = absurd (let clash : l.rule ∷ [] ≡ [] = sym l.rules_are ∙ n in cc)
 
 -- the same of the entries that a told clause gives

@@ -16,10 +16,11 @@ use Rattle.lr_host.specs.declared.journal.Journal.{Journal}
 use Rattle.lr_host.specs.Told.{Left, Then, Each, Rose}
 use Rattle.lr_host.specs.Reading.{IsReadOf, ReadsAll}
 use Rattle.lr_host.proofs.Left.{left_as, left_both, left_then}
-use Rattle.lr_promise.specs.Shape.{AreQuiet, IsRun, not_yet}
-use Rattle.lr_promise.proofs.Shapes.{quiet_both}
+use Rattle.lr_promise.specs.Shape.{IsRun, not_yet}
 use Rattle.lr_conf.specs.Meaning.{Meaning}
 use Rattle.lr_host.specs.Looks.{Sees, IsDir, IsFile}
+use Rattle.lr_host.specs.Quiet.{AreQuiet, is_disk_change, ChangeNothing}
+use Rattle.lr_host.proofs.Quiet.{quiet_both, quiet_still, then_still}
 use Rattle.lr_include.specs.declared.reading.Reading.{Reading}
 use Rattle.lr_include.specs.Readers.{meaning_of, IsConfOrCall}
 use Rattle.lr_include.specs.Reading.{ReadsAs, MeansAs, no_file, directory, whole, cut}
@@ -29,11 +30,10 @@ use Rattle.lr_run.specs.Runs.{Answers as RunAnswers}
 use Rattle.lr_run.specs.declared.answer.RunStop.{RunStop}
 use Rattle.lr_run.specs.declared.answer.RunStop.TheVariants as stop
 use Rattle.lr_run.specs.Runs.{LacksMemory as RunLacks}
-use Rattle.lr_turned.specs.Quiet.{is_disk_change}
-use Rattle.lr_cli.proofs.Still.{still, file_quiet, conf_quiet, then_still, lacks_still}
+use Rattle.lr_cli.proofs.Still.{file_quiet, conf_quiet, lacks_still}
 use Rattle.lr_cli.specs.Faults.{answer_of}
 use Rattle.lr_cli.proofs.OutAside.{Contains-only}
-use Rattle.lr_cli.specs.Answer.{state_path, Answers, Reports, FindsLock, ChangeNothing, LacksMemory, at_first, at_conf, at_run}
+use Rattle.lr_cli.specs.Answer.{state_path, Answers, Reports, FindsLock, LacksMemory, at_first, at_conf, at_run}
 
 -- the report of a reading and of the run behind it
 pub reports : (conf state : Path) (now : Moment) (r : Reading) (faults own : List Fault) {o m n : Option Journal} → state ≡ state_path → faults ≡ r.faults ++ own
@@ -108,12 +108,12 @@ lacks_at_conf conf now l = left_as l by
   where
     by : (ts : List Entry) → (ts ≡ []) ⊎ Then (Sees conf IsFile) (Each (IsReadOf conf)) ts → ChangeNothing ts × LacksMemory conf now ts
     by ts (inl none) = (ap (filter is_disk_change) none, at_first none)
-    by ts (inr t) = (still ts (file_quiet conf ts t), at_conf t)
+    by ts (inr t) = (quiet_still ts (file_quiet conf ts t), at_conf t)
 
 pub lacks_at_run : (conf state : Path) (now : Moment) (r : Reading) {o m n : Option Journal} → state ≡ state_path
     → Left (ReadsAs conf (meaning_of r)) o m → Left (RunLacks state now r.rules) m n → Left (λ ts. ChangeNothing ts × LacksMemory conf now ts) o n
 lacks_at_run conf state now r at a b = left_as (left_both a b) (λ ts t. (
-  then_still _ _ ts (λ us p. still us (conf_quiet conf (meaning_of r) us p)) (λ us p. lacks_still state now r.rules us p) t,
+  then_still _ _ ts (λ us p. quiet_still us (conf_quiet conf (meaning_of r) us p)) (λ us p. lacks_still state now r.rules us p) t,
   at_run (meaning_of r) r.rules refl (record { front = t.front; back = t.back; joined = t.joined; first = t.first; second = subst (λ p. RunLacks p now r.rules t.back) at t.second }),
 ))
 

@@ -1,5 +1,5 @@
 -- What a call of the program leaves, by its answer.
-use Rattle.std.specs.Prelude.{◌≡◌, ◌⊎◌, ℕ, ℤ, pos, List, [], ◌++◌, filter, codes}
+use Rattle.std.specs.Prelude.{◌≡◌, ◌⊎◌, ℕ, ℤ, pos, List, [], ◌++◌, codes}
 use Rattle.lr_rules.specs.declared.path.Path.{Path}
 use Rattle.lr_rules.specs.declared.civil.Civil.{Civil}
 use Rattle.lr_rules.specs.declared.civil.Moment.{Moment}
@@ -12,10 +12,10 @@ use Rattle.lr_host.specs.Told.{Then, Each}
 use Rattle.lr_host.specs.Reading.{IsReadOf}
 use Rattle.lr_conf.specs.Meaning.{Meaning}
 use Rattle.lr_host.specs.Looks.{Sees, IsDir, IsFile}
+use Rattle.lr_host.specs.Quiet.{ChangeNothing}
 use Rattle.lr_include.specs.Reading.{ReadsAs}
 use Rattle.lr_run.specs.Runs.{Runs}
 use Rattle.lr_run.specs.Runs.{LacksMemory as RunLacks}
-use Rattle.lr_turned.specs.Quiet.{is_disk_change}
 use Rattle.lr_cli.specs.declared.outcome.Outcome.{Outcome}
 use Rattle.lr_cli.specs.declared.outcome.Outcome.TheVariants.{Done, BadWords, Held, OutOfMemory}
 use Rattle.lr_cli.specs.Words.{AreWords}
@@ -37,10 +37,6 @@ pub record IsFirst (civil : Civil) : Type 0 where
 pub record IsNow (seconds : ℤ) (now : Moment) : Type 0 where
   pub seconds_are : now.seconds ≡ seconds
   pub civil_is : IsFirst now.civil
-
--- no entry changes a name or bytes
-abbrev pub ChangeNothing : List Entry → Type 0
-ChangeNothing ts = filter is_disk_change ts ≡ []
 
 -- The configuration was read, and a run was made over its rules. The report has the notices of the configuration, and
 -- its faults before those of the run, each with its cause.

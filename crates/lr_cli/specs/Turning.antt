@@ -13,15 +13,15 @@ use Rattle.lr_conf.specs.Meaning.{Meaning}
 use Rattle.lr_conf.specs.Plain.{AtMostOneLog}
 use Rattle.lr_family.specs.declared.stand.Stand.{Stand}
 use Rattle.lr_host.specs.Looks.{Sees, IsNothing}
+use Rattle.lr_host.specs.Quiet.{is_disk_change, ChangeNothing}
 use Rattle.lr_chain.specs.Rotation.{places_of, rotation}
 use Rattle.lr_include.specs.Reading.{ReadsAs}
-use Rattle.lr_promise.specs.Members.{AreThere}
+use Rattle.lr_promise.specs.Members.{AreThere, NoMemberAttached}
 use Rattle.lr_promise.specs.Shape.{Among}
 use Rattle.lr_run.specs.Logs.{Log, log_of}
 use Rattle.lr_run.specs.Runs.{Runs}
-use Rattle.lr_turned.specs.Quiet.{is_disk_change, NoMemberAttached}
 use Rattle.lr_turned.specs.Turning.{IsTurnedWhole}
-use Rattle.lr_cli.specs.Answer.{state_path, ChangeNothing}
+use Rattle.lr_cli.specs.Answer.{state_path}
 
 -- The tool's changes are one rotation of these members. Where no writer attached a member, they are those that stood before,
 -- and each file is afterwards where the rotation takes it, with its bytes. Or the log was let be missing: its path named

@@ -2,6 +2,7 @@ pub mod Exact
 pub mod Listing
 pub mod Looking
 pub mod Middles
+pub mod OnlyLooks
 pub mod Placed
 pub mod Plain
 pub mod Unique

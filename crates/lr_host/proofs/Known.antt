@@ -1,7 +1,7 @@
 -- What a call that was left teaches.
-use Rattle.std.proofs.Common.{◌≡◌, ◌⊎◌, inl, inr, ⊎_elim, ℕ, Bool, true, false, refl, sym, ◌∙◌, ap, subst, Option, Some, None, List, [], ◌∷◌, ◌++◌, reverse}
-use Rattle.std.proofs.lemmas.List.{reverse-reverse, reverse-append}
-use Rattle.std.specs.Prelude.{filter, cond}
+use Rattle.std.proofs.Common.{◌≡◌, ◌⊎◌, inl, inr, ℕ, refl, sym, ◌∙◌, ap, subst, Option, Some, List, [], ◌∷◌, reverse}
+use Rattle.std.proofs.lemmas.List.{reverse-reverse}
+use Rattle.std.specs.Prelude.{filter}
 use Rattle.lr_rules.specs.declared.path.Path.{Path}
 use Rattle.lr_host.specs.declared.thing.Thing.{Thing}
 use Rattle.lr_host.specs.declared.thing.Thing.TheVariants as thing
@@ -10,14 +10,19 @@ use Rattle.lr_host.specs.declared.thing.Seen.{Seen}
 use Rattle.lr_host.specs.declared.entry.Entry.{Entry}
 use Rattle.lr_host.specs.declared.entry.Entry.TheVariants as entry
 use Rattle.lr_host.specs.declared.journal.Journal.{Journal}
-use Rattle.lr_host.specs.World.{World, Past, ◌▸◌, past, world, Names, names}
-use Rattle.lr_host.specs.Fits.{Fits, Sees}
+use Rattle.lr_host.specs.Lists.{IsIn}
+use Rattle.lr_host.specs.World.{Past, ◌▸◌, past, world, Names, names}
+use Rattle.lr_host.specs.Fits.{Fits}
 use Rattle.lr_host.specs.Opening.{IsJournal}
-use Rattle.lr_host.specs.Told.{IsIn, WhereTold, Made, at_first, by_writer, by_tool, Left, not_told, is_told, CanCall, Can}
+use Rattle.lr_host.specs.Told.{WhereTold, Made, at_first, by_writer, by_tool, Left, not_told, is_told, CanCall, Can}
 use Rattle.lr_host.specs.Steps.{is_naming}
 use Rattle.lr_host.proofs.Names.{put_here}
 use Rattle.lr_host.proofs.More.{IsMore, more_on, can_more, wrote_names}
-use Rattle.lr_host.proofs.Left.{still_step, filter_reverse}
+use Rattle.lr_host.proofs.Each.{filter_reverse, none_passed}
+use Rattle.lr_host.proofs.Left.{still_step}
+use Rattle.lr_host.proofs.Lists.{from_reverse}
+use Rattle.lr_host.proofs.Made.{made_journal}
+use Rattle.lr_host.proofs.Looked.{seen_file}
 
 -- What one entry that was left says of the world now: what it makes so, writers don't end.
 writers_more : (p q : Past) → Made p [] q → IsMore (names (world p)) (names (world q))
@@ -43,12 +48,6 @@ pub entry_says : {e e' : Entry} {o n : Option Journal} → Left (λ ts. ts ≡ e
 entry_says {e} {e'} l f = record { can = entry_tells (λ n. CanCall n e') (λ n n' more c. can_more n n' e' more c) l f }
 
 -- a path where a look saw a file can be read, renamed and so on
-seen_file : (w : World) (t : Thing) (seen : Seen) → Sees w t (Some seen) → seen.kind ≡ kind.File → (g : ℕ) × (t ≡ thing.File g)
-seen_file w thing.Nothing seen s k = absurd (let none : Some seen ≡ None = s in cc)
-seen_file w (thing.File g) seen s k = (g, refl)
-seen_file w thing.Directory seen s k = absurd (let dir : seen.kind ≡ kind.Dir = s in cc)
-seen_file w thing.Other seen s k = absurd (let other : seen.kind ≡ kind.Other = s in cc)
-
 pub seen_can_read : {x : Path} {seen : Seen} {o n : Option Journal} → Left (λ ts. ts ≡ entry.Look x (Some seen) ∷ []) o n → seen.kind ≡ kind.File → Can n (entry.Reads x 0 [])
 seen_can_read {x} {seen} l k = entry_says l (λ w f. seen_file (world w) (names (world w) x) seen f k)
 
@@ -57,45 +56,23 @@ pub made_can_append : {x : Path} {mode : Option ℕ} {o n : Option Journal} → 
 made_can_append {x} {mode} l = entry_says l (λ w f. ((world w).drawn, put_here (names (world w)) x x (thing.File (world w).drawn) refl))
 
 -- A journal stays one.
-made_journal : (p q : Past) (es : List Entry) → Made p es q → IsJournal p → IsJournal q
-made_journal p _ _ at_first j = j
-made_journal p _ es (by_writer {q = q} m i f) j = (made_journal p q es m j, f)
-made_journal p _ _ (by_tool {es = es} {q = q} m i f) j = (made_journal p q es m j, f)
-
 pub left_journal : {P : List Entry → Type 0} {o n : Option Journal} → Left P o n → WhereTold o IsJournal → WhereTold n IsJournal
 left_journal not_told j = tt
 left_journal (is_told {j = j} {k = k} {es = es} m h) v = made_journal (past j) (past k) es m v
 
 -- The same of any entry behind which no name goes.
-in_append : (e : Entry) (xs ys : List Entry) → IsIn e (xs ++ ys) → IsIn e xs ⊎ IsIn e ys
-in_append e [] ys h = inr h
-in_append e (x ∷ xs) ys h = ⊎_elim (λ here. inl (inl here)) (λ there. ⊎_elim (λ a. inl (inr a)) (λ b. inr b) (in_append e xs ys there)) h
-
-in_reverse : (e : Entry) (es : List Entry) → IsIn e (reverse es) → IsIn e es
-in_reverse e [] h = h
-in_reverse e (x ∷ xs) h = from (in_reverse e xs) (in_append e (reverse xs) (x ∷ []) (subst (IsIn e) (reverse-append (x ∷ []) xs) h))
-  where
-    from : (IsIn e (reverse xs) → IsIn e xs) → IsIn e (reverse xs) ⊎ IsIn e (x ∷ []) → IsIn e (x ∷ xs)
-    from further (inl a) = inr (further a)
-    from further (inr (inl here)) = inl here
-    from further (inr (inr none)) = absurd none
-
 some_says : (p q : Past) (e e' : Entry) (es : List Entry) → Made p es q → IsIn e es → filter is_naming es ≡ [] → ((w : Past) → Fits (world w) e → CanCall (names (world (w ▸ e))) e') → CanCall (names (world q)) e'
 some_says p _ e e' _ at_first h still f = absurd h
 some_says p _ e e' es (by_writer {q = q} {e = d} m i g) h still f = can_more (names (world q)) (names (world (q ▸ d))) e' (λ y. wrote_names q d y i) (some_says p q e e' es m h still f)
 some_says p _ e e' _ (by_tool {es = es} {q = q} {e = d} m i g) h still f = go (λ there none. some_says p q e e' es m there none f) h
   where
-    split : (b : Bool) (rest : List Entry) → cond b (d ∷ rest) rest ≡ [] → (b ≡ false) × (rest ≡ [])
-    split true rest h = absurd (cc)
-    split false rest h = (refl, h)
-
     go : (IsIn e es → filter is_naming es ≡ [] → CanCall (names (world q)) e') → (d ≡ e) ⊎ IsIn e es → CanCall (names (world (q ▸ d))) e'
     go further (inl same) = subst (λ x. CanCall (names (world (q ▸ x))) e') (sym same) (f q (subst (Fits (world q)) same g))
-    go further (inr there) = let s = split (is_naming d) (filter is_naming es) still in
+    go further (inr there) = let s = none_passed is_naming d es still in
         can_more (names (world q)) (names (world (q ▸ d))) e' (still_step q d i g s.0) (further there s.1)
 
 pub ever_says : {e e' : Entry} {P : List Entry → Type 0} {o n : Option Journal} → Left P o n → ((ts : List Entry) → P ts → IsIn e ts × (filter is_naming ts ≡ [])) → ((w : Past) → Fits (world w) e → CanCall (names (world (w ▸ e))) e') → Can n e'
 ever_says not_told h f = record { can = tt }
 ever_says {e} {e'} (is_told {j = j} {k = k} {es = es} m p) h f = record {
-  can = some_says (past j) (past k) e e' es m (in_reverse e es (h (reverse es) p).0) (sym (reverse-reverse (filter is_naming es)) ∙ ap reverse (sym (filter_reverse is_naming es) ∙ (h (reverse es) p).1)) f;
+  can = some_says (past j) (past k) e e' es m (from_reverse e es (h (reverse es) p).0) (sym (reverse-reverse (filter is_naming es)) ∙ ap reverse (sym (filter_reverse is_naming es) ∙ (h (reverse es) p).1)) f;
 }

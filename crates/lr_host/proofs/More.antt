@@ -12,16 +12,15 @@ use Rattle.lr_host.specs.World.{Names, put, World, names, names_after, Step, dur
 use Rattle.lr_host.specs.Fits.{IsFileAt, MaybeFileAt, IsDirectoryAt}
 use Rattle.lr_host.specs.Told.{IsWriters, CanCall}
 use Rattle.lr_host.proofs.Names.{put_here, put_other}
+use Rattle.lr_host.proofs.Looked.{nothing_no_file, nothing_no_dir, file_no_dir}
 
 -- names that differ by files alone that writers made
 abbrev pub IsMore : Names → Names → Type 0
 IsMore n n' = (y : Path) → (n' y ≡ n y) ⊎ ((n y ≡ thing.Nothing) × IsFileAt n' y)
 
-file_same : (n n' : Names) (x : Path) → IsMore n n' → IsFileAt n x → n' x ≡ n x
-file_same n n' x h f = ⊎_elim (λ same. same) (λ new. absurd (clash (n x) f.0 new.0 f.1)) (h x)
-  where
-    clash : (t : Thing) (g : ℕ) → t ≡ thing.Nothing → t ≡ thing.File g → ⊥
-    clash t g a b = cc
+-- a path that names a file names that file still
+pub file_same : (n n' : Names) (x : Path) → IsMore n n' → IsFileAt n x → n' x ≡ n x
+file_same n n' x h f = ⊎_elim (λ same. same) (λ new. absurd (nothing_no_file (n x) f.0 new.0 f.1)) (h x)
 
 pub moved_more : (n n' : Names) (x z : Path) → IsFileAt n x → IsMore n n' → IsMore (changed (Moves x z) n) (changed (Moves x z) n')
 moved_more n n' x z f h y = at_to (bytes_eq z y)
@@ -65,13 +64,17 @@ made_more n x g free y = go (bytes_eq x y) refl
     go false e = inl refl
 
 pub directory_more : (n n' : Names) (x : Path) → IsMore n n' → IsDirectoryAt n x → IsDirectoryAt n' x
-directory_more n n' x more d = ⊎_elim (λ same. same ∙ d) (λ new. absurd (clash (n x) new.0 d)) (more x)
-  where
-    clash : (t : Thing) → t ≡ thing.Nothing → t ≡ thing.Directory → ⊥
-    clash t a b = cc
+directory_more n n' x more d = ⊎_elim (λ same. same ∙ d) (λ new. absurd (nothing_no_dir (n x) new.0 d)) (more x)
 
 pub file_more : (n n' : Names) (x : Path) → IsMore n n' → IsFileAt n x → IsFileAt n' x
 file_more n n' x more f = (f.0, file_same n n' x more f ∙ f.1)
+
+-- what is a directory, or nothing, was that before
+pub dir_before : (n n' : Names) (x : Path) → IsMore n n' → IsDirectoryAt n' x → IsDirectoryAt n x
+dir_before n n' x more d = ⊎_elim (λ same. sym same ∙ d) (λ new. absurd (file_no_dir (n' x) new.1.0 new.1.1 d)) (more x)
+
+pub nothing_before : (n n' : Names) (x : Path) → IsMore n n' → n' x ≡ thing.Nothing → n x ≡ thing.Nothing
+nothing_before n n' x more e = ⊎_elim (λ same. sym same ∙ e) (λ new. new.0) (more x)
 
 pub not_more : (n n' : Names) (x : Path) (t : Thing) → IsMore n n' → ((g : ℕ) → thing.File g ≡ t → ⊥) → n x ≢ t → n' x ≢ t
 not_more n n' x t more nf ne is = ⊎_elim (λ same. ne (sym same ∙ is)) (λ new. nf new.1.0 (sym new.1.1 ∙ is)) (more x)

@@ -5,6 +5,7 @@ pub mod Later
 pub mod Lists
 pub mod Looks
 pub mod Opening
+pub mod Quiet
 pub mod Reading
 pub mod Released
 pub mod Runs

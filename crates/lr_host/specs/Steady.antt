@@ -30,10 +30,27 @@ pub record IsSteadyAt (s : LogSet) (p : Past) : Type 0 where
   -- it meets no set of another log that a rule gives and that names a file now, but for members that the run passes over
   pub apart : (x : Path) → x ≢ s.log → IsFileAt (names (world p)) x → All (λ r. RuleGives r x → Meet s.log s.naming x (naming_of r x) → IsPassedOver s p x) (rules_of p)
 
+-- where the entry attaches a writer, it is to such a path
+abbrev pub AttachesOnly : (Path → Type 0) → Entry → Type 0
+AttachesOnly P (Attach writer x at) = P x
+AttachesOnly P _ = Unit {0}
+
+-- each writer was attached to such a path
+abbrev pub AttachedOnly : (Path → Type 0) → Past → Type 0
+AttachedOnly P (Opens o) = Unit {0}
+AttachedOnly P (p ▸ e) = AttachedOnly P p × AttachesOnly P e
+
+-- the path is no member's
+abbrev pub IsKeyless : LogSet → Path → Type 0
+IsKeyless s x = s.key x ≡ None
+
 -- the entry attaches no writer to a member
 abbrev pub AttachesNoMember : LogSet → Entry → Type 0
-AttachesNoMember s (Attach writer x at) = s.key x ≡ None
-AttachesNoMember s _ = Unit {0}
+AttachesNoMember s e = AttachesOnly (IsKeyless s) e
+
+-- no writer was attached to a member
+abbrev pub NoneAttached : LogSet → Past → Type 0
+NoneAttached s p = AttachedOnly (IsKeyless s) p
 
 -- The set is steady at each moment, and no writer is attached to a member.
 abbrev pub IsSteady : LogSet → Past → Type 0

@@ -125,11 +125,6 @@ pub record Then (P Q : List Entry → Type 0) (ts : List Entry) : Type 0 where
   pub first : P front
   pub second : Q back
 
--- one of them is this entry
-abbrev pub IsIn : Entry → List Entry → Type 0
-IsIn e [] = ⊥
-IsIn e (x ∷ xs) = (x ≡ e) ⊎ IsIn e xs
-
 -- what a put took of its piece
 abbrev pub taken_of : {E : Type 0} → Result ℕ E → List ℕ → List ℕ
 taken_of (Ok count) piece = take count piece

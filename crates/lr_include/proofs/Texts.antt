@@ -8,7 +8,8 @@ use Rattle.lr_host.specs.declared.entry.Entry.TheVariants.{Reads}
 use Rattle.lr_host.specs.declared.journal.Journal.{Journal}
 use Rattle.lr_host.specs.Told.{Left, Each, Are}
 use Rattle.lr_host.specs.Reading.{IsReadOf, text, AreJoined, is_end, ReadsOf, ReadsAll}
-use Rattle.lr_host.proofs.Left.{left_first, left_as, left_then, each_append}
+use Rattle.lr_host.proofs.Left.{left_first, left_as, left_then}
+use Rattle.lr_host.proofs.Each.{each_append}
 
 pub no_reads : (path : Path) {o n : Option Journal} → Left (λ ts. ts ≡ []) o n → Left (Each (IsReadOf path)) o n
 no_reads path l = left_as l (λ ts e. subst (Each (IsReadOf path)) (sym e) tt)

@@ -5,12 +5,11 @@ use Rattle.lr_rules.specs.Names.{IsName}
 use Rattle.lr_host.specs.declared.thing.Thing.TheVariants as thing
 use Rattle.lr_host.specs.declared.entry.Entry.{Entry}
 use Rattle.lr_host.specs.declared.entry.Entry.TheVariants as entry
-use Rattle.lr_host.specs.World.{Names, Change, Moves, changed, Step, Adds, step, Past, Opens, ◌▸◌, world, names}
+use Rattle.lr_host.specs.World.{Names, Change, Moves, changed, Step, Adds, step, Past, ◌▸◌, world, names}
 use Rattle.lr_host.specs.Sets.{Order, Numbered, Dated, LogSet, order, IsWithin, in_set}
 use Rattle.lr_host.specs.Later.{IsGeneration, later}
 use Rattle.lr_host.specs.Released.{Releases}
 use Rattle.lr_host.specs.Kept.{Leaves}
-use Rattle.lr_host.specs.Steady.{AttachesNoMember}
 
 -- Where the names become others, no generation of a dated set comes to a place above its later rotations. In a numbered set a path has its place whatever the others name.
 abbrev pub KeepsPlaces : Order → LogSet → Past → Entry → Names → Names → Type 0
@@ -58,33 +57,6 @@ IsElsewhere s (entry.Appends x bytes) = in_set s x ≡ false
 IsElsewhere s (entry.Truncates x) = in_set s x ≡ false
 IsElsewhere s (entry.Unlinks x) = in_set s x ≡ false
 IsElsewhere s _ = Unit {0}
-
--- an entry of the tool that changes no name and no byte
-abbrev pub ChangesNothing : Entry → Type 0
-ChangesNothing (entry.Starts state now rules) = Unit {0}
-ChangesNothing entry.Ends = Unit {0}
-ChangesNothing (entry.Look x seen) = Unit {0}
-ChangesNothing (entry.List dir listed) = Unit {0}
-ChangesNothing (entry.Reads x from bytes) = Unit {0}
-ChangesNothing (entry.Runs program args input ended) = Unit {0}
-ChangesNothing (entry.SyncsFile x) = Unit {0}
-ChangesNothing (entry.SyncsDir x) = Unit {0}
-ChangesNothing _ = ⊥
-
--- an entry of the tool that changes a name or bytes
-abbrev pub ChangesSomething : Entry → Type 0
-ChangesSomething (entry.Renames from to) = Unit {0}
-ChangesSomething (entry.Makes x mode) = Unit {0}
-ChangesSomething (entry.Appends x bytes) = Unit {0}
-ChangesSomething (entry.Truncates x) = Unit {0}
-ChangesSomething (entry.Unlinks x) = Unit {0}
-ChangesSomething (entry.MakesDir x mode) = Unit {0}
-ChangesSomething _ = ⊥
-
--- no writer was attached to a member
-abbrev pub NoneAttached : LogSet → Past → Type 0
-NoneAttached s (Opens o) = Unit {0}
-NoneAttached s (p ▸ e) = NoneAttached s p × AttachesNoMember s e
 
 -- the paths that the entry changes, or that it attaches a writer to
 abbrev pub changed_paths : Entry → List Path

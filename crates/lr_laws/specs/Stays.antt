@@ -6,7 +6,7 @@ use Rattle.lr_host.specs.World.{Past, past}
 use Rattle.lr_host.specs.Opening.{IsJournal}
 use Rattle.lr_host.specs.Sets.{LogSet, Numbered, order}
 use Rattle.lr_host.specs.Safe.{IsSafe}
-use Rattle.lr_laws.specs.Follow.{NoneAttached}
+use Rattle.lr_host.specs.Steady.{NoneAttached}
 use Rattle.lr_laws.specs.Room.{IsReady}
 use Rattle.lr_laws.specs.Rotation.{IsRotation}
 

@@ -8,7 +8,8 @@ ghost use Rattle.lr_host.specs.Sets.{LogSet, Dated, order};
 ghost use Rattle.lr_host.specs.Kept.{IsKept};
 ghost use Rattle.lr_host.specs.Safe.{NoneToLog};
 ghost use Rattle.lr_host.specs.Steady.{AttachesNoMember};
-ghost use Rattle.lr_laws.specs.Follow.{MayFollow, ChangesNothing, ChangesSomething, IsElsewhere};
+ghost use Rattle.lr_host.specs.Quiet.{ChangesNothing, ChangesSomething};
+ghost use Rattle.lr_laws.specs.Follow.{MayFollow, IsElsewhere};
 
 /// A writer's entry keeps what is kept; of a dated set, where it attaches no member.
 pub fn writers_keep()

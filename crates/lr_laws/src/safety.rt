@@ -8,13 +8,14 @@ ghost use Rattle.lr_host.specs.Opening.{IsJournal, IsValid};
 ghost use Rattle.lr_host.specs.Told.{IsWriters, Made, Each, Left};
 ghost use Rattle.lr_host.specs.Sets.{LogSet, Numbered, order};
 ghost use Rattle.lr_host.specs.Safe.{IsSafe, IsMachines};
-ghost use Rattle.lr_host.specs.Steady.{IsSteady};
-ghost use Rattle.lr_laws.specs.Follow.{MayFollow, ChangesNothing, NoneAttached};
+ghost use Rattle.lr_host.specs.Steady.{IsSteady, NoneAttached};
+ghost use Rattle.lr_laws.specs.Follow.{MayFollow};
 ghost use Rattle.lr_host.specs.Steps.{FitChanges, CanAll, Took};
 ghost use Rattle.lr_laws.specs.Room.{IsReady};
 ghost use Rattle.lr_laws.specs.Rotation.{IsRotation, IsAside};
 ghost use Rattle.lr_laws.specs.Stays.{StaysSafe, Rotates};
 ghost use Rattle.lr_host.specs.declared.journal.Journal.{Journal};
+ghost use Rattle.lr_host.specs.Quiet.{ChangesNothing};
 
 /// A journal without entries is safe.
 pub fn opening_is_safe()

@@ -12,7 +12,8 @@ use Rattle.lr_host.specs.World.{Past, ◌▸◌, past, world, names}
 use Rattle.lr_host.specs.Fits.{Fits}
 use Rattle.lr_host.specs.Steps.{is_naming}
 use Rattle.lr_host.specs.Told.{Onward, IsWriters, Can, CanCall, Made, at_first, by_writer, by_tool, Left, is_told, IsTools, Are, DidWhere, DidPart}
-use Rattle.lr_host.proofs.Left.{made_on, can_stay}
+use Rattle.lr_host.proofs.Left.{can_stay}
+use Rattle.lr_host.proofs.Made.{made_on}
 use Rattle.lr_memhost.specs.declared.act.Act.{Act}
 use Rattle.lr_disk.specs.State.{with_entry}
 use Rattle.lr_memhost.specs.How.{downs}

@@ -27,6 +27,8 @@ use Rattle.lr_family.specs.declared.stand.Stand.{Stand}
 use Rattle.lr_family.specs.Named.{framed, member_name}
 use Rattle.lr_family.specs.Spots.{path_at, spot_at, HasPlaces, AreSpots}
 use Rattle.lr_host.specs.Looks.{IsFileOrGone}
+use Rattle.lr_host.specs.Lists.{IsIn}
+use Rattle.lr_host.proofs.Lists.{in_from}
 use Rattle.lr_family.specs.Looks.{Sight, Shows}
 use Rattle.lr_family.specs.Stands.{AreNewestFirst, ShowsStand}
 use Rattle.lr_family.proofs.Unique.{named_same, joined_same}
@@ -34,7 +36,6 @@ use Rattle.lr_chain.specs.Rotation.{places_of, rotation}
 use Rattle.lr_promise.specs.Members.{IsFamily}
 use Rattle.lr_promise.specs.Shape.{IsOneLog, IsTurn, turns_one, started, IsRun}
 use Rattle.lr_promise.specs.Worked.{file, directory, listed, looks, steps, worked_run}
-use Rattle.lr_promise.proofs.Lists.{In, in_from}
 use Rattle.lr_promise.proofs.Shapes.{rotation_changes, first_then_quiet}
 
 abbrev naming : Naming
@@ -115,12 +116,12 @@ has_places place = ((λ c. to_listed (in_from place (0 ∷ 1 ∷ []) c)), (λ h.
     second_listed : (naming.start + 1 ≤ 4294967295) × Contains listed (member_name naming (naming.start + 1))
     second_listed = (omega arith, (0, omega arith, sym second_name))
 
-    to_listed : In place (0 ∷ 1 ∷ []) → (naming.start + place ≤ 4294967295) × Contains listed (member_name naming (naming.start + place))
+    to_listed : IsIn place (0 ∷ 1 ∷ []) → (naming.start + place ≤ 4294967295) × Contains listed (member_name naming (naming.start + place))
     to_listed (inl e) = subst (λ (k : ℕ). (naming.start + k ≤ 4294967295) × Contains listed (member_name naming (naming.start + k))) e first_listed
     to_listed (inr (inl e)) = subst (λ (k : ℕ). (naming.start + k ≤ 4294967295) × Contains listed (member_name naming (naming.start + k))) e second_listed
     to_listed (inr (inr none)) = absurd none
 
-    from_listed : naming.start + place ≤ 4294967295 → In (member_name naming (naming.start + place)) listed → Contains (0 ∷ 1 ∷ []) place
+    from_listed : naming.start + place ≤ 4294967295 → IsIn (member_name naming (naming.start + place)) listed → Contains (0 ∷ 1 ∷ []) place
     from_listed le (inl e) = (1, omega arith, named_same naming 1 place (codes "a.log.2") (record { bound = omega arith; named = sym second_name }) (record { bound = le; named = e }))
     from_listed le (inr (inl e)) = absurd (named_longer (naming.start + place) e)
     from_listed le (inr (inr (inl e))) = (0, omega arith, named_same naming 0 place (codes "a.log.1") (record { bound = omega arith; named = sym first_name }) (record { bound = le; named = e }))
@@ -202,7 +203,7 @@ turn made rest e = record {
   front = looks;
   back = made ++ Ends ∷ [];
   joined = refl;
-  quiet = (tt, (tt, (tt, (tt, (tt, tt)))));
+  quiet = ((tt, refl), ((tt, refl), ((tt, refl), ((tt, refl), ((tt, refl), tt)))));
   log_seen = record {
     before = [];
     part = Look log (Some file) ∷ [];
@@ -221,7 +222,7 @@ turn made rest e = record {
   };
   low = λ high. absurd (cc);
   steps = first_then_quiet (rotation naming (Keep 2) log (places_of members)) (made ++ Ends ∷ []) (rotation_changes naming (Keep 2) log (places_of members))
-      (record { front = made; back = Ends ∷ []; joined = refl; first = (rest, steps_are ∙ e); second = (tt, tt) });
+      (record { front = made; back = Ends ∷ []; joined = refl; first = (rest, steps_are ∙ e); second = ((tt, refl), tt) });
 }
 
 one_log : IsOneLog rules.sets log naming (Keep 2)
@@ -232,6 +233,6 @@ is_run now made rest e = record {
   front = Look (codes "/c") (Some file) ∷ [];
   rest = Starts (codes "/s/status") now rules ∷ (looks ++ (made ++ Ends ∷ []));
   joined = refl;
-  quiet = (tt, tt);
+  quiet = ((tt, refl), tt);
   goes_on = started (codes "/s/status") now rules (looks ++ (made ++ Ends ∷ [])) refl (turns_one log naming (Keep 2) one_log family (turn made rest e));
 }

@@ -19,12 +19,13 @@ use Rattle.lr_host.specs.Fits.{IsFileAt}
 use Rattle.lr_host.specs.Sets.{LogSet}
 use Rattle.lr_host.specs.Runs.{rules_of, SomeRule}
 use Rattle.lr_host.specs.Steady.{IsSteadyAt, IsPassedOver}
+use Rattle.lr_host.specs.Lists.{IsIn}
+use Rattle.lr_host.proofs.Lists.{in_from, in_to, in_unmap, from_reverse}
 use Rattle.lr_family.specs.declared.stand.Member.{Member}
 use Rattle.lr_family.specs.Stands.{number_in}
 use Rattle.lr_chain.specs.Rotation.{places_of}
 use Rattle.lr_promise.specs.Members.{HasName, HaveNext}
 use Rattle.lr_promise.specs.Shape.{IsOneLog, IsGiven, IsOneTooHigh}
-use Rattle.lr_promise.proofs.Lists.{in_from, in_to, in_unmap, in_turned, In}
 
 -- what holds of all holds of each of them
 all_in : {A : Type 0} (P : A → Type 0) (xs : List A) (x : A) → All P xs → Contains xs x → P x
@@ -96,7 +97,7 @@ third_and_eighth a b c d e f g h i t =
       first_true h i (second_true g (h && i) (second_true f (g && (h && i)) (second_true e (f && (g && (h && i))) (second_true d (e && (f && (g && (h && i)))) (second_true c (d && (e && (f && (g && (h && i))))) from_third))))),
     )
 
-each_meets : (rules : List Rule) (r : Rule) → list_all meets_limits rules ≡ true → In r rules → meets_limits r ≡ true
+each_meets : (rules : List Rule) (r : Rule) → list_all meets_limits rules ≡ true → IsIn r rules → meets_limits r ≡ true
 each_meets [] r h i = absurd i
 each_meets (q ∷ qs) r h (inl e) = subst (λ (x : Rule). meets_limits x ≡ true) e (first_true (meets_limits q) (list_all meets_limits qs) h)
 each_meets (q ∷ qs) r h (inr i) = each_meets qs r (second_true (meets_limits q) (list_all meets_limits qs) h) i
@@ -134,7 +135,7 @@ have_next rules log n c members one named low = go c refl
 
         highest : n.start + place ≡ 4294967295 → Any (λ m. n.start + number_in m.place ≡ 4294967295) members
         highest high =
-            let m = in_unmap (λ (m : Member). number_in m.place) place members (in_turned place (map (λ (m : Member). number_in m.place) members) (in_from place (places_of members) h)) in
+            let m = in_unmap (λ (m : Member). number_in m.place) place members (from_reverse place (map (λ (m : Member). number_in m.place) members) (in_from place (places_of members) h)) in
             let at = in_to m.0 members m.1 in
             (at.0, m.0, at.1, at.2, ap (λ (k : ℕ). n.start + k) m.2 ∙ high)
 

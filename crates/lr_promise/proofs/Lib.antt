@@ -1,4 +1,3 @@
-pub mod Cuts
 pub mod Example
 pub mod Fitting
 pub mod Given

@@ -1,68 +1,11 @@
--- What a list has, by recursion; and lists of numbers that rise, turned round.
-use Rattle.std.proofs.Common.{◌≡◌, ◌⊎◌, inl, inr, ⊎_elim, ℕ, zero, suc, ◌<◌, List, [], ◌∷◌, ◌++◌, length, get_or, map, reverse, refl, sym, ap, subst, arith, Contains}
-use Rattle.std.proofs.lemmas.List.{reverse-append, reverse-reverse}
+-- Lists of numbers that rise, turned round.
+use Rattle.std.proofs.Common.{ℕ, suc, ◌<◌, List, [], ◌∷◌, ◌++◌, length, reverse, sym, subst, arith}
+use Rattle.std.proofs.lemmas.List.{reverse-append}
 use Rattle.std.specs.List.{AllPairs}
 use Rattle.std.specs.List.Sorted.{IsStrictlyIncreasing}
 use Rattle.std.proofs.lemmas.List.Kept.{AllPairs-from_increasing}
 use Rattle.lr_promise.specs.Members.{AreFalling}
 use Rattle.lr_promise.proofs.Places.{Every, Falls, every_from}
-
-abbrev pub In : {X : Type 0} → X → List X → Type 0
-In x [] = ⊥
-In x (y ∷ ys) = (y ≡ x) ⊎ In x ys
-
-in_at : {X : Type 0} (x : X) (xs : List X) (i : ℕ) → i < length xs → get_or xs i x ≡ x → In x xs
-in_at x [] i lt e = absurd (omega arith)
-in_at x (y ∷ ys) zero lt e = inl e
-in_at x (y ∷ ys) (suc i) lt e = inr (in_at x ys i (omega arith) e)
-
-pub in_from : {X : Type 0} (x : X) (xs : List X) → Contains xs x → In x xs
-in_from x xs c = in_at x xs c.0 c.1 c.2
-
-pub in_to : {X : Type 0} (x : X) (xs : List X) → In x xs → Contains xs x
-in_to x [] h = absurd h
-in_to x (y ∷ ys) (inl e) = (0, omega arith, e)
-in_to x (y ∷ ys) (inr h) = let c = in_to x ys h in (suc c.0, more c.1, c.2)
-  where
-    more : {i : ℕ} → i < length ys → suc i < length (y ∷ ys)
-    more lt = omega arith
-
-pub in_map : {X Y : Type 0} (f : X → Y) (x : X) (xs : List X) → In x xs → In (f x) (map f xs)
-in_map f x [] h = absurd h
-in_map f x (y ∷ ys) (inl e) = inl (ap f e)
-in_map f x (y ∷ ys) (inr h) = inr (in_map f x ys h)
-
-pub in_unmap : {X Y : Type 0} (f : X → Y) (y : Y) (xs : List X) → In y (map f xs) → (x : X) × In x xs × (f x ≡ y)
-in_unmap f y [] h = absurd h
-in_unmap f y (x ∷ xs) (inl e) = (x, inl refl, e)
-in_unmap f y (x ∷ xs) (inr h) = let r = in_unmap f y xs h in (r.0, inr r.1, r.2)
-
-pub in_front : {X : Type 0} (x : X) (xs ys : List X) → In x xs → In x (xs ++ ys)
-in_front x [] ys h = absurd h
-in_front x (y ∷ xs) ys (inl e) = inl e
-in_front x (y ∷ xs) ys (inr h) = inr (in_front x xs ys h)
-
-pub in_back : {X : Type 0} (x : X) (xs ys : List X) → In x ys → In x (xs ++ ys)
-in_back x [] ys h = h
-in_back x (y ∷ xs) ys h = inr (in_back x xs ys h)
-
-pub in_append : {X : Type 0} (x : X) (xs ys : List X) → In x (xs ++ ys) → In x xs ⊎ In x ys
-in_append x [] ys h = inr h
-in_append x (y ∷ xs) ys (inl e) = inl (inl e)
-in_append x (y ∷ xs) ys (inr h) = ⊎_elim (λ a. inl (inr a)) (λ b. inr b) (in_append x xs ys h)
-
-pub in_reverse : {X : Type 0} (x : X) (xs : List X) → In x xs → In x (reverse xs)
-in_reverse x [] h = h
-in_reverse x (y ∷ ys) h = subst (In x) (sym (reverse-append (y ∷ []) ys)) (go (in_reverse x ys) h)
-  where
-    go : (In x ys → In x (reverse ys)) → (y ≡ x) ⊎ In x ys → In x (reverse ys ++ y ∷ [])
-    go further (inl e) = in_back x (reverse ys) (y ∷ []) (inl e)
-    go further (inr h) = in_front x (reverse ys) (y ∷ []) (further h)
-
-pub in_turned : {X : Type 0} (x : X) (xs : List X) → In x (reverse xs) → In x xs
-in_turned x xs h = subst (In x) (reverse-reverse xs) (in_reverse x (reverse xs) h)
-
--- ---- numbers
 
 abbrev Rises : List ℕ → Type 0
 Rises [] = Unit {0}

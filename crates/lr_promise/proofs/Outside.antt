@@ -12,7 +12,7 @@ use Rattle.lr_rules.specs.Names.{IsRun, AreDigits, IsMiddleShape, IsOwnName, the
 use Rattle.lr_host.specs.declared.entry.Entry.TheVariants as entry
 use Rattle.lr_host.specs.Told.{Each}
 use Rattle.lr_host.specs.Sets.{LogSet, in_set}
-use Rattle.lr_host.proofs.Left.{each_append}
+use Rattle.lr_host.proofs.Each.{each_append}
 use Rattle.lr_laws.specs.Rotation.{IsAside}
 use Rattle.lr_laws.proofs.Outside.{apart_outside}
 use Rattle.lr_family.specs.Named.{member_name}

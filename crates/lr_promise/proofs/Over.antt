@@ -5,23 +5,19 @@ use Rattle.std.proofs.Math.Seq.{take-append_seam}
 use Rattle.lr_host.specs.declared.entry.Entry.{Entry}
 use Rattle.lr_host.specs.declared.entry.Entry.TheVariants as entry
 use Rattle.lr_host.specs.declared.journal.Journal.{Journal}
-use Rattle.lr_host.specs.World.{Past, Opens, ◌▸◌, past, then, world, names}
-use Rattle.lr_host.specs.Told.{Each, IsTools, Made, at_first, by_writer, by_tool, Left, is_told}
+use Rattle.lr_host.specs.World.{Past, Opens, ◌▸◌, past, world, names}
+use Rattle.lr_host.specs.Told.{Each, Made, at_first, by_writer, by_tool, Left, is_told}
 use Rattle.lr_host.specs.Steps.{FitAll, is_change, CanAll, Took}
 use Rattle.lr_host.specs.Opening.{IsJournal}
 use Rattle.lr_host.specs.Sets.{LogSet}
 use Rattle.lr_host.specs.Safe.{IsSafe}
-use Rattle.lr_host.proofs.Left.{filter_reverse}
-use Rattle.lr_laws.specs.Follow.{NoneAttached}
+use Rattle.lr_host.proofs.Each.{filter_reverse, each_reverse, each_first}
+use Rattle.lr_host.proofs.Made.{then_append}
+use Rattle.lr_host.specs.Steady.{NoneAttached}
 use Rattle.lr_laws.specs.Rotation.{IsAside}
 use Rattle.lr_laws.specs.Stays.{Rotates}
-use Rattle.lr_laws.proofs.Calls.{took}
+use Rattle.lr_laws.proofs.Calls.{took, passed_aside}
 use Rattle.lr_promise.specs.Shape.{IsFirstOf}
-use Rattle.lr_promise.proofs.Moments.{each_back}
-
-then_append : (p : Past) (xs ys : List Entry) → then p (xs ++ ys) ≡ then (then p xs) ys
-then_append p [] ys = refl
-then_append p (e ∷ es) ys = then_append (p ▸ e) es ys
 
 -- a journal has this past
 journal_of : (p : Past) → (j : Journal) × (past j ≡ p)
@@ -51,23 +47,6 @@ over_steps s steps es v q first =
 
 -- ---- the sets of other logs
 
-aside_where : (s : LogSet) (e : Entry) → IsTools e → is_change e ≡ false → IsAside s e
-aside_where s (entry.Renames from to) t h = absurd (cc)
-aside_where s (entry.Unlinks x) t h = absurd (cc)
-aside_where s (entry.MakesDir x mode) t h = absurd (cc)
-aside_where s (entry.Makes x mode) t h = absurd (cc)
-aside_where s (entry.Appends x bytes) t h = absurd (cc)
-aside_where s (entry.Truncates x) t h = absurd (cc)
-aside_where s (entry.Starts state now rules) t h = absurd (cc)
-aside_where s entry.Ends t h = tt
-aside_where s (entry.Look x seen) t h = tt
-aside_where s (entry.List dir listed) t h = tt
-aside_where s (entry.Reads x from piece) t h = tt
-aside_where s (entry.SyncsFile x) t h = tt
-aside_where s (entry.SyncsDir x) t h = tt
-aside_where s (entry.Runs program args input ended) t h = tt
-aside_where s _ t h = absurd t
-
 -- where the changes lie aside, all that the tool left does
 aside_all : (s : LogSet) (v q : Past) (es : List Entry) → Made v es q → Each (IsAside s) (filter is_change es) → Each (IsAside s) es
 aside_all s v _ _ at_first a = tt
@@ -76,13 +55,9 @@ aside_all s v _ _ (by_tool {es = es} {q = q} {e = e} m i f) a = go (λ b. aside_
   where
     go : (Each (IsAside s) (filter is_change es) → Each (IsAside s) es) → (b : Bool) → is_change e ≡ b → Each (IsAside s) (cond b (e ∷ filter is_change es) (filter is_change es)) → Each (IsAside s) (e ∷ es)
     go further true h a = (a.0, further a.1)
-    go further false h a = (aside_where s e i h, further a)
-
-pub each_first : (P : Entry → Type 0) (xs ys : List Entry) → Each P (xs ++ ys) → Each P xs
-each_first P [] ys a = tt
-each_first P (x ∷ xs) ys a = (a.0, each_first P xs ys a.1)
+    go further false h a = (passed_aside s e i h, further a)
 
 -- a first part of steps that lie aside, and what stands between them that changes nothing, lies aside
 pub first_aside : (s : LogSet) (steps back : List Entry) (v q : Past) → IsFirstOf steps (filter is_change back) → Each (IsAside s) steps → Made v (reverse back) q → Each (IsAside s) (reverse back)
 first_aside s steps back v q first aside m =
-    aside_all s v q (reverse back) m (subst (Each (IsAside s)) (sym (filter_reverse is_change back)) (each_back (IsAside s) (filter is_change back) (each_first (IsAside s) (filter is_change back) first.0 (subst (Each (IsAside s)) first.1 aside))))
+    aside_all s v q (reverse back) m (subst (Each (IsAside s)) (sym (filter_reverse is_change back)) (each_reverse (IsAside s) (filter is_change back) (each_first (IsAside s) (filter is_change back) first.0 (subst (Each (IsAside s)) first.1 aside))))

@@ -1,5 +1,5 @@
 -- A set stays safe over a run.
-use Rattle.std.proofs.Common.{◌≡◌, ℕ, Bool, true, false, bytes_eq, refl, sym, ◌∙◌, ap, subst, Option, List, [], ◌∷◌, ◌++◌, map, reverse, append-nil, All, Contains}
+use Rattle.std.proofs.Common.{◌≡◌, ℕ, Bool, true, false, bytes_eq, refl, sym, ◌∙◌, ap, subst, Option, List, [], ◌∷◌, ◌++◌, reverse, append-nil, All, Contains}
 use Rattle.std.specs.Prelude.{filter}
 use Rattle.std.proofs.lemmas.List.{reverse-append, reverse-reverse}
 use Rattle.std.proofs.lemmas.List.Elements.{All-weaker, All-contains_itself}
@@ -21,30 +21,31 @@ use Rattle.lr_host.specs.Opening.{IsJournal}
 use Rattle.lr_host.specs.Sets.{LogSet}
 use Rattle.lr_host.specs.Runs.{rules_of, SomeRule, has_begun}
 use Rattle.lr_host.specs.Safe.{IsSafe}
-use Rattle.lr_host.specs.Steady.{IsSteady, IsSteadyAt}
-use Rattle.lr_host.proofs.Left.{filter_reverse, each_append}
-use Rattle.lr_laws.specs.Follow.{NoneAttached}
+use Rattle.lr_host.specs.Steady.{IsSteady, IsSteadyAt, NoneAttached}
 use Rattle.lr_laws.specs.Rotation.{IsAside}
 use Rattle.lr_laws.specs.Stays.{Rotates}
 use Rattle.lr_laws.proofs.Calls.{aside_walked}
 use Rattle.lr_laws.proofs.Stated.{quiet_safe}
 use Rattle.lr_host.specs.Looks.{Sees, IsFile}
+use Rattle.lr_host.proofs.Each.{filter_reverse, each_reverse, each_first}
+use Rattle.lr_host.proofs.Made.{Cut, cut, CutAt, cut_one, made_journal, made_on}
+use Rattle.lr_host.proofs.Steady.{steady_before, steady_at, none_attached}
+use Rattle.lr_host.specs.Quiet.{IsQuiet, AreQuiet}
 use Rattle.lr_family.specs.Stands.{ShowsStand}
-use Rattle.lr_chain.specs.Rotation.{places_of, leftovers, kept, one_too_many, unlink_at, move_at, rotation}
+use Rattle.lr_chain.specs.Rotation.{places_of, rotation}
+use Rattle.lr_chain.proofs.Steps.{each_rotation}
 use Rattle.lr_promise.specs.Members.{IsFamily, HasName, AreThere, HaveNext}
-use Rattle.lr_promise.specs.Shape.{IsQuietEntry, AreQuiet, Among, IsFirstOf, IsTail, changes_nothing, turns_one, HasStarted, not_yet, started, IsRun, IsGiven, AreTurns, no_more, one_more, turns_some, IsTurn}
+use Rattle.lr_promise.specs.Shape.{Among, IsFirstOf, IsTail, changes_nothing, turns_one, HasStarted, not_yet, started, IsRun, IsGiven, AreTurns, no_more, one_more, turns_some, IsTurn}
 use Rattle.lr_promise.specs.Promise.{KeepsSafe}
 use Rattle.lr_promise.proofs.Places.{every_all}
-use Rattle.lr_promise.proofs.Cuts.{Cut, cut, CutAt, cut_one, made_journal, made_more, steady_before, steady_at, none_attached}
 use Rattle.lr_promise.proofs.Still.{IsStill, quiet_safe_on, made_still, made_aside, IsNoStart, rules_same}
-use Rattle.lr_promise.proofs.Over.{over_steps, first_aside, each_first}
+use Rattle.lr_promise.proofs.Over.{over_steps, first_aside}
 use Rattle.lr_promise.proofs.Given.{given_one, no_meet, naming_same, counts, have_next}
 use Rattle.lr_promise.proofs.Fitting.{fits}
 use Rattle.lr_promise.proofs.Turning.{is_one}
 use Rattle.lr_promise.proofs.Outside.{lies_aside}
 use Rattle.lr_promise.proofs.Shown.{Shown}
-use Rattle.lr_promise.proofs.Moments.{each_back, among_shown, saw_file, saw_members}
-use Rattle.lr_family.specs.Spots.{path_at}
+use Rattle.lr_promise.proofs.Moments.{among_shown, saw_file, saw_members}
 
 -- ---- inside a run
 
@@ -72,27 +73,13 @@ quiet_within s rules before v q ts quiet m st w = record {
   start = w.start;
   entry = w.entry;
   since = reverse ts ++ w.since;
-  made = made_more (w.start ▸ w.entry) v q w.since (reverse ts) w.made m;
+  made = made_on (w.start ▸ w.entry) v q w.since (reverse ts) w.made m;
 }
   where
     still : IsStill s v q
-    still = made_still s v q (reverse ts) m (each_back IsQuietEntry ts quiet)
+    still = made_still s v q (reverse ts) m (each_reverse IsQuiet ts quiet)
 
 -- ---- one rotation
-
-unlinks_start_none : (n : Naming) (ks : List ℕ) → Each IsNoStart (map (unlink_at n) ks)
-unlinks_start_none n [] = tt
-unlinks_start_none n (k ∷ ks) = (tt, unlinks_start_none n ks)
-
-moves_start_none : (n : Naming) (ks : List ℕ) → Each IsNoStart (map (move_at n) ks)
-moves_start_none n [] = tt
-moves_start_none n (k ∷ ks) = (tt, moves_start_none n ks)
-
-rotation_starts_none : (n : Naming) (c : Count) (log : Path) (places : List ℕ) → Each IsNoStart (rotation n c log places)
-rotation_starts_none n c log places =
-    each_append IsNoStart (map (unlink_at n) (leftovers c places)) ((map (move_at n) (kept c places) ++ entry.Renames log (path_at n 0) ∷ []) ++ map (unlink_at n) (one_too_many c places)) (unlinks_start_none n (leftovers c places))
-    (each_append IsNoStart (map (move_at n) (kept c places) ++ entry.Renames log (path_at n 0) ∷ []) (map (unlink_at n) (one_too_many c places))
-    (each_append IsNoStart (map (move_at n) (kept c places)) (entry.Renames log (path_at n 0) ∷ []) (moves_start_none n (kept c places)) (tt, tt)) (unlinks_start_none n (one_too_many c places)))
 
 -- each set stays safe over a first part of one rotation
 steps_within : (s : LogSet) (rules : Rules) (before : List Path) (log : Path) (n : Naming) (c : Count) (places : List ℕ) (back : List Entry) (v q : Past) → IsGiven rules.sets log n c → IsFamily log n → IsNotIn log before
@@ -106,7 +93,7 @@ steps_within s rules before log n c places back v q given family new file named 
   start = w.start;
   entry = w.entry;
   since = reverse back ++ w.since;
-  made = made_more (w.start ▸ w.entry) v q w.since (reverse back) w.made m;
+  made = made_on (w.start ▸ w.entry) v q w.since (reverse back) w.made m;
 }
   where
     none : NoneAttached s q
@@ -116,7 +103,7 @@ steps_within s rules before log n c places back v q given family new file named 
     steady = steady_within s rules before v w (steady_before s v q (reverse back) m st)
 
     starts_none : Each IsNoStart (filter is_change (reverse back))
-    starts_none = subst (Each IsNoStart) (sym (filter_reverse is_change back)) (each_back IsNoStart (filter is_change back) (each_first IsNoStart (filter is_change back) first.0 (subst (Each IsNoStart) first.1 (rotation_starts_none n c log places))))
+    starts_none = subst (Each IsNoStart) (sym (filter_reverse is_change back)) (each_reverse IsNoStart (filter is_change back) (each_first IsNoStart (filter is_change back) first.0 (subst (Each IsNoStart) first.1 (each_rotation IsNoStart (λ x. tt) (λ x y. tt) n c log places))))
 
     outside : (log ≡ s.log → ⊥) → Each (IsAside s) (reverse back)
     outside other = first_aside s (rotation n c log places) back v q first
@@ -231,7 +218,7 @@ run_safe s p q es journal safe m run st = go run.goes_on
     go : HasStarted run.rest → IsSafe s q
     go (not_yet none) = quiet_safe_on s k.mid q [] tt journal_mid safe_mid (subst (λ (ts : List Entry). Made k.mid (reverse ts) q) none k.second) st
     go (started state now rules tail is tail_is) =
-        tail_safe s a.mid q state now rules tail tail_is behind_start (journal_u, a.fits) (quiet_safe s a.mid (entry.Starts state now rules) (journal_u, a.fits) safe_u tt) st
+        tail_safe s a.mid q state now rules tail tail_is behind_start (journal_u, a.fits) (quiet_safe s a.mid (entry.Starts state now rules) (journal_u, a.fits) safe_u (tt, refl)) st
       where
         behind : reverse run.rest ≡ reverse tail ++ entry.Starts state now rules ∷ []
         behind = ap reverse is ∙ reverse-append (entry.Starts state now rules ∷ []) tail
@@ -244,7 +231,7 @@ run_safe s p q es journal safe m run st = go run.goes_on
 
         behind_start : Made (a.mid ▸ entry.Starts state now rules) (reverse tail) q
         behind_start = subst (λ (ts : List Entry). Made (a.mid ▸ entry.Starts state now rules) ts q) (append-nil (reverse tail))
-            (made_more (a.mid ▸ entry.Starts state now rules) c.mid q [] (reverse tail) a.second c.second)
+            (made_on (a.mid ▸ entry.Starts state now rules) c.mid q [] (reverse tail) a.second c.second)
 
         steady_u : IsSteady s a.mid
         steady_u = (steady_before s (a.mid ▸ entry.Starts state now rules) q (reverse tail) behind_start st).0

@@ -1,5 +1,5 @@
 -- How a caller comes to the shape of a run.
-use Rattle.std.proofs.Common.{◌≡◌, ◌⊎◌, inl, inr, Bool, true, false, cond, refl, sym, ◌∙◌, ap, subst, ℕ, Option, List, [], ◌∷◌, ◌++◌, map, drop, length, append_assoc}
+use Rattle.std.proofs.Common.{◌≡◌, ◌⊎◌, inl, inr, Bool, true, refl, sym, ◌∙◌, ap, subst, ℕ, List, [], ◌∷◌, ◌++◌, drop, length, append_assoc}
 use Rattle.std.specs.Prelude.{filter}
 use Rattle.std.proofs.lemmas.List.{take-append-drop, append-nil}
 use Rattle.std.proofs.lemmas.List.Elements.{filter-append}
@@ -8,83 +8,28 @@ use Rattle.lr_rules.specs.declared.civil.Moment.{Moment}
 use Rattle.lr_rules.specs.declared.rule.Count.{Count}
 use Rattle.lr_rules.specs.declared.rule.Naming.{Naming}
 use Rattle.lr_rules.specs.declared.rules.Rules.{Rules}
-use Rattle.lr_rules.specs.Path.{parent_of}
-use Rattle.lr_host.specs.declared.thing.Seen.{Seen}
 use Rattle.lr_host.specs.declared.entry.Entry.{Entry}
 use Rattle.lr_host.specs.declared.entry.Entry.TheVariants as entry
 use Rattle.lr_host.specs.Told.{Each, Then}
 use Rattle.lr_host.specs.Steps.{is_change, Took}
-use Rattle.lr_host.proofs.Left.{each_append}
 use Rattle.lr_family.specs.declared.stand.Stand.{Stand}
-use Rattle.lr_family.specs.declared.stand.Member.{Member}
-use Rattle.lr_family.specs.Spots.{path_at}
 use Rattle.lr_host.specs.Looks.{Sees, IsFile}
-use Rattle.lr_family.specs.Looks.{Sight, look_of}
-use Rattle.lr_family.specs.Stands.{StandsIn, ShowsAs, ShowsStand}
-use Rattle.lr_chain.specs.Rotation.{leftovers, kept, one_too_many, unlink_at, move_at, places_of, rotation}
-use Rattle.lr_promise.specs.Shape.{IsQuietEntry, AreQuiet, IsFirstOf, IsOneTooHigh, IsTurn, AreTurns, no_more, one_more, IsTail, changes_nothing, turns_one, turns_some, not_yet, started, IsRun}
-
--- ---- entries that change nothing
-
-pub quiet_both : (xs ys : List Entry) → AreQuiet xs → AreQuiet ys → AreQuiet (xs ++ ys)
-quiet_both xs ys a b = each_append IsQuietEntry xs ys a b
-
-pub quiet_then : {P Q : List Entry → Type 0} (ts : List Entry) → ((us : List Entry) → P us → AreQuiet us) → ((us : List Entry) → Q us → AreQuiet us) → Then P Q ts → AreQuiet ts
-quiet_then ts f g t = subst AreQuiet (sym t.joined) (quiet_both t.front t.back (f t.front t.first) (g t.back t.second))
-
-pub sees_quiet : {P : Option Seen → Type 0} (x : Path) (ts : List Entry) → Sees x P ts → AreQuiet ts
-sees_quiet x ts s = subst AreQuiet (sym s.look) (tt, tt)
-
-looks_quiet : (gs : List Sight) → AreQuiet (map look_of gs)
-looks_quiet [] = tt
-looks_quiet (g ∷ gs) = (tt, looks_quiet gs)
-
-stands_quiet : (n : Naming) (members : List Member) (ts : List Entry) → StandsIn n members ts → AreQuiet ts
-stands_quiet n members ts s = quiet_then ts (λ us l. subst AreQuiet (sym l.list) (tt, tt)) (λ us k. subst AreQuiet (sym k.looks) (looks_quiet k.sights)) s.looks
-
-pub stand_quiet : (n : Naming) (stand : Stand) (ts : List Entry) → ShowsStand n stand ts → AreQuiet ts
-stand_quiet n stand ts h = go stand.there h
-  where
-    go : (there : Bool) → ShowsAs n there stand.parent stand.members ts → AreQuiet ts
-    go true t = quiet_then ts (λ us s. sees_quiet n.dir us s) (λ us s. stands_quiet n stand.members us s) t.1
-    go false t = quiet_then ts (λ us s. sees_quiet n.dir us s) (λ us s. sees_quiet (parent_of n.dir) us s) t.1
-
-quiet_one : (e : Entry) → IsQuietEntry e → is_change e ≡ false
-quiet_one (entry.Look x seen) i = refl
-quiet_one (entry.List dir listed) i = refl
-quiet_one (entry.Reads x from bytes) i = refl
-quiet_one (entry.Runs program args input ended) i = refl
-quiet_one (entry.SyncsFile x) i = refl
-quiet_one (entry.SyncsDir x) i = refl
-quiet_one entry.Ends i = refl
-quiet_one _ i = absurd i
-
-pub quiet_changes : (ts : List Entry) → AreQuiet ts → filter is_change ts ≡ []
-quiet_changes [] q = refl
-quiet_changes (t ∷ ts) q = ap (λ b. cond b (t ∷ filter is_change ts) (filter is_change ts)) (quiet_one t q.0) ∙ quiet_changes ts q.1
+use Rattle.lr_host.proofs.Each.{each_first, all_pass}
+use Rattle.lr_host.specs.Quiet.{AreQuiet}
+use Rattle.lr_host.proofs.Quiet.{quiet_both, sees_quiet, quiet_changes, then_quiet}
+use Rattle.lr_family.specs.Stands.{ShowsStand}
+use Rattle.lr_family.proofs.OnlyLooks.{looking_stand, looks_quiet}
+use Rattle.lr_chain.specs.Rotation.{places_of, rotation}
+use Rattle.lr_chain.proofs.Steps.{each_rotation}
+use Rattle.lr_promise.specs.Shape.{IsFirstOf, IsOneTooHigh, IsTurn, AreTurns, no_more, one_more, IsTail, changes_nothing, turns_one, turns_some, not_yet, started, IsRun}
 
 -- ---- the steps of a rotation are all changes
 
 abbrev pub AreChanges : List Entry → Type 0
 AreChanges ts = Each (λ e. is_change e ≡ true) ts
 
-pub changes_kept : (ts : List Entry) → AreChanges ts → filter is_change ts ≡ ts
-changes_kept [] a = refl
-changes_kept (t ∷ ts) a = ap (λ b. cond b (t ∷ filter is_change ts) (filter is_change ts)) a.0 ∙ ap (λ us. t ∷ us) (changes_kept ts a.1)
-
-unlinks_change : (n : Naming) (ks : List ℕ) → AreChanges (map (unlink_at n) ks)
-unlinks_change n [] = tt
-unlinks_change n (k ∷ ks) = (refl, unlinks_change n ks)
-
-moves_change : (n : Naming) (ks : List ℕ) → AreChanges (map (move_at n) ks)
-moves_change n [] = tt
-moves_change n (k ∷ ks) = (refl, moves_change n ks)
-
 pub rotation_changes : (n : Naming) (c : Count) (log : Path) (places : List ℕ) → AreChanges (rotation n c log places)
-rotation_changes n c log places =
-    each_append (λ e. is_change e ≡ true) (map (unlink_at n) (leftovers c places)) ((map (move_at n) (kept c places) ++ entry.Renames log (path_at n 0) ∷ []) ++ map (unlink_at n) (one_too_many c places)) (unlinks_change n (leftovers c places))
-    (each_append (λ e. is_change e ≡ true) (map (move_at n) (kept c places) ++ entry.Renames log (path_at n 0) ∷ []) (map (unlink_at n) (one_too_many c places))
-    (each_append (λ e. is_change e ≡ true) (map (move_at n) (kept c places)) (entry.Renames log (path_at n 0) ∷ []) (moves_change n (kept c places)) (refl, tt)) (unlinks_change n (one_too_many c places)))
+rotation_changes n c log places = each_rotation (λ e. is_change e ≡ true) (λ x. refl) (λ x y. refl) n c log places
 
 -- ---- a first part of the steps
 
@@ -109,16 +54,12 @@ first_longer xs ys ts f = (f.0 ++ ys, ap (λ us. us ++ ys) f.1 ∙ append_assoc 
 pub first_behind : (xs ys ts : List Entry) → IsFirstOf ys ts → IsFirstOf (xs ++ ys) (xs ++ ts)
 first_behind xs ys ts f = (f.0, ap (λ us. xs ++ us) f.1 ∙ sym (append_assoc xs ts f.0))
 
-changes_first : (xs ys : List Entry) → AreChanges (xs ++ ys) → AreChanges xs
-changes_first [] ys a = tt
-changes_first (x ∷ xs) ys a = (a.0, changes_first xs ys a.1)
-
 -- a first part of steps that are changes, and then entries that change nothing
 pub first_then_quiet : (steps ts : List Entry) → AreChanges steps → Then (IsFirstOf steps) AreQuiet ts → IsFirstOf steps (filter is_change ts)
 first_then_quiet steps ts all t = subst (IsFirstOf steps) (sym made) t.first
   where
     made : filter is_change ts ≡ t.front
-    made = ap (filter is_change) t.joined ∙ (filter-append is_change t.front t.back ∙ (ap (λ us. us ++ filter is_change t.back) (changes_kept t.front (changes_first t.front t.first.0 (subst AreChanges t.first.1 all)))
+    made = ap (filter is_change) t.joined ∙ (filter-append is_change t.front t.back ∙ (ap (λ us. us ++ filter is_change t.back) (all_pass is_change t.front (each_first (λ e. is_change e ≡ true) t.front t.first.0 (subst AreChanges t.first.1 all)))
         ∙ (ap (λ us. t.front ++ us) (quiet_changes t.back t.second) ∙ append-nil t.front)))
 
 -- ---- a turn
@@ -134,7 +75,7 @@ turn_by log n c stand ts there low t = record {
   joined = longer ts t.front t.back (look.front ++ (between.front ++ (family.front ++ behind.front))) behind.back t.joined by_look;
   quiet = quiet_both t.front (look.front ++ (between.front ++ (family.front ++ behind.front))) t.first
       (quiet_both look.front (between.front ++ (family.front ++ behind.front)) (sees_quiet log look.front look.first)
-      (quiet_both between.front (family.front ++ behind.front) between.first (quiet_both family.front behind.front (stand_quiet n stand family.front family.first) behind.first)));
+      (quiet_both between.front (family.front ++ behind.front) between.first (quiet_both family.front behind.front (looks_quiet family.front (looking_stand n stand family.front family.first)) behind.first)));
   log_seen = record { before = t.front; part = look.front; after = between.front ++ (family.front ++ behind.front); joined = refl; is = look.first };
   stand = stand;
   there = there;
@@ -180,7 +121,7 @@ turn_with log n c stand ts there low t = record {
   front = t.front;
   back = t.back;
   joined = t.joined;
-  quiet = quiet_then t.front (λ us s. sees_quiet log us s) (λ us s. stand_quiet n stand us s) t.first;
+  quiet = then_quiet t.front (λ us s. sees_quiet log us s) (λ us s. looks_quiet us (looking_stand n stand us s)) t.first;
   log_seen = record { before = []; part = t.first.front; after = t.first.back; joined = t.first.joined; is = t.first.first };
   stand = stand;
   there = there;

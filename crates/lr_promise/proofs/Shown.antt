@@ -21,22 +21,24 @@ use Rattle.lr_family.specs.declared.stand.Stand.{Stand}
 use Rattle.lr_family.specs.Named.{member_name}
 use Rattle.lr_family.specs.Spots.{path_at, spot_at}
 use Rattle.lr_host.specs.Looks.{Sees, IsDir, IsFileOrGone}
+use Rattle.lr_host.specs.Lists.{IsIn}
+use Rattle.lr_host.proofs.Lists.{in_from, in_to, in_map, in_unmap, in_front, in_back, in_reverse, from_reverse}
 use Rattle.lr_family.specs.Looks.{Sight, look_of, seen_at, member_of, AreFilesOrGone}
 use Rattle.lr_family.specs.Stands.{number_in, StandsIn, ShowsAs, ShowsStand}
 use Rattle.lr_chain.specs.Rotation.{places_of}
 use Rattle.lr_promise.specs.Members.{AreFalling, HasName}
 use Rattle.lr_promise.proofs.Places.{in_or_not}
-use Rattle.lr_promise.proofs.Lists.{In, in_from, in_to, in_map, in_unmap, in_front, in_back, in_reverse, in_turned, rising_falls}
+use Rattle.lr_promise.proofs.Lists.{rising_falls}
 
 -- Looks among these entries show these places.
 pub record Shown (n : Naming) (places : List ℕ) (ts : List Entry) : Type 0 where
-  pub dir : (seen : Seen) × (seen.kind ≡ kind.Dir) × In (entry.Look n.dir (Some seen)) ts
+  pub dir : (seen : Seen) × (seen.kind ≡ kind.Dir) × IsIn (entry.Look n.dir (Some seen)) ts
   pub names : List (List ℕ)
-  pub list : In (entry.List n.dir names) ts
+  pub list : IsIn (entry.List n.dir names) ts
   pub falling : AreFalling places
   pub named : (place : ℕ) → Contains places place → HasName n place
-  pub files : (place : ℕ) → Contains places place → (seen : Seen) × (seen.kind ≡ kind.File) × In (entry.Look (path_at n place) (Some seen)) ts
-  pub others : (place : ℕ) → HasName n place → (Contains places place → ⊥) → (Contains names (member_name n (n.start + place)) → ⊥) ⊎ In (entry.Look (path_at n place) None) ts
+  pub files : (place : ℕ) → Contains places place → (seen : Seen) × (seen.kind ≡ kind.File) × IsIn (entry.Look (path_at n place) (Some seen)) ts
+  pub others : (place : ℕ) → HasName n place → (Contains places place → ⊥) → (Contains names (member_name n (n.start + place)) → ⊥) ⊎ IsIn (entry.Look (path_at n place) None) ts
 
 -- ---- no place twice
 
@@ -102,22 +104,22 @@ numbers_rise f (m ∷ ms) h i j d le lt =
 
 -- ---- which places were seen
 
-saw : (place : ℕ) (gs : List Sight) → In place (map (λ (m : Member). number_in m.place) (flat_map member_of gs)) → (g : Sight) × In g gs × (g.spot.place ≡ place) × ((seen : Seen) × (g.seen ≡ Some seen))
+saw : (place : ℕ) (gs : List Sight) → IsIn place (map (λ (m : Member). number_in m.place) (flat_map member_of gs)) → (g : Sight) × IsIn g gs × (g.spot.place ≡ place) × ((seen : Seen) × (g.seen ≡ Some seen))
 saw place [] h = absurd h
 saw place (g ∷ gs) h = go g.seen refl (saw place gs) h
   where
-    go : (o : Option Seen) → g.seen ≡ o → (In place (map (λ (m : Member). number_in m.place) (flat_map member_of gs)) → (g : Sight) × In g gs × (g.spot.place ≡ place) × ((seen : Seen) × (g.seen ≡ Some seen)))
-        → In place (map (λ (m : Member). number_in m.place) (seen_at g.spot o ++ flat_map member_of gs)) → (f : Sight) × In f (g ∷ gs) × (f.spot.place ≡ place) × ((seen : Seen) × (f.seen ≡ Some seen))
+    go : (o : Option Seen) → g.seen ≡ o → (IsIn place (map (λ (m : Member). number_in m.place) (flat_map member_of gs)) → (g : Sight) × IsIn g gs × (g.spot.place ≡ place) × ((seen : Seen) × (g.seen ≡ Some seen)))
+        → IsIn place (map (λ (m : Member). number_in m.place) (seen_at g.spot o ++ flat_map member_of gs)) → (f : Sight) × IsIn f (g ∷ gs) × (f.spot.place ≡ place) × ((seen : Seen) × (f.seen ≡ Some seen))
     go None q further h = let r = further h in (r.0, inr r.1, r.2, r.3)
     go (Some seen) q further (inl e) = (g, inl refl, e, (seen, q))
     go (Some seen) q further (inr h) = let r = further h in (r.0, inr r.1, r.2, r.3)
 
-seen_in : (g : Sight) (seen : Seen) (gs : List Sight) → In g gs → g.seen ≡ Some seen → In g.spot.place (map (λ (m : Member). number_in m.place) (flat_map member_of gs))
+seen_in : (g : Sight) (seen : Seen) (gs : List Sight) → IsIn g gs → g.seen ≡ Some seen → IsIn g.spot.place (map (λ (m : Member). number_in m.place) (flat_map member_of gs))
 seen_in g seen [] h e = absurd h
 seen_in g seen (f ∷ fs) h e = go f.seen refl (seen_in g seen fs) h
   where
-    go : (o : Option Seen) → f.seen ≡ o → (In g fs → g.seen ≡ Some seen → In g.spot.place (map (λ (m : Member). number_in m.place) (flat_map member_of fs))) → (f ≡ g) ⊎ In g fs
-        → In g.spot.place (map (λ (m : Member). number_in m.place) (seen_at f.spot o ++ flat_map member_of fs))
+    go : (o : Option Seen) → f.seen ≡ o → (IsIn g fs → g.seen ≡ Some seen → IsIn g.spot.place (map (λ (m : Member). number_in m.place) (flat_map member_of fs))) → (f ≡ g) ⊎ IsIn g fs
+        → IsIn g.spot.place (map (λ (m : Member). number_in m.place) (seen_at f.spot o ++ flat_map member_of fs))
     go None q further (inl same) = absurd (let p : f.seen ≡ g.seen = ap (λ (x : Sight). x.seen) same in clash f.seen g.seen q e p)
       where
         clash : (a b : Option Seen) → a ≡ None → b ≡ Some seen → a ≡ b → ⊥
@@ -126,7 +128,7 @@ seen_in g seen (f ∷ fs) h e = go f.seen refl (seen_in g seen fs) h
     go (Some other) q further (inl same) = inl (ap (λ (x : Sight). x.spot.place) same)
     go (Some other) q further (inr h) = inr (further h e)
 
-file_of : (g : Sight) (gs : List Sight) → AreFilesOrGone gs → In g gs → IsFileOrGone g.seen
+file_of : (g : Sight) (gs : List Sight) → AreFilesOrGone gs → IsIn g gs → IsFileOrGone g.seen
 file_of g [] a h = absurd h
 file_of g (f ∷ fs) a (inl same) = subst (λ (x : Sight). IsFileOrGone x.seen) same (All-head (λ (x : Sight). IsFileOrGone x.seen) f fs a)
 file_of g (f ∷ fs) a (inr h) = file_of g fs (All-tail (λ (x : Sight). IsFileOrGone x.seen) f fs a) h
@@ -134,11 +136,11 @@ file_of g (f ∷ fs) a (inr h) = file_of g fs (All-tail (λ (x : Sight). IsFileO
 file_seen : (o : Option Seen) (seen : Seen) → o ≡ Some seen → IsFileOrGone o → seen.kind ≡ kind.File
 file_seen o seen e h = subst IsFileOrGone e h
 
-stands_shown : (n : Naming) (members : List Member) (ts us vs : List Entry) → ts ≡ us ++ vs → ((seen : Seen) × (seen.kind ≡ kind.Dir) × In (entry.Look n.dir (Some seen)) us) → StandsIn n members vs → Shown n (places_of members) ts
+stands_shown : (n : Naming) (members : List Member) (ts us vs : List Entry) → ts ≡ us ++ vs → ((seen : Seen) × (seen.kind ≡ kind.Dir) × IsIn (entry.Look n.dir (Some seen)) us) → StandsIn n members vs → Shown n (places_of members) ts
 stands_shown n members ts us vs joined dir s = record {
   dir = (dir.0, dir.1, in_us (entry.Look n.dir (Some dir.0)) dir.2);
   names = l.names;
-  list = in_vs (entry.List n.dir l.names) (subst (In (entry.List n.dir l.names)) (sym s.looks.joined) (in_front (entry.List n.dir l.names) s.looks.front s.looks.back (subst (In (entry.List n.dir l.names)) (sym l.list) (inl refl))));
+  list = in_vs (entry.List n.dir l.names) (subst (IsIn (entry.List n.dir l.names)) (sym s.looks.joined) (in_front (entry.List n.dir l.names) s.looks.front s.looks.back (subst (IsIn (entry.List n.dir l.names)) (sym l.list) (inl refl))));
   falling = rising_falls numbers rising;
   named = λ place c. let f = found place c in ((l.spots_are.all place).0 (spotted f.0 f.1 place f.2)).0;
   files = λ place c. let f = found place c in
@@ -155,11 +157,11 @@ stands_shown n members ts us vs joined dir s = record {
     numbers : List ℕ
     numbers = map (λ (m : Member). number_in m.place) members
 
-    in_us : (e : Entry) → In e us → In e ts
-    in_us e h = subst (In e) (sym joined) (in_front e us vs h)
+    in_us : (e : Entry) → IsIn e us → IsIn e ts
+    in_us e h = subst (IsIn e) (sym joined) (in_front e us vs h)
 
-    in_vs : (e : Entry) → In e vs → In e ts
-    in_vs e h = subst (In e) (sym joined) (in_back e us vs h)
+    in_vs : (e : Entry) → IsIn e vs → IsIn e ts
+    in_vs e h = subst (IsIn e) (sym joined) (in_back e us vs h)
 
     distinct : IsDistinct eqb numbers
     distinct =
@@ -174,64 +176,64 @@ stands_shown n members ts us vs joined dir s = record {
     rising = IsStrictlyIncreasing-from_distinct numbers (numbers_rise (λ (m : Member). number_in m.place) members (IsNonDecreasingBy-from_sort (λ (m : Member). number_in m.place) members s.newest_first)) distinct
 
     -- a place of the members is one of a sight that saw something
-    found : (place : ℕ) → Contains (places_of members) place → (g : Sight) × In g k.sights × (g.spot.place ≡ place) × ((seen : Seen) × (g.seen ≡ Some seen))
-    found place c = saw place k.sights (subst (λ (ms : List Member). In place (map (λ (m : Member). number_in m.place) ms)) k.members_are
+    found : (place : ℕ) → Contains (places_of members) place → (g : Sight) × IsIn g k.sights × (g.spot.place ≡ place) × ((seen : Seen) × (g.seen ≡ Some seen))
+    found place c = saw place k.sights (subst (λ (ms : List Member). IsIn place (map (λ (m : Member). number_in m.place) ms)) k.members_are
         (in_from place (map (λ (m : Member). number_in m.place) s.shown)
         (Contains-permutation numbers (map (λ (m : Member). number_in m.place) s.shown) place (IsPermutation-sym (map (λ (m : Member). number_in m.place) s.shown) numbers (IsPermutation-map (λ (m : Member). number_in m.place) s.shown members s.each))
-        (in_to place numbers (in_turned place numbers (in_from place (places_of members) c))))))
+        (in_to place numbers (from_reverse place numbers (in_from place (places_of members) c))))))
 
-    spot_in : (g : Sight) → In g k.sights → In g.spot (map (spot_at n) l.spots_are.places)
+    spot_in : (g : Sight) → IsIn g k.sights → IsIn g.spot (map (spot_at n) l.spots_are.places)
     spot_in g h = in_from g.spot (map (spot_at n) l.spots_are.places)
         (Contains-permutation s.spots (map (spot_at n) l.spots_are.places) g.spot (IsPermutation-sym (map (spot_at n) l.spots_are.places) s.spots l.spots_are.each)
-        (in_to g.spot s.spots (subst (In g.spot) k.each (in_map (λ (f : Sight). f.spot) g k.sights h))))
+        (in_to g.spot s.spots (subst (IsIn g.spot) k.each (in_map (λ (f : Sight). f.spot) g k.sights h))))
 
-    spot_is : (g : Sight) → In g k.sights → (g.spot ≡ spot_at n g.spot.place) × In g.spot.place l.spots_are.places
+    spot_is : (g : Sight) → IsIn g k.sights → (g.spot ≡ spot_at n g.spot.place) × IsIn g.spot.place l.spots_are.places
     spot_is g h =
         let r = in_unmap (spot_at n) g.spot l.spots_are.places (spot_in g h) in
         let same : r.0 ≡ g.spot.place = ap (λ (x : Spot). x.place) r.2 in
-        (sym r.2 ∙ ap (spot_at n) same, subst (λ (j : ℕ). In j l.spots_are.places) same r.1)
+        (sym r.2 ∙ ap (spot_at n) same, subst (λ (j : ℕ). IsIn j l.spots_are.places) same r.1)
 
-    spotted : (g : Sight) → In g k.sights → (place : ℕ) → g.spot.place ≡ place → Contains l.spots_are.places place
-    spotted g h place e = in_to place l.spots_are.places (subst (λ (j : ℕ). In j l.spots_are.places) e (spot_is g h).1)
+    spotted : (g : Sight) → IsIn g k.sights → (place : ℕ) → g.spot.place ≡ place → Contains l.spots_are.places place
+    spotted g h place e = in_to place l.spots_are.places (subst (λ (j : ℕ). IsIn j l.spots_are.places) e (spot_is g h).1)
 
-    look_in : (g : Sight) → In g k.sights → (place : ℕ) → g.spot.place ≡ place → (o : Option Seen) → g.seen ≡ o → In (entry.Look (path_at n place) o) ts
+    look_in : (g : Sight) → IsIn g k.sights → (place : ℕ) → g.spot.place ≡ place → (o : Option Seen) → g.seen ≡ o → IsIn (entry.Look (path_at n place) o) ts
     look_in g h place e o q =
         let path : g.spot.path ≡ path_at n place = ap (λ (x : Spot). x.path) (spot_is g h).0 ∙ ap (path_at n) e in
-        in_vs (entry.Look (path_at n place) o) (subst (In (entry.Look (path_at n place) o)) (sym s.looks.joined) (in_back (entry.Look (path_at n place) o) s.looks.front s.looks.back
-        (subst (In (entry.Look (path_at n place) o)) (sym k.looks) (subst (λ (x : Path). In (entry.Look x o) (map look_of k.sights)) path (subst (λ (v : Option Seen). In (entry.Look g.spot.path v) (map look_of k.sights)) q (in_map look_of g k.sights h))))))
+        in_vs (entry.Look (path_at n place) o) (subst (IsIn (entry.Look (path_at n place) o)) (sym s.looks.joined) (in_back (entry.Look (path_at n place) o) s.looks.front s.looks.back
+        (subst (IsIn (entry.Look (path_at n place) o)) (sym k.looks) (subst (λ (x : Path). IsIn (entry.Look x o) (map look_of k.sights)) path (subst (λ (v : Option Seen). IsIn (entry.Look g.spot.path v) (map look_of k.sights)) q (in_map look_of g k.sights h))))))
 
-    sight_of : (place : ℕ) → Contains l.spots_are.places place → (g : Sight) × In g k.sights × (g.spot ≡ spot_at n place)
-    sight_of place c = in_unmap (λ (f : Sight). f.spot) (spot_at n place) k.sights (subst (In (spot_at n place)) (sym k.each)
+    sight_of : (place : ℕ) → Contains l.spots_are.places place → (g : Sight) × IsIn g k.sights × (g.spot ≡ spot_at n place)
+    sight_of place c = in_unmap (λ (f : Sight). f.spot) (spot_at n place) k.sights (subst (IsIn (spot_at n place)) (sym k.each)
         (in_from (spot_at n place) s.spots (Contains-permutation (map (spot_at n) l.spots_are.places) s.spots (spot_at n place) l.spots_are.each
         (in_to (spot_at n place) (map (spot_at n) l.spots_are.places) (in_map (spot_at n) place l.spots_are.places (in_from place l.spots_are.places c))))))
 
-    place_in : (g : Sight) (seen : Seen) (place : ℕ) → In g k.sights → g.spot.place ≡ place → g.seen ≡ Some seen → Contains (places_of members) place
+    place_in : (g : Sight) (seen : Seen) (place : ℕ) → IsIn g k.sights → g.spot.place ≡ place → g.seen ≡ Some seen → Contains (places_of members) place
     place_in g seen place h e q = in_to place (places_of members) (in_reverse place numbers (in_from place numbers
         (Contains-permutation (map (λ (m : Member). number_in m.place) s.shown) numbers place (IsPermutation-map (λ (m : Member). number_in m.place) s.shown members s.each)
-        (in_to place (map (λ (m : Member). number_in m.place) s.shown) (subst (λ (ms : List Member). In place (map (λ (m : Member). number_in m.place) ms)) (sym k.members_are)
-        (subst (λ (j : ℕ). In j (map (λ (m : Member). number_in m.place) (flat_map member_of k.sights))) e (seen_in g seen k.sights h q)))))))
+        (in_to place (map (λ (m : Member). number_in m.place) s.shown) (subst (λ (ms : List Member). IsIn place (map (λ (m : Member). number_in m.place) ms)) (sym k.members_are)
+        (subst (λ (j : ℕ). IsIn j (map (λ (m : Member). number_in m.place) (flat_map member_of k.sights))) e (seen_in g seen k.sights h q)))))))
 
     absent : (place : ℕ) → HasName n place → (Contains (places_of members) place → ⊥) → Contains l.spots_are.places place ⊎ (Contains l.spots_are.places place → ⊥)
-        → (Contains l.names (member_name n (n.start + place)) → ⊥) ⊎ In (entry.Look (path_at n place) None) ts
+        → (Contains l.names (member_name n (n.start + place)) → ⊥) ⊎ IsIn (entry.Look (path_at n place) None) ts
     absent place i out (inr unlisted) = inl (λ c. unlisted ((l.spots_are.all place).1 (i, c)))
     absent place i out (inl listed) = by g.0.seen refl
       where
-        g : (g : Sight) × In g k.sights × (g.spot ≡ spot_at n place)
+        g : (g : Sight) × IsIn g k.sights × (g.spot ≡ spot_at n place)
         g = sight_of place listed
 
         at_place : g.0.spot.place ≡ place
         at_place = ap (λ (x : Spot). x.place) g.2
 
-        by : (o : Option Seen) → g.0.seen ≡ o → (Contains l.names (member_name n (n.start + place)) → ⊥) ⊎ In (entry.Look (path_at n place) None) ts
+        by : (o : Option Seen) → g.0.seen ≡ o → (Contains l.names (member_name n (n.start + place)) → ⊥) ⊎ IsIn (entry.Look (path_at n place) None) ts
         by None q = inr (look_in g.0 g.1 place at_place None q)
         by (Some seen) q = absurd (out (place_in g.0 seen place g.1 at_place q))
 
-dir_seen : (x : Path) (ts : List Entry) → Sees x IsDir ts → (seen : Seen) × (seen.kind ≡ kind.Dir) × In (entry.Look x (Some seen)) ts
+dir_seen : (x : Path) (ts : List Entry) → Sees x IsDir ts → (seen : Seen) × (seen.kind ≡ kind.Dir) × IsIn (entry.Look x (Some seen)) ts
 dir_seen x ts s = go s.seen s.is s.look
   where
-    go : (o : Option Seen) → IsDir o → ts ≡ entry.Look x o ∷ [] → (seen : Seen) × (seen.kind ≡ kind.Dir) × In (entry.Look x (Some seen)) ts
+    go : (o : Option Seen) → IsDir o → ts ≡ entry.Look x o ∷ [] → (seen : Seen) × (seen.kind ≡ kind.Dir) × IsIn (entry.Look x (Some seen)) ts
     go None d e = absurd d
-    go (Some seen) d e = (seen, d, subst (In (entry.Look x (Some seen))) (sym e) (inl refl))
+    go (Some seen) d e = (seen, d, subst (IsIn (entry.Look x (Some seen))) (sym e) (inl refl))
 
 -- a stand whose directory is there
 pub shown : (n : Naming) (stand : Stand) (ts : List Entry) → stand.there ≡ true → ShowsStand n stand ts → Shown n (places_of stand.members) ts

@@ -1,6 +1,7 @@
 -- Entries over which a run stays the same, and begins no rotation of a set.
-use Rattle.std.proofs.Common.{◌≡◌, Bool, true, false, ◌||◌, cond, refl, ◌∙◌, List, [], ◌∷◌, reverse}
+use Rattle.std.proofs.Common.{◌≡◌, Bool, true, false, ◌||◌, cond, refl, ◌∙◌, List, ◌∷◌, reverse}
 use Rattle.std.specs.Prelude.{filter}
+use Rattle.std.proofs.lemmas.Bool.{or_from}
 use Rattle.lr_host.specs.declared.entry.Entry.{Entry}
 use Rattle.lr_host.specs.declared.entry.Entry.TheVariants as entry
 use Rattle.lr_host.specs.World.{Past, ◌▸◌}
@@ -11,28 +12,17 @@ use Rattle.lr_host.specs.Sets.{LogSet, in_set}
 use Rattle.lr_host.specs.Runs.{rules_of, has_begun}
 use Rattle.lr_host.specs.Safe.{IsSafe}
 use Rattle.lr_host.specs.Steady.{IsSteady}
+use Rattle.lr_host.proofs.Steady.{none_attached}
+use Rattle.lr_host.proofs.Each.{each_reverse, each_as}
+use Rattle.lr_host.specs.Quiet.{IsQuiet, AreQuiet}
 use Rattle.lr_laws.specs.Rotation.{IsAside}
-use Rattle.lr_laws.proofs.Calls.{aside_walked}
-use Rattle.lr_promise.specs.Shape.{IsQuietEntry, AreQuiet}
-use Rattle.lr_promise.proofs.Cuts.{none_attached}
-use Rattle.lr_promise.proofs.Moments.{each_back}
+use Rattle.lr_laws.proofs.Calls.{aside_walked, passed_aside}
 
-quiet_aside : (s : LogSet) (e : Entry) → IsQuietEntry e → IsAside s e
-quiet_aside s (entry.Look x seen) i = tt
-quiet_aside s (entry.List dir listed) i = tt
-quiet_aside s (entry.Reads x from bytes) i = tt
-quiet_aside s (entry.Runs program args input ended) i = tt
-quiet_aside s (entry.SyncsFile x) i = tt
-quiet_aside s (entry.SyncsDir x) i = tt
-quiet_aside s entry.Ends i = tt
-quiet_aside s _ i = absurd i
-
-each_as : (P Q : Entry → Type 0) (es : List Entry) → ((e : Entry) → P e → Q e) → Each P es → Each Q es
-each_as P Q [] f a = tt
-each_as P Q (e ∷ es) f a = (f e a.0, each_as P Q es f a.1)
+quiet_aside : (s : LogSet) (es : List Entry) → AreQuiet es → Each (IsAside s) es
+quiet_aside s es quiet = each_as IsQuiet (IsAside s) es (λ e i. passed_aside s e i.0 i.1) quiet
 
 pub quiet_safe_on : (s : LogSet) (p q : Past) (es : List Entry) → AreQuiet es → IsJournal p → IsSafe s p → Made p (reverse es) q → IsSteady s q → IsSafe s q
-quiet_safe_on s p q es quiet j safe m st = aside_walked s p q (reverse es) j safe m (each_as IsQuietEntry (IsAside s) (reverse es) (quiet_aside s) (each_back IsQuietEntry es quiet)) (none_attached s q st)
+quiet_safe_on s p q es quiet j safe m st = aside_walked s p q (reverse es) j safe m (quiet_aside s (reverse es) (each_reverse IsQuiet es quiet)) (none_attached s q st)
 
 -- the run is the same, and has begun no rotation
 pub record IsStill (s : LogSet) (p q : Past) : Type 0 where
@@ -42,16 +32,6 @@ pub record IsStill (s : LogSet) (p q : Past) : Type 0 where
 passed : (b : Bool) → b ≡ false → (b || false) ≡ false
 passed true h = absurd (cc)
 passed false h = refl
-
-quiet_still : (s : LogSet) (p : Past) (e : Entry) → IsQuietEntry e → IsStill s p (p ▸ e)
-quiet_still s p (entry.Look x seen) i = record { rules = refl; begun = passed (has_begun s p) }
-quiet_still s p (entry.List dir listed) i = record { rules = refl; begun = passed (has_begun s p) }
-quiet_still s p (entry.Reads x from bytes) i = record { rules = refl; begun = passed (has_begun s p) }
-quiet_still s p (entry.Runs program args input ended) i = record { rules = refl; begun = passed (has_begun s p) }
-quiet_still s p (entry.SyncsFile x) i = record { rules = refl; begun = passed (has_begun s p) }
-quiet_still s p (entry.SyncsDir x) i = record { rules = refl; begun = passed (has_begun s p) }
-quiet_still s p entry.Ends i = record { rules = refl; begun = passed (has_begun s p) }
-quiet_still s p _ i = absurd i
 
 wrote_still : (s : LogSet) (p : Past) (e : Entry) → IsWriters e → IsStill s p (p ▸ e)
 wrote_still s p (entry.Attach writer x at) i = record { rules = refl; begun = passed (has_begun s p) }
@@ -63,21 +43,12 @@ wrote_still s p _ i = absurd i
 pub still_on : (s : LogSet) (p q r : Past) → IsStill s p q → IsStill s q r → IsStill s p r
 still_on s p q r a b = record { rules = b.rules ∙ a.rules; begun = λ h. b.begun (a.begun h) }
 
-pub made_still : (s : LogSet) (p q : Past) (es : List Entry) → Made p es q → AreQuiet es → IsStill s p q
-made_still s p _ _ at_first quiet = record { rules = refl; begun = λ h. h }
-made_still s p _ es (by_writer {q = q} {e = e} m i f) quiet = still_on s p q (q ▸ e) (made_still s p q es m quiet) (wrote_still s q e i)
-made_still s p _ _ (by_tool {es = es} {q = q} {e = e} m i f) quiet = still_on s p q (q ▸ e) (made_still s p q es m quiet.1) (quiet_still s q e quiet.0)
-
 -- ---- entries aside
 
-false_or : (a b : Bool) → a ≡ false → b ≡ false → (a || b) ≡ false
-false_or true b p q = absurd (cc)
-false_or false b p q = q
-
 aside_still : (s : LogSet) (p : Past) (e : Entry) → IsAside s e → IsStill s p (p ▸ e)
-aside_still s p (entry.Renames from to) out = record { rules = refl; begun = λ h. false_or (has_begun s p) (in_set s from || in_set s to) h (false_or (in_set s from) (in_set s to) out.0 out.1) }
-aside_still s p (entry.Unlinks x) out = record { rules = refl; begun = λ h. false_or (has_begun s p) (in_set s x) h out }
-aside_still s p (entry.Makes x mode) out = record { rules = refl; begun = λ h. false_or (has_begun s p) (in_set s x) h out }
+aside_still s p (entry.Renames from to) out = record { rules = refl; begun = λ h. or_from (has_begun s p) (in_set s from || in_set s to) h (or_from (in_set s from) (in_set s to) out.0 out.1) }
+aside_still s p (entry.Unlinks x) out = record { rules = refl; begun = λ h. or_from (has_begun s p) (in_set s x) h out }
+aside_still s p (entry.Makes x mode) out = record { rules = refl; begun = λ h. or_from (has_begun s p) (in_set s x) h out }
 aside_still s p (entry.Starts state now rules) out = absurd out
 aside_still s p (entry.Attach writer x at) out = absurd out
 aside_still s p (entry.Feed writer bytes at) out = absurd out
@@ -99,6 +70,10 @@ pub made_aside : (s : LogSet) (p q : Past) (es : List Entry) → Made p es q →
 made_aside s p _ _ at_first out = record { rules = refl; begun = λ h. h }
 made_aside s p _ es (by_writer {q = q} {e = e} m i f) out = still_on s p q (q ▸ e) (made_aside s p q es m out) (wrote_still s q e i)
 made_aside s p _ _ (by_tool {es = es} {q = q} {e = e} m i f) out = still_on s p q (q ▸ e) (made_aside s p q es m out.1) (aside_still s q e out.0)
+
+-- entries that change nothing lie aside
+pub made_still : (s : LogSet) (p q : Past) (es : List Entry) → Made p es q → AreQuiet es → IsStill s p q
+made_still s p q es m quiet = made_aside s p q es m (quiet_aside s es quiet)
 
 -- ---- entries that start no run
 

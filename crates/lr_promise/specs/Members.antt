@@ -1,13 +1,14 @@
 -- The members of a family that stand, by their places.
-use Rattle.std.specs.Prelude.{◌≡◌, ℕ, ◌+◌, ◌<◌, ◌≤◌, List, [], ◌∷◌, All, Contains, None}
+use Rattle.std.specs.Prelude.{◌≡◌, ℕ, ◌+◌, ◌<◌, ◌≤◌, List, [], ◌∷◌, All, Contains, None, ◌≢◌}
 use Rattle.lr_rules.specs.declared.path.Path.{Path}
 use Rattle.lr_rules.specs.declared.rule.Count.{Count}
 use Rattle.lr_rules.specs.declared.rule.Count.TheVariants as count
 use Rattle.lr_rules.specs.declared.rule.Naming.{Naming}
 use Rattle.lr_rules.specs.Path.{path_fault}
 use Rattle.lr_host.specs.declared.thing.Thing.TheVariants as thing
-use Rattle.lr_host.specs.World.{Names}
+use Rattle.lr_host.specs.World.{Names, Past}
 use Rattle.lr_host.specs.Fits.{IsFileAt, IsDirectoryAt}
+use Rattle.lr_host.specs.Quiet.{AttachedOnlySince}
 use Rattle.lr_family.specs.Kin.{IsKin}
 use Rattle.lr_family.specs.Spots.{path_at}
 
@@ -26,6 +27,14 @@ AreFalling (j ∷ k ∷ ks) = (k < j) × AreFalling (k ∷ ks)
 -- the place has a name
 abbrev pub HasName : Naming → ℕ → Type 0
 HasName n place = n.start + place ≤ 4294967295
+
+-- the path is no member's
+abbrev pub IsNoMember : Naming → Path → Type 0
+IsNoMember n x = (place : ℕ) → HasName n place → x ≢ path_at n place
+
+-- no writer attached a member since
+abbrev pub NoMemberAttached : Naming → Past → Past → Type 0
+NoMemberAttached n p q = AttachedOnlySince (IsNoMember n) p q
 
 -- Under these names the members at these places stand, the highest first, each a regular file; no other member's path names anything, and their directory is there.
 pub record AreThere (n : Naming) (m : Names) (places : List ℕ) : Type 0 where

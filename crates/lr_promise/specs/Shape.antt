@@ -12,28 +12,14 @@ use Rattle.lr_rules.specs.Names.{naming_of}
 use Rattle.lr_host.specs.declared.entry.Entry.{Entry}
 use Rattle.lr_host.specs.declared.entry.Entry.TheVariants as entry
 use Rattle.lr_host.specs.Lists.{IsNotIn}
-use Rattle.lr_host.specs.Told.{Each}
 use Rattle.lr_host.specs.Steps.{is_change}
 use Rattle.lr_family.specs.declared.stand.Member.{Member}
 use Rattle.lr_family.specs.declared.stand.Stand.{Stand}
 use Rattle.lr_host.specs.Looks.{Sees, IsFile}
+use Rattle.lr_host.specs.Quiet.{AreQuiet}
 use Rattle.lr_family.specs.Stands.{number_in, ShowsStand}
 use Rattle.lr_chain.specs.Rotation.{places_of, rotation}
 use Rattle.lr_promise.specs.Members.{IsFamily}
-
--- an entry of the tool that changes no name and no byte, and starts no run
-abbrev pub IsQuietEntry : Entry → Type 0
-IsQuietEntry (entry.Look x seen) = Unit {0}
-IsQuietEntry (entry.List dir listed) = Unit {0}
-IsQuietEntry (entry.Reads x from bytes) = Unit {0}
-IsQuietEntry (entry.Runs program args input ended) = Unit {0}
-IsQuietEntry (entry.SyncsFile x) = Unit {0}
-IsQuietEntry (entry.SyncsDir x) = Unit {0}
-IsQuietEntry entry.Ends = Unit {0}
-IsQuietEntry _ = ⊥
-
-abbrev pub AreQuiet : List Entry → Type 0
-AreQuiet ts = Each IsQuietEntry ts
 
 -- these entries are the first of the steps
 abbrev pub IsFirstOf : List Entry → List Entry → Type 0

@@ -11,13 +11,14 @@ use Rattle.lr_host.specs.declared.entry.Entry.TheVariants as entry
 use Rattle.lr_host.specs.declared.journal.Journal.{Journal}
 use Rattle.lr_host.specs.World.{Past, ◌▸◌, past, world}
 use Rattle.lr_host.specs.Told.{Each, IsWriters, Are, Made, at_first, by_writer, by_tool, Left, not_told, is_told, WhereTold}
-use Rattle.lr_host.proofs.Left.{each_append}
+use Rattle.lr_host.proofs.Each.{each_append, each_in_order, each_first, each_as}
 use Rattle.lr_chain.specs.Rotation.{places_of}
-use Rattle.lr_promise.proofs.Moments.{each_turned}
+use Rattle.lr_chain.proofs.Steps.{each_rotation}
 use Rattle.lr_run.specs.declared.target.Target.{Target}
 use Rattle.lr_run.specs.Logs.{Log, log_in}
 use Rattle.lr_run.specs.Runs.{WorkEnds}
-use Rattle.lr_run.proofs.Shape.{IsLooking, AreLooking, LooksOrTurns, looking_seen, log_shape, each_rotation, front_of}
+use Rattle.lr_run.proofs.Shape.{LooksOrTurns, looking_seen, log_shape}
+use Rattle.lr_family.proofs.OnlyLooks.{IsLooking}
 
 -- a look, a listing, a rename, an unlink
 abbrev pub IsWork : Entry → Type 0
@@ -37,14 +38,10 @@ look_works (entry.Look x seen) i = tt
 look_works (entry.List dir listed) i = tt
 look_works _ i = absurd i
 
-looks_work : (ts : List Entry) → AreLooking ts → AreWork ts
-looks_work [] a = tt
-looks_work (e ∷ ts) a = (look_works e a.0, looks_work ts a.1)
-
 shape_work : (l : Log) (ts : List Entry) → LooksOrTurns l ts → AreWork ts
-shape_work l ts (inl a) = looks_work ts a
-shape_work l ts (inr w) = subst AreWork (sym w.run.joined) (each_append IsWork w.run.front w.run.back (looks_work w.run.front (looking_seen l w.stand w.run.front w.run.first))
-    (front_of IsWork w.run.back w.run.second.1.0 (subst AreWork w.run.second.1.1 (each_rotation IsWork (λ x. tt) (λ x y. tt) l.naming l.count l.path (places_of w.stand.members)))))
+shape_work l ts (inl a) = each_as IsLooking IsWork ts look_works a
+shape_work l ts (inr w) = subst AreWork (sym w.run.joined) (each_append IsWork w.run.front w.run.back (each_as IsLooking IsWork w.run.front look_works (looking_seen l w.stand w.run.front w.run.first))
+    (each_first IsWork w.run.back w.run.second.1.0 (subst AreWork w.run.second.1.1 (each_rotation IsWork (λ x. tt) (λ x y. tt) l.naming l.count l.path (places_of w.stand.members)))))
 
 pub work_ends : (t : Option Target) (r : Result (Option Fault) Memory) (ts : List Entry) → WorkEnds t r ts → AreWork ts
 work_ends (Some t) r ts h = shape_work (log_in t) ts (log_shape (log_in t) r ts h)
@@ -78,7 +75,7 @@ made_on p _ _ (by_tool {es = es} {q = q} {e = e} m i f) a r = works_on q e a.0 (
 
 pub goes_on : {P : List Entry → Type 0} {o n : Option Journal} → Left P o n → ((ts : List Entry) → P ts → AreWork ts) → WhereTold o IsOn → WhereTold n IsOn
 goes_on not_told f r = tt
-goes_on (is_told {j = j} {k = k} {es = es} m h) f r = made_on (past j) (past k) es m (each_turned IsWork es (f (reverse es) h)) r
+goes_on (is_told {j = j} {k = k} {es = es} m h) f r = made_on (past j) (past k) es m (each_in_order IsWork es (f (reverse es) h)) r
 
 started : (p q : Past) (state : Path) (now : Moment) (rules : Rules) (es : List Entry) → es ≡ entry.Starts state now rules ∷ [] → Made p es q → IsOn q
 started p _ state now rules _ e at_first = absurd (cc)

@@ -1,5 +1,5 @@
 -- The entries of a run have the shape over which each set stays safe.
-use Rattle.std.proofs.Common.{◌≡◌, inl, inr, ⊎_elim, ℕ, true, false, cond, List, [], ◌∷◌, ◌++◌, Option, Some, None, Result, Ok, Err, refl, sym, ap, ◌∙◌, subst, append_assoc}
+use Rattle.std.proofs.Common.{◌≡◌, inl, inr, ⊎_elim, ℕ, true, false, List, [], ◌∷◌, ◌++◌, Option, Some, None, Result, Ok, Err, refl, sym, ap, ◌∙◌, subst, append_assoc}
 use Rattle.std.specs.Prelude.{filter}
 use Rattle.std.proofs.lemmas.List.{append-nil}
 use Rattle.std.proofs.lemmas.List.Elements.{filter-append}
@@ -17,12 +17,16 @@ use Rattle.lr_host.specs.declared.entry.Entry.TheVariants as entry
 use Rattle.lr_host.specs.declared.entry.Entry.TheVariants.{Look, Starts, Ends}
 use Rattle.lr_host.specs.Told.{Each}
 use Rattle.lr_host.specs.Steps.{is_change}
-use Rattle.lr_host.proofs.Left.{each_append}
 use Rattle.lr_family.specs.Kin.{IsKin}
-use Rattle.lr_host.specs.Looks.{Sees, IsDir, IsNotDir}
+use Rattle.lr_family.proofs.OnlyLooks.{looks_quiet}
+use Rattle.lr_host.proofs.Each.{each_first, all_pass}
+use Rattle.lr_host.specs.Quiet.{AreQuiet}
+use Rattle.lr_host.proofs.Quiet.{sees_quiet, quiet_both}
 use Rattle.lr_chain.specs.Rotation.{places_of, rotation}
+use Rattle.lr_chain.proofs.Steps.{each_rotation}
 use Rattle.lr_promise.specs.Members.{IsFamily}
-use Rattle.lr_promise.specs.Shape.{IsQuietEntry, AreQuiet, IsFirstOf, IsTurn, IsTail, changes_nothing, turns_one, not_yet, started, IsRun}
+use Rattle.lr_promise.specs.Shape.{IsFirstOf, IsTurn, IsTail, changes_nothing, turns_one, not_yet, started, IsRun}
+use Rattle.lr_promise.proofs.Shapes.{quiet_run}
 use Rattle.lr_run.specs.declared.answer.RunStop.{RunStop}
 use Rattle.lr_run.specs.declared.answer.RunStop.TheVariants as stop
 use Rattle.lr_run.specs.declared.target.Target.{Target}
@@ -32,7 +36,7 @@ use Rattle.lr_run.specs.Turning.{GoesWell, LogLacks}
 use Rattle.lr_run.specs.Runs.{Inside, NoFault, no_rule, one_log, Because, at_dir, at_look, at_begin, at_log, at_first, Answers}
 use Rattle.lr_run.proofs.Kindred.{kin_at}
 use Rattle.lr_run.proofs.Named.{plain_naming}
-use Rattle.lr_run.proofs.Shape.{IsLooking, AreLooking, TurnsSome, LooksOrTurns, looking_seen, well_shape, because_shape, lacks_looking, each_rotation, front_of}
+use Rattle.lr_run.proofs.Shape.{TurnsSome, LooksOrTurns, looking_seen, well_shape, because_shape, lacks_looking}
 
 -- ---- the log that the rules give
 
@@ -63,30 +67,14 @@ fit_asked rules (Some t) b a rule word e w =
 
 -- ---- quiet entries
 
-look_quiet : (e : Entry) → IsLooking e → IsQuietEntry e
-look_quiet (entry.Look x seen) i = tt
-look_quiet (entry.List dir listed) i = tt
-look_quiet _ i = absurd i
-
-looks_quiet : (ts : List Entry) → AreLooking ts → AreQuiet ts
-looks_quiet [] a = tt
-looks_quiet (e ∷ ts) a = (look_quiet e a.0, looks_quiet ts a.1)
-
-quiet_sees : (x : Path) (P : _) (ts : List Entry) → Sees x P ts → AreQuiet ts
-quiet_sees x P ts s = subst AreQuiet (sym s.look) (tt, tt)
-
 quiet_end : (ts : List Entry) → AreQuiet ts → AreQuiet (ts ++ Ends ∷ [])
-quiet_end ts a = each_append IsQuietEntry ts (Ends ∷ []) a (tt, tt)
+quiet_end ts a = quiet_both ts (Ends ∷ []) a ((tt, refl), tt)
 
 -- ---- behind the start
 
-all_changes : (ts : List Entry) → Each (λ e. is_change e ≡ true) ts → filter is_change ts ≡ ts
-all_changes [] a = refl
-all_changes (e ∷ ts) a = ap (λ b. cond b (e ∷ filter is_change ts) (filter is_change ts)) a.0 ∙ ap (λ xs. e ∷ xs) (all_changes ts a.1)
-
 first_changes : (l : Log) (places : List ℕ) (us : List Entry) → IsFirstOf (rotation l.naming l.count l.path places) us → IsFirstOf (rotation l.naming l.count l.path places) (filter is_change (us ++ Ends ∷ []))
 first_changes l places us f = subst (IsFirstOf (rotation l.naming l.count l.path places)) (sym (filter-append is_change us (Ends ∷ []) ∙ (append-nil (filter is_change us)
-    ∙ all_changes us (front_of (λ e. is_change e ≡ true) us f.0 (subst (Each (λ e. is_change e ≡ true)) f.1 (each_rotation (λ e. is_change e ≡ true) (λ x. refl) (λ x y. refl) l.naming l.count l.path places)))))) f
+    ∙ all_pass is_change us (each_first (λ e. is_change e ≡ true) us f.0 (subst (Each (λ e. is_change e ≡ true)) f.1 (each_rotation (λ e. is_change e ≡ true) (λ x. refl) (λ x y. refl) l.naming l.count l.path places)))))) f
 
 turn : (l : Log) (ts : List Entry) → TurnsSome l ts → IsTurn l.path l.naming l.count (ts ++ Ends ∷ [])
 turn l ts w = record {
@@ -122,21 +110,18 @@ inside state now rules P ts f i = record {
   front = Look (parent_of state) i.seen ∷ [];
   rest = Starts state now rules ∷ (i.between ++ Ends ∷ []);
   joined = i.entries;
-  quiet = (tt, tt);
+  quiet = ((tt, refl), tt);
   goes_on = started state now rules (i.between ++ Ends ∷ []) refl (f i.between i.within);
 }
 
-quiet_run : (ts : List Entry) → AreQuiet ts → IsRun ts
-quiet_run ts a = record { front = ts; rest = []; joined = sym (append-nil ts); quiet = a; goes_on = not_yet refl }
-
 because : (state : Path) (now : Moment) (rules : Rules) (f : Fault) (ts : List Entry) → AreFit rules.sets → Because state now rules f ts → IsRun ts
-because state now rules f ts fit (at_dir e s) = quiet_run ts (quiet_sees (parent_of state) IsNotDir ts s)
+because state now rules f ts fit (at_dir e s) = quiet_run ts (sees_quiet (parent_of state) ts s)
 because state now rules f ts fit (at_look e n) = quiet_run ts (subst AreQuiet (sym n) tt)
 because state now rules f ts fit (at_begin e t) = record {
   front = t.front;
   rest = t.back;
   joined = t.joined;
-  quiet = quiet_sees (parent_of state) IsDir t.front t.first;
+  quiet = sees_quiet (parent_of state) t.front t.first;
   goes_on = ⊎_elim (λ n. not_yet n) (λ o. started state now rules [] o (changes_nothing tt)) t.second;
 }
 because state now rules f ts fit (at_log i) = inside state now rules _ ts (λ us w. tail rules _ us fit (λ l vs h. because_shape l f vs h) w) i
@@ -145,7 +130,7 @@ pub run_shape : (state : Path) (now : Moment) (rules : Rules) (r : Result (List 
 run_shape state now rules (Ok []) ts fit i = inside state now rules (NoFault rules.sets) ts (λ us h. no_fault rules us fit h) i
 run_shape state now rules (Ok (f ∷ [])) ts fit b = because state now rules f ts fit b
 run_shape state now rules (Ok (f ∷ g ∷ fs)) ts fit b = absurd b
-run_shape state now rules (Err stop.Held) ts fit s = quiet_run ts (quiet_sees (parent_of state) IsDir ts s)
+run_shape state now rules (Err stop.Held) ts fit s = quiet_run ts (sees_quiet (parent_of state) ts s)
 run_shape state now rules (Err stop.Memory) ts fit (at_first e) = quiet_run ts (subst AreQuiet (sym e) tt)
 run_shape state now rules (Err stop.Memory) ts fit (at_log i) = inside state now rules _ ts (λ us w. tail rules LogLacks us fit (λ l vs h. inl (lacks_looking l vs h)) w) i
 

@@ -18,23 +18,25 @@ use Rattle.lr_host.specs.declared.entry.Entry.TheVariants as entry
 use Rattle.lr_host.specs.declared.entry.Entry.TheVariants.{Ends}
 use Rattle.lr_host.specs.Told.{Each, Then, Are}
 use Rattle.lr_host.specs.Steps.{is_change}
-use Rattle.lr_host.proofs.Left.{each_append}
 use Rattle.lr_family.specs.declared.spot.Spot.{Spot}
 use Rattle.lr_family.specs.declared.stand.Member.{Member}
 use Rattle.lr_family.specs.declared.stand.Stand.{Stand}
 use Rattle.lr_family.specs.Named.{member_name}
 use Rattle.lr_family.specs.Spots.{path_at, spot_at}
 use Rattle.lr_host.specs.Looks.{Sees, IsNothing, IsDir, IsNoDir, IsNoFile, IsFileOrGone, is_dir, IsFile}
+use Rattle.lr_host.proofs.Each.{each_append}
+use Rattle.lr_host.specs.Lists.{IsIn}
+use Rattle.lr_host.proofs.Lists.{in_from, in_to, in_map, in_unmap}
 use Rattle.lr_family.specs.Looks.{Sight, look_of, seen_at, member_of, AreFilesOrGone, ShowsSome}
 use Rattle.lr_family.specs.Stands.{number_in, Lists, StandsIn, Reaches, ShowsAs, ShowsStand, ShowsNoFile, ShowsSoFar}
+use Rattle.lr_family.proofs.OnlyLooks.{IsLooking, AreLooking, looking_stands, looking_sights}
 use Rattle.lr_chain.specs.Ready.{highest_path, IsTooHigh}
 use Rattle.lr_chain.specs.Rotation.{places_of, rotation, leftover_steps, shift_steps, turn_steps, retire_steps}
-use Rattle.lr_promise.proofs.Lists.{In, in_from, in_to, in_map, in_unmap}
+use Rattle.lr_chain.proofs.Steps.{each_rotation}
 use Rattle.lr_run.specs.Exact.{TakesMemory}
 use Rattle.lr_run.specs.Faults.{IsCall}
 use Rattle.lr_run.specs.Logs.{Log}
 use Rattle.lr_run.specs.Turning.{Behind, GoesWell, turned, let_be, LogBecause, LogLacks, at_stand, at_steps}
-use Rattle.lr_run.proofs.Shape.{IsLooking, AreLooking, looking_stands, each_rotation, looking_sights}
 
 -- ---- of a family's looks: the path that is no file
 
@@ -252,12 +254,12 @@ rotation_changes n c log places = change_behind (leftover_steps n c places) (tur
 
 -- ---- the path of a member that would become too high
 
-in_seen : (m : Member) (gs : List Sight) → In m (flat_map member_of gs) → (g : Sight) × In g gs × (m.path ≡ g.spot.path) × (number_in m.place ≡ g.spot.place)
+in_seen : (m : Member) (gs : List Sight) → IsIn m (flat_map member_of gs) → (g : Sight) × IsIn g gs × (m.path ≡ g.spot.path) × (number_in m.place ≡ g.spot.place)
 in_seen m [] h = absurd h
 in_seen m (g ∷ gs) h = go g.seen (λ there. in_seen m gs there) h
   where
-    go : (seen : Option Seen) → (In m (flat_map member_of gs) → (f : Sight) × In f gs × (m.path ≡ f.spot.path) × (number_in m.place ≡ f.spot.place)) → In m (seen_at g.spot seen ++ flat_map member_of gs)
-        → (f : Sight) × In f (g ∷ gs) × (m.path ≡ f.spot.path) × (number_in m.place ≡ f.spot.place)
+    go : (seen : Option Seen) → (IsIn m (flat_map member_of gs) → (f : Sight) × IsIn f gs × (m.path ≡ f.spot.path) × (number_in m.place ≡ f.spot.place)) → IsIn m (seen_at g.spot seen ++ flat_map member_of gs)
+        → (f : Sight) × IsIn f (g ∷ gs) × (m.path ≡ f.spot.path) × (number_in m.place ≡ f.spot.place)
     go None further h = let r = further h in (r.0, inr r.1, r.2, r.3)
     go (Some seen) further (inl e) = (g, inl refl, sym (ap (λ (x : Member). x.path) e), sym (ap (λ (x : Member). number_in x.place) e))
     go (Some seen) further (inr h) = let r = further h in (r.0, inr r.1, r.2, r.3)
@@ -266,11 +268,11 @@ member_path : (n : Naming) (members : List Member) (ts : List Entry) (m : Member
 member_path n members ts m s c =
     let k = s.looks.second in
     let l = s.looks.first in
-    let shown : In m (flat_map member_of k.sights) = subst (In m) k.members_are (in_from m s.shown (Contains-permutation members s.shown m (IsPermutation-sym s.shown members s.each) c)) in
+    let shown : IsIn m (flat_map member_of k.sights) = subst (IsIn m) k.members_are (in_from m s.shown (Contains-permutation members s.shown m (IsPermutation-sym s.shown members s.each) c)) in
     let of = in_seen m k.sights shown in
-    let spot : In of.0.spot (map (spot_at n) l.spots_are.places) = in_from of.0.spot (map (spot_at n) l.spots_are.places)
+    let spot : IsIn of.0.spot (map (spot_at n) l.spots_are.places) = in_from of.0.spot (map (spot_at n) l.spots_are.places)
     (Contains-permutation s.spots (map (spot_at n) l.spots_are.places) of.0.spot (IsPermutation-sym (map (spot_at n) l.spots_are.places) s.spots l.spots_are.each)
-    (in_to of.0.spot s.spots (subst (In of.0.spot) k.each (in_map (λ (f : Sight). f.spot) of.0 k.sights of.1)))) in
+    (in_to of.0.spot s.spots (subst (IsIn of.0.spot) k.each (in_map (λ (f : Sight). f.spot) of.0 k.sights of.1)))) in
     let r = in_unmap (spot_at n) of.0.spot l.spots_are.places spot in
     let place : r.0 ≡ number_in m.place = ap (λ (x : Spot). x.place) r.2 ∙ sym of.3 in
     of.2 ∙ (sym (ap (λ (x : Spot). x.path) r.2) ∙ ap (path_at n) place)

@@ -6,20 +6,21 @@ use Rattle.lr_host.specs.declared.entry.Entry.{Entry}
 use Rattle.lr_host.specs.declared.entry.Entry.TheVariants.{Renames, Unlinks}
 use Rattle.lr_host.specs.World.{Past, ◌▸◌, world, names, put}
 use Rattle.lr_host.proofs.Names.{put_here, put_other}
+use Rattle.lr_host.specs.Lists.{IsIn}
+use Rattle.lr_host.specs.Quiet.{Quiet}
 use Rattle.lr_family.specs.Spots.{path_at}
 use Rattle.lr_chain.specs.Rotation.{unlink_at, move_at}
-use Rattle.lr_promise.specs.Members.{HasName}
-use Rattle.lr_promise.proofs.Lists.{In}
+use Rattle.lr_promise.specs.Members.{HasName, IsNoMember}
 use Rattle.lr_promise.proofs.Paths.{path_same}
-use Rattle.lr_turned.specs.Quiet.{Quiet}
+use Rattle.lr_promise.proofs.Moments.{quiet_members}
 use Rattle.lr_turned.proofs.PlaceLists.{FallsFrom, below_top, same_or_not}
 use Rattle.lr_turned.proofs.Walks.{Walk}
-use Rattle.lr_turned.proofs.Aside.{Aside, aside_first, aside_on, quiet_aside, quiet_members, unlinked_aside, moved_aside}
+use Rattle.lr_turned.proofs.Aside.{Aside, aside_first, aside_on, quiet_aside, unlinked_aside, moved_aside}
 
 -- These members name nothing now, the others what they named.
 pub record Dropped (naming : Naming) (ks : List ℕ) (p q : Past) : Type 0 where
-  pub gone : (m : ℕ) → HasName naming m → In m ks → names (world q) (path_at naming m) ≡ thing.Nothing
-  pub kept : (m : ℕ) → HasName naming m → (In m ks → ⊥) → names (world q) (path_at naming m) ≡ names (world p) (path_at naming m)
+  pub gone : (m : ℕ) → HasName naming m → IsIn m ks → names (world q) (path_at naming m) ≡ thing.Nothing
+  pub kept : (m : ℕ) → HasName naming m → (IsIn m ks → ⊥) → names (world q) (path_at naming m) ≡ names (world p) (path_at naming m)
 
 unlinked_here : (naming : Naming) (p : Past) (k : ℕ) → names (world (p ▸ Unlinks (path_at naming k))) (path_at naming k) ≡ thing.Nothing
 unlinked_here naming p k = put_here (names (world p)) (path_at naming k) (path_at naming k) thing.Nothing refl
@@ -28,7 +29,7 @@ unlinked_other : (naming : Naming) (p : Past) (k m : ℕ) → HasName naming k �
 unlinked_other naming p k m i j ne = put_other (names (world p)) (path_at naming k) (path_at naming m) thing.Nothing (λ e. ne (path_same naming m k j i e))
 
 -- one member, and then the others
-dropped_on : (naming : Naming) (k : ℕ) (ks : List ℕ) (p q r : Past) → HasName naming k → FallsFrom k ks → Quiet naming p q → Dropped naming ks (q ▸ Unlinks (path_at naming k)) r → Dropped naming (k ∷ ks) p r
+dropped_on : (naming : Naming) (k : ℕ) (ks : List ℕ) (p q r : Past) → HasName naming k → FallsFrom k ks → Quiet (IsNoMember naming) p q → Dropped naming ks (q ▸ Unlinks (path_at naming k)) r → Dropped naming (k ∷ ks) p r
 dropped_on naming k ks p q r i falls quiet d = record {
   gone = λ m n h. ⊎_elim (λ e. first m n e) (λ h. d.gone m n h) h;
   kept = λ m n h. d.kept m n (λ there. h (inr there)) ∙ (unlinked_other naming q k m i n (λ e. h (inl (sym e))) ∙ quiet_members naming p q m quiet n);
@@ -39,7 +40,7 @@ dropped_on naming k ks p q r i falls quiet d = record {
         (d.kept k i (λ h. let b = below_top k k ks falls h in omega (arith, b)) ∙ unlinked_here naming q k)
 
 -- unlinks of members, the highest first
-pub drops : (naming : Naming) (top : ℕ) (ks : List ℕ) (rest : List Entry) (p q : Past) → FallsFrom top ks → ((m : ℕ) → In m ks → HasName naming m) → Walk naming p (map (unlink_at naming) ks ++ rest) q
+pub drops : (naming : Naming) (top : ℕ) (ks : List ℕ) (rest : List Entry) (p q : Past) → FallsFrom top ks → ((m : ℕ) → IsIn m ks → HasName naming m) → Walk naming p (map (unlink_at naming) ks ++ rest) q
     → (r : Past) × Walk naming r rest q × Aside naming p r × Dropped naming ks p r
 drops naming top [] rest p q f named w = (p, w, aside_first naming p, record { gone = λ m n h. absurd h; kept = λ m n h. refl })
 drops naming top (k ∷ ks) rest p q f named w =
@@ -67,7 +68,7 @@ moved_other naming p k m i j n a b = put_other (put (names (world p)) (path_at n
 
 -- members up to the top that aren't among these name nothing
 abbrev pub AreGaps : Naming → ℕ → List ℕ → Past → Type 0
-AreGaps naming top ks p = (m : ℕ) → HasName naming m → m ≤ top → (In m ks → ⊥) → names (world p) (path_at naming m) ≡ thing.Nothing
+AreGaps naming top ks p = (m : ℕ) → HasName naming m → m ≤ top → (IsIn m ks → ⊥) → names (world p) (path_at naming m) ≡ thing.Nothing
 
 pub split : (a b : ℕ) → (a < b) ⊎ (a ≡ b) ⊎ (b < a)
 split a b = ⊎_elim (λ e. inr (inl e)) (λ ne. by (nat_lt a b) refl ne) (same_or_not a b)
@@ -81,7 +82,7 @@ lower_named : (naming : Naming) (m top : ℕ) → HasName naming top → m ≤ t
 lower_named naming m top i le = omega arith
 
 -- the highest member, and then those below it
-module _ (naming : Naming) (top k : ℕ) (ks : List ℕ) (p q : Past) (f : FallsFrom top (k ∷ ks)) (last : HasName naming top) (gaps : AreGaps naming top (k ∷ ks) p) (quiet : Quiet naming p q) where
+module _ (naming : Naming) (top k : ℕ) (ks : List ℕ) (p q : Past) (f : FallsFrom top (k ∷ ks)) (last : HasName naming top) (gaps : AreGaps naming top (k ∷ ks) p) (quiet : Quiet (IsNoMember naming) p q) where
   i : HasName naming k
   i = lower_named naming k top last (omega (arith, f.0))
 
@@ -91,7 +92,7 @@ module _ (naming : Naming) (top k : ℕ) (ks : List ℕ) (p q : Past) (f : Falls
   abbrev r : Past
   r = q ▸ Renames (path_at naming k) (path_at naming (k + 1))
 
-  not_above : (m : ℕ) → k < m → In m (k ∷ ks) → ⊥
+  not_above : (m : ℕ) → k < m → IsIn m (k ∷ ks) → ⊥
   not_above m lt (inl e) = omega arith
   not_above m lt (inr h) = let b = below_top k m ks f.1 h in omega (arith, b)
 

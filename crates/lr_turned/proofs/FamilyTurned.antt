@@ -13,16 +13,18 @@ use Rattle.lr_host.specs.declared.entry.Entry.TheVariants.{Renames}
 use Rattle.lr_host.specs.World.{Past, ◌▸◌, world, names, put, step}
 use Rattle.lr_host.specs.Fits.{IsFileAt}
 use Rattle.lr_host.proofs.Names.{put_here, put_other}
+use Rattle.lr_host.specs.Lists.{IsIn}
+use Rattle.lr_host.proofs.Lists.{in_from, in_to}
+use Rattle.lr_host.specs.Quiet.{Quiet}
 use Rattle.lr_family.specs.Spots.{path_at}
 use Rattle.lr_chain.specs.Rotation.{is_left, leftovers, kept, one_too_many, unlink_at, move_at, rotation}
-use Rattle.lr_promise.specs.Members.{IsFamily, HasName, AreThere, HaveNext}
-use Rattle.lr_promise.proofs.Lists.{In, in_from, in_to}
+use Rattle.lr_promise.specs.Members.{IsFamily, HasName, AreThere, HaveNext, IsNoMember}
 use Rattle.lr_promise.proofs.Paths.{path_same, path_other}
-use Rattle.lr_turned.specs.Quiet.{Quiet}
+use Rattle.lr_promise.proofs.Moments.{quiet_members}
 use Rattle.lr_turned.specs.Turned.{turned, IsBehind}
 use Rattle.lr_turned.proofs.PlaceLists.{FallsFrom, in_or_not, in_filter, filter_in, falls_filter, falls, in_any}
 use Rattle.lr_turned.proofs.Walks.{Walk}
-use Rattle.lr_turned.proofs.Aside.{IsNoMember, IsOrMade, Aside, aside_on, or_made_on, quiet_aside, quiet_members, drawn_grows}
+use Rattle.lr_turned.proofs.Aside.{IsOrMade, Aside, aside_on, or_made_on, quiet_aside, drawn_grows}
 use Rattle.lr_turned.proofs.ChainMoves.{Dropped, AreGaps, Shifted, drops, moves, split}
 
 -- the place that the last member to be moved may come to
@@ -85,7 +87,7 @@ module _ (n : Naming) (c : Count) (log : Path) (places : List ℕ) (p : Past) (n
   abbrev top : ℕ
   top = top_of n c
 
-  named : (k : ℕ) → In k places → HasName n k
+  named : (k : ℕ) → IsIn k places → HasName n k
   named k i = let r = in_to k places i in subst (HasName n) r.2 (a.named r.0 k r.1)
 
   all_fall : FallsFrom 4294967296 places
@@ -94,7 +96,7 @@ module _ (n : Naming) (c : Count) (log : Path) (places : List ℕ) (p : Past) (n
   left_falls : FallsFrom 4294967296 (leftovers c places)
   left_falls = falls_filter (is_left c) 4294967296 4294967296 places all_fall (λ k i t. let le : n.start + k ≤ 4294967295 = named k i in omega arith)
 
-  left_named : (k : ℕ) → In k (leftovers c places) → HasName n k
+  left_named : (k : ℕ) → IsIn k (leftovers c places) → HasName n k
   left_named k i = named k (filter_in (is_left c) k places i).0
 
   not_true : (b : Bool) → not b ≡ true → b ≡ false
@@ -141,7 +143,7 @@ module _ (n : Naming) (c : Count) (log : Path) (places : List ℕ) (p : Past) (n
   zero_named = let last : HasName n top = top_named n c places next in omega arith
 
   -- by the moment behind the unlinks, that behind the moves, and that of the log's rename
-  moved_by : (r s t q : Past) → Aside n p r → Dropped n (leftovers c places) p r → Aside n r s → Shifted n top r s → Quiet n s t → IsFileAt (names (world t)) log → Walk n (renamed n log t) (map (unlink_at n) (one_too_many c places)) q
+  moved_by : (r s t q : Past) → Aside n p r → Dropped n (leftovers c places) p r → Aside n r s → Shifted n top r s → Quiet (IsNoMember n) s t → IsFileAt (names (world t)) log → Walk n (renamed n log t) (map (unlink_at n) (one_too_many c places)) q
       → Moved n c log places p q
   moved_by r s t q before dropped between shifted quiet file rest = record {
     turning = t;
@@ -161,7 +163,7 @@ module _ (n : Naming) (c : Count) (log : Path) (places : List ℕ) (p : Past) (n
       moved_by d.0 s.0 s.1.0 q d.2 d.3 s.2 s.3 s.1.1 s.1.2.0 s.1.3
 
 -- the same from an earlier moment, where nothing was changed up to this one
-abbrev pub moved_back : (n : Naming) (c : Count) (log : Path) (places : List ℕ) (p r q : Past) → HaveNext n c places → Quiet n p r → Moved n c log places r q → Moved n c log places p q
+abbrev pub moved_back : (n : Naming) (c : Count) (log : Path) (places : List ℕ) (p r q : Past) → HaveNext n c places → Quiet (IsNoMember n) p r → Moved n c log places r q → Moved n c log places p q
 moved_back n c log places p r q next quiet s = record {
   turning = s.turning;
   aside = aside_on n p r s.turning (quiet_aside n p r quiet) s.aside;
@@ -179,7 +181,7 @@ pub record Ended (n : Naming) (c : Count) (places : List ℕ) (u q : Past) : Typ
   pub stay : (k : ℕ) → HasName n k → is_left c k ≡ false → names (world q) (path_at n k) ≡ names (world u) (path_at n k)
   -- elsewhere nothing is left, where above the top there was nothing, and at the top only what a member's move brought
   pub free : (k : ℕ) → HasName n k → is_left c k ≡ true → (top_of n c < k → names (world u) (path_at n k) ≡ thing.Nothing)
-      → ((j : ℕ) → k ≡ suc j → top_of n c ≡ k → (In j places → ⊥) → names (world u) (path_at n k) ≡ thing.Nothing) → names (world q) (path_at n k) ≡ thing.Nothing
+      → ((j : ℕ) → k ≡ suc j → top_of n c ≡ k → (IsIn j places → ⊥) → names (world u) (path_at n k) ≡ thing.Nothing) → names (world q) (path_at n k) ≡ thing.Nothing
 
 -- by an unlink, where one is due
 unlinked_last : (n : Naming) (m : ℕ) (places : List ℕ) (u q : Past) → HasName n m → Walk n u (unlink_at n m ∷ []) q → Ended n (count.Keep m) places u q
@@ -191,11 +193,11 @@ unlinked_last n m places u q i w =
       free = λ k j full above at. quiet_members n d.0 q k d.1 j ∙ gone d.0 d.3 k j full above;
     }
   where
-    one : (k : ℕ) → In k (m ∷ []) → HasName n k
+    one : (k : ℕ) → IsIn k (m ∷ []) → HasName n k
     one k (inl e) = subst (HasName n) e i
     one k (inr none) = absurd none
 
-    other : (k : ℕ) → nat_le m k ≡ false → In k (m ∷ []) → ⊥
+    other : (k : ℕ) → nat_le m k ≡ false → IsIn k (m ∷ []) → ⊥
     other k room (inl e) = lower (ap (λ (j : ℕ). nat_le m j) e ∙ room)
       where
         lower : nat_le m m ≡ false → ⊥
@@ -205,7 +207,7 @@ unlinked_last n m places u q i w =
     gone : (r : Past) → Dropped n (m ∷ []) u r → (k : ℕ) → HasName n k → nat_le m k ≡ true → (m < k → names (world u) (path_at n k) ≡ thing.Nothing) → names (world r) (path_at n k) ≡ thing.Nothing
     gone r d k j full above = ⊎_elim (λ lt. d.kept k j (λ h. apart k lt h) ∙ above lt) (λ rest. ⊎_elim (λ e. d.gone k j (inl e)) (λ lt. absurd (let le : m ≤ k = leb-true m k full in omega arith)) rest) (split m k)
       where
-        apart : (k : ℕ) → m < k → In k (m ∷ []) → ⊥
+        apart : (k : ℕ) → m < k → IsIn k (m ∷ []) → ⊥
         apart k lt (inl e) = omega arith
         apart k lt (inr none) = none
 
@@ -226,7 +228,7 @@ ended n (count.Keep (suc m)) places u q next w = go (list_any (λ place. place =
       free = λ k i full above at. quiet_members n u q k w i ∙ was k full above at;
     }
       where
-        was : (k : ℕ) → nat_le (suc m) k ≡ true → (suc m < k → names (world u) (path_at n k) ≡ thing.Nothing) → ((j : ℕ) → k ≡ suc j → suc m ≡ k → (In j places → ⊥) → names (world u) (path_at n k) ≡ thing.Nothing)
+        was : (k : ℕ) → nat_le (suc m) k ≡ true → (suc m < k → names (world u) (path_at n k) ≡ thing.Nothing) → ((j : ℕ) → k ≡ suc j → suc m ≡ k → (IsIn j places → ⊥) → names (world u) (path_at n k) ≡ thing.Nothing)
             → names (world u) (path_at n k) ≡ thing.Nothing
         was k full above at = ⊎_elim (λ lt. above lt) (λ rest. ⊎_elim (λ same. at m (sym same) same (λ h. let t : list_any (λ place. place == m) places ≡ true = in_any m places h in cc)) (λ lt. absurd (let le : suc m ≤ k = leb-true (suc m) k full in omega arith)) rest) (split (suc m) k)
 

@@ -3,7 +3,6 @@ pub mod ChainMoves
 pub mod Drawn
 pub mod FamilyTurned
 pub mod Fed
-pub mod MembersFound
 pub mod PlaceLists
 pub mod RunTurned
 pub mod Started

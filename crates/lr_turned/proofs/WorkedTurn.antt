@@ -17,7 +17,7 @@ use Rattle.lr_host.specs.declared.thing.Thing.TheVariants as thing
 use Rattle.lr_host.specs.declared.entry.Entry.{Entry}
 use Rattle.lr_host.specs.declared.entry.Entry.TheVariants as entry
 use Rattle.lr_host.specs.declared.journal.OpenFile.{OpenFile}
-use Rattle.lr_host.specs.Lists.{IsNotIn, AreDistinct}
+use Rattle.lr_host.specs.Lists.{IsNotIn, AreDistinct, IsIn}
 use Rattle.lr_host.specs.World.{world, names}
 use Rattle.lr_host.specs.Fits.{IsPart, AreNamesIn}
 use Rattle.lr_host.specs.Opening.{IsValid, paths_of}
@@ -26,13 +26,13 @@ use Rattle.lr_family.specs.declared.spot.Spot.{Spot}
 use Rattle.lr_family.specs.Named.{member_name}
 use Rattle.lr_family.specs.Spots.{path_at, spot_at, HasPlaces, AreSpots}
 use Rattle.lr_host.specs.Looks.{IsFileOrGone}
+use Rattle.lr_host.proofs.Lists.{in_from, in_to}
+use Rattle.lr_host.specs.Quiet.{is_disk_change, from_here, further}
 use Rattle.lr_family.specs.Looks.{Sight}
 use Rattle.lr_family.specs.Stands.{StandsIn, ShowsStand}
 use Rattle.lr_chain.specs.Rotation.{places_of, rotation}
-use Rattle.lr_promise.specs.Members.{IsFamily, HaveNext}
-use Rattle.lr_promise.proofs.Lists.{In, in_from, in_to}
+use Rattle.lr_promise.specs.Members.{IsFamily, HaveNext, NoMemberAttached}
 use Rattle.lr_promise.proofs.Paths.{path_same, path_other}
-use Rattle.lr_turned.specs.Quiet.{is_disk_change, NoMemberAttached, from_here, attached, another}
 use Rattle.lr_turned.specs.Turning.{TurnsOver}
 use Rattle.lr_turned.specs.Worked.{log, first, second, third, beside, two, stood, begun, seen_dir, seen_file, listed, stand, looks, over, moves}
 
@@ -76,25 +76,25 @@ same_name : (x y : List ℕ) → in_v x ≡ in_v y → x ≡ y
 same_name x y e = cc
 
 -- what has a name there is listed
-has_name : (name : List ℕ) → names (world begun) (in_v name) ≢ thing.Nothing → In name listed
+has_name : (name : List ℕ) → names (world begun) (in_v name) ≢ thing.Nothing → IsIn name listed
 has_name name some = one (bytes_eq log (in_v name)) refl
   where
-    three : (b : Bool) → bytes_eq second (in_v name) ≡ b → bytes_eq log (in_v name) ≡ false → bytes_eq first (in_v name) ≡ false → In name listed
+    three : (b : Bool) → bytes_eq second (in_v name) ≡ b → bytes_eq log (in_v name) ≡ false → bytes_eq first (in_v name) ≡ false → IsIn name listed
     three true e p q = inr (inr (inl (same_name (codes "a.log.2") name ((bytes_eq-Decides second (in_v name)).0 e))))
     three false e p q = absurd (some (unnamed (in_v name) refl refl p q e))
 
-    middle : (b : Bool) → bytes_eq first (in_v name) ≡ b → bytes_eq log (in_v name) ≡ false → In name listed
+    middle : (b : Bool) → bytes_eq first (in_v name) ≡ b → bytes_eq log (in_v name) ≡ false → IsIn name listed
     middle true e p = inr (inl (same_name (codes "a.log.1") name ((bytes_eq-Decides first (in_v name)).0 e)))
     middle false e p = three (bytes_eq second (in_v name)) refl p e
 
-    one : (b : Bool) → bytes_eq log (in_v name) ≡ b → In name listed
+    one : (b : Bool) → bytes_eq log (in_v name) ≡ b → IsIn name listed
     one true e = inl (same_name (codes "a.log") name ((bytes_eq-Decides log (in_v name)).0 e))
     one false e = middle (bytes_eq first (in_v name)) refl e
 
 abbrev IsThere : List ℕ → Type 0
 IsThere name = IsPart name × (names (world begun) (in_v name) ≢ thing.Nothing)
 
-is_there : (name : List ℕ) → In name listed → IsThere name
+is_there : (name : List ℕ) → IsIn name listed → IsThere name
 is_there name (inl e) = subst IsThere e ((refl, refl), (λ t. cc))
 is_there name (inr (inl e)) = subst IsThere e ((refl, refl), (λ t. cc))
 is_there name (inr (inr (inl e))) = subst IsThere e ((refl, refl), (λ t. cc))
@@ -169,12 +169,12 @@ has_places place = ((λ c. there (in_from place (0 ∷ 1 ∷ []) c)), (λ h. in_
     Listed : ℕ → Type 0
     Listed k = (1 + k ≤ 4294967295) × Contains listed (member_name beside (1 + k))
 
-    there : In place (0 ∷ 1 ∷ []) → Listed place
+    there : IsIn place (0 ∷ 1 ∷ []) → Listed place
     there (inl e) = subst Listed e (omega arith, in_to (member_name beside 1) listed (inr (inl (sym (named 0 (omega arith))))))
     there (inr (inl e)) = subst Listed e (omega arith, in_to (member_name beside 2) listed (inr (inr (inl (sym (named 1 (omega arith)))))))
     there (inr (inr none)) = absurd none
 
-    back : In (member_name beside (1 + place)) listed → 1 + place ≤ 4294967295 → In place (0 ∷ 1 ∷ [])
+    back : IsIn (member_name beside (1 + place)) listed → 1 + place ≤ 4294967295 → IsIn place (0 ∷ 1 ∷ [])
     back (inl e) le = absurd (no_dot (decimal (1 + place)) e)
     back (inr (inl e)) le = inl (path_same beside 0 place (omega arith) le (ap in_v (named 0 (omega arith) ∙ e)))
     back (inr (inr (inl e))) le = inr (inl (path_same beside 1 place (omega arith) le (ap in_v (named 1 (omega arith) ∙ e))))
@@ -252,8 +252,7 @@ turns = record {
 }
 
 pub unattached : NoMemberAttached beside begun over
-unattached = another (another (another (attached (another (another (another (another (another (another (another (another (another (another from_here (λ w x a e. cc)) (λ w x a e. cc)) (λ w x a e. cc)) (λ w x a e. cc)) (λ w x a e. cc)) (λ w x a e. cc)) (λ w x a e. cc)) (λ w x a e. cc)) (λ w x a e. cc)) (λ w x a e. cc))
-    (λ place i e. path_other log beside place family i e)) (λ w x a e. cc)) (λ w x a e. cc)) (λ w x a e. cc)
+unattached = further (further (further (further (further (further (further (further (further (further (further (further (further (further from_here tt) tt) tt) tt) tt) tt) tt) tt) tt) tt) (λ place i e. path_other log beside place family i e)) tt) tt) tt
 
 -- ---- the opening
 

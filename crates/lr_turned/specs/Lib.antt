@@ -1,4 +1,3 @@
-pub mod Quiet
 pub mod Turned
 pub mod Turning
 pub mod Worked

@@ -14,11 +14,11 @@ ghost use Rattle.lr_host.specs.Told.{Made, Left};
 ghost use Rattle.lr_host.specs.Steps.{is_change};
 ghost use Rattle.lr_family.specs.declared.stand.Stand.{Stand};
 ghost use Rattle.lr_host.specs.Looks.{Sees, IsFile};
+ghost use Rattle.lr_host.specs.Quiet.{AreQuiet};
 ghost use Rattle.lr_family.specs.Stands.{ShowsStand};
 ghost use Rattle.lr_chain.specs.Rotation.{places_of, rotation};
-ghost use Rattle.lr_promise.specs.Members.{IsFamily, AreThere, HaveNext};
-ghost use Rattle.lr_promise.specs.Shape.{AreQuiet, Among};
-ghost use Rattle.lr_turned.specs.Quiet.{NoMemberAttached};
+ghost use Rattle.lr_promise.specs.Members.{IsFamily, AreThere, HaveNext, NoMemberAttached};
+ghost use Rattle.lr_promise.specs.Shape.{Among};
 ghost use Rattle.lr_turned.specs.Turning.{TurnsOver, IsTurnedWhole};
 
 /// Where the log and its family were seen, and then the changes are one rotation: the members that were seen are those

@@ -1,15 +1,36 @@
--- What the tool left, cut in two; and of what is steady, each part.
-use Rattle.std.proofs.Common.{◌≡◌, subst, List, [], ◌∷◌, ◌++◌}
+-- What the tool left, with writers' entries between: joined, and cut in two.
+use Rattle.std.proofs.Common.{◌≡◌, ℕ, ◌+◌, ◌≤◌, ap, subst, arith, refl, List, [], ◌∷◌, ◌++◌}
+use Rattle.lr_rules.specs.declared.path.Path.{Path}
 use Rattle.lr_host.specs.declared.entry.Entry.{Entry}
-use Rattle.lr_host.specs.World.{Past, Opens, ◌▸◌, world}
+use Rattle.lr_host.specs.declared.entry.Entry.TheVariants.{Attach, Feed, Flush, Detach}
+use Rattle.lr_host.specs.World.{Past, Opens, ◌▸◌, world, then}
 use Rattle.lr_host.specs.Fits.{Fits}
-use Rattle.lr_host.specs.Told.{Made, at_first, by_writer, by_tool}
+use Rattle.lr_host.specs.Told.{Each, IsTools, Made, at_first, by_writer, by_tool}
 use Rattle.lr_host.specs.Opening.{IsJournal}
-use Rattle.lr_host.specs.Sets.{LogSet}
-use Rattle.lr_host.specs.Steady.{IsSteady, IsSteadyAt}
-use Rattle.lr_laws.specs.Follow.{NoneAttached}
 
--- what the tool left, cut in two
+pub then_append : (p : Past) (xs ys : List Entry) → then p (xs ++ ys) ≡ then (then p xs) ys
+then_append p [] ys = refl
+then_append p (e ∷ es) ys = then_append (p ▸ e) es ys
+
+pub made_on : (p q r : Past) (es fs : List Entry) → Made p es q → Made q fs r → Made p (fs ++ es) r
+made_on p q _ es _ m at_first = m
+made_on p q _ es fs m (by_writer {q = r} n i f) = by_writer (made_on p q r es fs m n) i f
+made_on p q _ es _ m (by_tool {es = fs} {q = r} n i f) = by_tool (made_on p q r es fs m n) i f
+
+-- a journal stays one
+pub made_journal : (p q : Past) (es : List Entry) → Made p es q → IsJournal p → IsJournal q
+made_journal p _ _ at_first j = j
+made_journal p _ es (by_writer {q = q} m i f) j = (made_journal p q es m j, f)
+made_journal p _ _ (by_tool {es = es} {q = q} m i f) j = (made_journal p q es m j, f)
+
+-- the entries are the tool's
+pub made_tools : (p q : Past) (es : List Entry) → Made p es q → Each IsTools es
+made_tools p _ _ at_first = tt
+made_tools p _ es (by_writer {q = q} m i f) = made_tools p q es m
+made_tools p _ _ (by_tool {es = es} {q = q} m i f) = (i, made_tools p q es m)
+
+-- ---- cut in two
+
 pub record Cut (p q : Past) (new old : List Entry) : Type 0 where
   pub mid : Past
   pub first : Made p old mid
@@ -51,29 +72,3 @@ cut_one p _ _ old e is (by_tool {es = es} {q = q} {e = d} m i f) = record {
 
     tails : es ≡ old
     tails = cc
-
-pub made_journal : (p q : Past) (es : List Entry) → Made p es q → IsJournal p → IsJournal q
-made_journal p _ _ at_first j = j
-made_journal p _ es (by_writer {q = q} m i f) j = (made_journal p q es m j, f)
-made_journal p _ _ (by_tool {es = es} {q = q} m i f) j = (made_journal p q es m j, f)
-
-pub made_more : (p q r : Past) (es fs : List Entry) → Made p es q → Made q fs r → Made p (fs ++ es) r
-made_more p q _ es _ m at_first = m
-made_more p q _ es fs m (by_writer {q = r} n i f) = by_writer (made_more p q r es fs m n) i f
-made_more p q _ es _ m (by_tool {es = fs} {q = r} n i f) = by_tool (made_more p q r es fs m n) i f
-
--- ---- what is steady
-
-pub steady_before : (s : LogSet) (p q : Past) (es : List Entry) → Made p es q → IsSteady s q → IsSteady s p
-steady_before s p _ _ at_first st = st
-steady_before s p _ es (by_writer {q = q} m i f) st = steady_before s p q es m st.0
-steady_before s p _ _ (by_tool {es = es} {q = q} m i f) st = steady_before s p q es m st.0
-
-pub steady_at : (s : LogSet) (p q : Past) (e : Entry) (es : List Entry) → Made (p ▸ e) es q → IsSteady s q → IsSteadyAt s q
-steady_at s p _ e _ at_first st = st.1
-steady_at s p _ e es (by_writer m i f) st = st.1
-steady_at s p _ e _ (by_tool m i f) st = st.1
-
-pub none_attached : (s : LogSet) (q : Past) → IsSteady s q → NoneAttached s q
-none_attached s (Opens o) st = tt
-none_attached s (p ▸ e) st = (none_attached s p st.0, st.2)
