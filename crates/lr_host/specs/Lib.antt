@@ -1,3 +1,4 @@
+pub mod Below
 pub mod Fits
 pub mod Forward
 pub mod Kept
