@@ -1,9 +1,6 @@
-// What the calls answer, as a text.
-use crate::family::{kin, name, place};
-use crate::state::state;
-use lr_rules::{Path, PathFault, Text, TextFault};
+// The calls that a line may make.
+use crate::{chain, clock, conf, due, layer, lex, moment, name, path, report, state, word};
 use lr_line::{Line, Trouble};
-use std::alloc::{AllocError, Global};
 
 #[derive(Clone, Copy)]
 enum Ask {
@@ -12,96 +9,133 @@ enum Ask {
     Parent,
     Last,
     Join,
-    Text,
+    Copy,
+    Same,
+    Utf8,
+    Starved,
+    Texts,
+    List,
+    Seconds,
+    Row,
+    PlaceOfWord,
+    Lex,
+    Layer,
+    Conf,
+    Copied,
+    Due,
+    Clock,
+    State,
+    Moment,
+    Set,
+    Purge,
     Kin,
     Name,
     Place,
-    State,
+    ReadBack,
+    NamedAgain,
+    Rotation,
+    Fault,
+    Notice,
+    Said,
+    Until,
 }
 
-static ASKS: [(&[u8], Ask); 10] = [
-    (b"path", Ask::Path),
-    (b"word", Ask::Word),
-    (b"parent", Ask::Parent),
-    (b"last", Ask::Last),
-    (b"join", Ask::Join),
-    (b"text", Ask::Text),
-    (b"kin", Ask::Kin),
-    (b"name", Ask::Name),
-    (b"place", Ask::Place),
-    (b"state", Ask::State),
+// Each call with its name, and how many words stand behind that, at least and at most.
+static ASKS: [(&str, Ask, usize, usize); 34] = [
+    ("path", Ask::Path, 1, 1),
+    ("word", Ask::Word, 2, 2),
+    ("parent", Ask::Parent, 1, 1),
+    ("last", Ask::Last, 1, 1),
+    ("join", Ask::Join, 2, 2),
+    ("copy", Ask::Copy, 1, 1),
+    ("same", Ask::Same, 2, 2),
+    ("utf8", Ask::Utf8, 1, 1),
+    ("starved", Ask::Starved, 0, 0),
+    ("texts", Ask::Texts, 0, 99),
+    ("list", Ask::List, 0, 99),
+    ("seconds", Ask::Seconds, 1, 1),
+    ("row", Ask::Row, 1, 1),
+    ("row-of", Ask::PlaceOfWord, 1, 1),
+    ("lex", Ask::Lex, 1, 1),
+    ("layer", Ask::Layer, 1, 2),
+    ("conf", Ask::Conf, 1, 1),
+    ("copied", Ask::Copied, 1, 1),
+    ("due", Ask::Due, 10, 10),
+    ("clock", Ask::Clock, 2, 3),
+    ("state", Ask::State, 1, 9),
+    ("moment", Ask::Moment, 2, 9),
+    ("set", Ask::Set, 0, 99),
+    ("purge", Ask::Purge, 3, 9),
+    ("kin", Ask::Kin, 5, 5),
+    ("name", Ask::Name, 6, 6),
+    ("place", Ask::Place, 6, 6),
+    ("read-back", Ask::ReadBack, 6, 6),
+    ("named-again", Ask::NamedAgain, 6, 6),
+    ("rotation", Ask::Rotation, 7, 99),
+    ("fault", Ask::Fault, 1, 4),
+    ("notice", Ask::Notice, 2, 3),
+    ("said", Ask::Said, 1, 1),
+    ("until", Ask::Until, 2, 2),
 ];
 
-fn ask_of(word: &[u8]) -> Result<Ask, Trouble> {
-    for (text, ask) in &ASKS {
-        if *text == word {
-            return Ok(*ask);
+// The call, where so many words stand behind its name.
+fn counted(ask: Ask, count: usize, least: usize, most: usize) -> Result<Ask, Trouble> {
+    if count < least {
+        Err(Trouble::Odd("a word is missing"))
+    } else if count > most {
+        Err(Trouble::Odd("a word is too many"))
+    } else {
+        Ok(ask)
+    }
+}
+
+fn ask_of(line: Line) -> Result<Ask, Trouble> {
+    let word = line.word(0)?;
+    let count = line.words.len().saturating_sub(1);
+    for (name, ask, least, most) in &ASKS {
+        if name.as_bytes() == word {
+            return counted(*ask, count, *least, *most);
         }
     }
     Err(Trouble::Odd("no such call"))
 }
 
-// The bytes of the text.
-fn bytes_of(alloc: Global, text: &str) -> Result<Vec<u8>, AllocError> {
-    Vec::from_slice(alloc, text.as_bytes())
-}
-
-fn of_path(alloc: Global, made: Result<Path, PathFault>) -> Result<Vec<u8>, AllocError> {
-    match made {
-        Ok(path) => bytes_of(alloc, path.as_str()),
-        Err(fault) => bytes_of(alloc, format!(in alloc; "{fault}")?.as_str()),
-    }
-}
-
-fn path(line: Line) -> Result<Vec<u8>, Trouble> {
-    let word = line.word(1)?;
-    Ok(of_path(line.alloc, Path::new(line.alloc, word))?)
-}
-
-fn word(line: Line) -> Result<Vec<u8>, Trouble> {
-    let here = line.path(1)?;
-    let word = line.word(2)?;
-    Ok(of_path(line.alloc, Path::from_word(line.alloc, &here, word))?)
-}
-
-fn parent(line: Line) -> Result<Vec<u8>, Trouble> {
-    let path = line.path(1)?;
-    let parent = path.parent(line.alloc)?;
-    Ok(bytes_of(line.alloc, parent.as_str())?)
-}
-
-fn last(line: Line) -> Result<Vec<u8>, Trouble> {
-    let path = line.path(1)?;
-    let last = path.last_text(line.alloc)?;
-    Ok(bytes_of(line.alloc, last.as_str())?)
-}
-
-fn join(line: Line) -> Result<Vec<u8>, Trouble> {
-    let path = line.path(1)?;
-    let name = line.word(2)?;
-    Ok(of_path(line.alloc, path.join(line.alloc, name))?)
-}
-
-fn text(line: Line) -> Result<Vec<u8>, Trouble> {
-    match Text::new(line.alloc, line.word(1)?) {
-        Ok(text) => Ok(bytes_of(line.alloc, text.as_str())?),
-        Err(TextFault::NotUtf8) => Ok(bytes_of(line.alloc, "NotUtf8")?),
-        Err(TextFault::Memory) => Err(Trouble::Memory),
-    }
-}
-
-/// What the call of the line answers.
-pub fn answer(line: Line) -> Result<Vec<u8>, Trouble> {
-    match ask_of(line.word(0)?)? {
-        Ask::Path => path(line),
-        Ask::Word => word(line),
-        Ask::Parent => parent(line),
-        Ask::Last => last(line),
-        Ask::Join => join(line),
-        Ask::Text => text(line),
-        Ask::Kin => kin(line),
-        Ask::Name => name(line),
-        Ask::Place => place(line),
-        Ask::State => state(line),
+/// Puts what the call of the line answers.
+pub fn answer(line: Line, out: &mut String) -> Result<(), Trouble> {
+    match ask_of(line)? {
+        Ask::Path => path::path(line, out),
+        Ask::Word => path::word(line, out),
+        Ask::Parent => path::parent(line, out),
+        Ask::Last => path::last(line, out),
+        Ask::Join => path::join(line, out),
+        Ask::Copy => path::copy(line, out),
+        Ask::Same => path::same(line, out),
+        Ask::Utf8 => path::utf8(line, out),
+        Ask::Starved => path::starved(line, out),
+        Ask::Texts => path::texts(line, out),
+        Ask::List => path::list(line, out),
+        Ask::Seconds => moment::seconds(line, out),
+        Ask::Row => word::row(line, out),
+        Ask::PlaceOfWord => word::place(line, out),
+        Ask::Lex => lex::lex(line, out),
+        Ask::Layer => layer::layer(line, out),
+        Ask::Conf => conf::conf(line, out),
+        Ask::Copied => conf::copied(line, out),
+        Ask::Due => due::is_due(line, out),
+        Ask::Clock => clock::clock(line, out),
+        Ask::State => state::state(line, out),
+        Ask::Moment => state::moment(line, out),
+        Ask::Set => state::set(line, out),
+        Ask::Purge => state::purge(line, out),
+        Ask::Kin => name::kin(line, out),
+        Ask::Name => name::name(line, out),
+        Ask::Place => name::place(line, out),
+        Ask::ReadBack => name::read_back(line, out),
+        Ask::NamedAgain => name::named_again(line, out),
+        Ask::Rotation => chain::rotation(line, out),
+        Ask::Fault => report::fault(line, out),
+        Ask::Notice => report::notice(line, out),
+        Ask::Said => report::said(line, out),
+        Ask::Until => report::until(line, out),
     }
 }

@@ -1,26 +1,137 @@
 // State texts: what is written for the table that is read.
-use lr_line::{Line, Trouble};
-use lr_state::{State, StateStop};
-use std::alloc::{AllocError, Global};
+ghost use Rattle.std.specs.Prelude.{◌≡◌};
+ghost use Rattle.std.specs.Str.{is_utf8};
+ghost use Rattle.lr_rules.specs.Path.{has_bad_byte};
+ghost use Rattle.lr_state.specs.Table.{is_name};
 
-fn lines(alloc: Global, state: &State) -> Result<Vec<u8>, AllocError> {
-    let mut text = Vec::new(alloc);
+use crate::kinds::state_kind_name;
+use crate::moment::{moment_at, put_moment};
+use crate::values::put_bytes;
+use lr_line::{Line, Trouble};
+use lr_rules::Civil;
+use lr_state::{State, StateStop, first_line};
+
+fn put_lines(state: &State, out: &mut String) -> Result<(), Trouble> {
     let mut room = [0u8; 8448];
     for k in 0..state.len() {
         let count = state.line(k, &mut room);
-        text.extend_from_slice(room.get(..count).unwrap_or(b""))?;
+        put_bytes(room.get(..count).unwrap_or(b""), out)?;
+    }
+    Ok(())
+}
+
+fn put_stop(stop: StateStop, out: &mut String) -> Result<(), Trouble> {
+    match stop {
+        StateStop::Bad(line, kind) => {
+            let name = state_kind_name(kind);
+            Ok(write!(out, "{line}: {name}")?)
+        }
+        StateStop::Memory => Err(Trouble::Memory),
+    }
+}
+
+// The bytes of the words from this place on, joined.
+fn text_from(line: Line, at: usize) -> Result<Vec<u8>, Trouble> {
+    let mut text = Vec::new(line.alloc);
+    for part in line.words.iter().skip(at) {
+        text.extend_from_slice(part)?;
     }
     Ok(text)
 }
 
-/// The lines of the table, or the first fault with its line.
-pub fn state(line: Line) -> Result<Vec<u8>, Trouble> {
-    match State::read(line.alloc, line.word(1)?) {
-        Ok(state) => Ok(lines(line.alloc, &state)?),
-        Err(StateStop::Bad(number, kind)) => {
-            let text = format!(in line.alloc; "{number}: {kind:?}")?;
-            Ok(Vec::from_slice(line.alloc, text.as_bytes())?)
-        }
-        Err(_) => Err(Trouble::Memory),
+/// The lines of the text's table, or its first fault.
+pub fn state(line: Line, out: &mut String) -> Result<(), Trouble> {
+    let text = text_from(line, 1)?;
+    match State::read(line.alloc, &text) {
+        Ok(state) => put_lines(&state, out),
+        Err(stop) => put_stop(stop, out),
     }
+}
+
+// The table of the text from this place on.
+fn read_from(line: Line, at: usize) -> Result<State, Trouble> {
+    let text = text_from(line, at)?;
+    match State::read(line.alloc, &text) {
+        Ok(state) => Ok(state),
+        Err(_) => Err(Trouble::Odd("a state text is wanted")),
+    }
+}
+
+/// The moment of the name in the table of the text, or `none`.
+pub fn moment(line: Line, out: &mut String) -> Result<(), Trouble> {
+    let state = read_from(line, 2)?;
+    match state.get(line.word(1)?) {
+        Some(civil) => put_moment(&civil, out),
+        None => Ok(out.push_str("none")?),
+    }
+}
+
+fn has_bad_byte(name: &[u8]) -> bool
+    ensures { result ≡ has_bad_byte name.now }
+{
+    name.iter().any(|b| *b == b'\n' || *b == 0)
+}
+
+fn is_text(name: &[u8]) -> bool
+    ensures { result ≡ is_utf8 name.now }
+{
+    str::from_utf8(name).is_ok()
+}
+
+// Whether a table may have the name.
+#[tactic(auto, unfolding(lr_state::specs::Table::is_name))]
+fn is_name(name: &[u8]) -> bool
+    ensures { result ≡ is_name name.now }
+{
+    let text = is_text(name);
+    let bad = has_bad_byte(name);
+    !name.is_empty() && name.len() <= 4096 && text && !bad
+}
+
+fn set_one(state: &mut State, name: &[u8], at: Civil) -> Result<(), Trouble> {
+    if !is_name(name) {
+        return Err(Trouble::Odd("a name is wanted"));
+    }
+    state.set(name, at)?;
+    Ok(())
+}
+
+// Sets each name to the moment behind it.
+fn set_all(state: &mut State, line: Line) -> Result<(), Trouble> {
+    let mut at = 1;
+    while at < line.words.len() {
+        let moment = moment_at(line, at.saturating_add(1))?;
+        set_one(state, line.word(at)?, moment)?;
+        at = at.saturating_add(2);
+    }
+    Ok(())
+}
+
+// The whole text of the table, which is as long as the table says.
+fn put_whole(state: &State, out: &mut String) -> Result<(), Trouble> {
+    put_bytes(first_line(), out)?;
+    put_lines(state, out)?;
+    if out.len() as u64 != state.text_len() {
+        out.push_str("another length")?;
+    }
+    Ok(())
+}
+
+/// What is written for a table in which each name was set to the moment behind it, one after another.
+pub fn set(line: Line, out: &mut String) -> Result<(), Trouble> {
+    let mut state = State::new(line.alloc);
+    set_all(&mut state, line)?;
+    put_whole(&state, out)
+}
+
+fn purge_all(state: &mut State, used: &[u8], now: &Civil) {
+    state.purge(|name: &[u8]| -> bool { name == used }, now);
+}
+
+/// The lines of the text's table, behind the purge at the moment, where only the name is used.
+pub fn purge(line: Line, out: &mut String) -> Result<(), Trouble> {
+    let now = moment_at(line, 2)?;
+    let mut state = read_from(line, 3)?;
+    purge_all(&mut state, line.word(1)?, &now);
+    put_lines(&state, out)
 }

@@ -1,0 +1,62 @@
+// What clocks in time zones show.
+use crate::moment::put_moment;
+use lr_due::{ZoneStop, ZoneText, clock_of};
+use lr_line::{Line, Trouble};
+use lr_rules::{Clock, Listed, Moment, Text};
+
+// The seconds that the word writes.
+fn seconds(word: &[u8]) -> Result<i64, Trouble> {
+    let Ok(text) = str::from_utf8(word) else {
+        return Err(Trouble::Odd("seconds are wanted"));
+    };
+    match text.parse::<i64>() {
+        Ok(seconds) => Ok(seconds),
+        Err(_) => Err(Trouble::Odd("seconds are wanted")),
+    }
+}
+
+// `utc`, `rule RULE` or `bytes BYTES`.
+fn zone(line: Line) -> Result<ZoneText, Trouble> {
+    let kind = line.word(2)?;
+    if kind == b"utc".as_slice() {
+        return Ok(ZoneText::Utc);
+    }
+    if kind == b"rule".as_slice() {
+        return Ok(ZoneText::Rule(Text::new(line.alloc, line.word(3)?)?));
+    }
+    if kind == b"bytes".as_slice() {
+        return Ok(ZoneText::Bytes(Listed::from_vec(line.bytes(3)?)));
+    }
+    Err(Trouble::Odd("no such zone"))
+}
+
+fn put_one(moment: &Moment, out: &mut String) -> Result<(), Trouble> {
+    let seconds = moment.seconds;
+    write!(out, "{seconds} ")?;
+    put_moment(&moment.civil, out)
+}
+
+fn put_clock(clock: &Clock, out: &mut String) -> Result<(), Trouble> {
+    put_one(&clock.now, out)?;
+    out.push_str(", ")?;
+    put_one(&clock.yesterday, out)?;
+    out.push_str(", ")?;
+    put_one(&clock.hour_ago, out)
+}
+
+fn put_stop(stop: ZoneStop, out: &mut String) -> Result<(), Trouble> {
+    match stop {
+        ZoneStop::Range => Ok(out.push_str("Range")?),
+        ZoneStop::Refused => Ok(out.push_str("Refused")?),
+        ZoneStop::Memory => Err(Trouble::Memory),
+    }
+}
+
+/// The moment of the run, that of the day before and that of an hour before, each as seconds and as the zone shows it.
+pub fn clock(line: Line, out: &mut String) -> Result<(), Trouble> {
+    let zone = zone(line)?;
+    match clock_of(line.alloc, &zone, seconds(line.word(1)?)?) {
+        Ok(clock) => put_clock(&clock, out),
+        Err(stop) => put_stop(stop, out),
+    }
+}

@@ -1,0 +1,110 @@
+// What the lines of configuration files mean, by the layer that takes them.
+ghost use Rattle.std.specs.Prelude.{◌≡◌, ◌<◌, ◌^◌, [], length, IfOk};
+ghost use Rattle.lr_conf.specs.Fold.{entered};
+
+use crate::lex::{put_lex_fault, text_at};
+use crate::rule::{put_conf_fault, put_notices, put_rules};
+use lr_conf::{Layer, LayerStop};
+use lr_lex::{Item, LexFault, LexKind, Lexer};
+use lr_line::{Line, Trouble};
+use lr_rules::{ConfKind, Path};
+use std::alloc::Global;
+
+fn put_stop(stop: LayerStop, out: &mut String) -> Result<(), Trouble> {
+    match stop {
+        LayerStop::Conf(line, kind) => put_conf_fault(line, kind, out),
+        LayerStop::NoBraceAnd(first, line, kind) => {
+            put_conf_fault(first, ConfKind::NoBrace, out)?;
+            put_conf_fault(line, kind, out)
+        }
+        LayerStop::Memory => Err(Trouble::Memory),
+    }
+}
+
+// Takes an item in, and tells its faults.
+fn take(layer: &mut Layer, item: Item, out: &mut String) -> Result<(), Trouble>
+    requires { 0 < length (entered layer.old) }
+    ensures { entered layer.new ≡ entered layer.old }
+{
+    match layer.take(item) {
+        Ok(_) => Ok(()),
+        Err(stop) => put_stop(stop, out),
+    }
+}
+
+// Takes a fault of the lexer in, and tells it.
+fn spoil(layer: &mut Layer, fault: LexFault, out: &mut String) -> Result<(), Trouble>
+    requires { 0 < length (entered layer.old) }
+    ensures { entered layer.new ≡ entered layer.old }
+{
+    if let LexKind::Memory = fault.kind {
+        return Err(Trouble::Memory);
+    }
+    layer.spoil(fault.line);
+    put_lex_fault(fault, out)
+}
+
+// Takes the items in, up to 64.
+fn take_all(lexer: &mut Lexer, layer: &mut Layer, out: &mut String) -> Result<(), Trouble>
+    requires { 0 < length (entered layer.old) }
+    ensures { entered layer.new ≡ entered layer.old }
+{
+    for _ in 0..64 {
+        match lexer.next() {
+            Ok(Some(item)) => take(layer, item, out)?,
+            Ok(None) => return Ok(()),
+            Err(fault) => spoil(layer, fault, out)?,
+        }
+    }
+    Err(Trouble::Odd("a text has too many lines"))
+}
+
+fn close(layer: &mut Layer, out: &mut String) -> Result<(), Trouble>
+    requires { 0 < length (entered layer.old) }
+    ensures { entered layer.new ≡ entered layer.old }
+{
+    match layer.close_file() {
+        Some((line, kind)) => put_conf_fault(line, kind, out),
+        None => Ok(()),
+    }
+}
+
+// Takes a text in, of the file with this name.
+fn read(
+    alloc: Global,
+    layer: &mut Layer,
+    name: &[u8],
+    text: &[u8],
+    out: &mut String,
+) -> Result<(), Trouble>
+    requires files { entered layer.old ≡ [] }
+    requires size { length text.now < 2 ^ 32 }
+    ensures { IfOk result (λ _. entered layer.new ≡ []) }
+{
+    layer.enter(Path::new(alloc, name)?);
+    let mut lexer = Lexer::new(alloc, text);
+    take_all(&mut lexer, layer, out)?;
+    close(layer, out)?;
+    layer.leave();
+    Ok(())
+}
+
+// The faults of the first text as of `/c`, and of the second, where there is one, as of `/d`.
+fn read_both(line: Line, layer: &mut Layer, out: &mut String) -> Result<(), Trouble>
+    requires { entered layer.old ≡ [] }
+{
+    read(line.alloc, layer, b"/c", text_at(line, 1)?, out)?;
+    if line.words.len() > 2 {
+        read(line.alloc, layer, b"/d", text_at(line, 2)?, out)?;
+    }
+    Ok(())
+}
+
+/// The faults of the files, then their notices, then their rules.
+pub fn layer(line: Line, out: &mut String) -> Result<(), Trouble> {
+    let mut layer = Layer::new(line.alloc)?;
+    read_both(line, &mut layer, out)?;
+    let (rules, notices) = layer.finish();
+    put_notices(&notices, out)?;
+    put_rules(&rules, out)
+}

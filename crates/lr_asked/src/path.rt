@@ -1,0 +1,101 @@
+// Paths, texts and lists.
+use crate::values::{put_all, put_yes};
+use lr_line::{Line, Trouble};
+use lr_rules::{Listed, Path, PathFault, Text, TextFault, copy_texts};
+
+fn put_path(made: Result<Path, PathFault>, out: &mut String) -> Result<(), Trouble> {
+    match made {
+        Ok(path) => Ok(out.push_str(path.as_str())?),
+        Err(fault) => Ok(write!(out, "{fault}")?),
+    }
+}
+
+/// The path of the bytes.
+pub fn path(line: Line, out: &mut String) -> Result<(), Trouble> {
+    put_path(Path::new(line.alloc, line.word(1)?), out)
+}
+
+/// The path that the second word names from the first on.
+pub fn word(line: Line, out: &mut String) -> Result<(), Trouble> {
+    let here = line.path(1)?;
+    put_path(Path::from_word(line.alloc, &here, line.word(2)?), out)
+}
+
+/// The directory of the path.
+pub fn parent(line: Line, out: &mut String) -> Result<(), Trouble> {
+    let path = line.path(1)?;
+    let parent = path.parent(line.alloc)?;
+    Ok(out.push_str(parent.as_str())?)
+}
+
+/// The last part of the path, as a text, where its bytes are the same.
+pub fn last(line: Line, out: &mut String) -> Result<(), Trouble> {
+    let path = line.path(1)?;
+    let last = path.last_text(line.alloc)?;
+    if last.bytes() == path.last() {
+        out.push_str(last.as_str())?;
+    }
+    Ok(())
+}
+
+/// What stands under the name in the directory.
+pub fn join(line: Line, out: &mut String) -> Result<(), Trouble> {
+    let path = line.path(1)?;
+    put_path(path.join(line.alloc, line.word(2)?), out)
+}
+
+/// A copy of the path.
+pub fn copy(line: Line, out: &mut String) -> Result<(), Trouble> {
+    let path = line.path(1)?;
+    put_path(Ok(path.copy(line.alloc)?), out)
+}
+
+/// Whether a copy of the first path is the second, and has its bytes.
+pub fn same(line: Line, out: &mut String) -> Result<(), Trouble> {
+    let path = line.path(1)?;
+    let other = line.path(2)?;
+    let copy = path.copy(line.alloc)?;
+    put_yes(copy.is(&other), out)?;
+    out.push_str(" ")?;
+    put_yes(copy.has_bytes(other.bytes()), out)
+}
+
+/// A copy of the text of the bytes.
+pub fn utf8(line: Line, out: &mut String) -> Result<(), Trouble> {
+    match Text::new(line.alloc, line.word(1)?) {
+        Ok(text) => Ok(out.push_str(text.copy(line.alloc)?.as_str())?),
+        Err(fault) => Ok(write!(out, "{fault}")?),
+    }
+}
+
+/// The words for want of memory.
+pub fn starved(_line: Line, out: &mut String) -> Result<(), Trouble> {
+    Ok(write!(out, "{} {}", PathFault::Memory, TextFault::Memory)?)
+}
+
+/// A copy of the texts: how many, and each.
+pub fn texts(line: Line, out: &mut String) -> Result<(), Trouble> {
+    let texts = line.texts()?;
+    let copy = copy_texts(line.alloc, &texts)?;
+    write!(out, "{}:", copy.len())?;
+    put_all(copy.as_slice(), out)
+}
+
+fn put_numbers(numbers: &[u32], out: &mut String) -> Result<(), Trouble> {
+    for number in numbers {
+        write!(out, " {number}")?;
+    }
+    Ok(())
+}
+
+/// A list to which the numbers are added: how many, each as they stand, and each of the vector.
+pub fn list(line: Line, out: &mut String) -> Result<(), Trouble> {
+    let mut list = Listed::new(line.alloc);
+    for at in 1..line.words.len() {
+        list.push(line.small(at)?)?;
+    }
+    write!(out, "{}:", list.len())?;
+    put_numbers(list.as_slice(), out)?;
+    out.push_str(",")?;
+    put_numbers(&list.into_vec(), out)
+}
