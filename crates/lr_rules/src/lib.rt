@@ -21,8 +21,6 @@ mod path;
 mod rule;
 mod rules;
 mod steps;
-#[cfg(test)]
-mod tests;
 mod text;
 
 pub use civil::{Civil, Moment};
