@@ -12,6 +12,3 @@ mod rows;
 pub use directive::Directive;
 pub use keyed::{Keyed, Row};
 pub use rows::directives;
-
-#[cfg(test)]
-mod tests;
