@@ -34,6 +34,3 @@ pub use item::{Item, LexFault, LexKind};
 pub use laws::{whole_line_stands, words_rise};
 pub use lexer::Lexer;
 pub use word::Word;
-
-#[cfg(test)]
-mod tests;
