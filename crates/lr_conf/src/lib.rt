@@ -47,6 +47,3 @@ pub use reading::say;
 pub use said::{Said, closes, has_brace, line_of};
 pub use set::Set;
 pub use stop::{Include, LayerStop};
-
-#[cfg(test)]
-mod tests;
