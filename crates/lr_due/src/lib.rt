@@ -6,10 +6,6 @@
 
 mod answer;
 mod calendar;
-#[cfg(test)]
-mod clock_tests;
-#[cfg(test)]
-mod due_tests;
 mod table;
 mod zone;
 
