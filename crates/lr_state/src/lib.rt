@@ -8,8 +8,6 @@ mod line;
 mod moment;
 mod name;
 mod state;
-#[cfg(test)]
-mod tests;
 mod text;
 mod write;
 
