@@ -21,8 +21,6 @@ mod place;
 mod spot;
 mod stand;
 mod standing;
-#[cfg(test)]
-mod tests;
 
 pub use family::Family;
 pub use kin::are_kin;
