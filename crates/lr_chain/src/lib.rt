@@ -18,8 +18,6 @@ mod plan;
 mod preparing;
 mod ready;
 mod retirement;
-#[cfg(test)]
-mod tests;
 
 pub use chain::{ChainStop, shift, turn};
 pub use laws::{rotation_fits, rotation_turns, steps_of_ready};
