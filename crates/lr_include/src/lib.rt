@@ -28,6 +28,3 @@ pub use laws::{meanings_tell_no_call, readings_change_nothing};
 pub use reading::Reading;
 pub use text::{ReadStop, read_text};
 pub use whole::read_bytes;
-
-#[cfg(test)]
-mod tests;
