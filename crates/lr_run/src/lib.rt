@@ -15,8 +15,6 @@ mod family;
 mod fault;
 mod look;
 mod target;
-#[cfg(test)]
-mod tests;
 mod turning;
 mod whole;
 mod word;
