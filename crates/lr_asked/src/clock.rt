@@ -15,6 +15,14 @@ fn seconds(word: &[u8]) -> Result<i64, Trouble> {
     }
 }
 
+fn rule_zone(line: Line) -> Result<ZoneText, Trouble> {
+    Ok(ZoneText::Rule(Text::new(line.alloc, line.word(3)?)?))
+}
+
+fn bytes_zone(line: Line) -> Result<ZoneText, Trouble> {
+    Ok(ZoneText::Bytes(Listed::from_vec(line.bytes(3)?)))
+}
+
 // `utc`, `rule RULE` or `bytes BYTES`.
 fn zone(line: Line) -> Result<ZoneText, Trouble> {
     let kind = line.word(2)?;
@@ -22,10 +30,10 @@ fn zone(line: Line) -> Result<ZoneText, Trouble> {
         return Ok(ZoneText::Utc);
     }
     if kind == b"rule".as_slice() {
-        return Ok(ZoneText::Rule(Text::new(line.alloc, line.word(3)?)?));
+        return rule_zone(line);
     }
     if kind == b"bytes".as_slice() {
-        return Ok(ZoneText::Bytes(Listed::from_vec(line.bytes(3)?)));
+        return bytes_zone(line);
     }
     Err(Trouble::Odd("no such zone"))
 }
@@ -52,11 +60,16 @@ fn put_stop(stop: ZoneStop, out: &mut String) -> Result<(), Trouble> {
     }
 }
 
-/// The moment of the run, that of the day before and that of an hour before, each as seconds and as the zone shows it.
-pub fn clock(line: Line, out: &mut String) -> Result<(), Trouble> {
-    let zone = zone(line)?;
-    match clock_of(line.alloc, &zone, seconds(line.word(1)?)?) {
+fn put_shown(line: Line, zone: &ZoneText, seconds: i64, out: &mut String) -> Result<(), Trouble> {
+    match clock_of(line.alloc, zone, seconds) {
         Ok(clock) => put_clock(&clock, out),
         Err(stop) => put_stop(stop, out),
     }
+}
+
+/// The moment of the run, that of the day before and that of an hour before, each as seconds and as the zone shows it.
+pub fn clock(line: Line, out: &mut String) -> Result<(), Trouble> {
+    let seconds = seconds(line.word(1)?)?;
+    let zone = zone(line)?;
+    put_shown(line, &zone, seconds, out)
 }

@@ -2,7 +2,7 @@
 use crate::rule::{put_conf_fault, put_notices, put_rules, put_whole};
 use lr_include::{Reading, read_bytes};
 use lr_line::{Line, Trouble};
-use lr_rules::{Fault, Path};
+use lr_rules::{Fault, Path, Rule, Rules};
 
 fn put_fault(fault: &Fault, out: &mut String) -> Result<(), Trouble> {
     match fault {
@@ -28,20 +28,32 @@ fn reading(line: Line) -> Result<Reading, Trouble> {
     Ok(read_bytes(line.alloc, &file, line.word(1)?)?)
 }
 
-/// The faults, then the notices, then the rules.
-pub fn conf(line: Line, out: &mut String) -> Result<(), Trouble> {
-    let reading = reading(line)?;
+fn put_reading(reading: &Reading, out: &mut String) -> Result<(), Trouble> {
     put_faults(reading.faults.as_slice(), out)?;
     put_notices(reading.notices.as_slice(), out)?;
     put_rules(&reading.rules, out)
 }
 
-/// A copy of the rules, with what no line can set so far.
-pub fn copied(line: Line, out: &mut String) -> Result<(), Trouble> {
+/// The faults, then the notices, then the rules.
+pub fn conf(line: Line, out: &mut String) -> Result<(), Trouble> {
     let reading = reading(line)?;
-    let copy = reading.rules.copy(line.alloc)?;
-    for rule in copy.sets.as_slice() {
+    put_reading(&reading, out)
+}
+
+fn put_all_whole(rules: &[Rule], out: &mut String) -> Result<(), Trouble> {
+    for rule in rules {
         put_whole(rule, out)?;
     }
     Ok(())
+}
+
+fn put_copy(line: Line, rules: &Rules, out: &mut String) -> Result<(), Trouble> {
+    let copy = rules.copy(line.alloc)?;
+    put_all_whole(copy.sets.as_slice(), out)
+}
+
+/// A copy of the rules, with what no line can set so far.
+pub fn copied(line: Line, out: &mut String) -> Result<(), Trouble> {
+    let reading = reading(line)?;
+    put_copy(line, &reading.rules, out)
 }

@@ -7,7 +7,7 @@ use crate::rule::{put_conf_fault, put_notices, put_rules};
 use lr_conf::{Layer, LayerStop};
 use lr_lex::{Item, LexFault, LexKind, Lexer};
 use lr_line::{Line, Trouble};
-use lr_rules::{ConfKind, Path};
+use lr_rules::{ConfKind, Notice, Path, Rules};
 use std::alloc::Global;
 
 fn put_stop(stop: LayerStop, out: &mut String) -> Result<(), Trouble> {
@@ -100,11 +100,19 @@ fn read_both(line: Line, layer: &mut Layer, out: &mut String) -> Result<(), Trou
     Ok(())
 }
 
+fn put_both(rules: &Rules, notices: &[Notice], out: &mut String) -> Result<(), Trouble> {
+    put_notices(notices, out)?;
+    put_rules(rules, out)
+}
+
+fn put_made(layer: Layer, out: &mut String) -> Result<(), Trouble> {
+    let (rules, notices) = layer.finish();
+    put_both(&rules, &notices, out)
+}
+
 /// The faults of the files, then their notices, then their rules.
 pub fn layer(line: Line, out: &mut String) -> Result<(), Trouble> {
     let mut layer = Layer::new(line.alloc)?;
     read_both(line, &mut layer, out)?;
-    let (rules, notices) = layer.finish();
-    put_notices(&notices, out)?;
-    put_rules(&rules, out)
+    put_made(layer, out)
 }

@@ -45,36 +45,56 @@ fn put_script(text: &[u8], out: &mut String) -> Result<(), Trouble> {
     Ok(out.push_str(">")?)
 }
 
-fn put_item(item: &Item, out: &mut String) -> Result<(), Trouble> {
+fn put_flags(names: bool, brace: bool, stray: bool, out: &mut String) -> Result<(), Trouble> {
+    put_flag(names, "names", out)?;
+    put_flag(brace, "brace", out)?;
+    put_flag(stray, "stray", out)
+}
+
+fn put_line(line: u32, words: &[Word], out: &mut String) -> Result<(), Trouble> {
+    write!(out, "{line} line")?;
+    put_words(words, out)
+}
+
+fn put_front(line: u32, word: &Word, out: &mut String) -> Result<(), Trouble> {
+    write!(out, "{line} script")?;
+    put_word(word, out)
+}
+
+// The line or the script, without its flags.
+fn put_said(item: &Item, out: &mut String) -> Result<(), Trouble> {
+    match item {
+        Item::Line { words, line, .. } => put_line(*line, words.as_slice(), out),
+        Item::Close { line } => Ok(write!(out, "{line} close")?),
+        Item::Script { word, line, .. } => put_front(*line, word, out),
+    }
+}
+
+fn put_item_flags(item: &Item, out: &mut String) -> Result<(), Trouble> {
     match item {
         Item::Line {
-            words,
             names,
             brace,
             stray,
-            line,
-        } => {
-            write!(out, "{line} line")?;
-            put_words(words.as_slice(), out)?;
-            put_flag(*names, "names", out)?;
-            put_flag(*brace, "brace", out)?;
-            put_flag(*stray, "stray", out)
-        }
-        Item::Close { line } => Ok(write!(out, "{line} close")?),
-        Item::Script {
-            word,
-            text,
-            brace,
-            stray,
-            line,
-        } => {
-            write!(out, "{line} script")?;
-            put_word(word, out)?;
-            put_flag(*brace, "brace", out)?;
-            put_flag(*stray, "stray", out)?;
-            put_script(text.bytes(), out)
-        }
+            ..
+        } => put_flags(*names, *brace, *stray, out),
+        Item::Close { .. } => Ok(()),
+        Item::Script { brace, stray, .. } => put_flags(false, *brace, *stray, out),
     }
+}
+
+fn put_text_of(item: &Item, out: &mut String) -> Result<(), Trouble> {
+    match item {
+        Item::Script { text, .. } => put_script(text.bytes(), out),
+        _ => Ok(()),
+    }
+}
+
+fn put_item(item: &Item, out: &mut String) -> Result<(), Trouble> {
+    put_said(item, out)?;
+    put_item_flags(item, out)?;
+    put_text_of(item, out)?;
+    Ok(out.push_str(";")?)
 }
 
 fn kind_name(kind: LexKind) -> &'static str {
@@ -93,31 +113,30 @@ pub fn put_lex_fault(fault: LexFault, out: &mut String) -> Result<(), Trouble> {
     Ok(write!(out, "{line} {name};")?)
 }
 
-// The end stays the end.
-fn put_end(lexer: &mut Lexer, out: &mut String) -> Result<(), Trouble> {
+// The end stays the end; whether it came.
+fn put_end(lexer: &mut Lexer, out: &mut String) -> Result<bool, Trouble> {
     match lexer.next() {
-        Ok(None) => Ok(()),
-        _ => Ok(out.push_str("went on")?),
+        Ok(None) => {}
+        _ => out.push_str("went on")?,
     }
+    Ok(true)
 }
 
-fn put_next(next: Result<Item, LexFault>, out: &mut String) -> Result<(), Trouble> {
-    match next {
-        Ok(item) => {
-            put_item(&item, out)?;
-            Ok(out.push_str(";")?)
-        }
-        Err(fault) => put_lex_fault(fault, out),
+// What comes next; whether that is the end.
+fn put_next(lexer: &mut Lexer, out: &mut String) -> Result<bool, Trouble> {
+    match lexer.next() {
+        Ok(Some(item)) => put_item(&item, out)?,
+        Ok(None) => return put_end(lexer, out),
+        Err(fault) => put_lex_fault(fault, out)?,
     }
+    Ok(false)
 }
 
 // What comes up to the end, 64 items and faults at most.
 fn put_items(lexer: &mut Lexer, out: &mut String) -> Result<(), Trouble> {
     for _ in 0..64 {
-        match lexer.next() {
-            Ok(Some(item)) => put_next(Ok(item), out)?,
-            Ok(None) => return put_end(lexer, out),
-            Err(fault) => put_next(Err(fault), out)?,
+        if put_next(lexer, out)? {
+            return Ok(());
         }
     }
     Ok(out.push_str("and more")?)

@@ -33,19 +33,22 @@ use std::env;
 use std::process::ExitCode;
 use tell::tell_file;
 
-fn main(rt: HostRuntime) -> Result<ExitCode> {
-    let mut words = env::args(&rt)?;
-    let _program = words.next();
+// Whether all lines of the files that the words name are as they should be.
+fn tell_all(rt: &HostRuntime) -> Result<bool> {
     let mut all = true;
     let mut wrong = false;
-    for word in words {
+    for word in env::args(rt)?.skip(1) {
         if word.as_str() == "-wrong" {
             wrong = true;
-        } else if !tell_file(&rt, word.as_str(), wrong)? {
+        } else if !tell_file(rt, word.as_str(), wrong)? {
             all = false;
         }
     }
-    Ok(if all {
+    Ok(all)
+}
+
+fn main(rt: HostRuntime) -> Result<ExitCode> {
+    Ok(if tell_all(&rt)? {
         ExitCode::SUCCESS
     } else {
         ExitCode::from(1)

@@ -22,8 +22,10 @@ fn put_line(line: Line, fault: &Fault, out: &mut String) -> Result<(), Trouble> 
 
 /// The line of the fault.
 pub fn fault(line: Line, out: &mut String) -> Result<(), Trouble> {
-    let fault = fault_of(line)?;
-    put_line(line, &fault, out)
+    match fault_of(line) {
+        Ok(fault) => put_line(line, &fault, out),
+        Err(trouble) => Err(trouble),
+    }
 }
 
 fn word_of(line: Line) -> Result<Option<Text>, Trouble> {

@@ -11,15 +11,24 @@ fn put_count(count: Count, out: &mut String) -> Result<(), Trouble> {
     }
 }
 
-// Where it stands, its words, and what lines can set of it so far.
-fn put_front(rule: &Rule, out: &mut String) -> Result<(), Trouble> {
+fn put_flags(rule: &Rule, out: &mut String) -> Result<(), Trouble> {
+    out.push_str(if rule.ifempty { "" } else { " notifempty" })?;
+    Ok(out.push_str(if rule.missingok { " missingok" } else { "" })?)
+}
+
+// Where it stands, and its words.
+fn put_words(rule: &Rule, out: &mut String) -> Result<(), Trouble> {
     let file = rule.file.as_str();
     let line = rule.line;
     write!(out, "{file}:{line} rule")?;
-    put_all(rule.words.as_slice(), out)?;
+    put_all(rule.words.as_slice(), out)
+}
+
+// Its words, and what lines can set of it so far.
+fn put_front(rule: &Rule, out: &mut String) -> Result<(), Trouble> {
+    put_words(rule, out)?;
     put_count(rule.count, out)?;
-    out.push_str(if rule.ifempty { "" } else { " notifempty" })?;
-    Ok(out.push_str(if rule.missingok { " missingok" } else { "" })?)
+    put_flags(rule, out)
 }
 
 fn put_rule(rule: &Rule, out: &mut String) -> Result<(), Trouble> {

@@ -57,13 +57,18 @@ fn read_from(line: Line, at: usize) -> Result<State, Trouble> {
     }
 }
 
-/// The moment of the name in the table of the text, or `none`.
-pub fn moment(line: Line, out: &mut String) -> Result<(), Trouble> {
-    let state = read_from(line, 2)?;
-    match state.get(line.word(1)?) {
+fn put_moment_of(state: &State, name: &[u8], out: &mut String) -> Result<(), Trouble> {
+    match state.get(name) {
         Some(civil) => put_moment(&civil, out),
         None => Ok(out.push_str("none")?),
     }
+}
+
+/// The moment of the name in the table of the text, or `none`.
+pub fn moment(line: Line, out: &mut String) -> Result<(), Trouble> {
+    let name = line.word(1)?;
+    let state = read_from(line, 2)?;
+    put_moment_of(&state, name, out)
 }
 
 fn has_bad_byte(name: &[u8]) -> bool
@@ -130,8 +135,9 @@ fn purge_all(state: &mut State, used: &[u8], now: &Civil) {
 
 /// The lines of the text's table, behind the purge at the moment, where only the name is used.
 pub fn purge(line: Line, out: &mut String) -> Result<(), Trouble> {
+    let used = line.word(1)?;
     let now = moment_at(line, 2)?;
     let mut state = read_from(line, 3)?;
-    purge_all(&mut state, line.word(1)?, &now);
+    purge_all(&mut state, used, &now);
     put_lines(&state, out)
 }
