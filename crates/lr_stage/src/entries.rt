@@ -1,7 +1,7 @@
 // What the entries of a journal are, as a text with a line for each.
+use lr_host::{Entry, Kind, Seen};
 use lr_line::put_quoted;
-use lr_host::Entry;
-use lr_rules::{Count, Ended, Path, Rules, Text};
+use lr_rules::{Count, Ended, Moment, Path, Rules, Text};
 use std::alloc::{AllocError, Global};
 
 fn put(into: &mut Vec<u8>, word: &[u8], path: &Path) -> Result<(), AllocError> {
@@ -30,18 +30,49 @@ fn put_count(into: &mut Vec<u8>, alloc: Global, count: Count) -> Result<(), Allo
     into.extend_from_slice(text.as_bytes())
 }
 
-// A begin, with the count of each of its rules.
+// A begin, with its moment in seconds and the count of each of its rules.
 fn put_begin(
     into: &mut Vec<u8>,
     alloc: Global,
     state: &Path,
+    now: &Moment,
     rules: &Rules,
 ) -> Result<(), AllocError> {
     put(into, b"begin", state)?;
+    let seconds = now.seconds;
+    let text = format!(in alloc; " {seconds}")?;
+    into.extend_from_slice(text.as_bytes())?;
     for rule in rules.sets.as_slice() {
         put_count(into, alloc, rule.count)?;
     }
     Ok(())
+}
+
+fn put_file(into: &mut Vec<u8>, alloc: Global, seen: &Seen) -> Result<(), AllocError> {
+    let (size, mtime) = (seen.size, seen.mtime);
+    let text = match seen.mode {
+        Some(mode) => format!(in alloc; " file {size} {mtime} {mode:o}")?,
+        None => format!(in alloc; " file {size} {mtime}")?,
+    };
+    into.extend_from_slice(text.as_bytes())
+}
+
+// A look, with what it saw: of a file the size, the modification moment and the mode.
+fn put_look(
+    into: &mut Vec<u8>,
+    alloc: Global,
+    path: &Path,
+    seen: &Option<Seen>,
+) -> Result<(), AllocError> {
+    put(into, b"look", path)?;
+    let Some(seen) = seen else {
+        return into.extend_from_slice(b" nothing");
+    };
+    match seen.kind {
+        Kind::File => put_file(into, alloc, seen),
+        Kind::Dir => into.extend_from_slice(b" directory"),
+        Kind::Other => into.extend_from_slice(b" other"),
+    }
 }
 
 fn put_ended(into: &mut Vec<u8>, alloc: Global, ended: Ended) -> Result<(), AllocError> {
@@ -72,11 +103,12 @@ fn put_run(
     put_ended(into, alloc, ended)
 }
 
-fn put_entry(into: &mut Vec<u8>, alloc: Global, entry: &Entry) -> Result<(), AllocError> {
+/// Adds what the entry is, as a line without its end.
+pub fn put_entry(into: &mut Vec<u8>, alloc: Global, entry: &Entry) -> Result<(), AllocError> {
     match entry {
-        Entry::Starts { state, rules, .. } => put_begin(into, alloc, state, rules),
+        Entry::Starts { state, now, rules } => put_begin(into, alloc, state, now, rules),
         Entry::Ends => into.extend_from_slice(b"end"),
-        Entry::Look { path, .. } => put(into, b"look", path),
+        Entry::Look { path, seen } => put_look(into, alloc, path, seen),
         Entry::List { dir, .. } => put(into, b"list", dir),
         Entry::Reads { path, .. } => put(into, b"read", path),
         Entry::Renames { from, to } => put_two(into, b"rename", from, to),
@@ -84,7 +116,7 @@ fn put_entry(into: &mut Vec<u8>, alloc: Global, entry: &Entry) -> Result<(), All
         Entry::Appends { path, bytes } => put_bytes(into, b"append", path, bytes.as_slice()),
         Entry::Truncates { path } => put(into, b"truncate", path),
         Entry::Unlinks { path } => put(into, b"unlink", path),
-        Entry::SyncsFile { path } => put(into, b"sync", path),
+        Entry::SyncsFile { path } => put(into, b"sync-file", path),
         Entry::SyncsDir { path } => put(into, b"sync-dir", path),
         Entry::MakesDir { path, .. } => put(into, b"make-dir", path),
         Entry::Runs {
@@ -116,8 +148,8 @@ fn is_quiet(entry: &Entry) -> bool {
     )
 }
 
-// An act of a writer, or a cut.
-fn is_from_outside(entry: &Entry) -> bool {
+/// Whether the entry is an act of a writer, or a cut.
+pub fn is_from_outside(entry: &Entry) -> bool {
     matches!(
         entry,
         Entry::Attach { .. }

@@ -1,30 +1,29 @@
-//! Worked rows as data: the text that rows are written in, the disk in memory that a row begins with, and what a row
-//! wants of it. `docs/ROWS.md` says how rows are written.
+//! The stage of worked rows: the disk in memory that a row begins with, what is done to it, the ways to play a row, and
+//! whether a call left what is wanted. What a row says is that of `lr_row`; what its calls are, its program says, as a
+//! `Caller`.
 //!
-//! Begin with `rows_of`, which reads the rows of a text:
+//! Begin with `judge`, which plays a row in its mode:
 //!
 //! ```text
-//! for row in rows_of(alloc, &text)? { /* host_of(alloc, &row.start)?, the calls of the row, differs(..) */ }
+//! for row in rows_of(alloc, &text)? { /* judge(alloc, &caller, &row)? */ }
 //! ```
 #![tactic(auto)]
 
-mod before;
-mod deeds;
-mod draft;
+mod chance;
+mod compare;
+mod cut;
+mod deed;
+mod differences;
 mod entries;
 mod files;
-mod key;
+mod judge;
+mod modes;
 mod opening;
-mod reader;
-mod row;
-mod start;
-mod want;
-mod wants;
+mod play;
+mod ticks;
 
-pub use deeds::do_deed;
+pub use differences::Differences;
 pub use entries::{changes_text, entries_text};
-pub use files::standing;
-pub use opening::host_of;
-pub use reader::rows_of;
-pub use row::{Call, Deed, Mode, Once, Row, Start, StartFile, Wanted};
-pub use wants::differs;
+pub use judge::{Judgement, Verdict, judge};
+pub use lr_row::{Call, Row, rows_of};
+pub use play::Caller;

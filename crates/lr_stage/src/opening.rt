@@ -1,9 +1,9 @@
 // The disk in memory that a row begins with.
-use crate::row::{Start, StartFile};
-use lr_line::Trouble;
 use lr_host::{OpenFile, Opening};
+use lr_line::Trouble;
 use lr_memhost::{MemFault, MemHost};
-use lr_rules::{Ended, Listed, Path};
+use lr_row::{Start, StartFile};
+use lr_rules::{Listed, Path};
 use std::alloc::{AllocError, Global};
 
 fn paths(alloc: Global, all: &[Path]) -> Result<Listed<Path>, Trouble> {
@@ -14,12 +14,11 @@ fn paths(alloc: Global, all: &[Path]) -> Result<Listed<Path>, Trouble> {
     Ok(paths)
 }
 
-// The bytes of the file, of the configuration at most so many.
-fn bytes_of<'a>(file: &'a StartFile, beginning: Option<usize>) -> &'a [u8] {
-    let bytes = file.bytes.as_slice();
-    match beginning {
-        Some(most) if most < bytes.len() && file.path.has_bytes(b"/etc/c") => &bytes[..most],
-        _ => bytes,
+// The bytes of the file, for the configuration those that stand in their place.
+fn bytes_of<'a>(file: &'a StartFile, conf: Option<&'a [u8]>) -> &'a [u8] {
+    match conf {
+        Some(bytes) if file.path.has_bytes(b"/etc/c") => bytes,
+        _ => file.bytes.as_slice(),
     }
 }
 
@@ -32,35 +31,72 @@ fn open_file(alloc: Global, file: &StartFile, bytes: &[u8]) -> Result<OpenFile, 
     })
 }
 
-fn opening(alloc: Global, start: &Start, beginning: Option<usize>) -> Result<Opening, Trouble> {
-    let mut files = Listed::new(alloc);
-    let mut names = Listed::new(alloc);
-    for file in &start.files {
-        let identity = files.len() as u64;
-        files.push(open_file(alloc, file, bytes_of(file, beginning))?)?;
-        names.push((file.path.copy(alloc)?, identity))?;
-    }
+// Adds an empty file.
+fn add_empty(alloc: Global, opening: &mut Opening, path: &Path) -> Result<(), Trouble> {
+    let identity = opening.files.len() as u64;
+    opening.files.push(OpenFile {
+        bytes: Listed::new(alloc),
+        synced: 0,
+        mtime: 0,
+        mode: None,
+    })?;
+    opening.names.push((path.copy(alloc)?, identity))?;
+    Ok(())
+}
+
+fn add_file(
+    alloc: Global,
+    opening: &mut Opening,
+    file: &StartFile,
+    conf: Option<&[u8]>,
+) -> Result<(), Trouble> {
+    let identity = opening.files.len() as u64;
+    let bytes = bytes_of(file, conf);
+    opening.files.push(open_file(alloc, file, bytes)?)?;
+    opening.names.push((file.path.copy(alloc)?, identity))?;
+    Ok(())
+}
+
+fn opening_without_files(alloc: Global, start: &Start) -> Result<Opening, Trouble> {
     Ok(Opening {
-        files,
+        files: Listed::new(alloc),
         dirs: paths(alloc, &start.dirs)?,
         others: paths(alloc, &start.others)?,
-        names,
+        names: Listed::new(alloc),
         holds: Listed::new(alloc),
     })
 }
 
-fn ends_of(alloc: Global, ends: &[Ended]) -> Result<Vec<Ended>, AllocError> {
-    Vec::from_slice(alloc, ends)
+fn opening(
+    alloc: Global,
+    start: &Start,
+    conf: Option<&[u8]>,
+    more: Option<&Path>,
+) -> Result<Opening, Trouble> {
+    let mut opening = opening_without_files(alloc, start)?;
+    for file in &start.files {
+        add_file(alloc, &mut opening, file, conf)?;
+    }
+    if let Some(path) = more {
+        add_empty(alloc, &mut opening, path)?;
+    }
+    Ok(opening)
 }
 
-/// The host over the disk of the row, with a configuration of at most so many bytes where a number is given.
-pub fn host_of(alloc: Global, start: &Start, beginning: Option<usize>) -> Result<MemHost, Trouble> {
+/// The host over the disk of the row: with these bytes in place of its configuration, and with an empty file more, where
+/// they are given.
+pub fn host_of(
+    alloc: Global,
+    start: &Start,
+    conf: Option<&[u8]>,
+    more: Option<&Path>,
+) -> Result<MemHost, Trouble> {
     let made = MemHost::new(
         alloc,
-        opening(alloc, start, beginning)?,
+        opening(alloc, start, conf, more)?,
         Vec::new(alloc),
         Vec::new(alloc),
-        ends_of(alloc, &start.ends)?,
+        Vec::from_slice(alloc, &start.ends)?,
         start.piece,
     );
     match made {

@@ -1,64 +1,71 @@
 //! Plays worked rows: calls of `lr_cli::logrotate` over disks in memory, with writers, failing calls, stops and cuts.
 //!
 //! Its words name files of rows, which `docs/ROWS.md` says how to write. For each row a line is printed: its name and
-//! `ok`, with how often it was played, or what differs from what the row wants. It ends with 0 where all rows are ok.
-//! Behind the word `-wrong` stand files of rows that want what isn't so: each has to differ.
+//! `ok`, with how often it was played, or what differs from what the row wants, or why it is refused. It ends with 0
+//! where all rows are ok. Behind the word `-wrong` stand files of rows that want what isn't so: each has to differ.
+//! Behind `-refused` stand files of rows that can't be read or played: each has to be refused.
 #![tactic(auto)]
 
-mod modes;
-mod play;
-
 use anyhow::{Result, anyhow};
+use lr_cli::{Zone, logrotate, status};
 use lr_line::Trouble;
-use lr_stage::{Row, rows_of};
-use modes::play_all;
+use lr_memhost::{MemHost, MemSink};
+use lr_rules::Path;
+use lr_stage::{Call, Caller, Row, Verdict, judge, rows_of};
+use std::alloc::Global;
 use std::process::ExitCode;
 use std::{env, fs};
 
-// The line of a row; whether nothing differs.
-fn tell(rt: &HostRuntime, row: &Row) -> Result<bool> {
-    let name = str::from_utf8(&row.name).unwrap_or("?");
-    match play_all(rt.alloc(), row) {
-        Ok(came) if came.differs.is_empty() => {
-            println!(rt; "{name}: ok, {}", came.times)?;
-            Ok(true)
-        }
-        Ok(came) => {
-            let text = str::from_utf8(&came.differs).unwrap_or("?");
-            println!(rt; "{name}: differs{text}")?;
-            Ok(false)
-        }
-        Err(trouble) => {
-            println!(rt; "{name}: {trouble:?}")?;
-            Ok(false)
-        }
+// The calls of the program, made from the directory `/h`.
+struct Program;
+
+impl Caller for Program {
+    fn make(
+        &self,
+        alloc: Global,
+        host: &mut MemHost,
+        call: &Call,
+        out: &mut MemSink,
+    ) -> Result<u8, Trouble> {
+        let here = Path::new(alloc, b"/h")?;
+        let outcome = logrotate(alloc, &call.words, &here, &Zone::Utc, call.now, host, out);
+        Ok(status(&outcome))
     }
 }
 
-// Whether each row is ok, or where they are wrong, each differs.
-fn tell_all(rt: &HostRuntime, rows: &[Row], wrong: bool) -> Result<bool> {
+// Whether each row is judged so.
+fn tell_all(rt: &HostRuntime, rows: &[Row], wanted: Verdict) -> Result<bool> {
     let mut all = true;
     for row in rows {
-        if tell(rt, row)? == wrong {
+        let name = str::from_utf8(&row.name).unwrap_or("?");
+        let judgement = judge(rt.alloc(), &Program, row)?;
+        println!(rt; "{name}: {}", judgement.text)?;
+        if judgement.verdict != wanted {
             all = false;
         }
     }
     Ok(all)
 }
 
-// Whether all rows of the file are as they should be.
-fn tell_file(rt: &HostRuntime, name: &str, wrong: bool) -> Result<bool> {
+// Whether all rows of the file are judged so.
+fn tell_file(rt: &HostRuntime, name: &str, wanted: Verdict) -> Result<bool> {
     let text = fs::read(rt, name)?;
     match rows_of(rt.alloc(), &text) {
-        Ok(rows) => tell_all(rt, &rows, wrong),
+        Ok(rows) => tell_all(rt, &rows, wanted),
         Err(Trouble::Line(line, why)) => {
             println!(rt; "{name}:{line}: {why}")?;
             Ok(false)
         }
-        Err(trouble) => {
-            println!(rt; "{name}: {trouble:?}")?;
-            Ok(false)
-        }
+        Err(_) => Err(anyhow!("no memory")),
+    }
+}
+
+// How the rows are to be judged whose files stand behind the word.
+fn wanted_behind(word: &str) -> Option<Verdict> {
+    match word {
+        "-wrong" => Some(Verdict::Differs),
+        "-refused" => Some(Verdict::Refused),
+        _ => None,
     }
 }
 
@@ -66,13 +73,12 @@ fn main(rt: HostRuntime) -> Result<ExitCode> {
     let mut words = env::args(&rt)?;
     let _program = words.next();
     let mut all = true;
-    let mut wrong = false;
+    let mut wanted = Verdict::Good;
     for word in words {
         println!(rt; "{word}")?;
-        if word.as_str() == "-wrong" {
-            wrong = true;
-        } else if !tell_file(&rt, word.as_str(), wrong)? {
-            all = false;
+        match wanted_behind(word.as_str()) {
+            Some(verdict) => wanted = verdict,
+            None => all = tell_file(&rt, word.as_str(), wanted)? && all,
         }
     }
     Ok(if all {

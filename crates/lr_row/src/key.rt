@@ -1,5 +1,5 @@
 // The words that lines of rows begin with.
-use lr_line::{Line, Trouble};
+use lr_line::Trouble;
 
 /// A line of the opening.
 #[derive(Clone, Copy)]
@@ -26,32 +26,35 @@ pub enum DeedKey {
     Unlock,
     Revive,
     Cut,
+    NoCut,
 }
 
 /// A line of a call, or of how the row is played.
 #[derive(Clone, Copy)]
 pub enum CallKey {
     Call,
-    Words,
+    CallBare,
     Now,
     FailPut,
     EachCallFails,
     EachStopAndCut,
     EachBeginning,
+    RandomConf,
 }
 
 /// A line of what is wanted of a call.
-#[derive(Clone, Copy, PartialEq, Eq)]
+#[derive(Clone, Copy)]
 pub enum WantKey {
     Status,
     Left,
+    LeftDir,
     Once,
     Most,
     Prints,
     PrintsAny,
     ReportAny,
     ChangesNothing,
-    Calls,
+    CallsNothing,
 }
 
 /// What the first word of a line says.
@@ -63,7 +66,7 @@ pub enum Key {
     Want(WantKey),
 }
 
-static KEYS: [(&[u8], Key); 33] = [
+static KEYS: [(&[u8], Key); 36] = [
     (b"file", Key::Start(StartKey::File)),
     (b"conf", Key::Start(StartKey::Conf)),
     (b"dir", Key::Start(StartKey::Dir)),
@@ -81,38 +84,33 @@ static KEYS: [(&[u8], Key); 33] = [
     (b"unlock", Key::Deed(DeedKey::Unlock)),
     (b"revive", Key::Deed(DeedKey::Revive)),
     (b"cut", Key::Deed(DeedKey::Cut)),
+    (b"no-cut", Key::Deed(DeedKey::NoCut)),
     (b"call", Key::Call(CallKey::Call)),
-    (b"words", Key::Call(CallKey::Words)),
+    (b"call-bare", Key::Call(CallKey::CallBare)),
     (b"now", Key::Call(CallKey::Now)),
     (b"fail-put", Key::Call(CallKey::FailPut)),
     (b"each-call-fails", Key::Call(CallKey::EachCallFails)),
     (b"each-stop-and-cut", Key::Call(CallKey::EachStopAndCut)),
     (b"each-beginning", Key::Call(CallKey::EachBeginning)),
+    (b"random-conf", Key::Call(CallKey::RandomConf)),
     (b"status", Key::Want(WantKey::Status)),
     (b"left", Key::Want(WantKey::Left)),
+    (b"left-dir", Key::Want(WantKey::LeftDir)),
     (b"once", Key::Want(WantKey::Once)),
     (b"most", Key::Want(WantKey::Most)),
     (b"prints", Key::Want(WantKey::Prints)),
     (b"prints-any", Key::Want(WantKey::PrintsAny)),
     (b"report-any", Key::Want(WantKey::ReportAny)),
     (b"changes-nothing", Key::Want(WantKey::ChangesNothing)),
-    (b"calls", Key::Want(WantKey::Calls)),
+    (b"calls-nothing", Key::Want(WantKey::CallsNothing)),
 ];
 
-/// The key that the word is, if any.
-pub fn key_of(word: &[u8]) -> Option<Key> {
+/// The key that the word is.
+pub fn key_of(word: &[u8]) -> Result<Key, Trouble> {
     for (text, key) in &KEYS {
         if *text == word {
-            return Some(*key);
+            return Ok(*key);
         }
     }
-    None
-}
-
-/// What the first word of the line says.
-pub fn key(line: Line) -> Result<Key, Trouble> {
-    match key_of(line.word(0)?) {
-        Some(key) => Ok(key),
-        None => Err(Trouble::Odd("no such line")),
-    }
+    Err(Trouble::Odd("no such line"))
 }
