@@ -124,3 +124,12 @@ pub fn texts(alloc: Global, words: &[Vec<u8>]) -> Result<Vec<Text>, Trouble> {
     }
     Ok(texts)
 }
+
+/// The words, copied.
+pub fn copied(alloc: Global, words: &[Vec<u8>]) -> Result<Vec<Vec<u8>>, Trouble> {
+    let mut all = Vec::new(alloc);
+    for word in words {
+        all.push(Vec::from_slice(alloc, word.as_slice())?)?;
+    }
+    Ok(all)
+}

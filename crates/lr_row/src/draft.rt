@@ -1,5 +1,5 @@
 // The row that is being read.
-use crate::cursor::{Cursor, texts};
+use crate::cursor::{Cursor, copied, texts};
 use crate::key::CallKey;
 use crate::row::{Call, Deed, Mode, Row, StartFile, Wanted};
 use crate::start::{NOW, standard_start};
@@ -80,10 +80,24 @@ impl Draft {
     // A call with these words, or with the standard ones.
     fn add_call(&mut self, cursor: &mut Cursor, line: u32) -> Result<(), Trouble> {
         let words = call_words(self.alloc, cursor.rest())?;
-        self.end_call(words, line)
+        self.end_call(words, None, line)
     }
 
-    fn end_call(&mut self, words: Vec<Text>, line: u32) -> Result<(), Trouble> {
+    fn add_bare(&mut self, line: u32) -> Result<(), Trouble> {
+        self.end_call(Vec::new(self.alloc), None, line)
+    }
+
+    fn add_ask(&mut self, cursor: &mut Cursor, line: u32) -> Result<(), Trouble> {
+        let asked = copied(self.alloc, cursor.rest())?;
+        self.end_call(Vec::new(self.alloc), Some(asked), line)
+    }
+
+    fn end_call(
+        &mut self,
+        words: Vec<Text>,
+        asked: Option<Vec<Vec<u8>>>,
+        line: u32,
+    ) -> Result<(), Trouble> {
         let alloc = self.alloc;
         let deeds = std::mem::replace(&mut self.deeds, Vec::new(alloc));
         let failing_puts = std::mem::replace(&mut self.failing_puts, Vec::new(alloc));
@@ -92,6 +106,7 @@ impl Draft {
             deeds,
             failing_puts,
             words,
+            asked,
             now: self.now,
             wanted: standard_wanted(alloc),
         })?;
@@ -118,7 +133,8 @@ impl Draft {
     ) -> Result<(), Trouble> {
         match key {
             CallKey::Call => self.add_call(cursor, line),
-            CallKey::CallBare => self.end_call(Vec::new(cursor.alloc), line),
+            CallKey::CallBare => self.add_bare(line),
+            CallKey::Ask => self.add_ask(cursor, line),
             CallKey::Now => self.set_now(cursor),
             CallKey::FailPut => self.add_failing_put(cursor),
             CallKey::EachCallFails => self.set_fails(cursor),

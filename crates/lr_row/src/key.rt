@@ -11,6 +11,9 @@ pub enum StartKey {
     Other,
     Ends,
     Piece,
+    Name,
+    Nameless,
+    Hold,
 }
 
 /// A line of what is done before a call.
@@ -34,6 +37,7 @@ pub enum DeedKey {
 pub enum CallKey {
     Call,
     CallBare,
+    Ask,
     Now,
     FailPut,
     EachCallFails,
@@ -55,6 +59,7 @@ pub enum WantKey {
     ReportAny,
     ChangesNothing,
     CallsNothing,
+    LeftAlone,
 }
 
 /// What the first word of a line says.
@@ -66,7 +71,7 @@ pub enum Key {
     Want(WantKey),
 }
 
-static KEYS: [(&[u8], Key); 36] = [
+static KEYS: [(&[u8], Key); 41] = [
     (b"file", Key::Start(StartKey::File)),
     (b"conf", Key::Start(StartKey::Conf)),
     (b"dir", Key::Start(StartKey::Dir)),
@@ -74,6 +79,9 @@ static KEYS: [(&[u8], Key); 36] = [
     (b"other", Key::Start(StartKey::Other)),
     (b"ends", Key::Start(StartKey::Ends)),
     (b"piece", Key::Start(StartKey::Piece)),
+    (b"name", Key::Start(StartKey::Name)),
+    (b"nameless", Key::Start(StartKey::Nameless)),
+    (b"hold", Key::Start(StartKey::Hold)),
     (b"fail", Key::Deed(DeedKey::Fail)),
     (b"attach", Key::Deed(DeedKey::Attach)),
     (b"feed", Key::Deed(DeedKey::Feed)),
@@ -87,6 +95,7 @@ static KEYS: [(&[u8], Key); 36] = [
     (b"no-cut", Key::Deed(DeedKey::NoCut)),
     (b"call", Key::Call(CallKey::Call)),
     (b"call-bare", Key::Call(CallKey::CallBare)),
+    (b"ask", Key::Call(CallKey::Ask)),
     (b"now", Key::Call(CallKey::Now)),
     (b"fail-put", Key::Call(CallKey::FailPut)),
     (b"each-call-fails", Key::Call(CallKey::EachCallFails)),
@@ -103,6 +112,7 @@ static KEYS: [(&[u8], Key); 36] = [
     (b"report-any", Key::Want(WantKey::ReportAny)),
     (b"changes-nothing", Key::Want(WantKey::ChangesNothing)),
     (b"calls-nothing", Key::Want(WantKey::CallsNothing)),
+    (b"left-alone", Key::Want(WantKey::LeftAlone)),
 ];
 
 /// The key that the word is.

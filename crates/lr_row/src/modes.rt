@@ -1,6 +1,6 @@
 // The lines of how a row is played.
 use crate::called::span;
-use crate::cursor::Cursor;
+use crate::cursor::{Cursor, copied};
 use crate::draft::Draft;
 use crate::row::{Mode, RandomConf};
 use lr_line::Trouble;
@@ -9,15 +9,11 @@ fn random_conf(cursor: &mut Cursor) -> Result<RandomConf, Trouble> {
     let seed = cursor.number()?;
     let count = cursor.number()?;
     let length = cursor.number()?;
-    let mut parts = Vec::new(cursor.alloc);
-    for word in cursor.rest() {
-        parts.push(Vec::from_slice(cursor.alloc, word.as_slice())?)?;
-    }
     Ok(RandomConf {
         seed,
         count,
         length,
-        parts,
+        parts: copied(cursor.alloc, cursor.rest())?,
     })
 }
 

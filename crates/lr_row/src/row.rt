@@ -17,6 +17,12 @@ pub struct Start {
     pub dirs: Vec<Path>,
     pub others: Vec<Path>,
     pub files: Vec<StartFile>,
+    /// More names of files, by the places of these, counted from 0.
+    pub names: Vec<(Path, u64)>,
+    /// Files without a name; their places are behind those of the others.
+    pub nameless: Vec<Vec<u8>>,
+    /// Which file a writer holds, by its place.
+    pub holds: Vec<(u32, u64)>,
     pub ends: Vec<Ended>,
     pub piece: usize,
 }
@@ -94,6 +100,8 @@ pub struct Wanted {
     pub printed: Option<Vec<u8>>,
     /// All files behind the call. Those in `/etc` that aren't listed stay as they were in the opening.
     pub left: Vec<(Path, Vec<u8>)>,
+    /// No file is looked at, since nothing that the call did, or that came in it, changed one.
+    pub is_alone: bool,
     /// The directories behind the call that weren't in the opening.
     pub dirs: Vec<Path>,
     /// Where it has any, each other file has bytes of one of these.
@@ -112,6 +120,8 @@ pub struct Call {
     pub deeds: Vec<Deed>,
     pub failing_puts: Vec<u64>,
     pub words: Vec<Text>,
+    /// Of a call below the top, in the place of the words: its name and its own words.
+    pub asked: Option<Vec<Vec<u8>>>,
     pub now: i64,
     pub wanted: Wanted,
 }

@@ -33,6 +33,9 @@ pub fn standard_start(alloc: Global) -> Result<Start, Trouble> {
         dirs: standard_dirs(alloc)?,
         others: Vec::new(alloc),
         files: Vec::new(alloc),
+        names: Vec::new(alloc),
+        nameless: Vec::new(alloc),
+        holds: Vec::new(alloc),
         ends: Vec::new(alloc),
         piece: 4096,
     })
@@ -110,6 +113,26 @@ impl Draft {
         Ok(())
     }
 
+    fn add_name(&mut self, cursor: &mut Cursor) -> Result<(), Trouble> {
+        let path = cursor.path()?;
+        let place = cursor.number()?;
+        self.row.start.names.push((path, place))?;
+        Ok(())
+    }
+
+    fn add_nameless(&mut self, cursor: &mut Cursor) -> Result<(), Trouble> {
+        let bytes = cursor.bytes()?;
+        self.row.start.nameless.push(bytes)?;
+        Ok(())
+    }
+
+    fn add_hold(&mut self, cursor: &mut Cursor) -> Result<(), Trouble> {
+        let writer = cursor.small()?;
+        let place = cursor.number()?;
+        self.row.start.holds.push((writer, place))?;
+        Ok(())
+    }
+
     /// Takes a line of the opening.
     pub fn take_start(&mut self, key: StartKey, cursor: &mut Cursor) -> Result<(), Trouble> {
         match key {
@@ -120,6 +143,9 @@ impl Draft {
             StartKey::Other => self.add_other(cursor),
             StartKey::Ends => self.add_end(cursor),
             StartKey::Piece => self.set_piece(cursor),
+            StartKey::Name => self.add_name(cursor),
+            StartKey::Nameless => self.add_nameless(cursor),
+            StartKey::Hold => self.add_hold(cursor),
         }
     }
 }

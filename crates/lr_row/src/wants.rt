@@ -21,6 +21,7 @@ pub fn standard_wanted(alloc: Global) -> Wanted {
         status: Some(0),
         printed: Some(Vec::new(alloc)),
         left: Vec::new(alloc),
+        is_alone: false,
         dirs: Vec::new(alloc),
         once: Vec::new(alloc),
         changes: None,
@@ -87,6 +88,11 @@ impl Wanted {
         Ok(())
     }
 
+    fn leave_alone(&mut self) -> Result<(), Trouble> {
+        self.is_alone = true;
+        Ok(())
+    }
+
     /// Takes a line of what is wanted.
     pub fn take(&mut self, key: WantKey, cursor: &mut Cursor) -> Result<(), Trouble> {
         match key {
@@ -100,6 +106,7 @@ impl Wanted {
             WantKey::ReportAny => self.want_any_report(),
             WantKey::ChangesNothing => self.want_no_changes(cursor.alloc),
             WantKey::CallsNothing => self.want_no_calls(cursor.alloc),
+            WantKey::LeftAlone => self.leave_alone(),
         }
     }
 

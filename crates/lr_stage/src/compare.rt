@@ -1,6 +1,6 @@
 // Whether a call left what is wanted.
 use crate::differences::Differences;
-use crate::entries::{changes_text, entries_text};
+use crate::entries::{changes_text, entries_text, leave_alone};
 use crate::files::{all_paths, has, opening_bytes};
 use crate::ticks::number_of;
 use lr_host::{Entry, Thing};
@@ -258,6 +258,31 @@ fn compare_answer(
     }
 }
 
+fn compare_alone(
+    differences: &mut Differences,
+    host: &MemHost,
+    mark: Mark,
+) -> Result<(), AllocError> {
+    if leave_alone(host.journal().entries.as_slice(), mark.entries) {
+        Ok(())
+    } else {
+        differences.add(b"the disk", b"is changed", b"left alone")
+    }
+}
+
+// All that stands.
+fn compare_all(
+    alloc: Global,
+    differences: &mut Differences,
+    host: &MemHost,
+    wanted: &Wanted,
+    stopped: Option<Stopped>,
+) -> Result<(), Trouble> {
+    let paths = all_paths(alloc, host)?;
+    compare_tree(differences, host, wanted, &paths)?;
+    compare_once(alloc, differences, host, wanted, &paths, stopped)
+}
+
 /// Adds what differs from what is wanted of a call.
 pub fn compare(
     alloc: Global,
@@ -270,7 +295,9 @@ pub fn compare(
 ) -> Result<(), Trouble> {
     compare_answer(differences, wanted, answer)?;
     compare_entries(alloc, differences, host, wanted, mark)?;
-    let paths = all_paths(alloc, host)?;
-    compare_tree(differences, host, wanted, &paths)?;
-    compare_once(alloc, differences, host, wanted, &paths, stopped)
+    if wanted.is_alone {
+        Ok(compare_alone(differences, host, mark)?)
+    } else {
+        compare_all(alloc, differences, host, wanted, stopped)
+    }
 }

@@ -160,6 +160,16 @@ pub fn is_from_outside(entry: &Entry) -> bool {
     )
 }
 
+/// Whether none of the entries behind the first `from` changes anything, be it a writer's or a cut.
+pub fn leave_alone(all: &[Entry], from: usize) -> bool {
+    for (at, entry) in all.iter().enumerate() {
+        if at >= from && !is_quiet(entry) {
+            return false;
+        }
+    }
+    true
+}
+
 /// The calls among the entries behind the first `from`.
 pub fn entries_text(alloc: Global, all: &[Entry], from: usize) -> Result<Vec<u8>, AllocError> {
     let mut text = Vec::new(alloc);

@@ -22,26 +22,45 @@ fn bytes_of<'a>(file: &'a StartFile, conf: Option<&'a [u8]>) -> &'a [u8] {
     }
 }
 
+// How much of the file is synced, where the configuration may be cut off.
+fn synced_of(file: &StartFile, bytes: &[u8]) -> u64 {
+    if bytes.len() < file.bytes.len() {
+        file.synced.min(bytes.len() as u64)
+    } else {
+        file.synced
+    }
+}
+
 fn open_file(alloc: Global, file: &StartFile, bytes: &[u8]) -> Result<OpenFile, AllocError> {
     Ok(OpenFile {
         bytes: Listed::from_vec(Vec::from_slice(alloc, bytes)?),
-        synced: file.synced.min(bytes.len() as u64),
+        synced: synced_of(file, bytes),
         mtime: file.mtime,
         mode: file.mode,
     })
 }
 
-// Adds an empty file.
-fn add_empty(alloc: Global, opening: &mut Opening, path: &Path) -> Result<(), Trouble> {
-    let identity = opening.files.len() as u64;
+// Adds a file without a name.
+fn add_nameless(alloc: Global, opening: &mut Opening, bytes: &[u8]) -> Result<(), Trouble> {
     opening.files.push(OpenFile {
-        bytes: Listed::new(alloc),
-        synced: 0,
+        bytes: Listed::from_vec(Vec::from_slice(alloc, bytes)?),
+        synced: bytes.len() as u64,
         mtime: 0,
         mode: None,
     })?;
-    opening.names.push((path.copy(alloc)?, identity))?;
     Ok(())
+}
+
+fn add_name(alloc: Global, opening: &mut Opening, path: &Path, place: u64) -> Result<(), Trouble> {
+    opening.names.push((path.copy(alloc)?, place))?;
+    Ok(())
+}
+
+// Adds an empty file.
+fn add_empty(alloc: Global, opening: &mut Opening, path: &Path) -> Result<(), Trouble> {
+    let place = opening.files.len() as u64;
+    add_nameless(alloc, opening, b"")?;
+    add_name(alloc, opening, path, place)
 }
 
 fn add_file(
@@ -50,11 +69,10 @@ fn add_file(
     file: &StartFile,
     conf: Option<&[u8]>,
 ) -> Result<(), Trouble> {
-    let identity = opening.files.len() as u64;
+    let place = opening.files.len() as u64;
     let bytes = bytes_of(file, conf);
     opening.files.push(open_file(alloc, file, bytes)?)?;
-    opening.names.push((file.path.copy(alloc)?, identity))?;
-    Ok(())
+    add_name(alloc, opening, &file.path, place)
 }
 
 fn opening_without_files(alloc: Global, start: &Start) -> Result<Opening, Trouble> {
@@ -63,8 +81,19 @@ fn opening_without_files(alloc: Global, start: &Start) -> Result<Opening, Troubl
         dirs: paths(alloc, &start.dirs)?,
         others: paths(alloc, &start.others)?,
         names: Listed::new(alloc),
-        holds: Listed::new(alloc),
+        holds: Listed::from_vec(Vec::from_slice(alloc, &start.holds)?),
     })
+}
+
+// Files without names, and more names.
+fn add_odd(alloc: Global, opening: &mut Opening, start: &Start) -> Result<(), Trouble> {
+    for bytes in &start.nameless {
+        add_nameless(alloc, opening, bytes.as_slice())?;
+    }
+    for (path, place) in &start.names {
+        add_name(alloc, opening, path, *place)?;
+    }
+    Ok(())
 }
 
 fn opening(
@@ -77,6 +106,7 @@ fn opening(
     for file in &start.files {
         add_file(alloc, &mut opening, file, conf)?;
     }
+    add_odd(alloc, &mut opening, start)?;
     if let Some(path) = more {
         add_empty(alloc, &mut opening, path)?;
     }

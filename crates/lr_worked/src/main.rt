@@ -27,6 +27,9 @@ impl Caller for Program {
         call: &Call,
         out: &mut MemSink,
     ) -> Result<u8, Trouble> {
+        if call.asked.is_some() {
+            return Err(Trouble::Odd("no call below the top is made here"));
+        }
         let here = Path::new(alloc, b"/h")?;
         let outcome = logrotate(alloc, &call.words, &here, &Zone::Utc, call.now, host, out);
         Ok(status(&outcome))
