@@ -28,19 +28,22 @@ fn is_kind(word: &[u8]) -> bool {
     false
 }
 
+fn put_path(into: &mut Vec<u8>, path: &[u8]) -> Result<(), Trouble> {
+    into.push(b' ')?;
+    Ok(into.extend_from_slice(path)?)
+}
+
 // Adds a kind and a path; the end of a run has none.
 fn put_call(into: &mut Vec<u8>, cursor: &mut Cursor) -> Result<(), Trouble> {
     let kind = cursor.word()?;
     into.extend_from_slice(kind)?;
     if kind == b"end".as_slice() {
-        return Ok(());
+        Ok(())
+    } else if is_kind(kind) {
+        put_path(into, cursor.word()?)
+    } else {
+        Err(Trouble::Odd("no such kind of call"))
     }
-    if !is_kind(kind) {
-        return Err(Trouble::Odd("no such kind of call"));
-    }
-    into.push(b' ')?;
-    let path = cursor.word()?;
-    Ok(into.extend_from_slice(path)?)
 }
 
 /// Takes a kind, a path and maybe a number.

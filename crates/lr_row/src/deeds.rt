@@ -43,29 +43,49 @@ fn makes_anew(cursor: &mut Cursor) -> Result<What, Trouble> {
     Ok(What::MakesAnew(writer, path, cursor.bytes()?))
 }
 
+fn add_place(kept: &mut Vec<usize>, cursor: &mut Cursor) -> Result<(), Trouble> {
+    let place = cursor.number()? as usize;
+    kept.push(place)?;
+    Ok(())
+}
+
+fn add_places(kept: &mut Vec<usize>, cursor: &mut Cursor) -> Result<(), Trouble> {
+    for _ in 0..cursor.words.len() {
+        if !cursor.is_done() && !cursor.is_next(b"lengths") {
+            add_place(kept, cursor)?;
+        }
+    }
+    Ok(())
+}
+
 fn places(cursor: &mut Cursor) -> Result<Vec<usize>, Trouble> {
     let mut kept = Vec::new(cursor.alloc);
     if cursor.takes(b"kept") {
-        for _ in 0..cursor.words.len() {
-            if cursor.is_done() || cursor.is_next(b"lengths") {
-                return Ok(kept);
-            }
-            kept.push(cursor.number()? as usize)?;
-        }
+        add_places(&mut kept, cursor)?;
     }
     Ok(kept)
+}
+
+fn add_length(lengths: &mut Vec<(Path, u64)>, cursor: &mut Cursor) -> Result<(), Trouble> {
+    let path = cursor.path()?;
+    let length = cursor.number()?;
+    lengths.push((path, length))?;
+    Ok(())
+}
+
+fn add_lengths(lengths: &mut Vec<(Path, u64)>, cursor: &mut Cursor) -> Result<(), Trouble> {
+    for _ in 0..cursor.words.len() {
+        if !cursor.is_done() {
+            add_length(lengths, cursor)?;
+        }
+    }
+    Ok(())
 }
 
 fn lengths(cursor: &mut Cursor) -> Result<Vec<(Path, u64)>, Trouble> {
     let mut lengths = Vec::new(cursor.alloc);
     if cursor.takes(b"lengths") {
-        for _ in 0..cursor.words.len() {
-            if cursor.is_done() {
-                return Ok(lengths);
-            }
-            let path = cursor.path()?;
-            lengths.push((path, cursor.number()?))?;
-        }
+        add_lengths(&mut lengths, cursor)?;
     }
     Ok(lengths)
 }

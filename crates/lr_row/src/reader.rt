@@ -6,6 +6,7 @@ use crate::row::Row;
 use crate::wants::Shown;
 use lr_line::{Trouble, words_of};
 use std::alloc::Global;
+use std::mem::replace;
 
 #[derive(Drop)]
 struct Reader {
@@ -67,12 +68,24 @@ fn take_words(draft: &mut Draft, text: &[u8], number: u32) -> Result<(), Trouble
 }
 
 impl Reader {
-    fn end_row(&mut self) -> Result<(), Trouble> {
-        if let Some(mut draft) = self.draft.take() {
-            draft.end(&self.conf)?;
-            self.rows.push(draft.row)?;
+    fn end_draft(&mut self) -> Result<(), Trouble> {
+        match &mut self.draft {
+            Some(draft) => draft.end(&self.conf),
+            None => Ok(()),
         }
+    }
+
+    fn add_row(&mut self, draft: Draft) -> Result<(), Trouble> {
+        self.rows.push(draft.row)?;
         Ok(())
+    }
+
+    fn end_row(&mut self) -> Result<(), Trouble> {
+        self.end_draft()?;
+        match self.draft.take() {
+            Some(draft) => self.add_row(draft),
+            None => Ok(()),
+        }
     }
 
     fn take_conf(&mut self, text: &[u8]) -> Result<(), Trouble> {
@@ -113,9 +126,13 @@ impl Reader {
         Ok(())
     }
 
+    fn set_draft(&mut self, draft: Draft) {
+        self.draft = Some(draft);
+    }
+
     fn begin_row(&mut self, name: &[u8], number: u32) -> Result<(), Trouble> {
         self.end_row()?;
-        self.draft = Some(empty_draft(self.alloc, name, number)?);
+        self.set_draft(empty_draft(self.alloc, name, number)?);
         self.take_head(number)
     }
 
@@ -158,6 +175,11 @@ impl Reader {
         }
         self.end_row()
     }
+
+    fn read(&mut self, text: &[u8]) -> Result<Vec<Row>, Trouble> {
+        self.take_all(text)?;
+        Ok(replace(&mut self.rows, Vec::new(self.alloc)))
+    }
 }
 
 /// The rows of a text, each with the first fault of its lines; trouble names a line before the first row, or is that of
@@ -170,6 +192,5 @@ pub fn rows_of(alloc: Global, text: &[u8]) -> Result<Vec<Row>, Trouble> {
         draft: None,
         rows: Vec::new(alloc),
     };
-    reader.take_all(text)?;
-    Ok(reader.rows)
+    reader.read(text)
 }

@@ -16,14 +16,14 @@ mod deed;
 mod differences;
 mod entries;
 mod files;
-mod judge;
 mod modes;
 mod opening;
 mod play;
 mod ticks;
+mod verdict;
 
 pub use differences::Differences;
 pub use entries::{changes_text, entries_text};
-pub use judge::{Judgement, Verdict, judge};
 pub use lr_row::{Call, Row, rows_of};
 pub use play::Caller;
+pub use verdict::{Judgement, Verdict, judge};
