@@ -4,5 +4,7 @@ pub mod ListingLemmas
 pub mod OpenedLemmas
 pub mod PairLemmas
 pub mod StateLemmas
-pub mod UndoLemmas
+pub mod StepLemmas
+pub mod TakenLemmas
+pub mod TreeLemmas
 pub mod ValidLemmas

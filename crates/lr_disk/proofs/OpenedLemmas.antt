@@ -1,6 +1,6 @@
 -- The state in memory of an opening.
 use Rattle.std.proofs.Common.{◌≡◌, ℕ, zero, suc, ◌<◌, ◌≤◌, Bool, true, false, cond, ◌||◌, List, [], ◌∷◌, ◌++◌, length, map, All, Some, None, refl, sym, ap, subst, ◌∙◌, arith, bytes_eq, nat_eq}
-use Rattle.std.specs.Prelude.{pos}
+use Rattle.std.specs.Prelude.{pos, vec_capacity}
 use Rattle.std.proofs.lemmas.List.{length-map}
 use Rattle.lr_rules.specs.declared.path.Path.{Path}
 use Rattle.lr_host.specs.declared.thing.Thing.{Thing}
@@ -13,10 +13,12 @@ use Rattle.lr_host.specs.World.{opened, opening_names, opening_file, opening_hol
 use Rattle.lr_disk.specs.declared.state.State.{State}
 use Rattle.lr_disk.specs.declared.file.MemFile.{MemFile}
 use Rattle.lr_disk.specs.Pairs.{keys}
-use Rattle.lr_disk.specs.Names.{named_in, names_of}
+use Rattle.lr_disk.specs.declared.tree.Tree.{Tree}
+use Rattle.lr_disk.specs.Names.{named_in, names_of, has_path}
+use Rattle.lr_disk.specs.Pending.{pending_of, AreKnown}
+use Rattle.lr_disk.specs.Tree.{IsTree, IsOpened}
 use Rattle.lr_disk.specs.State.{Shows, as_open, file_at, hold_in}
 use Rattle.lr_disk.proofs.PairLemmas.{bytes_tell}
-use Rattle.lr_disk.proofs.UndoLemmas.{remembers_settled}
 
 -- the paths of an opening, in their order
 keys_paths : (t : Thing) (ps : List Path) → keys (map (λ p. (p, t)) ps) ≡ ps
@@ -119,15 +121,34 @@ unmade [] id le = refl
 unmade (f ∷ os) zero le = absurd (omega arith)
 unmade (f ∷ os) (suc id) le = unmade os id (omega arith)
 
-pub shows_opened : (s : State) (o : Opening) → s.names.items ≡ names_of o → map as_open s.files.items ≡ o.files → s.holds.items ≡ map (λ h. (h.0, Some h.1)) o.holds → s.undos.items ≡ [] → s.moment ≡ pos 0 → IsValid o → Shows s (opened o)
-shows_opened s o same_names same_files same_holds undos now v = record {
-  named = λ x. ap (λ ns. named_in ns x) same_names ∙ named o.names o.dirs o.others x v.once;
-  once = subst AreDistinct (sym (ap keys same_names ∙ keys_names o)) v.once;
+-- the names of an opening
+pub tree_opened : (o : Opening) (t : Tree) → IsOpened o t → IsValid o → IsTree t
+tree_opened o t i v = record {
+  once = subst AreDistinct (sym (ap keys i.named ∙ keys_names o)) v.once;
+  durable_once = subst AreDistinct (sym (ap keys i.durable ∙ keys_names o)) v.once;
+  within = λ x h. ap (λ ns. has_path ns x) (i.named ∙ sym i.durable) ∙ h;
+  known = subst (λ cs. AreKnown t.durable.items (pending_of cs)) (sym i.changes) tt;
+  no_bound = i.bound;
+  no_rest = i.rest;
+  bound_room = none (vec_capacity t.bound) i.changes;
+  rest_room = none (vec_capacity t.rest) i.changes;
+}
+  where
+    none : (n : ℕ) → t.changes.items ≡ [] → length t.changes.items ≤ n
+    none n e = let l : length t.changes.items ≡ 0 = ap length e in omega arith
+
+pub shows_opened : (s : State) (o : Opening) → IsOpened o s.tree → map as_open s.files.items ≡ o.files → s.holds.items ≡ map (λ h. (h.0, Some h.1)) o.holds → s.moment ≡ pos 0 → IsValid o → Shows s (opened o)
+shows_opened s o i same_files same_holds now v = record {
+  tree = tree_opened o s.tree i v;
+  named = λ x. ap (λ ns. named_in ns x) i.named ∙ named o.names o.dirs o.others x v.once;
+  durable = λ x. ap (λ ns. named_in ns x) i.durable ∙ named o.names o.dirs o.others x v.once;
+  changes = ap pending_of i.changes;
   drawn = sym (length-map s.files.items as_open) ∙ ap length same_files;
   files = λ id lt. files s.files.items o.files same_files id;
   holds = λ u. ap (λ hs. hold_in hs u) same_holds ∙ held o.holds u;
   below = below_opened o v;
+  below_durable = below_opened o v;
+  below_pending = tt;
   unmade = unmade o.files;
   now = now;
-  remembers = remembers_settled (opening_names o) undos (λ x. ap (λ ns. named_in ns x) same_names ∙ named o.names o.dirs o.others x v.once) (below_opened o v);
 }

@@ -1,5 +1,5 @@
 -- Lists of keys and values, of which the first pair with a key counts.
-use Rattle.std.proofs.Common.{◌≡◌, ◌≢◌, ℕ, zero, suc, ◌<◌, Bool, true, false, cond, ◌||◌, List, [], ◌∷◌, ◌++◌, length, get_or, take, refl, ◌∙◌, ap, subst, arith, nat_eq, bytes_eq}
+use Rattle.std.proofs.Common.{◌≡◌, ◌≢◌, ◌⊎◌, inl, inr, ℕ, zero, suc, ◌<◌, Bool, true, false, cond, ◌||◌, List, [], ◌∷◌, ◌++◌, length, get_or, take, refl, ◌∙◌, ap, subst, arith, nat_eq, bytes_eq}
 use Rattle.std.specs.Prelude.{slice_set}
 use Rattle.std.proofs.lemmas.Bool.Decides.{Decides-eqb}
 use Rattle.std.proofs.lemmas.Slice.Eq.{bytes_eq-Decides}
@@ -74,6 +74,27 @@ has_kept eq (p ∷ ps) q x h = by_cases (eq p.0 x) (has eq ps x) (has eq (ps ++ 
     by_cases : (a b c : Bool) → (a || b) ≡ true → (b ≡ true → c ≡ true) → (a || c) ≡ true
     by_cases true b c h f = refl
     by_cases false b c h f = f h
+
+pub has_only : {K V : Type 0} (eq : K → K → Bool) → Tells eq → (ps : List (K × V)) (q : K × V) (x : K) → has eq (ps ++ q ∷ []) x ≡ true → (has eq ps x ≡ true) ⊎ (q.0 ≡ x)
+has_only eq tells [] q x h = inr ((tells q.0 x).0 (go (eq q.0 x) h))
+  where
+    go : (b : Bool) → (b || false) ≡ true → b ≡ true
+    go true h = refl
+    go false h = h
+has_only eq tells (p ∷ ps) q x h = go (eq p.0 x) h (has_only eq tells ps q x)
+  where
+    go : (b : Bool) → (b || has eq (ps ++ q ∷ []) x) ≡ true → (has eq (ps ++ q ∷ []) x ≡ true → (has eq ps x ≡ true) ⊎ (q.0 ≡ x)) → ((b || has eq ps x) ≡ true) ⊎ (q.0 ≡ x)
+    go true h f = inl refl
+    go false h f = f h
+
+-- a key that no pair has has no value
+pub value_lacks : {K V : Type 0} (eq : K → K → Bool) (none : V) (ps : List (K × V)) (x : K) → has eq ps x ≡ false → value_of eq none ps x ≡ none
+value_lacks eq none [] x h = refl
+value_lacks eq none (p ∷ ps) x h = go (eq p.0 x) h (value_lacks eq none ps x)
+  where
+    go : (b : Bool) → (b || has eq ps x) ≡ false → (has eq ps x ≡ false → value_of eq none ps x ≡ none) → cond b p.1 (value_of eq none ps x) ≡ none
+    go true h f = absurd (cc)
+    go false h f = f h
 
 -- a key that no pair has, behind all others
 pub not_in_last : {K V : Type 0} (ps : List (K × V)) (q : K × V) (x : K) → IsNotIn x (keys ps) → x ≢ q.0 → IsNotIn x (keys (ps ++ q ∷ []))

@@ -7,36 +7,58 @@ use Rattle.lr_host.specs.declared.thing.Thing.{Thing}
 use Rattle.lr_host.specs.declared.thing.Thing.TheVariants as thing
 use Rattle.lr_host.specs.declared.entry.Entry.{Entry}
 use Rattle.lr_host.specs.declared.entry.Entry.TheVariants as entry
-use Rattle.lr_host.specs.Lists.{AreDistinct}
-use Rattle.lr_host.specs.World.{World, File, Names, Change, Puts, Moves, Drops, changed, names, names_after, names_but, put, effect, holds_file, is_file, length_of, makes, making, attached, drawn_after, durable_after, pending_after}
+use Rattle.lr_host.specs.World.{World, File, Change, Puts, Moves, Drops, changed, names, names_after, names_kept, kept_at, undone_at, settled, effect, holds_file, is_file, length_of, makes, making, attached, drawn_after, durable_after, pending_after}
+use Rattle.lr_host.specs.Below.{NamesBelow, IsBelow, AllBelow}
 use Rattle.lr_host.specs.Told.{IsTools}
-use Rattle.lr_host.proofs.Names.{put_cases}
+use Rattle.lr_host.proofs.Below.{after_below, kept_below, undone_below, all_more}
+use Rattle.lr_host.proofs.Closed.{changed_alike}
+use Rattle.lr_host.proofs.Places.{synced_names}
 use Rattle.lr_disk.specs.declared.state.State.{State}
 use Rattle.lr_disk.specs.declared.file.MemFile.{MemFile}
-use Rattle.lr_disk.specs.Pairs.{keys}
-use Rattle.lr_disk.specs.Names.{named_in, has_path}
-use Rattle.lr_disk.specs.Undo.{undone, AreBelow, IsChanged, Remembers}
-use Rattle.lr_disk.specs.State.{Shows, IsFiled, as_file, no_file, file_at, file_of, hold_in, fed_file, synced_file, emptied_file, cut_file, made_world}
+use Rattle.lr_disk.specs.Names.{named_in}
+use Rattle.lr_disk.specs.Pending.{pending_of}
+use Rattle.lr_disk.specs.Tree.{IsTree, IsSame, CanChange, IsChanged, IsSynced, IsLeft}
+use Rattle.lr_disk.specs.Lengths.{names_left}
+use Rattle.lr_disk.specs.State.{Shows, IsReady, CanDraw, IsFiled, as_file, no_file, file_at, file_of, hold_in, fed_file, synced_file, emptied_file, cut_file, made_world}
 use Rattle.lr_disk.proofs.PairLemmas.{numbers_tell}
-use Rattle.lr_disk.proofs.UndoLemmas.{changed_agree, remembers_kept, remembers_change, remembers_settled}
+use Rattle.lr_disk.proofs.StepLemmas.{names_alike}
+use Rattle.lr_disk.proofs.TreeLemmas.{same_self}
 
 abbrev same_file : File → File → Type 0
 same_file f g = f ≡ g
 
+-- worlds with the same names
+alike_names : (w v : World) → v.durable ≡ w.durable → v.pending ≡ w.pending → (x : Path) → names v x ≡ names w x
+alike_names w v durable pending x = ap (λ d. names_after d v.pending x) durable ∙ ap (λ p. names_after w.durable p x) pending
+
+-- what a cut leaves of the names
+pub left_names : (s : State) (w : World) (kept : List ℕ) → Shows s w → (x : Path) → names_left s kept x ≡ names_kept w kept x
+left_names s w kept shows x =
+    ap (λ cs. names_after (named_in s.tree.durable.items) (kept_at kept cs) x) shows.changes ∙ names_alike (kept_at kept w.pending) (named_in s.tree.durable.items) w.durable x shows.durable
+
+pub left_below : (w : World) (kept : List ℕ) → NamesBelow w.drawn w.durable → AllBelow w.drawn w.pending → NamesBelow w.drawn (names_kept w kept)
+left_below w kept below pending = after_below w.drawn w.durable (kept_at kept w.pending) (kept_below w.drawn kept w.pending pending) below
+
 -- the same world
-pub shows_kept : (s t : State) (w : World) → Shows s w → ((x : Path) → named_in t.names.items x ≡ named_in s.names.items x) → (AreDistinct (keys s.names.items) → AreDistinct (keys t.names.items)) → ((x : Path) → has_path s.names.items x ≡ true → has_path t.names.items x ≡ true)
-    → map as_file t.files.items ≡ map as_file s.files.items → ((v : ℕ) → hold_in t.holds.items v ≡ hold_in s.holds.items v) → t.undos.items ≡ s.undos.items → t.moment ≡ s.moment → Shows t w
-shows_kept s t w shows named once more files holds undos now = record {
-  named = λ x. named x ∙ shows.named x;
-  once = once shows.once;
+pub shows_kept : (s t : State) (w : World) → Shows s w → IsSame s.tree t.tree → map as_file t.files.items ≡ map as_file s.files.items → ((v : ℕ) → hold_in t.holds.items v ≡ hold_in s.holds.items v) → t.moment ≡ s.moment → Shows t w
+shows_kept s t w shows same files holds now = record {
+  tree = same.tree;
+  named = λ x. same.named x ∙ shows.named x;
+  durable = λ x. same.durable x ∙ shows.durable x;
+  changes = ap pending_of same.changes ∙ shows.changes;
   drawn = sym (length-map t.files.items as_file) ∙ (ap length files ∙ (length-map s.files.items as_file ∙ shows.drawn));
   files = λ id lt. ap (λ fs. get_or fs id no_file) files ∙ shows.files id lt;
   holds = λ v. holds v ∙ shows.holds v;
   below = shows.below;
+  below_durable = shows.below_durable;
+  below_pending = shows.below_pending;
   unmade = shows.unmade;
   now = now ∙ shows.now;
-  remembers = remembers_kept shows.remembers named more undos;
 }
+
+-- the same names
+pub same_names : (s : State) (w : World) → Shows s w → IsSame s.tree s.tree
+same_names s w shows = same_self s.tree shows.tree
 
 pub set_same : (fs : List MemFile) (k : ℕ) (x y : MemFile) → x ≡ get_or fs k x → as_file y ≡ as_file x → map as_file (slice_set fs k y) ≡ map as_file fs
 set_same [] k x y is e = refl
@@ -87,25 +109,25 @@ set_filed fs gs k f x y set lt is made id within = ap (λ l. file_at l id) set �
     go true e = subst (λ j. file_at (slice_set fs k y) j ≡ f (file_at fs j)) ((numbers_tell k id).0 e) (set_here fs k y lt ∙ (made ∙ ap f (sym (file_here fs k x lt is))))
     go false e = set_there fs k id y (λ same. let t : nat_eq k id ≡ true = (numbers_tell k id).1 (sym same) in cc)
 
-pub filed_one : (s t : State) (k : ℕ) (f : File → File) (x y : MemFile) → t.names.items ≡ s.names.items → t.holds.items ≡ s.holds.items → t.moment ≡ s.moment
+pub filed_one : (s t : State) (k : ℕ) (f : File → File) (x y : MemFile) → t.tree ≡ s.tree → t.holds.items ≡ s.holds.items → t.moment ≡ s.moment
     → t.files.items ≡ slice_set s.files.items k y → k < length s.files.items → x ≡ get_or s.files.items k x → as_file y ≡ f (as_file x) → IsFiled f (Some k) s t
-filed_one s t k f x y names holds now set lt is made = record {
-  names = names;
+filed_one s t k f x y tree holds now set lt is made = record {
+  tree = tree;
   holds = holds;
   now = now;
   size = ap length set ∙ length_set s.files.items k y;
   files = set_filed s.files.items t.files.items k f x y set lt is made;
 }
 
-pub filed_as : (s t : State) (o : Option ℕ) (k : ℕ) (f : File → File) (x y : MemFile) → o ≡ Some k → t.names.items ≡ s.names.items → t.holds.items ≡ s.holds.items → t.moment ≡ s.moment
+pub filed_as : (s t : State) (o : Option ℕ) (k : ℕ) (f : File → File) (x y : MemFile) → o ≡ Some k → t.tree ≡ s.tree → t.holds.items ≡ s.holds.items → t.moment ≡ s.moment
     → t.files.items ≡ slice_set s.files.items k y → k < length s.files.items → x ≡ get_or s.files.items k x → as_file y ≡ f (as_file x) → IsFiled f o s t
-filed_as s t o k f x y some names holds now set lt is made = subst (λ p. IsFiled f p s t) (sym some) (filed_one s t k f x y names holds now set lt is made)
+filed_as s t o k f x y some tree holds now set lt is made = subst (λ p. IsFiled f p s t) (sym some) (filed_one s t k f x y tree holds now set lt is made)
 
 -- no file is there
-pub filed_none : (s t : State) (k : ℕ) (f : File → File) → t.names.items ≡ s.names.items → t.holds.items ≡ s.holds.items → t.moment ≡ s.moment
+pub filed_none : (s t : State) (k : ℕ) (f : File → File) → t.tree ≡ s.tree → t.holds.items ≡ s.holds.items → t.moment ≡ s.moment
     → t.files.items ≡ s.files.items → length s.files.items ≤ k → IsFiled f (Some k) s t
-filed_none s t k f names holds now files le = record {
-  names = names;
+filed_none s t k f tree holds now files le = record {
+  tree = tree;
   holds = holds;
   now = now;
   size = ap length files;
@@ -116,23 +138,26 @@ filed_none s t k f names holds now files le = record {
     go id lt true e = absurd (let same : k ≡ id = (numbers_tell k id).0 e in omega arith)
     go id lt false e = refl
 
-pub filed_not : (s t : State) (f : File → File) → t.names.items ≡ s.names.items → t.holds.items ≡ s.holds.items → t.moment ≡ s.moment → t.files.items ≡ s.files.items → IsFiled f None s t
-filed_not s t f names holds now files = record { names = names; holds = holds; now = now; size = ap length files; files = λ id lt. ap (λ l. file_at l id) files }
+pub filed_not : (s t : State) (f : File → File) → t.tree ≡ s.tree → t.holds.items ≡ s.holds.items → t.moment ≡ s.moment → t.files.items ≡ s.files.items → IsFiled f None s t
+filed_not s t f tree holds now files = record { tree = tree; holds = holds; now = now; size = ap length files; files = λ id lt. ap (λ l. file_at l id) files }
 
--- A file changed, and what is remembered was seen to.
+-- A file changed.
 pub shows_filed : (s t : State) (w v : World) (f : File → File) (o p : Option ℕ) → Shows s w → IsFiled f o s t → o ≡ p → v.drawn ≡ w.drawn
     → ((id : ℕ) → v.files id ≡ cond (holds_file p id) (f (w.files id)) (w.files id)) → ((id : ℕ) → (v.files id).mode ≡ (w.files id).mode)
-    → ((x : Path) → names v x ≡ names w x) → ((u : ℕ) → v.holds u ≡ w.holds u) → v.now ≡ w.now → Remembers t.names.items t.undos.items v.durable v.pending v.drawn → Shows t v
-shows_filed s t w v f o p shows filed same drawn files mode named holds now remembers = record {
-  named = λ x. ap (λ ns. named_in ns x) filed.names ∙ (shows.named x ∙ sym (named x));
-  once = subst (λ ns. AreDistinct (keys ns)) (sym filed.names) shows.once;
+    → v.durable ≡ w.durable → v.pending ≡ w.pending → ((u : ℕ) → v.holds u ≡ w.holds u) → v.now ≡ w.now → Shows t v
+shows_filed s t w v f o p shows filed same drawn files mode durable pending holds now = record {
+  tree = subst IsTree (sym filed.tree) shows.tree;
+  named = λ x. ap (λ r. named_in r.names.items x) filed.tree ∙ (shows.named x ∙ sym (alike_names w v durable pending x));
+  durable = λ x. ap (λ r. named_in r.durable.items x) filed.tree ∙ (shows.durable x ∙ sym (ap (λ d. d x) durable));
+  changes = ap (λ r. pending_of r.changes.items) filed.tree ∙ (shows.changes ∙ sym pending);
   drawn = filed.size ∙ (shows.drawn ∙ sym drawn);
   files = λ id lt. go id (subst (λ n. id < n) drawn lt) ∙ sym (files id);
   holds = λ u. ap (λ hs. hold_in hs u) filed.holds ∙ (shows.holds u ∙ sym (holds u));
-  below = λ x g e. subst (λ n. g < n) (sym drawn) (shows.below x g (sym (named x) ∙ e));
+  below = λ x g e. subst (λ n. g < n) (sym drawn) (shows.below x g (sym (alike_names w v durable pending x) ∙ e));
+  below_durable = subst (λ n. NamesBelow n v.durable) (sym drawn) (subst (NamesBelow w.drawn) (sym durable) shows.below_durable);
+  below_pending = subst (λ n. AllBelow n v.pending) (sym drawn) (subst (AllBelow w.drawn) (sym pending) shows.below_pending);
   unmade = λ id le. mode id ∙ shows.unmade id (subst (λ n. n ≤ id) drawn le);
   now = filed.now ∙ (shows.now ∙ sym now);
-  remembers = remembers;
 }
   where
     go : (id : ℕ) → id < w.drawn → file_at t.files.items id ≡ cond (holds_file p id) (f (w.files id)) (w.files id)
@@ -140,15 +165,6 @@ shows_filed s t w v f o p shows filed same drawn files mode named holds now reme
         filed.files id (subst (λ n. id < n) (sym shows.drawn) lt)
         ∙ (ap (λ q. cond (holds_file q id) (f (file_at s.files.items id)) (file_at s.files.items id)) same
         ∙ ap (λ g. cond (holds_file p id) (f g) g) (shows.files id lt))
-
--- what was remembered is so still
-still_remembers : (s t : State) (w : World) (f : File → File) (o : Option ℕ) → Shows s w → IsFiled f o s t → t.undos.items ≡ s.undos.items → Remembers t.names.items t.undos.items w.durable w.pending w.drawn
-still_remembers s t w f o shows filed undos =
-    remembers_kept shows.remembers (λ x. ap (λ ns. named_in ns x) filed.names) (λ x h. subst (λ ns. has_path ns x ≡ true) (sym filed.names) h) undos
-
-settled_remembers : (s t : State) (w : World) (f : File → File) (o : Option ℕ) → Shows s w → IsFiled f o s t → t.undos.items ≡ [] → Remembers t.names.items t.undos.items (names w) [] w.drawn
-settled_remembers s t w f o shows filed undos =
-    remembers_settled (names w) undos (λ x. ap (λ ns. named_in ns x) filed.names ∙ shows.named x) shows.below
 
 fed_is : (b : Bool) (f : File) (bytes : List ℕ) (at : ℤ) → same_file (record { bytes = cond b (f.bytes ++ bytes) f.bytes; synced = f.synced; mtime = cond b at f.mtime; mode = f.mode }) (cond b (fed_file bytes at f) f)
 fed_is true f bytes at = refl
@@ -169,109 +185,127 @@ is_file_of thing.Directory id = refl
 is_file_of thing.Other id = refl
 
 -- the entries of files
-pub shows_fed : (s t : State) (w : World) (writer : ℕ) (bytes : List ℕ) (at : ℤ) → Shows s w → IsFiled (fed_file bytes at) (hold_in s.holds.items writer) s t → t.undos.items ≡ s.undos.items → Shows t (effect w (entry.Feed writer bytes at))
-shows_fed s t w writer bytes at shows filed undos =
+pub shows_fed : (s t : State) (w : World) (writer : ℕ) (bytes : List ℕ) (at : ℤ) → Shows s w → IsFiled (fed_file bytes at) (hold_in s.holds.items writer) s t → Shows t (effect w (entry.Feed writer bytes at))
+shows_fed s t w writer bytes at shows filed =
     shows_filed s t w (effect w (entry.Feed writer bytes at)) (fed_file bytes at) (hold_in s.holds.items writer) (w.holds writer) shows filed (shows.holds writer) refl
-    (λ id. fed_is (holds_file (w.holds writer) id) (w.files id) bytes at) (λ id. refl) (λ x. refl) (λ u. refl) refl (still_remembers s t w (fed_file bytes at) (hold_in s.holds.items writer) shows filed undos)
+    (λ id. fed_is (holds_file (w.holds writer) id) (w.files id) bytes at) (λ id. refl) refl refl (λ u. refl) refl
 
-pub shows_flushed : (s t : State) (w : World) (writer : ℕ) → Shows s w → IsFiled synced_file (hold_in s.holds.items writer) s t → t.undos.items ≡ [] → Shows t (effect w (entry.Flush writer))
-shows_flushed s t w writer shows filed undos =
+pub shows_flushed : (s t : State) (w : World) (writer : ℕ) → Shows s w → IsFiled synced_file (hold_in s.holds.items writer) s t → Shows t (effect w (entry.Flush writer))
+shows_flushed s t w writer shows filed =
     shows_filed s t w (effect w (entry.Flush writer)) synced_file (hold_in s.holds.items writer) (w.holds writer) shows filed (shows.holds writer) refl
-    (λ id. synced_is (holds_file (w.holds writer) id) (w.files id)) (λ id. refl) (λ x. refl) (λ u. refl) refl (settled_remembers s t w synced_file (hold_in s.holds.items writer) shows filed undos)
+    (λ id. synced_is (holds_file (w.holds writer) id) (w.files id)) (λ id. refl) refl refl (λ u. refl) refl
 
-pub shows_appended : (s t : State) (w : World) (x : Path) (bytes : List ℕ) → Shows s w → IsFiled (fed_file bytes s.moment) (file_of (named_in s.names.items x)) s t → t.undos.items ≡ s.undos.items → Shows t (effect w (entry.Appends x bytes))
-shows_appended s t w x bytes shows filed undos =
-    shows_filed s t w (effect w (entry.Appends x bytes)) (fed_file bytes w.now) (file_of (named_in s.names.items x)) (file_of (names w x)) shows
-    (subst (λ at. IsFiled (fed_file bytes at) (file_of (named_in s.names.items x)) s t) shows.now filed) (ap file_of (shows.named x)) refl
+pub shows_appended : (s t : State) (w : World) (x : Path) (bytes : List ℕ) → Shows s w → IsFiled (fed_file bytes s.moment) (file_of (named_in s.tree.names.items x)) s t → Shows t (effect w (entry.Appends x bytes))
+shows_appended s t w x bytes shows filed =
+    shows_filed s t w (effect w (entry.Appends x bytes)) (fed_file bytes w.now) (file_of (named_in s.tree.names.items x)) (file_of (names w x)) shows
+    (subst (λ at. IsFiled (fed_file bytes at) (file_of (named_in s.tree.names.items x)) s t) shows.now filed) (ap file_of (shows.named x)) refl
     (λ id. subst (λ b. same_file (record { bytes = cond b ((w.files id).bytes ++ bytes) (w.files id).bytes; synced = (w.files id).synced; mtime = cond b w.now (w.files id).mtime; mode = (w.files id).mode }) (cond (holds_file (file_of (names w x)) id) (fed_file bytes w.now (w.files id)) (w.files id)))
     (sym (is_file_of (names w x) id)) (fed_is (holds_file (file_of (names w x)) id) (w.files id) bytes w.now))
-    (λ id. refl) (λ x. refl) (λ u. refl) refl (still_remembers s t w (fed_file bytes s.moment) (file_of (named_in s.names.items x)) shows filed undos)
+    (λ id. refl) refl refl (λ u. refl) refl
 
-pub shows_emptied : (s t : State) (w : World) (x : Path) → Shows s w → IsFiled (emptied_file s.moment) (file_of (named_in s.names.items x)) s t → t.undos.items ≡ s.undos.items → Shows t (effect w (entry.Truncates x))
-shows_emptied s t w x shows filed undos =
-    shows_filed s t w (effect w (entry.Truncates x)) (emptied_file w.now) (file_of (named_in s.names.items x)) (file_of (names w x)) shows
-    (subst (λ at. IsFiled (emptied_file at) (file_of (named_in s.names.items x)) s t) shows.now filed) (ap file_of (shows.named x)) refl
+pub shows_emptied : (s t : State) (w : World) (x : Path) → Shows s w → IsFiled (emptied_file s.moment) (file_of (named_in s.tree.names.items x)) s t → Shows t (effect w (entry.Truncates x))
+shows_emptied s t w x shows filed =
+    shows_filed s t w (effect w (entry.Truncates x)) (emptied_file w.now) (file_of (named_in s.tree.names.items x)) (file_of (names w x)) shows
+    (subst (λ at. IsFiled (emptied_file at) (file_of (named_in s.tree.names.items x)) s t) shows.now filed) (ap file_of (shows.named x)) refl
     (λ id. subst (λ b. same_file (record { bytes = cond b [] (w.files id).bytes; synced = cond b 0 (w.files id).synced; mtime = cond b w.now (w.files id).mtime; mode = (w.files id).mode }) (cond (holds_file (file_of (names w x)) id) (emptied_file w.now (w.files id)) (w.files id)))
     (sym (is_file_of (names w x) id)) (emptied_is (holds_file (file_of (names w x)) id) (w.files id) w.now))
-    (λ id. refl) (λ x. refl) (λ u. refl) refl (still_remembers s t w (emptied_file s.moment) (file_of (named_in s.names.items x)) shows filed undos)
+    (λ id. refl) refl refl (λ u. refl) refl
 
-pub shows_synced : (s t : State) (w : World) (x : Path) → Shows s w → IsFiled synced_file (file_of (named_in s.names.items x)) s t → t.undos.items ≡ [] → Shows t (effect w (entry.SyncsFile x))
-shows_synced s t w x shows filed undos =
-    shows_filed s t w (effect w (entry.SyncsFile x)) synced_file (file_of (named_in s.names.items x)) (file_of (names w x)) shows filed (ap file_of (shows.named x)) refl
+pub shows_synced : (s t : State) (w : World) (x : Path) → Shows s w → IsFiled synced_file (file_of (named_in s.tree.names.items x)) s t → Shows t (effect w (entry.SyncsFile x))
+shows_synced s t w x shows filed =
+    shows_filed s t w (effect w (entry.SyncsFile x)) synced_file (file_of (named_in s.tree.names.items x)) (file_of (names w x)) shows filed (ap file_of (shows.named x)) refl
     (λ id. subst (λ b. same_file (record { bytes = (w.files id).bytes; synced = cond b (length (w.files id).bytes) (w.files id).synced; mtime = (w.files id).mtime; mode = (w.files id).mode }) (cond (holds_file (file_of (names w x)) id) (synced_file (w.files id)) (w.files id)))
     (sym (is_file_of (names w x) id)) (synced_is (holds_file (file_of (names w x)) id) (w.files id)))
-    (λ id. refl) (λ x. refl) (λ u. refl) refl (settled_remembers s t w synced_file (file_of (named_in s.names.items x)) shows filed undos)
+    (λ id. refl) refl refl (λ u. refl) refl
 
-pub shows_settled : (s t : State) (w : World) (x : Path) → Shows s w → IsFiled synced_file None s t → t.undos.items ≡ [] → Shows t (effect w (entry.SyncsDir x))
-shows_settled s t w x shows filed undos =
-    shows_filed s t w (effect w (entry.SyncsDir x)) synced_file None None shows filed refl refl (λ id. refl) (λ id. refl) (λ x. refl) (λ u. refl) refl (settled_remembers s t w synced_file None shows filed undos)
+-- A directory was synced.
+pub shows_settled : (s t : State) (w : World) (dir : Path) → Shows s w → IsSynced dir s.tree t.tree → t.files.items ≡ s.files.items → t.holds.items ≡ s.holds.items → t.moment ≡ s.moment → Shows t (effect w (entry.SyncsDir dir))
+shows_settled s t w dir shows y files holds now = record {
+  tree = y.tree;
+  named = λ x. ap (λ ns. named_in ns x) y.named ∙ (shows.named x ∙ sym (synced_names w dir x));
+  durable = λ x. y.durable x ∙ (ap (λ cs. names_after (named_in s.tree.durable.items) (kept_at (settled dir [] cs) cs) x) shows.changes
+      ∙ names_alike (kept_at (settled dir [] w.pending) w.pending) (named_in s.tree.durable.items) w.durable x shows.durable);
+  changes = y.changes ∙ ap (λ cs. undone_at (settled dir [] cs) cs) shows.changes;
+  drawn = ap length files ∙ shows.drawn;
+  files = λ id lt. ap (λ l. file_at l id) files ∙ shows.files id lt;
+  holds = λ v. ap (λ hs. hold_in hs v) holds ∙ shows.holds v;
+  below = λ x g e. shows.below x g (sym (synced_names w dir x) ∙ e);
+  below_durable = left_below w (settled dir [] w.pending) shows.below_durable shows.below_pending;
+  below_pending = undone_below w.drawn (settled dir [] w.pending) w.pending shows.below_pending;
+  unmade = shows.unmade;
+  now = now ∙ shows.now;
+}
 
 -- One change of names.
-pub shows_changed : (c : Change) (s t : State) (w v : World) → Shows s w → IsChanged (changed c) s.names.items s.undos.items t.names.items t.undos.items → v.durable ≡ w.durable → v.pending ≡ c ∷ w.pending → w.drawn ≤ v.drawn
+pub shows_changed : (c : Change) (s t : State) (w v : World) → Shows s w → IsChanged c s.tree t.tree → v.durable ≡ w.durable → v.pending ≡ c ∷ w.pending → w.drawn ≤ v.drawn → IsBelow v.drawn c
     → length t.files.items ≡ v.drawn → ((id : ℕ) → id < v.drawn → file_at t.files.items id ≡ v.files id) → ((u : ℕ) → hold_in t.holds.items u ≡ v.holds u) → t.moment ≡ v.now
-    → AreBelow (changed c (names w)) v.drawn → ((id : ℕ) → v.drawn ≤ id → (v.files id).mode ≡ None) → Shows t v
-shows_changed c s t w v shows i durable pending le size files holds now below unmade = record {
-  named = λ y. here y ∙ sym (names_are y);
-  once = subst AreDistinct (sym i.keys_same) shows.once;
+    → ((id : ℕ) → v.drawn ≤ id → (v.files id).mode ≡ None) → Shows t v
+shows_changed c s t w v shows i durable pending le below size files holds now unmade = record {
+  tree = i.tree;
+  named = λ y. i.named y ∙ (changed_alike c (named_in s.tree.names.items) (names w) y (λ x t. shows.named x) (shows.named y) ∙ sym (names_are y));
+  durable = λ x. ap (λ ns. named_in ns x) i.durable ∙ (shows.durable x ∙ sym (ap (λ d. d x) durable));
+  changes = i.changes ∙ (ap (λ cs. c ∷ cs) shows.changes ∙ sym pending);
   drawn = size;
   files = files;
   holds = holds;
-  below = λ y g e. below y g (sym (names_are y) ∙ e);
+  below = after_below v.drawn v.durable v.pending below_changes below_names;
+  below_durable = below_names;
+  below_pending = below_changes;
   unmade = unmade;
   now = now;
-  remembers = subst (λ d. Remembers t.names.items t.undos.items d v.pending v.drawn) (sym durable) (subst (λ p. Remembers t.names.items t.undos.items w.durable p v.drawn) (sym pending) (remembers_change shows.remembers i le below));
 }
   where
-    here : (y : Path) → named_in t.names.items y ≡ changed c (names w) y
-    here y = i.named y ∙ changed_agree c (named_in s.names.items) (names w) shows.named y
-
     names_are : (y : Path) → names v y ≡ changed c (names w) y
     names_are y = ap (λ d. names_after d v.pending y) durable ∙ ap (λ p. names_after w.durable p y) pending
 
--- one name put
-pub below_put : (n : Names) (x : Path) (t : Thing) (count : ℕ) → AreBelow n count → ((g : ℕ) → t ≡ thing.File g → g < count) → AreBelow (put n x t) count
-below_put n x t count below h y g e = ⊎_elim (λ here. h g here.1) (λ there. below y g there.1) (put_cases n x t y (thing.File g) e)
+    more : (g : ℕ) → g < w.drawn → g < v.drawn
+    more g lt = omega arith
+
+    below_names : NamesBelow v.drawn v.durable
+    below_names x g e = more g (shows.below_durable x g (sym (ap (λ d. d x) durable) ∙ e))
+
+    below_changes : AllBelow v.drawn v.pending
+    below_changes = subst (AllBelow v.drawn) (sym pending) (below, all_more w.drawn v.drawn w.pending le shows.below_pending)
 
 -- a change of names alone
-shows_named : (c : Change) (s t : State) (w v : World) → Shows s w → IsChanged (changed c) s.names.items s.undos.items t.names.items t.undos.items → v.durable ≡ w.durable → v.pending ≡ c ∷ w.pending → v.drawn ≡ w.drawn
+shows_named : (c : Change) (s t : State) (w v : World) → Shows s w → IsChanged c s.tree t.tree → v.durable ≡ w.durable → v.pending ≡ c ∷ w.pending → v.drawn ≡ w.drawn → IsBelow w.drawn c
     → ((id : ℕ) → v.files id ≡ w.files id) → ((u : ℕ) → v.holds u ≡ w.holds u) → v.now ≡ w.now
-    → t.files.items ≡ s.files.items → t.holds.items ≡ s.holds.items → t.moment ≡ s.moment → AreBelow (changed c (names w)) w.drawn → Shows t v
-shows_named c s t w v shows i durable pending drawn files holds now files_same holds_same now_same below =
-    shows_changed c s t w v shows i durable pending (omega arith) (ap length files_same ∙ (shows.drawn ∙ sym drawn))
+    → t.files.items ≡ s.files.items → t.holds.items ≡ s.holds.items → t.moment ≡ s.moment → Shows t v
+shows_named c s t w v shows i durable pending drawn below files holds now files_same holds_same now_same =
+    shows_changed c s t w v shows i durable pending (omega arith) (subst (λ d. IsBelow d c) (sym drawn) below) (ap length files_same ∙ (shows.drawn ∙ sym drawn))
     (λ id lt. ap (λ l. file_at l id) files_same ∙ (shows.files id (subst (λ n. id < n) drawn lt) ∙ sym (files id))) (λ u. ap (λ hs. hold_in hs u) holds_same ∙ (shows.holds u ∙ sym (holds u))) (now_same ∙ (shows.now ∙ sym now))
-    (subst (AreBelow (changed c (names w))) (sym drawn) below) (λ id le. ap (λ f. f.mode) (files id) ∙ shows.unmade id (subst (λ n. n ≤ id) drawn le))
+    (λ id le. ap (λ f. f.mode) (files id) ∙ shows.unmade id (subst (λ n. n ≤ id) drawn le))
 
 none_more : (n : ℕ) → n + 0 ≡ n
 none_more n = omega arith
 
-pub shows_moved : (s t : State) (w : World) (from to : Path) → Shows s w → IsChanged (changed (Moves from to)) s.names.items s.undos.items t.names.items t.undos.items
+pub shows_moved : (s t : State) (w : World) (from to : Path) → Shows s w → IsChanged (Moves from to) s.tree t.tree
     → t.files.items ≡ s.files.items → t.holds.items ≡ s.holds.items → t.moment ≡ s.moment → Shows t (effect w (entry.Renames from to))
 shows_moved s t w from to shows i files holds now =
-    shows_named (Moves from to) s t w (effect w (entry.Renames from to)) shows i refl refl (none_more w.drawn) (λ id. refl) (λ u. refl) refl files holds now
-    (below_put (put (names w) from thing.Nothing) to (names w from) w.drawn (below_put (names w) from thing.Nothing w.drawn shows.below (λ g e. absurd (cc))) (λ g e. shows.below from g e))
+    shows_named (Moves from to) s t w (effect w (entry.Renames from to)) shows i refl refl (none_more w.drawn) tt (λ id. refl) (λ u. refl) refl files holds now
 
-pub shows_unlinked : (s t : State) (w : World) (x : Path) → Shows s w → IsChanged (changed (Puts x thing.Nothing)) s.names.items s.undos.items t.names.items t.undos.items
+pub shows_unlinked : (s t : State) (w : World) (x : Path) → Shows s w → IsChanged (Drops x) s.tree t.tree
     → t.files.items ≡ s.files.items → t.holds.items ≡ s.holds.items → t.moment ≡ s.moment → Shows t (effect w (entry.Unlinks x))
 shows_unlinked s t w x shows i files holds now =
-    shows_named (Drops x) s t w (effect w (entry.Unlinks x)) shows i refl refl (none_more w.drawn) (λ id. refl) (λ u. refl) refl files holds now
-    (below_put (names w) x thing.Nothing w.drawn shows.below (λ g e. absurd (cc)))
+    shows_named (Drops x) s t w (effect w (entry.Unlinks x)) shows i refl refl (none_more w.drawn) tt (λ id. refl) (λ u. refl) refl files holds now
 
-pub shows_directory : (s t : State) (w : World) (x : Path) (mode : Option ℕ) → Shows s w → IsChanged (changed (Puts x thing.Directory)) s.names.items s.undos.items t.names.items t.undos.items
+pub shows_directory : (s t : State) (w : World) (x : Path) (mode : Option ℕ) → Shows s w → IsChanged (Puts x thing.Directory) s.tree t.tree
     → t.files.items ≡ s.files.items → t.holds.items ≡ s.holds.items → t.moment ≡ s.moment → Shows t (effect w (entry.MakesDir x mode))
 shows_directory s t w x mode shows i files holds now =
-    shows_named (Puts x thing.Directory) s t w (effect w (entry.MakesDir x mode)) shows i refl refl (none_more w.drawn) (λ id. refl) (λ u. refl) refl files holds now
-    (below_put (names w) x thing.Directory w.drawn shows.below (λ g e. absurd (cc)))
+    shows_named (Puts x thing.Directory) s t w (effect w (entry.MakesDir x mode)) shows i refl refl (none_more w.drawn) tt (λ id. refl) (λ u. refl) refl files holds now
 
 -- A file made.
-pub shows_made : (s t : State) (w : World) (x : Path) (at : ℤ) (mode : Option ℕ) (f : MemFile) → Shows s w → IsChanged (changed (Puts x (thing.File (length s.files.items)))) s.names.items s.undos.items t.names.items t.undos.items
+pub shows_made : (s t : State) (w : World) (x : Path) (at : ℤ) (mode : Option ℕ) (f : MemFile) → Shows s w → IsChanged (Puts x (thing.File (length s.files.items))) s.tree t.tree
     → t.files.items ≡ s.files.items ++ f ∷ [] → as_file f ≡ record { bytes = []; synced = 0; mtime = at; mode = mode } → t.holds.items ≡ s.holds.items → t.moment ≡ s.moment → Shows t (made_world w x at mode)
 shows_made s t w x at mode f shows i files new holds now =
     shows_changed (Puts x (thing.File w.drawn)) s t w (made_world w x at mode) shows
-    (subst (λ d. IsChanged (changed (Puts x (thing.File d))) s.names.items s.undos.items t.names.items t.undos.items) shows.drawn i) refl refl (omega arith)
+    (subst (λ d. IsChanged (Puts x (thing.File d)) s.tree t.tree) shows.drawn i) refl refl (omega arith) (next w.drawn)
     (ap length files ∙ (length-append s.files.items (f ∷ []) ∙ ap (λ n. n + 1) shows.drawn)) (λ id lt. ap (λ fs. file_at fs id) files ∙ by_test id lt (nat_eq w.drawn id) refl) (λ u. ap (λ hs. hold_in hs u) holds ∙ shows.holds u) (now ∙ shows.now)
-    (below_put (names w) x (thing.File w.drawn) (w.drawn + 1) (λ y g e. let lt = shows.below y g e in omega arith) (λ g e. let d : w.drawn ≡ g = cc in omega arith))
     (λ id le. not_drawn id le (nat_eq w.drawn id) refl)
   where
+    next : (d : ℕ) → d < d + 1
+    next d = omega arith
+
     by_test : (id : ℕ) → id < w.drawn + 1 → (b : Bool) → nat_eq w.drawn id ≡ b → same_file (file_at (s.files.items ++ f ∷ []) id) (record { bytes = cond b [] (w.files id).bytes; synced = cond b 0 (w.files id).synced; mtime = cond b at (w.files id).mtime; mode = cond b mode (w.files id).mode })
     by_test id lt true e =
         let drawn : id ≡ length s.files.items = sym ((numbers_tell w.drawn id).0 e) ∙ sym shows.drawn in
@@ -289,19 +323,22 @@ shows_made s t w x at mode f shows i files new holds now =
     not_drawn id le false e = shows.unmade id (omega arith)
 
 -- a writer holds something else
-pub shows_holding : (s t : State) (w : World) (writer : ℕ) (o : Option ℕ) → Shows s w → t.names.items ≡ s.names.items → t.undos.items ≡ s.undos.items → t.files.items ≡ s.files.items → t.moment ≡ s.moment
+pub shows_holding : (s t : State) (w : World) (writer : ℕ) (o : Option ℕ) → Shows s w → t.tree ≡ s.tree → t.files.items ≡ s.files.items → t.moment ≡ s.moment
     → ((v : ℕ) → hold_in t.holds.items v ≡ cond (nat_eq writer v) o (hold_in s.holds.items v))
     → Shows t (record { files = w.files; drawn = w.drawn; durable = w.durable; pending = w.pending; holds = λ v. cond (nat_eq writer v) o (w.holds v); now = w.now; running = w.running })
-shows_holding s t w writer o shows names undos files now holds = record {
-  named = λ x. ap (λ ns. named_in ns x) names ∙ shows.named x;
-  once = subst (λ ns. AreDistinct (keys ns)) (sym names) shows.once;
+shows_holding s t w writer o shows tree files now holds = record {
+  tree = subst IsTree (sym tree) shows.tree;
+  named = λ x. ap (λ r. named_in r.names.items x) tree ∙ shows.named x;
+  durable = λ x. ap (λ r. named_in r.durable.items x) tree ∙ shows.durable x;
+  changes = ap (λ r. pending_of r.changes.items) tree ∙ shows.changes;
   drawn = ap length files ∙ shows.drawn;
   files = λ id lt. ap (λ l. file_at l id) files ∙ shows.files id lt;
   holds = λ v. holds v ∙ ap (λ h. cond (nat_eq writer v) o h) (shows.holds v);
   below = shows.below;
+  below_durable = shows.below_durable;
+  below_pending = shows.below_pending;
   unmade = shows.unmade;
   now = now ∙ shows.now;
-  remembers = remembers_kept shows.remembers (λ x. ap (λ ns. named_in ns x) names) (λ x h. subst (λ ns. has_path ns x ≡ true) (sym names) h) undos;
 }
 
 -- the world behind an attach, by what the path named
@@ -316,25 +353,25 @@ attached_world w writer x at t = record {
   running = w.running;
 }
 
-pub shows_attached : (s t : State) (w : World) (writer : ℕ) (x : Path) (at : ℤ) (g : ℕ) → named_in s.names.items x ≡ thing.File g → Shows s w → t.names.items ≡ s.names.items → t.undos.items ≡ s.undos.items → t.files.items ≡ s.files.items → t.moment ≡ s.moment
+pub shows_attached : (s t : State) (w : World) (writer : ℕ) (x : Path) (at : ℤ) (g : ℕ) → named_in s.tree.names.items x ≡ thing.File g → Shows s w → t.tree ≡ s.tree → t.files.items ≡ s.files.items → t.moment ≡ s.moment
     → ((v : ℕ) → hold_in t.holds.items v ≡ cond (nat_eq writer v) (Some g) (hold_in s.holds.items v)) → Shows t (effect w (entry.Attach writer x at))
-shows_attached s t w writer x at g is shows names undos files now holds =
-    subst (λ thing. Shows t (attached_world w writer x at thing)) (sym (sym (shows.named x) ∙ is)) (shows_holding s t w writer (Some g) shows names undos files now holds)
+shows_attached s t w writer x at g is shows tree files now holds =
+    subst (λ thing. Shows t (attached_world w writer x at thing)) (sym (sym (shows.named x) ∙ is)) (shows_holding s t w writer (Some g) shows tree files now holds)
 
-pub shows_unattached : (s t : State) (w : World) (writer : ℕ) (x : Path) (at : ℤ) (a : Thing) → named_in s.names.items x ≡ a → (a ≡ thing.Nothing → ⊥) → ((g : ℕ) → a ≡ thing.File g → ⊥) → Shows s w → t.names.items ≡ s.names.items → t.undos.items ≡ s.undos.items → t.files.items ≡ s.files.items → t.moment ≡ s.moment
+pub shows_unattached : (s t : State) (w : World) (writer : ℕ) (x : Path) (at : ℤ) (a : Thing) → named_in s.tree.names.items x ≡ a → (a ≡ thing.Nothing → ⊥) → ((g : ℕ) → a ≡ thing.File g → ⊥) → Shows s w → t.tree ≡ s.tree → t.files.items ≡ s.files.items → t.moment ≡ s.moment
     → ((v : ℕ) → hold_in t.holds.items v ≡ cond (nat_eq writer v) None (hold_in s.holds.items v)) → Shows t (effect w (entry.Attach writer x at))
-shows_unattached s t w writer x at thing.Directory is none stays shows names undos files now holds =
-    subst (λ thing. Shows t (attached_world w writer x at thing)) (sym (sym (shows.named x) ∙ is)) (shows_holding s t w writer None shows names undos files now holds)
-shows_unattached s t w writer x at thing.Other is none stays shows names undos files now holds =
-    subst (λ thing. Shows t (attached_world w writer x at thing)) (sym (sym (shows.named x) ∙ is)) (shows_holding s t w writer None shows names undos files now holds)
-shows_unattached s t w writer x at thing.Nothing is none stays shows names undos files now holds = absurd (none refl)
-shows_unattached s t w writer x at (thing.File g) is none stays shows names undos files now holds = absurd (stays g refl)
+shows_unattached s t w writer x at thing.Directory is none stays shows tree files now holds =
+    subst (λ thing. Shows t (attached_world w writer x at thing)) (sym (sym (shows.named x) ∙ is)) (shows_holding s t w writer None shows tree files now holds)
+shows_unattached s t w writer x at thing.Other is none stays shows tree files now holds =
+    subst (λ thing. Shows t (attached_world w writer x at thing)) (sym (sym (shows.named x) ∙ is)) (shows_holding s t w writer None shows tree files now holds)
+shows_unattached s t w writer x at thing.Nothing is none stays shows tree files now holds = absurd (none refl)
+shows_unattached s t w writer x at (thing.File g) is none stays shows tree files now holds = absurd (stays g refl)
 
 -- a writer made a file
-pub shows_drawn : (s r t : State) (w : World) (writer : ℕ) (x : Path) (at : ℤ) → named_in s.names.items x ≡ thing.Nothing → Shows s w → Shows r (made_world w x at None) → t.names.items ≡ r.names.items → t.undos.items ≡ r.undos.items → t.files.items ≡ r.files.items → t.moment ≡ r.moment
+pub shows_drawn : (s r t : State) (w : World) (writer : ℕ) (x : Path) (at : ℤ) → named_in s.tree.names.items x ≡ thing.Nothing → Shows s w → Shows r (made_world w x at None) → t.tree ≡ r.tree → t.files.items ≡ r.files.items → t.moment ≡ r.moment
     → ((v : ℕ) → hold_in t.holds.items v ≡ cond (nat_eq writer v) (Some (length s.files.items)) (hold_in r.holds.items v)) → Shows t (effect w (entry.Attach writer x at))
-shows_drawn s r t w writer x at is shows made names undos files now holds =
-    subst (λ thing. Shows t (attached_world w writer x at thing)) (sym (sym (shows.named x) ∙ is)) (as_attached (shows_holding r t (made_world w x at None) writer (Some w.drawn) made names undos files now (λ v. holds v ∙ ap (λ d. cond (nat_eq writer v) (Some d) (hold_in r.holds.items v)) shows.drawn)))
+shows_drawn s r t w writer x at is shows made tree files now holds =
+    subst (λ thing. Shows t (attached_world w writer x at thing)) (sym (sym (shows.named x) ∙ is)) (as_attached (shows_holding r t (made_world w x at None) writer (Some w.drawn) made tree files now (λ v. holds v ∙ ap (λ d. cond (nat_eq writer v) (Some d) (hold_in r.holds.items v)) shows.drawn)))
   where
     same_mode : (id : ℕ) (b : Bool) → nat_eq w.drawn id ≡ b → same_file (record { bytes = cond b [] (w.files id).bytes; synced = cond b 0 (w.files id).synced; mtime = cond b at (w.files id).mtime; mode = cond b None (w.files id).mode }) (record { bytes = cond b [] (w.files id).bytes; synced = cond b 0 (w.files id).synced; mtime = cond b at (w.files id).mtime; mode = (w.files id).mode })
     same_mode id true e = ap (λ m. no_mode m) (sym (shows.unmade id (let same : w.drawn ≡ id = (numbers_tell w.drawn id).0 e in omega arith)))
@@ -345,71 +382,80 @@ shows_drawn s r t w writer x at is shows made names undos files now holds =
 
     as_attached : Shows t (record { files = (made_world w x at None).files; drawn = w.drawn + 1; durable = w.durable; pending = Puts x (thing.File w.drawn) ∷ w.pending; holds = λ v. cond (nat_eq writer v) (Some w.drawn) (w.holds v); now = w.now; running = w.running }) → Shows t (attached_world w writer x at thing.Nothing)
     as_attached m = record {
+      tree = m.tree;
       named = m.named;
-      once = m.once;
+      durable = m.durable;
+      changes = m.changes;
       drawn = m.drawn;
       files = λ id lt. m.files id lt ∙ same_mode id (nat_eq w.drawn id) refl;
       holds = m.holds;
       below = m.below;
+      below_durable = m.below_durable;
+      below_pending = m.below_pending;
       unmade = λ id le. shows.unmade id (omega arith);
       now = m.now;
-      remembers = m.remembers;
     }
 
 -- a run begins
-pub shows_begun : (s t : State) (w : World) (state : Path) (now : _) (rules : _) → Shows s w → t.names.items ≡ s.names.items → t.undos.items ≡ s.undos.items → t.files.items ≡ s.files.items → t.holds.items ≡ s.holds.items → t.moment ≡ (effect w (entry.Starts state now rules)).now → Shows t (effect w (entry.Starts state now rules))
-shows_begun s t w state now rules shows names undos files holds moment = record {
-  named = λ x. ap (λ ns. named_in ns x) names ∙ shows.named x;
-  once = subst (λ ns. AreDistinct (keys ns)) (sym names) shows.once;
+pub shows_begun : (s t : State) (w : World) (state : Path) (now : _) (rules : _) → Shows s w → t.tree ≡ s.tree → t.files.items ≡ s.files.items → t.holds.items ≡ s.holds.items → t.moment ≡ (effect w (entry.Starts state now rules)).now → Shows t (effect w (entry.Starts state now rules))
+shows_begun s t w state now rules shows tree files holds moment = record {
+  tree = subst IsTree (sym tree) shows.tree;
+  named = λ x. ap (λ r. named_in r.names.items x) tree ∙ shows.named x;
+  durable = λ x. ap (λ r. named_in r.durable.items x) tree ∙ shows.durable x;
+  changes = ap (λ r. pending_of r.changes.items) tree ∙ shows.changes;
   drawn = ap length files ∙ shows.drawn;
   files = λ id lt. ap (λ l. file_at l id) files ∙ shows.files id lt;
   holds = λ v. ap (λ hs. hold_in hs v) holds ∙ shows.holds v;
   below = shows.below;
+  below_durable = shows.below_durable;
+  below_pending = shows.below_pending;
   unmade = shows.unmade;
   now = moment;
-  remembers = remembers_kept shows.remembers (λ x. ap (λ ns. named_in ns x) names) (λ x h. subst (λ ns. has_path ns x ≡ true) (sym names) h) undos;
 }
 
 -- The machine stops.
-pub shows_cut : (s t : State) (w : World) (kept : ℕ) (lengths : List (ℕ × ℕ)) → Shows s w → ((x : Path) → named_in t.names.items x ≡ undone (drop kept s.undos.items) (named_in s.names.items) x) → keys t.names.items ≡ keys s.names.items
-    → t.undos.items ≡ [] → t.holds.items ≡ [] → length t.files.items ≡ length s.files.items → ((id : ℕ) → id < length s.files.items → file_at t.files.items id ≡ cut_file (length_of lengths id) (file_at s.files.items id)) → t.moment ≡ s.moment → Shows t (effect w (entry.Cut kept lengths))
-shows_cut s t w kept lengths shows named same undos holds size files now = record {
-  named = here;
-  once = subst AreDistinct (sym same) shows.once;
+pub shows_cut : (s t : State) (w : World) (kept : List ℕ) (lengths : List (ℕ × ℕ)) → Shows s w → IsLeft kept s.tree t.tree → t.holds.items ≡ [] → length t.files.items ≡ length s.files.items
+    → ((id : ℕ) → id < length s.files.items → file_at t.files.items id ≡ cut_file (length_of lengths id) (file_at s.files.items id)) → t.moment ≡ s.moment → Shows t (effect w (entry.Cut kept lengths))
+shows_cut s t w kept lengths shows l holds size files now = record {
+  tree = l.tree;
+  named = λ x. l.named x ∙ (l.durable x ∙ left_names s w kept shows x);
+  durable = λ x. l.durable x ∙ left_names s w kept shows x;
+  changes = ap pending_of l.changes;
   drawn = size ∙ shows.drawn;
   files = λ id lt. files id (subst (λ n. id < n) (sym shows.drawn) lt) ∙ ap (cut_file (length_of lengths id)) (shows.files id lt);
   holds = λ v. ap (λ hs. hold_in hs v) holds;
-  below = shows.remembers.below (length w.pending - kept);
+  below = left_below w kept shows.below_durable shows.below_pending;
+  below_durable = left_below w kept shows.below_durable shows.below_pending;
+  below_pending = tt;
   unmade = shows.unmade;
   now = now ∙ shows.now;
-  remembers = remembers_settled (names_but w (length w.pending - kept)) undos here (shows.remembers.below (length w.pending - kept));
 }
-  where
-    here : (x : Path) → named_in t.names.items x ≡ names_but w (length w.pending - kept) x
-    here x = named x ∙ shows.remembers.past kept x
 
 -- the entries that change nothing that is in memory
-pub shows_still : (s : State) (w v : World) → Shows s w → ((x : Path) → names v x ≡ names w x) → v.drawn ≡ w.drawn → ((id : ℕ) → v.files id ≡ w.files id) → ((u : ℕ) → v.holds u ≡ w.holds u) → v.now ≡ w.now → v.durable ≡ w.durable → v.pending ≡ w.pending → Shows s v
-shows_still s w v shows named drawn files holds now durable pending = record {
-  named = λ x. shows.named x ∙ sym (named x);
-  once = shows.once;
+pub shows_still : (s : State) (w v : World) → Shows s w → v.drawn ≡ w.drawn → ((id : ℕ) → v.files id ≡ w.files id) → ((u : ℕ) → v.holds u ≡ w.holds u) → v.now ≡ w.now → v.durable ≡ w.durable → v.pending ≡ w.pending → Shows s v
+shows_still s w v shows drawn files holds now durable pending = record {
+  tree = shows.tree;
+  named = λ x. shows.named x ∙ sym (alike_names w v durable pending x);
+  durable = λ x. shows.durable x ∙ sym (ap (λ d. d x) durable);
+  changes = shows.changes ∙ sym pending;
   drawn = shows.drawn ∙ sym drawn;
   files = λ id lt. shows.files id (subst (λ n. id < n) drawn lt) ∙ sym (files id);
   holds = λ u. shows.holds u ∙ sym (holds u);
-  below = λ x g e. subst (λ n. g < n) (sym drawn) (shows.below x g (sym (named x) ∙ e));
+  below = λ x g e. subst (λ n. g < n) (sym drawn) (shows.below x g (sym (alike_names w v durable pending x) ∙ e));
+  below_durable = subst (λ n. NamesBelow n v.durable) (sym drawn) (subst (NamesBelow w.drawn) (sym durable) shows.below_durable);
+  below_pending = subst (λ n. AllBelow n v.pending) (sym drawn) (subst (AllBelow w.drawn) (sym pending) shows.below_pending);
   unmade = λ id le. ap (λ f. f.mode) (files id) ∙ shows.unmade id (subst (λ n. n ≤ id) drawn le);
   now = shows.now ∙ sym now;
-  remembers = subst (λ n. Remembers s.names.items s.undos.items v.durable v.pending n) (sym drawn) (subst (λ p. Remembers s.names.items s.undos.items v.durable p w.drawn) (sym pending) (subst (λ d. Remembers s.names.items s.undos.items d w.pending w.drawn) (sym durable) shows.remembers));
 }
 
 pub shows_rest : (s : State) (w : World) (e : Entry) → IsTools e → Shows s w
     → ((x : Path) (now : _) (rules : _) → e ≡ entry.Starts x now rules → ⊥) → ((from to : Path) → e ≡ entry.Renames from to → ⊥) → ((x : Path) (mode : Option ℕ) → e ≡ entry.Makes x mode → ⊥) → ((x : Path) (bytes : List ℕ) → e ≡ entry.Appends x bytes → ⊥)
     → ((x : Path) → e ≡ entry.Truncates x → ⊥) → ((x : Path) → e ≡ entry.Unlinks x → ⊥) → ((x : Path) → e ≡ entry.SyncsFile x → ⊥) → ((x : Path) → e ≡ entry.SyncsDir x → ⊥) → ((x : Path) (mode : Option ℕ) → e ≡ entry.MakesDir x mode → ⊥) → Shows s (effect w e)
-shows_rest s w (entry.Look x seen) t shows n1 n2 n3 n4 n5 n6 n7 n8 n9 = shows_still s w (effect w (entry.Look x seen)) shows (λ x. refl) refl (λ id. refl) (λ u. refl) refl refl refl
-shows_rest s w (entry.List dir listed) t shows n1 n2 n3 n4 n5 n6 n7 n8 n9 = shows_still s w (effect w (entry.List dir listed)) shows (λ x. refl) refl (λ id. refl) (λ u. refl) refl refl refl
-shows_rest s w (entry.Reads x from piece) t shows n1 n2 n3 n4 n5 n6 n7 n8 n9 = shows_still s w (effect w (entry.Reads x from piece)) shows (λ x. refl) refl (λ id. refl) (λ u. refl) refl refl refl
-shows_rest s w entry.Ends t shows n1 n2 n3 n4 n5 n6 n7 n8 n9 = shows_still s w (effect w entry.Ends) shows (λ x. refl) refl (λ id. refl) (λ u. refl) refl refl refl
-shows_rest s w (entry.Runs program args input ended) t shows n1 n2 n3 n4 n5 n6 n7 n8 n9 = shows_still s w (effect w (entry.Runs program args input ended)) shows (λ x. refl) refl (λ id. refl) (λ u. refl) refl refl refl
+shows_rest s w (entry.Look x seen) t shows n1 n2 n3 n4 n5 n6 n7 n8 n9 = shows_still s w (effect w (entry.Look x seen)) shows refl (λ id. refl) (λ u. refl) refl refl refl
+shows_rest s w (entry.List dir listed) t shows n1 n2 n3 n4 n5 n6 n7 n8 n9 = shows_still s w (effect w (entry.List dir listed)) shows refl (λ id. refl) (λ u. refl) refl refl refl
+shows_rest s w (entry.Reads x from piece) t shows n1 n2 n3 n4 n5 n6 n7 n8 n9 = shows_still s w (effect w (entry.Reads x from piece)) shows refl (λ id. refl) (λ u. refl) refl refl refl
+shows_rest s w entry.Ends t shows n1 n2 n3 n4 n5 n6 n7 n8 n9 = shows_still s w (effect w entry.Ends) shows refl (λ id. refl) (λ u. refl) refl refl refl
+shows_rest s w (entry.Runs program args input ended) t shows n1 n2 n3 n4 n5 n6 n7 n8 n9 = shows_still s w (effect w (entry.Runs program args input ended)) shows refl (λ id. refl) (λ u. refl) refl refl refl
 shows_rest s w (entry.Starts x now rules) t shows n1 n2 n3 n4 n5 n6 n7 n8 n9 = absurd (n1 x now rules refl)
 shows_rest s w (entry.Renames from to) t shows n1 n2 n3 n4 n5 n6 n7 n8 n9 = absurd (n2 from to refl)
 shows_rest s w (entry.Makes x mode) t shows n1 n2 n3 n4 n5 n6 n7 n8 n9 = absurd (n3 x mode refl)
@@ -421,9 +467,32 @@ shows_rest s w (entry.SyncsDir x) t shows n1 n2 n3 n4 n5 n6 n7 n8 n9 = absurd (n
 shows_rest s w (entry.MakesDir x mode) t shows n1 n2 n3 n4 n5 n6 n7 n8 n9 = absurd (n9 x mode refl)
 shows_rest s w _ t shows n1 n2 n3 n4 n5 n6 n7 n8 n9 = absurd t
 
+-- an entry that was given is this one
+pub renames_is : (s t : State) (w : World) (e : Entry) (from to : Path) → e ≡ entry.Renames from to → Shows s w → IsReady s e → ((c : Change) → CanChange s.tree c → IsChanged c s.tree t.tree)
+    → t.files.items ≡ s.files.items → t.holds.items ≡ s.holds.items → t.moment ≡ s.moment → Shows t (effect w e)
+renames_is s t w e from to is shows ready done files holds now = subst (λ d. Shows t (effect w d)) (sym is) (shows_moved s t w from to shows (done (Moves from to) (subst (IsReady s) is ready)) files holds now)
+
+pub unlinks_is : (s t : State) (w : World) (e : Entry) (x : Path) → e ≡ entry.Unlinks x → Shows s w → IsReady s e → ((c : Change) → CanChange s.tree c → IsChanged c s.tree t.tree)
+    → t.files.items ≡ s.files.items → t.holds.items ≡ s.holds.items → t.moment ≡ s.moment → Shows t (effect w e)
+unlinks_is s t w e x is shows ready done files holds now = subst (λ d. Shows t (effect w d)) (sym is) (shows_unlinked s t w x shows (done (Drops x) (subst (IsReady s) is ready)) files holds now)
+
+pub directory_is : (s t : State) (w : World) (e : Entry) (x : Path) (mode : Option ℕ) → e ≡ entry.MakesDir x mode → Shows s w → IsReady s e → ((c : Change) → CanChange s.tree c → IsChanged c s.tree t.tree)
+    → t.files.items ≡ s.files.items → t.holds.items ≡ s.holds.items → t.moment ≡ s.moment → Shows t (effect w e)
+directory_is s t w e x mode is shows ready done files holds now = subst (λ d. Shows t (effect w d)) (sym is) (shows_directory s t w x mode shows (done (Puts x thing.Directory) (subst (IsReady s) is ready)) files holds now)
+
+pub settles_is : (s t : State) (w : World) (e : Entry) (x : Path) → e ≡ entry.SyncsDir x → Shows s w → IsSynced x s.tree t.tree
+    → t.files.items ≡ s.files.items → t.holds.items ≡ s.holds.items → t.moment ≡ s.moment → Shows t (effect w e)
+settles_is s t w e x is shows done files holds now = subst (λ d. Shows t (effect w d)) (sym is) (shows_settled s t w x shows done files holds now)
+
+pub starts_is : (s t : State) (w : World) (e : Entry) (state : Path) (now : _) (rules : _) → e ≡ entry.Starts state now rules → Shows s w → t.tree ≡ s.tree → t.files.items ≡ s.files.items → t.holds.items ≡ s.holds.items → t.moment ≡ now.seconds → Shows t (effect w e)
+starts_is s t w e state now rules is shows tree files holds moment = subst (λ d. Shows t (effect w d)) (sym is) (shows_begun s t w state now rules shows tree files holds moment)
+
+pub makes_is : (s t : State) (w : World) (e : Entry) (x : Path) (mode : Option ℕ) → e ≡ entry.Makes x mode → Shows s w → IsReady s e → ((v : World) (y : Path) → CanDraw s y → Shows s v → Shows t (made_world v y s.moment mode)) → Shows t (effect w e)
+makes_is s t w e x mode is shows ready made = subst (λ d. Shows t (effect w d)) (sym is) (subst (λ at. Shows t (made_world w x at mode)) shows.now (made w x (subst (IsReady s) is ready) shows))
+
 -- an entry that is none of a writer's and no cut is one of the tool
 pub tools_left : (e : Entry) → ((v : ℕ) (x : Path) (at : ℤ) → e ≡ entry.Attach v x at → ⊥) → ((v : ℕ) (bytes : List ℕ) (at : ℤ) → e ≡ entry.Feed v bytes at → ⊥) → ((v : ℕ) → e ≡ entry.Flush v → ⊥) → ((v : ℕ) → e ≡ entry.Detach v → ⊥)
-    → ((kept : ℕ) (lengths : List (ℕ × ℕ)) → e ≡ entry.Cut kept lengths → ⊥) → IsTools e
+    → ((kept : List ℕ) (lengths : List (ℕ × ℕ)) → e ≡ entry.Cut kept lengths → ⊥) → IsTools e
 tools_left (entry.Attach v x at) na nf ns nd nc = absurd (na v x at refl)
 tools_left (entry.Feed v bytes at) na nf ns nd nc = absurd (nf v bytes at refl)
 tools_left (entry.Flush v) na nf ns nd nc = absurd (ns v refl)

@@ -2,10 +2,22 @@
 use Rattle.std.specs.Prelude.{ℕ, ◌≤◌, Bool, false, ◌||◌, List, [], ◌∷◌, length}
 use Rattle.lr_rules.specs.declared.path.Path.{Path}
 use Rattle.lr_host.specs.declared.thing.Thing.{Thing}
-use Rattle.lr_host.specs.World.{Names, is_file}
-use Rattle.lr_host.specs.Fits.{IsNamed}
+use Rattle.lr_host.specs.World.{Names, is_file, names_after, kept_at, IsClosed}
+use Rattle.lr_host.specs.Fits.{IsNamed, AreRising}
+use Rattle.lr_disk.specs.declared.pending.Pending.{Pending}
 use Rattle.lr_disk.specs.declared.file.MemFile.{MemFile}
+use Rattle.lr_disk.specs.declared.state.State.{State}
+use Rattle.lr_disk.specs.Names.{named_in}
+use Rattle.lr_disk.specs.Pending.{pending_of}
 use Rattle.lr_disk.specs.State.{file_at}
+
+-- the names that a cut leaves which keeps the changes at these places
+abbrev pub names_left : State → List ℕ → Names
+names_left s kept = names_after (named_in s.tree.durable.items) (kept_at kept (pending_of s.tree.changes.items))
+
+-- a cut may keep the changes at these places: they rise, and are a closed set
+abbrev pub MayKeep : List ℕ → List Pending → Type 0
+MayKeep kept changes = AreRising 0 kept (length (pending_of changes)) × IsClosed kept (pending_of changes)
 
 -- some pair has the file
 abbrev pub has_file : List (Path × Thing) → ℕ → Bool

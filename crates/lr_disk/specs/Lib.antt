@@ -2,5 +2,6 @@ pub mod Bytes
 pub mod Lengths
 pub mod Names
 pub mod Pairs
+pub mod Pending
 pub mod State
-pub mod Undo
+pub mod Tree

@@ -8,15 +8,15 @@ use Rattle.lr_host.specs.declared.entry.Entry.TheVariants.{Attach, Feed, Detach,
 use Rattle.lr_host.specs.declared.journal.Journal.{Journal}
 use Rattle.lr_host.specs.declared.journal.Opening.{Opening}
 use Rattle.lr_host.specs.declared.journal.OpenFile.{OpenFile}
-use Rattle.lr_host.specs.Lists.{AreDistinct}
-use Rattle.lr_host.specs.World.{World, File, past, world, names, cut_to, holds_file, Puts}
+use Rattle.lr_host.specs.Below.{NamesBelow, AllBelow}
+use Rattle.lr_host.specs.World.{World, File, past, world, names, cut_to, holds_file, Puts, Moves, Drops}
 use Rattle.lr_host.specs.Opening.{IsJournal}
 use Rattle.lr_disk.specs.declared.state.State.{State}
 use Rattle.lr_disk.specs.declared.file.MemFile.{MemFile}
-use Rattle.lr_disk.specs.declared.undo.Undo.{Undo}
-use Rattle.lr_disk.specs.Pairs.{value_of, has, keys}
-use Rattle.lr_disk.specs.Names.{named_in, has_path}
-use Rattle.lr_disk.specs.Undo.{AreBelow, Remembers}
+use Rattle.lr_disk.specs.Pairs.{value_of, has}
+use Rattle.lr_disk.specs.Names.{named_in}
+use Rattle.lr_disk.specs.Pending.{pending_of}
+use Rattle.lr_disk.specs.Tree.{IsTree, CanChange}
 
 abbrev pub as_file : MemFile → File
 as_file f = record { bytes = f.bytes.items; synced = f.synced; mtime = f.mtime; mode = f.mode }
@@ -45,17 +45,20 @@ file_of _ = None
 
 -- the state in memory is that world
 pub record Shows (state : State) (w : World) : Type 0 where
-  pub named : (x : Path) → named_in state.names.items x ≡ names w x
-  pub once : AreDistinct (keys state.names.items)
+  pub tree : IsTree state.tree
+  pub named : (x : Path) → named_in state.tree.names.items x ≡ names w x
+  pub durable : (x : Path) → named_in state.tree.durable.items x ≡ w.durable x
+  pub changes : pending_of state.tree.changes.items ≡ w.pending
   pub drawn : length state.files.items ≡ w.drawn
   pub files : (id : ℕ) → id < w.drawn → file_at state.files.items id ≡ w.files id
   pub holds : (v : ℕ) → hold_in state.holds.items v ≡ w.holds v
-  -- only what was drawn is named
-  pub below : AreBelow (names w) w.drawn
+  -- only what was drawn is named, durably and by changes
+  pub below : NamesBelow w.drawn (names w)
+  pub below_durable : NamesBelow w.drawn w.durable
+  pub below_pending : AllBelow w.drawn w.pending
   -- no file that is yet to be drawn has a mode
   pub unmade : (id : ℕ) → w.drawn ≤ id → (w.files id).mode ≡ None
   pub now : state.moment ≡ w.now
-  pub remembers : Remembers state.names.items state.undos.items w.durable w.pending w.drawn
 
 -- the file, where one is given, has room for so many bytes more
 abbrev pub HasRoom : State → Option ℕ → ℕ → Type 0
@@ -63,31 +66,25 @@ HasRoom state file more =
     (id : ℕ) → file ≡ Some id → (f : MemFile) → slice_get state.files.items id ≡ Some f
     → vec_len f.bytes + more ≤ vec_capacity f.bytes
 
--- there is room for a change of what these two paths name: their pairs, a place for the note, and the note
-abbrev pub HasSpare : List (Path × Thing) → ℕ → ℕ → Option Undo → Path → Path → Type 0
-HasSpare ns len capacity spare from to = (has_path ns from ≡ true) × (has_path ns to ≡ true) × (len < capacity) × IsSomeAnd spare (λ u. (u.from ≡ from) × (u.to ≡ to))
-
-abbrev pub CanChange : State → Option Undo → Path → Path → Type 0
-CanChange state spare from to = HasSpare state.names.items (vec_len state.undos) (vec_capacity state.undos) spare from to
-
-abbrev pub CanDraw : State → Type 0
-CanDraw state = vec_len state.files < vec_capacity state.files
+-- the making of a file under the path was made ready
+abbrev pub CanDraw : State → Path → Type 0
+CanDraw state x = CanChange state.tree (Puts x (thing.File (length state.files.items))) × (vec_len state.files < vec_capacity state.files)
 
 -- there is room for what the entry changes
-abbrev pub IsReady : State → Option Undo → Entry → Type 0
-IsReady state spare (Attach writer x at) = CanChange state spare x x × (has_writer state.holds.items writer ≡ true) × CanDraw state
-IsReady state spare (Feed writer bytes at) = HasRoom state (hold_in state.holds.items writer) (length bytes)
-IsReady state spare (Detach writer) = has_writer state.holds.items writer ≡ true
-IsReady state spare (Renames from to) = CanChange state spare from to
-IsReady state spare (Makes x mode) = CanChange state spare x x × CanDraw state
-IsReady state spare (Appends x bytes) = HasRoom state (file_of (named_in state.names.items x)) (length bytes)
-IsReady state spare (Unlinks x) = CanChange state spare x x
-IsReady state spare (MakesDir x mode) = CanChange state spare x x
-IsReady state spare _ = Unit {0}
+abbrev pub IsReady : State → Entry → Type 0
+IsReady state (Attach writer x at) = CanDraw state x × (has_writer state.holds.items writer ≡ true)
+IsReady state (Feed writer bytes at) = HasRoom state (hold_in state.holds.items writer) (length bytes)
+IsReady state (Detach writer) = has_writer state.holds.items writer ≡ true
+IsReady state (Renames from to) = CanChange state.tree (Moves from to)
+IsReady state (Makes x mode) = CanDraw state x
+IsReady state (Appends x bytes) = HasRoom state (file_of (named_in state.tree.names.items x)) (length bytes)
+IsReady state (Unlinks x) = CanChange state.tree (Drops x)
+IsReady state (MakesDir x mode) = CanChange state.tree (Puts x thing.Directory)
+IsReady state _ = Unit {0}
 
--- The file, where one is given, became what f makes of it, and nothing else changed but what is remembered.
+-- The file, where one is given, became what f makes of it, and nothing else changed.
 pub record IsFiled (f : File → File) (file : Option ℕ) (s t : State) : Type 0 where
-  pub names : t.names.items ≡ s.names.items
+  pub tree : t.tree ≡ s.tree
   pub holds : t.holds.items ≡ s.holds.items
   pub now : t.moment ≡ s.moment
   pub size : length t.files.items ≡ length s.files.items

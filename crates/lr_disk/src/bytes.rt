@@ -1,5 +1,5 @@
 // The bytes of the files.
-ghost use Rattle.std.specs.Prelude.{◌≡◌, ◌<◌, [], ℕ, length, OnOk};
+ghost use Rattle.std.specs.Prelude.{◌≡◌, ◌<◌, ℕ, length, OnOk};
 ghost use Rattle.lr_host.specs.World.{World, length_of};
 ghost use Rattle.lr_disk.specs.State.{Shows, HasRoom, IsFiled, file_at, fed_file, synced_file, emptied_file, cut_file};
 
@@ -12,7 +12,7 @@ use std::alloc::AllocError;
 pub fn make_room(state: &mut State, file: Option<u64>, more: usize) -> Result<(), AllocError>
     ensures same { (w : World) → Shows state.old w → Shows state.new w }
     ensures room { OnOk result (HasRoom state.new file more) }
-    ensures names { state.new.names ≡ state.old.names }
+    ensures tree { state.new.tree ≡ state.old.tree }
     ensures holds { state.new.holds ≡ state.old.holds }
 {
     if let Some(identity) = file {
@@ -27,8 +27,7 @@ pub fn make_room(state: &mut State, file: Option<u64>, more: usize) -> Result<()
 /// Appends bytes to the file, where one is given.
 pub fn add_bytes(state: &mut State, file: Option<u64>, bytes: &[u8], at: i64)
     requires { HasRoom state.old file (length bytes.now) }
-    ensures filed { IsFiled (fed_file bytes.now at) file state.old state.new }
-    ensures undos { state.new.undos ≡ state.old.undos }
+    ensures { IsFiled (fed_file bytes.now at) file state.old state.new }
 {
     if let Some(identity) = file {
         let place = identity as usize;
@@ -40,8 +39,7 @@ pub fn add_bytes(state: &mut State, file: Option<u64>, bytes: &[u8], at: i64)
 
 /// Takes the bytes of the file, where one is given.
 pub fn empty(state: &mut State, file: Option<u64>, at: i64)
-    ensures filed { IsFiled (emptied_file at) file state.old state.new }
-    ensures undos { state.new.undos ≡ state.old.undos }
+    ensures { IsFiled (emptied_file at) file state.old state.new }
 {
     if let Some(identity) = file {
         let place = identity as usize;
@@ -51,12 +49,10 @@ pub fn empty(state: &mut State, file: Option<u64>, at: i64)
     }
 }
 
-/// Syncs the file, where one is given, and all names.
+/// Syncs the file, where one is given.
 pub fn sync(state: &mut State, file: Option<u64>)
-    ensures filed { IsFiled synced_file file state.old state.new }
-    ensures undos { state.new.undos.items ≡ [] }
+    ensures { IsFiled synced_file file state.old state.new }
 {
-    state.undos.clear();
     if let Some(identity) = file {
         let place = identity as usize;
         if place < state.files.len() {

@@ -1,128 +1,28 @@
-// Changes of names, of which what was named before is noted.
-ghost use Rattle.std.specs.Prelude.{◌≡◌, ◌<◌, ◌∷◌, ◌++◌, [], ℕ, IfOk, IfSome, IsSome, vec_len, vec_capacity};
-ghost use Rattle.lr_host.specs.declared.thing.Thing.TheVariants as thing;
+// What entries change besides bytes: names, holds, and all of it at once where the machine stops.
+ghost use Rattle.std.specs.Prelude.{◌≡◌, true};
+ghost use Rattle.lr_rules.specs.declared.path.Path.{Path};
 ghost use Rattle.lr_host.specs.declared.entry.Entry.TheVariants as entry;
-ghost use Rattle.lr_host.specs.World.{World, effect, Puts, Moves, changed};
-ghost use Rattle.lr_disk.specs.Undo.{IsChanged};
-ghost use Rattle.lr_disk.specs.State.{Shows, HasSpare, CanChange, CanDraw, made_world};
+ghost use Rattle.lr_host.specs.World.{World, effect};
+ghost use Rattle.lr_disk.specs.Tree.{IsTree};
+ghost use Rattle.lr_disk.specs.State.{Shows, IsReady, CanDraw, made_world, has_writer};
 
+use crate::bytes::cut_all;
 use crate::file::MemFile;
-use crate::names::{make_name, set_name, thing_at};
+use crate::holds::set_hold;
+use crate::names::thing_at;
 use crate::state::State;
-use crate::undo::Undo;
+use crate::tree::{change, cut_names};
 use lr_host::Thing;
 use lr_rules::Path;
-use std::alloc::{AllocError, Global};
+use std::alloc::Global;
 
-/// Makes room for a change of what the two paths name. Nothing changes.
-pub fn make_spare(
-    alloc: Global,
-    state: &mut State,
-    from: &Path,
-    to: &Path,
-) -> Result<Option<Undo>, AllocError>
-    ensures same { (w : World) → Shows state.old w → Shows state.new w }
-    ensures spare { IfOk result (λ spare. CanChange state.new spare from.now to.now) }
-    ensures holds { state.new.holds ≡ state.old.holds }
-    ensures files { state.new.files ≡ state.old.files }
-{
-    make_name(alloc, &mut state.names, from)?;
-    make_name(alloc, &mut state.names, to)?;
-    state.undos.reserve(1)?;
-    Ok(Some(Undo {
-        from: from.copy(alloc)?,
-        thing: Thing::Nothing,
-        to: to.copy(alloc)?,
-        was: Thing::Nothing,
-    }))
-}
-
-// Notes what the paths of a change named.
-fn note(undos: &mut Vec<Undo>, spare: Option<Undo>, thing: Thing, was: Thing)
-    requires room { vec_len undos.old < vec_capacity undos.old }
-    requires spare { IsSome spare }
-    ensures { IfSome spare (λ u. undos.new.items ≡ undos.old.items ++ record { from = u.from; thing = thing; to = u.to; was = was } ∷ []) }
-{
-    if let Some(spare) = spare {
-        undos
-            .push(Undo {
-                from: spare.from,
-                thing,
-                to: spare.to,
-                was,
-            })
-            .unwrap();
-    }
-}
-
-// Lets a path name something else.
-fn put_name(
-    names: &mut Vec<(Path, Thing)>,
-    undos: &mut Vec<Undo>,
-    path: &Path,
-    thing: Thing,
-    spare: Option<Undo>,
-)
-    requires { HasSpare names.old.items (vec_len undos.old) (vec_capacity undos.old) spare path.now path.now }
-    ensures { IsChanged (changed (Puts path.now thing)) names.old.items undos.old.items names.new.items undos.new.items }
-{
-    let was = thing_at(names, path.bytes());
-    set_name(names, path, thing);
-    note(undos, spare, was, was);
-}
-
-// Lets the one path name what the other named, and that nothing.
-fn move_name(
-    names: &mut Vec<(Path, Thing)>,
-    undos: &mut Vec<Undo>,
-    from: &Path,
-    to: &Path,
-    spare: Option<Undo>,
-)
-    requires { HasSpare names.old.items (vec_len undos.old) (vec_capacity undos.old) spare from.now to.now }
-    ensures { IsChanged (changed (Moves from.now to.now)) names.old.items undos.old.items names.new.items undos.new.items }
-{
-    let thing = thing_at(names, from.bytes());
-    let was = thing_at(names, to.bytes());
-    set_name(names, from, Thing::Nothing);
-    set_name(names, to, thing);
-    note(undos, spare, thing, was);
-}
-
-/// Lets a path name something else.
-pub fn put(state: &mut State, path: &Path, thing: Thing, spare: Option<Undo>)
-    requires spare { CanChange state.old spare path.now path.now }
-    ensures changed { IsChanged (changed (Puts path.now thing)) state.old.names.items state.old.undos.items state.new.names.items state.new.undos.items }
-    ensures files { state.new.files ≡ state.old.files }
-    ensures holds { state.new.holds ≡ state.old.holds }
-    ensures now { state.new.moment ≡ state.old.moment }
-{
-    put_name(&mut state.names, &mut state.undos, path, thing, spare);
-}
-
-/// Gives a file another path.
-pub fn rename(state: &mut State, from: &Path, to: &Path, spare: Option<Undo>)
-    requires { CanChange state.old spare from.now to.now }
-    ensures { (w : World) → Shows state.old w → Shows state.new (effect w (entry.Renames from.now to.now)) }
-{
-    move_name(&mut state.names, &mut state.undos, from, to, spare);
-}
-
-/// Makes an empty file with the next identity.
-pub fn draw(
-    alloc: Global,
-    state: &mut State,
-    path: &Path,
-    mtime: i64,
-    mode: Option<u32>,
-    spare: Option<Undo>,
-)
-    requires spare { CanChange state.old spare path.now path.now }
-    requires room { CanDraw state.old }
-    ensures made { (w : World) → Shows state.old w → Shows state.new (made_world w path.now mtime mode) }
+/// Makes an empty file with the next identity, under the path for which that was made ready.
+pub fn draw(alloc: Global, state: &mut State, mtime: i64, mode: Option<u32>)
+    requires tree { IsTree state.old.tree }
+    requires ready { (x : Path) × CanDraw state.old x }
+    ensures made { (w : World) (x : Path) → CanDraw state.old x → Shows state.old w → Shows state.new (made_world w x mtime mode) }
     ensures holds { state.new.holds ≡ state.old.holds }
 {
-    let identity = state.files.len() as u64;
     let file = MemFile {
         bytes: Vec::new(alloc),
         synced: 0,
@@ -130,11 +30,40 @@ pub fn draw(
         mode,
     };
     state.files.push(file).unwrap();
-    put_name(
-        &mut state.names,
-        &mut state.undos,
-        path,
-        Thing::File(identity),
-        spare,
-    );
+    change(&mut state.tree);
+}
+
+/// Lets a writer take hold of what the path names; where it names nothing, a file is made.
+pub fn attach(alloc: Global, state: &mut State, writer: u32, path: &Path, at: i64)
+    requires tree { IsTree state.old.tree }
+    requires ready { IsReady state.old (entry.Attach writer path.now at) }
+    ensures { (w : World) → Shows state.old w → Shows state.new (effect w (entry.Attach writer path.now at)) }
+{
+    match thing_at(&state.tree.names, path.bytes()) {
+        Thing::Nothing => {
+            let identity = state.files.len() as u64;
+            draw(alloc, state, at, None);
+            set_hold(&mut state.holds, writer, Some(identity));
+        }
+        Thing::File(identity) => set_hold(&mut state.holds, writer, Some(identity)),
+        _ => set_hold(&mut state.holds, writer, None),
+    }
+}
+
+/// Lets a writer let its file go.
+pub fn detach(state: &mut State, writer: u32)
+    requires { has_writer state.old.holds.items writer ≡ true }
+    ensures { (w : World) → Shows state.old w → Shows state.new (effect w (entry.Detach writer)) }
+{
+    set_hold(&mut state.holds, writer, None);
+}
+
+/// Stops the machine.
+pub fn cut(state: &mut State, kept: &[usize], lengths: &[(u64, u64)])
+    requires { IsTree state.old.tree }
+    ensures { (w : World) → Shows state.old w → Shows state.new (effect w (entry.Cut kept.now lengths.now)) }
+{
+    cut_names(&mut state.tree, kept);
+    state.holds.clear();
+    cut_all(&mut state.files, lengths);
 }

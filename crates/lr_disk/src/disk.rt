@@ -1,29 +1,33 @@
 // A disk in memory, which contracts see as the journal of its steps.
-ghost use Rattle.std.specs.Prelude.{◌≡◌, ◌≢◌, ◌<◌, ◌≤◌, ◌↔◌, ◌∷◌, ◌++◌, true, pos, Some, List, ℕ, [], length, take, drop, vec_len, vec_capacity, MatchResult, MatchOption, IfOk, OnOk, OnErr, IsTrue};
+ghost use Rattle.std.specs.Prelude.{◌≡◌, ◌≢◌, ◌<◌, ◌≤◌, ◌+◌, ◌↔◌, ◌∷◌, ◌++◌, true, pos, Some, List, ℕ, [], length, take, drop, vec_len, vec_capacity, MatchResult, MatchOption, IfOk, OnOk, OnErr, IsTrue};
 ghost use Rattle.lr_host.specs.declared.entry.Entry.{Entry};
 ghost use Rattle.lr_host.specs.declared.entry.Entry.TheVariants as entry;
-ghost use Rattle.lr_host.specs.World.{world, past, names};
+ghost use Rattle.lr_host.specs.World.{World, world, past, names, opened};
 ghost use Rattle.lr_host.specs.declared.thing.Thing.TheVariants as thing;
 ghost use Rattle.lr_host.specs.Fits.{Fits, IsCut, Sees, Gives, IsFileAt, IsDirectoryAt};
 ghost use Rattle.lr_host.specs.Told.{IsWriters};
 ghost use Rattle.lr_host.specs.Opening.{IsValid, IsJournal};
 ghost use Rattle.lr_host.specs.Sets.{LogSet};
 ghost use Rattle.lr_host.specs.Safe.{IsSafe};
-ghost use Rattle.lr_disk.specs.State.{with_entry, opened_journal};
+ghost use Rattle.lr_disk.specs.Tree.{IsTree};
+ghost use Rattle.lr_disk.specs.State.{Shows, IsReady, with_entry, opened_journal};
 ghost use Rattle.lr_disk.specs.Bytes.{GivesAll, HasBytes};
 
+use crate::apply::apply;
+use crate::cuts::{may_cut, may_keep};
+use crate::entries::{cuts, lists, looks, reads};
 use crate::file::read_bytes;
 use crate::holds::hold_of;
-use crate::lengths::{are_apart, are_within, copy_lengths};
+use crate::lengths::are_apart;
 use crate::listing::add_names;
 use crate::names::thing_at;
 use crate::opened::open;
-use crate::state::{State, apply, prepare};
-use crate::undo::{copy_names, take_back};
+use crate::prepare::prepare;
+use crate::state::State;
 use crate::valid::is_valid;
 use lr_host::{Entry, Journal, Kind, Opening, Seen, Thing};
-use lr_rules::{Listed, Memory, Path, Text, copy_texts};
-use std::alloc::Global;
+use lr_rules::{Listed, Memory, Path, Text};
+use std::alloc::{AllocError, Global};
 use std::marker::Model;
 use std::mem::replace;
 
@@ -77,6 +81,28 @@ fn add_in_room(alloc: Global, entries: &mut Listed<Entry>, room: &mut Vec<Entry>
     *entries = Listed::from_vec(all);
 }
 
+// Makes room for an entry behind so many, for what it changes, and for the end of a run. Nothing changes.
+fn make_ready(
+    alloc: Global,
+    state: &mut State,
+    room: &mut Vec<Entry>,
+    count: usize,
+    entry: &Entry,
+) -> Result<(), AllocError>
+    requires { IsTree state.old.tree }
+    ensures same { (w : World) → Shows state.old w → Shows state.new w }
+    ensures ready { OnOk result (IsReady state.new entry.now) }
+    ensures room { OnOk result (vec_len room.new + (count + 2) ≤ vec_capacity room.new) }
+    ensures len { vec_len room.new ≡ vec_len room.old }
+    ensures wider { vec_capacity room.old ≤ vec_capacity room.new }
+{
+    prepare(alloc, state, entry)?;
+    let Some(more) = count.checked_add(2) else {
+        return Err(AllocError);
+    };
+    room.reserve(more)
+}
+
 fn newest(entries: &Listed<Entry>) -> &Entry
     requires { 0 < length entries.now }
     ensures { (es : List Entry) (e : Entry) → entries.now ≡ es ++ e ∷ [] → result.now ≡ e }
@@ -85,24 +111,37 @@ fn newest(entries: &Listed<Entry>) -> &Entry
     &items[items.len() - 1]
 }
 
+// The state of an opening, None where the opening isn't one of a disk.
+fn open_valid(alloc: Global, opening: &Opening) -> Result<Option<State>, AllocError>
+    ensures { IfOk result (λ made. MatchOption made (¬ IsValid opening.now) (λ state. IsValid opening.now × Shows state (opened opening.now))) }
+{
+    let state = open(alloc, opening)?;
+    if is_valid(opening, &state.tree.names) {
+        Ok(Some(state))
+    } else {
+        Ok(None)
+    }
+}
+
 impl Disk {
     /// A disk at its opening, with no entries; None where the opening isn't one of a disk. After `Memory` there is no
     /// disk, and the opening is gone.
     pub fn new(alloc: Global, opening: Opening) -> Result<Option<Disk>, Memory>
         ensures { IfOk result (λ made. MatchOption made (¬ IsValid opening) (λ disk. (disk ≡ opened_journal opening) × IsValid opening × ((s : LogSet) → IsSafe s (past disk)))) }
     {
-        let state = open(alloc, &opening)?;
-        if !is_valid(&opening, &state.names) {
-            return Ok(None);
+        match open_valid(alloc, &opening)? {
+            Some(state) => {
+                let entries = Listed::new(alloc);
+                let room = Vec::new(alloc);
+                Ok(Some(Disk {
+                    alloc,
+                    journal: Journal { opening, entries },
+                    state,
+                    room,
+                }))
+            }
+            None => Ok(None),
         }
-        let entries = Listed::new(alloc);
-        let room = Vec::new(alloc);
-        Ok(Some(Disk {
-            alloc,
-            journal: Journal { opening, entries },
-            state,
-            room,
-        }))
     }
 
     /// The journal, which is one of a disk.
@@ -117,7 +156,7 @@ impl Disk {
     pub fn file(&self, path: &Path) -> Option<&[u8]>
         ensures { MatchOption result (¬ (IsFileAt (names (world (past self.now))) path.now)) (λ bytes. HasBytes (world (past self.now)) (names (world (past self.now)) path.now) bytes.now) }
     {
-        match thing_at(&self.state.names, path.bytes()) {
+        match thing_at(&self.state.tree.names, path.bytes()) {
             Thing::File(identity) => Some(self.state.files[identity as usize].bytes.as_slice()),
             _ => None,
         }
@@ -129,23 +168,24 @@ impl Disk {
         requires { Fits (world (past self.old)) entry }
         ensures { MatchResult result (λ _. self.new ≡ with_entry self.old entry) (λ back. (back ≡ entry) × (self.new ≡ self.old)) }
     {
-        let Ok(spare) = prepare(self.alloc, &mut self.state, &entry) else {
-            return Err(entry);
-        };
-        let Some(more) = self.journal.entries.len().checked_add(2) else {
-            return Err(entry);
-        };
-        let Ok(()) = self.room.reserve(more) else {
+        let count = self.journal.entries.len();
+        let Ok(()) = make_ready(self.alloc, &mut self.state, &mut self.room, count, &entry) else {
             return Err(entry);
         };
         add(self.alloc, &mut self.journal.entries, entry)?;
-        apply(
-            self.alloc,
-            &mut self.state,
-            newest(&self.journal.entries),
-            spare,
-        );
+        apply(self.alloc, &mut self.state, newest(&self.journal.entries));
         Ok(())
+    }
+
+    // Takes an entry that fits; where there is no memory, all is as it was.
+    fn leave(&mut self, entry: Entry) -> Result<(), Memory>
+        requires { Fits (world (past self.old)) entry }
+        ensures { MatchResult result (λ _. self.new ≡ with_entry self.old entry) (λ _. self.new ≡ self.old) }
+    {
+        match self.enter(entry) {
+            Ok(()) => Ok(()),
+            Err(_) => Err(Memory),
+        }
     }
 
     /// Ends the run that stands. It can't fail: the room for the entry was made before.
@@ -159,58 +199,50 @@ impl Disk {
         }
     }
 
-    /// How many name changes came since the last sync.
+    /// How many name changes are pending.
     pub fn unsynced(&self) -> usize
         ensures { result ≡ length (world (past self.now)).pending }
     {
-        self.state.undos.len()
+        self.state.tree.changes.len()
     }
 
-    /// Whether the machine may stop so that of the name changes since the last sync the first `names_kept` stay, and each
-    /// listed file (identity, length in bytes) is cut to its length. After `Memory` it isn't known.
-    pub fn allows(&self, names_kept: usize, lengths: &[(u64, u64)]) -> Result<bool, Memory>
-        ensures { IfOk result (λ yes. IsTrue yes ↔ IsCut (world (past self.now)) names_kept lengths.now) }
+    /// Whether the machine may stop so that of the pending name changes, the oldest of which has place 0, those at these
+    /// places stay, and each listed file (identity, length in bytes) is cut to its length. After `Memory` it isn't known.
+    pub fn allows(&self, kept: &[usize], lengths: &[(u64, u64)]) -> Result<bool, Memory>
+        ensures { IfOk result (λ yes. IsTrue yes ↔ IsCut (world (past self.now)) kept.now lengths.now) }
     {
-        if names_kept > self.state.undos.len() {
+        if !may_keep(&self.state.tree.changes, kept) {
             return Ok(false);
         }
         if !are_apart(lengths) {
             return Ok(false);
         }
-        let mut names = copy_names(self.alloc, &self.state.names)?;
-        take_back(&mut names, &self.state.undos, names_kept);
-        Ok(are_within(&self.state.files, &names, lengths))
+        Ok(may_cut(self.alloc, &self.state, kept, lengths)?)
     }
 
     /// The machine stops so, as `allows` says that it may, and writers let go. What is left counts as synced. After
     /// `Memory` all is as it was.
-    pub fn cut(&mut self, names_kept: usize, lengths: &[(u64, u64)]) -> Result<(), Memory>
-        requires { IsCut (world (past self.old)) names_kept lengths.now }
-        ensures entry { MatchResult result (λ _. self.new ≡ with_entry self.old (entry.Cut names_kept lengths.now)) (λ _. self.new ≡ self.old) }
+    pub fn cut(&mut self, kept: &[usize], lengths: &[(u64, u64)]) -> Result<(), Memory>
+        requires { IsCut (world (past self.old)) kept.now lengths.now }
+        ensures entry { MatchResult result (λ _. self.new ≡ with_entry self.old (entry.Cut kept.now lengths.now)) (λ _. self.new ≡ self.old) }
         ensures safe { OnOk result ((s : LogSet) → IsSafe s (past self.old) → IsSafe s (past self.new)) }
     {
-        let lengths = copy_lengths(self.alloc, lengths)?;
-        let Ok(()) = self.enter(Entry::Cut {
-            names_kept,
-            lengths,
-        }) else {
-            return Err(Memory);
-        };
-        Ok(())
+        let entry = cuts(self.alloc, kept, lengths)?;
+        self.leave(entry)
     }
 
     /// What the path names.
     pub fn thing(&self, path: &Path) -> Thing
         ensures { result ≡ names (world (past self.now)) path.now }
     {
-        thing_at(&self.state.names, path.bytes())
+        thing_at(&self.state.tree.names, path.bytes())
     }
 
     /// Whether something has the path.
     pub fn is_named(&self, path: &Path) -> bool
         ensures { IsTrue result ↔ (names (world (past self.now)) path.now ≢ thing.Nothing) }
     {
-        thing_at(&self.state.names, path.bytes()) != Thing::Nothing
+        thing_at(&self.state.tree.names, path.bytes()) != Thing::Nothing
     }
 
     /// Whether it is a writer's entry, and fits.
@@ -246,9 +278,9 @@ impl Disk {
         if hold_of(&self.state.holds, writer).is_some() {
             return false;
         }
-        match thing_at(&self.state.names, path.bytes()) {
+        match thing_at(&self.state.tree.names, path.bytes()) {
             Thing::Nothing => {
-                thing_at(&self.state.names, path.parent_bytes()) == Thing::Directory
+                thing_at(&self.state.tree.names, path.parent_bytes()) == Thing::Directory
             }
             Thing::File(_) => true,
             _ => false,
@@ -258,7 +290,7 @@ impl Disk {
     fn see(&self, path: &Path) -> Option<Seen>
         ensures { Sees (world (past self.now)) (names (world (past self.now)) path.now) result }
     {
-        match thing_at(&self.state.names, path.bytes()) {
+        match thing_at(&self.state.tree.names, path.bytes()) {
             Thing::Nothing => None,
             Thing::File(identity) => {
                 let file = &self.state.files[identity as usize];
@@ -280,10 +312,8 @@ impl Disk {
         ensures { MatchResult result (λ seen. (self.new ≡ with_entry self.old (entry.Look path.now seen)) × Fits (world (past self.old)) (entry.Look path.now seen)) (λ _. self.new ≡ self.old) }
     {
         let seen = self.see(path);
-        let path = path.copy(self.alloc)?;
-        let Ok(()) = self.enter(Entry::Look { path, seen }) else {
-            return Err(Memory);
-        };
+        let entry = looks(self.alloc, path, seen)?;
+        self.leave(entry)?;
         Ok(seen)
     }
 
@@ -296,13 +326,9 @@ impl Disk {
         ensures err { OnErr result (self.new ≡ self.old) }
     {
         let start = into.len();
-        add_names(alloc, into, &self.state.names, dir)?;
-        let names = copy_texts(self.alloc, &into[start..])?;
-        let dir = dir.copy(self.alloc)?;
-        let Ok(()) = self.enter(Entry::List { dir, names }) else {
-            return Err(Memory);
-        };
-        Ok(())
+        add_names(alloc, into, &self.state.tree.names, dir)?;
+        let entry = lists(self.alloc, dir, &into[start..])?;
+        self.leave(entry)
     }
 
     fn give(&self, path: &Path, from: u64, into: &mut [u8]) -> usize
@@ -312,7 +338,7 @@ impl Disk {
         ensures gives { Gives (world (past self.now)) (names (world (past self.now)) path.now) from (take result into.new) }
         ensures all { GivesAll (world (past self.now)) (names (world (past self.now)) path.now) from (length into.new) result }
     {
-        match thing_at(&self.state.names, path.bytes()) {
+        match thing_at(&self.state.tree.names, path.bytes()) {
             Thing::File(identity) => {
                 read_bytes(&self.state.files[identity as usize].bytes, from, into)
             }
@@ -330,11 +356,8 @@ impl Disk {
         ensures all { IfOk result (λ count. GivesAll (world (past self.old)) (names (world (past self.old)) path.now) from (length into.new) count) }
     {
         let count = self.give(path, from, into);
-        let bytes = Listed::from_vec(into[..count].to_vec(self.alloc)?);
-        let path = path.copy(self.alloc)?;
-        let Ok(()) = self.enter(Entry::Reads { path, from, bytes }) else {
-            return Err(Memory);
-        };
+        let entry = reads(self.alloc, path, from, &into[..count])?;
+        self.leave(entry)?;
         Ok(count)
     }
 }

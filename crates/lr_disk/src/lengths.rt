@@ -1,17 +1,16 @@
 // The lengths that a cut gives files: pairs of an identity and a length in bytes.
-ghost use Rattle.std.specs.Prelude.{◌≡◌, ◌↔◌, IsTrue, IfOk, length};
+ghost use Rattle.std.specs.Prelude.{◌≡◌, ◌↔◌, IsTrue, length};
 ghost use Rattle.lr_host.specs.Lists.{AreDistinct};
 ghost use Rattle.lr_host.specs.World.{length_of, is_file};
+ghost use Rattle.lr_host.specs.Below.{NamesBelow};
 ghost use Rattle.lr_host.specs.Fits.{AreApart};
 ghost use Rattle.lr_disk.specs.Pairs.{keys};
 ghost use Rattle.lr_disk.specs.Names.{named_in};
-ghost use Rattle.lr_disk.specs.Undo.{AreBelow};
 ghost use Rattle.lr_disk.specs.Lengths.{has_file, IsLength, AreWithin};
 
 use crate::file::MemFile;
 use lr_host::Thing;
-use lr_rules::{Listed, Memory, Path};
-use std::alloc::Global;
+use lr_rules::Path;
 
 /// The length that a file is given, by the first pair that has it.
 pub fn length_for(lengths: &[(u64, u64)], identity: u64) -> Option<u64>
@@ -62,7 +61,7 @@ fn is_named(names: &[(Path, Thing)], identity: u64) -> bool
 // Whether the pair is a length that a cut may give.
 fn is_length(files: &[MemFile], names: &[(Path, Thing)], pair: (u64, u64)) -> bool
     requires once { AreDistinct (keys names.now) }
-    requires below { AreBelow (named_in names.now) (length files.now) }
+    requires below { NamesBelow (length files.now) (named_in names.now) }
     ensures { IsTrue result ↔ IsLength files.now (named_in names.now) pair }
 {
     if !is_named(names, pair.0) {
@@ -79,7 +78,7 @@ fn is_length(files: &[MemFile], names: &[(Path, Thing)], pair: (u64, u64)) -> bo
 /// Whether a cut may give the files of these names these lengths.
 pub fn are_within(files: &[MemFile], names: &[(Path, Thing)], lengths: &[(u64, u64)]) -> bool
     requires once { AreDistinct (keys names.now) }
-    requires below { AreBelow (named_in names.now) (length files.now) }
+    requires below { NamesBelow (length files.now) (named_in names.now) }
     ensures { IsTrue result ↔ AreWithin files.now (named_in names.now) lengths.now }
 {
     for pair in lengths {
@@ -88,15 +87,4 @@ pub fn are_within(files: &[MemFile], names: &[(Path, Thing)], lengths: &[(u64, u
         }
     }
     true
-}
-
-/// A copy of the lengths of a cut.
-pub fn copy_lengths(alloc: Global, lengths: &[(u64, u64)]) -> Result<Listed<(u64, u64)>, Memory>
-    ensures { IfOk result (λ copy. copy ≡ lengths.now) }
-{
-    let mut copy = Vec::new(alloc);
-    for pair in lengths {
-        copy.push(*pair)?;
-    }
-    Ok(Listed::from_vec(copy))
 }

@@ -1,11 +1,14 @@
 // The state in memory of an opening.
-ghost use Rattle.std.specs.Prelude.{◌≡◌, ◌++◌, [], pos, map, Some, IfOk, OnOk};
+ghost use Rattle.std.specs.Prelude.{◌≡◌, ◌++◌, pos, map, Some, IfOk, OnOk};
 ghost use Rattle.lr_host.specs.declared.thing.Thing.TheVariants as thing;
 ghost use Rattle.lr_disk.specs.Names.{names_of};
+ghost use Rattle.lr_disk.specs.Tree.{IsOpened};
 ghost use Rattle.lr_disk.specs.State.{as_open};
 
 use crate::file::MemFile;
+use crate::names::copy_names;
 use crate::state::State;
+use crate::tree::Tree;
 use lr_host::{OpenFile, Opening, Thing};
 use lr_rules::Path;
 use std::alloc::{AllocError, Global};
@@ -63,24 +66,45 @@ fn copy_holds(alloc: Global, held: &[(u32, u64)]) -> Result<Vec<(u32, Option<u64
     Ok(holds)
 }
 
-pub fn open(alloc: Global, opening: &Opening) -> Result<State, AllocError>
-    ensures names { IfOk result (λ state. state.names.items ≡ names_of opening.now) }
-    ensures files { IfOk result (λ state. map as_open state.files.items ≡ opening.now.files) }
-    ensures holds { IfOk result (λ state. state.holds.items ≡ map (λ h. (h.0, Some h.1)) opening.now.holds) }
-    ensures undos { IfOk result (λ state. state.undos.items ≡ []) }
-    ensures now { IfOk result (λ state. state.moment ≡ pos 0) }
+fn open_names(alloc: Global, opening: &Opening) -> Result<Vec<(Path, Thing)>, AllocError>
+    ensures { IfOk result (λ names. names.items ≡ names_of opening.now) }
 {
     let mut names = Vec::new(alloc);
     add_files(alloc, &mut names, opening.names.as_slice())?;
     add_paths(alloc, &mut names, opening.dirs.as_slice(), Thing::Directory)?;
     add_paths(alloc, &mut names, opening.others.as_slice(), Thing::Other)?;
+    Ok(names)
+}
+
+// What an opening names is durable, and nothing is pending.
+fn open_tree(alloc: Global, opening: &Opening) -> Result<Tree, AllocError>
+    ensures { IfOk result (λ tree. IsOpened opening.now tree) }
+{
+    let names = open_names(alloc, opening)?;
+    let durable = copy_names(alloc, &names)?;
+    Ok(Tree {
+        names,
+        durable,
+        changes: Vec::new(alloc),
+        spare: None,
+        bound: Vec::new(alloc),
+        rest: Vec::new(alloc),
+    })
+}
+
+pub fn open(alloc: Global, opening: &Opening) -> Result<State, AllocError>
+    ensures tree { IfOk result (λ state. IsOpened opening.now state.tree) }
+    ensures files { IfOk result (λ state. map as_open state.files.items ≡ opening.now.files) }
+    ensures holds { IfOk result (λ state. state.holds.items ≡ map (λ h. (h.0, Some h.1)) opening.now.holds) }
+    ensures now { IfOk result (λ state. state.moment ≡ pos 0) }
+{
+    let tree = open_tree(alloc, opening)?;
     let files = copy_files(alloc, opening.files.as_slice())?;
     let holds = copy_holds(alloc, opening.holds.as_slice())?;
     Ok(State {
-        names,
+        tree,
         files,
         holds,
-        undos: Vec::new(alloc),
         moment: 0,
     })
 }

@@ -1,1 +1,2 @@
+pub mod CalmLemmas
 pub mod TurnLemmas

@@ -1,7 +1,7 @@
 -- What comes before a call, and what the call leaves.
 use Rattle.std.proofs.Common.{◌≡◌, ◌≢◌, ◌⊎◌, inl, inr, ℕ, zero, suc, ◌+◌, ◌<◌, ◌≤◌, Bool, true, false, List, [], ◌∷◌, ◌++◌, length, take, drop, get_or, Option, Some, None, refl, sym, ap, subst, ◌∙◌, arith, append_assoc}
 use Rattle.std.proofs.lemmas.List.{take_more, drop_more, get_or_default, take_all, drop_all, append-nil, take-append-drop}
-use Rattle.std.specs.Prelude.{option_to_list, filter, Result, Ok, Err, IfOk, IsErr}
+use Rattle.std.specs.Prelude.{option_to_list, filter, Result, Ok, Err, IfOk, IsOk, IsErr}
 use Rattle.lr_rules.specs.declared.path.Path.{Path}
 use Rattle.lr_host.specs.declared.thing.Thing.{Thing}
 use Rattle.lr_host.specs.declared.thing.Thing.TheVariants as thing
@@ -17,7 +17,7 @@ use Rattle.lr_host.proofs.Made.{made_on}
 use Rattle.lr_memhost.specs.declared.act.Act.{Act}
 use Rattle.lr_disk.specs.State.{with_entry}
 use Rattle.lr_memhost.specs.How.{downs}
-use Rattle.lr_memhost.specs.Acts.{View, how_at, Came, all, stays, enters, passes, stops, Comes, Entered, Turned, Starved, one_more, counts_of, IsSure, IsMaking}
+use Rattle.lr_memhost.specs.Acts.{View, how_at, Came, all, stays, enters, passes, stops, Comes, Entered, Turned, Starved, one_more, counts_of, IsSure, IsMaking, LeftNew}
 use Rattle.lr_disk.proofs.JournalLemmas.{past_entry}
 
 pub same_act : (acts : List Act) (at : ℕ) (a b : Act) → at < length acts → a ≡ get_or acts at a → b ≡ get_or acts at b → a ≡ b
@@ -147,7 +147,7 @@ still_can can t = (can_stay can (turned_left t) (λ ts is. ap (filter is_naming)
 
 -- no count fell where the rest is as it was
 pub none_fell : (v w : View) → v.faults ≤ w.faults → w.rest ≡ v.rest → Onward (counts_of v) (counts_of w)
-none_fell v w le same = (le, at_least (ap (λ r. r.bad_ends) same), at_least (ap (λ r. r.held) same))
+none_fell v w le same = ((le, at_least (ap (λ r. r.bad_ends) same), at_least (ap (λ r. r.held) same)), ap (λ r. r.mine) same)
   where
     at_least : {a b : ℕ} → b ≡ a → a ≤ b
     at_least e = omega arith
@@ -247,3 +247,40 @@ pub failed_part : {E : Type 0} (r : Result ℕ E) (x : Path) (piece : List ℕ) 
 failed_part (Ok n) x piece count err le ts has = absurd (cc)
 failed_part (Err f) x piece count err le ts (inl none) = inl none
 failed_part (Err f) x piece count err le ts (inr some) = inr (count, le, some)
+
+-- what holds of an entry that was made
+pub of_made : {E : Type 0} (P : Entry → Type 0) (r : Result Entry E) (e : Entry) → IsOk r → IfOk r P → IfOk r (λ x. x ≡ e) → P e
+of_made P (Ok x) e ok h is = subst P is h
+of_made P (Err f) e ok h is = absurd (cc)
+
+pub still_fits : {E : Type 0} {v m : View} (r : Result Entry E) → IfOk r (λ x. IsSure x × Can (Some v.journal) x) → Turned (Are []) v m → IfOk r (λ x. Fits (world (past m.journal)) x)
+still_fits {E} {v} {m} (Ok x) h t = sure_fits (past m.journal) x h.0 (still_can h.1 t)
+still_fits (Err f) h t = tt
+
+pub still_making : {E : Type 0} {v m : View} (r : Result Entry E) (path : Path) → IfOk r (λ x. IsMaking path x × Can (Some v.journal) x) → Turned (Are []) v m → IfOk r (λ x. IsMaking path x × CanCall (names (world (past m.journal))) x)
+still_making (Ok x) path h t = (h.0, still_can h.1 t)
+still_making (Err f) path h t = tt
+
+-- an entry that makes something new fits where the path isn't named
+pub new_fits : {E : Type 0} (r : Result Entry E) (p : Past) (path : Path) → names (world p) path ≡ thing.Nothing → IfOk r (λ x. IsMaking path x × CanCall (names (world p)) x) → IfOk r (λ x. Fits (world p) x)
+new_fits (Ok x) p path free h = making_fits p path x h.0 h.1 free
+new_fits (Err f) p path free h = tt
+
+-- a call that makes something new, and succeeds
+pub turned_new : (path : Path) (made : Bool) (e : Entry) {E : Type 0} {v m w : View} → Turned (Are []) v m → Alike m w → LeftNew path made e m.journal w.journal → Turned (DidWhere {E} (Ok made) e) v w
+turned_new path true e t alike l = turned_entry _ e t alike l.0 l.1 l.2 refl
+turned_new path false e t alike l = turned_kept _ t alike l.0 refl
+
+-- that fails
+pub turned_failed : (path : Path) (made : Bool) (e : Entry) {v m w : View} → Turned (Are []) v m → Alike m w → LeftNew path made e m.journal w.journal → Turned (λ ts. (ts ≡ []) ⊎ (ts ≡ e ∷ [])) v w
+turned_failed path true e t alike l = turned_entry _ e t alike l.0 l.1 l.2 (inr refl)
+turned_failed path false e t alike l = turned_kept _ t alike l.0 (inl refl)
+
+-- that fails with its effect
+pub turned_effect : (path : Path) (made : Bool) (e : Entry) (S : Type 0) {v m w : View} → Turned (Are []) v m → Alike m w → LeftNew path made e m.journal w.journal → Turned (Are (e ∷ [])) v w ⊎ (names (world (past w.journal)) path ≢ thing.Nothing) ⊎ S
+turned_effect path true e S t alike l = inl (turned_entry _ e t alike l.0 l.1 l.2 refl)
+turned_effect path false e S {v} {m} {w} t alike l = inr (inl (subst (λ j. names (world (past j)) path ≢ thing.Nothing) (sym l.0) l.1))
+
+pub named_new : (path : Path) (made : Bool) (e : Entry) (m w : View) → made ≡ false → LeftNew path made e m.journal w.journal → names (world (past w.journal)) path ≢ thing.Nothing
+named_new path true e m w is l = absurd (cc)
+named_new path false e m w is l = subst (λ j. names (world (past j)) path ≢ thing.Nothing) (sym l.0) l.1

@@ -5,11 +5,13 @@ use Rattle.lr_rules.specs.declared.path.Path.{Path}
 use Rattle.lr_host.specs.declared.entry.Entry.{Entry}
 use Rattle.lr_host.specs.declared.entry.Entry.TheVariants as entry
 use Rattle.lr_host.specs.declared.journal.Journal.{Journal}
-use Rattle.lr_host.specs.World.{Past, ◌▸◌, past, world}
+use Rattle.lr_host.specs.declared.thing.Thing.TheVariants as thing
+use Rattle.lr_host.specs.World.{Past, ◌▸◌, past, world, names}
 use Rattle.lr_host.specs.Fits.{Fits}
 use Rattle.lr_rules.specs.declared.fault.Ended.{Ended}
 use Rattle.lr_rules.specs.declared.fault.Ended.TheVariants as ended
 use Rattle.lr_host.specs.Told.{Counts, IsWriters, IsTools, Rose}
+use Rattle.lr_disk.specs.State.{with_entry}
 use Rattle.lr_memhost.specs.declared.act.Act.{Act}
 use Rattle.lr_memhost.specs.declared.act.Failing.{Failing}
 use Rattle.lr_memhost.specs.declared.act.How.{How}
@@ -88,6 +90,10 @@ IsListed v = how_at v ≢ None
 abbrev pub Starved : View → View → Type 0
 Starved before after = Rose before.starved after.starved
 
+-- no fault came, and `starved` rose only where an act waits still
+abbrev pub Unraised : View → View → Type 0
+Unraised before after = (after.faults ≡ before.faults) × (after.acts ≡ [] → after.starved ≡ before.starved)
+
 -- Before the call with this number came, in order, the acts that were due: each that is a writer's and fits stands in the journal, the others are passed over, and those that aren't due stay. Where it was stopped, the rest stays.
 pub data Came (number : ℕ) (stopped : Bool) : Past → List Act → Past → List Act → Type 0 where
   all : {p : Past} → Came number stopped p [] p []
@@ -134,3 +140,8 @@ abbrev pub IsMaking : Path → Entry → Type 0
 IsMaking path (entry.Makes x mode) = x ≡ path
 IsMaking path (entry.MakesDir x mode) = x ≡ path
 IsMaking path _ = ⊥
+
+-- such an entry was left, or, where the path was named, nothing
+abbrev pub LeftNew : Path → Bool → Entry → Journal → Journal → Type 0
+LeftNew x true e before after = (after ≡ with_entry before e) × IsTools e × Fits (world (past before)) e
+LeftNew x false e before after = (after ≡ before) × (names (world (past before)) x ≢ thing.Nothing)

@@ -1,3 +1,4 @@
 pub mod Acts
+pub mod Calm
 pub mod How
 pub mod Sheet

@@ -143,28 +143,29 @@ impl MemHost {
         self.another = by_another;
     }
 
-    /// The machine stops: of the name changes since the last sync the first `names_kept` stay, each listed file
-    /// (identity, length in bytes) is cut to its length, and writers let go. What is left counts as synced. After
+    /// The machine stops: of the pending name changes, the oldest of which has place 0, those at these places stay, each
+    /// listed file (identity, length in bytes) is cut to its length, and writers let go. The places rise, and with each
+    /// change they hold every older one that shares a name with it. What is left counts as synced and durable. After
     /// `NotAllowed` and `Memory` all is as it was.
-    pub fn cut(&mut self, names_kept: usize, lengths: &[(u64, u64)]) -> Result<(), CutFault>
-        ensures ok { OnOk result (self.new ≡ record self.old { journal = with_entry self.old.journal (entry.Cut names_kept lengths.now) }) }
-        ensures allowed { OnOk result (IsCut (world (past self.old.journal)) names_kept lengths.now) }
-        ensures refused { result ≡ Err CutFault.NotAllowed → ¬ IsCut (world (past self.old.journal)) names_kept lengths.now }
+    pub fn cut(&mut self, kept: &[usize], lengths: &[(u64, u64)]) -> Result<(), CutFault>
+        ensures ok { OnOk result (self.new ≡ record self.old { journal = with_entry self.old.journal (entry.Cut kept.now lengths.now) }) }
+        ensures allowed { OnOk result (IsCut (world (past self.old.journal)) kept.now lengths.now) }
+        ensures refused { result ≡ Err CutFault.NotAllowed → ¬ IsCut (world (past self.old.journal)) kept.now lengths.now }
         ensures err { OnErr result (self.new ≡ self.old) }
         ensures safe { OnOk result ((s : LogSet) → IsSafe s (past self.old.journal) → IsSafe s (past self.new.journal)) }
     {
-        match self.disk.allows(names_kept, lengths) {
+        match self.disk.allows(kept, lengths) {
             Ok(true) => {}
             Ok(false) => return Err(CutFault::NotAllowed),
             Err(Memory) => return Err(CutFault::Memory),
         }
-        match self.disk.cut(names_kept, lengths) {
+        match self.disk.cut(kept, lengths) {
             Ok(()) => Ok(()),
             Err(Memory) => Err(CutFault::Memory),
         }
     }
 
-    /// How many name changes came since the last sync.
+    /// How many name changes are pending.
     pub fn unsynced(&self) -> usize
         ensures { result ≡ length (world (past self.now.journal)).pending }
     {

@@ -1,5 +1,5 @@
 // The sink in memory: it keeps what is put, and listed puts fail.
-ghost use Rattle.std.specs.Prelude.{◌≡◌, ◌≤◌, ◌<◌, ◌⊎◌, ◌++◌, [], length, Contains, Some, IfOk, IsErr, OnErr};
+ghost use Rattle.std.specs.Prelude.{◌≡◌, ◌≤◌, ◌<◌, ◌⊎◌, ◌++◌, [], length, Contains, Some, IfOk, IsErr, OnErr, OnOk};
 ghost use Rattle.std.specs.Option.{option_map};
 ghost use Rattle.lr_host.specs.Told.{Rose, taken_of};
 ghost use Rattle.lr_memhost.specs.Acts.{one_more};
@@ -73,6 +73,7 @@ impl Sink for MemSink {
         ensures all { IfOk result (λ count. count ≡ length piece.now) }
         ensures only { OnErr result (Contains self.old.failing self.old.puts ⊎ Rose self.old.starved self.new.starved) }
         ensures listed { Contains self.old.failing self.old.puts → IsErr result }
+        ensures steady { OnOk result ((self.new.faults ≡ self.old.faults) × (self.new.starved ≡ self.old.starved)) }
         ensures next { (self.new.failing ≡ self.old.failing) × (self.new.puts ≡ one_more self.old.puts) }
     {
         let is_listed = self.failing.contains(&self.puts);

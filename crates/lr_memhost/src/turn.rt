@@ -1,12 +1,17 @@
-// What comes before each call: the acts of writers that are due.
-ghost use Rattle.std.specs.Prelude.{◌≡◌, ◌<◌, ◌++◌, ◌+◌, true, false, take, drop, length, slice_index_or, OnErr, OnOk};
-ghost use Rattle.lr_host.specs.World.{past};
-ghost use Rattle.lr_memhost.specs.Acts.{how_of, Came, Comes};
+// What comes before each call, and what the call leaves.
+ghost use Rattle.std.specs.Prelude.{◌≡◌, ◌≢◌, ◌<◌, ◌++◌, ◌+◌, [], true, false, take, drop, length, slice_index_or, OnErr, OnOk, IfOk, IsOk};
+ghost use Rattle.lr_host.specs.declared.entry.Entry.{Entry};
+ghost use Rattle.lr_host.specs.World.{world, past, names};
+ghost use Rattle.lr_host.specs.Fits.{Fits};
+ghost use Rattle.lr_disk.specs.State.{with_entry};
+ghost use Rattle.lr_host.specs.Told.{CanCall};
+ghost use Rattle.lr_memhost.specs.Acts.{how_of, Came, Comes, IsMaking, LeftNew};
 ghost use Rattle.lr_memhost.specs.declared.act.Act.{Act};
 
 use crate::act::{Act, Failing, How};
 use lr_disk::Disk;
-use lr_rules::Memory;
+use lr_host::Entry;
+use lr_rules::{Memory, Path};
 
 // How the call with this number is to fail.
 pub fn listed(failing: &[Failing], number: u64) -> Option<How>
@@ -24,6 +29,7 @@ pub fn listed(failing: &[Failing], number: u64) -> Option<How>
 pub fn take_acts(disk: &mut Disk, acts: &mut Vec<Act>, number: u64) -> Result<(), Memory>
     ensures ok { OnOk result (Came number false (past disk.old) acts.old.items (past disk.new) acts.new.items) }
     ensures err { OnErr result (Came number true (past disk.old) acts.old.items (past disk.new) acts.new.items) }
+    ensures waits { OnErr result (acts.new.items ≢ []) }
 {
     let mut at = 0;
     while at < acts.len() {
@@ -54,4 +60,30 @@ fn take_act(disk: &mut Disk, acts: &mut Vec<Act>, at: usize) -> Result<(), Memor
             Err(Memory)
         }
     }
+}
+
+// Leaves the entry of a call, where there was memory for it; else all is as it was.
+pub fn leave(disk: &mut Disk, entry: Result<Entry, Memory>) -> Result<(), Memory>
+    requires { IfOk entry (λ e. Fits (world (past disk.old)) e) }
+    ensures made { OnOk result (IsOk entry) }
+    ensures ok { OnOk result ((e : Entry) → IfOk entry (λ x. x ≡ e) → disk.new ≡ with_entry disk.old e) }
+    ensures err { OnErr result (disk.new ≡ disk.old) }
+{
+    match disk.enter(entry?) {
+        Ok(()) => Ok(()),
+        Err(_) => Err(Memory),
+    }
+}
+
+// Leaves the entry of a call that makes something new of the path; false, and nothing is left, where the path is named.
+pub fn leave_new(disk: &mut Disk, path: &Path, entry: Result<Entry, Memory>) -> Result<bool, Memory>
+    requires { IfOk entry (λ e. IsMaking path.now e × CanCall (names (world (past disk.old))) e) }
+    ensures ok { (e : Entry) → IfOk entry (λ x. x ≡ e) → IfOk result (λ made. LeftNew path.now made e disk.old disk.new) }
+    ensures err { OnErr result (disk.new ≡ disk.old) }
+{
+    if disk.is_named(path) {
+        return Ok(false);
+    }
+    leave(disk, entry)?;
+    Ok(true)
 }

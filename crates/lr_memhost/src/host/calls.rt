@@ -4,10 +4,11 @@ ghost use Rattle.lr_rules.specs.declared.fault.Ended.TheVariants as ended;
 ghost use Rattle.lr_host.specs.declared.entry.Entry.TheVariants as entry;
 ghost use Rattle.lr_host.specs.declared.thing.Thing.TheVariants as thing;
 ghost use Rattle.lr_host.specs.World.{world, past, names};
-ghost use Rattle.lr_host.specs.Told.{Onward, Rose, Left, Are, Gave, Did, DidWhere, DidPart, DidRun, WhereTold, Can};
+ghost use Rattle.lr_host.specs.Told.{NoneFell, Onward, Rose, Left, Are, Gave, Did, DidWhere, DidPart, DidRun, WhereTold, Can};
 ghost use Rattle.lr_disk.specs.Bytes.{GivesAll};
 ghost use Rattle.lr_memhost.specs.How.{idles};
-ghost use Rattle.lr_memhost.specs.Acts.{View, counts_of, how_at, one_more, first_end, after_end, IsFree, IsListed, Starved, Turned};
+ghost use Rattle.lr_memhost.specs.Acts.{View, counts_of, how_at, one_more, first_end, after_end, IsFree, IsListed, Starved, Unraised, Turned};
+ghost use Rattle.lr_memhost.specs.Calm.{StaysCalm};
 ghost use Rattle.lr_memhost.specs.declared.act.How.TheVariants as way;
 
 use super::MemHost;
@@ -15,6 +16,7 @@ use crate::act::{How, is_idle};
 use crate::entries::{
     appends, makes, makes_dir, renames, runs, starts, syncs_dir, syncs_file, truncates, unlinks,
 };
+use crate::turn::leave;
 use lr_host::{CallFault, Host, ListFault, RunFault, Seen};
 use lr_rules::{Ended, Memory, Moment, Path, Rules, Text};
 use std::alloc::Global;
@@ -35,10 +37,14 @@ impl Host for MemHost {
         ensures told { Left (DidWhere result (entry.Starts state.now now.now rules.now)) (Some self.old.journal) (Some self.new.journal) }
         ensures held { result ≡ Ok false → Rose self.old.rest.held self.new.rest.held }
         ensures cause { OnErr result (Rose self.old.faults self.new.faults) }
-        ensures counts { Onward (counts_of self.old) (counts_of self.new) }
+        ensures lock { result ≡ Ok true → (self.old.rest.mine ≡ false) × (self.new.rest.mine ≡ true) }
+        ensures kept { result ≢ Ok true → self.new.rest.mine ≡ self.old.rest.mine }
+        ensures counts { NoneFell (counts_of self.old) (counts_of self.new) }
         ensures turned { Turned (DidWhere result (entry.Starts state.now now.now rules.now)) self.old self.new }
         ensures only { OnErr result (IsListed self.old ⊎ Starved self.old self.new) }
         ensures listed { IsListed self.old → IsErr result }
+        ensures steady { OnOk result (Unraised self.old self.new) }
+        ensures calm { self.old.rest.mine ≡ false → StaysCalm self.old self.new }
         ensures taken { result ≡ Ok true → IsFree self.old.rest × (self.new.rest ≡ record self.old.rest { mine = true }) }
         ensures locked { result ≡ Ok false → ¬ IsFree self.old.rest × (self.new.rest ≡ record self.old.rest { held = one_more self.old.rest.held }) }
         ensures rest { OnErr result (self.new.rest ≡ self.old.rest) }
@@ -59,9 +65,11 @@ impl Host for MemHost {
     fn end(&mut self)
         requires { (world (past self.old.journal)).running ≡ true }
         ensures told { Left (Are (entry.Ends ∷ [])) (Some self.old.journal) (Some self.new.journal) }
-        ensures counts { Onward (counts_of self.old) (counts_of self.new) }
+        ensures lock { self.new.rest.mine ≡ false }
+        ensures counts { NoneFell (counts_of self.old) (counts_of self.new) }
         ensures turned { Turned (Are (entry.Ends ∷ [])) self.old self.new }
-        ensures faults { self.new.faults ≡ self.old.faults }
+        ensures steady { Unraised self.old self.new }
+        ensures calm { StaysCalm self.old self.new }
         ensures rest { self.new.rest ≡ record self.old.rest { mine = false } }
     {
         let _ = self.turn();
@@ -78,6 +86,8 @@ impl Host for MemHost {
         ensures turned { Turned (Gave result (λ seen. entry.Look path.now seen)) self.old self.new }
         ensures only { OnErr result (IsListed self.old ⊎ Starved self.old self.new) }
         ensures listed { IsListed self.old → IsErr result }
+        ensures steady { OnOk result (Unraised self.old self.new) }
+        ensures calm { StaysCalm self.old self.new }
     {
         if self.turn().is_some() {
             return Err(self.fail_call());
@@ -99,6 +109,8 @@ impl Host for MemHost {
         ensures turned { Turned (Gave result (λ done. entry.List dir.now (drop (length names.old.items) names.new.items))) self.old self.new }
         ensures only { result ≡ Err ListFault.Failed → IsListed self.old }
         ensures listed { IsListed self.old → result ≡ Err ListFault.Failed }
+        ensures steady { result ≢ Err ListFault.Failed → Unraised self.old self.new }
+        ensures calm { StaysCalm self.old self.new }
     {
         if self.turn().is_some() {
             let _ = self.fail_call();
@@ -122,6 +134,8 @@ impl Host for MemHost {
         ensures turned { Turned (Gave result (λ count. entry.Reads path.now from (take count into.new))) self.old self.new }
         ensures only { OnErr result (IsListed self.old ⊎ Starved self.old self.new) }
         ensures listed { IsListed self.old → IsErr result }
+        ensures steady { OnOk result (Unraised self.old self.new) }
+        ensures calm { StaysCalm self.old self.new }
         ensures all { let w = world (past self.new.journal) in IfOk result (λ count. GivesAll w (names w path.now) from (length into.new) count) }
     {
         if self.turn().is_some() {
@@ -142,6 +156,8 @@ impl Host for MemHost {
         ensures turned { Turned (Did result (entry.Renames from.now to.now)) self.old self.new }
         ensures only { OnErr result (IsListed self.old ⊎ Starved self.old self.new) }
         ensures listed { IsListed self.old → IsErr result }
+        ensures steady { OnOk result (Unraised self.old self.new) }
+        ensures calm { StaysCalm self.old self.new }
         ensures nothing { idles (how_at self.old) ≡ true → Turned (Are []) self.old self.new }
         ensures effect { how_at self.old ≡ Some way.WithEffect → Turned (Are (entry.Renames from.now to.now ∷ [])) self.old self.new ⊎ Starved self.old self.new }
         ensures rest { self.new.rest ≡ self.old.rest }
@@ -162,6 +178,8 @@ impl Host for MemHost {
         ensures turned { Turned (DidWhere result (entry.Makes path.now mode)) self.old self.new }
         ensures only { OnErr result (IsListed self.old ⊎ Starved self.old self.new) }
         ensures listed { IsListed self.old → IsErr result }
+        ensures steady { OnOk result (Unraised self.old self.new) }
+        ensures calm { StaysCalm self.old self.new }
         ensures nothing { idles (how_at self.old) ≡ true → Turned (Are []) self.old self.new }
         ensures effect { how_at self.old ≡ Some way.WithEffect → Turned (Are (entry.Makes path.now mode ∷ [])) self.old self.new ⊎ (names (world (past self.new.journal)) path.now ≢ thing.Nothing) ⊎ Starved self.old self.new }
         ensures rest { self.new.rest ≡ self.old.rest }
@@ -183,6 +201,8 @@ impl Host for MemHost {
         ensures turned { Turned (DidPart result path.now piece.now) self.old self.new }
         ensures only { OnErr result (IsListed self.old ⊎ Starved self.old self.new) }
         ensures listed { IsListed self.old → IsErr result }
+        ensures steady { OnOk result (Unraised self.old self.new) }
+        ensures calm { StaysCalm self.old self.new }
         ensures all { IfOk result (λ count. count ≡ min self.old.rest.piece (length piece.now)) }
         ensures nothing { (how_at self.old ≡ Some way.NoEffect) ⊎ (how_at self.old ≡ Some way.Stop) → Turned (Are []) self.old self.new }
         ensures effect { how_at self.old ≡ Some way.WithEffect → Turned (Are (entry.Appends path.now (take (min self.old.rest.piece (length piece.now)) piece.now) ∷ [])) self.old self.new ⊎ Starved self.old self.new }
@@ -214,6 +234,8 @@ impl Host for MemHost {
         ensures turned { Turned (Did result (entry.Truncates path.now)) self.old self.new }
         ensures only { OnErr result (IsListed self.old ⊎ Starved self.old self.new) }
         ensures listed { IsListed self.old → IsErr result }
+        ensures steady { OnOk result (Unraised self.old self.new) }
+        ensures calm { StaysCalm self.old self.new }
         ensures nothing { idles (how_at self.old) ≡ true → Turned (Are []) self.old self.new }
         ensures effect { how_at self.old ≡ Some way.WithEffect → Turned (Are (entry.Truncates path.now ∷ [])) self.old self.new ⊎ Starved self.old self.new }
         ensures rest { self.new.rest ≡ self.old.rest }
@@ -232,6 +254,8 @@ impl Host for MemHost {
         ensures turned { Turned (Did result (entry.Unlinks path.now)) self.old self.new }
         ensures only { OnErr result (IsListed self.old ⊎ Starved self.old self.new) }
         ensures listed { IsListed self.old → IsErr result }
+        ensures steady { OnOk result (Unraised self.old self.new) }
+        ensures calm { StaysCalm self.old self.new }
         ensures nothing { idles (how_at self.old) ≡ true → Turned (Are []) self.old self.new }
         ensures effect { how_at self.old ≡ Some way.WithEffect → Turned (Are (entry.Unlinks path.now ∷ [])) self.old self.new ⊎ Starved self.old self.new }
         ensures rest { self.new.rest ≡ self.old.rest }
@@ -241,7 +265,7 @@ impl Host for MemHost {
         self.change(how, entry)
     }
 
-    /// Syncs a file and all names. A call listed with effect leaves its entry, where there is memory for it; any other listed call leaves nothing.
+    /// Syncs a file, and no name. A call listed with effect leaves its entry, where there is memory for it; any other listed call leaves nothing.
     fn sync_file(&mut self, path: &Path) -> Result<(), CallFault>
         requires { Can (Some self.old.journal) (entry.SyncsFile path.now) }
         ensures told { Left (Did result (entry.SyncsFile path.now)) (Some self.old.journal) (Some self.new.journal) }
@@ -250,6 +274,8 @@ impl Host for MemHost {
         ensures turned { Turned (Did result (entry.SyncsFile path.now)) self.old self.new }
         ensures only { OnErr result (IsListed self.old ⊎ Starved self.old self.new) }
         ensures listed { IsListed self.old → IsErr result }
+        ensures steady { OnOk result (Unraised self.old self.new) }
+        ensures calm { StaysCalm self.old self.new }
         ensures nothing { idles (how_at self.old) ≡ true → Turned (Are []) self.old self.new }
         ensures effect { how_at self.old ≡ Some way.WithEffect → Turned (Are (entry.SyncsFile path.now ∷ [])) self.old self.new ⊎ Starved self.old self.new }
         ensures rest { self.new.rest ≡ self.old.rest }
@@ -259,7 +285,9 @@ impl Host for MemHost {
         self.change(how, entry)
     }
 
-    /// Syncs all names. A call listed with effect leaves its entry, where there is memory for it; any other listed call leaves nothing.
+    /// Makes durable the pending name changes that have a path right in the directory, and with each the older ones that
+    /// share a name with it. A call listed with effect leaves its entry, where there is memory for it; any other listed
+    /// call leaves nothing.
     fn sync_dir(&mut self, path: &Path) -> Result<(), CallFault>
         requires { Can (Some self.old.journal) (entry.SyncsDir path.now) }
         ensures told { Left (Did result (entry.SyncsDir path.now)) (Some self.old.journal) (Some self.new.journal) }
@@ -268,6 +296,8 @@ impl Host for MemHost {
         ensures turned { Turned (Did result (entry.SyncsDir path.now)) self.old self.new }
         ensures only { OnErr result (IsListed self.old ⊎ Starved self.old self.new) }
         ensures listed { IsListed self.old → IsErr result }
+        ensures steady { OnOk result (Unraised self.old self.new) }
+        ensures calm { StaysCalm self.old self.new }
         ensures nothing { idles (how_at self.old) ≡ true → Turned (Are []) self.old self.new }
         ensures effect { how_at self.old ≡ Some way.WithEffect → Turned (Are (entry.SyncsDir path.now ∷ [])) self.old self.new ⊎ Starved self.old self.new }
         ensures rest { self.new.rest ≡ self.old.rest }
@@ -288,6 +318,8 @@ impl Host for MemHost {
         ensures turned { Turned (DidWhere result (entry.MakesDir path.now mode)) self.old self.new }
         ensures only { OnErr result (IsListed self.old ⊎ Starved self.old self.new) }
         ensures listed { IsListed self.old → IsErr result }
+        ensures steady { OnOk result (Unraised self.old self.new) }
+        ensures calm { StaysCalm self.old self.new }
         ensures nothing { idles (how_at self.old) ≡ true → Turned (Are []) self.old self.new }
         ensures effect { how_at self.old ≡ Some way.WithEffect → Turned (Are (entry.MakesDir path.now mode ∷ [])) self.old self.new ⊎ (names (world (past self.new.journal)) path.now ≢ thing.Nothing) ⊎ Starved self.old self.new }
         ensures rest { self.new.rest ≡ self.old.rest }
@@ -315,6 +347,8 @@ impl Host for MemHost {
         ensures turned { Turned (DidRun result (λ end. entry.Runs program.now args.now (option_copied input.entry) end)) self.old self.new }
         ensures only { result ≡ Err RunFault.Failed → IsListed self.old }
         ensures listed { IsListed self.old → IsErr result }
+        ensures steady { result ≢ Err RunFault.Failed → Unraised self.old self.new }
+        ensures calm { StaysCalm self.old self.new }
         ensures next { IfOk result (λ end. (end ≡ first_end self.old.rest.ends) × (self.new.rest ≡ after_end self.old.rest)) }
         ensures starved { result ≡ Err RunFault.Memory → self.new.rest ≡ self.old.rest }
         ensures nothing { idles (how_at self.old) ≡ true → Turned (Are []) self.old self.new × (self.new.rest ≡ self.old.rest) }
@@ -326,10 +360,8 @@ impl Host for MemHost {
             return Err(RunFault::Failed);
         }
         let end = self.next_end();
-        let Ok(entry) = runs(self.alloc, program, args, input, end) else {
-            return Err(RunFault::Memory);
-        };
-        let Ok(()) = self.disk.enter(entry) else {
+        let entry = runs(self.alloc, program, args, input, end);
+        let Ok(()) = leave(&mut self.disk, entry) else {
             return Err(RunFault::Memory);
         };
         self.count_end();

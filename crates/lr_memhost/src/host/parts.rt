@@ -6,12 +6,13 @@ ghost use Rattle.lr_host.specs.declared.thing.Thing.TheVariants as thing;
 ghost use Rattle.lr_host.specs.World.{world, past, names};
 ghost use Rattle.lr_host.specs.Told.{Onward, Rose, Are, Did, DidWhere, Can};
 ghost use Rattle.lr_memhost.specs.How.{idles};
-ghost use Rattle.lr_memhost.specs.Acts.{counts_of, how_at, one_more, first_end, is_bad, after_end, IsFree, Starved, Turned, IsSure, IsMaking};
+ghost use Rattle.lr_memhost.specs.Acts.{counts_of, how_at, one_more, first_end, is_bad, after_end, IsFree, Starved, Unraised, Turned, IsSure, IsMaking};
+ghost use Rattle.lr_memhost.specs.Calm.{StaysCalm};
 ghost use Rattle.lr_memhost.specs.declared.act.How.TheVariants as way;
 
 use super::MemHost;
 use crate::act::{How, is_idle, is_stop};
-use crate::turn::{listed, take_acts};
+use crate::turn::{leave, leave_new, listed, take_acts};
 use lr_host::{CallFault, Entry};
 use lr_rules::{Ended, Memory, Path};
 
@@ -41,6 +42,7 @@ impl MemHost {
         ensures turned { Turned (Are []) self.old self.new }
         ensures faults { self.new.faults ≡ self.old.faults }
         ensures starved { self.old.starved ≤ self.new.starved }
+        ensures fed { self.new.acts ≡ [] → self.new.starved ≡ self.old.starved }
         ensures rest { self.new.rest ≡ self.old.rest }
     {
         let how = self.how();
@@ -81,6 +83,7 @@ impl MemHost {
         ensures only { OnErr result (how_at self.old ≢ None) }
         ensures listed { how_at self.old ≢ None → IsErr result }
         ensures never { IfOk result (λ taken. taken ≡ false) }
+        ensures steady { OnOk result (Unraised self.old self.new) }
         ensures held { OnOk result (self.new.rest ≡ record self.old.rest { held = one_more self.old.rest.held }) }
         ensures rest { OnErr result (self.new.rest ≡ self.old.rest) }
     {
@@ -105,16 +108,15 @@ impl MemHost {
         ensures listed { how ≢ None → IsErr result }
         ensures nothing { idles how ≡ true → Turned (Are []) self.old self.new }
         ensures effect { (e : Entry) → IfOk entry (λ x. x ≡ e) → how ≡ Some way.WithEffect → Turned (Are (e ∷ [])) self.old self.new ⊎ Starved self.old self.new }
+        ensures steady { OnOk result (Unraised self.old self.new) }
+        ensures calm { how ≡ None → StaysCalm self.old self.new }
         ensures rest { self.new.rest ≡ self.old.rest }
     {
         let _ = self.turn();
         if is_idle(how) {
             return Err(self.fail_call());
         }
-        let Ok(entry) = entry else {
-            return Err(self.starve());
-        };
-        let Ok(()) = self.disk.enter(entry) else {
+        let Ok(()) = leave(&mut self.disk, entry) else {
             return Err(self.starve());
         };
         if how.is_some() {
@@ -139,28 +141,21 @@ impl MemHost {
         ensures listed { how ≢ None → IsErr result }
         ensures nothing { idles how ≡ true → Turned (Are []) self.old self.new }
         ensures effect { (e : Entry) → IfOk entry (λ x. x ≡ e) → how ≡ Some way.WithEffect → Turned (Are (e ∷ [])) self.old self.new ⊎ (names (world (past self.new.journal)) path.now ≢ thing.Nothing) ⊎ Starved self.old self.new }
+        ensures steady { OnOk result (Unraised self.old self.new) }
+        ensures calm { how ≡ None → StaysCalm self.old self.new }
         ensures rest { self.new.rest ≡ self.old.rest }
     {
         let _ = self.turn();
         if is_idle(how) {
             return Err(self.fail_call());
         }
-        if self.disk.is_named(path) {
-            if how.is_some() {
-                return Err(self.fail_call());
-            }
-            return Ok(false);
-        }
-        let Ok(entry) = entry else {
-            return Err(self.starve());
-        };
-        let Ok(()) = self.disk.enter(entry) else {
+        let Ok(made) = leave_new(&mut self.disk, path, entry) else {
             return Err(self.starve());
         };
         if how.is_some() {
             return Err(self.fail_call());
         }
-        Ok(true)
+        Ok(made)
     }
 
     // Whether somebody has the lock.

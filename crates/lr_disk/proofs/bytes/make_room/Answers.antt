@@ -1,6 +1,6 @@
 use Rattle.std.proofs.Common.{◌≡◌, ◌+◌, ◌≤◌, Some, refl, arith, sym, subst, ◌∙◌}
 use Rattle.std.specs.Prelude.{vec_len, vec_capacity, slice_get, slice_set}
-use Rattle.lr_disk.proofs.StateLemmas.{set_same, shows_kept, get_set, get_none}
+use Rattle.lr_disk.proofs.StateLemmas.{set_same, shows_kept, same_names, get_set, get_none}
 use Rattle.lr_disk.proofs.bytes.make_room.Goals as goal
 
 some_same : {A : Type 0} {x y : A} → Some x ≡ Some y → x ≡ y
@@ -8,13 +8,13 @@ some_same e = cc
 
 pub returns-in_err-reserve_more-clause-same : goal.returns-in_err-reserve_more-clause-same
 returns-in_err-reserve_more-clause-same c = λ w shows.
-    shows_kept _ _ w shows (λ x. refl) (λ once. once) (λ x h. h)
-    (set_same c.args.state.now.files.items c.in-Some.identity c.index_mut.result.now c.reserve_more.new.file c.index_mut.ensures.value c.reserve_more.ensures.same) (λ v. refl) refl refl
+    shows_kept _ _ w shows (same_names c.args.state.now w shows)
+    (set_same c.args.state.now.files.items c.in-Some.identity c.index_mut.result.now c.reserve_more.new.file c.index_mut.ensures.value c.reserve_more.ensures.same) (λ v. refl) refl
 
 pub returns-in_ok-reserve_more-clause-same : goal.returns-in_ok-reserve_more-clause-same
 returns-in_ok-reserve_more-clause-same c = λ w shows.
-    shows_kept _ _ w shows (λ x. refl) (λ once. once) (λ x h. h)
-    (set_same c.args.state.now.files.items c.in-Some.identity c.index_mut.result.now c.reserve_more.new.file c.index_mut.ensures.value c.reserve_more.ensures.same) (λ v. refl) refl refl
+    shows_kept _ _ w shows (same_names c.args.state.now w shows)
+    (set_same c.args.state.now.files.items c.in-Some.identity c.index_mut.result.now c.reserve_more.new.file c.index_mut.ensures.value c.reserve_more.ensures.same) (λ v. refl) refl
 
 pub returns-in_ok-reserve_more-clause-room : goal.returns-in_ok-reserve_more-clause-room
 returns-in_ok-reserve_more-clause-room c = λ k held x at.

@@ -1,10 +1,10 @@
-use Rattle.std.proofs.Common.{◌≡◌, ◌<◌, length, take, false, ◌∙◌, ap, subst, sym, bytes_eq, [], ◌∷◌, ◌++◌, true, arith}
+use Rattle.std.proofs.Common.{◌≡◌, ⊎_elim, inl, inr, ◌<◌, length, take, false, ◌∙◌, ap, subst, sym, bytes_eq, [], ◌∷◌, ◌++◌, true, arith}
 use Rattle.std.proofs.lemmas.List.{take_all}
 use Rattle.lr_host.specs.declared.thing.Thing.TheVariants as thing
 use Rattle.lr_host.specs.Lists.{AreDistinct}
 use Rattle.lr_disk.specs.Pairs.{keys}
 use Rattle.lr_disk.specs.Names.{named_in, has_path}
-use Rattle.lr_disk.proofs.PairLemmas.{value_of_last, has_at, has_last, has_kept, once_last, bytes_tell}
+use Rattle.lr_disk.proofs.PairLemmas.{value_of_last, has_at, has_last, has_kept, has_only, once_last, bytes_tell}
 use Rattle.lr_disk.proofs.names.make_name.Goals as goal
 
 pub returns-clause-same : goal.returns-clause-same
@@ -34,3 +34,8 @@ returns-then-is-clause-here c =
     subst (λ ns. has_path ns c.args.path.now ≡ true) same
     (has_at bytes_eq c.as_slice-pair-items.result.now c.loop-pair.pair-index c.pair-item.result c.args.path.now within
     (subst (λ p. bytes_eq p.0 c.args.path.now ≡ true) c.pair-item.is (sym c.is.ensures.test ∙ c.if-is.true)))
+
+pub returns-clause-only : goal.returns-clause-only
+returns-clause-only c = λ x h.
+    ⊎_elim (λ old. inl old) (λ new. inr (sym c.in_ok-copy.ensures ∙ new))
+    (has_only bytes_eq bytes_tell c.args.names.now.items (c.in_ok-copy.field-0, thing.Nothing) x (sym (ap (λ ns. has_path ns x) c.in_ok-push.ensures.items) ∙ h))

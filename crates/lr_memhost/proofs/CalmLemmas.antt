@@ -1,0 +1,60 @@
+-- A calm host stays so, and no count rises but for want of memory.
+use Rattle.std.proofs.Common.{◌≡◌, ◌≢◌, ◌⊎◌, inl, inr, ⊎_elim, ℕ, ◌+◌, ◌-◌, ◌<◌, ◌≤◌, Bool, true, false, cond, List, [], ◌∷◌, length, get_or, drop, Option, Some, None, refl, sym, ap, subst, ◌∙◌, arith, All}
+use Rattle.std.specs.Prelude.{◌^◌, min, Result, Ok, Err, OnOk, OnErr}
+use Rattle.lr_rules.specs.declared.fault.Ended.{Ended}
+use Rattle.lr_rules.specs.declared.fault.Ended.TheVariants as ended
+use Rattle.lr_host.specs.declared.entry.Entry.{Entry}
+use Rattle.lr_memhost.specs.declared.act.How.TheVariants as way
+use Rattle.lr_memhost.specs.How.{downs}
+use Rattle.lr_memhost.specs.Acts.{View, Rest, how_of, how_at, is_bad, first_end, after_end, one_more, IsFree, IsListed, Starved, Unraised, Turned}
+use Rattle.lr_memhost.specs.Calm.{IsCalm, NoneRose, StaysCalm}
+
+-- no call to a calm host is listed
+pub calm_how : (v : View) → IsCalm v → how_at v ≡ None
+calm_how v calm = ap (λ b. cond b (Some way.Stop) (how_of v.failing v.calls)) calm.up ∙ calm.unlisted v.calls (omega arith)
+
+no_more : (c n : ℕ) → min (one_more c) (2 ^ 64 - 1) ≤ n → min c (2 ^ 64 - 1) ≤ n
+no_more c n le = omega arith
+
+-- it is calm behind a call, where the rest stays so
+calm_on : {P : List Entry → Type 0} {v w : View} → Turned P v w → w.rest.another ≡ v.rest.another → All (λ e. is_bad e ≡ false) w.rest.ends → IsCalm v → IsCalm w
+calm_on {P} {v} {w} t another ends calm = record {
+  unlisted = λ n le. ap (λ fs. how_of fs n) t.failing ∙ calm.unlisted n (no_more v.calls n (subst (λ c. min c (2 ^ 64 - 1) ≤ n) t.calls le));
+  up = t.down ∙ ap downs (calm_how v calm);
+  free = another ∙ calm.free;
+  ends = ends;
+}
+
+-- a call that leaves the rest as it was
+pub calm_kept : {P : List Entry → Type 0} {v w : View} → Turned P v w → w.rest ≡ v.rest → (w.faults ≡ v.faults) ⊎ Starved v w → StaysCalm v w
+calm_kept {P} {v} {w} t rest faults calm = (
+  calm_on t (ap (λ r. r.another) rest) (subst (λ r. All (λ e. is_bad e ≡ false) r.ends) (sym rest) calm.ends) calm,
+  ⊎_elim (λ same. inl (same, ap (λ r. r.bad_ends) rest, ap (λ r. r.held) rest)) (λ s. inr s) faults,
+)
+
+-- a call that fails where it is listed, or where memory was wanting
+pub calm_called : {P : List Entry → Type 0} {T E : Type 0} (r : Result T E) {v w : View} → Turned P v w → w.rest ≡ v.rest → OnOk r (Unraised v w) → OnErr r (IsListed v ⊎ Starved v w) → StaysCalm v w
+calm_called (Ok x) t rest ok err calm = calm_kept t rest (inl ok.0) calm
+calm_called (Err f) {v} {w} t rest ok err calm = ⊎_elim (λ listed. absurd (listed (calm_how v calm))) (λ s. calm_kept t rest (inr s) calm) err
+
+-- the lock was taken, or given back
+pub calm_lock : {P : List Entry → Type 0} {v w : View} (b : Bool) → Turned P v w → w.rest ≡ record { ends = v.rest.ends; piece = v.rest.piece; mine = b; another = v.rest.another; bad_ends = v.rest.bad_ends; held = v.rest.held } → w.faults ≡ v.faults → StaysCalm v w
+calm_lock {P} {v} {w} b t rest faults calm = (
+  calm_on t (ap (λ r. r.another) rest) (subst (λ es. All (λ e. is_bad e ≡ false) es) (sym (ap (λ r. r.ends) rest)) calm.ends) calm,
+  inl (faults, ap (λ r. r.bad_ends) rest, ap (λ r. r.held) rest),
+)
+
+-- a program ran
+first_good : (es : List Ended) → All (λ e. is_bad e ≡ false) es → is_bad (first_end es) ≡ false
+first_good [] all = refl
+first_good (e ∷ es) all = all 0 e (omega arith)
+
+rest_good : (es : List Ended) → All (λ e. is_bad e ≡ false) es → All (λ e. is_bad e ≡ false) (drop 1 es)
+rest_good [] all = all
+rest_good (e ∷ es) all = λ k d lt. all (k + 1) d (omega arith)
+
+pub calm_ran : {P : List Entry → Type 0} {v w : View} → Turned P v w → w.rest ≡ after_end v.rest → w.faults ≡ v.faults → StaysCalm v w
+calm_ran {P} {v} {w} t rest faults calm = (
+  calm_on t (ap (λ r. r.another) rest) (subst (λ es. All (λ e. is_bad e ≡ false) es) (sym (ap (λ r. r.ends) rest)) (rest_good v.rest.ends calm.ends)) calm,
+  inl (faults, ap (λ r. r.bad_ends) rest ∙ ap (λ b. cond b (one_more v.rest.bad_ends) v.rest.bad_ends) (first_good v.rest.ends calm.ends), ap (λ r. r.held) rest),
+)
