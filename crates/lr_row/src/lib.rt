@@ -15,6 +15,7 @@ mod row;
 mod start;
 mod wants;
 
+pub use cursor::Cursor;
 pub use reader::rows_of;
 pub use row::{
     Call, Called, Cut, Deed, Mishap, Mode, Once, RandomConf, Row, Span, Start, StartFile, Wanted,
