@@ -8,9 +8,8 @@ ghost use Rattle.lr_host.specs.World.{past};
 ghost use Rattle.lr_host.specs.Opening.{IsJournal};
 ghost use Rattle.lr_include.specs.Readers.{IsConf};
 ghost use Rattle.lr_cli.specs.Turning.{TurnsFamily};
-ghost use Rattle.lr_host.specs.Told.{Left, Onward, Rose};
+ghost use Rattle.lr_host.specs.Told.{Left, NoneFell, Rose};
 ghost use Rattle.lr_promise.specs.Promise.{KeepsSafe};
-ghost use Rattle.lr_promise.specs.Shape.{IsRun};
 ghost use Rattle.lr_report.specs.Puts.{Took, TookPart};
 ghost use Rattle.lr_cli.specs.declared.outcome.Report.{Report};
 ghost use Rattle.lr_cli.specs.Answer.{AnsweredAt};
@@ -43,6 +42,10 @@ pub fn logrotate<H: Host, K: Sink>(
     host: &mut H,
     out: &mut K,
 ) -> Outcome
+    // A set that was safe in the journal before is safe in the journal after, where it is steady there: whatever failed, and
+    // wherever the run stopped.
+    ensures safe { KeepsSafe (H.told host.old) (H.told host.new) }
+
     // What the calls showed, and what the answer has to do with it, its `Out` left aside.
     ensures told { Left (AnsweredAt here.now words.now now (without_out result)) (H.told host.old) (H.told host.new) }
 
@@ -53,11 +56,6 @@ pub fn logrotate<H: Host, K: Sink>(
     // Want of memory in the run takes the place of none of its faults, but of failed calls and of those that take memory to
     // be told.
     ensures excused { result ≡ Outcome.OutOfMemory → Left (ExcusedAt here.now words.now now) (H.told host.old) (H.told host.new) }
-
-    // A set that was safe in the journal before is safe in the journal after, where it is steady there: whatever failed, and
-    // wherever the run stopped.
-    ensures safe { KeepsSafe (H.told host.old) (H.told host.new) }
-    ensures shape { Left IsRun (H.told host.old) (H.told host.new) }
 
     // Where the report has no fault but those of the configuration, the log that this gives was turned, file by file, or was
     // let be missing.
@@ -78,7 +76,8 @@ pub fn logrotate<H: Host, K: Sink>(
     ensures words { (report : Report) → result ≡ Outcome.Done report → (conf : Path) × AreWords here.now words.now conf }
     ensures call { (kind : CallKind) (path : Path) → HasFault result (fault.Call kind path) → Rose (H.counts host.old).faults (H.counts host.new).faults }
     ensures held { result ≡ Outcome.Held → Rose (H.counts host.old).held (H.counts host.new).held }
-    ensures counts { Onward (H.counts host.old) (H.counts host.new) }
+    ensures lock { (H.counts host.new).locked ≡ (H.counts host.old).locked }
+    ensures counts { NoneFell (H.counts host.old) (H.counts host.new) }
     ensures sink_counts { K.faults out.old ≤ K.faults out.new }
 {
     let moment = Moment {

@@ -7,7 +7,7 @@ use lr_rules::{Path, PathFault, Text};
 use std::alloc::Global;
 
 /// Why words give no configuration.
-#[derive(Clone, Copy, Debug, PartialEq, Eq)]
+#[derive(Clone, Copy)]
 pub enum WordsFault {
     Refused,
     Memory,

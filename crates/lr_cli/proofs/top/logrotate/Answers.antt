@@ -20,9 +20,6 @@ pub returns-in-Err-Refused-clause-exactly : goal.returns-in-Err-Refused-clause-e
 returns-in-Err-Refused-clause-exactly g c =
     λ calm memory held. exactly_none c.args.here.now c.args.words.now c.args.now (moment_at c.args.now c.first_civil.result) _ _ (is_now c.args.now _ c.ranges.now.sfits c.first_civil.ensures) (c.conf_of.ensures.refused (c.in-Err-Refused.is ∙ ap Err c.in-Err-Refused.field-0-is))
 
-pub returns-in-Err-Refused-clause-shape : goal.returns-in-Err-Refused-clause-shape
-returns-in-Err-Refused-clause-shape g c = left_first IsRun _ (no_entries [] refl)
-
 pub returns-in-Err-Refused-clause-safe : goal.returns-in-Err-Refused-clause-safe
 returns-in-Err-Refused-clause-safe g c = call_safe _ _ (left_first IsRun _ (no_entries [] refl))
 
@@ -32,14 +29,8 @@ returns-in-Err-Refused-clause-bad_words g c = λ memory. ((λ e. c.conf_of.ensur
 pub returns-in-Err-Memory-clause-told : goal.returns-in-Err-Memory-clause-told
 returns-in-Err-Memory-clause-told g c = nothing_called c.args.here.now c.args.words.now c.args.now (moment_at c.args.now c.first_civil.result) _ OutOfMemory _ (is_now c.args.now _ c.ranges.now.sfits c.first_civil.ensures) (ap without_out c.printed-in-Err-Memory.ensures.same) (inl refl)
 
-pub returns-in-Err-Memory-clause-shape : goal.returns-in-Err-Memory-clause-shape
-returns-in-Err-Memory-clause-shape g c = left_first IsRun _ (no_entries [] refl)
-
 pub returns-in_default-clause-told : goal.returns-in_default-clause-told
 returns-in_default-clause-told g c = nothing_called c.args.here.now c.args.words.now c.args.now (moment_at c.args.now c.first_civil.result) _ OutOfMemory _ (is_now c.args.now _ c.ranges.now.sfits c.first_civil.ensures) (ap without_out c.printed-in_default.ensures.same) (inl refl)
-
-pub returns-in_default-clause-shape : goal.returns-in_default-clause-shape
-returns-in_default-clause-shape g c = left_first IsRun _ (no_entries [] refl)
 
 pub returns-clause-told : goal.returns-clause-told
 returns-clause-told g c =
