@@ -6,49 +6,32 @@ ghost use Rattle.lr_rules.specs.Path.{path_fault, word_fault, cleaned, behind_sl
 use crate::form::{fault_of, is_absolute};
 use crate::{Memory, Text};
 use std::alloc::{AllocError, Global};
-use std::error::Error;
-use std::fmt;
 use std::marker::Model;
+use thiserror::Error;
 
 /// Why bytes are no path: the first of these that applies. `Memory` is want of memory.
-#[derive(Clone, Copy, Debug, PartialEq, Eq)]
+#[derive(Clone, Copy, Debug, PartialEq, Eq, Error)]
 pub enum PathFault {
     /// The bytes aren't UTF-8.
+    #[error("NotUtf8")]
     NotUtf8,
     /// There is a newline or a zero byte.
+    #[error("BadByte")]
     BadByte,
     /// There are more than 4,096 bytes.
+    #[error("TooLong")]
     TooLong,
     /// The first byte is no `/`.
+    #[error("Relative")]
     Relative,
     /// Nothing stands between two slashes, or behind the last one.
+    #[error("EmptyPart")]
     EmptyPart,
     /// A part is `.` or `..`.
+    #[error("DotPart")]
     DotPart,
+    #[error("Memory")]
     Memory,
-}
-
-// By hand: the model of the derived one was three times as long.
-impl fmt::Display for PathFault {
-    fn fmt<W: fmt::Write>(&self, f: &mut fmt::Formatter<W>) -> fmt::Result {
-        f.write_str(self.name())
-    }
-}
-
-impl Error for PathFault {}
-
-impl PathFault {
-    fn name(self) -> &'static str {
-        match self {
-            PathFault::NotUtf8 => "NotUtf8",
-            PathFault::BadByte => "BadByte",
-            PathFault::TooLong => "TooLong",
-            PathFault::Relative => "Relative",
-            PathFault::EmptyPart => "EmptyPart",
-            PathFault::DotPart => "DotPart",
-            PathFault::Memory => "Memory",
-        }
-    }
 }
 
 /// An absolute path, in UTF-8, of at most 4,096 bytes and without newlines. Contracts see its bytes.

@@ -3,9 +3,8 @@ ghost use Rattle.std.specs.Prelude.{◌≡◌, ◌↔◌, List, ℕ, IfOk, IsErr
 ghost use Rattle.std.specs.Str.{is_utf8};
 
 use std::alloc::{AllocError, Global};
-use std::error::Error;
-use std::fmt;
 use std::marker::Model;
+use thiserror::Error;
 
 /// Whether the bytes are UTF-8.
 pub fn is_utf8(bytes: &[u8]) -> bool
@@ -14,22 +13,13 @@ pub fn is_utf8(bytes: &[u8]) -> bool
     str::from_utf8(bytes).is_ok()
 }
 
-#[derive(Clone, Copy, Debug, PartialEq, Eq)]
+#[derive(Clone, Copy, Debug, PartialEq, Eq, Error)]
 pub enum TextFault {
+    #[error("NotUtf8")]
     NotUtf8,
+    #[error("Memory")]
     Memory,
 }
-
-impl fmt::Display for TextFault {
-    fn fmt<W: fmt::Write>(&self, f: &mut fmt::Formatter<W>) -> fmt::Result {
-        f.write_str(match self {
-            TextFault::NotUtf8 => "NotUtf8",
-            TextFault::Memory => "Memory",
-        })
-    }
-}
-
-impl Error for TextFault {}
 
 #[derive(Drop)]
 pub struct Text {
