@@ -20,11 +20,12 @@ use Rattle.lr_host.specs.Steps.{changes_of, FitAll}
 use Rattle.lr_host.proofs.Names.{put_here, put_other}
 use Rattle.lr_family.specs.Kin.{IsKin}
 use Rattle.lr_family.specs.Spots.{path_at}
+use Rattle.lr_family.proofs.Numbers.{Every, Falls, every_as, every_both, every_filter, every_passes, every_from, falls_filter, IsHead, in_or_not}
+use Rattle.lr_family.proofs.Paths.{places_apart, log_apart, stands_in}
 use Rattle.lr_chain.specs.Rotation.{is_left, leftovers, kept, unlink_at, move_at, shift_steps, retire_steps, rotation}
 use Rattle.lr_chain.specs.Ready.{IsCount}
 use Rattle.lr_chain.specs.Standing.{StandSo}
-use Rattle.lr_chain.proofs.Every.{Every, Falls, every_as, every_both, every_filter, every_passes, every_from, falls_filter, IsHead, head_of, in_or_not}
-use Rattle.lr_chain.proofs.Paths.{places_apart, log_apart, stands_in}
+use Rattle.lr_chain.proofs.Falling.{kept_head}
 
 -- the first of them first
 abbrev FitOn : Names → List Entry → Type 0
@@ -201,7 +202,7 @@ module _ (log : Path) (n : Naming) (kin : IsKin log n) (numbered : n.dated ≡ N
       zero_no : (k : ℕ) → count.Keep zero ≡ count.Keep (suc k) → ⊥
       zero_no k e = let same : zero ≡ suc k = cc in omega (arith, same)
   by_count m (count.Keep (suc top)) places small start falls within next r stand =
-      whole m (count.Keep (suc top)) places top (list_any (λ p. p == top) places ≡ true) falls within next r stand (λ h. low) (λ h. number) (head_of top places falls) (λ m' r' f. last_fits m' (count.Keep (suc top)) places small start r' (λ k e h. at_last m' f k e h))
+      whole m (count.Keep (suc top)) places top (list_any (λ p. p == top) places ≡ true) falls within next r stand (λ h. low) (λ h. number) (kept_head top places falls) (λ m' r' f. last_fits m' (count.Keep (suc top)) places small start r' (λ k e h. at_last m' f k e h))
     where
       number : IsNumber (top + 1)
       number = omega arith

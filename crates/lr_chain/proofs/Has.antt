@@ -4,7 +4,8 @@ use Rattle.std.specs.Prelude.{filter, Contains, nat_lt}
 use Rattle.std.specs.List.{list_any}
 use Rattle.std.proofs.lemmas.List.Folds.{list_any-from_Any}
 use Rattle.std.proofs.lemmas.Bool.Decides.{nat_tests}
-use Rattle.lr_chain.proofs.Every.{Every}
+use Rattle.std.proofs.lemmas.Bool.{or_from}
+use Rattle.lr_family.proofs.Numbers.{Every}
 
 abbrev pub has : ℕ → List ℕ → Bool
 has k ks = list_any (λ j. j == k) ks
@@ -16,16 +17,12 @@ not_same j k ne = go (j == k) refl
     go true e = absurd (ne (eqb-true j k e))
     go false e = e
 
-both_false : (a b : Bool) → a ≡ false → b ≡ false → (a || b) ≡ false
-both_false true b p q = absurd (cc)
-both_false false b p q = q
-
 pub has_below : (k : ℕ) (ks : List ℕ) → Every (λ j. j < k) ks → has k ks ≡ false
 has_below k [] a = refl
-has_below k (j ∷ ks) a = both_false (j == k) (has k ks) (not_same j k (λ e. omega (arith, e, a.0))) (has_below k ks a.1)
+has_below k (j ∷ ks) a = or_from (j == k) (has k ks) (not_same j k (λ e. omega (arith, e, a.0))) (has_below k ks a.1)
 
 pub has_next : (j k : ℕ) (ks : List ℕ) → (j ≡ k → ⊥) → has k ks ≡ false → has k (j ∷ ks) ≡ false
-has_next j k ks ne e = both_false (j == k) (has k ks) (not_same j k ne) e
+has_next j k ks ne e = or_from (j == k) (has k ks) (not_same j k ne) e
 
 pub has_filter : (f : ℕ → Bool) (k : ℕ) (ks : List ℕ) → has k (filter f ks) ≡ (f k && has k ks)
 has_filter f k [] = ends (f k)

@@ -1,12 +1,11 @@
 pub mod Bounds
 pub mod Chaining
-pub mod Every
+pub mod Falling
 pub mod Fitting
 pub mod Has
 pub mod Highest
 pub mod Lasting
 pub mod Parts
-pub mod Paths
 pub mod Retiring
 pub mod Steps
 pub mod Turned

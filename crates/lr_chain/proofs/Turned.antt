@@ -16,13 +16,13 @@ use Rattle.lr_host.specs.Steps.{changes_of}
 use Rattle.lr_host.proofs.Names.{put_here, put_other}
 use Rattle.lr_family.specs.Kin.{IsKin}
 use Rattle.lr_family.specs.Spots.{path_at}
+use Rattle.lr_family.proofs.Numbers.{Every, Falls, every_as, every_both, every_filter, every_passes, falls_filter, among}
+use Rattle.lr_family.proofs.Paths.{places_apart, log_apart}
 use Rattle.lr_chain.specs.Rotation.{is_left, leftovers, kept, unlink_at, move_at, leftover_steps, shift_steps, turn_steps, retire_steps, rotation}
 use Rattle.lr_chain.specs.Ready.{IsCount}
 use Rattle.lr_chain.specs.Standing.{StandSo}
 use Rattle.lr_chain.specs.Turning.{turned, IsTurned}
-use Rattle.lr_chain.proofs.Every.{Every, Falls, every_as, every_both, every_filter, every_passes, falls_filter, among}
 use Rattle.lr_chain.proofs.Has.{has, has_below, has_next, has_filter, has_none, order}
-use Rattle.lr_chain.proofs.Paths.{places_apart, log_apart}
 
 -- the names behind these entries, the first of them first
 abbrev run : Names → List Entry → Names

@@ -14,6 +14,7 @@ use Rattle.lr_rules.specs.declared.rules.Rules.{Rules}
 use Rattle.lr_rules.specs.Match.{literal_path}
 use Rattle.lr_rules.specs.Names.{naming_of, family_dir}
 use Rattle.lr_rules.specs.Path.{path_fault, parent_of}
+use Rattle.lr_rules.proofs.ParentPath.{parent_path}
 use Rattle.lr_host.specs.declared.entry.Entry.{Entry}
 use Rattle.lr_host.specs.declared.thing.Thing.{Thing}
 use Rattle.lr_host.specs.declared.thing.Thing.TheVariants as thing
@@ -65,7 +66,6 @@ use Rattle.lr_cli.specs.Turning.{turned as is_turned}
 use Rattle.lr_cli.specs.Turning.{let_be as is_let_be}
 use Rattle.lr_cli.specs.Words.{AreWords}
 use Rattle.lr_cli.proofs.Built.{built}
-use Rattle.lr_cli.proofs.ParentPath.{parent_path}
 use Rattle.lr_cli.proofs.Still.{conf_quiet}
 
 -- ---- the run has no fault of its own

@@ -4,6 +4,5 @@ pub mod Exactness
 pub mod Excused
 pub mod FamilyTurned
 pub mod OutAside
-pub mod ParentPath
 pub mod Reading
 pub mod Still

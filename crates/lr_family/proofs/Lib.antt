@@ -2,7 +2,9 @@ pub mod Exact
 pub mod Listing
 pub mod Looking
 pub mod Middles
+pub mod Numbers
 pub mod OnlyLooks
+pub mod Paths
 pub mod Placed
 pub mod Plain
 pub mod Unique

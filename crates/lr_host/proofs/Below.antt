@@ -1,14 +1,12 @@
 -- Names after changes name files whose identities are below a number, where the names before and the changes do.
-use Rattle.std.proofs.Common.{◌≡◌, ⊎_elim, ℕ, ◌<◌, ◌≤◌, Bool, true, false, cond, subst, arith, List, [], ◌∷◌, length}
+use Rattle.std.proofs.Common.{◌≡◌, ⊎_elim, ℕ, ◌<◌, ◌≤◌, Bool, true, false, cond, subst, arith, List, [], ◌∷◌, length, refl}
 use Rattle.lr_rules.specs.declared.path.Path.{Path}
 use Rattle.lr_host.specs.declared.thing.Thing.{Thing}
 use Rattle.lr_host.specs.declared.thing.Thing.TheVariants as thing
 use Rattle.lr_host.specs.World.{Names, names_after, put, Change, Puts, Moves, Drops, changed, is_listed, kept_at, undone_at}
 use Rattle.lr_host.specs.Below.{NamesBelow, IsBelow, AllBelow}
 use Rattle.lr_host.proofs.Names.{put_cases}
-
-no_file : (g : ℕ) → thing.Nothing ≡ thing.File g → ⊥
-no_file g e = cc
+use Rattle.lr_host.proofs.Looked.{nothing_no_file}
 
 pub put_below : (d : ℕ) (n : Names) (x : Path) (t : Thing) → ((g : ℕ) → t ≡ thing.File g → g < d) → NamesBelow d n → NamesBelow d (put n x t)
 put_below d n x t here h y g e = ⊎_elim (λ at. here g at.1) (λ old. h y g old.1) (put_cases n x t y (thing.File g) e)
@@ -18,8 +16,8 @@ thing_below d x t g b e = let c : IsBelow d (Puts x (thing.File g)) = subst (λ 
 
 changed_below : (d : ℕ) (n : Names) (c : Change) → IsBelow d c → NamesBelow d n → NamesBelow d (changed c n)
 changed_below d n (Puts x t) b h = put_below d n x t (λ g e. thing_below d x t g b e) h
-changed_below d n (Moves from to) b h = put_below d (put n from thing.Nothing) to (n from) (λ g e. h from g e) (put_below d n from thing.Nothing (λ g e. absurd (no_file g e)) h)
-changed_below d n (Drops x) b h = put_below d n x thing.Nothing (λ g e. absurd (no_file g e)) h
+changed_below d n (Moves from to) b h = put_below d (put n from thing.Nothing) to (n from) (λ g e. h from g e) (put_below d n from thing.Nothing (λ g e. absurd (nothing_no_file thing.Nothing g refl e)) h)
+changed_below d n (Drops x) b h = put_below d n x thing.Nothing (λ g e. absurd (nothing_no_file thing.Nothing g refl e)) h
 
 pub after_below : (d : ℕ) (n : Names) (cs : List Change) → AllBelow d cs → NamesBelow d n → NamesBelow d (names_after n cs)
 after_below d n [] b h = h

@@ -1,31 +1,17 @@
 -- What is no name of a set is neither its log nor a member.
-use Rattle.std.proofs.Common.{◌≡◌, inl, ⊎_elim, ℕ, ◌+◌, ◌%◌, ◌≤◌, ◌<◌, ◌^◌, Bool, true, false, bytes_eq, refl, sym, subst, arith, Option, Some, None, is_some, List, [], ◌∷◌, ◌++◌, length-append, ℤ, pos}
+use Rattle.std.proofs.Common.{◌≡◌, inl, ⊎_elim, ℕ, ◌+◌, ◌≤◌, Bool, true, false, bytes_eq, refl, sym, subst, arith, Option, Some, None, is_some, ◌∷◌, ◌++◌, ℤ, pos}
 use Rattle.std.specs.Prelude.{decimal}
-use Rattle.std.proofs.lemmas.List.Elements.{All-cons, All-append}
-use Rattle.std.proofs.lemmas.Fmt.{decimal_by_steps}
 use Rattle.std.proofs.lemmas.Slice.Eq.{bytes_eq-Decides}
 use Rattle.lr_rules.specs.declared.path.Path.{Path}
 use Rattle.lr_rules.specs.declared.rule.Naming.{Naming}
 use Rattle.lr_rules.specs.declared.rule.Format.{Format}
-use Rattle.lr_rules.specs.Names.{IsMemberAt, IsRun, AreDigits, IsMiddleShape, HasMemberShape, IsOwnName, the_log, a_member, IsName, Meet}
+use Rattle.lr_rules.specs.Names.{IsMemberAt, IsMiddleShape, HasMemberShape, IsOwnName, the_log, a_member, IsName, Meet}
+use Rattle.lr_rules.proofs.Digits.{decimal_run}
 use Rattle.lr_host.specs.declared.entry.Entry.{Entry}
 use Rattle.lr_host.specs.declared.entry.Entry.TheVariants as entry
 use Rattle.lr_host.specs.Sets.{LogSet, Order, Numbered, Dated, order, order_of, IsKeyBy, in_set}
 use Rattle.lr_laws.specs.Follow.{IsElsewhere, MeetsNone}
 use Rattle.lr_laws.proofs.Sound.{or_cases}
-
-abbrev IsDigit : ℕ → Type 0
-IsDigit d = (48 ≤ d) × (d ≤ 57)
-
-one_digit : (d : ℕ) → d < 10 → AreDigits ((48 + d) ∷ [])
-one_digit d lt = All-cons IsDigit (48 + d) [] (omega arith, omega arith) (λ k x le. absurd (omega arith))
-
--- a number is written as a run of digits
-decimal_run : (n : ℕ) → n < 2 ^ 64 → IsRun (decimal n)
-decimal_run n lt = decimal_by_steps (λ n ds. IsRun ds) (λ d small. (omega arith, one_digit d small)) more n lt
-  where
-    more : (n : ℕ) (ds : List ℕ) → 10 ≤ n → IsRun ds → IsRun (ds ++ ((48 + n % 10) ∷ []))
-    more n ds big r = (omega (arith, length-append ds ((48 + n % 10) ∷ [])), All-append IsDigit ds ((48 + n % 10) ∷ []) r.1 (one_digit (n % 10) (omega arith)))
 
 numbered_none : (d : Option Format) → order_of d ≡ Numbered → d ≡ None
 numbered_none None q = refl

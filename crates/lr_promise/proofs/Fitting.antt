@@ -18,9 +18,10 @@ use Rattle.lr_host.specs.Told.{CanCall}
 use Rattle.lr_host.specs.Steps.{changes_of, FitAll}
 use Rattle.lr_host.proofs.Names.{put_here, put_other}
 use Rattle.lr_family.specs.Spots.{path_at}
+use Rattle.lr_family.proofs.Numbers.{Every, Falls, every_as, every_from, every_all, every_filter, every_passes, falls_filter, IsHead, head_of}
 use Rattle.lr_chain.specs.Rotation.{is_left, leftovers, kept, one_too_many, unlink_at, move_at, rotation}
 use Rattle.lr_promise.specs.Members.{IsFamily, HasName, AreThere, HaveNext}
-use Rattle.lr_promise.proofs.Places.{Every, Falls, every_as, every_from, every_all, every_filter, every_passes, falls_filter, falls_all, IsHead, head_of}
+use Rattle.lr_promise.proofs.Places.{falls_all}
 use Rattle.lr_promise.proofs.Paths.{path_parent, path_same, path_other}
 
 -- the first of them first

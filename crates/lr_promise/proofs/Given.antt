@@ -4,6 +4,7 @@ use Rattle.std.specs.Prelude.{Any}
 use Rattle.std.specs.List.{list_all}
 use Rattle.std.proofs.lemmas.Bool.Decides.{nat_tests}
 use Rattle.std.proofs.lemmas.List.Elements.{All-weaker, All-contains_itself}
+use Rattle.std.proofs.lemmas.Bool.{and_parts}
 use Rattle.lr_rules.specs.declared.path.Path.{Path}
 use Rattle.lr_rules.specs.declared.rule.Count.{Count}
 use Rattle.lr_rules.specs.declared.rule.Count.TheVariants as count
@@ -78,29 +79,21 @@ counts v rules log n c is g = subst (λ (rs : List Rule). SomeRule rs log (λ r.
 
 -- ---- the numbers of places
 
-first_true : (a b : Bool) → (a && b) ≡ true → a ≡ true
-first_true true b h = refl
-first_true false b h = absurd (cc)
-
-second_true : (a b : Bool) → (a && b) ≡ true → b ≡ true
-second_true true b h = h
-second_true false b h = absurd (cc)
-
 record Limits (r : Rule) : Type 0 where
   count : is_count r.count ≡ true
   start : is_small r.start ≡ true
 
 third_and_eighth : (a b c d e f g h i : Bool) → (a && (b && (c && (d && (e && (f && (g && (h && i)))))))) ≡ true → (c ≡ true) × (h ≡ true)
 third_and_eighth a b c d e f g h i t =
-    let from_third = second_true b (c && (d && (e && (f && (g && (h && i)))))) (second_true a (b && (c && (d && (e && (f && (g && (h && i))))))) t) in (
-      first_true c (d && (e && (f && (g && (h && i))))) from_third,
-      first_true h i (second_true g (h && i) (second_true f (g && (h && i)) (second_true e (f && (g && (h && i))) (second_true d (e && (f && (g && (h && i)))) (second_true c (d && (e && (f && (g && (h && i))))) from_third))))),
+    let from_third = (and_parts b (c && (d && (e && (f && (g && (h && i)))))) ((and_parts a (b && (c && (d && (e && (f && (g && (h && i))))))) t).1)).1 in (
+      (and_parts c (d && (e && (f && (g && (h && i))))) from_third).0,
+      (and_parts h i ((and_parts g (h && i) ((and_parts f (g && (h && i)) ((and_parts e (f && (g && (h && i))) ((and_parts d (e && (f && (g && (h && i)))) ((and_parts c (d && (e && (f && (g && (h && i))))) from_third).1)).1)).1)).1)).1)).0,
     )
 
 each_meets : (rules : List Rule) (r : Rule) → list_all meets_limits rules ≡ true → IsIn r rules → meets_limits r ≡ true
 each_meets [] r h i = absurd i
-each_meets (q ∷ qs) r h (inl e) = subst (λ (x : Rule). meets_limits x ≡ true) e (first_true (meets_limits q) (list_all meets_limits qs) h)
-each_meets (q ∷ qs) r h (inr i) = each_meets qs r (second_true (meets_limits q) (list_all meets_limits qs) h) i
+each_meets (q ∷ qs) r h (inl e) = subst (λ (x : Rule). meets_limits x ≡ true) e ((and_parts (meets_limits q) (list_all meets_limits qs) h).0)
+each_meets (q ∷ qs) r h (inr i) = each_meets qs r ((and_parts (meets_limits q) (list_all meets_limits qs) h).1) i
 
 limits : (rules : List Rule) (r : Rule) → list_all meets_limits rules ≡ true → Contains rules r → Limits r
 limits rules r h e = record { count = both.0; start = both.1 }

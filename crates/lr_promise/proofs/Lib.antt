@@ -1,7 +1,6 @@
 pub mod Example
 pub mod Fitting
 pub mod Given
-pub mod Lists
 pub mod Moments
 pub mod Outside
 pub mod Over

@@ -1,14 +1,13 @@
 -- The steps of a rotation lie aside of each set that the log's doesn't meet.
-use Rattle.std.proofs.Common.{◌≡◌, inl, ℕ, zero, suc, ◌+◌, ◌%◌, ◌<◌, ◌≤◌, ◌^◌, ◌==◌, Bool, true, false, not, cond, List, [], ◌∷◌, ◌++◌, map, refl, sym, subst, arith, length-append, None}
+use Rattle.std.proofs.Common.{◌≡◌, inl, ℕ, zero, suc, ◌+◌, ◌==◌, Bool, true, false, not, cond, List, [], ◌∷◌, ◌++◌, map, refl, sym, subst, arith, None}
 use Rattle.std.specs.Prelude.{decimal}
 use Rattle.std.specs.List.{list_any}
-use Rattle.std.proofs.lemmas.List.Elements.{All-cons, All-append}
-use Rattle.std.proofs.lemmas.Fmt.{decimal_by_steps}
 use Rattle.lr_rules.specs.declared.path.Path.{Path}
 use Rattle.lr_rules.specs.declared.rule.Count.{Count}
 use Rattle.lr_rules.specs.declared.rule.Count.TheVariants as count
 use Rattle.lr_rules.specs.declared.rule.Naming.{Naming}
-use Rattle.lr_rules.specs.Names.{IsRun, AreDigits, IsMiddleShape, IsOwnName, the_log, a_member, Meet}
+use Rattle.lr_rules.specs.Names.{IsMiddleShape, IsOwnName, the_log, a_member, Meet}
+use Rattle.lr_rules.proofs.Digits.{decimal_run}
 use Rattle.lr_host.specs.declared.entry.Entry.TheVariants as entry
 use Rattle.lr_host.specs.Told.{Each}
 use Rattle.lr_host.specs.Sets.{LogSet, in_set}
@@ -17,23 +16,10 @@ use Rattle.lr_laws.specs.Rotation.{IsAside}
 use Rattle.lr_laws.proofs.Outside.{apart_outside}
 use Rattle.lr_family.specs.Named.{member_name}
 use Rattle.lr_family.specs.Spots.{path_at}
+use Rattle.lr_family.proofs.Numbers.{Every, every_filter}
 use Rattle.lr_chain.specs.Rotation.{is_left, leftovers, kept, one_too_many, unlink_at, move_at, rotation}
 use Rattle.lr_promise.specs.Members.{HasName, HaveNext}
-use Rattle.lr_promise.proofs.Places.{Every, every_filter}
 use Rattle.lr_promise.proofs.Fitting.{kept_next, first_named}
-
-abbrev IsDigit : ℕ → Type 0
-IsDigit d = (48 ≤ d) × (d ≤ 57)
-
-one_digit : (d : ℕ) → d < 10 → AreDigits ((48 + d) ∷ [])
-one_digit d lt = All-cons IsDigit (48 + d) [] (omega arith, omega arith) (λ k x le. absurd (omega arith))
-
--- a number is written as a run of digits
-decimal_run : (n : ℕ) → n < 2 ^ 64 → IsRun (decimal n)
-decimal_run n lt = decimal_by_steps (λ n ds. IsRun ds) (λ d small. (omega arith, one_digit d small)) more n lt
-  where
-    more : (n : ℕ) (ds : List ℕ) → 10 ≤ n → IsRun ds → IsRun (ds ++ ((48 + n % 10) ∷ []))
-    more n ds big r = (omega (arith, length-append ds ((48 + n % 10) ∷ [])), All-append IsDigit ds ((48 + n % 10) ∷ []) r.1 (one_digit (n % 10) (omega arith)))
 
 -- the path of a place is a name of the family
 pub place_name : (log : Path) (n : Naming) (place : ℕ) → n.dated ≡ None → HasName n place → IsOwnName log n (path_at n place)

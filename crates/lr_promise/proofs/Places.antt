@@ -1,68 +1,15 @@
--- Facts of each place of a list, by recursion.
-use Rattle.std.proofs.Common.{◌≡◌, ◌⊎◌, inl, inr, ℕ, suc, ◌<◌, Bool, true, false, ◌==◌, ◌||◌, cond, List, [], ◌∷◌, length, refl, ap, ◌∙◌, subst, arith, eqb-true, eq-eqb, All}
-use Rattle.std.specs.Prelude.{filter, Contains, Any}
-use Rattle.std.specs.List.{list_any}
-use Rattle.std.proofs.lemmas.List.Elements.{All-head, All-tail}
-use Rattle.std.proofs.lemmas.List.Folds.{Any-from_list_any, list_any-from_Any}
+-- Lists of members' places, each below the one before it.
+use Rattle.std.proofs.Common.{ℕ, ◌<◌, List, [], ◌∷◌, arith, reverse}
+use Rattle.std.specs.List.Sorted.{IsStrictlyIncreasing}
+use Rattle.std.proofs.lemmas.List.Kept.{AllPairs-from_increasing}
 use Rattle.lr_promise.specs.Members.{AreFalling}
-
-abbrev pub Every : (ℕ → Type 0) → List ℕ → Type 0
-Every P [] = Unit {0}
-Every P (k ∷ ks) = P k × Every P ks
-
--- each is below all before it
-abbrev pub Falls : List ℕ → Type 0
-Falls [] = Unit {0}
-Falls (k ∷ ks) = Every (λ j. j < k) ks × Falls ks
-
-pub every_as : (P Q : ℕ → Type 0) (ks : List ℕ) → ((k : ℕ) → P k → Q k) → Every P ks → Every Q ks
-every_as P Q [] f a = tt
-every_as P Q (k ∷ ks) f a = (f k a.0, every_as P Q ks f a.1)
-
-pub every_both : (P Q R : ℕ → Type 0) (ks : List ℕ) → ((k : ℕ) → P k → Q k → R k) → Every P ks → Every Q ks → Every R ks
-every_both P Q R [] f a b = tt
-every_both P Q R (k ∷ ks) f a b = (f k a.0 b.0, every_both P Q R ks f a.1 b.1)
-
-pub every_filter : (P : ℕ → Type 0) (p : ℕ → Bool) (ks : List ℕ) → Every P ks → Every P (filter p ks)
-every_filter P p [] a = tt
-every_filter P p (k ∷ ks) a = go (p k) (every_filter P p ks a.1)
-  where
-    go : (b : Bool) → Every P (filter p ks) → Every P (cond b (k ∷ filter p ks) (filter p ks))
-    go true r = (a.0, r)
-    go false r = r
-
-pub every_passes : (p : ℕ → Bool) (ks : List ℕ) → Every (λ k. p k ≡ true) (filter p ks)
-every_passes p [] = tt
-every_passes p (k ∷ ks) = go (p k) refl (every_passes p ks)
-  where
-    go : (b : Bool) → p k ≡ b → Every (λ j. p j ≡ true) (filter p ks) → Every (λ j. p j ≡ true) (cond b (k ∷ filter p ks) (filter p ks))
-    go true e r = (e, r)
-    go false e r = r
-
-pub falls_filter : (p : ℕ → Bool) (ks : List ℕ) → Falls ks → Falls (filter p ks)
-falls_filter p [] f = tt
-falls_filter p (k ∷ ks) f = go (p k) (falls_filter p ks f.1)
-  where
-    go : (b : Bool) → Falls (filter p ks) → Falls (cond b (k ∷ filter p ks) (filter p ks))
-    go true r = (every_filter (λ j. j < k) p ks f.0, r)
-    go false r = r
-
-pub every_from : (P : ℕ → Type 0) (ks : List ℕ) → ((k : ℕ) → Contains ks k → P k) → Every P ks
-every_from P [] f = tt
-every_from P (k ∷ ks) f = (f k (0, omega arith, refl), every_from P ks (λ j c. f j (suc c.0, more (c.1), c.2)))
-  where
-    more : {i : ℕ} → i < length ks → suc i < length (k ∷ ks)
-    more lt = omega arith
-
-pub every_all : (P : ℕ → Type 0) (ks : List ℕ) → All P ks → Every P ks
-every_all P [] a = tt
-every_all P (k ∷ ks) a = (All-head P k ks a, every_all P ks (All-tail P k ks a))
+use Rattle.lr_family.proofs.Numbers.{Every, Falls, every_as, falls_reverse}
 
 below : (m : ℕ) (ks : List ℕ) → AreFalling (m ∷ ks) → Every (λ j. j < m) ks
 below m [] f = tt
 below m (k ∷ ks) f = (f.0, every_as (λ j. j < k) (λ j. j < m) ks (λ j lt. omega (arith, lt, f.0)) (below k ks f.1))
 
-tail_falls : (m : ℕ) (ks : List ℕ) → AreFalling (m ∷ ks) → AreFalling ks
+pub tail_falls : (m : ℕ) (ks : List ℕ) → AreFalling (m ∷ ks) → AreFalling ks
 tail_falls m [] f = tt
 tail_falls m (k ∷ ks) f = f.1
 
@@ -70,42 +17,11 @@ pub falls_all : (ks : List ℕ) → AreFalling ks → Falls ks
 falls_all [] f = tt
 falls_all (k ∷ ks) f = (below k ks f, falls_all ks (tail_falls k ks f))
 
--- the place at the head of the list
-abbrev pub IsHead : ℕ → List ℕ → Type 0
-IsHead top [] = ⊥
-IsHead top (k ∷ ks) = k ≡ top
+falls_each : (xs : List ℕ) → Falls xs → AreFalling xs
+falls_each [] f = tt
+falls_each (x ∷ []) f = tt
+falls_each (x ∷ y ∷ ys) f = (f.0.0, falls_each (y ∷ ys) f.1)
 
-among : (top : ℕ) (ks : List ℕ) (P : ℕ → Type 0) → list_any (λ k. k == top) ks ≡ true → Every P ks → P top
-among top [] P h a = absurd (cc)
-among top (k ∷ ks) P h a = go (k == top) refl (λ r. among top ks P r a.1) h
-  where
-    go : (b : Bool) → (k == top) ≡ b → (list_any (λ j. j == top) ks ≡ true → P top) → (b || list_any (λ j. j == top) ks) ≡ true → P top
-    go true e further h = subst P (eqb-true k top e) a.0
-    go false e further h = further h
-
--- the highest of those that pass is this place, where it is among them, passes, and none above it does
-pub head_of : (p : ℕ → Bool) (top : ℕ) (ks : List ℕ) → p top ≡ true → ((k : ℕ) → top < k → p k ≡ false) → Falls ks → list_any (λ k. k == top) ks ≡ true → IsHead top (filter p ks)
-head_of p top [] is above f h = absurd (cc)
-head_of p top (k ∷ ks) is above f h = go (k == top) refl (λ r. head_of p top ks is above f.1 r) h
-  where
-    keep : (b : Bool) → b ≡ true → k ≡ top → IsHead top (cond b (k ∷ filter p ks) (filter p ks))
-    keep true t e = e
-    keep false t e = absurd (cc)
-
-    pass : (b : Bool) → b ≡ false → IsHead top (filter p ks) → IsHead top (cond b (k ∷ filter p ks) (filter p ks))
-    pass true t r = absurd (cc)
-    pass false t r = r
-
-    go : (b : Bool) → (k == top) ≡ b → (list_any (λ j. j == top) ks ≡ true → IsHead top (filter p ks)) → (b || list_any (λ j. j == top) ks) ≡ true → IsHead top (filter p (k ∷ ks))
-    go true e further h = let same : k ≡ top = eqb-true k top e in keep (p k) (ap p same ∙ is) same
-    go false e further h = pass (p k) (above k (among top ks (λ j. j < k) h f.0)) (further h)
-
-pub in_or_not : (ks : List ℕ) (k : ℕ) → Contains ks k ⊎ (Contains ks k → ⊥)
-in_or_not ks k = go (list_any (λ j. j == k) ks) refl
-  where
-    there : Any (λ j. (j == k) ≡ true) ks → Contains ks k
-    there a = subst (λ (j : ℕ). Contains ks j) (eqb-true a.1 k a.4) (a.0, a.2, a.3)
-
-    go : (b : Bool) → list_any (λ j. j == k) ks ≡ b → Contains ks k ⊎ (Contains ks k → ⊥)
-    go true e = inl (there (Any-from_list_any (λ j. j == k) ks e))
-    go false e = inr (λ c. let t : list_any (λ j. j == k) ks ≡ true = list_any-from_Any (λ j. j == k) ks (c.0, k, c.1, c.2, eq-eqb k k refl) in cc)
+-- numbers that rise fall where they are turned round
+pub rising_falls : (xs : List ℕ) → IsStrictlyIncreasing xs → AreFalling (reverse xs)
+rising_falls xs r = falls_each (reverse xs) (falls_reverse xs (AllPairs-from_increasing xs r))

@@ -32,12 +32,12 @@ use Rattle.lr_host.proofs.Made.{Cut, cut, CutAt, cut_one, made_journal, made_on}
 use Rattle.lr_host.proofs.Steady.{steady_before, steady_at, none_attached}
 use Rattle.lr_host.specs.Quiet.{IsQuiet, AreQuiet}
 use Rattle.lr_family.specs.Stands.{ShowsStand}
+use Rattle.lr_family.proofs.Numbers.{every_all}
 use Rattle.lr_chain.specs.Rotation.{places_of, rotation}
 use Rattle.lr_chain.proofs.Steps.{each_rotation}
 use Rattle.lr_promise.specs.Members.{IsFamily, HasName, AreThere, HaveNext}
 use Rattle.lr_promise.specs.Shape.{Among, IsFirstOf, IsTail, changes_nothing, turns_one, HasStarted, not_yet, started, IsRun, IsGiven, AreTurns, no_more, one_more, turns_some, IsTurn}
 use Rattle.lr_promise.specs.Promise.{KeepsSafe}
-use Rattle.lr_promise.proofs.Places.{every_all}
 use Rattle.lr_promise.proofs.Still.{IsStill, quiet_safe_on, made_still, made_aside, IsNoStart, rules_same}
 use Rattle.lr_promise.proofs.Over.{over_steps, first_aside}
 use Rattle.lr_promise.proofs.Given.{given_one, no_meet, naming_same, counts, have_next}

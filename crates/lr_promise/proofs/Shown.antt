@@ -25,10 +25,10 @@ use Rattle.lr_host.specs.Lists.{IsIn}
 use Rattle.lr_host.proofs.Lists.{in_from, in_to, in_map, in_unmap, in_front, in_back, in_reverse, from_reverse}
 use Rattle.lr_family.specs.Looks.{Sight, look_of, seen_at, member_of, AreFilesOrGone}
 use Rattle.lr_family.specs.Stands.{number_in, StandsIn, ShowsAs, ShowsStand}
+use Rattle.lr_family.proofs.Numbers.{in_or_not}
 use Rattle.lr_chain.specs.Rotation.{places_of}
 use Rattle.lr_promise.specs.Members.{AreFalling, HasName}
-use Rattle.lr_promise.proofs.Places.{in_or_not}
-use Rattle.lr_promise.proofs.Lists.{rising_falls}
+use Rattle.lr_promise.proofs.Places.{rising_falls}
 
 -- Looks among these entries show these places.
 pub record Shown (n : Naming) (places : List ℕ) (ts : List Entry) : Type 0 where

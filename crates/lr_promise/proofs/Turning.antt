@@ -18,9 +18,10 @@ use Rattle.lr_laws.specs.Rotation.{IsPastCount, IsStep, limit_by, limit_after, I
 use Rattle.lr_laws.specs.Stays.{Rotates}
 use Rattle.lr_laws.proofs.Stated.{ready_first}
 use Rattle.lr_family.specs.Spots.{path_at}
+use Rattle.lr_family.proofs.Numbers.{Every, Falls, every_as, every_all, every_filter, every_passes, falls_filter}
 use Rattle.lr_chain.specs.Rotation.{is_left, leftovers, kept, one_too_many, unlink_at, move_at, rotation}
 use Rattle.lr_promise.specs.Members.{IsFamily, HasName, AreThere, HaveNext}
-use Rattle.lr_promise.proofs.Places.{Every, Falls, every_as, every_all, every_filter, every_passes, falls_filter, falls_all}
+use Rattle.lr_promise.proofs.Places.{falls_all}
 use Rattle.lr_promise.proofs.Paths.{path_member}
 use Rattle.lr_promise.proofs.Fitting.{Before, unlinked, moved, move_free, log_free, after_one, left_apart, kept_next, first_named, above_all, all_below, at_start}
 

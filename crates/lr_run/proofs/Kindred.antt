@@ -1,10 +1,11 @@
 -- A log that a rule can give and its naming in its own directory make a family.
-use Rattle.std.proofs.Common.{◌≡◌, ◌≤◌, ◌+◌, ◌-◌, ◌||◌, ◌&&◌, ℕ, zero, suc, Bool, true, false, not, cond, List, [], ◌∷◌, ◌++◌, length, take, drop, min, None, Option, Some, refl, ap, ◌∙◌, arith, nat_lt, nat_le}
+use Rattle.std.proofs.Common.{◌≡◌, ◌≤◌, ◌+◌, ◌-◌, ◌&&◌, ℕ, zero, suc, Bool, true, false, not, cond, List, [], ◌∷◌, ◌++◌, length, take, drop, min, None, Option, Some, refl, ap, ◌∙◌, arith, nat_lt, nat_le}
 use Rattle.std.specs.Prelude.{decimal}
 use Rattle.std.specs.List.{list_any}
 use Rattle.std.proofs.lemmas.List.{length-take, length-append}
 use Rattle.std.proofs.lemmas.Bool.Decides.{nat_tests}
 use Rattle.std.specs.Str.{is_utf8}
+use Rattle.std.proofs.lemmas.Bool.{and_parts, or_from, or_parts}
 use Rattle.lr_rules.specs.declared.path.PathFault.{PathFault}
 use Rattle.lr_rules.specs.declared.path.PathFault.TheVariants as fault
 use Rattle.lr_rules.specs.Limits.{can_be_log}
@@ -15,18 +16,6 @@ use Rattle.lr_rules.proofs.PathLemmas.{joined_parts, last_plain}
 use Rattle.lr_family.specs.Kin.{IsKin, is_barred}
 use Rattle.lr_family.proofs.Unique.{joined_same}
 use Rattle.lr_run.specs.Logs.{naming_at}
-
-or_false : (a b : Bool) → (a || b) ≡ false → (a ≡ false) × (b ≡ false)
-or_false true b h = absurd (cc)
-or_false false b h = (refl, h)
-
-both_false : (a b : Bool) → a ≡ false → b ≡ false → (a || b) ≡ false
-both_false true b p q = absurd (cc)
-both_false false b p q = q
-
-both_true : (a b : Bool) → (a && b) ≡ true → (a ≡ true) × (b ≡ true)
-both_true true b h = (refl, h)
-both_true false b h = absurd (cc)
 
 no_bad : (bs : List ℕ) → path_fault bs ≡ None → has_bad_byte bs ≡ false
 unfolding path_fault
@@ -40,14 +29,14 @@ no_bad bs h = go (is_utf8 bs) (has_bad_byte bs) _ h
 drop_clean : (f : ℕ → Bool) (k : ℕ) (xs : List ℕ) → list_any f xs ≡ false → list_any f (drop k xs) ≡ false
 drop_clean f zero xs h = h
 drop_clean f (suc k) [] h = refl
-drop_clean f (suc k) (x ∷ xs) h = drop_clean f k xs (or_false (f x) (list_any f xs) h).1
+drop_clean f (suc k) (x ∷ xs) h = drop_clean f k xs (or_parts (f x) (list_any f xs) h).1
 
 unbarred : (xs : List ℕ) → list_any is_slash xs ≡ false → list_any is_bad xs ≡ false → list_any is_barred xs ≡ false
 unbarred [] s b = refl
 unbarred (x ∷ xs) s b =
-    let p = or_false (is_slash x) (list_any is_slash xs) s in
-    let q = or_false (is_bad x) (list_any is_bad xs) b in
-    both_false (is_barred x) (list_any is_barred xs) (both_false (is_slash x) (is_bad x) p.0 q.0) (unbarred xs p.1 q.1)
+    let p = or_parts (is_slash x) (list_any is_slash xs) s in
+    let q = or_parts (is_bad x) (list_any is_bad xs) b in
+    or_from (is_barred x) (list_any is_barred xs) (or_from (is_slash x) (is_bad x) p.0 q.0) (unbarred xs p.1 q.1)
 
 take_within : (k : ℕ) (xs : List ℕ) → length (take k xs) ≤ length xs
 take_within k xs = let e : length (take k xs) ≡ min k (length xs) = length-take k xs in omega (arith, e)
@@ -73,8 +62,8 @@ apart start log place p m = longer (last_of log) (decimal (start + place)) (join
 
 pub kin_at : (start : ℕ) (log : List ℕ) → path_fault log ≡ None → can_be_log log ≡ true → IsKin log (naming_at start log)
 kin_at start log p l =
-    let small = both_true (nat_le (length log) 2048) (nat_le 1 (length (last_of log)) && (nat_le (length (last_of log)) 255 && not (ends_with part_end log))) l in
-    let short = both_true (nat_le (length (last_of log)) 255) (not (ends_with part_end log)) (both_true (nat_le 1 (length (last_of log))) (nat_le (length (last_of log)) 255 && not (ends_with part_end log)) small.1).1 in
+    let small = and_parts (nat_le (length log) 2048) (nat_le 1 (length (last_of log)) && (nat_le (length (last_of log)) 255 && not (ends_with part_end log))) l in
+    let short = and_parts (nat_le (length (last_of log)) 255) (not (ends_with part_end log)) (and_parts (nat_le 1 (length (last_of log))) (nat_le (length (last_of log)) 255 && not (ends_with part_end log)) small.1).1 in
     let a : length log ≤ 2048 = le_from (length log) 2048 small.0 in
     let b : length (last_of log) ≤ 255 = le_from (length (last_of log)) 255 short.0 in
     let w : length (parent_of log) ≤ length log = parent_within log in

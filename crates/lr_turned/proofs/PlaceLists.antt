@@ -2,7 +2,9 @@
 use Rattle.std.proofs.Common.{◌≡◌, ◌⊎◌, inl, inr, ⊎_elim, ℕ, ◌<◌, Bool, true, false, cond, ◌||◌, ◌==◌, List, [], ◌∷◌, sym, ◌∙◌, ap, arith, eqb-true, eq-eqb, refl}
 use Rattle.std.specs.Prelude.{filter}
 use Rattle.std.specs.List.{list_any}
+use Rattle.std.proofs.lemmas.Bool.{or_right}
 use Rattle.lr_promise.specs.Members.{AreFalling}
+use Rattle.lr_promise.proofs.Places.{tail_falls}
 use Rattle.lr_host.specs.Lists.{IsIn}
 
 pub same_or_not : (m k : ℕ) → (m ≡ k) ⊎ (m ≡ k → ⊥)
@@ -60,20 +62,12 @@ under_first k m [] f i = absurd i
 under_first k m (l ∷ ls) f (inl e) = omega (arith, f.0)
 under_first k m (l ∷ ls) f (inr i) = let r = under_first l m ls f.1 i in omega (arith, f.0)
 
-rest_falls : (k : ℕ) (ks : List ℕ) → AreFalling (k ∷ ks) → AreFalling ks
-rest_falls k [] f = tt
-rest_falls k (l ∷ ls) f = f.1
-
 pub falls : (top : ℕ) (ks : List ℕ) → AreFalling ks → ((m : ℕ) → IsIn m ks → m < top) → FallsFrom top ks
 falls top [] f b = tt
-falls top (k ∷ ks) f b = (b k (inl refl), falls k ks (rest_falls k ks f) (λ m i. under_first k m ks f i))
+falls top (k ∷ ks) f b = (b k (inl refl), falls k ks (tail_falls k ks f) (λ m i. under_first k m ks f i))
 
 -- one of them is this place
 pub in_any : (m : ℕ) (ks : List ℕ) → IsIn m ks → list_any (λ place. place == m) ks ≡ true
 in_any m [] i = absurd i
 in_any m (k ∷ ks) (inl e) = ap (λ b. b || list_any (λ place. place == m) ks) (eq-eqb k m e)
-in_any m (k ∷ ks) (inr i) = or_true (k == m) (list_any (λ place. place == m) ks) (in_any m ks i)
-  where
-    or_true : (a b : Bool) → b ≡ true → (a || b) ≡ true
-    or_true true b h = refl
-    or_true false b h = h
+in_any m (k ∷ ks) (inr i) = or_right (k == m) (list_any (λ place. place == m) ks) (in_any m ks i)

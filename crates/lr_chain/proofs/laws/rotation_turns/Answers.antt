@@ -1,9 +1,10 @@
 use Rattle.std.proofs.Common.{◌≡◌, ◌+◌, ◌≤◌, false}
 use Rattle.lr_chain.specs.Rotation.{places_of, is_left}
 use Rattle.lr_chain.proofs.Bounds.{have_names, have_next, none_too_high}
-use Rattle.lr_chain.proofs.Every.{every_all, falls_all}
 use Rattle.lr_chain.proofs.Turned as turned
 use Rattle.lr_chain.proofs.laws.rotation_turns.Goals as goal
+use Rattle.lr_chain.proofs.Falling.{falls_all}
+use Rattle.lr_family.proofs.Numbers.{every_all}
 
 pub returns : goal.returns
 returns c = λ names s.

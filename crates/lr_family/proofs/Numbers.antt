@@ -1,15 +1,10 @@
--- Facts of each number of a list, by recursion.
-use Rattle.std.proofs.Common.{◌≡◌, ◌⊎◌, inl, inr, ℕ, zero, suc, ◌<◌, Bool, true, false, not, ◌==◌, ◌||◌, cond, List, [], ◌∷◌, ◌++◌, length, reverse, refl, sym, subst, arith, eqb-true, eq-eqb}
-use Rattle.std.specs.Prelude.{filter, Contains, Any, All, nat_le}
+-- Facts of each number of a list, by recursion, and of lists that fall.
+use Rattle.std.proofs.Common.{◌≡◌, ◌⊎◌, inl, inr, ℕ, zero, suc, ◌<◌, Bool, true, false, ◌==◌, ◌||◌, cond, List, [], ◌∷◌, ◌++◌, length, reverse, refl, sym, subst, arith, eqb-true, eq-eqb, ap, ◌∙◌}
+use Rattle.std.specs.Prelude.{filter, Contains, Any, All}
 use Rattle.std.specs.List.{list_any, AllPairs}
-use Rattle.std.proofs.lemmas.List.{reverse-append, reverse-reverse}
-use Rattle.std.specs.List.Sorted.{IsStrictlyIncreasing}
-use Rattle.std.proofs.lemmas.List.Kept.{AllPairs-from_increasing}
+use Rattle.std.proofs.lemmas.List.{reverse-append}
 use Rattle.std.proofs.lemmas.List.Elements.{All-head, All-tail}
 use Rattle.std.proofs.lemmas.List.Folds.{Any-from_list_any, list_any-from_Any}
-use Rattle.std.proofs.lemmas.Bool.Decides.{nat_tests}
-use Rattle.lr_rules.specs.declared.rule.Count.TheVariants as count
-use Rattle.lr_chain.specs.Rotation.{kept}
 
 abbrev pub Every : (ℕ → Type 0) → List ℕ → Type 0
 Every P [] = Unit {0}
@@ -82,12 +77,10 @@ later x ks h = every_all (λ j. x < j) ks (λ k d lt. h zero (suc k) d (omega ar
 rest_rises : (x : ℕ) (ks : List ℕ) → AllPairs (λ a b. a < b) (x ∷ ks) → AllPairs (λ a b. a < b) ks
 rest_rises x ks h = λ i j d lt within. h (suc i) (suc j) d (omega arith) (omega arith)
 
-falls_reverse : (ks : List ℕ) → AllPairs (λ a b. a < b) ks → Falls (reverse ks)
+-- numbers that rise fall where they are turned round
+pub falls_reverse : (ks : List ℕ) → AllPairs (λ a b. a < b) ks → Falls (reverse ks)
 falls_reverse [] h = tt
 falls_reverse (k ∷ ks) h = subst Falls (sym (reverse-append (k ∷ []) ks)) (falls_push (reverse ks) k (falls_reverse ks (rest_rises k ks h)) (every_reverse (λ j. k < j) ks (later k ks h)))
-
-pub falls_all : (ks : List ℕ) → IsStrictlyIncreasing (reverse ks) → Falls ks
-falls_all ks h = subst Falls (reverse-reverse ks) (falls_reverse (reverse ks) (AllPairs-from_increasing (reverse ks) h))
 
 -- the number at the head of the list
 abbrev pub IsHead : ℕ → List ℕ → Type 0
@@ -102,28 +95,22 @@ among top (k ∷ ks) P h a = go (k == top) refl (λ r. among top ks P r a.1) h
     go true e further h = subst P (eqb-true k top e) a.0
     go false e further h = further h
 
--- the highest of those that are kept is one below the count, where it is among them
-pub head_of : (top : ℕ) (ks : List ℕ) → Falls ks → list_any (λ k. k == top) ks ≡ true → IsHead top (kept (count.Keep (suc top)) ks)
-head_of top [] f h = absurd (cc)
-head_of top (k ∷ ks) f h = go (k == top) refl (λ r. head_of top ks f.1 r) h
+-- the highest of those that pass is this number, where it is among them, passes, and none above it does
+pub head_of : (p : ℕ → Bool) (top : ℕ) (ks : List ℕ) → p top ≡ true → ((k : ℕ) → top < k → p k ≡ false) → Falls ks → list_any (λ k. k == top) ks ≡ true → IsHead top (filter p ks)
+head_of p top [] is above f h = absurd (cc)
+head_of p top (k ∷ ks) is above f h = go (k == top) refl (λ r. head_of p top ks is above f.1 r) h
   where
-    keep : (b : Bool) → b ≡ false → k ≡ top → IsHead top (cond (not b) (k ∷ kept (count.Keep (suc top)) ks) (kept (count.Keep (suc top)) ks))
-    keep true t e = absurd (cc)
-    keep false t e = e
+    keep : (b : Bool) → b ≡ true → k ≡ top → IsHead top (cond b (k ∷ filter p ks) (filter p ks))
+    keep true t e = e
+    keep false t e = absurd (cc)
 
-    pass : (b : Bool) → b ≡ true → IsHead top (kept (count.Keep (suc top)) ks) → IsHead top (cond (not b) (k ∷ kept (count.Keep (suc top)) ks) (kept (count.Keep (suc top)) ks))
-    pass true t r = r
-    pass false t r = absurd (cc)
+    pass : (b : Bool) → b ≡ false → IsHead top (filter p ks) → IsHead top (cond b (k ∷ filter p ks) (filter p ks))
+    pass true t r = absurd (cc)
+    pass false t r = r
 
-    go : (b : Bool) → (k == top) ≡ b → (list_any (λ j. j == top) ks ≡ true → IsHead top (kept (count.Keep (suc top)) ks)) → (b || list_any (λ j. j == top) ks) ≡ true → IsHead top (kept (count.Keep (suc top)) (k ∷ ks))
-    go true e further h = let same : k ≡ top = eqb-true k top e in keep (nat_le (suc top) k) (at_top k same) same
-      where
-        at_top : (j : ℕ) → j ≡ top → nat_le (suc top) j ≡ false
-        at_top j e = grind (arith, nat_tests)
-    go false e further h = let lt : top < k = among top ks (λ j. j < k) h f.0 in pass (nat_le (suc top) k) (above k lt) (further h)
-      where
-        above : (j : ℕ) → top < j → nat_le (suc top) j ≡ true
-        above j lt = grind (arith, nat_tests)
+    go : (b : Bool) → (k == top) ≡ b → (list_any (λ j. j == top) ks ≡ true → IsHead top (filter p ks)) → (b || list_any (λ j. j == top) ks) ≡ true → IsHead top (filter p (k ∷ ks))
+    go true e further h = let same : k ≡ top = eqb-true k top e in keep (p k) (ap p same ∙ is) same
+    go false e further h = pass (p k) (above k (among top ks (λ j. j < k) h f.0)) (further h)
 
 pub in_or_not : (ks : List ℕ) (k : ℕ) → Contains ks k ⊎ (Contains ks k → ⊥)
 in_or_not ks k = go (list_any (λ j. j == k) ks) refl
