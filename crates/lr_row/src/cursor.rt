@@ -24,6 +24,7 @@ impl<'a> Cursor<'a> {
         self.taken = self.taken.saturating_add(1);
     }
 
+    /// Takes the next word.
     pub fn word(&mut self) -> Result<&'a [u8], Trouble> {
         match self.next() {
             Some(word) => {
@@ -48,10 +49,12 @@ impl<'a> Cursor<'a> {
         self.next() == Some(wanted)
     }
 
+    /// Whether all words were taken.
     pub fn is_done(&self) -> bool {
         self.taken >= self.words.len()
     }
 
+    /// Takes a number.
     pub fn number(&mut self) -> Result<u64, Trouble> {
         number(self.word()?)
     }
@@ -70,26 +73,32 @@ impl<'a> Cursor<'a> {
         }
     }
 
+    /// Takes a number below 2 ^ 32.
     pub fn small(&mut self) -> Result<u32, Trouble> {
         small(self.word()?)
     }
 
+    /// Takes seconds, maybe behind a minus sign.
     pub fn seconds(&mut self) -> Result<i64, Trouble> {
         seconds(self.word()?)
     }
 
+    /// Takes a mode.
     pub fn octal(&mut self) -> Result<u32, Trouble> {
         octal(self.word()?)
     }
 
+    /// Takes a path.
     pub fn path(&mut self) -> Result<Path, Trouble> {
         Ok(Path::new(self.alloc, self.word()?)?)
     }
 
+    /// Takes any bytes.
     pub fn bytes(&mut self) -> Result<Vec<u8>, Trouble> {
         Ok(Vec::from_slice(self.alloc, self.word()?)?)
     }
 
+    /// Takes a number below 256.
     pub fn status(&mut self) -> Result<u8, Trouble> {
         match u8::try_from(self.number()?) {
             Ok(status) => Ok(status),

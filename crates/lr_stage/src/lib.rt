@@ -1,6 +1,5 @@
-//! The stage of worked rows: the disk in memory that a row begins with, what is done to it, the ways to play a row, and
-//! whether a call left what is wanted. What a row says is that of `lr_row`; what its calls are, its program says, as a
-//! `Caller`.
+//! The stage of worked rows: a row is played in each of its ways, and judged. What a row says is that of `lr_row`, its disk
+//! and what is wanted of that are of `lr_scene`, and what its calls are, its program says, as a `Caller`.
 //!
 //! Begin with `judge`, which plays a row in its mode:
 //!
@@ -10,20 +9,11 @@
 #![tactic(auto)]
 
 mod chance;
-mod compare;
-mod cut;
-mod deed;
-mod differences;
-mod entries;
-mod files;
 mod modes;
-mod opening;
 mod play;
-mod ticks;
 mod verdict;
 
-pub use differences::Differences;
-pub use entries::{changes_text, entries_text};
 pub use lr_row::{Call, Row, rows_of};
+pub use lr_scene::{Differences, changes_text, entries_text};
 pub use play::Caller;
 pub use verdict::{Judgement, Verdict, judge};

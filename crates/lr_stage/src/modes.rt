@@ -1,12 +1,11 @@
 // The ways to play a row: once, or once for each of many twists.
 use crate::chance::{generator, next_conf};
-use crate::entries::put_entry;
 use crate::play::{Caller, Played, Twist, behind_first, plain, play};
-use crate::ticks::{entry_of, number_of};
 use lr_host::Entry;
 use lr_line::{Trouble, put_quoted};
 use lr_memhost::{Failing, How, MemHost};
 use lr_row::{Called, Mode, RandomConf, Row, Span};
+use lr_scene::{entry_of, number_of, put_entry};
 use std::alloc::{AllocError, Global};
 
 /// What came of a row: how often it was played, and the lines of what differs.
@@ -129,7 +128,44 @@ fn range(alloc: Global, host: &MemHost, span: &Span) -> Result<(u64, u64), Troub
     }
 }
 
-// Each call but the end of a run, which never fails.
+// The call fails, unless it is the end of a run, which never does.
+fn fail_one<C: Caller>(
+    alloc: Global,
+    caller: &C,
+    row: &Row,
+    failing: Failing,
+    first: &[Entry],
+    came: &mut Came,
+) -> Result<(), Trouble> {
+    if matches!(entry_of(first, failing.at), Some(Entry::Ends)) {
+        return Ok(());
+    }
+    let twist = Twist {
+        failing: Some(failing),
+        first,
+        ..plain()
+    };
+    play_twisted(alloc, caller, row, twist, came)
+}
+
+fn fail_each<C: Caller>(
+    alloc: Global,
+    caller: &C,
+    row: &Row,
+    span: &Span,
+    host: &MemHost,
+    came: &mut Came,
+) -> Result<(), Trouble> {
+    let (from, to) = range(alloc, host, span)?;
+    let first = host.journal().entries.as_slice();
+    for how in [How::NoEffect, How::WithEffect] {
+        for at in from..to {
+            fail_one(alloc, caller, row, Failing { at, how }, first, came)?;
+        }
+    }
+    Ok(())
+}
+
 fn each_fails<C: Caller>(
     alloc: Global,
     caller: &C,
@@ -138,22 +174,7 @@ fn each_fails<C: Caller>(
     came: &mut Came,
 ) -> Result<(), Trouble> {
     let host = behind_first(alloc, caller, row, None)?;
-    let (from, to) = range(alloc, &host, span)?;
-    let first = host.journal().entries.as_slice();
-    for how in [How::NoEffect, How::WithEffect] {
-        for at in from..to {
-            if !matches!(entry_of(first, at), Some(Entry::Ends)) {
-                let failing = Some(Failing { at, how });
-                let twist = Twist {
-                    failing,
-                    first,
-                    ..plain()
-                };
-                play_twisted(alloc, caller, row, twist, came)?;
-            }
-        }
-    }
-    Ok(())
+    fail_each(alloc, caller, row, span, &host, came)
 }
 
 // The places whose bits the mask has.
@@ -204,6 +225,23 @@ fn each_cut<C: Caller>(
     Ok(())
 }
 
+fn stop_each<C: Caller>(
+    alloc: Global,
+    caller: &C,
+    row: &Row,
+    span: &Span,
+    host: &MemHost,
+    came: &mut Came,
+) -> Result<(), Trouble> {
+    let (from, to) = range(alloc, host, span)?;
+    let first = host.journal().entries.as_slice();
+    for at in from..to {
+        let how = How::Stop;
+        each_cut(alloc, caller, row, Failing { at, how }, first, came)?;
+    }
+    Ok(())
+}
+
 fn each_stops<C: Caller>(
     alloc: Global,
     caller: &C,
@@ -212,13 +250,7 @@ fn each_stops<C: Caller>(
     came: &mut Came,
 ) -> Result<(), Trouble> {
     let host = behind_first(alloc, caller, row, None)?;
-    let (from, to) = range(alloc, &host, span)?;
-    let first = host.journal().entries.as_slice();
-    for at in from..to {
-        let how = How::Stop;
-        each_cut(alloc, caller, row, Failing { at, how }, first, came)?;
-    }
-    Ok(())
+    stop_each(alloc, caller, row, span, &host, came)
 }
 
 fn play_conf<C: Caller>(

@@ -1,15 +1,13 @@
 // A row is played: its calls are made over its disk, and each is compared with what is wanted of it.
-use crate::compare::{Answer, Mark, Stopped, compare};
-use crate::cut::cut_keeping;
-use crate::deed::do_deed;
-use crate::differences::Differences;
-use crate::opening::host_of;
-use crate::ticks::{TICK_PATH, list_ticks, number_of};
 use lr_host::Entry;
 use lr_line::Trouble;
 use lr_memhost::{Failing, MemHost, MemSink};
 use lr_row::{Call, Called, Deed, Row};
 use lr_rules::Path;
+use lr_scene::{
+    Answer, Differences, Mark, Stopped, TICK_PATH, cut_keeping, do_deed, host_of, list_ticks,
+    number_of, put_differences,
+};
 use std::alloc::{AllocError, Global};
 
 /// What a program makes of the calls of rows.
@@ -163,6 +161,35 @@ fn find<C: Caller>(
     }
 }
 
+// Makes the call, and adds what differs.
+fn make_into<C: Caller>(
+    alloc: Global,
+    caller: &C,
+    host: &mut MemHost,
+    call: &Call,
+    twist: Twist,
+    out: &mut MemSink,
+    differences: &mut Differences,
+) -> Result<(), Trouble> {
+    let mark = Mark {
+        entries: host.journal().entries.len(),
+        calls: host.calls(),
+    };
+    let status = caller.make(alloc, host, call, out)?;
+    let printed = out.bytes();
+    let answer = Answer { status, printed };
+    let stopped = stopped(twist);
+    compare(
+        alloc,
+        differences,
+        host,
+        &call.wanted,
+        answer,
+        mark,
+        stopped,
+    )
+}
+
 // Makes the call; what differs, as a text.
 fn make_call<C: Caller>(
     alloc: Global,
@@ -171,25 +198,9 @@ fn make_call<C: Caller>(
     call: &Call,
     twist: Twist,
 ) -> Result<Vec<u8>, Trouble> {
-    let mark = Mark {
-        entries: host.journal().entries.len(),
-        calls: host.calls(),
-    };
     let mut out = sink_of(alloc, &call.failing_puts)?;
-    let status = caller.make(alloc, host, call, &mut out)?;
-    let printed = out.bytes();
-    let answer = Answer { status, printed };
     let mut differences = Differences::new(alloc);
-    let stopped = stopped(twist);
-    compare(
-        alloc,
-        &mut differences,
-        host,
-        &call.wanted,
-        answer,
-        mark,
-        stopped,
-    )?;
+    make_into(alloc, caller, host, call, twist, &mut out, &mut differences)?;
     Ok(differences.into_text())
 }
 
@@ -288,15 +299,22 @@ fn play_once<C: Caller>(
     play_calls(alloc, caller, &mut host, &row.calls, twist, found)
 }
 
+// How many of these wait for a call that is named.
+fn count_deeds(deeds: &[Deed]) -> usize {
+    let mut count = 0usize;
+    for deed in deeds {
+        if deed.called.is_some() {
+            count = count.saturating_add(1);
+        }
+    }
+    count
+}
+
 // How many calls are named before these.
 fn count_named(calls: &[Call]) -> usize {
     let mut count = 0usize;
     for call in calls {
-        for deed in &call.deeds {
-            if deed.called.is_some() {
-                count = count.saturating_add(1);
-            }
-        }
+        count = count.saturating_add(count_deeds(&call.deeds));
     }
     count
 }
@@ -362,6 +380,31 @@ fn make_first<C: Caller>(
     Ok(())
 }
 
+// The numbers of the calls that are named before the first call.
+fn first_numbers<C: Caller>(alloc: Global, caller: &C, row: &Row) -> Result<Vec<u64>, Trouble> {
+    let mut numbers = Vec::new(alloc);
+    let count = match row.calls.first() {
+        Some(call) => count_deeds(&call.deeds),
+        None => 0,
+    };
+    let _ = find_numbers(alloc, caller, row, plain(), count, &mut numbers)?;
+    Ok(numbers)
+}
+
+fn make_first_of<C: Caller>(
+    alloc: Global,
+    caller: &C,
+    host: &mut MemHost,
+    row: &Row,
+    numbers: &[u64],
+    failing: Option<Failing>,
+) -> Result<(), Trouble> {
+    match row.calls.first() {
+        Some(call) => make_first(alloc, caller, host, call, numbers, failing),
+        None => Err(Trouble::Odd("the row has no call")),
+    }
+}
+
 /// The host behind the first call of the row, which meets this; where it meets nothing, with the ticks of its calls.
 pub fn behind_first<C: Caller>(
     alloc: Global,
@@ -369,13 +412,8 @@ pub fn behind_first<C: Caller>(
     row: &Row,
     failing: Option<Failing>,
 ) -> Result<MemHost, Trouble> {
-    let Some(call) = row.calls.first() else {
-        return Err(Trouble::Odd("the row has no call"));
-    };
-    let mut numbers = Vec::new(alloc);
-    let count = count_named(&row.calls[..1]);
-    let _ = find_numbers(alloc, caller, row, plain(), count, &mut numbers)?;
+    let numbers = first_numbers(alloc, caller, row)?;
     let mut host = host_for(alloc, row, None, true)?;
-    make_first(alloc, caller, &mut host, call, &numbers, failing)?;
+    make_first_of(alloc, caller, &mut host, row, &numbers, failing)?;
     Ok(host)
 }

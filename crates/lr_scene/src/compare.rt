@@ -284,7 +284,7 @@ fn compare_all(
 }
 
 /// Adds what differs from what is wanted of a call.
-pub fn compare(
+pub fn put_differences(
     alloc: Global,
     differences: &mut Differences,
     host: &MemHost,

@@ -10,6 +10,7 @@ pub struct Differences {
 }
 
 impl Differences {
+    /// Nothing differs so far.
     pub fn new(alloc: Global) -> Differences {
         Differences {
             alloc,
@@ -17,6 +18,7 @@ impl Differences {
         }
     }
 
+    /// What differs, as a text.
     pub fn into_text(self) -> Vec<u8> {
         self.text
     }

@@ -6,12 +6,11 @@ use lr_row::{Start, StartFile};
 use lr_rules::{Listed, Path};
 use std::alloc::{AllocError, Global};
 
-fn paths(alloc: Global, all: &[Path]) -> Result<Listed<Path>, Trouble> {
-    let mut paths = Listed::new(alloc);
+fn add_paths(alloc: Global, paths: &mut Listed<Path>, all: &[Path]) -> Result<(), Trouble> {
     for path in all {
         paths.push(path.copy(alloc)?)?;
     }
-    Ok(paths)
+    Ok(())
 }
 
 // The bytes of the file, for the configuration those that stand in their place.
@@ -75,14 +74,14 @@ fn add_file(
     add_name(alloc, opening, &file.path, place)
 }
 
-fn opening_without_files(alloc: Global, start: &Start) -> Result<Opening, Trouble> {
-    Ok(Opening {
+fn empty_opening(alloc: Global) -> Opening {
+    Opening {
         files: Listed::new(alloc),
-        dirs: paths(alloc, &start.dirs)?,
-        others: paths(alloc, &start.others)?,
+        dirs: Listed::new(alloc),
+        others: Listed::new(alloc),
         names: Listed::new(alloc),
-        holds: Listed::from_vec(Vec::from_slice(alloc, &start.holds)?),
-    })
+        holds: Listed::new(alloc),
+    }
 }
 
 // Files without names, and more names.
@@ -93,7 +92,24 @@ fn add_odd(alloc: Global, opening: &mut Opening, start: &Start) -> Result<(), Tr
     for (path, place) in &start.names {
         add_name(alloc, opening, path, *place)?;
     }
+    for hold in &start.holds {
+        opening.holds.push(*hold)?;
+    }
     Ok(())
+}
+
+fn fill(
+    alloc: Global,
+    opening: &mut Opening,
+    start: &Start,
+    conf: Option<&[u8]>,
+) -> Result<(), Trouble> {
+    add_paths(alloc, &mut opening.dirs, &start.dirs)?;
+    add_paths(alloc, &mut opening.others, &start.others)?;
+    for file in &start.files {
+        add_file(alloc, opening, file, conf)?;
+    }
+    add_odd(alloc, opening, start)
 }
 
 fn opening(
@@ -102,11 +118,8 @@ fn opening(
     conf: Option<&[u8]>,
     more: Option<&Path>,
 ) -> Result<Opening, Trouble> {
-    let mut opening = opening_without_files(alloc, start)?;
-    for file in &start.files {
-        add_file(alloc, &mut opening, file, conf)?;
-    }
-    add_odd(alloc, &mut opening, start)?;
+    let mut opening = empty_opening(alloc);
+    fill(alloc, &mut opening, start, conf)?;
     if let Some(path) = more {
         add_empty(alloc, &mut opening, path)?;
     }

@@ -1,6 +1,6 @@
 // The numbers of calls: a writer of its own acts before each call, so the journal tells which call left an entry.
 use crate::deed::{act, attach, feed};
-use crate::entries::put_entry;
+use crate::entries::{is_from_outside, put_entry};
 use lr_host::Entry;
 use lr_line::Trouble;
 use lr_memhost::MemHost;
@@ -74,7 +74,7 @@ pub fn entry_of(entries: &[Entry], number: u64) -> Option<&Entry> {
     for entry in entries {
         if is_tick(entry) {
             ticks = ticks.saturating_add(1);
-        } else if ticks > 0 && ticks - 1 == number && !crate::entries::is_from_outside(entry) {
+        } else if ticks > 0 && ticks - 1 == number && !is_from_outside(entry) {
             return Some(entry);
         }
     }
