@@ -19,6 +19,16 @@ struct Reader {
     rows: Vec<Row>,
 }
 
+fn empty_reader(alloc: Global) -> Reader {
+    Reader {
+        alloc,
+        conf: None,
+        head: Vec::new(alloc),
+        draft: None,
+        rows: Vec::new(alloc),
+    }
+}
+
 // The line without the blanks at its head.
 fn trimmed(line: &[u8]) -> &[u8] {
     match line.iter().position(|byte| *byte != b' ') {
@@ -185,12 +195,6 @@ impl Reader {
 /// The rows of a text, each with the first fault of its lines; trouble names a line before the first row, or is that of
 /// memory.
 pub fn rows_of(alloc: Global, text: &[u8]) -> Result<Vec<Row>, Trouble> {
-    let mut reader = Reader {
-        alloc,
-        conf: None,
-        head: Vec::new(alloc),
-        draft: None,
-        rows: Vec::new(alloc),
-    };
+    let mut reader = empty_reader(alloc);
     reader.read(text)
 }
