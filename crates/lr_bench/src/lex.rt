@@ -90,7 +90,9 @@ fn print_times(rt: &HostRuntime, bytes: &[u8], lines: usize, told: u64) -> Resul
     let pass = pass_time(rt, bytes, lines)?;
     let lexing = lex_time(rt, bytes, told)?;
     let ratio = lexing / pass.max(1);
-    println!(rt; "lex: a pass that counts the lines {pass} ns, the lexer {lexing} ns, {ratio} times as long")?;
+    println!(rt;
+        "lex: a pass that counts the lines {pass} ns, the lexer {lexing} ns, {ratio} times as long"
+    )?;
     Ok(())
 }
 

@@ -80,8 +80,14 @@ fn measure_one(rt: &HostRuntime, logs: u32, timed: bool) -> Result<(u128, u128)>
 fn print_times(rt: &HostRuntime, half: (u128, u128), whole: (u128, u128)) -> Result<()> {
     let reading = whole.0.saturating_mul(100) / half.0.max(1);
     let writing = whole.1.saturating_mul(100) / half.1.max(1);
-    println!(rt; "state: read in {} and {} ns, {reading} percent", half.0, whole.0)?;
-    println!(rt; "state: written in {} and {} ns, {writing} percent", half.1, whole.1)?;
+    println!(rt;
+        "state: read in {} and {} ns, {reading} percent",
+        half.0, whole.0
+    )?;
+    println!(rt;
+        "state: written in {} and {} ns, {writing} percent",
+        half.1, whole.1
+    )?;
     Ok(())
 }
 
