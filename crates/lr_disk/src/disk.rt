@@ -103,6 +103,11 @@ fn make_ready(
     room.reserve(more)
 }
 
+// Lets an entry go, for which there was no memory.
+fn let_go(_entry: Entry) -> Memory {
+    Memory
+}
+
 fn newest(entries: &Listed<Entry>) -> &Entry
     requires { 0 < length entries.now }
     ensures { (es : List Entry) (e : Entry) → entries.now ≡ es ++ e ∷ [] → result.now ≡ e }
@@ -184,7 +189,7 @@ impl Disk {
     {
         match self.enter(entry) {
             Ok(()) => Ok(()),
-            Err(_) => Err(Memory),
+            Err(back) => Err(let_go(back)),
         }
     }
 

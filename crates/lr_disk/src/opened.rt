@@ -98,13 +98,24 @@ pub fn open(alloc: Global, opening: &Opening) -> Result<State, AllocError>
     ensures holds { IfOk result (λ state. state.holds.items ≡ map (λ h. (h.0, Some h.1)) opening.now.holds) }
     ensures now { IfOk result (λ state. state.moment ≡ pos 0) }
 {
-    let tree = open_tree(alloc, opening)?;
-    let files = copy_files(alloc, opening.files.as_slice())?;
-    let holds = copy_holds(alloc, opening.holds.as_slice())?;
-    Ok(State {
-        tree,
-        files,
-        holds,
+    let mut state = State {
+        tree: open_tree(alloc, opening)?,
+        files: Vec::new(alloc),
+        holds: Vec::new(alloc),
         moment: 0,
-    })
+    };
+    fill(alloc, &mut state, opening)?;
+    Ok(state)
+}
+
+// Gives the state the files and holds of an opening.
+fn fill(alloc: Global, state: &mut State, opening: &Opening) -> Result<(), AllocError>
+    ensures tree { state.new.tree ≡ state.old.tree }
+    ensures files { OnOk result (map as_open state.new.files.items ≡ opening.now.files) }
+    ensures holds { OnOk result (state.new.holds.items ≡ map (λ h. (h.0, Some h.1)) opening.now.holds) }
+    ensures now { state.new.moment ≡ state.old.moment }
+{
+    state.files = copy_files(alloc, opening.files.as_slice())?;
+    state.holds = copy_holds(alloc, opening.holds.as_slice())?;
+    Ok(())
 }

@@ -267,20 +267,29 @@ new_fits (Ok x) p path free h = making_fits p path x h.0 h.1 free
 new_fits (Err f) p path free h = tt
 
 -- a call that makes something new, and succeeds
-pub turned_new : (path : Path) (made : Bool) (e : Entry) {E : Type 0} {v m w : View} → Turned (Are []) v m → Alike m w → LeftNew path made e m.journal w.journal → Turned (DidWhere {E} (Ok made) e) v w
+pub turned_new : (path : Path) (made : Bool) (e : Entry) {E : Type 0} {v m w : View} → Turned (Are []) v m → Alike m w → LeftNew path made e m.journal w.journal → Turned (DidWhere {E = E} (Ok made) e) v w
 turned_new path true e t alike l = turned_entry _ e t alike l.0 l.1 l.2 refl
 turned_new path false e t alike l = turned_kept _ t alike l.0 refl
 
 -- that fails
-pub turned_failed : (path : Path) (made : Bool) (e : Entry) {v m w : View} → Turned (Are []) v m → Alike m w → LeftNew path made e m.journal w.journal → Turned (λ ts. (ts ≡ []) ⊎ (ts ≡ e ∷ [])) v w
-turned_failed path true e t alike l = turned_entry _ e t alike l.0 l.1 l.2 (inr refl)
-turned_failed path false e t alike l = turned_kept _ t alike l.0 (inl refl)
+pub turned_failed : (path : Path) (made : Bool) (e : Entry) (j : Journal) {v m w : View} → Turned (Are []) v m → Alike m w → w.journal ≡ j → LeftNew path made e m.journal j → Turned (λ ts. (ts ≡ []) ⊎ (ts ≡ e ∷ [])) v w
+turned_failed path true e j t alike is l = turned_entry _ e t alike (is ∙ l.0) l.1 l.2 (inr refl)
+turned_failed path false e j t alike is l = turned_kept _ t alike (is ∙ l.0) (inl refl)
 
 -- that fails with its effect
-pub turned_effect : (path : Path) (made : Bool) (e : Entry) (S : Type 0) {v m w : View} → Turned (Are []) v m → Alike m w → LeftNew path made e m.journal w.journal → Turned (Are (e ∷ [])) v w ⊎ (names (world (past w.journal)) path ≢ thing.Nothing) ⊎ S
-turned_effect path true e S t alike l = inl (turned_entry _ e t alike l.0 l.1 l.2 refl)
-turned_effect path false e S {v} {m} {w} t alike l = inr (inl (subst (λ j. names (world (past j)) path ≢ thing.Nothing) (sym l.0) l.1))
+pub turned_effect : (path : Path) (made : Bool) (e : Entry) (j : Journal) (S : Type 0) {v m w : View} → Turned (Are []) v m → Alike m w → w.journal ≡ j → LeftNew path made e m.journal j → Turned (Are (e ∷ [])) v w ⊎ (names (world (past w.journal)) path ≢ thing.Nothing) ⊎ S
+turned_effect path true e j S t alike is l = inl (turned_entry _ e t alike (is ∙ l.0) l.1 l.2 refl)
+turned_effect path false e j S {v} {m} {w} t alike is l = inr (inl (subst (λ k. names (world (past k)) path ≢ thing.Nothing) (sym (is ∙ l.0)) l.1))
 
-pub named_new : (path : Path) (made : Bool) (e : Entry) (m w : View) → made ≡ false → LeftNew path made e m.journal w.journal → names (world (past w.journal)) path ≢ thing.Nothing
-named_new path true e m w is l = absurd (cc)
-named_new path false e m w is l = subst (λ j. names (world (past j)) path ≢ thing.Nothing) (sym l.0) l.1
+pub named_new : (path : Path) (made : Bool) (e : Entry) (j k : Journal) → made ≡ false → LeftNew path made e j k → names (world (past k)) path ≢ thing.Nothing
+named_new path true e j k is l = absurd (cc)
+named_new path false e j k is l = subst (λ i. names (world (past i)) path ≢ thing.Nothing) (sym l.0) l.1
+
+-- an entry that it may be
+pub some_entry : {E : Type 0} (r : Result Entry E) → (e : Entry) × IfOk r (λ x. x ≡ e)
+some_entry (Ok x) = (x, refl)
+some_entry (Err f) = (entry.Ends, tt)
+
+pub made_fits : {E : Type 0} {p : Past} (r : Result Entry E) (e : Entry) → IfOk r (λ x. x ≡ e) → Fits (world p) e → IfOk r (λ x. Fits (world p) x)
+made_fits {E} {p} (Ok x) e is fits = subst (Fits (world p)) (sym is) fits
+made_fits (Err f) e is fits = tt

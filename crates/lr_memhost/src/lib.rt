@@ -5,13 +5,9 @@
 #![tactic(auto)]
 
 mod act;
-#[cfg(test)]
-mod calling;
 mod entries;
 mod host;
 mod sink;
-#[cfg(test)]
-mod tests;
 mod turn;
 
 pub use act::{Act, Failing, How};

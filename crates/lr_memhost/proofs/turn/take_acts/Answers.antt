@@ -1,4 +1,4 @@
-use Rattle.std.proofs.Common.{◌<◌, length, arith, subst, sym, true}
+use Rattle.std.proofs.Common.{◌≡◌, ◌<◌, ◌∙◌, ap, length, arith, subst, sym, true}
 use Rattle.std.specs.Prelude.{Result, Ok, Err, OnErr}
 use Rattle.lr_host.specs.World.{past}
 use Rattle.lr_memhost.specs.Acts.{Came}
@@ -29,3 +29,10 @@ returns-in_err-take_act-clause-err c =
 
 pub returns-clause-ok : goal.returns-clause-ok
 returns-clause-ok c = all_came c.args.number (past c.args.disk.now) c.args.acts.now.items (past c.loop-at.disk) c.loop-at.acts.items c.loop-at.at (omega (arith, c.loop-at-test.false, c.len.ensures, c.loop-at.acts.ok.0)) c.loop-at.invariant
+
+pub returns-in_err-take_act-clause-waits : goal.returns-in_err-take_act-clause-waits
+returns-in_err-take_act-clause-waits c =
+    on_err c.from_residual.result _ (λ none.
+    let lt : c.loop-at.at < length c.loop-at.acts.items = omega (arith, c.loop-at-test.true, c.len.ensures, c.loop-at.acts.ok.0) in
+    let size : length c.loop-at.acts.items ≡ 0 = ap length (sym c.in_err-take_act.ensures.err.0 ∙ none) in
+    omega arith)

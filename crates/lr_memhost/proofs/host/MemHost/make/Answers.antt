@@ -1,31 +1,40 @@
 use Rattle.std.proofs.Common.{◌≡◌, inl, inr, refl, sym, ap, subst, ◌∙◌, arith, [], ◌∷◌, Some}
-use Rattle.std.specs.Prelude.{IfOk}
+use Rattle.std.specs.Prelude.{is_some}
 use Rattle.lr_host.specs.World.{past}
 use Rattle.lr_host.specs.Told.{Are, Can}
+use Rattle.lr_memhost.specs.How.{idles}
 use Rattle.lr_memhost.specs.Acts.{Turned, IsMaking}
-use Rattle.lr_memhost.proofs.TurnLemmas.{turned_entry, like_same, still_can, making_tools, making_fits, free_if}
+use Rattle.lr_memhost.proofs.TurnLemmas.{turned_kept, turned_new, turned_failed, turned_effect, named_new, some_entry, like, like_same, still_making}
+use Rattle.lr_memhost.proofs.CalmLemmas.{calm_alike}
 use Rattle.lr_memhost.proofs.host.MemHost.make.Goals as goal
 
-pub enter-requires : goal.enter-requires
-enter-requires c =
-    let r = subst (λ q. IfOk q (λ x. IsMaking c.args.path.now x × Can (Some c.args.self.now.journal) x)) c.in-Ok.is c.requires in
-    let t : Turned (Are []) c.args.self.now _ = subst (λ m. Turned (Are []) c.args.self.now m) (sym c.self.view_is) c.turn.ensures.turned in
-    making_fits (past c.self.inside.disk) c.args.path.now c.in-Ok.entry r.0 (still_can r.1 t) (free_if _ _ c.is_named.ensures.1 c.if-is_named.false)
+pub leave_new-requires : goal.leave_new-requires
+leave_new-requires c = still_making c.args.entry c.args.path.now c.requires (subst (λ m. Turned (Are []) c.args.self.now m) (sym c.self.view_is) c.turn.ensures.turned)
 
-pub returns-then-is_some-2-clause-turned : goal.returns-then-is_some-2-clause-turned
-returns-then-is_some-2-clause-turned c = λ e is.
-    let r = subst (λ q. IfOk q (λ x. IsMaking c.args.path.now x × Can (Some c.args.self.now.journal) x)) c.in-Ok.is c.requires in
-    let t : Turned (Are []) c.args.self.now _ = subst (λ m. Turned (Are []) c.args.self.now m) (sym c.self.view_is) c.turn.ensures.turned in
-    turned_entry _ c.in-Ok.entry t (like_same _ _ _ c.fail_call-then-is_some-2.ensures.counted refl refl refl refl refl) (ap (λ v. v.journal) c.fail_call-then-is_some-2.ensures.counted ∙ c.in-Ok-enter.ensures) (making_tools c.args.path.now c.in-Ok.entry r.0) (making_fits (past c.self.inside.disk) c.args.path.now c.in-Ok.entry r.0 (still_can r.1 t) (free_if _ _ c.is_named.ensures.1 c.if-is_named.false)) (inr (ap (λ x. x ∷ []) (subst (λ q. IfOk q (λ x. x ≡ e)) c.in-Ok.is is)))
+pub returns-then-is_some-clause-turned : goal.returns-then-is_some-clause-turned
+returns-then-is_some-clause-turned c = λ e is.
+    turned_failed c.args.path.now c.in-Ok.made e _ (subst (λ m. Turned (Are []) c.args.self.now m) (sym c.self.view_is) c.turn.ensures.turned) (like_same _ _ _ c.fail_call-then-is_some.ensures.counted refl refl refl refl refl) (ap (λ v. v.journal) c.fail_call-then-is_some.ensures.counted) (c.in-Ok.ensures.ok e is)
 
-pub returns-then-is_some-2-clause-effect : goal.returns-then-is_some-2-clause-effect
-returns-then-is_some-2-clause-effect c = λ e is how.
-    let r = subst (λ q. IfOk q (λ x. IsMaking c.args.path.now x × Can (Some c.args.self.now.journal) x)) c.in-Ok.is c.requires in
-    let t : Turned (Are []) c.args.self.now _ = subst (λ m. Turned (Are []) c.args.self.now m) (sym c.self.view_is) c.turn.ensures.turned in
-    inl (turned_entry _ c.in-Ok.entry t (like_same _ _ _ c.fail_call-then-is_some-2.ensures.counted refl refl refl refl refl) (ap (λ v. v.journal) c.fail_call-then-is_some-2.ensures.counted ∙ c.in-Ok-enter.ensures) (making_tools c.args.path.now c.in-Ok.entry r.0) (making_fits (past c.self.inside.disk) c.args.path.now c.in-Ok.entry r.0 (still_can r.1 t) (free_if _ _ c.is_named.ensures.1 c.if-is_named.false)) (ap (λ x. x ∷ []) (subst (λ q. IfOk q (λ x. x ≡ e)) c.in-Ok.is is)))
+pub returns-then-is_some-clause-effect : goal.returns-then-is_some-clause-effect
+returns-then-is_some-clause-effect c = λ e is how.
+    turned_effect c.args.path.now c.in-Ok.made e _ _ (subst (λ m. Turned (Are []) c.args.self.now m) (sym c.self.view_is) c.turn.ensures.turned) (like_same _ _ _ c.fail_call-then-is_some.ensures.counted refl refl refl refl refl) (ap (λ v. v.journal) c.fail_call-then-is_some.ensures.counted) (c.in-Ok.ensures.ok e is)
 
 pub returns-clause-turned : goal.returns-clause-turned
-returns-clause-turned c = λ e is.
-    let r = subst (λ q. IfOk q (λ x. IsMaking c.args.path.now x × Can (Some c.args.self.now.journal) x)) c.in-Ok.is c.requires in
-    let t : Turned (Are []) c.args.self.now _ = subst (λ m. Turned (Are []) c.args.self.now m) (sym c.self.view_is) c.turn.ensures.turned in
-    turned_entry _ c.in-Ok.entry t (record { acts = refl; failing = refl; calls = refl; down = refl; starved = omega arith }) c.in-Ok-enter.ensures (making_tools c.args.path.now c.in-Ok.entry r.0) (making_fits (past c.self.inside.disk) c.args.path.now c.in-Ok.entry r.0 (still_can r.1 t) (free_if _ _ c.is_named.ensures.1 c.if-is_named.false)) (ap (λ x. x ∷ []) (subst (λ q. IfOk q (λ x. x ≡ e)) c.in-Ok.is is))
+returns-clause-turned c = λ e is. turned_new c.args.path.now c.in-Ok.made e (subst (λ m. Turned (Are []) c.args.self.now m) (sym c.self.view_is) c.turn.ensures.turned) (record { acts = refl; failing = refl; calls = refl; down = refl; starved = omega arith }) (c.in-Ok.ensures.ok e is)
+
+pub returns-then-is_idle-clause-calm : goal.returns-then-is_idle-clause-calm
+returns-then-is_idle-clause-calm c = λ none. absurd (let e = c.is_idle.ensures in let i = c.if-is_idle.true in let n = ap idles none in cc)
+
+pub returns-in_default-clause-calm : goal.returns-in_default-clause-calm
+returns-in_default-clause-calm c = λ none.
+    calm_alike (subst (λ m. Turned (Are []) c.args.self.now m) (sym c.self.view_is) c.turn.ensures.turned) (like _ _ _ c.starve.ensures.counted c.starve.ensures.later.1 refl refl refl refl) (ap (λ v. v.rest) c.starve.ensures.counted ∙ (ap (λ v. v.rest) c.self.view_is ∙ c.turn.ensures.rest))
+    (inr (let e = ap (λ v. v.starved) c.starve.ensures.counted in let s = ap (λ v. v.starved) c.self.view_is in let l = c.turn.ensures.starved in omega arith))
+
+pub returns-then-is_some-clause-calm : goal.returns-then-is_some-clause-calm
+returns-then-is_some-clause-calm c = λ none. absurd (let i = c.if-is_some.true in let n = ap is_some none in cc)
+
+pub returns-clause-calm : goal.returns-clause-calm
+returns-clause-calm c = λ none. calm_alike (subst (λ m. Turned (Are []) c.args.self.now m) (sym c.self.view_is) c.turn.ensures.turned) (record { acts = refl; failing = refl; calls = refl; down = refl; starved = omega arith }) (ap (λ v. v.rest) c.self.view_is ∙ c.turn.ensures.rest) (inl (ap (λ v. v.faults) c.self.view_is ∙ c.turn.ensures.faults))
+
+pub returns-clause-named : goal.returns-clause-named
+returns-clause-named c = λ is. let m = some_entry c.args.entry in named_new c.args.path.now c.in-Ok.made m.0 _ _ (cc) (c.in-Ok.ensures.ok m.0 m.1)
