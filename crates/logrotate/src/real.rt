@@ -1,6 +1,6 @@
 // The real file system as a host. It tells nothing, since no contract can say what a file holds: here the system's
 // calls are trusted.
-ghost use Rattle.std.specs.Prelude.{◌≡◌, ◌≤◌, Ok, IfOk, OnErr};
+ghost use Rattle.std.specs.Prelude.{◌≡◌, ◌≤◌, is_some, false, Ok, IfOk, OnErr};
 ghost use Rattle.lr_host.specs.Told.{Rose};
 
 use crate::calls::{
@@ -42,6 +42,7 @@ impl<R> RealHost<R> {
         ensures faults { result.faults ≡ 0 }
         ensures bad_ends { result.bad_ends ≡ 0 }
         ensures held { result.held ≡ 0 }
+        ensures lock { is_some result.lock ≡ false }
     {
         RealHost {
             rt,
@@ -58,6 +59,7 @@ impl<R> RealHost<R> {
         ensures grows { self.old.faults ≤ self.new.faults }
         ensures bad_ends { self.old.bad_ends ≡ self.new.bad_ends }
         ensures held { self.old.held ≡ self.new.held }
+        ensures lock { is_some self.old.lock ≡ is_some self.new.lock }
         ensures value { IfOk result (λ v. got ≡ Ok v) }
     {
         match got {
@@ -72,16 +74,20 @@ impl<R> RealHost<R> {
 
 #[tactic(auto, using(lr_host::proofs::Entered::untold))]
 impl<R: Files<File = File> + Processes + AllocGlobal + Drop> Host for RealHost<R> {
-    ghost use Rattle.std.specs.Prelude.{None};
+    ghost use Rattle.std.specs.Prelude.{None, is_some};
     ghost use Rattle.lr_host.specs.Told.{Counts};
 
     ghost told = { λ _. None };
 
-    ghost counts = { λ h. record { faults = h.faults; bad_ends = h.bad_ends; held = h.held } };
+    ghost counts = { λ h. record { faults = h.faults; bad_ends = h.bad_ends; held = h.held; locked = is_some h.lock } };
 
     /// The lock is that of the file beside the state file, with `.lock` behind its name; the kernel gives it back when
-    /// the process ends.
+    /// the process ends. A lock that this host has already is taken.
     fn begin(&mut self, state: &Path, _now: &Moment, _rules: &Rules) -> Result<bool, CallFault> {
+        if self.lock.is_some() {
+            raise(&mut self.held);
+            return Ok(false);
+        }
         let got = take_lock(&self.rt, state.as_str());
         match self.count(got)? {
             Some(file) => {
