@@ -179,7 +179,7 @@ fn make_into<C: Caller>(
     let printed = out.bytes();
     let answer = Answer { status, printed };
     let stopped = stopped(twist);
-    compare(
+    put_differences(
         alloc,
         differences,
         host,
