@@ -214,6 +214,48 @@ fn compare_once(
     Ok(())
 }
 
+fn compare_changes(
+    alloc: Global,
+    differences: &mut Differences,
+    host: &MemHost,
+    wanted: &[u8],
+    mark: Mark,
+) -> Result<(), AllocError> {
+    let entries = host.journal().entries.as_slice();
+    let found = changes_text(alloc, entries, mark.entries)?;
+    differences.compare(b"changes", found.as_slice(), wanted)
+}
+
+fn compare_calls(
+    alloc: Global,
+    differences: &mut Differences,
+    host: &MemHost,
+    wanted: &[u8],
+    mark: Mark,
+) -> Result<(), AllocError> {
+    let entries = host.journal().entries.as_slice();
+    let found = entries_text(alloc, entries, mark.entries)?;
+    differences.compare(b"calls", found.as_slice(), wanted)
+}
+
+// Where no call is wanted, none was made, be it one that failed.
+fn compare_count(
+    differences: &mut Differences,
+    host: &MemHost,
+    wanted: &[u8],
+    mark: Mark,
+) -> Result<(), AllocError> {
+    if wanted.is_empty() {
+        differences.count(
+            b"count of calls",
+            host.calls().saturating_sub(mark.calls),
+            0,
+        )
+    } else {
+        Ok(())
+    }
+}
+
 fn compare_entries(
     alloc: Global,
     differences: &mut Differences,
@@ -221,21 +263,12 @@ fn compare_entries(
     wanted: &Wanted,
     mark: Mark,
 ) -> Result<(), AllocError> {
-    let entries = host.journal().entries.as_slice();
     if let Some(text) = &wanted.changes {
-        let found = changes_text(alloc, entries, mark.entries)?;
-        differences.compare(b"changes", found.as_slice(), text.as_slice())?;
+        compare_changes(alloc, differences, host, text.as_slice(), mark)?;
     }
     if let Some(text) = &wanted.told {
-        let found = entries_text(alloc, entries, mark.entries)?;
-        differences.compare(b"calls", found.as_slice(), text.as_slice())?;
-        if text.is_empty() {
-            differences.count(
-                b"count of calls",
-                host.calls().saturating_sub(mark.calls),
-                0,
-            )?;
-        }
+        compare_calls(alloc, differences, host, text.as_slice(), mark)?;
+        compare_count(differences, host, text.as_slice(), mark)?;
     }
     Ok(())
 }

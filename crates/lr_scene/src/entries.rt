@@ -103,22 +103,24 @@ fn put_run(
     put_ended(into, alloc, ended)
 }
 
-/// Adds what the entry is, as a line without its end.
-pub fn put_entry(into: &mut Vec<u8>, alloc: Global, entry: &Entry) -> Result<(), AllocError> {
+// A change of names.
+fn put_names(into: &mut Vec<u8>, alloc: Global, entry: &Entry) -> Result<(), AllocError> {
     match entry {
-        Entry::Starts { state, now, rules } => put_begin(into, alloc, state, now, rules),
-        Entry::Ends => into.extend_from_slice(b"end"),
-        Entry::Look { path, seen } => put_look(into, alloc, path, seen),
-        Entry::List { dir, .. } => put(into, b"list", dir),
-        Entry::Reads { path, .. } => put(into, b"read", path),
         Entry::Renames { from, to } => put_two(into, b"rename", from, to),
         Entry::Makes { path, .. } => put(into, b"make", path),
+        Entry::Unlinks { path } => put(into, b"unlink", path),
+        Entry::MakesDir { path, .. } => put(into, b"make-dir", path),
+        _ => put_rest(into, alloc, entry),
+    }
+}
+
+// A change of bytes, a sync, or a program.
+fn put_rest(into: &mut Vec<u8>, alloc: Global, entry: &Entry) -> Result<(), AllocError> {
+    match entry {
         Entry::Appends { path, bytes } => put_bytes(into, b"append", path, bytes.as_slice()),
         Entry::Truncates { path } => put(into, b"truncate", path),
-        Entry::Unlinks { path } => put(into, b"unlink", path),
         Entry::SyncsFile { path } => put(into, b"sync-file", path),
         Entry::SyncsDir { path } => put(into, b"sync-dir", path),
-        Entry::MakesDir { path, .. } => put(into, b"make-dir", path),
         Entry::Runs {
             program,
             args,
@@ -133,6 +135,18 @@ pub fn put_entry(into: &mut Vec<u8>, alloc: Global, entry: &Entry) -> Result<(),
             *ended,
         ),
         _ => into.extend_from_slice(b"writer"),
+    }
+}
+
+/// Adds what the entry is, as a line without its end.
+pub fn put_entry(into: &mut Vec<u8>, alloc: Global, entry: &Entry) -> Result<(), AllocError> {
+    match entry {
+        Entry::Starts { state, now, rules } => put_begin(into, alloc, state, now, rules),
+        Entry::Ends => into.extend_from_slice(b"end"),
+        Entry::Look { path, seen } => put_look(into, alloc, path, seen),
+        Entry::List { dir, .. } => put(into, b"list", dir),
+        Entry::Reads { path, .. } => put(into, b"read", path),
+        _ => put_names(into, alloc, entry),
     }
 }
 

@@ -84,18 +84,32 @@ fn empty_opening(alloc: Global) -> Opening {
     }
 }
 
-// Files without names, and more names.
-fn add_odd(alloc: Global, opening: &mut Opening, start: &Start) -> Result<(), Trouble> {
-    for bytes in &start.nameless {
+fn add_all_nameless(alloc: Global, opening: &mut Opening, all: &[Vec<u8>]) -> Result<(), Trouble> {
+    for bytes in all {
         add_nameless(alloc, opening, bytes.as_slice())?;
     }
-    for (path, place) in &start.names {
+    Ok(())
+}
+
+fn add_names(alloc: Global, opening: &mut Opening, all: &[(Path, u64)]) -> Result<(), Trouble> {
+    for (path, place) in all {
         add_name(alloc, opening, path, *place)?;
     }
-    for hold in &start.holds {
+    Ok(())
+}
+
+fn add_holds(opening: &mut Opening, all: &[(u32, u64)]) -> Result<(), Trouble> {
+    for hold in all {
         opening.holds.push(*hold)?;
     }
     Ok(())
+}
+
+// Files without names, more names, and holds.
+fn add_odd(alloc: Global, opening: &mut Opening, start: &Start) -> Result<(), Trouble> {
+    add_all_nameless(alloc, opening, &start.nameless)?;
+    add_names(alloc, opening, &start.names)?;
+    add_holds(opening, &start.holds)
 }
 
 fn fill(
