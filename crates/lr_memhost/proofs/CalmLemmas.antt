@@ -1,11 +1,12 @@
 -- A calm host stays so, and no count rises but for want of memory.
-use Rattle.std.proofs.Common.{◌≡◌, ◌≢◌, ◌⊎◌, inl, inr, ⊎_elim, ℕ, ◌+◌, ◌-◌, ◌<◌, ◌≤◌, Bool, true, false, cond, List, [], ◌∷◌, length, get_or, drop, Option, Some, None, refl, sym, ap, subst, ◌∙◌, arith, All}
-use Rattle.std.specs.Prelude.{◌^◌, min, Result, Ok, Err, OnOk, OnErr}
+use Rattle.std.proofs.Common.{◌≡◌, ◌≢◌, ◌⊎◌, inl, inr, ⊎_elim, ℕ, suc, ◌+◌, ◌-◌, ◌<◌, ◌≤◌, Bool, true, false, cond, List, [], ◌∷◌, length, get_or, drop, Option, Some, None, refl, sym, ap, subst, ◌∙◌, arith, All}
+use Rattle.std.specs.Prelude.{◌^◌, min, is_some, Result, Ok, Err, OnOk, OnErr}
 use Rattle.lr_rules.specs.declared.fault.Ended.{Ended}
 use Rattle.lr_rules.specs.declared.fault.Ended.TheVariants as ended
 use Rattle.lr_host.specs.declared.entry.Entry.{Entry}
 use Rattle.lr_memhost.specs.declared.act.How.TheVariants as way
-use Rattle.lr_memhost.specs.How.{downs}
+use Rattle.lr_memhost.specs.declared.act.How.{How}
+use Rattle.lr_memhost.specs.How.{downs, idles}
 use Rattle.lr_memhost.specs.Acts.{View, Rest, how_of, how_at, is_bad, first_end, after_end, one_more, IsFree, IsListed, Starved, Unraised, Turned}
 use Rattle.lr_memhost.specs.Calm.{IsCalm, NoneRose, StaysCalm}
 use Rattle.lr_memhost.proofs.TurnLemmas.{Alike}
@@ -13,6 +14,14 @@ use Rattle.lr_memhost.proofs.TurnLemmas.{Alike}
 -- no call to a calm host is listed
 pub calm_how : (v : View) → IsCalm v → how_at v ≡ None
 calm_how v calm = ap (λ b. cond b (Some way.Stop) (how_of v.failing v.calls)) calm.up ∙ calm.unlisted v.calls (omega arith)
+
+pub not_some : {A : Type 0} (o : Option A) → o ≡ None → is_some o ≡ true → ⊥
+not_some None e h = cc
+not_some (Some x) e h = cc
+
+pub not_idle : (o : Option How) → o ≡ None → idles o ≡ true → ⊥
+not_idle None e h = cc
+not_idle (Some x) e h = cc
 
 no_more : (c n : ℕ) → min (one_more c) (2 ^ 64 - 1) ≤ n → min c (2 ^ 64 - 1) ≤ n
 no_more c n le = omega arith
@@ -61,7 +70,7 @@ first_good (e ∷ es) all = all 0 e (omega arith)
 
 rest_good : (es : List Ended) → All (λ e. is_bad e ≡ false) es → All (λ e. is_bad e ≡ false) (drop 1 es)
 rest_good [] all = all
-rest_good (e ∷ es) all = λ k d lt. all (k + 1) d (omega arith)
+rest_good (e ∷ es) all = λ k d lt. all (suc k) d (omega arith)
 
 pub calm_ran : {P : List Entry → Type 0} {v w : View} → Turned P v w → w.rest ≡ after_end v.rest → w.faults ≡ v.faults → StaysCalm v w
 calm_ran {P} {v} {w} t rest faults calm = (

@@ -267,9 +267,9 @@ new_fits (Ok x) p path free h = making_fits p path x h.0 h.1 free
 new_fits (Err f) p path free h = tt
 
 -- a call that makes something new, and succeeds
-pub turned_new : (path : Path) (made : Bool) (e : Entry) {E : Type 0} {v m w : View} → Turned (Are []) v m → Alike m w → LeftNew path made e m.journal w.journal → Turned (DidWhere {E = E} (Ok made) e) v w
-turned_new path true e t alike l = turned_entry _ e t alike l.0 l.1 l.2 refl
-turned_new path false e t alike l = turned_kept _ t alike l.0 refl
+pub turned_new : (path : Path) (made : Bool) (e : Entry) (E : Type 0) {v m w : View} → Turned (Are []) v m → Alike m w → LeftNew path made e m.journal w.journal → Turned (DidWhere {E = E} (Ok made) e) v w
+turned_new path true e E t alike l = turned_entry _ e t alike l.0 l.1 l.2 refl
+turned_new path false e E t alike l = turned_kept _ t alike l.0 refl
 
 -- that fails
 pub turned_failed : (path : Path) (made : Bool) (e : Entry) (j : Journal) {v m w : View} → Turned (Are []) v m → Alike m w → w.journal ≡ j → LeftNew path made e m.journal j → Turned (λ ts. (ts ≡ []) ⊎ (ts ≡ e ∷ [])) v w
@@ -290,6 +290,6 @@ pub some_entry : {E : Type 0} (r : Result Entry E) → (e : Entry) × IfOk r (λ
 some_entry (Ok x) = (x, refl)
 some_entry (Err f) = (entry.Ends, tt)
 
-pub made_fits : {E : Type 0} {p : Past} (r : Result Entry E) (e : Entry) → IfOk r (λ x. x ≡ e) → Fits (world p) e → IfOk r (λ x. Fits (world p) x)
-made_fits {E} {p} (Ok x) e is fits = subst (Fits (world p)) (sym is) fits
-made_fits (Err f) e is fits = tt
+pub made_fits : {E : Type 0} (p : Past) (r : Result Entry E) (e : Entry) → IfOk r (λ x. x ≡ e) → Fits (world p) e → IfOk r (λ x. Fits (world p) x)
+made_fits p (Ok x) e is fits = subst (Fits (world p)) (sym is) fits
+made_fits p (Err f) e is fits = tt

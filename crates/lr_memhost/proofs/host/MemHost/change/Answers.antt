@@ -1,11 +1,9 @@
 use Rattle.std.proofs.Common.{◌≡◌, inl, inr, refl, sym, ap, subst, ◌∙◌, arith, [], ◌∷◌, Some}
-use Rattle.std.specs.Prelude.{is_some}
 use Rattle.lr_host.specs.World.{past}
 use Rattle.lr_host.specs.Told.{Are, Can}
-use Rattle.lr_memhost.specs.How.{idles}
 use Rattle.lr_memhost.specs.Acts.{Turned, IsSure}
 use Rattle.lr_memhost.proofs.TurnLemmas.{turned_kept, turned_entry, like, like_same, still_can, still_fits, of_made, sure_tools, sure_fits}
-use Rattle.lr_memhost.proofs.CalmLemmas.{calm_alike}
+use Rattle.lr_memhost.proofs.CalmLemmas.{calm_alike, not_idle, not_some}
 use Rattle.lr_memhost.proofs.host.MemHost.change.Goals as goal
 
 pub leave-requires : goal.leave-requires
@@ -42,7 +40,7 @@ returns-clause-turned c = λ e is.
     turned_entry _ e t (record { acts = refl; failing = refl; calls = refl; down = refl; starved = omega arith }) (c.in-Ok.ensures.ok e is) (sure_tools e r.0) (sure_fits (past c.self.inside.disk) e r.0 (still_can r.1 t)) refl
 
 pub returns-then-is_idle-clause-calm : goal.returns-then-is_idle-clause-calm
-returns-then-is_idle-clause-calm c = λ none. absurd (let e = c.is_idle.ensures in let i = c.if-is_idle.true in let n = ap idles none in cc)
+returns-then-is_idle-clause-calm c = λ none. absurd (not_idle c.args.how none (sym c.is_idle.ensures ∙ c.if-is_idle.true))
 
 pub returns-in_default-clause-calm : goal.returns-in_default-clause-calm
 returns-in_default-clause-calm c = λ none.
@@ -50,7 +48,7 @@ returns-in_default-clause-calm c = λ none.
     (inr (let e = ap (λ v. v.starved) c.starve.ensures.counted in let s = ap (λ v. v.starved) c.self.view_is in let l = c.turn.ensures.starved in omega arith))
 
 pub returns-then-is_some-clause-calm : goal.returns-then-is_some-clause-calm
-returns-then-is_some-clause-calm c = λ none. absurd (let i = c.if-is_some.true in let n = ap is_some none in cc)
+returns-then-is_some-clause-calm c = λ none. absurd (not_some c.args.how none (sym c.is_some.ensures ∙ c.if-is_some.true))
 
 pub returns-clause-calm : goal.returns-clause-calm
 returns-clause-calm c = λ none. calm_alike (subst (λ m. Turned (Are []) c.args.self.now m) (sym c.self.view_is) c.turn.ensures.turned) (record { acts = refl; failing = refl; calls = refl; down = refl; starved = omega arith }) (ap (λ v. v.rest) c.self.view_is ∙ c.turn.ensures.rest) (inl (ap (λ v. v.faults) c.self.view_is ∙ c.turn.ensures.faults))

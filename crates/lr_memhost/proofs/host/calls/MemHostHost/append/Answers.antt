@@ -1,6 +1,5 @@
-use Rattle.std.proofs.Common.{◌∙◌, arith}
+use Rattle.std.proofs.Common.{arith}
 use Rattle.lr_memhost.proofs.TurnLemmas.{turned_left, turned_as, failed_part}
-use Rattle.lr_memhost.proofs.CalmLemmas.{calm_how}
 use Rattle.lr_memhost.proofs.host.calls.MemHostHost.append.Goals as goal
 
 pub returns-in_err-change-in-Some-Part-clause-turned : goal.returns-in_err-change-in-Some-Part-clause-turned
@@ -24,15 +23,3 @@ returns-in_ok-change-in_default-clause-turned c = c.in_ok-change-in_default.ensu
 
 pub returns-in_ok-change-in_default-clause-told : goal.returns-in_ok-change-in_default-clause-told
 returns-in_ok-change-in_default-clause-told c = turned_left (returns-in_ok-change-in_default-clause-turned c)
-
-pub returns-in_err-change-in-Some-Part-clause-calm : goal.returns-in_err-change-in-Some-Part-clause-calm
-returns-in_err-change-in-Some-Part-clause-calm c = λ calm. absurd (let n = calm_how c.args.self.now calm in let h = c.how.ensures in cc)
-
-pub returns-in_ok-change-in-Some-Part-clause-calm : goal.returns-in_ok-change-in-Some-Part-clause-calm
-returns-in_ok-change-in-Some-Part-clause-calm c = λ calm. absurd (let n = calm_how c.args.self.now calm in let h = c.how.ensures in cc)
-
-pub returns-in_err-change-in_default-clause-calm : goal.returns-in_err-change-in_default-clause-calm
-returns-in_err-change-in_default-clause-calm c = λ calm. c.change-in_default.ensures.calm (c.how.ensures ∙ calm_how c.args.self.now calm) calm
-
-pub returns-in_ok-change-in_default-clause-calm : goal.returns-in_ok-change-in_default-clause-calm
-returns-in_ok-change-in_default-clause-calm c = λ calm. c.change-in_default.ensures.calm (c.how.ensures ∙ calm_how c.args.self.now calm) calm

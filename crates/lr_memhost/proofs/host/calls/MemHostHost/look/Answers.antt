@@ -1,9 +1,8 @@
 use Rattle.std.proofs.Common.{inl, inr, refl, sym, ap, subst, ◌∙◌, arith, []}
-use Rattle.std.specs.Prelude.{is_some}
 use Rattle.lr_host.specs.Told.{Are}
 use Rattle.lr_memhost.specs.Acts.{Turned}
 use Rattle.lr_memhost.proofs.TurnLemmas.{turned_left, turned_kept, turned_entry, like, like_same}
-use Rattle.lr_memhost.proofs.CalmLemmas.{calm_how, calm_alike}
+use Rattle.lr_memhost.proofs.CalmLemmas.{calm_how, calm_alike, not_some}
 use Rattle.lr_memhost.proofs.host.calls.MemHostHost.look.Goals as goal
 
 pub returns-then-is_some-clause-turned : goal.returns-then-is_some-clause-turned
@@ -29,7 +28,7 @@ pub returns-in-Err-clause-told : goal.returns-in-Err-clause-told
 returns-in-Err-clause-told c = turned_left (returns-in-Err-clause-turned c)
 
 pub returns-then-is_some-clause-calm : goal.returns-then-is_some-clause-calm
-returns-then-is_some-clause-calm c = λ calm. absurd (let i = c.if-is_some.true in let n = ap is_some (c.turn.ensures.listed ∙ calm_how c.args.self.now calm) in cc)
+returns-then-is_some-clause-calm c = λ calm. absurd (not_some c.turn.result (c.turn.ensures.listed ∙ calm_how c.args.self.now calm) (sym c.is_some.ensures ∙ c.if-is_some.true))
 
 pub returns-in-Ok-clause-calm : goal.returns-in-Ok-clause-calm
 returns-in-Ok-clause-calm c = calm_alike (subst (λ m. Turned (Are []) c.args.self.now m) (sym c.self.view_is) c.turn.ensures.turned) (record { acts = refl; failing = refl; calls = refl; down = refl; starved = omega arith }) (ap (λ v. v.rest) c.self.view_is ∙ c.turn.ensures.rest) (inl (ap (λ v. v.faults) c.self.view_is ∙ c.turn.ensures.faults))

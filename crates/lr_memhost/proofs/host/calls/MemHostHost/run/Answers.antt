@@ -1,20 +1,19 @@
 use Rattle.std.proofs.Common.{◌≡◌, inl, inr, refl, sym, ap, subst, ◌∙◌, [], ◌∷◌, arith}
-use Rattle.std.specs.Prelude.{option_copied, IfOk, is_some}
+use Rattle.std.specs.Prelude.{option_copied, IfOk}
 use Rattle.lr_host.specs.declared.entry.Entry.{Entry}
 use Rattle.lr_host.specs.declared.entry.Entry.TheVariants as entry
 use Rattle.lr_host.specs.World.{world, past}
 use Rattle.lr_host.specs.Fits.{Fits}
 use Rattle.lr_host.specs.Told.{Are}
-use Rattle.lr_memhost.specs.How.{idles}
 use Rattle.lr_memhost.specs.Acts.{Turned, first_end, after_end}
 use Rattle.lr_memhost.proofs.TurnLemmas.{turned_left, turned_entry, turned_as, turned_rest, like_same, still_can, made_fits}
-use Rattle.lr_memhost.proofs.CalmLemmas.{calm_how, calm_alike, calm_ran}
+use Rattle.lr_memhost.proofs.CalmLemmas.{calm_how, calm_ran, not_idle, not_some}
 use Rattle.lr_memhost.proofs.host.calls.MemHostHost.run.Goals as goal
 
 pub leave-requires : goal.leave-requires
 leave-requires c =
     let t : Turned (Are []) c.args.self.now _ = subst (λ m. Turned (Are []) c.args.self.now m) (sym c.self.view_is) c.turn-how.ensures.turned in
-    made_fits c.runs-entry.result (entry.Runs c.args.program.now c.args.args.now (option_copied c.args.input) c.next_end-end.result) c.runs-entry.ensures (still_can c.requires t)
+    made_fits (past c.self.inside.disk) c.runs-entry.result (entry.Runs c.args.program.now c.args.args.now (option_copied c.args.input) c.next_end-end.result) c.runs-entry.ensures (still_can c.requires t)
 
 pub returns-then-is_some-clause-turned : goal.returns-then-is_some-clause-turned
 returns-then-is_some-clause-turned c =
@@ -43,7 +42,7 @@ returns-then-is_some-clause-effect c = λ how same.
     )
 
 pub returns-then-is_some-clause-calm : goal.returns-then-is_some-clause-calm
-returns-then-is_some-clause-calm c = λ calm. absurd (let i = c.if-is_some.true in let n = ap is_some (c.turn-how.ensures.listed ∙ calm_how c.args.self.now calm) in cc)
+returns-then-is_some-clause-calm c = λ calm. absurd (not_some c.turn-how.result (c.turn-how.ensures.listed ∙ calm_how c.args.self.now calm) (sym c.is_some.ensures ∙ c.if-is_some.true))
 
 pub returns-clause-turned : goal.returns-clause-turned
 returns-clause-turned c =
@@ -60,4 +59,4 @@ pub returns-clause-calm : goal.returns-clause-calm
 returns-clause-calm c = calm_ran (returns-clause-turned c) (ap (λ v. v.rest) c.count_end.ensures ∙ ap after_end (ap (λ v. v.rest) c.self.view_is ∙ c.turn-how.ensures.rest)) (ap (λ v. v.faults) c.count_end.ensures ∙ (ap (λ v. v.faults) c.self.view_is ∙ c.turn-how.ensures.faults))
 
 pub returns-then-is_idle-clause-calm : goal.returns-then-is_idle-clause-calm
-returns-then-is_idle-clause-calm c = λ calm. absurd (let e = c.is_idle.ensures in let i = c.if-is_idle.true in let n = ap idles (c.turn-how.ensures.listed ∙ calm_how c.args.self.now calm) in cc)
+returns-then-is_idle-clause-calm c = λ calm. absurd (not_idle c.turn-how.result (c.turn-how.ensures.listed ∙ calm_how c.args.self.now calm) (sym c.is_idle.ensures ∙ c.if-is_idle.true))
