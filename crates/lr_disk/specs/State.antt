@@ -1,5 +1,5 @@
 -- When the state in memory is a world.
-use Rattle.std.specs.Prelude.{◌≡◌, ℕ, ◌+◌, ◌<◌, ◌≤◌, nat_eq, Bool, true, cond, ℤ, List, Option, Some, None, IsSomeAnd, map, length, slice_get, slice_index_or, vec_len, vec_capacity, ◌++◌, [], ◌∷◌, pos}
+use Rattle.std.specs.Prelude.{◌≡◌, ℕ, ◌+◌, ◌<◌, ◌≤◌, nat_eq, Bool, true, cond, ℤ, List, Option, Some, None, map, length, slice_get, slice_index_or, vec_len, vec_capacity, ◌++◌, [], ◌∷◌, pos}
 use Rattle.lr_rules.specs.declared.path.Path.{Path}
 use Rattle.lr_host.specs.declared.thing.Thing.{Thing}
 use Rattle.lr_host.specs.declared.thing.Thing.TheVariants as thing

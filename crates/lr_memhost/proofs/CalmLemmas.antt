@@ -1,14 +1,13 @@
 -- A calm host stays so, and no count rises but for want of memory.
-use Rattle.std.proofs.Common.{◌≡◌, ◌≢◌, ◌⊎◌, inl, inr, ⊎_elim, ℕ, suc, ◌+◌, ◌-◌, ◌<◌, ◌≤◌, Bool, true, false, cond, List, [], ◌∷◌, length, get_or, drop, Option, Some, None, refl, sym, ap, subst, ◌∙◌, arith, All}
+use Rattle.std.proofs.Common.{◌≡◌, ◌⊎◌, inl, inr, ⊎_elim, ℕ, suc, ◌-◌, ◌≤◌, Bool, true, false, cond, List, [], ◌∷◌, drop, Option, Some, None, refl, sym, ap, subst, ◌∙◌, arith, All}
 use Rattle.std.specs.Prelude.{◌^◌, min, is_some, Result, Ok, Err, OnOk, OnErr}
 use Rattle.lr_rules.specs.declared.fault.Ended.{Ended}
-use Rattle.lr_rules.specs.declared.fault.Ended.TheVariants as ended
 use Rattle.lr_host.specs.declared.entry.Entry.{Entry}
 use Rattle.lr_memhost.specs.declared.act.How.TheVariants as way
 use Rattle.lr_memhost.specs.declared.act.How.{How}
 use Rattle.lr_memhost.specs.How.{downs, idles}
-use Rattle.lr_memhost.specs.Acts.{View, Rest, how_of, how_at, is_bad, first_end, after_end, one_more, IsFree, IsListed, Starved, Unraised, Turned}
-use Rattle.lr_memhost.specs.Calm.{IsCalm, NoneRose, StaysCalm}
+use Rattle.lr_memhost.specs.Acts.{View, Rest, how_of, how_at, is_bad, first_end, after_end, one_more, IsListed, Starved, Unraised, Turned}
+use Rattle.lr_memhost.specs.Calm.{IsCalm, StaysCalm}
 use Rattle.lr_memhost.proofs.TurnLemmas.{Alike}
 
 -- no call to a calm host is listed

@@ -1,4 +1,4 @@
-use Rattle.std.proofs.Common.{◌≡◌, ℕ, ◌++◌, [], ◌∷◌, refl, ap, subst, ◌∙◌, cond, to_z, of_z, w64, length, List, true, Option}
+use Rattle.std.proofs.Common.{◌≡◌, ℕ, ◌++◌, [], ◌∷◌, refl, ap, subst, ◌∙◌, cond, to_z, of_z, w64, List, true, Option}
 use Rattle.std.specs.Prelude.{ℤ, Result, Ok, Err, IsOk, is_ok}
 use Rattle.std.proofs.lemmas.Int.{to_z-of_z}
 use Rattle.lr_host.specs.World.{File}

@@ -1,4 +1,4 @@
-use Rattle.std.proofs.Common.{◌≡◌, true, false, sym, ◌∙◌}
+use Rattle.std.proofs.Common.{sym}
 use Rattle.lr_disk.specs.Pending.{as_change}
 use Rattle.lr_disk.proofs.StepLemmas.{apart_listed, apart_other, shares_undone}
 use Rattle.lr_disk.proofs.closed.is_apart.Goals.{else-not-lists-via-then-not-lists+else-share, else-not-lists-via-else-not-lists}

@@ -1,5 +1,4 @@
-use Rattle.std.proofs.Common.{◌≡◌, true, false, sym, refl}
-use Rattle.lr_disk.specs.Pending.{as_change}
+use Rattle.std.proofs.Common.{sym, refl}
 use Rattle.lr_disk.proofs.StepLemmas.{closed_next, closed_other, closed_apart}
 use Rattle.lr_disk.proofs.closed.is_closed.Goals.{else-lists-via-then-lists+else-not-is_apart, else-lists-via-else-lists}
 use Rattle.lr_disk.proofs.closed.is_closed.Goals as goal

@@ -1,4 +1,3 @@
-use Rattle.std.proofs.Common.{◌≡◌, ap, sym, subst, ◌∙◌, false}
 use Rattle.lr_disk.proofs.OpenedLemmas.{shows_opened}
 use Rattle.lr_disk.proofs.disk.open_valid.Goals as goal
 

@@ -1,4 +1,4 @@
-use Rattle.std.proofs.Common.{◌≡◌, sym, ◌∙◌}
+use Rattle.std.proofs.Common.{sym, ◌∙◌}
 use Rattle.lr_disk.proofs.StepLemmas.{behind, not_behind}
 use Rattle.lr_disk.proofs.pending.is_behind.Goals as goal
 

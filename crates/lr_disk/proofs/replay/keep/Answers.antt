@@ -1,4 +1,4 @@
-use Rattle.std.proofs.Common.{◌≡◌, true, false, sym, ◌∙◌, ap, take}
+use Rattle.std.proofs.Common.{sym, ◌∙◌, ap, take}
 use Rattle.lr_host.specs.World.{names_after, kept_at}
 use Rattle.lr_host.proofs.Closed.{changed_alike}
 use Rattle.lr_disk.specs.Names.{named_in}

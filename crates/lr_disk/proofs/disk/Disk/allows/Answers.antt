@@ -1,5 +1,5 @@
-use Rattle.std.proofs.Common.{◌≡◌, sym, ap, subst, ◌∙◌, length}
-use Rattle.lr_host.specs.World.{World, world, past}
+use Rattle.std.proofs.Common.{sym, subst, ◌∙◌}
+use Rattle.lr_host.specs.World.{world, past}
 use Rattle.lr_disk.specs.Lengths.{MayKeep}
 use Rattle.lr_disk.specs.State.{Shows}
 use Rattle.lr_disk.proofs.LengthLemmas.{left_in, cut_allowed, cut_keeps, cut_within}

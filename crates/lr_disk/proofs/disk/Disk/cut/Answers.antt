@@ -1,6 +1,6 @@
 use Rattle.std.proofs.Common.{sym, ap, subst, ◌∙◌}
 use Rattle.lr_host.specs.declared.entry.Entry.TheVariants as entry
-use Rattle.lr_host.specs.World.{world, past}
+use Rattle.lr_host.specs.World.{past}
 use Rattle.lr_host.specs.Opening.{IsJournal}
 use Rattle.lr_host.specs.Safe.{IsSafe}
 use Rattle.lr_laws.proofs.Stated.{cut_safe}

@@ -1,4 +1,4 @@
-use Rattle.std.proofs.Common.{◌≡◌, inl, inr, refl, sym, ap, subst, ◌∙◌, arith, [], ◌∷◌, Some}
+use Rattle.std.proofs.Common.{inl, inr, refl, sym, ap, subst, ◌∙◌, arith, [], Some}
 use Rattle.lr_host.specs.World.{past}
 use Rattle.lr_host.specs.Told.{Are, Can}
 use Rattle.lr_memhost.specs.Acts.{Turned, IsSure}

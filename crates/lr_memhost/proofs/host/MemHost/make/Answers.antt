@@ -1,9 +1,8 @@
-use Rattle.std.proofs.Common.{◌≡◌, inl, inr, refl, sym, ap, subst, ◌∙◌, arith, [], ◌∷◌, Some}
+use Rattle.std.proofs.Common.{inl, inr, refl, sym, ap, subst, ◌∙◌, arith, []}
 use Rattle.lr_host.specs.declared.host.CallFault.{CallFault}
-use Rattle.lr_host.specs.World.{past}
-use Rattle.lr_host.specs.Told.{Are, Can}
-use Rattle.lr_memhost.specs.Acts.{Turned, IsMaking}
-use Rattle.lr_memhost.proofs.TurnLemmas.{turned_kept, turned_new, turned_failed, turned_effect, named_new, some_entry, like, like_same, still_making}
+use Rattle.lr_host.specs.Told.{Are}
+use Rattle.lr_memhost.specs.Acts.{Turned}
+use Rattle.lr_memhost.proofs.TurnLemmas.{turned_new, turned_failed, turned_effect, named_new, some_entry, like, like_same, still_making}
 use Rattle.lr_memhost.proofs.CalmLemmas.{calm_alike, not_idle, not_some}
 use Rattle.lr_memhost.proofs.host.MemHost.make.Goals as goal
 

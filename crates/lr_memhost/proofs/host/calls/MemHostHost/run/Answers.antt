@@ -1,9 +1,8 @@
-use Rattle.std.proofs.Common.{◌≡◌, inl, inr, refl, sym, ap, subst, ◌∙◌, [], ◌∷◌, arith}
-use Rattle.std.specs.Prelude.{option_copied, IfOk}
+use Rattle.std.proofs.Common.{inr, refl, sym, ap, subst, ◌∙◌, [], ◌∷◌}
+use Rattle.std.specs.Prelude.{option_copied}
 use Rattle.lr_host.specs.declared.entry.Entry.{Entry}
 use Rattle.lr_host.specs.declared.entry.Entry.TheVariants as entry
-use Rattle.lr_host.specs.World.{world, past}
-use Rattle.lr_host.specs.Fits.{Fits}
+use Rattle.lr_host.specs.World.{past}
 use Rattle.lr_host.specs.Told.{Are}
 use Rattle.lr_memhost.specs.Acts.{Turned, first_end, after_end}
 use Rattle.lr_memhost.proofs.TurnLemmas.{turned_left, turned_entry, turned_as, turned_rest, like_same, still_can, made_fits}
