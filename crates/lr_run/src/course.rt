@@ -1,19 +1,20 @@
 // A run from its begin to its end.
 ghost use Rattle.std.specs.Prelude.{◌≡◌, [], ◌∷◌, true, false, Ok, Err, Some, IfOk, IfSome};
 ghost use Rattle.lr_rules.specs.Path.{parent_of};
+ghost use Rattle.lr_rules.specs.declared.fault.CallKind.TheVariants as call;
 ghost use Rattle.lr_rules.specs.declared.fault.Fault.TheVariants as fault;
 ghost use Rattle.lr_host.specs.declared.entry.Entry.TheVariants as entry;
 ghost use Rattle.lr_host.specs.Told.{Left, Then, Are, Can, NoneFell, Onward, Rose, WhereTold};
 ghost use Rattle.lr_host.specs.World.{world};
 ghost use Rattle.lr_promise.specs.Shape.{IsRun};
 ghost use Rattle.lr_run.specs.Built.{IsBuilt};
-ghost use Rattle.lr_run.specs.Faults.{MayBeCall};
+ghost use Rattle.lr_run.specs.Faults.{MayBeCall, dir_fault_of};
 ghost use Rattle.lr_run.specs.Logs.{IsAsked, IsPlain};
 ghost use Rattle.lr_run.specs.Runs.{Answers, given_of, WorkEnds, CourseEnds};
 
 use crate::answer::RunStop;
 use crate::fault::dir_fault;
-use crate::look::look_for_dir;
+use crate::look::{DirStop, look_for_dir};
 use crate::target::{Target, asked};
 use crate::turning::turn_log;
 use lr_host::Host;
@@ -38,54 +39,6 @@ fn work<H: Host>(
     }
 }
 
-// What stands between the begin and the end, and the end.
-fn work_to_end<H: Host>(
-    alloc: Global,
-    host: &mut H,
-    target: Option<Target>,
-) -> Result<Option<Fault>, Memory>
-    requires plain { IfSome target IsPlain }
-    requires on { WhereTold (H.told host.old) (λ p. (world p).running ≡ true) }
-    ensures told { Left (Then (WorkEnds target result) (Are (entry.Ends ∷ []))) (H.told host.old) (H.told host.new) }
-    ensures cause { IfOk result (λ fault. MayBeCall fault → Rose (H.counts host.old).faults (H.counts host.new).faults) }
-    ensures no_out { result ≡ Ok (Some fault.Out) → ⊥ }
-    ensures lock { (H.counts host.new).locked ≡ false }
-    ensures counts { NoneFell (H.counts host.old) (H.counts host.new) }
-{
-    let done = work(alloc, host, target);
-    host.end();
-    done
-}
-
-// Begins the run, and where it began, turns its log over and ends it; `name` is the state's path once more.
-fn take_course<H: Host>(
-    alloc: Global,
-    host: &mut H,
-    state: &Path,
-    now: &Moment,
-    rules: &Rules,
-    target: Option<Target>,
-    name: Path,
-) -> Result<Option<Fault>, RunStop>
-    requires there { Can (H.told host.old) (entry.Starts state.now now.now rules.now) }
-    requires asked { IsAsked rules.now.sets target }
-    requires name { name ≡ state.now }
-    ensures told { Left (CourseEnds state.now now.now rules.now result) (H.told host.old) (H.told host.new) }
-    ensures held { result ≡ Err RunStop.Held → Rose (H.counts host.old).held (H.counts host.new).held }
-    ensures cause { IfOk result (λ fault. MayBeCall fault → Rose (H.counts host.old).faults (H.counts host.new).faults) }
-    ensures no_out { result ≡ Ok (Some fault.Out) → ⊥ }
-    ensures counts { Onward (H.counts host.old) (H.counts host.new) }
-{
-    match host.begin(state, now, rules) {
-        Ok(true) => match work_to_end(alloc, host, target) {
-            Ok(fault) => Ok(fault),
-            Err(_) => Err(RunStop::Memory),
-        },
-        Ok(false) => Err(RunStop::Held),
-        Err(_) => Ok(Some(Fault::Call(CallKind::Begin, name))),
-    }
-}
-
 // What is made ready before the first call of a run.
 #[derive(Drop)]
 struct Parts {
@@ -107,6 +60,66 @@ fn parts_of(alloc: Global, rules: &Rules, state: &Path) -> Result<Parts, Memory>
     Ok(Parts { target, dir, name })
 }
 
+// What stands between the begin and the end, and the end.
+fn work_to_end<H: Host>(alloc: Global, host: &mut H, parts: Parts) -> Result<Option<Fault>, Memory>
+    requires plain { IfSome parts.target IsPlain }
+    requires on { WhereTold (H.told host.old) (λ p. (world p).running ≡ true) }
+    ensures told { Left (Then (WorkEnds parts.target result) (Are (entry.Ends ∷ []))) (H.told host.old) (H.told host.new) }
+    ensures cause { IfOk result (λ fault. MayBeCall fault → Rose (H.counts host.old).faults (H.counts host.new).faults) }
+    ensures no_out { result ≡ Ok (Some fault.Out) → ⊥ }
+    ensures lock { (H.counts host.new).locked ≡ false }
+    ensures counts { NoneFell (H.counts host.old) (H.counts host.new) }
+{
+    let Parts { target, .. } = parts;
+    let done = work(alloc, host, target);
+    host.end();
+    done
+}
+
+// The fault of a begin that failed.
+fn begin_fault(parts: Parts) -> Fault
+    ensures { result ≡ fault.Call call.Begin parts.name }
+{
+    let Parts { name, .. } = parts;
+    Fault::Call(CallKind::Begin, name)
+}
+
+// Begins the run, and where it began, turns its log over and ends it.
+fn take_course<H: Host>(
+    alloc: Global,
+    host: &mut H,
+    state: &Path,
+    now: &Moment,
+    rules: &Rules,
+    parts: Parts,
+) -> Result<Option<Fault>, RunStop>
+    requires there { Can (H.told host.old) (entry.Starts state.now now.now rules.now) }
+    requires asked { IsAsked rules.now.sets parts.target }
+    requires name { parts.name ≡ state.now }
+    ensures told { Left (CourseEnds state.now now.now rules.now result) (H.told host.old) (H.told host.new) }
+    ensures held { result ≡ Err RunStop.Held → Rose (H.counts host.old).held (H.counts host.new).held }
+    ensures cause { IfOk result (λ fault. MayBeCall fault → Rose (H.counts host.old).faults (H.counts host.new).faults) }
+    ensures no_out { result ≡ Ok (Some fault.Out) → ⊥ }
+    ensures counts { Onward (H.counts host.old) (H.counts host.new) }
+{
+    match host.begin(state, now, rules) {
+        Ok(true) => match work_to_end(alloc, host, parts) {
+            Ok(fault) => Ok(fault),
+            Err(_) => Err(RunStop::Memory),
+        },
+        Ok(false) => Err(RunStop::Held),
+        Err(_) => Ok(Some(begin_fault(parts))),
+    }
+}
+
+// The fault of the state's directory, which isn't seen as one.
+fn parts_fault(stop: DirStop, parts: Parts) -> Fault
+    ensures { result ≡ dir_fault_of stop parts.dir }
+{
+    let Parts { dir, .. } = parts;
+    dir_fault(stop, dir)
+}
+
 // Looks for the state's directory, and takes the course.
 fn run_parts<H: Host>(
     alloc: Global,
@@ -125,10 +138,9 @@ fn run_parts<H: Host>(
     ensures no_out { result ≡ Ok (Some fault.Out) → ⊥ }
     ensures counts { Onward (H.counts host.old) (H.counts host.new) }
 {
-    let Parts { target, dir, name } = parts;
-    match look_for_dir(host, &dir) {
-        Ok(()) => take_course(alloc, host, state, now, rules, target, name),
-        Err(stop) => Ok(Some(dir_fault(stop, dir))),
+    match look_for_dir(host, &parts.dir) {
+        Ok(()) => take_course(alloc, host, state, now, rules, parts),
+        Err(stop) => Ok(Some(parts_fault(stop, parts))),
     }
 }
 

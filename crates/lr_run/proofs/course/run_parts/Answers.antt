@@ -25,4 +25,4 @@ pub returns-in-Ok-clause-told : goal.returns-in-Ok-clause-told
 returns-in-Ok-clause-told g c = behind_dir c.args.state.now c.args.now.now c.args.rules.now c.args.parts.dir c.take_course.result c.requires.dir c.in-Ok.ensures.told c.take_course.ensures.told
 
 pub returns-in-Err-clause-told : goal.returns-in-Err-clause-told
-returns-in-Err-clause-told g c = no_dir c.args.state.now c.args.now.now c.args.rules.now c.in-Err.stop c.args.parts.dir c.dir_fault.result c.requires.dir c.dir_fault.ensures c.in-Err.ensures.stopped
+returns-in-Err-clause-told g c = no_dir c.args.state.now c.args.now.now c.args.rules.now c.in-Err.stop c.args.parts.dir c.parts_fault.result c.requires.dir c.parts_fault.ensures c.in-Err.ensures.stopped

@@ -1,4 +1,4 @@
-use Rattle.std.proofs.Common.{◌≡◌, Ok, Err, true, inl, ap, subst, Bool, List, [], ◌∷◌, Option, Result}
+use Rattle.std.proofs.Common.{◌≡◌, Ok, true, inl, ◌∙◌, ap, subst, Bool, List, [], ◌∷◌, Option, Result}
 use Rattle.lr_rules.specs.declared.civil.Moment.{Moment}
 use Rattle.lr_rules.specs.declared.fault.CallKind.TheVariants as call
 use Rattle.lr_rules.specs.declared.fault.Fault.TheVariants as fault
@@ -22,16 +22,16 @@ pub work_to_end-requires-clause-on : goal.work_to_end-requires-clause-on
 work_to_end-requires-clause-on g c = is_on c.args.state.now c.args.now.now c.args.rules.now (began c.args.state.now c.args.now.now c.args.rules.now c.in-Ok-true.field-0 c.in-Ok-true.field-0-test c.in-Ok-true.ensures.told)
 
 pub returns-in-Ok-clause-told : goal.returns-in-Ok-clause-told
-returns-in-Ok-clause-told g c = course_ended c.args.state.now c.args.now.now c.args.rules.now c.args.target c.in-Ok.fault c.requires.asked
+returns-in-Ok-clause-told g c = course_ended c.args.state.now c.args.now.now c.args.rules.now c.args.parts.target c.in-Ok.fault c.requires.asked
     (began c.args.state.now c.args.now.now c.args.rules.now c.in-Ok-true.field-0 c.in-Ok-true.field-0-test c.in-Ok-true.ensures.told) c.in-Ok.ensures.told
 
-pub returns-in-Ok-true-clause-told : goal.returns-in-Ok-true-clause-told
-returns-in-Ok-true-clause-told g c = course_lacking c.args.state.now c.args.now.now c.args.rules.now c.args.target c.in-Err-work_to_end.field-0 c.requires.asked
+pub returns-in-Err-work_to_end-clause-told : goal.returns-in-Err-work_to_end-clause-told
+returns-in-Err-work_to_end-clause-told g c = course_lacking c.args.state.now c.args.now.now c.args.rules.now c.args.parts.target c.in-Err-work_to_end.field-0 c.requires.asked
     (began c.args.state.now c.args.now.now c.args.rules.now c.in-Ok-true.field-0 c.in-Ok-true.field-0-test c.in-Ok-true.ensures.told) c.in-Err-work_to_end.ensures.told
 
 pub returns-in-Ok-false-clause-told : goal.returns-in-Ok-false-clause-told
 returns-in-Ok-false-clause-told g c =
     left_as c.in-Ok-false.ensures.told (λ ts h. subst (λ (b : Bool). DidWhere {E = CallFault} (Ok b) (Starts c.args.state.now c.args.now.now c.args.rules.now) ts) c.in-Ok-false.field-0-test h)
 
-pub returns-clause-told : goal.returns-clause-told
-returns-clause-told g c = left_as c.in-Err.ensures.told (λ ts h. inl (ap (fault.Call call.Begin) c.requires.name, h))
+pub returns-in-Err-clause-told : goal.returns-in-Err-clause-told
+returns-in-Err-clause-told g c = left_as c.in-Err.ensures.told (λ ts h. inl (c.begin_fault.ensures ∙ ap (fault.Call call.Begin) c.requires.name, h))
