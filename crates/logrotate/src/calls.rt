@@ -4,7 +4,7 @@ ghost use Rattle.std.specs.Prelude.{◌≡◌, ◌≤◌, ◌<◌, IfOk, length,
 use lr_host::{Kind, Seen};
 use lr_rules::{Ended, Path, Text, TextFault};
 use std::alloc::{AllocError, Global};
-use std::fs::{DirBuilder, File, OpenOptions, Permissions, TryLockError};
+use std::fs::{DirBuilder, DirEntry, File, OpenOptions, Permissions, TryLockError};
 use std::io::{ErrorKind, Write};
 use std::os::unix::fs::{DirBuilderExt, FileExt, MetadataExt, OpenOptionsExt, PermissionsExt};
 use std::process::{Command, Processes};
@@ -47,13 +47,33 @@ pub fn names_in<R: Files>(rt: &R, alloc: Global, dir: &str, names: &mut Vec<Text
     ensures { take (length names.old.items) names.new.items ≡ names.old.items }
 {
     for entry in fs::read_dir(&(rt, alloc), dir)? {
-        match entry {
-            Ok(entry) => add_name(alloc, entry.file_name(), names)?,
-            Err(e) if e.kind() == ErrorKind::InvalidFilename => {}
-            Err(e) => return Err(e),
-        }
+        add_entry(alloc, entry, names)?;
     }
     Ok(())
+}
+
+// Adds the name of one entry of a listing.
+fn add_entry<F: Files + Drop>(
+    alloc: Global,
+    entry: io::Result<DirEntry<F>>,
+    names: &mut Vec<Text>,
+) -> io::Result<()>
+    ensures kept { take (length names.old.items) names.new.items ≡ names.old.items }
+    ensures longer { length names.old.items ≤ length names.new.items }
+{
+    match entry {
+        Ok(entry) => add_name(alloc, entry.file_name(), names),
+        Err(e) => pass_over(e),
+    }
+}
+
+// A name that is no name of the system is passed over; any other error is one of the listing.
+fn pass_over(e: io::Error) -> io::Result<()> {
+    if e.kind() == ErrorKind::InvalidFilename {
+        Ok(())
+    } else {
+        Err(e)
+    }
 }
 
 fn add_name(alloc: Global, name: &str, names: &mut Vec<Text>) -> io::Result<()>
@@ -163,15 +183,45 @@ pub fn run_program<R: Files<File = File> + Processes>(
     input: Option<&Path>,
 ) -> io::Result<Ended> {
     let mut command = Command::new(alloc, program.as_str())?;
+    run_command(rt, &mut command, args, input)
+}
+
+fn run_command<R: Files<File = File> + Processes>(
+    rt: &R,
+    command: &mut Command,
+    args: &[Text],
+    input: Option<&Path>,
+) -> io::Result<Ended> {
+    add_args(command, args)?;
+    give_input(rt, command, input)?;
+    let status = command.status(rt)?;
+    Ok(end_of(status.code()))
+}
+
+fn add_args(command: &mut Command, args: &[Text]) -> io::Result<()> {
     for arg in args {
         command.arg(arg.as_str())?;
     }
+    Ok(())
+}
+
+// Without a file the program reads what this process does.
+fn give_input<R: Files<File = File>>(
+    rt: &R,
+    command: &mut Command,
+    input: Option<&Path>,
+) -> io::Result<()> {
     if let Some(path) = input {
         command.stdin(File::open(rt, path.as_str())?);
     }
-    match command.status(rt)?.code() {
-        Some(code) => Ok(Ended::Exit(code)),
-        None => Ok(Ended::Killed),
+    Ok(())
+}
+
+// A program that gave no code was killed.
+fn end_of(code: Option<i32>) -> Ended {
+    match code {
+        Some(code) => Ended::Exit(code),
+        None => Ended::Killed,
     }
 }
 
@@ -182,12 +232,17 @@ pub fn take_lock<R: Files<File = File> + AllocGlobal>(
     state: &str,
 ) -> io::Result<Option<File>> {
     let path = format!(in rt.alloc(); "{state}.lock")?;
+    let file = open_lock(rt, path.as_str())?;
+    lock_of(file)
+}
+
+fn open_lock<R: Files<File = File>>(rt: &R, path: &str) -> io::Result<File> {
     let mut options = OpenOptions::new();
-    let file = options
-        .write(true)
-        .create(true)
-        .mode(0o600)
-        .open(rt, path.as_str())?;
+    options.write(true).create(true).mode(0o600).open(rt, path)
+}
+
+// The file with its lock; None where another has it.
+fn lock_of(file: File) -> io::Result<Option<File>> {
     match file.try_lock() {
         Ok(()) => Ok(Some(file)),
         Err(TryLockError::WouldBlock) => Ok(None),

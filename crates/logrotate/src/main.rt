@@ -50,14 +50,20 @@ fn words_of(rt: &HostRuntime, alloc: Global) -> Result<Vec<Text>, Stop> {
     let _name = args.next();
     let mut words = Vec::new(alloc);
     for arg in args {
-        let Ok(word) = Text::new(alloc, arg.as_bytes()) else {
-            return Err(Stop::Memory);
-        };
-        if words.push(word).is_err() {
-            return Err(Stop::Memory);
-        }
+        add_word(alloc, &mut words, arg.as_bytes())?;
     }
     Ok(words)
+}
+
+// An argument is a text, so all that is refused here is memory.
+fn add_word(alloc: Global, words: &mut Vec<Text>, arg: &[u8]) -> Result<(), Stop> {
+    let Ok(word) = Text::new(alloc, arg) else {
+        return Err(Stop::Memory);
+    };
+    match words.push(word) {
+        Ok(()) => Ok(()),
+        Err(_) => Err(Stop::Memory),
+    }
 }
 
 // The working directory.

@@ -70,6 +70,22 @@ impl<R> RealHost<R> {
             }
         }
     }
+
+    // Keeps the lock, whether it was got; another holds it where it wasn't.
+    fn keep(&mut self, lock: Option<File>) -> bool
+        ensures lock { is_some self.new.lock ≡ result }
+        ensures refused { result ≡ false → Rose self.old.held self.new.held }
+        ensures held { self.old.held ≤ self.new.held }
+        ensures faults { self.old.faults ≡ self.new.faults }
+        ensures bad_ends { self.old.bad_ends ≡ self.new.bad_ends }
+    {
+        let got = lock.is_some();
+        self.lock = lock;
+        if !got {
+            raise(&mut self.held);
+        }
+        got
+    }
 }
 
 #[tactic(auto, using(lr_host::proofs::Entered::untold))]
@@ -89,15 +105,9 @@ impl<R: Files<File = File> + Processes + AllocGlobal + Drop> Host for RealHost<R
             return Ok(false);
         }
         let got = take_lock(&self.rt, state.as_str());
-        match self.count(got)? {
-            Some(file) => {
-                self.lock = Some(file);
-                Ok(true)
-            }
-            None => {
-                raise(&mut self.held);
-                Ok(false)
-            }
+        match self.count(got) {
+            Ok(lock) => Ok(self.keep(lock)),
+            Err(fault) => Err(fault),
         }
     }
 
