@@ -1,8 +1,7 @@
 -- A stand is refused as no file exactly where its looks show the cause.
-use Rattle.std.proofs.Common.{◌≡◌, ◌≢◌, ◌⊎◌, inl, inr, ℕ, Bool, true, false, List, [], ◌∷◌, ◌++◌, Option, Some, None, Result, Ok, Err, refl, sym, ap, ◌∙◌, subst, map}
+use Rattle.std.proofs.Common.{◌≡◌, ◌⊎◌, inl, inr, ℕ, Bool, true, false, List, [], ◌∷◌, ◌++◌, Option, Some, None, Result, Ok, Err, refl, sym, ap, ◌∙◌, subst, map}
 use Rattle.std.specs.Prelude.{IfOk, IfErr}
 use Rattle.std.proofs.lemmas.List.{append-nil}
-use Rattle.std.proofs.lemmas.List.Elements.{All-head, All-tail}
 use Rattle.lr_rules.specs.declared.path.Path.{Path}
 use Rattle.lr_rules.specs.declared.rule.Naming.{Naming}
 use Rattle.lr_rules.specs.declared.fault.CallKind.{CallKind}
@@ -15,111 +14,25 @@ use Rattle.lr_host.specs.declared.entry.Entry.TheVariants as entry
 use Rattle.lr_host.specs.declared.journal.Journal.{Journal}
 use Rattle.lr_host.specs.Told.{Left, Then, Are}
 use Rattle.lr_host.proofs.Left.{left_as}
-use Rattle.lr_family.specs.declared.spot.Spot.{Spot}
 use Rattle.lr_family.specs.declared.stand.Member.{Member}
 use Rattle.lr_family.specs.declared.stand.Stand.{Stand}
 use Rattle.lr_family.specs.declared.stand.StandStop.{StandStop}
 use Rattle.lr_family.specs.declared.stand.StandStop.TheVariants as stop
-use Rattle.lr_host.specs.Looks.{Sees, IsNothing, IsDir, IsNoDir, IsNoFile, IsFileOrGone}
+use Rattle.lr_host.specs.Looks.{Sees, IsNothing, IsDir}
 use Rattle.lr_family.specs.Looks.{Sight, look_of, AreFilesOrGone, ShowsSome}
-use Rattle.lr_family.specs.Stands.{Lists, StandsIn, Reaches, ShowsAs, ShowsStand, ShowsNoFile, StopsAtLook, StopsAtCall, ShowsSoFar, ShowsStop, IsExactly}
+use Rattle.lr_family.specs.Stands.{Reaches, ShowsAs, ShowsStand, ShowsNoFile, StopsAtLook, StopsAtCall, ShowsSoFar, ShowsStop, IsExactly}
+use Rattle.lr_family.proofs.Wrong.{by_look, wrong, past_list, wrong_member, sights_passed, saw_dir, listed, shows_wrong, stands_well}
 
--- the path of which the looks at members show that it is no file
-abbrev by_file : Path → Kind → Option Path → Option Path
-by_file x kind.File rest = rest
-by_file x kind.Dir rest = Some x
-by_file x kind.Other rest = Some x
-
-abbrev by_sight : Path → Option Seen → Option Path → Option Path
-by_sight x None rest = rest
-by_sight x (Some seen) rest = by_file x seen.kind rest
-
-abbrev wrong_member : List Entry → Option Path
-wrong_member [] = None
-wrong_member (entry.Look x seen ∷ ts) = by_sight x seen (wrong_member ts)
-wrong_member (_ ∷ ts) = None
-
--- and of all looks
-abbrev past_list : List Entry → Option Path
-past_list [] = None
-past_list (e ∷ ts) = wrong_member ts
-
-abbrev by_dir : Path → Kind → List Entry → Option Path
-by_dir x kind.Dir ts = past_list ts
-by_dir x kind.File ts = Some x
-by_dir x kind.Other ts = Some x
-
-abbrev by_look : Path → Option Seen → List Entry → Option Path
-by_look x None ts = None
-by_look x (Some seen) ts = by_dir x seen.kind ts
-
-abbrev wrong : List Entry → Option Path
-wrong [] = None
-wrong (entry.Look x seen ∷ ts) = by_look x seen ts
-wrong (_ ∷ ts) = None
-
--- ---- what each kind of looks shows
-
-no_dir_by : (x : Path) (k : Kind) (ts : List Entry) → k ≢ kind.Dir → by_dir x k ts ≡ Some x
-no_dir_by x kind.Dir ts h = absurd (h refl)
-no_dir_by x kind.File ts h = refl
-no_dir_by x kind.Other ts h = refl
-
-no_dir_wrong : (x : Path) (seen : Option Seen) → IsNoDir seen → by_look x seen [] ≡ Some x
-no_dir_wrong x None h = absurd h
-no_dir_wrong x (Some seen) h = no_dir_by x seen.kind [] h
-
-dir_by : (x : Path) (k : Kind) (ts : List Entry) → k ≡ kind.Dir → by_dir x k ts ≡ past_list ts
-dir_by x k ts e = ap (λ q. by_dir x q ts) e
-
-dir_passed : (x : Path) (seen : Option Seen) (ts : List Entry) → IsDir seen → by_look x seen ts ≡ past_list ts
-dir_passed x None ts h = absurd h
-dir_passed x (Some seen) ts h = dir_by x seen.kind ts h
-
-no_file_by : (x : Path) (k : Kind) (rest : Option Path) → k ≢ kind.File → by_file x k rest ≡ Some x
-no_file_by x kind.File rest h = absurd (h refl)
-no_file_by x kind.Dir rest h = refl
-no_file_by x kind.Other rest h = refl
-
-no_file_wrong : (x : Path) (seen : Option Seen) (rest : Option Path) → IsNoFile seen → by_sight x seen rest ≡ Some x
-no_file_wrong x None rest h = absurd h
-no_file_wrong x (Some seen) rest h = no_file_by x seen.kind rest h
-
-file_passed : (x : Path) (seen : Option Seen) (rest : Option Path) → IsFileOrGone seen → by_sight x seen rest ≡ rest
-file_passed x None rest h = refl
-file_passed x (Some seen) rest h = ap (λ q. by_file x q rest) h
-
-sights_passed : (sights : List Sight) (ts : List Entry) → AreFilesOrGone sights → wrong_member (map look_of sights ++ ts) ≡ wrong_member ts
-sights_passed [] ts h = refl
-sights_passed (sight ∷ sights) ts h =
-    file_passed sight.spot.path sight.seen (wrong_member (map look_of sights ++ ts)) (All-head (λ (g : Sight). IsFileOrGone g.seen) sight sights h)
-    ∙ sights_passed sights ts (All-tail (λ (g : Sight). IsFileOrGone g.seen) sight sights h)
+-- ---- what the looks show
 
 all_passed : (sights : List Sight) (ts : List Entry) → AreFilesOrGone sights → ts ≡ map look_of sights → wrong_member ts ≡ None
 all_passed sights ts h e = ap wrong_member (e ∙ sym (append-nil (map look_of sights))) ∙ sights_passed sights [] h
 
--- ---- and what they show together
-
-saw_no_dir : (x : Path) (ts : List Entry) → Sees x IsNoDir ts → wrong ts ≡ Some x
-saw_no_dir x ts s = ap wrong s.look ∙ no_dir_wrong x s.seen s.is
-
-saw_dir : (x : Path) (ts us : List Entry) → Sees x IsDir ts → wrong (ts ++ us) ≡ past_list us
-saw_dir x ts us s = ap (λ vs. wrong (vs ++ us)) s.look ∙ dir_passed x s.seen us s.is
-
 saw_nothing : (x : Path) (ts us : List Entry) → Sees x IsNothing ts → wrong (ts ++ us) ≡ None
 saw_nothing x ts us s = ap (λ vs. wrong (vs ++ us)) s.look ∙ ap (λ g. by_look x g us) s.is
 
-saw_no_file : (x : Path) (ts : List Entry) → Sees x IsNoFile ts → wrong_member ts ≡ Some x
-saw_no_file x ts s = ap wrong_member s.look ∙ no_file_wrong x s.seen None s.is
-
 behind : (x : Path) {P : List Entry → Type 0} (ts : List Entry) (r : Option Path) → Then (Sees x IsDir) P ts → ((us : List Entry) → P us → past_list us ≡ r) → wrong ts ≡ r
 behind x ts r t f = ap wrong t.joined ∙ (saw_dir x t.front t.back t.first ∙ f t.back t.second)
-
-listed : (n : Naming) (spots : List Spot) (ts us : List Entry) → Lists n spots ts → past_list (ts ++ us) ≡ wrong_member us
-listed n spots ts us l = ap (λ vs. past_list (vs ++ us)) l.list
-
-stands_well : (n : Naming) (members : List Member) (ts : List Entry) → StandsIn n members ts → past_list ts ≡ None
-stands_well n members ts s = ap past_list s.looks.joined ∙ (listed n s.spots s.looks.front s.looks.back s.looks.first ∙ all_passed s.looks.second.sights s.looks.back s.looks.second.files s.looks.second.looks)
 
 reached : (n : Naming) (x : Path) {P : List Entry → Type 0} (ts : List Entry) (r : Option Path) → Reaches n x P ts → ((us : List Entry) → P us → wrong_member us ≡ r) → past_list ts ≡ r
 reached n x ts r t f =
@@ -127,12 +40,11 @@ reached n x ts r t f =
     ap past_list t.looks.joined ∙ (listed n t.spots t.looks.front t.looks.back t.looks.first
     ∙ (ap wrong_member (to.looks.joined ∙ ap (λ vs. vs ++ to.looks.back) to.looks.first) ∙ (sights_passed to.before to.looks.back to.files ∙ f to.looks.back to.looks.second)))
 
-pub shows_wrong : (n : Naming) (path : Path) (ts : List Entry) → ShowsNoFile n path ts → wrong ts ≡ Some path
-shows_wrong n path ts (inl t) = saw_no_dir n.dir ts t.1 ∙ ap Some (sym t.0)
-shows_wrong n path ts (inr t) = behind n.dir ts (Some path) t (λ us r. reached n path us (Some path) r (λ vs s. saw_no_file path vs s))
+none_wrong : (n : Naming) (path : Path) (ts : List Entry) → ShowsNoFile n path ts → wrong ts ≡ Some path
+none_wrong n path ts h = ap wrong (sym (append-nil ts)) ∙ shows_wrong n path ts [] h
 
 stand_well : (n : Naming) (there parent : Bool) (members : List Member) (ts : List Entry) → ShowsAs n there parent members ts → wrong ts ≡ None
-stand_well n true parent members ts t = behind n.dir ts None t.1 (λ us s. stands_well n members us s)
+stand_well n true parent members ts t = behind n.dir ts None t.1 (λ us s. ap past_list (sym (append-nil us)) ∙ stands_well n members us [] s)
 stand_well n false parent members ts t = ap wrong t.1.joined ∙ saw_nothing n.dir t.1.front t.1.back t.1.first
 
 abbrev named : StandStop → Option Path
@@ -163,7 +75,7 @@ so_far_well n ts (inr (inl s)) = ap wrong (alone n.dir ts s) ∙ saw_nothing n.d
 so_far_well n ts (inr (inr t)) = behind n.dir ts None t (some_well n)
 
 stop_names : (n : Naming) (s : StandStop) (ts : List Entry) → ShowsStop n s ts → wrong ts ≡ named s
-stop_names n (stop.NotFile path) ts t = shows_wrong n path ts t
+stop_names n (stop.NotFile path) ts t = none_wrong n path ts t
 stop_names n (stop.Call kind path) ts t = call_well n kind path ts t
 stop_names n stop.Memory ts t = so_far_well n ts t
 
@@ -176,12 +88,12 @@ same_stop : (s t : StandStop) (r : Result Stand StandStop) → r ≡ Err s → r
 same_stop s t r p q = cc
 
 stand_exactly : (n : Naming) (stand : Stand) (ts : List Entry) → ShowsStand n stand ts → IsExactly n (Ok stand) ts
-stand_exactly n stand ts t path = ((λ e. absurd (cc)), (λ shows. absurd (let none : None ≡ Some path = sym (stand_well n stand.there stand.parent stand.members ts t) ∙ shows_wrong n path ts shows in cc)))
+stand_exactly n stand ts t path = ((λ e. absurd (cc)), (λ shows. absurd (let none : None ≡ Some path = sym (stand_well n stand.there stand.parent stand.members ts t) ∙ none_wrong n path ts shows in cc)))
 
 stop_exactly : (n : Naming) (s : StandStop) (ts : List Entry) → ShowsStop n s ts → IsExactly n (Err s) ts
 stop_exactly n s ts t path = (
   λ e. subst (λ q. ShowsStop n q ts) (same_stop s (stop.NotFile path) (Err s) refl e) t,
-  λ shows. ap Err (is_named s path (sym (stop_names n s ts t) ∙ shows_wrong n path ts shows)),
+  λ shows. ap Err (is_named s path (sym (stop_names n s ts t) ∙ none_wrong n path ts shows)),
 )
 
 pub exactly : (n : Naming) (r : Result Stand StandStop) {o m : Option Journal} → IfOk r (λ stand. Left (ShowsStand n stand) o m) → IfErr r (λ s. Left (ShowsStop n s) o m) → Left (IsExactly n r) o m

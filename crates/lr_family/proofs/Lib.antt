@@ -9,3 +9,4 @@ pub mod Placed
 pub mod Plain
 pub mod Unique
 pub mod Whole
+pub mod Wrong

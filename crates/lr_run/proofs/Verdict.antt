@@ -2,7 +2,6 @@
 use Rattle.std.proofs.Common.{◌≡◌, ◌≢◌, inl, inr, ℕ, Bool, true, false, cond, ◌||◌, List, [], ◌∷◌, ◌++◌, map, Option, Some, None, refl, sym, ap, ◌∙◌, subst, append_assoc, Contains, ◌⊎◌}
 use Rattle.std.specs.List.{list_any, flat_map}
 use Rattle.std.proofs.lemmas.List.{append-nil}
-use Rattle.std.proofs.lemmas.List.Elements.{All-head, All-tail}
 use Rattle.std.proofs.lemmas.List.Sorted.{Contains-permutation, IsPermutation-sym}
 use Rattle.lr_rules.specs.declared.path.Path.{Path}
 use Rattle.lr_rules.specs.declared.rule.Naming.{Naming}
@@ -23,13 +22,14 @@ use Rattle.lr_family.specs.declared.stand.Member.{Member}
 use Rattle.lr_family.specs.declared.stand.Stand.{Stand}
 use Rattle.lr_family.specs.Named.{member_name}
 use Rattle.lr_family.specs.Spots.{path_at, spot_at}
-use Rattle.lr_host.specs.Looks.{Sees, IsNothing, IsDir, IsNoDir, IsNoFile, IsFileOrGone, is_dir, IsFile}
+use Rattle.lr_host.specs.Looks.{Sees, IsNothing, IsDir, IsNoFile, is_dir, IsFile}
 use Rattle.lr_host.proofs.Each.{each_append}
 use Rattle.lr_host.specs.Lists.{IsIn}
 use Rattle.lr_host.proofs.Lists.{in_from, in_to, in_map, in_unmap}
-use Rattle.lr_family.specs.Looks.{Sight, look_of, seen_at, member_of, AreFilesOrGone, ShowsSome}
-use Rattle.lr_family.specs.Stands.{number_in, Lists, StandsIn, Reaches, ShowsAs, ShowsStand, ShowsNoFile, ShowsSoFar}
+use Rattle.lr_family.specs.Looks.{Sight, seen_at, member_of, ShowsSome}
+use Rattle.lr_family.specs.Stands.{number_in, StandsIn, ShowsAs, ShowsStand, ShowsNoFile, ShowsSoFar}
 use Rattle.lr_family.proofs.OnlyLooks.{IsLooking, AreLooking, looking_stands, looking_sights}
+use Rattle.lr_family.proofs.Wrong.{wrong_member, past_list, wrong, sights_passed, split, saw_dir, shows_wrong, stands_well}
 use Rattle.lr_chain.specs.Ready.{highest_path, IsTooHigh}
 use Rattle.lr_chain.specs.Rotation.{places_of, rotation, leftover_steps, shift_steps, turn_steps, retire_steps}
 use Rattle.lr_chain.proofs.Steps.{each_rotation}
@@ -37,95 +37,6 @@ use Rattle.lr_run.specs.Exact.{TakesMemory}
 use Rattle.lr_run.specs.Faults.{IsCall}
 use Rattle.lr_run.specs.Logs.{Log}
 use Rattle.lr_run.specs.Turning.{Behind, GoesWell, turned, let_be, LogBecause, LogLacks, at_stand, at_steps}
-
--- ---- of a family's looks: the path that is no file
-
-abbrev by_file : Path → Kind → Option Path → Option Path
-by_file x kind.File rest = rest
-by_file x kind.Dir rest = Some x
-by_file x kind.Other rest = Some x
-
-abbrev by_sight : Path → Option Seen → Option Path → Option Path
-by_sight x None rest = rest
-by_sight x (Some seen) rest = by_file x seen.kind rest
-
-abbrev wrong_member : List Entry → Option Path
-wrong_member [] = None
-wrong_member (entry.Look x seen ∷ ts) = by_sight x seen (wrong_member ts)
-wrong_member (_ ∷ ts) = None
-
-abbrev past_list : List Entry → Option Path
-past_list [] = None
-past_list (e ∷ ts) = wrong_member ts
-
-abbrev by_dir : Path → Kind → List Entry → Option Path
-by_dir x kind.Dir ts = past_list ts
-by_dir x kind.File ts = Some x
-by_dir x kind.Other ts = Some x
-
-abbrev by_look : Path → Option Seen → List Entry → Option Path
-by_look x None ts = None
-by_look x (Some seen) ts = by_dir x seen.kind ts
-
-abbrev wrong : List Entry → Option Path
-wrong [] = None
-wrong (entry.Look x seen ∷ ts) = by_look x seen ts
-wrong (_ ∷ ts) = None
-
-no_dir_wrong : (x : Path) (seen : Option Seen) (ts : List Entry) → IsNoDir seen → by_look x seen ts ≡ Some x
-no_dir_wrong x None ts h = absurd h
-no_dir_wrong x (Some seen) ts h = go seen.kind h
-  where
-    go : (k : Kind) → k ≢ kind.Dir → by_dir x k ts ≡ Some x
-    go kind.Dir h = absurd (h refl)
-    go kind.File h = refl
-    go kind.Other h = refl
-
-dir_passed : (x : Path) (seen : Option Seen) (ts : List Entry) → IsDir seen → by_look x seen ts ≡ past_list ts
-dir_passed x None ts h = absurd h
-dir_passed x (Some seen) ts h = ap (λ k. by_dir x k ts) h
-
-no_file_wrong : (x : Path) (seen : Option Seen) (rest : Option Path) → IsNoFile seen → by_sight x seen rest ≡ Some x
-no_file_wrong x None rest h = absurd h
-no_file_wrong x (Some seen) rest h = go seen.kind h
-  where
-    go : (k : Kind) → k ≢ kind.File → by_file x k rest ≡ Some x
-    go kind.File h = absurd (h refl)
-    go kind.Dir h = refl
-    go kind.Other h = refl
-
-file_passed : (x : Path) (seen : Option Seen) (rest : Option Path) → IsFileOrGone seen → by_sight x seen rest ≡ rest
-file_passed x None rest h = refl
-file_passed x (Some seen) rest h = ap (λ k. by_file x k rest) h
-
-sights_passed : (sights : List Sight) (ts : List Entry) → AreFilesOrGone sights → wrong_member (map look_of sights ++ ts) ≡ wrong_member ts
-sights_passed [] ts h = refl
-sights_passed (g ∷ gs) ts h = file_passed g.spot.path g.seen (wrong_member (map look_of gs ++ ts)) (All-head (λ (g : Sight). IsFileOrGone g.seen) g gs h) ∙ sights_passed gs ts (All-tail (λ (g : Sight). IsFileOrGone g.seen) g gs h)
-
--- behind the looks
-split : {P Q : List Entry → Type 0} (ts more : List Entry) (f : List Entry → Option Path) (t : Then P Q ts) → f (ts ++ more) ≡ f (t.front ++ (t.back ++ more))
-split ts more f t = ap (λ xs. f (xs ++ more)) t.joined ∙ ap f (append_assoc t.front t.back more)
-
-saw_dir : (x : Path) (ts more : List Entry) → Sees x IsDir ts → wrong (ts ++ more) ≡ past_list more
-saw_dir x ts more s = ap (λ vs. wrong (vs ++ more)) s.look ∙ dir_passed x s.seen more s.is
-
-listed : (n : Naming) (spots : List Spot) (ts more : List Entry) → Lists n spots ts → past_list (ts ++ more) ≡ wrong_member more
-listed n spots ts more l = ap (λ vs. past_list (vs ++ more)) l.list
-
-no_file_shown : (n : Naming) (path : Path) (ts more : List Entry) → Reaches n path (Sees path IsNoFile) ts → past_list (ts ++ more) ≡ Some path
-no_file_shown n path ts more r =
-    let to = r.looks.second in
-    split ts more past_list r.looks ∙ (listed n r.spots r.looks.front (r.looks.back ++ more) r.looks.first
-    ∙ (split r.looks.back more wrong_member to.looks ∙ (ap (λ vs. wrong_member (vs ++ (to.looks.back ++ more))) to.looks.first ∙ (sights_passed to.before (to.looks.back ++ more) to.files
-    ∙ (ap (λ vs. wrong_member (vs ++ more)) to.looks.second.look ∙ no_file_wrong path to.looks.second.seen (wrong_member more) to.looks.second.is)))))
-
-shows_wrong : (n : Naming) (path : Path) (ts more : List Entry) → ShowsNoFile n path ts → wrong (ts ++ more) ≡ Some path
-shows_wrong n path ts more (inl s) = ap (λ vs. wrong (vs ++ more)) s.1.look ∙ (no_dir_wrong n.dir s.1.seen more s.1.is ∙ ap Some (sym s.0))
-shows_wrong n path ts more (inr t) = split ts more wrong t ∙ (saw_dir n.dir t.front (t.back ++ more) t.first ∙ no_file_shown n path t.back more t.second)
-
-stands_well : (n : Naming) (members : List Member) (ts more : List Entry) → StandsIn n members ts → past_list (ts ++ more) ≡ wrong_member more
-stands_well n members ts more s = split ts more past_list s.looks ∙ (listed n s.spots s.looks.front (s.looks.back ++ more) s.looks.first
-    ∙ (ap (λ vs. wrong_member (vs ++ more)) s.looks.second.looks ∙ sights_passed s.looks.second.sights more s.looks.second.files))
 
 -- ---- of the log
 
