@@ -5,7 +5,6 @@ pub mod Fitting
 pub mod Has
 pub mod Highest
 pub mod Lasting
-pub mod Parts
 pub mod Retiring
 pub mod Steps
 pub mod Turned

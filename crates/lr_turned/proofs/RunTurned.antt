@@ -97,7 +97,6 @@ module _ (log : Path) (n : Naming) (c : Count) (stand : Stand) (p q : Past) (es 
   stood : names (world r) log ≡ thing.File seen.0
   stood = stays_file look.at r log seen.0 (quiet_or_made n look.at r log look.until) seen.1
 
-
   -- and are turned behind it, with the file that the log named before the first change
   pub run_whole : IsTurnedWhole n c log p q
   run_whole = record {
