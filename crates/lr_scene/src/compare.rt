@@ -106,6 +106,33 @@ fn compare_thing(
     }
 }
 
+// A file that is wanted, where none stands.
+fn compare_gone(
+    differences: &mut Differences,
+    host: &MemHost,
+    path: &Path,
+    wanted: &[u8],
+) -> Result<(), AllocError> {
+    if host.file(path).is_none() {
+        differences.add(path.bytes(), b"is no file", wanted)
+    } else {
+        Ok(())
+    }
+}
+
+// A file of the opening, which is wanted where it lies in `/etc`.
+fn compare_opened(
+    differences: &mut Differences,
+    host: &MemHost,
+    wanted: &Wanted,
+    path: &Path,
+) -> Result<(), AllocError> {
+    match wanted_bytes(host, wanted, path) {
+        Some(bytes) if is_of_etc(path) => compare_gone(differences, host, path, bytes),
+        _ => Ok(()),
+    }
+}
+
 // The files that are wanted, where none stands.
 fn compare_missing(
     differences: &mut Differences,
@@ -113,17 +140,10 @@ fn compare_missing(
     wanted: &Wanted,
 ) -> Result<(), AllocError> {
     for (path, bytes) in &wanted.left {
-        if host.file(path).is_none() {
-            differences.add(path.bytes(), b"is no file", bytes.as_slice())?;
-        }
+        compare_gone(differences, host, path, bytes.as_slice())?;
     }
     for name in host.journal().opening.names.as_slice() {
-        if host.file(&name.0).is_none()
-            && let Some(bytes) = wanted_bytes(host, wanted, &name.0)
-            && is_of_etc(&name.0)
-        {
-            differences.add(name.0.bytes(), b"is no file", bytes)?;
-        }
+        compare_opened(differences, host, wanted, &name.0)?;
     }
     Ok(())
 }

@@ -109,17 +109,25 @@ fn fail(host: &mut MemHost, at: u64, mishap: Mishap) -> Result<(), Trouble> {
     })?)
 }
 
-/// Does this to the host, or lets it come before the call of the host with this number.
-pub fn do_deed(alloc: Global, host: &mut MemHost, what: &What, number: u64) -> Result<(), Trouble> {
+// Lets a writer act before the call of the host with this number.
+fn do_act(alloc: Global, host: &mut MemHost, what: &What, number: u64) -> Result<(), Trouble> {
     match what {
-        What::Fails(mishap) => fail(host, number, *mishap),
         What::Attaches(writer, path) => act(host, number, attach(alloc, *writer, path)?),
         What::Feeds(writer, bytes) => act(host, number, feed(alloc, *writer, bytes)?),
         What::Flushes(writer) => act(host, number, Entry::Flush { writer: *writer }),
         What::Detaches(writer) => act(host, number, Entry::Detach { writer: *writer }),
+        _ => Ok(()),
+    }
+}
+
+/// Does this to the host, or lets it come before the call of the host with this number.
+pub fn do_deed(alloc: Global, host: &mut MemHost, what: &What, number: u64) -> Result<(), Trouble> {
+    match what {
+        What::Fails(mishap) => fail(host, number, *mishap),
         What::MakesAnew(writer, path, bytes) => make_anew(alloc, host, *writer, path, bytes),
         What::Holds(by_another) => hold(host, *by_another),
         What::Revives => revive(host),
         What::Cuts(cut) => do_cut(alloc, host, cut),
+        _ => do_act(alloc, host, what, number),
     }
 }

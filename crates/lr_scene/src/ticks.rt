@@ -16,16 +16,23 @@ const TICKER: u32 = u32::MAX;
 /// More calls than a run makes whose calls are named.
 const TICKS: u64 = 256;
 
+fn attach_ticker(alloc: Global, host: &mut MemHost, from: u64, path: &Path) -> Result<(), Trouble> {
+    let what = attach(alloc, TICKER, path)?;
+    act(host, from, what)
+}
+
+fn list_tick(alloc: Global, host: &mut MemHost, number: u64) -> Result<(), Trouble> {
+    let what = feed(alloc, TICKER, b"")?;
+    act(host, number, what)
+}
+
 /// Lets the writer act before each of the next calls.
 pub fn list_ticks(alloc: Global, host: &mut MemHost) -> Result<(), Trouble> {
     let from = host.calls();
-    act(
-        host,
-        from,
-        attach(alloc, TICKER, &Path::new(alloc, TICK_PATH)?)?,
-    )?;
+    let path = Path::new(alloc, TICK_PATH)?;
+    attach_ticker(alloc, host, from, &path)?;
     for number in from..from.saturating_add(TICKS) {
-        act(host, number, feed(alloc, TICKER, b"")?)?;
+        list_tick(alloc, host, number)?;
     }
     Ok(())
 }
