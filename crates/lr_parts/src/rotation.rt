@@ -1,0 +1,95 @@
+// Rotations that are made ready of what stands.
+ghost use Rattle.std.specs.Prelude.{◌≡◌, ◌≤◌, None, IfOk};
+ghost use Rattle.lr_family.specs.Places.{AreNamed};
+ghost use Rattle.lr_chain.specs.Ready.{IsCount};
+
+use crate::answer::{add, add_path, said_path};
+use crate::family::family;
+use crate::standing::stop_text;
+use lr_chain::{Move, PrepareStop, Ready, prepare};
+use lr_family::{Family, Stand};
+use lr_line::{Trouble, small};
+use lr_memhost::MemHost;
+use lr_row::Cursor;
+use lr_rules::{Count, Path};
+use lr_scripts::Removal;
+use std::alloc::{AllocError, Global};
+
+fn count_of(word: &[u8]) -> Result<Count, Trouble>
+    ensures { IfOk result IsCount }
+{
+    if word == b"all".as_slice() {
+        return Ok(Count::Always);
+    }
+    let most = small(word)?;
+    if most > 999_999 {
+        return Err(Trouble::Odd("a count is at most 999999"));
+    }
+    Ok(Count::Keep(most))
+}
+
+fn add_move(
+    into: &mut Vec<u8>,
+    alloc: Global,
+    word: &str,
+    from: &Path,
+    to: &Path,
+) -> Result<(), AllocError> {
+    let text = format!(in alloc; "{word} {} {}", from.as_str(), to.as_str())?;
+    add(into, text.as_str())
+}
+
+fn add_moves(into: &mut Vec<u8>, alloc: Global, moves: &[Move]) -> Result<(), AllocError> {
+    for step in moves {
+        add_move(into, alloc, "move", &step.from, &step.to)?;
+    }
+    Ok(())
+}
+
+fn add_removals(into: &mut Vec<u8>, word: &str, removals: &[Removal]) -> Result<(), AllocError> {
+    for removal in removals {
+        add_path(into, word, &removal.path)?;
+    }
+    Ok(())
+}
+
+fn ready_text(alloc: Global, ready: &Ready) -> Result<Vec<u8>, Trouble> {
+    let mut text = Vec::new(alloc);
+    add_removals(&mut text, "leftover", ready.leftovers.as_slice())?;
+    add_moves(&mut text, alloc, ready.moves.as_slice())?;
+    add_move(&mut text, alloc, "log", &ready.log, &ready.target)?;
+    add_removals(&mut text, "retire", ready.retire.as_slice())?;
+    Ok(text)
+}
+
+fn prepare_stop_text(alloc: Global, stop: &PrepareStop) -> Result<Vec<u8>, Trouble> {
+    match stop {
+        PrepareStop::Taken(path) => said_path(alloc, "name is taken:", path),
+        PrepareStop::TooHigh(path) => said_path(alloc, "number is too high:", path),
+        PrepareStop::NoDir(path) => said_path(alloc, "no directory:", path),
+        PrepareStop::Memory => Err(Trouble::Memory),
+    }
+}
+
+fn prepared(alloc: Global, family: &Family, stand: &Stand, count: Count) -> Result<Vec<u8>, Trouble>
+    requires numbered { family.now.naming.dated ≡ None }
+    requires start { family.now.naming.start ≤ 999999 }
+    requires count { IsCount count }
+    requires named { AreNamed family.now.naming stand.now.members }
+{
+    match prepare(alloc, family, stand, count) {
+        Ok(ready) => ready_text(alloc, &ready),
+        Err(stop) => prepare_stop_text(alloc, &stop),
+    }
+}
+
+/// `prepare LOG DIRECTORY BASE EXTENSION FIRST COUNT`: what one rotation will do, in order, where COUNT members are kept,
+/// or `all`.
+pub fn prepare_rotation(host: &mut MemHost, cursor: &mut Cursor) -> Result<Vec<u8>, Trouble> {
+    let family = family(cursor)?;
+    let count = count_of(cursor.word()?)?;
+    match family.stand(cursor.alloc, host) {
+        Ok(stand) => prepared(cursor.alloc, &family, &stand, count),
+        Err(stop) => stop_text(cursor.alloc, &stop),
+    }
+}
