@@ -100,21 +100,26 @@ fn ask_of(line: Line) -> Result<Ask, Trouble> {
     Err(Trouble::Odd("no such call"))
 }
 
-/// Puts what the call of the line answers.
-pub fn answer(line: Line, out: &mut String) -> Result<(), Trouble> {
-    match ask_of(line)? {
-        Ask::Path => path::path(line, out),
-        Ask::Word => path::word(line, out),
-        Ask::Parent => path::parent(line, out),
-        Ask::Last => path::last(line, out),
-        Ask::Join => path::join(line, out),
-        Ask::Copy => path::copy(line, out),
-        Ask::Same => path::same(line, out),
-        Ask::Utf8 => path::utf8(line, out),
-        Ask::Starved => path::starved(line, out),
-        Ask::Texts => path::texts(line, out),
-        Ask::List => path::list(line, out),
-        Ask::Seconds => moment::seconds(line, out),
+// Of the printed lines, and of rotations.
+fn answer_of_runs(ask: Ask, line: Line, out: &mut String) -> Result<(), Trouble> {
+    match ask {
+        Ask::Kin => name::kin(line, out),
+        Ask::Name => name::name(line, out),
+        Ask::Place => name::place(line, out),
+        Ask::ReadBack => name::read_back(line, out),
+        Ask::NamedAgain => name::named_again(line, out),
+        Ask::Rotation => chain::rotation(line, out),
+        Ask::Fault => report::fault(line, out),
+        Ask::Notice => report::notice(line, out),
+        Ask::Said => report::said(line, out),
+        Ask::Until => report::until(line, out),
+        _ => Err(Trouble::Odd("no such call")),
+    }
+}
+
+// Of configurations, clocks and the state.
+fn answer_of_texts(ask: Ask, line: Line, out: &mut String) -> Result<(), Trouble> {
+    match ask {
         Ask::Row => word::row(line, out),
         Ask::PlaceOfWord => word::place(line, out),
         Ask::Lex => lex::lex(line, out),
@@ -127,15 +132,31 @@ pub fn answer(line: Line, out: &mut String) -> Result<(), Trouble> {
         Ask::Moment => state::moment(line, out),
         Ask::Set => state::set(line, out),
         Ask::Purge => state::purge(line, out),
-        Ask::Kin => name::kin(line, out),
-        Ask::Name => name::name(line, out),
-        Ask::Place => name::place(line, out),
-        Ask::ReadBack => name::read_back(line, out),
-        Ask::NamedAgain => name::named_again(line, out),
-        Ask::Rotation => chain::rotation(line, out),
-        Ask::Fault => report::fault(line, out),
-        Ask::Notice => report::notice(line, out),
-        Ask::Said => report::said(line, out),
-        Ask::Until => report::until(line, out),
+        _ => answer_of_runs(ask, line, out),
     }
+}
+
+// Of what all crates share, else of the others.
+fn answer_of(ask: Ask, line: Line, out: &mut String) -> Result<(), Trouble> {
+    match ask {
+        Ask::Path => path::path(line, out),
+        Ask::Word => path::word(line, out),
+        Ask::Parent => path::parent(line, out),
+        Ask::Last => path::last(line, out),
+        Ask::Join => path::join(line, out),
+        Ask::Copy => path::copy(line, out),
+        Ask::Same => path::same(line, out),
+        Ask::Utf8 => path::utf8(line, out),
+        Ask::Starved => path::starved(line, out),
+        Ask::Texts => path::texts(line, out),
+        Ask::List => path::list(line, out),
+        Ask::Seconds => moment::seconds(line, out),
+        _ => answer_of_texts(ask, line, out),
+    }
+}
+
+/// Puts what the call of the line answers.
+pub fn answer(line: Line, out: &mut String) -> Result<(), Trouble> {
+    let ask = ask_of(line)?;
+    answer_of(ask, line, out)
 }

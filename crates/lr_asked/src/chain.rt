@@ -142,19 +142,35 @@ fn put_prepared(made: &Result<Ready, PrepareStop>, out: &mut String) -> Result<(
     }
 }
 
+fn put_prepared_of(
+    line: Line,
+    family: &Family,
+    stand: &Stand,
+    count: Count,
+    out: &mut String,
+) -> Result<(), Trouble>
+    requires numbered { family.now.naming.dated ≡ None }
+    requires start { family.now.naming.start ≤ 999999 }
+    requires count { IsCount count }
+    requires named { AreNamed family.now.naming stand.now.members }
+{
+    let made = prepare(line.alloc, family, stand, count);
+    put_prepared(&made, out)
+}
+
 fn put_rotation(line: Line, family: &Family, out: &mut String) -> Result<(), Trouble>
     requires numbered { family.now.naming.dated ≡ None }
     requires start { family.now.naming.start ≤ 999999 }
 {
     let count = count(line.word(6)?)?;
     let there = is_there(line.word(7)?)?;
+    let members = members(line, family)?;
     let stand = Stand {
         there,
         parent: true,
-        members: members(line, family)?,
+        members,
     };
-    let made = prepare(line.alloc, family, &stand, count);
-    put_prepared(&made, out)
+    put_prepared_of(line, family, &stand, count, out)
 }
 
 /// The steps of the rotation, each on a line, or why there is none.

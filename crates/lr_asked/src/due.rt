@@ -104,9 +104,9 @@ fn with_limits(line: Line, criterion: Criterion, ifempty: bool) -> Result<Case, 
     })
 }
 
-fn rule_of(alloc: Global, case: Case) -> Result<Rule, Trouble> {
-    Ok(Rule {
-        file: Path::new(alloc, b"/etc/c")?,
+fn rule_of(alloc: Global, file: Path, case: Case) -> Rule {
+    Rule {
+        file,
         line: 1,
         words: Listed::new(alloc),
         criterion: case.criterion,
@@ -136,7 +136,7 @@ fn rule_of(alloc: Global, case: Case) -> Result<Rule, Trouble> {
             preremove: None,
         },
         dated: None,
-    })
+    }
 }
 
 // A file of the line's size and age, seen at these seconds.
@@ -201,6 +201,7 @@ fn put_due(rule: &Rule, line: Line, out: &mut String) -> Result<(), Trouble> {
 /// Why the log is due, or why not.
 pub fn is_due(line: Line, out: &mut String) -> Result<(), Trouble> {
     let case = case_at(line)?;
-    let rule = rule_of(line.alloc, case)?;
+    let file = Path::new(line.alloc, b"/etc/c")?;
+    let rule = rule_of(line.alloc, file, case);
     put_due(&rule, line, out)
 }

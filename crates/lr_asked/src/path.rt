@@ -1,6 +1,6 @@
 // Paths, texts and lists.
 use crate::values::{put_all, put_yes};
-use lr_line::{Line, Trouble};
+use lr_line::{Line, Trouble, small};
 use lr_rules::{Listed, Path, PathFault, Text, TextFault, copy_texts};
 
 fn put_path(made: Result<Path, PathFault>, out: &mut String) -> Result<(), Trouble> {
@@ -60,10 +60,15 @@ pub fn same(line: Line, out: &mut String) -> Result<(), Trouble> {
     put_yes(copy.has_bytes(other.bytes()), out)
 }
 
+fn put_text_copy(line: Line, text: &Text, out: &mut String) -> Result<(), Trouble> {
+    let copy = text.copy(line.alloc)?;
+    Ok(out.push_str(copy.as_str())?)
+}
+
 /// A copy of the text of the bytes.
 pub fn utf8(line: Line, out: &mut String) -> Result<(), Trouble> {
     match Text::new(line.alloc, line.word(1)?) {
-        Ok(text) => Ok(out.push_str(text.copy(line.alloc)?.as_str())?),
+        Ok(text) => put_text_copy(line, &text, out),
         Err(fault) => Ok(write!(out, "{fault}")?),
     }
 }
@@ -88,14 +93,23 @@ fn put_numbers(numbers: &[u32], out: &mut String) -> Result<(), Trouble> {
     Ok(())
 }
 
-/// A list to which the numbers are added: how many, each as they stand, and each of the vector.
-pub fn list(line: Line, out: &mut String) -> Result<(), Trouble> {
-    let mut list = Listed::new(line.alloc);
-    for at in 1..line.words.len() {
-        list.push(line.small(at)?)?;
-    }
+fn put_list(list: Listed<u32>, out: &mut String) -> Result<(), Trouble> {
     write!(out, "{}:", list.len())?;
     put_numbers(list.as_slice(), out)?;
     out.push_str(",")?;
     put_numbers(&list.into_vec(), out)
+}
+
+fn fill(list: &mut Listed<u32>, line: Line) -> Result<(), Trouble> {
+    for word in line.words.iter().skip(1) {
+        list.push(small(word)?)?;
+    }
+    Ok(())
+}
+
+/// A list to which the numbers are added: how many, each as they stand, and each of the vector.
+pub fn list(line: Line, out: &mut String) -> Result<(), Trouble> {
+    let mut list = Listed::new(line.alloc);
+    fill(&mut list, line)?;
+    put_list(list, out)
 }
