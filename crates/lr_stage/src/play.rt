@@ -126,6 +126,33 @@ fn sink_of(alloc: Global, failing_puts: &[u64]) -> Result<MemSink, AllocError> {
     Ok(MemSink::new(alloc, Vec::from_slice(alloc, failing_puts)?))
 }
 
+// Makes the call, with the ticks of its calls.
+fn make_ticked<C: Caller>(
+    alloc: Global,
+    caller: &C,
+    host: &mut MemHost,
+    call: &Call,
+) -> Result<(), Trouble> {
+    list_ticks(alloc, host)?;
+    let mut out = sink_of(alloc, &call.failing_puts)?;
+    let _ = caller.make(alloc, host, call, &mut out)?;
+    Ok(())
+}
+
+// The number of the call that is named, among those behind the first `from` entries.
+fn look_up(
+    alloc: Global,
+    host: &MemHost,
+    from: usize,
+    calls: u64,
+    called: &Called,
+) -> Result<u64, Trouble> {
+    match host.journal().entries.as_slice().get(from..) {
+        Some(entries) => number_of(alloc, entries, calls, called),
+        None => Err(Trouble::Odd("no such call comes")),
+    }
+}
+
 // Makes the call, and looks up the number of the call that is named.
 fn find_named<C: Caller>(
     alloc: Global,
@@ -136,13 +163,8 @@ fn find_named<C: Caller>(
 ) -> Result<u64, Trouble> {
     let from = host.journal().entries.len();
     let calls = host.calls();
-    list_ticks(alloc, host)?;
-    let mut out = sink_of(alloc, &call.failing_puts)?;
-    let _ = caller.make(alloc, host, call, &mut out)?;
-    match host.journal().entries.as_slice().get(from..) {
-        Some(entries) => number_of(alloc, entries, calls, called),
-        None => Err(Trouble::Odd("no such call comes")),
-    }
+    make_ticked(alloc, caller, host, call)?;
+    look_up(alloc, host, from, calls, called)
 }
 
 fn find<C: Caller>(
@@ -262,12 +284,12 @@ fn play_calls<C: Caller>(
     alloc: Global,
     caller: &C,
     host: &mut MemHost,
-    calls: &[Call],
+    row: &Row,
     twist: Twist,
     found: Found,
 ) -> Result<Played, Trouble> {
     let mut taken = 0usize;
-    for (at, call) in calls.iter().enumerate() {
+    for (at, call) in row.calls.iter().enumerate() {
         let played = play_call(alloc, caller, host, call, at, twist, found, &mut taken)?;
         if !matches!(&played, Played::Well) {
             return Ok(played);
@@ -296,7 +318,7 @@ fn play_once<C: Caller>(
     found: Found,
 ) -> Result<Played, Trouble> {
     let mut host = host_for(alloc, row, twist.conf, found.is_search)?;
-    play_calls(alloc, caller, &mut host, &row.calls, twist, found)
+    play_calls(alloc, caller, &mut host, row, twist, found)
 }
 
 // How many of these wait for a call that is named.
