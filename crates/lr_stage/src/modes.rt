@@ -1,6 +1,6 @@
 // The ways to play a row: once, or once for each of many twists.
 use crate::chance::{generator, next_conf};
-use crate::play::{Caller, Played, Twist, behind_first, plain, play};
+use crate::play::{Caller, Kept, Played, Twist, behind_first, places, plain, play};
 use lr_host::Entry;
 use lr_line::{Trouble, put_quoted};
 use lr_memhost::{Failing, How, MemHost};
@@ -57,9 +57,9 @@ fn put_failing(
     into.extend_from_slice(how_text(failing.how))
 }
 
-fn put_kept(into: &mut Vec<u8>, alloc: Global, kept: &[usize]) -> Result<(), AllocError> {
+fn put_kept(into: &mut Vec<u8>, alloc: Global, kept: Kept) -> Result<(), AllocError> {
     into.extend_from_slice(b", kept")?;
-    for place in kept {
+    for place in &places(alloc, kept)? {
         let text = format!(in alloc; " {place}")?;
         into.extend_from_slice(text.as_bytes())?;
     }
@@ -177,19 +177,6 @@ fn each_fails<C: Caller>(
     fail_each(alloc, caller, row, span, &host, came)
 }
 
-// The places whose bits the mask has.
-fn places(alloc: Global, mask: u64, count: usize) -> Result<Vec<usize>, AllocError> {
-    let mut kept = Vec::new(alloc);
-    let mut rest = mask;
-    for place in 0..count {
-        if rest % 2 == 1 {
-            kept.push(place)?;
-        }
-        rest /= 2;
-    }
-    Ok(kept)
-}
-
 // How many sets there are of so many things.
 fn count_sets(count: usize) -> u64 {
     let mut sets = 1u64;
@@ -213,10 +200,9 @@ fn each_cut<C: Caller>(
         return Err(Trouble::Odd("too many name changes are pending"));
     }
     for mask in 0..count_sets(count) {
-        let kept = places(alloc, mask, count)?;
         let twist = Twist {
             failing: Some(failing),
-            kept: Some(kept.as_slice()),
+            kept: Some(Kept { mask, count }),
             conf: None,
             first,
         };

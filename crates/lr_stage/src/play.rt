@@ -22,6 +22,26 @@ pub trait Caller {
     ) -> Result<u8, Trouble>;
 }
 
+/// A set of places, below a count: the bits of a mask.
+#[derive(Clone, Copy)]
+pub struct Kept {
+    pub mask: u64,
+    pub count: usize,
+}
+
+/// The places of the set, rising.
+pub fn places(alloc: Global, kept: Kept) -> Result<Vec<usize>, AllocError> {
+    let mut places = Vec::new(alloc);
+    let mut rest = kept.mask;
+    for place in 0..kept.count {
+        if rest % 2 == 1 {
+            places.push(place)?;
+        }
+        rest /= 2;
+    }
+    Ok(places)
+}
+
 /// What is changed about a row when it is played.
 #[derive(Clone, Copy)]
 pub struct Twist<'a> {
@@ -29,7 +49,7 @@ pub struct Twist<'a> {
     pub failing: Option<Failing>,
     /// Before the second call the machine is cut so that the changes at these places stay, and revived; the first call is
     /// not looked at.
-    pub kept: Option<&'a [usize]>,
+    pub kept: Option<Kept>,
     /// The configuration has these bytes.
     pub conf: Option<&'a [u8]>,
     /// The entries of a first call that meets nothing, with the ticks of its calls.
@@ -77,15 +97,23 @@ fn stopped<'a>(twist: Twist<'a>) -> Option<Stopped<'a>> {
 }
 
 // What comes before the call with this number in the row; false where it can't.
-fn come_before(host: &mut MemHost, at: usize, twist: Twist) -> Result<bool, Trouble> {
+fn come_before(
+    alloc: Global,
+    host: &mut MemHost,
+    at: usize,
+    twist: Twist,
+) -> Result<bool, Trouble> {
     match twist.kept {
-        Some(kept) if at == 1 => {
-            let is_cut = cut_keeping(host, kept, &[])?;
-            host.revive();
-            Ok(is_cut)
-        }
+        Some(kept) if at == 1 => cut_and_revive(alloc, host, kept),
         _ => Ok(true),
     }
+}
+
+fn cut_and_revive(alloc: Global, host: &mut MemHost, kept: Kept) -> Result<bool, Trouble> {
+    let places = places(alloc, kept)?;
+    let is_cut = cut_keeping(host, &places, &[])?;
+    host.revive();
+    Ok(is_cut)
 }
 
 // The number of the call that the deed waits for; none where it isn't found yet.
@@ -271,7 +299,7 @@ fn play_call<C: Caller>(
     found: Found,
     taken: &mut usize,
 ) -> Result<Played, Trouble> {
-    if !come_before(host, at, twist)? {
+    if !come_before(alloc, host, at, twist)? {
         return Ok(Played::Past);
     }
     match do_all(alloc, host, &call.deeds, found.numbers, taken)? {
