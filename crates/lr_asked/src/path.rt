@@ -50,14 +50,20 @@ pub fn copy(line: Line, out: &mut String) -> Result<(), Trouble> {
     put_path(Ok(path.copy(line.alloc)?), out)
 }
 
+fn put_same(line: Line, path: &Path, other: &Path, out: &mut String) -> Result<(), Trouble> {
+    let copy = path.copy(line.alloc)?;
+    let is_one = copy.is(other);
+    let has_bytes = copy.has_bytes(other.bytes());
+    put_yes(is_one, out)?;
+    out.push_str(" ")?;
+    put_yes(has_bytes, out)
+}
+
 /// Whether a copy of the first path is the second, and has its bytes.
 pub fn same(line: Line, out: &mut String) -> Result<(), Trouble> {
     let path = line.path(1)?;
     let other = line.path(2)?;
-    let copy = path.copy(line.alloc)?;
-    put_yes(copy.is(&other), out)?;
-    out.push_str(" ")?;
-    put_yes(copy.has_bytes(other.bytes()), out)
+    put_same(line, &path, &other, out)
 }
 
 fn put_text_copy(line: Line, text: &Text, out: &mut String) -> Result<(), Trouble> {

@@ -103,11 +103,11 @@ fn set_one(state: &mut State, name: &[u8], at: Civil) -> Result<(), Trouble> {
 
 // Sets each name to the moment behind it.
 fn set_all(state: &mut State, line: Line) -> Result<(), Trouble> {
-    let mut at = 1;
-    while at < line.words.len() {
-        let moment = moment_at(line, at.saturating_add(1))?;
-        set_one(state, line.word(at)?, moment)?;
-        at = at.saturating_add(2);
+    for at in 1..line.words.len() {
+        if at % 2 == 1 {
+            let moment = moment_at(line, at.saturating_add(1))?;
+            set_one(state, line.word(at)?, moment)?;
+        }
     }
     Ok(())
 }
