@@ -1,9 +1,9 @@
-use Rattle.std.proofs.Common.{◌≡◌, ◌∙◌, sym, subst, refl, List, ℕ, Bool, true, false, cond, length}
+use Rattle.std.proofs.Common.{◌∙◌, sym, subst, List, ℕ, Bool, true, false, cond, length}
 use Rattle.std.specs.Prelude.{All, nat_lt}
 use Rattle.lr_rules.specs.declared.path.Path.{Path}
 use Rattle.lr_conf.specs.Meaning.{Meaning}
 use Rattle.lr_conf.specs.Plain.{IsPlainRule, AtMostOneLog}
-use Rattle.lr_include.specs.Lines.{whole_means, cut_means, bytes_mean}
+use Rattle.lr_include.specs.Lines.{whole_means, cut_means}
 use Rattle.lr_include.proofs.Plain.{whole_plain, whole_one, cut_plain, cut_one}
 use Rattle.lr_include.proofs.whole.read_bytes.Goals as goal
 

@@ -1,9 +1,7 @@
-use Rattle.std.proofs.Common.{◌≡◌, Ok, true, inl, ◌∙◌, ap, subst, Bool, List, [], ◌∷◌, Option, Result}
+use Rattle.std.proofs.Common.{◌≡◌, Ok, true, inl, ◌∙◌, ap, subst, Bool, [], ◌∷◌, Option}
 use Rattle.lr_rules.specs.declared.civil.Moment.{Moment}
 use Rattle.lr_rules.specs.declared.fault.CallKind.TheVariants as call
 use Rattle.lr_rules.specs.declared.fault.Fault.TheVariants as fault
-use Rattle.lr_rules.specs.declared.fault.Fault.{Fault}
-use Rattle.lr_rules.specs.declared.memory.Memory.{Memory}
 use Rattle.lr_rules.specs.declared.path.Path.{Path}
 use Rattle.lr_rules.specs.declared.rules.Rules.{Rules}
 use Rattle.lr_host.specs.declared.host.CallFault.{CallFault}
@@ -12,7 +10,7 @@ use Rattle.lr_host.specs.declared.journal.Journal.{Journal}
 use Rattle.lr_host.specs.Told.{DidWhere, Left, Are}
 use Rattle.lr_host.proofs.Left.{left_as}
 use Rattle.lr_run.proofs.Courses.{is_on}
-use Rattle.lr_run.proofs.Ending.{plain_asked, course_ended, course_lacking}
+use Rattle.lr_run.proofs.Ending.{course_ended, course_lacking}
 use Rattle.lr_run.proofs.course.take_course.Goals as goal
 
 began : (state : Path) (now : Moment) (rules : Rules) (b : Bool) {o n : Option Journal} → b ≡ true → Left (DidWhere {E = CallFault} (Ok b) (Starts state now rules)) o n → Left (Are (Starts state now rules ∷ [])) o n
