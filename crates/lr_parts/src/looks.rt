@@ -93,13 +93,17 @@ fn read_into(
     }
 }
 
-/// `read PATH FROM SIZE`: the bytes from a place on, at most so many.
-pub fn read(host: &mut MemHost, cursor: &mut Cursor) -> Result<Vec<u8>, Trouble> {
-    let path = cursor.path()?;
+fn read_at(host: &mut MemHost, cursor: &mut Cursor, path: &Path) -> Result<Vec<u8>, Trouble> {
     let from = cursor.number()?;
     let size = cursor.number()?;
     let mut into = room(cursor.alloc, size)?;
-    read_into(host, cursor.alloc, &path, from, &mut into)
+    read_into(host, cursor.alloc, path, from, &mut into)
+}
+
+/// `read PATH FROM SIZE`: the bytes from a place on, at most so many.
+pub fn read(host: &mut MemHost, cursor: &mut Cursor) -> Result<Vec<u8>, Trouble> {
+    let path = cursor.path()?;
+    read_at(host, cursor, &path)
 }
 
 fn ended_line(alloc: Global, end: Ended) -> Result<Vec<u8>, Trouble> {

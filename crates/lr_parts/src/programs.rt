@@ -124,9 +124,16 @@ fn is_there(host: &MemHost, removal: &Removal) -> Result<(), Trouble>
     file_at(host, &removal.path)
 }
 
+fn remove_there(host: &mut MemHost, alloc: Global, removal: &Removal) -> Result<Vec<u8>, Trouble>
+    requires preremove { IfSome removal.now.preremove (λ command. command.input ≡ None) }
+    requires mail { IfSome removal.now.mail (λ command. command.input ≡ None) }
+{
+    is_there(host, removal)?;
+    answer(alloc, remove(alloc, host, removal))
+}
+
 /// `remove PATH [preremove PROGRAM] [mail PROGRAM]`: removes the file, behind these programs.
 pub fn remove_file(host: &mut MemHost, cursor: &mut Cursor) -> Result<Vec<u8>, Trouble> {
     let removal = removal(cursor)?;
-    is_there(host, &removal)?;
-    answer(cursor.alloc, remove(cursor.alloc, host, &removal))
+    remove_there(host, cursor.alloc, &removal)
 }

@@ -83,13 +83,38 @@ fn prepared(alloc: Global, family: &Family, stand: &Stand, count: Count) -> Resu
     }
 }
 
+fn prepare_over(
+    host: &mut MemHost,
+    alloc: Global,
+    family: &Family,
+    count: Count,
+) -> Result<Vec<u8>, Trouble>
+    requires numbered { family.now.naming.dated ≡ None }
+    requires start { family.now.naming.start ≤ 999999 }
+    requires count { IsCount count }
+{
+    match family.stand(alloc, host) {
+        Ok(stand) => prepared(alloc, family, &stand, count),
+        Err(stop) => stop_text(alloc, &stop),
+    }
+}
+
+// With the count that is the next word.
+fn prepare_counted(
+    host: &mut MemHost,
+    cursor: &mut Cursor,
+    family: &Family,
+) -> Result<Vec<u8>, Trouble>
+    requires numbered { family.now.naming.dated ≡ None }
+    requires start { family.now.naming.start ≤ 999999 }
+{
+    let count = count_of(cursor.word()?)?;
+    prepare_over(host, cursor.alloc, family, count)
+}
+
 /// `prepare LOG DIRECTORY BASE EXTENSION FIRST COUNT`: what one rotation will do, in order, where COUNT members are kept,
 /// or `all`.
 pub fn prepare_rotation(host: &mut MemHost, cursor: &mut Cursor) -> Result<Vec<u8>, Trouble> {
     let family = family(cursor)?;
-    let count = count_of(cursor.word()?)?;
-    match family.stand(cursor.alloc, host) {
-        Ok(stand) => prepared(cursor.alloc, &family, &stand, count),
-        Err(stop) => stop_text(cursor.alloc, &stop),
-    }
+    prepare_counted(host, cursor, &family)
 }

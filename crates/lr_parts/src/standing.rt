@@ -1,7 +1,9 @@
 // Which members of a family stand.
+ghost use Rattle.std.specs.Prelude.{◌≡◌, None};
+
 use crate::answer::{add, failed_call, said, said_path};
 use crate::family::family;
-use lr_family::{Member, Place, Stand, StandStop};
+use lr_family::{Family, Member, Place, Stand, StandStop};
 use lr_line::Trouble;
 use lr_memhost::MemHost;
 use lr_row::Cursor;
@@ -51,11 +53,17 @@ pub fn stop_text(alloc: Global, stop: &StandStop) -> Result<Vec<u8>, Trouble> {
     }
 }
 
+fn stand_of(host: &mut MemHost, alloc: Global, family: &Family) -> Result<Vec<u8>, Trouble>
+    requires numbered { family.now.naming.dated ≡ None }
+{
+    match family.stand(alloc, host) {
+        Ok(stand) => stand_text(alloc, &stand),
+        Err(stop) => stop_text(alloc, &stop),
+    }
+}
+
 /// `stand LOG DIRECTORY BASE EXTENSION FIRST`: the members that stand, the newest first, a line for each.
 pub fn stand(host: &mut MemHost, cursor: &mut Cursor) -> Result<Vec<u8>, Trouble> {
     let family = family(cursor)?;
-    match family.stand(cursor.alloc, host) {
-        Ok(stand) => stand_text(cursor.alloc, &stand),
-        Err(stop) => stop_text(cursor.alloc, &stop),
-    }
+    stand_of(host, cursor.alloc, &family)
 }
