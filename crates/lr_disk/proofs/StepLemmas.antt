@@ -2,11 +2,12 @@
 use Rattle.std.proofs.Common.{◌≡◌, ℕ, zero, suc, ◌+◌, ◌<◌, ◌≤◌, Bool, true, false, cond, ◌||◌, ◌&&◌, nat_eq, bytes_eq, ◌-◌, List, [], ◌∷◌, ◌++◌, length, take, drop, get_or, map, reverse, refl, sym, ◌∙◌, ap, subst, arith}
 use Rattle.std.specs.List.{list_any}
 use Rattle.std.proofs.Math.Seq.{take-length}
+use Rattle.std.proofs.lemmas.Bool.{or_left, or_right, or_parts, or_from}
 use Rattle.std.proofs.lemmas.List.{take_more, drop_more, map-append, reverse-append, length-reverse, length-map, length-take-le, append-nil}
 use Rattle.lr_rules.specs.declared.path.Path.{Path}
 use Rattle.lr_host.specs.declared.thing.Thing.{Thing}
 use Rattle.lr_host.specs.World.{Names, names_after, changed, Change, Puts, Moves, Drops, shares, is_listed, kept_at, undone_at, IsClosed, settled, is_bound, has_parent, paths_in}
-use Rattle.lr_host.proofs.Closed.{neither, neither_right, neither_left, or_left, or_right, changed_alike, bound_of, unbound_of}
+use Rattle.lr_host.proofs.Closed.{changed_alike, bound_of, unbound_of}
 use Rattle.lr_host.specs.Fits.{AreRising}
 use Rattle.lr_host.proofs.Places.{bound, rising_le}
 use Rattle.lr_disk.specs.declared.pending.Pending.{Pending}
@@ -55,22 +56,24 @@ apart_listed c kept xs i lt e a = ap (λ cs. list_any (shares c) (undone_at kept
 pub apart_other : (c : Change) (kept : List ℕ) (xs : List Pending) (i : ℕ) (d : Pending) → i < length xs → d ≡ get_or xs i d → is_listed kept i ≡ false → shares c (as_change d) ≡ false → IsApartOf c kept xs i → IsApartOf c kept xs (i + 1)
 apart_other c kept xs i d lt is e n a =
     ap (λ cs. list_any (shares c) (undone_at kept cs)) (step xs i d lt is)
-    ∙ (ap (list_any (shares c)) (undone_step kept xs i (as_change d) false (omega arith) e) ∙ neither (shares c (as_change d)) (list_any (shares c) (undone_at kept (pending_of (take i xs)))) n a)
+    ∙ (ap (list_any (shares c)) (undone_step kept xs i (as_change d) false (omega arith) e) ∙ or_from (shares c (as_change d)) (list_any (shares c) (undone_at kept (pending_of (take i xs)))) n a)
 
 apart_back : (c : Change) (kept : List ℕ) (xs : List Pending) (i : ℕ) → i < length xs → IsApartOf c kept xs (i + 1) → IsApartOf c kept xs i
 apart_back c kept xs i lt a = go (is_listed kept i) refl
   where
     go : (b : Bool) → is_listed kept i ≡ b → IsApartOf c kept xs i
     go true e = sym (ap (list_any (shares c)) (undone_step kept xs i (as_change (at xs i)) true (omega arith) e)) ∙ (sym (ap (λ cs. list_any (shares c) (undone_at kept cs)) (step_at xs i lt)) ∙ a)
-    go false e = neither_right (shares c (as_change (at xs i))) (list_any (shares c) (undone_at kept (pending_of (take i xs))))
+    go false e = (
+        or_parts (shares c (as_change (at xs i))) (list_any (shares c) (undone_at kept (pending_of (take i xs))))
         (sym (ap (list_any (shares c)) (undone_step kept xs i (as_change (at xs i)) false (omega arith) e)) ∙ (sym (ap (λ cs. list_any (shares c) (undone_at kept cs)) (step_at xs i lt)) ∙ a))
+        ).1
 
 apart_part : (c : Change) (kept : List ℕ) (xs : List Pending) (m i : ℕ) → i + m ≡ length xs → list_any (shares c) (undone_at kept (pending_of xs)) ≡ false → IsApartOf c kept xs i
 apart_part c kept xs zero i e a = ap (λ l. list_any (shares c) (undone_at kept (pending_of l))) (ap (λ k. take k xs) (let q : i ≡ length xs = omega arith in q) ∙ take-length xs) ∙ a
 apart_part c kept xs (suc m) i e a = apart_back c kept xs i (omega arith) (apart_part c kept xs m (i + 1) (omega arith) a)
 
 pub shares_undone : (c : Change) (kept : List ℕ) (xs : List Pending) (i : ℕ) (d : Pending) → i < length xs → d ≡ get_or xs i d → is_listed kept i ≡ false → shares c (as_change d) ≡ true → list_any (shares c) (undone_at kept (pending_of xs)) ≡ false → ⊥
-shares_undone c kept xs i d lt is e sh a = clash (shares c (as_change d)) sh (neither_left (shares c (as_change d)) (list_any (shares c) (undone_at kept (pending_of (take i xs)))) first)
+shares_undone c kept xs i d lt is e sh a = clash (shares c (as_change d)) sh (or_parts (shares c (as_change d)) (list_any (shares c) (undone_at kept (pending_of (take i xs)))) first).0
   where
     clash : (b : Bool) → b ≡ true → b ≡ false → ⊥
     clash b p q = cc
