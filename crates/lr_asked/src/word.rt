@@ -60,8 +60,8 @@ fn put_row(row: &Row, out: &mut String) -> Result<(), Trouble> {
 /// The row with this number: its word, its directive, and the directive that it undoes; `none` behind the last.
 pub fn row(line: Line, out: &mut String) -> Result<(), Trouble> {
     let place = line.small(1)? as usize;
-    let table = directives();
-    match table.rows.get(place) {
+    let rows = directives().rows;
+    match rows.get(place) {
         Some(row) => put_row(row, out),
         None => Ok(out.push_str("none")?),
     }
