@@ -190,7 +190,7 @@ begun_on s c p now good dir = record { good = here; ready = ready_first s (begin
     here : IsGood s (begins p now)
     here = record { journal = (good.journal, dir); safe = quiet_safe s p (Starts (codes "/s/status") now rules) (good.journal, dir) good.safe (tt, refl) }
 
-ended_on : (s : LogSet) (p : Past) → IsGood s p → (world p).running ≡ true → IsGood s (p ▸ Ends)
+pub ended_on : (s : LogSet) (p : Past) → IsGood s p → (world p).running ≡ true → IsGood s (p ▸ Ends)
 ended_on s p good is = record { journal = (good.journal, is); safe = quiet_safe s p Ends (good.journal, is) good.safe (tt, refl) }
 
 pub opens : (s : LogSet) → IsGood s (Opens found)

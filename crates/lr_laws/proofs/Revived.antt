@@ -59,7 +59,7 @@ was_attached s now c = record { journal = journal; safe = writers_safe s (begins
     journal = (begun.good.journal, (inl (0, refl), refl))
 
 was_looked : (s : LogSet) (now : Moment) → IsOfChain s → IsGood s (looked now)
-was_looked s now c = record { journal = journal; safe = quiet_safe s (attached now) (Look second (Some seen)) journal before.safe tt }
+was_looked s now c = record { journal = journal; safe = quiet_safe s (attached now) (Look second (Some seen)) journal before.safe (tt, refl) }
   where
     before : IsGood s (attached now)
     before = was_attached s now c
