@@ -1,5 +1,6 @@
+pub mod Among
 pub mod Exact
-pub mod Listing
+pub mod Few
 pub mod Looking
 pub mod Middles
 pub mod Numbers
@@ -7,6 +8,7 @@ pub mod OnlyLooks
 pub mod Paths
 pub mod Placed
 pub mod Plain
+pub mod Prefixes
 pub mod Unique
 pub mod Whole
 pub mod Wrong

@@ -1,5 +1,5 @@
 -- What looks at members, one after another, leave.
-use Rattle.std.proofs.Common.{◌≡◌, List, [], ◌∷◌, ◌++◌, Option, Some, refl, sym, ap, ◌∙◌, subst, map}
+use Rattle.std.proofs.Common.{◌≡◌, List, [], ◌∷◌, ◌++◌, Option, Some, refl, sym, ap, ◌∙◌, subst, map, append_assoc}
 use Rattle.std.specs.Prelude.{flat_map}
 use Rattle.std.proofs.lemmas.List.{append-nil, map-append}
 use Rattle.std.proofs.lemmas.List.Elements.{All-append, All-nil, All-cons}
@@ -69,5 +69,11 @@ shows_stop spots done rest members spot look.Call seam a b = left_as (to_here sp
 shows_stop spots done rest members spot look.NotFile seam a b = to_here spots done rest members spot (Sees spot.path IsNoFile) seam a b
 
 -- want of memory
-pub shows_some : (spots : List Spot) (members : List Member) (spot : Spot) (seen : Option Seen) {o m n : Option Journal} → Left (Shows spots members) o m → Left (Are (entry.Look spot.path seen ∷ [])) m n → IsFileOrGone seen → Left ShowsSome o n
-shows_some spots members spot seen a b file = left_as (shows_more spots members (members ++ seen_at spot seen) spot seen a b file refl) (λ ts s. record { sights = s.sights; files = s.files; looks = s.looks })
+pub shows_some : (spots done rest : List Spot) (members : List Member) (spot : Spot) (seen : Option Seen) {o m n : Option Journal} → spots ≡ done ++ spot ∷ rest → Left (Shows done members) o m → Left (Are (entry.Look spot.path seen ∷ [])) m n → IsFileOrGone seen → Left (ShowsSome spots) o n
+shows_some spots done rest members spot seen seam a b file = left_as (shows_more done members (members ++ seen_at spot seen) spot seen a b file refl) (λ ts s. record {
+  sights = s.sights;
+  after = rest;
+  each = seam ∙ (sym (append_assoc done (spot ∷ []) rest) ∙ ap (λ ss. ss ++ rest) (sym s.each));
+  files = s.files;
+  looks = s.looks;
+})

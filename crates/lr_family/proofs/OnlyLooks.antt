@@ -1,11 +1,9 @@
 -- What is left of a family that was looked at: looks and listings alone.
-use Rattle.std.proofs.Common.{◌≡◌, ◌⊎◌, inl, inr, ℕ, Bool, true, false, List, [], ◌∷◌, map, Option, sym, subst, refl}
+use Rattle.std.proofs.Common.{◌≡◌, inl, inr, Bool, true, false, List, [], ◌∷◌, map, Option, sym, subst, refl}
 use Rattle.lr_rules.specs.declared.path.Path.{Path}
 use Rattle.lr_rules.specs.declared.rule.Naming.{Naming}
 use Rattle.lr_rules.specs.declared.fault.CallKind.{CallKind}
 use Rattle.lr_rules.specs.declared.fault.CallKind.TheVariants as call
-use Rattle.lr_rules.specs.declared.fault.Fault.{Fault}
-use Rattle.lr_rules.specs.declared.fault.Fault.TheVariants as fault
 use Rattle.lr_rules.specs.Path.{parent_of}
 use Rattle.lr_host.specs.declared.entry.Entry.{Entry}
 use Rattle.lr_host.specs.declared.entry.Entry.TheVariants as entry
@@ -16,8 +14,8 @@ use Rattle.lr_family.specs.declared.stand.Member.{Member}
 use Rattle.lr_host.specs.Looks.{Sees, IsDir, IsNothing, IsNoDir, IsNoFile, is_dir}
 use Rattle.lr_host.proofs.Each.{each_append, each_as}
 use Rattle.lr_host.specs.Quiet.{IsQuiet, AreQuiet}
-use Rattle.lr_family.specs.Looks.{Sight, look_of, ShowsSome}
-use Rattle.lr_family.specs.Stands.{Lists, StandsIn, Reaches, ShowsAs, ShowsStand, ShowsNoFile, ShowsSoFar, StopsAtCall, StopsAtLook}
+use Rattle.lr_family.specs.Looks.{Sight, look_of}
+use Rattle.lr_family.specs.Stands.{Lists, StandsIn, Reaches, ShowsAs, ShowsStand, ShowsNoFile, ShowsSomeIn, ShowsSoFar, StopsAtCall, StopsAtLook}
 
 -- a look or a listing
 abbrev pub IsLooking : Entry → Type 0
@@ -71,14 +69,15 @@ looking_call n call.Look path ts s = looking_look n path ts s
 looking_call n call.List path ts s = looking_sees n.dir IsDir ts s.1
 looking_call n _ path ts s = absurd s
 
+pub looking_some_in : (n : Naming) (ts : List Entry) → ShowsSomeIn n ts → AreLooking ts
+looking_some_in n ts (inl e) = looking_none ts e
+looking_some_in n ts (inr (inl l)) = subst AreLooking (sym l.1) (tt, tt)
+looking_some_in n ts (inr (inr s)) = looking_both ts (λ us l. looking_lists n s.0 us l) (λ us k. subst AreLooking (sym k.looks) (looking_sights k.sights)) s.1
+
 pub looking_so_far : (n : Naming) (ts : List Entry) → ShowsSoFar n ts → AreLooking ts
 looking_so_far n ts (inl e) = looking_none ts e
 looking_so_far n ts (inr (inl s)) = looking_sees n.dir IsNothing ts s
-looking_so_far n ts (inr (inr t)) = looking_both ts (λ us s. looking_sees n.dir IsDir us s) listed t
-  where
-    listed : (us : List Entry) → (us ≡ []) ⊎ ((names : List (List ℕ)) × Then (Are (entry.List n.dir names ∷ [])) ShowsSome us) → AreLooking us
-    listed us (inl e) = looking_none us e
-    listed us (inr s) = looking_both us (λ vs e. subst AreLooking (sym e) (tt, tt)) (λ vs k. subst AreLooking (sym k.looks) (looking_sights k.sights)) s.1
+looking_so_far n ts (inr (inr t)) = looking_both ts (λ us s. looking_sees n.dir IsDir us s) (λ us s. looking_some_in n us s) t
 
 look_quiet : (e : Entry) → IsLooking e → IsQuiet e
 look_quiet (entry.Look x seen) i = (tt, refl)

@@ -12,7 +12,7 @@ use Rattle.lr_family.specs.declared.stand.Member.{Member}
 use Rattle.lr_family.specs.Looks.{seen_at}
 use Rattle.lr_family.specs.Places.{IsPlaceOf, AreNamed}
 use Rattle.lr_family.specs.Spots.{spot_at, HavePaths, AreSpots}
-use Rattle.lr_family.proofs.Listing.{all_bound}
+use Rattle.lr_family.proofs.Among.{all_bound}
 
 -- the members among the names
 pub spots_named : (n : Naming) (names : List (List ℕ)) (spots : List Spot) → AreSpots n names spots → HavePaths n spots

@@ -1,20 +1,14 @@
--- What the looks at a family's directory and in it left.
-use Rattle.std.specs.Prelude.{◌≡◌, ◌⊎◌, ℕ, Bool, true, false, List, [], ◌∷◌}
+-- What the looks at a directory and at its parent left.
+use Rattle.std.specs.Prelude.{◌≡◌, Bool, true, false, List, []}
 use Rattle.lr_rules.specs.declared.path.Path.{Path}
-use Rattle.lr_rules.specs.declared.rule.Naming.{Naming}
-use Rattle.lr_rules.specs.declared.fault.CallKind.{CallKind}
 use Rattle.lr_rules.specs.declared.fault.CallKind.TheVariants as call
 use Rattle.lr_rules.specs.Path.{parent_of}
 use Rattle.lr_host.specs.declared.entry.Entry.{Entry}
-use Rattle.lr_host.specs.declared.entry.Entry.TheVariants as entry
-use Rattle.lr_host.specs.Told.{Then, Are}
 use Rattle.lr_family.specs.declared.directory.DirStop.{DirStop}
 use Rattle.lr_family.specs.declared.directory.DirStop.TheVariants as dir
 use Rattle.lr_family.specs.declared.stand.StandStop.{StandStop}
 use Rattle.lr_family.specs.declared.stand.StandStop.TheVariants as stop
-use Rattle.lr_host.specs.Looks.{Sees, IsNothing, IsDir, IsNoDir, IsNoFile}
-use Rattle.lr_family.specs.Looks.{ShowsSome}
-use Rattle.lr_family.specs.Stands.{Reaches}
+use Rattle.lr_host.specs.Looks.{Sees, IsNothing, IsDir, IsNoDir}
 
 -- the directory was seen, or nothing
 abbrev pub DirSeen : Path → Bool → List Entry → Type 0
@@ -32,14 +26,8 @@ ParentStopped path (stop.Call kind parent) ts = (kind ≡ call.Look) × (parent 
 ParentStopped path (stop.NotFile other) ts = ⊥
 ParentStopped path stop.Memory ts = ts ≡ []
 
--- a call in the directory failed
-abbrev pub InStoppedAt : Naming → CallKind → Path → List Entry → Type 0
-InStoppedAt n call.List path ts = (path ≡ n.dir) × (ts ≡ [])
-InStoppedAt n call.Look path ts = Reaches n path (Are []) ts
-InStoppedAt n _ path ts = ⊥
-
--- the directory wasn't listed, or not all members were looked at
-abbrev pub InStopped : Naming → StandStop → List Entry → Type 0
-InStopped n (stop.Call kind path) ts = InStoppedAt n kind path ts
-InStopped n (stop.NotFile path) ts = Reaches n path (Sees path IsNoFile) ts
-InStopped n stop.Memory ts = (ts ≡ []) ⊎ ((names : List (List ℕ)) × Then (Are (entry.List n.dir names ∷ [])) ShowsSome ts)
+-- the listing failed, or found no memory
+abbrev pub ListStopped : Path → StandStop → List Entry → Type 0
+ListStopped path (stop.Call kind listed) ts = (kind ≡ call.List) × (listed ≡ path) × (ts ≡ [])
+ListStopped path (stop.NotFile other) ts = ⊥
+ListStopped path stop.Memory ts = ts ≡ []

@@ -1,5 +1,7 @@
+pub mod Among
 pub mod Directory
 pub mod Kin
+pub mod Listed
 pub mod Looks
 pub mod Named
 pub mod Places

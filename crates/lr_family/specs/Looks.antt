@@ -46,8 +46,10 @@ pub record ShowsTo (spots : List Spot) (path : Path) (P : List Entry → Type 0)
   pub files : AreFilesOrGone before
   pub looks : Then (Are (map look_of before)) P ts
 
--- The first of these, up to some, were looked at so.
-pub record ShowsSome (ts : List Entry) : Type 0 where
+-- A first part of these was looked at so.
+pub record ShowsSome (spots : List Spot) (ts : List Entry) : Type 0 where
   pub sights : List Sight
+  pub after : List Spot
+  pub each : spots ≡ map (λ sight. sight.spot) sights ++ after
   pub files : AreFilesOrGone sights
   pub looks : ts ≡ map look_of sights

@@ -70,9 +70,13 @@ StopsAtCall n call.Look path ts = StopsAtLook n path ts
 StopsAtCall n call.List path ts = (path ≡ n.dir) × Sees n.dir IsDir ts
 StopsAtCall n _ path ts = ⊥
 
--- The directory was seen, and listed, and some members were looked at, as far as there was memory.
+-- Behind the look at the directory: nothing; its listing; or that, and looks at a first part of the members among the names.
+abbrev pub ShowsSomeIn : Naming → List Entry → Type 0
+ShowsSomeIn n ts = (ts ≡ []) ⊎ (((names : List (List ℕ)) × (ts ≡ entry.List n.dir names ∷ [])) ⊎ ((spots : List Spot) × Then (Lists n spots) (ShowsSome spots) ts))
+
+-- The directory was seen, and listed, and a first part of its members was looked at, as far as there was memory.
 abbrev pub ShowsSoFar : Naming → List Entry → Type 0
-ShowsSoFar n ts = (ts ≡ []) ⊎ (Sees n.dir IsNothing ts ⊎ Then (Sees n.dir IsDir) (λ us. (us ≡ []) ⊎ ((names : List (List ℕ)) × Then (Are (entry.List n.dir names ∷ [])) ShowsSome us)) ts)
+ShowsSoFar n ts = (ts ≡ []) ⊎ (Sees n.dir IsNothing ts ⊎ Then (Sees n.dir IsDir) (ShowsSomeIn n) ts)
 
 abbrev pub ShowsStop : Naming → StandStop → List Entry → Type 0
 ShowsStop n (stop.NotFile path) ts = ShowsNoFile n path ts

@@ -25,4 +25,4 @@ OneStopped path look.NotFile ts = Sees path IsNoFile ts
 abbrev pub SomeStopped : List Spot → StandStop → List Entry → Type 0
 SomeStopped spots (stop.Call kind path) ts = (kind ≡ call.Look) × ShowsTo spots path (Are []) ts
 SomeStopped spots (stop.NotFile path) ts = ShowsTo spots path (Sees path IsNoFile) ts
-SomeStopped spots stop.Memory ts = ShowsSome ts
+SomeStopped spots stop.Memory ts = ShowsSome spots ts

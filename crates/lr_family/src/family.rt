@@ -1,16 +1,18 @@
 // A log and the names of its members.
-ghost use Rattle.std.specs.Prelude.{◌≡◌, ◌<◌, ◌+◌, ◌↔◌, ℕ, Some, None, IfOk, IfSome, IfErr, IsErrOf};
-ghost use Rattle.lr_rules.specs.Names.{IsMemberAt};
+ghost use Rattle.std.specs.Prelude.{◌≡◌, ◌<◌, ◌+◌, ◌↔◌, ℕ, true, false, Some, None, IfOk, IfSome, IfErr, IsErrOf};
+ghost use Rattle.lr_rules.specs.Names.{IsMemberAt, IsName, Meet};
 ghost use Rattle.lr_host.specs.Told.{Left, Onward, Rose};
 ghost use Rattle.lr_family.specs.declared.place.Place.TheVariants as at;
+ghost use Rattle.lr_family.specs.Among.{ShowsIn, ShowsNoneIn, IsExactlyAmong, AreFewAmong, AreFew};
 ghost use Rattle.lr_family.specs.Kin.{IsKin};
 ghost use Rattle.lr_family.specs.Places.{IsPlaceOf, AreNamed};
 ghost use Rattle.lr_family.specs.Stands.{ShowsStand, ShowsStop, IsExactly, IsFailedCall};
 
+use crate::listing::Listing;
 use crate::number::{member_path, place_of_path};
 use crate::place::{NameStop, Place};
 use crate::stand::{Stand, StandStop};
-use crate::standing::stand_by;
+use crate::standing::stand_among;
 use lr_host::Host;
 use lr_rules::{Naming, Path};
 use std::alloc::Global;
@@ -77,19 +79,62 @@ impl Family {
         }
     }
 
+    /// Whether the log meets the path: it is the log itself, the directory of its members, or has the shape of a member,
+    /// with any digits where a member has some, or that of a member's part file. It takes no memory.
+    pub fn meets(&self, path: &Path) -> bool
+        ensures { (result ≡ true) ↔ IsName self.now.log self.now.naming path.now }
+    {
+        lr_shapes::meets(&self.log, &self.naming, path)
+    }
+
+    /// Which members of a numbered family stand, in a directory that was listed: looks at each member among its names, in
+    /// order of bytes, and at nothing else. A name that is gone since it was listed is no member. Each member has the path
+    /// of its place. `NotFile` comes exactly where a member isn't a regular file.
+    pub fn stand_in<H: Host>(
+        &self,
+        alloc: Global,
+        host: &mut H,
+        listing: &Listing,
+    ) -> Result<Stand, StandStop>
+        requires numbered { self.now.naming.dated ≡ None }
+        requires dir { listing.now.dir ≡ self.now.naming.dir }
+        ensures told { IfOk result (λ stand. Left (ShowsIn self.now.naming listing.now.there listing.now.parent listing.now.names stand) (H.told host.old) (H.told host.new)) }
+        ensures stopped { IfErr result (λ stop. Left (ShowsNoneIn self.now.naming listing.now.there listing.now.names stop) (H.told host.old) (H.told host.new)) }
+        ensures named { IfOk result (λ stand. AreNamed self.now.naming stand.members) }
+        ensures exactly { Left (IsExactlyAmong self.now.naming listing.now.names result) (H.told host.old) (H.told host.new) }
+        ensures few { Left (AreFewAmong self.now.naming listing.now.names) (H.told host.old) (H.told host.new) }
+        ensures cause { IfErr result (λ stop. IsFailedCall stop → Rose (H.counts host.old).faults (H.counts host.new).faults) }
+        ensures counts { Onward (H.counts host.old) (H.counts host.new) }
+    {
+        stand_among(alloc, host, &self.naming, listing)
+    }
+
     /// Which members of a numbered family stand: looks for the directory, lists it, and looks at each member among the
     /// names, in order of bytes. Where the directory isn't there, looks for its parent. A name that is gone since it was
     /// listed is no member. Each member has the path of its place. `NotFile` comes exactly where the directory is named
-    /// but is no directory, or a member isn't a regular file.
+    /// but is no directory, or a member isn't a regular file. Who asks for several families of a directory lists it once
+    /// (`Listing::take`, `stand_in`).
     pub fn stand<H: Host>(&self, alloc: Global, host: &mut H) -> Result<Stand, StandStop>
         requires numbered { self.now.naming.dated ≡ None }
         ensures told { IfOk result (λ stand. Left (ShowsStand self.now.naming stand) (H.told host.old) (H.told host.new)) }
         ensures stopped { IfErr result (λ stop. Left (ShowsStop self.now.naming stop) (H.told host.old) (H.told host.new)) }
         ensures named { IfOk result (λ stand. AreNamed self.now.naming stand.members) }
         ensures exactly { Left (IsExactly self.now.naming result) (H.told host.old) (H.told host.new) }
+        ensures few { Left (AreFew self.now.naming) (H.told host.old) (H.told host.new) }
         ensures cause { IfErr result (λ stop. IsFailedCall stop → Rose (H.counts host.old).faults (H.counts host.new).faults) }
         ensures counts { Onward (H.counts host.old) (H.counts host.new) }
     {
-        stand_by(alloc, host, &self.naming)
+        match Listing::take(alloc, host, &self.naming.dir) {
+            Ok(listing) => self.stand_in(alloc, host, &listing),
+            Err(stop) => Err(stop),
+        }
     }
+}
+
+/// Whether the two logs are apart: no path meets both, but for a directory in which the members of both stand. It takes
+/// no memory.
+pub fn apart(a: &Family, b: &Family) -> bool
+    ensures { (result ≡ false) ↔ Meet a.now.log a.now.naming b.now.log b.now.naming }
+{
+    lr_shapes::apart(&a.log, &a.naming, &b.log, &b.naming)
 }

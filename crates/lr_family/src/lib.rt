@@ -1,4 +1,4 @@
-//! The names of a log's members, both ways, and which members stand.
+//! The names of a log's members, both ways, which members stand, and when two logs are apart.
 //!
 //! The contract above it: a member's name and its place determine each other, and what `Family::stand` answers is what
 //! its looks showed. Begin with `Family::of`:
@@ -7,6 +7,8 @@
 //! let family = Family::of(log, naming);
 //! let newest = family.name_at(alloc, 0)?;       // /var/log/app.log.1
 //! let place = family.place_of(&newest);         // Some(Place::Number(0))
+//! let listing = Listing::take(alloc, host, dir)?;         // once for all families in the directory
+//! let stand = family.stand_in(alloc, host, &listing)?;
 //! ```
 #![tactic(auto)]
 
@@ -14,16 +16,19 @@ mod directory;
 mod family;
 mod kin;
 mod laws;
+mod listing;
 mod look;
 mod members;
 mod number;
 mod place;
+mod prefix;
 mod spot;
 mod stand;
 mod standing;
 
-pub use family::Family;
+pub use family::{Family, apart};
 pub use kin::are_kin;
 pub use laws::{name_is_read_back, path_is_named_again};
+pub use listing::Listing;
 pub use place::{NameStop, Place};
 pub use stand::{Member, Stand, StandStop};

@@ -1,19 +1,19 @@
-// The members in a directory that is there.
-ghost use Rattle.std.specs.Prelude.{◌≡◌, [], IfOk, IfErr};
+// The members among the names of a directory.
+ghost use Rattle.std.specs.Prelude.{◌≡◌, true, IfOk, IfErr};
 ghost use Rattle.std.specs.Ordering.{nat_cmp};
 ghost use Rattle.std.specs.List.Sorted.{IsPermutation};
-ghost use Rattle.lr_host.specs.declared.entry.Entry.TheVariants as entry;
-ghost use Rattle.lr_host.specs.Told.{Left, Can, Onward, Rose};
+ghost use Rattle.lr_host.specs.Told.{Left, Onward, Rose};
+ghost use Rattle.lr_family.specs.Among.{StandsAmong, ShowsNoneIn};
+ghost use Rattle.lr_family.specs.Listed.{AreRising};
 ghost use Rattle.lr_family.specs.Places.{AreNamed};
-ghost use Rattle.lr_family.specs.Stands.{StandsIn, AreNewestFirst, IsFailedCall, number_in};
-ghost use Rattle.lr_family.specs.Directory.{InStopped};
+ghost use Rattle.lr_family.specs.Stands.{AreNewestFirst, IsFailedCall, number_in};
 
 use crate::look::look_at_all;
 use crate::place::Place;
 use crate::spot::spots_among;
 use crate::stand::{Member, StandStop};
-use lr_host::{Host, ListFault};
-use lr_rules::{CallKind, Naming, Path};
+use lr_host::Host;
+use lr_rules::{Naming, Text};
 use std::alloc::Global;
 use std::cmp::Ordering;
 
@@ -41,28 +41,21 @@ fn sort_newest(members: &mut Vec<Member>)
     members.sort_unstable_by(|a, b| by_place(a, b));
 }
 
-/// Lists the directory of the family, and looks at each member among its names, in order of bytes.
-pub fn members_in<H: Host>(
+/// Looks at each member among the names, in order of bytes.
+pub fn members_among<H: Host>(
     alloc: Global,
     host: &mut H,
     naming: &Naming,
-    dir: Path,
+    names: &[Text],
 ) -> Result<Vec<Member>, StandStop>
-    requires list { Can (H.told host.old) (entry.List dir []) }
-    requires dir { dir ≡ naming.now.dir }
-    ensures told { IfOk result (λ members. Left (StandsIn naming.now members.items) (H.told host.old) (H.told host.new)) }
-    ensures stopped { IfErr result (λ stop. Left (InStopped naming.now stop) (H.told host.old) (H.told host.new)) }
+    requires { AreRising names.now }
+    ensures told { IfOk result (λ members. Left (StandsAmong naming.now names.now members.items) (H.told host.old) (H.told host.new)) }
+    ensures stopped { IfErr result (λ stop. Left (ShowsNoneIn naming.now true names.now stop) (H.told host.old) (H.told host.new)) }
     ensures named { IfOk result (λ members. AreNamed naming.now members.items) }
     ensures cause { IfErr result (λ stop. IsFailedCall stop → Rose (H.counts host.old).faults (H.counts host.new).faults) }
     ensures counts { Onward (H.counts host.old) (H.counts host.new) }
 {
-    let mut names = Vec::new(alloc);
-    match host.list(alloc, &dir, &mut names) {
-        Ok(()) => {}
-        Err(ListFault::Failed) => return Err(StandStop::Call(CallKind::List, dir)),
-        Err(ListFault::Memory) => return Err(StandStop::Memory),
-    }
-    let Ok(spots) = spots_among(alloc, naming, &names) else {
+    let Ok(spots) = spots_among(alloc, naming, names) else {
         return Err(StandStop::Memory);
     };
     match look_at_all(alloc, host, spots) {

@@ -3,9 +3,11 @@ ghost use Rattle.std.specs.Prelude.{◌≡◌, ◌≤◌, ◌+◌, ◌↔◌, �
 ghost use Rattle.std.specs.Ordering.{nat_cmp};
 ghost use Rattle.std.specs.Cmp.Lexicographic.{slice_cmp};
 ghost use Rattle.std.specs.List.Sorted.{IsStrictlyIncreasing};
+ghost use Rattle.lr_family.specs.Listed.{AreRising};
 ghost use Rattle.lr_family.specs.Spots.{spot_at, HasPlaces, AddsPlace, AreSpots};
 
 use crate::number::{member_path, place_of_name};
+use crate::prefix::names_with;
 use lr_rules::{Memory, Naming, Path, Text};
 use std::alloc::Global;
 use std::cmp::Ordering;
@@ -37,6 +39,14 @@ fn places_among(alloc: Global, naming: &Naming, names: &[Text]) -> Result<Vec<u3
         add_place(&mut places, naming, name)?;
     }
     Ok(places)
+}
+
+// The same of names in order of bytes: those that begin as a member's are enough.
+fn places_in(alloc: Global, naming: &Naming, names: &[Text]) -> Result<Vec<u32>, Memory>
+    requires { AreRising names.now }
+    ensures { IfOk result (λ places. HasPlaces naming.now names.now places.items) }
+{
+    places_among(alloc, naming, names_with(names, naming.base.bytes()))
 }
 
 // The same places, each once, the newest first.
@@ -72,9 +82,10 @@ fn by_bytes(a: &Spot, b: &Spot) -> Ordering
 
 /// The members among the names, each once, in order of the bytes of their paths.
 pub fn spots_among(alloc: Global, naming: &Naming, names: &[Text]) -> Result<Vec<Spot>, Memory>
+    requires { AreRising names.now }
     ensures { IfOk result (λ spots. AreSpots naming.now names.now spots.items) }
 {
-    let mut places = places_among(alloc, naming, names)?;
+    let mut places = places_in(alloc, naming, names)?;
     sort_rising(&mut places);
     let mut spots = spots_at(alloc, naming, &places)?;
     spots.sort_unstable_by(|a, b| by_bytes(a, b));

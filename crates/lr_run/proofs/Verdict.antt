@@ -26,10 +26,10 @@ use Rattle.lr_host.specs.Looks.{Sees, IsNothing, IsDir, IsNoFile, is_dir, IsFile
 use Rattle.lr_host.proofs.Each.{each_append}
 use Rattle.lr_host.specs.Lists.{IsIn}
 use Rattle.lr_host.proofs.Lists.{in_from, in_to, in_map, in_unmap}
-use Rattle.lr_family.specs.Looks.{Sight, seen_at, member_of, ShowsSome}
-use Rattle.lr_family.specs.Stands.{number_in, StandsIn, ShowsAs, ShowsStand, ShowsNoFile, ShowsSoFar}
-use Rattle.lr_family.proofs.OnlyLooks.{IsLooking, AreLooking, looking_stands, looking_sights}
-use Rattle.lr_family.proofs.Wrong.{wrong_member, past_list, wrong, sights_passed, split, saw_dir, shows_wrong, stands_well}
+use Rattle.lr_family.specs.Looks.{Sight, seen_at, member_of}
+use Rattle.lr_family.specs.Stands.{number_in, StandsIn, ShowsAs, ShowsStand, ShowsNoFile, ShowsSomeIn, ShowsSoFar}
+use Rattle.lr_family.proofs.OnlyLooks.{IsLooking, AreLooking, looking_stands, looking_sights, looking_some_in}
+use Rattle.lr_family.proofs.Wrong.{wrong_member, past_list, wrong, sights_passed, split, saw_dir, listed, shows_wrong, stands_well}
 use Rattle.lr_chain.specs.Ready.{highest_path, IsTooHigh}
 use Rattle.lr_chain.specs.Rotation.{places_of, rotation, leftover_steps, shift_steps, turn_steps, retire_steps}
 use Rattle.lr_chain.proofs.Steps.{each_rotation}
@@ -250,19 +250,17 @@ abbrev pub TakeMemory : List Fault → Type 0
 TakeMemory [] = Unit {0}
 TakeMemory (f ∷ fs) = TakesMemory f
 
-some_listed : (n : Naming) (us : List Entry) → (us ≡ []) ⊎ ((names : List (List ℕ)) × Then (Are (entry.List n.dir names ∷ [])) ShowsSome us) → (past_list (us ++ Ends ∷ []) ≡ None) × AreLooking us
-some_listed n us (inl e) = (ap (λ xs. past_list (xs ++ Ends ∷ [])) e, subst AreLooking (sym e) tt)
-some_listed n us (inr t) = (
-  split us (Ends ∷ []) past_list t.1 ∙ (ap (λ xs. past_list (xs ++ (t.1.back ++ Ends ∷ []))) t.1.first ∙ (ap (λ xs. wrong_member (xs ++ Ends ∷ [])) t.1.second.looks ∙ sights_passed t.1.second.sights (Ends ∷ []) t.1.second.files)),
-  subst AreLooking (sym t.1.joined) (each_append IsLooking t.1.front t.1.back (subst AreLooking (sym t.1.first) (tt, tt)) (subst AreLooking (sym t.1.second.looks) (looking_sights t.1.second.sights))),
-)
+some_listed : (n : Naming) (us : List Entry) → ShowsSomeIn n us → past_list (us ++ Ends ∷ []) ≡ None
+some_listed n us (inl e) = ap (λ xs. past_list (xs ++ Ends ∷ [])) e
+some_listed n us (inr (inl l)) = ap (λ xs. past_list (xs ++ Ends ∷ [])) l.1
+some_listed n us (inr (inr t)) = split us (Ends ∷ []) past_list t.1 ∙ (listed n t.0 t.1.front (t.1.back ++ Ends ∷ []) t.1.first
+    ∙ (ap (λ xs. wrong_member (xs ++ Ends ∷ [])) t.1.second.looks ∙ sights_passed t.1.second.sights (Ends ∷ []) t.1.second.files))
 
 so_far_told : (n : Naming) (ts : List Entry) → ShowsSoFar n ts → TakeMemory (by_wrong n (wrong (ts ++ Ends ∷ [])) (ts ++ Ends ∷ []))
 so_far_told n ts (inl e) = subst (λ (xs : List Entry). TakeMemory (by_wrong n (wrong (xs ++ Ends ∷ [])) (xs ++ Ends ∷ []))) (sym e) tt
 so_far_told n ts (inr (inl s)) = subst TakeMemory (sym (nothing_only n ts s)) tt
 so_far_told n ts (inr (inr t)) =
-    let s = some_listed n t.back t.second in
-    subst TakeMemory (sym (ap (λ xs. by_wrong n (wrong xs) xs) (ap (λ xs. xs ++ Ends ∷ []) t.joined ∙ append_assoc t.front t.back (Ends ∷ [])) ∙ dir_only n t.front t.back t.first s.0 s.1)) tt
+    subst TakeMemory (sym (ap (λ xs. by_wrong n (wrong xs) xs) (ap (λ xs. xs ++ Ends ∷ []) t.joined ∙ append_assoc t.front t.back (Ends ∷ [])) ∙ dir_only n t.front t.back t.first (some_listed n t.back t.second) (looking_some_in n t.back t.second))) tt
 
 stand_told : (n : Naming) (stand : Stand) (ts : List Entry) → ShowsStand n stand ts → TakeMemory (by_wrong n (wrong (ts ++ Ends ∷ [])) (ts ++ Ends ∷ []))
 stand_told n stand ts h = go stand.there refl

@@ -21,7 +21,8 @@ returns-in-Err-clause-stopped g c =
     (sym c.into_iter-spot-iterator.ensures.into_iter_gives.0 ∙ (c.loop-spot.invariant.seam ∙ ap (λ (ss : List Spot). c.loop-spot.invariant.done ++ ss) c.in-Some.ensures.steps.0)) c.loop-spot.invariant.told c.in-Err.ensures.stopped)
 
 pub returns-then-is_err-clause-stopped : goal.returns-then-is_err-clause-stopped
-returns-then-is_err-clause-stopped g c = shows_some c.loop-spot.invariant.done c.loop-spot.members.items c.in-Some.spot c.in-Ok.seen c.loop-spot.invariant.told c.in-Ok.ensures.told c.in-Ok.ensures.file
+returns-then-is_err-clause-stopped g c = shows_some c.args.spots.items c.loop-spot.invariant.done _ c.loop-spot.members.items c.in-Some.spot c.in-Ok.seen
+    (sym c.into_iter-spot-iterator.ensures.into_iter_gives.0 ∙ (c.loop-spot.invariant.seam ∙ ap (λ (ss : List Spot). c.loop-spot.invariant.done ++ ss) c.in-Some.ensures.steps.0)) c.loop-spot.invariant.told c.in-Ok.ensures.told c.in-Ok.ensures.file
 
 pub loop-spot-preserved : goal.loop-spot-preserved
 loop-spot-preserved g c = record {

@@ -1,6 +1,6 @@
 use Rattle.std.proofs.Common.{ℕ, List, subst}
 use Rattle.lr_family.specs.Named.{IsNamedAt}
-use Rattle.lr_family.proofs.Listing.{adds_one}
+use Rattle.lr_family.proofs.Among.{adds_one}
 use Rattle.lr_family.proofs.spot.add_place.Goals as goal
 
 pub returns-in_ok-push-in-Some : goal.returns-in_ok-push-in-Some

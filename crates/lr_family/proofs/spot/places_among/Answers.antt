@@ -1,4 +1,4 @@
-use Rattle.lr_family.proofs.Listing.{has_none, has_more, has_all}
+use Rattle.lr_family.proofs.Among.{has_none, has_more, has_all}
 use Rattle.lr_family.proofs.spot.places_among.Goals as goal
 
 pub loop-name-init : goal.loop-name-init

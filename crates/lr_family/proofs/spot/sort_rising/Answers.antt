@@ -1,6 +1,6 @@
 use Rattle.std.proofs.Common.{eqb}
 use Rattle.std.proofs.lemmas.List.Filters.{dedup_is}
-use Rattle.lr_family.proofs.Listing.{sorted_rises, sorted_same}
+use Rattle.lr_family.proofs.Among.{sorted_rises, sorted_same}
 use Rattle.lr_family.proofs.spot.sort_rising.Goals as goal
 
 pub returns-clause-rising : goal.returns-clause-rising

@@ -10,7 +10,7 @@ use Rattle.std.proofs.lemmas.Fn.{always_returns_same}
 use denote.Param.Members.{Mut}
 use Rattle.lr_family.specs.declared.spot.Spot.{Spot}
 use Rattle.lr_family.specs.Spots.{spot_at}
-use Rattle.lr_family.proofs.Listing.{has_same, all_bound}
+use Rattle.lr_family.proofs.Among.{has_same, all_bound}
 use Rattle.lr_family.proofs.spot.spots_among.Goals as goal
 
 sorted : {F : Type 0} {g : Mut F (Bor Spot × (Bor Spot × Unit {0})) Ordering} {f : F} (xs : List Spot) → IsSortedByClosure g f xs

@@ -1,6 +1,6 @@
 -- The places of the members among names.
-use Rattle.std.proofs.Common.{◌≡◌, inl, inr, ⊎_elim, ℕ, ◌+◌, ◌<◌, ◌≤◌, List, [], ◌∷◌, ◌++◌, length, take, get_or, sym, ap, ◌∙◌, subst, arith, eqb}
-use Rattle.std.specs.Prelude.{◌↔◌, All, Contains}
+use Rattle.std.proofs.Common.{◌≡◌, inl, inr, ⊎_elim, ℕ, ◌+◌, ◌<◌, ◌≤◌, List, [], ◌∷◌, ◌++◌, length, take, get_or, Result, Ok, Err, Vec, sym, ap, ◌∙◌, subst, arith, eqb, append_assoc}
+use Rattle.std.specs.Prelude.{◌↔◌, All, Contains, IfOk, decimal}
 use Rattle.std.specs.List.{dedup}
 use Rattle.std.specs.List.Sorted.{IsPermutation, IsSorted, IsStrictlyIncreasing}
 use Rattle.std.specs.Ordering.{nat_cmp}
@@ -55,3 +55,20 @@ has_same n names old new h same place = ((λ c. (h place).0 ((same place).0 c)),
 -- each of them has a number that is not too high
 pub all_bound : (n : Naming) (names : List (List ℕ)) (places : List ℕ) → HasPlaces n names places → All (λ place. n.start + place ≤ 4294967295) places
 all_bound n names places h = All-weaker (Contains places) (λ place. n.start + place ≤ 4294967295) (λ place c. ((h place).0 c).0) places (All-contains_itself places)
+
+-- of names, those that begin as a member's do are enough
+begins_so : (n : Naming) (place : ℕ) → member_name n (n.start + place) ≡ n.base ++ (46 ∷ (decimal (n.start + place) ++ n.ext))
+begins_so n place = append_assoc n.base (46 ∷ decimal (n.start + place)) n.ext
+
+pub has_these : (n : Naming) (names part : List (List ℕ)) (base : List ℕ) {A E : Type 0} (r : Result (Vec ℕ A) E) → base ≡ n.base → ((name : List ℕ) → Contains part name → Contains names name) → ((rest : List ℕ) → Contains names (base ++ rest) → Contains part (base ++ rest)) → IfOk r (λ places. HasPlaces n part places.items)
+    → IfOk r (λ places. HasPlaces n names places.items)
+has_these n names part base (Err e) same among all has = tt
+has_these n names part base (Ok places) same among all has = λ place. (
+  λ c. let h = (has place).0 c in (h.0, among (member_name n (n.start + place)) h.1),
+  λ h. (has place).1 (h.0, kept place h.1),
+)
+  where
+    kept : (place : ℕ) → Contains names (member_name n (n.start + place)) → Contains part (member_name n (n.start + place))
+    kept place c =
+        let text : member_name n (n.start + place) ≡ base ++ (46 ∷ (decimal (n.start + place) ++ n.ext)) = begins_so n place ∙ ap (λ xs. xs ++ (46 ∷ (decimal (n.start + place) ++ n.ext))) (sym same) in
+        subst (λ (x : List ℕ). Contains part x) (sym text) (all (46 ∷ (decimal (n.start + place) ++ n.ext)) (subst (λ (x : List ℕ). Contains names x) text c))

@@ -1,0 +1,136 @@
+-- How many entries the looks at a family leave.
+use Rattle.std.proofs.Common.{◌≡◌, inl, inr, ℕ, ◌+◌, ◌≤◌, ◌<◌, Bool, true, false, List, [], ◌∷◌, ◌++◌, length, map, Option, Result, Ok, Err, sym, ap, ◌∙◌, subst, arith}
+use Rattle.std.specs.Prelude.{IfOk, IfErr, Contains}
+use Rattle.std.specs.List.Sorted.{IsStrictlyIncreasing}
+use Rattle.std.proofs.lemmas.Grind.{flat_map-append}
+use Rattle.std.proofs.lemmas.List.{length-append, length-map}
+use Rattle.std.proofs.lemmas.List.Elements.{All-nil, All-weaker, All-contains_itself, Contains-append_left}
+use Rattle.std.proofs.lemmas.List.Sorted.{Contains-permutation, IsPermutation-sym, length_permutation}
+use Rattle.lr_rules.specs.declared.path.Path.{Path}
+use Rattle.lr_rules.specs.declared.rule.Naming.{Naming}
+use Rattle.lr_rules.specs.declared.fault.CallKind.{CallKind}
+use Rattle.lr_rules.specs.declared.fault.CallKind.TheVariants as call
+use Rattle.lr_host.specs.declared.thing.Seen.{Seen}
+use Rattle.lr_host.specs.declared.entry.Entry.{Entry}
+use Rattle.lr_host.specs.declared.journal.Journal.{Journal}
+use Rattle.lr_host.specs.Told.{Left, Then}
+use Rattle.lr_host.specs.Looks.{Sees}
+use Rattle.lr_host.proofs.Left.{left_as, left_then}
+use Rattle.lr_family.specs.declared.spot.Spot.{Spot}
+use Rattle.lr_family.specs.declared.stand.Member.{Member}
+use Rattle.lr_family.specs.declared.stand.Stand.{Stand}
+use Rattle.lr_family.specs.declared.stand.StandStop.{StandStop}
+use Rattle.lr_family.specs.declared.stand.StandStop.TheVariants as stop
+use Rattle.lr_family.specs.Among.{ShowsMembers, ShowsIn, ShowsNoneIn, AreFewAmong, names_told, AreFew}
+use Rattle.lr_family.specs.Listed.{ShowsListing, NotListedAt, NotListed, AreAtMost}
+use Rattle.lr_family.specs.Looks.{Sight, look_of, Shows, ShowsTo, ShowsSome}
+use Rattle.lr_family.specs.Named.{member_name}
+use Rattle.lr_family.specs.Spots.{spot_at, IsListedAt, AreSpots}
+use Rattle.lr_family.specs.Stops.{SomeStopped}
+
+one : (x : Path) (P : Option Seen → Type 0) (ts : List Entry) → Sees x P ts → length ts ≡ 1
+one x P ts s = ap length s.look
+
+both : {P Q : List Entry → Type 0} (ts : List Entry) → (t : Then P Q ts) → length ts ≡ length t.front + length t.back
+both ts t = ap length t.joined ∙ length-append t.front t.back
+
+-- ---- of a listing
+
+listing_two : (dir : Path) (there parent : Bool) (names : List (List ℕ)) (ts : List Entry) → ShowsListing dir there parent names ts → length ts ≤ 2
+listing_two dir true parent names ts t =
+    let all = both ts t.1 in let front = one dir _ t.1.front t.1.first in let back : length t.1.back ≡ 1 = ap length t.1.second.list in omega arith
+listing_two dir false parent names ts t =
+    let all = both ts t.1 in let front = one dir _ t.1.front t.1.first in let back = one _ _ t.1.back t.1.second in omega arith
+
+call_one : (dir : Path) (k : CallKind) (path : Path) (ts : List Entry) → NotListedAt dir k path ts → length ts ≤ 1
+call_one dir call.Look path ts (inl t) = let none : length ts ≡ 0 = ap length t.1 in omega arith
+call_one dir call.Look path ts (inr t) = let is = one dir _ ts t.1 in omega arith
+call_one dir call.List path ts t = let is = one dir _ ts t.1 in omega arith
+call_one dir _ path ts t = absurd t
+
+not_listed_one : (dir : Path) (s : StandStop) (ts : List Entry) → NotListed dir s ts → length ts ≤ 1
+not_listed_one dir (stop.NotFile path) ts t = let is = one dir _ ts t.1 in omega arith
+not_listed_one dir (stop.Call kind path) ts t = call_one dir kind path ts t
+not_listed_one dir stop.Memory ts (inl e) = let none : length ts ≡ 0 = ap length e in omega arith
+not_listed_one dir stop.Memory ts (inr (inl s)) = let is = one dir _ ts s in omega arith
+not_listed_one dir stop.Memory ts (inr (inr s)) = let is = one dir _ ts s in omega arith
+
+pub at_most_three : {T : Type 0} (dir : Path) (there parent : T → Bool) (names : T → List (List ℕ)) (r : Result T StandStop) {o m : Option Journal} → IfOk r (λ l. Left (ShowsListing dir (there l) (parent l) (names l)) o m) → IfErr r (λ s. Left (NotListed dir s) o m) → Left (AreAtMost 3) o m
+at_most_three dir there parent names (Ok l) a b = left_as a (λ ts t. let two = listing_two dir (there l) (parent l) (names l) ts t in omega arith)
+at_most_three dir there parent names (Err s) a b = left_as b (λ ts t. let few = not_listed_one dir s ts t in omega arith)
+
+-- ---- of the members among names
+
+none_once : IsStrictlyIncreasing []
+none_once k lt = absurd (omega arith)
+
+few_of : (n : Naming) (names : List (List ℕ)) (spots : List Spot) (ts : List Entry) → AreSpots n names spots → length ts ≤ length spots → AreFewAmong n names ts
+few_of n names spots ts are le = record {
+  places = are.places;
+  once = are.once;
+  listed = All-weaker (Contains are.places) (IsListedAt n names) (λ place c. (are.all place).0 c) are.places (All-contains_itself are.places);
+  few = let same : length spots ≡ length (map (spot_at n) are.places) = length_permutation (map (spot_at n) are.places) spots are.each in let places = length-map are.places (spot_at n) in omega arith;
+}
+
+few_none : (n : Naming) (names : List (List ℕ)) (ts : List Entry) → ts ≡ [] → AreFewAmong n names ts
+few_none n names ts e = record { places = []; once = none_once; listed = All-nil (IsListedAt n names); few = let none : length ts ≡ 0 = ap length e in omega arith }
+
+sights_many : (sights : List Sight) → length (map look_of sights) ≡ length (map (λ (g : Sight). g.spot) sights)
+sights_many sights = length-map sights look_of ∙ sym (length-map sights (λ (g : Sight). g.spot))
+
+all_few : (spots : List Spot) (members : List Member) (ts : List Entry) → Shows spots members ts → length ts ≤ length spots
+all_few spots members ts s = let are : length ts ≡ length (map look_of s.sights) = ap length s.looks in let many = sights_many s.sights in let each : length (map (λ (g : Sight). g.spot) s.sights) ≡ length spots = ap length s.each in omega arith
+
+some_few : (spots : List Spot) (ts : List Entry) → ShowsSome spots ts → length ts ≤ length spots
+some_few spots ts s =
+    let are : length ts ≡ length (map look_of s.sights) = ap length s.looks in let many = sights_many s.sights in
+    let each : length spots ≡ length (map (λ (g : Sight). g.spot) s.sights) + length s.after = ap length s.each ∙ length-append (map (λ (g : Sight). g.spot) s.sights) s.after in omega arith
+
+to_few : (spots : List Spot) (path : Path) {P : List Entry → Type 0} (ts : List Entry) → ((us : List Entry) → P us → length us ≤ 1) → ShowsTo spots path P ts → length ts ≤ length spots
+to_few spots path ts f s =
+    let all = both ts s.looks in
+    let front : length s.looks.front ≡ length (map look_of s.before) = ap length s.looks.first in
+    let many = sights_many s.before in
+    let back = f s.looks.back s.looks.second in
+    let rest : List Spot = record { place = s.place; path = path } ∷ s.after in
+    let more : length rest ≡ length s.after + 1 = omega arith in
+    let each : length spots ≡ length (map (λ (g : Sight). g.spot) s.before) + length rest = ap length s.each ∙ length-append (map (λ (g : Sight). g.spot) s.before) rest in omega arith
+
+stopped_few : (spots : List Spot) (s : StandStop) (ts : List Entry) → SomeStopped spots s ts → length ts ≤ length spots
+stopped_few spots (stop.NotFile path) ts t = to_few spots path ts (λ us s. let is = one path _ us s in omega arith) t
+stopped_few spots (stop.Call kind path) ts t = to_few spots path ts (λ us e. let none : length us ≡ 0 = ap length e in omega arith) t.1
+stopped_few spots stop.Memory ts t = some_few spots ts t
+
+members_few : (n : Naming) (there : Bool) (names : List (List ℕ)) (members : List Member) (ts : List Entry) → ShowsMembers n there names members ts → AreFewAmong n names ts
+members_few n true names members ts t = few_of n names t.spots ts t.spots_are (all_few t.spots t.shown ts t.looks)
+members_few n false names members ts t = few_none n names ts t.1
+
+none_few : (n : Naming) (there : Bool) (names : List (List ℕ)) (s : StandStop) (ts : List Entry) → ShowsNoneIn n there names s ts → AreFewAmong n names ts
+none_few n true names s ts (inl t) = few_none n names ts t.1
+none_few n true names s ts (inr t) = few_of n names t.spots ts t.spots_are (stopped_few t.spots s ts t.looks)
+none_few n false names s ts t = absurd t
+
+pub few_among : (n : Naming) (there parent : Bool) (names : List (List ℕ)) (r : Result Stand StandStop) {o m : Option Journal} → IfOk r (λ stand. Left (ShowsIn n there parent names stand) o m) → IfErr r (λ s. Left (ShowsNoneIn n there names s) o m) → Left (AreFewAmong n names) o m
+few_among n there parent names (Ok stand) a b = left_as a (λ ts t. members_few n there names stand.members ts t.2)
+few_among n there parent names (Err s) a b = left_as b (none_few n there names s)
+
+-- ---- of both
+
+told : (dir : Path) (there parent : Bool) (names : List (List ℕ)) (ts us : List Entry) → ShowsListing dir there parent names ts → (name : List ℕ) → Contains names name → Contains (names_told (ts ++ us)) name
+told dir true parent names ts us t name c =
+    let l = t.1.second in
+    let here : names_told ts ≡ l.listed ++ [] = ap names_told t.1.joined ∙ (ap (λ xs. names_told (xs ++ t.1.back)) t.1.first.look ∙ ap names_told l.list) in
+    subst (λ (xs : List (List ℕ)). Contains xs name) (sym (flat_map-append _ ts us)) (Contains-append_left (names_told ts) (names_told us) name
+    (subst (λ (xs : List (List ℕ)). Contains xs name) (sym here) (Contains-append_left l.listed [] name (Contains-permutation names l.listed name (IsPermutation-sym l.listed names l.same) c))))
+told dir false parent names ts us t name c = absurd (let lt : c.0 < length names = c.1 in let none : length names ≡ 0 = ap length t.0 in omega arith)
+
+pub few_then : (n : Naming) (dir : Path) (there parent : Bool) (names : List (List ℕ)) {o m k : Option Journal} → Left (ShowsListing dir there parent names) o m → Left (AreFewAmong n names) m k → Left (AreFew n) o k
+few_then n dir there parent names a b = left_then a b (λ ts us t f. record {
+  places = f.places;
+  once = f.once;
+  listed = All-weaker (IsListedAt n names) (IsListedAt n (names_told (ts ++ us))) (λ place h. (h.0, told dir there parent names ts us t (member_name n (n.start + place)) h.1)) f.places f.listed;
+  few = let all = length-append ts us in let two = listing_two dir there parent names ts t in let few = f.few in omega arith;
+})
+
+pub few_stopped : (n : Naming) (dir : Path) (s : StandStop) {o m : Option Journal} → Left (NotListed dir s) o m → Left (AreFew n) o m
+few_stopped n dir s a = left_as a (λ ts t. record { places = []; once = none_once; listed = All-nil (IsListedAt n (names_told ts)); few = let few = not_listed_one dir s ts t in omega arith })
