@@ -1,13 +1,9 @@
 pub mod Rows
-pub mod Literal
-pub mod Numbers
 pub mod Lasts
 pub mod Settings
 pub mod Spoken
 pub mod Law
 pub mod Each
-pub mod KeptNames
-pub mod LogWords
 pub mod Plain
 pub mod Limits
 pub mod OneLog

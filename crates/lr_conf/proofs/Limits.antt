@@ -3,15 +3,12 @@ use Rattle.std.proofs.Common.{◌≡◌, ℕ, ◌≤◌, Bool, true, false, cond
 use Rattle.std.specs.List.{AllByRecursion as Each, list_all}
 use Rattle.std.proofs.lemmas.Bool.Decides.{nat_tests}
 use Rattle.std.proofs.lemmas.List.Elements.{recursion_from_All}
-use Rattle.std.specs.Str.{is_utf8}
 use Rattle.lr_rules.specs.declared.path.Path.{Path}
-use Rattle.lr_rules.specs.declared.path.PathFault.TheVariants as fault
 use Rattle.lr_rules.specs.declared.fault.ConfKind.{ConfKind}
 use Rattle.lr_rules.specs.declared.fault.Fault.{Fault}
 use Rattle.lr_rules.specs.declared.rule.Count.{Count}
 use Rattle.lr_rules.specs.declared.rule.Count.TheVariants as count
 use Rattle.lr_rules.specs.declared.rule.Rule.{Rule}
-use Rattle.lr_rules.specs.Path.{path_fault, is_absolute, has_bad_byte, has_empty_part, has_dot_part}
 use Rattle.lr_rules.specs.Match.{literal_path}
 use Rattle.lr_rules.specs.Limits.{is_path_text, can_be_log, is_literal_word, is_pattern_word, is_log_word, is_count, meets_limits}
 use Rattle.lr_conf.specs.declared.draft.Draft.{Draft}
@@ -21,24 +18,10 @@ use Rattle.lr_conf.specs.declared.stop.LayerStop.TheVariants as stop
 use Rattle.lr_conf.specs.Meaning.{Line, End, Meaning, ◌and◌, told, conf, meaning}
 use Rattle.lr_conf.specs.Draft.{coming_from, TookIn, faults_of}
 use Rattle.lr_conf.specs.Plain.{IsLogWord, IsSmallCount, IsPlainRule}
+use Rattle.lr_words.proofs.Paths.{path_text}
 use Rattle.lr_conf.proofs.Plain.{plain}
 
 -- ---- values
-
-path_text : (bytes : List ℕ) → path_fault bytes ≡ None → is_path_text bytes ≡ true
-unfolding path_fault
-path_text bytes h = by (is_utf8 bytes) (has_bad_byte bytes) (nat_lt 4096 (length bytes)) (is_absolute bytes) (has_empty_part bytes) (has_dot_part bytes) h
-  where
-    by : (utf8 bad long absolute empty dot : Bool)
-        → cond (not utf8) (Some fault.NotUtf8) (cond bad (Some fault.BadByte) (cond long (Some fault.TooLong) (cond (not absolute) (Some fault.Relative) (cond empty (Some fault.EmptyPart) (cond dot (Some fault.DotPart) None))))) ≡ None
-        → (not bad && (absolute && (not empty && not dot))) ≡ true
-    by false bad long absolute empty dot h = absurd (cc)
-    by true true long absolute empty dot h = absurd (cc)
-    by true false true absolute empty dot h = absurd (cc)
-    by true false false false empty dot h = absurd (cc)
-    by true false false true true dot h = absurd (cc)
-    by true false false true false true h = absurd (cc)
-    by true false false true false false h = refl
 
 word_meets : (word : List ℕ) → IsLogWord word → is_log_word word ≡ true
 word_meets word w =

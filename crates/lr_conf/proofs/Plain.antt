@@ -1,5 +1,5 @@
 -- What no line can set yet has its default in each rule, and the words of a rule name logs.
-use Rattle.std.proofs.Common.{◌≡◌, ℕ, ◌≤◌, Bool, true, false, cond, not, ◌&&◌, List, [], ◌∷◌, ◌++◌, reverse, Option, Some, None, option_map, refl, ap, arith}
+use Rattle.std.proofs.Common.{◌≡◌, ℕ, ◌≤◌, Bool, true, false, cond, not, ◌&&◌, List, [], ◌∷◌, ◌++◌, reverse, Option, Some, None, Result, Ok, Err, option_map, refl, ap, arith}
 use Rattle.std.specs.List.{AllByRecursion as Each, filter_map, flat_map, list_any, find}
 use Rattle.std.proofs.lemmas.List.Elements.{All-from_recursion}
 use Rattle.std.proofs.lemmas.Bool.Decides.{nat_tests}
@@ -10,9 +10,11 @@ use Rattle.lr_rules.specs.declared.path.Path.{Path}
 use Rattle.lr_rules.specs.declared.fault.ConfKind.{ConfKind}
 use Rattle.lr_rules.specs.declared.fault.ConfKind.TheVariants as kind
 use Rattle.lr_rules.specs.declared.rule.Criterion.TheVariants as criterion
+use Rattle.lr_rules.specs.declared.rule.Count.{Count}
 use Rattle.lr_rules.specs.declared.rule.Count.TheVariants as count
 use Rattle.lr_rules.specs.declared.rule.Make.TheVariants as make
 use Rattle.lr_rules.specs.declared.rule.Way.TheVariants as way
+use Rattle.lr_rules.specs.Limits.{is_count}
 use Rattle.lr_rules.specs.Match.{is_wildcard}
 use Rattle.lr_tables.specs.declared.directive.Directive.{Directive}
 use Rattle.lr_tables.specs.declared.directive.Directive.TheVariants as is
@@ -24,13 +26,15 @@ use Rattle.lr_conf.specs.declared.set.Set.TheVariants as set
 use Rattle.lr_conf.specs.declared.said.Said.{Said}
 use Rattle.lr_conf.specs.declared.said.Said.TheVariants as says
 use Rattle.lr_conf.specs.Forms.{form_of}
-use Rattle.lr_conf.specs.Values.{is_number, number_of, is_too_large, is_log_name, kept_name}
-use Rattle.lr_conf.specs.Says.{directive_of, checks, first_fault, is_minus_one, count_says, means, or_bad, by_form, texts, words_say, name_says, names_say, said}
+use Rattle.lr_values.specs.Numbers.{count_value}
+use Rattle.lr_values.proofs.Limits.{count_meets}
+use Rattle.lr_words.specs.Names.{log_name_value}
+use Rattle.lr_words.proofs.LogNames.{of_literal}
+use Rattle.lr_conf.specs.Says.{directive_of, checks, first_fault, counted, count_says, means, or_bad, by_form, texts, words_say, named, name_says, names_say, said}
 use Rattle.lr_conf.specs.Fields.{fields_of, last_set, criterion_set, count_set, ifempty_set, olddir_set, createolddir_set, create_set, mail_set, mailfirst_set, shared_set, dated_set, names_way, undoes, way_of}
 use Rattle.lr_conf.specs.Meaning.{Line, Read, Spoiled, End, Past, stands, spoiled, file_ends, Meaning, nothing, set_of, set_past, settings, names_past, settles, pending, words_pending, first_pending, words_with, opened, opens, judged, past_of, past, has_name, before, behind, ends, drops, set_in, default_format, rule_of, of_end, of_body, of_spoilt, of_opening, meaning}
 use Rattle.lr_conf.specs.Plain.{IsLogWord, IsSmallCount, IsPlainRule}
 use Rattle.lr_conf.proofs.Each.{append, backwards, front, Given, one_more, mapped, last}
-use Rattle.lr_conf.proofs.LogWords.{log_word}
 
 -- ---- what a line says
 
@@ -75,19 +79,17 @@ form_ok is.Nosharedscripts = refl
 form_ok is.Nodateext = refl
 form_ok d = tt
 
-small : (v : List ℕ) → is_too_large v ≡ false → number_of v ≤ 999999
-unfolding is_too_large
-small v h = grind (arith, nat_tests)
+small : (c : Count) → is_count c ≡ true → IsSmallCount c
+small (count.Keep n) h = grind (arith, nat_tests)
+small count.Always h = tt
 
 count_ok : (vs : List (List ℕ)) → OkSaid (count_says vs)
 count_ok [] = tt
-count_ok (v ∷ vs) = by (is_minus_one v) (is_number v) (is_too_large v) refl
+count_ok (v ∷ vs) = by (count_value v) refl
   where
-    by : (all n large : Bool) → is_too_large v ≡ large → OkSaid (cond all (says.Sets (set.Count count.Always)) (cond (not n) (says.Bad kind.BadNumber) (cond large (says.Bad kind.TooLarge) (says.Sets (set.Count (count.Keep (number_of v)))))))
-    by true n large h = tt
-    by false false large h = tt
-    by false true true h = tt
-    by false true false h = small v h
+    by : (r : Result Count ConfKind) → count_value v ≡ r → OkSaid (counted r)
+    by (Ok c) e = small c (count_meets v c e)
+    by (Err k) e = tt
 
 means_ok : (f : Form) (word : List ℕ) (vs : List (List ℕ)) → OkForm f → OkSaid (means f word vs)
 means_ok form.Passed word vs ok = tt
@@ -113,14 +115,14 @@ words_ok inside brace stray (w ∷ ws) = by (inside && brace)
     by false = form_says_ok inside brace stray w.text (texts ws) (directive_of w.text)
 
 name_ok : (stray : Bool) (name : List ℕ) → OkSaid (name_says stray name)
-name_ok stray name = by (is_wildcard name) stray (is_log_name name) refl refl
+name_ok stray name = by (is_wildcard name) stray (log_name_value name) refl refl
   where
-    by : (wild stray log : Bool) → is_wildcard name ≡ wild → is_log_name name ≡ log
-        → OkSaid (cond wild (says.BadNames kind.NotYet) (cond stray (says.BadNames kind.Stray) (cond (not log) (says.BadNames kind.BadPath) (says.Names (kept_name name ∷ [])))))
-    by true stray log w l = tt
-    by false true log w l = tt
-    by false false false w l = tt
-    by false false true w l = (tt, (log_word name w l, tt))
+    by : (wild stray : Bool) (r : Result (List ℕ) ConfKind) → is_wildcard name ≡ wild → log_name_value name ≡ r
+        → OkSaid (cond wild (says.BadNames kind.NotYet) (cond stray (says.BadNames kind.Stray) (named r)))
+    by true stray r w l = tt
+    by false true r w l = tt
+    by false false (Err k) w l = tt
+    by false false (Ok n) w l = (tt, (of_literal name n w l, tt))
 
 names_ok : (stray : Bool) (ws : List Word) → OkSaid (names_say stray ws)
 names_ok stray [] = tt

@@ -1,5 +1,4 @@
 pub mod Forms
-pub mod Values
 pub mod Says
 pub mod Fields
 pub mod Meaning

@@ -6,16 +6,8 @@ use Rattle.lr_rules.specs.declared.rule.Criterion.TheVariants as criterion
 use Rattle.lr_rules.specs.declared.rule.Make.TheVariants as make
 use Rattle.lr_rules.specs.declared.rule.Rule.{Rule}
 use Rattle.lr_rules.specs.declared.rule.Way.TheVariants as way
-use Rattle.lr_rules.specs.Limits.{can_be_log}
-use Rattle.lr_rules.specs.Match.{is_wildcard, literal_path}
-use Rattle.lr_rules.specs.Path.{path_fault}
+pub use Rattle.lr_words.specs.Names.{IsLogWord}
 use Rattle.lr_conf.specs.Meaning.{Line, End}
-
--- the word is no pattern, and its path, without the backslashes that escape, is one that a log can have
-pub record IsLogWord (word : List ℕ) : Type 0 where
-  pub no_pattern : is_wildcard word ≡ false
-  pub path : path_fault (literal_path word) ≡ None
-  pub log : can_be_log (literal_path word) ≡ true
 
 abbrev pub IsSmallCount : Count → Type 0
 IsSmallCount (count.Keep n) = n ≤ 999999

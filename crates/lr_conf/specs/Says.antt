@@ -1,21 +1,22 @@
 -- What one line says by itself, inside a definition or outside: the first fault that applies to it, else its meaning.
-use Rattle.std.specs.Prelude.{ℕ, Bool, true, false, not, ◌&&◌, ◌||◌, List, [], ◌∷◌, Option, Some, None, find, map, option_map, length, nat_lt, bytes_eq, codes, if◌then◌else◌}
+use Rattle.std.specs.Prelude.{ℕ, Bool, true, false, not, ◌&&◌, ◌||◌, List, [], ◌∷◌, Option, Some, None, find, map, option_map, Result, Ok, Err, length, nat_lt, bytes_eq, if◌then◌else◌}
 use Rattle.lr_lex.specs.declared.item.Item.{Item}
 use Rattle.lr_lex.specs.declared.item.Item.TheVariants as item
 use Rattle.lr_lex.specs.declared.word.Word.{Word}
 use Rattle.lr_rules.specs.declared.fault.ConfKind.{ConfKind}
 use Rattle.lr_rules.specs.declared.fault.ConfKind.TheVariants as kind
-use Rattle.lr_rules.specs.declared.rule.Count.TheVariants as count
+use Rattle.lr_rules.specs.declared.rule.Count.{Count}
 use Rattle.lr_rules.specs.Match.{is_wildcard}
 use Rattle.lr_tables.specs.declared.directive.Directive.{Directive}
 use Rattle.lr_tables.specs.Directives.{directive_table}
+use Rattle.lr_values.specs.Numbers.{count_value}
+use Rattle.lr_words.specs.Names.{log_name_value}
 use Rattle.lr_conf.specs.declared.form.Form.{Form}
 use Rattle.lr_conf.specs.declared.form.Form.TheVariants as form
 use Rattle.lr_conf.specs.declared.set.Set.TheVariants as set
 use Rattle.lr_conf.specs.declared.said.Said.{Said}
 use Rattle.lr_conf.specs.declared.said.Said.TheVariants as says
 use Rattle.lr_conf.specs.Forms.{form_of}
-use Rattle.lr_conf.specs.Values.{is_number, number_of, is_too_large, is_log_name, kept_name}
 
 -- ---- where an item stands
 
@@ -92,17 +93,14 @@ checks inside brace stray f vs =
 
 -- ---- meanings
 
-abbrev pub is_minus_one : List ℕ → Bool
-is_minus_one value = bytes_eq value (codes "-1")
+-- what a count sets, or its fault
+abbrev pub counted : Result Count ConfKind → Said
+counted (Ok count) = says.Sets (set.Count count)
+counted (Err k) = says.Bad k
 
--- the count that a value says, or its fault: by -1 all members are kept
 abbrev pub count_says : List (List ℕ) → Said
 count_says [] = says.Quiet
-count_says (v ∷ vs) =
-    if is_minus_one v then says.Sets (set.Count count.Always)
-    else if not (is_number v) then says.Bad kind.BadNumber
-    else if is_too_large v then says.Bad kind.TooLarge
-    else says.Sets (set.Count (count.Keep (number_of v)))
+count_says (v ∷ vs) = counted (count_value v)
 
 -- what a line says to which none of those faults applies
 abbrev pub means : Form → List ℕ → List (List ℕ) → Said
@@ -129,13 +127,17 @@ words_say inside brace stray (w ∷ ws) =
     if inside && brace then says.Bad kind.NestedBrace
     else by_form inside brace stray w.text (texts ws) (option_map form_of (directive_of w.text))
 
+-- the name of a line, or its fault
+abbrev pub named : Result (List ℕ) ConfKind → Said
+named (Ok name) = says.Names (name ∷ [])
+named (Err k) = says.BadNames k
+
 -- a line of one name, outside definitions: so far it is no pattern
 abbrev pub name_says : Bool → List ℕ → Said
 name_says stray name =
     if is_wildcard name then says.BadNames kind.NotYet
     else if stray then says.BadNames kind.Stray
-    else if not (is_log_name name) then says.BadNames kind.BadPath
-    else says.Names (kept_name name ∷ [])
+    else named (log_name_value name)
 
 -- a line of names, outside definitions: so far of one
 abbrev pub names_say : Bool → List Word → Said

@@ -30,8 +30,6 @@ mod form;
 mod inside;
 mod laws;
 mod layer;
-mod name;
-mod number;
 mod outside;
 mod place;
 mod reading;

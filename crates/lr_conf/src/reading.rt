@@ -1,16 +1,17 @@
 // Reading a line by itself.
 ghost use Rattle.std.specs.Prelude.{◌≡◌, ◌∷◌, [], IfOk, MatchOption, option_map};
-ghost use Rattle.lr_conf.specs.Says.{is_minus_one, is_later, is_passed, is_script, is_outside, lacks_value, has_more, checks, first_fault, count_says, means, or_bad, by_form, texts, words_say, names_say, name_says, nested, script_says, directive_of, said};
+ghost use Rattle.lr_conf.specs.Says.{is_later, is_passed, is_script, is_outside, lacks_value, has_more, checks, first_fault, count_says, means, or_bad, by_form, texts, words_say, names_say, name_says, nested, script_says, directive_of, said};
 ghost use Rattle.lr_conf.specs.Forms.{form_of};
+ghost use Rattle.lr_conf.specs.declared.said.Said.TheVariants as says;
 
 use crate::form::{Form, form_of};
-use crate::name::{is_log_name, is_wildcard, kept_name};
-use crate::number::{is_number, small_number};
 use crate::row::directive_of;
 use crate::said::Said;
 use crate::set::Set;
 use lr_lex::{Item, Word};
-use lr_rules::{ConfKind, Count, Listed, Memory, Text};
+use lr_rules::{ConfKind, Listed, Memory, Text};
+use lr_values::count;
+use lr_words::{is_wildcard, log_name};
 use std::alloc::Global;
 
 // ---- faults of a line that begins with a directive
@@ -101,24 +102,12 @@ fn fault_of(
 
 // ---- meanings
 
-fn minus_one(value: &[u8]) -> bool
-    ensures { result ≡ is_minus_one value.now }
-{
-    value == b"-1".as_slice()
-}
-
 fn number_says(value: &[u8]) -> Said
     ensures { result ≡ count_says (value.now ∷ []) }
 {
-    if minus_one(value) {
-        return Said::Sets(Set::Count(Count::Always));
-    }
-    if !is_number(value) {
-        return Said::Bad(ConfKind::BadNumber);
-    }
-    match small_number(value) {
-        None => Said::Bad(ConfKind::TooLarge),
-        Some(count) => Said::Sets(Set::Count(Count::Keep(count))),
+    match count(value) {
+        Ok(count) => Said::Sets(Set::Count(count)),
+        Err(kind) => Said::Bad(kind),
     }
 }
 
@@ -185,6 +174,14 @@ fn words_say(words: Listed<Word>, inside: bool, brace: bool, stray: bool) -> Sai
     directive_says(inside, brace, stray, word.text, values.as_slice())
 }
 
+fn one_name(alloc: Global, name: Text) -> Result<Said, Memory>
+    ensures { IfOk result (λ s. s ≡ says.Names (name ∷ [])) }
+{
+    let mut names = Listed::new(alloc);
+    names.push(name)?;
+    Ok(Said::Names(names))
+}
+
 /// What a line of one name says, outside definitions.
 fn name_says(alloc: Global, name: &[u8], stray: bool) -> Result<Said, Memory>
     ensures { IfOk result (λ s. s ≡ name_says stray name.now) }
@@ -195,12 +192,10 @@ fn name_says(alloc: Global, name: &[u8], stray: bool) -> Result<Said, Memory>
     if stray {
         return Ok(Said::BadNames(ConfKind::Stray));
     }
-    if !is_log_name(alloc, name)? {
-        return Ok(Said::BadNames(ConfKind::BadPath));
+    match log_name(alloc, name)? {
+        Ok(name) => one_name(alloc, name),
+        Err(kind) => Ok(Said::BadNames(kind)),
     }
-    let mut names = Listed::new(alloc);
-    names.push(kept_name(alloc, name)?)?;
-    Ok(Said::Names(names))
 }
 
 fn names_say(alloc: Global, words: &[Word], stray: bool) -> Result<Said, Memory>

@@ -1,6 +1,0 @@
-use Rattle.std.proofs.Common.{◌≡◌, map}
-use Rattle.lr_conf.specs.Values.{behind_slashes}
-use Rattle.lr_conf.proofs.name.kept_bytes.Given as goal
-
-abbrev pub invariant-loop-part : goal.invariant-loop-part
-invariant-loop-part l = l.bytes.items ≡ behind_slashes (map (λ x. x.now) l.yielded)
