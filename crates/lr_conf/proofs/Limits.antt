@@ -1,5 +1,5 @@
 -- Each rule meets the limits of its values, whichever lines come.
-use Rattle.std.proofs.Common.{◌≡◌, ℕ, ◌≤◌, Bool, true, false, cond, not, ◌&&◌, List, [], ◌∷◌, length, Option, Some, None, Result, Ok, Err, MatchOption, nat_le, nat_lt, refl, ap, sym, ◌∙◌, arith}
+use Rattle.std.proofs.Common.{◌≡◌, ℕ, ◌≤◌, Bool, true, false, cond, ◌&&◌, List, [], ◌∷◌, Option, Some, None, Result, Ok, Err, MatchOption, nat_le, refl, ap, sym, ◌∙◌, arith}
 use Rattle.std.specs.List.{AllByRecursion as Each, list_all}
 use Rattle.std.proofs.lemmas.Bool.Decides.{nat_tests}
 use Rattle.std.proofs.lemmas.List.Elements.{recursion_from_All}
@@ -10,7 +10,7 @@ use Rattle.lr_rules.specs.declared.rule.Count.{Count}
 use Rattle.lr_rules.specs.declared.rule.Count.TheVariants as count
 use Rattle.lr_rules.specs.declared.rule.Rule.{Rule}
 use Rattle.lr_rules.specs.Match.{literal_path}
-use Rattle.lr_rules.specs.Limits.{is_path_text, can_be_log, is_literal_word, is_pattern_word, is_log_word, is_count, meets_limits}
+use Rattle.lr_rules.specs.Limits.{can_be_log, is_literal_word, is_pattern_word, is_log_word, is_count, meets_limits}
 use Rattle.lr_conf.specs.declared.draft.Draft.{Draft}
 use Rattle.lr_conf.specs.declared.stop.Include.{Include}
 use Rattle.lr_conf.specs.declared.stop.LayerStop.{LayerStop}

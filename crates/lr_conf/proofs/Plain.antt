@@ -1,5 +1,5 @@
 -- What no line can set yet has its default in each rule, and the words of a rule name logs.
-use Rattle.std.proofs.Common.{◌≡◌, ℕ, ◌≤◌, Bool, true, false, cond, not, ◌&&◌, List, [], ◌∷◌, ◌++◌, reverse, Option, Some, None, Result, Ok, Err, option_map, refl, ap, arith}
+use Rattle.std.proofs.Common.{◌≡◌, ℕ, Bool, true, false, cond, ◌&&◌, List, [], ◌∷◌, ◌++◌, reverse, Option, Some, None, Result, Ok, Err, refl, ap, arith}
 use Rattle.std.specs.List.{AllByRecursion as Each, filter_map, flat_map, list_any, find}
 use Rattle.std.proofs.lemmas.List.Elements.{All-from_recursion}
 use Rattle.std.proofs.lemmas.Bool.Decides.{nat_tests}
@@ -25,12 +25,13 @@ use Rattle.lr_conf.specs.declared.set.Set.{Set}
 use Rattle.lr_conf.specs.declared.set.Set.TheVariants as set
 use Rattle.lr_conf.specs.declared.said.Said.{Said}
 use Rattle.lr_conf.specs.declared.said.Said.TheVariants as says
+use Rattle.lr_conf.specs.Built.{is_unbuilt}
 use Rattle.lr_conf.specs.Forms.{form_of}
 use Rattle.lr_values.specs.Numbers.{count_value}
 use Rattle.lr_values.proofs.Limits.{count_meets}
 use Rattle.lr_words.specs.Names.{log_name_value}
 use Rattle.lr_words.proofs.LogNames.{of_literal}
-use Rattle.lr_conf.specs.Says.{directive_of, checks, first_fault, counted, count_says, means, or_bad, by_form, texts, words_say, named, name_says, names_say, said}
+use Rattle.lr_conf.specs.Says.{directive_of, checks, first_fault, counted, count_says, means, or_bad, by_directive, texts, words_say, named, name_says, names_say, said}
 use Rattle.lr_conf.specs.Fields.{fields_of, last_set, criterion_set, count_set, ifempty_set, olddir_set, createolddir_set, create_set, mail_set, mailfirst_set, shared_set, dated_set, names_way, undoes, way_of}
 use Rattle.lr_conf.specs.Meaning.{Line, Read, Spoiled, End, Past, stands, spoiled, file_ends, Meaning, nothing, set_of, set_past, settings, names_past, settles, pending, words_pending, first_pending, words_with, opened, opens, judged, past_of, past, has_name, before, behind, ends, drops, set_in, default_format, rule_of, of_end, of_body, of_spoilt, of_opening, meaning}
 use Rattle.lr_conf.specs.Plain.{IsLogWord, IsSmallCount, IsPlainRule}
@@ -97,9 +98,9 @@ means_ok form.Count word vs ok = count_ok vs
 means_ok (form.Plain v) word vs ok = ok
 means_ok f word vs ok = tt
 
-form_says_ok : (inside brace stray : Bool) (word : List ℕ) (vs : List (List ℕ)) (o : Option Directive) → OkSaid (by_form inside brace stray word vs (option_map form_of o))
+form_says_ok : (inside brace stray : Bool) (word : List ℕ) (vs : List (List ℕ)) (o : Option Directive) → OkSaid (by_directive inside brace stray word vs o)
 form_says_ok inside brace stray word vs None = tt
-form_says_ok inside brace stray word vs (Some d) = by (first_fault (checks inside brace stray (form_of d) vs))
+form_says_ok inside brace stray word vs (Some d) = by (first_fault (checks inside brace stray (is_unbuilt d) (form_of d) vs))
   where
     by : (o : Option ConfKind) → OkSaid (or_bad o (means (form_of d) word vs))
     by None = means_ok (form_of d) word vs (form_ok d)
@@ -110,7 +111,7 @@ words_ok true brace stray [] = tt
 words_ok false brace stray [] = tt
 words_ok inside brace stray (w ∷ ws) = by (inside && brace)
   where
-    by : (b : Bool) → OkSaid (cond b (says.Bad kind.NestedBrace) (by_form inside brace stray w.text (texts ws) (option_map form_of (directive_of w.text))))
+    by : (b : Bool) → OkSaid (cond b (says.Bad kind.NestedBrace) (by_directive inside brace stray w.text (texts ws) (directive_of w.text)))
     by true = tt
     by false = form_says_ok inside brace stray w.text (texts ws) (directive_of w.text)
 

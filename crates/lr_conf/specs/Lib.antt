@@ -1,3 +1,4 @@
+pub mod Built
 pub mod Forms
 pub mod Says
 pub mod Fields

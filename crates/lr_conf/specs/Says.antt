@@ -16,6 +16,7 @@ use Rattle.lr_conf.specs.declared.form.Form.TheVariants as form
 use Rattle.lr_conf.specs.declared.set.Set.TheVariants as set
 use Rattle.lr_conf.specs.declared.said.Said.{Said}
 use Rattle.lr_conf.specs.declared.said.Said.TheVariants as says
+use Rattle.lr_conf.specs.Built.{is_unbuilt}
 use Rattle.lr_conf.specs.Forms.{form_of}
 
 -- ---- where an item stands
@@ -49,13 +50,6 @@ abbrev pub first_fault : List (Bool × ConfKind) → Option ConfKind
 first_fault [] = None
 first_fault (check ∷ checks) = if check.0 then Some check.1 else first_fault checks
 
--- a directive that isn't built yet
-abbrev pub is_later : Form → Bool
-is_later form.Script = true
-is_later form.Outside = true
-is_later form.Later = true
-is_later f = false
-
 abbrev pub is_passed : Form → Bool
 is_passed form.Passed = true
 is_passed f = false
@@ -82,11 +76,11 @@ has_more f vs = nat_lt 0 (length vs)
 
 -- the faults of a line that begins with a directive, in the order in which they apply: behind NestedBrace and Unknown,
 -- and before those of its value
-abbrev pub checks : Bool → Bool → Bool → Form → List (List ℕ) → List (Bool × ConfKind)
-checks inside brace stray f vs =
+abbrev pub checks : Bool → Bool → Bool → Bool → Form → List (List ℕ) → List (Bool × ConfKind)
+checks inside brace stray unbuilt f vs =
     (not inside && is_script f, kind.OutsideSet) ∷
     (inside && is_outside f, kind.InsideSet) ∷
-    (is_later f, kind.NotYet) ∷
+    (unbuilt, kind.NotYet) ∷
     (lacks_value f vs, kind.MissingValue) ∷
     (brace || (stray && not (is_passed f)) || has_more f vs, kind.Stray) ∷
     []
@@ -113,9 +107,9 @@ abbrev pub or_bad : Option ConfKind → Said → Said
 or_bad None s = s
 or_bad (Some k) s = says.Bad k
 
-abbrev pub by_form : Bool → Bool → Bool → List ℕ → List (List ℕ) → Option Form → Said
-by_form inside brace stray word vs None = says.Unknown
-by_form inside brace stray word vs (Some f) = or_bad (first_fault (checks inside brace stray f vs)) (means f word vs)
+abbrev pub by_directive : Bool → Bool → Bool → List ℕ → List (List ℕ) → Option Directive → Said
+by_directive inside brace stray word vs None = says.Unknown
+by_directive inside brace stray word vs (Some d) = or_bad (first_fault (checks inside brace stray (is_unbuilt d) (form_of d) vs)) (means (form_of d) word vs)
 
 abbrev pub texts : List Word → List (List ℕ)
 texts ws = map (λ w. w.text) ws
@@ -125,7 +119,7 @@ abbrev pub words_say : Bool → Bool → Bool → List Word → Said
 words_say inside brace stray [] = if inside then says.Bad kind.NestedBrace else says.Open
 words_say inside brace stray (w ∷ ws) =
     if inside && brace then says.Bad kind.NestedBrace
-    else by_form inside brace stray w.text (texts ws) (option_map form_of (directive_of w.text))
+    else by_directive inside brace stray w.text (texts ws) (directive_of w.text)
 
 -- the name of a line, or its fault
 abbrev pub named : Result (List ℕ) ConfKind → Said

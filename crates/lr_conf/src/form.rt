@@ -23,7 +23,7 @@ pub enum Form {
     Plain(Set),
     /// No value, and nothing is set.
     Quiet,
-    /// It isn't built yet.
+    /// No form of it is read yet.
     Later,
 }
 

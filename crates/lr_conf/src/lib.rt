@@ -23,6 +23,7 @@
 //! ```
 #![tactic(auto)]
 
+mod built;
 mod draft;
 mod fields;
 mod files;

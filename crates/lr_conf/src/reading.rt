@@ -1,9 +1,10 @@
 // Reading a line by itself.
-ghost use Rattle.std.specs.Prelude.{◌≡◌, ◌∷◌, [], IfOk, MatchOption, option_map};
-ghost use Rattle.lr_conf.specs.Says.{is_later, is_passed, is_script, is_outside, lacks_value, has_more, checks, first_fault, count_says, means, or_bad, by_form, texts, words_say, names_say, name_says, nested, script_says, directive_of, said};
+ghost use Rattle.std.specs.Prelude.{◌≡◌, ◌∷◌, [], IfOk, MatchOption};
+ghost use Rattle.lr_conf.specs.Says.{is_passed, is_script, is_outside, lacks_value, has_more, checks, first_fault, count_says, means, or_bad, by_directive, texts, words_say, names_say, name_says, nested, script_says, directive_of, said};
 ghost use Rattle.lr_conf.specs.Forms.{form_of};
 ghost use Rattle.lr_conf.specs.declared.said.Said.TheVariants as says;
 
+use crate::built::is_unbuilt;
 use crate::form::{Form, form_of};
 use crate::row::directive_of;
 use crate::said::Said;
@@ -15,15 +16,6 @@ use lr_words::{is_wildcard, log_name};
 use std::alloc::Global;
 
 // ---- faults of a line that begins with a directive
-
-fn later(form: &Form) -> bool
-    ensures { result ≡ is_later form.now }
-{
-    match form {
-        Form::Script | Form::Outside | Form::Later => true,
-        _ => false,
-    }
-}
 
 fn passed(form: &Form) -> bool
     ensures { result ≡ is_passed form.now }
@@ -80,16 +72,17 @@ fn fault_of(
     inside: bool,
     brace: bool,
     stray: bool,
+    unbuilt: bool,
     form: &Form,
     values: &[Word],
 ) -> Option<ConfKind>
-    ensures { result ≡ first_fault (checks inside brace stray form.now (texts values.now)) }
+    ensures { result ≡ first_fault (checks inside brace stray unbuilt form.now (texts values.now)) }
 {
     if !inside && script(form) {
         Some(ConfKind::OutsideSet)
     } else if inside && outside(form) {
         Some(ConfKind::InsideSet)
-    } else if later(form) {
+    } else if unbuilt {
         Some(ConfKind::NotYet)
     } else if lacks_value(form, values) {
         Some(ConfKind::MissingValue)
@@ -145,13 +138,13 @@ fn split_first(words: Vec<Word>) -> Option<(Word, Vec<Word>)>
 }
 
 fn directive_says(inside: bool, brace: bool, stray: bool, word: Text, values: &[Word]) -> Said
-    ensures { result ≡ by_form inside brace stray word (texts values.now) (option_map form_of (directive_of word)) }
+    ensures { result ≡ by_directive inside brace stray word (texts values.now) (directive_of word) }
 {
     let Some(directive) = directive_of(word.bytes()) else {
         return Said::Unknown;
     };
     let form = form_of(directive);
-    match fault_of(inside, brace, stray, &form, values) {
+    match fault_of(inside, brace, stray, is_unbuilt(directive), &form, values) {
         Some(kind) => Said::Bad(kind),
         None => means(form, word, values),
     }
