@@ -14,47 +14,56 @@ use Rattle.lr_host.specs.Told.{IsWriters, CanCall}
 use Rattle.lr_host.proofs.Names.{put_here, put_other}
 use Rattle.lr_host.proofs.Looked.{nothing_no_file, nothing_no_dir, file_no_dir}
 
+-- the second names at this path what the first do, or a file where they name nothing
+abbrev pub IsMoreAt : Path → Names → Names → Type 0
+IsMoreAt y n n' = (n' y ≡ n y) ⊎ ((n y ≡ thing.Nothing) × IsFileAt n' y)
+
 -- names that differ by files alone that writers made
 abbrev pub IsMore : Names → Names → Type 0
-IsMore n n' = (y : Path) → (n' y ≡ n y) ⊎ ((n y ≡ thing.Nothing) × IsFileAt n' y)
+IsMore n n' = (y : Path) → IsMoreAt y n n'
 
 -- a path that names a file names that file still
-pub file_same : (n n' : Names) (x : Path) → IsMore n n' → IsFileAt n x → n' x ≡ n x
-file_same n n' x h f = ⊎_elim (λ same. same) (λ new. absurd (nothing_no_file (n x) f.0 new.0 f.1)) (h x)
+pub file_at : (n n' : Names) (x : Path) → IsMoreAt x n n' → IsFileAt n x → n' x ≡ n x
+file_at n n' x h f = ⊎_elim (λ same. same) (λ new. absurd (nothing_no_file (n x) f.0 new.0 f.1)) h
 
-pub moved_more : (n n' : Names) (x z : Path) → IsFileAt n x → IsMore n n' → IsMore (changed (Moves x z) n) (changed (Moves x z) n')
-moved_more n n' x z f h y = at_to (bytes_eq z y)
+pub file_same : (n n' : Names) (x : Path) → IsMore n n' → IsFileAt n x → n' x ≡ n x
+file_same n n' x h f = file_at n n' x (h x) f
+
+pub moved_at : (n n' : Names) (x z y : Path) → n' x ≡ n x → IsMoreAt y n n' → IsMoreAt y (changed (Moves x z) n) (changed (Moves x z) n')
+moved_at n n' x z y same h = at_to (bytes_eq z y)
   where
     at_from : (b : Bool) → (cond b thing.Nothing (n' y) ≡ cond b thing.Nothing (n y)) ⊎ ((cond b thing.Nothing (n y) ≡ thing.Nothing) × ((g : ℕ) × (cond b thing.Nothing (n' y) ≡ thing.File g)))
     at_from true = inl refl
-    at_from false = h y
+    at_from false = h
 
     at_to : (b : Bool) → (cond b (n' x) (put n' x thing.Nothing y) ≡ cond b (n x) (put n x thing.Nothing y)) ⊎ ((cond b (n x) (put n x thing.Nothing y) ≡ thing.Nothing) × ((g : ℕ) × (cond b (n' x) (put n' x thing.Nothing y) ≡ thing.File g)))
-    at_to true = inl (file_same n n' x h f)
+    at_to true = inl same
     at_to false = at_from (bytes_eq x y)
 
-pub dropped_more : (n n' : Names) (x : Path) → IsMore n n' → IsMore (changed (Drops x) n) (changed (Drops x) n')
-dropped_more n n' x h y = go (bytes_eq x y)
-  where
-    go : (b : Bool) → (cond b thing.Nothing (n' y) ≡ cond b thing.Nothing (n y)) ⊎ ((cond b thing.Nothing (n y) ≡ thing.Nothing) × ((g : ℕ) × (cond b thing.Nothing (n' y) ≡ thing.File g)))
-    go true = inl refl
-    go false = h y
-
-pub more_on : (n n' n'' : Names) → IsMore n n' → IsMore n' n'' → IsMore n n''
-more_on n n' n'' a b y = go (a y) (b y)
-  where
-    go : (n' y ≡ n y) ⊎ ((n y ≡ thing.Nothing) × IsFileAt n' y) → (n'' y ≡ n' y) ⊎ ((n' y ≡ thing.Nothing) × IsFileAt n'' y) → (n'' y ≡ n y) ⊎ ((n y ≡ thing.Nothing) × IsFileAt n'' y)
-    go (inl p) (inl q) = inl (q ∙ p)
-    go (inl p) (inr q) = inr (sym p ∙ q.0, q.1)
-    go (inr p) (inl q) = inr (p.0, (p.1.0, q ∙ p.1.1))
-    go (inr p) (inr q) = inr (p.0, q.1)
-
-pub put_more : (n n' : Names) (x : Path) (t : Thing) → IsMore n n' → IsMore (changed (Puts x t) n) (changed (Puts x t) n')
-put_more n n' x t h y = go (bytes_eq x y)
+pub put_at : (n n' : Names) (x : Path) (t : Thing) (y : Path) → IsMoreAt y n n' → IsMoreAt y (put n x t) (put n' x t)
+put_at n n' x t y h = go (bytes_eq x y)
   where
     go : (b : Bool) → (cond b t (n' y) ≡ cond b t (n y)) ⊎ ((cond b t (n y) ≡ thing.Nothing) × ((g : ℕ) × (cond b t (n' y) ≡ thing.File g)))
     go true = inl refl
-    go false = h y
+    go false = h
+
+pub more_at_on : (n n' n'' : Names) (y : Path) → IsMoreAt y n n' → IsMoreAt y n' n'' → IsMoreAt y n n''
+more_at_on n n' n'' y (inl p) (inl q) = inl (q ∙ p)
+more_at_on n n' n'' y (inl p) (inr q) = inr (sym p ∙ q.0, q.1)
+more_at_on n n' n'' y (inr p) (inl q) = inr (p.0, (p.1.0, q ∙ p.1.1))
+more_at_on n n' n'' y (inr p) (inr q) = inr (p.0, q.1)
+
+pub moved_more : (n n' : Names) (x z : Path) → IsFileAt n x → IsMore n n' → IsMore (changed (Moves x z) n) (changed (Moves x z) n')
+moved_more n n' x z f h y = moved_at n n' x z y (file_same n n' x h f) (h y)
+
+pub dropped_more : (n n' : Names) (x : Path) → IsMore n n' → IsMore (changed (Drops x) n) (changed (Drops x) n')
+dropped_more n n' x h y = put_at n n' x thing.Nothing y (h y)
+
+pub put_more : (n n' : Names) (x : Path) (t : Thing) → IsMore n n' → IsMore (changed (Puts x t) n) (changed (Puts x t) n')
+put_more n n' x t h y = put_at n n' x t y (h y)
+
+pub more_on : (n n' n'' : Names) → IsMore n n' → IsMore n' n'' → IsMore n n''
+more_on n n' n'' a b y = more_at_on n n' n'' y (a y) (b y)
 
 pub made_more : (n : Names) (x : Path) (g : ℕ) → n x ≡ thing.Nothing → IsMore n (changed (Puts x (thing.File g)) n)
 made_more n x g free y = go (bytes_eq x y) refl
@@ -63,8 +72,11 @@ made_more n x g free y = go (bytes_eq x y) refl
     go true e = inr (ap n (sym ((bytes_eq-Decides x y).0 e)) ∙ free, (g, refl))
     go false e = inl refl
 
+pub directory_at : (n n' : Names) (x : Path) → IsMoreAt x n n' → IsDirectoryAt n x → IsDirectoryAt n' x
+directory_at n n' x h d = ⊎_elim (λ same. same ∙ d) (λ new. absurd (nothing_no_dir (n x) new.0 d)) h
+
 pub directory_more : (n n' : Names) (x : Path) → IsMore n n' → IsDirectoryAt n x → IsDirectoryAt n' x
-directory_more n n' x more d = ⊎_elim (λ same. same ∙ d) (λ new. absurd (nothing_no_dir (n x) new.0 d)) (more x)
+directory_more n n' x more d = directory_at n n' x (more x) d
 
 pub file_more : (n n' : Names) (x : Path) → IsMore n n' → IsFileAt n x → IsFileAt n' x
 file_more n n' x more f = (f.0, file_same n n' x more f ∙ f.1)
@@ -76,8 +88,11 @@ dir_before n n' x more d = ⊎_elim (λ same. sym same ∙ d) (λ new. absurd (f
 pub nothing_before : (n n' : Names) (x : Path) → IsMore n n' → n' x ≡ thing.Nothing → n x ≡ thing.Nothing
 nothing_before n n' x more e = ⊎_elim (λ same. sym same ∙ e) (λ new. new.0) (more x)
 
+pub not_at : (n n' : Names) (x : Path) (t : Thing) → IsMoreAt x n n' → ((g : ℕ) → thing.File g ≡ t → ⊥) → n x ≢ t → n' x ≢ t
+not_at n n' x t h nf ne is = ⊎_elim (λ same. ne (sym same ∙ is)) (λ new. nf new.1.0 (sym new.1.1 ∙ is)) h
+
 pub not_more : (n n' : Names) (x : Path) (t : Thing) → IsMore n n' → ((g : ℕ) → thing.File g ≡ t → ⊥) → n x ≢ t → n' x ≢ t
-not_more n n' x t more nf ne is = ⊎_elim (λ same. ne (sym same ∙ is)) (λ new. nf new.1.0 (sym new.1.1 ∙ is)) (more x)
+not_more n n' x t more nf ne is = not_at n n' x t (more x) nf ne is
 
 -- a call that fits the names still fits where files were made
 pub can_more : (n n' : Names) (e : Entry) → IsMore n n' → CanCall n e → CanCall n' e

@@ -122,12 +122,12 @@ since_any p _ _ (by_tool {es = es} {q = q} {e = e} m i f) = further (since_any p
     any _ = tt
 
 -- how many entries there are
-abbrev size : Past → ℕ
+abbrev pub size : Past → ℕ
 size (Opens o) = 0
 size (p ▸ e) = size p + 1
 
 -- what goes on isn't shorter
-made_size : (p q : Past) (es : List Entry) → Made p es q → size p ≤ size q
+pub made_size : (p q : Past) (es : List Entry) → Made p es q → size p ≤ size q
 made_size p _ _ at_first = omega arith
 made_size p _ es (by_writer {q = q} m i f) = let r = made_size p q es m in omega arith
 made_size p _ _ (by_tool {es = es} {q = q} m i f) = let r = made_size p q es m in omega arith

@@ -1,9 +1,8 @@
 -- The worked examples over two runs are steady, and one in which the machine stops is safe.
-use Rattle.std.proofs.Common.{◌≡◌, ◌≢◌, ◌⊎◌, inl, inr, ℕ, arith, refl, sym, ◌∙◌, ap, subst, Some, None, [], ◌∷◌, pos}
+use Rattle.std.proofs.Common.{◌≡◌, inl, arith, refl, subst, Some, None, [], ◌∷◌, pos}
 use Rattle.std.specs.Prelude.{codes}
 use Rattle.lr_rules.specs.declared.path.Path.{Path}
 use Rattle.lr_rules.specs.declared.civil.Moment.{Moment}
-use Rattle.lr_host.specs.declared.entry.Entry.{Entry}
 use Rattle.lr_host.specs.declared.entry.Entry.TheVariants.{Starts, Ends, Attach, Feed, Look, Renames, Unlinks, Cut}
 use Rattle.lr_host.specs.World.{Past, Opens, ◌▸◌, world}
 use Rattle.lr_host.specs.Fits.{Fits}

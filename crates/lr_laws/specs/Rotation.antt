@@ -6,6 +6,7 @@ use Rattle.lr_host.specs.declared.thing.Thing.TheVariants as thing
 use Rattle.lr_host.specs.declared.entry.Entry.{Entry}
 use Rattle.lr_host.specs.declared.entry.Entry.TheVariants.{Attach, Feed, Flush, Detach, Starts, Renames, Makes, Unlinks, Cut}
 use Rattle.lr_host.specs.World.{Names, Past, world, names, names_after}
+use Rattle.lr_host.specs.Fits.{IsFileAt}
 use Rattle.lr_host.specs.Steps.{changes_of}
 use Rattle.lr_host.specs.Sets.{LogSet}
 use Rattle.lr_host.specs.Runs.{rules_of, SomeRule}
@@ -53,3 +54,8 @@ IsAside s e = IsElsewhere s e
 abbrev pub IsRotation : LogSet → Past → ℕ → List Entry → Type 0
 IsRotation s p limit [] = Unit {0}
 IsRotation s p limit (e ∷ es) = IsRotation s p limit es × (IsAside s e ⊎ IsStep s p (limit_after s limit es) (names_after (names (world p)) (changes_of es)) e)
+
+-- the log's path names a file where one of these entries, the newest first, renames it
+abbrev pub LogFits : LogSet → Names → List Entry → Type 0
+LogFits s n [] = Unit {0}
+LogFits s n (e ∷ es) = LogFits s n es × ((to : Path) → e ≡ Renames s.log to → IsFileAt (names_after n (changes_of es)) s.log)

@@ -10,9 +10,9 @@ ghost use Rattle.lr_host.specs.Sets.{LogSet, Numbered, order};
 ghost use Rattle.lr_host.specs.Safe.{IsSafe, IsMachines};
 ghost use Rattle.lr_host.specs.Steady.{IsSteady, NoneAttached};
 ghost use Rattle.lr_laws.specs.Follow.{MayFollow};
-ghost use Rattle.lr_host.specs.Steps.{FitChanges, CanAll, Took};
+ghost use Rattle.lr_host.specs.Steps.{CanAll, Took};
 ghost use Rattle.lr_laws.specs.Room.{IsReady};
-ghost use Rattle.lr_laws.specs.Rotation.{IsRotation, IsAside};
+ghost use Rattle.lr_laws.specs.Rotation.{IsRotation, IsAside, LogFits};
 ghost use Rattle.lr_laws.specs.Stays.{StaysSafe, Rotates};
 ghost use Rattle.lr_host.specs.declared.journal.Journal.{Journal};
 ghost use Rattle.lr_host.specs.Quiet.{ChangesNothing};
@@ -43,10 +43,11 @@ pub fn cut_stays_safe()
 {}
 
 /// So it is behind the entries of one rotation of a numbered set, with entries aside and writers' entries between them:
-/// members below the limit move up, highest place first, then the log; those past the count or too old go.
+/// members below the limit move up, highest place first, then the log, which is a file there; those past the count or too
+/// old go. Of the entries aside nothing else is asked.
 pub fn rotation_stays_safe()
     ensures { (s : LogSet) (p q : Past) (limit : ℕ) (es : List Entry) → order s ≡ Numbered → IsJournal p → IsSafe s p
-        → IsReady s p limit → Made p es q → FitChanges (names (world p)) es → IsRotation s p limit es → NoneAttached s q → IsSafe s q }
+        → IsReady s p limit → Made p es q → LogFits s (names (world p)) es → IsRotation s p limit es → NoneAttached s q → IsSafe s q }
 {}
 
 /// So it is behind entries of the tool on no path of the set, with writers' entries between them; of numbered and dated sets.
