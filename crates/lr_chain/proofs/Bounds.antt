@@ -1,5 +1,5 @@
 -- The numbers of members, and of what stands behind them, are low enough.
-use Rattle.std.proofs.Common.{◌≡◌, ℕ, ◌+◌, ◌==◌, ◌<◌, ◌≤◌, Bool, true, false, List, [], ◌∷◌, length, get_or, map, reverse, refl, sym, ap, ◌∙◌, subst, arith, eqb-true, eq-eqb}
+use Rattle.std.proofs.Common.{◌≡◌, ℕ, ◌+◌, ◌-◌, ◌==◌, ◌<◌, ◌≤◌, Bool, true, false, List, [], ◌∷◌, length, get_or, map, reverse, refl, sym, ap, ◌∙◌, subst, arith, eqb-true, eq-eqb}
 use Rattle.std.specs.Prelude.{All, Any, nat_le, ◌↔◌}
 use Rattle.std.specs.List.{list_any}
 use Rattle.std.proofs.lemmas.Bool.Decides.{nat_tests}
@@ -19,6 +19,16 @@ use Rattle.lr_family.specs.Stands.{number_in}
 use Rattle.lr_chain.specs.Rotation.{places_of, is_left}
 use Rattle.lr_chain.specs.Ready.{HaveNames, HaveNext, IsCount, NoneTooHigh, HasTooHigh, IsTooHigh, is_highest, highest_path}
 use Rattle.lr_chain.proofs.Highest.{path_is}
+
+-- the highest place that the count allows
+abbrev pub top_of : Naming → Count → ℕ
+top_of n (count.Keep k) = k
+top_of n count.Always = 4294967295 - n.start
+
+-- it has a name where a rule may have the count
+pub top_number : (n : Naming) (c : Count) → n.start ≤ 999999 → IsCount c → n.start + top_of n c ≤ 4294967295
+top_number n (count.Keep k) start small = omega arith
+top_number n count.Always start small = omega arith
 
 pub all_reverse : (P : ℕ → Type 0) (xs : List ℕ) → All P xs → All P (reverse xs)
 all_reverse P [] h = h

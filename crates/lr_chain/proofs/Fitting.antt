@@ -23,8 +23,8 @@ use Rattle.lr_family.specs.Spots.{path_at}
 use Rattle.lr_family.proofs.Numbers.{Every, Falls, every_as, every_both, every_filter, every_passes, every_from, falls_filter, IsHead, in_or_not}
 use Rattle.lr_family.proofs.Paths.{places_apart, log_apart, stands_in}
 use Rattle.lr_chain.specs.Rotation.{is_left, leftovers, kept, unlink_at, move_at, shift_steps, retire_steps, rotation}
-use Rattle.lr_chain.specs.Ready.{IsCount}
 use Rattle.lr_chain.specs.Standing.{StandSo}
+use Rattle.lr_chain.proofs.Bounds.{top_of}
 use Rattle.lr_chain.proofs.Falling.{kept_head}
 
 -- the first of them first
@@ -140,15 +140,15 @@ module _ (log : Path) (n : Naming) (kin : IsKin log n) (numbered : n.dated ≡ N
       at_top h false e (inr s) = absurd (let t : (p == top) ≡ true = eq-eqb p top s in cc)
 
   -- the log's rename, and the member that is one too many behind it
-  last_fits : (m : Names) (c : Count) (places : List ℕ) → IsCount c → n.start ≤ 999999 → Free m → ((k : ℕ) → c ≡ count.Keep (suc k) → list_any (λ p. p == k) places ≡ true → IsFileAt m (path_at n (suc k)))
+  last_fits : (m : Names) (c : Count) (places : List ℕ) → IsNumber (top_of n c) → Free m → ((k : ℕ) → c ≡ count.Keep (suc k) → list_any (λ p. p == k) places ≡ true → IsFileAt m (path_at n (suc k)))
       → FitOn m (entry.Renames log (path_at n 0) ∷ retire_steps n c places)
-  last_fits m c places small start r top = (
+  last_fits m c places small r top = (
     (r.log_file, (r.free 0 first).0, (r.free 0 first).1, ap m (stands_in log n 0 kin dir_path first) ∙ r.dir, log_apart log n 0 kin numbered first),
     last c small top,
   )
     where
       first : IsNumber 0
-      first = omega arith
+      first = omega (arith, small)
 
       gone : Names
       gone = put m log thing.Nothing
@@ -156,13 +156,13 @@ module _ (log : Path) (n : Naming) (kin : IsKin log n) (numbered : n.dated ≡ N
       after : Names
       after = put gone (path_at n 0) (m log)
 
-      last : (c : Count) → IsCount c → ((k : ℕ) → c ≡ count.Keep (suc k) → list_any (λ p. p == k) places ≡ true → IsFileAt m (path_at n (suc k))) → FitOn after (retire_steps n c places)
+      last : (c : Count) → IsNumber (top_of n c) → ((k : ℕ) → c ≡ count.Keep (suc k) → list_any (λ p. p == k) places ≡ true → IsFileAt m (path_at n (suc k))) → FitOn after (retire_steps n c places)
       last count.Always small top = tt
       last (count.Keep zero) small top = ((r.log_file.0, put_here gone (path_at n 0) (path_at n 0) (m log) refl ∙ r.log_file.1), tt)
       last (count.Keep (suc k)) small top = go (list_any (λ p. p == k) places) refl
         where
           number : IsNumber (suc k)
-          number = omega arith
+          number = small
 
           apart : path_at n (suc k) ≡ path_at n 0 → ⊥
           apart e = let same : suc k ≡ 0 = places_apart n (suc k) 0 number first e in omega (arith, same)
@@ -193,19 +193,19 @@ module _ (log : Path) (n : Naming) (kin : IsKin log n) (numbered : n.dated ≡ N
       stay : Every (λ k. is_left c k ≡ false) (kept c places)
       stay = every_as (λ k. not (is_left c k) ≡ true) (λ k. is_left c k ≡ false) (kept c places) (λ k e. stays (is_left c k) e) (every_passes (λ k. not (is_left c k)) places)
 
-  by_count : (m : Names) (c : Count) (places : List ℕ) → IsCount c → n.start ≤ 999999 → Falls places → Every IsNumber places → Every (λ k. IsNumber (k + 1)) (kept c places) → Free m → Stand m places → FitOn m (rotation n c log places)
-  by_count m count.Always places small start falls within next r stand =
-      whole m count.Always places 0 ⊥ falls within next r stand (λ h. absurd h) (λ h. absurd h) (λ h. absurd h) (λ m' r' f. last_fits m' count.Always places small start r' (λ k e. absurd (cc)))
-  by_count m (count.Keep zero) places small start falls within next r stand =
-      whole m (count.Keep zero) places 0 ⊥ falls within next r stand (λ h. absurd h) (λ h. absurd h) (λ h. absurd h) (λ m' r' f. last_fits m' (count.Keep zero) places small start r' (λ k e. absurd (zero_no k e)))
+  by_count : (m : Names) (c : Count) (places : List ℕ) → IsNumber (top_of n c) → Falls places → Every IsNumber places → Every (λ k. IsNumber (k + 1)) (kept c places) → Free m → Stand m places → FitOn m (rotation n c log places)
+  by_count m count.Always places small falls within next r stand =
+      whole m count.Always places 0 ⊥ falls within next r stand (λ h. absurd h) (λ h. absurd h) (λ h. absurd h) (λ m' r' f. last_fits m' count.Always places small r' (λ k e. absurd (cc)))
+  by_count m (count.Keep zero) places small falls within next r stand =
+      whole m (count.Keep zero) places 0 ⊥ falls within next r stand (λ h. absurd h) (λ h. absurd h) (λ h. absurd h) (λ m' r' f. last_fits m' (count.Keep zero) places small r' (λ k e. absurd (zero_no k e)))
     where
       zero_no : (k : ℕ) → count.Keep zero ≡ count.Keep (suc k) → ⊥
       zero_no k e = let same : zero ≡ suc k = cc in omega (arith, same)
-  by_count m (count.Keep (suc top)) places small start falls within next r stand =
-      whole m (count.Keep (suc top)) places top (list_any (λ p. p == top) places ≡ true) falls within next r stand (λ h. low) (λ h. number) (kept_head top places falls) (λ m' r' f. last_fits m' (count.Keep (suc top)) places small start r' (λ k e h. at_last m' f k e h))
+  by_count m (count.Keep (suc top)) places small falls within next r stand =
+      whole m (count.Keep (suc top)) places top (list_any (λ p. p == top) places ≡ true) falls within next r stand (λ h. low) (λ h. number) (kept_head top places falls) (λ m' r' f. last_fits m' (count.Keep (suc top)) places small r' (λ k e h. at_last m' f k e h))
     where
       number : IsNumber (top + 1)
-      number = omega arith
+      number = omega (arith, small)
 
       upto : (k : ℕ) → not (nat_le (suc top) k) ≡ true → k ≤ top
       upto k h = grind (arith, nat_tests)
@@ -228,10 +228,10 @@ module _ (log : Path) (n : Naming) (kin : IsKin log n) (numbered : n.dated ≡ N
       go k i (inr none) = ((λ e. let t = s.others k i none in cc), (λ e. let t = s.others k i none in cc))
 
   -- the whole rotation fits
-  pub rotation_fits : (m : Names) (c : Count) (places : List ℕ) → IsCount c → n.start ≤ 999999 → Falls places → Every IsNumber places → Every (λ k. is_left c k ≡ false → IsNumber (k + 1)) places → StandSo log n places m → FitAll m (reverse (rotation n c log places))
-  rotation_fits m c places small start falls within next s =
+  pub rotation_fits : (m : Names) (c : Count) (places : List ℕ) → IsNumber (top_of n c) → Falls places → Every IsNumber places → Every (λ k. is_left c k ≡ false → IsNumber (k + 1)) places → StandSo log n places m → FitAll m (reverse (rotation n c log places))
+  rotation_fits m c places small falls within next s =
       subst (λ (xs : List Entry). FitAll m xs) (append-nil (reverse (rotation n c log places)))
-      (fit_behind m [] (rotation n c log places) tt (by_count m c places small start falls within kept_next (free_so m places s) (every_from (λ k. IsFileAt m (path_at n k)) places s.members)))
+      (fit_behind m [] (rotation n c log places) tt (by_count m c places small falls within kept_next (free_so m places s) (every_from (λ k. IsFileAt m (path_at n k)) places s.members)))
     where
       stays : (b : Bool) → not b ≡ true → b ≡ false
       stays true e = absurd (cc)

@@ -19,9 +19,9 @@ use Rattle.lr_family.specs.Spots.{path_at}
 use Rattle.lr_family.proofs.Numbers.{Every, Falls, every_as, every_both, every_filter, every_passes, falls_filter, among}
 use Rattle.lr_family.proofs.Paths.{places_apart, log_apart}
 use Rattle.lr_chain.specs.Rotation.{is_left, leftovers, kept, unlink_at, move_at, leftover_steps, shift_steps, turn_steps, retire_steps, rotation}
-use Rattle.lr_chain.specs.Ready.{IsCount}
 use Rattle.lr_chain.specs.Standing.{StandSo}
 use Rattle.lr_chain.specs.Turning.{turned, IsTurned}
+use Rattle.lr_chain.proofs.Bounds.{top_of}
 use Rattle.lr_chain.proofs.Has.{has, has_below, has_next, has_filter, has_none, order}
 
 -- the names behind these entries, the first of them first
@@ -48,7 +48,7 @@ run_both : (m : Names) (es fs : List Entry) → run m (es ++ fs) ≡ run (run m 
 run_both m [] fs = refl
 run_both m (e ∷ es) fs = run_both (names_after m (changes_of (e ∷ []))) es fs
 
-module _ (log : Path) (n : Naming) (kin : IsKin log n) (numbered : n.dated ≡ None) (start : n.start ≤ 999999) where
+module _ (log : Path) (n : Naming) (kin : IsKin log n) (numbered : n.dated ≡ None) where
   abbrev IsNumber : ℕ → Type 0
   IsNumber k = n.start + k ≤ 4294967295
 
@@ -151,15 +151,6 @@ module _ (log : Path) (n : Naming) (kin : IsKin log n) (numbered : n.dated ≡ N
   moves_aside m [] x a b o = refl
   moves_aside m (p ∷ ks) x a b o = moves_aside (moved m p) ks x a.1 b.1 o ∙ (aside (put m (path_at n p) thing.Nothing) (p + 1) (m (path_at n p)) x b.0 o ∙ aside m p thing.Nothing x a.0 o)
 
-  -- the place up to which members can be
-  abbrev top_of : Count → ℕ
-  top_of (count.Keep k) = k
-  top_of count.Always = 4294967295 - n.start
-
-  top_number : (c : Count) → IsCount c → IsNumber (top_of c)
-  top_number (count.Keep k) small = omega arith
-  top_number count.Always small = omega arith
-
   left_is : (t k : ℕ) → t ≤ k → nat_le t k ≡ true
   left_is t k le = grind (arith, nat_tests)
 
@@ -169,15 +160,15 @@ module _ (log : Path) (n : Naming) (kin : IsKin log n) (numbered : n.dated ≡ N
   below_count : (t k : ℕ) → nat_le t k ≡ false → k < t
   below_count t k e = grind (arith, nat_tests)
 
-  kept_below : (c : Count) (k : ℕ) → k < top_of c → is_left c k ≡ false
+  kept_below : (c : Count) (k : ℕ) → k < top_of n c → is_left c k ≡ false
   kept_below (count.Keep t) k lt = kept_is t k lt
   kept_below count.Always k lt = refl
 
-  stays_below : (c : Count) (k : ℕ) → is_left c k ≡ false → IsNumber (k + 1) → k < top_of c
+  stays_below : (c : Count) (k : ℕ) → is_left c k ≡ false → IsNumber (k + 1) → k < top_of n c
   stays_below (count.Keep t) k e i = below_count t k e
   stays_below count.Always k e i = omega (arith, i)
 
-  module _ (m : Names) (c : Count) (places : List ℕ) (small : IsCount c) (falls : Falls places) (within : Every IsNumber places) (next : Every (λ k. is_left c k ≡ false → IsNumber (k + 1)) places) (s : StandSo log n places m) where
+  module _ (m : Names) (c : Count) (places : List ℕ) (small : IsNumber (top_of n c)) (falls : Falls places) (within : Every IsNumber places) (next : Every (λ k. is_left c k ≡ false → IsNumber (k + 1)) places) (s : StandSo log n places m) where
     abbrev dropped : Names
     dropped = run m (leftover_steps n c places)
 
@@ -194,7 +185,7 @@ module _ (log : Path) (n : Naming) (kin : IsKin log n) (numbered : n.dated ≡ N
     gap : (k : ℕ) → IsNumber k → has k places ≡ false → m (path_at n k) ≡ thing.Nothing
     gap k i e = s.others k i (λ h. has_none k places e h)
 
-    low : (k : ℕ) → IsNumber k → k < top_of c → dropped (path_at n k) ≡ m (path_at n k)
+    low : (k : ℕ) → IsNumber k → k < top_of n c → dropped (path_at n k) ≡ m (path_at n k)
     low k i lt = is_dropped k i ∙ go (is_left c k) (kept_below c k lt) (has k places)
       where
         go : (b : Bool) → b ≡ false → (h : Bool) → cond (b && h) thing.Nothing (m (path_at n k)) ≡ m (path_at n k)
@@ -202,7 +193,7 @@ module _ (log : Path) (n : Naming) (kin : IsKin log n) (numbered : n.dated ≡ N
         go false e h = refl
 
     -- from the top on a member is left out, or none is there
-    out_or_none : (c : Count) → Every (λ k. is_left c k ≡ false → IsNumber (k + 1)) places → (k : ℕ) → top_of c ≤ k → (is_left c k ≡ true) ⊎ (has k places ≡ false)
+    out_or_none : (c : Count) → Every (λ k. is_left c k ≡ false → IsNumber (k + 1)) places → (k : ℕ) → top_of n c ≤ k → (is_left c k ≡ true) ⊎ (has k places ≡ false)
     out_or_none (count.Keep t) next k le = inl (left_is t k le)
     out_or_none count.Always next k le = inr (go (has k places) refl)
       where
@@ -210,7 +201,7 @@ module _ (log : Path) (n : Naming) (kin : IsKin log n) (numbered : n.dated ≡ N
         go true e = let i : IsNumber (k + 1) = among k places (λ j. is_left count.Always j ≡ false → IsNumber (j + 1)) e next refl in absurd (omega (arith, i, le))
         go false e = e
 
-    high : (k : ℕ) → IsNumber k → top_of c ≤ k → dropped (path_at n k) ≡ thing.Nothing
+    high : (k : ℕ) → IsNumber k → top_of n c ≤ k → dropped (path_at n k) ≡ thing.Nothing
     high k i le = is_dropped k i ∙ ⊎_elim (λ left. by_left (is_left c k) left (has k places) refl) (λ none. by_none (is_left c k) (has k places) none) (out_or_none c next k le)
       where
         by_left : (b : Bool) → b ≡ true → (h : Bool) → has k places ≡ h → cond (b && h) thing.Nothing (m (path_at n k)) ≡ thing.Nothing
@@ -223,14 +214,14 @@ module _ (log : Path) (n : Naming) (kin : IsKin log n) (numbered : n.dated ≡ N
         by_none true false e = gap k i e
         by_none false h e = gap k i e
 
-    gaps : AreGaps (top_of c) (kept c places) dropped
-    gaps k i le none = ⊎_elim (λ lt. low k i lt ∙ gap k i (lower lt)) (λ rest. high k i (⊎_elim (λ e. omega (arith, e)) (λ over. omega (arith, over)) rest)) (order k (top_of c))
+    gaps : AreGaps (top_of n c) (kept c places) dropped
+    gaps k i le none = ⊎_elim (λ lt. low k i lt ∙ gap k i (lower lt)) (λ rest. high k i (⊎_elim (λ e. omega (arith, e)) (λ over. omega (arith, over)) rest)) (order k (top_of n c))
       where
         unfiltered : (b h : Bool) → b ≡ false → (not b && h) ≡ false → h ≡ false
         unfiltered true h e f = absurd (cc)
         unfiltered false h e f = f
 
-        lower : k < top_of c → has k places ≡ false
+        lower : k < top_of n c → has k places ≡ false
         lower lt = unfiltered (is_left c k) (has k places) (kept_below c k lt) (sym (has_filter (λ j. not (is_left c j)) k places) ∙ none)
 
     not_left : (b : Bool) → not b ≡ true → b ≡ false
@@ -241,18 +232,18 @@ module _ (log : Path) (n : Naming) (kin : IsKin log n) (numbered : n.dated ≡ N
     kept_next = every_both (λ k. not (is_left c k) ≡ true) (λ k. is_left c k ≡ false → IsNumber (k + 1)) (λ k. IsNumber (k + 1)) (kept c places) (λ k e f. f (not_left (is_left c k) e))
         (every_passes (λ k. not (is_left c k)) places) (every_filter (λ k. is_left c k ≡ false → IsNumber (k + 1)) (λ k. not (is_left c k)) places next)
 
-    kept_low : Every (λ k. k < top_of c) (kept c places)
-    kept_low = every_both (λ k. not (is_left c k) ≡ true) (λ k. IsNumber (k + 1)) (λ k. k < top_of c) (kept c places) (λ k e i. stays_below c k (not_left (is_left c k) e) i)
+    kept_low : Every (λ k. k < top_of n c) (kept c places)
+    kept_low = every_both (λ k. not (is_left c k) ≡ true) (λ k. IsNumber (k + 1)) (λ k. k < top_of n c) (kept c places) (λ k e i. stays_below c k (not_left (is_left c k) e) i)
         (every_passes (λ k. not (is_left c k)) places) kept_next
 
-    is_shifted : Shifted (top_of c) dropped shifted
-    is_shifted = shifts dropped (top_of c) (kept c places) (top_number c small) kept_low (falls_filter (λ k. not (is_left c k)) places falls) gaps
+    is_shifted : Shifted (top_of n c) dropped shifted
+    is_shifted = shifts dropped (top_of n c) (kept c places) small kept_low (falls_filter (λ k. not (is_left c k)) places falls) gaps
 
     aside_shifted : (x : Path) → IsOther x → shifted x ≡ m x
     aside_shifted x o = moves_aside dropped (kept c places) x (every_filter IsNumber (λ k. not (is_left c k)) places within) kept_next o ∙ drops_aside m (leftovers c places) x (every_filter IsNumber (is_left c) places within) o
 
     first : IsNumber 0
-    first = omega arith
+    first = omega (arith, small)
 
     renamed_first : renamed (path_at n 0) ≡ m log
     renamed_first = put_here (put shifted log thing.Nothing) (path_at n 0) (path_at n 0) (shifted log) refl ∙ aside_shifted log log_other
@@ -267,20 +258,20 @@ module _ (log : Path) (n : Naming) (kin : IsKin log n) (numbered : n.dated ≡ N
     renamed_other x ne o = put_other (put shifted log thing.Nothing) (path_at n 0) x (shifted log) (λ e. o 0 first e) ∙ (put_other shifted log x thing.Nothing ne ∙ aside_shifted x o)
 
     -- one place up, and nothing above the top
-    renamed_up : (k : ℕ) → IsNumber (suc k) → k < top_of c → renamed (path_at n (suc k)) ≡ m (path_at n k)
+    renamed_up : (k : ℕ) → IsNumber (suc k) → k < top_of n c → renamed (path_at n (suc k)) ≡ m (path_at n k)
     renamed_up k i lt = renamed_member k i ∙ (subst (λ (j : ℕ). shifted (path_at n j) ≡ dropped (path_at n k)) one (is_shifted.up k (omega (arith, i)) lt) ∙ low k (omega (arith, i)) lt)
       where
         one : k + 1 ≡ suc k
         one = omega arith
 
-    renamed_above : (k : ℕ) → IsNumber (suc k) → top_of c < suc k → renamed (path_at n (suc k)) ≡ thing.Nothing
+    renamed_above : (k : ℕ) → IsNumber (suc k) → top_of n c < suc k → renamed (path_at n (suc k)) ≡ thing.Nothing
     renamed_above k i lt = renamed_member k i ∙ (is_shifted.above (suc k) i lt ∙ high (suc k) i (omega (arith, lt)))
 
   -- Behind the log's rename.
   record Renamed (c : Count) (m r : Names) : Type 0 where
     first : r (path_at n 0) ≡ m log
-    up : (k : ℕ) → IsNumber (suc k) → k < top_of c → r (path_at n (suc k)) ≡ m (path_at n k)
-    above : (k : ℕ) → IsNumber (suc k) → top_of c < suc k → r (path_at n (suc k)) ≡ thing.Nothing
+    up : (k : ℕ) → IsNumber (suc k) → k < top_of n c → r (path_at n (suc k)) ≡ m (path_at n k)
+    above : (k : ℕ) → IsNumber (suc k) → top_of n c < suc k → r (path_at n (suc k)) ≡ thing.Nothing
     log_gone : r log ≡ thing.Nothing
     others : (x : Path) → x ≢ log → IsOther x → r x ≡ m x
 
@@ -292,7 +283,7 @@ module _ (log : Path) (n : Naming) (kin : IsKin log n) (numbered : n.dated ≡ N
   no_room t place old le = sym (ap (λ b. cond b thing.Nothing old) (left_is t place le))
 
   -- the member that is one too many goes
-  ended : (m r : Names) (c : Count) (places : List ℕ) → IsCount c → StandSo log n places m → Renamed c m r → IsTurned log n c m (run r (retire_steps n c places))
+  ended : (m r : Names) (c : Count) (places : List ℕ) → IsNumber (top_of n c) → StandSo log n places m → Renamed c m r → IsTurned log n c m (run r (retire_steps n c places))
   ended m r count.Always places small s f = record { members = go; log_gone = f.log_gone; others = f.others }
     where
       go : (place : ℕ) → IsNumber place → r (path_at n place) ≡ turned count.Always (m log) (λ p. m (path_at n p)) place
@@ -305,7 +296,7 @@ module _ (log : Path) (n : Naming) (kin : IsKin log n) (numbered : n.dated ≡ N
   }
     where
       first : IsNumber 0
-      first = omega arith
+      first = omega (arith, small)
 
       go : (place : ℕ) → IsNumber place → put r (path_at n 0) thing.Nothing (path_at n place) ≡ turned (count.Keep zero) (m log) (λ p. m (path_at n p)) place
       go zero i = here r 0 thing.Nothing ∙ no_room 0 0 (m log) (omega arith)
@@ -313,7 +304,7 @@ module _ (log : Path) (n : Naming) (kin : IsKin log n) (numbered : n.dated ≡ N
   ended m r (count.Keep (suc t)) places small s f = by_place (has t places) refl
     where
       number : IsNumber (suc t)
-      number = omega arith
+      number = small
 
       unlinked : (place : ℕ) → IsNumber place → put r (path_at n (suc t)) thing.Nothing (path_at n place) ≡ turned (count.Keep (suc t)) (m log) (λ p. m (path_at n p)) place
       unlinked zero i = there r (suc t) 0 thing.Nothing number i (λ e. omega (arith, e)) ∙ (f.first ∙ room (suc t) 0 (m log) (omega arith))
@@ -350,7 +341,7 @@ module _ (log : Path) (n : Naming) (kin : IsKin log n) (numbered : n.dated ≡ N
       by_place false e = record { members = as_it_was e; log_gone = f.log_gone; others = f.others }
 
   -- the whole
-  pub family_turned : (m : Names) (c : Count) (places : List ℕ) → IsCount c → Falls places → Every IsNumber places → Every (λ k. is_left c k ≡ false → IsNumber (k + 1)) places → StandSo log n places m
+  pub family_turned : (m : Names) (c : Count) (places : List ℕ) → IsNumber (top_of n c) → Falls places → Every IsNumber places → Every (λ k. is_left c k ≡ false → IsNumber (k + 1)) places → StandSo log n places m
       → IsTurned log n c m (names_after m (changes_of (reverse (rotation n c log places))))
   family_turned m c places small falls within next s = subst (IsTurned log n c m) (sym parts) (ended m (renamed m c places small falls within next s) c places small s (record {
     first = renamed_first m c places small falls within next s;
