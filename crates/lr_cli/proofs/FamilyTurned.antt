@@ -43,11 +43,12 @@ use Rattle.lr_chain.specs.Rotation.{places_of, rotation}
 use Rattle.lr_include.specs.Readers.{IsConf}
 use Rattle.lr_include.specs.Reading.{ReadsAs, means, look_failed, read_failed, MeansAs, no_file, directory, whole, cut}
 use Rattle.lr_include.proofs.Plain.{whole_plain, whole_one, cut_plain, cut_one}
-use Rattle.lr_promise.specs.Members.{IsFamily, HasName, HaveNext}
-use Rattle.lr_promise.specs.Shape.{Among}
-use Rattle.lr_promise.proofs.Given.{given_one, have_next}
+use Rattle.lr_rotations.specs.Members.{IsFamily, HasName, HaveNext}
+use Rattle.lr_rotations.specs.Weave.{Among}
+use Rattle.lr_promise.proofs.Given.{given_one}
+use Rattle.lr_rotations.proofs.Given.{have_next}
 use Rattle.lr_promise.proofs.Shapes.{rotation_changes}
-use Rattle.lr_promise.proofs.Shown.{shown}
+use Rattle.lr_rotations.proofs.Shown.{shown}
 use Rattle.lr_run.specs.Built.{IsBuilt, IsBuiltRule, IsLogWord, IsOneWord}
 use Rattle.lr_run.specs.Logs.{Log, log_of}
 use Rattle.lr_run.specs.Runs.{Inside, NoFault, no_rule, one_log, Because, at_dir, at_look, at_begin, at_log, Runs}

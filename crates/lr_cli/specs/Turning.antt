@@ -16,8 +16,8 @@ use Rattle.lr_host.specs.Looks.{Sees, IsNothing}
 use Rattle.lr_host.specs.Quiet.{is_disk_change, ChangeNothing}
 use Rattle.lr_chain.specs.Rotation.{places_of, rotation}
 use Rattle.lr_include.specs.Reading.{ReadsAs}
-use Rattle.lr_promise.specs.Members.{AreThere, NoMemberAttached}
-use Rattle.lr_promise.specs.Shape.{Among}
+use Rattle.lr_rotations.specs.Members.{AreThere, NoMemberAttached}
+use Rattle.lr_rotations.specs.Weave.{Among}
 use Rattle.lr_run.specs.Logs.{Log, log_of}
 use Rattle.lr_run.specs.Runs.{Runs}
 use Rattle.lr_turned.specs.Turning.{IsTurnedWhole}

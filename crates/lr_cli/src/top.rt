@@ -9,7 +9,7 @@ ghost use Rattle.lr_host.specs.Opening.{IsJournal};
 ghost use Rattle.lr_include.specs.Readers.{IsConf};
 ghost use Rattle.lr_cli.specs.Turning.{TurnsFamily};
 ghost use Rattle.lr_host.specs.Told.{Left, NoneFell, Rose};
-ghost use Rattle.lr_promise.specs.Promise.{KeepsSafe};
+ghost use Rattle.lr_host.specs.Safe.{KeepsSafe};
 ghost use Rattle.lr_report.specs.Puts.{Took, TookPart};
 ghost use Rattle.lr_cli.specs.declared.outcome.Report.{Report};
 ghost use Rattle.lr_cli.specs.Answer.{AnsweredAt};

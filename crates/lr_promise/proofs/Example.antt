@@ -33,7 +33,7 @@ use Rattle.lr_family.specs.Looks.{Sight, Shows}
 use Rattle.lr_family.specs.Stands.{AreNewestFirst, ShowsStand}
 use Rattle.lr_family.proofs.Unique.{named_same, joined_same}
 use Rattle.lr_chain.specs.Rotation.{places_of, rotation}
-use Rattle.lr_promise.specs.Members.{IsFamily}
+use Rattle.lr_rotations.specs.Members.{IsFamily}
 use Rattle.lr_promise.specs.Shape.{IsOneLog, IsTurn, turns_one, started, IsRun}
 use Rattle.lr_promise.specs.Worked.{file, directory, listed, looks, steps, worked_run}
 use Rattle.lr_promise.proofs.Shapes.{rotation_changes, first_then_quiet}

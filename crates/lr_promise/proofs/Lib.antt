@@ -1,13 +1,5 @@
 pub mod Example
-pub mod Fitting
 pub mod Given
-pub mod Moments
-pub mod Outside
 pub mod Over
-pub mod Paths
-pub mod Places
 pub mod Running
 pub mod Shapes
-pub mod Shown
-pub mod Still
-pub mod Turning

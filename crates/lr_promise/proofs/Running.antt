@@ -20,7 +20,7 @@ use Rattle.lr_host.specs.Lists.{IsNotIn}
 use Rattle.lr_host.specs.Opening.{IsJournal}
 use Rattle.lr_host.specs.Sets.{LogSet}
 use Rattle.lr_host.specs.Runs.{rules_of, SomeRule, has_begun}
-use Rattle.lr_host.specs.Safe.{IsSafe}
+use Rattle.lr_host.specs.Safe.{IsSafe, KeepsSafe}
 use Rattle.lr_host.specs.Steady.{IsSteady, IsSteadyAt, NoneAttached}
 use Rattle.lr_laws.specs.Rotation.{IsAside}
 use Rattle.lr_laws.specs.Stays.{Rotates}
@@ -35,17 +35,20 @@ use Rattle.lr_family.specs.Stands.{ShowsStand}
 use Rattle.lr_family.proofs.Numbers.{every_all}
 use Rattle.lr_chain.specs.Rotation.{places_of, rotation}
 use Rattle.lr_chain.proofs.Steps.{each_rotation}
-use Rattle.lr_promise.specs.Members.{IsFamily, HasName, AreThere, HaveNext}
-use Rattle.lr_promise.specs.Shape.{Among, IsFirstOf, IsTail, changes_nothing, turns_one, HasStarted, not_yet, started, IsRun, IsGiven, AreTurns, no_more, one_more, turns_some, IsTurn}
-use Rattle.lr_promise.specs.Promise.{KeepsSafe}
-use Rattle.lr_promise.proofs.Still.{IsStill, quiet_safe_on, made_still, made_aside, IsNoStart, rules_same}
-use Rattle.lr_promise.proofs.Over.{over_steps, first_aside}
-use Rattle.lr_promise.proofs.Given.{given_one, no_meet, naming_same, counts, have_next}
-use Rattle.lr_promise.proofs.Fitting.{fits}
-use Rattle.lr_promise.proofs.Turning.{is_one}
-use Rattle.lr_promise.proofs.Outside.{lies_aside}
-use Rattle.lr_promise.proofs.Shown.{Shown}
-use Rattle.lr_promise.proofs.Moments.{among_shown, saw_file, saw_members}
+use Rattle.lr_rotations.specs.Members.{IsFamily, HasName, AreThere, HaveNext}
+use Rattle.lr_promise.specs.Shape.{IsTail, changes_nothing, turns_one, HasStarted, not_yet, started, IsRun, AreTurns, no_more, one_more, turns_some, IsTurn}
+use Rattle.lr_rotations.specs.Target.{IsGiven}
+use Rattle.lr_rotations.specs.Weave.{Among, IsFirstOf}
+use Rattle.lr_rotations.proofs.Still.{IsStill, quiet_safe_on, made_still, made_aside, IsNoStart, rules_same}
+use Rattle.lr_promise.proofs.Over.{over_steps}
+use Rattle.lr_rotations.proofs.Over.{first_aside}
+use Rattle.lr_promise.proofs.Given.{given_one}
+use Rattle.lr_rotations.proofs.Given.{no_meet, naming_same, counts, have_next}
+use Rattle.lr_rotations.proofs.Fitting.{fits}
+use Rattle.lr_rotations.proofs.Turning.{is_one}
+use Rattle.lr_rotations.proofs.Outside.{lies_aside}
+use Rattle.lr_rotations.specs.Shown.{Shown}
+use Rattle.lr_rotations.proofs.Moments.{among_shown, saw_file, saw_members}
 
 -- ---- inside a run
 

@@ -7,7 +7,6 @@ use Rattle.lr_rules.specs.declared.path.Path.{Path}
 use Rattle.lr_rules.specs.declared.rule.Count.{Count}
 use Rattle.lr_rules.specs.declared.rule.Naming.{Naming}
 use Rattle.lr_host.specs.declared.entry.Entry.{Entry}
-use Rattle.lr_host.specs.declared.entry.Entry.TheVariants as entry
 use Rattle.lr_host.specs.Told.{Each, Then}
 use Rattle.lr_host.specs.Steps.{is_change}
 use Rattle.lr_host.proofs.Each.{each_first, all_pass}
@@ -15,7 +14,8 @@ use Rattle.lr_host.specs.Quiet.{AreQuiet}
 use Rattle.lr_host.proofs.Quiet.{quiet_changes}
 use Rattle.lr_chain.specs.Rotation.{rotation}
 use Rattle.lr_chain.proofs.Steps.{each_rotation}
-use Rattle.lr_promise.specs.Shape.{IsFirstOf, not_yet, IsRun}
+use Rattle.lr_promise.specs.Shape.{not_yet, IsRun}
+use Rattle.lr_rotations.specs.Weave.{IsFirstOf}
 
 -- ---- the steps of a rotation are all changes
 

@@ -1,4 +1,2 @@
-pub mod Members
-pub mod Promise
 pub mod Shape
 pub mod Worked

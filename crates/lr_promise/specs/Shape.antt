@@ -1,9 +1,8 @@
 -- The entries of a run, as far as it came.
-use Rattle.std.specs.Prelude.{◌≡◌, ◌+◌, ℕ, true, false, List, [], ◌∷◌, ◌++◌, filter, Any, Contains}
+use Rattle.std.specs.Prelude.{◌≡◌, ℕ, true, false, List, [], ◌∷◌, ◌++◌, filter}
 use Rattle.lr_rules.specs.declared.path.Path.{Path}
 use Rattle.lr_rules.specs.declared.civil.Moment.{Moment}
 use Rattle.lr_rules.specs.declared.rule.Count.{Count}
-use Rattle.lr_rules.specs.declared.rule.Count.TheVariants as count
 use Rattle.lr_rules.specs.declared.rule.Naming.{Naming}
 use Rattle.lr_rules.specs.declared.rule.Rule.{Rule}
 use Rattle.lr_rules.specs.declared.rules.Rules.{Rules}
@@ -13,25 +12,14 @@ use Rattle.lr_host.specs.declared.entry.Entry.{Entry}
 use Rattle.lr_host.specs.declared.entry.Entry.TheVariants as entry
 use Rattle.lr_host.specs.Lists.{IsNotIn}
 use Rattle.lr_host.specs.Steps.{is_change}
-use Rattle.lr_family.specs.declared.stand.Member.{Member}
 use Rattle.lr_family.specs.declared.stand.Stand.{Stand}
 use Rattle.lr_host.specs.Looks.{Sees, IsFile}
 use Rattle.lr_host.specs.Quiet.{AreQuiet}
-use Rattle.lr_family.specs.Stands.{number_in, ShowsStand}
+use Rattle.lr_family.specs.Stands.{ShowsStand}
 use Rattle.lr_chain.specs.Rotation.{places_of, rotation}
-use Rattle.lr_promise.specs.Members.{IsFamily}
-
--- these entries are the first of the steps
-abbrev pub IsFirstOf : List Entry → List Entry → Type 0
-IsFirstOf steps ts = (after : List Entry) × (steps ≡ ts ++ after)
-
--- P holds of some of these entries that stand together
-pub record Among (P : List Entry → Type 0) (ts : List Entry) : Type 0 where
-  pub before : List Entry
-  pub part : List Entry
-  pub after : List Entry
-  pub joined : ts ≡ before ++ (part ++ after)
-  pub is : P part
+use Rattle.lr_rotations.specs.Members.{IsFamily}
+use Rattle.lr_rotations.specs.Target.{IsGiven, IsOneTooHigh}
+use Rattle.lr_rotations.specs.Weave.{Among, IsFirstOf}
 
 -- The rules are one, with one word: the path of this log. The rule gives the log this naming and this count.
 pub record IsOneLog (rules : List Rule) (log : Path) (n : Naming) (c : Count) : Type 0 where
@@ -43,21 +31,6 @@ pub record IsOneLog (rules : List Rule) (log : Path) (n : Naming) (c : Count) : 
   pub log_is : literal_path word ≡ log
   pub naming_is : naming_of rule log ≡ n
   pub count_is : rule.count ≡ c
-
--- One of the rules has a word that is the path of this log. The rule gives the log this naming and this count.
-pub record IsGiven (rules : List Rule) (log : Path) (n : Naming) (c : Count) : Type 0 where
-  pub rule : Rule
-  pub word : List ℕ
-  pub among : Contains rules rule
-  pub has : Contains rule.words word
-  pub literal : is_wildcard word ≡ false
-  pub log_is : literal_path word ≡ log
-  pub naming_is : naming_of rule log ≡ n
-  pub count_is : rule.count ≡ c
-
--- a member has the highest number that there is, and all members are kept: it would have to move
-abbrev pub IsOneTooHigh : Naming → Count → List Member → Type 0
-IsOneTooHigh n c members = (c ≡ count.Always) × Any (λ m. n.start + number_in m.place ≡ 4294967295) members
 
 -- The log and its family were looked at, each a regular file, while nothing was changed; and then a first part of the steps of the rotation was made, with entries between and behind them that change nothing.
 pub record IsTurn (log : Path) (n : Naming) (c : Count) (ts : List Entry) : Type 0 where

@@ -6,10 +6,9 @@ ghost use Rattle.lr_host.specs.World.{Past};
 ghost use Rattle.lr_host.specs.Told.{Made, Left};
 ghost use Rattle.lr_host.specs.Opening.{IsJournal};
 ghost use Rattle.lr_host.specs.Sets.{LogSet};
-ghost use Rattle.lr_host.specs.Safe.{IsSafe};
+ghost use Rattle.lr_host.specs.Safe.{IsSafe, KeepsSafe};
 ghost use Rattle.lr_host.specs.Steady.{IsSteady};
 ghost use Rattle.lr_promise.specs.Shape.{IsRun};
-ghost use Rattle.lr_promise.specs.Promise.{KeepsSafe};
 
 /// A set that was safe as a run began is safe behind its entries, as far as they came, with writers' entries between them
 /// in a journal where the set is steady: the set of a log that was turned, or of any other, numbered or dated.

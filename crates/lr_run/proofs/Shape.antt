@@ -15,7 +15,7 @@ use Rattle.lr_family.specs.Stands.{ShowsStand, ShowsNoFile, ShowsSoFar, StopsAtC
 use Rattle.lr_family.proofs.OnlyLooks.{AreLooking, looking_both, looking_none, looking_sees, looking_stand, looking_no_file, looking_call, looking_so_far}
 use Rattle.lr_chain.specs.Rotation.{rotation}
 use Rattle.lr_chain.specs.Stops.{StopsAt}
-use Rattle.lr_promise.specs.Shape.{IsFirstOf}
+use Rattle.lr_rotations.specs.Weave.{IsFirstOf}
 use Rattle.lr_run.specs.Acts.{BreaksOffAt}
 use Rattle.lr_run.specs.Logs.{Log}
 use Rattle.lr_run.specs.Turning.{Behind, WithStand, rotation_of, GoesWell, turned, let_be, MayTurn, LogBecause, CallBecause, LogLacks, at_stand, at_steps, LogEnds}

@@ -24,8 +24,9 @@ use Rattle.lr_host.specs.Quiet.{AreQuiet}
 use Rattle.lr_host.proofs.Quiet.{sees_quiet, quiet_both}
 use Rattle.lr_chain.specs.Rotation.{places_of, rotation}
 use Rattle.lr_chain.proofs.Steps.{each_rotation}
-use Rattle.lr_promise.specs.Members.{IsFamily}
-use Rattle.lr_promise.specs.Shape.{IsFirstOf, IsTurn, IsTail, changes_nothing, turns_one, not_yet, started, IsRun}
+use Rattle.lr_rotations.specs.Members.{IsFamily}
+use Rattle.lr_promise.specs.Shape.{IsTurn, IsTail, changes_nothing, turns_one, not_yet, started, IsRun}
+use Rattle.lr_rotations.specs.Weave.{IsFirstOf}
 use Rattle.lr_promise.proofs.Shapes.{quiet_run}
 use Rattle.lr_run.specs.declared.answer.RunStop.{RunStop}
 use Rattle.lr_run.specs.declared.answer.RunStop.TheVariants as stop

@@ -27,7 +27,7 @@ use Rattle.lr_chain.specs.declared.ready.Ready.{Ready}
 use Rattle.lr_chain.specs.Ready.{IsReady, IsMissing, IsTooHigh, removal_at}
 use Rattle.lr_chain.specs.Rotation.{places_of, rotation}
 use Rattle.lr_chain.proofs.Whole.{steps_are}
-use Rattle.lr_promise.specs.Members.{IsFamily}
+use Rattle.lr_rotations.specs.Members.{IsFamily}
 use Rattle.lr_run.specs.declared.look.LogStop.{LogStop}
 use Rattle.lr_run.specs.declared.look.LogStop.TheVariants as log
 use Rattle.lr_run.specs.declared.target.Target.{Target}

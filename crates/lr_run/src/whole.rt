@@ -3,7 +3,7 @@ ghost use Rattle.std.specs.Prelude.{Any, Contains, Err, IfOk, length, vec_len, â
 ghost use Rattle.std.specs.Vec.{vec_capacity};
 ghost use Rattle.lr_rules.specs.declared.fault.Fault.TheVariants as fault;
 ghost use Rattle.lr_host.specs.Told.{Left, Onward, Rose};
-ghost use Rattle.lr_promise.specs.Promise.{KeepsSafe};
+ghost use Rattle.lr_host.specs.Safe.{KeepsSafe};
 ghost use Rattle.lr_promise.specs.Shape.{IsRun};
 ghost use Rattle.lr_run.specs.Built.{IsBuilt};
 ghost use Rattle.lr_run.specs.Exact.{Exactly, IsExcused};

@@ -1,11 +1,3 @@
-pub mod Aside
-pub mod ChainMoves
-pub mod Drawn
-pub mod FamilyTurned
-pub mod Fed
-pub mod PlaceLists
 pub mod RunTurned
 pub mod Started
-pub mod TurnedLaw
-pub mod Walks
 pub mod WorkedTurn

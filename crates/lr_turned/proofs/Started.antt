@@ -17,18 +17,9 @@ use Rattle.lr_host.proofs.Each.{all_pass}
 use Rattle.lr_family.specs.Stands.{ShowsStand}
 use Rattle.lr_chain.specs.Rotation.{places_of, rotation}
 use Rattle.lr_chain.proofs.Steps.{each_rotation}
-use Rattle.lr_promise.specs.Shape.{Among}
+use Rattle.lr_rotations.specs.Weave.{Among}
+use Rattle.lr_rotations.proofs.Others.{among_behind}
 use Rattle.lr_turned.specs.Turning.{TurnsOver}
-
--- what stands among some stands among more
-among_behind : (P : List Entry → Type 0) (e : Entry) (xs ys : List Entry) → Among P ys → Among P (xs ++ e ∷ ys)
-among_behind P e xs ys a = record {
-  before = xs ++ e ∷ a.before;
-  part = a.part;
-  after = a.after;
-  joined = ap (λ zs. xs ++ e ∷ zs) a.joined ∙ sym (append_assoc xs (e ∷ a.before) (a.part ++ a.after));
-  is = a.is;
-}
 
 pub started_over : (log : Path) (n : Naming) (c : Count) (stand : Stand) (state : Path) (now : Moment) (rules : Rules) (reads looks back : List Entry) → AreQuiet reads → AreQuiet looks → Among (Sees log IsFile) looks → stand.there ≡ true → Among (ShowsStand n stand) looks
     → filter is_change back ≡ rotation n c log (places_of stand.members) → TurnsOver log n c stand (reads ++ entry.Starts state now rules ∷ (looks ++ back))

@@ -31,8 +31,8 @@ use Rattle.lr_host.specs.Quiet.{is_disk_change, from_here, further}
 use Rattle.lr_family.specs.Looks.{Sight}
 use Rattle.lr_family.specs.Stands.{StandsIn, ShowsStand}
 use Rattle.lr_chain.specs.Rotation.{places_of, rotation}
-use Rattle.lr_promise.specs.Members.{IsFamily, HaveNext, NoMemberAttached}
-use Rattle.lr_promise.proofs.Paths.{path_same, path_other}
+use Rattle.lr_rotations.specs.Members.{IsFamily, HaveNext, NoMemberAttached}
+use Rattle.lr_rotations.proofs.Paths.{path_same, path_other}
 use Rattle.lr_turned.specs.Turning.{TurnsOver}
 use Rattle.lr_turned.specs.Worked.{log, first, second, third, beside, two, stood, begun, seen_dir, seen_file, listed, stand, looks, over, moves}
 

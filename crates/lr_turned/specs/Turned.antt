@@ -1,33 +1,15 @@
 -- What a rotation makes of the family of a log, file by file.
-use Rattle.std.specs.Prelude.{◌≡◌, ◌≢◌, ◌⊎◌, ℕ, zero, suc, ◌+◌, ◌≤◌, List, [], ◌++◌, drop, length, cond, nat_le}
+use Rattle.std.specs.Prelude.{◌≡◌, ◌≢◌, ◌⊎◌, ℕ, ◌+◌, ◌≤◌, [], ◌++◌, drop, length, cond, nat_le}
 use Rattle.lr_rules.specs.declared.path.Path.{Path}
 use Rattle.lr_rules.specs.declared.rule.Count.{Count}
 use Rattle.lr_rules.specs.declared.rule.Naming.{Naming}
-use Rattle.lr_host.specs.declared.thing.Thing.{Thing}
 use Rattle.lr_host.specs.declared.thing.Thing.TheVariants as thing
-use Rattle.lr_host.specs.declared.entry.Entry.{Entry}
-use Rattle.lr_host.specs.declared.entry.Entry.TheVariants.{Feed, Renames}
-use Rattle.lr_host.specs.World.{Past, Opens, ◌▸◌, world, names, holds_file}
+use Rattle.lr_host.specs.declared.entry.Entry.TheVariants.{Renames}
+use Rattle.lr_host.specs.World.{Past, ◌▸◌, world, names}
 use Rattle.lr_family.specs.Spots.{path_at}
-use Rattle.lr_chain.specs.Rotation.{is_left}
-use Rattle.lr_promise.specs.Members.{HasName}
-
--- What the member at this place names behind a rotation with this count: the log's file at place 0, at each other what
--- the place before it named, and nothing where the count leaves no room.
-abbrev pub turned : (ℕ → Thing) → Thing → Count → ℕ → Thing
-turned before log c zero = cond (is_left c 0) thing.Nothing log
-turned before log c (suc k) = cond (is_left c (suc k)) thing.Nothing (before k)
-
--- all bytes that writers fed to a file
-abbrev pub fed : Past → ℕ → List ℕ
-fed (Opens o) id = []
-fed (p ▸ Feed writer bytes at) id = cond (holds_file ((world p).holds writer) id) (fed p id ++ bytes) (fed p id)
-fed (p ▸ _) id = fed p id
-
--- the second past goes on from the first
-pub data IsBehind (p : Past) : Past → Type 0 where
-  itself : IsBehind p p
-  one_more : {q : Past} {e : Entry} → IsBehind p q → IsBehind p (q ▸ e)
+use Rattle.lr_chain.specs.Turning.{turned}
+use Rattle.lr_rotations.specs.Members.{HasName}
+use Rattle.lr_rotations.specs.Rotated.{fed, IsBehind}
 
 -- The family was turned between the two pasts, and nothing else changed but what writers fed and made.
 pub record IsTurned (n : Naming) (c : Count) (log : Path) (before after : Past) : Type 0 where
@@ -40,7 +22,7 @@ pub record IsTurned (n : Naming) (c : Count) (log : Path) (before after : Past) 
   -- it was the log's file from the beginning on, or a writer made it where there was no log
   pub at_first : (names (world before) log ≡ thing.File file) ⊎ ((names (world before) log ≡ thing.Nothing) × ((world before).drawn ≤ file))
   -- each member has its file, by identity
-  pub members : (place : ℕ) → HasName n place → names (world after) (path_at n place) ≡ turned (λ k. names (world before) (path_at n k)) (thing.File file) c place
+  pub members : (place : ℕ) → HasName n place → names (world after) (path_at n place) ≡ turned c (thing.File file) (λ k. names (world before) (path_at n k)) place
   -- the log's path names nothing, or a file that a writer made since
   pub log_now : (names (world after) log ≡ thing.Nothing) ⊎ ((g : ℕ) × (names (world after) log ≡ thing.File g) × ((world turning).drawn ≤ g))
   -- each other path names what it named, or a file that a writer made since

@@ -11,9 +11,10 @@ use Rattle.lr_host.specs.Looks.{Sees, IsFile}
 use Rattle.lr_host.specs.Quiet.{is_disk_change, Quiet, ChangeNothing}
 use Rattle.lr_family.specs.Stands.{ShowsStand}
 use Rattle.lr_chain.specs.Rotation.{places_of, rotation}
-use Rattle.lr_promise.specs.Shape.{Among}
-use Rattle.lr_promise.specs.Members.{IsNoMember}
-use Rattle.lr_turned.specs.Turned.{IsBehind, IsTurned}
+use Rattle.lr_rotations.specs.Weave.{Among}
+use Rattle.lr_rotations.specs.Members.{IsNoMember}
+use Rattle.lr_rotations.specs.Rotated.{IsBehind}
+use Rattle.lr_turned.specs.Turned.{IsTurned}
 
 -- The log was seen, a file, and its family, where nothing of the disk was changed; and then the changes are the rotation of the members that were seen.
 pub record TurnsOver (log : Path) (n : Naming) (c : Count) (stand : Stand) (ts : List Entry) : Type 0 where

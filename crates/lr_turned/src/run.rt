@@ -17,8 +17,8 @@ ghost use Rattle.lr_host.specs.Looks.{Sees, IsFile};
 ghost use Rattle.lr_host.specs.Quiet.{AreQuiet};
 ghost use Rattle.lr_family.specs.Stands.{ShowsStand};
 ghost use Rattle.lr_chain.specs.Rotation.{places_of, rotation};
-ghost use Rattle.lr_promise.specs.Members.{IsFamily, AreThere, HaveNext, NoMemberAttached};
-ghost use Rattle.lr_promise.specs.Shape.{Among};
+ghost use Rattle.lr_rotations.specs.Members.{IsFamily, AreThere, HaveNext, NoMemberAttached};
+ghost use Rattle.lr_rotations.specs.Weave.{Among};
 ghost use Rattle.lr_turned.specs.Turning.{TurnsOver, IsTurnedWhole};
 
 /// Where the log and its family were seen, and then the changes are one rotation: the members that were seen are those

@@ -6,7 +6,7 @@ ghost use Rattle.lr_host.specs.World.{world, names};
 ghost use Rattle.lr_host.specs.Opening.{IsJournal};
 ghost use Rattle.lr_host.specs.Told.{Made};
 ghost use Rattle.lr_chain.specs.Rotation.{places_of};
-ghost use Rattle.lr_promise.specs.Members.{IsFamily, HaveNext, NoMemberAttached};
+ghost use Rattle.lr_rotations.specs.Members.{IsFamily, HaveNext, NoMemberAttached};
 ghost use Rattle.lr_turned.specs.Turning.{TurnsOver, IsTurnedWhole};
 ghost use Rattle.lr_turned.specs.Worked.{log, first, second, third, beside, two, stand, begun, over};
 

@@ -1,7 +1,0 @@
-use Rattle.lr_promise.specs.Members.{HasName}
-use Rattle.lr_promise.proofs.Outside.{lies_aside}
-use Rattle.lr_promise.proofs.turn.rotation_is_aside.Goals as goal
-use Rattle.lr_family.proofs.Numbers.{every_all}
-
-pub returns : goal.returns
-returns c = λ s log n k places numbered apart named next. lies_aside s log n numbered apart k places (every_all (HasName n) places named) next

@@ -1,0 +1,129 @@
+-- What looks showed of a log and its members is so behind them, and was so before them, where the tool changed nothing of the disk.
+use Rattle.std.proofs.Common.{◌≡◌, inl, inr, ⊎_elim, ℕ, ◌+◌, true, pos, refl, sym, ◌∙◌, subst, List, ◌++◌, reverse, Option, Some, None, ℤ, Contains, ap, get_or}
+use Rattle.std.proofs.lemmas.List.Elements.{All-contains_itself}
+use Rattle.lr_rules.specs.declared.path.Path.{Path}
+use Rattle.lr_rules.specs.declared.rule.Naming.{Naming}
+use Rattle.lr_host.specs.declared.thing.Thing.TheVariants as thing
+use Rattle.lr_host.specs.declared.thing.Kind.TheVariants as kind
+use Rattle.lr_host.specs.declared.thing.Seen.{Seen}
+use Rattle.lr_host.specs.declared.entry.Entry.{Entry}
+use Rattle.lr_host.specs.declared.entry.Entry.TheVariants as entry
+use Rattle.lr_host.specs.World.{Past, world, names}
+use Rattle.lr_host.specs.Fits.{IsFileAt, IsDirectoryAt}
+use Rattle.lr_host.specs.Told.{Made}
+use Rattle.lr_host.specs.Sets.{LogSet}
+use Rattle.lr_host.specs.Steady.{NoneAttached, IsKeyless}
+use Rattle.lr_host.proofs.More.{file_more, directory_more, dir_before}
+use Rattle.lr_family.specs.declared.stand.Stand.{Stand}
+use Rattle.lr_family.specs.Named.{member_name}
+use Rattle.lr_family.specs.Spots.{path_at}
+use Rattle.lr_host.specs.Looks.{Sees, IsFile}
+use Rattle.lr_family.specs.Stands.{ShowsStand}
+use Rattle.lr_chain.specs.Rotation.{places_of}
+use Rattle.lr_rotations.specs.Members.{IsFamily, HasName, AreThere, IsNoMember, NoMemberAttached}
+use Rattle.lr_rotations.specs.Weave.{Among}
+use Rattle.lr_host.specs.Lists.{IsIn}
+use Rattle.lr_host.proofs.Lists.{in_front, in_back, from_reverse}
+use Rattle.lr_host.specs.Quiet.{AreQuiet, ChangeNothing, Quiet}
+use Rattle.lr_host.proofs.Quiet.{quiet_still, still_in_order, since_as, since_of, since_any, IsAny, quiet_more, quiet_same, moment}
+use Rattle.lr_host.proofs.Looked.{seen_file, seen_none, is_nothing}
+use Rattle.lr_rotations.proofs.Paths.{name_part}
+use Rattle.lr_rotations.specs.Shown.{Shown}
+use Rattle.lr_rotations.proofs.Shown.{shown}
+use Rattle.lr_rotations.proofs.Turning.{numbered, key_at}
+
+in_among : (e : Entry) (ts before part after : List Entry) → ts ≡ before ++ (part ++ after) → IsIn e part → IsIn e ts
+in_among e ts before part after joined h = subst (IsIn e) (sym joined) (in_back e before (part ++ after) (in_front e part after h))
+
+-- more entries, in another order, show the same
+pub shown_in : (n : Naming) (places : List ℕ) (ts us : List Entry) → ((e : Entry) → IsIn e ts → IsIn e us) → Shown n places ts → Shown n places us
+shown_in n places ts us more s = record {
+  dir = (s.dir.0, s.dir.1, more _ s.dir.2);
+  names = s.names;
+  list = more _ s.list;
+  falling = s.falling;
+  named = s.named;
+  files = λ place c. let f = s.files place c in (f.0, f.1, more _ f.2);
+  others = λ place i out. ⊎_elim (λ absent. inl absent) (λ h. inr (more _ h)) (s.others place i out);
+}
+
+pub among_shown : (n : Naming) (stand : Stand) (ts : List Entry) → stand.there ≡ true → Among (ShowsStand n stand) ts → Shown n (places_of stand.members) ts
+among_shown n stand ts there a = shown_in n (places_of stand.members) a.part ts (λ e h. in_among e ts a.before a.part a.after a.joined h) (shown n stand a.part there a.is)
+
+-- a look at this path saw a file
+abbrev pub SawFile : Path → List Entry → Type 0
+SawFile x ts = (seen : Seen) × (seen.kind ≡ kind.File) × IsIn (entry.Look x (Some seen)) ts
+
+pub saw_one : (x : Path) (ts : List Entry) → Among (Sees x IsFile) ts → SawFile x ts
+saw_one x ts a = go a.is.seen a.is.is (in_among (entry.Look x a.is.seen) ts a.before a.part a.after a.joined (subst (IsIn (entry.Look x a.is.seen)) (sym a.is.look) (inl refl)))
+  where
+    go : (o : Option Seen) → IsFile o → IsIn (entry.Look x o) ts → SawFile x ts
+    go None f h = absurd f
+    go (Some seen) f h = (seen, f, h)
+
+-- where a look saw a file, the path names one
+pub saw_file : (p q : Past) (es : List Entry) (x : Path) → Made p es q → AreQuiet (reverse es) → Among (Sees x IsFile) (reverse es) → IsFileAt (names (world q)) x
+saw_file p q es x m quiet a =
+    let saw = saw_one x (reverse es) a in
+    let t = moment IsAny p q (entry.Look x (Some saw.0)) es (since_any p q es m) m (still_in_order es (quiet_still (reverse es) quiet)) (from_reverse (entry.Look x (Some saw.0)) es saw.2) in
+    file_more (names (world t.at)) (names (world q)) x (quiet_more IsAny t.at q t.until) (seen_file (world t.at) (names (world t.at) x) saw.0 t.fits saw.1)
+
+-- ---- the members
+
+-- a member names what it named
+pub quiet_members : (n : Naming) (p q : Past) (place : ℕ) → Quiet (IsNoMember n) p q → HasName n place → names (world q) (path_at n place) ≡ names (world p) (path_at n place)
+quiet_members n p q place quiet i = quiet_same (IsNoMember n) p q (path_at n place) quiet (λ none. none place i refl)
+
+found : (log : Path) (n : Naming) (places : List ℕ) (p q r : Past) (es : List Entry) → IsFamily log n → NoMemberAttached n p q → Made p es q → ChangeNothing es → Shown n places es
+    → ((k : ℕ) (a : Past) → HasName n k → Quiet (IsNoMember n) p a → Quiet (IsNoMember n) a q → names (world r) (path_at n k) ≡ names (world a) (path_at n k))
+    → ((a : Past) → Quiet (IsNoMember n) p a → Quiet (IsNoMember n) a q → IsDirectoryAt (names (world a)) n.dir → IsDirectoryAt (names (world r)) n.dir) → AreThere n (names (world r)) places
+found log n places p q r es family none made still s same dir = record {
+  dir = let t = moment (IsNoMember n) p q (entry.List n.dir s.names) es none made still s.list in dir t.at t.since t.until t.fits.0;
+  falling = s.falling;
+  named = λ k d lt. s.named (get_or places k d) (All-contains_itself places k d lt);
+  files = λ k c. stands k c (s.files k c);
+  others = λ k i out. ⊎_elim (λ absent. unlisted k i absent) (λ h. gone k i h) (s.others k i out);
+}
+  where
+    stands : (k : ℕ) → Contains places k → (seen : Seen) × (seen.kind ≡ kind.File) × IsIn (entry.Look (path_at n k) (Some seen)) es → IsFileAt (names (world r)) (path_at n k)
+    stands k c f =
+        let t = moment (IsNoMember n) p q (entry.Look (path_at n k) (Some f.0)) es none made still f.2 in
+        let file = seen_file (world t.at) (names (world t.at) (path_at n k)) f.0 t.fits f.1 in
+        (file.0, same k t.at (s.named k c) t.since t.until ∙ file.1)
+
+    gone : (k : ℕ) → HasName n k → IsIn (entry.Look (path_at n k) None) es → names (world r) (path_at n k) ≡ thing.Nothing
+    gone k i h =
+        let t = moment (IsNoMember n) p q (entry.Look (path_at n k) None) es none made still h in
+        same k t.at i t.since t.until ∙ seen_none (world t.at) (names (world t.at) (path_at n k)) t.fits
+
+    unlisted : (k : ℕ) → HasName n k → (Contains s.names (member_name n (n.start + k)) → ⊥) → names (world r) (path_at n k) ≡ thing.Nothing
+    unlisted k i absent =
+        let t = moment (IsNoMember n) p q (entry.List n.dir s.names) es none made still s.list in
+        same k t.at i t.since t.until
+        ∙ is_nothing (names (world t.at) (path_at n k)) (λ some. absent ((t.fits.1.all (member_name n (n.start + k))).1 (name_part log n k family i, some)))
+
+-- they stood before these entries
+pub members_before : (log : Path) (n : Naming) (places : List ℕ) (p q : Past) (es : List Entry) → IsFamily log n → NoMemberAttached n p q → Made p es q → ChangeNothing es → Shown n places es → AreThere n (names (world p)) places
+members_before log n places p q es family none made still s =
+    found log n places p q p es family none made still s (λ k a i since until. sym (quiet_members n p a k since i)) (λ a since until d. dir_before (names (world p)) (names (world a)) n.dir (quiet_more (IsNoMember n) p a since) d)
+
+-- and stand behind them
+pub members_behind : (log : Path) (n : Naming) (places : List ℕ) (p q : Past) (es : List Entry) → IsFamily log n → NoMemberAttached n p q → Made p es q → ChangeNothing es → Shown n places es → AreThere n (names (world q)) places
+members_behind log n places p q es family none made still s =
+    found log n places p q q es family none made still s (λ k a i since until. quiet_members n a q k until i) (λ a since until d. directory_more (names (world a)) (names (world q)) n.dir (quiet_more (IsNoMember n) a q until) d)
+
+-- of a set that no writer was attached to a member of
+pub shown_members : (s : LogSet) (p q : Past) (es : List Entry) (places : List ℕ) → IsFamily s.log s.naming → Made p es q → AreQuiet (reverse es) → NoneAttached s q → Shown s.naming places (reverse es) → AreThere s.naming (names (world q)) places
+shown_members s p q es places family m quiet none w =
+    members_behind s.log s.naming places p q es family (since_as (IsKeyless s) (IsNoMember s.naming) p q no_member (since_of (IsKeyless s) p q es m none)) m
+    (still_in_order es (quiet_still (reverse es) quiet)) (shown_in s.naming places (reverse es) es (λ e h. from_reverse e es h) w)
+  where
+    clash : (o : Option ℤ) (k : ℤ) → o ≡ Some k → o ≡ None → ⊥
+    clash o k a b = cc
+
+    no_member : (x : Path) → IsKeyless s x → IsNoMember s.naming x
+    no_member x none place i same = clash (s.key x) (pos place) (ap s.key same ∙ key_at s place (numbered s family) i) none
+
+pub saw_members : (s : LogSet) (p q : Past) (es : List Entry) (stand : Stand) → IsFamily s.log s.naming → Made p es q → AreQuiet (reverse es) → NoneAttached s q → stand.there ≡ true → Among (ShowsStand s.naming stand) (reverse es)
+    → AreThere s.naming (names (world q)) (places_of stand.members)
+saw_members s p q es stand family m quiet none there a = shown_members s p q es (places_of stand.members) family m quiet none (among_shown s.naming stand (reverse es) there a)

@@ -1,0 +1,144 @@
+-- What stands between a log's own steps is on the paths of other logs and of the state.
+use Rattle.std.proofs.Common.{◌≡◌, ◌⊎◌, inl, inr, Bool, true, false, cond, bytes_eq, refl, sym, ◌∙◌, ap, subst, List, [], ◌∷◌, ◌++◌, append_assoc}
+use Rattle.std.specs.Prelude.{filter}
+use Rattle.std.specs.List.{flat_map}
+use Rattle.std.proofs.lemmas.Slice.Eq.{bytes_eq-Decides}
+use Rattle.lr_rules.specs.declared.path.Path.{Path}
+use Rattle.lr_rules.specs.declared.civil.Moment.{Moment}
+use Rattle.lr_rules.specs.declared.rules.Rules.{Rules}
+use Rattle.lr_host.specs.declared.entry.Entry.{Entry}
+use Rattle.lr_host.specs.declared.entry.Entry.TheVariants as entry
+use Rattle.lr_host.specs.declared.entry.Entry.TheVariants.{Renames, Makes, Appends, Unlinks}
+use Rattle.lr_host.specs.Lists.{IsIn}
+use Rattle.lr_host.specs.Looks.{Sees, IsFile}
+use Rattle.lr_host.specs.Quiet.{is_disk_change, AreQuiet}
+use Rattle.lr_host.specs.Steps.{is_change}
+use Rattle.lr_host.specs.Told.{Each}
+use Rattle.lr_host.proofs.Each.{all_pass}
+use Rattle.lr_host.proofs.Lists.{in_front, in_back}
+use Rattle.lr_host.proofs.Quiet.{disk_of_changes, quiet_still, still_both}
+use Rattle.lr_laws.specs.Follow.{changed_paths}
+use Rattle.lr_chain.specs.Rotation.{places_of}
+use Rattle.lr_chain.proofs.Steps.{each_rotation}
+use Rattle.lr_rotations.specs.AllTurns.{IsStatePath, IsOfState, IsOfOther, StandsBetween, paths_of_others, other_paths, AllTurned}
+use Rattle.lr_rotations.specs.Rotated.{IsOn, RotatesAmong}
+use Rattle.lr_rotations.specs.Target.{Target, rotation_of, IsSeen, AreSeen, IsOneOf}
+use Rattle.lr_rotations.specs.Weave.{Among, Weave}
+use Rattle.lr_rotations.proofs.Fed.{IsTurn}
+use Rattle.lr_rotations.proofs.Moments.{shown_in}
+use Rattle.lr_rotations.proofs.Splitting.{weave_each}
+use Rattle.lr_rotations.proofs.Weaving.{weave_as, each_in}
+
+-- ---- on which paths
+
+on_more : (xs ys : List Path) (e : Entry) → IsTurn e → ((x : Path) → IsIn x xs → IsIn x ys) → IsOn xs e → IsOn ys e
+on_more xs ys (Renames from to) t f h = (f from h.0, f to h.1)
+on_more xs ys (Unlinks x) t f h = f x h
+on_more xs ys _ t f h = absurd t
+
+-- a rename or an unlink is on its own paths
+turn_on : (e : Entry) → IsTurn e → IsOn (changed_paths e) e
+turn_on (Renames from to) t = (inl refl, inr (inl refl))
+turn_on (Unlinks x) t = inl refl
+turn_on _ t = absurd t
+
+in_on : (es : List Entry) (e : Entry) → IsIn e es → IsTurn e → IsOn (flat_map changed_paths es) e
+in_on [] e i t = absurd i
+in_on (x ∷ xs) e (inl is) t = on_more (changed_paths e) (flat_map changed_paths (x ∷ xs)) e t (λ y h. in_front y (changed_paths x) (flat_map changed_paths xs) (subst (λ (d : Entry). IsIn y (changed_paths d)) (sym is) h)) (turn_on e t)
+in_on (x ∷ xs) e (inr i) t = on_more (flat_map changed_paths xs) (flat_map changed_paths (x ∷ xs)) e t (λ y h. in_back y (changed_paths x) (flat_map changed_paths xs) h) (in_on xs e i t)
+
+pub rotation_turns : (t : Target) → Each IsTurn (rotation_of t)
+rotation_turns t = each_rotation IsTurn (λ x. tt) (λ x y. tt) t.naming t.count t.log (places_of t.stand.members)
+
+-- what holds of the one list or of the other, holds of those of all other logs
+either : (b : Bool) (log other : Path) (xs ys : List Path) (x : Path) → bytes_eq other log ≡ b → IsIn x xs ⊎ IsIn x ys → ((b ≡ true) → IsIn x xs → ⊥) → IsIn x (cond b ys (xs ++ ys))
+either true log other xs ys x e (inl i) differ = absurd (differ refl i)
+either true log other xs ys x e (inr i) differ = i
+either false log other xs ys x e (inl i) differ = in_front x xs ys i
+either false log other xs ys x e (inr i) differ = in_back x xs ys i
+
+other_turns : (log : Path) (ts : List Target) (e : Entry) → IsOfOther log ts e → IsTurn e
+other_turns log [] e h = absurd h
+other_turns log (t ∷ ts) e (inl h) = each_in IsTurn (rotation_of t) e (rotation_turns t) h.1
+other_turns log (t ∷ ts) e (inr h) = other_turns log ts e h
+
+other_on : (log : Path) (ts : List Target) (e : Entry) → IsOfOther log ts e → IsOn (paths_of_others log ts) e
+other_on log [] e h = absurd h
+other_on log (t ∷ ts) e (inl h) = on_more (flat_map changed_paths (rotation_of t)) (paths_of_others log (t ∷ ts)) e (other_turns log (t ∷ ts) e (inl h))
+    (λ x i. either (bytes_eq t.log log) log t.log (flat_map changed_paths (rotation_of t)) (paths_of_others log ts) x refl (inl i) (λ same j. h.0 ((bytes_eq-Decides t.log log).0 same))) (in_on (rotation_of t) e h.1 (other_turns log (t ∷ ts) e (inl h)))
+other_on log (t ∷ ts) e (inr h) = on_more (paths_of_others log ts) (paths_of_others log (t ∷ ts)) e (other_turns log ts e h) (λ x i. behind (bytes_eq t.log log) x i) (other_on log ts e h)
+  where
+    behind : (b : Bool) (x : Path) → IsIn x (paths_of_others log ts) → IsIn x (cond b (paths_of_others log ts) (flat_map changed_paths (rotation_of t) ++ paths_of_others log ts))
+    behind true x i = i
+    behind false x i = in_back x (flat_map changed_paths (rotation_of t)) (paths_of_others log ts) i
+
+state_in : (state log : Path) (ts : List Target) (x : Path) → IsStatePath state x → IsIn x (other_paths state log ts)
+state_in state log ts x (inl is) = inl (sym is)
+state_in state log ts x (inr is) = inr (inl (sym is))
+
+state_on : (state log : Path) (ts : List Target) (e : Entry) → IsOfState state e → IsOn (other_paths state log ts) e
+state_on state log ts (Renames from to) h = (state_in state log ts from h.0, state_in state log ts to h.1)
+state_on state log ts (Makes x mode) h = state_in state log ts x h
+state_on state log ts (Appends x bytes) h = state_in state log ts x h
+state_on state log ts (Unlinks x) h = state_in state log ts x h
+state_on state log ts _ h = absurd h
+
+between_on : (state log : Path) (ts : List Target) (e : Entry) → StandsBetween state log ts e → IsOn (other_paths state log ts) e
+between_on state log ts e (inl h) = on_more (paths_of_others log ts) (other_paths state log ts) e (other_turns log ts e h) (λ x i. inr (inr i)) (other_on log ts e h)
+between_on state log ts e (inr h) = state_on state log ts e h
+
+-- ---- all are changes of the disk
+
+on_changes : (paths : List Path) (e : Entry) → IsOn paths e → is_disk_change e ≡ true
+on_changes paths (Renames from to) h = refl
+on_changes paths (Makes x mode) h = refl
+on_changes paths (entry.MakesDir x mode) h = refl
+on_changes paths (Appends x bytes) h = refl
+on_changes paths (entry.Truncates x) h = refl
+on_changes paths (Unlinks x) h = refl
+on_changes paths _ h = absurd h
+
+disk_changes : (paths : List Path) (x : Target) (acts : List Entry) → Weave (IsOn paths) (rotation_of x) (filter is_change acts) → filter is_change acts ≡ filter is_disk_change acts
+disk_changes paths x acts w = sym (all_pass is_disk_change (filter is_change acts) (weave_each (IsOn paths) (λ e. is_disk_change e ≡ true) (rotation_of x) (filter is_change acts) w
+    (each_rotation (λ e. is_disk_change e ≡ true) (λ x. refl) (λ x y. refl) x.naming x.count x.log (places_of x.stand.members)) (λ e h. on_changes paths e h))) ∙ disk_of_changes acts
+
+-- ---- a whole run
+
+-- what stands among some stands among more
+pub among_behind : (P : List Entry → Type 0) (e : Entry) (xs ys : List Entry) → Among P ys → Among P (xs ++ e ∷ ys)
+among_behind P e xs ys a = record {
+  before = xs ++ e ∷ a.before;
+  part = a.part;
+  after = a.after;
+  joined = ap (λ zs. xs ++ e ∷ zs) a.joined ∙ sym (append_assoc xs (e ∷ a.before) (a.part ++ a.after));
+  is = a.is;
+}
+
+seen_one : (rules : Rules) (looks : List Entry) (ts : List Target) → AreSeen rules looks ts → (t : Target) → IsOneOf t ts → IsSeen rules looks t
+seen_one rules looks [] seen t i = absurd i
+seen_one rules looks (x ∷ xs) seen t (inl is) = subst (IsSeen rules looks) is seen.0
+seen_one rules looks (x ∷ xs) seen t (inr i) = seen_one rules looks xs seen.1 t i
+
+pub run_rotates : (state : Path) (now : Moment) (rules : Rules) (reads tail : List Entry) (t : AllTurned state rules tail) (x : Target) → AreQuiet reads → IsOneOf x t.turns.targets
+    → RotatesAmong (other_paths state x.log t.turns.targets) x.log x.naming x.count x.stand (reads ++ entry.Starts state now rules ∷ tail)
+run_rotates state now rules reads tail t x read i = record {
+  front = reads ++ starts ∷ t.turns.looks;
+  back = t.turns.acts;
+  joined = ap (λ ts. reads ++ starts ∷ ts) t.turns.joined ∙ sym (append_assoc reads (starts ∷ t.turns.looks) t.turns.acts);
+  still = still_both reads (starts ∷ t.turns.looks) (quiet_still reads read) (quiet_still t.turns.looks t.turns.quiet);
+  log_seen = among_behind (Sees x.log IsFile) starts reads t.turns.looks seen.log_seen;
+  seen = shown_in x.naming (places_of x.stand.members) t.turns.looks (reads ++ starts ∷ t.turns.looks) (λ e h. in_back e reads (starts ∷ t.turns.looks) (inr h)) seen.seen;
+  changes = subst (Weave (IsOn paths) (rotation_of x)) (disk_changes paths x t.turns.acts on) on;
+}
+  where
+    starts : Entry
+    starts = entry.Starts state now rules
+
+    paths : List Path
+    paths = other_paths state x.log t.turns.targets
+
+    seen : IsSeen rules t.turns.looks x
+    seen = seen_one rules t.turns.looks t.turns.targets t.turns.seen x i
+
+    on : Weave (IsOn paths) (rotation_of x) (filter is_change t.turns.acts)
+    on = weave_as (StandsBetween state x.log t.turns.targets) (IsOn paths) (rotation_of x) (filter is_change t.turns.acts) (λ e h. between_on state x.log t.turns.targets e h) (t.whole x i)

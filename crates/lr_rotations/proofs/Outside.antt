@@ -1,0 +1,66 @@
+-- The steps of a rotation lie aside of each set that the log's doesn't meet.
+use Rattle.std.proofs.Common.{◌≡◌, inl, ℕ, zero, suc, ◌+◌, ◌==◌, Bool, true, false, not, cond, List, [], ◌∷◌, ◌++◌, map, refl, sym, subst, arith, None}
+use Rattle.std.specs.Prelude.{decimal}
+use Rattle.std.specs.List.{list_any}
+use Rattle.lr_rules.specs.declared.path.Path.{Path}
+use Rattle.lr_rules.specs.declared.rule.Count.{Count}
+use Rattle.lr_rules.specs.declared.rule.Count.TheVariants as count
+use Rattle.lr_rules.specs.declared.rule.Naming.{Naming}
+use Rattle.lr_rules.specs.Names.{IsMiddleShape, IsOwnName, the_log, a_member, Meet}
+use Rattle.lr_rules.proofs.Digits.{decimal_run}
+use Rattle.lr_host.specs.declared.entry.Entry.TheVariants as entry
+use Rattle.lr_host.specs.Told.{Each}
+use Rattle.lr_host.specs.Sets.{LogSet, in_set}
+use Rattle.lr_host.proofs.Each.{each_append}
+use Rattle.lr_laws.specs.Rotation.{IsAside}
+use Rattle.lr_laws.proofs.Outside.{apart_outside}
+use Rattle.lr_family.specs.Named.{member_name}
+use Rattle.lr_family.specs.Spots.{path_at}
+use Rattle.lr_family.proofs.Numbers.{Every, every_filter}
+use Rattle.lr_chain.specs.Rotation.{is_left, leftovers, kept, one_too_many, unlink_at, move_at, rotation}
+use Rattle.lr_rotations.specs.Members.{HasName, HaveNext}
+use Rattle.lr_rotations.proofs.Fitting.{kept_next, first_named}
+
+-- the path of a place is a name of the family
+pub place_name : (log : Path) (n : Naming) (place : ℕ) → n.dated ≡ None → HasName n place → IsOwnName log n (path_at n place)
+place_name log n place numbered i = a_member (member_name n (n.start + place)) (46 ∷ decimal (n.start + place), middle, whole) refl
+  where
+    middle : IsMiddleShape n.dated (46 ∷ decimal (n.start + place))
+    middle = subst (λ d. IsMiddleShape d (46 ∷ decimal (n.start + place))) (sym numbered) (decimal (n.start + place), refl, decimal_run (n.start + place) (omega arith))
+
+    whole : member_name n (n.start + place) ≡ n.base ++ (46 ∷ decimal (n.start + place)) ++ n.ext
+    whole = refl
+
+module _ (s : LogSet) (log : Path) (n : Naming) (numbered : n.dated ≡ None) (apart : Meet s.log s.naming log n → ⊥) where
+  place_out : (place : ℕ) → HasName n place → in_set s (path_at n place) ≡ false
+  place_out place i = apart_outside s log n (path_at n place) apart (inl (place_name log n place numbered i))
+
+  log_out : in_set s log ≡ false
+  log_out = apart_outside s log n log apart (inl (the_log refl))
+
+  unlinks_aside : (ls : List ℕ) → Every (HasName n) ls → Each (IsAside s) (map (unlink_at n) ls)
+  unlinks_aside [] i = tt
+  unlinks_aside (l ∷ ls) i = (place_out l i.0, unlinks_aside ls i.1)
+
+  moves_aside : (ks : List ℕ) → Every (HasName n) ks → Every (λ k. HasName n (k + 1)) ks → Each (IsAside s) (map (move_at n) ks)
+  moves_aside [] i next = tt
+  moves_aside (k ∷ ks) i next = ((place_out k i.0, place_out (k + 1) next.0), moves_aside ks i.1 next.1)
+
+  last_aside : (c : Count) (places : List ℕ) → HaveNext n c places → Each (IsAside s) (map (unlink_at n) (one_too_many c places))
+  last_aside count.Always places next = tt
+  last_aside (count.Keep zero) places next = (place_out 0 next, tt)
+  last_aside (count.Keep (suc k)) places next = go (list_any (λ place. place == k) places)
+    where
+      go : (b : Bool) → Each (IsAside s) (map (unlink_at n) (cond b (suc k ∷ []) []))
+      go true = (place_out (suc k) next, tt)
+      go false = tt
+
+  pub lies_aside : (c : Count) (places : List ℕ) → Every (HasName n) places → HaveNext n c places → Each (IsAside s) (rotation n c log places)
+  lies_aside c places named next =
+      each_append (IsAside s) (map (unlink_at n) (leftovers c places)) ((map (move_at n) (kept c places) ++ entry.Renames log (path_at n 0) ∷ []) ++ map (unlink_at n) (one_too_many c places))
+      (unlinks_aside (leftovers c places) (every_filter (HasName n) (is_left c) places named))
+      (each_append (IsAside s) (map (move_at n) (kept c places) ++ entry.Renames log (path_at n 0) ∷ []) (map (unlink_at n) (one_too_many c places))
+      (each_append (IsAside s) (map (move_at n) (kept c places)) (entry.Renames log (path_at n 0) ∷ [])
+      (moves_aside (kept c places) (every_filter (HasName n) (λ k. not (is_left c k)) places named) (kept_next n c places next))
+      ((log_out, place_out 0 (first_named n c places next)), tt))
+      (last_aside c places next))

@@ -1,0 +1,327 @@
+-- Each set stays safe over a run that rotates its logs behind all its looks.
+use Rattle.std.proofs.Common.{◌≡◌, ◌≢◌, ◌⊎◌, inl, inr, ⊎_elim, ℕ, Bool, true, false, bytes_eq, refl, sym, ◌∙◌, ap, subst, Option, Some, List, [], ◌∷◌, ◌++◌, reverse, append-nil}
+use Rattle.std.specs.Prelude.{filter}
+use Rattle.std.proofs.lemmas.List.{reverse-append, reverse-reverse}
+use Rattle.std.proofs.lemmas.Slice.Eq.{bytes_eq-Decides}
+use Rattle.lr_rules.specs.declared.path.Path.{Path}
+use Rattle.lr_rules.specs.declared.civil.Moment.{Moment}
+use Rattle.lr_rules.specs.declared.rule.Count.{Count}
+use Rattle.lr_rules.specs.declared.rule.Naming.{Naming}
+use Rattle.lr_rules.specs.declared.rules.Rules.{Rules}
+use Rattle.lr_rules.specs.Names.{IsName}
+use Rattle.lr_host.specs.declared.entry.Entry.{Entry}
+use Rattle.lr_host.specs.declared.entry.Entry.TheVariants as entry
+use Rattle.lr_host.specs.declared.journal.Journal.{Journal}
+use Rattle.lr_host.specs.World.{Past, ◌▸◌, past, world, names}
+use Rattle.lr_host.specs.Fits.{IsFileAt}
+use Rattle.lr_host.specs.Lists.{IsIn}
+use Rattle.lr_host.specs.Told.{Each, IsWriters, Made, at_first, by_writer, by_tool, Left, not_told, is_told}
+use Rattle.lr_host.specs.Steps.{is_change, FitAll}
+use Rattle.lr_host.specs.Opening.{IsJournal}
+use Rattle.lr_host.specs.Quiet.{IsQuiet, AreQuiet}
+use Rattle.lr_host.specs.Sets.{LogSet, in_set}
+use Rattle.lr_host.specs.Runs.{rules_of, state_of, SomeRule, has_begun}
+use Rattle.lr_host.specs.Safe.{IsSafe, KeepsSafe}
+use Rattle.lr_host.specs.Steady.{IsSteady, IsSteadyAt, NoneAttached}
+use Rattle.lr_host.specs.Looks.{Sees, IsFile}
+use Rattle.lr_host.proofs.Each.{filter_reverse, each_reverse, each_as}
+use Rattle.lr_host.proofs.Left.{later_fit}
+use Rattle.lr_host.proofs.Made.{Cut, cut, CutAt, cut_one, made_journal, made_on}
+use Rattle.lr_host.proofs.Steady.{steady_before, steady_at, none_attached}
+use Rattle.lr_laws.specs.Rotation.{IsAside, IsRotation, LogFits}
+use Rattle.lr_laws.specs.Stays.{Rotates}
+use Rattle.lr_laws.proofs.Calls.{aside_walked, rotation_filter, later_rotation}
+use Rattle.lr_laws.proofs.Outside.{in_set_own}
+use Rattle.lr_laws.proofs.Stated.{quiet_safe}
+use Rattle.lr_laws.proofs.Walk.{walk, log_filter}
+use Rattle.lr_family.proofs.Numbers.{every_all}
+use Rattle.lr_chain.specs.Rotation.{places_of, rotation}
+use Rattle.lr_chain.proofs.Steps.{each_rotation}
+use Rattle.lr_rotations.specs.AllTurns.{IsStatePath, IsOfState, IsOfSome, IsOfOther, StandsBetween, AllTurns, MayTurnAll, not_yet, started, IsWholeRun}
+use Rattle.lr_rotations.specs.Apart.{HasNames}
+use Rattle.lr_rotations.specs.Members.{IsFamily, HasName, AreThere, HaveNext}
+use Rattle.lr_rotations.specs.Shown.{Shown}
+use Rattle.lr_rotations.specs.Target.{Target, rotation_of, IsSeen, AreSeen, IsOneOf}
+use Rattle.lr_rotations.specs.Weave.{Among, FirstWoven}
+use Rattle.lr_rotations.proofs.Fitting.{fits}
+use Rattle.lr_rotations.proofs.Given.{no_meet, naming_same, counts}
+use Rattle.lr_rotations.proofs.Moments.{saw_file, shown_members}
+use Rattle.lr_rotations.proofs.Outside.{lies_aside}
+use Rattle.lr_rotations.proofs.Over.{first_aside}
+use Rattle.lr_rotations.proofs.SeenFits.{seen_names}
+use Rattle.lr_rotations.proofs.Still.{IsStill, quiet_safe_on, made_still}
+use Rattle.lr_rotations.proofs.Turning.{is_one}
+use Rattle.lr_rotations.proofs.Weaving.{each_in, weave_as, weave_back, IsApart, apart_aside, IsWoven, woven}
+
+-- ---- the state's path
+
+quiet_state : (p : Past) (e : Entry) → IsQuiet e → state_of (p ▸ e) ≡ state_of p
+quiet_state p (entry.Starts state now rules) (i, h) = absurd (cc)
+quiet_state p _ i = refl
+
+wrote_state : (p : Past) (e : Entry) → IsWriters e → state_of (p ▸ e) ≡ state_of p
+wrote_state p (entry.Starts state now rules) i = absurd i
+wrote_state p _ i = refl
+
+state_same : (p q : Past) (es : List Entry) → Made p es q → Each IsQuiet es → state_of q ≡ state_of p
+state_same p _ _ at_first a = refl
+state_same p _ es (by_writer {q = q} {e = e} m i f) a = wrote_state q e i ∙ state_same p q es m a
+state_same p _ _ (by_tool {es = es} {q = q} {e = e} m i f) a = quiet_state q e a.0 ∙ state_same p q es m a.1
+
+-- ---- a moment of a run behind its looks
+
+record Here (s : LogSet) (state : Path) (rules : Rules) (v : Past) : Type 0 where
+  journal : IsJournal v
+  safe : IsSafe s v
+  steady : IsSteadyAt s v
+  rules_are : rules_of v ≡ rules.sets
+  state_is : state_of v ≡ Some state
+  not_begun : has_begun s v ≡ false
+
+true_or_not : (b : Bool) → (b ≡ true) ⊎ (b ≡ false)
+true_or_not true = inl refl
+true_or_not false = inr refl
+
+no_name_out : (s : LogSet) (x : Path) → (IsName s.log s.naming x → ⊥) → in_set s x ≡ false
+no_name_out s x none = ⊎_elim (λ t. absurd (none (inl (in_set_own s x t)))) (λ f. f) (true_or_not (in_set s x))
+
+module _ (s : LogSet) (state : Path) (rules : Rules) (v : Past) (here : Here s state rules v) where
+  state_out : (x : Path) → IsStatePath state x → in_set s x ≡ false
+  state_out x (inl is) = no_name_out s x (λ n. here.steady.state state here.state_is (subst (IsName s.log s.naming) is n))
+  state_out x (inr is) = no_name_out s x (λ n. here.steady.new_state state here.state_is (subst (IsName s.log s.naming) is n))
+
+  state_apart : (e : Entry) → IsOfState state e → IsApart s e
+  state_apart (entry.Renames from to) h = (state_out from h.0, state_out to h.1)
+  state_apart (entry.Makes x mode) h = state_out x h
+  state_apart (entry.Appends x bytes) h = state_out x h
+  state_apart (entry.Unlinks x) h = state_out x h
+  state_apart _ h = absurd h
+
+-- ---- the steps of a rotation make no directory
+
+abbrev IsNoDir : Entry → Type 0
+IsNoDir (entry.MakesDir x mode) = ⊥
+IsNoDir _ = Unit {0}
+
+rotation_no_dir : (n : Naming) (c : Count) (log : Path) (places : List ℕ) → Each IsNoDir (rotation n c log places)
+rotation_no_dir n c log places = each_rotation IsNoDir (λ x. tt) (λ x y. tt) n c log places
+
+apart_of : (s : LogSet) (e : Entry) → IsNoDir e → IsAside s e → IsApart s e
+apart_of s (entry.MakesDir x mode) i a = absurd i
+apart_of s (entry.Renames from to) i a = a
+apart_of s (entry.Unlinks x) i a = a
+apart_of s (entry.Makes x mode) i a = a
+apart_of s (entry.Appends x bytes) i a = a
+apart_of s (entry.Truncates x) i a = a
+apart_of s (entry.Starts state now rules) i a = a
+apart_of s (entry.Attach writer x at) i a = a
+apart_of s (entry.Feed writer bytes at) i a = a
+apart_of s (entry.Flush writer) i a = a
+apart_of s (entry.Detach writer) i a = a
+apart_of s (entry.Cut kept lengths) i a = a
+apart_of s _ i a = tt
+
+-- ---- what the looks tell of one log
+
+record Known (t : Target) (v : Past) : Type 0 where
+  file : IsFileAt (names (world v)) t.log
+  names_all : HasNames t
+
+module _ (s : LogSet) (state : Path) (rules : Rules) (u v : Past) (looks : List Entry) (quiet : AreQuiet looks) (m : Made u (reverse looks) v) (here : Here s state rules v) (none_at : NoneAttached s v) where
+  in_order : reverse (reverse looks) ≡ looks
+  in_order = reverse-reverse looks
+
+  quiet_in_order : AreQuiet (reverse (reverse looks))
+  quiet_in_order = subst AreQuiet (sym in_order) quiet
+
+  known : (t : Target) → IsSeen rules looks t → Known t v
+  known t seen = record { file = saw_file u v (reverse looks) t.log m quiet_in_order (subst (Among (Sees t.log IsFile)) (sym in_order) seen.log_seen); names_all = seen_names rules looks t seen }
+
+  -- the steps of another log are apart
+  other_apart : (t : Target) → IsSeen rules looks t → t.log ≢ s.log → (e : Entry) → IsIn e (rotation_of t) → IsApart s e
+  other_apart t seen other e i = apart_of s e (each_in IsNoDir (rotation_of t) e (rotation_no_dir t.naming t.count t.log (places_of t.stand.members)) i) (each_in (IsAside s) (rotation_of t) e aside i)
+    where
+      k : Known t v
+      k = known t seen
+
+      aside : Each (IsAside s) (rotation_of t)
+      aside = lies_aside s t.log t.naming seen.family.numbered (no_meet s v rules.sets t.log t.naming t.count here.steady here.rules_are seen.given k.file other) t.count (places_of t.stand.members) (every_all (HasName t.naming) (places_of t.stand.members) k.names_all.named) k.names_all.next
+
+  others_apart : (ts : List Target) → AreSeen rules looks ts → (e : Entry) → IsOfOther s.log ts e → IsApart s e
+  others_apart [] seen e h = absurd h
+  others_apart (t ∷ ts) seen e (inl h) = other_apart t seen.0 h.0 e h.1
+  others_apart (t ∷ ts) seen e (inr h) = others_apart ts seen.1 e h
+
+  -- where none of the logs is the set's
+  all_apart : (ts : List Target) → AreSeen rules looks ts → ((t : Target) → IsOneOf t ts → t.log ≢ s.log) → (e : Entry) → IsOfSome ts e → IsApart s e
+  all_apart [] seen ne e h = absurd h
+  all_apart (t ∷ ts) seen ne e (inl h) = other_apart t seen.0 (ne t (inl refl)) e h
+  all_apart (t ∷ ts) seen ne e (inr h) = all_apart ts seen.1 (λ x i. ne x (inr i)) e h
+
+  seen_one : (ts : List Target) → AreSeen rules looks ts → (t : Target) → IsOneOf t ts → IsSeen rules looks t
+  seen_one [] seen t i = absurd i
+  seen_one (x ∷ xs) seen t (inl is) = subst (IsSeen rules looks) is seen.0
+  seen_one (x ∷ xs) seen t (inr i) = seen_one xs seen.1 t i
+
+  find : (ts : List Target) → ((t : Target) × IsOneOf t ts × (t.log ≡ s.log)) ⊎ ((t : Target) → IsOneOf t ts → t.log ≢ s.log)
+  find [] = inr (λ t i. absurd i)
+  find (t ∷ ts) = ⊎_elim (λ same. inl (t, inl refl, (bytes_eq-Decides t.log s.log).0 same)) (λ differ. ⊎_elim (λ f. inl (f.0, inr f.1, f.2)) (λ ne. inr (none_of differ ne)) (find ts)) (true_or_not (bytes_eq t.log s.log))
+    where
+      none_of : bytes_eq t.log s.log ≡ false → ((x : Target) → IsOneOf x ts → x.log ≢ s.log) → (x : Target) → IsOneOf x (t ∷ ts) → x.log ≢ s.log
+      none_of differ ne x (inl is) same = let e : bytes_eq t.log s.log ≡ true = (bytes_eq-Decides t.log s.log).1 (ap (λ (y : Target). y.log) is ∙ same) in cc
+      none_of differ ne x (inr i) same = ne x i same
+
+  -- the set's own log is turned, with the steps of others between its own
+  own_safe : (t : Target) → IsSeen rules looks t → t.log ≡ s.log → (acts : List Entry) (q : Past) → FirstWoven (IsApart s) (rotation_of t) (filter is_change acts) → Made v (reverse acts) q → NoneAttached s q → IsSafe s q
+  own_safe t seen same acts q w mq none_q = (walk s v q rotates.limit (reverse acts) rotates.numbered mq
+      (log_filter s (names (world v)) (reverse acts) (subst (LogFits s (names (world v))) (sym (filter_reverse is_change acts)) all.fits))
+      (rotation_filter s rotates.limit v q (reverse acts) mq (subst (IsRotation s v rotates.limit) (sym (filter_reverse is_change acts)) all.rotation))
+      none_q here.journal here.safe rotates.ready).safe
+    where
+      k : Known t v
+      k = known t seen
+
+      naming : s.naming ≡ t.naming
+      naming = naming_same s v rules.sets t.log t.naming t.count here.steady here.rules_are seen.given (sym same)
+
+      places : List ℕ
+      places = places_of t.stand.members
+
+      stands : AreThere t.naming (names (world v)) places
+      stands =
+          subst (λ (x : Naming). AreThere x (names (world v)) places) naming
+          (shown_members s u v (reverse looks) places (subst (λ (x : Path). IsFamily x s.naming) same (subst (λ (x : Naming). IsFamily t.log x) (sym naming) seen.family))
+          m quiet_in_order none_at
+          (subst (λ (x : Naming). Shown x places (reverse (reverse looks))) (sym naming) (subst (Shown t.naming places) (sym in_order) seen.seen)))
+
+      rotates : Rotates (rotation_of t) s v
+      rotates =
+          subst (λ (n : Naming). Rotates (rotation n t.count t.log places) s v) naming
+          (subst (λ (x : Path). Rotates (rotation s.naming t.count x places) s v) (sym same)
+          (is_one s v t.count places
+          (subst (λ (x : Path). IsFamily x s.naming) same (subst (λ (n : Naming). IsFamily t.log n) (sym naming) seen.family))
+          (subst (λ (x : Path). IsFileAt (names (world v)) x) same k.file)
+          (subst (λ (n : Naming). AreThere n (names (world v)) places) (sym naming) stands)
+          (subst (λ (n : Naming). HaveNext n t.count places) (sym naming) k.names_all.next)
+          here.not_begun here.safe
+          (subst (λ (x : Path). SomeRule (rules_of v) x (λ r. r.count ≡ t.count)) same (counts v rules.sets t.log t.naming t.count here.rules_are seen.given))))
+
+      split : reverse (rotation_of t) ≡ reverse w.first.0 ++ reverse w.made
+      split = ap reverse w.first.1 ∙ reverse-append w.made w.first.0
+
+      all : IsWoven s v rotates.limit (reverse w.made) (reverse (filter is_change acts))
+      all = woven s v rotates.limit (reverse w.made) (reverse (filter is_change acts)) (weave_back (IsApart s) w.made (filter is_change acts) w.woven)
+          (later_rotation s v rotates.limit (reverse w.first.0) (reverse w.made) (subst (IsRotation s v rotates.limit) split rotates.rotation))
+          (later_fit (names (world v)) (reverse w.first.0) (reverse w.made) (subst (FitAll (names (world v))) split (fits (names (world v)) t.log t.naming t.count places seen.family k.file stands k.names_all.next)))
+
+  -- behind all acts
+  acts_safe : (ts : List Target) → AreSeen rules looks ts → (acts : List Entry) (q : Past) → Each (λ e. IsOfSome ts e ⊎ IsOfState state e) (filter is_change acts)
+      → ((t : Target) → IsOneOf t ts → FirstWoven (StandsBetween state t.log ts) (rotation_of t) (filter is_change acts)) → Made v (reverse acts) q → NoneAttached s q → IsSafe s q
+  acts_safe ts seen acts q all each mq none_q = ⊎_elim own others (find ts)
+    where
+      own : ((t : Target) × IsOneOf t ts × (t.log ≡ s.log)) → IsSafe s q
+      own f = own_safe f.0 (seen_one ts seen f.0 f.1) f.2 acts q (record { made = (each f.0 f.1).made; first = (each f.0 f.1).first; woven = weave_as _ (IsApart s) _ _ apart (each f.0 f.1).woven }) mq none_q
+        where
+          apart : (e : Entry) → StandsBetween state f.0.log ts e → IsApart s e
+          apart e h = ⊎_elim (λ o. others_apart ts seen e (subst (λ (x : Path). IsOfOther x ts e) f.2 o)) (λ o. state_apart s state rules v here e o) h
+
+      others : ((t : Target) → IsOneOf t ts → t.log ≢ s.log) → IsSafe s q
+      others ne = aside_walked s v q (reverse acts) here.journal here.safe mq
+          (first_aside s (filter is_change acts) acts v q ([], sym (append-nil (filter is_change acts)))
+          (each_as (λ e. IsOfSome ts e ⊎ IsOfState state e) (IsAside s) (filter is_change acts) (λ e h. apart_aside s e (⊎_elim (λ o. all_apart ts seen ne e o) (λ o. state_apart s state rules v here e o) h)) all) mq) none_q
+
+-- ---- the whole run
+
+-- the moment behind the looks
+record Looked (s : LogSet) (state : Path) (rules : Rules) (b q : Past) (looks acts : List Entry) : Type 0 where
+  mid : Past
+  first : Made b (reverse looks) mid
+  second : Made mid (reverse acts) q
+  here : Here s state rules mid
+  none : NoneAttached s mid
+
+looked : (s : LogSet) (u q : Past) (state : Path) (now : Moment) (rules : Rules) (tail looks acts : List Entry) → tail ≡ looks ++ acts → AreQuiet looks → Made (u ▸ entry.Starts state now rules) (reverse tail) q
+    → IsJournal (u ▸ entry.Starts state now rules) → IsSafe s (u ▸ entry.Starts state now rules) → IsSteady s q → Looked s state rules (u ▸ entry.Starts state now rules) q looks acts
+looked s u q state now rules tail looks acts joined quiet m journal safe st = record { mid = k.mid; first = k.first; second = k.second; here = here; none = none_attached s k.mid steady_mid }
+  where
+    b : Past
+    b = u ▸ entry.Starts state now rules
+
+    k : Cut b q (reverse acts) (reverse looks)
+    k = cut b q (reverse tail) (reverse acts) (reverse looks) (ap reverse joined ∙ reverse-append looks acts) m
+
+    steady_mid : IsSteady s k.mid
+    steady_mid = steady_before s k.mid q (reverse acts) k.second st
+
+    quiet_back : Each IsQuiet (reverse looks)
+    quiet_back = each_reverse IsQuiet looks quiet
+
+    still : IsStill s b k.mid
+    still = made_still s b k.mid (reverse looks) k.first quiet_back
+
+    here : Here s state rules k.mid
+    here = record {
+      journal = made_journal b k.mid (reverse looks) k.first journal;
+      safe = quiet_safe_on s b k.mid looks quiet journal safe k.first steady_mid;
+      steady = steady_at s u k.mid (entry.Starts state now rules) (reverse looks) k.first steady_mid;
+      rules_are = still.rules;
+      state_is = state_same b k.mid (reverse looks) k.first quiet_back;
+      not_begun = still.begun refl;
+    }
+
+tail_safe : (s : LogSet) (u q : Past) (state : Path) (now : Moment) (rules : Rules) (tail : List Entry) → AllTurns state rules tail → Made (u ▸ entry.Starts state now rules) (reverse tail) q
+    → IsJournal (u ▸ entry.Starts state now rules) → IsSafe s (u ▸ entry.Starts state now rules) → IsSteady s q → IsSafe s q
+tail_safe s u q state now rules tail t m journal safe st =
+    let k = looked s u q state now rules tail t.looks t.acts t.joined t.quiet m journal safe st in
+    acts_safe s state rules (u ▸ entry.Starts state now rules) k.mid t.looks t.quiet k.first k.here k.none t.targets t.seen t.acts q t.all t.each k.second (none_attached s q st)
+
+-- where none of the logs is the set's, each change lies apart of it
+pub acts_apart : (s : LogSet) (u q : Past) (state : Path) (now : Moment) (rules : Rules) (tail : List Entry) (t : AllTurns state rules tail) → Made (u ▸ entry.Starts state now rules) (reverse tail) q
+    → IsJournal (u ▸ entry.Starts state now rules) → IsSafe s (u ▸ entry.Starts state now rules) → IsSteady s q → ((x : Target) → IsOneOf x t.targets → x.log ≢ s.log) → Each (IsApart s) (filter is_change t.acts)
+acts_apart s u q state now rules tail t m journal safe st ne =
+    let k = looked s u q state now rules tail t.looks t.acts t.joined t.quiet m journal safe st in
+    each_as (λ e. IsOfSome t.targets e ⊎ IsOfState state e) (IsApart s) (filter is_change t.acts)
+    (λ e h. ⊎_elim (λ o. all_apart s state rules (u ▸ entry.Starts state now rules) k.mid t.looks t.quiet k.first k.here k.none t.targets t.seen ne e o) (λ o. state_apart s state rules k.mid k.here e o) h) t.all
+
+pub run_safe : (s : LogSet) (p q : Past) (es : List Entry) → IsJournal p → IsSafe s p → Made p es q → IsWholeRun (reverse es) → IsSteady s q → IsSafe s q
+run_safe s p q es journal safe m run st = go run.goes_on
+  where
+    k : Cut p q (reverse run.rest) (reverse run.front)
+    k = cut p q es (reverse run.rest) (reverse run.front) (sym (reverse-reverse es) ∙ (ap reverse run.joined ∙ reverse-append run.front run.rest)) m
+
+    journal_mid : IsJournal k.mid
+    journal_mid = made_journal p k.mid (reverse run.front) k.first journal
+
+    safe_mid : IsSafe s k.mid
+    safe_mid = quiet_safe_on s p k.mid run.front run.quiet journal safe k.first (steady_before s k.mid q (reverse run.rest) k.second st)
+
+    go : MayTurnAll run.rest → IsSafe s q
+    go (not_yet none) = quiet_safe_on s k.mid q [] tt journal_mid safe_mid (subst (λ (ts : List Entry). Made k.mid (reverse ts) q) none k.second) st
+    go (started state now rules tail is tail_is) =
+        tail_safe s a.mid q state now rules tail tail_is behind_start (journal_u, a.fits) (quiet_safe s a.mid (entry.Starts state now rules) (journal_u, a.fits) safe_u (tt, refl)) st
+      where
+        behind : reverse run.rest ≡ reverse tail ++ entry.Starts state now rules ∷ []
+        behind = ap reverse is ∙ reverse-append (entry.Starts state now rules ∷ []) tail
+
+        c : Cut k.mid q (reverse tail) (entry.Starts state now rules ∷ [])
+        c = cut k.mid q (reverse run.rest) (reverse tail) (entry.Starts state now rules ∷ []) behind k.second
+
+        a : CutAt k.mid c.mid [] (entry.Starts state now rules) []
+        a = cut_one k.mid c.mid (entry.Starts state now rules ∷ []) [] (entry.Starts state now rules) refl c.first
+
+        behind_start : Made (a.mid ▸ entry.Starts state now rules) (reverse tail) q
+        behind_start = subst (λ (ts : List Entry). Made (a.mid ▸ entry.Starts state now rules) ts q) (append-nil (reverse tail))
+            (made_on (a.mid ▸ entry.Starts state now rules) c.mid q [] (reverse tail) a.second c.second)
+
+        steady_u : IsSteady s a.mid
+        steady_u = (steady_before s (a.mid ▸ entry.Starts state now rules) q (reverse tail) behind_start st).0
+
+        journal_u : IsJournal a.mid
+        journal_u = made_journal k.mid a.mid [] a.first journal_mid
+
+        safe_u : IsSafe s a.mid
+        safe_u = quiet_safe_on s k.mid a.mid [] tt journal_mid safe_mid a.first steady_u
+
+pub call_safe : (o n : Option Journal) → Left IsWholeRun o n → KeepsSafe o n
+call_safe o n not_told = tt
+call_safe o n (is_told {j = j} {k = k} {es = es} m run) = λ s journal safe st. run_safe s (past j) (past k) es journal safe m run st

@@ -1,0 +1,147 @@
+-- The steps of a rotation are those of one rotation of the set, each while its limit allows it.
+use Rattle.std.proofs.Common.{◌≡◌, ◌≢◌, inl, inr, ℕ, zero, suc, ◌+◌, ◌<◌, ◌≤◌, ◌==◌, Bool, true, false, not, cond, bytes_eq, List, [], ◌∷◌, ◌++◌, map, reverse, refl, sym, ap, ◌∙◌, subst, append_assoc, arith, nat_le, ℤ, pos, Option, Some}
+use Rattle.std.specs.List.{list_any}
+use Rattle.std.proofs.lemmas.List.{reverse-append, append-nil}
+use Rattle.std.proofs.lemmas.Bool.Decides.{nat_tests}
+use Rattle.lr_rules.specs.declared.rule.Count.{Count}
+use Rattle.lr_rules.specs.declared.rule.Count.TheVariants as count
+use Rattle.lr_host.specs.declared.thing.Thing.TheVariants as thing
+use Rattle.lr_host.specs.declared.entry.Entry.{Entry}
+use Rattle.lr_host.specs.declared.entry.Entry.TheVariants as entry
+use Rattle.lr_host.specs.World.{Names, put, Past, world, names, names_after}
+use Rattle.lr_host.specs.Fits.{IsFileAt}
+use Rattle.lr_host.specs.Steps.{changes_of}
+use Rattle.lr_host.specs.Sets.{LogSet, Order, Numbered, order, order_of, IsKeyBy}
+use Rattle.lr_host.specs.Runs.{rules_of, SomeRule, has_begun}
+use Rattle.lr_host.specs.Safe.{IsSafe}
+use Rattle.lr_laws.specs.Rotation.{IsPastCount, IsStep, limit_by, limit_after, IsRotation}
+use Rattle.lr_laws.specs.Stays.{Rotates}
+use Rattle.lr_laws.proofs.Stated.{ready_first}
+use Rattle.lr_family.specs.Spots.{path_at}
+use Rattle.lr_family.proofs.Numbers.{Every, Falls, every_as, every_all, every_filter, every_passes, falls_filter}
+use Rattle.lr_chain.specs.Rotation.{is_left, leftovers, kept, one_too_many, unlink_at, move_at, rotation}
+use Rattle.lr_rotations.specs.Members.{IsFamily, HasName, AreThere, HaveNext}
+use Rattle.lr_chain.proofs.Falling.{falls_all}
+use Rattle.lr_rotations.proofs.Paths.{path_member}
+use Rattle.lr_rotations.proofs.Fitting.{Before, unlinked, moved, move_free, log_free, after_one, left_apart, kept_next, first_named, above_all, all_below, at_start}
+
+pub numbered : (s : LogSet) → IsFamily s.log s.naming → order s ≡ Numbered
+numbered s f = ap order_of f.numbered
+
+-- a numbered member's key is its place
+pub key_at : (s : LogSet) (place : ℕ) → order s ≡ Numbered → HasName s.naming place → s.key (path_at s.naming place) ≡ Some (pos place)
+key_at s place is i = (keys (path_at s.naming place) (pos place)).1 (place, refl, path_member s.naming place i)
+  where
+    keys : IsKeyBy Numbered s.naming s.key
+    keys = subst (λ (o : Order). IsKeyBy o s.naming s.key) is s.keys
+
+-- the first of them first
+abbrev TurnsOn : LogSet → Past → ℕ → Names → List Entry → Type 0
+TurnsOn s p limit m [] = Unit {0}
+TurnsOn s p limit m (e ∷ es) = IsStep s p limit m e × TurnsOn s p (limit_after s limit (e ∷ [])) (names_after m (changes_of (e ∷ []))) es
+
+limit_one : (s : LogSet) (limit : ℕ) (done : List Entry) (e : Entry) → limit_after s (limit_after s limit done) (e ∷ []) ≡ limit_after s limit (e ∷ done)
+limit_one s limit done (entry.Renames from to) = refl
+limit_one s limit done _ = refl
+
+turns_behind : (s : LogSet) (p : Past) (limit : ℕ) (done es : List Entry) → IsRotation s p limit done → TurnsOn s p (limit_after s limit done) (names_after (names (world p)) (changes_of done)) es → IsRotation s p limit (reverse es ++ done)
+turns_behind s p limit done [] r on = r
+turns_behind s p limit done (e ∷ es) r on =
+    subst (λ (xs : List Entry). IsRotation s p limit xs) (sym (ap (λ xs. xs ++ done) (reverse-append (e ∷ []) es) ∙ append_assoc (reverse es) (e ∷ []) done))
+    (turns_behind s p limit (e ∷ done) es (r, inr on.0)
+    (subst (λ (v : Names). TurnsOn s p (limit_after s limit (e ∷ done)) v es) (after_one (names (world p)) done e)
+    (subst (λ (l : ℕ). TurnsOn s p l (names_after (names_after (names (world p)) (changes_of done)) (changes_of (e ∷ []))) es) (limit_one s limit done e) on.1)))
+
+module _ (s : LogSet) (p : Past) (family : IsFamily s.log s.naming) (c : Count) (rule : SomeRule (rules_of p) s.log (λ r. r.count ≡ c)) where
+  -- the count says that the member at this place may go
+  abbrev May : ℕ → Type 0
+  May place = IsPastCount s p place
+
+  unlinks_turn : (m : Names) (limit : ℕ) (ls ks : List ℕ) (rest : List Entry) → Every (HasName s.naming) ls → Every (HasName s.naming) ks → Falls ls → Every (λ l. Every (λ k. k ≢ l) ks) ls → Every May ls → Before s.log s.naming m limit ls ks
+      → ((v : Names) → Before s.log s.naming v limit [] ks → TurnsOn s p limit v rest) → TurnsOn s p limit m (map (unlink_at s.naming) ls ++ rest)
+  unlinks_turn m limit [] ks rest il ik falls apart may b then = then m b
+  unlinks_turn m limit (l ∷ ls) ks rest il ik falls apart may b then = (
+    (l, key_at s l (numbered s family) il.0, inl may.0),
+    unlinks_turn (put m (path_at s.naming l) thing.Nothing) limit ls ks rest il.1 ik falls.1 apart.1 may.1
+        (unlinked s.log s.naming family m limit l ls ks il.0 il.1 ik (every_as (λ k. k < l) (λ k. k ≢ l) ls (λ k lt e. omega (arith, lt, e)) falls.0) apart.0 b) then,
+  )
+
+  moves_turn : (m : Names) (limit : ℕ) (ks : List ℕ) (rest : List Entry) → Every (HasName s.naming) ks → Every (λ k. HasName s.naming (k + 1)) ks → Falls ks → Every (λ k. k < limit) ks → Before s.log s.naming m limit [] ks
+      → ((v : Names) (l : ℕ) → Before s.log s.naming v l [] [] → TurnsOn s p l v rest) → TurnsOn s p limit m (map (move_at s.naming) ks ++ rest)
+  moves_turn m limit [] rest ik next falls small b then = then m limit b
+  moves_turn m limit (k ∷ ks) rest ik next falls small b then = (
+    (
+      move_free s.log s.naming family m limit k ks next.0 falls.0 small.0 b,
+      inl (k, small.0, key_at s k (numbered s family) ik.0, key_at s (k + 1) (numbered s family) next.0),
+    ),
+    subst (λ (l : ℕ). TurnsOn s p l after (map (move_at s.naming) ks ++ rest)) (sym at_limit)
+        (moves_turn after k ks rest ik.1 next.1 falls.1 falls.0 (moved s.log s.naming family m limit k ks ik.0 next.0 ik.1 falls.0 small.0 b) then),
+  )
+    where
+      after : Names
+      after = put (put m (path_at s.naming k) thing.Nothing) (path_at s.naming (k + 1)) (m (path_at s.naming k))
+
+      at_limit : limit_by (s.key (path_at s.naming k)) (bytes_eq s.log (path_at s.naming k)) limit ≡ k
+      at_limit = ap (λ (o : Option ℤ). limit_by o (bytes_eq s.log (path_at s.naming k)) limit) (key_at s k (numbered s family) ik.0)
+
+  may_keep : (c : Count) → SomeRule (rules_of p) s.log (λ r. r.count ≡ c) → (k place : ℕ) → c ≡ count.Keep k → k ≤ place → IsPastCount s p place
+  may_keep c rule k place e le = (k, subst (λ (d : Count). SomeRule (rules_of p) s.log (λ r. r.count ≡ d)) e rule, le)
+
+  last_turns : (m : Names) (limit : ℕ) (places : List ℕ) → HaveNext s.naming c places → Before s.log s.naming m limit [] [] → TurnsOn s p limit m (entry.Renames s.log (path_at s.naming 0) ∷ map (unlink_at s.naming) (one_too_many c places))
+  last_turns m limit places next b = (
+    (log_free s.log s.naming family m limit first b, inr (refl, key_at s 0 (numbered s family) first)),
+    last c refl next (limit_after s limit (entry.Renames s.log (path_at s.naming 0) ∷ [])),
+  )
+    where
+      first : HasName s.naming 0
+      first = first_named s.naming c places next
+
+      after : Names
+      after = put (put m s.log thing.Nothing) (path_at s.naming 0) (m s.log)
+
+      last : (d : Count) → c ≡ d → HaveNext s.naming d places → (l : ℕ) → TurnsOn s p l after (map (unlink_at s.naming) (one_too_many d places))
+      last count.Always e h l = tt
+      last (count.Keep zero) e h l = ((0, key_at s 0 (numbered s family) first, inl (may_keep c rule 0 0 e (omega arith))), tt)
+      last (count.Keep (suc k)) e h l = go (list_any (λ place. place == k) places)
+        where
+          go : (b : Bool) → TurnsOn s p l after (map (unlink_at s.naming) (cond b (suc k ∷ []) []))
+          go true = ((suc k, key_at s (suc k) (numbered s family) h, inl (may_keep c rule (suc k) (suc k) e (omega arith))), tt)
+          go false = tt
+
+  left_may : (d : Count) → c ≡ d → (l : ℕ) → is_left d l ≡ true → IsPastCount s p l
+  left_may count.Always e l t = absurd (cc)
+  left_may (count.Keep k) e l t = may_keep c rule k l e (le k l t)
+    where
+      le : (k l : ℕ) → nat_le k l ≡ true → k ≤ l
+      le k l t = grind (arith, nat_tests)
+
+  whole : (places : List ℕ) → IsFileAt (names (world p)) s.log → AreThere s.naming (names (world p)) places → HaveNext s.naming c places → IsRotation s p above_all (reverse (rotation s.naming c s.log places))
+  whole places f t next =
+      subst (λ (xs : List Entry). IsRotation s p above_all xs) (append-nil (reverse (rotation s.naming c s.log places)))
+      (turns_behind s p above_all [] (rotation s.naming c s.log places) tt
+      (unlinks_turn (names (world p)) above_all (leftovers c places) (kept c places) ((map (move_at s.naming) (kept c places) ++ entry.Renames s.log (path_at s.naming 0) ∷ []) ++ map (unlink_at s.naming) (one_too_many c places))
+      (every_filter (HasName s.naming) (is_left c) places named) kept_named (falls_filter (is_left c) places falls) (left_apart c places)
+      (every_as (λ l. is_left c l ≡ true) May (leftovers c places) (λ l e. left_may c refl l e) (every_passes (is_left c) places))
+      (at_start s.log s.naming (names (world p)) c places f t)
+      (λ v b. subst (TurnsOn s p above_all v) (sym (append_assoc (map (move_at s.naming) (kept c places)) (entry.Renames s.log (path_at s.naming 0) ∷ []) (map (unlink_at s.naming) (one_too_many c places))))
+      (moves_turn v above_all (kept c places) (entry.Renames s.log (path_at s.naming 0) ∷ map (unlink_at s.naming) (one_too_many c places))
+      kept_named (kept_next s.naming c places next) (falls_filter (λ k. not (is_left c k)) places falls) (all_below s.naming (kept c places) kept_named) b
+      (λ w l b'. last_turns w l places next b')))))
+    where
+      falls : Falls places
+      falls = falls_all places t.falling
+
+      named : Every (HasName s.naming) places
+      named = every_all (HasName s.naming) places t.named
+
+      kept_named : Every (HasName s.naming) (kept c places)
+      kept_named = every_filter (HasName s.naming) (λ k. not (is_left c k)) places named
+
+pub is_one : (s : LogSet) (p : Past) (c : Count) (places : List ℕ) → IsFamily s.log s.naming → IsFileAt (names (world p)) s.log → AreThere s.naming (names (world p)) places → HaveNext s.naming c places → has_begun s p ≡ false → IsSafe s p
+    → SomeRule (rules_of p) s.log (λ r. r.count ≡ c) → Rotates (rotation s.naming c s.log places) s p
+is_one s p c places family f t next not_begun safe rule = record {
+  numbered = numbered s family;
+  limit = above_all;
+  ready = ready_first s p above_all safe (numbered s family) not_begun;
+  rotation = whole s p family c rule places f t next;
+}

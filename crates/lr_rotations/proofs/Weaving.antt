@@ -1,0 +1,190 @@
+-- Entries woven into others.
+use Rattle.std.proofs.Common.{◌≡◌, ◌⊎◌, inl, inr, ℕ, Bool, true, false, cond, refl, sym, ◌∙◌, ap, subst, Option, Some, None, is_some, bytes_eq, List, [], ◌∷◌, ◌++◌, ◌<◌, reverse, append-nil, ℤ, pos}
+use Rattle.std.proofs.lemmas.List.{reverse-append}
+use Rattle.std.proofs.lemmas.Bool.{or_left, or_right, or_parts}
+use Rattle.std.proofs.lemmas.Slice.Eq.{bytes_eq-Decides}
+use Rattle.lr_rules.specs.declared.path.Path.{Path}
+use Rattle.lr_host.specs.declared.thing.Thing.{Thing}
+use Rattle.lr_host.specs.declared.thing.Thing.TheVariants as thing
+use Rattle.lr_host.specs.declared.entry.Entry.{Entry}
+use Rattle.lr_host.specs.declared.entry.Entry.TheVariants as entry
+use Rattle.lr_host.specs.declared.entry.Entry.TheVariants.{Renames, Unlinks, Makes, MakesDir}
+use Rattle.lr_host.specs.World.{Names, put, names_after, Past, world, names}
+use Rattle.lr_host.specs.Fits.{IsFileAt}
+use Rattle.lr_host.specs.Lists.{IsIn}
+use Rattle.lr_host.specs.Told.{CanCall, Each}
+use Rattle.lr_host.specs.Steps.{changes_of, FitAll}
+use Rattle.lr_host.specs.Sets.{LogSet, in_set}
+use Rattle.lr_host.proofs.Names.{put_other}
+use Rattle.lr_laws.specs.Rotation.{IsAside, IsStep, limit_by, limit_after, IsRotation, LogFits}
+use Rattle.lr_rotations.specs.Weave.{Weave, none, own, other}
+
+-- ---- lists
+
+pub each_in : (P : Entry → Type 0) (es : List Entry) (e : Entry) → Each P es → IsIn e es → P e
+each_in P [] e a i = absurd i
+each_in P (x ∷ xs) e a (inl is) = subst P is a.0
+each_in P (x ∷ xs) e a (inr i) = each_in P xs e a.1 i
+
+pub weave_as : (P Q : Entry → Type 0) (os es : List Entry) → ((e : Entry) → P e → Q e) → Weave P os es → Weave Q os es
+weave_as P Q _ _ f none = none
+weave_as P Q _ _ f (own {steps = os} {all = es} e w) = own e (weave_as P Q os es f w)
+weave_as P Q os _ f (other {all = es} e p w) = other e (f e p) (weave_as P Q os es f w)
+
+pub weave_on : (P : Entry → Type 0) (os es os' es' : List Entry) → Weave P os es → Weave P os' es' → Weave P (os ++ os') (es ++ es')
+weave_on P _ _ os' es' none v = v
+weave_on P _ _ os' es' (own {steps = os} {all = es} e w) v = own e (weave_on P os es os' es' w v)
+weave_on P os _ os' es' (other {all = es} e p w) v = other e p (weave_on P os es os' es' w v)
+
+pub weave_back : (P : Entry → Type 0) (os es : List Entry) → Weave P os es → Weave P (reverse os) (reverse es)
+weave_back P _ _ none = none
+weave_back P _ _ (own {steps = os} {all = es} e w) =
+    subst (λ xs. Weave P xs (reverse (e ∷ es))) (sym (reverse-append (e ∷ []) os)) (subst (λ xs. Weave P (reverse os ++ e ∷ []) xs) (sym (reverse-append (e ∷ []) es))
+    (weave_on P (reverse os) (reverse es) (e ∷ []) (e ∷ []) (weave_back P os es w) (own e none)))
+weave_back P os _ (other {all = es} e p w) =
+    subst (λ xs. Weave P xs (reverse (e ∷ es))) (append-nil (reverse os)) (subst (λ xs. Weave P (reverse os ++ []) xs) (sym (reverse-append (e ∷ []) es))
+    (weave_on P (reverse os) (reverse es) [] (e ∷ []) (weave_back P os es w) (other e p none)))
+
+-- entries of P alone
+pub weave_others : (P : Entry → Type 0) (es : List Entry) → Each P es → Weave P [] es
+weave_others P [] a = none
+weave_others P (e ∷ es) a = other e a.0 (weave_others P es a.1)
+
+-- entries alone
+pub weave_own : (P : Entry → Type 0) (es : List Entry) → Weave P es es
+weave_own P [] = none
+weave_own P (e ∷ es) = own e (weave_own P es)
+
+-- ---- entries outside of a set
+
+-- the entry lies aside, and makes no directory at a path of the set
+abbrev pub IsApart : LogSet → Entry → Type 0
+IsApart s (MakesDir x mode) = in_set s x ≡ false
+IsApart s e = IsAside s e
+
+pub apart_aside : (s : LogSet) (e : Entry) → IsApart s e → IsAside s e
+apart_aside s (MakesDir x mode) out = tt
+apart_aside s (Renames from to) out = out
+apart_aside s (Unlinks x) out = out
+apart_aside s (Makes x mode) out = out
+apart_aside s (entry.Appends x bytes) out = out
+apart_aside s (entry.Truncates x) out = out
+apart_aside s (entry.Starts state now rules) out = out
+apart_aside s (entry.Attach writer x at) out = out
+apart_aside s (entry.Feed writer bytes at) out = out
+apart_aside s (entry.Flush writer) out = out
+apart_aside s (entry.Detach writer) out = out
+apart_aside s (entry.Cut kept lengths) out = out
+apart_aside s _ out = tt
+
+-- ---- the names of a set, under its own steps alone and under all
+
+abbrev AreAlike : LogSet → Names → Names → Type 0
+AreAlike s n n' = (y : Path) → in_set s y ≡ true → n y ≡ n' y
+
+clash : (b : Bool) → b ≡ true → b ≡ false → ⊥
+clash b p q = cc
+
+pub both_put : (x y : Path) (t u : Thing) (n n' : Names) → t ≡ u → n y ≡ n' y → put n x t y ≡ put n' x u y
+both_put x y t u n n' tu is = go (bytes_eq x y)
+  where
+    go : (b : Bool) → cond b t (n y) ≡ cond b u (n' y)
+    go true = tu
+    go false = is
+
+pub apart_alike : (s : LogSet) (n : Names) (es : List Entry) (e : Entry) → IsApart s e → AreAlike s (names_after n (changes_of es)) (names_after n (changes_of (e ∷ es)))
+apart_alike s n es (Renames from to) out = λ y i.
+    sym (put_other (put (names_after n (changes_of es)) from thing.Nothing) to y (names_after n (changes_of es) from) (λ same. clash (in_set s y) i (ap (in_set s) same ∙ out.1))
+    ∙ put_other (names_after n (changes_of es)) from y thing.Nothing (λ same. clash (in_set s y) i (ap (in_set s) same ∙ out.0)))
+apart_alike s n es (Unlinks x) out = λ y i. sym (put_other (names_after n (changes_of es)) x y thing.Nothing (λ same. clash (in_set s y) i (ap (in_set s) same ∙ out)))
+apart_alike s n es (MakesDir x mode) out = λ y i. sym (put_other (names_after n (changes_of es)) x y thing.Directory (λ same. clash (in_set s y) i (ap (in_set s) same ∙ out)))
+apart_alike s n es _ out = λ y i. refl
+
+pub keyed : (s : LogSet) (x : Path) (k : ℤ) → s.key x ≡ Some k → in_set s x ≡ true
+keyed s x k is = or_right (bytes_eq s.log x) (is_some (s.key x)) (ap is_some is)
+
+pub logged : (s : LogSet) → in_set s s.log ≡ true
+logged s = or_left (bytes_eq s.log s.log) (is_some (s.key s.log)) ((bytes_eq-Decides s.log s.log).1 refl)
+
+from_in : (s : LogSet) (p : Past) (l : ℕ) (n : Names) (from to : Path) → IsStep s p l n (Renames from to) → in_set s from ≡ true
+from_in s p l n from to (free, inl (k, lt, pf, pt)) = keyed s from (pos k) pf
+from_in s p l n from to (free, inr (at_log, pt)) = ap (in_set s) at_log ∙ logged s
+
+own_alike : (s : LogSet) (p : Past) (l : ℕ) (n : Names) (os es : List Entry) (e : Entry) → IsAside s e ⊎ IsStep s p l (names_after n (changes_of os)) e → AreAlike s (names_after n (changes_of os)) (names_after n (changes_of es))
+    → AreAlike s (names_after n (changes_of (e ∷ os))) (names_after n (changes_of (e ∷ es)))
+own_alike s p l n os es (Renames from to) (inl out) alike = λ y i.
+    sym (apart_alike s n os (Renames from to) out y i) ∙ (alike y i ∙ apart_alike s n es (Renames from to) out y i)
+own_alike s p l n os es (Renames from to) (inr st) alike = λ y i.
+    both_put to y (names_after n (changes_of os) from) (names_after n (changes_of es) from) (put (names_after n (changes_of os)) from thing.Nothing) (put (names_after n (changes_of es)) from thing.Nothing)
+    (alike from (from_in s p l (names_after n (changes_of os)) from to st)) (both_put from y thing.Nothing thing.Nothing (names_after n (changes_of os)) (names_after n (changes_of es)) refl (alike y i))
+own_alike s p l n os es (Unlinks x) st alike = λ y i. both_put x y thing.Nothing thing.Nothing (names_after n (changes_of os)) (names_after n (changes_of es)) refl (alike y i)
+own_alike s p l n os es (MakesDir x mode) st alike = λ y i. both_put x y thing.Directory thing.Directory (names_after n (changes_of os)) (names_after n (changes_of es)) refl (alike y i)
+own_alike s p l n os es _ st alike = alike
+
+-- ---- limits
+
+out_limit : (o : Option ℤ) (b : Bool) (l : ℕ) → is_some o ≡ false → b ≡ false → limit_by o b l ≡ l
+out_limit (Some k) b l p q = absurd (cc)
+out_limit None true l p q = absurd (cc)
+out_limit None false l p q = refl
+
+apart_limit : (s : LogSet) (limit : ℕ) (es : List Entry) (e : Entry) → IsApart s e → limit_after s limit (e ∷ es) ≡ limit_after s limit es
+apart_limit s limit es (Renames from to) out = let h = or_parts (bytes_eq s.log from) (is_some (s.key from)) out.0 in out_limit (s.key from) (bytes_eq s.log from) (limit_after s limit es) h.1 h.0
+apart_limit s limit es _ out = refl
+
+own_limit : (s : LogSet) (limit : ℕ) (os es : List Entry) (e : Entry) → limit_after s limit os ≡ limit_after s limit es → limit_after s limit (e ∷ os) ≡ limit_after s limit (e ∷ es)
+own_limit s limit os es (Renames from to) same = ap (limit_by (s.key from) (bytes_eq s.log from)) same
+own_limit s limit os es _ same = same
+
+-- ---- a rotation with others between its steps
+
+step_as : (s : LogSet) (p : Past) (l l' : ℕ) (n n' : Names) (e : Entry) → l ≡ l' → AreAlike s n n' → IsStep s p l n e → IsStep s p l' n' e
+step_as s p l l' n n' (Renames from to) same alike (free, inl (k, lt, pf, pt)) = (sym (alike to (keyed s to _ pt)) ∙ free, inl (k, subst (λ m. k < m) same lt, pf, pt))
+step_as s p l l' n n' (Renames from to) same alike (free, inr (at_log, pt)) = (sym (alike to (keyed s to (pos 0) pt)) ∙ free, inr (at_log, pt))
+step_as s p l l' n n' (Unlinks x) same alike (k, pl, inl count) = (k, pl, inl count)
+step_as s p l l' n n' (Unlinks x) same alike (k, pl, inr old) = (k, pl, inr (λ g is. old g (alike x (keyed s x (pos k) pl) ∙ is)))
+step_as s p l l' n n' (Makes x mode) same alike st = st
+step_as s p l l' n n' _ same alike st = absurd st
+
+pub record IsWoven (s : LogSet) (p : Past) (limit : ℕ) (os es : List Entry) : Type 0 where
+  pub rotation : IsRotation s p limit es
+  pub fits : LogFits s (names (world p)) es
+  pub limits : limit_after s limit os ≡ limit_after s limit es
+  pub alike : AreAlike s (names_after (names (world p)) (changes_of os)) (names_after (names (world p)) (changes_of es))
+
+pub log_there : (s : LogSet) (n : Names) (e : Entry) (to : Path) → e ≡ Renames s.log to → CanCall n e → IsFileAt n s.log
+log_there s n e to is can = (subst (CanCall n) is can).0
+
+pub woven : (s : LogSet) (p : Past) (limit : ℕ) (os es : List Entry) → Weave (IsApart s) os es → IsRotation s p limit os → FitAll (names (world p)) os → IsWoven s p limit os es
+woven s p limit _ _ none rot fit = record { rotation = tt; fits = tt; limits = refl; alike = λ y i. refl }
+woven s p limit _ _ (own {steps = os} {all = es} e w) rot fit = more (woven s p limit os es w rot.0 fit.0)
+  where
+    n : Names
+    n = names (world p)
+
+    step : (k : IsWoven s p limit os es) → IsAside s e ⊎ IsStep s p (limit_after s limit os) (names_after n (changes_of os)) e → IsAside s e ⊎ IsStep s p (limit_after s limit es) (names_after n (changes_of es)) e
+    step k (inl out) = inl out
+    step k (inr st) = inr (step_as s p (limit_after s limit os) (limit_after s limit es) (names_after n (changes_of os)) (names_after n (changes_of es)) e k.limits k.alike st)
+
+    more : IsWoven s p limit os es → IsWoven s p limit (e ∷ os) (e ∷ es)
+    more k = record {
+      rotation = (k.rotation, step k rot.1);
+      fits = (k.fits, λ to is. let f = log_there s (names_after n (changes_of os)) e to is fit.1 in (f.0, sym (k.alike s.log (logged s)) ∙ f.1));
+      limits = own_limit s limit os es e k.limits;
+      alike = own_alike s p (limit_after s limit os) n os es e rot.1 k.alike;
+    }
+woven s p limit os _ (other {all = es} e out w) rot fit = more (woven s p limit os es w rot fit)
+  where
+    n : Names
+    n = names (world p)
+
+    none_to : (e : Entry) → IsApart s e → (to : Path) → e ≡ Renames s.log to → ⊥
+    none_to e out to is = let o = subst (IsApart s) is out in clash (in_set s s.log) (logged s) o.0
+
+    more : IsWoven s p limit os es → IsWoven s p limit os (e ∷ es)
+    more k = record {
+      rotation = (k.rotation, inl (apart_aside s e out));
+      fits = (k.fits, λ to is. absurd (none_to e out to is));
+      limits = k.limits ∙ sym (apart_limit s limit es e out);
+      alike = λ y i. k.alike y i ∙ apart_alike s n es e out y i;
+    }

@@ -1,0 +1,8 @@
+use Rattle.lr_rotations.proofs.SeenFits.{seen_can, seen_names}
+use Rattle.lr_rotations.proofs.run.seen_can_be_rotated.Goals as goal
+
+pub returns-clause-fits : goal.returns-clause-fits
+returns-clause-fits c = seen_can
+
+pub returns-clause-names : goal.returns-clause-names
+returns-clause-names c = seen_names

@@ -1,0 +1,78 @@
+-- The entries of a run that looks at all its logs first, and rotates them then.
+use Rattle.std.specs.Prelude.{◌≡◌, ◌≢◌, ◌⊎◌, List, [], ◌∷◌, ◌++◌, filter, codes, cond, bytes_eq}
+use Rattle.std.specs.List.{flat_map}
+use Rattle.lr_rules.specs.declared.path.Path.{Path}
+use Rattle.lr_rules.specs.declared.civil.Moment.{Moment}
+use Rattle.lr_rules.specs.declared.rules.Rules.{Rules}
+use Rattle.lr_host.specs.declared.entry.Entry.{Entry}
+use Rattle.lr_host.specs.declared.entry.Entry.TheVariants as entry
+use Rattle.lr_host.specs.Lists.{IsIn}
+use Rattle.lr_host.specs.Quiet.{AreQuiet}
+use Rattle.lr_host.specs.Steps.{is_change}
+use Rattle.lr_host.specs.Told.{Each}
+use Rattle.lr_laws.specs.Follow.{changed_paths}
+use Rattle.lr_rotations.specs.Target.{Target, rotation_of, AreSeen, IsOneOf}
+use Rattle.lr_rotations.specs.Weave.{Weave, FirstWoven}
+
+-- the path is the state's, or that of its part file
+abbrev pub IsStatePath : Path → Path → Type 0
+IsStatePath state x = (x ≡ state) ⊎ (x ≡ state ++ codes ".tmp")
+
+-- the entry changes such paths alone
+abbrev pub IsOfState : Path → Entry → Type 0
+IsOfState state (entry.Renames from to) = IsStatePath state from × IsStatePath state to
+IsOfState state (entry.Makes x mode) = IsStatePath state x
+IsOfState state (entry.Appends x bytes) = IsStatePath state x
+IsOfState state (entry.Unlinks x) = IsStatePath state x
+IsOfState state _ = ⊥
+
+-- the entry is a step of the rotation of one of these logs
+abbrev pub IsOfSome : List Target → Entry → Type 0
+IsOfSome [] e = ⊥
+IsOfSome (t ∷ ts) e = IsIn e (rotation_of t) ⊎ IsOfSome ts e
+
+-- of one that is another than this
+abbrev pub IsOfOther : Path → List Target → Entry → Type 0
+IsOfOther log [] e = ⊥
+IsOfOther log (t ∷ ts) e = ((t.log ≢ log) × IsIn e (rotation_of t)) ⊎ IsOfOther log ts e
+
+-- of another log, or of the state: what may stand between this log's own
+abbrev pub StandsBetween : Path → Path → List Target → Entry → Type 0
+StandsBetween state log targets e = IsOfOther log targets e ⊎ IsOfState state e
+
+-- the paths that the steps of other logs change, and those of the state
+abbrev pub paths_of_others : Path → List Target → List Path
+paths_of_others log [] = []
+paths_of_others log (t ∷ ts) = cond (bytes_eq t.log log) (paths_of_others log ts) (flat_map changed_paths (rotation_of t) ++ paths_of_others log ts)
+
+abbrev pub other_paths : Path → Path → List Target → List Path
+other_paths state log targets = state ∷ (state ++ codes ".tmp") ∷ paths_of_others log targets
+
+-- All logs were looked at while nothing was changed. Of the changes behind that, each is a step of one of the logs or is the state's; seen from each log, they are a first part of its own rotation, in order, with the steps of others between.
+pub record AllTurns (state : Path) (rules : Rules) (ts : List Entry) : Type 0 where
+  pub looks : List Entry
+  pub acts : List Entry
+  pub joined : ts ≡ looks ++ acts
+  pub quiet : AreQuiet looks
+  pub targets : List Target
+  pub seen : AreSeen rules looks targets
+  pub all : Each (λ e. IsOfSome targets e ⊎ IsOfState state e) (filter is_change acts)
+  pub each : (t : Target) → IsOneOf t targets → FirstWoven (StandsBetween state t.log targets) (rotation_of t) (filter is_change acts)
+
+-- Each log was rotated whole: its rotation stands in order, with the steps of others between.
+pub record AllTurned (state : Path) (rules : Rules) (ts : List Entry) : Type 0 where
+  pub turns : AllTurns state rules ts
+  pub whole : (t : Target) → IsOneOf t turns.targets → Weave (StandsBetween state t.log turns.targets) (rotation_of t) (filter is_change turns.acts)
+
+-- What a run did behind what it read: nothing more, or it started, looked, and rotated.
+pub data MayTurnAll (ts : List Entry) : Type 0 where
+  not_yet : ts ≡ [] → MayTurnAll ts
+  started : (state : Path) (now : Moment) (rules : Rules) (tail : List Entry) → ts ≡ entry.Starts state now rules ∷ tail → AllTurns state rules tail → MayTurnAll ts
+
+-- The entries of a run, in order, as far as it came.
+pub record IsWholeRun (ts : List Entry) : Type 0 where
+  pub front : List Entry
+  pub rest : List Entry
+  pub joined : ts ≡ front ++ rest
+  pub quiet : AreQuiet front
+  pub goes_on : MayTurnAll rest

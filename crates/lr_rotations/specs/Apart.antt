@@ -1,0 +1,15 @@
+-- Logs whose rotations have names for all their members.
+use Rattle.std.specs.Prelude.{List, [], ◌∷◌, All}
+use Rattle.lr_chain.specs.Rotation.{places_of}
+use Rattle.lr_rotations.specs.Members.{IsFamily, HasName, HaveNext}
+use Rattle.lr_rotations.specs.Target.{Target}
+
+-- each member that was seen has a name, and each place that one comes to
+pub record HasNames (t : Target) : Type 0 where
+  pub family : IsFamily t.log t.naming
+  pub named : All (HasName t.naming) (places_of t.stand.members)
+  pub next : HaveNext t.naming t.count (places_of t.stand.members)
+
+abbrev pub HaveNames : List Target → Type 0
+HaveNames [] = Unit {0}
+HaveNames (t ∷ ts) = HasNames t × HaveNames ts

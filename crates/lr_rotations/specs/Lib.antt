@@ -1,0 +1,7 @@
+pub mod AllTurns
+pub mod Apart
+pub mod Members
+pub mod Rotated
+pub mod Shown
+pub mod Target
+pub mod Weave

@@ -1,0 +1,45 @@
+-- The members of a family that stand, by their places.
+use Rattle.std.specs.Prelude.{◌≡◌, ◌≢◌, ◌+◌, ◌≤◌, ℕ, List, reverse, All, Contains, None}
+use Rattle.std.specs.List.Sorted.{IsStrictlyIncreasing}
+use Rattle.lr_rules.specs.declared.path.Path.{Path}
+use Rattle.lr_rules.specs.declared.rule.Count.{Count}
+use Rattle.lr_rules.specs.declared.rule.Count.TheVariants as count
+use Rattle.lr_rules.specs.declared.rule.Naming.{Naming}
+use Rattle.lr_rules.specs.Path.{path_fault}
+use Rattle.lr_host.specs.declared.thing.Thing.TheVariants as thing
+use Rattle.lr_host.specs.World.{Names, Past}
+use Rattle.lr_host.specs.Fits.{IsFileAt, IsDirectoryAt}
+use Rattle.lr_host.specs.Quiet.{AttachedOnlySince}
+use Rattle.lr_family.specs.Kin.{IsKin}
+use Rattle.lr_family.specs.Spots.{path_at}
+
+-- The log and the naming are those of a numbered family, whose directory has a path.
+pub record IsFamily (log : Path) (n : Naming) : Type 0 where
+  pub numbered : n.dated ≡ None
+  pub kin : IsKin log n
+  pub dir : path_fault n.dir ≡ None
+
+-- the place has a name
+abbrev pub HasName : Naming → ℕ → Type 0
+HasName n place = n.start + place ≤ 4294967295
+
+-- the path is no member's
+abbrev pub IsNoMember : Naming → Path → Type 0
+IsNoMember n x = (place : ℕ) → HasName n place → x ≢ path_at n place
+
+-- no writer attached a member since
+abbrev pub NoMemberAttached : Naming → Past → Past → Type 0
+NoMemberAttached n p q = AttachedOnlySince (IsNoMember n) p q
+
+-- Under these names the members at these places stand, the highest first, each a regular file; no other member's path names anything, and their directory is there.
+pub record AreThere (n : Naming) (m : Names) (places : List ℕ) : Type 0 where
+  pub dir : IsDirectoryAt m n.dir
+  pub falling : IsStrictlyIncreasing (reverse places)
+  pub named : All (HasName n) places
+  pub files : (place : ℕ) → Contains places place → IsFileAt m (path_at n place)
+  pub others : (place : ℕ) → HasName n place → (Contains places place → ⊥) → m (path_at n place) ≡ thing.Nothing
+
+-- The place that the log comes to has a name, and each that a member comes to.
+abbrev pub HaveNext : Naming → Count → List ℕ → Type 0
+HaveNext n (count.Keep k) places = HasName n k
+HaveNext n count.Always places = HasName n 0 × All (λ place. HasName n (place + 1)) places

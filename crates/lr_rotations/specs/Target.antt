@@ -1,0 +1,60 @@
+-- The logs that a run may rotate, and what it saw of each.
+use Rattle.std.specs.Prelude.{◌≡◌, ◌⊎◌, ◌+◌, ℕ, false, List, [], ◌∷◌, Any, Contains}
+use Rattle.lr_rules.specs.declared.path.Path.{Path}
+use Rattle.lr_rules.specs.declared.rule.Count.{Count}
+use Rattle.lr_rules.specs.declared.rule.Count.TheVariants as count
+use Rattle.lr_rules.specs.declared.rule.Naming.{Naming}
+use Rattle.lr_rules.specs.declared.rule.Rule.{Rule}
+use Rattle.lr_rules.specs.declared.rules.Rules.{Rules}
+use Rattle.lr_rules.specs.Match.{is_wildcard, literal_path}
+use Rattle.lr_rules.specs.Names.{naming_of}
+use Rattle.lr_host.specs.declared.entry.Entry.{Entry}
+use Rattle.lr_host.specs.Looks.{Sees, IsFile}
+use Rattle.lr_family.specs.declared.stand.Member.{Member}
+use Rattle.lr_family.specs.declared.stand.Stand.{Stand}
+use Rattle.lr_family.specs.Stands.{number_in}
+use Rattle.lr_chain.specs.Rotation.{places_of, rotation}
+use Rattle.lr_rotations.specs.Members.{IsFamily}
+use Rattle.lr_rotations.specs.Shown.{Shown}
+use Rattle.lr_rotations.specs.Weave.{Among}
+
+-- One of the rules has a word that is the path of this log. The rule gives the log this naming and this count.
+pub record IsGiven (rules : List Rule) (log : Path) (n : Naming) (c : Count) : Type 0 where
+  pub rule : Rule
+  pub word : List ℕ
+  pub among : Contains rules rule
+  pub has : Contains rule.words word
+  pub literal : is_wildcard word ≡ false
+  pub log_is : literal_path word ≡ log
+  pub naming_is : naming_of rule log ≡ n
+  pub count_is : rule.count ≡ c
+
+-- a member has the highest number that there is, and all members are kept: it would have to move
+abbrev pub IsOneTooHigh : Naming → Count → List Member → Type 0
+IsOneTooHigh n c members = (c ≡ count.Always) × Any (λ m. n.start + number_in m.place ≡ 4294967295) members
+
+-- A log that a run may rotate: its naming and count, and what stood of its family.
+pub record Target : Type 0 where
+  pub log : Path
+  pub naming : Naming
+  pub count : Count
+  pub stand : Stand
+
+abbrev pub rotation_of : Target → List Entry
+rotation_of t = rotation t.naming t.count t.log (places_of t.stand.members)
+
+-- A literal word of a rule gives the log; it was seen as a file, and its members were, wherever these looks stand.
+pub record IsSeen (rules : Rules) (looks : List Entry) (t : Target) : Type 0 where
+  pub given : IsGiven rules.sets t.log t.naming t.count
+  pub family : IsFamily t.log t.naming
+  pub log_seen : Among (Sees t.log IsFile) looks
+  pub seen : Shown t.naming (places_of t.stand.members) looks
+  pub low : IsOneTooHigh t.naming t.count t.stand.members → ⊥
+
+abbrev pub AreSeen : Rules → List Entry → List Target → Type 0
+AreSeen rules looks [] = Unit {0}
+AreSeen rules looks (t ∷ ts) = IsSeen rules looks t × AreSeen rules looks ts
+
+abbrev pub IsOneOf : Target → List Target → Type 0
+IsOneOf t [] = ⊥
+IsOneOf t (x ∷ xs) = (x ≡ t) ⊎ IsOneOf t xs
