@@ -1,0 +1,6 @@
+pub mod Copying
+pub mod Course
+pub mod Done
+pub mod Internal
+pub mod Outcomes
+pub mod Steps

@@ -1,0 +1,79 @@
+-- What a step leaves: where it was made, and where it failed.
+use Rattle.std.specs.Prelude.{◌≡◌, ◌≢◌, ◌⊎◌, pos, ℕ, List, [], ◌∷◌, Option}
+use Rattle.lr_rules.specs.declared.path.Path.{Path}
+use Rattle.lr_rules.specs.declared.fault.CallKind.TheVariants as call
+use Rattle.lr_rules.specs.declared.fault.Ended.{Ended}
+use Rattle.lr_rules.specs.declared.fault.Ended.TheVariants as ended
+use Rattle.lr_rules.specs.declared.fault.Fault.{Fault}
+use Rattle.lr_rules.specs.declared.fault.Fault.TheVariants as fault
+use Rattle.lr_rules.specs.declared.fault.Phase.{Phase}
+use Rattle.lr_host.specs.declared.entry.Entry.{Entry}
+use Rattle.lr_host.specs.declared.entry.Entry.TheVariants as entry
+use Rattle.lr_host.specs.Looks.{Sees, IsDir, IsNotDir}
+use Rattle.lr_scripts.specs.declared.command.Command.{Command}
+use Rattle.lr_scripts.specs.Programs.{runs}
+use Rattle.lr_plan.specs.Copying.{Copied, CopyBroke, Appended, AppendBroke}
+use Rattle.lr_plan.specs.declared.mark.Mark.{Mark}
+use Rattle.lr_plan.specs.declared.mark.Mark.TheVariants as mark
+use Rattle.lr_plan.specs.declared.step.Step.{Step}
+use Rattle.lr_plan.specs.declared.step.Step.TheVariants.{Runs, Removes, MakesDir, Renames, Creates, Takes, Copies, Appends, SyncsFile, SyncsDir, Truncates, Rotated}
+
+-- this entry alone; this entry or none
+abbrev pub One : Entry → List Entry → Type 0
+One e ts = ts ≡ e ∷ []
+
+abbrev pub Maybe : Entry → List Entry → Type 0
+Maybe e ts = (ts ≡ []) ⊎ (ts ≡ e ∷ [])
+
+-- The step was made: each of its calls answered Ok, a program with 0. A make of a path that is named leaves nothing.
+abbrev pub Succeeds : Step → List Entry → Type 0
+Succeeds (Runs phase on command) ts = One (runs command (ended.Exit (pos 0))) ts
+Succeeds (Removes path) ts = One (entry.Unlinks path) ts
+Succeeds (MakesDir path mode) ts = One (entry.MakesDir path mode) ts ⊎ Sees path IsDir ts
+Succeeds (Renames from to) ts = One (entry.Renames from to) ts
+Succeeds (Creates path mode) ts = Maybe (entry.Makes path mode) ts
+Succeeds (Takes path mode) ts = One (entry.Makes path mode) ts
+Succeeds (Copies from to limit) ts = Copied from to 0 [] ts
+Succeeds (Appends path text) ts = Appended path text ts
+Succeeds (SyncsFile path) ts = One (entry.SyncsFile path) ts
+Succeeds (SyncsDir path) ts = One (entry.SyncsDir path) ts
+Succeeds (Truncates path) ts = One (entry.Truncates path) ts
+Succeeds (Rotated log) ts = ts ≡ []
+
+-- what the step tells those behind it, once it was made
+abbrev pub marks_of : Step → List Mark
+marks_of (Rotated log) = mark.Rotated log ∷ []
+marks_of (MakesDir path mode) = mark.Directory path ∷ []
+marks_of (Creates path mode) = mark.Created path ∷ []
+marks_of _ = []
+
+-- a call of the step failed, with the entry of that call or without
+abbrev pub CallFailed : Fault → Fault → Entry → List Entry → Type 0
+CallFailed told f e ts = (f ≡ told) × Maybe e ts
+
+-- a program ended badly, or couldn't be run
+pub data ProgramFailed (phase : Phase) (on : List ℕ) (command : Command) (f : Fault) (ts : List Entry) : Type 0 where
+  badly : (end : Ended) → end ≢ ended.Exit (pos 0) → f ≡ fault.Script phase on end → One (runs command end) ts → ProgramFailed phase on command f ts
+  not_run : f ≡ fault.Call call.Run command.program → ts ≡ [] → ProgramFailed phase on command f ts
+  maybe_run : (end : Ended) → f ≡ fault.Call call.Run command.program → One (runs command end) ts → ProgramFailed phase on command f ts
+
+-- a directory couldn't be made, or the path is named and isn't one
+pub data DirFailed (path : Path) (mode : Option ℕ) (f : Fault) (ts : List Entry) : Type 0 where
+  at_make : CallFailed (fault.Call call.MakeDir path) f (entry.MakesDir path mode) ts → DirFailed path mode f ts
+  at_look : f ≡ fault.Call call.Look path → ts ≡ [] → DirFailed path mode f ts
+  no_dir : f ≡ fault.NotFile path → Sees path IsNotDir ts → DirFailed path mode f ts
+
+-- The step failed so: what its calls left up to the one that failed, and of that one its entry or none.
+abbrev pub Fails : Step → Fault → List Entry → Type 0
+Fails (Runs phase on command) f ts = ProgramFailed phase on command f ts
+Fails (Removes path) f ts = CallFailed (fault.Call call.Unlink path) f (entry.Unlinks path) ts
+Fails (MakesDir path mode) f ts = DirFailed path mode f ts
+Fails (Renames from to) f ts = CallFailed (fault.Call call.Rename from) f (entry.Renames from to) ts
+Fails (Creates path mode) f ts = CallFailed (fault.Call call.Make path) f (entry.Makes path mode) ts
+Fails (Takes path mode) f ts = CallFailed (fault.Call call.Make path) f (entry.Makes path mode) ts ⊎ ((f ≡ fault.Taken path) × (ts ≡ []))
+Fails (Copies from to limit) f ts = CopyBroke from to limit 0 [] f ts
+Fails (Appends path text) f ts = (f ≡ fault.Call call.Append path) × AppendBroke path text ts
+Fails (SyncsFile path) f ts = CallFailed (fault.Call call.Sync path) f (entry.SyncsFile path) ts
+Fails (SyncsDir path) f ts = CallFailed (fault.Call call.Sync path) f (entry.SyncsDir path) ts
+Fails (Truncates path) f ts = CallFailed (fault.Call call.Truncate path) f (entry.Truncates path) ts
+Fails (Rotated log) f ts = ⊥

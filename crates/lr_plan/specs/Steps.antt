@@ -1,0 +1,126 @@
+-- The steps of a plan, in order.
+use Rattle.std.specs.Prelude.{ℕ, Bool, true, false, List, [], ◌∷◌, ◌++◌, map, Option, Some, None, slice_index_or, codes, if◌then◌else◌}
+use Rattle.std.specs.List.{flat_map}
+use Rattle.lr_rules.specs.declared.path.Path.{Path}
+use Rattle.lr_rules.specs.declared.rule.Make.{Make}
+use Rattle.lr_rules.specs.declared.rule.Make.TheVariants as make
+use Rattle.lr_rules.specs.declared.fault.Phase.{Phase}
+use Rattle.lr_rules.specs.declared.fault.Phase.TheVariants as phase
+use Rattle.lr_rules.specs.Path.{parent_of}
+use Rattle.lr_scripts.specs.declared.command.Command.{Command}
+use Rattle.lr_scripts.specs.declared.removal.Removal.{Removal}
+use Rattle.lr_chain.specs.declared.ready.Move.{Move}
+use Rattle.lr_chain.specs.declared.ready.Ready.{Ready}
+use Rattle.lr_plan.specs.declared.job.Job.{Job}
+use Rattle.lr_plan.specs.declared.plan.LogPlan.{LogPlan}
+use Rattle.lr_plan.specs.declared.plan.SetPlan.{SetPlan}
+use Rattle.lr_plan.specs.declared.plan.Plan.{Plan}
+use Rattle.lr_plan.specs.declared.step.SetSteps.{SetSteps}
+use Rattle.lr_plan.specs.declared.step.Step.{Step}
+use Rattle.lr_plan.specs.declared.step.Step.TheVariants.{Runs, Removes, MakesDir, Renames, Creates, Takes, Copies, Appends, SyncsFile, SyncsDir, Truncates, Rotated}
+
+-- ---- programs
+
+abbrev pub input_of : Option Path → List ℕ
+input_of None = []
+input_of (Some path) = path
+
+-- what a program is about: the mailed file; of a script, which is handed to a shell as `-c TEXT NAME ARGS..`, its first argument
+abbrev pub on_of : Phase → Command → List ℕ
+on_of phase.Mail command = input_of command.input
+on_of _ command = slice_index_or command.args 3 []
+
+-- the step of a program, where there is one
+abbrev pub program : Phase → Option Command → List Step
+program p None = []
+program p (Some command) = Runs p (on_of p command) command ∷ []
+
+-- ---- one log
+
+-- its preremove and its mail, where there are any, and its unlink
+abbrev pub removal : Removal → List Step
+removal r = program phase.Preremove r.preremove ++ (program phase.Mail r.mail ++ Removes r.path ∷ [])
+
+abbrev pub removals : List Removal → List Step
+removals rs = flat_map removal rs
+
+abbrev pub directory : Option (Path × Option ℕ) → List Step
+directory None = []
+directory (Some (path, mode)) = MakesDir path mode ∷ []
+
+abbrev pub move : Move → Step
+move m = Renames m.from m.to
+
+abbrev pub step_if : Bool → Step → List Step
+step_if b step = if b then step ∷ [] else []
+
+-- a copy: into a part file that is synced, which then gets the final path; the log is emptied last
+abbrev pub copy : Job → List Step
+copy job = step_if job.stale (Removes job.part) ++ (Takes job.part job.mode ∷ Copies job.from job.part job.limit ∷ SyncsFile job.part ∷ Renames job.part job.to ∷ SyncsDir job.dir ∷ step_if job.cut (Truncates job.from))
+
+-- how the log comes to its final path
+abbrev pub transfer : Path → Path → Option Job → List Step
+transfer log target None = Renames log target ∷ []
+transfer log target (Some job) = copy job
+
+-- the log is made anew where the rule says so; behind a copy it stands already
+abbrev pub anew : Make → Path → List Step
+anew make.No log = []
+anew (make.Yes mode) log = Creates log mode ∷ []
+
+abbrev pub made_anew : Make → Path → Option Job → List Step
+made_anew m log None = anew m log
+made_anew m log (Some job) = []
+
+-- the rotation of a log: the leftovers, the family's directory, the chain, the log itself, and the log anew
+abbrev pub rotation : Ready → Option Job → List Step
+rotation ready job = removals ready.leftovers ++ (directory ready.dir ++ (map move ready.moves ++ (transfer ready.log ready.target job ++ (Rotated ready.log ∷ made_anew ready.make ready.log job))))
+
+-- its retirement, behind the postrotate: the mail of the first file, and these removals
+abbrev pub retirement : Option Command → List Removal → List Step
+retirement first_mail files = program phase.Mail first_mail ++ removals files
+
+abbrev pub rotation_of : LogPlan → List Step
+rotation_of log = rotation log.ready log.job
+
+abbrev pub retirement_of : LogPlan → List Step
+retirement_of log = retirement log.first_mail log.ready.retire
+
+-- of a log by itself
+abbrev pub steps_of_log : LogPlan → List Step
+steps_of_log log = program phase.Pre log.pre ++ (rotation_of log ++ (program phase.Post log.post ++ retirement_of log))
+
+-- ---- one definition
+
+-- of logs that share their scripts
+abbrev pub shared_steps : SetPlan → List Step
+shared_steps set =
+    program phase.First set.first ++ (program phase.Pre set.pre ++ (flat_map rotation_of set.logs ++ (program phase.Post set.post ++ (flat_map retirement_of set.logs ++ program phase.Last set.last))))
+
+-- of logs each by itself
+abbrev pub single_steps : SetPlan → SetSteps
+single_steps set = record { first = program phase.First set.first; each = map steps_of_log set.logs; last = program phase.Last set.last }
+
+abbrev pub by_logs : Bool → List LogPlan → SetPlan → SetSteps
+by_logs shared [] set = record { first = []; each = []; last = [] }
+by_logs true (log ∷ logs) set = record { first = shared_steps set; each = []; last = [] }
+by_logs false (log ∷ logs) set = single_steps set
+
+-- By what a failed step ends: with shared scripts all that follows in the definition; else firstaction does, and each other step what follows for its log. A definition without a due log does nothing.
+abbrev pub steps_of_set : SetPlan → SetSteps
+steps_of_set set = by_logs set.shared set.logs set
+
+-- Of all definitions, as far as their logs go.
+abbrev pub steps_of_plan : Plan → List SetSteps
+steps_of_plan plan = map steps_of_set plan.sets
+
+-- ---- the state text
+
+-- the file that the text is first written to
+abbrev pub state_part : Path → Path
+state_part state = state ++ codes ".tmp"
+
+-- the text is written into that file, of mode 0640, which is synced and then gets the state's path; an old one that was seen is removed before
+abbrev pub state_steps : Path → Bool → List ℕ → List Step
+state_steps state stale text =
+    step_if stale (Removes (state_part state)) ++ (Takes (state_part state) (Some 416) ∷ Appends (state_part state) text ∷ SyncsFile (state_part state) ∷ Renames (state_part state) state ∷ SyncsDir (parent_of state) ∷ [])
