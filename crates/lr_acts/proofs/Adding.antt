@@ -1,0 +1,161 @@
+-- What parts of the acts add, one behind another.
+use Rattle.std.proofs.Common.{◌≡◌, ℕ, ◌+◌, ◌≤◌, refl, sym, ◌∙◌, ap, subst, List, [], ◌∷◌, ◌++◌, append_assoc, append-nil, Option, Ok, arith}
+use Rattle.lr_rules.specs.declared.fault.Fault.{Fault}
+use Rattle.lr_rules.specs.declared.fault.Fault.TheVariants as fault
+use Rattle.lr_host.specs.declared.entry.Entry.{Entry}
+use Rattle.lr_host.specs.declared.journal.Journal.{Journal}
+use Rattle.lr_host.specs.Told.{Left, Counts, Onward}
+use Rattle.lr_host.proofs.Left.{left_as, left_then, left_first}
+use Rattle.lr_plan.specs.declared.mark.Mark.{Mark}
+use Rattle.lr_plan.specs.declared.step.Step.{Step}
+use Rattle.lr_plan.specs.Outcomes.{Succeeds, Fails, marks_of}
+use Rattle.lr_plan.specs.Course.{Part, Nothing, StepFails}
+use Rattle.lr_acts.specs.declared.progress.Progress.{Progress}
+use Rattle.lr_acts.specs.Adding.{Adds, AreCaused, HasRoom, Fills}
+use Rattle.lr_acts.specs.Making.{FaultCause, StepNames, WasMade, list_of}
+use Rattle.lr_acts.specs.Named.{KeepsNames}
+use Rattle.lr_acts.proofs.Naming.{was_wider, made_names, failed_names, nothing_names, same_names, names_of_more, names_on}
+
+pub onward_on : (a b c : Counts) → Onward a b → Onward b c → Onward a c
+onward_on a b c p q = ((omega (arith, p.0.0, q.0.0), omega (arith, p.0.1, q.0.1), omega (arith, p.0.2, q.0.2)), q.1 ∙ p.1)
+
+pub onward_same : (a : Counts) → Onward a a
+onward_same a = ((omega arith, omega arith, omega arith), refl)
+
+cause_wider : {P Q : List Entry → Type 0} {o m n l : Option Journal} (f : Fault) (a b c d : Counts) → Left P o m → Left Q n l → Onward a b → Onward c d → FaultCause f b c m n → FaultCause f a d o l
+cause_wider (fault.Call kind path) a b c d before behind p q h = omega (arith, p.0.0, q.0.0, h)
+cause_wider (fault.Script phase on end) a b c d before behind p q h = omega (arith, p.0.1, q.0.1, h)
+cause_wider (fault.Taken path) a b c d before behind p q h = was_wider path before h behind
+cause_wider _ a b c d before behind p q h = tt
+
+caused_wider : {P Q : List Entry → Type 0} {o m n l : Option Journal} (fs : List Fault) (a b c d : Counts) → Left P o m → Left Q n l → Onward a b → Onward c d → AreCaused fs b c m n → AreCaused fs a d o l
+caused_wider [] a b c d before behind p q h = tt
+caused_wider (f ∷ fs) a b c d before behind p q h = (cause_wider f a b c d before behind p q h.0, caused_wider fs a b c d before behind p q h.1)
+
+caused_both : (fs gs : List Fault) (a b : Counts) (o n : Option Journal) → AreCaused fs a b o n → AreCaused gs a b o n → AreCaused (fs ++ gs) a b o n
+caused_both [] gs a b o n p q = q
+caused_both (f ∷ fs) gs a b o n p q = (p.0, caused_both fs gs a b o n p.1 q)
+
+here : (o : Option Journal) → Left (λ ts. ts ≡ []) o o
+here o = left_first (λ ts. ts ≡ []) o refl
+
+pub adds_as : {P Q : Part} {ss : List Step} {a b : Progress} {o n : Option Journal} {c d : Counts} → Adds P ss a b o n c d → ((ms : List Mark) (f : List Fault) (ts : List Entry) → P ms f ts → Q ms f ts) → Adds Q ss a b o n c d
+adds_as h f = record {
+  marks = h.marks;
+  faults = h.faults;
+  marks_are = h.marks_are;
+  faults_are = h.faults_are;
+  entries = left_as h.entries (λ ts p. f h.marks h.faults ts p);
+  caused = h.caused;
+  names = h.names;
+  onward = h.onward;
+}
+
+-- these were the first of the steps
+pub adds_of_more : {P : Part} (xs rest all : List Step) {a b : Progress} {o n : Option Journal} {c d : Counts} → all ≡ xs ++ rest → Adds P xs a b o n c d → Adds P all a b o n c d
+adds_of_more xs rest all is h = record {
+  marks = h.marks;
+  faults = h.faults;
+  marks_are = h.marks_are;
+  faults_are = h.faults_are;
+  entries = h.entries;
+  caused = h.caused;
+  names = names_of_more xs rest all is h.names;
+  onward = h.onward;
+}
+
+pub adds_on : {P Q R : Part} (xs ys : List Step) {x y z : Progress} {o m n : Option Journal} {a b c : Counts} → Adds P xs x y o m a b → Adds Q ys y z m n b c
+    → ((ms ms' : List Mark) (f f' : List Fault) (ts ts' : List Entry) → P ms f ts → Q ms' f' ts' → R (ms ++ ms') (f ++ f') (ts ++ ts')) → Adds R (xs ++ ys) x z o n a c
+adds_on xs ys {x = x} {o = o} {n = n} {a = a} {b = b} {c = c} p q f = record {
+  marks = p.marks ++ q.marks;
+  faults = p.faults ++ q.faults;
+  marks_are = q.marks_are ∙ (ap (λ ms. ms ++ q.marks) p.marks_are ∙ append_assoc x.marks.items p.marks q.marks);
+  faults_are = q.faults_are ∙ (ap (λ fs. fs ++ q.faults) p.faults_are ∙ append_assoc x.faults.items p.faults q.faults);
+  entries = left_then p.entries q.entries (λ ts us h k. f p.marks q.marks p.faults q.faults ts us h k);
+  caused = caused_both p.faults q.faults a c o n (caused_wider p.faults a a b c (here o) q.entries (onward_same a) q.onward p.caused) (caused_wider q.faults a b c c p.entries (here n) p.onward (onward_same c) q.caused);
+  names = names_on xs ys p.names q.names;
+  onward = onward_on a b c p.onward q.onward;
+}
+
+-- nothing was added
+pub adds_none : {P : Part} (x : Progress) (o : Option Journal) (a : Counts) → P [] [] [] → Adds P [] x x o o a a
+adds_none {P} x o a p = record {
+  marks = [];
+  faults = [];
+  marks_are = sym (append-nil x.marks.items);
+  faults_are = sym (append-nil x.faults.items);
+  entries = left_first (P [] []) o p;
+  caused = tt;
+  names = same_names [] o;
+  onward = onward_same a;
+}
+
+pub adds_nothing : (steps : List Step) (x : Progress) {o n : Option Journal} {a b : Counts} → Left (λ ts. ts ≡ []) o n → Onward a b → Adds Nothing steps x x o n a b
+adds_nothing steps x l onward = record {
+  marks = [];
+  faults = [];
+  marks_are = sym (append-nil x.marks.items);
+  faults_are = sym (append-nil x.faults.items);
+  entries = left_as l (λ ts e. (refl, refl, e));
+  caused = tt;
+  names = nothing_names steps l;
+  onward = onward;
+}
+
+pub no_more : (x : Progress) → x.marks.items ≡ x.marks.items ++ []
+no_more x = sym (append-nil x.marks.items)
+
+pub no_fault : (x : Progress) → x.faults.items ≡ x.faults.items ++ []
+no_fault x = sym (append-nil x.faults.items)
+
+-- one step was made
+pub step_made : (step : Step) (told : Option Mark) (x y : Progress) {o n : Option Journal} {a b : Counts} → list_of told ≡ marks_of step → y.marks.items ≡ x.marks.items ++ list_of told → y.faults.items ≡ x.faults.items ++ []
+    → Left (Succeeds step) o n → StepNames step (Ok told) n → Onward a b → Adds (WasMade step) (step ∷ []) x y o n a b
+step_made step told x y {o} {n} e ms fs l named onward = record {
+  marks = list_of told;
+  faults = [];
+  marks_are = ms;
+  faults_are = fs;
+  entries = left_as l (λ ts w. (e, refl, w));
+  caused = tt;
+  names = subst (λ (marks : List Mark). KeepsNames (step ∷ []) marks o n) (sym e) (made_names step told l named);
+  onward = onward;
+}
+
+pub step_failed : (step : Step) (f : Fault) (x y : Progress) {o n : Option Journal} {a b : Counts} → y.marks.items ≡ x.marks.items ++ [] → y.faults.items ≡ x.faults.items ++ f ∷ []
+    → Left (Fails step f) o n → FaultCause f a b o n → Onward a b → Adds (StepFails step) (step ∷ []) x y o n a b
+step_failed step f x y ms fs l cause onward = record {
+  marks = [];
+  faults = f ∷ [];
+  marks_are = ms;
+  faults_are = fs;
+  entries = left_as l (λ ts h. record { fault = f; told = refl; none = refl; failed = h });
+  caused = (cause, tt);
+  names = failed_names step f l;
+  onward = onward;
+}
+
+-- ---- room
+
+pub room_part : (m n k : ℕ) (x : Progress) → m + n ≤ k → HasRoom k x → HasRoom m x
+room_part m n k x e r = record { marks = omega (arith, e, r.marks); faults = omega (arith, e, r.faults) }
+
+pub room_rest : (m n k : ℕ) (x y : Progress) → m + n ≤ k → HasRoom k x → Fills m x y → HasRoom n y
+room_rest m n k x y e r f = record {
+  marks = omega (arith, e, r.marks, f.marks, f.marks_room);
+  faults = omega (arith, e, r.faults, f.faults, f.faults_room);
+}
+
+pub fills_none : (x : Progress) → Fills 0 x x
+fills_none x = record { marks = omega arith; faults = omega arith; marks_room = omega arith; faults_room = omega arith }
+
+pub fills_on : (m n k : ℕ) (x y z : Progress) → m + n ≤ k → Fills m x y → Fills n y z → Fills k x z
+fills_on m n k x y z e f g = record {
+  marks = omega (arith, e, f.marks, g.marks);
+  faults = omega (arith, e, f.faults, g.faults);
+  marks_room = omega (arith, f.marks_room, g.marks_room);
+  faults_room = omega (arith, f.faults_room, g.faults_room);
+}
+
+pub fills_more : (m k : ℕ) (x y : Progress) → m ≤ k → Fills m x y → Fills k x y
+fills_more m k x y e f = record { marks = omega (arith, e, f.marks); faults = omega (arith, e, f.faults); marks_room = f.marks_room; faults_room = f.faults_room }

@@ -1,0 +1,6 @@
+mod Adding
+mod Dirs
+mod Naming
+mod Parts
+mod Programs
+mod Texts

@@ -1,0 +1,255 @@
+-- Which names stay behind steps, and which are there.
+use Rattle.std.proofs.Common.{◌≡◌, ◌≢◌, ◌⊎◌, inl, inr, ⊎_elim, false, refl, sym, ◌∙◌, ap, subst, ℕ, ◌+◌, length, List, [], ◌∷◌, ◌++◌, reverse, Option, Ok}
+use Rattle.std.proofs.lemmas.List.{reverse-reverse}
+use Rattle.lr_rules.specs.declared.path.Path.{Path}
+use Rattle.lr_rules.specs.declared.fault.Fault.{Fault}
+use Rattle.lr_host.specs.declared.thing.Thing.{Thing}
+use Rattle.lr_host.specs.declared.thing.Thing.TheVariants as thing
+use Rattle.lr_host.specs.declared.entry.Entry.{Entry}
+use Rattle.lr_host.specs.declared.entry.Entry.TheVariants as entry
+use Rattle.lr_host.specs.declared.entry.Entry.TheVariants.{Look, Reads, Renames, Makes, Appends, Unlinks, MakesDir}
+use Rattle.lr_host.specs.declared.journal.Journal.{Journal}
+use Rattle.lr_host.specs.World.{Past, ◌▸◌, past, world, Names, names, put}
+use Rattle.lr_host.specs.Fits.{Fits}
+use Rattle.lr_host.specs.Steps.{is_naming}
+use Rattle.lr_host.specs.Told.{IsWriters, IsTools, Each, Made, at_first, by_writer, by_tool, Left, not_told, is_told}
+use Rattle.lr_host.proofs.Each.{each_in_order}
+use Rattle.lr_host.proofs.Left.{still_step}
+use Rattle.lr_host.proofs.Looked.{nothing_no_file}
+use Rattle.lr_host.proofs.Made.{made_on}
+use Rattle.lr_host.proofs.More.{not_more, wrote_names}
+use Rattle.lr_host.proofs.Names.{put_cases, put_here}
+use Rattle.lr_plan.specs.declared.mark.Mark.{Mark}
+use Rattle.lr_plan.specs.declared.step.Step.{Step}
+use Rattle.lr_plan.specs.declared.step.Step.TheVariants as step
+use Rattle.lr_plan.specs.Copying.{Copied, at_end, reads, appends, CopyBroke, at_read, at_append, in_append, too_long, read_on, append_on, Appended, no_more, piece_more, AppendBroke, at_piece, in_piece, piece_on}
+use Rattle.lr_plan.specs.Outcomes.{Succeeds, Fails, ProgramFailed, badly, not_run, maybe_run, DirFailed, at_make, at_look, no_dir, marks_of}
+use Rattle.lr_acts.specs.Making.{StepNames}
+use Rattle.lr_acts.specs.Named.{IsNamed, WasNamed, untold, at_moment, TakesName, KeepName, CreatesAt, OneCreates, LastsBehind, TellCreated, KeepsNames}
+
+-- ---- one entry
+
+-- it doesn't take the name of this path away
+abbrev KeepsName : Path → Entry → Type 0
+KeepsName x (Renames from to) = from ≡ x → ⊥
+KeepsName x (Unlinks y) = y ≡ x → ⊥
+KeepsName x _ = Unit {0}
+
+put_stays : (n : Names) (y x : Path) (t : Thing) → (y ≡ x → t ≢ thing.Nothing) → n x ≢ thing.Nothing → put n y t x ≢ thing.Nothing
+put_stays n y x t here ne gone = ⊎_elim (λ a. here (sym a.0) a.1) (λ b. ne b.1) (put_cases n y t x thing.Nothing gone)
+
+still_named : (q : Past) (x : Path) (e : Entry) → IsTools e → Fits (world q) e → is_naming e ≡ false → names (world q) x ≢ thing.Nothing → names (world (q ▸ e)) x ≢ thing.Nothing
+still_named q x e i f h ne = not_more (names (world q)) (names (world (q ▸ e))) x thing.Nothing (still_step q e i f h) (λ g s. cc) ne
+
+tool_keeps : (q : Past) (x : Path) (e : Entry) → IsTools e → Fits (world q) e → KeepsName x e → names (world q) x ≢ thing.Nothing → names (world (q ▸ e)) x ≢ thing.Nothing
+tool_keeps q x (Renames from to) i f k ne = put_stays (put (names (world q)) from thing.Nothing) to x (names (world q) from) (λ s gone. nothing_no_file (names (world q) from) f.0.0 gone f.0.1) (put_stays (names (world q)) from x thing.Nothing (λ s. absurd (k s)) ne)
+tool_keeps q x (Unlinks y) i f k ne = put_stays (names (world q)) y x thing.Nothing (λ s. absurd (k s)) ne
+tool_keeps q x (MakesDir y mode) i f k ne = put_stays (names (world q)) y x thing.Directory (λ s gone. cc) ne
+tool_keeps q x (Makes y mode) i f k ne = still_named q x (Makes y mode) i f refl ne
+tool_keeps q x (entry.Starts state now rules) i f k ne = ne
+tool_keeps q x entry.Ends i f k ne = ne
+tool_keeps q x (Look y seen) i f k ne = ne
+tool_keeps q x (entry.List dir listed) i f k ne = ne
+tool_keeps q x (Reads y from piece) i f k ne = ne
+tool_keeps q x (Appends y bytes) i f k ne = ne
+tool_keeps q x (entry.Truncates y) i f k ne = ne
+tool_keeps q x (entry.SyncsFile y) i f k ne = ne
+tool_keeps q x (entry.SyncsDir y) i f k ne = still_named q x (entry.SyncsDir y) i f refl ne
+tool_keeps q x (entry.Runs program args input ended) i f k ne = ne
+tool_keeps q x _ i f k ne = absurd i
+
+writer_keeps : (q : Past) (x : Path) (e : Entry) → IsWriters e → names (world q) x ≢ thing.Nothing → names (world (q ▸ e)) x ≢ thing.Nothing
+writer_keeps q x e i ne gone = ⊎_elim (λ same. ne (sym same ∙ gone)) (λ new. ne new.0) (wrote_names q e x i)
+
+made_keeps : (x : Path) (p q : Past) (es : List Entry) → Made p es q → Each (KeepsName x) es → names (world p) x ≢ thing.Nothing → names (world q) x ≢ thing.Nothing
+made_keeps x p _ _ at_first k ne = ne
+made_keeps x p _ es (by_writer {q = q} {e = e} m i f) k ne = writer_keeps q x e i (made_keeps x p q es m k ne)
+made_keeps x p _ _ (by_tool {es = es} {q = q} {e = e} m i f) k ne = tool_keeps q x e i f k.0 (made_keeps x p q es m k.1 ne)
+
+left_keeps : {P : List Entry → Type 0} {o n : Option Journal} (x : Path) → Left P o n → ((ts : List Entry) → P ts → Each (KeepsName x) ts) → IsNamed x o → IsNamed x n
+left_keeps x not_told f named = tt
+left_keeps x (is_told {j = j} {k = k} {es = es} m h) f named = made_keeps x (past j) (past k) es m (each_in_order (KeepsName x) es (f (reverse es) h)) named
+
+-- ---- a file that was made
+
+made_there : (x : Path) (mode : Option ℕ) (p q : Past) (es : List Entry) → Made p es q → es ≡ Makes x mode ∷ [] → names (world q) x ≢ thing.Nothing
+made_there x mode p _ _ at_first e = absurd (cc)
+made_there x mode p _ es (by_writer {q = q} {e = w} m i f) e = writer_keeps q x w i (made_there x mode p q es m e)
+made_there x mode p _ _ (by_tool {es = es} {q = q} {e = t} m i f) e = subst (λ (s : Entry). names (world (q ▸ s)) x ≢ thing.Nothing) (let same : Makes x mode ≡ t = cc in same) there
+  where
+    there : names (world (q ▸ Makes x mode)) x ≢ thing.Nothing
+    there gone = let is : put (names (world q)) x (thing.File (world q).drawn) x ≡ thing.File (world q).drawn = put_here (names (world q)) x x (thing.File (world q).drawn) refl in
+        nothing_no_file (names (world (q ▸ Makes x mode)) x) (world q).drawn gone is
+
+pub file_made : {o n : Option Journal} (x : Path) (mode : Option ℕ) → Left (λ ts. ts ≡ Makes x mode ∷ []) o n → IsNamed x n
+file_made x mode not_told = tt
+file_made x mode (is_told {j = j} {k = k} {es = es} m h) = made_there x mode (past j) (past k) es m (sym (reverse-reverse es) ∙ ap reverse h)
+
+-- ---- at a moment between
+
+pub was_now : {P : List Entry → Type 0} {o n : Option Journal} (x : Path) → Left P o n → IsNamed x n → WasNamed x o n
+was_now x not_told named = untold
+was_now x (is_told {k = k} m h) named = at_moment (past k) m named at_first
+
+pub was_wider : {P Q : List Entry → Type 0} {a b c d : Option Journal} (x : Path) → Left P a b → WasNamed x b c → Left Q c d → WasNamed x a d
+was_wider x not_told untold not_told = untold
+was_wider x (is_told {j = j} {k = k} {es = es} m h) (at_moment {k = l} {es = fs} {fs = gs} p made named rest) (is_told {k = z} {es = hs} m' h') =
+    at_moment p (made_on (past j) (past k) p es fs m made) named (made_on p (past l) (past z) gs hs rest m')
+
+-- ---- one step
+
+one_keeps : (x : Path) {e : Entry} {ts : List Entry} → ts ≡ e ∷ [] → KeepsName x e → Each (KeepsName x) ts
+one_keeps x is k = subst (Each (KeepsName x)) (sym is) (k, tt)
+
+none_keeps : (x : Path) {ts : List Entry} → ts ≡ [] → Each (KeepsName x) ts
+none_keeps x is = subst (Each (KeepsName x)) (sym is) tt
+
+maybe_keeps : (x : Path) (e : Entry) {ts : List Entry} → (ts ≡ []) ⊎ (ts ≡ e ∷ []) → KeepsName x e → Each (KeepsName x) ts
+maybe_keeps x e m k = ⊎_elim (λ none. none_keeps x none) (λ one. one_keeps x one k) m
+
+copied_keeps : (x from to : Path) (read : ℕ) (owed : List ℕ) (ts : List Entry) → Copied from to read owed ts → Each (KeepsName x) ts
+copied_keeps x from to _ _ _ at_end = (tt, tt)
+copied_keeps x from to _ _ _ (reads {read = read} bytes {ts = ts} ne c) = (tt, copied_keeps x from to (read + length bytes) bytes ts c)
+copied_keeps x from to _ _ _ (appends {read = read} piece owed {ts = ts} c) = (tt, copied_keeps x from to read owed ts c)
+
+copy_broke_keeps : (x from to : Path) (limit read : ℕ) (owed : List ℕ) (f : Fault) (ts : List Entry) → CopyBroke from to limit read owed f ts → Each (KeepsName x) ts
+copy_broke_keeps x from to limit _ _ _ _ at_read = tt
+copy_broke_keeps x from to limit _ _ _ _ (at_append owed) = tt
+copy_broke_keeps x from to limit _ _ _ _ (in_append piece owed) = (tt, tt)
+copy_broke_keeps x from to limit _ _ _ _ (too_long owed lt) = tt
+copy_broke_keeps x from to limit _ _ _ _ (read_on {read = read} bytes {f = f} {ts = ts} ne c) = (tt, copy_broke_keeps x from to limit (read + length bytes) bytes f ts c)
+copy_broke_keeps x from to limit _ _ _ _ (append_on {read = read} piece owed {f = f} {ts = ts} c) = (tt, copy_broke_keeps x from to limit read owed f ts c)
+
+appended_keeps : (x to : Path) (text : List ℕ) (ts : List Entry) → Appended to text ts → Each (KeepsName x) ts
+appended_keeps x to _ _ no_more = tt
+appended_keeps x to _ _ (piece_more piece text {ts = ts} a) = (tt, appended_keeps x to text ts a)
+
+append_broke_keeps : (x to : Path) (text : List ℕ) (ts : List Entry) → AppendBroke to text ts → Each (KeepsName x) ts
+append_broke_keeps x to _ _ (at_piece text) = tt
+append_broke_keeps x to _ _ (in_piece piece text) = (tt, tt)
+append_broke_keeps x to _ _ (piece_on piece text {ts = ts} a) = (tt, append_broke_keeps x to text ts a)
+
+succeeds_keep : (x : Path) (s : Step) (ts : List Entry) → (TakesName x s → ⊥) → Succeeds s ts → Each (KeepsName x) ts
+succeeds_keep x (step.Runs phase on command) ts k w = one_keeps x w tt
+succeeds_keep x (step.Removes path) ts k w = one_keeps x w k
+succeeds_keep x (step.MakesDir path mode) ts k w = ⊎_elim (λ made. one_keeps x made tt) (λ saw. one_keeps x saw.look tt) w
+succeeds_keep x (step.Renames from to) ts k w = one_keeps x w k
+succeeds_keep x (step.Creates path mode) ts k w = maybe_keeps x (Makes path mode) w tt
+succeeds_keep x (step.Takes path mode) ts k w = one_keeps x w tt
+succeeds_keep x (step.Copies from to limit) ts k w = copied_keeps x from to 0 [] ts w
+succeeds_keep x (step.Appends path text) ts k w = appended_keeps x path text ts w
+succeeds_keep x (step.SyncsFile path) ts k w = one_keeps x w tt
+succeeds_keep x (step.SyncsDir path) ts k w = one_keeps x w tt
+succeeds_keep x (step.Truncates path) ts k w = one_keeps x w tt
+succeeds_keep x (step.Rotated log) ts k w = none_keeps x w
+
+program_keeps : (x : Path) (phase : _) (on : List ℕ) (command : _) (f : Fault) (ts : List Entry) → ProgramFailed phase on command f ts → Each (KeepsName x) ts
+program_keeps x phase on command f ts (badly end ne is one) = one_keeps x one tt
+program_keeps x phase on command f ts (not_run is none) = none_keeps x none
+program_keeps x phase on command f ts (maybe_run end is one) = one_keeps x one tt
+
+dir_keeps : (x path : Path) (mode : Option ℕ) (f : Fault) (ts : List Entry) → DirFailed path mode f ts → Each (KeepsName x) ts
+dir_keeps x path mode f ts (at_make c) = maybe_keeps x (MakesDir path mode) c.1 tt
+dir_keeps x path mode f ts (at_look is none) = none_keeps x none
+dir_keeps x path mode f ts (no_dir is saw) = one_keeps x saw.look tt
+
+fails_keep : (x : Path) (s : Step) (f : Fault) (ts : List Entry) → (TakesName x s → ⊥) → Fails s f ts → Each (KeepsName x) ts
+fails_keep x (step.Runs phase on command) f ts k h = program_keeps x phase on command f ts h
+fails_keep x (step.Removes path) f ts k h = maybe_keeps x (Unlinks path) h.1 k
+fails_keep x (step.MakesDir path mode) f ts k h = dir_keeps x path mode f ts h
+fails_keep x (step.Renames from to) f ts k h = maybe_keeps x (Renames from to) h.1 k
+fails_keep x (step.Creates path mode) f ts k h = maybe_keeps x (Makes path mode) h.1 tt
+fails_keep x (step.Takes path mode) f ts k h = ⊎_elim (λ c. maybe_keeps x (Makes path mode) c.1 tt) (λ taken. none_keeps x taken.1) h
+fails_keep x (step.Copies from to limit) f ts k h = copy_broke_keeps x from to limit 0 [] f ts h
+fails_keep x (step.Appends path text) f ts k h = append_broke_keeps x path text ts h.1
+fails_keep x (step.SyncsFile path) f ts k h = maybe_keeps x (entry.SyncsFile path) h.1 tt
+fails_keep x (step.SyncsDir path) f ts k h = maybe_keeps x (entry.SyncsDir path) h.1 tt
+fails_keep x (step.Truncates path) f ts k h = maybe_keeps x (entry.Truncates path) h.1 tt
+fails_keep x (step.Rotated log) f ts k h = absurd h
+
+-- ---- steps
+
+told_is_created : (x : Path) (s : Step) → TellCreated x (marks_of s) → CreatesAt x s
+told_is_created x (step.Creates path mode) t = ⊎_elim (λ same. same) (λ gone. absurd gone) t
+told_is_created x (step.MakesDir path mode) t = ⊎_elim (λ gone. absurd gone) (λ gone. absurd gone) t
+told_is_created x (step.Rotated log) t = ⊎_elim (λ gone. absurd gone) (λ gone. absurd gone) t
+told_is_created x _ t = absurd t
+
+-- the step was made
+pub made_names : (s : Step) (told : Option Mark) {o n : Option Journal} → Left (Succeeds s) o n → StepNames s (Ok told) n → KeepsNames (s ∷ []) (marks_of s) o n
+made_names s told {o} {n} left named = record {
+  kept = λ x k was. left_keeps x left (λ ts w. succeeds_keep x s ts k.0 w) was;
+  created = λ x last t. there x s (told_is_created x s t) named;
+  planned = λ x t. inl (told_is_created x s t);
+}
+  where
+    there : (x : Path) (s : Step) → CreatesAt x s → StepNames s (Ok told) n → IsNamed x n
+    there x (step.Creates path mode) same named = subst (λ (y : Path). IsNamed y n) same named
+    there x _ gone named = absurd gone
+
+-- the step failed, or nothing was done
+pub failed_names : (s : Step) (f : Fault) {o n : Option Journal} → Left (Fails s f) o n → KeepsNames (s ∷ []) [] o n
+failed_names s f left = record {
+  kept = λ x k was. left_keeps x left (λ ts h. fails_keep x s f ts k.0 h) was;
+  created = λ x last t. absurd t;
+  planned = λ x t. absurd t;
+}
+
+pub nothing_names : (steps : List Step) {o n : Option Journal} → Left (λ ts. ts ≡ []) o n → KeepsNames steps [] o n
+nothing_names steps left = record {
+  kept = λ x k was. left_keeps x left (λ ts is. none_keeps x is) was;
+  created = λ x last t. absurd t;
+  planned = λ x t. absurd t;
+}
+
+pub same_names : (steps : List Step) (o : Option Journal) → KeepsNames steps [] o o
+same_names steps o = record { kept = λ x k was. was; created = λ x last t. absurd t; planned = λ x t. absurd t }
+
+keep_first : (x : Path) (xs ys : List Step) → KeepName x (xs ++ ys) → KeepName x xs
+keep_first x [] ys k = tt
+keep_first x (s ∷ xs) ys k = (k.0, keep_first x xs ys k.1)
+
+keep_later : (x : Path) (xs ys : List Step) → KeepName x (xs ++ ys) → KeepName x ys
+keep_later x [] ys k = k
+keep_later x (s ∷ xs) ys k = keep_later x xs ys k.1
+
+last_first : (x : Path) (xs ys : List Step) → LastsBehind x (xs ++ ys) → LastsBehind x xs
+last_first x [] ys l = tt
+last_first x (s ∷ xs) ys l = (λ c. keep_first x xs ys (l.0 c), last_first x xs ys l.1)
+
+last_later : (x : Path) (xs ys : List Step) → LastsBehind x (xs ++ ys) → LastsBehind x ys
+last_later x [] ys l = l
+last_later x (s ∷ xs) ys l = last_later x xs ys l.1
+
+-- what the first create, the later keep
+last_keep : (x : Path) (xs ys : List Step) → LastsBehind x (xs ++ ys) → OneCreates x xs → KeepName x ys
+last_keep x [] ys l c = absurd c
+last_keep x (s ∷ xs) ys l c = ⊎_elim (λ here. keep_later x xs ys (l.0 here)) (λ there. last_keep x xs ys l.1 there) c
+
+create_first : (x : Path) (xs ys : List Step) → OneCreates x xs → OneCreates x (xs ++ ys)
+create_first x [] ys c = absurd c
+create_first x (s ∷ xs) ys c = ⊎_elim (λ here. inl here) (λ there. inr (create_first x xs ys there)) c
+
+create_later : (x : Path) (xs ys : List Step) → OneCreates x ys → OneCreates x (xs ++ ys)
+create_later x [] ys c = c
+create_later x (s ∷ xs) ys c = inr (create_later x xs ys c)
+
+tell_both : (x : Path) (ms ns : List Mark) → TellCreated x (ms ++ ns) → TellCreated x ms ⊎ TellCreated x ns
+tell_both x [] ns t = inr t
+tell_both x (m ∷ ms) ns t = ⊎_elim (λ here. inl (inl here)) (λ there. ⊎_elim (λ a. inl (inr a)) (λ b. inr b) (tell_both x ms ns there)) t
+
+-- of a first part of the steps
+pub names_of_more : (xs rest all : List Step) {ms : List Mark} {o n : Option Journal} → all ≡ xs ++ rest → KeepsNames xs ms o n → KeepsNames all ms o n
+names_of_more xs rest all {ms} {o} {n} is h = subst (λ (steps : List Step). KeepsNames steps ms o n) (sym is) (record {
+  kept = λ x k was. h.kept x (keep_first x xs rest k) was;
+  created = λ x l t. h.created x (last_first x xs rest l) t;
+  planned = λ x t. create_first x xs rest (h.planned x t);
+})
+
+-- the ones and then the others
+pub names_on : (xs ys : List Step) {ms ns : List Mark} {o m n : Option Journal} → KeepsNames xs ms o m → KeepsNames ys ns m n → KeepsNames (xs ++ ys) (ms ++ ns) o n
+names_on xs ys {ms} {ns} {o} {m} {n} h k = record {
+  kept = λ x keep was. k.kept x (keep_later x xs ys keep) (h.kept x (keep_first x xs ys keep) was);
+  created = λ x l t. ⊎_elim (λ a. k.kept x (last_keep x xs ys l (h.planned x a)) (h.created x (last_first x xs ys l) a)) (λ b. k.created x (last_later x xs ys l) b) (tell_both x ms ns t);
+  planned = λ x t. ⊎_elim (λ a. create_first x xs ys (h.planned x a)) (λ b. create_later x xs ys (k.planned x b)) (tell_both x ms ns t);
+}

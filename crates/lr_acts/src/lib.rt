@@ -1,0 +1,22 @@
+//! The acts of a run: the steps of its plan, made on a host.
+//!
+//! The contract above it: what the acts add to what came before, the marks, the faults and the entries, is by one
+//! definition, `SetsDone` of `lr_plan`; each fault has its cause. Copies aren't built yet: `act` asks for steps without
+//! them. Begin with `act`, over the steps of `lr_plan::steps_of`:
+//!
+//! ```text
+//! let mut progress = Progress { marks, faults };   // each with room for as many more as there are steps
+//! act(alloc, &mut host, steps, &mut progress)?;     // behind the first step only a program takes memory
+//! ```
+#![tactic(auto)]
+
+mod acts;
+mod calls;
+mod marks;
+mod progress;
+mod step;
+mod stop;
+mod text;
+
+pub use acts::act;
+pub use progress::Progress;

@@ -1,0 +1,34 @@
+// What the acts came to so far.
+ghost use Rattle.std.specs.Prelude.{◌≡◌, ◌+◌, ◌≤◌, ◌++◌, ◌∷◌, [], vec_len};
+ghost use Rattle.std.specs.Vec.{vec_capacity};
+ghost use Rattle.lr_acts.specs.Adding.{HasRoom, Fills};
+
+use lr_plan::Mark;
+use lr_rules::Fault;
+
+/// What the acts came to so far: the marks of the steps that were made, and the faults.
+#[derive(Drop)]
+pub struct Progress {
+    pub marks: Vec<Mark>,
+    pub faults: Vec<Fault>,
+}
+
+/// Adds a fault for which there is room.
+pub fn add_fault(progress: &mut Progress, fault: Fault)
+    requires { HasRoom 1 progress.old }
+    ensures faults { progress.new.faults.items ≡ progress.old.faults.items ++ fault ∷ [] }
+    ensures marks { progress.new.marks.items ≡ progress.old.marks.items ++ [] }
+    ensures fills { Fills 1 progress.old progress.new }
+{
+    let _ = progress.faults.push(fault);
+}
+
+/// Adds a mark for which there is room.
+pub fn add_mark(progress: &mut Progress, mark: Mark)
+    requires { HasRoom 1 progress.old }
+    ensures marks { progress.new.marks.items ≡ progress.old.marks.items ++ mark ∷ [] }
+    ensures faults { progress.new.faults.items ≡ progress.old.faults.items ++ [] }
+    ensures fills { Fills 1 progress.old progress.new }
+{
+    let _ = progress.marks.push(mark);
+}

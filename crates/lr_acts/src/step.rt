@@ -1,0 +1,52 @@
+// One step of the acts, made on a host.
+ghost use Rattle.std.specs.Prelude.{◌≡◌, Err, IfOk, IfErr};
+ghost use Rattle.lr_host.specs.Told.{Left, Onward};
+ghost use Rattle.lr_host.specs.Steps.{CanAll};
+ghost use Rattle.lr_plan.specs.Internal.Asking.{asks};
+ghost use Rattle.lr_plan.specs.Outcomes.{marks_of};
+ghost use Rattle.lr_acts.specs.declared.stop.Stop.TheVariants as stop;
+ghost use Rattle.lr_acts.specs.Making.{IsBuilt, StepLeft, StepNames, StopCause, list_of};
+
+use crate::calls::{
+    create_file, empty_file, make_directory, remove_file, rename_file, run_program, sync_directory,
+    sync_file, take_file,
+};
+use crate::stop::Stop;
+use crate::text::append_text;
+use lr_host::Host;
+use lr_plan::{Mark, Step};
+use lr_rules::Path;
+use std::alloc::Global;
+
+// A copy isn't built yet; `make` asks for steps without one.
+fn copy_file(_from: Path, _to: Path) -> Result<Option<Mark>, Stop>
+    ensures { result ≡ Err stop.Memory }
+{
+    Err(Stop::Memory)
+}
+
+/// Makes one step; the answer is what it tells the steps behind it, if anything. Only a program takes memory.
+pub fn make<H: Host>(alloc: Global, host: &mut H, step: Step) -> Result<Option<Mark>, Stop>
+    requires built { IsBuilt step }
+    requires fits { CanAll (H.told host.old) (asks step) }
+    ensures told { Left (StepLeft step result) (H.told host.old) (H.told host.new) }
+    ensures marks { IfOk result (λ told. list_of told ≡ marks_of step) }
+    ensures named { StepNames step result (H.told host.new) }
+    ensures cause { IfErr result (λ why. StopCause why (H.counts host.old) (H.counts host.new) (H.told host.old) (H.told host.new)) }
+    ensures counts { Onward (H.counts host.old) (H.counts host.new) }
+{
+    match step {
+        Step::Runs { phase, on, command } => run_program(alloc, host, phase, on, command),
+        Step::Removes { path } => remove_file(host, path),
+        Step::MakesDir { path, mode } => make_directory(host, path, mode),
+        Step::Renames { from, to } => rename_file(host, from, to),
+        Step::Creates { path, mode } => create_file(host, path, mode),
+        Step::Takes { path, mode } => take_file(host, path, mode),
+        Step::SyncsFile { path } => sync_file(host, path),
+        Step::SyncsDir { path } => sync_directory(host, path),
+        Step::Truncates { path } => empty_file(host, path),
+        Step::Rotated { log } => Ok(Some(Mark::Rotated(log))),
+        Step::Appends { path, text } => append_text(host, path, text),
+        Step::Copies { from, to, .. } => copy_file(from, to),
+    }
+}
