@@ -5,7 +5,7 @@ ghost use Rattle.lr_rules.specs.declared.fault.Phase.TheVariants as phase;
 ghost use Rattle.lr_plan.specs.Steps.{program, rotation, retirement, rotation_of, retirement_of, steps_of_log, single_steps, shared_steps, steps_of_set};
 
 use crate::job::Job;
-use crate::plan::{LogPlan, SetPlan};
+use crate::planned::{LogPlan, SetPlan};
 use crate::step::{SetSteps, Step};
 use crate::steps::{add_all, add_program, add_retirement, add_rotation};
 use lr_chain::Ready;

@@ -1,0 +1,230 @@
+-- What is planned of one log, and of all.
+use Rattle.std.proofs.Common.{◌≡◌, ◌≢◌, ◌<◌, ◌+◌, ◌&&◌, ℕ, zero, suc, Bool, true, false, not, List, [], ◌∷◌, ◌++◌, length, take, get_or, Option, Some, None, Result, Ok, Err, refl, sym, ap, ◌∙◌, subst, arith, eq-eqb, append_assoc}
+use Rattle.std.specs.Prelude.{◌↔◌, if◌then◌else◌}
+use Rattle.std.proofs.lemmas.List.{append-nil}
+use Rattle.std.proofs.lemmas.List.Folds.{list_any_at}
+use Rattle.lr_rules.specs.declared.path.Path.{Path}
+use Rattle.lr_rules.specs.declared.fault.Fault.{Fault}
+use Rattle.lr_rules.specs.declared.fault.Fault.TheVariants as fault
+use Rattle.lr_rules.specs.declared.rule.Count.{Count}
+use Rattle.lr_rules.specs.declared.rule.Count.TheVariants as count
+use Rattle.lr_rules.specs.declared.rule.Make.{Make}
+use Rattle.lr_rules.specs.declared.rule.Naming.{Naming}
+use Rattle.lr_rules.specs.declared.rule.Rule.{Rule}
+use Rattle.lr_due.specs.declared.answer.Due.{Due}
+use Rattle.lr_family.specs.declared.stand.Member.{Member}
+use Rattle.lr_family.specs.Places.{IsPlaceOf, AreNamed}
+use Rattle.lr_family.specs.Stands.{number_in}
+use Rattle.lr_scripts.specs.declared.command.Command.{Command}
+use Rattle.lr_scripts.specs.declared.removal.Removal.{Removal}
+use Rattle.lr_chain.specs.declared.ready.Move.{Move}
+use Rattle.lr_chain.specs.declared.ready.Ready.{Ready}
+use Rattle.lr_chain.specs.declared.ready.PrepareStop.{PrepareStop}
+use Rattle.lr_chain.specs.declared.ready.PrepareStop.TheVariants as prepare
+use Rattle.lr_chain.specs.Ready.{IsReady, IsMissing, IsTooHigh, is_highest, highest_path}
+use Rattle.lr_chain.proofs.Bounds.{none_too_high}
+use Rattle.lr_chain.proofs.Highest.{path_is}
+use Rattle.lr_plan.specs.declared.job.Job.{Job}
+use Rattle.lr_plan.specs.declared.looks.LogLook.{LogLook}
+use Rattle.lr_plan.specs.declared.looks.SetLooks.{SetLooks}
+use Rattle.lr_plan.specs.declared.planned.LogPlan.{LogPlan}
+use Rattle.lr_plan.specs.declared.planned.SetPlan.{SetPlan}
+use Rattle.lr_plan.specs.Internal.Hindered.{fault_of}
+use Rattle.lr_plan.specs.Planned.{script, where_so, keeps_all, is_too_high, hindrances, ready_for, log_plan, none_hinders, plans_of, decisions_of, log_plans, log_faults, set_plan, all_decisions, all_plans, all_faults, HasNoScripts, CanPlanSet, CanPlanAll}
+
+-- ---- one log
+
+abbrev made : List Removal → Option (Path × Option ℕ) → List Move → Path → Path → Make → List Removal → Ready
+made l d m g t k r = record { leftovers = l; dir = d; moves = m; log = g; target = t; make = k; retire = r }
+
+same_ready : (l l' : List Removal) (d d' : Option (Path × Option ℕ)) (m m' : List Move) (g g' t t' : Path) (k k' : Make) (r r' : List Removal)
+    → l ≡ l' → d ≡ d' → m ≡ m' → g ≡ g' → t ≡ t' → k ≡ k' → r ≡ r' → made l d m g t k r ≡ made l' d' m' g' t' k' r'
+same_ready l l' d d' m m' g g' t t' k k' r r' a b c e f h i = cc
+
+pub ready_is : (rule : Rule) (look : LogLook) (ready : Ready) → look.family.log ≡ look.path → IsReady look.family.log look.family.naming rule.count look.stand.members ready
+    → ready ≡ ready_for rule look
+ready_is rule look ready e i = same_ready ready.leftovers _ ready.dir _ ready.moves _ ready.log _ ready.target _ ready.make _ ready.retire _
+    i.leftovers_are i.no_dir i.moves_are (i.log_is ∙ e) i.target_is i.no_make i.retire_is
+
+abbrev set_made : Option Command → Option Command → Option Command → Option Command → Bool → List LogPlan → SetPlan
+set_made a b c d s l = record { first = a; pre = b; post = c; last = d; shared = s; logs = l }
+
+abbrev planned : Option Command → Option Command → Option Command → Ready → Option Job → LogPlan
+planned pre post mail ready job = record { pre = pre; post = post; first_mail = mail; ready = ready; job = job }
+
+same_plan : (p p' q q' m m' : Option Command) (r r' : Ready) (j j' : Option Job) → p ≡ p' → q ≡ q' → m ≡ m' → r ≡ r' → j ≡ j' → planned p q m r j ≡ planned p' q' m' r' j'
+same_plan p p' q q' m m' r r' j j' a b c d e = cc
+
+no_script : (b : Bool) (text : Option (List ℕ)) (args : List (List ℕ)) → text ≡ None → None ≡ where_so b (script text args)
+no_script b (Some text) args e = absurd (cc)
+no_script true None args e = refl
+no_script false None args e = refl
+
+one_script : (text : Option (List ℕ)) (args : List (List ℕ)) → text ≡ None → None ≡ script text args
+one_script (Some text) args e = absurd (cc)
+one_script None args e = refl
+
+pub plan_is : (rule : Rule) (look : LogLook) (ready : Ready) → HasNoScripts rule.scripts → look.family.log ≡ look.path → IsReady look.family.log look.family.naming rule.count look.stand.members ready
+    → planned None None None ready None ≡ log_plan rule look
+plan_is rule look ready s e i = same_plan None _ None _ None None ready _ None None (no_script (not rule.shared) rule.scripts.pre _ s.pre) (no_script (not rule.shared) rule.scripts.post _ s.post) refl (ready_is rule look ready e i) refl
+
+-- nothing hinders
+abbrev by_high : Bool → Naming → List Fault
+by_high b n = if b then fault.TooHigh (highest_path n) ∷ [] else []
+
+abbrev by_there : Bool → Bool → Naming → List Fault
+by_there there high n = if there then by_high high n else fault.NoDir n.dir ∷ []
+
+none_by : (there high : Bool) (n : Naming) → (there ≡ false → ⊥) → (there ≡ true → high ≡ true → ⊥) → by_there there high n ≡ []
+none_by false high n t h = absurd (t refl)
+none_by true true n t h = absurd (h refl refl)
+none_by true false n t h = refl
+
+high_none : (c : Count) (b : Bool) → (c ≡ count.Always → b ≡ false) → (keeps_all c && b) ≡ true → ⊥
+high_none count.Always b low e = let f : b ≡ false = low refl in absurd (cc)
+high_none (count.Keep k) b low e = absurd (cc)
+
+high_some : (c : Count) (b : Bool) → c ≡ count.Always → b ≡ true → (keeps_all c && b) ≡ true
+high_some count.Always b a e = e
+high_some (count.Keep k) b a e = absurd (cc)
+
+there_is : (b : Bool) → (b ≡ false → ⊥) → b ≡ true
+there_is true h = refl
+there_is false h = absurd (h refl)
+
+-- where no path is told, nothing hinders
+pub nothing_hinders : (rule : Rule) (look : LogLook) → AreNamed look.family.naming look.stand.members → ((path : Path) → IsMissing look.family.naming look.stand path → ⊥) → ((path : Path) → IsTooHigh look.family.naming look.stand rule.count path → ⊥)
+    → hindrances rule look ≡ []
+nothing_hinders rule look named dir low =
+    let there = there_is look.stand.there (λ e. dir look.family.naming.dir (e, refl)) in
+    none_by look.stand.there (is_too_high rule look) look.family.naming (λ e. dir look.family.naming.dir (e, refl))
+    (λ t h. high_none rule.count _ (none_too_high look.family.naming look.stand rule.count there named low) h)
+
+-- where a rotation is ready, nothing hinders it
+pub ready_unhindered : (rule : Rule) (look : LogLook) (r : Result Ready PrepareStop) (ready : Ready) → AreNamed look.family.naming look.stand.members → r ≡ Ok ready
+    → (r ≢ Err prepare.Memory → (path : Path) → (r ≡ Err (prepare.NoDir path)) ↔ IsMissing look.family.naming look.stand path)
+    → (r ≢ Err prepare.Memory → (path : Path) → (r ≡ Err (prepare.TooHigh path)) ↔ IsTooHigh look.family.naming look.stand rule.count path) → hindrances rule look ≡ []
+ready_unhindered rule look r ready named e dir high = nothing_hinders rule look named
+    (λ path m. let f : r ≡ Err (prepare.NoDir path) = (dir (λ m. cc) path).1 m in absurd (cc))
+    (λ path m. let f : r ≡ Err (prepare.TooHigh path) = (high (λ m. cc) path).1 m in absurd (cc))
+
+missing_by : (there high : Bool) (n : Naming) → there ≡ false → by_there there high n ≡ fault.NoDir n.dir ∷ []
+missing_by true high n e = absurd (cc)
+missing_by false high n e = refl
+
+high_by : (there high : Bool) (n : Naming) → there ≡ true → high ≡ true → by_there there high n ≡ fault.TooHigh (highest_path n) ∷ []
+high_by true true n e f = refl
+high_by true false n e f = absurd (cc)
+high_by false high n e f = absurd (cc)
+
+pub dir_hinders : (rule : Rule) (look : LogLook) (path : Path) → IsMissing look.family.naming look.stand path → hindrances rule look ≡ fault.NoDir path ∷ []
+dir_hinders rule look path m = missing_by look.stand.there (is_too_high rule look) look.family.naming m.0 ∙ ap (λ (x : Path). fault.NoDir x ∷ []) (sym m.1)
+
+highest_has : (rule : Rule) (look : LogLook) (path : Path) → AreNamed look.family.naming look.stand.members → IsTooHigh look.family.naming look.stand rule.count path
+    → (is_too_high rule look ≡ true) × (highest_path look.family.naming ≡ path)
+highest_has rule look path named h =
+    let a = h.2 in
+    let top = eq-eqb (look.family.naming.start + number_in a.1.place) 4294967295 a.4.0 in
+    let own = subst (λ (m : Member). IsPlaceOf look.family.naming m.place m.path) a.3 (named a.0 a.1 a.2) in
+    (high_some rule.count _ h.1 (list_any_at (is_highest look.family.naming) look.stand.members a.0 a.1 a.2 (ap (is_highest look.family.naming) a.3 ∙ top)), sym (path_is look.family.naming a.1 own top) ∙ a.4.1)
+
+pub height_hinders : (rule : Rule) (look : LogLook) (path : Path) → AreNamed look.family.naming look.stand.members → IsTooHigh look.family.naming look.stand rule.count path
+    → hindrances rule look ≡ fault.TooHigh path ∷ []
+height_hinders rule look path named h =
+    let k = highest_has rule look path named h in
+    high_by look.stand.there (is_too_high rule look) look.family.naming h.0 k.0 ∙ ap (λ (x : Path). fault.TooHigh x ∷ []) k.1
+
+pub plans_there : (rule : Rule) (look : LogLook) (p : LogPlan) → hindrances rule look ≡ [] → p ≡ log_plan rule look → p ∷ [] ≡ plans_of rule look
+plans_there rule look p h e = ap (λ (x : LogPlan). x ∷ []) e ∙ ap (λ (fs : List Fault). none_hinders fs (log_plan rule look ∷ [])) (sym h)
+
+pub plans_none : (rule : Rule) (look : LogLook) (f : Fault) → hindrances rule look ≡ f ∷ [] → plans_of rule look ≡ []
+plans_none rule look f h = ap (λ (fs : List Fault). none_hinders fs (log_plan rule look ∷ [])) h
+
+-- what keeps a rotation from being prepared is what hinders it
+pub stop_hinders : (rule : Rule) (look : LogLook) (r : Result Ready PrepareStop) (stop : PrepareStop) (f : Fault) → AreNamed look.family.naming look.stand.members → r ≡ Err stop → Ok f ≡ fault_of stop
+    → (r ≢ Err prepare.Memory → (path : Path) → (r ≡ Err (prepare.NoDir path)) ↔ IsMissing look.family.naming look.stand path)
+    → (r ≢ Err prepare.Memory → (path : Path) → (r ≡ Err (prepare.TooHigh path)) ↔ IsTooHigh look.family.naming look.stand rule.count path)
+    → ((path : Path) → r ≢ Err (prepare.Taken path)) → hindrances rule look ≡ f ∷ []
+stop_hinders rule look r (prepare.Taken path) f named e is dir high taken = absurd (taken path e)
+stop_hinders rule look r (prepare.NoDir path) f named e is dir high taken =
+    dir_hinders rule look path ((dir (λ m. cc) path).0 e) ∙ (let same : f ≡ fault.NoDir path = cc in ap (λ (x : Fault). x ∷ []) (sym same))
+stop_hinders rule look r (prepare.TooHigh path) f named e is dir high taken =
+    height_hinders rule look path named ((high (λ m. cc) path).0 e) ∙ (let same : f ≡ fault.TooHigh path = cc in ap (λ (x : Fault). x ∷ []) (sym same))
+stop_hinders rule look r prepare.Memory f named e is dir high taken = absurd (cc)
+
+-- ---- all definitions
+
+pub set_is : (rule : Rule) (logs : List LogPlan) (set : SetPlan) → HasNoScripts rule.scripts → set.first ≡ None → set.pre ≡ None → set.post ≡ None → set.last ≡ None → set.shared ≡ rule.shared → set.logs ≡ logs
+    → set ≡ set_plan rule logs
+set_is rule logs set s a b c d e f = same_set set.first _ set.pre _ set.post _ set.last _ set.shared _ set.logs _
+    (a ∙ one_script rule.scripts.first _ s.first) (b ∙ no_script rule.shared rule.scripts.pre _ s.pre) (c ∙ no_script rule.shared rule.scripts.post _ s.post) (d ∙ one_script rule.scripts.last _ s.last) e f
+  where
+    same_set : (a a' b b' c c' d d' : Option Command) (s s' : Bool) (l l' : List LogPlan) → a ≡ a' → b ≡ b' → c ≡ c' → d ≡ d' → s ≡ s' → l ≡ l'
+        → set_made a b c d s l ≡ set_made a' b' c' d' s' l'
+    same_set a a' b b' c c' d d' s s' l l' e f g h i j = cc
+
+-- at each place a rule has its looks
+pub can_at : (rules : List Rule) (sets : List SetLooks) (at : ℕ) (rule : Rule) (set : SetLooks) → CanPlanAll rules sets → at < length rules → rule ≡ get_or rules at rule → set ≡ get_or sets at set → CanPlanSet rule set.logs
+can_at [] [] at rule set can lt e f = absurd (omega arith)
+can_at [] (s ∷ sets) at rule set can lt e f = absurd can
+can_at (r ∷ rules) [] at rule set can lt e f = absurd can
+can_at (r ∷ rules) (s ∷ sets) zero rule set can lt e f = subst (λ (q : Rule). CanPlanSet q set.logs) (sym e) (subst (λ (x : SetLooks). CanPlanSet r x.logs) (sym f) can.0)
+can_at (r ∷ rules) (s ∷ sets) (suc at) rule set can lt e f = can_at rules sets at rule set can.1 (omega arith) e f
+
+pub as_many : (rules : List Rule) (sets : List SetLooks) → CanPlanAll rules sets → length sets ≡ length rules
+as_many [] [] can = refl
+as_many [] (s ∷ sets) can = absurd can
+as_many (r ∷ rules) [] can = absurd can
+as_many (r ∷ rules) (s ∷ sets) can = ap suc (as_many rules sets can.1)
+
+-- one definition more
+decisions_step : (decide : Rule → LogLook → Due) (rules : List Rule) (sets : List SetLooks) (at : ℕ) (rule : Rule) (set : SetLooks) → at < length rules → length sets ≡ length rules → rule ≡ get_or rules at rule → set ≡ get_or sets at set
+    → all_decisions decide (take (suc at) rules) (take (suc at) sets) ≡ all_decisions decide (take at rules) (take at sets) ++ decisions_of (decide rule) set.logs
+decisions_step decide [] sets at rule set lt same e f = absurd (omega arith)
+decisions_step decide (r ∷ rules) [] at rule set lt same e f = absurd (omega (arith, same))
+decisions_step decide (r ∷ rules) (s ∷ sets) zero rule set lt same e f =
+    append-nil (decisions_of (decide r) s.logs) ∙ (ap (λ (q : Rule). decisions_of (decide q) s.logs) (sym e) ∙ ap (λ (x : SetLooks). decisions_of (decide rule) x.logs) (sym f))
+decisions_step decide (r ∷ rules) (s ∷ sets) (suc at) rule set lt same e f =
+    ap (λ xs. decisions_of (decide r) s.logs ++ xs) (decisions_step decide rules sets at rule set (omega arith) (omega (arith, same)) e f)
+    ∙ sym (append_assoc (decisions_of (decide r) s.logs) (all_decisions decide (take at rules) (take at sets)) (decisions_of (decide rule) set.logs))
+
+plans_step : (decide : Rule → LogLook → Due) (rules : List Rule) (sets : List SetLooks) (at : ℕ) (rule : Rule) (set : SetLooks) → at < length rules → length sets ≡ length rules → rule ≡ get_or rules at rule → set ≡ get_or sets at set
+    → all_plans decide (take (suc at) rules) (take (suc at) sets) ≡ all_plans decide (take at rules) (take at sets) ++ set_plan rule (log_plans rule (decide rule) set.logs) ∷ []
+plans_step decide [] sets at rule set lt same e f = absurd (omega arith)
+plans_step decide (r ∷ rules) [] at rule set lt same e f = absurd (omega (arith, same))
+plans_step decide (r ∷ rules) (s ∷ sets) zero rule set lt same e f =
+    ap (λ (q : Rule). set_plan q (log_plans q (decide q) s.logs) ∷ []) (sym e) ∙ ap (λ (x : SetLooks). set_plan rule (log_plans rule (decide rule) x.logs) ∷ []) (sym f)
+plans_step decide (r ∷ rules) (s ∷ sets) (suc at) rule set lt same e f =
+    ap (λ xs. set_plan r (log_plans r (decide r) s.logs) ∷ xs) (plans_step decide rules sets at rule set (omega arith) (omega (arith, same)) e f)
+
+faults_step : (decide : Rule → LogLook → Due) (rules : List Rule) (sets : List SetLooks) (at : ℕ) (rule : Rule) (set : SetLooks) → at < length rules → length sets ≡ length rules → rule ≡ get_or rules at rule → set ≡ get_or sets at set
+    → all_faults decide (take (suc at) rules) (take (suc at) sets) ≡ all_faults decide (take at rules) (take at sets) ++ log_faults rule (decide rule) set.logs
+faults_step decide [] sets at rule set lt same e f = absurd (omega arith)
+faults_step decide (r ∷ rules) [] at rule set lt same e f = absurd (omega (arith, same))
+faults_step decide (r ∷ rules) (s ∷ sets) zero rule set lt same e f =
+    append-nil (log_faults r (decide r) s.logs) ∙ (ap (λ (q : Rule). log_faults q (decide q) s.logs) (sym e) ∙ ap (λ (x : SetLooks). log_faults rule (decide rule) x.logs) (sym f))
+faults_step decide (r ∷ rules) (s ∷ sets) (suc at) rule set lt same e f =
+    ap (λ xs. log_faults r (decide r) s.logs ++ xs) (faults_step decide rules sets at rule set (omega arith) (omega (arith, same)) e f)
+    ∙ sym (append_assoc (log_faults r (decide r) s.logs) (all_faults decide (take at rules) (take at sets)) (log_faults rule (decide rule) set.logs))
+
+next_is : (at : ℕ) → suc at ≡ at + 1
+next_is at = omega arith
+
+pub decisions_more : (decide : Rule → LogLook → Due) (rules : List Rule) (sets : List SetLooks) (at : ℕ) (rule : Rule) (set : SetLooks) → at < length rules → length sets ≡ length rules → rule ≡ get_or rules at rule → set ≡ get_or sets at set
+    → all_decisions decide (take (at + 1) rules) (take (at + 1) sets) ≡ all_decisions decide (take at rules) (take at sets) ++ decisions_of (decide rule) set.logs
+decisions_more decide rules sets at rule set lt same e f =
+    subst (λ k. all_decisions decide (take k rules) (take k sets) ≡ all_decisions decide (take at rules) (take at sets) ++ decisions_of (decide rule) set.logs) (next_is at) (decisions_step decide rules sets at rule set lt same e f)
+
+pub plans_more : (decide : Rule → LogLook → Due) (rules : List Rule) (sets : List SetLooks) (at : ℕ) (rule : Rule) (set : SetLooks) → at < length rules → length sets ≡ length rules → rule ≡ get_or rules at rule → set ≡ get_or sets at set
+    → all_plans decide (take (at + 1) rules) (take (at + 1) sets) ≡ all_plans decide (take at rules) (take at sets) ++ set_plan rule (log_plans rule (decide rule) set.logs) ∷ []
+plans_more decide rules sets at rule set lt same e f =
+    subst (λ k. all_plans decide (take k rules) (take k sets) ≡ all_plans decide (take at rules) (take at sets) ++ set_plan rule (log_plans rule (decide rule) set.logs) ∷ []) (next_is at) (plans_step decide rules sets at rule set lt same e f)
+
+pub faults_more : (decide : Rule → LogLook → Due) (rules : List Rule) (sets : List SetLooks) (at : ℕ) (rule : Rule) (set : SetLooks) → at < length rules → length sets ≡ length rules → rule ≡ get_or rules at rule → set ≡ get_or sets at set
+    → all_faults decide (take (at + 1) rules) (take (at + 1) sets) ≡ all_faults decide (take at rules) (take at sets) ++ log_faults rule (decide rule) set.logs
+faults_more decide rules sets at rule set lt same e f =
+    subst (λ k. all_faults decide (take k rules) (take k sets) ≡ all_faults decide (take at rules) (take at sets) ++ log_faults rule (decide rule) set.logs) (next_is at) (faults_step decide rules sets at rule set lt same e f)
+
+-- what was there, and so much more
+pub grown : {A : Type 0} (start now next more before after : List A) → now ≡ start ++ before → next ≡ now ++ more → after ≡ before ++ more → next ≡ start ++ after
+grown start now next more before after a b c = b ∙ (ap (λ xs. xs ++ more) a ∙ (append_assoc start before more ∙ ap (λ xs. start ++ xs) (sym c)))

@@ -1,0 +1,31 @@
+use Rattle.std.proofs.Common.{◌++◌, List, sym, ap, ◌∙◌}
+use Rattle.std.proofs.lemmas.List.{append-nil}
+use Rattle.lr_rules.specs.declared.fault.Fault.{Fault}
+use Rattle.lr_plan.specs.declared.planned.LogPlan.{LogPlan}
+use Rattle.lr_plan.proofs.Hindrances.{plan_is, ready_unhindered, plans_there, plans_none, stop_hinders}
+use Rattle.lr_plan.proofs.planning.add_due.Goals as goal
+
+pub returns-in_ok-push-in-Ok-clause-plans : goal.returns-in_ok-push-in-Ok-clause-plans
+returns-in_ok-push-in-Ok-clause-plans c =
+    c.in_ok-push-in-Ok.ensures.items ∙ ap (λ (xs : List LogPlan). c.args.plans.now.items ++ xs)
+    (plans_there c.args.rule.now c.args.look.now _
+    (ready_unhindered c.args.rule.now c.args.look.now c.prepare.result c.in-Ok.ready c.requires.look.named c.in-Ok.is c.prepare.ensures.no_dir c.prepare.ensures.too_high)
+    (plan_is c.args.rule.now c.args.look.now c.in-Ok.ready c.requires.no_scripts c.requires.look.log c.in-Ok.ensures.ready))
+
+pub returns-in_ok-push-in-Ok-clause-faults : goal.returns-in_ok-push-in-Ok-clause-faults
+returns-in_ok-push-in-Ok-clause-faults c =
+    sym (append-nil c.args.faults.now.items) ∙ ap (λ (xs : List Fault). c.args.faults.now.items ++ xs)
+    (sym (ready_unhindered c.args.rule.now c.args.look.now c.prepare.result c.in-Ok.ready c.requires.look.named c.in-Ok.is c.prepare.ensures.no_dir c.prepare.ensures.too_high))
+
+pub returns-in_ok-push-in-Err-clause-plans : goal.returns-in_ok-push-in-Err-clause-plans
+returns-in_ok-push-in-Err-clause-plans c =
+    sym (append-nil c.args.plans.now.items) ∙ ap (λ (xs : List LogPlan). c.args.plans.now.items ++ xs)
+    (sym (plans_none c.args.rule.now c.args.look.now c.in_ok-hindrance-in-Err.field-0
+    (stop_hinders c.args.rule.now c.args.look.now c.prepare.result c.in-Err.stop c.in_ok-hindrance-in-Err.field-0 c.requires.look.named c.in-Err.is (sym c.in_ok-hindrance-in-Err.was ∙ c.hindrance.ensures)
+    c.prepare.ensures.no_dir c.prepare.ensures.too_high c.prepare.ensures.taken)))
+
+pub returns-in_ok-push-in-Err-clause-faults : goal.returns-in_ok-push-in-Err-clause-faults
+returns-in_ok-push-in-Err-clause-faults c =
+    c.in_ok-push-in-Err.ensures.items ∙ ap (λ (xs : List Fault). c.args.faults.now.items ++ xs)
+    (sym (stop_hinders c.args.rule.now c.args.look.now c.prepare.result c.in-Err.stop c.in_ok-hindrance-in-Err.field-0 c.requires.look.named c.in-Err.is (sym c.in_ok-hindrance-in-Err.was ∙ c.hindrance.ensures)
+    c.prepare.ensures.no_dir c.prepare.ensures.too_high c.prepare.ensures.taken))

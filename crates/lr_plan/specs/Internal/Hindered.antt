@@ -1,0 +1,13 @@
+-- The fault that tells why a rotation can't be prepared.
+use Rattle.std.specs.Prelude.{Result, Ok, Err}
+use Rattle.lr_rules.specs.declared.fault.Fault.{Fault}
+use Rattle.lr_rules.specs.declared.fault.Fault.TheVariants as fault
+use Rattle.lr_rules.specs.declared.memory.Memory.{Memory}
+use Rattle.lr_chain.specs.declared.ready.PrepareStop.{PrepareStop}
+use Rattle.lr_chain.specs.declared.ready.PrepareStop.TheVariants as prepare
+
+abbrev pub fault_of : PrepareStop → Result Fault Memory
+fault_of (prepare.Taken path) = Ok (fault.Taken path)
+fault_of (prepare.TooHigh path) = Ok (fault.TooHigh path)
+fault_of (prepare.NoDir path) = Ok (fault.NoDir path)
+fault_of prepare.Memory = Err (record {})

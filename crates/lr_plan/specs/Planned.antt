@@ -1,0 +1,162 @@
+-- The plan that the rules, what was seen of their logs, the table of the state, the moment of the run and `--force` make
+-- together.
+use Rattle.std.specs.Prelude.{◌≡◌, ◌≤◌, ◌&&◌, ℕ, Bool, true, false, not, List, [], ◌∷◌, ◌++◌, map, All, Option, Some, None, codes, if◌then◌else◌}
+use Rattle.std.specs.List.{flat_map, list_any}
+use Rattle.lr_rules.specs.declared.path.Path.{Path}
+use Rattle.lr_rules.specs.declared.civil.Moment.{Moment}
+use Rattle.lr_rules.specs.declared.fault.Fault.{Fault}
+use Rattle.lr_rules.specs.declared.fault.Fault.TheVariants as fault
+use Rattle.lr_rules.specs.declared.rule.Count.{Count}
+use Rattle.lr_rules.specs.declared.rule.Count.TheVariants as count
+use Rattle.lr_rules.specs.declared.rule.Rule.{Rule}
+use Rattle.lr_rules.specs.declared.rule.Scripts.{Scripts}
+use Rattle.lr_due.specs.declared.answer.Due.{Due}
+use Rattle.lr_due.specs.declared.answer.Due.TheVariants as due
+use Rattle.lr_due.specs.Due.{due_of}
+use Rattle.lr_state.specs.Table.{Entry, moment_of}
+use Rattle.lr_family.specs.Places.{AreNamed}
+use Rattle.lr_family.specs.Spots.{path_at}
+use Rattle.lr_scripts.specs.declared.command.Command.{Command}
+use Rattle.lr_chain.specs.declared.ready.Ready.{Ready}
+use Rattle.lr_chain.specs.Ready.{IsCount, at_rest, with_members, is_highest, highest_path}
+use Rattle.lr_chain.specs.Rotation.{places_of}
+use Rattle.lr_plan.specs.declared.looks.LogLook.{LogLook}
+use Rattle.lr_plan.specs.declared.looks.SetLooks.{SetLooks}
+use Rattle.lr_plan.specs.declared.planned.LogPlan.{LogPlan}
+use Rattle.lr_plan.specs.declared.planned.SetPlan.{SetPlan}
+use Rattle.lr_plan.specs.declared.planned.Plan.{Plan}
+
+-- ---- scripts
+
+-- the words, with one space between
+abbrev pub spaced : List (List ℕ) → List ℕ
+spaced [] = []
+spaced (word ∷ []) = word
+spaced (word ∷ next ∷ words) = word ++ 32 ∷ spaced (next ∷ words)
+
+-- a script as a shell runs it, with its arguments
+abbrev pub script : Option (List ℕ) → List (List ℕ) → Option Command
+script None args = None
+script (Some text) args = Some (record { program = codes "/bin/sh"; args = codes "-c" ∷ text ∷ codes "logrotate_script" ∷ args; input = None })
+
+abbrev pub where_so : Bool → Option Command → Option Command
+where_so b command = if b then command else None
+
+-- ---- one log
+
+-- whether the log is due, by the moment that the table has for it
+abbrev pub decision : List Entry → Moment → Bool → Rule → LogLook → Due
+decision table now force rule look = due_of rule look.seen.size look.seen.mtime (moment_of table look.path) now force
+
+-- all members are kept
+abbrev pub keeps_all : Count → Bool
+keeps_all count.Always = true
+keeps_all (count.Keep n) = false
+
+-- all members are kept, and one has the highest number that there is
+abbrev pub is_too_high : Rule → LogLook → Bool
+is_too_high rule look = keeps_all rule.count && list_any (is_highest look.family.naming) look.stand.members
+
+-- what keeps the log from being rotated: its family's directory isn't there, or a member's number would have to become too high
+abbrev pub hindrances : Rule → LogLook → List Fault
+hindrances rule look =
+    if look.stand.there then (if is_too_high rule look then fault.TooHigh (highest_path look.family.naming) ∷ [] else []) else fault.NoDir look.family.naming.dir ∷ []
+
+-- its rotation, with all its paths
+abbrev pub ready_for : Rule → LogLook → Ready
+ready_for rule look = with_members look.family.naming rule.count (places_of look.stand.members) (at_rest look.path look.family.naming)
+
+-- what is done with it: its own scripts where the definition doesn't share them, and the rotation
+abbrev pub log_plan : Rule → LogLook → LogPlan
+log_plan rule look = record {
+  pre = where_so (not rule.shared) (script rule.scripts.pre (look.path ∷ []));
+  post = where_so (not rule.shared) (script rule.scripts.post (look.path ∷ path_at look.family.naming 0 ∷ []));
+  first_mail = None;
+  ready = ready_for rule look;
+  job = None;
+}
+
+abbrev pub none_hinders : List Fault → List LogPlan → List LogPlan
+none_hinders [] plans = plans
+none_hinders (f ∷ fs) plans = []
+
+-- of a log that is due: its plan, or what hinders it
+abbrev pub plans_of : Rule → LogLook → List LogPlan
+plans_of rule look = none_hinders (hindrances rule look) (log_plan rule look ∷ [])
+
+abbrev pub where_due : {A : Type 0} → Due → List A → List A
+where_due (due.Yes why) xs = xs
+where_due (due.No why) xs = []
+
+-- ---- one definition
+
+abbrev pub decisions_of : (LogLook → Due) → List LogLook → List (Path × Due)
+decisions_of decide looks = map (λ look. (look.path, decide look)) looks
+
+abbrev pub log_plans : Rule → (LogLook → Due) → List LogLook → List LogPlan
+log_plans rule decide looks = flat_map (λ look. where_due (decide look) (plans_of rule look)) looks
+
+abbrev pub log_faults : Rule → (LogLook → Due) → List LogLook → List Fault
+log_faults rule decide looks = flat_map (λ look. where_due (decide look) (hindrances rule look)) looks
+
+-- its scripts, of which those of the rotations are its own where they are shared, and its logs that are due
+abbrev pub set_plan : Rule → List LogPlan → SetPlan
+set_plan rule logs = record {
+  first = script rule.scripts.first (spaced rule.words ∷ []);
+  pre = where_so rule.shared (script rule.scripts.pre (spaced rule.words ∷ []));
+  post = where_so rule.shared (script rule.scripts.post (spaced rule.words ∷ []));
+  last = script rule.scripts.last (spaced rule.words ∷ []);
+  shared = rule.shared;
+  logs = logs;
+}
+
+-- ---- all definitions
+
+abbrev pub all_decisions : (Rule → LogLook → Due) → List Rule → List SetLooks → List (Path × Due)
+all_decisions decide (rule ∷ rules) (set ∷ sets) = decisions_of (decide rule) set.logs ++ all_decisions decide rules sets
+all_decisions decide _ _ = []
+
+abbrev pub all_plans : (Rule → LogLook → Due) → List Rule → List SetLooks → List SetPlan
+all_plans decide (rule ∷ rules) (set ∷ sets) = set_plan rule (log_plans rule (decide rule) set.logs) ∷ all_plans decide rules sets
+all_plans decide _ _ = []
+
+abbrev pub all_faults : (Rule → LogLook → Due) → List Rule → List SetLooks → List Fault
+all_faults decide (rule ∷ rules) (set ∷ sets) = log_faults rule (decide rule) set.logs ++ all_faults decide rules sets
+all_faults decide _ _ = []
+
+-- The plan: each log that was looked at whole, and whether it is due; what is done with those that are; what hinders some.
+abbrev pub plan_of : List Rule → List SetLooks → List Entry → Moment → Bool → Plan
+plan_of rules sets table now force = record {
+  decisions = all_decisions (decision table now force) rules sets;
+  sets = all_plans (decision table now force) rules sets;
+  faults = all_faults (decision table now force) rules sets;
+}
+
+-- ---- what is asked of rules and looks
+
+-- there are no scripts
+pub record HasNoScripts (s : Scripts) : Type 0 where
+  pub first : s.first ≡ None
+  pub pre : s.pre ≡ None
+  pub post : s.post ≡ None
+  pub last : s.last ≡ None
+  pub preremove : s.preremove ≡ None
+
+-- So far: the log of the look goes by rename to numbered members, each of which has the path of its place.
+pub record CanPlan (rule : Rule) (look : LogLook) : Type 0 where
+  pub log : look.family.log ≡ look.path
+  pub numbered : look.family.naming.dated ≡ None
+  pub start : look.family.naming.start ≤ 999999
+  pub named : AreNamed look.family.naming look.stand.members
+
+-- So far: a rule without scripts, mail and copies, and its looks.
+pub record CanPlanSet (rule : Rule) (looks : List LogLook) : Type 0 where
+  pub count : IsCount rule.count
+  pub no_scripts : HasNoScripts rule.scripts
+  pub each : All (CanPlan rule) looks
+
+-- So far: the same of all rules, of which each has its looks.
+abbrev pub CanPlanAll : List Rule → List SetLooks → Type 0
+CanPlanAll [] [] = Unit {0}
+CanPlanAll (rule ∷ rules) (set ∷ sets) = CanPlanSet rule set.logs × CanPlanAll rules sets
+CanPlanAll _ _ = ⊥

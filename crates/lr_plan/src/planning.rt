@@ -1,0 +1,252 @@
+// What makes the plan.
+ghost use Rattle.std.specs.Prelude.{◌≡◌, ◌++◌, ◌∷◌, [], OnOk, IfOk};
+ghost use Rattle.lr_rules.specs.declared.rule.Rule.{Rule};
+ghost use Rattle.lr_plan.specs.declared.looks.LogLook.{LogLook};
+ghost use Rattle.lr_plan.specs.Internal.Hindered.{fault_of};
+ghost use Rattle.lr_plan.specs.Planned.{decision, decisions_of, hindrances, plans_of, log_plans, log_faults, set_plan, where_due, all_decisions, all_plans, all_faults, plan_of, CanPlan, CanPlanSet, CanPlanAll, HasNoScripts};
+ghost use Rattle.lr_chain.specs.Ready.{IsCount};
+
+use crate::looks::{LogLook, Looks, SetLooks};
+use crate::planned::{LogPlan, Plan, SetPlan};
+use crate::settings::Settings;
+use lr_chain::{PrepareStop, prepare};
+use lr_due::{Due, due};
+use lr_rules::{Clock, Fault, Listed, Memory, Moment, Path, Rule, Rules};
+use lr_state::State;
+use std::alloc::Global;
+
+// Whether the log is due.
+fn decide(rule: &Rule, look: &LogLook, state: &State, now: &Moment, force: bool) -> Due
+    ensures { result ≡ decision state.now now.now force rule.now look.now }
+{
+    let last = state.get(look.path.bytes());
+    due(rule, &look.seen, last, now, force)
+}
+
+// What hinders a rotation that can't be prepared.
+fn hindrance(stop: PrepareStop) -> Result<Fault, Memory>
+    ensures { result ≡ fault_of stop }
+{
+    match stop {
+        PrepareStop::Taken(path) => Ok(Fault::Taken(path)),
+        PrepareStop::TooHigh(path) => Ok(Fault::TooHigh(path)),
+        PrepareStop::NoDir(path) => Ok(Fault::NoDir(path)),
+        PrepareStop::Memory => Err(Memory),
+    }
+}
+
+// Adds the plan of a log that is due, or what hinders it.
+fn add_due(
+    alloc: Global,
+    rule: &Rule,
+    look: &LogLook,
+    plans: &mut Vec<LogPlan>,
+    faults: &mut Vec<Fault>,
+) -> Result<(), Memory>
+    requires count { IsCount rule.now.count }
+    requires no_scripts { HasNoScripts rule.now.scripts }
+    requires look { CanPlan rule.now look.now }
+    ensures plans { OnOk result (plans.new.items ≡ plans.old.items ++ plans_of rule.now look.now) }
+    ensures faults { OnOk result (faults.new.items ≡ faults.old.items ++ hindrances rule.now look.now) }
+{
+    match prepare(alloc, &look.family, &look.stand, rule.count) {
+        Ok(ready) => {
+            plans.push(LogPlan {
+                pre: None,
+                post: None,
+                first_mail: None,
+                ready,
+                job: None,
+            })?;
+            Ok(())
+        }
+        Err(stop) => {
+            faults.push(hindrance(stop)?)?;
+            Ok(())
+        }
+    }
+}
+
+// Adds what is decided of a log, and its plan where it is due, or what hinders it.
+fn add_look(
+    alloc: Global,
+    rule: &Rule,
+    look: &LogLook,
+    decided: Due,
+    plans: &mut Vec<LogPlan>,
+    faults: &mut Vec<Fault>,
+) -> Result<(), Memory>
+    requires count { IsCount rule.now.count }
+    requires no_scripts { HasNoScripts rule.now.scripts }
+    requires look { CanPlan rule.now look.now }
+    ensures plans { OnOk result (plans.new.items ≡ plans.old.items ++ where_due decided (plans_of rule.now look.now)) }
+    ensures faults { OnOk result (faults.new.items ≡ faults.old.items ++ where_due decided (hindrances rule.now look.now)) }
+{
+    match decided {
+        Due::Yes(_) => add_due(alloc, rule, look, plans, faults),
+        Due::No(_) => Ok(()),
+    }
+}
+
+// Adds whether each log of a definition is due.
+fn add_decisions(
+    alloc: Global,
+    rule: &Rule,
+    looks: &[LogLook],
+    state: &State,
+    now: &Moment,
+    force: bool,
+    decisions: &mut Vec<(Path, Due)>,
+) -> Result<(), Memory>
+    ensures { OnOk result (decisions.new.items ≡ decisions.old.items ++ decisions_of (decision state.now now.now force rule.now) looks.now) }
+{
+    for look in looks {
+        let path = look.path.copy(alloc)?;
+        decisions.push((path, decide(rule, look, state, now, force)))?;
+    }
+    Ok(())
+}
+
+// The plans of a definition's logs that are due; adds what hinders some.
+fn plan_all(
+    alloc: Global,
+    rule: &Rule,
+    looks: &[LogLook],
+    state: &State,
+    now: &Moment,
+    force: bool,
+    faults: &mut Vec<Fault>,
+) -> Result<Vec<LogPlan>, Memory>
+    requires { CanPlanSet rule.now looks.now }
+    ensures plans { IfOk result (λ plans. plans.items ≡ log_plans rule.now (decision state.now now.now force rule.now) looks.now) }
+    ensures faults { OnOk result (faults.new.items ≡ faults.old.items ++ log_faults rule.now (decision state.now now.now force rule.now) looks.now) }
+{
+    let mut plans = Vec::new(alloc);
+    for look in looks {
+        let decided = decide(rule, look, state, now, force);
+        add_look(alloc, rule, look, decided, &mut plans, faults)?;
+    }
+    Ok(plans)
+}
+
+// The plan of a definition; adds what hinders some of its logs.
+fn plan_set(
+    alloc: Global,
+    rule: &Rule,
+    looks: &[LogLook],
+    state: &State,
+    now: &Moment,
+    force: bool,
+    faults: &mut Vec<Fault>,
+) -> Result<SetPlan, Memory>
+    requires { CanPlanSet rule.now looks.now }
+    ensures set { IfOk result (λ set. set ≡ set_plan rule.now (log_plans rule.now (decision state.now now.now force rule.now) looks.now)) }
+    ensures faults { OnOk result (faults.new.items ≡ faults.old.items ++ log_faults rule.now (decision state.now now.now force rule.now) looks.now) }
+{
+    let logs = plan_all(alloc, rule, looks, state, now, force, faults)?;
+    Ok(SetPlan {
+        first: None,
+        pre: None,
+        post: None,
+        last: None,
+        shared: rule.shared,
+        logs: Listed::from_vec(logs),
+    })
+}
+
+// What is planned so far.
+#[derive(Drop)]
+struct Draft {
+    decisions: Vec<(Path, Due)>,
+    sets: Vec<SetPlan>,
+    faults: Vec<Fault>,
+}
+
+// Adds what is planned for a definition.
+fn add_set(
+    alloc: Global,
+    rule: &Rule,
+    looks: &[LogLook],
+    state: &State,
+    now: &Moment,
+    force: bool,
+    draft: &mut Draft,
+) -> Result<(), Memory>
+    requires { CanPlanSet rule.now looks.now }
+    ensures decisions { OnOk result (draft.new.decisions.items ≡ draft.old.decisions.items ++ decisions_of (decision state.now now.now force rule.now) looks.now) }
+    ensures sets { OnOk result (draft.new.sets.items ≡ draft.old.sets.items ++ set_plan rule.now (log_plans rule.now (decision state.now now.now force rule.now) looks.now) ∷ []) }
+    ensures faults { OnOk result (draft.new.faults.items ≡ draft.old.faults.items ++ log_faults rule.now (decision state.now now.now force rule.now) looks.now) }
+{
+    add_decisions(alloc, rule, looks, state, now, force, &mut draft.decisions)?;
+    let set = plan_set(alloc, rule, looks, state, now, force, &mut draft.faults)?;
+    draft.sets.push(set)?;
+    Ok(())
+}
+
+// Plans for each definition.
+fn plan_sets(
+    alloc: Global,
+    rules: &[Rule],
+    sets: &[SetLooks],
+    state: &State,
+    now: &Moment,
+    force: bool,
+    draft: &mut Draft,
+) -> Result<(), Memory>
+    requires { CanPlanAll rules.now sets.now }
+    ensures decisions { OnOk result (draft.new.decisions.items ≡ draft.old.decisions.items ++ all_decisions (decision state.now now.now force) rules.now sets.now) }
+    ensures sets { OnOk result (draft.new.sets.items ≡ draft.old.sets.items ++ all_plans (decision state.now now.now force) rules.now sets.now) }
+    ensures faults { OnOk result (draft.new.faults.items ≡ draft.old.faults.items ++ all_faults (decision state.now now.now force) rules.now sets.now) }
+{
+    for at in 0..rules.len() {
+        add_set(
+            alloc,
+            &rules[at],
+            sets[at].logs.as_slice(),
+            state,
+            now,
+            force,
+            draft,
+        )?;
+    }
+    Ok(())
+}
+
+/// The plan of a run: whether each log that was looked at whole is due, what is done with those that are, and what
+/// hinders some. So far of logs that are rotated by rename, with numbers and without programs.
+pub fn plan(
+    alloc: Global,
+    rules: &Rules,
+    looks: &Looks,
+    state: &State,
+    clock: &Clock,
+    settings: &Settings,
+) -> Result<Plan, Memory>
+    requires { CanPlanAll rules.now.sets looks.now.sets }
+    ensures { IfOk result (λ plan. plan ≡ plan_of rules.now.sets looks.now.sets state.now clock.entry.now.now settings.now.force) }
+{
+    let mut draft = Draft {
+        decisions: Vec::new(alloc),
+        sets: Vec::new(alloc),
+        faults: Vec::new(alloc),
+    };
+    plan_sets(
+        alloc,
+        rules.sets.as_slice(),
+        looks.sets.as_slice(),
+        state,
+        &clock.now,
+        settings.force,
+        &mut draft,
+    )?;
+    let Draft {
+        decisions,
+        sets,
+        faults,
+    } = draft;
+    Ok(Plan {
+        decisions: Listed::from_vec(decisions),
+        sets: Listed::from_vec(sets),
+        faults: Listed::from_vec(faults),
+    })
+}
