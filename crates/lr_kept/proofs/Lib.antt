@@ -1,0 +1,9 @@
+pub mod Beginning
+pub mod Elements
+pub mod Finding
+pub mod Fixed
+pub mod Order
+pub mod Outcome
+pub mod Pairing
+pub mod Places
+pub mod Standing

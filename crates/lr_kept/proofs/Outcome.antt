@@ -1,0 +1,193 @@
+-- Which logs are kept once all pairs are settled.
+use Rattle.std.proofs.Common.{◌≡◌, ◌≢◌, ◌∙◌, sym, ap, subst, refl, inl, inr, ⊎_elim, ◌⊎◌, ℕ, ◌<◌, ◌≤◌, ◌+◌, List, ◌++◌, length, take, set, Some, slice_get, get_or, length-set, arith}
+use Rattle.std.specs.Borrow.{Bor}
+use Rattle.std.proofs.lemmas.Bool.{cases_lt, cases_eq}
+use Rattle.std.proofs.lemmas.List.Elements.{All-contains}
+use Rattle.std.proofs.lemmas.Option.{slice_get_within, get_or_from_slice_get}
+use Rattle.std.proofs.Math.Seq.{take-append_seam}
+use Rattle.lr_family.specs.declared.family.Family.{Family}
+use Rattle.lr_kept.specs.declared.choice.Choice.{Choice}
+use Rattle.lr_kept.specs.declared.choice.Choice.TheVariants.{Kept, Again, Meets}
+use Rattle.lr_kept.specs.declared.pair.Pair.{Pair}
+use Rattle.lr_kept.specs.Begun.{AreBegun}
+use Rattle.lr_kept.specs.Chosen.{MeetAt, IsKeptAt, IsChoice, AreChosen}
+use Rattle.lr_kept.specs.Pairs.{pair_at, IsPair, HavePairs, AreRising, IsSettled, IsAmong, AreSettled}
+use Rattle.lr_kept.proofs.Elements.{read_set_same, read_set_other, contains_read, contains_from}
+
+abbrev HasNone : List Choice → Type 0
+HasNone begun = (k i : ℕ) → slice_get begun k ≡ Some (Meets i) → ⊥
+
+pub begins_settled : (begun : List Choice) (pairs : List Pair) → HasNone begun → AreSettled begun pairs 0 begun
+begins_settled begun pairs none = record {
+  as_many = refl;
+  kept = λ k h. h;
+  again = λ k i h. h;
+  met_new = λ k i h. absurd (none k i h);
+  met_kept = λ k i h. absurd (none k i h);
+  met_pair = λ k i h. absurd (none k i h);
+  met_first = λ k i j h. absurd (none k i h);
+  apart = λ k j m. absurd (let l : m.0 < 0 = m.1 in omega arith);
+}
+
+-- one pair more
+module _ (pairs : List Pair) (n : ℕ) (p : Pair) (at : slice_get pairs n ≡ Some p) where
+  among_more : (i k : ℕ) → IsAmong pairs (n + 1) i k → IsAmong pairs n i k ⊎ ((i ≡ p.earlier) × (k ≡ p.later))
+  among_more i k m = ⊎_elim
+      (λ (lo : m.0 < n). inl (m.0, lo, m.2))
+      (λ (hi : n ≤ m.0).
+      let same : m.0 ≡ n = omega (arith, m.1) in
+      let read : slice_get pairs n ≡ Some (pair_at i k) = ap (λ s. slice_get pairs s) (sym same) ∙ m.2 in
+      let is : p ≡ pair_at i k = cc (at, read) in
+      inr (sym (ap (λ (q : Pair). q.earlier) is), sym (ap (λ (q : Pair). q.later) is)))
+      (cases_lt m.0 n)
+
+  still_among : (i k : ℕ) → IsAmong pairs n i k → IsAmong pairs (n + 1) i k
+  still_among i k m = (m.0, omega (arith, m.1), m.2)
+
+  among_now : IsAmong pairs (n + 1) p.earlier p.later
+  among_now = (n, omega arith, at)
+
+  earlier_before : AreRising pairs → (i k : ℕ) → IsAmong pairs n i k → i ≤ p.earlier
+  earlier_before rising i k m =
+      let h = rising m.0 n p (omega (arith, m.1)) (slice_get_within pairs n p at) in
+      let one : get_or pairs m.0 p ≡ pair_at i k = get_or_from_slice_get pairs m.0 (pair_at i k) p m.2 in
+      let other : get_or pairs n p ≡ p = get_or_from_slice_get pairs n p p at in
+      subst (λ (q : Pair). i ≤ q.earlier) other (subst (λ (q : Pair). q.earlier ≤ (get_or pairs n p).earlier) one h)
+
+  module _ (begun old : List Choice) (rising : AreRising pairs) (so_far : AreSettled begun pairs n old) where
+    passed : (IsKeptAt old p.later → IsKeptAt old p.earlier → ⊥) → AreSettled begun pairs (n + 1) old
+    passed none = record {
+      as_many = so_far.as_many;
+      kept = so_far.kept;
+      again = so_far.again;
+      met_new = so_far.met_new;
+      met_kept = so_far.met_kept;
+      met_pair = λ k i h. still_among i k (so_far.met_pair k i h);
+      met_first = λ k i j h lt m kept. ⊎_elim
+          (λ (o : IsAmong pairs n j k). so_far.met_first k i j h lt o kept)
+          (λ e. let le = earlier_before rising i k (so_far.met_pair k i h) in omega (arith, e.0, le))
+          (among_more j k m);
+      apart = λ k j m kept_k kept_j. ⊎_elim
+          (λ (o : IsAmong pairs n j k). so_far.apart k j o kept_k kept_j)
+          (λ e. none (subst (λ s. IsKeptAt old s) e.1 kept_k) (subst (λ s. IsKeptAt old s) e.0 kept_j))
+          (among_more j k m);
+    }
+
+    module _ (within : p.later < length old) (order : p.earlier < p.later) (later : IsKeptAt old p.later) (earlier : IsKeptAt old p.earlier) where
+      abbrev new : List Choice
+      new = set old p.later (Meets p.earlier)
+
+      at_later : slice_get new p.later ≡ Some (Meets p.earlier)
+      at_later = read_set_same old p.later (Meets p.earlier) within
+
+      elsewhere : (k : ℕ) → k ≢ p.later → slice_get new k ≡ slice_get old k
+      elsewhere k ne = read_set_other old p.later k (Meets p.earlier) ne
+
+      kept_elsewhere : (k : ℕ) → IsKeptAt new k → k ≢ p.later
+      kept_elsewhere k h e = absurd (cc (h, at_later, ap (λ s. slice_get new s) e))
+
+      kept_before : (k : ℕ) → IsKeptAt new k → IsKeptAt old k
+      kept_before k h = sym (elsewhere k (kept_elsewhere k h)) ∙ h
+
+      -- what a met log was before: it is the later one now, or was met before
+      met_cases : (k i : ℕ) → slice_get new k ≡ Some (Meets i) → ((k ≡ p.later) × (i ≡ p.earlier)) ⊎ ((k ≢ p.later) × (slice_get old k ≡ Some (Meets i)))
+      met_cases k i h = ⊎_elim
+          (λ (e : k ≡ p.later). let same : i ≡ p.earlier = cc (h, at_later, ap (λ s. slice_get new s) e) in inl (e, same))
+          (λ (ne : k ≡ p.later → ⊥). inr (ne, sym (elsewhere k ne) ∙ h))
+          (cases_eq k p.later)
+
+      settled_kept : (k : ℕ) → IsKeptAt new k → IsKeptAt begun k
+      settled_kept k h = so_far.kept k (kept_before k h)
+
+      settled_again : (k i : ℕ) → slice_get new k ≡ Some (Again i) → slice_get begun k ≡ Some (Again i)
+      settled_again k i h = ⊎_elim
+          (λ (e : k ≡ p.later). absurd (cc (h, at_later, ap (λ s. slice_get new s) e)))
+          (λ (ne : k ≡ p.later → ⊥). so_far.again k i (sym (elsewhere k ne) ∙ h))
+          (cases_eq k p.later)
+
+      settled_new : (k i : ℕ) → slice_get new k ≡ Some (Meets i) → IsKeptAt begun k
+      settled_new k i h = ⊎_elim
+          (λ e. subst (λ s. IsKeptAt begun s) (sym e.0) (so_far.kept p.later later))
+          (λ o. so_far.met_new k i o.1)
+          (met_cases k i h)
+
+      still_kept : (k : ℕ) → k ≢ p.later → IsKeptAt old k → IsKeptAt new k
+      still_kept k ne h = elsewhere k ne ∙ h
+
+      settled_met : (k i : ℕ) → slice_get new k ≡ Some (Meets i) → IsKeptAt new i
+      settled_met k i h = ⊎_elim
+          (λ e. still_kept i (λ s. absurd (omega (arith, s, e.1))) (subst (λ s. IsKeptAt old s) (sym e.1) earlier))
+          (λ o. still_kept i (λ s. absurd (let le = earlier_before rising i k (so_far.met_pair k i o.1) in omega (arith, le, s))) (so_far.met_kept k i o.1))
+          (met_cases k i h)
+
+      settled_pair : (k i : ℕ) → slice_get new k ≡ Some (Meets i) → IsAmong pairs (n + 1) i k
+      settled_pair k i h = ⊎_elim
+          (λ e. subst (λ s. IsAmong pairs (n + 1) s k) (sym e.1) (subst (λ s. IsAmong pairs (n + 1) p.earlier s) (sym e.0) among_now))
+          (λ o. still_among i k (so_far.met_pair k i o.1))
+          (met_cases k i h)
+
+      settled_first : (k i j : ℕ) → slice_get new k ≡ Some (Meets i) → j < i → IsAmong pairs (n + 1) j k → IsKeptAt new j → ⊥
+      settled_first k i j h lt m kept = ⊎_elim
+          (λ e. ⊎_elim
+          (λ (o : IsAmong pairs n j k). so_far.apart k j o (subst (λ s. IsKeptAt old s) (sym e.0) later) (kept_before j kept))
+          (λ f. omega (arith, f.0, e.1, lt))
+          (among_more j k m))
+          (λ o. ⊎_elim
+          (λ (a : IsAmong pairs n j k). so_far.met_first k i j o.1 lt a (kept_before j kept))
+          (λ f. o.0 f.1)
+          (among_more j k m))
+          (met_cases k i h)
+
+      settled_apart : (k j : ℕ) → IsAmong pairs (n + 1) j k → IsKeptAt new k → IsKeptAt new j → ⊥
+      settled_apart k j m kept_k kept_j = ⊎_elim
+          (λ (o : IsAmong pairs n j k). so_far.apart k j o (kept_before k kept_k) (kept_before j kept_j))
+          (λ e. kept_elsewhere k kept_k e.1)
+          (among_more j k m)
+
+      settled : AreSettled begun pairs (n + 1) (set old p.later (Meets p.earlier))
+      settled = record {
+        as_many = length-set old p.later (Meets p.earlier) ∙ so_far.as_many;
+        kept = settled_kept;
+        again = settled_again;
+        met_new = settled_new;
+        met_kept = settled_met;
+        met_pair = settled_pair;
+        met_first = settled_first;
+        apart = settled_apart;
+      }
+
+    pub more_settled : (now : List Choice) → p.later < length old → p.earlier < p.later → IsSettled old p now → AreSettled begun pairs (n + 1) now
+    more_settled now within order (inl h) = subst (λ (cs : List Choice). AreSettled begun pairs (n + 1) cs) (sym h.2) (settled within order h.0 h.1)
+    more_settled now within order (inr h) = subst (λ (cs : List Choice). AreSettled begun pairs (n + 1) cs) (sym h.1) (passed h.0)
+
+-- all pairs are settled: these are the choices
+module _ (logs : List (Bor Family)) (begun choices : List Choice) (pairs : List Pair) (first : AreBegun logs begun) (have : HavePairs logs begun pairs) (done : AreSettled begun pairs (length pairs) choices) where
+  among : (i k : ℕ) → i < k → IsKeptAt begun i → IsKeptAt begun k → MeetAt logs i k → IsAmong pairs (length pairs) i k
+  among i k lt kept_i kept_k m = contains_read pairs (pair_at i k) (have.each i k lt kept_i kept_k m)
+
+  sound : (i k : ℕ) → IsAmong pairs (length pairs) i k → IsPair logs (pair_at i k)
+  sound i k m = All-contains (IsPair logs) pairs (pair_at i k) have.sound (contains_from pairs m.0 (pair_at i k) m.2)
+
+  chosen : (k : ℕ) (c : Choice) → slice_get choices k ≡ Some c → IsChoice logs choices k c
+  chosen k Kept h = record {
+    new = first.each k Kept (done.kept k h);
+    apart = λ j lt kept m. done.apart k j (among j k lt (done.kept j kept) (done.kept k h) m) h kept;
+  }
+  chosen k (Again i) h = first.each k (Again i) (done.again k i h)
+  chosen k (Meets i) h =
+      let new = done.met_new k i h in
+      let pair = done.met_pair k i h in
+      let is = sound i k pair in
+      record {
+        new = first.each k Kept new;
+        before = is.0;
+        kept = done.met_kept k i h;
+        meet = is.1;
+        first = λ j lt kept m. done.met_first k i j h lt (among j k (omega (arith, is.0, lt)) (done.kept j kept) new m) kept;
+      }
+
+  pub all_chosen : AreChosen logs choices
+  all_chosen = record { as_many = done.as_many ∙ first.as_many; each = chosen }
+
+pub front_whole : (n : ℕ) (xs ys : List Choice) → n ≡ length xs → take n (xs ++ ys) ≡ xs
+front_whole n xs ys e = ap (λ m. take m (xs ++ ys)) e ∙ take-append_seam xs ys

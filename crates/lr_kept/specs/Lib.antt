@@ -1,0 +1,4 @@
+pub mod Begun
+pub mod Chosen
+pub mod Fronts
+pub mod Pairs

@@ -1,0 +1,24 @@
+//! Which of the logs that a run found it keeps.
+//!
+//! The contract above it: a log is kept exactly where its path wasn't found before and it has no name in common with a
+//! log before it that is kept. Begin with `choose`:
+//!
+//! ```text
+//! let choices = choose(alloc, &[&first, &second])?;   // /v/a.log and /v/a.log.1: Kept, Meets(0)
+//! ```
+#![tactic(auto)]
+
+mod begun;
+mod choice;
+mod choosing;
+mod front;
+mod fronts;
+mod laws;
+mod pair;
+mod pairs;
+mod range;
+mod settling;
+
+pub use choice::Choice;
+pub use choosing::choose;
+pub use laws::choice_is_fixed;
