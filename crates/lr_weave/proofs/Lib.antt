@@ -1,0 +1,9 @@
+pub mod Firsts
+pub mod Fits
+pub mod Parting
+pub mod Planning
+pub mod Seen
+pub mod Sets
+pub mod Shared
+pub mod Turned
+pub mod Whole

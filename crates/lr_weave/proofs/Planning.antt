@@ -1,0 +1,400 @@
+-- The changes of a plan whose rotations are ready are those rotations.
+use Rattle.std.proofs.Common.{◌≡◌, ◌≢◌, ◌⊎◌, inl, inr, ⊎_elim, ℕ, Bool, true, false, refl, sym, ◌∙◌, ap, subst, Option, Some, None, List, [], ◌∷◌, ◌++◌, map, append_assoc, append-nil}
+use Rattle.std.specs.List.{flat_map}
+use Rattle.std.proofs.lemmas.Grind.{flat_map-append}
+use Rattle.lr_rules.specs.declared.path.Path.{Path}
+use Rattle.lr_rules.specs.declared.fault.Phase.{Phase}
+use Rattle.lr_rules.specs.declared.fault.Phase.TheVariants as phase
+use Rattle.lr_rules.specs.declared.rule.Make.{Make}
+use Rattle.lr_rules.specs.declared.rule.Make.TheVariants as make
+use Rattle.lr_rules.specs.declared.rule.Naming.{Naming}
+use Rattle.lr_host.specs.declared.entry.Entry.{Entry}
+use Rattle.lr_host.specs.declared.entry.Entry.TheVariants as entry
+use Rattle.lr_host.specs.Lists.{IsIn}
+use Rattle.lr_host.specs.Told.{Each}
+use Rattle.lr_host.proofs.Each.{each_append, each_first}
+use Rattle.lr_scripts.specs.declared.command.Command.{Command}
+use Rattle.lr_scripts.specs.declared.removal.Removal.{Removal}
+use Rattle.lr_family.specs.Spots.{path_at}
+use Rattle.lr_chain.specs.declared.ready.Move.{Move}
+use Rattle.lr_chain.specs.Ready.{removal_at, move_from}
+use Rattle.lr_chain.specs.Rotation.{places_of, leftovers, kept, one_too_many, unlink_at, move_at}
+use Rattle.lr_plan.specs.declared.job.Job.{Job}
+use Rattle.lr_plan.specs.declared.planned.LogPlan.{LogPlan}
+use Rattle.lr_plan.specs.declared.planned.SetPlan.{SetPlan}
+use Rattle.lr_plan.specs.declared.step.Step.{Step}
+use Rattle.lr_plan.specs.Steps.{program, removals, directory, move, transfer, made_anew, rotation_of as rotation, retirement_of as retirement, steps_of_log, shared_steps, by_logs, steps_of_set}
+use Rattle.lr_rotations.specs.Weave.{Weave}
+use Rattle.lr_weave.specs.Parts.{change_of, changes_by, ArePlain, EachPlain, IsPlainSet, ArePlainSets, parts_of_set, parts_of_sets, AllOf, InOnePart, ArePlanned}
+use Rattle.lr_weave.specs.Planned.{IsReadyFor, AreReadyFor, HaveLogs, NoneHas, AreApart}
+use Rattle.lr_rotations.specs.Target.{Target, rotation_of, IsOneOf}
+use Rattle.lr_rotations.specs.AllTurns.{IsOfSome, IsOfOther}
+use Rattle.lr_rotations.proofs.Weaving.{weave_on, weave_own, weave_others}
+
+-- ---- the changes of one log
+
+on : (xs ys : List Step) → changes_by (xs ++ ys) ≡ changes_by xs ++ changes_by ys
+on xs ys = flat_map-append change_of xs ys
+
+pub program_none : (p : Phase) (o : Option Command) → changes_by (program p o) ≡ []
+program_none p None = refl
+program_none p (Some command) = refl
+
+unlinks : (n : Naming) (ks : List ℕ) → changes_by (removals (map (removal_at n) ks)) ≡ map (unlink_at n) ks
+unlinks n [] = refl
+unlinks n (k ∷ ks) = ap (λ xs. unlink_at n k ∷ xs) (unlinks n ks)
+
+moves : (n : Naming) (ks : List ℕ) → changes_by (map move (map (move_from n) ks)) ≡ map (move_at n) ks
+moves n [] = refl
+moves n (k ∷ ks) = ap (λ xs. move_at n k ∷ xs) (moves n ks)
+
+no_dir : (d : Option (Path × Option ℕ)) → d ≡ None → changes_by (directory d) ≡ []
+no_dir None e = refl
+no_dir (Some x) e = absurd (cc)
+
+by_rename : (log target : Path) (j : Option Job) → j ≡ None → changes_by (transfer log target j) ≡ entry.Renames log target ∷ []
+by_rename log target None e = refl
+by_rename log target (Some job) e = absurd (cc)
+
+no_make : (m : Make) (log : Path) (j : Option Job) → m ≡ make.No → j ≡ None → changes_by (made_anew m log j) ≡ []
+no_make make.No log None e f = refl
+no_make make.No log (Some job) e f = absurd (cc)
+no_make (make.Yes mode) log j e f = absurd (cc)
+
+abbrev pub front_of : Target → List Entry
+front_of t = map (unlink_at t.naming) (leftovers t.count (places_of t.stand.members)) ++ (map (move_at t.naming) (kept t.count (places_of t.stand.members)) ++ entry.Renames t.log (path_at t.naming 0) ∷ [])
+
+abbrev pub back_of : Target → List Entry
+back_of t = map (unlink_at t.naming) (one_too_many t.count (places_of t.stand.members))
+
+two : {xs ys xs' ys' : List Entry} → xs ≡ xs' → ys ≡ ys' → xs ++ ys ≡ xs' ++ ys'
+two {ys = ys} {xs' = xs'} a b = ap (λ x. x ++ ys) a ∙ ap (λ y. xs' ++ y) b
+
+pub front_is : (t : Target) (log : LogPlan) → IsReadyFor t log → changes_by (rotation log) ≡ front_of t
+front_is t log r =
+    on (removals log.ready.leftovers) (directory log.ready.dir ++ (map move log.ready.moves ++ (transfer log.ready.log log.ready.target log.job ++ rest)))
+    ∙ two (ap (λ xs. changes_by (removals xs)) r.ready.leftovers_are ∙ unlinks t.naming (leftovers t.count (places_of t.stand.members)))
+    (on (directory log.ready.dir) (map move log.ready.moves ++ (transfer log.ready.log log.ready.target log.job ++ rest))
+    ∙ two (no_dir log.ready.dir r.ready.no_dir)
+    (on (map move log.ready.moves) (transfer log.ready.log log.ready.target log.job ++ rest)
+    ∙ two (ap (λ xs. changes_by (map move xs)) r.ready.moves_are ∙ moves t.naming (kept t.count (places_of t.stand.members)))
+    (on (transfer log.ready.log log.ready.target log.job) rest
+    ∙ two (by_rename log.ready.log log.ready.target log.job r.no_job ∙ (ap (λ x. entry.Renames x log.ready.target ∷ []) r.ready.log_is ∙ ap (λ x. entry.Renames t.log x ∷ []) r.ready.target_is))
+    (no_make log.ready.make log.ready.log log.job r.ready.no_make r.no_job))))
+  where
+    rest : List Step
+    rest = Rattle.lr_plan.specs.declared.step.Step.TheVariants.Rotated log.ready.log ∷ made_anew log.ready.make log.ready.log log.job
+
+pub back_is : (t : Target) (log : LogPlan) → IsReadyFor t log → changes_by (retirement log) ≡ back_of t
+back_is t log r =
+    on (program phase.Mail log.first_mail) (removals log.ready.retire)
+    ∙ two (program_none phase.Mail log.first_mail) (ap (λ xs. changes_by (removals xs)) r.ready.retire_is ∙ unlinks t.naming (one_too_many t.count (places_of t.stand.members)))
+
+pub halves : (t : Target) → front_of t ++ back_of t ≡ rotation_of t
+halves t = append_assoc (map (unlink_at t.naming) (leftovers t.count (places_of t.stand.members))) (map (move_at t.naming) (kept t.count (places_of t.stand.members)) ++ entry.Renames t.log (path_at t.naming 0) ∷ []) (back_of t)
+
+pub log_is : (t : Target) (log : LogPlan) → IsReadyFor t log → changes_by (steps_of_log log) ≡ rotation_of t
+log_is t log r =
+    on (program phase.Pre log.pre) (rotation log ++ (program phase.Post log.post ++ retirement log))
+    ∙ two (program_none phase.Pre log.pre)
+    (on (rotation log) (program phase.Post log.post ++ retirement log)
+    ∙ (two (front_is t log r) (on (program phase.Post log.post) (retirement log) ∙ two (program_none phase.Post log.post) (back_is t log r)) ∙ halves t))
+
+-- ---- plain steps
+
+plain_on : (xs ys : List Step) → ArePlain xs → ArePlain ys → ArePlain (xs ++ ys)
+plain_on [] ys a b = b
+plain_on (x ∷ xs) ys a b = (a.0, plain_on xs ys a.1 b)
+
+pub program_plain : (p : Phase) (o : Option Command) → ArePlain (program p o)
+program_plain p None = tt
+program_plain p (Some command) = (tt, tt)
+
+removals_plain : (rs : List Removal) → ArePlain (removals rs)
+removals_plain [] = tt
+removals_plain (r ∷ rs) = plain_on (program phase.Preremove r.preremove ++ (program phase.Mail r.mail ++ Rattle.lr_plan.specs.declared.step.Step.TheVariants.Removes r.path ∷ [])) (removals rs)
+    (plain_on (program phase.Preremove r.preremove) (program phase.Mail r.mail ++ Rattle.lr_plan.specs.declared.step.Step.TheVariants.Removes r.path ∷ []) (program_plain phase.Preremove r.preremove)
+    (plain_on (program phase.Mail r.mail) (Rattle.lr_plan.specs.declared.step.Step.TheVariants.Removes r.path ∷ []) (program_plain phase.Mail r.mail) (tt, tt))) (removals_plain rs)
+
+moves_plain : (ms : List Move) → ArePlain (map move ms)
+moves_plain [] = tt
+moves_plain (m ∷ ms) = (tt, moves_plain ms)
+
+dir_plain : (d : Option (Path × Option ℕ)) → d ≡ None → ArePlain (directory d)
+dir_plain None e = tt
+dir_plain (Some x) e = absurd (cc)
+
+turn_plain : (log target : Path) (m : Make) (j : Option Job) → m ≡ make.No → j ≡ None → ArePlain (transfer log target j ++ Rattle.lr_plan.specs.declared.step.Step.TheVariants.Rotated log ∷ made_anew m log j)
+turn_plain log target make.No None e f = (tt, (tt, tt))
+turn_plain log target make.No (Some job) e f = absurd (cc)
+turn_plain log target (make.Yes mode) j e f = absurd (cc)
+
+pub front_plain : (t : Target) (log : LogPlan) → IsReadyFor t log → ArePlain (rotation log)
+front_plain t log r =
+    plain_on (removals log.ready.leftovers) _ (removals_plain log.ready.leftovers)
+    (plain_on (directory log.ready.dir) _ (dir_plain log.ready.dir r.ready.no_dir)
+    (plain_on (map move log.ready.moves) _ (moves_plain log.ready.moves) (turn_plain log.ready.log log.ready.target log.ready.make log.job r.ready.no_make r.no_job)))
+
+pub back_plain : (log : LogPlan) → ArePlain (retirement log)
+back_plain log = plain_on (program phase.Mail log.first_mail) (removals log.ready.retire) (program_plain phase.Mail log.first_mail) (removals_plain log.ready.retire)
+
+pub log_plain : (t : Target) (log : LogPlan) → IsReadyFor t log → ArePlain (steps_of_log log)
+log_plain t log r =
+    plain_on (program phase.Pre log.pre) _ (program_plain phase.Pre log.pre)
+    (plain_on (rotation log) _ (front_plain t log r) (plain_on (program phase.Post log.post) (retirement log) (program_plain phase.Post log.post) (back_plain log)))
+
+-- ---- one definition
+
+fronts : (ts : List Target) (logs : List LogPlan) → AreReadyFor ts logs → (changes_by (flat_map rotation logs) ≡ flat_map front_of ts) × ArePlain (flat_map rotation logs)
+fronts [] [] r = (refl, tt)
+fronts [] (log ∷ logs) r = absurd r
+fronts (t ∷ ts) [] r = absurd r
+fronts (t ∷ ts) (log ∷ logs) r = let h = fronts ts logs r.1 in (on (rotation log) (flat_map rotation logs) ∙ two (front_is t log r.0) h.0, plain_on (rotation log) (flat_map rotation logs) (front_plain t log r.0) h.1)
+
+backs : (ts : List Target) (logs : List LogPlan) → AreReadyFor ts logs → (changes_by (flat_map retirement logs) ≡ flat_map back_of ts) × ArePlain (flat_map retirement logs)
+backs [] [] r = (refl, tt)
+backs [] (log ∷ logs) r = absurd r
+backs (t ∷ ts) [] r = absurd r
+backs (t ∷ ts) (log ∷ logs) r = let h = backs ts logs r.1 in (on (retirement log) (flat_map retirement logs) ∙ two (back_is t log r.0) h.0, plain_on (retirement log) (flat_map retirement logs) (back_plain log) h.1)
+
+eachs : (ts : List Target) (logs : List LogPlan) → AreReadyFor ts logs → (map changes_by (map steps_of_log logs) ≡ map rotation_of ts) × EachPlain (map steps_of_log logs)
+eachs [] [] r = (refl, tt)
+eachs [] (log ∷ logs) r = absurd r
+eachs (t ∷ ts) [] r = absurd r
+eachs (t ∷ ts) (log ∷ logs) r = let h = eachs ts logs r.1 in (ap (λ x. x ∷ map changes_by (map steps_of_log logs)) (log_is t log r.0) ∙ ap (λ xs. rotation_of t ∷ xs) h.0, (log_plain t log r.0, h.1))
+
+shared_is : (set : SetPlan) (ts : List Target) → AreReadyFor ts set.logs → (changes_by (shared_steps set) ≡ flat_map front_of ts ++ flat_map back_of ts) × ArePlain (shared_steps set)
+shared_is set ts r = (
+  on (program phase.First set.first) _ ∙ two (program_none phase.First set.first)
+      (on (program phase.Pre set.pre) _ ∙ two (program_none phase.Pre set.pre)
+      (on (flat_map rotation set.logs) _ ∙ two (fronts ts set.logs r).0
+      (on (program phase.Post set.post) _ ∙ two (program_none phase.Post set.post)
+      (on (flat_map retirement set.logs) (program phase.Last set.last) ∙ (two (backs ts set.logs r).0 (program_none phase.Last set.last) ∙ append-nil (flat_map back_of ts)))))),
+  plain_on (program phase.First set.first) _ (program_plain phase.First set.first)
+      (plain_on (program phase.Pre set.pre) _ (program_plain phase.Pre set.pre)
+      (plain_on (flat_map rotation set.logs) _ (fronts ts set.logs r).1
+      (plain_on (program phase.Post set.post) _ (program_plain phase.Post set.post)
+      (plain_on (flat_map retirement set.logs) (program phase.Last set.last) (backs ts set.logs r).1 (program_plain phase.Last set.last))))),
+)
+
+-- the parts of a definition's changes: those of all its logs in one, or each log's in its own
+pub data ArePartsOf (ts : List Target) (ps : List (List Entry)) : Type 0 where
+  together : ps ≡ (flat_map front_of ts ++ flat_map back_of ts) ∷ [] ∷ [] → ArePartsOf ts ps
+  by_logs_each : ps ≡ [] ∷ (map rotation_of ts ++ [] ∷ []) → ArePartsOf ts ps
+
+three : (a a' : List Entry) (b b' : List (List Entry)) (c c' : List Entry) → a ≡ a' → b ≡ b' → c ≡ c' → a ∷ (b ++ c ∷ []) ≡ a' ∷ (b' ++ c' ∷ [])
+three a a' b b' c c' p q r = ap (λ x. x ∷ (b ++ c ∷ [])) p ∙ (ap (λ x. a' ∷ (x ++ c ∷ [])) q ∙ ap (λ x. a' ∷ (b' ++ x ∷ [])) r)
+
+pub set_is : (set : SetPlan) (ts : List Target) → AreReadyFor ts set.logs → ArePartsOf ts (parts_of_set (steps_of_set set)) × IsPlainSet (steps_of_set set)
+set_is set ts r = go set.shared set.logs r
+  where
+    no_logs : (us : List Target) → AreReadyFor us [] → us ≡ []
+    no_logs [] q = refl
+    no_logs (u ∷ us) q = absurd q
+
+    go : (shared : Bool) (logs : List LogPlan) → AreReadyFor ts logs → ArePartsOf ts (parts_of_set (by_logs shared logs set)) × IsPlainSet (by_logs shared logs set)
+    go shared [] q = (by_logs_each (ap (λ (us : List Target). [] ∷ (map rotation_of us ++ [] ∷ [])) (sym (no_logs ts q))), record { first = tt; each = tt; last = tt })
+    go true (log ∷ logs) q = (
+      together (three (changes_by (shared_steps set)) (flat_map front_of ts ++ flat_map back_of ts) [] [] [] [] (shared_is set ts r).0 refl refl),
+      record { first = (shared_is set ts r).1; each = tt; last = tt },
+    )
+    go false (log ∷ logs) q = (
+      by_logs_each (three (changes_by (program phase.First set.first)) [] (map changes_by (map steps_of_log set.logs)) (map rotation_of ts) (changes_by (program phase.Last set.last)) [] (program_none phase.First set.first) (eachs ts set.logs r).0 (program_none phase.Last set.last)),
+      record { first = program_plain phase.First set.first; each = (eachs ts set.logs r).1; last = program_plain phase.Last set.last },
+    )
+
+-- ---- seen from one log
+
+each_behind : (P : Entry → Type 0) (xs ys : List Entry) → Each P (xs ++ ys) → Each P ys
+each_behind P [] ys a = a
+each_behind P (x ∷ xs) ys a = each_behind P xs ys a.1
+
+-- P holds of all steps of these logs
+abbrev pub AllLogs : (Entry → Type 0) → List Target → Type 0
+AllLogs P [] = Unit {0}
+AllLogs P (t ∷ ts) = Each P (rotation_of t) × AllLogs P ts
+
+-- or of all but this log's
+abbrev AllBut : (Entry → Type 0) → Path → List Target → Type 0
+AllBut P log [] = Unit {0}
+AllBut P log (t ∷ ts) = (t.log ≢ log → Each P (rotation_of t)) × AllBut P log ts
+
+all_of : (P : Entry → Type 0) (log : Path) (ts : List Target) → NoneHas log ts → AllBut P log ts → AllLogs P ts
+all_of P log [] n a = tt
+all_of P log (t ∷ ts) n a = (a.0 n.0, all_of P log ts n.1 a.1)
+
+in_front : (P : Entry → Type 0) (t : Target) → Each P (rotation_of t) → Each P (front_of t)
+in_front P t a = each_first P (front_of t) (back_of t) (subst (Each P) (sym (halves t)) a)
+
+in_back : (P : Entry → Type 0) (t : Target) → Each P (rotation_of t) → Each P (back_of t)
+in_back P t a = each_behind P (front_of t) (back_of t) (subst (Each P) (sym (halves t)) a)
+
+flat_fronts : (P : Entry → Type 0) (ts : List Target) → AllLogs P ts → Each P (flat_map front_of ts)
+flat_fronts P [] a = tt
+flat_fronts P (t ∷ ts) a = each_append P (front_of t) (flat_map front_of ts) (in_front P t a.0) (flat_fronts P ts a.1)
+
+flat_backs : (P : Entry → Type 0) (ts : List Target) → AllLogs P ts → Each P (flat_map back_of ts)
+flat_backs P [] a = tt
+flat_backs P (t ∷ ts) a = each_append P (back_of t) (flat_map back_of ts) (in_back P t a.0) (flat_backs P ts a.1)
+
+map_all : (P : Entry → Type 0) (ts : List Target) → AllLogs P ts → AllOf P (map rotation_of ts)
+map_all P [] a = tt
+map_all P (t ∷ ts) a = (a.0, map_all P ts a.1)
+
+all_on : (P : Entry → Type 0) (ps qs : List (List Entry)) → AllOf P ps → AllOf P qs → AllOf P (ps ++ qs)
+all_on P [] qs a b = b
+all_on P (p ∷ ps) qs a b = (a.0, all_on P ps qs a.1 b)
+
+-- a definition without the log
+pub set_out : (P : Entry → Type 0) (ts : List Target) (ps : List (List Entry)) → ArePartsOf ts ps → AllLogs P ts → AllOf P ps
+set_out P ts ps (together e) a = subst (AllOf P) (sym e) (each_append P (flat_map front_of ts) (flat_map back_of ts) (flat_fronts P ts a) (flat_backs P ts a), (tt, tt))
+set_out P ts ps (by_logs_each e) a = subst (AllOf P) (sym e) (tt, all_on P (map rotation_of ts) ([] ∷ []) (map_all P ts a) (tt, tt))
+
+own_first : (P : Entry → Type 0) (xs ys : List Entry) → Each P ys → Weave P xs (xs ++ ys)
+own_first P xs ys a = subst (λ os. Weave P os (xs ++ ys)) (append-nil xs) (weave_on P xs xs [] ys (weave_own P xs) (weave_others P ys a))
+
+none_one : (log : Path) (ts : List Target) (t : Target) → NoneHas log ts → IsOneOf t ts → t.log ≢ log
+none_one log [] t n i = absurd i
+none_one log (x ∷ xs) t n (inl is) = subst (λ (y : Target). y.log ≢ log) is n.0
+none_one log (x ∷ xs) t n (inr i) = none_one log xs t n.1 i
+
+weave_fronts : (P : Entry → Type 0) (ts : List Target) (t : Target) → IsOneOf t ts → AreApart ts → AllBut P t.log ts → Weave P (front_of t) (flat_map front_of ts)
+weave_fronts P [] t i ap a = absurd i
+weave_fronts P (x ∷ xs) t (inl is) ap a = subst (λ (y : Target). AllBut P y.log xs → Weave P (front_of y) (front_of x ++ flat_map front_of xs)) is (λ b. own_first P (front_of x) (flat_map front_of xs) (flat_fronts P xs (all_of P x.log xs ap.0 b))) a.1
+weave_fronts P (x ∷ xs) t (inr i) ap a = weave_on P [] (front_of x) (front_of t) (flat_map front_of xs) (weave_others P (front_of x) (in_front P x (a.0 (λ e. none_one x.log xs t ap.0 i (sym e))))) (weave_fronts P xs t i ap.1 a.1)
+
+weave_backs : (P : Entry → Type 0) (ts : List Target) (t : Target) → IsOneOf t ts → AreApart ts → AllBut P t.log ts → Weave P (back_of t) (flat_map back_of ts)
+weave_backs P [] t i ap a = absurd i
+weave_backs P (x ∷ xs) t (inl is) ap a = subst (λ (y : Target). AllBut P y.log xs → Weave P (back_of y) (back_of x ++ flat_map back_of xs)) is (λ b. own_first P (back_of x) (flat_map back_of xs) (flat_backs P xs (all_of P x.log xs ap.0 b))) a.1
+weave_backs P (x ∷ xs) t (inr i) ap a = weave_on P [] (back_of x) (back_of t) (flat_map back_of xs) (weave_others P (back_of x) (in_back P x (a.0 (λ e. none_one x.log xs t ap.0 i (sym e))))) (weave_backs P xs t i ap.1 a.1)
+
+more_before : (P : Entry → Type 0) (steps p : List Entry) (ps : List (List Entry)) → Each P p → InOnePart P steps ps → InOnePart P steps (p ∷ ps)
+more_before P steps p ps a o = record { before = p ∷ o.before; part = o.part; after = o.after; parts_are = ap (λ xs. p ∷ xs) o.parts_are; first = (a, o.first); woven = o.woven; rest = o.rest }
+
+all_before : (P : Entry → Type 0) (steps : List Entry) (qs ps : List (List Entry)) → AllOf P qs → InOnePart P steps ps → InOnePart P steps (qs ++ ps)
+all_before P steps [] ps a o = o
+all_before P steps (q ∷ qs) ps a o = more_before P steps q (qs ++ ps) a.0 (all_before P steps qs ps a.1 o)
+
+all_behind : (P : Entry → Type 0) (steps : List Entry) (ps qs : List (List Entry)) → InOnePart P steps ps → AllOf P qs → InOnePart P steps (ps ++ qs)
+all_behind P steps ps qs o a = record {
+  before = o.before;
+  part = o.part;
+  after = o.after ++ qs;
+  parts_are = ap (λ xs. xs ++ qs) o.parts_are ∙ append_assoc o.before (o.part ∷ o.after) qs;
+  first = o.first;
+  woven = o.woven;
+  rest = all_on P o.after qs o.rest a;
+}
+
+one_of_map : (P : Entry → Type 0) (ts : List Target) (t : Target) → IsOneOf t ts → AreApart ts → AllBut P t.log ts → InOnePart P (rotation_of t) (map rotation_of ts)
+one_of_map P [] t i ap a = absurd i
+one_of_map P (x ∷ xs) t (inl is) ap a = subst (λ (y : Target). AllBut P y.log xs → InOnePart P (rotation_of y) (rotation_of x ∷ map rotation_of xs)) is
+    (λ b. record { before = []; part = rotation_of x; after = map rotation_of xs; parts_are = refl; first = tt; woven = weave_own P (rotation_of x); rest = map_all P xs (all_of P x.log xs ap.0 b) }) a.1
+one_of_map P (x ∷ xs) t (inr i) ap a = more_before P (rotation_of t) (rotation_of x) (map rotation_of xs) (a.0 (λ e. none_one x.log xs t ap.0 i (sym e))) (one_of_map P xs t i ap.1 a.1)
+
+-- the definition with the log
+set_in : (P : Entry → Type 0) (ts : List Target) (ps : List (List Entry)) (t : Target) → ArePartsOf ts ps → IsOneOf t ts → AreApart ts → AllBut P t.log ts → InOnePart P (rotation_of t) ps
+set_in P ts ps t (together e) i ap a = subst (InOnePart P (rotation_of t)) (sym e) (record {
+  before = [];
+  part = flat_map front_of ts ++ flat_map back_of ts;
+  after = [] ∷ [];
+  parts_are = refl;
+  first = tt;
+  woven = subst (λ os. Weave P os (flat_map front_of ts ++ flat_map back_of ts)) (halves t) (weave_on P (front_of t) (flat_map front_of ts) (back_of t) (flat_map back_of ts) (weave_fronts P ts t i ap a) (weave_backs P ts t i ap a));
+  rest = (tt, tt);
+})
+set_in P ts ps t (by_logs_each e) i ap a = subst (InOnePart P (rotation_of t)) (sym e)
+    (more_before P (rotation_of t) [] (map rotation_of ts ++ [] ∷ []) tt (all_behind P (rotation_of t) (map rotation_of ts) ([] ∷ []) (one_of_map P ts t i ap a) (tt, tt)))
+
+-- ---- all definitions
+
+abbrev all_targets : List (List Target) → List Target
+all_targets groups = flat_map (λ ts. ts) groups
+
+none_split : (log : Path) (xs ys : List Target) → NoneHas log (xs ++ ys) → NoneHas log xs × NoneHas log ys
+none_split log [] ys n = (tt, n)
+none_split log (x ∷ xs) ys n = let r = none_split log xs ys n.1 in ((n.0, r.0), r.1)
+
+apart_split : (xs ys : List Target) → AreApart (xs ++ ys) → AreApart xs × AreApart ys
+apart_split [] ys ap = (tt, ap)
+apart_split (x ∷ xs) ys ap = let r = apart_split xs ys ap.1 in (((none_split x.log xs ys ap.0).0, r.0), r.1)
+
+but_split : (P : Entry → Type 0) (log : Path) (xs ys : List Target) → AllBut P log (xs ++ ys) → AllBut P log xs × AllBut P log ys
+but_split P log [] ys a = (tt, a)
+but_split P log (x ∷ xs) ys a = let r = but_split P log xs ys a.1 in ((a.0, r.0), r.1)
+
+one_split : (t : Target) (xs ys : List Target) → IsOneOf t (xs ++ ys) → IsOneOf t xs ⊎ IsOneOf t ys
+one_split t [] ys i = inr i
+one_split t (x ∷ xs) ys (inl is) = inl (inl is)
+one_split t (x ∷ xs) ys (inr i) = ⊎_elim (λ a. inl (inr a)) (λ b. inr b) (one_split t xs ys i)
+
+-- a log of the first isn't among the second, nor the other way
+not_behind : (t : Target) (xs ys : List Target) → AreApart (xs ++ ys) → IsOneOf t xs → NoneHas t.log ys
+not_behind t [] ys ap i = absurd i
+not_behind t (x ∷ xs) ys ap (inl is) = subst (λ (u : Target). NoneHas u.log ys) is (none_split x.log xs ys ap.0).1
+not_behind t (x ∷ xs) ys ap (inr i) = not_behind t xs ys ap.1 i
+
+not_before : (t : Target) (xs ys : List Target) → AreApart (xs ++ ys) → IsOneOf t ys → NoneHas t.log xs
+not_before t [] ys ap i = tt
+not_before t (x ∷ xs) ys ap i = ((λ e. none_one x.log ys t (none_split x.log xs ys ap.0).1 i (sym e)), not_before t xs ys ap.1 i)
+
+sets_out : (P : Entry → Type 0) (groups : List (List Target)) (sets : List SetPlan) → HaveLogs groups sets → AllLogs P (all_targets groups) → AllOf P (parts_of_sets (map steps_of_set sets))
+sets_out P [] [] h a = tt
+sets_out P [] (s ∷ sets) h a = absurd h
+sets_out P (g ∷ gs) [] h a = absurd h
+sets_out P (g ∷ gs) (s ∷ sets) h a = let r = logs_split g (flat_map (λ ts. ts) gs) a in all_on P (parts_of_set (steps_of_set s)) (parts_of_sets (map steps_of_set sets)) (set_out P g (parts_of_set (steps_of_set s)) (set_is s g h.0).0 r.0) (sets_out P gs sets h.1 r.1)
+  where
+    logs_split : (xs ys : List Target) → AllLogs P (xs ++ ys) → AllLogs P xs × AllLogs P ys
+    logs_split [] ys a = (tt, a)
+    logs_split (x ∷ xs) ys a = let r = logs_split xs ys a.1 in ((a.0, r.0), r.1)
+
+sets_in : (P : Entry → Type 0) (groups : List (List Target)) (sets : List SetPlan) (t : Target) → HaveLogs groups sets → IsOneOf t (all_targets groups) → AreApart (all_targets groups) → AllBut P t.log (all_targets groups)
+    → InOnePart P (rotation_of t) (parts_of_sets (map steps_of_set sets))
+sets_in P [] sets t h i ap a = absurd i
+sets_in P (g ∷ gs) [] t h i ap a = absurd h
+sets_in P (g ∷ gs) (s ∷ sets) t h i ap a = ⊎_elim
+    (λ here. all_behind P (rotation_of t) (parts_of_set (steps_of_set s)) (parts_of_sets (map steps_of_set sets))
+    (set_in P g (parts_of_set (steps_of_set s)) t (set_is s g h.0).0 here (apart_split g (all_targets gs) ap).0 (but_split P t.log g (all_targets gs) a).0)
+    (sets_out P gs sets h.1 (all_of P t.log (all_targets gs) (not_behind t g (all_targets gs) ap here) (but_split P t.log g (all_targets gs) a).1)))
+    (λ there. all_before P (rotation_of t) (parts_of_set (steps_of_set s)) (parts_of_sets (map steps_of_set sets))
+    (set_out P g (parts_of_set (steps_of_set s)) (set_is s g h.0).0 (all_of P t.log g (not_before t g (all_targets gs) ap there) (but_split P t.log g (all_targets gs) a).0))
+    (sets_in P gs sets t h.1 there (apart_split g (all_targets gs) ap).1 (but_split P t.log g (all_targets gs) a).1))
+    (one_split t g (all_targets gs) i)
+
+sets_plain : (groups : List (List Target)) (sets : List SetPlan) → HaveLogs groups sets → ArePlainSets (map steps_of_set sets)
+sets_plain [] [] h = tt
+sets_plain [] (s ∷ sets) h = absurd h
+sets_plain (g ∷ gs) [] h = absurd h
+sets_plain (g ∷ gs) (s ∷ sets) h = ((set_is s g h.0).1, sets_plain gs sets h.1)
+
+-- ---- P of the others
+
+each_every : (P : Entry → Type 0) (es : List Entry) → ((e : Entry) → IsIn e es → P e) → Each P es
+each_every P [] f = tt
+each_every P (x ∷ xs) f = (f x (inl refl), each_every P xs (λ e i. f e (inr i)))
+
+of_other : (log : Path) (ts : List Target) (t : Target) (e : Entry) → IsOneOf t ts → t.log ≢ log → IsIn e (rotation_of t) → IsOfOther log ts e
+of_other log [] t e i ne h = absurd i
+of_other log (x ∷ xs) t e (inl is) ne h = inl (subst (λ (y : Target). (y.log ≢ log) × IsIn e (rotation_of y)) (sym is) (ne, h))
+of_other log (x ∷ xs) t e (inr i) ne h = inr (of_other log xs t e i ne h)
+
+of_some : (ts : List Target) (t : Target) (e : Entry) → IsOneOf t ts → IsIn e (rotation_of t) → IsOfSome ts e
+of_some [] t e i h = absurd i
+of_some (x ∷ xs) t e (inl is) h = inl (subst (λ (y : Target). IsIn e (rotation_of y)) (sym is) h)
+of_some (x ∷ xs) t e (inr i) h = inr (of_some xs t e i h)
+
+others : (log : Path) (all ts : List Target) → ((t : Target) → IsOneOf t ts → IsOneOf t all) → AllBut (IsOfOther log all) log ts
+others log all [] f = tt
+others log all (t ∷ ts) f = ((λ ne. each_every (IsOfOther log all) (rotation_of t) (λ e i. of_other log all t e (f t (inl refl)) ne i)), others log all ts (λ x i. f x (inr i)))
+
+somes : (all ts : List Target) → ((t : Target) → IsOneOf t ts → IsOneOf t all) → AllLogs (IsOfSome all) ts
+somes all [] f = tt
+somes all (t ∷ ts) f = (each_every (IsOfSome all) (rotation_of t) (λ e i. of_some all t e (f t (inl refl)) i), somes all ts (λ x i. f x (inr i)))
+
+-- a plan whose rotations are ready, of logs of which none stands twice, is planned
+pub ready_planned : (groups : List (List Target)) (sets : List SetPlan) → HaveLogs groups sets → AreApart (flat_map (λ ts. ts) groups) → ArePlanned (flat_map (λ ts. ts) groups) (map steps_of_set sets)
+ready_planned groups sets h ap = record {
+  plain = sets_plain groups sets h;
+  all = sets_out (IsOfSome (flat_map (λ ts. ts) groups)) groups sets h (somes (flat_map (λ ts. ts) groups) (flat_map (λ ts. ts) groups) (λ t i. i));
+  each = λ t i. sets_in (IsOfOther t.log (flat_map (λ ts. ts) groups)) groups sets t h i ap (others t.log (flat_map (λ ts. ts) groups) (flat_map (λ ts. ts) groups) (λ x j. j));
+}

@@ -1,0 +1,55 @@
+-- Logs whose rotations fit, and programs that ask for nothing.
+use Rattle.std.specs.Prelude.{◌≡◌, List, [], ◌∷◌, Option, Some, None}
+use Rattle.lr_rules.specs.Names.{Meet}
+use Rattle.lr_host.specs.declared.journal.Journal.{Journal}
+use Rattle.lr_host.specs.Steps.{CanAll}
+use Rattle.lr_scripts.specs.declared.command.Command.{Command}
+use Rattle.lr_rotations.specs.Apart.{HasNames}
+use Rattle.lr_plan.specs.declared.planned.LogPlan.{LogPlan}
+use Rattle.lr_plan.specs.declared.planned.SetPlan.{SetPlan}
+use Rattle.lr_rotations.specs.Target.{Target, rotation_of}
+
+-- The rotation of the log has names for all its members, and fits where the calls are now.
+pub record IsFit (told : Option Journal) (t : Target) : Type 0 where
+  pub names : HasNames t
+  pub fits : CanAll told (rotation_of t)
+
+abbrev pub AreFit : Option Journal → List Target → Type 0
+AreFit told [] = Unit {0}
+AreFit told (t ∷ ts) = IsFit told t × AreFit told ts
+
+-- none of these logs meets this one
+abbrev pub NoneMeets : Target → List Target → Type 0
+NoneMeets t [] = Unit {0}
+NoneMeets t (x ∷ xs) = (Meet x.log x.naming t.log t.naming → ⊥) × NoneMeets t xs
+
+-- no two of them meet
+abbrev pub DontMeet : List Target → Type 0
+DontMeet [] = Unit {0}
+DontMeet (t ∷ ts) = NoneMeets t ts × DontMeet ts
+
+-- the program, where there is one, reads no file
+abbrev pub ReadsNothing : Option Command → Type 0
+ReadsNothing None = Unit {0}
+ReadsNothing (Some command) = command.input ≡ None
+
+pub record AsksNothing (log : LogPlan) : Type 0 where
+  pub pre : ReadsNothing log.pre
+  pub post : ReadsNothing log.post
+  pub no_mail : log.first_mail ≡ None
+
+abbrev pub AskNothing : List LogPlan → Type 0
+AskNothing [] = Unit {0}
+AskNothing (log ∷ logs) = AsksNothing log × AskNothing logs
+
+-- None of the programs of the definition reads a file: it has scripts alone.
+pub record ReadsNoFile (set : SetPlan) : Type 0 where
+  pub first : ReadsNothing set.first
+  pub pre : ReadsNothing set.pre
+  pub post : ReadsNothing set.post
+  pub last : ReadsNothing set.last
+  pub logs : AskNothing set.logs
+
+abbrev pub ReadNoFiles : List SetPlan → Type 0
+ReadNoFiles [] = Unit {0}
+ReadNoFiles (set ∷ sets) = ReadsNoFile set × ReadNoFiles sets

@@ -1,0 +1,33 @@
+-- Plans whose logs are those that were seen, each with its rotation ready.
+use Rattle.std.specs.Prelude.{◌≡◌, ◌≢◌, List, [], ◌∷◌, None}
+use Rattle.lr_rules.specs.declared.path.Path.{Path}
+use Rattle.lr_chain.specs.Ready.{IsReady}
+use Rattle.lr_plan.specs.declared.planned.LogPlan.{LogPlan}
+use Rattle.lr_plan.specs.declared.planned.SetPlan.{SetPlan}
+use Rattle.lr_rotations.specs.Target.{Target}
+
+-- The rotation of the log is ready, by rename.
+pub record IsReadyFor (t : Target) (log : LogPlan) : Type 0 where
+  pub ready : IsReady t.log t.naming t.count t.stand.members log.ready
+  pub no_job : log.job ≡ None
+
+abbrev pub AreReadyFor : List Target → List LogPlan → Type 0
+AreReadyFor [] [] = Unit {0}
+AreReadyFor (t ∷ ts) (log ∷ logs) = IsReadyFor t log × AreReadyFor ts logs
+AreReadyFor _ _ = ⊥
+
+-- Each definition has its logs.
+abbrev pub HaveLogs : List (List Target) → List SetPlan → Type 0
+HaveLogs [] [] = Unit {0}
+HaveLogs (ts ∷ groups) (set ∷ sets) = AreReadyFor ts set.logs × HaveLogs groups sets
+HaveLogs _ _ = ⊥
+
+-- this one is of another log
+abbrev pub NoneHas : Path → List Target → Type 0
+NoneHas log [] = Unit {0}
+NoneHas log (t ∷ ts) = (t.log ≢ log) × NoneHas log ts
+
+-- no log stands twice
+abbrev pub AreApart : List Target → Type 0
+AreApart [] = Unit {0}
+AreApart (t ∷ ts) = NoneHas t.log ts × AreApart ts

@@ -1,0 +1,62 @@
+// What the acts of a plan leave.
+ghost use Rattle.std.specs.Prelude.{List, Option, [], ◌++◌, map};
+ghost use Rattle.std.specs.List.{flat_map};
+ghost use Rattle.lr_rules.specs.declared.path.Path.{Path};
+ghost use Rattle.lr_rules.specs.declared.fault.Fault.{Fault};
+ghost use Rattle.lr_rules.specs.declared.rules.Rules.{Rules};
+ghost use Rattle.lr_host.specs.declared.entry.Entry.{Entry};
+ghost use Rattle.lr_host.specs.declared.journal.Journal.{Journal};
+ghost use Rattle.lr_host.specs.Quiet.{AreQuiet};
+ghost use Rattle.lr_host.specs.Told.{Left};
+ghost use Rattle.lr_plan.specs.declared.mark.Mark.{Mark};
+ghost use Rattle.lr_plan.specs.declared.planned.SetPlan.{SetPlan};
+ghost use Rattle.lr_plan.specs.declared.step.SetSteps.{SetSteps};
+ghost use Rattle.lr_plan.specs.Steps.{steps_of_set};
+ghost use Rattle.lr_plan.specs.Done.{SetsDone};
+ghost use Rattle.lr_plan.specs.Internal.Asking.{CanSets};
+ghost use Rattle.lr_plan.specs.Internal.Cut.{SetsCut};
+ghost use Rattle.lr_rotations.specs.AllTurns.{AllTurns, AllTurned};
+ghost use Rattle.lr_rotations.specs.Apart.{HaveNames};
+ghost use Rattle.lr_rotations.specs.Target.{Target, AreSeen};
+ghost use Rattle.lr_weave.specs.Fitting.{AreFit, ReadNoFiles, DontMeet};
+ghost use Rattle.lr_weave.specs.Parts.{ArePlanned};
+ghost use Rattle.lr_weave.specs.Planned.{HaveLogs, AreApart};
+
+/// The changes of a plan whose rotations are ready are those rotations, whether its definitions share their scripts or
+/// not.
+pub fn ready_is_planned()
+    ensures { (groups : List (List Target)) (sets : List SetPlan) → HaveLogs groups sets → AreApart (flat_map (λ ts. ts) groups)
+        → ArePlanned (flat_map (λ ts. ts) groups) (map steps_of_set sets) }
+{}
+
+/// Behind looks that saw its logs, the acts of a planned plan leave the entries of a run that rotates them, whatever failed.
+pub fn acts_turn_all()
+    ensures { (state : Path) (rules : Rules) (looks : List Entry) (targets : List Target) (sets : List SetSteps) (marks : List Mark) (faults : List Fault) (ts : List Entry)
+        → AreQuiet looks → AreSeen rules looks targets → ArePlanned targets sets → SetsDone sets marks faults ts → AllTurns state rules (looks ++ ts) }
+{}
+
+/// So they do as far as they came where there was no memory to run a program.
+pub fn cut_acts_turn_all()
+    ensures { (state : Path) (rules : Rules) (looks : List Entry) (targets : List Target) (sets : List SetSteps) (marks : List Mark) (faults : List Fault) (ts : List Entry)
+        → AreQuiet looks → AreSeen rules looks targets → ArePlanned targets sets → SetsCut sets marks faults ts → AllTurns state rules (looks ++ ts) }
+{}
+
+/// Behind looks that saw the logs, the rotation of each fits by itself, whatever writers did meanwhile.
+pub fn seen_is_fit()
+    ensures { (rules : Rules) (targets : List Target) (before now : Option Journal) → HaveNames targets
+        → Left (λ ts. AreQuiet ts × AreSeen rules ts targets) before now → AreFit now targets }
+{}
+
+/// Where the rotation of each log fits by itself, and no two logs meet, the steps of all fit, wherever those before them
+/// ended: of definitions whose programs read no file, with scripts shared or single.
+pub fn ready_can_be_made()
+    ensures { (told : Option Journal) (groups : List (List Target)) (sets : List SetPlan) → HaveLogs groups sets → ReadNoFiles sets
+        → AreFit told (flat_map (λ ts. ts) groups) → DontMeet (flat_map (λ ts. ts) groups) → CanSets told (map steps_of_set sets) }
+{}
+
+/// Acts without a fault rotate each log of the plan whole.
+pub fn whole_acts_turn_all()
+    ensures { (state : Path) (rules : Rules) (looks : List Entry) (targets : List Target) (sets : List SetPlan) (marks : List Mark) (ts : List Entry)
+        → AreQuiet looks → AreSeen rules looks targets → ArePlanned targets (map steps_of_set sets) → SetsDone (map steps_of_set sets) marks [] ts
+        → AllTurned state rules (looks ++ ts) }
+{}
