@@ -1,5 +1,8 @@
 // The calls that a line may make.
-use crate::{chain, clock, conf, due, layer, lex, moment, name, path, report, state, word};
+use crate::{
+    chain, choosing, clock, conf, due, layer, lex, meeting, moment, name, path, report, setting,
+    state, word,
+};
 use lr_line::{Line, Trouble};
 
 #[derive(Clone, Copy)]
@@ -16,6 +19,7 @@ enum Ask {
     Texts,
     List,
     Seconds,
+    Value,
     Row,
     PlaceOfWord,
     Lex,
@@ -33,15 +37,18 @@ enum Ask {
     Place,
     ReadBack,
     NamedAgain,
+    Apart,
+    Meets,
     Rotation,
     Fault,
     Notice,
     Said,
     Until,
+    Choose,
 }
 
 // Each call with its name, and how many words stand behind that, at least and at most.
-static ASKS: [(&str, Ask, usize, usize); 34] = [
+static ASKS: [(&str, Ask, usize, usize); 38] = [
     ("path", Ask::Path, 1, 1),
     ("word", Ask::Word, 2, 2),
     ("parent", Ask::Parent, 1, 1),
@@ -54,6 +61,7 @@ static ASKS: [(&str, Ask, usize, usize); 34] = [
     ("texts", Ask::Texts, 0, 99),
     ("list", Ask::List, 0, 99),
     ("seconds", Ask::Seconds, 1, 1),
+    ("value", Ask::Value, 1, 99),
     ("row", Ask::Row, 1, 1),
     ("row-of", Ask::PlaceOfWord, 1, 1),
     ("lex", Ask::Lex, 1, 1),
@@ -71,11 +79,14 @@ static ASKS: [(&str, Ask, usize, usize); 34] = [
     ("place", Ask::Place, 6, 6),
     ("read-back", Ask::ReadBack, 6, 6),
     ("named-again", Ask::NamedAgain, 6, 6),
+    ("apart", Ask::Apart, 10, 10),
+    ("meets", Ask::Meets, 6, 6),
     ("rotation", Ask::Rotation, 7, 99),
     ("fault", Ask::Fault, 1, 4),
     ("notice", Ask::Notice, 2, 3),
     ("said", Ask::Said, 1, 1),
     ("until", Ask::Until, 2, 2),
+    ("choose", Ask::Choose, 0, 99),
 ];
 
 // The call, where so many words stand behind its name.
@@ -108,11 +119,14 @@ fn answer_of_runs(ask: Ask, line: Line, out: &mut String) -> Result<(), Trouble>
         Ask::Place => name::place(line, out),
         Ask::ReadBack => name::read_back(line, out),
         Ask::NamedAgain => name::named_again(line, out),
+        Ask::Apart => meeting::are_apart(line, out),
+        Ask::Meets => meeting::meets(line, out),
         Ask::Rotation => chain::rotation(line, out),
         Ask::Fault => report::fault(line, out),
         Ask::Notice => report::notice(line, out),
         Ask::Said => report::said(line, out),
         Ask::Until => report::until(line, out),
+        Ask::Choose => choosing::choices(line, out),
         _ => Err(Trouble::Odd("no such call")),
     }
 }
@@ -120,6 +134,7 @@ fn answer_of_runs(ask: Ask, line: Line, out: &mut String) -> Result<(), Trouble>
 // Of configurations, clocks and the state.
 fn answer_of_texts(ask: Ask, line: Line, out: &mut String) -> Result<(), Trouble> {
     match ask {
+        Ask::Value => setting::value(line, out),
         Ask::Row => word::row(line, out),
         Ask::PlaceOfWord => word::place(line, out),
         Ask::Lex => lex::lex(line, out),

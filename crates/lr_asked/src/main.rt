@@ -8,6 +8,7 @@
 
 mod ask;
 mod chain;
+mod choosing;
 mod clock;
 mod conf;
 mod due;
@@ -16,11 +17,13 @@ mod fault;
 mod kinds;
 mod layer;
 mod lex;
+mod meeting;
 mod moment;
 mod name;
 mod path;
 mod report;
 mod rule;
+mod setting;
 mod sheet;
 mod state;
 mod table;

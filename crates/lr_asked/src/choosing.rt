@@ -1,0 +1,117 @@
+// Which of the logs that were found are kept. Each word of a line is a log: its path, or its path and the directory, the
+// base, the extension and the stamp of its members, between commas. What lacks is as it is without directives.
+use lr_family::{Family, are_kin};
+use lr_kept::{Choice, choose};
+use lr_line::{Line, Trouble};
+use lr_rules::{Back, Field, Format, Listed, Naming, Path, Piece, Text};
+
+// The part of the word at this place, counted from 0.
+fn part(word: &[u8], at: usize) -> Option<&[u8]> {
+    word.split(|b| *b == b',').nth(at)
+}
+
+fn field(letter: u8) -> Result<Field, Trouble> {
+    match letter {
+        b'Y' => Ok(Field::Year),
+        b'm' => Ok(Field::Month),
+        b'd' => Ok(Field::Day),
+        b's' => Ok(Field::Epoch),
+        _ => Err(Trouble::Odd("a field of a stamp is wanted")),
+    }
+}
+
+fn stamp(line: Line, text: &[u8]) -> Result<Format, Trouble> {
+    let mut pieces = Vec::new(line.alloc);
+    let mut behind_sign = false;
+    for b in text {
+        if behind_sign {
+            pieces.push(Piece::Field(field(*b)?))?;
+            behind_sign = false;
+        } else if *b == b'%' {
+            behind_sign = true;
+        } else {
+            pieces.push(Piece::Byte(*b))?;
+        }
+    }
+    Ok(Format {
+        pieces: Listed::from_vec(pieces),
+        back: Back::Now,
+    })
+}
+
+fn maybe_stamp(line: Line, text: Option<&[u8]>) -> Result<Option<Format>, Trouble> {
+    match text {
+        Some(text) => Ok(Some(stamp(line, text)?)),
+        None => Ok(None),
+    }
+}
+
+fn numbered(line: Line, log: &Path, word: &[u8]) -> Result<Naming, Trouble> {
+    let dir = Path::new(line.alloc, part(word, 1).unwrap_or(log.parent_bytes()))?;
+    let base = Text::new(line.alloc, part(word, 2).unwrap_or(log.last()))?;
+    let ext = Text::new(line.alloc, part(word, 3).unwrap_or(b""))?;
+    Ok(Naming {
+        dir,
+        base,
+        ext,
+        start: 1,
+        dated: None,
+    })
+}
+
+fn naming(line: Line, log: &Path, word: &[u8]) -> Result<Naming, Trouble> {
+    let mut naming = numbered(line, log, word)?;
+    naming.dated = maybe_stamp(line, part(word, 4))?;
+    Ok(naming)
+}
+
+fn family(line: Line, word: &[u8]) -> Result<Family, Trouble> {
+    let log = Path::new(line.alloc, part(word, 0).unwrap_or(word))?;
+    let naming = naming(line, &log, word)?;
+    if are_kin(&log, &naming) {
+        Ok(Family::of(log, naming))
+    } else {
+        Err(Trouble::Odd("these are no family"))
+    }
+}
+
+fn families(line: Line) -> Result<Vec<Family>, Trouble> {
+    let mut families = Vec::new(line.alloc);
+    for word in line.words.iter().skip(1) {
+        families.push(family(line, word)?)?;
+    }
+    Ok(families)
+}
+
+fn put_choice(choice: Choice, out: &mut String) -> Result<(), Trouble> {
+    match choice {
+        Choice::Kept => Ok(out.push_str("kept")?),
+        Choice::Again(place) => Ok(write!(out, "again {place}")?),
+        Choice::Meets(place) => Ok(write!(out, "meets {place}")?),
+    }
+}
+
+fn put_choices(choices: &[Choice], out: &mut String) -> Result<(), Trouble> {
+    for (place, choice) in choices.iter().enumerate() {
+        if place > 0 {
+            out.push_str(", ")?;
+        }
+        put_choice(*choice, out)?;
+    }
+    Ok(())
+}
+
+fn put_choices_among(line: Line, families: &[Family], out: &mut String) -> Result<(), Trouble> {
+    let mut logs = Vec::new(line.alloc);
+    for family in families {
+        logs.push(family)?;
+    }
+    let choices = choose(line.alloc, &logs)?;
+    put_choices(&choices, out)
+}
+
+/// What comes of each of the logs.
+pub fn choices(line: Line, out: &mut String) -> Result<(), Trouble> {
+    let families = families(line)?;
+    put_choices_among(line, &families, out)
+}
