@@ -1,0 +1,4 @@
+mod Kindred
+mod AskedBy
+mod Looking
+mod Choosing

@@ -1,0 +1,75 @@
+-- Which of the logs that were found are kept, and the faults of the others.
+use Rattle.std.specs.Prelude.{◌≡◌, Bool, true, false, List, [], ◌∷◌, ◌++◌, map, Option, Some, None, slice_get, if◌then◌else◌}
+use Rattle.std.specs.List.{flat_map}
+use Rattle.std.specs.Borrow.{Bor}
+use Rattle.lr_rules.specs.declared.path.Path.{Path}
+use Rattle.lr_rules.specs.declared.rule.Naming.{Naming}
+use Rattle.lr_rules.specs.declared.fault.Fault.{Fault}
+use Rattle.lr_rules.specs.declared.fault.Fault.TheVariants as fault
+use Rattle.lr_host.specs.declared.thing.Kind.{Kind}
+use Rattle.lr_host.specs.declared.thing.Kind.TheVariants as kind
+use Rattle.lr_family.specs.declared.family.Family.{Family}
+use Rattle.lr_kept.specs.declared.choice.Choice.{Choice}
+use Rattle.lr_kept.specs.declared.choice.Choice.TheVariants.{Kept, Again, Meets}
+use Rattle.lr_kept.specs.Chosen.{AreChosen}
+use Rattle.lr_looks.specs.Found.{FoundLog}
+
+-- the path and the names of a log, by which it is chosen
+abbrev pub names_of : Bor Family → Path × Naming
+names_of b = (b.now.log, b.now.naming)
+
+abbrev pub found_names : FoundLog → Path × Naming
+found_names f = (f.log.path, f.log.naming)
+
+-- The choices are those among these logs.
+pub record IsChoiceAmong (found : List FoundLog) (choices : List Choice) : Type 0 where
+  pub logs : List (Bor Family)
+  pub same : map names_of logs ≡ map found_names found
+  pub chosen : AreChosen logs choices
+
+-- a path that was found before is told, unless the definition that found it first lets it go silently
+abbrev pub duplicate : FoundLog → Option FoundLog → List Fault
+duplicate f None = []
+duplicate f (Some first) = if first.log.ignore then [] else fault.Duplicate f.log.path ∷ []
+
+-- the names of the log meet those of one that was kept before
+abbrev pub overlap : FoundLog → Option FoundLog → List Fault
+overlap f None = []
+overlap f (Some other) = fault.Overlap f.log.path other.log.path ∷ []
+
+abbrev pub choice_fault : List FoundLog → FoundLog → Choice → List Fault
+choice_fault all f Kept = []
+choice_fault all f (Again i) = duplicate f (slice_get all i)
+choice_fault all f (Meets i) = overlap f (slice_get all i)
+
+-- the faults of some of the logs that were found, by their choices
+abbrev pub choice_faults : List FoundLog → List FoundLog → List Choice → List Fault
+choice_faults all (f ∷ fs) (c ∷ cs) = choice_fault all f c ++ choice_faults all fs cs
+choice_faults all _ _ = []
+
+abbrev pub where_kept : FoundLog → Choice → List FoundLog
+where_kept f Kept = f ∷ []
+where_kept f _ = []
+
+-- those that are kept
+abbrev pub kept_of : List FoundLog → List Choice → List FoundLog
+kept_of (f ∷ fs) (c ∷ cs) = where_kept f c ++ kept_of fs cs
+kept_of _ _ = []
+
+abbrev pub is_file : Kind → Bool
+is_file kind.File = true
+is_file _ = false
+
+-- a log that is kept and is no regular file is told
+abbrev pub kind_fault : FoundLog → List Fault
+kind_fault f = if is_file f.seen.kind then [] else fault.NotFile f.log.path ∷ []
+
+abbrev pub where_file : FoundLog → List FoundLog
+where_file f = if is_file f.seen.kind then f ∷ [] else []
+
+-- The logs that are left are those that are kept and are regular files; the faults of the others are added, those of the choice first.
+pub record Keeps (found : List FoundLog) (faults all_faults : List Fault) (left : List FoundLog) : Type 0 where
+  pub choices : List Choice
+  pub chosen : IsChoiceAmong found choices
+  pub faults_are : all_faults ≡ faults ++ (choice_faults found found choices ++ flat_map kind_fault (kept_of found choices))
+  pub left_are : left ≡ flat_map where_file (kept_of found choices)

@@ -1,0 +1,6 @@
+pub mod Asked
+pub mod Calls
+pub mod Choices
+pub mod Found
+pub mod Internal
+pub mod Sights

@@ -1,0 +1,24 @@
+//! The looks of a run at the logs of all its definitions, and which of them it keeps.
+//!
+//! The contract above it: what the looks came to is one value, and the logs that are left and the faults are functions of
+//! it. Faults come in this order: of the words (`specs/Sights.antt`), then of the choice, then of the kinds
+//! (`specs/Choices.antt`). `specs/Internal.antt` is for proofs. Begin with `asked`:
+//!
+//! ```text
+//! let logs = asked(alloc, &rules)?;                                  // the logs that the words ask for
+//! let found = look_at_words(alloc, &mut host, logs, &mut faults)?;   // what stands at their paths
+//! let kept = keep(alloc, found, &mut faults)?;                       // the regular files that are to be rotated
+//! ```
+#![tactic(auto)]
+
+mod asking;
+mod found;
+mod keeping;
+mod log;
+mod words;
+
+pub use asking::asked;
+pub use found::Found;
+pub use keeping::keep;
+pub use log::Asked;
+pub use words::look_at_words;
