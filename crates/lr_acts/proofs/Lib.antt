@@ -4,3 +4,4 @@ mod Naming
 mod Parts
 mod Programs
 mod Texts
+mod Counting

@@ -5,7 +5,8 @@
 //! them. Begin with `act`, over the steps of `lr_plan::steps_of`:
 //!
 //! ```text
-//! let mut progress = Progress { marks, faults };   // each with room for as many more as there are steps
+//! let mut progress = Progress { marks, faults };
+//! take_room(&mut progress, steps.as_slice())?;
 //! act(alloc, &mut host, steps, &mut progress)?;     // behind the first step only a program takes memory
 //! ```
 #![tactic(auto)]
@@ -14,9 +15,11 @@ mod acts;
 mod calls;
 mod marks;
 mod progress;
+mod room;
 mod step;
 mod stop;
 mod text;
 
 pub use acts::act;
 pub use progress::Progress;
+pub use room::take_room;
