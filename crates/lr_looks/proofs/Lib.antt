@@ -2,3 +2,5 @@ mod Kindred
 mod AskedBy
 mod Looking
 mod Choosing
+mod Known
+mod Behind

@@ -1,5 +1,5 @@
 -- Logs that were found.
-use Rattle.std.specs.Prelude.{List, map}
+use Rattle.std.specs.Prelude.{◌≡◌, List, map, All, None}
 use Rattle.lr_host.specs.declared.thing.Seen.{Seen}
 use Rattle.lr_looks.specs.declared.found.Found.{Found}
 use Rattle.lr_looks.specs.Asked.{Log, log_in}
@@ -15,3 +15,10 @@ found_in f = record { log = log_in f.asked; seen = f.seen }
 
 abbrev pub all_found_in : List Found → List FoundLog
 all_found_in list = map found_in list
+
+-- the members of each have numbers
+abbrev pub HasNumbers : Found → Type 0
+HasNumbers f = f.asked.family.naming.dated ≡ None
+
+abbrev pub AreNumbered : List Found → Type 0
+AreNumbered list = All HasNumbers list
