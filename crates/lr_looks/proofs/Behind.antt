@@ -17,6 +17,7 @@ use Rattle.lr_family.specs.declared.stand.StandStop.{StandStop}
 use Rattle.lr_family.specs.declared.stand.StandStop.TheVariants as stop
 use Rattle.lr_family.specs.Among.{ShowsIn, ShowsNoneIn}
 use Rattle.lr_kept.proofs.Elements.{same_read}
+use Rattle.lr_looks.proofs.Known.{read_last}
 use Rattle.lr_rules.specs.declared.fault.Fault.{Fault}
 use Rattle.lr_host.specs.Told.{Rose}
 use Rattle.lr_family.specs.Stands.{IsFailedCall}
@@ -30,17 +31,13 @@ use Rattle.lr_looks.specs.Internal.{TakesListing, before, taken, LacksListing, I
 pub its_listing : (known : List Listing) (place : ℕ) (dir : Path) (x : Listing) → IsAt known place dir → x ≡ get_or known place x → slice_get known place ≡ Some x
 its_listing known place dir x h e = let same : get_or known place x ≡ h.0 = get_or_from_slice_get known place h.0 x h.1 in h.1 ∙ ap (λ (l : Listing). Some l) (sym (e ∙ same))
 
-last_of_known : (known : List Listing) (y : Listing) → slice_get (known ++ y ∷ []) (length known) ≡ Some y
-last_of_known [] y = refl
-last_of_known (x ∷ xs) y = last_of_known xs y
-
 behind : (known after : List Listing) (n : Naming) (place : ℕ) (x : Listing) (s : FamilySight) (ts us : List Entry) → slice_get after place ≡ Some x → TakesListing known n.dir after place ts → ShowsMembersIn n x s us → ShowsFamily known n after s (ts ++ us)
 behind known after n place x s ts us at (before l there same is none) m =
     let one : l ≡ x = same_read known place l x there (subst (λ (ls : List Listing). slice_get ls place ≡ Some x) is at) in
     subst (λ (es : List Entry). ShowsFamily known n after s (es ++ us)) (sym none)
     (behind_listing l (record { place = place; there = there; same = same }) is (subst (λ (k : Listing). ShowsMembersIn n k s us) (sym one) m))
 behind known after n place x s ts us at (taken l new same is p shown) m =
-    let one : l ≡ x = same_read (known ++ l ∷ []) (length known) l x (last_of_known known l) (subst (λ (k : ℕ). slice_get (known ++ l ∷ []) k ≡ Some x) p (subst (λ (ls : List Listing). slice_get ls place ≡ Some x) is at)) in
+    let one : l ≡ x = same_read (known ++ l ∷ []) (length known) l x (read_last known l) (subst (λ (k : ℕ). slice_get (known ++ l ∷ []) k ≡ Some x) p (subst (λ (ls : List Listing). slice_get ls place ≡ Some x) is at)) in
     with_listing l new same is (record { front = ts; back = us; joined = refl; first = shown; second = subst (λ (k : Listing). ShowsMembersIn n k s us) (sym one) m })
 
 pub family_told : (known after : List Listing) (n : Naming) (dir : Path) (place : ℕ) (x : Listing) (r : Result Stand StandStop) {o m p : Option Journal} → dir ≡ n.dir → slice_get after place ≡ Some x → Left (TakesListing known dir after place) o m

@@ -14,7 +14,7 @@ use Rattle.lr_kept.proofs.Elements.{read_push_cases}
 use Rattle.lr_looks.specs.Families.{WasListed, WasNotListed}
 use Rattle.lr_looks.specs.Internal.{ArePlaces, TakesListing, before, taken, LacksListing, IsAt}
 
-read_last : (xs : List Listing) (y : Listing) → slice_get (xs ++ y ∷ []) (length xs) ≡ Some y
+pub read_last : (xs : List Listing) (y : Listing) → slice_get (xs ++ y ∷ []) (length xs) ≡ Some y
 read_last [] y = refl
 read_last (x ∷ xs) y = read_last xs y
 

@@ -1,4 +1,4 @@
--- What the looks at families showed, with each directory listed once.
+-- What the looks at families showed, with no directory listed twice.
 use Rattle.std.specs.Prelude.{◌≡◌, ℕ, List, [], ◌∷◌, ◌++◌, map, Some, Result, Ok, Err, slice_get}
 use Rattle.lr_rules.specs.declared.path.Path.{Path}
 use Rattle.lr_rules.specs.declared.rule.Naming.{Naming}
@@ -41,7 +41,7 @@ abbrev pub ShowsMembersIn : Naming → Listing → FamilySight → List Entry �
 ShowsMembersIn n l (Stood stand) ts = ShowsIn n l.there l.parent l.names stand ts
 ShowsMembersIn n l (Stopped why) ts = ShowsNoneIn n l.there l.names why ts
 
--- The looks at one family, behind some listings: its directory was listed before; or it is listed now, and known then; or it couldn't be listed.
+-- The looks at one family, behind some listings: its directory was listed before; or it is listed now, and known then; or it couldn't be, and isn't known.
 pub data ShowsFamily (known : List Listing) (n : Naming) (after : List Listing) (s : FamilySight) (ts : List Entry) : Type 0 where
   behind_listing : (l : Listing) → WasListed known n.dir l → after ≡ known → ShowsMembersIn n l s ts → ShowsFamily known n after s ts
   with_listing : (l : Listing) → WasNotListed known n.dir → l.dir ≡ n.dir → after ≡ known ++ l ∷ [] → Then (ShowsListing n.dir l.there l.parent l.names) (ShowsMembersIn n l s) ts → ShowsFamily known n after s ts

@@ -87,8 +87,8 @@ fn look_at_family<H: Host>(
     }
 }
 
-/// Looks at the families of these logs, in order, each directory listed once: the logs with what stands of their
-/// families. The faults of those of which it isn't known are added.
+/// Looks at the families of these logs, in order: the logs with what stands of their families. The faults of those of
+/// which it isn't known are added. No directory is listed twice; one that couldn't be is tried again at the next log in it.
 pub fn look_at_families<H: Host>(
     alloc: Global,
     host: &mut H,
