@@ -1,4 +1,5 @@
 pub mod Copying
+pub mod Counted
 pub mod Course
 pub mod Done
 pub mod Internal

@@ -1,0 +1,96 @@
+-- Faults that are added, one part behind another.
+use Rattle.std.proofs.Common.{◌≡◌, ◌≤◌, ◌+◌, ℕ, List, [], ◌∷◌, ◌++◌, refl, sym, ap, ◌∙◌, subst, arith, append_assoc}
+use Rattle.std.proofs.lemmas.List.{append-nil}
+use Rattle.lr_rules.specs.declared.fault.CallKind.{CallKind}
+use Rattle.lr_rules.specs.declared.fault.Ended.{Ended}
+use Rattle.lr_rules.specs.declared.fault.Fault.{Fault}
+use Rattle.lr_rules.specs.declared.fault.Fault.TheVariants as fault
+use Rattle.lr_rules.specs.declared.fault.Phase.{Phase}
+use Rattle.lr_rules.specs.declared.path.Path.{Path}
+use Rattle.lr_host.specs.Told.{Counts, NoneFell, Rose}
+use Rattle.lr_plan.specs.Counted.{calls_in, scripts_in, HasNoOut, RoseBy, AreCounted, AddsFaults}
+
+none_more : (n : ℕ) → 0 + n ≡ n
+none_more n = omega arith
+
+pub calls_on : (xs ys : List Fault) → calls_in (xs ++ ys) ≡ calls_in xs + calls_in ys
+calls_on [] ys = sym (none_more (calls_in ys))
+calls_on (x ∷ xs) ys = let e : calls_in (xs ++ ys) ≡ calls_in xs + calls_in ys = calls_on xs ys in omega (arith, e)
+
+pub scripts_on : (xs ys : List Fault) → scripts_in (xs ++ ys) ≡ scripts_in xs + scripts_in ys
+scripts_on [] ys = sym (none_more (scripts_in ys))
+scripts_on (x ∷ xs) ys = let e : scripts_in (xs ++ ys) ≡ scripts_in xs + scripts_in ys = scripts_on xs ys in omega (arith, e)
+
+pub no_out_on : (xs ys : List Fault) → HasNoOut xs → HasNoOut ys → HasNoOut (xs ++ ys)
+no_out_on [] ys h g = g
+no_out_on (x ∷ xs) ys h g = (h.0, no_out_on xs ys h.1 g)
+
+pub rose_on : (a b c m n : ℕ) → RoseBy m a b → RoseBy n b c → RoseBy (m + n) a c
+rose_on a b c m n e f = omega (arith, e, f)
+
+pub counted_on : (xs ys : List Fault) (k l m : Counts) → AreCounted xs k l → AreCounted ys l m → AreCounted (xs ++ ys) k m
+counted_on xs ys k l m x y = record {
+  calls = subst (λ n. RoseBy n k.faults m.faults) (sym (calls_on xs ys)) (rose_on k.faults l.faults m.faults (calls_in xs) (calls_in ys) x.calls y.calls);
+  scripts = subst (λ n. RoseBy n k.bad_ends m.bad_ends) (sym (scripts_on xs ys)) (rose_on k.bad_ends l.bad_ends m.bad_ends (scripts_in xs) (scripts_in ys) x.scripts y.scripts);
+  no_out = no_out_on xs ys x.no_out y.no_out;
+}
+
+pub counted_none : (k : Counts) → AreCounted [] k k
+counted_none k = record { calls = omega arith; scripts = omega arith; no_out = tt }
+
+pub adds_on : (a b c : List Fault) (k l m : Counts) → AddsFaults a b k l → AddsFaults b c l m → AddsFaults a c k m
+adds_on a b c k l m x y = record {
+  added = x.added ++ y.added;
+  after_is = y.after_is ∙ (ap (λ fs. fs ++ y.added) x.after_is ∙ append_assoc a x.added y.added);
+  are_counted = counted_on x.added y.added k l m x.are_counted y.are_counted;
+}
+
+pub adds_none : (a : List Fault) (k : Counts) → AddsFaults a a k k
+adds_none a k = record { added = []; after_is = sym (append-nil a); are_counted = counted_none k }
+
+-- ---- faults that no count tells of
+
+-- neither a failed call, nor a script, nor the output's
+pub record AreFree (added : List Fault) : Type 0 where
+  pub calls : calls_in added ≡ 0
+  pub scripts : scripts_in added ≡ 0
+  pub no_out : HasNoOut added
+
+pub free_none : AreFree []
+free_none = record { calls = refl; scripts = refl; no_out = tt }
+
+pub free_on : (xs ys : List Fault) → AreFree xs → AreFree ys → AreFree (xs ++ ys)
+free_on xs ys h g = record {
+  calls = calls_on xs ys ∙ (let a = h.calls in let b = g.calls in omega (arith, a, b));
+  scripts = scripts_on xs ys ∙ (let a = h.scripts in let b = g.scripts in omega (arith, a, b));
+  no_out = no_out_on xs ys h.no_out g.no_out;
+}
+
+pub counted_free : (added : List Fault) (k l : Counts) → AreFree added → NoneFell k l → AreCounted added k l
+counted_free added k l h f = record {
+  calls = (let z = h.calls in let le : k.faults ≤ l.faults = f.0 in omega (arith, z, le));
+  scripts = (let z = h.scripts in let le : k.bad_ends ≤ l.bad_ends = f.1 in omega (arith, z, le));
+  no_out = h.no_out;
+}
+
+pub adds_free : (a b added : List Fault) (k l : Counts) → b ≡ a ++ added → AreFree added → NoneFell k l → AddsFaults a b k l
+adds_free a b added k l e h f = record { added = added; after_is = e; are_counted = counted_free added k l h f }
+
+-- ---- one fault
+
+pub counted_call : (kind : CallKind) (path : Path) (k l : Counts) → Rose k.faults l.faults → NoneFell k l → AreCounted (fault.Call kind path ∷ []) k l
+counted_call kind path k l r f = record {
+  calls = r;
+  scripts = (let le : k.bad_ends ≤ l.bad_ends = f.1 in omega (arith, le));
+  no_out = ((λ h. h), tt);
+}
+
+pub counted_script : (phase : Phase) (on : List ℕ) (end : Ended) (k l : Counts) → Rose k.bad_ends l.bad_ends → NoneFell k l → AreCounted (fault.Script phase on end ∷ []) k l
+counted_script phase on end k l r f = record {
+  calls = (let le : k.faults ≤ l.faults = f.0 in omega (arith, le));
+  scripts = r;
+  no_out = ((λ h. h), tt);
+}
+
+pub adds_call : (a b : List Fault) (kind : CallKind) (path : Path) (k l : Counts) → b ≡ a ++ fault.Call kind path ∷ [] → Rose k.faults l.faults → NoneFell k l → AddsFaults a b k l
+adds_call a b kind path k l e r f = record { added = fault.Call kind path ∷ []; after_is = e; are_counted = counted_call kind path k l r f }

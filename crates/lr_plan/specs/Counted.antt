@@ -1,0 +1,48 @@
+-- Faults that a call adds, and what the counts of its host tell of them.
+use Rattle.std.specs.Prelude.{◌≡◌, ◌≤◌, ◌+◌, ◌-◌, ◌^◌, min, ℕ, List, [], ◌∷◌, ◌++◌}
+use Rattle.lr_rules.specs.declared.fault.Fault.{Fault}
+use Rattle.lr_rules.specs.declared.fault.Fault.TheVariants as fault
+use Rattle.lr_host.specs.Told.{Counts}
+
+-- how many of the faults are failed calls
+abbrev pub call_in : Fault → ℕ
+call_in (fault.Call kind path) = 1
+call_in _ = 0
+
+abbrev pub calls_in : List Fault → ℕ
+calls_in [] = 0
+calls_in (f ∷ fs) = call_in f + calls_in fs
+
+-- how many are scripts that ended badly
+abbrev pub script_in : Fault → ℕ
+script_in (fault.Script phase on end) = 1
+script_in _ = 0
+
+abbrev pub scripts_in : List Fault → ℕ
+scripts_in [] = 0
+scripts_in (f ∷ fs) = script_in f + scripts_in fs
+
+-- none is of the output
+abbrev pub IsOut : Fault → Type 0
+IsOut fault.Out = Unit {0}
+IsOut _ = ⊥
+
+abbrev pub HasNoOut : List Fault → Type 0
+HasNoOut [] = Unit {0}
+HasNoOut (f ∷ fs) = (IsOut f → ⊥) × HasNoOut fs
+
+-- the count rose by no fewer than so many; at its greatest value it counts as risen
+abbrev pub RoseBy : ℕ → ℕ → ℕ → Type 0
+RoseBy n before now = min (before + n) (2 ^ 64 - 1) ≤ now
+
+-- These faults came: no more failed calls than `faults` rose by, no more bad ends than `bad_ends` rose by, none of the output.
+pub record AreCounted (faults : List Fault) (counted counts : Counts) : Type 0 where
+  pub calls : RoseBy (calls_in faults) counted.faults counts.faults
+  pub scripts : RoseBy (scripts_in faults) counted.bad_ends counts.bad_ends
+  pub no_out : HasNoOut faults
+
+-- such faults were added
+pub record AddsFaults (before after : List Fault) (counted counts : Counts) : Type 0 where
+  pub added : List Fault
+  pub after_is : after ≡ before ++ added
+  pub are_counted : AreCounted added counted counts
