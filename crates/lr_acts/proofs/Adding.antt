@@ -4,12 +4,14 @@ use Rattle.lr_rules.specs.declared.fault.Fault.{Fault}
 use Rattle.lr_rules.specs.declared.fault.Fault.TheVariants as fault
 use Rattle.lr_host.specs.declared.entry.Entry.{Entry}
 use Rattle.lr_host.specs.declared.journal.Journal.{Journal}
-use Rattle.lr_host.specs.Told.{Left, Counts, Onward}
+use Rattle.lr_host.specs.Told.{Left, Counts, NoneFell, Onward}
 use Rattle.lr_host.proofs.Left.{left_as, left_then, left_first}
 use Rattle.lr_plan.specs.declared.mark.Mark.{Mark}
 use Rattle.lr_plan.specs.declared.step.Step.{Step}
 use Rattle.lr_plan.specs.Outcomes.{Succeeds, Fails, marks_of}
+use Rattle.lr_plan.specs.Counted.{AreCounted}
 use Rattle.lr_plan.specs.Course.{Part, Nothing, StepFails}
+use Rattle.lr_plan.proofs.Counts.{free_none, counted_on, counted_none, counted_free, counted_call, counted_script}
 use Rattle.lr_acts.specs.declared.progress.Progress.{Progress}
 use Rattle.lr_acts.specs.Adding.{Adds, AreCaused, HasRoom, Fills}
 use Rattle.lr_acts.specs.Making.{FaultCause, StepNames, WasMade, list_of}
@@ -26,6 +28,7 @@ cause_wider : {P Q : List Entry → Type 0} {o m n l : Option Journal} (f : Faul
 cause_wider (fault.Call kind path) a b c d before behind p q h = omega (arith, p.0.0, q.0.0, h)
 cause_wider (fault.Script phase on end) a b c d before behind p q h = omega (arith, p.0.1, q.0.1, h)
 cause_wider (fault.Taken path) a b c d before behind p q h = was_wider path before h behind
+cause_wider fault.Out a b c d before behind p q h = absurd h
 cause_wider _ a b c d before behind p q h = tt
 
 caused_wider : {P Q : List Entry → Type 0} {o m n l : Option Journal} (fs : List Fault) (a b c d : Counts) → Left P o m → Left Q n l → Onward a b → Onward c d → AreCaused fs b c m n → AreCaused fs a d o l
@@ -47,6 +50,7 @@ adds_as h f = record {
   faults_are = h.faults_are;
   entries = left_as h.entries (λ ts p. f h.marks h.faults ts p);
   caused = h.caused;
+  are_counted = h.are_counted;
   names = h.names;
   onward = h.onward;
 }
@@ -60,6 +64,7 @@ adds_of_more xs rest all is h = record {
   faults_are = h.faults_are;
   entries = h.entries;
   caused = h.caused;
+  are_counted = h.are_counted;
   names = names_of_more xs rest all is h.names;
   onward = h.onward;
 }
@@ -73,6 +78,7 @@ adds_on xs ys {x = x} {o = o} {n = n} {a = a} {b = b} {c = c} p q f = record {
   faults_are = q.faults_are ∙ (ap (λ fs. fs ++ q.faults) p.faults_are ∙ append_assoc x.faults.items p.faults q.faults);
   entries = left_then p.entries q.entries (λ ts us h k. f p.marks q.marks p.faults q.faults ts us h k);
   caused = caused_both p.faults q.faults a c o n (caused_wider p.faults a a b c (here o) q.entries (onward_same a) q.onward p.caused) (caused_wider q.faults a b c c p.entries (here n) p.onward (onward_same c) q.caused);
+  are_counted = counted_on p.faults q.faults a b c p.are_counted q.are_counted;
   names = names_on xs ys p.names q.names;
   onward = onward_on a b c p.onward q.onward;
 }
@@ -86,18 +92,20 @@ adds_none {P} x o a p = record {
   faults_are = sym (append-nil x.faults.items);
   entries = left_first (P [] []) o p;
   caused = tt;
+  are_counted = counted_none a;
   names = same_names [] o;
   onward = onward_same a;
 }
 
 pub adds_nothing : (steps : List Step) (x : Progress) {o n : Option Journal} {a b : Counts} → Left (λ ts. ts ≡ []) o n → Onward a b → Adds Nothing steps x x o n a b
-adds_nothing steps x l onward = record {
+adds_nothing steps x {a = a} {b = b} l onward = record {
   marks = [];
   faults = [];
   marks_are = sym (append-nil x.marks.items);
   faults_are = sym (append-nil x.faults.items);
   entries = left_as l (λ ts e. (refl, refl, e));
   caused = tt;
+  are_counted = counted_free [] a b free_none onward.0;
   names = nothing_names steps l;
   onward = onward;
 }
@@ -108,29 +116,38 @@ no_more x = sym (append-nil x.marks.items)
 pub no_fault : (x : Progress) → x.faults.items ≡ x.faults.items ++ []
 no_fault x = sym (append-nil x.faults.items)
 
+-- one fault with its cause
+counted_one : (f : Fault) (a b : Counts) (o n : Option Journal) → FaultCause f a b o n → NoneFell a b → AreCounted (f ∷ []) a b
+counted_one (fault.Call kind path) a b o n h le = counted_call kind path a b h le
+counted_one (fault.Script phase on end) a b o n h le = counted_script phase on end a b h le
+counted_one fault.Out a b o n h le = absurd h
+counted_one f a b o n h le = counted_free (f ∷ []) a b (record { calls = refl; scripts = refl; no_out = ((λ h. h), tt) }) le
+
 -- one step was made
 pub step_made : (step : Step) (told : Option Mark) (x y : Progress) {o n : Option Journal} {a b : Counts} → list_of told ≡ marks_of step → y.marks.items ≡ x.marks.items ++ list_of told → y.faults.items ≡ x.faults.items ++ []
     → Left (Succeeds step) o n → StepNames step (Ok told) n → Onward a b → Adds (WasMade step) (step ∷ []) x y o n a b
-step_made step told x y {o} {n} e ms fs l named onward = record {
+step_made step told x y {o = o} {n = n} {a = a} {b = b} e ms fs l named onward = record {
   marks = list_of told;
   faults = [];
   marks_are = ms;
   faults_are = fs;
   entries = left_as l (λ ts w. (e, refl, w));
   caused = tt;
+  are_counted = counted_free [] a b free_none onward.0;
   names = subst (λ (marks : List Mark). KeepsNames (step ∷ []) marks o n) (sym e) (made_names step told l named);
   onward = onward;
 }
 
 pub step_failed : (step : Step) (f : Fault) (x y : Progress) {o n : Option Journal} {a b : Counts} → y.marks.items ≡ x.marks.items ++ [] → y.faults.items ≡ x.faults.items ++ f ∷ []
     → Left (Fails step f) o n → FaultCause f a b o n → Onward a b → Adds (StepFails step) (step ∷ []) x y o n a b
-step_failed step f x y ms fs l cause onward = record {
+step_failed step f x y {o = o} {n = n} {a = a} {b = b} ms fs l cause onward = record {
   marks = [];
   faults = f ∷ [];
   marks_are = ms;
   faults_are = fs;
   entries = left_as l (λ ts h. record { fault = f; told = refl; none = refl; failed = h });
   caused = (cause, tt);
+  are_counted = counted_one f a b o n cause onward.0;
   names = failed_names step f l;
   onward = onward;
 }

@@ -42,6 +42,7 @@ adds_by h = record {
   faults_are = h.faults_are;
   entries = left_as h.entries (λ ts p. (refl, p));
   caused = h.caused;
+  are_counted = h.are_counted;
   names = h.names;
   onward = h.onward;
 }

@@ -6,6 +6,7 @@ use Rattle.lr_host.specs.declared.journal.Journal.{Journal}
 use Rattle.lr_host.specs.Told.{Left, Counts, Onward}
 use Rattle.lr_plan.specs.declared.mark.Mark.{Mark}
 use Rattle.lr_plan.specs.declared.step.Step.{Step}
+use Rattle.lr_plan.specs.Counted.{AreCounted}
 use Rattle.lr_plan.specs.Course.{Part}
 use Rattle.lr_acts.specs.declared.progress.Progress.{Progress}
 use Rattle.lr_acts.specs.Making.{FaultCause}
@@ -24,6 +25,7 @@ pub record Adds (P : Part) (steps : List Step) (before now : Progress) (told lat
   pub faults_are : now.faults.items ≡ before.faults.items ++ faults
   pub entries : Left (P marks faults) told later
   pub caused : AreCaused faults counted counts told later
+  pub are_counted : AreCounted faults counted counts
   pub names : KeepsNames steps marks told later
   pub onward : Onward counted counts
 

@@ -1,5 +1,5 @@
 -- What one step of the acts comes to.
-use Rattle.std.specs.Prelude.{◌≡◌, ℕ, Bool, true, false, List, [], ◌∷◌, ◌++◌, Option, Some, None, Result, Ok, Err, IfOk}
+use Rattle.std.specs.Prelude.{◌≡◌, ◌⊎◌, ℕ, Bool, true, false, List, [], ◌∷◌, ◌++◌, Option, Some, None, Result, Ok, Err, IfOk}
 use Rattle.lr_rules.specs.declared.fault.Fault.{Fault}
 use Rattle.lr_rules.specs.declared.fault.Fault.TheVariants as fault
 use Rattle.lr_rules.specs.declared.memory.Memory.{Memory}
@@ -11,7 +11,7 @@ use Rattle.lr_scripts.specs.declared.command.Bad.TheVariants as bad
 use Rattle.lr_scripts.specs.declared.command.Command.{Command}
 use Rattle.lr_plan.specs.declared.mark.Mark.{Mark}
 use Rattle.lr_plan.specs.declared.step.Step.{Step}
-use Rattle.lr_plan.specs.declared.step.Step.TheVariants.{Creates, Copies}
+use Rattle.lr_plan.specs.declared.step.Step.TheVariants.{Runs, Creates, Copies}
 use Rattle.lr_plan.specs.declared.step.SetSteps.{SetSteps}
 use Rattle.lr_plan.specs.Outcomes.{Succeeds, Fails, marks_of}
 use Rattle.lr_plan.specs.Course.{Part, Nothing, Course, StepFails, Unbroken, BrokenOff}
@@ -43,11 +43,12 @@ abbrev pub list_of : Option Mark → List Mark
 list_of None = []
 list_of (Some m) = m ∷ []
 
--- A failed call is told only where faults rose, a bad end only where bad ends did, a taken path only where it was named.
+-- A failed call is told only where faults rose, a bad end only where bad ends did, a taken path only where it was named; the output has no fault here.
 abbrev pub FaultCause : Fault → Counts → Counts → Option Journal → Option Journal → Type 0
 FaultCause (fault.Call kind path) before now told later = Rose before.faults now.faults
 FaultCause (fault.Script phase on end) before now told later = Rose before.bad_ends now.bad_ends
 FaultCause (fault.Taken path) before now told later = WasNamed path told later
+FaultCause fault.Out before now told later = ⊥
 FaultCause _ before now told later = Unit {0}
 
 abbrev pub StopCause : Stop → Counts → Counts → Option Journal → Option Journal → Type 0
@@ -95,3 +96,14 @@ IsBuilt _ = Unit {0}
 abbrev pub AreBuilt : List Step → Type 0
 AreBuilt [] = Unit {0}
 AreBuilt (step ∷ steps) = IsBuilt step × AreBuilt steps
+
+-- ---- what takes memory: programs alone
+
+-- the step runs a program; one of the steps does
+abbrev pub IsProgram : Step → Type 0
+IsProgram (Runs phase on command) = Unit {0}
+IsProgram _ = ⊥
+
+abbrev pub HasProgram : List Step → Type 0
+HasProgram [] = ⊥
+HasProgram (step ∷ steps) = IsProgram step ⊎ HasProgram steps

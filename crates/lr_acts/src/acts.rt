@@ -1,5 +1,5 @@
 // The acts of a plan, definition by definition and log by log.
-ghost use Rattle.std.specs.Prelude.{length, ◌++◌, ◌∷◌, [], Option};
+ghost use Rattle.std.specs.Prelude.{length, ◌++◌, ◌∷◌, [], Option, OnErr};
 ghost use Rattle.lr_host.specs.Steps.{CanAll};
 ghost use Rattle.lr_plan.specs.Internal.Asking.{asks, LeadsTo, CanMake, CanEach, CanSet, CanSets};
 ghost use Rattle.lr_plan.specs.Course.{Course};
@@ -7,7 +7,7 @@ ghost use Rattle.lr_host.specs.declared.journal.Journal.{Journal};
 ghost use Rattle.lr_plan.specs.Internal.Cut.{CourseCut, ListCut, LogsCut, SetCut, SetsCut};
 ghost use Rattle.lr_plan.specs.Done.{EachDone, LogsDone, SetDone, SetsDone};
 ghost use Rattle.lr_acts.specs.Adding.{Adds, HasRoom, Fills};
-ghost use Rattle.lr_acts.specs.Making.{IsBuilt, AreBuilt, StepEnds, StepsEnd, Ends, all_of_each, all_of_set, all_of_sets};
+ghost use Rattle.lr_acts.specs.Making.{IsBuilt, AreBuilt, IsProgram, HasProgram, StepEnds, StepsEnd, Ends, all_of_each, all_of_set, all_of_sets};
 
 use crate::marks::any_rotated;
 use crate::progress::{Progress, add_fault, add_mark};
@@ -30,6 +30,7 @@ fn take_step<H: Host>(
     requires room { HasRoom 1 progress.old }
     ensures told { Adds (StepEnds step result) (step ∷ []) progress.old progress.new (H.told host.old) (H.told host.new) (H.counts host.old) (H.counts host.new) }
     ensures fills { Fills 1 progress.old progress.new }
+    ensures memory { OnErr result (IsProgram step) }
 {
     match make(alloc, host, step) {
         Ok(None) => Ok(true),
@@ -57,6 +58,7 @@ fn make_all<H: Host>(
     requires room { HasRoom (length steps) progress.old }
     ensures told { Adds (StepsEnd steps result) steps progress.old progress.new (H.told host.old) (H.told host.new) (H.counts host.old) (H.counts host.new) }
     ensures fills { Fills (length steps) progress.old progress.new }
+    ensures memory { OnErr result (HasProgram steps) }
 {
     for step in steps.into_vec() {
         let went = take_step(alloc, host, step, progress)?;
@@ -79,6 +81,7 @@ fn make_each<H: Host>(
     requires room { HasRoom (length (all_of_each each)) progress.old }
     ensures told { Adds (Ends (EachDone each) (ListCut Course CourseCut each) result) (all_of_each each) progress.old progress.new (H.told host.old) (H.told host.new) (H.counts host.old) (H.counts host.new) }
     ensures fills { Fills (length (all_of_each each)) progress.old progress.new }
+    ensures memory { OnErr result (HasProgram (all_of_each each)) }
 {
     for steps in each.into_vec() {
         let _went = make_all(alloc, host, steps, progress)?;
@@ -101,6 +104,7 @@ fn make_logs<H: Host>(
     requires room { HasRoom (length (all_of_each each ++ last)) progress.old }
     ensures told { Adds (Ends (LogsDone each last) (LogsCut each last) result) (all_of_each each ++ last) progress.old progress.new (H.told host.old) (H.told host.new) (H.counts host.old) (H.counts host.new) }
     ensures fills { Fills (length (all_of_each each ++ last)) progress.old progress.new }
+    ensures memory { OnErr result (HasProgram (all_of_each each ++ last)) }
 {
     let before = progress.marks.as_slice().len();
     make_each(alloc, host, each, progress)?;
@@ -122,6 +126,7 @@ fn make_set<H: Host>(
     requires room { HasRoom (length (all_of_set set)) progress.old }
     ensures told { Adds (Ends (SetDone set) (SetCut set) result) (all_of_set set) progress.old progress.new (H.told host.old) (H.told host.new) (H.counts host.old) (H.counts host.new) }
     ensures fills { Fills (length (all_of_set set)) progress.old progress.new }
+    ensures memory { OnErr result (HasProgram (all_of_set set)) }
 {
     let SetSteps { first, each, last } = set;
     let went = make_all(alloc, host, first, progress)?;
@@ -145,6 +150,7 @@ pub fn act<H: Host>(
     requires room { HasRoom (length (all_of_sets sets)) progress.old }
     ensures told { Adds (Ends (SetsDone sets) (SetsCut sets) result) (all_of_sets sets) progress.old progress.new (H.told host.old) (H.told host.new) (H.counts host.old) (H.counts host.new) }
     ensures fills { Fills (length (all_of_sets sets)) progress.old progress.new }
+    ensures memory { OnErr result (HasProgram (all_of_sets sets)) }
 {
     for set in sets.into_vec() {
         make_set(alloc, host, set, progress)?;

@@ -1,11 +1,12 @@
 // The steps that make one call, each by itself.
-ghost use Rattle.std.specs.Prelude.{◌≡◌, [], ◌∷◌, IfOk, IfErr};
+ghost use Rattle.std.specs.Prelude.{◌≡◌, ◌≢◌, Err, [], ◌∷◌, IfOk, IfErr};
 ghost use Rattle.lr_rules.specs.declared.fault.Ended.TheVariants as ended;
 ghost use Rattle.lr_host.specs.declared.entry.Entry.TheVariants as entry;
 ghost use Rattle.lr_host.specs.Told.{Left, Can, Onward};
 ghost use Rattle.lr_scripts.specs.Programs.{runs};
 ghost use Rattle.lr_plan.specs.declared.mark.Mark.TheVariants as mark;
 ghost use Rattle.lr_plan.specs.declared.step.Step.TheVariants as step;
+ghost use Rattle.lr_acts.specs.declared.stop.Stop.TheVariants as stop;
 ghost use Rattle.lr_acts.specs.Making.{StepLeft, StopCause, list_of, program_stop};
 ghost use Rattle.lr_acts.specs.Named.{IsNamed};
 
@@ -56,6 +57,7 @@ pub fn remove_file<H: Host>(host: &mut H, path: Path) -> Result<Option<Mark>, St
     ensures told { Left (StepLeft (step.Removes path) result) (H.told host.old) (H.told host.new) }
     ensures marks { IfOk result (λ told. list_of told ≡ []) }
     ensures cause { IfErr result (λ why. StopCause why (H.counts host.old) (H.counts host.new) (H.told host.old) (H.told host.new)) }
+    ensures memory { result ≢ Err stop.Memory }
     ensures counts { Onward (H.counts host.old) (H.counts host.new) }
 {
     match host.unlink(&path) {
@@ -70,6 +72,7 @@ pub fn rename_file<H: Host>(host: &mut H, from: Path, to: Path) -> Result<Option
     ensures told { Left (StepLeft (step.Renames from to) result) (H.told host.old) (H.told host.new) }
     ensures marks { IfOk result (λ told. list_of told ≡ []) }
     ensures cause { IfErr result (λ why. StopCause why (H.counts host.old) (H.counts host.new) (H.told host.old) (H.told host.new)) }
+    ensures memory { result ≢ Err stop.Memory }
     ensures counts { Onward (H.counts host.old) (H.counts host.new) }
 {
     match host.rename(&from, &to) {
@@ -88,6 +91,7 @@ pub fn make_directory<H: Host>(
     ensures told { Left (StepLeft (step.MakesDir path mode) result) (H.told host.old) (H.told host.new) }
     ensures marks { IfOk result (λ told. list_of told ≡ mark.Directory path ∷ []) }
     ensures cause { IfErr result (λ why. StopCause why (H.counts host.old) (H.counts host.new) (H.told host.old) (H.told host.new)) }
+    ensures memory { result ≢ Err stop.Memory }
     ensures counts { Onward (H.counts host.old) (H.counts host.new) }
 {
     let Ok(made) = host.make_dir(&path, mode) else {
@@ -120,6 +124,7 @@ pub fn create_file<H: Host>(
     ensures marks { IfOk result (λ told. list_of told ≡ mark.Created path ∷ []) }
     ensures named { IfOk result (λ told. IsNamed path (H.told host.new)) }
     ensures cause { IfErr result (λ why. StopCause why (H.counts host.old) (H.counts host.new) (H.told host.old) (H.told host.new)) }
+    ensures memory { result ≢ Err stop.Memory }
     ensures counts { Onward (H.counts host.old) (H.counts host.new) }
 {
     match host.make_new(&path, mode) {
@@ -135,6 +140,7 @@ pub fn take_file<H: Host>(host: &mut H, path: Path, mode: Option<u32>) -> Result
     ensures told { Left (StepLeft (step.Takes path mode) result) (H.told host.old) (H.told host.new) }
     ensures marks { IfOk result (λ told. list_of told ≡ []) }
     ensures cause { IfErr result (λ why. StopCause why (H.counts host.old) (H.counts host.new) (H.told host.old) (H.told host.new)) }
+    ensures memory { result ≢ Err stop.Memory }
     ensures counts { Onward (H.counts host.old) (H.counts host.new) }
 {
     match host.make_new(&path, mode) {
@@ -150,6 +156,7 @@ pub fn sync_file<H: Host>(host: &mut H, path: Path) -> Result<Option<Mark>, Stop
     ensures told { Left (StepLeft (step.SyncsFile path) result) (H.told host.old) (H.told host.new) }
     ensures marks { IfOk result (λ told. list_of told ≡ []) }
     ensures cause { IfErr result (λ why. StopCause why (H.counts host.old) (H.counts host.new) (H.told host.old) (H.told host.new)) }
+    ensures memory { result ≢ Err stop.Memory }
     ensures counts { Onward (H.counts host.old) (H.counts host.new) }
 {
     match host.sync_file(&path) {
@@ -164,6 +171,7 @@ pub fn sync_directory<H: Host>(host: &mut H, path: Path) -> Result<Option<Mark>,
     ensures told { Left (StepLeft (step.SyncsDir path) result) (H.told host.old) (H.told host.new) }
     ensures marks { IfOk result (λ told. list_of told ≡ []) }
     ensures cause { IfErr result (λ why. StopCause why (H.counts host.old) (H.counts host.new) (H.told host.old) (H.told host.new)) }
+    ensures memory { result ≢ Err stop.Memory }
     ensures counts { Onward (H.counts host.old) (H.counts host.new) }
 {
     match host.sync_dir(&path) {
@@ -178,6 +186,7 @@ pub fn empty_file<H: Host>(host: &mut H, path: Path) -> Result<Option<Mark>, Sto
     ensures told { Left (StepLeft (step.Truncates path) result) (H.told host.old) (H.told host.new) }
     ensures marks { IfOk result (λ told. list_of told ≡ []) }
     ensures cause { IfErr result (λ why. StopCause why (H.counts host.old) (H.counts host.new) (H.told host.old) (H.told host.new)) }
+    ensures memory { result ≢ Err stop.Memory }
     ensures counts { Onward (H.counts host.old) (H.counts host.new) }
 {
     match host.truncate(&path) {

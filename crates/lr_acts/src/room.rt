@@ -1,5 +1,6 @@
 // The room that acts need.
-ghost use Rattle.std.specs.Prelude.{◌≡◌, ◌+◌, length, OnOk, IfOk};
+ghost use Rattle.std.specs.Prelude.{◌≡◌, ◌+◌, ◌≤◌, length, vec_len, OnOk, IfOk};
+ghost use Rattle.std.specs.Vec.{vec_capacity};
 ghost use Rattle.lr_acts.specs.Adding.{HasRoom};
 ghost use Rattle.lr_acts.specs.Making.{all_of_each, all_of_set, all_of_sets};
 
@@ -45,15 +46,17 @@ fn count_all(sets: &[SetSteps]) -> Result<usize, Memory>
     Ok(count)
 }
 
-/// Takes the room that the acts of these definitions need in any case: for a mark and a fault of each step. What came
-/// before stays.
+/// Takes the room that the acts of these definitions need in any case, for a mark and a fault of each step, and that of
+/// one fault more, which the caller may add behind them. What came before stays.
 pub fn take_room(progress: &mut Progress, sets: &[SetSteps]) -> Result<(), Memory>
     ensures room { OnOk result (HasRoom (length (all_of_sets sets.now)) progress.new) }
+    ensures one_more { OnOk result (vec_len progress.new.faults + length (all_of_sets sets.now) + 1 ≤ vec_capacity progress.new.faults) }
     ensures marks { progress.new.marks.items ≡ progress.old.marks.items }
     ensures faults { progress.new.faults.items ≡ progress.old.faults.items }
 {
     let count = count_all(sets)?;
+    let faults = sum(count, 1)?;
     progress.marks.reserve(count)?;
-    progress.faults.reserve(count)?;
+    progress.faults.reserve(faults)?;
     Ok(())
 }

@@ -5,7 +5,7 @@ ghost use Rattle.lr_host.specs.Steps.{CanAll};
 ghost use Rattle.lr_plan.specs.Internal.Asking.{asks};
 ghost use Rattle.lr_plan.specs.Outcomes.{marks_of};
 ghost use Rattle.lr_acts.specs.declared.stop.Stop.TheVariants as stop;
-ghost use Rattle.lr_acts.specs.Making.{IsBuilt, StepLeft, StepNames, StopCause, list_of};
+ghost use Rattle.lr_acts.specs.Making.{IsBuilt, IsProgram, StepLeft, StepNames, StopCause, list_of};
 
 use crate::calls::{
     create_file, empty_file, make_directory, remove_file, rename_file, run_program, sync_directory,
@@ -33,6 +33,7 @@ pub fn make<H: Host>(alloc: Global, host: &mut H, step: Step) -> Result<Option<M
     ensures marks { IfOk result (λ told. list_of told ≡ marks_of step) }
     ensures named { StepNames step result (H.told host.new) }
     ensures cause { IfErr result (λ why. StopCause why (H.counts host.old) (H.counts host.new) (H.told host.old) (H.told host.new)) }
+    ensures memory { result ≡ Err stop.Memory → IsProgram step }
     ensures counts { Onward (H.counts host.old) (H.counts host.new) }
 {
     match step {

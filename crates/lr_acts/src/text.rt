@@ -1,9 +1,10 @@
 // A text that is appended in pieces.
-ghost use Rattle.std.specs.Prelude.{◌≡◌, [], OnOk, OnErr, IfOk, IfErr};
+ghost use Rattle.std.specs.Prelude.{◌≡◌, ◌≢◌, Err, [], OnOk, OnErr, IfOk, IfErr};
 ghost use Rattle.lr_host.specs.declared.entry.Entry.TheVariants as entry;
 ghost use Rattle.lr_host.specs.Told.{Left, Can, Onward, Rose};
 ghost use Rattle.lr_plan.specs.Copying.{Appended, AppendBroke};
 ghost use Rattle.lr_plan.specs.declared.step.Step.TheVariants as step;
+ghost use Rattle.lr_acts.specs.declared.stop.Stop.TheVariants as stop;
 ghost use Rattle.lr_acts.specs.Making.{StepLeft, StopCause, list_of};
 
 use crate::stop::Stop;
@@ -35,6 +36,7 @@ pub fn append_text<H: Host>(host: &mut H, path: Path, text: Text) -> Result<Opti
     ensures told { Left (StepLeft (step.Appends path text) result) (H.told host.old) (H.told host.new) }
     ensures marks { IfOk result (λ told. list_of told ≡ []) }
     ensures cause { IfErr result (λ why. StopCause why (H.counts host.old) (H.counts host.new) (H.told host.old) (H.told host.new)) }
+    ensures memory { result ≢ Err stop.Memory }
     ensures counts { Onward (H.counts host.old) (H.counts host.new) }
 {
     match append_all(host, &path, text.bytes()) {

@@ -9,9 +9,10 @@ use Rattle.lr_plan.specs.Done.{SetDone, SetsDone}
 use Rattle.lr_plan.proofs.Courses.{every_more}
 use Rattle.lr_plan.proofs.Cuts.{list_cut}
 use Rattle.lr_acts.specs.Adding.{Adds, HasRoom}
-use Rattle.lr_acts.specs.Making.{AreBuilt, Ends, all_of_set, all_of_sets}
+use Rattle.lr_acts.specs.Making.{AreBuilt, HasProgram, Ends, all_of_set, all_of_sets}
 use Rattle.lr_acts.proofs.Adding.{adds_on, adds_of_more, adds_none, fills_none, fills_on, room_part, room_rest}
 use Rattle.lr_acts.proofs.Parts.{leads, sets_next, sets_rest, built_first, built_later}
+use Rattle.lr_acts.proofs.Programs.{program_first, program_later, at_error}
 use Rattle.lr_acts.proofs.acts.act.Goals as goal
 
 pub loop-set-init : goal.loop-set-init
@@ -66,6 +67,18 @@ returns-in_err-make_set-clause-fills g c =
     let size : length (all_of_sets c.args.sets) ≡ length (all_of_sets at.yielded ++ (all_of_set x)) + length (all_of_sets rest) = ap length parts ∙ length-append (all_of_sets at.yielded ++ (all_of_set x)) (all_of_sets rest) in
     let front : length (all_of_sets at.yielded ++ (all_of_set x)) ≡ length (all_of_sets at.yielded) + length (all_of_set x) = length-append (all_of_sets at.yielded) (all_of_set x) in
     fills_on (length (all_of_sets at.yielded)) (length (all_of_set x)) (length (all_of_sets c.args.sets)) c.args.progress.now at.progress c.make_set.new.progress (omega (arith, size, front)) at.invariant.fills c.make_set.ensures.fills
+
+pub returns-in_err-make_set-clause-memory : goal.returns-in_err-make_set-clause-memory
+returns-in_err-make_set-clause-memory g c =
+    let at = c.loop-set in
+    let x = c.in-Some.set in
+    let rest = into_iter_items c.next.new.self in
+    let steps : into_iter_items at.set-iterator ≡ x ∷ rest = c.in-Some.ensures.steps.0 in
+    let same : into_iter_items c.into_iter-set-iterator.result ≡ c.args.sets = c.into_iter-set-iterator.ensures.into_iter_gives.0 ∙ c.into_vec-set-items.ensures in
+    let all : at.yielded ++ x ∷ rest ≡ c.args.sets = sym (ap (λ xs. at.yielded ++ xs) steps) ∙ (at.invariant.all ∙ same) in
+    let parts : (all_of_sets at.yielded ++ all_of_set x) ++ all_of_sets rest ≡ all_of_sets c.args.sets = sym (sets_rest at.yielded x rest) ∙ ap all_of_sets all in
+    at_error c.from_residual.result (HasProgram (all_of_sets c.args.sets))
+    (subst HasProgram parts (program_first (all_of_sets at.yielded ++ all_of_set x) (all_of_sets rest) (program_later (all_of_sets at.yielded) (all_of_set x) c.in_err-make_set.ensures.memory)))
 
 pub loop-set-preserved : goal.loop-set-preserved
 loop-set-preserved g c =

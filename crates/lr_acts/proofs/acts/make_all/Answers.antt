@@ -1,4 +1,4 @@
-use Rattle.std.proofs.Common.{◌≡◌, true, false, ◌+◌, List, [], ◌∷◌, ◌++◌, length, Err, refl, sym, ◌∙◌, ap, subst, rules, arith, append_assoc}
+use Rattle.std.proofs.Common.{◌≡◌, inl, true, false, ◌+◌, List, [], ◌∷◌, ◌++◌, length, Err, refl, sym, ◌∙◌, ap, subst, rules, arith, append_assoc}
 use Rattle.std.proofs.lemmas.List.{length-append}
 use Rattle.std.specs.Vec.Iter.{into_iter_items}
 use Rattle.lr_host.specs.Told.{Left}
@@ -10,8 +10,9 @@ use Rattle.lr_plan.specs.Course.{Course, BrokenOff}
 use Rattle.lr_plan.proofs.Courses.{course_more, course_stops}
 use Rattle.lr_plan.proofs.Cuts.{course_cut}
 use Rattle.lr_acts.specs.Adding.{Adds, HasRoom}
-use Rattle.lr_acts.specs.Making.{AreBuilt, WasMade, StepsEnd}
+use Rattle.lr_acts.specs.Making.{AreBuilt, HasProgram, WasMade, StepsEnd}
 use Rattle.lr_acts.proofs.Adding.{adds_on, adds_of_more, adds_none, fills_none, fills_on, room_rest}
+use Rattle.lr_acts.proofs.Programs.{program_later, at_error}
 use Rattle.lr_acts.proofs.acts.make_all.Goals as goal
 
 pub loop-step-init : goal.loop-step-init
@@ -40,6 +41,16 @@ returns-in_err-went-clause-told g c =
     subst (λ r. Adds (StepsEnd c.args.steps r) c.args.steps c.args.progress.now c.take_step.new.progress (g.H.Host.told c.args.host.now) (g.H.Host.told c.take_step.new.host) (g.H.Host.counts c.args.host.now) (g.H.Host.counts c.take_step.new.host)) (sym is)
     (adds_of_more (at.yielded ++ x ∷ []) rest c.args.steps (sym all ∙ sym (append_assoc at.yielded (x ∷ []) rest))
     (adds_on at.yielded (x ∷ []) at.invariant.added c.in_err-went.ensures.told (λ ms ms' f f' ts ts' w n. course_cut at.yielded (x ∷ rest) c.args.steps ms ms' f f' ts ts' (sym all) w n)))
+
+pub returns-in_err-went-clause-memory : goal.returns-in_err-went-clause-memory
+returns-in_err-went-clause-memory g c =
+    let at = c.loop-step in
+    let x = c.in-Some.step in
+    let rest = into_iter_items c.next.new.self in
+    let steps : into_iter_items at.step-iterator ≡ x ∷ rest = c.in-Some.ensures.steps.0 in
+    let same : into_iter_items c.into_iter-step-iterator.result ≡ c.args.steps = c.into_iter-step-iterator.ensures.into_iter_gives.0 ∙ c.into_vec-step-items.ensures in
+    let all : at.yielded ++ x ∷ rest ≡ c.args.steps = sym (ap (λ xs. at.yielded ++ xs) steps) ∙ (at.invariant.all ∙ same) in
+    at_error c.from_residual.result (HasProgram c.args.steps) (subst HasProgram all (program_later at.yielded (x ∷ rest) (inl c.in_err-went.ensures.memory)))
 
 pub returns-then-not-went-clause-told : goal.returns-then-not-went-clause-told
 returns-then-not-went-clause-told g c =

@@ -9,9 +9,10 @@ use Rattle.lr_plan.specs.Done.{EachDone}
 use Rattle.lr_plan.proofs.Courses.{every_more}
 use Rattle.lr_plan.proofs.Cuts.{list_cut}
 use Rattle.lr_acts.specs.Adding.{Adds, HasRoom}
-use Rattle.lr_acts.specs.Making.{AreBuilt, Ends, all_of_each}
+use Rattle.lr_acts.specs.Making.{AreBuilt, HasProgram, Ends, all_of_each}
 use Rattle.lr_acts.proofs.Adding.{adds_on, adds_of_more, adds_none, fills_none, fills_on, room_part, room_rest}
 use Rattle.lr_acts.proofs.Parts.{course_of, leads, each_next, each_rest, built_first, built_later}
+use Rattle.lr_acts.proofs.Programs.{program_first, program_later, at_error}
 use Rattle.lr_acts.proofs.acts.make_each.Goals as goal
 
 pub loop-steps-init : goal.loop-steps-init
@@ -66,6 +67,18 @@ returns-in_err-_went-clause-fills g c =
     let size : length (all_of_each c.args.each) ≡ length (all_of_each at.yielded ++ x) + length (all_of_each rest) = ap length parts ∙ length-append (all_of_each at.yielded ++ x) (all_of_each rest) in
     let front : length (all_of_each at.yielded ++ x) ≡ length (all_of_each at.yielded) + length x = length-append (all_of_each at.yielded) x in
     fills_on (length (all_of_each at.yielded)) (length x) (length (all_of_each c.args.each)) c.args.progress.now at.progress c.make_all.new.progress (omega (arith, size, front)) at.invariant.fills c.make_all.ensures.fills
+
+pub returns-in_err-_went-clause-memory : goal.returns-in_err-_went-clause-memory
+returns-in_err-_went-clause-memory g c =
+    let at = c.loop-steps in
+    let x = c.in-Some.steps in
+    let rest = into_iter_items c.next.new.self in
+    let steps : into_iter_items at.steps-iterator ≡ x ∷ rest = c.in-Some.ensures.steps.0 in
+    let same : into_iter_items c.into_iter-steps-iterator.result ≡ c.args.each = c.into_iter-steps-iterator.ensures.into_iter_gives.0 ∙ c.into_vec-steps-items.ensures in
+    let all : at.yielded ++ x ∷ rest ≡ c.args.each = sym (ap (λ xs. at.yielded ++ xs) steps) ∙ (at.invariant.all ∙ same) in
+    let parts : (all_of_each at.yielded ++ x) ++ all_of_each rest ≡ all_of_each c.args.each = sym (each_rest at.yielded x rest) ∙ ap all_of_each all in
+    at_error c.from_residual.result (HasProgram (all_of_each c.args.each))
+    (subst HasProgram parts (program_first (all_of_each at.yielded ++ x) (all_of_each rest) (program_later (all_of_each at.yielded) x c.in_err-_went.ensures.memory)))
 
 pub loop-steps-preserved : goal.loop-steps-preserved
 loop-steps-preserved g c =

@@ -1,11 +1,13 @@
 use Rattle.std.proofs.Common.{◌≡◌, ◌++◌, length, true, false, Err, refl, sym, subst, rules, arith}
 use Rattle.std.proofs.lemmas.List.{length-append}
+use Rattle.std.proofs.lemmas.Result.{IfErr-weaker}
 use Rattle.lr_plan.specs.Internal.Cut.{SetCut, in_first}
 use Rattle.lr_plan.specs.Done.{SetDone, broke_off}
 use Rattle.lr_acts.specs.Adding.{Adds}
-use Rattle.lr_acts.specs.Making.{Ends, all_of_each, all_of_set}
+use Rattle.lr_acts.specs.Making.{Ends, HasProgram, all_of_each, all_of_set}
 use Rattle.lr_acts.proofs.Adding.{adds_as, adds_of_more, fills_more, fills_on, room_part, room_rest}
 use Rattle.lr_acts.proofs.Parts.{set_ends, leads, course_of, built_first, built_later}
+use Rattle.lr_acts.proofs.Programs.{program_first, program_later, at_error}
 use Rattle.lr_acts.proofs.acts.make_set.Goals as goal
 
 pub make_all-requires-clause-built : goal.make_all-requires-clause-built
@@ -63,3 +65,12 @@ pub returns-clause-fills : goal.returns-clause-fills
 returns-clause-fills g c =
     let size = length-append c.args.set.first (all_of_each c.args.set.each ++ c.args.set.last) in
     fills_on (length c.args.set.first) (length (all_of_each c.args.set.each ++ c.args.set.last)) (length (all_of_set c.args.set)) c.args.progress.now c.make_all.new.progress c.make_logs.new.progress (omega (arith, size)) c.make_all.ensures.fills c.make_logs.ensures.fills
+
+pub returns-in_err-went-clause-memory : goal.returns-in_err-went-clause-memory
+returns-in_err-went-clause-memory g c =
+    at_error c.from_residual.result (HasProgram (all_of_set c.args.set)) (program_first c.args.set.first (all_of_each c.args.set.each ++ c.args.set.last) c.in_err-went.ensures.memory)
+
+pub returns-clause-memory : goal.returns-clause-memory
+returns-clause-memory g c =
+    let logs = all_of_each c.args.set.each ++ c.args.set.last in
+    IfErr-weaker c.make_logs.result (λ _. HasProgram logs) (λ _. HasProgram (all_of_set c.args.set)) (λ _ p. program_later c.args.set.first logs p) c.make_logs.ensures.memory
