@@ -1,5 +1,5 @@
 -- Taking lines in one after another gives what the whole list means.
-use Rattle.std.proofs.Common.{◌≡◌, ℕ, Bool, true, false, cond, ◌&&◌, ◌||◌, List, [], ◌∷◌, ◌++◌, reverse, Option, Some, None, is_some, refl, ap, sym, ◌∙◌, append_assoc}
+use Rattle.std.proofs.Common.{◌≡◌, ℕ, Bool, true, false, cond, ◌||◌, List, [], ◌∷◌, ◌++◌, reverse, Option, Some, None, refl, ap, sym, ◌∙◌, append_assoc}
 use Rattle.std.specs.List.{filter_map, list_any, find, flat_map, cons_option}
 use Rattle.std.proofs.lemmas.List.Elements.{filter_map-append}
 use Rattle.std.proofs.lemmas.List.{append-nil, reverse-append}
@@ -14,7 +14,7 @@ use Rattle.lr_conf.specs.declared.said.Said.{Said}
 use Rattle.lr_conf.specs.declared.said.Said.TheVariants as says
 use Rattle.lr_conf.specs.Says.{said}
 use Rattle.lr_conf.specs.Fields.{fields_of}
-use Rattle.lr_conf.specs.Meaning.{Line, Read, Spoiled, End, Past, stands, spoiled, file_ends, Meaning, ◌and◌, told, conf, list_of, before, through, behind as behind_first, set_of, set_past, settings, names_past, settles, pending, first_line, first_pending, words_pending, is_end, begins, begun, opened, past, notice_of, fault_of, drops, is_bad, set_in, notice_in, fault_in, ends, opens, rule_of, of_end, of_definition, of_body, of_opening, of_line, of_spoilt, meaning, file_of, or_line}
+use Rattle.lr_conf.specs.Meaning.{Line, Read, Spoiled, End, Past, stands, spoiled, file_ends, Meaning, ◌and◌, told, conf, list_of, before, through, behind as behind_first, set_of, set_past, settings, names_past, settles, pending, first_line, first_pending, words_pending, past, notice_of, fault_of, drops, is_bad, set_in, notice_in, fault_in, ends, opens, rule_of, of_end, of_definition, of_body, of_opening, of_line, of_spoilt, meaning, file_of, or_line}
 use Rattle.lr_conf.specs.Draft.{State, run, with_set, with_said, said_inside, outside, turned, default_fields}
 use Rattle.lr_conf.proofs.Settings.{fields-push}
 
@@ -85,42 +85,24 @@ words-push out p = ap (flat_map (λ n. n.1)) (pending-push out p) ∙ by (settle
     by true = refl
     by false = words-append (pending out) (names_past p)
 
--- the names that are pending stand behind the end of the last file
-cut : (back : List Past) → before settles (before is_end back) ≡ before settles back
-cut [] = refl
-cut (stands at b v ∷ back) = by (settles (stands at b v)) (cut back)
-  where
-    by : (c : Bool) → before settles (before is_end back) ≡ before settles back → cond c [] (stands at b v ∷ before settles (before is_end back)) ≡ cond c [] (stands at b v ∷ before settles back)
-    by true h = refl
-    by false h = ap (λ x. stands at b v ∷ x) h
-cut (spoiled f ∷ back) = ap (λ x. spoiled f ∷ x) (cut back)
-cut (file_ends ∷ back) = refl
-
-begun-push : (out : List Past) (p : Past) → begun (out ++ p ∷ []) ≡ cond (is_end p) false ((opens p && is_some (opened (first_pending out) p)) || begun out)
-begun-push out p = ap (λ back. begins (before is_end back)) (reverse-append out (p ∷ [])) ∙ by (is_end p)
-  where
-    by : (b : Bool) → begins (cond b [] (p ∷ before is_end (reverse out))) ≡ cond b false ((opens p && is_some (opened (first_pending out) p)) || begun out)
-    by true = refl
-    by false = ap (λ front. (opens p && is_some (opened (first_line (filter_map names_past (reverse front))) p)) || begun out) (cut (reverse out))
-
 -- ---- states
 
-abbrev st : Place → Fields → List (List ℕ) → Option ℕ → Bool → Fields → State
-st place d ws first nm f = record { place = place; defaults = d; words = ws; first = first; begun = nm; fields = f }
+abbrev st : Place → Fields → List (List ℕ) → Option ℕ → Fields → State
+st place d ws first f = record { place = place; defaults = d; words = ws; first = first; fields = f }
 
 -- the state outside definitions, behind these lines
 abbrev behind : List Past → Fields → State
-behind out f = st Outside (fields_of (settings out)) (words_pending out) (first_pending out) (begun out) f
+behind out f = st Outside (fields_of (settings out)) (words_pending out) (first_pending out) f
 
 abbrev pub OutsideLaw : List Line → Type 0
 OutsideLaw es = (out : List Past) (f : Fields) → run (behind out f) es ≡ meaning false out es
 
 abbrev pub GoodLaw : List Line → Type 0
 GoodLaw es = (out : List Past) (vs : List Set) (at : ℕ) (ws : List (List ℕ))
-    → run (st Good (fields_of (settings out)) ws (Some at) (begun out) (fields_of vs)) es ≡ (of_definition at ws vs es and meaning true out es)
+    → run (st Good (fields_of (settings out)) ws (Some at) (fields_of vs)) es ≡ (of_definition at ws vs es and meaning true out es)
 
 abbrev pub DroppedLaw : List Line → Type 0
-DroppedLaw es = (out : List Past) (ws : List (List ℕ)) (first : Option ℕ) (f : Fields) → run (st Dropped (fields_of (settings out)) ws first (begun out) f) es ≡ (of_spoilt (before ends es) and meaning true out es)
+DroppedLaw es = (out : List Past) (ws : List (List ℕ)) (first : Option ℕ) (f : Fields) → run (st Dropped (fields_of (settings out)) ws first f) es ≡ (of_spoilt (before ends es) and meaning true out es)
 
 pub record Laws (es : List Line) : Type 0 where
   pub out : OutsideLaw es
@@ -128,38 +110,30 @@ pub record Laws (es : List Line) : Type 0 where
   pub drop : DroppedLaw es
 
 -- outside, behind one more line
-next : (es : List Line) (out : List Past) (p : Past) (d : Fields) (ws : List (List ℕ)) (first : Option ℕ) (nm : Bool) (f : Fields) → OutsideLaw es
+next : (es : List Line) (out : List Past) (p : Past) (d : Fields) (ws : List (List ℕ)) (first : Option ℕ) (f : Fields) → OutsideLaw es
     → with_option (set_past p) (fields_of (settings out)) ≡ d
     → cond (settles p) [] (words_pending out ++ words_in (names_past p)) ≡ ws
     → cond (settles p) None (first_with (first_pending out) (names_past p)) ≡ first
-    → cond (is_end p) false ((opens p && is_some (opened (first_pending out) p)) || begun out) ≡ nm
-    → run (st Outside d ws first nm f) es ≡ meaning false (out ++ p ∷ []) es
-next es out p d ws first nm f law de we fe ne =
-    ap (λ x. run (st Outside x ws first nm f) es) (sym de ∙ sym (defaults-push out p))
-    ∙ ap (λ x. run (st Outside (fields_of (settings (out ++ p ∷ []))) x first nm f) es) (sym we ∙ sym (words-push out p))
-    ∙ ap (λ x. run (st Outside (fields_of (settings (out ++ p ∷ []))) (words_pending (out ++ p ∷ [])) x nm f) es) (sym fe ∙ sym (first-push out p))
-    ∙ ap (λ x. run (st Outside (fields_of (settings (out ++ p ∷ []))) (words_pending (out ++ p ∷ [])) (first_pending (out ++ p ∷ [])) x f) es) (sym ne ∙ sym (begun-push out p))
+    → run (st Outside d ws first f) es ≡ meaning false (out ++ p ∷ []) es
+next es out p d ws first f law de we fe =
+    ap (λ x. run (st Outside x ws first f) es) (sym de ∙ sym (defaults-push out p))
+    ∙ ap (λ x. run (st Outside (fields_of (settings (out ++ p ∷ []))) x first f) es) (sym we ∙ sym (words-push out p))
+    ∙ ap (λ x. run (st Outside (fields_of (settings (out ++ p ∷ []))) (words_pending (out ++ p ∷ [])) x f) es) (sym fe ∙ sym (first-push out p))
     ∙ law (out ++ p ∷ []) f
 
 -- in a definition that this line drops
-next_dropped : (es : List Line) (out : List Past) (p : Past) (d : Fields) (nm : Bool) (f : Fields) → DroppedLaw es
+next_dropped : (es : List Line) (out : List Past) (p : Past) (d : Fields) (f : Fields) → DroppedLaw es
     → with_option (set_past p) (fields_of (settings out)) ≡ d
-    → cond (is_end p) false ((opens p && is_some (opened (first_pending out) p)) || begun out) ≡ nm
-    → run (st Dropped d [] None nm f) es ≡ (of_spoilt (before ends es) and meaning true (out ++ p ∷ []) es)
-next_dropped es out p d nm f law de ne =
-    ap (λ x. run (st Dropped x [] None nm f) es) (sym de ∙ sym (defaults-push out p))
-    ∙ ap (λ x. run (st Dropped (fields_of (settings (out ++ p ∷ []))) [] None x f) es) (sym ne ∙ sym (begun-push out p))
-    ∙ law (out ++ p ∷ []) [] None f
+    → run (st Dropped d [] None f) es ≡ (of_spoilt (before ends es) and meaning true (out ++ p ∷ []) es)
+next_dropped es out p d f law de =
+    ap (λ x. run (st Dropped x [] None f) es) (sym de ∙ sym (defaults-push out p)) ∙ law (out ++ p ∷ []) [] None f
 
 -- in a definition that this line opens
-next_good : (es : List Line) (out : List Past) (p : Past) (d : Fields) (ws : List (List ℕ)) (at : ℕ) (nm : Bool) → GoodLaw es
+next_good : (es : List Line) (out : List Past) (p : Past) (d : Fields) (ws : List (List ℕ)) (at : ℕ) → GoodLaw es
     → with_option (set_past p) (fields_of (settings out)) ≡ d
-    → cond (is_end p) false ((opens p && is_some (opened (first_pending out) p)) || begun out) ≡ nm
-    → run (st Good d ws (Some at) nm d) es ≡ (of_definition at ws (settings (out ++ p ∷ [])) es and meaning true (out ++ p ∷ []) es)
-next_good es out p d ws at nm law de ne =
-    ap (λ x. run (st Good x ws (Some at) nm x) es) (sym de ∙ sym (defaults-push out p))
-    ∙ ap (λ x. run (st Good (fields_of (settings (out ++ p ∷ []))) ws (Some at) x (fields_of (settings (out ++ p ∷ [])))) es) (sym ne ∙ sym (begun-push out p))
-    ∙ law (out ++ p ∷ []) (settings (out ++ p ∷ [])) at ws
+    → run (st Good d ws (Some at) d) es ≡ (of_definition at ws (settings (out ++ p ∷ [])) es and meaning true (out ++ p ∷ []) es)
+next_good es out p d ws at law de =
+    ap (λ x. run (st Good x ws (Some at) x) es) (sym de ∙ sym (defaults-push out p)) ∙ law (out ++ p ∷ []) (settings (out ++ p ∷ [])) at ws
 
 -- ---- outside definitions
 
@@ -168,64 +142,63 @@ abbrev follows : List Past → Past → List Line → Meaning
 follows out p es = of_opening out p es and meaning (opens p) (out ++ p ∷ []) es
 
 -- a line that leaves pending names, without a brace
-stays : (p : Past) (es : List Line) → Laws es → (out : List Past) (f : Fields) → settles p ≡ false → names_past p ≡ None → set_past p ≡ None → is_end p ≡ false → opens p ≡ false
+stays : (p : Past) (es : List Line) → Laws es → (out : List Past) (f : Fields) → settles p ≡ false → names_past p ≡ None → set_past p ≡ None
     → run (behind out f) es ≡ meaning false (out ++ p ∷ []) es
-stays p es l out f no_end no_names no_set no_file no_open =
-    next es out p (fields_of (settings out)) (words_pending out) (first_pending out) (begun out) f l.out
+stays p es l out f no_end no_names no_set =
+    next es out p (fields_of (settings out)) (words_pending out) (first_pending out) f l.out
     (ap (λ o. with_option o (fields_of (settings out))) no_set)
     (ap (λ b. cond b [] (words_pending out ++ words_in (names_past p))) no_end ∙ ap (λ o. words_pending out ++ words_in o) no_names ∙ append-nil (words_pending out))
     (ap (λ b. cond b None (first_with (first_pending out) (names_past p))) no_end ∙ ap (first_with (first_pending out)) no_names ∙ first_none (first_pending out))
-    (ap (λ b. cond b false ((opens p && is_some (opened (first_pending out) p)) || begun out)) no_file ∙ ap (λ b. (b && is_some (opened (first_pending out) p)) || begun out) no_open)
 
 -- a line that ends with no brace
 plain-law : (at : ℕ) (v : Said) (es : List Line) → Laws es → (out : List Past) (f : Fields)
     → run (outside (behind out f) (stands at false v)) es ≡ meaning false (out ++ stands at false v ∷ []) es
-plain-law at (says.Sets v) es l out f = next es out (stands at false (says.Sets v)) _ [] None (begun out) f l.out refl refl refl refl
-plain-law at says.Quiet es l out f = next es out (stands at false says.Quiet) _ [] None (begun out) f l.out refl refl refl refl
-plain-law at (says.Passed word) es l out f = next es out (stands at false (says.Passed word)) _ [] None (begun out) f l.out refl refl refl refl
+plain-law at (says.Sets v) es l out f = next es out (stands at false (says.Sets v)) _ [] None f l.out refl refl refl
+plain-law at says.Quiet es l out f = next es out (stands at false says.Quiet) _ [] None f l.out refl refl refl
+plain-law at (says.Passed word) es l out f = next es out (stands at false (says.Passed word)) _ [] None f l.out refl refl refl
 plain-law at (says.Names ws) es l out f =
-    next es out (stands at false (says.Names ws)) _ _ _ (begun out) f l.out refl refl (first_some (first_pending out) at ws) refl
-plain-law at says.Open es l out f = stays (stands at false says.Open) es l out f refl refl refl refl refl
-plain-law at says.Close es l out f = next es out (stands at false says.Close) _ [] None (begun out) f l.out refl refl refl refl
-plain-law at says.Unknown es l out f = stays (stands at false says.Unknown) es l out f refl refl refl refl refl
-plain-law at (says.Bad k) es l out f = next es out (stands at false (says.Bad k)) _ [] None (begun out) f l.out refl refl refl refl
-plain-law at (says.BadNames k) es l out f = stays (stands at false (says.BadNames k)) es l out f refl refl refl refl refl
+    next es out (stands at false (says.Names ws)) _ _ _ f l.out refl refl (first_some (first_pending out) at ws)
+plain-law at says.Open es l out f = stays (stands at false says.Open) es l out f refl refl refl
+plain-law at says.Close es l out f = next es out (stands at false says.Close) _ [] None f l.out refl refl refl
+plain-law at says.Unknown es l out f = stays (stands at false says.Unknown) es l out f refl refl refl
+plain-law at (says.Bad k) es l out f = next es out (stands at false (says.Bad k)) _ [] None f l.out refl refl refl
+plain-law at (says.BadNames k) es l out f = stays (stands at false (says.BadNames k)) es l out f refl refl refl
 
 -- a line that ends with a brace
 brace-law : (at : ℕ) (v : Said) (es : List Line) → Laws es → (out : List Past) (f : Fields)
     → run (outside (behind out f) (stands at true v)) es ≡ follows out (stands at true v) es
-brace-law at (says.Sets v) es l out f = next_dropped es out (stands at true (says.Sets v)) _ (begun out) f l.drop refl refl
-brace-law at says.Quiet es l out f = next_dropped es out (stands at true says.Quiet) _ (begun out) f l.drop refl refl
-brace-law at (says.Passed word) es l out f = next_dropped es out (stands at true (says.Passed word)) _ (begun out) f l.drop refl refl
-brace-law at (says.Names ws) es l out f = next_good es out (stands at true (says.Names ws)) _ _ _ true l.good refl refl
-brace-law at says.Open es l out f = by (first_pending out) refl
+brace-law at (says.Sets v) es l out f = next_dropped es out (stands at true (says.Sets v)) _ f l.drop refl
+brace-law at says.Quiet es l out f = next_dropped es out (stands at true says.Quiet) _ f l.drop refl
+brace-law at (says.Passed word) es l out f = next_dropped es out (stands at true (says.Passed word)) _ f l.drop refl
+brace-law at (says.Names ws) es l out f = next_good es out (stands at true (says.Names ws)) _ _ _ l.good refl
+brace-law at says.Open es l out f = by (first_pending out)
   where
-    by : (o : Option ℕ) → first_pending out ≡ o → run (turned true o (st Outside (fields_of (settings out)) (words_pending out) o (begun out) f)) es
+    by : (o : Option ℕ) → run (turned true o (st Outside (fields_of (settings out)) (words_pending out) o f)) es
         ≡ (of_body o (words_pending out) (settings (out ++ stands at true says.Open ∷ [])) es and meaning true (out ++ stands at true says.Open ∷ []) es)
-    by None is = next_dropped es out (stands at true says.Open) _ (begun out) f l.drop refl (ap (λ o. is_some o || begun out) is)
-    by (Some n) is = next_good es out (stands at true says.Open) _ (words_pending out) n true l.good refl (ap (λ o. is_some o || begun out) is)
-brace-law at says.Close es l out f = next_dropped es out (stands at true says.Close) _ (begun out) f l.drop refl refl
-brace-law at says.Unknown es l out f = next_dropped es out (stands at true says.Unknown) _ (begun out) f l.drop refl refl
-brace-law at (says.Bad k) es l out f = next_dropped es out (stands at true (says.Bad k)) _ (begun out) f l.drop refl refl
-brace-law at (says.BadNames k) es l out f = next_dropped es out (stands at true (says.BadNames k)) _ (begun out) f l.drop refl refl
+    by None = next_dropped es out (stands at true says.Open) _ f l.drop refl
+    by (Some n) = next_good es out (stands at true says.Open) _ (words_pending out) n l.good refl
+brace-law at says.Close es l out f = next_dropped es out (stands at true says.Close) _ f l.drop refl
+brace-law at says.Unknown es l out f = next_dropped es out (stands at true says.Unknown) _ f l.drop refl
+brace-law at (says.Bad k) es l out f = next_dropped es out (stands at true (says.Bad k)) _ f l.drop refl
+brace-law at (says.BadNames k) es l out f = next_dropped es out (stands at true (says.BadNames k)) _ f l.drop refl
 
 step-law : (p : Past) (es : List Line) → Laws es → (out : List Past) (f : Fields) → run (outside (behind out f) p) es ≡ follows out p es
 step-law (stands at false v) es l out f = plain-law at v es l out f
 step-law (stands at true v) es l out f = brace-law at v es l out f
-step-law (spoiled e) es l out f = stays (spoiled e) es l out f refl refl refl refl refl
-step-law file_ends es l out f = next es out file_ends _ [] None false f l.out refl refl refl refl
+step-law (spoiled e) es l out f = stays (spoiled e) es l out f refl refl refl
+step-law file_ends es l out f = next es out file_ends _ [] None f l.out refl refl refl
 
 outside-law : (e : Line) (es : List Line) → Laws es → OutsideLaw (e ∷ es)
-outside-law e es l out f = ap (λ m. of_line (file_of e) (first_pending out) (past out e) and m) (step-law (past out e) es l out f)
+outside-law e es l out f = ap (λ m. of_line (file_of e) (first_pending out) (past e) and m) (step-law (past e) es l out f)
 
 -- ---- dropped definitions
 
 dropped-law : (e : Line) (es : List Line) → Laws es → DroppedLaw (e ∷ es)
-dropped-law (Read file (item.Close line)) es l out ws first f = next es out (stands line false says.Close) _ [] None (begun out) f l.out refl refl refl refl
+dropped-law (Read file (item.Close line)) es l out ws first f = next es out (stands line false says.Close) _ [] None f l.out refl refl refl
 dropped-law (Read file (item.Line words names brace stray line)) es l out ws first f = l.drop out ws first f
 dropped-law (Read file (item.Script word text brace stray line)) es l out ws first f = l.drop out ws first f
 dropped-law (Spoiled e) es l out ws first f = ap (λ m. told (e ∷ []) and m) (l.drop out ws first f)
-dropped-law (End file) es l out ws first f = next es out file_ends _ [] None false f l.out refl refl refl refl
+dropped-law (End file) es l out ws first f = next es out file_ends _ [] None f l.out refl refl refl
 
 -- ---- definitions that no line dropped so far
 
@@ -246,9 +219,9 @@ ended at ws es f =
     and (cond (list_any drops (before ends es)) (of_spoilt (behind_first drops (before ends es))) (of_end at ws f (find ends es)))
 
 inside-law : (file : Path) (line : ℕ) (v : Said) (es : List Line) → Laws es → (out : List Past) (vs : List Set) (at : ℕ) (ws : List (List ℕ))
-    → (said_inside file line v and run (with_said (st Good (fields_of (settings out)) ws (Some at) (begun out) (fields_of vs)) v) es) ≡ (from_line file line v at ws vs es and meaning true out es)
+    → (said_inside file line v and run (with_said (st Good (fields_of (settings out)) ws (Some at) (fields_of vs)) v) es) ≡ (from_line file line v at ws vs es and meaning true out es)
 inside-law file line (says.Sets v) es l out vs at ws =
-    ap (λ x. run (st Good (fields_of (settings out)) ws (Some at) (begun out) x) es) (sym (fields-push vs v))
+    ap (λ x. run (st Good (fields_of (settings out)) ws (Some at) x) es) (sym (fields-push vs v))
     ∙ l.good out (vs ++ v ∷ []) at ws
     ∙ ap (λ x. ended at ws es (fields_of x) and meaning true out es) (append_assoc vs (v ∷ []) (filter_map set_in (before ends es)))
 inside-law file line says.Quiet es l out vs at ws = l.good out vs at ws
@@ -263,18 +236,18 @@ inside-law file line (says.BadNames k) es l out vs at ws = l.good out vs at ws
 
 good-law : (e : Line) (es : List Line) → Laws es → GoodLaw (e ∷ es)
 good-law (Read file (item.Close line)) es l out vs at ws =
-    ap (λ m. record { rules = rule_of file at ws (fields_of vs) ∷ []; notices = []; faults = [] } and m) (next es out (stands line false says.Close) _ [] None (begun out) default_fields l.out refl refl refl refl)
+    ap (λ m. record { rules = rule_of file at ws (fields_of vs) ∷ []; notices = []; faults = [] } and m) (next es out (stands line false says.Close) _ [] None default_fields l.out refl refl refl)
     ∙ ap (λ s. record { rules = rule_of file at ws (fields_of s) ∷ []; notices = []; faults = [] } and meaning false (out ++ stands line false says.Close ∷ []) es) (sym (append-nil vs))
 good-law (Read file (item.Line words names brace stray line)) es l out vs at ws = inside-law file line (said true (item.Line words names brace stray line)) es l out vs at ws
 good-law (Read file (item.Script word text brace stray line)) es l out vs at ws = inside-law file line (said true (item.Script word text brace stray line)) es l out vs at ws
 good-law (Spoiled e) es l out vs at ws = ap (λ m. told (e ∷ []) and m) (l.drop out ws (Some at) (fields_of vs))
 good-law (End file) es l out vs at ws =
-    ap (λ m. told (conf file kind.NoBrace at ∷ []) and m) (next es out file_ends _ [] None false (fields_of vs) l.out refl refl refl refl)
+    ap (λ m. told (conf file kind.NoBrace at ∷ []) and m) (next es out file_ends _ [] None (fields_of vs) l.out refl refl refl)
 
 pub laws : (es : List Line) → Laws es
 laws [] = record { out = λ out f. refl; good = λ out vs at ws. refl; drop = λ out ws first f. refl }
 laws (e ∷ es) = record { out = outside-law e es (laws es); good = good-law e es (laws es); drop = dropped-law e es (laws es) }
 
 -- what a layer that took no line gives
-pub from_start : (lines : List Line) → run (st Outside default_fields [] None false default_fields) lines ≡ meaning false [] lines
+pub from_start : (lines : List Line) → run (st Outside default_fields [] None default_fields) lines ≡ meaning false [] lines
 from_start lines = (laws lines).out [] default_fields

@@ -6,4 +6,3 @@ pub mod Law
 pub mod Each
 pub mod Plain
 pub mod Limits
-pub mod OneLog

@@ -1,6 +1,8 @@
--- What no line can set yet has its default in each rule, and the words of a rule name logs.
-use Rattle.std.proofs.Common.{◌≡◌, ℕ, Bool, true, false, cond, ◌&&◌, List, [], ◌∷◌, ◌++◌, reverse, Option, Some, None, Result, Ok, Err, refl, ap, arith}
-use Rattle.std.specs.List.{AllByRecursion as Each, filter_map, flat_map, list_any, find}
+-- What no line can set yet has its default in each rule, and the words of a rule, of which there is one at least, name logs.
+use Rattle.std.proofs.Common.{◌≡◌, ℕ, Bool, true, false, cond, ◌&&◌, ◌||◌, List, [], ◌∷◌, ◌++◌, reverse, Option, Some, None, Result, Ok, Err, refl, ap, arith}
+use Rattle.std.specs.Prelude.{◌≢◌}
+use Rattle.std.specs.List.{AllByRecursion as Each, filter_map, flat_map, list_any, find, cons_option}
+use Rattle.std.specs.Result.{result_ok, result_err}
 use Rattle.std.proofs.lemmas.List.Elements.{All-from_recursion}
 use Rattle.std.proofs.lemmas.Bool.Decides.{nat_tests}
 use Rattle.lr_lex.specs.declared.item.Item.{Item}
@@ -31,15 +33,15 @@ use Rattle.lr_values.specs.Numbers.{count_value}
 use Rattle.lr_values.proofs.Limits.{count_meets}
 use Rattle.lr_words.specs.Names.{log_name_value}
 use Rattle.lr_words.proofs.LogNames.{of_literal}
-use Rattle.lr_conf.specs.Says.{directive_of, checks, first_fault, counted, count_says, means, or_bad, by_directive, texts, words_say, named, name_says, names_say, said}
+use Rattle.lr_conf.specs.Says.{directive_of, checks, first_fault, counted, count_says, means, or_bad, by_directive, texts, words_say, has_pattern, log_names, name_faults, named, names_say, said}
 use Rattle.lr_conf.specs.Fields.{fields_of, last_set, criterion_set, count_set, ifempty_set, olddir_set, createolddir_set, create_set, mail_set, mailfirst_set, shared_set, dated_set, names_way, undoes, way_of}
-use Rattle.lr_conf.specs.Meaning.{Line, Read, Spoiled, End, Past, stands, spoiled, file_ends, Meaning, nothing, set_of, set_past, settings, names_past, settles, pending, words_pending, first_pending, words_with, opened, opens, judged, past_of, past, has_name, before, behind, ends, drops, set_in, default_format, rule_of, of_end, of_body, of_spoilt, of_opening, meaning}
+use Rattle.lr_conf.specs.Meaning.{Line, Read, Spoiled, End, Past, stands, spoiled, file_ends, Meaning, nothing, set_of, set_past, settings, names_past, settles, pending, first_line, words_pending, first_pending, words_with, opened, opens, past, before, behind, ends, drops, set_in, default_format, rule_of, of_end, of_body, of_spoilt, of_opening, meaning}
 use Rattle.lr_conf.specs.Plain.{IsLogWord, IsSmallCount, IsPlainRule}
 use Rattle.lr_conf.proofs.Each.{append, backwards, front, Given, one_more, mapped, last}
 
 -- ---- what a line says
 
-abbrev pub OkSet : Set → Type 0
+abbrev OkSet : Set → Type 0
 OkSet (set.Criterion c) = c ≡ criterion.Size 1048576
 OkSet (set.Count c) = IsSmallCount c
 OkSet (set.IfEmpty b) = b ≡ true
@@ -54,15 +56,13 @@ OkSet (set.MailFirst b) = b ≡ false
 OkSet (set.Shared b) = b ≡ false
 OkSet (set.Dated b) = b ≡ false
 
--- one word
-abbrev pub Single : List (List ℕ) → Type 0
-Single [] = ⊥
-Single (w ∷ []) = Unit {0}
-Single (w ∷ v ∷ ws) = ⊥
+-- a word at least, and each names a log
+abbrev OkWords : List (List ℕ) → Type 0
+OkWords ws = (ws ≢ []) × Each IsLogWord ws
 
-abbrev pub OkSaid : Said → Type 0
+abbrev OkSaid : Said → Type 0
 OkSaid (says.Sets v) = OkSet v
-OkSaid (says.Names ws) = Single ws × Each IsLogWord ws
+OkSaid (says.Names ws) = OkWords ws
 OkSaid s = Unit {0}
 
 abbrev OkForm : Form → Type 0
@@ -115,22 +115,42 @@ words_ok inside brace stray (w ∷ ws) = by (inside && brace)
     by true = tt
     by false = form_says_ok inside brace stray w.text (texts ws) (directive_of w.text)
 
-name_ok : (stray : Bool) (name : List ℕ) → OkSaid (name_says stray name)
-name_ok stray name = by (is_wildcard name) stray (log_name_value name) refl refl
+neither : (a b : Bool) → (a || b) ≡ false → (a ≡ false) × (b ≡ false)
+neither true b h = absurd (cc)
+neither false b h = (refl, h)
+
+-- where no word is a pattern, the names name logs
+log_names_ok : (ws : List Word) → has_pattern ws ≡ false → Each IsLogWord (log_names ws)
+log_names_ok [] plain = tt
+log_names_ok (w ∷ ws) plain =
+    let p = neither (is_wildcard w.text) (has_pattern ws) plain in
+    by (log_name_value w.text) refl p.0 (log_names_ok ws p.1)
   where
-    by : (wild stray : Bool) (r : Result (List ℕ) ConfKind) → is_wildcard name ≡ wild → log_name_value name ≡ r
-        → OkSaid (cond wild (says.BadNames kind.NotYet) (cond stray (says.BadNames kind.Stray) (named r)))
-    by true stray r w l = tt
-    by false true r w l = tt
-    by false false (Err k) w l = tt
-    by false false (Ok n) w l = (tt, (of_literal name n w l, tt))
+    by : (r : Result (List ℕ) ConfKind) → log_name_value w.text ≡ r → is_wildcard w.text ≡ false → Each IsLogWord (log_names ws) → Each IsLogWord (cons_option (result_ok r) (log_names ws))
+    by (Ok n) is literal more = (of_literal w.text n literal is, more)
+    by (Err k) is literal more = more
+
+-- the first word has a fault or names a log, so the line has a fault or a name
+named_ok : (w : Word) (ws : List Word) → has_pattern (w ∷ ws) ≡ false → OkSaid (named (name_faults (w ∷ ws)) (log_names (w ∷ ws)))
+named_ok w ws plain = by (log_name_value w.text) (name_faults ws) (log_names_ok (w ∷ ws) plain)
+  where
+    by : (r : Result (List ℕ) ConfKind) (faults : List ConfKind) → Each IsLogWord (cons_option (result_ok r) (log_names ws))
+        → OkSaid (named (cons_option (result_err r) faults) (cons_option (result_ok r) (log_names ws)))
+    by (Err k) faults all = tt
+    by (Ok n) (k ∷ ks) all = tt
+    by (Ok n) [] all = ((λ none. absurd (cc)), all)
 
 names_ok : (stray : Bool) (ws : List Word) → OkSaid (names_say stray ws)
 names_ok stray [] = tt
-names_ok stray (w ∷ []) = name_ok stray w.text
-names_ok stray (w ∷ v ∷ ws) = tt
+names_ok stray (w ∷ ws) = by (has_pattern (w ∷ ws)) stray refl
+  where
+    by : (pattern stray : Bool) → has_pattern (w ∷ ws) ≡ pattern
+        → OkSaid (cond pattern (says.BadNames kind.NotYet) (cond stray (says.BadNames kind.Stray) (named (name_faults (w ∷ ws)) (log_names (w ∷ ws)))))
+    by true stray is = tt
+    by false true is = tt
+    by false false is = named_ok w ws is
 
-pub said_ok : (inside : Bool) (i : Item) → OkSaid (said inside i)
+said_ok : (inside : Bool) (i : Item) → OkSaid (said inside i)
 said_ok inside (item.Close line) = tt
 said_ok true (item.Script word text brace stray line) = tt
 said_ok false (item.Script word text brace stray line) = tt
@@ -138,21 +158,14 @@ said_ok inside (item.Line ws false brace stray line) = words_ok inside brace str
 said_ok true (item.Line ws true brace stray line) = tt
 said_ok false (item.Line ws true brace stray line) = names_ok stray ws
 
-judged_ok : (v : Said) (named : Bool) → OkSaid v → OkSaid (judged v named)
-judged_ok (says.Names ws) true ok = tt
-judged_ok (says.Names ws) false ok = ok
-judged_ok (says.BadNames k) true ok = tt
-judged_ok (says.BadNames k) false ok = tt
-judged_ok v named ok = ok
-
 abbrev OkPast : Past → Type 0
 OkPast (stands at brace v) = OkSaid v
 OkPast p = Unit {0}
 
-past_ok : (named : Bool) (e : Line) → OkPast (past_of named e)
-past_ok named (Read file i) = judged_ok (said false i) named (said_ok false i)
-past_ok named (Spoiled f) = tt
-past_ok named (End file) = tt
+past_ok : (e : Line) → OkPast (past e)
+past_ok (Read file i) = said_ok false i
+past_ok (Spoiled f) = tt
+past_ok (End file) = tt
 
 -- ---- settings and names
 
@@ -175,25 +188,48 @@ body_ok [] = tt
 body_ok (e ∷ es) = one_more OkSet (set_in e) (filter_map set_in es) (set_in_ok e) (body_ok es)
 
 abbrev OkNames : (ℕ × List (List ℕ)) → Type 0
-OkNames n = Each IsLogWord n.1
+OkNames n = OkWords n.1
 
 names_past_ok : (p : Past) → OkPast p → Given OkNames (names_past p)
-names_past_ok (stands at brace (says.Names ws)) ok = ok.1
+names_past_ok (stands at brace (says.Names ws)) ok = ok
 names_past_ok p ok = tt
+
+pending_ok : (out : List Past) → Each OkPast out → Each OkNames (pending out)
+pending_ok out ok =
+    mapped OkPast OkNames names_past names_past_ok (reverse (before settles (reverse out)))
+    (backwards OkPast (before settles (reverse out)) (front OkPast settles (reverse out) (backwards OkPast out ok)))
 
 joined_ok : (ns : List (ℕ × List (List ℕ))) → Each OkNames ns → Each IsLogWord (flat_map (λ n. n.1) ns)
 joined_ok [] ok = tt
-joined_ok (n ∷ ns) ok = append IsLogWord n.1 (flat_map (λ n. n.1) ns) ok.0 (joined_ok ns ok.1)
-
-words_pending_ok : (out : List Past) → Each OkPast out → Each IsLogWord (words_pending out)
-words_pending_ok out ok =
-    joined_ok (pending out)
-    (mapped OkPast OkNames names_past names_past_ok (reverse (before settles (reverse out)))
-    (backwards OkPast (before settles (reverse out)) (front OkPast settles (reverse out) (backwards OkPast out ok))))
+joined_ok (n ∷ ns) ok = append IsLogWord n.1 (flat_map (λ n. n.1) ns) ok.0.1 (joined_ok ns ok.1)
 
 words_with_ok : (words : List (List ℕ)) (p : Past) → Each IsLogWord words → OkPast p → Each IsLogWord (words_with words p)
 words_with_ok words (stands at brace (says.Names ws)) a ok = append IsLogWord words ws a ok.1
 words_with_ok words p a ok = a
+
+-- where a first name stands at a line, there are names
+abbrev HasWords : Option ℕ → List (List ℕ) → Type 0
+HasWords None ws = Unit {0}
+HasWords (Some at) ws = ws ≢ []
+
+-- a list with an element in its front, or behind that, has one
+more_front : (xs ys : List (List ℕ)) → (xs ≢ []) → (xs ++ ys) ≢ []
+more_front [] ys some = absurd (some refl)
+more_front (x ∷ xs) ys some = λ none. absurd (cc)
+
+more_behind : (xs ys : List (List ℕ)) → (ys ≢ []) → (xs ++ ys) ≢ []
+more_behind [] ys some = some
+more_behind (x ∷ xs) ys some = λ none. absurd (cc)
+
+-- of names that are pending, and of a definition that is opened
+joined_some : (ns : List (ℕ × List (List ℕ))) → Each OkNames ns → HasWords (first_line ns) (flat_map (λ n. n.1) ns)
+joined_some [] ok = tt
+joined_some (n ∷ ns) ok = more_front n.1 (flat_map (λ n. n.1) ns) ok.0.0
+
+opened_some : (first : Option ℕ) (words : List (List ℕ)) (p : Past) → HasWords first words → OkPast p → HasWords (opened first p) (words_with words p)
+opened_some first words (stands at brace (says.Names ws)) h ok = more_behind words ws ok.0
+opened_some first words (stands at brace says.Open) h ok = h
+opened_some first words p h ok = tt
 
 -- ---- rules
 
@@ -278,9 +314,10 @@ fields_ok vs ok = record {
   dated = last_given (λ b. b ≡ false) dated_set false refl dated_given vs ok;
 }
 
-rule_ok : (file : Path) (at : ℕ) (words : List (List ℕ)) (f : Fields) → Each IsLogWord words → OkFields f → IsPlainRule (rule_of file at words f)
+rule_ok : (file : Path) (at : ℕ) (words : List (List ℕ)) (f : Fields) → OkWords words → OkFields f → IsPlainRule (rule_of file at words f)
 rule_ok file at words f w ok = record {
-  words = All-from_recursion IsLogWord words w;
+  named = w.0;
+  words = All-from_recursion IsLogWord words w.1;
   criterion = ok.criterion;
   count = ok.count;
   maxage = refl;
@@ -308,7 +345,7 @@ rule_ok file at words f w ok = record {
 abbrev Rules : Meaning → Type 0
 Rules m = Each IsPlainRule m.rules
 
-end_ok : (at : ℕ) (words : List (List ℕ)) (f : Fields) (o : Option Line) → Each IsLogWord words → OkFields f → Rules (of_end at words f o)
+end_ok : (at : ℕ) (words : List (List ℕ)) (f : Fields) (o : Option Line) → OkWords words → OkFields f → Rules (of_end at words f o)
 end_ok at words f None w ok = tt
 end_ok at words f (Some (Read file i)) w ok = (rule_ok file at words f w ok, tt)
 end_ok at words f (Some (Spoiled e)) w ok = tt
@@ -318,19 +355,20 @@ either : (b : Bool) (m n : Meaning) → Rules m → Rules n → Rules (cond b m 
 either true m n a c = a
 either false m n a c = c
 
-body_means_ok : (o : Option ℕ) (words : List (List ℕ)) (vs : List Set) (es : List Line) → Each IsLogWord words → Each OkSet vs → Rules (of_body o words vs es)
-body_means_ok None words vs es w ok = tt
-body_means_ok (Some at) words vs es w ok =
+body_means_ok : (o : Option ℕ) (words : List (List ℕ)) (vs : List Set) (es : List Line) → HasWords o words → Each IsLogWord words → Each OkSet vs → Rules (of_body o words vs es)
+body_means_ok None words vs es some w ok = tt
+body_means_ok (Some at) words vs es some w ok =
     let body = before ends es in
     let f = fields_of (vs ++ filter_map set_in body) in
     either (list_any drops body) (of_spoilt (behind drops body)) (of_end at words f (find ends es)) tt
-    (end_ok at words f (find ends es) w (fields_ok (vs ++ filter_map set_in body) (append OkSet vs (filter_map set_in body) ok (body_ok body))))
+    (end_ok at words f (find ends es) (some, w) (fields_ok (vs ++ filter_map set_in body) (append OkSet vs (filter_map set_in body) ok (body_ok body))))
 
 opening_ok : (out : List Past) (p : Past) (es : List Line) → Each OkPast out → OkPast p → Rules (of_opening out p es)
 opening_ok out p es ok here =
     either (opens p) (of_body (opened (first_pending out) p) (words_with (words_pending out) p) (settings (out ++ p ∷ [])) es) nothing
     (body_means_ok (opened (first_pending out) p) (words_with (words_pending out) p) (settings (out ++ p ∷ [])) es
-    (words_with_ok (words_pending out) p (words_pending_ok out ok) here)
+    (opened_some (first_pending out) (words_pending out) p (joined_some (pending out) (pending_ok out ok)) here)
+    (words_with_ok (words_pending out) p (joined_ok (pending out) (pending_ok out ok)) here)
     (mapped OkPast OkSet set_past set_past_ok (out ++ p ∷ []) (append OkPast out (p ∷ []) ok (here, tt))))
     tt
 
@@ -338,13 +376,13 @@ meaning_ok : (es : List Line) (inside : Bool) (out : List Past) → Each OkPast 
 meaning_ok [] true out ok = tt
 meaning_ok [] false out ok = tt
 meaning_ok (e ∷ es) true out ok =
-    either (ends e) (meaning false (out ++ past out e ∷ []) es) (meaning true out es)
-    (meaning_ok es false (out ++ past out e ∷ []) (append OkPast out (past out e ∷ []) ok (past_ok (has_name out) e, tt)))
+    either (ends e) (meaning false (out ++ past e ∷ []) es) (meaning true out es)
+    (meaning_ok es false (out ++ past e ∷ []) (append OkPast out (past e ∷ []) ok (past_ok e, tt)))
     (meaning_ok es true out ok)
 meaning_ok (e ∷ es) false out ok =
-    append IsPlainRule (of_opening out (past out e) es).rules (meaning (opens (past out e)) (out ++ past out e ∷ []) es).rules
-    (opening_ok out (past out e) es ok (past_ok (has_name out) e))
-    (meaning_ok es (opens (past out e)) (out ++ past out e ∷ []) (append OkPast out (past out e ∷ []) ok (past_ok (has_name out) e, tt)))
+    append IsPlainRule (of_opening out (past e) es).rules (meaning (opens (past e)) (out ++ past e ∷ []) es).rules
+    (opening_ok out (past e) es ok (past_ok e))
+    (meaning_ok es (opens (past e)) (out ++ past e ∷ []) (append OkPast out (past e ∷ []) ok (past_ok e, tt)))
 
 pub plain : (lines : List Line) → Each IsPlainRule (meaning false [] lines).rules
 plain lines = meaning_ok lines false [] tt

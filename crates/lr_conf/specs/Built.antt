@@ -1,6 +1,6 @@
 -- What isn't built yet, in one place: a line with one of these directives is told as NotYet, behind the faults that come
 -- before it in the order of kinds. What is built takes its line away here. Of names, outside definitions, a pattern isn't
--- built (`name_says`), and a second name of a line (`names_say`) or of a file (`judged`).
+-- built (`names_say`).
 use Rattle.std.specs.Prelude.{Bool, true, false}
 use Rattle.lr_tables.specs.declared.directive.Directive.{Directive}
 use Rattle.lr_tables.specs.declared.directive.Directive.TheVariants as is

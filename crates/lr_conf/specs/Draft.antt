@@ -1,5 +1,5 @@
 -- What a draft keeps, and how it takes a line in.
-use Rattle.std.specs.Prelude.{◌≡◌, ℕ, Bool, true, false, ◌||◌, List, [], ◌∷◌, ◌++◌, Option, Some, None, Result, Ok, Err, is_some, if◌then◌else◌}
+use Rattle.std.specs.Prelude.{◌≡◌, ℕ, Bool, true, false, List, [], ◌∷◌, ◌++◌, Option, Some, None, Result, Ok, Err, if◌then◌else◌}
 use Rattle.lr_rules.specs.declared.path.Path.{Path}
 use Rattle.lr_rules.specs.declared.fault.ConfKind.{ConfKind}
 use Rattle.lr_rules.specs.declared.fault.ConfKind.TheVariants as kind
@@ -24,7 +24,7 @@ use Rattle.lr_conf.specs.declared.stop.LayerStop.TheVariants as stop
 use Rattle.lr_conf.specs.declared.draft.Draft.{Draft}
 use Rattle.lr_conf.specs.Says.{line_of, closes, said}
 use Rattle.lr_conf.specs.Fields.{last_or}
-use Rattle.lr_conf.specs.Meaning.{Line, file_of, Read, Spoiled, End, Past, stands, spoiled, file_ends, Meaning, ◌and◌, nothing, told, conf, list_of, of_line, of_spoilt, opened, or_line, past_of, ends, notice_of, notice_past, line_faults, fault_of, rule_of}
+use Rattle.lr_conf.specs.Meaning.{Line, file_of, Read, Spoiled, End, Past, stands, spoiled, file_ends, Meaning, ◌and◌, nothing, told, conf, list_of, of_line, of_spoilt, opened, or_line, past, ends, notice_of, notice_past, line_faults, fault_of, rule_of}
 
 -- ---- fields
 
@@ -77,13 +77,7 @@ pub record State : Type 0 where
   pub defaults : Fields
   pub words : List (List ℕ)
   pub first : Option ℕ
-  -- a definition with a name began in this file
-  pub begun : Bool
   pub fields : Fields
-
--- the file has a name
-abbrev pub has_a_name : State → Bool
-has_a_name s = s.begun || is_some s.first
 
 abbrev pub without_names : State → State
 without_names s = record s { words = []; first = None }
@@ -103,18 +97,17 @@ spoken s at (says.Bad k) = without_names s
 -- a brace opens a definition, with names or without
 abbrev pub turned : Bool → Option ℕ → State → State
 turned false o s = s
-turned true (Some at) s = record s { place = Good; begun = true; fields = s.defaults }
+turned true (Some at) s = record s { place = Good; fields = s.defaults }
 turned true None s = record s { place = Dropped; words = []; first = None }
 
 abbrev pub outside : State → Past → State
 outside s (stands at brace v) = turned brace (opened s.first (stands at brace v)) (spoken s at v)
 outside s (spoiled f) = s
-outside s file_ends = record s { words = []; first = None; begun = false }
+outside s file_ends = without_names s
 
 -- behind the end of a definition
-abbrev pub left : State → Line → State
-left s (End file) = record s { place = Outside; words = []; first = None; begun = false }
-left s e = record s { place = Outside; words = []; first = None }
+abbrev pub left : State → State
+left s = record s { place = Outside; words = []; first = None }
 
 abbrev pub with_said : State → Said → State
 with_said s (says.Sets v) = record s { fields = with_set s.fields v }
@@ -124,13 +117,13 @@ with_said s v = s
 abbrev pub good : State → Line → State
 good s (Read file i) = if closes i then record s { place = Outside; words = []; first = None; fields = default_fields } else with_said s (said true i)
 good s (Spoiled f) = record s { place = Dropped }
-good s (End file) = left s (End file)
+good s (End file) = left s
 
 abbrev pub dropped : State → Line → State
-dropped s e = if ends e then left s e else s
+dropped s e = if ends e then left s else s
 
 abbrev pub step : Place → State → Line → State
-step Outside s e = outside s (past_of (has_a_name s) e)
+step Outside s e = outside s (past e)
 step Good s e = good s e
 step Dropped s e = dropped s e
 
@@ -150,7 +143,7 @@ gives_good s (Spoiled f) = told (f ∷ [])
 gives_good s (End file) = told (conf file kind.NoBrace (first_of s) ∷ [])
 
 abbrev pub gives_outside : State → Line → Meaning
-gives_outside s e = of_line (file_of e) s.first (past_of (has_a_name s) e)
+gives_outside s e = of_line (file_of e) s.first (past e)
 
 abbrev pub gives : Place → State → Line → Meaning
 gives Outside s e = gives_outside s e
@@ -169,7 +162,7 @@ abbrev pub kept : List Rule → List Notice → Meaning
 kept rules notices = record { rules = rules; notices = notices; faults = [] }
 
 abbrev pub state_of : Draft → State
-state_of k = record { place = k.place; defaults = k.defaults; words = k.words.items; first = k.first; begun = k.begun; fields = k.fields }
+state_of k = record { place = k.place; defaults = k.defaults; words = k.words.items; first = k.first; fields = k.fields }
 
 -- what is kept, and what lines give from then on
 abbrev pub coming_from : Draft → List Line → Meaning

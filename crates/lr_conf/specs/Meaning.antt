@@ -1,5 +1,5 @@
 -- What the lines of a configuration mean, told of whole lists of lines.
-use Rattle.std.specs.Prelude.{ℕ, Bool, true, false, ◌&&◌, ◌||◌, List, [], ◌∷◌, ◌++◌, Option, Some, None, reverse, find, flat_map, is_some, if◌then◌else◌}
+use Rattle.std.specs.Prelude.{ℕ, Bool, true, false, ◌||◌, List, [], ◌∷◌, ◌++◌, Option, Some, None, reverse, find, flat_map, if◌then◌else◌}
 use Rattle.std.specs.List.{list_any, filter_map}
 use Rattle.lr_lex.specs.declared.item.Item.{Item}
 use Rattle.lr_rules.specs.declared.path.Path.{Path}
@@ -109,13 +109,9 @@ abbrev pub first_line : List (ℕ × List (List ℕ)) → Option ℕ
 first_line [] = None
 first_line (n ∷ ns) = Some n.0
 
--- the line of the first name that is pending behind lines, which are told from the last one back
-abbrev pub first_back : List Past → Option ℕ
-first_back back = first_line (filter_map names_past (reverse (before settles back)))
-
 -- the line of the first of the pending names, and all their words
 abbrev pub first_pending : List Past → Option ℕ
-first_pending out = first_back (reverse out)
+first_pending out = first_line (pending out)
 
 abbrev pub words_pending : List Past → List (List ℕ)
 words_pending out = flat_map (λ n. n.1) (pending out)
@@ -130,39 +126,11 @@ opened first (stands at brace (says.Names ws)) = Some (or_line first at)
 opened first (stands at brace says.Open) = first
 opened first p = None
 
--- ---- the one name that a file may have so far
-
-abbrev pub is_end : Past → Bool
-is_end file_ends = true
-is_end p = false
-
--- a definition with a name begins at one of these lines, which are told from the last one back
-abbrev pub begins : List Past → Bool
-begins [] = false
-begins (p ∷ back) = (opens p && is_some (opened (first_back back) p)) || begins back
-
--- one begins in this file
-abbrev pub begun : List Past → Bool
-begun out = begins (before is_end (reverse out))
-
--- the file has a name: that of a definition, or one that is pending
-abbrev pub has_name : List Past → Bool
-has_name out = begun out || is_some (first_pending out)
-
--- what a line says outside definitions, where its file has a name already or has none
-abbrev pub judged : Said → Bool → Said
-judged (says.Names ws) named = if named then says.BadNames kind.NotYet else says.Names ws
-judged (says.BadNames k) named = if named then says.BadNames kind.NotYet else says.BadNames k
-judged s named = s
-
-abbrev pub past_of : Bool → Line → Past
-past_of named (Read file i) = stands (line_of i) (has_brace i) (judged (said false i) named)
-past_of named (Spoiled f) = spoiled f
-past_of named (End file) = file_ends
-
--- how a line is read outside definitions, behind these
-abbrev pub past : List Past → Line → Past
-past out e = past_of (has_name out) e
+-- how a line is read outside definitions
+abbrev pub past : Line → Past
+past (Read file i) = stands (line_of i) (has_brace i) (said false i)
+past (Spoiled f) = spoiled f
+past (End file) = file_ends
 
 -- ---- notices and faults
 
@@ -348,7 +316,7 @@ of_line file first p = record { rules = []; notices = list_of (notice_past file 
 -- What lines mean: in a definition or not, the lines before them that stand outside definitions, and the lines.
 abbrev pub meaning : Bool → List Past → List Line → Meaning
 meaning inside out [] = nothing
-meaning true out (e ∷ es) = if ends e then meaning false (out ++ past out e ∷ []) es else meaning true out es
+meaning true out (e ∷ es) = if ends e then meaning false (out ++ past e ∷ []) es else meaning true out es
 meaning false out (e ∷ es) =
-    of_line (file_of e) (first_pending out) (past out e)
-    and (of_opening out (past out e) es and meaning (opens (past out e)) (out ++ past out e ∷ []) es)
+    of_line (file_of e) (first_pending out) (past e)
+    and (of_opening out (past e) es and meaning (opens (past e)) (out ++ past e ∷ []) es)

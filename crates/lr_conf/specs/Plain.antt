@@ -1,5 +1,5 @@
 -- What holds of the rules so far, where not all directives are built.
-use Rattle.std.specs.Prelude.{◌≡◌, ◌≤◌, Bool, true, false, List, [], ◌∷◌, None, All, length}
+use Rattle.std.specs.Prelude.{◌≡◌, ◌≢◌, ◌≤◌, true, false, [], None, All}
 use Rattle.lr_rules.specs.declared.rule.Count.{Count}
 use Rattle.lr_rules.specs.declared.rule.Count.TheVariants as count
 use Rattle.lr_rules.specs.declared.rule.Criterion.TheVariants as criterion
@@ -7,14 +7,14 @@ use Rattle.lr_rules.specs.declared.rule.Make.TheVariants as make
 use Rattle.lr_rules.specs.declared.rule.Rule.{Rule}
 use Rattle.lr_rules.specs.declared.rule.Way.TheVariants as way
 pub use Rattle.lr_words.specs.Names.{IsLogWord}
-use Rattle.lr_conf.specs.Meaning.{Line, End}
 
 abbrev pub IsSmallCount : Count → Type 0
 IsSmallCount (count.Keep n) = n ≤ 999999
 IsSmallCount count.Always = Unit {0}
 
--- its words name logs, its count is within its limit, and what no line can set yet has its default
+-- it has a word at least, its words name logs, its count is within its limit, and what no line can set yet has its default
 pub record IsPlainRule (r : Rule) : Type 0 where
+  pub named : r.words ≢ []
   pub words : All IsLogWord r.words
   pub criterion : r.criterion ≡ criterion.Size 1048576
   pub count : IsSmallCount r.count
@@ -36,16 +36,3 @@ pub record IsPlainRule (r : Rule) : Type 0 where
   pub shared : r.shared ≡ false
   pub scripts : r.scripts ≡ record { first = None; pre = None; post = None; last = None; preremove = None }
   pub dated : r.dated ≡ None
-
--- ---- one log a file
-
--- the line is the end of a file
-abbrev pub ends_file : Line → Bool
-ends_file (End file) = true
-ends_file e = false
-
--- no rule, or one of one word
-abbrev pub AtMostOneLog : List Rule → Type 0
-AtMostOneLog [] = Unit {0}
-AtMostOneLog (r ∷ []) = length r.words ≡ 1
-AtMostOneLog (r ∷ s ∷ rs) = ⊥

@@ -1,5 +1,7 @@
 -- What one line says by itself, inside a definition or outside: the first fault that applies to it, else its meaning.
 use Rattle.std.specs.Prelude.{ℕ, Bool, true, false, not, ◌&&◌, ◌||◌, List, [], ◌∷◌, Option, Some, None, find, map, option_map, Result, Ok, Err, length, nat_lt, bytes_eq, if◌then◌else◌}
+use Rattle.std.specs.List.{list_any, filter_map}
+use Rattle.std.specs.Result.{result_ok, result_err}
 use Rattle.lr_lex.specs.declared.item.Item.{Item}
 use Rattle.lr_lex.specs.declared.item.Item.TheVariants as item
 use Rattle.lr_lex.specs.declared.word.Word.{Word}
@@ -121,23 +123,35 @@ words_say inside brace stray (w ∷ ws) =
     if inside && brace then says.Bad kind.NestedBrace
     else by_directive inside brace stray w.text (texts ws) (directive_of w.text)
 
--- the name of a line, or its fault
-abbrev pub named : Result (List ℕ) ConfKind → Said
-named (Ok name) = says.Names (name ∷ [])
-named (Err k) = says.BadNames k
+-- ---- lines of names
 
--- a line of one name, outside definitions: so far it is no pattern
-abbrev pub name_says : Bool → List ℕ → Said
-name_says stray name =
-    if is_wildcard name then says.BadNames kind.NotYet
-    else if stray then says.BadNames kind.Stray
-    else named (log_name_value name)
+-- one of the names is a pattern
+abbrev pub has_pattern : List Word → Bool
+has_pattern ws = list_any (λ w. is_wildcard w.text) ws
 
--- a line of names, outside definitions: so far of one
+-- the names as rules have them, in order
+abbrev pub log_names : List Word → List (List ℕ)
+log_names ws = filter_map (λ w. result_ok (log_name_value w.text)) ws
+
+-- the faults of those that name no log, in order
+abbrev pub name_faults : List Word → List ConfKind
+name_faults ws = filter_map (λ w. result_err (log_name_value w.text)) ws
+
+-- all the names, where none has a fault; else the first fault, by which the line names none
+abbrev pub named : List ConfKind → List (List ℕ) → Said
+named [] names = says.Names names
+named (k ∷ ks) names = says.BadNames k
+
+-- A line of names, outside definitions: it names them all, or has the first fault that applies; so far none may be a
+-- pattern. One without a name, which no text has, is stray.
 abbrev pub names_say : Bool → List Word → Said
-names_say stray [] = says.BadNames kind.NotYet
-names_say stray (w ∷ []) = name_says stray w.text
-names_say stray (w ∷ v ∷ ws) = says.BadNames kind.NotYet
+names_say stray [] = says.BadNames kind.Stray
+names_say stray (w ∷ ws) =
+    if has_pattern (w ∷ ws) then says.BadNames kind.NotYet
+    else if stray then says.BadNames kind.Stray
+    else named (name_faults (w ∷ ws)) (log_names (w ∷ ws))
+
+-- ---- lines
 
 abbrev pub nested : Bool → ConfKind → Said
 nested brace k = says.Bad (if brace then kind.NestedBrace else k)

@@ -24,8 +24,6 @@ pub struct Draft {
     pub(crate) words: Vec<Text>,
     /// The line of the first of them.
     pub(crate) first: Option<u32>,
-    /// Whether a definition with a name began in the file.
-    pub(crate) begun: bool,
     /// The fields of the definition.
     pub(crate) fields: Fields,
     pub(crate) rules: Vec<Rule>,
@@ -45,7 +43,6 @@ impl Draft {
             defaults: default_fields(),
             words: Vec::new(alloc),
             first: None,
-            begun: false,
             fields: default_fields(),
             rules: Vec::new(alloc),
             notices: Vec::new(alloc),

@@ -2,7 +2,8 @@
 //!
 //! The contract: a [`Layer`] that took some items, and then takes those that come, gives what all these lines mean, a
 //! definition over the whole list: a field of a rule has the value of the last line that sets it, outside definitions
-//! before the rule's `{` or inside it, else its default. Begin with [`Layer::new`].
+//! before the rule's `{` or inside it, else its default. Its words are the names of the lines before the `{`, in order;
+//! that one stands twice is no fault here. Begin with [`Layer::new`].
 //!
 //! A line that isn't understood gives one fault, the first that applies in the order of `lr_rules::ConfKind`. Inside a
 //! definition it drops that definition up to its `}`, where the first word is a directive; a line that begins with
@@ -40,7 +41,7 @@ mod set;
 mod stop;
 mod taking;
 
-pub use laws::{last_count, last_criterion, one_log_a_file, rules_are_plain, rules_meet_limits};
+pub use laws::{last_count, last_criterion, rules_are_plain, rules_meet_limits};
 pub use layer::Layer;
 pub use reading::say;
 pub use said::{Said, closes, has_brace, line_of};

@@ -2,7 +2,7 @@
 ghost use Rattle.std.specs.Prelude.{◌≡◌, ◌<◌, ◌∷◌, ◌++◌, [], Some, IfOk, OnOk, OnErr, length};
 ghost use Rattle.lr_conf.specs.declared.place.Place.TheVariants as place;
 ghost use Rattle.lr_conf.specs.declared.said.Said.TheVariants as says;
-ghost use Rattle.lr_conf.specs.Meaning.{judged, stands};
+ghost use Rattle.lr_conf.specs.Meaning.{stands};
 ghost use Rattle.lr_conf.specs.Draft.{Speaks, Noticed, SameRest, Aside, Unchanged, fields_at, Settled, stray_kind, answer_of, file_of_draft, files_of, without_names, state_of};
 
 use crate::draft::Draft;
@@ -11,16 +11,6 @@ use crate::place::Place;
 use crate::said::Said;
 use crate::stop::{Include, LayerStop};
 use lr_rules::{ConfKind, Listed, Memory, Notice, Text};
-
-/// What a line says in a file that has a name already, or has none.
-pub fn judged(said: Said, named: bool) -> Said
-    ensures { result ≡ judged said named }
-{
-    match said {
-        Said::Names(_) | Said::BadNames(_) if named => Said::BadNames(ConfKind::NotYet),
-        said => said,
-    }
-}
 
 /// The answer that tells NoBrace at the first line, if there is one, and the line's own fault.
 fn answer(first: Option<u32>, at: u32, own: Option<ConfKind>) -> Result<Option<Include>, LayerStop>
@@ -95,7 +85,6 @@ impl Draft {
         self.words.append(&mut names.into_vec())?;
         if let Some(fields) = begun {
             self.fields = fields;
-            self.begun = true;
             self.place = Place::Good;
         }
         if self.first.is_none() {
@@ -118,7 +107,6 @@ impl Draft {
         }
         if brace {
             self.fields = copy_fields(self.alloc, &self.defaults)?;
-            self.begun = true;
             self.place = Place::Good;
         }
         Ok(None)

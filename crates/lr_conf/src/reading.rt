@@ -1,8 +1,9 @@
 // Reading a line by itself.
-ghost use Rattle.std.specs.Prelude.{◌≡◌, ◌∷◌, [], IfOk, MatchOption};
-ghost use Rattle.lr_conf.specs.Says.{is_passed, is_script, is_outside, lacks_value, has_more, checks, first_fault, count_says, means, or_bad, by_directive, texts, words_say, names_say, name_says, nested, script_says, directive_of, said};
+ghost use Rattle.std.specs.Prelude.{◌≡◌, ◌∷◌, ◌++◌, [], IfOk, OnOk, MatchOption, option_to_list};
+ghost use Rattle.std.specs.Result.{result_ok, result_err};
+ghost use Rattle.lr_words.specs.Names.{log_name_value};
+ghost use Rattle.lr_conf.specs.Says.{is_passed, is_script, is_outside, lacks_value, has_more, checks, first_fault, count_says, means, or_bad, by_directive, texts, words_say, has_pattern, log_names, name_faults, named, names_say, nested, script_says, directive_of, said};
 ghost use Rattle.lr_conf.specs.Forms.{form_of};
-ghost use Rattle.lr_conf.specs.declared.said.Said.TheVariants as says;
 
 use crate::built::is_unbuilt;
 use crate::form::{Form, form_of};
@@ -167,38 +168,60 @@ fn words_say(words: Listed<Word>, inside: bool, brace: bool, stray: bool) -> Sai
     directive_says(inside, brace, stray, word.text, values.as_slice())
 }
 
-fn one_name(alloc: Global, name: Text) -> Result<Said, Memory>
-    ensures { IfOk result (λ s. s ≡ says.Names (name ∷ [])) }
+// ---- lines of names
+
+/// Whether one of the names is a pattern.
+fn has_pattern(words: &[Word]) -> bool
+    ensures { result ≡ has_pattern words.now }
+{
+    words.iter().any(|word| is_wildcard(word.text.bytes()))
+}
+
+/// Adds the name of a log that the word is, or gives the fault of the word.
+fn add_name(
+    alloc: Global,
+    names: &mut Listed<Text>,
+    word: &[u8],
+) -> Result<Option<ConfKind>, Memory>
+    ensures fault { IfOk result (λ fault. fault ≡ result_err (log_name_value word.now)) }
+    ensures added { OnOk result (names.new ≡ names.old ++ option_to_list (result_ok (log_name_value word.now))) }
+{
+    match log_name(alloc, word)? {
+        Ok(name) => {
+            names.push(name)?;
+            Ok(None)
+        }
+        Err(kind) => Ok(Some(kind)),
+    }
+}
+
+/// All the names, or the first fault of one.
+fn named(alloc: Global, words: &[Word]) -> Result<Said, Memory>
+    ensures { IfOk result (λ s. s ≡ named (name_faults words.now) (log_names words.now)) }
 {
     let mut names = Listed::new(alloc);
-    names.push(name)?;
+    for word in words {
+        if let Some(kind) = add_name(alloc, &mut names, word.text.bytes())? {
+            return Ok(Said::BadNames(kind));
+        }
+    }
     Ok(Said::Names(names))
 }
 
-/// What a line of one name says, outside definitions.
-fn name_says(alloc: Global, name: &[u8], stray: bool) -> Result<Said, Memory>
-    ensures { IfOk result (λ s. s ≡ name_says stray name.now) }
-{
-    if is_wildcard(name) {
-        return Ok(Said::BadNames(ConfKind::NotYet));
-    }
-    if stray {
-        return Ok(Said::BadNames(ConfKind::Stray));
-    }
-    match log_name(alloc, name)? {
-        Ok(name) => one_name(alloc, name),
-        Err(kind) => Ok(Said::BadNames(kind)),
-    }
-}
-
+/// What a line of names says, outside definitions.
 fn names_say(alloc: Global, words: &[Word], stray: bool) -> Result<Said, Memory>
     ensures { IfOk result (λ s. s ≡ names_say stray words.now) }
 {
-    match words {
-        [word] => name_says(alloc, word.text.bytes(), stray),
-        _ => Ok(Said::BadNames(ConfKind::NotYet)),
+    if has_pattern(words) {
+        Ok(Said::BadNames(ConfKind::NotYet))
+    } else if stray || words.is_empty() {
+        Ok(Said::BadNames(ConfKind::Stray))
+    } else {
+        named(alloc, words)
     }
 }
+
+// ---- lines
 
 /// The fault of a line that may stand in no definition, where it stands in one.
 fn nested(brace: bool, kind: ConfKind) -> Said

@@ -5,7 +5,6 @@ ghost use Rattle.lr_conf.specs.Meaning.{Read};
 ghost use Rattle.lr_conf.specs.Draft.{Steps, EndsFile, file_of_draft, files_of};
 
 use crate::draft::Draft;
-use crate::outside::judged;
 use crate::place::Place;
 use crate::reading::say;
 use crate::said::{closes, has_brace, line_of};
@@ -22,7 +21,6 @@ impl Draft {
         let at = line_of(&item);
         let brace = has_brace(&item);
         let said = say(self.alloc, item, false)?;
-        let said = judged(said, self.begun || self.first.is_some());
         self.outside(at, brace, said)
     }
 
@@ -69,7 +67,6 @@ impl Draft {
         let place = self.place;
         let first = self.settle();
         self.place = Place::Outside;
-        self.begun = false;
         match place {
             Place::Dropped => None,
             Place::Good => Some((first.unwrap_or(0), ConfKind::NoBrace)),

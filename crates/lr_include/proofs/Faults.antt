@@ -1,5 +1,5 @@
 -- The faults of bytes are those of lines and of the file, and no failed calls.
-use Rattle.std.proofs.Common.{ℕ, Bool, true, false, cond, List, [], ◌∷◌, ◌++◌, take, Option, Some, None, Ok, Err, sym, subst}
+use Rattle.std.proofs.Common.{ℕ, Bool, true, false, cond, nat_lt, List, [], ◌∷◌, ◌++◌, length, take, Option, Some, None, Ok, Err, sym, subst}
 use Rattle.std.specs.Prelude.{All, option_map}
 use Rattle.std.specs.List.{AllByRecursion as Each, filter_map, list_any, find}
 use Rattle.std.proofs.lemmas.List.Elements.{All-from_recursion}
@@ -16,7 +16,7 @@ use Rattle.lr_conf.specs.Fields.{fields_of}
 use Rattle.lr_conf.specs.Meaning.{Line, Read, Spoiled, End, Past, stands, spoiled, Meaning, nothing, conf, file_of, first_pending, words_pending, words_with, settings, opened, opens, past, before, through, behind, ends, drops, set_in, fault_of, fault_in, spoilt_fault, at_line, left_names, stray_at, own_fault, line_faults, of_end, of_body, of_spoilt, of_opening, meaning}
 use Rattle.lr_conf.proofs.Each.{append, front, Given, one_more, mapped}
 use Rattle.lr_host.specs.declared.entry.Entry.{Entry}
-use Rattle.lr_include.specs.Lines.{conf_kind, lines_told, lines_of, whole_lines, whole_means, cut_means}
+use Rattle.lr_include.specs.Lines.{conf_kind, lines_told, lines_of, whole_lines, whole_means, cut_means, bytes_mean}
 use Rattle.lr_include.specs.Readers.{IsConf}
 use Rattle.lr_include.specs.Reading.{MeansAs, no_file, directory, whole, cut}
 
@@ -29,10 +29,10 @@ abbrev IsFinePast : Past → Type 0
 IsFinePast (spoiled f) = IsConf f
 IsFinePast p = Unit {0}
 
-past_fine : (named : Bool) (out : List Past) (e : Line) → IsFine e → IsFinePast (past out e)
-past_fine named out (Read file i) ok = tt
-past_fine named out (Spoiled f) ok = ok
-past_fine named out (End file) ok = tt
+past_fine : (e : Line) → IsFine e → IsFinePast (past e)
+past_fine (Read file i) ok = tt
+past_fine (Spoiled f) ok = ok
+past_fine (End file) ok = tt
 
 abbrev Faults : Meaning → Type 0
 Faults m = Each IsConf m.faults
@@ -122,12 +122,12 @@ pub meaning_fine : (es : List Line) (inside : Bool) (out : List Past) → Each I
 meaning_fine [] true out ok = tt
 meaning_fine [] false out ok = tt
 meaning_fine (e ∷ es) true out ok =
-    either (ends e) (meaning false (out ++ past out e ∷ []) es) (meaning true out es) (meaning_fine es false (out ++ past out e ∷ []) ok.1) (meaning_fine es true out ok.1)
+    either (ends e) (meaning false (out ++ past e ∷ []) es) (meaning true out es) (meaning_fine es false (out ++ past e ∷ []) ok.1) (meaning_fine es true out ok.1)
 meaning_fine (e ∷ es) false out ok =
-    append IsConf (line_faults (file_of e) (first_pending out) (past out e)) ((of_opening out (past out e) es).faults ++ (meaning (opens (past out e)) (out ++ past out e ∷ []) es).faults)
-    (line_fine (file_of e) (first_pending out) (past out e) (past_fine true out e ok.0))
-    (append IsConf (of_opening out (past out e) es).faults (meaning (opens (past out e)) (out ++ past out e ∷ []) es).faults
-    (opening_fine out (past out e) es ok.1) (meaning_fine es (opens (past out e)) (out ++ past out e ∷ []) ok.1))
+    append IsConf (line_faults (file_of e) (first_pending out) (past e)) ((of_opening out (past e) es).faults ++ (meaning (opens (past e)) (out ++ past e ∷ []) es).faults)
+    (line_fine (file_of e) (first_pending out) (past e) (past_fine e ok.0))
+    (append IsConf (of_opening out (past e) es).faults (meaning (opens (past e)) (out ++ past e ∷ []) es).faults
+    (opening_fine out (past e) es ok.1) (meaning_fine es (opens (past e)) (out ++ past e ∷ []) ok.1))
 
 -- ---- bytes
 
@@ -147,6 +147,14 @@ cut_fine : (file : Path) (bytes : List ℕ) → Faults (cut_means file bytes)
 cut_fine file bytes =
     let lines : List Line = lines_of file (whole_lines (take 1048576 bytes)) in
     append IsConf (meaning false [] lines).faults (conf file kind.TooBig 0 ∷ []) (meaning_fine lines false [] (told_fine file (items (whole_lines (take 1048576 bytes))))) (tt, tt)
+
+-- what bytes mean has the faults of the configuration alone
+pub bytes_fine : (file : Path) (bytes : List ℕ) → Faults (bytes_mean file bytes)
+bytes_fine file bytes = go (nat_lt 1048576 (length bytes))
+  where
+    go : (b : Bool) → Faults (cond b (cut_means file bytes) (whole_means file bytes))
+    go true = cut_fine file bytes
+    go false = whole_fine file bytes
 
 means_fine : (file : Path) (m : Meaning) (ts : List Entry) → MeansAs file m ts → Faults m
 means_fine file m ts (no_file s e) = subst Faults (sym e) (tt, tt)

@@ -4,7 +4,7 @@ ghost use Rattle.lr_rules.specs.declared.fault.CallKind.{CallKind};
 ghost use Rattle.lr_rules.specs.declared.path.Path.{Path};
 ghost use Rattle.lr_rules.specs.declared.fault.Fault.TheVariants as fault;
 ghost use Rattle.lr_conf.specs.Meaning.{Meaning, told};
-ghost use Rattle.lr_conf.specs.Plain.{IsPlainRule, AtMostOneLog};
+ghost use Rattle.lr_conf.specs.Plain.{IsPlainRule};
 ghost use Rattle.lr_host.specs.Told.{Left, Then, Each, Onward, Rose};
 ghost use Rattle.lr_host.specs.Reading.{IsReadOf};
 ghost use Rattle.lr_include.specs.Readers.{meaning_of, IsConfOrCall};
@@ -25,7 +25,6 @@ fn alone(alloc: Global, mut faults: Vec<Fault>, fault: Fault) -> Reading
     requires room { 1 ≤ vec_capacity faults }
     ensures means { meaning_of result ≡ told (fault ∷ []) }
     ensures plain { All IsPlainRule result.rules.sets }
-    ensures one { AtMostOneLog result.rules.sets }
 {
     faults.push_reserved(fault);
     Reading {
@@ -52,7 +51,6 @@ pub fn read_conf<H: Host>(alloc: Global, host: &mut H, conf: &Path) -> Result<Re
     ensures cause { IfOk result (λ r. (kind : CallKind) (path : Path) → Contains r.faults (fault.Call kind path) → Rose (H.counts host.old).faults (H.counts host.new).faults) }
     ensures only { IfOk result (λ r. All IsConfOrCall r.faults) }
     ensures plain { IfOk result (λ r. All IsPlainRule r.rules.sets) }
-    ensures one { IfOk result (λ r. AtMostOneLog r.rules.sets) }
     ensures counts { Onward (H.counts host.old) (H.counts host.new) }
 {
     let file = conf.copy(alloc)?;

@@ -1,7 +1,7 @@
 // Bytes of a file, and what they mean.
 ghost use Rattle.std.specs.Prelude.{◌≡◌, ◌≤◌, ◌<◌, [], ◌∷◌, All, take, length, IfOk, OnOk};
 ghost use Rattle.lr_conf.specs.Fold.{entered};
-ghost use Rattle.lr_conf.specs.Plain.{IsPlainRule, AtMostOneLog};
+ghost use Rattle.lr_conf.specs.Plain.{IsPlainRule};
 ghost use Rattle.lr_include.specs.Lines.{LinesEnd, whole_lines, whole_means, cut_means, bytes_mean};
 ghost use Rattle.lr_include.specs.Readers.{means, meaning_of, IsConf, IsFresh};
 
@@ -87,7 +87,6 @@ pub fn read_bytes(alloc: Global, file: &Path, bytes: &[u8]) -> Result<Reading, M
     ensures means { IfOk result (λ r. meaning_of r ≡ bytes_mean file.now bytes.now) }
     ensures kinds { IfOk result (λ r. All IsConf r.faults) }
     ensures plain { IfOk result (λ r. All IsPlainRule r.rules.sets) }
-    ensures one { IfOk result (λ r. AtMostOneLog r.rules.sets) }
 {
     let mut reader = Reader::new(alloc, file)?;
     take_bytes(&mut reader, file, bytes)?;
