@@ -12,7 +12,8 @@ use Rattle.lr_family.specs.Listed.{ShowsListing, NotListed}
 use Rattle.lr_kept.specs.Begun.{Found, place_in}
 use Rattle.lr_kept.proofs.Elements.{read_push_cases}
 use Rattle.lr_looks.specs.Families.{WasListed, WasNotListed}
-use Rattle.lr_looks.specs.Internal.{ArePlaces, TakesListing, before, taken, LacksListing, IsAt}
+use Rattle.lr_looks.specs.Internal.{ArePlaces, TakesListing, before, taken, LacksListing, IsAt, NoListing, lacks, unadded}
+use Rattle.lr_family.specs.declared.stand.StandStop.TheVariants as stop
 
 pub read_last : (xs : List Listing) (y : Listing) → slice_get (xs ++ y ∷ []) (length xs) ≡ Some y
 read_last [] y = refl
@@ -53,8 +54,14 @@ pub taken_now : (known after : List Listing) (dir : Path) (place : ℕ) (l : Lis
     → Left (TakesListing known dir after place) o n
 taken_now known after dir place l new e a p left = left_as left (λ ts s. taken l new e a p s)
 
-pub lacks : (known : List Listing) (dir : Path) (why : StandStop) {o n : Option Journal} → WasNotListed known dir → Left (NotListed dir why) o n → Left (LacksListing known dir why known) o n
-lacks known dir why new left = left_as left (λ ts s. record { not_before = new; same = refl; shown = s })
+pub lacks_one : (known : List Listing) (dir : Path) (why : StandStop) {o n : Option Journal} → WasNotListed known dir → Left (NotListed dir why) o n → Left (LacksListing known dir why known) o n
+lacks_one known dir why new left = left_as left (λ ts s. record { not_before = new; same = refl; shown = s })
+
+pub part_one : (known : List Listing) (dir : Path) (why : StandStop) {o n : Option Journal} → WasNotListed known dir → Left (NotListed dir why) o n → Left (NoListing known dir why) o n
+part_one known dir why new left = left_as left (λ ts s. lacks new s)
+
+pub part_unadded : (known : List Listing) (dir : Path) (l : Listing) {o n : Option Journal} → WasNotListed known dir → l.dir ≡ dir → Left (ShowsListing dir l.there l.parent l.names) o n → Left (NoListing known dir stop.Memory) o n
+part_unadded known dir l new e left = left_as left (λ ts s. unadded l refl new e s)
 
 pub at_end : (known after : List Listing) (dir : Path) (place : ℕ) (l : Listing) → l.dir ≡ dir → after ≡ known ++ l ∷ [] → place ≡ length known → IsAt after place dir
 at_end known after dir place l e a p = (l, subst (λ (ls : List Listing). slice_get ls place ≡ Some l) (sym a) (subst (λ (k : ℕ). slice_get (known ++ l ∷ []) k ≡ Some l) (sym p) (read_last known l)), e)

@@ -1,6 +1,9 @@
-mod Kindred
+pub mod Kindred
 mod AskedBy
 mod Looking
 mod Choosing
 mod Known
-mod Behind
+pub mod Behind
+mod Adding
+pub mod Holding
+mod Whole

@@ -1,20 +1,23 @@
 -- Looks at paths, one behind another.
-use Rattle.std.proofs.Common.{◌≡◌, ◌≤◌, ◌+◌, ℕ, suc, List, [], ◌∷◌, ◌++◌, length, take, Option, Some, None, Result, Ok, Err, OnOk, OnErr, refl, sym, ap, ◌∙◌, subst, arith, append_assoc}
+use Rattle.std.proofs.Common.{◌≡◌, ◌≤◌, ◌+◌, ℕ, suc, Bool, true, false, cond, List, [], ◌∷◌, ◌++◌, length, take, Option, Some, None, Result, Ok, Err, OnOk, OnErr, refl, sym, ap, ◌∙◌, subst, arith, append_assoc}
 use Rattle.std.proofs.lemmas.List.{append-nil, length-append, map-append, take-append-le}
 use Rattle.lr_rules.specs.declared.path.Path.{Path}
+use Rattle.lr_rules.specs.declared.fault.CallKind.TheVariants as call
 use Rattle.lr_rules.specs.declared.fault.Fault.{Fault}
+use Rattle.lr_rules.specs.declared.fault.Fault.TheVariants as fault
 use Rattle.lr_host.specs.declared.thing.Seen.{Seen}
 use Rattle.lr_host.specs.declared.entry.Entry.{Entry}
 use Rattle.lr_host.specs.declared.entry.Entry.TheVariants as entry
 use Rattle.lr_host.specs.declared.journal.Journal.{Journal}
-use Rattle.lr_host.specs.Told.{Left}
+use Rattle.lr_host.specs.Told.{Counts, NoneFell, Left, Rose}
 use Rattle.lr_host.proofs.Left.{left_as, left_first, left_then}
 use Rattle.lr_looks.specs.declared.log.Asked.{Asked}
 use Rattle.lr_looks.specs.declared.found.Found.{Found}
 use Rattle.lr_looks.specs.Asked.{Log, log_in, logs_in}
-use Rattle.lr_looks.specs.Calls.{calls_in, RoseBy, AddsCalls}
+use Rattle.lr_plan.specs.Counted.{AddsFaults}
+use Rattle.lr_plan.proofs.Counts.{AreFree, free_none, adds_free, adds_call}
 use Rattle.lr_looks.specs.Found.{FoundLog, all_found_in}
-use Rattle.lr_looks.specs.Sights.{Sight, Failed, sight_of, look_of, looks_of, fault_of, faults_of, found_by, found_of, LookedAt, LookedAtSome}
+use Rattle.lr_looks.specs.Sights.{Sight, Failed, sight_of, look_of, looks_of, fault_of, faults_of, found_by, found_of, AreFoundOf, LookedAt, LookedAtSome}
 
 -- ---- one look
 
@@ -125,24 +128,42 @@ some_on xs ys zs a b p q ts us l k =
           ∙ ap (λ ls. looks_of ls (l.sights ++ k.sights)) (sym (ap (λ n. take n (xs ++ (ys ++ zs))) at ∙ take_past xs (ys ++ zs) (length k.sights)))));
     }
 
--- ---- failed calls
+pub found_none : (found : List FoundLog) → found ≡ [] → AreFoundOf [] found
+found_none found e = record { sights = []; as_many = refl; found_are = e }
 
-calls_on : (xs ys : List Fault) → calls_in (xs ++ ys) ≡ calls_in xs + calls_in ys
-calls_on [] ys = sym (none_more (calls_in ys))
-calls_on (x ∷ xs) ys = let e : calls_in (xs ++ ys) ≡ calls_in xs + calls_in ys = calls_on xs ys in omega (arith, e)
-
-rose_on : (a b c m n : ℕ) → RoseBy m a b → RoseBy n b c → RoseBy (m + n) a c
-rose_on a b c m n e f = omega (arith, e, f)
-
-pub adds_on : (a b c : List Fault) (k l m : ℕ) → AddsCalls a b k l → AddsCalls b c l m → AddsCalls a c k m
-adds_on a b c k l m x y = record {
-  added = x.added ++ y.added;
-  after_is = y.after_is ∙ (ap (λ fs. fs ++ y.added) x.after_is ∙ append_assoc a x.added y.added);
-  rose = subst (λ n. RoseBy n k m) (sym (calls_on x.added y.added)) (rose_on k l m (calls_in x.added) (calls_in y.added) x.rose y.rose);
+pub found_more : (done : List Asked) (x : Asked) (p q : List FoundLog) → AreFoundOf (logs_in done) p → (s : Sight) × (q ≡ p ++ found_by (log_in x) s) → AreFoundOf (logs_in (done ++ x ∷ [])) q
+found_more done x p q l k = record {
+  sights = l.sights ++ k.0 ∷ [];
+  as_many = length-append l.sights (k.0 ∷ []) ∙ (let m : length l.sights ≡ length (logs_in done) = l.as_many in let s : length (logs_in done ++ log_in x ∷ []) ≡ length (logs_in done) + 1 = length-append (logs_in done) (log_in x ∷ []) in let t : length (logs_in (done ++ x ∷ [])) ≡ length (logs_in done ++ log_in x ∷ []) = ap length (map-append log_in done (x ∷ [])) in omega (arith, m, s, t));
+  found_are = k.1 ∙ (ap (λ (fs : List FoundLog). fs ++ found_by (log_in x) k.0) l.found_are ∙ (ap (λ (fs : List FoundLog). found_of (logs_in done) l.sights ++ fs) (sym (append-nil (found_by (log_in x) k.0)))
+      ∙ (sym (found_on (logs_in done) (log_in x ∷ []) l.sights (k.0 ∷ []) l.as_many) ∙ ap (λ (ls : List Log). found_of ls (l.sights ++ k.0 ∷ [])) (sym (map-append log_in done (x ∷ []))))));
 }
 
-pub adds_none : (a : List Fault) (k : ℕ) → AddsCalls a a k k
-adds_none a k = record { added = []; after_is = sym (append-nil a); rose = omega arith }
+pub found_all : (all done : List Asked) (q : List FoundLog) → all ≡ done → AreFoundOf (logs_in done) q → AreFoundOf (logs_in all) q
+found_all all done q e l = subst (λ (ls : List Asked). AreFoundOf (logs_in ls) q) (sym e) l
+
+pub with_sight : {T E : Type 0} (r : Result T E) (log : Log) (p q : List FoundLog) (s : Sight) → OnOk r (q ≡ p ++ found_by log s) → OnOk r ((s : Sight) × (q ≡ p ++ found_by log s))
+with_sight r log p q s h = on_ok r (λ e. (s, e)) h
+
+pub no_sight : {T E : Type 0} (r : Result T E) (log : Log) (p : List FoundLog) → OnOk r ((s : Sight) × (p ≡ p ++ found_by log s))
+no_sight (Ok x) log p = (Failed, sym (append-nil p))
+no_sight (Err x) log p = tt
+
+-- ---- the faults that are added, and the counts
+
+missing_free : (b : Bool) (word : List ℕ) → AreFree (cond b [] (fault.Missing word ∷ []))
+missing_free true word = free_none
+missing_free false word = record { calls = refl; scripts = refl; no_out = ((λ h. h), tt) }
+
+look_free : (log : Log) (look : Option Seen) → AreFree (fault_of log (sight_of look))
+look_free log None = missing_free log.missingok log.word
+look_free log (Some seen) = free_none
+
+pub look_counted : {T E : Type 0} (r : Result T E) (log : Log) (look : Option Seen) (faults all : List Fault) (a b : Counts) → NoneFell a b → OnOk r (all ≡ faults ++ fault_of log (sight_of look)) → OnOk r (AddsFaults faults all a b)
+look_counted r log look faults all a b le h = on_ok r (λ e. adds_free faults all (fault_of log (sight_of look)) a b e (look_free log look) le) h
+
+pub failed_counted : {T E : Type 0} (r : Result T E) (log : Log) (faults all : List Fault) (a b : Counts) → Rose a.faults b.faults → NoneFell a b → OnOk r (all ≡ faults ++ fault_of log Failed) → OnOk r (AddsFaults faults all a b)
+failed_counted r log faults all a b rose le h = on_ok r (λ e. adds_call faults all call.Look log.path a b e rose le) h
 
 -- ---- a list of logs
 

@@ -1,9 +1,10 @@
 -- What the looks at families showed, with no directory listed twice.
-use Rattle.std.specs.Prelude.{◌≡◌, ℕ, List, [], ◌∷◌, ◌++◌, map, Some, Result, Ok, Err, slice_get}
+use Rattle.std.specs.Prelude.{◌≡◌, ◌≤◌, ◌⊎◌, ℕ, List, [], ◌∷◌, ◌++◌, length, take, Some, Result, Ok, Err, slice_get}
 use Rattle.lr_rules.specs.declared.path.Path.{Path}
 use Rattle.lr_rules.specs.declared.rule.Naming.{Naming}
 use Rattle.lr_rules.specs.declared.fault.Fault.{Fault}
 use Rattle.lr_rules.specs.declared.fault.Fault.TheVariants as fault
+use Rattle.lr_host.specs.declared.thing.Seen.{Seen}
 use Rattle.lr_host.specs.declared.entry.Entry.{Entry}
 use Rattle.lr_host.specs.Told.{Then}
 use Rattle.lr_family.specs.declared.listing.Listing.{Listing}
@@ -12,8 +13,7 @@ use Rattle.lr_family.specs.declared.stand.StandStop.{StandStop}
 use Rattle.lr_family.specs.declared.stand.StandStop.TheVariants as stop
 use Rattle.lr_family.specs.Among.{ShowsIn, ShowsNoneIn}
 use Rattle.lr_family.specs.Listed.{ShowsListing, NotListed}
-use Rattle.lr_looks.specs.declared.stood.Stood as S
-use Rattle.lr_looks.specs.Found.{FoundLog, found_in}
+use Rattle.lr_looks.specs.Found.{FoundLog}
 
 -- ---- one family
 
@@ -36,10 +36,10 @@ pub record WasListed (known : List Listing) (dir : Path) (l : Listing) : Type 0 
 abbrev pub WasNotListed : List Listing → Path → Type 0
 WasNotListed known dir = (l : Listing) → WasListed known dir l → ⊥
 
--- what the looks at the members among the names of a listing showed
+-- what the looks at the members among the names of a listing showed; there may be no memory before the first
 abbrev pub ShowsMembersIn : Naming → Listing → FamilySight → List Entry → Type 0
 ShowsMembersIn n l (Stood stand) ts = ShowsIn n l.there l.parent l.names stand ts
-ShowsMembersIn n l (Stopped why) ts = ShowsNoneIn n l.there l.names why ts
+ShowsMembersIn n l (Stopped why) ts = ((why ≡ stop.Memory) × (ts ≡ [])) ⊎ ShowsNoneIn n l.there l.names why ts
 
 -- The looks at one family, behind some listings: its directory was listed before; or it is listed now, and known then; or it couldn't be, and isn't known.
 pub data ShowsFamily (known : List Listing) (n : Naming) (after : List Listing) (s : FamilySight) (ts : List Entry) : Type 0 where
@@ -67,35 +67,50 @@ abbrev pub family_faults : List FamilySight → List Fault
 family_faults [] = []
 family_faults (s ∷ ss) = family_fault s ++ family_faults ss
 
--- A log, and what stands of its family.
-pub record StoodLog : Type 0 where
-  pub found : FoundLog
+-- the looks at this family weren't cut off by want of memory
+abbrev pub HadMemory : FamilySight → Type 0
+HadMemory (Stopped stop.Memory) = ⊥
+HadMemory _ = Unit {0}
+
+abbrev pub AllHadMemory : List FamilySight → Type 0
+AllHadMemory [] = Unit {0}
+AllHadMemory (s ∷ ss) = HadMemory s × AllHadMemory ss
+
+-- A log that was looked at whole: the place of its definition, its path and the names of its members, what was seen of it, and what stands of its family.
+pub record LookedLog : Type 0 where
+  pub set : ℕ
+  pub path : Path
+  pub naming : Naming
+  pub seen : Seen
   pub stand : Stand
 
-abbrev pub stood_by : FoundLog → FamilySight → List StoodLog
-stood_by f (Stood stand) = record { found = f; stand = stand } ∷ []
-stood_by f (Stopped why) = []
+abbrev pub looked_at : FoundLog → Stand → LookedLog
+looked_at f stand = record { set = f.log.set; path = f.log.path; naming = f.log.naming; seen = f.seen; stand = stand }
 
-abbrev pub stood_of : List FoundLog → List FamilySight → List StoodLog
-stood_of (f ∷ fs) (s ∷ ss) = stood_by f s ++ stood_of fs ss
-stood_of _ _ = []
+abbrev pub looked_by : FoundLog → FamilySight → List LookedLog
+looked_by f (Stood stand) = looked_at f stand ∷ []
+looked_by f (Stopped why) = []
 
--- The looks at the families of these logs came to some sights: the faults and the logs that were added are theirs.
-pub record LookedAtFamilies (known : List Listing) (logs : List FoundLog) (after : List Listing) (faults all_faults : List Fault) (stood all_stood : List StoodLog) (ts : List Entry) : Type 0 where
+abbrev pub looked_of : List FoundLog → List FamilySight → List LookedLog
+looked_of (f ∷ fs) (s ∷ ss) = looked_by f s ++ looked_of fs ss
+looked_of _ _ = []
+
+-- The looks at the families of these logs came to some sights: the faults that were added and the logs that were looked at whole are theirs.
+pub record LookedAtFamilies (known : List Listing) (logs : List FoundLog) (after : List Listing) (faults all_faults : List Fault) (looked : List LookedLog) (ts : List Entry) : Type 0 where
   pub sights : List FamilySight
+  pub had_memory : AllHadMemory sights
   pub shown : ShowFamilies known logs after sights ts
   pub faults_are : all_faults ≡ faults ++ family_faults sights
-  pub stood_are : all_stood ≡ stood ++ stood_of logs sights
+  pub looked_are : looked ≡ looked_of logs sights
 
 -- the same with no directory listed before
-pub record LooksAtFamilies (logs : List FoundLog) (faults all_faults : List Fault) (all_stood : List StoodLog) (ts : List Entry) : Type 0 where
+pub record LooksAtFamilies (logs : List FoundLog) (faults all_faults : List Fault) (looked : List LookedLog) (ts : List Entry) : Type 0 where
   pub listings : List Listing
-  pub looked : LookedAtFamilies [] logs listings faults all_faults [] all_stood ts
+  pub families : LookedAtFamilies [] logs listings faults all_faults looked ts
 
--- ---- as the code has it
-
-abbrev pub stood_in : S.Stood → StoodLog
-stood_in s = record { found = found_in s.found; stand = s.stand }
-
-abbrev pub all_stood_in : List S.Stood → List StoodLog
-all_stood_in list = map stood_in list
+-- Where there was no memory, the first of them were looked at, the last maybe in part.
+pub record LookedAtSomeFamilies (known : List Listing) (logs : List FoundLog) (ts : List Entry) : Type 0 where
+  pub sights : List FamilySight
+  pub few : length sights ≤ length logs
+  pub after : List Listing
+  pub shown : ShowFamilies known (take (length sights) logs) after sights ts

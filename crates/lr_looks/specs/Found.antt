@@ -1,5 +1,5 @@
 -- Logs that were found.
-use Rattle.std.specs.Prelude.{◌≡◌, List, map, All, None}
+use Rattle.std.specs.Prelude.{◌≡◌, ◌≤◌, List, [], ◌∷◌, map, None}
 use Rattle.lr_host.specs.declared.thing.Seen.{Seen}
 use Rattle.lr_looks.specs.declared.found.Found.{Found}
 use Rattle.lr_looks.specs.Asked.{Log, log_in}
@@ -16,9 +16,15 @@ found_in f = record { log = log_in f.asked; seen = f.seen }
 abbrev pub all_found_in : List Found → List FoundLog
 all_found_in list = map found_in list
 
--- the members of each have numbers
-abbrev pub HasNumbers : Found → Type 0
-HasNumbers f = f.asked.family.naming.dated ≡ None
+-- Its members have numbers, of which the first is at most 999,999.
+pub record HasNumbers (f : FoundLog) : Type 0 where
+  pub numbered : f.log.naming.dated ≡ None
+  pub start : f.log.naming.start ≤ 999999
 
-abbrev pub AreNumbered : List Found → Type 0
-AreNumbered list = All HasNumbers list
+-- P holds of each of these logs
+abbrev pub Hold : (FoundLog → Type 0) → List FoundLog → Type 0
+Hold P [] = Unit {0}
+Hold P (f ∷ fs) = P f × Hold P fs
+
+abbrev pub HaveNumbers : List FoundLog → Type 0
+HaveNumbers found = Hold HasNumbers found

@@ -1,17 +1,26 @@
--- For proofs: the naming that the code makes, and choices that name logs of the list.
+-- For proofs: the naming that the code makes, choices that name logs of the list, the map of listings, and logs that are added to their definitions.
 use Rattle.std.specs.Prelude.{◌≡◌, ◌<◌, ℕ, List, [], ◌∷◌, ◌++◌, All, Option, Some, None, length, slice_get}
 use Rattle.lr_kept.specs.declared.choice.Choice.{Choice}
 use Rattle.lr_kept.specs.declared.choice.Choice.TheVariants.{Kept, Again, Meets}
 use Rattle.lr_rules.specs.declared.path.Path.{Path}
 use Rattle.lr_rules.specs.declared.rule.Naming.{Naming}
 use Rattle.lr_rules.specs.Path.{parent_of, last_of}
+use Rattle.lr_rules.specs.declared.fault.Fault.{Fault}
+use Rattle.lr_rules.specs.declared.rule.Rule.{Rule}
 use Rattle.lr_host.specs.declared.entry.Entry.{Entry}
+use Rattle.lr_host.specs.declared.journal.Journal.{Journal}
+use Rattle.lr_host.specs.Told.{Left}
+use Rattle.lr_plan.specs.declared.looks.SetLooks.{SetLooks}
+use Rattle.lr_plan.specs.Planned.{CanPlan}
 use Rattle.lr_family.specs.declared.listing.Listing.{Listing}
 use Rattle.lr_family.specs.declared.stand.StandStop.{StandStop}
+use Rattle.lr_family.specs.declared.stand.StandStop.TheVariants as stop
 use Rattle.lr_family.specs.Listed.{ShowsListing, NotListed}
 use Rattle.lr_kept.specs.Begun.{place_in}
 use Rattle.lr_looks.specs.declared.listings.Listings.{Listings}
-use Rattle.lr_looks.specs.Families.{WasNotListed}
+use Rattle.lr_looks.specs.Families.{WasNotListed, FamilySight, ShowsFamily, LookedLog, LookedAtFamilies, LooksAtFamilies}
+use Rattle.lr_looks.specs.Found.{FoundLog, Hold}
+use Rattle.lr_looks.specs.Sets.{HaveLooks}
 
 -- the naming of a log's members in its own directory, with numbers behind its name
 abbrev pub naming_at : ℕ → Path → Naming
@@ -50,6 +59,48 @@ pub record LacksListing (known : List Listing) (dir : Path) (why : StandStop) (a
   pub same : after ≡ known
   pub shown : NotListed dir why ts
 
+-- So it is, or there was no memory to add it.
+pub data NoListing (known : List Listing) (dir : Path) (why : StandStop) (ts : List Entry) : Type 0 where
+  lacks : WasNotListed known dir → NotListed dir why ts → NoListing known dir why ts
+  unadded : (l : Listing) → why ≡ stop.Memory → WasNotListed known dir → l.dir ≡ dir → ShowsListing dir l.there l.parent l.names ts → NoListing known dir why ts
+
 -- the listing of the directory stands at this place
 abbrev pub IsAt : List Listing → ℕ → Path → Type 0
 IsAt known place dir = (l : Listing) × (slice_get known place ≡ Some l) × (l.dir ≡ dir)
+
+-- ---- logs by definitions
+
+-- the looks at one family, whatever listings are known behind them
+abbrev pub FamilyPart : List Listing → Naming → FamilySight → List Entry → Type 0
+FamilyPart known n s ts = (after : List Listing) × ShowsFamily known n after s ts
+
+-- these logs were added to those of their definitions
+abbrev pub AddsLooked : List LookedLog → List SetLooks → List SetLooks → Type 0
+AddsLooked added was now = (logs : List LookedLog) → HaveLooks logs was → HaveLooks (logs ++ added) now
+
+-- The family of one log was looked at: a log or a fault was added.
+pub record AddsFamily (known after : List Listing) (f : FoundLog) (faults all_faults : List Fault) (was now : List SetLooks) (told later : Option Journal) : Type 0 where
+  pub looked : List LookedLog
+  pub entries : Left (LookedAtFamilies known (f ∷ []) after faults all_faults looked) told later
+  pub added : AddsLooked looked was now
+
+-- The families of all logs were.
+pub record AddsFamilies (logs : List FoundLog) (faults all_faults : List Fault) (was now : List SetLooks) (told later : Option Journal) : Type 0 where
+  pub looked : List LookedLog
+  pub entries : Left (LooksAtFamilies logs faults all_faults looked) told later
+  pub added : AddsLooked looked was now
+
+-- The logs that were looked at whole stand by definitions.
+pub record LooksBySets (logs : List FoundLog) (faults all_faults : List Fault) (sets : List SetLooks) (told later : Option Journal) : Type 0 where
+  pub looked : List LookedLog
+  pub entries : Left (LooksAtFamilies logs faults all_faults looked) told later
+  pub by_sets : HaveLooks looked sets
+
+-- each of these logs is of one of so many definitions
+abbrev pub AreOf : ℕ → List FoundLog → Type 0
+AreOf count found = Hold (λ f. f.log.set < count) found
+
+-- each of these logs can stand in a plan
+abbrev pub AreReady : List SetLooks → Type 0
+AreReady [] = Unit {0}
+AreReady (set ∷ sets) = ((rule : Rule) → All (CanPlan rule) set.logs) × AreReady sets

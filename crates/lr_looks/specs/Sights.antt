@@ -51,6 +51,12 @@ abbrev pub found_of : List Log → List Sight → List FoundLog
 found_of (log ∷ logs) (s ∷ sights) = found_by log s ++ found_of logs sights
 found_of _ _ = []
 
+-- Some sights found these of the logs.
+pub record AreFoundOf (logs : List Log) (found : List FoundLog) : Type 0 where
+  pub sights : List Sight
+  pub as_many : length sights ≡ length logs
+  pub found_are : found ≡ found_of logs sights
+
 -- The looks at the paths of these logs came to some sights, one for each: the faults and the logs that were added are theirs.
 pub record LookedAt (logs : List Log) (faults all_faults : List Fault) (found all_found : List FoundLog) (ts : List Entry) : Type 0 where
   pub sights : List Sight

@@ -1,22 +1,26 @@
 // The looks at the families of logs.
-ghost use Rattle.std.specs.Prelude.{◌≡◌, ◌≢◌, ◌++◌, ◌∷◌, [], All, None, OnOk, IfOk, IfErr, Err};
+ghost use Rattle.std.specs.Prelude.{◌≡◌, ◌≢◌, ◌<◌, ◌++◌, ◌∷◌, [], All, List, None, OnOk, OnErr, IfOk, IfErr, Err, length};
+ghost use Rattle.lr_host.specs.declared.journal.Journal.{Journal};
 ghost use Rattle.lr_host.specs.Told.{Left, Onward, Rose};
+ghost use Rattle.lr_family.specs.declared.listing.Listing.{Listing};
 ghost use Rattle.lr_family.specs.Stands.{IsFailedCall};
 ghost use Rattle.lr_family.specs.Places.{AreNamed};
 ghost use Rattle.lr_family.specs.declared.stand.StandStop.TheVariants as stop;
-ghost use Rattle.lr_looks.specs.Calls.{AddsCalls};
-ghost use Rattle.lr_looks.specs.Families.{ShowsFamily, sight_of, stop_fault, all_stood_in, LookedAtFamilies, LooksAtFamilies};
-ghost use Rattle.lr_looks.specs.Found.{found_in, all_found_in, AreNumbered};
-ghost use Rattle.lr_looks.specs.Internal.{AreListings};
+ghost use Rattle.lr_plan.specs.Counted.{AddsFaults};
+ghost use Rattle.lr_looks.specs.Families.{LookedLog, looked_at, looked_by, ShowsFamily, sight_of, stop_fault, LookedAtFamilies, LooksAtFamilies, LookedAtSomeFamilies};
+ghost use Rattle.lr_looks.specs.Found.{found_in, all_found_in, HasNumbers, HaveNumbers};
+ghost use Rattle.lr_looks.specs.Internal.{AreListings, FamilyPart, AddsLooked, AddsFamily, AddsFamilies, LooksBySets, AreReady, AreOf};
+ghost use Rattle.lr_looks.specs.Sets.{HaveLooks};
 
 use crate::found::Found;
 use crate::listing::listing_at;
 use crate::listings::Listings;
-use crate::stood::Stood;
+use crate::log::Asked;
 use indexmap::IndexMap;
 use lr_family::{Family, Stand, StandStop};
 use lr_host::Host;
-use lr_rules::{Fault, Memory};
+use lr_plan::{LogLook, Looks, SetLooks};
+use lr_rules::{Fault, Listed, Memory};
 use std::alloc::Global;
 
 // What stands of a family, whose directory is listed where it wasn't before.
@@ -29,6 +33,7 @@ fn stand_at<H: Host>(
     requires known { AreListings listings.old }
     requires numbered { family.now.naming.dated ≡ None }
     ensures told { result ≢ Err stop.Memory → Left (ShowsFamily listings.old.taken.items family.now.naming listings.new.taken.items (sight_of result)) (H.told host.old) (H.told host.new) }
+    ensures part { Left (FamilyPart listings.old.taken.items family.now.naming (sight_of result)) (H.told host.old) (H.told host.new) }
     ensures known { result ≢ Err stop.Memory → AreListings listings.new }
     ensures named { IfOk result (λ stand. AreNamed family.now.naming stand.members) }
     ensures cause { IfErr result (λ why. IsFailedCall why → Rose (H.counts host.old).faults (H.counts host.new).faults) }
@@ -58,10 +63,29 @@ fn add_stop(faults: &mut Vec<Fault>, why: StandStop) -> Result<(), Memory>
     }
 }
 
-fn add_stood(stood: &mut Vec<Stood>, found: Found, stand: Stand) -> Result<(), Memory>
-    ensures { OnOk result (all_stood_in stood.new.items ≡ all_stood_in stood.old.items ++ record { found = found_in found; stand = stand } ∷ []) }
+// Adds a log that was looked at whole to those of its definition.
+fn add_look(
+    alloc: Global,
+    sets: &mut Vec<SetLooks>,
+    found: Found,
+    stand: Stand,
+) -> Result<(), Memory>
+    requires set { found.asked.set < length sets.old.items }
+    requires numbers { HasNumbers (found_in found) }
+    requires named { AreNamed found.asked.family.naming stand.members }
+    ensures looked { OnOk result (AddsLooked (looked_at (found_in found) stand ∷ []) sets.old.items sets.new.items) }
+    ensures many { OnOk result (length sets.new.items ≡ length sets.old.items) }
+    ensures ready { OnOk result (AreReady sets.old.items → AreReady sets.new.items) }
 {
-    stood.push(Stood { found, stand })?;
+    let Found { asked, seen } = found;
+    let Asked { set, family, .. } = asked;
+    let path = family.log().copy(alloc)?;
+    sets[set].logs.push(LogLook {
+        path,
+        seen,
+        family,
+        stand,
+    })?;
     Ok(())
 }
 
@@ -71,42 +95,90 @@ fn look_at_family<H: Host>(
     host: &mut H,
     listings: &mut Listings,
     found: Found,
-    stood: &mut Vec<Stood>,
+    sets: &mut Vec<SetLooks>,
     faults: &mut Vec<Fault>,
 ) -> Result<(), Memory>
     requires known { AreListings listings.old }
-    requires numbered { found.asked.family.naming.dated ≡ None }
-    ensures told { OnOk result (Left (LookedAtFamilies listings.old.taken.items (found_in found ∷ []) listings.new.taken.items faults.old.items faults.new.items (all_stood_in stood.old.items) (all_stood_in stood.new.items)) (H.told host.old) (H.told host.new)) }
+    requires set { found.asked.set < length sets.old.items }
+    requires numbers { HasNumbers (found_in found) }
+    ensures told { OnOk result (AddsFamily listings.old.taken.items listings.new.taken.items (found_in found) faults.old.items faults.new.items sets.old.items sets.new.items (H.told host.old) (H.told host.new)) }
+    ensures some { OnErr result (Left (LookedAtSomeFamilies listings.old.taken.items (found_in found ∷ [])) (H.told host.old) (H.told host.new)) }
     ensures known { OnOk result (AreListings listings.new) }
-    ensures calls { OnOk result (AddsCalls faults.old.items faults.new.items (H.counts host.old).faults (H.counts host.new).faults) }
+    ensures many { OnOk result (length sets.new.items ≡ length sets.old.items) }
+    ensures ready { OnOk result (AreReady sets.old.items → AreReady sets.new.items) }
+    ensures counted { OnOk result (AddsFaults faults.old.items faults.new.items (H.counts host.old) (H.counts host.new)) }
     ensures counts { Onward (H.counts host.old) (H.counts host.new) }
 {
     match stand_at(alloc, host, listings, &found.asked.family) {
-        Ok(stand) => add_stood(stood, found, stand),
+        Ok(stand) => add_look(alloc, sets, found, stand),
         Err(why) => add_stop(faults, why),
     }
 }
 
-/// Looks at the families of these logs, in order: the logs with what stands of their families. The faults of those of
-/// which it isn't known are added. No directory is listed twice; one that couldn't be is tried again at the next log in it.
-pub fn look_at_families<H: Host>(
+// Each definition without a log so far.
+fn no_looks(alloc: Global, count: usize) -> Result<Vec<SetLooks>, Memory>
+    ensures none { IfOk result (λ sets. HaveLooks [] sets.items) }
+    ensures many { IfOk result (λ sets. length sets.items ≡ count) }
+    ensures ready { IfOk result (λ sets. AreReady sets.items) }
+{
+    let mut sets = Vec::new(alloc);
+    for _at in 0..count {
+        sets.push(SetLooks {
+            logs: Listed::new(alloc),
+        })?;
+    }
+    Ok(sets)
+}
+
+// Looks at the families of these logs, in order, and adds each to those of its definition.
+fn look_at_each<H: Host>(
     alloc: Global,
     host: &mut H,
     found: Vec<Found>,
+    sets: &mut Vec<SetLooks>,
     faults: &mut Vec<Fault>,
-) -> Result<Vec<Stood>, Memory>
-    requires { AreNumbered found.items }
-    ensures told { IfOk result (λ stood. Left (LooksAtFamilies (all_found_in found.items) faults.old.items faults.new.items (all_stood_in stood.items)) (H.told host.old) (H.told host.new)) }
-    ensures calls { IfOk result (λ stood. AddsCalls faults.old.items faults.new.items (H.counts host.old).faults (H.counts host.new).faults) }
+) -> Result<(), Memory>
+    requires sets { AreOf (length sets.old.items) (all_found_in found.items) }
+    requires numbers { HaveNumbers (all_found_in found.items) }
+    ensures told { OnOk result (AddsFamilies (all_found_in found.items) faults.old.items faults.new.items sets.old.items sets.new.items (H.told host.old) (H.told host.new)) }
+    ensures some { OnErr result (Left (LookedAtSomeFamilies [] (all_found_in found.items)) (H.told host.old) (H.told host.new)) }
+    ensures many { OnOk result (length sets.new.items ≡ length sets.old.items) }
+    ensures ready { OnOk result (AreReady sets.old.items → AreReady sets.new.items) }
+    ensures counted { OnOk result (AddsFaults faults.old.items faults.new.items (H.counts host.old) (H.counts host.new)) }
     ensures counts { Onward (H.counts host.old) (H.counts host.new) }
 {
     let mut listings = Listings {
         places: IndexMap::new(alloc),
         taken: Vec::new(alloc),
     };
-    let mut stood = Vec::new(alloc);
     for item in found {
-        look_at_family(alloc, host, &mut listings, item, &mut stood, faults)?;
+        look_at_family(alloc, host, &mut listings, item, sets, faults)?;
     }
-    Ok(stood)
+    Ok(())
+}
+
+/// Looks at the families of these logs, in order: the logs of each of so many definitions with what stands of their
+/// families. The faults of those of which it isn't known are added. No directory is listed twice; one that couldn't be is
+/// tried again at the next log in it.
+pub fn look_at_families<H: Host>(
+    alloc: Global,
+    host: &mut H,
+    found: Vec<Found>,
+    count: usize,
+    faults: &mut Vec<Fault>,
+) -> Result<Looks, Memory>
+    requires sets { AreOf count (all_found_in found.items) }
+    requires numbers { HaveNumbers (all_found_in found.items) }
+    ensures told { IfOk result (λ looks. LooksBySets (all_found_in found.items) faults.old.items faults.new.items looks.sets (H.told host.old) (H.told host.new)) }
+    ensures some { OnErr result (Left (LookedAtSomeFamilies [] (all_found_in found.items)) (H.told host.old) (H.told host.new)) }
+    ensures many { IfOk result (λ looks. length looks.sets ≡ count) }
+    ensures ready { IfOk result (λ looks. AreReady looks.sets) }
+    ensures counted { IfOk result (λ looks. AddsFaults faults.old.items faults.new.items (H.counts host.old) (H.counts host.new)) }
+    ensures counts { Onward (H.counts host.old) (H.counts host.new) }
+{
+    let mut sets = no_looks(alloc, count)?;
+    look_at_each(alloc, host, found, &mut sets, faults)?;
+    Ok(Looks {
+        sets: Listed::from_vec(sets),
+    })
 }

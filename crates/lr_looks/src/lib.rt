@@ -13,6 +13,7 @@
 //! ```
 #![tactic(auto)]
 
+mod all;
 mod asking;
 mod families;
 mod found;
@@ -20,13 +21,12 @@ mod keeping;
 mod listing;
 mod listings;
 mod log;
-mod stood;
 mod words;
 
+pub use all::look_all;
 pub use asking::asked;
 pub use families::look_at_families;
 pub use found::Found;
 pub use keeping::keep;
 pub use log::Asked;
-pub use stood::Stood;
 pub use words::look_at_words;

@@ -3,7 +3,7 @@ ghost use Rattle.std.specs.Prelude.{◌≡◌, ◌≢◌, ◌++◌, ◌∷◌, [
 ghost use Rattle.lr_host.specs.Told.{Left, Onward, Rose};
 ghost use Rattle.lr_family.specs.Stands.{IsFailedCall};
 ghost use Rattle.lr_family.specs.declared.stand.StandStop.TheVariants as stop;
-ghost use Rattle.lr_looks.specs.Internal.{AreListings, TakesListing, LacksListing, IsAt, places_in};
+ghost use Rattle.lr_looks.specs.Internal.{AreListings, TakesListing, LacksListing, NoListing, IsAt, places_in};
 ghost use Rattle.lr_looks.specs.Families.{WasNotListed};
 
 use crate::listings::Listings;
@@ -46,6 +46,7 @@ fn take_listing<H: Host>(
     ensures told { IfOk result (λ place. Left (TakesListing listings.old.taken.items dir.now listings.new.taken.items place) (H.told host.old) (H.told host.new)) }
     ensures there { IfOk result (λ place. IsAt listings.new.taken.items place dir.now) }
     ensures stopped { IfErr result (λ why. why ≢ stop.Memory → Left (LacksListing listings.old.taken.items dir.now why listings.new.taken.items) (H.told host.old) (H.told host.new)) }
+    ensures part { IfErr result (λ why. Left (NoListing listings.old.taken.items dir.now why) (H.told host.old) (H.told host.new)) }
     ensures known { OnOk result (AreListings listings.new) }
     ensures same { IfErr result (λ why. why ≢ stop.Memory → AreListings listings.new) }
     ensures cause { IfErr result (λ why. IsFailedCall why → Rose (H.counts host.old).faults (H.counts host.new).faults) }
@@ -71,6 +72,7 @@ pub fn listing_at<H: Host>(
     ensures told { IfOk result (λ place. Left (TakesListing listings.old.taken.items dir.now listings.new.taken.items place) (H.told host.old) (H.told host.new)) }
     ensures there { IfOk result (λ place. IsAt listings.new.taken.items place dir.now) }
     ensures stopped { IfErr result (λ why. why ≢ stop.Memory → Left (LacksListing listings.old.taken.items dir.now why listings.new.taken.items) (H.told host.old) (H.told host.new)) }
+    ensures part { IfErr result (λ why. Left (NoListing listings.old.taken.items dir.now why) (H.told host.old) (H.told host.new)) }
     ensures known { OnOk result (AreListings listings.new) }
     ensures same { IfErr result (λ why. why ≢ stop.Memory → AreListings listings.new) }
     ensures cause { IfErr result (λ why. IsFailedCall why → Rose (H.counts host.old).faults (H.counts host.new).faults) }

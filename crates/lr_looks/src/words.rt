@@ -2,9 +2,9 @@
 ghost use Rattle.std.specs.Prelude.{◌≡◌, ◌++◌, ◌∷◌, [], OnOk, OnErr, IfOk};
 ghost use Rattle.lr_host.specs.Told.{Left, Onward};
 ghost use Rattle.lr_looks.specs.Asked.{log_in, logs_in};
-ghost use Rattle.lr_looks.specs.Calls.{AddsCalls};
+ghost use Rattle.lr_plan.specs.Counted.{AddsFaults};
 ghost use Rattle.lr_looks.specs.Found.{all_found_in};
-ghost use Rattle.lr_looks.specs.Sights.{Failed, Nothing, Saw, sight_of, fault_of, found_by, LookedAt, LookedAtSome};
+ghost use Rattle.lr_looks.specs.Sights.{Sight, Failed, Nothing, Saw, sight_of, fault_of, found_by, AreFoundOf, LookedAt, LookedAtSome};
 
 use crate::found::Found;
 use crate::log::Asked;
@@ -70,7 +70,8 @@ fn look_at_word<H: Host>(
 ) -> Result<(), Memory>
     ensures told { OnOk result (Left (LookedAt (log_in asked ∷ []) faults.old.items faults.new.items (all_found_in found.old.items) (all_found_in found.new.items)) (H.told host.old) (H.told host.new)) }
     ensures some { OnErr result (Left (LookedAtSome (log_in asked ∷ [])) (H.told host.old) (H.told host.new)) }
-    ensures calls { OnOk result (AddsCalls faults.old.items faults.new.items (H.counts host.old).faults (H.counts host.new).faults) }
+    ensures found { OnOk result ((s : Sight) × (all_found_in found.new.items ≡ all_found_in found.old.items ++ found_by (log_in asked) s)) }
+    ensures counted { OnOk result (AddsFaults faults.old.items faults.new.items (H.counts host.old) (H.counts host.new)) }
     ensures counts { Onward (H.counts host.old) (H.counts host.new) }
 {
     match host.look(asked.family.log(), false) {
@@ -89,7 +90,8 @@ pub fn look_at_words<H: Host>(
 ) -> Result<Vec<Found>, Memory>
     ensures told { IfOk result (λ found. Left (LookedAt (logs_in logs.items) faults.old.items faults.new.items [] (all_found_in found.items)) (H.told host.old) (H.told host.new)) }
     ensures some { OnErr result (Left (LookedAtSome (logs_in logs.items)) (H.told host.old) (H.told host.new)) }
-    ensures calls { OnOk result (AddsCalls faults.old.items faults.new.items (H.counts host.old).faults (H.counts host.new).faults) }
+    ensures found { IfOk result (λ found. AreFoundOf (logs_in logs.items) (all_found_in found.items)) }
+    ensures counted { OnOk result (AddsFaults faults.old.items faults.new.items (H.counts host.old) (H.counts host.new)) }
     ensures counts { Onward (H.counts host.old) (H.counts host.new) }
 {
     let mut found = Vec::new(alloc);

@@ -1,12 +1,23 @@
-use Rattle.lr_looks.specs.Families.{all_stood_in}
 use Rattle.lr_looks.specs.Found.{found_in}
-use Rattle.lr_looks.proofs.Behind.{stood_told, stop_told}
+use Rattle.lr_looks.proofs.Behind.{stood_told, stop_told, some_told, stop_counted, none_counted}
 use Rattle.lr_looks.proofs.families.look_at_family.Goals as goal
 
 pub returns-in-Ok-clause-told : goal.returns-in-Ok-clause-told
-returns-in-Ok-clause-told g c = stood_told c.add_stood.result c.args.listings.now.taken.items c.stand_at.new.listings.taken.items (found_in c.args.found) c.in-Ok.stand c.args.faults.now.items
-    (all_stood_in c.args.stood.now.items) (all_stood_in c.add_stood.new.stood.items) (c.in-Ok.ensures.told (λ e. absurd (cc e))) c.add_stood.ensures
+returns-in-Ok-clause-told g c = stood_told c.add_look.result c.args.listings.now.taken.items c.stand_at.new.listings.taken.items (found_in c.args.found) c.in-Ok.stand c.args.faults.now.items
+    c.args.sets.now.items c.add_look.new.sets.items (c.in-Ok.ensures.told (λ e. absurd (cc e))) c.add_look.ensures.looked
 
 pub returns-in-Err-clause-told : goal.returns-in-Err-clause-told
 returns-in-Err-clause-told g c = stop_told c.add_stop.result c.args.listings.now.taken.items c.stand_at.new.listings.taken.items (found_in c.args.found) c.in-Err.why c.args.faults.now.items c.add_stop.new.faults.items
-    (all_stood_in c.args.stood.now.items) (λ ne. c.in-Err.ensures.told (λ e. ne (cc e))) c.add_stop.ensures.known c.add_stop.ensures.faults
+    c.args.sets.now.items (λ ne. c.in-Err.ensures.told (λ e. ne (cc e))) c.add_stop.ensures.known c.add_stop.ensures.faults
+
+pub returns-in-Ok-clause-some : goal.returns-in-Ok-clause-some
+returns-in-Ok-clause-some g c = some_told c.add_look.result c.args.listings.now.taken.items (found_in c.args.found) _ c.in-Ok.ensures.part
+
+pub returns-in-Err-clause-some : goal.returns-in-Err-clause-some
+returns-in-Err-clause-some g c = some_told c.add_stop.result c.args.listings.now.taken.items (found_in c.args.found) _ c.in-Err.ensures.part
+
+pub returns-in-Ok-clause-counted : goal.returns-in-Ok-clause-counted
+returns-in-Ok-clause-counted g c = none_counted c.add_look.result c.args.faults.now.items _ _ c.in-Ok.ensures.counts.0
+
+pub returns-in-Err-clause-counted : goal.returns-in-Err-clause-counted
+returns-in-Err-clause-counted g c = stop_counted c.add_stop.result c.in-Err.why c.args.faults.now.items c.add_stop.new.faults.items _ _ c.in-Err.ensures.cause c.in-Err.ensures.counts.0 c.add_stop.ensures.faults

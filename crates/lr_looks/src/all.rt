@@ -1,0 +1,39 @@
+// All looks of a run.
+ghost use Rattle.std.specs.Prelude.{◌≡◌, OnErr, IfOk, length};
+ghost use Rattle.lr_host.specs.Told.{Left, Onward};
+ghost use Rattle.lr_looks.specs.Asked.{CanAskAll};
+ghost use Rattle.lr_plan.specs.Counted.{AddsFaults};
+ghost use Rattle.lr_looks.specs.Internal.{AreReady};
+ghost use Rattle.lr_looks.specs.Shown.{LooksAtAll, ShowsSomeLooks};
+
+use crate::asking::asked;
+use crate::families::look_at_families;
+use crate::keeping::keep;
+use crate::words::look_at_words;
+use lr_host::Host;
+use lr_plan::Looks;
+use lr_rules::{Fault, Memory, Rules};
+use std::alloc::Global;
+
+/// Looks at the logs that the rules ask for, and at the families of those that are kept: for each definition its logs that
+/// were looked at whole. The faults of the others are added: those of the words, of the choice, of the kinds and of the
+/// families, in this order.
+pub fn look_all<H: Host>(
+    alloc: Global,
+    host: &mut H,
+    rules: &Rules,
+    faults: &mut Vec<Fault>,
+) -> Result<Looks, Memory>
+    requires { CanAskAll rules.now.sets }
+    ensures told { IfOk result (λ looks. Left (LooksAtAll rules.now.sets looks.sets faults.old.items faults.new.items) (H.told host.old) (H.told host.new)) }
+    ensures some { OnErr result (Left (ShowsSomeLooks rules.now.sets) (H.told host.old) (H.told host.new)) }
+    ensures many { IfOk result (λ looks. length looks.sets ≡ length rules.now.sets) }
+    ensures ready { IfOk result (λ looks. AreReady looks.sets) }
+    ensures counted { IfOk result (λ looks. AddsFaults faults.old.items faults.new.items (H.counts host.old) (H.counts host.new)) }
+    ensures counts { Onward (H.counts host.old) (H.counts host.new) }
+{
+    let logs = asked(alloc, rules)?;
+    let found = look_at_words(alloc, host, logs, faults)?;
+    let kept = keep(alloc, found, faults)?;
+    look_at_families(alloc, host, kept, rules.sets.len(), faults)
+}
