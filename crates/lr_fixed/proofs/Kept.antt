@@ -1,0 +1,69 @@
+-- Which logs are kept is fixed by the paths and the names of those that were found.
+use Rattle.std.proofs.Common.{◌≡◌, ℕ, zero, suc, List, [], ◌∷◌, length, map, Some, slice_get, refl, sym, ap, ◌∙◌, subst}
+use Rattle.std.specs.Borrow.{Bor}
+use Rattle.std.proofs.lemmas.List.{length-map}
+use Rattle.std.proofs.lemmas.Option.{same_Some}
+use Rattle.lr_rules.specs.declared.path.Path.{Path}
+use Rattle.lr_rules.specs.declared.rule.Naming.{Naming}
+use Rattle.lr_rules.specs.Names.{Meet}
+use Rattle.lr_family.specs.declared.family.Family.{Family}
+use Rattle.lr_kept.specs.declared.choice.Choice.{Choice}
+use Rattle.lr_kept.specs.declared.choice.Choice.TheVariants.{Kept, Again, Meets}
+use Rattle.lr_kept.specs.Chosen.{Both, HaveOnePath, MeetAt, IsNew, IsChoice, AreChosen}
+use Rattle.lr_kept.proofs.Fixed.{one_choice}
+use Rattle.lr_looks.specs.Choices.{names_of, IsChoiceAmong}
+use Rattle.lr_looks.specs.Found.{FoundLog}
+
+-- the path of a log, and the names of its members
+abbrev Named : Type 0
+Named = Path × Naming
+
+-- the first are one
+head_of : (x y : Named) (xs ys : List Named) → x ∷ xs ≡ y ∷ ys → x ≡ y
+head_of x y xs ys e = cc
+
+-- and the others the same
+tail_of : (x y : Named) (xs ys : List Named) → x ∷ xs ≡ y ∷ ys → xs ≡ ys
+tail_of x y xs ys e = cc
+
+-- at each place stands one with the same path and names
+read_alike : (logs more : List (Bor Family)) → map names_of logs ≡ map names_of more → (k : ℕ) (x : Bor Family) → slice_get logs k ≡ Some x → (y : Bor Family) × (slice_get more k ≡ Some y) × (names_of x ≡ names_of y)
+read_alike [] more e k x h = absurd (cc h)
+read_alike (z ∷ zs) [] e k x h = absurd (cc e)
+read_alike (z ∷ zs) (y ∷ ys) e zero x h = (y, refl, ap names_of (sym (same_Some z x h)) ∙ head_of (names_of z) (names_of y) (map names_of zs) (map names_of ys) e)
+read_alike (z ∷ zs) (y ∷ ys) e (suc k) x h = read_alike zs ys (tail_of (names_of z) (names_of y) (map names_of zs) (map names_of ys) e) k x h
+
+module _ (logs more : List (Bor Family)) (e : map names_of logs ≡ map names_of more) where
+  -- what holds of the paths and names at two places does so in both
+  both_to : (Q : Named → Named → Type 0) (i k : ℕ) → Both (λ f g. Q (f.log, f.naming) (g.log, g.naming)) logs i k → Both (λ f g. Q (f.log, f.naming) (g.log, g.naming)) more i k
+  both_to Q i k b =
+      let x = read_alike logs more e i b.one b.at_one in
+      let y = read_alike logs more e k b.other b.at_other in
+      record { one = x.0; other = y.0; at_one = x.1; at_other = y.1; holds = subst (λ v. Q v (names_of y.0)) x.2 (subst (Q (names_of b.one)) y.2 b.holds) }
+
+  -- so does it that they have one path
+  path_to : (i k : ℕ) → HaveOnePath logs i k → HaveOnePath more i k
+  path_to i k b = both_to (λ v w. v.0 ≡ w.0) i k b
+
+  -- and that they meet
+  meet_to : (i k : ℕ) → MeetAt logs i k → MeetAt more i k
+  meet_to i k b = both_to (λ v w. Meet v.0 v.1 w.0 w.1) i k b
+
+module _ (logs more : List (Bor Family)) (e : map names_of logs ≡ map names_of more) (choices : List Choice) where
+  -- a path that wasn't found before
+  new_to : (k : ℕ) → IsNew logs k → IsNew more k
+  new_to k h i lt b = h i lt (path_to more logs (sym e) i k b)
+
+  -- a choice
+  choice_to : (k : ℕ) (c : Choice) → IsChoice logs choices k c → IsChoice more choices k c
+  choice_to k Kept h = record { new = new_to k h.new; apart = λ j lt kept b. h.apart j lt kept (meet_to more logs (sym e) j k b) }
+  choice_to k (Again i) h = record { before = h.before; same = path_to logs more e i k h.same; first = λ j lt b. h.first j lt (path_to more logs (sym e) j k b) }
+  choice_to k (Meets i) h = record { new = new_to k h.new; before = h.before; kept = h.kept; meet = meet_to logs more e i k h.meet; first = λ j lt kept b. h.first j lt kept (meet_to more logs (sym e) j k b) }
+
+  -- the choices are those for any logs with the same paths and names
+  chosen_to : AreChosen logs choices → AreChosen more choices
+  chosen_to h = record { as_many = h.as_many ∙ (sym (length-map logs names_of) ∙ (ap length e ∙ length-map more names_of)); each = λ k c at. choice_to k c (h.each k c at) }
+
+-- there is one choice among the logs that were found
+pub choices_one : (found : List FoundLog) (choices others : List Choice) → IsChoiceAmong found choices → IsChoiceAmong found others → choices ≡ others
+choices_one found choices others h g = one_choice g.logs choices others (chosen_to h.logs g.logs (h.same ∙ sym g.same) choices h.chosen) g.chosen

@@ -1,0 +1,9 @@
+mod Ordered
+mod Spots
+mod Peeled
+mod Members
+mod Listings
+mod Families
+mod Words
+mod Kept
+mod Whole

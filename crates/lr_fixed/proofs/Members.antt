@@ -1,0 +1,123 @@
+-- The looks at the members among names show one thing alone.
+use Rattle.std.proofs.Common.{◌≡◌, ℕ, List, [], ◌∷◌, ◌++◌, map, Option, refl, sym, ap, ◌∙◌, subst, append_assoc}
+use Rattle.std.specs.Prelude.{flat_map}
+use Rattle.std.specs.List.Sorted.{IsPermutation}
+use Rattle.std.proofs.lemmas.List.Elements.{All-head, All-tail}
+use Rattle.lr_rules.specs.declared.path.Path.{Path}
+use Rattle.lr_rules.specs.declared.rule.Naming.{Naming}
+use Rattle.lr_host.specs.declared.thing.Seen.{Seen}
+use Rattle.lr_host.specs.declared.entry.Entry.{Entry}
+use Rattle.lr_host.specs.declared.entry.Entry.TheVariants as entry
+use Rattle.lr_host.specs.Looks.{Sees, IsNoFile, IsFileOrGone}
+use Rattle.lr_family.specs.declared.spot.Spot.{Spot}
+use Rattle.lr_family.specs.declared.stand.Member.{Member}
+use Rattle.lr_family.specs.declared.stand.StandStop.TheVariants as stop
+use Rattle.lr_family.specs.Among.{StandsAmong, StopsAmong}
+use Rattle.lr_family.specs.Looks.{Sight, look_of, member_of, AreFilesOrGone, ShowsTo}
+use Rattle.lr_fixed.proofs.Peeled.{front_same, first_same, others_same, saw_same, file_or_not}
+use Rattle.lr_fixed.proofs.Spots.{spots_fixed, members_fixed}
+
+-- the spots that were looked at
+abbrev spots_of : List Sight → List Spot
+spots_of sights = map (λ (s : Sight). s.spot) sights
+
+-- ---- looks at the same spots
+
+-- one spot, and one thing seen
+sight_same : (a b : Sight) → a.spot ≡ b.spot → a.seen ≡ b.seen → a ≡ b
+sight_same a b p q = ap {B = Sight} (λ (s : Spot). record { spot = s; seen = a.seen }) p ∙ ap {B = Sight} (λ (s : Option Seen). record { spot = b.spot; seen = s }) q
+
+-- the first spots are one
+head_spot : (x y : Spot) (xs ys : List Spot) → x ∷ xs ≡ y ∷ ys → x ≡ y
+head_spot x y xs ys e = cc
+
+-- and the others the same
+tail_spots : (x y : Spot) (xs ys : List Spot) → x ∷ xs ≡ y ∷ ys → xs ≡ ys
+tail_spots x y xs ys e = cc
+
+-- looks at the same spots, at the front of the same entries, are the same
+same_sights : (as' bs : List Sight) (vs ws : List Entry) → spots_of as' ≡ spots_of bs → map look_of as' ++ vs ≡ map look_of bs ++ ws → (as' ≡ bs) × (vs ≡ ws)
+same_sights [] [] vs ws p e = (refl, e)
+same_sights [] (b ∷ bs) vs ws p e = absurd (cc p)
+same_sights (a ∷ as') [] vs ws p e = absurd (cc p)
+same_sights (a ∷ as') (b ∷ bs) vs ws p e =
+    let one = sight_same a b (head_spot a.spot b.spot (spots_of as') (spots_of bs) p) (saw_same a.spot.path b.spot.path a.seen b.seen (first_same (look_of a) (look_of b) (map look_of as' ++ vs) (map look_of bs ++ ws) e)) in
+    let r = same_sights as' bs vs ws (tail_spots a.spot b.spot (spots_of as') (spots_of bs) p) (others_same (look_of a) (look_of b) (map look_of as' ++ vs) (map look_of bs ++ ws) e) in
+    (ap (λ s. s ∷ as') one ∙ ap (λ ss. b ∷ ss) r.0, r.1)
+
+-- the first of them is a file, or gone
+files_first : (a : Sight) (as' : List Sight) → AreFilesOrGone (a ∷ as') → IsFileOrGone a.seen
+files_first a as' h = All-head (λ (s : Sight). IsFileOrGone s.seen) a as' h
+
+-- and so are the others
+files_rest : (a : Sight) (as' : List Sight) → AreFilesOrGone (a ∷ as') → AreFilesOrGone as'
+files_rest a as' h = All-tail (λ (s : Sight). IsFileOrGone s.seen) a as' h
+
+-- the first that is no file is one
+same_stop : (as' bs : List Sight) (x y : Spot) (cs ds : List Spot) (s t : Option Seen) (vs ws : List Entry) → spots_of as' ++ x ∷ cs ≡ spots_of bs ++ y ∷ ds → AreFilesOrGone as' → AreFilesOrGone bs → IsNoFile s → IsNoFile t
+    → map look_of as' ++ entry.Look x.path s ∷ vs ≡ map look_of bs ++ entry.Look y.path t ∷ ws → (as' ≡ bs) × (x ≡ y) × (s ≡ t) × (vs ≡ ws)
+same_stop [] [] x y cs ds s t vs ws p f g h k e = (refl, head_spot x y cs ds p, saw_same x.path y.path s t (first_same (entry.Look x.path s) (entry.Look y.path t) vs ws e), others_same (entry.Look x.path s) (entry.Look y.path t) vs ws e)
+same_stop [] (b ∷ bs) x y cs ds s t vs ws p f g h k e = absurd (file_or_not b.seen s (files_first b bs g) h (sym (saw_same x.path b.spot.path s b.seen (first_same (entry.Look x.path s) (look_of b) vs (map look_of bs ++ entry.Look y.path t ∷ ws) e))))
+same_stop (a ∷ as') [] x y cs ds s t vs ws p f g h k e = absurd (file_or_not a.seen t (files_first a as' f) k (saw_same a.spot.path y.path a.seen t (first_same (look_of a) (entry.Look y.path t) (map look_of as' ++ entry.Look x.path s ∷ vs) ws e)))
+same_stop (a ∷ as') (b ∷ bs) x y cs ds s t vs ws p f g h k e =
+    let one = sight_same a b (head_spot a.spot b.spot (spots_of as' ++ x ∷ cs) (spots_of bs ++ y ∷ ds) p) (saw_same a.spot.path b.spot.path a.seen b.seen (first_same (look_of a) (look_of b) (map look_of as' ++ entry.Look x.path s ∷ vs) (map look_of bs ++ entry.Look y.path t ∷ ws) e)) in
+    let r = same_stop as' bs x y cs ds s t vs ws (tail_spots a.spot b.spot (spots_of as' ++ x ∷ cs) (spots_of bs ++ y ∷ ds) p) (files_rest a as' f) (files_rest b bs g) h k
+    (others_same (look_of a) (look_of b) (map look_of as' ++ entry.Look x.path s ∷ vs) (map look_of bs ++ entry.Look y.path t ∷ ws) e) in
+    (ap (λ q. q ∷ as') one ∙ ap (λ qs. b ∷ qs) r.0, r.1, r.2, r.3)
+
+-- where all are files or gone, none stops
+no_stop : (as' bs : List Sight) (y : Spot) (ds : List Spot) (t : Option Seen) (vs ws : List Entry) → spots_of as' ≡ spots_of bs ++ y ∷ ds → AreFilesOrGone as' → IsNoFile t → map look_of as' ++ vs ≡ map look_of bs ++ entry.Look y.path t ∷ ws → ⊥
+no_stop [] [] y ds t vs ws p f k e = cc p
+no_stop [] (b ∷ bs) y ds t vs ws p f k e = cc p
+no_stop (a ∷ as') [] y ds t vs ws p f k e = file_or_not a.seen t (files_first a as' f) k (saw_same a.spot.path y.path a.seen t (first_same (look_of a) (entry.Look y.path t) (map look_of as' ++ vs) ws e))
+no_stop (a ∷ as') (b ∷ bs) y ds t vs ws p f k e = no_stop as' bs y ds t vs ws (tail_spots a.spot b.spot (spots_of as') (spots_of bs ++ y ∷ ds) p) (files_rest a as' f) k (others_same (look_of a) (look_of b) (map look_of as' ++ vs) (map look_of bs ++ entry.Look y.path t ∷ ws) e)
+
+-- ---- members among names
+
+-- the looks up to the first that is no file, and what comes behind
+up_to : (spots : List Spot) (path : Path) (ts vs : List Entry) → (to : ShowsTo spots path (Sees path IsNoFile) ts) → ts ++ vs ≡ map look_of to.before ++ entry.Look path to.looks.second.seen ∷ vs
+up_to spots path ts vs to = ap (λ l. l ++ vs) to.looks.joined ∙ (append_assoc to.looks.front to.looks.back vs ∙ (ap (λ l. l ++ (to.looks.back ++ vs)) to.looks.first ∙ ap (λ l. map look_of to.before ++ (l ++ vs)) to.looks.second.look))
+
+-- the looks up to it are the whole
+whole_to : (spots : List Spot) (path : Path) (ts : List Entry) → (to : ShowsTo spots path (Sees path IsNoFile) ts) → ts ≡ map look_of to.before ++ entry.Look path to.looks.second.seen ∷ []
+whole_to spots path ts to = to.looks.joined ∙ (ap (λ l. l ++ to.looks.back) to.looks.first ∙ ap (λ l. map look_of to.before ++ l) to.looks.second.look)
+
+module _ (n : Naming) (names more : List (List ℕ)) (perm : IsPermutation names more) where
+  -- the same members stand
+  pub stands_same : (members others : List Member) (ts us vs ws : List Entry) → StandsAmong n names members ts → StandsAmong n more others us → ts ++ vs ≡ us ++ ws → (members ≡ others) × (ts ≡ us) × (vs ≡ ws)
+  stands_same members others ts us vs ws h g e = (
+    members_fixed n names h.spots h.looks.sights members others h.spots_are h.looks.each
+        (subst (λ l. IsPermutation l members) h.looks.members_are h.each) h.newest_first
+        (subst (λ l. IsPermutation l others) (g.looks.members_are ∙ ap (flat_map member_of) (sym r.0)) g.each) g.newest_first,
+    h.looks.looks ∙ (ap (map look_of) r.0 ∙ sym g.looks.looks),
+    r.1,
+  )
+    where
+      r : (h.looks.sights ≡ g.looks.sights) × (vs ≡ ws)
+      r = same_sights h.looks.sights g.looks.sights vs ws (h.looks.each ∙ (spots_fixed n names more h.spots g.spots perm h.spots_are g.spots_are ∙ sym g.looks.each)) (front_same ts us (map look_of h.looks.sights) (map look_of g.looks.sights) vs ws h.looks.looks g.looks.looks e)
+
+  -- the same member is no file
+  pub stops_same : (path other : Path) (ts us vs ws : List Entry) → StopsAmong n names (stop.NotFile path) ts → StopsAmong n more (stop.NotFile other) us → ts ++ vs ≡ us ++ ws → (path ≡ other) × (ts ≡ us) × (vs ≡ ws)
+  stops_same path other ts us vs ws h g e = (
+    ap (λ (s : Spot). s.path) r.1,
+    whole_to h.spots path ts h.looks ∙ (ap (λ l. map look_of l ++ entry.Look path h.looks.looks.second.seen ∷ []) r.0
+        ∙ (ap (λ (s : Spot). map look_of g.looks.before ++ entry.Look s.path h.looks.looks.second.seen ∷ []) r.1
+        ∙ (ap (λ o. map look_of g.looks.before ++ entry.Look other o ∷ []) r.2 ∙ sym (whole_to g.spots other us g.looks)))),
+    r.3,
+  )
+    where
+      x : Spot
+      x = record { place = h.looks.place; path = path }
+
+      y : Spot
+      y = record { place = g.looks.place; path = other }
+
+      r : (h.looks.before ≡ g.looks.before) × (x ≡ y) × (h.looks.looks.second.seen ≡ g.looks.looks.second.seen) × (vs ≡ ws)
+      r = same_stop h.looks.before g.looks.before x y h.looks.after g.looks.after h.looks.looks.second.seen g.looks.looks.second.seen vs ws (sym h.looks.each ∙ (spots_fixed n names more h.spots g.spots perm h.spots_are g.spots_are ∙ g.looks.each)) h.looks.files g.looks.files h.looks.looks.second.is g.looks.looks.second.is
+          (sym (up_to h.spots path ts vs h.looks) ∙ (e ∙ up_to g.spots other us ws g.looks))
+
+  -- not both
+  pub stands_or_stops : (members : List Member) (path : Path) (ts us vs ws : List Entry) → StandsAmong n names members ts → StopsAmong n more (stop.NotFile path) us → ts ++ vs ≡ us ++ ws → ⊥
+  stands_or_stops members path ts us vs ws h g e = no_stop h.looks.sights g.looks.before (record { place = g.looks.place; path = path }) g.looks.after g.looks.looks.second.seen vs ws
+      (h.looks.each ∙ (spots_fixed n names more h.spots g.spots perm h.spots_are g.spots_are ∙ g.looks.each)) h.looks.files g.looks.looks.second.is
+      (sym (ap (λ l. l ++ vs) h.looks.looks) ∙ (e ∙ up_to g.spots path us ws g.looks))
