@@ -19,7 +19,7 @@ use Rattle.lr_weave.proofs.Parting.{done_turns}
 use Rattle.lr_rotations.proofs.Weaving.{weave_as}
 use Rattle.lr_weave.proofs.Whole.{done_whole, one_joined}
 
-pub done_turned : (state : Path) (rules : Rules) (looks : List Entry) (targets : List Target) (sets : List SetPlan) (t : List Mark) (ts : List Entry) → AreQuiet looks → AreSeen rules looks targets → ArePlanned targets (map steps_of_set sets)
+abbrev pub done_turned : (state : Path) (rules : Rules) (looks : List Entry) (targets : List Target) (sets : List SetPlan) (t : List Mark) (ts : List Entry) → AreQuiet looks → AreSeen rules looks targets → ArePlanned targets (map steps_of_set sets)
     → SetsDone (map steps_of_set sets) t [] ts → AllTurned state rules (looks ++ ts)
 done_turned state rules looks targets sets t ts quiet seen planned d = record {
   turns = done_turns state rules looks targets (map steps_of_set sets) t [] ts quiet seen planned d;

@@ -1,0 +1,193 @@
+-- What the looks showed of a family, whose directory may have been listed for another log before.
+use Rattle.std.proofs.Common.{◌≡◌, inl, inr, ⊎_elim, ℕ, ◌+◌, true, List, [], ◌∷◌, Option, Some, None, refl, sym, ◌∙◌, subst}
+use Rattle.std.specs.List.Sorted.{IsPermutation}
+use Rattle.std.proofs.lemmas.List.Sorted.{Contains-permutation, IsPermutation-sym}
+use Rattle.lr_rules.specs.declared.path.Path.{Path}
+use Rattle.lr_rules.specs.declared.rule.Naming.{Naming}
+use Rattle.lr_host.specs.declared.thing.Kind.TheVariants as kind
+use Rattle.lr_host.specs.declared.thing.Seen.{Seen}
+use Rattle.lr_host.specs.declared.entry.Entry.{Entry}
+use Rattle.lr_host.specs.declared.entry.Entry.TheVariants as entry
+use Rattle.lr_host.specs.Lists.{IsIn}
+use Rattle.lr_host.specs.Looks.{Sees, IsDir}
+use Rattle.lr_host.specs.Told.{Then}
+use Rattle.lr_host.proofs.Lists.{in_front, in_back, in_append}
+use Rattle.lr_family.specs.declared.listing.Listing.{Listing}
+use Rattle.lr_family.specs.declared.spot.Spot.{Spot}
+use Rattle.lr_family.specs.declared.stand.Stand.{Stand}
+use Rattle.lr_family.specs.Among.{StandsAmong, ShowsMembers, ShowsIn}
+use Rattle.lr_family.specs.Listed.{HasListed, ShowsListing}
+use Rattle.lr_family.specs.Named.{member_name}
+use Rattle.lr_family.specs.Spots.{AreSpots}
+use Rattle.lr_family.specs.Stands.{ShowsAs}
+use Rattle.lr_chain.specs.Rotation.{places_of}
+use Rattle.lr_looks.specs.Families.{FamilySight, Stood, Stopped, ShowsFamily, behind_listing, with_listing, not_listed, ShowFamilies, LookedLog, looked_by, looked_of}
+use Rattle.lr_looks.specs.Found.{FoundLog}
+use Rattle.lr_rotations.specs.Shown.{Shown}
+use Rattle.lr_rotations.proofs.Shown.{shown}
+use Rattle.lr_seen.proofs.Elements.{in_list}
+
+-- ---- listings
+
+-- The directory of the listing was seen, and listed with these names in some order, among all entries.
+record IsTold (all : List Entry) (l : Listing) : Type 0 where
+  parent : l.parent ≡ true
+  seen : Seen
+  is_dir : seen.kind ≡ kind.Dir
+  look : IsIn (entry.Look l.dir (Some seen)) all
+  names : List (List ℕ)
+  same : IsPermutation names l.names
+  list : IsIn (entry.List l.dir names) all
+
+-- so was each of the listings whose directory is there
+abbrev AreTold : List Entry → List Listing → Type 0
+AreTold all known = (l : Listing) → IsIn l known → l.there ≡ true → IsTold all l
+
+dir_seen : (x : Path) (ts : List Entry) → Sees x IsDir ts → (seen : Seen) × (seen.kind ≡ kind.Dir) × IsIn (entry.Look x (Some seen)) ts
+dir_seen x ts s = go s.seen s.is s.look
+  where
+    go : (o : Option Seen) → IsDir o → ts ≡ entry.Look x o ∷ [] → (seen : Seen) × (seen.kind ≡ kind.Dir) × IsIn (entry.Look x (Some seen)) ts
+    go None d e = absurd d
+    go (Some seen) d e = (seen, d, subst (IsIn (entry.Look x (Some seen))) (sym e) (inl refl))
+
+-- a listing that was taken now was told
+told_listing : (all ts : List Entry) (l : Listing) (dir : Path) → l.dir ≡ dir → ((e : Entry) → IsIn e ts → IsIn e all) → ShowsListing dir l.there l.parent l.names ts → l.there ≡ true → IsTold all l
+told_listing all ts l dir same in_all h there = go (subst (λ b. ShowsListing dir b l.parent l.names ts) there h)
+  where
+    go : (l.parent ≡ true) × Then (Sees dir IsDir) (HasListed dir l.names) ts → IsTold all l
+    go t =
+        let d = dir_seen dir t.1.front t.1.first in
+        let names = t.1.second.listed in
+        record {
+          parent = t.0;
+          seen = d.0;
+          is_dir = d.1;
+          look = subst (λ (x : Path). IsIn (entry.Look x (Some d.0)) all) (sym same) (in_all (entry.Look dir (Some d.0)) (subst (IsIn (entry.Look dir (Some d.0))) (sym t.1.joined) (in_front (entry.Look dir (Some d.0)) t.1.front t.1.back d.2)));
+          names = names;
+          same = t.1.second.same;
+          list = subst (λ (x : Path). IsIn (entry.List x names) all) (sym same) (in_all (entry.List dir names) (subst (IsIn (entry.List dir names)) (sym t.1.joined) (in_back (entry.List dir names) t.1.front t.1.back (subst (IsIn (entry.List dir names)) (sym t.1.second.list) (inl refl)))));
+        }
+
+-- those that are known behind a family were told, as those before it were
+told_next : (all : List Entry) (known : List Listing) (n : Naming) (after : List Listing) (s : FamilySight) (ts : List Entry) → ((e : Entry) → IsIn e ts → IsIn e all) → AreTold all known → ShowsFamily known n after s ts → AreTold all after
+told_next all known n after s ts in_all told (behind_listing l was same m) = subst (AreTold all) (sym same) told
+told_next all known n after s ts in_all told (with_listing l new e same t) = subst (AreTold all) (sym same) (λ k i there. ⊎_elim
+    (λ a. told k a there)
+    (λ b. ⊎_elim (λ is. subst (λ (x : Listing). x.there ≡ true → IsTold all x) is (told_listing all t.front l n.dir e (λ x j. in_all x (subst (IsIn x) (sym t.joined) (in_front x t.front t.back j))) t.first) there) (λ none. absurd none) b)
+    (in_append k known (l ∷ []) i))
+told_next all known n after s ts in_all told (not_listed why new same e h) = subst (AreTold all) (sym same) told
+
+-- ---- members
+
+-- the members among names are those among the same names in another order
+spots_as : (n : Naming) (names listed : List (List ℕ)) (spots : List Spot) → IsPermutation listed names → AreSpots n names spots → AreSpots n listed spots
+spots_as n names listed spots same s = record {
+  places = s.places;
+  once = s.once;
+  all = λ place. (
+    λ c. let r = (s.all place).0 c in (r.0, Contains-permutation names listed (member_name n (n.start + place)) (IsPermutation-sym listed names same) r.1),
+    λ r. (s.all place).1 (r.0, Contains-permutation listed names (member_name n (n.start + place)) same r.1),
+  );
+  each = s.each;
+  rising = s.rising;
+}
+
+-- what some entries show, all show
+shown_more : (n : Naming) (places : List ℕ) (ts all : List Entry) → ((e : Entry) → IsIn e ts → IsIn e all) → Shown n places ts → Shown n places all
+shown_more n places ts all more s = record {
+  dir = (s.dir.0, s.dir.1, more _ s.dir.2);
+  names = s.names;
+  list = more _ s.list;
+  falling = s.falling;
+  named = s.named;
+  files = λ place c. let f = s.files place c in (f.0, f.1, more _ f.2);
+  others = λ place h out. ⊎_elim (λ a. inl a) (λ b. inr (more _ b)) (s.others place h out);
+}
+
+-- looks at the members, behind a listing that was told anywhere among all entries
+members_shown : (all : List Entry) (n : Naming) (l : Listing) (stand : Stand) (ts : List Entry) → ((e : Entry) → IsIn e ts → IsIn e all) → AreTold all (l ∷ []) → l.dir ≡ n.dir → stand.there ≡ true
+    → ShowsIn n l.there l.parent l.names stand ts → Shown n (places_of stand.members) all
+members_shown all n l stand ts in_all told dir there h = shown_more n (places_of stand.members) us all more (shown n stand us there (subst (λ b. ShowsAs n b stand.parent stand.members us) (sym there) stands))
+  where
+    listed : l.there ≡ true
+    listed = sym h.0 ∙ there
+
+    t : IsTold all l
+    t = told l (inl refl) listed
+
+    s : StandsAmong n l.names stand.members ts
+    s = subst (λ b. ShowsMembers n b l.names stand.members ts) listed h.2
+
+    us : List Entry
+    us = entry.Look n.dir (Some t.seen) ∷ entry.List n.dir t.names ∷ ts
+
+    more : (e : Entry) → IsIn e us → IsIn e all
+    more e (inl is) = subst (λ (x : Entry). IsIn x all) is (subst (λ (x : Path). IsIn (entry.Look x (Some t.seen)) all) dir t.look)
+    more e (inr (inl is)) = subst (λ (x : Entry). IsIn x all) is (subst (λ (x : Path). IsIn (entry.List x t.names) all) dir t.list)
+    more e (inr (inr i)) = in_all e i
+
+    stands : ShowsAs n true stand.parent stand.members us
+    stands = (
+      h.1 ∙ t.parent,
+      record {
+        front = entry.Look n.dir (Some t.seen) ∷ [];
+        back = entry.List n.dir t.names ∷ ts;
+        joined = refl;
+        first = record { seen = Some t.seen; is = t.is_dir; look = refl };
+        second = record {
+          spots = s.spots;
+          shown = s.shown;
+          each = s.each;
+          newest_first = s.newest_first;
+          looks = record {
+            front = entry.List n.dir t.names ∷ [];
+            back = ts;
+            joined = refl;
+            first = record { names = t.names; spots_are = spots_as n l.names t.names s.spots t.same s.spots_are; list = refl };
+            second = s.looks;
+          };
+        };
+      },
+    )
+
+-- ---- families
+
+-- a family, whether its directory was listed before or is listed now
+family_shown : (all : List Entry) (known : List Listing) (n : Naming) (after : List Listing) (stand : Stand) (s : FamilySight) (ts : List Entry) → s ≡ Stood stand → ((e : Entry) → IsIn e ts → IsIn e all) → AreTold all known → AreTold all after → stand.there ≡ true
+    → ShowsFamily known n after s ts → Shown n (places_of stand.members) all
+family_shown all known n after stand s ts is in_all told next there f = go (subst (λ (x : FamilySight). ShowsFamily known n after x ts) is f)
+  where
+    alone : (ls : List Listing) (l : Listing) → AreTold all ls → IsIn l ls → AreTold all (l ∷ [])
+    alone ls l told i k (inl e) b = subst (λ (x : Listing). x.there ≡ true → IsTold all x) e (told l i) b
+    alone ls l told i k (inr none) b = absurd none
+
+    go : ShowsFamily known n after (Stood stand) ts → Shown n (places_of stand.members) all
+    go (behind_listing l was same m) = members_shown all n l stand ts in_all (alone known l told (in_list known was.place l was.there)) was.same there m
+    go (with_listing l new e same t) = members_shown all n l stand t.back (λ x i. in_all x (subst (IsIn x) (sym t.joined) (in_back x t.front t.back i))) (alone after l next (subst (IsIn l) (sym same) (in_back l known (l ∷ []) (inl refl)))) e there t.second
+    go (not_listed why new same e h) = absurd (cc)
+
+-- of each log that was looked at whole, and whose directory is there
+families_shown : (all : List Entry) (known : List Listing) (fs : List FoundLog) (after : List Listing) (ss : List FamilySight) (ts : List Entry) → ((e : Entry) → IsIn e ts → IsIn e all) → AreTold all known → ShowFamilies known fs after ss ts
+    → (x : LookedLog) → IsIn x (looked_of fs ss) → x.stand.there ≡ true → Shown x.naming (places_of x.stand.members) all
+families_shown all known [] after [] ts in_all told h x i there = absurd i
+families_shown all known [] after (s ∷ ss) ts in_all told h x i there = absurd i
+families_shown all known (f ∷ fs) after [] ts in_all told h x i there = absurd i
+families_shown all known (f ∷ fs) after (s ∷ ss) ts in_all told h x i there = ⊎_elim
+    (λ a. own s refl a)
+    (λ b. families_shown all h.0 fs after ss h.1.back (λ e j. in_all e (subst (IsIn e) (sym h.1.joined) (in_back e h.1.front h.1.back j))) next h.1.second x b there)
+    (in_append x (looked_by f s) (looked_of fs ss) i)
+  where
+    in_front_all : (e : Entry) → IsIn e h.1.front → IsIn e all
+    in_front_all e j = in_all e (subst (IsIn e) (sym h.1.joined) (in_front e h.1.front h.1.back j))
+
+    next : AreTold all h.0
+    next = told_next all known f.log.naming h.0 s h.1.front in_front_all told h.1.first
+
+    own : (r : FamilySight) → s ≡ r → IsIn x (looked_by f r) → Shown x.naming (places_of x.stand.members) all
+    own (Stood stand) is (inl e) = subst (λ (y : LookedLog). y.stand.there ≡ true → Shown y.naming (places_of y.stand.members) all) e (λ b. family_shown all known f.log.naming h.0 stand s h.1.front is in_front_all told next b h.1.first) there
+    own (Stood stand) is (inr none) = absurd none
+    own (Stopped why) is none = absurd none
+
+pub all_shown : (all : List Entry) (fs : List FoundLog) (after : List Listing) (ss : List FamilySight) (ts : List Entry) → ((e : Entry) → IsIn e ts → IsIn e all) → ShowFamilies [] fs after ss ts
+    → (x : LookedLog) → IsIn x (looked_of fs ss) → x.stand.there ≡ true → Shown x.naming (places_of x.stand.members) all
+all_shown all fs after ss ts in_all h = families_shown all [] fs after ss ts in_all (λ l i. absurd i) h

@@ -1,0 +1,108 @@
+-- The plan has the logs of the targets, each ready, and programs that read no file.
+use Rattle.std.proofs.Common.{ℕ, Bool, true, false, not, List, [], ◌∷◌, ◌++◌, Option, Some, None, refl}
+use Rattle.lr_rules.specs.declared.fault.Fault.{Fault}
+use Rattle.lr_rules.specs.declared.rule.Rule.{Rule}
+use Rattle.lr_due.specs.declared.answer.Due.{Due}
+use Rattle.lr_due.specs.declared.answer.Due.TheVariants as due
+use Rattle.lr_scripts.specs.declared.command.Command.{Command}
+use Rattle.lr_family.specs.Spots.{path_at}
+use Rattle.lr_host.specs.declared.entry.Entry.{Entry}
+use Rattle.lr_plan.specs.declared.looks.LogLook.{LogLook}
+use Rattle.lr_plan.specs.declared.looks.SetLooks.{SetLooks}
+use Rattle.lr_plan.specs.declared.planned.LogPlan.{LogPlan}
+use Rattle.lr_plan.specs.Planned.{spaced, script, where_so, hindrances, log_plan, none_hinders, plans_of, where_due, log_plans, all_plans}
+use Rattle.lr_looks.specs.Shown.{ShowsLooks}
+use Rattle.lr_rotations.specs.Target.{Target}
+use Rattle.lr_weave.specs.Fitting.{ReadsNothing, AsksNothing, AskNothing, ReadNoFiles}
+use Rattle.lr_weave.specs.Planned.{IsReadyFor, AreReadyFor, HaveLogs}
+use Rattle.lr_seen.specs.Built.{AreBuiltRules}
+use Rattle.lr_seen.specs.Targets.{target_of, where_free, targets_of, groups_of}
+
+-- ---- programs
+
+reads_script : (text : Option (List ℕ)) (args : List (List ℕ)) → ReadsNothing (script text args)
+reads_script None args = tt
+reads_script (Some text) args = refl
+
+reads_where : (b : Bool) (o : Option Command) → ReadsNothing o → ReadsNothing (where_so b o)
+reads_where true o h = h
+reads_where false o h = tt
+
+asks : (rule : Rule) (look : LogLook) → AsksNothing (log_plan rule look)
+asks rule look = record {
+  pre = reads_where (not rule.shared) (script rule.scripts.pre (look.path ∷ [])) (reads_script rule.scripts.pre (look.path ∷ []));
+  post = reads_where (not rule.shared) (script rule.scripts.post (look.path ∷ path_at look.family.naming 0 ∷ [])) (reads_script rule.scripts.post (look.path ∷ path_at look.family.naming 0 ∷ []));
+  no_mail = refl;
+}
+
+ask_both : (xs ys : List LogPlan) → AskNothing xs → AskNothing ys → AskNothing (xs ++ ys)
+ask_both [] ys a b = b
+ask_both (x ∷ xs) ys a b = (a.0, ask_both xs ys a.1 b)
+
+ask_free : (fs : List Fault) (rule : Rule) (look : LogLook) → AskNothing (none_hinders fs (log_plan rule look ∷ []))
+ask_free [] rule look = (asks rule look, tt)
+ask_free (f ∷ fs) rule look = tt
+
+ask_where : (d : Due) (xs : List LogPlan) → AskNothing xs → AskNothing (where_due d xs)
+ask_where (due.Yes why) xs h = h
+ask_where (due.No why) xs h = tt
+
+ask_logs : (rule : Rule) (decide : LogLook → Due) (looks : List LogLook) → AskNothing (log_plans rule decide looks)
+ask_logs rule decide [] = tt
+ask_logs rule decide (look ∷ looks) = ask_both (where_due (decide look) (plans_of rule look)) (log_plans rule decide looks) (ask_where (decide look) (plans_of rule look) (ask_free (hindrances rule look) rule look)) (ask_logs rule decide looks)
+
+read_none : (rules : List Rule) (sets : List SetLooks) (decide : Rule → LogLook → Due) → ReadNoFiles (all_plans decide rules sets)
+read_none [] [] decide = tt
+read_none [] (set ∷ sets) decide = tt
+read_none (rule ∷ rules) [] decide = tt
+read_none (rule ∷ rules) (set ∷ sets) decide = (
+  record {
+    first = reads_script rule.scripts.first (spaced rule.words ∷ []);
+    pre = reads_where rule.shared (script rule.scripts.pre (spaced rule.words ∷ [])) (reads_script rule.scripts.pre (spaced rule.words ∷ []));
+    post = reads_where rule.shared (script rule.scripts.post (spaced rule.words ∷ [])) (reads_script rule.scripts.post (spaced rule.words ∷ []));
+    last = reads_script rule.scripts.last (spaced rule.words ∷ []);
+    logs = ask_logs rule (decide rule) set.logs;
+  },
+  read_none rules sets decide,
+)
+
+pub plans_read_none : (rules : List Rule) (sets : List SetLooks) (decide : Rule → LogLook → Due) → AreBuiltRules rules → ReadNoFiles (all_plans decide rules sets)
+plans_read_none rules sets decide built = read_none rules sets decide
+
+-- ---- rotations
+
+ready_log : (rule : Rule) (look : LogLook) → IsReadyFor (target_of rule look) (log_plan rule look)
+ready_log rule look = record {
+  ready = record { leftovers_are = refl; no_dir = refl; moves_are = refl; log_is = refl; target_is = refl; no_make = refl; retire_is = refl };
+  no_job = refl;
+}
+
+ready_both : (ts us : List Target) (xs ys : List LogPlan) → AreReadyFor ts xs → AreReadyFor us ys → AreReadyFor (ts ++ us) (xs ++ ys)
+ready_both [] us [] ys a b = b
+ready_both [] us (x ∷ xs) ys a b = absurd a
+ready_both (t ∷ ts) us [] ys a b = absurd a
+ready_both (t ∷ ts) us (x ∷ xs) ys a b = (a.0, ready_both ts us xs ys a.1 b)
+
+ready_free : (fs : List Fault) (rule : Rule) (look : LogLook) → AreReadyFor (where_free fs (target_of rule look)) (none_hinders fs (log_plan rule look ∷ []))
+ready_free [] rule look = (ready_log rule look, tt)
+ready_free (f ∷ fs) rule look = tt
+
+ready_where : (d : Due) (ts : List Target) (xs : List LogPlan) → AreReadyFor ts xs → AreReadyFor (where_due d ts) (where_due d xs)
+ready_where (due.Yes why) ts xs h = h
+ready_where (due.No why) ts xs h = tt
+
+ready_logs : (rule : Rule) (decide : LogLook → Due) (looks : List LogLook) → AreReadyFor (targets_of rule decide looks) (log_plans rule decide looks)
+ready_logs rule decide [] = tt
+ready_logs rule decide (look ∷ looks) =
+    ready_both (where_due (decide look) (where_free (hindrances rule look) (target_of rule look))) (targets_of rule decide looks) (where_due (decide look) (plans_of rule look)) (log_plans rule decide looks)
+    (ready_where (decide look) (where_free (hindrances rule look) (target_of rule look)) (plans_of rule look) (ready_free (hindrances rule look) rule look))
+    (ready_logs rule decide looks)
+
+have_logs : (rules : List Rule) (sets : List SetLooks) (decide : Rule → LogLook → Due) → HaveLogs (groups_of decide rules sets) (all_plans decide rules sets)
+have_logs [] [] decide = tt
+have_logs [] (set ∷ sets) decide = tt
+have_logs (rule ∷ rules) [] decide = tt
+have_logs (rule ∷ rules) (set ∷ sets) decide = (ready_logs rule (decide rule) set.logs, have_logs rules sets decide)
+
+pub plans_have_logs : (rules : List Rule) (sets : List SetLooks) (faults : List Fault) (ts : List Entry) (decide : Rule → LogLook → Due) → AreBuiltRules rules → ShowsLooks rules sets faults ts → HaveLogs (groups_of decide rules sets) (all_plans decide rules sets)
+plans_have_logs rules sets faults ts decide built shown = have_logs rules sets decide

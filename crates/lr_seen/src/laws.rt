@@ -1,0 +1,49 @@
+// What looks show of the logs of a plan.
+ghost use Rattle.std.specs.Prelude.{List};
+ghost use Rattle.lr_rules.specs.declared.fault.Fault.{Fault};
+ghost use Rattle.lr_rules.specs.declared.rule.Rule.{Rule};
+ghost use Rattle.lr_rules.specs.declared.rules.Rules.{Rules};
+ghost use Rattle.lr_due.specs.declared.answer.Due.{Due};
+ghost use Rattle.lr_host.specs.declared.entry.Entry.{Entry};
+ghost use Rattle.lr_host.specs.Quiet.{AreQuiet};
+ghost use Rattle.lr_plan.specs.declared.looks.LogLook.{LogLook};
+ghost use Rattle.lr_plan.specs.declared.looks.SetLooks.{SetLooks};
+ghost use Rattle.lr_plan.specs.Planned.{all_plans};
+ghost use Rattle.lr_looks.specs.Shown.{ShowsLooks, ShowsSomeLooks};
+ghost use Rattle.lr_rotations.specs.Apart.{HaveNames};
+ghost use Rattle.lr_rotations.specs.Target.{AreSeen};
+ghost use Rattle.lr_weave.specs.Fitting.{DontMeet, ReadNoFiles};
+ghost use Rattle.lr_weave.specs.Planned.{HaveLogs, AreApart};
+ghost use Rattle.lr_seen.specs.Built.{AreBuiltRules};
+ghost use Rattle.lr_seen.specs.Targets.{groups_of, all_targets};
+
+/// Looks change nothing and start nothing, whole or in part.
+pub fn looks_are_quiet()
+    ensures whole { (rules : List Rule) (sets : List SetLooks) (faults : List Fault) (ts : List Entry) → ShowsLooks rules sets faults ts → AreQuiet ts }
+    ensures part { (rules : List Rule) (ts : List Entry) → ShowsSomeLooks rules ts → AreQuiet ts }
+{}
+
+/// Each log that a plan rotates was seen as a file, and its members were: a word of its rule gives it, and there are names
+/// for all its members.
+pub fn looks_see_targets()
+    ensures seen { (rules : Rules) (sets : List SetLooks) (faults : List Fault) (ts : List Entry) (decide : Rule → LogLook → Due)
+        → AreBuiltRules rules.sets → ShowsLooks rules.sets sets faults ts → AreSeen rules ts (all_targets decide rules.sets sets) }
+    ensures names { (rules : Rules) (sets : List SetLooks) (faults : List Fault) (ts : List Entry) (decide : Rule → LogLook → Due)
+        → AreBuiltRules rules.sets → ShowsLooks rules.sets sets faults ts → HaveNames (all_targets decide rules.sets sets) }
+{}
+
+/// No log stands twice among them, and no two of them meet.
+pub fn targets_are_apart()
+    ensures apart { (rules : List Rule) (sets : List SetLooks) (faults : List Fault) (ts : List Entry) (decide : Rule → LogLook → Due)
+        → ShowsLooks rules sets faults ts → AreApart (all_targets decide rules sets) }
+    ensures meet { (rules : List Rule) (sets : List SetLooks) (faults : List Fault) (ts : List Entry) (decide : Rule → LogLook → Due)
+        → ShowsLooks rules sets faults ts → DontMeet (all_targets decide rules sets) }
+{}
+
+/// The plan has just them, each with its rotation ready; its programs read no file.
+pub fn plan_has_targets()
+    ensures logs { (rules : List Rule) (sets : List SetLooks) (faults : List Fault) (ts : List Entry) (decide : Rule → LogLook → Due)
+        → AreBuiltRules rules → ShowsLooks rules sets faults ts → HaveLogs (groups_of decide rules sets) (all_plans decide rules sets) }
+    ensures programs { (rules : List Rule) (sets : List SetLooks) (decide : Rule → LogLook → Due)
+        → AreBuiltRules rules → ReadNoFiles (all_plans decide rules sets) }
+{}

@@ -1,0 +1,8 @@
+//! What the looks of a run show of the logs that its plan rotates.
+//!
+//! A law is the contract of a function without a body; begin with `looks_see_targets`.
+#![tactic(auto)]
+
+mod laws;
+
+pub use laws::{looks_are_quiet, looks_see_targets, plan_has_targets, targets_are_apart};
