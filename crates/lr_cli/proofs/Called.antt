@@ -1,84 +1,34 @@
 -- The answers of a call of the program.
-use Rattle.std.proofs.Common.{◌≡◌, ◌≢◌, ◌↔◌, inr, ℕ, List, [], ◌∷◌, Option, Result, Ok, Err, IfOk, ◌<◌, ◌^◌, w64, to_z, of_z, T, refl, sym, ap, ◌∙◌, subst}
-use Rattle.std.specs.Prelude.{ℤ}
+use Rattle.std.proofs.Common.{◌≡◌, ◌⊎◌, inl, inr, ℕ, List, [], ◌∷◌, Option, Result, Ok, Err, IfOk, IfErr, ◌<◌, ◌^◌, arith, w64, to_z, of_z, T, refl, sym, ap, ◌∙◌, subst}
+use Rattle.std.specs.Prelude.{ℤ, Contains}
 use Rattle.std.proofs.Math.Facts.{to_z-of_z, sfits_lit}
 use Rattle.std.proofs.lemmas.Bool.{lt-ltb}
 use Rattle.std.specs.Int.Signed.{mag}
 use Rattle.lr_rules.specs.declared.path.Path.{Path}
 use Rattle.lr_rules.specs.declared.civil.Civil.{Civil}
 use Rattle.lr_rules.specs.declared.civil.Moment.{Moment}
-use Rattle.lr_rules.specs.Path.{cleaned}
 use Rattle.lr_rules.specs.declared.fault.Fault.{Fault}
+use Rattle.lr_rules.specs.declared.fault.Fault.TheVariants as fault
 use Rattle.lr_rules.specs.declared.fault.Notice.{Notice}
-use Rattle.lr_host.specs.declared.entry.Entry.{Entry}
 use Rattle.lr_host.specs.declared.journal.Journal.{Journal}
-use Rattle.lr_host.specs.Told.{Left}
+use Rattle.lr_host.specs.Told.{Counts, NoneFell, Left}
 use Rattle.lr_host.proofs.Left.{left_as, left_first}
+use Rattle.lr_plan.specs.Counted.{AreCounted}
+use Rattle.lr_plan.proofs.Counts.{counted_free}
 use Rattle.lr_run.specs.declared.answer.RunStop.{RunStop}
 use Rattle.lr_run.specs.declared.answer.RunStop.TheVariants as stop
 use Rattle.lr_cli.specs.declared.told.Told.{Told}
 use Rattle.lr_cli.specs.declared.outcome.Outcome.{Outcome}
-use Rattle.lr_cli.specs.declared.outcome.Outcome.TheVariants.{Done, BadWords, Held, OutOfMemory}
-use Rattle.lr_cli.specs.Answer.{IsFirst, IsNow, Reports, Answers, Answered, AnsweredAt}
-use Rattle.lr_cli.specs.Exact.{HasNoCall, ExactlyAt}
-use Rattle.lr_cli.specs.Faults.{answer_of}
-use Rattle.lr_cli.specs.Printed.{without_out}
+use Rattle.lr_cli.specs.declared.outcome.Outcome.TheVariants.{Done, BadWords, OutOfMemory}
+use Rattle.lr_cli.specs.Answer.{IsFirst, IsNow, IsInRange, Answers, AnswersAt, no_clock, no_memory, called, Answered, not_read, read}
+use Rattle.lr_cli.specs.Faults.{answer_of, HasCounted}
 use Rattle.lr_cli.specs.Words.{AreWords}
-use Rattle.lr_cli.proofs.OutAside.{from_held, from_memory}
+use Rattle.lr_cli.proofs.Reading.{no_out_among}
 
--- what a call that was to run answered
-answered : (here : Path) (words : List (List ℕ)) (now : Moment) (conf : Path) (o : Outcome) (ts : List Entry) → AreWords here words conf → Answers conf now o ts → Answered here words now o ts
-answered here words now conf (Done report) ts w a = (conf, w, a)
-answered here words now conf Held ts w a = (conf, w, a)
-answered here words now conf OutOfMemory ts w a = inr (conf, w, a)
-answered here words now conf BadWords ts w a = absurd a
-
-pub answered_at : (here : Path) (words : List (List ℕ)) (seconds : ℤ) (now : Moment) (conf : Path) (a o : Outcome) (j k : Option Journal) → IsNow seconds now → a ≡ o → AreWords here words conf
-    → Left (Answers conf now o) j k → Left (AnsweredAt here words seconds a) j k
-answered_at here words seconds now conf a o j k is same w l = subst (λ r. Left (AnsweredAt here words seconds r) j k) (sym same)
-    (left_as l (λ ts x. record { now = now; is_now = is; answered = answered here words now conf o ts w x }))
-
--- a call that called nothing
-pub nothing_called : (here : Path) (words : List (List ℕ)) (seconds : ℤ) (now : Moment) (a o : Outcome) (j : Option Journal) → IsNow seconds now → a ≡ o → Answered here words now o [] → Left (AnsweredAt here words seconds a) j j
-nothing_called here words seconds now a o j is same x = subst (λ r. Left (AnsweredAt here words seconds r) j j) (sym same) (left_first (AnsweredAt here words seconds o) j (record { now = now; is_now = is; answered = x }))
-
--- ---- exactly
-
-abbrev second : List (List ℕ) → List ℕ
-second (a ∷ b ∷ xs) = b
-second _ = []
-
--- words name one configuration
-pub one_conf : (here : Path) (words : List (List ℕ)) (conf other : Path) → AreWords here words conf → AreWords here words other → conf ≡ other
-one_conf here words conf other a b = a.names ∙ (ap (cleaned here) (ap second (sym a.two ∙ b.two)) ∙ sym b.names)
-
--- of words that name a configuration; the answer is what the run told
-pub exactly_at : (here : Path) (words : List (List ℕ)) (seconds : ℤ) (now : Moment) (conf : Path) (a : Outcome) (ns : List Notice) (fs : List Fault) (j k : Option Journal) → IsNow seconds now
-    → a ≡ Done (record { notices = ns; faults = fs }) → AreWords here words conf
-    → Left (λ ts. (notices : List Notice) (faults : List Fault) → HasNoCall faults → ((ns ≡ notices) × (fs ≡ faults)) ↔ Reports conf now notices faults ts) j k → Left (ExactlyAt here words seconds a) j k
-exactly_at here words seconds now conf a ns fs j k is same w l = subst (λ r. Left (ExactlyAt here words seconds r) j k) (sym same)
-    (left_as l (λ ts x. record { now = now; is_now = is; exactly = λ other v notices faults free. subst (λ c. ((ns ≡ notices) × (fs ≡ faults)) ↔ Reports c now notices faults ts) (one_conf here words conf other w v) (x notices faults free) }))
-
--- of others
-pub exactly_none : (here : Path) (words : List (List ℕ)) (seconds : ℤ) (now : Moment) (a : Outcome) (j : Option Journal) → IsNow seconds now → ((conf : Path) → AreWords here words conf → ⊥) → Left (ExactlyAt here words seconds a) j j
-exactly_none here words seconds now a j is none = left_first (ExactlyAt here words seconds a) j (record { now = now; is_now = is; exactly = λ conf w. absurd (none conf w) })
-
--- ---- the run that the answer is of
-
--- an answer that is neither is a report of what the run told
-pub told_ok : (r : Result Told RunStop) (o : Outcome) → without_out o ≡ answer_of r → o ≢ OutOfMemory → o ≢ Held → (told : Told) × (r ≡ Ok told)
-told_ok (Ok told) o same memory held = (told, refl)
-told_ok (Err stop.Held) o same memory held = absurd (held (from_held o same))
-told_ok (Err stop.Memory) o same memory held = absurd (memory (from_memory o same))
-
-abbrev IfTold : Result Told RunStop → (Told → Type 0) → Type 0
-IfTold r P = IfOk r P
-
-pub told_exactly : (P : Told → Type 0) (r : Result Told RunStop) (told : Told) → r ≡ Ok told → IfOk r P → P told
-told_exactly P r told e h = subst (λ x. IfTold x P) e h
+-- ---- the moment
 
 -- a number of the type is what its bits say
-own_seconds : (z : ℤ) → mag z < 2 ^ 63 → to_z w64 (of_z w64 z) ≡ z
+pub own_seconds : (z : ℤ) → mag z < 2 ^ 63 → to_z w64 (of_z w64 z) ≡ z
 own_seconds z fits = to_z-of_z {w = w64} (sfits_lit {w = w64} (subst T (sym (lt-ltb (mag z) (2 ^ 63) fits)) tt))
 
 -- the moment that the call makes of its seconds
@@ -87,3 +37,54 @@ moment_at z civil = record { seconds = to_z w64 (of_z w64 z); civil = civil }
 
 pub is_now : (z : ℤ) (civil : Civil) → mag z < 2 ^ 63 → IsFirst civil → IsNow z (moment_at z civil)
 is_now z civil fits first = record { seconds_are = own_seconds z fits; civil_is = first }
+
+-- ---- the run at a moment
+
+abbrev with_clock : Told → Type 0
+with_clock told = (told.notices ≡ []) × (told.faults.items ≡ fault.Clock ∷ [])
+
+clock_told : (told : Told) → told.notices ≡ [] → told.faults.items ≡ fault.Clock ∷ [] → answer_of (Ok told) ≡ Done (record { notices = []; faults = fault.Clock ∷ [] })
+clock_told told e f = ap (λ (ns : List Notice). Done (record { notices = ns; faults = told.faults.items })) e ∙ ap (λ (fs : List Fault). Done (record { notices = []; faults = fs })) f
+
+pub at_clock : (conf : Path) (s seconds : ℤ) (r : Result Told RunStop) (o : Option Journal) → s ≡ seconds → (IsInRange s → ⊥) → IfOk r (λ told. told.notices ≡ []) → IfOk r (λ told. told.faults.items ≡ fault.Clock ∷ []) → IfErr r (λ s. s ≡ stop.Memory)
+    → Left (AnswersAt conf seconds (answer_of r)) o o
+at_clock conf s seconds (Ok told) o same out e f m = left_first (AnswersAt conf seconds (answer_of (Ok told))) o (no_clock (subst (λ (z : ℤ). IsInRange z → ⊥) same out) (clock_told told e f) refl)
+at_clock conf s seconds (Err why) o same out e f m = left_first (AnswersAt conf seconds (answer_of (Err why))) o (no_memory (ap (λ (x : RunStop). answer_of (Err x)) m) refl)
+
+pub at_none : (conf : Path) (seconds : ℤ) (o : Option Journal) → Left (AnswersAt conf seconds OutOfMemory) o o
+at_none conf seconds o = left_first (AnswersAt conf seconds OutOfMemory) o (no_memory refl refl)
+
+pub at_moment : (conf : Path) (s seconds : ℤ) (now : Moment) (outcome : Outcome) {o n : Option Journal} → s ≡ seconds → IsInRange s × IsNow s now → Left (Answers conf now outcome) o n → Left (AnswersAt conf seconds outcome) o n
+at_moment conf s seconds now outcome same is l =
+    let there : IsInRange seconds × IsNow seconds now = subst (λ (z : ℤ). IsInRange z × IsNow z now) same is in
+    left_as l (λ ts h. called now there.0 there.1 h)
+
+none_fell : (k : Counts) → NoneFell k k
+none_fell k = (omega arith, omega arith, omega arith)
+
+pub clock_counted : (r : Result Told RunStop) (k : Counts) → IfOk r (λ told. told.faults.items ≡ fault.Clock ∷ []) → IfOk r (λ told. AreCounted told.faults.items k k)
+clock_counted (Ok told) k e = subst (λ (fs : List Fault). AreCounted fs k k) (sym e) (counted_free (fault.Clock ∷ []) k k (record { calls = refl; scripts = refl; no_out = ((λ h. h), tt) }) (none_fell k))
+clock_counted (Err s) k e = tt
+
+-- ---- the call
+
+-- a call that called nothing
+pub nothing_called : (here : Path) (words : List (List ℕ)) (seconds : ℤ) (a o : Outcome) (j : Option Journal) → a ≡ o → (o ≡ BadWords) ⊎ (o ≡ OutOfMemory) → Left (Answered here words seconds a) j j
+nothing_called here words seconds a o j same which = left_first (Answered here words seconds a) j (not_read (subst (λ (r : Outcome). (r ≡ BadWords) ⊎ (r ≡ OutOfMemory)) (sym same) which) refl)
+
+pub answered : (here : Path) (words : List (List ℕ)) (s seconds : ℤ) (conf : Path) (a o : Outcome) (j k : Option Journal) → s ≡ seconds → a ≡ o → AreWords here words conf → Left (AnswersAt conf s o) j k → Left (Answered here words seconds a) j k
+answered here words s seconds conf a o j k at same w l = subst (λ (z : ℤ). Left (Answered here words z a) j k) at (subst (λ (r : Outcome). Left (Answered here words s r) j k) (sym same) (left_as l (λ ts h. read conf w h)))
+
+pub has_counted : (r : Result Told RunStop) (a : Outcome) (k l : Counts) → a ≡ answer_of r → IfOk r (λ told. AreCounted told.faults.items k l) → HasCounted a k l
+has_counted (Ok told) a k l same h = subst (λ (o : Outcome). HasCounted o k l) (sym same) h
+has_counted (Err stop.Held) a k l same h = subst (λ (o : Outcome). HasCounted o k l) (sym same) tt
+has_counted (Err stop.Memory) a k l same h = subst (λ (o : Outcome). HasCounted o k l) (sym same) tt
+
+-- an answer without a report
+pub not_counted : (a o : Outcome) (k l : Counts) → a ≡ o → (o ≡ BadWords) ⊎ (o ≡ OutOfMemory) → HasCounted a k l
+not_counted a o k l same (inl e) = subst (λ (r : Outcome). HasCounted r k l) (sym (same ∙ e)) tt
+not_counted a o k l same (inr e) = subst (λ (r : Outcome). HasCounted r k l) (sym (same ∙ e)) tt
+
+pub none_out : (r : Result Told RunStop) (k l : Counts) → IfOk r (λ told. AreCounted told.faults.items k l) → IfOk r (λ told. Contains told.faults.items fault.Out → ⊥)
+none_out (Ok told) k l h = no_out_among told.faults.items h.no_out
+none_out (Err s) k l h = tt

@@ -1,5 +1,5 @@
 -- What changes nothing of the disk.
-use Rattle.std.proofs.Common.{ℕ, List, [], ◌∷◌, refl, sym, ap, ◌∙◌, subst}
+use Rattle.std.proofs.Common.{ℕ, List, [], ◌∷◌, ◌++◌, refl, sym, ap, ◌∙◌, subst}
 use Rattle.std.specs.Prelude.{filter}
 use Rattle.lr_rules.specs.declared.path.Path.{Path}
 use Rattle.lr_rules.specs.declared.civil.Moment.{Moment}
@@ -9,13 +9,12 @@ use Rattle.lr_host.specs.declared.entry.Entry.TheVariants as entry
 use Rattle.lr_host.specs.Told.{Then, Each}
 use Rattle.lr_host.specs.Reading.{IsReadOf, ReadsAll}
 use Rattle.lr_conf.specs.Meaning.{Meaning}
-use Rattle.lr_family.proofs.OnlyLooks.{looks_quiet}
 use Rattle.lr_host.specs.Looks.{IsFile, Sees}
 use Rattle.lr_host.specs.Quiet.{AreQuiet, is_disk_change, ChangeNothing}
 use Rattle.lr_host.proofs.Quiet.{quiet_both, sees_quiet, quiet_still, still_both}
 use Rattle.lr_include.specs.Reading.{ReadsAs, means, look_failed, read_failed, no_file, directory, whole, cut}
-use Rattle.lr_run.specs.Runs.{LacksMemory, at_first, at_log}
-use Rattle.lr_run.proofs.Shape.{lacks_looking}
+use Rattle.lr_seen.proofs.Quiet.{part_quiet}
+use Rattle.lr_run.specs.Runs.{LacksMemory, at_first, in_looks}
 
 reads_quiet : (conf : Path) (ts : List Entry) → Each (IsReadOf conf) ts → AreQuiet ts
 reads_quiet conf [] each = tt
@@ -40,5 +39,5 @@ conf_quiet conf m ts (read_failed r e) = file_quiet conf ts r
 
 pub lacks_still : (state : Path) (now : Moment) (rules : Rules) (ts : List Entry) → LacksMemory state now rules ts → ChangeNothing ts
 lacks_still state now rules ts (at_first none) = ap (filter is_disk_change) none
-lacks_still state now rules ts (at_log i) =
-    ap (filter is_disk_change) i.entries ∙ still_both i.between (entry.Ends ∷ []) (quiet_still i.between (looks_quiet i.between (lacks_looking _ i.between i.within.holds))) refl
+lacks_still state now rules ts (in_looks i) = ap (filter is_disk_change) i.entries ∙ still_both i.before (entry.Starts state now rules ∷ (i.between ++ entry.Ends ∷ [])) (quiet_still i.before (sees_quiet _ i.before i.directory))
+    (still_both i.between (entry.Ends ∷ []) (quiet_still i.between (part_quiet rules.sets i.between i.within)) refl)

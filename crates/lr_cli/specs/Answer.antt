@@ -1,9 +1,10 @@
 -- What a call of the program leaves, by its answer.
-use Rattle.std.specs.Prelude.{◌≡◌, ◌⊎◌, ℕ, ℤ, pos, List, [], ◌++◌, codes}
+use Rattle.std.specs.Prelude.{◌≡◌, ◌≤ℤ◌, ◌⊎◌, ℕ, ℤ, pos, true, List, [], ◌∷◌, ◌++◌, codes}
 use Rattle.lr_rules.specs.declared.path.Path.{Path}
 use Rattle.lr_rules.specs.declared.civil.Civil.{Civil}
 use Rattle.lr_rules.specs.declared.civil.Moment.{Moment}
 use Rattle.lr_rules.specs.declared.fault.Fault.{Fault}
+use Rattle.lr_rules.specs.declared.fault.Fault.TheVariants as fault
 use Rattle.lr_rules.specs.declared.fault.Notice.{Notice}
 use Rattle.lr_rules.specs.declared.rules.Rules.{Rules}
 use Rattle.lr_rules.specs.Path.{parent_of}
@@ -38,8 +39,11 @@ pub record IsNow (seconds : ℤ) (now : Moment) : Type 0 where
   pub seconds_are : now.seconds ≡ seconds
   pub civil_is : IsFirst now.civil
 
--- The configuration was read, and a run was made over its rules. The report has the notices of the configuration, and
--- its faults before those of the run, each with its cause.
+-- a clock shows these seconds
+abbrev pub IsInRange : ℤ → Type 0
+IsInRange seconds = (pos 0 ≤ℤ seconds) × (seconds ≤ℤ pos 250_000_000_000)
+
+-- The configuration was read, and a run was made over its rules, each log of which is rotated whatever its state says. The report has the notices of the configuration, and its faults before those of the run.
 pub record Reports (conf : Path) (now : Moment) (notices : List Notice) (faults : List Fault) (ts : List Entry) : Type 0 where
   pub meaning : Meaning
   pub rules : Rules
@@ -47,35 +51,33 @@ pub record Reports (conf : Path) (now : Moment) (notices : List Notice) (faults 
   pub rules_are : rules.sets ≡ meaning.rules
   pub notices_are : notices ≡ meaning.notices
   pub faults_are : faults ≡ meaning.faults ++ own
-  pub entries : Then (ReadsAs conf meaning) (Runs state_path now rules own) ts
+  pub entries : Then (ReadsAs conf meaning) (Runs state_path true now rules own) ts
 
 -- The configuration was read, and the state's directory was seen; the lock was another's.
 pub record FindsLock (conf : Path) (ts : List Entry) : Type 0 where
   pub meaning : Meaning
   pub entries : Then (ReadsAs conf meaning) (Sees (parent_of state_path) IsDir) ts
 
--- Where there was no memory: before the first call, for the configuration's text or its rules, or in the run.
+-- Where there was no memory: before the first call, for the configuration's text or its rules, or in the run, behind a first part of its looks.
 pub data LacksMemory (conf : Path) (now : Moment) (ts : List Entry) : Type 0 where
   at_first : ts ≡ [] → LacksMemory conf now ts
   at_conf : Then (Sees conf IsFile) (Each (IsReadOf conf)) ts → LacksMemory conf now ts
   at_run : (meaning : Meaning) (rules : Rules) → rules.sets ≡ meaning.rules → Then (ReadsAs conf meaning) (RunLacks state_path now rules) ts → LacksMemory conf now ts
 
--- What a call left that was to run with this configuration.
+-- What a call left that was to run with this configuration at a moment that a clock shows.
 abbrev pub Answers : Path → Moment → Outcome → List Entry → Type 0
 Answers conf now (Done report) ts = Reports conf now report.notices report.faults ts
 Answers conf now Held ts = FindsLock conf ts
 Answers conf now OutOfMemory ts = ChangeNothing ts × LacksMemory conf now ts
 Answers conf now BadWords ts = ⊥
 
--- What a call of the program left. A report, and that the lock is another's, is only answered for words that name a
--- configuration; where the words' path had no memory, nothing is called.
-abbrev pub Answered : Path → List (List ℕ) → Moment → Outcome → List Entry → Type 0
-Answered here words now BadWords ts = ts ≡ []
-Answered here words now OutOfMemory ts = (ts ≡ []) ⊎ ((conf : Path) × AreWords here words conf × Answers conf now OutOfMemory ts)
-Answered here words now outcome ts = (conf : Path) × AreWords here words conf × Answers conf now outcome ts
+-- The same at these seconds: where no clock shows them, that is the one fault, and nothing is left; and nothing is left where there was no memory before the configuration.
+pub data AnswersAt (conf : Path) (seconds : ℤ) (outcome : Outcome) (ts : List Entry) : Type 0 where
+  no_clock : (IsInRange seconds → ⊥) → outcome ≡ Done (record { notices = []; faults = fault.Clock ∷ [] }) → ts ≡ [] → AnswersAt conf seconds outcome ts
+  no_memory : outcome ≡ OutOfMemory → ts ≡ [] → AnswersAt conf seconds outcome ts
+  called : (now : Moment) → IsInRange seconds → IsNow seconds now → Answers conf now outcome ts → AnswersAt conf seconds outcome ts
 
--- the same for the moment of a run at these seconds
-pub record AnsweredAt (here : Path) (words : List (List ℕ)) (seconds : ℤ) (outcome : Outcome) (ts : List Entry) : Type 0 where
-  pub now : Moment
-  pub is_now : IsNow seconds now
-  pub answered : Answered here words now outcome ts
+-- What a call of the program left: where the words name no configuration, nothing, and so where there was no memory for its path.
+pub data Answered (here : Path) (words : List (List ℕ)) (seconds : ℤ) (outcome : Outcome) (ts : List Entry) : Type 0 where
+  not_read : (outcome ≡ BadWords) ⊎ (outcome ≡ OutOfMemory) → ts ≡ [] → Answered here words seconds outcome ts
+  read : (conf : Path) → AreWords here words conf → AnswersAt conf seconds outcome ts → Answered here words seconds outcome ts

@@ -1,6 +1,8 @@
 -- The faults of a call's answer.
 use Rattle.std.specs.Prelude.{Contains, Result, Ok, Err}
 use Rattle.lr_rules.specs.declared.fault.Fault.{Fault}
+use Rattle.lr_host.specs.Told.{Counts}
+use Rattle.lr_plan.specs.Counted.{AreCounted}
 use Rattle.lr_run.specs.declared.answer.RunStop.{RunStop}
 use Rattle.lr_run.specs.declared.answer.RunStop.TheVariants as stop
 use Rattle.lr_cli.specs.declared.outcome.Outcome.{Outcome}
@@ -17,3 +19,8 @@ answer_of (Err stop.Memory) = OutOfMemory
 abbrev pub HasFault : Outcome → Fault → Type 0
 HasFault (Done report) f = Contains report.faults f
 HasFault _ f = ⊥
+
+-- the report has no more failed calls, and no more bad ends, than the counts of the host rose by, and no fault of the output
+abbrev pub HasCounted : Outcome → Counts → Counts → Type 0
+HasCounted (Done report) counted counts = AreCounted report.faults counted counts
+HasCounted _ counted counts = Unit {0}

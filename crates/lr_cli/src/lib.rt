@@ -1,8 +1,8 @@
 //! The top call: from the words of the command line to the exit status.
 //!
 //! The contract above it: a log that stood as a file is under one name of its set, with its bytes, until its count of
-//! later rotations were begun, whatever call failed and wherever the run stopped (`safe`); and the report is just what
-//! the bytes of the configuration mean and the entries of the run show (`told`, `exactly`). Begin with `logrotate`:
+//! later rotations were begun, whatever call failed and wherever the run stopped (`safe`); and the report is what the
+//! bytes of the configuration mean and the entries of the run show (`told`). Begin with `logrotate`:
 //!
 //! ```text
 //! let outcome = logrotate(alloc, &words, &here, &Zone::Utc, now, &mut host, &mut out);
@@ -18,10 +18,10 @@ mod told;
 mod top;
 mod words;
 
-pub use moment::{first_civil, state_file};
+pub use moment::{clock_at, first_civil, settings, state_file};
 pub use outcome::{Outcome, Report, Zone, status};
 pub use report::{printed, put_outcome, put_report};
-pub use run::run_conf;
+pub use run::{run_at, run_conf};
 pub use told::Told;
 pub use top::logrotate;
 pub use words::{WordsFault, conf_of};

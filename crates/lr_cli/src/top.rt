@@ -1,38 +1,33 @@
 // The top call.
-ghost use Rattle.std.specs.Prelude.{All, Some, ◌≡◌, ◌≢◌, ◌≤◌, ◌⊎◌, ◌↔◌, Contains};
+ghost use Rattle.std.specs.Prelude.{◌≡◌, ◌≢◌, ◌≤◌, ◌⊎◌, ◌↔◌, All, Contains, Some};
 ghost use Rattle.lr_rules.specs.declared.path.Path.{Path};
-ghost use Rattle.lr_rules.specs.declared.fault.CallKind.{CallKind};
 ghost use Rattle.lr_rules.specs.declared.fault.Fault.TheVariants as fault;
 ghost use Rattle.lr_host.specs.declared.journal.Journal.{Journal};
-ghost use Rattle.lr_host.specs.World.{past};
 ghost use Rattle.lr_host.specs.Opening.{IsJournal};
-ghost use Rattle.lr_include.specs.Readers.{IsConf};
-ghost use Rattle.lr_cli.specs.Turning.{TurnsFamily};
+ghost use Rattle.lr_host.specs.World.{past};
 ghost use Rattle.lr_host.specs.Told.{Left, NoneFell, Rose};
 ghost use Rattle.lr_host.specs.Safe.{KeepsSafe};
+ghost use Rattle.lr_include.specs.Readers.{IsConf};
 ghost use Rattle.lr_report.specs.Puts.{Took, TookPart};
 ghost use Rattle.lr_cli.specs.declared.outcome.Report.{Report};
-ghost use Rattle.lr_cli.specs.Answer.{AnsweredAt};
-ghost use Rattle.lr_cli.specs.Exact.{ExactlyAt};
-ghost use Rattle.lr_cli.specs.Excused.{ExcusedAt};
-ghost use Rattle.lr_cli.specs.Faults.{HasFault};
+ghost use Rattle.lr_cli.specs.Answer.{Answered};
+ghost use Rattle.lr_cli.specs.Faults.{HasFault, HasCounted};
 ghost use Rattle.lr_cli.specs.Printed.{printed_of, without_out};
+ghost use Rattle.lr_cli.specs.Rotated.{RotatesAll};
 ghost use Rattle.lr_cli.specs.Words.{AreWords, HaveForm};
 
-use crate::moment::{first_civil, state_file};
 use crate::outcome::{Outcome, Zone};
 use crate::report::{finish, printed};
-use crate::run::run_conf;
+use crate::run::run_at;
 use crate::words::{WordsFault, conf_of};
 use lr_host::{Host, Sink};
-use lr_rules::{Moment, Path, Text};
+use lr_rules::{Path, Text};
 use std::alloc::Global;
 
 /// One call of the program: reads the configuration that the words name, from the directory `here` on, makes a run over
 /// its rules, and prints its report. The zone isn't used yet; `now` is in seconds since 1970.
 ///
-/// Whatever it answers, it has changed nothing but the names of the log and its members. Printing ends at the first
-/// fault of the output, and then the report has the fault `Out` behind its others.
+/// Printing ends at the first fault of the output, and then the report has the fault `Out` behind its others.
 pub fn logrotate<H: Host, K: Sink>(
     alloc: Global,
     words: &[Text],
@@ -46,52 +41,36 @@ pub fn logrotate<H: Host, K: Sink>(
     // wherever the run stopped.
     ensures safe { KeepsSafe (H.told host.old) (H.told host.new) }
 
-    // What the calls showed, and what the answer has to do with it, its `Out` left aside.
-    ensures told { Left (AnsweredAt here.now words.now now (without_out result)) (H.told host.old) (H.told host.new) }
+    // What the calls showed, and what the answer has to do with it, its `Out` left aside: what was read, the begin, the
+    // looks, the acts of the plan that follows from them, and the end.
+    ensures told { Left (Answered here.now words.now now (without_out result)) (H.told host.old) (H.told host.new) }
 
-    // Where no call failed, there was memory and the lock was free, a report comes exactly where the calls showed its
-    // notices and faults.
-    ensures exactly { (Rose (H.counts host.old).faults (H.counts host.new).faults → ⊥) → result ≢ Outcome.OutOfMemory → result ≢ Outcome.Held → Left (ExactlyAt here.now words.now now (without_out result)) (H.told host.old) (H.told host.new) }
-
-    // Want of memory in the run takes the place of none of its faults, but of failed calls and of those that take memory to
-    // be told.
-    ensures excused { result ≡ Outcome.OutOfMemory → Left (ExcusedAt here.now words.now now) (H.told host.old) (H.told host.new) }
-
-    // Where the report has no fault but those of the configuration, the log that this gives was turned, file by file, or was
-    // let be missing.
-    ensures turned { (report : Report) (before after : Journal) → without_out result ≡ Outcome.Done report → All IsConf report.faults → H.told host.old ≡ Some before → H.told host.new ≡ Some after → IsJournal (past before) → (conf : Path) × AreWords here.now words.now conf × TurnsFamily conf before after }
+    // Where the report has no fault but those of the configuration, each log of the plan was rotated, file by file.
+    ensures rotated { (report : Report) (before after : Journal) → without_out result ≡ Outcome.Done report → All IsConf report.faults → H.told host.old ≡ Some before → H.told host.new ≡ Some after → IsJournal (past before) → (conf : Path) × AreWords here.now words.now conf × RotatesAll conf before after }
 
     // What the output took: a first part of what is printed of the answer, and all of it unless a put failed.
     ensures printed { TookPart (printed_of result) (K.taken out.old) (K.taken out.new) }
     ensures whole { Took (printed_of result) (K.taken out.old) (K.taken out.new) ⊎ Rose (K.faults out.old) (K.faults out.new) }
 
-    // A report that wasn't printed whole has `Out`. It comes only where a put failed, once, behind the others.
+    // A report that wasn't printed whole has `Out`. It comes only where a put failed.
     ensures broken_off { (report : Report) → result ≡ Outcome.Done report → Took (printed_of result) (K.taken out.old) (K.taken out.new) ⊎ Contains report.faults fault.Out }
     ensures out { HasFault result fault.Out → Rose (K.faults out.old) (K.faults out.new) }
-    ensures last { ¬ (HasFault (without_out result) fault.Out) }
 
-    // Also where the host tells nothing: the words, want of memory, failed calls, the lock.
+    // Also where the host tells nothing: the words, want of memory, the counts of failed calls and bad ends, the lock.
     ensures bad_words { result ≢ Outcome.OutOfMemory → (result ≡ Outcome.BadWords ↔ ((conf : Path) → AreWords here.now words.now conf → ⊥)) }
     ensures memory { result ≡ Outcome.OutOfMemory → HaveForm words.now }
     ensures words { (report : Report) → result ≡ Outcome.Done report → (conf : Path) × AreWords here.now words.now conf }
-    ensures call { (kind : CallKind) (path : Path) → HasFault result (fault.Call kind path) → Rose (H.counts host.old).faults (H.counts host.new).faults }
+    ensures counted { HasCounted (without_out result) (H.counts host.old) (H.counts host.new) }
     ensures held { result ≡ Outcome.Held → Rose (H.counts host.old).held (H.counts host.new).held }
     ensures lock { (H.counts host.new).locked ≡ (H.counts host.old).locked }
     ensures counts { NoneFell (H.counts host.old) (H.counts host.new) }
     ensures sink_counts { K.faults out.old ≤ K.faults out.new }
 {
-    let moment = Moment {
-        seconds: now,
-        civil: first_civil(),
-    };
     let conf = match conf_of(alloc, words, here) {
         Ok(conf) => conf,
         Err(WordsFault::Refused) => return printed(Outcome::BadWords, out),
         Err(WordsFault::Memory) => return printed(Outcome::OutOfMemory, out),
     };
-    let Ok(state) = state_file(alloc) else {
-        return printed(Outcome::OutOfMemory, out);
-    };
-    let run = run_conf(alloc, host, &conf, &state, &moment);
+    let run = run_at(alloc, host, &conf, now);
     finish(run, out)
 }

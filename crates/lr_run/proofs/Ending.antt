@@ -1,66 +1,85 @@
--- A run, put together of its parts.
-use Rattle.std.proofs.Common.{◌≡◌, inl, inr, List, [], ◌∷◌, ◌++◌, Option, Some, None, Result, Ok, Err, refl, sym, ap, ◌∙◌, subst}
-use Rattle.std.specs.Prelude.{IfSome}
-use Rattle.std.proofs.lemmas.List.{append-nil}
-use Rattle.lr_rules.specs.declared.path.Path.{Path}
+-- The work of a run, and its end.
+use Rattle.std.proofs.Common.{◌≡◌, ◌≤◌, Bool, List, [], ◌∷◌, ◌++◌, Option, Result, Ok, Err, OnOk, OnErr, refl, subst, sym, arith}
 use Rattle.lr_rules.specs.declared.civil.Moment.{Moment}
-use Rattle.lr_rules.specs.declared.rule.Rule.{Rule}
-use Rattle.lr_rules.specs.declared.rules.Rules.{Rules}
+use Rattle.lr_rules.specs.declared.fault.CallKind.TheVariants as call
 use Rattle.lr_rules.specs.declared.fault.Fault.{Fault}
-use Rattle.lr_rules.specs.declared.memory.Memory.{Memory}
-use Rattle.lr_rules.specs.Path.{parent_of}
+use Rattle.lr_rules.specs.declared.fault.Fault.TheVariants as fault
+use Rattle.lr_rules.specs.declared.path.Path.{Path}
+use Rattle.lr_rules.specs.declared.rule.Rule.{Rule}
 use Rattle.lr_host.specs.declared.entry.Entry.{Entry}
-use Rattle.lr_host.specs.declared.entry.Entry.TheVariants.{Look, Starts, Ends}
+use Rattle.lr_host.specs.declared.entry.Entry.TheVariants as entry
 use Rattle.lr_host.specs.declared.journal.Journal.{Journal}
-use Rattle.lr_host.specs.Told.{Left, Then, Are}
-use Rattle.lr_host.proofs.Left.{left_then}
-use Rattle.lr_host.specs.Looks.{Sees, IsDir}
-use Rattle.lr_run.specs.declared.answer.RunStop.{RunStop}
-use Rattle.lr_run.specs.declared.answer.RunStop.TheVariants as stop
-use Rattle.lr_run.specs.declared.target.Target.{Target}
-use Rattle.lr_run.specs.Logs.{Log, WithLog, log_in, IsPlain, IsTargetOf, IsAsked}
-use Rattle.lr_run.specs.Turning.{GoesWell, LogBecause, LogLacks}
-use Rattle.lr_run.specs.Runs.{Inside, NoFault, no_rule, one_log, at_begin, at_log, Answers, given_of, WorkEnds, Begun, CourseEnds}
+use Rattle.lr_host.specs.Told.{Counts, NoneFell, Rose, Left, Then, WhereTold}
+use Rattle.lr_host.proofs.Each.{each_append, each_as}
+use Rattle.lr_host.proofs.Left.{left_both}
+use Rattle.lr_family.proofs.OnlyLooks.{IsLooking, AreLooking}
+use Rattle.lr_plan.specs.declared.planned.Plan.{Plan}
+use Rattle.lr_plan.specs.Counted.{AreCounted, AddsFaults}
+use Rattle.lr_plan.specs.Planned.{decision}
+use Rattle.lr_plan.specs.Steps.{steps_of_plan}
+use Rattle.lr_acts.specs.Making.{all_of_sets}
+use Rattle.lr_looks.specs.Shown.{ShowsSomeLooks}
+use Rattle.lr_seen.proofs.Quiet.{whole_looking, part_looking}
+use Rattle.lr_seen.specs.Built.{AreBuiltRules}
+use Rattle.lr_plan.proofs.Counts.{adds_free, adds_call}
+use Rattle.lr_run.specs.declared.directory.DirStop.{DirStop}
+use Rattle.lr_run.specs.declared.directory.DirStop.TheVariants as dir
+use Rattle.lr_run.specs.Internal.{dir_fault_of, WorksOn}
+use Rattle.lr_run.specs.Runs.{Works}
+use Rattle.lr_run.proofs.Simple.{AreSimple, plan_simple}
+use Rattle.lr_run.proofs.Working.{IsWork, AreWork, IsOn, sets_work, goes_on}
+use Rattle.lr_run.proofs.Works.{no_scripts}
 
-pub plain_asked : (rules : List Rule) (t : Option Target) → IsAsked rules t → IfSome t IsPlain
-plain_asked rules None a = tt
-plain_asked rules (Some t) a = a.2.plain
+look_work : (e : Entry) → IsLooking e → IsWork e
+look_work (entry.Look x seen) i = tt
+look_work (entry.List dir listed) i = tt
+look_work _ i = absurd i
 
-with_log : (rules : List Rule) (t : Target) (P : Log → List Entry → Type 0) (ts : List Entry) → (rule : Rule) × (rules ≡ rule ∷ []) × IsTargetOf rule t → P (log_in t) ts → WithLog rules P ts
-with_log rules t P ts a h = record { rule = a.0; word = a.2.word; rules_are = a.1; words_are = a.2.words_are; holds = subst (λ (l : Log). P l ts) a.2.log_is h }
+looks_work : (ts : List Entry) → AreLooking ts → AreWork ts
+looks_work ts a = each_as IsLooking IsWork ts look_work a
 
-begun : (state : Path) (now : Moment) (rules : Rules) (P : List Entry → Type 0) (ts us vs : List Entry) → ts ≡ Starts state now rules ∷ [] → P us → vs ≡ Ends ∷ [] → Begun state now rules P (ts ++ (us ++ vs))
-begun state now rules P ts us vs a p b = record { between = us; entries = ap (λ xs. xs ++ (us ++ vs)) a ∙ ap (λ xs. Starts state now rules ∷ (us ++ xs)) b; within = p }
+works_work : (rules : List Rule) (now : Moment) (force : Bool) (own : List Fault) (ts : List Entry) → AreBuiltRules rules → Works rules now force own ts → AreWork ts
+works_work rules now force own ts b w = subst AreWork (sym w.entries.joined) (each_append IsWork w.entries.front w.entries.back (looks_work w.entries.front (whole_looking rules w.sets w.of_looks w.entries.front w.entries.first))
+    (sets_work (steps_of_plan w.plan) w.marks w.of_acts w.entries.back (subst (λ (p : Plan). AreSimple (all_of_sets (steps_of_plan p))) (sym w.planned) (plan_simple (decision [] now force) rules w.sets (no_scripts rules b))) w.entries.second))
 
--- between the begin and the end
-work_ended : (state : Path) (now : Moment) (rules : Rules) (t : Option Target) (f : Option Fault) (ts us vs : List Entry) → IsAsked rules.sets t → ts ≡ Starts state now rules ∷ [] → WorkEnds t (Ok f) us → vs ≡ Ends ∷ [] → CourseEnds state now rules (Ok f) (ts ++ (us ++ vs))
-work_ended state now rules (Some t) None ts us vs asked a h b = begun state now rules (NoFault rules.sets) ts us vs a (one_log (with_log rules.sets t GoesWell us asked h)) b
-work_ended state now rules (Some t) (Some f) ts us vs asked a h b = inr (begun state now rules (WithLog rules.sets (λ log ws. LogBecause log f ws)) ts us vs a (with_log rules.sets t (λ log ws. LogBecause log f ws) us asked h) b)
-work_ended state now rules None None ts us vs asked a h b = begun state now rules (NoFault rules.sets) ts us vs a (no_rule asked h) b
-work_ended state now rules None (Some f) ts us vs asked a h b = absurd h
+-- the run is on where the work ends
+pub end_there : {T E : Type 0} (r : Result T E) (rules : List Rule) (now : Moment) (force : Bool) (a b : List Fault) (o n : Option Journal) → AreBuiltRules rules → OnOk r (Left (WorksOn rules now force a b) o n) → OnErr r (Left (ShowsSomeLooks rules) o n)
+    → WhereTold o IsOn → WhereTold n IsOn
+end_there (Ok x) rules now force a b o n built l s on = goes_on l (λ ts h. works_work rules now force h.0 ts built h.2) on
+end_there (Err x) rules now force a b o n built l s on = goes_on s (λ ts h. looks_work ts (part_looking rules ts h)) on
 
-pub course_ended : (state : Path) (now : Moment) (rules : Rules) (t : Option Target) (f : Option Fault) {o m n : Option Journal} → IsAsked rules.sets t
-    → Left (Are (Starts state now rules ∷ [])) o m → Left (Then (WorkEnds t (Ok f)) (Are (Ends ∷ []))) m n → Left (CourseEnds state now rules (Ok f)) o n
-course_ended state now rules t f asked a b = left_then a b (λ ts us p q. subst (λ (xs : List Entry). CourseEnds state now rules (Ok f) (ts ++ xs)) (sym q.joined) (work_ended state now rules t f ts q.front q.back asked p q.first q.second))
+pub work_ended : {T E : Type 0} (r : Result T E) (P Q : List Entry → Type 0) (o m n : Option Journal) → OnOk r (Left P o m) → Left Q m n → OnOk r (Left (Then P Q) o n)
+work_ended (Ok x) P Q o m n l k = left_both l k
+work_ended (Err x) P Q o m n l k = tt
 
-work_lacking : (state : Path) (now : Moment) (rules : Rules) (t : Option Target) (m : Memory) (ts us vs : List Entry) → IsAsked rules.sets t → ts ≡ Starts state now rules ∷ [] → WorkEnds t (Err m) us → vs ≡ Ends ∷ [] → CourseEnds state now rules (Err stop.Memory) (ts ++ (us ++ vs))
-work_lacking state now rules (Some t) m ts us vs asked a h b = begun state now rules (WithLog rules.sets LogLacks) ts us vs a (with_log rules.sets t LogLacks us asked h) b
-work_lacking state now rules None m ts us vs asked a h b = absurd h
+pub work_lacked : {T E : Type 0} (r : Result T E) (P Q : List Entry → Type 0) (o m n : Option Journal) → OnErr r (Left P o m) → Left Q m n → OnErr r (Left (Then P Q) o n)
+work_lacked (Ok x) P Q o m n l k = tt
+work_lacked (Err x) P Q o m n l k = left_both l k
 
-pub course_lacking : (state : Path) (now : Moment) (rules : Rules) (t : Option Target) (e : Memory) {o m n : Option Journal} → IsAsked rules.sets t
-    → Left (Are (Starts state now rules ∷ [])) o m → Left (Then (WorkEnds t (Err e)) (Are (Ends ∷ []))) m n → Left (CourseEnds state now rules (Err stop.Memory)) o n
-course_lacking state now rules t e asked a b = left_then a b (λ ts us p q. subst (λ (xs : List Entry). CourseEnds state now rules (Err stop.Memory) (ts ++ xs)) (sym q.joined) (work_lacking state now rules t e ts q.front q.back asked p q.first q.second))
+-- ---- the counts
 
--- behind the look at the state's directory
-inside : (state : Path) (now : Moment) (rules : Rules) (P : List Entry → Type 0) (ts us : List Entry) → Sees (parent_of state) IsDir ts → Begun state now rules P us → Inside state now rules P (ts ++ us)
-inside state now rules P ts us s b = record { seen = s.seen; is_dir = s.is; between = b.between; entries = ap (λ xs. xs ++ us) s.look ∙ ap (λ xs. Look (parent_of state) s.seen ∷ xs) b.entries; within = b.within }
+counted_wider : (fs : List Fault) (k l m : Counts) → NoneFell l m → AreCounted fs k l → AreCounted fs k m
+counted_wider fs k l m le c = record {
+  calls = (let a = c.calls in let b : l.faults ≤ m.faults = le.0 in omega (arith, a, b));
+  scripts = (let a = c.scripts in let b : l.bad_ends ≤ m.bad_ends = le.1 in omega (arith, a, b));
+  no_out = c.no_out;
+}
 
-answers : (state : Path) (now : Moment) (rules : Rules) (r : Result (Option Fault) RunStop) (ts us : List Entry) → Sees (parent_of state) IsDir ts → CourseEnds state now rules r us → Answers state now rules (given_of r) (ts ++ us)
-answers state now rules (Ok None) ts us s c = inside state now rules (NoFault rules.sets) ts us s c
-answers state now rules (Ok (Some f)) ts us s (inl c) = at_begin c.0 (record { front = ts; back = us; joined = refl; first = s; second = c.1 })
-answers state now rules (Ok (Some f)) ts us s (inr c) = at_log (inside state now rules (WithLog rules.sets (λ log ws. LogBecause log f ws)) ts us s c)
-answers state now rules (Err stop.Held) ts us s c = subst (Sees (parent_of state) IsDir) (sym (ap (λ xs. ts ++ xs) c ∙ append-nil ts)) s
-answers state now rules (Err stop.Memory) ts us s c = at_log (inside state now rules (WithLog rules.sets LogLacks) ts us s c)
+counted_later : (fs : List Fault) (j k l : Counts) → NoneFell j k → AreCounted fs k l → AreCounted fs j l
+counted_later fs j k l le c = record {
+  calls = (let a = c.calls in let b : j.faults ≤ k.faults = le.0 in omega (arith, a, b));
+  scripts = (let a = c.scripts in let b : j.bad_ends ≤ k.bad_ends = le.1 in omega (arith, a, b));
+  no_out = c.no_out;
+}
 
-pub behind_dir : (state : Path) (now : Moment) (rules : Rules) (dir : Path) (r : Result (Option Fault) RunStop) {o m n : Option Journal} → dir ≡ parent_of state → Left (Sees dir IsDir) o m → Left (CourseEnds state now rules r) m n → Left (Answers state now rules (given_of r)) o n
-behind_dir state now rules dir r e a b = left_then a b (λ ts us p q. answers state now rules r ts us (subst (λ (x : Path). Sees x IsDir ts) e p) q)
+pub adds_wider : {T E : Type 0} (r : Result T E) (a b : List Fault) (k l m : Counts) → NoneFell l m → OnOk r (AddsFaults a b k l) → OnOk r (AddsFaults a b k m)
+adds_wider (Ok x) a b k l m le h = record { added = h.added; after_is = h.after_is; are_counted = counted_wider h.added k l m le h.are_counted }
+adds_wider (Err x) a b k l m le h = tt
+
+pub adds_later : {T E : Type 0} (r : Result T E) (a b : List Fault) (j k l : Counts) → NoneFell j k → OnOk r (AddsFaults a b k l) → OnOk r (AddsFaults a b j l)
+adds_later (Ok x) a b j k l le h = record { added = h.added; after_is = h.after_is; are_counted = counted_later h.added j k l le h.are_counted }
+adds_later (Err x) a b j k l le h = tt
+
+pub dir_counted : (why : DirStop) (x : Path) (a b : List Fault) (k l : Counts) → b ≡ a ++ dir_fault_of why x ∷ [] → (why ≡ dir.Call → Rose k.faults l.faults) → NoneFell k l → AddsFaults a b k l
+dir_counted dir.NoDir x a b k l e r le = adds_free a b (fault.NoDir x ∷ []) k l e (record { calls = refl; scripts = refl; no_out = ((λ h. h), tt) }) le
+dir_counted dir.Call x a b k l e r le = adds_call a b call.Look x k l e (r refl) le

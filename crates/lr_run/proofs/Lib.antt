@@ -1,14 +1,9 @@
-pub mod Acting
-pub mod Courses
-pub mod Ending
-pub mod Exactness
-pub mod Fits
-pub mod Kindred
-pub mod Named
-pub mod Renaming
+mod Sights
+pub mod Simple
+mod Working
+mod Works
 pub mod Shape
-pub mod Shaping
-pub mod Sights
-pub mod Turned
-pub mod Unlinking
-pub mod Verdict
+mod Parts
+mod Ending
+pub mod Rotating
+pub mod Own

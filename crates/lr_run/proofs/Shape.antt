@@ -1,79 +1,104 @@
--- What the work on a log leaves: looks and listings alone, or behind them a first part of its rotation.
-use Rattle.std.proofs.Common.{◌≡◌, ◌⊎◌, inl, inr, ⊎_elim, ◌+◌, List, [], ◌∷◌, ◌++◌, Option, Some, None, Result, Ok, Err, sym, ap, ◌∙◌, append_assoc}
+-- The entries of a run are those of one that looks first, and rotates then.
+use Rattle.std.proofs.Common.{◌≡◌, ◌⊎◌, inl, inr, Option, Bool, List, [], ◌∷◌, ◌++◌, Result, Ok, Err, refl, sym, ap, ◌∙◌, subst, append_assoc}
+use Rattle.std.specs.Prelude.{filter}
 use Rattle.std.proofs.lemmas.List.{append-nil}
-use Rattle.lr_rules.specs.declared.path.Path.{Path}
-use Rattle.lr_rules.specs.declared.fault.CallKind.{CallKind}
-use Rattle.lr_rules.specs.declared.fault.CallKind.TheVariants as call
+use Rattle.std.proofs.lemmas.List.Elements.{filter-append}
+use Rattle.lr_rules.specs.declared.civil.Moment.{Moment}
 use Rattle.lr_rules.specs.declared.fault.Fault.{Fault}
-use Rattle.lr_rules.specs.declared.fault.Fault.TheVariants as fault
-use Rattle.lr_rules.specs.declared.memory.Memory.{Memory}
+use Rattle.lr_rules.specs.declared.path.Path.{Path}
+use Rattle.lr_rules.specs.declared.rules.Rules.{Rules}
+use Rattle.lr_rules.specs.Path.{parent_of}
 use Rattle.lr_host.specs.declared.entry.Entry.{Entry}
 use Rattle.lr_host.specs.declared.entry.Entry.TheVariants as entry
-use Rattle.lr_family.specs.declared.stand.Stand.{Stand}
-use Rattle.lr_host.specs.Looks.{IsNothing, IsNoFile, IsFile}
-use Rattle.lr_family.specs.Stands.{ShowsStand, ShowsNoFile, ShowsSoFar, StopsAtCall}
-use Rattle.lr_family.proofs.OnlyLooks.{AreLooking, looking_both, looking_none, looking_sees, looking_stand, looking_no_file, looking_call, looking_so_far}
-use Rattle.lr_chain.specs.Rotation.{rotation}
-use Rattle.lr_chain.specs.Stops.{StopsAt}
-use Rattle.lr_rotations.specs.Weave.{IsFirstOf}
-use Rattle.lr_run.specs.Acts.{BreaksOffAt}
-use Rattle.lr_run.specs.Logs.{Log}
-use Rattle.lr_run.specs.Turning.{Behind, WithStand, rotation_of, GoesWell, turned, let_be, MayTurn, LogBecause, CallBecause, LogLacks, at_stand, at_steps, LogEnds}
+use Rattle.lr_host.specs.Looks.{Sees, IsDir}
+use Rattle.lr_host.specs.declared.thing.Seen.{Seen}
+use Rattle.lr_host.specs.Quiet.{AreQuiet}
+use Rattle.lr_host.specs.Steps.{is_change}
+use Rattle.lr_host.specs.Told.{Each}
+use Rattle.lr_plan.specs.declared.planned.Plan.{Plan}
+use Rattle.lr_plan.specs.Done.{PlanDone}
+use Rattle.lr_plan.specs.Planned.{decision}
+use Rattle.lr_rotations.specs.AllTurns.{AllTurns, AllTurned, not_yet, started, IsWholeRun, IsOfSome, IsOfState, StandsBetween}
+use Rattle.lr_rotations.specs.Target.{rotation_of}
+use Rattle.lr_rotations.specs.Weave.{Weave, FirstWoven}
+use Rattle.lr_weave.proofs.Parting.{done_turns}
+use Rattle.lr_weave.proofs.Planning.{ready_planned}
+use Rattle.lr_seen.specs.Built.{AreBuiltRules}
+use Rattle.lr_seen.specs.Targets.{groups_of, all_targets}
+use Rattle.lr_run.specs.declared.answer.Ran.{Ran}
+use Rattle.lr_run.specs.declared.answer.RunStop.{RunStop}
+use Rattle.lr_run.specs.declared.answer.RunStop.TheVariants as stop
+use Rattle.lr_run.specs.Runs.{Works, Runs, no_directory, not_seen, not_begun, worked, at_first, in_looks, Answers}
+use Rattle.lr_seen.proofs.Apart.{targets_apart}
+use Rattle.lr_seen.proofs.Quiet.{whole_quiet, part_quiet}
+use Rattle.lr_seen.proofs.Ready.{plans_have_logs}
+use Rattle.lr_seen.proofs.Seen.{targets_seen}
 
--- the log was turned, as far as it came
-abbrev pub TurnsSome : Log → List Entry → Type 0
-TurnsSome l ts = WithStand l (λ stand us. MayTurn l stand × IsFirstOf (rotation_of l stand.members) us) ts
+-- ---- quiet entries alone
 
--- it was looked at alone, or turned so
-abbrev pub LooksOrTurns : Log → List Entry → Type 0
-LooksOrTurns l ts = AreLooking ts ⊎ TurnsSome l ts
+pub sees_quiet : (x : Path) (P : Option Seen → Type 0) (ts : List Entry) → Sees x P ts → AreQuiet ts
+sees_quiet x P ts s = subst AreQuiet (sym s.look) ((tt, refl), tt)
 
-looking_behind : (l : Log) (P : List Entry → Type 0) (ts : List Entry) → ((us : List Entry) → P us → AreLooking us) → Behind l P ts → AreLooking ts
-looking_behind l P ts f t = looking_both ts (λ us s. looking_sees l.path IsFile us s) f t
+no_turns : (state : Path) (rules : Rules) (looks : List Entry) → AreQuiet looks → AllTurns state rules (looks ++ [])
+no_turns state rules looks q = record { looks = looks; acts = []; joined = refl; quiet = q; targets = []; seen = tt; all = tt; each = λ t h. absurd h }
 
-pub looking_seen : (l : Log) (stand : Stand) (ts : List Entry) → Behind l (ShowsStand l.naming stand) ts → AreLooking ts
-looking_seen l stand ts b = looking_behind l (ShowsStand l.naming stand) ts (λ vs s. looking_stand l.naming stand vs s) b
+quiet_run : (ts : List Entry) → AreQuiet ts → IsWholeRun ts
+quiet_run ts q = record { front = ts; rest = []; joined = sym (append-nil ts); quiet = q; goes_on = not_yet refl }
 
-looking_with : (l : Log) (P : Stand → List Entry → Type 0) (ts : List Entry) → ((stand : Stand) (us : List Entry) → P stand us → us ≡ []) → WithStand l P ts → AreLooking ts
-looking_with l P ts f w = looking_both ts (λ us b. looking_seen l w.stand us b) (λ us p. looking_none us (f w.stand us p)) w.run
+pub none_run : (ts : List Entry) → ts ≡ [] → IsWholeRun ts
+none_run ts e = quiet_run ts (subst AreQuiet (sym e) tt)
 
-as_first : (l : Log) (P : Stand → List Entry → Type 0) (ts : List Entry) → ((stand : Stand) (us : List Entry) → P stand us → MayTurn l stand × IsFirstOf (rotation_of l stand.members) us) → WithStand l P ts → TurnsSome l ts
-as_first l P ts f w = record { stand = w.stand; run = record { front = w.run.front; back = w.run.back; joined = w.run.joined; first = w.run.first; second = f w.stand w.run.back w.run.second } }
+begun_run : (state : Path) (now : Moment) (rules : Rules) (before tail ts : List Entry) → Sees (parent_of state) IsDir before → ts ≡ before ++ entry.Starts state now rules ∷ tail → AllTurns state rules tail → IsWholeRun ts
+begun_run state now rules before tail ts s e t = record { front = before; rest = entry.Starts state now rules ∷ tail; joined = e; quiet = sees_quiet (parent_of state) IsDir before s; goes_on = started state now rules tail refl t }
 
-stops_first : (steps : List Entry) (e : Entry) (ts : List Entry) → StopsAt steps e ts → IsFirstOf steps ts
-stops_first steps e ts s = ⊎_elim (λ n. (e ∷ s.after, s.steps_are ∙ ap (λ xs. xs ++ e ∷ s.after) (sym n))) (λ o. (s.after, s.steps_are ∙ (sym (append_assoc s.before (e ∷ []) s.after) ∙ ap (λ xs. xs ++ s.after) (sym o)))) s.made
+-- ---- the end of a run behind it
 
-breaks_first : (steps : List Entry) (f : Fault) (ts : List Entry) → BreaksOffAt steps f ts → IsFirstOf steps ts
-breaks_first steps (fault.Call call.Rename path) ts s = stops_first steps (entry.Renames path s.to) ts s.stops
-breaks_first steps (fault.Call call.Unlink path) ts s = stops_first steps (entry.Unlinks path) ts s
-breaks_first steps _ ts s = absurd s
+pub ended_changes : (acts : List Entry) → filter is_change (acts ++ entry.Ends ∷ []) ≡ filter is_change acts
+ended_changes acts = filter-append is_change acts (entry.Ends ∷ []) ∙ append-nil (filter is_change acts)
 
-pub well_shape : (l : Log) (ts : List Entry) → GoesWell l ts → LooksOrTurns l ts
-well_shape l ts (turned t) = inr (as_first l _ ts (λ stand us p. (p.0, ([], sym p.1 ∙ sym (append-nil us)))) t)
-well_shape l ts (let_be m s) = inl (looking_sees l.path IsNothing ts s)
+abbrev pub ended : (state : Path) (rules : Rules) (ts : List Entry) → AllTurns state rules ts → AllTurns state rules (ts ++ entry.Ends ∷ [])
+ended state rules ts t = record {
+  looks = t.looks;
+  acts = t.acts ++ entry.Ends ∷ [];
+  joined = ap (λ es. es ++ entry.Ends ∷ []) t.joined ∙ append_assoc t.looks t.acts (entry.Ends ∷ []);
+  quiet = t.quiet;
+  targets = t.targets;
+  seen = t.seen;
+  all = subst (Each (λ e. IsOfSome t.targets e ⊎ IsOfState state e)) (sym (ended_changes t.acts)) t.all;
+  each = λ x h. subst (FirstWoven (StandsBetween state x.log t.targets) (rotation_of x)) (sym (ended_changes t.acts)) (t.each x h);
+}
 
-failed_shape : (l : Log) (k : CallKind) (path : Path) (ts : List Entry) → CallBecause l k path ts → LooksOrTurns l ts
-failed_shape l call.Look path ts (inl e) = inl (looking_none ts e.1)
-failed_shape l call.Look path ts (inr t) = inl (looking_behind l (StopsAtCall l.naming call.Look path) ts (λ us s. looking_call l.naming call.Look path us s) t)
-failed_shape l call.List path ts t = inl (looking_behind l (StopsAtCall l.naming call.List path) ts (λ us s. looking_call l.naming call.List path us s) t)
-failed_shape l call.Rename path ts w = inr (as_first l _ ts (λ stand us p. (p.0, breaks_first (rotation_of l stand.members) (fault.Call call.Rename path) us p.1)) w)
-failed_shape l call.Unlink path ts w = inr (as_first l _ ts (λ stand us p. (p.0, breaks_first (rotation_of l stand.members) (fault.Call call.Unlink path) us p.1)) w)
-failed_shape l _ path ts w = absurd w
+abbrev pub ended_whole : (state : Path) (rules : Rules) (ts : List Entry) → AllTurned state rules ts → AllTurned state rules (ts ++ entry.Ends ∷ [])
+ended_whole state rules ts t = record {
+  turns = ended state rules ts t.turns;
+  whole = λ x h. subst (Weave (StandsBetween state x.log t.turns.targets) (rotation_of x)) (sym (ended_changes t.turns.acts)) (t.whole x h);
+}
 
-pub because_shape : (l : Log) (f : Fault) (ts : List Entry) → LogBecause l f ts → LooksOrTurns l ts
-because_shape l (fault.Missing word) ts b = inl (looking_sees l.path IsNothing ts b.2)
-because_shape l (fault.NotFile path) ts (inl s) = inl (looking_sees l.path IsNoFile ts s.1)
-because_shape l (fault.NotFile path) ts (inr t) = inl (looking_behind l (ShowsNoFile l.naming path) ts (λ us s. looking_no_file l.naming path us s) t)
-because_shape l (fault.NoDir path) ts w = inl (looking_with l _ ts (λ stand us p. p.1) w)
-because_shape l (fault.TooHigh path) ts w = inl (looking_with l _ ts (λ stand us p. p.1) w)
-because_shape l (fault.Call kind path) ts b = failed_shape l kind path ts b
-because_shape l _ ts b = absurd b
+-- ---- the work
 
-pub lacks_looking : (l : Log) (ts : List Entry) → LogLacks l ts → AreLooking ts
-lacks_looking l ts (at_stand t) = looking_behind l (ShowsSoFar l.naming) ts (λ us s. looking_so_far l.naming us s) t
-lacks_looking l ts (at_steps w) = looking_with l _ ts (λ stand us e. e) w
+works_turn : (state : Path) (rules : Rules) (now : Moment) (force : Bool) (faults : List Fault) (ts : List Entry) → AreBuiltRules rules.sets → Works rules.sets now force faults ts → AllTurns state rules ts
+works_turn state rules now force faults ts built w = subst (AllTurns state rules) (sym w.entries.joined)
+    (done_turns state rules w.entries.front (all_targets (decision [] now force) rules.sets w.sets) _ w.marks w.of_acts w.entries.back
+    (whole_quiet rules.sets w.sets w.of_looks w.entries.front w.entries.first) (targets_seen rules w.sets w.of_looks w.entries.front (decision [] now force) built w.entries.first)
+    (ready_planned (groups_of (decision [] now force) rules.sets w.sets) _ (plans_have_logs rules.sets w.sets w.of_looks w.entries.front (decision [] now force) built w.entries.first)
+    (targets_apart rules.sets w.sets w.of_looks w.entries.front (decision [] now force) w.entries.first))
+    (subst (λ (p : Plan). PlanDone p w.marks w.of_acts w.entries.back) w.planned w.entries.second))
 
-pub log_shape : (l : Log) (r : Result (Option Fault) Memory) (ts : List Entry) → LogEnds l r ts → LooksOrTurns l ts
-log_shape l (Ok None) ts g = well_shape l ts g
-log_shape l (Ok (Some f)) ts b = because_shape l f ts b
-log_shape l (Err m) ts k = inl (lacks_looking l ts k)
+-- ---- the run
+
+runs_shape : (state : Path) (force : Bool) (now : Moment) (rules : Rules) (own : List Fault) (ts : List Entry) → AreBuiltRules rules.sets → Runs state force now rules own ts → IsWholeRun ts
+runs_shape state force now rules own ts built (no_directory e s) = quiet_run ts (sees_quiet (parent_of state) _ ts s)
+runs_shape state force now rules own ts built (not_seen e s) = none_run ts s
+runs_shape state force now rules own ts built (not_begun e t) = go t.second
+  where
+    go : (t.back ≡ []) ⊎ (t.back ≡ entry.Starts state now rules ∷ []) → IsWholeRun ts
+    go (inl none) = quiet_run ts (subst AreQuiet (sym (t.joined ∙ (ap (λ es. t.front ++ es) none ∙ append-nil t.front))) (sees_quiet (parent_of state) IsDir t.front t.first))
+    go (inr one) = begun_run state now rules t.front [] ts t.first (t.joined ∙ ap (λ es. t.front ++ es) one) (no_turns state rules [] tt)
+runs_shape state force now rules own ts built (worked i) = begun_run state now rules i.before (i.between ++ entry.Ends ∷ []) ts i.directory i.entries (ended state rules i.between (works_turn state rules now force own i.between built i.within))
+
+pub whole_run : (state : Path) (force : Bool) (now : Moment) (rules : Rules) (earlier : List Fault) (r : Result Ran RunStop) (ts : List Entry) → AreBuiltRules rules.sets → Answers state force now rules earlier r ts → IsWholeRun ts
+whole_run state force now rules earlier (Ok ran) ts built h = runs_shape state force now rules h.0 ts built h.2
+whole_run state force now rules earlier (Err stop.Held) ts built h = quiet_run ts (sees_quiet (parent_of state) IsDir ts h)
+whole_run state force now rules earlier (Err stop.Memory) ts built (at_first e) = none_run ts e
+whole_run state force now rules earlier (Err stop.Memory) ts built (in_looks i) = begun_run state now rules i.before (i.between ++ entry.Ends ∷ []) ts i.directory i.entries
+    (ended state rules i.between (subst (AllTurns state rules) (append-nil i.between) (no_turns state rules i.between (part_quiet rules.sets i.between i.within))))

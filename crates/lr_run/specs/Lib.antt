@@ -1,8 +1,3 @@
-pub mod Acts
-pub mod Built
-pub mod Exact
-pub mod Faults
-pub mod Logs
-pub mod Looks
+pub mod Internal
+pub mod Rotated
 pub mod Runs
-pub mod Turning

@@ -1,23 +1,21 @@
-//! One run over the rules of a configuration, of which so far there is at most one, with one literal word.
+//! One run over the definitions of a configuration.
 //!
-//! The contract above it: the entries of a run are a look at the state's directory, its start, the looks at its log and
-//! those of one rotation of it, and its end; and each fault has its cause among them. Begin with `run`:
+//! The contract above it: the entries of a run are a look at the state's directory, its start, the looks at its logs, the
+//! acts of the plan that follows from these looks, and its end; and its faults are those of the looks, of the plan and of
+//! the acts (`specs/Runs.antt`). Begin with `run`:
 //!
 //! ```text
-//! let ran = run(alloc, &rules, &state, &now, earlier, &mut host)?;   // Err(RunStop::Held): another run is on
+//! let ran = run(alloc, &rules, &settings, &clock, earlier, &mut host)?;   // Err(RunStop::Held): another run is on
 //! ```
 #![tactic(auto)]
 
-mod acts;
 mod answer;
-mod course;
-mod family;
-mod fault;
-mod look;
-mod target;
-mod turning;
+mod directory;
+mod laws;
+mod locked;
 mod whole;
-mod word;
+mod work;
 
 pub use answer::{Ran, RunStop};
+pub use laws::run_rotates_all;
 pub use whole::run;

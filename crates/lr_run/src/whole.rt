@@ -1,66 +1,118 @@
-// The run over the rules of a configuration.
-ghost use Rattle.std.specs.Prelude.{Any, Contains, Err, IfOk, length, vec_len, ◌++◌, ◌+◌, ◌≡◌, ◌≢◌, ◌≤◌};
+// The run over the definitions of a configuration.
+ghost use Rattle.std.specs.Prelude.{◌≡◌, ◌+◌, ◌≤◌, ◌++◌, ◌∷◌, [], Err, IfOk, OnOk, IfErr, vec_len};
 ghost use Rattle.std.specs.Vec.{vec_capacity};
-ghost use Rattle.lr_rules.specs.declared.fault.Fault.TheVariants as fault;
+ghost use Rattle.lr_rules.specs.Path.{parent_of};
 ghost use Rattle.lr_host.specs.Told.{Left, Onward, Rose};
 ghost use Rattle.lr_host.specs.Safe.{KeepsSafe};
-ghost use Rattle.lr_promise.specs.Shape.{IsRun};
-ghost use Rattle.lr_run.specs.Built.{IsBuilt};
-ghost use Rattle.lr_run.specs.Exact.{Exactly, IsExcused};
-ghost use Rattle.lr_run.specs.Faults.{IsCall};
-ghost use Rattle.lr_run.specs.Runs.{Answers, answer_of, own_of, faults_of};
+ghost use Rattle.lr_plan.specs.Counted.{AddsFaults};
+ghost use Rattle.lr_rotations.specs.AllTurns.{IsWholeRun};
+ghost use Rattle.lr_seen.specs.Built.{AreBuiltRules};
+ghost use Rattle.lr_run.specs.Internal.{RunsOn, StopsSo, dir_fault_of};
+ghost use Rattle.lr_run.specs.Runs.{Answers};
 
 use crate::answer::{Ran, RunStop};
-use crate::course::make_run;
+use crate::directory::{DirStop, dir_fault, look_for_dir};
+use crate::locked::begin_to_end;
+use lr_acts::Progress;
 use lr_host::Host;
-use lr_rules::{Fault, Moment, Path, Rules};
+use lr_plan::Settings;
+use lr_rules::{Clock, Fault, Memory, Path, Rules};
 use std::alloc::Global;
 
-// Adds a fault for which there is room.
-fn add(faults: &mut Vec<Fault>, own: Option<Fault>)
+// The paths that faults of the beginning tell: the state's directory, and the state.
+#[derive(Drop)]
+struct Names {
+    dir: Path,
+    state: Path,
+}
+
+fn names_of(alloc: Global, state: &Path) -> Result<Names, Memory>
+    ensures dir { IfOk result (λ names. names.dir ≡ parent_of state.now) }
+    ensures state { IfOk result (λ names. names.state ≡ state.now) }
+{
+    let dir = state.parent(alloc)?;
+    let state = state.copy(alloc)?;
+    Ok(Names { dir, state })
+}
+
+// Adds the fault of the state's directory, for which there is room.
+fn add_dir_fault(faults: &mut Vec<Fault>, why: DirStop, names: Names)
     requires { vec_len faults.old + 2 ≤ vec_capacity faults.old }
-    ensures items { faults.new.items ≡ faults.old.items ++ faults_of own }
+    ensures faults { faults.new.items ≡ faults.old.items ++ dir_fault_of why names.dir ∷ [] }
     ensures room { vec_len faults.new + 1 ≤ vec_capacity faults.new }
 {
-    if let Some(fault) = own {
-        faults.push_reserved(fault);
+    let Names { dir, .. } = names;
+    faults.push_reserved(dir_fault(why, dir));
+}
+
+// Looks for the state's directory, and makes the run.
+fn make_run<H: Host>(
+    alloc: Global,
+    host: &mut H,
+    rules: &Rules,
+    settings: &Settings,
+    clock: &Clock,
+    names: Names,
+    progress: &mut Progress,
+) -> Result<(), RunStop>
+    requires built { AreBuiltRules rules.now.sets }
+    requires dir { names.dir ≡ parent_of settings.now.state }
+    requires state { names.state ≡ settings.now.state }
+    requires room { vec_len progress.old.faults + 2 ≤ vec_capacity progress.old.faults }
+    ensures told { OnOk result (Left (RunsOn settings.now.state settings.now.force clock.entry.now.now rules.now progress.old.faults.items progress.new.faults.items) (H.told host.old) (H.told host.new)) }
+    ensures stopped { IfErr result (λ why. Left (StopsSo settings.now.state clock.entry.now.now rules.now why) (H.told host.old) (H.told host.new)) }
+    ensures held { result ≡ Err RunStop.Held → Rose (H.counts host.old).held (H.counts host.new).held }
+    ensures room { OnOk result (vec_len progress.new.faults + 1 ≤ vec_capacity progress.new.faults) }
+    ensures counted { OnOk result (AddsFaults progress.old.faults.items progress.new.faults.items (H.counts host.old) (H.counts host.new)) }
+    ensures counts { Onward (H.counts host.old) (H.counts host.new) }
+{
+    match look_for_dir(host, &names.dir) {
+        Ok(()) => {
+            let Names { state, .. } = names;
+            begin_to_end(alloc, host, rules, settings, clock, state, progress)
+        }
+        Err(why) => {
+            add_dir_fault(&mut progress.faults, why, names);
+            Ok(())
+        }
     }
 }
 
-/// Makes one run: looks at the state's directory, takes the lock, turns the log of the rules over, and gives the lock
-/// back. Each fault ends the run as Ok. All memory is taken before the first change; where there is none, the run ends
-/// with no change.
+/// Makes one run: looks at the state's directory, takes the lock, looks at the logs that the rules ask for, carries out
+/// the plan that follows, and gives the lock back. Each fault leaves the answer Ok. All memory is taken before the first
+/// change; where there is none, the run ends with no change. So far no state is read or written.
 pub fn run<H: Host>(
     alloc: Global,
     rules: &Rules,
-    state: &Path,
-    now: &Moment,
+    settings: &Settings,
+    clock: &Clock,
     earlier: Vec<Fault>,
     host: &mut H,
 ) -> Result<Ran, RunStop>
-    requires { IsBuilt rules.now.sets }
-    ensures earlier { IfOk result (λ ran. ran.faults.items ≡ earlier.items ++ own_of earlier.items ran.faults.items) }
-    ensures one { IfOk result (λ ran. length (own_of earlier.items ran.faults.items) ≤ 1) }
-    ensures room { IfOk result (λ ran. vec_len ran.faults + 1 ≤ vec_capacity ran.faults) }
-    ensures told { Left (Answers state.now now.now rules.now (answer_of earlier.items result)) (H.told host.old) (H.told host.new) }
-    ensures exactly { (Rose (H.counts host.old).faults (H.counts host.new).faults → ⊥) → result ≢ Err RunStop.Memory → Left (Exactly state.now now.now rules.now (answer_of earlier.items result)) (H.told host.old) (H.told host.new) }
-    ensures excused { result ≡ Err RunStop.Memory → Left (IsExcused state.now now.now rules.now) (H.told host.old) (H.told host.new) }
-    ensures shape { Left IsRun (H.told host.old) (H.told host.new) }
+    requires { AreBuiltRules rules.now.sets }
     ensures safe { KeepsSafe (H.told host.old) (H.told host.new) }
+    ensures told { Left (Answers settings.now.state settings.now.force clock.entry.now.now rules.now earlier.items result) (H.told host.old) (H.told host.new) }
+    ensures shape { Left IsWholeRun (H.told host.old) (H.told host.new) }
+    ensures counted { IfOk result (λ ran. AddsFaults earlier.items ran.faults.items (H.counts host.old) (H.counts host.new)) }
     ensures held { result ≡ Err RunStop.Held → Rose (H.counts host.old).held (H.counts host.new).held }
-    ensures cause { IfOk result (λ ran. Any IsCall (own_of earlier.items ran.faults.items) → Rose (H.counts host.old).faults (H.counts host.new).faults) }
-    ensures no_out { IfOk result (λ ran. Contains (own_of earlier.items ran.faults.items) fault.Out → ⊥) }
+    ensures room { IfOk result (λ ran. vec_len ran.faults + 1 ≤ vec_capacity ran.faults) }
     ensures counts { Onward (H.counts host.old) (H.counts host.new) }
 {
-    let mut faults = earlier;
-    let Ok(()) = faults.reserve(2) else {
+    let Ok(names) = names_of(alloc, &settings.state) else {
         return Err(RunStop::Memory);
     };
-    match make_run(alloc, host, rules, state, now) {
-        Ok(own) => {
-            add(&mut faults, own);
+    let mut progress = Progress {
+        marks: Vec::new(alloc),
+        faults: earlier,
+    };
+    let Ok(()) = progress.faults.reserve(2) else {
+        return Err(RunStop::Memory);
+    };
+    match make_run(alloc, host, rules, settings, clock, names, &mut progress) {
+        Ok(()) => {
+            let Progress { faults, .. } = progress;
             Ok(Ran { faults })
         }
-        Err(stop) => Err(stop),
+        Err(why) => Err(why),
     }
 }

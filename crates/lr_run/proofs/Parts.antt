@@ -1,0 +1,85 @@
+-- A run, put together of its parts.
+use Rattle.std.proofs.Common.{◌≡◌, ◌⊎◌, Bool, true, false, List, [], ◌∷◌, ◌++◌, Option, Result, Ok, Err, refl, sym, ap, ◌∙◌, subst}
+use Rattle.std.specs.Prelude.{OnOk, IfErr}
+use Rattle.std.proofs.lemmas.List.{append-nil}
+use Rattle.lr_rules.specs.declared.civil.Moment.{Moment}
+use Rattle.lr_rules.specs.declared.fault.CallKind.TheVariants as call
+use Rattle.lr_rules.specs.declared.fault.Fault.{Fault}
+use Rattle.lr_rules.specs.declared.fault.Fault.TheVariants as fault
+use Rattle.lr_rules.specs.declared.path.Path.{Path}
+use Rattle.lr_rules.specs.declared.rules.Rules.{Rules}
+use Rattle.lr_rules.specs.Path.{parent_of}
+use Rattle.lr_host.specs.declared.entry.Entry.{Entry}
+use Rattle.lr_host.specs.declared.entry.Entry.TheVariants.{Starts, Ends}
+use Rattle.lr_host.specs.declared.host.CallFault.{CallFault}
+use Rattle.lr_host.specs.declared.journal.Journal.{Journal}
+use Rattle.lr_host.specs.Looks.{Sees, IsDir, IsNotDir}
+use Rattle.lr_host.specs.Told.{DidWhere, Left, Then, Are}
+use Rattle.lr_host.proofs.Left.{left_as, left_then}
+use Rattle.lr_looks.specs.Shown.{ShowsSomeLooks}
+use Rattle.lr_run.specs.declared.answer.Ran.{Ran}
+use Rattle.lr_run.specs.declared.answer.RunStop.{RunStop}
+use Rattle.lr_run.specs.declared.answer.RunStop.TheVariants as stop
+use Rattle.lr_run.specs.declared.directory.DirStop.{DirStop}
+use Rattle.lr_run.specs.declared.directory.DirStop.TheVariants as dir
+use Rattle.lr_run.specs.Internal.{NotSeen, dir_fault_of, WorksOn, Begun, Goes, begun, not_begun, Stopped, RunsOn, StopsSo}
+use Rattle.lr_run.specs.Runs as runs
+
+-- the begin answered so
+pub began : (state : Path) (now : Moment) (rules : Rules) (b : Bool) {o n : Option Journal} → b ≡ true → Left (DidWhere {E = CallFault} (Ok b) (Starts state now rules)) o n → Left (Are (Starts state now rules ∷ [])) o n
+began state now rules b e l = left_as l (λ ts h. subst (λ (x : Bool). DidWhere {E = CallFault} (Ok x) (Starts state now rules) ts) e h)
+
+pub locked : (state : Path) (now : Moment) (rules : Rules) (b : Bool) {o n : Option Journal} → b ≡ false → Left (DidWhere {E = CallFault} (Ok b) (Starts state now rules)) o n → Left (Stopped state now rules stop.Held) o n
+locked state now rules b e l = left_as l (λ ts h. subst (λ (x : Bool). DidWhere {E = CallFault} (Ok x) (Starts state now rules) ts) e h)
+
+-- ---- between the begin and the end
+
+begins : (state : Path) (now : Moment) (rules : Rules) (P : List Entry → Type 0) (ts us vs : List Entry) → ts ≡ Starts state now rules ∷ [] → P us → vs ≡ Ends ∷ [] → Begun state now rules P (ts ++ (us ++ vs))
+begins state now rules P ts us vs a p b = record { between = us; entries = ap (λ xs. xs ++ (us ++ vs)) a ∙ ap (λ xs. Starts state now rules ∷ (us ++ xs)) b; within = p }
+
+pub goes : (state : Path) (force : Bool) (now : Moment) (rules : Rules) (a b : List Fault) {o m n : Option Journal} → Left (Are (Starts state now rules ∷ [])) o m → Left (Then (WorksOn rules.sets now force a b) (Are (Ends ∷ []))) m n → Left (Goes state force now rules a b) o n
+goes state force now rules a b l k = left_then l k (λ ts us p q. begun (subst (λ (xs : List Entry). Begun state now rules (WorksOn rules.sets now force a b) (ts ++ xs)) (sym q.joined) (begins state now rules (WorksOn rules.sets now force a b) ts q.front q.back p q.first q.second)))
+
+pub lacks : (state : Path) (now : Moment) (rules : Rules) {o m n : Option Journal} → Left (Are (Starts state now rules ∷ [])) o m → Left (Then (ShowsSomeLooks rules.sets) (Are (Ends ∷ []))) m n → Left (Stopped state now rules stop.Memory) o n
+lacks state now rules l k = left_then l k (λ ts us p q. subst (λ (xs : List Entry). Begun state now rules (ShowsSomeLooks rules.sets) (ts ++ xs)) (sym q.joined) (begins state now rules (ShowsSomeLooks rules.sets) ts q.front q.back p q.first q.second))
+
+pub goes_not : (state : Path) (force : Bool) (now : Moment) (rules : Rules) (name : Path) (a b : List Fault) {o n : Option Journal} → name ≡ state → b ≡ a ++ fault.Call call.Begin name ∷ [] → Left (λ ts. (ts ≡ []) ⊎ (ts ≡ Starts state now rules ∷ [])) o n → Left (Goes state force now rules a b) o n
+goes_not state force now rules name a b e f l = left_as l (λ ts h. not_begun (f ∙ ap (λ (x : Path). a ++ fault.Call call.Begin x ∷ []) e) h)
+
+-- ---- behind the look at the state's directory
+
+abbrev inside : (state : Path) (now : Moment) (rules : Rules) (P : List Entry → Type 0) (ts us : List Entry) → Sees (parent_of state) IsDir ts → Begun state now rules P us → runs.Inside state now rules P (ts ++ us)
+inside state now rules P ts us s b = record { before = ts; between = b.between; entries = ap (λ xs. ts ++ xs) b.entries; directory = s; within = b.within }
+
+inside_as : (state : Path) (now : Moment) (rules : Rules) (P Q : List Entry → Type 0) (ts : List Entry) → (i : runs.Inside state now rules P ts) → Q i.between → runs.Inside state now rules Q ts
+inside_as state now rules P Q ts i q = record { before = i.before; between = i.between; entries = i.entries; directory = i.directory; within = q }
+
+runs_on : (state : Path) (force : Bool) (now : Moment) (rules : Rules) (a b : List Fault) (ts us : List Entry) → Sees (parent_of state) IsDir ts → Goes state force now rules a b us → RunsOn state force now rules a b (ts ++ us)
+runs_on state force now rules a b ts us s (begun g) = (g.within.0, g.within.1, runs.worked (inside_as state now rules (WorksOn rules.sets now force a b) (runs.Works rules.sets now force g.within.0) (ts ++ us) (inside state now rules (WorksOn rules.sets now force a b) ts us s g) g.within.2))
+runs_on state force now rules a b ts us s (not_begun e m) = (fault.Call call.Begin state ∷ [], e, runs.not_begun refl (record { front = ts; back = us; joined = refl; first = s; second = m }))
+
+pub behind_dir : (state : Path) (force : Bool) (now : Moment) (rules : Rules) (dir : Path) (a b : List Fault) {T E : Type 0} (r : Result T E) {o m : Option Journal} (n : Option Journal) → dir ≡ parent_of state → Left (Sees dir IsDir) o m → OnOk r (Left (Goes state force now rules a b) m n) → OnOk r (Left (RunsOn state force now rules a b) o n)
+behind_dir state force now rules dir a b (Ok x) n e l k = left_then l k (λ ts us p q. runs_on state force now rules a b ts us (subst (λ (x : Path). Sees x IsDir ts) e p) q)
+behind_dir state force now rules dir a b (Err x) n e l k = tt
+
+stops : (state : Path) (now : Moment) (rules : Rules) (why : RunStop) (ts us : List Entry) → Sees (parent_of state) IsDir ts → Stopped state now rules why us → StopsSo state now rules why (ts ++ us)
+stops state now rules stop.Held ts us s h = subst (Sees (parent_of state) IsDir) (sym (ap (λ xs. ts ++ xs) h ∙ append-nil ts)) s
+stops state now rules stop.Memory ts us s h = runs.in_looks (inside state now rules (ShowsSomeLooks rules.sets) ts us s h)
+
+pub stopped_behind : (state : Path) (now : Moment) (rules : Rules) (dir : Path) {T : Type 0} (r : Result T RunStop) {o m : Option Journal} (n : Option Journal) → dir ≡ parent_of state → Left (Sees dir IsDir) o m → IfErr r (λ why. Left (Stopped state now rules why) m n) → IfErr r (λ why. Left (StopsSo state now rules why) o n)
+stopped_behind state now rules dir (Ok x) n e l k = tt
+stopped_behind state now rules dir (Err why) n e l k = left_then l k (λ ts us p q. stops state now rules why ts us (subst (λ (x : Path). Sees x IsDir ts) e p) q)
+
+-- the directory wasn't seen as one
+pub no_dir : (state : Path) (force : Bool) (now : Moment) (rules : Rules) (why : DirStop) (x : Path) (a b : List Fault) {o n : Option Journal} → x ≡ parent_of state → b ≡ a ++ dir_fault_of why x ∷ [] → Left (NotSeen x why) o n → Left (RunsOn state force now rules a b) o n
+no_dir state force now rules dir.NoDir x a b e is l = left_as l (λ ts h. (fault.NoDir (parent_of state) ∷ [], is ∙ ap (λ (y : Path). a ++ fault.NoDir y ∷ []) e, runs.no_directory refl (subst (λ (y : Path). Sees y IsNotDir ts) e h)))
+no_dir state force now rules dir.Call x a b e is l = left_as l (λ ts h. (fault.Call call.Look (parent_of state) ∷ [], is ∙ ap (λ (y : Path). a ++ fault.Call call.Look y ∷ []) e, runs.not_seen refl h))
+
+-- ---- the whole run
+
+pub ran_so : (state : Path) (force : Bool) (now : Moment) (rules : Rules) (earlier first : List Fault) (ran : Ran) {o n : Option Journal} → first ≡ earlier → Left (RunsOn state force now rules first ran.faults.items) o n → Left (runs.Answers state force now rules earlier (Ok ran)) o n
+ran_so state force now rules earlier first ran e l = left_as l (λ ts h. (h.0, h.1 ∙ ap (λ (fs : List Fault). fs ++ h.0) e, h.2))
+
+pub stopped_so : (state : Path) (force : Bool) (now : Moment) (rules : Rules) (earlier : List Fault) (why : RunStop) {o n : Option Journal} → Left (StopsSo state now rules why) o n → Left (runs.Answers state force now rules earlier (Err why)) o n
+stopped_so state force now rules earlier stop.Held l = l
+stopped_so state force now rules earlier stop.Memory l = l

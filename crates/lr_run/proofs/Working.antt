@@ -1,0 +1,141 @@
+-- Between its begin and its end a run leaves looks, listings and changes alone, so it goes on.
+use Rattle.std.proofs.Common.{◌≡◌, ◌⊎◌, inl, inr, true, false, cond, Bool, List, [], ◌∷◌, ◌++◌, reverse, Option, refl, sym, ap, ◌∙◌, subst}
+use Rattle.std.specs.List.{list_any}
+use Rattle.std.proofs.lemmas.List.{reverse-reverse}
+use Rattle.lr_rules.specs.declared.path.Path.{Path}
+use Rattle.lr_rules.specs.declared.civil.Moment.{Moment}
+use Rattle.lr_rules.specs.declared.rules.Rules.{Rules}
+use Rattle.lr_rules.specs.declared.fault.Fault.{Fault}
+use Rattle.lr_host.specs.declared.entry.Entry.{Entry}
+use Rattle.lr_host.specs.declared.entry.Entry.TheVariants as entry
+use Rattle.lr_host.specs.declared.journal.Journal.{Journal}
+use Rattle.lr_host.specs.World.{Past, ◌▸◌, past, world}
+use Rattle.lr_host.specs.Told.{Each, IsWriters, Are, Made, at_first, by_writer, by_tool, Left, not_told, is_told, WhereTold}
+use Rattle.lr_host.proofs.Each.{each_append, each_in_order}
+use Rattle.lr_plan.specs.declared.mark.Mark.{Mark}
+use Rattle.lr_plan.specs.declared.step.SetSteps.{SetSteps}
+use Rattle.lr_plan.specs.declared.step.Step.{Step}
+use Rattle.lr_plan.specs.declared.step.Step.TheVariants.{Removes, Renames, Rotated}
+use Rattle.lr_plan.specs.Outcomes.{Succeeds, Fails}
+use Rattle.lr_plan.specs.Course.{Course}
+use Rattle.lr_plan.specs.Done.{EachDone, LogsDone, SetDone, broke_off, went_on, SetsDone, if_rotated, is_rotated}
+use Rattle.lr_acts.specs.Making.{all_of_each, all_of_set, all_of_sets}
+use Rattle.lr_run.proofs.Simple.{IsSimple, AreSimple, simple_split}
+
+-- neither the begin nor the end of a run, nor a writer's
+abbrev pub IsWork : Entry → Type 0
+IsWork (entry.Look x seen) = Unit {0}
+IsWork (entry.List dir listed) = Unit {0}
+IsWork (entry.Reads x at piece) = Unit {0}
+IsWork (entry.Renames from to) = Unit {0}
+IsWork (entry.Makes x mode) = Unit {0}
+IsWork (entry.MakesDir x mode) = Unit {0}
+IsWork (entry.Truncates x) = Unit {0}
+IsWork (entry.Unlinks x) = Unit {0}
+IsWork (entry.SyncsFile x) = Unit {0}
+IsWork (entry.SyncsDir x) = Unit {0}
+IsWork _ = ⊥
+
+abbrev pub AreWork : List Entry → Type 0
+AreWork ts = Each IsWork ts
+
+-- ---- one step
+
+are_work : (ts us : List Entry) → ts ≡ us → AreWork us → AreWork ts
+are_work ts us e h = subst AreWork (sym e) h
+
+maybe_work : (e : Entry) (ts : List Entry) → IsWork e → (ts ≡ []) ⊎ (ts ≡ e ∷ []) → AreWork ts
+maybe_work e ts w (inl h) = are_work ts [] h tt
+maybe_work e ts w (inr h) = are_work ts (e ∷ []) h (w, tt)
+
+made_work : (s : Step) (ts : List Entry) → IsSimple s → Succeeds s ts → AreWork ts
+made_work (Removes path) ts i h = are_work ts _ h (tt, tt)
+made_work (Renames from to) ts i h = are_work ts _ h (tt, tt)
+made_work (Rotated log) ts i h = are_work ts [] h tt
+made_work _ ts i h = absurd i
+
+failed_work : (s : Step) (f : Fault) (ts : List Entry) → IsSimple s → Fails s f ts → AreWork ts
+failed_work (Removes path) f ts i h = maybe_work (entry.Unlinks path) ts tt h.1
+failed_work (Renames from to) f ts i h = maybe_work (entry.Renames from to) ts tt h.1
+failed_work (Rotated log) f ts i h = absurd h
+failed_work _ f ts i h = absurd i
+
+-- ---- all of them
+
+joined_work : (ts us vs : List Entry) → ts ≡ us ++ vs → AreWork us → AreWork vs → AreWork ts
+joined_work ts us vs e h g = are_work ts (us ++ vs) e (each_append IsWork us vs h g)
+
+course_work : (steps : List Step) (ms : List Mark) (fs : List Fault) (ts : List Entry) → AreSimple steps → Course steps ms fs ts → AreWork ts
+course_work [] ms fs ts i h = are_work ts [] h.2 tt
+course_work (s ∷ ss) ms fs ts i (inl h) = failed_work s h.fault ts i.0 h.failed
+course_work (s ∷ ss) ms fs ts i (inr h) = joined_work ts h.entries.front h.entries.back h.entries.joined (made_work s h.entries.front i.0 h.entries.first) (course_work ss h.later fs h.entries.back i.1 h.entries.second)
+
+each_work : (each : List (List Step)) (ms : List Mark) (fs : List Fault) (ts : List Entry) → AreSimple (all_of_each each) → EachDone each ms fs ts → AreWork ts
+each_work [] ms fs ts i h = are_work ts [] h.2 tt
+each_work (s ∷ ss) ms fs ts i h = let r = simple_split s (all_of_each ss) i in
+    joined_work ts h.entries.front h.entries.back h.entries.joined (course_work s h.first_marks h.first_faults h.entries.front r.0 h.entries.first) (each_work ss h.second_marks h.second_faults h.entries.back r.1 h.entries.second)
+
+last_simple : (b : Bool) (last : List Step) → AreSimple last → AreSimple (cond b last [])
+last_simple true last i = i
+last_simple false last i = tt
+
+set_work : (set : SetSteps) (ms : List Mark) (fs : List Fault) (ts : List Entry) → AreSimple (all_of_set set) → SetDone set ms fs ts → AreWork ts
+set_work set ms fs ts i (broke_off h) = course_work set.first ms fs ts (simple_split set.first _ i).0 h.part
+set_work set ms fs ts i (went_on h) =
+    let r = simple_split set.first _ i in
+    let s = simple_split (all_of_each set.each) set.last r.1 in
+    let l : LogsDone set.each set.last h.second_marks h.second_faults h.entries.back = h.entries.second in
+    joined_work ts h.entries.front h.entries.back h.entries.joined (course_work set.first h.first_marks h.first_faults h.entries.front r.0 h.entries.first.1)
+    (joined_work h.entries.back l.entries.front l.entries.back l.entries.joined (each_work set.each l.by_each l.of_each l.entries.front s.0 l.entries.first)
+    (course_work (if_rotated l.by_each set.last) l.by_last l.of_last l.entries.back (last_simple (list_any is_rotated l.by_each) set.last s.1) l.entries.second))
+
+pub sets_work : (sets : List SetSteps) (ms : List Mark) (fs : List Fault) (ts : List Entry) → AreSimple (all_of_sets sets) → SetsDone sets ms fs ts → AreWork ts
+sets_work [] ms fs ts i h = are_work ts [] h.2 tt
+sets_work (s ∷ ss) ms fs ts i h = let r = simple_split (all_of_set s) (all_of_sets ss) i in
+    joined_work ts h.entries.front h.entries.back h.entries.joined (set_work s h.first_marks h.first_faults h.entries.front r.0 h.entries.first) (sets_work ss h.second_marks h.second_faults h.entries.back r.1 h.entries.second)
+
+-- ---- the run goes on
+
+abbrev pub IsOn : Past → Type 0
+IsOn p = (world p).running ≡ true
+
+writes_on : (p : Past) (e : Entry) → IsWriters e → IsOn p → IsOn (p ▸ e)
+writes_on p (entry.Attach writer x at) i r = r
+writes_on p (entry.Feed writer bytes at) i r = r
+writes_on p (entry.Flush writer) i r = r
+writes_on p (entry.Detach writer) i r = r
+writes_on p _ i r = absurd i
+
+works_on : (p : Past) (e : Entry) → IsWork e → IsOn p → IsOn (p ▸ e)
+works_on p (entry.Look x seen) i r = r
+works_on p (entry.List dir listed) i r = r
+works_on p (entry.Reads x at piece) i r = r
+works_on p (entry.Renames from to) i r = r
+works_on p (entry.Makes x mode) i r = r
+works_on p (entry.MakesDir x mode) i r = r
+works_on p (entry.Truncates x) i r = r
+works_on p (entry.Unlinks x) i r = r
+works_on p (entry.SyncsFile x) i r = r
+works_on p (entry.SyncsDir x) i r = r
+works_on p _ i r = absurd i
+
+made_on : (p q : Past) (es : List Entry) → Made p es q → AreWork es → IsOn p → IsOn q
+made_on p _ _ at_first a r = r
+made_on p _ es (by_writer {q = q} {e = e} m i f) a r = writes_on q e i (made_on p q es m a r)
+made_on p _ _ (by_tool {es = es} {q = q} {e = e} m i f) a r = works_on q e a.0 (made_on p q es m a.1 r)
+
+pub goes_on : {P : List Entry → Type 0} {o n : Option Journal} → Left P o n → ((ts : List Entry) → P ts → AreWork ts) → WhereTold o IsOn → WhereTold n IsOn
+goes_on not_told f r = tt
+goes_on (is_told {j = j} {k = k} {es = es} m h) f r = made_on (past j) (past k) es m (each_in_order IsWork es (f (reverse es) h)) r
+
+started : (p q : Past) (state : Path) (now : Moment) (rules : Rules) (es : List Entry) → es ≡ entry.Starts state now rules ∷ [] → Made p es q → IsOn q
+started p _ state now rules _ e at_first = absurd (cc)
+started p _ state now rules es e (by_writer {q = q} {e = d} m i f) = writes_on q d i (started p q state now rules es e m)
+started p _ state now rules _ e (by_tool {es = es} {q = q} {e = d} m i f) = subst (λ (x : Entry). IsOn (q ▸ x)) (sym same) refl
+  where
+    same : d ≡ entry.Starts state now rules
+    same = cc
+
+pub is_on : (state : Path) (now : Moment) (rules : Rules) {o n : Option Journal} → Left (Are (entry.Starts state now rules ∷ [])) o n → WhereTold n IsOn
+is_on state now rules not_told = tt
+is_on state now rules (is_told {j = j} {k = k} {es = es} m h) = started (past j) (past k) state now rules es (sym (reverse-reverse es) ∙ ap reverse h) m

@@ -1,3 +1,0 @@
-pub mod RunTurned
-pub mod Started
-pub mod WorkedTurn

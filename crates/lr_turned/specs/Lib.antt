@@ -1,3 +1,0 @@
-pub mod Turned
-pub mod Turning
-pub mod Worked
