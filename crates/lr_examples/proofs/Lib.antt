@@ -1,0 +1,5 @@
+mod Both
+mod Naming
+mod OneLog
+mod Seen
+mod TwoLogs

@@ -1,0 +1,98 @@
+-- The names of the members of both logs, and that both are families.
+use Rattle.std.proofs.Common.{◌≡◌, ℕ, zero, suc, ◌+◌, refl, ◌∙◌, ap, arith, None, List, [], ◌∷◌, ◌++◌, codes, true}
+use Rattle.std.specs.Prelude.{decimal, IsAscii}
+use Rattle.std.specs.Str.{is_utf8}
+use Rattle.std.proofs.lemmas.Str.{is_utf8-from_IsUtf8, IsUtf8-from_ascii}
+use Rattle.std.proofs.lemmas.Fmt.{decimal_digit}
+use Rattle.lr_rules.specs.declared.path.Path.{Path}
+use Rattle.lr_rules.specs.Path.{path_fault, joined}
+use Rattle.lr_host.specs.declared.entry.Entry.{Entry}
+use Rattle.lr_host.specs.declared.entry.Entry.TheVariants.{Renames, Unlinks}
+use Rattle.lr_family.specs.Named.{framed, member_name}
+use Rattle.lr_family.specs.Spots.{path_at}
+use Rattle.lr_family.proofs.Unique.{joined_same}
+use Rattle.lr_rotations.specs.Members.{IsFamily}
+use Rattle.lr_rotations.specs.Target.{rotation_of}
+use Rattle.lr_examples.specs.Logs.{a_log, a_first, a_second, a_third, a_naming, a_target, b_log, b_first, b_naming, b_target}
+use Rattle.lr_examples.specs.TwoLogs.{a_steps, b_steps}
+
+-- ---- names and paths of members
+
+pub first_name : member_name a_naming 1 ≡ codes "a.log.1"
+first_name = ap (λ (digits : List ℕ). framed (codes "a.log") digits []) (decimal_digit 1 (omega arith))
+
+pub second_name : member_name a_naming 2 ≡ codes "a.log.2"
+second_name = ap (λ (digits : List ℕ). framed (codes "a.log") digits []) (decimal_digit 2 (omega arith))
+
+third_name : member_name a_naming 3 ≡ codes "a.log.3"
+third_name = ap (λ (digits : List ℕ). framed (codes "a.log") digits []) (decimal_digit 3 (omega arith))
+
+pub first_path : path_at a_naming 0 ≡ a_first
+first_path = ap (joined (codes "/v")) first_name
+
+pub second_path : path_at a_naming 1 ≡ a_second
+second_path = ap (joined (codes "/v")) second_name
+
+third_path : path_at a_naming 2 ≡ a_third
+third_path = ap (joined (codes "/v")) third_name
+
+b_first_name : member_name b_naming 1 ≡ codes "b.log.1"
+b_first_name = ap (λ (digits : List ℕ). framed (codes "b.log") digits []) (decimal_digit 1 (omega arith))
+
+b_first_path : path_at b_naming 0 ≡ b_first
+b_first_path = ap (joined (codes "/w")) b_first_name
+
+-- the log's own name is no member's
+pub a_unnumbered : (digits : List ℕ) → codes "a.log" ≡ (codes "a.log" ++ 46 ∷ digits) ++ [] → ⊥
+a_unnumbered digits e = cc
+
+pub b_unnumbered : (digits : List ℕ) → codes "b.log" ≡ (codes "b.log" ++ 46 ∷ digits) ++ [] → ⊥
+b_unnumbered digits e = cc
+
+-- ---- the families
+
+ascii_v : IsAscii (codes "/v")
+ascii_v zero = omega arith
+ascii_v (suc zero) = omega arith
+ascii_v (suc (suc i)) = omega arith
+
+ascii_w : IsAscii (codes "/w")
+ascii_w zero = omega arith
+ascii_w (suc zero) = omega arith
+ascii_w (suc (suc i)) = omega arith
+
+path_v : path_fault (codes "/v") ≡ None
+unfolding path_fault
+path_v = let t : is_utf8 (codes "/v") ≡ true = is_utf8-from_IsUtf8 (codes "/v") (IsUtf8-from_ascii (codes "/v") ascii_v) in rw t
+
+path_w : path_fault (codes "/w") ≡ None
+unfolding path_fault
+path_w = let t : is_utf8 (codes "/w") ≡ true = is_utf8-from_IsUtf8 (codes "/w") (IsUtf8-from_ascii (codes "/w") ascii_w) in rw t
+
+pub a_family : IsFamily a_log a_naming
+a_family = record {
+  numbered = refl;
+  kin = record { dir = omega arith; size = omega arith; base = refl; ext = refl; apart = λ none place m. a_unnumbered (decimal (1 + place)) (joined_same (codes "/v") (codes "a.log") (member_name a_naming (1 + place)) m.named) };
+  dir = path_v;
+}
+
+pub b_family : IsFamily b_log b_naming
+b_family = record {
+  numbered = refl;
+  kin = record { dir = omega arith; size = omega arith; base = refl; ext = refl; apart = λ none place m. b_unnumbered (decimal (1 + place)) (joined_same (codes "/w") (codes "b.log") (member_name b_naming (1 + place)) m.named) };
+  dir = path_w;
+}
+
+-- ---- the rotations
+
+-- by the paths of the places
+by_paths : Path → Path → Path → List Entry
+by_paths first second third = Renames second third ∷ Renames first second ∷ Renames a_log first ∷ Unlinks third ∷ []
+
+pub a_rotation : rotation_of a_target ≡ a_steps
+unfolding by_paths
+a_rotation =
+    ap (λ (x : Path). by_paths x (path_at a_naming 1) (path_at a_naming 2)) first_path ∙ (ap (λ (x : Path). by_paths a_first x (path_at a_naming 2)) second_path ∙ ap (λ (x : Path). by_paths a_first a_second x) third_path)
+
+pub b_rotation : rotation_of b_target ≡ b_steps
+b_rotation = ap (λ (x : Path). Renames b_log x ∷ []) b_first_path

@@ -1,0 +1,123 @@
+-- What the looks show of both logs.
+use Rattle.std.proofs.Common.{◌≡◌, ◌≢◌, inl, inr, ℕ, zero, suc, ◌+◌, refl, sym, ap, subst, arith, Some, List, [], ◌∷◌, get_or, Contains, codes}
+use Rattle.std.specs.Prelude.{decimal}
+use Rattle.std.specs.List.Sorted.{IsStrictlyIncreasing}
+use Rattle.lr_rules.specs.declared.path.Path.{Path}
+use Rattle.lr_host.specs.declared.thing.Kind.TheVariants as kind
+use Rattle.lr_host.specs.declared.thing.Seen.{Seen}
+use Rattle.lr_host.specs.declared.entry.Entry.TheVariants as entry
+use Rattle.lr_host.specs.Lists.{IsIn}
+use Rattle.lr_host.proofs.Lists.{in_from, in_to}
+use Rattle.lr_host.specs.Looks.{Sees, IsFile}
+use Rattle.lr_host.specs.Quiet.{AreQuiet}
+use Rattle.lr_family.specs.Named.{member_name}
+use Rattle.lr_family.specs.Spots.{path_at}
+use Rattle.lr_family.proofs.Unique.{named_same}
+use Rattle.lr_chain.specs.Rotation.{places_of}
+use Rattle.lr_rotations.specs.Members.{HasName}
+use Rattle.lr_rotations.specs.Shown.{Shown}
+use Rattle.lr_rotations.specs.Target.{IsGiven, AreSeen}
+use Rattle.lr_rotations.specs.Weave.{Among}
+use Rattle.lr_examples.specs.Logs.{rule_of, rules, a_log, a_first, a_second, a_count, a_naming, a_stand, a_listed, a_target, b_log, b_count, b_naming, b_stand, b_listed, b_target, file, directory, looks}
+use Rattle.lr_examples.proofs.Naming.{first_name, second_name, first_path, second_path, a_unnumbered, b_unnumbered, a_family, b_family}
+
+-- ---- the first log
+
+abbrev a_places : List ℕ
+a_places = 1 ∷ 0 ∷ []
+
+pub a_seen : Among (Sees a_log IsFile) looks
+a_seen = record {
+  before = [];
+  part = entry.Look a_log (Some file) ∷ [];
+  after = entry.Look b_log (Some file) ∷ entry.Look (codes "/v") (Some directory) ∷ entry.List (codes "/v") a_listed ∷ entry.Look a_first (Some file) ∷ entry.Look a_second (Some file) ∷ entry.Look (codes "/w") (Some directory) ∷ entry.List (codes "/w") b_listed ∷ [];
+  joined = refl;
+  is = record { seen = Some file; is = refl; look = refl };
+}
+
+a_falling : IsStrictlyIncreasing (0 ∷ 1 ∷ [])
+a_falling zero lt = omega arith
+a_falling (suc k) lt = absurd (omega arith)
+
+a_named : (place : ℕ) → IsIn place a_places → HasName a_naming place
+a_named place (inl e) = subst (HasName a_naming) e (omega arith)
+a_named place (inr (inl e)) = subst (HasName a_naming) e (omega arith)
+a_named place (inr (inr none)) = absurd none
+
+abbrev IsSeenAt : ℕ → Type 0
+IsSeenAt place = (seen : Seen) × (seen.kind ≡ kind.File) × IsIn (entry.Look (path_at a_naming place) (Some seen)) looks
+
+a_file : (place : ℕ) → IsIn place a_places → IsSeenAt place
+a_file place (inl e) = subst IsSeenAt e (file, refl, inr (inr (inr (inr (inr (inl (ap (λ (x : Path). entry.Look x (Some file)) (sym second_path))))))))
+a_file place (inr (inl e)) = subst IsSeenAt e (file, refl, inr (inr (inr (inr (inl (ap (λ (x : Path). entry.Look x (Some file)) (sym first_path)))))))
+a_file place (inr (inr none)) = absurd none
+
+-- a member that is listed has one of the two places
+a_listed_at : (place : ℕ) → HasName a_naming place → IsIn (member_name a_naming (1 + place)) a_listed → IsIn place a_places
+a_listed_at place has (inl e) = inl (named_same a_naming 1 place (codes "a.log.2") (record { bound = omega arith; named = sym second_name }) (record { bound = has; named = e }))
+a_listed_at place has (inr (inl e)) = absurd (a_unnumbered (decimal (1 + place)) e)
+a_listed_at place has (inr (inr (inl e))) = inr (inl (named_same a_naming 0 place (codes "a.log.1") (record { bound = omega arith; named = sym first_name }) (record { bound = has; named = e })))
+a_listed_at place has (inr (inr (inr none))) = absurd none
+
+pub a_shown : Shown a_naming (places_of a_stand.members) looks
+a_shown = record {
+  dir = (directory, refl, inr (inr (inl refl)));
+  names = a_listed;
+  list = inr (inr (inr (inl refl)));
+  falling = a_falling;
+  named = λ place c. a_named place (in_from place a_places c);
+  files = λ place c. a_file place (in_from place a_places c);
+  others = λ place has out. inl (λ c. out (in_to place a_places (a_listed_at place has (in_from (member_name a_naming (1 + place)) a_listed c))));
+}
+
+a_given : IsGiven rules.sets a_log a_naming a_count
+a_given = record { rule = rule_of 1 a_log a_count; word = a_log; among = (0, omega arith, refl); has = (0, omega arith, refl); literal = refl; log_is = refl; naming_is = refl; count_is = refl }
+
+-- ---- the second log
+
+b_seen : Among (Sees b_log IsFile) looks
+b_seen = record {
+  before = entry.Look a_log (Some file) ∷ [];
+  part = entry.Look b_log (Some file) ∷ [];
+  after = entry.Look (codes "/v") (Some directory) ∷ entry.List (codes "/v") a_listed ∷ entry.Look a_first (Some file) ∷ entry.Look a_second (Some file) ∷ entry.Look (codes "/w") (Some directory) ∷ entry.List (codes "/w") b_listed ∷ [];
+  joined = refl;
+  is = record { seen = Some file; is = refl; look = refl };
+}
+
+none_rises : IsStrictlyIncreasing []
+none_rises k lt = absurd (omega arith)
+
+no_place : (place : ℕ) → Contains [] place → ⊥
+no_place place c = in_from place [] c
+
+b_unlisted : (place : ℕ) → IsIn (member_name b_naming (1 + place)) b_listed → ⊥
+b_unlisted place (inl e) = b_unnumbered (decimal (1 + place)) e
+b_unlisted place (inr none) = none
+
+b_shown : Shown b_naming (places_of b_stand.members) looks
+b_shown = record {
+  dir = (directory, refl, inr (inr (inr (inr (inr (inr (inl refl)))))));
+  names = b_listed;
+  list = inr (inr (inr (inr (inr (inr (inr (inl refl)))))));
+  falling = none_rises;
+  named = λ place c. absurd (no_place place c);
+  files = λ place c. absurd (no_place place c);
+  others = λ place has out. inl (λ c. b_unlisted place (in_from (member_name b_naming (1 + place)) b_listed c));
+}
+
+b_given : IsGiven rules.sets b_log b_naming b_count
+b_given = record { rule = rule_of 2 b_log b_count; word = b_log; among = (1, omega arith, refl); has = (0, omega arith, refl); literal = refl; log_is = refl; naming_is = refl; count_is = refl }
+
+-- ---- both
+
+pub both_seen : AreSeen rules looks (a_target ∷ b_target ∷ [])
+both_seen = (
+  record { given = a_given; family = a_family; log_seen = a_seen; seen = a_shown; low = λ high. absurd (cc) },
+  (record { given = b_given; family = b_family; log_seen = b_seen; seen = b_shown; low = λ high. absurd (cc) }, tt),
+)
+
+pub looks_quiet : AreQuiet looks
+looks_quiet = ((tt, refl), ((tt, refl), ((tt, refl), ((tt, refl), ((tt, refl), ((tt, refl), ((tt, refl), ((tt, refl), tt))))))))
+
+pub logs_differ : a_log ≢ b_log
+logs_differ e = let h : get_or a_log 1 0 ≡ get_or b_log 1 0 = ap (λ (x : Path). get_or x 1 0) e in omega (arith, h)
