@@ -47,7 +47,7 @@ none_built m fs e = subst (λ (x : Meaning). AreBuiltRules x.rules) (sym e) (bui
     none : All IsPlainRule []
     none = search rules
 
-means_built : (conf : Path) (m : Meaning) (ts : List Entry) → MeansAs conf m ts → AreBuiltRules m.rules
+pub means_built : (conf : Path) (m : Meaning) (ts : List Entry) → MeansAs conf m ts → AreBuiltRules m.rules
 means_built conf m ts (no_file s e) = none_built m _ e
 means_built conf m ts (directory s e) = none_built m _ e
 means_built conf m ts (whole bytes le r e) = subst (λ (x : Meaning). AreBuiltRules x.rules) (sym e) (built (whole_means conf bytes).rules (whole_plain conf bytes))

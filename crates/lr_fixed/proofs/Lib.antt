@@ -7,3 +7,8 @@ mod Families
 mod Words
 mod Kept
 mod Whole
+mod Called
+mod Planned
+mod Run
+mod Meanings
+mod Reports

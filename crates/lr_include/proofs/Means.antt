@@ -76,7 +76,8 @@ one_meaning file m ts (directory s e) = e ∙ sym (ap (shown file) s.look ∙ se
 one_meaning file m ts (whole bytes le r e) = e ∙ (whole_is file bytes le ∙ sym (bytes_shown file bytes ts r))
 one_meaning file m ts (cut bytes lt r e) = e ∙ (cut_is file bytes lt ∙ sym (bytes_shown file bytes ts r))
 
-exactly : (file : Path) (m : Meaning) (ts : List Entry) → MeansAs file m ts → (n : Meaning) → m ≡ n ↔ MeansAs file n ts
+-- they have just one
+pub exactly : (file : Path) (m : Meaning) (ts : List Entry) → MeansAs file m ts → (n : Meaning) → m ≡ n ↔ MeansAs file n ts
 exactly file m ts h n = ((λ e. subst (λ x. MeansAs file x ts) e h), (λ h'. one_meaning file m ts h ∙ sym (one_meaning file n ts h')))
 
 pub means_told : (file : Path) (m : Meaning) {o n : Option Journal} → Left (MeansAs file m) o n → Left (ReadsAs file m) o n
