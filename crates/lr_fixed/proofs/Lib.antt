@@ -12,3 +12,8 @@ mod Planned
 mod Run
 mod Meanings
 mod Reports
+mod CountedListings
+mod LooksListNone
+mod ActsListNone
+mod FamiliesListOnce
+mod RunListsOnce

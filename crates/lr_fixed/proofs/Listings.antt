@@ -118,11 +118,11 @@ read_before (z ∷ xs) y x zero h = h
 read_before (z ∷ xs) y x (suc k) h = read_before xs y x k h
 
 -- a directory whose listing comes is listed
-listed_last : (known : List Listing) (l : Listing) (dir : Path) → l.dir ≡ dir → WasListed (known ++ l ∷ []) dir l
+pub listed_last : (known : List Listing) (l : Listing) (dir : Path) → l.dir ≡ dir → WasListed (known ++ l ∷ []) dir l
 listed_last known l dir e = record { place = length known; there = read_last known l; same = e }
 
 -- one that was listed still is
-listed_more : (known : List Listing) (l x : Listing) (dir : Path) → WasListed known dir x → WasListed (known ++ l ∷ []) dir x
+pub listed_more : (known : List Listing) (l x : Listing) (dir : Path) → WasListed known dir x → WasListed (known ++ l ∷ []) dir x
 listed_more known l x dir w = record { place = w.place; there = read_before known l x w.place w.there; same = w.same }
 
 -- one that is listed was so before, or its listing has just come

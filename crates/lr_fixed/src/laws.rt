@@ -1,5 +1,5 @@
-// Calls of which no call failed are fixed by their entries: what they found, and what they tell.
-ghost use Rattle.std.specs.Prelude.{◌≡◌, ◌++◌, Bool, List, ℕ, ℤ};
+// What the entries of a call show: what it found and what it tells, where no call failed, and how often it lists.
+ghost use Rattle.std.specs.Prelude.{◌≡◌, ◌≤◌, ◌++◌, Bool, List, ℕ, ℤ};
 ghost use Rattle.lr_rules.specs.declared.path.Path.{Path};
 ghost use Rattle.lr_rules.specs.declared.civil.Moment.{Moment};
 ghost use Rattle.lr_rules.specs.declared.rules.Rules.{Rules};
@@ -15,6 +15,7 @@ ghost use Rattle.lr_cli.specs.declared.outcome.Outcome.TheVariants.{Done};
 ghost use Rattle.lr_cli.specs.declared.outcome.Report.{Report};
 ghost use Rattle.lr_cli.specs.Answer.{Answered};
 ghost use Rattle.lr_fixed.specs.Alike.{AreAlike};
+ghost use Rattle.lr_fixed.specs.Listings.{listings_of};
 
 /// Where the same entries begin with looks of two outcomes and no call failed in either, the looks are the same, and so
 /// are their faults and the logs that were looked at whole.
@@ -38,4 +39,10 @@ pub fn reports_are_fixed()
     ensures { (here : Path) (words : List (List ℕ)) (seconds : ℤ) (one other : Report) (ts : List Entry)
         → Answered here words seconds (Done one) ts → Answered here words seconds (Done other) ts
         → calls_in one.faults ≡ 0 → calls_in other.faults ≡ 0 → (one.notices ≡ other.notices) × (one.faults ≡ other.faults) }
+{}
+
+/// In one run no directory is listed twice, however many logs are in it.
+pub fn directories_are_listed_once()
+    ensures { (state : Path) (force : Bool) (now : Moment) (rules : Rules) (own : List Fault) (ts : List Entry) → AreBuiltRules rules.sets
+        → Runs state force now rules own ts → (dir : Path) → listings_of dir ts ≤ 1 }
 {}

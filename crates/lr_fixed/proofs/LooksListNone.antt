@@ -1,0 +1,83 @@
+-- Looks at paths list nothing: those at the words' paths, at members, and at a directory that isn't listed then.
+use Rattle.std.proofs.Common.{inl, inr, Bool, true, false, List, [], ◌∷◌, map, Option, sym, subst}
+use Rattle.lr_rules.specs.declared.path.Path.{Path}
+use Rattle.lr_rules.specs.declared.rule.Naming.{Naming}
+use Rattle.lr_rules.specs.declared.fault.CallKind.{CallKind}
+use Rattle.lr_rules.specs.declared.fault.CallKind.TheVariants as call
+use Rattle.lr_host.specs.declared.entry.Entry.{Entry}
+use Rattle.lr_host.specs.declared.thing.Seen.{Seen}
+use Rattle.lr_host.specs.Looks.{Sees, IsNothing, IsDir, IsNoDir, IsNoFile}
+use Rattle.lr_host.specs.Told.{Are}
+use Rattle.lr_host.proofs.Each.{each_append}
+use Rattle.lr_family.specs.declared.listing.Listing.{Listing}
+use Rattle.lr_family.specs.declared.spot.Spot.{Spot}
+use Rattle.lr_family.specs.declared.stand.Member.{Member}
+use Rattle.lr_family.specs.declared.stand.StandStop.{StandStop}
+use Rattle.lr_family.specs.declared.stand.StandStop.TheVariants as stop
+use Rattle.lr_family.specs.Among.{ShowsMembers, ShowsNoneIn}
+use Rattle.lr_family.specs.Listed.{NotListedAt, NotListed}
+use Rattle.lr_family.specs.Looks.{Sight as Glance, look_of as glance_of, ShowsTo}
+use Rattle.lr_family.specs.Stops.{SomeStopped}
+use Rattle.lr_looks.specs.Asked.{Log}
+use Rattle.lr_looks.specs.Families.{FamilySight, Stood, Stopped, ShowsMembersIn}
+use Rattle.lr_looks.specs.Sights.{Sight, Failed, Nothing, Saw, look_of, looks_of}
+use Rattle.lr_fixed.proofs.CountedListings.{IsNoListing, AreNoListings, none_both, none_empty}
+
+pub sees_none : (x : Path) (P : Option Seen → Type 0) (ts : List Entry) → Sees x P ts → AreNoListings ts
+sees_none x P ts s = subst AreNoListings (sym s.look) (tt, tt)
+
+-- ---- the looks at the words' paths
+
+look_none : (path : Path) (s : Sight) → AreNoListings (look_of path s)
+look_none path Failed = tt
+look_none path Nothing = (tt, tt)
+look_none path (Saw seen) = (tt, tt)
+
+pub words_none : (logs : List Log) (sights : List Sight) → AreNoListings (looks_of logs sights)
+words_none [] [] = tt
+words_none [] (s ∷ ss) = tt
+words_none (log ∷ logs) [] = tt
+words_none (log ∷ logs) (s ∷ ss) = each_append IsNoListing (look_of log.path s) (looks_of logs ss) (look_none log.path s) (words_none logs ss)
+
+-- ---- the looks at members
+
+sights_none : (gs : List Glance) → AreNoListings (map glance_of gs)
+sights_none [] = tt
+sights_none (g ∷ gs) = (tt, sights_none gs)
+
+to_none : (spots : List Spot) (path : Path) (P : List Entry → Type 0) (ts : List Entry) → ((us : List Entry) → P us → AreNoListings us) → ShowsTo spots path P ts → AreNoListings ts
+to_none spots path P ts f s = none_both ts (λ us e. subst AreNoListings (sym e) (sights_none s.before)) f s.looks
+
+stops_none : (spots : List Spot) (why : StandStop) (ts : List Entry) → SomeStopped spots why ts → AreNoListings ts
+stops_none spots (stop.Call kind path) ts s = to_none spots path (Are []) ts none_empty s.1
+stops_none spots (stop.NotFile path) ts s = to_none spots path (Sees path IsNoFile) ts (sees_none path IsNoFile) s
+stops_none spots stop.Memory ts s = subst AreNoListings (sym s.looks) (sights_none s.sights)
+
+none_in_none : (n : Naming) (there : Bool) (names : List _) (why : StandStop) (ts : List Entry) → ShowsNoneIn n there names why ts → AreNoListings ts
+none_in_none n true names why ts (inl h) = none_empty ts h.1
+none_in_none n true names why ts (inr s) = stops_none s.spots why ts s.looks
+none_in_none n false names why ts h = absurd h
+
+members_none : (n : Naming) (there : Bool) (names : List _) (members : List Member) (ts : List Entry) → ShowsMembers n there names members ts → AreNoListings ts
+members_none n true names members ts s = subst AreNoListings (sym s.looks.looks) (sights_none s.looks.sights)
+members_none n false names members ts h = none_empty ts h.1
+
+pub members_in_none : (n : Naming) (l : Listing) (s : FamilySight) (ts : List Entry) → ShowsMembersIn n l s ts → AreNoListings ts
+members_in_none n l (Stood stand) ts h = members_none n l.there l.names stand.members ts h.2
+members_in_none n l (Stopped why) ts (inl h) = none_empty ts h.1
+members_in_none n l (Stopped why) ts (inr h) = none_in_none n l.there l.names why ts h
+
+-- ---- the looks at a directory that isn't listed
+
+not_at_none : (dir : Path) (k : CallKind) (path : Path) (ts : List Entry) → NotListedAt dir k path ts → AreNoListings ts
+not_at_none dir call.Look path ts (inl h) = none_empty ts h.1
+not_at_none dir call.Look path ts (inr h) = sees_none dir IsNothing ts h.1
+not_at_none dir call.List path ts h = sees_none dir IsDir ts h.1
+not_at_none dir _ path ts h = absurd h
+
+pub not_listed_none : (dir : Path) (why : StandStop) (ts : List Entry) → NotListed dir why ts → AreNoListings ts
+not_listed_none dir (stop.Call kind path) ts h = not_at_none dir kind path ts h
+not_listed_none dir (stop.NotFile path) ts h = sees_none dir IsNoDir ts h.1
+not_listed_none dir stop.Memory ts (inl e) = none_empty ts e
+not_listed_none dir stop.Memory ts (inr (inl s)) = sees_none dir IsNothing ts s
+not_listed_none dir stop.Memory ts (inr (inr s)) = sees_none dir IsDir ts s

@@ -1,0 +1,75 @@
+-- A run lists a directory once.
+use Rattle.std.proofs.Common.{◌≤◌, inl, inr, Bool, List, [], ◌∷◌, ◌++◌, refl, sym, subst, arith}
+use Rattle.std.proofs.lemmas.List.Elements.{All-head, All-tail}
+use Rattle.lr_rules.specs.declared.civil.Moment.{Moment}
+use Rattle.lr_rules.specs.declared.fault.Fault.{Fault}
+use Rattle.lr_rules.specs.declared.path.Path.{Path}
+use Rattle.lr_rules.specs.declared.rule.Rule.{Rule}
+use Rattle.lr_rules.specs.declared.rules.Rules.{Rules}
+use Rattle.lr_rules.specs.Path.{parent_of}
+use Rattle.lr_host.specs.declared.entry.Entry.{Entry}
+use Rattle.lr_host.specs.declared.entry.Entry.TheVariants as entry
+use Rattle.lr_host.specs.Looks.{IsDir, IsNotDir}
+use Rattle.lr_plan.specs.declared.looks.SetLooks.{SetLooks}
+use Rattle.lr_plan.specs.declared.planned.Plan.{Plan}
+use Rattle.lr_plan.specs.Outcomes.{Maybe}
+use Rattle.lr_plan.specs.Planned.{decision}
+use Rattle.lr_plan.specs.Steps.{steps_of_plan}
+use Rattle.lr_acts.specs.Making.{all_of_sets}
+use Rattle.lr_looks.specs.Asked.{asked_by}
+use Rattle.lr_looks.specs.Shown.{ShowsLooks}
+use Rattle.lr_seen.specs.Built.{IsBuiltRule, AreBuiltRules}
+use Rattle.lr_run.specs.Runs.{Works, Inside, Runs, no_directory, not_seen, not_begun, worked}
+use Rattle.lr_run.proofs.Simple.{HaveNoScripts, AreSimple, plan_simple}
+use Rattle.lr_fixed.specs.Listings.{listings_of}
+use Rattle.lr_fixed.proofs.CountedListings.{AreNoListings, count_none, count_joined, none_both, none_empty}
+use Rattle.lr_fixed.proofs.LooksListNone.{sees_none, words_none}
+use Rattle.lr_fixed.proofs.ActsListNone.{sets_none}
+use Rattle.lr_fixed.proofs.FamiliesListOnce.{families_once}
+
+-- the looks
+looks_once : (rules : List Rule) (sets : List SetLooks) (faults : List Fault) (ts : List Entry) (dir : Path) → ShowsLooks rules sets faults ts → listings_of dir ts ≤ 1
+looks_once rules sets faults ts dir s =
+    let j = count_joined dir ts s.entries.front s.entries.back s.entries.joined in
+    let a = count_none dir s.entries.front (subst AreNoListings (sym s.entries.first.looks) (words_none (asked_by rules) s.entries.first.sights)) in
+    let b = families_once [] s.kept s.entries.second.listings s.entries.second.families.sights s.entries.back dir s.entries.second.families.shown in
+    omega (arith, j, a, b)
+
+no_scripts : (rules : List Rule) → AreBuiltRules rules → HaveNoScripts rules
+no_scripts [] b = tt
+no_scripts (x ∷ xs) b = ((All-head IsBuiltRule x xs b).scripts, no_scripts xs (All-tail IsBuiltRule x xs b))
+
+-- the acts are unlinks and renames
+acts_simple : (rules : List Rule) (now : Moment) (force : Bool) (faults : List Fault) (ts : List Entry) → AreBuiltRules rules → (w : Works rules now force faults ts) → AreSimple (all_of_sets (steps_of_plan w.plan))
+acts_simple rules now force faults ts built w = subst (λ (p : Plan). AreSimple (all_of_sets (steps_of_plan p))) (sym w.planned) (plan_simple (decision [] now force) rules w.sets (no_scripts rules built))
+
+-- and the acts behind them
+works_once : (rules : List Rule) (now : Moment) (force : Bool) (faults : List Fault) (ts : List Entry) (dir : Path) → AreBuiltRules rules → Works rules now force faults ts → listings_of dir ts ≤ 1
+works_once rules now force faults ts dir built w =
+    let j = count_joined dir ts w.entries.front w.entries.back w.entries.joined in
+    let a = looks_once rules w.sets w.of_looks w.entries.front dir w.entries.first in
+    let b = count_none dir w.entries.back (sets_none (steps_of_plan w.plan) w.marks w.of_acts w.entries.back (acts_simple rules now force faults ts built w) w.entries.second) in
+    omega (arith, j, a, b)
+
+-- between the begin and the end of a run
+inside_once : (state : Path) (force : Bool) (now : Moment) (rules : Rules) (faults : List Fault) (ts : List Entry) (dir : Path) → AreBuiltRules rules.sets → Inside state now rules (Works rules.sets now force faults) ts → listings_of dir ts ≤ 1
+inside_once state force now rules faults ts dir built i =
+    let j = count_joined dir ts i.before (entry.Starts state now rules ∷ (i.between ++ entry.Ends ∷ [])) i.entries in
+    let a = count_none dir i.before (sees_none (parent_of state) IsDir i.before i.directory) in
+    let k = count_joined dir (i.between ++ entry.Ends ∷ []) i.between (entry.Ends ∷ []) refl in
+    let b = works_once rules.sets now force faults i.between dir built i.within in
+    omega (arith, j, a, k, b)
+
+maybe_starts : (state : Path) (now : Moment) (rules : Rules) (ts : List Entry) → Maybe (entry.Starts state now rules) ts → AreNoListings ts
+maybe_starts state now rules ts (inl e) = none_empty ts e
+maybe_starts state now rules ts (inr e) = subst AreNoListings (sym e) (tt, tt)
+
+-- entries that list nothing list the directory at most once
+none_once : (dir : Path) (ts : List Entry) → AreNoListings ts → listings_of dir ts ≤ 1
+none_once dir ts h = let a = count_none dir ts h in omega (arith, a)
+
+pub run_once : (state : Path) (force : Bool) (now : Moment) (rules : Rules) (own : List Fault) (ts : List Entry) → AreBuiltRules rules.sets → Runs state force now rules own ts → (dir : Path) → listings_of dir ts ≤ 1
+run_once state force now rules own ts built (no_directory is s) dir = none_once dir ts (sees_none (parent_of state) IsNotDir ts s)
+run_once state force now rules own ts built (not_seen is e) dir = none_once dir ts (none_empty ts e)
+run_once state force now rules own ts built (not_begun is t) dir = none_once dir ts (none_both ts (sees_none (parent_of state) IsDir) (maybe_starts state now rules) t)
+run_once state force now rules own ts built (worked i) dir = inside_once state force now rules own ts dir built i
