@@ -17,3 +17,4 @@ mod LooksListNone
 mod ActsListNone
 mod FamiliesListOnce
 mod RunListsOnce
+mod LeftAlone

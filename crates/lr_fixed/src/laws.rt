@@ -1,16 +1,26 @@
-// What the entries of a call show: what it found and what it tells, where no call failed, and how often it lists.
-ghost use Rattle.std.specs.Prelude.{◌≡◌, ◌≤◌, ◌++◌, Bool, List, ℕ, ℤ};
+// What the entries of a call show: what it found and what it tells, where no call failed, how often it lists, and what it
+// leaves alone.
+ghost use Rattle.std.specs.Prelude.{◌≡◌, ◌≢◌, ◌≤◌, ◌++◌, reverse, Bool, List, Option, Some, ℕ, ℤ};
 ghost use Rattle.lr_rules.specs.declared.path.Path.{Path};
 ghost use Rattle.lr_rules.specs.declared.civil.Moment.{Moment};
 ghost use Rattle.lr_rules.specs.declared.rules.Rules.{Rules};
 ghost use Rattle.lr_rules.specs.declared.fault.Fault.{Fault};
 ghost use Rattle.lr_rules.specs.declared.rule.Rule.{Rule};
 ghost use Rattle.lr_host.specs.declared.entry.Entry.{Entry};
+ghost use Rattle.lr_host.specs.Opening.{IsJournal};
+ghost use Rattle.lr_host.specs.Quiet.{AreQuiet};
+ghost use Rattle.lr_host.specs.Safe.{IsSafe};
+ghost use Rattle.lr_host.specs.Sets.{LogSet};
+ghost use Rattle.lr_host.specs.Steady.{IsSteady};
+ghost use Rattle.lr_host.specs.Told.{Made};
+ghost use Rattle.lr_host.specs.World.{Past, world, names};
 ghost use Rattle.lr_plan.specs.declared.looks.SetLooks.{SetLooks};
 ghost use Rattle.lr_plan.specs.Counted.{calls_in};
 ghost use Rattle.lr_looks.specs.Shown.{ShowsLooks};
 ghost use Rattle.lr_seen.specs.Built.{AreBuiltRules};
-ghost use Rattle.lr_run.specs.Runs.{Runs};
+ghost use Rattle.lr_rotations.specs.Target.{Target, IsOneOf};
+ghost use Rattle.lr_run.specs.Rotated.{rotated_logs};
+ghost use Rattle.lr_run.specs.Runs.{Inside, Works, Runs};
 ghost use Rattle.lr_cli.specs.declared.outcome.Outcome.TheVariants.{Done};
 ghost use Rattle.lr_cli.specs.declared.outcome.Report.{Report};
 ghost use Rattle.lr_cli.specs.Answer.{Answered};
@@ -45,4 +55,14 @@ pub fn reports_are_fixed()
 pub fn directories_are_listed_once()
     ensures { (state : Path) (force : Bool) (now : Moment) (rules : Rules) (own : List Fault) (ts : List Entry) → AreBuiltRules rules.sets
         → Runs state force now rules own ts → (dir : Path) → listings_of dir ts ≤ 1 }
+{}
+
+/// A run leaves each set alone whose log it doesn't rotate, whatever failed: each member names what it named before. It
+/// holds of sets that are safe before and steady.
+pub fn others_are_left()
+    ensures { (s : LogSet) (state : Path) (force : Bool) (now : Moment) (rules : Rules) (own : List Fault) (p q : Past) (es reads acts : List Entry) → AreBuiltRules rules.sets
+        → Made p es q → IsJournal p → reverse es ≡ reads ++ acts → AreQuiet reads → (i : Inside state now rules (Works rules.sets now force own) acts)
+        → IsSafe s p → IsSteady s q
+        → ((t : Target) → IsOneOf t (rotated_logs rules.sets now force i.within.sets) → t.log ≢ s.log)
+        → (y : Path) (k : ℤ) → s.key y ≡ Some k → names (world q) y ≡ names (world p) y }
 {}

@@ -1,10 +1,14 @@
 //! What the entries of a call show. Where no call failed, they fix what was found and what is told: one outcome of a run's
-//! looks, the faults of one run and one report, and no other. And no directory is listed twice in a run.
+//! looks, the faults of one run and one report, and no other. No directory is listed twice in a run, and a run leaves each
+//! set alone whose log it doesn't rotate.
 //!
 //! A law is the contract of a function without a body: `looks_are_fixed`, `faults_are_fixed`,
-//! `reports_are_fixed` and `directories_are_listed_once`.
+//! `reports_are_fixed`, `directories_are_listed_once` and `others_are_left`.
 #![tactic(auto)]
 
 mod laws;
 
-pub use laws::{directories_are_listed_once, faults_are_fixed, looks_are_fixed, reports_are_fixed};
+pub use laws::{
+    directories_are_listed_once, faults_are_fixed, looks_are_fixed, others_are_left,
+    reports_are_fixed,
+};
