@@ -25,6 +25,10 @@ use Rattle.lr_cli.specs.Words.{AreWords}
 abbrev pub state_path : Path
 state_path = codes "/var/lib/logrotate/status"
 
+-- the program that mails files, so far
+abbrev pub mailer_path : Path
+mailer_path = codes "/usr/bin/mail"
+
 -- the first moment of 1970, which is the civil part of each run's moment so far
 pub record IsFirst (civil : Civil) : Type 0 where
   pub year : civil.year ≡ pos 1970

@@ -1,6 +1,6 @@
 // When a run is made, and where its state file is.
-ghost use Rattle.std.specs.Prelude.{◌≡◌, true, IfOk, IfSome, IfNone};
-ghost use Rattle.lr_cli.specs.Answer.{IsFirst, IsNow, IsInRange, state_path};
+ghost use Rattle.std.specs.Prelude.{◌≡◌, true, false, IfOk, IfSome, IfNone};
+ghost use Rattle.lr_cli.specs.Answer.{IsFirst, IsNow, IsInRange, state_path, mailer_path};
 
 use lr_plan::Settings;
 use lr_rules::{Civil, Clock, Memory, Moment, Path};
@@ -18,6 +18,7 @@ pub fn first_civil() -> Civil
 pub fn clock_at(seconds: i64) -> Option<Clock>
     ensures some { IfSome result (λ clock. IsInRange seconds × IsNow seconds clock.now) }
     ensures none { IfNone result (IsInRange seconds → ⊥) }
+    ensures others { IfSome result (λ clock. (clock.yesterday ≡ clock.now) × (clock.hour_ago ≡ clock.now)) }
 {
     if seconds < 0 || seconds > 250_000_000_000 {
         return None;
@@ -45,7 +46,9 @@ pub fn state_file(alloc: Global) -> Result<Path, Memory>
 }
 
 // The path of the program that mails files.
-fn mailer_file(alloc: Global) -> Result<Path, Memory> {
+fn mailer_file(alloc: Global) -> Result<Path, Memory>
+    ensures { IfOk result (λ path. path ≡ mailer_path) }
+{
     match Path::new(alloc, b"/usr/bin/mail") {
         Ok(path) => Ok(path),
         // As above.
@@ -53,10 +56,14 @@ fn mailer_file(alloc: Global) -> Result<Path, Memory> {
     }
 }
 
-/// What each call asks for so far: that state file, and that each log is rotated whatever its state says.
+/// What each call asks for so far: that state file, that each log is rotated whatever its state says, and `/usr/bin/mail`
+/// as the program that mails files; the run is no trial, and prints no steps.
 pub fn settings(alloc: Global) -> Result<Settings, Memory>
     ensures state { IfOk result (λ settings. settings.state ≡ state_path) }
     ensures force { IfOk result (λ settings. settings.force ≡ true) }
+    ensures mailer { IfOk result (λ settings. settings.mailer ≡ mailer_path) }
+    ensures debug { IfOk result (λ settings. settings.debug ≡ false) }
+    ensures verbose { IfOk result (λ settings. settings.verbose ≡ false) }
 {
     let state = state_file(alloc)?;
     let mailer = mailer_file(alloc)?;
