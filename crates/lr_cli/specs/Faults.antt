@@ -1,10 +1,13 @@
 -- The faults of a call's answer.
-use Rattle.std.specs.Prelude.{Contains, Result, Ok, Err}
+use Rattle.std.specs.Prelude.{◌≢◌, Contains, List, [], ◌∷◌, Result, Ok, Err}
 use Rattle.lr_rules.specs.declared.fault.Fault.{Fault}
+use Rattle.lr_rules.specs.declared.fault.Fault.TheVariants as fault
+use Rattle.lr_rules.specs.Path.{parent_of}
 use Rattle.lr_host.specs.Told.{Counts}
 use Rattle.lr_plan.specs.Counted.{AreCounted}
 use Rattle.lr_run.specs.declared.answer.RunStop.{RunStop}
 use Rattle.lr_run.specs.declared.answer.RunStop.TheVariants as stop
+use Rattle.lr_cli.specs.Answer.{state_path}
 use Rattle.lr_cli.specs.declared.outcome.Outcome.{Outcome}
 use Rattle.lr_cli.specs.declared.outcome.Outcome.TheVariants.{Done, Held, OutOfMemory}
 use Rattle.lr_cli.specs.declared.told.Told.{Told}
@@ -24,3 +27,15 @@ HasFault _ f = ⊥
 abbrev pub HasCounted : Outcome → Counts → Counts → Type 0
 HasCounted (Done report) counted counts = AreCounted report.faults counted counts
 HasCounted _ counted counts = Unit {0}
+
+-- The fault stopped nothing that was planned: it ended no run before its plan, and tells of no call that failed and of no script that ended badly. So it is one of the configuration, of what the looks saw, or of the plan.
+abbrev pub StopsNothing : Fault → Type 0
+StopsNothing fault.Clock = ⊥
+StopsNothing (fault.NoDir path) = path ≢ parent_of state_path
+StopsNothing (fault.Call kind path) = ⊥
+StopsNothing (fault.Script phase on end) = ⊥
+StopsNothing _ = Unit {0}
+
+abbrev pub StopNothing : List Fault → Type 0
+StopNothing [] = Unit {0}
+StopNothing (f ∷ fs) = StopsNothing f × StopNothing fs

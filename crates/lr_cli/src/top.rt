@@ -1,5 +1,5 @@
 // The top call.
-ghost use Rattle.std.specs.Prelude.{◌≡◌, ◌≢◌, ◌≤◌, ◌⊎◌, ◌↔◌, All, Contains, Some};
+ghost use Rattle.std.specs.Prelude.{◌≡◌, ◌≢◌, ◌≤◌, ◌⊎◌, ◌↔◌, Contains, Some};
 ghost use Rattle.lr_rules.specs.declared.path.Path.{Path};
 ghost use Rattle.lr_rules.specs.declared.fault.Fault.TheVariants as fault;
 ghost use Rattle.lr_host.specs.declared.journal.Journal.{Journal};
@@ -7,11 +7,10 @@ ghost use Rattle.lr_host.specs.Opening.{IsJournal};
 ghost use Rattle.lr_host.specs.World.{past};
 ghost use Rattle.lr_host.specs.Told.{Left, NoneFell, Rose};
 ghost use Rattle.lr_host.specs.Safe.{KeepsSafe};
-ghost use Rattle.lr_include.specs.Readers.{IsConf};
 ghost use Rattle.lr_report.specs.Puts.{Took, TookPart};
 ghost use Rattle.lr_cli.specs.declared.outcome.Report.{Report};
 ghost use Rattle.lr_cli.specs.Answer.{Answered};
-ghost use Rattle.lr_cli.specs.Faults.{HasFault, HasCounted};
+ghost use Rattle.lr_cli.specs.Faults.{HasFault, HasCounted, StopNothing};
 ghost use Rattle.lr_cli.specs.Printed.{printed_of, without_out};
 ghost use Rattle.lr_cli.specs.Rotated.{RotatesAll};
 ghost use Rattle.lr_cli.specs.Words.{AreWords, HaveForm};
@@ -45,8 +44,9 @@ pub fn logrotate<H: Host, K: Sink>(
     // looks, the acts of the plan that follows from them, and the end.
     ensures told { Left (Answered here.now words.now now (without_out result)) (H.told host.old) (H.told host.new) }
 
-    // Where the report has no fault but those of the configuration, each log of the plan was rotated, file by file.
-    ensures rotated { (report : Report) (before after : Journal) → without_out result ≡ Outcome.Done report → All IsConf report.faults → H.told host.old ≡ Some before → H.told host.new ≡ Some after → IsJournal (past before) → (conf : Path) × AreWords here.now words.now conf × RotatesAll conf before after }
+    // Where the run came to its plan and the report tells of no call that failed, each log of the plan was rotated, file by
+    // file, whatever else is told: of other logs that aren't there, say.
+    ensures rotated { (report : Report) (before after : Journal) → without_out result ≡ Outcome.Done report → StopNothing report.faults → H.told host.old ≡ Some before → H.told host.new ≡ Some after → IsJournal (past before) → (conf : Path) × AreWords here.now words.now conf × RotatesAll conf now report.faults before after }
 
     // What the output took: a first part of what is printed of the answer, and all of it unless a put failed.
     ensures printed { TookPart (printed_of result) (K.taken out.old) (K.taken out.new) }

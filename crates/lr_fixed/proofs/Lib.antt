@@ -7,7 +7,6 @@ mod Families
 mod Words
 mod Kept
 mod Whole
-mod Called
 mod Planned
 mod Run
 mod Meanings

@@ -26,7 +26,8 @@ use Rattle.lr_cli.specs.declared.outcome.Outcome.TheVariants.{Done}
 use Rattle.lr_cli.specs.declared.outcome.Report.{Report}
 use Rattle.lr_cli.specs.Answer.{state_path, IsFirst, IsNow, Reports, AnswersAt, no_clock, no_memory, called, Answered, not_read, read}
 use Rattle.lr_cli.specs.Words.{AreWords}
-use Rattle.lr_fixed.proofs.Run.{none_before, none_behind, runs_one}
+use Rattle.lr_run.proofs.Called.{none_before, none_behind}
+use Rattle.lr_fixed.proofs.Run.{runs_one}
 use Rattle.lr_cli.proofs.Rotating.{means_built}
 use Rattle.lr_fixed.proofs.Meanings.{no_failed, meaning_one, conf_front, begins_by_read, means_front}
 

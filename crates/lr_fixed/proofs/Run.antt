@@ -12,24 +12,15 @@ use Rattle.lr_host.specs.declared.entry.Entry.TheVariants as entry
 use Rattle.lr_host.specs.Looks.{Sees, IsDir, IsNotDir}
 use Rattle.lr_plan.specs.declared.planned.Plan.{Plan}
 use Rattle.lr_plan.specs.Counted.{calls_in}
-use Rattle.lr_plan.proofs.Counts.{calls_on}
 use Rattle.lr_fixed.specs.Alike.{AreAlike}
 use Rattle.lr_fixed.proofs.Peeled.{one_look, others_same}
 use Rattle.lr_fixed.proofs.Whole.{looks_one}
 use Rattle.lr_seen.specs.Built.{AreBuiltRules}
 use Rattle.lr_run.specs.Runs.{Works, Runs, no_directory, not_seen, not_begun, worked}
-use Rattle.lr_fixed.proofs.Called.{acts_met_none}
+use Rattle.lr_run.proofs.Called.{none_before, works_met_none}
 use Rattle.lr_fixed.proofs.Planned.{alike_same}
 
 -- ---- parts of faults in which no call failed
-
--- none in a first part
-pub none_before : (all xs ys : List Fault) → all ≡ xs ++ ys → calls_in all ≡ 0 → calls_in xs ≡ 0
-none_before all xs ys e z = let a = ap calls_in e in let b = calls_on xs ys in omega (arith, a, b, z)
-
--- none in what is added
-pub none_behind : (all xs ys : List Fault) → all ≡ xs ++ ys → calls_in all ≡ 0 → calls_in ys ≡ 0
-none_behind all xs ys e z = let a = ap calls_in e in let b = calls_on xs ys in omega (arith, a, b, z)
 
 -- one failed call isn't none
 pub one_called : (own : List Fault) (f : Fault) → own ≡ f ∷ [] → calls_in (f ∷ []) ≡ 1 → calls_in own ≡ 0 → ⊥
@@ -50,11 +41,11 @@ module _ (rules : List Rule) (now : Moment) (force : Bool) (own more : List Faul
 
   -- the acts of the one met none
   acts_v : v.of_acts ≡ []
-  acts_v = acts_met_none rules v.sets now force v.plan v.marks v.of_acts v.entries.back built v.planned v.entries.second (none_behind _ v.plan.faults v.of_acts refl (none_behind own v.of_looks _ v.faults_are c))
+  acts_v = works_met_none rules now force own ts built v c
 
   -- nor did those of the other
   acts_w : w.of_acts ≡ []
-  acts_w = acts_met_none rules w.sets now force w.plan w.marks w.of_acts w.entries.back built w.planned w.entries.second (none_behind _ w.plan.faults w.of_acts refl (none_behind more w.of_looks _ w.faults_are d))
+  acts_w = works_met_none rules now force more us built w d
 
   -- two works that left the same entries met the same faults
   works_one : own ≡ more

@@ -6,7 +6,6 @@ use Rattle.lr_rules.specs.declared.rule.Rule.{Rule}
 use Rattle.lr_host.specs.declared.entry.Entry.{Entry}
 use Rattle.lr_plan.specs.declared.looks.SetLooks.{SetLooks}
 use Rattle.lr_plan.specs.Counted.{calls_in}
-use Rattle.lr_plan.proofs.Counts.{calls_on}
 use Rattle.lr_looks.specs.Asked.{asked_by}
 use Rattle.lr_looks.specs.Choices.{choice_faults, kind_fault, kept_of, where_file, Keeps}
 use Rattle.lr_looks.specs.Families.{LookedLog, ShowFamilies, family_faults, looked_of}
@@ -14,22 +13,13 @@ use Rattle.lr_looks.specs.Found.{FoundLog}
 use Rattle.lr_looks.specs.Sets.{HaveLooksFrom}
 use Rattle.lr_looks.specs.Shown.{ShowsLooks}
 use Rattle.lr_looks.specs.Sights.{looks_of, faults_of, found_of}
+use Rattle.lr_run.proofs.Called.{none_before, none_behind}
 use Rattle.lr_fixed.specs.Alike.{AreAlikeFrom, AreAlike}
 use Rattle.lr_fixed.proofs.Families.{families_one}
 use Rattle.lr_fixed.proofs.Kept.{choices_one}
 use Rattle.lr_fixed.proofs.Listings.{none_alike}
 use Rattle.lr_fixed.proofs.Peeled.{front_same, then_same, joined_same}
 use Rattle.lr_fixed.proofs.Words.{words_one}
-
--- ---- parts of faults in which no call failed
-
--- none in a first part
-none_before : (all xs ys : List Fault) → all ≡ xs ++ ys → calls_in all ≡ 0 → calls_in xs ≡ 0
-none_before all xs ys e z = let a = ap calls_in e in let b = calls_on xs ys in omega (arith, a, b, z)
-
--- none in what is added
-none_behind : (all xs ys : List Fault) → all ≡ xs ++ ys → calls_in all ≡ 0 → calls_in ys ≡ 0
-none_behind all xs ys e z = let a = ap calls_in e in let b = calls_on xs ys in omega (arith, a, b, z)
 
 -- ---- what is kept of the same logs
 

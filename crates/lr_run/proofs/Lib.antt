@@ -1,9 +1,10 @@
 mod Sights
 pub mod Simple
+pub mod Folded
 mod Working
 mod Works
+pub mod Called
 pub mod Shape
 mod Parts
 mod Ending
 pub mod Rotating
-pub mod Own

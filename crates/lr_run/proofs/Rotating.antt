@@ -1,4 +1,4 @@
--- A run without faults rotates each log of its plan.
+-- A run of which no call failed rotates each log of its plan.
 use Rattle.std.proofs.Common.{◌≡◌, ◌≢◌, inl, inr, Bool, List, [], ◌∷◌, ◌++◌, reverse, sym, ap, ◌∙◌, subst, append_assoc}
 use Rattle.lr_rules.specs.declared.civil.Moment.{Moment}
 use Rattle.lr_rules.specs.declared.fault.Fault.{Fault}
@@ -16,6 +16,7 @@ use Rattle.lr_host.specs.World.{Past}
 use Rattle.lr_host.proofs.Quiet.{quiet_both}
 use Rattle.lr_kept.proofs.Finding.{meet_back}
 use Rattle.lr_plan.specs.declared.planned.Plan.{Plan}
+use Rattle.lr_plan.specs.Counted.{calls_in}
 use Rattle.lr_plan.specs.Done.{PlanDone}
 use Rattle.lr_plan.specs.Planned.{decision, plan_of}
 use Rattle.lr_rotations.specs.AllTurns.{AllTurned, other_paths}
@@ -36,6 +37,7 @@ use Rattle.lr_seen.proofs.Ready.{plans_have_logs}
 use Rattle.lr_seen.proofs.Seen.{targets_seen, targets_have_names}
 use Rattle.lr_run.specs.Rotated.{rotated_logs, IsAsideOfState, IsRotatedAmong}
 use Rattle.lr_run.specs.Runs.{Inside, Works}
+use Rattle.lr_run.proofs.Called.{works_met_none}
 use Rattle.lr_run.proofs.Shape.{sees_quiet, ended_whole}
 
 -- ---- one of the logs
@@ -63,28 +65,23 @@ apart_of t x (y ∷ ys) h d (inr i) (inr j) ne m = apart_of t x ys h.1 d.1 i j n
 
 -- ---- the run
 
--- the work of a run without faults
-abbrev works_whole : (state : Path) (rules : Rules) (now : Moment) (force : Bool) (ts : List Entry) → AreBuiltRules rules.sets → (w : Works rules.sets now force [] ts) → w.of_acts ≡ [] → AllTurned state rules (w.entries.front ++ w.entries.back)
-works_whole state rules now force ts built w none =
+-- the work of a run whose acts met no fault
+abbrev works_whole : (state : Path) (rules : Rules) (now : Moment) (force : Bool) (own : List Fault) (ts : List Entry) → AreBuiltRules rules.sets → (w : Works rules.sets now force own ts) → w.of_acts ≡ [] → AllTurned state rules (w.entries.front ++ w.entries.back)
+works_whole state rules now force own ts built w none =
     done_turned state rules w.entries.front (rotated_logs rules.sets now force w.sets) _ w.marks w.entries.back
     (whole_quiet rules.sets w.sets w.of_looks w.entries.front w.entries.first) (targets_seen rules w.sets w.of_looks w.entries.front (decision [] now force) built w.entries.first)
     (ready_planned (groups_of (decision [] now force) rules.sets w.sets) _ (plans_have_logs rules.sets w.sets w.of_looks w.entries.front (decision [] now force) built w.entries.first)
     (targets_apart rules.sets w.sets w.of_looks w.entries.front (decision [] now force) w.entries.first))
     (subst (λ (fs : List Fault). PlanDone (plan_of rules.sets w.sets [] now force) w.marks fs w.entries.back) none (subst (λ (p : Plan). PlanDone p w.marks w.of_acts w.entries.back) w.planned w.entries.second))
 
-none_behind : {A : Type 0} (xs ys zs : List A) → [] ≡ xs ++ (ys ++ zs) → zs ≡ []
-none_behind [] [] zs e = sym e
-none_behind [] (y ∷ ys) zs e = absurd (cc)
-none_behind (x ∷ xs) ys zs e = absurd (cc)
-
-pub run_rotated : (state : Path) (force : Bool) (now : Moment) (rules : Rules) (p q : Past) (es reads acts : List Entry) → AreBuiltRules rules.sets → Made p es q → IsJournal p → reverse es ≡ reads ++ acts → AreQuiet reads
-    → (i : Inside state now rules (Works rules.sets now force []) acts) → (t : Target) → IsOneOf t (rotated_logs rules.sets now force i.within.sets) → IsRotatedAmong state (rotated_logs rules.sets now force i.within.sets) p q t
-run_rotated state force now rules p q es reads acts built made journal joined quiet i t one = λ unattached aside. (
+pub run_rotated : (state : Path) (force : Bool) (now : Moment) (rules : Rules) (own : List Fault) (p q : Past) (es reads acts : List Entry) → AreBuiltRules rules.sets → Made p es q → IsJournal p → reverse es ≡ reads ++ acts → AreQuiet reads
+    → (i : Inside state now rules (Works rules.sets now force own) acts) → calls_in own ≡ 0 → (t : Target) → IsOneOf t (rotated_logs rules.sets now force i.within.sets) → IsRotatedAmong state (rotated_logs rules.sets now force i.within.sets) p q t
+run_rotated state force now rules own p q es reads acts built made journal joined quiet i no_call t one = λ unattached aside. (
   seen_members (other_paths state t.log targets) t.log t.naming t.count t.stand p q es made journal has.family has.next unattached (aside_paths aside) among,
   rotated_whole (other_paths state t.log targets) t.log t.naming t.count t.stand p q es made journal has.family has.next unattached (aside_paths aside) among,
 )
   where
-    w : Works rules.sets now force [] i.between
+    w : Works rules.sets now force own i.between
     w = i.within
 
     targets : List Target
@@ -97,10 +94,10 @@ run_rotated state force now rules p q es reads acts built made journal joined qu
     has = names_one t targets named one
 
     none : w.of_acts ≡ []
-    none = none_behind w.of_looks w.plan.faults w.of_acts w.faults_are
+    none = works_met_none rules.sets now force own i.between built w no_call
 
     turned : AllTurned state rules ((w.entries.front ++ w.entries.back) ++ entry.Ends ∷ [])
-    turned = ended_whole state rules (w.entries.front ++ w.entries.back) (works_whole state rules now force i.between built w none)
+    turned = ended_whole state rules (w.entries.front ++ w.entries.back) (works_whole state rules now force own i.between built w none)
 
     whole : reverse es ≡ (reads ++ i.before) ++ (entry.Starts state now rules ∷ ((w.entries.front ++ w.entries.back) ++ entry.Ends ∷ []))
     whole = joined ∙ (ap (λ xs. reads ++ xs) (i.entries ∙ ap (λ xs. i.before ++ (entry.Starts state now rules ∷ (xs ++ entry.Ends ∷ []))) w.entries.joined) ∙ sym (append_assoc reads i.before _))

@@ -1,6 +1,5 @@
 -- Between its begin and its end a run leaves looks, listings and changes alone, so it goes on.
-use Rattle.std.proofs.Common.{◌≡◌, ◌⊎◌, inl, inr, true, false, cond, Bool, List, [], ◌∷◌, ◌++◌, reverse, Option, refl, sym, ap, ◌∙◌, subst}
-use Rattle.std.specs.List.{list_any}
+use Rattle.std.proofs.Common.{◌≡◌, ◌⊎◌, inl, inr, true, List, [], ◌∷◌, reverse, Option, refl, sym, ap, ◌∙◌, subst}
 use Rattle.std.proofs.lemmas.List.{reverse-reverse}
 use Rattle.lr_rules.specs.declared.path.Path.{Path}
 use Rattle.lr_rules.specs.declared.civil.Moment.{Moment}
@@ -17,10 +16,10 @@ use Rattle.lr_plan.specs.declared.step.SetSteps.{SetSteps}
 use Rattle.lr_plan.specs.declared.step.Step.{Step}
 use Rattle.lr_plan.specs.declared.step.Step.TheVariants.{Removes, Renames, Rotated}
 use Rattle.lr_plan.specs.Outcomes.{Succeeds, Fails}
-use Rattle.lr_plan.specs.Course.{Course}
-use Rattle.lr_plan.specs.Done.{EachDone, LogsDone, SetDone, broke_off, went_on, SetsDone, if_rotated, is_rotated}
-use Rattle.lr_acts.specs.Making.{all_of_each, all_of_set, all_of_sets}
-use Rattle.lr_run.proofs.Simple.{IsSimple, AreSimple, simple_split}
+use Rattle.lr_plan.specs.Done.{SetsDone}
+use Rattle.lr_acts.specs.Making.{all_of_sets}
+use Rattle.lr_run.proofs.Folded.{Folds, acts_fold}
+use Rattle.lr_run.proofs.Simple.{IsSimple, AreSimple}
 
 -- neither the begin nor the end of a run, nor a writer's
 abbrev pub IsWork : Entry → Type 0
@@ -62,37 +61,17 @@ failed_work _ f ts i h = absurd i
 
 -- ---- all of them
 
-joined_work : (ts us vs : List Entry) → ts ≡ us ++ vs → AreWork us → AreWork vs → AreWork ts
-joined_work ts us vs e h g = are_work ts (us ++ vs) e (each_append IsWork us vs h g)
-
-course_work : (steps : List Step) (ms : List Mark) (fs : List Fault) (ts : List Entry) → AreSimple steps → Course steps ms fs ts → AreWork ts
-course_work [] ms fs ts i h = are_work ts [] h.2 tt
-course_work (s ∷ ss) ms fs ts i (inl h) = failed_work s h.fault ts i.0 h.failed
-course_work (s ∷ ss) ms fs ts i (inr h) = joined_work ts h.entries.front h.entries.back h.entries.joined (made_work s h.entries.front i.0 h.entries.first) (course_work ss h.later fs h.entries.back i.1 h.entries.second)
-
-each_work : (each : List (List Step)) (ms : List Mark) (fs : List Fault) (ts : List Entry) → AreSimple (all_of_each each) → EachDone each ms fs ts → AreWork ts
-each_work [] ms fs ts i h = are_work ts [] h.2 tt
-each_work (s ∷ ss) ms fs ts i h = let r = simple_split s (all_of_each ss) i in
-    joined_work ts h.entries.front h.entries.back h.entries.joined (course_work s h.first_marks h.first_faults h.entries.front r.0 h.entries.first) (each_work ss h.second_marks h.second_faults h.entries.back r.1 h.entries.second)
-
-last_simple : (b : Bool) (last : List Step) → AreSimple last → AreSimple (cond b last [])
-last_simple true last i = i
-last_simple false last i = tt
-
-set_work : (set : SetSteps) (ms : List Mark) (fs : List Fault) (ts : List Entry) → AreSimple (all_of_set set) → SetDone set ms fs ts → AreWork ts
-set_work set ms fs ts i (broke_off h) = course_work set.first ms fs ts (simple_split set.first _ i).0 h.part
-set_work set ms fs ts i (went_on h) =
-    let r = simple_split set.first _ i in
-    let s = simple_split (all_of_each set.each) set.last r.1 in
-    let l : LogsDone set.each set.last h.second_marks h.second_faults h.entries.back = h.entries.second in
-    joined_work ts h.entries.front h.entries.back h.entries.joined (course_work set.first h.first_marks h.first_faults h.entries.front r.0 h.entries.first.1)
-    (joined_work h.entries.back l.entries.front l.entries.back l.entries.joined (each_work set.each l.by_each l.of_each l.entries.front s.0 l.entries.first)
-    (course_work (if_rotated l.by_each set.last) l.by_last l.of_last l.entries.back (last_simple (list_any is_rotated l.by_each) set.last s.1) l.entries.second))
+-- the acts leave work alone
+work_folds : Folds (λ fs ts. AreWork ts)
+work_folds = record {
+  none = tt;
+  made = made_work;
+  failed = failed_work;
+  both = λ fs gs ts us h g. each_append IsWork ts us h g;
+}
 
 pub sets_work : (sets : List SetSteps) (ms : List Mark) (fs : List Fault) (ts : List Entry) → AreSimple (all_of_sets sets) → SetsDone sets ms fs ts → AreWork ts
-sets_work [] ms fs ts i h = are_work ts [] h.2 tt
-sets_work (s ∷ ss) ms fs ts i h = let r = simple_split (all_of_set s) (all_of_sets ss) i in
-    joined_work ts h.entries.front h.entries.back h.entries.joined (set_work s h.first_marks h.first_faults h.entries.front r.0 h.entries.first) (sets_work ss h.second_marks h.second_faults h.entries.back r.1 h.entries.second)
+sets_work sets ms fs ts i h = acts_fold (λ fs ts. AreWork ts) work_folds sets ms fs ts i h
 
 -- ---- the run goes on
 

@@ -1,22 +1,24 @@
-// What a run without faults makes of its logs.
-ghost use Rattle.std.specs.Prelude.{◌≡◌, Bool, List, [], ◌++◌, reverse};
+// What a run of which no call failed makes of its logs.
+ghost use Rattle.std.specs.Prelude.{◌≡◌, Bool, List, ◌++◌, reverse};
 ghost use Rattle.lr_rules.specs.declared.path.Path.{Path};
 ghost use Rattle.lr_rules.specs.declared.civil.Moment.{Moment};
+ghost use Rattle.lr_rules.specs.declared.fault.Fault.{Fault};
 ghost use Rattle.lr_rules.specs.declared.rules.Rules.{Rules};
 ghost use Rattle.lr_host.specs.declared.entry.Entry.{Entry};
 ghost use Rattle.lr_host.specs.World.{Past};
 ghost use Rattle.lr_host.specs.Opening.{IsJournal};
 ghost use Rattle.lr_host.specs.Quiet.{AreQuiet};
 ghost use Rattle.lr_host.specs.Told.{Made};
+ghost use Rattle.lr_plan.specs.Counted.{calls_in};
 ghost use Rattle.lr_rotations.specs.Target.{Target, IsOneOf};
 ghost use Rattle.lr_seen.specs.Built.{AreBuiltRules};
 ghost use Rattle.lr_run.specs.Rotated.{rotated_logs, IsRotatedAmong};
 ghost use Rattle.lr_run.specs.Runs.{Inside, Works};
 
-/// A run without faults, behind reads that change nothing, rotates each log of its plan whole, whatever writers do
-/// meanwhile.
+/// A run that tells no failed call, behind reads that change nothing, rotates each log of its plan whole, whatever writers
+/// do meanwhile, and whatever else it tells: of a log that isn't there, or that meets another, say.
 pub fn run_rotates_all()
-    ensures { (state : Path) (force : Bool) (now : Moment) (rules : Rules) (p q : Past) (es reads acts : List Entry) → AreBuiltRules rules.sets
-        → Made p es q → IsJournal p → reverse es ≡ reads ++ acts → AreQuiet reads → (i : Inside state now rules (Works rules.sets now force []) acts)
+    ensures { (state : Path) (force : Bool) (now : Moment) (rules : Rules) (own : List Fault) (p q : Past) (es reads acts : List Entry) → AreBuiltRules rules.sets
+        → Made p es q → IsJournal p → reverse es ≡ reads ++ acts → AreQuiet reads → (i : Inside state now rules (Works rules.sets now force own) acts) → calls_in own ≡ 0
         → (t : Target) → IsOneOf t (rotated_logs rules.sets now force i.within.sets) → IsRotatedAmong state (rotated_logs rules.sets now force i.within.sets) p q t }
 {}

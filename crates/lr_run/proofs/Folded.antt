@@ -1,0 +1,62 @@
+-- What holds of each step that was made and of each that failed holds of all acts of a plan.
+use Rattle.std.proofs.Common.{◌≡◌, inl, inr, Bool, true, false, cond, List, [], ◌∷◌, ◌++◌, sym, subst}
+use Rattle.std.specs.List.{list_any}
+use Rattle.lr_rules.specs.declared.fault.Fault.{Fault}
+use Rattle.lr_host.specs.declared.entry.Entry.{Entry}
+use Rattle.lr_plan.specs.declared.mark.Mark.{Mark}
+use Rattle.lr_plan.specs.declared.step.SetSteps.{SetSteps}
+use Rattle.lr_plan.specs.declared.step.Step.{Step}
+use Rattle.lr_plan.specs.Outcomes.{Succeeds, Fails}
+use Rattle.lr_plan.specs.Course.{Course}
+use Rattle.lr_plan.specs.Done.{EachDone, LogsDone, SetDone, broke_off, went_on, SetsDone, if_rotated, is_rotated}
+use Rattle.lr_acts.specs.Making.{all_of_each, all_of_set, all_of_sets}
+use Rattle.lr_run.proofs.Simple.{IsSimple, AreSimple, simple_split}
+
+-- it holds where nothing was done, of each step by itself, and of two parts where it holds of each
+pub record Folds (F : List Fault → List Entry → Type 0) : Type 0 where
+  pub none : F [] []
+  pub made : (s : Step) (ts : List Entry) → IsSimple s → Succeeds s ts → F [] ts
+  pub failed : (s : Step) (f : Fault) (ts : List Entry) → IsSimple s → Fails s f ts → F (f ∷ []) ts
+  pub both : (fs gs : List Fault) (ts us : List Entry) → F fs ts → F gs us → F (fs ++ gs) (ts ++ us)
+
+-- said of the same faults and entries in other words
+stated : (F : List Fault → List Entry → Type 0) (fs gs : List Fault) (ts us : List Entry) → fs ≡ gs → ts ≡ us → F gs us → F fs ts
+stated F fs gs ts us e d h = subst (λ (xs : List Fault). F xs ts) (sym e) (subst (λ (xs : List Entry). F gs xs) (sym d) h)
+
+course_folds : (F : List Fault → List Entry → Type 0) → Folds F → (steps : List Step) (ms : List Mark) (fs : List Fault) (ts : List Entry) → AreSimple steps → Course steps ms fs ts → F fs ts
+course_folds F k [] ms fs ts i h = stated F fs [] ts [] h.1 h.2 k.none
+course_folds F k (s ∷ ss) ms fs ts i (inl h) = subst (λ (xs : List Fault). F xs ts) (sym h.told) (k.failed s h.fault ts i.0 h.failed)
+course_folds F k (s ∷ ss) ms fs ts i (inr h) = subst (λ (xs : List Entry). F fs xs) (sym h.entries.joined)
+    (k.both [] fs h.entries.front h.entries.back (k.made s h.entries.front i.0 h.entries.first) (course_folds F k ss h.later fs h.entries.back i.1 h.entries.second))
+
+each_folds : (F : List Fault → List Entry → Type 0) → Folds F → (each : List (List Step)) (ms : List Mark) (fs : List Fault) (ts : List Entry) → AreSimple (all_of_each each) → EachDone each ms fs ts → F fs ts
+each_folds F k [] ms fs ts i h = stated F fs [] ts [] h.1 h.2 k.none
+each_folds F k (s ∷ ss) ms fs ts i h = let r = simple_split s (all_of_each ss) i in
+    stated F fs (h.first_faults ++ h.second_faults) ts (h.entries.front ++ h.entries.back) h.faults_are h.entries.joined
+    (k.both h.first_faults h.second_faults h.entries.front h.entries.back (course_folds F k s h.first_marks h.first_faults h.entries.front r.0 h.entries.first) (each_folds F k ss h.second_marks h.second_faults h.entries.back r.1 h.entries.second))
+
+last_simple : (b : Bool) (last : List Step) → AreSimple last → AreSimple (cond b last [])
+last_simple true last i = i
+last_simple false last i = tt
+
+logs_folds : (F : List Fault → List Entry → Type 0) → Folds F → (each : List (List Step)) (last : List Step) (ms : List Mark) (fs : List Fault) (ts : List Entry) → AreSimple (all_of_each each) → AreSimple last → LogsDone each last ms fs ts → F fs ts
+logs_folds F k each last ms fs ts i j h =
+    stated F fs (h.of_each ++ h.of_last) ts (h.entries.front ++ h.entries.back) h.faults_are h.entries.joined
+    (k.both h.of_each h.of_last h.entries.front h.entries.back (each_folds F k each h.by_each h.of_each h.entries.front i h.entries.first)
+    (course_folds F k (if_rotated h.by_each last) h.by_last h.of_last h.entries.back (last_simple (list_any is_rotated h.by_each) last j) h.entries.second))
+
+set_folds : (F : List Fault → List Entry → Type 0) → Folds F → (set : SetSteps) (ms : List Mark) (fs : List Fault) (ts : List Entry) → AreSimple (all_of_set set) → SetDone set ms fs ts → F fs ts
+set_folds F k set ms fs ts i (broke_off h) = course_folds F k set.first ms fs ts (simple_split set.first _ i).0 h.part
+set_folds F k set ms fs ts i (went_on h) =
+    let r = simple_split set.first _ i in
+    let s = simple_split (all_of_each set.each) set.last r.1 in
+    stated F fs (h.first_faults ++ h.second_faults) ts (h.entries.front ++ h.entries.back) h.faults_are h.entries.joined
+    (k.both h.first_faults h.second_faults h.entries.front h.entries.back (course_folds F k set.first h.first_marks h.first_faults h.entries.front r.0 h.entries.first.1)
+    (logs_folds F k set.each set.last h.second_marks h.second_faults h.entries.back s.0 s.1 h.entries.second))
+
+-- of the acts of all definitions
+pub acts_fold : (F : List Fault → List Entry → Type 0) → Folds F → (sets : List SetSteps) (ms : List Mark) (fs : List Fault) (ts : List Entry) → AreSimple (all_of_sets sets) → SetsDone sets ms fs ts → F fs ts
+acts_fold F k [] ms fs ts i h = stated F fs [] ts [] h.1 h.2 k.none
+acts_fold F k (s ∷ ss) ms fs ts i h = let r = simple_split (all_of_set s) (all_of_sets ss) i in
+    stated F fs (h.first_faults ++ h.second_faults) ts (h.entries.front ++ h.entries.back) h.faults_are h.entries.joined
+    (k.both h.first_faults h.second_faults h.entries.front h.entries.back (set_folds F k s h.first_marks h.first_faults h.entries.front r.0 h.entries.first) (acts_fold F k ss h.second_marks h.second_faults h.entries.back r.1 h.entries.second))
