@@ -8,4 +8,4 @@ mod Names
 mod Numbers
 mod Pieces
 mod Texts
-mod Views
+pub mod Views

@@ -1,7 +1,7 @@
 // The table of a state file.
-ghost use Rattle.std.specs.Prelude.{◌≡◌, ◌<◌, ◌≤◌, ◌^◌, ◌-◌, ℕ, List, [], filter, not, Bool, ◌||◌, ◌++◌, ◌∷◌, OnOk, OnErr, IsSome, IsOk, IsTrue, Some, Ok, length, take, min, slice_get};
+ghost use Rattle.std.specs.Prelude.{◌≡◌, ◌<◌, ◌≤◌, ◌^◌, ◌-◌, ℕ, List, [], filter, not, Bool, true, ◌||◌, ◌++◌, ◌∷◌, OnOk, OnErr, IsSome, IsOk, IsTrue, Some, Ok, length, take, min, slice_get};
 ghost use Rattle.lr_state.specs.Grammar.{TextSays};
-ghost use Rattle.lr_state.specs.Table.{Entry, moment_of, put, is_name, is_old, IsNameTest};
+ghost use Rattle.lr_state.specs.Table.{Entry, moment_of, put, is_name, is_old, is_table, IsNameTest};
 ghost use Rattle.lr_state.specs.Written.{line_of, text_of};
 
 use crate::write::put_line;
@@ -67,6 +67,8 @@ impl State {
         ensures ok { OnOk result (self.new ≡ put self.old name.now at) }
         ensures err { OnErr result (self.new ≡ self.old) }
         ensures there { IsSome (moment_of self.old name.now) → IsOk result }
+        // Each name of a table is one of a log, and none stands twice.
+        ensures table { is_table self.old ≡ true }
     {
         if let Some(held) = self.entries.get_mut(name) {
             *held = at;
