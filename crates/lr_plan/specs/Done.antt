@@ -57,9 +57,9 @@ SetsDone sets = Every SetDone sets
 abbrev pub PlanDone : Plan → Part
 PlanDone plan = SetsDone (steps_of_plan plan)
 
--- And then the state text, which says which logs were rotated; its steps are begun in any case.
-pub record ActsDone (plan : Plan) (state : Path) (stale : Bool) (text : List Path → List ℕ) (marks : List Mark) (faults : List Fault) (ts : List Entry) : Type 0 where
+-- And then the state text, which says which logs were rotated, behind the directories that the steps touched; its steps are begun in any case.
+pub record ActsDone (plan : Plan) (state : Path) (stale : Bool) (dirs : List Mark → List Path) (text : List Path → List ℕ) (marks : List Mark) (faults : List Fault) (ts : List Entry) : Type 0 where
   pub of_plan : List Fault
   pub of_state : List Fault
   pub faults_are : faults ≡ of_plan ++ of_state
-  pub entries : Then (PlanDone plan marks of_plan) (Course (state_steps state stale (text (rotated_logs marks))) [] of_state) ts
+  pub entries : Then (PlanDone plan marks of_plan) (Course (state_steps state stale (dirs marks) (text (rotated_logs marks))) [] of_state) ts
