@@ -9,10 +9,11 @@ use Rattle.lr_rules.specs.declared.fault.ConfKind.TheVariants as kind
 use Rattle.lr_conf.specs.declared.fields.Fields.{Fields}
 use Rattle.lr_conf.specs.declared.place.Place.{Place}
 use Rattle.lr_conf.specs.declared.place.Place.TheVariants.{Outside, Good, Dropped}
-use Rattle.lr_conf.specs.declared.set.Set.{Set}
-use Rattle.lr_conf.specs.declared.said.Said.{Said}
-use Rattle.lr_conf.specs.declared.said.Said.TheVariants as says
-use Rattle.lr_conf.specs.Says.{said}
+use Rattle.lr_forms.specs.declared.set.Set.{Set}
+use Rattle.lr_forms.specs.declared.said.Said.{Said}
+use Rattle.lr_forms.specs.declared.said.Said.TheVariants as says
+use Rattle.lr_forms.specs.declared.built.Built.TheVariants as built
+use Rattle.lr_forms.specs.Says.{said}
 use Rattle.lr_conf.specs.Fields.{fields_of}
 use Rattle.lr_conf.specs.Meaning.{Line, Read, Spoiled, End, Past, stands, spoiled, file_ends, Meaning, ◌and◌, told, conf, list_of, before, through, behind as behind_first, set_of, set_past, settings, names_past, settles, pending, first_line, first_pending, words_pending, past, notice_of, fault_of, drops, is_bad, set_in, notice_in, fault_in, ends, opens, rule_of, of_end, of_definition, of_body, of_opening, of_line, of_spoilt, meaning, file_of, or_line}
 use Rattle.lr_conf.specs.Draft.{State, run, with_set, with_said, said_inside, outside, turned, default_fields}
@@ -155,6 +156,10 @@ plain-law : (at : ℕ) (v : Said) (es : List Line) → Laws es → (out : List P
     → run (outside (behind out f) (stands at false v)) es ≡ meaning false (out ++ stands at false v ∷ []) es
 plain-law at (says.Sets v) es l out f = next es out (stands at false (says.Sets v)) _ [] None f l.out refl refl refl
 plain-law at says.Quiet es l out f = next es out (stands at false says.Quiet) _ [] None f l.out refl refl refl
+plain-law at (says.OwnerPassed v) es l out f = next es out (stands at false (says.OwnerPassed v)) _ [] None f l.out refl refl refl
+plain-law at (says.Script phase text stray) es l out f = next es out (stands at false (says.Script phase text stray)) _ [] None f l.out refl refl refl
+plain-law at (says.Include path) es l out f = next es out (stands at false (says.Include path)) _ [] None f l.out refl refl refl
+plain-law at (says.Taboo patterns items) es l out f = next es out (stands at false (says.Taboo patterns items)) _ [] None f l.out refl refl refl
 plain-law at (says.Passed word) es l out f = next es out (stands at false (says.Passed word)) _ [] None f l.out refl refl refl
 plain-law at (says.Names ws) es l out f =
     next es out (stands at false (says.Names ws)) _ _ _ f l.out refl refl (first_some (first_pending out) at ws)
@@ -169,6 +174,10 @@ brace-law : (at : ℕ) (v : Said) (es : List Line) → Laws es → (out : List P
     → run (outside (behind out f) (stands at true v)) es ≡ follows out (stands at true v) es
 brace-law at (says.Sets v) es l out f = next_dropped es out (stands at true (says.Sets v)) _ f l.drop refl
 brace-law at says.Quiet es l out f = next_dropped es out (stands at true says.Quiet) _ f l.drop refl
+brace-law at (says.OwnerPassed v) es l out f = next_dropped es out (stands at true (says.OwnerPassed v)) _ f l.drop refl
+brace-law at (says.Script phase text stray) es l out f = next_dropped es out (stands at true (says.Script phase text stray)) _ f l.drop refl
+brace-law at (says.Include path) es l out f = next_dropped es out (stands at true (says.Include path)) _ f l.drop refl
+brace-law at (says.Taboo patterns items) es l out f = next_dropped es out (stands at true (says.Taboo patterns items)) _ f l.drop refl
 brace-law at (says.Passed word) es l out f = next_dropped es out (stands at true (says.Passed word)) _ f l.drop refl
 brace-law at (says.Names ws) es l out f = next_good es out (stands at true (says.Names ws)) _ _ _ l.good refl
 brace-law at says.Open es l out f = by (first_pending out)
@@ -225,6 +234,10 @@ inside-law file line (says.Sets v) es l out vs at ws =
     ∙ l.good out (vs ++ v ∷ []) at ws
     ∙ ap (λ x. ended at ws es (fields_of x) and meaning true out es) (append_assoc vs (v ∷ []) (filter_map set_in (before ends es)))
 inside-law file line says.Quiet es l out vs at ws = l.good out vs at ws
+inside-law file line (says.OwnerPassed v) es l out vs at ws = l.good out vs at ws
+inside-law file line (says.Script phase text stray) es l out vs at ws = l.good out vs at ws
+inside-law file line (says.Include path) es l out vs at ws = l.good out vs at ws
+inside-law file line (says.Taboo patterns items) es l out vs at ws = l.good out vs at ws
 inside-law file line (says.Passed word) es l out vs at ws =
     ap (λ m. record { rules = []; notices = record { file = file; line = line; word = Some word } ∷ []; faults = [] } and m) (l.good out vs at ws)
 inside-law file line (says.Names names) es l out vs at ws = l.good out vs at ws
@@ -238,8 +251,8 @@ good-law : (e : Line) (es : List Line) → Laws es → GoodLaw (e ∷ es)
 good-law (Read file (item.Close line)) es l out vs at ws =
     ap (λ m. record { rules = rule_of file at ws (fields_of vs) ∷ []; notices = []; faults = [] } and m) (next es out (stands line false says.Close) _ [] None default_fields l.out refl refl refl)
     ∙ ap (λ s. record { rules = rule_of file at ws (fields_of s) ∷ []; notices = []; faults = [] } and meaning false (out ++ stands line false says.Close ∷ []) es) (sym (append-nil vs))
-good-law (Read file (item.Line words names brace stray line)) es l out vs at ws = inside-law file line (said true (item.Line words names brace stray line)) es l out vs at ws
-good-law (Read file (item.Script word text brace stray line)) es l out vs at ws = inside-law file line (said true (item.Script word text brace stray line)) es l out vs at ws
+good-law (Read file (item.Line words names brace stray line)) es l out vs at ws = inside-law file line (said built.SoFar true (item.Line words names brace stray line)) es l out vs at ws
+good-law (Read file (item.Script word text brace stray line)) es l out vs at ws = inside-law file line (said built.SoFar true (item.Script word text brace stray line)) es l out vs at ws
 good-law (Spoiled e) es l out vs at ws = ap (λ m. told (e ∷ []) and m) (l.drop out ws (Some at) (fields_of vs))
 good-law (End file) es l out vs at ws =
     ap (λ m. told (conf file kind.NoBrace at ∷ []) and m) (next es out file_ends _ [] None (fields_of vs) l.out refl refl refl)

@@ -1,4 +1,3 @@
-pub mod Rows
 pub mod Lasts
 pub mod Settings
 pub mod Spoken

@@ -21,19 +21,20 @@ use Rattle.lr_rules.specs.Match.{is_wildcard}
 use Rattle.lr_tables.specs.declared.directive.Directive.{Directive}
 use Rattle.lr_tables.specs.declared.directive.Directive.TheVariants as is
 use Rattle.lr_conf.specs.declared.fields.Fields.{Fields}
-use Rattle.lr_conf.specs.declared.form.Form.{Form}
-use Rattle.lr_conf.specs.declared.form.Form.TheVariants as form
-use Rattle.lr_conf.specs.declared.set.Set.{Set}
-use Rattle.lr_conf.specs.declared.set.Set.TheVariants as set
-use Rattle.lr_conf.specs.declared.said.Said.{Said}
-use Rattle.lr_conf.specs.declared.said.Said.TheVariants as says
-use Rattle.lr_conf.specs.Built.{is_unbuilt}
-use Rattle.lr_conf.specs.Forms.{form_of}
+use Rattle.lr_forms.specs.declared.form.Form.{Form}
+use Rattle.lr_forms.specs.declared.form.Form.TheVariants as form
+use Rattle.lr_forms.specs.declared.set.Set.{Set}
+use Rattle.lr_forms.specs.declared.set.Set.TheVariants as set
+use Rattle.lr_forms.specs.declared.said.Said.{Said}
+use Rattle.lr_forms.specs.declared.said.Said.TheVariants as says
+use Rattle.lr_forms.specs.Built.{is_unbuilt}
+use Rattle.lr_forms.specs.Forms.{form_of}
 use Rattle.lr_values.specs.Numbers.{count_value}
 use Rattle.lr_values.proofs.Limits.{count_meets}
 use Rattle.lr_words.specs.Names.{log_name_value}
 use Rattle.lr_words.proofs.LogNames.{of_literal}
-use Rattle.lr_conf.specs.Says.{directive_of, checks, first_fault, counted, count_says, means, or_bad, by_directive, texts, words_say, has_pattern, log_names, name_faults, named, names_say, said}
+use Rattle.lr_forms.specs.declared.built.Built.TheVariants as built
+use Rattle.lr_forms.specs.Says.{directive_of, checks, first_fault, counted, count_says, means, or_bad, by_directive, texts, words_say, has_pattern, log_names, name_faults, named, names_say, said}
 use Rattle.lr_conf.specs.Fields.{fields_of, last_set, criterion_set, count_set, ifempty_set, olddir_set, createolddir_set, create_set, mail_set, mailfirst_set, shared_set, dated_set, names_way, undoes, way_of}
 use Rattle.lr_conf.specs.Meaning.{Line, Read, Spoiled, End, Past, stands, spoiled, file_ends, Meaning, nothing, set_of, set_past, settings, names_past, settles, pending, first_line, words_pending, first_pending, words_with, opened, opens, past, before, behind, ends, drops, set_in, default_format, rule_of, of_end, of_body, of_spoilt, of_opening, meaning}
 use Rattle.lr_conf.specs.Plain.{IsLogWord, IsSmallCount, IsPlainRule}
@@ -55,6 +56,7 @@ OkSet (set.Mail address) = address ≡ None
 OkSet (set.MailFirst b) = b ≡ false
 OkSet (set.Shared b) = b ≡ false
 OkSet (set.Dated b) = b ≡ false
+OkSet v = Unit {0}
 
 -- a word at least, and each names a log
 abbrev OkWords : List (List ℕ) → Type 0
@@ -98,20 +100,20 @@ means_ok form.Count word vs ok = count_ok vs
 means_ok (form.Plain v) word vs ok = ok
 means_ok f word vs ok = tt
 
-form_says_ok : (inside brace stray : Bool) (word : List ℕ) (vs : List (List ℕ)) (o : Option Directive) → OkSaid (by_directive inside brace stray word vs o)
+form_says_ok : (inside brace stray : Bool) (word : List ℕ) (vs : List (List ℕ)) (o : Option Directive) → OkSaid (by_directive built.SoFar inside brace stray word vs o)
 form_says_ok inside brace stray word vs None = tt
-form_says_ok inside brace stray word vs (Some d) = by (first_fault (checks inside brace stray (is_unbuilt d) (form_of d) vs))
+form_says_ok inside brace stray word vs (Some d) = by (first_fault (checks inside brace stray (is_unbuilt built.SoFar d) (form_of d) vs))
   where
     by : (o : Option ConfKind) → OkSaid (or_bad o (means (form_of d) word vs))
     by None = means_ok (form_of d) word vs (form_ok d)
     by (Some k) = tt
 
-words_ok : (inside brace stray : Bool) (ws : List Word) → OkSaid (words_say inside brace stray ws)
+words_ok : (inside brace stray : Bool) (ws : List Word) → OkSaid (words_say built.SoFar inside brace stray ws)
 words_ok true brace stray [] = tt
 words_ok false brace stray [] = tt
 words_ok inside brace stray (w ∷ ws) = by (inside && brace)
   where
-    by : (b : Bool) → OkSaid (cond b (says.Bad kind.NestedBrace) (by_directive inside brace stray w.text (texts ws) (directive_of w.text)))
+    by : (b : Bool) → OkSaid (cond b (says.Bad kind.NestedBrace) (by_directive built.SoFar inside brace stray w.text (texts ws) (directive_of w.text)))
     by true = tt
     by false = form_says_ok inside brace stray w.text (texts ws) (directive_of w.text)
 
@@ -150,7 +152,7 @@ names_ok stray (w ∷ ws) = by (has_pattern (w ∷ ws)) stray refl
     by false true is = tt
     by false false is = named_ok w ws is
 
-said_ok : (inside : Bool) (i : Item) → OkSaid (said inside i)
+said_ok : (inside : Bool) (i : Item) → OkSaid (said built.SoFar inside i)
 said_ok inside (item.Close line) = tt
 said_ok true (item.Script word text brace stray line) = tt
 said_ok false (item.Script word text brace stray line) = tt
@@ -179,7 +181,7 @@ set_past_ok (spoiled f) ok = tt
 set_past_ok file_ends ok = tt
 
 set_in_ok : (e : Line) → Given OkSet (set_in e)
-set_in_ok (Read file i) = set_ok (said true i) (said_ok true i)
+set_in_ok (Read file i) = set_ok (said built.SoFar true i) (said_ok true i)
 set_in_ok (Spoiled f) = tt
 set_in_ok (End file) = tt
 

@@ -8,8 +8,8 @@ use Rattle.lr_rules.specs.declared.rule.Make.TheVariants as make
 use Rattle.lr_rules.specs.declared.rule.Way.{Way}
 use Rattle.lr_rules.specs.declared.rule.Way.TheVariants as way
 use Rattle.lr_conf.specs.declared.fields.Fields.{Fields}
-use Rattle.lr_conf.specs.declared.set.Set.{Set}
-use Rattle.lr_conf.specs.declared.set.Set.TheVariants as set
+use Rattle.lr_forms.specs.declared.set.Set.{Set}
+use Rattle.lr_forms.specs.declared.set.Set.TheVariants as set
 use Rattle.lr_conf.specs.Fields.{fields_of, last_or, last_set, criterion_set, count_set, ifempty_set, missingok_set, olddir_set, createolddir_set, create_set, mail_set, mailfirst_set, shared_set, dated_set, names_way, undoes, way_of}
 use Rattle.lr_conf.specs.Draft.{with_set, without}
 
@@ -60,6 +60,18 @@ still_rename (set.Mail address) h = refl
 still_rename (set.MailFirst b) h = refl
 still_rename (set.Shared b) h = refl
 still_rename (set.Dated b) h = refl
+still_rename (set.MaxAge n) h = refl
+still_rename (set.MinAge n) h = refl
+still_rename (set.MinSize n) h = refl
+still_rename (set.MaxSize n) h = refl
+still_rename set.IgnoreDuplicates h = refl
+still_rename (set.Start n) h = refl
+still_rename (set.Extension t) h = refl
+still_rename (set.AddExtension t) h = refl
+still_rename (set.DateFormat ps) h = refl
+still_rename (set.Back b) h = refl
+still_rename (set.Serial b) h = refl
+still_rename (set.Script phase t) h = refl
 
 undone : (w : Way) (v : Set) → names_way v ≡ false → cond (undoes w v) way.Rename w ≡ way_behind v w
 undone w (set.Way x) h = absurd (cc)
@@ -108,6 +120,18 @@ only_way (set.Mail address) h = absurd (cc)
 only_way (set.MailFirst b) h = absurd (cc)
 only_way (set.Shared b) h = absurd (cc)
 only_way (set.Dated b) h = absurd (cc)
+only_way (set.MaxAge n) h = absurd (cc)
+only_way (set.MinAge n) h = absurd (cc)
+only_way (set.MinSize n) h = absurd (cc)
+only_way (set.MaxSize n) h = absurd (cc)
+only_way set.IgnoreDuplicates h = absurd (cc)
+only_way (set.Start n) h = absurd (cc)
+only_way (set.Extension t) h = absurd (cc)
+only_way (set.AddExtension t) h = absurd (cc)
+only_way (set.DateFormat ps) h = absurd (cc)
+only_way (set.Back b) h = absurd (cc)
+only_way (set.Serial b) h = absurd (cc)
+only_way (set.Script phase t) h = absurd (cc)
 
 -- behind a setting that names a way
 way-step : (w : Way) (us : List Set) (v : Set) → way_of (us ++ v ∷ []) ≡ way_behind v (way_of us) → way_of (set.Way w ∷ us ++ v ∷ []) ≡ way_behind v (way_of (set.Way w ∷ us))
@@ -170,6 +194,18 @@ behind_is (set.Mail address) f = refl
 behind_is (set.MailFirst b) f = refl
 behind_is (set.Shared b) f = refl
 behind_is (set.Dated b) f = refl
+behind_is (set.MaxAge n) f = refl
+behind_is (set.MinAge n) f = refl
+behind_is (set.MinSize n) f = refl
+behind_is (set.MaxSize n) f = refl
+behind_is set.IgnoreDuplicates f = refl
+behind_is (set.Start n) f = refl
+behind_is (set.Extension t) f = refl
+behind_is (set.AddExtension t) f = refl
+behind_is (set.DateFormat ps) f = refl
+behind_is (set.Back b) f = refl
+behind_is (set.Serial b) f = refl
+behind_is (set.Script phase t) f = refl
 
 -- what settings set with one more behind them
 pub fields-push : (vs : List Set) (v : Set) → fields_of (vs ++ v ∷ []) ≡ with_set (fields_of vs) v

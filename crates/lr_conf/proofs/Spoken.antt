@@ -7,8 +7,10 @@ use Rattle.lr_rules.specs.declared.fault.ConfKind.TheVariants as kind
 use Rattle.lr_rules.specs.declared.fault.Fault.{Fault}
 use Rattle.lr_conf.specs.declared.draft.Draft.{Draft}
 use Rattle.lr_conf.specs.declared.fields.Fields.{Fields}
-use Rattle.lr_conf.specs.declared.set.Set.{Set}
-use Rattle.lr_conf.specs.declared.said.Said.TheVariants as says
+use Rattle.lr_forms.specs.declared.set.Set.{Set}
+use Rattle.lr_forms.specs.declared.said.Said.TheVariants as says
+use Rattle.lr_rules.specs.declared.fault.Phase.{Phase}
+use Rattle.lr_words.specs.declared.taboo.TabooItems.{TabooItems}
 use Rattle.lr_conf.specs.declared.stop.Include.{Include}
 use Rattle.lr_conf.specs.declared.stop.LayerStop.{LayerStop}
 use Rattle.lr_conf.specs.Meaning.{Past, stands, conf, at_line, stray_at}
@@ -39,6 +41,30 @@ pub quiet : (old new : Draft) (file : Path) (at : ℕ) (brace : Bool) (r : Resul
     → Settled old new at brace None r → Speaks old new file (stands at brace says.Quiet) r
 quiet old new file at brace r s =
     by_answer old new file (stands at brace says.Quiet) at None r s.answer
+    (record { state = s.state; rules = s.rest.rules; notices = s.rest.notices ∙ sym (append-nil old.notices.items); faults_are = refl; files = s.rest.files })
+
+pub owner : (old new : Draft) (file : Path) (at : ℕ) (brace : Bool) (v : Set) (r : Result (Option Include) LayerStop)
+    → Settled old new at brace None r → Speaks old new file (stands at brace (says.OwnerPassed v)) r
+owner old new file at brace v r s =
+    by_answer old new file (stands at brace (says.OwnerPassed v)) at None r s.answer
+    (record { state = s.state; rules = s.rest.rules; notices = s.rest.notices ∙ sym (append-nil old.notices.items); faults_are = refl; files = s.rest.files })
+
+pub script : (old new : Draft) (file : Path) (at : ℕ) (brace : Bool) (phase : Phase) (text : List ℕ) (stray : Bool) (r : Result (Option Include) LayerStop)
+    → Settled old new at brace None r → Speaks old new file (stands at brace (says.Script phase text stray)) r
+script old new file at brace phase text stray r s =
+    by_answer old new file (stands at brace (says.Script phase text stray)) at None r s.answer
+    (record { state = s.state; rules = s.rest.rules; notices = s.rest.notices ∙ sym (append-nil old.notices.items); faults_are = refl; files = s.rest.files })
+
+pub include : (old new : Draft) (file : Path) (at : ℕ) (brace : Bool) (path : List ℕ) (r : Result (Option Include) LayerStop)
+    → Settled old new at brace None r → Speaks old new file (stands at brace (says.Include path)) r
+include old new file at brace path r s =
+    by_answer old new file (stands at brace (says.Include path)) at None r s.answer
+    (record { state = s.state; rules = s.rest.rules; notices = s.rest.notices ∙ sym (append-nil old.notices.items); faults_are = refl; files = s.rest.files })
+
+pub taboo : (old new : Draft) (file : Path) (at : ℕ) (brace : Bool) (patterns : Bool) (items : TabooItems) (r : Result (Option Include) LayerStop)
+    → Settled old new at brace None r → Speaks old new file (stands at brace (says.Taboo patterns items)) r
+taboo old new file at brace patterns items r s =
+    by_answer old new file (stands at brace (says.Taboo patterns items)) at None r s.answer
     (record { state = s.state; rules = s.rest.rules; notices = s.rest.notices ∙ sym (append-nil old.notices.items); faults_are = refl; files = s.rest.files })
 
 strays : (file : Path) (at : ℕ) (first : Option ℕ) → stray_at file first at ≡ own_faults file at (stray_kind first)

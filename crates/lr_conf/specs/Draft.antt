@@ -12,17 +12,18 @@ use Rattle.lr_rules.specs.declared.rule.Rule.{Rule}
 use Rattle.lr_rules.specs.declared.rule.Way.{Way}
 use Rattle.lr_rules.specs.declared.rule.Way.TheVariants as way
 use Rattle.lr_conf.specs.declared.fields.Fields.{Fields}
-use Rattle.lr_conf.specs.declared.set.Set.{Set}
-use Rattle.lr_conf.specs.declared.set.Set.TheVariants as set
-use Rattle.lr_conf.specs.declared.said.Said.{Said}
-use Rattle.lr_conf.specs.declared.said.Said.TheVariants as says
+use Rattle.lr_forms.specs.declared.set.Set.{Set}
+use Rattle.lr_forms.specs.declared.set.Set.TheVariants as set
+use Rattle.lr_forms.specs.declared.said.Said.{Said}
+use Rattle.lr_forms.specs.declared.said.Said.TheVariants as says
 use Rattle.lr_conf.specs.declared.place.Place.{Place}
 use Rattle.lr_conf.specs.declared.place.Place.TheVariants.{Outside, Good, Dropped}
 use Rattle.lr_conf.specs.declared.stop.Include.{Include}
 use Rattle.lr_conf.specs.declared.stop.LayerStop.{LayerStop}
 use Rattle.lr_conf.specs.declared.stop.LayerStop.TheVariants as stop
 use Rattle.lr_conf.specs.declared.draft.Draft.{Draft}
-use Rattle.lr_conf.specs.Says.{line_of, closes, said}
+use Rattle.lr_forms.specs.declared.built.Built.TheVariants as built
+use Rattle.lr_forms.specs.Says.{line_of, closes, said}
 use Rattle.lr_conf.specs.Fields.{last_or}
 use Rattle.lr_conf.specs.Meaning.{Line, file_of, Read, Spoiled, End, Past, stands, spoiled, file_ends, Meaning, ◌and◌, nothing, told, conf, list_of, of_line, of_spoilt, opened, or_line, past, ends, notice_of, notice_past, line_faults, fault_of, rule_of}
 
@@ -68,6 +69,8 @@ with_set f (set.Mail address) = record f { mail = address }
 with_set f (set.MailFirst b) = record f { mailfirst = b }
 with_set f (set.Shared b) = record f { shared = b }
 with_set f (set.Dated b) = record f { dated = b }
+-- so far no line sets another
+with_set f v = f
 
 -- ---- states
 
@@ -90,6 +93,10 @@ spoken s at says.Unknown = s
 spoken s at (says.BadNames k) = s
 spoken s at (says.Sets v) = record s { defaults = with_set s.defaults v; words = []; first = None }
 spoken s at says.Quiet = without_names s
+spoken s at (says.OwnerPassed v) = without_names s
+spoken s at (says.Script phase text stray) = without_names s
+spoken s at (says.Include path) = without_names s
+spoken s at (says.Taboo patterns items) = without_names s
 spoken s at (says.Passed word) = without_names s
 spoken s at says.Close = without_names s
 spoken s at (says.Bad k) = without_names s
@@ -115,7 +122,7 @@ with_said s (says.Bad k) = record s { place = Dropped }
 with_said s v = s
 
 abbrev pub good : State → Line → State
-good s (Read file i) = if closes i then record s { place = Outside; words = []; first = None; fields = default_fields } else with_said s (said true i)
+good s (Read file i) = if closes i then record s { place = Outside; words = []; first = None; fields = default_fields } else with_said s (said built.SoFar true i)
 good s (Spoiled f) = record s { place = Dropped }
 good s (End file) = left s
 
@@ -138,7 +145,7 @@ first_of s = or_line s.first 0
 abbrev pub gives_good : State → Line → Meaning
 gives_good s (Read file i) =
     if closes i then record { rules = rule_of file (first_of s) s.words s.fields ∷ []; notices = []; faults = [] }
-    else said_inside file (line_of i) (said true i)
+    else said_inside file (line_of i) (said built.SoFar true i)
 gives_good s (Spoiled f) = told (f ∷ [])
 gives_good s (End file) = told (conf file kind.NoBrace (first_of s) ∷ [])
 

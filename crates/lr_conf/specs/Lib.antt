@@ -1,6 +1,3 @@
-pub mod Built
-pub mod Forms
-pub mod Says
 pub mod Fields
 pub mod Meaning
 pub mod Draft

@@ -17,10 +17,11 @@ use Rattle.lr_rules.specs.declared.rule.Piece.{Piece}
 use Rattle.lr_rules.specs.declared.rule.Piece.TheVariants as piece
 use Rattle.lr_rules.specs.declared.rule.Rule.{Rule}
 use Rattle.lr_conf.specs.declared.fields.Fields.{Fields}
-use Rattle.lr_conf.specs.declared.set.Set.{Set}
-use Rattle.lr_conf.specs.declared.said.Said.{Said}
-use Rattle.lr_conf.specs.declared.said.Said.TheVariants as says
-use Rattle.lr_conf.specs.Says.{line_of, has_brace, closes, said}
+use Rattle.lr_forms.specs.declared.set.Set.{Set}
+use Rattle.lr_forms.specs.declared.said.Said.{Said}
+use Rattle.lr_forms.specs.declared.said.Said.TheVariants as says
+use Rattle.lr_forms.specs.declared.built.Built.TheVariants as built
+use Rattle.lr_forms.specs.Says.{line_of, has_brace, closes, said}
 use Rattle.lr_conf.specs.Fields.{fields_of}
 
 -- ---- lines
@@ -91,6 +92,10 @@ opens p = false
 abbrev pub leaves_names : Past → Bool
 leaves_names (stands at brace (says.Sets v)) = true
 leaves_names (stands at brace says.Quiet) = true
+leaves_names (stands at brace (says.OwnerPassed v)) = true
+leaves_names (stands at brace (says.Script phase text stray)) = true
+leaves_names (stands at brace (says.Include path)) = true
+leaves_names (stands at brace (says.Taboo patterns items)) = true
 leaves_names (stands at brace (says.Passed word)) = true
 leaves_names (stands at brace says.Close) = true
 leaves_names (stands at brace (says.Bad k)) = true
@@ -128,7 +133,7 @@ opened first p = None
 
 -- how a line is read outside definitions
 abbrev pub past : Line → Past
-past (Read file i) = stands (line_of i) (has_brace i) (said false i)
+past (Read file i) = stands (line_of i) (has_brace i) (said built.SoFar false i)
 past (Spoiled f) = spoiled f
 past (End file) = file_ends
 
@@ -189,16 +194,16 @@ is_bad s = false
 
 -- it drops the definition that it stands in
 abbrev pub drops : Line → Bool
-drops (Read file i) = is_bad (said true i)
+drops (Read file i) = is_bad (said built.SoFar true i)
 drops (Spoiled f) = true
 drops (End file) = false
 
 abbrev pub set_in : Line → Option Set
-set_in (Read file i) = set_of (said true i)
+set_in (Read file i) = set_of (said built.SoFar true i)
 set_in e = None
 
 abbrev pub notice_in : Line → Option Notice
-notice_in (Read file i) = notice_of file (line_of i) (said true i)
+notice_in (Read file i) = notice_of file (line_of i) (said built.SoFar true i)
 notice_in e = None
 
 abbrev pub fault_of : Path → ℕ → Said → Option Fault
@@ -207,7 +212,7 @@ fault_of file at (says.Bad k) = Some (conf file k at)
 fault_of file at s = None
 
 abbrev pub fault_in : Line → Option Fault
-fault_in (Read file i) = fault_of file (line_of i) (said true i)
+fault_in (Read file i) = fault_of file (line_of i) (said built.SoFar true i)
 fault_in (Spoiled f) = Some f
 fault_in e = None
 

@@ -2,7 +2,7 @@
 ghost use Rattle.std.specs.Prelude.{◌≡◌, IfOk};
 ghost use Rattle.lr_conf.specs.Draft.{with_set, without, default_fields};
 
-use crate::set::Set;
+use lr_forms::Set;
 use lr_rules::{Count, Criterion, Make, Memory, Text, Way, copy_text};
 use std::alloc::Global;
 
@@ -93,5 +93,7 @@ pub fn set_field(fields: &mut Fields, set: Set)
         Set::MailFirst(mailfirst) => fields.mailfirst = mailfirst,
         Set::Shared(shared) => fields.shared = shared,
         Set::Dated(dated) => fields.dated = dated,
+        // So far no line sets another.
+        _other => {}
     }
 }

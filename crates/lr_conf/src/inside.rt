@@ -6,8 +6,8 @@ ghost use Rattle.lr_conf.specs.Draft.{SaysInside, Closes, file_of_draft, files_o
 use crate::draft::Draft;
 use crate::fields::{Fields, default_fields, set_field};
 use crate::place::Place;
-use crate::said::Said;
 use crate::stop::{Include, LayerStop};
+use lr_forms::Said;
 use lr_rules::{
     Back, ConfKind, Criterion, Field, Format, Listed, Memory, Path, Piece, Rule, Scripts, Text,
 };

@@ -8,8 +8,8 @@
 //! A line that isn't understood gives one fault, the first that applies in the order of `lr_rules::ConfKind`. Inside a
 //! definition it drops that definition up to its `}`, where the first word is a directive; a line that begins with
 //! another word is told and ignored. A fault of the lexer drops its definition too; the layer isn't given which one, and
-//! the meaning has it in its place among the others, behind a fault that dropped the definition too. [`say`] reads one
-//! line by itself.
+//! the meaning has it in its place among the others, behind a fault that dropped the definition too. What one
+//! line says by itself is `lr_forms::say`.
 //!
 //! ```text
 //! let mut layer = Layer::new(alloc)?;
@@ -24,26 +24,17 @@
 //! ```
 #![tactic(auto)]
 
-mod built;
 mod draft;
 mod fields;
 mod files;
-mod form;
 mod inside;
 mod laws;
 mod layer;
 mod outside;
 mod place;
-mod reading;
-mod row;
-mod said;
-mod set;
 mod stop;
 mod taking;
 
 pub use laws::{last_count, last_criterion, rules_are_plain, rules_meet_limits};
 pub use layer::Layer;
-pub use reading::say;
-pub use said::{Said, closes, has_brace, line_of};
-pub use set::Set;
 pub use stop::{Include, LayerStop};

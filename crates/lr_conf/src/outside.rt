@@ -1,16 +1,17 @@
 // Lines outside definitions.
 ghost use Rattle.std.specs.Prelude.{◌≡◌, ◌<◌, ◌∷◌, ◌++◌, [], Some, IfOk, OnOk, OnErr, length};
 ghost use Rattle.lr_conf.specs.declared.place.Place.TheVariants as place;
-ghost use Rattle.lr_conf.specs.declared.said.Said.TheVariants as says;
+ghost use Rattle.lr_forms.specs.declared.said.Said.TheVariants as says;
 ghost use Rattle.lr_conf.specs.Meaning.{stands};
 ghost use Rattle.lr_conf.specs.Draft.{Speaks, Noticed, SameRest, Aside, Unchanged, fields_at, Settled, stray_kind, answer_of, file_of_draft, files_of, without_names, state_of};
 
 use crate::draft::Draft;
 use crate::fields::{Fields, copy_fields, set_field};
 use crate::place::Place;
-use crate::said::Said;
 use crate::stop::{Include, LayerStop};
-use lr_rules::{ConfKind, Listed, Memory, Notice, Text};
+use lr_forms::{Said, Set};
+use lr_rules::{ConfKind, Listed, Memory, Notice, Path, Phase, Text};
+use lr_words::TabooItems;
 
 /// The answer that tells NoBrace at the first line, if there is one, and the line's own fault.
 fn answer(first: Option<u32>, at: u32, own: Option<ConfKind>) -> Result<Option<Include>, LayerStop>
@@ -141,6 +142,67 @@ impl Draft {
         answer(first, at, own)
     }
 
+    /// A word that is passed over.
+    #[tactic(auto, using(crate::proofs::Spoken::passed))]
+    fn pass_over(&mut self, at: u32, brace: bool, word: Text) -> Result<Option<Include>, LayerStop>
+        requires place { self.old.place ≡ place.Outside }
+        requires files { 0 < length (files_of self.old) }
+        ensures { Speaks self.old self.new (file_of_draft self.old) (stands at brace (says.Passed word)) result }
+    {
+        self.notice(at, word)?;
+        self.leave_names(at, brace, None)
+    }
+
+    // So far no line says one of these.
+    #[tactic(auto, using(crate::proofs::Spoken::owner))]
+    fn owner(&mut self, at: u32, brace: bool, _set: Set) -> Result<Option<Include>, LayerStop>
+        requires place { self.old.place ≡ place.Outside }
+        requires files { 0 < length (files_of self.old) }
+        ensures { Speaks self.old self.new (file_of_draft self.old) (stands at brace (says.OwnerPassed _set)) result }
+    {
+        self.leave_names(at, brace, None)
+    }
+
+    #[tactic(auto, using(crate::proofs::Spoken::script))]
+    fn script(
+        &mut self,
+        at: u32,
+        brace: bool,
+        _phase: Phase,
+        _text: Text,
+        _stray: bool,
+    ) -> Result<Option<Include>, LayerStop>
+        requires place { self.old.place ≡ place.Outside }
+        requires files { 0 < length (files_of self.old) }
+        ensures { Speaks self.old self.new (file_of_draft self.old) (stands at brace (says.Script _phase _text _stray)) result }
+    {
+        self.leave_names(at, brace, None)
+    }
+
+    #[tactic(auto, using(crate::proofs::Spoken::include))]
+    fn include(&mut self, at: u32, brace: bool, _path: Path) -> Result<Option<Include>, LayerStop>
+        requires place { self.old.place ≡ place.Outside }
+        requires files { 0 < length (files_of self.old) }
+        ensures { Speaks self.old self.new (file_of_draft self.old) (stands at brace (says.Include _path)) result }
+    {
+        self.leave_names(at, brace, None)
+    }
+
+    #[tactic(auto, using(crate::proofs::Spoken::taboo))]
+    fn taboo(
+        &mut self,
+        at: u32,
+        brace: bool,
+        _patterns: bool,
+        _items: TabooItems,
+    ) -> Result<Option<Include>, LayerStop>
+        requires place { self.old.place ≡ place.Outside }
+        requires files { 0 < length (files_of self.old) }
+        ensures { Speaks self.old self.new (file_of_draft self.old) (stands at brace (says.Taboo _patterns _items)) result }
+    {
+        self.leave_names(at, brace, None)
+    }
+
     /// A line outside definitions.
     pub(crate) fn outside(
         &mut self,
@@ -159,6 +221,10 @@ impl Draft {
             Said::BadNames(kind) => self.aside(at, brace, kind),
             Said::Bad(kind) => self.leave_names(at, brace, Some(kind)),
             Said::Quiet => self.leave_names(at, brace, None),
+            Said::OwnerPassed(set) => self.owner(at, brace, set),
+            Said::Script { phase, text, stray } => self.script(at, brace, phase, text, stray),
+            Said::Include(path) => self.include(at, brace, path),
+            Said::Taboo { patterns, items } => self.taboo(at, brace, patterns, items),
             Said::Close => {
                 let own = stray_kind(&self.first);
                 self.leave_names(at, brace, own)
@@ -167,10 +233,7 @@ impl Draft {
                 set_field(&mut self.defaults, set);
                 self.leave_names(at, brace, None)
             }
-            Said::Passed(word) => {
-                self.notice(at, word)?;
-                self.leave_names(at, brace, None)
-            }
+            Said::Passed(word) => self.pass_over(at, brace, word),
         }
     }
 }

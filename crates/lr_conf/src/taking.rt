@@ -6,9 +6,8 @@ ghost use Rattle.lr_conf.specs.Draft.{Steps, EndsFile, file_of_draft, files_of};
 
 use crate::draft::Draft;
 use crate::place::Place;
-use crate::reading::say;
-use crate::said::{closes, has_brace, line_of};
 use crate::stop::{Include, LayerStop};
+use lr_forms::{Built, closes, has_brace, line_of, say};
 use lr_lex::Item;
 use lr_rules::ConfKind;
 
@@ -20,7 +19,7 @@ impl Draft {
     {
         let at = line_of(&item);
         let brace = has_brace(&item);
-        let said = say(self.alloc, item, false)?;
+        let said = say(self.alloc, item, false, Built::SoFar)?;
         self.outside(at, brace, said)
     }
 
@@ -33,7 +32,7 @@ impl Draft {
             return self.close();
         }
         let at = line_of(&item);
-        let said = say(self.alloc, item, true)?;
+        let said = say(self.alloc, item, true, Built::SoFar)?;
         self.inside(at, said)
     }
 

@@ -8,10 +8,11 @@ use Rattle.lr_rules.specs.declared.fault.ConfKind.{ConfKind}
 use Rattle.lr_rules.specs.declared.fault.ConfKind.TheVariants as kind
 use Rattle.lr_lex.specs.Items.{Told, items}
 use Rattle.lr_conf.specs.declared.fields.Fields.{Fields}
-use Rattle.lr_conf.specs.declared.set.Set.{Set}
-use Rattle.lr_conf.specs.declared.said.Said.{Said}
-use Rattle.lr_conf.specs.declared.said.Said.TheVariants as says
-use Rattle.lr_conf.specs.Says.{said, line_of}
+use Rattle.lr_forms.specs.declared.set.Set.{Set}
+use Rattle.lr_forms.specs.declared.said.Said.{Said}
+use Rattle.lr_forms.specs.declared.said.Said.TheVariants as says
+use Rattle.lr_forms.specs.declared.built.Built.TheVariants as built
+use Rattle.lr_forms.specs.Says.{said, line_of}
 use Rattle.lr_conf.specs.Fields.{fields_of}
 use Rattle.lr_conf.specs.Meaning.{Line, Read, Spoiled, End, Past, stands, spoiled, Meaning, nothing, conf, file_of, first_pending, words_pending, words_with, settings, opened, opens, past, before, through, behind, ends, drops, set_in, fault_of, fault_in, spoilt_fault, at_line, left_names, stray_at, own_fault, line_faults, of_end, of_body, of_spoilt, of_opening, meaning}
 use Rattle.lr_conf.proofs.Each.{append, front, Given, one_more, mapped}
@@ -61,7 +62,7 @@ said_fine file at (says.Bad k) = tt
 said_fine file at v = tt
 
 inside_fine : (e : Line) → IsFine e → Given IsConf (fault_in e)
-inside_fine (Read file i) ok = said_fine file (line_of i) (said true i)
+inside_fine (Read file i) ok = said_fine file (line_of i) (said built.SoFar true i)
 inside_fine (Spoiled f) ok = ok
 inside_fine (End file) ok = tt
 

@@ -2,7 +2,7 @@ use Rattle.std.proofs.Common.{◌∷◌, ◌++◌, ap, ◌∙◌}
 use Rattle.std.specs.List.{filter_map}
 use Rattle.std.proofs.lemmas.List.Elements.{filter_map-append}
 use Rattle.lr_rules.specs.declared.rule.Count.TheVariants as count
-use Rattle.lr_conf.specs.declared.set.Set.TheVariants as set
+use Rattle.lr_forms.specs.declared.set.Set.TheVariants as set
 use Rattle.lr_conf.specs.Fields.{last_or, count_set}
 use Rattle.lr_conf.proofs.Lasts.{last_behind}
 use Rattle.lr_conf.proofs.laws.last_count.Goals as goal

@@ -1,7 +1,7 @@
 use Rattle.std.proofs.Common.{sym, subst}
 use Rattle.lr_conf.specs.Meaning.{stands}
 use Rattle.lr_conf.specs.Draft.{Speaks, file_of_draft}
-use Rattle.lr_conf.proofs.Spoken.{bad, quiet, close, sets, passed}
+use Rattle.lr_conf.proofs.Spoken.{bad, quiet, close, sets}
 use Rattle.lr_conf.proofs.draft.Draft.outside.Goals as goal
 
 pub returns-in-Bad : goal.returns-in-Bad
@@ -35,11 +35,3 @@ returns-in-Sets c =
     let file = file_of_draft old in
     subst (λ v. Speaks old new file (stands c.args.at c.args.brace v) c.leave_names-in-Sets.result) (sym c.in-Sets.is)
     (sets old new file c.args.at c.args.brace c.in-Sets.set c.set_field.new.fields c.leave_names-in-Sets.result c.set_field.ensures c.leave_names-in-Sets.ensures)
-
-pub returns-in_ok-notice-in-Passed : goal.returns-in_ok-notice-in-Passed
-returns-in_ok-notice-in-Passed c =
-    let old = c.args.self.now in
-    let new = c.leave_names-in-Passed.new.self in
-    let file = file_of_draft old in
-    subst (λ v. Speaks old new file (stands c.args.at c.args.brace v) c.leave_names-in-Passed.result) (sym c.in-Passed.is)
-    (passed old c.notice.new.self new file c.args.at c.args.brace c.in-Passed.word c.leave_names-in-Passed.result c.in_ok-notice-in-Passed.ensures.ok c.leave_names-in-Passed.ensures)

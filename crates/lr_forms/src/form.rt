@@ -1,6 +1,6 @@
 // What stands behind the word of a directive.
 ghost use Rattle.std.specs.Prelude.{◌≡◌};
-ghost use Rattle.lr_conf.specs.Forms.{form_of};
+ghost use Rattle.lr_forms.specs.Forms.{form_of};
 
 use crate::set::Set;
 use lr_rules::{Make, Way};

@@ -2,10 +2,10 @@
 ghost use Rattle.std.specs.Prelude.{◌≡◌, ◌∷◌, ◌++◌, [], IfOk, OnOk, MatchOption, option_to_list};
 ghost use Rattle.std.specs.Result.{result_ok, result_err};
 ghost use Rattle.lr_words.specs.Names.{log_name_value};
-ghost use Rattle.lr_conf.specs.Says.{is_passed, is_script, is_outside, lacks_value, has_more, checks, first_fault, count_says, means, or_bad, by_directive, texts, words_say, has_pattern, log_names, name_faults, named, names_say, nested, script_says, directive_of, said};
-ghost use Rattle.lr_conf.specs.Forms.{form_of};
+ghost use Rattle.lr_forms.specs.Says.{is_passed, is_script, is_outside, lacks_value, has_more, checks, first_fault, count_says, means, or_bad, by_directive, texts, words_say, has_pattern, log_names, name_faults, named, names_say, nested, script_says, directive_of, said};
+ghost use Rattle.lr_forms.specs.Forms.{form_of};
 
-use crate::built::is_unbuilt;
+use crate::built::{Built, is_unbuilt};
 use crate::form::{Form, form_of};
 use crate::row::directive_of;
 use crate::said::Said;
@@ -138,22 +138,36 @@ fn split_first(words: Vec<Word>) -> Option<(Word, Vec<Word>)>
     }
 }
 
-fn directive_says(inside: bool, brace: bool, stray: bool, word: Text, values: &[Word]) -> Said
-    ensures { result ≡ by_directive inside brace stray word (texts values.now) (directive_of word) }
+fn directive_says(
+    built: Built,
+    inside: bool,
+    brace: bool,
+    stray: bool,
+    word: Text,
+    values: &[Word],
+) -> Said
+    ensures { result ≡ by_directive built inside brace stray word (texts values.now) (directive_of word) }
 {
     let Some(directive) = directive_of(word.bytes()) else {
         return Said::Unknown;
     };
     let form = form_of(directive);
-    match fault_of(inside, brace, stray, is_unbuilt(directive), &form, values) {
+    match fault_of(
+        inside,
+        brace,
+        stray,
+        is_unbuilt(built, directive),
+        &form,
+        values,
+    ) {
         Some(kind) => Said::Bad(kind),
         None => means(form, word, values),
     }
 }
 
 /// What a line says whose first sign begins no name.
-fn words_say(words: Listed<Word>, inside: bool, brace: bool, stray: bool) -> Said
-    ensures { result ≡ words_say inside brace stray words }
+fn words_say(built: Built, words: Listed<Word>, inside: bool, brace: bool, stray: bool) -> Said
+    ensures { result ≡ words_say built inside brace stray words }
 {
     let Some((word, values)) = split_first(words.into_vec()) else {
         return if inside {
@@ -165,7 +179,7 @@ fn words_say(words: Listed<Word>, inside: bool, brace: bool, stray: bool) -> Sai
     if inside && brace {
         return Said::Bad(ConfKind::NestedBrace);
     }
-    directive_says(inside, brace, stray, word.text, values.as_slice())
+    directive_says(built, inside, brace, stray, word.text, values.as_slice())
 }
 
 // ---- lines of names
@@ -241,8 +255,8 @@ fn script_says(inside: bool, brace: bool) -> Said
 }
 
 /// What a line says, inside a definition or outside. The first fault that applies is the line's.
-pub fn say(alloc: Global, item: Item, inside: bool) -> Result<Said, Memory>
-    ensures { IfOk result (λ s. s ≡ said inside item) }
+pub fn say(alloc: Global, item: Item, inside: bool, built: Built) -> Result<Said, Memory>
+    ensures { IfOk result (λ s. s ≡ said built inside item) }
 {
     match item {
         Item::Close { .. } => Ok(Said::Close),
@@ -255,7 +269,7 @@ pub fn say(alloc: Global, item: Item, inside: bool) -> Result<Said, Memory>
             ..
         } => {
             if !names {
-                Ok(words_say(words, inside, brace, stray))
+                Ok(words_say(built, words, inside, brace, stray))
             } else if inside {
                 Ok(nested(brace, ConfKind::Stray))
             } else {

@@ -1,22 +1,39 @@
 // What one line says by itself.
 ghost use Rattle.std.specs.Prelude.{◌≡◌, IfOk};
-ghost use Rattle.lr_conf.specs.Says.{line_of, has_brace, closes};
+ghost use Rattle.lr_forms.specs.Says.{line_of, has_brace, closes};
 
 use crate::set::Set;
 use lr_lex::Item;
-use lr_rules::{ConfKind, Listed, Text};
+use lr_rules::{ConfKind, Listed, Path, Phase, Text};
+use lr_words::TabooItems;
 
 /// What a line says by itself, inside a definition or outside.
 #[derive(Drop)]
 pub enum Said {
     /// A directive that sets a field.
     Sets(Set),
+    /// A directive that sets a field, with words behind it that name an owner or a group and are passed over.
+    OwnerPassed(Set),
     /// A directive that sets nothing.
     Quiet,
     /// A directive that is passed over, with its word.
     Passed(Text),
     /// Names of logs, outside definitions.
     Names(Listed<Text>),
+    /// A script in a definition: when it runs, its text, and whether more words stand behind its word. That it isn't
+    /// built, or stands twice, or is stray, is decided by who knows the lines before it.
+    Script {
+        phase: Phase,
+        text: Text,
+        stray: bool,
+    },
+    /// Another file, outside definitions.
+    Include(Path),
+    /// A list of what is taboo, outside definitions: of patterns or of endings.
+    Taboo {
+        patterns: bool,
+        items: TabooItems,
+    },
     /// `{` alone, outside definitions.
     Open,
     /// `}` alone.

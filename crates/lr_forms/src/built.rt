@@ -1,12 +1,19 @@
 // What isn't built yet.
 ghost use Rattle.std.specs.Prelude.{◌≡◌};
-ghost use Rattle.lr_conf.specs.Built.{is_unbuilt};
+ghost use Rattle.lr_forms.specs.Built.{so_far_unbuilt, never_built, is_unbuilt, script_is_unbuilt};
 
+use lr_rules::Phase;
 use lr_tables::Directive;
 
-/// Whether the directive isn't built yet, so that its line is told as NotYet.
-pub fn is_unbuilt(directive: Directive) -> bool
-    ensures { result ≡ is_unbuilt directive }
+/// Which directives count as built: those of which the program does what they say, or all.
+#[derive(Clone, Copy)]
+pub enum Built {
+    SoFar,
+    All,
+}
+
+fn so_far_unbuilt(directive: Directive) -> bool
+    ensures { result ≡ so_far_unbuilt directive }
 {
     match directive {
         Directive::Addextension
@@ -46,5 +53,34 @@ pub fn is_unbuilt(directive: Directive) -> bool
         | Directive::Weekly
         | Directive::Yearly => true,
         _ => false,
+    }
+}
+
+fn never_built(directive: Directive) -> bool
+    ensures { result ≡ never_built directive }
+{
+    match directive {
+        Directive::Renamecopy => true,
+        _ => false,
+    }
+}
+
+/// Whether the directive isn't built, so that its line is told as NotYet.
+pub(crate) fn is_unbuilt(built: Built, directive: Directive) -> bool
+    ensures { result ≡ is_unbuilt built directive }
+{
+    match built {
+        Built::SoFar => so_far_unbuilt(directive),
+        Built::All => never_built(directive),
+    }
+}
+
+/// Whether a script of the phase isn't built, so that its line is told as NotYet.
+pub fn script_is_unbuilt(built: Built, _phase: Phase) -> bool
+    ensures { result ≡ script_is_unbuilt built _phase }
+{
+    match built {
+        Built::SoFar => true,
+        Built::All => false,
     }
 }

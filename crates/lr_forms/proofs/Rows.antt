@@ -6,7 +6,7 @@ use Rattle.std.proofs.lemmas.Slice.Eq.{bytes_eq-Decides}
 use Rattle.lr_tables.specs.declared.keyed.Row.{Row}
 use Rattle.lr_tables.specs.Directives.{Says, contents, directive_table}
 use Rattle.lr_tables.specs.Table.{words, IsRowOf}
-use Rattle.lr_conf.specs.Says.{directive_of}
+use Rattle.lr_forms.specs.Says.{directive_of}
 
 -- each word of the table has its own row
 all_rows : map (λ s. directive_of s.word) directive_table ≡ map (λ s. Some s.directive) directive_table

@@ -1,6 +1,6 @@
 // The directive of a word.
 ghost use Rattle.std.specs.Prelude.{◌≡◌, ◌<◌};
-ghost use Rattle.lr_conf.specs.Says.{directive_of};
+ghost use Rattle.lr_forms.specs.Says.{directive_of};
 
 use lr_rules::Steps;
 use lr_tables::{Directive, directives};

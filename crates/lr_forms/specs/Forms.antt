@@ -4,9 +4,9 @@ use Rattle.lr_tables.specs.declared.directive.Directive.{Directive}
 use Rattle.lr_tables.specs.declared.directive.Directive.TheVariants as is
 use Rattle.lr_rules.specs.declared.rule.Make.TheVariants as make
 use Rattle.lr_rules.specs.declared.rule.Way.TheVariants as way
-use Rattle.lr_conf.specs.declared.form.Form.{Form}
-use Rattle.lr_conf.specs.declared.form.Form.TheVariants.{Passed, Script, Outside, Ending, Count, Plain, Quiet, Later}
-use Rattle.lr_conf.specs.declared.set.Set.TheVariants as set
+use Rattle.lr_forms.specs.declared.form.Form.{Form}
+use Rattle.lr_forms.specs.declared.form.Form.TheVariants.{Passed, Script, Outside, Ending, Count, Plain, Quiet, Later}
+use Rattle.lr_forms.specs.declared.set.Set.TheVariants as set
 
 abbrev pub form_of : Directive → Form
 -- passed over

@@ -1,0 +1,24 @@
+//! What one line of a configuration of logrotate(8) says by itself.
+//!
+//! The contract: [`say`] gives what a definition has for the line, told of where it stands, inside a definition of logs
+//! or outside: the first fault that applies to it, in the order of `lr_rules::ConfKind`, else its meaning. What depends
+//! on the lines before it, as names without a brace and a script that stands twice, is for `lr_conf`. Begin with
+//! [`say`]:
+//!
+//! ```text
+//! // each item of a `lr_lex::Lexer`
+//! let said = say(alloc, item, inside, Built::SoFar)?;
+//! ```
+#![tactic(auto)]
+
+mod built;
+mod form;
+mod reading;
+mod row;
+mod said;
+mod set;
+
+pub use built::{Built, script_is_unbuilt};
+pub use reading::say;
+pub use said::{Said, closes, has_brace, line_of};
+pub use set::Set;
