@@ -1,12 +1,13 @@
 -- What isn't built yet, in one place: a line with one of these directives is told as NotYet, behind the faults that come
--- before it in the order of kinds. What is built takes its line away here. Of names, outside definitions, a pattern isn't
--- built (`names_say`).
+-- before it in the order of kinds. What is built takes its line away here.
 use Rattle.std.specs.Prelude.{Bool, true, false}
+use Rattle.lr_rules.specs.declared.fault.Phase.{Phase}
 use Rattle.lr_tables.specs.declared.directive.Directive.{Directive}
 use Rattle.lr_tables.specs.declared.directive.Directive.TheVariants as is
-use Rattle.lr_rules.specs.declared.fault.Phase.{Phase}
 use Rattle.lr_forms.specs.declared.built.Built.{Built}
 use Rattle.lr_forms.specs.declared.built.Built.TheVariants as built
+
+-- ---- so far
 
 abbrev pub so_far_unbuilt : Directive → Bool
 -- scripts
@@ -25,42 +26,44 @@ so_far_unbuilt is.Copy = true
 so_far_unbuilt is.Copytruncate = true
 so_far_unbuilt is.Create = true
 so_far_unbuilt is.Createolddir = true
-so_far_unbuilt is.Daily = true
 so_far_unbuilt is.Dateext = true
 so_far_unbuilt is.Dateformat = true
 so_far_unbuilt is.Datehourago = true
+so_far_unbuilt is.Dateserial = true
 so_far_unbuilt is.Dateyesterday = true
 so_far_unbuilt is.Extension = true
-so_far_unbuilt is.Hourly = true
-so_far_unbuilt is.Ignoreduplicates = true
 so_far_unbuilt is.Mail = true
 so_far_unbuilt is.Mailfirst = true
 so_far_unbuilt is.Maxage = true
-so_far_unbuilt is.Maxsize = true
-so_far_unbuilt is.Minage = true
-so_far_unbuilt is.Minsize = true
-so_far_unbuilt is.Monthly = true
-so_far_unbuilt is.Notifempty = true
 so_far_unbuilt is.Olddir = true
 so_far_unbuilt is.Renamecopy = true
 so_far_unbuilt is.Sharedscripts = true
-so_far_unbuilt is.Size = true
 so_far_unbuilt is.Start = true
-so_far_unbuilt is.Weekly = true
-so_far_unbuilt is.Yearly = true
 -- all else is built
 so_far_unbuilt d = false
 
--- what isn't built even where all else is
+-- a script of this phase
+abbrev pub so_far_no_script : Phase → Bool
+so_far_no_script phase = true
+
+-- ---- where all counts as built
+
+-- `renamecopy` is read by nothing
 abbrev pub never_built : Directive → Bool
 never_built is.Renamecopy = true
 never_built d = false
+
+-- ---- by what counts as built
 
 abbrev pub is_unbuilt : Built → Directive → Bool
 is_unbuilt built.SoFar d = so_far_unbuilt d
 is_unbuilt built.All d = never_built d
 
--- a script of this phase
 abbrev pub script_is_unbuilt : Built → Phase → Bool
-script_is_unbuilt built.SoFar p = true
-script_is_unbuilt built.All p = false
+script_is_unbuilt built.SoFar phase = so_far_no_script phase
+script_is_unbuilt built.All phase = false
+
+-- a name that is a pattern
+abbrev pub pattern_is_unbuilt : Built → Bool
+pattern_is_unbuilt built.SoFar = true
+pattern_is_unbuilt built.All = false

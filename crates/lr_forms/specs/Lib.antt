@@ -1,3 +1,4 @@
 pub mod Built
 pub mod Forms
+pub mod Values
 pub mod Says

@@ -7,20 +7,23 @@ use Rattle.lr_lex.specs.declared.item.Item.TheVariants as item
 use Rattle.lr_lex.specs.declared.word.Word.{Word}
 use Rattle.lr_rules.specs.declared.fault.ConfKind.{ConfKind}
 use Rattle.lr_rules.specs.declared.fault.ConfKind.TheVariants as kind
-use Rattle.lr_rules.specs.declared.rule.Count.{Count}
+use Rattle.lr_rules.specs.declared.fault.Phase.{Phase}
+use Rattle.lr_rules.specs.declared.fault.Phase.TheVariants as phase
 use Rattle.lr_rules.specs.Match.{is_wildcard}
 use Rattle.lr_tables.specs.declared.directive.Directive.{Directive}
+use Rattle.lr_tables.specs.declared.directive.Directive.TheVariants as is
 use Rattle.lr_tables.specs.Directives.{directive_table}
-use Rattle.lr_values.specs.Numbers.{count_value}
+use Rattle.lr_words.specs.declared.taboo.TabooItems.{TabooItems}
+use Rattle.lr_words.specs.Lists.{taboo_value}
 use Rattle.lr_words.specs.Names.{log_name_value}
+use Rattle.lr_forms.specs.declared.built.Built.{Built}
 use Rattle.lr_forms.specs.declared.form.Form.{Form}
 use Rattle.lr_forms.specs.declared.form.Form.TheVariants as form
-use Rattle.lr_forms.specs.declared.set.Set.TheVariants as set
 use Rattle.lr_forms.specs.declared.said.Said.{Said}
 use Rattle.lr_forms.specs.declared.said.Said.TheVariants as says
-use Rattle.lr_forms.specs.declared.built.Built.{Built}
-use Rattle.lr_forms.specs.Built.{is_unbuilt}
+use Rattle.lr_forms.specs.Built.{is_unbuilt, pattern_is_unbuilt}
 use Rattle.lr_forms.specs.Forms.{form_of}
+use Rattle.lr_forms.specs.Values.{one_says, day_says, make_says, include_says, taboo_says}
 
 -- ---- where an item stands
 
@@ -48,6 +51,10 @@ directive_of word = option_map (λ row. row.directive) (find (λ row. bytes_eq r
 
 -- ---- faults
 
+abbrev pub is_empty : {A : Type 0} → List A → Bool
+is_empty [] = true
+is_empty (x ∷ xs) = false
+
 -- the first of these faults that applies
 abbrev pub first_fault : List (Bool × ConfKind) → Option ConfKind
 first_fault [] = None
@@ -62,19 +69,33 @@ is_script form.Script = true
 is_script f = false
 
 abbrev pub is_outside : Form → Bool
-is_outside form.Outside = true
+is_outside form.Include = true
+is_outside (form.Taboo patterns) = true
 is_outside f = false
+
+-- a list without an item
+abbrev pub lists_nothing : Result TabooItems ConfKind → Bool
+lists_nothing (Ok items) = false
+lists_nothing (Err k) = true
 
 -- it needs a value and has none
 abbrev pub lacks_value : Form → List (List ℕ) → Bool
-lacks_value form.Count [] = true
+lacks_value (form.One v) vs = is_empty vs
+lacks_value form.Include vs = is_empty vs
+lacks_value (form.Taboo patterns) vs = lists_nothing (taboo_value vs)
 lacks_value f vs = false
 
--- more words than it takes, or a word that stands nowhere by itself
+-- More words than it takes. `endscript`, and a script's word in a line of its own, which no text has, stand nowhere by
+-- themselves.
 abbrev pub has_more : Form → List (List ℕ) → Bool
 has_more form.Ending vs = true
-has_more form.Count vs = nat_lt 1 (length vs)
+has_more form.Script vs = true
 has_more form.Passed vs = false
+has_more (form.Taboo patterns) vs = false
+has_more (form.One v) vs = nat_lt 1 (length vs)
+has_more form.Include vs = nat_lt 1 (length vs)
+has_more form.Day vs = nat_lt 1 (length vs)
+has_more (form.Make olddir) vs = nat_lt 3 (length vs)
 has_more f vs = nat_lt 0 (length vs)
 
 -- the faults of a line that begins with a directive, in the order in which they apply: behind NestedBrace and Unknown,
@@ -90,20 +111,15 @@ checks inside brace stray unbuilt f vs =
 
 -- ---- meanings
 
--- what a count sets, or its fault
-abbrev pub counted : Result Count ConfKind → Said
-counted (Ok count) = says.Sets (set.Count count)
-counted (Err k) = says.Bad k
-
-abbrev pub count_says : List (List ℕ) → Said
-count_says [] = says.Quiet
-count_says (v ∷ vs) = counted (count_value v)
-
 -- what a line says to which none of those faults applies
 abbrev pub means : Form → List ℕ → List (List ℕ) → Said
 means form.Passed word vs = says.Passed word
-means form.Count word vs = count_says vs
 means (form.Plain s) word vs = says.Sets s
+means (form.One v) word vs = one_says v vs
+means form.Day word vs = day_says vs
+means (form.Make olddir) word vs = make_says olddir vs
+means form.Include word vs = include_says vs
+means (form.Taboo patterns) word vs = taboo_says patterns vs
 means f word vs = says.Quiet
 
 abbrev pub or_bad : Option ConfKind → Said → Said
@@ -143,12 +159,12 @@ abbrev pub named : List ConfKind → List (List ℕ) → Said
 named [] names = says.Names names
 named (k ∷ ks) names = says.BadNames k
 
--- A line of names, outside definitions: it names them all, or has the first fault that applies; so far none may be a
--- pattern. One without a name, which no text has, is stray.
-abbrev pub names_say : Bool → List Word → Said
-names_say stray [] = says.BadNames kind.Stray
-names_say stray (w ∷ ws) =
-    if has_pattern (w ∷ ws) then says.BadNames kind.NotYet
+-- A line of names, outside definitions: it names them all, or has the first fault that applies. One without a name,
+-- which no text has, is stray.
+abbrev pub names_say : Built → Bool → List Word → Said
+names_say built stray [] = says.BadNames kind.Stray
+names_say built stray (w ∷ ws) =
+    if pattern_is_unbuilt built && has_pattern (w ∷ ws) then says.BadNames kind.NotYet
     else if stray then says.BadNames kind.Stray
     else named (name_faults (w ∷ ws)) (log_names (w ∷ ws))
 
@@ -157,14 +173,34 @@ names_say stray (w ∷ ws) =
 abbrev pub nested : Bool → ConfKind → Said
 nested brace k = says.Bad (if brace then kind.NestedBrace else k)
 
-abbrev pub script_says : Bool → Bool → Said
-script_says inside brace = if inside then nested brace kind.NotYet else says.Bad kind.OutsideSet
+-- when a script with this word runs
+abbrev pub phase_of : Directive → Option Phase
+phase_of is.Firstaction = Some phase.First
+phase_of is.Prerotate = Some phase.Pre
+phase_of is.Postrotate = Some phase.Post
+phase_of is.Lastaction = Some phase.Last
+phase_of is.Preremove = Some phase.Preremove
+phase_of d = None
+
+abbrev pub phase_named : Option Directive → Option Phase
+phase_named None = None
+phase_named (Some d) = phase_of d
+
+-- A script, which stands in a definition. A text gives none with another word.
+abbrev pub script_in : Bool → List ℕ → Bool → Option Phase → Said
+script_in inside text stray None = says.Unknown
+script_in inside text stray (Some p) = if inside then says.Script p text stray else says.Bad kind.OutsideSet
+
+abbrev pub script_says : Bool → Bool → Bool → List ℕ → List ℕ → Said
+script_says inside brace stray word text =
+    if inside && brace then says.Bad kind.NestedBrace
+    else script_in inside text stray (phase_named (directive_of word))
 
 -- what a line says
 abbrev pub said : Built → Bool → Item → Said
 said built inside (item.Close line) = says.Close
-said built inside (item.Script word text brace stray line) = script_says inside brace
+said built inside (item.Script word text brace stray line) = script_says inside brace stray word.text text
 said built inside (item.Line ws names brace stray line) =
     if not names then words_say built inside brace stray ws
     else if inside then nested brace kind.Stray
-    else names_say stray ws
+    else names_say built stray ws

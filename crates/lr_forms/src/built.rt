@@ -1,6 +1,6 @@
 // What isn't built yet.
 ghost use Rattle.std.specs.Prelude.{◌≡◌};
-ghost use Rattle.lr_forms.specs.Built.{so_far_unbuilt, never_built, is_unbuilt, script_is_unbuilt};
+ghost use Rattle.lr_forms.specs.Built.{so_far_unbuilt, so_far_no_script, never_built, is_unbuilt, script_is_unbuilt, pattern_is_unbuilt};
 
 use lr_rules::Phase;
 use lr_tables::Directive;
@@ -21,38 +21,37 @@ fn so_far_unbuilt(directive: Directive) -> bool
         | Directive::Copytruncate
         | Directive::Create
         | Directive::Createolddir
-        | Directive::Daily
         | Directive::Dateext
         | Directive::Dateformat
         | Directive::Datehourago
+        | Directive::Dateserial
         | Directive::Dateyesterday
         | Directive::Extension
         | Directive::Firstaction
-        | Directive::Hourly
-        | Directive::Ignoreduplicates
         | Directive::Include
         | Directive::Lastaction
         | Directive::Mail
         | Directive::Mailfirst
         | Directive::Maxage
-        | Directive::Maxsize
-        | Directive::Minage
-        | Directive::Minsize
-        | Directive::Monthly
-        | Directive::Notifempty
         | Directive::Olddir
         | Directive::Postrotate
         | Directive::Preremove
         | Directive::Prerotate
         | Directive::Renamecopy
         | Directive::Sharedscripts
-        | Directive::Size
         | Directive::Start
         | Directive::Tabooext
-        | Directive::Taboopat
-        | Directive::Weekly
-        | Directive::Yearly => true,
+        | Directive::Taboopat => true,
         _ => false,
+    }
+}
+
+fn so_far_no_script(phase: Phase) -> bool
+    ensures { result ≡ so_far_no_script phase }
+{
+    match phase {
+        Phase::First | Phase::Pre | Phase::Post | Phase::Last | Phase::Preremove | Phase::Mail =>
+            true,
     }
 }
 
@@ -76,8 +75,18 @@ pub(crate) fn is_unbuilt(built: Built, directive: Directive) -> bool
 }
 
 /// Whether a script of the phase isn't built, so that its line is told as NotYet.
-pub fn script_is_unbuilt(built: Built, _phase: Phase) -> bool
-    ensures { result ≡ script_is_unbuilt built _phase }
+pub fn script_is_unbuilt(built: Built, phase: Phase) -> bool
+    ensures { result ≡ script_is_unbuilt built phase }
+{
+    match built {
+        Built::SoFar => so_far_no_script(phase),
+        Built::All => false,
+    }
+}
+
+/// Whether a name that is a pattern isn't built.
+pub(crate) fn pattern_is_unbuilt(built: Built) -> bool
+    ensures { result ≡ pattern_is_unbuilt built }
 {
     match built {
         Built::SoFar => true,

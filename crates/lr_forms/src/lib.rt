@@ -12,11 +12,17 @@
 #![tactic(auto)]
 
 mod built;
+mod faults;
 mod form;
+mod make;
+mod names;
 mod reading;
 mod row;
 mod said;
+mod script;
 mod set;
+mod taboo;
+mod value;
 
 pub use built::{Built, script_is_unbuilt};
 pub use reading::say;

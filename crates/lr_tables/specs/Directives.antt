@@ -35,6 +35,7 @@ directive_table =
     sets (codes "dateext") is.Dateext ∷
     sets (codes "dateformat") is.Dateformat ∷
     sets (codes "datehourago") is.Datehourago ∷
+    sets (codes "dateserial") is.Dateserial ∷
     sets (codes "dateyesterday") is.Dateyesterday ∷
     sets (codes "delaycompress") is.Delaycompress ∷
     sets (codes "endscript") is.Endscript ∷
@@ -61,6 +62,7 @@ directive_table =
     undoes (codes "nocreate") is.Nocreate is.Create ∷
     undoes (codes "nocreateolddir") is.Nocreateolddir is.Createolddir ∷
     undoes (codes "nodateext") is.Nodateext is.Dateext ∷
+    undoes (codes "nodateserial") is.Nodateserial is.Dateserial ∷
     undoes (codes "nodelaycompress") is.Nodelaycompress is.Delaycompress ∷
     undoes (codes "nomail") is.Nomail is.Mail ∷
     undoes (codes "nomissingok") is.Nomissingok is.Missingok ∷

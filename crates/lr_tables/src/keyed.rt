@@ -18,7 +18,7 @@ pub struct Row {
 }
 
 /// Rows whose words are distinct and rise in the order of their bytes. They stand in the program, and are lent: the model
-/// of a function that holds 65 rows itself is 30 times as long.
+/// of a function that holds 67 rows itself is 30 times as long.
 #[derive(Drop)]
 pub struct Keyed<const N: usize> {
     pub rows: &'static [Row; N],
@@ -27,12 +27,12 @@ pub struct Keyed<const N: usize> {
 
 // The borrow checker covers a method over rows that hold references at a numeral alone: so the search is over a slice
 // of any length, and this block names the number of the directives.
-impl Keyed<65> {
+impl Keyed<67> {
     /// The number of the row that has the word. Each comparison of two words is one step; no memory is taken.
     pub fn row_of<L: Ledger>(&self, word: &[u8], steps: &mut Steps<L>) -> Option<usize>
         ensures found { IfSome result (λ i. IsRowOf self.now.rows.now word.now i) }
         ensures none { IfNone result ((i : ℕ) → IsRowOf self.now.rows.now word.now i → ⊥) }
-        ensures few { (d : ℕ) → 65 < 2 ^ d → steps.new ≤ steps.old + d + 1 }
+        ensures few { (d : ℕ) → 67 < 2 ^ d → steps.new ≤ steps.old + d + 1 }
         ensures counted { OnSome result (steps.old < steps.new) }
         ensures onward { steps.old ≤ steps.new }
     {

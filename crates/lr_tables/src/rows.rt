@@ -16,7 +16,7 @@ macro_rules! undone {
     ($other:ident) => { Some(Directive::$other) };
 }
 
-static ROWS: [Row; 65] = rows![
+static ROWS: [Row; 67] = rows![
         b"addextension" => Addextension,
         b"allowhardlink" => Allowhardlink,
         b"compress" => Compress,
@@ -31,6 +31,7 @@ static ROWS: [Row; 65] = rows![
         b"dateext" => Dateext,
         b"dateformat" => Dateformat,
         b"datehourago" => Datehourago,
+        b"dateserial" => Dateserial,
         b"dateyesterday" => Dateyesterday,
         b"delaycompress" => Delaycompress,
         b"endscript" => Endscript,
@@ -57,6 +58,7 @@ static ROWS: [Row; 65] = rows![
         b"nocreate" => Nocreate undoes Create,
         b"nocreateolddir" => Nocreateolddir undoes Createolddir,
         b"nodateext" => Nodateext undoes Dateext,
+        b"nodateserial" => Nodateserial undoes Dateserial,
         b"nodelaycompress" => Nodelaycompress undoes Delaycompress,
         b"nomail" => Nomail undoes Mail,
         b"nomissingok" => Nomissingok undoes Missingok,
@@ -85,7 +87,7 @@ static ROWS: [Row; 65] = rows![
 ];
 
 /// The directives of logrotate(8), those that are passed over among them. No memory is taken.
-pub fn directives() -> Keyed<65>
+pub fn directives() -> Keyed<67>
     ensures { contents result.rows.now ≡ directive_table }
 {
     Keyed { rows: &ROWS }

@@ -20,7 +20,7 @@ mod stamp;
 mod units;
 
 pub use digits::{count, number, weekday};
-pub use laws::values_meet_limits;
+pub use laws::{one_format, values_meet_limits};
 pub use permissions::{first_mode, mode, names_owner};
 pub use stamp::format;
 pub use units::size;

@@ -1,6 +1,6 @@
 use Rattle.std.proofs.Common.{◌≡◌, ◌++◌, drop}
 use Rattle.lr_forms.specs.Says.{log_names, name_faults, named}
-use Rattle.lr_forms.proofs.reading.named.Given as goal
+use Rattle.lr_forms.proofs.names.named.Given as goal
 
 -- what is left says what all say, behind the names so far
 abbrev pub invariant-loop-word : goal.invariant-loop-word
