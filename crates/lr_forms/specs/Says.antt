@@ -51,10 +51,6 @@ directive_of word = option_map (λ row. row.directive) (find (λ row. bytes_eq r
 
 -- ---- faults
 
-abbrev pub is_empty : {A : Type 0} → List A → Bool
-is_empty [] = true
-is_empty (x ∷ xs) = false
-
 -- the first of these faults that applies
 abbrev pub first_fault : List (Bool × ConfKind) → Option ConfKind
 first_fault [] = None
@@ -80,8 +76,8 @@ lists_nothing (Err k) = true
 
 -- it needs a value and has none
 abbrev pub lacks_value : Form → List (List ℕ) → Bool
-lacks_value (form.One v) vs = is_empty vs
-lacks_value form.Include vs = is_empty vs
+lacks_value (form.One v) vs = nat_lt (length vs) 1
+lacks_value form.Include vs = nat_lt (length vs) 1
 lacks_value (form.Taboo patterns) vs = lists_nothing (taboo_value vs)
 lacks_value f vs = false
 

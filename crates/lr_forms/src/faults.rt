@@ -1,7 +1,7 @@
 // Faults of a line that begins with a directive.
 ghost use Rattle.std.specs.Prelude.{◌≡◌, IfOk};
 ghost use Rattle.lr_words.specs.Lists.{taboo_value};
-ghost use Rattle.lr_forms.specs.Says.{texts, is_empty, is_passed, is_script, is_outside, lists_nothing, lacks_value, has_more, checks, first_fault};
+ghost use Rattle.lr_forms.specs.Says.{texts, is_passed, is_script, is_outside, lists_nothing, lacks_value, has_more, checks, first_fault};
 
 use crate::form::Form;
 use crate::taboo::texts_of;
@@ -38,15 +38,6 @@ fn outside(form: &Form) -> bool
     }
 }
 
-fn empty(values: &[Word]) -> bool
-    ensures { result ≡ is_empty (texts values.now) }
-{
-    match values {
-        [] => true,
-        [_, ..] => false,
-    }
-}
-
 fn lists_nothing(alloc: Global, values: &[Word]) -> Result<bool, Memory>
     ensures { IfOk result (λ nothing. nothing ≡ lists_nothing (taboo_value (texts values.now))) }
 {
@@ -61,8 +52,8 @@ fn lacks_value(alloc: Global, form: &Form, values: &[Word]) -> Result<bool, Memo
     ensures { IfOk result (λ lacks. lacks ≡ lacks_value form.now (texts values.now)) }
 {
     match form {
-        Form::One(_) => Ok(empty(values)),
-        Form::Include => Ok(empty(values)),
+        Form::One(_) => Ok(values.len() < 1),
+        Form::Include => Ok(values.len() < 1),
         Form::Taboo { .. } => lists_nothing(alloc, values),
         _ => Ok(false),
     }

@@ -58,11 +58,18 @@ fn directive_says(
     let Some(directive) = directive_of(word.bytes()) else {
         return Ok(Said::Unknown);
     };
-    let form = form_of(directive);
     let unbuilt = is_unbuilt(built, directive);
-    match fault_of(alloc, inside, brace, stray, unbuilt, &form, values)? {
+    match fault_of(
+        alloc,
+        inside,
+        brace,
+        stray,
+        unbuilt,
+        &form_of(directive),
+        values,
+    )? {
         Some(kind) => Ok(Said::Bad(kind)),
-        None => means(alloc, form, word, values),
+        None => means(alloc, form_of(directive), word, values),
     }
 }
 

@@ -20,15 +20,6 @@ fn phase_of(directive: Directive) -> Option<Phase>
     }
 }
 
-fn phase_named(word: &[u8]) -> Option<Phase>
-    ensures { result ≡ phase_named (directive_of word.now) }
-{
-    match directive_of(word) {
-        Some(directive) => phase_of(directive),
-        None => None,
-    }
-}
-
 fn script_in(inside: bool, text: Text, stray: bool, phase: Option<Phase>) -> Said
     ensures { result ≡ script_in inside text stray phase }
 {
@@ -49,8 +40,10 @@ pub(crate) fn script_says(inside: bool, brace: bool, stray: bool, word: &[u8], t
     ensures { result ≡ script_says inside brace stray word.now text }
 {
     if inside && brace {
-        Said::Bad(ConfKind::NestedBrace)
-    } else {
-        script_in(inside, text, stray, phase_named(word))
+        return Said::Bad(ConfKind::NestedBrace);
+    }
+    match directive_of(word) {
+        Some(directive) => script_in(inside, text, stray, phase_of(directive)),
+        None => Said::Unknown,
     }
 }

@@ -160,20 +160,16 @@ fn sets_or_bad(set: Result<Set, ConfKind>) -> Said
     }
 }
 
-fn word_says(alloc: Global, value: Value, word: &Text) -> Result<Said, Memory>
-    ensures { IfOk result (λ s. s ≡ sets_or_bad (value_of value word.now)) }
-{
-    let set = value_of(alloc, value, word)?;
-    Ok(sets_or_bad(set))
-}
-
 /// What a directive says that takes one word.
 pub(crate) fn one_says(alloc: Global, value: Value, values: &[Word]) -> Result<Said, Memory>
     ensures { IfOk result (λ s. s ≡ one_says value (texts values.now)) }
 {
     match values {
         [] => Ok(Said::Quiet),
-        [word, ..] => word_says(alloc, value, &word.text),
+        [word, ..] => {
+            let set = value_of(alloc, value, &word.text)?;
+            Ok(sets_or_bad(set))
+        }
     }
 }
 
