@@ -2,3 +2,4 @@ pub mod Built
 pub mod Forms
 pub mod Values
 pub mod Says
+pub mod Limits

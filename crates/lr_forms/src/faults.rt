@@ -1,12 +1,16 @@
 // Faults of a line that begins with a directive.
 ghost use Rattle.std.specs.Prelude.{◌≡◌, IfOk};
 ghost use Rattle.lr_words.specs.Lists.{taboo_value};
+ghost use Rattle.lr_forms.specs.Built.{is_unbuilt};
+ghost use Rattle.lr_forms.specs.Forms.{form_of};
 ghost use Rattle.lr_forms.specs.Says.{texts, is_passed, is_script, is_outside, lists_nothing, lacks_value, has_more, checks, first_fault};
 
-use crate::form::Form;
+use crate::built::{Built, is_unbuilt};
+use crate::form::{Form, form_of};
 use crate::taboo::texts_of;
 use lr_lex::Word;
 use lr_rules::{ConfKind, Memory};
+use lr_tables::Directive;
 use lr_words::taboo_items;
 use std::alloc::Global;
 
@@ -75,8 +79,7 @@ fn has_more(form: &Form, values: &[Word]) -> bool
     }
 }
 
-/// The first fault of the line, those of its value aside.
-pub(crate) fn fault_of(
+fn first_fault(
     alloc: Global,
     inside: bool,
     brace: bool,
@@ -100,4 +103,21 @@ pub(crate) fn fault_of(
     } else {
         Ok(None)
     }
+}
+
+/// The first fault of the line, those of its value aside.
+pub(crate) fn fault_of(
+    alloc: Global,
+    built: Built,
+    inside: bool,
+    brace: bool,
+    stray: bool,
+    directive: Directive,
+    values: &[Word],
+) -> Result<Option<ConfKind>, Memory>
+    ensures { IfOk result (λ fault. fault ≡ first_fault (checks inside brace stray (is_unbuilt built directive) (form_of directive) (texts values.now))) }
+{
+    let form = form_of(directive);
+    let unbuilt = is_unbuilt(built, directive);
+    first_fault(alloc, inside, brace, stray, unbuilt, &form, values)
 }

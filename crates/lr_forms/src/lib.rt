@@ -14,6 +14,7 @@
 mod built;
 mod faults;
 mod form;
+mod laws;
 mod make;
 mod names;
 mod reading;
@@ -25,6 +26,7 @@ mod taboo;
 mod value;
 
 pub use built::{Built, script_is_unbuilt};
+pub use laws::lines_meet_limits;
 pub use reading::say;
 pub use said::{Said, closes, has_brace, line_of};
 pub use set::Set;

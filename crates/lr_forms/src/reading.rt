@@ -2,7 +2,7 @@
 ghost use Rattle.std.specs.Prelude.{◌≡◌, ◌∷◌, [], IfOk, MatchOption};
 ghost use Rattle.lr_forms.specs.Says.{directive_of, means, by_directive, texts, words_say, nested, said};
 
-use crate::built::{Built, is_unbuilt};
+use crate::built::Built;
 use crate::faults::fault_of;
 use crate::form::{Form, form_of};
 use crate::make::make_says;
@@ -58,16 +58,7 @@ fn directive_says(
     let Some(directive) = directive_of(word.bytes()) else {
         return Ok(Said::Unknown);
     };
-    let unbuilt = is_unbuilt(built, directive);
-    match fault_of(
-        alloc,
-        inside,
-        brace,
-        stray,
-        unbuilt,
-        &form_of(directive),
-        values,
-    )? {
+    match fault_of(alloc, built, inside, brace, stray, directive, values)? {
         Some(kind) => Ok(Said::Bad(kind)),
         None => means(alloc, form_of(directive), word, values),
     }

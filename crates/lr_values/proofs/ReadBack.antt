@@ -76,7 +76,7 @@ written_back (b ∷ bs) true = by (field_of b) refl (written_back bs false)
     by None is k = ap (λ x. 37 ∷ b ∷ x) k
     by (Some f) is k = ap (λ x. 37 ∷ x ∷ written (pieces_from false bs)) (letter_at b f is) ∙ ap (λ x. 37 ∷ b ∷ x) k
 
-abbrev tested : List Piece → Bool
+abbrev pub tested : List Piece → Bool
 tested ps = is_format (record { pieces = ps; back = back.Now })
 
 abbrev given : Bool → List Piece → Result (List Piece) ConfKind
@@ -93,3 +93,12 @@ one_format word (Err k) w = ap Err w.0 ∙ by (tested (pieces_from false word)) 
     by : (b : Bool) → tested (pieces_from false word) ≡ b → Err kind.BadFormat ≡ given b (pieces_from false word)
     by true is = absurd (w.1 (pieces_from false word) (record { bytes = written_back word false; format = is }))
     by false is = refl
+
+-- a format that a word says is one
+pub format_meets : (word : List ℕ) (ps : List Piece) → format_value word ≡ Ok ps → tested ps ≡ true
+unfolding format_value
+format_meets word ps h = by (tested (pieces_from false word)) refl h
+  where
+    by : (b : Bool) → tested (pieces_from false word) ≡ b → given b (pieces_from false word) ≡ Ok ps → tested ps ≡ true
+    by true is e = let same : pieces_from false word ≡ ps = cc in ap tested (sym same) ∙ is
+    by false is e = absurd (cc)
