@@ -1,7 +1,7 @@
 // The calls that a line may make.
 use crate::{
-    chain, choosing, clock, conf, due, layer, lex, meeting, moment, name, path, report, setting,
-    state, word,
+    chain, choosing, clock, conf, due, layer, lex, lines, meeting, moment, name, path, report,
+    setting, state, word,
 };
 use lr_line::{Line, Trouble};
 
@@ -23,6 +23,7 @@ enum Ask {
     Row,
     PlaceOfWord,
     Lex,
+    OneLine,
     Layer,
     Conf,
     Copied,
@@ -48,7 +49,7 @@ enum Ask {
 }
 
 // Each call with its name, and how many words stand behind that, at least and at most.
-static ASKS: [(&str, Ask, usize, usize); 38] = [
+static ASKS: [(&str, Ask, usize, usize); 39] = [
     ("path", Ask::Path, 1, 1),
     ("word", Ask::Word, 2, 2),
     ("parent", Ask::Parent, 1, 1),
@@ -65,6 +66,7 @@ static ASKS: [(&str, Ask, usize, usize); 38] = [
     ("row", Ask::Row, 1, 1),
     ("row-of", Ask::PlaceOfWord, 1, 1),
     ("lex", Ask::Lex, 1, 1),
+    ("line", Ask::OneLine, 2, 2),
     ("layer", Ask::Layer, 1, 2),
     ("conf", Ask::Conf, 1, 1),
     ("copied", Ask::Copied, 1, 1),
@@ -138,6 +140,7 @@ fn answer_of_texts(ask: Ask, line: Line, out: &mut String) -> Result<(), Trouble
         Ask::Row => word::row(line, out),
         Ask::PlaceOfWord => word::place(line, out),
         Ask::Lex => lex::lex(line, out),
+        Ask::OneLine => lines::one_line(line, out),
         Ask::Layer => layer::layer(line, out),
         Ask::Conf => conf::conf(line, out),
         Ask::Copied => conf::copied(line, out),

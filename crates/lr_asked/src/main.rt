@@ -17,6 +17,7 @@ mod fault;
 mod kinds;
 mod layer;
 mod lex;
+mod lines;
 mod meeting;
 mod moment;
 mod name;

@@ -75,7 +75,7 @@ fn put_piece(piece: Piece, out: &mut String) -> Result<(), Trouble> {
     }
 }
 
-fn put_pieces(pieces: &[Piece], out: &mut String) -> Result<(), Trouble> {
+pub fn put_pieces(pieces: &[Piece], out: &mut String) -> Result<(), Trouble> {
     for piece in pieces {
         put_piece(*piece, out)?;
     }
@@ -89,7 +89,7 @@ fn put_format(line: Line, out: &mut String) -> Result<(), Trouble> {
     }
 }
 
-fn put_taboo(taboo: &TabooItems, out: &mut String) -> Result<(), Trouble> {
+pub fn put_taboo(taboo: &TabooItems, out: &mut String) -> Result<(), Trouble> {
     out.push_str(if taboo.adding { "adds" } else { "sets" })?;
     put_all(taboo.items.as_slice(), out)
 }

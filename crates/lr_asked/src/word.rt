@@ -32,10 +32,12 @@ fn name_of(directive: Directive) -> &'static str {
     match directive {
         Directive::Addextension => "Addextension",
         Directive::Copy => "Copy",
+        Directive::Dateserial => "Dateserial",
         Directive::Ifempty => "Ifempty",
         Directive::Mailfirst => "Mailfirst",
         Directive::Maillast => "Maillast",
         Directive::Nocopy => "Nocopy",
+        Directive::Nodateserial => "Nodateserial",
         Directive::Notifempty => "Notifempty",
         Directive::Rotate => "Rotate",
         Directive::Weekly => "Weekly",
