@@ -1,0 +1,5 @@
+pub mod Classes
+pub mod Ends
+pub mod Matching
+pub mod Signs
+pub mod Stars

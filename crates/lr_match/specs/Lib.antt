@@ -1,0 +1,4 @@
+pub mod Classes
+pub mod Reached
+pub mod Signs
+pub mod Taboos
