@@ -1,7 +1,7 @@
 // The calls that a line may make.
 use crate::{
-    chain, choosing, clock, conf, due, layer, lex, lines, meeting, moment, name, path, report,
-    setting, state, word,
+    chain, choosing, clock, conf, due, glob, layer, lex, lines, meeting, moment, name, path,
+    report, setting, state, word,
 };
 use lr_line::{Line, Trouble};
 
@@ -46,10 +46,13 @@ enum Ask {
     Said,
     Until,
     Choose,
+    Matches,
+    Bars,
+    Changed,
 }
 
 // Each call with its name, and how many words stand behind that, at least and at most.
-static ASKS: [(&str, Ask, usize, usize); 39] = [
+static ASKS: [(&str, Ask, usize, usize); 42] = [
     ("path", Ask::Path, 1, 1),
     ("word", Ask::Word, 2, 2),
     ("parent", Ask::Parent, 1, 1),
@@ -89,6 +92,9 @@ static ASKS: [(&str, Ask, usize, usize); 39] = [
     ("said", Ask::Said, 1, 1),
     ("until", Ask::Until, 2, 2),
     ("choose", Ask::Choose, 0, 99),
+    ("matches", Ask::Matches, 2, 2),
+    ("bars", Ask::Bars, 1, 99),
+    ("changed", Ask::Changed, 0, 99),
 ];
 
 // The call, where so many words stand behind its name.
@@ -129,6 +135,9 @@ fn answer_of_runs(ask: Ask, line: Line, out: &mut String) -> Result<(), Trouble>
         Ask::Said => report::said(line, out),
         Ask::Until => report::until(line, out),
         Ask::Choose => choosing::choices(line, out),
+        Ask::Matches => glob::is_match(line, out),
+        Ask::Bars => glob::bars(line, out),
+        Ask::Changed => glob::changed(line, out),
         _ => Err(Trouble::Odd("no such call")),
     }
 }

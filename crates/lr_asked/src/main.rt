@@ -14,6 +14,7 @@ mod conf;
 mod due;
 mod family;
 mod fault;
+mod glob;
 mod kinds;
 mod layer;
 mod lex;

@@ -1,0 +1,74 @@
+// Patterns and taboo lists. A list is the first one, or what that becomes by words: `tabooext` or `taboopat`, `adds` or
+// `sets`, and the items.
+ghost use Rattle.std.specs.Prelude.{◌≤◌};
+
+use crate::values::{put_all, put_yes};
+use lr_line::{Line, Trouble};
+use lr_match::{Taboo, matches};
+use lr_rules::Text;
+
+fn text(line: Line, at: usize) -> Result<Text, Trouble> {
+    Ok(Text::new(line.alloc, line.word(at)?)?)
+}
+
+fn items(line: Line, at: usize) -> Result<Vec<Text>, Trouble> {
+    let mut items = Vec::new(line.alloc);
+    for word in line.words.iter().skip(at) {
+        items.push(Text::new(line.alloc, word)?)?;
+    }
+    Ok(items)
+}
+
+// Whether the word is the second of these; it has to be one of them.
+fn is_second(line: Line, at: usize, first: &str, second: &str) -> Result<bool, Trouble> {
+    let word = line.word(at)?;
+    if word == first.as_bytes() {
+        Ok(false)
+    } else if word == second.as_bytes() {
+        Ok(true)
+    } else {
+        Err(Trouble::Odd("no such change"))
+    }
+}
+
+fn changed_by(line: Line, at: usize) -> Result<Taboo, Trouble>
+    requires { at ≤ 90 }
+{
+    let patterns = is_second(line, at, "tabooext", "taboopat")?;
+    let adding = is_second(line, at + 1, "sets", "adds")?;
+    let items = items(line, at + 2)?;
+    let first = Taboo::first(line.alloc)?;
+    Ok(first.changed(line.alloc, &items, patterns, adding)?)
+}
+
+fn taboo(line: Line, at: usize) -> Result<Taboo, Trouble>
+    requires { at ≤ 90 }
+{
+    if line.words.len() <= at {
+        Ok(Taboo::first(line.alloc)?)
+    } else {
+        changed_by(line, at)
+    }
+}
+
+/// Whether the pattern matches the name.
+pub fn is_match(line: Line, out: &mut String) -> Result<(), Trouble> {
+    let pattern = text(line, 1)?;
+    let name = text(line, 2)?;
+    put_yes(matches(pattern.as_str(), name.as_str()), out)
+}
+
+/// Whether the list bars the name.
+pub fn bars(line: Line, out: &mut String) -> Result<(), Trouble> {
+    let name = text(line, 1)?;
+    let taboo = taboo(line, 2)?;
+    put_yes(taboo.bars(name.as_str()), out)
+}
+
+/// The extensions and the patterns of the list.
+pub fn changed(line: Line, out: &mut String) -> Result<(), Trouble> {
+    let taboo = taboo(line, 1)?;
+    put_all(taboo.extensions.as_slice(), out)?;
+    out.push_str(" and")?;
+    put_all(taboo.patterns.as_slice(), out)
+}
