@@ -1,8 +1,9 @@
 //! What one line of a configuration of logrotate(8) says by itself.
 //!
-//! The contract: [`say`] gives what a definition has for the line, told of where it stands, inside a definition of logs
-//! or outside: the first fault that applies to it, in the order of `lr_rules::ConfKind`, else its meaning. What depends
-//! on the lines before it, as names without a brace and a script that stands twice, is for `lr_conf`. Begin with
+//! The contract: [`say`] gives exactly what the line says, inside a definition of logs or outside: the first fault that
+//! applies to it, in the order of `lr_rules::ConfKind`, else what it sets, names, includes or passes over. What is set
+//! meets the limits of `lr_rules`. [`Built`] tells which directives count as built; a line with another is NotYet. What
+//! depends on the lines before it, as names without a brace and a script that stands twice, is for `lr_conf`. Begin with
 //! [`say`]:
 //!
 //! ```text

@@ -33,5 +33,6 @@ pub enum Set {
     Back(Back),
     /// Whether a stamp that stands already gets a serial number.
     Serial(bool),
+    /// The text of a script, which lines set together: by itself none does.
     Script(Phase, Text),
 }

@@ -1,5 +1,5 @@
 -- The format that a word says is the one that writes it.
-use Rattle.std.proofs.Common.{◌≡◌, ℕ, ◌==◌, Bool, true, false, cond, ◌&&◌, List, [], ◌∷◌, Option, Some, None, Result, Ok, Err, refl, ap, sym, ◌∙◌, arith}
+use Rattle.std.proofs.Common.{◌≡◌, ℕ, ◌==◌, Bool, true, false, cond, List, [], ◌∷◌, Option, Some, None, Result, Ok, Err, refl, ap, sym, ◌∙◌, arith}
 use Rattle.std.specs.List.{list_all}
 use Rattle.std.proofs.lemmas.Bool.{and_parts}
 use Rattle.std.proofs.lemmas.Bool.Decides.{nat_tests}
@@ -11,7 +11,7 @@ use Rattle.lr_rules.specs.declared.rule.Field.TheVariants as field
 use Rattle.lr_rules.specs.declared.rule.Piece.{Piece}
 use Rattle.lr_rules.specs.declared.rule.Piece.TheVariants as piece
 use Rattle.lr_rules.specs.Limits.{letter, written, is_plain_piece, is_format}
-use Rattle.lr_values.specs.Formats.{FormatSays, Writes, field_of, behind_percent, pieces_from, format_value}
+use Rattle.lr_values.specs.Formats.{FormatSays, field_of, behind_percent, pieces_from, format_value}
 use Rattle.lr_values.proofs.Formats.{parts_of}
 
 at_letter : (f : Field) → field_of (letter f) ≡ Some f
