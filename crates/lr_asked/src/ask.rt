@@ -30,6 +30,7 @@ enum Ask {
     Due,
     Clock,
     State,
+    Pieces,
     Moment,
     Set,
     Purge,
@@ -52,7 +53,7 @@ enum Ask {
 }
 
 // Each call with its name, and how many words stand behind that, at least and at most.
-static ASKS: [(&str, Ask, usize, usize); 42] = [
+static ASKS: [(&str, Ask, usize, usize); 43] = [
     ("path", Ask::Path, 1, 1),
     ("word", Ask::Word, 2, 2),
     ("parent", Ask::Parent, 1, 1),
@@ -76,6 +77,7 @@ static ASKS: [(&str, Ask, usize, usize); 42] = [
     ("due", Ask::Due, 10, 10),
     ("clock", Ask::Clock, 2, 3),
     ("state", Ask::State, 1, 9),
+    ("pieces", Ask::Pieces, 2, 9),
     ("moment", Ask::Moment, 2, 9),
     ("set", Ask::Set, 0, 99),
     ("purge", Ask::Purge, 3, 9),
@@ -156,6 +158,7 @@ fn answer_of_texts(ask: Ask, line: Line, out: &mut String) -> Result<(), Trouble
         Ask::Due => due::is_due(line, out),
         Ask::Clock => clock::clock(line, out),
         Ask::State => state::state(line, out),
+        Ask::Pieces => state::pieces(line, out),
         Ask::Moment => state::moment(line, out),
         Ask::Set => state::set(line, out),
         Ask::Purge => state::purge(line, out),

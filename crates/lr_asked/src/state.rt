@@ -9,7 +9,7 @@ use crate::moment::{moment_at, put_moment};
 use crate::values::put_bytes;
 use lr_line::{Line, Trouble};
 use lr_rules::Civil;
-use lr_state::{State, StateStop, first_line};
+use lr_state::{Reader, State, StateStop, first_line};
 
 fn put_lines(state: &State, out: &mut String) -> Result<(), Trouble> {
     let mut room = [0u8; 8448];
@@ -39,13 +39,42 @@ fn text_from(line: Line, at: usize) -> Result<Vec<u8>, Trouble> {
     Ok(text)
 }
 
-/// The lines of the text's table, or its first fault.
-pub fn state(line: Line, out: &mut String) -> Result<(), Trouble> {
-    let text = text_from(line, 1)?;
-    match State::read(line.alloc, &text) {
+fn put_read(read: Result<State, StateStop>, out: &mut String) -> Result<(), Trouble> {
+    match read {
         Ok(state) => put_lines(&state, out),
         Err(stop) => put_stop(stop, out),
     }
+}
+
+/// The lines of the text's table, or its first fault.
+pub fn state(line: Line, out: &mut String) -> Result<(), Trouble> {
+    let text = text_from(line, 1)?;
+    put_read(State::read(line.alloc, &text), out)
+}
+
+fn give_all(reader: &mut Reader, text: &[u8], size: usize) -> Result<(), Trouble> {
+    if size == 0 {
+        return Err(Trouble::Odd("pieces of one byte or more are wanted"));
+    }
+    for piece in text.chunks(size) {
+        reader.give(piece)?;
+    }
+    Ok(())
+}
+
+// The reader to which the text was given in pieces of this size.
+fn reader_of(line: Line, text: &[u8], size: usize) -> Result<Reader, Trouble> {
+    let mut reader = Reader::new(line.alloc);
+    give_all(&mut reader, text, size)?;
+    Ok(reader)
+}
+
+/// The same of a text that comes in pieces of so many bytes.
+pub fn pieces(line: Line, out: &mut String) -> Result<(), Trouble> {
+    let size = line.small(1)?;
+    let text = text_from(line, 2)?;
+    let reader = reader_of(line, &text, size as usize)?;
+    put_read(reader.finish(), out)
 }
 
 // The table of the text from this place on.

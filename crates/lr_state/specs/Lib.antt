@@ -1,4 +1,5 @@
 pub mod Answer
+pub mod Given
 pub mod Grammar
 pub mod Piece
 pub mod Reading
