@@ -6,15 +6,10 @@
 //! The contract above it is that of `lr_cli::logrotate`; begin there.
 #![tactic(auto)]
 
-mod calls;
-mod real;
-mod sink;
-
+use lr_adapt::{RealHost, RealSink};
 use lr_cli::{Outcome, Zone, logrotate, printed, status};
 use lr_host::Sink;
 use lr_rules::{Path, PathFault, Text};
-use real::RealHost;
-use sink::RealSink;
 use std::alloc::Global;
 use std::env;
 use std::io::ErrorKind;

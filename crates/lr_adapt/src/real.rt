@@ -17,7 +17,7 @@ use std::rt::Files;
 use std::{fs, io};
 
 /// One more; a count at its type's end stands still.
-pub fn raise(count: &mut u64)
+pub(crate) fn raise(count: &mut u64)
     ensures rose { Rose count.old count.new }
     ensures grows { count.old ≤ count.new }
 {

@@ -22,7 +22,7 @@ fn kind_of(seen: &fs::Metadata) -> Kind {
 }
 
 /// What stands at the path. Nothing is there where a part of the path is missing or no directory.
-pub fn look_at<R: Files>(rt: &R, path: &str, follow: bool) -> io::Result<Option<Seen>> {
+pub(crate) fn look_at<R: Files>(rt: &R, path: &str, follow: bool) -> io::Result<Option<Seen>> {
     let got = if follow {
         fs::metadata(rt, path)
     } else {
@@ -43,7 +43,12 @@ pub fn look_at<R: Files>(rt: &R, path: &str, follow: bool) -> io::Result<Option<
 }
 
 /// Adds the names in the directory that are texts without a newline; any other name is passed over.
-pub fn names_in<R: Files>(rt: &R, alloc: Global, dir: &str, names: &mut Vec<Text>) -> io::Result<()>
+pub(crate) fn names_in<R: Files>(
+    rt: &R,
+    alloc: Global,
+    dir: &str,
+    names: &mut Vec<Text>,
+) -> io::Result<()>
     ensures { take (length names.old.items) names.new.items ≡ names.old.items }
 {
     for entry in fs::read_dir(&(rt, alloc), dir)? {
@@ -94,7 +99,7 @@ fn add_name(alloc: Global, name: &str, names: &mut Vec<Text>) -> io::Result<()>
 }
 
 /// Bytes of a file from a place on.
-pub fn read_at<R: Files<File = File>>(
+pub(crate) fn read_at<R: Files<File = File>>(
     rt: &R,
     path: &str,
     from: u64,
@@ -107,7 +112,7 @@ pub fn read_at<R: Files<File = File>>(
 }
 
 /// Appends a first part of the piece.
-pub fn append_to<R: Files>(rt: &R, path: &str, piece: &[u8]) -> io::Result<usize>
+pub(crate) fn append_to<R: Files>(rt: &R, path: &str, piece: &[u8]) -> io::Result<usize>
     ensures bound { IfOk result (λ count. count ≤ length piece.now) }
     ensures some { IfOk result (λ count. 0 < length piece.now → 0 < count) }
 {
@@ -121,7 +126,7 @@ pub fn append_to<R: Files>(rt: &R, path: &str, piece: &[u8]) -> io::Result<usize
 
 /// Makes an empty file; false where the path is named. A mode is given at the making, and again behind it, since the
 /// process's mask cuts the first.
-pub fn make_file_at<R: Files<File = File>>(
+pub(crate) fn make_file_at<R: Files<File = File>>(
     rt: &R,
     path: &str,
     mode: Option<u32>,
@@ -144,7 +149,7 @@ pub fn make_file_at<R: Files<File = File>>(
 }
 
 /// Makes a directory; false where the path is named. A mode is given as to a file.
-pub fn make_dir_at<R: Files>(rt: &R, path: &str, mode: Option<u32>) -> io::Result<bool> {
+pub(crate) fn make_dir_at<R: Files>(rt: &R, path: &str, mode: Option<u32>) -> io::Result<bool> {
     let mut builder = DirBuilder::new();
     if let Some(mode) = mode {
         builder.mode(mode);
@@ -162,20 +167,20 @@ pub fn make_dir_at<R: Files>(rt: &R, path: &str, mode: Option<u32>) -> io::Resul
 }
 
 /// Empties a file.
-pub fn truncate_at<R: Files>(rt: &R, path: &str) -> io::Result<()> {
+pub(crate) fn truncate_at<R: Files>(rt: &R, path: &str) -> io::Result<()> {
     let mut options = OpenOptions::new();
     let _file = options.write(true).truncate(true).open(rt, path)?;
     Ok(())
 }
 
 /// Syncs a file or a directory.
-pub fn sync_at<R: Files<File = File>>(rt: &R, path: &str) -> io::Result<()> {
+pub(crate) fn sync_at<R: Files<File = File>>(rt: &R, path: &str) -> io::Result<()> {
     let file = File::open(rt, path)?;
     file.sync_all()
 }
 
 /// Runs a program to its end.
-pub fn run_program<R: Files<File = File> + Processes>(
+pub(crate) fn run_program<R: Files<File = File> + Processes>(
     rt: &R,
     alloc: Global,
     program: &Path,
@@ -227,7 +232,7 @@ fn end_of(code: Option<i32>) -> Ended {
 
 /// Takes the lock of a state path; None where another has it. Its file can be read and written by its owner alone, so
 /// that no other user can hold it.
-pub fn take_lock<R: Files<File = File> + AllocGlobal>(
+pub(crate) fn take_lock<R: Files<File = File> + AllocGlobal>(
     rt: &R,
     state: &str,
 ) -> io::Result<Option<File>> {
