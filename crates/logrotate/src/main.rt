@@ -7,15 +7,17 @@
 #![tactic(auto)]
 
 use lr_adapt::{RealHost, RealSink};
-use lr_cli::{Outcome, Zone, logrotate, printed, status};
+use lr_cli::{Outcome, Zone, logrotate, printed, status, zone_of};
 use lr_host::Sink;
 use lr_rules::{Path, PathFault, Text};
 use std::alloc::Global;
 use std::env;
+use std::env::VarError;
 use std::io::ErrorKind;
 use std::process::ExitCode;
+use std::time::{SystemTime, UNIX_EPOCH};
 
-// Why the machine gives no words or directory: they are no texts, or there is no memory.
+// Why the machine gives no words, directory or zone: they are no texts or no paths, or there is no memory.
 enum Stop {
     BadWords,
     Memory,
@@ -74,21 +76,73 @@ fn here_of(rt: &HostRuntime, alloc: Global) -> Result<Path, Stop> {
     }
 }
 
+// The value of the variable TZ, where it is set.
+fn zone_text(rt: &HostRuntime, alloc: Global) -> Result<Option<Text>, Stop> {
+    match env::var(rt, "TZ") {
+        Ok(value) => match Text::new(alloc, value.as_bytes()) {
+            Ok(text) => Ok(Some(text)),
+            Err(_) => Err(Stop::Memory),
+        },
+        Err(VarError::NotPresent) => Ok(None),
+        Err(VarError::NotUnicode) => Err(Stop::BadWords),
+        Err(VarError::OutOfMemory) => Err(Stop::Memory),
+    }
+}
+
+fn zone_given(rt: &HostRuntime, alloc: Global) -> Result<Zone, Stop> {
+    let value = zone_text(rt, alloc)?;
+    match zone_of(alloc, value.as_ref()) {
+        Ok(zone) => Ok(zone),
+        Err(PathFault::Memory) => Err(Stop::Memory),
+        Err(_) => Err(Stop::BadWords),
+    }
+}
+
+// The clock's seconds since 1970; -1 where it can't be read or shows an earlier time.
+fn seconds(rt: &HostRuntime) -> i64 {
+    let Ok(now) = SystemTime::now(rt) else {
+        return -1;
+    };
+    match now.duration_since(UNIX_EPOCH) {
+        Ok(since) => i64::try_from(since.as_secs()).unwrap_or(-1),
+        Err(_) => -1,
+    }
+}
+
+// What a call is asked for.
+#[derive(Drop)]
+struct Asked {
+    zone: Zone,
+    here: Path,
+    words: Vec<Text>,
+}
+
+fn asked_of(rt: &HostRuntime, alloc: Global) -> Result<Asked, Stop> {
+    let words = words_of(rt, alloc)?;
+    let here = here_of(rt, alloc)?;
+    let zone = zone_given(rt, alloc)?;
+    Ok(Asked { zone, here, words })
+}
+
 fn run<K: Sink>(rt: &HostRuntime, out: &mut K) -> Outcome {
     let alloc = rt.alloc();
-    let words = match words_of(rt, alloc) {
-        Ok(words) => words,
-        Err(stop) => return printed(outcome_of(stop), out),
-    };
-    let here = match here_of(rt, alloc) {
-        Ok(here) => here,
+    let asked = match asked_of(rt, alloc) {
+        Ok(asked) => asked,
         Err(stop) => return printed(outcome_of(stop), out),
     };
     let Ok(files) = rt.clone() else {
         return printed(Outcome::OutOfMemory, out);
     };
     let mut host = RealHost::new(files);
-    logrotate(alloc, &words, &here, &Zone::Utc, 0, &mut host, out)
+    logrotate(
+        alloc,
+        &asked.words,
+        &asked.here,
+        &asked.zone,
+        seconds(rt),
+        &mut host,
+        out,
+    )
 }
 
 // Without a runtime for it there is no output, so nothing is said then.

@@ -29,6 +29,7 @@ enum Ask {
     Copied,
     Due,
     Clock,
+    Tz,
     State,
     Pieces,
     Moment,
@@ -53,7 +54,7 @@ enum Ask {
 }
 
 // Each call with its name, and how many words stand behind that, at least and at most.
-static ASKS: [(&str, Ask, usize, usize); 43] = [
+static ASKS: [(&str, Ask, usize, usize); 44] = [
     ("path", Ask::Path, 1, 1),
     ("word", Ask::Word, 2, 2),
     ("parent", Ask::Parent, 1, 1),
@@ -76,6 +77,7 @@ static ASKS: [(&str, Ask, usize, usize); 43] = [
     ("copied", Ask::Copied, 1, 1),
     ("due", Ask::Due, 10, 10),
     ("clock", Ask::Clock, 2, 3),
+    ("tz", Ask::Tz, 0, 1),
     ("state", Ask::State, 1, 9),
     ("pieces", Ask::Pieces, 2, 9),
     ("moment", Ask::Moment, 2, 9),
@@ -157,6 +159,7 @@ fn answer_of_texts(ask: Ask, line: Line, out: &mut String) -> Result<(), Trouble
         Ask::Copied => conf::copied(line, out),
         Ask::Due => due::is_due(line, out),
         Ask::Clock => clock::clock(line, out),
+        Ask::Tz => clock::tz(line, out),
         Ask::State => state::state(line, out),
         Ask::Pieces => state::pieces(line, out),
         Ask::Moment => state::moment(line, out),

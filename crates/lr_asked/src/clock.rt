@@ -1,8 +1,8 @@
 // What clocks in time zones show.
 use crate::moment::put_moment;
-use lr_due::{ZoneStop, ZoneText, clock_of};
+use lr_due::{Zone, ZoneStop, ZoneText, clock_of, zone_of};
 use lr_line::{Line, Trouble};
-use lr_rules::{Clock, Listed, Moment, Text};
+use lr_rules::{Clock, Listed, Moment, PathFault, Text};
 
 // The seconds that the word writes.
 fn seconds(word: &[u8]) -> Result<i64, Trouble> {
@@ -72,4 +72,26 @@ pub fn clock(line: Line, out: &mut String) -> Result<(), Trouble> {
     let seconds = seconds(line.word(1)?)?;
     let zone = zone(line)?;
     put_shown(line, &zone, seconds, out)
+}
+
+fn put_asked(asked: Result<Zone, PathFault>, out: &mut String) -> Result<(), Trouble> {
+    match asked {
+        Ok(Zone::Utc) => Ok(out.push_str("utc")?),
+        Ok(Zone::Rule(rule)) => Ok(write!(out, "rule {}", rule.as_str())?),
+        Ok(Zone::File(path)) => Ok(write!(out, "file {}", path.as_str())?),
+        Err(fault) => Ok(write!(out, "{fault}")?),
+    }
+}
+
+fn put_tz(line: Line, value: &[u8], out: &mut String) -> Result<(), Trouble> {
+    let value = Text::new(line.alloc, value)?;
+    put_asked(zone_of(line.alloc, Some(&value)), out)
+}
+
+/// The zone that a value of the variable TZ asks for, or none.
+pub fn tz(line: Line, out: &mut String) -> Result<(), Trouble> {
+    match line.words.get(1) {
+        Some(value) => put_tz(line, value.as_slice(), out),
+        None => put_asked(zone_of(line.alloc, None), out),
+    }
 }

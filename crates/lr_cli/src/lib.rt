@@ -18,8 +18,9 @@ mod told;
 mod top;
 mod words;
 
+pub use lr_due::{Zone, zone_of};
 pub use moment::{clock_at, first_civil, settings, state_file};
-pub use outcome::{Outcome, Report, Zone, status};
+pub use outcome::{Outcome, Report, status};
 pub use report::{printed, put_outcome, put_report};
 pub use run::{run_at, run_conf};
 pub use told::Told;

@@ -2,15 +2,7 @@
 ghost use Rattle.std.specs.Prelude.{◌≡◌, [], ◌∷◌};
 ghost use Rattle.lr_cli.specs.Status.{status_of};
 
-use lr_rules::{Fault, Listed, Notice, Path, Text};
-
-/// The time zone of the run: UTC, a POSIX rule, or a file in the TZif format.
-#[derive(Drop)]
-pub enum Zone {
-    Utc,
-    Rule(Text),
-    File(Path),
-}
+use lr_rules::{Fault, Listed, Notice};
 
 /// What there is to say of a run, in order.
 #[derive(Drop)]

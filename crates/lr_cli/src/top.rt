@@ -15,10 +15,11 @@ ghost use Rattle.lr_cli.specs.Printed.{printed_of, without_out};
 ghost use Rattle.lr_cli.specs.Rotated.{RotatesAll};
 ghost use Rattle.lr_cli.specs.Words.{AreWords, HaveForm};
 
-use crate::outcome::{Outcome, Zone};
+use crate::outcome::Outcome;
 use crate::report::{finish, printed};
 use crate::run::run_at;
 use crate::words::{WordsFault, conf_of};
+use lr_due::Zone;
 use lr_host::{Host, Sink};
 use lr_rules::{Path, Text};
 use std::alloc::Global;
