@@ -1,0 +1,4 @@
+pub mod Gathering
+pub mod Leading
+pub mod Rounds
+pub mod Visits

@@ -1,0 +1,9 @@
+pub mod Gathers
+pub mod Listing
+pub mod Parts
+pub mod Turns
+pub mod Visits
+pub mod Rounds
+pub mod Sights
+pub mod Stops
+pub mod Words
