@@ -1,4 +1,6 @@
 pub mod Gathering
+pub mod Giving
 pub mod Leading
 pub mod Rounds
+pub mod Looking
 pub mod Visits

@@ -53,6 +53,23 @@ pub data Begun (word : List ℕ) (ts : List Entry) : Type 0 where
   between : is_wildcard word ≡ true → (paths : List Path) → Led (parts_in word) (root ∷ []) paths ts → Begun word ts
   at_look : is_wildcard word ≡ true → SearchThen word (λ ordered us. LookedAtSome ordered us) ts → Begun word ts
 
+-- The parts were not followed to their end; or there was no memory before.
+abbrev pub NotSought : List ℕ → GlobStop → List Entry → Type 0
+NotSought word why ts = NotLed (parts_in word) (root ∷ []) why ts ⊎ ((why ≡ stop.Memory) × (ts ≡ []))
+
+-- It was not known what the word gives: a call failed, or there was no memory.
+abbrev pub Halted : List ℕ → GlobStop → List Entry → Type 0
+Halted word (stop.Call kind path) ts = CallFailed word kind path ts
+Halted word stop.Memory ts = Begun word ts
+Halted word _ ts = ⊥
+
+-- The look at a path failed; or there was no memory behind it.
+abbrev pub LiteralBroken : Path → GlobStop → List Entry → Type 0
+LiteralBroken at (stop.Call kind path) ts = (kind ≡ call.Look) × (path ≡ at) × (ts ≡ [])
+LiteralBroken at stop.Memory ts = Sees at (λ seen. Unit {0}) ts
+LiteralBroken at _ ts = ⊥
+
+-- Why a word gives nothing: that, or what it gives is judged so.
 abbrev pub Stopped : List ℕ → ℕ → GlobStop → List Entry → Type 0
 Stopped word room (stop.Call kind path) ts = CallFailed word kind path ts
 Stopped word room stop.Memory ts = Begun word ts

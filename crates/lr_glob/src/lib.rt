@@ -9,6 +9,7 @@
 //! ```
 #![tactic(auto)]
 
+mod word;
 mod found;
 mod lead;
 mod picking;
@@ -16,4 +17,5 @@ mod round;
 mod sights;
 mod visit;
 
+pub use word::expand;
 pub use found::{Found, GlobStop};

@@ -11,8 +11,8 @@ use lr_rules::{Memory, Path, PathFault, Text};
 use lr_words::literal;
 use std::alloc::Global;
 
-// Bytes that are no path are passed over: nothing has them on a disk.
-fn passed_over(fault: PathFault) -> Result<(), Memory>
+/// Bytes that are no path are passed over: nothing has them on a disk.
+pub(crate) fn passed_over(fault: PathFault) -> Result<(), Memory>
     ensures { OnOk result (fault ≢ PathFault.Memory) }
 {
     match fault {
