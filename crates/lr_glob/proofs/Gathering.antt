@@ -1,5 +1,5 @@
 -- What each of a list gives, taken in one after another.
-use Rattle.std.proofs.Common.{◌≡◌, ◌≢◌, ℕ, ◌+◌, ◌<◌, List, [], ◌∷◌, ◌++◌, length, take, drop, get_or, refl, sym, ap, ◌∙◌, subst, append_assoc, Option, Some, None}
+use Rattle.std.proofs.Common.{◌≡◌, ℕ, List, [], ◌∷◌, ◌++◌, refl, sym, ap, ◌∙◌, subst, append_assoc, Option, None}
 use Rattle.std.proofs.Common.{true}
 use Rattle.std.proofs.Common.{Result, Ok, Err, OnOk}
 use Rattle.std.specs.Str.{chars}

@@ -1,5 +1,5 @@
 -- What a word gives, from what its parts and looks gave.
-use Rattle.std.proofs.Common.{◌≡◌, ◌⊎◌, inl, inr, ℕ, Bool, true, false, cond, List, [], ◌∷◌, ◌++◌, refl, sym, ap, ◌∙◌, subst, Option, Some, None, Result, Ok, Err}
+use Rattle.std.proofs.Common.{◌≡◌, ◌⊎◌, inl, inr, ℕ, Bool, true, false, cond, List, [], ◌∷◌, ◌++◌, refl, sym, ◌∙◌, subst, Option, None, Result, Ok, Err}
 use Rattle.std.specs.Prelude.{IfOk, IfErr, filter, nat_lt, length}
 use Rattle.std.specs.List.{list_any}
 use Rattle.lr_rules.specs.declared.path.Path.{Path}
@@ -10,7 +10,7 @@ use Rattle.lr_host.specs.declared.thing.Seen.{Seen}
 use Rattle.lr_host.specs.declared.entry.Entry.{Entry}
 use Rattle.lr_host.specs.declared.entry.Entry.TheVariants as entry
 use Rattle.lr_host.specs.declared.journal.Journal.{Journal}
-use Rattle.lr_host.specs.Told.{Left, Then}
+use Rattle.lr_host.specs.Told.{Left}
 use Rattle.lr_host.specs.Looks.{Sees}
 use Rattle.lr_host.proofs.Left.{left_as, left_then, left_first}
 use Rattle.lr_glob.specs.declared.found.Found.{Found}

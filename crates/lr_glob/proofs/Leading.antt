@@ -1,13 +1,13 @@
 -- What the parts of a word leave, one after another.
-use Rattle.std.proofs.Common.{◌≡◌, ℕ, ◌+◌, ◌<◌, List, [], ◌∷◌, ◌++◌, length, take, drop, get_or, map, refl, sym, ap, ◌∙◌, subst, add-one, drop-cons, Option}
+use Rattle.std.proofs.Common.{◌≡◌, ℕ, ◌+◌, ◌<◌, List, [], ◌∷◌, ◌++◌, length, take, drop, get_or, refl, sym, ap, ◌∙◌, subst, add-one, drop-cons, Option}
 use Rattle.std.specs.Prelude.{flat_map}
 use Rattle.std.proofs.lemmas.List.{append-nil, take-append-drop}
 use Rattle.std.proofs.lemmas.Grind.{flat_map-append}
 use Rattle.lr_rules.specs.declared.path.Path.{Path}
 use Rattle.lr_host.specs.declared.entry.Entry.{Entry}
 use Rattle.lr_host.specs.declared.journal.Journal.{Journal}
-use Rattle.lr_host.specs.Told.{Left, Then}
-use Rattle.lr_host.proofs.Left.{left_as, left_then, left_first}
+use Rattle.lr_host.specs.Told.{Left}
+use Rattle.lr_host.proofs.Left.{left_then, left_first}
 use Rattle.lr_glob.specs.declared.found.GlobStop.{GlobStop}
 use Rattle.lr_glob.specs.Rounds.{Round, round_entries, Follows, Leads, there, on, Followed, Led}
 use Rattle.lr_glob.specs.Stops.{NotFollowed, NotLed}

@@ -1,5 +1,5 @@
 -- What the visits of a round leave, one after another.
-use Rattle.std.proofs.Common.{◌≡◌, ◌⊎◌, inl, inr, ℕ, List, [], ◌∷◌, ◌++◌, map, refl, sym, ap, ◌∙◌, subst, append_assoc, Option, Some, None}
+use Rattle.std.proofs.Common.{◌≡◌, inl, inr, ℕ, List, [], ◌∷◌, ◌++◌, map, refl, sym, ap, ◌∙◌, subst, append_assoc, Option}
 use Rattle.std.proofs.Common.{Bool, true, false, Result, Ok, Err}
 use Rattle.std.specs.Prelude.{flat_map, IfOk, IfErr}
 use Rattle.lr_rules.specs.Match.{is_wildcard, literal_path}
@@ -8,7 +8,7 @@ use Rattle.std.proofs.lemmas.Grind.{flat_map-append}
 use Rattle.lr_rules.specs.declared.path.Path.{Path}
 use Rattle.lr_host.specs.declared.entry.Entry.{Entry}
 use Rattle.lr_host.specs.declared.journal.Journal.{Journal}
-use Rattle.lr_host.specs.Told.{Left, Are, Then}
+use Rattle.lr_host.specs.Told.{Left}
 use Rattle.lr_host.proofs.Left.{left_as, left_then, left_first}
 use Rattle.lr_glob.specs.declared.found.GlobStop.{GlobStop}
 use Rattle.lr_glob.specs.declared.found.GlobStop.TheVariants as stop
@@ -17,7 +17,7 @@ use Rattle.lr_glob.specs.Gathers.{Gathers, Adds}
 use Rattle.lr_glob.specs.Parts.{PickOf, JoinOf}
 use Rattle.lr_glob.specs.Visits.{Visit, names_of, visit_entries, Visited}
 use Rattle.lr_glob.specs.Rounds.{Picks, Round, Went, Asked, FollowsBy, Follows, Followed}
-use Rattle.lr_glob.specs.Stops.{NotVisited, stop_of, BrokenAt, BrokenBehind, RoundBroken, NotFollowed}
+use Rattle.lr_glob.specs.Stops.{NotVisited, stop_of, RoundBroken, NotFollowed}
 use Rattle.lr_glob.specs.Turns.{VisitAdds, VisitsGive, VisitBroken}
 use Rattle.lr_glob.proofs.Gathering.{gathers_more}
 

@@ -17,7 +17,7 @@ use Rattle.lr_host.proofs.Looked.{seen_dir}
 use Rattle.lr_glob.specs.declared.visit.VisitStop.{VisitStop}
 use Rattle.lr_glob.specs.declared.visit.VisitStop.TheVariants as visit
 use Rattle.lr_glob.specs.Listing.{Lists, IsFailed}
-use Rattle.lr_glob.specs.Visits.{Visit, names_of, visit_entries, Visited}
+use Rattle.lr_glob.specs.Visits.{Visited}
 use Rattle.lr_glob.specs.Stops.{NotVisited}
 
 -- a look, and what it saw

@@ -1,8 +1,8 @@
 -- The parts of a word, and the paths that one of them gives in a directory.
-use Rattle.std.specs.Prelude.{◌≡◌, ℕ, true, List, [], ◌∷◌, drop, chars, Option, None}
+use Rattle.std.specs.Prelude.{◌≡◌, ℕ, true, List, [], ◌∷◌, drop, chars, None}
 use Rattle.std.specs.List.{slice_split}
 use Rattle.lr_rules.specs.declared.path.Path.{Path}
-use Rattle.lr_rules.specs.Match.{Matches, literal_path}
+use Rattle.lr_rules.specs.Match.{Matches}
 use Rattle.lr_rules.specs.Path.{path_fault, joined, is_slash}
 
 -- what stands behind the slashes of an absolute word

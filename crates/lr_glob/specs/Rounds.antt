@@ -1,5 +1,5 @@
 -- What the parts of a word came to, one after another.
-use Rattle.std.specs.Prelude.{◌≡◌, Bool, true, false, List, [], ◌∷◌, ◌++◌, ℕ, map, flat_map}
+use Rattle.std.specs.Prelude.{◌≡◌, Bool, true, false, List, [], ◌∷◌, ℕ, map, flat_map}
 use Rattle.lr_rules.specs.declared.path.Path.{Path}
 use Rattle.lr_rules.specs.Match.{is_wildcard, literal_path}
 use Rattle.lr_host.specs.declared.entry.Entry.{Entry}

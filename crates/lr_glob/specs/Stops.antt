@@ -1,7 +1,6 @@
 -- Why a word was not followed to its end.
-use Rattle.std.specs.Prelude.{◌≡◌, ◌⊎◌, List, [], ◌∷◌, ◌++◌, ℕ, true, map, flat_map, Option}
+use Rattle.std.specs.Prelude.{◌≡◌, ◌⊎◌, List, [], ◌∷◌, ◌++◌, ℕ, true, map, flat_map}
 use Rattle.lr_rules.specs.declared.path.Path.{Path}
-use Rattle.lr_rules.specs.declared.fault.CallKind.{CallKind}
 use Rattle.lr_rules.specs.declared.fault.CallKind.TheVariants as call
 use Rattle.lr_rules.specs.Match.{is_wildcard}
 use Rattle.lr_host.specs.declared.entry.Entry.{Entry}

@@ -9,13 +9,13 @@
 //! ```
 #![tactic(auto)]
 
-mod word;
 mod found;
 mod lead;
 mod picking;
 mod round;
 mod sights;
 mod visit;
+mod word;
 
-pub use word::expand;
 pub use found::{Found, GlobStop};
+pub use word::expand;

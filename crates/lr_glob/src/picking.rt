@@ -69,12 +69,7 @@ pub fn add_matches(
     Ok(())
 }
 
-fn join_each(
-    alloc: Global,
-    name: &[u8],
-    dirs: &[Path],
-    into: &mut Vec<Path>,
-) -> Result<(), Memory>
+fn join_each(alloc: Global, name: &[u8], dirs: &[Path], into: &mut Vec<Path>) -> Result<(), Memory>
     ensures { OnOk result (Adds (Gathers (λ dir its. JoinOf dir name.now its) dirs.now) into.old.items into.new.items) }
 {
     for dir in dirs {

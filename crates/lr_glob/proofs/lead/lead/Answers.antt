@@ -1,4 +1,4 @@
-use Rattle.std.proofs.Common.{◌≡◌, [], ◌∷◌, ◌++◌, take, drop, refl, sym, ap, ◌∙◌, rules}
+use Rattle.std.proofs.Common.{[], ◌∷◌, ◌++◌, take, sym, ap, ◌∙◌, rules}
 use Rattle.std.proofs.lemmas.List.{take_more}
 use Rattle.lr_glob.proofs.Leading.{led_none, led_more, not_led, cut_at}
 use Rattle.lr_glob.proofs.lead.lead.Goals as goal

@@ -1,4 +1,4 @@
-use Rattle.std.proofs.Common.{◌≡◌, true, false, sym, ◌∙◌, subst}
+use Rattle.std.proofs.Common.{◌≡◌, true, false, sym, subst}
 use Rattle.std.specs.Str.{chars}
 use Rattle.lr_rules.specs.Match.{Matches}
 use Rattle.lr_glob.specs.Gathers.{Adds}

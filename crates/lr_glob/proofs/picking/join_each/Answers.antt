@@ -1,4 +1,4 @@
-use Rattle.std.proofs.Common.{◌≡◌, List, ◌++◌, ◌∷◌, [], take, get_or, refl, sym, ap, ◌∙◌, subst, arith}
+use Rattle.std.proofs.Common.{List, ◌++◌, ◌∷◌, [], take, refl, sym, ap, ◌∙◌, subst, arith}
 use Rattle.std.proofs.lemmas.List.{take_more, take_all}
 use Rattle.lr_glob.specs.Gathers.{Gathers, Adds}
 use Rattle.lr_glob.specs.Parts.{JoinOf}

@@ -1,4 +1,4 @@
-use Rattle.std.proofs.Common.{◌≡◌, sym, ap, ◌∙◌}
+use Rattle.std.proofs.Common.{sym, ap, ◌∙◌}
 use Rattle.lr_rules.specs.Match.{is_wildcard, literal_path}
 use Rattle.lr_glob.specs.Gathers.{Gathers}
 use Rattle.lr_glob.specs.Parts.{JoinOf}

@@ -1,4 +1,4 @@
-use Rattle.std.proofs.Common.{◌≡◌, [], ◌∷◌, ◌++◌, List, refl, sym, ap, ◌∙◌, append_assoc, rules}
+use Rattle.std.proofs.Common.{[], ◌∷◌, ◌++◌, List, refl, sym, ap, ◌∙◌, append_assoc, rules}
 use Rattle.lr_rules.specs.declared.path.Path.{Path}
 use Rattle.lr_glob.proofs.Rounds.{gives_none, gives_more, round_broken}
 use Rattle.lr_glob.proofs.round.visit_each.Goals as goal

@@ -1,4 +1,4 @@
-use Rattle.std.proofs.Common.{◌≡◌, subst}
+use Rattle.std.proofs.Common.{subst}
 use Rattle.lr_glob.specs.Gathers.{Gathers, Adds}
 use Rattle.lr_glob.specs.Parts.{PickOf}
 use Rattle.lr_glob.proofs.Rounds.{visit_early, visit_late, visit_adds}

@@ -1,4 +1,4 @@
-use Rattle.std.proofs.Common.{◌≡◌, [], ◌∷◌, ◌++◌, List, refl, sym, ap, ◌∙◌, append_assoc, rules}
+use Rattle.std.proofs.Common.{[], ◌∷◌, ◌++◌, List, refl, sym, ap, ◌∙◌, append_assoc, rules}
 use Rattle.lr_rules.specs.declared.path.Path.{Path}
 use Rattle.lr_glob.proofs.Looking.{looked_none, looked_more, looks_broken}
 use Rattle.lr_glob.proofs.sights.look_at_each.Goals as goal

@@ -1,4 +1,4 @@
-use Rattle.std.proofs.Common.{◌≡◌, sym, ◌∙◌, Ok, ap}
+use Rattle.std.proofs.Common.{◌≡◌, sym, ◌∙◌}
 use Rattle.lr_host.specs.Looks.{is_dir}
 use Rattle.lr_glob.proofs.Visits.{sees, can_list}
 use Rattle.lr_glob.proofs.visit.look_for_dir.Goals as goal

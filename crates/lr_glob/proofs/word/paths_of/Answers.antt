@@ -1,4 +1,4 @@
-use Rattle.std.proofs.Common.{◌≡◌, ◌∙◌}
+use Rattle.std.proofs.Common.{◌∙◌}
 use Rattle.lr_glob.proofs.Giving.{sought_led, sought_none}
 use Rattle.lr_glob.proofs.word.paths_of.Goals as goal
 
