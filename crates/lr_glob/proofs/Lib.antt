@@ -1,6 +1,7 @@
 pub mod Gathering
 pub mod Giving
 pub mod Leading
-pub mod Rounds
 pub mod Looking
+pub mod OnlyLooks
+pub mod Rounds
 pub mod Visits

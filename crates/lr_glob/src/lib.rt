@@ -10,6 +10,7 @@
 #![tactic(auto)]
 
 mod found;
+mod laws;
 mod lead;
 mod picking;
 mod round;
@@ -18,4 +19,5 @@ mod visit;
 mod word;
 
 pub use found::{Found, GlobStop};
+pub use laws::words_only_look;
 pub use word::expand;
