@@ -4,3 +4,4 @@ pub mod OutAside
 pub mod Reading
 pub mod Rotating
 pub mod Still
+pub mod Zoned

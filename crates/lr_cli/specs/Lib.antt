@@ -4,3 +4,4 @@ pub mod Printed
 pub mod Rotated
 pub mod Status
 pub mod Words
+pub mod Zone

@@ -17,6 +17,7 @@ mod run;
 mod told;
 mod top;
 mod words;
+mod zone;
 
 pub use lr_due::{Zone, zone_of};
 pub use moment::{clock_at, first_civil, settings, state_file};
@@ -26,3 +27,4 @@ pub use run::{run_at, run_conf};
 pub use told::Told;
 pub use top::logrotate;
 pub use words::{WordsFault, conf_of};
+pub use zone::{ZoneTextStop, zone_text};

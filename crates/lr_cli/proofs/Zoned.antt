@@ -1,0 +1,74 @@
+-- What asking for the text of a zone leaves.
+use Rattle.std.proofs.Common.{◌≡◌, ◌≤◌, ◌<◌, ℕ, List, [], ◌∷◌, length, refl, sym, ◌∙◌, subst, Option, Some, Result, Ok, Err, IfOk, IfErr}
+use Rattle.lr_rules.specs.declared.path.Path.{Path}
+use Rattle.lr_host.specs.declared.thing.Seen.{Seen}
+use Rattle.lr_host.specs.declared.thing.Kind.{Kind}
+use Rattle.lr_host.specs.declared.thing.Kind.TheVariants as kind
+use Rattle.lr_host.specs.declared.entry.Entry.{Entry}
+use Rattle.lr_host.specs.declared.entry.Entry.TheVariants as entry
+use Rattle.lr_host.specs.declared.journal.Journal.{Journal}
+use Rattle.lr_host.specs.Told.{Left, Then}
+use Rattle.lr_host.specs.Reading.{ReadsAll}
+use Rattle.lr_host.specs.Looks.{Sees, IsFile}
+use Rattle.lr_host.proofs.Left.{left_first, left_as, left_both}
+use Rattle.lr_due.specs.declared.tz.Zone.{Zone}
+use Rattle.lr_due.specs.declared.tz.Zone.TheVariants.{Utc, Rule, File}
+use Rattle.lr_due.specs.declared.zone.ZoneText.{ZoneText}
+use Rattle.lr_due.specs.declared.zone.ZoneText.TheVariants as text
+use Rattle.lr_cli.specs.declared.zone.ZoneTextStop.{ZoneTextStop}
+use Rattle.lr_cli.specs.declared.zone.ZoneTextStop.TheVariants as stop
+use Rattle.lr_cli.specs.Zone.{IsNotFile, GivesBytes, ReadStopped, FileStopped, ShowsZone, ZoneStopped}
+
+-- one look, and what it saw
+pub sees : (x : Path) (P : Option Seen → Type 0) (seen : Option Seen) {o n : Option Journal} → Left (λ ts. ts ≡ entry.Look x seen ∷ []) o n → P seen → Left (Sees x P) o n
+sees x P seen l p = left_as l (λ ts e. record { seen = seen; is = p; look = e })
+
+-- a directory or another thing is no regular file
+pub no_file : (k : Kind) → (k ≡ kind.File → ⊥) → (seen : Seen) → seen.kind ≡ k → IsNotFile (Some seen)
+no_file k other seen e = λ f. other (sym e ∙ f)
+
+pub not_dir : kind.Dir ≡ kind.File → ⊥
+not_dir e = cc
+
+pub not_other : kind.Other ≡ kind.File → ⊥
+not_other e = cc
+
+-- all bytes of a file, or too many
+pub gives : (path : Path) (bytes : List ℕ) {o n : Option Journal} → length bytes ≤ 1048576 → Left (ReadsAll path 1048577 bytes) o n → Left (GivesBytes path bytes) o n
+gives path bytes le l = left_as l (λ ts r. (le, r))
+
+pub too_big : (path : Path) (bytes : List ℕ) {o n : Option Journal} → 1048576 < length bytes → Left (ReadsAll path 1048577 bytes) o n → Left (ReadStopped path stop.TooBig) o n
+too_big path bytes lt l = left_as l (λ ts r. (bytes, lt, r))
+
+-- behind the look that saw the file
+pub shows : (path : Path) (bytes : List ℕ) {o m n : Option Journal} → Left (Sees path IsFile) o m → Left (GivesBytes path bytes) m n → Left (ShowsZone (File path) (text.Bytes bytes)) o n
+shows path bytes a b = left_as (left_both a b) (λ ts t. (bytes, refl, t))
+
+stopped_read : (path : Path) (why : ZoneTextStop) (ts : List Entry) → Then (Sees path IsFile) (ReadStopped path why) ts → FileStopped path why ts
+stopped_read path stop.NotFile ts t = absurd t.second
+stopped_read path stop.TooBig ts t = t
+stopped_read path stop.Look ts t = absurd t.second
+stopped_read path stop.Read ts t = t
+stopped_read path stop.Memory ts t = t
+
+pub stops : (path : Path) (why : ZoneTextStop) {o m n : Option Journal} → Left (Sees path IsFile) o m → Left (ReadStopped path why) m n → Left (FileStopped path why) o n
+stops path why a b = left_as (left_both a b) (stopped_read path why)
+
+-- UTC and a rule need no call
+pub utc_told : (o : Option Journal) → Left (ShowsZone Utc text.Utc) o o
+utc_told o = left_first (ShowsZone Utc text.Utc) o (refl, refl)
+
+pub rule_told : (rule : List ℕ) (r : Result ZoneText ZoneTextStop) (o : Option Journal) → IfOk r (λ t. t ≡ text.Rule rule) → IfOk r (λ t. Left (ShowsZone (Rule rule) t) o o)
+rule_told rule (Ok t) o e = left_first (ShowsZone (Rule rule) t) o (e, refl)
+rule_told rule (Err why) o e = tt
+
+pub rule_stopped : (rule : List ℕ) (r : Result ZoneText ZoneTextStop) (o : Option Journal) → IfErr r (λ why. why ≡ stop.Memory) → IfErr r (λ why. Left (ZoneStopped (Rule rule) why) o o)
+rule_stopped rule (Ok t) o e = tt
+rule_stopped rule (Err why) o e = left_first (ZoneStopped (Rule rule) why) o (e, refl)
+
+-- the same of a zone that is that rule, or that file
+pub rule_shown : (zone : Zone) (rule : List ℕ) (r : Result ZoneText ZoneTextStop) (o : Option Journal) → zone ≡ Rule rule → IfOk r (λ t. t ≡ text.Rule rule) → IfOk r (λ t. Left (ShowsZone zone t) o o)
+rule_shown zone rule r o is e = subst (λ (z : Zone). IfOk r (λ t. Left (ShowsZone z t) o o)) (sym is) (rule_told rule r o e)
+
+pub file_stopped : (zone : Zone) (path : Path) (r : Result ZoneText ZoneTextStop) (o n : Option Journal) → zone ≡ File path → IfErr r (λ why. Left (FileStopped path why) o n) → IfErr r (λ why. Left (ZoneStopped zone why) o n)
+file_stopped zone path r o n is e = subst (λ (z : Zone). IfErr r (λ why. Left (ZoneStopped z why) o n)) (sym is) e

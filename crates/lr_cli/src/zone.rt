@@ -1,0 +1,132 @@
+// The text of the zone that a call is to use.
+ghost use Rattle.std.specs.Prelude.{◌≡◌, ◌≤◌, [], true, false, Ok, Err, IfOk, IfErr, OnErr};
+ghost use Rattle.lr_host.specs.declared.entry.Entry.TheVariants as entry;
+ghost use Rattle.lr_host.specs.Told.{Left, Are, Then, Can, Onward, Rose};
+ghost use Rattle.lr_host.specs.Looks.{Sees, IsFile};
+ghost use Rattle.lr_due.specs.declared.tz.Zone.TheVariants as asked;
+ghost use Rattle.lr_due.specs.declared.zone.ZoneText.TheVariants as text;
+ghost use Rattle.lr_cli.specs.declared.zone.ZoneTextStop.TheVariants as stop;
+ghost use Rattle.lr_cli.specs.Zone.{IsNotFile, GivesBytes, ReadStopped, FileStopped, ShowsZone, ZoneStopped};
+
+use lr_due::{Zone, ZoneText};
+use lr_host::{CallFault, Host, Kind};
+use lr_include::{ReadStop, read_text};
+use lr_rules::{Listed, Path, Text};
+use std::alloc::Global;
+
+// A file of more bytes is too big.
+const LIMIT: usize = 1_048_576;
+
+/// Why there is no text of a zone.
+#[derive(Clone, Copy)]
+pub enum ZoneTextStop {
+    /// No regular file stands at the path.
+    NotFile,
+    /// The file has more than 1,048,576 bytes.
+    TooBig,
+    /// The look at the file failed.
+    Look,
+    /// A read of it failed.
+    Read,
+    Memory,
+}
+
+#[tactic(auto, using(crate::proofs::Zoned::sees, lr_host::proofs::Known::seen_can_read))]
+// Whether a regular file stands at the path. Links are followed.
+fn is_file<H: Host>(host: &mut H, path: &Path) -> Result<bool, CallFault>
+    ensures file { result ≡ Ok true → Left (Sees path.now IsFile) (H.told host.old) (H.told host.new) }
+    ensures there { result ≡ Ok true → Can (H.told host.new) (entry.Reads path.now 0 []) }
+    ensures other { result ≡ Ok false → Left (Sees path.now IsNotFile) (H.told host.old) (H.told host.new) }
+    ensures failed { OnErr result (Left (Are []) (H.told host.old) (H.told host.new)) }
+    ensures cause { OnErr result (Rose (H.counts host.old).faults (H.counts host.new).faults) }
+    ensures counts { Onward (H.counts host.old) (H.counts host.new) }
+{
+    let Ok(look) = host.look(path, true) else {
+        return Err(CallFault::Failed);
+    };
+    let Some(seen) = look else {
+        return Ok(false);
+    };
+    match seen.kind {
+        Kind::File => Ok(true),
+        Kind::Dir => Ok(false),
+        Kind::Other => Ok(false),
+    }
+}
+
+#[tactic(auto, using(crate::proofs::Zoned::gives, crate::proofs::Zoned::too_big))]
+// All bytes of the file.
+fn bytes_of<H: Host>(alloc: Global, host: &mut H, path: &Path) -> Result<Listed<u8>, ZoneTextStop>
+    requires file { Can (H.told host.old) (entry.Reads path.now 0 []) }
+    ensures told { IfOk result (λ bytes. Left (GivesBytes path.now bytes) (H.told host.old) (H.told host.new)) }
+    ensures stopped { IfErr result (λ why. Left (ReadStopped path.now why) (H.told host.old) (H.told host.new)) }
+    ensures read { result ≡ Err stop.Read → Rose (H.counts host.old).faults (H.counts host.new).faults }
+    ensures look { result ≡ Err stop.Look → ⊥ }
+    ensures counts { Onward (H.counts host.old) (H.counts host.new) }
+{
+    match read_text(alloc, host, path, LIMIT + 1) {
+        Ok(bytes) => {
+            if bytes.len() > LIMIT {
+                Err(ZoneTextStop::TooBig)
+            } else {
+                Ok(Listed::from_vec(bytes))
+            }
+        }
+        Err(ReadStop::Call) => Err(ZoneTextStop::Read),
+        Err(ReadStop::Memory) => Err(ZoneTextStop::Memory),
+    }
+}
+
+#[tactic(auto, using(crate::proofs::Zoned::shows, crate::proofs::Zoned::stops))]
+// The text of the zone of a file.
+fn text_of_file<H: Host>(alloc: Global, host: &mut H, path: &Path) -> Result<ZoneText, ZoneTextStop>
+    ensures told { IfOk result (λ t. Left (ShowsZone (asked.File path.now) t) (H.told host.old) (H.told host.new)) }
+    ensures stopped { IfErr result (λ why. Left (FileStopped path.now why) (H.told host.old) (H.told host.new)) }
+    ensures look { result ≡ Err stop.Look → Rose (H.counts host.old).faults (H.counts host.new).faults }
+    ensures read { result ≡ Err stop.Read → Rose (H.counts host.old).faults (H.counts host.new).faults }
+    ensures counts { Onward (H.counts host.old) (H.counts host.new) }
+{
+    match is_file(host, path) {
+        Ok(true) => match bytes_of(alloc, host, path) {
+            Ok(bytes) => Ok(ZoneText::Bytes(bytes)),
+            Err(stop) => Err(stop),
+        },
+        Ok(false) => Err(ZoneTextStop::NotFile),
+        Err(_) => Err(ZoneTextStop::Look),
+    }
+}
+
+fn text_of_rule(alloc: Global, rule: &Text) -> Result<ZoneText, ZoneTextStop>
+    ensures text { IfOk result (λ t. t ≡ text.Rule rule.now) }
+    ensures memory { IfErr result (λ why. why ≡ stop.Memory) }
+{
+    match rule.copy(alloc) {
+        Ok(rule) => Ok(ZoneText::Rule(rule)),
+        Err(_) => Err(ZoneTextStop::Memory),
+    }
+}
+
+#[tactic(auto, using(crate::proofs::Zoned::utc_told, crate::proofs::Zoned::rule_told, crate::proofs::Zoned::rule_stopped))]
+/// The text of the zone: UTC and a rule as they are, or the bytes of the file. Links are followed.
+///
+/// Where it ends for want of memory, the file was seen as one, and maybe read, or nothing was called.
+pub fn zone_text<H: Host>(
+    alloc: Global,
+    host: &mut H,
+    zone: &Zone,
+) -> Result<ZoneText, ZoneTextStop>
+    // What the calls showed, and what it has to do with the answer.
+    ensures told { IfOk result (λ t. Left (ShowsZone zone.now t) (H.told host.old) (H.told host.new)) }
+    ensures stopped { IfErr result (λ why. Left (ZoneStopped zone.now why) (H.told host.old) (H.told host.new)) }
+
+    // Also where the host tells nothing.
+    ensures look { result ≡ Err stop.Look → Rose (H.counts host.old).faults (H.counts host.new).faults }
+    ensures read { result ≡ Err stop.Read → Rose (H.counts host.old).faults (H.counts host.new).faults }
+    ensures counts { Onward (H.counts host.old) (H.counts host.new) }
+{
+    match zone {
+        Zone::Utc => Ok(ZoneText::Utc),
+        Zone::Rule(rule) => text_of_rule(alloc, rule),
+        Zone::File(path) => text_of_file(alloc, host, path),
+    }
+}
