@@ -5,6 +5,7 @@ ghost use Rattle.lr_conf.specs.Fold.{entered};
 use crate::lex::{put_lex_fault, text_at};
 use crate::rule::{put_conf_fault, put_notices, put_rules};
 use lr_conf::{Layer, LayerStop};
+use lr_forms::Built;
 use lr_lex::{Item, LexFault, LexKind, Lexer};
 use lr_line::{Line, Trouble};
 use lr_rules::{ConfKind, Notice, Path, Rules};
@@ -17,6 +18,8 @@ fn put_stop(stop: LayerStop, out: &mut String) -> Result<(), Trouble> {
             put_conf_fault(first, ConfKind::NoBrace, out)?;
             put_conf_fault(line, kind, out)
         }
+        // The file isn't read.
+        LayerStop::NoBraceThen(first, _) => put_conf_fault(first, ConfKind::NoBrace, out),
         LayerStop::Memory => Err(Trouble::Memory),
     }
 }
@@ -90,7 +93,7 @@ fn read(
 }
 
 // The faults of the first text as of `/c`, and of the second, where there is one, as of `/d`.
-fn read_both(line: Line, layer: &mut Layer, out: &mut String) -> Result<(), Trouble>
+pub fn read_both(line: Line, layer: &mut Layer, out: &mut String) -> Result<(), Trouble>
     requires { entered layer.old ≡ [] }
 {
     read(line.alloc, layer, b"/c", text_at(line, 1)?, out)?;
@@ -112,7 +115,7 @@ fn put_made(layer: Layer, out: &mut String) -> Result<(), Trouble> {
 
 /// The faults of the files, then their notices, then their rules.
 pub fn layer(line: Line, out: &mut String) -> Result<(), Trouble> {
-    let mut layer = Layer::new(line.alloc)?;
+    let mut layer = Layer::new(line.alloc, Built::SoFar)?;
     read_both(line, &mut layer, out)?;
     put_made(layer, out)
 }

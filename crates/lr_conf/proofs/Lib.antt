@@ -2,6 +2,8 @@ pub mod Lasts
 pub mod Settings
 pub mod Spoken
 pub mod Law
+pub mod Others
 pub mod Each
+pub mod Walk
 pub mod Plain
 pub mod Limits

@@ -1,7 +1,17 @@
 -- One more setting.
-use Rattle.std.proofs.Common.{◌≡◌, Bool, true, false, cond, ◌||◌, List, [], ◌∷◌, ◌++◌, Option, Some, None, refl, ap, sym, ◌∙◌}
+use Rattle.std.proofs.Common.{◌≡◌, ℕ, Bool, true, false, cond, ◌||◌, List, [], ◌∷◌, ◌++◌, Option, Some, None, refl, ap, sym, ◌∙◌}
 use Rattle.std.specs.List.{filter_map, list_any, cons_option}
 use Rattle.std.proofs.lemmas.List.Elements.{filter_map-append}
+use Rattle.lr_rules.specs.declared.fault.Phase.TheVariants as phase
+use Rattle.lr_rules.specs.declared.rule.Back.{Back}
+use Rattle.lr_rules.specs.declared.rule.Back.TheVariants as back
+use Rattle.lr_rules.specs.declared.rule.Criterion.{Criterion}
+use Rattle.lr_rules.specs.declared.rule.Count.{Count}
+use Rattle.lr_rules.specs.declared.rule.Make.{Make}
+use Rattle.lr_rules.specs.declared.rule.Format.{Format}
+use Rattle.lr_rules.specs.declared.rule.Piece.{Piece}
+use Rattle.lr_rules.specs.declared.rule.Rule.{Rule}
+use Rattle.lr_rules.specs.declared.rule.Scripts.{Scripts}
 use Rattle.lr_rules.specs.declared.rule.Criterion.TheVariants as criterion
 use Rattle.lr_rules.specs.declared.rule.Count.TheVariants as count
 use Rattle.lr_rules.specs.declared.rule.Make.TheVariants as make
@@ -10,8 +20,8 @@ use Rattle.lr_rules.specs.declared.rule.Way.TheVariants as way
 use Rattle.lr_conf.specs.declared.fields.Fields.{Fields}
 use Rattle.lr_forms.specs.declared.set.Set.{Set}
 use Rattle.lr_forms.specs.declared.set.Set.TheVariants as set
-use Rattle.lr_conf.specs.Fields.{fields_of, last_or, last_set, criterion_set, count_set, ifempty_set, missingok_set, olddir_set, createolddir_set, create_set, mail_set, mailfirst_set, shared_set, dated_set, names_way, undoes, way_of}
-use Rattle.lr_conf.specs.Draft.{with_set, without}
+use Rattle.lr_conf.specs.Fields.{fields_of, last_or, last_set, criterion_set, count_set, maxage_set, minage_set, minsize_set, maxsize_set, ifempty_set, missingok_set, ignore_set, start_set, extension_set, addextension_set, olddir_set, createolddir_set, create_set, mail_set, mailfirst_set, shared_set, first_set, pre_set, post_set, last_script_set, preremove_set, dated_set, pieces_set, back_set, serial_set, names_way, undoes, way_of}
+use Rattle.lr_conf.specs.Internal.Setting.{with_set, without}
 
 abbrev given_or : {A : Type 0} → Option A → A → A
 given_or None d = d
@@ -164,27 +174,65 @@ way-push (u ∷ us) v = way-push us v
 
 -- ---- all fields
 
+abbrev scripts_behind : Set → Scripts → Scripts
+scripts_behind v s = record {
+  first = given_or (first_set v) s.first;
+  pre = given_or (pre_set v) s.pre;
+  post = given_or (post_set v) s.post;
+  last = given_or (last_script_set v) s.last;
+  preremove = given_or (preremove_set v) s.preremove;
+}
+
+abbrev rule_behind : Set → Rule → Rule
+rule_behind v r = record {
+  file = r.file;
+  line = r.line;
+  words = r.words;
+  criterion = given_or (criterion_set v) r.criterion;
+  count = given_or (count_set v) r.count;
+  maxage = given_or (maxage_set v) r.maxage;
+  minage = given_or (minage_set v) r.minage;
+  minsize = given_or (minsize_set v) r.minsize;
+  maxsize = given_or (maxsize_set v) r.maxsize;
+  ifempty = given_or (ifempty_set v) r.ifempty;
+  missingok = given_or (missingok_set v) r.missingok;
+  ignore_duplicates = given_or (ignore_set v) r.ignore_duplicates;
+  start = given_or (start_set v) r.start;
+  extension = given_or (extension_set v) r.extension;
+  addextension = given_or (addextension_set v) r.addextension;
+  olddir = given_or (olddir_set v) r.olddir;
+  createolddir = given_or (createolddir_set v) r.createolddir;
+  way = way_behind v r.way;
+  create = given_or (create_set v) r.create;
+  mail = given_or (mail_set v) r.mail;
+  mailfirst = given_or (mailfirst_set v) r.mailfirst;
+  shared = given_or (shared_set v) r.shared;
+  scripts = scripts_behind v r.scripts;
+  dated = r.dated;
+}
+
 abbrev fields_behind : Set → Fields → Fields
 fields_behind v f = record {
-  criterion = given_or (criterion_set v) f.criterion;
-  count = given_or (count_set v) f.count;
-  ifempty = given_or (ifempty_set v) f.ifempty;
-  missingok = given_or (missingok_set v) f.missingok;
-  olddir = given_or (olddir_set v) f.olddir;
-  createolddir = given_or (createolddir_set v) f.createolddir;
-  way = way_behind v f.way;
-  create = given_or (create_set v) f.create;
-  mail = given_or (mail_set v) f.mail;
-  mailfirst = given_or (mailfirst_set v) f.mailfirst;
-  shared = given_or (shared_set v) f.shared;
+  rule = rule_behind v f.rule;
   dated = given_or (dated_set v) f.dated;
+  pieces = given_or (pieces_set v) f.pieces;
+  back = given_or (back_set v) f.back;
+  serial = given_or (serial_set v) f.serial;
 }
 
 behind_is : (v : Set) (f : Fields) → fields_behind v f ≡ with_set f v
 behind_is (set.Criterion c) f = refl
 behind_is (set.Count n) f = refl
+behind_is (set.MaxAge n) f = refl
+behind_is (set.MinAge n) f = refl
+behind_is (set.MinSize n) f = refl
+behind_is (set.MaxSize n) f = refl
 behind_is (set.IfEmpty b) f = refl
 behind_is (set.MissingOk b) f = refl
+behind_is set.IgnoreDuplicates f = refl
+behind_is (set.Start n) f = refl
+behind_is (set.Extension t) f = refl
+behind_is (set.AddExtension t) f = refl
 behind_is (set.Olddir dir) f = refl
 behind_is (set.CreateOlddir m) f = refl
 behind_is (set.Way w) f = refl
@@ -193,34 +241,79 @@ behind_is (set.Create m) f = refl
 behind_is (set.Mail address) f = refl
 behind_is (set.MailFirst b) f = refl
 behind_is (set.Shared b) f = refl
+behind_is (set.Script phase.First t) f = refl
+behind_is (set.Script phase.Pre t) f = refl
+behind_is (set.Script phase.Post t) f = refl
+behind_is (set.Script phase.Last t) f = refl
+behind_is (set.Script phase.Preremove t) f = refl
+behind_is (set.Script phase.Mail t) f = refl
 behind_is (set.Dated b) f = refl
-behind_is (set.MaxAge n) f = refl
-behind_is (set.MinAge n) f = refl
-behind_is (set.MinSize n) f = refl
-behind_is (set.MaxSize n) f = refl
-behind_is set.IgnoreDuplicates f = refl
-behind_is (set.Start n) f = refl
-behind_is (set.Extension t) f = refl
-behind_is (set.AddExtension t) f = refl
 behind_is (set.DateFormat ps) f = refl
 behind_is (set.Back b) f = refl
 behind_is (set.Serial b) f = refl
-behind_is (set.Script phase t) f = refl
+
+-- records with the same fields are the same
+abbrev pub scripts_made : Option (List ℕ) → Option (List ℕ) → Option (List ℕ) → Option (List ℕ) → Option (List ℕ) → Scripts
+scripts_made x0 x1 x2 x3 x4 = record { first = x0; pre = x1; post = x2; last = x3; preremove = x4 }
+
+pub same_scripts : {x0 y0 : Option (List ℕ)} {x1 y1 : Option (List ℕ)} {x2 y2 : Option (List ℕ)} {x3 y3 : Option (List ℕ)} {x4 y4 : Option (List ℕ)} → x0 ≡ y0 → x1 ≡ y1 → x2 ≡ y2 → x3 ≡ y3 → x4 ≡ y4
+    → scripts_made x0 x1 x2 x3 x4 ≡ scripts_made y0 y1 y2 y3 y4
+same_scripts e0 e1 e2 e3 e4 = cc (e0, e1, e2, e3, e4)
+
+abbrev rule_made : List ℕ → ℕ → List (List ℕ) → Criterion → Count → Option ℕ → Option ℕ → Option ℕ → Option ℕ → Bool → Bool → Bool → ℕ → Option (List ℕ) → Option (List ℕ) → Option (List ℕ) → Make → Way → Make → Option (List ℕ) → Bool → Bool → Scripts → Option Format → Rule
+rule_made x0 x1 x2 x3 x4 x5 x6 x7 x8 x9 x10 x11 x12 x13 x14 x15 x16 x17 x18 x19 x20 x21 x22 x23 = record { file = x0; line = x1; words = x2; criterion = x3; count = x4; maxage = x5; minage = x6; minsize = x7; maxsize = x8; ifempty = x9; missingok = x10; ignore_duplicates = x11; start = x12; extension = x13; addextension = x14; olddir = x15; createolddir = x16; way = x17; create = x18; mail = x19; mailfirst = x20; shared = x21; scripts = x22; dated = x23 }
+
+same_rule : {x0 y0 : List ℕ} {x1 y1 : ℕ} {x2 y2 : List (List ℕ)} {x3 y3 : Criterion} {x4 y4 : Count} {x5 y5 : Option ℕ} {x6 y6 : Option ℕ} {x7 y7 : Option ℕ} {x8 y8 : Option ℕ} {x9 y9 : Bool} {x10 y10 : Bool} {x11 y11 : Bool} {x12 y12 : ℕ} {x13 y13 : Option (List ℕ)} {x14 y14 : Option (List ℕ)} {x15 y15 : Option (List ℕ)} {x16 y16 : Make} {x17 y17 : Way} {x18 y18 : Make} {x19 y19 : Option (List ℕ)} {x20 y20 : Bool} {x21 y21 : Bool} {x22 y22 : Scripts} {x23 y23 : Option Format} → x0 ≡ y0 → x1 ≡ y1 → x2 ≡ y2 → x3 ≡ y3 → x4 ≡ y4 → x5 ≡ y5 → x6 ≡ y6 → x7 ≡ y7 → x8 ≡ y8 → x9 ≡ y9 → x10 ≡ y10 → x11 ≡ y11 → x12 ≡ y12 → x13 ≡ y13 → x14 ≡ y14 → x15 ≡ y15 → x16 ≡ y16 → x17 ≡ y17 → x18 ≡ y18 → x19 ≡ y19 → x20 ≡ y20 → x21 ≡ y21 → x22 ≡ y22 → x23 ≡ y23
+    → rule_made x0 x1 x2 x3 x4 x5 x6 x7 x8 x9 x10 x11 x12 x13 x14 x15 x16 x17 x18 x19 x20 x21 x22 x23 ≡ rule_made y0 y1 y2 y3 y4 y5 y6 y7 y8 y9 y10 y11 y12 y13 y14 y15 y16 y17 y18 y19 y20 y21 y22 y23
+same_rule e0 e1 e2 e3 e4 e5 e6 e7 e8 e9 e10 e11 e12 e13 e14 e15 e16 e17 e18 e19 e20 e21 e22 e23 = cc (e0, e1, e2, e3, e4, e5, e6, e7, e8, e9, e10, e11, e12, e13, e14, e15, e16, e17, e18, e19, e20, e21, e22, e23)
+
+abbrev fields_made : Rule → Bool → Option (List Piece) → Back → Bool → Fields
+fields_made x0 x1 x2 x3 x4 = record { rule = x0; dated = x1; pieces = x2; back = x3; serial = x4 }
+
+same_fields : {x0 y0 : Rule} {x1 y1 : Bool} {x2 y2 : Option (List Piece)} {x3 y3 : Back} {x4 y4 : Bool} → x0 ≡ y0 → x1 ≡ y1 → x2 ≡ y2 → x3 ≡ y3 → x4 ≡ y4
+    → fields_made x0 x1 x2 x3 x4 ≡ fields_made y0 y1 y2 y3 y4
+same_fields e0 e1 e2 e3 e4 = cc (e0, e1, e2, e3, e4)
+
+scripts-push : (vs : List Set) (v : Set) → (fields_of (vs ++ v ∷ [])).rule.scripts ≡ scripts_behind v (fields_of vs).rule.scripts
+scripts-push vs v =
+    let e1 = last_set-push first_set None vs v in
+    let e2 = last_set-push pre_set None vs v in
+    let e3 = last_set-push post_set None vs v in
+    let e4 = last_set-push last_script_set None vs v in
+    let e5 = last_set-push preremove_set None vs v in
+    same_scripts e1 e2 e3 e4 e5
+
+rule-push : (vs : List Set) (v : Set) → (fields_of (vs ++ v ∷ [])).rule ≡ rule_behind v (fields_of vs).rule
+rule-push vs v =
+    let e1 = last_set-push criterion_set (criterion.Size 1048576) vs v in
+    let e2 = last_set-push count_set (count.Keep 0) vs v in
+    let e3 = last_set-push maxage_set None vs v in
+    let e4 = last_set-push minage_set None vs v in
+    let e5 = last_set-push minsize_set None vs v in
+    let e6 = last_set-push maxsize_set None vs v in
+    let e7 = last_set-push ifempty_set true vs v in
+    let e8 = last_set-push missingok_set false vs v in
+    let e9 = last_set-push ignore_set false vs v in
+    let e10 = last_set-push start_set 1 vs v in
+    let e11 = last_set-push extension_set None vs v in
+    let e12 = last_set-push addextension_set None vs v in
+    let e13 = last_set-push olddir_set None vs v in
+    let e14 = last_set-push createolddir_set make.No vs v in
+    let e15 = way-push vs v in
+    let e16 = last_set-push create_set make.No vs v in
+    let e17 = last_set-push mail_set None vs v in
+    let e18 = last_set-push mailfirst_set false vs v in
+    let e19 = last_set-push shared_set false vs v in
+    let e20 = scripts-push vs v in
+    same_rule refl refl refl e1 e2 e3 e4 e5 e6 e7 e8 e9 e10 e11 e12 e13 e14 e15 e16 e17 e18 e19 e20 refl
 
 -- what settings set with one more behind them
 pub fields-push : (vs : List Set) (v : Set) → fields_of (vs ++ v ∷ []) ≡ with_set (fields_of vs) v
 fields-push vs v =
-    let e1 = last_set-push criterion_set (criterion.Size 1048576) vs v in
-    let e2 = last_set-push count_set (count.Keep 0) vs v in
-    let e3 = last_set-push ifempty_set true vs v in
-    let e4 = last_set-push missingok_set false vs v in
-    let e5 = last_set-push olddir_set None vs v in
-    let e6 = last_set-push createolddir_set make.No vs v in
-    let e7 = way-push vs v in
-    let e8 = last_set-push create_set make.No vs v in
-    let e9 = last_set-push mail_set None vs v in
-    let e10 = last_set-push mailfirst_set false vs v in
-    let e11 = last_set-push shared_set false vs v in
-    let e12 = last_set-push dated_set false vs v in
-    let all : fields_of (vs ++ v ∷ []) ≡ fields_behind v (fields_of vs) = cc (e1, e2, e3, e4, e5, e6, e7, e8, e9, e10, e11, e12) in
+    let e1 = rule-push vs v in
+    let e2 = last_set-push dated_set false vs v in
+    let e3 = last_set-push pieces_set None vs v in
+    let e4 = last_set-push back_set back.Now vs v in
+    let e5 = last_set-push serial_set false vs v in
+    let all : fields_of (vs ++ v ∷ []) ≡ fields_behind v (fields_of vs) = same_fields e1 e2 e3 e4 e5 in
     all ∙ behind_is v (fields_of vs)

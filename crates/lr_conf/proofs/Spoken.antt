@@ -5,104 +5,175 @@ use Rattle.lr_rules.specs.declared.path.Path.{Path}
 use Rattle.lr_rules.specs.declared.fault.ConfKind.{ConfKind}
 use Rattle.lr_rules.specs.declared.fault.ConfKind.TheVariants as kind
 use Rattle.lr_rules.specs.declared.fault.Fault.{Fault}
-use Rattle.lr_conf.specs.declared.draft.Draft.{Draft}
-use Rattle.lr_conf.specs.declared.fields.Fields.{Fields}
+use Rattle.lr_rules.specs.declared.fault.Phase.{Phase}
 use Rattle.lr_forms.specs.declared.set.Set.{Set}
 use Rattle.lr_forms.specs.declared.said.Said.TheVariants as says
-use Rattle.lr_rules.specs.declared.fault.Phase.{Phase}
 use Rattle.lr_words.specs.declared.taboo.TabooItems.{TabooItems}
+use Rattle.lr_conf.specs.declared.draft.Draft.{Draft}
+use Rattle.lr_conf.specs.declared.fields.Fields.{Fields}
 use Rattle.lr_conf.specs.declared.stop.Include.{Include}
 use Rattle.lr_conf.specs.declared.stop.LayerStop.{LayerStop}
 use Rattle.lr_conf.specs.Meaning.{Past, stands, conf, at_line, stray_at}
-use Rattle.lr_conf.specs.Draft.{Spoke, Speaks, Settled, Noticed, answer_of, state_of, stray_kind, turned, without_names, with_set}
+use Rattle.lr_conf.specs.Internal.Setting.{with_set}
+use Rattle.lr_conf.specs.Internal.Draft.{Spoke, Speaks, Settled, Noticed, Banned, answer_of, asking_answer, state_of, stray_kind, turned, without_names}
 
 abbrev own_faults : Path → ℕ → Option ConfKind → List Fault
 own_faults file at None = []
 own_faults file at (Some k) = conf file k at ∷ []
 
 answered : (old new : Draft) (file : Path) (p : Past) (at : ℕ) (first : Option ℕ) (own : Option ConfKind)
-    → Spoke old new file p (at_line file kind.NoBrace first ++ own_faults file at own) → Speaks old new file p (answer_of first at own)
+    → Spoke old new file p (at_line file kind.NoBrace first ++ own_faults file at own) [] → Speaks old new file p (answer_of first at own)
 answered old new file p at None None s = s
 answered old new file p at None (Some k) s = s
 answered old new file p at (Some n) None s = s
 answered old new file p at (Some n) (Some k) s = s
 
-by_answer : (old new : Draft) (file : Path) (p : Past) (at : ℕ) (own : Option ConfKind) (r : Result (Option Include) LayerStop) → r ≡ answer_of old.first at own
-    → Spoke old new file p (at_line file kind.NoBrace old.first ++ own_faults file at own) → Speaks old new file p r
-by_answer old new file p at own r e s = subst (Speaks old new file p) (sym e) (answered old new file p at old.first own s)
+by_answer : (old new : Draft) (file : Path) (p : Past) (at : ℕ) (f : Option ℕ) (own : Option ConfKind) (r : Result (Option Include) LayerStop) → r ≡ answer_of f at own → f ≡ old.first
+    → Spoke old new file p (at_line file kind.NoBrace old.first ++ own_faults file at own) [] → Speaks old new file p r
+by_answer old new file p at f own r e is s = subst (Speaks old new file p) (sym (e ∙ ap (λ o. answer_of o at own) is)) (answered old new file p at old.first own s)
 
-pub bad : (old new : Draft) (file : Path) (at : ℕ) (brace : Bool) (k : ConfKind) (r : Result (Option Include) LayerStop)
-    → Settled old new at brace (Some k) r → Speaks old new file (stands at brace (says.Bad k)) r
-bad old new file at brace k r s =
-    by_answer old new file (stands at brace (says.Bad k)) at (Some k) r s.answer
-    (record { state = s.state; rules = s.rest.rules; notices = s.rest.notices ∙ sym (append-nil old.notices.items); faults_are = refl; files = s.rest.files })
+asked : (old new : Draft) (file : Path) (p : Past) (first : Option ℕ) (i : Include) → Spoke old new file p (at_line file kind.NoBrace first ++ []) (i ∷ []) → Speaks old new file p (asking_answer first i)
+asked old new file p None i s = s
+asked old new file p (Some n) i s = s
 
-pub quiet : (old new : Draft) (file : Path) (at : ℕ) (brace : Bool) (r : Result (Option Include) LayerStop)
-    → Settled old new at brace None r → Speaks old new file (stands at brace says.Quiet) r
-quiet old new file at brace r s =
-    by_answer old new file (stands at brace says.Quiet) at None r s.answer
-    (record { state = s.state; rules = s.rest.rules; notices = s.rest.notices ∙ sym (append-nil old.notices.items); faults_are = refl; files = s.rest.files })
+pub bad : (old new : Draft) (file : Path) (at : ℕ) (brace : Bool) (k : ConfKind) (f : Option ℕ) (r : Result (Option Include) LayerStop)
+    → r ≡ answer_of f at (Some k) → f ≡ old.first → Settled old new brace → Speaks old new file (stands at brace (says.Bad k)) r
+bad old new file at brace k f r e is s =
+    by_answer old new file (stands at brace (says.Bad k)) at f (Some k) r e is
+    (record {
+      state = s.state;
+      rules = s.rest.rules;
+      notices = s.rest.notices ∙ sym (append-nil old.notices.items);
+      faults_are = refl;
+      files = s.rest.table.files;
+      built = s.rest.table.built;
+      includes_are = refl;
+      taboo = s.rest.table.taboo;
+    })
 
-pub owner : (old new : Draft) (file : Path) (at : ℕ) (brace : Bool) (v : Set) (r : Result (Option Include) LayerStop)
-    → Settled old new at brace None r → Speaks old new file (stands at brace (says.OwnerPassed v)) r
-owner old new file at brace v r s =
-    by_answer old new file (stands at brace (says.OwnerPassed v)) at None r s.answer
-    (record { state = s.state; rules = s.rest.rules; notices = s.rest.notices ∙ sym (append-nil old.notices.items); faults_are = refl; files = s.rest.files })
+pub quiet : (old new : Draft) (file : Path) (at : ℕ) (brace : Bool) (f : Option ℕ) (r : Result (Option Include) LayerStop)
+    → r ≡ answer_of f at None → f ≡ old.first → Settled old new brace → Speaks old new file (stands at brace says.Quiet) r
+quiet old new file at brace f r e is s =
+    by_answer old new file (stands at brace says.Quiet) at f None r e is
+    (record {
+      state = s.state;
+      rules = s.rest.rules;
+      notices = s.rest.notices ∙ sym (append-nil old.notices.items);
+      faults_are = refl;
+      files = s.rest.table.files;
+      built = s.rest.table.built;
+      includes_are = refl;
+      taboo = s.rest.table.taboo;
+    })
 
-pub script : (old new : Draft) (file : Path) (at : ℕ) (brace : Bool) (phase : Phase) (text : List ℕ) (stray : Bool) (r : Result (Option Include) LayerStop)
-    → Settled old new at brace None r → Speaks old new file (stands at brace (says.Script phase text stray)) r
-script old new file at brace phase text stray r s =
-    by_answer old new file (stands at brace (says.Script phase text stray)) at None r s.answer
-    (record { state = s.state; rules = s.rest.rules; notices = s.rest.notices ∙ sym (append-nil old.notices.items); faults_are = refl; files = s.rest.files })
-
-pub include : (old new : Draft) (file : Path) (at : ℕ) (brace : Bool) (path : List ℕ) (r : Result (Option Include) LayerStop)
-    → Settled old new at brace None r → Speaks old new file (stands at brace (says.Include path)) r
-include old new file at brace path r s =
-    by_answer old new file (stands at brace (says.Include path)) at None r s.answer
-    (record { state = s.state; rules = s.rest.rules; notices = s.rest.notices ∙ sym (append-nil old.notices.items); faults_are = refl; files = s.rest.files })
-
-pub taboo : (old new : Draft) (file : Path) (at : ℕ) (brace : Bool) (patterns : Bool) (items : TabooItems) (r : Result (Option Include) LayerStop)
-    → Settled old new at brace None r → Speaks old new file (stands at brace (says.Taboo patterns items)) r
-taboo old new file at brace patterns items r s =
-    by_answer old new file (stands at brace (says.Taboo patterns items)) at None r s.answer
-    (record { state = s.state; rules = s.rest.rules; notices = s.rest.notices ∙ sym (append-nil old.notices.items); faults_are = refl; files = s.rest.files })
+pub script : (old new : Draft) (file : Path) (at : ℕ) (brace : Bool) (phase : Phase) (text : List ℕ) (stray : Bool) (f : Option ℕ) (r : Result (Option Include) LayerStop)
+    → r ≡ answer_of f at None → f ≡ old.first → Settled old new brace → Speaks old new file (stands at brace (says.Script phase text stray)) r
+script old new file at brace phase text stray f r e is s =
+    by_answer old new file (stands at brace (says.Script phase text stray)) at f None r e is
+    (record {
+      state = s.state;
+      rules = s.rest.rules;
+      notices = s.rest.notices ∙ sym (append-nil old.notices.items);
+      faults_are = refl;
+      files = s.rest.table.files;
+      built = s.rest.table.built;
+      includes_are = refl;
+      taboo = s.rest.table.taboo;
+    })
 
 strays : (file : Path) (at : ℕ) (first : Option ℕ) → stray_at file first at ≡ own_faults file at (stray_kind first)
 strays file at None = refl
 strays file at (Some n) = refl
 
-pub close : (old new : Draft) (file : Path) (at : ℕ) (brace : Bool) (own : Option ConfKind) (r : Result (Option Include) LayerStop) → own ≡ stray_kind old.first
-    → Settled old new at brace own r → Speaks old new file (stands at brace says.Close) r
-close old new file at brace own r e s =
-    by_answer old new file (stands at brace says.Close) at own r s.answer
+pub close : (old new : Draft) (file : Path) (at : ℕ) (brace : Bool) (own : Option ConfKind) (f : Option ℕ) (r : Result (Option Include) LayerStop)
+    → r ≡ answer_of f at own → own ≡ stray_kind f → f ≡ old.first → Settled old new brace → Speaks old new file (stands at brace says.Close) r
+close old new file at brace own f r e k is s =
+    by_answer old new file (stands at brace says.Close) at f own r e is
     (record {
       state = s.state;
       rules = s.rest.rules;
       notices = s.rest.notices ∙ sym (append-nil old.notices.items);
-      faults_are = ap (λ o. at_line file kind.NoBrace old.first ++ o) (strays file at old.first ∙ ap (own_faults file at) (sym e));
-      files = s.rest.files;
+      faults_are = ap (λ o. at_line file kind.NoBrace old.first ++ o) (strays file at old.first ∙ ap (own_faults file at) (sym (k ∙ ap stray_kind is)));
+      files = s.rest.table.files;
+      built = s.rest.table.built;
+      includes_are = refl;
+      taboo = s.rest.table.taboo;
     })
 
-pub sets : (old new : Draft) (file : Path) (at : ℕ) (brace : Bool) (v : Set) (defaults : Fields) (r : Result (Option Include) LayerStop) → defaults ≡ with_set old.defaults v
-    → Settled (record old { defaults = defaults }) new at brace None r → Speaks old new file (stands at brace (says.Sets v)) r
-sets old new file at brace v defaults r e s =
-    by_answer old new file (stands at brace (says.Sets v)) at None r s.answer
+pub include : (old new : Draft) (file : Path) (at : ℕ) (brace : Bool) (path : List ℕ) (f : Option ℕ) (r : Result (Option Include) LayerStop)
+    → r ≡ asking_answer f (record { path = path; line = at }) → f ≡ old.first → Settled old new brace → Speaks old new file (stands at brace (says.Include path)) r
+include old new file at brace path f r e is s =
+    let i : Include = record { path = path; line = at } in
+    subst (Speaks old new file (stands at brace (says.Include path))) (sym (e ∙ ap (λ o. asking_answer o i) is))
+    (asked old new file (stands at brace (says.Include path)) old.first i
     (record {
-      state = s.state ∙ ap (λ d. turned brace None (without_names (state_of (record old { defaults = d })))) e;
+      state = s.state;
       rules = s.rest.rules;
       notices = s.rest.notices ∙ sym (append-nil old.notices.items);
       faults_are = refl;
-      files = s.rest.files;
+      files = s.rest.table.files;
+      built = s.rest.table.built;
+      includes_are = refl;
+      taboo = s.rest.table.taboo;
+    }))
+
+pub sets : (old new : Draft) (file : Path) (at : ℕ) (brace : Bool) (v : Set) (defaults : Fields) (f : Option ℕ) (r : Result (Option Include) LayerStop) → defaults ≡ with_set old.defaults v
+    → r ≡ answer_of f at None → f ≡ old.first → Settled (record old { defaults = defaults }) new brace → Speaks old new file (stands at brace (says.Sets v)) r
+sets old new file at brace v defaults f r d e is s =
+    by_answer old new file (stands at brace (says.Sets v)) at f None r e is
+    (record {
+      state = s.state ∙ ap (λ d. turned brace None (without_names (state_of (record old { defaults = d })))) d;
+      rules = s.rest.rules;
+      notices = s.rest.notices ∙ sym (append-nil old.notices.items);
+      faults_are = refl;
+      files = s.rest.table.files;
+      built = s.rest.table.built;
+      includes_are = refl;
+      taboo = s.rest.table.taboo;
     })
 
-pub passed : (old mid new : Draft) (file : Path) (at : ℕ) (brace : Bool) (word : List ℕ) (r : Result (Option Include) LayerStop)
-    → Noticed old mid (record { file = file; line = at; word = Some word }) → Settled mid new at brace None r → Speaks old new file (stands at brace (says.Passed word)) r
-passed old mid new file at brace word r n s =
-    by_answer old new file (stands at brace (says.Passed word)) at None r (s.answer ∙ ap (λ t. answer_of t.first at None) n.state)
+pub passed : (old mid new : Draft) (file : Path) (at : ℕ) (brace : Bool) (word : List ℕ) (f : Option ℕ) (r : Result (Option Include) LayerStop)
+    → Noticed old mid (record { file = file; line = at; word = Some word }) → r ≡ answer_of f at None → f ≡ mid.first → Settled mid new brace → Speaks old new file (stands at brace (says.Passed word)) r
+passed old mid new file at brace word f r n e is s =
+    by_answer old new file (stands at brace (says.Passed word)) at f None r e (is ∙ ap (λ t. t.first) n.state)
     (record {
       state = s.state ∙ ap (λ t. turned brace None (without_names t)) n.state;
       rules = s.rest.rules ∙ n.rules;
       notices = s.rest.notices ∙ n.notices;
       faults_are = refl;
-      files = s.rest.files ∙ n.files;
+      files = s.rest.table.files ∙ n.table.files;
+      built = s.rest.table.built ∙ n.table.built;
+      includes_are = refl;
+      taboo = s.rest.table.taboo ∙ n.table.taboo;
+    })
+
+pub owner : (old mid new : Draft) (file : Path) (at : ℕ) (brace : Bool) (v : Set) (defaults : Fields) (f : Option ℕ) (r : Result (Option Include) LayerStop)
+    → Noticed old mid (record { file = file; line = at; word = None }) → defaults ≡ with_set mid.defaults v
+    → r ≡ answer_of f at None → f ≡ mid.first → Settled (record mid { defaults = defaults }) new brace → Speaks old new file (stands at brace (says.OwnerPassed v)) r
+owner old mid new file at brace v defaults f r n d e is s =
+    by_answer old new file (stands at brace (says.OwnerPassed v)) at f None r e (is ∙ ap (λ t. t.first) n.state)
+    (record {
+      state = s.state ∙ ap (λ d. turned brace None (without_names (state_of (record mid { defaults = d })))) d ∙ ap (λ t. turned brace None (without_names (record t { defaults = with_set t.defaults v }))) n.state;
+      rules = s.rest.rules ∙ n.rules;
+      notices = s.rest.notices ∙ n.notices;
+      faults_are = refl;
+      files = s.rest.table.files ∙ n.table.files;
+      built = s.rest.table.built ∙ n.table.built;
+      includes_are = refl;
+      taboo = s.rest.table.taboo ∙ n.table.taboo;
+    })
+
+pub taboo : (old mid new : Draft) (file : Path) (at : ℕ) (brace : Bool) (patterns : Bool) (items : TabooItems) (f : Option ℕ) (r : Result (Option Include) LayerStop)
+    → Banned old mid patterns items → r ≡ answer_of f at None → f ≡ mid.first → Settled mid new brace → Speaks old new file (stands at brace (says.Taboo patterns items)) r
+taboo old mid new file at brace patterns items f r n e is s =
+    by_answer old new file (stands at brace (says.Taboo patterns items)) at f None r e (is ∙ ap (λ t. t.first) n.state)
+    (record {
+      state = s.state ∙ ap (λ t. turned brace None (without_names t)) n.state;
+      rules = s.rest.rules ∙ n.rules;
+      notices = s.rest.notices ∙ n.notices ∙ sym (append-nil old.notices.items);
+      faults_are = refl;
+      files = s.rest.table.files ∙ n.files;
+      built = s.rest.table.built ∙ n.built;
+      includes_are = refl;
+      taboo = s.rest.table.taboo ∙ n.taboo;
     })

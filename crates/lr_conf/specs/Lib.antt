@@ -1,5 +1,6 @@
 pub mod Fields
 pub mod Meaning
-pub mod Draft
+pub mod Stops
 pub mod Fold
 pub mod Plain
+pub mod Internal

@@ -1,5 +1,5 @@
 -- What the lines of a configuration mean, told of whole lists of lines.
-use Rattle.std.specs.Prelude.{ℕ, Bool, true, false, ◌||◌, List, [], ◌∷◌, ◌++◌, Option, Some, None, reverse, find, flat_map, if◌then◌else◌}
+use Rattle.std.specs.Prelude.{ℕ, Bool, true, false, not, ◌||◌, List, [], ◌∷◌, ◌++◌, Option, Some, None, reverse, find, flat_map, if◌then◌else◌}
 use Rattle.std.specs.List.{list_any, filter_map}
 use Rattle.lr_lex.specs.declared.item.Item.{Item}
 use Rattle.lr_rules.specs.declared.path.Path.{Path}
@@ -8,7 +8,8 @@ use Rattle.lr_rules.specs.declared.fault.ConfKind.TheVariants as kind
 use Rattle.lr_rules.specs.declared.fault.Fault.{Fault}
 use Rattle.lr_rules.specs.declared.fault.Fault.TheVariants as fault
 use Rattle.lr_rules.specs.declared.fault.Notice.{Notice}
-use Rattle.lr_rules.specs.declared.rule.Back.TheVariants as back
+use Rattle.lr_rules.specs.declared.fault.Phase.{Phase}
+use Rattle.lr_rules.specs.declared.fault.Phase.TheVariants as phase
 use Rattle.lr_rules.specs.declared.rule.Criterion.{Criterion}
 use Rattle.lr_rules.specs.declared.rule.Criterion.TheVariants as criterion
 use Rattle.lr_rules.specs.declared.rule.Field.TheVariants as field
@@ -17,10 +18,16 @@ use Rattle.lr_rules.specs.declared.rule.Piece.{Piece}
 use Rattle.lr_rules.specs.declared.rule.Piece.TheVariants as piece
 use Rattle.lr_rules.specs.declared.rule.Rule.{Rule}
 use Rattle.lr_conf.specs.declared.fields.Fields.{Fields}
+use Rattle.lr_conf.specs.declared.stop.Include.{Include}
 use Rattle.lr_forms.specs.declared.set.Set.{Set}
+use Rattle.lr_forms.specs.declared.set.Set.TheVariants as set
 use Rattle.lr_forms.specs.declared.said.Said.{Said}
 use Rattle.lr_forms.specs.declared.said.Said.TheVariants as says
-use Rattle.lr_forms.specs.declared.built.Built.TheVariants as built
+use Rattle.lr_words.specs.declared.taboo.TabooItems.{TabooItems}
+use Rattle.lr_match.specs.declared.taboo.Taboo.{Taboo}
+use Rattle.lr_match.specs.Taboos.{taboo_after}
+use Rattle.lr_forms.specs.declared.built.Built.{Built}
+use Rattle.lr_forms.specs.Built.{script_is_unbuilt}
 use Rattle.lr_forms.specs.Says.{line_of, has_brace, closes, said}
 use Rattle.lr_conf.specs.Fields.{fields_of}
 
@@ -69,6 +76,7 @@ list_of (Some x) = x ∷ []
 
 abbrev pub set_of : Said → Option Set
 set_of (says.Sets v) = Some v
+set_of (says.OwnerPassed v) = Some v
 set_of s = None
 
 abbrev pub set_past : Past → Option Set
@@ -132,15 +140,16 @@ opened first (stands at brace says.Open) = first
 opened first p = None
 
 -- how a line is read outside definitions
-abbrev pub past : Line → Past
-past (Read file i) = stands (line_of i) (has_brace i) (said built.SoFar false i)
-past (Spoiled f) = spoiled f
-past (End file) = file_ends
+abbrev pub past : Built → Line → Past
+past b (Read file i) = stands (line_of i) (has_brace i) (said b false i)
+past b (Spoiled f) = spoiled f
+past b (End file) = file_ends
 
 -- ---- notices and faults
 
 abbrev pub notice_of : Path → ℕ → Said → Option Notice
 notice_of file at (says.Passed word) = Some (record { file = file; line = at; word = Some word })
+notice_of file at (says.OwnerPassed v) = Some (record { file = file; line = at; word = None })
 notice_of file at s = None
 
 abbrev pub conf : Path → ConfKind → ℕ → Fault
@@ -188,35 +197,94 @@ ends (Read file i) = closes i
 ends (Spoiled f) = false
 ends (End file) = true
 
+-- A line in a definition, as it is read there: its file and number, and what it says; or the fault that its reading told.
+pub data Within : Type 0 where
+  states : Path → ℕ → Said → Within
+  broken : Fault → Within
+  left_open : Within
+
+abbrev pub script_of : Said → Option Phase
+script_of (says.Script phase text stray) = Some phase
+script_of s = None
+
+abbrev pub script_in : Built → Line → Option Phase
+script_in b (Read file i) = script_of (said b true i)
+script_in b e = None
+
+-- the scripts that stand among the lines of a definition
+abbrev pub scripts_in : Built → List Line → List Phase
+scripts_in b lines = filter_map (script_in b) lines
+
+abbrev pub is_phase : Phase → Phase → Bool
+is_phase phase.First phase.First = true
+is_phase phase.Pre phase.Pre = true
+is_phase phase.Post phase.Post = true
+is_phase phase.Last phase.Last = true
+is_phase phase.Preremove phase.Preremove = true
+is_phase phase.Mail phase.Mail = true
+is_phase p q = false
+
+-- the first fault of a script that applies, where these stand before it in its definition
+abbrev pub script_fault : Built → List Phase → Phase → Bool → Option ConfKind
+script_fault b earlier p stray =
+    if list_any (is_phase p) earlier then Some kind.ScriptTwice
+    else if script_is_unbuilt b p then Some kind.NotYet
+    else if stray then Some kind.Stray
+    else None
+
+abbrev pub script_says : Option ConfKind → Phase → List ℕ → Said
+script_says None p text = says.Sets (set.Script p text)
+script_says (Some k) p text = says.Bad k
+
+-- what a line of a definition says where these scripts stand before it
+abbrev pub said_behind : Built → List Phase → Said → Said
+said_behind b earlier (says.Script p text stray) = script_says (script_fault b earlier p stray) p text
+said_behind b earlier s = s
+
+-- how a line is read in a definition, behind those of its lines that stand before it
+abbrev pub within : Built → List Line → Line → Within
+within b earlier (Read file i) = states file (line_of i) (said_behind b (scripts_in b earlier) (said b true i))
+within b earlier (Spoiled f) = broken f
+within b earlier (End file) = left_open
+
+-- the lines of a definition, each as it is read behind those before it
+abbrev pub body_of : Built → List Line → List Line → List Within
+body_of b earlier [] = []
+body_of b earlier (e ∷ es) = within b earlier e ∷ body_of b (earlier ++ e ∷ []) es
+
 abbrev pub is_bad : Said → Bool
 is_bad (says.Bad k) = true
 is_bad s = false
 
 -- it drops the definition that it stands in
-abbrev pub drops : Line → Bool
-drops (Read file i) = is_bad (said built.SoFar true i)
-drops (Spoiled f) = true
-drops (End file) = false
+abbrev pub drops : Within → Bool
+drops (states file at s) = is_bad s
+drops (broken f) = true
+drops left_open = false
 
-abbrev pub set_in : Line → Option Set
-set_in (Read file i) = set_of (said built.SoFar true i)
-set_in e = None
+abbrev pub set_in : Within → Option Set
+set_in (states file at s) = set_of s
+set_in w = None
 
-abbrev pub notice_in : Line → Option Notice
-notice_in (Read file i) = notice_of file (line_of i) (said built.SoFar true i)
-notice_in e = None
+abbrev pub notice_in : Within → Option Notice
+notice_in (states file at s) = notice_of file at s
+notice_in w = None
 
 abbrev pub fault_of : Path → ℕ → Said → Option Fault
 fault_of file at says.Unknown = Some (conf file kind.Unknown at)
 fault_of file at (says.Bad k) = Some (conf file k at)
 fault_of file at s = None
 
-abbrev pub fault_in : Line → Option Fault
-fault_in (Read file i) = fault_of file (line_of i) (said built.SoFar true i)
-fault_in (Spoiled f) = Some f
-fault_in e = None
+abbrev pub fault_in : Within → Option Fault
+fault_in (states file at s) = fault_of file at s
+fault_in (broken f) = Some f
+fault_in w = None
 
 -- the fault that the line's reading told
+abbrev pub broken_fault : Within → Option Fault
+broken_fault (broken f) = Some f
+broken_fault w = None
+
 abbrev pub spoilt_fault : Line → Option Fault
 spoilt_fault (Spoiled f) = Some f
 spoilt_fault e = None
@@ -228,40 +296,17 @@ abbrev pub default_pieces : Criterion → List Piece
 default_pieces criterion.Hourly = piece.Byte 45 ∷ piece.Field field.Year ∷ piece.Field field.Month ∷ piece.Field field.Day ∷ piece.Field field.Hour ∷ []
 default_pieces c = piece.Byte 45 ∷ piece.Field field.Year ∷ piece.Field field.Month ∷ piece.Field field.Day ∷ []
 
-abbrev pub default_format : Criterion → Format
-default_format c = record { pieces = default_pieces c; back = back.Now }
+-- those that a line gives, else the default by the criterion that the definition has when it ends
+abbrev pub pieces_of : Criterion → Option (List Piece) → List Piece
+pieces_of c (Some pieces) = pieces
+pieces_of c None = default_pieces c
 
 abbrev pub format_of : Fields → Option Format
-format_of f = if f.dated then Some (default_format f.criterion) else None
+format_of f = if f.dated then Some (record { pieces = pieces_of f.rule.criterion f.pieces; back = f.back }) else None
 
 -- the rule of a definition that is whole
 abbrev pub rule_of : Path → ℕ → List (List ℕ) → Fields → Rule
-rule_of file at words f = record {
-  file = file;
-  line = at;
-  words = words;
-  criterion = f.criterion;
-  count = f.count;
-  maxage = None;
-  minage = None;
-  minsize = None;
-  maxsize = None;
-  ifempty = f.ifempty;
-  missingok = f.missingok;
-  ignore_duplicates = false;
-  start = 1;
-  extension = None;
-  addextension = None;
-  olddir = f.olddir;
-  createolddir = f.createolddir;
-  way = f.way;
-  create = f.create;
-  mail = f.mail;
-  mailfirst = f.mailfirst;
-  shared = f.shared;
-  scripts = record { first = None; pre = None; post = None; last = None; preremove = None };
-  dated = format_of f;
-}
+rule_of file at words f = record (f.rule) { file = file; line = at; words = words; dated = format_of f }
 
 -- ---- what lines mean
 
@@ -293,35 +338,67 @@ of_spoilt es = told (filter_map spoilt_fault es)
 
 -- A definition whose first name stands at this line: its words, what was set before its lines, and its lines with what
 -- follows. Behind the line that drops it only spoilt lines are told.
-abbrev pub of_definition : ℕ → List (List ℕ) → List Set → List Line → Meaning
-of_definition at words before_it es =
-    let body = before ends es in
+abbrev pub of_definition : Built → ℕ → List (List ℕ) → List Set → List Line → Meaning
+of_definition b at words before_it es =
+    let body = body_of b [] (before ends es) in
     record {
       rules = [];
       notices = filter_map notice_in (through drops body);
       faults = filter_map fault_in (through drops body);
     }
-    and (if list_any drops body then of_spoilt (behind drops body) else of_end at words (fields_of (before_it ++ filter_map set_in body)) (find ends es))
+    and (if list_any drops body then told (filter_map broken_fault (behind drops body)) else of_end at words (fields_of (before_it ++ filter_map set_in body)) (find ends es))
 
 -- one that a fault of its first line drops says nothing, its spoilt lines aside
-abbrev pub of_body : Option ℕ → List (List ℕ) → List Set → List Line → Meaning
-of_body None words before_it es = of_spoilt (before ends es)
-of_body (Some at) words before_it es = of_definition at words before_it es
+abbrev pub of_body : Built → Option ℕ → List (List ℕ) → List Set → List Line → Meaning
+of_body b None words before_it es = of_spoilt (before ends es)
+of_body b (Some at) words before_it es = of_definition b at words before_it es
 
 -- what begins at a line that opens a definition
-abbrev pub of_opening : List Past → Past → List Line → Meaning
-of_opening out p es =
-    if opens p then of_body (opened (first_pending out) p) (words_with (words_pending out) p) (settings (out ++ p ∷ [])) es
+abbrev pub of_opening : Built → List Past → Past → List Line → Meaning
+of_opening b out p es =
+    if opens p then of_body b (opened (first_pending out) p) (words_with (words_pending out) p) (settings (out ++ p ∷ [])) es
     else nothing
 
 -- a line outside definitions, for itself
 abbrev pub of_line : Path → Option ℕ → Past → Meaning
 of_line file first p = record { rules = []; notices = list_of (notice_past file p); faults = line_faults file first p }
 
--- What lines mean: in a definition or not, the lines before them that stand outside definitions, and the lines.
-abbrev pub meaning : Bool → List Past → List Line → Meaning
-meaning inside out [] = nothing
-meaning true out (e ∷ es) = if ends e then meaning false (out ++ past e ∷ []) es else meaning true out es
-meaning false out (e ∷ es) =
-    of_line (file_of e) (first_pending out) (past e)
-    and (of_opening out (past e) es and meaning (opens (past e)) (out ++ past e ∷ []) es)
+-- What lines mean: by what is built, in a definition or not, the lines before them that stand outside definitions, and
+-- the lines. Those of an included file stand in the place of the line that asks for it.
+abbrev pub meaning : Built → Bool → List Past → List Line → Meaning
+meaning b inside out [] = nothing
+meaning b true out (e ∷ es) = if ends e then meaning b false (out ++ past b e ∷ []) es else meaning b true out es
+meaning b false out (e ∷ es) =
+    of_line (file_of e) (first_pending out) (past b e)
+    and (of_opening b out (past b e) es and meaning b (opens (past b e)) (out ++ past b e ∷ []) es)
+
+-- ---- other files
+
+-- the lines that stand outside definitions, as they are read there
+abbrev pub outsiders : Built → Bool → List Line → List Past
+outsiders b inside [] = []
+outsiders b true (e ∷ es) = outsiders b (not (ends e)) es
+outsiders b false (e ∷ es) = past b e ∷ outsiders b (opens (past b e)) es
+
+-- the file that a line asks for
+abbrev pub asks : Past → Option Include
+asks (stands at brace (says.Include path)) = Some (record { path = path; line = at })
+asks p = None
+
+-- the files that lines ask for, in order
+abbrev pub asked : Built → Bool → List Line → List Include
+asked b inside lines = filter_map asks (outsiders b inside lines)
+
+-- what a line makes taboo: items, and whether they are patterns
+abbrev pub bans : Past → Option (Bool × TabooItems)
+bans (stands at brace (says.Taboo patterns items)) = Some (patterns, items)
+bans p = None
+
+-- the taboo list behind these changes of it, in order
+abbrev pub after_bans : Taboo → List (Bool × TabooItems) → Taboo
+after_bans taboo [] = taboo
+after_bans taboo (c ∷ cs) = after_bans (taboo_after taboo c.1.items c.0 c.1.adding) cs
+
+-- the taboo list behind lines, where it is this one before them
+abbrev pub banned : Built → Bool → Taboo → List Line → Taboo
+banned b inside taboo lines = after_bans taboo (filter_map bans (outsiders b inside lines))

@@ -1,8 +1,7 @@
 -- What holds of the rules so far, where not all directives are built.
-use Rattle.std.specs.Prelude.{◌≡◌, ◌≢◌, ◌≤◌, true, false, [], None, All}
+use Rattle.std.specs.Prelude.{◌≡◌, ◌≢◌, ◌≤◌, false, [], None, All}
 use Rattle.lr_rules.specs.declared.rule.Count.{Count}
 use Rattle.lr_rules.specs.declared.rule.Count.TheVariants as count
-use Rattle.lr_rules.specs.declared.rule.Criterion.TheVariants as criterion
 use Rattle.lr_rules.specs.declared.rule.Make.TheVariants as make
 use Rattle.lr_rules.specs.declared.rule.Rule.{Rule}
 use Rattle.lr_rules.specs.declared.rule.Way.TheVariants as way
@@ -16,14 +15,8 @@ IsSmallCount count.Always = Unit {0}
 pub record IsPlainRule (r : Rule) : Type 0 where
   pub named : r.words ≢ []
   pub words : All IsLogWord r.words
-  pub criterion : r.criterion ≡ criterion.Size 1048576
   pub count : IsSmallCount r.count
   pub maxage : r.maxage ≡ None
-  pub minage : r.minage ≡ None
-  pub minsize : r.minsize ≡ None
-  pub maxsize : r.maxsize ≡ None
-  pub ifempty : r.ifempty ≡ true
-  pub ignore_duplicates : r.ignore_duplicates ≡ false
   pub start : r.start ≡ 1
   pub extension : r.extension ≡ None
   pub addextension : r.addextension ≡ None

@@ -1,21 +1,26 @@
 // What lines made, as it is kept from one line to the next.
 ghost use Rattle.std.specs.Prelude.{◌≡◌, ◌<◌, ◌-◌, List, [], ◌∷◌, ◌++◌, false, length, take, IfOk, MatchOption};
 ghost use Rattle.lr_rules.specs.declared.fault.Fault.{Fault};
-ghost use Rattle.lr_conf.specs.Meaning.{Line, Read, Spoiled, End, meaning, told, conf, ◌and◌};
-ghost use Rattle.lr_conf.specs.Draft.{coming_from, TookIn, file_of_draft, files_of};
+ghost use Rattle.lr_match.specs.Taboos.{first_taboo};
+ghost use Rattle.lr_conf.specs.Meaning.{Line, Read, Spoiled, End, meaning, asked, banned, told, conf, ◌and◌};
+ghost use Rattle.lr_conf.specs.Internal.Draft.{coming_from, asking_from, banning_from, TookIn, AsksIn, BansIn, AlikeIn, PassesIn, file_of_draft, files_of};
 
 use crate::fields::{Fields, default_fields};
 use crate::files::Files;
 use crate::place::Place;
 use crate::stop::{Include, LayerStop};
+use lr_forms::Built;
 use lr_lex::Item;
-use lr_rules::{ConfKind, Memory, Notice, Path, Rule, Text};
+use lr_match::Taboo;
+use lr_rules::{ConfKind, Memory, Notice, Path, Phase, Rule, Text};
 use std::alloc::Global;
 
 /// What the lines of a configuration made so far: rules and notices, and what lines to come are read by.
 #[derive(Drop)]
 pub struct Draft {
     pub(crate) alloc: Global,
+    /// What isn't built is told as NotYet.
+    pub(crate) built: Built,
     pub(crate) files: Files,
     pub(crate) place: Place,
     /// The fields that lines outside definitions set.
@@ -26,26 +31,38 @@ pub struct Draft {
     pub(crate) first: Option<u32>,
     /// The fields of the definition.
     pub(crate) fields: Fields,
+    /// The scripts that stood in it.
+    pub(crate) scripts: Vec<Phase>,
     pub(crate) rules: Vec<Rule>,
     pub(crate) notices: Vec<Notice>,
+    pub(crate) taboo: Taboo,
 }
 
 impl Draft {
     /// A draft of no line, with room for 8 entered files.
-    pub fn new(alloc: Global) -> Result<Draft, Memory>
+    pub fn new(alloc: Global, built: Built) -> Result<Draft, Memory>
         ensures files { IfOk result (λ draft. files_of draft ≡ []) }
-        ensures means { IfOk result (λ draft. (lines : List Line) → coming_from draft lines ≡ meaning false [] lines) }
+        ensures means { IfOk result (λ draft. (lines : List Line) → coming_from draft lines ≡ meaning built false [] lines) }
+        ensures asks { IfOk result (λ draft. (lines : List Line) → asking_from draft lines ≡ asked built false lines) }
+        ensures bans { IfOk result (λ draft. (lines : List Line) → banning_from draft lines ≡ banned built false first_taboo lines) }
     {
+        let files = Files::new(alloc)?;
+        let taboo = Taboo::first(alloc)?;
+        let defaults = default_fields(alloc)?;
+        let fields = default_fields(alloc)?;
         Ok(Draft {
             alloc,
-            files: Files::new(alloc)?,
+            built,
+            files,
             place: Place::Outside,
-            defaults: default_fields(),
+            defaults,
             words: Vec::new(alloc),
             first: None,
-            fields: default_fields(),
+            fields,
+            scripts: Vec::new(alloc),
             rules: Vec::new(alloc),
             notices: Vec::new(alloc),
+            taboo,
         })
     }
 
@@ -54,6 +71,7 @@ impl Draft {
         requires { length (files_of self.old) < 8 }
         ensures files { files_of self.new ≡ files_of self.old ++ file ∷ [] }
         ensures same { (lines : List Line) → coming_from self.new lines ≡ coming_from self.old lines }
+        ensures alike { AlikeIn self.old self.new }
     {
         self.files.enter(file);
     }
@@ -63,6 +81,7 @@ impl Draft {
         requires { 0 < length (files_of self.old) }
         ensures files { files_of self.new ≡ take (length (files_of self.old) - 1) (files_of self.old) }
         ensures same { (lines : List Line) → coming_from self.new lines ≡ coming_from self.old lines }
+        ensures alike { AlikeIn self.old self.new }
     {
         self.files.leave();
     }
@@ -73,6 +92,8 @@ impl Draft {
         requires { 0 < length (files_of self.old) }
         ensures files { files_of self.new ≡ files_of self.old }
         ensures means { TookIn self.old self.new (file_of_draft self.old) (Read (file_of_draft self.old) item) result }
+        ensures asks { AsksIn self.old self.new (Read (file_of_draft self.old) item) result }
+        ensures bans { BansIn self.old self.new (Read (file_of_draft self.old) item) result }
     {
         self.take_in(item)
     }
@@ -83,6 +104,7 @@ impl Draft {
         requires { 0 < length (files_of self.old) }
         ensures files { files_of self.new ≡ files_of self.old }
         ensures means { (f : Fault) (lines : List Line) → coming_from self.old (Spoiled f ∷ lines) ≡ (told (f ∷ []) and coming_from self.new lines) }
+        ensures passes { (f : Fault) → PassesIn self.old self.new (Spoiled f) }
     {
         if self.place == Place::Good {
             self.place = Place::Dropped;
@@ -97,8 +119,16 @@ impl Draft {
         ensures means { MatchOption result
             ((lines : List Line) → coming_from self.old (End (file_of_draft self.old) ∷ lines) ≡ coming_from self.new lines)
             (λ r. (lines : List Line) → coming_from self.old (End (file_of_draft self.old) ∷ lines) ≡ (told (conf (file_of_draft self.old) r.1 r.0 ∷ []) and coming_from self.new lines)) }
+        ensures passes { PassesIn self.old self.new (End (file_of_draft self.old)) }
     {
         self.end_file()
+    }
+
+    /// The taboo list behind the lines so far.
+    pub fn taboo(&self) -> &Taboo
+        ensures { result.now ≡ banning_from self.now [] }
+    {
+        &self.taboo
     }
 
     /// The rules and the notices of all that was taken.

@@ -1,38 +1,59 @@
 // The fields that lines set.
 ghost use Rattle.std.specs.Prelude.{◌≡◌, IfOk};
-ghost use Rattle.lr_conf.specs.Draft.{with_set, without, default_fields};
+ghost use Rattle.lr_conf.specs.Internal.Setting.{with_set, with_script, without, default_fields};
 
 use lr_forms::Set;
-use lr_rules::{Count, Criterion, Make, Memory, Text, Way, copy_text};
+use lr_rules::{
+    Back, Count, Criterion, Listed, Make, Memory, Path, Phase, Piece, Rule, Scripts, Text, Way,
+};
 use std::alloc::Global;
 
-/// The fields of a definition, or the defaults that lines outside definitions made. Sizes are in bytes.
+/// The fields of a definition, or the defaults that lines outside definitions made.
 #[derive(Drop)]
 pub struct Fields {
-    pub criterion: Criterion,
-    pub count: Count,
-    pub ifempty: bool,
-    pub missingok: bool,
-    pub olddir: Option<Text>,
-    pub createolddir: Make,
-    pub way: Way,
-    pub create: Make,
-    pub mail: Option<Text>,
-    pub mailfirst: bool,
-    pub shared: bool,
+    /// Those of the rule, which so far has no words, no line and no stamp, and `/` in the place of its file.
+    pub rule: Rule,
     /// Whether the members have dated names.
     pub dated: bool,
+    /// The pieces of a stamp, where a line gives them.
+    pub pieces: Option<Listed<Piece>>,
+    pub back: Back,
+    /// Whether a stamp that stands already gets a serial number, which the naming doesn't do yet.
+    pub serial: bool,
 }
 
-/// The fields that no line set.
-pub fn default_fields() -> Fields
-    ensures { result ≡ default_fields }
+fn no_scripts() -> Scripts
+    ensures { result ≡ default_fields.rule.scripts }
 {
-    Fields {
+    Scripts {
+        first: None,
+        pre: None,
+        post: None,
+        last: None,
+        preremove: None,
+    }
+}
+
+// A rule that no line set a field of.
+fn default_rule(alloc: Global, file: Path) -> Rule
+    ensures { result ≡ record (default_fields.rule) { file = file } }
+{
+    Rule {
+        file,
+        line: 0,
+        words: Listed::new(alloc),
         criterion: Criterion::Size(1_048_576),
         count: Count::Keep(0),
+        maxage: None,
+        minage: None,
+        minsize: None,
+        maxsize: None,
         ifempty: true,
         missingok: false,
+        ignore_duplicates: false,
+        start: 1,
+        extension: None,
+        addextension: None,
         olddir: None,
         createolddir: Make::No,
         way: Way::Rename,
@@ -40,28 +61,25 @@ pub fn default_fields() -> Fields
         mail: None,
         mailfirst: false,
         shared: false,
-        dated: false,
+        scripts: no_scripts(),
+        dated: None,
     }
 }
 
-/// A copy of the fields.
-pub fn copy_fields(alloc: Global, fields: &Fields) -> Result<Fields, Memory>
-    ensures { IfOk result (λ copy. copy ≡ fields.now) }
+/// The fields that no line set.
+pub fn default_fields(alloc: Global) -> Result<Fields, Memory>
+    ensures { IfOk result (λ fields. fields ≡ default_fields) }
 {
-    Ok(Fields {
-        criterion: fields.criterion,
-        count: fields.count,
-        ifempty: fields.ifempty,
-        missingok: fields.missingok,
-        olddir: copy_text(alloc, &fields.olddir)?,
-        createolddir: fields.createolddir,
-        way: fields.way,
-        create: fields.create,
-        mail: copy_text(alloc, &fields.mail)?,
-        mailfirst: fields.mailfirst,
-        shared: fields.shared,
-        dated: fields.dated,
-    })
+    match Path::new(alloc, b"/") {
+        Ok(file) => Ok(Fields {
+            rule: default_rule(alloc, file),
+            dated: false,
+            pieces: None,
+            back: Back::Now,
+            serial: false,
+        }),
+        Err(_) => Err(Memory),
+    }
 }
 
 /// The way, set back to renames where it is this one.
@@ -75,25 +93,49 @@ fn without(not: Way, way: Way) -> Way
     }
 }
 
+fn set_script(scripts: &mut Scripts, phase: Phase, text: Text)
+    ensures { scripts.new ≡ with_script phase text scripts.old }
+{
+    match phase {
+        Phase::First => scripts.first = Some(text),
+        Phase::Pre => scripts.pre = Some(text),
+        Phase::Post => scripts.post = Some(text),
+        Phase::Last => scripts.last = Some(text),
+        Phase::Preremove => scripts.preremove = Some(text),
+        // A mail has no script.
+        Phase::Mail => {}
+    }
+}
+
 /// Sets a field.
 pub fn set_field(fields: &mut Fields, set: Set)
     ensures { fields.new ≡ with_set fields.old set }
 {
     match set {
-        Set::Criterion(criterion) => fields.criterion = criterion,
-        Set::Count(count) => fields.count = count,
-        Set::IfEmpty(ifempty) => fields.ifempty = ifempty,
-        Set::MissingOk(missingok) => fields.missingok = missingok,
-        Set::Olddir(olddir) => fields.olddir = olddir,
-        Set::CreateOlddir(make) => fields.createolddir = make,
-        Set::Way(way) => fields.way = way,
-        Set::NotWay(not) => fields.way = without(not, fields.way),
-        Set::Create(make) => fields.create = make,
-        Set::Mail(mail) => fields.mail = mail,
-        Set::MailFirst(mailfirst) => fields.mailfirst = mailfirst,
-        Set::Shared(shared) => fields.shared = shared,
+        Set::Criterion(criterion) => fields.rule.criterion = criterion,
+        Set::Count(count) => fields.rule.count = count,
+        Set::MaxAge(days) => fields.rule.maxage = Some(days),
+        Set::MinAge(days) => fields.rule.minage = Some(days),
+        Set::MinSize(size) => fields.rule.minsize = Some(size),
+        Set::MaxSize(size) => fields.rule.maxsize = Some(size),
+        Set::IfEmpty(ifempty) => fields.rule.ifempty = ifempty,
+        Set::MissingOk(missingok) => fields.rule.missingok = missingok,
+        Set::IgnoreDuplicates => fields.rule.ignore_duplicates = true,
+        Set::Start(start) => fields.rule.start = start,
+        Set::Extension(ending) => fields.rule.extension = Some(ending),
+        Set::AddExtension(ending) => fields.rule.addextension = Some(ending),
+        Set::Olddir(olddir) => fields.rule.olddir = olddir,
+        Set::CreateOlddir(make) => fields.rule.createolddir = make,
+        Set::Way(way) => fields.rule.way = way,
+        Set::NotWay(not) => fields.rule.way = without(not, fields.rule.way),
+        Set::Create(make) => fields.rule.create = make,
+        Set::Mail(mail) => fields.rule.mail = mail,
+        Set::MailFirst(mailfirst) => fields.rule.mailfirst = mailfirst,
+        Set::Shared(shared) => fields.rule.shared = shared,
+        Set::Script(phase, text) => set_script(&mut fields.rule.scripts, phase, text),
         Set::Dated(dated) => fields.dated = dated,
-        // So far no line sets another.
-        _other => {}
+        Set::DateFormat(pieces) => fields.pieces = Some(pieces),
+        Set::Back(back) => fields.back = back,
+        Set::Serial(serial) => fields.serial = serial,
     }
 }

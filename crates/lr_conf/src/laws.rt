@@ -4,6 +4,8 @@ ghost use Rattle.std.specs.List.{filter_map, list_all};
 ghost use Rattle.lr_rules.specs.declared.rule.Count.{Count};
 ghost use Rattle.lr_rules.specs.declared.rule.Criterion.{Criterion};
 ghost use Rattle.lr_rules.specs.Limits.{meets_limits};
+ghost use Rattle.lr_forms.specs.declared.built.Built.{Built};
+ghost use Rattle.lr_forms.specs.declared.built.Built.TheVariants as built;
 ghost use Rattle.lr_forms.specs.declared.set.Set.{Set};
 ghost use Rattle.lr_forms.specs.declared.set.Set.TheVariants as set;
 ghost use Rattle.lr_conf.specs.Fields.{fields_of, count_set, criterion_set};
@@ -12,20 +14,20 @@ ghost use Rattle.lr_conf.specs.Plain.{IsPlainRule};
 
 /// The last line that sets the count gives it.
 pub fn last_count()
-    ensures { (earlier later : List Set) (n : Count) → filter_map count_set later ≡ [] → (fields_of (earlier ++ set.Count n ∷ later)).count ≡ n }
+    ensures { (earlier later : List Set) (n : Count) → filter_map count_set later ≡ [] → (fields_of (earlier ++ set.Count n ∷ later)).rule.count ≡ n }
 {}
 
 /// The last line that sets the criterion gives it.
 pub fn last_criterion()
-    ensures { (earlier later : List Set) (c : Criterion) → filter_map criterion_set later ≡ [] → (fields_of (earlier ++ set.Criterion c ∷ later)).criterion ≡ c }
+    ensures { (earlier later : List Set) (c : Criterion) → filter_map criterion_set later ≡ [] → (fields_of (earlier ++ set.Criterion c ∷ later)).rule.criterion ≡ c }
 {}
 
-/// Each rule of a configuration meets the limits of its values.
+/// Each rule of a configuration meets the limits of its values, whichever directives are built.
 pub fn rules_meet_limits()
-    ensures { (lines : List Line) → list_all meets_limits (meaning false [] lines).rules ≡ true }
+    ensures { (built : Built) (lines : List Line) → list_all meets_limits (meaning built false [] lines).rules ≡ true }
 {}
 
-/// Each rule has a word at least, its words name logs, and what no line can set yet has its default.
+/// Each rule has a word at least, its words name logs, and what no line can set so far has its default.
 pub fn rules_are_plain()
-    ensures { (lines : List Line) → All IsPlainRule (meaning false [] lines).rules }
+    ensures { (lines : List Line) → All IsPlainRule (meaning built.SoFar false [] lines).rules }
 {}

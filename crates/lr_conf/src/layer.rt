@@ -3,11 +3,13 @@ ghost use Rattle.std.specs.Prelude.{◌≡◌, List, true};
 ghost use Rattle.std.specs.List.{list_all};
 ghost use Rattle.lr_rules.specs.Limits.{meets_limits};
 ghost use Rattle.lr_conf.specs.Meaning.{Line};
-ghost use Rattle.lr_conf.specs.Draft.{coming_from};
+ghost use Rattle.lr_conf.specs.Internal.Draft.{coming_from};
 
 use crate::draft::Draft;
 use crate::stop::{Include, LayerStop};
+use lr_forms::Built;
 use lr_lex::Item;
+use lr_match::Taboo;
 use lr_rules::{ConfKind, Listed, Memory, Notice, Path, Rules};
 use std::alloc::Global;
 
@@ -21,16 +23,19 @@ pub struct Layer {
 impl Layer {
     ghost use Rattle.std.specs.Prelude.{◌<◌, ◌-◌, [], ◌∷◌, ◌++◌, false, length, take, IfOk, MatchOption};
     ghost use Rattle.lr_rules.specs.declared.fault.Fault.{Fault};
-    ghost use Rattle.lr_conf.specs.Meaning.{Read, Spoiled, End, meaning, told, conf, ◌and◌};
-    ghost use Rattle.lr_conf.specs.Fold.{coming, Took, file_of_layer, entered};
+    ghost use Rattle.lr_match.specs.Taboos.{first_taboo};
+    ghost use Rattle.lr_conf.specs.Meaning.{Read, Spoiled, End, meaning, asked, banned, told, conf, ◌and◌};
+    ghost use Rattle.lr_conf.specs.Fold.{coming, asking, banning, Took, Asks, Bans, Alike, Passes, file_of_layer, entered};
 
-    /// A layer that took no line, with room for 8 entered files.
-    pub fn new(alloc: Global) -> Result<Layer, Memory>
+    /// A layer that took no line, with room for 8 entered files. A line with something that isn't built is told as NotYet.
+    pub fn new(alloc: Global, built: Built) -> Result<Layer, Memory>
         ensures files { IfOk result (λ layer. entered layer ≡ []) }
-        ensures means { IfOk result (λ layer. (lines : List Line) → coming layer lines ≡ meaning false [] lines) }
+        ensures means { IfOk result (λ layer. (lines : List Line) → coming layer lines ≡ meaning built false [] lines) }
+        ensures asks { IfOk result (λ layer. (lines : List Line) → asking layer lines ≡ asked built false lines) }
+        ensures bans { IfOk result (λ layer. (lines : List Line) → banning layer lines ≡ banned built false first_taboo lines) }
     {
         Ok(Layer {
-            draft: Draft::new(alloc)?,
+            draft: Draft::new(alloc, built)?,
         })
     }
 
@@ -39,6 +44,7 @@ impl Layer {
         requires { length (entered self.old) < 8 }
         ensures files { entered self.new ≡ entered self.old ++ file ∷ [] }
         ensures same { (lines : List Line) → coming self.new lines ≡ coming self.old lines }
+        ensures alike { Alike self.old self.new }
     {
         self.draft.enter(file);
     }
@@ -48,16 +54,19 @@ impl Layer {
         requires { 0 < length (entered self.old) }
         ensures files { entered self.new ≡ take (length (entered self.old) - 1) (entered self.old) }
         ensures same { (lines : List Line) → coming self.new lines ≡ coming self.old lines }
+        ensures alike { Alike self.old self.new }
     {
         self.draft.leave();
     }
 
     /// Takes an item of the file in. A fault is told, and the line that has it; `Memory` leaves all as it was, and the
-    /// item is lost.
+    /// item is lost. Where the line asks for another file, the caller enters it, or tells why not, before the next line.
     pub fn take(&mut self, item: Item) -> Result<Option<Include>, LayerStop>
         requires { 0 < length (entered self.old) }
         ensures files { entered self.new ≡ entered self.old }
         ensures means { Took self.old self.new (file_of_layer self.old) (Read (file_of_layer self.old) item) result }
+        ensures asks { Asks self.old self.new (Read (file_of_layer self.old) item) result }
+        ensures bans { Bans self.old self.new (Read (file_of_layer self.old) item) result }
     {
         self.draft.take(item)
     }
@@ -68,6 +77,7 @@ impl Layer {
         requires { 0 < length (entered self.old) }
         ensures files { entered self.new ≡ entered self.old }
         ensures means { (f : Fault) (lines : List Line) → coming self.old (Spoiled f ∷ lines) ≡ (told (f ∷ []) and coming self.new lines) }
+        ensures passes { (f : Fault) → Passes self.old self.new (Spoiled f) }
     {
         self.draft.spoil(line);
     }
@@ -80,8 +90,16 @@ impl Layer {
         ensures means { MatchOption result
             ((lines : List Line) → coming self.old (End (file_of_layer self.old) ∷ lines) ≡ coming self.new lines)
             (λ r. (lines : List Line) → coming self.old (End (file_of_layer self.old) ∷ lines) ≡ (told (conf (file_of_layer self.old) r.1 r.0 ∷ []) and coming self.new lines)) }
+        ensures passes { Passes self.old self.new (End (file_of_layer self.old)) }
     {
         self.draft.close_file()
+    }
+
+    /// The taboo list behind the lines that were taken.
+    pub fn taboo(&self) -> &Taboo
+        ensures { result.now ≡ banning self.now [] }
+    {
+        self.draft.taboo()
     }
 
     /// The rules and the notices of all that was taken.

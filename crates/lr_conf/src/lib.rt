@@ -12,7 +12,7 @@
 //! line says by itself is `lr_forms::say`.
 //!
 //! ```text
-//! let mut layer = Layer::new(alloc)?;
+//! let mut layer = Layer::new(alloc, Built::SoFar)?;
 //! layer.enter(file);
 //! // each item of a `lr_lex::Lexer`
 //! layer.take(item)?;
@@ -24,6 +24,7 @@
 //! ```
 #![tactic(auto)]
 
+mod copies;
 mod draft;
 mod fields;
 mod files;
@@ -33,6 +34,7 @@ mod layer;
 mod outside;
 mod place;
 mod stop;
+mod taboo;
 mod taking;
 
 pub use laws::{last_count, last_criterion, rules_are_plain, rules_meet_limits};

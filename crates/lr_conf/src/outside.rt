@@ -1,14 +1,16 @@
 // Lines outside definitions.
-ghost use Rattle.std.specs.Prelude.{◌≡◌, ◌<◌, ◌∷◌, ◌++◌, [], Some, IfOk, OnOk, OnErr, length};
+ghost use Rattle.std.specs.Prelude.{◌≡◌, ◌<◌, [], IfOk, OnOk, OnErr, length};
 ghost use Rattle.lr_conf.specs.declared.place.Place.TheVariants as place;
 ghost use Rattle.lr_forms.specs.declared.said.Said.TheVariants as says;
 ghost use Rattle.lr_conf.specs.Meaning.{stands};
-ghost use Rattle.lr_conf.specs.Draft.{Speaks, Noticed, SameRest, Aside, Unchanged, fields_at, Settled, stray_kind, answer_of, file_of_draft, files_of, without_names, state_of};
+ghost use Rattle.lr_conf.specs.Internal.Draft.{Speaks, Noticed, Banned, SameRest, Aside, Unchanged, fields_at, Settled, stray_kind, answer_of, asking_answer, file_of_draft, files_of, without_names, state_of};
 
+use crate::copies::copy_fields;
 use crate::draft::Draft;
-use crate::fields::{Fields, copy_fields, set_field};
+use crate::fields::{Fields, set_field};
 use crate::place::Place;
 use crate::stop::{Include, LayerStop};
+use crate::taboo::change_taboo;
 use lr_forms::{Said, Set};
 use lr_rules::{ConfKind, Listed, Memory, Notice, Path, Phase, Text};
 use lr_words::TabooItems;
@@ -25,6 +27,16 @@ fn answer(first: Option<u32>, at: u32, own: Option<ConfKind>) -> Result<Option<I
     }
 }
 
+/// The answer that asks for a file, and tells NoBrace at the first line, if there is one.
+fn asking_answer(first: Option<u32>, include: Include) -> Result<Option<Include>, LayerStop>
+    ensures { result ≡ asking_answer first include }
+{
+    match first {
+        None => Ok(Some(include)),
+        Some(first) => Err(LayerStop::NoBraceThen(first, include)),
+    }
+}
+
 /// A `}` is stray where no names are pending.
 fn stray_kind(first: &Option<u32>) -> Option<ConfKind>
     ensures { result ≡ stray_kind first.now }
@@ -36,17 +48,17 @@ fn stray_kind(first: &Option<u32>) -> Option<ConfKind>
 }
 
 impl Draft {
-    /// Gives the notice of a word that is passed over.
-    pub(crate) fn notice(&mut self, at: u32, word: Text) -> Result<(), Memory>
+    /// Gives the notice of a word that is passed over, or of words that name an owner.
+    pub(crate) fn notice(&mut self, at: u32, word: Option<Text>) -> Result<(), Memory>
         requires { 0 < length (files_of self.old) }
-        ensures ok { OnOk result (Noticed self.old self.new (record { file = file_of_draft self.old; line = at; word = Some word })) }
+        ensures ok { OnOk result (Noticed self.old self.new (record { file = file_of_draft self.old; line = at; word = word })) }
         ensures err { OnErr result (Unchanged self.old self.new) }
     {
         let file = self.files.top().copy(self.alloc)?;
         self.notices.push(Notice {
             file,
             line: at,
-            word: Some(word),
+            word,
         })?;
         Ok(())
     }
@@ -72,6 +84,16 @@ impl Draft {
         }
     }
 
+    // A definition begins with these fields, and without scripts.
+    fn begin(&mut self, fields: Fields)
+        ensures state { state_of self.new ≡ record (state_of self.old) { place = place.Good; fields = fields; scripts = [] } }
+        ensures rest { SameRest self.old self.new }
+    {
+        self.scripts.clear();
+        self.fields = fields;
+        self.place = Place::Good;
+    }
+
     /// Names of logs.
     fn names(
         &mut self,
@@ -85,8 +107,7 @@ impl Draft {
         let begun = self.fields_at(brace)?;
         self.words.append(&mut names.into_vec())?;
         if let Some(fields) = begun {
-            self.fields = fields;
-            self.place = Place::Good;
+            self.begin(fields);
         }
         if self.first.is_none() {
             self.first = Some(at);
@@ -107,8 +128,8 @@ impl Draft {
             return Err(LayerStop::Conf(at, ConfKind::Stray));
         }
         if brace {
-            self.fields = copy_fields(self.alloc, &self.defaults)?;
-            self.place = Place::Good;
+            let fields = copy_fields(self.alloc, &self.defaults)?;
+            self.begin(fields);
         }
         Ok(None)
     }
@@ -125,20 +146,61 @@ impl Draft {
         Err(LayerStop::Conf(at, kind))
     }
 
-    /// A directive, or a `}`: names that are pending have no brace. A brace opens a definition that is dropped.
-    fn leave_names(
-        &mut self,
-        at: u32,
-        brace: bool,
-        own: Option<ConfKind>,
-    ) -> Result<Option<Include>, LayerStop>
+    // Lets go of pending names, which have no brace, and gives the line of the first. A brace opens a definition that is
+    // dropped.
+    fn leave_names(&mut self, brace: bool) -> Option<u32>
         requires { self.old.place ≡ place.Outside }
-        ensures { Settled self.old self.new at brace own result }
+        ensures first { result ≡ self.old.first }
+        ensures settled { Settled self.old self.new brace }
     {
         let first = self.settle();
         if brace {
             self.place = Place::Dropped;
         }
+        first
+    }
+
+    // A directive that says nothing, or has this fault.
+    #[tactic(auto, using(crate::proofs::Spoken::bad))]
+    fn bad(&mut self, at: u32, brace: bool, kind: ConfKind) -> Result<Option<Include>, LayerStop>
+        requires { self.old.place ≡ place.Outside }
+        ensures { Speaks self.old self.new (file_of_draft self.old) (stands at brace (says.Bad kind)) result }
+    {
+        answer(self.leave_names(brace), at, Some(kind))
+    }
+
+    #[tactic(auto, using(crate::proofs::Spoken::quiet))]
+    fn quiet(&mut self, at: u32, brace: bool) -> Result<Option<Include>, LayerStop>
+        requires { self.old.place ≡ place.Outside }
+        ensures { Speaks self.old self.new (file_of_draft self.old) (stands at brace says.Quiet) result }
+    {
+        answer(self.leave_names(brace), at, None)
+    }
+
+    // A script, which stands in definitions alone: no line says one here.
+    #[tactic(auto, using(crate::proofs::Spoken::script))]
+    fn lone_script(
+        &mut self,
+        at: u32,
+        brace: bool,
+        _phase: Phase,
+        _text: Text,
+        _stray: bool,
+    ) -> Result<Option<Include>, LayerStop>
+        requires { self.old.place ≡ place.Outside }
+        ensures { Speaks self.old self.new (file_of_draft self.old) (stands at brace (says.Script _phase _text _stray)) result }
+    {
+        answer(self.leave_names(brace), at, None)
+    }
+
+    /// A `}`.
+    #[tactic(auto, using(crate::proofs::Spoken::close))]
+    fn lone_close(&mut self, at: u32, brace: bool) -> Result<Option<Include>, LayerStop>
+        requires { self.old.place ≡ place.Outside }
+        ensures { Speaks self.old self.new (file_of_draft self.old) (stands at brace says.Close) result }
+    {
+        let first = self.leave_names(brace);
+        let own = stray_kind(&first);
         answer(first, at, own)
     }
 
@@ -149,58 +211,62 @@ impl Draft {
         requires files { 0 < length (files_of self.old) }
         ensures { Speaks self.old self.new (file_of_draft self.old) (stands at brace (says.Passed word)) result }
     {
-        self.notice(at, word)?;
-        self.leave_names(at, brace, None)
+        self.notice(at, Some(word))?;
+        answer(self.leave_names(brace), at, None)
     }
 
-    // So far no line says one of these.
+    /// A directive that sets a default.
+    #[tactic(auto, using(crate::proofs::Spoken::sets))]
+    fn sets(&mut self, at: u32, brace: bool, set: Set) -> Result<Option<Include>, LayerStop>
+        requires { self.old.place ≡ place.Outside }
+        ensures { Speaks self.old self.new (file_of_draft self.old) (stands at brace (says.Sets set)) result }
+    {
+        set_field(&mut self.defaults, set);
+        answer(self.leave_names(brace), at, None)
+    }
+
+    /// One with words of an owner, which are passed over.
     #[tactic(auto, using(crate::proofs::Spoken::owner))]
-    fn owner(&mut self, at: u32, brace: bool, _set: Set) -> Result<Option<Include>, LayerStop>
+    fn sets_owned(&mut self, at: u32, brace: bool, set: Set) -> Result<Option<Include>, LayerStop>
         requires place { self.old.place ≡ place.Outside }
         requires files { 0 < length (files_of self.old) }
-        ensures { Speaks self.old self.new (file_of_draft self.old) (stands at brace (says.OwnerPassed _set)) result }
+        ensures { Speaks self.old self.new (file_of_draft self.old) (stands at brace (says.OwnerPassed set)) result }
     {
-        self.leave_names(at, brace, None)
+        self.notice(at, None)?;
+        set_field(&mut self.defaults, set);
+        answer(self.leave_names(brace), at, None)
     }
 
-    #[tactic(auto, using(crate::proofs::Spoken::script))]
-    fn script(
-        &mut self,
-        at: u32,
-        brace: bool,
-        _phase: Phase,
-        _text: Text,
-        _stray: bool,
-    ) -> Result<Option<Include>, LayerStop>
-        requires place { self.old.place ≡ place.Outside }
-        requires files { 0 < length (files_of self.old) }
-        ensures { Speaks self.old self.new (file_of_draft self.old) (stands at brace (says.Script _phase _text _stray)) result }
-    {
-        self.leave_names(at, brace, None)
-    }
-
+    /// Another file.
     #[tactic(auto, using(crate::proofs::Spoken::include))]
-    fn include(&mut self, at: u32, brace: bool, _path: Path) -> Result<Option<Include>, LayerStop>
-        requires place { self.old.place ≡ place.Outside }
-        requires files { 0 < length (files_of self.old) }
-        ensures { Speaks self.old self.new (file_of_draft self.old) (stands at brace (says.Include _path)) result }
+    fn include(&mut self, at: u32, brace: bool, path: Path) -> Result<Option<Include>, LayerStop>
+        requires { self.old.place ≡ place.Outside }
+        ensures { Speaks self.old self.new (file_of_draft self.old) (stands at brace (says.Include path)) result }
     {
-        self.leave_names(at, brace, None)
+        asking_answer(self.leave_names(brace), Include { path, line: at })
     }
 
+    fn ban(&mut self, patterns: bool, items: TabooItems) -> Result<(), Memory>
+        ensures ok { OnOk result (Banned self.old self.new patterns items) }
+        ensures err { OnErr result (Unchanged self.old self.new) }
+    {
+        change_taboo(self.alloc, &mut self.taboo, patterns, items)
+    }
+
+    /// A list of what is taboo.
     #[tactic(auto, using(crate::proofs::Spoken::taboo))]
-    fn taboo(
+    fn taboos(
         &mut self,
         at: u32,
         brace: bool,
-        _patterns: bool,
-        _items: TabooItems,
+        patterns: bool,
+        items: TabooItems,
     ) -> Result<Option<Include>, LayerStop>
-        requires place { self.old.place ≡ place.Outside }
-        requires files { 0 < length (files_of self.old) }
-        ensures { Speaks self.old self.new (file_of_draft self.old) (stands at brace (says.Taboo _patterns _items)) result }
+        requires { self.old.place ≡ place.Outside }
+        ensures { Speaks self.old self.new (file_of_draft self.old) (stands at brace (says.Taboo patterns items)) result }
     {
-        self.leave_names(at, brace, None)
+        self.ban(patterns, items)?;
+        answer(self.leave_names(brace), at, None)
     }
 
     /// A line outside definitions.
@@ -219,21 +285,15 @@ impl Draft {
             Said::Open => self.open(at, brace),
             Said::Unknown => self.aside(at, brace, ConfKind::Unknown),
             Said::BadNames(kind) => self.aside(at, brace, kind),
-            Said::Bad(kind) => self.leave_names(at, brace, Some(kind)),
-            Said::Quiet => self.leave_names(at, brace, None),
-            Said::OwnerPassed(set) => self.owner(at, brace, set),
-            Said::Script { phase, text, stray } => self.script(at, brace, phase, text, stray),
-            Said::Include(path) => self.include(at, brace, path),
-            Said::Taboo { patterns, items } => self.taboo(at, brace, patterns, items),
-            Said::Close => {
-                let own = stray_kind(&self.first);
-                self.leave_names(at, brace, own)
-            }
-            Said::Sets(set) => {
-                set_field(&mut self.defaults, set);
-                self.leave_names(at, brace, None)
-            }
+            Said::Bad(kind) => self.bad(at, brace, kind),
+            Said::Quiet => self.quiet(at, brace),
+            Said::Close => self.lone_close(at, brace),
+            Said::Sets(set) => self.sets(at, brace, set),
+            Said::OwnerPassed(set) => self.sets_owned(at, brace, set),
             Said::Passed(word) => self.pass_over(at, brace, word),
+            Said::Script { phase, text, stray } => self.lone_script(at, brace, phase, text, stray),
+            Said::Include(path) => self.include(at, brace, path),
+            Said::Taboo { patterns, items } => self.taboos(at, brace, patterns, items),
         }
     }
 }

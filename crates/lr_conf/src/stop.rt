@@ -9,14 +9,17 @@ pub struct Include {
     pub line: u32,
 }
 
-/// Why a line gives no more than its notices. Each fault stands with its line.
-#[derive(Clone, Copy)]
+/// Why a line gives no more than its notices, or no more than these and another file. Each fault stands with its line.
+#[derive(Drop)]
 pub enum LayerStop {
     /// One fault.
     Conf(u32, ConfKind),
     /// Names have no brace, the first of which stands in the line that comes first here; and the line that shows this
     /// has a fault of its own.
     NoBraceAnd(u32, u32, ConfKind),
+    /// Names have no brace, the first of which stands in this line; and the line that shows this asks for another file,
+    /// which is to be read all the same.
+    NoBraceThen(u32, Include),
     /// Want of memory, by which nothing is changed.
     Memory,
 }

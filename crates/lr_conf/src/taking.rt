@@ -2,12 +2,12 @@
 ghost use Rattle.std.specs.Prelude.{◌≡◌, ◌<◌, length};
 ghost use Rattle.lr_conf.specs.declared.place.Place.TheVariants as place;
 ghost use Rattle.lr_conf.specs.Meaning.{Read};
-ghost use Rattle.lr_conf.specs.Draft.{Steps, EndsFile, file_of_draft, files_of};
+ghost use Rattle.lr_conf.specs.Internal.Draft.{Steps, EndsFile, file_of_draft, files_of};
 
 use crate::draft::Draft;
 use crate::place::Place;
 use crate::stop::{Include, LayerStop};
-use lr_forms::{Built, closes, has_brace, line_of, say};
+use lr_forms::{closes, has_brace, line_of, say};
 use lr_lex::Item;
 use lr_rules::ConfKind;
 
@@ -19,7 +19,7 @@ impl Draft {
     {
         let at = line_of(&item);
         let brace = has_brace(&item);
-        let said = say(self.alloc, item, false, Built::SoFar)?;
+        let said = say(self.alloc, item, false, self.built)?;
         self.outside(at, brace, said)
     }
 
@@ -32,7 +32,7 @@ impl Draft {
             return self.close();
         }
         let at = line_of(&item);
-        let said = say(self.alloc, item, true, Built::SoFar)?;
+        let said = say(self.alloc, item, true, self.built)?;
         self.inside(at, said)
     }
 

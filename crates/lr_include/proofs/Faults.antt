@@ -12,9 +12,8 @@ use Rattle.lr_forms.specs.declared.set.Set.{Set}
 use Rattle.lr_forms.specs.declared.said.Said.{Said}
 use Rattle.lr_forms.specs.declared.said.Said.TheVariants as says
 use Rattle.lr_forms.specs.declared.built.Built.TheVariants as built
-use Rattle.lr_forms.specs.Says.{said, line_of}
 use Rattle.lr_conf.specs.Fields.{fields_of}
-use Rattle.lr_conf.specs.Meaning.{Line, Read, Spoiled, End, Past, stands, spoiled, Meaning, nothing, conf, file_of, first_pending, words_pending, words_with, settings, opened, opens, past, before, through, behind, ends, drops, set_in, fault_of, fault_in, spoilt_fault, at_line, left_names, stray_at, own_fault, line_faults, of_end, of_body, of_spoilt, of_opening, meaning}
+use Rattle.lr_conf.specs.Meaning.{Line, Read, Spoiled, End, Past, stands, spoiled, Meaning, nothing, conf, file_of, first_pending, words_pending, words_with, settings, opened, opens, past, before, through, behind, ends, Within, states, broken, left_open, within, body_of, drops, set_in, fault_of, fault_in, broken_fault, spoilt_fault, told, at_line, left_names, stray_at, own_fault, line_faults, of_end, of_body, of_opening, meaning}
 use Rattle.lr_conf.proofs.Each.{append, front, Given, one_more, mapped}
 use Rattle.lr_host.specs.declared.entry.Entry.{Entry}
 use Rattle.lr_include.specs.Lines.{conf_kind, lines_told, lines_of, whole_lines, whole_means, cut_means, bytes_mean}
@@ -30,7 +29,7 @@ abbrev IsFinePast : Past → Type 0
 IsFinePast (spoiled f) = IsConf f
 IsFinePast p = Unit {0}
 
-past_fine : (e : Line) → IsFine e → IsFinePast (past e)
+past_fine : (e : Line) → IsFine e → IsFinePast (past built.SoFar e)
 past_fine (Read file i) ok = tt
 past_fine (Spoiled f) ok = ok
 past_fine (End file) ok = tt
@@ -61,10 +60,29 @@ said_fine file at says.Unknown = tt
 said_fine file at (says.Bad k) = tt
 said_fine file at v = tt
 
-inside_fine : (e : Line) → IsFine e → Given IsConf (fault_in e)
-inside_fine (Read file i) ok = said_fine file (line_of i) (said built.SoFar true i)
-inside_fine (Spoiled f) ok = ok
-inside_fine (End file) ok = tt
+-- in a definition
+abbrev IsFineWithin : Within → Type 0
+IsFineWithin (broken f) = IsConf f
+IsFineWithin w = Unit {0}
+
+within_fine : (earlier : List Line) (e : Line) → IsFine e → IsFineWithin (within built.SoFar earlier e)
+within_fine earlier (Read file i) ok = tt
+within_fine earlier (Spoiled f) ok = ok
+within_fine earlier (End file) ok = tt
+
+lines_fine : (earlier es : List Line) → Each IsFine es → Each IsFineWithin (body_of built.SoFar earlier es)
+lines_fine earlier [] ok = tt
+lines_fine earlier (e ∷ es) ok = (within_fine earlier e ok.0, lines_fine (earlier ++ e ∷ []) es ok.1)
+
+inside_fine : (w : Within) → IsFineWithin w → Given IsConf (fault_in w)
+inside_fine (states file at v) ok = said_fine file at v
+inside_fine (broken f) ok = ok
+inside_fine left_open ok = tt
+
+broken_fine : (w : Within) → IsFineWithin w → Given IsConf (broken_fault w)
+broken_fine (states file at v) ok = tt
+broken_fine (broken f) ok = ok
+broken_fine left_open ok = tt
 
 spoilt_fine : (e : Line) → IsFine e → Given IsConf (spoilt_fault e)
 spoilt_fine (Read file i) ok = tt
@@ -103,32 +121,35 @@ end_fine at words f (Some (Read file i)) = tt
 end_fine at words f (Some (Spoiled e)) = tt
 end_fine at words f (Some (End file)) = (tt, tt)
 
-body_fine : (o : Option ℕ) (words : List (List ℕ)) (vs : List Set) (es : List Line) → Each IsFine es → Faults (of_body o words vs es)
+body_fine : (o : Option ℕ) (words : List (List ℕ)) (vs : List Set) (es : List Line) → Each IsFine es → Faults (of_body built.SoFar o words vs es)
 body_fine None words vs es ok = mapped IsFine IsConf spoilt_fault spoilt_fine (before ends es) (front IsFine ends es ok)
 body_fine (Some at) words vs es ok =
-    let body = before ends es in
-    let fine : Each IsFine body = front IsFine ends es ok in
+    let body = body_of built.SoFar [] (before ends es) in
+    let fine : Each IsFineWithin body = lines_fine [] (before ends es) (front IsFine ends es ok) in
     let f = fields_of (vs ++ filter_map set_in body) in
-    append IsConf (filter_map fault_in (through drops body)) (cond (list_any drops body) (of_spoilt (behind drops body)) (of_end at words f (find ends es))).faults
-    (mapped IsFine IsConf fault_in inside_fine (through drops body) (through_each IsFine drops body fine))
-    (either (list_any drops body) (of_spoilt (behind drops body)) (of_end at words f (find ends es))
-    (mapped IsFine IsConf spoilt_fault spoilt_fine (behind drops body) (behind_each IsFine drops body fine)) (end_fine at words f (find ends es)))
+    let rest = told (filter_map broken_fault (behind drops body)) in
+    append IsConf (filter_map fault_in (through drops body)) (cond (list_any drops body) rest (of_end at words f (find ends es))).faults
+    (mapped IsFineWithin IsConf fault_in inside_fine (through drops body) (through_each IsFineWithin drops body fine))
+    (either (list_any drops body) rest (of_end at words f (find ends es))
+    (mapped IsFineWithin IsConf broken_fault broken_fine (behind drops body) (behind_each IsFineWithin drops body fine)) (end_fine at words f (find ends es)))
 
-opening_fine : (out : List Past) (p : Past) (es : List Line) → Each IsFine es → Faults (of_opening out p es)
+opening_fine : (out : List Past) (p : Past) (es : List Line) → Each IsFine es → Faults (of_opening built.SoFar out p es)
 opening_fine out p es ok =
-    either (opens p) (of_body (opened (first_pending out) p) (words_with (words_pending out) p) (settings (out ++ p ∷ [])) es) nothing
+    either (opens p) (of_body built.SoFar (opened (first_pending out) p) (words_with (words_pending out) p) (settings (out ++ p ∷ [])) es) nothing
     (body_fine (opened (first_pending out) p) (words_with (words_pending out) p) (settings (out ++ p ∷ [])) es ok) tt
 
-pub meaning_fine : (es : List Line) (inside : Bool) (out : List Past) → Each IsFine es → Faults (meaning inside out es)
+pub meaning_fine : (es : List Line) (inside : Bool) (out : List Past) → Each IsFine es → Faults (meaning built.SoFar inside out es)
 meaning_fine [] true out ok = tt
 meaning_fine [] false out ok = tt
 meaning_fine (e ∷ es) true out ok =
-    either (ends e) (meaning false (out ++ past e ∷ []) es) (meaning true out es) (meaning_fine es false (out ++ past e ∷ []) ok.1) (meaning_fine es true out ok.1)
+    let p = past built.SoFar e in
+    either (ends e) (meaning built.SoFar false (out ++ p ∷ []) es) (meaning built.SoFar true out es) (meaning_fine es false (out ++ p ∷ []) ok.1) (meaning_fine es true out ok.1)
 meaning_fine (e ∷ es) false out ok =
-    append IsConf (line_faults (file_of e) (first_pending out) (past e)) ((of_opening out (past e) es).faults ++ (meaning (opens (past e)) (out ++ past e ∷ []) es).faults)
-    (line_fine (file_of e) (first_pending out) (past e) (past_fine e ok.0))
-    (append IsConf (of_opening out (past e) es).faults (meaning (opens (past e)) (out ++ past e ∷ []) es).faults
-    (opening_fine out (past e) es ok.1) (meaning_fine es (opens (past e)) (out ++ past e ∷ []) ok.1))
+    let p = past built.SoFar e in
+    append IsConf (line_faults (file_of e) (first_pending out) p) ((of_opening built.SoFar out p es).faults ++ (meaning built.SoFar (opens p) (out ++ p ∷ []) es).faults)
+    (line_fine (file_of e) (first_pending out) p (past_fine e ok.0))
+    (append IsConf (of_opening built.SoFar out p es).faults (meaning built.SoFar (opens p) (out ++ p ∷ []) es).faults
+    (opening_fine out p es ok.1) (meaning_fine es (opens p) (out ++ p ∷ []) ok.1))
 
 -- ---- bytes
 
@@ -147,7 +168,7 @@ whole_fine file bytes = meaning_fine (lines_of file bytes ++ End file ∷ []) fa
 cut_fine : (file : Path) (bytes : List ℕ) → Faults (cut_means file bytes)
 cut_fine file bytes =
     let lines : List Line = lines_of file (whole_lines (take 1048576 bytes)) in
-    append IsConf (meaning false [] lines).faults (conf file kind.TooBig 0 ∷ []) (meaning_fine lines false [] (told_fine file (items (whole_lines (take 1048576 bytes))))) (tt, tt)
+    append IsConf (meaning built.SoFar false [] lines).faults (conf file kind.TooBig 0 ∷ []) (meaning_fine lines false [] (told_fine file (items (whole_lines (take 1048576 bytes))))) (tt, tt)
 
 -- what bytes mean has the faults of the configuration alone
 pub bytes_fine : (file : Path) (bytes : List ℕ) → Faults (bytes_mean file bytes)

@@ -1,6 +1,6 @@
 -- How a reader goes on.
-use Rattle.std.proofs.Common.{◌≡◌, ℕ, List, [], ◌∷◌, ◌++◌, refl, sym, ap, ◌∙◌, append-nil, Option, Some, Result, Ok, Err, OnOk}
-use Rattle.std.specs.Prelude.{option_map, false}
+use Rattle.std.proofs.Common.{◌≡◌, ℕ, List, [], ◌∷◌, ◌++◌, refl, sym, ap, ◌∙◌, append-nil, append_assoc, Option, Some, Result, Ok, Err, OnOk}
+use Rattle.std.specs.Prelude.{option_map, false, ◌≢◌}
 use Rattle.std.specs.List.{cons_option}
 use Rattle.lr_rules.specs.declared.path.Path.{Path}
 use Rattle.lr_rules.specs.declared.fault.ConfKind.{ConfKind}
@@ -13,9 +13,13 @@ use Rattle.lr_lex.specs.declared.item.LexKind.{LexKind}
 use Rattle.lr_lex.specs.declared.item.LexKind.TheVariants as lex
 use Rattle.lr_lex.specs.Items.{Told}
 use Rattle.lr_lex.specs.Lexing.{ByKind}
+use Rattle.lr_forms.specs.declared.built.Built.TheVariants as built
 use Rattle.lr_conf.specs.Meaning.{Line, Read, Spoiled, End, Meaning, meaning, ◌and◌, told, conf}
 use Rattle.lr_conf.specs.declared.layer.Layer.{Layer}
-use Rattle.lr_conf.specs.Fold.{coming}
+use Rattle.lr_conf.specs.declared.stop.LayerStop.{LayerStop}
+use Rattle.lr_conf.specs.declared.stop.LayerStop.TheVariants as stop
+use Rattle.lr_conf.specs.Stops.{faults_of}
+use Rattle.lr_conf.specs.Fold.{coming, Took}
 use Rattle.lr_include.specs.declared.reader.Reader.{Reader}
 use Rattle.lr_include.specs.Lines.{conf_kind, lines_told, lines_of}
 use Rattle.lr_include.specs.Readers.{means}
@@ -32,6 +36,20 @@ fault_on file first old new start all rest f k before e is m lines =
     before lines ∙ (ap (λ ts. means old (lines_told file ts ++ lines)) e
     ∙ (ap (λ (o : Option ConfKind). means old (cons_option (option_map (λ c. Spoiled (conf file c f.line)) o) (lines_told file rest) ++ lines)) is
     ∙ m (lines_told file rest ++ lines)))
+
+-- faults of a line, told behind those before
+told_on : (old new : Reader) (faults : List Fault) (lines rest : List Line) → coming old.layer lines ≡ (told faults and coming new.layer rest) → new.faults.items ≡ old.faults.items ++ faults → means old lines ≡ means new rest
+told_on old new faults lines rest is f =
+    ap (λ m. told old.faults.items and m) is
+    ∙ ap (λ fs. record { rules = (coming new.layer rest).rules; notices = (coming new.layer rest).notices; faults = fs }) (sym (append_assoc old.faults.items faults (coming new.layer rest).faults) ∙ ap (λ fs. fs ++ (coming new.layer rest).faults) (sym f))
+
+-- the answer of a layer that took a line, with its faults told
+pub took : (old new : Reader) (file : Path) (e : Line) (answer : LayerStop) → Took old.layer new.layer file e (Err answer) → (answer ≢ stop.Memory)
+    → new.faults.items ≡ old.faults.items ++ faults_of file answer → (lines : List Line) → means old (e ∷ lines) ≡ means new lines
+took old new file e (stop.Conf at k) t m f lines = told_on old new (faults_of file (stop.Conf at k)) (e ∷ lines) lines (t lines) f
+took old new file e (stop.NoBraceAnd first at k) t m f lines = told_on old new (faults_of file (stop.NoBraceAnd first at k)) (e ∷ lines) lines (t lines) f
+took old new file e (stop.NoBraceThen first i) t m f lines = told_on old new (faults_of file (stop.NoBraceThen first i)) (e ∷ lines) lines (t lines) f
+took old new file e stop.Memory t m f lines = absurd (m refl)
 
 -- nothing is left
 pub all_on : (file : Path) (first new : Reader) (start all rest : List Told) → ((lines : List Line) → means first (lines_told file start ++ lines) ≡ means new (lines_told file rest ++ lines)) → start ≡ all → rest ≡ []
@@ -65,15 +83,15 @@ none_told : (k : Layer) → (coming k []).faults ≡ []
 none_told k = refl
 
 -- A file that was read to its end.
-pub whole_on : (file : Path) (bytes : List ℕ) (a b d : Reader) → ((lines : List Line) → means a lines ≡ meaning false [] lines) → ((lines : List Line) → means a (lines_of file bytes ++ lines) ≡ means b lines) → ((lines : List Line) → means b (End file ∷ lines) ≡ means d lines)
-    → means d [] ≡ meaning false [] (lines_of file bytes ++ End file ∷ [])
+pub whole_on : (file : Path) (bytes : List ℕ) (a b d : Reader) → ((lines : List Line) → means a lines ≡ meaning built.SoFar false [] lines) → ((lines : List Line) → means a (lines_of file bytes ++ lines) ≡ means b lines) → ((lines : List Line) → means b (End file ∷ lines) ≡ means d lines)
+    → means d [] ≡ meaning built.SoFar false [] (lines_of file bytes ++ End file ∷ [])
 whole_on file bytes a b d new taken closed = sym (closed []) ∙ (sym (taken (End file ∷ [])) ∙ new (lines_of file bytes ++ End file ∷ []))
 
 -- One that was cut, with its fault.
-pub cut_on : (file : Path) (bytes lines : List ℕ) (f : Fault) (a b d : Reader) → lines ≡ bytes → ((lines : List Line) → means a lines ≡ meaning false [] lines) → ((ls : List Line) → means a (lines_of file lines ++ ls) ≡ means b ls)
-    → d.layer ≡ b.layer → d.faults.items ≡ b.faults.items ++ f ∷ [] → means d [] ≡ (meaning false [] (lines_of file bytes) and told (f ∷ []))
+pub cut_on : (file : Path) (bytes lines : List ℕ) (f : Fault) (a b d : Reader) → lines ≡ bytes → ((lines : List Line) → means a lines ≡ meaning built.SoFar false [] lines) → ((ls : List Line) → means a (lines_of file lines ++ ls) ≡ means b ls)
+    → d.layer ≡ b.layer → d.faults.items ≡ b.faults.items ++ f ∷ [] → means d [] ≡ (meaning built.SoFar false [] (lines_of file bytes) and told (f ∷ []))
 cut_on file bytes lines f a b d is new taken same e =
     ap (λ (k : Layer). told d.faults.items and coming k []) same
     ∙ (ap (λ (fs : List Fault). told fs and coming b.layer []) e
     ∙ (told_last b.faults.items (coming b.layer []) f (none_told b.layer)
-    ∙ ap (λ (m : Meaning). m and told (f ∷ [])) (sym (taken []) ∙ (new (lines_of file lines ++ []) ∙ ap (meaning false []) (append-nil (lines_of file lines) ∙ ap (lines_of file) is)))))
+    ∙ ap (λ (m : Meaning). m and told (f ∷ [])) (sym (taken []) ∙ (new (lines_of file lines ++ []) ∙ ap (meaning built.SoFar false []) (append-nil (lines_of file lines) ∙ ap (lines_of file) is)))))

@@ -8,6 +8,7 @@ use Rattle.lr_lex.specs.declared.item.LexKind.{LexKind}
 use Rattle.lr_lex.specs.declared.item.LexKind.TheVariants as lex
 use Rattle.lr_lex.specs.Items.{Told, items}
 use Rattle.lr_lex.specs.Pieces.{has_line}
+use Rattle.lr_forms.specs.declared.built.Built.TheVariants as built
 use Rattle.lr_conf.specs.Meaning.{Line, Read, Spoiled, End, Meaning, meaning, ◌and◌, told, conf}
 
 -- ---- the lines of a file
@@ -48,12 +49,12 @@ pub record LinesEnd (bytes : List ℕ) (end : ℕ) : Type 0 where
 
 -- a file that is read to its end
 abbrev pub whole_means : Path → List ℕ → Meaning
-whole_means file bytes = meaning false [] (lines_of file bytes ++ End file ∷ [])
+whole_means file bytes = meaning built.SoFar false [] (lines_of file bytes ++ End file ∷ [])
 
 -- A file with more bytes than are read: the whole lines among the first 1,048,576 of them. It has no end there, so a
 -- definition that is open gives nothing.
 abbrev pub cut_means : Path → List ℕ → Meaning
-cut_means file bytes = meaning false [] (lines_of file (whole_lines (take 1048576 bytes))) and told (conf file kind.TooBig 0 ∷ [])
+cut_means file bytes = meaning built.SoFar false [] (lines_of file (whole_lines (take 1048576 bytes))) and told (conf file kind.TooBig 0 ∷ [])
 
 abbrev pub bytes_mean : Path → List ℕ → Meaning
 bytes_mean file bytes = if nat_lt 1048576 (length bytes) then cut_means file bytes else whole_means file bytes

@@ -2,6 +2,7 @@
 use Rattle.std.specs.Prelude.{◌≡◌, List, [], false}
 use Rattle.lr_rules.specs.declared.fault.Fault.{Fault}
 use Rattle.lr_rules.specs.declared.fault.Fault.TheVariants as fault
+use Rattle.lr_forms.specs.declared.built.Built.TheVariants as built
 use Rattle.lr_conf.specs.Meaning.{Line, Meaning, meaning, ◌and◌, told}
 use Rattle.lr_conf.specs.Fold.{coming}
 use Rattle.lr_include.specs.declared.reader.Reader.{Reader}
@@ -13,7 +14,7 @@ means r lines = told r.faults.items and coming r.layer lines
 
 -- it took no line so far
 abbrev pub IsFresh : Reader → Type 0
-IsFresh r = (lines : List Line) → means r lines ≡ meaning false [] lines
+IsFresh r = (lines : List Line) → means r lines ≡ meaning built.SoFar false [] lines
 
 -- what a reading holds
 abbrev pub meaning_of : Reading → Meaning

@@ -1,13 +1,16 @@
 // Reading the lines of a file.
-ghost use Rattle.std.specs.Prelude.{◌≡◌, ◌<◌, ◌^◌, List, [], ◌∷◌, ◌++◌, All, length, IfOk, OnOk};
+ghost use Rattle.std.specs.Prelude.{◌≡◌, ◌≢◌, ◌<◌, ◌^◌, List, [], ◌∷◌, ◌++◌, All, length, IfOk, OnOk};
 ghost use Rattle.lr_conf.specs.Meaning.{Line, Read, Spoiled, End, conf};
+ghost use Rattle.lr_conf.specs.declared.stop.LayerStop.TheVariants as stop;
 ghost use Rattle.lr_conf.specs.Fold.{entered};
+ghost use Rattle.lr_conf.specs.Stops.{faults_of};
 ghost use Rattle.lr_include.specs.Lines.{lines_of};
 ghost use Rattle.lr_include.specs.Readers.{means, meaning_of, IsConf, IsFresh};
 
 use crate::kind::conf_kind;
 use crate::reading::Reading;
 use lr_conf::{Layer, LayerStop};
+use lr_forms::Built;
 use lr_lex::{Item, Lexer};
 use lr_rules::{ConfKind, Fault, Listed, Memory, Path};
 use std::alloc::Global;
@@ -28,7 +31,7 @@ impl Reader {
         ensures none { IfOk result (λ r. r.faults.items ≡ []) }
     {
         let file = file.copy(alloc)?;
-        let mut layer = Layer::new(alloc)?;
+        let mut layer = Layer::new(alloc, Built::SoFar)?;
         layer.enter(file);
         Ok(Reader {
             alloc,
@@ -48,7 +51,40 @@ impl Reader {
         Ok(())
     }
 
+    // Tells two faults of the file.
+    fn tell_both(
+        &mut self,
+        file: &Path,
+        first: u32,
+        line: u32,
+        kind: ConfKind,
+    ) -> Result<(), Memory>
+        ensures layer { self.new.layer ≡ self.old.layer }
+        ensures told { OnOk result (self.new.faults.items ≡ self.old.faults.items ++ faults_of file.now (stop.NoBraceAnd first line kind)) }
+        ensures kinds { OnOk result (All IsConf self.old.faults.items → All IsConf self.new.faults.items) }
+    {
+        self.tell(file, first, ConfKind::NoBrace)?;
+        self.tell(file, line, kind)
+    }
+
+    // Tells the faults of an answer, if it isn't want of memory.
+    fn tell_stop(&mut self, file: &Path, answer: LayerStop) -> Result<(), Memory>
+        ensures layer { self.new.layer ≡ self.old.layer }
+        ensures told { OnOk result (self.new.faults.items ≡ self.old.faults.items ++ faults_of file.now answer) }
+        ensures kinds { OnOk result (All IsConf self.old.faults.items → All IsConf self.new.faults.items) }
+        ensures memory { OnOk result (answer ≢ stop.Memory) }
+    {
+        match answer {
+            LayerStop::Conf(line, kind) => self.tell(file, line, kind),
+            LayerStop::NoBraceAnd(first, line, kind) => self.tell_both(file, first, line, kind),
+            // So far no line asks for another file.
+            LayerStop::NoBraceThen(first, _) => self.tell(file, first, ConfKind::NoBrace),
+            LayerStop::Memory => Err(Memory),
+        }
+    }
+
     /// Takes an item of the file in, and tells its faults.
+    #[tactic(auto, using(crate::proofs::Readers::took))]
     pub fn take(&mut self, file: &Path, item: Item) -> Result<(), Memory>
         requires { entered self.old.layer ≡ file.now ∷ [] }
         ensures files { entered self.new.layer ≡ entered self.old.layer }
@@ -57,12 +93,7 @@ impl Reader {
     {
         match self.layer.take(item) {
             Ok(_) => Ok(()),
-            Err(LayerStop::Conf(line, kind)) => self.tell(file, line, kind),
-            Err(LayerStop::NoBraceAnd(first, line, kind)) => {
-                self.tell(file, first, ConfKind::NoBrace)?;
-                self.tell(file, line, kind)
-            }
-            Err(LayerStop::Memory) => Err(Memory),
+            Err(answer) => self.tell_stop(file, answer),
         }
     }
 

@@ -1,4 +1,4 @@
-use Rattle.lr_conf.specs.Draft.{file_of_draft}
+use Rattle.lr_conf.specs.Internal.Draft.{file_of_draft}
 use Rattle.lr_conf.proofs.Limits.{behind_end}
 use Rattle.lr_conf.proofs.layer.Layer.close_file.Goals as goal
 

@@ -1,5 +1,5 @@
 use Rattle.lr_conf.specs.Meaning.{Read}
-use Rattle.lr_conf.specs.Draft.{file_of_draft}
+use Rattle.lr_conf.specs.Internal.Draft.{file_of_draft}
 use Rattle.lr_conf.proofs.Limits.{behind_line}
 use Rattle.lr_conf.proofs.layer.Layer.take.Goals as goal
 

@@ -1,0 +1,160 @@
+-- Which files lines ask for, and what they make taboo, line by line.
+use Rattle.std.proofs.Common.{◌≡◌, ℕ, Bool, true, false, not, cond, List, [], ◌∷◌, ◌++◌, Option, Some, None, Result, Ok, Err, refl, ap, sym, ◌∙◌}
+use Rattle.std.specs.List.{filter_map, cons_option}
+use Rattle.lr_rules.specs.declared.path.Path.{Path}
+use Rattle.lr_rules.specs.declared.fault.ConfKind.{ConfKind}
+use Rattle.lr_rules.specs.declared.fault.Fault.{Fault}
+use Rattle.lr_rules.specs.declared.fault.Phase.{Phase}
+use Rattle.lr_forms.specs.declared.built.Built.{Built}
+use Rattle.lr_forms.specs.declared.said.Said.{Said}
+use Rattle.lr_forms.specs.declared.said.Said.TheVariants as says
+use Rattle.lr_forms.specs.Says.{closes, said}
+use Rattle.lr_conf.specs.declared.draft.Draft.{Draft}
+use Rattle.lr_conf.specs.declared.fields.Fields.{Fields}
+use Rattle.lr_conf.specs.declared.place.Place.{Place}
+use Rattle.lr_conf.specs.declared.place.Place.TheVariants.{Outside, Good, Dropped}
+use Rattle.lr_conf.specs.declared.stop.Include.{Include}
+use Rattle.lr_conf.specs.declared.stop.LayerStop.{LayerStop}
+use Rattle.lr_conf.specs.declared.stop.LayerStop.TheVariants as stop
+use Rattle.lr_words.specs.declared.taboo.TabooItems.{TabooItems}
+use Rattle.lr_match.specs.declared.taboo.Taboo.{Taboo}
+use Rattle.lr_conf.specs.Meaning.{Line, Read, Spoiled, End, Past, stands, spoiled, file_ends, list_of, opened, opens, past, ends, script_fault, asks, asked, bans, after_bans, banned, outsiders}
+use Rattle.lr_conf.specs.Internal.Setting.{default_fields}
+use Rattle.lr_conf.specs.Internal.Draft.{State, spoken, turned, outside, scripted, with_said, good, dropped, left, step, is_inside, asks_at, bans_at, state_of, asking_from, banning_from, Stepped, Unchanged, Steps, AsksIn, BansIn}
+
+-- ---- where the next line stands
+
+abbrev inside_next : Built → Place → Line → Bool
+inside_next b Outside e = opens (past b e)
+inside_next b p e = not (ends e)
+
+abbrev st : Place → Fields → List (List ℕ) → Option ℕ → Fields → List Phase → State
+st place d ws first f ps = record { place = place; defaults = d; words = ws; first = first; fields = f; scripts = ps }
+
+turned_inside : (o : Option ℕ) (s : State) → is_inside (turned true o s).place ≡ true
+turned_inside None s = refl
+turned_inside (Some n) s = refl
+
+spoken_place : (s : State) (at : ℕ) (v : Said) → (spoken s at v).place ≡ s.place
+spoken_place s at (says.Sets v) = refl
+spoken_place s at says.Quiet = refl
+spoken_place s at (says.OwnerPassed v) = refl
+spoken_place s at (says.Script phase text stray) = refl
+spoken_place s at (says.Include path) = refl
+spoken_place s at (says.Taboo patterns items) = refl
+spoken_place s at (says.Passed word) = refl
+spoken_place s at (says.Names ws) = refl
+spoken_place s at says.Open = refl
+spoken_place s at says.Close = refl
+spoken_place s at says.Unknown = refl
+spoken_place s at (says.Bad k) = refl
+spoken_place s at (says.BadNames k) = refl
+
+outside_place : (s : State) (p : Past) → s.place ≡ Outside → is_inside (outside s p).place ≡ opens p
+outside_place s (stands at false v) is = ap is_inside (spoken_place s at v ∙ is)
+outside_place s (stands at true v) is = turned_inside (opened s.first (stands at true v)) (spoken s at v)
+outside_place s (spoiled f) is = ap is_inside is
+outside_place s file_ends is = ap is_inside is
+
+said_place : (b : Built) (s : State) (v : Said) → s.place ≡ Good → is_inside (with_said b s v).place ≡ true
+said_place b s (says.Sets v) is = ap is_inside is
+said_place b s says.Quiet is = ap is_inside is
+said_place b s (says.OwnerPassed v) is = ap is_inside is
+said_place b s (says.Script p text stray) is = by (script_fault b s.scripts p stray)
+  where
+    by : (o : Option ConfKind) → is_inside (scripted s p text o).place ≡ true
+    by None = ap is_inside is
+    by (Some k) = refl
+said_place b s (says.Include path) is = ap is_inside is
+said_place b s (says.Taboo patterns items) is = ap is_inside is
+said_place b s (says.Passed word) is = ap is_inside is
+said_place b s (says.Names ws) is = ap is_inside is
+said_place b s says.Open is = ap is_inside is
+said_place b s says.Close is = ap is_inside is
+said_place b s says.Unknown is = ap is_inside is
+said_place b s (says.Bad k) is = refl
+said_place b s (says.BadNames k) is = ap is_inside is
+
+good_place : (b : Built) (s : State) (e : Line) → s.place ≡ Good → is_inside (good b s e).place ≡ not (ends e)
+good_place b s (Read file i) is = by (closes i)
+  where
+    by : (c : Bool) → is_inside (cond c (record s { place = Outside; words = []; first = None; fields = default_fields }) (with_said b s (said b true i))).place ≡ not c
+    by true = refl
+    by false = said_place b s (said b true i) is
+good_place b s (Spoiled f) is = refl
+good_place b s (End file) is = refl
+
+dropped_place : (s : State) (e : Line) → s.place ≡ Dropped → is_inside (dropped s e).place ≡ not (ends e)
+dropped_place s e is = by (ends e)
+  where
+    by : (c : Bool) → is_inside (cond c (left s) s).place ≡ not c
+    by true = refl
+    by false = ap is_inside is
+
+next_place : (b : Built) (p : Place) (s : State) (e : Line) → s.place ≡ p → is_inside (step b p s e).place ≡ inside_next b p e
+next_place b Outside s e is = outside_place s (past b e) is
+next_place b Good s e is = good_place b s e is
+next_place b Dropped s e is = dropped_place s e is
+
+-- ---- one line
+
+cons_is : {A : Type 0} (o : Option A) (xs : List A) → cons_option o xs ≡ list_of o ++ xs
+cons_is None xs = refl
+cons_is (Some x) xs = refl
+
+asked_one : (b : Built) (p : Place) (e : Line) (es : List Line) → asked b (is_inside p) (e ∷ es) ≡ list_of (asks_at b p e) ++ asked b (inside_next b p e) es
+asked_one b Outside e es = cons_is (asks (past b e)) (asked b (opens (past b e)) es)
+asked_one b Good e es = refl
+asked_one b Dropped e es = refl
+
+after_cons : (t : Taboo) (o : Option (Bool × TabooItems)) (cs : List (Bool × TabooItems)) → after_bans t (cons_option o cs) ≡ after_bans (after_bans t (list_of o)) cs
+after_cons t None cs = refl
+after_cons t (Some c) cs = refl
+
+banned_one : (b : Built) (p : Place) (t : Taboo) (e : Line) (es : List Line) → banned b (is_inside p) t (e ∷ es) ≡ banned b (inside_next b p e) (after_bans t (list_of (bans_at b p e))) es
+banned_one b Outside t e es = after_cons t (bans (past b e)) (filter_map bans (outsiders b (opens (past b e)) es))
+banned_one b Good t e es = refl
+banned_one b Dropped t e es = refl
+
+-- where it stands, as the draft has it
+behind : (old new : Draft) (e : Line) (faults : List Fault) (includes : List Include) → Stepped old new e faults includes → inside_next old.built old.place e ≡ is_inside new.place
+behind old new e faults includes s = sym (ap (λ t. is_inside t.place) s.state ∙ next_place old.built old.place (state_of old) e refl)
+
+asks_step : (old new : Draft) (e : Line) (faults : List Fault) (includes : List Include) → Stepped old new e faults includes → (lines : List Line) → asking_from old (e ∷ lines) ≡ includes ++ asking_from new lines
+asks_step old new e faults includes s lines =
+    asked_one old.built old.place e lines
+    ∙ ap (λ is. is ++ asked old.built (inside_next old.built old.place e) lines) s.includes_are
+    ∙ ap (λ c. includes ++ asked old.built c lines) (behind old new e faults includes s)
+    ∙ ap (λ b. includes ++ asked b (is_inside new.place) lines) (sym s.built)
+
+bans_step : (old new : Draft) (e : Line) (faults : List Fault) (includes : List Include) → Stepped old new e faults includes → (lines : List Line) → banning_from old (e ∷ lines) ≡ banning_from new lines
+bans_step old new e faults includes s lines =
+    banned_one old.built old.place old.taboo e lines
+    ∙ ap (λ t. banned old.built (inside_next old.built old.place e) t lines) (sym s.taboo)
+    ∙ ap (λ c. banned old.built c new.taboo lines) (behind old new e faults includes s)
+    ∙ ap (λ b. banned b (is_inside new.place) new.taboo lines) (sym s.built)
+
+asks_same : (old new : Draft) → Unchanged old new → (lines : List Line) → asking_from new lines ≡ asking_from old lines
+asks_same old new u lines = ap (λ t. asked new.built (is_inside t.place) lines) u.state ∙ ap (λ b. asked b (is_inside old.place) lines) u.table.built
+
+bans_same : (old new : Draft) → Unchanged old new → (lines : List Line) → banning_from new lines ≡ banning_from old lines
+bans_same old new u lines =
+    ap (λ t. banned new.built (is_inside t.place) new.taboo lines) u.state
+    ∙ ap (λ b. banned b (is_inside old.place) new.taboo lines) u.table.built
+    ∙ ap (λ t. banned old.built (is_inside old.place) t lines) u.table.taboo
+
+-- ---- answers
+
+pub asks_in : (old new : Draft) (file : Path) (e : Line) (r : Result (Option Include) LayerStop) → Steps old new file e r → AsksIn old new e r
+asks_in old new file e (Ok i) s = asks_step old new e _ _ s
+asks_in old new file e (Err stop.Memory) s = asks_same old new s
+asks_in old new file e (Err (stop.Conf at k)) s = asks_step old new e _ _ s
+asks_in old new file e (Err (stop.NoBraceAnd first at k)) s = asks_step old new e _ _ s
+asks_in old new file e (Err (stop.NoBraceThen first i)) s = asks_step old new e _ _ s
+
+pub bans_in : (old new : Draft) (file : Path) (e : Line) (r : Result (Option Include) LayerStop) → Steps old new file e r → BansIn old new e r
+bans_in old new file e (Ok i) s = bans_step old new e _ _ s
+bans_in old new file e (Err stop.Memory) s = bans_same old new s
+bans_in old new file e (Err (stop.Conf at k)) s = bans_step old new e _ _ s
+bans_in old new file e (Err (stop.NoBraceAnd first at k)) s = bans_step old new e _ _ s
+bans_in old new file e (Err (stop.NoBraceThen first i)) s = bans_step old new e _ _ s

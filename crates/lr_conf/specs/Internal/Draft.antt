@@ -1,0 +1,331 @@
+-- What a draft keeps, and how it takes a line in.
+use Rattle.std.specs.Prelude.{◌≡◌, ℕ, Bool, true, false, List, [], ◌∷◌, ◌++◌, Option, Some, None, Result, Ok, Err, if◌then◌else◌}
+use Rattle.lr_rules.specs.declared.path.Path.{Path}
+use Rattle.lr_rules.specs.declared.fault.ConfKind.{ConfKind}
+use Rattle.lr_rules.specs.declared.fault.ConfKind.TheVariants as kind
+use Rattle.lr_rules.specs.declared.fault.Fault.{Fault}
+use Rattle.lr_rules.specs.declared.fault.Notice.{Notice}
+use Rattle.lr_rules.specs.declared.fault.Phase.{Phase}
+use Rattle.lr_rules.specs.declared.rule.Rule.{Rule}
+use Rattle.lr_conf.specs.declared.fields.Fields.{Fields}
+use Rattle.lr_forms.specs.declared.built.Built.{Built}
+use Rattle.lr_forms.specs.declared.set.Set.TheVariants as set
+use Rattle.lr_forms.specs.declared.said.Said.{Said}
+use Rattle.lr_forms.specs.declared.said.Said.TheVariants as says
+use Rattle.lr_conf.specs.declared.place.Place.{Place}
+use Rattle.lr_conf.specs.declared.place.Place.TheVariants.{Outside, Good, Dropped}
+use Rattle.lr_conf.specs.declared.stop.Include.{Include}
+use Rattle.lr_conf.specs.declared.stop.LayerStop.{LayerStop}
+use Rattle.lr_conf.specs.declared.stop.LayerStop.TheVariants as stop
+use Rattle.lr_words.specs.declared.taboo.TabooItems.{TabooItems}
+use Rattle.lr_match.specs.declared.taboo.Taboo.{Taboo}
+use Rattle.lr_match.specs.Taboos.{taboo_after}
+use Rattle.lr_conf.specs.declared.draft.Draft.{Draft}
+use Rattle.lr_forms.specs.Says.{line_of, closes, said}
+use Rattle.lr_conf.specs.Fields.{last_or}
+use Rattle.lr_conf.specs.Meaning.{Line, file_of, Read, Spoiled, End, Past, stands, spoiled, file_ends, Meaning, ◌and◌, nothing, told, conf, list_of, of_line, of_spoilt, opened, or_line, past, ends, notice_of, notice_past, line_faults, fault_of, rule_of, script_fault, said_behind, asks, asked, bans, after_bans, banned}
+use Rattle.lr_conf.specs.Stops.{faults_of, include_of}
+use Rattle.lr_conf.specs.Internal.Setting.{default_fields, with_set}
+
+-- the fields that a definition begins with, where the line has a brace
+abbrev pub fields_at : Bool → Fields → Option Fields
+fields_at brace defaults = if brace then Some defaults else None
+
+-- ---- states
+
+-- In a definition: its words, the line of its first name, its fields so far, and which scripts stood in it. Outside: the
+-- names that are pending.
+pub record State : Type 0 where
+  pub place : Place
+  pub defaults : Fields
+  pub words : List (List ℕ)
+  pub first : Option ℕ
+  pub fields : Fields
+  pub scripts : List Phase
+
+abbrev pub without_names : State → State
+without_names s = record s { words = []; first = None }
+
+-- the state behind what a line says outside definitions, its brace aside
+abbrev pub spoken : State → ℕ → Said → State
+spoken s at (says.Names ws) = record s { words = s.words ++ ws; first = Some (or_line s.first at) }
+spoken s at says.Open = s
+spoken s at says.Unknown = s
+spoken s at (says.BadNames k) = s
+spoken s at (says.Sets v) = record s { defaults = with_set s.defaults v; words = []; first = None }
+spoken s at says.Quiet = without_names s
+spoken s at (says.OwnerPassed v) = record s { defaults = with_set s.defaults v; words = []; first = None }
+spoken s at (says.Script phase text stray) = without_names s
+spoken s at (says.Include path) = without_names s
+spoken s at (says.Taboo patterns items) = without_names s
+spoken s at (says.Passed word) = without_names s
+spoken s at says.Close = without_names s
+spoken s at (says.Bad k) = without_names s
+
+-- a brace opens a definition, with names or without
+abbrev pub turned : Bool → Option ℕ → State → State
+turned false o s = s
+turned true (Some at) s = record s { place = Good; fields = s.defaults; scripts = [] }
+turned true None s = record s { place = Dropped; words = []; first = None }
+
+abbrev pub outside : State → Past → State
+outside s (stands at brace v) = turned brace (opened s.first (stands at brace v)) (spoken s at v)
+outside s (spoiled f) = s
+outside s file_ends = without_names s
+
+-- behind the end of a definition
+abbrev pub left : State → State
+left s = record s { place = Outside; words = []; first = None }
+
+-- a script, with its fault or without
+abbrev pub scripted : State → Phase → List ℕ → Option ConfKind → State
+scripted s p text None = record s { fields = with_set s.fields (set.Script p text); scripts = s.scripts ++ p ∷ [] }
+scripted s p text (Some k) = record s { place = Dropped }
+
+abbrev pub with_said : Built → State → Said → State
+with_said b s (says.Sets v) = record s { fields = with_set s.fields v }
+with_said b s (says.OwnerPassed v) = record s { fields = with_set s.fields v }
+with_said b s (says.Script p text stray) = scripted s p text (script_fault b s.scripts p stray)
+with_said b s (says.Bad k) = record s { place = Dropped }
+with_said b s v = s
+
+abbrev pub good : Built → State → Line → State
+good b s (Read file i) = if closes i then record s { place = Outside; words = []; first = None; fields = default_fields } else with_said b s (said b true i)
+good b s (Spoiled f) = record s { place = Dropped }
+good b s (End file) = left s
+
+abbrev pub dropped : State → Line → State
+dropped s e = if ends e then left s else s
+
+abbrev pub step : Built → Place → State → Line → State
+step b Outside s e = outside s (past b e)
+step b Good s e = good b s e
+step b Dropped s e = dropped s e
+
+-- ---- what a line gives
+
+abbrev pub said_inside : Path → ℕ → Said → Meaning
+said_inside file at v = record { rules = []; notices = list_of (notice_of file at v); faults = list_of (fault_of file at v) }
+
+abbrev pub first_of : State → ℕ
+first_of s = or_line s.first 0
+
+abbrev pub gives_good : Built → State → Line → Meaning
+gives_good b s (Read file i) =
+    if closes i then record { rules = rule_of file (first_of s) s.words s.fields ∷ []; notices = []; faults = [] }
+    else said_inside file (line_of i) (said_behind b s.scripts (said b true i))
+gives_good b s (Spoiled f) = told (f ∷ [])
+gives_good b s (End file) = told (conf file kind.NoBrace (first_of s) ∷ [])
+
+abbrev pub gives_outside : Built → State → Line → Meaning
+gives_outside b s e = of_line (file_of e) s.first (past b e)
+
+abbrev pub gives : Built → Place → State → Line → Meaning
+gives b Outside s e = gives_outside b s e
+gives b Good s e = gives_good b s e
+gives b Dropped s e = of_spoilt (e ∷ [])
+
+-- what lines give from a state on
+abbrev pub run : Built → State → List Line → Meaning
+run b s [] = nothing
+run b s (e ∷ es) = gives b s.place s e and run b (step b s.place s e) es
+
+-- ---- other files
+
+-- a line that comes stands in a definition
+abbrev pub is_inside : Place → Bool
+is_inside Outside = false
+is_inside p = true
+
+-- the file that a line asks for, and what it makes taboo
+abbrev pub asks_at : Built → Place → Line → Option Include
+asks_at b Outside e = asks (past b e)
+asks_at b p e = None
+
+abbrev pub bans_at : Built → Place → Line → Option (Bool × TabooItems)
+bans_at b Outside e = bans (past b e)
+bans_at b p e = None
+
+-- ---- drafts
+
+-- rules and notices are kept
+abbrev pub kept : List Rule → List Notice → Meaning
+kept rules notices = record { rules = rules; notices = notices; faults = [] }
+
+abbrev pub state_of : Draft → State
+state_of k = record { place = k.place; defaults = k.defaults; words = k.words.items; first = k.first; fields = k.fields; scripts = k.scripts.items }
+
+-- what is kept, and what lines give from then on
+abbrev pub coming_from : Draft → List Line → Meaning
+coming_from k lines = kept k.rules.items k.notices.items and run k.built (state_of k) lines
+
+-- the files that lines ask for from then on
+abbrev pub asking_from : Draft → List Line → List Include
+asking_from k lines = asked k.built (is_inside k.place) lines
+
+-- the taboo list behind lines from then on
+abbrev pub banning_from : Draft → List Line → Taboo
+banning_from k lines = banned k.built (is_inside k.place) k.taboo lines
+
+-- all but the state is the same, rules and notices aside
+pub record SameTable (old : Draft) (new : Draft) : Type 0 where
+  pub files : new.files ≡ old.files
+  pub built : new.built ≡ old.built
+  pub taboo : new.taboo ≡ old.taboo
+
+-- one line was taken in
+pub record Stepped (old : Draft) (new : Draft) (e : Line) (faults : List Fault) (includes : List Include) : Type 0 where
+  pub state : state_of new ≡ step old.built old.place (state_of old) e
+  pub rules : new.rules.items ≡ old.rules.items ++ (gives old.built old.place (state_of old) e).rules
+  pub notices : new.notices.items ≡ old.notices.items ++ (gives old.built old.place (state_of old) e).notices
+  pub faults_are : (gives old.built old.place (state_of old) e).faults ≡ faults
+  pub files : new.files ≡ old.files
+  pub built : new.built ≡ old.built
+  pub includes_are : list_of (asks_at old.built old.place e) ≡ includes
+  pub taboo : new.taboo ≡ after_bans old.taboo (list_of (bans_at old.built old.place e))
+
+-- nothing was taken in
+pub record Unchanged (old : Draft) (new : Draft) : Type 0 where
+  pub state : state_of new ≡ state_of old
+  pub rules : new.rules.items ≡ old.rules.items
+  pub notices : new.notices.items ≡ old.notices.items
+  pub table : SameTable old new
+
+abbrev pub Steps : Draft → Draft → Path → Line → Result (Option Include) LayerStop → Type 0
+Steps old new file e (Ok include) = Stepped old new e [] (list_of include)
+Steps old new file e (Err stop.Memory) = Unchanged old new
+Steps old new file e (Err fault) = Stepped old new e (faults_of file fault) (include_of fault)
+
+-- What a call answered that took a line, and how lines go on behind it.
+abbrev pub TookIn : Draft → Draft → Path → Line → Result (Option Include) LayerStop → Type 0
+TookIn old new file e (Ok include) = (lines : List Line) → coming_from old (e ∷ lines) ≡ coming_from new lines
+TookIn old new file e (Err stop.Memory) = (lines : List Line) → coming_from new lines ≡ coming_from old lines
+TookIn old new file e (Err fault) = (lines : List Line) → coming_from old (e ∷ lines) ≡ (told (faults_of file fault) and coming_from new lines)
+
+-- the file for which the answer asks is that of the line
+abbrev pub AsksIn : Draft → Draft → Line → Result (Option Include) LayerStop → Type 0
+AsksIn old new e (Ok include) = (lines : List Line) → asking_from old (e ∷ lines) ≡ list_of include ++ asking_from new lines
+AsksIn old new e (Err stop.Memory) = (lines : List Line) → asking_from new lines ≡ asking_from old lines
+AsksIn old new e (Err fault) = (lines : List Line) → asking_from old (e ∷ lines) ≡ include_of fault ++ asking_from new lines
+
+-- the taboo list is that behind the line
+abbrev pub BansIn : Draft → Draft → Line → Result (Option Include) LayerStop → Type 0
+BansIn old new e (Err stop.Memory) = (lines : List Line) → banning_from new lines ≡ banning_from old lines
+BansIn old new e r = (lines : List Line) → banning_from old (e ∷ lines) ≡ banning_from new lines
+
+-- what lines ask for and make taboo from then on is the same
+pub record AlikeIn (old : Draft) (new : Draft) : Type 0 where
+  pub asks : (lines : List Line) → asking_from new lines ≡ asking_from old lines
+  pub bans : (lines : List Line) → banning_from new lines ≡ banning_from old lines
+
+-- and so it is behind a line that does neither
+pub record PassesIn (old : Draft) (new : Draft) (e : Line) : Type 0 where
+  pub asks : (lines : List Line) → asking_from old (e ∷ lines) ≡ asking_from new lines
+  pub bans : (lines : List Line) → banning_from old (e ∷ lines) ≡ banning_from new lines
+
+-- the files that were entered and not left, and the last of them, which is read
+abbrev pub files_of : Draft → List Path
+files_of k = k.files
+
+abbrev pub file_of_draft : Draft → Path
+file_of_draft k = last_or [] k.files
+
+-- ---- steps of the code
+
+-- all but the state is the same
+pub record SameRest (old : Draft) (new : Draft) : Type 0 where
+  pub rules : new.rules.items ≡ old.rules.items
+  pub notices : new.notices.items ≡ old.notices.items
+  pub table : SameTable old new
+
+-- all but one more notice is the same
+pub record Noticed (old : Draft) (new : Draft) (n : Notice) : Type 0 where
+  pub state : state_of new ≡ state_of old
+  pub rules : new.rules.items ≡ old.rules.items
+  pub notices : new.notices.items ≡ old.notices.items ++ n ∷ []
+  pub table : SameTable old new
+
+-- all but the taboo list is the same
+pub record Banned (old : Draft) (new : Draft) (patterns : Bool) (items : TabooItems) : Type 0 where
+  pub state : state_of new ≡ state_of old
+  pub rules : new.rules.items ≡ old.rules.items
+  pub notices : new.notices.items ≡ old.notices.items
+  pub files : new.files ≡ old.files
+  pub built : new.built ≡ old.built
+  pub taboo : new.taboo ≡ taboo_after old.taboo items.items patterns items.adding
+
+abbrev pub answer_of : Option ℕ → ℕ → Option ConfKind → Result (Option Include) LayerStop
+answer_of None at None = Ok None
+answer_of None at (Some k) = Err (stop.Conf at k)
+answer_of (Some first) at None = Err (stop.Conf first kind.NoBrace)
+answer_of (Some first) at (Some k) = Err (stop.NoBraceAnd first at k)
+
+-- the answer that asks for a file
+abbrev pub asking_answer : Option ℕ → Include → Result (Option Include) LayerStop
+asking_answer None include = Ok (Some include)
+asking_answer (Some first) include = Err (stop.NoBraceThen first include)
+
+-- a `}` is stray where no names are pending
+abbrev pub stray_kind : Option ℕ → Option ConfKind
+stray_kind None = Some kind.Stray
+stray_kind (Some first) = None
+
+-- a line outside definitions was taken in
+pub record Spoke (old : Draft) (new : Draft) (file : Path) (p : Past) (faults : List Fault) (includes : List Include) : Type 0 where
+  pub state : state_of new ≡ outside (state_of old) p
+  pub rules : new.rules.items ≡ old.rules.items
+  pub notices : new.notices.items ≡ old.notices.items ++ list_of (notice_past file p)
+  pub faults_are : line_faults file old.first p ≡ faults
+  pub files : new.files ≡ old.files
+  pub built : new.built ≡ old.built
+  pub includes_are : list_of (asks p) ≡ includes
+  pub taboo : new.taboo ≡ after_bans old.taboo (list_of (bans p))
+
+abbrev pub Speaks : Draft → Draft → Path → Past → Result (Option Include) LayerStop → Type 0
+Speaks old new file p (Ok include) = Spoke old new file p [] (list_of include)
+Speaks old new file p (Err stop.Memory) = Unchanged old new
+Speaks old new file p (Err fault) = Spoke old new file p (faults_of file fault) (include_of fault)
+
+-- names that are pending were let go
+pub record Settled (old : Draft) (new : Draft) (brace : Bool) : Type 0 where
+  pub state : state_of new ≡ turned brace None (without_names (state_of old))
+  pub rest : SameRest old new
+
+-- a line with this fault, which leaves pending names, was taken in
+pub record Aside (old : Draft) (new : Draft) (at : ℕ) (brace : Bool) (k : ConfKind) (r : Result (Option Include) LayerStop) : Type 0 where
+  pub state : state_of new ≡ turned brace None (state_of old)
+  pub rest : SameRest old new
+  pub answer : r ≡ Err (stop.Conf at k)
+
+-- the line that ends a definition was taken in
+pub record Closed (old : Draft) (new : Draft) (file : Path) : Type 0 where
+  pub state : state_of new ≡ record (state_of old) { place = Outside; words = []; first = None; fields = default_fields }
+  pub rules : new.rules.items ≡ old.rules.items ++ rule_of file (first_of (state_of old)) old.words.items old.fields ∷ []
+  pub notices : new.notices.items ≡ old.notices.items
+  pub table : SameTable old new
+
+abbrev pub Closes : Draft → Draft → Path → Result (Option Include) LayerStop → Type 0
+Closes old new file (Ok None) = Closed old new file
+Closes old new file (Ok (Some include)) = ⊥
+Closes old new file (Err stop.Memory) = Unchanged old new
+Closes old new file (Err fault) = ⊥
+
+-- a line in a definition that doesn't end it was taken in
+pub record SaidInside (old : Draft) (new : Draft) (file : Path) (at : ℕ) (v : Said) (faults : List Fault) : Type 0 where
+  pub state : state_of new ≡ with_said old.built (state_of old) v
+  pub rules : new.rules.items ≡ old.rules.items
+  pub notices : new.notices.items ≡ old.notices.items ++ list_of (notice_of file at (said_behind old.built old.scripts.items v))
+  pub faults_are : list_of (fault_of file at (said_behind old.built old.scripts.items v)) ≡ faults
+  pub table : SameTable old new
+
+abbrev pub SaysInside : Draft → Draft → Path → ℕ → Said → Result (Option Include) LayerStop → Type 0
+SaysInside old new file at v (Ok None) = SaidInside old new file at v []
+SaysInside old new file at v (Ok (Some include)) = ⊥
+SaysInside old new file at v (Err stop.Memory) = Unchanged old new
+SaysInside old new file at v (Err (stop.NoBraceThen first include)) = ⊥
+SaysInside old new file at v (Err fault) = SaidInside old new file at v (faults_of file fault)
+
+-- the end of a file was taken in
+abbrev pub EndsFile : Draft → Draft → Path → Option (ℕ × ConfKind) → Type 0
+EndsFile old new file None = Stepped old new (End file) [] []
+EndsFile old new file (Some r) = Stepped old new (End file) (conf file r.1 r.0 ∷ []) []
