@@ -1,6 +1,6 @@
 // The calls that a line may make.
 use crate::{
-    chain, choosing, clock, conf, due, glob, layer, lex, lines, meeting, moment, name, path,
+    built, chain, choosing, clock, conf, due, glob, layer, lex, lines, meeting, moment, name, path,
     report, setting, state, word,
 };
 use lr_line::{Line, Trouble};
@@ -25,6 +25,7 @@ enum Ask {
     Lex,
     OneLine,
     Layer,
+    LayerOfAll,
     Conf,
     Copied,
     Due,
@@ -54,7 +55,7 @@ enum Ask {
 }
 
 // Each call with its name, and how many words stand behind that, at least and at most.
-static ASKS: [(&str, Ask, usize, usize); 44] = [
+static ASKS: [(&str, Ask, usize, usize); 45] = [
     ("path", Ask::Path, 1, 1),
     ("word", Ask::Word, 2, 2),
     ("parent", Ask::Parent, 1, 1),
@@ -73,6 +74,7 @@ static ASKS: [(&str, Ask, usize, usize); 44] = [
     ("lex", Ask::Lex, 1, 1),
     ("line", Ask::OneLine, 2, 2),
     ("layer", Ask::Layer, 1, 2),
+    ("layer-of-all", Ask::LayerOfAll, 1, 2),
     ("conf", Ask::Conf, 1, 1),
     ("copied", Ask::Copied, 1, 1),
     ("due", Ask::Due, 10, 10),
@@ -155,6 +157,7 @@ fn answer_of_texts(ask: Ask, line: Line, out: &mut String) -> Result<(), Trouble
         Ask::Lex => lex::lex(line, out),
         Ask::OneLine => lines::one_line(line, out),
         Ask::Layer => layer::layer(line, out),
+        Ask::LayerOfAll => built::layer_of_all(line, out),
         Ask::Conf => conf::conf(line, out),
         Ask::Copied => conf::copied(line, out),
         Ask::Due => due::is_due(line, out),

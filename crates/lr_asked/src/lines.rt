@@ -31,7 +31,7 @@ fn put_maybe(name: &str, text: &Option<Text>, out: &mut String) -> Result<(), Tr
     }
 }
 
-fn put_criterion(criterion: Criterion, out: &mut String) -> Result<(), Trouble> {
+pub fn put_criterion(criterion: Criterion, out: &mut String) -> Result<(), Trouble> {
     match criterion {
         Criterion::Hourly => put_named("criterion", "hourly", out),
         Criterion::Daily => put_named("criterion", "daily", out),
@@ -50,7 +50,7 @@ fn put_count(count: Count, out: &mut String) -> Result<(), Trouble> {
 }
 
 // A mode stands in decimal.
-fn put_make(name: &str, make: Make, out: &mut String) -> Result<(), Trouble> {
+pub fn put_make(name: &str, make: Make, out: &mut String) -> Result<(), Trouble> {
     match make {
         Make::No => put_named(name, "no", out),
         Make::Yes(None) => put_named(name, "yes", out),
@@ -58,7 +58,7 @@ fn put_make(name: &str, make: Make, out: &mut String) -> Result<(), Trouble> {
     }
 }
 
-fn put_way(name: &str, way: Way, out: &mut String) -> Result<(), Trouble> {
+pub fn put_way(name: &str, way: Way, out: &mut String) -> Result<(), Trouble> {
     match way {
         Way::Rename => put_named(name, "rename", out),
         Way::Copy => put_named(name, "copy", out),
@@ -74,7 +74,7 @@ fn put_back(back: Back, out: &mut String) -> Result<(), Trouble> {
     }
 }
 
-fn put_format(pieces: &[Piece], out: &mut String) -> Result<(), Trouble> {
+pub fn put_format(pieces: &[Piece], out: &mut String) -> Result<(), Trouble> {
     out.push_str("format ")?;
     put_pieces(pieces, out)
 }
@@ -111,7 +111,7 @@ fn put_set(set: &Set, out: &mut String) -> Result<(), Trouble> {
 
 // ---- what is said
 
-fn phase_name(phase: Phase) -> &'static str {
+pub fn phase_name(phase: Phase) -> &'static str {
     match phase {
         Phase::First => "first",
         Phase::Pre => "pre",

@@ -7,6 +7,7 @@
 #![tactic(auto)]
 
 mod ask;
+mod built;
 mod chain;
 mod choosing;
 mod clock;

@@ -17,7 +17,7 @@ fn put_flags(rule: &Rule, out: &mut String) -> Result<(), Trouble> {
 }
 
 // Where it stands, and its words.
-fn put_words(rule: &Rule, out: &mut String) -> Result<(), Trouble> {
+pub fn put_words(rule: &Rule, out: &mut String) -> Result<(), Trouble> {
     let file = rule.file.as_str();
     let line = rule.line;
     write!(out, "{file}:{line} rule")?;
