@@ -1,0 +1,6 @@
+mod Buffers
+mod Causes
+mod Coming
+mod Named
+mod Pieces
+mod Tables

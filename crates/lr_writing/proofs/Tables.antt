@@ -1,0 +1,44 @@
+-- The text of a table, line by line.
+use Rattle.std.proofs.Common.{◌≡◌, refl, sym, ◌∙◌, ap, ℕ, zero, suc, ◌+◌, ◌<◌, ◌≤◌, arith, add-one, List, [], ◌∷◌, ◌++◌, take, drop, length, Some, slice_get, append_assoc, append-nil}
+use Rattle.std.specs.List.{flat_map}
+use Rattle.std.proofs.lemmas.List.{take_all, take-append-drop, take-append-le, length-take-le}
+use Rattle.std.proofs.Math.Seq.{take-append-add}
+use Rattle.lr_state.specs.Table.{Entry}
+use Rattle.lr_state.specs.Written.{line_of, text_of}
+use Rattle.lr_state.specs.Grammar.{top_2}
+use borrow.Rule.Slice.PartMut.{put_mid}
+
+pub entry_at : (es : List Entry) (k : ℕ) → k < length es → (e : Entry) × (slice_get es k ≡ Some e)
+entry_at [] k lt = absurd (omega arith)
+entry_at (x ∷ xs) zero lt = (x, refl)
+entry_at (x ∷ xs) (suc k) lt = entry_at xs k (omega arith)
+
+flat_suc : (f : Entry → List ℕ) (es : List Entry) (k : ℕ) (e : Entry) → slice_get es k ≡ Some e → flat_map f (take (suc k) es) ≡ flat_map f (take k es) ++ f e
+flat_suc f [] k e at = absurd (cc at)
+flat_suc f (x ∷ xs) zero e at =
+    let same : x ≡ e = cc at in
+    append-nil (f x) ∙ ap f same
+flat_suc f (x ∷ xs) (suc k) e at = ap (λ t. f x ++ t) (flat_suc f xs k e at) ∙ sym (append_assoc (f x) (flat_map f (take k xs)) (f e))
+
+-- one line more
+pub text_next : (es : List Entry) (k : ℕ) (e : Entry) → slice_get es k ≡ Some e → text_of (take (k + 1) es) ≡ text_of (take k es) ++ line_of e
+text_next es k e at = ap (λ n. text_of (take n es)) (add-one k) ∙ (ap (λ xs. (top_2 ++ 10 ∷ []) ++ xs) (flat_suc line_of es k e at) ∙ sym (append_assoc (top_2 ++ 10 ∷ []) (flat_map line_of (take k es)) (line_of e)))
+
+flat_both : (f : Entry → List ℕ) (es fs : List Entry) → flat_map f (es ++ fs) ≡ flat_map f es ++ flat_map f fs
+flat_both f [] fs = refl
+flat_both f (e ∷ es) fs = ap (λ t. f e ++ t) (flat_both f es fs) ∙ sym (append_assoc (f e) (flat_map f es) (flat_map f fs))
+
+-- the lines so far, and those that follow
+pub text_rest : (es : List Entry) (k : ℕ) → text_of (take k es) ++ flat_map line_of (drop k es) ≡ text_of es
+text_rest es k = append_assoc (top_2 ++ 10 ∷ []) (flat_map line_of (take k es)) (flat_map line_of (drop k es))
+    ∙ ap (λ xs. (top_2 ++ 10 ∷ []) ++ xs) (sym (flat_both line_of (take k es) (drop k es)) ∙ ap (flat_map line_of) (take-append-drop k es))
+
+pub text_all : (es : List Entry) (k : ℕ) → k ≡ length es → text_of (take k es) ≡ text_of es
+text_all es k e = ap text_of (take_all k es (omega (arith, e)))
+
+-- the first bytes of a part that was written anew
+pub take_written : (held k count : ℕ) (xs ys : List ℕ) → held ≤ length xs → count ≤ length ys → take (held + count) (put_mid held k xs ys) ≡ take held xs ++ take count ys
+take_written held k count xs ys le short =
+    let rest = drop k (drop held xs) in
+    let long : length (take held xs) ≡ held = length-take-le held xs le in
+    ap (λ n. take (n + count) (take held xs ++ (ys ++ rest))) (sym long) ∙ (take-append-add (take held xs) (ys ++ rest) count ∙ ap (λ zs. take held xs ++ zs) (take-append-le count ys rest short))

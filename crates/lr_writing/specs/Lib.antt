@@ -1,0 +1,4 @@
+pub mod Buffer
+pub mod Named
+pub mod Target
+pub mod Writes

@@ -1,0 +1,25 @@
+//! How a run of logrotate(8) writes its state file: the text goes to a file of its own, which is synced and then gets the
+//! state's path. So at each moment, and behind each power cut, that path names the old file or the new one, whole.
+//!
+//! The contract: what [`write_state`] leaves are the steps of `lr_plan`'s definition `state_steps`, up to one that failed.
+//! All memory is taken by [`prepare`], before the first change of a run. Begin with [`prepare`]:
+//!
+//! ```text
+//! let part = part_of(alloc, &state)?;                               // STATE.tmp, which the run looks at
+//! let writing = prepare(alloc, &state, part, stale, dirs)?;         // behind the looks, before the first change
+//! write_state(&mut host, writing, &table, &mut faults);             // behind the acts
+//! ```
+#![tactic(auto)]
+
+mod buffer;
+mod laws;
+mod naming;
+mod part;
+mod refused;
+mod text;
+mod write;
+mod writing;
+
+pub use laws::state_is_named_last;
+pub use write::write_state;
+pub use writing::{Writing, part_of, prepare};

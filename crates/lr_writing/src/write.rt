@@ -1,0 +1,57 @@
+// The writing of a state file.
+ghost use Rattle.std.specs.Prelude.{◌≡◌, ◌+◌, ◌≤◌, [], ◌∷◌, ◌++◌, vec_len};
+ghost use Rattle.std.specs.Vec.{vec_capacity};
+ghost use Rattle.lr_state.specs.Written.{text_of};
+ghost use Rattle.lr_plan.specs.Steps.{state_steps};
+ghost use Rattle.lr_plan.specs.Internal.Asking.{CanMake};
+ghost use Rattle.lr_writing.specs.Writes.{ComesTo, AddsCourse, faults_in};
+
+use crate::naming::{name_state, sync_all};
+use crate::part::{fault_at, write_part};
+use crate::writing::Writing;
+use lr_host::Host;
+use lr_rules::Fault;
+use lr_state::State;
+
+// Makes the steps, up to one that fails.
+fn make_all<H: Host>(host: &mut H, writing: Writing, table: &State) -> Result<(), Fault>
+    requires { CanMake (H.told host.old) (state_steps writing.state writing.stale writing.dirs (text_of table.now)) }
+    ensures { ComesTo (state_steps writing.state writing.stale writing.dirs (text_of table.now)) (faults_in result) (H.told host.old) (H.told host.new) (H.counts host.old) (H.counts host.new) }
+{
+    let Writing {
+        part,
+        state,
+        dir,
+        dirs,
+        stale,
+        mut buffer,
+    } = writing;
+    if let Err(why) = write_part(host, &part, stale, table, buffer.as_mut_slice()) {
+        return Err(fault_at(part, why));
+    }
+    sync_all(host, dirs)?;
+    name_state(host, part, &state, dir)
+}
+
+// Adds a fault for which there is room.
+fn add_fault(faults: &mut Vec<Fault>, fault: Fault)
+    requires { vec_len faults.old + 1 ≤ vec_capacity faults.old }
+    ensures { faults.new.items ≡ faults.old.items ++ fault ∷ [] }
+{
+    let _ = faults.push(fault);
+}
+
+/// Writes the text of the table as the state file: an old part file that was seen is unlinked; the text goes to a new one
+/// of mode 0640, which is synced; so are the directories of the run; then the part file gets the state's path, and the
+/// directory of that is synced. It takes no memory. A call that fails leaves the rest undone; its fault is added, for which
+/// there has to be room.
+pub fn write_state<H: Host>(host: &mut H, writing: Writing, table: &State, faults: &mut Vec<Fault>)
+    requires fits { CanMake (H.told host.old) (state_steps writing.state writing.stale writing.dirs (text_of table.now)) }
+    requires room { vec_len faults.old + 1 ≤ vec_capacity faults.old }
+    ensures told { AddsCourse (state_steps writing.state writing.stale writing.dirs (text_of table.now)) faults.old.items faults.new.items (H.told host.old) (H.told host.new) (H.counts host.old) (H.counts host.new) }
+{
+    match make_all(host, writing, table) {
+        Ok(()) => {}
+        Err(fault) => add_fault(faults, fault),
+    }
+}

@@ -1,0 +1,77 @@
+// What the writing of a state file needs.
+ghost use Rattle.std.specs.Prelude.{◌≡◌, ◌++◌, IfOk, MatchResult, None};
+ghost use Rattle.lr_rules.specs.Path.{path_fault, IsRefusal};
+ghost use Rattle.lr_plan.specs.Steps.{state_part};
+
+use lr_rules::{Listed, Memory, Path, PathFault};
+use std::alloc::{AllocError, Global};
+use std::marker::Model;
+
+/// All that the writing of a state file needs: its paths, and a buffer of 65,536 bytes. Contracts see the path of the
+/// state, whether an old part file was seen, and the directories that are synced before the state gets its name.
+#[derive(Drop)]
+pub struct Writing {
+    pub(crate) part: Path,
+    pub(crate) state: Path,
+    pub(crate) dir: Path,
+    pub(crate) dirs: Listed<Path>,
+    pub(crate) stale: bool,
+    pub(crate) buffer: Vec<u8>,
+}
+
+impl Model for Writing {
+    ghost use Rattle.std.specs.Prelude.{◌≡◌, length};
+    ghost use Rattle.lr_rules.specs.Path.{parent_of};
+    ghost use Rattle.lr_plan.specs.Steps.{state_part};
+    ghost use Rattle.lr_writing.specs.Target.{Target};
+
+    ghost Value = { Target };
+
+    ghost view = { λ w. record { state = w.state; stale = w.stale; dirs = w.dirs } };
+
+    ghost invariant = { λ w. (w.part ≡ state_part w.state) × (w.dir ≡ parent_of w.state) × (length w.buffer.items ≡ 65_536) };
+}
+
+fn part_bytes(alloc: Global, state: &Path) -> Result<Vec<u8>, AllocError>
+    ensures { IfOk result (λ bytes. bytes.items ≡ state_part state.now) }
+{
+    let mut bytes = state.bytes().to_vec(alloc)?;
+    bytes.extend_from_slice(b".tmp")?;
+    Ok(bytes)
+}
+
+/// The path of the file that a state is first written to: that of the state, with `.tmp` behind it. A refusal is that of
+/// `Path::new` for these bytes; so it is `TooLong` for a state whose path has more than 4,092 bytes.
+pub fn part_of(alloc: Global, state: &Path) -> Result<Path, PathFault>
+    ensures { MatchResult result (λ path. (path ≡ state_part state.now) × (path_fault (state_part state.now) ≡ None)) (IsRefusal (path_fault (state_part state.now))) }
+{
+    match part_bytes(alloc, state) {
+        Ok(bytes) => Path::new(alloc, bytes.as_slice()),
+        Err(_) => Err(PathFault::Memory),
+    }
+}
+
+/// Takes all the memory that the writing needs. `part` is the path that `part_of` gave for the state; `stale` tells
+/// whether a file was seen there; `dirs` are the directories whose names are to be durable before the state gets its own.
+pub fn prepare(
+    alloc: Global,
+    state: &Path,
+    part: Path,
+    stale: bool,
+    dirs: Listed<Path>,
+) -> Result<Writing, Memory>
+    requires part { part ≡ state_part state.now }
+    ensures { IfOk result (λ writing. writing ≡ record { state = state.now; stale = stale; dirs = dirs }) }
+{
+    let dir = state.parent(alloc)?;
+    let state = state.copy(alloc)?;
+    let buffer = vec![in alloc; 0u8; 65_536]?;
+    Ok(Writing {
+        part,
+        state,
+        dir,
+        dirs,
+        stale,
+        buffer,
+    })
+}
