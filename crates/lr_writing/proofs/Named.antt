@@ -10,27 +10,27 @@ use Rattle.lr_host.specs.declared.entry.Entry.TheVariants as entry
 use Rattle.lr_host.specs.Told.{Each}
 use Rattle.lr_plan.specs.declared.mark.Mark.{Mark}
 use Rattle.lr_plan.specs.declared.step.Step.{Step}
-use Rattle.lr_plan.specs.declared.step.Step.TheVariants.{Removes, Takes, Appends, SyncsFile, SyncsDir}
+use Rattle.lr_plan.specs.declared.step.Step.TheVariants.{Removes, Renames, Takes, Appends, SyncsFile, SyncsDir}
 use Rattle.lr_plan.specs.Copying.{Appended, no_more, piece_more, AppendBroke, at_piece, in_piece, piece_on}
 use Rattle.lr_plan.specs.Course.{Course, StepThen}
 use Rattle.lr_plan.specs.Outcomes.{Succeeds, Fails, Maybe, marks_of}
 use Rattle.lr_plan.specs.Steps.{state_part, state_steps}
-use Rattle.lr_writing.specs.Named.{Spares, IsReady, NamedLast, not_named, named}
+use Rattle.lr_writing.specs.Named.{Spares, IsReady, IsNamed, NamedLast, not_named, named}
 use Rattle.lr_writing.specs.Writes.{part_steps, name_steps}
 use Rattle.lr_writing.proofs.Coming.{whole_steps}
 
 -- ---- two lists of steps
 
 data Split (xs ys : List Step) (fs : List Fault) (ts : List Entry) : Type 0 where
-  stopped : (ms : List Mark) → Course xs ms fs ts → Split xs ys fs ts
+  stopped : (ms : List Mark) (f : Fault) → fs ≡ f ∷ [] → Course xs ms fs ts → Split xs ys fs ts
   passed : (ms ns : List Mark) (front back : List Entry) → ts ≡ front ++ back → Course xs ms [] front → Course ys ns fs back → Split xs ys fs ts
 
 split : (xs ys : List Step) (ms : List Mark) (fs : List Fault) (ts : List Entry) → Course (xs ++ ys) ms fs ts → Split xs ys fs ts
 split [] ys ms fs ts c = passed [] ms [] ts refl (refl, refl, refl) c
-split (x ∷ xs) ys ms fs ts c = ⊎_elim (λ s. stopped ms (inl s)) (λ g. more g (split xs ys g.later fs g.entries.back g.entries.second)) c
+split (x ∷ xs) ys ms fs ts c = ⊎_elim (λ s. stopped ms s.fault s.told (inl s)) (λ g. more g (split xs ys g.later fs g.entries.back g.entries.second)) c
   where
     more : (g : StepThen x (Course (xs ++ ys)) ms fs ts) → Split xs ys fs g.entries.back → Split (x ∷ xs) ys fs ts
-    more g (stopped ns d) = stopped (marks_of x ++ ns) (inr (record { later = ns; marks_are = refl; entries = record { front = g.entries.front; back = g.entries.back; joined = g.entries.joined; first = g.entries.first; second = d } }))
+    more g (stopped ns f e d) = stopped (marks_of x ++ ns) f e (inr (record { later = ns; marks_are = refl; entries = record { front = g.entries.front; back = g.entries.back; joined = g.entries.joined; first = g.entries.first; second = d } }))
     more g (passed ns ps front back j d e) = passed (marks_of x ++ ns) ps (g.entries.front ++ front) back (g.entries.joined ∙ (ap (λ us. g.entries.front ++ us) j ∙ sym (append_assoc g.entries.front front back)))
         (inr (record { later = ns; marks_are = refl; entries = record { front = g.entries.front; back = front; joined = refl; first = g.entries.first; second = d } })) e
 
@@ -185,11 +185,43 @@ named_last state stale dirs text fs ts c =
         (λ g. named before g.entries.back (j ∙ ap (λ us. before ++ us) (g.entries.joined ∙ ap (λ us. us ++ g.entries.back) g.entries.first)) ready spared (behind g.entries.back g.later g.entries.second)) d
 
     second : (front back : List Entry) → ts ≡ front ++ back → Cleared (state_part state) text front → Each (Spares state) front → Split syncs names fs back → NamedLast state dirs text ts
-    second front back j w spared (stopped ms d) = not_named (subst (Each (Spares state)) (sym j) (spared_on state front back spared (course_spares state syncs ms fs back (syncs_aside state dirs) d)))
+    second front back j w spared (stopped ms f e d) = not_named (subst (Each (Spares state)) (sym j) (spared_on state front back spared (course_spares state syncs ms fs back (syncs_aside state dirs) d)))
     second front back j w spared (passed ms ns middle rest k d e) =
         last (front ++ middle) rest ns (j ∙ (ap (λ us. front ++ us) k ∙ sym (append_assoc front middle rest))) (is_ready state dirs text front middle w (syncs_are dirs ms middle d))
         (spared_on state front middle spared (course_spares state syncs ms [] middle (syncs_aside state dirs) d)) e
 
     first : Split parts (syncs ++ names) fs ts → NamedLast state dirs text ts
-    first (stopped ms d) = not_named (course_spares state parts ms fs ts (part_aside state stale text) d)
+    first (stopped ms f e d) = not_named (course_spares state parts ms fs ts (part_aside state stale text) d)
     first (passed ms ns front back j d e) = second front back j (cleared (state_part state) stale text ms front d) (course_spares state parts ms [] front (part_aside state stale text) d) (split syncs names ns fs back e)
+
+pub named_whole : (state : Path) (stale : Bool) (dirs : List Path) (text : List ℕ) (ts : List Entry) → Course (state_steps state stale dirs text) [] [] ts → IsNamed state dirs text ts
+named_whole state stale dirs text ts c =
+    first (split parts (syncs ++ names) [] [] ts (subst (λ (ss : List Step). Course ss [] [] ts) (sym (whole_steps state stale dirs text)) c))
+  where
+    parts : List Step
+    parts = part_steps (state_part state) stale text
+
+    syncs : List Step
+    syncs = map SyncsDir dirs
+
+    names : List Step
+    names = name_steps (state_part state) state (parent_of state)
+
+    last : (before back : List Entry) (ms : List Mark) → ts ≡ before ++ back → IsReady state dirs text before → Each (Spares state) before → Course names ms [] back → IsNamed state dirs text ts
+    last before back ms j ready spared d =
+        let g = made (Renames (state_part state) state) (SyncsDir (parent_of state) ∷ []) ms back d in record {
+          before = before;
+          ts_are = j ∙ ap (λ us. before ++ us) (g.entries.joined ∙ (ap (λ us. us ++ g.entries.back) g.entries.first ∙ ap (λ us. entry.Renames (state_part state) state ∷ us) (syncs_are (parent_of state ∷ []) g.later g.entries.back g.entries.second)));
+          ready = ready;
+          spared = spared;
+        }
+
+    second : (front back : List Entry) → ts ≡ front ++ back → Cleared (state_part state) text front → Each (Spares state) front → Split syncs names [] back → IsNamed state dirs text ts
+    second front back j w spared (stopped ms f e d) = absurd (cc)
+    second front back j w spared (passed ms ns middle rest k d e) =
+        last (front ++ middle) rest ns (j ∙ (ap (λ us. front ++ us) k ∙ sym (append_assoc front middle rest))) (is_ready state dirs text front middle w (syncs_are dirs ms middle d))
+        (spared_on state front middle spared (course_spares state syncs ms [] middle (syncs_aside state dirs) d)) e
+
+    first : Split parts (syncs ++ names) [] ts → IsNamed state dirs text ts
+    first (stopped ms f e d) = absurd (cc)
+    first (passed ms ns front back j d e) = second front back j (cleared (state_part state) stale text ms front d) (course_spares state parts ms [] front (part_aside state stale text) d) (split syncs names ns [] back e)

@@ -1,5 +1,5 @@
 -- When the state's path gets its new file.
-use Rattle.std.specs.Prelude.{◌≡◌, ◌≢◌, ℕ, List, ◌∷◌, ◌++◌, map, Some}
+use Rattle.std.specs.Prelude.{◌≡◌, ◌≢◌, ℕ, List, [], ◌∷◌, ◌++◌, map, Some}
 use Rattle.lr_rules.specs.declared.path.Path.{Path}
 use Rattle.lr_rules.specs.Path.{parent_of}
 use Rattle.lr_host.specs.declared.entry.Entry.{Entry}
@@ -26,6 +26,13 @@ pub record IsReady (state : Path) (dirs : List Path) (text : List ℕ) (before :
   pub before_is : before ≡ cleared ++ (Makes (state_part state) (Some 416) ∷ (pieces ++ (SyncsFile (state_part state) ∷ map SyncsDir dirs)))
   pub cleared_is : Maybe (Unlinks (state_part state)) cleared
   pub text_is : Appended (state_part state) text pieces
+
+-- The state's path got a part file that was ready, by the one entry that touches it, and that is durable.
+pub record IsNamed (state : Path) (dirs : List Path) (text : List ℕ) (ts : List Entry) : Type 0 where
+  pub before : List Entry
+  pub ts_are : ts ≡ before ++ (Renames (state_part state) state ∷ SyncsDir (parent_of state) ∷ [])
+  pub ready : IsReady state dirs text before
+  pub spared : Each (Spares state) before
 
 -- The state's path was spared; or one entry touches it, the rename of a part file that was ready, and behind it comes the sync of the directory, if anything.
 pub data NamedLast (state : Path) (dirs : List Path) (text : List ℕ) (ts : List Entry) : Type 0 where

@@ -20,6 +20,6 @@ mod text;
 mod write;
 mod writing;
 
-pub use laws::state_is_named_last;
+pub use laws::{state_is_named_last, whole_writing_names_state};
 pub use write::write_state;
 pub use writing::{Writing, part_of, prepare};
