@@ -93,7 +93,7 @@ course_spares x [] ms fs ts aside c = subst (Each (Spares x)) (sym c.2) tt
 course_spares x (s ∷ ss) ms fs ts aside c = ⊎_elim (λ stop. failed_spares x s stop.fault ts aside.0 stop.failed)
     (λ g. subst (Each (Spares x)) (sym g.entries.joined) (spared_on x g.entries.front g.entries.back (made_spares x s g.entries.front aside.0 g.entries.first) (course_spares x ss g.later fs g.entries.back aside.1 g.entries.second))) c
 
-part_apart : (state : Path) → state_part state ≢ state
+pub part_apart : (state : Path) → state_part state ≢ state
 part_apart state e =
     let long : length (state ++ codes ".tmp") ≡ length state + 4 = length-append state (codes ".tmp") in
     let same : length (state ++ codes ".tmp") ≡ length state = ap length e in

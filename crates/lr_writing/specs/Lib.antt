@@ -1,4 +1,5 @@
 pub mod Buffer
+pub mod Fits
 pub mod Named
 pub mod Target
 pub mod Writes

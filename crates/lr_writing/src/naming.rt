@@ -1,5 +1,5 @@
 // How the part file gets the state's path.
-ghost use Rattle.std.specs.Prelude.{[], ◌∷◌, map};
+ghost use Rattle.std.specs.Prelude.{[], ◌∷◌, ◌++◌, map};
 ghost use Rattle.lr_plan.specs.declared.step.Step.TheVariants as step;
 ghost use Rattle.lr_plan.specs.Internal.Asking.{CanMake};
 ghost use Rattle.lr_writing.specs.Writes.{ComesTo, faults_in, name_steps};
@@ -18,8 +18,8 @@ fn sync_one<H: Host>(host: &mut H, dir: Path) -> Result<(), Fault>
     }
 }
 
-/// Makes the name changes in these directories durable, in order, up to a failed call.
-pub fn sync_all<H: Host>(host: &mut H, dirs: Listed<Path>) -> Result<(), Fault>
+// Makes the name changes in these directories durable, in order, up to a failed call.
+fn sync_all<H: Host>(host: &mut H, dirs: Listed<Path>) -> Result<(), Fault>
     requires { CanMake (H.told host.old) (map step.SyncsDir dirs) }
     ensures { ComesTo (map step.SyncsDir dirs) (faults_in result) (H.told host.old) (H.told host.new) (H.counts host.old) (H.counts host.new) }
 {
@@ -40,11 +40,26 @@ fn rename_part<H: Host>(host: &mut H, part: Path, state: &Path) -> Result<(), Fa
     }
 }
 
-/// Gives the part file the state's path, and makes that durable.
-pub fn name_state<H: Host>(host: &mut H, part: Path, state: &Path, dir: Path) -> Result<(), Fault>
+// Gives the part file the state's path, and makes that durable.
+fn name_state<H: Host>(host: &mut H, part: Path, state: &Path, dir: Path) -> Result<(), Fault>
     requires { CanMake (H.told host.old) (name_steps part state.now dir) }
     ensures { ComesTo (name_steps part state.now dir) (faults_in result) (H.told host.old) (H.told host.new) (H.counts host.old) (H.counts host.new) }
 {
     rename_part(host, part, state)?;
     sync_one(host, dir)
+}
+
+/// Makes the name changes in these directories durable, and then gives the part file the state's path, durably.
+pub fn name_synced<H: Host>(
+    host: &mut H,
+    part: Path,
+    state: Path,
+    dir: Path,
+    dirs: Listed<Path>,
+) -> Result<(), Fault>
+    requires { CanMake (H.told host.old) (map step.SyncsDir dirs ++ name_steps part state dir) }
+    ensures { ComesTo (map step.SyncsDir dirs ++ name_steps part state dir) (faults_in result) (H.told host.old) (H.told host.new) (H.counts host.old) (H.counts host.new) }
+{
+    sync_all(host, dirs)?;
+    name_state(host, part, &state, dir)
 }

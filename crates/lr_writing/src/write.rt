@@ -6,7 +6,7 @@ ghost use Rattle.lr_plan.specs.Steps.{state_steps};
 ghost use Rattle.lr_plan.specs.Internal.Asking.{CanMake};
 ghost use Rattle.lr_writing.specs.Writes.{ComesTo, AddsCourse, faults_in};
 
-use crate::naming::{name_state, sync_all};
+use crate::naming::name_synced;
 use crate::part::{fault_at, write_part};
 use crate::writing::Writing;
 use lr_host::Host;
@@ -29,8 +29,7 @@ fn make_all<H: Host>(host: &mut H, writing: Writing, table: &State) -> Result<()
     if let Err(why) = write_part(host, &part, stale, table, buffer.as_mut_slice()) {
         return Err(fault_at(part, why));
     }
-    sync_all(host, dirs)?;
-    name_state(host, part, &state, dir)
+    name_synced(host, part, state, dir, dirs)
 }
 
 // Adds a fault for which there is room.

@@ -1,4 +1,4 @@
-use Rattle.std.proofs.Common.{◌≡◌, refl, sym, subst, rules, ◌++◌, [], ◌∷◌, List, map, Err}
+use Rattle.std.proofs.Common.{refl, sym, subst, ◌++◌, [], ◌∷◌, List, map}
 use Rattle.lr_rules.specs.declared.fault.Fault.{Fault}
 use Rattle.lr_state.specs.Written.{text_of}
 use Rattle.lr_plan.specs.declared.step.Step.{Step}
@@ -25,40 +25,18 @@ returns-in-Err g c =
     (subst (λ (ss : List Step). ComesTo ss (fault_of w.part c.in-Err.why ∷ []) (g.H.Host.told c.args.host.now) (g.H.Host.told c.write_part.new.host) (g.H.Host.counts c.args.host.now) (g.H.Host.counts c.write_part.new.host)) all
     (comes_short (part_steps w.part w.stale text) (map step.SyncsDir w.dirs ++ name_steps w.part w.state w.dir) (fault_of w.part c.in-Err.why) c.in-Err.ensures))
 
-pub sync_all-requires : goal.sync_all-requires
-sync_all-requires g c =
+pub name_synced-requires : goal.name_synced-requires
+name_synced-requires g c =
     let w = c.writing.inside in
     let text = text_of c.args.table.now in
     let all = whole_is w.part w.state w.dir w.stale w.dirs text c.args.writing c.writing.view_is c.writing.invariant.0 c.writing.invariant.1 in
-    fits_first (g.H.Host.told c.write_part.new.host) (map step.SyncsDir w.dirs) (name_steps w.part w.state w.dir)
-    (c.in_default.ensures.next refl (map step.SyncsDir w.dirs ++ name_steps w.part w.state w.dir) (subst (CanMake (g.H.Host.told c.args.host.now)) (sym all) c.requires))
-
-pub name_state-requires : goal.name_state-requires
-name_state-requires g c =
-    let w = c.writing.inside in
-    let text = text_of c.args.table.now in
-    let all = whole_is w.part w.state w.dir w.stale w.dirs text c.args.writing c.writing.view_is c.writing.invariant.0 c.writing.invariant.1 in
-    c.in_ok-sync_all.ensures.next refl (name_steps w.part w.state w.dir)
-    (c.in_default.ensures.next refl (map step.SyncsDir w.dirs ++ name_steps w.part w.state w.dir) (subst (CanMake (g.H.Host.told c.args.host.now)) (sym all) c.requires))
-
-pub returns-in_err-sync_all : goal.returns-in_err-sync_all
-returns-in_err-sync_all g c =
-    let w = c.writing.inside in
-    let text = text_of c.args.table.now in
-    let all = whole_is w.part w.state w.dir w.stale w.dirs text c.args.writing c.writing.view_is c.writing.invariant.0 c.writing.invariant.1 in
-    let f = c.in_err-sync_all.field-0.0 in
-    let is : c.from_residual.result ≡ Err f = search rules in
-    subst (λ r. ComesTo (state_steps c.args.writing.state c.args.writing.stale c.args.writing.dirs text) (faults_in r) (g.H.Host.told c.args.host.now) (g.H.Host.told c.sync_all.new.host) (g.H.Host.counts c.args.host.now) (g.H.Host.counts c.sync_all.new.host)) (sym is)
-    (subst (λ (ss : List Step). ComesTo ss (f ∷ []) (g.H.Host.told c.args.host.now) (g.H.Host.told c.sync_all.new.host) (g.H.Host.counts c.args.host.now) (g.H.Host.counts c.sync_all.new.host)) all
-    (comes_on (part_steps w.part w.stale text) (map step.SyncsDir w.dirs ++ name_steps w.part w.state w.dir) (f ∷ []) c.in_default.ensures
-    (comes_short (map step.SyncsDir w.dirs) (name_steps w.part w.state w.dir) f c.in_err-sync_all.ensures)))
+    c.in_default.ensures.next refl (map step.SyncsDir w.dirs ++ name_steps w.part w.state w.dir) (subst (CanMake (g.H.Host.told c.args.host.now)) (sym all) c.requires)
 
 pub returns : goal.returns
 returns g c =
     let w = c.writing.inside in
     let text = text_of c.args.table.now in
     let all = whole_is w.part w.state w.dir w.stale w.dirs text c.args.writing c.writing.view_is c.writing.invariant.0 c.writing.invariant.1 in
-    let fs = faults_in c.name_state.result in
-    subst (λ (ss : List Step). ComesTo ss fs (g.H.Host.told c.args.host.now) (g.H.Host.told c.name_state.new.host) (g.H.Host.counts c.args.host.now) (g.H.Host.counts c.name_state.new.host)) all
-    (comes_on (part_steps w.part w.stale text) (map step.SyncsDir w.dirs ++ name_steps w.part w.state w.dir) fs c.in_default.ensures
-    (comes_on (map step.SyncsDir w.dirs) (name_steps w.part w.state w.dir) fs c.in_ok-sync_all.ensures c.name_state.ensures))
+    let fs = faults_in c.name_synced.result in
+    subst (λ (ss : List Step). ComesTo ss fs (g.H.Host.told c.args.host.now) (g.H.Host.told c.name_synced.new.host) (g.H.Host.counts c.args.host.now) (g.H.Host.counts c.name_synced.new.host)) all
+    (comes_on (part_steps w.part w.stale text) (map step.SyncsDir w.dirs ++ name_steps w.part w.state w.dir) fs c.in_default.ensures c.name_synced.ensures)
