@@ -1,0 +1,8 @@
+use Rattle.std.proofs.Common.{length, arith, take}
+use Rattle.std.proofs.lemmas.List.{length-take}
+use Rattle.lr_reading.proofs.Joining.{stopped_piece}
+use Rattle.lr_reading.proofs.pieces.read_on.Goals as goal
+
+pub returns-in_default-give-clause-stopped : goal.returns-in_default-give-clause-stopped
+returns-in_default-give-clause-stopped g c = stopped_piece c.args.path.now c.args.at (length c.args.buffer.now) (take c.in-Ok.count c.read.new.into) c.in-Ok.ensures.told
+    (omega (arith, length-take c.in-Ok.count c.read.new.into, c.read.auto.into, c.in-Ok.ensures.bound))

@@ -1,0 +1,67 @@
+-- What a run knows of the state by what the looks and the reading came to.
+use Rattle.std.specs.Prelude.{◌≡◌, ◌⊎◌, Bool, true, false, ℕ, List, [], ◌∷◌, ◌++◌, Result, Ok, Err, IfOk}
+use Rattle.lr_rules.specs.declared.path.Path.{Path}
+use Rattle.lr_rules.specs.declared.memory.Memory.{Memory}
+use Rattle.lr_rules.specs.declared.fault.CallKind.TheVariants as call
+use Rattle.lr_rules.specs.declared.fault.Fault.{Fault}
+use Rattle.lr_rules.specs.declared.fault.Fault.TheVariants as fault
+use Rattle.lr_host.specs.declared.entry.Entry.{Entry}
+use Rattle.lr_state.specs.Grammar.{Said, TextSays}
+use Rattle.lr_reading.specs.declared.look.LookStop.{LookStop}
+use Rattle.lr_reading.specs.declared.look.LookStop.TheVariants as stop
+use Rattle.lr_reading.specs.declared.remembered.Remembered.{Remembered}
+use Rattle.lr_reading.specs.Pieces.{Reading, Whole, Broken, bytes_of}
+use Rattle.lr_reading.specs.Sights.{StateSights, ShowsState, found, state_part}
+
+-- what is remembered, or the fault that tells why nothing is
+abbrev pub Known : Type 0
+Known = Result Remembered Fault
+
+-- the fault of a path where the look failed or saw neither a regular file nor nothing
+abbrev pub fault_of : LookStop → Path → Fault
+fault_of stop.Call path = fault.Call call.Look path
+fault_of stop.NotFile path = fault.NotFile path
+
+-- the text: none where no file stands, else what was read of it; or the fault of a read that failed
+abbrev pub text_of : Path → Bool → Reading → Result (List ℕ) Fault
+text_of state false reading = Ok []
+text_of state true (Whole pieces last) = Ok (bytes_of pieces ++ last)
+text_of state true (Broken pieces) = Err (fault.Call call.Read state)
+
+-- what a text says: its table, beside whether an old part file stands; or its first fault
+abbrev pub known_of : Bool → Said → Known
+known_of stale (Ok table) = Ok (record { table = table; stale = stale })
+known_of stale (Err bad) = Err (fault.State bad.0 bad.1)
+
+-- This is known by the text.
+abbrev pub IsKnownBy : Bool → Result (List ℕ) Fault → Known → Type 0
+IsKnownBy stale (Ok text) known = (said : Said) × TextSays text said × (known ≡ known_of stale said)
+IsKnownBy stale (Err why) known = known ≡ Err why
+
+-- ... by what was found of the part file
+abbrev pub IsKnownBehind : Path → Bool → Result Bool LookStop → Reading → Known → Type 0
+IsKnownBehind state there (Ok stale) reading known = IsKnownBy stale (text_of state there reading) known
+IsKnownBehind state there (Err why) reading known = known ≡ Err (fault_of why (state_part state))
+
+-- ... and by what was found of the state's file
+abbrev pub IsKnownOf : Path → Result Bool LookStop → Result Bool LookStop → Reading → Known → Type 0
+IsKnownOf state (Ok there) part reading known = IsKnownBehind state there part reading known
+IsKnownOf state (Err why) part reading known = known ≡ Err (fault_of why state)
+
+-- This is known by what all of it came to.
+abbrev pub IsKnown : Path → StateSights → Known → Type 0
+IsKnown state s known = IsKnownOf state (found s.state) (found s.part) s.reading known
+
+-- The entries show what the looks and the reading came to, and the answer is what is known by that. Where there was no memory, a first part of them was made.
+pub record ReadsState (state : Path) (size : ℕ) (answer : Result Known Memory) (ts : List Entry) : Type 0 where
+  pub sights : StateSights
+  pub shown : ShowsState state size sights ts
+  pub known : IfOk answer (IsKnown state sights)
+
+-- Also of a host that tells nothing: the faults that there may be.
+abbrev pub IsStateFault : Path → Fault → Type 0
+IsStateFault state (fault.Call call.Look path) = (path ≡ state) ⊎ (path ≡ state_part state)
+IsStateFault state (fault.Call call.Read path) = path ≡ state
+IsStateFault state (fault.NotFile path) = (path ≡ state) ⊎ (path ≡ state_part state)
+IsStateFault state (fault.State line kind) = Unit {0}
+IsStateFault state _ = ⊥

@@ -1,0 +1,4 @@
+pub mod Answers
+pub mod Internal
+pub mod Pieces
+pub mod Sights
