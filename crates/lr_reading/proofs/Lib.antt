@@ -1,3 +1,4 @@
 pub mod Joining
 pub mod Looks
+pub mod One
 pub mod Quiet

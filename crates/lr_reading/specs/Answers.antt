@@ -33,9 +33,13 @@ abbrev pub known_of : Bool → Said → Known
 known_of stale (Ok table) = Ok (record { table = table; stale = stale })
 known_of stale (Err bad) = Err (fault.State bad.0 bad.1)
 
+-- a text says this and nothing else
+abbrev pub TextSaysOnly : List ℕ → Said → Type 0
+TextSaysOnly text said = TextSays text said × ((other : Said) → TextSays text other → other ≡ said)
+
 -- This is known by the text.
 abbrev pub IsKnownBy : Bool → Result (List ℕ) Fault → Known → Type 0
-IsKnownBy stale (Ok text) known = (said : Said) × TextSays text said × (known ≡ known_of stale said)
+IsKnownBy stale (Ok text) known = (said : Said) × TextSaysOnly text said × (known ≡ known_of stale said)
 IsKnownBy stale (Err why) known = known ≡ Err why
 
 -- ... by what was found of the part file

@@ -8,7 +8,8 @@ use Rattle.lr_reading.proofs.text.read_file.Goals as goal
 pub returns-in-Ok-clause-told : goal.returns-in-Ok-clause-told
 returns-in-Ok-clause-told g c =
     let r = c.in-Ok.ensures.told in
-    text_whole c.args.state.now (length c.args.buffer.now) c.args.stale _ c.known.result r (reader_known c.args.stale (bytes_of r.pieces ++ r.last) c.finish.result c.known.result (c.finish.ensures.says (bytes_of r.pieces ++ r.last) r.taken) c.known.ensures)
+    text_whole c.args.state.now (length c.args.buffer.now) c.args.stale _ c.known.result r (reader_known c.args.stale (bytes_of r.pieces ++ r.last) c.finish.result c.known.result (c.finish.ensures.says (bytes_of r.pieces ++ r.last) r.taken)
+    (λ said says. c.finish.ensures.only (bytes_of r.pieces ++ r.last) said r.taken says) c.known.ensures)
 
 pub returns-in-Err-Call-clause-told : goal.returns-in-Err-Call-clause-told
 returns-in-Err-Call-clause-told g c = text_stopped c.args.state.now (length c.args.buffer.now) c.args.stale c.not_read.result (Stops read.Call) (rw c.in-Err-Call.field-0-is at c.in-Err-Call.ensures.stopped)
