@@ -1,4 +1,5 @@
 pub mod Joining
 pub mod Looks
 pub mod One
+pub mod PartPath
 pub mod Quiet
