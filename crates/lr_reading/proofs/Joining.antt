@@ -1,12 +1,11 @@
 -- Pieces one after another, and the parts of a reading.
-use Rattle.std.proofs.Common.{◌≡◌, ◌≤◌, ◌<◌, ◌⊎◌, inl, inr, ℕ, ◌+◌, Bool, true, false, List, [], ◌∷◌, ◌++◌, length, refl, sym, ap, ◌∙◌, subst, append_assoc, arith, length-append, Option, Some, None, Result, Ok, Err, IfOk, IfErr}
+use Rattle.std.proofs.Common.{◌≡◌, ◌≤◌, ◌<◌, ◌⊎◌, inl, inr, ℕ, ◌+◌, Bool, true, false, List, [], ◌∷◌, ◌++◌, length, refl, sym, ap, ◌∙◌, subst, append_assoc, arith, length-append, Option, None, Result, Ok, Err, IfOk, IfErr}
 use Rattle.std.specs.Prelude.{nat_lt, filter, IsErrAnd}
 use Rattle.std.proofs.lemmas.Bool.{ltb-true, ltb-false}
 use Rattle.std.proofs.lemmas.List.{append-nil}
 use Rattle.lr_rules.specs.declared.path.Path.{Path}
 use Rattle.lr_rules.specs.declared.memory.Memory.{Memory}
 use Rattle.lr_rules.specs.declared.fault.CallKind.TheVariants as call
-use Rattle.lr_rules.specs.declared.fault.Fault.{Fault}
 use Rattle.lr_rules.specs.declared.fault.Fault.TheVariants as fault
 use Rattle.lr_host.specs.declared.entry.Entry.{Entry}
 use Rattle.lr_host.specs.declared.entry.Entry.TheVariants as entry
@@ -23,10 +22,10 @@ use Rattle.lr_state.specs.declared.text.StateStop.TheVariants as whole
 use Rattle.lr_reading.specs.declared.look.LookStop.{LookStop}
 use Rattle.lr_reading.specs.declared.pieces.ReadStop.{ReadStop}
 use Rattle.lr_reading.specs.declared.pieces.ReadStop.TheVariants as read
-use Rattle.lr_reading.specs.Answers.{Known, IsKnownBy, IsKnownBehind, IsKnownOf, IsKnown, ReadsState, fault_of, text_of}
-use Rattle.lr_reading.specs.Internal.{IsKnownByReader, Finds, ReadsOn, ReadsOne, StopsAt, ReadsWhole, ReadsSo, IsBroken, Stops, ReadsText, ReadsPart}
-use Rattle.lr_reading.specs.Pieces.{Reading, Whole, Broken, AreSome, GoOn, IsLast, IsReading, bytes_of, reads_from, reads_of}
-use Rattle.lr_reading.specs.Sights.{Sight, Failed, Nothing, Saw, found, look_of, state_part, text_entries, behind_part, part_entries, behind_state, entries_of}
+use Rattle.lr_reading.specs.Answers.{Known, IsKnownBy, IsKnownBehind, IsKnownOf, ReadsState, fault_of, text_of}
+use Rattle.lr_reading.specs.Internal.{IsKnownByReader, Finds, ReadsOn, StopsAt, ReadsWhole, ReadsSo, IsBroken, Stops, ReadsText, ReadsPart}
+use Rattle.lr_reading.specs.Pieces.{Reading, Whole, Broken, AreSome, GoOn, IsLast, bytes_of, reads_from}
+use Rattle.lr_reading.specs.Sights.{Sight, Failed, Nothing, Saw, found, look_of, state_part, behind_part, behind_state}
 
 -- ---- one piece more
 

@@ -1,16 +1,15 @@
 -- What one look finds.
-use Rattle.std.proofs.Common.{◌≡◌, Bool, true, false, refl, sym, ap, ◌∙◌, List, [], ◌∷◌, Option, Some, None, Result, Ok, Err}
+use Rattle.std.proofs.Common.{◌≡◌, false, refl, sym, ap, ◌∙◌, [], ◌∷◌, Option, Some, None, Ok, Err}
 use Rattle.lr_rules.specs.declared.path.Path.{Path}
 use Rattle.lr_host.specs.declared.thing.Kind.{Kind}
 use Rattle.lr_host.specs.declared.thing.Seen.{Seen}
 use Rattle.lr_host.specs.declared.entry.Entry.TheVariants as entry
 use Rattle.lr_host.specs.declared.journal.Journal.{Journal}
 use Rattle.lr_host.specs.Told.{Left}
-use Rattle.lr_host.proofs.Left.{left_first, left_as}
-use Rattle.lr_reading.specs.declared.look.LookStop.{LookStop}
+use Rattle.lr_host.proofs.Left.{left_as}
 use Rattle.lr_reading.specs.declared.look.LookStop.TheVariants as stop
 use Rattle.lr_reading.specs.Internal.{Finds}
-use Rattle.lr_reading.specs.Sights.{Sight, Failed, Nothing, Saw, found_kind}
+use Rattle.lr_reading.specs.Sights.{Failed, Nothing, Saw, found_kind}
 
 -- it failed
 pub finds_failed : (path : Path) {o n : Option Journal} → Left (λ ts. ts ≡ []) o n → Left (Finds path (Err stop.Call)) o n

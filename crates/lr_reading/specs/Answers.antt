@@ -1,5 +1,5 @@
 -- What a run knows of the state by what the looks and the reading came to.
-use Rattle.std.specs.Prelude.{◌≡◌, ◌⊎◌, Bool, true, false, ℕ, List, [], ◌∷◌, ◌++◌, Result, Ok, Err, IfOk}
+use Rattle.std.specs.Prelude.{◌≡◌, ◌⊎◌, Bool, true, false, ℕ, List, [], ◌++◌, Result, Ok, Err, IfOk}
 use Rattle.lr_rules.specs.declared.path.Path.{Path}
 use Rattle.lr_rules.specs.declared.memory.Memory.{Memory}
 use Rattle.lr_rules.specs.declared.fault.CallKind.TheVariants as call
@@ -37,17 +37,17 @@ known_of stale (Err bad) = Err (fault.State bad.0 bad.1)
 abbrev pub TextSaysOnly : List ℕ → Said → Type 0
 TextSaysOnly text said = TextSays text said × ((other : Said) → TextSays text other → other ≡ said)
 
--- This is known by the text.
+-- This is known by the text: what it says, or why there is none.
 abbrev pub IsKnownBy : Bool → Result (List ℕ) Fault → Known → Type 0
 IsKnownBy stale (Ok text) known = (said : Said) × TextSaysOnly text said × (known ≡ known_of stale said)
 IsKnownBy stale (Err why) known = known ≡ Err why
 
--- ... by what was found of the part file
+-- This is known by the part file that was found, and by the text.
 abbrev pub IsKnownBehind : Path → Bool → Result Bool LookStop → Reading → Known → Type 0
 IsKnownBehind state there (Ok stale) reading known = IsKnownBy stale (text_of state there reading) known
 IsKnownBehind state there (Err why) reading known = known ≡ Err (fault_of why (state_part state))
 
--- ... and by what was found of the state's file
+-- This is known by the state's file that was found, by the part file, and by the text: the first fault counts.
 abbrev pub IsKnownOf : Path → Result Bool LookStop → Result Bool LookStop → Reading → Known → Type 0
 IsKnownOf state (Ok there) part reading known = IsKnownBehind state there part reading known
 IsKnownOf state (Err why) part reading known = known ≡ Err (fault_of why state)

@@ -15,7 +15,7 @@ use Rattle.lr_reading.specs.declared.look.LookStop.{LookStop}
 use Rattle.lr_reading.specs.declared.pieces.ReadStop.{ReadStop}
 use Rattle.lr_reading.specs.declared.pieces.ReadStop.TheVariants as read
 use Rattle.lr_reading.specs.Answers.{Known, IsKnownBy, IsKnownBehind, text_of}
-use Rattle.lr_reading.specs.Pieces.{Reading, Whole, Broken, GoOn, IsLast, IsReading, bytes_of, reads_from, reads_of}
+use Rattle.lr_reading.specs.Pieces.{Reading, Whole, Broken, IsLast, IsReading, bytes_of, reads_of}
 use Rattle.lr_reading.specs.Sights.{Sight, found, look_of, part_entries, text_entries}
 
 -- One look, and what was found.

@@ -1,5 +1,5 @@
 -- What the looks at the state's files and the reading of its text came to, and the entries that they left.
-use Rattle.std.specs.Prelude.{◌≡◌, Bool, true, false, ℕ, List, [], ◌∷◌, ◌++◌, Option, Some, None, Result, Ok, Err, codes}
+use Rattle.std.specs.Prelude.{◌≡◌, Bool, true, false, ℕ, List, [], ◌∷◌, ◌++◌, Some, None, Result, Ok, Err, codes}
 use Rattle.lr_rules.specs.declared.path.Path.{Path}
 use Rattle.lr_host.specs.declared.thing.Kind.{Kind}
 use Rattle.lr_host.specs.declared.thing.Kind.TheVariants as kind
@@ -44,12 +44,12 @@ found (Saw seen) = found_kind seen.kind
 
 -- ---- the entries
 
--- the text is read where its file stands
+-- The text is read where its file stands.
 abbrev pub text_entries : Path → Bool → Reading → List Entry
 text_entries state true reading = reads_of state reading
 text_entries state false reading = []
 
--- ... and where the part file is a regular one or none
+-- It is read where the part file is a regular one or none.
 abbrev pub behind_part : Path → Bool → Result Bool LookStop → Reading → List Entry
 behind_part state there (Ok stale) reading = text_entries state there reading
 behind_part state there (Err why) reading = []

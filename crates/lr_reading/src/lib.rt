@@ -26,5 +26,4 @@ pub use answer::read_state;
 pub use laws::{states_are_read_quietly, states_show_one_answer};
 pub use look::LookStop;
 pub use part::part_path;
-pub use pieces::ReadStop;
 pub use remembered::Remembered;

@@ -1,4 +1,4 @@
-use Rattle.std.proofs.Common.{length, subst, sym}
+use Rattle.std.proofs.Common.{length}
 use Rattle.lr_reading.proofs.Joining.{finds_stay, part_found, part_refused}
 use Rattle.lr_reading.proofs.answer.read_behind.Goals as goal
 

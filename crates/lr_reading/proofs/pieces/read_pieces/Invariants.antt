@@ -1,4 +1,4 @@
-use Rattle.std.proofs.Common.{◌≡◌, ◌<◌, ◌-◌, ℕ, List, [], length}
+use Rattle.std.proofs.Common.{◌≡◌, ◌-◌, ℕ, List, [], length}
 use Rattle.lr_host.specs.declared.entry.Entry.TheVariants as entry
 use Rattle.lr_host.specs.Told.{Left, Are, Can, Onward}
 use Rattle.lr_state.specs.Given.{HasTaken}

@@ -1,4 +1,4 @@
-use Rattle.std.proofs.Common.{length, refl, sym, ap, subst, Ok, Bool, Option}
+use Rattle.std.proofs.Common.{length}
 use Rattle.lr_reading.proofs.Joining.{text_empty}
 use Rattle.lr_reading.proofs.text.read_text.Goals as goal
 
