@@ -1,6 +1,9 @@
+pub mod Apart
 pub mod Gathering
 pub mod Giving
 pub mod Leading
+pub mod Levels
+pub mod ListsOnce
 pub mod Looking
 pub mod OnlyLooks
 pub mod Rounds

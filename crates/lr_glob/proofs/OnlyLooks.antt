@@ -1,5 +1,5 @@
 -- What is left of a word are looks and listings alone.
-use Rattle.std.proofs.Common.{◌≡◌, ◌⊎◌, inl, inr, ℕ, Bool, true, false, cond, List, [], ◌∷◌, ◌++◌, map, refl, sym, subst, Option, Result}
+use Rattle.std.proofs.Common.{◌≡◌, ◌⊎◌, inl, inr, ℕ, Bool, true, false, cond, List, [], ◌∷◌, map, refl, sym, subst, Option, Result}
 use Rattle.std.specs.Prelude.{flat_map}
 use Rattle.lr_rules.specs.declared.path.Path.{Path}
 use Rattle.lr_rules.specs.Match.{is_wildcard}
@@ -7,7 +7,7 @@ use Rattle.lr_rules.specs.declared.fault.CallKind.{CallKind}
 use Rattle.lr_host.specs.declared.thing.Seen.{Seen}
 use Rattle.lr_host.specs.declared.entry.Entry.{Entry}
 use Rattle.lr_host.specs.declared.entry.Entry.TheVariants as entry
-use Rattle.lr_host.specs.Told.{Each, Then}
+use Rattle.lr_host.specs.Told.{Then}
 use Rattle.lr_host.specs.Looks.{Sees, IsDir, is_dir}
 use Rattle.lr_host.specs.Quiet.{IsQuiet, AreQuiet}
 use Rattle.lr_host.proofs.Each.{each_append, each_as, each_map}
@@ -20,7 +20,7 @@ use Rattle.lr_glob.specs.Looking.{IsLooking, AreLooking}
 use Rattle.lr_glob.specs.Visits.{Visit, visit_entries}
 use Rattle.lr_glob.specs.Rounds.{Round, Went, Asked, round_entries, Led}
 use Rattle.lr_glob.specs.Sights.{Sight, look_of}
-use Rattle.lr_glob.specs.Stops.{NotVisited, BrokenAt, BrokenBehind, RoundBroken, NotFollowed, NotLed}
+use Rattle.lr_glob.specs.Stops.{NotVisited, RoundBroken, NotFollowed, NotLed}
 use Rattle.lr_glob.specs.Words.{Gave, Comes, Stopped, Begun, CallFailed, SearchThen}
 
 both : {P Q : List Entry → Type 0} (ts : List Entry) → ((us : List Entry) → P us → AreLooking us) → ((us : List Entry) → Q us → AreLooking us) → Then P Q ts → AreLooking ts

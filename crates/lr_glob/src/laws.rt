@@ -1,9 +1,13 @@
 // What a call leaves, whatever it answers.
-ghost use Rattle.std.specs.Prelude.{ℕ, List, Result};
+ghost use Rattle.std.specs.Prelude.{◌≤◌, ℕ, List, Result, reverse};
+ghost use Rattle.lr_rules.specs.declared.path.Path.{Path};
 ghost use Rattle.lr_host.specs.declared.entry.Entry.{Entry};
 ghost use Rattle.lr_host.specs.Quiet.{AreQuiet};
+ghost use Rattle.lr_host.specs.Told.{Made};
+ghost use Rattle.lr_host.specs.World.{Past};
 ghost use Rattle.lr_glob.specs.declared.found.Found.{Found};
 ghost use Rattle.lr_glob.specs.declared.found.GlobStop.{GlobStop};
+ghost use Rattle.lr_glob.specs.Listings.{listings_of};
 ghost use Rattle.lr_glob.specs.Looking.{AreLooking};
 ghost use Rattle.lr_glob.specs.Words.{Comes, Stopped};
 
@@ -12,4 +16,11 @@ pub fn words_only_look()
     ensures given { (word : List ℕ) (room : ℕ) (result : Result (List Found) GlobStop) (ts : List Entry) → Comes word room result ts → AreLooking ts }
     ensures stopped { (word : List ℕ) (room : ℕ) (why : GlobStop) (ts : List Entry) → Stopped word room why ts → AreLooking ts }
     ensures quiet { (ts : List Entry) → AreLooking ts → AreQuiet ts }
+{}
+
+/// A call of `expand` lists no directory twice, whatever it answers, however many parts its word has: of entries that it
+/// left in a journal, at most one is a listing of this directory. Writers may act between them.
+pub fn directories_are_listed_once()
+    ensures given { (p q : Past) (es : List Entry) (word : List ℕ) (room : ℕ) (result : Result (List Found) GlobStop) → Made p es q → Comes word room result (reverse es) → (dir : Path) → listings_of dir (reverse es) ≤ 1 }
+    ensures stopped { (p q : Past) (es : List Entry) (word : List ℕ) (room : ℕ) (why : GlobStop) → Made p es q → Stopped word room why (reverse es) → (dir : Path) → listings_of dir (reverse es) ≤ 1 }
 {}
