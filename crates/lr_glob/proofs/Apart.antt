@@ -1,6 +1,8 @@
 -- That no path stands twice among those to which a part leads.
-use Rattle.std.proofs.Common.{◌≡◌, ◌≢◌, inl, inr, ⊎_elim, ℕ, suc, List, [], ◌∷◌, ◌++◌, map, refl, sym, ◌∙◌, subst}
+use Rattle.std.proofs.Common.{◌≡◌, ◌≢◌, inl, inr, ⊎_elim, ℕ, suc, true, List, [], ◌∷◌, ◌++◌, map, refl, sym, ◌∙◌, subst}
+use Rattle.std.specs.Prelude.{chars}
 use Rattle.lr_rules.specs.declared.path.Path.{Path}
+use Rattle.lr_rules.specs.Match.{Matches}
 use Rattle.lr_rules.specs.Path.{joined}
 use Rattle.lr_host.specs.Fits.{IsPart}
 use Rattle.lr_host.specs.Lists.{IsIn, IsNotIn, AreDistinct}
@@ -44,12 +46,12 @@ join_once : (dir : Path) (name : List ℕ) (its : List Path) → JoinOf dir name
 join_once dir name _ (JoinOf.is_path valid) = (tt, tt)
 join_once dir name _ (JoinOf.no_path other) = tt
 
-record JoinedIn (name : List ℕ) (dirs : List Path) (x : Path) : Type 0 where
-  dir : Path
-  there : IsIn dir dirs
-  is : x ≡ joined dir name
+pub record JoinedIn (name : List ℕ) (dirs : List Path) (x : Path) : Type 0 where
+  pub dir : Path
+  pub there : IsIn dir dirs
+  pub is : x ≡ joined dir name
 
-joined_in : (name : List ℕ) (dirs paths : List Path) (x : Path) → Gathers (λ dir its. JoinOf dir name its) dirs paths → IsIn x paths → JoinedIn name dirs x
+pub joined_in : (name : List ℕ) (dirs paths : List Path) (x : Path) → Gathers (λ dir its. JoinOf dir name its) dirs paths → IsIn x paths → JoinedIn name dirs x
 joined_in name _ _ x Gathers.none i = absurd i
 joined_in name _ _ x (Gathers.more dir dirs its paths j g) i = ⊎_elim
     (λ (a : IsIn x its). record { dir = dir; there = inl refl; is = join_is dir name its x j a })
@@ -71,20 +73,25 @@ pick_is : (part : List ℕ) (dir : Path) (name : List ℕ) (its : List Path) (x 
 pick_is part dir name _ x (PickOf.matched its m j) i = join_is dir name its x j i
 pick_is part dir name _ x (PickOf.other m) i = absurd i
 
+pick_matches : (part : List ℕ) (dir : Path) (name : List ℕ) (its : List Path) (x : Path) → PickOf part dir name its → IsIn x its → Matches true (chars part) (chars name)
+pick_matches part dir name _ x (PickOf.matched its m j) i = m
+pick_matches part dir name _ x (PickOf.other m) i = absurd i
+
 pick_once : (part : List ℕ) (dir : Path) (name : List ℕ) (its : List Path) → PickOf part dir name its → AreDistinct its
 pick_once part dir name _ (PickOf.matched its m j) = join_once dir name its j
 pick_once part dir name _ (PickOf.other m) = tt
 
-record PickedIn (dir : Path) (names : List (List ℕ)) (x : Path) : Type 0 where
-  name : List ℕ
-  there : IsIn name names
-  is : x ≡ joined dir name
+pub record PickedIn (part : List ℕ) (dir : Path) (names : List (List ℕ)) (x : Path) : Type 0 where
+  pub name : List ℕ
+  pub there : IsIn name names
+  pub matches : Matches true (chars part) (chars name)
+  pub is : x ≡ joined dir name
 
-picked_in : (part : List ℕ) (dir : Path) (names : List (List ℕ)) (paths : List Path) (x : Path) → Gathers (PickOf part dir) names paths → IsIn x paths → PickedIn dir names x
+picked_in : (part : List ℕ) (dir : Path) (names : List (List ℕ)) (paths : List Path) (x : Path) → Gathers (PickOf part dir) names paths → IsIn x paths → PickedIn part dir names x
 picked_in part dir _ _ x Gathers.none i = absurd i
 picked_in part dir _ _ x (Gathers.more name names its paths p g) i = ⊎_elim
-    (λ (a : IsIn x its). record { name = name; there = inl refl; is = pick_is part dir name its x p a })
-    (λ (b : IsIn x paths). let r = picked_in part dir names paths x g b in record { name = r.name; there = inr r.there; is = r.is })
+    (λ (a : IsIn x its). record { name = name; there = inl refl; matches = pick_matches part dir name its x p a; is = pick_is part dir name its x p a })
+    (λ (b : IsIn x paths). let r = picked_in part dir names paths x g b in record { name = r.name; there = inr r.there; matches = r.matches; is = r.is })
     (in_append x its paths i)
 
 -- Different names, each of which can stand behind a slash.
@@ -106,12 +113,12 @@ dir_of v = v.dir
 abbrev pub AreTrue : List Visit → Type 0
 AreTrue visits = (v : Visit) → IsIn v visits → AreNames (names_of v)
 
-record VisitedIn (visits : List Visit) (x : Path) : Type 0 where
-  visit : Visit
-  there : IsIn visit visits
-  picked : PickedIn visit.dir (names_of visit) x
+pub record VisitedIn (part : List ℕ) (visits : List Visit) (x : Path) : Type 0 where
+  pub visit : Visit
+  pub there : IsIn visit visits
+  pub picked : PickedIn part visit.dir (names_of visit) x
 
-visited_in : (part : List ℕ) (visits : List Visit) (paths : List Path) (x : Path) → Gathers (Picks part) visits paths → IsIn x paths → VisitedIn visits x
+pub visited_in : (part : List ℕ) (visits : List Visit) (paths : List Path) (x : Path) → Gathers (Picks part) visits paths → IsIn x paths → VisitedIn part visits x
 visited_in part _ _ x Gathers.none i = absurd i
 visited_in part _ _ x (Gathers.more v visits its paths p g) i = ⊎_elim
     (λ (a : IsIn x its). record { visit = v; there = inl refl; picked = picked_in part v.dir (names_of v) its x p a })

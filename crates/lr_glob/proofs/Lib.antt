@@ -5,6 +5,8 @@ pub mod Leading
 pub mod Levels
 pub mod ListsOnce
 pub mod Looking
+pub mod Names
 pub mod OnlyLooks
 pub mod Rounds
+pub mod Seeking
 pub mod Visits

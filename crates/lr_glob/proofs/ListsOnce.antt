@@ -49,7 +49,7 @@ true_entries p _ _ at_first = tt
 true_entries p _ es (by_writer {q = q} m i f) = true_entries p q es m
 true_entries p _ _ (by_tool {es = es} {q = q} {e = e} m i f) = (true_entry (world q) e f, true_entries p q es m)
 
-each_last : (P : Entry → Type 0) (xs ys : List Entry) → Each P (xs ++ ys) → Each P ys
+pub each_last : (P : Entry → Type 0) (xs ys : List Entry) → Each P (xs ++ ys) → Each P ys
 each_last P [] ys a = a
 each_last P (x ∷ xs) ys a = each_last P xs ys a.1
 
@@ -60,7 +60,7 @@ visit_true v a = by (is_dir v.seen) a.1
     by true t = t.0
     by false t = record { once = tt; parts = λ name i. absurd i }
 
-visits_true : (visits : List Visit) → Each IsTrue (flat_map visit_entries visits) → AreTrue visits
+pub visits_true : (visits : List Visit) → Each IsTrue (flat_map visit_entries visits) → AreTrue visits
 visits_true [] a v i = absurd i
 visits_true (w ∷ visits) a v (inl e) = subst (λ x. AreNames (names_of x)) e (visit_true w (each_first IsTrue (visit_entries w) (flat_map visit_entries visits) a))
 visits_true (w ∷ visits) a v (inr i) = visits_true visits (each_last IsTrue (visit_entries w) (flat_map visit_entries visits) a) v i
@@ -284,7 +284,7 @@ module _ (dir : Path) where
   stopped_by word room stop.LongName ts a s = gave_once word s.all ts a s.gave
   stopped_by word room stop.TooMany ts a s = gave_once word s.all ts a s.gave
 
-made_true : (p q : Past) (es : List Entry) → Made p es q → Each IsTrue (reverse es)
+pub made_true : (p q : Past) (es : List Entry) → Made p es q → Each IsTrue (reverse es)
 made_true p q es m = each_reverse IsTrue es (true_entries p q es m)
 
 pub comes_once : (p q : Past) (es : List Entry) (word : List ℕ) (room : ℕ) (result : Result (List Found) GlobStop) → Made p es q → Comes word room result (reverse es) → (dir : Path) → listings_of dir (reverse es) ≤ 1

@@ -7,5 +7,6 @@ pub mod Turns
 pub mod Visits
 pub mod Rounds
 pub mod Sights
+pub mod Sought
 pub mod Stops
 pub mod Words

@@ -1,7 +1,10 @@
 // What a call leaves, whatever it answers.
-ghost use Rattle.std.specs.Prelude.{◌≤◌, ℕ, List, Result, reverse};
+ghost use Rattle.std.specs.Prelude.{◌≡◌, ◌≤◌, ℕ, true, false, List, Result, Ok, reverse};
 ghost use Rattle.lr_rules.specs.declared.path.Path.{Path};
+ghost use Rattle.lr_rules.specs.Match.{WordGives, is_wildcard};
+ghost use Rattle.lr_rules.specs.Path.{has_empty_part};
 ghost use Rattle.lr_host.specs.declared.entry.Entry.{Entry};
+ghost use Rattle.lr_host.specs.Lists.{IsIn};
 ghost use Rattle.lr_host.specs.Quiet.{AreQuiet};
 ghost use Rattle.lr_host.specs.Told.{Made};
 ghost use Rattle.lr_host.specs.World.{Past};
@@ -9,6 +12,7 @@ ghost use Rattle.lr_glob.specs.declared.found.Found.{Found};
 ghost use Rattle.lr_glob.specs.declared.found.GlobStop.{GlobStop};
 ghost use Rattle.lr_glob.specs.Listings.{listings_of};
 ghost use Rattle.lr_glob.specs.Looking.{AreLooking};
+ghost use Rattle.lr_glob.specs.Sought.{IsSought};
 ghost use Rattle.lr_glob.specs.Words.{Comes, Stopped};
 
 /// A call of `expand` leaves looks and listings alone, which change nothing, whatever it answers.
@@ -23,4 +27,13 @@ pub fn words_only_look()
 pub fn directories_are_listed_once()
     ensures given { (p q : Past) (es : List Entry) (word : List ℕ) (room : ℕ) (result : Result (List Found) GlobStop) → Made p es q → Comes word room result (reverse es) → (dir : Path) → listings_of dir (reverse es) ≤ 1 }
     ensures stopped { (p q : Past) (es : List Entry) (word : List ℕ) (room : ℕ) (why : GlobStop) → Made p es q → Stopped word room why (reverse es) → (dir : Path) → listings_of dir (reverse es) ≤ 1 }
+{}
+
+/// What a call of `expand` finds is what the word seeks: of a wildcard without empty parts, as those of a configuration
+/// are, regular files at paths that it matches part by part, and no copies that aren't whole yet; of a literal word its
+/// one path.
+pub fn found_are_sought()
+    ensures wildcard { (p q : Past) (es : List Entry) (word : List ℕ) (room : ℕ) (found : List Found) → is_wildcard word ≡ true → has_empty_part word ≡ false
+        → Made p es q → Comes word room (Ok found) (reverse es) → (f : Found) → IsIn f found → IsSought word f }
+    ensures literal { (word : List ℕ) (room : ℕ) (found : List Found) (ts : List Entry) → is_wildcard word ≡ false → Comes word room (Ok found) ts → (f : Found) → IsIn f found → WordGives word f.path }
 {}

@@ -19,5 +19,5 @@ mod visit;
 mod word;
 
 pub use found::{Found, GlobStop};
-pub use laws::{directories_are_listed_once, words_only_look};
+pub use laws::{directories_are_listed_once, found_are_sought, words_only_look};
 pub use word::expand;
