@@ -11,18 +11,19 @@ use Rattle.lr_host.specs.declared.thing.Kind.{Kind}
 use Rattle.lr_host.specs.declared.thing.Kind.TheVariants as kind
 use Rattle.lr_host.specs.declared.thing.Seen.{Seen}
 use Rattle.lr_host.specs.declared.entry.Entry.{Entry}
+use Rattle.lr_host.specs.declared.entry.Entry.TheVariants as entry
 use Rattle.lr_host.specs.Fits.{IsPart}
 use Rattle.lr_host.specs.Lists.{IsIn}
 use Rattle.lr_host.specs.Told.{Each, Made}
 use Rattle.lr_host.specs.World.{Past}
 use Rattle.lr_host.proofs.Each.{each_first}
-use Rattle.lr_host.proofs.Lists.{in_map, in_append, in_from, in_to}
+use Rattle.lr_host.proofs.Lists.{in_map, in_append, in_back, in_from, in_to}
 use Rattle.lr_match.proofs.Ends.{ends_tell}
 use Rattle.lr_glob.specs.declared.found.Found.{Found}
 use Rattle.lr_glob.specs.declared.found.GlobStop.TheVariants as stop
 use Rattle.lr_glob.specs.Parts.{parts_in}
 use Rattle.lr_glob.specs.Rounds.{Round, Went, Asked, round_entries, FollowsBy, Leads, Led}
-use Rattle.lr_glob.specs.Sights.{Sight, is_whole, is_file_kind, is_long, file_at, file_of, seen_at, judged, LookedAt}
+use Rattle.lr_glob.specs.Sights.{Sight, is_whole, is_file_kind, is_long, file_at, file_of, look_of, seen_at, judged, LookedAt}
 use Rattle.lr_glob.specs.Sought.{GoesWith, Seeks, IsSought}
 use Rattle.lr_glob.specs.Words.{root, Gave, Comes, SearchThen}
 use Rattle.lr_glob.proofs.Apart.{dir_of, joined_in, visited_in}
@@ -93,26 +94,34 @@ led_seeks word paths ts x wild absolute full l t i =
 
 -- ---- looks
 
-record FileAt (path : Path) (f : Found) : Type 0 where
+-- The path was seen so.
+record SeenAt (path : Path) (look : Option Seen) (f : Found) : Type 0 where
   at : f.path ≡ path
+  saw : look ≡ Some f.seen
+
+record FileAt (path : Path) (look : Option Seen) (f : Found) : Type 0 where
+  seen_at : SeenAt path look f
   file : f.seen.kind ≡ kind.File
 
-file_there : (path : Path) (seen : Seen) (f : Found) (k : Kind) → seen.kind ≡ k → IsIn f (cond (is_file_kind k) (record { path = path; seen = seen } ∷ []) []) → FileAt path f
-file_there path seen f kind.File e (inl is) = record { at = ap (λ (g : Found). g.path) (sym is); file = ap (λ (g : Found). g.seen.kind) (sym is) ∙ e }
+is_there : (path : Path) (seen : Seen) (f : Found) → record { path = path; seen = seen } ≡ f → SeenAt path (Some seen) f
+is_there path seen f e = record { at = ap (λ (g : Found). g.path) (sym e); saw = ap (λ (g : Found). Some g.seen) e }
+
+file_there : (path : Path) (seen : Seen) (f : Found) (k : Kind) → seen.kind ≡ k → IsIn f (cond (is_file_kind k) (record { path = path; seen = seen } ∷ []) []) → FileAt path (Some seen) f
+file_there path seen f kind.File e (inl is) = record { seen_at = is_there path seen f is; file = ap (λ (g : Found). g.seen.kind) (sym is) ∙ e }
 file_there path seen f kind.File e (inr i) = absurd i
 file_there path seen f kind.Dir e i = absurd i
 file_there path seen f kind.Other e i = absurd i
 
-file_seen : (path : Path) (seen : Option Seen) (f : Found) → IsIn f (file_at path seen) → FileAt path f
+file_seen : (path : Path) (look : Option Seen) (f : Found) → IsIn f (file_at path look) → FileAt path look f
 file_seen path None f i = absurd i
 file_seen path (Some seen) f i = file_there path seen f seen.kind refl i
 
-record Seen_at (sights : List Sight) (f : Found) : Type 0 where
+record FileIn (sights : List Sight) (f : Found) : Type 0 where
   sight : Sight
   there : IsIn sight sights
-  file : FileAt sight.path f
+  file : FileAt sight.path sight.seen f
 
-file_in : (sights : List Sight) (f : Found) → IsIn f (flat_map file_of sights) → Seen_at sights f
+file_in : (sights : List Sight) (f : Found) → IsIn f (flat_map file_of sights) → FileIn sights f
 file_in [] f i = absurd i
 file_in (s ∷ sights) f i = ⊎_elim
     (λ (a : IsIn f (file_of s)). record { sight = s; there = inl refl; file = file_seen s.path s.seen f a })
@@ -149,7 +158,7 @@ search_seeks word found ts f wild absolute full t s i =
     let whole = in_from r.sight.path (filter is_whole s.paths) (Contains-permutation s.ordered (filter is_whole s.paths) r.sight.path (IsPermutation-sym (filter is_whole s.paths) s.ordered s.order.same) (in_to r.sight.path s.ordered ordered)) in
     let path = left_in s.paths r.sight.path whole in
     let seeks_it = led_seeks word s.paths s.entries.front r.sight.path wild absolute full s.entries.first (each_first IsTrue s.entries.front s.entries.back (subst (Each IsTrue) s.entries.joined t)) path.0 in
-    record { sought = subst (Seeks word) (sym r.file.at) seeks_it; whole = subst (λ x. EndsWith x part_end → ⊥) (sym r.file.at) (whole_ends_not r.sight.path path.1); file = r.file.file }
+    record { sought = subst (Seeks word) (sym r.file.seen_at.at) seeks_it; whole = subst (λ x. EndsWith x part_end → ⊥) (sym r.file.seen_at.at) (whole_ends_not r.sight.path path.1); file = r.file.file }
 
 none_in : (f : Found) (found : List Found) → found ≡ [] → IsIn f found → ⊥
 none_in f found e i = subst (IsIn f) e i
@@ -164,16 +173,37 @@ pub wildcards_seek : (p q : Past) (es : List Entry) (word : List ℕ) (room : �
     → Made p es q → Comes word room (Ok found) (reverse es) → (f : Found) → IsIn f found → IsSought word f
 wildcards_seek p q es word room found wild full m c f i = gave_seeks word c.all (reverse es) f wild full (made_true p q es m) c.gave (subst (IsIn f) (sym (all_are room c.all found c.is)) i)
 
-seen_there : (path : Path) (seen : Option Seen) (f : Found) → IsIn f (seen_at path seen) → f.path ≡ path
+seen_there : (path : Path) (look : Option Seen) (f : Found) → IsIn f (seen_at path look) → SeenAt path look f
 seen_there path None f i = absurd i
-seen_there path (Some seen) f (inl e) = ap (λ (g : Found). g.path) (sym e)
+seen_there path (Some seen) f (inl e) = is_there path seen f e
 seen_there path (Some seen) f (inr i) = absurd i
 
 gave_gives : (word : List ℕ) (found : List Found) (ts : List Entry) (f : Found) → is_wildcard word ≡ false → Gave word found ts → IsIn f found → WordGives word f.path
-gave_gives word found ts f plain (Gave.literal is s) i = WordGives.literal plain (seen_there (literal_path word) s.seen f (subst (IsIn f) s.is i))
+gave_gives word found ts f plain (Gave.literal is s) i = WordGives.literal plain (seen_there (literal_path word) s.seen f (subst (IsIn f) s.is i)).at
 gave_gives word found ts f plain (Gave.no_path is other none e) i = absurd (none_in f found none i)
 gave_gives word found ts f plain (Gave.wildcard wild absolute s) i = absurd (let h = sym wild ∙ plain in cc)
 gave_gives word found ts f plain (Gave.relative wild relative none e) i = absurd (none_in f found none i)
 
 pub literals_give : (word : List ℕ) (room : ℕ) (found : List Found) (ts : List Entry) → is_wildcard word ≡ false → Comes word room (Ok found) ts → (f : Found) → IsIn f found → WordGives word f.path
 literals_give word room found ts plain c f i = gave_gives word c.all ts f plain c.gave (subst (IsIn f) (sym (all_are room c.all found c.is)) i)
+
+-- ---- what was seen
+
+look_in : (path : Path) (look : Option Seen) (f : Found) (ts : List Entry) → SeenAt path look f → IsIn (entry.Look path look) ts → IsIn (entry.Look f.path (Some f.seen)) ts
+look_in path look f ts s i = subst (λ x. IsIn (entry.Look x (Some f.seen)) ts) (sym s.at) (subst (λ l. IsIn (entry.Look path l) ts) s.saw i)
+
+search_saw : (word : List ℕ) (found : List Found) (ts : List Entry) (f : Found) → SearchThen word (λ ordered us. LookedAt ordered found us) ts → IsIn f found → IsIn (entry.Look f.path (Some f.seen)) ts
+search_saw word found ts f s i =
+    let l = s.entries.second in
+    let r = file_in l.sights f (subst (IsIn f) l.found_are i) in
+    let look = subst (IsIn (look_of r.sight)) (sym l.looks) (in_map look_of r.sight l.sights r.there) in
+    subst (IsIn (entry.Look f.path (Some f.seen))) (sym s.entries.joined) (in_back (entry.Look f.path (Some f.seen)) s.entries.front s.entries.back (look_in r.sight.path r.sight.seen f s.entries.back r.file.seen_at look))
+
+gave_saw : (word : List ℕ) (found : List Found) (ts : List Entry) (f : Found) → Gave word found ts → IsIn f found → IsIn (entry.Look f.path (Some f.seen)) ts
+gave_saw word found ts f (Gave.literal is s) i = look_in (literal_path word) s.seen f ts (seen_there (literal_path word) s.seen f (subst (IsIn f) s.is i)) (subst (IsIn (entry.Look (literal_path word) s.seen)) (sym s.look) (inl refl))
+gave_saw word found ts f (Gave.no_path is other none e) i = absurd (none_in f found none i)
+gave_saw word found ts f (Gave.wildcard wild absolute s) i = search_saw word found ts f s i
+gave_saw word found ts f (Gave.relative wild relative none e) i = absurd (none_in f found none i)
+
+pub found_were_seen : (word : List ℕ) (room : ℕ) (found : List Found) (ts : List Entry) → Comes word room (Ok found) ts → (f : Found) → IsIn f found → IsIn (entry.Look f.path (Some f.seen)) ts
+found_were_seen word room found ts c f i = gave_saw word c.all ts f c.gave (subst (IsIn f) (sym (all_are room c.all found c.is)) i)
