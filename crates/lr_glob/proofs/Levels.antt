@@ -89,7 +89,7 @@ pub dirs_same : (k : ℕ) (d e : Path) (name : List ℕ) → IsAt k d → IsAt k
 dirs_same zero d e name a b h = a ∙ sym b
 dirs_same (suc k) d e name a b h = append_cancel_right d e (47 ∷ name) (sym (joined_long d name a.0) ∙ (h ∙ joined_long e name b.0))
 
--- so do different names
+-- different names lead to different paths
 pub names_same : (d e : Path) (n m : List ℕ) → IsPart n → IsPart m → joined d n ≡ joined e m → n ≡ m
 names_same d e n m p q h = sym (last_joined d n p.1) ∙ (ap (λ x. last_of x) h ∙ last_joined e m q.1)
 

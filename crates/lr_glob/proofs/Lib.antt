@@ -1,9 +1,11 @@
 pub mod Apart
 pub mod Gathering
 pub mod Giving
+pub mod Going
 pub mod Leading
 pub mod Levels
 pub mod ListsOnce
+pub mod Literals
 pub mod Looking
 pub mod Names
 pub mod OnlyLooks

@@ -10,7 +10,6 @@ use Rattle.lr_rules.specs.Match.{literal_path}
 use Rattle.lr_host.specs.Fits.{IsPart}
 use Rattle.lr_host.specs.Lists.{IsIn}
 use Rattle.lr_glob.specs.Parts.{parts_in}
-use Rattle.lr_glob.specs.Sought.{GoesWith, Seeks}
 use Rattle.lr_glob.specs.Words.{root}
 
 -- each behind a slash
@@ -49,11 +48,11 @@ under_root name names a = under_long (47 ∷ name) names (λ n i. a n (inr i)) (
 
 -- ---- the parts of a word
 
--- the first of them is one byte longer
-data Parts : List (List ℕ) → Type 0 where
+-- there is a part
+pub data Parts : List (List ℕ) → Type 0 where
   some_parts : (q : List ℕ) (qs : List (List ℕ)) → Parts (q ∷ qs)
 
-split_parts : (bs : List ℕ) → Parts (slice_split is_slash bs)
+pub split_parts : (bs : List ℕ) → Parts (slice_split is_slash bs)
 split_parts [] = some_parts [] []
 split_parts (b ∷ bs) = by (is_slash b) (slice_split is_slash bs)
   where
@@ -128,14 +127,3 @@ pub word_parts : (word : List ℕ) → is_absolute word ≡ true → 2 ≤ lengt
 word_parts [] a long full part i = absurd (cc)
 word_parts (b ∷ []) a long full part i = absurd (omega (arith, long))
 word_parts (b ∷ c ∷ bs) a long full part i = (split_full (slice_split is_slash (c ∷ bs)) part full i, split_plain (c ∷ bs) part i)
-
--- ---- parts and names
-
--- each part goes with the name at its place
-pub data Goes : List (List ℕ) → List (List ℕ) → Type 0 where
-  none : Goes [] []
-  more : (part name : List ℕ) (parts names : List (List ℕ)) → GoesWith part name → Goes parts names → Goes (part ∷ parts) (name ∷ names)
-
-pub seeks : (parts names : List (List ℕ)) → AreParts parts → AreParts names → Goes parts names → Seeks (behind parts) (behind names)
-seeks _ _ a b Goes.none = Seeks.no_part
-seeks _ _ a b (Goes.more part name parts names g rest) = Seeks.next_part part name (behind parts) (behind names) (a part (inl refl)).1 (b name (inl refl)).1 g (seeks parts names (λ p i. a p (inr i)) (λ n i. b n (inr i)) rest)

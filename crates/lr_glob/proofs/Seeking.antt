@@ -1,11 +1,12 @@
 -- What is found is what the word seeks.
 use Rattle.std.proofs.Common.{◌≡◌, inl, inr, ⊎_elim, ℕ, ◌≤◌, Bool, true, false, not, cond, List, [], ◌∷◌, length, reverse, refl, sym, ap, ◌∙◌, subst, arith, Option, Some, None, Ok, Err}
 use Rattle.std.specs.Prelude.{flat_map, filter, nat_lt}
+use Rattle.std.specs.Str.{IsUtf8}
 use Rattle.std.specs.List.{list_any}
 use Rattle.std.proofs.lemmas.Bool.Decides.{Decides-eqb}
 use Rattle.std.proofs.lemmas.List.Sorted.{Contains-permutation, IsPermutation-sym}
 use Rattle.lr_rules.specs.declared.path.Path.{Path}
-use Rattle.lr_rules.specs.Match.{WordGives, EndsWith, is_wildcard, literal_path, part_end}
+use Rattle.lr_rules.specs.Match.{WordGives, PathMatches, EndsWith, is_wildcard, literal_path, part_end}
 use Rattle.lr_rules.specs.Path.{joined, is_absolute, has_empty_part}
 use Rattle.lr_host.specs.declared.thing.Kind.{Kind}
 use Rattle.lr_host.specs.declared.thing.Kind.TheVariants as kind
@@ -24,11 +25,13 @@ use Rattle.lr_glob.specs.declared.found.GlobStop.TheVariants as stop
 use Rattle.lr_glob.specs.Parts.{parts_in}
 use Rattle.lr_glob.specs.Rounds.{Round, Went, Asked, round_entries, FollowsBy, Leads, Led}
 use Rattle.lr_glob.specs.Sights.{Sight, is_whole, is_file_kind, is_long, file_at, file_of, look_of, seen_at, judged, LookedAt}
-use Rattle.lr_glob.specs.Sought.{GoesWith, Seeks, IsSought}
+use Rattle.lr_glob.specs.Sought.{IsSought}
 use Rattle.lr_glob.specs.Words.{root, Gave, Comes, SearchThen}
 use Rattle.lr_glob.proofs.Apart.{dir_of, joined_in, visited_in}
 use Rattle.lr_glob.proofs.ListsOnce.{IsTrue, each_last, visits_true, made_true}
-use Rattle.lr_glob.proofs.Names.{behind, under, AreParts, under_root, word_behind, literal_part, word_parts, Goes, seeks}
+use Rattle.lr_glob.proofs.Names.{behind, under, AreParts, under_root, word_behind, literal_part, word_parts}
+use Rattle.lr_glob.proofs.Going.{GoesWith, Goes, goes_all}
+use Rattle.lr_glob.proofs.Literals.{parts_utf8}
 
 -- ---- the parts of a word
 
@@ -72,10 +75,10 @@ reach _ _ _ _ x (Leads.on part parts dirs between paths round rounds f l) a t i 
     let s = step (is_wildcard part) part dirs between round r.dir refl (a part (inl refl)) f (each_first IsTrue (round_entries round) (flat_map round_entries rounds) t) r.there in
     record { dir = s.dir; there = s.there; names = s.name ∷ r.names; ones = one_more s.name r.names s.one r.ones; goes = Goes.more part s.name parts r.names s.goes r.goes; is = r.is ∙ ap (λ d. under d r.names) s.is }
 
-from_root : (word : List ℕ) (parts names : List (List ℕ)) (x : Path) → is_absolute word ≡ true → word ≡ behind parts → AreParts parts → AreParts names → Goes parts names → x ≡ under root names → Seeks word x
-from_root word _ _ x absolute e a b Goes.none is = let t = sym (ap is_absolute e) ∙ absolute in absurd (cc)
-from_root word _ _ x absolute e a b (Goes.more part name parts names g rest) is =
-    subst (λ w. Seeks w x) (sym e) (subst (Seeks (behind (part ∷ parts))) (sym (is ∙ under_root name names b)) (seeks (part ∷ parts) (name ∷ names) a b (Goes.more part name parts names g rest)))
+from_root : (word : List ℕ) (parts names : List (List ℕ)) (x : Path) → is_absolute word ≡ true → word ≡ behind parts → AreParts parts → AreParts names → ((p : List ℕ) → IsIn p parts → IsUtf8 p) → Goes parts names → x ≡ under root names → PathMatches word x
+from_root word _ _ x absolute e a b u Goes.none is = let t = sym (ap is_absolute e) ∙ absolute in absurd (cc)
+from_root word _ _ x absolute e a b u (Goes.more part name parts names g rest) is =
+    subst (λ w. PathMatches w x) (sym e) (subst (PathMatches (behind (part ∷ parts))) (sym (is ∙ under_root name names b)) (goes_all (part ∷ parts) (name ∷ names) a b u (Goes.more part name parts names g rest)))
 
 long_word : (word : List ℕ) → is_wildcard word ≡ true → is_absolute word ≡ true → 2 ≤ length word
 long_word [] wild absolute = absurd (cc)
@@ -86,11 +89,11 @@ at_root : (d : Path) → IsIn d (root ∷ []) → d ≡ root
 at_root d (inl e) = sym e
 at_root d (inr i) = absurd i
 
-led_seeks : (word : List ℕ) (paths : List Path) (ts : List Entry) (x : Path) → is_wildcard word ≡ true → is_absolute word ≡ true → has_empty_part word ≡ false → Led (parts_in word) (root ∷ []) paths ts → Each IsTrue ts → IsIn x paths → Seeks word x
-led_seeks word paths ts x wild absolute full l t i =
+led_seeks : (word : List ℕ) (paths : List Path) (ts : List Entry) (x : Path) → is_wildcard word ≡ true → is_absolute word ≡ true → has_empty_part word ≡ false → IsUtf8 word → Led (parts_in word) (root ∷ []) paths ts → Each IsTrue ts → IsIn x paths → PathMatches word x
+led_seeks word paths ts x wild absolute full u l t i =
     let parts = word_parts word absolute (long_word word wild absolute) full in
     let r = reach (parts_in word) (root ∷ []) paths l.rounds x l.leads parts (subst (Each IsTrue) l.entries t) i in
-    from_root word (parts_in word) r.names x absolute (word_behind word absolute) parts r.ones r.goes (r.is ∙ ap (λ d. under d r.names) (at_root r.dir r.there))
+    from_root word (parts_in word) r.names x absolute (word_behind word absolute) parts r.ones (parts_utf8 word u absolute) r.goes (r.is ∙ ap (λ d. under d r.names) (at_root r.dir r.there))
 
 -- ---- looks
 
@@ -150,28 +153,28 @@ all_are room all found e = by (list_any is_long all) (nat_lt room (length all)) 
     by false true h = absurd (cc)
     by false false h = cc
 
-search_seeks : (word : List ℕ) (found : List Found) (ts : List Entry) (f : Found) → is_wildcard word ≡ true → is_absolute word ≡ true → has_empty_part word ≡ false → Each IsTrue ts → SearchThen word (λ ordered us. LookedAt ordered found us) ts → IsIn f found → IsSought word f
-search_seeks word found ts f wild absolute full t s i =
+search_seeks : (word : List ℕ) (found : List Found) (ts : List Entry) (f : Found) → is_wildcard word ≡ true → is_absolute word ≡ true → has_empty_part word ≡ false → IsUtf8 word → Each IsTrue ts → SearchThen word (λ ordered us. LookedAt ordered found us) ts → IsIn f found → IsSought word f
+search_seeks word found ts f wild absolute full u t s i =
     let l = s.entries.second in
     let r = file_in l.sights f (subst (IsIn f) l.found_are i) in
     let ordered = subst (IsIn r.sight.path) l.each (in_map (λ (x : Sight). x.path) r.sight l.sights r.there) in
     let whole = in_from r.sight.path (filter is_whole s.paths) (Contains-permutation s.ordered (filter is_whole s.paths) r.sight.path (IsPermutation-sym (filter is_whole s.paths) s.ordered s.order.same) (in_to r.sight.path s.ordered ordered)) in
     let path = left_in s.paths r.sight.path whole in
-    let seeks_it = led_seeks word s.paths s.entries.front r.sight.path wild absolute full s.entries.first (each_first IsTrue s.entries.front s.entries.back (subst (Each IsTrue) s.entries.joined t)) path.0 in
-    record { sought = subst (Seeks word) (sym r.file.seen_at.at) seeks_it; whole = subst (λ x. EndsWith x part_end → ⊥) (sym r.file.seen_at.at) (whole_ends_not r.sight.path path.1); file = r.file.file }
+    let seeks_it = led_seeks word s.paths s.entries.front r.sight.path wild absolute full u s.entries.first (each_first IsTrue s.entries.front s.entries.back (subst (Each IsTrue) s.entries.joined t)) path.0 in
+    record { given = subst (WordGives word) (sym r.file.seen_at.at) (WordGives.wildcard wild seeks_it (whole_ends_not r.sight.path path.1)); file = r.file.file }
 
 none_in : (f : Found) (found : List Found) → found ≡ [] → IsIn f found → ⊥
 none_in f found e i = subst (IsIn f) e i
 
-gave_seeks : (word : List ℕ) (found : List Found) (ts : List Entry) (f : Found) → is_wildcard word ≡ true → has_empty_part word ≡ false → Each IsTrue ts → Gave word found ts → IsIn f found → IsSought word f
-gave_seeks word found ts f wild full t (Gave.literal plain s) i = absurd (let h = sym wild ∙ plain in cc)
-gave_seeks word found ts f wild full t (Gave.no_path plain other none e) i = absurd (none_in f found none i)
-gave_seeks word found ts f wild full t (Gave.wildcard is absolute s) i = search_seeks word found ts f wild absolute full t s i
-gave_seeks word found ts f wild full t (Gave.relative is relative none e) i = absurd (none_in f found none i)
+gave_seeks : (word : List ℕ) (found : List Found) (ts : List Entry) (f : Found) → is_wildcard word ≡ true → has_empty_part word ≡ false → IsUtf8 word → Each IsTrue ts → Gave word found ts → IsIn f found → IsSought word f
+gave_seeks word found ts f wild full u t (Gave.literal plain s) i = absurd (let h = sym wild ∙ plain in cc)
+gave_seeks word found ts f wild full u t (Gave.no_path plain other none e) i = absurd (none_in f found none i)
+gave_seeks word found ts f wild full u t (Gave.wildcard is absolute s) i = search_seeks word found ts f wild absolute full u t s i
+gave_seeks word found ts f wild full u t (Gave.relative is relative none e) i = absurd (none_in f found none i)
 
-pub wildcards_seek : (p q : Past) (es : List Entry) (word : List ℕ) (room : ℕ) (found : List Found) → is_wildcard word ≡ true → has_empty_part word ≡ false
+pub wildcards_seek : (p q : Past) (es : List Entry) (word : List ℕ) (room : ℕ) (found : List Found) → IsUtf8 word → is_wildcard word ≡ true → has_empty_part word ≡ false
     → Made p es q → Comes word room (Ok found) (reverse es) → (f : Found) → IsIn f found → IsSought word f
-wildcards_seek p q es word room found wild full m c f i = gave_seeks word c.all (reverse es) f wild full (made_true p q es m) c.gave (subst (IsIn f) (sym (all_are room c.all found c.is)) i)
+wildcards_seek p q es word room found u wild full m c f i = gave_seeks word c.all (reverse es) f wild full u (made_true p q es m) c.gave (subst (IsIn f) (sym (all_are room c.all found c.is)) i)
 
 seen_there : (path : Path) (look : Option Seen) (f : Found) → IsIn f (seen_at path look) → SeenAt path look f
 seen_there path None f i = absurd i

@@ -1,5 +1,5 @@
-// What a call leaves, whatever it answers.
-ghost use Rattle.std.specs.Prelude.{◌≡◌, ◌≤◌, ℕ, true, false, List, Result, Ok, Some, reverse};
+// What a call leaves, whatever it answers, and what it finds.
+ghost use Rattle.std.specs.Prelude.{◌≡◌, ◌≤◌, ℕ, true, false, List, Result, Ok, Some, reverse, IsUtf8};
 ghost use Rattle.lr_rules.specs.declared.path.Path.{Path};
 ghost use Rattle.lr_rules.specs.Match.{WordGives, is_wildcard};
 ghost use Rattle.lr_rules.specs.Path.{has_empty_part};
@@ -30,11 +30,11 @@ pub fn directories_are_listed_once()
     ensures stopped { (p q : Past) (es : List Entry) (word : List ℕ) (room : ℕ) (why : GlobStop) → Made p es q → Stopped word room why (reverse es) → (dir : Path) → listings_of dir (reverse es) ≤ 1 }
 {}
 
-/// What a call of `expand` finds is what the word seeks: of a wildcard without empty parts, as those of a configuration
-/// are, regular files at paths that it matches part by part, and no copies that aren't whole yet; of a literal word its
-/// one path. What was seen of each is what a look of the call at its path saw.
+/// What a call of `expand` finds are paths that the word gives: of a wildcard without empty parts, as those of a
+/// configuration are, regular files at paths that it matches part by part, and no copies that aren't whole yet; of a
+/// literal word its one path. What was seen of each is what a look of the call at its path saw.
 pub fn found_are_sought()
-    ensures wildcard { (p q : Past) (es : List Entry) (word : List ℕ) (room : ℕ) (found : List Found) → is_wildcard word ≡ true → has_empty_part word ≡ false
+    ensures wildcard { (p q : Past) (es : List Entry) (word : List ℕ) (room : ℕ) (found : List Found) → IsUtf8 word → is_wildcard word ≡ true → has_empty_part word ≡ false
         → Made p es q → Comes word room (Ok found) (reverse es) → (f : Found) → IsIn f found → IsSought word f }
     ensures literal { (word : List ℕ) (room : ℕ) (found : List Found) (ts : List Entry) → is_wildcard word ≡ false → Comes word room (Ok found) ts → (f : Found) → IsIn f found → WordGives word f.path }
     ensures seen { (word : List ℕ) (room : ℕ) (found : List Found) (ts : List Entry) → Comes word room (Ok found) ts → (f : Found) → IsIn f found → IsIn (entry.Look f.path (Some f.seen)) ts }
