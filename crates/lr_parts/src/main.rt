@@ -1,5 +1,6 @@
 //! Plays rows of calls below the top, over disks in memory: which members of a log stand, which rotation is made ready of
-//! them, how programs end and whether a file stays, what a configuration gives, and the calls of the host itself.
+//! them, how programs end and whether a file stays, what a configuration gives, which paths a word gives, and the calls of
+//! the host itself.
 //!
 //! Its words name files of rows, which `docs/ROWS.md` says how to write. For each row a line is printed: its name and
 //! `ok`, with how often it was played, or what differs from what the row wants, or why it is refused. It ends with 0
@@ -11,6 +12,7 @@ mod answer;
 mod ask;
 mod conf;
 mod family;
+mod globbing;
 mod host_calls;
 mod looks;
 mod programs;
