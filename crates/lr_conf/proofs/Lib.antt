@@ -1,5 +1,3 @@
-pub mod Lasts
-pub mod Settings
 pub mod Spoken
 pub mod Law
 pub mod Others

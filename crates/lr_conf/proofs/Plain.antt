@@ -21,11 +21,13 @@ use Rattle.lr_forms.specs.Says.{said}
 use Rattle.lr_forms.specs.Limits.{set_meets, said_meets, is_so_far, IsSoFar}
 use Rattle.lr_forms.proofs.Limits.{said_fine}
 use Rattle.lr_forms.proofs.SoFar.{said_so_far}
-use Rattle.lr_conf.specs.Fields.{fields_of, last_set, count_set, maxage_set, start_set, extension_set, addextension_set, olddir_set, createolddir_set, create_set, mail_set, mailfirst_set, shared_set, first_set, pre_set, post_set, last_script_set, preremove_set, dated_set, way_of}
-use Rattle.lr_conf.specs.Meaning.{Line, is_phase, script_fault, script_says, format_of, rule_of, meaning}
+use Rattle.lr_fields.specs.Fields.{fields_of, last_set, count_set, maxage_set, start_set, extension_set, addextension_set, olddir_set, createolddir_set, create_set, mail_set, mailfirst_set, shared_set, first_set, pre_set, post_set, last_script_set, preremove_set, dated_set, way_of}
+use Rattle.lr_fields.specs.Rules.{format_of, rule_of}
+use Rattle.lr_fields.specs.Scripts.{is_phase, script_fault}
+use Rattle.lr_conf.specs.Meaning.{Line, script_says, meaning}
 use Rattle.lr_conf.specs.Plain.{IsLogWord, IsSmallCount, IsPlainRule}
 use Rattle.lr_conf.proofs.Each.{append, Given}
-use Rattle.lr_conf.proofs.Settings.{same_scripts}
+use Rattle.lr_fields.proofs.Settings.{same_scripts}
 use Rattle.lr_conf.proofs.Walk.{OkSaid, Walk, each_rule, last_given}
 
 -- ---- lines

@@ -1,4 +1,3 @@
-pub mod Fields
 pub mod Meaning
 pub mod Stops
 pub mod Fold

@@ -9,15 +9,8 @@ use Rattle.lr_rules.specs.declared.fault.Fault.{Fault}
 use Rattle.lr_rules.specs.declared.fault.Fault.TheVariants as fault
 use Rattle.lr_rules.specs.declared.fault.Notice.{Notice}
 use Rattle.lr_rules.specs.declared.fault.Phase.{Phase}
-use Rattle.lr_rules.specs.declared.fault.Phase.TheVariants as phase
-use Rattle.lr_rules.specs.declared.rule.Criterion.{Criterion}
-use Rattle.lr_rules.specs.declared.rule.Criterion.TheVariants as criterion
-use Rattle.lr_rules.specs.declared.rule.Field.TheVariants as field
-use Rattle.lr_rules.specs.declared.rule.Format.{Format}
-use Rattle.lr_rules.specs.declared.rule.Piece.{Piece}
-use Rattle.lr_rules.specs.declared.rule.Piece.TheVariants as piece
 use Rattle.lr_rules.specs.declared.rule.Rule.{Rule}
-use Rattle.lr_conf.specs.declared.fields.Fields.{Fields}
+use Rattle.lr_fields.specs.declared.fields.Fields.{Fields}
 use Rattle.lr_conf.specs.declared.stop.Include.{Include}
 use Rattle.lr_forms.specs.declared.set.Set.{Set}
 use Rattle.lr_forms.specs.declared.set.Set.TheVariants as set
@@ -27,9 +20,10 @@ use Rattle.lr_words.specs.declared.taboo.TabooItems.{TabooItems}
 use Rattle.lr_match.specs.declared.taboo.Taboo.{Taboo}
 use Rattle.lr_match.specs.Taboos.{taboo_after}
 use Rattle.lr_forms.specs.declared.built.Built.{Built}
-use Rattle.lr_forms.specs.Built.{script_is_unbuilt}
 use Rattle.lr_forms.specs.Says.{line_of, has_brace, closes, said}
-use Rattle.lr_conf.specs.Fields.{fields_of}
+use Rattle.lr_fields.specs.Fields.{fields_of}
+use Rattle.lr_fields.specs.Rules.{rule_of}
+use Rattle.lr_fields.specs.Scripts.{script_fault}
 
 -- ---- lines
 
@@ -215,23 +209,6 @@ script_in b e = None
 abbrev pub scripts_in : Built → List Line → List Phase
 scripts_in b lines = filter_map (script_in b) lines
 
-abbrev pub is_phase : Phase → Phase → Bool
-is_phase phase.First phase.First = true
-is_phase phase.Pre phase.Pre = true
-is_phase phase.Post phase.Post = true
-is_phase phase.Last phase.Last = true
-is_phase phase.Preremove phase.Preremove = true
-is_phase phase.Mail phase.Mail = true
-is_phase p q = false
-
--- the first fault of a script that applies, where these stand before it in its definition
-abbrev pub script_fault : Built → List Phase → Phase → Bool → Option ConfKind
-script_fault b earlier p stray =
-    if list_any (is_phase p) earlier then Some kind.ScriptTwice
-    else if script_is_unbuilt b p then Some kind.NotYet
-    else if stray then Some kind.Stray
-    else None
-
 abbrev pub script_says : Option ConfKind → Phase → List ℕ → Said
 script_says None p text = says.Sets (set.Script p text)
 script_says (Some k) p text = says.Bad k
@@ -288,25 +265,6 @@ broken_fault w = None
 abbrev pub spoilt_fault : Line → Option Fault
 spoilt_fault (Spoiled f) = Some f
 spoilt_fault e = None
-
--- ---- rules
-
--- `-%Y%m%d`, and with the hour where the criterion is hourly
-abbrev pub default_pieces : Criterion → List Piece
-default_pieces criterion.Hourly = piece.Byte 45 ∷ piece.Field field.Year ∷ piece.Field field.Month ∷ piece.Field field.Day ∷ piece.Field field.Hour ∷ []
-default_pieces c = piece.Byte 45 ∷ piece.Field field.Year ∷ piece.Field field.Month ∷ piece.Field field.Day ∷ []
-
--- those that a line gives, else the default by the criterion that the definition has when it ends
-abbrev pub pieces_of : Criterion → Option (List Piece) → List Piece
-pieces_of c (Some pieces) = pieces
-pieces_of c None = default_pieces c
-
-abbrev pub format_of : Fields → Option Format
-format_of f = if f.dated then Some (record { pieces = pieces_of f.rule.criterion f.pieces; back = f.back }) else None
-
--- the rule of a definition that is whole
-abbrev pub rule_of : Path → ℕ → List (List ℕ) → Fields → Rule
-rule_of file at words f = record (f.rule) { file = file; line = at; words = words; dated = format_of f }
 
 -- ---- what lines mean
 

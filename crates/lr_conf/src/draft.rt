@@ -5,10 +5,10 @@ ghost use Rattle.lr_match.specs.Taboos.{first_taboo};
 ghost use Rattle.lr_conf.specs.Meaning.{Line, Read, Spoiled, End, meaning, asked, banned, told, conf, ◌and◌};
 ghost use Rattle.lr_conf.specs.Internal.Draft.{coming_from, asking_from, banning_from, TookIn, AsksIn, BansIn, AlikeIn, PassesIn, file_of_draft, files_of};
 
-use crate::fields::{Fields, default_fields};
 use crate::files::Files;
 use crate::place::Place;
 use crate::stop::{Include, LayerStop};
+use lr_fields::{Fields, default_fields};
 use lr_forms::Built;
 use lr_lex::Item;
 use lr_match::Taboo;

@@ -21,7 +21,7 @@ impl Model for Files {
 
 impl Files {
     ghost use Rattle.std.specs.Prelude.{◌≡◌, ◌<◌, ◌-◌, [], ◌∷◌, ◌++◌, length, take, IfOk};
-    ghost use Rattle.lr_conf.specs.Fields.{last_or};
+    ghost use Rattle.lr_fields.specs.Fields.{last_or};
 
     /// Room for 8 files.
     pub fn new(alloc: Global) -> Result<Files, Memory>

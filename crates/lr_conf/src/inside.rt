@@ -1,122 +1,16 @@
 // Lines in a definition.
-ghost use Rattle.std.specs.Prelude.{◌≡◌, ◌<◌, length, IfOk};
-ghost use Rattle.std.specs.List.{list_any};
+ghost use Rattle.std.specs.Prelude.{◌≡◌, ◌<◌, length};
 ghost use Rattle.lr_conf.specs.declared.place.Place.TheVariants as place;
 ghost use Rattle.lr_forms.specs.declared.said.Said.TheVariants as says;
-ghost use Rattle.lr_conf.specs.Meaning.{default_pieces, pieces_of, format_of, rule_of, is_phase, script_fault};
 ghost use Rattle.lr_conf.specs.Internal.Draft.{SaysInside, Closes, file_of_draft, files_of};
 
-use crate::copies::copy_pieces;
 use crate::draft::Draft;
-use crate::fields::{Fields, default_fields, set_field};
 use crate::place::Place;
 use crate::stop::{Include, LayerStop};
-use lr_forms::{Built, Said, Set, script_is_unbuilt};
-use lr_rules::{
-    ConfKind, Criterion, Field, Format, Listed, Memory, Path, Phase, Piece, Rule, Text,
-};
-use std::alloc::Global;
+use lr_fields::{default_fields, format_of, rule_of, script_fault, set_field};
+use lr_forms::{Said, Set};
+use lr_rules::{ConfKind, Listed, Phase, Text};
 use std::mem;
-
-/// The format of dated names where no line gives one: `-%Y%m%d`, and with the hour where the criterion is hourly.
-fn default_pieces(alloc: Global, criterion: Criterion) -> Result<Listed<Piece>, Memory>
-    ensures { IfOk result (λ pieces. pieces ≡ default_pieces criterion) }
-{
-    let mut pieces = Vec::from_array(
-        alloc,
-        [
-            Piece::Byte(b'-'),
-            Piece::Field(Field::Year),
-            Piece::Field(Field::Month),
-            Piece::Field(Field::Day),
-        ],
-    )?;
-    if let Criterion::Hourly = criterion {
-        pieces.push(Piece::Field(Field::Hour))?;
-    }
-    Ok(Listed::from_vec(pieces))
-}
-
-// Those that a line gives, else the default.
-fn pieces_of(
-    alloc: Global,
-    criterion: Criterion,
-    pieces: &Option<Listed<Piece>>,
-) -> Result<Listed<Piece>, Memory>
-    ensures { IfOk result (λ r. r ≡ pieces_of criterion pieces.now) }
-{
-    match copy_pieces(alloc, pieces)? {
-        Some(pieces) => Ok(pieces),
-        None => default_pieces(alloc, criterion),
-    }
-}
-
-fn format_of(alloc: Global, fields: &Fields) -> Result<Option<Format>, Memory>
-    ensures { IfOk result (λ format. format ≡ format_of fields.now) }
-{
-    if !fields.dated {
-        return Ok(None);
-    }
-    Ok(Some(Format {
-        pieces: pieces_of(alloc, fields.rule.criterion, &fields.pieces)?,
-        back: fields.back,
-    }))
-}
-
-/// The rule of a definition that is whole.
-fn rule_of(
-    file: Path,
-    line: u32,
-    words: Listed<Text>,
-    fields: Fields,
-    dated: Option<Format>,
-) -> Rule
-    requires { dated ≡ format_of fields }
-    ensures { result ≡ rule_of file line words fields }
-{
-    let mut rule = fields.rule;
-    rule.file = file;
-    rule.line = line;
-    rule.words = words;
-    rule.dated = dated;
-    rule
-}
-
-/// Whether one of the scripts is of this phase.
-fn has_script(scripts: &[Phase], phase: Phase) -> bool
-    ensures { result ≡ list_any (is_phase phase) scripts.now }
-{
-    scripts.iter().any(|script| is_phase(phase, *script))
-}
-
-fn is_phase(a: Phase, b: Phase) -> bool
-    ensures { result ≡ is_phase a b }
-{
-    match (a, b) {
-        (Phase::First, Phase::First) => true,
-        (Phase::Pre, Phase::Pre) => true,
-        (Phase::Post, Phase::Post) => true,
-        (Phase::Last, Phase::Last) => true,
-        (Phase::Preremove, Phase::Preremove) => true,
-        (Phase::Mail, Phase::Mail) => true,
-        _ => false,
-    }
-}
-
-/// The fault of a script in a definition where these stand before it.
-fn script_fault(built: Built, scripts: &[Phase], phase: Phase, stray: bool) -> Option<ConfKind>
-    ensures { result ≡ script_fault built scripts.now phase stray }
-{
-    if has_script(scripts, phase) {
-        Some(ConfKind::ScriptTwice)
-    } else if script_is_unbuilt(built, phase) {
-        Some(ConfKind::NotYet)
-    } else if stray {
-        Some(ConfKind::Stray)
-    } else {
-        None
-    }
-}
 
 impl Draft {
     /// The line that ends a definition, which gives its rule.

@@ -1,26 +1,11 @@
 // Laws of the definitions.
-ghost use Rattle.std.specs.Prelude.{◌≡◌, ◌++◌, ◌∷◌, List, [], All, true, false};
-ghost use Rattle.std.specs.List.{filter_map, list_all};
-ghost use Rattle.lr_rules.specs.declared.rule.Count.{Count};
-ghost use Rattle.lr_rules.specs.declared.rule.Criterion.{Criterion};
+ghost use Rattle.std.specs.Prelude.{◌≡◌, List, [], All, true, false};
+ghost use Rattle.std.specs.List.{list_all};
 ghost use Rattle.lr_rules.specs.Limits.{meets_limits};
 ghost use Rattle.lr_forms.specs.declared.built.Built.{Built};
 ghost use Rattle.lr_forms.specs.declared.built.Built.TheVariants as built;
-ghost use Rattle.lr_forms.specs.declared.set.Set.{Set};
-ghost use Rattle.lr_forms.specs.declared.set.Set.TheVariants as set;
-ghost use Rattle.lr_conf.specs.Fields.{fields_of, count_set, criterion_set};
 ghost use Rattle.lr_conf.specs.Meaning.{Line, meaning};
 ghost use Rattle.lr_conf.specs.Plain.{IsPlainRule};
-
-/// The last line that sets the count gives it.
-pub fn last_count()
-    ensures { (earlier later : List Set) (n : Count) → filter_map count_set later ≡ [] → (fields_of (earlier ++ set.Count n ∷ later)).rule.count ≡ n }
-{}
-
-/// The last line that sets the criterion gives it.
-pub fn last_criterion()
-    ensures { (earlier later : List Set) (c : Criterion) → filter_map criterion_set later ≡ [] → (fields_of (earlier ++ set.Criterion c ∷ later)).rule.criterion ≡ c }
-{}
 
 /// Each rule of a configuration meets the limits of its values, whichever directives are built.
 pub fn rules_meet_limits()

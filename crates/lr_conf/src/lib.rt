@@ -24,9 +24,7 @@
 //! ```
 #![tactic(auto)]
 
-mod copies;
 mod draft;
-mod fields;
 mod files;
 mod inside;
 mod laws;
@@ -37,6 +35,6 @@ mod stop;
 mod taboo;
 mod taking;
 
-pub use laws::{last_count, last_criterion, rules_are_plain, rules_meet_limits};
+pub use laws::{rules_are_plain, rules_meet_limits};
 pub use layer::Layer;
 pub use stop::{Include, LayerStop};

@@ -3,14 +3,13 @@ ghost use Rattle.std.specs.Prelude.{◌≡◌, ◌<◌, [], IfOk, OnOk, OnErr, l
 ghost use Rattle.lr_conf.specs.declared.place.Place.TheVariants as place;
 ghost use Rattle.lr_forms.specs.declared.said.Said.TheVariants as says;
 ghost use Rattle.lr_conf.specs.Meaning.{stands};
-ghost use Rattle.lr_conf.specs.Internal.Draft.{Speaks, Noticed, Banned, SameRest, Aside, Unchanged, fields_at, Settled, stray_kind, answer_of, asking_answer, file_of_draft, files_of, without_names, state_of};
+ghost use Rattle.lr_conf.specs.Internal.Draft.{Speaks, Noticed, Banned, SameRest, Aside, Unchanged, fields_at, Settled, answer_of, asking_answer, file_of_draft, files_of, without_names, state_of};
 
-use crate::copies::copy_fields;
 use crate::draft::Draft;
-use crate::fields::{Fields, set_field};
 use crate::place::Place;
 use crate::stop::{Include, LayerStop};
 use crate::taboo::change_taboo;
+use lr_fields::{Fields, copy_fields, set_field};
 use lr_forms::{Said, Set};
 use lr_rules::{ConfKind, Listed, Memory, Notice, Path, Phase, Text};
 use lr_words::TabooItems;
@@ -34,16 +33,6 @@ fn asking_answer(first: Option<u32>, include: Include) -> Result<Option<Include>
     match first {
         None => Ok(Some(include)),
         Some(first) => Err(LayerStop::NoBraceThen(first, include)),
-    }
-}
-
-/// A `}` is stray where no names are pending.
-fn stray_kind(first: &Option<u32>) -> Option<ConfKind>
-    ensures { result ≡ stray_kind first.now }
-{
-    match first {
-        None => Some(ConfKind::Stray),
-        Some(_) => None,
     }
 }
 
@@ -193,15 +182,16 @@ impl Draft {
         answer(self.leave_names(brace), at, None)
     }
 
-    /// A `}`.
+    /// A `}`, which is stray where no names are pending.
     #[tactic(auto, using(crate::proofs::Spoken::close))]
     fn lone_close(&mut self, at: u32, brace: bool) -> Result<Option<Include>, LayerStop>
         requires { self.old.place ≡ place.Outside }
         ensures { Speaks self.old self.new (file_of_draft self.old) (stands at brace says.Close) result }
     {
-        let first = self.leave_names(brace);
-        let own = stray_kind(&first);
-        answer(first, at, own)
+        match self.leave_names(brace) {
+            None => answer(None, at, Some(ConfKind::Stray)),
+            Some(first) => answer(Some(first), at, None),
+        }
     }
 
     /// A word that is passed over.

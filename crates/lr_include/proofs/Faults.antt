@@ -7,12 +7,12 @@ use Rattle.lr_rules.specs.declared.path.Path.{Path}
 use Rattle.lr_rules.specs.declared.fault.ConfKind.{ConfKind}
 use Rattle.lr_rules.specs.declared.fault.ConfKind.TheVariants as kind
 use Rattle.lr_lex.specs.Items.{Told, items}
-use Rattle.lr_conf.specs.declared.fields.Fields.{Fields}
+use Rattle.lr_fields.specs.declared.fields.Fields.{Fields}
 use Rattle.lr_forms.specs.declared.set.Set.{Set}
 use Rattle.lr_forms.specs.declared.said.Said.{Said}
 use Rattle.lr_forms.specs.declared.said.Said.TheVariants as says
 use Rattle.lr_forms.specs.declared.built.Built.TheVariants as built
-use Rattle.lr_conf.specs.Fields.{fields_of}
+use Rattle.lr_fields.specs.Fields.{fields_of}
 use Rattle.lr_conf.specs.Meaning.{Line, Read, Spoiled, End, Past, stands, spoiled, Meaning, nothing, conf, file_of, first_pending, words_pending, words_with, settings, opened, opens, past, before, through, behind, ends, Within, states, broken, left_open, within, body_of, drops, set_in, fault_of, fault_in, broken_fault, spoilt_fault, told, at_line, left_names, stray_at, own_fault, line_faults, of_end, of_body, of_opening, meaning}
 use Rattle.lr_conf.proofs.Each.{append, front, Given, one_more, mapped}
 use Rattle.lr_host.specs.declared.entry.Entry.{Entry}

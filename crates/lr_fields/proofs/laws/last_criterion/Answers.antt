@@ -3,9 +3,9 @@ use Rattle.std.specs.List.{filter_map}
 use Rattle.std.proofs.lemmas.List.Elements.{filter_map-append}
 use Rattle.lr_rules.specs.declared.rule.Criterion.TheVariants as criterion
 use Rattle.lr_forms.specs.declared.set.Set.TheVariants as set
-use Rattle.lr_conf.specs.Fields.{last_or, criterion_set}
-use Rattle.lr_conf.proofs.Lasts.{last_behind}
-use Rattle.lr_conf.proofs.laws.last_criterion.Goals as goal
+use Rattle.lr_fields.specs.Fields.{last_or, criterion_set}
+use Rattle.lr_fields.proofs.Lasts.{last_behind}
+use Rattle.lr_fields.proofs.laws.last_criterion.Goals as goal
 
 pub returns : goal.returns
 returns c earlier later n unset =

@@ -1,6 +1,6 @@
 -- The last of a list.
 use Rattle.std.proofs.Common.{◌≡◌, ℕ, suc, ◌+◌, ◌<◌, ◌-◌, List, [], ◌∷◌, ◌++◌, length, get_or, refl, ap, ◌∙◌, arith}
-use Rattle.lr_conf.specs.Fields.{last_or}
+use Rattle.lr_fields.specs.Fields.{last_or}
 
 pub last_at : {A : Type 0} (d e : A) (xs : List A) → 0 < length xs → last_or d xs ≡ get_or xs (length xs - 1) e
 last_at d e [] h = absurd (omega arith)

@@ -43,7 +43,7 @@ fn copy_scripts(alloc: Global, scripts: &Scripts) -> Result<Scripts, Memory>
 }
 
 /// A copy of the pieces of a stamp, where there are any.
-pub fn copy_pieces(
+pub(crate) fn copy_pieces(
     alloc: Global,
     pieces: &Option<Listed<Piece>>,
 ) -> Result<Option<Listed<Piece>>, Memory>

@@ -1,6 +1,6 @@
 // The fields that lines set.
-ghost use Rattle.std.specs.Prelude.{◌≡◌, IfOk};
-ghost use Rattle.lr_conf.specs.Internal.Setting.{with_set, with_script, without, default_fields};
+ghost use Rattle.std.specs.Prelude.{◌≡◌, Some, IfOk};
+ghost use Rattle.lr_fields.specs.Setting.{with_set, with_script, without, default_fields};
 
 use lr_forms::Set;
 use lr_rules::{
@@ -82,6 +82,19 @@ pub fn default_fields(alloc: Global) -> Result<Fields, Memory>
     }
 }
 
+// Sets a text. What stood in its place is let go here, once and not in each of the cases of a setting.
+fn put_text(place: &mut Option<Text>, text: Option<Text>)
+    ensures { place.new ≡ text }
+{
+    *place = text;
+}
+
+fn put_pieces(place: &mut Option<Listed<Piece>>, pieces: Listed<Piece>)
+    ensures { place.new ≡ Some pieces }
+{
+    *place = Some(pieces);
+}
+
 /// The way, set back to renames where it is this one.
 fn without(not: Way, way: Way) -> Way
     ensures { result ≡ without not way }
@@ -97,11 +110,11 @@ fn set_script(scripts: &mut Scripts, phase: Phase, text: Text)
     ensures { scripts.new ≡ with_script phase text scripts.old }
 {
     match phase {
-        Phase::First => scripts.first = Some(text),
-        Phase::Pre => scripts.pre = Some(text),
-        Phase::Post => scripts.post = Some(text),
-        Phase::Last => scripts.last = Some(text),
-        Phase::Preremove => scripts.preremove = Some(text),
+        Phase::First => put_text(&mut scripts.first, Some(text)),
+        Phase::Pre => put_text(&mut scripts.pre, Some(text)),
+        Phase::Post => put_text(&mut scripts.post, Some(text)),
+        Phase::Last => put_text(&mut scripts.last, Some(text)),
+        Phase::Preremove => put_text(&mut scripts.preremove, Some(text)),
         // A mail has no script.
         Phase::Mail => {}
     }
@@ -122,19 +135,19 @@ pub fn set_field(fields: &mut Fields, set: Set)
         Set::MissingOk(missingok) => fields.rule.missingok = missingok,
         Set::IgnoreDuplicates => fields.rule.ignore_duplicates = true,
         Set::Start(start) => fields.rule.start = start,
-        Set::Extension(ending) => fields.rule.extension = Some(ending),
-        Set::AddExtension(ending) => fields.rule.addextension = Some(ending),
-        Set::Olddir(olddir) => fields.rule.olddir = olddir,
+        Set::Extension(ending) => put_text(&mut fields.rule.extension, Some(ending)),
+        Set::AddExtension(ending) => put_text(&mut fields.rule.addextension, Some(ending)),
+        Set::Olddir(olddir) => put_text(&mut fields.rule.olddir, olddir),
         Set::CreateOlddir(make) => fields.rule.createolddir = make,
         Set::Way(way) => fields.rule.way = way,
         Set::NotWay(not) => fields.rule.way = without(not, fields.rule.way),
         Set::Create(make) => fields.rule.create = make,
-        Set::Mail(mail) => fields.rule.mail = mail,
+        Set::Mail(mail) => put_text(&mut fields.rule.mail, mail),
         Set::MailFirst(mailfirst) => fields.rule.mailfirst = mailfirst,
         Set::Shared(shared) => fields.rule.shared = shared,
         Set::Script(phase, text) => set_script(&mut fields.rule.scripts, phase, text),
         Set::Dated(dated) => fields.dated = dated,
-        Set::DateFormat(pieces) => fields.pieces = Some(pieces),
+        Set::DateFormat(pieces) => put_pieces(&mut fields.pieces, pieces),
         Set::Back(back) => fields.back = back,
         Set::Serial(serial) => fields.serial = serial,
     }

@@ -7,8 +7,8 @@ use Rattle.lr_rules.specs.declared.rule.Way.{Way}
 use Rattle.lr_rules.specs.declared.rule.Way.TheVariants as way
 use Rattle.lr_forms.specs.declared.set.Set.{Set}
 use Rattle.lr_forms.specs.declared.set.Set.TheVariants as set
-use Rattle.lr_conf.specs.declared.fields.Fields.{Fields}
-use Rattle.lr_conf.specs.Fields.{fields_of}
+use Rattle.lr_fields.specs.declared.fields.Fields.{Fields}
+use Rattle.lr_fields.specs.Fields.{fields_of}
 
 -- those that no line set
 abbrev pub default_fields : Fields

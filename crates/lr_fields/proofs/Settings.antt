@@ -17,11 +17,11 @@ use Rattle.lr_rules.specs.declared.rule.Count.TheVariants as count
 use Rattle.lr_rules.specs.declared.rule.Make.TheVariants as make
 use Rattle.lr_rules.specs.declared.rule.Way.{Way}
 use Rattle.lr_rules.specs.declared.rule.Way.TheVariants as way
-use Rattle.lr_conf.specs.declared.fields.Fields.{Fields}
+use Rattle.lr_fields.specs.declared.fields.Fields.{Fields}
 use Rattle.lr_forms.specs.declared.set.Set.{Set}
 use Rattle.lr_forms.specs.declared.set.Set.TheVariants as set
-use Rattle.lr_conf.specs.Fields.{fields_of, last_or, last_set, criterion_set, count_set, maxage_set, minage_set, minsize_set, maxsize_set, ifempty_set, missingok_set, ignore_set, start_set, extension_set, addextension_set, olddir_set, createolddir_set, create_set, mail_set, mailfirst_set, shared_set, first_set, pre_set, post_set, last_script_set, preremove_set, dated_set, pieces_set, back_set, serial_set, names_way, undoes, way_of}
-use Rattle.lr_conf.specs.Internal.Setting.{with_set, without}
+use Rattle.lr_fields.specs.Fields.{fields_of, last_or, last_set, criterion_set, count_set, maxage_set, minage_set, minsize_set, maxsize_set, ifempty_set, missingok_set, ignore_set, start_set, extension_set, addextension_set, olddir_set, createolddir_set, create_set, mail_set, mailfirst_set, shared_set, first_set, pre_set, post_set, last_script_set, preremove_set, dated_set, pieces_set, back_set, serial_set, names_way, undoes, way_of}
+use Rattle.lr_fields.specs.Setting.{with_set, without}
 
 abbrev given_or : {A : Type 0} → Option A → A → A
 given_or None d = d

@@ -1,0 +1,4 @@
+pub mod Fields
+pub mod Setting
+pub mod Rules
+pub mod Scripts
