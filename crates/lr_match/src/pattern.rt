@@ -35,7 +35,8 @@ fn matches_dotted(pattern: &str, rest: &str) -> bool
 /// one, `[..]` with one of a class, `[!..]` with another, a backslash before a character with it; a `[` without its `]`
 /// and a backslash at the end are themselves. A first dot of the name goes only with a dot of the pattern.
 ///
-/// It takes no memory, and at most about as many steps as the product of the lengths.
+/// It takes no memory, and about as many steps as the product of the lengths (more where many `[` have no `]`), which is
+/// no clause.
 pub fn matches(pattern: &str, name: &str) -> bool
     ensures { (result ≡ true) ↔ Matches true (chars pattern.now) (chars name.now) }
 {

@@ -166,7 +166,8 @@ fn rule_of(rule: &Rule, place: Place, ends: Ends, acts: Acts) -> Rule
     }
 }
 
-fn copy_rule(alloc: Global, rule: &Rule) -> Result<Rule, Memory>
+/// A copy of the rule.
+pub fn copy_rule(alloc: Global, rule: &Rule) -> Result<Rule, Memory>
     ensures { IfOk result (λ copy. copy ≡ rule.now) }
 {
     let place = copy_place(alloc, rule)?;
