@@ -1,5 +1,6 @@
 // Which of the logs that were found are kept. Each word of a line is a log: its path, or its path and the directory, the
-// base, the extension and the stamp of its members, between commas. What lacks is as it is without directives.
+// base, the extension and the stamp of its members, between commas. What lacks is as it is without directives. A word that
+// begins with `-` is a path that is reserved.
 use lr_family::{Family, are_kin};
 use lr_kept::{Choice, choose};
 use lr_line::{Line, Trouble};
@@ -78,15 +79,28 @@ fn family(line: Line, word: &[u8]) -> Result<Family, Trouble> {
 fn families(line: Line) -> Result<Vec<Family>, Trouble> {
     let mut families = Vec::new(line.alloc);
     for word in line.words.iter().skip(1) {
-        families.push(family(line, word)?)?;
+        if !word.starts_with(b"-") {
+            families.push(family(line, word)?)?;
+        }
     }
     Ok(families)
+}
+
+fn reserved(line: Line) -> Result<Vec<Path>, Trouble> {
+    let mut paths = Vec::new(line.alloc);
+    for word in line.words.iter().skip(1) {
+        if let Some(path) = word.strip_prefix(b"-") {
+            paths.push(Path::new(line.alloc, path)?)?;
+        }
+    }
+    Ok(paths)
 }
 
 fn put_choice(choice: Choice, out: &mut String) -> Result<(), Trouble> {
     match choice {
         Choice::Kept => Ok(out.push_str("kept")?),
         Choice::Again(place) => Ok(write!(out, "again {place}")?),
+        Choice::Reserved(place) => Ok(write!(out, "reserved {place}")?),
         Choice::Meets(place) => Ok(write!(out, "meets {place}")?),
     }
 }
@@ -101,17 +115,23 @@ fn put_choices(choices: &[Choice], out: &mut String) -> Result<(), Trouble> {
     Ok(())
 }
 
-fn put_choices_among(line: Line, families: &[Family], out: &mut String) -> Result<(), Trouble> {
+fn put_choices_among(
+    line: Line,
+    families: &[Family],
+    reserved: &[Path],
+    out: &mut String,
+) -> Result<(), Trouble> {
     let mut logs = Vec::new(line.alloc);
     for family in families {
         logs.push(family)?;
     }
-    let choices = choose(line.alloc, &logs)?;
+    let choices = choose(line.alloc, &logs, reserved)?;
     put_choices(&choices, out)
 }
 
 /// What comes of each of the logs.
 pub fn choices(line: Line, out: &mut String) -> Result<(), Trouble> {
     let families = families(line)?;
-    put_choices_among(line, &families, out)
+    let reserved = reserved(line)?;
+    put_choices_among(line, &families, &reserved, out)
 }

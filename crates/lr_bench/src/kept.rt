@@ -63,7 +63,7 @@ fn families(alloc: Global, logs: usize, alone: bool) -> Result<Vec<Family>> {
 
 /// How many of the logs are kept.
 fn kept(alloc: Global, logs: &[&Family]) -> Result<usize> {
-    match choose(alloc, logs) {
+    match choose(alloc, logs, &[]) {
         Ok(choices) => Ok(choices.iter().filter(|c| **c == Choice::Kept).count()),
         Err(_) => Err(anyhow!("no memory")),
     }

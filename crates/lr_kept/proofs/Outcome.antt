@@ -5,11 +5,12 @@ use Rattle.std.proofs.lemmas.Bool.{cases_lt, cases_eq}
 use Rattle.std.proofs.lemmas.List.Elements.{All-contains}
 use Rattle.std.proofs.lemmas.Option.{slice_get_within, get_or_from_slice_get}
 use Rattle.std.proofs.Math.Seq.{take-append_seam}
+use Rattle.lr_rules.specs.declared.path.Path.{Path}
 use Rattle.lr_family.specs.declared.family.Family.{Family}
 use Rattle.lr_kept.specs.declared.choice.Choice.{Choice}
-use Rattle.lr_kept.specs.declared.choice.Choice.TheVariants.{Kept, Again, Meets}
+use Rattle.lr_kept.specs.declared.choice.Choice.TheVariants.{Kept, Again, Reserved, Meets}
 use Rattle.lr_kept.specs.declared.pair.Pair.{Pair}
-use Rattle.lr_kept.specs.Begun.{AreBegun}
+use Rattle.lr_kept.specs.Barred.{AreOpened}
 use Rattle.lr_kept.specs.Chosen.{MeetAt, IsKeptAt, IsChoice, AreChosen}
 use Rattle.lr_kept.specs.Pairs.{pair_at, IsPair, HavePairs, AreRising, IsSettled, IsAmong, AreSettled}
 use Rattle.lr_kept.proofs.Elements.{read_set_same, read_set_other, contains_read, contains_from}
@@ -22,6 +23,7 @@ begins_settled begun pairs none = record {
   as_many = refl;
   kept = λ k h. h;
   again = λ k i h. h;
+  barred = λ k i h. h;
   met_new = λ k i h. absurd (none k i h);
   met_kept = λ k i h. absurd (none k i h);
   met_pair = λ k i h. absurd (none k i h);
@@ -60,6 +62,7 @@ module _ (pairs : List Pair) (n : ℕ) (p : Pair) (at : slice_get pairs n ≡ So
       as_many = so_far.as_many;
       kept = so_far.kept;
       again = so_far.again;
+      barred = so_far.barred;
       met_new = so_far.met_new;
       met_kept = so_far.met_kept;
       met_pair = λ k i h. still_among i k (so_far.met_pair k i h);
@@ -103,6 +106,12 @@ module _ (pairs : List Pair) (n : ℕ) (p : Pair) (at : slice_get pairs n ≡ So
       settled_again k i h = ⊎_elim
           (λ (e : k ≡ p.later). absurd (cc (h, at_later, ap (λ s. slice_get new s) e)))
           (λ (ne : k ≡ p.later → ⊥). so_far.again k i (sym (elsewhere k ne) ∙ h))
+          (cases_eq k p.later)
+
+      settled_barred : (k i : ℕ) → slice_get new k ≡ Some (Reserved i) → slice_get begun k ≡ Some (Reserved i)
+      settled_barred k i h = ⊎_elim
+          (λ (e : k ≡ p.later). absurd (cc (h, at_later, ap (λ s. slice_get new s) e)))
+          (λ (ne : k ≡ p.later → ⊥). so_far.barred k i (sym (elsewhere k ne) ∙ h))
           (cases_eq k p.later)
 
       settled_new : (k i : ℕ) → slice_get new k ≡ Some (Meets i) → IsKeptAt begun k
@@ -149,6 +158,7 @@ module _ (pairs : List Pair) (n : ℕ) (p : Pair) (at : slice_get pairs n ≡ So
         as_many = length-set old p.later (Meets p.earlier) ∙ so_far.as_many;
         kept = settled_kept;
         again = settled_again;
+        barred = settled_barred;
         met_new = settled_new;
         met_kept = settled_met;
         met_pair = settled_pair;
@@ -161,32 +171,35 @@ module _ (pairs : List Pair) (n : ℕ) (p : Pair) (at : slice_get pairs n ≡ So
     more_settled now within order (inr h) = subst (λ (cs : List Choice). AreSettled begun pairs (n + 1) cs) (sym h.1) (passed h.0)
 
 -- all pairs are settled: these are the choices
-module _ (logs : List (Bor Family)) (begun choices : List Choice) (pairs : List Pair) (first : AreBegun logs begun) (have : HavePairs logs begun pairs) (done : AreSettled begun pairs (length pairs) choices) where
+module _ (logs : List (Bor Family)) (reserved : List Path) (begun choices : List Choice) (pairs : List Pair) (first : AreOpened logs reserved begun) (have : HavePairs logs begun pairs) (done : AreSettled begun pairs (length pairs) choices) where
   among : (i k : ℕ) → i < k → IsKeptAt begun i → IsKeptAt begun k → MeetAt logs i k → IsAmong pairs (length pairs) i k
   among i k lt kept_i kept_k m = contains_read pairs (pair_at i k) (have.each i k lt kept_i kept_k m)
 
   sound : (i k : ℕ) → IsAmong pairs (length pairs) i k → IsPair logs (pair_at i k)
   sound i k m = All-contains (IsPair logs) pairs (pair_at i k) have.sound (contains_from pairs m.0 (pair_at i k) m.2)
 
-  chosen : (k : ℕ) (c : Choice) → slice_get choices k ≡ Some c → IsChoice logs choices k c
+  chosen : (k : ℕ) (c : Choice) → slice_get choices k ≡ Some c → IsChoice logs reserved choices k c
   chosen k Kept h = record {
-    new = first.each k Kept (done.kept k h);
+    new = (first.each k Kept (done.kept k h)).new;
+    free = (first.each k Kept (done.kept k h)).free;
     apart = λ j lt kept m. done.apart k j (among j k lt (done.kept j kept) (done.kept k h) m) h kept;
   }
   chosen k (Again i) h = first.each k (Again i) (done.again k i h)
+  chosen k (Reserved i) h = first.each k (Reserved i) (done.barred k i h)
   chosen k (Meets i) h =
       let new = done.met_new k i h in
       let pair = done.met_pair k i h in
       let is = sound i k pair in
       record {
-        new = first.each k Kept new;
+        new = (first.each k Kept new).new;
+        free = (first.each k Kept new).free;
         before = is.0;
         kept = done.met_kept k i h;
         meet = is.1;
         first = λ j lt kept m. done.met_first k i j h lt (among j k (omega (arith, is.0, lt)) (done.kept j kept) new m) kept;
       }
 
-  pub all_chosen : AreChosen logs choices
+  pub all_chosen : AreChosen logs reserved choices
   all_chosen = record { as_many = done.as_many ∙ first.as_many; each = chosen }
 
 pub front_whole : (n : ℕ) (xs ys : List Choice) → n ≡ length xs → take n (xs ++ ys) ≡ xs

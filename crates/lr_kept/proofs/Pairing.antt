@@ -10,11 +10,9 @@ use Rattle.std.proofs.lemmas.Option.{slice_get_within}
 use Rattle.lr_rules.specs.Names.{Meet}
 use Rattle.lr_family.specs.declared.family.Family.{Family}
 use Rattle.lr_kept.specs.declared.choice.Choice.{Choice}
-use Rattle.lr_kept.specs.declared.choice.Choice.TheVariants.{Kept}
 use Rattle.lr_kept.specs.declared.front.Front.{Front}
 use Rattle.lr_kept.specs.declared.pair.Pair.{Pair}
-use Rattle.lr_kept.specs.Begun.{AreBegun}
-use Rattle.lr_kept.specs.Chosen.{MeetAt, IsKeptAt}
+use Rattle.lr_kept.specs.Chosen.{MeetAt, IsNew, IsKeptAt}
 use Rattle.lr_kept.specs.Fronts.{Begins, Finds, HaveFronts, front_at, fronts_at, below, member_front}
 use Rattle.lr_kept.specs.Pairs.{pair_at, pair_of, IsPair, Grows, HasPair, AddsPair, AddsPairs, AddsBetween, AddsFound, HaveFound, HavePairs}
 use Rattle.lr_kept.proofs.Finding.{IsFrontOf, FindsIt, one_finds, meet_back}
@@ -136,8 +134,8 @@ has_front fronts f k bytes all (inr (inr e)) =
     (All-tail (Contains fronts) (front_at k (member_front f.naming)) (front_at k (below f.naming.dir) ∷ [])
     (All-tail (Contains fronts) (front_at k f.log) (front_at k (member_front f.naming) ∷ front_at k (below f.naming.dir) ∷ []) all)))
 
-pub all_pairs : (logs : List (Bor Family)) (choices : List Choice) (fronts : List Front) (pairs : List Pair) → AreBegun logs choices → HaveFronts logs choices (length logs) fronts → HaveFound logs choices fronts (length logs) pairs → HavePairs logs choices pairs
-all_pairs logs choices fronts pairs begun have found = record {
+pub all_pairs : (logs : List (Bor Family)) (choices : List Choice) (fronts : List Front) (pairs : List Pair) → ((k : ℕ) → IsKeptAt choices k → IsNew logs k) → HaveFronts logs choices (length logs) fronts → HaveFound logs choices fronts (length logs) pairs → HavePairs logs choices pairs
+all_pairs logs choices fronts pairs new have found = record {
   sound = found.sound;
   each = λ i k lt kept_i kept_k m. ⊎_elim
       (λ (h : FindsIt m.one.now m.other.now).
@@ -149,7 +147,7 @@ all_pairs logs choices fronts pairs begun have found = record {
       (found.found k m.other h.0 i (slice_get_within logs k m.other m.at_other) m.at_other kept_k
       (has_front fronts m.one.now i h.0 (have.each i m.one (slice_get_within logs i m.one m.at_one) m.at_one kept_i) h.1) h.2 (λ e. absurd (omega arith)) (back_at logs i k m)))
       (one_finds m.one.now m.other.now
-      (λ e. begun.each k Kept kept_k i lt (record { one = m.one; other = m.other; at_one = m.at_one; at_other = m.at_other; holds = e }))
+      (λ e. new k kept_k i lt (record { one = m.one; other = m.other; at_one = m.at_one; at_other = m.at_other; holds = e }))
       m.holds);
 }
 

@@ -1,10 +1,11 @@
 -- Which of the logs that a run found it keeps, told over their list: it has them in order of definitions, then words, then bytes of the path.
 use Rattle.std.specs.Prelude.{◌≡◌, ◌<◌, ℕ, List, Some, length, slice_get}
 use Rattle.std.specs.Borrow.{Bor}
-use Rattle.lr_rules.specs.Names.{Meet}
+use Rattle.lr_rules.specs.declared.path.Path.{Path}
+use Rattle.lr_rules.specs.Names.{Meet, IsName}
 use Rattle.lr_family.specs.declared.family.Family.{Family}
 use Rattle.lr_kept.specs.declared.choice.Choice.{Choice}
-use Rattle.lr_kept.specs.declared.choice.Choice.TheVariants.{Kept, Again, Meets}
+use Rattle.lr_kept.specs.declared.choice.Choice.TheVariants.{Kept, Again, Reserved, Meets}
 
 -- the relation holds between the logs at these two places
 pub record Both (R : Family → Family → Type 0) (logs : List (Bor Family)) (i k : ℕ) : Type 0 where
@@ -32,30 +33,51 @@ pub record IsAgain (logs : List (Bor Family)) (k i : ℕ) : Type 0 where
   pub same : HaveOnePath logs i k
   pub first : (j : ℕ) → j < i → HaveOnePath logs j k → ⊥
 
+-- The reserved path at this place is one of the names of the log at that place.
+pub record HasReserved (logs : List (Bor Family)) (reserved : List Path) (k i : ℕ) : Type 0 where
+  pub log : Bor Family
+  pub path : Path
+  pub at_log : slice_get logs k ≡ Some log
+  pub at_path : slice_get reserved i ≡ Some path
+  pub named : IsName log.now.log log.now.naming path
+
+-- none of its names is reserved
+abbrev pub IsFree : List (Bor Family) → List Path → ℕ → Type 0
+IsFree logs reserved k = (i : ℕ) → HasReserved logs reserved k i → ⊥
+
+-- The path of this log wasn't found before, and of the reserved paths this is the first that is one of its names.
+pub record IsBarred (logs : List (Bor Family)) (reserved : List Path) (k i : ℕ) : Type 0 where
+  pub new : IsNew logs k
+  pub has : HasReserved logs reserved k i
+  pub first : (j : ℕ) → j < i → HasReserved logs reserved k j → ⊥
+
 -- the log at this place is kept
 abbrev pub IsKeptAt : List Choice → ℕ → Type 0
 IsKeptAt choices k = slice_get choices k ≡ Some Kept
 
--- The path of this log wasn't found before, and of the logs before it that are kept this is the first that it meets.
-pub record IsMet (logs : List (Bor Family)) (choices : List Choice) (k i : ℕ) : Type 0 where
+-- The path of this log wasn't found before, none of its names is reserved, and of the logs before it that are kept this is the first that it meets.
+pub record IsMet (logs : List (Bor Family)) (reserved : List Path) (choices : List Choice) (k i : ℕ) : Type 0 where
   pub new : IsNew logs k
+  pub free : IsFree logs reserved k
   pub before : i < k
   pub kept : IsKeptAt choices i
   pub meet : MeetAt logs i k
   pub first : (j : ℕ) → j < i → IsKeptAt choices j → MeetAt logs j k → ⊥
 
--- The path of this log wasn't found before, and it meets no log before it that is kept.
-pub record IsKept (logs : List (Bor Family)) (choices : List Choice) (k : ℕ) : Type 0 where
+-- The path of this log wasn't found before, none of its names is reserved, and it meets no log before it that is kept.
+pub record IsKept (logs : List (Bor Family)) (reserved : List Path) (choices : List Choice) (k : ℕ) : Type 0 where
   pub new : IsNew logs k
+  pub free : IsFree logs reserved k
   pub apart : (j : ℕ) → j < k → IsKeptAt choices j → MeetAt logs j k → ⊥
 
 -- what is chosen for the log at this place
-abbrev pub IsChoice : List (Bor Family) → List Choice → ℕ → Choice → Type 0
-IsChoice logs choices k Kept = IsKept logs choices k
-IsChoice logs choices k (Again i) = IsAgain logs k i
-IsChoice logs choices k (Meets i) = IsMet logs choices k i
+abbrev pub IsChoice : List (Bor Family) → List Path → List Choice → ℕ → Choice → Type 0
+IsChoice logs reserved choices k Kept = IsKept logs reserved choices k
+IsChoice logs reserved choices k (Again i) = IsAgain logs k i
+IsChoice logs reserved choices k (Reserved i) = IsBarred logs reserved k i
+IsChoice logs reserved choices k (Meets i) = IsMet logs reserved choices k i
 
--- These are the choices for the logs, one for each: each is fixed by the logs and by the choices before it.
-pub record AreChosen (logs : List (Bor Family)) (choices : List Choice) : Type 0 where
+-- These are the choices for the logs, one for each, where these paths are reserved: each is fixed by the logs and by the choices before it.
+pub record AreChosen (logs : List (Bor Family)) (reserved : List Path) (choices : List Choice) : Type 0 where
   pub as_many : length choices ≡ length logs
-  pub each : (k : ℕ) (c : Choice) → slice_get choices k ≡ Some c → IsChoice logs choices k c
+  pub each : (k : ℕ) (c : Choice) → slice_get choices k ≡ Some c → IsChoice logs reserved choices k c

@@ -1,3 +1,4 @@
+pub mod Barred
 pub mod Begun
 pub mod Chosen
 pub mod Fronts

@@ -7,6 +7,9 @@ pub enum Choice {
     Kept,
     /// Its path was found before: by the log at this place first.
     Again(usize),
-    /// Its path wasn't found before, but one of its names is one of the log at this place, the first such that is kept.
+    /// Its path wasn't found before, but one of its names is the reserved path at this place, the first such.
+    Reserved(usize),
+    /// Its path wasn't found before and none of its names is reserved, but one is one of the log at this place, the first
+    /// such that is kept.
     Meets(usize),
 }

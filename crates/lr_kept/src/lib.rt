@@ -1,13 +1,14 @@
 //! Which of the logs that a run found it keeps.
 //!
-//! The contract above it: a log is kept exactly where its path wasn't found before and it has no name in common with a
-//! log before it that is kept. Begin with `choose`:
+//! The contract above it: a log is kept exactly where its path wasn't found before, none of its names is a path that is
+//! reserved, and it has no name in common with a log before it that is kept. Begin with `choose`:
 //!
 //! ```text
-//! let choices = choose(alloc, &[&first, &second])?;   // /v/a.log and /v/a.log.1: Kept, Meets(0)
+//! let choices = choose(alloc, &[&first, &second], &reserved)?;   // /v/a.log and /v/a.log.1: Kept, Meets(0)
 //! ```
 #![tactic(auto)]
 
+mod barred;
 mod begun;
 mod choice;
 mod choosing;

@@ -1,8 +1,7 @@
 // The pairs of logs that meet.
-ghost use Rattle.std.specs.Prelude.{◌≡◌, ◌≢◌, ◌<◌, ◌↔◌, true, false, length, All, IfOk, OnOk};
+ghost use Rattle.std.specs.Prelude.{◌≡◌, ◌≢◌, ◌<◌, ◌↔◌, ℕ, true, false, length, All, IfOk, OnOk};
 ghost use Rattle.std.specs.List.Sorted.{IsPermutation};
-ghost use Rattle.lr_kept.specs.Chosen.{MeetAt};
-ghost use Rattle.lr_kept.specs.Begun.{AreBegun};
+ghost use Rattle.lr_kept.specs.Chosen.{IsKeptAt, IsNew, MeetAt};
 ghost use Rattle.lr_kept.specs.Fronts.{AreInOrder, HaveFronts};
 ghost use Rattle.lr_kept.specs.Pairs.{AddsPair, AddsPairs, AddsFound, HaveFound, HavePairs, AreRising, pair_of};
 
@@ -128,7 +127,8 @@ pub fn pairs_of(
     choices: &[Choice],
     fronts: &[Front],
 ) -> Result<Vec<Pair>, Memory>
-    requires begun { AreBegun logs.now choices.now }
+    requires choices { length choices.now ≡ length logs.now }
+    requires new { (k : ℕ) → IsKeptAt choices.now k → IsNew logs.now k }
     requires order { AreInOrder fronts.now }
     requires fronts { HaveFronts logs.now choices.now (length logs.now) fronts.now }
     ensures { IfOk result (λ pairs. HavePairs logs.now choices.now pairs.items) }

@@ -4,11 +4,12 @@ use Rattle.std.specs.List.{flat_map}
 use Rattle.std.specs.Borrow.{Bor}
 use Rattle.std.proofs.lemmas.Grind.{flat_map-append}
 use Rattle.std.proofs.lemmas.List.{append-nil, length-append, length-map, length-take-le, map-append, take_more}
-use Rattle.std.proofs.lemmas.Option.{slice_get-get_or}
+use Rattle.std.proofs.lemmas.Option.{slice_get-get_or, slice_get_within}
 use Rattle.lr_rules.specs.declared.fault.Fault.{Fault}
+use Rattle.lr_rules.specs.declared.path.Path.{Path}
 use Rattle.lr_family.specs.declared.family.Family.{Family}
 use Rattle.lr_kept.specs.declared.choice.Choice.{Choice}
-use Rattle.lr_kept.specs.declared.choice.Choice.TheVariants.{Kept, Again, Meets}
+use Rattle.lr_kept.specs.declared.choice.Choice.TheVariants.{Kept, Again, Reserved, Meets}
 use Rattle.lr_kept.specs.Chosen.{IsChoice}
 use Rattle.lr_looks.specs.declared.found.Found.{Found}
 use Rattle.lr_looks.specs.Choices.{names_of, found_names, choice_fault, choice_faults, where_kept, kept_of, IsChoiceAmong}
@@ -17,26 +18,27 @@ use Rattle.lr_looks.specs.Internal.{IsWithin, AreWithin}
 
 -- ---- choices name logs of the list
 
-is_within : (logs : List (Bor Family)) (choices : List Choice) (k n : ℕ) (c : Choice) → k < n → IsChoice logs choices k c → IsWithin n c
-is_within logs choices k n Kept lt h = record {}
-is_within logs choices k n (Again i) lt h = let b : i < k = h.before in omega (arith, b)
-is_within logs choices k n (Meets i) lt h = let b : i < k = h.before in omega (arith, b)
+is_within : (logs : List (Bor Family)) (reserved : List Path) (choices : List Choice) (k n : ℕ) (c : Choice) → k < n → IsChoice logs reserved choices k c → IsWithin (length reserved) n c
+is_within logs reserved choices k n Kept lt h = record {}
+is_within logs reserved choices k n (Again i) lt h = let b : i < k = h.before in omega (arith, b)
+is_within logs reserved choices k n (Reserved i) lt h = slice_get_within reserved i h.has.path h.has.at_path
+is_within logs reserved choices k n (Meets i) lt h = let b : i < k = h.before in omega (arith, b)
 
-pub as_many : (found : List Found) (choices : List Choice) → IsChoiceAmong (all_found_in found) choices → length choices ≡ length found
-as_many found choices c = c.chosen.as_many ∙ (sym (length-map c.logs names_of) ∙ (ap length c.same ∙ (length-map (all_found_in found) found_names ∙ length-map found found_in)))
+pub as_many : (reserved : List Path) (found : List Found) (choices : List Choice) → IsChoiceAmong reserved (all_found_in found) choices → length choices ≡ length found
+as_many reserved found choices c = c.chosen.as_many ∙ (sym (length-map c.logs names_of) ∙ (ap length c.same ∙ (length-map (all_found_in found) found_names ∙ length-map found found_in)))
 
-pub are_within : (found : List Found) (choices : List Choice) → IsChoiceAmong (all_found_in found) choices → AreWithin (length found) choices
-are_within found choices c = λ k d lt.
-    let many : length choices ≡ length found = as_many found choices c in
-    is_within c.logs choices k (length found) (get_or choices k d) (omega (arith, many)) (c.chosen.each k (get_or choices k d) (slice_get-get_or choices k d lt))
+pub are_within : (reserved : List Path) (found : List Found) (choices : List Choice) → IsChoiceAmong reserved (all_found_in found) choices → AreWithin (length reserved) (length found) choices
+are_within reserved found choices c = λ k d lt.
+    let many : length choices ≡ length found = as_many reserved found choices c in
+    is_within c.logs reserved choices k (length found) (get_or choices k d) (omega (arith, many)) (c.chosen.each k (get_or choices k d) (slice_get-get_or choices k d lt))
 
 -- ---- one log more
 
-faults_on : (all xs ys : List FoundLog) (cs ds : List Choice) → length cs ≡ length xs → choice_faults all (xs ++ ys) (cs ++ ds) ≡ choice_faults all xs cs ++ choice_faults all ys ds
-faults_on all [] ys [] ds e = refl
-faults_on all [] ys (c ∷ cs) ds e = absurd (omega (arith, e))
-faults_on all (x ∷ xs) ys [] ds e = absurd (omega (arith, e))
-faults_on all (x ∷ xs) ys (c ∷ cs) ds e = ap (λ fs. choice_fault all x c ++ fs) (faults_on all xs ys cs ds (omega (arith, e))) ∙ sym (append_assoc (choice_fault all x c) (choice_faults all xs cs) (choice_faults all ys ds))
+faults_on : (reserved : List Path) (all xs ys : List FoundLog) (cs ds : List Choice) → length cs ≡ length xs → choice_faults reserved all (xs ++ ys) (cs ++ ds) ≡ choice_faults reserved all xs cs ++ choice_faults reserved all ys ds
+faults_on reserved all [] ys [] ds e = refl
+faults_on reserved all [] ys (c ∷ cs) ds e = absurd (omega (arith, e))
+faults_on reserved all (x ∷ xs) ys [] ds e = absurd (omega (arith, e))
+faults_on reserved all (x ∷ xs) ys (c ∷ cs) ds e = ap (λ fs. choice_fault reserved all x c ++ fs) (faults_on reserved all xs ys cs ds (omega (arith, e))) ∙ sym (append_assoc (choice_fault reserved all x c) (choice_faults reserved all xs cs) (choice_faults reserved all ys ds))
 
 kept_on : (xs ys : List FoundLog) (cs ds : List Choice) → length cs ≡ length xs → kept_of (xs ++ ys) (cs ++ ds) ≡ kept_of xs cs ++ kept_of ys ds
 kept_on [] ys [] ds e = refl
@@ -50,16 +52,16 @@ grown a b c x y z e f g = f ∙ (ap (λ l. l ++ y) e ∙ (append_assoc a x y ∙
 length_taken : {A B : Type 0} (xs : List A) (ys : List B) (n : ℕ) → n ≤ length xs → n ≤ length ys → length (take n xs) ≡ length (take n ys)
 length_taken xs ys n a b = length-take-le n xs a ∙ sym (length-take-le n ys b)
 
-pub faults_more : (all : List FoundLog) (found : List Found) (choices : List Choice) (at : ℕ) (item : Found) (choice : Choice) (start now next : List Fault) → length choices ≡ length found → at < length found → item ≡ get_or found at item → choice ≡ get_or choices at Kept
-    → now ≡ start ++ choice_faults all (all_found_in (take at found)) (take at choices) → next ≡ now ++ choice_fault all (found_in item) choice
-    → next ≡ start ++ choice_faults all (all_found_in (take (at + 1) found)) (take (at + 1) choices)
-faults_more all found choices at item choice start now next many lt e f h g = grown start now next _ (choice_fault all (found_in item) choice) _ h g
-    (ap (λ xs. choice_faults all (all_found_in xs) (take (at + 1) choices)) (take_more found at item lt)
-    ∙ (ap (λ cs. choice_faults all (all_found_in (take at found ++ get_or found at item ∷ [])) cs) (take_more choices at Kept (omega (arith, many)))
-    ∙ (ap (λ xs. choice_faults all xs (take at choices ++ get_or choices at Kept ∷ [])) (map-append found_in (take at found) (get_or found at item ∷ []))
-    ∙ (faults_on all (all_found_in (take at found)) (found_in (get_or found at item) ∷ []) (take at choices) (get_or choices at Kept ∷ []) (length_taken choices found at (omega (arith, many)) (omega arith) ∙ sym (length-map (take at found) found_in))
-    ∙ ap (λ fs. choice_faults all (all_found_in (take at found)) (take at choices) ++ fs) (append-nil (choice_fault all (found_in (get_or found at item)) (get_or choices at Kept))
-    ∙ (ap (λ x. choice_fault all (found_in x) (get_or choices at Kept)) (sym e) ∙ ap (λ c. choice_fault all (found_in item) c) (sym f)))))))
+pub faults_more : (reserved : List Path) (all : List FoundLog) (found : List Found) (choices : List Choice) (at : ℕ) (item : Found) (choice : Choice) (start now next : List Fault) → length choices ≡ length found → at < length found → item ≡ get_or found at item → choice ≡ get_or choices at Kept
+    → now ≡ start ++ choice_faults reserved all (all_found_in (take at found)) (take at choices) → next ≡ now ++ choice_fault reserved all (found_in item) choice
+    → next ≡ start ++ choice_faults reserved all (all_found_in (take (at + 1) found)) (take (at + 1) choices)
+faults_more reserved all found choices at item choice start now next many lt e f h g = grown start now next _ (choice_fault reserved all (found_in item) choice) _ h g
+    (ap (λ xs. choice_faults reserved all (all_found_in xs) (take (at + 1) choices)) (take_more found at item lt)
+    ∙ (ap (λ cs. choice_faults reserved all (all_found_in (take at found ++ get_or found at item ∷ [])) cs) (take_more choices at Kept (omega (arith, many)))
+    ∙ (ap (λ xs. choice_faults reserved all xs (take at choices ++ get_or choices at Kept ∷ [])) (map-append found_in (take at found) (get_or found at item ∷ []))
+    ∙ (faults_on reserved all (all_found_in (take at found)) (found_in (get_or found at item) ∷ []) (take at choices) (get_or choices at Kept ∷ []) (length_taken choices found at (omega (arith, many)) (omega arith) ∙ sym (length-map (take at found) found_in))
+    ∙ ap (λ fs. choice_faults reserved all (all_found_in (take at found)) (take at choices) ++ fs) (append-nil (choice_fault reserved all (found_in (get_or found at item)) (get_or choices at Kept))
+    ∙ (ap (λ x. choice_fault reserved all (found_in x) (get_or choices at Kept)) (sym e) ∙ ap (λ c. choice_fault reserved all (found_in item) c) (sym f)))))))
 
 pub kept_more : {A : Type 0} (f : FoundLog → List A) (done : List Found) (choices : List Choice) (at : ℕ) (item : Found) (choice : Choice) (start now next : List A) → at ≡ length done → at < length choices → choice ≡ get_or choices at Kept
     → now ≡ start ++ flat_map f (kept_of (all_found_in done) (take at choices)) → next ≡ now ++ flat_map f (where_kept (found_in item) choice)

@@ -2,10 +2,11 @@
 use Rattle.std.proofs.Common.{◌≡◌, ◌≤◌, ◌<◌, ◌+◌, ℕ, Bool, true, false, cond, List, [], ◌∷◌, ◌++◌, length, map, refl, sym, ap, ◌∙◌, subst, arith}
 use Rattle.std.specs.List.{flat_map}
 use Rattle.std.proofs.lemmas.List.Elements.{All-head, All-tail}
+use Rattle.lr_rules.specs.declared.path.Path.{Path}
 use Rattle.lr_rules.specs.declared.rule.Rule.{Rule}
 use Rattle.lr_rules.specs.declared.fault.Fault.{Fault}
 use Rattle.lr_kept.specs.declared.choice.Choice.{Choice}
-use Rattle.lr_kept.specs.declared.choice.Choice.TheVariants.{Kept, Again, Meets}
+use Rattle.lr_kept.specs.declared.choice.Choice.TheVariants.{Kept, Again, Reserved, Meets}
 use Rattle.lr_looks.specs.Asked.{Log, log_of, logs_of, logs_from, asked_by, CanAsk, CanAskAll}
 use Rattle.lr_looks.specs.Choices.{kept_of, where_file, is_file, Keeps}
 use Rattle.lr_looks.specs.Found.{FoundLog, HasNumbers, HaveNumbers, Hold}
@@ -39,6 +40,7 @@ kept_hold P [] (c ∷ cs) h = tt
 kept_hold P (f ∷ fs) [] h = tt
 kept_hold P (f ∷ fs) (Kept ∷ cs) h = (h.0, kept_hold P fs cs h.1)
 kept_hold P (f ∷ fs) (Again i ∷ cs) h = kept_hold P fs cs h.1
+kept_hold P (f ∷ fs) (Reserved i ∷ cs) h = kept_hold P fs cs h.1
 kept_hold P (f ∷ fs) (Meets i ∷ cs) h = kept_hold P fs cs h.1
 
 file_holds : (P : FoundLog → Type 0) (f : FoundLog) (b : Bool) → P f → Hold P (cond b (f ∷ []) [])
@@ -70,11 +72,11 @@ within_from k n (rule ∷ rules) le = of_both (λ f. f.log.set < n) (logs_of k r
 
 -- ---- those that are found and kept
 
-kept_is : (P : FoundLog → Type 0) (logs : List Log) (found kept : List FoundLog) (c d : List Fault) → HoldsOf P logs → AreFoundOf logs found → Keeps found c d kept → Hold P kept
+kept_is : {reserved : List Path} (P : FoundLog → Type 0) (logs : List Log) (found kept : List FoundLog) (c d : List Fault) → HoldsOf P logs → AreFoundOf logs found → Keeps reserved found c d kept → Hold P kept
 kept_is P logs found kept c d h l k = subst (Hold P) (sym k.left_are) (files_hold P (kept_of found k.choices) (kept_hold P found k.choices (subst (Hold P) (sym l.found_are) (found_hold P logs l.sights h))))
 
-pub kept_numbers : (rules : List Rule) (logs : List Log) (found kept : List FoundLog) (c d : List Fault) → CanAskAll rules → logs ≡ asked_by rules → AreFoundOf logs found → Keeps found c d kept → HaveNumbers kept
+pub kept_numbers : {reserved : List Path} (rules : List Rule) (logs : List Log) (found kept : List FoundLog) (c d : List Fault) → CanAskAll rules → logs ≡ asked_by rules → AreFoundOf logs found → Keeps reserved found c d kept → HaveNumbers kept
 kept_numbers rules logs found kept c d can e l k = kept_is HasNumbers logs found kept c d (subst (HoldsOf HasNumbers) (sym e) (numbers_from 0 rules can)) l k
 
-pub kept_within : (rules : List Rule) (logs : List Log) (n : ℕ) (found kept : List FoundLog) (c d : List Fault) → length rules ≡ n → logs ≡ asked_by rules → AreFoundOf logs found → Keeps found c d kept → AreOf n kept
+pub kept_within : {reserved : List Path} (rules : List Rule) (logs : List Log) (n : ℕ) (found kept : List FoundLog) (c d : List Fault) → length rules ≡ n → logs ≡ asked_by rules → AreFoundOf logs found → Keeps reserved found c d kept → AreOf n kept
 kept_within rules logs n found kept c d many e l k = kept_is (λ f. f.log.set < n) logs found kept c d (subst (HoldsOf (λ f. f.log.set < n)) (sym e) (within_from 0 n rules (omega (arith, many)))) l k

@@ -4,6 +4,7 @@ use Rattle.std.specs.List.{flat_map}
 use Rattle.std.proofs.Math.Seq.{take-length}
 use Rattle.lr_rules.specs.declared.fault.Fault.{Fault}
 use Rattle.lr_rules.specs.declared.fault.Fault.TheVariants as fault
+use Rattle.lr_rules.specs.declared.path.Path.{Path}
 use Rattle.lr_rules.specs.declared.rule.Rule.{Rule}
 use Rattle.lr_host.specs.declared.entry.Entry.{Entry}
 use Rattle.lr_host.specs.declared.journal.Journal.{Journal}
@@ -14,9 +15,9 @@ use Rattle.lr_plan.specs.declared.looks.SetLooks.{SetLooks}
 use Rattle.lr_plan.specs.Counted.{AddsFaults}
 use Rattle.lr_plan.proofs.Counts.{AreFree, free_none, free_on, adds_on, adds_free}
 use Rattle.lr_kept.specs.declared.choice.Choice.{Choice}
-use Rattle.lr_kept.specs.declared.choice.Choice.TheVariants.{Kept, Again, Meets}
+use Rattle.lr_kept.specs.declared.choice.Choice.TheVariants.{Kept, Again, Reserved, Meets}
 use Rattle.lr_looks.specs.Asked.{Log, asked_by}
-use Rattle.lr_looks.specs.Choices.{duplicate, overlap, choice_fault, choice_faults, is_file, kept_of, kind_fault, Keeps}
+use Rattle.lr_looks.specs.Choices.{duplicate, overlap, barred, choice_fault, choice_faults, is_file, kept_of, kind_fault, Keeps}
 use Rattle.lr_looks.specs.Families.{LookedLog, family_faults, LooksAtFamilies, LookedAtSomeFamilies}
 use Rattle.lr_looks.specs.Found.{FoundLog}
 use Rattle.lr_looks.specs.Internal.{LooksBySets}
@@ -28,11 +29,11 @@ use Rattle.lr_looks.specs.Sights.{looks_of, faults_of, LookedAt, LookedAtSome}
 own_words : (logs : List Log) (a b : List Fault) (found : List FoundLog) (ts : List Entry) → (l : LookedAt logs a b [] found ts) → LookedAt logs [] (faults_of logs l.sights) [] found ts
 own_words logs a b found ts l = record { sights = l.sights; as_many = l.as_many; looks = l.looks; faults_are = refl; found_are = l.found_are }
 
-abbrev kept_faults : (found : List FoundLog) (b c : List Fault) (kept : List FoundLog) → Keeps found b c kept → List Fault
-kept_faults found b c kept k = choice_faults found found k.choices ++ flat_map kind_fault (kept_of found k.choices)
+abbrev kept_faults : (reserved : List Path) (found : List FoundLog) (b c : List Fault) (kept : List FoundLog) → Keeps reserved found b c kept → List Fault
+kept_faults reserved found b c kept k = choice_faults reserved found found k.choices ++ flat_map kind_fault (kept_of found k.choices)
 
-own_kept : (found : List FoundLog) (b c b' : List Fault) (kept : List FoundLog) → (k : Keeps found b c kept) → Keeps found b' (b' ++ kept_faults found b c kept k) kept
-own_kept found b c b' kept k = record { choices = k.choices; chosen = k.chosen; faults_are = refl; left_are = k.left_are }
+own_kept : (reserved : List Path) (found : List FoundLog) (b c b' : List Fault) (kept : List FoundLog) → (k : Keeps reserved found b c kept) → Keeps reserved found b' (b' ++ kept_faults reserved found b c kept k) kept
+own_kept reserved found b c b' kept k = record { choices = k.choices; chosen = k.chosen; faults_are = refl; left_are = k.left_are }
 
 own_families : (kept : List FoundLog) (c d c' : List Fault) (looked : List LookedLog) (ts : List Entry) → (l : LooksAtFamilies kept c d looked ts) → LooksAtFamilies kept c' (c' ++ family_faults l.families.sights) looked ts
 own_families kept c d c' looked ts l = record { listings = l.listings; families = record { sights = l.families.sights; had_memory = l.families.had_memory; shown = l.families.shown; faults_are = refl; looked_are = l.families.looked_are } }
@@ -42,28 +43,28 @@ three a b c d x y z e f g = g ∙ (ap (λ l. l ++ z) (f ∙ (ap (λ l. l ++ y) e
 
 -- ---- whole
 
-pub all_told : (rules : List Rule) (logs : List Log) (found kept : List FoundLog) (a b c d : List Fault) (sets : List SetLooks) {o m n : Option Journal} → logs ≡ asked_by rules → Left (LookedAt logs a b [] found) o m → Keeps found b c kept
-    → LooksBySets kept c d sets m n → length sets ≡ length rules → Left (LooksAtAll rules sets a d) o n
-all_told rules logs found kept a b c d sets e l k s many = left_then l s.entries (λ ts us h g. record {
-  own = (faults_of logs h.sights ++ kept_faults found b c kept k) ++ family_faults g.families.sights;
+pub all_told : (reserved : List Path) (rules : List Rule) (logs : List Log) (found kept : List FoundLog) (a b c d : List Fault) (sets : List SetLooks) {o m n : Option Journal} → logs ≡ asked_by rules → Left (LookedAt logs a b [] found) o m → Keeps reserved found b c kept
+    → LooksBySets kept c d sets m n → length sets ≡ length rules → Left (LooksAtAll reserved rules sets a d) o n
+all_told reserved rules logs found kept a b c d sets e l k s many = left_then l s.entries (λ ts us h g. record {
+  own = (faults_of logs h.sights ++ kept_faults reserved found b c kept k) ++ family_faults g.families.sights;
   faults_are = three a b c d _ _ _ h.faults_are k.faults_are g.families.faults_are;
   shown = record {
     found = found;
     of_words = faults_of logs h.sights;
     kept = kept;
-    of_kept = faults_of logs h.sights ++ kept_faults found b c kept k;
+    of_kept = faults_of logs h.sights ++ kept_faults reserved found b c kept k;
     looked = s.looked;
-    keeps = own_kept found b c (faults_of logs h.sights) kept k;
-    entries = record { front = ts; back = us; joined = refl; first = subst (λ ls. LookedAt ls [] (faults_of logs h.sights) [] found ts) e (own_words logs a b found ts h); second = own_families kept c d (faults_of logs h.sights ++ kept_faults found b c kept k) s.looked us g };
+    keeps = own_kept reserved found b c (faults_of logs h.sights) kept k;
+    entries = record { front = ts; back = us; joined = refl; first = subst (λ ls. LookedAt ls [] (faults_of logs h.sights) [] found ts) e (own_words logs a b found ts h); second = own_families kept c d (faults_of logs h.sights ++ kept_faults reserved found b c kept k) s.looked us g };
     many = many;
     by_sets = s.by_sets;
   };
 })
 
-pub all_ok : {E : Type 0} (r : Result Looks E) (rules : List Rule) (logs : List Log) (found kept : List FoundLog) (a b c d : List Fault) (count : ℕ) {o m : Option Journal} (n : Option Journal) → logs ≡ asked_by rules → Left (LookedAt logs a b [] found) o m → Keeps found b c kept
-    → IfOk r (λ looks. LooksBySets kept c d looks.sets m n) → IfOk r (λ looks. length looks.sets ≡ count) → count ≡ length rules → IfOk r (λ looks. Left (LooksAtAll rules looks.sets a d) o n)
-all_ok (Ok looks) rules logs found kept a b c d count n e l k s many is = all_told rules logs found kept a b c d looks.sets e l k s (many ∙ is)
-all_ok (Err x) rules logs found kept a b c d count n e l k s many is = tt
+pub all_ok : {E : Type 0} (r : Result Looks E) (reserved : List Path) (rules : List Rule) (logs : List Log) (found kept : List FoundLog) (a b c d : List Fault) (count : ℕ) {o m : Option Journal} (n : Option Journal) → logs ≡ asked_by rules → Left (LookedAt logs a b [] found) o m → Keeps reserved found b c kept
+    → IfOk r (λ looks. LooksBySets kept c d looks.sets m n) → IfOk r (λ looks. length looks.sets ≡ count) → count ≡ length rules → IfOk r (λ looks. Left (LooksAtAll reserved rules looks.sets a d) o n)
+all_ok (Ok looks) reserved rules logs found kept a b c d count n e l k s many is = all_told reserved rules logs found kept a b c d looks.sets e l k s (many ∙ is)
+all_ok (Err x) reserved rules logs found kept a b c d count n e l k s many is = tt
 
 pub all_many : {E : Type 0} (r : Result Looks E) (rules : List Rule) (count : ℕ) → IfOk r (λ looks. length looks.sets ≡ count) → count ≡ length rules → IfOk r (λ looks. length looks.sets ≡ length rules)
 all_many (Ok looks) rules count many is = many ∙ is
@@ -83,16 +84,21 @@ met_free : (f : FoundLog) (o : Option FoundLog) → AreFree (overlap f o)
 met_free f None = free_none
 met_free f (Some other) = record { calls = refl; scripts = refl; no_out = ((λ h. h), tt) }
 
-choice_free : (all : List FoundLog) (f : FoundLog) (c : Choice) → AreFree (choice_fault all f c)
-choice_free all f Kept = free_none
-choice_free all f (Again i) = again_free f (slice_get all i)
-choice_free all f (Meets i) = met_free f (slice_get all i)
+barred_free : (f : FoundLog) (o : Option Path) → AreFree (barred f o)
+barred_free f None = free_none
+barred_free f (Some path) = record { calls = refl; scripts = refl; no_out = ((λ h. h), tt) }
 
-choices_free : (all fs : List FoundLog) (cs : List Choice) → AreFree (choice_faults all fs cs)
-choices_free all [] [] = free_none
-choices_free all [] (c ∷ cs) = free_none
-choices_free all (f ∷ fs) [] = free_none
-choices_free all (f ∷ fs) (c ∷ cs) = free_on (choice_fault all f c) (choice_faults all fs cs) (choice_free all f c) (choices_free all fs cs)
+choice_free : (reserved : List Path) (all : List FoundLog) (f : FoundLog) (c : Choice) → AreFree (choice_fault reserved all f c)
+choice_free reserved all f Kept = free_none
+choice_free reserved all f (Again i) = again_free f (slice_get all i)
+choice_free reserved all f (Reserved i) = barred_free f (slice_get reserved i)
+choice_free reserved all f (Meets i) = met_free f (slice_get all i)
+
+choices_free : (reserved : List Path) (all fs : List FoundLog) (cs : List Choice) → AreFree (choice_faults reserved all fs cs)
+choices_free reserved all [] [] = free_none
+choices_free reserved all [] (c ∷ cs) = free_none
+choices_free reserved all (f ∷ fs) [] = free_none
+choices_free reserved all (f ∷ fs) (c ∷ cs) = free_on (choice_fault reserved all f c) (choice_faults reserved all fs cs) (choice_free reserved all f c) (choices_free reserved all fs cs)
 
 kind_free : (f : FoundLog) → AreFree (kind_fault f)
 kind_free f = go (is_file f.seen.kind)
@@ -108,22 +114,22 @@ kinds_free (f ∷ fs) = free_on (kind_fault f) (flat_map kind_fault fs) (kind_fr
 none_fell : (k : Counts) → NoneFell k k
 none_fell k = (omega arith, omega arith, omega arith)
 
-kept_counted : (found kept : List FoundLog) (b c : List Fault) (k : Counts) → Keeps found b c kept → AddsFaults b c k k
-kept_counted found kept b c k h = adds_free b c (kept_faults found b c kept h) k k h.faults_are (free_on (choice_faults found found h.choices) (flat_map kind_fault (kept_of found h.choices)) (choices_free found found h.choices) (kinds_free (kept_of found h.choices))) (none_fell k)
+kept_counted : (reserved : List Path) (found kept : List FoundLog) (b c : List Fault) (k : Counts) → Keeps reserved found b c kept → AddsFaults b c k k
+kept_counted reserved found kept b c k h = adds_free b c (kept_faults reserved found b c kept h) k k h.faults_are (free_on (choice_faults reserved found found h.choices) (flat_map kind_fault (kept_of found h.choices)) (choices_free reserved found found h.choices) (kinds_free (kept_of found h.choices))) (none_fell k)
 
-pub all_counted : {E : Type 0} (r : Result Looks E) (found kept : List FoundLog) (a b c d : List Fault) (k l m : Counts) → AddsFaults a b k l → Keeps found b c kept → IfOk r (λ looks. AddsFaults c d l m) → IfOk r (λ looks. AddsFaults a d k m)
-all_counted (Ok looks) found kept a b c d k l m x h y = adds_on a c d k l m (adds_on a b c k l l x (kept_counted found kept b c l h)) y
-all_counted (Err e) found kept a b c d k l m x h y = tt
+pub all_counted : {E : Type 0} (r : Result Looks E) (reserved : List Path) (found kept : List FoundLog) (a b c d : List Fault) (k l m : Counts) → AddsFaults a b k l → Keeps reserved found b c kept → IfOk r (λ looks. AddsFaults c d l m) → IfOk r (λ looks. AddsFaults a d k m)
+all_counted (Ok looks) reserved found kept a b c d k l m x h y = adds_on a c d k l m (adds_on a b c k l l x (kept_counted reserved found kept b c l h)) y
+all_counted (Err e) reserved found kept a b c d k l m x h y = tt
 
 -- ---- in part
 
-pub all_at_first : {T E : Type 0} (r : Result T E) (rules : List Rule) (o : Option Journal) → OnErr r (Left (ShowsSomeLooks rules) o o)
-all_at_first (Ok x) rules o = tt
-all_at_first (Err x) rules o = left_first (ShowsSomeLooks rules) _ (at_words (record { sights = []; few = omega arith; looks = refl }))
+pub all_at_first : {T E : Type 0} (r : Result T E) (reserved : List Path) (rules : List Rule) (o : Option Journal) → OnErr r (Left (ShowsSomeLooks reserved rules) o o)
+all_at_first (Ok x) reserved rules o = tt
+all_at_first (Err x) reserved rules o = left_first (ShowsSomeLooks reserved rules) _ (at_words (record { sights = []; few = omega arith; looks = refl }))
 
-pub all_at_words : {T E : Type 0} (r : Result T E) (rules : List Rule) (logs : List Log) {o n : Option Journal} → logs ≡ asked_by rules → Left (LookedAtSome logs) o n → OnErr r (Left (ShowsSomeLooks rules) o n)
-all_at_words (Ok x) rules logs e l = tt
-all_at_words (Err x) rules logs e l = left_as l (λ ts h. at_words (subst (λ ls. LookedAtSome ls ts) e h))
+pub all_at_words : {T E : Type 0} (r : Result T E) (reserved : List Path) (rules : List Rule) (logs : List Log) {o n : Option Journal} → logs ≡ asked_by rules → Left (LookedAtSome logs) o n → OnErr r (Left (ShowsSomeLooks reserved rules) o n)
+all_at_words (Ok x) reserved rules logs e l = tt
+all_at_words (Err x) reserved rules logs e l = left_as l (λ ts h. at_words (subst (λ ls. LookedAtSome ls ts) e h))
 
 some_whole : (logs : List Log) (a b : List Fault) (found : List FoundLog) (ts : List Entry) → LookedAt logs a b [] found ts → LookedAtSome logs ts
 some_whole logs a b found ts l = record {
@@ -132,12 +138,12 @@ some_whole logs a b found ts l = record {
   looks = l.looks ∙ ap (λ ls. looks_of ls l.sights) (sym (ap (λ n. take n logs) l.as_many ∙ take-length logs));
 }
 
-pub all_at_kept : {T E : Type 0} (r : Result T E) (rules : List Rule) (logs : List Log) (a b : List Fault) (found : List FoundLog) {o n : Option Journal} → logs ≡ asked_by rules → Left (LookedAt logs a b [] found) o n → OnErr r (Left (ShowsSomeLooks rules) o n)
-all_at_kept (Ok x) rules logs a b found e l = tt
-all_at_kept (Err x) rules logs a b found e l = left_as l (λ ts h. at_words (subst (λ ls. LookedAtSome ls ts) e (some_whole logs a b found ts h)))
+pub all_at_kept : {T E : Type 0} (r : Result T E) (reserved : List Path) (rules : List Rule) (logs : List Log) (a b : List Fault) (found : List FoundLog) {o n : Option Journal} → logs ≡ asked_by rules → Left (LookedAt logs a b [] found) o n → OnErr r (Left (ShowsSomeLooks reserved rules) o n)
+all_at_kept (Ok x) reserved rules logs a b found e l = tt
+all_at_kept (Err x) reserved rules logs a b found e l = left_as l (λ ts h. at_words (subst (λ ls. LookedAtSome ls ts) e (some_whole logs a b found ts h)))
 
-pub all_at_families : {T E : Type 0} (r : Result T E) (rules : List Rule) (logs : List Log) (found kept : List FoundLog) (a b c : List Fault) {o m : Option Journal} (n : Option Journal) → logs ≡ asked_by rules → Left (LookedAt logs a b [] found) o m → Keeps found b c kept
-    → OnErr r (Left (LookedAtSomeFamilies [] kept) m n) → OnErr r (Left (ShowsSomeLooks rules) o n)
-all_at_families (Ok x) rules logs found kept a b c n e l k s = tt
-all_at_families (Err x) rules logs found kept a b c n e l k s = left_then l s (λ ts us h g. at_families found (faults_of logs h.sights) kept (faults_of logs h.sights ++ kept_faults found b c kept k) (own_kept found b c (faults_of logs h.sights) kept k)
+pub all_at_families : {T E : Type 0} (r : Result T E) (reserved : List Path) (rules : List Rule) (logs : List Log) (found kept : List FoundLog) (a b c : List Fault) {o m : Option Journal} (n : Option Journal) → logs ≡ asked_by rules → Left (LookedAt logs a b [] found) o m → Keeps reserved found b c kept
+    → OnErr r (Left (LookedAtSomeFamilies [] kept) m n) → OnErr r (Left (ShowsSomeLooks reserved rules) o n)
+all_at_families (Ok x) reserved rules logs found kept a b c n e l k s = tt
+all_at_families (Err x) reserved rules logs found kept a b c n e l k s = left_then l s (λ ts us h g. at_families found (faults_of logs h.sights) kept (faults_of logs h.sights ++ kept_faults reserved found b c kept k) (own_kept reserved found b c (faults_of logs h.sights) kept k)
     (record { front = ts; back = us; joined = refl; first = subst (λ ls. LookedAt ls [] (faults_of logs h.sights) [] found ts) e (own_words logs a b found ts h); second = g }))

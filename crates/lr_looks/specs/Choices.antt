@@ -10,7 +10,7 @@ use Rattle.lr_host.specs.declared.thing.Kind.{Kind}
 use Rattle.lr_host.specs.declared.thing.Kind.TheVariants as kind
 use Rattle.lr_family.specs.declared.family.Family.{Family}
 use Rattle.lr_kept.specs.declared.choice.Choice.{Choice}
-use Rattle.lr_kept.specs.declared.choice.Choice.TheVariants.{Kept, Again, Meets}
+use Rattle.lr_kept.specs.declared.choice.Choice.TheVariants.{Kept, Again, Reserved, Meets}
 use Rattle.lr_kept.specs.Chosen.{AreChosen}
 use Rattle.lr_looks.specs.Found.{FoundLog}
 
@@ -21,11 +21,11 @@ names_of b = (b.now.log, b.now.naming)
 abbrev pub found_names : FoundLog → Path × Naming
 found_names f = (f.log.path, f.log.naming)
 
--- The choices are those among these logs.
-pub record IsChoiceAmong (found : List FoundLog) (choices : List Choice) : Type 0 where
+-- The choices are those among these logs, where these paths are reserved.
+pub record IsChoiceAmong (reserved : List Path) (found : List FoundLog) (choices : List Choice) : Type 0 where
   pub logs : List (Bor Family)
   pub same : map names_of logs ≡ map found_names found
-  pub chosen : AreChosen logs choices
+  pub chosen : AreChosen logs reserved choices
 
 -- a path that was found before is told, unless the definition that found it first lets it go silently
 abbrev pub duplicate : FoundLog → Option FoundLog → List Fault
@@ -37,15 +37,21 @@ abbrev pub overlap : FoundLog → Option FoundLog → List Fault
 overlap f None = []
 overlap f (Some other) = fault.Overlap f.log.path other.log.path ∷ []
 
-abbrev pub choice_fault : List FoundLog → FoundLog → Choice → List Fault
-choice_fault all f Kept = []
-choice_fault all f (Again i) = duplicate f (slice_get all i)
-choice_fault all f (Meets i) = overlap f (slice_get all i)
+-- one of its names is a path that the run reserves for itself
+abbrev pub barred : FoundLog → Option Path → List Fault
+barred f None = []
+barred f (Some path) = fault.Overlap f.log.path path ∷ []
+
+abbrev pub choice_fault : List Path → List FoundLog → FoundLog → Choice → List Fault
+choice_fault reserved all f Kept = []
+choice_fault reserved all f (Again i) = duplicate f (slice_get all i)
+choice_fault reserved all f (Reserved i) = barred f (slice_get reserved i)
+choice_fault reserved all f (Meets i) = overlap f (slice_get all i)
 
 -- the faults of some of the logs that were found, by their choices
-abbrev pub choice_faults : List FoundLog → List FoundLog → List Choice → List Fault
-choice_faults all (f ∷ fs) (c ∷ cs) = choice_fault all f c ++ choice_faults all fs cs
-choice_faults all _ _ = []
+abbrev pub choice_faults : List Path → List FoundLog → List FoundLog → List Choice → List Fault
+choice_faults reserved all (f ∷ fs) (c ∷ cs) = choice_fault reserved all f c ++ choice_faults reserved all fs cs
+choice_faults reserved all _ _ = []
 
 abbrev pub where_kept : FoundLog → Choice → List FoundLog
 where_kept f Kept = f ∷ []
@@ -68,8 +74,8 @@ abbrev pub where_file : FoundLog → List FoundLog
 where_file f = if is_file f.seen.kind then f ∷ [] else []
 
 -- The logs that are left are those that are kept and are regular files; the faults of the others are added, those of the choice first.
-pub record Keeps (found : List FoundLog) (faults all_faults : List Fault) (left : List FoundLog) : Type 0 where
+pub record Keeps (reserved : List Path) (found : List FoundLog) (faults all_faults : List Fault) (left : List FoundLog) : Type 0 where
   pub choices : List Choice
-  pub chosen : IsChoiceAmong found choices
-  pub faults_are : all_faults ≡ faults ++ (choice_faults found found choices ++ flat_map kind_fault (kept_of found choices))
+  pub chosen : IsChoiceAmong reserved found choices
+  pub faults_are : all_faults ≡ faults ++ (choice_faults reserved found found choices ++ flat_map kind_fault (kept_of found choices))
   pub left_are : left ≡ flat_map where_file (kept_of found choices)

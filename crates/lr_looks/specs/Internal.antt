@@ -1,7 +1,7 @@
 -- For proofs: the naming that the code makes, choices that name logs of the list, the map of listings, and logs that are added to their definitions.
 use Rattle.std.specs.Prelude.{◌≡◌, ◌<◌, ℕ, List, [], ◌∷◌, ◌++◌, All, Option, Some, None, length, slice_get}
 use Rattle.lr_kept.specs.declared.choice.Choice.{Choice}
-use Rattle.lr_kept.specs.declared.choice.Choice.TheVariants.{Kept, Again, Meets}
+use Rattle.lr_kept.specs.declared.choice.Choice.TheVariants.{Kept, Again, Reserved, Meets}
 use Rattle.lr_rules.specs.declared.path.Path.{Path}
 use Rattle.lr_rules.specs.declared.rule.Naming.{Naming}
 use Rattle.lr_rules.specs.Path.{parent_of, last_of}
@@ -26,14 +26,15 @@ use Rattle.lr_looks.specs.Sets.{HaveLooks}
 abbrev pub naming_at : ℕ → Path → Naming
 naming_at start log = record { dir = parent_of log; base = last_of log; ext = []; start = start; dated = None }
 
--- the log that the choice names is one of so many
-abbrev pub IsWithin : ℕ → Choice → Type 0
-IsWithin count Kept = Unit {0}
-IsWithin count (Again i) = i < count
-IsWithin count (Meets i) = i < count
+-- the reserved path, or the log, that the choice names is one of so many
+abbrev pub IsWithin : ℕ → ℕ → Choice → Type 0
+IsWithin paths count Kept = Unit {0}
+IsWithin paths count (Again i) = i < count
+IsWithin paths count (Reserved i) = i < paths
+IsWithin paths count (Meets i) = i < count
 
-abbrev pub AreWithin : ℕ → List Choice → Type 0
-AreWithin count choices = All (IsWithin count) choices
+abbrev pub AreWithin : ℕ → ℕ → List Choice → Type 0
+AreWithin paths count choices = All (IsWithin paths count) choices
 
 -- ---- the map of the listings that were taken
 

@@ -1,6 +1,7 @@
 -- What all looks of a run came to: at the words' paths, and then at the families of the logs that are kept.
 use Rattle.std.specs.Prelude.{◌≡◌, List, [], ◌++◌, length}
 use Rattle.lr_rules.specs.declared.fault.Fault.{Fault}
+use Rattle.lr_rules.specs.declared.path.Path.{Path}
 use Rattle.lr_rules.specs.declared.rule.Rule.{Rule}
 use Rattle.lr_host.specs.declared.entry.Entry.{Entry}
 use Rattle.lr_host.specs.Told.{Then}
@@ -13,25 +14,25 @@ use Rattle.lr_looks.specs.Sets.{HaveLooks}
 use Rattle.lr_looks.specs.Sights.{LookedAt, LookedAtSome}
 
 -- The words' paths were looked at, and then the families of the logs that are kept. The logs that were looked at whole stand by definitions; the faults are those of the words, of the choice, of the kinds and of the families, in this order.
-pub record ShowsLooks (rules : List Rule) (sets : List SetLooks) (faults : List Fault) (ts : List Entry) : Type 0 where
+pub record ShowsLooks (reserved : List Path) (rules : List Rule) (sets : List SetLooks) (faults : List Fault) (ts : List Entry) : Type 0 where
   pub found : List FoundLog
   pub of_words : List Fault
   pub kept : List FoundLog
   pub of_kept : List Fault
   pub looked : List LookedLog
-  pub keeps : Keeps found of_words of_kept kept
+  pub keeps : Keeps reserved found of_words of_kept kept
   pub entries : Then (LookedAt (asked_by rules) [] of_words [] found) (LooksAtFamilies kept of_kept faults looked) ts
   pub many : length sets ≡ length rules
   pub by_sets : HaveLooks looked sets
 
 -- the faults were added
-pub record LooksAtAll (rules : List Rule) (sets : List SetLooks) (faults all_faults : List Fault) (ts : List Entry) : Type 0 where
+pub record LooksAtAll (reserved : List Path) (rules : List Rule) (sets : List SetLooks) (faults all_faults : List Fault) (ts : List Entry) : Type 0 where
   pub own : List Fault
   pub faults_are : all_faults ≡ faults ++ own
-  pub shown : ShowsLooks rules sets own ts
+  pub shown : ShowsLooks reserved rules sets own ts
 
 -- Where there was no memory, a first part of these looks was made.
-pub data ShowsSomeLooks (rules : List Rule) (ts : List Entry) : Type 0 where
-  at_words : LookedAtSome (asked_by rules) ts → ShowsSomeLooks rules ts
-  at_families : (found : List FoundLog) (of_words : List Fault) (kept : List FoundLog) (of_kept : List Fault) → Keeps found of_words of_kept kept
-      → Then (LookedAt (asked_by rules) [] of_words [] found) (LookedAtSomeFamilies [] kept) ts → ShowsSomeLooks rules ts
+pub data ShowsSomeLooks (reserved : List Path) (rules : List Rule) (ts : List Entry) : Type 0 where
+  at_words : LookedAtSome (asked_by rules) ts → ShowsSomeLooks reserved rules ts
+  at_families : (found : List FoundLog) (of_words : List Fault) (kept : List FoundLog) (of_kept : List Fault) → Keeps reserved found of_words of_kept kept
+      → Then (LookedAt (asked_by rules) [] of_words [] found) (LookedAtSomeFamilies [] kept) ts → ShowsSomeLooks reserved rules ts

@@ -12,21 +12,22 @@ use crate::keeping::keep;
 use crate::words::look_at_words;
 use lr_host::Host;
 use lr_plan::Looks;
-use lr_rules::{Fault, Memory, Rules};
+use lr_rules::{Fault, Memory, Path, Rules};
 use std::alloc::Global;
 
 /// Looks at the logs that the rules ask for, and at the families of those that are kept: for each definition its logs that
 /// were looked at whole. The faults of the others are added: those of the words, of the choice, of the kinds and of the
-/// families, in this order.
+/// families, in this order. No log is kept of which a name is one of the reserved paths.
 pub fn look_all<H: Host>(
     alloc: Global,
     host: &mut H,
     rules: &Rules,
+    reserved: &[Path],
     faults: &mut Vec<Fault>,
 ) -> Result<Looks, Memory>
     requires { CanAskAll rules.now.sets }
-    ensures told { IfOk result (λ looks. Left (LooksAtAll rules.now.sets looks.sets faults.old.items faults.new.items) (H.told host.old) (H.told host.new)) }
-    ensures some { OnErr result (Left (ShowsSomeLooks rules.now.sets) (H.told host.old) (H.told host.new)) }
+    ensures told { IfOk result (λ looks. Left (LooksAtAll reserved.now rules.now.sets looks.sets faults.old.items faults.new.items) (H.told host.old) (H.told host.new)) }
+    ensures some { OnErr result (Left (ShowsSomeLooks reserved.now rules.now.sets) (H.told host.old) (H.told host.new)) }
     ensures many { IfOk result (λ looks. length looks.sets ≡ length rules.now.sets) }
     ensures ready { IfOk result (λ looks. AreReady looks.sets) }
     ensures counted { IfOk result (λ looks. AddsFaults faults.old.items faults.new.items (H.counts host.old) (H.counts host.new)) }
@@ -34,6 +35,6 @@ pub fn look_all<H: Host>(
 {
     let logs = asked(alloc, rules)?;
     let found = look_at_words(alloc, host, logs, faults)?;
-    let kept = keep(alloc, found, faults)?;
+    let kept = keep(alloc, found, reserved, faults)?;
     look_at_families(alloc, host, kept, rules.sets.len(), faults)
 }

@@ -3,14 +3,14 @@ ghost use Rattle.std.specs.Prelude.{◌≡◌, ◌<◌, ◌++◌, OnOk, IfOk, le
 ghost use Rattle.lr_rules.specs.declared.fault.Fault.TheVariants as fault;
 ghost use Rattle.std.specs.List.{flat_map};
 ghost use Rattle.lr_looks.specs.Found.{found_in, all_found_in};
-ghost use Rattle.lr_looks.specs.Choices.{names_of, found_names, duplicate, overlap, choice_fault, choice_faults, where_kept, kept_of, kind_fault, where_file, IsChoiceAmong, Keeps};
+ghost use Rattle.lr_looks.specs.Choices.{names_of, found_names, duplicate, overlap, barred, choice_fault, choice_faults, where_kept, kept_of, kind_fault, where_file, IsChoiceAmong, Keeps};
 ghost use Rattle.lr_looks.specs.Internal.{IsWithin, AreWithin};
 
 use crate::found::Found;
 use lr_family::Family;
 use lr_host::Kind;
 use lr_kept::{Choice, choose};
-use lr_rules::{Fault, Memory};
+use lr_rules::{Fault, Memory, Path};
 use std::alloc::Global;
 
 // The families of logs.
@@ -25,11 +25,11 @@ fn families_of<'a>(alloc: Global, found: &'a [Found]) -> Result<Vec<&'a Family>,
 }
 
 // The choices among logs.
-fn choices_among(alloc: Global, found: &[Found]) -> Result<Vec<Choice>, Memory>
-    ensures { IfOk result (λ choices. IsChoiceAmong (all_found_in found.now) choices.items) }
+fn choices_among(alloc: Global, found: &[Found], reserved: &[Path]) -> Result<Vec<Choice>, Memory>
+    ensures { IfOk result (λ choices. IsChoiceAmong reserved.now (all_found_in found.now) choices.items) }
 {
     let families = families_of(alloc, found)?;
-    choose(alloc, &families)
+    choose(alloc, &families, reserved)
 }
 
 // Adds the fault of a log whose path was found before, unless it goes silently.
@@ -63,20 +63,37 @@ fn add_overlap(
     Ok(())
 }
 
+// Adds the fault of a log of which a name is reserved.
+fn add_barred(
+    alloc: Global,
+    faults: &mut Vec<Fault>,
+    item: &Found,
+    path: &Path,
+) -> Result<(), Memory>
+    ensures { OnOk result (faults.new.items ≡ faults.old.items ++ barred (found_in item.now) (Some path.now)) }
+{
+    let log = item.asked.family.log().copy(alloc)?;
+    let path = path.copy(alloc)?;
+    faults.push(Fault::Overlap(log, path))?;
+    Ok(())
+}
+
 // Adds the fault of a log that isn't kept.
 fn add_choice(
     alloc: Global,
     faults: &mut Vec<Fault>,
     found: &[Found],
+    reserved: &[Path],
     item: &Found,
     choice: Choice,
 ) -> Result<(), Memory>
-    requires { IsWithin (length found.now) choice }
-    ensures { OnOk result (faults.new.items ≡ faults.old.items ++ choice_fault (all_found_in found.now) (found_in item.now) choice) }
+    requires { IsWithin (length reserved.now) (length found.now) choice }
+    ensures { OnOk result (faults.new.items ≡ faults.old.items ++ choice_fault reserved.now (all_found_in found.now) (found_in item.now) choice) }
 {
     match choice {
         Choice::Kept => Ok(()),
         Choice::Again(first) => add_duplicate(alloc, faults, item, &found[first]),
+        Choice::Reserved(path) => add_barred(alloc, faults, item, &reserved[path]),
         Choice::Meets(other) => add_overlap(alloc, faults, item, &found[other]),
     }
 }
@@ -86,14 +103,15 @@ fn add_choices(
     alloc: Global,
     faults: &mut Vec<Fault>,
     found: &[Found],
+    reserved: &[Path],
     choices: &[Choice],
 ) -> Result<(), Memory>
     requires many { length choices.now ≡ length found.now }
-    requires within { AreWithin (length found.now) choices.now }
-    ensures { OnOk result (faults.new.items ≡ faults.old.items ++ choice_faults (all_found_in found.now) (all_found_in found.now) choices.now) }
+    requires within { AreWithin (length reserved.now) (length found.now) choices.now }
+    ensures { OnOk result (faults.new.items ≡ faults.old.items ++ choice_faults reserved.now (all_found_in found.now) (all_found_in found.now) choices.now) }
 {
     for at in 0..found.len() {
-        add_choice(alloc, faults, found, &found[at], choices[at])?;
+        add_choice(alloc, faults, found, reserved, &found[at], choices[at])?;
     }
     Ok(())
 }
@@ -143,6 +161,7 @@ fn add_item(
     match choice {
         Choice::Kept => add_kept(alloc, left, faults, item),
         Choice::Again(_) => Ok(()),
+        Choice::Reserved(_) => Ok(()),
         Choice::Meets(_) => Ok(()),
     }
 }
@@ -167,13 +186,18 @@ fn files_of(
     Ok(left)
 }
 
-/// Keeps of the logs that were found those that a run rotates: of each path the first, unless its names meet those of a
-/// log that is kept before it, and only regular files. The faults of the others are added: `Duplicate`, `Overlap`,
-/// `NotFile`.
-pub fn keep(alloc: Global, found: Vec<Found>, faults: &mut Vec<Fault>) -> Result<Vec<Found>, Memory>
-    ensures { IfOk result (λ left. Keeps (all_found_in found.items) faults.old.items faults.new.items (all_found_in left.items)) }
+/// Keeps of the logs that were found those that a run rotates: of each path the first, unless one of its names is reserved,
+/// or they meet those of a log that is kept before it, and only regular files. The faults of the others are added:
+/// `Duplicate`, `Overlap`, with the reserved path or that of the log kept before, `NotFile`.
+pub fn keep(
+    alloc: Global,
+    found: Vec<Found>,
+    reserved: &[Path],
+    faults: &mut Vec<Fault>,
+) -> Result<Vec<Found>, Memory>
+    ensures { IfOk result (λ left. Keeps reserved.now (all_found_in found.items) faults.old.items faults.new.items (all_found_in left.items)) }
 {
-    let choices = choices_among(alloc, &found)?;
-    add_choices(alloc, faults, &found, &choices)?;
+    let choices = choices_among(alloc, &found, reserved)?;
+    add_choices(alloc, faults, &found, reserved, &choices)?;
     files_of(alloc, found, &choices, faults)
 }

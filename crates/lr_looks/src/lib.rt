@@ -8,7 +8,7 @@
 //! ```text
 //! let logs = asked(alloc, &rules)?;                                   // the logs that the words ask for
 //! let found = look_at_words(alloc, &mut host, logs, &mut faults)?;    // what stands at their paths
-//! let kept = keep(alloc, found, &mut faults)?;                        // the regular files that are to be rotated
+//! let kept = keep(alloc, found, &reserved, &mut faults)?;             // the regular files that are to be rotated
 //! let stood = look_at_families(alloc, &mut host, kept, &mut faults)?; // what stands of their families
 //! ```
 #![tactic(auto)]

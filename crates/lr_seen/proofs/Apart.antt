@@ -13,7 +13,7 @@ use Rattle.lr_host.specs.declared.entry.Entry.{Entry}
 use Rattle.lr_host.specs.Lists.{IsIn}
 use Rattle.lr_family.specs.declared.family.Family.{Family}
 use Rattle.lr_kept.specs.declared.choice.Choice.{Choice}
-use Rattle.lr_kept.specs.declared.choice.Choice.TheVariants.{Kept, Again, Meets}
+use Rattle.lr_kept.specs.declared.choice.Choice.TheVariants.{Kept, Again, Reserved, Meets}
 use Rattle.lr_kept.specs.Chosen.{IsKept}
 use Rattle.lr_kept.proofs.Finding.{meet_back}
 use Rattle.lr_plan.specs.declared.looks.LogLook.{LogLook}
@@ -59,8 +59,8 @@ abbrev MeetNamed : (Path × Naming) → (Path × Naming) → Type 0
 MeetNamed a b = Meet a.0 a.1 b.0 b.1
 
 -- each log that is kept is apart from those that are kept before it, whichever of the two is named first
-choice_off : (found : List FoundLog) (choices : List Choice) → IsChoiceAmong found choices → AreOff found choices
-choice_off found choices c i k f g lt at_f at_g kept_f kept_g = (
+choice_off : {reserved : List Path} (found : List FoundLog) (choices : List Choice) → IsChoiceAmong reserved found choices → AreOff found choices
+choice_off {reserved} found choices c i k f g lt at_f at_g kept_f kept_g = (
   λ e. kept.new i lt (record { one = one.0; other = other.0; at_one = one.1; at_other = other.1; holds = ap (λ (p : Path × Naming). p.0) one.2 ∙ (e ∙ sym (ap (λ (p : Path × Naming). p.0) other.2)) }),
   met,
   λ m. met (meet_again m),
@@ -72,7 +72,7 @@ choice_off found choices c i k f g lt at_f at_g kept_f kept_g = (
     other : (b : Bor Family) × (slice_get c.logs k ≡ Some b) × (names_of b ≡ found_names g)
     other = unmap_at names_of c.logs k (found_names g) (ap (λ (xs : List (Path × Naming)). slice_get xs k) c.same ∙ map_at found_names found k g at_g)
 
-    kept : IsKept c.logs choices k
+    kept : IsKept c.logs reserved choices k
     kept = c.chosen.each k Kept kept_g
 
     met : Meet f.log.path f.log.naming g.log.path g.log.naming → ⊥
@@ -89,12 +89,13 @@ choice_off found choices c i k f g lt at_f at_g kept_f kept_g = (
         (meet_back other.0.now one.0.now (subst (λ (p : Path × Naming). MeetNamed p (names_of one.0)) (sym other.2) (subst (λ (p : Path × Naming). MeetNamed (found_names g) p) (sym one.2) m))))
 
 -- what holds of each log at a kept place holds of each that is kept
-kept_each : (P : FoundLog → Type 0) (fs : List FoundLog) (cs : List Choice) → ((k : ℕ) (g : FoundLog) → slice_get fs k ≡ Some g → slice_get cs k ≡ Some Kept → P g) → AllByRecursion P (kept_of fs cs)
+pub kept_each : (P : FoundLog → Type 0) (fs : List FoundLog) (cs : List Choice) → ((k : ℕ) (g : FoundLog) → slice_get fs k ≡ Some g → slice_get cs k ≡ Some Kept → P g) → AllByRecursion P (kept_of fs cs)
 kept_each P [] [] h = tt
 kept_each P [] (c ∷ cs) h = tt
 kept_each P (f ∷ fs) [] h = tt
 kept_each P (f ∷ fs) (Kept ∷ cs) h = (h 0 f refl refl, kept_each P fs cs (λ k g. h (suc k) g))
 kept_each P (f ∷ fs) (Again i ∷ cs) h = kept_each P fs cs (λ k g. h (suc k) g)
+kept_each P (f ∷ fs) (Reserved i ∷ cs) h = kept_each P fs cs (λ k g. h (suc k) g)
 kept_each P (f ∷ fs) (Meets i ∷ cs) h = kept_each P fs cs (λ k g. h (suc k) g)
 
 kept_pairs : (fs : List FoundLog) (cs : List Choice) → AreOff fs cs → Pairs OffFound (kept_of fs cs)
@@ -103,6 +104,7 @@ kept_pairs [] (c ∷ cs) h = tt
 kept_pairs (f ∷ fs) [] h = tt
 kept_pairs (f ∷ fs) (Kept ∷ cs) h = (kept_each (OffFound f) fs cs (λ k g at is. h 0 (suc k) f g (omega arith) refl at refl is), kept_pairs fs cs (λ i k a b lt. h (suc i) (suc k) a b (omega arith)))
 kept_pairs (f ∷ fs) (Again j ∷ cs) h = kept_pairs fs cs (λ i k a b lt. h (suc i) (suc k) a b (omega arith))
+kept_pairs (f ∷ fs) (Reserved j ∷ cs) h = kept_pairs fs cs (λ i k a b lt. h (suc i) (suc k) a b (omega arith))
 kept_pairs (f ∷ fs) (Meets j ∷ cs) h = kept_pairs fs cs (λ i k a b lt. h (suc i) (suc k) a b (omega arith))
 
 -- the regular files among them
@@ -221,7 +223,7 @@ all_pairs decide logs k (rule ∷ rules) (set ∷ sets) p h =
     cross : (t u : Target) → IsIn t (targets_of rule (decide rule) set.logs) → IsIn u (all_targets decide rules sets) → OffTarget t u
     cross t u i j = let a = own t i in off_of logs k t u p a.0 a.1 (is_of logs (k + 1) rules sets u h.1 (comes_from decide rules sets u j))
 
-looks_pairs : (rules : List Rule) (sets : List SetLooks) (faults : List Fault) (ts : List Entry) (s : ShowsLooks rules sets faults ts) → Pairs OffLooked s.looked
+looks_pairs : {reserved : List Path} (rules : List Rule) (sets : List SetLooks) (faults : List Fault) (ts : List Entry) (s : ShowsLooks reserved rules sets faults ts) → Pairs OffLooked s.looked
 looks_pairs rules sets faults ts s = subst (Pairs OffLooked) (sym s.entries.second.families.looked_are) (looked_pairs s.kept s.entries.second.families.sights
     (subst (Pairs OffFound) (sym s.keeps.left_are) (files_pairs (kept_of s.found s.keeps.choices) (kept_pairs s.found s.keeps.choices (choice_off s.found s.keeps.choices s.keeps.chosen)))))
 
@@ -242,8 +244,8 @@ dont_meet : (ts : List Target) → Pairs OffTarget ts → DontMeet ts
 dont_meet [] p = tt
 dont_meet (t ∷ ts) p = (none_meets t ts p.0, dont_meet ts p.1)
 
-pub targets_apart : (rules : List Rule) (sets : List SetLooks) (faults : List Fault) (ts : List Entry) (decide : Rule → LogLook → Due) → ShowsLooks rules sets faults ts → AreApart (all_targets decide rules sets)
+pub targets_apart : {reserved : List Path} (rules : List Rule) (sets : List SetLooks) (faults : List Fault) (ts : List Entry) (decide : Rule → LogLook → Due) → ShowsLooks reserved rules sets faults ts → AreApart (all_targets decide rules sets)
 targets_apart rules sets faults ts decide s = are_apart (all_targets decide rules sets) (all_pairs decide s.looked 0 rules sets (looks_pairs rules sets faults ts s) s.by_sets)
 
-pub targets_dont_meet : (rules : List Rule) (sets : List SetLooks) (faults : List Fault) (ts : List Entry) (decide : Rule → LogLook → Due) → ShowsLooks rules sets faults ts → DontMeet (all_targets decide rules sets)
+pub targets_dont_meet : {reserved : List Path} (rules : List Rule) (sets : List SetLooks) (faults : List Fault) (ts : List Entry) (decide : Rule → LogLook → Due) → ShowsLooks reserved rules sets faults ts → DontMeet (all_targets decide rules sets)
 targets_dont_meet rules sets faults ts decide s = dont_meet (all_targets decide rules sets) (all_pairs decide s.looked 0 rules sets (looks_pairs rules sets faults ts s) s.by_sets)

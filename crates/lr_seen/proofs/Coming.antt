@@ -2,6 +2,7 @@
 use Rattle.std.proofs.Common.{◌≡◌, inl, inr, ⊎_elim, ℕ, zero, suc, ◌+◌, Bool, true, false, cond, eqb, List, [], ◌∷◌, map, Some, slice_get, refl, sym, ap, ◌∙◌, subst, arith}
 use Rattle.std.specs.List.{flat_map}
 use Rattle.lr_rules.specs.declared.fault.Fault.{Fault}
+use Rattle.lr_rules.specs.declared.path.Path.{Path}
 use Rattle.lr_rules.specs.declared.rule.Rule.{Rule}
 use Rattle.lr_rules.specs.Match.{literal_path}
 use Rattle.lr_rules.specs.Names.{naming_of}
@@ -15,7 +16,7 @@ use Rattle.lr_host.specs.declared.thing.Seen.{Seen}
 use Rattle.lr_host.specs.Lists.{IsIn}
 use Rattle.lr_host.proofs.Lists.{in_map, in_unmap, in_front, in_append}
 use Rattle.lr_kept.specs.declared.choice.Choice.{Choice}
-use Rattle.lr_kept.specs.declared.choice.Choice.TheVariants.{Kept, Again, Meets}
+use Rattle.lr_kept.specs.declared.choice.Choice.TheVariants.{Kept, Again, Reserved, Meets}
 use Rattle.lr_plan.specs.declared.looks.LogLook.{LogLook}
 use Rattle.lr_plan.specs.declared.looks.SetLooks.{SetLooks}
 use Rattle.lr_plan.specs.Planned.{hindrances, where_due}
@@ -147,6 +148,7 @@ in_kept (f ∷ fs) [] g h = absurd h
 in_kept (f ∷ fs) (Kept ∷ cs) g (inl e) = inl e
 in_kept (f ∷ fs) (Kept ∷ cs) g (inr i) = inr (in_kept fs cs g i)
 in_kept (f ∷ fs) (Again k ∷ cs) g i = inr (in_kept fs cs g i)
+in_kept (f ∷ fs) (Reserved k ∷ cs) g i = inr (in_kept fs cs g i)
 in_kept (f ∷ fs) (Meets k ∷ cs) g i = inr (in_kept fs cs g i)
 
 -- such a log was asked for, and a look at its path saw it
@@ -200,7 +202,7 @@ pub record IsFrom (rules : List Rule) (ts : List Entry) (x : LookedLog) : Type 0
   pub file : seen.kind ≡ kind.File
   pub look : IsIn (entry.Look x.path (Some seen)) ts
 
-pub came_from : (rules : List Rule) (sets : List SetLooks) (faults : List Fault) (ts : List Entry) (s : ShowsLooks rules sets faults ts) (x : LookedLog) → IsIn x s.looked → IsFrom rules ts x
+pub came_from : {reserved : List Path} (rules : List Rule) (sets : List SetLooks) (faults : List Fault) (ts : List Entry) (s : ShowsLooks reserved rules sets faults ts) (x : LookedLog) → IsIn x s.looked → IsFrom rules ts x
 came_from rules sets faults ts s x i = record {
   rule = a.rule;
   word = a.word;

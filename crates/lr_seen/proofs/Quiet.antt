@@ -103,19 +103,19 @@ looking_families known (f ∷ fs) after (s ∷ ss) ts h = looking_both ts (looki
 
 -- ---- all of them, and a first part
 
-pub whole_looking : (rules : List Rule) (sets : List SetLooks) (faults : List Fault) (ts : List Entry) → ShowsLooks rules sets faults ts → AreLooking ts
+pub whole_looking : {reserved : List Path} (rules : List Rule) (sets : List SetLooks) (faults : List Fault) (ts : List Entry) → ShowsLooks reserved rules sets faults ts → AreLooking ts
 whole_looking rules sets faults ts s = looking_both ts
     (λ us l. subst AreLooking (sym l.looks) (looking_words (asked_by rules) l.sights))
     (λ us l. looking_families [] s.kept l.listings l.families.sights us l.families.shown) s.entries
 
-pub whole_quiet : (rules : List Rule) (sets : List SetLooks) (faults : List Fault) (ts : List Entry) → ShowsLooks rules sets faults ts → AreQuiet ts
+pub whole_quiet : {reserved : List Path} (rules : List Rule) (sets : List SetLooks) (faults : List Fault) (ts : List Entry) → ShowsLooks reserved rules sets faults ts → AreQuiet ts
 whole_quiet rules sets faults ts s = looks_quiet ts (whole_looking rules sets faults ts s)
 
-pub part_looking : (rules : List Rule) (ts : List Entry) → ShowsSomeLooks rules ts → AreLooking ts
+pub part_looking : {reserved : List Path} (rules : List Rule) (ts : List Entry) → ShowsSomeLooks reserved rules ts → AreLooking ts
 part_looking rules ts (at_words l) = subst AreLooking (sym l.looks) (looking_words (take (length l.sights) (asked_by rules)) l.sights)
 part_looking rules ts (at_families found of_words kept of_kept keeps t) = looking_both ts
     (λ us l. subst AreLooking (sym l.looks) (looking_words (asked_by rules) l.sights))
     (λ us l. looking_families [] (take (length l.sights) kept) l.after l.sights us l.shown) t
 
-pub part_quiet : (rules : List Rule) (ts : List Entry) → ShowsSomeLooks rules ts → AreQuiet ts
+pub part_quiet : {reserved : List Path} (rules : List Rule) (ts : List Entry) → ShowsSomeLooks reserved rules ts → AreQuiet ts
 part_quiet rules ts h = looks_quiet ts (part_looking rules ts h)

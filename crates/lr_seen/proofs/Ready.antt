@@ -1,6 +1,7 @@
 -- The plan has the logs of the targets, each ready, and programs that read no file.
 use Rattle.std.proofs.Common.{ℕ, Bool, true, false, not, List, [], ◌∷◌, ◌++◌, Option, Some, None, refl}
 use Rattle.lr_rules.specs.declared.fault.Fault.{Fault}
+use Rattle.lr_rules.specs.declared.path.Path.{Path}
 use Rattle.lr_rules.specs.declared.rule.Rule.{Rule}
 use Rattle.lr_due.specs.declared.answer.Due.{Due}
 use Rattle.lr_due.specs.declared.answer.Due.TheVariants as due
@@ -104,5 +105,5 @@ have_logs [] (set ∷ sets) decide = tt
 have_logs (rule ∷ rules) [] decide = tt
 have_logs (rule ∷ rules) (set ∷ sets) decide = (ready_logs rule (decide rule) set.logs, have_logs rules sets decide)
 
-pub plans_have_logs : (rules : List Rule) (sets : List SetLooks) (faults : List Fault) (ts : List Entry) (decide : Rule → LogLook → Due) → AreBuiltRules rules → ShowsLooks rules sets faults ts → HaveLogs (groups_of decide rules sets) (all_plans decide rules sets)
+pub plans_have_logs : {reserved : List Path} (rules : List Rule) (sets : List SetLooks) (faults : List Fault) (ts : List Entry) (decide : Rule → LogLook → Due) → AreBuiltRules rules → ShowsLooks reserved rules sets faults ts → HaveLogs (groups_of decide rules sets) (all_plans decide rules sets)
 plans_have_logs rules sets faults ts decide built shown = have_logs rules sets decide

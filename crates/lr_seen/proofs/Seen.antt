@@ -123,7 +123,7 @@ not_high n c members e h =
 
 -- ---- one log, and all
 
-target_seen : (rules : Rules) (sets : List SetLooks) (faults : List Fault) (ts : List Entry) (t : Target) → AreBuiltRules rules.sets → (s : ShowsLooks rules.sets sets faults ts) → Comes rules.sets sets t → IsSeen rules ts t
+target_seen : {reserved : List Path} (rules : Rules) (sets : List SetLooks) (faults : List Fault) (ts : List Entry) (t : Target) → AreBuiltRules rules.sets → (s : ShowsLooks reserved rules.sets sets faults ts) → Comes rules.sets sets t → IsSeen rules ts t
 target_seen rules sets faults ts t built s c = subst (IsSeen rules ts) (sym c.is) (record {
   given = record {
     rule = o.rule;
@@ -167,12 +167,12 @@ each_seen : (rules : Rules) (ts : List Entry) (us : List Target) → ((t : Targe
 each_seen rules ts [] h = tt
 each_seen rules ts (u ∷ us) h = (h u (inl refl), each_seen rules ts us (λ t i. h t (inr i)))
 
-pub targets_seen : (rules : Rules) (sets : List SetLooks) (faults : List Fault) (ts : List Entry) (decide : Rule → LogLook → Due) → AreBuiltRules rules.sets → ShowsLooks rules.sets sets faults ts → AreSeen rules ts (all_targets decide rules.sets sets)
+pub targets_seen : {reserved : List Path} (rules : Rules) (sets : List SetLooks) (faults : List Fault) (ts : List Entry) (decide : Rule → LogLook → Due) → AreBuiltRules rules.sets → ShowsLooks reserved rules.sets sets faults ts → AreSeen rules ts (all_targets decide rules.sets sets)
 targets_seen rules sets faults ts decide built s = each_seen rules ts (all_targets decide rules.sets sets) (λ t i. target_seen rules sets faults ts t built s (comes_from decide rules.sets sets t i))
 
 all_names : (rules : Rules) (ts : List Entry) (us : List Target) → AreSeen rules ts us → HaveNames us
 all_names rules ts [] h = tt
 all_names rules ts (u ∷ us) h = (seen_names rules ts u h.0, all_names rules ts us h.1)
 
-pub targets_have_names : (rules : Rules) (sets : List SetLooks) (faults : List Fault) (ts : List Entry) (decide : Rule → LogLook → Due) → AreBuiltRules rules.sets → ShowsLooks rules.sets sets faults ts → HaveNames (all_targets decide rules.sets sets)
+pub targets_have_names : {reserved : List Path} (rules : Rules) (sets : List SetLooks) (faults : List Fault) (ts : List Entry) (decide : Rule → LogLook → Due) → AreBuiltRules rules.sets → ShowsLooks reserved rules.sets sets faults ts → HaveNames (all_targets decide rules.sets sets)
 targets_have_names rules sets faults ts decide built s = all_names rules ts (all_targets decide rules.sets sets) (targets_seen rules sets faults ts decide built s)

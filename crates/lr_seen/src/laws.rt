@@ -1,6 +1,7 @@
 // What looks show of the logs of a plan.
 ghost use Rattle.std.specs.Prelude.{List};
 ghost use Rattle.lr_rules.specs.declared.fault.Fault.{Fault};
+ghost use Rattle.lr_rules.specs.declared.path.Path.{Path};
 ghost use Rattle.lr_rules.specs.declared.rule.Rule.{Rule};
 ghost use Rattle.lr_rules.specs.declared.rules.Rules.{Rules};
 ghost use Rattle.lr_due.specs.declared.answer.Due.{Due};
@@ -15,35 +16,42 @@ ghost use Rattle.lr_rotations.specs.Target.{AreSeen};
 ghost use Rattle.lr_weave.specs.Fitting.{DontMeet, ReadNoFiles};
 ghost use Rattle.lr_weave.specs.Planned.{HaveLogs, AreApart};
 ghost use Rattle.lr_seen.specs.Built.{AreBuiltRules};
+ghost use Rattle.lr_seen.specs.Free.{AreFreeOf};
 ghost use Rattle.lr_seen.specs.Targets.{groups_of, all_targets};
 
 /// Looks change nothing and start nothing, whole or in part.
 pub fn looks_are_quiet()
-    ensures whole { (rules : List Rule) (sets : List SetLooks) (faults : List Fault) (ts : List Entry) → ShowsLooks rules sets faults ts → AreQuiet ts }
-    ensures part { (rules : List Rule) (ts : List Entry) → ShowsSomeLooks rules ts → AreQuiet ts }
+    ensures whole { (reserved : List Path) (rules : List Rule) (sets : List SetLooks) (faults : List Fault) (ts : List Entry) → ShowsLooks reserved rules sets faults ts → AreQuiet ts }
+    ensures part { (reserved : List Path) (rules : List Rule) (ts : List Entry) → ShowsSomeLooks reserved rules ts → AreQuiet ts }
 {}
 
 /// Each log that a plan rotates was seen as a file, and its members were: a word of its rule gives it, and there are names
 /// for all its members.
 pub fn looks_see_targets()
-    ensures seen { (rules : Rules) (sets : List SetLooks) (faults : List Fault) (ts : List Entry) (decide : Rule → LogLook → Due)
-        → AreBuiltRules rules.sets → ShowsLooks rules.sets sets faults ts → AreSeen rules ts (all_targets decide rules.sets sets) }
-    ensures names { (rules : Rules) (sets : List SetLooks) (faults : List Fault) (ts : List Entry) (decide : Rule → LogLook → Due)
-        → AreBuiltRules rules.sets → ShowsLooks rules.sets sets faults ts → HaveNames (all_targets decide rules.sets sets) }
+    ensures seen { (reserved : List Path) (rules : Rules) (sets : List SetLooks) (faults : List Fault) (ts : List Entry) (decide : Rule → LogLook → Due)
+        → AreBuiltRules rules.sets → ShowsLooks reserved rules.sets sets faults ts → AreSeen rules ts (all_targets decide rules.sets sets) }
+    ensures names { (reserved : List Path) (rules : Rules) (sets : List SetLooks) (faults : List Fault) (ts : List Entry) (decide : Rule → LogLook → Due)
+        → AreBuiltRules rules.sets → ShowsLooks reserved rules.sets sets faults ts → HaveNames (all_targets decide rules.sets sets) }
 {}
 
 /// No log stands twice among them, and no two of them meet.
 pub fn targets_are_apart()
-    ensures apart { (rules : List Rule) (sets : List SetLooks) (faults : List Fault) (ts : List Entry) (decide : Rule → LogLook → Due)
-        → ShowsLooks rules sets faults ts → AreApart (all_targets decide rules sets) }
-    ensures meet { (rules : List Rule) (sets : List SetLooks) (faults : List Fault) (ts : List Entry) (decide : Rule → LogLook → Due)
-        → ShowsLooks rules sets faults ts → DontMeet (all_targets decide rules sets) }
+    ensures apart { (reserved : List Path) (rules : List Rule) (sets : List SetLooks) (faults : List Fault) (ts : List Entry) (decide : Rule → LogLook → Due)
+        → ShowsLooks reserved rules sets faults ts → AreApart (all_targets decide rules sets) }
+    ensures meet { (reserved : List Path) (rules : List Rule) (sets : List SetLooks) (faults : List Fault) (ts : List Entry) (decide : Rule → LogLook → Due)
+        → ShowsLooks reserved rules sets faults ts → DontMeet (all_targets decide rules sets) }
+{}
+
+/// None of them has a name that the run reserves for itself.
+pub fn targets_are_free()
+    ensures { (reserved : List Path) (rules : List Rule) (sets : List SetLooks) (faults : List Fault) (ts : List Entry) (decide : Rule → LogLook → Due)
+        → ShowsLooks reserved rules sets faults ts → AreFreeOf reserved (all_targets decide rules sets) }
 {}
 
 /// The plan has just them, each with its rotation ready; its programs read no file.
 pub fn plan_has_targets()
-    ensures logs { (rules : List Rule) (sets : List SetLooks) (faults : List Fault) (ts : List Entry) (decide : Rule → LogLook → Due)
-        → AreBuiltRules rules → ShowsLooks rules sets faults ts → HaveLogs (groups_of decide rules sets) (all_plans decide rules sets) }
+    ensures logs { (reserved : List Path) (rules : List Rule) (sets : List SetLooks) (faults : List Fault) (ts : List Entry) (decide : Rule → LogLook → Due)
+        → AreBuiltRules rules → ShowsLooks reserved rules sets faults ts → HaveLogs (groups_of decide rules sets) (all_plans decide rules sets) }
     ensures programs { (rules : List Rule) (sets : List SetLooks) (decide : Rule → LogLook → Due)
         → AreBuiltRules rules → ReadNoFiles (all_plans decide rules sets) }
 {}

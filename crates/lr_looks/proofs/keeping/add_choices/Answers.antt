@@ -9,6 +9,6 @@ add_choice-requires c = c.requires.within c.loop-at.at Kept (omega (arith, c.req
 
 pub loop-at-preserved : goal.loop-at-preserved
 loop-at-preserved c = record {
-  faults = faults_more (all_found_in c.args.found.now) c.args.found.now c.args.choices.now c.loop-at.at c.index-found-at.result _ c.args.faults.now.items c.loop-at.faults.items c.add_choice.new.faults.items
+  faults = faults_more c.args.reserved.now (all_found_in c.args.found.now) c.args.found.now c.args.choices.now c.loop-at.at c.index-found-at.result _ c.args.faults.now.items c.loop-at.faults.items c.add_choice.new.faults.items
       c.requires.many c.loop-at-test.true c.index-found-at.is refl c.loop-at.invariant.faults c.in_ok-add_choice.ensures;
 }
