@@ -16,11 +16,7 @@ use std::alloc::Global;
 /// found before comes again. Of the rest a log is passed over of which a name is one of the reserved paths; and of those
 /// left one that meets one before it that is kept, with the first such. It takes time n log n for n logs, and for the names
 /// that begin as another log's members do; and each log is asked for each reserved path.
-pub fn choose(
-    alloc: Global,
-    logs: &[&Family],
-    reserved: &[Path],
-) -> Result<Vec<Choice>, Memory>
+pub fn choose(alloc: Global, logs: &[&Family], reserved: &[Path]) -> Result<Vec<Choice>, Memory>
     ensures { IfOk result (λ choices. AreChosen logs.now reserved.now choices.items) }
 {
     let mut choices = first_choices(alloc, logs)?;

@@ -19,7 +19,7 @@ use Rattle.lr_kept.specs.declared.choice.Choice.TheVariants.{Kept, Again, Reserv
 use Rattle.lr_looks.specs.Asked.{Log, asked_by}
 use Rattle.lr_looks.specs.Choices.{duplicate, overlap, barred, choice_fault, choice_faults, is_file, kept_of, kind_fault, Keeps}
 use Rattle.lr_looks.specs.Families.{LookedLog, family_faults, LooksAtFamilies, LookedAtSomeFamilies}
-use Rattle.lr_looks.specs.Found.{FoundLog}
+use Rattle.lr_looks.specs.Found.{FoundLog, paths_of}
 use Rattle.lr_looks.specs.Internal.{LooksBySets}
 use Rattle.lr_looks.specs.Shown.{LooksAtAll, ShowsSomeLooks, at_words, at_families}
 use Rattle.lr_looks.specs.Sights.{looks_of, faults_of, LookedAt, LookedAtSome}
@@ -43,9 +43,9 @@ three a b c d x y z e f g = g ∙ (ap (λ l. l ++ z) (f ∙ (ap (λ l. l ++ y) e
 
 -- ---- whole
 
-pub all_told : (reserved : List Path) (rules : List Rule) (logs : List Log) (found kept : List FoundLog) (a b c d : List Fault) (sets : List SetLooks) {o m n : Option Journal} → logs ≡ asked_by rules → Left (LookedAt logs a b [] found) o m → Keeps reserved found b c kept
-    → LooksBySets kept c d sets m n → length sets ≡ length rules → Left (LooksAtAll reserved rules sets a d) o n
-all_told reserved rules logs found kept a b c d sets e l k s many = left_then l s.entries (λ ts us h g. record {
+pub all_told : (reserved : List Path) (rules : List Rule) (logs : List Log) (found kept : List FoundLog) (a b c d : List Fault) (looks : Looks) {o m n : Option Journal} → logs ≡ asked_by rules → Left (LookedAt logs a b [] found) o m → Keeps reserved found b c kept
+    → LooksBySets kept c d looks.sets m n → looks.kept ≡ paths_of kept → length looks.sets ≡ length rules → Left (LooksAtAll reserved rules looks a d) o n
+all_told reserved rules logs found kept a b c d looks e l k s paths many = left_then l s.entries (λ ts us h g. record {
   own = (faults_of logs h.sights ++ kept_faults reserved found b c kept k) ++ family_faults g.families.sights;
   faults_are = three a b c d _ _ _ h.faults_are k.faults_are g.families.faults_are;
   shown = record {
@@ -59,12 +59,13 @@ all_told reserved rules logs found kept a b c d sets e l k s many = left_then l 
     many = many;
     by_sets = s.by_sets;
   };
+  kept_are = paths;
 })
 
 pub all_ok : {E : Type 0} (r : Result Looks E) (reserved : List Path) (rules : List Rule) (logs : List Log) (found kept : List FoundLog) (a b c d : List Fault) (count : ℕ) {o m : Option Journal} (n : Option Journal) → logs ≡ asked_by rules → Left (LookedAt logs a b [] found) o m → Keeps reserved found b c kept
-    → IfOk r (λ looks. LooksBySets kept c d looks.sets m n) → IfOk r (λ looks. length looks.sets ≡ count) → count ≡ length rules → IfOk r (λ looks. Left (LooksAtAll reserved rules looks.sets a d) o n)
-all_ok (Ok looks) reserved rules logs found kept a b c d count n e l k s many is = all_told reserved rules logs found kept a b c d looks.sets e l k s (many ∙ is)
-all_ok (Err x) reserved rules logs found kept a b c d count n e l k s many is = tt
+    → IfOk r (λ looks. LooksBySets kept c d looks.sets m n) → IfOk r (λ looks. looks.kept ≡ paths_of kept) → IfOk r (λ looks. length looks.sets ≡ count) → count ≡ length rules → IfOk r (λ looks. Left (LooksAtAll reserved rules looks a d) o n)
+all_ok (Ok looks) reserved rules logs found kept a b c d count n e l k s paths many is = all_told reserved rules logs found kept a b c d looks e l k s paths (many ∙ is)
+all_ok (Err x) reserved rules logs found kept a b c d count n e l k s paths many is = tt
 
 pub all_many : {E : Type 0} (r : Result Looks E) (rules : List Rule) (count : ℕ) → IfOk r (λ looks. length looks.sets ≡ count) → count ≡ length rules → IfOk r (λ looks. length looks.sets ≡ length rules)
 all_many (Ok looks) rules count many is = many ∙ is

@@ -1,5 +1,6 @@
 -- Logs that were found.
 use Rattle.std.specs.Prelude.{◌≡◌, ◌≤◌, List, [], ◌∷◌, map, None}
+use Rattle.lr_rules.specs.declared.path.Path.{Path}
 use Rattle.lr_host.specs.declared.thing.Seen.{Seen}
 use Rattle.lr_looks.specs.declared.found.Found.{Found}
 use Rattle.lr_looks.specs.Asked.{Log, log_in}
@@ -15,6 +16,10 @@ found_in f = record { log = log_in f.asked; seen = f.seen }
 
 abbrev pub all_found_in : List Found → List FoundLog
 all_found_in list = map found_in list
+
+-- their paths
+abbrev pub paths_of : List FoundLog → List Path
+paths_of found = map (λ f. f.log.path) found
 
 -- Its members have numbers, of which the first is at most 999,999.
 pub record HasNumbers (f : FoundLog) : Type 0 where

@@ -5,11 +5,12 @@ use Rattle.lr_rules.specs.declared.path.Path.{Path}
 use Rattle.lr_rules.specs.declared.rule.Rule.{Rule}
 use Rattle.lr_host.specs.declared.entry.Entry.{Entry}
 use Rattle.lr_host.specs.Told.{Then}
+use Rattle.lr_plan.specs.declared.looks.Looks.{Looks}
 use Rattle.lr_plan.specs.declared.looks.SetLooks.{SetLooks}
 use Rattle.lr_looks.specs.Asked.{asked_by}
 use Rattle.lr_looks.specs.Choices.{Keeps}
 use Rattle.lr_looks.specs.Families.{LookedLog, LooksAtFamilies, LookedAtSomeFamilies}
-use Rattle.lr_looks.specs.Found.{FoundLog}
+use Rattle.lr_looks.specs.Found.{FoundLog, paths_of}
 use Rattle.lr_looks.specs.Sets.{HaveLooks}
 use Rattle.lr_looks.specs.Sights.{LookedAt, LookedAtSome}
 
@@ -25,11 +26,12 @@ pub record ShowsLooks (reserved : List Path) (rules : List Rule) (sets : List Se
   pub many : length sets ≡ length rules
   pub by_sets : HaveLooks looked sets
 
--- the faults were added
-pub record LooksAtAll (reserved : List Path) (rules : List Rule) (sets : List SetLooks) (faults all_faults : List Fault) (ts : List Entry) : Type 0 where
+-- The answer has the logs that were looked at whole, and the paths of all that are kept; the faults were added.
+pub record LooksAtAll (reserved : List Path) (rules : List Rule) (looks : Looks) (faults all_faults : List Fault) (ts : List Entry) : Type 0 where
   pub own : List Fault
   pub faults_are : all_faults ≡ faults ++ own
-  pub shown : ShowsLooks reserved rules sets own ts
+  pub shown : ShowsLooks reserved rules looks.sets own ts
+  pub kept_are : looks.kept ≡ paths_of shown.kept
 
 -- Where there was no memory, a first part of these looks was made.
 pub data ShowsSomeLooks (reserved : List Path) (rules : List Rule) (ts : List Entry) : Type 0 where

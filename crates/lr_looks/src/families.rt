@@ -8,7 +8,7 @@ ghost use Rattle.lr_family.specs.Places.{AreNamed};
 ghost use Rattle.lr_family.specs.declared.stand.StandStop.TheVariants as stop;
 ghost use Rattle.lr_plan.specs.Counted.{AddsFaults};
 ghost use Rattle.lr_looks.specs.Families.{LookedLog, looked_at, looked_by, ShowsFamily, sight_of, stop_fault, LookedAtFamilies, LooksAtFamilies, LookedAtSomeFamilies};
-ghost use Rattle.lr_looks.specs.Found.{found_in, all_found_in, HasNumbers, HaveNumbers};
+ghost use Rattle.lr_looks.specs.Found.{found_in, all_found_in, paths_of, HasNumbers, HaveNumbers};
 ghost use Rattle.lr_looks.specs.Internal.{AreListings, FamilyPart, AddsLooked, AddsFamily, AddsFamilies, LooksBySets, AreReady, AreOf};
 ghost use Rattle.lr_looks.specs.Sets.{HaveLooks};
 
@@ -20,7 +20,7 @@ use indexmap::IndexMap;
 use lr_family::{Family, Stand, StandStop};
 use lr_host::Host;
 use lr_plan::{LogLook, Looks, SetLooks};
-use lr_rules::{Fault, Listed, Memory};
+use lr_rules::{Fault, Listed, Memory, Path};
 use std::alloc::Global;
 
 // What stands of a family, whose directory is listed where it wasn't before.
@@ -157,8 +157,19 @@ fn look_at_each<H: Host>(
     Ok(())
 }
 
-/// Looks at the families of these logs, in order: the logs of each of so many definitions with what stands of their
-/// families. The faults of those of which it isn't known are added. No directory is listed twice; one that couldn't be is
+// The paths of these logs.
+fn paths_of(alloc: Global, found: &[Found]) -> Result<Listed<Path>, Memory>
+    ensures { IfOk result (λ paths. paths ≡ paths_of (all_found_in found.now)) }
+{
+    let mut paths = Vec::new(alloc);
+    for item in found {
+        paths.push(item.asked.family.log().copy(alloc)?)?;
+    }
+    Ok(Listed::from_vec(paths))
+}
+
+/// Looks at the families of these logs, in order: the paths of all, and the logs of each of so many definitions with what
+/// stands of their families. The faults of those of which it isn't known are added. No directory is listed twice; one that couldn't be is
 /// tried again at the next log in it.
 pub fn look_at_families<H: Host>(
     alloc: Global,
@@ -171,14 +182,17 @@ pub fn look_at_families<H: Host>(
     requires numbers { HaveNumbers (all_found_in found.items) }
     ensures told { IfOk result (λ looks. LooksBySets (all_found_in found.items) faults.old.items faults.new.items looks.sets (H.told host.old) (H.told host.new)) }
     ensures some { OnErr result (Left (LookedAtSomeFamilies [] (all_found_in found.items)) (H.told host.old) (H.told host.new)) }
+    ensures kept { IfOk result (λ looks. looks.kept ≡ paths_of (all_found_in found.items)) }
     ensures many { IfOk result (λ looks. length looks.sets ≡ count) }
     ensures ready { IfOk result (λ looks. AreReady looks.sets) }
     ensures counted { IfOk result (λ looks. AddsFaults faults.old.items faults.new.items (H.counts host.old) (H.counts host.new)) }
     ensures counts { Onward (H.counts host.old) (H.counts host.new) }
 {
+    let kept = paths_of(alloc, &found)?;
     let mut sets = no_looks(alloc, count)?;
     look_at_each(alloc, host, found, &mut sets, faults)?;
     Ok(Looks {
         sets: Listed::from_vec(sets),
+        kept,
     })
 }

@@ -5,4 +5,6 @@
 
 mod laws;
 
-pub use laws::{looks_are_quiet, looks_see_targets, plan_has_targets, targets_are_apart, targets_are_free};
+pub use laws::{
+    looks_are_quiet, looks_see_targets, plan_has_targets, targets_are_apart, targets_are_free,
+};

@@ -13,7 +13,7 @@ look_at_families-requires-clause-numbers g c = kept_numbers c.args.rules.now.set
 
 pub returns-clause-told : goal.returns-clause-told
 returns-clause-told g c = all_ok c.look_at_families.result c.args.reserved.now c.args.rules.now.sets (logs_in c.in_ok-logs.logs.items) (all_found_in c.in_ok-found.found.items) (all_found_in c.in_ok-kept.kept.items) c.args.faults.now.items c.look_at_words.new.faults.items c.keep.new.faults.items c.look_at_families.new.faults.items c.len.result _
-    c.in_ok-logs.ensures c.in_ok-found.ensures.told c.in_ok-kept.ensures c.look_at_families.ensures.told c.look_at_families.ensures.many c.len.ensures
+    c.in_ok-logs.ensures c.in_ok-found.ensures.told c.in_ok-kept.ensures c.look_at_families.ensures.told c.look_at_families.ensures.kept c.look_at_families.ensures.many c.len.ensures
 
 pub returns-clause-counted : goal.returns-clause-counted
 returns-clause-counted g c = all_counted c.look_at_families.result c.args.reserved.now (all_found_in c.in_ok-found.found.items) (all_found_in c.in_ok-kept.kept.items) c.args.faults.now.items c.look_at_words.new.faults.items c.keep.new.faults.items c.look_at_families.new.faults.items _ _ _

@@ -16,5 +16,8 @@ returns-clause-many g c = ap length c.from_vec.ensures ∙ (c.in_ok-look_at_each
 pub returns-clause-ready : goal.returns-clause-ready
 returns-clause-ready g c = subst AreReady (sym c.from_vec.ensures) (c.in_ok-look_at_each.ensures.ready c.in_ok-sets.ensures.ready)
 
+pub returns-in_err-kept-clause-some : goal.returns-in_err-kept-clause-some
+returns-in_err-kept-clause-some g c = no_families c.from_residual.result (all_found_in c.args.found.items) _
+
 pub returns-in_err-sets-clause-some : goal.returns-in_err-sets-clause-some
-returns-in_err-sets-clause-some g c = no_families c.from_residual.result (all_found_in c.args.found.items) _
+returns-in_err-sets-clause-some g c = no_families c.from_residual-in_err-sets.result (all_found_in c.args.found.items) _
