@@ -47,15 +47,16 @@ fn count_all(sets: &[SetSteps]) -> Result<usize, Memory>
 }
 
 /// Takes the room that the acts of these definitions need in any case, for a mark and a fault of each step, and that of
-/// one fault more, which the caller may add behind them. What came before stays.
+/// two faults more, which may be added behind them: one of the state's writing, and one of the output. What came before
+/// stays.
 pub fn take_room(progress: &mut Progress, sets: &[SetSteps]) -> Result<(), Memory>
     ensures room { OnOk result (HasRoom (length (all_of_sets sets.now)) progress.new) }
-    ensures one_more { OnOk result (vec_len progress.new.faults + length (all_of_sets sets.now) + 1 ≤ vec_capacity progress.new.faults) }
+    ensures two_more { OnOk result (vec_len progress.new.faults + length (all_of_sets sets.now) + 2 ≤ vec_capacity progress.new.faults) }
     ensures marks { progress.new.marks.items ≡ progress.old.marks.items }
     ensures faults { progress.new.faults.items ≡ progress.old.faults.items }
 {
     let count = count_all(sets)?;
-    let faults = sum(count, 1)?;
+    let faults = sum(count, 2)?;
     progress.marks.reserve(count)?;
     progress.faults.reserve(faults)?;
     Ok(())
