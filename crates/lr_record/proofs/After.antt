@@ -56,7 +56,7 @@ unfolding moment_of
 none_found es q e = ap (λ (xs : List Entry). is_some (moment_of xs q)) e
 
 -- behind the first entry
-found_first : (e : Entry) (es : List Entry) (q : List ℕ) → is_some (moment_of (e ∷ es) q) ≡ (bytes_eq q e.0 || is_some (moment_of es q))
+pub found_first : (e : Entry) (es : List Entry) (q : List ℕ) → is_some (moment_of (e ∷ es) q) ≡ (bytes_eq q e.0 || is_some (moment_of es q))
 unfolding moment_of
 found_first e es q = go (bytes_eq q e.0)
   where

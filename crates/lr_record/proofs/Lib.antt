@@ -1,1 +1,3 @@
 pub mod After
+pub mod Lengths
+pub mod Tables
