@@ -37,8 +37,7 @@ fn add_fault(faults: &mut Vec<Fault>, fault: Fault)
     requires { vec_len faults.old + 1 ≤ vec_capacity faults.old }
     ensures { faults.new.items ≡ faults.old.items ++ fault ∷ [] }
 {
-    // There is room, so no memory is wanted.
-    let _pushed = faults.push(fault);
+    faults.push_reserved(fault);
 }
 
 /// Writes the text of the table as the state file: an old part file that was seen is unlinked; the text goes to a new one
