@@ -3,5 +3,6 @@ mod Causes
 mod Coming
 mod Fits
 mod Named
+mod Once
 mod Pieces
 mod Tables

@@ -1,4 +1,5 @@
 pub mod Buffer
+pub mod Directories
 pub mod Fits
 pub mod Named
 pub mod Target

@@ -9,12 +9,14 @@
 //!
 //! ```text
 //! let part = part_of(alloc, &state)?;                               // STATE.tmp, which the run looks at
+//! let dirs = directories_of(alloc, &changed)?;                      // of the paths whose names the run changes
 //! let writing = prepare(alloc, &state, part, stale, dirs)?;         // behind the looks, before the first change
 //! write_state(&mut host, writing, &table, &mut faults);             // behind the acts
 //! ```
 #![tactic(auto)]
 
 mod buffer;
+mod directories;
 mod laws;
 mod naming;
 mod part;
@@ -23,6 +25,7 @@ mod text;
 mod write;
 mod writing;
 
+pub use directories::directories_of;
 pub use laws::{state_is_named_last, whole_writing_names_state, writing_fits};
 pub use write::write_state;
 pub use writing::{Writing, part_of, prepare};
