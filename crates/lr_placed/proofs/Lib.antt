@@ -1,0 +1,5 @@
+mod Acts
+mod Lasting
+mod Listed
+pub mod Placed
+mod Reading

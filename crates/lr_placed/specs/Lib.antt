@@ -1,0 +1,2 @@
+pub mod Dirs
+pub mod Looked
