@@ -48,7 +48,7 @@ first_stops : (own : List Fault) (f : Fault) → own ≡ f ∷ [] → StopNothin
 first_stops own f e h = (subst StopNothing e h).0
 
 -- a run that nothing stopped worked
-run_worked : (force : Bool) (now : Moment) (rules : Rules) (own : List Fault) (ts : List Entry) → StopNothing own → Runs state_path force now rules own ts → Inside state_path now rules (Works rules.sets now force own) ts
+run_worked : (force : Bool) (now : Moment) (rules : Rules) (own : List Fault) (ts : List Entry) → StopNothing own → Runs state_path force now rules own ts → Inside state_path now rules (Works state_path rules.sets now force own) ts
 run_worked force now rules own ts h (no_directory e s) = absurd (first_stops own _ e h refl)
 run_worked force now rules own ts h (not_seen e s) = absurd (first_stops own _ e h)
 run_worked force now rules own ts h (not_begun e s) = absurd (first_stops own _ e h)
@@ -97,7 +97,7 @@ reports_rotated conf seconds now report j k es is made r none journal = record {
     own : StopNothing r.own
     own = stops_behind r.meaning.faults r.own (subst StopNothing r.faults_are none)
 
-    inside : Inside state_path now r.rules (Works r.rules.sets now true r.own) r.entries.back
+    inside : Inside state_path now r.rules (Works state_path r.rules.sets now true r.own) r.entries.back
     inside = run_worked true now r.rules r.own r.entries.back own r.entries.second
 
 -- where the clock's is the one fault, that stopped the call

@@ -32,5 +32,5 @@ pub record RotatesAll (conf : Path) (seconds : ℤ) (faults : List Fault) (befor
   pub acts : List Entry
   pub joined : reverse entries ≡ reads ++ acts
   pub read : ReadsAs conf meaning reads
-  pub run : Inside state_path now rules (Works rules.sets now true own) acts
+  pub run : Inside state_path now rules (Works state_path rules.sets now true own) acts
   pub each : (t : Target) → IsOneOf t (rotated_logs rules.sets now true run.within.sets) → IsRotatedAmong state_path (rotated_logs rules.sets now true run.within.sets) (past before) (past after) t

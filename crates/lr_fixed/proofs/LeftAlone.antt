@@ -39,7 +39,7 @@ use Rattle.lr_run.specs.Runs.{Inside, Works}
 use Rattle.lr_run.proofs.Shape.{ended}
 
 -- the work of a run, whatever failed: its targets are the logs of its plan
-abbrev works_turn : (state : Path) (rules : Rules) (now : Moment) (force : Bool) (own : List Fault) (ts : List Entry) → AreBuiltRules rules.sets → (w : Works rules.sets now force own ts) → AllTurns state rules (w.entries.front ++ w.entries.back)
+abbrev works_turn : (state : Path) (rules : Rules) (now : Moment) (force : Bool) (own : List Fault) (ts : List Entry) → AreBuiltRules rules.sets → (w : Works state rules.sets now force own ts) → AllTurns state rules (w.entries.front ++ w.entries.back)
 works_turn state rules now force own ts built w =
     done_turns state rules w.entries.front (rotated_logs rules.sets now force w.sets) _ w.marks w.of_acts w.entries.back
     (whole_quiet rules.sets w.sets w.of_looks w.entries.front w.entries.first) (targets_seen rules w.sets w.of_looks w.entries.front (decision [] now force) built w.entries.first)
@@ -59,7 +59,7 @@ quiet_member s p u ts quiet made steady y k key = quiet_same (IsKeyless s) p u y
     calm = made_quiet (IsKeyless s) p u (reverse ts) (since_of (IsKeyless s) p u (reverse ts) made (none_attached s u steady)) made (still_reverse ts (quiet_still ts quiet))
 
 pub left_alone : (s : LogSet) (state : Path) (force : Bool) (now : Moment) (rules : Rules) (own : List Fault) (p q : Past) (es reads acts : List Entry) → AreBuiltRules rules.sets → Made p es q → IsJournal p → reverse es ≡ reads ++ acts → AreQuiet reads
-    → (i : Inside state now rules (Works rules.sets now force own) acts) → IsSafe s p → IsSteady s q → ((t : Target) → IsOneOf t (rotated_logs rules.sets now force i.within.sets) → t.log ≢ s.log)
+    → (i : Inside state now rules (Works state rules.sets now force own) acts) → IsSafe s p → IsSteady s q → ((t : Target) → IsOneOf t (rotated_logs rules.sets now force i.within.sets) → t.log ≢ s.log)
     → (y : Path) (k : ℤ) → s.key y ≡ Some k → names (world q) y ≡ names (world p) y
 left_alone s state force now rules own p q es reads acts built made journal joined quiet i safe steady apart y k key =
     others_left s a.mid q state now rules tail turns behind_start (journal_u, a.fits) (quiet_safe s a.mid starts (journal_u, a.fits) safe_u (tt, refl)) steady apart y k key
@@ -68,7 +68,7 @@ left_alone s state force now rules own p q es reads acts built made journal join
     starts : Entry
     starts = entry.Starts state now rules
 
-    w : Works rules.sets now force own i.between
+    w : Works state rules.sets now force own i.between
     w = i.within
 
     front : List Entry

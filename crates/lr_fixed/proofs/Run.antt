@@ -16,6 +16,7 @@ use Rattle.lr_fixed.specs.Alike.{AreAlike}
 use Rattle.lr_fixed.proofs.Peeled.{one_look, others_same}
 use Rattle.lr_fixed.proofs.Whole.{looks_one}
 use Rattle.lr_seen.specs.Built.{AreBuiltRules}
+use Rattle.lr_seen.specs.Free.{reserved_by}
 use Rattle.lr_run.specs.Runs.{Works, Runs, no_directory, not_seen, not_begun, worked}
 use Rattle.lr_run.proofs.Called.{none_before, works_met_none}
 use Rattle.lr_fixed.proofs.Planned.{alike_same}
@@ -28,11 +29,11 @@ one_called own f e one z = let a = ap calls_in e in omega (arith, a, one, z)
 
 -- ---- the work
 
-module _ (rules : List Rule) (now : Moment) (force : Bool) (own more : List Fault) (ts us : List Entry) (built : AreBuiltRules rules) (v : Works rules now force own ts) (w : Works rules now force more us) (e : ts ≡ us)
+module _ (state : Path) (rules : List Rule) (now : Moment) (force : Bool) (own more : List Fault) (ts us : List Entry) (built : AreBuiltRules rules) (v : Works state rules now force own ts) (w : Works state rules now force more us) (e : ts ≡ us)
     (c : calls_in own ≡ 0) (d : calls_in more ≡ 0) where
   -- the looks are the same, and so are their faults
   looks : (v.entries.front ≡ w.entries.front) × (v.of_looks ≡ w.of_looks) × AreAlike v.sets w.sets
-  looks = looks_one rules v.sets w.sets v.of_looks w.of_looks v.entries.front w.entries.front v.entries.back w.entries.back v.entries.first w.entries.first (sym v.entries.joined ∙ (e ∙ w.entries.joined))
+  looks = looks_one (reserved_by state) rules v.sets w.sets v.of_looks w.of_looks v.entries.front w.entries.front v.entries.back w.entries.back v.entries.first w.entries.first (sym v.entries.joined ∙ (e ∙ w.entries.joined))
       (none_before own v.of_looks _ v.faults_are c) (none_before more w.of_looks _ w.faults_are d)
 
   -- and those of the plans
@@ -41,11 +42,11 @@ module _ (rules : List Rule) (now : Moment) (force : Bool) (own more : List Faul
 
   -- the acts of the one met none
   acts_v : v.of_acts ≡ []
-  acts_v = works_met_none rules now force own ts built v c
+  acts_v = works_met_none state rules now force own ts built v c
 
   -- nor did those of the other
   acts_w : w.of_acts ≡ []
-  acts_w = works_met_none rules now force more us built w d
+  acts_w = works_met_none state rules now force more us built w d
 
   -- two works that left the same entries met the same faults
   works_one : own ≡ more
@@ -77,5 +78,5 @@ runs_one state force now rules own more ts built (no_directory e s) (worked j) c
 runs_one state force now rules own more ts built (worked i) (not_seen f t) c d = absurd (one_called more _ f refl d)
 runs_one state force now rules own more ts built (worked i) (not_begun f t) c d = absurd (one_called more _ f refl d)
 runs_one state force now rules own more ts built (worked i) (no_directory f t) c d = absurd (alone_or_begun (parent_of state) state now rules (i.between ++ entry.Ends ∷ []) i.before ts t i.directory i.entries)
-runs_one state force now rules own more ts built (worked i) (worked j) c d = works_one rules.sets now force own more i.between j.between built i.within j.within
+runs_one state force now rules own more ts built (worked i) (worked j) c d = works_one state rules.sets now force own more i.between j.between built i.within j.within
     (between_same (parent_of state) state now rules i.before j.before i.between j.between ts i.directory j.directory i.entries j.entries) c d

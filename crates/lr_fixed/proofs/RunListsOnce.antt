@@ -19,6 +19,7 @@ use Rattle.lr_acts.specs.Making.{all_of_sets}
 use Rattle.lr_looks.specs.Asked.{asked_by}
 use Rattle.lr_looks.specs.Shown.{ShowsLooks}
 use Rattle.lr_seen.specs.Built.{IsBuiltRule, AreBuiltRules}
+use Rattle.lr_seen.specs.Free.{reserved_by}
 use Rattle.lr_run.specs.Runs.{Works, Inside, Runs, no_directory, not_seen, not_begun, worked}
 use Rattle.lr_run.proofs.Simple.{HaveNoScripts, AreSimple, plan_simple}
 use Rattle.lr_fixed.specs.Listings.{listings_of}
@@ -28,8 +29,8 @@ use Rattle.lr_fixed.proofs.ActsListNone.{sets_none}
 use Rattle.lr_fixed.proofs.FamiliesListOnce.{families_once}
 
 -- the looks
-looks_once : (rules : List Rule) (sets : List SetLooks) (faults : List Fault) (ts : List Entry) (dir : Path) → ShowsLooks rules sets faults ts → listings_of dir ts ≤ 1
-looks_once rules sets faults ts dir s =
+looks_once : (reserved : List Path) (rules : List Rule) (sets : List SetLooks) (faults : List Fault) (ts : List Entry) (dir : Path) → ShowsLooks reserved rules sets faults ts → listings_of dir ts ≤ 1
+looks_once reserved rules sets faults ts dir s =
     let j = count_joined dir ts s.entries.front s.entries.back s.entries.joined in
     let a = count_none dir s.entries.front (subst AreNoListings (sym s.entries.first.looks) (words_none (asked_by rules) s.entries.first.sights)) in
     let b = families_once [] s.kept s.entries.second.listings s.entries.second.families.sights s.entries.back dir s.entries.second.families.shown in
@@ -40,24 +41,24 @@ no_scripts [] b = tt
 no_scripts (x ∷ xs) b = ((All-head IsBuiltRule x xs b).scripts, no_scripts xs (All-tail IsBuiltRule x xs b))
 
 -- the acts are unlinks and renames
-acts_simple : (rules : List Rule) (now : Moment) (force : Bool) (faults : List Fault) (ts : List Entry) → AreBuiltRules rules → (w : Works rules now force faults ts) → AreSimple (all_of_sets (steps_of_plan w.plan))
-acts_simple rules now force faults ts built w = subst (λ (p : Plan). AreSimple (all_of_sets (steps_of_plan p))) (sym w.planned) (plan_simple (decision [] now force) rules w.sets (no_scripts rules built))
+acts_simple : (state : Path) (rules : List Rule) (now : Moment) (force : Bool) (faults : List Fault) (ts : List Entry) → AreBuiltRules rules → (w : Works state rules now force faults ts) → AreSimple (all_of_sets (steps_of_plan w.plan))
+acts_simple state rules now force faults ts built w = subst (λ (p : Plan). AreSimple (all_of_sets (steps_of_plan p))) (sym w.planned) (plan_simple (decision [] now force) rules w.sets (no_scripts rules built))
 
 -- and the acts behind them
-works_once : (rules : List Rule) (now : Moment) (force : Bool) (faults : List Fault) (ts : List Entry) (dir : Path) → AreBuiltRules rules → Works rules now force faults ts → listings_of dir ts ≤ 1
-works_once rules now force faults ts dir built w =
+works_once : (state : Path) (rules : List Rule) (now : Moment) (force : Bool) (faults : List Fault) (ts : List Entry) (dir : Path) → AreBuiltRules rules → Works state rules now force faults ts → listings_of dir ts ≤ 1
+works_once state rules now force faults ts dir built w =
     let j = count_joined dir ts w.entries.front w.entries.back w.entries.joined in
-    let a = looks_once rules w.sets w.of_looks w.entries.front dir w.entries.first in
-    let b = count_none dir w.entries.back (sets_none (steps_of_plan w.plan) w.marks w.of_acts w.entries.back (acts_simple rules now force faults ts built w) w.entries.second) in
+    let a = looks_once (reserved_by state) rules w.sets w.of_looks w.entries.front dir w.entries.first in
+    let b = count_none dir w.entries.back (sets_none (steps_of_plan w.plan) w.marks w.of_acts w.entries.back (acts_simple state rules now force faults ts built w) w.entries.second) in
     omega (arith, j, a, b)
 
 -- between the begin and the end of a run
-inside_once : (state : Path) (force : Bool) (now : Moment) (rules : Rules) (faults : List Fault) (ts : List Entry) (dir : Path) → AreBuiltRules rules.sets → Inside state now rules (Works rules.sets now force faults) ts → listings_of dir ts ≤ 1
+inside_once : (state : Path) (force : Bool) (now : Moment) (rules : Rules) (faults : List Fault) (ts : List Entry) (dir : Path) → AreBuiltRules rules.sets → Inside state now rules (Works state rules.sets now force faults) ts → listings_of dir ts ≤ 1
 inside_once state force now rules faults ts dir built i =
     let j = count_joined dir ts i.before (entry.Starts state now rules ∷ (i.between ++ entry.Ends ∷ [])) i.entries in
     let a = count_none dir i.before (sees_none (parent_of state) IsDir i.before i.directory) in
     let k = count_joined dir (i.between ++ entry.Ends ∷ []) i.between (entry.Ends ∷ []) refl in
-    let b = works_once rules.sets now force faults i.between dir built i.within in
+    let b = works_once state rules.sets now force faults i.between dir built i.within in
     omega (arith, j, a, k, b)
 
 maybe_starts : (state : Path) (now : Moment) (rules : Rules) (ts : List Entry) → Maybe (entry.Starts state now rules) ts → AreNoListings ts

@@ -1,6 +1,7 @@
 -- All looks of a run show one thing alone.
 use Rattle.std.proofs.Common.{◌≡◌, ℕ, ◌+◌, List, [], ◌∷◌, ◌++◌, length, sym, ap, ◌∙◌, subst, arith}
 use Rattle.std.specs.List.{flat_map}
+use Rattle.lr_rules.specs.declared.path.Path.{Path}
 use Rattle.lr_rules.specs.declared.fault.Fault.{Fault}
 use Rattle.lr_rules.specs.declared.rule.Rule.{Rule}
 use Rattle.lr_host.specs.declared.entry.Entry.{Entry}
@@ -29,17 +30,17 @@ record OneKept (faults more : List Fault) (kept others : List FoundLog) : Type 0
   kept_are : kept ≡ others
 
 -- the same logs, so the same are kept, and the same faults are added
-kept_one : (found others : List FoundLog) (a a' b b' : List Fault) (kept kept' : List FoundLog) → found ≡ others → a ≡ a' → Keeps found a b kept → Keeps others a' b' kept' → OneKept b b' kept kept'
-kept_one found others a a' b b' kept kept' e f h g = go (subst (λ l. Keeps l a' b' kept') (sym e) g)
+kept_one : (reserved : List Path) (found others : List FoundLog) (a a' b b' : List Fault) (kept kept' : List FoundLog) → found ≡ others → a ≡ a' → Keeps reserved found a b kept → Keeps reserved others a' b' kept' → OneKept b b' kept kept'
+kept_one reserved found others a a' b b' kept kept' e f h g = go (subst (λ l. Keeps reserved l a' b' kept') (sym e) g)
   where
-    go : Keeps found a' b' kept' → OneKept b b' kept kept'
+    go : Keeps reserved found a' b' kept' → OneKept b b' kept kept'
     go k = record {
-      faults_are = h.faults_are ∙ (ap (λ l. l ++ (choice_faults found found h.choices ++ flat_map kind_fault (kept_of found h.choices))) f ∙ (ap (λ cs. a' ++ (choice_faults found found cs ++ flat_map kind_fault (kept_of found cs))) one ∙ sym k.faults_are));
+      faults_are = h.faults_are ∙ (ap (λ l. l ++ (choice_faults reserved found found h.choices ++ flat_map kind_fault (kept_of found h.choices))) f ∙ (ap (λ cs. a' ++ (choice_faults reserved found found cs ++ flat_map kind_fault (kept_of found cs))) one ∙ sym k.faults_are));
       kept_are = h.left_are ∙ (ap (λ cs. flat_map where_file (kept_of found cs)) one ∙ sym k.left_are);
     }
       where
         one : h.choices ≡ k.choices
-        one = choices_one found h.choices k.choices h.chosen k.chosen
+        one = choices_one reserved found h.choices k.choices h.chosen k.chosen
 
 -- ---- the logs by definitions
 
@@ -52,7 +53,7 @@ sets_alike set logs (x ∷ xs) (y ∷ ys) n h g = (h.0 ∙ sym g.0, sets_alike (
 
 -- ---- whole
 
-module _ (rules : List Rule) (sets others : List SetLooks) (faults more : List Fault) (ts us vs ws : List Entry) (h : ShowsLooks rules sets faults ts) (g : ShowsLooks rules others more us)
+module _ (reserved : List Path) (rules : List Rule) (sets others : List SetLooks) (faults more : List Fault) (ts us vs ws : List Entry) (h : ShowsLooks reserved rules sets faults ts) (g : ShowsLooks reserved rules others more us)
     (e : ts ++ vs ≡ us ++ ws) (c : calls_in faults ≡ 0) (d : calls_in more ≡ 0) where
   -- no call failed at the words' paths
   no_call_h : calls_in h.of_words ≡ 0
@@ -78,7 +79,7 @@ module _ (rules : List Rule) (sets others : List SetLooks) (faults more : List F
 
   -- and the logs that are kept
   kept_is : OneKept h.of_kept g.of_kept h.kept g.kept
-  kept_is = kept_one h.found g.found h.of_words g.of_words h.of_kept g.of_kept h.kept g.kept
+  kept_is = kept_one reserved h.found g.found h.of_words g.of_words h.of_kept g.of_kept h.kept g.kept
       (h.entries.first.found_are ∙ (ap (found_of (asked_by rules)) words.0 ∙ sym g.entries.first.found_are))
       (h.entries.first.faults_are ∙ (ap (faults_of (asked_by rules)) words.0 ∙ sym g.entries.first.faults_are)) h.keeps g.keeps
 

@@ -30,8 +30,8 @@ ghost use Rattle.lr_fixed.specs.Listings.{listings_of};
 /// Where the same entries begin with looks of two outcomes and no call failed in either, the looks are the same, and so
 /// are their faults and the logs that were looked at whole.
 pub fn looks_are_fixed()
-    ensures { (rules : List Rule) (sets others : List SetLooks) (faults more : List Fault) (ts us vs ws : List Entry)
-        → ShowsLooks rules sets faults ts → ShowsLooks rules others more us
+    ensures { (reserved : List Path) (rules : List Rule) (sets others : List SetLooks) (faults more : List Fault) (ts us vs ws : List Entry)
+        → ShowsLooks reserved rules sets faults ts → ShowsLooks reserved rules others more us
         → ts ++ vs ≡ us ++ ws
         → calls_in faults ≡ 0 → calls_in more ≡ 0 → (ts ≡ us) × (faults ≡ more) × AreAlike sets others }
 {}
@@ -61,7 +61,7 @@ pub fn directories_are_listed_once()
 /// holds of sets that are safe before and steady.
 pub fn others_are_left()
     ensures { (s : LogSet) (state : Path) (force : Bool) (now : Moment) (rules : Rules) (own : List Fault) (p q : Past) (es reads acts : List Entry) → AreBuiltRules rules.sets
-        → Made p es q → IsJournal p → reverse es ≡ reads ++ acts → AreQuiet reads → (i : Inside state now rules (Works rules.sets now force own) acts)
+        → Made p es q → IsJournal p → reverse es ≡ reads ++ acts → AreQuiet reads → (i : Inside state now rules (Works state rules.sets now force own) acts)
         → IsSafe s p → IsSteady s q
         → ((t : Target) → IsOneOf t (rotated_logs rules.sets now force i.within.sets) → t.log ≢ s.log)
         → (y : Path) (k : ℤ) → s.key y ≡ Some k → names (world q) y ≡ names (world p) y }

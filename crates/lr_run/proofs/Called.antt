@@ -4,6 +4,7 @@ use Rattle.lr_rules.specs.declared.civil.Moment.{Moment}
 use Rattle.lr_rules.specs.declared.fault.CallKind.TheVariants as call
 use Rattle.lr_rules.specs.declared.fault.Fault.{Fault}
 use Rattle.lr_rules.specs.declared.fault.Fault.TheVariants as fault
+use Rattle.lr_rules.specs.declared.path.Path.{Path}
 use Rattle.lr_rules.specs.declared.rule.Rule.{Rule}
 use Rattle.lr_host.specs.declared.entry.Entry.{Entry}
 use Rattle.lr_plan.specs.declared.looks.SetLooks.{SetLooks}
@@ -75,6 +76,6 @@ acts_met_none rules sets now force plan ms fs ts built is h z =
     none_called fs (acts_fold (λ gs us. AreCalls gs) called_folds (steps_of_plan plan) ms fs ts (steps_simple rules sets now force plan (steps_of_plan plan) built is refl) h) z
 
 -- so did those of a run in which no call failed
-pub works_met_none : (rules : List Rule) (now : Moment) (force : Bool) (own : List Fault) (ts : List Entry) → AreBuiltRules rules → (w : Works rules now force own ts) → calls_in own ≡ 0 → w.of_acts ≡ []
-works_met_none rules now force own ts built w z =
+pub works_met_none : (state : Path) (rules : List Rule) (now : Moment) (force : Bool) (own : List Fault) (ts : List Entry) → AreBuiltRules rules → (w : Works state rules now force own ts) → calls_in own ≡ 0 → w.of_acts ≡ []
+works_met_none state rules now force own ts built w z =
     acts_met_none rules w.sets now force w.plan w.marks w.of_acts w.entries.back built w.planned w.entries.second (none_behind _ w.plan.faults w.of_acts refl (none_behind own w.of_looks _ w.faults_are z))

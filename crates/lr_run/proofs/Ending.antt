@@ -21,6 +21,7 @@ use Rattle.lr_acts.specs.Making.{all_of_sets}
 use Rattle.lr_looks.specs.Shown.{ShowsSomeLooks}
 use Rattle.lr_seen.proofs.Quiet.{whole_looking, part_looking}
 use Rattle.lr_seen.specs.Built.{AreBuiltRules}
+use Rattle.lr_seen.specs.Free.{reserved_by}
 use Rattle.lr_plan.proofs.Counts.{adds_free, adds_call}
 use Rattle.lr_run.specs.declared.directory.DirStop.{DirStop}
 use Rattle.lr_run.specs.declared.directory.DirStop.TheVariants as dir
@@ -38,15 +39,15 @@ look_work _ i = absurd i
 looks_work : (ts : List Entry) → AreLooking ts → AreWork ts
 looks_work ts a = each_as IsLooking IsWork ts look_work a
 
-works_work : (rules : List Rule) (now : Moment) (force : Bool) (own : List Fault) (ts : List Entry) → AreBuiltRules rules → Works rules now force own ts → AreWork ts
-works_work rules now force own ts b w = subst AreWork (sym w.entries.joined) (each_append IsWork w.entries.front w.entries.back (looks_work w.entries.front (whole_looking rules w.sets w.of_looks w.entries.front w.entries.first))
+works_work : (state : Path) (rules : List Rule) (now : Moment) (force : Bool) (own : List Fault) (ts : List Entry) → AreBuiltRules rules → Works state rules now force own ts → AreWork ts
+works_work state rules now force own ts b w = subst AreWork (sym w.entries.joined) (each_append IsWork w.entries.front w.entries.back (looks_work w.entries.front (whole_looking rules w.sets w.of_looks w.entries.front w.entries.first))
     (sets_work (steps_of_plan w.plan) w.marks w.of_acts w.entries.back (subst (λ (p : Plan). AreSimple (all_of_sets (steps_of_plan p))) (sym w.planned) (plan_simple (decision [] now force) rules w.sets (no_scripts rules b))) w.entries.second))
 
 -- the run is on where the work ends
-pub end_there : {T E : Type 0} (r : Result T E) (rules : List Rule) (now : Moment) (force : Bool) (a b : List Fault) (o n : Option Journal) → AreBuiltRules rules → OnOk r (Left (WorksOn rules now force a b) o n) → OnErr r (Left (ShowsSomeLooks rules) o n)
+pub end_there : {T E : Type 0} (r : Result T E) (state : Path) (rules : List Rule) (now : Moment) (force : Bool) (a b : List Fault) (o n : Option Journal) → AreBuiltRules rules → OnOk r (Left (WorksOn state rules now force a b) o n) → OnErr r (Left (ShowsSomeLooks (reserved_by state) rules) o n)
     → WhereTold o IsOn → WhereTold n IsOn
-end_there (Ok x) rules now force a b o n built l s on = goes_on l (λ ts h. works_work rules now force h.0 ts built h.2) on
-end_there (Err x) rules now force a b o n built l s on = goes_on s (λ ts h. looks_work ts (part_looking rules ts h)) on
+end_there (Ok x) state rules now force a b o n built l s on = goes_on l (λ ts h. works_work state rules now force h.0 ts built h.2) on
+end_there (Err x) state rules now force a b o n built l s on = goes_on s (λ ts h. looks_work ts (part_looking rules ts h)) on
 
 pub work_ended : {T E : Type 0} (r : Result T E) (P Q : List Entry → Type 0) (o m n : Option Journal) → OnOk r (Left P o m) → Left Q m n → OnOk r (Left (Then P Q) o n)
 work_ended (Ok x) P Q o m n l k = left_both l k

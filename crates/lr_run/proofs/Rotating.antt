@@ -1,5 +1,6 @@
 -- A run of which no call failed rotates each log of its plan.
-use Rattle.std.proofs.Common.{◌≡◌, ◌≢◌, inl, inr, Bool, List, [], ◌∷◌, ◌++◌, reverse, sym, ap, ◌∙◌, subst, append_assoc}
+use Rattle.std.proofs.Common.{◌≡◌, ◌≢◌, inl, inr, Bool, List, [], ◌∷◌, ◌++◌, reverse, refl, sym, ap, ◌∙◌, subst, append_assoc}
+use Rattle.std.specs.Prelude.{codes}
 use Rattle.lr_rules.specs.declared.civil.Moment.{Moment}
 use Rattle.lr_rules.specs.declared.fault.Fault.{Fault}
 use Rattle.lr_rules.specs.declared.path.Path.{Path}
@@ -30,12 +31,14 @@ use Rattle.lr_weave.specs.Fitting.{NoneMeets, DontMeet}
 use Rattle.lr_weave.proofs.Planning.{ready_planned}
 use Rattle.lr_weave.proofs.Turned.{done_turned}
 use Rattle.lr_seen.specs.Built.{AreBuiltRules}
+use Rattle.lr_seen.specs.Free.{reserved_by, IsFreeOf, AreFreeOf}
 use Rattle.lr_seen.specs.Targets.{groups_of}
 use Rattle.lr_seen.proofs.Apart.{targets_apart, targets_dont_meet}
+use Rattle.lr_seen.proofs.Free.{targets_free}
 use Rattle.lr_seen.proofs.Quiet.{whole_quiet}
 use Rattle.lr_seen.proofs.Ready.{plans_have_logs}
 use Rattle.lr_seen.proofs.Seen.{targets_seen, targets_have_names}
-use Rattle.lr_run.specs.Rotated.{rotated_logs, IsAsideOfState, IsRotatedAmong}
+use Rattle.lr_run.specs.Rotated.{rotated_logs, IsRotatedAmong}
 use Rattle.lr_run.specs.Runs.{Inside, Works}
 use Rattle.lr_run.proofs.Called.{works_met_none}
 use Rattle.lr_run.proofs.Shape.{sees_quiet, ended_whole}
@@ -65,8 +68,13 @@ apart_of t x (y ∷ ys) h d (inr i) (inr j) ne m = apart_of t x ys h.1 d.1 i j n
 
 -- ---- the run
 
+free_one : (reserved : List Path) (t : Target) (ts : List Target) → AreFreeOf reserved ts → IsOneOf t ts → IsFreeOf reserved t
+free_one reserved t [] f i = absurd i
+free_one reserved t (x ∷ xs) f (inl e) = subst (IsFreeOf reserved) e f.0
+free_one reserved t (x ∷ xs) f (inr i) = free_one reserved t xs f.1 i
+
 -- the work of a run whose acts met no fault
-abbrev works_whole : (state : Path) (rules : Rules) (now : Moment) (force : Bool) (own : List Fault) (ts : List Entry) → AreBuiltRules rules.sets → (w : Works rules.sets now force own ts) → w.of_acts ≡ [] → AllTurned state rules (w.entries.front ++ w.entries.back)
+abbrev works_whole : (state : Path) (rules : Rules) (now : Moment) (force : Bool) (own : List Fault) (ts : List Entry) → AreBuiltRules rules.sets → (w : Works state rules.sets now force own ts) → w.of_acts ≡ [] → AllTurned state rules (w.entries.front ++ w.entries.back)
 works_whole state rules now force own ts built w none =
     done_turned state rules w.entries.front (rotated_logs rules.sets now force w.sets) _ w.marks w.entries.back
     (whole_quiet rules.sets w.sets w.of_looks w.entries.front w.entries.first) (targets_seen rules w.sets w.of_looks w.entries.front (decision [] now force) built w.entries.first)
@@ -75,13 +83,13 @@ works_whole state rules now force own ts built w none =
     (subst (λ (fs : List Fault). PlanDone (plan_of rules.sets w.sets [] now force) w.marks fs w.entries.back) none (subst (λ (p : Plan). PlanDone p w.marks w.of_acts w.entries.back) w.planned w.entries.second))
 
 pub run_rotated : (state : Path) (force : Bool) (now : Moment) (rules : Rules) (own : List Fault) (p q : Past) (es reads acts : List Entry) → AreBuiltRules rules.sets → Made p es q → IsJournal p → reverse es ≡ reads ++ acts → AreQuiet reads
-    → (i : Inside state now rules (Works rules.sets now force own) acts) → calls_in own ≡ 0 → (t : Target) → IsOneOf t (rotated_logs rules.sets now force i.within.sets) → IsRotatedAmong state (rotated_logs rules.sets now force i.within.sets) p q t
-run_rotated state force now rules own p q es reads acts built made journal joined quiet i no_call t one = λ unattached aside. (
-  seen_members (other_paths state t.log targets) t.log t.naming t.count t.stand p q es made journal has.family has.next unattached (aside_paths aside) among,
-  rotated_whole (other_paths state t.log targets) t.log t.naming t.count t.stand p q es made journal has.family has.next unattached (aside_paths aside) among,
+    → (i : Inside state now rules (Works state rules.sets now force own) acts) → calls_in own ≡ 0 → (t : Target) → IsOneOf t (rotated_logs rules.sets now force i.within.sets) → IsRotatedAmong state (rotated_logs rules.sets now force i.within.sets) p q t
+run_rotated state force now rules own p q es reads acts built made journal joined quiet i no_call t one = λ unattached. (
+  seen_members (other_paths state t.log targets) t.log t.naming t.count t.stand p q es made journal has.family has.next unattached aside_paths among,
+  rotated_whole (other_paths state t.log targets) t.log t.naming t.count t.stand p q es made journal has.family has.next unattached aside_paths among,
 )
   where
-    w : Works rules.sets now force own i.between
+    w : Works state rules.sets now force own i.between
     w = i.within
 
     targets : List Target
@@ -94,7 +102,7 @@ run_rotated state force now rules own p q es reads acts built made journal joine
     has = names_one t targets named one
 
     none : w.of_acts ≡ []
-    none = works_met_none rules.sets now force own i.between built w no_call
+    none = works_met_none state rules.sets now force own i.between built w no_call
 
     turned : AllTurned state rules ((w.entries.front ++ w.entries.back) ++ entry.Ends ∷ [])
     turned = ended_whole state rules (w.entries.front ++ w.entries.back) (works_whole state rules now force own i.between built w none)
@@ -102,8 +110,11 @@ run_rotated state force now rules own p q es reads acts built made journal joine
     whole : reverse es ≡ (reads ++ i.before) ++ (entry.Starts state now rules ∷ ((w.entries.front ++ w.entries.back) ++ entry.Ends ∷ []))
     whole = joined ∙ (ap (λ xs. reads ++ xs) (i.entries ∙ ap (λ xs. i.before ++ (entry.Starts state now rules ∷ (xs ++ entry.Ends ∷ []))) w.entries.joined) ∙ sym (append_assoc reads i.before _))
 
-    aside_paths : IsAsideOfState state t → AreOutside (other_paths state t.log targets) t.log t.naming
-    aside_paths aside = outside state t has.family targets named (λ x j. apart_of t x targets named (targets_dont_meet rules.sets w.sets w.of_looks w.entries.front (decision [] now force) w.entries.first) j one) aside.state_apart aside.part_apart
+    free : IsFreeOf (reserved_by state) t
+    free = free_one (reserved_by state) t targets (targets_free rules.sets w.sets w.of_looks w.entries.front (decision [] now force) w.entries.first) one
+
+    aside_paths : AreOutside (other_paths state t.log targets) t.log t.naming
+    aside_paths = outside state t has.family targets named (λ x j. apart_of t x targets named (targets_dont_meet rules.sets w.sets w.of_looks w.entries.front (decision [] now force) w.entries.first) j one) (free state (inl refl)) (free (state ++ codes ".tmp") (inr (inl refl)))
 
     among : RotatesAmong (other_paths state t.log targets) t.log t.naming t.count t.stand (reverse es)
     among = subst (RotatesAmong (other_paths state t.log targets) t.log t.naming t.count t.stand) (sym whole)

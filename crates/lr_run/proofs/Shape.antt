@@ -76,7 +76,7 @@ ended_whole state rules ts t = record {
 
 -- ---- the work
 
-works_turn : (state : Path) (rules : Rules) (now : Moment) (force : Bool) (faults : List Fault) (ts : List Entry) → AreBuiltRules rules.sets → Works rules.sets now force faults ts → AllTurns state rules ts
+works_turn : (state : Path) (rules : Rules) (now : Moment) (force : Bool) (faults : List Fault) (ts : List Entry) → AreBuiltRules rules.sets → Works state rules.sets now force faults ts → AllTurns state rules ts
 works_turn state rules now force faults ts built w = subst (AllTurns state rules) (sym w.entries.joined)
     (done_turns state rules w.entries.front (all_targets (decision [] now force) rules.sets w.sets) _ w.marks w.of_acts w.entries.back
     (whole_quiet rules.sets w.sets w.of_looks w.entries.front w.entries.first) (targets_seen rules w.sets w.of_looks w.entries.front (decision [] now force) built w.entries.first)

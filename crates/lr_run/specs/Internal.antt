@@ -13,11 +13,12 @@ use Rattle.lr_host.specs.declared.entry.Entry.TheVariants.{Starts, Ends}
 use Rattle.lr_host.specs.declared.journal.Journal.{Journal}
 use Rattle.lr_host.specs.Told.{Left}
 use Rattle.lr_host.specs.Looks.{Sees, IsDir, IsNotDir}
-use Rattle.lr_plan.specs.declared.looks.SetLooks.{SetLooks}
+use Rattle.lr_plan.specs.declared.looks.Looks.{Looks}
 use Rattle.lr_plan.specs.declared.planned.Plan.{Plan}
 use Rattle.lr_plan.specs.Outcomes.{Maybe}
 use Rattle.lr_plan.specs.Planned.{plan_of}
 use Rattle.lr_looks.specs.Shown.{LooksAtAll, ShowsSomeLooks}
+use Rattle.lr_seen.specs.Free.{reserved_by}
 use Rattle.lr_run.specs.declared.answer.RunStop.{RunStop}
 use Rattle.lr_run.specs.declared.answer.RunStop.TheVariants as stop
 use Rattle.lr_run.specs.declared.directory.DirStop.{DirStop}
@@ -34,17 +35,17 @@ dir_fault_of dir.NoDir path = fault.NoDir path
 dir_fault_of dir.Call path = fault.Call call.Look path
 
 -- The logs were looked at, and the plan is the one that follows; the faults of the looks were added.
-pub record Plans (rules : Rules) (now : Moment) (force : Bool) (plan : Plan) (faults all_faults : List Fault) (told later : Option Journal) : Type 0 where
-  pub sets : List SetLooks
-  pub planned : plan ≡ plan_of rules.sets sets [] now force
-  pub entries : Left (LooksAtAll rules.sets sets faults all_faults) told later
+pub record Plans (state : Path) (rules : Rules) (now : Moment) (force : Bool) (plan : Plan) (faults all_faults : List Fault) (told later : Option Journal) : Type 0 where
+  pub looks : Looks
+  pub planned : plan ≡ plan_of rules.sets looks.sets [] now force
+  pub entries : Left (LooksAtAll (reserved_by state) rules.sets looks faults all_faults) told later
 
 -- The work was done; its faults were added.
-abbrev pub WorksOn : List Rule → Moment → Bool → List Fault → List Fault → List Entry → Type 0
-WorksOn rules now force faults all_faults ts = (own : List Fault) × (all_faults ≡ faults ++ own) × Works rules now force own ts
+abbrev pub WorksOn : Path → List Rule → Moment → Bool → List Fault → List Fault → List Entry → Type 0
+WorksOn state rules now force faults all_faults ts = (own : List Fault) × (all_faults ≡ faults ++ own) × Works state rules now force own ts
 
-abbrev pub WorkDone : List Rule → Moment → Bool → List Fault → List Fault → Option Journal → Option Journal → Type 0
-WorkDone rules now force faults all_faults told later = Left (WorksOn rules now force faults all_faults) told later
+abbrev pub WorkDone : Path → List Rule → Moment → Bool → List Fault → List Fault → Option Journal → Option Journal → Type 0
+WorkDone state rules now force faults all_faults told later = Left (WorksOn state rules now force faults all_faults) told later
 
 -- The run began and ended, and of the entries between the two this holds.
 pub record Begun (state : Path) (now : Moment) (rules : Rules) (P : List Entry → Type 0) (ts : List Entry) : Type 0 where
@@ -54,12 +55,12 @@ pub record Begun (state : Path) (now : Moment) (rules : Rules) (P : List Entry �
 
 -- what was left from the begin on: the work, or the begin failed
 pub data Goes (state : Path) (force : Bool) (now : Moment) (rules : Rules) (faults all_faults : List Fault) (ts : List Entry) : Type 0 where
-  begun : Begun state now rules (WorksOn rules.sets now force faults all_faults) ts → Goes state force now rules faults all_faults ts
+  begun : Begun state now rules (WorksOn state rules.sets now force faults all_faults) ts → Goes state force now rules faults all_faults ts
   not_begun : all_faults ≡ faults ++ fault.Call call.Begin state ∷ [] → Maybe (Starts state now rules) ts → Goes state force now rules faults all_faults ts
 
 abbrev pub Stopped : Path → Moment → Rules → RunStop → List Entry → Type 0
 Stopped state now rules stop.Held ts = ts ≡ []
-Stopped state now rules stop.Memory ts = Begun state now rules (ShowsSomeLooks rules.sets) ts
+Stopped state now rules stop.Memory ts = Begun state now rules (ShowsSomeLooks (reserved_by state) rules.sets) ts
 
 -- what a run left: its faults were added; or it stopped
 abbrev pub RunsOn : Path → Bool → Moment → Rules → List Fault → List Fault → List Entry → Type 0

@@ -1,9 +1,8 @@
 -- The logs that a run rotates, each by its plan.
-use Rattle.std.specs.Prelude.{Bool, List, [], ◌++◌, codes}
+use Rattle.std.specs.Prelude.{Bool, List, []}
 use Rattle.lr_rules.specs.declared.path.Path.{Path}
 use Rattle.lr_rules.specs.declared.civil.Moment.{Moment}
 use Rattle.lr_rules.specs.declared.rule.Rule.{Rule}
-use Rattle.lr_rules.specs.Names.{IsName}
 use Rattle.lr_host.specs.World.{Past, world, names}
 use Rattle.lr_chain.specs.Rotation.{places_of}
 use Rattle.lr_plan.specs.declared.looks.SetLooks.{SetLooks}
@@ -18,13 +17,7 @@ use Rattle.lr_seen.specs.Targets.{all_targets}
 abbrev pub rotated_logs : List Rule → Moment → Bool → List SetLooks → List Target
 rotated_logs rules now force sets = all_targets (decision [] now force) rules sets
 
--- neither the state nor its part file has a name of the log's set
-pub record IsAsideOfState (state : Path) (t : Target) : Type 0 where
-  pub state_apart : IsName t.log t.naming state → ⊥
-  pub part_apart : IsName t.log t.naming (state ++ codes ".tmp") → ⊥
-
--- Between the two pasts the log was rotated whole: the members that were seen are those that stood, and each file is where the rotation takes it, by identity and with its bytes, while the tool's other changes were on the paths of the other logs and of the state. A writer attached no member, and the state's paths are no names of the set.
+-- Between the two pasts the log was rotated whole: the members that were seen are those that stood, and each file is where the rotation takes it, by identity and with its bytes, while the tool's other changes were on the paths of the other logs and of the state. A writer attached no member.
 abbrev pub IsRotatedAmong : Path → List Target → Past → Past → Target → Type 0
 IsRotatedAmong state targets before after t =
-    NoMemberAttached t.naming before after → IsAsideOfState state t
-    → AreThere t.naming (names (world before)) (places_of t.stand.members) × IsRotatedWhole (other_paths state t.log targets) t.naming t.count t.log before after
+    NoMemberAttached t.naming before after → AreThere t.naming (names (world before)) (places_of t.stand.members) × IsRotatedWhole (other_paths state t.log targets) t.naming t.count t.log before after

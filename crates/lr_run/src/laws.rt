@@ -19,6 +19,6 @@ ghost use Rattle.lr_run.specs.Runs.{Inside, Works};
 /// do meanwhile, and whatever else it tells: of a log that isn't there, or that meets another, say.
 pub fn run_rotates_all()
     ensures { (state : Path) (force : Bool) (now : Moment) (rules : Rules) (own : List Fault) (p q : Past) (es reads acts : List Entry) → AreBuiltRules rules.sets
-        → Made p es q → IsJournal p → reverse es ≡ reads ++ acts → AreQuiet reads → (i : Inside state now rules (Works rules.sets now force own) acts) → calls_in own ≡ 0
+        → Made p es q → IsJournal p → reverse es ≡ reads ++ acts → AreQuiet reads → (i : Inside state now rules (Works state rules.sets now force own) acts) → calls_in own ≡ 0
         → (t : Target) → IsOneOf t (rotated_logs rules.sets now force i.within.sets) → IsRotatedAmong state (rotated_logs rules.sets now force i.within.sets) p q t }
 {}

@@ -13,6 +13,7 @@ mod answer;
 mod directory;
 mod laws;
 mod locked;
+mod paths;
 mod whole;
 mod work;
 

@@ -9,6 +9,7 @@ ghost use Rattle.lr_host.specs.World.{world};
 ghost use Rattle.lr_plan.specs.Counted.{AddsFaults};
 ghost use Rattle.lr_looks.specs.Shown.{ShowsSomeLooks};
 ghost use Rattle.lr_seen.specs.Built.{AreBuiltRules};
+ghost use Rattle.lr_seen.specs.Free.{reserved_by};
 ghost use Rattle.lr_run.specs.Internal.{WorksOn, Goes, Stopped};
 
 use crate::answer::RunStop;
@@ -30,8 +31,8 @@ fn work_to_end<H: Host>(
 ) -> Result<(), Memory>
     requires built { AreBuiltRules rules.now.sets }
     requires on { WhereTold (H.told host.old) (λ p. (world p).running ≡ true) }
-    ensures told { OnOk result (Left (Then (WorksOn rules.now.sets clock.entry.now.now settings.now.force progress.old.faults.items progress.new.faults.items) (Are (entry.Ends ∷ []))) (H.told host.old) (H.told host.new)) }
-    ensures some { OnErr result (Left (Then (ShowsSomeLooks rules.now.sets) (Are (entry.Ends ∷ []))) (H.told host.old) (H.told host.new)) }
+    ensures told { OnOk result (Left (Then (WorksOn settings.now.state rules.now.sets clock.entry.now.now settings.now.force progress.old.faults.items progress.new.faults.items) (Are (entry.Ends ∷ []))) (H.told host.old) (H.told host.new)) }
+    ensures some { OnErr result (Left (Then (ShowsSomeLooks (reserved_by settings.now.state) rules.now.sets) (Are (entry.Ends ∷ []))) (H.told host.old) (H.told host.new)) }
     ensures room { OnOk result (vec_len progress.new.faults + 1 ≤ vec_capacity progress.new.faults) }
     ensures counted { OnOk result (AddsFaults progress.old.faults.items progress.new.faults.items (H.counts host.old) (H.counts host.new)) }
     ensures lock { (H.counts host.new).locked ≡ false }

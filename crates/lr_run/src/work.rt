@@ -6,10 +6,12 @@ ghost use Rattle.lr_acts.specs.Adding.{HasRoom};
 ghost use Rattle.lr_acts.specs.Making.{all_of_sets};
 ghost use Rattle.lr_looks.specs.Shown.{ShowsSomeLooks};
 ghost use Rattle.lr_seen.specs.Built.{AreBuiltRules};
+ghost use Rattle.lr_seen.specs.Free.{reserved_by};
 ghost use Rattle.lr_plan.specs.Steps.{steps_of_plan};
 ghost use Rattle.lr_plan.specs.Counted.{AddsFaults};
 ghost use Rattle.lr_run.specs.Internal.{Plans, WorkDone};
 
+use crate::paths::reserved_paths;
 use lr_acts::{Progress, act, take_room};
 use lr_host::Host;
 use lr_looks::look_all;
@@ -28,12 +30,13 @@ fn look_and_plan<H: Host>(
     faults: &mut Vec<Fault>,
 ) -> Result<Plan, Memory>
     requires { AreBuiltRules rules.now.sets }
-    ensures told { IfOk result (λ plan. Plans rules.now clock.entry.now.now settings.now.force plan faults.old.items faults.new.items (H.told host.old) (H.told host.new)) }
-    ensures some { OnErr result (Left (ShowsSomeLooks rules.now.sets) (H.told host.old) (H.told host.new)) }
+    ensures told { IfOk result (λ plan. Plans settings.now.state rules.now clock.entry.now.now settings.now.force plan faults.old.items faults.new.items (H.told host.old) (H.told host.new)) }
+    ensures some { OnErr result (Left (ShowsSomeLooks (reserved_by settings.now.state) rules.now.sets) (H.told host.old) (H.told host.new)) }
     ensures counted { IfOk result (λ plan. AddsFaults faults.old.items faults.new.items (H.counts host.old) (H.counts host.new)) }
     ensures counts { Onward (H.counts host.old) (H.counts host.new) }
 {
-    let looks = look_all(alloc, host, rules, faults)?;
+    let reserved = reserved_paths(alloc, &settings.state)?;
+    let looks = look_all(alloc, host, rules, &reserved, faults)?;
     plan(alloc, rules, &looks, &State::new(alloc), clock, settings)
 }
 
@@ -57,7 +60,7 @@ fn make_ready(
     ensures faults { OnOk result (progress.new.faults.items ≡ progress.old.faults.items ++ plan.faults) }
     ensures marks { progress.new.marks.items ≡ progress.old.marks.items }
     ensures room { IfOk result (λ sets. HasRoom (length (all_of_sets sets)) progress.new) }
-    ensures one_more { IfOk result (λ sets. vec_len progress.new.faults + length (all_of_sets sets) + 1 ≤ vec_capacity progress.new.faults) }
+    ensures two_more { IfOk result (λ sets. vec_len progress.new.faults + length (all_of_sets sets) + 2 ≤ vec_capacity progress.new.faults) }
 {
     let Plan { sets, faults, .. } = plan;
     add_all(&mut progress.faults, faults)?;
@@ -76,8 +79,8 @@ pub fn work<H: Host>(
     progress: &mut Progress,
 ) -> Result<(), Memory>
     requires { AreBuiltRules rules.now.sets }
-    ensures told { OnOk result (WorkDone rules.now.sets clock.entry.now.now settings.now.force progress.old.faults.items progress.new.faults.items (H.told host.old) (H.told host.new)) }
-    ensures some { OnErr result (Left (ShowsSomeLooks rules.now.sets) (H.told host.old) (H.told host.new)) }
+    ensures told { OnOk result (WorkDone settings.now.state rules.now.sets clock.entry.now.now settings.now.force progress.old.faults.items progress.new.faults.items (H.told host.old) (H.told host.new)) }
+    ensures some { OnErr result (Left (ShowsSomeLooks (reserved_by settings.now.state) rules.now.sets) (H.told host.old) (H.told host.new)) }
     ensures room { OnOk result (vec_len progress.new.faults + 1 ≤ vec_capacity progress.new.faults) }
     ensures counted { OnOk result (AddsFaults progress.old.faults.items progress.new.faults.items (H.counts host.old) (H.counts host.new)) }
     ensures counts { Onward (H.counts host.old) (H.counts host.new) }

@@ -1,7 +1,7 @@
 pub mod Apart
 mod Coming
 mod Elements
-mod Free
+pub mod Free
 mod Listed
 pub mod Quiet
 pub mod Ready
