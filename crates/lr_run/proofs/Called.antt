@@ -7,9 +7,9 @@ use Rattle.lr_rules.specs.declared.fault.Fault.TheVariants as fault
 use Rattle.lr_rules.specs.declared.path.Path.{Path}
 use Rattle.lr_rules.specs.declared.rule.Rule.{Rule}
 use Rattle.lr_host.specs.declared.entry.Entry.{Entry}
+use Rattle.lr_state.specs.Table.{Entry as Row}
 use Rattle.lr_plan.specs.declared.looks.SetLooks.{SetLooks}
 use Rattle.lr_plan.specs.declared.mark.Mark.{Mark}
-use Rattle.lr_plan.specs.declared.planned.Plan.{Plan}
 use Rattle.lr_plan.specs.declared.step.Step.{Step}
 use Rattle.lr_plan.specs.declared.step.Step.TheVariants.{Removes, Renames, Rotated}
 use Rattle.lr_plan.specs.Counted.{call_in, calls_in}
@@ -19,7 +19,7 @@ use Rattle.lr_plan.specs.Planned.{plan_of}
 use Rattle.lr_plan.specs.Steps.{steps_of_plan}
 use Rattle.lr_plan.proofs.Counts.{calls_on}
 use Rattle.lr_seen.specs.Built.{AreBuiltRules}
-use Rattle.lr_run.specs.Runs.{Works}
+use Rattle.lr_run.specs.Runs.{Worked, plan_in}
 use Rattle.lr_run.proofs.Folded.{Folds, acts_fold}
 use Rattle.lr_run.proofs.Simple.{IsSimple}
 use Rattle.lr_run.proofs.Works.{steps_simple}
@@ -71,11 +71,12 @@ called_folds = record {
 }
 
 -- the acts of the plan, of which no call failed, met no fault
-pub acts_met_none : (rules : List Rule) (sets : List SetLooks) (now : Moment) (force : Bool) (plan : Plan) (ms : List Mark) (fs : List Fault) (ts : List Entry) → AreBuiltRules rules → plan ≡ plan_of rules sets [] now force → PlanDone plan ms fs ts → calls_in fs ≡ 0 → fs ≡ []
-acts_met_none rules sets now force plan ms fs ts built is h z =
-    none_called fs (acts_fold (λ gs us. AreCalls gs) called_folds (steps_of_plan plan) ms fs ts (steps_simple rules sets now force plan (steps_of_plan plan) built is refl) h) z
+pub acts_met_none : (rules : List Rule) (sets : List SetLooks) (table : List Row) (now : Moment) (force : Bool) (ms : List Mark) (fs : List Fault) (ts : List Entry) → AreBuiltRules rules → PlanDone (plan_of rules sets table now force) ms fs ts → calls_in fs ≡ 0 → fs ≡ []
+acts_met_none rules sets table now force ms fs ts built h z =
+    none_called fs (acts_fold (λ gs us. AreCalls gs) called_folds (steps_of_plan (plan_of rules sets table now force)) ms fs ts (steps_simple rules sets table now force built) h) z
 
 -- so did those of a run in which no call failed
-pub works_met_none : (state : Path) (rules : List Rule) (now : Moment) (force : Bool) (own : List Fault) (ts : List Entry) → AreBuiltRules rules → (w : Works state rules now force own ts) → calls_in own ≡ 0 → w.of_acts ≡ []
-works_met_none state rules now force own ts built w z =
-    acts_met_none rules w.sets now force w.plan w.marks w.of_acts w.entries.back built w.planned w.entries.second (none_behind _ w.plan.faults w.of_acts refl (none_behind own w.of_looks _ w.faults_are z))
+pub worked_met_none : (state : Path) (rules : List Rule) (now : Moment) (force : Bool) (own : List Fault) (ts : List Entry) → AreBuiltRules rules → (w : Worked state rules now force own ts) → calls_in own ≡ 0 → w.acted.entries.of_plan ≡ []
+worked_met_none state rules now force own ts built w z =
+    acts_met_none rules w.looked.sets w.looked.remembered.table now force w.acted.marks w.acted.entries.of_plan w.acted.entries.entries.front built w.acted.entries.entries.first
+    (none_before w.acted.of_acts w.acted.entries.of_plan w.acted.entries.of_state w.acted.entries.faults_are (none_behind _ (plan_in state rules ts w.looked now force).faults w.acted.of_acts refl (none_behind own w.looked.of_looks _ w.acted.faults_are z)))

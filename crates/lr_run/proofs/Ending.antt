@@ -1,5 +1,6 @@
 -- The work of a run, and its end.
-use Rattle.std.proofs.Common.{◌≡◌, ◌≤◌, Bool, List, [], ◌∷◌, ◌++◌, Option, Result, Ok, Err, OnOk, OnErr, refl, subst, sym, arith}
+use Rattle.std.proofs.Common.{◌≡◌, ◌≤◌, Bool, List, [], ◌∷◌, ◌++◌, Option, Result, Ok, Err, OnOk, OnErr, refl, subst, sym, ap, ◌∙◌, arith}
+use Rattle.std.proofs.lemmas.List.{append-nil}
 use Rattle.lr_rules.specs.declared.civil.Moment.{Moment}
 use Rattle.lr_rules.specs.declared.fault.CallKind.TheVariants as call
 use Rattle.lr_rules.specs.declared.fault.Fault.{Fault}
@@ -13,23 +14,19 @@ use Rattle.lr_host.specs.Told.{Counts, NoneFell, Rose, Left, Then, WhereTold}
 use Rattle.lr_host.proofs.Each.{each_append, each_as}
 use Rattle.lr_host.proofs.Left.{left_both}
 use Rattle.lr_family.proofs.OnlyLooks.{IsLooking, AreLooking}
-use Rattle.lr_plan.specs.declared.planned.Plan.{Plan}
 use Rattle.lr_plan.specs.Counted.{AreCounted, AddsFaults}
-use Rattle.lr_plan.specs.Planned.{decision}
 use Rattle.lr_plan.specs.Steps.{steps_of_plan}
-use Rattle.lr_acts.specs.Making.{all_of_sets}
-use Rattle.lr_looks.specs.Shown.{ShowsSomeLooks}
 use Rattle.lr_seen.proofs.Quiet.{whole_looking, part_looking}
 use Rattle.lr_seen.specs.Built.{AreBuiltRules}
-use Rattle.lr_seen.specs.Free.{reserved_by}
 use Rattle.lr_plan.proofs.Counts.{adds_free, adds_call}
 use Rattle.lr_run.specs.declared.directory.DirStop.{DirStop}
 use Rattle.lr_run.specs.declared.directory.DirStop.TheVariants as dir
 use Rattle.lr_run.specs.Internal.{dir_fault_of, WorksOn}
-use Rattle.lr_run.specs.Runs.{Works}
-use Rattle.lr_run.proofs.Simple.{AreSimple, plan_simple}
+use Rattle.lr_run.specs.Runs.{Looked, plan_in, Worked, Works, not_known, too_big, worked, SomeSeen, of_state, of_looks}
+use Rattle.lr_run.proofs.Shape.{in_parts}
+use Rattle.lr_run.proofs.Stating.{state_read_work, state_writing, writing_work}
 use Rattle.lr_run.proofs.Working.{IsWork, AreWork, IsOn, sets_work, goes_on}
-use Rattle.lr_run.proofs.Works.{no_scripts}
+use Rattle.lr_run.proofs.Works.{steps_simple}
 
 look_work : (e : Entry) → IsLooking e → IsWork e
 look_work (entry.Look x seen) i = tt
@@ -39,15 +36,29 @@ look_work _ i = absurd i
 looks_work : (ts : List Entry) → AreLooking ts → AreWork ts
 looks_work ts a = each_as IsLooking IsWork ts look_work a
 
+seen_work : (state : Path) (rules : List Rule) (ts : List Entry) → (l : Looked state rules ts) → AreWork (l.reads ++ l.looks)
+seen_work state rules ts l = each_append IsWork l.reads l.looks (state_read_work state 65_536 l.sights l.reads l.read) (looks_work l.looks (whole_looking rules l.sets l.of_looks l.looks l.shown))
+
+worked_work : (state : Path) (rules : List Rule) (now : Moment) (force : Bool) (own : List Fault) (ts : List Entry) → AreBuiltRules rules → (w : Worked state rules now force own ts) → AreWork ts
+worked_work state rules now force own ts b w = subst AreWork (sym (in_parts state rules now force own ts w)) (each_append IsWork ((w.looked.reads ++ w.looked.looks) ++ w.acted.entries.entries.front) w.acted.entries.entries.back
+    (each_append IsWork (w.looked.reads ++ w.looked.looks) w.acted.entries.entries.front (seen_work state rules ts w.looked)
+    (sets_work (steps_of_plan (plan_in state rules ts w.looked now force)) w.acted.marks w.acted.entries.of_plan w.acted.entries.entries.front (steps_simple rules w.looked.sets w.looked.remembered.table now force b) w.acted.entries.entries.first))
+    (writing_work state w.acted.entries.entries.back (state_writing state w.looked.remembered.stale w.acted.dirs _ w.acted.entries.of_state w.acted.entries.entries.back w.acted.entries.entries.second)))
+
 works_work : (state : Path) (rules : List Rule) (now : Moment) (force : Bool) (own : List Fault) (ts : List Entry) → AreBuiltRules rules → Works state rules now force own ts → AreWork ts
-works_work state rules now force own ts b w = subst AreWork (sym w.entries.joined) (each_append IsWork w.entries.front w.entries.back (looks_work w.entries.front (whole_looking rules w.sets w.of_looks w.entries.front w.entries.first))
-    (sets_work (steps_of_plan w.plan) w.marks w.of_acts w.entries.back (subst (λ (p : Plan). AreSimple (all_of_sets (steps_of_plan p))) (sym w.planned) (plan_simple (decision [] now force) rules w.sets (no_scripts rules b))) w.entries.second))
+works_work state rules now force own ts b (not_known sights f known is shown) = state_read_work state 65_536 sights ts shown
+works_work state rules now force own ts b (too_big l big is none) = subst AreWork (sym (l.joined ∙ (ap (λ xs. l.reads ++ (l.looks ++ xs)) none ∙ ap (λ xs. l.reads ++ xs) (append-nil l.looks)))) (seen_work state rules ts l)
+works_work state rules now force own ts b (worked w) = worked_work state rules now force own ts b w
+
+some_work : (state : Path) (rules : List Rule) (ts : List Entry) → SomeSeen state rules ts → AreWork ts
+some_work state rules ts (of_state sights shown) = state_read_work state 65_536 sights ts shown
+some_work state rules ts (of_looks sights remembered known t) = subst AreWork (sym t.joined) (each_append IsWork t.front t.back (state_read_work state 65_536 sights t.front t.first) (looks_work t.back (part_looking rules t.back t.second)))
 
 -- the run is on where the work ends
-pub end_there : {T E : Type 0} (r : Result T E) (state : Path) (rules : List Rule) (now : Moment) (force : Bool) (a b : List Fault) (o n : Option Journal) → AreBuiltRules rules → OnOk r (Left (WorksOn state rules now force a b) o n) → OnErr r (Left (ShowsSomeLooks (reserved_by state) rules) o n)
+pub end_there : {T E : Type 0} (r : Result T E) (state : Path) (rules : List Rule) (now : Moment) (force : Bool) (a b : List Fault) (o n : Option Journal) → AreBuiltRules rules → OnOk r (Left (WorksOn state rules now force a b) o n) → OnErr r (Left (SomeSeen state rules) o n)
     → WhereTold o IsOn → WhereTold n IsOn
 end_there (Ok x) state rules now force a b o n built l s on = goes_on l (λ ts h. works_work state rules now force h.0 ts built h.2) on
-end_there (Err x) state rules now force a b o n built l s on = goes_on s (λ ts h. looks_work ts (part_looking rules ts h)) on
+end_there (Err x) state rules now force a b o n built l s on = goes_on s (λ ts h. some_work state rules ts h) on
 
 pub work_ended : {T E : Type 0} (r : Result T E) (P Q : List Entry → Type 0) (o m n : Option Journal) → OnOk r (Left P o m) → Left Q m n → OnOk r (Left (Then P Q) o n)
 work_ended (Ok x) P Q o m n l k = left_both l k

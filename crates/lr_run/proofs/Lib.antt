@@ -3,6 +3,9 @@ pub mod Simple
 pub mod Folded
 mod Working
 mod Works
+mod Carrying
+mod Placing
+pub mod Stating
 pub mod Called
 pub mod Shape
 mod Parts

@@ -16,14 +16,13 @@ use Rattle.lr_host.specs.declared.journal.Journal.{Journal}
 use Rattle.lr_host.specs.Looks.{Sees, IsDir, IsNotDir}
 use Rattle.lr_host.specs.Told.{DidWhere, Left, Then, Are}
 use Rattle.lr_host.proofs.Left.{left_as, left_then}
-use Rattle.lr_looks.specs.Shown.{ShowsSomeLooks}
-use Rattle.lr_seen.specs.Free.{reserved_by}
 use Rattle.lr_run.specs.declared.answer.Ran.{Ran}
 use Rattle.lr_run.specs.declared.answer.RunStop.{RunStop}
 use Rattle.lr_run.specs.declared.answer.RunStop.TheVariants as stop
 use Rattle.lr_run.specs.declared.directory.DirStop.{DirStop}
 use Rattle.lr_run.specs.declared.directory.DirStop.TheVariants as dir
 use Rattle.lr_run.specs.Internal.{NotSeen, dir_fault_of, WorksOn, Begun, Goes, begun, not_begun, Stopped, RunsOn, StopsSo}
+use Rattle.lr_run.specs.Runs.{SomeSeen}
 use Rattle.lr_run.specs.Runs as runs
 
 -- the begin answered so
@@ -41,8 +40,8 @@ begins state now rules P ts us vs a p b = record { between = us; entries = ap (�
 pub goes : (state : Path) (force : Bool) (now : Moment) (rules : Rules) (a b : List Fault) {o m n : Option Journal} → Left (Are (Starts state now rules ∷ [])) o m → Left (Then (WorksOn state rules.sets now force a b) (Are (Ends ∷ []))) m n → Left (Goes state force now rules a b) o n
 goes state force now rules a b l k = left_then l k (λ ts us p q. begun (subst (λ (xs : List Entry). Begun state now rules (WorksOn state rules.sets now force a b) (ts ++ xs)) (sym q.joined) (begins state now rules (WorksOn state rules.sets now force a b) ts q.front q.back p q.first q.second)))
 
-pub lacks : (state : Path) (now : Moment) (rules : Rules) {o m n : Option Journal} → Left (Are (Starts state now rules ∷ [])) o m → Left (Then (ShowsSomeLooks (reserved_by state) rules.sets) (Are (Ends ∷ []))) m n → Left (Stopped state now rules stop.Memory) o n
-lacks state now rules l k = left_then l k (λ ts us p q. subst (λ (xs : List Entry). Begun state now rules (ShowsSomeLooks (reserved_by state) rules.sets) (ts ++ xs)) (sym q.joined) (begins state now rules (ShowsSomeLooks (reserved_by state) rules.sets) ts q.front q.back p q.first q.second))
+pub lacks : (state : Path) (now : Moment) (rules : Rules) {o m n : Option Journal} → Left (Are (Starts state now rules ∷ [])) o m → Left (Then (SomeSeen state rules.sets) (Are (Ends ∷ []))) m n → Left (Stopped state now rules stop.Memory) o n
+lacks state now rules l k = left_then l k (λ ts us p q. subst (λ (xs : List Entry). Begun state now rules (SomeSeen state rules.sets) (ts ++ xs)) (sym q.joined) (begins state now rules (SomeSeen state rules.sets) ts q.front q.back p q.first q.second))
 
 pub goes_not : (state : Path) (force : Bool) (now : Moment) (rules : Rules) (name : Path) (a b : List Fault) {o n : Option Journal} → name ≡ state → b ≡ a ++ fault.Call call.Begin name ∷ [] → Left (λ ts. (ts ≡ []) ⊎ (ts ≡ Starts state now rules ∷ [])) o n → Left (Goes state force now rules a b) o n
 goes_not state force now rules name a b e f l = left_as l (λ ts h. not_begun (f ∙ ap (λ (x : Path). a ++ fault.Call call.Begin x ∷ []) e) h)
@@ -56,7 +55,7 @@ inside_as : (state : Path) (now : Moment) (rules : Rules) (P Q : List Entry → 
 inside_as state now rules P Q ts i q = record { before = i.before; between = i.between; entries = i.entries; directory = i.directory; within = q }
 
 runs_on : (state : Path) (force : Bool) (now : Moment) (rules : Rules) (a b : List Fault) (ts us : List Entry) → Sees (parent_of state) IsDir ts → Goes state force now rules a b us → RunsOn state force now rules a b (ts ++ us)
-runs_on state force now rules a b ts us s (begun g) = (g.within.0, g.within.1, runs.worked (inside_as state now rules (WorksOn state rules.sets now force a b) (runs.Works state rules.sets now force g.within.0) (ts ++ us) (inside state now rules (WorksOn state rules.sets now force a b) ts us s g) g.within.2))
+runs_on state force now rules a b ts us s (begun g) = (g.within.0, g.within.1, runs.began (inside_as state now rules (WorksOn state rules.sets now force a b) (runs.Works state rules.sets now force g.within.0) (ts ++ us) (inside state now rules (WorksOn state rules.sets now force a b) ts us s g) g.within.2))
 runs_on state force now rules a b ts us s (not_begun e m) = (fault.Call call.Begin state ∷ [], e, runs.not_begun refl (record { front = ts; back = us; joined = refl; first = s; second = m }))
 
 pub behind_dir : (state : Path) (force : Bool) (now : Moment) (rules : Rules) (dir : Path) (a b : List Fault) {T E : Type 0} (r : Result T E) {o m : Option Journal} (n : Option Journal) → dir ≡ parent_of state → Left (Sees dir IsDir) o m → OnOk r (Left (Goes state force now rules a b) m n) → OnOk r (Left (RunsOn state force now rules a b) o n)
@@ -65,7 +64,7 @@ behind_dir state force now rules dir a b (Err x) n e l k = tt
 
 stops : (state : Path) (now : Moment) (rules : Rules) (why : RunStop) (ts us : List Entry) → Sees (parent_of state) IsDir ts → Stopped state now rules why us → StopsSo state now rules why (ts ++ us)
 stops state now rules stop.Held ts us s h = subst (Sees (parent_of state) IsDir) (sym (ap (λ xs. ts ++ xs) h ∙ append-nil ts)) s
-stops state now rules stop.Memory ts us s h = runs.in_looks (inside state now rules (ShowsSomeLooks (reserved_by state) rules.sets) ts us s h)
+stops state now rules stop.Memory ts us s h = runs.in_looks (inside state now rules (SomeSeen state rules.sets) ts us s h)
 
 pub stopped_behind : (state : Path) (now : Moment) (rules : Rules) (dir : Path) {T : Type 0} (r : Result T RunStop) {o m : Option Journal} (n : Option Journal) → dir ≡ parent_of state → Left (Sees dir IsDir) o m → IfErr r (λ why. Left (Stopped state now rules why) m n) → IfErr r (λ why. Left (StopsSo state now rules why) o n)
 stopped_behind state now rules dir (Ok x) n e l k = tt

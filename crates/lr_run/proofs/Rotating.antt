@@ -4,6 +4,7 @@ use Rattle.std.specs.Prelude.{codes}
 use Rattle.lr_rules.specs.declared.civil.Moment.{Moment}
 use Rattle.lr_rules.specs.declared.fault.Fault.{Fault}
 use Rattle.lr_rules.specs.declared.path.Path.{Path}
+use Rattle.lr_rules.specs.declared.rule.Rule.{Rule}
 use Rattle.lr_rules.specs.declared.rules.Rules.{Rules}
 use Rattle.lr_rules.specs.Names.{Meet}
 use Rattle.lr_rules.specs.Path.{parent_of}
@@ -16,10 +17,11 @@ use Rattle.lr_host.specs.Told.{Made}
 use Rattle.lr_host.specs.World.{Past}
 use Rattle.lr_host.proofs.Quiet.{quiet_both}
 use Rattle.lr_kept.proofs.Finding.{meet_back}
-use Rattle.lr_plan.specs.declared.planned.Plan.{Plan}
+use Rattle.lr_due.specs.declared.answer.Due.{Due}
+use Rattle.lr_plan.specs.declared.looks.LogLook.{LogLook}
 use Rattle.lr_plan.specs.Counted.{calls_in}
 use Rattle.lr_plan.specs.Done.{PlanDone}
-use Rattle.lr_plan.specs.Planned.{decision, plan_of}
+use Rattle.lr_plan.specs.Planned.{decision}
 use Rattle.lr_rotations.specs.AllTurns.{AllTurned, other_paths}
 use Rattle.lr_rotations.specs.Apart.{HasNames, HaveNames}
 use Rattle.lr_rotations.specs.Rotated.{AreOutside, RotatesAmong}
@@ -35,13 +37,12 @@ use Rattle.lr_seen.specs.Free.{reserved_by, IsFreeOf, AreFreeOf}
 use Rattle.lr_seen.specs.Targets.{groups_of}
 use Rattle.lr_seen.proofs.Apart.{targets_apart, targets_dont_meet}
 use Rattle.lr_seen.proofs.Free.{targets_free}
-use Rattle.lr_seen.proofs.Quiet.{whole_quiet}
 use Rattle.lr_seen.proofs.Ready.{plans_have_logs}
 use Rattle.lr_seen.proofs.Seen.{targets_seen, targets_have_names}
-use Rattle.lr_run.specs.Rotated.{rotated_logs, IsRotatedAmong}
-use Rattle.lr_run.specs.Runs.{Inside, Works}
-use Rattle.lr_run.proofs.Called.{works_met_none}
-use Rattle.lr_run.proofs.Shape.{sees_quiet, ended_whole}
+use Rattle.lr_run.specs.Rotated.{rotated_in, IsRotatedAmong}
+use Rattle.lr_run.specs.Runs.{Inside, Looked, Worked, plan_in}
+use Rattle.lr_run.proofs.Called.{worked_met_none}
+use Rattle.lr_run.proofs.Shape.{sees_quiet, ended_whole, written_whole, seen_later, seen_quiet, in_parts, all_of_state}
 
 -- ---- one of the logs
 
@@ -73,49 +74,61 @@ free_one reserved t [] f i = absurd i
 free_one reserved t (x ∷ xs) f (inl e) = subst (IsFreeOf reserved) e f.0
 free_one reserved t (x ∷ xs) f (inr i) = free_one reserved t xs f.1 i
 
--- the work of a run whose acts met no fault
-abbrev works_whole : (state : Path) (rules : Rules) (now : Moment) (force : Bool) (own : List Fault) (ts : List Entry) → AreBuiltRules rules.sets → (w : Works state rules.sets now force own ts) → w.of_acts ≡ [] → AllTurned state rules (w.entries.front ++ w.entries.back)
-works_whole state rules now force own ts built w none =
-    done_turned state rules w.entries.front (rotated_logs rules.sets now force w.sets) _ w.marks w.entries.back
-    (whole_quiet rules.sets w.sets w.of_looks w.entries.front w.entries.first) (targets_seen rules w.sets w.of_looks w.entries.front (decision [] now force) built w.entries.first)
-    (ready_planned (groups_of (decision [] now force) rules.sets w.sets) _ (plans_have_logs rules.sets w.sets w.of_looks w.entries.front (decision [] now force) built w.entries.first)
-    (targets_apart rules.sets w.sets w.of_looks w.entries.front (decision [] now force) w.entries.first))
-    (subst (λ (fs : List Fault). PlanDone (plan_of rules.sets w.sets [] now force) w.marks fs w.entries.back) none (subst (λ (p : Plan). PlanDone p w.marks w.of_acts w.entries.back) w.planned w.entries.second))
+-- the rotations of a run whose acts met no fault
+abbrev worked_whole : (state : Path) (rules : Rules) (now : Moment) (force : Bool) (own : List Fault) (ts : List Entry) → AreBuiltRules rules.sets → (w : Worked state rules.sets now force own ts) → w.acted.entries.of_plan ≡ []
+    → AllTurned state rules ((w.looked.reads ++ w.looked.looks) ++ w.acted.entries.entries.front)
+worked_whole state rules now force own ts built w none =
+    done_turned state rules (w.looked.reads ++ w.looked.looks) (rotated_in state rules.sets ts w.looked now force) _ w.acted.marks w.acted.entries.entries.front
+    (seen_quiet state rules.sets ts w.looked) (seen_later rules w.looked.reads w.looked.looks (rotated_in state rules.sets ts w.looked now force) (targets_seen rules w.looked.sets w.looked.of_looks w.looked.looks (decision w.looked.remembered.table now force) built w.looked.shown))
+    (ready_planned (groups_of (decision w.looked.remembered.table now force) rules.sets w.looked.sets) _ (plans_have_logs rules.sets w.looked.sets w.looked.of_looks w.looked.looks (decision w.looked.remembered.table now force) built w.looked.shown)
+    (targets_apart rules.sets w.looked.sets w.looked.of_looks w.looked.looks (decision w.looked.remembered.table now force) w.looked.shown))
+    (subst (λ (fs : List Fault). PlanDone (plan_in state rules.sets ts w.looked now force) w.acted.marks fs w.acted.entries.entries.front) none w.acted.entries.entries.first)
 
 pub run_rotated : (state : Path) (force : Bool) (now : Moment) (rules : Rules) (own : List Fault) (p q : Past) (es reads acts : List Entry) → AreBuiltRules rules.sets → Made p es q → IsJournal p → reverse es ≡ reads ++ acts → AreQuiet reads
-    → (i : Inside state now rules (Works state rules.sets now force own) acts) → calls_in own ≡ 0 → (t : Target) → IsOneOf t (rotated_logs rules.sets now force i.within.sets) → IsRotatedAmong state (rotated_logs rules.sets now force i.within.sets) p q t
+    → (i : Inside state now rules (Worked state rules.sets now force own) acts) → calls_in own ≡ 0 → (t : Target) → IsOneOf t (rotated_in state rules.sets i.between i.within.looked now force)
+    → IsRotatedAmong state (rotated_in state rules.sets i.between i.within.looked now force) p q t
 run_rotated state force now rules own p q es reads acts built made journal joined quiet i no_call t one = λ unattached. (
   seen_members (other_paths state t.log targets) t.log t.naming t.count t.stand p q es made journal has.family has.next unattached aside_paths among,
   rotated_whole (other_paths state t.log targets) t.log t.naming t.count t.stand p q es made journal has.family has.next unattached aside_paths among,
 )
   where
-    w : Works state rules.sets now force own i.between
+    w : Worked state rules.sets now force own i.between
     w = i.within
 
+    l : Looked state rules.sets i.between
+    l = w.looked
+
+    decide : Rule → LogLook → Due
+    decide = decision l.remembered.table now force
+
     targets : List Target
-    targets = rotated_logs rules.sets now force i.within.sets
+    targets = rotated_in state rules.sets i.between l now force
 
     named : HaveNames targets
-    named = targets_have_names rules w.sets w.of_looks w.entries.front (decision [] now force) built w.entries.first
+    named = targets_have_names rules l.sets l.of_looks l.looks decide built l.shown
 
     has : HasNames t
     has = names_one t targets named one
 
-    none : w.of_acts ≡ []
-    none = works_met_none state rules.sets now force own i.between built w no_call
-
-    turned : AllTurned state rules ((w.entries.front ++ w.entries.back) ++ entry.Ends ∷ [])
-    turned = ended_whole state rules (w.entries.front ++ w.entries.back) (works_whole state rules now force own i.between built w none)
-
-    whole : reverse es ≡ (reads ++ i.before) ++ (entry.Starts state now rules ∷ ((w.entries.front ++ w.entries.back) ++ entry.Ends ∷ []))
-    whole = joined ∙ (ap (λ xs. reads ++ xs) (i.entries ∙ ap (λ xs. i.before ++ (entry.Starts state now rules ∷ (xs ++ entry.Ends ∷ []))) w.entries.joined) ∙ sym (append_assoc reads i.before _))
-
     free : IsFreeOf (reserved_by state) t
-    free = free_one (reserved_by state) t targets (targets_free rules.sets w.sets w.of_looks w.entries.front (decision [] now force) w.entries.first) one
+    free = free_one (reserved_by state) t targets (targets_free rules.sets l.sets l.of_looks l.looks decide l.shown) one
+
+    none : w.acted.entries.of_plan ≡ []
+    none = worked_met_none state rules.sets now force own i.between built w no_call
+
+    work : List Entry
+    work = ((l.reads ++ l.looks) ++ w.acted.entries.entries.front) ++ w.acted.entries.entries.back
+
+    turned : AllTurned state rules (work ++ entry.Ends ∷ [])
+    turned = ended_whole state rules work (written_whole state rules ((l.reads ++ l.looks) ++ w.acted.entries.entries.front) w.acted.entries.entries.back (worked_whole state rules now force own i.between built w none) (all_of_state state rules.sets now force own i.between w))
+
+    whole : reverse es ≡ (reads ++ i.before) ++ (entry.Starts state now rules ∷ (work ++ entry.Ends ∷ []))
+    whole = joined ∙ (ap (λ xs. reads ++ xs) (i.entries ∙ ap (λ xs. i.before ++ (entry.Starts state now rules ∷ (xs ++ entry.Ends ∷ []))) (in_parts state rules.sets now force own i.between w)) ∙ sym (append_assoc reads i.before _))
 
     aside_paths : AreOutside (other_paths state t.log targets) t.log t.naming
-    aside_paths = outside state t has.family targets named (λ x j. apart_of t x targets named (targets_dont_meet rules.sets w.sets w.of_looks w.entries.front (decision [] now force) w.entries.first) j one) (free state (inl refl)) (free (state ++ codes ".tmp") (inr (inl refl)))
+    aside_paths = outside state t has.family targets named (λ x j. apart_of t x targets named (targets_dont_meet rules.sets l.sets l.of_looks l.looks decide l.shown) j one)
+        (free state (inl refl)) (free (state ++ codes ".tmp") (inr (inl refl)))
 
     among : RotatesAmong (other_paths state t.log targets) t.log t.naming t.count t.stand (reverse es)
     among = subst (RotatesAmong (other_paths state t.log targets) t.log t.naming t.count t.stand) (sym whole)
-        (run_rotates state now rules (reads ++ i.before) ((w.entries.front ++ w.entries.back) ++ entry.Ends ∷ []) turned t (quiet_both reads i.before quiet (sees_quiet (parent_of state) IsDir i.before i.directory)) one)
+        (run_rotates state now rules (reads ++ i.before) (work ++ entry.Ends ∷ []) turned t (quiet_both reads i.before quiet (sees_quiet (parent_of state) IsDir i.before i.directory)) one)

@@ -6,21 +6,29 @@ use Rattle.std.proofs.lemmas.List.Elements.{filter-append}
 use Rattle.lr_rules.specs.declared.civil.Moment.{Moment}
 use Rattle.lr_rules.specs.declared.fault.Fault.{Fault}
 use Rattle.lr_rules.specs.declared.path.Path.{Path}
+use Rattle.lr_rules.specs.declared.rule.Rule.{Rule}
 use Rattle.lr_rules.specs.declared.rules.Rules.{Rules}
 use Rattle.lr_rules.specs.Path.{parent_of}
 use Rattle.lr_host.specs.declared.entry.Entry.{Entry}
 use Rattle.lr_host.specs.declared.entry.Entry.TheVariants as entry
-use Rattle.lr_host.specs.Looks.{Sees, IsDir}
+use Rattle.lr_host.specs.Lists.{IsIn}
+use Rattle.lr_host.specs.Looks.{Sees, IsDir, IsFile}
 use Rattle.lr_host.specs.declared.thing.Seen.{Seen}
 use Rattle.lr_host.specs.Quiet.{AreQuiet}
 use Rattle.lr_host.specs.Steps.{is_change}
 use Rattle.lr_host.specs.Told.{Each}
-use Rattle.lr_plan.specs.declared.planned.Plan.{Plan}
-use Rattle.lr_plan.specs.Done.{PlanDone}
+use Rattle.lr_host.proofs.Each.{each_append, each_as}
+use Rattle.lr_host.proofs.Quiet.{quiet_both}
+use Rattle.lr_chain.specs.Rotation.{places_of}
+use Rattle.lr_due.specs.declared.answer.Due.{Due}
+use Rattle.lr_plan.specs.declared.looks.LogLook.{LogLook}
 use Rattle.lr_plan.specs.Planned.{decision}
 use Rattle.lr_rotations.specs.AllTurns.{AllTurns, AllTurned, not_yet, started, IsWholeRun, IsOfSome, IsOfState, StandsBetween}
-use Rattle.lr_rotations.specs.Target.{rotation_of}
-use Rattle.lr_rotations.specs.Weave.{Weave, FirstWoven}
+use Rattle.lr_reading.proofs.Quiet.{state_quiet}
+use Rattle.lr_rotations.specs.Target.{Target, rotation_of, AreSeen}
+use Rattle.lr_rotations.specs.Weave.{Weave, FirstWoven, Among}
+use Rattle.lr_rotations.proofs.Moments.{shown_in}
+use Rattle.lr_rotations.proofs.Weaving.{weave_on, weave_others}
 use Rattle.lr_weave.proofs.Parting.{done_turns}
 use Rattle.lr_weave.proofs.Planning.{ready_planned}
 use Rattle.lr_seen.specs.Built.{AreBuiltRules}
@@ -28,7 +36,9 @@ use Rattle.lr_seen.specs.Targets.{groups_of, all_targets}
 use Rattle.lr_run.specs.declared.answer.Ran.{Ran}
 use Rattle.lr_run.specs.declared.answer.RunStop.{RunStop}
 use Rattle.lr_run.specs.declared.answer.RunStop.TheVariants as stop
-use Rattle.lr_run.specs.Runs.{Works, Runs, no_directory, not_seen, not_begun, worked, at_first, in_looks, Answers}
+use Rattle.lr_run.specs.Runs as runs
+use Rattle.lr_run.specs.Runs.{Looked, Worked, Works, not_known, too_big, worked, Runs, no_directory, not_seen, not_begun, SomeSeen, of_state, of_looks, at_first, in_looks, Answers}
+use Rattle.lr_run.proofs.Stating.{state_writing, changes_of_state}
 use Rattle.lr_seen.proofs.Apart.{targets_apart}
 use Rattle.lr_seen.proofs.Quiet.{whole_quiet, part_quiet}
 use Rattle.lr_seen.proofs.Ready.{plans_have_logs}
@@ -74,15 +84,99 @@ ended_whole state rules ts t = record {
   whole = λ x h. subst (Weave (StandsBetween state x.log t.turns.targets) (rotation_of x)) (sym (ended_changes t.turns.acts)) (t.whole x h);
 }
 
+-- ---- the state's writing behind the rotations
+
+pub woven_behind : (P : Entry → Type 0) (steps xs ys : List Entry) → Weave P steps xs → Each P ys → Weave P steps (xs ++ ys)
+woven_behind P steps xs ys w a = subst (λ (zs : List Entry). Weave P zs (xs ++ ys)) (append-nil steps) (weave_on P steps xs [] ys w (weave_others P ys a))
+
+pub first_behind : (P : Entry → Type 0) (steps xs ys : List Entry) → FirstWoven P steps xs → Each P ys → FirstWoven P steps (xs ++ ys)
+first_behind P steps xs ys f a = record { made = f.made; first = f.first; woven = woven_behind P f.made xs ys f.woven a }
+
+abbrev pub written : (state : Path) (rules : Rules) (ts us : List Entry) → AllTurns state rules ts → Each (IsOfState state) (filter is_change us) → AllTurns state rules (ts ++ us)
+written state rules ts us t a = record {
+  looks = t.looks;
+  acts = t.acts ++ us;
+  joined = ap (λ es. es ++ us) t.joined ∙ append_assoc t.looks t.acts us;
+  quiet = t.quiet;
+  targets = t.targets;
+  seen = t.seen;
+  all = subst (Each (λ e. IsOfSome t.targets e ⊎ IsOfState state e)) (sym (filter-append is_change t.acts us))
+      (each_append (λ e. IsOfSome t.targets e ⊎ IsOfState state e) (filter is_change t.acts) (filter is_change us) t.all (each_as (IsOfState state) (λ e. IsOfSome t.targets e ⊎ IsOfState state e) (filter is_change us) (λ e h. inr h) a));
+  each = λ x h. subst (FirstWoven (StandsBetween state x.log t.targets) (rotation_of x)) (sym (filter-append is_change t.acts us))
+      (first_behind (StandsBetween state x.log t.targets) (rotation_of x) (filter is_change t.acts) (filter is_change us) (t.each x h) (each_as (IsOfState state) (StandsBetween state x.log t.targets) (filter is_change us) (λ e h. inr h) a));
+}
+
+abbrev pub written_whole : (state : Path) (rules : Rules) (ts us : List Entry) → AllTurned state rules ts → Each (IsOfState state) (filter is_change us) → AllTurned state rules (ts ++ us)
+written_whole state rules ts us t a = record {
+  turns = written state rules ts us t.turns a;
+  whole = λ x h. subst (Weave (StandsBetween state x.log t.turns.targets) (rotation_of x)) (sym (filter-append is_change t.turns.acts us))
+      (woven_behind (StandsBetween state x.log t.turns.targets) (rotation_of x) (filter is_change t.turns.acts) (filter is_change us) (t.whole x h) (each_as (IsOfState state) (StandsBetween state x.log t.turns.targets) (filter is_change us) (λ e h. inr h) a));
+}
+
+-- ---- what was seen behind a reading
+
+in_behind : (e : Entry) (xs ys : List Entry) → IsIn e ys → IsIn e (xs ++ ys)
+in_behind e [] ys i = i
+in_behind e (x ∷ xs) ys i = inr (in_behind e xs ys i)
+
+among_later : (P : List Entry → Type 0) (xs ys : List Entry) → Among P ys → Among P (xs ++ ys)
+among_later P xs ys a = record { before = xs ++ a.before; part = a.part; after = a.after; joined = ap (λ zs. xs ++ zs) a.joined ∙ sym (append_assoc xs a.before (a.part ++ a.after)); is = a.is }
+
+pub seen_later : (rules : Rules) (xs looks : List Entry) (ts : List Target) → AreSeen rules looks ts → AreSeen rules (xs ++ looks) ts
+seen_later rules xs looks [] s = tt
+seen_later rules xs looks (t ∷ ts) s = (
+  record {
+    given = s.0.given;
+    family = s.0.family;
+    log_seen = among_later (Sees t.log IsFile) xs looks s.0.log_seen;
+    seen = shown_in t.naming (places_of t.stand.members) looks (xs ++ looks) (λ e i. in_behind e xs looks i) s.0.seen;
+    low = s.0.low;
+  },
+  seen_later rules xs looks ts s.1,
+)
+
 -- ---- the work
 
-works_turn : (state : Path) (rules : Rules) (now : Moment) (force : Bool) (faults : List Fault) (ts : List Entry) → AreBuiltRules rules.sets → Works state rules.sets now force faults ts → AllTurns state rules ts
-works_turn state rules now force faults ts built w = subst (AllTurns state rules) (sym w.entries.joined)
-    (done_turns state rules w.entries.front (all_targets (decision [] now force) rules.sets w.sets) _ w.marks w.of_acts w.entries.back
-    (whole_quiet rules.sets w.sets w.of_looks w.entries.front w.entries.first) (targets_seen rules w.sets w.of_looks w.entries.front (decision [] now force) built w.entries.first)
-    (ready_planned (groups_of (decision [] now force) rules.sets w.sets) _ (plans_have_logs rules.sets w.sets w.of_looks w.entries.front (decision [] now force) built w.entries.first)
-    (targets_apart rules.sets w.sets w.of_looks w.entries.front (decision [] now force) w.entries.first))
-    (subst (λ (p : Plan). PlanDone p w.marks w.of_acts w.entries.back) w.planned w.entries.second))
+-- what was read and looked at
+pub seen_quiet : (state : Path) (rules : List Rule) (ts : List Entry) → (l : Looked state rules ts) → AreQuiet (l.reads ++ l.looks)
+seen_quiet state rules ts l = quiet_both l.reads l.looks (state_quiet state 65_536 l.sights l.reads l.read) (whole_quiet rules l.sets l.of_looks l.looks l.shown)
+
+-- all of a run that worked, in three parts
+pub in_parts : (state : Path) (rules : List Rule) (now : Moment) (force : Bool) (own : List Fault) (ts : List Entry) → (w : Worked state rules now force own ts) → ts ≡ ((w.looked.reads ++ w.looked.looks) ++ w.acted.entries.entries.front) ++ w.acted.entries.entries.back
+in_parts state rules now force own ts w =
+    let l = w.looked in let e = w.acted.entries.entries in
+    l.joined ∙ (ap (λ xs. l.reads ++ (l.looks ++ xs)) e.joined ∙ (sym (append_assoc l.reads l.looks (e.front ++ e.back)) ∙ sym (append_assoc (l.reads ++ l.looks) e.front e.back)))
+
+-- the changes behind the rotations are the state's
+pub all_of_state : (state : Path) (rules : List Rule) (now : Moment) (force : Bool) (own : List Fault) (ts : List Entry) → (w : Worked state rules now force own ts) → Each (IsOfState state) (filter is_change w.acted.entries.entries.back)
+all_of_state state rules now force own ts w = changes_of_state state w.acted.entries.entries.back (state_writing state w.looked.remembered.stale w.acted.dirs _ w.acted.entries.of_state w.acted.entries.entries.back w.acted.entries.entries.second)
+
+worked_turn : (state : Path) (rules : Rules) (now : Moment) (force : Bool) (own : List Fault) (ts : List Entry) → AreBuiltRules rules.sets → Worked state rules.sets now force own ts → AllTurns state rules ts
+worked_turn state rules now force own ts built w = subst (AllTurns state rules) (sym (in_parts state rules.sets now force own ts w))
+    (written state rules ((l.reads ++ l.looks) ++ w.acted.entries.entries.front) w.acted.entries.entries.back
+    (done_turns state rules (l.reads ++ l.looks) (all_targets decide rules.sets l.sets) _ w.acted.marks w.acted.entries.of_plan w.acted.entries.entries.front
+    (seen_quiet state rules.sets ts l) (seen_later rules l.reads l.looks (all_targets decide rules.sets l.sets) (targets_seen rules l.sets l.of_looks l.looks decide built l.shown))
+    (ready_planned (groups_of decide rules.sets l.sets) _ (plans_have_logs rules.sets l.sets l.of_looks l.looks decide built l.shown) (targets_apart rules.sets l.sets l.of_looks l.looks decide l.shown))
+    w.acted.entries.entries.first)
+    (all_of_state state rules.sets now force own ts w))
+  where
+    l : Looked state rules.sets ts
+    l = w.looked
+
+    decide : Rule → LogLook → Due
+    decide = decision l.remembered.table now force
+
+quiet_turns : (state : Path) (rules : Rules) (ts : List Entry) → AreQuiet ts → AllTurns state rules ts
+quiet_turns state rules ts q = subst (AllTurns state rules) (append-nil ts) (no_turns state rules ts q)
+
+works_turn : (state : Path) (rules : Rules) (now : Moment) (force : Bool) (own : List Fault) (ts : List Entry) → AreBuiltRules rules.sets → Works state rules.sets now force own ts → AllTurns state rules ts
+works_turn state rules now force own ts built (not_known sights f known is shown) = quiet_turns state rules ts (state_quiet state 65_536 sights ts shown)
+works_turn state rules now force own ts built (too_big l big is none) = quiet_turns state rules ts (subst AreQuiet (sym (l.joined ∙ (ap (λ xs. l.reads ++ (l.looks ++ xs)) none ∙ ap (λ xs. l.reads ++ xs) (append-nil l.looks)))) (seen_quiet state rules.sets ts l))
+works_turn state rules now force own ts built (worked w) = worked_turn state rules now force own ts built w
+
+pub some_quiet : (state : Path) (rules : List Rule) (ts : List Entry) → SomeSeen state rules ts → AreQuiet ts
+some_quiet state rules ts (of_state sights shown) = state_quiet state 65_536 sights ts shown
+some_quiet state rules ts (of_looks sights remembered known t) = subst AreQuiet (sym t.joined) (quiet_both t.front t.back (state_quiet state 65_536 sights t.front t.first) (part_quiet rules t.back t.second))
 
 -- ---- the run
 
@@ -94,11 +188,11 @@ runs_shape state force now rules own ts built (not_begun e t) = go t.second
     go : (t.back ≡ []) ⊎ (t.back ≡ entry.Starts state now rules ∷ []) → IsWholeRun ts
     go (inl none) = quiet_run ts (subst AreQuiet (sym (t.joined ∙ (ap (λ es. t.front ++ es) none ∙ append-nil t.front))) (sees_quiet (parent_of state) IsDir t.front t.first))
     go (inr one) = begun_run state now rules t.front [] ts t.first (t.joined ∙ ap (λ es. t.front ++ es) one) (no_turns state rules [] tt)
-runs_shape state force now rules own ts built (worked i) = begun_run state now rules i.before (i.between ++ entry.Ends ∷ []) ts i.directory i.entries (ended state rules i.between (works_turn state rules now force own i.between built i.within))
+runs_shape state force now rules own ts built (runs.began i) = begun_run state now rules i.before (i.between ++ entry.Ends ∷ []) ts i.directory i.entries (ended state rules i.between (works_turn state rules now force own i.between built i.within))
 
 pub whole_run : (state : Path) (force : Bool) (now : Moment) (rules : Rules) (earlier : List Fault) (r : Result Ran RunStop) (ts : List Entry) → AreBuiltRules rules.sets → Answers state force now rules earlier r ts → IsWholeRun ts
 whole_run state force now rules earlier (Ok ran) ts built h = runs_shape state force now rules h.0 ts built h.2
 whole_run state force now rules earlier (Err stop.Held) ts built h = quiet_run ts (sees_quiet (parent_of state) IsDir ts h)
 whole_run state force now rules earlier (Err stop.Memory) ts built (at_first e) = none_run ts e
 whole_run state force now rules earlier (Err stop.Memory) ts built (in_looks i) = begun_run state now rules i.before (i.between ++ entry.Ends ∷ []) ts i.directory i.entries
-    (ended state rules i.between (subst (AllTurns state rules) (append-nil i.between) (no_turns state rules i.between (part_quiet rules.sets i.between i.within))))
+    (ended state rules i.between (quiet_turns state rules i.between (some_quiet state rules.sets i.between i.within)))

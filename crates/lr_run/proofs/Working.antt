@@ -1,4 +1,4 @@
--- Between its begin and its end a run leaves looks, listings and changes alone, so it goes on.
+-- Between its begin and its end a run leaves looks, listings, reads, changes and syncs alone, so it goes on.
 use Rattle.std.proofs.Common.{◌≡◌, ◌⊎◌, inl, inr, true, List, [], ◌∷◌, reverse, Option, refl, sym, ap, ◌∙◌, subst}
 use Rattle.std.proofs.lemmas.List.{reverse-reverse}
 use Rattle.lr_rules.specs.declared.path.Path.{Path}
@@ -28,6 +28,7 @@ IsWork (entry.List dir listed) = Unit {0}
 IsWork (entry.Reads x at piece) = Unit {0}
 IsWork (entry.Renames from to) = Unit {0}
 IsWork (entry.Makes x mode) = Unit {0}
+IsWork (entry.Appends x piece) = Unit {0}
 IsWork (entry.MakesDir x mode) = Unit {0}
 IsWork (entry.Truncates x) = Unit {0}
 IsWork (entry.Unlinks x) = Unit {0}
@@ -91,6 +92,7 @@ works_on p (entry.List dir listed) i r = r
 works_on p (entry.Reads x at piece) i r = r
 works_on p (entry.Renames from to) i r = r
 works_on p (entry.Makes x mode) i r = r
+works_on p (entry.Appends x piece) i r = r
 works_on p (entry.MakesDir x mode) i r = r
 works_on p (entry.Truncates x) i r = r
 works_on p (entry.Unlinks x) i r = r

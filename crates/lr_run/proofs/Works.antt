@@ -1,22 +1,27 @@
 -- The work of a run, put together of its parts.
-use Rattle.std.proofs.Common.{◌≡◌, ◌≤◌, ◌+◌, ℕ, Bool, true, false, cond, List, [], ◌∷◌, ◌++◌, length, take, map, reverse, Option, Some, None, Result, Ok, Err, OnErr, refl, sym, ap, ◌∙◌, subst, arith, append_assoc, rules}
-use Rattle.std.specs.Prelude.{OnOk, IfOk, All, vec_len}
-use Rattle.std.specs.Vec.{vec_capacity}
+use Rattle.std.proofs.Common.{◌≡◌, ◌≤◌, ◌<◌, ℕ, Bool, true, false, cond, List, [], ◌∷◌, ◌++◌, length, take, map, reverse, Option, Some, None, Result, Ok, Err, OnErr, refl, sym, ap, ◌∙◌, subst, arith, append_assoc, rules}
+use Rattle.std.specs.Prelude.{OnOk, All}
+use Rattle.std.specs.Result.{IsErr}
+use Rattle.std.proofs.lemmas.Result.{IfOk-from_err}
 use Rattle.std.proofs.lemmas.List.Elements.{All-cons, All-head, All-tail}
 use Rattle.std.proofs.Math.Seq.{take-length}
+use Rattle.lr_rules.specs.declared.path.Path.{Path}
+use Rattle.lr_rules.specs.declared.civil.Civil.{Civil}
 use Rattle.lr_rules.specs.declared.civil.Moment.{Moment}
+use Rattle.lr_rules.specs.declared.fault.CallKind.{CallKind}
 use Rattle.lr_rules.specs.declared.fault.Fault.{Fault}
 use Rattle.lr_rules.specs.declared.fault.Fault.TheVariants as fault
+use Rattle.lr_rules.specs.declared.fault.StateKind.TheVariants as kind
 use Rattle.lr_rules.specs.declared.memory.Memory.{Memory}
-use Rattle.lr_rules.specs.declared.path.Path.{Path}
 use Rattle.lr_rules.specs.declared.rule.Rule.{Rule}
 use Rattle.lr_rules.specs.declared.rules.Rules.{Rules}
 use Rattle.lr_host.specs.declared.entry.Entry.{Entry}
 use Rattle.lr_host.specs.declared.journal.Journal.{Journal}
-use Rattle.lr_host.specs.Told.{Counts, NoneFell, Left, not_told, is_told}
+use Rattle.lr_host.specs.Told.{Counts, NoneFell, Rose, Left, Then, not_told, is_told}
 use Rattle.lr_host.specs.Steps.{CanAll}
 use Rattle.lr_host.proofs.Left.{left_as, left_first, left_then}
 use Rattle.lr_state.specs.Table.{Entry as Row}
+use Rattle.lr_state.specs.Written.{text_of}
 use Rattle.lr_due.specs.declared.answer.Due.{Due}
 use Rattle.lr_due.specs.declared.answer.Due.TheVariants as due
 use Rattle.lr_chain.specs.Ready.{highest_path}
@@ -27,34 +32,43 @@ use Rattle.lr_plan.specs.declared.mark.Mark.{Mark}
 use Rattle.lr_plan.specs.declared.planned.Plan.{Plan}
 use Rattle.lr_plan.specs.declared.step.SetSteps.{SetSteps}
 use Rattle.lr_plan.specs.declared.step.Step.{Step}
-use Rattle.lr_plan.specs.Counted.{AreCounted, AddsFaults}
-use Rattle.lr_plan.specs.Course.{Part}
-use Rattle.lr_plan.specs.Done.{SetsDone}
+use Rattle.lr_plan.specs.Counted.{AddsFaults}
+use Rattle.lr_plan.specs.Course.{Course}
+use Rattle.lr_plan.specs.Done.{SetsDone, rotated_logs}
 use Rattle.lr_plan.specs.Internal.Asking.{asks, CanMake, CanEach, CanSet, CanSets}
-use Rattle.lr_plan.specs.Internal.Cut.{SetsCut}
 use Rattle.lr_plan.specs.Planned.{decision, hindrances, is_too_high, where_due, log_faults, all_plans, all_faults, plan_of, CanPlanAll}
-use Rattle.lr_plan.specs.Steps.{steps_of_set, steps_of_plan}
-use Rattle.lr_plan.proofs.Counts.{AreFree, free_none, free_on, adds_on, adds_free}
+use Rattle.lr_plan.specs.Steps.{steps_of_set, steps_of_plan, state_steps}
+use Rattle.lr_plan.proofs.Counts.{AreFree, free_none, free_on, adds_on, adds_free, adds_call}
 use Rattle.lr_acts.specs.declared.progress.Progress.{Progress}
-use Rattle.lr_acts.specs.Adding.{Adds, Fills}
-use Rattle.lr_acts.specs.Making.{Ends, HasProgram, all_of_sets}
+use Rattle.lr_acts.specs.Making.{HasProgram, all_of_sets}
 use Rattle.lr_looks.specs.Asked.{CanAsk, CanAskAll}
 use Rattle.lr_looks.specs.Families.{ShowFamilies, LooksAtFamilies, LookedAtSomeFamilies}
-use Rattle.lr_looks.specs.Found.{FoundLog}
+use Rattle.lr_looks.specs.Found.{FoundLog, paths_of}
 use Rattle.lr_looks.specs.Internal.{AreReady}
 use Rattle.lr_looks.specs.Shown.{ShowsLooks, LooksAtAll, ShowsSomeLooks, at_words, at_families}
 use Rattle.lr_looks.proofs.Behind.{as_many_sights}
+use Rattle.lr_reading.specs.declared.remembered.Remembered.{Remembered}
+use Rattle.lr_reading.specs.Answers.{IsKnown, ReadsState, IsStateFault}
+use Rattle.lr_reading.specs.Pieces.{Broken}
+use Rattle.lr_reading.specs.Sights.{Failed, StateSights, ShowsState}
+use Rattle.lr_record.specs.After.{after, stamped}
+use Rattle.lr_record.specs.Measured.{measured_text}
+use Rattle.lr_record.proofs.After.{stamps}
 use Rattle.lr_weave.proofs.Seen.{seen_fit}
 use Rattle.lr_weave.proofs.Sets.{can_sets}
+use Rattle.lr_writing.specs.Target.{Target}
 use Rattle.lr_seen.specs.Built.{IsBuiltRule, AreBuiltRules}
 use Rattle.lr_seen.specs.Free.{reserved_by}
 use Rattle.lr_seen.specs.Targets.{groups_of, all_targets}
-use Rattle.lr_run.specs.Internal.{Plans, WorksOn}
-use Rattle.lr_run.proofs.Simple.{HaveNoScripts, AreSimple, no_program, plan_simple}
 use Rattle.lr_seen.proofs.Apart.{targets_dont_meet}
 use Rattle.lr_seen.proofs.Quiet.{whole_quiet}
 use Rattle.lr_seen.proofs.Ready.{plans_have_logs, plans_read_none}
 use Rattle.lr_seen.proofs.Seen.{targets_seen, targets_have_names}
+use Rattle.lr_run.specs.declared.ready.Ready.{Ready}
+use Rattle.lr_run.specs.Internal.{WritesTo, ReadyFor, MayBeReady, ActsAndWrites, CarriesOn, Carries, SomeLooked, LookedDone, WorkDone}
+use Rattle.lr_run.specs.Runs as runs
+use Rattle.lr_run.specs.Runs.{logs_in, Looked, Worked, worked, too_big, not_known, SomeSeen}
+use Rattle.lr_run.proofs.Simple.{HaveNoScripts, AreSimple, no_program, plan_simple}
 
 -- ---- rules that are built can be planned for
 
@@ -105,10 +119,6 @@ plan_free decide (r ∷ rs) (s ∷ ss) = free_on (log_faults r (decide r) s.logs
 none_fell : (k : Counts) → NoneFell k k
 none_fell k = (omega arith, omega arith, omega arith)
 
-pub works_counted : (rules : List Rule) (sets : List SetLooks) (now : Moment) (force : Bool) (plan : Plan) (a b c d acts : List Fault) (k l m : Counts) → plan ≡ plan_of rules sets [] now force → AddsFaults a b k l → c ≡ b ++ plan.faults → d ≡ c ++ acts → AreCounted acts l m → AddsFaults a d k m
-works_counted rules sets now force plan a b c d acts k l m planned x e f y =
-    adds_on a c d k l m (adds_on a b c k l l x (adds_free b c plan.faults l l e (subst (λ (p : Plan). AreFree p.faults) (sym planned) (plan_free (decision [] now force) rules sets)) (none_fell l))) (record { added = acts; after_is = f; are_counted = y })
-
 -- ---- whole looks are first parts too
 
 pub some_of_whole : (reserved : List Path) (rules : List Rule) (sets : List SetLooks) (faults : List Fault) (ts : List Entry) → ShowsLooks reserved rules sets faults ts → ShowsSomeLooks reserved rules ts
@@ -122,29 +132,30 @@ some_of_whole reserved rules sets faults ts h = at_families h.found h.of_words h
       shown = subst (λ (fs : List FoundLog). ShowFamilies [] fs l.listings l.families.sights us) (sym (ap (λ n. take n h.kept) many ∙ take-length h.kept)) l.families.shown;
     }
 
-pub some_at_all : {T E : Type 0} (r : Result T E) (reserved other : List Path) (rules : List Rule) (looks : Looks) (a b : List Fault) (o n : Option Journal) → reserved ≡ other → Left (LooksAtAll reserved rules looks a b) o n → OnErr r (Left (ShowsSomeLooks other rules) o n)
-some_at_all (Ok x) reserved other rules looks a b o n e l = tt
-some_at_all (Err x) reserved other rules looks a b o n e l = subst (λ (ps : List Path). Left (ShowsSomeLooks ps rules) o n) e (left_as l (λ ts h. some_of_whole reserved rules looks.sets h.own ts h.shown))
-
--- by paths that are the same
-pub some_as : {T E : Type 0} (r : Result T E) (reserved other : List Path) (xs : List Rule) (o n : Option Journal) → reserved ≡ other → Left (ShowsSomeLooks reserved xs) o n → OnErr r (Left (ShowsSomeLooks other xs) o n)
-some_as (Ok x) reserved other xs o n e l = tt
-some_as (Err x) reserved other xs o n e l = subst (λ (ps : List Path). Left (ShowsSomeLooks ps xs) o n) e l
-
 -- nothing was looked at
-pub none_looked : {T E : Type 0} (r : Result T E) (reserved : List Path) (rules : List Rule) (o : Option Journal) → OnErr r (Left (ShowsSomeLooks reserved rules) o o)
-none_looked (Ok x) reserved rules o = tt
-none_looked (Err x) reserved rules o = left_first (ShowsSomeLooks reserved rules) o (at_words (record { sights = []; few = omega arith; looks = refl }))
+pub none_looked : {T E : Type 0} (r : Result T E) (state : Path) (rules : List Rule) (o : Option Journal) → OnErr r (Left (SomeLooked state rules) o o)
+none_looked (Ok x) state rules o = tt
+none_looked (Err x) state rules o = left_first (SomeLooked state rules) o (at_words (record { sights = []; few = omega arith; looks = refl }))
+
+-- not all that were reserved were known
+pub some_reserved : {T E : Type 0} (r : Result T E) (state : Path) (reserved : List Path) (rules : List Rule) {o n : Option Journal} → reserved ≡ reserved_by state → Left (ShowsSomeLooks reserved rules) o n → OnErr r (Left (SomeLooked state rules) o n)
+some_reserved (Ok x) state reserved rules e l = tt
+some_reserved (Err x) state reserved rules {o = o} {n = n} e l = subst (λ (ps : List Path). Left (ShowsSomeLooks ps rules) o n) e l
+
+-- nothing was told behind the looks
+pub some_at_looks : {T E : Type 0} (r : Result T E) (state : Path) (rules : List Rule) (looks : Looks) (a b : List Fault) {o m : Option Journal} (n : Option Journal) → Left (LooksAtAll (reserved_by state) rules looks a b) o m → OnErr r (n ≡ m) → OnErr r (Left (SomeLooked state rules) o n)
+some_at_looks (Ok x) state rules looks a b n l e = tt
+some_at_looks (Err x) state rules looks a b {o = o} n l e = subst (λ (k : Option Journal). Left (SomeLooked state rules) o k) (sym e) (left_as l (λ ts h. some_of_whole (reserved_by state) rules looks.sets h.own ts h.shown))
 
 -- ---- the steps fit
 
 can_none : (es : List Entry) → CanAll None es
 can_none es = record { can = tt }
 
-make_at : (steps : List Step) {P : List Entry → Type 0} {now : Option Journal} → CanMake None steps → Left P None now → CanMake now steps
+pub make_at : (steps : List Step) {P : List Entry → Type 0} {now : Option Journal} → CanMake None steps → Left P None now → CanMake now steps
 make_at steps c not_told = c
 
-make_none : (steps : List Step) → CanMake None steps
+pub make_none : (steps : List Step) → CanMake None steps
 make_none [] = tt
 make_none (s ∷ ss) = (can_none (asks s), λ now l. make_at ss (make_none ss) l)
 
@@ -176,55 +187,156 @@ fits_behind reserved rules looks a b decide built (is_told {j = j} {k = k} {es =
     (is_told m (whole_quiet rules.sets looks.sets h.own (reverse es) h.shown, targets_seen rules looks.sets h.own (reverse es) decide built h.shown)))
     (targets_dont_meet rules.sets looks.sets h.own (reverse es) decide h.shown)
 
+-- ---- what is ready can be done
+
+pub steps_simple : (rules : List Rule) (sets : List SetLooks) (table : List Row) (now : Moment) (force : Bool) → AreBuiltRules rules → AreSimple (all_of_sets (steps_of_plan (plan_of rules sets table now force)))
+steps_simple rules sets table now force built = plan_simple (decision table now force) rules sets (no_scripts rules built)
+
+-- the steps that are ready are those of the plan
+abbrev pub PlanFor : Rules → Looks → Remembered → Moment → Bool → Plan
+PlanFor rules looks remembered now force = plan_of rules.sets looks.sets remembered.table now force
+
+pub ready_simple : (rules : Rules) (looks : Looks) (state : Path) (remembered : Remembered) (now : Moment) (force : Bool) (ready : Ready) (x y : Progress) → AreBuiltRules rules.sets → ReadyFor state now remembered looks.kept (PlanFor rules looks remembered now force) ready x y → AreSimple (all_of_sets ready.steps)
+ready_simple rules looks state remembered now force ready x y built r = subst (λ (ss : List SetSteps). AreSimple (all_of_sets ss)) (sym r.is.steps) (steps_simple rules.sets looks.sets remembered.table now force built)
+
+pub ready_fit : (reserved : List Path) (rules : Rules) (looks : Looks) (state : Path) (remembered : Remembered) (now : Moment) (force : Bool) (ready : Ready) (x y : Progress) (a b : List Fault) {o n : Option Journal} → AreBuiltRules rules.sets
+    → ReadyFor state now remembered looks.kept (PlanFor rules looks remembered now force) ready x y → Left (LooksAtAll reserved rules.sets looks a b) o n → CanSets n ready.steps
+ready_fit reserved rules looks state remembered now force ready x y a b {n = n} built r l = subst (CanSets n) (sym r.is.steps) (fits_behind reserved rules looks a b (decision remembered.table now force) built l)
+
+-- the text was small enough, and all was taken
+pub ready_of : (state : Path) (now : Moment) (remembered : Remembered) (kept logs : List Path) (plan for : Plan) (o : Option Ready) (ready : Ready) (x y : Progress) → kept ≡ logs → plan ≡ for → o ≡ Some ready → MayBeReady state now remembered kept plan o x y
+    → ReadyFor state now remembered logs for ready x y
+ready_of state now remembered kept logs plan for o ready x y k e is h = subst (λ (ls : List Path). ReadyFor state now remembered ls for ready x y) k (subst (λ (p : Plan). ReadyFor state now remembered kept p ready x y) e (subst (λ (m : Option Ready). MayBeReady state now remembered kept plan m x y) is h))
+
+-- it wasn't
+pub not_ready : (state : Path) (now : Moment) (remembered : Remembered) (kept logs : List Path) (plan for : Plan) (o : Option Ready) (x y : Progress) → kept ≡ logs → plan ≡ for → o ≡ None → MayBeReady state now remembered kept plan o x y
+    → (67_108_864 < length (measured_text (logs_in for) now.civil (after remembered.table [] logs now.civil))) × (y ≡ x)
+not_ready state now remembered kept logs plan for o x y k e is h = subst (λ (ls : List Path). MayBeReady state now remembered ls for None x y) k (subst (λ (p : Plan). MayBeReady state now remembered kept p None x y) e (subst (λ (m : Option Ready). MayBeReady state now remembered kept plan m x y) is h))
+
 -- ---- the work
 
-pub works : (state : Path) (rules : List Rule) (looks : Looks) (now : Moment) (force : Bool) (plan : Plan) (steps : List SetSteps) (a b c d acts : List Fault) (marks : List Mark) {o m n : Option Journal} → plan ≡ plan_of rules looks.sets [] now force → steps ≡ steps_of_plan plan
-    → c ≡ b ++ plan.faults → d ≡ c ++ acts → Left (LooksAtAll (reserved_by state) rules looks a b) o m → Left (SetsDone steps marks acts) m n → Left (WorksOn state rules now force a d) o n
-works state rules looks now force plan steps a b c d acts marks planned is e f l k = left_then l k (λ ts us h g. (
-  h.own ++ (plan.faults ++ acts),
-  all h.own h.faults_are,
-  record {
-    sets = looks.sets;
-    of_looks = h.own;
-    plan = plan;
-    planned = planned;
+state_text_is : (now : Civil) (rotated kept : List Path) (table was : List Row) → was ≡ after table [] kept now → text_of (map (stamped rotated now) was) ≡ text_of (after table rotated kept now)
+state_text_is now rotated kept table was e = ap (λ (t : List Row). text_of (map (stamped rotated now) t)) e ∙ ap text_of (sym (stamps table rotated kept now))
+
+writes_state : (state : Path) (stale : Bool) (plan : Plan) (written : Target) (text new : List ℕ) (fs : List Fault) (ts : List Entry) → (w : WritesTo state stale plan written) → text ≡ new → Course (state_steps written.state written.stale written.dirs text) [] fs ts → Course (state_steps state stale w.0 new) [] fs ts
+writes_state state stale plan written text new fs ts w e c =
+    subst (λ (t : List ℕ). Course (state_steps state stale w.0 t) [] fs ts) e (subst (λ (x : Target). Course (state_steps x.state x.stale x.dirs text) [] fs ts) w.2 c)
+
+acted : (state : Path) (rules : Rules) (looks : Looks) (remembered : Remembered) (now : Moment) (force : Bool) (ready : Ready) (x y : Progress) (sights : StateSights) (reads ls us : List Entry) (of_looks : List Fault) (marks : List Mark) (of_plan of_state : List Fault)
+    → ReadyFor state now remembered looks.kept (PlanFor rules looks remembered now force) ready x y → IsKnown state sights (Ok remembered) → ShowsState state 65_536 sights reads
+    → (shown : ShowsLooks (reserved_by state) rules.sets looks.sets of_looks ls) → looks.kept ≡ paths_of shown.kept
+    → Then (SetsDone ready.steps marks of_plan) (Course (state_steps ready.writing.state ready.writing.stale ready.writing.dirs (text_of (map (stamped (rotated_logs marks) now.civil) ready.table))) [] of_state) us
+    → Worked state rules.sets now force (of_looks ++ ((PlanFor rules looks remembered now force).faults ++ (of_plan ++ of_state))) (reads ++ (ls ++ us))
+acted state rules looks remembered now force ready x y sights reads ls us of_looks marks of_plan of_state r known read shown kept t = record {
+  looked = record { sights = sights; remembered = remembered; known = known; sets = looks.sets; of_looks = of_looks; reads = reads; looks = ls; acts = us; joined = refl; read = read; shown = shown };
+  acted = record {
+    small = subst (λ (ks : List Path). length (measured_text (logs_in (PlanFor rules looks remembered now force)) now.civil (after remembered.table [] ks now.civil)) ≤ 67_108_864) kept r.small;
+    dirs = r.is.writes.0;
+    dirs_are = r.is.writes.1;
     marks = marks;
-    of_acts = acts;
+    of_acts = of_plan ++ of_state;
     faults_are = refl;
-    entries = record { front = ts; back = us; joined = refl; first = h.shown; second = subst (λ (ss : List SetSteps). SetsDone ss marks acts us) is g };
-  },
-))
-  where
-    all : (own : List Fault) → b ≡ a ++ own → d ≡ a ++ (own ++ (plan.faults ++ acts))
-    all own q = f ∙ (ap (λ fs. fs ++ acts) e ∙ (append_assoc b plan.faults acts ∙ (ap (λ fs. fs ++ (plan.faults ++ acts)) q ∙ append_assoc a own (plan.faults ++ acts))))
+    entries = record {
+      of_plan = of_plan;
+      of_state = of_state;
+      faults_are = refl;
+      entries = record {
+        front = t.front;
+        back = t.back;
+        joined = t.joined;
+        first = subst (λ (ss : List SetSteps). SetsDone ss marks of_plan t.front) r.is.steps t.first;
+        second = writes_state state remembered.stale (PlanFor rules looks remembered now force) ready.writing (text_of (map (stamped (rotated_logs marks) now.civil) ready.table)) (text_of (after remembered.table (rotated_logs marks) (paths_of shown.kept) now.civil)) of_state t.back
+            r.is.writes
+            (state_text_is now.civil (rotated_logs marks) looks.kept remembered.table ready.table r.is.table_is ∙ ap (λ (ks : List Path). text_of (after remembered.table (rotated_logs marks) ks now.civil)) kept)
+            t.second;
+      };
+    };
+  };
+}
 
-pub plans_told : {E : Type 0} (r : Result Plan E) (state : Path) (rules : Rules) (looks : Looks) (now : Moment) (force : Bool) (table : List Row) (a b : List Fault) {o n : Option Journal} → table ≡ [] → IfOk r (λ plan. plan ≡ plan_of rules.sets looks.sets table now force)
-    → Left (LooksAtAll (reserved_by state) rules.sets looks a b) o n → IfOk r (λ plan. Plans state rules now force plan a b o n)
-plans_told (Ok plan) state rules looks now force table a b e is l = record { looks = looks; planned = is ∙ ap (λ (t : List Row). plan_of rules.sets looks.sets t now force) e; entries = l }
-plans_told (Err x) state rules looks now force table a b e is l = tt
+pub carried_out : {T : Type 0} (r : Result T Memory) (state : Path) (rules : Rules) (looks : Looks) (remembered : Remembered) (now : Moment) (force : Bool) (ready : Ready) (x y z : Progress) (m n : Option Journal) (k l : Counts)
+    → ReadyFor state now remembered looks.kept (PlanFor rules looks remembered now force) ready x y → OnOk r (ActsAndWrites ready now.civil y z m n k l)
+    → OnOk r (Carries rules looks state remembered now force x.faults.items z.faults.items m n)
+carried_out (Ok u) state rules looks remembered now force ready x y z m n k l r h = left_as h.entries (λ us t. record {
+  own = (PlanFor rules looks remembered now force).faults ++ (h.of_plan ++ h.of_state);
+  faults_are = h.faults_are ∙ (ap (λ (fs : List Fault). fs ++ (h.of_plan ++ h.of_state)) r.is.faults ∙ append_assoc x.faults.items (PlanFor rules looks remembered now force).faults (h.of_plan ++ h.of_state));
+  works = λ sights reads ls own known read shown kept. worked (acted state rules looks remembered now force ready x y sights reads ls us own h.marks h.of_plan h.of_state r known read shown kept t);
+})
+carried_out (Err u) state rules looks remembered now force ready x y z m n k l r h = tt
 
--- ---- behind the looks
+pub too_big_told : {T E : Type 0} (r : Result T E) (state : Path) (rules : Rules) (looks : Looks) (remembered : Remembered) (now : Moment) (force : Bool) (x y : Progress) (b : List Fault) (o : Option Journal)
+    → (67_108_864 < length (measured_text (logs_in (PlanFor rules looks remembered now force)) now.civil (after remembered.table [] looks.kept now.civil))) × (y ≡ x) → OnOk r (b ≡ y.faults.items ++ fault.State 0 kind.TooBig ∷ [])
+    → OnOk r (Carries rules looks state remembered now force x.faults.items b o o)
+too_big_told (Ok u) state rules looks remembered now force x y b o big e = left_first (CarriesOn rules looks state remembered now force x.faults.items b) o (record {
+  own = fault.State 0 kind.TooBig ∷ [];
+  faults_are = e ∙ ap (λ (p : Progress). p.faults.items ++ fault.State 0 kind.TooBig ∷ []) big.1;
+  works = λ sights reads ls own known read shown kept. too_big (record { sights = sights; remembered = remembered; known = known; sets = looks.sets; of_looks = own; reads = reads; looks = ls; acts = []; joined = refl; read = read; shown = shown })
+      (subst (λ (ks : List Path). 67_108_864 < length (measured_text (logs_in (PlanFor rules looks remembered now force)) now.civil (after remembered.table [] ks now.civil))) kept big.0) refl refl;
+})
+too_big_told (Err u) state rules looks remembered now force x y b o big e = tt
 
-pub steps_simple : (rules : List Rule) (sets : List SetLooks) (now : Moment) (force : Bool) (plan : Plan) (steps : List SetSteps) → AreBuiltRules rules → plan ≡ plan_of rules sets [] now force → steps ≡ steps_of_plan plan → AreSimple (all_of_sets steps)
-steps_simple rules sets now force plan steps built planned is = subst (λ (ss : List SetSteps). AreSimple (all_of_sets ss)) (sym (is ∙ ap (λ (p : Plan). steps_of_plan p) planned)) (plan_simple (decision [] now force) rules sets (no_scripts rules built))
-
-pub steps_fit : (state : Path) (rules : Rules) (now : Moment) (force : Bool) (plan : Plan) (steps : List SetSteps) (a b : List Fault) {o n : Option Journal} → AreBuiltRules rules.sets → steps ≡ steps_of_plan plan → (p : Plans state rules now force plan a b o n) → CanSets n steps
-steps_fit state rules now force plan steps a b {n = n} built is p = subst (CanSets n) (sym (is ∙ ap (λ (q : Plan). steps_of_plan q) p.planned)) (fits_behind (reserved_by state) rules p.looks a b (decision [] now force) built p.entries)
-
-pub work_told : {T : Type 0} (r : Result T Memory) (state : Path) (rules : Rules) (now : Moment) (force : Bool) (plan : Plan) (steps : List SetSteps) (a b : List Fault) (x y : Progress) {o m n : Option Journal} {k l : Counts} → steps ≡ steps_of_plan plan → Plans state rules now force plan a b o m → x.faults.items ≡ b ++ plan.faults
-    → Adds (Ends (SetsDone steps) (SetsCut steps) r) (all_of_sets steps) x y m n k l → OnOk r (Left (WorksOn state rules.sets now force a y.faults.items) o n)
-work_told (Ok u) state rules now force plan steps a b x y is p e h = works state rules.sets p.looks now force plan steps a b x.faults.items y.faults.items h.faults h.marks p.planned is e h.faults_are p.entries h.entries
-work_told (Err u) state rules now force plan steps a b x y is p e h = tt
+pub looked_done : {T E : Type 0} (r : Result T E) (state : Path) (rules : Rules) (looks : Looks) (remembered : Remembered) (now : Moment) (force : Bool) (a b c : List Fault) {o m : Option Journal} (n : Option Journal) → Left (LooksAtAll (reserved_by state) rules.sets looks a b) o m
+    → OnOk r (Carries rules looks state remembered now force b c m n) → OnOk r (LookedDone state rules.sets now force remembered a c o n)
+looked_done (Ok u) state rules looks remembered now force a b c n l h = left_then l h (λ ts us g q. record {
+  own = g.own ++ q.own;
+  faults_are = q.faults_are ∙ (ap (λ (fs : List Fault). fs ++ q.own) g.faults_are ∙ append_assoc a g.own q.own);
+  works = λ sights reads known shown. q.works sights reads ts g.own known shown g.shown g.kept_are;
+})
+looked_done (Err u) state rules looks remembered now force a b c n l h = tt
 
 pub work_lacks : {T : Type 0} (r : Result T Memory) (steps : List Step) (X : Type 0) → AreSimple steps → OnErr r (HasProgram steps) → OnErr r X
 work_lacks (Ok u) steps X s h = tt
 work_lacks (Err u) steps X s h = absurd (no_program steps s h)
 
-pub work_counted : {T : Type 0} (r : Result T Memory) {P : Part} (state : Path) (rules : Rules) (now : Moment) (force : Bool) (plan : Plan) (steps : List Step) (a b : List Fault) (x y : Progress) {o m n : Option Journal} (k l j : Counts) → Plans state rules now force plan a b o m → AddsFaults a b k l → x.faults.items ≡ b ++ plan.faults
-    → Adds P steps x y m n l j → OnOk r (AddsFaults a y.faults.items k j)
-work_counted (Ok u) state rules now force plan steps a b x y k l j p c e h = works_counted rules.sets p.looks.sets now force plan a b x.faults.items y.faults.items h.faults k l j p.planned c e h.faults_are h.are_counted
-work_counted (Err u) state rules now force plan steps a b x y k l j p c e h = tt
+pub carried_counted : {T : Type 0} (r : Result T Memory) (state : Path) (rules : Rules) (looks : Looks) (remembered : Remembered) (now : Moment) (force : Bool) (ready : Ready) (x y z : Progress) (m n : Option Journal) (k l : Counts)
+    → ReadyFor state now remembered looks.kept (PlanFor rules looks remembered now force) ready x y → OnOk r (ActsAndWrites ready now.civil y z m n k l) → OnOk r (AddsFaults x.faults.items z.faults.items k l)
+carried_counted (Ok u) state rules looks remembered now force ready x y z m n k l r h =
+    adds_on x.faults.items y.faults.items z.faults.items k k l (adds_free x.faults.items y.faults.items (PlanFor rules looks remembered now force).faults k k r.is.faults (plan_free (decision remembered.table now force) rules.sets looks.sets) (none_fell k)) (record { added = h.of_plan ++ h.of_state; after_is = h.faults_are; are_counted = h.are_counted })
+carried_counted (Err u) state rules looks remembered now force ready x y z m n k l r h = tt
 
-pub room_left : {T : Type 0} (r : Result T Memory) (n : ℕ) (x y : Progress) → vec_len x.faults + n + 2 ≤ vec_capacity x.faults → Fills n x y → OnOk r (vec_len y.faults + 1 ≤ vec_capacity y.faults)
-room_left (Ok u) n x y le f = let a = f.faults in let b = f.faults_room in omega (arith, le, a, b)
-room_left (Err u) n x y le f = tt
+pub too_big_counted : {T E : Type 0} (r : Result T E) (a b : List Fault) (k : Counts) → OnOk r (b ≡ a ++ fault.State 0 kind.TooBig ∷ []) → OnOk r (AddsFaults a b k k)
+too_big_counted (Ok u) a b k e = adds_free a b (fault.State 0 kind.TooBig ∷ []) k k e (record { calls = refl; scripts = refl; no_out = ((λ h. h), tt) }) (none_fell k)
+too_big_counted (Err u) a b k e = tt
+
+pub looked_counted : {T E : Type 0} (r : Result T E) (a b c : List Fault) (k l m : Counts) → AddsFaults a b k l → OnOk r (AddsFaults b c l m) → OnOk r (AddsFaults a c k m)
+looked_counted (Ok u) a b c k l m h g = adds_on a b c k l m h g
+looked_counted (Err u) a b c k l m h g = tt
+
+-- ---- behind the reading
+
+pub known_done : {T E : Type 0} (r : Result T E) (state : Path) (rules : List Rule) (now : Moment) (force : Bool) (remembered : Remembered) (a b : List Fault) {o m : Option Journal} (n : Option Journal) → Left (ReadsState state 65_536 (Ok (Ok remembered))) o m
+    → OnOk r (LookedDone state rules now force remembered a b m n) → OnOk r (WorkDone state rules now force a b o n)
+known_done (Ok u) state rules now force remembered a b n l h = left_then l h (λ ts us p q. (q.own, q.faults_are, q.works p.sights ts p.known p.shown))
+known_done (Err u) state rules now force remembered a b n l h = tt
+
+pub unknown_done : (state : Path) (rules : List Rule) (now : Moment) (force : Bool) (f : Fault) (a b : List Fault) {o n : Option Journal} → Left (ReadsState state 65_536 (Ok (Err f))) o n → b ≡ a ++ f ∷ [] → WorkDone state rules now force a b o n
+unknown_done state rules now force f a b l e = left_as l (λ ts p. (f ∷ [], e, not_known p.sights f p.known refl p.shown))
+
+pub some_known : {T E : Type 0} (r : Result T E) (state : Path) (rules : List Rule) (remembered : Remembered) {o m : Option Journal} (n : Option Journal) → Left (ReadsState state 65_536 (Ok (Ok remembered))) o m → OnErr r (Left (SomeLooked state rules) m n) → OnErr r (Left (SomeSeen state rules) o n)
+some_known (Ok u) state rules remembered n l h = tt
+some_known (Err u) state rules remembered n l h = left_then l h (λ ts us p q. runs.of_looks p.sights remembered p.known (record { front = ts; back = us; joined = refl; first = p.shown; second = q }))
+
+pub some_read : {T E : Type 0} (r : Result T E) (state : Path) (rules : List Rule) (m : Memory) {o n : Option Journal} → Left (ReadsState state 65_536 (Err m)) o n → OnErr r (Left (SomeSeen state rules) o n)
+some_read (Ok u) state rules m l = tt
+some_read (Err u) state rules m l = left_as l (λ ts p. runs.of_state p.sights p.shown)
+
+abbrev none_sights : StateSights
+none_sights = record { state = Failed; part = Failed; reading = Broken [] }
+
+none_shown : (state : Path) → ShowsState state 65_536 none_sights []
+none_shown state = record { reading = (tt, omega arith); entries = refl }
+
+pub none_seen : {T E : Type 0} (r : Result T E) (state : Path) (rules : List Rule) (o : Option Journal) → OnErr r (Left (SomeSeen state rules) o o)
+none_seen (Ok u) state rules o = tt
+none_seen (Err u) state rules o = left_first (SomeSeen state rules) o (runs.of_state none_sights (none_shown state))
+
+-- the counts tell of the fault by which nothing is known
+pub unknown_counted : (state : Path) (f : Fault) (a b : List Fault) (k l : Counts) → b ≡ a ++ f ∷ [] → IsStateFault state f → ((kind : CallKind) (path : Path) → f ≡ fault.Call kind path → Rose k.faults l.faults) → NoneFell k l → AddsFaults a b k l
+unknown_counted state (fault.Call kind path) a b k l e i r le = adds_call a b kind path k l e (r kind path refl) le
+unknown_counted state (fault.NotFile path) a b k l e i r le = adds_free a b (fault.NotFile path ∷ []) k l e (record { calls = refl; scripts = refl; no_out = ((λ h. h), tt) }) le
+unknown_counted state (fault.State line why) a b k l e i r le = adds_free a b (fault.State line why ∷ []) k l e (record { calls = refl; scripts = refl; no_out = ((λ h. h), tt) }) le
+unknown_counted state _ a b k l e i r le = absurd i
+
+-- nothing was read
+pub reads_none : (state : Path) (answer : Result (Result Remembered Fault) Memory) → IsErr answer → ReadsState state 65_536 answer []
+reads_none state answer e = record { sights = none_sights; shown = none_shown state; known = IfOk-from_err answer _ e }

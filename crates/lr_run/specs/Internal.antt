@@ -1,6 +1,8 @@
 -- For proofs: the parts of a run, with what they add to the faults.
-use Rattle.std.specs.Prelude.{◌≡◌, Bool, List, [], ◌∷◌, ◌++◌, Option}
+use Rattle.std.specs.Prelude.{◌≡◌, ◌≤◌, ◌<◌, ◌+◌, Bool, List, [], ◌∷◌, ◌++◌, length, map, Option, Some, None, Ok, vec_len}
+use Rattle.std.specs.Vec.{vec_capacity}
 use Rattle.lr_rules.specs.declared.path.Path.{Path}
+use Rattle.lr_rules.specs.declared.civil.Civil.{Civil}
 use Rattle.lr_rules.specs.declared.civil.Moment.{Moment}
 use Rattle.lr_rules.specs.declared.rule.Rule.{Rule}
 use Rattle.lr_rules.specs.declared.rules.Rules.{Rules}
@@ -9,21 +11,40 @@ use Rattle.lr_rules.specs.declared.fault.CallKind.TheVariants as call
 use Rattle.lr_rules.specs.declared.fault.Fault.{Fault}
 use Rattle.lr_rules.specs.declared.fault.Fault.TheVariants as fault
 use Rattle.lr_host.specs.declared.entry.Entry.{Entry}
+use Rattle.lr_host.specs.declared.entry.Entry.TheVariants as entry
 use Rattle.lr_host.specs.declared.entry.Entry.TheVariants.{Starts, Ends}
 use Rattle.lr_host.specs.declared.journal.Journal.{Journal}
-use Rattle.lr_host.specs.Told.{Left}
+use Rattle.lr_host.specs.Told.{Left, Then, Can, Counts}
 use Rattle.lr_host.specs.Looks.{Sees, IsDir, IsNotDir}
+use Rattle.lr_state.specs.Table.{Entry as Row}
+use Rattle.lr_state.specs.Written.{text_of}
 use Rattle.lr_plan.specs.declared.looks.Looks.{Looks}
+use Rattle.lr_plan.specs.declared.mark.Mark.{Mark}
 use Rattle.lr_plan.specs.declared.planned.Plan.{Plan}
+use Rattle.lr_plan.specs.Counted.{AreCounted}
+use Rattle.lr_plan.specs.Course.{Course}
+use Rattle.lr_plan.specs.Done.{SetsDone, rotated_logs}
 use Rattle.lr_plan.specs.Outcomes.{Maybe}
-use Rattle.lr_plan.specs.Planned.{plan_of}
-use Rattle.lr_looks.specs.Shown.{LooksAtAll, ShowsSomeLooks}
+use Rattle.lr_plan.specs.Steps.{steps_of_plan, state_steps}
+use Rattle.lr_acts.specs.declared.progress.Progress.{Progress}
+use Rattle.lr_acts.specs.Adding.{HasRoom}
+use Rattle.lr_acts.specs.Making.{all_of_sets}
+use Rattle.lr_looks.specs.Found.{paths_of}
+use Rattle.lr_looks.specs.Shown.{ShowsLooks, LooksAtAll, ShowsSomeLooks}
+use Rattle.lr_reading.specs.declared.remembered.Remembered.{Remembered}
+use Rattle.lr_reading.specs.Answers.{IsKnown, ReadsState}
+use Rattle.lr_reading.specs.Sights.{StateSights, ShowsState}
+use Rattle.lr_record.specs.After.{after, stamped}
+use Rattle.lr_record.specs.Measured.{measured_text}
 use Rattle.lr_seen.specs.Free.{reserved_by}
+use Rattle.lr_writing.specs.Directories.{AreDirectoriesOf}
+use Rattle.lr_writing.specs.Target.{Target}
 use Rattle.lr_run.specs.declared.answer.RunStop.{RunStop}
 use Rattle.lr_run.specs.declared.answer.RunStop.TheVariants as stop
 use Rattle.lr_run.specs.declared.directory.DirStop.{DirStop}
 use Rattle.lr_run.specs.declared.directory.DirStop.TheVariants as dir
-use Rattle.lr_run.specs.Runs.{Works, Runs, LacksMemory}
+use Rattle.lr_run.specs.declared.ready.Ready.{Ready}
+use Rattle.lr_run.specs.Runs.{logs_in, changed_in, Works, Runs, SomeSeen, LacksMemory}
 
 -- the directory wasn't seen as one
 abbrev pub NotSeen : Path → DirStop → List Entry → Type 0
@@ -34,11 +55,79 @@ abbrev pub dir_fault_of : DirStop → Path → Fault
 dir_fault_of dir.NoDir path = fault.NoDir path
 dir_fault_of dir.Call path = fault.Call call.Look path
 
--- The logs were looked at, and the plan is the one that follows; the faults of the looks were added.
-pub record Plans (state : Path) (rules : Rules) (now : Moment) (force : Bool) (plan : Plan) (faults all_faults : List Fault) (told later : Option Journal) : Type 0 where
-  pub looks : Looks
-  pub planned : plan ≡ plan_of rules.sets looks.sets [] now force
-  pub entries : Left (LooksAtAll (reserved_by state) rules.sets looks faults all_faults) told later
+-- ---- what is ready
+
+-- the writing is of this state, and syncs the directories in which the plan renames
+abbrev pub WritesTo : Path → Bool → Plan → Target → Type 0
+WritesTo state stale plan target = (dirs : List Path) × AreDirectoriesOf (changed_in plan) dirs × (target ≡ record { state = state; stale = stale; dirs = dirs })
+
+-- The steps of the plan, with room for what they come to, and what the writing needs; the faults of the plan were added.
+pub record IsReady (state : Path) (stale : Bool) (plan : Plan) (table : List Row) (ready : Ready) (before now : Progress) : Type 0 where
+  pub steps : ready.steps ≡ steps_of_plan plan
+  pub writes : WritesTo state stale plan ready.writing
+  pub table_is : ready.table ≡ table
+  pub faults : now.faults.items ≡ before.faults.items ++ plan.faults
+  pub room : HasRoom (length (all_of_sets ready.steps)) now
+  pub two_more : vec_len now.faults + length (all_of_sets ready.steps) + 2 ≤ vec_capacity now.faults
+
+-- The text is small enough, however the rotations end; and all is ready.
+pub record ReadyFor (state : Path) (now : Moment) (remembered : Remembered) (kept : List Path) (plan : Plan) (ready : Ready) (before later : Progress) : Type 0 where
+  pub small : length (measured_text (logs_in plan) now.civil (after remembered.table [] kept now.civil)) ≤ 67_108_864
+  pub is : IsReady state remembered.stale plan (after remembered.table [] kept now.civil) ready before later
+
+abbrev pub MayBeReady : Path → Moment → Remembered → List Path → Plan → Option Ready → Progress → Progress → Type 0
+MayBeReady state now remembered kept plan (Some ready) before later = ReadyFor state now remembered kept plan ready before later
+MayBeReady state now remembered kept plan None before later = (67_108_864 < length (measured_text (logs_in plan) now.civil (after remembered.table [] kept now.civil))) × (later ≡ before)
+
+-- ---- what was done
+
+-- The acts, and then the state, with this moment for the logs that were rotated; the faults of both were added.
+pub record ActsAndWrites (ready : Ready) (now : Civil) (before later : Progress) (told then : Option Journal) (counted counts : Counts) : Type 0 where
+  pub marks : List Mark
+  pub of_plan : List Fault
+  pub of_state : List Fault
+  pub faults_are : later.faults.items ≡ before.faults.items ++ (of_plan ++ of_state)
+  pub entries : Left (Then (SetsDone ready.steps marks of_plan) (Course (state_steps ready.writing.state ready.writing.stale ready.writing.dirs (text_of (map (stamped (rotated_logs marks) now) ready.table))) [] of_state)) told then
+  pub are_counted : AreCounted (of_plan ++ of_state) counted counts
+
+-- ---- the parts of the work
+
+-- The state was read, and this is known by it, behind a moment at which its directory stood.
+pub record KnownBefore (state : Path) (remembered : Remembered) (told : Option Journal) : Type 0 where
+  pub before : Option Journal
+  pub there : Can before (entry.List (parent_of state) [])
+  pub read : Left (ReadsState state 65_536 (Ok (Ok remembered))) before told
+
+-- So it was, and then the logs were looked at.
+pub record SeenBefore (state : Path) (rules : Rules) (looks : Looks) (remembered : Remembered) (told : Option Journal) : Type 0 where
+  pub middle : Option Journal
+  pub known : KnownBefore state remembered middle
+  pub faults : List Fault
+  pub all_faults : List Fault
+  pub looked : Left (LooksAtAll (reserved_by state) rules.sets looks faults all_faults) middle told
+
+-- What follows from the looks was done, whatever of them is shown before: its faults were added.
+pub record CarriesOn (rules : Rules) (looks : Looks) (state : Path) (remembered : Remembered) (now : Moment) (force : Bool) (faults all_faults : List Fault) (ts : List Entry) : Type 0 where
+  pub own : List Fault
+  pub faults_are : all_faults ≡ faults ++ own
+  pub works : (sights : StateSights) (reads ls : List Entry) (of_looks : List Fault) → IsKnown state sights (Ok remembered) → ShowsState state 65_536 sights reads
+      → (shown : ShowsLooks (reserved_by state) rules.sets looks.sets of_looks ls) → looks.kept ≡ paths_of shown.kept → Works state rules.sets now force (of_looks ++ own) (reads ++ (ls ++ ts))
+
+abbrev pub Carries : Rules → Looks → Path → Remembered → Moment → Bool → List Fault → List Fault → Option Journal → Option Journal → Type 0
+Carries rules looks state remembered now force faults all_faults told later = Left (CarriesOn rules looks state remembered now force faults all_faults) told later
+
+-- a first part of the looks was made
+abbrev pub SomeLooked : Path → List Rule → List Entry → Type 0
+SomeLooked state rules ts = ShowsSomeLooks (reserved_by state) rules ts
+
+-- What was done behind a reading by which this is known; its faults were added.
+pub record BehindState (state : Path) (rules : List Rule) (now : Moment) (force : Bool) (remembered : Remembered) (faults all_faults : List Fault) (ts : List Entry) : Type 0 where
+  pub own : List Fault
+  pub faults_are : all_faults ≡ faults ++ own
+  pub works : (sights : StateSights) (reads : List Entry) → IsKnown state sights (Ok remembered) → ShowsState state 65_536 sights reads → Works state rules now force own (reads ++ ts)
+
+abbrev pub LookedDone : Path → List Rule → Moment → Bool → Remembered → List Fault → List Fault → Option Journal → Option Journal → Type 0
+LookedDone state rules now force remembered faults all_faults told later = Left (BehindState state rules now force remembered faults all_faults) told later
 
 -- The work was done; its faults were added.
 abbrev pub WorksOn : Path → List Rule → Moment → Bool → List Fault → List Fault → List Entry → Type 0
@@ -46,6 +135,8 @@ WorksOn state rules now force faults all_faults ts = (own : List Fault) × (all_
 
 abbrev pub WorkDone : Path → List Rule → Moment → Bool → List Fault → List Fault → Option Journal → Option Journal → Type 0
 WorkDone state rules now force faults all_faults told later = Left (WorksOn state rules now force faults all_faults) told later
+
+-- ---- around the work
 
 -- The run began and ended, and of the entries between the two this holds.
 pub record Begun (state : Path) (now : Moment) (rules : Rules) (P : List Entry → Type 0) (ts : List Entry) : Type 0 where
@@ -60,7 +151,7 @@ pub data Goes (state : Path) (force : Bool) (now : Moment) (rules : Rules) (faul
 
 abbrev pub Stopped : Path → Moment → Rules → RunStop → List Entry → Type 0
 Stopped state now rules stop.Held ts = ts ≡ []
-Stopped state now rules stop.Memory ts = Begun state now rules (ShowsSomeLooks (reserved_by state) rules.sets) ts
+Stopped state now rules stop.Memory ts = Begun state now rules (SomeSeen state rules.sets) ts
 
 -- what a run left: its faults were added; or it stopped
 abbrev pub RunsOn : Path → Bool → Moment → Rules → List Fault → List Fault → List Entry → Type 0

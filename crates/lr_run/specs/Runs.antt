@@ -1,5 +1,6 @@
--- What a run shows: how it began, what its looks came to, and the acts of the plan that follows from them.
-use Rattle.std.specs.Prelude.{◌≡◌, Bool, List, [], ◌∷◌, ◌++◌, Result, Ok, Err}
+-- What a run shows: how it began, what was known of its state, what its looks came to, and the acts of the plan that follows from them.
+use Rattle.std.specs.Prelude.{◌≡◌, ◌<◌, ◌≤◌, ℕ, Bool, List, [], ◌∷◌, ◌++◌, length, map, Result, Ok, Err}
+use Rattle.std.specs.List.{flat_map}
 use Rattle.lr_rules.specs.declared.path.Path.{Path}
 use Rattle.lr_rules.specs.declared.civil.Moment.{Moment}
 use Rattle.lr_rules.specs.declared.rule.Rule.{Rule}
@@ -7,33 +8,110 @@ use Rattle.lr_rules.specs.declared.rules.Rules.{Rules}
 use Rattle.lr_rules.specs.declared.fault.CallKind.TheVariants as call
 use Rattle.lr_rules.specs.declared.fault.Fault.{Fault}
 use Rattle.lr_rules.specs.declared.fault.Fault.TheVariants as fault
+use Rattle.lr_rules.specs.declared.fault.StateKind.TheVariants as kind
 use Rattle.lr_rules.specs.Path.{parent_of}
 use Rattle.lr_host.specs.declared.entry.Entry.{Entry}
 use Rattle.lr_host.specs.declared.entry.Entry.TheVariants.{Starts, Ends}
 use Rattle.lr_host.specs.Told.{Then}
 use Rattle.lr_host.specs.Looks.{Sees, IsDir, IsNotDir}
+use Rattle.lr_state.specs.Written.{text_of}
 use Rattle.lr_plan.specs.declared.looks.SetLooks.{SetLooks}
 use Rattle.lr_plan.specs.declared.mark.Mark.{Mark}
+use Rattle.lr_plan.specs.declared.planned.LogPlan.{LogPlan}
+use Rattle.lr_plan.specs.declared.planned.SetPlan.{SetPlan}
 use Rattle.lr_plan.specs.declared.planned.Plan.{Plan}
-use Rattle.lr_plan.specs.Done.{PlanDone}
+use Rattle.lr_plan.specs.Done.{ActsDone}
 use Rattle.lr_plan.specs.Outcomes.{Maybe}
 use Rattle.lr_plan.specs.Planned.{plan_of}
+use Rattle.lr_looks.specs.Found.{paths_of}
 use Rattle.lr_looks.specs.Shown.{ShowsLooks, ShowsSomeLooks}
+use Rattle.lr_reading.specs.declared.remembered.Remembered.{Remembered}
+use Rattle.lr_reading.specs.Answers.{IsKnown}
+use Rattle.lr_reading.specs.Sights.{StateSights, ShowsState}
+use Rattle.lr_record.specs.After.{after}
+use Rattle.lr_record.specs.Measured.{measured_text}
 use Rattle.lr_seen.specs.Free.{reserved_by}
+use Rattle.lr_writing.specs.Directories.{AreDirectoriesOf}
 use Rattle.lr_run.specs.declared.answer.Ran.{Ran}
 use Rattle.lr_run.specs.declared.answer.RunStop.{RunStop}
 use Rattle.lr_run.specs.declared.answer.RunStop.TheVariants as stop
 
--- The logs were looked at, none kept that has a name that the run reserves for itself, and the plan that follows from what was seen was carried out. The faults are those of the looks, of the plan and of the acts, in this order. So far no state is read: the plan is that of an empty table.
-pub record Works (state : Path) (rules : List Rule) (now : Moment) (force : Bool) (faults : List Fault) (ts : List Entry) : Type 0 where
+-- ---- the paths of a plan
+
+-- the logs that it rotates
+abbrev pub logs_of : List LogPlan → List Path
+logs_of logs = map (λ log. log.ready.log) logs
+
+abbrev pub all_logs_of : List SetPlan → List Path
+all_logs_of sets = flat_map (λ set. logs_of set.logs) sets
+
+abbrev pub logs_in : Plan → List Path
+logs_in plan = all_logs_of plan.sets
+
+-- each of them, and the path that it gets
+abbrev pub changed_of : List LogPlan → List Path
+changed_of logs = flat_map (λ log. log.ready.log ∷ log.ready.target ∷ []) logs
+
+abbrev pub all_changed_of : List SetPlan → List Path
+all_changed_of sets = flat_map (λ set. changed_of set.logs) sets
+
+abbrev pub changed_in : Plan → List Path
+changed_in plan = all_changed_of plan.sets
+
+-- ---- what was seen
+
+-- The text of the state was read, and says a table; then the logs were looked at. What was done behind that is left open.
+pub record Looked (state : Path) (rules : List Rule) (ts : List Entry) : Type 0 where
+  pub sights : StateSights
+  pub remembered : Remembered
+  pub known : IsKnown state sights (Ok remembered)
   pub sets : List SetLooks
   pub of_looks : List Fault
-  pub plan : Plan
-  pub planned : plan ≡ plan_of rules sets [] now force
+  pub reads : List Entry
+  pub looks : List Entry
+  pub acts : List Entry
+  pub joined : ts ≡ reads ++ (looks ++ acts)
+  pub read : ShowsState state 65_536 sights reads
+  pub shown : ShowsLooks (reserved_by state) rules sets of_looks looks
+
+-- the plan that follows from it
+abbrev pub plan_in : (state : Path) (rules : List Rule) (ts : List Entry) → Looked state rules ts → Moment → Bool → Plan
+plan_in state rules ts l now force = plan_of rules l.sets l.remembered.table now force
+
+-- the logs that are kept: the state tells of each of them
+abbrev pub kept_in : (state : Path) (rules : List Rule) (ts : List Entry) → Looked state rules ts → List Path
+kept_in state rules ts l = paths_of l.shown.kept
+
+-- the text of the state that is measured before the first act
+abbrev pub measured_in : (state : Path) (rules : List Rule) (ts : List Entry) → Looked state rules ts → Moment → Bool → List ℕ
+measured_in state rules ts l now force = measured_text (logs_in (plan_in state rules ts l now force)) now.civil (after l.remembered.table [] (kept_in state rules ts l) now.civil)
+
+-- the text that is written, by the logs that were rotated
+abbrev pub state_text : (state : Path) (rules : List Rule) (ts : List Entry) → Looked state rules ts → Moment → List Path → List ℕ
+state_text state rules ts l now rotated = text_of (after l.remembered.table rotated (kept_in state rules ts l) now.civil)
+
+-- ---- what was done
+
+-- The acts of the plan, and then the writing of the state. Before the rename that gives the state its new text, the directories are synced in which the plan renames logs. The faults are those of the looks, of the plan and of the acts, in this order.
+pub record Acted (state : Path) (rules : List Rule) (now : Moment) (force : Bool) (ts : List Entry) (l : Looked state rules ts) (faults : List Fault) : Type 0 where
+  pub small : length (measured_in state rules ts l now force) ≤ 67_108_864
+  pub dirs : List Path
+  pub dirs_are : AreDirectoriesOf (changed_in (plan_in state rules ts l now force)) dirs
   pub marks : List Mark
   pub of_acts : List Fault
-  pub faults_are : faults ≡ of_looks ++ (plan.faults ++ of_acts)
-  pub entries : Then (ShowsLooks (reserved_by state) rules sets of_looks) (PlanDone plan marks of_acts) ts
+  pub faults_are : faults ≡ l.of_looks ++ ((plan_in state rules ts l now force).faults ++ of_acts)
+  pub entries : ActsDone (plan_in state rules ts l now force) state l.remembered.stale (λ made. dirs) (state_text state rules ts l now) marks of_acts l.acts
+
+-- The run came to its plan, and carried it out.
+pub record Worked (state : Path) (rules : List Rule) (now : Moment) (force : Bool) (faults : List Fault) (ts : List Entry) : Type 0 where
+  pub looked : Looked state rules ts
+  pub acted : Acted state rules now force ts looked faults
+
+-- Between its begin and its end a run has these faults: nothing is known of the state, with the one fault of that; or its text could become too big, and then nothing is done behind the looks; or it worked.
+pub data Works (state : Path) (rules : List Rule) (now : Moment) (force : Bool) (faults : List Fault) (ts : List Entry) : Type 0 where
+  not_known : (sights : StateSights) (f : Fault) → IsKnown state sights (Err f) → faults ≡ f ∷ [] → ShowsState state 65_536 sights ts → Works state rules now force faults ts
+  too_big : (l : Looked state rules ts) → 67_108_864 < length (measured_in state rules ts l now force) → faults ≡ l.of_looks ++ fault.State 0 kind.TooBig ∷ [] → l.acts ≡ [] → Works state rules now force faults ts
+  worked : Worked state rules now force faults ts → Works state rules now force faults ts
 
 -- The state's directory was seen, the run began and ended, and of the entries between the two this holds.
 pub record Inside (state : Path) (now : Moment) (rules : Rules) (P : List Entry → Type 0) (ts : List Entry) : Type 0 where
@@ -43,17 +121,24 @@ pub record Inside (state : Path) (now : Moment) (rules : Rules) (P : List Entry 
   pub directory : Sees (parent_of state) IsDir before
   pub within : P between
 
--- A run with these faults of its own: the state's directory isn't there, or the look at it failed; the begin failed, with its entry or without; or it worked.
+-- A run with these faults of its own: the state's directory isn't there, or the look at it failed; the begin failed, with its entry or without; or it began, and ended.
 pub data Runs (state : Path) (force : Bool) (now : Moment) (rules : Rules) (faults : List Fault) (ts : List Entry) : Type 0 where
   no_directory : faults ≡ fault.NoDir (parent_of state) ∷ [] → Sees (parent_of state) IsNotDir ts → Runs state force now rules faults ts
   not_seen : faults ≡ fault.Call call.Look (parent_of state) ∷ [] → ts ≡ [] → Runs state force now rules faults ts
   not_begun : faults ≡ fault.Call call.Begin state ∷ [] → Then (Sees (parent_of state) IsDir) (Maybe (Starts state now rules)) ts → Runs state force now rules faults ts
-  worked : Inside state now rules (Works state rules.sets now force faults) ts → Runs state force now rules faults ts
+  began : Inside state now rules (Works state rules.sets now force faults) ts → Runs state force now rules faults ts
 
--- There was no memory: before the first call, or behind a first part of the looks, where the run ended with no change.
+-- ---- without memory
+
+-- A first part of what is read of the state, or all of it and a first part of the looks.
+pub data SomeSeen (state : Path) (rules : List Rule) (ts : List Entry) : Type 0 where
+  of_state : (sights : StateSights) → ShowsState state 65_536 sights ts → SomeSeen state rules ts
+  of_looks : (sights : StateSights) (remembered : Remembered) → IsKnown state sights (Ok remembered) → Then (ShowsState state 65_536 sights) (ShowsSomeLooks (reserved_by state) rules) ts → SomeSeen state rules ts
+
+-- There was no memory: before the first call, or behind a first part of what is seen, where the run ended with no change.
 pub data LacksMemory (state : Path) (now : Moment) (rules : Rules) (ts : List Entry) : Type 0 where
   at_first : ts ≡ [] → LacksMemory state now rules ts
-  in_looks : Inside state now rules (ShowsSomeLooks (reserved_by state) rules.sets) ts → LacksMemory state now rules ts
+  in_looks : Inside state now rules (SomeSeen state rules.sets) ts → LacksMemory state now rules ts
 
 -- What a run left, by its answer. The faults that were handed in stand before its own; where another held the lock, the state's directory was seen, and no more.
 abbrev pub Answers : Path → Bool → Moment → Rules → List Fault → Result Ran RunStop → List Entry → Type 0

@@ -12,13 +12,14 @@ ghost use Rattle.lr_host.specs.Told.{Made};
 ghost use Rattle.lr_plan.specs.Counted.{calls_in};
 ghost use Rattle.lr_rotations.specs.Target.{Target, IsOneOf};
 ghost use Rattle.lr_seen.specs.Built.{AreBuiltRules};
-ghost use Rattle.lr_run.specs.Rotated.{rotated_logs, IsRotatedAmong};
-ghost use Rattle.lr_run.specs.Runs.{Inside, Works};
+ghost use Rattle.lr_run.specs.Rotated.{rotated_in, IsRotatedAmong};
+ghost use Rattle.lr_run.specs.Runs.{Inside, Worked};
 
-/// A run that tells no failed call, behind reads that change nothing, rotates each log of its plan whole, whatever writers
-/// do meanwhile, and whatever else it tells: of a log that isn't there, or that meets another, say.
+/// A run that came to its plan and tells no failed call, behind reads that change nothing, rotates each log of its plan
+/// whole, whatever writers do meanwhile, and whatever else it tells: of a log that isn't there, or that meets another, say.
 pub fn run_rotates_all()
     ensures { (state : Path) (force : Bool) (now : Moment) (rules : Rules) (own : List Fault) (p q : Past) (es reads acts : List Entry) → AreBuiltRules rules.sets
-        → Made p es q → IsJournal p → reverse es ≡ reads ++ acts → AreQuiet reads → (i : Inside state now rules (Works state rules.sets now force own) acts) → calls_in own ≡ 0
-        → (t : Target) → IsOneOf t (rotated_logs rules.sets now force i.within.sets) → IsRotatedAmong state (rotated_logs rules.sets now force i.within.sets) p q t }
+        → Made p es q → IsJournal p → reverse es ≡ reads ++ acts → AreQuiet reads → (i : Inside state now rules (Worked state rules.sets now force own) acts) → calls_in own ≡ 0
+        → (t : Target) → IsOneOf t (rotated_in state rules.sets i.between i.within.looked now force)
+        → IsRotatedAmong state (rotated_in state rules.sets i.between i.within.looked now force) p q t }
 {}

@@ -1,19 +1,22 @@
 //! One run over the definitions of a configuration.
 //!
-//! The contract above it: the entries of a run are a look at the state's directory, its start, the looks at its logs, the
-//! acts of the plan that follows from these looks, and its end; and its faults are those of the looks, of the plan and of
-//! the acts (`specs/Runs.antt`). Begin with `run`:
+//! The contract above it: the entries of a run are a look at the state's directory, its start, the reading of the state,
+//! the looks at its logs, the acts of the plan that follows from both, the writing of the state, and its end; and its
+//! faults are those of the looks, of the plan and of the acts (`specs/Runs.antt`). Begin with `run`:
 //!
 //! ```text
 //! let ran = run(alloc, &rules, &settings, &clock, earlier, &mut host)?;   // Err(RunStop::Held): another run is on
 //! ```
 #![tactic(auto)]
 
+mod acting;
 mod answer;
 mod directory;
+mod known;
 mod laws;
 mod locked;
 mod paths;
+mod ready;
 mod whole;
 mod work;
 

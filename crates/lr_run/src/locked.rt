@@ -3,14 +3,14 @@ ghost use Rattle.std.specs.Prelude.{◌≡◌, ◌+◌, ◌≤◌, ◌++◌, [],
 ghost use Rattle.std.specs.Vec.{vec_capacity};
 ghost use Rattle.lr_rules.specs.declared.fault.CallKind.TheVariants as call;
 ghost use Rattle.lr_rules.specs.declared.fault.Fault.TheVariants as fault;
+ghost use Rattle.lr_rules.specs.Path.{parent_of};
 ghost use Rattle.lr_host.specs.declared.entry.Entry.TheVariants as entry;
 ghost use Rattle.lr_host.specs.Told.{Left, Then, Are, Can, NoneFell, Onward, Rose, WhereTold};
 ghost use Rattle.lr_host.specs.World.{world};
 ghost use Rattle.lr_plan.specs.Counted.{AddsFaults};
-ghost use Rattle.lr_looks.specs.Shown.{ShowsSomeLooks};
 ghost use Rattle.lr_seen.specs.Built.{AreBuiltRules};
-ghost use Rattle.lr_seen.specs.Free.{reserved_by};
 ghost use Rattle.lr_run.specs.Internal.{WorksOn, Goes, Stopped};
+ghost use Rattle.lr_run.specs.Runs.{SomeSeen};
 
 use crate::answer::RunStop;
 use crate::work::work;
@@ -30,9 +30,11 @@ fn work_to_end<H: Host>(
     progress: &mut Progress,
 ) -> Result<(), Memory>
     requires built { AreBuiltRules rules.now.sets }
+    requires dir { Can (H.told host.old) (entry.List (parent_of settings.now.state) []) }
+    requires room { vec_len progress.old.faults + 2 ≤ vec_capacity progress.old.faults }
     requires on { WhereTold (H.told host.old) (λ p. (world p).running ≡ true) }
     ensures told { OnOk result (Left (Then (WorksOn settings.now.state rules.now.sets clock.entry.now.now settings.now.force progress.old.faults.items progress.new.faults.items) (Are (entry.Ends ∷ []))) (H.told host.old) (H.told host.new)) }
-    ensures some { OnErr result (Left (Then (ShowsSomeLooks (reserved_by settings.now.state) rules.now.sets) (Are (entry.Ends ∷ []))) (H.told host.old) (H.told host.new)) }
+    ensures some { OnErr result (Left (Then (SomeSeen settings.now.state rules.now.sets) (Are (entry.Ends ∷ []))) (H.told host.old) (H.told host.new)) }
     ensures room { OnOk result (vec_len progress.new.faults + 1 ≤ vec_capacity progress.new.faults) }
     ensures counted { OnOk result (AddsFaults progress.old.faults.items progress.new.faults.items (H.counts host.old) (H.counts host.new)) }
     ensures lock { (H.counts host.new).locked ≡ false }

@@ -1,7 +1,9 @@
-// The paths that a run reserves for itself.
+// The paths that a run reserves, and those of its plan.
 ghost use Rattle.std.specs.Prelude.{◌≡◌, ◌∷◌, ◌++◌, [], IfOk, OnOk};
 ghost use Rattle.lr_seen.specs.Free.{reserved_by};
+ghost use Rattle.lr_run.specs.Runs.{logs_of, changed_of, all_logs_of, all_changed_of};
 
+use lr_plan::{LogPlan, SetPlan};
 use lr_rules::{Memory, Path};
 use std::alloc::{AllocError, Global};
 
@@ -46,4 +48,45 @@ pub fn reserved_paths(alloc: Global, state: &Path) -> Result<Vec<Path>, Memory>
     add_behind(alloc, state, b".tmp", &mut reserved)?;
     add_behind(alloc, state, b".lock", &mut reserved)?;
     Ok(reserved)
+}
+
+fn add_logs(alloc: Global, logs: &[LogPlan], paths: &mut Vec<Path>) -> Result<(), Memory>
+    ensures { OnOk result (paths.new.items ≡ paths.old.items ++ logs_of logs.now) }
+{
+    for log in logs {
+        paths.push(log.ready.log.copy(alloc)?)?;
+    }
+    Ok(())
+}
+
+/// The logs that a plan rotates, of all its definitions.
+pub fn logs_of_plan(alloc: Global, sets: &[SetPlan]) -> Result<Vec<Path>, Memory>
+    ensures { IfOk result (λ paths. paths.items ≡ all_logs_of sets.now) }
+{
+    let mut paths = Vec::new(alloc);
+    for set in sets {
+        add_logs(alloc, set.logs.as_slice(), &mut paths)?;
+    }
+    Ok(paths)
+}
+
+fn add_changed(alloc: Global, logs: &[LogPlan], paths: &mut Vec<Path>) -> Result<(), Memory>
+    ensures { OnOk result (paths.new.items ≡ paths.old.items ++ changed_of logs.now) }
+{
+    for log in logs {
+        paths.push(log.ready.log.copy(alloc)?)?;
+        paths.push(log.ready.target.copy(alloc)?)?;
+    }
+    Ok(())
+}
+
+/// The path of each log that a plan rotates, and the one that it gets.
+pub fn changed_by_plan(alloc: Global, sets: &[SetPlan]) -> Result<Vec<Path>, Memory>
+    ensures { IfOk result (λ paths. paths.items ≡ all_changed_of sets.now) }
+{
+    let mut paths = Vec::new(alloc);
+    for set in sets {
+        add_changed(alloc, set.logs.as_slice(), &mut paths)?;
+    }
+    Ok(paths)
 }

@@ -78,9 +78,10 @@ fn make_run<H: Host>(
     }
 }
 
-/// Makes one run: looks at the state's directory, takes the lock, looks at the logs that the rules ask for, carries out
-/// the plan that follows, and gives the lock back. Each fault leaves the answer Ok. All memory is taken before the first
-/// change; where there is none, the run ends with no change. So far no state is read or written.
+/// Makes one run: looks at the state's directory, takes the lock, reads the state, looks at the logs that the rules ask
+/// for, carries out the plan that follows, writes the state, and gives the lock back. Each fault leaves the answer Ok. All
+/// memory is taken before the first change; where there is none, the run ends with no change. Where nothing is known of
+/// the state, no log is looked at; where its text could become longer than 67,108,864 bytes, nothing is changed.
 pub fn run<H: Host>(
     alloc: Global,
     rules: &Rules,

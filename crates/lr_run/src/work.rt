@@ -1,75 +1,120 @@
-// What stands between the begin of a run and its end: the looks, the plan, and its acts.
-ghost use Rattle.std.specs.Prelude.{◌≡◌, ◌+◌, ◌≤◌, ◌++◌, [], IfOk, OnOk, OnErr, vec_len, length};
+// What stands between the begin of a run and its end: the state, the looks, the plan, its acts, and the state's writing.
+ghost use Rattle.std.specs.Prelude.{◌≡◌, ◌+◌, ◌≤◌, ◌++◌, ◌∷◌, [], OnOk, OnErr, vec_len};
 ghost use Rattle.std.specs.Vec.{vec_capacity};
-ghost use Rattle.lr_host.specs.Told.{Left, Onward};
-ghost use Rattle.lr_acts.specs.Adding.{HasRoom};
-ghost use Rattle.lr_acts.specs.Making.{all_of_sets};
-ghost use Rattle.lr_looks.specs.Shown.{ShowsSomeLooks};
-ghost use Rattle.lr_seen.specs.Built.{AreBuiltRules};
-ghost use Rattle.lr_seen.specs.Free.{reserved_by};
-ghost use Rattle.lr_plan.specs.Steps.{steps_of_plan};
+ghost use Rattle.lr_rules.specs.declared.fault.Fault.TheVariants as fault;
+ghost use Rattle.lr_rules.specs.declared.fault.StateKind.TheVariants as kind;
+ghost use Rattle.lr_rules.specs.Path.{parent_of};
+ghost use Rattle.lr_host.specs.declared.entry.Entry.TheVariants as entry;
+ghost use Rattle.lr_host.specs.Told.{Left, Can, Onward};
 ghost use Rattle.lr_plan.specs.Counted.{AddsFaults};
-ghost use Rattle.lr_run.specs.Internal.{Plans, WorkDone};
+ghost use Rattle.lr_plan.specs.Planned.{CanPlanAll};
+ghost use Rattle.lr_reading.specs.Sights.{state_part};
+ghost use Rattle.lr_seen.specs.Built.{AreBuiltRules};
+ghost use Rattle.lr_run.specs.Runs.{SomeSeen};
+ghost use Rattle.lr_run.specs.Internal.{WorkDone, LookedDone, SomeLooked, KnownBefore, SeenBefore, Carries};
 
+use crate::acting::carry_out;
+use crate::known::known_state;
 use crate::paths::reserved_paths;
-use lr_acts::{Progress, act, take_room};
+use crate::ready::make_ready;
+use lr_acts::Progress;
 use lr_host::Host;
 use lr_looks::look_all;
-use lr_plan::{Plan, SetSteps, Settings, plan, steps_of};
-use lr_rules::{Clock, Fault, Listed, Memory, Rules};
-use lr_state::State;
+use lr_plan::{Looks, Settings, plan};
+use lr_reading::{Remembered, part_path};
+use lr_rules::{Clock, Fault, Memory, Path, Rules, StateKind};
 use std::alloc::Global;
 
-// Looks at the logs, and plans; adds the faults of the looks.
-fn look_and_plan<H: Host>(
+// Adds the fault of a text that could become too big to be written.
+fn add_too_big(faults: &mut Vec<Fault>) -> Result<(), Memory>
+    ensures faults { OnOk result (faults.new.items ≡ faults.old.items ++ fault.State 0 kind.TooBig ∷ []) }
+    ensures room { OnOk result (vec_len faults.new + 1 ≤ vec_capacity faults.new) }
+{
+    faults.reserve(2)?;
+    faults.push_reserved(Fault::State {
+        line: 0,
+        kind: StateKind::TooBig,
+    });
+    Ok(())
+}
+
+// Plans, and carries the plan out; or tells that the text of the state could become too big.
+fn plan_and_act<H: Host>(
     alloc: Global,
     host: &mut H,
     rules: &Rules,
     settings: &Settings,
     clock: &Clock,
-    faults: &mut Vec<Fault>,
-) -> Result<Plan, Memory>
-    requires { AreBuiltRules rules.now.sets }
-    ensures told { IfOk result (λ plan. Plans settings.now.state rules.now clock.entry.now.now settings.now.force plan faults.old.items faults.new.items (H.told host.old) (H.told host.new)) }
-    ensures some { OnErr result (Left (ShowsSomeLooks (reserved_by settings.now.state) rules.now.sets) (H.told host.old) (H.told host.new)) }
-    ensures counted { IfOk result (λ plan. AddsFaults faults.old.items faults.new.items (H.counts host.old) (H.counts host.new)) }
+    looks: &Looks,
+    part: Path,
+    remembered: Remembered,
+    progress: &mut Progress,
+) -> Result<(), Memory>
+    requires built { AreBuiltRules rules.now.sets }
+    requires rules { CanPlanAll rules.now.sets looks.now.sets }
+    requires part { part ≡ state_part settings.now.state }
+    requires seen { SeenBefore settings.now.state rules.now looks.now remembered (H.told host.old) }
+    ensures told { OnOk result (Carries rules.now looks.now settings.now.state remembered clock.entry.now.now settings.now.force progress.old.faults.items progress.new.faults.items (H.told host.old) (H.told host.new)) }
+    ensures memory { OnErr result (H.told host.new ≡ H.told host.old) }
+    ensures room { OnOk result (vec_len progress.new.faults + 1 ≤ vec_capacity progress.new.faults) }
+    ensures counted { OnOk result (AddsFaults progress.old.faults.items progress.new.faults.items (H.counts host.old) (H.counts host.new)) }
+    ensures counts { Onward (H.counts host.old) (H.counts host.new) }
+{
+    let plan = plan(alloc, rules, looks, &remembered.table, clock, settings)?;
+    let kept = looks.kept.as_slice();
+    match make_ready(
+        alloc,
+        &settings.state,
+        &clock.now,
+        kept,
+        plan,
+        part,
+        remembered,
+        progress,
+    )? {
+        Some(ready) => carry_out(alloc, host, ready, &clock.now.civil, progress),
+        None => add_too_big(&mut progress.faults),
+    }
+}
+
+// Looks at the logs, and carries out what follows from what was seen and is known of the state.
+fn look_and_act<H: Host>(
+    alloc: Global,
+    host: &mut H,
+    rules: &Rules,
+    settings: &Settings,
+    clock: &Clock,
+    part: Path,
+    remembered: Remembered,
+    progress: &mut Progress,
+) -> Result<(), Memory>
+    requires built { AreBuiltRules rules.now.sets }
+    requires part { part ≡ state_part settings.now.state }
+    requires known { KnownBefore settings.now.state remembered (H.told host.old) }
+    ensures told { OnOk result (LookedDone settings.now.state rules.now.sets clock.entry.now.now settings.now.force remembered progress.old.faults.items progress.new.faults.items (H.told host.old) (H.told host.new)) }
+    ensures some { OnErr result (Left (SomeLooked settings.now.state rules.now.sets) (H.told host.old) (H.told host.new)) }
+    ensures room { OnOk result (vec_len progress.new.faults + 1 ≤ vec_capacity progress.new.faults) }
+    ensures counted { OnOk result (AddsFaults progress.old.faults.items progress.new.faults.items (H.counts host.old) (H.counts host.new)) }
     ensures counts { Onward (H.counts host.old) (H.counts host.new) }
 {
     let reserved = reserved_paths(alloc, &settings.state)?;
-    let looks = look_all(alloc, host, rules, &reserved, faults)?;
-    plan(alloc, rules, &looks, &State::new(alloc), clock, settings)
+    let looks = look_all(alloc, host, rules, &reserved, &mut progress.faults)?;
+    plan_and_act(
+        alloc, host, rules, settings, clock, &looks, part, remembered, progress,
+    )
 }
 
-// Adds the faults of the plan.
-fn add_all(faults: &mut Vec<Fault>, more: Listed<Fault>) -> Result<(), Memory>
-    ensures { OnOk result (faults.new.items ≡ faults.old.items ++ more) }
+// Adds the fault of a state of which nothing is known, for which there is room.
+fn add_unknown(faults: &mut Vec<Fault>, fault: Fault)
+    requires { vec_len faults.old + 2 ≤ vec_capacity faults.old }
+    ensures faults { faults.new.items ≡ faults.old.items ++ fault ∷ [] }
+    ensures room { vec_len faults.new + 1 ≤ vec_capacity faults.new }
 {
-    for fault in more.into_vec() {
-        faults.push(fault)?;
-    }
-    Ok(())
+    faults.push_reserved(fault);
 }
 
-// Makes the steps of a plan ready: adds its faults, and takes the room that its acts need.
-fn make_ready(
-    alloc: Global,
-    plan: Plan,
-    progress: &mut Progress,
-) -> Result<Listed<SetSteps>, Memory>
-    ensures steps { IfOk result (λ sets. sets ≡ steps_of_plan plan) }
-    ensures faults { OnOk result (progress.new.faults.items ≡ progress.old.faults.items ++ plan.faults) }
-    ensures marks { progress.new.marks.items ≡ progress.old.marks.items }
-    ensures room { IfOk result (λ sets. HasRoom (length (all_of_sets sets)) progress.new) }
-    ensures two_more { IfOk result (λ sets. vec_len progress.new.faults + length (all_of_sets sets) + 2 ≤ vec_capacity progress.new.faults) }
-{
-    let Plan { sets, faults, .. } = plan;
-    add_all(&mut progress.faults, faults)?;
-    let steps = steps_of(alloc, sets)?;
-    take_room(progress, steps.as_slice())?;
-    Ok(steps)
-}
-
-/// Looks at the logs, and carries the plan out that follows from them. All memory is taken before the first act.
+/// Reads the state, looks at the logs, and carries the plan out that follows from both. All memory is taken before the
+/// first act.
 pub fn work<H: Host>(
     alloc: Global,
     host: &mut H,
@@ -78,14 +123,25 @@ pub fn work<H: Host>(
     clock: &Clock,
     progress: &mut Progress,
 ) -> Result<(), Memory>
-    requires { AreBuiltRules rules.now.sets }
+    requires built { AreBuiltRules rules.now.sets }
+    requires dir { Can (H.told host.old) (entry.List (parent_of settings.now.state) []) }
+    requires room { vec_len progress.old.faults + 2 ≤ vec_capacity progress.old.faults }
     ensures told { OnOk result (WorkDone settings.now.state rules.now.sets clock.entry.now.now settings.now.force progress.old.faults.items progress.new.faults.items (H.told host.old) (H.told host.new)) }
-    ensures some { OnErr result (Left (ShowsSomeLooks (reserved_by settings.now.state) rules.now.sets) (H.told host.old) (H.told host.new)) }
+    ensures some { OnErr result (Left (SomeSeen settings.now.state rules.now.sets) (H.told host.old) (H.told host.new)) }
     ensures room { OnOk result (vec_len progress.new.faults + 1 ≤ vec_capacity progress.new.faults) }
     ensures counted { OnOk result (AddsFaults progress.old.faults.items progress.new.faults.items (H.counts host.old) (H.counts host.new)) }
     ensures counts { Onward (H.counts host.old) (H.counts host.new) }
 {
-    let plan = look_and_plan(alloc, host, rules, settings, clock, &mut progress.faults)?;
-    let steps = make_ready(alloc, plan, progress)?;
-    act(alloc, host, steps, progress)
+    let part = part_path(alloc, &settings.state)?;
+    match known_state(alloc, host, &settings.state, &part)? {
+        Ok(remembered) => {
+            look_and_act(
+                alloc, host, rules, settings, clock, part, remembered, progress,
+            )
+        }
+        Err(fault) => {
+            add_unknown(&mut progress.faults, fault);
+            Ok(())
+        }
+    }
 }

@@ -1,7 +1,7 @@
 mod Buffers
 mod Causes
 mod Coming
-mod Fits
+pub mod Fits
 mod Named
 mod Once
 mod Pieces

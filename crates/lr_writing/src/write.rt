@@ -35,7 +35,9 @@ fn make_all<H: Host>(host: &mut H, writing: Writing, table: &State) -> Result<()
 // Adds a fault for which there is room.
 fn add_fault(faults: &mut Vec<Fault>, fault: Fault)
     requires { vec_len faults.old + 1 ≤ vec_capacity faults.old }
-    ensures { faults.new.items ≡ faults.old.items ++ fault ∷ [] }
+    ensures faults { faults.new.items ≡ faults.old.items ++ fault ∷ [] }
+    ensures one_more { vec_len faults.new ≡ vec_len faults.old + 1 }
+    ensures room { vec_capacity faults.old ≤ vec_capacity faults.new }
 {
     faults.push_reserved(fault);
 }
@@ -48,6 +50,8 @@ pub fn write_state<H: Host>(host: &mut H, writing: Writing, table: &State, fault
     requires fits { CanMake (H.told host.old) (state_steps writing.state writing.stale writing.dirs (text_of table.now)) }
     requires room { vec_len faults.old + 1 ≤ vec_capacity faults.old }
     ensures told { AddsCourse (state_steps writing.state writing.stale writing.dirs (text_of table.now)) faults.old.items faults.new.items (H.told host.old) (H.told host.new) (H.counts host.old) (H.counts host.new) }
+    ensures few { vec_len faults.new ≤ vec_len faults.old + 1 }
+    ensures room { vec_capacity faults.old ≤ vec_capacity faults.new }
 {
     match make_all(host, writing, table) {
         Ok(()) => {}

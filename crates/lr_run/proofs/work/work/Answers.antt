@@ -1,29 +1,21 @@
-use Rattle.std.proofs.Common.{refl}
-use Rattle.lr_seen.specs.Free.{reserved_by}
-use Rattle.lr_acts.specs.Making.{all_of_sets}
-use Rattle.lr_run.proofs.Simple.{simple_built}
-use Rattle.lr_run.proofs.Works.{steps_simple, steps_fit, work_told, work_lacks, work_counted, room_left, some_at_all}
+use Rattle.std.proofs.Common.{◌∙◌, Ok, Err, ap}
+use Rattle.lr_run.proofs.Works.{none_seen, some_read, known_done, some_known, unknown_done, unknown_counted}
 use Rattle.lr_run.proofs.work.work.Goals as goal
 
-pub act-requires-clause-built : goal.act-requires-clause-built
-act-requires-clause-built g c = simple_built (all_of_sets c.in_ok-steps.steps) (steps_simple c.args.rules.now.sets c.in_ok-plan.ensures.told.looks.sets c.args.clock.now.now c.args.settings.now.force c.in_ok-plan.plan c.in_ok-steps.steps c.requires c.in_ok-plan.ensures.told.planned c.in_ok-steps.ensures.steps)
+pub returns-in_err-part-clause-some : goal.returns-in_err-part-clause-some
+returns-in_err-part-clause-some g c = none_seen c.from_residual.result c.args.settings.now.state c.args.rules.now.sets _
 
-pub act-requires-clause-fits : goal.act-requires-clause-fits
-act-requires-clause-fits g c = steps_fit c.args.settings.now.state c.args.rules.now c.args.clock.now.now c.args.settings.now.force c.in_ok-plan.plan c.in_ok-steps.steps c.args.progress.now.faults.items c.look_and_plan.new.faults.items c.requires c.in_ok-steps.ensures.steps c.in_ok-plan.ensures.told
+pub returns-in_err-remembered-clause-some : goal.returns-in_err-remembered-clause-some
+returns-in_err-remembered-clause-some g c = some_read c.from_residual-in_err-remembered.result c.args.settings.now.state c.args.rules.now.sets _ c.in_err-remembered.ensures.told
 
-pub returns-clause-told : goal.returns-clause-told
-returns-clause-told g c = work_told c.act.result c.args.settings.now.state c.args.rules.now c.args.clock.now.now c.args.settings.now.force c.in_ok-plan.plan c.in_ok-steps.steps c.args.progress.now.faults.items c.look_and_plan.new.faults.items c.make_ready.new.progress c.act.new.progress
-    c.in_ok-steps.ensures.steps c.in_ok-plan.ensures.told c.in_ok-steps.ensures.faults c.act.ensures.told
+pub returns-in-Ok-clause-told : goal.returns-in-Ok-clause-told
+returns-in-Ok-clause-told g c = known_done c.look_and_act.result c.args.settings.now.state c.args.rules.now.sets c.args.clock.now.now c.args.settings.now.force c.in-Ok.remembered c.args.progress.now.faults.items c.look_and_act.new.progress.faults.items _ (rw c.in-Ok.is at c.in_ok-remembered.ensures.told) c.look_and_act.ensures.told
 
-pub returns-clause-some : goal.returns-clause-some
-returns-clause-some g c = work_lacks c.act.result (all_of_sets c.in_ok-steps.steps) _ (steps_simple c.args.rules.now.sets c.in_ok-plan.ensures.told.looks.sets c.args.clock.now.now c.args.settings.now.force c.in_ok-plan.plan c.in_ok-steps.steps c.requires c.in_ok-plan.ensures.told.planned c.in_ok-steps.ensures.steps) c.act.ensures.memory
+pub returns-in-Ok-clause-some : goal.returns-in-Ok-clause-some
+returns-in-Ok-clause-some g c = some_known c.look_and_act.result c.args.settings.now.state c.args.rules.now.sets c.in-Ok.remembered _ (rw c.in-Ok.is at c.in_ok-remembered.ensures.told) c.look_and_act.ensures.some
 
-pub returns-clause-room : goal.returns-clause-room
-returns-clause-room g c = room_left c.act.result _ c.make_ready.new.progress c.act.new.progress c.in_ok-steps.ensures.two_more c.act.ensures.fills
+pub returns-in-Err-clause-told : goal.returns-in-Err-clause-told
+returns-in-Err-clause-told g c = unknown_done c.args.settings.now.state c.args.rules.now.sets c.args.clock.now.now c.args.settings.now.force c.in-Err.fault c.args.progress.now.faults.items c.add_unknown.new.faults.items (rw c.in-Err.is at c.in_ok-remembered.ensures.told) c.add_unknown.ensures.faults
 
-pub returns-clause-counted : goal.returns-clause-counted
-returns-clause-counted g c = work_counted c.act.result c.args.settings.now.state c.args.rules.now c.args.clock.now.now c.args.settings.now.force c.in_ok-plan.plan (all_of_sets c.in_ok-steps.steps) c.args.progress.now.faults.items c.look_and_plan.new.faults.items c.make_ready.new.progress c.act.new.progress _ _ _
-    c.in_ok-plan.ensures.told c.in_ok-plan.ensures.counted c.in_ok-steps.ensures.faults c.act.ensures.told
-
-pub returns-in_err-steps-clause-some : goal.returns-in_err-steps-clause-some
-returns-in_err-steps-clause-some g c = some_at_all c.from_residual-in_err-steps.result (reserved_by c.args.settings.now.state) (reserved_by c.args.settings.now.state) c.args.rules.now.sets c.in_ok-plan.ensures.told.looks c.args.progress.now.faults.items c.look_and_plan.new.faults.items _ _ refl c.in_ok-plan.ensures.told.entries
+pub returns-in-Err-clause-counted : goal.returns-in-Err-clause-counted
+returns-in-Err-clause-counted g c = unknown_counted c.args.settings.now.state c.in-Err.fault c.args.progress.now.faults.items c.add_unknown.new.faults.items _ _ c.add_unknown.ensures.faults (c.in_ok-remembered.ensures.only c.in-Err.fault (ap Ok c.in-Err.is)) (λ kind path is. c.in_ok-remembered.ensures.counted kind path (ap Ok (c.in-Err.is ∙ ap Err is))) c.in_ok-remembered.ensures.counts.0

@@ -1,0 +1,84 @@
+-- The acts of a run, and the state behind them.
+use Rattle.std.proofs.Common.{◌≡◌, ◌<◌, ◌+◌, ◌-◌, ℕ, Bool, true, false, cond, ◌||◌, List, [], ◌∷◌, ◌++◌, length, take, drop, get_or, map, Option, refl, sym, ap, ◌∙◌, subst, arith, append_assoc}
+use Rattle.std.specs.Str.{bytes_eq}
+use Rattle.std.proofs.lemmas.List.{take_more, take_all, length-drop}
+use Rattle.std.proofs.lemmas.List.Folds.{list_any-append}
+use Rattle.std.proofs.Math.Seq.{drop-append_seam}
+use Rattle.lr_rules.specs.declared.civil.Civil.{Civil}
+use Rattle.lr_rules.specs.declared.fault.Fault.{Fault}
+use Rattle.lr_rules.specs.declared.path.Path.{Path}
+use Rattle.lr_host.specs.declared.entry.Entry.{Entry}
+use Rattle.lr_host.specs.declared.journal.Journal.{Journal}
+use Rattle.lr_host.specs.Told.{Counts}
+use Rattle.lr_host.proofs.Left.{left_as, left_both}
+use Rattle.lr_state.specs.Table.{Entry as Row}
+use Rattle.lr_state.specs.Written.{text_of}
+use Rattle.lr_plan.specs.declared.mark.Mark.{Mark}
+use Rattle.lr_plan.specs.declared.mark.Mark.TheVariants as mark
+use Rattle.lr_plan.specs.Course.{Course}
+use Rattle.lr_plan.specs.Done.{SetsDone, rotated_logs}
+use Rattle.lr_plan.specs.Steps.{state_steps}
+use Rattle.lr_plan.proofs.Counts.{counted_on}
+use Rattle.lr_acts.specs.declared.progress.Progress.{Progress}
+use Rattle.lr_acts.specs.Adding.{Adds}
+use Rattle.lr_acts.specs.Making.{all_of_sets}
+use Rattle.lr_record.specs.After.{is_among, stamped}
+use Rattle.lr_writing.specs.Writes.{AddsCourse}
+use Rattle.lr_run.specs.declared.ready.Ready.{Ready}
+use Rattle.lr_run.specs.Internal.{ActsAndWrites}
+
+-- ---- marks one behind another
+
+logs_on : (ms ns : List Mark) → rotated_logs (ms ++ ns) ≡ rotated_logs ms ++ rotated_logs ns
+logs_on [] ns = refl
+logs_on (mark.Rotated log ∷ ms) ns = ap (λ (logs : List Path). log ∷ logs) (logs_on ms ns)
+logs_on (mark.Directory path ∷ ms) ns = logs_on ms ns
+logs_on (mark.Created path ∷ ms) ns = logs_on ms ns
+
+stamped_twice : (xs ys : List Path) (now : Civil) (row : Row) → stamped ys now (stamped xs now row) ≡ stamped (xs ++ ys) now row
+stamped_twice xs ys now row = go (is_among xs row.0) ∙ ap (λ (b : Bool). cond b new row) (sym (list_any-append (bytes_eq row.0) xs ys))
+  where
+    new : Row
+    new = (row.0, now)
+
+    again : (b : Bool) → cond b new new ≡ new
+    again true = refl
+    again false = refl
+
+    go : (b : Bool) → stamped ys now (cond b new row) ≡ cond (b || is_among ys row.0) new row
+    go true = again (is_among ys row.0)
+    go false = refl
+
+all_stamped_twice : (xs ys : List Path) (now : Civil) (rows : List Row) → map (stamped ys now) (map (stamped xs now) rows) ≡ map (stamped (xs ++ ys) now) rows
+all_stamped_twice xs ys now [] = refl
+all_stamped_twice xs ys now (row ∷ rows) = ap (λ (r : Row). r ∷ map (stamped ys now) (map (stamped xs now) rows)) (stamped_twice xs ys now row) ∙ ap (λ (rs : List Row). stamped (xs ++ ys) now row ∷ rs) (all_stamped_twice xs ys now rows)
+
+-- so many of the marks, and one more
+pub one_more_stamp : (marks : List Mark) (at : ℕ) (m : Mark) (now : Civil) (rows before later : List Row) → at < length marks → m ≡ get_or marks at m → before ≡ map (stamped (rotated_logs (take at marks)) now) rows → later ≡ map (stamped (rotated_logs (m ∷ [])) now) before
+    → later ≡ map (stamped (rotated_logs (take (at + 1) marks)) now) rows
+one_more_stamp marks at m now rows before later lt is h g =
+    g ∙ (ap (λ (rs : List Row). map (stamped (rotated_logs (m ∷ [])) now) rs) h
+    ∙ (all_stamped_twice (rotated_logs (take at marks)) (rotated_logs (m ∷ [])) now rows
+    ∙ ap (λ (logs : List Path). map (stamped logs now) rows) (sym (logs_on (take at marks) (m ∷ [])) ∙ ap rotated_logs (ap (λ x. take at marks ++ x ∷ []) is ∙ sym (take_more marks at m lt)))))
+
+-- what stands behind so many of them
+pub marks_behind : (at : ℕ) (marks : List Mark) → take (length marks - at) (drop at marks) ≡ drop at marks
+marks_behind at marks = let l : length (drop at marks) ≡ length marks - at = length-drop at marks in take_all (length marks - at) (drop at marks) (omega (arith, l))
+
+-- ---- the acts, and then the state
+
+pub acts_and_writes : (ready : Ready) (now : Civil) (x y z : Progress) (before : ℕ) (o m n : Option Journal) (j k l : Counts) → before ≡ length x.marks.items → Adds (SetsDone ready.steps) (all_of_sets ready.steps) x y o m j k
+    → AddsCourse (state_steps ready.writing.state ready.writing.stale ready.writing.dirs (text_of (map (stamped (rotated_logs (drop before y.marks.items)) now) ready.table))) y.faults.items z.faults.items m n k l
+    → ActsAndWrites ready now x z o n j l
+acts_and_writes ready now x y z before o m n j k l is a s = record {
+  marks = a.marks;
+  of_plan = a.faults;
+  of_state = s.added;
+  faults_are = s.now_is ∙ (ap (λ (fs : List Fault). fs ++ s.added) a.faults_are ∙ append_assoc x.faults.items a.faults s.added);
+  entries = left_both a.entries (left_as s.entries (λ (ts : List Entry) w.
+      subst (λ (ms : List Mark). Course (state_steps ready.writing.state ready.writing.stale ready.writing.dirs (text_of (map (stamped (rotated_logs ms) now) ready.table))) [] s.added ts) own w.0));
+  are_counted = counted_on a.faults s.added j k l a.are_counted s.are_counted;
+}
+  where
+    own : drop before y.marks.items ≡ a.marks
+    own = ap (drop before) a.marks_are ∙ (ap (λ (i : ℕ). drop i (x.marks.items ++ a.marks)) is ∙ drop-append_seam x.marks.items a.marks)

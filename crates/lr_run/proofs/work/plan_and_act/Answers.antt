@@ -1,0 +1,40 @@
+use Rattle.lr_acts.specs.Making.{all_of_sets}
+use Rattle.lr_run.proofs.Placing.{fits_behind_acts}
+use Rattle.lr_run.proofs.Simple.{simple_built}
+use Rattle.lr_run.proofs.Works.{ready_of, not_ready, ready_simple, ready_fit, carried_out, carried_counted, too_big_told, work_lacks}
+use Rattle.lr_run.proofs.work.plan_and_act.Goals as goal
+
+pub carry_out-requires-clause-built : goal.carry_out-requires-clause-built
+carry_out-requires-clause-built g c =
+    let r = ready_of c.args.settings.now.state c.args.clock.now.now c.args.remembered _ _ c.in_ok-plan.plan _ c.in_ok-ready.field-0 c.in-Some.ready c.args.progress.now c.make_ready.new.progress c.as_slice-kept.ensures c.in_ok-plan.ensures c.in-Some.is c.in_ok-ready.ensures in
+    simple_built (all_of_sets c.in-Some.ready.steps) (ready_simple c.args.rules.now c.args.looks.now c.args.settings.now.state c.args.remembered c.args.clock.now.now c.args.settings.now.force c.in-Some.ready c.args.progress.now c.make_ready.new.progress c.requires.built r)
+
+pub carry_out-requires-clause-fits : goal.carry_out-requires-clause-fits
+carry_out-requires-clause-fits g c =
+    let r = ready_of c.args.settings.now.state c.args.clock.now.now c.args.remembered _ _ c.in_ok-plan.plan _ c.in_ok-ready.field-0 c.in-Some.ready c.args.progress.now c.make_ready.new.progress c.as_slice-kept.ensures c.in_ok-plan.ensures c.in-Some.is c.in_ok-ready.ensures in
+    ready_fit _ c.args.rules.now c.args.looks.now c.args.settings.now.state c.args.remembered c.args.clock.now.now c.args.settings.now.force c.in-Some.ready c.args.progress.now c.make_ready.new.progress _ _ c.requires.built r c.requires.seen.looked
+
+pub carry_out-requires-clause-fits_state : goal.carry_out-requires-clause-fits_state
+carry_out-requires-clause-fits_state g c =
+    let r = ready_of c.args.settings.now.state c.args.clock.now.now c.args.remembered _ _ c.in_ok-plan.plan _ c.in_ok-ready.field-0 c.in-Some.ready c.args.progress.now c.make_ready.new.progress c.as_slice-kept.ensures c.in_ok-plan.ensures c.in-Some.is c.in_ok-ready.ensures in
+    λ later text l. fits_behind_acts c.args.settings.now.state c.args.rules.now c.args.looks.now c.args.remembered c.args.clock.now.now c.args.settings.now.force c.in-Some.ready c.args.progress.now c.make_ready.new.progress text _ later c.requires.built r c.requires.seen l
+
+pub returns-in-Some-clause-told : goal.returns-in-Some-clause-told
+returns-in-Some-clause-told g c =
+    let r = ready_of c.args.settings.now.state c.args.clock.now.now c.args.remembered _ _ c.in_ok-plan.plan _ c.in_ok-ready.field-0 c.in-Some.ready c.args.progress.now c.make_ready.new.progress c.as_slice-kept.ensures c.in_ok-plan.ensures c.in-Some.is c.in_ok-ready.ensures in
+    carried_out c.carry_out.result c.args.settings.now.state c.args.rules.now c.args.looks.now c.args.remembered c.args.clock.now.now c.args.settings.now.force c.in-Some.ready c.args.progress.now c.make_ready.new.progress c.carry_out.new.progress _ _ _ _ r c.carry_out.ensures.told
+
+pub returns-in-Some-clause-memory : goal.returns-in-Some-clause-memory
+returns-in-Some-clause-memory g c =
+    let r = ready_of c.args.settings.now.state c.args.clock.now.now c.args.remembered _ _ c.in_ok-plan.plan _ c.in_ok-ready.field-0 c.in-Some.ready c.args.progress.now c.make_ready.new.progress c.as_slice-kept.ensures c.in_ok-plan.ensures c.in-Some.is c.in_ok-ready.ensures in
+    work_lacks c.carry_out.result (all_of_sets c.in-Some.ready.steps) _ (ready_simple c.args.rules.now c.args.looks.now c.args.settings.now.state c.args.remembered c.args.clock.now.now c.args.settings.now.force c.in-Some.ready c.args.progress.now c.make_ready.new.progress c.requires.built r) c.carry_out.ensures.memory
+
+pub returns-in-Some-clause-counted : goal.returns-in-Some-clause-counted
+returns-in-Some-clause-counted g c =
+    let r = ready_of c.args.settings.now.state c.args.clock.now.now c.args.remembered _ _ c.in_ok-plan.plan _ c.in_ok-ready.field-0 c.in-Some.ready c.args.progress.now c.make_ready.new.progress c.as_slice-kept.ensures c.in_ok-plan.ensures c.in-Some.is c.in_ok-ready.ensures in
+    carried_counted c.carry_out.result c.args.settings.now.state c.args.rules.now c.args.looks.now c.args.remembered c.args.clock.now.now c.args.settings.now.force c.in-Some.ready c.args.progress.now c.make_ready.new.progress c.carry_out.new.progress _ _ _ _ r c.carry_out.ensures.told
+
+pub returns-in-None-clause-told : goal.returns-in-None-clause-told
+returns-in-None-clause-told g c =
+    too_big_told c.add_too_big.result c.args.settings.now.state c.args.rules.now c.args.looks.now c.args.remembered c.args.clock.now.now c.args.settings.now.force c.args.progress.now c.make_ready.new.progress c.add_too_big.new.faults.items _
+    (not_ready c.args.settings.now.state c.args.clock.now.now c.args.remembered _ _ c.in_ok-plan.plan _ c.in_ok-ready.field-0 c.args.progress.now c.make_ready.new.progress c.as_slice-kept.ensures c.in_ok-plan.ensures c.in-None.is c.in_ok-ready.ensures) c.add_too_big.ensures.faults

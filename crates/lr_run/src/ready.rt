@@ -1,0 +1,137 @@
+// What is made ready behind the looks, before the first act.
+ghost use Rattle.std.specs.Prelude.{◌≡◌, ◌≤◌, ◌<◌, ◌+◌, ◌++◌, [], IfOk, OnOk, length, nat_le, vec_len};
+ghost use Rattle.std.specs.Vec.{vec_capacity};
+ghost use Rattle.lr_acts.specs.Adding.{HasRoom};
+ghost use Rattle.lr_acts.specs.Making.{all_of_sets};
+ghost use Rattle.lr_plan.specs.Steps.{steps_of_plan};
+ghost use Rattle.lr_reading.specs.Sights.{state_part};
+ghost use Rattle.lr_record.specs.After.{after};
+ghost use Rattle.lr_record.specs.Measured.{measured_text};
+ghost use Rattle.lr_writing.specs.Directories.{AreDirectoriesOf};
+ghost use Rattle.lr_run.specs.Runs.{logs_in, changed_in};
+ghost use Rattle.lr_run.specs.Internal.{IsReady, MayBeReady, WritesTo};
+
+use crate::paths::{changed_by_plan, logs_of_plan};
+use lr_acts::{Progress, take_room};
+use lr_plan::{Plan, SetSteps, steps_of};
+use lr_reading::Remembered;
+use lr_record::{bring_up, fits};
+use lr_rules::{Civil, Fault, Listed, Memory, Moment, Path};
+use lr_state::State;
+use lr_writing::{Writing, directories_of, prepare};
+use std::alloc::Global;
+
+/// All that a run needs for its acts: the steps of its plan, the state's writing, and the table that is written, in which
+/// no log is rotated yet.
+#[derive(Drop)]
+pub struct Ready {
+    pub steps: Listed<SetSteps>,
+    pub writing: Writing,
+    pub table: State,
+}
+
+// Brings the table up to the looks; the answer is whether the text is small enough, however the rotations end.
+fn bring_up_to(
+    alloc: Global,
+    table: &mut State,
+    kept: &[Path],
+    plan: &Plan,
+    now: &Civil,
+) -> Result<bool, Memory>
+    ensures table { OnOk result (table.new ≡ after table.old [] kept.now now.now) }
+    ensures small { IfOk result (λ b. b ≡ nat_le (length (measured_text (logs_in plan.now) now.now (after table.old [] kept.now now.now))) 67_108_864) }
+{
+    bring_up(alloc, table, kept, now)?;
+    let due = logs_of_plan(alloc, plan.sets.as_slice())?;
+    fits(alloc, table, &due, now)
+}
+
+// Takes what the state's writing needs.
+fn writing_for(
+    alloc: Global,
+    state: &Path,
+    part: Path,
+    stale: bool,
+    plan: &Plan,
+) -> Result<Writing, Memory>
+    requires { part ≡ state_part state.now }
+    ensures { IfOk result (λ writing. WritesTo state.now stale plan.now writing) }
+{
+    let paths = changed_by_plan(alloc, plan.sets.as_slice())?;
+    let dirs = directories_of(alloc, &paths)?;
+    prepare(alloc, state, part, stale, dirs)
+}
+
+// Adds the faults of the plan.
+fn add_all(faults: &mut Vec<Fault>, more: Listed<Fault>) -> Result<(), Memory>
+    ensures { OnOk result (faults.new.items ≡ faults.old.items ++ more) }
+{
+    for fault in more.into_vec() {
+        faults.push(fault)?;
+    }
+    Ok(())
+}
+
+// Makes the steps of a plan ready: adds its faults, and takes the room that its acts need.
+fn steps_ready(
+    alloc: Global,
+    plan: Plan,
+    progress: &mut Progress,
+) -> Result<Listed<SetSteps>, Memory>
+    ensures steps { IfOk result (λ sets. sets ≡ steps_of_plan plan) }
+    ensures faults { OnOk result (progress.new.faults.items ≡ progress.old.faults.items ++ plan.faults) }
+    ensures marks { progress.new.marks.items ≡ progress.old.marks.items }
+    ensures room { IfOk result (λ sets. HasRoom (length (all_of_sets sets)) progress.new) }
+    ensures two_more { IfOk result (λ sets. vec_len progress.new.faults + length (all_of_sets sets) + 2 ≤ vec_capacity progress.new.faults) }
+{
+    let Plan { sets, faults, .. } = plan;
+    add_all(&mut progress.faults, faults)?;
+    let steps = steps_of(alloc, sets)?;
+    take_room(progress, steps.as_slice())?;
+    Ok(steps)
+}
+
+// Takes what the state's writing and the steps need.
+fn all_ready(
+    alloc: Global,
+    state: &Path,
+    part: Path,
+    stale: bool,
+    plan: Plan,
+    table: State,
+    progress: &mut Progress,
+) -> Result<Ready, Memory>
+    requires { part ≡ state_part state.now }
+    ensures { IfOk result (λ ready. IsReady state.now stale plan table ready progress.old progress.new) }
+{
+    let writing = writing_for(alloc, state, part, stale, &plan)?;
+    let steps = steps_ready(alloc, plan, progress)?;
+    Ok(Ready {
+        steps,
+        writing,
+        table,
+    })
+}
+
+/// Takes all memory that the acts of a plan and the state's writing need, where these logs are kept; adds the faults of the
+/// plan. None, and nothing is added, where the text of the state could become too big.
+pub fn make_ready(
+    alloc: Global,
+    state: &Path,
+    now: &Moment,
+    kept: &[Path],
+    plan: Plan,
+    part: Path,
+    remembered: Remembered,
+    progress: &mut Progress,
+) -> Result<Option<Ready>, Memory>
+    requires { part ≡ state_part state.now }
+    ensures { IfOk result (λ ready. MayBeReady state.now now.now remembered kept.now plan ready progress.old progress.new) }
+{
+    let Remembered { mut table, stale } = remembered;
+    let small = bring_up_to(alloc, &mut table, kept, &plan, &now.civil)?;
+    if !small {
+        return Ok(None);
+    }
+    Ok(Some(all_ready(alloc, state, part, stale, plan, table, progress)?))
+}
