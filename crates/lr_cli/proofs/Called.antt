@@ -1,84 +1,130 @@
 -- The answers of a call of the program.
-use Rattle.std.proofs.Common.{◌≡◌, ◌⊎◌, inl, inr, ℕ, List, [], ◌∷◌, Option, Result, Ok, Err, IfOk, IfErr, ◌<◌, ◌^◌, arith, w64, to_z, of_z, T, refl, sym, ap, ◌∙◌, subst}
-use Rattle.std.specs.Prelude.{ℤ, Contains}
-use Rattle.std.proofs.Math.Facts.{to_z-of_z, sfits_lit}
-use Rattle.std.proofs.lemmas.Bool.{lt-ltb}
-use Rattle.std.specs.Int.Signed.{mag}
-use Rattle.lr_rules.specs.declared.path.Path.{Path}
-use Rattle.lr_rules.specs.declared.civil.Civil.{Civil}
+use Rattle.std.proofs.Common.{◌≡◌, ◌⊎◌, inl, inr, ℕ, Bool, List, [], ◌∷◌, Option, Result, Ok, Err, IfOk, refl, sym, ap, ◌∙◌, subst}
+use Rattle.std.specs.Prelude.{ℤ, Contains, filter}
 use Rattle.lr_rules.specs.declared.civil.Moment.{Moment}
+use Rattle.lr_rules.specs.declared.clock.Clock.{Clock}
+use Rattle.lr_rules.specs.declared.path.Path.{Path}
 use Rattle.lr_rules.specs.declared.fault.Fault.{Fault}
 use Rattle.lr_rules.specs.declared.fault.Fault.TheVariants as fault
 use Rattle.lr_rules.specs.declared.fault.Notice.{Notice}
+use Rattle.lr_host.specs.declared.entry.Entry.{Entry}
 use Rattle.lr_host.specs.declared.journal.Journal.{Journal}
-use Rattle.lr_host.specs.Told.{Counts, NoneFell, Left}
-use Rattle.lr_host.proofs.Left.{left_as, left_first}
+use Rattle.lr_host.specs.Told.{Counts, Left}
+use Rattle.lr_host.specs.Quiet.{is_disk_change, ChangeNothing}
+use Rattle.lr_host.proofs.Quiet.{quiet_still, then_still}
+use Rattle.lr_host.proofs.Left.{left_as, left_first, left_both, left_then}
+use Rattle.lr_due.specs.declared.tz.Zone.{Zone}
 use Rattle.lr_plan.specs.Counted.{AreCounted}
-use Rattle.lr_plan.proofs.Counts.{counted_free}
+use Rattle.lr_rotations.specs.AllTurns.{IsWholeRun}
 use Rattle.lr_run.specs.declared.answer.RunStop.{RunStop}
 use Rattle.lr_run.specs.declared.answer.RunStop.TheVariants as stop
+use Rattle.lr_cli.specs.declared.clock.ClockStop.{ClockStop}
+use Rattle.lr_cli.specs.declared.clock.ClockStop.TheVariants as clock_stop
 use Rattle.lr_cli.specs.declared.told.Told.{Told}
 use Rattle.lr_cli.specs.declared.outcome.Outcome.{Outcome}
 use Rattle.lr_cli.specs.declared.outcome.Outcome.TheVariants.{Done, BadWords, OutOfMemory}
-use Rattle.lr_cli.specs.Answer.{IsFirst, IsNow, IsInRange, Answers, AnswersAt, no_clock, no_memory, called, Answered, not_read, read}
-use Rattle.lr_cli.specs.Faults.{answer_of, HasCounted}
+use Rattle.lr_cli.specs.declared.outcome.Report.{Report}
+use Rattle.lr_cli.specs.declared.words.Request.{Request}
+use Rattle.lr_cli.specs.Answer.{at_first as lacks_first, Answers, AnswersAt, no_clock, no_memory, called, Answered, not_read, read}
+use Rattle.lr_cli.specs.Clock.{ShowsClock, LacksClock, ClockStopped, HasClock, IsClockFault, IsClocked, with_clock, without_clock}
+use Rattle.lr_cli.specs.Faults.{answer_of, clock_answer, HasCounted}
 use Rattle.lr_cli.specs.Words.{AreWords}
-use Rattle.lr_cli.proofs.Reading.{no_out_among}
+use Rattle.lr_cli.specs.Zone.{LacksZoneMemory, at_first}
+use Rattle.lr_cli.proofs.Reading.{no_out_among, run_behind, alone_run}
+use Rattle.lr_cli.proofs.Still.{clock_quiet, stop_quiet}
 
--- ---- the moment
+-- ---- a run where there is no clock
 
--- a number of the type is what its bits say
-pub own_seconds : (z : ℤ) → mag z < 2 ^ 63 → to_z w64 (of_z w64 z) ≡ z
-own_seconds z fits = to_z-of_z {w = w64} (sfits_lit {w = w64} (subst T (sym (lt-ltb (mag z) (2 ^ 63) fits)) tt))
+pub at_none : (request : Request) (zone : Zone) (seconds : ℤ) (o : Option Journal) → Left (AnswersAt request zone seconds OutOfMemory) o o
+at_none request zone seconds o = left_first (AnswersAt request zone seconds OutOfMemory) o (no_memory refl (at_first refl))
 
--- the moment that the call makes of its seconds
-abbrev pub moment_at : ℤ → Civil → Moment
-moment_at z civil = record { seconds = to_z w64 (of_z w64 z); civil = civil }
+stopped_at : (request : Request) (zone : Zone) (seconds : ℤ) (why : ClockStop) {o n : Option Journal} → Left (ClockStopped zone seconds why) o n → Left (AnswersAt request zone seconds (clock_answer why)) o n
+stopped_at request zone seconds (clock_stop.Fault f) l = left_as l (λ ts h. no_clock f refl h)
+stopped_at request zone seconds clock_stop.Memory l = left_as l (λ ts h. no_memory refl h)
 
-pub is_now : (z : ℤ) (civil : Civil) → mag z < 2 ^ 63 → IsFirst civil → IsNow z (moment_at z civil)
-is_now z civil fits first = record { seconds_are = own_seconds z fits; civil_is = first }
+pub at_stop : (request : Request) (zone : Zone) (s seconds : ℤ) (why : ClockStop) (outcome : Outcome) {o n : Option Journal} → s ≡ seconds → outcome ≡ clock_answer why → Left (ClockStopped zone s why) o n → Left (AnswersAt request zone seconds outcome) o n
+at_stop request zone s seconds why outcome {o = o} {n = n} same is l =
+    subst (λ (a : Outcome). Left (AnswersAt request zone seconds a) o n) (sym is) (stopped_at request zone seconds why (subst (λ (z : ℤ). Left (ClockStopped zone z why) o n) same l))
 
--- ---- the run at a moment
+pub stop_shape : (zone : Zone) (seconds : ℤ) (why : ClockStop) {o n : Option Journal} → Left (ClockStopped zone seconds why) o n → Left IsWholeRun o n
+stop_shape zone seconds why l = left_as l (λ ts h. alone_run ts (stop_quiet zone seconds why ts h))
 
-abbrev with_clock : Told → Type 0
-with_clock told = (told.notices ≡ []) × (told.faults.items ≡ fault.Clock ∷ [])
+-- the one fault that is told
+abbrev notices_in : Outcome → List Notice
+notices_in (Done report) = report.notices
+notices_in _ = []
 
-clock_told : (told : Told) → told.notices ≡ [] → told.faults.items ≡ fault.Clock ∷ [] → answer_of (Ok told) ≡ Done (record { notices = []; faults = fault.Clock ∷ [] })
-clock_told told e f = ap (λ (ns : List Notice). Done (record { notices = ns; faults = told.faults.items })) e ∙ ap (λ (fs : List Fault). Done (record { notices = []; faults = fs })) f
+abbrev faults_in : Outcome → List Fault
+faults_in (Done report) = report.faults
+faults_in _ = []
 
-pub at_clock : (conf : Path) (s seconds : ℤ) (r : Result Told RunStop) (o : Option Journal) → s ≡ seconds → (IsInRange s → ⊥) → IfOk r (λ told. told.notices ≡ []) → IfOk r (λ told. told.faults.items ≡ fault.Clock ∷ []) → IfErr r (λ s. s ≡ stop.Memory)
-    → Left (AnswersAt conf seconds (answer_of r)) o o
-at_clock conf s seconds (Ok told) o same out e f m = left_first (AnswersAt conf seconds (answer_of (Ok told))) o (no_clock (subst (λ (z : ℤ). IsInRange z → ⊥) same out) (clock_told told e f) refl)
-at_clock conf s seconds (Err why) o same out e f m = left_first (AnswersAt conf seconds (answer_of (Err why))) o (no_memory (ap (λ (x : RunStop). answer_of (Err x)) m) refl)
+faults_alone : (told : Told) (f : Fault) → answer_of (Ok told) ≡ clock_answer (clock_stop.Fault f) → (told.notices ≡ []) × (told.faults.items ≡ f ∷ [])
+faults_alone told f e = (ap notices_in e, ap faults_in e)
 
-pub at_none : (conf : Path) (seconds : ℤ) (o : Option Journal) → Left (AnswersAt conf seconds OutOfMemory) o o
-at_none conf seconds o = left_first (AnswersAt conf seconds OutOfMemory) o (no_memory refl refl)
+pub stop_clocked : (zone : Zone) (s seconds : ℤ) (r : Result Told RunStop) (c : Result Clock ClockStop) (why : ClockStop) (Y : Fault → Type 0) → s ≡ seconds → answer_of r ≡ clock_answer why → c ≡ Err why → ((f : Fault) → c ≡ Err (clock_stop.Fault f) → IsClockFault zone s f × Y f)
+    → IfOk r (λ told. IsClocked zone seconds told.notices told.faults.items)
+stop_clocked zone s seconds (Ok told) c (clock_stop.Fault f) Y same e is h = let alone = faults_alone told f e in without_clock f alone.0 alone.1 (subst (λ (z : ℤ). IsClockFault zone z f) same (h f is).0)
+stop_clocked zone s seconds (Ok told) c clock_stop.Memory Y same e is h = absurd (cc)
+stop_clocked zone s seconds (Err w) c why Y same e is h = tt
 
-pub at_moment : (conf : Path) (s seconds : ℤ) (now : Moment) (outcome : Outcome) {o n : Option Journal} → s ≡ seconds → IsInRange s × IsNow s now → Left (Answers conf now outcome) o n → Left (AnswersAt conf seconds outcome) o n
-at_moment conf s seconds now outcome same is l =
-    let there : IsInRange seconds × IsNow seconds now = subst (λ (z : ℤ). IsInRange z × IsNow z now) same is in
-    left_as l (λ ts h. called now there.0 there.1 h)
+-- ---- a run at a clock
 
-none_fell : (k : Counts) → NoneFell k k
-none_fell k = (omega arith, omega arith, omega arith)
+pub by_first : (conf : Path) (force : Bool) (now : Moment) (o : Option Journal) → Left (Answers conf force now OutOfMemory) o o
+by_first conf force now o = left_first (Answers conf force now OutOfMemory) o (refl, lacks_first refl)
 
-pub clock_counted : (r : Result Told RunStop) (k : Counts) → IfOk r (λ told. told.faults.items ≡ fault.Clock ∷ []) → IfOk r (λ told. AreCounted told.faults.items k k)
-clock_counted (Ok told) k e = subst (λ (fs : List Fault). AreCounted fs k k) (sym e) (counted_free (fault.Clock ∷ []) k k (record { calls = refl; scripts = refl; no_out = ((λ h. h), tt) }) (none_fell k))
-clock_counted (Err s) k e = tt
+pub by_force : (conf : Path) (a b : Bool) (now : Moment) (outcome : Outcome) (o n : Option Journal) → a ≡ b → Left (Answers conf a now outcome) o n → Left (Answers conf b now outcome) o n
+by_force conf a b now outcome o n same l = subst (λ (f : Bool). Left (Answers conf f now outcome) o n) same l
+
+pub at_clock : (request : Request) (zone : Zone) (s seconds : ℤ) (clock : Clock) (outcome : Outcome) {o m n : Option Journal} → s ≡ seconds → Left (ShowsClock zone s clock) o m → Left (Answers request.conf request.force clock.now outcome) m n → Left (AnswersAt request zone seconds outcome) o n
+at_clock request zone s seconds clock outcome {o = o} {m = m} same a b = left_as (left_both (subst (λ (z : ℤ). Left (ShowsClock zone z clock) o m) same a) b) (λ ts t. called clock t)
+
+pub clock_shape : (zone : Zone) (seconds : ℤ) (clock : Clock) {o m n : Option Journal} → Left (ShowsClock zone seconds clock) o m → Left IsWholeRun m n → Left IsWholeRun o n
+clock_shape zone seconds clock a b = left_then a b (λ xs ys p q. run_behind xs ys (clock_quiet zone seconds clock xs p) q)
+
+pub clock_clocked : (zone : Zone) (s seconds : ℤ) (clock : Clock) (r : Result Told RunStop) → s ≡ seconds → HasClock zone s clock → IfOk r (λ told. IsClocked zone seconds told.notices told.faults.items)
+clock_clocked zone s seconds clock (Ok told) same h = with_clock clock (subst (λ (z : ℤ). HasClock zone z clock) same h)
+clock_clocked zone s seconds clock (Err w) same h = tt
 
 -- ---- the call
 
 -- a call that called nothing
-pub nothing_called : (here : Path) (words : List (List ℕ)) (seconds : ℤ) (a o : Outcome) (j : Option Journal) → a ≡ o → (o ≡ BadWords) ⊎ (o ≡ OutOfMemory) → Left (Answered here words seconds a) j j
-nothing_called here words seconds a o j same which = left_first (Answered here words seconds a) j (not_read (subst (λ (r : Outcome). (r ≡ BadWords) ⊎ (r ≡ OutOfMemory)) (sym same) which) refl)
+pub nothing_called : (here : Path) (words : List (List ℕ)) (zone : Zone) (seconds : ℤ) (a o : Outcome) (j : Option Journal) → a ≡ o → (o ≡ BadWords) ⊎ (o ≡ OutOfMemory) → Left (Answered here words zone seconds a) j j
+nothing_called here words zone seconds a o j same which = left_first (Answered here words zone seconds a) j (not_read (subst (λ (r : Outcome). (r ≡ BadWords) ⊎ (r ≡ OutOfMemory)) (sym same) which) refl)
 
-pub answered : (here : Path) (words : List (List ℕ)) (s seconds : ℤ) (conf : Path) (a o : Outcome) (j k : Option Journal) → s ≡ seconds → a ≡ o → AreWords here words conf → Left (AnswersAt conf s o) j k → Left (Answered here words seconds a) j k
-answered here words s seconds conf a o j k at same w l = subst (λ (z : ℤ). Left (Answered here words z a) j k) at (subst (λ (r : Outcome). Left (Answered here words s r) j k) (sym same) (left_as l (λ ts h. read conf w h)))
+pub answered : (here : Path) (words : List (List ℕ)) (zone : Zone) (s seconds : ℤ) (request : Request) (a o : Outcome) (j k : Option Journal) → s ≡ seconds → a ≡ o → AreWords here words request → Left (AnswersAt request zone s o) j k → Left (Answered here words zone seconds a) j k
+answered here words zone s seconds request a o j k at same w l =
+    subst (λ (z : ℤ). Left (Answered here words zone z a) j k) at (subst (λ (r : Outcome). Left (Answered here words zone s r) j k) (sym same) (left_as l (λ ts h. read request w h)))
+
+-- where there was no memory, that changed nothing
+answers_still : (conf : Path) (force : Bool) (now : Moment) (outcome : Outcome) (ts : List Entry) → outcome ≡ OutOfMemory → Answers conf force now outcome ts → ChangeNothing ts
+answers_still conf force now outcome ts e h = (subst (λ (a : Outcome). Answers conf force now a ts) e h).0
+
+at_still : (request : Request) (zone : Zone) (seconds : ℤ) (outcome : Outcome) (ts : List Entry) → outcome ≡ OutOfMemory → AnswersAt request zone seconds outcome ts → ChangeNothing ts
+at_still request zone seconds outcome ts e (no_clock f is l) = absurd (cc)
+at_still request zone seconds outcome ts e (no_memory is l) = quiet_still ts (stop_quiet zone seconds clock_stop.Memory ts l)
+at_still request zone seconds outcome ts e (called clock t) = then_still _ _ ts (λ us p. quiet_still us (clock_quiet zone seconds clock us p)) (λ us h. answers_still request.conf request.force clock.now outcome us e h) t
+
+answered_still : (here : Path) (words : List (List ℕ)) (zone : Zone) (seconds : ℤ) (outcome : Outcome) (ts : List Entry) → outcome ≡ OutOfMemory → Answered here words zone seconds outcome ts → ChangeNothing ts
+answered_still here words zone seconds outcome ts e (not_read is none) = ap (filter is_disk_change) none
+answered_still here words zone seconds outcome ts e (read request w h) = at_still request zone seconds outcome ts e h
+
+pub left_still : (here : Path) (words : List (List ℕ)) (zone : Zone) (seconds : ℤ) (outcome : Outcome) {o n : Option Journal} → outcome ≡ OutOfMemory → Left (Answered here words zone seconds outcome) o n → Left ChangeNothing o n
+left_still here words zone seconds outcome e l = left_as l (λ ts h. answered_still here words zone seconds outcome ts e h)
 
 pub has_counted : (r : Result Told RunStop) (a : Outcome) (k l : Counts) → a ≡ answer_of r → IfOk r (λ told. AreCounted told.faults.items k l) → HasCounted a k l
 has_counted (Ok told) a k l same h = subst (λ (o : Outcome). HasCounted o k l) (sym same) h
 has_counted (Err stop.Held) a k l same h = subst (λ (o : Outcome). HasCounted o k l) (sym same) tt
 has_counted (Err stop.Memory) a k l same h = subst (λ (o : Outcome). HasCounted o k l) (sym same) tt
+
+-- its report is that of the run
+pub has_clocked : (zone : Zone) (s seconds : ℤ) (r : Result Told RunStop) (a : Outcome) (report : Report) → s ≡ seconds → a ≡ answer_of r → a ≡ Done report → IfOk r (λ told. IsClocked zone s told.notices told.faults.items) → IsClocked zone seconds report.notices report.faults
+has_clocked zone s seconds (Ok told) a report at same done h =
+    subst (λ (z : ℤ). IsClocked zone z report.notices report.faults) at (subst (λ (x : Report). IsClocked zone s x.notices x.faults) reports h)
+  where
+    reports : record { notices = told.notices; faults = told.faults.items } ≡ report
+    reports = cc
+has_clocked zone s seconds (Err stop.Held) a report at same done h = absurd (cc)
+has_clocked zone s seconds (Err stop.Memory) a report at same done h = absurd (cc)
 
 -- an answer without a report
 pub not_counted : (a o : Outcome) (k l : Counts) → a ≡ o → (o ≡ BadWords) ⊎ (o ≡ OutOfMemory) → HasCounted a k l

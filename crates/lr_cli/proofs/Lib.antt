@@ -1,7 +1,9 @@
 pub mod Built
 pub mod Called
+pub mod Clocked
 pub mod OutAside
 pub mod Reading
+mod Stopping
 pub mod Rotating
 pub mod Still
 pub mod Zoned

@@ -1,5 +1,5 @@
 -- What the reading of a configuration and the run behind it leave together.
-use Rattle.std.proofs.Common.{◌≡◌, ◌⊎◌, inl, inr, ⊎_elim, Bool, true, List, [], ◌∷◌, ◌++◌, Option, All, Contains, Err, refl, sym, ap, ◌∙◌, subst, append-nil, append_assoc, arith}
+use Rattle.std.proofs.Common.{◌≡◌, ◌⊎◌, inl, inr, ⊎_elim, Bool, List, [], ◌∷◌, ◌++◌, Option, All, Contains, Err, refl, sym, ap, ◌∙◌, subst, append-nil, append_assoc, arith}
 use Rattle.std.specs.Prelude.{filter}
 use Rattle.std.specs.List.{AllByRecursion as Every}
 use Rattle.std.proofs.lemmas.List.Elements.{recursion_from_All, Contains-append_cases, Contains-push}
@@ -39,16 +39,16 @@ use Rattle.lr_cli.specs.Answer.{state_path, Answers, Reports, FindsLock, LacksMe
 -- ---- what was left
 
 -- the report of a reading and of the run behind it
-pub reports : (conf state : Path) (force : Bool) (now : Moment) (r : Reading) (earlier faults : List Fault) {o m n : Option Journal} → state ≡ state_path → force ≡ true → earlier ≡ r.faults
-    → Left (ReadsAs conf (meaning_of r)) o m → Left (λ ts. (own : List Fault) × (faults ≡ earlier ++ own) × Runs state force now r.rules own ts) m n → Left (Reports conf now r.notices faults) o n
-reports conf state force now r earlier faults at forced e a b = left_as (left_both a b) (λ ts t. record {
+pub reports : (conf state : Path) (force : Bool) (now : Moment) (r : Reading) (earlier faults : List Fault) {o m n : Option Journal} → state ≡ state_path → earlier ≡ r.faults
+    → Left (ReadsAs conf (meaning_of r)) o m → Left (λ ts. (own : List Fault) × (faults ≡ earlier ++ own) × Runs state force now r.rules own ts) m n → Left (Reports conf force now r.notices faults) o n
+reports conf state force now r earlier faults at e a b = left_as (left_both a b) (λ ts t. record {
   meaning = meaning_of r;
   rules = r.rules;
   own = t.second.0;
   rules_are = refl;
   notices_are = refl;
   faults_are = t.second.1 ∙ ap (λ fs. fs ++ t.second.0) e;
-  entries = record { front = t.front; back = t.back; joined = t.joined; first = t.first; second = subst (λ p. Runs p true now r.rules t.second.0 t.back) at (subst (λ b. Runs state b now r.rules t.second.0 t.back) forced t.second.2) };
+  entries = record { front = t.front; back = t.back; joined = t.joined; first = t.first; second = subst (λ p. Runs p force now r.rules t.second.0 t.back) at t.second.2 };
 })
 
 pub finds_lock : (conf state : Path) (r : Reading) {o m n : Option Journal} → state ≡ state_path → Left (ReadsAs conf (meaning_of r)) o m → Left (Sees (parent_of state) IsDir) m n → Left (FindsLock conf) o n
@@ -73,7 +73,7 @@ lacks_at_run conf state now r at a b = left_as (left_both a b) (λ ts t. (
 
 -- what a run that stopped left
 pub stopped : (conf state : Path) (force : Bool) (now : Moment) (r : Reading) (earlier : List Fault) (s : RunStop) {o m n : Option Journal} → state ≡ state_path
-    → Left (ReadsAs conf (meaning_of r)) o m → Left (RunAnswers state force now r.rules earlier (Err s)) m n → Left (Answers conf now (answer_of (Err s))) o n
+    → Left (ReadsAs conf (meaning_of r)) o m → Left (RunAnswers state force now r.rules earlier (Err s)) m n → Left (Answers conf force now (answer_of (Err s))) o n
 stopped conf state force now r earlier stop.Held at a b = finds_lock conf state r at a b
 stopped conf state force now r earlier stop.Memory at a b = lacks_at_run conf state now r at a b
 
@@ -114,7 +114,7 @@ no_out_among (f ∷ fs) h c = ⊎_elim (λ (a : Contains (f ∷ []) fault.Out). 
 -- ---- the shape of the whole
 
 -- quiet entries before a run are some of it
-run_behind : (xs ys : List Entry) → AreQuiet xs → IsWholeRun ys → IsWholeRun (xs ++ ys)
+pub run_behind : (xs ys : List Entry) → AreQuiet xs → IsWholeRun ys → IsWholeRun (xs ++ ys)
 run_behind xs ys q r = record {
   front = xs ++ r.front;
   rest = r.rest;

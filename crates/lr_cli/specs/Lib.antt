@@ -1,4 +1,5 @@
 pub mod Answer
+pub mod Clock
 pub mod Faults
 pub mod Printed
 pub mod Rotated

@@ -10,7 +10,8 @@
 //! ```
 #![tactic(auto)]
 
-mod moment;
+mod clock;
+mod defaults;
 mod outcome;
 mod report;
 mod run;
@@ -19,12 +20,13 @@ mod top;
 mod words;
 mod zone;
 
+pub use clock::{ClockStop, clock_in};
+pub use defaults::{settings, state_file};
 pub use lr_due::{Zone, zone_of};
-pub use moment::{clock_at, first_civil, settings, state_file};
 pub use outcome::{Outcome, Report, status};
 pub use report::{printed, put_outcome, put_report};
-pub use run::{run_at, run_conf};
+pub use run::{run_at, run_by, run_conf};
 pub use told::Told;
 pub use top::logrotate;
-pub use words::{WordsFault, conf_of};
-pub use zone::{ZoneTextStop, zone_text};
+pub use words::{Request, WordsFault, request_of};
+pub use zone::zone_text;

@@ -1,14 +1,17 @@
 // One run over one configuration.
-ghost use Rattle.std.specs.Prelude.{◌≡◌, ◌≤◌, ◌+◌, true, [], ◌∷◌, Err, IfOk, IfErr, vec_len, vec_capacity};
-ghost use Rattle.lr_rules.specs.declared.fault.Fault.TheVariants as fault;
+ghost use Rattle.std.specs.Prelude.{◌≡◌, ◌≤◌, ◌+◌, [], Err, IfOk, vec_len, vec_capacity};
 ghost use Rattle.lr_host.specs.Told.{Left, Onward, Rose};
 ghost use Rattle.lr_plan.specs.Counted.{AreCounted};
 ghost use Rattle.lr_rotations.specs.AllTurns.{IsWholeRun};
 ghost use Rattle.lr_cli.specs.Answer.{Answers, AnswersAt, state_path};
-ghost use Rattle.lr_cli.specs.Faults.{answer_of};
+ghost use Rattle.lr_cli.specs.Clock.{IsClocked};
+ghost use Rattle.lr_cli.specs.Faults.{answer_of, clock_answer};
 
-use crate::moment::{clock_at, settings};
+use crate::clock::{ClockStop, clock_in};
+use crate::defaults::settings;
 use crate::told::Told;
+use crate::words::Request;
+use lr_due::Zone;
 use lr_host::Host;
 use lr_include::{Reading, read_conf};
 use lr_plan::Settings;
@@ -25,8 +28,7 @@ pub fn run_conf<H: Host>(
     clock: &Clock,
 ) -> Result<Told, RunStop>
     requires state { settings.now.state ≡ state_path }
-    requires force { settings.now.force ≡ true }
-    ensures told { Left (Answers conf.now clock.entry.now.now (answer_of result)) (H.told host.old) (H.told host.new) }
+    ensures told { Left (Answers conf.now settings.now.force clock.entry.now.now (answer_of result)) (H.told host.old) (H.told host.new) }
     ensures shape { Left IsWholeRun (H.told host.old) (H.told host.new) }
     ensures counted { IfOk result (λ told. AreCounted told.faults.items (H.counts host.old) (H.counts host.new)) }
     ensures room { IfOk result (λ told. vec_len told.faults + 1 ≤ vec_capacity told.faults) }
@@ -50,42 +52,67 @@ pub fn run_conf<H: Host>(
     }
 }
 
-// What is told of a moment that no clock shows.
-fn tell_clock(alloc: Global) -> Result<Told, RunStop>
-    ensures notices { IfOk result (λ told. told.notices ≡ []) }
-    ensures faults { IfOk result (λ told. told.faults.items ≡ fault.Clock ∷ []) }
-    ensures room { IfOk result (λ told. vec_len told.faults + 1 ≤ vec_capacity told.faults) }
-    ensures memory { IfErr result (λ stop. stop ≡ RunStop.Memory) }
-{
-    let Ok(mut faults) = Vec::with_capacity(alloc, 2) else {
-        return Err(RunStop::Memory);
-    };
-    faults.push_reserved(Fault::Clock);
-    Ok(Told {
-        notices: Listed::new(alloc),
-        faults,
-    })
-}
-
-/// The same at this many seconds since 1970, by the settings of each call so far.
-pub fn run_at<H: Host>(
+/// The same for a request, by the settings of each call so far.
+pub fn run_by<H: Host>(
     alloc: Global,
     host: &mut H,
-    conf: &Path,
-    seconds: i64,
+    request: &Request,
+    clock: &Clock,
 ) -> Result<Told, RunStop>
-    ensures told { Left (AnswersAt conf.now seconds (answer_of result)) (H.told host.old) (H.told host.new) }
+    ensures told { Left (Answers request.now.conf request.now.force clock.entry.now.now (answer_of result)) (H.told host.old) (H.told host.new) }
     ensures shape { Left IsWholeRun (H.told host.old) (H.told host.new) }
     ensures counted { IfOk result (λ told. AreCounted told.faults.items (H.counts host.old) (H.counts host.new)) }
     ensures room { IfOk result (λ told. vec_len told.faults + 1 ≤ vec_capacity told.faults) }
     ensures held { result ≡ Err RunStop.Held → Rose (H.counts host.old).held (H.counts host.new).held }
     ensures counts { Onward (H.counts host.old) (H.counts host.new) }
 {
-    let Some(clock) = clock_at(seconds) else {
-        return tell_clock(alloc);
-    };
-    let Ok(settings) = settings(alloc) else {
+    let Ok(settings) = settings(alloc, request.force) else {
         return Err(RunStop::Memory);
     };
-    run_conf(alloc, host, conf, &settings, &clock)
+    run_conf(alloc, host, &request.conf, &settings, clock)
+}
+
+// What is told where there is no clock, in a list that has room for it and one more.
+fn without_clock(alloc: Global, stop: ClockStop, faults: Vec<Fault>) -> Result<Told, RunStop>
+    requires none { faults.items ≡ [] }
+    requires room { vec_len faults + 2 ≤ vec_capacity faults }
+    ensures answer { answer_of result ≡ clock_answer stop }
+    ensures room { IfOk result (λ told. vec_len told.faults + 1 ≤ vec_capacity told.faults) }
+{
+    match stop {
+        ClockStop::Fault(fault) => {
+            let mut faults = faults;
+            faults.push_reserved(fault);
+            Ok(Told {
+                notices: Listed::new(alloc),
+                faults,
+            })
+        }
+        ClockStop::Memory => Err(RunStop::Memory),
+    }
+}
+
+/// The same at this many seconds since 1970, by the clock in the zone. Where there is none, the call ends so.
+pub fn run_at<H: Host>(
+    alloc: Global,
+    host: &mut H,
+    request: &Request,
+    zone: &Zone,
+    seconds: i64,
+) -> Result<Told, RunStop>
+    ensures told { Left (AnswersAt request.now zone.now seconds (answer_of result)) (H.told host.old) (H.told host.new) }
+    ensures clock { IfOk result (λ told. IsClocked zone.now seconds told.notices told.faults.items) }
+    ensures shape { Left IsWholeRun (H.told host.old) (H.told host.new) }
+    ensures counted { IfOk result (λ told. AreCounted told.faults.items (H.counts host.old) (H.counts host.new)) }
+    ensures room { IfOk result (λ told. vec_len told.faults + 1 ≤ vec_capacity told.faults) }
+    ensures held { result ≡ Err RunStop.Held → Rose (H.counts host.old).held (H.counts host.new).held }
+    ensures counts { Onward (H.counts host.old) (H.counts host.new) }
+{
+    let Ok(faults) = Vec::with_capacity(alloc, 2) else {
+        return Err(RunStop::Memory);
+    };
+    match clock_in(alloc, host, zone, seconds) {
+        Ok(clock) => run_by(alloc, host, request, &clock),
+        Err(stop) => without_clock(alloc, stop, faults),
+    }
 }

@@ -1,15 +1,17 @@
 // The top call.
 ghost use Rattle.std.specs.Prelude.{◌≡◌, ◌≢◌, ◌≤◌, ◌⊎◌, ◌↔◌, Contains, Some};
-ghost use Rattle.lr_rules.specs.declared.path.Path.{Path};
 ghost use Rattle.lr_rules.specs.declared.fault.Fault.TheVariants as fault;
 ghost use Rattle.lr_host.specs.declared.journal.Journal.{Journal};
 ghost use Rattle.lr_host.specs.Opening.{IsJournal};
 ghost use Rattle.lr_host.specs.World.{past};
 ghost use Rattle.lr_host.specs.Told.{Left, NoneFell, Rose};
+ghost use Rattle.lr_host.specs.Quiet.{ChangeNothing};
 ghost use Rattle.lr_host.specs.Safe.{KeepsSafe};
 ghost use Rattle.lr_report.specs.Puts.{Took, TookPart};
 ghost use Rattle.lr_cli.specs.declared.outcome.Report.{Report};
+ghost use Rattle.lr_cli.specs.declared.words.Request.{Request};
 ghost use Rattle.lr_cli.specs.Answer.{Answered};
+ghost use Rattle.lr_cli.specs.Clock.{IsClocked};
 ghost use Rattle.lr_cli.specs.Faults.{HasFault, HasCounted, StopNothing};
 ghost use Rattle.lr_cli.specs.Printed.{printed_of, without_out};
 ghost use Rattle.lr_cli.specs.Rotated.{RotatesAll};
@@ -18,14 +20,14 @@ ghost use Rattle.lr_cli.specs.Words.{AreWords, HaveForm};
 use crate::outcome::Outcome;
 use crate::report::{finish, printed};
 use crate::run::run_at;
-use crate::words::{WordsFault, conf_of};
+use crate::words::{WordsFault, request_of};
 use lr_due::Zone;
 use lr_host::{Host, Sink};
 use lr_rules::{Path, Text};
 use std::alloc::Global;
 
 /// One call of the program: reads the configuration that the words name, from the directory `here` on, makes a run over
-/// its rules, and prints its report. The zone isn't used yet; `now` is in seconds since 1970.
+/// its rules by a clock in the zone, and prints its report. `now` is in seconds since 1970-01-01 0:0:0 UTC.
 ///
 /// Printing ends at the first fault of the output, and then the report has the fault `Out` behind its others.
 pub fn logrotate<H: Host, K: Sink>(
@@ -41,13 +43,16 @@ pub fn logrotate<H: Host, K: Sink>(
     // wherever the run stopped.
     ensures safe { KeepsSafe (H.told host.old) (H.told host.new) }
 
-    // What the calls showed, and what the answer has to do with it, its `Out` left aside: what was read, the begin, the
-    // looks, the acts of the plan that follows from them, and the end.
-    ensures told { Left (Answered here.now words.now now (without_out result)) (H.told host.old) (H.told host.new) }
+    // What the calls showed, and what the answer has to do with it, its `Out` left aside: the zone, what was read, the begin,
+    // the looks, the acts of the plan that follows from them, and the end.
+    ensures told { Left (Answered here.now words.now zone.now now (without_out result)) (H.told host.old) (H.told host.new) }
+
+    // For want of memory nothing was changed.
+    ensures still { result ≡ Outcome.OutOfMemory → Left ChangeNothing (H.told host.old) (H.told host.new) }
 
     // Where the run came to its plan and the report tells of no call that failed, each log of the plan was rotated, file by
     // file, whatever else is told: of other logs that aren't there, say.
-    ensures rotated { (report : Report) (before after : Journal) → without_out result ≡ Outcome.Done report → StopNothing report.faults → H.told host.old ≡ Some before → H.told host.new ≡ Some after → IsJournal (past before) → (conf : Path) × AreWords here.now words.now conf × RotatesAll conf now report.faults before after }
+    ensures rotated { (report : Report) (before after : Journal) → without_out result ≡ Outcome.Done report → StopNothing report.faults → H.told host.old ≡ Some before → H.told host.new ≡ Some after → IsJournal (past before) → (request : Request) × AreWords here.now words.now request × RotatesAll request zone.now now report.faults before after }
 
     // What the output took: a first part of what is printed of the answer, and all of it unless a put failed.
     ensures printed { TookPart (printed_of result) (K.taken out.old) (K.taken out.new) }
@@ -57,21 +62,22 @@ pub fn logrotate<H: Host, K: Sink>(
     ensures broken_off { (report : Report) → result ≡ Outcome.Done report → Took (printed_of result) (K.taken out.old) (K.taken out.new) ⊎ Contains report.faults fault.Out }
     ensures out { HasFault result fault.Out → Rose (K.faults out.old) (K.faults out.new) }
 
-    // Also where the host tells nothing: the words, want of memory, the counts of failed calls and bad ends, the lock.
-    ensures bad_words { result ≢ Outcome.OutOfMemory → (result ≡ Outcome.BadWords ↔ ((conf : Path) → AreWords here.now words.now conf → ⊥)) }
+    // Also where the host tells nothing: the words, want of memory, the clock, the counts of failed calls and bad ends, the lock.
+    ensures bad_words { result ≢ Outcome.OutOfMemory → (result ≡ Outcome.BadWords ↔ ((request : Request) → AreWords here.now words.now request → ⊥)) }
     ensures memory { result ≡ Outcome.OutOfMemory → HaveForm words.now }
-    ensures words { (report : Report) → result ≡ Outcome.Done report → (conf : Path) × AreWords here.now words.now conf }
+    ensures words { (report : Report) → result ≡ Outcome.Done report → (request : Request) × AreWords here.now words.now request }
+    ensures clock { (report : Report) → without_out result ≡ Outcome.Done report → IsClocked zone.now now report.notices report.faults }
     ensures counted { HasCounted (without_out result) (H.counts host.old) (H.counts host.new) }
     ensures held { result ≡ Outcome.Held → Rose (H.counts host.old).held (H.counts host.new).held }
     ensures lock { (H.counts host.new).locked ≡ (H.counts host.old).locked }
     ensures counts { NoneFell (H.counts host.old) (H.counts host.new) }
     ensures sink_counts { K.faults out.old ≤ K.faults out.new }
 {
-    let conf = match conf_of(alloc, words, here) {
-        Ok(conf) => conf,
+    let request = match request_of(alloc, words, here) {
+        Ok(request) => request,
         Err(WordsFault::Refused) => return printed(Outcome::BadWords, out),
         Err(WordsFault::Memory) => return printed(Outcome::OutOfMemory, out),
     };
-    let run = run_at(alloc, host, &conf, now);
+    let run = run_at(alloc, host, &request, zone, now);
     finish(run, out)
 }

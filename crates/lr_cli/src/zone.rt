@@ -1,30 +1,34 @@
 // The text of the zone that a call is to use.
-ghost use Rattle.std.specs.Prelude.{◌≡◌, ◌≤◌, [], true, false, Ok, Err, IfOk, IfErr, OnErr};
+ghost use Rattle.std.specs.Prelude.{◌≡◌, ◌≤◌, [], ◌∷◌, true, false, Ok, Err, IfOk, IfErr, OnErr};
+ghost use Rattle.lr_rules.specs.declared.fault.Fault.{Fault};
 ghost use Rattle.lr_host.specs.declared.entry.Entry.TheVariants as entry;
 ghost use Rattle.lr_host.specs.Told.{Left, Are, Then, Can, Onward, Rose};
 ghost use Rattle.lr_host.specs.Looks.{Sees, IsFile};
 ghost use Rattle.lr_due.specs.declared.tz.Zone.TheVariants as asked;
 ghost use Rattle.lr_due.specs.declared.zone.ZoneText.TheVariants as text;
-ghost use Rattle.lr_cli.specs.declared.zone.ZoneTextStop.TheVariants as stop;
-ghost use Rattle.lr_cli.specs.Zone.{IsNotFile, GivesBytes, ReadStopped, FileStopped, ShowsZone, ZoneStopped};
+ghost use Rattle.lr_plan.specs.Counted.{AreCounted};
+ghost use Rattle.lr_cli.specs.declared.clock.ClockStop.TheVariants as clock_stop;
+ghost use Rattle.lr_cli.specs.declared.zone.ZoneFileStop.TheVariants as stop;
+ghost use Rattle.lr_cli.specs.Zone.{IsNotFile, GivesBytes, ReadStopped, FileStopped, ShowsZone, ZoneStopped, file_stop, IsTextOf, IsFileFault, IsTextFault};
 
+use crate::clock::ClockStop;
 use lr_due::{Zone, ZoneText};
 use lr_host::{CallFault, Host, Kind};
 use lr_include::{ReadStop, read_text};
-use lr_rules::{Listed, Path, Text};
+use lr_rules::{CallKind, Fault, Listed, Path, Text, ZoneWhy};
 use std::alloc::Global;
 
 // A file of more bytes is too big.
 const LIMIT: usize = 1_048_576;
 
-/// Why there is no text of a zone.
+/// Why a file gives no text of a zone.
 #[derive(Clone, Copy)]
-pub enum ZoneTextStop {
-    /// No regular file stands at the path.
+pub enum ZoneFileStop {
+    /// No regular file stands at its path.
     NotFile,
-    /// The file has more than 1,048,576 bytes.
+    /// It has more than 1,048,576 bytes.
     TooBig,
-    /// The look at the file failed.
+    /// The look at it failed.
     Look,
     /// A read of it failed.
     Read,
@@ -54,9 +58,9 @@ fn is_file<H: Host>(host: &mut H, path: &Path) -> Result<bool, CallFault>
     }
 }
 
-#[tactic(auto, using(crate::proofs::Zoned::gives, crate::proofs::Zoned::too_big))]
+#[tactic(auto, using(crate::proofs::Zoned::gives, crate::proofs::Zoned::read_too_big))]
 // All bytes of the file.
-fn bytes_of<H: Host>(alloc: Global, host: &mut H, path: &Path) -> Result<Listed<u8>, ZoneTextStop>
+fn bytes_of<H: Host>(alloc: Global, host: &mut H, path: &Path) -> Result<Listed<u8>, ZoneFileStop>
     requires file { Can (H.told host.old) (entry.Reads path.now 0 []) }
     ensures told { IfOk result (λ bytes. Left (GivesBytes path.now bytes) (H.told host.old) (H.told host.new)) }
     ensures stopped { IfErr result (λ why. Left (ReadStopped path.now why) (H.told host.old) (H.told host.new)) }
@@ -67,20 +71,21 @@ fn bytes_of<H: Host>(alloc: Global, host: &mut H, path: &Path) -> Result<Listed<
     match read_text(alloc, host, path, LIMIT + 1) {
         Ok(bytes) => {
             if bytes.len() > LIMIT {
-                Err(ZoneTextStop::TooBig)
+                Err(ZoneFileStop::TooBig)
             } else {
                 Ok(Listed::from_vec(bytes))
             }
         }
-        Err(ReadStop::Call) => Err(ZoneTextStop::Read),
-        Err(ReadStop::Memory) => Err(ZoneTextStop::Memory),
+        Err(ReadStop::Call) => Err(ZoneFileStop::Read),
+        Err(ReadStop::Memory) => Err(ZoneFileStop::Memory),
     }
 }
 
 #[tactic(auto, using(crate::proofs::Zoned::shows, crate::proofs::Zoned::stops))]
 // The text of the zone of a file.
-fn text_of_file<H: Host>(alloc: Global, host: &mut H, path: &Path) -> Result<ZoneText, ZoneTextStop>
+fn text_of_file<H: Host>(alloc: Global, host: &mut H, path: &Path) -> Result<ZoneText, ZoneFileStop>
     ensures told { IfOk result (λ t. Left (ShowsZone (asked.File path.now) t) (H.told host.old) (H.told host.new)) }
+    ensures bytes { IfOk result (λ t. IsTextOf (asked.File path.now) t) }
     ensures stopped { IfErr result (λ why. Left (FileStopped path.now why) (H.told host.old) (H.told host.new)) }
     ensures look { result ≡ Err stop.Look → Rose (H.counts host.old).faults (H.counts host.new).faults }
     ensures read { result ≡ Err stop.Read → Rose (H.counts host.old).faults (H.counts host.new).faults }
@@ -91,42 +96,66 @@ fn text_of_file<H: Host>(alloc: Global, host: &mut H, path: &Path) -> Result<Zon
             Ok(bytes) => Ok(ZoneText::Bytes(bytes)),
             Err(stop) => Err(stop),
         },
-        Ok(false) => Err(ZoneTextStop::NotFile),
-        Err(_) => Err(ZoneTextStop::Look),
+        Ok(false) => Err(ZoneFileStop::NotFile),
+        Err(_) => Err(ZoneFileStop::Look),
     }
 }
 
-fn text_of_rule(alloc: Global, rule: &Text) -> Result<ZoneText, ZoneTextStop>
+fn stop_of(why: ZoneFileStop, path: Path) -> ClockStop
+    ensures { result ≡ file_stop why path }
+{
+    match why {
+        ZoneFileStop::NotFile => ClockStop::Fault(Fault::Zone(ZoneWhy::NotFile)),
+        ZoneFileStop::TooBig => ClockStop::Fault(Fault::Zone(ZoneWhy::TooBig)),
+        ZoneFileStop::Look => ClockStop::Fault(Fault::Call(CallKind::Look, path)),
+        ZoneFileStop::Read => ClockStop::Fault(Fault::Call(CallKind::Read, path)),
+        ZoneFileStop::Memory => ClockStop::Memory,
+    }
+}
+
+// The same, with the fault that tells why there is none.
+fn told_text<H: Host>(alloc: Global, host: &mut H, path: &Path) -> Result<ZoneText, ClockStop>
+    ensures told { IfOk result (λ t. Left (ShowsZone (asked.File path.now) t) (H.told host.old) (H.told host.new)) }
+    ensures bytes { IfOk result (λ t. IsTextOf (asked.File path.now) t) }
+    ensures stopped { IfErr result (λ why. Left (ZoneStopped (asked.File path.now) why) (H.told host.old) (H.told host.new)) }
+    ensures fault { (f : Fault) → result ≡ Err (clock_stop.Fault f) → IsFileFault path.now f × AreCounted (f ∷ []) (H.counts host.old) (H.counts host.new) }
+    ensures counts { Onward (H.counts host.old) (H.counts host.new) }
+{
+    let Ok(name) = path.copy(alloc) else {
+        return Err(ClockStop::Memory);
+    };
+    match text_of_file(alloc, host, path) {
+        Ok(text) => Ok(text),
+        Err(why) => Err(stop_of(why, name)),
+    }
+}
+
+fn text_of_rule(alloc: Global, rule: &Text) -> Result<ZoneText, ClockStop>
     ensures text { IfOk result (λ t. t ≡ text.Rule rule.now) }
-    ensures memory { IfErr result (λ why. why ≡ stop.Memory) }
+    ensures memory { IfErr result (λ why. why ≡ clock_stop.Memory) }
 {
     match rule.copy(alloc) {
         Ok(rule) => Ok(ZoneText::Rule(rule)),
-        Err(_) => Err(ZoneTextStop::Memory),
+        Err(_) => Err(ClockStop::Memory),
     }
 }
 
-#[tactic(auto, using(crate::proofs::Zoned::utc_told, crate::proofs::Zoned::rule_told, crate::proofs::Zoned::rule_stopped))]
 /// The text of the zone: UTC and a rule as they are, or the bytes of the file. Links are followed.
 ///
 /// Where it ends for want of memory, the file was seen as one, and maybe read, or nothing was called.
-pub fn zone_text<H: Host>(
-    alloc: Global,
-    host: &mut H,
-    zone: &Zone,
-) -> Result<ZoneText, ZoneTextStop>
+pub fn zone_text<H: Host>(alloc: Global, host: &mut H, zone: &Zone) -> Result<ZoneText, ClockStop>
     // What the calls showed, and what it has to do with the answer.
     ensures told { IfOk result (λ t. Left (ShowsZone zone.now t) (H.told host.old) (H.told host.new)) }
     ensures stopped { IfErr result (λ why. Left (ZoneStopped zone.now why) (H.told host.old) (H.told host.new)) }
 
     // Also where the host tells nothing.
-    ensures look { result ≡ Err stop.Look → Rose (H.counts host.old).faults (H.counts host.new).faults }
-    ensures read { result ≡ Err stop.Read → Rose (H.counts host.old).faults (H.counts host.new).faults }
+    ensures text { IfOk result (λ t. IsTextOf zone.now t) }
+    ensures fault { (f : Fault) → result ≡ Err (clock_stop.Fault f) → IsTextFault zone.now f × AreCounted (f ∷ []) (H.counts host.old) (H.counts host.new) }
     ensures counts { Onward (H.counts host.old) (H.counts host.new) }
 {
     match zone {
         Zone::Utc => Ok(ZoneText::Utc),
         Zone::Rule(rule) => text_of_rule(alloc, rule),
-        Zone::File(path) => text_of_file(alloc, host, path),
+        Zone::File(path) => told_text(alloc, host, path),
     }
 }

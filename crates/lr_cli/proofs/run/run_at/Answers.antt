@@ -2,24 +2,31 @@ use Rattle.std.proofs.Common.{[]}
 use Rattle.lr_host.proofs.Left.{left_first}
 use Rattle.lr_rotations.specs.AllTurns.{IsWholeRun}
 use Rattle.lr_cli.specs.Faults.{answer_of}
-use Rattle.lr_cli.proofs.Called.{own_seconds, at_clock, at_none, at_moment, clock_counted}
+use Rattle.lr_cli.proofs.Clocked.{own_seconds}
+use Rattle.lr_cli.proofs.Called.{at_none, at_stop, stop_shape, stop_clocked, at_clock, clock_shape, clock_clocked}
 use Rattle.lr_cli.proofs.Reading.{alone_run}
 use Rattle.lr_cli.proofs.run.run_at.Goals as goal
 
 pub returns-in_default-clause-told : goal.returns-in_default-clause-told
-returns-in_default-clause-told g c = at_clock c.args.conf.now _ c.args.seconds c.tell_clock.result _ (own_seconds c.args.seconds c.ranges.seconds.sfits) c.in_default.ensures.none c.tell_clock.ensures.notices c.tell_clock.ensures.faults c.tell_clock.ensures.memory
+returns-in_default-clause-told g c = at_none c.args.request.now c.args.zone.now c.args.seconds _
 
 pub returns-in_default-clause-shape : goal.returns-in_default-clause-shape
 returns-in_default-clause-shape g c = left_first IsWholeRun _ (alone_run [] tt)
 
-pub returns-in_default-clause-counted : goal.returns-in_default-clause-counted
-returns-in_default-clause-counted g c = clock_counted c.tell_clock.result _ c.tell_clock.ensures.faults
+pub returns-in-Ok-clock_in-clause-told : goal.returns-in-Ok-clock_in-clause-told
+returns-in-Ok-clock_in-clause-told g c = at_clock c.args.request.now c.args.zone.now _ c.args.seconds c.in-Ok-clock_in.clock (answer_of c.run_by.result) (own_seconds c.args.seconds c.ranges.seconds.sfits) c.in-Ok-clock_in.ensures.told c.run_by.ensures.told
 
-pub returns-in_default-settings-clause-told : goal.returns-in_default-settings-clause-told
-returns-in_default-settings-clause-told g c = at_none c.args.conf.now c.args.seconds _
+pub returns-in-Ok-clock_in-clause-clock : goal.returns-in-Ok-clock_in-clause-clock
+returns-in-Ok-clock_in-clause-clock g c = clock_clocked c.args.zone.now _ c.args.seconds c.in-Ok-clock_in.clock c.run_by.result (own_seconds c.args.seconds c.ranges.seconds.sfits) c.in-Ok-clock_in.ensures.clock
 
-pub returns-in_default-settings-clause-shape : goal.returns-in_default-settings-clause-shape
-returns-in_default-settings-clause-shape g c = left_first IsWholeRun _ (alone_run [] tt)
+pub returns-in-Ok-clock_in-clause-shape : goal.returns-in-Ok-clock_in-clause-shape
+returns-in-Ok-clock_in-clause-shape g c = clock_shape c.args.zone.now _ c.in-Ok-clock_in.clock c.in-Ok-clock_in.ensures.told c.run_by.ensures.shape
 
-pub returns-clause-told : goal.returns-clause-told
-returns-clause-told g c = at_moment c.args.conf.now _ c.args.seconds c.in-Some.clock.now (answer_of c.run_conf.result) (own_seconds c.args.seconds c.ranges.seconds.sfits) c.in-Some.ensures.some c.run_conf.ensures.told
+pub returns-in-Err-clause-told : goal.returns-in-Err-clause-told
+returns-in-Err-clause-told g c = at_stop c.args.request.now c.args.zone.now _ c.args.seconds c.in-Err.stop (answer_of c.without_clock.result) (own_seconds c.args.seconds c.ranges.seconds.sfits) c.without_clock.ensures.answer c.in-Err.ensures.stopped
+
+pub returns-in-Err-clause-clock : goal.returns-in-Err-clause-clock
+returns-in-Err-clause-clock g c = stop_clocked c.args.zone.now _ c.args.seconds c.without_clock.result c.clock_in.result c.in-Err.stop _ (own_seconds c.args.seconds c.ranges.seconds.sfits) c.without_clock.ensures.answer c.in-Err.is c.clock_in.ensures.fault
+
+pub returns-in-Err-clause-shape : goal.returns-in-Err-clause-shape
+returns-in-Err-clause-shape g c = stop_shape c.args.zone.now _ c.in-Err.stop c.in-Err.ensures.stopped

@@ -13,7 +13,7 @@ pub run-requires : goal.run-requires
 run-requires g c = built c.in-Ok.reading.rules.sets c.in-Ok.ensures.plain
 
 pub returns-in-Ok-run-clause-told : goal.returns-in-Ok-run-clause-told
-returns-in-Ok-run-clause-told g c = reports c.args.conf.now c.args.settings.now.state c.args.settings.now.force c.args.clock.now.now c.in-Ok.reading c.into_vec.result.items c.in-Ok-run.ran.faults.items c.requires.state c.requires.force c.into_vec.ensures
+returns-in-Ok-run-clause-told g c = reports c.args.conf.now c.args.settings.now.state c.args.settings.now.force c.args.clock.now.now c.in-Ok.reading c.into_vec.result.items c.in-Ok-run.ran.faults.items c.requires.state c.into_vec.ensures
     c.in-Ok.ensures.told c.in-Ok-run.ensures.told
 
 pub returns-in-Ok-run-clause-shape : goal.returns-in-Ok-run-clause-shape
