@@ -1,27 +1,30 @@
--- A run leaves each set alone whose log it doesn't rotate.
-use Rattle.std.proofs.Common.{◌≡◌, ◌≢◌, Bool, ℤ, Option, Some, None, List, [], ◌∷◌, ◌++◌, reverse, refl, sym, ap, ◌∙◌, subst, append_assoc, append-nil}
+-- A run leaves each set alone whose log it doesn't rotate, and one that didn't come to its plan leaves all sets alone.
+use Rattle.std.proofs.Common.{◌≡◌, ◌≢◌, inl, inr, Bool, ℤ, Option, Some, None, List, [], ◌∷◌, ◌++◌, reverse, refl, sym, ap, ◌∙◌, subst, append_assoc, append-nil}
 use Rattle.std.proofs.lemmas.List.{reverse-append, reverse-reverse}
 use Rattle.lr_rules.specs.declared.civil.Moment.{Moment}
 use Rattle.lr_rules.specs.declared.fault.Fault.{Fault}
 use Rattle.lr_rules.specs.declared.path.Path.{Path}
+use Rattle.lr_rules.specs.declared.rule.Rule.{Rule}
 use Rattle.lr_rules.specs.declared.rules.Rules.{Rules}
 use Rattle.lr_rules.specs.Path.{parent_of}
 use Rattle.lr_host.specs.declared.entry.Entry.{Entry}
 use Rattle.lr_host.specs.declared.entry.Entry.TheVariants as entry
 use Rattle.lr_host.specs.Opening.{IsJournal}
-use Rattle.lr_host.specs.Quiet.{AreQuiet, Quiet}
+use Rattle.lr_host.specs.declared.thing.Seen.{Seen}
+use Rattle.lr_host.specs.Looks.{Sees, IsDir, IsNotDir}
+use Rattle.lr_host.specs.Quiet.{AreQuiet, ChangeNothing, Quiet}
 use Rattle.lr_host.specs.Safe.{IsSafe}
 use Rattle.lr_host.specs.Sets.{LogSet}
 use Rattle.lr_host.specs.Steady.{IsSteady, IsKeyless}
 use Rattle.lr_host.specs.Told.{Made}
 use Rattle.lr_host.specs.World.{Past, ◌▸◌, world, names}
 use Rattle.lr_host.proofs.Made.{Cut, cut, CutAt, cut_one, made_journal, made_on}
-use Rattle.lr_host.proofs.Quiet.{quiet_both, quiet_still, sees_quiet, still_reverse, since_of, made_quiet, quiet_same}
+use Rattle.lr_host.proofs.Quiet.{quiet_both, quiet_still, sees_quiet, still_both, then_still, still_reverse, since_of, made_quiet, quiet_same}
 use Rattle.lr_host.proofs.Steady.{steady_before, none_attached}
 use Rattle.lr_laws.proofs.Stated.{quiet_safe}
-use Rattle.lr_plan.specs.declared.planned.Plan.{Plan}
-use Rattle.lr_plan.specs.Done.{PlanDone}
+use Rattle.lr_plan.specs.Outcomes.{Maybe}
 use Rattle.lr_plan.specs.Planned.{decision}
+use Rattle.lr_reading.proofs.Quiet.{state_quiet}
 use Rattle.lr_rotations.specs.AllTurns.{AllTurns}
 use Rattle.lr_rotations.specs.Target.{Target, IsOneOf}
 use Rattle.lr_rotations.proofs.Apart.{others_left}
@@ -31,57 +34,63 @@ use Rattle.lr_weave.proofs.Planning.{ready_planned}
 use Rattle.lr_seen.specs.Built.{AreBuiltRules}
 use Rattle.lr_seen.specs.Targets.{groups_of}
 use Rattle.lr_seen.proofs.Apart.{targets_apart}
-use Rattle.lr_seen.proofs.Quiet.{whole_quiet}
 use Rattle.lr_seen.proofs.Ready.{plans_have_logs}
 use Rattle.lr_seen.proofs.Seen.{targets_seen}
-use Rattle.lr_run.specs.Rotated.{rotated_logs}
-use Rattle.lr_run.specs.Runs.{Inside, Works}
-use Rattle.lr_run.proofs.Shape.{ended}
+use Rattle.lr_run.specs.Rotated.{rotated_in}
+use Rattle.lr_run.specs.Runs.{Inside, Worked, Works, not_known, too_big, worked, Runs, no_directory, not_seen, not_begun, began}
+use Rattle.lr_run.proofs.Shape.{all_of_state, ended, in_parts, seen_later, seen_quiet, written}
+use Rattle.lr_fixed.specs.Unplanned.{IsUnplannedWork, IsUnplanned}
 
 -- the work of a run, whatever failed: its targets are the logs of its plan
-abbrev works_turn : (state : Path) (rules : Rules) (now : Moment) (force : Bool) (own : List Fault) (ts : List Entry) → AreBuiltRules rules.sets → (w : Works state rules.sets now force own ts) → AllTurns state rules (w.entries.front ++ w.entries.back)
-works_turn state rules now force own ts built w =
-    done_turns state rules w.entries.front (rotated_logs rules.sets now force w.sets) _ w.marks w.of_acts w.entries.back
-    (whole_quiet rules.sets w.sets w.of_looks w.entries.front w.entries.first) (targets_seen rules w.sets w.of_looks w.entries.front (decision [] now force) built w.entries.first)
-    (ready_planned (groups_of (decision [] now force) rules.sets w.sets) _ (plans_have_logs rules.sets w.sets w.of_looks w.entries.front (decision [] now force) built w.entries.first)
-    (targets_apart rules.sets w.sets w.of_looks w.entries.front (decision [] now force) w.entries.first))
-    (subst (λ (p : Plan). PlanDone p w.marks w.of_acts w.entries.back) w.planned w.entries.second)
+abbrev worked_turn : (state : Path) (rules : Rules) (now : Moment) (force : Bool) (own : List Fault) (ts : List Entry) → AreBuiltRules rules.sets → (w : Worked state rules.sets now force own ts)
+    → AllTurns state rules (((w.looked.reads ++ w.looked.looks) ++ w.acted.entries.entries.front) ++ w.acted.entries.entries.back)
+worked_turn state rules now force own ts built w =
+    written state rules ((w.looked.reads ++ w.looked.looks) ++ w.acted.entries.entries.front) w.acted.entries.entries.back
+    (done_turns state rules (w.looked.reads ++ w.looked.looks) (rotated_in state rules.sets ts w.looked now force) _ w.acted.marks w.acted.entries.of_plan w.acted.entries.entries.front
+    (seen_quiet state rules.sets ts w.looked) (seen_later rules w.looked.reads w.looked.looks (rotated_in state rules.sets ts w.looked now force) (targets_seen rules w.looked.sets w.looked.of_looks w.looked.looks (decision w.looked.remembered.table now force) built w.looked.shown))
+    (ready_planned (groups_of (decision w.looked.remembered.table now force) rules.sets w.looked.sets) _ (plans_have_logs rules.sets w.looked.sets w.looked.of_looks w.looked.looks (decision w.looked.remembered.table now force) built w.looked.shown)
+    (targets_apart rules.sets w.looked.sets w.looked.of_looks w.looked.looks (decision w.looked.remembered.table now force) w.looked.shown))
+    w.acted.entries.entries.first)
+    (all_of_state state rules.sets now force own ts w)
 
 -- what has a key isn't without one
 some_none : (o : Option ℤ) (k : ℤ) → o ≡ Some k → o ≡ None → ⊥
 some_none o k a b = absurd (cc)
 
--- over quiet entries a member of a steady set names what it named
-quiet_member : (s : LogSet) (p u : Past) (ts : List Entry) → AreQuiet ts → Made p (reverse ts) u → IsSteady s u → (y : Path) (k : ℤ) → s.key y ≡ Some k → names (world u) y ≡ names (world p) y
-quiet_member s p u ts quiet made steady y k key = quiet_same (IsKeyless s) p u y calm (some_none (s.key y) k key)
+-- over entries that change nothing a member of a steady set names what it named
+still_member : (s : LogSet) (p u : Past) (ts : List Entry) → ChangeNothing ts → Made p (reverse ts) u → IsSteady s u → (y : Path) (k : ℤ) → s.key y ≡ Some k → names (world u) y ≡ names (world p) y
+still_member s p u ts still made steady y k key = quiet_same (IsKeyless s) p u y calm (some_none (s.key y) k key)
   where
     calm : Quiet (IsKeyless s) p u
-    calm = made_quiet (IsKeyless s) p u (reverse ts) (since_of (IsKeyless s) p u (reverse ts) made (none_attached s u steady)) made (still_reverse ts (quiet_still ts quiet))
+    calm = made_quiet (IsKeyless s) p u (reverse ts) (since_of (IsKeyless s) p u (reverse ts) made (none_attached s u steady)) made (still_reverse ts still)
 
 pub left_alone : (s : LogSet) (state : Path) (force : Bool) (now : Moment) (rules : Rules) (own : List Fault) (p q : Past) (es reads acts : List Entry) → AreBuiltRules rules.sets → Made p es q → IsJournal p → reverse es ≡ reads ++ acts → AreQuiet reads
-    → (i : Inside state now rules (Works state rules.sets now force own) acts) → IsSafe s p → IsSteady s q → ((t : Target) → IsOneOf t (rotated_logs rules.sets now force i.within.sets) → t.log ≢ s.log)
+    → (i : Inside state now rules (Worked state rules.sets now force own) acts) → IsSafe s p → IsSteady s q → ((t : Target) → IsOneOf t (rotated_in state rules.sets i.between i.within.looked now force) → t.log ≢ s.log)
     → (y : Path) (k : ℤ) → s.key y ≡ Some k → names (world q) y ≡ names (world p) y
 left_alone s state force now rules own p q es reads acts built made journal joined quiet i safe steady apart y k key =
     others_left s a.mid q state now rules tail turns behind_start (journal_u, a.fits) (quiet_safe s a.mid starts (journal_u, a.fits) safe_u (tt, refl)) steady apart y k key
-    ∙ quiet_member s p a.mid front quiet_front made_u steady_u y k key
+    ∙ still_member s p a.mid front (quiet_still front quiet_front) made_u steady_u y k key
   where
     starts : Entry
     starts = entry.Starts state now rules
 
-    w : Works state rules.sets now force own i.between
+    w : Worked state rules.sets now force own i.between
     w = i.within
+
+    work : List Entry
+    work = ((w.looked.reads ++ w.looked.looks) ++ w.acted.entries.entries.front) ++ w.acted.entries.entries.back
 
     front : List Entry
     front = reads ++ i.before
 
     tail : List Entry
-    tail = (w.entries.front ++ w.entries.back) ++ entry.Ends ∷ []
+    tail = work ++ entry.Ends ∷ []
 
     turns : AllTurns state rules tail
-    turns = ended state rules (w.entries.front ++ w.entries.back) (works_turn state rules now force own i.between built w)
+    turns = ended state rules work (worked_turn state rules now force own i.between built w)
 
     whole : reverse es ≡ front ++ (starts ∷ tail)
-    whole = joined ∙ (ap (λ xs. reads ++ xs) (i.entries ∙ ap (λ xs. i.before ++ (entry.Starts state now rules ∷ (xs ++ entry.Ends ∷ []))) w.entries.joined) ∙ sym (append_assoc reads i.before _))
+    whole = joined ∙ (ap (λ xs. reads ++ xs) (i.entries ∙ ap (λ xs. i.before ++ (entry.Starts state now rules ∷ (xs ++ entry.Ends ∷ []))) (in_parts state rules.sets now force own i.between w)) ∙ sym (append_assoc reads i.before _))
 
     quiet_front : AreQuiet front
     quiet_front = quiet_both reads i.before quiet (sees_quiet (parent_of state) i.before i.directory)
@@ -109,3 +118,31 @@ left_alone s state force now rules own p q es reads acts built made journal join
 
     safe_u : IsSafe s a.mid
     safe_u = quiet_safe_on s p a.mid front quiet_front journal safe made_u steady_u
+
+-- ---- a run that didn't come to its plan
+
+work_quiet : (state : Path) (rules : List Rule) (now : Moment) (force : Bool) (own : List Fault) (ts : List Entry) → (w : Works state rules now force own ts) → IsUnplannedWork state rules now force own ts w → AreQuiet ts
+work_quiet state rules now force own ts (not_known sights f known is shown) u = state_quiet state 65_536 sights ts shown
+work_quiet state rules now force own ts (too_big l big is none) u =
+    subst AreQuiet (sym (l.joined ∙ ap (λ xs. l.reads ++ xs) (ap (λ xs. l.looks ++ xs) none ∙ append-nil l.looks))) (seen_quiet state rules ts l)
+work_quiet state rules now force own ts (worked w) u = absurd u
+
+maybe_still : (state : Path) (now : Moment) (rules : Rules) (ts : List Entry) → Maybe (entry.Starts state now rules) ts → ChangeNothing ts
+maybe_still state now rules ts (inl e) = subst ChangeNothing (sym e) refl
+maybe_still state now rules ts (inr e) = subst ChangeNothing (sym e) refl
+
+sees_still : (x : Path) (P : Option Seen → Type 0) (ts : List Entry) → Sees x P ts → ChangeNothing ts
+sees_still x P ts s = quiet_still ts (sees_quiet x ts s)
+
+run_still : (state : Path) (force : Bool) (now : Moment) (rules : Rules) (own : List Fault) (ts : List Entry) → (r : Runs state force now rules own ts) → IsUnplanned state force now rules own ts r → ChangeNothing ts
+run_still state force now rules own ts (no_directory is s) u = sees_still (parent_of state) IsNotDir ts s
+run_still state force now rules own ts (not_seen is e) u = subst ChangeNothing (sym e) refl
+run_still state force now rules own ts (not_begun is t) u = then_still (Sees (parent_of state) IsDir) (Maybe (entry.Starts state now rules)) ts (sees_still (parent_of state) IsDir) (maybe_still state now rules) t
+run_still state force now rules own ts (began i) u =
+    subst ChangeNothing (sym i.entries) (still_both i.before (entry.Starts state now rules ∷ (i.between ++ entry.Ends ∷ [])) (sees_still (parent_of state) IsDir i.before i.directory)
+    (still_both i.between (entry.Ends ∷ []) (quiet_still i.between (work_quiet state rules.sets now force own i.between i.within u)) refl))
+
+pub all_left : (s : LogSet) (state : Path) (force : Bool) (now : Moment) (rules : Rules) (own : List Fault) (p q : Past) (es reads acts : List Entry) → Made p es q → reverse es ≡ reads ++ acts → AreQuiet reads
+    → (r : Runs state force now rules own acts) → IsUnplanned state force now rules own acts r → IsSteady s q → (y : Path) (k : ℤ) → s.key y ≡ Some k → names (world q) y ≡ names (world p) y
+all_left s state force now rules own p q es reads acts made joined quiet r u steady y k key =
+    still_member s p q (reads ++ acts) (still_both reads acts (quiet_still reads quiet) (run_still state force now rules own acts r u)) (subst (λ (xs : List Entry). Made p xs q) (sym (reverse-reverse es) ∙ ap reverse joined) made) steady y k key

@@ -1,6 +1,7 @@
 mod Ordered
 mod Spots
 mod Peeled
+mod Called
 mod Members
 mod Listings
 mod Families
@@ -8,12 +9,17 @@ mod Words
 mod Kept
 mod Whole
 mod Planned
+mod StateRead
+mod LookedOne
+mod Writing
+mod CountedListings
+mod Moves
+mod Works
 mod Run
 mod Meanings
 mod Reports
-mod CountedListings
 mod LooksListNone
-mod ActsListNone
+mod StateListsNone
 mod FamiliesListOnce
 mod RunListsOnce
 mod LeftAlone

@@ -13,7 +13,7 @@ use Rattle.lr_conf.specs.Meaning.{Meaning}
 use Rattle.lr_plan.specs.Counted.{calls_in}
 use Rattle.lr_include.specs.Reading.{ReadsFile, MeansAs, no_file, directory, whole, cut, ReadsAs, means, look_failed, read_failed}
 use Rattle.lr_include.proofs.Means.{exactly}
-use Rattle.lr_fixed.proofs.Run.{one_called}
+use Rattle.lr_fixed.proofs.Called.{one_called}
 
 -- ---- where no call failed, the file means what is told
 pub no_failed : (file : Path) (m : Meaning) (ts : List Entry) → calls_in m.faults ≡ 0 → ReadsAs file m ts → MeansAs file m ts
@@ -53,7 +53,7 @@ reads_are_front x [] us each h = none_front us h
 reads_are_front x (entry.Reads y from piece ∷ ts) us each h = ap (λ vs. entry.Reads y from piece ∷ vs) (reads_are_front x ts us each.1 h)
 reads_are_front x (_ ∷ ts) us each h = absurd each.0
 
-conf_is_front : (file : Path) (P : Option Seen → Type 0) (ts us : List Entry) → Then (Sees file P) (Each (IsReadOf file)) ts → begins_by_read us ≡ false → conf_front (ts ++ us) ≡ ts
+pub conf_is_front : (file : Path) (P : Option Seen → Type 0) (ts us : List Entry) → Then (Sees file P) (Each (IsReadOf file)) ts → begins_by_read us ≡ false → conf_front (ts ++ us) ≡ ts
 conf_is_front file P ts us t h =
     ap conf_front (ap (λ vs. vs ++ us) all) ∙ (ap (λ vs. entry.Look file t.first.seen ∷ vs) (reads_are_front file t.back us t.second h) ∙ sym all)
   where
@@ -61,7 +61,7 @@ conf_is_front file P ts us t h =
     all = t.joined ∙ ap (λ vs. vs ++ t.back) t.first.look
 
 -- a look with no read behind it
-look_alone : (file : Path) (P : Option Seen → Type 0) (ts : List Entry) → Sees file P ts → Then (Sees file P) (Each (IsReadOf file)) ts
+pub look_alone : (file : Path) (P : Option Seen → Type 0) (ts : List Entry) → Sees file P ts → Then (Sees file P) (Each (IsReadOf file)) ts
 look_alone file P ts s = record { front = ts; back = []; joined = sym (append-nil ts); first = s; second = tt }
 
 -- a look with reads behind it

@@ -1,35 +1,49 @@
 -- Two reports that were told of the same entries are one.
-use Rattle.std.proofs.Common.{◌≡◌, inl, inr, ℕ, ℤ, Bool, true, false, List, [], ◌∷◌, ◌++◌, Option, length, drop, sym, ap, ◌∙◌, subst, codes}
+use Rattle.std.proofs.Common.{◌≡◌, ◌≢◌, ◌<◌, ◌≤◌, ◌+◌, inl, inr, ℕ, ℤ, Bool, true, false, List, [], ◌∷◌, ◌++◌, Option, None, Some, length, drop, refl, sym, ap, ◌∙◌, subst, codes, arith, append-nil}
 use Rattle.std.proofs.Math.Bool.{Bool-set}
 use Rattle.std.proofs.Math.Seq.{drop-append_seam}
-use Rattle.std.proofs.Props.{props}
+use Rattle.std.proofs.lemmas.Option.{same_Some}
 use Rattle.std.specs.List.{list_all}
-use Rattle.lr_rules.specs.Civil.{IsMoment}
 use Rattle.lr_rules.specs.Limits.{meets_limits}
 use Rattle.lr_rules.specs.Path.{parent_of, cleaned}
-use Rattle.lr_rules.specs.declared.civil.Civil.{Civil}
 use Rattle.lr_rules.specs.declared.civil.Moment.{Moment}
+use Rattle.lr_rules.specs.declared.clock.Clock.{Clock}
+use Rattle.lr_rules.specs.declared.fault.CallKind.TheVariants as call
 use Rattle.lr_rules.specs.declared.fault.Fault.{Fault}
+use Rattle.lr_rules.specs.declared.fault.Fault.TheVariants as fault
 use Rattle.lr_rules.specs.declared.fault.Notice.{Notice}
 use Rattle.lr_rules.specs.declared.path.Path.{Path}
 use Rattle.lr_rules.specs.declared.rule.Rule.{Rule}
 use Rattle.lr_rules.specs.declared.rules.Rules.{Rules}
 use Rattle.lr_host.specs.declared.entry.Entry.{Entry}
+use Rattle.lr_host.specs.declared.entry.Entry.TheVariants as entry
+use Rattle.lr_host.specs.declared.thing.Kind.{Kind}
 use Rattle.lr_host.specs.declared.thing.Seen.{Seen}
-use Rattle.lr_host.specs.Looks.{Sees}
+use Rattle.lr_host.specs.Looks.{Sees, IsFile}
+use Rattle.lr_host.specs.Reading.{text, ReadsAll}
+use Rattle.lr_host.specs.Told.{Then}
 use Rattle.lr_conf.specs.Meaning.{Meaning}
-use Rattle.lr_plan.specs.Counted.{calls_in}
-use Rattle.lr_include.specs.Reading.{MeansAs}
+use Rattle.lr_due.specs.declared.tz.Zone.{Zone}
+use Rattle.lr_due.specs.declared.tz.Zone.TheVariants.{Utc, Rule as RuleZone, File}
+use Rattle.lr_due.specs.declared.zone.ZoneText.{ZoneText}
+use Rattle.lr_due.specs.Zone.{IsInRange}
+use Rattle.lr_plan.specs.Counted.{call_in, calls_in}
+use Rattle.lr_include.specs.Reading.{MeansAs, no_file, directory, whole, cut}
 use Rattle.lr_seen.specs.Built.{AreBuiltRules}
-use Rattle.lr_run.specs.Runs.{Runs, no_directory, not_seen, not_begun, worked}
+use Rattle.lr_run.specs.Runs.{Runs, no_directory, not_seen, not_begun, began}
 use Rattle.lr_cli.specs.declared.outcome.Outcome.TheVariants.{Done}
 use Rattle.lr_cli.specs.declared.outcome.Report.{Report}
-use Rattle.lr_cli.specs.Answer.{state_path, IsFirst, IsNow, Reports, AnswersAt, no_clock, no_memory, called, Answered, not_read, read}
-use Rattle.lr_cli.specs.Words.{AreWords}
+use Rattle.lr_cli.specs.declared.words.Request.{Request}
+use Rattle.lr_cli.specs.Answer.{state_path, Reports, AnswersAt, no_clock, no_memory, called, Answered, not_read, read}
+use Rattle.lr_cli.specs.Clock.{ShowsClock, LacksClock, out_of_range, no_text, refused}
+use Rattle.lr_cli.specs.Words.{asking, AreWords}
+use Rattle.lr_cli.specs.Zone.{IsNotFile, ShowsZone, GivesBytes, LacksText, not_file, too_big, look_failed, read_failed}
 use Rattle.lr_run.proofs.Called.{none_before, none_behind}
-use Rattle.lr_fixed.proofs.Run.{runs_one}
+use Rattle.lr_fixed.proofs.Called.{one_uncalled}
+use Rattle.lr_fixed.proofs.Peeled.{one_look}
+use Rattle.lr_fixed.proofs.Run.{runs_at}
 use Rattle.lr_cli.proofs.Rotating.{means_built}
-use Rattle.lr_fixed.proofs.Meanings.{no_failed, meaning_one, conf_front, begins_by_read, means_front}
+use Rattle.lr_fixed.proofs.Meanings.{no_failed, meaning_one, conf_front, begins_by_read, means_front, conf_is_front, look_alone}
 
 -- ---- a run begins with no read
 
@@ -43,7 +57,7 @@ run_begins : (state : Path) (force : Bool) (now : Moment) (rules : Rules) (own :
 run_begins state force now rules own ts (no_directory e s) = look_begins (parent_of state) _ ts s
 run_begins state force now rules own ts (not_seen e none) = ap begins_by_read none
 run_begins state force now rules own ts (not_begun e t) = ap begins_by_read t.joined ∙ look_in_front (parent_of state) _ t.front t.back t.first
-run_begins state force now rules own ts (worked i) = ap begins_by_read i.entries ∙ look_in_front (parent_of state) _ i.before _ i.directory
+run_begins state force now rules own ts (began i) = ap begins_by_read i.entries ∙ look_in_front (parent_of state) _ i.before _ i.directory
 
 -- ---- records with the same parts
 
@@ -60,39 +74,9 @@ rules_same a b e = go a.sets b.sets a.limits b.limits e
     go : (xs ys : List Rule) (p : list_all meets_limits xs ≡ true) (q : list_all meets_limits ys ≡ true) → xs ≡ ys → rules_with xs p ≡ rules_with ys q
     go xs ys p q h = subst (λ zs. (l : list_all meets_limits zs ≡ true) → rules_with xs p ≡ rules_with zs l) h (λ l. ap (rules_with xs) (Bool-set (list_all meets_limits xs) true p l)) q
 
-abbrev Fields : Type 0
-Fields = ℤ × ℕ × ℕ × ℕ × ℕ × ℕ
-
-abbrev IsValid : Fields → Type 0
-IsValid f = IsMoment f.0 f.1 f.2 f.3 f.4 f.5
-
-abbrev civil_of : (f : Fields) → IsValid f → Civil
-civil_of f v = record { year = f.0; month = f.1; day = f.2; hour = f.3; minute = f.4; second = f.5; valid = v }
-
-valid_same : (f : Fields) (v w : IsValid f) → v ≡ w
-valid_same f v w = let prop : IsProp (IsValid f) = hlevel props in prop v w
-
-fields_same : (f g : Fields) → f ≡ g → (v : IsValid f) (w : IsValid g) → civil_of f v ≡ civil_of g w
-fields_same f g e v w =
-    subst (λ (h : Fields). (u : IsValid h) → civil_of f v ≡ civil_of h u) e (λ u. ap (civil_of f) (valid_same f v u)) w
-
--- the first moment of 1970 is one
-first_one : (a b : Civil) → IsFirst a → IsFirst b → a ≡ b
-first_one a b x y =
-    let fields : (a.year, a.month, a.day, a.hour, a.minute, a.second) ≡ (b.year, b.month, b.day, b.hour, b.minute, b.second) =
-    cc (x.year, x.month, x.day, x.hour, x.minute, x.second, y.year, y.month, y.day, y.hour, y.minute, y.second) in
-    fields_same (a.year, a.month, a.day, a.hour, a.minute, a.second) (b.year, b.month, b.day, b.hour, b.minute, b.second) fields a.valid b.valid
-
-abbrev moment_with : ℤ → Civil → Moment
-moment_with seconds civil = record { seconds = seconds; civil = civil }
-
--- the moment of a run is fixed by its seconds
-now_one : (seconds : ℤ) (a b : Moment) → IsNow seconds a → IsNow seconds b → a ≡ b
-now_one seconds a b x y = ap (λ s. moment_with s a.civil) (x.seconds_are ∙ sym y.seconds_are) ∙ ap (moment_with b.seconds) (first_one a.civil b.civil x.civil_is y.civil_is)
-
 -- ---- a reading and the run behind it
 
-module _ (conf : Path) (now : Moment) (notices others : List Notice) (faults more : List Fault) (ts : List Entry) (p : Reports conf now notices faults ts) (q : Reports conf now others more ts) (c : calls_in faults ≡ 0) (d : calls_in more ≡ 0) where
+module _ (conf : Path) (force : Bool) (now other : Moment) (notices others : List Notice) (faults more : List Fault) (ts us : List Entry) (same : ts ≡ us) (p : Reports conf force now notices faults ts) (q : Reports conf force other others more us) (c : calls_in faults ≡ 0) (d : calls_in more ≡ 0) where
   reads_p : MeansAs conf p.meaning p.entries.front
   reads_p = no_failed conf p.meaning p.entries.front (none_before faults p.meaning.faults p.own p.faults_are c) p.entries.first
 
@@ -101,11 +85,11 @@ module _ (conf : Path) (now : Moment) (notices others : List Notice) (faults mor
 
   front_is : p.entries.front ≡ q.entries.front
   front_is =
-      sym (means_front conf p.meaning p.entries.front p.entries.back reads_p (run_begins state_path true now p.rules p.own p.entries.back p.entries.second))
-      ∙ (ap conf_front (sym p.entries.joined ∙ q.entries.joined) ∙ means_front conf q.meaning q.entries.front q.entries.back reads_q (run_begins state_path true now q.rules q.own q.entries.back q.entries.second))
+      sym (means_front conf p.meaning p.entries.front p.entries.back reads_p (run_begins state_path force now p.rules p.own p.entries.back p.entries.second))
+      ∙ (ap conf_front (sym p.entries.joined ∙ (same ∙ q.entries.joined)) ∙ means_front conf q.meaning q.entries.front q.entries.back reads_q (run_begins state_path force other q.rules q.own q.entries.back q.entries.second))
 
   back_is : p.entries.back ≡ q.entries.back
-  back_is = behind_same q.entries.front p.entries.back q.entries.back (ap (λ xs. xs ++ p.entries.back) (sym front_is) ∙ (sym p.entries.joined ∙ q.entries.joined))
+  back_is = behind_same q.entries.front p.entries.back q.entries.back (ap (λ xs. xs ++ p.entries.back) (sym front_is) ∙ (sym p.entries.joined ∙ (same ∙ q.entries.joined)))
 
   meaning_is : p.meaning ≡ q.meaning
   meaning_is = meaning_one conf p.meaning q.meaning p.entries.front q.entries.front front_is reads_p reads_q
@@ -117,11 +101,11 @@ module _ (conf : Path) (now : Moment) (notices others : List Notice) (faults mor
   are_built = subst AreBuiltRules (sym p.rules_are) (means_built conf p.meaning p.entries.front reads_p)
 
   -- the other run, over the rules and the entries of the one
-  as_run : Runs state_path true now p.rules q.own p.entries.back
-  as_run = subst (λ (r : Rules). Runs state_path true now r q.own p.entries.back) (sym rules_is) (subst (λ us. Runs state_path true now q.rules q.own us) (sym back_is) q.entries.second)
+  as_run : Runs state_path force other p.rules q.own p.entries.back
+  as_run = subst (λ (r : Rules). Runs state_path force other r q.own p.entries.back) (sym rules_is) (subst (λ vs. Runs state_path force other q.rules q.own vs) (sym back_is) q.entries.second)
 
   own_is : p.own ≡ q.own
-  own_is = runs_one state_path true now p.rules p.own q.own p.entries.back are_built p.entries.second as_run
+  own_is = runs_at state_path force now other p.rules p.own q.own p.entries.back are_built p.entries.second as_run
       (none_behind faults p.meaning.faults p.own p.faults_are c) (none_behind more q.meaning.faults q.own q.faults_are d)
 
   told_one : (notices ≡ others) × (faults ≡ more)
@@ -130,37 +114,189 @@ module _ (conf : Path) (now : Moment) (notices others : List Notice) (faults mor
     p.faults_are ∙ (ap (λ (m : Meaning). m.faults ++ p.own) meaning_is ∙ (ap (λ xs. q.meaning.faults ++ xs) own_is ∙ sym q.faults_are)),
   )
 
+-- ---- a configuration's look comes first
+
+means_look : (file : Path) (m : Meaning) (ts : List Entry) → MeansAs file m ts → (seen : Option Seen) × (rest : List Entry) × (ts ≡ entry.Look file seen ∷ rest)
+means_look file m ts (no_file s e) = (s.seen, [], s.look)
+means_look file m ts (directory s e) = (s.seen, [], s.look)
+means_look file m ts (whole bytes n r e) = (r.first.seen, r.back, r.joined ∙ ap (λ vs. vs ++ r.back) r.first.look)
+means_look file m ts (cut bytes n r e) = (r.first.seen, r.back, r.joined ∙ ap (λ vs. vs ++ r.back) r.first.look)
+
+reports_look : (conf : Path) (force : Bool) (now : Moment) (notices : List Notice) (faults : List Fault) (ts : List Entry) → Reports conf force now notices faults ts → calls_in faults ≡ 0 → (seen : Option Seen) × (rest : List Entry) × (ts ≡ entry.Look conf seen ∷ rest)
+reports_look conf force now notices faults ts p c =
+    let l = means_look conf p.meaning p.entries.front (no_failed conf p.meaning p.entries.front (none_before faults p.meaning.faults p.own p.faults_are c) p.entries.first) in
+    (l.0, l.1 ++ p.entries.back, p.entries.joined ∙ ap (λ vs. vs ++ p.entries.back) l.2)
+
+look_first : (conf : Path) (seen : Option Seen) (rest ts : List Entry) → ts ≡ entry.Look conf seen ∷ rest → begins_by_read ts ≡ false
+look_first conf seen rest ts e = ap begins_by_read e
+
+look_some : (conf : Path) (seen : Option Seen) (rest ts : List Entry) → ts ≡ entry.Look conf seen ∷ rest → ts ≡ [] → ⊥
+look_some conf seen rest ts e none = let n = ap (λ (l : List Entry). length l) (sym e ∙ none) in omega (arith, n)
+
+-- ---- the entries of the zone
+
+abbrev zone_front : Zone → List Entry → List Entry
+zone_front (File path) ts = conf_front ts
+zone_front _ ts = []
+
+zone_is_front : (zone : Zone) (text : ZoneText) (ts us : List Entry) → ShowsZone zone text ts → begins_by_read us ≡ false → zone_front zone (ts ++ us) ≡ ts
+zone_is_front Utc text ts us h n = sym h.1
+zone_is_front (RuleZone rule) text ts us h n = sym h.1
+zone_is_front (File path) text ts us h n = conf_is_front path IsFile ts us (record { front = t.front; back = t.back; joined = t.joined; first = t.first; second = t.second.1.reads.only }) n
+  where
+    t : Then (Sees path IsFile) (GivesBytes path h.0) ts
+    t = h.2
+
+at_end : (zone : Zone) (ts : List Entry) → zone_front zone (ts ++ []) ≡ ts → zone_front zone ts ≡ ts
+at_end zone ts e = ap (zone_front zone) (sym (append-nil ts)) ∙ e
+
+as_file : (zone : Zone) (path : Path) (ts : List Entry) → zone ≡ File path → conf_front ts ≡ ts → zone_front zone ts ≡ ts
+as_file zone path ts z e = subst (λ (y : Zone). zone_front y ts ≡ ts) (sym z) e
+
+file_at_end : (path : Path) (ts : List Entry) → conf_front (ts ++ []) ≡ ts → conf_front ts ≡ ts
+file_at_end path ts e = ap conf_front (sym (append-nil ts)) ∙ e
+
+no_call : (f g : Fault) → f ≡ g → call_in g ≡ 1 → call_in f ≡ 0 → ⊥
+no_call f g e one z = let a : call_in f ≡ call_in g = ap call_in e in omega (arith, a, one, z)
+
+text_alone : (zone : Zone) (f : Fault) (ts : List Entry) → LacksText zone f ts → call_in f ≡ 0 → zone_front zone ts ≡ ts
+text_alone zone f ts (not_file path z e s) n = as_file zone path ts z (file_at_end path ts (conf_is_front path IsNotFile ts [] (look_alone path IsNotFile ts s) refl))
+text_alone zone f ts (too_big path bytes z e big t) n = as_file zone path ts z (file_at_end path ts (conf_is_front path IsFile ts [] (record { front = t.front; back = t.back; joined = t.joined; first = t.first; second = t.second.reads.only }) refl))
+text_alone zone f ts (look_failed path z e none) n = absurd (no_call f _ e refl n)
+text_alone zone f ts (read_failed path z e t) n = absurd (no_call f _ e refl n)
+
+-- where there is no clock, nothing is called but for the zone
+clock_alone : (zone : Zone) (seconds : ℤ) (f : Fault) (ts : List Entry) → LacksClock zone seconds f ts → call_in f ≡ 0 → IsInRange seconds → zone_front zone ts ≡ ts
+clock_alone zone seconds f ts (out_of_range out e none) n range = absurd (out range)
+clock_alone zone seconds f ts (no_text range l) n there = text_alone zone f ts l n
+clock_alone zone seconds f ts (refused text range e r s) n there = at_end zone ts (zone_is_front zone text ts [] s refl)
+
+nothing_behind : (xs ys : List Entry) → xs ++ ys ≡ xs → ys ≡ []
+nothing_behind xs ys e = behind_same xs ys [] (e ∙ sym (append-nil xs))
+
+clocked_or_not : (conf : Path) (force : Bool) (zone : Zone) (seconds : ℤ) (clock : Clock) (notices : List Notice) (faults : List Fault) (f : Fault) (ts : List Entry) → Then (ShowsClock zone seconds clock) (Reports conf force clock.now notices faults) ts → calls_in faults ≡ 0
+    → LacksClock zone seconds f ts → call_in f ≡ 0 → ⊥
+clocked_or_not conf force zone seconds clock notices faults f ts t c l n =
+    let r = reports_look conf force clock.now notices faults t.back t.second c in
+    let front : zone_front zone (t.front ++ t.back) ≡ t.front = zone_is_front zone t.first.text t.front t.back t.first.shows (look_first conf r.0 r.1 t.back r.2) in
+    let all : zone_front zone ts ≡ ts = clock_alone zone seconds f ts l n t.first.in_range in
+    look_some conf r.0 r.1 t.back r.2 (nothing_behind t.front t.back (sym t.joined ∙ (sym all ∙ (ap (zone_front zone) t.joined ∙ front))))
+
+-- ---- one fault of the clock
+
+file_not_file : (s t : Option Seen) → IsNotFile s → IsFile t → s ≡ t → ⊥
+file_not_file None None n i e = i
+file_not_file None (Some t) n i e = absurd (cc)
+file_not_file (Some s) None n i e = i
+file_not_file (Some s) (Some t) n i e = n (ap kind_of (same_Some s t e) ∙ i)
+  where
+    kind_of : Seen → Kind
+    kind_of x = x.kind
+
+seen_otherwise : (path other : Path) (Q : List Entry → Type 0) (ts : List Entry) → Sees path IsNotFile ts → Then (Sees other IsFile) Q ts → ⊥
+seen_otherwise path other Q ts s t = let o = one_look path other ts t.front [] t.back s t.first (append-nil ts ∙ t.joined) in file_not_file s.seen t.first.seen s.is t.first.is o.seen_is
+
+too_long : (path other : Path) (bytes more : List ℕ) (ts : List Entry) → 1048576 < length bytes → Then (Sees path IsFile) (ReadsAll path 1048577 bytes) ts → Then (Sees other IsFile) (GivesBytes other more) ts → ⊥
+too_long path other bytes more ts big t u =
+    let o = one_look path other t.front u.front t.back u.back t.first u.first (sym t.joined ∙ u.joined) in
+    let same : length bytes ≡ length more = ap (λ (bs : List ℕ). length bs) (sym t.second.reads.bytes_are ∙ (ap text o.rest_is ∙ u.second.1.reads.bytes_are)) in
+    let le : length more ≤ 1048576 = u.second.0 in
+    omega (arith, big, same, le)
+
+file_shown : (zone : Zone) (path : Path) (text : ZoneText) (ts : List Entry) → zone ≡ File path → ShowsZone zone text ts → (bytes : List ℕ) × Then (Sees path IsFile) (GivesBytes path bytes) ts
+file_shown zone path text ts z s = let h = subst (λ (y : Zone). ShowsZone y text ts) z s in (h.0, h.2)
+
+text_or_not : (zone : Zone) (f : Fault) (text : ZoneText) (ts : List Entry) → LacksText zone f ts → call_in f ≡ 0 → ShowsZone zone text ts → ⊥
+text_or_not zone f text ts (not_file path z e s) n h = let g = file_shown zone path text ts z h in seen_otherwise path path (GivesBytes path g.0) ts s g.1
+text_or_not zone f text ts (too_big path bytes z e big t) n h = let g = file_shown zone path text ts z h in too_long path path bytes g.0 ts big t g.1
+text_or_not zone f text ts (look_failed path z e none) n h = no_call f _ e refl n
+text_or_not zone f text ts (read_failed path z e t) n h = no_call f _ e refl n
+
+text_one : (zone : Zone) (f g : Fault) (ts : List Entry) → LacksText zone f ts → LacksText zone g ts → call_in f ≡ 0 → call_in g ≡ 0 → f ≡ g
+text_one zone f g ts (look_failed path z e none) m c d = absurd (no_call f _ e refl c)
+text_one zone f g ts (read_failed path z e t) m c d = absurd (no_call f _ e refl c)
+text_one zone f g ts (not_file path z e s) (look_failed other y h none) c d = absurd (no_call g _ h refl d)
+text_one zone f g ts (not_file path z e s) (read_failed other y h t) c d = absurd (no_call g _ h refl d)
+text_one zone f g ts (not_file path z e s) (not_file other y h t) c d = e ∙ sym h
+text_one zone f g ts (not_file path z e s) (too_big other bytes y h big t) c d = absurd (seen_otherwise path other (ReadsAll other 1048577 bytes) ts s t)
+text_one zone f g ts (too_big path bytes z e big t) (look_failed other y h none) c d = absurd (no_call g _ h refl d)
+text_one zone f g ts (too_big path bytes z e big t) (read_failed other y h u) c d = absurd (no_call g _ h refl d)
+text_one zone f g ts (too_big path bytes z e big t) (not_file other y h s) c d = absurd (seen_otherwise other path (ReadsAll path 1048577 bytes) ts s t)
+text_one zone f g ts (too_big path bytes z e big t) (too_big other more y h more_big u) c d = e ∙ sym h
+
+clock_one : (zone : Zone) (seconds : ℤ) (f g : Fault) (ts : List Entry) → LacksClock zone seconds f ts → LacksClock zone seconds g ts → call_in f ≡ 0 → call_in g ≡ 0 → f ≡ g
+clock_one zone seconds f g ts (out_of_range out e none) (out_of_range never h blank) c d = e ∙ sym h
+clock_one zone seconds f g ts (out_of_range out e none) (no_text range l) c d = absurd (out range)
+clock_one zone seconds f g ts (out_of_range out e none) (refused text range h r s) c d = absurd (out range)
+clock_one zone seconds f g ts (no_text range l) (out_of_range out h none) c d = absurd (out range)
+clock_one zone seconds f g ts (no_text range l) (no_text there m) c d = text_one zone f g ts l m c d
+clock_one zone seconds f g ts (no_text range l) (refused text there h r s) c d = absurd (text_or_not zone f text ts l c s)
+clock_one zone seconds f g ts (refused text range e r s) (out_of_range out h none) c d = absurd (out range)
+clock_one zone seconds f g ts (refused text range e r s) (no_text there m) c d = absurd (text_or_not zone g text ts m d s)
+clock_one zone seconds f g ts (refused text range e r s) (refused other there h q u) c d = e ∙ sym h
+
 -- ---- the call
+
+abbrev alone : Fault → Report
+alone f = record { notices = []; faults = f ∷ [] }
 
 -- the same outcome has the same report
 report_same : (a b : Report) → Done a ≡ Done b → a ≡ b
 report_same a b e = cc
 
+alone_faults : (a : Report) (f : Fault) → Done a ≡ Done (alone f) → a.faults ≡ f ∷ []
+alone_faults a f e = ap (λ (r : Report). r.faults) (report_same a (alone f) e)
+
 both_same : (a b : Report) → a ≡ b → (a.notices ≡ b.notices) × (a.faults ≡ b.faults)
 both_same a b e = (ap (λ (r : Report). r.notices) e, ap (λ (r : Report). r.faults) e)
 
-at_one : (conf : Path) (seconds : ℤ) (one other : Report) (ts : List Entry) → AnswersAt conf seconds (Done one) ts → AnswersAt conf seconds (Done other) ts → calls_in one.faults ≡ 0 → calls_in other.faults ≡ 0 → (one.notices ≡ other.notices) × (one.faults ≡ other.faults)
-at_one conf seconds one other ts (no_memory e none) b c d = absurd (cc)
-at_one conf seconds one other ts (no_clock out e none) (no_memory f blank) c d = absurd (cc)
-at_one conf seconds one other ts (no_clock out e none) (no_clock never f blank) c d = both_same one other (report_same one other (e ∙ sym f))
-at_one conf seconds one other ts (no_clock out e none) (called now range is h) c d = absurd (out range)
-at_one conf seconds one other ts (called now range is h) (no_memory f blank) c d = absurd (cc)
-at_one conf seconds one other ts (called now range is h) (no_clock never f blank) c d = absurd (never range)
-at_one conf seconds one other ts (called now range is h) (called then same are g) c d =
-    told_one conf now one.notices other.notices one.faults other.faults ts h (subst (λ (m : Moment). Reports conf m other.notices other.faults ts) (now_one seconds then now are is) g) c d
+both_clocked : (request : Request) (zone : Zone) (seconds : ℤ) (clock other : Clock) (one two : Report) (ts : List Entry) → Then (ShowsClock zone seconds clock) (Reports request.conf request.force clock.now one.notices one.faults) ts
+    → Then (ShowsClock zone seconds other) (Reports request.conf request.force other.now two.notices two.faults) ts → calls_in one.faults ≡ 0 → calls_in two.faults ≡ 0 → (one.notices ≡ two.notices) × (one.faults ≡ two.faults)
+both_clocked request zone seconds clock other one two ts t u c d = told_one request.conf request.force clock.now other.now one.notices two.notices one.faults two.faults t.back u.back back t.second u.second c d
+  where
+    front : t.front ≡ u.front
+    front =
+        let r = reports_look request.conf request.force clock.now one.notices one.faults t.back t.second c in
+        let q = reports_look request.conf request.force other.now two.notices two.faults u.back u.second d in
+        sym (zone_is_front zone t.first.text t.front t.back t.first.shows (look_first request.conf r.0 r.1 t.back r.2))
+        ∙ (ap (zone_front zone) (sym t.joined ∙ u.joined) ∙ zone_is_front zone u.first.text u.front u.back u.first.shows (look_first request.conf q.0 q.1 u.back q.2))
 
--- of two lists of two words, the second one
-second_same : (x y z : List ℕ) → x ∷ y ∷ [] ≡ x ∷ z ∷ [] → y ≡ z
-second_same x y z e = cc
+    back : t.back ≡ u.back
+    back = behind_same u.front t.back u.back (ap (λ xs. xs ++ t.back) (sym front) ∙ (sym t.joined ∙ u.joined))
 
--- words name one configuration
-conf_one : (here : Path) (words : List (List ℕ)) (conf another : Path) → AreWords here words conf → AreWords here words another → conf ≡ another
-conf_one here words conf another v w = v.names ∙ (ap (cleaned here) (second_same (codes "-f") v.word w.word (sym v.two ∙ w.two)) ∙ sym w.names)
+at_one : (request : Request) (zone : Zone) (seconds : ℤ) (one other : Report) (ts : List Entry) → AnswersAt request zone seconds (Done one) ts → AnswersAt request zone seconds (Done other) ts → calls_in one.faults ≡ 0 → calls_in other.faults ≡ 0 → (one.notices ≡ other.notices) × (one.faults ≡ other.faults)
+at_one request zone seconds one other ts (no_memory e none) b c d = absurd (cc)
+at_one request zone seconds one other ts (no_clock f e l) (no_memory h none) c d = absurd (cc)
+at_one request zone seconds one other ts (no_clock f e l) (no_clock g h m) c d =
+    let same = clock_one zone seconds f g ts l m (one_uncalled one.faults f (alone_faults one f e) c) (one_uncalled other.faults g (alone_faults other g h) d) in
+    both_same one other (report_same one (alone f) e ∙ (ap alone same ∙ sym (report_same other (alone g) h)))
+at_one request zone seconds one other ts (no_clock f e l) (called clock t) c d = absurd (clocked_or_not request.conf request.force zone seconds clock other.notices other.faults f ts t d l (one_uncalled one.faults f (alone_faults one f e) c))
+at_one request zone seconds one other ts (called clock t) (no_memory h none) c d = absurd (cc)
+at_one request zone seconds one other ts (called clock t) (no_clock g h m) c d = absurd (clocked_or_not request.conf request.force zone seconds clock one.notices one.faults g ts t c m (one_uncalled other.faults g (alone_faults other g h) d))
+at_one request zone seconds one other ts (called clock t) (called another u) c d = both_clocked request zone seconds clock another one other ts t u c d
 
-pub answers_one : (here : Path) (words : List (List ℕ)) (seconds : ℤ) (one other : Report) (ts : List Entry) → Answered here words seconds (Done one) ts → Answered here words seconds (Done other) ts → calls_in one.faults ≡ 0 → calls_in other.faults ≡ 0 → (one.notices ≡ other.notices) × (one.faults ≡ other.faults)
-answers_one here words seconds one other ts (not_read (inl e) none) b c d = absurd (cc)
-answers_one here words seconds one other ts (not_read (inr e) none) b c d = absurd (cc)
-answers_one here words seconds one other ts (read conf w h) (not_read (inl e) none) c d = absurd (cc)
-answers_one here words seconds one other ts (read conf w h) (not_read (inr e) none) c d = absurd (cc)
-answers_one here words seconds one other ts (read conf w h) (read another v g) c d =
-    at_one conf seconds one other ts h (subst (λ (x : Path). AnswersAt x seconds (Done other) ts) (conf_one here words another conf v w) g) c d
+-- ---- the words
+
+-- words ask for one thing
+asked_same : (a b : Bool) (w v : List ℕ) → asking a w ≡ asking b v → (a ≡ b) × (w ≡ v)
+asked_same true true w v e = (refl, cc)
+asked_same true false w v e = let n = ap (λ (l : List (List ℕ)). length l) e in absurd (omega (arith, n))
+asked_same false true w v e = let n = ap (λ (l : List (List ℕ)). length l) e in absurd (omega (arith, n))
+asked_same false false w v e = (refl, cc)
+
+abbrev request_with : Bool → Path → Request
+request_with force conf = record { force = force; conf = conf }
+
+request_one : (here : Path) (words : List (List ℕ)) (request another : Request) → AreWords here words request → AreWords here words another → request ≡ another
+request_one here words request another v w =
+    let s = asked_same request.force another.force v.word w.word (sym v.are ∙ w.are) in
+    ap (λ (b : Bool). request_with b request.conf) s.0 ∙ ap (request_with another.force) (v.names_conf.names ∙ (ap (cleaned here) s.1 ∙ sym w.names_conf.names))
+
+pub answers_one : (here : Path) (words : List (List ℕ)) (zone : Zone) (seconds : ℤ) (one other : Report) (ts : List Entry) → Answered here words zone seconds (Done one) ts → Answered here words zone seconds (Done other) ts → calls_in one.faults ≡ 0 → calls_in other.faults ≡ 0
+    → (one.notices ≡ other.notices) × (one.faults ≡ other.faults)
+answers_one here words zone seconds one other ts (not_read (inl e) none) b c d = absurd (cc)
+answers_one here words zone seconds one other ts (not_read (inr e) none) b c d = absurd (cc)
+answers_one here words zone seconds one other ts (read request w h) (not_read (inl e) none) c d = absurd (cc)
+answers_one here words zone seconds one other ts (read request w h) (not_read (inr e) none) c d = absurd (cc)
+answers_one here words zone seconds one other ts (read request w h) (read another v g) c d =
+    at_one request zone seconds one other ts h (subst (λ (x : Request). AnswersAt x zone seconds (Done other) ts) (request_one here words another request v w) g) c d

@@ -10,7 +10,7 @@ use Rattle.lr_plan.specs.Counted.{calls_in}
 use Rattle.lr_looks.specs.Asked.{asked_by}
 use Rattle.lr_looks.specs.Choices.{choice_faults, kind_fault, kept_of, where_file, Keeps}
 use Rattle.lr_looks.specs.Families.{LookedLog, ShowFamilies, family_faults, looked_of}
-use Rattle.lr_looks.specs.Found.{FoundLog}
+use Rattle.lr_looks.specs.Found.{FoundLog, paths_of}
 use Rattle.lr_looks.specs.Sets.{HaveLooksFrom}
 use Rattle.lr_looks.specs.Shown.{ShowsLooks}
 use Rattle.lr_looks.specs.Sights.{looks_of, faults_of, found_of}
@@ -96,6 +96,14 @@ module _ (reserved : List Path) (rules : List Rule) (sets others : List SetLooks
   -- the logs that were looked at whole
   looked_is : h.looked ≡ g.looked
   looked_is = h.entries.second.families.looked_are ∙ (ap (λ logs. looked_of logs h.entries.second.families.sights) kept_is.kept_are ∙ (ap (looked_of g.kept) families.0 ∙ sym g.entries.second.families.looked_are))
+
+  -- all logs that are kept
+  pub kept_paths : paths_of h.kept ≡ paths_of g.kept
+  kept_paths = ap paths_of kept_is.kept_are
+
+  -- what comes behind the looks
+  pub behind_looks : vs ≡ ws
+  behind_looks = families.2
 
   -- the looks, their faults and the logs that were looked at whole
   pub looks_one : (ts ≡ us) × (faults ≡ more) × AreAlike sets others

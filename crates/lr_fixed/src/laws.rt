@@ -14,18 +14,20 @@ ghost use Rattle.lr_host.specs.Sets.{LogSet};
 ghost use Rattle.lr_host.specs.Steady.{IsSteady};
 ghost use Rattle.lr_host.specs.Told.{Made};
 ghost use Rattle.lr_host.specs.World.{Past, world, names};
+ghost use Rattle.lr_due.specs.declared.tz.Zone.{Zone};
 ghost use Rattle.lr_plan.specs.declared.looks.SetLooks.{SetLooks};
 ghost use Rattle.lr_plan.specs.Counted.{calls_in};
 ghost use Rattle.lr_looks.specs.Shown.{ShowsLooks};
 ghost use Rattle.lr_seen.specs.Built.{AreBuiltRules};
 ghost use Rattle.lr_rotations.specs.Target.{Target, IsOneOf};
-ghost use Rattle.lr_run.specs.Rotated.{rotated_logs};
-ghost use Rattle.lr_run.specs.Runs.{Inside, Works, Runs};
+ghost use Rattle.lr_run.specs.Rotated.{rotated_in};
+ghost use Rattle.lr_run.specs.Runs.{Inside, Worked, Runs};
 ghost use Rattle.lr_cli.specs.declared.outcome.Outcome.TheVariants.{Done};
 ghost use Rattle.lr_cli.specs.declared.outcome.Report.{Report};
 ghost use Rattle.lr_cli.specs.Answer.{Answered};
 ghost use Rattle.lr_fixed.specs.Alike.{AreAlike};
 ghost use Rattle.lr_fixed.specs.Listings.{listings_of};
+ghost use Rattle.lr_fixed.specs.Unplanned.{IsUnplanned};
 
 /// Where the same entries begin with looks of two outcomes and no call failed in either, the looks are the same, and so
 /// are their faults and the logs that were looked at whole.
@@ -46,8 +48,8 @@ pub fn faults_are_fixed()
 /// Entries fix the report of a call: where the same entries are shown as those of two reports, and no failed call is told
 /// by either, the reports are the same.
 pub fn reports_are_fixed()
-    ensures { (here : Path) (words : List (List ℕ)) (seconds : ℤ) (one other : Report) (ts : List Entry)
-        → Answered here words seconds (Done one) ts → Answered here words seconds (Done other) ts
+    ensures { (here : Path) (words : List (List ℕ)) (zone : Zone) (seconds : ℤ) (one other : Report) (ts : List Entry)
+        → Answered here words zone seconds (Done one) ts → Answered here words zone seconds (Done other) ts
         → calls_in one.faults ≡ 0 → calls_in other.faults ≡ 0 → (one.notices ≡ other.notices) × (one.faults ≡ other.faults) }
 {}
 
@@ -57,12 +59,15 @@ pub fn directories_are_listed_once()
         → Runs state force now rules own ts → (dir : Path) → listings_of dir ts ≤ 1 }
 {}
 
-/// A run leaves each set alone whose log it doesn't rotate, whatever failed: each member names what it named before. It
-/// holds of sets that are safe before and steady.
+/// A run that came to its plan leaves each set alone whose log it doesn't rotate, whatever failed: each member names what
+/// it named before. It holds of sets that are safe before and steady. A run that didn't leaves all steady sets alone.
 pub fn others_are_left()
-    ensures { (s : LogSet) (state : Path) (force : Bool) (now : Moment) (rules : Rules) (own : List Fault) (p q : Past) (es reads acts : List Entry) → AreBuiltRules rules.sets
-        → Made p es q → IsJournal p → reverse es ≡ reads ++ acts → AreQuiet reads → (i : Inside state now rules (Works state rules.sets now force own) acts)
+    ensures planned { (s : LogSet) (state : Path) (force : Bool) (now : Moment) (rules : Rules) (own : List Fault) (p q : Past) (es reads acts : List Entry) → AreBuiltRules rules.sets
+        → Made p es q → IsJournal p → reverse es ≡ reads ++ acts → AreQuiet reads → (i : Inside state now rules (Worked state rules.sets now force own) acts)
         → IsSafe s p → IsSteady s q
-        → ((t : Target) → IsOneOf t (rotated_logs rules.sets now force i.within.sets) → t.log ≢ s.log)
+        → ((t : Target) → IsOneOf t (rotated_in state rules.sets i.between i.within.looked now force) → t.log ≢ s.log)
         → (y : Path) (k : ℤ) → s.key y ≡ Some k → names (world q) y ≡ names (world p) y }
+    ensures unplanned { (s : LogSet) (state : Path) (force : Bool) (now : Moment) (rules : Rules) (own : List Fault) (p q : Past) (es reads acts : List Entry)
+        → Made p es q → reverse es ≡ reads ++ acts → AreQuiet reads → (r : Runs state force now rules own acts) → IsUnplanned state force now rules own acts r
+        → IsSteady s q → (y : Path) (k : ℤ) → s.key y ≡ Some k → names (world q) y ≡ names (world p) y }
 {}

@@ -1,0 +1,121 @@
+-- The work of two runs that left the same entries met the same faults.
+use Rattle.std.proofs.Common.{◌≡◌, ◌≤◌, ◌<◌, Bool, List, [], ◌∷◌, ◌++◌, length, Ok, Err, refl, sym, ap, ◌∙◌, arith}
+use Rattle.std.proofs.lemmas.List.{append-nil}
+use Rattle.std.proofs.lemmas.List.Elements.{filter-append}
+use Rattle.lr_rules.specs.declared.civil.Moment.{Moment}
+use Rattle.lr_rules.specs.declared.fault.Fault.{Fault}
+use Rattle.lr_rules.specs.declared.fault.Fault.TheVariants as fault
+use Rattle.lr_rules.specs.declared.fault.StateKind.TheVariants as kind
+use Rattle.lr_rules.specs.declared.path.Path.{Path}
+use Rattle.lr_rules.specs.declared.rule.Rule.{Rule}
+use Rattle.lr_host.specs.declared.entry.Entry.{Entry}
+use Rattle.lr_plan.specs.Counted.{calls_in}
+use Rattle.lr_plan.specs.Planned.{decision}
+use Rattle.lr_plan.specs.Steps.{state_part}
+use Rattle.lr_reading.specs.declared.remembered.Remembered.{Remembered}
+use Rattle.lr_reading.specs.Answers.{Known, IsKnown}
+use Rattle.lr_reading.specs.Sights.{StateSights, ShowsState}
+use Rattle.lr_seen.specs.Built.{AreBuiltRules}
+use Rattle.lr_run.specs.Runs.{Looked, Worked, Works, not_known, too_big, worked, plan_in, measured_in}
+use Rattle.lr_run.proofs.Called.{none_before, none_behind, worked_met_none}
+use Rattle.lr_fixed.proofs.Called.{one_uncalled}
+use Rattle.lr_fixed.proofs.LookedOne.{looks_are, acts_are, plans_are, measured_is}
+use Rattle.lr_fixed.proofs.Moves.{plan_moves, moves_make_none}
+use Rattle.lr_fixed.proofs.StateRead.{state_one}
+use Rattle.lr_fixed.proofs.Writing.{is_make, makes_in, told_by, state_told}
+
+-- ---- one that acted
+
+module _ (state : Path) (rules : List Rule) (now : Moment) (force : Bool) (own : List Fault) (ts : List Entry) (built : AreBuiltRules rules) (w : Worked state rules now force own ts) (c : calls_in own ≡ 0) where
+  -- no call failed behind the looks
+  no_call : calls_in ((plan_in state rules ts w.looked now force).faults ++ w.acted.of_acts) ≡ 0
+  no_call = none_behind own w.looked.of_looks _ w.acted.faults_are c
+
+  -- nor at the writing
+  no_call_written : calls_in w.acted.entries.of_state ≡ 0
+  no_call_written = none_behind w.acted.of_acts w.acted.entries.of_plan w.acted.entries.of_state w.acted.entries.faults_are (none_behind _ (plan_in state rules ts w.looked now force).faults w.acted.of_acts refl no_call)
+
+  -- the files that were made are those of the writing
+  made_is : makes_in w.looked.acts ≡ makes_in w.acted.entries.entries.back
+  made_is =
+      ap makes_in w.acted.entries.entries.joined
+      ∙ (filter-append is_make w.acted.entries.entries.front w.acted.entries.entries.back
+      ∙ ap (λ es. es ++ makes_in w.acted.entries.entries.back) (moves_make_none w.acted.entries.entries.front (plan_moves rules w.looked.sets (decision w.looked.remembered.table now force) w.acted.marks w.acted.entries.of_plan w.acted.entries.entries.front built w.acted.entries.entries.first)))
+
+  -- by them the faults of the acts are told
+  acts_told : w.acted.of_acts ≡ told_by (state_part state) (makes_in w.looked.acts)
+  acts_told =
+      w.acted.entries.faults_are
+      ∙ (ap (λ fs. fs ++ w.acted.entries.of_state) (worked_met_none state rules now force own ts built w c)
+      ∙ (state_told state w.looked.remembered.stale w.acted.dirs _ [] w.acted.entries.of_state w.acted.entries.entries.back w.acted.entries.entries.second no_call_written
+      ∙ sym (ap (told_by (state_part state)) made_is)))
+
+-- ---- one that knew its state, and one that didn't
+
+err_same : (f g : Fault) (k l : Known) → k ≡ Err f → l ≡ Err g → k ≡ l → f ≡ g
+err_same f g k l p q e = cc
+
+ok_or_err : (r : Remembered) (f : Fault) (k l : Known) → k ≡ Err f → l ≡ Ok r → k ≡ l → ⊥
+ok_or_err r f k l p q e = cc
+
+-- the same entries aren't those of both
+known_or_not : (state : Path) (rules : List Rule) (own : List Fault) (ts us : List Entry) (a : StateSights) (f : Fault) → IsKnown state a (Err f) → own ≡ f ∷ [] → ShowsState state 65_536 a ts → Looked state rules us → ts ≡ us → calls_in own ≡ 0 → ⊥
+known_or_not state rules own ts us a f x is shown w e c = ok_or_err w.remembered f (Err f) (Ok w.remembered) refl refl
+    (state_one state 65_536 a w.sights (Err f) (Ok w.remembered) ts w.reads [] (w.looks ++ w.acts) shown w.read x w.known (one_uncalled own f is c) tt (append-nil ts ∙ (e ∙ w.joined))).known_is
+
+-- ---- two works
+
+module _ (state : Path) (rules : List Rule) (now : Moment) (force : Bool) (own more : List Fault) (ts us : List Entry) (built : AreBuiltRules rules) (e : ts ≡ us) (c : calls_in own ≡ 0) (d : calls_in more ≡ 0) where
+  -- neither knew its state
+  unknown_one : (a b : StateSights) (f g : Fault) → IsKnown state a (Err f) → IsKnown state b (Err g) → own ≡ f ∷ [] → more ≡ g ∷ [] → ShowsState state 65_536 a ts → ShowsState state 65_536 b us → own ≡ more
+  unknown_one a b f g x y is are h k = is ∙ (ap (λ (z : Fault). z ∷ []) same ∙ sym are)
+    where
+      same : f ≡ g
+      same = err_same f g (Err f) (Err g) refl refl (state_one state 65_536 a b (Err f) (Err g) ts us [] [] h k x y (one_uncalled own f is c) (one_uncalled more g are d) (append-nil ts ∙ (e ∙ sym (append-nil us)))).known_is
+
+  -- both worked
+  worked_one : Worked state rules now force own ts → Worked state rules now force more us → own ≡ more
+  worked_one v w = v.acted.faults_are ∙ (ap (λ fs. fs ++ (v_plan ++ v.acted.of_acts)) looks ∙ (ap (λ fs. w.looked.of_looks ++ (fs ++ v.acted.of_acts)) plans ∙ (ap (λ fs. w.looked.of_looks ++ (w_plan ++ fs)) acts ∙ sym w.acted.faults_are)))
+    where
+      v_plan : List Fault
+      v_plan = (plan_in state rules ts v.looked now force).faults
+
+      w_plan : List Fault
+      w_plan = (plan_in state rules us w.looked now force).faults
+
+      no_v : calls_in v.looked.of_looks ≡ 0
+      no_v = none_before own v.looked.of_looks _ v.acted.faults_are c
+
+      no_w : calls_in w.looked.of_looks ≡ 0
+      no_w = none_before more w.looked.of_looks _ w.acted.faults_are d
+
+      looks : v.looked.of_looks ≡ w.looked.of_looks
+      looks = (looks_are state rules now force ts us v.looked w.looked e no_v no_w).1
+
+      plans : v_plan ≡ w_plan
+      plans = plans_are state rules now force ts us v.looked w.looked e no_v no_w
+
+      acts : v.acted.of_acts ≡ w.acted.of_acts
+      acts = acts_told state rules now force own ts built v c ∙ (ap (λ es. told_by (state_part state) (makes_in es)) (acts_are state rules now force ts us v.looked w.looked e no_v no_w) ∙ sym (acts_told state rules now force more us built w d))
+
+  -- the text of both could become too big
+  big_one : (v : Looked state rules ts) (w : Looked state rules us) → own ≡ v.of_looks ++ fault.State 0 kind.TooBig ∷ [] → more ≡ w.of_looks ++ fault.State 0 kind.TooBig ∷ [] → own ≡ more
+  big_one v w is are = is ∙ (ap (λ fs. fs ++ fault.State 0 kind.TooBig ∷ []) (looks_are state rules now force ts us v w e (none_before own v.of_looks _ is c) (none_before more w.of_looks _ are d)).1 ∙ sym are)
+
+  -- it couldn't become so for one alone
+  big_or_not : (v : Looked state rules ts) (w : Looked state rules us) → calls_in v.of_looks ≡ 0 → calls_in w.of_looks ≡ 0 → 67_108_864 < length (measured_in state rules ts v now force) → length (measured_in state rules us w now force) ≤ 67_108_864 → ⊥
+  big_or_not v w no_v no_w big small = let same : length (measured_in state rules ts v now force) ≡ length (measured_in state rules us w now force) = ap length (measured_is state rules now force ts us v w e no_v no_w) in omega (arith, same, big, small)
+
+  small_or_not : (v : Looked state rules ts) (w : Looked state rules us) → calls_in v.of_looks ≡ 0 → calls_in w.of_looks ≡ 0 → length (measured_in state rules ts v now force) ≤ 67_108_864 → 67_108_864 < length (measured_in state rules us w now force) → ⊥
+  small_or_not v w no_v no_w small big = let same : length (measured_in state rules ts v now force) ≡ length (measured_in state rules us w now force) = ap length (measured_is state rules now force ts us v w e no_v no_w) in omega (arith, same, big, small)
+
+  pub works_one : Works state rules now force own ts → Works state rules now force more us → own ≡ more
+  works_one (not_known a f x is h) (not_known b g y are k) = unknown_one a b f g x y is are h k
+  works_one (not_known a f x is h) (too_big w big are none) = absurd (known_or_not state rules own ts us a f x is h w e c)
+  works_one (not_known a f x is h) (worked w) = absurd (known_or_not state rules own ts us a f x is h w.looked e c)
+  works_one (too_big v big is none) (not_known b g y are k) = absurd (known_or_not state rules more us ts b g y are k v (sym e) d)
+  works_one (too_big v big is none) (too_big w great are nothing) = big_one v w is are
+  works_one (too_big v big is none) (worked w) = absurd (big_or_not v w.looked (none_before own v.of_looks _ is c) (none_before more w.looked.of_looks _ w.acted.faults_are d) big w.acted.small)
+  works_one (worked v) (not_known b g y are k) = absurd (known_or_not state rules more us ts b g y are k v.looked (sym e) d)
+  works_one (worked v) (too_big w big are none) = absurd (small_or_not v.looked w (none_before own v.looked.of_looks _ v.acted.faults_are c) (none_before more w.of_looks _ are d) v.acted.small big)
+  works_one (worked v) (worked w) = worked_one v w
