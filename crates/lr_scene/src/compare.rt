@@ -36,6 +36,11 @@ fn is_of_etc(path: &Path) -> bool {
     path.bytes().starts_with(b"/etc/")
 }
 
+// The state's file, and that which a new state is first written to: each run that comes to its plan writes them.
+fn is_of_state(path: &Path) -> bool {
+    path.has_bytes(b"/var/lib/logrotate/status") || path.has_bytes(b"/var/lib/logrotate/status.tmp")
+}
+
 // The bytes that are wanted of the path: those that are listed, or those of the opening in `/etc`.
 fn wanted_bytes<'a>(host: &'a MemHost, wanted: &'a Wanted, path: &Path) -> Option<&'a [u8]> {
     for (one, bytes) in &wanted.left {
@@ -69,7 +74,7 @@ fn compare_file(
     let found = host.file(path).unwrap_or(b"");
     match wanted_bytes(host, wanted, path) {
         Some(bytes) => differences.compare(path.bytes(), found, bytes),
-        None if is_one_of(&wanted.once, found) => Ok(()),
+        None if is_one_of(&wanted.once, found) || is_of_state(path) => Ok(()),
         None => differences.add(path.bytes(), found, b"no file"),
     }
 }
