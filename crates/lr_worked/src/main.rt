@@ -1,5 +1,8 @@
 //! Plays worked rows: calls of `lr_cli::logrotate` over disks in memory, with writers, failing calls, stops and cuts.
 //!
+//! A call whose first word is `TZ=VALUE` is made in the zone that this value of the variable asks for, as in a shell, and
+//! any other in UTC.
+//!
 //! Its words name files of rows, which `docs/ROWS.md` says how to write. For each row a line is printed: its name and
 //! `ok`, with how often it was played, or what differs from what the row wants, or why it is refused. It ends with 0
 //! where all rows are ok. Behind the word `-wrong` stand files of rows that want what isn't so: each has to differ.
@@ -8,13 +11,35 @@
 
 use anyhow::{Result, anyhow};
 use lr_cli::{Zone, logrotate, status};
+use lr_due::zone_of;
 use lr_line::Trouble;
 use lr_memhost::{MemHost, MemSink};
-use lr_rules::Path;
+use lr_rules::{Path, Text};
 use lr_stage::{Call, Caller, Row, Verdict, judge, rows_of};
 use std::alloc::Global;
 use std::process::ExitCode;
 use std::{env, fs};
+
+// The zone that this value of the variable TZ asks for.
+fn zone_asked(alloc: Global, value: &[u8]) -> Result<Zone, Trouble> {
+    let Ok(value) = Text::new(alloc, value) else {
+        return Err(Trouble::Odd("a zone is no text"));
+    };
+    match zone_of(alloc, Some(&value)) {
+        Ok(zone) => Ok(zone),
+        Err(_) => Err(Trouble::Odd("a zone is asked for by no path")),
+    }
+}
+
+// The zone of a call, and its words behind that.
+fn zone_and_words(alloc: Global, words: &[Text]) -> Result<(Zone, &[Text]), Trouble> {
+    if let Some(first) = words.first()
+        && let Some(value) = first.bytes().strip_prefix(b"TZ=")
+    {
+        return Ok((zone_asked(alloc, value)?, &words[1..]));
+    }
+    Ok((Zone::Utc, words))
+}
 
 // The calls of the program, made from the directory `/h`.
 struct Program;
@@ -31,7 +56,8 @@ impl Caller for Program {
             return Err(Trouble::Odd("no call below the top is made here"));
         }
         let here = Path::new(alloc, b"/h")?;
-        let outcome = logrotate(alloc, &call.words, &here, &Zone::Utc, call.now, host, out);
+        let (zone, words) = zone_and_words(alloc, &call.words)?;
+        let outcome = logrotate(alloc, words, &here, &zone, call.now, host, out);
         Ok(status(&outcome))
     }
 }
