@@ -1,8 +1,9 @@
--- What no line can set yet has its default in each rule, and the words of a rule, of which there is one at least, name logs.
+-- What no line can set yet has its default in each rule, and the words of a rule, of which there is one at least, are within their limits.
 use Rattle.std.proofs.Common.{◌≡◌, ℕ, Bool, true, false, cond, List, [], ◌∷◌, ◌++◌, Option, Some, None, refl, ap, arith}
 use Rattle.std.specs.Prelude.{◌≢◌}
-use Rattle.std.specs.List.{AllByRecursion as Each, list_any}
-use Rattle.std.proofs.lemmas.List.Elements.{All-from_recursion, recursion_from_All}
+use Rattle.std.specs.List.{AllByRecursion as Each, list_any, list_all}
+use Rattle.std.proofs.lemmas.Bool.{and_parts}
+use Rattle.std.proofs.lemmas.List.Elements.{All-from_recursion}
 use Rattle.std.proofs.lemmas.Bool.Decides.{nat_tests}
 use Rattle.lr_rules.specs.declared.path.Path.{Path}
 use Rattle.lr_rules.specs.declared.fault.ConfKind.TheVariants as kind
@@ -11,7 +12,7 @@ use Rattle.lr_rules.specs.declared.rule.Count.{Count}
 use Rattle.lr_rules.specs.declared.rule.Count.TheVariants as count
 use Rattle.lr_rules.specs.declared.rule.Make.TheVariants as make
 use Rattle.lr_rules.specs.declared.rule.Way.TheVariants as way
-use Rattle.lr_rules.specs.Limits.{is_count}
+use Rattle.lr_rules.specs.Limits.{is_count, is_log_word}
 use Rattle.lr_forms.specs.declared.built.Built.TheVariants as built
 use Rattle.lr_forms.specs.declared.set.Set.{Set}
 use Rattle.lr_forms.specs.declared.set.Set.TheVariants as set
@@ -25,7 +26,7 @@ use Rattle.lr_fields.specs.Fields.{fields_of, last_set, count_set, maxage_set, s
 use Rattle.lr_fields.specs.Rules.{format_of, rule_of}
 use Rattle.lr_fields.specs.Scripts.{is_phase, script_fault}
 use Rattle.lr_conf.specs.Meaning.{Line, script_says, meaning}
-use Rattle.lr_conf.specs.Plain.{IsLogWord, IsSmallCount, IsPlainRule}
+use Rattle.lr_conf.specs.Plain.{IsRuleWord, IsSmallCount, IsPlainRule}
 use Rattle.lr_conf.proofs.Each.{append, Given}
 use Rattle.lr_fields.proofs.Settings.{same_scripts}
 use Rattle.lr_conf.proofs.Walk.{OkSaid, Walk, each_rule, last_given}
@@ -36,14 +37,18 @@ use Rattle.lr_conf.proofs.Walk.{OkSaid, Walk, each_rule, last_given}
 abbrev S : Set → Type 0
 S v = (is_so_far v ≡ true) × (set_meets v ≡ true)
 
--- a word at least, and each names a log
+-- a word at least, and each within its limits
 abbrev N : List (List ℕ) → Type 0
-N ws = (ws ≢ []) × Each IsLogWord ws
+N ws = (ws ≢ []) × Each IsRuleWord ws
+
+each_word : (ws : List (List ℕ)) → list_all is_log_word ws ≡ true → Each IsRuleWord ws
+each_word [] h = tt
+each_word (w ∷ ws) h = let both = and_parts (is_log_word w) (list_all is_log_word ws) h in (both.0, each_word ws both.1)
 
 line_ok : (v : Said) → IsSoFar v → said_meets v ≡ true → OkSaid S N v
 line_ok (says.Sets v) so_far fine = (so_far, fine)
 line_ok (says.OwnerPassed v) so_far fine = absurd so_far
-line_ok (says.Names ws) so_far fine = (so_far.0, recursion_from_All IsLogWord ws so_far.1)
+line_ok (says.Names ws) so_far fine = (so_far, each_word ws fine)
 line_ok v so_far fine = tt
 
 script_ok : (earlier : List Phase) (p : Phase) (text : List ℕ) (stray : Bool) → OkSaid S N (script_says (script_fault built.SoFar earlier p stray) p text)
@@ -58,7 +63,7 @@ more_front [] ys some = absurd (some refl)
 more_front (x ∷ xs) ys some = λ none. absurd (cc)
 
 more_ok : (xs ys : List (List ℕ)) → N xs → N ys → N (xs ++ ys)
-more_ok xs ys x y = (more_front xs ys x.0, append IsLogWord xs ys x.1 y.1)
+more_ok xs ys x y = (more_front xs ys x.0, append IsRuleWord xs ys x.1 y.1)
 
 -- ---- fields
 
@@ -153,7 +158,7 @@ unset sets d given vs ok = last_given S (λ x. x ≡ d) sets d refl given vs ok
 rule_ok : (file : Path) (at : ℕ) (words : List (List ℕ)) (vs : List Set) → N words → Each S vs → IsPlainRule (rule_of file at words (fields_of vs))
 rule_ok file at words vs n ok = record {
   named = n.0;
-  words = All-from_recursion IsLogWord words n.1;
+  words = All-from_recursion IsRuleWord words n.1;
   count = last_given S IsSmallCount count_set (count.Keep 0) (omega arith) count_given vs ok;
   maxage = unset maxage_set None maxage_given vs ok;
   start = unset start_set 1 start_given vs ok;

@@ -1,20 +1,24 @@
 -- What holds of the rules so far, where not all directives are built.
-use Rattle.std.specs.Prelude.{◌≡◌, ◌≢◌, ◌≤◌, false, [], None, All}
+use Rattle.std.specs.Prelude.{◌≡◌, ◌≢◌, ◌≤◌, ℕ, true, false, List, [], None, All}
 use Rattle.lr_rules.specs.declared.rule.Count.{Count}
 use Rattle.lr_rules.specs.declared.rule.Count.TheVariants as count
 use Rattle.lr_rules.specs.declared.rule.Make.TheVariants as make
 use Rattle.lr_rules.specs.declared.rule.Rule.{Rule}
 use Rattle.lr_rules.specs.declared.rule.Way.TheVariants as way
-pub use Rattle.lr_words.specs.Names.{IsLogWord}
+use Rattle.lr_rules.specs.Limits.{is_log_word}
 
 abbrev pub IsSmallCount : Count → Type 0
 IsSmallCount (count.Keep n) = n ≤ 999999
 IsSmallCount count.Always = Unit {0}
 
--- it has a word at least, its words name logs, its count is within its limit, and what no line can set yet has its default
+-- a literal name of a log, or a pattern, within its limits
+abbrev pub IsRuleWord : List ℕ → Type 0
+IsRuleWord word = is_log_word word ≡ true
+
+-- it has a word at least, its words and its count are within their limits, and what no line can set yet has its default
 pub record IsPlainRule (r : Rule) : Type 0 where
   pub named : r.words ≢ []
-  pub words : All IsLogWord r.words
+  pub words : All IsRuleWord r.words
   pub count : IsSmallCount r.count
   pub maxage : r.maxage ≡ None
   pub start : r.start ≡ 1

@@ -12,7 +12,7 @@ pub fn rules_meet_limits()
     ensures { (built : Built) (lines : List Line) → list_all meets_limits (meaning built false [] lines).rules ≡ true }
 {}
 
-/// Each rule has a word at least, its words name logs, and what no line can set so far has its default.
+/// Each rule has a word at least, names or patterns within their limits, and what no line can set so far has its default.
 pub fn rules_are_plain()
     ensures { (lines : List Line) → All IsPlainRule (meaning built.SoFar false [] lines).rules }
 {}

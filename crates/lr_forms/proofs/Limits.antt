@@ -34,10 +34,10 @@ use Rattle.lr_forms.specs.declared.set.Set.{Set}
 use Rattle.lr_forms.specs.declared.set.Set.TheVariants as set
 use Rattle.lr_forms.specs.declared.said.Said.{Said}
 use Rattle.lr_forms.specs.declared.said.Said.TheVariants as says
-use Rattle.lr_forms.specs.Built.{is_unbuilt, pattern_is_unbuilt}
+use Rattle.lr_forms.specs.Built.{is_unbuilt}
 use Rattle.lr_forms.specs.Forms.{form_of}
 use Rattle.lr_forms.specs.Values.{setting, value_of, sets_or_bad, one_says, day_of, day_says, mode_of, making, made, make_says, included, include_says, barred}
-use Rattle.lr_forms.specs.Says.{directive_of, checks, first_fault, means, or_bad, by_directive, texts, words_say, has_pattern, log_names, name_faults, named, names_say, nested, phase_named, script_in, said}
+use Rattle.lr_forms.specs.Says.{directive_of, checks, first_fault, means, or_bad, by_directive, texts, words_say, log_names, name_faults, named, names_say, nested, phase_named, script_in, said}
 use Rattle.lr_forms.specs.Limits.{set_meets, said_meets}
 
 -- ---- values
@@ -199,13 +199,11 @@ named_fine : (faults : List ConfKind) (names : List (List ℕ)) → list_all is_
 named_fine [] names h = h
 named_fine (k ∷ ks) names h = refl
 
-names_fine : (built : Built) (stray : Bool) (ws : List Word) → Fine (names_say built stray ws)
-names_fine built stray [] = refl
-names_fine built stray (w ∷ ws) =
+names_fine : (stray : Bool) (ws : List Word) → Fine (names_say stray ws)
+names_fine stray [] = refl
+names_fine stray (w ∷ ws) =
     let all = named_fine (name_faults (w ∷ ws)) (log_names (w ∷ ws)) (log_names_meet (w ∷ ws)) in
-    let named_all : Said = named (name_faults (w ∷ ws)) (log_names (w ∷ ws)) in
-    either (pattern_is_unbuilt built && has_pattern (w ∷ ws)) (says.BadNames kind.NotYet) (cond stray (says.BadNames kind.Stray) named_all) refl
-    (either stray (says.BadNames kind.Stray) named_all refl all)
+    either stray (says.BadNames kind.Stray) (named (name_faults (w ∷ ws)) (log_names (w ∷ ws))) refl all
 
 script_fine : (inside : Bool) (text : List ℕ) (stray : Bool) (o : Option Phase) → Fine (script_in inside text stray o)
 script_fine inside text stray None = refl
@@ -218,4 +216,4 @@ said_fine built inside (item.Script word text brace stray line) =
     (script_fine inside text stray (phase_named (directive_of word.text)))
 said_fine built inside (item.Line ws false brace stray line) = words_fine built inside brace stray ws
 said_fine built inside (item.Line ws true brace stray line) =
-    either inside (nested brace kind.Stray) (names_say built stray ws) refl (names_fine built stray ws)
+    either inside (nested brace kind.Stray) (names_say stray ws) refl (names_fine stray ws)

@@ -1,8 +1,7 @@
 -- What a line says so far.
 use Rattle.std.proofs.Common.{◌≡◌, ℕ, Bool, true, false, cond, not, ◌&&◌, ◌||◌, List, [], ◌∷◌, Option, Some, None, Result, Ok, Err, refl}
-use Rattle.std.specs.List.{AllByRecursion as Each, cons_option}
+use Rattle.std.specs.List.{cons_option}
 use Rattle.std.specs.Result.{result_ok, result_err}
-use Rattle.std.proofs.lemmas.List.Elements.{All-from_recursion}
 use Rattle.lr_lex.specs.declared.item.Item.{Item}
 use Rattle.lr_lex.specs.declared.item.Item.TheVariants as item
 use Rattle.lr_lex.specs.declared.word.Word.{Word}
@@ -10,12 +9,10 @@ use Rattle.lr_rules.specs.declared.fault.ConfKind.{ConfKind}
 use Rattle.lr_rules.specs.declared.fault.ConfKind.TheVariants as kind
 use Rattle.lr_rules.specs.declared.fault.Phase.{Phase}
 use Rattle.lr_rules.specs.declared.rule.Criterion.TheVariants as criterion
-use Rattle.lr_rules.specs.Match.{is_wildcard}
 use Rattle.lr_tables.specs.declared.directive.Directive.{Directive}
 use Rattle.lr_tables.specs.declared.directive.Directive.TheVariants as is
 use Rattle.lr_values.specs.Numbers.{number_value, count_value, size_value}
-use Rattle.lr_words.specs.Names.{IsLogWord, log_name_value}
-use Rattle.lr_words.proofs.LogNames.{of_literal}
+use Rattle.lr_words.specs.Names.{log_name_value}
 use Rattle.lr_forms.specs.declared.built.Built.TheVariants as built
 use Rattle.lr_forms.specs.declared.form.Form.{Form}
 use Rattle.lr_forms.specs.declared.form.Form.TheVariants as form
@@ -27,7 +24,7 @@ use Rattle.lr_forms.specs.declared.said.Said.TheVariants as says
 use Rattle.lr_forms.specs.Built.{so_far_unbuilt}
 use Rattle.lr_forms.specs.Forms.{form_of}
 use Rattle.lr_forms.specs.Values.{setting, sets_or_bad, day_of}
-use Rattle.lr_forms.specs.Says.{directive_of, is_script, is_outside, checks, first_fault, means, or_bad, by_directive, texts, words_say, has_pattern, log_names, name_faults, named, names_say, nested, phase_named, script_in, said}
+use Rattle.lr_forms.specs.Says.{directive_of, is_script, is_outside, checks, first_fault, means, or_bad, by_directive, texts, words_say, log_names, name_faults, named, names_say, nested, phase_named, script_in, said}
 use Rattle.lr_forms.specs.Limits.{is_so_far, IsSoFar}
 
 -- ---- directives
@@ -141,40 +138,18 @@ words_so_far inside brace stray (w ∷ ws) =
 
 -- ---- names
 
-neither : (a b : Bool) → (a || b) ≡ false → (a ≡ false) × (b ≡ false)
-neither true b h = absurd (cc)
-neither false b h = (refl, h)
-
--- where no word is a pattern, the names name logs
-log_names_are : (ws : List Word) → has_pattern ws ≡ false → Each IsLogWord (log_names ws)
-log_names_are [] plain = tt
-log_names_are (w ∷ ws) plain =
-    let p = neither (is_wildcard w.text) (has_pattern ws) plain in
-    by (log_name_value w.text) refl p.0 (log_names_are ws p.1)
-  where
-    by : (r : Result (List ℕ) ConfKind) → log_name_value w.text ≡ r → is_wildcard w.text ≡ false → Each IsLogWord (log_names ws) → Each IsLogWord (cons_option (result_ok r) (log_names ws))
-    by (Ok n) is literal more = (of_literal w.text n literal is, more)
-    by (Err k) is literal more = more
-
 -- the first word has a fault or names a log, so the line has a fault or a name
-named_so_far : (w : Word) (ws : List Word) → has_pattern (w ∷ ws) ≡ false → IsSoFar (named (name_faults (w ∷ ws)) (log_names (w ∷ ws)))
-named_so_far w ws plain = by (log_name_value w.text) (name_faults ws) (log_names_are (w ∷ ws) plain)
+named_so_far : (w : Word) (ws : List Word) → IsSoFar (named (name_faults (w ∷ ws)) (log_names (w ∷ ws)))
+named_so_far w ws = by (log_name_value w.text) (name_faults ws)
   where
-    by : (r : Result (List ℕ) ConfKind) (faults : List ConfKind) → Each IsLogWord (cons_option (result_ok r) (log_names ws))
-        → IsSoFar (named (cons_option (result_err r) faults) (cons_option (result_ok r) (log_names ws)))
-    by (Err k) faults all = tt
-    by (Ok n) (k ∷ ks) all = tt
-    by (Ok n) [] all = ((λ none. absurd (cc)), All-from_recursion IsLogWord (n ∷ log_names ws) all)
+    by : (r : Result (List ℕ) ConfKind) (faults : List ConfKind) → IsSoFar (named (cons_option (result_err r) faults) (cons_option (result_ok r) (log_names ws)))
+    by (Err k) faults = tt
+    by (Ok n) (k ∷ ks) = tt
+    by (Ok n) [] = λ none. absurd (cc)
 
-names_so_far : (stray : Bool) (ws : List Word) → IsSoFar (names_say built.SoFar stray ws)
+names_so_far : (stray : Bool) (ws : List Word) → IsSoFar (names_say stray ws)
 names_so_far stray [] = tt
-names_so_far stray (w ∷ ws) = by (has_pattern (w ∷ ws)) stray refl
-  where
-    by : (pattern stray : Bool) → has_pattern (w ∷ ws) ≡ pattern
-        → IsSoFar (cond pattern (says.BadNames kind.NotYet) (cond stray (says.BadNames kind.Stray) (named (name_faults (w ∷ ws)) (log_names (w ∷ ws)))))
-    by true stray is = tt
-    by false true is = tt
-    by false false is = named_so_far w ws is
+names_so_far stray (w ∷ ws) = either stray (says.BadNames kind.Stray) (named (name_faults (w ∷ ws)) (log_names (w ∷ ws))) tt (named_so_far w ws)
 
 script_so_far : (inside : Bool) (text : List ℕ) (stray : Bool) (o : Option Phase) → IsSoFar (script_in inside text stray o)
 script_so_far inside text stray None = tt
@@ -187,4 +162,4 @@ said_so_far inside (item.Script word text brace stray line) =
     (script_so_far inside text stray (phase_named (directive_of word.text)))
 said_so_far inside (item.Line ws false brace stray line) = words_so_far inside brace stray ws
 said_so_far inside (item.Line ws true brace stray line) =
-    either inside (nested brace kind.Stray) (names_say built.SoFar stray ws) tt (names_so_far stray ws)
+    either inside (nested brace kind.Stray) (names_say stray ws) tt (names_so_far stray ws)

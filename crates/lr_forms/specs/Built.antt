@@ -62,8 +62,3 @@ is_unbuilt built.All d = never_built d
 abbrev pub script_is_unbuilt : Built → Phase → Bool
 script_is_unbuilt built.SoFar phase = so_far_no_script phase
 script_is_unbuilt built.All phase = false
-
--- a name that is a pattern
-abbrev pub pattern_is_unbuilt : Built → Bool
-pattern_is_unbuilt built.SoFar = true
-pattern_is_unbuilt built.All = false

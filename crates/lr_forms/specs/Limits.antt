@@ -1,10 +1,9 @@
 -- What holds of whatever a line says.
-use Rattle.std.specs.Prelude.{◌≡◌, ◌≢◌, Bool, true, false, [], Some, All}
+use Rattle.std.specs.Prelude.{◌≡◌, ◌≢◌, Bool, true, false, [], Some}
 use Rattle.std.specs.List.{list_all}
 use Rattle.lr_rules.specs.declared.rule.Back.TheVariants as back
 use Rattle.lr_rules.specs.declared.rule.Make.TheVariants as make
 use Rattle.lr_rules.specs.Limits.{is_small, is_size, is_count, is_criterion, is_make, is_extension, is_address, is_olddir, is_format, is_log_word}
-use Rattle.lr_words.specs.Names.{IsLogWord}
 use Rattle.lr_forms.specs.declared.set.Set.{Set}
 use Rattle.lr_forms.specs.declared.set.Set.TheVariants as set
 use Rattle.lr_forms.specs.declared.said.Said.{Said}
@@ -59,10 +58,10 @@ is_so_far (set.Serial true) = false
 is_so_far (set.Script phase text) = false
 is_so_far v = true
 
--- so far a line says this: names, of which there is one at least, are no patterns, and no other file is named
+-- so far a line says this: where it names logs, one at least; and it names no other file
 abbrev pub IsSoFar : Said → Type 0
 IsSoFar (says.Sets v) = is_so_far v ≡ true
-IsSoFar (says.Names ws) = (ws ≢ []) × All IsLogWord ws
+IsSoFar (says.Names ws) = ws ≢ []
 IsSoFar (says.OwnerPassed v) = ⊥
 IsSoFar (says.Include path) = ⊥
 IsSoFar (says.Taboo patterns items) = ⊥

@@ -1,6 +1,6 @@
 -- What one line says by itself, inside a definition or outside: the first fault that applies to it, else its meaning.
 use Rattle.std.specs.Prelude.{ℕ, Bool, true, false, not, ◌&&◌, ◌||◌, List, [], ◌∷◌, Option, Some, None, find, map, option_map, Result, Ok, Err, length, nat_lt, bytes_eq, if◌then◌else◌}
-use Rattle.std.specs.List.{list_any, filter_map}
+use Rattle.std.specs.List.{filter_map}
 use Rattle.std.specs.Result.{result_ok, result_err}
 use Rattle.lr_lex.specs.declared.item.Item.{Item}
 use Rattle.lr_lex.specs.declared.item.Item.TheVariants as item
@@ -9,7 +9,6 @@ use Rattle.lr_rules.specs.declared.fault.ConfKind.{ConfKind}
 use Rattle.lr_rules.specs.declared.fault.ConfKind.TheVariants as kind
 use Rattle.lr_rules.specs.declared.fault.Phase.{Phase}
 use Rattle.lr_rules.specs.declared.fault.Phase.TheVariants as phase
-use Rattle.lr_rules.specs.Match.{is_wildcard}
 use Rattle.lr_tables.specs.declared.directive.Directive.{Directive}
 use Rattle.lr_tables.specs.declared.directive.Directive.TheVariants as is
 use Rattle.lr_tables.specs.Directives.{directive_table}
@@ -21,7 +20,7 @@ use Rattle.lr_forms.specs.declared.form.Form.{Form}
 use Rattle.lr_forms.specs.declared.form.Form.TheVariants as form
 use Rattle.lr_forms.specs.declared.said.Said.{Said}
 use Rattle.lr_forms.specs.declared.said.Said.TheVariants as says
-use Rattle.lr_forms.specs.Built.{is_unbuilt, pattern_is_unbuilt}
+use Rattle.lr_forms.specs.Built.{is_unbuilt}
 use Rattle.lr_forms.specs.Forms.{form_of}
 use Rattle.lr_forms.specs.Values.{one_says, day_says, make_says, include_says, taboo_says}
 
@@ -138,10 +137,6 @@ words_say built inside brace stray (w ∷ ws) =
 
 -- ---- lines of names
 
--- one of the names is a pattern
-abbrev pub has_pattern : List Word → Bool
-has_pattern ws = list_any (λ w. is_wildcard w.text) ws
-
 -- the names as rules have them, in order
 abbrev pub log_names : List Word → List (List ℕ)
 log_names ws = filter_map (λ w. result_ok (log_name_value w.text)) ws
@@ -157,11 +152,10 @@ named (k ∷ ks) names = says.BadNames k
 
 -- A line of names, outside definitions: it names them all, or has the first fault that applies. One without a name,
 -- which no text has, is stray.
-abbrev pub names_say : Built → Bool → List Word → Said
-names_say built stray [] = says.BadNames kind.Stray
-names_say built stray (w ∷ ws) =
-    if pattern_is_unbuilt built && has_pattern (w ∷ ws) then says.BadNames kind.NotYet
-    else if stray then says.BadNames kind.Stray
+abbrev pub names_say : Bool → List Word → Said
+names_say stray [] = says.BadNames kind.Stray
+names_say stray (w ∷ ws) =
+    if stray then says.BadNames kind.Stray
     else named (name_faults (w ∷ ws)) (log_names (w ∷ ws))
 
 -- ---- lines
@@ -199,4 +193,4 @@ said built inside (item.Script word text brace stray line) = script_says inside 
 said built inside (item.Line ws names brace stray line) =
     if not names then words_say built inside brace stray ws
     else if inside then nested brace kind.Stray
-    else names_say built stray ws
+    else names_say stray ws

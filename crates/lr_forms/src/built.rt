@@ -1,6 +1,6 @@
 // What isn't built yet.
 ghost use Rattle.std.specs.Prelude.{◌≡◌};
-ghost use Rattle.lr_forms.specs.Built.{so_far_unbuilt, so_far_no_script, never_built, is_unbuilt, script_is_unbuilt, pattern_is_unbuilt};
+ghost use Rattle.lr_forms.specs.Built.{so_far_unbuilt, so_far_no_script, never_built, is_unbuilt, script_is_unbuilt};
 
 use lr_rules::Phase;
 use lr_tables::Directive;
@@ -80,16 +80,6 @@ pub fn script_is_unbuilt(built: Built, phase: Phase) -> bool
 {
     match built {
         Built::SoFar => so_far_no_script(phase),
-        Built::All => false,
-    }
-}
-
-/// Whether a name that is a pattern isn't built.
-pub(crate) fn pattern_is_unbuilt(built: Built) -> bool
-    ensures { result ≡ pattern_is_unbuilt built }
-{
-    match built {
-        Built::SoFar => true,
         Built::All => false,
     }
 }

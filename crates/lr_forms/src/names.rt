@@ -2,21 +2,13 @@
 ghost use Rattle.std.specs.Prelude.{◌≡◌, ◌++◌, IfOk, OnOk, option_to_list};
 ghost use Rattle.std.specs.Result.{result_ok, result_err};
 ghost use Rattle.lr_words.specs.Names.{log_name_value};
-ghost use Rattle.lr_forms.specs.Says.{has_pattern, log_names, name_faults, named, names_say};
+ghost use Rattle.lr_forms.specs.Says.{log_names, name_faults, named, names_say};
 
-use crate::built::{Built, pattern_is_unbuilt};
 use crate::said::Said;
 use lr_lex::Word;
 use lr_rules::{ConfKind, Listed, Memory, Text};
-use lr_words::{is_wildcard, log_name};
+use lr_words::log_name;
 use std::alloc::Global;
-
-/// Whether one of the names is a pattern.
-fn has_pattern(words: &[Word]) -> bool
-    ensures { result ≡ has_pattern words.now }
-{
-    words.iter().any(|word| is_wildcard(word.text.bytes()))
-}
 
 /// Adds the name of a log that the word is, or gives the fault of the word.
 fn add_name(
@@ -52,15 +44,12 @@ fn named(alloc: Global, words: &[Word]) -> Result<Said, Memory>
 /// What a line of names says, outside definitions.
 pub(crate) fn names_say(
     alloc: Global,
-    built: Built,
     words: &[Word],
     stray: bool,
 ) -> Result<Said, Memory>
-    ensures { IfOk result (λ s. s ≡ names_say built stray words.now) }
+    ensures { IfOk result (λ s. s ≡ names_say stray words.now) }
 {
-    if pattern_is_unbuilt(built) && has_pattern(words) {
-        Ok(Said::BadNames(ConfKind::NotYet))
-    } else if stray || words.is_empty() {
+    if stray || words.is_empty() {
         Ok(Said::BadNames(ConfKind::Stray))
     } else {
         named(alloc, words)

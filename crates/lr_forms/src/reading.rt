@@ -128,7 +128,7 @@ pub fn say(alloc: Global, item: Item, inside: bool, built: Built) -> Result<Said
             } else if inside {
                 Ok(nested(brace, ConfKind::Stray))
             } else {
-                names_say(alloc, built, words.as_slice(), stray)
+                names_say(alloc, words.as_slice(), stray)
             }
         }
     }
