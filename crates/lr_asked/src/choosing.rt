@@ -1,6 +1,6 @@
 // Which of the logs that were found are kept. Each word of a line is a log: its path, or its path and the directory, the
-// base, the extension and the stamp of its members, between commas. What lacks is as it is without directives. A word that
-// begins with `-` is a path that is reserved.
+// base, the extension and the stamp of its members, between commas. What lacks is as it is without directives. A `*` before
+// it says that a wildcard gave the path. A word that begins with `-` is a path that is reserved.
 use lr_family::{Family, are_kin};
 use lr_kept::{Choice, choose};
 use lr_line::{Line, Trouble};
@@ -80,10 +80,21 @@ fn families(line: Line) -> Result<Vec<Family>, Trouble> {
     let mut families = Vec::new(line.alloc);
     for word in line.words.iter().skip(1) {
         if !word.starts_with(b"-") {
-            families.push(family(line, word)?)?;
+            families.push(family(line, word.strip_prefix(b"*").unwrap_or(word))?)?;
         }
     }
     Ok(families)
+}
+
+// Of each log whether a wildcard gave its path.
+fn wild(line: Line) -> Result<Vec<bool>, Trouble> {
+    let mut wild = Vec::new(line.alloc);
+    for word in line.words.iter().skip(1) {
+        if !word.starts_with(b"-") {
+            wild.push(word.starts_with(b"*"))?;
+        }
+    }
+    Ok(wild)
 }
 
 fn reserved(line: Line) -> Result<Vec<Path>, Trouble> {
@@ -100,6 +111,7 @@ fn put_choice(choice: Choice, out: &mut String) -> Result<(), Trouble> {
     match choice {
         Choice::Kept => Ok(out.push_str("kept")?),
         Choice::Again(place) => Ok(write!(out, "again {place}")?),
+        Choice::MemberOf(place) => Ok(write!(out, "member of {place}")?),
         Choice::Reserved(place) => Ok(write!(out, "reserved {place}")?),
         Choice::Meets(place) => Ok(write!(out, "meets {place}")?),
     }
@@ -118,6 +130,7 @@ fn put_choices(choices: &[Choice], out: &mut String) -> Result<(), Trouble> {
 fn put_choices_among(
     line: Line,
     families: &[Family],
+    wild: &[bool],
     reserved: &[Path],
     out: &mut String,
 ) -> Result<(), Trouble> {
@@ -125,13 +138,17 @@ fn put_choices_among(
     for family in families {
         logs.push(family)?;
     }
-    let choices = choose(line.alloc, &logs, reserved)?;
+    if wild.len() != logs.len() {
+        return Err(Trouble::Odd("each log has one mark"));
+    }
+    let choices = choose(line.alloc, &logs, wild, reserved)?;
     put_choices(&choices, out)
 }
 
 /// What comes of each of the logs.
 pub fn choices(line: Line, out: &mut String) -> Result<(), Trouble> {
     let families = families(line)?;
+    let wild = wild(line)?;
     let reserved = reserved(line)?;
-    put_choices_among(line, &families, &reserved, out)
+    put_choices_among(line, &families, &wild, &reserved, out)
 }

@@ -2,6 +2,7 @@ pub mod Beginning
 pub mod Elements
 pub mod Finding
 pub mod Fixed
+pub mod Joining
 pub mod Opening
 pub mod Order
 pub mod Outcome

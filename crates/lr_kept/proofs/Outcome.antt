@@ -1,17 +1,18 @@
 -- Which logs are kept once all pairs are settled.
-use Rattle.std.proofs.Common.{◌≡◌, ◌≢◌, ◌∙◌, sym, ap, subst, refl, inl, inr, ⊎_elim, ◌⊎◌, ℕ, ◌<◌, ◌≤◌, ◌+◌, List, ◌++◌, length, take, set, Some, slice_get, get_or, length-set, arith}
+use Rattle.std.proofs.Common.{◌≡◌, ◌≢◌, ◌∙◌, sym, ap, subst, refl, inl, inr, ⊎_elim, ◌⊎◌, ℕ, ◌<◌, ◌≤◌, ◌+◌, List, Bool, length, set, Some, slice_get, get_or, length-set, arith}
 use Rattle.std.specs.Borrow.{Bor}
 use Rattle.std.proofs.lemmas.Bool.{cases_lt, cases_eq}
 use Rattle.std.proofs.lemmas.List.Elements.{All-contains}
-use Rattle.std.proofs.lemmas.Option.{slice_get_within, get_or_from_slice_get}
-use Rattle.std.proofs.Math.Seq.{take-append_seam}
+use Rattle.std.proofs.lemmas.Option.{slice_get_within, slice_get-get_or, get_or_from_slice_get}
 use Rattle.lr_rules.specs.declared.path.Path.{Path}
 use Rattle.lr_family.specs.declared.family.Family.{Family}
 use Rattle.lr_kept.specs.declared.choice.Choice.{Choice}
-use Rattle.lr_kept.specs.declared.choice.Choice.TheVariants.{Kept, Again, Reserved, Meets}
+use Rattle.lr_kept.specs.declared.choice.Choice.TheVariants.{Kept, Again, MemberOf, Reserved, Meets}
 use Rattle.lr_kept.specs.declared.pair.Pair.{Pair}
-use Rattle.lr_kept.specs.Barred.{AreOpened}
-use Rattle.lr_kept.specs.Chosen.{MeetAt, IsKeptAt, IsChoice, AreChosen}
+use Rattle.lr_kept.specs.Barred.{IsOpen, IsShut, AreOpened}
+use Rattle.lr_kept.specs.Begun.{AreBegun}
+use Rattle.lr_kept.specs.Chosen.{IsAgain, MeetAt, IsKeptAt, IsChoice, AreChosen}
+use Rattle.lr_kept.specs.Members.{IsOwn, ArePassed}
 use Rattle.lr_kept.specs.Pairs.{pair_at, IsPair, HavePairs, AreRising, IsSettled, IsAmong, AreSettled}
 use Rattle.lr_kept.proofs.Elements.{read_set_same, read_set_other, contains_read, contains_from}
 
@@ -23,6 +24,7 @@ begins_settled begun pairs none = record {
   as_many = refl;
   kept = λ k h. h;
   again = λ k i h. h;
+  joined = λ k i h. h;
   barred = λ k i h. h;
   met_new = λ k i h. absurd (none k i h);
   met_kept = λ k i h. absurd (none k i h);
@@ -33,7 +35,7 @@ begins_settled begun pairs none = record {
 
 -- one pair more
 module _ (pairs : List Pair) (n : ℕ) (p : Pair) (at : slice_get pairs n ≡ Some p) where
-  among_more : (i k : ℕ) → IsAmong pairs (n + 1) i k → IsAmong pairs n i k ⊎ ((i ≡ p.earlier) × (k ≡ p.later))
+  pub among_more : (i k : ℕ) → IsAmong pairs (n + 1) i k → IsAmong pairs n i k ⊎ ((i ≡ p.earlier) × (k ≡ p.later))
   among_more i k m = ⊎_elim
       (λ (lo : m.0 < n). inl (m.0, lo, m.2))
       (λ (hi : n ≤ m.0).
@@ -62,6 +64,7 @@ module _ (pairs : List Pair) (n : ℕ) (p : Pair) (at : slice_get pairs n ≡ So
       as_many = so_far.as_many;
       kept = so_far.kept;
       again = so_far.again;
+      joined = so_far.joined;
       barred = so_far.barred;
       met_new = so_far.met_new;
       met_kept = so_far.met_kept;
@@ -106,6 +109,12 @@ module _ (pairs : List Pair) (n : ℕ) (p : Pair) (at : slice_get pairs n ≡ So
       settled_again k i h = ⊎_elim
           (λ (e : k ≡ p.later). absurd (cc (h, at_later, ap (λ s. slice_get new s) e)))
           (λ (ne : k ≡ p.later → ⊥). so_far.again k i (sym (elsewhere k ne) ∙ h))
+          (cases_eq k p.later)
+
+      settled_joined : (k i : ℕ) → slice_get new k ≡ Some (MemberOf i) → slice_get begun k ≡ Some (MemberOf i)
+      settled_joined k i h = ⊎_elim
+          (λ (e : k ≡ p.later). absurd (cc (h, at_later, ap (λ s. slice_get new s) e)))
+          (λ (ne : k ≡ p.later → ⊥). so_far.joined k i (sym (elsewhere k ne) ∙ h))
           (cases_eq k p.later)
 
       settled_barred : (k i : ℕ) → slice_get new k ≡ Some (Reserved i) → slice_get begun k ≡ Some (Reserved i)
@@ -158,6 +167,7 @@ module _ (pairs : List Pair) (n : ℕ) (p : Pair) (at : slice_get pairs n ≡ So
         as_many = length-set old p.later (Meets p.earlier) ∙ so_far.as_many;
         kept = settled_kept;
         again = settled_again;
+        joined = settled_joined;
         barred = settled_barred;
         met_new = settled_new;
         met_kept = settled_met;
@@ -170,37 +180,71 @@ module _ (pairs : List Pair) (n : ℕ) (p : Pair) (at : slice_get pairs n ≡ So
     more_settled now within order (inl h) = subst (λ (cs : List Choice). AreSettled begun pairs (n + 1) cs) (sym h.2) (settled within order h.0 h.1)
     more_settled now within order (inr h) = subst (λ (cs : List Choice). AreSettled begun pairs (n + 1) cs) (sym h.1) (passed h.0)
 
+-- of what was kept once those with a reserved name are barred each pair is there
+pub fewer_pairs : (logs : List (Bor Family)) (old choices : List Choice) (pairs : List Pair) → ((k : ℕ) → IsKeptAt choices k → IsKeptAt old k) → HavePairs logs old pairs → HavePairs logs choices pairs
+fewer_pairs logs old choices pairs kept have = record { sound = have.sound; each = λ i k lt kept_i kept_k m. have.each i k lt (kept i kept_i) (kept k kept_k) m }
+
+-- what is kept once those with a reserved name are barred was kept to begin with
+pub still_begun : (logs : List (Bor Family)) (wild : List Bool) (reserved : List Path) (begun passed choices : List Choice) → AreBegun logs begun → ArePassed logs wild passed → AreOpened logs reserved passed choices → (k : ℕ) → IsKeptAt choices k → IsKeptAt begun k
+still_begun logs wild reserved begun passed choices start first opened k h = by _ (slice_get-get_or begun k Kept (let lt = slice_get_within choices k Kept h in omega (arith, lt, opened.as_many, first.as_many, start.as_many)))
+  where
+    open_at : IsOpen logs reserved passed k
+    open_at = opened.each k Kept h
+
+    own_at : IsOwn logs wild k
+    own_at = first.each k Kept open_at.kept
+
+    by : (c : Choice) → slice_get begun k ≡ Some c → IsKeptAt begun k
+    by Kept is = is
+    by (Again i) is = let a : IsAgain logs k i = start.each k (Again i) is in absurd (own_at.new i a.before a.same)
+    by (MemberOf i) is = absurd (start.each k (MemberOf i) is)
+    by (Reserved i) is = absurd (start.each k (Reserved i) is)
+    by (Meets i) is = absurd (start.each k (Meets i) is)
+
 -- all pairs are settled: these are the choices
-module _ (logs : List (Bor Family)) (reserved : List Path) (begun choices : List Choice) (pairs : List Pair) (first : AreOpened logs reserved begun) (have : HavePairs logs begun pairs) (done : AreSettled begun pairs (length pairs) choices) where
-  among : (i k : ℕ) → i < k → IsKeptAt begun i → IsKeptAt begun k → MeetAt logs i k → IsAmong pairs (length pairs) i k
-  among i k lt kept_i kept_k m = contains_read pairs (pair_at i k) (have.each i k lt kept_i kept_k m)
+module _ (logs : List (Bor Family)) (wild : List Bool) (reserved : List Path) (passed begun choices : List Choice) (pairs : List Pair) (first : ArePassed logs wild passed) (opened : AreOpened logs reserved passed begun) (have : HavePairs logs begun pairs) (done : AreSettled begun pairs (length pairs) choices)
+  where
+    among : (i k : ℕ) → i < k → IsKeptAt begun i → IsKeptAt begun k → MeetAt logs i k → IsAmong pairs (length pairs) i k
+    among i k lt kept_i kept_k m = contains_read pairs (pair_at i k) (have.each i k lt kept_i kept_k m)
 
-  sound : (i k : ℕ) → IsAmong pairs (length pairs) i k → IsPair logs (pair_at i k)
-  sound i k m = All-contains (IsPair logs) pairs (pair_at i k) have.sound (contains_from pairs m.0 (pair_at i k) m.2)
+    sound : (i k : ℕ) → IsAmong pairs (length pairs) i k → IsPair logs (pair_at i k)
+    sound i k m = All-contains (IsPair logs) pairs (pair_at i k) have.sound (contains_from pairs m.0 (pair_at i k) m.2)
 
-  chosen : (k : ℕ) (c : Choice) → slice_get choices k ≡ Some c → IsChoice logs reserved choices k c
-  chosen k Kept h = record {
-    new = (first.each k Kept (done.kept k h)).new;
-    free = (first.each k Kept (done.kept k h)).free;
-    apart = λ j lt kept m. done.apart k j (among j k lt (done.kept j kept) (done.kept k h) m) h kept;
-  }
-  chosen k (Again i) h = first.each k (Again i) (done.again k i h)
-  chosen k (Reserved i) h = first.each k (Reserved i) (done.barred k i h)
-  chosen k (Meets i) h =
-      let new = done.met_new k i h in
-      let pair = done.met_pair k i h in
-      let is = sound i k pair in
-      record {
-        new = (first.each k Kept new).new;
-        free = (first.each k Kept new).free;
-        before = is.0;
-        kept = done.met_kept k i h;
-        meet = is.1;
-        first = λ j lt kept m. done.met_first k i j h lt (among j k (omega (arith, is.0, lt)) (done.kept j kept) new m) kept;
-      }
+    open_at : (k : ℕ) → IsKeptAt begun k → IsOpen logs reserved passed k
+    open_at k h = opened.each k Kept h
 
-  pub all_chosen : AreChosen logs reserved choices
-  all_chosen = record { as_many = done.as_many ∙ first.as_many; each = chosen }
+    own_at : (k : ℕ) → IsKeptAt begun k → IsOwn logs wild k
+    own_at k h = first.each k Kept (open_at k h).kept
 
-pub front_whole : (n : ℕ) (xs ys : List Choice) → n ≡ length xs → take n (xs ++ ys) ≡ xs
-front_whole n xs ys e = ap (λ m. take m (xs ++ ys)) e ∙ take-append_seam xs ys
+    shut_at : (k i : ℕ) → slice_get begun k ≡ Some (Reserved i) → IsShut logs reserved passed k i
+    shut_at k i h = opened.each k (Reserved i) h
+
+    chosen : (k : ℕ) (c : Choice) → slice_get choices k ≡ Some c → IsChoice logs wild reserved choices k c
+    chosen k Kept h = record {
+      new = (own_at k (done.kept k h)).new;
+      no_member = (own_at k (done.kept k h)).no_member;
+      free = (open_at k (done.kept k h)).free;
+      apart = λ j lt kept m. done.apart k j (among j k lt (done.kept j kept) (done.kept k h) m) h kept;
+    }
+    chosen k (Again i) h = first.each k (Again i) (opened.each k (Again i) (done.again k i h))
+    chosen k (MemberOf i) h = first.each k (MemberOf i) (opened.each k (MemberOf i) (done.joined k i h))
+    chosen k (Reserved i) h =
+        let shut = shut_at k i (done.barred k i h) in
+        let own : IsOwn logs wild k = first.each k Kept shut.kept in
+        record { new = own.new; no_member = own.no_member; has = shut.has; first = shut.first }
+    chosen k (Meets i) h =
+        let new = done.met_new k i h in
+        let pair = done.met_pair k i h in
+        let is = sound i k pair in
+        record {
+          new = (own_at k new).new;
+          no_member = (own_at k new).no_member;
+          free = (open_at k new).free;
+          before = is.0;
+          kept = done.met_kept k i h;
+          meet = is.1;
+          first = λ j lt kept m. done.met_first k i j h lt (among j k (omega (arith, is.0, lt)) (done.kept j kept) new m) kept;
+        }
+
+    pub all_chosen : AreChosen logs wild reserved choices
+    all_chosen = record { as_many = done.as_many ∙ (opened.as_many ∙ first.as_many); each = chosen }

@@ -8,7 +8,7 @@ use Rattle.std.proofs.lemmas.Slice.Eq.{bytes_eq-Decides}
 use Rattle.indexmap.specs.IndexMap.{insert_entry}
 use Rattle.lr_family.specs.declared.family.Family.{Family}
 use Rattle.lr_kept.specs.declared.choice.Choice.{Choice}
-use Rattle.lr_kept.specs.declared.choice.Choice.TheVariants.{Kept, Again, Reserved, Meets}
+use Rattle.lr_kept.specs.declared.choice.Choice.TheVariants.{Kept, Again, MemberOf, Reserved, Meets}
 use Rattle.lr_kept.specs.Begun.{IsBegun, AreBegun, Found, place_in, IsNoted, HasPathAt, ArePlaces}
 use Rattle.lr_kept.specs.Chosen.{HaveOnePath}
 use Rattle.lr_kept.proofs.Elements.{read_push_cases}
@@ -105,6 +105,7 @@ module _ (logs : List (Bor Family)) (n : ℕ) (f : Bor Family) (at : slice_get l
   pub more_places : (c : Choice) → IsNoted old new f.now.log n c → ArePlaces logs (n + 1) new
   more_places Kept h = new_places h.0 h.1
   more_places (Again i) h = again_places i h.0 h.1
+  more_places (MemberOf i) h = absurd h
   more_places (Reserved i) h = absurd h
   more_places (Meets i) h = absurd h
 
@@ -121,6 +122,7 @@ module _ (logs : List (Bor Family)) (n : ℕ) (f : Bor Family) (at : slice_get l
         same = record { one = there.0; other = f; at_one = there.1; at_other = at; holds = there.2 };
         first = λ j lt same_path. so_far.first f.now.log i j h.0 lt (one_path j same_path);
       }
+  more_begun (MemberOf i) h = absurd h
   more_begun (Reserved i) h = absurd h
   more_begun (Meets i) h = absurd h
 

@@ -5,32 +5,40 @@ use Rattle.lr_rules.specs.declared.path.Path.{Path}
 use Rattle.lr_rules.specs.Names.{IsName}
 use Rattle.lr_family.specs.declared.family.Family.{Family}
 use Rattle.lr_kept.specs.declared.choice.Choice.{Choice}
-use Rattle.lr_kept.specs.declared.choice.Choice.TheVariants.{Kept, Again, Reserved, Meets}
-use Rattle.lr_kept.specs.Chosen.{IsNew, IsAgain, IsFree, IsBarred}
-use Rattle.lr_kept.specs.Begun.{IsBegun}
+use Rattle.lr_kept.specs.declared.choice.Choice.TheVariants.{Kept, Reserved}
+use Rattle.lr_kept.specs.Chosen.{HasReserved, IsFree, IsKeptAt}
 
--- The path wasn't found before, and none of the names is reserved.
-pub record IsOpen (logs : List (Bor Family)) (reserved : List Path) (k : ℕ) : Type 0 where
-  pub new : IsNew logs k
+-- The log was kept so far, and none of the names is reserved.
+pub record IsOpen (logs : List (Bor Family)) (reserved : List Path) (old : List Choice) (k : ℕ) : Type 0 where
+  pub kept : IsKeptAt old k
   pub free : IsFree logs reserved k
 
--- a log is kept so far where its path wasn't found before and none of its names is reserved
-abbrev pub IsOpened : List (Bor Family) → List Path → ℕ → Choice → Type 0
-IsOpened logs reserved k Kept = IsOpen logs reserved k
-IsOpened logs reserved k (Again i) = IsAgain logs k i
-IsOpened logs reserved k (Reserved i) = IsBarred logs reserved k i
-IsOpened logs reserved k (Meets i) = ⊥
+-- The log was kept so far, and of the reserved paths this is the first that is one of its names.
+pub record IsShut (logs : List (Bor Family)) (reserved : List Path) (old : List Choice) (k i : ℕ) : Type 0 where
+  pub kept : IsKeptAt old k
+  pub has : HasReserved logs reserved k i
+  pub first : (j : ℕ) → j < i → HasReserved logs reserved k j → ⊥
+
+-- of the logs that were kept so far those are left of which no name is reserved; any other choice is as it was
+abbrev pub IsOpened : List (Bor Family) → List Path → List Choice → ℕ → Choice → Type 0
+IsOpened logs reserved old k Kept = IsOpen logs reserved old k
+IsOpened logs reserved old k (Reserved i) = IsShut logs reserved old k i
+IsOpened logs reserved old k c = slice_get old k ≡ Some c
 
 -- So it is for each log.
-pub record AreOpened (logs : List (Bor Family)) (reserved : List Path) (choices : List Choice) : Type 0 where
-  pub as_many : length choices ≡ length logs
-  pub each : (k : ℕ) (c : Choice) → slice_get choices k ≡ Some c → IsOpened logs reserved k c
+pub record AreOpened (logs : List (Bor Family)) (reserved : List Path) (old choices : List Choice) : Type 0 where
+  pub as_many : length choices ≡ length old
+  pub each : (k : ℕ) (c : Choice) → slice_get choices k ≡ Some c → IsOpened logs reserved old k c
 
--- It is for the first n logs, and the others are as they began.
-pub record HaveOpened (logs : List (Bor Family)) (reserved : List Path) (n : ℕ) (choices : List Choice) : Type 0 where
-  pub as_many : length choices ≡ length logs
-  pub below : (k : ℕ) (c : Choice) → k < n → slice_get choices k ≡ Some c → IsOpened logs reserved k c
-  pub from : (k : ℕ) (c : Choice) → n ≤ k → slice_get choices k ≡ Some c → IsBegun logs k c
+-- It is for the first n logs, and the others are as they were.
+pub record HaveOpened (logs : List (Bor Family)) (reserved : List Path) (old : List Choice) (n : ℕ) (choices : List Choice) : Type 0 where
+  pub as_many : length choices ≡ length old
+  pub below : (k : ℕ) (c : Choice) → k < n → slice_get choices k ≡ Some c → IsOpened logs reserved old k c
+  pub from : (k : ℕ) (c : Choice) → n ≤ k → slice_get choices k ≡ Some c → slice_get old k ≡ Some c
+
+-- none is reserved so far
+abbrev pub NoneShut : List Choice → Type 0
+NoneShut old = (k i : ℕ) → slice_get old k ≡ Some (Reserved i) → ⊥
 
 -- The path at this place is one of the names of the log, and none before it is.
 pub record IsFirstName (log : Family) (reserved : List Path) (i : ℕ) : Type 0 where

@@ -6,13 +6,14 @@ use Rattle.std.specs.Map.{lookup}
 use Rattle.std.specs.Str.{bytes_eq}
 use Rattle.lr_family.specs.declared.family.Family.{Family}
 use Rattle.lr_kept.specs.declared.choice.Choice.{Choice}
-use Rattle.lr_kept.specs.declared.choice.Choice.TheVariants.{Kept, Again, Reserved, Meets}
+use Rattle.lr_kept.specs.declared.choice.Choice.TheVariants.{Kept, Again, MemberOf, Reserved, Meets}
 use Rattle.lr_kept.specs.Chosen.{IsNew, IsAgain}
 
 -- a log is kept so far where its path wasn't found before
 abbrev pub IsBegun : List (Bor Family) → ℕ → Choice → Type 0
 IsBegun logs k Kept = IsNew logs k
 IsBegun logs k (Again i) = IsAgain logs k i
+IsBegun logs k (MemberOf i) = ⊥
 IsBegun logs k (Reserved i) = ⊥
 IsBegun logs k (Meets i) = ⊥
 
@@ -38,6 +39,7 @@ place_in found path = lookup (has_bytes path) found
 abbrev pub IsNoted : (List ℕ → Option ℕ) → (List ℕ → Option ℕ) → List ℕ → ℕ → Choice → Type 0
 IsNoted old new path place Kept = (old path ≡ None) × ((q : List ℕ) → new q ≡ (if bytes_eq q path then Some place else old q))
 IsNoted old new path place (Again i) = (old path ≡ Some i) × ((q : List ℕ) → new q ≡ old q)
+IsNoted old new path place (MemberOf i) = ⊥
 IsNoted old new path place (Reserved i) = ⊥
 IsNoted old new path place (Meets i) = ⊥
 

@@ -4,7 +4,7 @@ use Rattle.std.specs.Borrow.{Bor}
 use Rattle.std.specs.List.Sorted.{IsNonDecreasingBy}
 use Rattle.lr_family.specs.declared.family.Family.{Family}
 use Rattle.lr_kept.specs.declared.choice.Choice.{Choice}
-use Rattle.lr_kept.specs.declared.choice.Choice.TheVariants.{Again, Reserved, Meets}
+use Rattle.lr_kept.specs.declared.choice.Choice.TheVariants.{Again, MemberOf, Reserved, Meets}
 use Rattle.lr_kept.specs.declared.front.Front.{Front}
 use Rattle.lr_kept.specs.declared.pair.Pair.{Pair}
 use Rattle.lr_kept.specs.Chosen.{MeetAt, IsKeptAt}
@@ -77,6 +77,7 @@ pub record AreSettled (begun : List Choice) (pairs : List Pair) (n : ℕ) (choic
   pub as_many : length choices ≡ length begun
   pub kept : (k : ℕ) → IsKeptAt choices k → IsKeptAt begun k
   pub again : (k i : ℕ) → slice_get choices k ≡ Some (Again i) → slice_get begun k ≡ Some (Again i)
+  pub joined : (k i : ℕ) → slice_get choices k ≡ Some (MemberOf i) → slice_get begun k ≡ Some (MemberOf i)
   pub barred : (k i : ℕ) → slice_get choices k ≡ Some (Reserved i) → slice_get begun k ≡ Some (Reserved i)
   pub met_new : (k i : ℕ) → slice_get choices k ≡ Some (Meets i) → IsKeptAt begun k
   pub met_kept : (k i : ℕ) → slice_get choices k ≡ Some (Meets i) → IsKeptAt choices i

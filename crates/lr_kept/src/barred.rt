@@ -1,7 +1,6 @@
 // Which logs have a reserved name.
 ghost use Rattle.std.specs.Prelude.{◌≡◌, ◌<◌, length, MatchOption};
-ghost use Rattle.lr_kept.specs.Begun.{AreBegun};
-ghost use Rattle.lr_kept.specs.Barred.{AreOpened, HasNoName, IsFirstName, Opens};
+ghost use Rattle.lr_kept.specs.Barred.{AreOpened, HasNoName, IsFirstName, NoneShut, Opens};
 
 use crate::choice::Choice;
 use lr_family::Family;
@@ -35,14 +34,15 @@ fn opened(choice: Choice, log: &Family, reserved: &[Path]) -> Choice
 {
     match choice {
         Choice::Kept => kept_or_barred(log, reserved),
-        Choice::Again(_) | Choice::Reserved(_) | Choice::Meets(_) => choice,
+        Choice::Again(_) | Choice::MemberOf(_) | Choice::Reserved(_) | Choice::Meets(_) => choice,
     }
 }
 
 /// Of the logs that are kept so far, those aren't any more of which a name is reserved. Each log is asked for each path.
 pub fn bar(logs: &[&Family], reserved: &[Path], choices: &mut [Choice])
-    requires { AreBegun logs.now choices.old }
-    ensures { AreOpened logs.now reserved.now choices.new }
+    requires many { length choices.old ≡ length logs.now }
+    requires begun { NoneShut choices.old }
+    ensures { AreOpened logs.now reserved.now choices.old choices.new }
 {
     for place in 0..logs.len() {
         choices[place] = opened(choices[place], logs[place], reserved);

@@ -7,9 +7,11 @@ pub enum Choice {
     Kept,
     /// Its path was found before: by the log at this place first.
     Again(usize),
-    /// Its path wasn't found before, but one of its names is the reserved path at this place, the first such.
+    /// Its path wasn't found before, but a wildcard gave it, and it's a member of the log at this place, the first such
+    /// whose path wasn't found before either.
+    MemberOf(usize),
+    /// None of these, but one of its names is the reserved path at this place, the first such.
     Reserved(usize),
-    /// Its path wasn't found before and none of its names is reserved, but one is one of the log at this place, the first
-    /// such that is kept.
+    /// None of these, but one of its names is one of the log at this place, the first such that is kept.
     Meets(usize),
 }

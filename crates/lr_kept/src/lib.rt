@@ -1,10 +1,12 @@
 //! Which of the logs that a run found it keeps.
 //!
-//! The contract above it: a log is kept exactly where its path wasn't found before, none of its names is a path that is
-//! reserved, and it has no name in common with a log before it that is kept. Begin with `choose`:
+//! The contract above it: a log is kept exactly where its path wasn't found before, is no member's of another log where a
+//! wildcard gave it, none of its names is a path that is reserved, and it has no name in common with a log before it that
+//! is kept. Begin with `choose`:
 //!
 //! ```text
-//! let choices = choose(alloc, &[&first, &second], &reserved)?;   // /v/a.log and /v/a.log.1: Kept, Meets(0)
+//! let wild = [false, true];
+//! let choices = choose(alloc, &[&first, &second], &wild, &reserved)?;   // /v/a.log and /v/a.log.1: Kept, MemberOf(0)
 //! ```
 #![tactic(auto)]
 
@@ -15,6 +17,7 @@ mod choosing;
 mod front;
 mod fronts;
 mod laws;
+mod members;
 mod pair;
 mod pairs;
 mod range;

@@ -13,7 +13,7 @@ pub fn is_kept(choices: &[Choice], place: usize) -> bool
 {
     match choices[place] {
         Choice::Kept => true,
-        Choice::Again(_) | Choice::Reserved(_) | Choice::Meets(_) => false,
+        Choice::Again(_) | Choice::MemberOf(_) | Choice::Reserved(_) | Choice::Meets(_) => false,
     }
 }
 
