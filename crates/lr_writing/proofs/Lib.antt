@@ -2,7 +2,7 @@ mod Buffers
 mod Causes
 mod Coming
 pub mod Fits
-mod Named
+pub mod Named
 mod Once
 mod Pieces
 mod Tables

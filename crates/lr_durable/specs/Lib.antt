@@ -1,0 +1,3 @@
+pub mod Renewing
+pub mod StateWhole
+pub mod Worked

@@ -1,0 +1,36 @@
+// The state over the entries of a call.
+ghost use Rattle.std.specs.Prelude.{◌≡◌, ℕ, List, reverse};
+ghost use Rattle.lr_rules.specs.declared.path.Path.{Path};
+ghost use Rattle.lr_rules.specs.Path.{parent_of};
+ghost use Rattle.lr_host.specs.declared.entry.Entry.{Entry};
+ghost use Rattle.lr_host.specs.declared.entry.Entry.TheVariants as entry;
+ghost use Rattle.lr_host.specs.Kept.{Leaves};
+ghost use Rattle.lr_host.specs.Opening.{IsJournal};
+ghost use Rattle.lr_host.specs.Safe.{IsPrefix};
+ghost use Rattle.lr_host.specs.Told.{Made};
+ghost use Rattle.lr_host.specs.World.{Past, ◌▸◌, world, Names, names, Change};
+ghost use Rattle.lr_durable.specs.Renewing.{MayRenew, IsWritten};
+ghost use Rattle.lr_durable.specs.StateWhole.{IsSettled, WritersSpare, IsWholeAt};
+
+/// Where a tool leaves its state alone, or writes it last, behind the syncs of its file and of all directories in which it
+/// changed a name, the state is the old one or the new one, whole, at each moment from the first to the last and after each
+/// cut that is allowed then, whatever writers do that spare it; and where it is the new one, all changes of names that the
+/// tool made before are applied.
+pub fn state_stays_whole()
+    ensures { (state : Path) (text : List ℕ) (p q : Past) (es : List Entry) → Made p es q → IsJournal p
+        → MayRenew state (λ bytes. bytes ≡ text) (reverse es) → IsSettled state p → WritersSpare state p q
+        → (u : Past) → IsPrefix p u → IsPrefix u q → IsWholeAt state (λ bytes. bytes ≡ text) p u }
+{}
+
+/// Behind a writing that was made whole, up to the sync of the state's directory, the state is settled: so the law above holds
+/// of the next call too.
+pub fn written_state_is_settled()
+    ensures { (state : Path) (dirs : List Path) (text : List ℕ) (p q : Past) (es : List Entry) → Made p es q → IsJournal p
+        → IsWritten state dirs text (reverse es) → WritersSpare state p q → IsSettled state q }
+{}
+
+/// Behind the sync of a directory each path right in it names, after each cut, what it names now.
+pub fn synced_names_are_durable()
+    ensures { (p : Past) (dir x : Path) → parent_of x ≡ dir → (n : Names) (undone : List Change)
+        → Leaves (p ▸ entry.SyncsDir dir) n undone → n x ≡ names (world p) x }
+{}

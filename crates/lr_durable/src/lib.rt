@@ -1,0 +1,13 @@
+//! What a call leaves durable: the state file is the old one or the new one, whole, at each moment and after each cut.
+//!
+//! A law is the contract of a function that does nothing; begin with `state_stays_whole`, whose words stand in
+//! `specs/StateWhole.antt`.
+#![tactic(auto)]
+
+mod laws;
+mod worked;
+
+pub use laws::{state_stays_whole, synced_names_are_durable, written_state_is_settled};
+pub use worked::{
+    in_order_is_whole, in_place_is_not_whole, not_synced_is_not_whole, too_early_is_not_whole,
+};
