@@ -18,6 +18,7 @@ use Rattle.lr_rotations.specs.Members.{HasName}
 use Rattle.lr_rotations.specs.Shown.{Shown}
 use Rattle.lr_rotations.specs.Target.{IsGiven, AreSeen}
 use Rattle.lr_rotations.specs.Weave.{Among}
+use Rattle.lr_rotations.proofs.Given.{literal_gives}
 use Rattle.lr_examples.specs.Logs.{rule_of, rules, a_log, a_first, a_second, a_count, a_naming, a_stand, a_listed, a_target, b_log, b_count, b_naming, b_stand, b_listed, b_target, file, directory, looks}
 use Rattle.lr_examples.proofs.Naming.{first_name, second_name, first_path, second_path, a_unnumbered, b_unnumbered, a_family, b_family}
 
@@ -70,8 +71,8 @@ a_shown = record {
   others = λ place has out. inl (λ c. out (in_to place a_places (a_listed_at place has (in_from (member_name a_naming (1 + place)) a_listed c))));
 }
 
-a_given : IsGiven rules.sets a_log a_naming a_count
-a_given = record { rule = rule_of 1 a_log a_count; word = a_log; among = (0, omega arith, refl); has = (0, omega arith, refl); literal = refl; log_is = refl; naming_is = refl; count_is = refl }
+a_given : IsGiven rules.sets looks a_log a_naming a_count
+a_given = record { rule = rule_of 1 a_log a_count; word = a_log; among = (0, omega arith, refl); has = (0, omega arith, refl); given = record { before = []; part = []; after = looks; joined = refl; is = literal_gives rules.sets (rule_of 1 a_log a_count) a_log a_log [] refl refl }; naming_is = refl; count_is = refl }
 
 -- ---- the second log
 
@@ -105,8 +106,8 @@ b_shown = record {
   others = λ place has out. inl (λ c. b_unlisted place (in_from (member_name b_naming (1 + place)) b_listed c));
 }
 
-b_given : IsGiven rules.sets b_log b_naming b_count
-b_given = record { rule = rule_of 2 b_log b_count; word = b_log; among = (1, omega arith, refl); has = (0, omega arith, refl); literal = refl; log_is = refl; naming_is = refl; count_is = refl }
+b_given : IsGiven rules.sets looks b_log b_naming b_count
+b_given = record { rule = rule_of 2 b_log b_count; word = b_log; among = (1, omega arith, refl); has = (0, omega arith, refl); given = record { before = []; part = []; after = looks; joined = refl; is = literal_gives rules.sets (rule_of 2 b_log b_count) b_log b_log [] refl refl }; naming_is = refl; count_is = refl }
 
 -- ---- both
 

@@ -1,6 +1,7 @@
--- What a rule says of a log that a literal word of it gives.
-use Rattle.std.proofs.Common.{◌≡◌, ◌≢◌, ℕ, ◌+◌, ◌≤◌, Bool, true, false, ◌&&◌, refl, sym, ◌∙◌, ap, subst, arith, List, [], ◌∷◌, map, All, Contains, inl, inr}
-use Rattle.std.specs.Prelude.{Any}
+-- What a rule says of a log that a word of it gives.
+use Rattle.std.proofs.Common.{◌≡◌, ◌≢◌, ℕ, ◌+◌, ◌≤◌, Bool, true, false, ◌&&◌, refl, sym, ◌∙◌, ap, subst, arith, Option, Some, None, List, [], ◌∷◌, ◌++◌, map, reverse, All, Contains, inl, inr}
+use Rattle.std.specs.Prelude.{Any, ℤ}
+use Rattle.std.proofs.lemmas.List.{reverse-append, reverse-reverse}
 use Rattle.std.specs.List.{list_all}
 use Rattle.std.proofs.lemmas.Bool.Decides.{nat_tests}
 use Rattle.std.proofs.lemmas.List.Elements.{All-weaker, All-contains_itself}
@@ -13,56 +14,164 @@ use Rattle.lr_rules.specs.declared.rule.Rule.{Rule}
 use Rattle.lr_rules.specs.declared.rule.Way.TheVariants.{Rename}
 use Rattle.lr_rules.specs.declared.rules.Rules.{Rules}
 use Rattle.lr_rules.specs.Limits.{meets_limits, is_count, is_small, is_criterion, is_log_word, or_none, is_size}
-use Rattle.lr_rules.specs.Match.{WordGives, literal, RuleGives, is_wildcard}
-use Rattle.lr_rules.specs.Names.{naming_of, Meet}
-use Rattle.lr_host.specs.World.{Past, world, names}
+use Rattle.lr_rules.specs.declared.rule.Format.{Format}
+use Rattle.lr_rules.specs.Match.{WordGives, literal, RuleGives, is_wildcard, literal_path}
+use Rattle.lr_rules.specs.Names.{IsMemberAt, naming_of, Meet}
+use Rattle.lr_rules.specs.Path.{path_fault}
+use Rattle.lr_host.specs.declared.entry.Entry.{Entry}
+use Rattle.lr_host.specs.declared.entry.Entry.TheVariants as entry
+use Rattle.lr_host.specs.World.{Past, ◌▸◌, world, names}
 use Rattle.lr_host.specs.Fits.{IsFileAt}
-use Rattle.lr_host.specs.Sets.{LogSet}
-use Rattle.lr_host.specs.Runs.{rules_of, SomeRule}
+use Rattle.lr_host.specs.Quiet.{IsQuiet, AreQuiet}
+use Rattle.lr_host.specs.Sets.{LogSet, IsKeyBy, order_of}
+use Rattle.lr_host.specs.Runs.{rules_of, SomeRule, StoodAtStart}
 use Rattle.lr_host.specs.Steady.{IsSteadyAt, IsPassedOver}
+use Rattle.lr_host.specs.Told.{Each, IsWriters, Made, at_first, by_writer, by_tool}
 use Rattle.lr_host.specs.Lists.{IsIn}
+use Rattle.lr_host.proofs.Each.{each_first, each_reverse}
+use Rattle.lr_host.proofs.Made.{Cut, cut}
+use Rattle.lr_host.proofs.More.{file_more}
+use Rattle.lr_host.proofs.Quiet.{IsAny, quiet_more, made_quiet, since_any, quiet_still, still_reverse}
 use Rattle.lr_host.proofs.Lists.{in_from, in_to, in_unmap, from_reverse}
 use Rattle.lr_family.specs.declared.stand.Member.{Member}
 use Rattle.lr_family.specs.Stands.{number_in}
 use Rattle.lr_chain.specs.Rotation.{places_of}
 use Rattle.lr_rotations.specs.Members.{HasName, HaveNext}
-use Rattle.lr_rotations.specs.Target.{IsGiven, IsOneTooHigh}
+use Rattle.lr_rotations.specs.Target.{Gives, IsGiven, IsOneTooHigh}
+use Rattle.lr_rotations.specs.Weave.{Among}
 
 -- what holds of all holds of each of them
 all_in : {A : Type 0} (P : A → Type 0) (xs : List A) (x : A) → All P xs → Contains xs x → P x
 all_in P xs x a c = subst P c.2 (a c.0 x c.1)
 
-gives : (rules : List Rule) (log : Path) (n : Naming) (c : Count) (g : IsGiven rules log n c) → RuleGives g.rule log
-gives rules log n c g = (g.has.0, g.word, g.has.1, g.has.2, literal g.literal (sym g.log_is))
+-- ---- a literal word
+
+-- it gives its one path, whatever was seen
+pub literal_gives : (rules : List Rule) (rule : Rule) (word : List ℕ) (log : Path) (ts : List Entry) → is_wildcard word ≡ false → log ≡ literal_path word → Gives rules rule word log ts
+literal_gives rules rule word log ts plain is = record { gives = λ p q es m e. literal plain is; alone = λ p q es m e wild. absurd (clash (is_wildcard word) plain wild) }
+  where
+    clash : (b : Bool) → b ≡ false → b ≡ true → ⊥
+    clash b h g = cc
+
+-- ---- what the looks tell
+
+-- The moments before and behind some of the looks, of which P holds.
+pub record Stretch (u : Past) (P : List Entry → Type 0) : Type 0 where
+  pub from : Past
+  pub to : Past
+  pub before : List Entry
+  pub part : List Entry
+  pub quiet : AreQuiet before
+  pub ahead : Made u (reverse before) from
+  pub made : Made from (reverse part) to
+  pub is : P part
+
+pub stretch : (u v : Past) (looks : List Entry) (P : List Entry → Type 0) → AreQuiet looks → Made u (reverse looks) v → Among P looks → Stretch u P
+stretch u v looks P quiet m a = record {
+  from = first.mid;
+  to = second.mid;
+  before = a.before;
+  part = a.part;
+  quiet = each_first IsQuiet a.before (a.part ++ a.after) (subst AreQuiet a.joined quiet);
+  ahead = first.first;
+  made = second.first;
+  is = a.is;
+}
+  where
+    first : Cut u v (reverse (a.part ++ a.after)) (reverse a.before)
+    first = cut u v (reverse looks) (reverse (a.part ++ a.after)) (reverse a.before) (ap reverse a.joined ∙ reverse-append a.before (a.part ++ a.after)) m
+
+    second : Cut first.mid v (reverse a.after) (reverse a.part)
+    second = cut first.mid v (reverse (a.part ++ a.after)) (reverse a.after) (reverse a.part) (reverse-append a.part a.after) first.second
+
+-- a file from before the looks still is one
+pub still_file : (u v : Past) (before : List Entry) (x : Path) → AreQuiet before → Made u (reverse before) v → IsFileAt (names (world u)) x → IsFileAt (names (world v)) x
+still_file u v before x quiet m file = file_more (names (world u)) (names (world v)) x
+    (quiet_more IsAny u v (made_quiet IsAny u v (reverse before) (since_any u v (reverse before) m) m (still_reverse before (quiet_still before quiet)))) file
+
+pub gives : (u v : Past) (rules : List Rule) (looks : List Entry) (log : Path) (n : Naming) (c : Count) → AreQuiet looks → Made u (reverse looks) v → (g : IsGiven rules looks log n c) → RuleGives g.rule log
+gives u v rules looks log n c quiet m g =
+    let t = stretch u v looks (Gives rules g.rule g.word log) quiet m g.given in
+    (g.has.0, g.word, g.has.1, g.has.2, t.is.gives t.from t.to (reverse t.part) t.made (sym (reverse-reverse t.part)))
+
+-- ---- a log that the run passes over
+
+-- a member of a numbered set has a place
+place_in : (s : LogSet) (x : Path) → s.naming.dated ≡ None → (s.key x ≡ None → ⊥) → (place : ℕ) × IsMemberAt s.naming place x
+place_in s x numbered some = go (s.key x) refl
+  where
+    keys : IsKeyBy (order_of None) s.naming s.key
+    keys = subst (λ (d : Option Format). IsKeyBy (order_of d) s.naming s.key) numbered s.keys
+
+    go : (o : Option ℤ) → s.key x ≡ o → (place : ℕ) × IsMemberAt s.naming place x
+    go None e = absurd (some e)
+    go (Some k) e = let h = (keys x k).0 e in (h.0, h.2)
+
+-- what stood as the run began stood before its looks
+quiet_stood : (x : Path) (p : Past) (e : Entry) → IsQuiet e → StoodAtStart x (p ▸ e) → StoodAtStart x p
+quiet_stood x p (entry.Starts state now rules) (i, h) s = absurd (cc)
+quiet_stood x p _ i s = s
+
+wrote_stood : (x : Path) (p : Past) (e : Entry) → IsWriters e → StoodAtStart x (p ▸ e) → StoodAtStart x p
+wrote_stood x p (entry.Starts state now rules) i s = absurd i
+wrote_stood x p _ i s = s
+
+stood_before : (x : Path) (p q : Past) (es : List Entry) → Made p es q → Each IsQuiet es → StoodAtStart x q → StoodAtStart x p
+stood_before x p _ _ at_first a s = s
+stood_before x p _ es (by_writer {q = q} {e = e} m i f) a s = stood_before x p q es m a (wrote_stood x q e i s)
+stood_before x p _ _ (by_tool {es = es} {q = q} {e = e} m i f) a s = stood_before x p q es m a.1 (quiet_stood x q e a.0 s)
 
 -- a set of another log, that is steady where the log names a file, doesn't meet the log's
-pub no_meet : (s : LogSet) (v : Past) (rules : List Rule) (log : Path) (n : Naming) (c : Count) → IsSteadyAt s v → rules_of v ≡ rules → IsGiven rules log n c → IsFileAt (names (world v)) log → log ≢ s.log → Meet s.log s.naming log n → ⊥
-no_meet s v rules log n c steady is g file other meet = clash (is_wildcard g.word) g.literal wild
+pub no_meet : (s : LogSet) (u v : Past) (rules : List Rule) (looks : List Entry) (log : Path) (n : Naming) (c : Count) → AreQuiet looks → Made u (reverse looks) v → path_fault s.log ≡ None → ((x : Path) → StoodAtStart x u → IsFileAt (names (world u)) x) → n.dated ≡ None
+    → IsSteadyAt s v → rules_of v ≡ rules → IsGiven rules looks log n c → IsFileAt (names (world v)) log → log ≢ s.log → Meet s.log s.naming log n → ⊥
+no_meet s u v rules looks log n c quiet m path begun numbered steady is g file other meet =
+    none.4.1 member.0 (subst (λ (k : Naming). IsMemberAt k member.0 log) (sym (named none.1 (none.0, none.2, none.3) none.4.0)) member.1)
   where
+    t : Stretch u (Gives rules g.rule g.word log)
+    t = stretch u v looks (Gives rules g.rule g.word log) quiet m g.given
+
+    word_gives : WordGives g.word log
+    word_gives = t.is.gives t.from t.to (reverse t.part) t.made (sym (reverse-reverse t.part))
+
     over : IsPassedOver s v log
     over = all_in (λ (r : Rule). RuleGives r log → Meet s.log s.naming log (naming_of r log) → IsPassedOver s v log) rules g.rule
         (subst (All (λ (r : Rule). RuleGives r log → Meet s.log s.naming log (naming_of r log) → IsPassedOver s v log)) is (steady.apart log other file)) g.among
-        (gives rules log n c g) (subst (λ (m : Naming). Meet s.log s.naming log m) (sym g.naming_is) meet)
+        (g.has.0, g.word, g.has.1, g.has.2, word_gives) (subst (λ (k : Naming). Meet s.log s.naming log k) (sym g.naming_is) meet)
 
-    wild : is_wildcard g.word ≡ true
-    wild = (all_in (λ (word : List ℕ). WordGives word log → (is_wildcard word ≡ true) × WordGives word s.log) g.rule.words g.word
+    -- the word is a wildcard, and gives the set's log too
+    wild : (is_wildcard g.word ≡ true) × WordGives g.word s.log
+    wild = all_in (λ (word : List ℕ). WordGives word log → (is_wildcard word ≡ true) × WordGives word s.log) g.rule.words g.word
         (all_in (λ (r : Rule). All (λ word. WordGives word log → (is_wildcard word ≡ true) × WordGives word s.log) r.words) rules g.rule
-        (subst (All (λ (r : Rule). All (λ word. WordGives word log → (is_wildcard word ≡ true) × WordGives word s.log) r.words)) is over.wildcards) g.among) g.has
-        (literal g.literal (sym g.log_is))).0
+        (subst (All (λ (r : Rule). All (λ word. WordGives word log → (is_wildcard word ≡ true) × WordGives word s.log) r.words)) is over.wildcards) g.among) g.has word_gives
 
-    clash : (b : Bool) → b ≡ false → b ≡ true → ⊥
-    clash b p q = cc
+    -- each rule that gives the set's log names its members as the set does
+    named : (r : Rule) → Contains rules r → RuleGives r s.log → naming_of r s.log ≡ s.naming
+    named r among gives_it = (all_in (λ (q : Rule). RuleGives q s.log → (q.way ≡ Rename) × (naming_of q s.log ≡ s.naming)) rules r
+        (subst (All (λ (q : Rule). RuleGives q s.log → (q.way ≡ Rename) × (naming_of q s.log ≡ s.naming))) is steady.rules) among gives_it).1
+
+    naming : naming_of g.rule s.log ≡ s.naming
+    naming = named g.rule g.among (g.has.0, g.word, g.has.1, g.has.2, wild.1)
+
+    member : (place : ℕ) × IsMemberAt s.naming place log
+    member = place_in s log (sym (ap (λ (k : Naming). k.dated) naming) ∙ (ap (λ (k : Naming). k.dated) g.naming_is ∙ numbered)) over.member
+
+    stood : IsFileAt (names (world t.from)) s.log
+    stood = still_file u t.from t.before s.log t.quiet t.ahead (begun s.log (stood_before s.log u v (reverse looks) m (each_reverse IsQuiet looks quiet) over.log_stood))
+
+    none : SomeRule rules s.log (λ r. (at : ℕ) → IsMemberAt (naming_of r s.log) at log → ⊥)
+    none = t.is.alone t.from t.to (reverse t.part) t.made (sym (reverse-reverse t.part)) wild.0 s.log member.0 (λ e. other (sym e)) path wild.1 stood
+        (subst (λ (k : Naming). IsMemberAt k member.0 log) (sym naming) member.1)
 
 -- the rule gives the set of its log the naming that the set has
-pub naming_same : (s : LogSet) (v : Past) (rules : List Rule) (log : Path) (n : Naming) (c : Count) → IsSteadyAt s v → rules_of v ≡ rules → IsGiven rules log n c → s.log ≡ log → s.naming ≡ n
-naming_same s v rules log n c steady is g same =
+pub naming_same : (s : LogSet) (v : Past) (rules : List Rule) (looks : List Entry) (log : Path) (n : Naming) (c : Count) → IsSteadyAt s v → rules_of v ≡ rules → (g : IsGiven rules looks log n c) → RuleGives g.rule log → s.log ≡ log → s.naming ≡ n
+naming_same s v rules looks log n c steady is g h same =
     sym (all_in (λ (r : Rule). RuleGives r s.log → (r.way ≡ Rename) × (naming_of r s.log ≡ s.naming)) rules g.rule
     (subst (All (λ (r : Rule). RuleGives r s.log → (r.way ≡ Rename) × (naming_of r s.log ≡ s.naming))) is steady.rules) g.among
-    (subst (λ (x : Path). RuleGives g.rule x) (sym same) (gives rules log n c g))).1
+    (subst (λ (x : Path). RuleGives g.rule x) (sym same) h)).1
     ∙ (ap (naming_of g.rule) same ∙ g.naming_is)
 
-pub counts : (v : Past) (rules : List Rule) (log : Path) (n : Naming) (c : Count) → rules_of v ≡ rules → IsGiven rules log n c → SomeRule (rules_of v) log (λ r. r.count ≡ c)
-counts v rules log n c is g = subst (λ (rs : List Rule). SomeRule rs log (λ r. r.count ≡ c)) (sym is) (g.among.0, g.rule, g.among.1, g.among.2, (gives rules log n c g, g.count_is))
+pub counts : (v : Past) (rules : List Rule) (looks : List Entry) (log : Path) (n : Naming) (c : Count) → rules_of v ≡ rules → (g : IsGiven rules looks log n c) → RuleGives g.rule log → SomeRule (rules_of v) log (λ r. r.count ≡ c)
+counts v rules looks log n c is g h = subst (λ (rs : List Rule). SomeRule rs log (λ r. r.count ≡ c)) (sym is) (g.among.0, g.rule, g.among.1, g.among.2, (h, g.count_is))
 
 -- ---- the numbers of places
 
@@ -92,8 +201,8 @@ limits rules r h e = record { count = both.0; start = both.1 }
     both = third_and_eighth (list_all is_log_word r.words) (is_criterion r.criterion) (is_count r.count) (or_none is_small r.maxage) (or_none is_small r.minage) (or_none is_size r.minsize) (or_none is_size r.maxsize) (is_small r.start) _ all
 
 -- where no member is at the highest number, each place that is come to has a name
-pub have_next : (rules : Rules) (log : Path) (n : Naming) (c : Count) (members : List Member) → IsGiven rules.sets log n c → All (HasName n) (places_of members) → (IsOneTooHigh n c members → ⊥) → HaveNext n c (places_of members)
-have_next rules log n c members one named low = go c refl
+pub have_next : (rules : Rules) (looks : List Entry) (log : Path) (n : Naming) (c : Count) (members : List Member) → IsGiven rules.sets looks log n c → All (HasName n) (places_of members) → (IsOneTooHigh n c members → ⊥) → HaveNext n c (places_of members)
+have_next rules looks log n c members one named low = go c refl
   where
     l : Limits one.rule
     l = limits rules.sets one.rule rules.limits one.among

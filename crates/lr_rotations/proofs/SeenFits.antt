@@ -146,7 +146,7 @@ rotation_at log n c places p q es seen family next m quiet k there w =
 -- ---- of a log that was seen
 
 pub seen_names : (rules : Rules) (looks : List Entry) (t : Target) → IsSeen rules looks t → HasNames t
-seen_names rules looks t seen = record { family = seen.family; named = named; next = have_next rules t.log t.naming t.count t.stand.members seen.given named seen.low }
+seen_names rules looks t seen = record { family = seen.family; named = named; next = have_next rules looks t.log t.naming t.count t.stand.members seen.given named seen.low }
   where
     named : All (HasName t.naming) (places_of t.stand.members)
     named = All-weaker (Contains (places_of t.stand.members)) (HasName t.naming) seen.seen.named (places_of t.stand.members) (All-contains_itself (places_of t.stand.members))

@@ -1,15 +1,20 @@
 -- The logs that a run may rotate, and what it saw of each.
-use Rattle.std.specs.Prelude.{◌≡◌, ◌⊎◌, ◌+◌, ℕ, false, List, [], ◌∷◌, Any, Contains}
+use Rattle.std.specs.Prelude.{◌≡◌, ◌≢◌, ◌⊎◌, ◌+◌, ℕ, true, List, [], ◌∷◌, reverse, None, Any, Contains}
 use Rattle.lr_rules.specs.declared.path.Path.{Path}
 use Rattle.lr_rules.specs.declared.rule.Count.{Count}
 use Rattle.lr_rules.specs.declared.rule.Count.TheVariants as count
 use Rattle.lr_rules.specs.declared.rule.Naming.{Naming}
 use Rattle.lr_rules.specs.declared.rule.Rule.{Rule}
 use Rattle.lr_rules.specs.declared.rules.Rules.{Rules}
-use Rattle.lr_rules.specs.Match.{is_wildcard, literal_path}
-use Rattle.lr_rules.specs.Names.{naming_of}
+use Rattle.lr_rules.specs.Match.{WordGives, is_wildcard}
+use Rattle.lr_rules.specs.Names.{IsMemberAt, naming_of}
+use Rattle.lr_rules.specs.Path.{path_fault}
 use Rattle.lr_host.specs.declared.entry.Entry.{Entry}
+use Rattle.lr_host.specs.Fits.{IsFileAt}
 use Rattle.lr_host.specs.Looks.{Sees, IsFile}
+use Rattle.lr_host.specs.Runs.{SomeRule}
+use Rattle.lr_host.specs.Told.{Made}
+use Rattle.lr_host.specs.World.{Past, world, names}
 use Rattle.lr_family.specs.declared.stand.Member.{Member}
 use Rattle.lr_family.specs.declared.stand.Stand.{Stand}
 use Rattle.lr_family.specs.Stands.{number_in}
@@ -18,14 +23,20 @@ use Rattle.lr_rotations.specs.Members.{IsFamily}
 use Rattle.lr_rotations.specs.Shown.{Shown}
 use Rattle.lr_rotations.specs.Weave.{Among}
 
--- One of the rules has a word that is the path of this log. The rule gives the log this naming and this count.
-pub record IsGiven (rules : List Rule) (log : Path) (n : Naming) (c : Count) : Type 0 where
+-- What looks and listings tell of a log where they are true: this word of one of the rules gives it. Where the word is a wildcard that gives another log too, which named a file before and of which it is a member, it is none by the naming of a rule that gives that log.
+pub record Gives (rules : List Rule) (rule : Rule) (word : List ℕ) (log : Path) (ts : List Entry) : Type 0 where
+  pub gives : (p q : Past) (es : List Entry) → Made p es q → ts ≡ reverse es → WordGives word log
+  pub alone : (p q : Past) (es : List Entry) → Made p es q → ts ≡ reverse es → is_wildcard word ≡ true
+      → (x : Path) (place : ℕ) → x ≢ log → path_fault x ≡ None → WordGives word x → IsFileAt (names (world p)) x → IsMemberAt (naming_of rule x) place log
+      → SomeRule rules x (λ r. (at : ℕ) → IsMemberAt (naming_of r x) at log → ⊥)
+
+-- One of the rules has a word that gives this log, as some of these looks tell. The rule gives the log this naming and this count.
+pub record IsGiven (rules : List Rule) (looks : List Entry) (log : Path) (n : Naming) (c : Count) : Type 0 where
   pub rule : Rule
   pub word : List ℕ
   pub among : Contains rules rule
   pub has : Contains rule.words word
-  pub literal : is_wildcard word ≡ false
-  pub log_is : literal_path word ≡ log
+  pub given : Among (Gives rules rule word log) looks
   pub naming_is : naming_of rule log ≡ n
   pub count_is : rule.count ≡ c
 
@@ -43,9 +54,9 @@ pub record Target : Type 0 where
 abbrev pub rotation_of : Target → List Entry
 rotation_of t = rotation t.naming t.count t.log (places_of t.stand.members)
 
--- A literal word of a rule gives the log; it was seen as a file, and its members were, wherever these looks stand.
+-- A word of a rule gives the log; it was seen as a file, and its members were, wherever these looks stand.
 pub record IsSeen (rules : Rules) (looks : List Entry) (t : Target) : Type 0 where
-  pub given : IsGiven rules.sets t.log t.naming t.count
+  pub given : IsGiven rules.sets looks t.log t.naming t.count
   pub family : IsFamily t.log t.naming
   pub log_seen : Among (Sees t.log IsFile) looks
   pub seen : Shown t.naming (places_of t.stand.members) looks
