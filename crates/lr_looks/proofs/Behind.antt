@@ -233,10 +233,10 @@ next_numbers all done rest x e h = go done (subst (λ (fs : List Found). HaveNum
     go [] h = h.0
     go (y ∷ ys) h = go ys h.1
 
-pub next_of : (n : ℕ) (all done rest : List Found) (x : Found) → all ≡ done ++ x ∷ rest → AreOf n (all_found_in all) → x.asked.set < n
+pub next_of : (n : ℕ) (all done rest : List Found) (x : Found) → all ≡ done ++ x ∷ rest → AreOf n (all_found_in all) → x.set < n
 next_of n all done rest x e h = go done (subst (λ (fs : List Found). AreOf n (all_found_in fs)) e h)
   where
-    go : (done : List Found) → AreOf n (all_found_in (done ++ x ∷ rest)) → x.asked.set < n
+    go : (done : List Found) → AreOf n (all_found_in (done ++ x ∷ rest)) → x.set < n
     go [] h = h.0
     go (y ∷ ys) h = go ys h.1
 

@@ -1,5 +1,5 @@
 -- Choices, one log behind another.
-use Rattle.std.proofs.Common.{◌≡◌, ◌≤◌, ◌<◌, ◌+◌, ℕ, List, [], ◌∷◌, ◌++◌, length, take, get_or, refl, sym, ap, ◌∙◌, arith, append_assoc}
+use Rattle.std.proofs.Common.{◌≡◌, ◌≤◌, ◌<◌, ◌+◌, ℕ, Bool, List, [], ◌∷◌, ◌++◌, length, map, take, get_or, refl, sym, ap, ◌∙◌, subst, arith, append_assoc}
 use Rattle.std.specs.List.{flat_map}
 use Rattle.std.specs.Borrow.{Bor}
 use Rattle.std.proofs.lemmas.Grind.{flat_map-append}
@@ -9,20 +9,21 @@ use Rattle.lr_rules.specs.declared.fault.Fault.{Fault}
 use Rattle.lr_rules.specs.declared.path.Path.{Path}
 use Rattle.lr_family.specs.declared.family.Family.{Family}
 use Rattle.lr_kept.specs.declared.choice.Choice.{Choice}
-use Rattle.lr_kept.specs.declared.choice.Choice.TheVariants.{Kept, Again, Reserved, Meets}
+use Rattle.lr_kept.specs.declared.choice.Choice.TheVariants.{Kept, Again, MemberOf, Reserved, Meets}
 use Rattle.lr_kept.specs.Chosen.{IsChoice}
 use Rattle.lr_looks.specs.declared.found.Found.{Found}
-use Rattle.lr_looks.specs.Choices.{names_of, found_names, choice_fault, choice_faults, where_kept, kept_of, IsChoiceAmong}
+use Rattle.lr_looks.specs.Choices.{names_of, found_names, is_wild, choice_fault, choice_faults, where_kept, kept_of, IsChoiceAmong}
 use Rattle.lr_looks.specs.Found.{FoundLog, found_in, all_found_in}
 use Rattle.lr_looks.specs.Internal.{IsWithin, AreWithin}
 
 -- ---- choices name logs of the list
 
-is_within : (logs : List (Bor Family)) (reserved : List Path) (choices : List Choice) (k n : ℕ) (c : Choice) → k < n → IsChoice logs reserved choices k c → IsWithin (length reserved) n c
-is_within logs reserved choices k n Kept lt h = record {}
-is_within logs reserved choices k n (Again i) lt h = let b : i < k = h.before in omega (arith, b)
-is_within logs reserved choices k n (Reserved i) lt h = slice_get_within reserved i h.has.path h.has.at_path
-is_within logs reserved choices k n (Meets i) lt h = let b : i < k = h.before in omega (arith, b)
+is_within : (logs : List (Bor Family)) (wild : List Bool) (reserved : List Path) (choices : List Choice) (k n : ℕ) (c : Choice) → length logs ≡ n → k < n → IsChoice logs wild reserved choices k c → IsWithin (length reserved) n c
+is_within logs wild reserved choices k n Kept many lt h = record {}
+is_within logs wild reserved choices k n (Again i) many lt h = let b : i < k = h.before in omega (arith, b)
+is_within logs wild reserved choices k n (MemberOf i) many lt h = subst (λ m. i < m) many (slice_get_within logs i h.is.member.one h.is.member.at_one)
+is_within logs wild reserved choices k n (Reserved i) many lt h = slice_get_within reserved i h.has.path h.has.at_path
+is_within logs wild reserved choices k n (Meets i) many lt h = let b : i < k = h.before in omega (arith, b)
 
 pub as_many : (reserved : List Path) (found : List Found) (choices : List Choice) → IsChoiceAmong reserved (all_found_in found) choices → length choices ≡ length found
 as_many reserved found choices c = c.chosen.as_many ∙ (sym (length-map c.logs names_of) ∙ (ap length c.same ∙ (length-map (all_found_in found) found_names ∙ length-map found found_in)))
@@ -30,7 +31,7 @@ as_many reserved found choices c = c.chosen.as_many ∙ (sym (length-map c.logs 
 pub are_within : (reserved : List Path) (found : List Found) (choices : List Choice) → IsChoiceAmong reserved (all_found_in found) choices → AreWithin (length reserved) (length found) choices
 are_within reserved found choices c = λ k d lt.
     let many : length choices ≡ length found = as_many reserved found choices c in
-    is_within c.logs reserved choices k (length found) (get_or choices k d) (omega (arith, many)) (c.chosen.each k (get_or choices k d) (slice_get-get_or choices k d lt))
+    is_within c.logs (map is_wild (all_found_in found)) reserved choices k (length found) (get_or choices k d) (sym c.chosen.as_many ∙ many) (omega (arith, many)) (c.chosen.each k (get_or choices k d) (slice_get-get_or choices k d lt))
 
 -- ---- one log more
 

@@ -1,24 +1,25 @@
--- What holds of the logs that rules ask for, and so of those of them that are found and kept.
-use Rattle.std.proofs.Common.{◌≡◌, ◌≤◌, ◌<◌, ◌+◌, ℕ, Bool, true, false, cond, List, [], ◌∷◌, ◌++◌, length, map, refl, sym, ap, ◌∙◌, subst, arith}
+-- What holds of the logs that words give, and so of those of them that are found and kept.
+use Rattle.std.proofs.Common.{◌≡◌, ◌≤◌, ◌<◌, ◌+◌, ℕ, Bool, true, false, cond, List, [], ◌∷◌, ◌++◌, length, map, Ok, Err, sym, subst, arith}
 use Rattle.std.specs.List.{flat_map}
 use Rattle.std.proofs.lemmas.List.Elements.{All-head, All-tail}
 use Rattle.lr_rules.specs.declared.path.Path.{Path}
 use Rattle.lr_rules.specs.declared.rule.Rule.{Rule}
 use Rattle.lr_rules.specs.declared.fault.Fault.{Fault}
 use Rattle.lr_kept.specs.declared.choice.Choice.{Choice}
-use Rattle.lr_kept.specs.declared.choice.Choice.TheVariants.{Kept, Again, Reserved, Meets}
-use Rattle.lr_looks.specs.Asked.{Log, log_of, logs_of, logs_from, asked_by, CanAsk, CanAskAll}
+use Rattle.lr_kept.specs.declared.choice.Choice.TheVariants.{Kept, Again, MemberOf, Reserved, Meets}
+use Rattle.lr_glob.specs.declared.found.Found.{Found as Match}
+use Rattle.lr_looks.specs.Asked.{Word, word_of, words_of, words_from, asked_by, CanAsk, CanAskAll}
 use Rattle.lr_looks.specs.Choices.{kept_of, where_file, is_file, Keeps}
 use Rattle.lr_looks.specs.Found.{FoundLog, HasNumbers, HaveNumbers, Hold}
 use Rattle.lr_looks.specs.Internal.{AreOf}
-use Rattle.lr_looks.specs.Sights.{Sight, Failed, Nothing, Saw, found_of, AreFoundOf}
+use Rattle.lr_looks.specs.Sights.{WordSight, found_at, found_of, AreFoundOf}
 
--- P holds of each log, whatever is seen of it
-abbrev HoldsOf : (FoundLog → Type 0) → List Log → Type 0
+-- P holds of each log that one of these words can give
+abbrev HoldsOf : (FoundLog → Type 0) → List Word → Type 0
 HoldsOf P [] = Unit {0}
-HoldsOf P (log ∷ logs) = ((f : FoundLog) → f.log ≡ log → P f) × HoldsOf P logs
+HoldsOf P (w ∷ ws) = ((m : Match) → P (found_at w m)) × HoldsOf P ws
 
-of_both : (P : FoundLog → Type 0) (xs ys : List Log) → HoldsOf P xs → HoldsOf P ys → HoldsOf P (xs ++ ys)
+of_both : (P : FoundLog → Type 0) (xs ys : List Word) → HoldsOf P xs → HoldsOf P ys → HoldsOf P (xs ++ ys)
 of_both P [] ys h g = g
 of_both P (x ∷ xs) ys h g = (h.0, of_both P xs ys h.1 g)
 
@@ -26,13 +27,16 @@ hold_both : (P : FoundLog → Type 0) (xs ys : List FoundLog) → Hold P xs → 
 hold_both P [] ys h g = g
 hold_both P (x ∷ xs) ys h g = (h.0, hold_both P xs ys h.1 g)
 
-found_hold : (P : FoundLog → Type 0) (logs : List Log) (sights : List Sight) → HoldsOf P logs → Hold P (found_of logs sights)
+hold_each : (P : FoundLog → Type 0) (w : Word) (matches : List Match) → ((m : Match) → P (found_at w m)) → Hold P (map (found_at w) matches)
+hold_each P w [] h = tt
+hold_each P w (m ∷ ms) h = (h m, hold_each P w ms h)
+
+found_hold : (P : FoundLog → Type 0) (words : List Word) (sights : List WordSight) → HoldsOf P words → Hold P (found_of words sights)
 found_hold P [] [] h = tt
 found_hold P [] (s ∷ ss) h = tt
-found_hold P (log ∷ logs) [] h = tt
-found_hold P (log ∷ logs) (Failed ∷ ss) h = found_hold P logs ss h.1
-found_hold P (log ∷ logs) (Nothing ∷ ss) h = found_hold P logs ss h.1
-found_hold P (log ∷ logs) (Saw seen ∷ ss) h = (h.0 (record { log = log; seen = seen }) refl, found_hold P logs ss h.1)
+found_hold P (w ∷ ws) [] h = tt
+found_hold P (w ∷ ws) (Ok matches ∷ ss) h = hold_both P (map (found_at w) matches) (found_of ws ss) (hold_each P w matches h.0) (found_hold P ws ss h.1)
+found_hold P (w ∷ ws) (Err why ∷ ss) h = found_hold P ws ss h.1
 
 kept_hold : (P : FoundLog → Type 0) (found : List FoundLog) (choices : List Choice) → Hold P found → Hold P (kept_of found choices)
 kept_hold P [] [] h = tt
@@ -40,6 +44,7 @@ kept_hold P [] (c ∷ cs) h = tt
 kept_hold P (f ∷ fs) [] h = tt
 kept_hold P (f ∷ fs) (Kept ∷ cs) h = (h.0, kept_hold P fs cs h.1)
 kept_hold P (f ∷ fs) (Again i ∷ cs) h = kept_hold P fs cs h.1
+kept_hold P (f ∷ fs) (MemberOf i ∷ cs) h = kept_hold P fs cs h.1
 kept_hold P (f ∷ fs) (Reserved i ∷ cs) h = kept_hold P fs cs h.1
 kept_hold P (f ∷ fs) (Meets i ∷ cs) h = kept_hold P fs cs h.1
 
@@ -51,32 +56,31 @@ files_hold : (P : FoundLog → Type 0) (found : List FoundLog) → Hold P found 
 files_hold P [] h = tt
 files_hold P (f ∷ fs) h = hold_both P (where_file f) (flat_map where_file fs) (file_holds P f (is_file f.seen.kind) h.0) (files_hold P fs h.1)
 
--- ---- the logs of rules
+-- ---- the words of rules
 
-numbers_of : (set : ℕ) (rule : Rule) (words : List (List ℕ)) → CanAsk rule → HoldsOf HasNumbers (map (log_of set rule) words)
+numbers_of : (set : ℕ) (rule : Rule) (words : List (List ℕ)) → CanAsk rule → HoldsOf HasNumbers (map (word_of set rule) words)
 numbers_of set rule [] can = tt
-numbers_of set rule (word ∷ words) can =
-    ((λ f e. record { numbered = ap (λ (l : Log). l.naming.dated) e ∙ can.dated; start = subst (λ (n : ℕ). n ≤ 999999) (sym (ap (λ (l : Log). l.naming.start) e)) can.start }), numbers_of set rule words can)
+numbers_of set rule (word ∷ words) can = ((λ m. record { numbered = can.dated; start = can.start }), numbers_of set rule words can)
 
-numbers_from : (k : ℕ) (rules : List Rule) → CanAskAll rules → HoldsOf HasNumbers (logs_from k rules)
+numbers_from : (k : ℕ) (rules : List Rule) → CanAskAll rules → HoldsOf HasNumbers (words_from k rules)
 numbers_from k [] can = tt
-numbers_from k (rule ∷ rules) can = of_both HasNumbers (logs_of k rule) (logs_from (k + 1) rules) (numbers_of k rule rule.words (All-head CanAsk rule rules can)) (numbers_from (k + 1) rules (All-tail CanAsk rule rules can))
+numbers_from k (rule ∷ rules) can = of_both HasNumbers (words_of k rule) (words_from (k + 1) rules) (numbers_of k rule rule.words (All-head CanAsk rule rules can)) (numbers_from (k + 1) rules (All-tail CanAsk rule rules can))
 
-within_of : (set n : ℕ) (rule : Rule) (words : List (List ℕ)) → set < n → HoldsOf (λ f. f.log.set < n) (map (log_of set rule) words)
+within_of : (set n : ℕ) (rule : Rule) (words : List (List ℕ)) → set < n → HoldsOf (λ f. f.log.set < n) (map (word_of set rule) words)
 within_of set n rule [] lt = tt
-within_of set n rule (word ∷ words) lt = ((λ f e. subst (λ (k : ℕ). k < n) (sym (ap (λ (l : Log). l.set) e)) lt), within_of set n rule words lt)
+within_of set n rule (word ∷ words) lt = ((λ m. lt), within_of set n rule words lt)
 
-within_from : (k n : ℕ) (rules : List Rule) → k + length rules ≤ n → HoldsOf (λ f. f.log.set < n) (logs_from k rules)
+within_from : (k n : ℕ) (rules : List Rule) → k + length rules ≤ n → HoldsOf (λ f. f.log.set < n) (words_from k rules)
 within_from k n [] le = tt
-within_from k n (rule ∷ rules) le = of_both (λ f. f.log.set < n) (logs_of k rule) (logs_from (k + 1) rules) (within_of k n rule rule.words (omega (arith, le))) (within_from (k + 1) n rules (omega (arith, le)))
+within_from k n (rule ∷ rules) le = of_both (λ f. f.log.set < n) (words_of k rule) (words_from (k + 1) rules) (within_of k n rule rule.words (omega (arith, le))) (within_from (k + 1) n rules (omega (arith, le)))
 
 -- ---- those that are found and kept
 
-kept_is : {reserved : List Path} (P : FoundLog → Type 0) (logs : List Log) (found kept : List FoundLog) (c d : List Fault) → HoldsOf P logs → AreFoundOf logs found → Keeps reserved found c d kept → Hold P kept
-kept_is P logs found kept c d h l k = subst (Hold P) (sym k.left_are) (files_hold P (kept_of found k.choices) (kept_hold P found k.choices (subst (Hold P) (sym l.found_are) (found_hold P logs l.sights h))))
+kept_is : {reserved : List Path} (P : FoundLog → Type 0) (words : List Word) (found kept : List FoundLog) (c d : List Fault) → HoldsOf P words → AreFoundOf words found → Keeps reserved found c d kept → Hold P kept
+kept_is P words found kept c d h l k = subst (Hold P) (sym k.left_are) (files_hold P (kept_of found k.choices) (kept_hold P found k.choices (subst (Hold P) (sym l.found_are) (found_hold P words l.sights h))))
 
-pub kept_numbers : {reserved : List Path} (rules : List Rule) (logs : List Log) (found kept : List FoundLog) (c d : List Fault) → CanAskAll rules → logs ≡ asked_by rules → AreFoundOf logs found → Keeps reserved found c d kept → HaveNumbers kept
-kept_numbers rules logs found kept c d can e l k = kept_is HasNumbers logs found kept c d (subst (HoldsOf HasNumbers) (sym e) (numbers_from 0 rules can)) l k
+pub kept_numbers : {reserved : List Path} (rules : List Rule) (found kept : List FoundLog) (c d : List Fault) → CanAskAll rules → AreFoundOf (asked_by rules) found → Keeps reserved found c d kept → HaveNumbers kept
+kept_numbers rules found kept c d can l k = kept_is HasNumbers (asked_by rules) found kept c d (numbers_from 0 rules can) l k
 
-pub kept_within : {reserved : List Path} (rules : List Rule) (logs : List Log) (n : ℕ) (found kept : List FoundLog) (c d : List Fault) → length rules ≡ n → logs ≡ asked_by rules → AreFoundOf logs found → Keeps reserved found c d kept → AreOf n kept
-kept_within rules logs n found kept c d many e l k = kept_is (λ f. f.log.set < n) logs found kept c d (subst (HoldsOf (λ f. f.log.set < n)) (sym e) (within_from 0 n rules (omega (arith, many)))) l k
+pub kept_within : {reserved : List Path} (rules : List Rule) (n : ℕ) (found kept : List FoundLog) (c d : List Fault) → length rules ≡ n → AreFoundOf (asked_by rules) found → Keeps reserved found c d kept → AreOf n kept
+kept_within rules n found kept c d many l k = kept_is (λ f. f.log.set < n) (asked_by rules) found kept c d (within_from 0 n rules (omega (arith, many))) l k

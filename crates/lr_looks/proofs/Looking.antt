@@ -1,45 +1,45 @@
--- Looks at paths, one behind another.
-use Rattle.std.proofs.Common.{◌≡◌, ◌≤◌, ◌+◌, ℕ, suc, Bool, true, false, cond, List, [], ◌∷◌, ◌++◌, length, take, Option, Some, None, Result, Ok, Err, OnOk, OnErr, refl, sym, ap, ◌∙◌, subst, arith, append_assoc}
-use Rattle.std.proofs.lemmas.List.{append-nil, length-append, map-append, take-append-le}
-use Rattle.lr_rules.specs.declared.path.Path.{Path}
-use Rattle.lr_rules.specs.declared.fault.CallKind.TheVariants as call
+-- What words came to, one behind another.
+use Rattle.std.proofs.Common.{◌≡◌, ◌≢◌, ◌≤◌, ◌+◌, ◌-◌, ℕ, suc, Bool, true, false, not, cond, nat_le, nat_lt, ◌&&◌, List, [], ◌∷◌, ◌++◌, length, map, take, Option, Result, Ok, Err, OnOk, OnErr, refl, sym, ap, ◌∙◌, subst, arith, append_assoc}
+use Rattle.std.proofs.lemmas.List.{append-nil, length-append, length-map, map-append, take-append-le}
+use Rattle.std.proofs.lemmas.Bool.{and_parts, or_parts}
+use Rattle.std.proofs.lemmas.Bool.Decides.{nat_tests}
+use Rattle.std.specs.List.{list_any}
 use Rattle.lr_rules.specs.declared.fault.Fault.{Fault}
 use Rattle.lr_rules.specs.declared.fault.Fault.TheVariants as fault
-use Rattle.lr_host.specs.declared.thing.Seen.{Seen}
+use Rattle.lr_rules.specs.Path.{last_of}
 use Rattle.lr_host.specs.declared.entry.Entry.{Entry}
-use Rattle.lr_host.specs.declared.entry.Entry.TheVariants as entry
 use Rattle.lr_host.specs.declared.journal.Journal.{Journal}
 use Rattle.lr_host.specs.Told.{Counts, NoneFell, Left, Rose}
 use Rattle.lr_host.proofs.Left.{left_as, left_first, left_then}
-use Rattle.lr_looks.specs.declared.log.Asked.{Asked}
+use Rattle.lr_glob.specs.declared.found.Found.{Found as Match}
+use Rattle.lr_glob.specs.declared.found.GlobStop.{GlobStop}
+use Rattle.lr_glob.specs.declared.found.GlobStop.TheVariants as stop
+use Rattle.lr_glob.specs.Sights.{is_long}
+use Rattle.lr_glob.specs.Stops.{IsFailedCall}
+use Rattle.lr_glob.specs.Words.{Comes, Stopped}
 use Rattle.lr_looks.specs.declared.found.Found.{Found}
-use Rattle.lr_looks.specs.Asked.{Log, log_in, logs_in}
+use Rattle.lr_looks.specs.Asked.{Word, AreTexts}
 use Rattle.lr_plan.specs.Counted.{AddsFaults}
 use Rattle.lr_plan.proofs.Counts.{AreFree, free_none, adds_free, adds_call}
-use Rattle.lr_looks.specs.Found.{FoundLog, all_found_in}
-use Rattle.lr_looks.specs.Sights.{Sight, Failed, sight_of, look_of, looks_of, fault_of, faults_of, found_by, found_of, AreFoundOf, LookedAt, LookedAtSome}
+use Rattle.lr_looks.specs.Found.{FoundLog, found_in, all_found_in, HasLogPath, HaveLogPaths}
+use Rattle.lr_looks.specs.Sights.{WordSight, found_at, found_by, glob_fault, fault_of, found_of, faults_of, ShowsWord, ShowWords, WordHadMemory, WordsHadMemory, AreFoundOf, LookedAt, LookedAtSome}
+use Rattle.lr_looks.specs.Internal.{AddsFound}
+use Rattle.lr_looks.proofs.AskedBy.{IsPart}
 
--- ---- one look
+-- ---- one word
 
-abbrev one : Path → Option Seen → List Entry
-one path look = entry.Look path look ∷ []
-
-the_look : (log : Log) (path : Path) (look : Option Seen) → path ≡ log.path → one path look ≡ look_of log.path (sight_of look)
-the_look log path None e = ap (λ (x : Path). entry.Look x None ∷ []) e
-the_look log path (Some seen) e = ap (λ (x : Path). entry.Look x (Some seen) ∷ []) e
-
-looked_one : (log : Log) (s : Sight) (faults all : List Fault) (found more : List FoundLog) (ts : List Entry) → ts ≡ look_of log.path s → all ≡ faults ++ fault_of log s → more ≡ found ++ found_by log s
-    → LookedAt (log ∷ []) faults all found more ts
-looked_one log s faults all found more ts e f g = record {
+looked_one : (w : Word) (s : WordSight) (faults all : List Fault) (found more : List FoundLog) (ts : List Entry) → WordHadMemory s → ShowsWord w (16_384 - length found) s ts → all ≡ faults ++ fault_of w s → more ≡ found ++ found_by w s
+    → LookedAt (w ∷ []) faults all found more ts
+looked_one w s faults all found more ts m h f g = record {
   sights = s ∷ [];
-  as_many = refl;
-  looks = e ∙ sym (append-nil (look_of log.path s));
-  faults_are = f ∙ ap (λ fs. faults ++ fs) (sym (append-nil (fault_of log s)));
-  found_are = g ∙ ap (λ fs. found ++ fs) (sym (append-nil (found_by log s)));
+  had_memory = (m, tt);
+  shown = record { front = ts; back = []; joined = sym (append-nil ts); first = h; second = refl };
+  faults_are = f ∙ ap (λ fs. faults ++ fs) (sym (append-nil (fault_of w s)));
+  found_are = g ∙ ap (λ fs. found ++ fs) (sym (append-nil (found_by w s)));
 }
 
-some_one : (log : Log) (s : Sight) (ts : List Entry) → ts ≡ look_of log.path s → LookedAtSome (log ∷ []) ts
-some_one log s ts e = record { sights = s ∷ []; few = omega arith; looks = e ∙ sym (append-nil (look_of log.path s)) }
+some_one : (w : Word) (s : WordSight) (before : ℕ) (ts : List Entry) → ShowsWord w (16_384 - before) s ts → LookedAtSome before (w ∷ []) ts
+some_one w s before ts h = record { sights = s ∷ []; few = omega arith; shown = record { front = ts; back = []; joined = sym (append-nil ts); first = h; second = refl } }
 
 on_ok : {T E : Type 0} (r : Result T E) {P Q : Type 0} → (P → Q) → OnOk r P → OnOk r Q
 on_ok (Ok x) f p = f p
@@ -49,105 +49,173 @@ on_err : {T E : Type 0} (r : Result T E) {Q : Type 0} → Q → OnErr r Q
 on_err (Ok x) q = tt
 on_err (Err x) q = q
 
-pub look_told : {T E : Type 0} (r : Result T E) (log : Log) (path : Path) (look : Option Seen) (faults all : List Fault) (found more : List FoundLog) {o n : Option Journal} → path ≡ log.path → Left (λ ts. ts ≡ entry.Look path look ∷ []) o n
-    → OnOk r (all ≡ faults ++ fault_of log (sight_of look)) → OnOk r (more ≡ found ++ found_by log (sight_of look)) → OnOk r (Left (LookedAt (log ∷ []) faults all found more) o n)
-look_told (Ok x) log path look faults all found more e left f g = left_as left (λ ts is. looked_one log (sight_of look) faults all found more ts (is ∙ the_look log path look e) f g)
-look_told (Err x) log path look faults all found more e left f g = tt
+-- the room that the code leaves a word
+room_of : (room : ℕ) (found : List Found) → room ≡ 16_384 - length found → room ≡ 16_384 - length (all_found_in found)
+room_of room found e = e ∙ ap (λ n. 16_384 - n) (sym (length-map found found_in))
 
-pub look_some : {T E : Type 0} (r : Result T E) (log : Log) (path : Path) (look : Option Seen) {o n : Option Journal} → path ≡ log.path → Left (λ ts. ts ≡ entry.Look path look ∷ []) o n → OnErr r (Left (LookedAtSome (log ∷ [])) o n)
-look_some r log path look e left = on_err r (left_as left (λ ts is. some_one log (sight_of look) ts (is ∙ the_look log path look e)))
+had_memory : (why : GlobStop) → why ≢ stop.Memory → WordHadMemory (Err why)
+had_memory (stop.Call kind path) ne = tt
+had_memory stop.LongName ne = tt
+had_memory stop.TooMany ne = tt
+had_memory stop.Memory ne = ne refl
 
-pub failed_told : {T E : Type 0} (r : Result T E) (log : Log) (faults all : List Fault) (found : List FoundLog) {o n : Option Journal} → Left (λ ts. ts ≡ []) o n → OnOk r (all ≡ faults ++ fault_of log Failed)
-    → OnOk r (Left (LookedAt (log ∷ []) faults all found found) o n)
-failed_told r log faults all found left h = on_ok r (λ g. left_as left (λ ts is. looked_one log Failed faults all found found ts is g (sym (append-nil found)))) h
+pub given_told : {T E : Type 0} (r : Result T E) (w : Word) (room : ℕ) (matches : List Match) (faults all : List Fault) (found : List Found) (more : List FoundLog) {o n : Option Journal} → room ≡ 16_384 - length found → Left (Comes w.text room (Ok matches)) o n
+    → OnOk r (all ≡ faults ++ fault_of w (Ok matches)) → OnOk r (more ≡ all_found_in found ++ found_by w (Ok matches)) → OnOk r (Left (LookedAt (w ∷ []) faults all (all_found_in found) more) o n)
+given_told (Ok x) w room matches faults all found more e left f g = left_as left (λ ts h. looked_one w (Ok matches) faults all (all_found_in found) more ts tt (subst (λ k. Comes w.text k (Ok matches) ts) (room_of room found e) h) f g)
+given_told (Err x) w room matches faults all found more e left f g = tt
 
-pub failed_some : {T E : Type 0} (r : Result T E) (log : Log) {o n : Option Journal} → Left (λ ts. ts ≡ []) o n → OnErr r (Left (LookedAtSome (log ∷ [])) o n)
-failed_some r log left = on_err r (left_as left (λ ts is. some_one log Failed ts is))
+pub given_some : {T E : Type 0} (r : Result T E) (w : Word) (room : ℕ) (matches : List Match) (found : List Found) {o n : Option Journal} → room ≡ 16_384 - length found → Left (Comes w.text room (Ok matches)) o n → OnErr r (Left (LookedAtSome (length (all_found_in found)) (w ∷ [])) o n)
+given_some r w room matches found e left = on_err r (left_as left (λ ts h. some_one w (Ok matches) (length (all_found_in found)) ts (subst (λ k. Comes w.text k (Ok matches) ts) (room_of room found e) h)))
+
+pub stopped_told : {T E : Type 0} (r : Result T E) (w : Word) (room : ℕ) (why : GlobStop) (faults all : List Fault) (found : List Found) {o n : Option Journal} → room ≡ 16_384 - length found → Left (Stopped w.text room why) o n
+    → OnOk r (why ≢ stop.Memory) → OnOk r (all ≡ faults ++ glob_fault w why) → OnOk r (Left (LookedAt (w ∷ []) faults all (all_found_in found) (all_found_in found)) o n)
+stopped_told (Ok x) w room why faults all found e left ne f =
+    left_as left (λ ts h. looked_one w (Err why) faults all (all_found_in found) (all_found_in found) ts (had_memory why ne) (subst (λ k. Stopped w.text k why ts) (room_of room found e) h) f (sym (append-nil (all_found_in found))))
+stopped_told (Err x) w room why faults all found e left ne f = tt
+
+pub stopped_some : {T E : Type 0} (r : Result T E) (w : Word) (room : ℕ) (why : GlobStop) (found : List Found) {o n : Option Journal} → room ≡ 16_384 - length found → Left (Stopped w.text room why) o n → OnErr r (Left (LookedAtSome (length (all_found_in found)) (w ∷ [])) o n)
+stopped_some r w room why found e left = on_err r (left_as left (λ ts h. some_one w (Err why) (length (all_found_in found)) ts (subst (λ k. Stopped w.text k why ts) (room_of room found e) h)))
+
+pub given_found : {T E : Type 0} (r : Result T E) (w : Word) (s : WordSight) (p q : List FoundLog) → OnOk r (q ≡ p ++ found_by w s) → OnOk r (AddsFound (w ∷ []) p q)
+given_found r w s p q h = on_ok r (λ e. record { sights = s ∷ []; as_many = refl; found_are = e ∙ ap (λ fs. p ++ fs) (sym (append-nil (found_by w s))) }) h
+
+pub stopped_found : {T E : Type 0} (r : Result T E) (w : Word) (why : GlobStop) (p : List FoundLog) → OnOk r (AddsFound (w ∷ []) p p)
+stopped_found (Ok x) w why p = record { sights = Err why ∷ []; as_many = refl; found_are = sym (append-nil p) }
+stopped_found (Err x) w why p = tt
 
 -- ---- one behind another
 
-looks_on : (xs ys : List Log) (ss ts : List Sight) → length ss ≡ length xs → looks_of (xs ++ ys) (ss ++ ts) ≡ looks_of xs ss ++ looks_of ys ts
-looks_on [] ys [] ts e = refl
-looks_on [] ys (s ∷ ss) ts e = absurd (omega (arith, e))
-looks_on (x ∷ xs) ys [] ts e = absurd (omega (arith, e))
-looks_on (x ∷ xs) ys (s ∷ ss) ts e = ap (λ es. look_of x.path s ++ es) (looks_on xs ys ss ts (omega (arith, e))) ∙ sym (append_assoc (look_of x.path s) (looks_of xs ss) (looks_of ys ts))
-
-faults_on : (xs ys : List Log) (ss ts : List Sight) → length ss ≡ length xs → faults_of (xs ++ ys) (ss ++ ts) ≡ faults_of xs ss ++ faults_of ys ts
+faults_on : (xs ys : List Word) (ss ts : List WordSight) → length ss ≡ length xs → faults_of (xs ++ ys) (ss ++ ts) ≡ faults_of xs ss ++ faults_of ys ts
 faults_on [] ys [] ts e = refl
 faults_on [] ys (s ∷ ss) ts e = absurd (omega (arith, e))
 faults_on (x ∷ xs) ys [] ts e = absurd (omega (arith, e))
 faults_on (x ∷ xs) ys (s ∷ ss) ts e = ap (λ es. fault_of x s ++ es) (faults_on xs ys ss ts (omega (arith, e))) ∙ sym (append_assoc (fault_of x s) (faults_of xs ss) (faults_of ys ts))
 
-found_on : (xs ys : List Log) (ss ts : List Sight) → length ss ≡ length xs → found_of (xs ++ ys) (ss ++ ts) ≡ found_of xs ss ++ found_of ys ts
+found_on : (xs ys : List Word) (ss ts : List WordSight) → length ss ≡ length xs → found_of (xs ++ ys) (ss ++ ts) ≡ found_of xs ss ++ found_of ys ts
 found_on [] ys [] ts e = refl
 found_on [] ys (s ∷ ss) ts e = absurd (omega (arith, e))
 found_on (x ∷ xs) ys [] ts e = absurd (omega (arith, e))
 found_on (x ∷ xs) ys (s ∷ ss) ts e = ap (λ es. found_by x s ++ es) (found_on xs ys ss ts (omega (arith, e))) ∙ sym (append_assoc (found_by x s) (found_of xs ss) (found_of ys ts))
 
+pub shown_many : (n : ℕ) (xs : List Word) (ss : List WordSight) (ts : List Entry) → ShowWords n xs ss ts → length ss ≡ length xs
+shown_many n [] [] ts h = refl
+shown_many n [] (s ∷ ss) ts h = absurd h
+shown_many n (x ∷ xs) [] ts h = absurd h
+shown_many n (x ∷ xs) (s ∷ ss) ts h = ap suc (shown_many (n + length (found_by x s)) xs ss h.back h.second)
+
+shown_on : (n : ℕ) (xs ys : List Word) (ss rs : List WordSight) (ts us : List Entry) → ShowWords n xs ss ts → ShowWords (n + length (found_of xs ss)) ys rs us → ShowWords n (xs ++ ys) (ss ++ rs) (ts ++ us)
+shown_on n [] ys [] rs ts us h g = subst (λ (es : List Entry). ShowWords n ys rs (es ++ us)) (sym h) (subst (λ k. ShowWords k ys rs us) (plus_none n) g)
+  where
+    plus_none : (k : ℕ) → k + 0 ≡ k
+    plus_none k = omega arith
+shown_on n [] ys (s ∷ ss) rs ts us h g = absurd h
+shown_on n (x ∷ xs) ys [] rs ts us h g = absurd h
+shown_on n (x ∷ xs) ys (s ∷ ss) rs ts us h g = record {
+  front = h.front;
+  back = h.back ++ us;
+  joined = ap (λ (es : List Entry). es ++ us) h.joined ∙ append_assoc h.front h.back us;
+  first = h.first;
+  second = shown_on (n + length (found_by x s)) xs ys ss rs h.back us h.second (subst (λ k. ShowWords k ys rs us) (counted (found_by x s) (found_of xs ss)) g);
+}
+  where
+    counted : (a b : List FoundLog) → n + length (a ++ b) ≡ n + length a + length b
+    counted a b = let e = length-append a b in omega (arith, e)
+
 grown : {A : Type 0} (a b c x y z : List A) → b ≡ a ++ x → c ≡ b ++ y → z ≡ x ++ y → c ≡ a ++ z
 grown a b c x y z e f g = f ∙ (ap (λ l. l ++ y) e ∙ (append_assoc a x y ∙ ap (λ l. a ++ l) (sym g)))
 
-pub looked_on : (xs ys : List Log) (a b c : List Fault) (p q r : List FoundLog) (ts us : List Entry) → LookedAt xs a b p q ts → LookedAt ys b c q r us → LookedAt (xs ++ ys) a c p r (ts ++ us)
-looked_on xs ys a b c p q r ts us l k = record {
-  sights = l.sights ++ k.sights;
-  as_many = length-append l.sights k.sights ∙ (let m : length l.sights ≡ length xs = l.as_many in let n : length k.sights ≡ length ys = k.as_many in let s : length (xs ++ ys) ≡ length xs + length ys = length-append xs ys in omega (arith, m, n, s));
-  looks = ap (λ (es : List Entry). es ++ us) l.looks ∙ (ap (λ (es : List Entry). looks_of xs l.sights ++ es) k.looks ∙ sym (looks_on xs ys l.sights k.sights l.as_many));
-  faults_are = grown a b c _ _ _ l.faults_are k.faults_are (faults_on xs ys l.sights k.sights l.as_many);
-  found_are = grown p q r _ _ _ l.found_are k.found_are (found_on xs ys l.sights k.sights l.as_many);
-}
+memory_on : (ss rs : List WordSight) → WordsHadMemory ss → WordsHadMemory rs → WordsHadMemory (ss ++ rs)
+memory_on [] rs h g = g
+memory_on (s ∷ ss) rs h g = (h.0, memory_on ss rs h.1 g)
 
-pub looked_none : (a b : List Fault) (p q : List FoundLog) → b ≡ a → q ≡ p → LookedAt [] a b p q []
-looked_none a b p q e f = record { sights = []; as_many = refl; looks = refl; faults_are = e ∙ sym (append-nil a); found_are = f ∙ sym (append-nil p) }
+-- so many logs are found behind the words
+behind : (p q : List FoundLog) (xs : List Word) (ss : List WordSight) → q ≡ p ++ found_of xs ss → length q ≡ length p + length (found_of xs ss)
+behind p q xs ss e = ap (λ (fs : List FoundLog). length fs) e ∙ length-append p (found_of xs ss)
 
-none_more : (n : ℕ) → 0 + n ≡ n
-none_more n = omega arith
+pub looked_on : (xs ys : List Word) (a b c : List Fault) (p q r : List FoundLog) (ts us : List Entry) → LookedAt xs a b p q ts → LookedAt ys b c q r us → LookedAt (xs ++ ys) a c p r (ts ++ us)
+looked_on xs ys a b c p q r ts us l k =
+    let many = shown_many (length p) xs l.sights ts l.shown in
+    record {
+      sights = l.sights ++ k.sights;
+      had_memory = memory_on l.sights k.sights l.had_memory k.had_memory;
+      shown = shown_on (length p) xs ys l.sights k.sights ts us l.shown (subst (λ n. ShowWords n ys k.sights us) (behind p q xs l.sights l.found_are) k.shown);
+      faults_are = grown a b c _ _ _ l.faults_are k.faults_are (faults_on xs ys l.sights k.sights many);
+      found_are = grown p q r _ _ _ l.found_are k.found_are (found_on xs ys l.sights k.sights many);
+    }
 
-take_first : (n : ℕ) (ys zs : List Log) → n ≤ length ys → take n (ys ++ zs) ≡ take n ys
-take_first n ys zs le = take-append-le n ys zs le
+looked_none : (a : List Fault) (p : List FoundLog) → LookedAt [] a a p p []
+looked_none a p = record { sights = []; had_memory = tt; shown = refl; faults_are = sym (append-nil a); found_are = sym (append-nil p) }
 
-take_past : (xs ys : List Log) (n : ℕ) → take (length xs + n) (xs ++ ys) ≡ xs ++ take n ys
+take_past : (xs ys : List Word) (n : ℕ) → take (length xs + n) (xs ++ ys) ≡ xs ++ take n ys
 take_past [] ys n = ap (λ k. take k ys) (none_more n)
+  where
+    none_more : (k : ℕ) → 0 + k ≡ k
+    none_more k = omega arith
 take_past (x ∷ xs) ys n = subst (λ k. take k (x ∷ (xs ++ ys)) ≡ x ∷ (xs ++ take n ys)) (suc_plus (length xs) n) (ap (λ l. x ∷ l) (take_past xs ys n))
   where
     suc_plus : (a b : ℕ) → suc (a + b) ≡ suc a + b
     suc_plus a b = omega arith
 
-pub some_on : (xs ys zs : List Log) (a b : List Fault) (p q : List FoundLog) (ts us : List Entry) → LookedAt xs a b p q ts → LookedAtSome ys us → LookedAtSome (xs ++ (ys ++ zs)) (ts ++ us)
+some_on : (xs ys zs : List Word) (a b : List Fault) (p q : List FoundLog) (ts us : List Entry) → LookedAt xs a b p q ts → LookedAtSome (length q) ys us → LookedAtSome (length p) (xs ++ (ys ++ zs)) (ts ++ us)
 some_on xs ys zs a b p q ts us l k =
-    let m : length l.sights ≡ length xs = l.as_many in
+    let m = shown_many (length p) xs l.sights ts l.shown in
     let f : length k.sights ≤ length ys = k.few in
     let both : length (l.sights ++ k.sights) ≡ length l.sights + length k.sights = length-append l.sights k.sights in
     let all : length (xs ++ (ys ++ zs)) ≡ length xs + length (ys ++ zs) = length-append xs (ys ++ zs) in
     let rest : length (ys ++ zs) ≡ length ys + length zs = length-append ys zs in
     let at : length (l.sights ++ k.sights) ≡ length xs + length k.sights = omega (arith, m, both) in
+    let first : take (length (l.sights ++ k.sights)) (xs ++ (ys ++ zs)) ≡ xs ++ take (length k.sights) ys =
+    ap (λ n. take n (xs ++ (ys ++ zs))) at ∙ (take_past xs (ys ++ zs) (length k.sights) ∙ ap (λ ws. xs ++ ws) (take-append-le (length k.sights) ys zs f)) in
     record {
       sights = l.sights ++ k.sights;
       few = omega (arith, m, f, both, all, rest);
-      looks = ap (λ (es : List Entry). es ++ us) l.looks ∙ (ap (λ (es : List Entry). looks_of xs l.sights ++ es) (k.looks ∙ ap (λ ls. looks_of ls k.sights) (sym (take_first (length k.sights) ys zs f)))
-          ∙ (sym (looks_on xs (take (length k.sights) (ys ++ zs)) l.sights k.sights l.as_many)
-          ∙ ap (λ ls. looks_of ls (l.sights ++ k.sights)) (sym (ap (λ n. take n (xs ++ (ys ++ zs))) at ∙ take_past xs (ys ++ zs) (length k.sights)))));
+      shown = subst (λ ws. ShowWords (length p) ws (l.sights ++ k.sights) (ts ++ us)) (sym first)
+          (shown_on (length p) xs (take (length k.sights) ys) l.sights k.sights ts us l.shown (subst (λ n. ShowWords n (take (length k.sights) ys) k.sights us) (behind p q xs l.sights l.found_are) k.shown));
     }
 
-pub found_none : (found : List FoundLog) → found ≡ [] → AreFoundOf [] found
-found_none found e = record { sights = []; as_many = refl; found_are = e }
+adds_none : (p : List FoundLog) → AddsFound [] p p
+adds_none p = record { sights = []; as_many = refl; found_are = sym (append-nil p) }
 
-pub found_more : (done : List Asked) (x : Asked) (p q : List FoundLog) → AreFoundOf (logs_in done) p → (s : Sight) × (q ≡ p ++ found_by (log_in x) s) → AreFoundOf (logs_in (done ++ x ∷ [])) q
-found_more done x p q l k = record {
-  sights = l.sights ++ k.0 ∷ [];
-  as_many = length-append l.sights (k.0 ∷ []) ∙ (let m : length l.sights ≡ length (logs_in done) = l.as_many in let s : length (logs_in done ++ log_in x ∷ []) ≡ length (logs_in done) + 1 = length-append (logs_in done) (log_in x ∷ []) in let t : length (logs_in (done ++ x ∷ [])) ≡ length (logs_in done ++ log_in x ∷ []) = ap length (map-append log_in done (x ∷ [])) in omega (arith, m, s, t));
-  found_are = k.1 ∙ (ap (λ (fs : List FoundLog). fs ++ found_by (log_in x) k.0) l.found_are ∙ (ap (λ (fs : List FoundLog). found_of (logs_in done) l.sights ++ fs) (sym (append-nil (found_by (log_in x) k.0)))
-      ∙ (sym (found_on (logs_in done) (log_in x ∷ []) l.sights (k.0 ∷ []) l.as_many) ∙ ap (λ (ls : List Log). found_of ls (l.sights ++ k.0 ∷ [])) (sym (map-append log_in done (x ∷ []))))));
+adds_on : (xs ys : List Word) (p q r : List FoundLog) → AddsFound xs p q → AddsFound ys q r → AddsFound (xs ++ ys) p r
+adds_on xs ys p q r l k = record {
+  sights = l.sights ++ k.sights;
+  as_many = length-append l.sights k.sights ∙ (let m : length l.sights ≡ length xs = l.as_many in let n : length k.sights ≡ length ys = k.as_many in let s : length (xs ++ ys) ≡ length xs + length ys = length-append xs ys in omega (arith, m, n, s));
+  found_are = grown p q r _ _ _ l.found_are k.found_are (found_on xs ys l.sights k.sights l.as_many);
 }
 
-pub found_all : (all done : List Asked) (q : List FoundLog) → all ≡ done → AreFoundOf (logs_in done) q → AreFoundOf (logs_in all) q
-found_all all done q e l = subst (λ (ls : List Asked). AreFoundOf (logs_in ls) q) (sym e) l
+texts_on : (xs ys : List Word) → AreTexts xs → AreTexts ys → AreTexts (xs ++ ys)
+texts_on [] ys h g = g
+texts_on (x ∷ xs) ys h g = (h.0, texts_on xs ys h.1 g)
 
-pub with_sight : {T E : Type 0} (r : Result T E) (log : Log) (p q : List FoundLog) (s : Sight) → OnOk r (q ≡ p ++ found_by log s) → OnOk r ((s : Sight) × (q ≡ p ++ found_by log s))
-with_sight r log p q s h = on_ok r (λ e. (s, e)) h
+-- ---- over lists of words that grow
 
-pub no_sight : {T E : Type 0} (r : Result T E) (log : Log) (p : List FoundLog) → OnOk r ((s : Sight) × (p ≡ p ++ found_by log s))
-no_sight (Ok x) log p = (Failed, sym (append-nil p))
-no_sight (Err x) log p = tt
+pub words_none : (faults : List Fault) (found : List FoundLog) {o : Option Journal} → Left (LookedAt [] faults faults found found) o o
+words_none faults found = left_first (LookedAt [] faults faults found found) _ (looked_none faults found)
+
+pub words_on : (all xs ys : List Word) (a b c : List Fault) (p q r : List FoundLog) {o m n : Option Journal} → all ≡ xs ++ ys → Left (LookedAt xs a b p q) o m → Left (LookedAt ys b c q r) m n → Left (LookedAt all a c p r) o n
+words_on all xs ys a b c p q r e l k = left_then l k (λ ts us h g. subst (λ (ws : List Word). LookedAt ws a c p r (ts ++ us)) (sym e) (looked_on xs ys a b c p q r ts us h g))
+
+pub words_some : {T E : Type 0} (result : Result T E) (all xs ys : List Word) (a b : List Fault) (p q : List FoundLog) {o m n : Option Journal} → IsPart all xs ys → Left (LookedAt xs a b p q) o m → Left (LookedAtSome (length q) ys) m n → OnErr result (Left (LookedAtSome (length p) all) o n)
+words_some result all xs ys a b p q e l k = on_err result (left_then l k (λ ts us h g. subst (λ (ws : List Word). LookedAtSome (length p) ws (ts ++ us)) (sym e.joined) (some_on xs ys e.behind a b p q ts us h g)))
+
+-- the words and the logs, by equal ones
+pub looked_words : (xs ys : List Word) (a b : List Fault) (p q : List FoundLog) {o n : Option Journal} → xs ≡ ys → Left (LookedAt xs a b p q) o n → Left (LookedAt ys a b p q) o n
+looked_words xs ys a b p q e l = left_as l (λ ts h. subst (λ (ws : List Word). LookedAt ws a b p q ts) e h)
+
+pub looked_until : (words : List Word) (a b : List Fault) (p q r : List FoundLog) {o n : Option Journal} → q ≡ r → Left (LookedAt words a b p q) o n → Left (LookedAt words a b p r) o n
+looked_until words a b p q r e l = left_as l (λ ts h. subst (λ (fs : List FoundLog). LookedAt words a b p fs ts) e h)
+
+pub found_none : (found : List FoundLog) → AddsFound [] found found
+found_none = adds_none
+
+pub found_more : (all xs ys : List Word) (p q r : List FoundLog) → all ≡ xs ++ ys → AddsFound xs p q → AddsFound ys q r → AddsFound all p r
+found_more all xs ys p q r e l k = subst (λ (ws : List Word). AddsFound ws p r) (sym e) (adds_on xs ys p q r l k)
+
+pub texts_more : (all xs ys : List Word) → all ≡ xs ++ ys → AreTexts xs → AreTexts ys → AreTexts all
+texts_more all xs ys e h g = subst AreTexts (sym e) (texts_on xs ys h g)
+
+pub found_all : (all words : List Word) (found : List FoundLog) → all ≡ words → AddsFound words [] found → AreFoundOf all found
+found_all all words found e l = record { sights = l.sights; found_are = l.found_are ∙ ap (λ (ws : List Word). found_of ws l.sights) (sym e) }
 
 -- ---- the faults that are added, and the counts
 
@@ -155,27 +223,66 @@ missing_free : (b : Bool) (word : List ℕ) → AreFree (cond b [] (fault.Missin
 missing_free true word = free_none
 missing_free false word = record { calls = refl; scripts = refl; no_out = ((λ h. h), tt) }
 
-look_free : (log : Log) (look : Option Seen) → AreFree (fault_of log (sight_of look))
-look_free log None = missing_free log.missingok log.word
-look_free log (Some seen) = free_none
+given_free : (w : Word) (matches : List Match) → AreFree (fault_of w (Ok matches))
+given_free w [] = missing_free w.rule.missingok w.text
+given_free w (m ∷ ms) = free_none
 
-pub look_counted : {T E : Type 0} (r : Result T E) (log : Log) (look : Option Seen) (faults all : List Fault) (a b : Counts) → NoneFell a b → OnOk r (all ≡ faults ++ fault_of log (sight_of look)) → OnOk r (AddsFaults faults all a b)
-look_counted r log look faults all a b le h = on_ok r (λ e. adds_free faults all (fault_of log (sight_of look)) a b e (look_free log look) le) h
+pub given_counted : {T E : Type 0} (r : Result T E) (w : Word) (matches : List Match) (faults all : List Fault) (a b : Counts) → NoneFell a b → OnOk r (all ≡ faults ++ fault_of w (Ok matches)) → OnOk r (AddsFaults faults all a b)
+given_counted r w matches faults all a b le h = on_ok r (λ e. adds_free faults all (fault_of w (Ok matches)) a b e (given_free w matches) le) h
 
-pub failed_counted : {T E : Type 0} (r : Result T E) (log : Log) (faults all : List Fault) (a b : Counts) → Rose a.faults b.faults → NoneFell a b → OnOk r (all ≡ faults ++ fault_of log Failed) → OnOk r (AddsFaults faults all a b)
-failed_counted r log faults all a b rose le h = on_ok r (λ e. adds_call faults all call.Look log.path a b e rose le) h
+one_counted : (w : Word) (why : GlobStop) (faults all : List Fault) (a b : Counts) → (IsFailedCall why → Rose a.faults b.faults) → NoneFell a b → all ≡ faults ++ glob_fault w why → AddsFaults faults all a b
+one_counted w (stop.Call kind path) faults all a b rose le e = adds_call faults all kind path a b e (rose tt) le
+one_counted w stop.LongName faults all a b rose le e = adds_free faults all (fault.LongName w.text ∷ []) a b e (record { calls = refl; scripts = refl; no_out = ((λ h. h), tt) }) le
+one_counted w stop.TooMany faults all a b rose le e = adds_free faults all (fault.TooMany w.text ∷ []) a b e (record { calls = refl; scripts = refl; no_out = ((λ h. h), tt) }) le
+one_counted w stop.Memory faults all a b rose le e = adds_free faults all [] a b e free_none le
 
--- ---- a list of logs
+pub stopped_counted : {T E : Type 0} (r : Result T E) (w : Word) (why : GlobStop) (faults all : List Fault) (a b : Counts) → (IsFailedCall why → Rose a.faults b.faults) → NoneFell a b → OnOk r (all ≡ faults ++ glob_fault w why) → OnOk r (AddsFaults faults all a b)
+stopped_counted r w why faults all a b rose le h = on_ok r (λ e. one_counted w why faults all a b rose le e) h
 
-logs_more : (done : List Asked) (x : Asked) → logs_in (done ++ x ∷ []) ≡ logs_in done ++ log_in x ∷ []
-logs_more done x = map-append log_in done (x ∷ [])
+-- ---- the matches of a word, one behind another
 
-pub words_none : (faults : List Fault) (found : List Found) {o : Option Journal} → found ≡ [] → Left (LookedAt (logs_in []) faults faults [] (all_found_in found)) o o
-words_none faults found e = left_first (LookedAt [] faults faults [] (all_found_in found)) _ (looked_none faults faults [] (all_found_in found) refl (ap all_found_in e))
+-- none of those that aren't too long is
+none_long : (done rest : List Match) (x : Match) → list_any is_long (done ++ x ∷ rest) ≡ false → is_long x ≡ false
+none_long [] rest x h = (or_parts (is_long x) (list_any is_long rest) h).0
+none_long (d ∷ ds) rest x h = none_long ds rest x (or_parts (is_long d) (list_any is_long (ds ++ x ∷ rest)) h).1
 
-pub words_more : (done : List Asked) (x : Asked) (a b c : List Fault) (q r : List FoundLog) {o m n : Option Journal} → Left (LookedAt (logs_in done) a b [] q) o m → Left (LookedAt (log_in x ∷ []) b c q r) m n → Left (LookedAt (logs_in (done ++ x ∷ [])) a c [] r) o n
-words_more done x a b c q r l k = left_then l k (λ ts us h g. subst (λ (ls : List Log). LookedAt ls a c [] r (ts ++ us)) (sym (logs_more done x)) (looked_on (logs_in done) (log_in x ∷ []) a b c [] q r ts us h g))
+pub next_short : (all done rest : List Match) (x : Match) → all ≡ done ++ x ∷ rest → list_any is_long all ≡ false → is_long x ≡ false
+next_short all done rest x e h = none_long done rest x (subst (λ ms. list_any is_long ms ≡ false) e h)
 
-pub words_some : {T E : Type 0} (result : Result T E) (logs done rest : List Asked) (x : Asked) (a b : List Fault) (q : List FoundLog) {o m n : Option Journal} → logs ≡ done ++ x ∷ rest → Left (LookedAt (logs_in done) a b [] q) o m → Left (LookedAtSome (log_in x ∷ [])) m n
-    → OnErr result (Left (LookedAtSome (logs_in logs)) o n)
-words_some result logs done rest x a b q e l k = on_err result (left_then l k (λ ts us h g. subst (λ (ls : List Log). LookedAtSome ls (ts ++ us)) (sym (ap logs_in e ∙ map-append log_in done (x ∷ rest))) (some_on (logs_in done) (log_in x ∷ []) (logs_in rest) a b [] q ts us h g)))
+pub logs_none : (w : Word) (p : List FoundLog) → p ≡ p ++ map (found_at w) []
+logs_none w p = sym (append-nil p)
+
+pub logs_more : (w : Word) (done : List Match) (x : Match) (p q r : List FoundLog) → q ≡ p ++ map (found_at w) done → r ≡ q ++ found_at w x ∷ [] → r ≡ p ++ map (found_at w) (done ++ x ∷ [])
+logs_more w done x p q r e f = f ∙ (ap (λ fs. fs ++ found_at w x ∷ []) e ∙ (append_assoc p (map (found_at w) done) (found_at w x ∷ []) ∙ ap (λ fs. p ++ fs) (sym (map-append (found_at w) done (x ∷ [])))))
+
+pub paths_more : (p q : List FoundLog) (f : FoundLog) → q ≡ p ++ f ∷ [] → HasLogPath f → HaveLogPaths p → HaveLogPaths q
+paths_more p q f e h hs = subst HaveLogPaths (sym e) (on p hs)
+  where
+    on : (xs : List FoundLog) → HaveLogPaths xs → HaveLogPaths (xs ++ f ∷ [])
+    on [] g = (h, tt)
+    on (x ∷ xs) g = (g.0, on xs g.1)
+
+-- a path that isn't too long
+le_from : (a b : ℕ) → nat_le a b ≡ true → a ≤ b
+le_from a b h = grind (arith, nat_tests)
+
+not_true : (b : Bool) → not b ≡ false → b ≡ true
+not_true true h = refl
+not_true false h = absurd (cc)
+
+pub short_path : (x : Match) → is_long x ≡ false → (length x.path ≤ 2048) × (length (last_of x.path) ≤ 255)
+short_path x h =
+    let p = and_parts (nat_le (length x.path) 2048) (nat_le (length (last_of x.path)) 255) (not_true (nat_le (length x.path) 2048 && nat_le (length (last_of x.path)) 255) h) in
+    (le_from (length x.path) 2048 p.0, le_from (length (last_of x.path)) 255 p.1)
+
+-- `expand` finds no path that is too long
+no_long : (word : List ℕ) (room : ℕ) (matches : List Match) (ts : List Entry) → Comes word room (Ok matches) ts → list_any is_long matches ≡ true → ⊥
+no_long word room matches ts c long = by (list_any is_long c.all) refl (nat_lt room (length c.all)) c.is
+  where
+    by : (b : Bool) → list_any is_long c.all ≡ b → (d : Bool) → cond b (Err stop.LongName) (cond d (Err stop.TooMany) (Ok c.all)) ≡ Ok matches → ⊥
+    by true e d h = absurd (cc)
+    by false e true h = absurd (cc)
+    by false e false h = let same : c.all ≡ matches = cc in let t = sym e ∙ (ap (list_any is_long) same ∙ long) in absurd (cc)
+
+pub long_stopped : (word : List ℕ) (room : ℕ) (matches : List Match) {o n : Option Journal} → list_any is_long matches ≡ true → Left (Comes word room (Ok matches)) o n → Left (Stopped word room stop.LongName) o n
+long_stopped word room matches long left = left_as left (λ ts c. absurd (no_long word room matches ts c long))

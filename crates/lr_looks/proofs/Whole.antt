@@ -9,25 +9,25 @@ use Rattle.lr_rules.specs.declared.rule.Rule.{Rule}
 use Rattle.lr_host.specs.declared.entry.Entry.{Entry}
 use Rattle.lr_host.specs.declared.journal.Journal.{Journal}
 use Rattle.lr_host.specs.Told.{Counts, NoneFell, Left}
-use Rattle.lr_host.proofs.Left.{left_as, left_first, left_then}
+use Rattle.lr_host.proofs.Left.{left_as, left_then}
 use Rattle.lr_plan.specs.declared.looks.Looks.{Looks}
-use Rattle.lr_plan.specs.declared.looks.SetLooks.{SetLooks}
 use Rattle.lr_plan.specs.Counted.{AddsFaults}
 use Rattle.lr_plan.proofs.Counts.{AreFree, free_none, free_on, adds_on, adds_free}
 use Rattle.lr_kept.specs.declared.choice.Choice.{Choice}
-use Rattle.lr_kept.specs.declared.choice.Choice.TheVariants.{Kept, Again, Reserved, Meets}
-use Rattle.lr_looks.specs.Asked.{Log, asked_by}
+use Rattle.lr_kept.specs.declared.choice.Choice.TheVariants.{Kept, Again, MemberOf, Reserved, Meets}
+use Rattle.lr_looks.specs.Asked.{Word, asked_by, AreTexts}
 use Rattle.lr_looks.specs.Choices.{duplicate, overlap, barred, choice_fault, choice_faults, is_file, kept_of, kind_fault, Keeps}
 use Rattle.lr_looks.specs.Families.{LookedLog, family_faults, LooksAtFamilies, LookedAtSomeFamilies}
-use Rattle.lr_looks.specs.Found.{FoundLog, paths_of}
+use Rattle.lr_looks.specs.Found.{FoundLog, paths_of, HaveLogPaths}
 use Rattle.lr_looks.specs.Internal.{LooksBySets}
 use Rattle.lr_looks.specs.Shown.{LooksAtAll, ShowsSomeLooks, at_words, at_families}
-use Rattle.lr_looks.specs.Sights.{looks_of, faults_of, LookedAt, LookedAtSome}
+use Rattle.lr_looks.specs.Sights.{faults_of, ShowWords, LookedAt, LookedAtSome}
+use Rattle.lr_looks.proofs.Looking.{shown_many}
 
 -- ---- the faults of the looks alone, whatever came before
 
-own_words : (logs : List Log) (a b : List Fault) (found : List FoundLog) (ts : List Entry) → (l : LookedAt logs a b [] found ts) → LookedAt logs [] (faults_of logs l.sights) [] found ts
-own_words logs a b found ts l = record { sights = l.sights; as_many = l.as_many; looks = l.looks; faults_are = refl; found_are = l.found_are }
+own_words : (words : List Word) (a b : List Fault) (found : List FoundLog) (ts : List Entry) → (l : LookedAt words a b [] found ts) → LookedAt words [] (faults_of words l.sights) [] found ts
+own_words words a b found ts l = record { sights = l.sights; had_memory = l.had_memory; shown = l.shown; faults_are = refl; found_are = l.found_are }
 
 abbrev kept_faults : (reserved : List Path) (found : List FoundLog) (b c : List Fault) (kept : List FoundLog) → Keeps reserved found b c kept → List Fault
 kept_faults reserved found b c kept k = choice_faults reserved found found k.choices ++ flat_map kind_fault (kept_of found k.choices)
@@ -43,29 +43,31 @@ three a b c d x y z e f g = g ∙ (ap (λ l. l ++ z) (f ∙ (ap (λ l. l ++ y) e
 
 -- ---- whole
 
-pub all_told : (reserved : List Path) (rules : List Rule) (logs : List Log) (found kept : List FoundLog) (a b c d : List Fault) (looks : Looks) {o m n : Option Journal} → logs ≡ asked_by rules → Left (LookedAt logs a b [] found) o m → Keeps reserved found b c kept
+pub all_told : (reserved : List Path) (rules : List Rule) (found kept : List FoundLog) (a b c d : List Fault) (looks : Looks) {o m n : Option Journal} → AreTexts (asked_by rules) → HaveLogPaths found → Left (LookedAt (asked_by rules) a b [] found) o m → Keeps reserved found b c kept
     → LooksBySets kept c d looks.sets m n → looks.kept ≡ paths_of kept → length looks.sets ≡ length rules → Left (LooksAtAll reserved rules looks a d) o n
-all_told reserved rules logs found kept a b c d looks e l k s paths many = left_then l s.entries (λ ts us h g. record {
-  own = (faults_of logs h.sights ++ kept_faults reserved found b c kept k) ++ family_faults g.families.sights;
+all_told reserved rules found kept a b c d looks texts fit l k s paths many = left_then l s.entries (λ ts us h g. record {
+  own = (faults_of (asked_by rules) h.sights ++ kept_faults reserved found b c kept k) ++ family_faults g.families.sights;
   faults_are = three a b c d _ _ _ h.faults_are k.faults_are g.families.faults_are;
   shown = record {
     found = found;
-    of_words = faults_of logs h.sights;
+    of_words = faults_of (asked_by rules) h.sights;
     kept = kept;
-    of_kept = faults_of logs h.sights ++ kept_faults reserved found b c kept k;
+    of_kept = faults_of (asked_by rules) h.sights ++ kept_faults reserved found b c kept k;
     looked = s.looked;
-    keeps = own_kept reserved found b c (faults_of logs h.sights) kept k;
-    entries = record { front = ts; back = us; joined = refl; first = subst (λ ls. LookedAt ls [] (faults_of logs h.sights) [] found ts) e (own_words logs a b found ts h); second = own_families kept c d (faults_of logs h.sights ++ kept_faults reserved found b c kept k) s.looked us g };
+    texts = texts;
+    paths = fit;
+    keeps = own_kept reserved found b c (faults_of (asked_by rules) h.sights) kept k;
+    entries = record { front = ts; back = us; joined = refl; first = own_words (asked_by rules) a b found ts h; second = own_families kept c d (faults_of (asked_by rules) h.sights ++ kept_faults reserved found b c kept k) s.looked us g };
     many = many;
     by_sets = s.by_sets;
   };
   kept_are = paths;
 })
 
-pub all_ok : {E : Type 0} (r : Result Looks E) (reserved : List Path) (rules : List Rule) (logs : List Log) (found kept : List FoundLog) (a b c d : List Fault) (count : ℕ) {o m : Option Journal} (n : Option Journal) → logs ≡ asked_by rules → Left (LookedAt logs a b [] found) o m → Keeps reserved found b c kept
+pub all_ok : {E : Type 0} (r : Result Looks E) (reserved : List Path) (rules : List Rule) (found kept : List FoundLog) (a b c d : List Fault) (count : ℕ) {o m : Option Journal} (n : Option Journal) → AreTexts (asked_by rules) → HaveLogPaths found → Left (LookedAt (asked_by rules) a b [] found) o m → Keeps reserved found b c kept
     → IfOk r (λ looks. LooksBySets kept c d looks.sets m n) → IfOk r (λ looks. looks.kept ≡ paths_of kept) → IfOk r (λ looks. length looks.sets ≡ count) → count ≡ length rules → IfOk r (λ looks. Left (LooksAtAll reserved rules looks a d) o n)
-all_ok (Ok looks) reserved rules logs found kept a b c d count n e l k s paths many is = all_told reserved rules logs found kept a b c d looks e l k s paths (many ∙ is)
-all_ok (Err x) reserved rules logs found kept a b c d count n e l k s paths many is = tt
+all_ok (Ok looks) reserved rules found kept a b c d count n texts fit l k s paths many is = all_told reserved rules found kept a b c d looks texts fit l k s paths (many ∙ is)
+all_ok (Err x) reserved rules found kept a b c d count n texts fit l k s paths many is = tt
 
 pub all_many : {E : Type 0} (r : Result Looks E) (rules : List Rule) (count : ℕ) → IfOk r (λ looks. length looks.sets ≡ count) → count ≡ length rules → IfOk r (λ looks. length looks.sets ≡ length rules)
 all_many (Ok looks) rules count many is = many ∙ is
@@ -92,6 +94,7 @@ barred_free f (Some path) = record { calls = refl; scripts = refl; no_out = ((λ
 choice_free : (reserved : List Path) (all : List FoundLog) (f : FoundLog) (c : Choice) → AreFree (choice_fault reserved all f c)
 choice_free reserved all f Kept = free_none
 choice_free reserved all f (Again i) = again_free f (slice_get all i)
+choice_free reserved all f (MemberOf i) = free_none
 choice_free reserved all f (Reserved i) = barred_free f (slice_get reserved i)
 choice_free reserved all f (Meets i) = met_free f (slice_get all i)
 
@@ -124,27 +127,25 @@ all_counted (Err e) reserved found kept a b c d k l m x h y = tt
 
 -- ---- in part
 
-pub all_at_first : {T E : Type 0} (r : Result T E) (reserved : List Path) (rules : List Rule) (o : Option Journal) → OnErr r (Left (ShowsSomeLooks reserved rules) o o)
-all_at_first (Ok x) reserved rules o = tt
-all_at_first (Err x) reserved rules o = left_first (ShowsSomeLooks reserved rules) _ (at_words (record { sights = []; few = omega arith; looks = refl }))
+pub all_at_words : {T E : Type 0} (r : Result T E) (reserved : List Path) (rules : List Rule) {o n : Option Journal} → Left (LookedAtSome 0 (asked_by rules)) o n → OnErr r (Left (ShowsSomeLooks reserved rules) o n)
+all_at_words (Ok x) reserved rules l = tt
+all_at_words (Err x) reserved rules l = left_as l (λ ts h. at_words h)
 
-pub all_at_words : {T E : Type 0} (r : Result T E) (reserved : List Path) (rules : List Rule) (logs : List Log) {o n : Option Journal} → logs ≡ asked_by rules → Left (LookedAtSome logs) o n → OnErr r (Left (ShowsSomeLooks reserved rules) o n)
-all_at_words (Ok x) reserved rules logs e l = tt
-all_at_words (Err x) reserved rules logs e l = left_as l (λ ts h. at_words (subst (λ ls. LookedAtSome ls ts) e h))
+some_whole : (words : List Word) (a b : List Fault) (found : List FoundLog) (ts : List Entry) → LookedAt words a b [] found ts → LookedAtSome 0 words ts
+some_whole words a b found ts l =
+    let m : length l.sights ≡ length words = shown_many 0 words l.sights ts l.shown in
+    record {
+      sights = l.sights;
+      few = omega (arith, m);
+      shown = subst (λ ws. ShowWords 0 ws l.sights ts) (sym (ap (λ n. take n words) m ∙ take-length words)) l.shown;
+    }
 
-some_whole : (logs : List Log) (a b : List Fault) (found : List FoundLog) (ts : List Entry) → LookedAt logs a b [] found ts → LookedAtSome logs ts
-some_whole logs a b found ts l = record {
-  sights = l.sights;
-  few = (let m = l.as_many in omega (arith, m));
-  looks = l.looks ∙ ap (λ ls. looks_of ls l.sights) (sym (ap (λ n. take n logs) l.as_many ∙ take-length logs));
-}
+pub all_at_kept : {T E : Type 0} (r : Result T E) (reserved : List Path) (rules : List Rule) (a b : List Fault) (found : List FoundLog) {o n : Option Journal} → Left (LookedAt (asked_by rules) a b [] found) o n → OnErr r (Left (ShowsSomeLooks reserved rules) o n)
+all_at_kept (Ok x) reserved rules a b found l = tt
+all_at_kept (Err x) reserved rules a b found l = left_as l (λ ts h. at_words (some_whole (asked_by rules) a b found ts h))
 
-pub all_at_kept : {T E : Type 0} (r : Result T E) (reserved : List Path) (rules : List Rule) (logs : List Log) (a b : List Fault) (found : List FoundLog) {o n : Option Journal} → logs ≡ asked_by rules → Left (LookedAt logs a b [] found) o n → OnErr r (Left (ShowsSomeLooks reserved rules) o n)
-all_at_kept (Ok x) reserved rules logs a b found e l = tt
-all_at_kept (Err x) reserved rules logs a b found e l = left_as l (λ ts h. at_words (subst (λ ls. LookedAtSome ls ts) e (some_whole logs a b found ts h)))
-
-pub all_at_families : {T E : Type 0} (r : Result T E) (reserved : List Path) (rules : List Rule) (logs : List Log) (found kept : List FoundLog) (a b c : List Fault) {o m : Option Journal} (n : Option Journal) → logs ≡ asked_by rules → Left (LookedAt logs a b [] found) o m → Keeps reserved found b c kept
+pub all_at_families : {T E : Type 0} (r : Result T E) (reserved : List Path) (rules : List Rule) (found kept : List FoundLog) (a b c : List Fault) {o m : Option Journal} (n : Option Journal) → Left (LookedAt (asked_by rules) a b [] found) o m → Keeps reserved found b c kept
     → OnErr r (Left (LookedAtSomeFamilies [] kept) m n) → OnErr r (Left (ShowsSomeLooks reserved rules) o n)
-all_at_families (Ok x) reserved rules logs found kept a b c n e l k s = tt
-all_at_families (Err x) reserved rules logs found kept a b c n e l k s = left_then l s (λ ts us h g. at_families found (faults_of logs h.sights) kept (faults_of logs h.sights ++ kept_faults reserved found b c kept k) (own_kept reserved found b c (faults_of logs h.sights) kept k)
-    (record { front = ts; back = us; joined = refl; first = subst (λ ls. LookedAt ls [] (faults_of logs h.sights) [] found ts) e (own_words logs a b found ts h); second = g }))
+all_at_families (Ok x) reserved rules found kept a b c n l k s = tt
+all_at_families (Err x) reserved rules found kept a b c n l k s = left_then l s (λ ts us h g. at_families found (faults_of (asked_by rules) h.sights) kept (faults_of (asked_by rules) h.sights ++ kept_faults reserved found b c kept k) (own_kept reserved found b c (faults_of (asked_by rules) h.sights) kept k)
+    (record { front = ts; back = us; joined = refl; first = own_words (asked_by rules) a b found ts h; second = g }))

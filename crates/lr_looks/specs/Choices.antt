@@ -10,7 +10,7 @@ use Rattle.lr_host.specs.declared.thing.Kind.{Kind}
 use Rattle.lr_host.specs.declared.thing.Kind.TheVariants as kind
 use Rattle.lr_family.specs.declared.family.Family.{Family}
 use Rattle.lr_kept.specs.declared.choice.Choice.{Choice}
-use Rattle.lr_kept.specs.declared.choice.Choice.TheVariants.{Kept, Again, Reserved, Meets}
+use Rattle.lr_kept.specs.declared.choice.Choice.TheVariants.{Kept, Again, MemberOf, Reserved, Meets}
 use Rattle.lr_kept.specs.Chosen.{AreChosen}
 use Rattle.lr_looks.specs.Found.{FoundLog}
 
@@ -21,11 +21,15 @@ names_of b = (b.now.log, b.now.naming)
 abbrev pub found_names : FoundLog → Path × Naming
 found_names f = (f.log.path, f.log.naming)
 
+-- a wildcard gave its path
+abbrev pub is_wild : FoundLog → Bool
+is_wild f = f.log.wild
+
 -- The choices are those among these logs, where these paths are reserved.
 pub record IsChoiceAmong (reserved : List Path) (found : List FoundLog) (choices : List Choice) : Type 0 where
   pub logs : List (Bor Family)
   pub same : map names_of logs ≡ map found_names found
-  pub chosen : AreChosen logs reserved choices
+  pub chosen : AreChosen logs (map is_wild found) reserved choices
 
 -- a path that was found before is told, unless the definition that found it first lets it go silently
 abbrev pub duplicate : FoundLog → Option FoundLog → List Fault
@@ -42,9 +46,11 @@ abbrev pub barred : FoundLog → Option Path → List Fault
 barred f None = []
 barred f (Some path) = fault.Overlap f.log.path path ∷ []
 
+-- a path that a wildcard gives, and that is a member's of another log, is passed over without a fault
 abbrev pub choice_fault : List Path → List FoundLog → FoundLog → Choice → List Fault
 choice_fault reserved all f Kept = []
 choice_fault reserved all f (Again i) = duplicate f (slice_get all i)
+choice_fault reserved all f (MemberOf i) = []
 choice_fault reserved all f (Reserved i) = barred f (slice_get reserved i)
 choice_fault reserved all f (Meets i) = overlap f (slice_get all i)
 

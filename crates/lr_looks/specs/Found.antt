@@ -1,18 +1,22 @@
 -- Logs that were found.
-use Rattle.std.specs.Prelude.{◌≡◌, ◌≤◌, List, [], ◌∷◌, map, None}
+use Rattle.std.specs.Prelude.{◌≡◌, ◌≤◌, List, [], ◌∷◌, length, map, None}
 use Rattle.lr_rules.specs.declared.path.Path.{Path}
+use Rattle.lr_rules.specs.Path.{path_fault, last_of}
 use Rattle.lr_host.specs.declared.thing.Seen.{Seen}
 use Rattle.lr_looks.specs.declared.found.Found.{Found}
-use Rattle.lr_looks.specs.Asked.{Log, log_in}
+use Rattle.lr_looks.specs.Asked.{Log}
 
--- A log at whose path something stands, in any kind.
+-- A log at whose path something stands: of a literal word in any kind, of a wildcard a regular file.
 pub record FoundLog : Type 0 where
   pub log : Log
   pub seen : Seen
 
 -- as the code has it
+abbrev pub log_in : Found → Log
+log_in f = record { set = f.set; path = f.family.log; naming = f.family.naming; ignore = f.ignore_duplicates; wild = f.wild }
+
 abbrev pub found_in : Found → FoundLog
-found_in f = record { log = log_in f.asked; seen = f.seen }
+found_in f = record { log = log_in f; seen = f.seen }
 
 abbrev pub all_found_in : List Found → List FoundLog
 all_found_in list = map found_in list
@@ -26,6 +30,12 @@ pub record HasNumbers (f : FoundLog) : Type 0 where
   pub numbered : f.log.naming.dated ≡ None
   pub start : f.log.naming.start ≤ 999999
 
+-- Its path is one, of 2,048 bytes at most, with a last part of 255 at most.
+pub record HasLogPath (f : FoundLog) : Type 0 where
+  pub path : path_fault f.log.path ≡ None
+  pub size : length f.log.path ≤ 2048
+  pub last : length (last_of f.log.path) ≤ 255
+
 -- P holds of each of these logs
 abbrev pub Hold : (FoundLog → Type 0) → List FoundLog → Type 0
 Hold P [] = Unit {0}
@@ -33,3 +43,6 @@ Hold P (f ∷ fs) = P f × Hold P fs
 
 abbrev pub HaveNumbers : List FoundLog → Type 0
 HaveNumbers found = Hold HasNumbers found
+
+abbrev pub HaveLogPaths : List FoundLog → Type 0
+HaveLogPaths found = Hold HasLogPath found

@@ -1,7 +1,7 @@
--- For proofs: the naming that the code makes, choices that name logs of the list, the map of listings, and logs that are added to their definitions.
+-- For proofs: the naming that the code makes, logs that are found, choices that name logs of the list, the map of listings, and logs that are added to their definitions.
 use Rattle.std.specs.Prelude.{◌≡◌, ◌<◌, ℕ, List, [], ◌∷◌, ◌++◌, All, Option, Some, None, length, slice_get}
 use Rattle.lr_kept.specs.declared.choice.Choice.{Choice}
-use Rattle.lr_kept.specs.declared.choice.Choice.TheVariants.{Kept, Again, Reserved, Meets}
+use Rattle.lr_kept.specs.declared.choice.Choice.TheVariants.{Kept, Again, MemberOf, Reserved, Meets}
 use Rattle.lr_rules.specs.declared.path.Path.{Path}
 use Rattle.lr_rules.specs.declared.rule.Naming.{Naming}
 use Rattle.lr_rules.specs.Path.{parent_of, last_of}
@@ -19,17 +19,26 @@ use Rattle.lr_family.specs.Listed.{ShowsListing, NotListed}
 use Rattle.lr_kept.specs.Begun.{place_in}
 use Rattle.lr_looks.specs.declared.listings.Listings.{Listings}
 use Rattle.lr_looks.specs.Families.{WasNotListed, FamilySight, ShowsFamily, LookedLog, LookedAtFamilies, LooksAtFamilies}
+use Rattle.lr_looks.specs.Asked.{Word}
 use Rattle.lr_looks.specs.Found.{FoundLog, Hold}
+use Rattle.lr_looks.specs.Sights.{WordSight, found_of}
 use Rattle.lr_looks.specs.Sets.{HaveLooks}
 
 -- the naming of a log's members in its own directory, with numbers behind its name
 abbrev pub naming_at : ℕ → Path → Naming
 naming_at start log = record { dir = parent_of log; base = last_of log; ext = []; start = start; dated = None }
 
+-- Some sights of these words, one for each, found the logs that were added.
+pub record AddsFound (words : List Word) (found all_found : List FoundLog) : Type 0 where
+  pub sights : List WordSight
+  pub as_many : length sights ≡ length words
+  pub found_are : all_found ≡ found ++ found_of words sights
+
 -- the reserved path, or the log, that the choice names is one of so many
 abbrev pub IsWithin : ℕ → ℕ → Choice → Type 0
 IsWithin paths count Kept = Unit {0}
 IsWithin paths count (Again i) = i < count
+IsWithin paths count (MemberOf i) = i < count
 IsWithin paths count (Reserved i) = i < paths
 IsWithin paths count (Meets i) = i < count
 

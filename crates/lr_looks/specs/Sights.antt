@@ -1,72 +1,91 @@
--- What the looks at the words' paths showed.
-use Rattle.std.specs.Prelude.{◌≡◌, ◌≤◌, List, [], ◌∷◌, ◌++◌, length, take, Option, Some, None, if◌then◌else◌}
-use Rattle.lr_rules.specs.declared.path.Path.{Path}
-use Rattle.lr_rules.specs.declared.fault.CallKind.TheVariants as call
+-- What the words came to.
+use Rattle.std.specs.Prelude.{◌≡◌, ◌≤◌, ◌+◌, ◌-◌, ℕ, List, [], ◌∷◌, ◌++◌, length, map, take, Result, Ok, Err, if◌then◌else◌}
 use Rattle.lr_rules.specs.declared.fault.Fault.{Fault}
 use Rattle.lr_rules.specs.declared.fault.Fault.TheVariants as fault
-use Rattle.lr_host.specs.declared.thing.Seen.{Seen}
 use Rattle.lr_host.specs.declared.entry.Entry.{Entry}
-use Rattle.lr_host.specs.declared.entry.Entry.TheVariants as entry
-use Rattle.lr_looks.specs.Asked.{Log}
+use Rattle.lr_host.specs.Told.{Then}
+use Rattle.lr_glob.specs.declared.found.Found.{Found as Match}
+use Rattle.lr_glob.specs.declared.found.GlobStop.{GlobStop}
+use Rattle.lr_glob.specs.declared.found.GlobStop.TheVariants as stop
+use Rattle.lr_glob.specs.Words.{Comes, Stopped}
+use Rattle.lr_looks.specs.Asked.{Word, log_at}
 use Rattle.lr_looks.specs.Found.{FoundLog}
 
--- What the look at a log's path came to: it failed, saw nothing, or saw this.
-pub data Sight : Type 0 where
-  Failed : Sight
-  Nothing : Sight
-  Saw : Seen → Sight
+-- What a word came to: all that it gives, or why it gives nothing.
+abbrev pub WordSight : Type 0
+WordSight = Result (List Match) GlobStop
 
--- what a look that didn't fail came to
-abbrev pub sight_of : Option Seen → Sight
-sight_of None = Nothing
-sight_of (Some seen) = Saw seen
+-- the logs that it gives
+abbrev pub found_at : Word → Match → FoundLog
+found_at w m = record { log = log_at w m.path; seen = m.seen }
 
--- the entry that it left; a look that failed leaves none
-abbrev pub look_of : Path → Sight → List Entry
-look_of path Failed = []
-look_of path Nothing = entry.Look path None ∷ []
-look_of path (Saw seen) = entry.Look path (Some seen) ∷ []
+abbrev pub found_by : Word → WordSight → List FoundLog
+found_by w (Ok found) = map (found_at w) found
+found_by w (Err why) = []
 
--- one look at the path of each log, in order
-abbrev pub looks_of : List Log → List Sight → List Entry
-looks_of (log ∷ logs) (s ∷ sights) = look_of log.path s ++ looks_of logs sights
-looks_of _ _ = []
+-- the fault of a word that gives nothing: there is none of the definition's that may be missing
+abbrev pub missing : Word → List Fault
+missing w = if w.rule.missingok then [] else fault.Missing w.text ∷ []
 
--- the fault of a log that wasn't found: its look failed, or nothing stands there and its rule doesn't let it be missing
-abbrev pub fault_of : Log → Sight → List Fault
-fault_of log Failed = fault.Call call.Look log.path ∷ []
-fault_of log Nothing = if log.missingok then [] else fault.Missing log.word ∷ []
-fault_of log (Saw seen) = []
+-- a call failed, at this path; or the word's logs are passed over
+abbrev pub glob_fault : Word → GlobStop → List Fault
+glob_fault w (stop.Call kind path) = fault.Call kind path ∷ []
+glob_fault w stop.LongName = fault.LongName w.text ∷ []
+glob_fault w stop.TooMany = fault.TooMany w.text ∷ []
+glob_fault w stop.Memory = []
 
-abbrev pub faults_of : List Log → List Sight → List Fault
-faults_of (log ∷ logs) (s ∷ sights) = fault_of log s ++ faults_of logs sights
-faults_of _ _ = []
+abbrev pub fault_of : Word → WordSight → List Fault
+fault_of w (Ok []) = missing w
+fault_of w (Ok (m ∷ ms)) = []
+fault_of w (Err why) = glob_fault w why
 
--- the log that was found, if it was
-abbrev pub found_by : Log → Sight → List FoundLog
-found_by log (Saw seen) = record { log = log; seen = seen } ∷ []
-found_by log _ = []
+-- ---- all words
 
-abbrev pub found_of : List Log → List Sight → List FoundLog
-found_of (log ∷ logs) (s ∷ sights) = found_by log s ++ found_of logs sights
+abbrev pub found_of : List Word → List WordSight → List FoundLog
+found_of (w ∷ ws) (s ∷ ss) = found_by w s ++ found_of ws ss
 found_of _ _ = []
 
--- Some sights found these of the logs.
-pub record AreFoundOf (logs : List Log) (found : List FoundLog) : Type 0 where
-  pub sights : List Sight
-  pub as_many : length sights ≡ length logs
-  pub found_are : found ≡ found_of logs sights
+abbrev pub faults_of : List Word → List WordSight → List Fault
+faults_of (w ∷ ws) (s ∷ ss) = fault_of w s ++ faults_of ws ss
+faults_of _ _ = []
 
--- The looks at the paths of these logs came to some sights, one for each: the faults and the logs that were added are theirs.
-pub record LookedAt (logs : List Log) (faults all_faults : List Fault) (found all_found : List FoundLog) (ts : List Entry) : Type 0 where
-  pub sights : List Sight
-  pub as_many : length sights ≡ length logs
-  pub looks : ts ≡ looks_of logs sights
-  pub faults_are : all_faults ≡ faults ++ faults_of logs sights
-  pub found_are : all_found ≡ found ++ found_of logs sights
+-- ---- looks and listings
 
--- Where there was no memory, the first of them were looked at.
-pub record LookedAtSome (logs : List Log) (ts : List Entry) : Type 0 where
-  pub sights : List Sight
-  pub few : length sights ≤ length logs
-  pub looks : ts ≡ looks_of (take (length sights) logs) sights
+-- those of a word, where there is room for so many logs
+abbrev pub ShowsWord : Word → ℕ → WordSight → List Entry → Type 0
+ShowsWord w room (Ok found) ts = Comes w.text room (Ok found) ts
+ShowsWord w room (Err why) ts = Stopped w.text room why ts
+
+-- The same of each word, in order. A run finds 16,384 logs at most: the room of a word is what those that were found before it leave of this number.
+abbrev pub ShowWords : ℕ → List Word → List WordSight → List Entry → Type 0
+ShowWords before [] [] ts = ts ≡ []
+ShowWords before (w ∷ ws) (s ∷ ss) ts = Then (ShowsWord w (16_384 - before) s) (ShowWords (before + length (found_by w s)) ws ss) ts
+ShowWords before _ _ ts = ⊥
+
+-- it wasn't cut off by want of memory
+abbrev pub WordHadMemory : WordSight → Type 0
+WordHadMemory (Err stop.Memory) = ⊥
+WordHadMemory _ = Unit {0}
+
+abbrev pub WordsHadMemory : List WordSight → Type 0
+WordsHadMemory [] = Unit {0}
+WordsHadMemory (s ∷ ss) = WordHadMemory s × WordsHadMemory ss
+
+-- Some sights found these logs.
+pub record AreFoundOf (words : List Word) (found : List FoundLog) : Type 0 where
+  pub sights : List WordSight
+  pub found_are : found ≡ found_of words sights
+
+-- These words came to some sights, one for each: the faults and the logs that were added are theirs.
+pub record LookedAt (words : List Word) (faults all_faults : List Fault) (found all_found : List FoundLog) (ts : List Entry) : Type 0 where
+  pub sights : List WordSight
+  pub had_memory : WordsHadMemory sights
+  pub shown : ShowWords (length found) words sights ts
+  pub faults_are : all_faults ≡ faults ++ faults_of words sights
+  pub found_are : all_found ≡ found ++ found_of words sights
+
+-- Where there was no memory, the first of them were looked at, the last maybe in part; so many logs were found before.
+pub record LookedAtSome (before : ℕ) (words : List Word) (ts : List Entry) : Type 0 where
+  pub sights : List WordSight
+  pub few : length sights ≤ length words
+  pub shown : ShowWords before (take (length sights) words) sights ts

@@ -6,7 +6,6 @@ ghost use Rattle.lr_plan.specs.Counted.{AddsFaults};
 ghost use Rattle.lr_looks.specs.Internal.{AreReady};
 ghost use Rattle.lr_looks.specs.Shown.{LooksAtAll, ShowsSomeLooks};
 
-use crate::asking::asked;
 use crate::families::look_at_families;
 use crate::keeping::keep;
 use crate::words::look_at_words;
@@ -15,8 +14,8 @@ use lr_plan::Looks;
 use lr_rules::{Fault, Memory, Path, Rules};
 use std::alloc::Global;
 
-/// Looks at the logs that the rules ask for, and at the families of those that are kept: for each definition its logs that
-/// were looked at whole. The faults of the others are added: those of the words, of the choice, of the kinds and of the
+/// Looks at what the words of the rules give, and at the families of the logs that are kept: for each definition its logs
+/// that were looked at whole. The faults of the others are added: those of the words, of the choice, of the kinds and of the
 /// families, in this order. No log is kept of which a name is one of the reserved paths.
 pub fn look_all<H: Host>(
     alloc: Global,
@@ -33,8 +32,7 @@ pub fn look_all<H: Host>(
     ensures counted { IfOk result (λ looks. AddsFaults faults.old.items faults.new.items (H.counts host.old) (H.counts host.new)) }
     ensures counts { Onward (H.counts host.old) (H.counts host.new) }
 {
-    let logs = asked(alloc, rules)?;
-    let found = look_at_words(alloc, host, logs, faults)?;
+    let found = look_at_words(alloc, host, rules, faults)?;
     let kept = keep(alloc, found, reserved, faults)?;
     look_at_families(alloc, host, kept, rules.sets.len(), faults)
 }

@@ -15,7 +15,6 @@ ghost use Rattle.lr_looks.specs.Sets.{HaveLooks};
 use crate::found::Found;
 use crate::listing::listing_at;
 use crate::listings::Listings;
-use crate::log::Asked;
 use indexmap::IndexMap;
 use lr_family::{Family, Stand, StandStop};
 use lr_host::Host;
@@ -70,15 +69,19 @@ fn add_look(
     found: Found,
     stand: Stand,
 ) -> Result<(), Memory>
-    requires set { found.asked.set < length sets.old.items }
+    requires set { found.set < length sets.old.items }
     requires numbers { HasNumbers (found_in found) }
-    requires named { AreNamed found.asked.family.naming stand.members }
+    requires named { AreNamed found.family.naming stand.members }
     ensures looked { OnOk result (AddsLooked (looked_at (found_in found) stand ∷ []) sets.old.items sets.new.items) }
     ensures many { OnOk result (length sets.new.items ≡ length sets.old.items) }
     ensures ready { OnOk result (AreReady sets.old.items → AreReady sets.new.items) }
 {
-    let Found { asked, seen } = found;
-    let Asked { set, family, .. } = asked;
+    let Found {
+        set,
+        family,
+        seen,
+        ..
+    } = found;
     let path = family.log().copy(alloc)?;
     sets[set].logs.push(LogLook {
         path,
@@ -99,7 +102,7 @@ fn look_at_family<H: Host>(
     faults: &mut Vec<Fault>,
 ) -> Result<(), Memory>
     requires known { AreListings listings.old }
-    requires set { found.asked.set < length sets.old.items }
+    requires set { found.set < length sets.old.items }
     requires numbers { HasNumbers (found_in found) }
     ensures told { OnOk result (AddsFamily listings.old.taken.items listings.new.taken.items (found_in found) faults.old.items faults.new.items sets.old.items sets.new.items (H.told host.old) (H.told host.new)) }
     ensures some { OnErr result (Left (LookedAtSomeFamilies listings.old.taken.items (found_in found ∷ [])) (H.told host.old) (H.told host.new)) }
@@ -109,7 +112,7 @@ fn look_at_family<H: Host>(
     ensures counted { OnOk result (AddsFaults faults.old.items faults.new.items (H.counts host.old) (H.counts host.new)) }
     ensures counts { Onward (H.counts host.old) (H.counts host.new) }
 {
-    match stand_at(alloc, host, listings, &found.asked.family) {
+    match stand_at(alloc, host, listings, &found.family) {
         Ok(stand) => add_look(alloc, sets, found, stand),
         Err(why) => add_stop(faults, why),
     }
@@ -163,7 +166,7 @@ fn paths_of(alloc: Global, found: &[Found]) -> Result<Listed<Path>, Memory>
 {
     let mut paths = Vec::new(alloc);
     for item in found {
-        paths.push(item.asked.family.log().copy(alloc)?)?;
+        paths.push(item.family.log().copy(alloc)?)?;
     }
     Ok(Listed::from_vec(paths))
 }

@@ -3,7 +3,7 @@ ghost use Rattle.std.specs.Prelude.{◌≡◌, ◌<◌, ◌++◌, OnOk, IfOk, le
 ghost use Rattle.lr_rules.specs.declared.fault.Fault.TheVariants as fault;
 ghost use Rattle.std.specs.List.{flat_map};
 ghost use Rattle.lr_looks.specs.Found.{found_in, all_found_in};
-ghost use Rattle.lr_looks.specs.Choices.{names_of, found_names, duplicate, overlap, barred, choice_fault, choice_faults, where_kept, kept_of, kind_fault, where_file, IsChoiceAmong, Keeps};
+ghost use Rattle.lr_looks.specs.Choices.{names_of, found_names, is_wild, duplicate, overlap, barred, choice_fault, choice_faults, where_kept, kept_of, kind_fault, where_file, IsChoiceAmong, Keeps};
 ghost use Rattle.lr_looks.specs.Internal.{IsWithin, AreWithin};
 
 use crate::found::Found;
@@ -19,9 +19,20 @@ fn families_of<'a>(alloc: Global, found: &'a [Found]) -> Result<Vec<&'a Family>,
 {
     let mut families = Vec::new(alloc);
     for item in found {
-        families.push(&item.asked.family)?;
+        families.push(&item.family)?;
     }
     Ok(families)
+}
+
+// Which of the logs a wildcard gave.
+fn wild_of(alloc: Global, found: &[Found]) -> Result<Vec<bool>, Memory>
+    ensures { IfOk result (λ wild. wild.items ≡ map is_wild (all_found_in found.now)) }
+{
+    let mut wild = Vec::new(alloc);
+    for item in found {
+        wild.push(item.wild)?;
+    }
+    Ok(wild)
 }
 
 // The choices among logs.
@@ -29,7 +40,8 @@ fn choices_among(alloc: Global, found: &[Found], reserved: &[Path]) -> Result<Ve
     ensures { IfOk result (λ choices. IsChoiceAmong reserved.now (all_found_in found.now) choices.items) }
 {
     let families = families_of(alloc, found)?;
-    choose(alloc, &families, reserved)
+    let wild = wild_of(alloc, found)?;
+    choose(alloc, &families, &wild, reserved)
 }
 
 // Adds the fault of a log whose path was found before, unless it goes silently.
@@ -41,8 +53,8 @@ fn add_duplicate(
 ) -> Result<(), Memory>
     ensures { OnOk result (faults.new.items ≡ faults.old.items ++ duplicate (found_in item.now) (Some (found_in first.now))) }
 {
-    if !first.asked.ignore_duplicates {
-        let path = item.asked.family.log().copy(alloc)?;
+    if !first.ignore_duplicates {
+        let path = item.family.log().copy(alloc)?;
         faults.push(Fault::Duplicate(path))?;
     }
     Ok(())
@@ -57,8 +69,8 @@ fn add_overlap(
 ) -> Result<(), Memory>
     ensures { OnOk result (faults.new.items ≡ faults.old.items ++ overlap (found_in item.now) (Some (found_in other.now))) }
 {
-    let path = item.asked.family.log().copy(alloc)?;
-    let met = other.asked.family.log().copy(alloc)?;
+    let path = item.family.log().copy(alloc)?;
+    let met = other.family.log().copy(alloc)?;
     faults.push(Fault::Overlap(path, met))?;
     Ok(())
 }
@@ -72,7 +84,7 @@ fn add_barred(
 ) -> Result<(), Memory>
     ensures { OnOk result (faults.new.items ≡ faults.old.items ++ barred (found_in item.now) (Some path.now)) }
 {
-    let log = item.asked.family.log().copy(alloc)?;
+    let log = item.family.log().copy(alloc)?;
     let path = path.copy(alloc)?;
     faults.push(Fault::Overlap(log, path))?;
     Ok(())
@@ -93,6 +105,7 @@ fn add_choice(
     match choice {
         Choice::Kept => Ok(()),
         Choice::Again(first) => add_duplicate(alloc, faults, item, &found[first]),
+        Choice::MemberOf(_) => Ok(()),
         Choice::Reserved(path) => add_barred(alloc, faults, item, &reserved[path]),
         Choice::Meets(other) => add_overlap(alloc, faults, item, &found[other]),
     }
@@ -124,9 +137,9 @@ fn add_left(left: &mut Vec<Found>, item: Found) -> Result<(), Memory>
 }
 
 fn add_wrong_kind(alloc: Global, faults: &mut Vec<Fault>, item: &Found) -> Result<(), Memory>
-    ensures { OnOk result (faults.new.items ≡ faults.old.items ++ fault.NotFile item.now.asked.family.log ∷ []) }
+    ensures { OnOk result (faults.new.items ≡ faults.old.items ++ fault.NotFile item.now.family.log ∷ []) }
 {
-    let path = item.asked.family.log().copy(alloc)?;
+    let path = item.family.log().copy(alloc)?;
     faults.push(Fault::NotFile(path))?;
     Ok(())
 }
@@ -161,6 +174,7 @@ fn add_item(
     match choice {
         Choice::Kept => add_kept(alloc, left, faults, item),
         Choice::Again(_) => Ok(()),
+        Choice::MemberOf(_) => Ok(()),
         Choice::Reserved(_) => Ok(()),
         Choice::Meets(_) => Ok(()),
     }
@@ -186,8 +200,9 @@ fn files_of(
     Ok(left)
 }
 
-/// Keeps of the logs that were found those that a run rotates: of each path the first, unless one of its names is reserved,
-/// or they meet those of a log that is kept before it, and only regular files. The faults of the others are added:
+/// Keeps of the logs that were found those that a run rotates: of each path the first, unless a wildcard gave it and it is
+/// that of a member of another, one of its names is reserved, or they meet those of a log that is kept before it, and only
+/// regular files. The faults of the others are added:
 /// `Duplicate`, `Overlap`, with the reserved path or that of the log kept before, `NotFile`.
 pub fn keep(
     alloc: Global,

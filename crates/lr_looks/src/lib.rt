@@ -3,30 +3,26 @@
 //! The contract above it: what the looks came to is one value, and the logs that are left and the faults are functions of
 //! it. Faults come in this order: of the words (`specs/Sights.antt`), then of the choice, then of the kinds
 //! (`specs/Choices.antt`), then of the families (`specs/Families.antt`). `specs/Internal.antt` is for proofs. Begin with
-//! `asked`:
+//! `look_at_words`:
 //!
 //! ```text
-//! let logs = asked(alloc, &rules)?;                                   // the logs that the words ask for
-//! let found = look_at_words(alloc, &mut host, logs, &mut faults)?;    // what stands at their paths
+//! let found = look_at_words(alloc, &mut host, &rules, &mut faults)?;  // what the words give
 //! let kept = keep(alloc, found, &reserved, &mut faults)?;             // the regular files that are to be rotated
 //! let stood = look_at_families(alloc, &mut host, kept, &mut faults)?; // what stands of their families
 //! ```
 #![tactic(auto)]
 
 mod all;
-mod asking;
 mod families;
 mod found;
 mod keeping;
 mod listing;
 mod listings;
-mod log;
+mod naming;
 mod words;
 
 pub use all::look_all;
-pub use asking::asked;
 pub use families::look_at_families;
 pub use found::Found;
 pub use keeping::keep;
-pub use log::Asked;
 pub use words::look_at_words;

@@ -1,102 +1,266 @@
-// The looks at the words' paths.
-ghost use Rattle.std.specs.Prelude.{◌≡◌, ◌++◌, ◌∷◌, [], OnOk, OnErr, IfOk};
-ghost use Rattle.lr_host.specs.Told.{Left, Onward};
-ghost use Rattle.lr_looks.specs.Asked.{log_in, logs_in};
+// The looks at what the words give.
+ghost use Rattle.std.specs.Prelude.{◌≡◌, ◌≢◌, ◌-◌, ◌++◌, ◌∷◌, [], false, Ok, Err, map, length, OnOk, OnErr, IfOk, IfErr};
+ghost use Rattle.std.specs.List.{list_any};
+ghost use Rattle.lr_host.specs.Told.{Left, Onward, Rose};
+ghost use Rattle.lr_glob.specs.Sights.{is_long};
+ghost use Rattle.lr_glob.specs.Stops.{IsFailedCall};
+ghost use Rattle.lr_glob.specs.Words.{Comes, Stopped};
+ghost use Rattle.lr_glob.specs.declared.found.GlobStop.TheVariants as stop;
+ghost use Rattle.lr_looks.specs.Asked.{CanAsk, CanAskAll, AreTexts, word_of, words_of, asked_by};
 ghost use Rattle.lr_plan.specs.Counted.{AddsFaults};
-ghost use Rattle.lr_looks.specs.Found.{all_found_in};
-ghost use Rattle.lr_looks.specs.Sights.{Sight, Failed, Nothing, Saw, sight_of, fault_of, found_by, AreFoundOf, LookedAt, LookedAtSome};
+ghost use Rattle.lr_looks.specs.Found.{all_found_in, HasLogPath, HaveLogPaths};
+ghost use Rattle.lr_looks.specs.Sights.{WordSight, found_at, found_by, missing, glob_fault, fault_of, AreFoundOf, LookedAt, LookedAtSome};
+ghost use Rattle.lr_looks.specs.Internal.{AddsFound};
 
 use crate::found::Found;
-use crate::log::Asked;
-use lr_host::{Host, Seen};
-use lr_rules::{CallKind, Fault, Memory};
+use crate::naming::family_at;
+use lr_glob::{Found as Match, GlobStop, expand};
+use lr_host::Host;
+use lr_rules::{Fault, Memory, Rule, Rules, Text};
+use lr_words::is_wildcard;
 use std::alloc::Global;
 
-// Adds a log that was found.
-fn add_found(found: &mut Vec<Found>, asked: Asked, seen: Seen) -> Result<(), Memory>
-    ensures { OnOk result (all_found_in found.new.items ≡ all_found_in found.old.items ++ found_by (log_in asked) (Saw seen)) }
+// A run finds so many logs at most.
+const MOST_LOGS: usize = 16_384;
+
+// ---- what a word gives
+
+fn is_long(at: &Match) -> bool
+    ensures { result ≡ is_long at.now }
 {
-    found.push(Found { asked, seen })?;
-    Ok(())
+    !(at.path.bytes().len() <= 2048 && at.path.last().len() <= 255)
 }
 
-// Adds the fault of a log at whose path nothing stands, unless its rule lets it be missing.
-fn add_missing(faults: &mut Vec<Fault>, asked: Asked) -> Result<(), Memory>
-    ensures { OnOk result (faults.new.items ≡ faults.old.items ++ fault_of (log_in asked) Nothing) }
+fn any_long(matches: &[Match]) -> bool
+    ensures { result ≡ list_any is_long matches.now }
 {
-    let Asked {
-        word,
-        missingok,
-        ..
-    } = asked;
-    if !missingok {
-        faults.push(Fault::Missing(word))?;
+    matches.iter().any(|at| is_long(at))
+}
+
+// What the word gives. `expand` says of paths that are too long only what it tells; so it is asked again of each path.
+fn matches_of<H: Host>(
+    alloc: Global,
+    host: &mut H,
+    word: &Text,
+    room: usize,
+) -> Result<Vec<Match>, GlobStop>
+    ensures told { IfOk result (λ matches. Left (Comes word.now room (Ok matches.items)) (H.told host.old) (H.told host.new)) }
+    ensures stopped { IfErr result (λ why. Left (Stopped word.now room why) (H.told host.old) (H.told host.new)) }
+    ensures short { IfOk result (λ matches. list_any is_long matches.items ≡ false) }
+    ensures cause { IfErr result (λ why. IsFailedCall why → Rose (H.counts host.old).faults (H.counts host.new).faults) }
+    ensures counts { Onward (H.counts host.old) (H.counts host.new) }
+{
+    match expand(alloc, host, word, room) {
+        Ok(matches) => {
+            if any_long(&matches) {
+                return Err(GlobStop::LongName);
+            }
+            Ok(matches)
+        }
+        Err(why) => Err(why),
+    }
+}
+
+// ---- faults
+
+// Adds the fault of a word that gives nothing, unless its rule lets its logs be missing.
+fn add_missing(
+    alloc: Global,
+    faults: &mut Vec<Fault>,
+    set: usize,
+    rule: &Rule,
+    word: &Text,
+) -> Result<(), Memory>
+    ensures { OnOk result (faults.new.items ≡ faults.old.items ++ missing (word_of set rule.now word.now)) }
+{
+    if !rule.missingok {
+        faults.push(Fault::Missing(word.copy(alloc)?))?;
     }
     Ok(())
 }
 
-// Adds the fault of a look that failed.
-fn add_failed(alloc: Global, faults: &mut Vec<Fault>, asked: &Asked) -> Result<(), Memory>
-    ensures { OnOk result (faults.new.items ≡ faults.old.items ++ fault_of (log_in asked.now) Failed) }
+// Adds the fault of a word of which it isn't known what it gives, or too much.
+fn add_stop(
+    alloc: Global,
+    faults: &mut Vec<Fault>,
+    set: usize,
+    rule: &Rule,
+    word: &Text,
+    why: GlobStop,
+) -> Result<(), Memory>
+    ensures faults { OnOk result (faults.new.items ≡ faults.old.items ++ glob_fault (word_of set rule.now word.now) why) }
+    ensures known { OnOk result (why ≢ stop.Memory) }
 {
-    let path = asked.family.log().copy(alloc)?;
-    faults.push(Fault::Call(CallKind::Look, path))?;
+    match why {
+        GlobStop::Call(kind, path) => {
+            faults.push(Fault::Call(kind, path))?;
+            Ok(())
+        }
+        GlobStop::LongName => {
+            faults.push(Fault::LongName(word.copy(alloc)?))?;
+            Ok(())
+        }
+        GlobStop::TooMany => {
+            faults.push(Fault::TooMany(word.copy(alloc)?))?;
+            Ok(())
+        }
+        GlobStop::Memory => Err(Memory),
+    }
+}
+
+// ---- logs
+
+// Adds a log that the word gives.
+fn add_log(
+    alloc: Global,
+    found: &mut Vec<Found>,
+    set: usize,
+    rule: &Rule,
+    word: &Text,
+    at: Match,
+) -> Result<(), Memory>
+    requires rule { CanAsk rule.now }
+    requires short { is_long at ≡ false }
+    ensures found { OnOk result (all_found_in found.new.items ≡ all_found_in found.old.items ++ found_at (word_of set rule.now word.now) at ∷ []) }
+    ensures path { OnOk result (HasLogPath (found_at (word_of set rule.now word.now) at)) }
+{
+    let Match { path, seen } = at;
+    let family = family_at(alloc, path, rule.start)?;
+    found.push(Found {
+        set,
+        family,
+        seen,
+        wild: is_wildcard(word.bytes()),
+        ignore_duplicates: rule.ignore_duplicates,
+    })?;
     Ok(())
 }
 
-// Adds the log to those that were found, or its fault, where the look didn't fail.
-fn add_look(
+// Adds the logs that the word gives.
+fn add_logs(
+    alloc: Global,
+    found: &mut Vec<Found>,
+    set: usize,
+    rule: &Rule,
+    word: &Text,
+    matches: Vec<Match>,
+) -> Result<(), Memory>
+    requires rule { CanAsk rule.now }
+    requires short { list_any is_long matches.items ≡ false }
+    ensures found { OnOk result (all_found_in found.new.items ≡ all_found_in found.old.items ++ map (found_at (word_of set rule.now word.now)) matches.items) }
+    ensures paths { OnOk result (HaveLogPaths (all_found_in found.old.items) → HaveLogPaths (all_found_in found.new.items)) }
+{
+    for at in matches {
+        add_log(alloc, found, set, rule, word, at)?;
+    }
+    Ok(())
+}
+
+// Adds the logs that the word gives, or the fault of a word that gives nothing.
+fn add_matches(
+    alloc: Global,
     found: &mut Vec<Found>,
     faults: &mut Vec<Fault>,
-    asked: Asked,
-    look: Option<Seen>,
+    set: usize,
+    rule: &Rule,
+    word: &Text,
+    matches: Vec<Match>,
 ) -> Result<(), Memory>
-    ensures faults { OnOk result (faults.new.items ≡ faults.old.items ++ fault_of (log_in asked) (sight_of look)) }
-    ensures found { OnOk result (all_found_in found.new.items ≡ all_found_in found.old.items ++ found_by (log_in asked) (sight_of look)) }
+    requires rule { CanAsk rule.now }
+    requires short { list_any is_long matches.items ≡ false }
+    ensures faults { OnOk result (faults.new.items ≡ faults.old.items ++ fault_of (word_of set rule.now word.now) (Ok matches.items)) }
+    ensures found { OnOk result (all_found_in found.new.items ≡ all_found_in found.old.items ++ found_by (word_of set rule.now word.now) (Ok matches.items)) }
+    ensures paths { OnOk result (HaveLogPaths (all_found_in found.old.items) → HaveLogPaths (all_found_in found.new.items)) }
 {
-    match look {
-        Some(seen) => add_found(found, asked, seen),
-        None => add_missing(faults, asked),
+    if matches.is_empty() {
+        return add_missing(alloc, faults, set, rule, word);
     }
+    add_logs(alloc, found, set, rule, word, matches)
 }
 
-// Looks at the path of a log: adds it to those that were found, or its fault.
+// ---- words
+
+// So many more logs may be found behind these.
+fn room_behind(found: &[Found]) -> usize
+    ensures { result ≡ 16_384 - length found.now }
+{
+    MOST_LOGS.saturating_sub(found.len())
+}
+
+// Looks at what a word gives: adds its logs to those that were found, or its fault.
 fn look_at_word<H: Host>(
     alloc: Global,
     host: &mut H,
-    asked: Asked,
+    set: usize,
+    rule: &Rule,
+    word: &Text,
     found: &mut Vec<Found>,
     faults: &mut Vec<Fault>,
 ) -> Result<(), Memory>
-    ensures told { OnOk result (Left (LookedAt (log_in asked ∷ []) faults.old.items faults.new.items (all_found_in found.old.items) (all_found_in found.new.items)) (H.told host.old) (H.told host.new)) }
-    ensures some { OnErr result (Left (LookedAtSome (log_in asked ∷ [])) (H.told host.old) (H.told host.new)) }
-    ensures found { OnOk result ((s : Sight) × (all_found_in found.new.items ≡ all_found_in found.old.items ++ found_by (log_in asked) s)) }
+    requires { CanAsk rule.now }
+    ensures told { OnOk result (Left (LookedAt (word_of set rule.now word.now ∷ []) faults.old.items faults.new.items (all_found_in found.old.items) (all_found_in found.new.items)) (H.told host.old) (H.told host.new)) }
+    ensures some { OnErr result (Left (LookedAtSome (length (all_found_in found.old.items)) (word_of set rule.now word.now ∷ [])) (H.told host.old) (H.told host.new)) }
+    ensures found { OnOk result (AddsFound (word_of set rule.now word.now ∷ []) (all_found_in found.old.items) (all_found_in found.new.items)) }
+    ensures paths { OnOk result (HaveLogPaths (all_found_in found.old.items) → HaveLogPaths (all_found_in found.new.items)) }
+    ensures text { OnOk result (AreTexts (word_of set rule.now word.now ∷ [])) }
     ensures counted { OnOk result (AddsFaults faults.old.items faults.new.items (H.counts host.old) (H.counts host.new)) }
     ensures counts { Onward (H.counts host.old) (H.counts host.new) }
 {
-    match host.look(asked.family.log(), false) {
-        Ok(look) => add_look(found, faults, asked, look),
-        Err(_) => add_failed(alloc, faults, &asked),
+    let _text = word.bytes();
+    let room = room_behind(found.as_slice());
+    match matches_of(alloc, host, word, room) {
+        Ok(matches) => add_matches(alloc, found, faults, set, rule, word, matches),
+        Err(why) => add_stop(alloc, faults, set, rule, word, why),
     }
 }
 
-/// Looks at the paths of these logs, in order, without following links: the logs at whose paths something stands, of any
-/// kind. The faults of the others are added.
+// Looks at what the words of a rule give, in order.
+fn look_at_rule<H: Host>(
+    alloc: Global,
+    host: &mut H,
+    set: usize,
+    rule: &Rule,
+    found: &mut Vec<Found>,
+    faults: &mut Vec<Fault>,
+) -> Result<(), Memory>
+    requires { CanAsk rule.now }
+    ensures told { OnOk result (Left (LookedAt (words_of set rule.now) faults.old.items faults.new.items (all_found_in found.old.items) (all_found_in found.new.items)) (H.told host.old) (H.told host.new)) }
+    ensures some { OnErr result (Left (LookedAtSome (length (all_found_in found.old.items)) (words_of set rule.now)) (H.told host.old) (H.told host.new)) }
+    ensures found { OnOk result (AddsFound (words_of set rule.now) (all_found_in found.old.items) (all_found_in found.new.items)) }
+    ensures paths { OnOk result (HaveLogPaths (all_found_in found.old.items) → HaveLogPaths (all_found_in found.new.items)) }
+    ensures texts { OnOk result (AreTexts (words_of set rule.now)) }
+    ensures counted { OnOk result (AddsFaults faults.old.items faults.new.items (H.counts host.old) (H.counts host.new)) }
+    ensures counts { Onward (H.counts host.old) (H.counts host.new) }
+{
+    for word in rule.words.as_slice() {
+        look_at_word(alloc, host, set, rule, word, found, faults)?;
+    }
+    Ok(())
+}
+
+/// Looks at what the words of the rules give, in order of rules and words, without following links at the paths
+/// themselves: of a literal word what stands at its one path, of any kind; of a wildcard the regular files that it
+/// matches, in order of bytes. The faults of the others are added: `Missing`, `LongName` and `TooMany` with the word,
+/// `Call` with the path. A run finds 16,384 logs at most.
 pub fn look_at_words<H: Host>(
     alloc: Global,
     host: &mut H,
-    logs: Vec<Asked>,
+    rules: &Rules,
     faults: &mut Vec<Fault>,
 ) -> Result<Vec<Found>, Memory>
-    ensures told { IfOk result (λ found. Left (LookedAt (logs_in logs.items) faults.old.items faults.new.items [] (all_found_in found.items)) (H.told host.old) (H.told host.new)) }
-    ensures some { OnErr result (Left (LookedAtSome (logs_in logs.items)) (H.told host.old) (H.told host.new)) }
-    ensures found { IfOk result (λ found. AreFoundOf (logs_in logs.items) (all_found_in found.items)) }
+    requires { CanAskAll rules.now.sets }
+    ensures told { IfOk result (λ found. Left (LookedAt (asked_by rules.now.sets) faults.old.items faults.new.items [] (all_found_in found.items)) (H.told host.old) (H.told host.new)) }
+    ensures some { OnErr result (Left (LookedAtSome 0 (asked_by rules.now.sets)) (H.told host.old) (H.told host.new)) }
+    ensures found { IfOk result (λ found. AreFoundOf (asked_by rules.now.sets) (all_found_in found.items)) }
+    ensures paths { IfOk result (λ found. HaveLogPaths (all_found_in found.items)) }
+    ensures texts { OnOk result (AreTexts (asked_by rules.now.sets)) }
     ensures counted { OnOk result (AddsFaults faults.old.items faults.new.items (H.counts host.old) (H.counts host.new)) }
     ensures counts { Onward (H.counts host.old) (H.counts host.new) }
 {
     let mut found = Vec::new(alloc);
-    for asked in logs {
-        look_at_word(alloc, host, asked, &mut found, faults)?;
+    let sets = rules.sets.as_slice();
+    for set in 0..sets.len() {
+        look_at_rule(alloc, host, set, &sets[set], &mut found, faults)?;
     }
     Ok(found)
 }

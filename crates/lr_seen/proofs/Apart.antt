@@ -13,13 +13,13 @@ use Rattle.lr_host.specs.declared.entry.Entry.{Entry}
 use Rattle.lr_host.specs.Lists.{IsIn}
 use Rattle.lr_family.specs.declared.family.Family.{Family}
 use Rattle.lr_kept.specs.declared.choice.Choice.{Choice}
-use Rattle.lr_kept.specs.declared.choice.Choice.TheVariants.{Kept, Again, Reserved, Meets}
+use Rattle.lr_kept.specs.declared.choice.Choice.TheVariants.{Kept, Again, MemberOf, Reserved, Meets}
 use Rattle.lr_kept.specs.Chosen.{IsKept}
 use Rattle.lr_kept.proofs.Finding.{meet_back}
 use Rattle.lr_plan.specs.declared.looks.LogLook.{LogLook}
 use Rattle.lr_plan.specs.declared.looks.SetLooks.{SetLooks}
 use Rattle.lr_plan.specs.Planned.{hindrances, where_due}
-use Rattle.lr_looks.specs.Choices.{names_of, found_names, IsChoiceAmong, kept_of, is_file, where_file}
+use Rattle.lr_looks.specs.Choices.{names_of, found_names, is_wild, IsChoiceAmong, kept_of, is_file, where_file}
 use Rattle.lr_looks.specs.Families.{FamilySight, Stood, Stopped, LookedLog, looked_at, looked_of}
 use Rattle.lr_looks.specs.Found.{FoundLog}
 use Rattle.lr_looks.specs.Sets.{where_in, of_set, looked_in, HaveLooksFrom}
@@ -72,7 +72,7 @@ choice_off {reserved} found choices c i k f g lt at_f at_g kept_f kept_g = (
     other : (b : Bor Family) × (slice_get c.logs k ≡ Some b) × (names_of b ≡ found_names g)
     other = unmap_at names_of c.logs k (found_names g) (ap (λ (xs : List (Path × Naming)). slice_get xs k) c.same ∙ map_at found_names found k g at_g)
 
-    kept : IsKept c.logs reserved choices k
+    kept : IsKept c.logs (map is_wild found) reserved choices k
     kept = c.chosen.each k Kept kept_g
 
     met : Meet f.log.path f.log.naming g.log.path g.log.naming → ⊥
@@ -95,8 +95,13 @@ kept_each P [] (c ∷ cs) h = tt
 kept_each P (f ∷ fs) [] h = tt
 kept_each P (f ∷ fs) (Kept ∷ cs) h = (h 0 f refl refl, kept_each P fs cs (λ k g. h (suc k) g))
 kept_each P (f ∷ fs) (Again i ∷ cs) h = kept_each P fs cs (λ k g. h (suc k) g)
+kept_each P (f ∷ fs) (MemberOf i ∷ cs) h = kept_each P fs cs (λ k g. h (suc k) g)
 kept_each P (f ∷ fs) (Reserved i ∷ cs) h = kept_each P fs cs (λ k g. h (suc k) g)
 kept_each P (f ∷ fs) (Meets i ∷ cs) h = kept_each P fs cs (λ k g. h (suc k) g)
+
+-- a log that is kept stands at such a place
+pub kept_at : (fs : List FoundLog) (cs : List Choice) (g : FoundLog) → IsIn g (kept_of fs cs) → (k : ℕ) × (slice_get fs k ≡ Some g) × (slice_get cs k ≡ Some Kept)
+kept_at fs cs g i = in_each (λ (f : FoundLog). (k : ℕ) × (slice_get fs k ≡ Some f) × (slice_get cs k ≡ Some Kept)) (kept_of fs cs) g (kept_each (λ (f : FoundLog). (k : ℕ) × (slice_get fs k ≡ Some f) × (slice_get cs k ≡ Some Kept)) fs cs (λ k f at kept. (k, at, kept))) i
 
 kept_pairs : (fs : List FoundLog) (cs : List Choice) → AreOff fs cs → Pairs OffFound (kept_of fs cs)
 kept_pairs [] [] h = tt
@@ -104,6 +109,7 @@ kept_pairs [] (c ∷ cs) h = tt
 kept_pairs (f ∷ fs) [] h = tt
 kept_pairs (f ∷ fs) (Kept ∷ cs) h = (kept_each (OffFound f) fs cs (λ k g at is. h 0 (suc k) f g (omega arith) refl at refl is), kept_pairs fs cs (λ i k a b lt. h (suc i) (suc k) a b (omega arith)))
 kept_pairs (f ∷ fs) (Again j ∷ cs) h = kept_pairs fs cs (λ i k a b lt. h (suc i) (suc k) a b (omega arith))
+kept_pairs (f ∷ fs) (MemberOf j ∷ cs) h = kept_pairs fs cs (λ i k a b lt. h (suc i) (suc k) a b (omega arith))
 kept_pairs (f ∷ fs) (Reserved j ∷ cs) h = kept_pairs fs cs (λ i k a b lt. h (suc i) (suc k) a b (omega arith))
 kept_pairs (f ∷ fs) (Meets j ∷ cs) h = kept_pairs fs cs (λ i k a b lt. h (suc i) (suc k) a b (omega arith))
 

@@ -1,33 +1,32 @@
--- Where a target comes from: a look of the plan that nothing hinders, a log that was looked at whole, and a word of its rule.
-use Rattle.std.proofs.Common.{◌≡◌, inl, inr, ⊎_elim, ℕ, zero, suc, ◌+◌, Bool, true, false, cond, eqb, List, [], ◌∷◌, map, Some, slice_get, refl, sym, ap, ◌∙◌, subst, arith}
+-- Where a target comes from: a look of the plan that nothing hinders, a log that was looked at whole, and a word of its rule that found it.
+use Rattle.std.proofs.Common.{◌≡◌, inl, inr, ⊎_elim, ℕ, zero, suc, ◌+◌, ◌-◌, Bool, true, false, cond, eqb, List, [], ◌∷◌, ◌++◌, length, map, Some, Ok, Err, slice_get, refl, sym, ap, ◌∙◌, subst, append_assoc, arith}
 use Rattle.std.specs.List.{flat_map}
 use Rattle.lr_rules.specs.declared.fault.Fault.{Fault}
 use Rattle.lr_rules.specs.declared.path.Path.{Path}
 use Rattle.lr_rules.specs.declared.rule.Rule.{Rule}
-use Rattle.lr_rules.specs.Match.{literal_path}
-use Rattle.lr_rules.specs.Names.{naming_of}
 use Rattle.lr_due.specs.declared.answer.Due.{Due}
 use Rattle.lr_due.specs.declared.answer.Due.TheVariants as due
 use Rattle.lr_host.specs.declared.entry.Entry.{Entry}
-use Rattle.lr_host.specs.declared.entry.Entry.TheVariants as entry
 use Rattle.lr_host.specs.declared.thing.Kind.{Kind}
 use Rattle.lr_host.specs.declared.thing.Kind.TheVariants as kind
-use Rattle.lr_host.specs.declared.thing.Seen.{Seen}
 use Rattle.lr_host.specs.Lists.{IsIn}
-use Rattle.lr_host.proofs.Lists.{in_map, in_unmap, in_front, in_append}
+use Rattle.lr_host.proofs.Lists.{in_map, in_unmap, in_front, in_back, in_append}
+use Rattle.lr_glob.specs.declared.found.Found.{Found as Match}
+use Rattle.lr_glob.specs.Words.{Comes as WordComes}
 use Rattle.lr_kept.specs.declared.choice.Choice.{Choice}
-use Rattle.lr_kept.specs.declared.choice.Choice.TheVariants.{Kept, Again, Reserved, Meets}
+use Rattle.lr_kept.specs.declared.choice.Choice.TheVariants.{Kept, Again, MemberOf, Reserved, Meets}
 use Rattle.lr_plan.specs.declared.looks.LogLook.{LogLook}
 use Rattle.lr_plan.specs.declared.looks.SetLooks.{SetLooks}
 use Rattle.lr_plan.specs.Planned.{hindrances, where_due}
-use Rattle.lr_looks.specs.Asked.{Log, log_of, logs_of, logs_from, asked_by}
+use Rattle.lr_looks.specs.Asked.{Word, word_of, words_of, words_from, asked_by}
 use Rattle.lr_looks.specs.Choices.{kept_of, is_file, where_file}
 use Rattle.lr_looks.specs.Families.{FamilySight, Stood, Stopped, LookedLog, looked_at, looked_of}
 use Rattle.lr_looks.specs.Found.{FoundLog}
 use Rattle.lr_looks.specs.Sets.{where_in, of_set, looked_in, HaveLooksFrom}
 use Rattle.lr_looks.specs.Shown.{ShowsLooks}
-use Rattle.lr_looks.specs.Sights.{Sight, Failed, Nothing, Saw, looks_of, found_of}
+use Rattle.lr_looks.specs.Sights.{WordSight, found_at, found_by, found_of, ShowsWord, ShowWords}
 use Rattle.lr_rotations.specs.Target.{Target}
+use Rattle.lr_rotations.specs.Weave.{Among}
 use Rattle.lr_seen.specs.Targets.{target_of, where_free, targets_of, all_targets}
 use Rattle.lr_seen.proofs.Elements.{in_flat}
 
@@ -141,40 +140,76 @@ in_files fs g h =
     let f = in_file r.0 g r.2 in
     (subst (λ (x : FoundLog). IsIn x fs) f.0 r.1, subst (λ (x : FoundLog). x.seen.kind ≡ kind.File) f.0 f.1)
 
-in_kept : (fs : List FoundLog) (cs : List Choice) (g : FoundLog) → IsIn g (kept_of fs cs) → IsIn g fs
+pub in_kept : (fs : List FoundLog) (cs : List Choice) (g : FoundLog) → IsIn g (kept_of fs cs) → IsIn g fs
 in_kept [] [] g h = absurd h
 in_kept [] (c ∷ cs) g h = absurd h
 in_kept (f ∷ fs) [] g h = absurd h
 in_kept (f ∷ fs) (Kept ∷ cs) g (inl e) = inl e
 in_kept (f ∷ fs) (Kept ∷ cs) g (inr i) = inr (in_kept fs cs g i)
 in_kept (f ∷ fs) (Again k ∷ cs) g i = inr (in_kept fs cs g i)
+in_kept (f ∷ fs) (MemberOf k ∷ cs) g i = inr (in_kept fs cs g i)
 in_kept (f ∷ fs) (Reserved k ∷ cs) g i = inr (in_kept fs cs g i)
 in_kept (f ∷ fs) (Meets k ∷ cs) g i = inr (in_kept fs cs g i)
 
--- such a log was asked for, and a look at its path saw it
-in_found : (logs : List Log) (ss : List Sight) (f : FoundLog) → IsIn f (found_of logs ss) → IsIn f.log logs × IsIn (entry.Look f.log.path (Some f.seen)) (looks_of logs ss)
-in_found [] [] f h = absurd h
-in_found [] (s ∷ ss) f h = absurd h
-in_found (log ∷ logs) [] f h = absurd h
-in_found (log ∷ logs) (Failed ∷ ss) f i = let r = in_found logs ss f i in (inr r.0, r.1)
-in_found (log ∷ logs) (Nothing ∷ ss) f i = let r = in_found logs ss f i in (inr r.0, inr r.1)
-in_found (log ∷ logs) (Saw seen ∷ ss) f (inl e) = (inl (ap (λ (g : FoundLog). g.log) e), inl (ap (λ (g : FoundLog). entry.Look g.log.path (Some g.seen)) e))
-in_found (log ∷ logs) (Saw seen ∷ ss) f (inr i) = let r = in_found logs ss f i in (inr r.0, inr r.1)
+-- ---- a word that gives it
 
--- ---- a word of a rule
+-- The log was found by one of these words, whose looks and listings stand among these entries; all that the word gives was found with it.
+pub record IsFoundBy (words : List Word) (ts : List Entry) (all : List FoundLog) (f : FoundLog) : Type 0 where
+  pub word : Word
+  pub among : IsIn word words
+  pub room : ℕ
+  pub matches : List Match
+  pub one : Match
+  pub has : IsIn one matches
+  pub is : f ≡ found_at word one
+  pub shown : Among (WordComes word.text room (Ok matches)) ts
+  pub others : (m : Match) → IsIn m matches → IsIn (found_at word m) all
 
--- The log is that of a word of the rule at this place, where the first of the rules has place k.
-record IsAsked (k : ℕ) (rules : List Rule) (log : Log) : Type 0 where
-  place : ℕ
-  rule : Rule
-  word : List ℕ
-  at : slice_get rules place ≡ Some rule
-  has : IsIn word rule.words
-  is : log ≡ log_of (k + place) rule word
+pub found_by_word : (n : ℕ) (words : List Word) (ss : List WordSight) (ts : List Entry) → ShowWords n words ss ts → (f : FoundLog) → IsIn f (found_of words ss) → IsFoundBy words ts (found_of words ss) f
+found_by_word n [] [] ts h f i = absurd i
+found_by_word n [] (s ∷ ss) ts h f i = absurd i
+found_by_word n (w ∷ ws) [] ts h f i = absurd i
+found_by_word n (w ∷ ws) (s ∷ ss) ts h f i = ⊎_elim (λ (a : IsIn f (found_by w s)). own s refl a) (λ (b : IsIn f (found_of ws ss)). further (found_by_word (n + length (found_by w s)) ws ss h.back h.second f b)) (in_append f (found_by w s) (found_of ws ss) i)
+  where
+    own : (r : WordSight) → s ≡ r → IsIn f (found_by w r) → IsFoundBy (w ∷ ws) ts (found_of (w ∷ ws) (s ∷ ss)) f
+    own (Ok matches) e a =
+        let r = in_unmap (found_at w) f matches a in
+        record {
+          word = w;
+          among = inl refl;
+          room = 16_384 - n;
+          matches = matches;
+          one = r.0;
+          has = r.1;
+          is = sym r.2;
+          shown = record { before = []; part = h.front; after = h.back; joined = h.joined; is = subst (λ (x : WordSight). ShowsWord w (16_384 - n) x h.front) e h.first };
+          others = λ m j. in_front (found_at w m) (found_by w s) (found_of ws ss) (subst (λ (x : WordSight). IsIn (found_at w m) (found_by w x)) (sym e) (in_map (found_at w) m matches j));
+        }
+    own (Err why) e a = absurd a
 
-was_asked : (k : ℕ) (rules : List Rule) (log : Log) → IsIn log (logs_from k rules) → IsAsked k rules log
-was_asked k [] log h = absurd h
-was_asked k (rule ∷ rules) log h = ⊎_elim own (λ b. further (was_asked (k + 1) rules log b)) (in_append log (logs_of k rule) (logs_from (k + 1) rules) h)
+    further : IsFoundBy ws h.back (found_of ws ss) f → IsFoundBy (w ∷ ws) ts (found_of (w ∷ ws) (s ∷ ss)) f
+    further r = record {
+      word = r.word;
+      among = inr r.among;
+      room = r.room;
+      matches = r.matches;
+      one = r.one;
+      has = r.has;
+      is = r.is;
+      shown = record { before = h.front ++ r.shown.before; part = r.shown.part; after = r.shown.after; joined = h.joined ∙ (ap (λ es. h.front ++ es) r.shown.joined ∙ sym (append_assoc h.front r.shown.before (r.shown.part ++ r.shown.after))); is = r.shown.is };
+      others = λ m j. in_back (found_at r.word m) (found_by w s) (found_of ws ss) (r.others m j);
+    }
+
+-- The word is one of the rule at this place, where the first of the rules has place k.
+pub record IsAsked (k : ℕ) (rules : List Rule) (w : Word) : Type 0 where
+  pub place : ℕ
+  pub at : slice_get rules place ≡ Some w.rule
+  pub has : IsIn w.text w.rule.words
+  pub set : w.set ≡ k + place
+
+pub was_asked : (k : ℕ) (rules : List Rule) (w : Word) → IsIn w (words_from k rules) → IsAsked k rules w
+was_asked k [] w h = absurd h
+was_asked k (rule ∷ rules) w h = ⊎_elim own (λ b. further (was_asked (k + 1) rules w b)) (in_append w (words_of k rule) (words_from (k + 1) rules) h)
   where
     plus_none : (n : ℕ) → n ≡ n + 0
     plus_none n = omega arith
@@ -182,39 +217,45 @@ was_asked k (rule ∷ rules) log h = ⊎_elim own (λ b. further (was_asked (k +
     moved : (a b : ℕ) → a + 1 + b ≡ a + suc b
     moved a b = omega arith
 
-    own : IsIn log (logs_of k rule) → IsAsked k (rule ∷ rules) log
+    own : IsIn w (words_of k rule) → IsAsked k (rule ∷ rules) w
     own a =
-        let r = in_unmap (log_of k rule) log rule.words a in
-        record { place = 0; rule = rule; word = r.0; at = refl; has = r.1; is = sym r.2 ∙ ap (λ (n : ℕ). log_of n rule r.0) (plus_none k) }
+        let r = in_unmap (word_of k rule) w rule.words a in
+        subst (λ (v : Word). IsAsked k (rule ∷ rules) v) r.2 (record { place = 0; at = refl; has = r.1; set = plus_none k })
 
-    further : IsAsked (k + 1) rules log → IsAsked k (rule ∷ rules) log
-    further a = record { place = suc a.place; rule = a.rule; word = a.word; at = a.at; has = a.has; is = a.is ∙ ap (λ (n : ℕ). log_of n a.rule a.word) (moved k a.place) }
+    further : IsAsked (k + 1) rules w → IsAsked k (rule ∷ rules) w
+    further a = record { place = suc a.place; at = a.at; has = a.has; set = a.set ∙ moved k a.place }
 
--- A word of the rule at the log's place gives the log, and a look saw a regular file there.
-pub record IsFrom (rules : List Rule) (ts : List Entry) (x : LookedLog) : Type 0 where
-  pub rule : Rule
-  pub word : List ℕ
-  pub at : slice_get rules x.set ≡ Some rule
-  pub has : IsIn word rule.words
-  pub path_is : literal_path word ≡ x.path
-  pub naming_is : naming_of rule (literal_path word) ≡ x.naming
-  pub seen : Seen
-  pub file : seen.kind ≡ kind.File
-  pub look : IsIn (entry.Look x.path (Some seen)) ts
+-- each log that was found was found by a word
+pub found_word : {reserved : List Path} (rules : List Rule) (sets : List SetLooks) (faults : List Fault) (ts : List Entry) (s : ShowsLooks reserved rules sets faults ts) (f : FoundLog) → IsIn f s.found → IsFoundBy (asked_by rules) s.entries.front s.found f
+found_word rules sets faults ts s f i = subst (λ (all : List FoundLog). IsFoundBy (asked_by rules) s.entries.front all f) (sym found_is)
+    (found_by_word 0 (asked_by rules) s.entries.first.sights s.entries.front s.entries.first.shown f (subst (IsIn f) found_is i))
+  where
+    found_is : s.found ≡ found_of (asked_by rules) s.entries.first.sights
+    found_is = s.entries.first.found_are
 
-pub came_from : {reserved : List Path} (rules : List Rule) (sets : List SetLooks) (faults : List Fault) (ts : List Entry) (s : ShowsLooks reserved rules sets faults ts) (x : LookedLog) → IsIn x s.looked → IsFrom rules ts x
-came_from rules sets faults ts s x i = record {
-  rule = a.rule;
-  word = a.word;
-  at = subst (λ (n : ℕ). slice_get rules n ≡ Some a.rule) (sym set_is) a.at;
-  has = a.has;
-  path_is = sym (ap (λ (y : LookedLog). y.path) f.2.1 ∙ ap (λ (l : Log). l.path) a.is);
-  naming_is = sym (ap (λ (y : LookedLog). y.naming) f.2.1 ∙ ap (λ (l : Log). l.naming) a.is);
-  seen = f.0.seen;
-  file = kept.1;
-  look = subst (IsIn (entry.Look x.path (Some f.0.seen))) (sym s.entries.joined) (in_front (entry.Look x.path (Some f.0.seen)) s.entries.front s.entries.back
-      (subst (IsIn (entry.Look x.path (Some f.0.seen))) (sym s.entries.first.looks) (subst (λ (p : _). IsIn (entry.Look p (Some f.0.seen)) (looks_of (asked_by rules) s.entries.first.sights)) (sym (ap (λ (y : LookedLog). y.path) f.2.1)) found.1)));
-}
+-- The log was found, its word is one of the rule at the place of its definition, and it was seen as a regular file.
+pub record IsFrom (rules : List Rule) (ts : List Entry) (all : List FoundLog) (x : LookedLog) : Type 0 where
+  pub found : FoundLog
+  pub by_word : IsFoundBy (asked_by rules) ts all found
+  pub path_is : found.log.path ≡ x.path
+  pub naming_is : found.log.naming ≡ x.naming
+  pub at : slice_get rules x.set ≡ Some by_word.word.rule
+  pub has : IsIn by_word.word.text by_word.word.rule.words
+  pub file : found.seen.kind ≡ kind.File
+
+pub came_from : {reserved : List Path} (rules : List Rule) (sets : List SetLooks) (faults : List Fault) (ts : List Entry) (s : ShowsLooks reserved rules sets faults ts) (x : LookedLog) → IsIn x s.looked → (o : IsFrom rules s.entries.front s.found x) × IsIn o.found (kept_of s.found s.keeps.choices)
+came_from rules sets faults ts s x i = (
+  record {
+    found = f.0;
+    by_word = w;
+    path_is = sym (ap (λ (y : LookedLog). y.path) f.2.1);
+    naming_is = sym (ap (λ (y : LookedLog). y.naming) f.2.1);
+    at = subst (λ (n : ℕ). slice_get rules n ≡ Some w.word.rule) (sym set_is) a.at;
+    has = a.has;
+    file = kept.1;
+  },
+  kept.0,
+)
   where
     f : (g : FoundLog) × IsIn g s.kept × ((stand : _) × (x ≡ looked_at g stand))
     f = in_looked s.kept s.entries.second.families.sights x (subst (IsIn x) s.entries.second.families.looked_are i)
@@ -222,14 +263,14 @@ came_from rules sets faults ts s x i = record {
     kept : IsIn f.0 (kept_of s.found s.keeps.choices) × (f.0.seen.kind ≡ kind.File)
     kept = in_files (kept_of s.found s.keeps.choices) f.0 (subst (IsIn f.0) s.keeps.left_are f.1)
 
-    found : IsIn f.0.log (asked_by rules) × IsIn (entry.Look f.0.log.path (Some f.0.seen)) (looks_of (asked_by rules) s.entries.first.sights)
-    found = in_found (asked_by rules) s.entries.first.sights f.0 (subst (IsIn f.0) s.entries.first.found_are (in_kept s.found s.keeps.choices f.0 kept.0))
+    w : IsFoundBy (asked_by rules) s.entries.front s.found f.0
+    w = found_word rules sets faults ts s f.0 (in_kept s.found s.keeps.choices f.0 kept.0)
 
-    a : IsAsked 0 rules f.0.log
-    a = was_asked 0 rules f.0.log found.0
+    a : IsAsked 0 rules w.word
+    a = was_asked 0 rules w.word w.among
 
     set_is : x.set ≡ a.place
-    set_is = ap (λ (y : LookedLog). y.set) f.2.1 ∙ (ap (λ (l : Log). l.set) a.is ∙ none_more a.place)
+    set_is = ap (λ (y : LookedLog). y.set) f.2.1 ∙ (ap (λ (g : FoundLog). g.log.set) w.is ∙ (a.set ∙ none_more a.place))
       where
         none_more : (n : ℕ) → 0 + n ≡ n
         none_more n = omega arith

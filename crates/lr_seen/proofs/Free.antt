@@ -1,5 +1,5 @@
 -- No name of a log that a plan rotates is reserved.
-use Rattle.std.proofs.Common.{◌≡◌, ◌⊎◌, inl, inr, ℕ, suc, ◌+◌, List, [], ◌∷◌, Some, slice_get, refl, sym, ap, ◌∙◌, subst}
+use Rattle.std.proofs.Common.{◌≡◌, inl, inr, ℕ, suc, ◌+◌, List, [], ◌∷◌, Some, slice_get, sym, ap, ◌∙◌, subst}
 use Rattle.std.specs.Borrow.{Bor}
 use Rattle.std.specs.List.{AllByRecursion}
 use Rattle.lr_rules.specs.declared.fault.Fault.{Fault}
@@ -9,7 +9,6 @@ use Rattle.lr_rules.specs.declared.rule.Rule.{Rule}
 use Rattle.lr_rules.specs.Names.{IsName}
 use Rattle.lr_due.specs.declared.answer.Due.{Due}
 use Rattle.lr_host.specs.declared.entry.Entry.{Entry}
-use Rattle.lr_host.specs.declared.thing.Kind.TheVariants as kind
 use Rattle.lr_host.specs.Lists.{IsIn}
 use Rattle.lr_family.specs.declared.family.Family.{Family}
 use Rattle.lr_kept.specs.declared.choice.Choice.{Choice}
@@ -23,7 +22,7 @@ use Rattle.lr_looks.specs.Sets.{looked_in}
 use Rattle.lr_looks.specs.Shown.{ShowsLooks}
 use Rattle.lr_rotations.specs.Target.{Target}
 use Rattle.lr_seen.specs.Free.{IsFreeOf, AreFreeOf}
-use Rattle.lr_seen.specs.Targets.{target_of, all_targets}
+use Rattle.lr_seen.specs.Targets.{all_targets}
 use Rattle.lr_seen.proofs.Apart.{kept_each}
 use Rattle.lr_seen.proofs.Coming.{Comes, comes_from, was_looked, in_looked, in_files}
 use Rattle.lr_seen.proofs.Elements.{map_at, unmap_at, each_in, in_each}

@@ -1,8 +1,12 @@
 pub mod Apart
 mod Coming
 mod Elements
+mod Finding
 pub mod Free
+mod Gives
+mod LastParts
 mod Listed
 pub mod Quiet
 pub mod Ready
 pub mod Seen
+mod Signs

@@ -1,5 +1,5 @@
 -- All entries of the looks are looks and listings, so they change nothing.
-use Rattle.std.proofs.Common.{◌≡◌, inl, inr, Bool, true, false, List, [], ◌∷◌, take, length, sym, subst}
+use Rattle.std.proofs.Common.{◌≡◌, inl, inr, ℕ, ◌+◌, ◌-◌, Bool, true, false, List, [], ◌∷◌, Ok, Err, take, length, sym, subst}
 use Rattle.lr_rules.specs.declared.path.Path.{Path}
 use Rattle.lr_rules.specs.declared.rule.Naming.{Naming}
 use Rattle.lr_rules.specs.declared.rule.Rule.{Rule}
@@ -11,7 +11,8 @@ use Rattle.lr_host.specs.declared.entry.Entry.{Entry}
 use Rattle.lr_host.specs.Looks.{Sees, IsNothing, IsDir, IsNoDir, IsNoFile, is_dir}
 use Rattle.lr_host.specs.Quiet.{AreQuiet}
 use Rattle.lr_host.specs.Told.{Are}
-use Rattle.lr_host.proofs.Each.{each_append}
+use Rattle.lr_host.proofs.Each.{each_as}
+use Rattle.lr_host.specs.declared.entry.Entry.TheVariants as entry
 use Rattle.lr_family.specs.declared.listing.Listing.{Listing}
 use Rattle.lr_family.specs.declared.spot.Spot.{Spot}
 use Rattle.lr_family.specs.declared.stand.Member.{Member}
@@ -22,25 +23,35 @@ use Rattle.lr_family.specs.Listed.{HasListed, ShowsListing, NotListedAt, NotList
 use Rattle.lr_family.specs.Looks.{ShowsTo}
 use Rattle.lr_family.specs.Stops.{SomeStopped}
 use Rattle.lr_family.proofs.OnlyLooks.{IsLooking, AreLooking, looking_both, looking_none, looking_sees, looking_sights, looks_quiet}
+use Rattle.lr_glob.specs.Looking.{IsLooking as GlobIsLooking, AreLooking as GlobLooking}
+use Rattle.lr_glob.proofs.OnlyLooks.{comes_looks, stopped_looks}
 use Rattle.lr_plan.specs.declared.looks.SetLooks.{SetLooks}
-use Rattle.lr_looks.specs.Asked.{Log, asked_by}
+use Rattle.lr_looks.specs.Asked.{Word, asked_by}
 use Rattle.lr_looks.specs.Families.{FamilySight, Stood, Stopped, ShowsMembersIn, ShowsFamily, behind_listing, with_listing, not_listed, ShowFamilies}
 use Rattle.lr_looks.specs.Found.{FoundLog}
 use Rattle.lr_looks.specs.Shown.{ShowsLooks, ShowsSomeLooks, at_words, at_families}
-use Rattle.lr_looks.specs.Sights.{Sight, Failed, Nothing, Saw, look_of, looks_of}
+use Rattle.lr_looks.specs.Sights.{WordSight, found_by, ShowsWord, ShowWords}
 
--- ---- the looks at the words' paths
+-- ---- the looks and listings of the words
 
-looking_look : (path : Path) (s : Sight) → AreLooking (look_of path s)
-looking_look path Failed = tt
-looking_look path Nothing = (tt, tt)
-looking_look path (Saw seen) = (tt, tt)
+-- what lr_glob calls looking is looking
+looking_glob : (ts : List Entry) → GlobLooking ts → AreLooking ts
+looking_glob ts h = each_as GlobIsLooking IsLooking ts one h
+  where
+    one : (e : Entry) → GlobIsLooking e → IsLooking e
+    one (entry.Look x seen) i = i
+    one (entry.List dir listed) i = i
+    one _ i = absurd i
 
-looking_words : (logs : List Log) (sights : List Sight) → AreLooking (looks_of logs sights)
-looking_words [] [] = tt
-looking_words [] (s ∷ ss) = tt
-looking_words (log ∷ logs) [] = tt
-looking_words (log ∷ logs) (s ∷ ss) = each_append IsLooking (look_of log.path s) (looks_of logs ss) (looking_look log.path s) (looking_words logs ss)
+looking_word : (w : Word) (room : ℕ) (s : WordSight) (ts : List Entry) → ShowsWord w room s ts → AreLooking ts
+looking_word w room (Ok found) ts h = looking_glob ts (comes_looks w.text room (Ok found) ts h)
+looking_word w room (Err why) ts h = looking_glob ts (stopped_looks w.text room why ts h)
+
+pub looking_words : (n : ℕ) (words : List Word) (sights : List WordSight) (ts : List Entry) → ShowWords n words sights ts → AreLooking ts
+looking_words n [] [] ts h = looking_none ts h
+looking_words n [] (s ∷ ss) ts h = absurd h
+looking_words n (w ∷ ws) [] ts h = absurd h
+looking_words n (w ∷ ws) (s ∷ ss) ts h = looking_both ts (looking_word w (16_384 - n) s) (looking_words (n + length (found_by w s)) ws ss) h
 
 -- ---- the looks at members
 
@@ -105,16 +116,16 @@ looking_families known (f ∷ fs) after (s ∷ ss) ts h = looking_both ts (looki
 
 pub whole_looking : {reserved : List Path} (rules : List Rule) (sets : List SetLooks) (faults : List Fault) (ts : List Entry) → ShowsLooks reserved rules sets faults ts → AreLooking ts
 whole_looking rules sets faults ts s = looking_both ts
-    (λ us l. subst AreLooking (sym l.looks) (looking_words (asked_by rules) l.sights))
+    (λ us l. looking_words 0 (asked_by rules) l.sights us l.shown)
     (λ us l. looking_families [] s.kept l.listings l.families.sights us l.families.shown) s.entries
 
 pub whole_quiet : {reserved : List Path} (rules : List Rule) (sets : List SetLooks) (faults : List Fault) (ts : List Entry) → ShowsLooks reserved rules sets faults ts → AreQuiet ts
 whole_quiet rules sets faults ts s = looks_quiet ts (whole_looking rules sets faults ts s)
 
 pub part_looking : {reserved : List Path} (rules : List Rule) (ts : List Entry) → ShowsSomeLooks reserved rules ts → AreLooking ts
-part_looking rules ts (at_words l) = subst AreLooking (sym l.looks) (looking_words (take (length l.sights) (asked_by rules)) l.sights)
+part_looking rules ts (at_words l) = looking_words 0 (take (length l.sights) (asked_by rules)) l.sights ts l.shown
 part_looking rules ts (at_families found of_words kept of_kept keeps t) = looking_both ts
-    (λ us l. subst AreLooking (sym l.looks) (looking_words (asked_by rules) l.sights))
+    (λ us l. looking_words 0 (asked_by rules) l.sights us l.shown)
     (λ us l. looking_families [] (take (length l.sights) kept) l.after l.sights us l.shown) t
 
 pub part_quiet : {reserved : List Path} (rules : List Rule) (ts : List Entry) → ShowsSomeLooks reserved rules ts → AreQuiet ts

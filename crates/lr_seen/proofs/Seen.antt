@@ -1,20 +1,17 @@
 -- Each log that a plan rotates was seen, with its members.
-use Rattle.std.proofs.Common.{◌≡◌, inl, inr, ℕ, ◌+◌, ◌-◌, ◌&&◌, Bool, true, false, cond, List, [], ◌∷◌, ◌++◌, length, Option, Some, None, slice_get, refl, sym, ap, ◌∙◌, subst, arith, take, eq-eqb, Contains}
+use Rattle.std.proofs.Common.{◌≡◌, inl, inr, ℕ, ◌+◌, ◌&&◌, Bool, true, false, cond, List, [], ◌∷◌, ◌++◌, Some, None, slice_get, refl, sym, ap, ◌∙◌, subst, arith, eq-eqb}
 use Rattle.std.specs.List.{list_any}
-use Rattle.std.proofs.Math.Seq.{take-length}
 use Rattle.std.proofs.lemmas.List.Elements.{All-contains}
 use Rattle.std.proofs.lemmas.List.Folds.{list_any_at}
 use Rattle.lr_rules.specs.declared.fault.Fault.{Fault}
 use Rattle.lr_rules.specs.declared.fault.Fault.TheVariants as fault
 use Rattle.lr_rules.specs.declared.path.Path.{Path}
 use Rattle.lr_rules.specs.declared.rule.Count.{Count}
-use Rattle.lr_rules.specs.declared.rule.Format.{Format}
 use Rattle.lr_rules.specs.declared.rule.Naming.{Naming}
 use Rattle.lr_rules.specs.declared.rule.Rule.{Rule}
 use Rattle.lr_rules.specs.declared.rules.Rules.{Rules}
-use Rattle.lr_rules.specs.Match.{literal_path}
-use Rattle.lr_rules.specs.Names.{naming_of, family_dir, ext_of, ends_with, base_of}
-use Rattle.lr_rules.specs.Path.{path_fault, parent_of, last_of}
+use Rattle.lr_rules.specs.Names.{naming_of}
+use Rattle.lr_rules.specs.Path.{path_fault}
 use Rattle.lr_rules.proofs.ParentPath.{parent_path}
 use Rattle.lr_due.specs.declared.answer.Due.{Due}
 use Rattle.lr_host.specs.declared.entry.Entry.{Entry}
@@ -23,10 +20,12 @@ use Rattle.lr_host.specs.declared.thing.Kind.TheVariants as kind
 use Rattle.lr_host.specs.declared.thing.Seen.{Seen}
 use Rattle.lr_host.specs.Lists.{IsIn}
 use Rattle.lr_host.specs.Looks.{Sees, IsFile}
-use Rattle.lr_host.proofs.Lists.{in_to, in_back}
+use Rattle.lr_host.proofs.Lists.{in_to, in_front, in_back}
 use Rattle.lr_family.specs.declared.stand.Member.{Member}
 use Rattle.lr_family.specs.Kin.{IsKin}
 use Rattle.lr_family.specs.Stands.{number_in}
+use Rattle.lr_glob.proofs.Seeking.{found_were_seen}
+use Rattle.lr_kept.specs.declared.choice.Choice.TheVariants.{Kept}
 use Rattle.lr_kept.proofs.Elements.{same_read}
 use Rattle.lr_chain.specs.Ready.{is_highest, highest_path}
 use Rattle.lr_plan.specs.declared.looks.LogLook.{LogLook}
@@ -34,59 +33,38 @@ use Rattle.lr_plan.specs.declared.looks.SetLooks.{SetLooks}
 use Rattle.lr_plan.specs.Planned.{keeps_all, is_too_high, hindrances}
 use Rattle.lr_looks.specs.Asked.{CanAsk}
 use Rattle.lr_looks.specs.Families.{LookedLog}
-use Rattle.lr_looks.specs.Internal.{naming_at}
+use Rattle.lr_looks.specs.Choices.{kept_of}
+use Rattle.lr_looks.specs.Found.{FoundLog, HasLogPath, HaveLogPaths}
 use Rattle.lr_looks.specs.Sets.{looked_in}
 use Rattle.lr_looks.specs.Shown.{ShowsLooks}
-use Rattle.lr_words.specs.Names.{IsLogWord}
-use Rattle.lr_looks.proofs.Kindred.{kin_at}
+use Rattle.lr_looks.proofs.Kindred.{kin_at, plain_naming}
 use Rattle.lr_rotations.specs.Apart.{HaveNames}
 use Rattle.lr_rotations.specs.Members.{IsFamily}
-use Rattle.lr_rotations.specs.Target.{Target, IsOneTooHigh, IsSeen, AreSeen}
+use Rattle.lr_rotations.specs.Target.{Target, IsOneTooHigh, Gives, IsSeen, AreSeen}
 use Rattle.lr_rotations.specs.Weave.{Among}
 use Rattle.lr_rotations.proofs.SeenFits.{seen_names}
 use Rattle.lr_seen.specs.Built.{IsBuiltRule, AreBuiltRules}
 use Rattle.lr_seen.specs.Targets.{all_targets}
 use Rattle.lr_seen.proofs.Elements.{in_list}
-use Rattle.lr_seen.proofs.Coming.{Comes, comes_from, was_looked, IsFrom, came_from}
+use Rattle.lr_seen.proofs.Apart.{kept_at}
+use Rattle.lr_seen.proofs.Coming.{Comes, comes_from, was_looked, in_kept, IsFrom, came_from}
+use Rattle.lr_seen.proofs.Gives.{gives_kept}
 use Rattle.lr_seen.proofs.Listed.{all_shown}
 
 -- ---- the family
 
-base_none : (b : Bool) (name : List ℕ) → cond b (take (length name - 0) name) name ≡ name
-base_none false name = refl
-base_none true name = let e : length name - 0 ≡ length name = omega arith in ap (λ n. take n name) e ∙ take-length name
-
--- the naming that a rule of today gives: in the log's own directory, with numbers behind its name
-plain_naming : (rule : Rule) (log : Path) → CanAsk rule → naming_of rule log ≡ naming_at rule.start log
-plain_naming rule log can = go rule.olddir rule.addextension rule.extension rule.dated can.olddir can.addextension can.extension can.dated
-  where
-    go : (o a x : Option (List ℕ)) (d : Option Format) → o ≡ None → a ≡ None → x ≡ None → d ≡ None
-        → record { dir = family_dir (parent_of log) o; base = base_of (ext_of a x (last_of log)) (last_of log); ext = ext_of a x (last_of log); start = rule.start; dated = d } ≡ naming_at rule.start log
-    go (Some y) a x d p q r s = absurd (cc)
-    go None (Some y) x d p q r s = absurd (cc)
-    go None None (Some y) d p q r s = absurd (cc)
-    go None None None (Some y) p q r s = absurd (cc)
-    go None None None None p q r s = ap (λ (base : List ℕ). naming base) (base_none (ends_with [] (last_of log)) (last_of log))
-      where
-        naming : List ℕ → Naming
-        naming base = record { dir = parent_of log; base = base; ext = []; start = rule.start; dated = None }
-
-is_word : (rule : Rule) (word : List ℕ) → CanAsk rule → IsIn word rule.words → IsLogWord word
-is_word rule word can has = by (in_to word rule.words has)
-  where
-    by : Contains rule.words word → IsLogWord word
-    by at = subst IsLogWord at.2 (can.words at.0 word at.1)
-
--- the log and that naming are a family
-is_family : (rule : Rule) (word : List ℕ) (n : Naming) → CanAsk rule → IsIn word rule.words → naming_of rule (literal_path word) ≡ n → IsFamily (literal_path word) n
-is_family rule word n can has is = subst (IsFamily (literal_path word)) is (record {
+-- the log and the naming that its rule gives it are a family
+is_family : (rule : Rule) (f : FoundLog) → CanAsk rule → HasLogPath f → naming_of rule f.log.path ≡ f.log.naming → IsFamily f.log.path f.log.naming
+is_family rule f can fit is = subst (IsFamily f.log.path) is (record {
   numbered = can.dated;
-  kin = subst (IsKin (literal_path word)) (sym (plain_naming rule (literal_path word) can)) (kin_at rule.start (literal_path word) w.path w.log);
-  dir = subst (λ (m : Naming). path_fault m.dir ≡ None) (sym (plain_naming rule (literal_path word) can)) (parent_path (literal_path word) w.path);
+  kin = subst (IsKin f.log.path) (sym (plain_naming rule f.log.path can)) (kin_at rule.start f.log.path fit.path fit.size fit.last);
+  dir = subst (λ (m : Naming). path_fault m.dir ≡ None) (sym (plain_naming rule f.log.path can)) (parent_path f.log.path fit.path);
 })
-  where
-    w : IsLogWord word
-    w = is_word rule word can has
+
+log_path : (found : List FoundLog) (f : FoundLog) → HaveLogPaths found → IsIn f found → HasLogPath f
+log_path [] f h i = absurd i
+log_path (g ∷ gs) f h (inl e) = subst HasLogPath e h.0
+log_path (g ∷ gs) f h (inr i) = log_path gs f h.1 i
 
 -- ---- the look at the log
 
@@ -126,17 +104,23 @@ not_high n c members e h =
 target_seen : {reserved : List Path} (rules : Rules) (sets : List SetLooks) (faults : List Fault) (ts : List Entry) (t : Target) → AreBuiltRules rules.sets → (s : ShowsLooks reserved rules.sets sets faults ts) → Comes rules.sets sets t → IsSeen rules ts t
 target_seen rules sets faults ts t built s c = subst (IsSeen rules ts) (sym c.is) (record {
   given = record {
-    rule = o.rule;
-    word = o.word;
-    among = in_to o.rule rules.sets (in_list rules.sets x.set o.rule o.at);
-    has = in_to o.word o.rule.words o.has;
-    literal = (is_word o.rule o.word can o.has).no_pattern;
-    log_is = o.path_is;
-    naming_is = subst (λ (p : Path). naming_of o.rule p ≡ x.naming) o.path_is o.naming_is;
+    rule = o.by_word.word.rule;
+    word = o.by_word.word.text;
+    among = in_to o.by_word.word.rule rules.sets (in_list rules.sets x.set o.by_word.word.rule o.at);
+    has = in_to o.by_word.word.text o.by_word.word.rule.words o.has;
+    given = record {
+      before = [];
+      part = s.entries.front;
+      after = s.entries.back;
+      joined = s.entries.joined;
+      is = subst (λ (p : Path). Gives rules.sets o.by_word.word.rule o.by_word.word.text p s.entries.front) o.path_is (gives_kept rules sets faults ts built s at.0 o.found at.1 at.2 o.by_word);
+    };
+    naming_is = ap (naming_of o.by_word.word.rule) (sym o.path_is) ∙ (naming ∙ o.naming_is);
     count_is = ap (λ (r : Rule). r.count) (sym same);
   };
-  family = subst (λ (p : Path). IsFamily p x.naming) o.path_is (is_family o.rule o.word x.naming can o.has o.naming_is);
-  log_seen = sees_file x.path o.seen ts o.file o.look;
+  family = subst (λ (p : Path). IsFamily p x.naming) o.path_is (subst (IsFamily o.found.log.path) o.naming_is
+      (is_family o.by_word.word.rule o.found can (log_path s.found o.found s.paths (in_kept s.found s.keeps.choices o.found came.1)) naming));
+  log_seen = sees_file x.path o.found.seen ts o.file (subst (λ (p : Path). IsIn (entry.Look p (Some o.found.seen)) ts) o.path_is look);
   seen = all_shown ts s.kept s.entries.second.listings s.entries.second.families.sights s.entries.back (λ e i. subst (IsIn e) (sym s.entries.joined) (in_back e s.entries.front s.entries.back i)) s.entries.second.families.shown
       x (subst (IsIn x) s.entries.second.families.looked_are looked) free.0;
   low = not_high x.naming c.rule.count x.stand.members free.1;
@@ -148,17 +132,36 @@ target_seen rules sets faults ts t built s c = subst (IsSeen rules ts) (sym c.is
     looked : IsIn x s.looked
     looked = was_looked 0 c.place s.looked sets c.set c.look s.by_sets c.at_set c.among
 
-    o : IsFrom rules.sets ts x
-    o = came_from rules.sets sets faults ts s x looked
+    came : (o : IsFrom rules.sets s.entries.front s.found x) × IsIn o.found (kept_of s.found s.keeps.choices)
+    came = came_from rules.sets sets faults ts s x looked
+
+    o : IsFrom rules.sets s.entries.front s.found x
+    o = came.0
+
+    -- the log stands at this place among those that were found, and is kept
+    at : (k : ℕ) × (slice_get s.found k ≡ Some o.found) × (slice_get s.keeps.choices k ≡ Some Kept)
+    at = kept_at s.found s.keeps.choices o.found came.1
 
     none_more : (n : ℕ) → 0 + n ≡ n
     none_more n = omega arith
 
-    same : c.rule ≡ o.rule
-    same = same_read rules.sets c.place c.rule o.rule c.at_rule (subst (λ (n : ℕ). slice_get rules.sets n ≡ Some o.rule) (none_more c.place) o.at)
+    same : c.rule ≡ o.by_word.word.rule
+    same = same_read rules.sets c.place c.rule o.by_word.word.rule c.at_rule (subst (λ (n : ℕ). slice_get rules.sets n ≡ Some o.by_word.word.rule) (none_more c.place) o.at)
 
-    can : CanAsk o.rule
-    can = (All-contains IsBuiltRule rules.sets o.rule built (in_to o.rule rules.sets (in_list rules.sets x.set o.rule o.at))).can_ask
+    can : CanAsk o.by_word.word.rule
+    can = (All-contains IsBuiltRule rules.sets o.by_word.word.rule built (in_to o.by_word.word.rule rules.sets (in_list rules.sets x.set o.by_word.word.rule o.at))).can_ask
+
+    naming : naming_of o.by_word.word.rule o.found.log.path ≡ o.found.log.naming
+    naming = ap (λ (g : FoundLog). naming_of o.by_word.word.rule g.log.path) o.by_word.is ∙ sym (ap (λ (g : FoundLog). g.log.naming) o.by_word.is)
+
+    -- a look of its word saw it
+    look : IsIn (entry.Look o.found.log.path (Some o.found.seen)) ts
+    look =
+        let b = o.by_word in
+        let e : Entry = entry.Look o.found.log.path (Some o.found.seen) in
+        subst (IsIn e) (sym s.entries.joined) (in_front e s.entries.front s.entries.back
+        (subst (IsIn e) (sym b.shown.joined) (in_back e b.shown.before (b.shown.part ++ b.shown.after) (in_front e b.shown.part b.shown.after
+        (subst (λ (g : FoundLog). IsIn (entry.Look g.log.path (Some g.seen)) b.shown.part) (sym b.is) (found_were_seen b.word.text b.room b.matches b.shown.part b.shown.is b.one b.has))))))
 
     free : (c.look.stand.there ≡ true) × (is_too_high c.rule c.look ≡ false)
     free = is_free c.rule c.look c.free

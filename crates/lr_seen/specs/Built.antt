@@ -7,7 +7,7 @@ use Rattle.lr_chain.specs.Ready.{IsCount}
 use Rattle.lr_plan.specs.Planned.{HasNoScripts}
 use Rattle.lr_looks.specs.Asked.{CanAsk}
 
--- Its words are literal, and its logs are rotated by rename, with numbers, in their own directories; it runs, makes and mails nothing.
+-- Its logs are rotated by rename, with numbers, in their own directories; it runs, makes and mails nothing.
 pub record IsBuiltRule (r : Rule) : Type 0 where
   pub can_ask : CanAsk r
   pub by_rename : r.way ≡ way.Rename

@@ -6,11 +6,11 @@ use Rattle.lr_looks.proofs.Adding.{grow, ready_grow, same_look}
 use Rattle.lr_looks.proofs.families.add_look.Goals as goal
 
 pub returns-clause-looked : goal.returns-clause-looked
-returns-clause-looked c = λ logs h. grow 0 c.args.found.asked.set logs (looked_at (found_in c.args.found) c.args.stand) (record { path = c.in_ok-path.path; seen = c.args.found.seen; family = c.args.found.asked.family; stand = c.args.stand }) c.args.sets.now.items (record { logs = c.push.new.self }) c.index_mut.result.now
+returns-clause-looked c = λ logs h. grow 0 c.args.found.set logs (looked_at (found_in c.args.found) c.args.stand) (record { path = c.in_ok-path.path; seen = c.args.found.seen; family = c.args.found.family; stand = c.args.stand }) c.args.sets.now.items (record { logs = c.push.new.self }) c.index_mut.result.now
     (same_look (found_in c.args.found) c.args.stand c.in_ok-path.path (c.in_ok-path.ensures ∙ c.log.ensures)) c.requires.set
-    (c.in_ok-push.ensures.pushed ∙ ap (λ (s : SetLooks). s.logs ++ record { path = c.in_ok-path.path; seen = c.args.found.seen; family = c.args.found.asked.family; stand = c.args.stand } ∷ []) c.index_mut.ensures.value) h
+    (c.in_ok-push.ensures.pushed ∙ ap (λ (s : SetLooks). s.logs ++ record { path = c.in_ok-path.path; seen = c.args.found.seen; family = c.args.found.family; stand = c.args.stand } ∷ []) c.index_mut.ensures.value) h
 
 pub returns-clause-ready : goal.returns-clause-ready
-returns-clause-ready c = ready_grow c.args.found.asked.set (record { path = c.in_ok-path.path; seen = c.args.found.seen; family = c.args.found.asked.family; stand = c.args.stand }) c.args.sets.now.items (record { logs = c.push.new.self }) c.index_mut.result.now c.requires.set
-    (c.in_ok-push.ensures.pushed ∙ ap (λ (s : SetLooks). s.logs ++ record { path = c.in_ok-path.path; seen = c.args.found.seen; family = c.args.found.asked.family; stand = c.args.stand } ∷ []) c.index_mut.ensures.value)
+returns-clause-ready c = ready_grow c.args.found.set (record { path = c.in_ok-path.path; seen = c.args.found.seen; family = c.args.found.family; stand = c.args.stand }) c.args.sets.now.items (record { logs = c.push.new.self }) c.index_mut.result.now c.requires.set
+    (c.in_ok-push.ensures.pushed ∙ ap (λ (s : SetLooks). s.logs ++ record { path = c.in_ok-path.path; seen = c.args.found.seen; family = c.args.found.family; stand = c.args.stand } ∷ []) c.index_mut.ensures.value)
     (λ rule. record { log = sym (c.in_ok-path.ensures ∙ c.log.ensures); numbered = c.requires.numbers.numbered; start = c.requires.numbers.start; named = c.requires.named })

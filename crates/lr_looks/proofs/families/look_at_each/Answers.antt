@@ -12,7 +12,7 @@ look_at_family-requires-clause-numbers g c = next_numbers c.args.found.items c.l
     (sym c.into_iter-item-iterator.ensures.into_iter_gives.0 ∙ (c.loop-item.invariant.seam ∙ ap (λ (ls : List Found). c.loop-item.invariant.done ++ ls) c.in-Some.ensures.steps.0)) c.requires.numbers
 
 pub look_at_family-requires-clause-set : goal.look_at_family-requires-clause-set
-look_at_family-requires-clause-set g c = subst (λ n. c.in-Some.item.asked.set < n) (sym c.loop-item.invariant.many) (next_of (length c.args.sets.now.items) c.args.found.items c.loop-item.invariant.done _ c.in-Some.item
+look_at_family-requires-clause-set g c = subst (λ n. c.in-Some.item.set < n) (sym c.loop-item.invariant.many) (next_of (length c.args.sets.now.items) c.args.found.items c.loop-item.invariant.done _ c.in-Some.item
     (sym c.into_iter-item-iterator.ensures.into_iter_gives.0 ∙ (c.loop-item.invariant.seam ∙ ap (λ (ls : List Found). c.loop-item.invariant.done ++ ls) c.in-Some.ensures.steps.0)) c.requires.sets)
 
 pub loop-item-init : goal.loop-item-init

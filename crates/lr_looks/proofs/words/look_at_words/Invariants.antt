@@ -1,20 +1,18 @@
-use Rattle.std.proofs.Common.{◌≡◌, List, [], ◌++◌, length}
-use Rattle.std.specs.Vec.Iter.{into_iter_items, into_iter_len}
+use Rattle.std.proofs.Common.{[], take}
 use Rattle.lr_host.specs.Told.{Left, Onward}
-use Rattle.lr_looks.specs.declared.log.Asked.{Asked}
-use Rattle.lr_looks.specs.Asked.{logs_in}
 use Rattle.lr_plan.specs.Counted.{AddsFaults}
-use Rattle.lr_looks.specs.Found.{all_found_in}
-use Rattle.lr_looks.specs.Sights.{AreFoundOf, LookedAt}
+use Rattle.lr_looks.specs.Asked.{asked_by, AreTexts}
+use Rattle.lr_looks.specs.Found.{all_found_in, HaveLogPaths}
+use Rattle.lr_looks.specs.Internal.{AddsFound}
+use Rattle.lr_looks.specs.Sights.{LookedAt}
 use Rattle.lr_looks.proofs.words.look_at_words.Given as goal
 
-abbrev pub invariant-loop-asked : goal.invariant-loop-asked
-invariant-loop-asked g l = record {
-  done : List Asked;
-  seam : into_iter_items l.initial.asked-iterator ≡ done ++ into_iter_items l.asked-iterator;
-  told : Left (LookedAt (logs_in done) l.initial.faults.items l.faults.items [] (all_found_in l.found.items)) (g.H.Host.told l.initial.host) (g.H.Host.told l.host);
-  long : into_iter_len l.asked-iterator ≡ length (into_iter_items l.asked-iterator);
-  found : AreFoundOf (logs_in done) (all_found_in l.found.items);
+abbrev pub invariant-loop-set : goal.invariant-loop-set
+invariant-loop-set g l = record {
+  told : Left (LookedAt (asked_by (take l.set l.sets)) l.initial.faults.items l.faults.items [] (all_found_in l.found.items)) (g.H.Host.told l.initial.host) (g.H.Host.told l.host);
+  found : AddsFound (asked_by (take l.set l.sets)) [] (all_found_in l.found.items);
+  paths : HaveLogPaths (all_found_in l.found.items);
+  texts : AreTexts (asked_by (take l.set l.sets));
   counted : AddsFaults l.initial.faults.items l.faults.items (g.H.Host.counts l.initial.host) (g.H.Host.counts l.host);
   counts : Onward (g.H.Host.counts l.initial.host) (g.H.Host.counts l.host);
 }
