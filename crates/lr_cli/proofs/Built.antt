@@ -20,7 +20,6 @@ built_rule r p = record {
     addextension = p.addextension;
     dated = p.dated;
     start = subst (λ n. n ≤ 999999) (sym p.start) (omega arith);
-    words = p.words;
   };
   by_rename = p.way;
   create = p.create;

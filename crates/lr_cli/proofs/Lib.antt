@@ -7,3 +7,4 @@ mod Stopping
 pub mod Rotating
 pub mod Still
 pub mod Zoned
+mod Whole

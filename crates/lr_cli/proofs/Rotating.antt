@@ -59,7 +59,7 @@ means_built conf m ts (whole bytes le r e) = subst (λ (x : Meaning). AreBuiltRu
 means_built conf m ts (cut bytes le r e) = subst (λ (x : Meaning). AreBuiltRules x.rules) (sym e) (built (cut_means conf bytes).rules (cut_plain conf bytes))
 
 -- the rules that a configuration gives are such as a run takes
-built_means : (conf : Path) (m : Meaning) (ts : List Entry) → ReadsAs conf m ts → AreBuiltRules m.rules
+pub built_means : (conf : Path) (m : Meaning) (ts : List Entry) → ReadsAs conf m ts → AreBuiltRules m.rules
 built_means conf m ts (means r) = means_built conf m ts r
 built_means conf m ts (look_failed none e) = none_built m _ e
 built_means conf m ts (read_failed r e) = none_built m _ e

@@ -3,6 +3,7 @@ pub mod Clock
 pub mod Faults
 pub mod Printed
 pub mod Rotated
+pub mod State
 pub mod Status
 pub mod Words
 pub mod Zone

@@ -6,15 +6,17 @@ ghost use Rattle.lr_host.specs.Opening.{IsJournal};
 ghost use Rattle.lr_host.specs.World.{past};
 ghost use Rattle.lr_host.specs.Told.{Left, NoneFell, Rose};
 ghost use Rattle.lr_host.specs.Quiet.{ChangeNothing};
-ghost use Rattle.lr_host.specs.Safe.{KeepsSafe};
+ghost use Rattle.lr_durable.specs.StateWhole.{KeepsWhole};
+ghost use Rattle.lr_rotations.specs.Keeps.{KeepsSafe};
 ghost use Rattle.lr_report.specs.Puts.{Took, TookPart};
 ghost use Rattle.lr_cli.specs.declared.outcome.Report.{Report};
 ghost use Rattle.lr_cli.specs.declared.words.Request.{Request};
-ghost use Rattle.lr_cli.specs.Answer.{Answered};
+ghost use Rattle.lr_cli.specs.Answer.{Answered, state_path};
 ghost use Rattle.lr_cli.specs.Clock.{IsClocked};
 ghost use Rattle.lr_cli.specs.Faults.{HasFault, HasCounted, StopNothing};
 ghost use Rattle.lr_cli.specs.Printed.{printed_of, without_out};
 ghost use Rattle.lr_cli.specs.Rotated.{RotatesAll};
+ghost use Rattle.lr_cli.specs.State.{IsNewText};
 ghost use Rattle.lr_cli.specs.Words.{AreWords, HaveForm};
 
 use crate::outcome::Outcome;
@@ -42,6 +44,11 @@ pub fn logrotate<H: Host, K: Sink>(
     // A set that was safe in the journal before is safe in the journal after, where it is steady there: whatever failed, and
     // wherever the run stopped.
     ensures safe { KeepsSafe (H.told host.old) (H.told host.new) }
+
+    // The state file is the old one or the new one, whole, at each moment of the call and after each cut that the machine
+    // may make then; and where it is the new one, all changes of names that the run made before are applied. So it is where
+    // the old one was settled as the call began, and writers spare it: whatever failed, and wherever the run stopped.
+    ensures state { KeepsWhole state_path (IsNewText here.now words.now zone.now now) (H.told host.old) (H.told host.new) }
 
     // What the calls showed, and what the answer has to do with it, its `Out` left aside: the zone, what was read, the begin,
     // the looks, the acts of the plan that follows from them, and the end.

@@ -42,11 +42,7 @@ fn named(alloc: Global, words: &[Word]) -> Result<Said, Memory>
 }
 
 /// What a line of names says, outside definitions.
-pub(crate) fn names_say(
-    alloc: Global,
-    words: &[Word],
-    stray: bool,
-) -> Result<Said, Memory>
+pub(crate) fn names_say(alloc: Global, words: &[Word], stray: bool) -> Result<Said, Memory>
     ensures { IfOk result (λ s. s ≡ names_say stray words.now) }
 {
     if stray || words.is_empty() {

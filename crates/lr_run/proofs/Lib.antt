@@ -11,3 +11,5 @@ pub mod Shape
 mod Parts
 mod Ending
 pub mod Rotating
+mod Covering
+pub mod Renewing

@@ -6,6 +6,8 @@ use Rattle.std.proofs.lemmas.List.Elements.{filter-append}
 use Rattle.lr_rules.specs.declared.civil.Moment.{Moment}
 use Rattle.lr_rules.specs.declared.fault.Fault.{Fault}
 use Rattle.lr_rules.specs.declared.path.Path.{Path}
+use Rattle.lr_rules.specs.declared.rule.Count.{Count}
+use Rattle.lr_rules.specs.declared.rule.Naming.{Naming}
 use Rattle.lr_rules.specs.declared.rule.Rule.{Rule}
 use Rattle.lr_rules.specs.declared.rules.Rules.{Rules}
 use Rattle.lr_rules.specs.Path.{parent_of}
@@ -25,7 +27,7 @@ use Rattle.lr_plan.specs.declared.looks.LogLook.{LogLook}
 use Rattle.lr_plan.specs.Planned.{decision}
 use Rattle.lr_rotations.specs.AllTurns.{AllTurns, AllTurned, not_yet, started, IsWholeRun, IsOfSome, IsOfState, StandsBetween}
 use Rattle.lr_reading.proofs.Quiet.{state_quiet}
-use Rattle.lr_rotations.specs.Target.{Target, rotation_of, AreSeen}
+use Rattle.lr_rotations.specs.Target.{Target, rotation_of, IsGiven, AreSeen}
 use Rattle.lr_rotations.specs.Weave.{Weave, FirstWoven, Among}
 use Rattle.lr_rotations.proofs.Moments.{shown_in}
 use Rattle.lr_rotations.proofs.Weaving.{weave_on, weave_others}
@@ -122,11 +124,22 @@ in_behind e (x ∷ xs) ys i = inr (in_behind e xs ys i)
 among_later : (P : List Entry → Type 0) (xs ys : List Entry) → Among P ys → Among P (xs ++ ys)
 among_later P xs ys a = record { before = xs ++ a.before; part = a.part; after = a.after; joined = ap (λ zs. xs ++ zs) a.joined ∙ sym (append_assoc xs a.before (a.part ++ a.after)); is = a.is }
 
+given_later : {rules : List Rule} {log : Path} {n : Naming} {c : Count} (xs looks : List Entry) → IsGiven rules looks log n c → IsGiven rules (xs ++ looks) log n c
+given_later xs looks g = record {
+  rule = g.rule;
+  word = g.word;
+  among = g.among;
+  has = g.has;
+  given = among_later _ xs looks g.given;
+  naming_is = g.naming_is;
+  count_is = g.count_is;
+}
+
 pub seen_later : (rules : Rules) (xs looks : List Entry) (ts : List Target) → AreSeen rules looks ts → AreSeen rules (xs ++ looks) ts
 seen_later rules xs looks [] s = tt
 seen_later rules xs looks (t ∷ ts) s = (
   record {
-    given = s.0.given;
+    given = given_later xs looks s.0.given;
     family = s.0.family;
     log_seen = among_later (Sees t.log IsFile) xs looks s.0.log_seen;
     seen = shown_in t.naming (places_of t.stand.members) looks (xs ++ looks) (λ e i. in_behind e xs looks i) s.0.seen;

@@ -135,7 +135,7 @@ some_of_whole reserved rules sets faults ts h = at_families h.found h.of_words h
 -- nothing was looked at
 pub none_looked : {T E : Type 0} (r : Result T E) (state : Path) (rules : List Rule) (o : Option Journal) → OnErr r (Left (SomeLooked state rules) o o)
 none_looked (Ok x) state rules o = tt
-none_looked (Err x) state rules o = left_first (SomeLooked state rules) o (at_words (record { sights = []; few = omega arith; looks = refl }))
+none_looked (Err x) state rules o = left_first (SomeLooked state rules) o (at_words (record { sights = []; few = omega arith; shown = refl }))
 
 -- not all that were reserved were known
 pub some_reserved : {T E : Type 0} (r : Result T E) (state : Path) (reserved : List Path) (rules : List Rule) {o n : Option Journal} → reserved ≡ reserved_by state → Left (ShowsSomeLooks reserved rules) o n → OnErr r (Left (SomeLooked state rules) o n)

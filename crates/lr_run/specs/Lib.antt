@@ -1,3 +1,4 @@
 pub mod Internal
 pub mod Rotated
 pub mod Runs
+pub mod State

@@ -3,12 +3,14 @@ ghost use Rattle.std.specs.Prelude.{◌≡◌, ◌+◌, ◌≤◌, ◌++◌, ◌
 ghost use Rattle.std.specs.Vec.{vec_capacity};
 ghost use Rattle.lr_rules.specs.Path.{parent_of};
 ghost use Rattle.lr_host.specs.Told.{Left, Onward, Rose};
-ghost use Rattle.lr_host.specs.Safe.{KeepsSafe};
+ghost use Rattle.lr_durable.specs.StateWhole.{KeepsWhole};
+ghost use Rattle.lr_rotations.specs.Keeps.{KeepsSafe};
 ghost use Rattle.lr_plan.specs.Counted.{AddsFaults};
 ghost use Rattle.lr_rotations.specs.AllTurns.{IsWholeRun};
 ghost use Rattle.lr_seen.specs.Built.{AreBuiltRules};
 ghost use Rattle.lr_run.specs.Internal.{RunsOn, StopsSo, dir_fault_of};
 ghost use Rattle.lr_run.specs.Runs.{Answers};
+ghost use Rattle.lr_run.specs.State.{IsNewText};
 
 use crate::answer::{Ran, RunStop};
 use crate::directory::{DirStop, dir_fault, look_for_dir};
@@ -92,6 +94,7 @@ pub fn run<H: Host>(
 ) -> Result<Ran, RunStop>
     requires { AreBuiltRules rules.now.sets }
     ensures safe { KeepsSafe (H.told host.old) (H.told host.new) }
+    ensures state { KeepsWhole settings.now.state (IsNewText settings.now.state clock.entry.now.now settings.now.force rules.now) (H.told host.old) (H.told host.new) }
     ensures told { Left (Answers settings.now.state settings.now.force clock.entry.now.now rules.now earlier.items result) (H.told host.old) (H.told host.new) }
     ensures shape { Left IsWholeRun (H.told host.old) (H.told host.new) }
     ensures counted { IfOk result (λ ran. AddsFaults earlier.items ran.faults.items (H.counts host.old) (H.counts host.new)) }

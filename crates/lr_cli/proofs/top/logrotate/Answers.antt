@@ -10,6 +10,7 @@ use Rattle.lr_cli.proofs.Clocked.{own_seconds}
 use Rattle.lr_cli.proofs.Called.{nothing_called, answered, left_still, has_counted, has_clocked, not_counted, none_out}
 use Rattle.lr_cli.proofs.Reading.{alone_run}
 use Rattle.lr_cli.proofs.Rotating.{answered_rotated}
+use Rattle.lr_cli.proofs.Whole.{answered_whole}
 use Rattle.lr_cli.proofs.top.logrotate.Goals as goal
 
 pub returns-in-Err-Refused-clause-safe : goal.returns-in-Err-Refused-clause-safe
@@ -59,3 +60,12 @@ returns-in-Err-Memory-clause-still g c = λ e. left_first ChangeNothing _ refl
 
 pub returns-clause-still : goal.returns-clause-still
 returns-clause-still g c = λ e. left_still c.args.here.now c.args.words.now c.args.zone.now c.args.now _ (ap without_out e) (returns-clause-told g c)
+
+pub returns-in-Err-Refused-clause-state : goal.returns-in-Err-Refused-clause-state
+returns-in-Err-Refused-clause-state g c = answered_whole c.args.here.now c.args.words.now c.args.zone.now c.args.now _ (returns-in-Err-Refused-clause-told g c)
+
+pub returns-in-Err-Memory-clause-state : goal.returns-in-Err-Memory-clause-state
+returns-in-Err-Memory-clause-state g c = answered_whole c.args.here.now c.args.words.now c.args.zone.now c.args.now _ (returns-in-Err-Memory-clause-told g c)
+
+pub returns-clause-state : goal.returns-clause-state
+returns-clause-state g c = answered_whole c.args.here.now c.args.words.now c.args.zone.now c.args.now _ (returns-clause-told g c)

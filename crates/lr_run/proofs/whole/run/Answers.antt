@@ -6,6 +6,7 @@ use Rattle.lr_run.specs.declared.answer.RunStop.TheVariants as stop
 use Rattle.lr_run.specs.Runs.{Answers, at_first}
 use Rattle.lr_run.proofs.Parts.{ran_so, stopped_so}
 use Rattle.lr_run.proofs.Shape.{none_run, whole_run}
+use Rattle.lr_run.proofs.Renewing.{run_whole}
 use Rattle.lr_run.proofs.whole.run.Goals as goal
 
 pub returns-in_default-clause-told : goal.returns-in_default-clause-told
@@ -43,3 +44,15 @@ returns-in-Err-clause-shape g c = left_as (returns-in-Err-clause-told g c) (λ t
 
 pub returns-in-Err-clause-safe : goal.returns-in-Err-clause-safe
 returns-in-Err-clause-safe g c = call_safe _ _ (returns-in-Err-clause-shape g c)
+
+pub returns-in_default-clause-state : goal.returns-in_default-clause-state
+returns-in_default-clause-state g c = run_whole c.args.settings.now.state c.args.settings.now.force c.args.clock.now.now c.args.rules.now c.args.earlier.items (Err stop.Memory) c.requires (returns-in_default-clause-told g c)
+
+pub returns-in_default-reserve-clause-state : goal.returns-in_default-reserve-clause-state
+returns-in_default-reserve-clause-state g c = run_whole c.args.settings.now.state c.args.settings.now.force c.args.clock.now.now c.args.rules.now c.args.earlier.items (Err stop.Memory) c.requires (returns-in_default-reserve-clause-told g c)
+
+pub returns-in-Ok-make_run-clause-state : goal.returns-in-Ok-make_run-clause-state
+returns-in-Ok-make_run-clause-state g c = run_whole c.args.settings.now.state c.args.settings.now.force c.args.clock.now.now c.args.rules.now c.args.earlier.items (Ok (record { faults = c.make_run.new.progress.faults })) c.requires (returns-in-Ok-make_run-clause-told g c)
+
+pub returns-in-Err-clause-state : goal.returns-in-Err-clause-state
+returns-in-Err-clause-state g c = run_whole c.args.settings.now.state c.args.settings.now.force c.args.clock.now.now c.args.rules.now c.args.earlier.items (Err c.in-Err.why) c.requires (returns-in-Err-clause-told g c)

@@ -1,0 +1,169 @@
+-- What the acts of a plan change: no name of the state, and names in the directories alone that are synced.
+use Rattle.std.proofs.Common.{◌≡◌, ◌⊎◌, inl, inr, ⊎_elim, ℕ, Bool, true, false, not, cond, refl, sym, ◌∙◌, ap, subst, List, [], ◌∷◌, ◌++◌}
+use Rattle.std.specs.Prelude.{filter}
+use Rattle.std.specs.List.{flat_map}
+use Rattle.lr_rules.specs.declared.path.Path.{Path}
+use Rattle.lr_rules.specs.declared.rule.Count.{Count}
+use Rattle.lr_rules.specs.declared.rule.Naming.{Naming}
+use Rattle.lr_rules.specs.Path.{parent_of}
+use Rattle.lr_host.specs.declared.entry.Entry.{Entry}
+use Rattle.lr_host.specs.declared.entry.Entry.TheVariants as entry
+use Rattle.lr_host.specs.declared.entry.Entry.TheVariants.{Renames, Unlinks}
+use Rattle.lr_host.specs.Lists.{IsIn}
+use Rattle.lr_host.specs.Quiet.{is_disk_change}
+use Rattle.lr_host.specs.Steps.{is_change}
+use Rattle.lr_host.specs.Told.{Each, IsTools}
+use Rattle.lr_host.proofs.Each.{each_append}
+use Rattle.lr_host.proofs.Lists.{in_front, in_back}
+use Rattle.lr_host.proofs.Quiet.{no_disk_change}
+use Rattle.lr_laws.specs.Follow.{changed_paths}
+use Rattle.lr_durable.specs.Renewing.{IsAsideOf, IsWithin}
+use Rattle.lr_durable.specs.StateWhole.{renamed_paths}
+use Rattle.lr_family.specs.Spots.{path_at}
+use Rattle.lr_family.proofs.Numbers.{every_all, every_filter}
+use Rattle.lr_chain.specs.Rotation.{places_of, is_left, leftovers, kept, one_too_many, leftover_steps, shift_steps, turn_steps, retire_steps}
+use Rattle.lr_plan.specs.declared.planned.LogPlan.{LogPlan}
+use Rattle.lr_plan.specs.declared.planned.SetPlan.{SetPlan}
+use Rattle.lr_rotations.specs.AllTurns.{IsOfSome}
+use Rattle.lr_rotations.specs.Apart.{HasNames, HaveNames}
+use Rattle.lr_rotations.specs.Members.{HasName}
+use Rattle.lr_rotations.specs.Target.{Target, rotation_of, IsOneOf}
+use Rattle.lr_rotations.proofs.Apart.{AllOwn, own_paths}
+use Rattle.lr_rotations.proofs.Fitting.{kept_next, first_named, retire_named}
+use Rattle.lr_rotations.proofs.Members.{IsOfMembers, unlinks_of, moves_of}
+use Rattle.lr_rotations.proofs.Paths.{path_parent}
+use Rattle.lr_rotations.proofs.Weaving.{each_in}
+use Rattle.lr_weave.specs.Planned.{AreReadyFor, HaveLogs}
+use Rattle.lr_seen.specs.Free.{reserved_by, AreFreeOf}
+use Rattle.lr_writing.specs.Directories.{AreDirectoriesOf}
+use Rattle.lr_run.specs.Runs.{changed_of, all_changed_of}
+
+-- ---- entries that change nothing
+
+pub disk_unchanged : (e : Entry) → IsTools e → is_disk_change e ≡ false → changed_paths e ≡ []
+disk_unchanged (entry.Renames from to) i h = absurd (cc)
+disk_unchanged (entry.Makes x mode) i h = absurd (cc)
+disk_unchanged (entry.Appends x bytes) i h = absurd (cc)
+disk_unchanged (entry.Truncates x) i h = absurd (cc)
+disk_unchanged (entry.Unlinks x) i h = absurd (cc)
+disk_unchanged (entry.MakesDir x mode) i h = absurd (cc)
+disk_unchanged (entry.Attach v x at) i h = absurd i
+disk_unchanged _ i h = refl
+
+pub none_changed : (e : Entry) → IsTools e → is_change e ≡ false → changed_paths e ≡ []
+none_changed e i h = disk_unchanged e i (no_disk_change e h)
+
+pub renamed_changed : (e : Entry) (x : Path) → IsIn x (renamed_paths e) → IsIn x (changed_paths e)
+renamed_changed (entry.Renames from to) x i = i
+renamed_changed (entry.Makes y mode) x i = i
+renamed_changed (entry.Unlinks y) x i = i
+renamed_changed (entry.MakesDir y mode) x i = i
+renamed_changed _ x i = absurd i
+
+not_in : (x : Path) (xs : List Path) → xs ≡ [] → IsIn x xs → ⊥
+not_in x xs e i = let none : IsIn x [] = subst (λ (ys : List Path). IsIn x ys) e i in none
+
+pub none_aside : (x : Path) (e : Entry) → changed_paths e ≡ [] → IsAsideOf x e
+none_aside x e h i = not_in x (changed_paths e) h i
+
+pub none_within : (part : Path) (dirs : List Path) (e : Entry) → changed_paths e ≡ [] → IsWithin part dirs e
+none_within part dirs e h x i = absurd (not_in x (changed_paths e) h (renamed_changed e x i))
+
+-- what holds of the changes among entries, and of the others
+pub of_changes : (R : Entry → Type 0) (ts : List Entry) → ((e : Entry) → IsTools e → is_change e ≡ false → R e) → Each IsTools ts → Each R (filter is_change ts) → Each R ts
+of_changes R [] calm tools a = tt
+of_changes R (e ∷ ts) calm tools a = go (is_change e) refl (λ a. of_changes R ts calm tools.1 a) a
+  where
+    go : (b : Bool) → is_change e ≡ b → (Each R (filter is_change ts) → Each R ts) → Each R (cond b (e ∷ filter is_change ts) (filter is_change ts)) → R e × Each R ts
+    go true h rest a = (a.0, rest a.1)
+    go false h rest a = (calm e tools.0 h, rest a)
+
+-- ---- the paths of a rotation
+
+-- each path whose name the entry changes is the log's or a member's
+abbrev IsOnFamily : Path → Naming → Entry → Type 0
+IsOnFamily log n e = (x : Path) → IsIn x (renamed_paths e) → (x ≡ log) ⊎ ((k : ℕ) × HasName n k × (x ≡ path_at n k))
+
+of_members : (log : Path) (n : Naming) (e : Entry) → IsOfMembers n e → IsOnFamily log n e
+of_members log n (Renames from to) h x (inl is) = inr (h.0, h.1, sym is ∙ h.2)
+of_members log n (Renames from to) h x (inr (inl is)) = inr (h.3.0, h.3.1, sym is ∙ h.3.2)
+of_members log n (Renames from to) h x (inr (inr none)) = absurd none
+of_members log n (Unlinks y) h x (inl is) = inr (h.0, h.1, sym is ∙ h.2)
+of_members log n (Unlinks y) h x (inr none) = absurd none
+of_members log n _ h x i = absurd h
+
+of_rename : (log : Path) (n : Naming) → HasName n 0 → IsOnFamily log n (Renames log (path_at n 0))
+of_rename log n first x (inl is) = inl (sym is)
+of_rename log n first x (inr (inl is)) = inr (0, first, sym is)
+of_rename log n first x (inr (inr none)) = absurd none
+
+each_member : (log : Path) (n : Naming) (es : List Entry) → Each (IsOfMembers n) es → Each (IsOnFamily log n) es
+each_member log n [] a = tt
+each_member log n (e ∷ es) a = (of_members log n e a.0, each_member log n es a.1)
+
+on_family : (t : Target) → HasNames t → Each (IsOnFamily t.log t.naming) (rotation_of t)
+on_family t h =
+    each_append P (leftover_steps n c ps) (turn_steps n c t.log ps ++ retire_steps n c ps) (each_member t.log n (leftover_steps n c ps) (unlinks_of n (leftovers c ps) (every_filter (HasName n) (is_left c) ps (every_all (HasName n) ps h.named))))
+    (each_append P (turn_steps n c t.log ps) (retire_steps n c ps)
+    (each_append P (shift_steps n c ps) (Renames t.log (path_at n 0) ∷ [])
+    (each_member t.log n (shift_steps n c ps) (moves_of n (kept c ps) (every_filter (HasName n) (λ k. not (is_left c k)) ps (every_all (HasName n) ps h.named)) (kept_next n c ps h.next)))
+    (of_rename t.log n (first_named n c ps h.next), tt))
+    (each_member t.log n (retire_steps n c ps) (unlinks_of n (one_too_many c ps) (retire_named n c ps h.next))))
+  where
+    n : Naming
+    n = t.naming
+
+    c : Count
+    c = t.count
+
+    ps : List ℕ
+    ps = places_of t.stand.members
+
+    P : Entry → Type 0
+    P = IsOnFamily t.log t.naming
+
+-- ---- their directories
+
+-- the log's path and that of its newest member are among these
+abbrev IsCovered : List Path → Target → Type 0
+IsCovered paths t = IsIn t.log paths × IsIn (path_at t.naming 0) paths
+
+covered_log : (t : Target) (ts : List Target) (logs : List LogPlan) → AreReadyFor ts logs → IsOneOf t ts → IsCovered (changed_of logs) t
+covered_log t [] logs r i = absurd i
+covered_log t (u ∷ us) [] r i = absurd r
+covered_log t (u ∷ us) (l ∷ ls) r (inl e) = (inl (r.0.ready.log_is ∙ ap (λ (v : Target). v.log) e), inr (inl (r.0.ready.target_is ∙ ap (λ (v : Target). path_at v.naming 0) e)))
+covered_log t (u ∷ us) (l ∷ ls) r (inr i) = let c = covered_log t us ls r.1 i in (inr (inr c.0), inr (inr c.1))
+
+one_of_two : (t : Target) (xs ys : List Target) → IsOneOf t (xs ++ ys) → IsOneOf t xs ⊎ IsOneOf t ys
+one_of_two t [] ys i = inr i
+one_of_two t (x ∷ xs) ys (inl e) = inl (inl e)
+one_of_two t (x ∷ xs) ys (inr i) = ⊎_elim (λ a. inl (inr a)) (λ b. inr b) (one_of_two t xs ys i)
+
+covered : (t : Target) (groups : List (List Target)) (sets : List SetPlan) → HaveLogs groups sets → IsOneOf t (flat_map (λ ts. ts) groups) → IsCovered (all_changed_of sets) t
+covered t [] sets h i = absurd i
+covered t (ts ∷ groups) [] h i = absurd h
+covered t (ts ∷ groups) (s ∷ ss) h i = ⊎_elim
+    (λ a. let c = covered_log t ts s.logs h.0 a in (in_front t.log (changed_of s.logs) (all_changed_of ss) c.0, in_front (path_at t.naming 0) (changed_of s.logs) (all_changed_of ss) c.1))
+    (λ b. let c = covered t groups ss h.1 b in (in_back t.log (changed_of s.logs) (all_changed_of ss) c.0, in_back (path_at t.naming 0) (changed_of s.logs) (all_changed_of ss) c.1))
+    (one_of_two t ts (flat_map (λ ts. ts) groups) i)
+
+within_family : (part : Path) (paths dirs : List Path) (t : Target) (e : Entry) → AreDirectoriesOf paths dirs → HasNames t → IsCovered paths t → IsOnFamily t.log t.naming e → IsWithin part dirs e
+within_family part paths dirs t e a h c f x i = inr (⊎_elim
+    (λ is. subst (λ (y : Path). IsIn (parent_of y) dirs) (sym is) (a.all t.log c.0))
+    (λ m. subst (λ (d : Path). IsIn d dirs) (path_parent t.log t.naming 0 h.family (first_named t.naming t.count (places_of t.stand.members) h.next) ∙ (sym (path_parent t.log t.naming m.0 h.family m.1) ∙ ap parent_of (sym m.2))) (a.all (path_at t.naming 0) c.1))
+    (f x i))
+
+-- ---- a change of the acts
+
+pub some_within : (part : Path) (paths dirs : List Path) (ts : List Target) (e : Entry) → AreDirectoriesOf paths dirs → HaveNames ts → ((t : Target) → IsOneOf t ts → IsCovered paths t) → IsOfSome ts e → IsWithin part dirs e
+some_within part paths dirs [] e a h c i = absurd i
+some_within part paths dirs (t ∷ ts) e a h c (inl i) = within_family part paths dirs t e a h.0 (c t (inl refl)) (each_in (IsOnFamily t.log t.naming) (rotation_of t) e (on_family t h.0) i)
+some_within part paths dirs (t ∷ ts) e a h c (inr i) = some_within part paths dirs ts e a h.1 (λ u j. c u (inr j)) i
+
+pub some_aside : (state : Path) (ts : List Target) (e : Entry) → HaveNames ts → AreFreeOf (reserved_by state) ts → IsOfSome ts e → IsAsideOf state e
+some_aside state [] e h free i = absurd i
+some_aside state (t ∷ ts) e h free (inl i) = λ changed. free.0 state (inl refl) (inl (each_in (AllOwn t.log t.naming) (rotation_of t) e (own_paths t h.0) i state changed))
+some_aside state (t ∷ ts) e h free (inr i) = some_aside state ts e h.1 free.1 i
+
+pub groups_within : (part : Path) (dirs : List Path) (groups : List (List Target)) (sets : List SetPlan) (e : Entry) → AreDirectoriesOf (all_changed_of sets) dirs → HaveLogs groups sets → HaveNames (flat_map (λ ts. ts) groups) → IsOfSome (flat_map (λ ts. ts) groups) e → IsWithin part dirs e
+groups_within part dirs groups sets e a h names i = some_within part (all_changed_of sets) dirs (flat_map (λ ts. ts) groups) e a names (λ t j. covered t groups sets h j) i

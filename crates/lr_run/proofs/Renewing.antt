@@ -1,0 +1,287 @@
+-- The state stays whole over a run.
+use Rattle.std.proofs.Common.{◌≡◌, ◌⊎◌, inl, inr, ⊎_elim, ℕ, Bool, false, refl, sym, ◌∙◌, ap, subst, List, [], ◌∷◌, ◌++◌, map, reverse, append_assoc, Option, Some, Result, Ok, Err}
+use Rattle.std.specs.Prelude.{filter}
+use Rattle.std.specs.List.{flat_map}
+use Rattle.std.proofs.lemmas.List.{append-nil}
+use Rattle.lr_rules.specs.declared.civil.Moment.{Moment}
+use Rattle.lr_rules.specs.declared.fault.Fault.{Fault}
+use Rattle.lr_rules.specs.declared.path.Path.{Path}
+use Rattle.lr_rules.specs.declared.rule.Rule.{Rule}
+use Rattle.lr_rules.specs.declared.rules.Rules.{Rules}
+use Rattle.lr_rules.specs.Path.{parent_of}
+use Rattle.lr_host.specs.declared.entry.Entry.{Entry}
+use Rattle.lr_host.specs.declared.entry.Entry.TheVariants as entry
+use Rattle.lr_host.specs.declared.journal.Journal.{Journal}
+use Rattle.lr_host.specs.Looks.{IsDir}
+use Rattle.lr_host.specs.Quiet.{IsQuiet, AreQuiet, is_disk_change, ChangeNothing}
+use Rattle.lr_host.specs.Steps.{is_change}
+use Rattle.lr_host.specs.Told.{Each, IsTools, Left, not_told, is_told}
+use Rattle.lr_host.specs.World.{past}
+use Rattle.lr_host.proofs.Each.{each_append, each_as, each_first, each_reverse, none_passed}
+use Rattle.lr_host.proofs.Made.{made_tools}
+use Rattle.lr_durable.specs.Renewing.{IsAsideOf, IsWithin, MayRenew, left_alone, renewed}
+use Rattle.lr_durable.specs.StateWhole.{part_of, KeepsWhole}
+use Rattle.lr_durable.proofs.Whole.{whole_at}
+use Rattle.lr_due.specs.declared.answer.Due.{Due}
+use Rattle.lr_plan.specs.declared.looks.LogLook.{LogLook}
+use Rattle.lr_plan.specs.Copying.{Appended, no_more, piece_more}
+use Rattle.lr_plan.specs.Done.{rotated_logs}
+use Rattle.lr_plan.specs.Outcomes.{Maybe}
+use Rattle.lr_plan.specs.Planned.{decision}
+use Rattle.lr_plan.specs.Steps.{steps_of_set}
+use Rattle.lr_rotations.specs.AllTurns.{IsOfSome}
+use Rattle.lr_rotations.specs.Apart.{HaveNames}
+use Rattle.lr_rotations.specs.Target.{Target}
+use Rattle.lr_weave.specs.Parts.{ArePlanned, parts_of_sets}
+use Rattle.lr_weave.specs.Planned.{HaveLogs}
+use Rattle.lr_weave.proofs.Parting.{sets_parts, all_parts}
+use Rattle.lr_weave.proofs.Planning.{ready_planned}
+use Rattle.lr_seen.specs.Built.{AreBuiltRules}
+use Rattle.lr_seen.specs.Targets.{groups_of, all_targets}
+use Rattle.lr_seen.proofs.Apart.{targets_apart}
+use Rattle.lr_seen.proofs.Free.{targets_free}
+use Rattle.lr_seen.proofs.Ready.{plans_have_logs}
+use Rattle.lr_seen.proofs.Seen.{targets_have_names}
+use Rattle.lr_reading.proofs.Quiet.{state_quiet}
+use Rattle.lr_writing.specs.Named.{Spares, NamedLast, not_named, named}
+use Rattle.lr_writing.proofs.Named.{named_last}
+use Rattle.lr_run.specs.declared.answer.Ran.{Ran}
+use Rattle.lr_run.specs.declared.answer.RunStop.{RunStop}
+use Rattle.lr_run.specs.declared.answer.RunStop.TheVariants as stop
+use Rattle.lr_run.specs.Runs as runs
+use Rattle.lr_run.specs.Runs.{Inside, Looked, Worked, Works, not_known, too_big, worked, Runs, no_directory, not_seen, not_begun, Answers, at_first, in_looks, plan_in, state_text}
+use Rattle.lr_run.specs.State.{Tells, IsNewText}
+use Rattle.lr_run.proofs.Covering.{disk_unchanged, none_changed, none_aside, none_within, of_changes, some_aside, groups_within}
+use Rattle.lr_run.proofs.Shape.{sees_quiet, some_quiet, seen_quiet, in_parts}
+
+-- ---- what the writing leaves
+
+-- the tool's entry spares the path
+spares_aside : (x : Path) (e : Entry) → IsTools e → Spares x e → IsAsideOf x e
+spares_aside x (entry.Renames from to) i s (inl e) = s.0 e
+spares_aside x (entry.Renames from to) i s (inr (inl e)) = s.1 e
+spares_aside x (entry.Renames from to) i s (inr (inr none)) = none
+spares_aside x (entry.Makes y mode) i s (inl e) = s e
+spares_aside x (entry.Makes y mode) i s (inr none) = none
+spares_aside x (entry.Appends y piece) i s (inl e) = s e
+spares_aside x (entry.Appends y piece) i s (inr none) = none
+spares_aside x (entry.Truncates y) i s (inl e) = s e
+spares_aside x (entry.Truncates y) i s (inr none) = none
+spares_aside x (entry.Unlinks y) i s (inl e) = s e
+spares_aside x (entry.Unlinks y) i s (inr none) = none
+spares_aside x (entry.MakesDir y mode) i s (inl e) = s e
+spares_aside x (entry.MakesDir y mode) i s (inr none) = none
+spares_aside x (entry.Attach v y at) i s c = i
+spares_aside x _ i s c = c
+
+all_aside : (x : Path) (ts : List Entry) → Each IsTools ts → Each (Spares x) ts → Each (IsAsideOf x) ts
+all_aside x [] i s = tt
+all_aside x (t ∷ ts) i s = (spares_aside x t i.0 s.0, all_aside x ts i.1 s.1)
+
+pub each_later : (P : Entry → Type 0) (xs ys : List Entry) → Each P (xs ++ ys) → Each P ys
+each_later P [] ys a = a
+each_later P (x ∷ xs) ys a = each_later P xs ys a.1
+
+-- the pieces of a text
+record InPieces (to : Path) (text : List ℕ) (ts : List Entry) : Type 0 where
+  pieces : List (List ℕ)
+  ts_are : ts ≡ map (entry.Appends to) pieces
+  text_is : flat_map (λ piece. piece) pieces ≡ text
+
+in_pieces : (to : Path) (text : List ℕ) (ts : List Entry) → Appended to text ts → InPieces to text ts
+in_pieces to _ _ no_more = record { pieces = []; ts_are = refl; text_is = refl }
+in_pieces to _ _ (piece_more piece text {ts = ts} a) = let r = in_pieces to text ts a in record { pieces = piece ∷ r.pieces; ts_are = ap (λ es. entry.Appends to piece ∷ es) r.ts_are; text_is = ap (λ bs. piece ++ bs) r.text_is }
+
+cleared_within : (part : Path) (dirs : List Path) (ts : List Entry) → Maybe (entry.Unlinks part) ts → Each (IsWithin part dirs) ts
+cleared_within part dirs ts (inl e) = subst (Each (IsWithin part dirs)) (sym e) tt
+cleared_within part dirs ts (inr e) = subst (Each (IsWithin part dirs)) (sym e) ((λ x i. ⊎_elim (λ is. inl (sym is)) (λ none. absurd none) i), tt)
+
+synced_calm : (dir : Path) (ts : List Entry) → Maybe (entry.SyncsDir dir) ts → Each (λ e. is_disk_change e ≡ false) ts
+synced_calm dir ts (inl e) = subst (Each (λ e. is_disk_change e ≡ false)) (sym e) tt
+synced_calm dir ts (inr e) = subst (Each (λ e. is_disk_change e ≡ false)) (sym e) (refl, tt)
+
+-- Behind entries that leave the state alone, in these directories, the state is left alone or renewed.
+module _ (state : Path) (dirs : List Path) (text : List ℕ) (IsText : List ℕ → Type 0) (is : IsText text) (front : List Entry) (aside : Each (IsAsideOf state) front) (within : Each (IsWithin (part_of state) dirs) front) where
+  back_may : (back ends : List Entry) → Each IsTools back → Each (IsAsideOf state) ends → Each (λ e. is_disk_change e ≡ false) ends → NamedLast state dirs text back → MayRenew state IsText (front ++ (back ++ ends))
+  back_may back ends tools far calm (not_named s) = left_alone (each_append (IsAsideOf state) front (back ++ ends) aside (each_append (IsAsideOf state) back ends (all_aside state back tools s) far))
+  back_may back ends tools far calm (named before after e ready spared behind) = renewed dirs text is (record {
+    front = front ++ ready.cleared;
+    mode = Some 416;
+    pieces = p.pieces;
+    after = after ++ ends;
+    ts_are = ap (λ es. front ++ (es ++ ends)) (e ∙ ap (λ es. es ++ (entry.Renames part state ∷ after)) (ready.before_is ∙ ap (λ es. ready.cleared ++ (entry.Makes part (Some 416) ∷ (es ++ (entry.SyncsFile part ∷ map entry.SyncsDir dirs)))) p.ts_are)) ∙ in_order;
+    aside = each_append (IsAsideOf state) front ready.cleared aside (each_first (IsAsideOf state) ready.cleared _ (subst (Each (IsAsideOf state)) ready.before_is (all_aside state before (each_first IsTools before _ (subst (Each IsTools) e tools)) spared)));
+    within = each_append (IsWithin part dirs) front ready.cleared within (cleared_within part dirs ready.cleared ready.cleared_is);
+    text_is = p.text_is;
+    nothing_more = each_append (λ e. is_disk_change e ≡ false) after ends (synced_calm (parent_of state) after behind) calm;
+  })
+    where
+      part : Path
+      part = part_of state
+
+      p : InPieces part text ready.pieces
+      p = in_pieces part text ready.pieces ready.text_is
+
+      syncs : List Entry
+      syncs = map entry.SyncsDir dirs
+
+      -- from the make on
+      rest : List Entry
+      rest = map (entry.Appends part) p.pieces ++ (entry.SyncsFile part ∷ (syncs ++ (entry.Renames part state ∷ (after ++ ends))))
+
+      in_order : front ++ (((ready.cleared ++ (entry.Makes part (Some 416) ∷ (map (entry.Appends part) p.pieces ++ (entry.SyncsFile part ∷ syncs)))) ++ (entry.Renames part state ∷ after)) ++ ends) ≡ (front ++ ready.cleared) ++ (entry.Makes part (Some 416) ∷ rest)
+      in_order = ap (λ es. front ++ es) (append_assoc (ready.cleared ++ (entry.Makes part (Some 416) ∷ (map (entry.Appends part) p.pieces ++ (entry.SyncsFile part ∷ syncs)))) (entry.Renames part state ∷ after) ends
+          ∙ (append_assoc ready.cleared (entry.Makes part (Some 416) ∷ (map (entry.Appends part) p.pieces ++ (entry.SyncsFile part ∷ syncs))) (entry.Renames part state ∷ (after ++ ends))
+          ∙ ap (λ es. ready.cleared ++ (entry.Makes part (Some 416) ∷ es)) (append_assoc (map (entry.Appends part) p.pieces) (entry.SyncsFile part ∷ syncs) (entry.Renames part state ∷ (after ++ ends)))))
+          ∙ sym (append_assoc front ready.cleared (entry.Makes part (Some 416) ∷ rest))
+
+-- ---- what a run leaves
+
+calm_aside : (x : Path) (ts : List Entry) → AreQuiet ts → Each (IsAsideOf x) ts
+calm_aside x ts q = each_as IsQuiet (IsAsideOf x) ts (λ e i. none_aside x e (none_changed e i.0 i.1)) q
+
+calm_within : (part : Path) (dirs : List Path) (ts : List Entry) → AreQuiet ts → Each (IsWithin part dirs) ts
+calm_within part dirs ts q = each_as IsQuiet (IsWithin part dirs) ts (λ e i. none_within part dirs e (none_changed e i.0 i.1)) q
+
+pub quiet_alone : (state : Path) (IsText : List ℕ → Type 0) (ts : List Entry) → AreQuiet ts → MayRenew state IsText ts
+quiet_alone state IsText ts q = left_alone (calm_aside state ts q)
+
+-- what changes nothing of the disk leaves it alone
+still_aside : (x : Path) (ts : List Entry) → Each IsTools ts → ChangeNothing ts → Each (IsAsideOf x) ts
+still_aside x [] i h = tt
+still_aside x (t ∷ ts) i h = let n = none_passed is_disk_change t ts h in (none_aside x t (disk_unchanged t i.0 n.0), still_aside x ts i.1 n.1)
+
+pub still_alone : (state : Path) (IsText : List ℕ → Type 0) (ts : List Entry) → Each IsTools ts → ChangeNothing ts → MayRenew state IsText ts
+still_alone state IsText ts i h = left_alone (still_aside state ts i h)
+
+-- behind entries that change nothing
+pub behind_quiet : (state : Path) (I J : List ℕ → Type 0) → ((text : List ℕ) → I text → J text) → (xs ts : List Entry) → AreQuiet xs → MayRenew state I ts → MayRenew state J (xs ++ ts)
+behind_quiet state I J f xs ts q (left_alone a) = left_alone (each_append (IsAsideOf state) xs ts (calm_aside state xs q) a)
+behind_quiet state I J f xs ts q (renewed dirs text is r) = renewed dirs text (f text is) (record {
+  front = xs ++ r.front;
+  mode = r.mode;
+  pieces = r.pieces;
+  after = r.after;
+  ts_are = ap (λ es. xs ++ es) r.ts_are ∙ sym (append_assoc xs r.front _);
+  aside = each_append (IsAsideOf state) xs r.front (calm_aside state xs q) r.aside;
+  within = each_append (IsWithin (part_of state) dirs) xs r.front (calm_within (part_of state) dirs xs q) r.within;
+  text_is = r.text_is;
+  nothing_more = r.nothing_more;
+})
+
+-- around what leaves the state alone
+around : (state x : Path) (now : Moment) (rules : Rules) (before between : List Entry) → Each (IsAsideOf x) before → Each (IsAsideOf x) between → Each (IsAsideOf x) (before ++ (entry.Starts state now rules ∷ (between ++ entry.Ends ∷ [])))
+around state x now rules before between a b = each_append (IsAsideOf x) before (entry.Starts state now rules ∷ (between ++ entry.Ends ∷ [])) a ((λ i. i), each_append (IsAsideOf x) between (entry.Ends ∷ []) b ((λ i. i), tt))
+
+module _ (state : Path) (rules : Rules) (now : Moment) (force : Bool) (built : AreBuiltRules rules.sets) where
+  -- the changes of the acts
+  module _ (own : List Fault) (ts : List Entry) (w : Worked state rules.sets now force own ts) (tools : Each IsTools ts) where
+    abbrev l : Looked state rules.sets ts
+    l = w.looked
+
+    abbrev decide : Rule → LogLook → Due
+    decide = decision l.remembered.table now force
+
+    abbrev acts : List Entry
+    acts = w.acted.entries.entries.front
+
+    abbrev targets : List Target
+    targets = all_targets decide rules.sets l.sets
+
+    logs : HaveLogs (groups_of decide rules.sets l.sets) (plan_in state rules.sets ts l now force).sets
+    logs = plans_have_logs rules.sets l.sets l.of_looks l.looks decide built l.shown
+
+    planned : ArePlanned targets (map steps_of_set (plan_in state rules.sets ts l now force).sets)
+    planned = ready_planned (groups_of decide rules.sets l.sets) (plan_in state rules.sets ts l now force).sets logs (targets_apart rules.sets l.sets l.of_looks l.looks decide l.shown)
+
+    have_names : HaveNames targets
+    have_names = targets_have_names rules l.sets l.of_looks l.looks decide built l.shown
+
+    of_logs : Each (IsOfSome targets) (filter is_change acts)
+    of_logs = all_parts (IsOfSome targets) (parts_of_sets (map steps_of_set (plan_in state rules.sets ts l now force).sets)) (filter is_change acts) planned.all (sets_parts (map steps_of_set (plan_in state rules.sets ts l now force).sets) w.acted.marks w.acted.entries.of_plan acts planned.plain w.acted.entries.entries.first)
+
+    in_three : ts ≡ ((l.reads ++ l.looks) ++ acts) ++ w.acted.entries.entries.back
+    in_three = in_parts state rules.sets now force own ts w
+
+    abbrev seen : List Entry
+    seen = l.reads ++ l.looks
+
+    tools_of : Each IsTools ((seen ++ acts) ++ w.acted.entries.entries.back)
+    tools_of = subst (Each IsTools) in_three tools
+
+    acts_tools : Each IsTools acts
+    acts_tools = each_later IsTools seen acts (each_first IsTools (seen ++ acts) w.acted.entries.entries.back tools_of)
+
+    back_tools : Each IsTools w.acted.entries.entries.back
+    back_tools = each_later IsTools (seen ++ acts) w.acted.entries.entries.back tools_of
+
+    pub acts_aside : Each (IsAsideOf state) (seen ++ acts)
+    acts_aside = each_append (IsAsideOf state) seen acts (calm_aside state seen (seen_quiet state rules.sets ts l))
+        (of_changes (IsAsideOf state) acts (λ e i h. none_aside state e (none_changed e i h)) acts_tools (each_as (IsOfSome targets) (IsAsideOf state) (filter is_change acts) (λ e i. some_aside state targets e have_names (targets_free rules.sets l.sets l.of_looks l.looks decide l.shown) i) of_logs))
+
+    pub acts_within : Each (IsWithin (part_of state) w.acted.dirs) (seen ++ acts)
+    acts_within = each_append (IsWithin (part_of state) w.acted.dirs) seen acts (calm_within (part_of state) w.acted.dirs seen (seen_quiet state rules.sets ts l))
+        (of_changes (IsWithin (part_of state) w.acted.dirs) acts (λ e i h. none_within (part_of state) w.acted.dirs e (none_changed e i h)) acts_tools (each_as (IsOfSome targets) (IsWithin (part_of state) w.acted.dirs) (filter is_change acts) (λ e i. groups_within (part_of state) w.acted.dirs (groups_of decide rules.sets l.sets) (plan_in state rules.sets ts l now force).sets e w.acted.dirs_are logs have_names i) of_logs))
+
+    abbrev text : List ℕ
+    text = state_text state rules.sets ts l now (rotated_logs w.acted.marks)
+
+    -- behind more that leaves the state alone, and before its end
+    pub worked_may : (IsText : List ℕ → Type 0) → IsText text → (front : List Entry) → Each (IsAsideOf state) front → Each (IsWithin (part_of state) w.acted.dirs) front → MayRenew state IsText (front ++ (ts ++ entry.Ends ∷ []))
+    worked_may IsText is front aside within = subst (MayRenew state IsText) (sym in_order)
+        (back_may state w.acted.dirs text IsText is (front ++ (seen ++ acts)) (each_append (IsAsideOf state) front (seen ++ acts) aside acts_aside) (each_append (IsWithin (part_of state) w.acted.dirs) front (seen ++ acts) within acts_within)
+        w.acted.entries.entries.back (entry.Ends ∷ []) back_tools ((λ i. i), tt) (refl, tt)
+        (named_last state l.remembered.stale w.acted.dirs text w.acted.entries.of_state w.acted.entries.entries.back w.acted.entries.entries.second))
+      where
+        in_order : front ++ (ts ++ entry.Ends ∷ []) ≡ (front ++ (seen ++ acts)) ++ (w.acted.entries.entries.back ++ entry.Ends ∷ [])
+        in_order = ap (λ es. front ++ (es ++ entry.Ends ∷ [])) in_three ∙ (ap (λ es. front ++ es) (append_assoc (seen ++ acts) w.acted.entries.entries.back (entry.Ends ∷ [])) ∙ sym (append_assoc front (seen ++ acts) (w.acted.entries.entries.back ++ entry.Ends ∷ [])))
+
+  -- the work, between what was before and the end
+  works_may : (own : List Fault) (before between : List Entry) → AreQuiet before → Each IsTools between → Works state rules.sets now force own between
+      → (IsText : List ℕ → Type 0) → ((text : List ℕ) → Tells state rules.sets now force text between → IsText text) → MayRenew state IsText (before ++ (entry.Starts state now rules ∷ (between ++ entry.Ends ∷ [])))
+  works_may own before between q tools (not_known sights f known e shown) IsText tells = left_alone (around state state now rules before between (calm_aside state before q) (calm_aside state between (state_quiet state 65_536 sights between shown)))
+  works_may own before between q tools (too_big l big e none) IsText tells = left_alone (around state state now rules before between (calm_aside state before q)
+      (calm_aside state between (subst AreQuiet (sym (l.joined ∙ (ap (λ xs. l.reads ++ (l.looks ++ xs)) none ∙ ap (λ xs. l.reads ++ xs) (append-nil l.looks)))) (seen_quiet state rules.sets between l))))
+  works_may own before between q tools (worked w) IsText tells = subst (MayRenew state IsText) (append_assoc before (entry.Starts state now rules ∷ []) (between ++ entry.Ends ∷ []))
+      (worked_may own between w tools IsText (tells _ (record { own = own; worked = w; text_is = refl })) (before ++ entry.Starts state now rules ∷ [])
+      (each_append (IsAsideOf state) before (entry.Starts state now rules ∷ []) (calm_aside state before q) ((λ i. i), tt))
+      (each_append (IsWithin (part_of state) w.acted.dirs) before (entry.Starts state now rules ∷ []) (calm_within (part_of state) w.acted.dirs before q) ((λ x i. absurd i), tt)))
+
+  -- what a run leaves
+  begun_tools : (before between ts : List Entry) → ts ≡ before ++ (entry.Starts state now rules ∷ (between ++ entry.Ends ∷ [])) → Each IsTools ts → Each IsTools between
+  begun_tools before between ts e tools = each_first IsTools between (entry.Ends ∷ []) (each_later IsTools before (entry.Starts state now rules ∷ (between ++ entry.Ends ∷ [])) (subst (Each IsTools) e tools)).1
+
+  abbrev IsTextOf : List Entry → List ℕ → Type 0
+  IsTextOf ts text = IsNewText state now force rules ts text
+
+  pub runs_may : (own : List Fault) (ts : List Entry) → Each IsTools ts → Runs state force now rules own ts → MayRenew state (IsTextOf ts) ts
+  runs_may own ts tools (no_directory e s) = quiet_alone state (IsTextOf ts) ts (sees_quiet (parent_of state) _ ts s)
+  runs_may own ts tools (not_seen e s) = quiet_alone state (IsTextOf ts) ts (subst AreQuiet (sym s) tt)
+  runs_may own ts tools (not_begun e t) = left_alone (go t.second)
+    where
+      go : (t.back ≡ []) ⊎ (t.back ≡ entry.Starts state now rules ∷ []) → Each (IsAsideOf state) ts
+      go (inl none) = calm_aside state ts (subst AreQuiet (sym (t.joined ∙ (ap (λ es. t.front ++ es) none ∙ append-nil t.front))) (sees_quiet (parent_of state) IsDir t.front t.first))
+      go (inr one) = subst (Each (IsAsideOf state)) (sym (t.joined ∙ ap (λ es. t.front ++ es) one)) (each_append (IsAsideOf state) t.front (entry.Starts state now rules ∷ []) (calm_aside state t.front (sees_quiet (parent_of state) IsDir t.front t.first)) ((λ i. i), tt))
+  runs_may own ts tools (runs.began i) = subst (MayRenew state (IsTextOf ts)) (sym i.entries)
+      (works_may own i.before i.between (sees_quiet (parent_of state) IsDir i.before i.directory) (begun_tools i.before i.between ts i.entries tools) i.within (IsTextOf ts)
+      (λ text t. record { before = i.before; between = i.between; entries = i.entries; directory = i.directory; within = t }))
+
+  pub answers_may : (earlier : List Fault) (r : Result Ran RunStop) (ts : List Entry) → Each IsTools ts → Answers state force now rules earlier r ts → MayRenew state (IsTextOf ts) ts
+  answers_may earlier (Ok ran) ts tools h = runs_may h.0 ts tools h.2
+  answers_may earlier (Err stop.Held) ts tools h = quiet_alone state (IsTextOf ts) ts (sees_quiet (parent_of state) IsDir ts h)
+  answers_may earlier (Err stop.Memory) ts tools (at_first e) = quiet_alone state (IsTextOf ts) ts (subst AreQuiet (sym e) tt)
+  answers_may earlier (Err stop.Memory) ts tools (in_looks i) = subst (MayRenew state (IsTextOf ts)) (sym i.entries) (left_alone (around state state now rules i.before i.between (calm_aside state i.before (sees_quiet (parent_of state) IsDir i.before i.directory)) (calm_aside state i.between (some_quiet state rules.sets i.between i.within))))
+
+-- ---- a call
+
+-- calls that leave the state alone, or renew it
+pub left_whole : (state : Path) (IsText : List Entry → List ℕ → Type 0) (P : List Entry → Type 0) {o n : Option Journal} → Left P o n → ((ts : List Entry) → Each IsTools ts → P ts → MayRenew state (IsText ts) ts) → KeepsWhole state IsText o n
+left_whole state IsText P not_told f = tt
+left_whole state IsText P (is_told {j = j} {k = k} {es = es} m h) f = λ journal settled spare. record {
+  entries = es;
+  made = m;
+  each = λ u since until. whole_at state (IsText (reverse es)) (past j) (past k) es m journal (f (reverse es) (each_reverse IsTools es (made_tools (past j) (past k) es m)) h) settled spare u since until;
+}
+
+pub run_whole : (state : Path) (force : Bool) (now : Moment) (rules : Rules) (earlier : List Fault) (r : Result Ran RunStop) {o n : Option Journal} → AreBuiltRules rules.sets → Left (Answers state force now rules earlier r) o n → KeepsWhole state (IsNewText state now force rules) o n
+run_whole state force now rules earlier r built l = left_whole state (IsNewText state now force rules) (Answers state force now rules earlier r) l (λ ts tools h. answers_may state rules now force built earlier r ts tools h)
