@@ -8,7 +8,7 @@ use Rattle.lr_host.specs.declared.entry.Entry.{Entry}
 use Rattle.lr_host.specs.declared.entry.Entry.TheVariants as entry
 use Rattle.lr_host.specs.Told.{Each, Then}
 use Rattle.lr_host.proofs.Each.{each_append, each_as, none_pass}
-use Rattle.lr_fixed.specs.Listings.{is_listing_of, listings_of}
+use Rattle.lr_glob.specs.Listings.{is_listing_of, listings_of}
 
 -- an entry that lists no directory
 abbrev pub IsNoListing : Entry → Type 0

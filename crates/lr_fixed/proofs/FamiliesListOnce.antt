@@ -12,7 +12,7 @@ use Rattle.lr_family.specs.declared.listing.Listing.{Listing}
 use Rattle.lr_family.specs.Listed.{ShowsListing}
 use Rattle.lr_looks.specs.Families.{FamilySight, WasListed, ShowsMembersIn, ShowsFamily, behind_listing, with_listing, not_listed, ShowFamilies}
 use Rattle.lr_looks.specs.Found.{FoundLog}
-use Rattle.lr_fixed.specs.Listings.{listings_of}
+use Rattle.lr_glob.specs.Listings.{listings_of}
 use Rattle.lr_fixed.proofs.Listings.{listed_last, listed_more}
 use Rattle.lr_fixed.proofs.CountedListings.{count_none, count_joined, none_both, none_empty}
 use Rattle.lr_fixed.proofs.LooksListNone.{sees_none, members_in_none, not_listed_none}

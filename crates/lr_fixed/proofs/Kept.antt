@@ -1,5 +1,5 @@
 -- Which logs are kept is fixed by the paths and the names of those that were found.
-use Rattle.std.proofs.Common.{◌≡◌, ℕ, zero, suc, List, [], ◌∷◌, length, map, Some, slice_get, refl, sym, ap, ◌∙◌, subst}
+use Rattle.std.proofs.Common.{◌≡◌, ℕ, zero, suc, Bool, List, [], ◌∷◌, length, map, Some, slice_get, refl, sym, ap, ◌∙◌, subst}
 use Rattle.std.specs.Borrow.{Bor}
 use Rattle.std.proofs.lemmas.List.{length-map}
 use Rattle.std.proofs.lemmas.Option.{same_Some}
@@ -8,10 +8,10 @@ use Rattle.lr_rules.specs.declared.rule.Naming.{Naming}
 use Rattle.lr_rules.specs.Names.{Meet, IsName}
 use Rattle.lr_family.specs.declared.family.Family.{Family}
 use Rattle.lr_kept.specs.declared.choice.Choice.{Choice}
-use Rattle.lr_kept.specs.declared.choice.Choice.TheVariants.{Kept, Again, Reserved, Meets}
-use Rattle.lr_kept.specs.Chosen.{Both, HaveOnePath, HasReserved, MeetAt, IsNew, IsChoice, AreChosen}
+use Rattle.lr_kept.specs.declared.choice.Choice.TheVariants.{Kept, Again, MemberOf, Reserved, Meets}
+use Rattle.lr_kept.specs.Chosen.{Both, HaveOnePath, IsMember, IsMemberOf, IsMatchedMember, HasReserved, MeetAt, IsNew, IsChoice, AreChosen}
 use Rattle.lr_kept.proofs.Fixed.{one_choice}
-use Rattle.lr_looks.specs.Choices.{names_of, IsChoiceAmong}
+use Rattle.lr_looks.specs.Choices.{names_of, is_wild, IsChoiceAmong}
 use Rattle.lr_looks.specs.Found.{FoundLog}
 
 -- the path of a log, and the names of its members
@@ -49,28 +49,44 @@ module _ (logs more : List (Bor Family)) (e : map names_of logs ≡ map names_of
   meet_to : (i k : ℕ) → MeetAt logs i k → MeetAt more i k
   meet_to i k b = both_to (λ v w. Meet v.0 v.1 w.0 w.1) i k b
 
+  -- and that the one is a member of the other
+  member_to : (i k : ℕ) → IsMemberOf logs i k → IsMemberOf more i k
+  member_to i k b = both_to (λ v w. IsMember v.1 w.0) i k b
+
   -- and that a name of one is reserved
   has_to : (reserved : List Path) (k i : ℕ) → HasReserved logs reserved k i → HasReserved more reserved k i
   has_to reserved k i b =
       let x = read_alike logs more e k b.log b.at_log in
       record { log = x.0; path = b.path; at_log = x.1; at_path = b.at_path; named = subst (λ (v : Named). IsName v.0 v.1 b.path) x.2 b.named }
 
-module _ (logs more : List (Bor Family)) (e : map names_of logs ≡ map names_of more) (reserved : List Path) (choices : List Choice) where
-  -- a path that wasn't found before
-  new_to : (k : ℕ) → IsNew logs k → IsNew more k
-  new_to k h i lt b = h i lt (path_to more logs (sym e) i k b)
+-- a path that wasn't found before
+new_to : (logs more : List (Bor Family)) → map names_of logs ≡ map names_of more → (k : ℕ) → IsNew logs k → IsNew more k
+new_to logs more e k h i lt b = h i lt (path_to more logs (sym e) i k b)
+
+-- a wildcard's match that is a member of another log
+matched_to : (logs more : List (Bor Family)) → map names_of logs ≡ map names_of more → (wild : List Bool) (k i : ℕ) → IsMatchedMember logs wild k i → IsMatchedMember more wild k i
+matched_to logs more e wild k i h = record { matched = h.matched; other = h.other; new = new_to logs more e i h.new; member = member_to logs more e i k h.member }
+
+module _ (logs more : List (Bor Family)) (e : map names_of logs ≡ map names_of more) (wild : List Bool) (reserved : List Path) (choices : List Choice) where
+  new : (k : ℕ) → IsNew logs k → IsNew more k
+  new = new_to logs more e
+
+  -- it is none of another log's
+  no_member : (k : ℕ) → ((i : ℕ) → IsMatchedMember logs wild k i → ⊥) → (i : ℕ) → IsMatchedMember more wild k i → ⊥
+  no_member k h i m = h i (matched_to more logs (sym e) wild k i m)
 
   -- a choice
-  choice_to : (k : ℕ) (c : Choice) → IsChoice logs reserved choices k c → IsChoice more reserved choices k c
-  choice_to k Kept h = record { new = new_to k h.new; free = λ j b. h.free j (has_to more logs (sym e) reserved k j b); apart = λ j lt kept b. h.apart j lt kept (meet_to more logs (sym e) j k b) }
+  choice_to : (k : ℕ) (c : Choice) → IsChoice logs wild reserved choices k c → IsChoice more wild reserved choices k c
+  choice_to k Kept h = record { new = new k h.new; no_member = no_member k h.no_member; free = λ j b. h.free j (has_to more logs (sym e) reserved k j b); apart = λ j lt kept b. h.apart j lt kept (meet_to more logs (sym e) j k b) }
   choice_to k (Again i) h = record { before = h.before; same = path_to logs more e i k h.same; first = λ j lt b. h.first j lt (path_to more logs (sym e) j k b) }
-  choice_to k (Reserved i) h = record { new = new_to k h.new; has = has_to logs more e reserved k i h.has; first = λ j lt b. h.first j lt (has_to more logs (sym e) reserved k j b) }
-  choice_to k (Meets i) h = record { new = new_to k h.new; free = λ j b. h.free j (has_to more logs (sym e) reserved k j b); before = h.before; kept = h.kept; meet = meet_to logs more e i k h.meet; first = λ j lt kept b. h.first j lt kept (meet_to more logs (sym e) j k b) }
+  choice_to k (MemberOf i) h = record { new = new k h.new; is = matched_to logs more e wild k i h.is; first = λ j lt m. h.first j lt (matched_to more logs (sym e) wild k j m) }
+  choice_to k (Reserved i) h = record { new = new k h.new; no_member = no_member k h.no_member; has = has_to logs more e reserved k i h.has; first = λ j lt b. h.first j lt (has_to more logs (sym e) reserved k j b) }
+  choice_to k (Meets i) h = record { new = new k h.new; no_member = no_member k h.no_member; free = λ j b. h.free j (has_to more logs (sym e) reserved k j b); before = h.before; kept = h.kept; meet = meet_to logs more e i k h.meet; first = λ j lt kept b. h.first j lt kept (meet_to more logs (sym e) j k b) }
 
   -- the choices are those for any logs with the same paths and names
-  chosen_to : AreChosen logs reserved choices → AreChosen more reserved choices
+  chosen_to : AreChosen logs wild reserved choices → AreChosen more wild reserved choices
   chosen_to h = record { as_many = h.as_many ∙ (sym (length-map logs names_of) ∙ (ap length e ∙ length-map more names_of)); each = λ k c at. choice_to k c (h.each k c at) }
 
 -- there is one choice among the logs that were found
 pub choices_one : (reserved : List Path) (found : List FoundLog) (choices others : List Choice) → IsChoiceAmong reserved found choices → IsChoiceAmong reserved found others → choices ≡ others
-choices_one reserved found choices others h g = one_choice g.logs reserved choices others (chosen_to h.logs g.logs (h.same ∙ sym g.same) reserved choices h.chosen) g.chosen
+choices_one reserved found choices others h g = one_choice g.logs (map is_wild found) reserved choices others (chosen_to h.logs g.logs (h.same ∙ sym g.same) (map is_wild found) reserved choices h.chosen) g.chosen

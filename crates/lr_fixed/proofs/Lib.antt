@@ -5,6 +5,7 @@ mod Called
 mod Members
 mod Listings
 mod Families
+mod LiteralPaths
 mod Words
 mod Kept
 mod Whole
@@ -19,6 +20,7 @@ mod Run
 mod Meanings
 mod Reports
 mod LooksListNone
+mod WordsListOnce
 mod StateListsNone
 mod FamiliesListOnce
 mod RunListsOnce

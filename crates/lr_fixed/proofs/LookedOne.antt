@@ -1,5 +1,7 @@
 -- Two runs that left the same entries read one table, looked at the same logs, and planned the same.
-use Rattle.std.proofs.Common.{◌≡◌, Bool, List, [], ◌++◌, Ok, Err, sym, ap, ◌∙◌}
+use Rattle.std.proofs.Common.{◌≡◌, Bool, true, List, [], ◌++◌, Ok, Err, sym, ap, ◌∙◌}
+use Rattle.std.specs.List.{list_all}
+use Rattle.lr_rules.specs.Limits.{meets_limits}
 use Rattle.lr_rules.specs.declared.civil.Moment.{Moment}
 use Rattle.lr_rules.specs.declared.path.Path.{Path}
 use Rattle.lr_rules.specs.declared.rule.Rule.{Rule}
@@ -22,7 +24,7 @@ abbrev table_of : Known → List Row
 table_of (Ok remembered) = remembered.table
 table_of (Err f) = []
 
-module _ (state : Path) (rules : List Rule) (now : Moment) (force : Bool) (ts us : List Entry) (v : Looked state rules ts) (w : Looked state rules us) (e : ts ≡ us) (c : calls_in v.of_looks ≡ 0) (d : calls_in w.of_looks ≡ 0) where
+module _ (state : Path) (rules : List Rule) (now : Moment) (force : Bool) (ts us : List Entry) (v : Looked state rules ts) (w : Looked state rules us) (e : ts ≡ us) (c : calls_in v.of_looks ≡ 0) (d : calls_in w.of_looks ≡ 0) (limits : list_all meets_limits rules ≡ true) where
   -- the state was read the same
   reading : OneState (Ok v.remembered) (Ok w.remembered) (v.looks ++ v.acts) (w.looks ++ w.acts)
   reading = state_one state 65_536 v.sights w.sights (Ok v.remembered) (Ok w.remembered) v.reads w.reads (v.looks ++ v.acts) (w.looks ++ w.acts) v.read w.read v.known w.known tt tt (sym v.joined ∙ (e ∙ w.joined))
@@ -32,15 +34,15 @@ module _ (state : Path) (rules : List Rule) (now : Moment) (force : Bool) (ts us
 
   -- the looks are the same, and so are their faults
   pub looks_are : (v.looks ≡ w.looks) × (v.of_looks ≡ w.of_looks) × AreAlike v.sets w.sets
-  looks_are = looks_one (reserved_by state) rules v.sets w.sets v.of_looks w.of_looks v.looks w.looks v.acts w.acts v.shown w.shown reading.rest_is c d
+  looks_are = looks_one (reserved_by state) rules v.sets w.sets v.of_looks w.of_looks v.looks w.looks v.acts w.acts v.shown w.shown reading.rest_is c d limits
 
   -- what was done behind them
   pub acts_are : v.acts ≡ w.acts
-  acts_are = behind_looks (reserved_by state) rules v.sets w.sets v.of_looks w.of_looks v.looks w.looks v.acts w.acts v.shown w.shown reading.rest_is c d
+  acts_are = behind_looks (reserved_by state) rules v.sets w.sets v.of_looks w.of_looks v.looks w.looks v.acts w.acts v.shown w.shown reading.rest_is c d limits
 
   -- the logs that are kept
   kept_are : kept_in state rules ts v ≡ kept_in state rules us w
-  kept_are = kept_paths (reserved_by state) rules v.sets w.sets v.of_looks w.of_looks v.looks w.looks v.acts w.acts v.shown w.shown reading.rest_is c d
+  kept_are = kept_paths (reserved_by state) rules v.sets w.sets v.of_looks w.of_looks v.looks w.looks v.acts w.acts v.shown w.shown reading.rest_is c d limits
 
   -- the faults of the plans
   pub plans_are : (plan_in state rules ts v now force).faults ≡ (plan_in state rules us w now force).faults

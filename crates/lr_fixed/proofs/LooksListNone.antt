@@ -1,14 +1,14 @@
--- Looks at paths list nothing: those at the words' paths, at members, and at a directory that isn't listed then.
-use Rattle.std.proofs.Common.{inl, inr, Bool, true, false, List, [], ◌∷◌, map, Option, sym, subst}
+-- Looks at paths list nothing: those for a literal word, at members, and at a directory that isn't listed then.
+use Rattle.std.proofs.Common.{◌≡◌, inl, inr, ℕ, Bool, true, false, List, [], ◌∷◌, map, Option, Ok, Err, sym, ◌∙◌, subst}
 use Rattle.lr_rules.specs.declared.path.Path.{Path}
 use Rattle.lr_rules.specs.declared.rule.Naming.{Naming}
 use Rattle.lr_rules.specs.declared.fault.CallKind.{CallKind}
 use Rattle.lr_rules.specs.declared.fault.CallKind.TheVariants as call
+use Rattle.lr_rules.specs.Match.{is_wildcard, literal_path}
 use Rattle.lr_host.specs.declared.entry.Entry.{Entry}
 use Rattle.lr_host.specs.declared.thing.Seen.{Seen}
 use Rattle.lr_host.specs.Looks.{Sees, IsNothing, IsDir, IsNoDir, IsNoFile}
 use Rattle.lr_host.specs.Told.{Are}
-use Rattle.lr_host.proofs.Each.{each_append}
 use Rattle.lr_family.specs.declared.listing.Listing.{Listing}
 use Rattle.lr_family.specs.declared.spot.Spot.{Spot}
 use Rattle.lr_family.specs.declared.stand.Member.{Member}
@@ -18,26 +18,47 @@ use Rattle.lr_family.specs.Among.{ShowsMembers, ShowsNoneIn}
 use Rattle.lr_family.specs.Listed.{NotListedAt, NotListed}
 use Rattle.lr_family.specs.Looks.{Sight as Glance, look_of as glance_of, ShowsTo}
 use Rattle.lr_family.specs.Stops.{SomeStopped}
-use Rattle.lr_looks.specs.Asked.{Log}
+use Rattle.lr_glob.specs.declared.found.Found.{Found as Match}
+use Rattle.lr_glob.specs.declared.found.GlobStop.TheVariants as glob
+use Rattle.lr_glob.specs.Sights.{seen_at}
+use Rattle.lr_glob.specs.Words.{Gave, CallFailed, Begun}
+use Rattle.lr_looks.specs.Asked.{Word}
 use Rattle.lr_looks.specs.Families.{FamilySight, Stood, Stopped, ShowsMembersIn}
-use Rattle.lr_looks.specs.Sights.{Sight, Failed, Nothing, Saw, look_of, looks_of}
-use Rattle.lr_fixed.proofs.CountedListings.{IsNoListing, AreNoListings, none_both, none_empty}
+use Rattle.lr_looks.specs.Sights.{WordSight, ShowsWord}
+use Rattle.lr_fixed.proofs.CountedListings.{AreNoListings, none_both, none_empty}
 
 pub sees_none : (x : Path) (P : Option Seen → Type 0) (ts : List Entry) → Sees x P ts → AreNoListings ts
 sees_none x P ts s = subst AreNoListings (sym s.look) (tt, tt)
 
--- ---- the looks at the words' paths
+-- ---- a literal word
 
-look_none : (path : Path) (s : Sight) → AreNoListings (look_of path s)
-look_none path Failed = tt
-look_none path Nothing = (tt, tt)
-look_none path (Saw seen) = (tt, tt)
+no_wildcard : (word : List ℕ) → is_wildcard word ≡ false → is_wildcard word ≡ true → ⊥
+no_wildcard word plain wild = let t = sym wild ∙ plain in cc
 
-pub words_none : (logs : List Log) (sights : List Sight) → AreNoListings (looks_of logs sights)
-words_none [] [] = tt
-words_none [] (s ∷ ss) = tt
-words_none (log ∷ logs) [] = tt
-words_none (log ∷ logs) (s ∷ ss) = each_append IsNoListing (look_of log.path s) (looks_of logs ss) (look_none log.path s) (words_none logs ss)
+gave_none : (word : List ℕ) (found : List Match) (ts : List Entry) → is_wildcard word ≡ false → Gave word found ts → AreNoListings ts
+gave_none word found ts plain (Gave.literal is s) = sees_none (literal_path word) (λ seen. found ≡ seen_at (literal_path word) seen) ts s
+gave_none word found ts plain (Gave.no_path is other none e) = none_empty ts e
+gave_none word found ts plain (Gave.wildcard wild absolute s) = absurd (no_wildcard word plain wild)
+gave_none word found ts plain (Gave.relative wild relative none e) = absurd (no_wildcard word plain wild)
+
+failed_none : (word : List ℕ) (k : CallKind) (path : Path) (ts : List Entry) → is_wildcard word ≡ false → CallFailed word k path ts → AreNoListings ts
+failed_none word k path ts plain (CallFailed.at_literal is look at e) = none_empty ts e
+failed_none word k path ts plain (CallFailed.at_visit wild n) = absurd (no_wildcard word plain wild)
+failed_none word k path ts plain (CallFailed.at_look wild look s) = absurd (no_wildcard word plain wild)
+
+begun_none : (word : List ℕ) (ts : List Entry) → is_wildcard word ≡ false → Begun word ts → AreNoListings ts
+begun_none word ts plain (Begun.not_at_all e) = none_empty ts e
+begun_none word ts plain (Begun.at_literal is s) = sees_none (literal_path word) (λ seen. Unit {0}) ts s
+begun_none word ts plain (Begun.at_visit wild n) = absurd (no_wildcard word plain wild)
+begun_none word ts plain (Begun.between wild paths l) = absurd (no_wildcard word plain wild)
+begun_none word ts plain (Begun.at_look wild s) = absurd (no_wildcard word plain wild)
+
+pub literal_none : (w : Word) (room : ℕ) (s : WordSight) (ts : List Entry) → is_wildcard w.text ≡ false → ShowsWord w room s ts → AreNoListings ts
+literal_none w room (Ok found) ts plain h = gave_none w.text h.all ts plain h.gave
+literal_none w room (Err (glob.Call k path)) ts plain h = failed_none w.text k path ts plain h
+literal_none w room (Err glob.LongName) ts plain h = gave_none w.text h.all ts plain h.gave
+literal_none w room (Err glob.TooMany) ts plain h = gave_none w.text h.all ts plain h.gave
+literal_none w room (Err glob.Memory) ts plain h = begun_none w.text ts plain h
 
 -- ---- the looks at members
 

@@ -41,7 +41,7 @@ runs_one state force now rules own more ts built (began i) (not_seen f t) c d = 
 runs_one state force now rules own more ts built (began i) (not_begun f t) c d = absurd (one_called more _ f refl d)
 runs_one state force now rules own more ts built (began i) (no_directory f t) c d = absurd (alone_or_begun (parent_of state) state now rules (i.between ++ entry.Ends ∷ []) i.before ts t i.directory i.entries)
 runs_one state force now rules own more ts built (began i) (began j) c d = works_one state rules.sets now force own more i.between j.between built
-    (between_same (parent_of state) state now rules i.before j.before i.between j.between ts i.directory j.directory i.entries j.entries) c d i.within j.within
+    (between_same (parent_of state) state now rules i.before j.before i.between j.between ts i.directory j.directory i.entries j.entries) c d rules.limits i.within j.within
 
 -- ---- at moments that may differ
 

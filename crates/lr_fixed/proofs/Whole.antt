@@ -1,6 +1,7 @@
 -- All looks of a run show one thing alone.
-use Rattle.std.proofs.Common.{◌≡◌, ℕ, ◌+◌, List, [], ◌∷◌, ◌++◌, length, sym, ap, ◌∙◌, subst, arith}
-use Rattle.std.specs.List.{flat_map}
+use Rattle.std.proofs.Common.{◌≡◌, ℕ, ◌+◌, true, List, [], ◌∷◌, ◌++◌, length, sym, ap, ◌∙◌, subst, arith}
+use Rattle.std.specs.List.{flat_map, list_all}
+use Rattle.lr_rules.specs.Limits.{meets_limits}
 use Rattle.lr_rules.specs.declared.path.Path.{Path}
 use Rattle.lr_rules.specs.declared.fault.Fault.{Fault}
 use Rattle.lr_rules.specs.declared.rule.Rule.{Rule}
@@ -13,14 +14,15 @@ use Rattle.lr_looks.specs.Families.{LookedLog, ShowFamilies, family_faults, look
 use Rattle.lr_looks.specs.Found.{FoundLog, paths_of}
 use Rattle.lr_looks.specs.Sets.{HaveLooksFrom}
 use Rattle.lr_looks.specs.Shown.{ShowsLooks}
-use Rattle.lr_looks.specs.Sights.{looks_of, faults_of, found_of}
+use Rattle.lr_looks.specs.Sights.{faults_of, found_of}
 use Rattle.lr_run.proofs.Called.{none_before, none_behind}
 use Rattle.lr_fixed.specs.Alike.{AreAlikeFrom, AreAlike}
 use Rattle.lr_fixed.proofs.Families.{families_one}
 use Rattle.lr_fixed.proofs.Kept.{choices_one}
 use Rattle.lr_fixed.proofs.Listings.{none_alike}
-use Rattle.lr_fixed.proofs.Peeled.{front_same, then_same, joined_same}
-use Rattle.lr_fixed.proofs.Words.{words_one}
+use Rattle.lr_fixed.proofs.LiteralPaths.{have_paths}
+use Rattle.lr_fixed.proofs.Peeled.{then_same, joined_same}
+use Rattle.lr_fixed.proofs.Words.{OneWords, words_one}
 
 -- ---- what is kept of the same logs
 
@@ -54,8 +56,8 @@ sets_alike set logs (x ∷ xs) (y ∷ ys) n h g = (h.0 ∙ sym g.0, sets_alike (
 -- ---- whole
 
 module _ (reserved : List Path) (rules : List Rule) (sets others : List SetLooks) (faults more : List Fault) (ts us vs ws : List Entry) (h : ShowsLooks reserved rules sets faults ts) (g : ShowsLooks reserved rules others more us)
-    (e : ts ++ vs ≡ us ++ ws) (c : calls_in faults ≡ 0) (d : calls_in more ≡ 0) where
-  -- no call failed at the words' paths
+    (e : ts ++ vs ≡ us ++ ws) (c : calls_in faults ≡ 0) (d : calls_in more ≡ 0) (limits : list_all meets_limits rules ≡ true) where
+  -- no call failed for a word
   no_call_h : calls_in h.of_words ≡ 0
   no_call_h = none_before h.of_kept h.of_words _ h.keeps.faults_are (none_before faults h.of_kept _ h.entries.second.families.faults_are c)
 
@@ -67,27 +69,22 @@ module _ (reserved : List Path) (rules : List Rule) (sets others : List SetLooks
   parts : h.entries.front ++ (h.entries.back ++ vs) ≡ g.entries.front ++ (g.entries.back ++ ws)
   parts = then_same ts us vs ws h.entries g.entries e
 
-  -- the looks at the words' paths are the same
-  words : (h.entries.first.sights ≡ g.entries.first.sights) × (h.entries.back ++ vs ≡ g.entries.back ++ ws)
-  words = words_one (asked_by rules) h.entries.first.sights g.entries.first.sights (h.entries.back ++ vs) (g.entries.back ++ ws) h.entries.first.as_many g.entries.first.as_many
-      (subst (λ fs. calls_in fs ≡ 0) h.entries.first.faults_are no_call_h) (subst (λ fs. calls_in fs ≡ 0) g.entries.first.faults_are no_call_g)
-      (front_same h.entries.front g.entries.front (looks_of (asked_by rules) h.entries.first.sights) (looks_of (asked_by rules) g.entries.first.sights) (h.entries.back ++ vs) (g.entries.back ++ ws) h.entries.first.looks g.entries.first.looks parts)
-
-  -- and so are their entries
-  front_is : h.entries.front ≡ g.entries.front
-  front_is = h.entries.first.looks ∙ (ap (looks_of (asked_by rules)) words.0 ∙ sym g.entries.first.looks)
+  -- what the words came to is the same
+  words : OneWords h.entries.first.sights g.entries.first.sights h.entries.front g.entries.front (h.entries.back ++ vs) (g.entries.back ++ ws)
+  words = words_one 0 (asked_by rules) h.entries.first.sights g.entries.first.sights h.entries.front g.entries.front (h.entries.back ++ vs) (g.entries.back ++ ws) (have_paths rules limits h.texts) h.entries.first.had_memory g.entries.first.had_memory
+      (subst (λ fs. calls_in fs ≡ 0) h.entries.first.faults_are no_call_h) (subst (λ fs. calls_in fs ≡ 0) g.entries.first.faults_are no_call_g) h.entries.first.shown g.entries.first.shown parts
 
   -- and the logs that are kept
   kept_is : OneKept h.of_kept g.of_kept h.kept g.kept
   kept_is = kept_one reserved h.found g.found h.of_words g.of_words h.of_kept g.of_kept h.kept g.kept
-      (h.entries.first.found_are ∙ (ap (found_of (asked_by rules)) words.0 ∙ sym g.entries.first.found_are))
-      (h.entries.first.faults_are ∙ (ap (faults_of (asked_by rules)) words.0 ∙ sym g.entries.first.faults_are)) h.keeps g.keeps
+      (h.entries.first.found_are ∙ (ap (found_of (asked_by rules)) words.sights_are ∙ sym g.entries.first.found_are))
+      (h.entries.first.faults_are ∙ (ap (faults_of (asked_by rules)) words.sights_are ∙ sym g.entries.first.faults_are)) h.keeps g.keeps
 
   -- the looks at the families are the same, and so are their entries
   families : (h.entries.second.families.sights ≡ g.entries.second.families.sights) × (h.entries.back ≡ g.entries.back) × (vs ≡ ws)
   families = families_one h.kept [] [] h.entries.second.listings g.entries.second.listings h.entries.second.families.sights g.entries.second.families.sights h.entries.back g.entries.back vs ws none_alike h.entries.second.families.had_memory g.entries.second.families.had_memory
       (none_behind faults h.of_kept _ h.entries.second.families.faults_are c) (none_behind more g.of_kept _ g.entries.second.families.faults_are d) h.entries.second.families.shown
-      (subst (λ logs. ShowFamilies [] logs g.entries.second.listings g.entries.second.families.sights g.entries.back) (sym kept_is.kept_are) g.entries.second.families.shown) words.1
+      (subst (λ logs. ShowFamilies [] logs g.entries.second.listings g.entries.second.families.sights g.entries.back) (sym kept_is.kept_are) g.entries.second.families.shown) words.rest_is
 
   -- the faults
   faults_is : faults ≡ more
@@ -107,4 +104,4 @@ module _ (reserved : List Path) (rules : List Rule) (sets others : List SetLooks
 
   -- the looks, their faults and the logs that were looked at whole
   pub looks_one : (ts ≡ us) × (faults ≡ more) × AreAlike sets others
-  looks_one = (joined_same ts us h.entries g.entries front_is families.1, faults_is, sets_alike 0 h.looked sets others (h.many ∙ sym g.many) h.by_sets (subst (λ logs. HaveLooksFrom 0 logs others) (sym looked_is) g.by_sets))
+  looks_one = (joined_same ts us h.entries g.entries words.looks_are families.1, faults_is, sets_alike 0 h.looked sets others (h.many ∙ sym g.many) h.by_sets (subst (λ logs. HaveLooksFrom 0 logs others) (sym looked_is) g.by_sets))

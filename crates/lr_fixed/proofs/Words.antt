@@ -1,47 +1,57 @@
--- The looks at the words' paths show one thing alone, where none failed.
-use Rattle.std.proofs.Common.{◌≡◌, ◌+◌, List, [], ◌∷◌, ◌++◌, length, None, Some, refl, sym, ap, ◌∙◌, arith, append_assoc}
-use Rattle.std.proofs.lemmas.Option.{same_Some}
+-- The words come to one thing alone, where no call failed.
+use Rattle.std.proofs.Common.{◌≡◌, inl, inr, ◌+◌, ◌-◌, ℕ, false, List, [], ◌∷◌, ◌++◌, length, None, Ok, Err, refl, sym, ap, ◌∙◌, subst, arith}
+use Rattle.lr_rules.specs.Match.{is_wildcard, literal_path}
+use Rattle.lr_rules.specs.Path.{path_fault}
 use Rattle.lr_host.specs.declared.entry.Entry.{Entry}
-use Rattle.lr_host.specs.declared.entry.Entry.TheVariants as entry
+use Rattle.lr_glob.specs.declared.found.GlobStop.TheVariants as stop
+use Rattle.lr_glob.specs.Words.{Comes}
+use Rattle.lr_sought.proofs.OneWord.{comes_one}
 use Rattle.lr_plan.specs.Counted.{calls_in}
 use Rattle.lr_plan.proofs.Counts.{calls_on}
-use Rattle.lr_looks.specs.Asked.{Log}
-use Rattle.lr_looks.specs.Sights.{Sight, Failed, Nothing, Saw, look_of, looks_of, fault_of, faults_of}
-use Rattle.lr_fixed.proofs.Peeled.{first_same, others_same, saw_same}
+use Rattle.lr_looks.specs.Asked.{Word}
+use Rattle.lr_looks.specs.Sights.{WordSight, found_by, fault_of, faults_of, ShowsWord, ShowWords, WordHadMemory, WordsHadMemory}
+use Rattle.lr_fixed.proofs.LiteralPaths.{HavePaths}
+use Rattle.lr_fixed.proofs.Peeled.{front_same, then_same, joined_same}
 
--- the two came to one thing, and what comes behind is the same
-abbrev SameSight : Sight → Sight → List Entry → List Entry → Type 0
-SameSight s t vs ws = (s ≡ t) × (vs ≡ ws)
+-- What two sights of a word have in common: the sight, its entries, and what comes behind.
+abbrev SameSight : WordSight → WordSight → List Entry → List Entry → List Entry → List Entry → Type 0
+SameSight s t ts us vs ws = (s ≡ t) × (ts ≡ us) × (vs ≡ ws)
 
--- two looks at a word's path that didn't fail are one
-sight_one : (log : Log) (s t : Sight) (vs ws : List Entry) → calls_in (fault_of log s) ≡ 0 → calls_in (fault_of log t) ≡ 0 → look_of log.path s ++ vs ≡ look_of log.path t ++ ws → SameSight s t vs ws
-sight_one log Failed t vs ws p q e = absurd (let n : 1 + 0 ≡ 0 = p in omega (arith, n))
-sight_one log Nothing Failed vs ws p q e = absurd (let n : 1 + 0 ≡ 0 = q in omega (arith, n))
-sight_one log Nothing Nothing vs ws p q e = (refl, others_same (entry.Look log.path None) (entry.Look log.path None) vs ws e)
-sight_one log Nothing (Saw seen) vs ws p q e = absurd (let n : None ≡ Some seen = saw_same log.path log.path None (Some seen) (first_same (entry.Look log.path None) (entry.Look log.path (Some seen)) vs ws e) in cc)
-sight_one log (Saw seen) Failed vs ws p q e = absurd (let n : 1 + 0 ≡ 0 = q in omega (arith, n))
-sight_one log (Saw seen) Nothing vs ws p q e = absurd (let n : Some seen ≡ None = saw_same log.path log.path (Some seen) None (first_same (entry.Look log.path (Some seen)) (entry.Look log.path None) vs ws e) in cc)
-sight_one log (Saw seen) (Saw more) vs ws p q e = (
-  ap (λ s. Saw s) (same_Some seen more (saw_same log.path log.path (Some seen) (Some more) (first_same (entry.Look log.path (Some seen)) (entry.Look log.path (Some more)) vs ws e))),
-  others_same (entry.Look log.path (Some seen)) (entry.Look log.path (Some more)) vs ws e,
-)
+-- where the sight wasn't cut off and no call failed, it is what the word came to
+came : (w : Word) (room : ℕ) (s : WordSight) (ts : List Entry) → WordHadMemory s → calls_in (fault_of w s) ≡ 0 → ShowsWord w room s ts → Comes w.text room s ts
+came w room (Ok found) ts m c h = h
+came w room (Err (stop.Call kind path)) ts m c h = absurd (cc)
+came w room (Err stop.LongName) ts m c h = h
+came w room (Err stop.TooMany) ts m c h = h
+came w room (Err stop.Memory) ts m c h = absurd m
+
+-- two sights of one word, of which none was cut off and no call failed, are one
+sight_one : (w : Word) (room : ℕ) (s t : WordSight) (ts us vs ws : List Entry) → (is_wildcard w.text ≡ false → path_fault (literal_path w.text) ≡ None) → WordHadMemory s → WordHadMemory t → calls_in (fault_of w s) ≡ 0 → calls_in (fault_of w t) ≡ 0
+    → ShowsWord w room s ts → ShowsWord w room t us → ts ++ vs ≡ us ++ ws → SameSight s t ts us vs ws
+sight_one w room s t ts us vs ws valid m n c d h g e = comes_one w.text room s t ts us vs ws valid (came w room s ts m c h) (came w room t us n d g) e
 
 -- no call failed at the first
-no_call_first : (log : Log) (logs : List Log) (s : Sight) (ss : List Sight) → calls_in (faults_of (log ∷ logs) (s ∷ ss)) ≡ 0 → calls_in (fault_of log s) ≡ 0
-no_call_first log logs s ss e = let a = calls_on (fault_of log s) (faults_of logs ss) in omega (arith, a, e)
+no_call_first : (w : Word) (words : List Word) (s : WordSight) (ss : List WordSight) → calls_in (faults_of (w ∷ words) (s ∷ ss)) ≡ 0 → calls_in (fault_of w s) ≡ 0
+no_call_first w words s ss e = let a = calls_on (fault_of w s) (faults_of words ss) in omega (arith, a, e)
 
 -- nor at the others
-no_call_rest : (log : Log) (logs : List Log) (s : Sight) (ss : List Sight) → calls_in (faults_of (log ∷ logs) (s ∷ ss)) ≡ 0 → calls_in (faults_of logs ss) ≡ 0
-no_call_rest log logs s ss e = let a = calls_on (fault_of log s) (faults_of logs ss) in omega (arith, a, e)
+no_call_rest : (w : Word) (words : List Word) (s : WordSight) (ss : List WordSight) → calls_in (faults_of (w ∷ words) (s ∷ ss)) ≡ 0 → calls_in (faults_of words ss) ≡ 0
+no_call_rest w words s ss e = let a = calls_on (fault_of w s) (faults_of words ss) in omega (arith, a, e)
 
--- the looks at the paths of the same logs are the same
-pub words_one : (logs : List Log) (ss ts : List Sight) (vs ws : List Entry) → length ss ≡ length logs → length ts ≡ length logs → calls_in (faults_of logs ss) ≡ 0 → calls_in (faults_of logs ts) ≡ 0 → looks_of logs ss ++ vs ≡ looks_of logs ts ++ ws → (ss ≡ ts) × (vs ≡ ws)
-words_one [] [] [] vs ws m n c d e = (refl, e)
-words_one [] [] (t ∷ ts) vs ws m n c d e = absurd (omega (arith, n))
-words_one [] (s ∷ ss) ts vs ws m n c d e = absurd (omega (arith, m))
-words_one (log ∷ logs) [] ts vs ws m n c d e = absurd (omega (arith, m))
-words_one (log ∷ logs) (s ∷ ss) [] vs ws m n c d e = absurd (omega (arith, n))
-words_one (log ∷ logs) (s ∷ ss) (t ∷ ts) vs ws m n c d e =
-    let one = sight_one log s t (looks_of logs ss ++ vs) (looks_of logs ts ++ ws) (no_call_first log logs s ss c) (no_call_first log logs t ts d) (sym (append_assoc (look_of log.path s) (looks_of logs ss) vs) ∙ (e ∙ append_assoc (look_of log.path t) (looks_of logs ts) ws)) in
-    let r = words_one logs ss ts vs ws (omega (arith, m)) (omega (arith, n)) (no_call_rest log logs s ss c) (no_call_rest log logs t ts d) one.1 in
-    (ap (λ x. x ∷ ss) one.0 ∙ ap (λ xs. t ∷ xs) r.0, r.1)
+-- What two sights of the same words have in common.
+pub record OneWords (ss ts : List WordSight) (xs ys vs ws : List Entry) : Type 0 where
+  pub sights_are : ss ≡ ts
+  pub looks_are : xs ≡ ys
+  pub rest_is : vs ≡ ws
+
+pub words_one : (before : ℕ) (words : List Word) (ss ts : List WordSight) (xs ys vs ws : List Entry) → HavePaths words → WordsHadMemory ss → WordsHadMemory ts → calls_in (faults_of words ss) ≡ 0 → calls_in (faults_of words ts) ≡ 0 → ShowWords before words ss xs → ShowWords before words ts ys → xs ++ vs ≡ ys ++ ws → OneWords ss ts xs ys vs ws
+words_one before [] [] [] xs ys vs ws f m n c d h g e = record { sights_are = refl; looks_are = h ∙ sym g; rest_is = front_same xs ys [] [] vs ws h g e }
+words_one before [] [] (t ∷ ts) xs ys vs ws f m n c d h g e = absurd g
+words_one before [] (s ∷ ss) ts xs ys vs ws f m n c d h g e = absurd h
+words_one before (w ∷ words) [] ts xs ys vs ws f m n c d h g e = absurd h
+words_one before (w ∷ words) (s ∷ ss) [] xs ys vs ws f m n c d h g e = absurd g
+words_one before (w ∷ words) (s ∷ ss) (t ∷ ts) xs ys vs ws f m n c d h g e =
+    let one = sight_one w (16_384 - before) s t h.front g.front (h.back ++ vs) (g.back ++ ws) (f w (inl refl)) m.0 n.0 (no_call_first w words s ss c) (no_call_first w words t ts d) h.first g.first (then_same xs ys vs ws h g e) in
+    let r = words_one (before + length (found_by w s)) words ss ts h.back g.back vs ws (λ v i. f v (inr i)) m.1 n.1 (no_call_rest w words s ss c) (no_call_rest w words t ts d) h.second
+    (subst (λ (u : WordSight). ShowWords (before + length (found_by w u)) words ts g.back) (sym one.0) g.second) one.2 in
+    record { sights_are = ap (λ x. x ∷ ss) one.0 ∙ ap (λ qs. t ∷ qs) r.sights_are; looks_are = joined_same xs ys h g one.1 r.looks_are; rest_is = r.rest_is }

@@ -1,7 +1,9 @@
 -- The work of two runs that left the same entries met the same faults.
-use Rattle.std.proofs.Common.{◌≡◌, ◌≤◌, ◌<◌, Bool, List, [], ◌∷◌, ◌++◌, length, Ok, Err, refl, sym, ap, ◌∙◌, arith}
+use Rattle.std.proofs.Common.{◌≡◌, ◌≤◌, ◌<◌, Bool, true, List, [], ◌∷◌, ◌++◌, length, Ok, Err, refl, sym, ap, ◌∙◌, arith}
 use Rattle.std.proofs.lemmas.List.{append-nil}
 use Rattle.std.proofs.lemmas.List.Elements.{filter-append}
+use Rattle.std.specs.List.{list_all}
+use Rattle.lr_rules.specs.Limits.{meets_limits}
 use Rattle.lr_rules.specs.declared.civil.Moment.{Moment}
 use Rattle.lr_rules.specs.declared.fault.Fault.{Fault}
 use Rattle.lr_rules.specs.declared.fault.Fault.TheVariants as fault
@@ -65,7 +67,7 @@ known_or_not state rules own ts us a f x is shown w e c = ok_or_err w.remembered
 
 -- ---- two works
 
-module _ (state : Path) (rules : List Rule) (now : Moment) (force : Bool) (own more : List Fault) (ts us : List Entry) (built : AreBuiltRules rules) (e : ts ≡ us) (c : calls_in own ≡ 0) (d : calls_in more ≡ 0) where
+module _ (state : Path) (rules : List Rule) (now : Moment) (force : Bool) (own more : List Fault) (ts us : List Entry) (built : AreBuiltRules rules) (e : ts ≡ us) (c : calls_in own ≡ 0) (d : calls_in more ≡ 0) (limits : list_all meets_limits rules ≡ true) where
   -- neither knew its state
   unknown_one : (a b : StateSights) (f g : Fault) → IsKnown state a (Err f) → IsKnown state b (Err g) → own ≡ f ∷ [] → more ≡ g ∷ [] → ShowsState state 65_536 a ts → ShowsState state 65_536 b us → own ≡ more
   unknown_one a b f g x y is are h k = is ∙ (ap (λ (z : Fault). z ∷ []) same ∙ sym are)
@@ -90,24 +92,24 @@ module _ (state : Path) (rules : List Rule) (now : Moment) (force : Bool) (own m
       no_w = none_before more w.looked.of_looks _ w.acted.faults_are d
 
       looks : v.looked.of_looks ≡ w.looked.of_looks
-      looks = (looks_are state rules now force ts us v.looked w.looked e no_v no_w).1
+      looks = (looks_are state rules now force ts us v.looked w.looked e no_v no_w limits).1
 
       plans : v_plan ≡ w_plan
-      plans = plans_are state rules now force ts us v.looked w.looked e no_v no_w
+      plans = plans_are state rules now force ts us v.looked w.looked e no_v no_w limits
 
       acts : v.acted.of_acts ≡ w.acted.of_acts
-      acts = acts_told state rules now force own ts built v c ∙ (ap (λ es. told_by (state_part state) (makes_in es)) (acts_are state rules now force ts us v.looked w.looked e no_v no_w) ∙ sym (acts_told state rules now force more us built w d))
+      acts = acts_told state rules now force own ts built v c ∙ (ap (λ es. told_by (state_part state) (makes_in es)) (acts_are state rules now force ts us v.looked w.looked e no_v no_w limits) ∙ sym (acts_told state rules now force more us built w d))
 
   -- the text of both could become too big
   big_one : (v : Looked state rules ts) (w : Looked state rules us) → own ≡ v.of_looks ++ fault.State 0 kind.TooBig ∷ [] → more ≡ w.of_looks ++ fault.State 0 kind.TooBig ∷ [] → own ≡ more
-  big_one v w is are = is ∙ (ap (λ fs. fs ++ fault.State 0 kind.TooBig ∷ []) (looks_are state rules now force ts us v w e (none_before own v.of_looks _ is c) (none_before more w.of_looks _ are d)).1 ∙ sym are)
+  big_one v w is are = is ∙ (ap (λ fs. fs ++ fault.State 0 kind.TooBig ∷ []) (looks_are state rules now force ts us v w e (none_before own v.of_looks _ is c) (none_before more w.of_looks _ are d) limits).1 ∙ sym are)
 
   -- it couldn't become so for one alone
   big_or_not : (v : Looked state rules ts) (w : Looked state rules us) → calls_in v.of_looks ≡ 0 → calls_in w.of_looks ≡ 0 → 67_108_864 < length (measured_in state rules ts v now force) → length (measured_in state rules us w now force) ≤ 67_108_864 → ⊥
-  big_or_not v w no_v no_w big small = let same : length (measured_in state rules ts v now force) ≡ length (measured_in state rules us w now force) = ap length (measured_is state rules now force ts us v w e no_v no_w) in omega (arith, same, big, small)
+  big_or_not v w no_v no_w big small = let same : length (measured_in state rules ts v now force) ≡ length (measured_in state rules us w now force) = ap length (measured_is state rules now force ts us v w e no_v no_w limits) in omega (arith, same, big, small)
 
   small_or_not : (v : Looked state rules ts) (w : Looked state rules us) → calls_in v.of_looks ≡ 0 → calls_in w.of_looks ≡ 0 → length (measured_in state rules ts v now force) ≤ 67_108_864 → 67_108_864 < length (measured_in state rules us w now force) → ⊥
-  small_or_not v w no_v no_w small big = let same : length (measured_in state rules ts v now force) ≡ length (measured_in state rules us w now force) = ap length (measured_is state rules now force ts us v w e no_v no_w) in omega (arith, same, big, small)
+  small_or_not v w no_v no_w small big = let same : length (measured_in state rules ts v now force) ≡ length (measured_in state rules us w now force) = ap length (measured_is state rules now force ts us v w e no_v no_w limits) in omega (arith, same, big, small)
 
   pub works_one : Works state rules now force own ts → Works state rules now force more us → own ≡ more
   works_one (not_known a f x is h) (not_known b g y are k) = unknown_one a b f g x y is are h k

@@ -1,14 +1,9 @@
--- How often a directory is listed.
-use Rattle.std.specs.Prelude.{ℕ, Bool, false, List, length, filter, bytes_eq}
-use Rattle.lr_rules.specs.declared.path.Path.{Path}
-use Rattle.lr_host.specs.declared.entry.Entry.{Entry}
-use Rattle.lr_host.specs.declared.entry.Entry.TheVariants as entry
+-- How often a run may list a directory.
+use Rattle.std.specs.Prelude.{ℕ, List, length, filter}
+use Rattle.std.specs.List.{flat_map}
+use Rattle.lr_rules.specs.declared.rule.Rule.{Rule}
+use Rattle.lr_rules.specs.Match.{is_wildcard}
 
--- the entry lists this directory
-abbrev pub is_listing_of : Path → Entry → Bool
-is_listing_of dir (entry.List listed names) = bytes_eq listed dir
-is_listing_of dir _ = false
-
--- how many of the entries do
-abbrev pub listings_of : Path → List Entry → ℕ
-listings_of dir ts = length (filter (is_listing_of dir) ts)
+-- how many words of these rules are wildcards
+abbrev pub wildcards_of : List Rule → ℕ
+wildcards_of rules = length (filter is_wildcard (flat_map (λ r. r.words) rules))

@@ -1,11 +1,11 @@
 // What the entries of a call show: what it found and what it tells, where no call failed, how often it lists, and what it
 // leaves alone.
-ghost use Rattle.std.specs.Prelude.{◌≡◌, ◌≢◌, ◌≤◌, ◌++◌, reverse, Bool, List, Option, Some, ℕ, ℤ};
+ghost use Rattle.std.specs.Prelude.{◌≡◌, ◌≢◌, ◌≤◌, ◌+◌, ◌++◌, reverse, Bool, List, Option, Some, None, ℕ, ℤ};
 ghost use Rattle.lr_rules.specs.declared.path.Path.{Path};
 ghost use Rattle.lr_rules.specs.declared.civil.Moment.{Moment};
 ghost use Rattle.lr_rules.specs.declared.rules.Rules.{Rules};
+ghost use Rattle.lr_rules.specs.Path.{path_fault};
 ghost use Rattle.lr_rules.specs.declared.fault.Fault.{Fault};
-ghost use Rattle.lr_rules.specs.declared.rule.Rule.{Rule};
 ghost use Rattle.lr_host.specs.declared.entry.Entry.{Entry};
 ghost use Rattle.lr_host.specs.Opening.{IsJournal};
 ghost use Rattle.lr_host.specs.Quiet.{AreQuiet};
@@ -26,14 +26,15 @@ ghost use Rattle.lr_cli.specs.declared.outcome.Outcome.TheVariants.{Done};
 ghost use Rattle.lr_cli.specs.declared.outcome.Report.{Report};
 ghost use Rattle.lr_cli.specs.Answer.{Answered};
 ghost use Rattle.lr_fixed.specs.Alike.{AreAlike};
-ghost use Rattle.lr_fixed.specs.Listings.{listings_of};
+ghost use Rattle.lr_glob.specs.Listings.{listings_of};
+ghost use Rattle.lr_fixed.specs.Listings.{wildcards_of};
 ghost use Rattle.lr_fixed.specs.Unplanned.{IsUnplanned};
 
 /// Where the same entries begin with looks of two outcomes and no call failed in either, the looks are the same, and so
 /// are their faults and the logs that were looked at whole.
 pub fn looks_are_fixed()
-    ensures { (reserved : List Path) (rules : List Rule) (sets others : List SetLooks) (faults more : List Fault) (ts us vs ws : List Entry)
-        → ShowsLooks reserved rules sets faults ts → ShowsLooks reserved rules others more us
+    ensures { (reserved : List Path) (rules : Rules) (sets others : List SetLooks) (faults more : List Fault) (ts us vs ws : List Entry)
+        → ShowsLooks reserved rules.sets sets faults ts → ShowsLooks reserved rules.sets others more us
         → ts ++ vs ≡ us ++ ws
         → calls_in faults ≡ 0 → calls_in more ≡ 0 → (ts ≡ us) × (faults ≡ more) × AreAlike sets others }
 {}
@@ -53,17 +54,19 @@ pub fn reports_are_fixed()
         → calls_in one.faults ≡ 0 → calls_in other.faults ≡ 0 → (one.notices ≡ other.notices) × (one.faults ≡ other.faults) }
 {}
 
-/// In one run no directory is listed twice, however many logs are in it.
+/// In one run a directory is listed no more often than there are wildcards among the words of its rules, and once more,
+/// however many logs are in it: once for the families of all logs, and at most once for each wildcard.
 pub fn directories_are_listed_once()
-    ensures { (state : Path) (force : Bool) (now : Moment) (rules : Rules) (own : List Fault) (ts : List Entry) → AreBuiltRules rules.sets
-        → Runs state force now rules own ts → (dir : Path) → listings_of dir ts ≤ 1 }
+    ensures { (state : Path) (force : Bool) (now : Moment) (rules : Rules) (own : List Fault) (p q : Past) (es : List Entry) → AreBuiltRules rules.sets
+        → Made p es q → Runs state force now rules own (reverse es) → (dir : Path) → listings_of dir (reverse es) ≤ wildcards_of rules.sets + 1 }
 {}
 
 /// A run that came to its plan leaves each set alone whose log it doesn't rotate, whatever failed: each member names what
-/// it named before. It holds of sets that are safe before and steady. A run that didn't leaves all steady sets alone.
+/// it named before. It holds of sets that are safe before and steady, and whose log is a path. A run that didn't leaves all
+/// steady sets alone.
 pub fn others_are_left()
     ensures planned { (s : LogSet) (state : Path) (force : Bool) (now : Moment) (rules : Rules) (own : List Fault) (p q : Past) (es reads acts : List Entry) → AreBuiltRules rules.sets
-        → Made p es q → IsJournal p → reverse es ≡ reads ++ acts → AreQuiet reads → (i : Inside state now rules (Worked state rules.sets now force own) acts)
+        → path_fault s.log ≡ None → Made p es q → IsJournal p → reverse es ≡ reads ++ acts → AreQuiet reads → (i : Inside state now rules (Worked state rules.sets now force own) acts)
         → IsSafe s p → IsSteady s q
         → ((t : Target) → IsOneOf t (rotated_in state rules.sets i.between i.within.looked now force) → t.log ≢ s.log)
         → (y : Path) (k : ℤ) → s.key y ≡ Some k → names (world q) y ≡ names (world p) y }
