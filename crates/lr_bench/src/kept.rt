@@ -12,6 +12,20 @@ const LOGS: usize = 15_000;
 /// Each time is the shortest of so many.
 const ROUNDS: u32 = 5;
 
+/// So many members stand beside a log, where they stand there, that is one each day of a year.
+const MEMBERS: usize = 365;
+
+/// Where the logs stand.
+#[derive(Clone, Copy)]
+enum Scene {
+    /// All in one directory.
+    Together,
+    /// Each in one of its own.
+    Alone,
+    /// All in one directory, and most are members of the others.
+    Members,
+}
+
 fn path(alloc: Global, bytes: &[u8]) -> Result<Path> {
     Path::new(alloc, bytes).map_err(|_| anyhow!("no path"))
 }
@@ -20,12 +34,23 @@ fn text(alloc: Global, bytes: &[u8]) -> Result<Text> {
     Text::new(alloc, bytes).map_err(|_| anyhow!("no text"))
 }
 
-/// The path of the log with this number: in one directory with all others, or in one of its own.
-fn log_path(alloc: Global, number: usize, alone: bool) -> Result<Path> {
-    let name = if alone {
-        format!(in alloc; "/var/log/app{number}/node.log")?
+/// The name of the file with this number of a log and its members: the log itself, or the member of that number.
+fn member_name(alloc: Global, number: usize) -> Result<String> {
+    let log = number / (MEMBERS + 1);
+    let member = number % (MEMBERS + 1);
+    if member == 0 {
+        Ok(format!(in alloc; "/var/log/app/node{log}.log")?)
     } else {
-        format!(in alloc; "/var/log/app/node{number}.log")?
+        Ok(format!(in alloc; "/var/log/app/node{log}.log.{member}")?)
+    }
+}
+
+/// The path of the log with this number.
+fn log_path(alloc: Global, number: usize, scene: Scene) -> Result<Path> {
+    let name = match scene {
+        Scene::Together => format!(in alloc; "/var/log/app/node{number}.log")?,
+        Scene::Alone => format!(in alloc; "/var/log/app{number}/node.log")?,
+        Scene::Members => member_name(alloc, number)?,
     };
     path(alloc, name.as_bytes())
 }
@@ -43,8 +68,8 @@ fn naming(alloc: Global, log: &Path) -> Result<Naming> {
     })
 }
 
-fn family(alloc: Global, number: usize, alone: bool) -> Result<Family> {
-    let log = log_path(alloc, number, alone)?;
+fn family(alloc: Global, number: usize, scene: Scene) -> Result<Family> {
+    let log = log_path(alloc, number, scene)?;
     let naming = naming(alloc, &log)?;
     if are_kin(&log, &naming) {
         Ok(Family::of(log, naming))
@@ -53,70 +78,81 @@ fn family(alloc: Global, number: usize, alone: bool) -> Result<Family> {
     }
 }
 
-fn families(alloc: Global, logs: usize, alone: bool) -> Result<Vec<Family>> {
+fn families(alloc: Global, logs: usize, scene: Scene) -> Result<Vec<Family>> {
     let mut families = Vec::new(alloc);
     for number in 0..logs {
-        families.push(family(alloc, number, alone)?)?;
+        families.push(family(alloc, number, scene)?)?;
     }
     Ok(families)
 }
 
 /// How many of the logs are kept.
-fn kept(alloc: Global, logs: &[&Family]) -> Result<usize> {
-    match choose(alloc, logs, &[]) {
+fn kept(alloc: Global, logs: &[&Family], wild: &[bool]) -> Result<usize> {
+    if wild.len() != logs.len() {
+        return Err(anyhow!("each log has one mark"));
+    }
+    match choose(alloc, logs, wild, &[]) {
         Ok(choices) => Ok(choices.iter().filter(|c| **c == Choice::Kept).count()),
         Err(_) => Err(anyhow!("no memory")),
     }
 }
 
 /// The shortest time, in nanoseconds, of a choice.
-fn choice_time(rt: &HostRuntime, logs: &[&Family]) -> Result<u128> {
+fn choice_time(rt: &HostRuntime, logs: &[&Family], wild: &[bool]) -> Result<u128> {
     let mut shortest = u128::MAX;
     for _ in 0..ROUNDS {
         let start = Instant::now(rt)?;
-        let _kept = kept(rt.alloc(), logs)?;
+        let _kept = kept(rt.alloc(), logs, wild)?;
         shortest = shortest.min(start.elapsed(rt)?.as_nanos());
     }
     Ok(shortest)
 }
 
 /// Prints how many of the logs are kept; the time for each, in nanoseconds, where it is wanted.
-fn measure_lent(rt: &HostRuntime, logs: &[&Family], alone: bool, timed: bool) -> Result<u128> {
-    let count = kept(rt.alloc(), logs)?;
+fn measure_lent(
+    rt: &HostRuntime,
+    logs: &[&Family],
+    wild: &[bool],
+    scene: Scene,
+    timed: bool,
+) -> Result<u128> {
+    let count = kept(rt.alloc(), logs, wild)?;
     let all = logs.len();
-    let place = if alone {
-        "in directories of their own"
-    } else {
-        "in one directory"
+    let place = match scene {
+        Scene::Together => "in one directory",
+        Scene::Alone => "in directories of their own",
+        Scene::Members => "with their members",
     };
     println!(rt; "kept: {count} of {all} logs {place}")?;
     if timed {
-        Ok(choice_time(rt, logs)? / u128::from(all.max(1) as u64))
+        Ok(choice_time(rt, logs, wild)? / u128::from(all.max(1) as u64))
     } else {
         Ok(0)
     }
 }
 
-fn measure_all(rt: &HostRuntime, families: &[Family], alone: bool, timed: bool) -> Result<u128> {
+fn measure_all(rt: &HostRuntime, families: &[Family], scene: Scene, timed: bool) -> Result<u128> {
     let mut logs = Vec::new(rt.alloc());
+    let mut wild = Vec::new(rt.alloc());
     for family in families {
         logs.push(family)?;
+        wild.push(true)?;
     }
-    measure_lent(rt, &logs, alone, timed)
+    measure_lent(rt, &logs, &wild, scene, timed)
 }
 
-fn measure_one(rt: &HostRuntime, logs: usize, alone: bool, timed: bool) -> Result<u128> {
-    let families = families(rt.alloc(), logs, alone)?;
-    measure_all(rt, &families, alone, timed)
+fn measure_one(rt: &HostRuntime, logs: usize, scene: Scene, timed: bool) -> Result<u128> {
+    let families = families(rt.alloc(), logs, scene)?;
+    measure_all(rt, &families, scene, timed)
 }
 
-/// Prints how many of a fifth as many and of as many logs are kept, in one directory and in directories of their own; the
-/// times for each log, where they are wanted.
+/// Prints how many of a fifth as many and of as many logs that wildcards gave are kept, in one directory, in directories of
+/// their own, and among their members; the times for each log, where they are wanted.
 pub fn measure(rt: &HostRuntime, timed: bool) -> Result<()> {
     let logs = if timed { LOGS } else { 10 };
-    for alone in [false, true] {
-        let few = measure_one(rt, logs / 5, alone, timed)?;
-        let many = measure_one(rt, logs, alone, timed)?;
+    for scene in [Scene::Together, Scene::Alone, Scene::Members] {
+        let few = measure_one(rt, logs / 5, scene, timed)?;
+        let many = measure_one(rt, logs, scene, timed)?;
         if timed {
             println!(rt; "kept: {few} and {many} ns for each log")?;
         }
