@@ -1,2 +1,3 @@
-pub mod Moving
+pub mod Further
+pub mod Sofar
 pub mod Telling

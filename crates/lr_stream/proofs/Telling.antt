@@ -12,7 +12,7 @@ use Rattle.lr_lex.specs.Items.{Told, said, items_of, items_from, items, body, en
 use Rattle.lr_lex.proofs.LawsOf.{lines-more}
 use Rattle.lr_stream.specs.Moved.{moved}
 use Rattle.lr_stream.specs.Whole.{AreLines, IsPlainSaid, Tell, IsScriptBegun}
-use Rattle.lr_stream.proofs.Moving.{items_moved}
+use Rattle.lr_stream.proofs.Further.{items_moved}
 
 -- ---- a line and its newline
 

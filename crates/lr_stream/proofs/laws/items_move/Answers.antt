@@ -1,4 +1,4 @@
-use Rattle.lr_stream.proofs.Moving.{items_moved}
+use Rattle.lr_stream.proofs.Further.{items_moved}
 use Rattle.lr_stream.proofs.laws.items_move.Goals as goal
 
 pub returns : goal.returns

@@ -1,0 +1,54 @@
+// Lines of a text that comes in pieces.
+ghost use Rattle.std.specs.Prelude.{◌≡◌, ℕ, position};
+ghost use Rattle.std.specs.List.{list_all};
+ghost use Rattle.lr_lex.specs.Signs.{is_blank};
+ghost use Rattle.lr_lex.specs.Lines.{line_at};
+ghost use Rattle.lr_lex.specs.Items.{is_sign, past_blanks, is_end};
+ghost use Rattle.lr_lex.specs.Pieces.{is_newline};
+
+/// Where the first newline stands.
+pub fn newline(bytes: &[u8]) -> Option<usize>
+    ensures { result ≡ position is_newline bytes.now }
+{
+    bytes.iter().position(|byte| *byte == b'\n')
+}
+
+fn blank(byte: u8) -> bool
+    ensures { result ≡ is_blank byte }
+{
+    byte == b' ' || byte == b'\t' || byte == b'\r'
+}
+
+fn first_place(line: &[u8]) -> Option<usize>
+    ensures { result ≡ position is_sign line.now }
+{
+    line.iter().position(|byte| !blank(*byte))
+}
+
+fn skip_blanks<'a>(line: &'a [u8]) -> &'a [u8]
+    ensures { result.now ≡ past_blanks line.now }
+{
+    match first_place(line) {
+        Some(at) => &line[at..],
+        None => &[],
+    }
+}
+
+fn all_blank(bytes: &[u8]) -> bool
+    ensures { result ≡ list_all is_blank bytes.now }
+{
+    bytes.iter().all(|byte| blank(*byte))
+}
+
+/// Whether a line is `endscript` past blanks.
+#[tactic(auto, unfolding(lr_lex::specs::Items::is_end))]
+pub fn is_end(line: &[u8]) -> bool
+    ensures { (number at : ℕ) → result ≡ is_end (line_at number at line.now) }
+{
+    let signs = skip_blanks(line);
+    if signs.len() < 9 {
+        return false;
+    }
+    let (word, rest) = signs.split_at(9);
+    word == b"endscript".as_slice() && all_blank(rest)
+}

@@ -1,0 +1,89 @@
+// Items at their place in the whole text.
+ghost use Rattle.std.specs.Prelude.{◌≡◌, ◌+◌, ◌<◌, ◌^◌, All, IfOk, IfErr, map};
+ghost use Rattle.lr_lex.specs.declared.word.Word.{Word};
+ghost use Rattle.lr_stream.specs.Moved.{moved_word, moved_item, moved_fault, moved_found, IsNear, IsNearItem, IsNearFound};
+
+use lr_lex::{Item, LexFault, Word};
+use lr_rules::Listed;
+
+fn move_word(word: Word, by: usize) -> Word
+    requires { word.at + by < 2 ^ 64 }
+    ensures { result ≡ moved_word by word }
+{
+    Word {
+        at: word.at + by,
+        ..word
+    }
+}
+
+fn move_all(words: &mut [Word], by: usize)
+    requires { All (λ w. w.at + by < 2 ^ 64) words.old }
+    ensures { words.new ≡ map (moved_word by) words.old }
+{
+    for word in words {
+        word.at += by;
+    }
+}
+
+fn move_words(words: Listed<Word>, by: usize) -> Listed<Word>
+    requires { All (λ w. w.at + by < 2 ^ 64) words }
+    ensures { result ≡ map (moved_word by) words }
+{
+    let mut words = words.into_vec();
+    move_all(&mut words, by);
+    Listed::from_vec(words)
+}
+
+fn move_item(item: Item, down: u32, by: usize) -> Item
+    requires { IsNearItem down by item }
+    ensures { result ≡ moved_item down by item }
+{
+    match item {
+        Item::Line {
+            words,
+            names,
+            brace,
+            stray,
+            line,
+        } => Item::Line {
+            words: move_words(words, by),
+            names,
+            brace,
+            stray,
+            line: line + down,
+        },
+        Item::Close { line } => Item::Close { line: line + down },
+        Item::Script {
+            word,
+            text,
+            brace,
+            stray,
+            line,
+        } => Item::Script {
+            word: move_word(word, by),
+            text,
+            brace,
+            stray,
+            line: line + down,
+        },
+    }
+}
+
+/// What was found, so many lines and bytes further on.
+pub fn move_found(
+    found: Result<Option<Item>, LexFault>,
+    down: u32,
+    by: usize,
+) -> Result<Option<Item>, LexFault>
+    requires { IsNearFound down by found }
+    ensures { result ≡ moved_found down by found }
+{
+    match found {
+        Ok(Some(item)) => Ok(Some(move_item(item, down, by))),
+        Ok(None) => Ok(None),
+        Err(fault) => Err(LexFault {
+            line: fault.line + down,
+            kind: fault.kind,
+        }),
+    }
+}
