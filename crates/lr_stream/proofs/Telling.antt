@@ -84,7 +84,7 @@ pub line_tells : (n at : ℕ) (x : List ℕ) (s : Said) → has_line x ≡ false
 line_tells n at x s h e p more = ap (λ ls. items_of 0 ls) (line_alone n at x h more) ∙ plain_told (line_at n at x) s e p (lines (n + 1) (at + length (x ++ 10 ∷ [])) more)
 
 -- the lines of a script up to the first that ends it
-body_is : (ls : List Line) (e : Line) (more : List Line) → list_any is_end ls ≡ false → is_end e ≡ true → body ((ls ++ e ∷ []) ++ more) ≡ ls
+pub body_is : (ls : List Line) (e : Line) (more : List Line) → list_any is_end ls ≡ false → is_end e ≡ true → body ((ls ++ e ∷ []) ++ more) ≡ ls
 body_is [] e more h is = ap (λ t. cond t [] (e ∷ body more)) is
 body_is (l ∷ ls) e more h is = by (is_end l) h (λ k. body_is ls e more k is)
   where
@@ -92,7 +92,7 @@ body_is (l ∷ ls) e more h is = by (is_end l) h (λ k. body_is ls e more k is)
     by true h rest = absurd (true≢false h)
     by false h rest = ap (λ xs. l ∷ xs) (rest h)
 
-ended_is : (ls : List Line) (e : Line) (more : List Line) → is_end e ≡ true → ended ((ls ++ e ∷ []) ++ more) ≡ true
+pub ended_is : (ls : List Line) (e : Line) (more : List Line) → is_end e ≡ true → ended ((ls ++ e ∷ []) ++ more) ≡ true
 ended_is [] e more is = ap (λ t. t || ended more) is
 ended_is (l ∷ ls) e more is = by (is_end l) (ended_is ls e more is)
   where

@@ -1,12 +1,14 @@
 -- What a stream holds: the bytes that were given and aren't taken yet, and where they stand among all that were given.
-use Rattle.std.specs.Prelude.{◌≡◌, ◌⊎◌, ◌+◌, ◌-◌, ◌≤◌, ◌<◌, ◌^◌, ℕ, false, List, [], ◌∷◌, ◌++◌, length, drop, Option, Some, None, Result, Ok, Err}
+use Rattle.std.specs.Prelude.{◌≡◌, ◌⊎◌, ◌+◌, ◌-◌, ◌≤◌, ◌<◌, ◌^◌, ℕ, Bool, true, false, List, [], ◌∷◌, ◌++◌, length, drop, Option, Some, None, Result, Ok, Err}
 use Rattle.lr_lex.specs.declared.item.Item.{Item}
 use Rattle.lr_lex.specs.declared.item.LexFault.{LexFault}
-use Rattle.lr_lex.specs.Items.{Told, items_from}
+use Rattle.lr_lex.specs.declared.item.LexKind.TheVariants as kind
+use Rattle.lr_lex.specs.Items.{Told, items_from, is_end}
+use Rattle.lr_lex.specs.Lines.{line_at}
 use Rattle.lr_lex.specs.Lexing.{ByKind}
 use Rattle.lr_lex.specs.Pieces.{has_line}
 use Rattle.lr_stream.specs.declared.held.Held.{Held}
-use Rattle.lr_stream.specs.Whole.{IsScriptBegun}
+use Rattle.lr_stream.specs.Whole.{IsScriptBegun, Tell}
 
 -- the bytes that aren't taken yet
 abbrev pub rest_of : Held → List ℕ
@@ -51,3 +53,75 @@ abbrev pub FirstOf : List Told → Result (Option Item) LexFault → Type 0
 FirstOf ts (Ok None) = ts ≡ []
 FirstOf ts (Ok (Some i)) = (us : List Told) × (ts ≡ Ok i ∷ us)
 FirstOf ts (Err f) = ByKind f.kind (Unit {0}) ((us : List Told) × (ts ≡ Err f ∷ us))
+
+-- no byte is lost, and none more is ahead
+pub record Filled (old new : Held) : Type 0 where
+  pub text : text_of new ≡ text_of old
+  pub down : new.down ≡ old.down
+  pub at : new.at ≡ old.at
+  pub ahead : length (rest_of new) ≤ length (rest_of old)
+
+-- a newline stands first, or nothing is left
+abbrev pub BeginsLine : Bool → List ℕ → Type 0
+BeginsLine true bytes = (rest : List ℕ) × (bytes ≡ 10 ∷ rest)
+BeginsLine false bytes = bytes ≡ []
+
+-- the line and its newline are of the script
+pub record HasPushed (old new : Held) : Type 0 where
+  pub bytes : new.bytes.items ≡ old.bytes.items ++ 10 ∷ []
+  pub begun : new.begun ≡ length new.bytes.items
+  pub lines : new.lines ≡ old.lines + 1
+  pub rest : new.rest.items ≡ old.rest.items
+  pub from : new.from ≡ old.from + 1
+  pub down : new.down ≡ old.down
+  pub at : new.at ≡ old.at
+
+abbrev pub PushesLine : {E : Type 0} → Held → Held → Result (Unit {0}) E → Type 0
+PushesLine old new (Ok x) = HasPushed old new
+PushesLine old new (Err e) = (new.bytes.items ≡ old.bytes.items) × (new.begun ≡ old.begun) × (new.lines ≡ old.lines) × (new.rest.items ≡ old.rest.items) × (new.from ≡ old.from) × (new.down ≡ old.down) × (new.at ≡ old.at)
+
+-- the bytes and the newline behind them are taken
+pub record Passes (old new : Held) (lines : ℕ) : Type 0 where
+  pub bytes : new.bytes.items ≡ []
+  pub begun : new.begun ≡ 0
+  pub none : new.lines ≡ 0
+  pub rest : new.rest.items ≡ old.rest.items
+  pub from : new.from ≡ old.from + 1
+  pub down : new.down ≡ old.down + lines
+  pub at : new.at ≡ old.at + (length old.bytes.items + 1)
+
+-- a newline is next, and this is what the bytes tell with it
+pub record TellsNext (h : Held) (lines : ℕ) (ts : List Told) : Type 0 where
+  pub next : BeginsLine true (rest_of h)
+  pub lines_few : lines ≤ h.lines + 1
+  pub tells : Tell (1 + h.down) h.at (h.bytes.items ++ 10 ∷ []) lines ts
+
+-- a script has begun, and the line at the end of the bytes ends it
+pub record EndsScript (h : Held) : Type 0 where
+  pub script : List ℕ
+  pub line : List ℕ
+  pub bytes_are : h.bytes.items ≡ script ++ line
+  pub no_newline : has_line line ≡ false
+  pub begun : IsScriptBegun (1 + h.down) h.at script h.lines
+  pub ends : (m a : ℕ) → is_end (line_at m a line) ≡ true
+
+-- nothing is lost, and after a fault, which is want of memory, too
+abbrev pub Fills : Held → Held → Result Bool LexFault → Type 0
+Fills old new (Ok found) = IsSame old new
+Fills old new (Err f) = IsSame old new × (f.kind ≡ kind.Memory)
+
+-- the bytes that were looked at go
+pub record Drops (old new : Held) : Type 0 where
+  pub bytes : new.bytes.items ≡ []
+  pub begun : new.begun ≡ 0
+  pub lines : new.lines ≡ 0
+  pub rest : new.rest.items ≡ old.rest.items
+  pub from : new.from ≡ old.from
+  pub down : new.down ≡ old.down
+  pub at : new.at ≡ old.at
+
+-- what came at the end, where no bytes follow
+abbrev pub Ends : Held → Held → Result (Option Item) LexFault → Type 0
+Ends old new (Ok None) = (coming old [] ≡ []) × (coming new [] ≡ [])
+Ends old new (Ok (Some i)) = coming old [] ≡ Ok i ∷ coming new []
+Ends old new (Err f) = ByKind f.kind (coming new [] ≡ coming old []) (coming old [] ≡ Err f ∷ coming new [])

@@ -1,3 +1,5 @@
 pub mod Holding
 pub mod Moved
+pub mod Newlines
 pub mod Whole
+pub mod Streams

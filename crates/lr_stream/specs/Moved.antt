@@ -1,5 +1,5 @@
 -- Items of a text that stands further on: in a later line, behind more bytes.
-use Rattle.std.specs.Prelude.{ℕ, ◌+◌, ◌<◌, ◌^◌, All, map, Option, Some, None, Result, Ok, Err}
+use Rattle.std.specs.Prelude.{ℕ, ◌+◌, ◌<◌, ◌^◌, All, map, Ok, Err}
 use Rattle.lr_lex.specs.declared.word.Word.{Word}
 use Rattle.lr_lex.specs.declared.item.Item.{Item}
 use Rattle.lr_lex.specs.declared.item.Item.TheVariants as item
@@ -23,11 +23,6 @@ abbrev pub moved : ℕ → ℕ → Told → Told
 moved down by (Ok i) = Ok (moved_item down by i)
 moved down by (Err f) = Err (moved_fault down f)
 
-abbrev pub moved_found : ℕ → ℕ → Result (Option Item) LexFault → Result (Option Item) LexFault
-moved_found down by (Ok None) = Ok None
-moved_found down by (Ok (Some i)) = Ok (Some (moved_item down by i))
-moved_found down by (Err f) = Err (moved_fault down f)
-
 -- ---- it can be moved
 
 abbrev pub IsNear : ℕ → Word → Type 0
@@ -37,8 +32,3 @@ abbrev pub IsNearItem : ℕ → ℕ → Item → Type 0
 IsNearItem down by (item.Line ws names brace stray line) = All (IsNear by) ws × (line + down < 2 ^ 32)
 IsNearItem down by (item.Close line) = line + down < 2 ^ 32
 IsNearItem down by (item.Script w text brace stray line) = IsNear by w × (line + down < 2 ^ 32)
-
-abbrev pub IsNearFound : ℕ → ℕ → Result (Option Item) LexFault → Type 0
-IsNearFound down by (Ok None) = Unit {0}
-IsNearFound down by (Ok (Some i)) = IsNearItem down by i
-IsNearFound down by (Err f) = f.line + down < 2 ^ 32

@@ -1,16 +1,22 @@
 // Lines of a text that comes in pieces.
-ghost use Rattle.std.specs.Prelude.{◌≡◌, ℕ, position};
+ghost use Rattle.std.specs.Prelude.{◌≡◌, ℕ, false, position, MatchOption};
 ghost use Rattle.std.specs.List.{list_all};
 ghost use Rattle.lr_lex.specs.Signs.{is_blank};
 ghost use Rattle.lr_lex.specs.Lines.{line_at};
 ghost use Rattle.lr_lex.specs.Items.{is_sign, past_blanks, is_end};
-ghost use Rattle.lr_lex.specs.Pieces.{is_newline};
+ghost use Rattle.lr_lex.specs.Pieces.{has_line};
+ghost use Rattle.lr_stream.specs.Newlines.{IsNewline};
+
+use bstr::ByteSlice;
 
 /// Where the first newline stands.
 pub fn newline(bytes: &[u8]) -> Option<usize>
-    ensures { result ≡ position is_newline bytes.now }
+    ensures { MatchOption result (has_line bytes.now ≡ false) (λ at. IsNewline bytes.now at) }
 {
-    bytes.iter().position(|byte| *byte == b'\n')
+    match bytes.find_byte(b'\n') {
+        Some(at) => Some(at),
+        None => None,
+    }
 }
 
 fn blank(byte: u8) -> bool

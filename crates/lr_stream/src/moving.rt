@@ -1,7 +1,7 @@
 // Items at their place in the whole text.
-ghost use Rattle.std.specs.Prelude.{◌≡◌, ◌+◌, ◌<◌, ◌^◌, All, IfOk, IfErr, map};
+ghost use Rattle.std.specs.Prelude.{◌≡◌, ◌+◌, ◌<◌, ◌^◌, All, map};
 ghost use Rattle.lr_lex.specs.declared.word.Word.{Word};
-ghost use Rattle.lr_stream.specs.Moved.{moved_word, moved_item, moved_fault, moved_found, IsNear, IsNearItem, IsNearFound};
+ghost use Rattle.lr_stream.specs.Moved.{moved_word, moved_item, moved_fault, IsNearItem};
 
 use lr_lex::{Item, LexFault, Word};
 use lr_rules::Listed;
@@ -34,7 +34,8 @@ fn move_words(words: Listed<Word>, by: usize) -> Listed<Word>
     Listed::from_vec(words)
 }
 
-fn move_item(item: Item, down: u32, by: usize) -> Item
+/// The item, so many lines and bytes further on.
+pub fn move_item(item: Item, down: u32, by: usize) -> Item
     requires { IsNearItem down by item }
     ensures { result ≡ moved_item down by item }
 {
@@ -69,21 +70,13 @@ fn move_item(item: Item, down: u32, by: usize) -> Item
     }
 }
 
-/// What was found, so many lines and bytes further on.
-pub fn move_found(
-    found: Result<Option<Item>, LexFault>,
-    down: u32,
-    by: usize,
-) -> Result<Option<Item>, LexFault>
-    requires { IsNearFound down by found }
-    ensures { result ≡ moved_found down by found }
+/// The fault, so many lines further on.
+pub fn move_fault(fault: LexFault, down: u32) -> LexFault
+    requires { fault.line + down < 2 ^ 32 }
+    ensures { result ≡ moved_fault down fault }
 {
-    match found {
-        Ok(Some(item)) => Ok(Some(move_item(item, down, by))),
-        Ok(None) => Ok(None),
-        Err(fault) => Err(LexFault {
-            line: fault.line + down,
-            kind: fault.kind,
-        }),
+    LexFault {
+        line: fault.line + down,
+        kind: fault.kind,
     }
 }
