@@ -6,7 +6,7 @@ use Rattle.std.proofs.lemmas.List.Folds.{list_any-append}
 use Rattle.lr_lex.specs.Pieces.{has_line, is_newline}
 use Rattle.lr_stream.specs.declared.held.Held.{Held}
 use Rattle.lr_stream.specs.Newlines.{IsNewline}
-use Rattle.lr_stream.specs.Holding.{IsHeld, Filled, rest_of}
+use Rattle.lr_stream.specs.Holding.{IsHeld, Filled, rest_of, size_of}
 
 module _ (h : Held) (is : IsHeld h) (b r : Vec ℕ Global) (f : ℕ) (x : List ℕ) (grown : b.items ≡ h.bytes.items ++ x) (none : has_line x ≡ false) (in_r : f ≤ length r.items) (parts : rest_of h ≡ x ++ drop f r.items) where
   size : length x + (length r.items - f) ≡ length h.rest.items - h.from
@@ -30,6 +30,9 @@ module _ (h : Held) (is : IsHeld h) (b r : Vec ℕ Global) (f : ℕ) (x : List �
     down_few = is.down_few;
     few = let p = ap (λ (l : List ℕ). length l) grown in let q = length-append h.bytes.items x in let s = is.few in omega (arith, p, q, s, size);
   }
+
+  pub grown_few : size_of (record h { bytes = b; rest = r; from = f }) ≤ size_of h
+  grown_few = let p = ap (λ (l : List ℕ). length l) grown in let q = length-append h.bytes.items x in omega (arith, p, q, size)
 
   pub grown_filled : Filled h (record h { bytes = b; rest = r; from = f })
   grown_filled = record {

@@ -3,7 +3,7 @@ use Rattle.std.proofs.Common.{◌≡◌, ◌∙◌, sym, ap, subst, refl, inl, i
 use Rattle.std.proofs.lemmas.List.{drop-drop, append-nil}
 use Rattle.lr_lex.specs.Items.{Told, items_from}
 use Rattle.lr_stream.specs.declared.held.Held.{Held}
-use Rattle.lr_stream.specs.Holding.{IsHeld, BeginsLine, Filled, Passes, HasPushed, Drops, IsSame, rest_of, text_of, coming}
+use Rattle.lr_stream.specs.Holding.{IsHeld, BeginsLine, Filled, Passes, HasPushed, Drops, IsSame, rest_of, text_of, coming, size_of}
 use Rattle.lr_stream.specs.Whole.{IsScriptBegun, Tell}
 
 -- behind the newline
@@ -30,6 +30,9 @@ module _ (h n : Held) (is : IsHeld h) (lines : ℕ) (p : Passes h n lines) (next
     down_few = let a = p.down in let b = p.at in let c = is.down_few in let d = is.lines_few in omega (arith, a, b, c, d, few, begun_in);
     few = let a = p.at in let b = ap (λ (l : List ℕ). length l) p.bytes in let c = ap (λ (l : List ℕ). length l) p.rest in let d = p.from in let e = is.few in let f = ahead_one h next in omega (arith, a, b, c, d, e, f);
   }
+
+  pub passed_few : size_of n ≤ size_of h
+  passed_few = let a = p.at in let b = ap (λ (l : List ℕ). length l) p.bytes in let c = ap (λ (l : List ℕ). length l) p.rest in let d = p.from in let f = ahead_one h next in omega (arith, a, b, c, d, f)
 
   rest_is : rest_of n ≡ next.0
   rest_is = ap (λ (l : List ℕ). drop n.from l) p.rest ∙ (ap (λ f. drop f h.rest.items) p.from ∙ behind_next h next)
@@ -71,6 +74,9 @@ module _ (h n : Held) (is : IsHeld h) (p : HasPushed h n) (next : BeginsLine tru
     few = let a = p.at in let b = ap (λ (l : List ℕ). length l) p.bytes in let g = length-append h.bytes.items (10 ∷ []) in let c = ap (λ (l : List ℕ). length l) p.rest in let d = p.from in let e = is.few in let f = ahead_one h next in omega (arith, a, b, c, d, e, f, g);
   }
 
+  pub pushed_few : size_of n ≤ size_of h
+  pushed_few = let a = p.at in let b = ap (λ (l : List ℕ). length l) p.bytes in let g = length-append h.bytes.items (10 ∷ []) in let c = ap (λ (l : List ℕ). length l) p.rest in let d = p.from in let f = ahead_one h next in omega (arith, a, b, c, d, f, g)
+
   pub pushed_less : length (rest_of n) < length (rest_of h)
   pushed_less = let a = ap (λ (l : List ℕ). length l) pushed_rest in let b = ap (λ (l : List ℕ). length l) next.1 in omega (arith, a, b)
 
@@ -85,6 +91,9 @@ pub filled_same : (h n : Held) → Filled h n → IsSame h n
 filled_same h n f more =
     ap (λ l. items_from (1 + h.down) h.at (l ++ more)) (sym f.text)
     ∙ (ap (λ d. items_from (1 + d) h.at (text_of n ++ more)) (sym f.down) ∙ ap (λ a. items_from (1 + n.down) a (text_of n ++ more)) (sym f.at))
+
+pub dropped_few : (h n : Held) → Drops h n → size_of n ≤ size_of h
+dropped_few h n d = let a = d.at in let b = ap (λ (l : List ℕ). length l) d.bytes in let c = ap (λ (l : List ℕ). length l) d.rest in let f = d.from in omega (arith, a, b, c, f)
 
 pub dropped_held : (h n : Held) → IsHeld h → Drops h n → IsHeld n
 dropped_held h n is d = record {

@@ -17,6 +17,10 @@ rest_of h = drop h.from h.rest.items
 abbrev pub text_of : Held → List ℕ
 text_of h = h.bytes.items ++ rest_of h
 
+-- so many bytes were taken or are held
+abbrev pub size_of : Held → ℕ
+size_of h = h.at + length h.bytes.items + (length h.rest.items - h.from)
+
 -- what is still to come, where these bytes follow
 abbrev pub coming : Held → List ℕ → List Told
 coming h more = items_from (1 + h.down) h.at (text_of h ++ more)
@@ -32,7 +36,7 @@ pub record IsHeld (h : Held) : Type 0 where
   pub from_in : h.from ≤ length h.rest.items
   pub lines_few : h.lines ≤ length script
   pub down_few : h.down ≤ h.at
-  pub few : h.at + length h.bytes.items + (length h.rest.items - h.from) < 2 ^ 32
+  pub few : size_of h < 2 ^ 32
 
 -- the same is still to come, whatever follows
 abbrev pub IsSame : Held → Held → Type 0

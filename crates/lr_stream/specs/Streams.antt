@@ -5,7 +5,7 @@ use Rattle.lr_lex.specs.declared.item.LexFault.{LexFault}
 use Rattle.lr_lex.specs.Items.{Told}
 use Rattle.lr_lex.specs.Lexing.{ByKind}
 use Rattle.lr_stream.specs.declared.stream.Stream.{Stream}
-use Rattle.lr_stream.specs.Holding.{IsHeld, coming, rest_of}
+use Rattle.lr_stream.specs.Holding.{IsHeld, coming, rest_of, size_of}
 
 -- What it holds begins a line, or the script whose whole lines it holds; so it is of each stream, from `new` on.
 abbrev pub Stands : Stream → Type 0
@@ -15,9 +15,9 @@ Stands s = IsHeld s.held
 abbrev pub still : Stream → List ℕ → List Told
 still s more = coming s.held more
 
--- so many bytes were given
+-- so many bytes were given; behind the last item or fault of all there may be fewer
 abbrev pub given : Stream → ℕ
-given s = s.held.at + length s.held.bytes.items + (length s.held.rest.items - s.held.from)
+given s = size_of s.held
 
 -- these may follow: behind the close nothing
 abbrev pub MayFollow : Bool → List ℕ → Type 0

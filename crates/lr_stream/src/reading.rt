@@ -1,5 +1,5 @@
 // The pieces and the items of a stream.
-ghost use Rattle.std.specs.Prelude.{◌≡◌, ◌+◌, ◌<◌, ◌^◌, ◌++◌, ℕ, List, true, false, length, OnOk, OnErr};
+ghost use Rattle.std.specs.Prelude.{◌≡◌, ◌+◌, ◌≤◌, ◌<◌, ◌^◌, ◌++◌, ℕ, List, true, false, length, OnOk, OnErr};
 ghost use Rattle.lr_lex.specs.Items.{items};
 ghost use Rattle.lr_stream.specs.Streams.{Stands, still, given, Gives};
 
@@ -68,6 +68,7 @@ impl Stream {
         requires { Stands self.old }
         ensures stands { Stands self.new }
         ensures gives { Gives self.old self.new result }
+        ensures few { given self.new ≤ given self.old }
     {
         match scan(&mut self.held) {
             Ok(None) => {

@@ -1,7 +1,7 @@
 // The bytes of a stream, line by line.
 ghost use Rattle.std.specs.Prelude.{◌≡◌, ◌≤◌, ◌<◌, ◌+◌, ◌-◌, ◌^◌, ◌++◌, ◌∷◌, [], ℕ, List, true, false, length, IfOk, OnOk, OnErr};
 ghost use Rattle.lr_lex.specs.Items.{items};
-ghost use Rattle.lr_stream.specs.Holding.{IsHeld, IsSame, Came, Brings, FirstOf, Filled, BeginsLine, EndsScript, PushesLine, Passes, TellsNext, rest_of};
+ghost use Rattle.lr_stream.specs.Holding.{IsHeld, IsSame, Came, Brings, FirstOf, Filled, BeginsLine, EndsScript, PushesLine, Passes, TellsNext, rest_of, size_of};
 ghost use Rattle.lr_stream.specs.Whole.{IsScriptBegun};
 ghost use Rattle.lr_stream.specs.Moved.{moved_item, moved_fault, IsNearItem};
 
@@ -27,6 +27,7 @@ pub fn fill(held: &mut Held) -> Result<bool, Memory>
     ensures held { IsHeld held.new }
     ensures filled { Filled held.old held.new }
     ensures found { IfOk result (λ found. BeginsLine found (rest_of held.new)) }
+    ensures few { size_of held.new ≤ size_of held.old }
 {
     let Some(size) = newline(&held.rest[held.from..]) else {
         held.bytes.extend_from_slice(&held.rest[held.from..])?;
@@ -76,6 +77,7 @@ fn take_item(held: &mut Held, item: Item, lines: u64) -> Item
     ensures held { IsHeld held.new }
     ensures came { Came held.old held.new (Ok result) }
     ensures less { length (rest_of held.new) < length (rest_of held.old) }
+    ensures few { size_of held.new ≤ size_of held.old }
 {
     let item = move_item(item, held.down as u32, held.at);
     pass(held, lines);
@@ -90,6 +92,7 @@ fn take_fault(held: &mut Held, fault: LexFault, lines: u64) -> LexFault
     ensures held { IsHeld held.new }
     ensures came { Came held.old held.new (Err result) }
     ensures kind { result.kind ≡ fault.kind }
+    ensures few { size_of held.new ≤ size_of held.old }
 {
     let fault = move_fault(fault, held.down as u32);
     pass(held, lines);
@@ -103,6 +106,7 @@ fn take_nothing(held: &mut Held)
     ensures held { IsHeld held.new }
     ensures same { IsSame held.old held.new }
     ensures less { length (rest_of held.new) < length (rest_of held.old) }
+    ensures few { size_of held.new ≤ size_of held.old }
 {
     pass(held, 1);
 }
@@ -126,6 +130,7 @@ fn keep_line(held: &mut Held) -> Result<Option<Item>, LexFault>
     ensures held { IsHeld held.new }
     ensures brings { Brings held.old held.new result }
     ensures less { OnOk result (length (rest_of held.new) < length (rest_of held.old)) }
+    ensures few { size_of held.new ≤ size_of held.old }
 {
     match push_line(held) {
         Ok(()) => Ok(None),
@@ -141,6 +146,7 @@ fn end_script(held: &mut Held) -> Result<Option<Item>, LexFault>
     ensures held { IsHeld held.new }
     ensures brings { Brings held.old held.new result }
     ensures less { OnOk result (length (rest_of held.new) < length (rest_of held.old)) }
+    ensures few { size_of held.new ≤ size_of held.old }
 {
     let lines = held.lines + 1;
     match first_of(held.alloc, &held.bytes) {
@@ -163,6 +169,7 @@ fn line_fault(held: &mut Held, fault: LexFault) -> Result<Option<Item>, LexFault
     ensures held { IsHeld held.new }
     ensures brings { Brings held.old held.new result }
     ensures less { OnOk result (length (rest_of held.new) < length (rest_of held.old)) }
+    ensures few { size_of held.new ≤ size_of held.old }
 {
     match fault.kind {
         LexKind::Memory => Err(fault),
@@ -181,6 +188,7 @@ fn step_line(held: &mut Held) -> Result<Option<Item>, LexFault>
     ensures held { IsHeld held.new }
     ensures brings { Brings held.old held.new result }
     ensures less { OnOk result (length (rest_of held.new) < length (rest_of held.old)) }
+    ensures few { size_of held.new ≤ size_of held.old }
 {
     match first_of(held.alloc, &held.bytes) {
         Ok(None) => {
@@ -200,6 +208,7 @@ fn step_script(held: &mut Held) -> Result<Option<Item>, LexFault>
     ensures held { IsHeld held.new }
     ensures brings { Brings held.old held.new result }
     ensures less { OnOk result (length (rest_of held.new) < length (rest_of held.old)) }
+    ensures few { size_of held.new ≤ size_of held.old }
 {
     if is_end(&held.bytes[held.begun..]) {
         end_script(held)
@@ -215,6 +224,7 @@ pub fn step(held: &mut Held) -> Result<Option<Item>, LexFault>
     ensures held { IsHeld held.new }
     ensures brings { Brings held.old held.new result }
     ensures less { OnOk result (length (rest_of held.new) < length (rest_of held.old)) }
+    ensures few { size_of held.new ≤ size_of held.old }
 {
     if held.begun > 0 {
         step_script(held)

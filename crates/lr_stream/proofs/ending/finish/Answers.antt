@@ -6,7 +6,7 @@ use Rattle.lr_lex.specs.declared.item.LexKind.TheVariants as kind
 use Rattle.lr_lex.specs.Items.{Told, items}
 use Rattle.lr_stream.specs.Holding.{FirstOf, coming}
 use Rattle.lr_stream.proofs.Left.{left_small, left_one, left_told, left_nothing, left_none}
-use Rattle.lr_stream.proofs.Passing.{dropped_held}
+use Rattle.lr_stream.proofs.Passing.{dropped_few, dropped_held}
 use Rattle.lr_stream.proofs.Stepping.{other_kind, by_other, near_item}
 use Rattle.lr_stream.proofs.ending.finish.Goals as goal
 
@@ -56,6 +56,7 @@ returns-in-NoEndscript c =
     let is = ap (λ (q : List ℕ). items q) (sym c.deref.ensures.value) ∙ e.1 in
     record {
       held = dropped_held c.args.held.now c.drop_all-in-NoEndscript.new.held c.requires.held c.drop_all-in-NoEndscript.ensures;
+      few = dropped_few c.args.held.now c.drop_all-in-NoEndscript.new.held c.drop_all-in-NoEndscript.ensures;
       ends = by_other c.move_fault.result.kind (coming c.drop_all-in-NoEndscript.new.held [] ≡ coming c.args.held.now []) (coming c.args.held.now [] ≡ Err c.move_fault.result ∷ coming c.drop_all-in-NoEndscript.new.held [])
           (λ m. not (sym (ap (λ (x : LexFault). x.kind) c.move_fault.ensures) ∙ m))
           (subst (λ (x : LexFault). coming c.args.held.now [] ≡ Err x ∷ coming c.drop_all-in-NoEndscript.new.held []) (sym c.move_fault.ensures)

@@ -1,4 +1,4 @@
-use Rattle.lr_stream.proofs.Passing.{pushed_held, pushed_less, pushed_same}
+use Rattle.lr_stream.proofs.Passing.{pushed_few, pushed_held, pushed_less, pushed_same}
 use Rattle.lr_stream.proofs.taking.keep_line.Goals as goal
 
 pub returns-in-Ok-clause-held : goal.returns-in-Ok-clause-held
@@ -9,3 +9,6 @@ returns-in-Ok-clause-brings c = pushed_same c.args.held.now c.push_line.new.held
 
 pub returns-in-Ok-clause-less : goal.returns-in-Ok-clause-less
 returns-in-Ok-clause-less c = pushed_less c.args.held.now c.push_line.new.held c.requires.held c.in-Ok.ensures c.requires.next
+
+pub returns-in-Ok-clause-few : goal.returns-in-Ok-clause-few
+returns-in-Ok-clause-few c = pushed_few c.args.held.now c.push_line.new.held c.requires.held c.in-Ok.ensures c.requires.next
