@@ -5,6 +5,7 @@ use Rattle.std.specs.Result.{result_ok, result_err}
 use Rattle.lr_lex.specs.declared.item.Item.{Item}
 use Rattle.lr_lex.specs.declared.item.Item.TheVariants as item
 use Rattle.lr_lex.specs.declared.word.Word.{Word}
+use Rattle.lr_rules.specs.declared.path.Path.{Path}
 use Rattle.lr_rules.specs.declared.fault.ConfKind.{ConfKind}
 use Rattle.lr_rules.specs.declared.fault.ConfKind.TheVariants as kind
 use Rattle.lr_rules.specs.declared.fault.Phase.{Phase}
@@ -12,7 +13,9 @@ use Rattle.lr_rules.specs.declared.rule.Criterion.TheVariants as criterion
 use Rattle.lr_tables.specs.declared.directive.Directive.{Directive}
 use Rattle.lr_tables.specs.declared.directive.Directive.TheVariants as is
 use Rattle.lr_values.specs.Numbers.{number_value, count_value, size_value}
-use Rattle.lr_words.specs.Names.{log_name_value}
+use Rattle.lr_words.specs.declared.taboo.TabooItems.{TabooItems}
+use Rattle.lr_words.specs.Lists.{taboo_value}
+use Rattle.lr_words.specs.Names.{log_name_value, include_value}
 use Rattle.lr_forms.specs.declared.built.Built.TheVariants as built
 use Rattle.lr_forms.specs.declared.form.Form.{Form}
 use Rattle.lr_forms.specs.declared.form.Form.TheVariants as form
@@ -23,7 +26,7 @@ use Rattle.lr_forms.specs.declared.said.Said.{Said}
 use Rattle.lr_forms.specs.declared.said.Said.TheVariants as says
 use Rattle.lr_forms.specs.Built.{so_far_unbuilt}
 use Rattle.lr_forms.specs.Forms.{form_of}
-use Rattle.lr_forms.specs.Values.{setting, sets_or_bad, day_of}
+use Rattle.lr_forms.specs.Values.{setting, sets_or_bad, day_of, included, include_says, barred}
 use Rattle.lr_forms.specs.Says.{directive_of, is_script, is_outside, checks, first_fault, means, or_bad, by_directive, texts, words_say, log_names, name_faults, named, names_say, nested, phase_named, script_in, said}
 use Rattle.lr_forms.specs.Limits.{is_so_far, IsSoFar}
 
@@ -52,6 +55,18 @@ at_most (w ∷ ws) = setting_so_far set.MaxSize (λ n. refl) (size_value w)
 aged : (vs : List (List ℕ)) → IsSoFar (means (form.One value.MinAge) [] vs)
 aged [] = tt
 aged (w ∷ ws) = setting_so_far set.MinAge (λ n. refl) (number_value w)
+
+included_so_far : (r : Result Path ConfKind) → IsSoFar (included r)
+included_so_far (Ok path) = tt
+included_so_far (Err k) = tt
+
+including : (vs : List (List ℕ)) → IsSoFar (include_says vs)
+including [] = tt
+including (w ∷ ws) = included_so_far (include_value w)
+
+barring : (patterns : Bool) (r : Result TabooItems ConfKind) → IsSoFar (barred patterns r)
+barring patterns (Ok items) = tt
+barring patterns (Err k) = tt
 
 -- a directive that isn't built says no more than a fault
 abbrev BuiltSays : Directive → List ℕ → List (List ℕ) → Type 0
@@ -94,15 +109,15 @@ built_says is.Datehourago word vs h = absurd (cc)
 built_says is.Dateserial word vs h = absurd (cc)
 built_says is.Dateyesterday word vs h = absurd (cc)
 built_says is.Extension word vs h = absurd (cc)
-built_says is.Include word vs h = absurd (cc)
+built_says is.Include word vs h = including vs
 built_says is.Mail word vs h = absurd (cc)
 built_says is.Mailfirst word vs h = absurd (cc)
 built_says is.Maxage word vs h = absurd (cc)
 built_says is.Olddir word vs h = absurd (cc)
 built_says is.Sharedscripts word vs h = absurd (cc)
 built_says is.Start word vs h = absurd (cc)
-built_says is.Tabooext word vs h = absurd (cc)
-built_says is.Taboopat word vs h = absurd (cc)
+built_says is.Tabooext word vs h = barring false (taboo_value vs)
+built_says is.Taboopat word vs h = barring true (taboo_value vs)
 built_says d word vs h = tt
 
 -- ---- lines

@@ -16,10 +16,6 @@ so_far_unbuilt is.Lastaction = true
 so_far_unbuilt is.Postrotate = true
 so_far_unbuilt is.Preremove = true
 so_far_unbuilt is.Prerotate = true
--- other files, and which of them are read
-so_far_unbuilt is.Include = true
-so_far_unbuilt is.Tabooext = true
-so_far_unbuilt is.Taboopat = true
 -- fields of a definition
 so_far_unbuilt is.Addextension = true
 so_far_unbuilt is.Copy = true

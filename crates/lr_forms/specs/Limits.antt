@@ -58,11 +58,9 @@ is_so_far (set.Serial true) = false
 is_so_far (set.Script phase text) = false
 is_so_far v = true
 
--- so far a line says this: where it names logs, one at least; and it names no other file
+-- so far a line says this: where it names logs, one at least
 abbrev pub IsSoFar : Said → Type 0
 IsSoFar (says.Sets v) = is_so_far v ≡ true
 IsSoFar (says.Names ws) = ws ≢ []
 IsSoFar (says.OwnerPassed v) = ⊥
-IsSoFar (says.Include path) = ⊥
-IsSoFar (says.Taboo patterns items) = ⊥
 IsSoFar s = Unit {0}

@@ -28,7 +28,6 @@ fn so_far_unbuilt(directive: Directive) -> bool
         | Directive::Dateyesterday
         | Directive::Extension
         | Directive::Firstaction
-        | Directive::Include
         | Directive::Lastaction
         | Directive::Mail
         | Directive::Mailfirst
@@ -39,9 +38,7 @@ fn so_far_unbuilt(directive: Directive) -> bool
         | Directive::Prerotate
         | Directive::Renamecopy
         | Directive::Sharedscripts
-        | Directive::Start
-        | Directive::Tabooext
-        | Directive::Taboopat => true,
+        | Directive::Start => true,
         _ => false,
     }
 }
