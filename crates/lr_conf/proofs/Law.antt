@@ -20,7 +20,7 @@ use Rattle.lr_forms.specs.Says.{said}
 use Rattle.lr_fields.specs.Fields.{fields_of}
 use Rattle.lr_fields.specs.Rules.{rule_of}
 use Rattle.lr_fields.specs.Scripts.{script_fault}
-use Rattle.lr_conf.specs.Meaning.{Line, Read, Spoiled, End, Past, stands, spoiled, file_ends, Meaning, ◌and◌, told, conf, list_of, before, through, behind as behind_first, set_of, set_past, settings, names_past, settles, pending, first_line, first_pending, words_pending, past, notice_of, fault_of, script_of, script_in, scripts_in, script_says, said_behind, within, body_of, drops, is_bad, set_in, notice_in, fault_in, broken_fault, spoilt_fault, ends, opens, of_end, of_definition, of_body, of_opening, of_line, of_spoilt, meaning, file_of, or_line}
+use Rattle.lr_conf.specs.Meaning.{Line, Read, Spoiled, End, Cut, Past, stands, spoiled, file_ends, breaks_off, Meaning, ◌and◌, told, conf, list_of, before, through, behind as behind_first, set_of, set_past, settings, names_past, settles, pending, first_line, first_pending, words_pending, past, notice_of, fault_of, script_of, script_in, scripts_in, script_says, said_behind, within, body_of, drops, is_bad, set_in, notice_in, fault_in, broken_fault, spoilt_fault, ends, opens, of_end, of_definition, of_body, of_opening, of_line, of_spoilt, meaning, file_of, or_line}
 use Rattle.lr_fields.specs.Setting.{with_set, default_fields}
 use Rattle.lr_conf.specs.Internal.Draft.{State, run, with_said, scripted, said_inside, outside, turned}
 use Rattle.lr_fields.proofs.Settings.{fields-push}
@@ -212,6 +212,7 @@ step-law b (stands at false v) es l out f ps = plain-law b at v es l out f ps
 step-law b (stands at true v) es l out f ps = brace-law b at v es l out f ps
 step-law b (spoiled e) es l out f ps = stays b (spoiled e) es l out f ps refl refl refl
 step-law b file_ends es l out f ps = next b es out file_ends _ [] None f ps l.out refl refl refl
+step-law b breaks_off es l out f ps = next b es out breaks_off _ [] None f ps l.out refl refl refl
 
 outside-law : (b : Built) (e : Line) (es : List Line) → Laws b es → OutsideLaw b (e ∷ es)
 outside-law b e es l out f ps = ap (λ m. of_line (file_of e) (first_pending out) (past b e) and m) (step-law b (past b e) es l out f ps)
@@ -224,6 +225,7 @@ dropped-law b (Read file (item.Line words names brace stray line)) es l out ws f
 dropped-law b (Read file (item.Script word text brace stray line)) es l out ws first f ps = l.drop out ws first f ps
 dropped-law b (Spoiled e) es l out ws first f ps = ap (λ m. told (e ∷ []) and m) (l.drop out ws first f ps)
 dropped-law b (End file) es l out ws first f ps = next b es out file_ends _ [] None f ps l.out refl refl refl
+dropped-law b Cut es l out ws first f ps = next b es out breaks_off _ [] None f ps l.out refl refl refl
 
 -- ---- definitions that no line dropped so far
 
@@ -232,6 +234,7 @@ broken-one : (b : Built) (earlier : List Line) (e : Line) → broken_fault (with
 broken-one b earlier (Read file i) = refl
 broken-one b earlier (Spoiled f) = refl
 broken-one b earlier (End file) = refl
+broken-one b earlier Cut = refl
 
 broken-are : (b : Built) (earlier es : List Line) → filter_map broken_fault (body_of b earlier es) ≡ filter_map spoilt_fault es
 broken-are b earlier [] = refl
@@ -333,6 +336,7 @@ good-law b (Read file (item.Script word text brace stray line)) es l out vs at w
 good-law b (Spoiled e) es l out vs at ws earlier = ap (λ m. told (e ∷ []) and m) (drop_on b es l out vs at ws (earlier ++ Spoiled e ∷ []) (scripts_in b earlier))
 good-law b (End file) es l out vs at ws earlier =
     ap (λ m. told (conf file kind.NoBrace at ∷ []) and m) (next b es out file_ends _ [] None (fields_of vs) (scripts_in b earlier) l.out refl refl refl)
+good-law b Cut es l out vs at ws earlier = next b es out breaks_off _ [] None (fields_of vs) (scripts_in b earlier) l.out refl refl refl
 
 pub laws : (b : Built) (es : List Line) → Laws b es
 laws b [] = record { out = λ out f ps. refl; good = λ out vs at ws earlier. refl; drop = λ out ws first f ps. refl }

@@ -19,7 +19,7 @@ use Rattle.lr_conf.specs.declared.stop.LayerStop.TheVariants as stop
 use Rattle.lr_words.specs.declared.taboo.TabooItems.{TabooItems}
 use Rattle.lr_match.specs.declared.taboo.Taboo.{Taboo}
 use Rattle.lr_fields.specs.Scripts.{script_fault}
-use Rattle.lr_conf.specs.Meaning.{Line, Read, Spoiled, End, Past, stands, spoiled, file_ends, list_of, opened, opens, past, ends, asks, asked, bans, after_bans, banned, outsiders}
+use Rattle.lr_conf.specs.Meaning.{Line, Read, Spoiled, End, Cut, Past, stands, spoiled, file_ends, breaks_off, list_of, opened, opens, past, ends, asks, asked, bans, after_bans, banned, outsiders}
 use Rattle.lr_fields.specs.Setting.{default_fields}
 use Rattle.lr_conf.specs.Internal.Draft.{State, spoken, turned, outside, scripted, with_said, good, dropped, left, step, is_inside, asks_at, bans_at, state_of, asking_from, banning_from, Stepped, Unchanged, Steps, AsksIn, BansIn}
 
@@ -56,6 +56,7 @@ outside_place s (stands at false v) is = ap is_inside (spoken_place s at v ∙ i
 outside_place s (stands at true v) is = turned_inside (opened s.first (stands at true v)) (spoken s at v)
 outside_place s (spoiled f) is = ap is_inside is
 outside_place s file_ends is = ap is_inside is
+outside_place s breaks_off is = ap is_inside is
 
 said_place : (b : Built) (s : State) (v : Said) → s.place ≡ Good → is_inside (with_said b s v).place ≡ true
 said_place b s (says.Sets v) is = ap is_inside is
@@ -84,6 +85,7 @@ good_place b s (Read file i) is = by (closes i)
     by false = said_place b s (said b true i) is
 good_place b s (Spoiled f) is = refl
 good_place b s (End file) is = refl
+good_place b s Cut is = refl
 
 dropped_place : (s : State) (e : Line) → s.place ≡ Dropped → is_inside (dropped s e).place ≡ not (ends e)
 dropped_place s e is = by (ends e)

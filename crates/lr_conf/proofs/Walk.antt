@@ -13,7 +13,7 @@ use Rattle.lr_forms.specs.Says.{said}
 use Rattle.lr_fields.specs.Fields.{fields_of, last_set}
 use Rattle.lr_fields.specs.Rules.{rule_of}
 use Rattle.lr_fields.specs.Scripts.{script_fault}
-use Rattle.lr_conf.specs.Meaning.{Line, Read, Spoiled, End, Past, stands, spoiled, file_ends, Meaning, nothing, told, set_of, set_past, settings, names_past, settles, pending, first_line, words_pending, first_pending, words_with, opened, opens, past, before, behind, ends, scripts_in, script_says, said_behind, within, body_of, drops, set_in, broken_fault, of_end, of_body, of_opening, meaning}
+use Rattle.lr_conf.specs.Meaning.{Line, Read, Spoiled, End, Cut, Past, stands, spoiled, file_ends, breaks_off, Meaning, nothing, told, set_of, set_past, settings, names_past, settles, pending, first_line, words_pending, first_pending, words_with, opened, opens, past, before, behind, ends, scripts_in, script_says, said_behind, within, body_of, drops, set_in, broken_fault, of_end, of_body, of_opening, meaning}
 use Rattle.lr_conf.proofs.Each.{append, backwards, front, Given, one_more, mapped, last}
 
 -- what a line sets, and the names that it has, are such
@@ -40,6 +40,7 @@ past_ok : {b : Built} {S : Set → Type 0} {N : List (List ℕ) → Type 0} {R :
 past_ok w (Read file i) = w.line false i
 past_ok w (Spoiled f) = tt
 past_ok w (End file) = tt
+past_ok w Cut = tt
 
 set_ok : (S : Set → Type 0) (N : List (List ℕ) → Type 0) (v : Said) → OkSaid S N v → Given S (set_of v)
 set_ok S N (says.Sets v) ok = ok
@@ -50,6 +51,7 @@ set_past_ok : (S : Set → Type 0) (N : List (List ℕ) → Type 0) (p : Past) �
 set_past_ok S N (stands at brace v) ok = set_ok S N v ok
 set_past_ok S N (spoiled f) ok = tt
 set_past_ok S N file_ends ok = tt
+set_past_ok S N breaks_off ok = tt
 
 behind_ok : {b : Built} {S : Set → Type 0} {N : List (List ℕ) → Type 0} {R : Rule → Type 0} (w : Walk b S N R) (earlier : List Phase) (v : Said) → OkSaid S N v → OkSaid S N (said_behind b earlier v)
 behind_ok w earlier (says.Script p text stray) ok = w.script earlier p text stray
@@ -59,6 +61,7 @@ set_in_ok : {b : Built} {S : Set → Type 0} {N : List (List ℕ) → Type 0} {R
 set_in_ok {b} {S} {N} w earlier (Read file i) = set_ok S N (said_behind b (scripts_in b earlier) (said b true i)) (behind_ok w (scripts_in b earlier) (said b true i) (w.line true i))
 set_in_ok w earlier (Spoiled f) = tt
 set_in_ok w earlier (End file) = tt
+set_in_ok w earlier Cut = tt
 
 body_ok : {b : Built} {S : Set → Type 0} {N : List (List ℕ) → Type 0} {R : Rule → Type 0} (w : Walk b S N R) (earlier es : List Line) → Each S (filter_map set_in (body_of b earlier es))
 body_ok w earlier [] = tt
@@ -116,6 +119,7 @@ end_ok w at words vs None n ok = tt
 end_ok w at words vs (Some (Read file i)) n ok = (w.rule file at words vs n ok, tt)
 end_ok w at words vs (Some (Spoiled e)) n ok = tt
 end_ok w at words vs (Some (End file)) n ok = tt
+end_ok w at words vs (Some Cut) n ok = tt
 
 either : (R : Rule → Type 0) (c : Bool) (m n : Meaning) → Rules R m → Rules R n → Rules R (cond c m n)
 either R true m n x y = x

@@ -27,16 +27,19 @@ use Rattle.lr_fields.specs.Scripts.{script_fault}
 
 -- ---- lines
 
--- A line of a file, as an item; a line with the fault that its reading told; the end of a file.
+-- A line of a file, as an item; a line with the fault that its reading told; the end of a file; the place where the reading
+-- of a file breaks off, where what is pending gives nothing.
 pub data Line : Type 0 where
   Read : Path → Item → Line
   Spoiled : Fault → Line
   End : Path → Line
+  Cut : Line
 
 abbrev pub file_of : Line → Path
 file_of (Read file i) = file
 file_of (Spoiled f) = []
 file_of (End file) = file
+file_of Cut = []
 
 -- A line outside definitions, as it was read there: its number, whether it ends with a brace, and what it says; or the
 -- fault that its reading told.
@@ -44,6 +47,7 @@ pub data Past : Type 0 where
   stands : ℕ → Bool → Said → Past
   spoiled : Fault → Past
   file_ends : Past
+  breaks_off : Past
 
 -- ---- parts of a list
 
@@ -106,6 +110,7 @@ leaves_names p = false
 
 -- behind it no names are pending
 abbrev pub settles : Past → Bool
+settles breaks_off = true
 settles p = leaves_names p || opens p
 
 -- the names at the end of these lines, with the line of each
@@ -138,6 +143,7 @@ abbrev pub past : Built → Line → Past
 past b (Read file i) = stands (line_of i) (has_brace i) (said b false i)
 past b (Spoiled f) = spoiled f
 past b (End file) = file_ends
+past b Cut = breaks_off
 
 -- ---- notices and faults
 
@@ -190,6 +196,7 @@ abbrev pub ends : Line → Bool
 ends (Read file i) = closes i
 ends (Spoiled f) = false
 ends (End file) = true
+ends Cut = true
 
 -- A line in a definition, as it is read there: its file and number, and what it says; or the fault that its reading told.
 pub data Within : Type 0 where
@@ -223,6 +230,7 @@ abbrev pub within : Built → List Line → Line → Within
 within b earlier (Read file i) = states file (line_of i) (said_behind b (scripts_in b earlier) (said b true i))
 within b earlier (Spoiled f) = broken f
 within b earlier (End file) = left_open
+within b earlier Cut = left_open
 
 -- the lines of a definition, each as it is read behind those before it
 abbrev pub body_of : Built → List Line → List Line → List Within

@@ -2,7 +2,7 @@
 ghost use Rattle.std.specs.Prelude.{◌≡◌, ◌<◌, ◌-◌, List, [], ◌∷◌, ◌++◌, false, length, take, IfOk, MatchOption};
 ghost use Rattle.lr_rules.specs.declared.fault.Fault.{Fault};
 ghost use Rattle.lr_match.specs.Taboos.{first_taboo};
-ghost use Rattle.lr_conf.specs.Meaning.{Line, Read, Spoiled, End, meaning, asked, banned, told, conf, ◌and◌};
+ghost use Rattle.lr_conf.specs.Meaning.{Line, Read, Spoiled, End, Cut, meaning, asked, banned, told, conf, ◌and◌};
 ghost use Rattle.lr_conf.specs.Internal.Draft.{coming_from, asking_from, banning_from, TookIn, AsksIn, BansIn, AlikeIn, PassesIn, file_of_draft, files_of};
 
 use crate::files::Files;
@@ -86,6 +86,21 @@ impl Draft {
         self.files.leave();
     }
 
+    /// How many files are entered.
+    pub fn depth(&self) -> usize
+        ensures { result ≡ length (files_of self.now) }
+    {
+        self.files.len()
+    }
+
+    /// The file that is read.
+    pub fn file(&self) -> &Path
+        requires { 0 < length (files_of self.now) }
+        ensures { result.now ≡ file_of_draft self.now }
+    {
+        self.files.top()
+    }
+
     /// Takes an item of the file in. A fault is told, and the line that has it; `Memory` leaves all as it was, and the
     /// item is lost.
     pub fn take(&mut self, item: Item) -> Result<Option<Include>, LayerStop>
@@ -122,6 +137,15 @@ impl Draft {
         ensures passes { PassesIn self.old self.new (End (file_of_draft self.old)) }
     {
         self.end_file()
+    }
+
+    /// The reading of the file breaks off: what is pending gives nothing.
+    pub fn cut_file(&mut self)
+        ensures files { files_of self.new ≡ files_of self.old }
+        ensures means { (lines : List Line) → coming_from self.old (Cut ∷ lines) ≡ coming_from self.new lines }
+        ensures passes { PassesIn self.old self.new Cut }
+    {
+        self.break_off();
     }
 
     /// The taboo list behind the lines so far.

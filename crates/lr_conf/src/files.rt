@@ -46,6 +46,12 @@ impl Files {
         let _left = self.paths.pop();
     }
 
+    pub fn len(&self) -> usize
+        ensures { result ≡ length self.now }
+    {
+        self.paths.len()
+    }
+
     /// The file that is read.
     pub fn top(&self) -> &Path
         requires { 0 < length self.now }

@@ -24,7 +24,7 @@ impl Layer {
     ghost use Rattle.std.specs.Prelude.{◌<◌, ◌-◌, [], ◌∷◌, ◌++◌, false, length, take, IfOk, MatchOption};
     ghost use Rattle.lr_rules.specs.declared.fault.Fault.{Fault};
     ghost use Rattle.lr_match.specs.Taboos.{first_taboo};
-    ghost use Rattle.lr_conf.specs.Meaning.{Read, Spoiled, End, meaning, asked, banned, told, conf, ◌and◌};
+    ghost use Rattle.lr_conf.specs.Meaning.{Read, Spoiled, End, Cut, meaning, asked, banned, told, conf, ◌and◌};
     ghost use Rattle.lr_conf.specs.Fold.{coming, asking, banning, Took, Asks, Bans, Alike, Passes, file_of_layer, entered};
 
     /// A layer that took no line, with room for 8 entered files. A line with something that isn't built is told as NotYet.
@@ -57,6 +57,21 @@ impl Layer {
         ensures alike { Alike self.old self.new }
     {
         self.draft.leave();
+    }
+
+    /// How many files are entered and not left.
+    pub fn depth(&self) -> usize
+        ensures { result ≡ length (entered self.now) }
+    {
+        self.draft.depth()
+    }
+
+    /// The file that is read, which was entered last.
+    pub fn file(&self) -> &Path
+        requires { 0 < length (entered self.now) }
+        ensures { result.now ≡ file_of_layer self.now }
+    {
+        self.draft.file()
     }
 
     /// Takes an item of the file in. A fault is told, and the line that has it; `Memory` leaves all as it was, and the
@@ -93,6 +108,15 @@ impl Layer {
         ensures passes { Passes self.old self.new (End (file_of_layer self.old)) }
     {
         self.draft.close_file()
+    }
+
+    /// The reading of the file breaks off, and the caller tells why: names, or a definition, that are pending give nothing.
+    pub fn cut_file(&mut self)
+        ensures files { entered self.new ≡ entered self.old }
+        ensures means { (lines : List Line) → coming self.old (Cut ∷ lines) ≡ coming self.new lines }
+        ensures passes { Passes self.old self.new Cut }
+    {
+        self.draft.cut_file();
     }
 
     /// The taboo list behind the lines that were taken.

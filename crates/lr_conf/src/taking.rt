@@ -1,8 +1,8 @@
 // Taking a line in, by where it stands.
-ghost use Rattle.std.specs.Prelude.{◌≡◌, ◌<◌, length};
+ghost use Rattle.std.specs.Prelude.{◌≡◌, ◌<◌, [], length};
 ghost use Rattle.lr_conf.specs.declared.place.Place.TheVariants as place;
-ghost use Rattle.lr_conf.specs.Meaning.{Read};
-ghost use Rattle.lr_conf.specs.Internal.Draft.{Steps, EndsFile, file_of_draft, files_of};
+ghost use Rattle.lr_conf.specs.Meaning.{Read, Cut};
+ghost use Rattle.lr_conf.specs.Internal.Draft.{Steps, Stepped, EndsFile, file_of_draft, files_of};
 
 use crate::draft::Draft;
 use crate::place::Place;
@@ -57,6 +57,14 @@ impl Draft {
             Place::Good => self.take_inside(item),
             Place::Dropped => self.take_dropped(item),
         }
+    }
+
+    /// Takes in that the reading of the file breaks off.
+    pub(crate) fn break_off(&mut self)
+        ensures { Stepped self.old self.new Cut [] [] }
+    {
+        let _first = self.settle();
+        self.place = Place::Outside;
     }
 
     /// Takes the end of the file in.

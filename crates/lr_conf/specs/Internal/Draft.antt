@@ -25,7 +25,7 @@ use Rattle.lr_forms.specs.Says.{line_of, closes, said}
 use Rattle.lr_fields.specs.Fields.{last_or}
 use Rattle.lr_fields.specs.Rules.{rule_of}
 use Rattle.lr_fields.specs.Scripts.{script_fault}
-use Rattle.lr_conf.specs.Meaning.{Line, file_of, Read, Spoiled, End, Past, stands, spoiled, file_ends, Meaning, ◌and◌, nothing, told, conf, list_of, of_line, of_spoilt, opened, or_line, past, ends, notice_of, notice_past, line_faults, fault_of, said_behind, asks, asked, bans, after_bans, banned}
+use Rattle.lr_conf.specs.Meaning.{Line, file_of, Read, Spoiled, End, Cut, Past, stands, spoiled, file_ends, breaks_off, Meaning, ◌and◌, nothing, told, conf, list_of, of_line, of_spoilt, opened, or_line, past, ends, notice_of, notice_past, line_faults, fault_of, said_behind, asks, asked, bans, after_bans, banned}
 use Rattle.lr_conf.specs.Stops.{faults_of, include_of}
 use Rattle.lr_fields.specs.Setting.{default_fields, with_set}
 
@@ -74,6 +74,7 @@ abbrev pub outside : State → Past → State
 outside s (stands at brace v) = turned brace (opened s.first (stands at brace v)) (spoken s at v)
 outside s (spoiled f) = s
 outside s file_ends = without_names s
+outside s breaks_off = without_names s
 
 -- behind the end of a definition
 abbrev pub left : State → State
@@ -95,6 +96,7 @@ abbrev pub good : Built → State → Line → State
 good b s (Read file i) = if closes i then record s { place = Outside; words = []; first = None; fields = default_fields } else with_said b s (said b true i)
 good b s (Spoiled f) = record s { place = Dropped }
 good b s (End file) = left s
+good b s Cut = left s
 
 abbrev pub dropped : State → Line → State
 dropped s e = if ends e then left s else s
@@ -118,6 +120,7 @@ gives_good b s (Read file i) =
     else said_inside file (line_of i) (said_behind b s.scripts (said b true i))
 gives_good b s (Spoiled f) = told (f ∷ [])
 gives_good b s (End file) = told (conf file kind.NoBrace (first_of s) ∷ [])
+gives_good b s Cut = nothing
 
 abbrev pub gives_outside : Built → State → Line → Meaning
 gives_outside b s e = of_line (file_of e) s.first (past b e)

@@ -2,7 +2,7 @@ use Rattle.std.proofs.Common.{◌≤◌, ◌-◌, [], length}
 use Rattle.lr_host.specs.declared.entry.Entry.TheVariants as entry
 use Rattle.lr_host.specs.Told.{Left, Can, Onward}
 use Rattle.lr_host.specs.Reading.{ReadsOf}
-use Rattle.lr_include.proofs.text.read_up_to.Given as goal
+use Rattle.lr_visits.proofs.text.read_up_to.Given as goal
 
 abbrev pub invariant-loop-piece : goal.invariant-loop-piece
 invariant-loop-piece g l = record {

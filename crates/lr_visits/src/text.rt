@@ -2,7 +2,7 @@
 ghost use Rattle.std.specs.Prelude.{◌≡◌, ◌≤◌, ◌<◌, ◌+◌, ◌++◌, [], ◌∷◌, drop, length, IfOk, OnOk, OnErr};
 ghost use Rattle.lr_host.specs.declared.entry.Entry.TheVariants as entry;
 ghost use Rattle.lr_host.specs.Told.{Left, Are, Each, Can, Onward, Rose};
-ghost use Rattle.lr_host.specs.Reading.{IsReadOf, ReadsAll};
+ghost use Rattle.lr_host.specs.Reading.{IsReadOf, ReadsOf, ReadsAll};
 
 use lr_host::Host;
 use lr_rules::Path;
@@ -26,6 +26,7 @@ fn read_on<H: Host>(
     requires file { Can (H.told host.old) (entry.Reads path.now 0 []) }
     ensures told { IfOk result (λ count. Left (Are (entry.Reads path.now (length bytes.old.items) (drop (length bytes.old.items) bytes.new.items) ∷ [])) (H.told host.old) (H.told host.new)) }
     ensures stopped { OnErr result (Left (Each (IsReadOf path.now)) (H.told host.old) (H.told host.new)) }
+    ensures failed { result ≡ Err ReadStop.Call → (bytes.new.items ≡ bytes.old.items) × Left (Are []) (H.told host.old) (H.told host.new) }
     ensures grown { IfOk result (λ count. bytes.new.items ≡ bytes.old.items ++ drop (length bytes.old.items) bytes.new.items) }
     ensures count { IfOk result (λ count. length bytes.new.items ≡ length bytes.old.items + count) }
     ensures within { IfOk result (λ count. count ≤ length piece.new) }
@@ -41,8 +42,8 @@ fn read_on<H: Host>(
     Ok(count)
 }
 
-// Reads from the first byte on, to the end of the file or to as many bytes as the piece has room for.
-fn read_up_to<H: Host>(
+/// Reads from the first byte on, to the end of the file or to as many bytes as the piece has room for.
+pub(crate) fn read_up_to<H: Host>(
     host: &mut H,
     path: &Path,
     bytes: &mut Vec<u8>,
@@ -52,13 +53,17 @@ fn read_up_to<H: Host>(
     requires file { Can (H.told host.old) (entry.Reads path.now 0 []) }
     ensures told { OnOk result (Left (ReadsAll path.now (length piece.old) bytes.new.items) (H.told host.old) (H.told host.new)) }
     ensures stopped { OnErr result (Left (Each (IsReadOf path.now)) (H.told host.old) (H.told host.new)) }
+    ensures failed { result ≡ Err ReadStop.Call → (length bytes.new.items < length piece.old) × Left (ReadsOf path.now bytes.new.items) (H.told host.old) (H.told host.new) }
     ensures within { OnOk result (length bytes.new.items ≤ length piece.old) }
     ensures cause { result ≡ Err ReadStop.Call → Rose (H.counts host.old).faults (H.counts host.new).faults }
     ensures counts { Onward (H.counts host.old) (H.counts host.new) }
 {
     while bytes.len() < piece.len() {
         let room = piece.len() - bytes.len();
-        let count = read_on(host, path, bytes, &mut piece[..room])?;
+        let count = match read_on(host, path, bytes, &mut piece[..room]) {
+            Ok(count) => count,
+            Err(why) => return Err(why),
+        };
         if count == 0 {
             return Ok(());
         }

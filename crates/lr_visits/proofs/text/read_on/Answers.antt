@@ -1,7 +1,7 @@
 use Rattle.std.proofs.Common.{drop, length, sym, ap, ◌∙◌, arith}
 use Rattle.std.proofs.Math.Seq.{drop-append_seam}
-use Rattle.lr_include.proofs.Texts.{no_reads, one_read, read_as}
-use Rattle.lr_include.proofs.text.read_on.Goals as goal
+use Rattle.lr_visits.proofs.Texts.{no_reads, one_read, read_as}
+use Rattle.lr_visits.proofs.text.read_on.Goals as goal
 
 pub returns-in_default-clause-stopped : goal.returns-in_default-clause-stopped
 returns-in_default-clause-stopped g c = no_reads c.args.path.now c.in_default.ensures.told

@@ -1,0 +1,86 @@
+-- What a visit of a path gave, and the entries that show it.
+use Rattle.std.specs.Prelude.{◌≡◌, ◌≤◌, ◌<◌, ◌+◌, ◌⊎◌, ℕ, Bool, true, false, List, [], ◌∷◌, length, Option, Some, None}
+use Rattle.std.specs.List.Sorted.{IsPermutation, IsSortedByKey}
+use Rattle.std.specs.Ordering.{nat_cmp}
+use Rattle.std.specs.Cmp.Lexicographic.{slice_cmp}
+use Rattle.lr_rules.specs.declared.path.Path.{Path}
+use Rattle.lr_host.specs.declared.entry.Entry.{Entry}
+use Rattle.lr_host.specs.declared.entry.Entry.TheVariants as entry
+use Rattle.lr_host.specs.Told.{Then, Each}
+use Rattle.lr_host.specs.Looks.{Sees, IsFile, IsDir, IsNothingOrOther}
+use Rattle.lr_host.specs.Reading.{IsReadOf, ReadsOf, ReadsAll}
+use Rattle.lr_visits.specs.declared.look.Sight.{Sight}
+use Rattle.lr_visits.specs.declared.look.Sight.TheVariants as sight
+use Rattle.lr_visits.specs.declared.part.TextEnd.{TextEnd}
+use Rattle.lr_visits.specs.declared.part.TextEnd.TheVariants as end
+use Rattle.lr_visits.specs.declared.visit.Visit.{Visit}
+use Rattle.lr_visits.specs.declared.visit.Visit.TheVariants as visit
+
+-- ---- looks
+
+-- one look at the path, which saw this
+abbrev pub SeesAs : Path → Sight → List Entry → Type 0
+SeesAs x sight.Nothing = Sees x IsNothingOrOther
+SeesAs x sight.File = Sees x IsFile
+SeesAs x sight.Dir = Sees x IsDir
+
+-- ---- names
+
+-- the names stand in order of bytes
+abbrev pub AreRising : List (List ℕ) → Type 0
+AreRising names = IsSortedByKey (λ name. name) (slice_cmp nat_cmp) names
+
+-- The directory was listed, and its names are these, in whatever order.
+pub record HasListed (dir : Path) (names : List (List ℕ)) (ts : List Entry) : Type 0 where
+  pub listed : List (List ℕ)
+  pub same : IsPermutation listed names
+  pub list : ts ≡ entry.List dir listed ∷ []
+
+-- ---- bytes
+
+-- These bytes were read of a file where there is room for so many: all of them, one more than there is room for, or those
+-- before a read that failed.
+abbrev pub ReadsPart : Path → ℕ → List ℕ → TextEnd → List Entry → Type 0
+ReadsPart x room bytes end.Whole ts = (length bytes ≤ room) × ReadsAll x (room + 1) bytes ts
+ReadsPart x room bytes end.TooMany ts = (room < length bytes) × ReadsAll x (room + 1) bytes ts
+ReadsPart x room bytes end.Failed ts = (length bytes ≤ room) × ReadsOf x bytes ts
+
+-- ---- visits
+
+-- what a listing of the directory gave
+abbrev pub ShowsNames : Path → Visit → List Entry → Type 0
+ShowsNames x (visit.Holds names) ts = AreRising names × HasListed x names ts
+ShowsNames x visit.Unlisted ts = ts ≡ []
+ShowsNames x _ ts = ⊥
+
+-- what the reads of the file gave
+abbrev pub ShowsBytes : Path → ℕ → Visit → List Entry → Type 0
+ShowsBytes x room (visit.Reads bytes how) ts = ReadsPart x room bytes how ts
+ShowsBytes x room _ ts = ⊥
+
+abbrev pub ShowsFile : Path → Option ℕ → Visit → List Entry → Type 0
+ShowsFile x None v ts = (v ≡ visit.File) × (ts ≡ [])
+ShowsFile x (Some room) v ts = ShowsBytes x room v ts
+
+abbrev pub ShowsDir : Path → Bool → Visit → List Entry → Type 0
+ShowsDir x false v ts = (v ≡ visit.Dir) × (ts ≡ [])
+ShowsDir x true v ts = ShowsNames x v ts
+
+-- The entries show what the visit gave, where a directory is listed or not, and a file is read, of which there is room for
+-- so many bytes, or isn't.
+pub data ShowsVisit (x : Path) (lists : Bool) (room : Option ℕ) (v : Visit) (ts : List Entry) : Type 0 where
+  look_failed : v ≡ visit.Unseen → ts ≡ [] → ShowsVisit x lists room v ts
+  nothing : v ≡ visit.Nothing → Sees x IsNothingOrOther ts → ShowsVisit x lists room v ts
+  directory : Then (Sees x IsDir) (ShowsDir x lists v) ts → ShowsVisit x lists room v ts
+  file : Then (Sees x IsFile) (ShowsFile x room v) ts → ShowsVisit x lists room v ts
+
+-- a call failed
+abbrev pub HasFailed : Visit → Type 0
+HasFailed visit.Unseen = Unit {0}
+HasFailed visit.Unlisted = Unit {0}
+HasFailed (visit.Reads bytes how) = how ≡ end.Failed
+HasFailed _ = ⊥
+
+-- A first part of what a visit leaves: no entry, or a look at a directory, or a look at a file and reads of it.
+abbrev pub PartVisit : Path → List Entry → Type 0
+PartVisit x ts = (ts ≡ []) ⊎ (Sees x IsDir ts ⊎ Then (Sees x IsFile) (Each (IsReadOf x)) ts)
