@@ -116,7 +116,6 @@ impl Draft {
     /// A line has a fault that its reading told: it drops the definition that is being read, where one is. Names that
     /// are pending stay.
     pub fn spoil(&mut self, _line: u32)
-        requires { 0 < length (files_of self.old) }
         ensures files { files_of self.new ≡ files_of self.old }
         ensures means { (f : Fault) (lines : List Line) → coming_from self.old (Spoiled f ∷ lines) ≡ (told (f ∷ []) and coming_from self.new lines) }
         ensures passes { (f : Fault) → PassesIn self.old self.new (Spoiled f) }

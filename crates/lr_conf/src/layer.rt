@@ -89,7 +89,6 @@ impl Layer {
     /// A line has a fault that its reading told, whichever it is: it drops the definition that is being read, where one
     /// is. Names that are pending stay. The caller tells the fault, also in a definition that is dropped already.
     pub fn spoil(&mut self, line: u32)
-        requires { 0 < length (entered self.old) }
         ensures files { entered self.new ≡ entered self.old }
         ensures means { (f : Fault) (lines : List Line) → coming self.old (Spoiled f ∷ lines) ≡ (told (f ∷ []) and coming self.new lines) }
         ensures passes { (f : Fault) → Passes self.old self.new (Spoiled f) }

@@ -13,7 +13,7 @@ use Rattle.lr_forms.specs.declared.said.Said.{Said}
 use Rattle.lr_forms.specs.declared.said.Said.TheVariants as says
 use Rattle.lr_forms.specs.declared.built.Built.TheVariants as built
 use Rattle.lr_fields.specs.Fields.{fields_of}
-use Rattle.lr_conf.specs.Meaning.{Line, Read, Spoiled, End, Past, stands, spoiled, Meaning, nothing, conf, file_of, first_pending, words_pending, words_with, settings, opened, opens, past, before, through, behind, ends, Within, states, broken, left_open, within, body_of, drops, set_in, fault_of, fault_in, broken_fault, spoilt_fault, told, at_line, left_names, stray_at, own_fault, line_faults, of_end, of_body, of_opening, meaning}
+use Rattle.lr_conf.specs.Meaning.{Line, Read, Spoiled, End, Cut, Past, stands, spoiled, Meaning, nothing, conf, file_of, first_pending, words_pending, words_with, settings, opened, opens, past, before, through, behind, ends, Within, states, broken, left_open, within, body_of, drops, set_in, fault_of, fault_in, broken_fault, spoilt_fault, told, at_line, left_names, stray_at, own_fault, line_faults, of_end, of_body, of_opening, meaning}
 use Rattle.lr_conf.proofs.Each.{append, front, Given, one_more, mapped}
 use Rattle.lr_host.specs.declared.entry.Entry.{Entry}
 use Rattle.lr_include.specs.Lines.{conf_kind, lines_told, lines_of, whole_lines, whole_means, cut_means, bytes_mean}
@@ -33,6 +33,7 @@ past_fine : (e : Line) → IsFine e → IsFinePast (past built.SoFar e)
 past_fine (Read file i) ok = tt
 past_fine (Spoiled f) ok = ok
 past_fine (End file) ok = tt
+past_fine Cut ok = tt
 
 abbrev Faults : Meaning → Type 0
 Faults m = Each IsConf m.faults
@@ -69,6 +70,7 @@ within_fine : (earlier : List Line) (e : Line) → IsFine e → IsFineWithin (wi
 within_fine earlier (Read file i) ok = tt
 within_fine earlier (Spoiled f) ok = ok
 within_fine earlier (End file) ok = tt
+within_fine earlier Cut ok = tt
 
 lines_fine : (earlier es : List Line) → Each IsFine es → Each IsFineWithin (body_of built.SoFar earlier es)
 lines_fine earlier [] ok = tt
@@ -88,6 +90,7 @@ spoilt_fine : (e : Line) → IsFine e → Given IsConf (spoilt_fault e)
 spoilt_fine (Read file i) ok = tt
 spoilt_fine (Spoiled f) ok = ok
 spoilt_fine (End file) ok = tt
+spoilt_fine Cut ok = tt
 
 at_fine : (file : Path) (k : ConfKind) (o : Option ℕ) → Each IsConf (at_line file k o)
 at_fine file k None = tt
@@ -120,6 +123,7 @@ end_fine at words f None = tt
 end_fine at words f (Some (Read file i)) = tt
 end_fine at words f (Some (Spoiled e)) = tt
 end_fine at words f (Some (End file)) = (tt, tt)
+end_fine at words f (Some Cut) = tt
 
 body_fine : (o : Option ℕ) (words : List (List ℕ)) (vs : List Set) (es : List Line) → Each IsFine es → Faults (of_body built.SoFar o words vs es)
 body_fine None words vs es ok = mapped IsFine IsConf spoilt_fault spoilt_fine (before ends es) (front IsFine ends es ok)

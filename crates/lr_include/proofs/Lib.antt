@@ -4,4 +4,4 @@ pub mod Newlines
 pub mod Plain
 pub mod Quiet
 pub mod Readers
-pub mod Texts
+pub mod Stages

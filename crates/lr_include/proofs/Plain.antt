@@ -10,7 +10,7 @@ use Rattle.lr_conf.specs.Plain.{IsPlainRule}
 use Rattle.lr_conf.proofs.Plain.{plain}
 use Rattle.lr_include.specs.Lines.{lines_of, whole_lines, whole_means, cut_means}
 
-all_plain : (lines : List Line) → All IsPlainRule (meaning built.SoFar false [] lines).rules
+pub all_plain : (lines : List Line) → All IsPlainRule (meaning built.SoFar false [] lines).rules
 all_plain lines = All-from_recursion IsPlainRule (meaning built.SoFar false [] lines).rules (plain lines)
 
 pub whole_plain : (file : Path) (bytes : List ℕ) → All IsPlainRule (whole_means file bytes).rules

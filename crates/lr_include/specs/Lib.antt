@@ -1,4 +1,6 @@
+pub mod Course
 pub mod Lines
 pub mod Looking
 pub mod Readers
 pub mod Reading
+pub mod Stages

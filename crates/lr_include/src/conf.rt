@@ -13,10 +13,10 @@ ghost use Rattle.lr_include.specs.Reading.{MeansAs, ReadsAs, IsReading};
 
 use crate::look::{look_for_file, stop_fault};
 use crate::reading::Reading;
-use crate::text::{ReadStop, read_text};
 use crate::whole::{LIMIT, read_bytes};
 use lr_host::Host;
 use lr_rules::{CallKind, Fault, Listed, Memory, Path, Rules};
+use lr_visits::{ReadStop, read_text};
 use std::alloc::Global;
 
 /// One fault, for which there is room.

@@ -14,17 +14,24 @@
 //! than 1,048,576 bytes only the whole lines up to there are read.
 #![tactic(auto)]
 
+mod all;
 mod conf;
+mod course;
 mod kind;
 mod laws;
 mod look;
+mod pieces;
 mod reader;
 mod reading;
-mod text;
+mod taking;
+mod task;
+mod visiting;
 mod whole;
 
+pub use all::read_all;
 pub use conf::read_conf;
 pub use laws::{meanings_tell_no_call, readings_change_nothing};
 pub use reading::Reading;
-pub use text::{ReadStop, read_text};
+pub use task::{Ask, Piece, Task};
+pub use lr_visits::{ReadStop, read_text};
 pub use whole::read_bytes;

@@ -25,7 +25,7 @@ fn lines_end(bytes: &[u8]) -> usize
 }
 
 /// The bytes up to the last newline, and with it.
-fn whole_lines(bytes: &[u8]) -> &[u8]
+pub(crate) fn whole_lines(bytes: &[u8]) -> &[u8]
     ensures lines { result.now ≡ whole_lines bytes.now }
     ensures size { length result.now ≤ length bytes.now }
 {
@@ -33,7 +33,7 @@ fn whole_lines(bytes: &[u8]) -> &[u8]
 }
 
 /// The first bytes, so many.
-fn first_part(bytes: &[u8], count: usize) -> &[u8]
+pub(crate) fn first_part(bytes: &[u8], count: usize) -> &[u8]
     requires { count ≤ length bytes.now }
     ensures bytes { result.now ≡ take count bytes.now }
     ensures size { length result.now ≡ count }

@@ -1,5 +1,5 @@
 // The calls that a row can ask for, by their names.
-use crate::conf::read;
+use crate::conf::{read, read_paths};
 use crate::globbing::expand_word;
 use crate::host_calls::{
     append, begin, begin_and_end, cut, make, make_dir, rename, sync, sync_dir, truncate, unlink,
@@ -21,6 +21,7 @@ enum Part {
     RunPhase,
     Remove,
     ReadConf,
+    ReadAll,
     Expand,
 }
 
@@ -60,12 +61,13 @@ enum Ask {
     Put,
 }
 
-static ASKS: [(&[u8], Ask); 25] = [
+static ASKS: [(&[u8], Ask); 26] = [
     (b"stand", Ask::Part(Part::Stand)),
     (b"prepare", Ask::Part(Part::Prepare)),
     (b"run-phase", Ask::Part(Part::RunPhase)),
     (b"remove", Ask::Part(Part::Remove)),
     (b"read-conf", Ask::Part(Part::ReadConf)),
+    (b"read-all", Ask::Part(Part::ReadAll)),
     (b"expand", Ask::Part(Part::Expand)),
     (b"look", Ask::Quiet(Quiet::Look)),
     (b"list", Ask::Quiet(Quiet::List)),
@@ -104,6 +106,7 @@ fn ask_part(host: &mut MemHost, part: Part, cursor: &mut Cursor) -> Result<Vec<u
         Part::RunPhase => run_script(host, cursor),
         Part::Remove => remove_file(host, cursor),
         Part::ReadConf => read(host, cursor),
+        Part::ReadAll => read_paths(host, cursor),
         Part::Expand => expand_word(host, cursor),
     }
 }

@@ -1,11 +1,11 @@
 // What a configuration gives.
 use crate::answer::add;
-use lr_include::{Reading, read_conf};
+use lr_include::{Reading, read_all, read_conf};
 use lr_line::Trouble;
 use lr_memhost::{MemHost, MemSink};
 use lr_report::put_lines;
 use lr_row::Cursor;
-use lr_rules::{Count, Rule};
+use lr_rules::{Count, Path, Rule};
 use std::alloc::{AllocError, Global};
 
 fn count_text(alloc: Global, count: Count) -> Result<String, AllocError> {
@@ -63,5 +63,24 @@ fn reading_text(alloc: Global, reading: &Reading) -> Result<Vec<u8>, Trouble> {
 pub fn read(host: &mut MemHost, cursor: &mut Cursor) -> Result<Vec<u8>, Trouble> {
     let path = cursor.path()?;
     let reading = read_conf(cursor.alloc, host, &path)?;
+    reading_text(cursor.alloc, &reading)
+}
+
+// The paths of the command line, up to 64.
+fn paths_of(cursor: &mut Cursor) -> Result<Vec<Path>, Trouble> {
+    let mut paths = Vec::new(cursor.alloc);
+    for _ in 0..64 {
+        if cursor.is_done() {
+            return Ok(paths);
+        }
+        paths.push(cursor.path()?)?;
+    }
+    Err(Trouble::Odd("too many paths"))
+}
+
+/// `read-all PATH..`: the notices and faults of the configuration that the paths give, and its rules.
+pub fn read_paths(host: &mut MemHost, cursor: &mut Cursor) -> Result<Vec<u8>, Trouble> {
+    let paths = paths_of(cursor)?;
+    let reading = read_all(cursor.alloc, host, &paths)?;
     reading_text(cursor.alloc, &reading)
 }

@@ -74,6 +74,20 @@ pub data ShowsVisit (x : Path) (lists : Bool) (room : Option ℕ) (v : Visit) (t
   directory : Then (Sees x IsDir) (ShowsDir x lists v) ts → ShowsVisit x lists room v ts
   file : Then (Sees x IsFile) (ShowsFile x room v) ts → ShowsVisit x lists room v ts
 
+-- a file was read
+abbrev pub IsRead : Visit → Type 0
+IsRead (visit.Reads bytes how) = Unit {0}
+IsRead _ = ⊥
+
+-- the bytes that were read
+abbrev pub bytes_in : Visit → List ℕ
+bytes_in (visit.Reads bytes how) = bytes
+bytes_in _ = []
+
+abbrev pub HasRoom : Option ℕ → Type 0
+HasRoom None = ⊥
+HasRoom (Some room) = Unit {0}
+
 -- a call failed
 abbrev pub HasFailed : Visit → Type 0
 HasFailed visit.Unseen = Unit {0}

@@ -1,5 +1,5 @@
 // The bytes of a file of which there is room for so many.
-ghost use Rattle.std.specs.Prelude.{◌≡◌, ◌<◌, ◌^◌, [], IfOk, OnErr};
+ghost use Rattle.std.specs.Prelude.{◌≡◌, ◌<◌, ◌+◌, ◌^◌, [], length, IfOk, OnErr};
 ghost use Rattle.lr_host.specs.declared.entry.Entry.TheVariants as entry;
 ghost use Rattle.lr_host.specs.Told.{Left, Each, Can, Onward, Rose};
 ghost use Rattle.lr_host.specs.Reading.{IsReadOf};
@@ -30,9 +30,10 @@ pub fn read_part<H: Host>(
     room: usize,
 ) -> Result<(Listed<u8>, TextEnd), Memory>
     requires file { Can (H.told host.old) (entry.Reads path.now 0 []) }
-    requires room { room < 2 ^ 32 }
+    requires room { room + 1 < 2 ^ 32 }
     ensures told { IfOk result (λ r. Left (ReadsPart path.now room r.0 r.1) (H.told host.old) (H.told host.new)) }
     ensures lacking { OnErr result (Left (Each (IsReadOf path.now)) (H.told host.old) (H.told host.new)) }
+    ensures size { IfOk result (λ r. length r.0 < 2 ^ 32) }
     ensures cause { IfOk result (λ r. r.1 ≡ end.Failed → Rose (H.counts host.old).faults (H.counts host.new).faults) }
     ensures counts { Onward (H.counts host.old) (H.counts host.new) }
 {

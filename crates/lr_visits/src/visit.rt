@@ -1,9 +1,9 @@
 // One visit of a path.
-ghost use Rattle.std.specs.Prelude.{◌≡◌, ◌<◌, ◌^◌, [], true, Option, Some, IfOk, OnErr};
+ghost use Rattle.std.specs.Prelude.{◌≡◌, ◌<◌, ◌+◌, ◌^◌, [], Some, length, IfOk, OnErr};
 ghost use Rattle.lr_host.specs.declared.entry.Entry.TheVariants as entry;
 ghost use Rattle.lr_host.specs.Told.{Left, Are, Each, Can, Onward, Rose};
 ghost use Rattle.lr_host.specs.Reading.{IsReadOf};
-ghost use Rattle.lr_visits.specs.Visits.{ShowsNames, ShowsBytes, ShowsDir, ShowsFile, ShowsVisit, HasFailed, PartVisit};
+ghost use Rattle.lr_visits.specs.Visits.{ShowsNames, ShowsBytes, ShowsDir, ShowsFile, ShowsVisit, IsRead, bytes_in, HasRoom, HasFailed, PartVisit};
 
 use crate::listing::list_rising;
 use crate::look::{Sight, look_at};
@@ -36,6 +36,7 @@ fn names_of<H: Host>(alloc: Global, host: &mut H, dir: &Path) -> Result<Visit, M
     requires list { Can (H.told host.old) (entry.List dir.now []) }
     ensures told { IfOk result (λ v. Left (ShowsNames dir.now v) (H.told host.old) (H.told host.new)) }
     ensures lacking { OnErr result (Left (Are []) (H.told host.old) (H.told host.new)) }
+    ensures names { IfOk result (λ v. IsRead v → ⊥) }
     ensures cause { IfOk result (λ v. HasFailed v → Rose (H.counts host.old).faults (H.counts host.new).faults) }
     ensures counts { Onward (H.counts host.old) (H.counts host.new) }
 {
@@ -56,6 +57,7 @@ fn in_dir<H: Host>(
     requires list { Can (H.told host.old) (entry.List dir.now []) }
     ensures told { IfOk result (λ v. Left (ShowsDir dir.now lists v) (H.told host.old) (H.told host.new)) }
     ensures lacking { OnErr result (Left (Are []) (H.told host.old) (H.told host.new)) }
+    ensures names { IfOk result (λ v. IsRead v → ⊥) }
     ensures cause { IfOk result (λ v. HasFailed v → Rose (H.counts host.old).faults (H.counts host.new).faults) }
     ensures counts { Onward (H.counts host.old) (H.counts host.new) }
 {
@@ -74,9 +76,10 @@ fn bytes_of<H: Host>(
     room: usize,
 ) -> Result<Visit, Memory>
     requires file { Can (H.told host.old) (entry.Reads file.now 0 []) }
-    requires room { room < 2 ^ 32 }
+    requires room { room + 1 < 2 ^ 32 }
     ensures told { IfOk result (λ v. Left (ShowsBytes file.now room v) (H.told host.old) (H.told host.new)) }
     ensures lacking { OnErr result (Left (Each (IsReadOf file.now)) (H.told host.old) (H.told host.new)) }
+    ensures size { IfOk result (λ v. length (bytes_in v) < 2 ^ 32) }
     ensures cause { IfOk result (λ v. HasFailed v → Rose (H.counts host.old).faults (H.counts host.new).faults) }
     ensures counts { Onward (H.counts host.old) (H.counts host.new) }
 {
@@ -92,9 +95,10 @@ fn in_file<H: Host>(
     room: Option<usize>,
 ) -> Result<Visit, Memory>
     requires file { Can (H.told host.old) (entry.Reads file.now 0 []) }
-    requires room { (n : _) → room ≡ Some n → n < 2 ^ 32 }
+    requires room { (n : _) → room ≡ Some n → n + 1 < 2 ^ 32 }
     ensures told { IfOk result (λ v. Left (ShowsFile file.now room v) (H.told host.old) (H.told host.new)) }
     ensures lacking { OnErr result (Left (Each (IsReadOf file.now)) (H.told host.old) (H.told host.new)) }
+    ensures read { IfOk result (λ v. IsRead v → HasRoom room × (length (bytes_in v) < 2 ^ 32)) }
     ensures cause { IfOk result (λ v. HasFailed v → Rose (H.counts host.old).faults (H.counts host.new).faults) }
     ensures counts { Onward (H.counts host.old) (H.counts host.new) }
 {
@@ -115,9 +119,10 @@ pub fn visit_path<H: Host>(
     lists: bool,
     room: Option<usize>,
 ) -> Result<Visit, Memory>
-    requires { (n : _) → room ≡ Some n → n < 2 ^ 32 }
+    requires { (n : _) → room ≡ Some n → n + 1 < 2 ^ 32 }
     ensures told { IfOk result (λ v. Left (ShowsVisit path.now lists room v) (H.told host.old) (H.told host.new)) }
     ensures lacking { OnErr result (Left (PartVisit path.now) (H.told host.old) (H.told host.new)) }
+    ensures read { IfOk result (λ v. IsRead v → HasRoom room × (length (bytes_in v) < 2 ^ 32)) }
     ensures cause { IfOk result (λ v. HasFailed v → Rose (H.counts host.old).faults (H.counts host.new).faults) }
     ensures counts { Onward (H.counts host.old) (H.counts host.new) }
 {

@@ -16,7 +16,7 @@ use Rattle.lr_include.specs.Readers.{meaning_of, IsConfOrCall}
 use Rattle.lr_include.specs.Lines.{bytes_mean}
 use Rattle.lr_include.specs.Looking.{FileStopped, fault_of_stop}
 use Rattle.lr_include.specs.Reading.{MeansAs, ReadsAs, look_failed, read_failed, IsReading, of_stop}
-use Rattle.lr_include.proofs.Texts.{on_err}
+use Rattle.lr_visits.proofs.Texts.{on_err}
 use Rattle.lr_include.proofs.Means.{means_told, means_exactly, means_none, means_dir, read_told, read_exactly, read_means, only_reads}
 use Rattle.lr_include.proofs.conf.read_conf.Goals as goal
 

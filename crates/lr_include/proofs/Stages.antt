@@ -1,0 +1,431 @@
+-- How a reading goes on from one stage to another.
+use Rattle.std.proofs.Common.{◌≡◌, ◌+◌, ◌-◌, ◌<◌, ◌⊎◌, inl, inr, arith, ℕ, Bool, true, false, List, [], ◌∷◌, ◌++◌, map, reverse, length, take, drop, refl, sym, ap, ◌∙◌, subst, append-nil, append_assoc, Option, Some, None, Result, Ok, Err, OnOk}
+use Rattle.std.proofs.Math.Seq.{drop-append_seam}
+use Rattle.std.proofs.lemmas.List.{reverse-append}
+use Rattle.std.proofs.lemmas.List.Elements.{filter_map-append}
+use Rattle.lr_rules.specs.declared.path.Path.{Path}
+use Rattle.lr_rules.specs.declared.fault.ConfKind.{ConfKind}
+use Rattle.lr_rules.specs.declared.fault.Fault.{Fault}
+use Rattle.lr_forms.specs.declared.built.Built.TheVariants as built
+use Rattle.lr_match.specs.declared.taboo.Taboo.{Taboo}
+use Rattle.lr_match.specs.Taboos.{Bars, first_taboo}
+use Rattle.lr_conf.specs.declared.layer.Layer.{Layer}
+use Rattle.lr_conf.specs.declared.stop.Include.{Include}
+use Rattle.lr_conf.specs.declared.stop.LayerStop.{LayerStop}
+use Rattle.lr_conf.specs.declared.stop.LayerStop.TheVariants as stop
+use Rattle.lr_conf.specs.Stops.{faults_of, include_of}
+use Rattle.lr_lex.specs.declared.item.Item.{Item}
+use Rattle.lr_conf.specs.Meaning.{Line, Read, Spoiled, End, Cut, Meaning, meaning, ◌and◌, told, conf, asked, banned, list_of}
+use Rattle.lr_conf.specs.Fold.{coming, asking, banning, entered, file_of_layer, Took, Asks, Bans, Alike, Passes}
+use Rattle.lr_fields.specs.Fields.{last_or}
+use Rattle.lr_host.specs.declared.entry.Entry.{Entry}
+use Rattle.lr_host.specs.declared.journal.Journal.{Journal}
+use Rattle.lr_host.specs.Told.{Left, Then}
+use Rattle.lr_host.proofs.Left.{left_first, left_as, left_then}
+use Rattle.lr_visits.specs.declared.visit.Visit.{Visit}
+use Rattle.lr_visits.specs.declared.visit.Visit.TheVariants as visit
+use Rattle.lr_visits.specs.Visits.{ShowsVisit}
+use Rattle.lr_include.specs.declared.course.Course.{Course}
+use Rattle.lr_include.specs.declared.task.Ask.{Ask}
+use Rattle.lr_include.specs.declared.task.Piece.{Piece}
+use Rattle.lr_include.specs.declared.task.Piece.TheVariants as piece
+use Rattle.lr_include.specs.declared.task.Task.{Task}
+use Rattle.lr_include.specs.declared.task.Task.TheVariants as task
+use Rattle.lr_include.specs.Stages.{Stage, ask_of, asked_at, lines_in, lines_now, open_behind, asks_in, asks_now, taken, before_asks, settled_from, settled, is_shallow, room_for, telling, name_task, name_tasks, behind_names, after_ask, after_name, IsBarred, visited, visited_by, at_visits, ShowsNext, ShowsVisits, begun, Reads}
+use Rattle.lr_include.specs.Course.{Knows, StandsAt, SameRest, SameButTodo, Tells, TellsAnswer, TookPiece, TakesPiece, ToldFault, ClosesFile, WentOn, GoesOn}
+
+-- ---- one more line
+
+abbrev SameLines : Layer → Layer → List Fault → List Include → Line → Type 0
+SameLines old new faults includes e =
+    ((more : List Line) → coming old (e ∷ more) ≡ (told faults and coming new more))
+    × ((more : List Line) → asking old (e ∷ more) ≡ includes ++ asking new more)
+    × ((more : List Line) → banning old (e ∷ more) ≡ banning new more)
+
+one_line : (old new : Layer) (before after faults : List Fault) (includes : List Include) (lines : List Line) (inside : List Path) (e : Line)
+    → SameLines old new faults includes e → entered new ≡ entered old → after ≡ before ++ faults → Knows old before lines inside
+    → Knows new after (lines ++ e ∷ []) inside × (asked_at lines e ≡ includes)
+one_line old new before after faults includes lines inside e same files_are is k = (record {
+    means = λ more.
+        ap (λ (fs : List Fault). told fs and coming new more) is
+        ∙ (ap (λ (fs : List Fault). record { rules = (coming new more).rules; notices = (coming new more).notices; faults = fs }) (append_assoc before faults (coming new more).faults)
+        ∙ (ap (λ (m : Meaning). told before and m) (sym (same.0 more))
+        ∙ (k.means (e ∷ more) ∙ ap (meaning built.SoFar false []) (sym (append_assoc lines (e ∷ []) more)))));
+    asks = λ more.
+        ap (asked built.SoFar false) (append_assoc lines (e ∷ []) more)
+        ∙ (k.asks (e ∷ more)
+        ∙ (ap (λ (is : List Include). asked built.SoFar false lines ++ is) (same.1 more)
+        ∙ (sym (append_assoc (asked built.SoFar false lines) includes (asking new more))
+        ∙ ap (λ (is : List Include). is ++ asking new more) (sym one))));
+    bans = λ more. ap (banned built.SoFar false first_taboo) (append_assoc lines (e ∷ []) more) ∙ (k.bans (e ∷ more) ∙ same.2 more);
+    files = files_are ∙ k.files;
+  },
+  ap (drop (length (asked built.SoFar false lines))) one ∙ drop-append_seam (asked built.SoFar false lines) includes)
+  where
+    one : asked built.SoFar false (lines ++ e ∷ []) ≡ asked built.SoFar false lines ++ includes
+    one = k.asks (e ∷ []) ∙ ap (λ (is : List Include). asked built.SoFar false lines ++ is) (same.1 [] ∙ append-nil includes)
+
+-- a line that tells nothing
+quiet_line : (old new : Layer) (e : Line) → ((more : List Line) → coming old (e ∷ more) ≡ coming new more) → ((more : List Line) → asking old (e ∷ more) ≡ asking new more) → ((more : List Line) → banning old (e ∷ more) ≡ banning new more) → SameLines old new [] [] e
+quiet_line old new e c a b = (c, a, b)
+
+pub passed_line : (old new : Layer) (before after faults : List Fault) (lines : List Line) (inside : List Path) (e : Line)
+    → ((more : List Line) → coming old (e ∷ more) ≡ (told faults and coming new more)) → ((more : List Line) → asking old (e ∷ more) ≡ asking new more) → ((more : List Line) → banning old (e ∷ more) ≡ banning new more)
+    → entered new ≡ entered old → after ≡ before ++ faults → Knows old before lines inside → Knows new after (lines ++ e ∷ []) inside
+passed_line old new before after faults lines inside e c a b files is k = (one_line old new before after faults [] lines inside e (c, a, b) files is k).0
+
+-- a layer that is alike
+pub alike_layer : (old new : Layer) (faults : List Fault) (lines : List Line) (inside files : List Path)
+    → ((more : List Line) → coming new more ≡ coming old more) → ((more : List Line) → asking new more ≡ asking old more) → ((more : List Line) → banning new more ≡ banning old more)
+    → entered new ≡ files → Knows old faults lines inside → Knows new faults lines files
+alike_layer old new faults lines inside files c a b is k = record {
+  means = λ more. ap (λ (m : Meaning). told faults and m) (c more) ∙ k.means more;
+  asks = λ more. k.asks more ∙ ap (λ (is : List Include). asked built.SoFar false lines ++ is) (sym (a more));
+  bans = λ more. k.bans more ∙ sym (b more);
+  files = is;
+}
+
+-- ---- items
+
+of_answer : (a b : Course) (old new : Layer) (file : Path) (e : Line) (r : Result (Option Include) LayerStop) → Took old new file e r → Asks old new e r → Bans old new e r → TellsAnswer a b file r
+    → (faults : List Fault) × (includes : List Include) × SameLines old new faults includes e × Tells a b file faults includes × (o : Option Include) × (includes ≡ list_of o)
+of_answer a b old new file e (Ok o) t q n s = ([], list_of o, (t, q, n), s, o, refl)
+of_answer a b old new file e (Err stop.Memory) t q n s = absurd s
+of_answer a b old new file e (Err (stop.Conf at k)) t q n s = (faults_of file (stop.Conf at k), [], (t, q, n), s, None, refl)
+of_answer a b old new file e (Err (stop.NoBraceAnd first at k)) t q n s = (faults_of file (stop.NoBraceAnd first at k), [], (t, q, n), s, None, refl)
+of_answer a b old new file e (Err (stop.NoBraceThen first i)) t q n s = (faults_of file (stop.NoBraceThen first i), i ∷ [], (t, q, n), s, Some i, refl)
+
+-- tasks that are put on top
+one_on_top : (file : Path) (o : Option Include) (old : List Task) → reverse (old ++ map (ask_of file) (list_of o)) ≡ map (ask_of file) (list_of o) ++ reverse old
+one_on_top file None old = ap reverse (append-nil old)
+one_on_top file (Some i) old = reverse-append old (ask_of file i ∷ [])
+
+on_top : (file : Path) (includes : List Include) (o : Option Include) (old new : List Task) → includes ≡ list_of o → new ≡ old ++ map (ask_of file) includes → reverse new ≡ map (ask_of file) includes ++ reverse old
+on_top file includes o old new is e = ap reverse e ∙ subst (λ (xs : List Include). reverse (old ++ map (ask_of file) xs) ≡ map (ask_of file) xs ++ reverse old) (sym is) (one_on_top file o old)
+
+-- the file that is read now
+lines_of_open : (inside : List Path) (p : Piece) → ((inside ≡ []) → ⊥) → lines_now inside p ≡ lines_in (last_or [] inside) p
+lines_of_open [] p some = absurd (some refl)
+lines_of_open (f ∷ fs) p some = refl
+
+asks_of_open : (inside : List Path) (lines : List Line) (p : Piece) → ((inside ≡ []) → ⊥) → asks_now inside lines p ≡ asks_in (last_or [] inside) lines p
+asks_of_open [] lines p some = absurd (some refl)
+asks_of_open (f ∷ fs) lines p some = refl
+
+-- ---- pieces
+
+-- Nothing but the layer, and what is told, is another.
+abbrev Beside : Course → Course → Type 0
+Beside old new = (new.faults.items ≡ old.faults.items) × (new.files ≡ old.files) × (new.bytes ≡ old.bytes) × (new.todo.items ≡ old.todo.items)
+
+some_file : (L : Layer) → 0 < length (entered L) → (entered L ≡ []) → ⊥
+some_file L pos e = let none : length (entered L) ≡ 0 = ap length e in absurd (omega (arith, none, pos))
+
+-- it is enough to know it of the files that are entered
+by_entered : (old new : Course) (p : Piece) → ((lines : List Line) → Knows old.layer old.faults.items lines (entered old.layer) → TookPiece old new p lines (entered old.layer)) → TakesPiece old new p
+by_entered old new p f lines inside k =
+    subst (λ (files : List Path). TookPiece old new p lines files) k.files (f lines (subst (λ (files : List Path). Knows old.layer old.faults.items lines files) (sym k.files) k))
+
+pub took_item : (old mid new : Course) (item : Item) (r : Result (Option Include) LayerStop) → Beside old mid → entered mid.layer ≡ entered old.layer → 0 < length (entered old.layer)
+    → Took old.layer mid.layer (file_of_layer old.layer) (Read (file_of_layer old.layer) item) r → Asks old.layer mid.layer (Read (file_of_layer old.layer) item) r → Bans old.layer mid.layer (Read (file_of_layer old.layer) item) r
+    → TellsAnswer mid new (file_of_layer mid.layer) r → TakesPiece old new (piece.Item item)
+took_item old mid new item r same files pos took asks bans tells = by_entered old new (piece.Item item) (λ lines k.
+    let file = file_of_layer old.layer in
+    let told_here = subst (λ (x : Path). TellsAnswer mid new x r) (ap (last_or []) files) tells in
+    let a = of_answer mid new old.layer mid.layer file (Read file item) r took asks bans told_here in
+    let t = a.3 in
+    let one = one_line old.layer mid.layer old.faults.items new.faults.items a.0 a.1 lines (entered old.layer) (Read file item) a.2 files
+        (t.faults_are ∙ ap (λ (fs : List Fault). fs ++ a.0) same.0) k in
+    record {
+      knows = subst (λ (ls : List Line). Knows new.layer new.faults.items (lines ++ ls) (entered old.layer)) (sym (lines_of_open (entered old.layer) (piece.Item item) (some_file old.layer pos)))
+          (subst (λ (x : Layer). Knows x new.faults.items (lines ++ Read file item ∷ []) (entered old.layer)) (sym t.layer) one.0);
+      files = t.files ∙ same.1;
+      bytes = t.bytes ∙ same.2;
+      todo = on_top file a.1 a.4 mid.todo.items new.todo.items a.5 t.todo
+          ∙ (ap (λ (ts : List Task). map (ask_of file) a.1 ++ reverse ts) same.3
+          ∙ ap (λ (ts : List Task). ts ++ reverse old.todo.items) (sym (asks_of_open (entered old.layer) lines (piece.Item item) (some_file old.layer pos) ∙ ap (map (ask_of file)) one.1)));
+    })
+
+pub told_fault : (old mid new : Course) (f : Fault) → Beside old mid → ((g : Fault) (more : List Line) → coming old.layer (Spoiled g ∷ more) ≡ (told (g ∷ []) and coming mid.layer more)) → ((g : Fault) → Passes old.layer mid.layer (Spoiled g))
+    → entered mid.layer ≡ entered old.layer → new.layer ≡ mid.layer → new.faults.items ≡ mid.faults.items ++ f ∷ [] → SameRest mid new → ToldFault old new f
+told_fault old mid new f same means passes files layer told_it rest = record {
+  knows = λ lines inside k. subst (λ (x : Layer). Knows x new.faults.items (lines ++ Spoiled f ∷ []) inside) (sym layer)
+      (passed_line old.layer mid.layer old.faults.items new.faults.items (f ∷ []) lines inside (Spoiled f) (means f) (passes f).asks (passes f).bans files (told_it ∙ ap (λ (fs : List Fault). fs ++ f ∷ []) same.0) k);
+  entered_are = ap entered layer ∙ files;
+  rest = record { files = rest.files ∙ same.1; bytes = rest.bytes ∙ same.2; todo = rest.todo ∙ same.3 };
+}
+
+took_fault : (old new : Course) (line : ℕ) (kind : ConfKind) → ToldFault old new (conf (file_of_layer old.layer) kind line) → 0 < length (entered old.layer) → TakesPiece old new (piece.Fault line kind)
+took_fault old new line kind t pos = by_entered old new (piece.Fault line kind) (λ lines k. record {
+  knows = subst (λ (ls : List Line). Knows new.layer new.faults.items (lines ++ ls) (entered old.layer)) (sym (lines_of_open (entered old.layer) (piece.Fault line kind) (some_file old.layer pos))) (t.knows lines (entered old.layer) k);
+  files = t.rest.files;
+  bytes = t.rest.bytes;
+  todo = ap reverse t.rest.todo ∙ ap (λ (ts : List Task). ts ++ reverse old.todo.items) (sym (asks_of_open (entered old.layer) lines (piece.Fault line kind) (some_file old.layer pos)));
+})
+
+pub took_spoilt : (old mid new : Course) (line : ℕ) (kind : ConfKind) → Beside old mid → ((g : Fault) (more : List Line) → coming old.layer (Spoiled g ∷ more) ≡ (told (g ∷ []) and coming mid.layer more)) → ((g : Fault) → Passes old.layer mid.layer (Spoiled g))
+    → entered mid.layer ≡ entered old.layer → 0 < length (entered old.layer) → new.layer ≡ mid.layer → new.faults.items ≡ mid.faults.items ++ conf (file_of_layer mid.layer) kind line ∷ [] → SameRest mid new → TakesPiece old new (piece.Fault line kind)
+took_spoilt old mid new line kind same means passes files pos layer told_it rest = took_fault old new line kind
+    (told_fault old mid new (conf (file_of_layer old.layer) kind line) same means passes files layer (told_it ∙ ap (λ (x : Path). mid.faults.items ++ conf x kind line ∷ []) (ap (last_or []) files)) rest) pos
+
+pub closed_quiet : (old new : Course) → Beside old new → ((more : List Line) → coming old.layer (End (file_of_layer old.layer) ∷ more) ≡ coming new.layer more) → Passes old.layer new.layer (End (file_of_layer old.layer)) → entered new.layer ≡ entered old.layer → ClosesFile old new
+closed_quiet old new same means passes files = record {
+  knows = λ lines inside k. passed_line old.layer new.layer old.faults.items new.faults.items [] lines inside (End (file_of_layer old.layer)) means passes.asks passes.bans files (same.0 ∙ sym (append-nil old.faults.items)) k;
+  entered_are = files;
+  rest = record { files = same.1; bytes = same.2; todo = same.3 };
+}
+
+pub closed_told : (old mid new : Course) (f : Fault) → Beside old mid → ((more : List Line) → coming old.layer (End (file_of_layer old.layer) ∷ more) ≡ (told (f ∷ []) and coming mid.layer more)) → Passes old.layer mid.layer (End (file_of_layer old.layer))
+    → entered mid.layer ≡ entered old.layer → new.layer ≡ mid.layer → new.faults.items ≡ mid.faults.items ++ f ∷ [] → SameRest mid new → ClosesFile old new
+closed_told old mid new f same means passes files layer told_it rest = record {
+  knows = λ lines inside k. subst (λ (x : Layer). Knows x new.faults.items (lines ++ End (file_of_layer old.layer) ∷ []) inside) (sym layer)
+      (passed_line old.layer mid.layer old.faults.items new.faults.items (f ∷ []) lines inside (End (file_of_layer old.layer)) means passes.asks passes.bans files (told_it ∙ ap (λ (fs : List Fault). fs ++ f ∷ []) same.0) k);
+  entered_are = ap entered layer ∙ files;
+  rest = record { files = rest.files ∙ same.1; bytes = rest.bytes ∙ same.2; todo = rest.todo ∙ same.3 };
+}
+
+-- the file is left
+left_layer : (mid new : Layer) (faults : List Fault) (lines : List Line) (inside : List Path) → ((more : List Line) → coming new more ≡ coming mid more) → Alike mid new → entered new ≡ take (length (entered mid) - 1) (entered mid) → Knows mid faults lines inside
+    → Knows new faults lines (take (length inside - 1) inside)
+left_layer mid new faults lines inside c a e k = alike_layer mid new faults lines inside (take (length inside - 1) inside) c a.asks a.bans (e ∙ ap (λ (files : List Path). take (length files - 1) files) k.files) k
+
+pub took_end : (old mid new : Course) → ClosesFile old mid → Beside mid new → ((more : List Line) → coming new.layer more ≡ coming mid.layer more) → Alike mid.layer new.layer → entered new.layer ≡ take (length (entered mid.layer) - 1) (entered mid.layer)
+    → 0 < length (entered old.layer) → TakesPiece old new piece.End
+took_end old mid new t same c a e pos = by_entered old new piece.End (λ lines k. record {
+  knows = subst (λ (fs : List Fault). Knows new.layer fs (lines ++ lines_now (entered old.layer) piece.End) (open_behind (entered old.layer) piece.End)) (sym same.0)
+      (subst (λ (ls : List Line). Knows new.layer mid.faults.items (lines ++ ls) (open_behind (entered old.layer) piece.End)) (sym (lines_of_open (entered old.layer) piece.End (some_file old.layer pos)))
+      (left_layer mid.layer new.layer mid.faults.items (lines ++ End (file_of_layer old.layer) ∷ []) (entered old.layer) c a e (t.knows lines (entered old.layer) k)));
+  files = same.1 ∙ t.rest.files;
+  bytes = same.2 ∙ t.rest.bytes;
+  todo = ap reverse (same.3 ∙ t.rest.todo) ∙ ap (λ (ts : List Task). ts ++ reverse old.todo.items) (sym (asks_of_open (entered old.layer) lines piece.End (some_file old.layer pos)));
+})
+
+pub took_break : (old mid new : Course) (cut : Layer) (f : Fault) → ToldFault old mid f → ((more : List Line) → coming mid.layer (Cut ∷ more) ≡ coming cut more) → Passes mid.layer cut Cut → entered cut ≡ entered mid.layer
+    → Beside mid new → ((more : List Line) → coming new.layer more ≡ coming cut more) → Alike cut new.layer → entered new.layer ≡ take (length (entered cut) - 1) (entered cut)
+    → 0 < length (entered old.layer) → TakesPiece old new (piece.Break f)
+took_break old mid new cut f t means passes files same c a e pos = by_entered old new (piece.Break f) (λ lines k.
+    let behind = passed_line mid.layer cut mid.faults.items mid.faults.items [] (lines ++ Spoiled f ∷ []) (entered old.layer) Cut means passes.asks passes.bans files (sym (append-nil mid.faults.items)) (t.knows lines (entered old.layer) k) in
+    record {
+      knows = subst (λ (fs : List Fault). Knows new.layer fs (lines ++ lines_now (entered old.layer) (piece.Break f)) (open_behind (entered old.layer) (piece.Break f))) (sym same.0)
+          (subst (λ (ls : List Line). Knows new.layer mid.faults.items (lines ++ ls) (open_behind (entered old.layer) (piece.Break f))) (sym (lines_of_open (entered old.layer) (piece.Break f) (some_file old.layer pos)))
+          (subst (λ (ls : List Line). Knows new.layer mid.faults.items ls (open_behind (entered old.layer) (piece.Break f))) (append_assoc lines (Spoiled f ∷ []) (Cut ∷ []))
+          (left_layer cut new.layer mid.faults.items ((lines ++ Spoiled f ∷ []) ++ Cut ∷ []) (entered old.layer) c a e behind)));
+      files = same.1 ∙ t.rest.files;
+      bytes = same.2 ∙ t.rest.bytes;
+      todo = ap reverse (same.3 ∙ t.rest.todo) ∙ ap (λ (ts : List Task). ts ++ reverse old.todo.items) (sym (asks_of_open (entered old.layer) lines (piece.Break f) (some_file old.layer pos)));
+    })
+
+-- where no file is read
+pub took_none : (c : Course) (p : Piece) → length (entered c.layer) ≡ 0 → TakesPiece c c p
+took_none c p e lines inside k = by inside p (sym (ap length k.files) ∙ e) k
+  where
+    none : (p : Piece) → open_behind [] p ≡ []
+    none (piece.Item i) = refl
+    none (piece.Fault at kind) = refl
+    none piece.End = refl
+    none (piece.Break f) = refl
+
+    by : (inside : List Path) (p : Piece) → length inside ≡ 0 → Knows c.layer c.faults.items lines inside → TookPiece c c p lines inside
+    by [] p e k = record {
+      knows = subst (λ (files : List Path). Knows c.layer c.faults.items (lines ++ []) files) (sym (none p)) (subst (λ (ls : List Line). Knows c.layer c.faults.items ls []) (sym (append-nil lines)) k);
+      files = refl;
+      bytes = refl;
+      todo = refl;
+    }
+    by (f ∷ fs) p e k = absurd (omega (arith, e))
+
+-- ---- stages
+
+at_same : (s t : Stage) → settled s ≡ settled t → (more : List (Option Visit)) → at_visits s more ≡ at_visits t more
+at_same s t e [] = e
+at_same s t e (v ∷ vs) = ap (λ (x : Stage). at_visits (visited x v) vs) e
+
+shows_same : (s t : Stage) → settled s ≡ settled t → (more : List (Option Visit)) (us : List Entry) → ShowsVisits t more us → ShowsVisits s more us
+shows_same s t e [] us h = h
+shows_same s t e (v ∷ vs) us h = subst (λ (x : Stage). Then (ShowsNext x x.todo v) (ShowsVisits (visited x v) vs) us) (sym e) h
+
+pub went_same : (s t : Stage) (o : Option Journal) → settled s ≡ settled t → WentOn s t o o
+went_same s t o e = record { visits = []; leads = at_same s t e; shown = left_first _ o (shows_same s t e) }
+
+pub went_by : (s t : Stage) (v : Option Visit) {o n : Option Journal} → visited (settled s) v ≡ t → Left (ShowsNext (settled s) (settled s).todo v) o n → WentOn s t o n
+went_by s t v e l = record {
+  visits = v ∷ [];
+  leads = λ more. ap (λ (x : Stage). at_visits x more) e;
+  shown = left_as l (λ ts h more us k. record { front = ts; back = us; joined = refl; first = h; second = subst (λ (x : Stage). ShowsVisits x more us) (sym e) k });
+}
+
+pub went_then : (r s t : Stage) {o m n : Option Journal} → WentOn r s o m → WentOn s t m n → WentOn r t o n
+went_then r s t a b = record {
+  visits = a.visits ++ b.visits;
+  leads = λ more. ap (at_visits r) (append_assoc a.visits b.visits more) ∙ (a.leads (b.visits ++ more) ∙ b.leads more);
+  shown = left_then a.shown b.shown (λ xs ys p q more us h.
+      subst (λ (es : List Entry). ShowsVisits r ((a.visits ++ b.visits) ++ more) es) (sym (append_assoc xs ys us))
+      (subst (λ (vs : List (Option Visit)). ShowsVisits r vs (xs ++ (ys ++ us))) (sym (append_assoc a.visits b.visits more))
+      (p (b.visits ++ more) (ys ++ us) (q more us h))));
+}
+
+-- what is still to be read makes no difference before it comes
+settled_any : (s : Stage) (x todo : List Task) → settled_from (record s { todo = x }) todo ≡ settled_from s todo
+settled_any s x [] = refl
+settled_any s x (task.Line p ∷ todo) = ap (before_asks (asks_now s.inside s.lines p) (record (taken s p) { todo = asks_now s.inside s.lines p ++ todo })) (settled_any (taken s p) x todo)
+settled_any s x (task.Ask a ∷ todo) = refl
+settled_any s x (task.Name a ∷ todo) = refl
+
+-- behind a piece
+piece_settled : (t : Stage) (asks todo : List Task) → ((asks ≡ []) ⊎ ((a : Ask) × (rest : List Task) × (asks ≡ task.Ask a ∷ rest))) → before_asks asks (record t { todo = asks ++ todo }) (settled_from t todo) ≡ settled (record t { todo = asks ++ todo })
+piece_settled t asks todo (inl none) = subst (λ (front : List Task). before_asks front (record t { todo = front ++ todo }) (settled_from t todo) ≡ settled (record t { todo = front ++ todo })) (sym none) (sym (settled_any t todo todo))
+piece_settled t asks todo (inr (a, rest, some)) = subst (λ (front : List Task). before_asks front (record t { todo = front ++ todo }) (settled_from t todo) ≡ settled (record t { todo = front ++ todo })) (sym some) refl
+
+are_asks : (file : Path) (includes : List Include) → (map (ask_of file) includes ≡ []) ⊎ ((a : Ask) × (rest : List Task) × (map (ask_of file) includes ≡ task.Ask a ∷ rest))
+are_asks file [] = inl refl
+are_asks file (i ∷ is) = inr (record { file = file; line = i.line; path = i.path }, map (ask_of file) is, refl)
+
+asks_are : (inside : List Path) (lines : List Line) (p : Piece) → (asks_now inside lines p ≡ []) ⊎ ((a : Ask) × (rest : List Task) × (asks_now inside lines p ≡ task.Ask a ∷ rest))
+asks_are [] lines p = inl refl
+asks_are (f ∷ fs) lines (piece.Item i) = are_asks (last_or [] (f ∷ fs)) (asked_at lines (Read (last_or [] (f ∷ fs)) i))
+asks_are (f ∷ fs) lines (piece.Fault at kind) = inl refl
+asks_are (f ∷ fs) lines piece.End = inl refl
+asks_are (f ∷ fs) lines (piece.Break e) = inl refl
+
+behind_piece : (s : Stage) (p : Piece) → settled (record s { todo = task.Line p ∷ s.todo }) ≡ settled (record (taken s p) { todo = asks_now s.inside s.lines p ++ s.todo })
+behind_piece s p =
+    ap (before_asks (asks_now s.inside s.lines p) (record (taken s p) { todo = asks_now s.inside s.lines p ++ s.todo })) (settled_any (taken s p) (task.Line p ∷ s.todo) s.todo)
+    ∙ piece_settled (taken s p) (asks_now s.inside s.lines p) s.todo (asks_are s.inside s.lines p)
+
+-- a piece was taken in
+pub line_turned : (old new : Course) (p : Piece) (s : Stage) (o : Option Journal) → TakesPiece old new p → StandsAt old s → GoesOn (record s { todo = task.Line p ∷ s.todo }) new o o
+line_turned old new p s o t st =
+    let k = t s.lines s.inside st.knows in
+    record {
+      stage = record (taken s p) { todo = asks_now s.inside s.lines p ++ s.todo };
+      stands = record { knows = k.knows; files = k.files ∙ st.files; bytes = k.bytes ∙ st.bytes; todo = k.todo ∙ ap (λ (ts : List Task). asks_now s.inside s.lines p ++ ts) st.todo };
+      went = went_same _ _ o (behind_piece s p);
+    }
+
+-- ---- visits
+
+after_ask_any : (s : Stage) (x : List Task) (a : Ask) (v : Visit) (todo : List Task) → after_ask (record s { todo = x }) a v todo ≡ after_ask s a v todo
+after_ask_any s x a visit.Unseen todo = refl
+after_ask_any s x a visit.Nothing todo = refl
+after_ask_any s x a visit.File todo = refl
+after_ask_any s x a visit.Dir todo = refl
+after_ask_any s x a visit.Unlisted todo = refl
+after_ask_any s x a (visit.Holds names) todo = refl
+after_ask_any s x a (visit.Reads bytes how) todo = refl
+
+after_name_any : (s : Stage) (x : List Task) (a : Ask) (v : Visit) (todo : List Task) → after_name (record s { todo = x }) a v todo ≡ after_name s a v todo
+after_name_any s x a visit.Unseen todo = refl
+after_name_any s x a visit.Nothing todo = refl
+after_name_any s x a visit.File todo = refl
+after_name_any s x a visit.Dir todo = refl
+after_name_any s x a visit.Unlisted todo = refl
+after_name_any s x a (visit.Holds names) todo = refl
+after_name_any s x a (visit.Reads bytes how) todo = refl
+
+pub ask_turned : (s : Stage) (new : Course) (a : Ask) (v : Visit) {o n : Option Journal} → Left (ShowsVisit a.path (is_shallow s) (room_for s) v) o n → StandsAt new (after_ask s a v s.todo) → GoesOn (record s { todo = task.Ask a ∷ s.todo }) new o n
+ask_turned s new a v l st = record {
+  stage = after_ask s a v s.todo;
+  stands = st;
+  went = went_by (record s { todo = task.Ask a ∷ s.todo }) (after_ask s a v s.todo) (Some v) (after_ask_any s (task.Ask a ∷ s.todo) a v s.todo) l;
+}
+
+pub name_turned : (s : Stage) (new : Course) (a : Ask) (v : Visit) {o n : Option Journal} → (IsBarred s.lines a.path → ⊥) → Left (ShowsVisit a.path false (room_for s) v) o n → StandsAt new (after_name s a v s.todo) → GoesOn (record s { todo = task.Name a ∷ s.todo }) new o n
+name_turned s new a v free l st = record {
+  stage = after_name s a v s.todo;
+  stands = st;
+  went = went_by (record s { todo = task.Name a ∷ s.todo }) (after_name s a v s.todo) (Some v) (after_name_any s (task.Name a ∷ s.todo) a v s.todo) (left_as l (λ ts h. (free, h)));
+}
+
+pub name_barred : (s : Stage) (c : Course) (a : Ask) (o : Option Journal) → IsBarred s.lines a.path → StandsAt c s → GoesOn (record s { todo = task.Name a ∷ s.todo }) c o o
+name_barred s c a o bars st = record {
+  stage = s;
+  stands = st;
+  went = went_by (record s { todo = task.Name a ∷ s.todo }) s None refl (left_first _ o (bars, refl));
+}
+
+-- ---- answers
+
+pub on_ok_three : {T E : Type 0} (r : Result T E) {A B C D : Type 0} → OnOk r A → OnOk r B → OnOk r C → (A → B → C → D) → OnOk r D
+on_ok_three (Ok x) a b c f = f a b c
+on_ok_three (Err x) a b c f = tt
+
+pub still_some : (old new : List Path) → new ≡ old → 0 < length old → 0 < length new
+still_some old new e pos = omega (arith, ap length e, pos)
+
+pub barred : (b : Bool) (t u : Taboo) (n m : List ℕ) → t ≡ u → n ≡ m → (b ≡ true → Bars t n) × (Bars t n → b ≡ true) → (b ≡ true → Bars u m) × (Bars u m → b ≡ true)
+barred b t u n m e f h = subst (λ (x : List ℕ). (b ≡ true → Bars u x) × (Bars u x → b ≡ true)) f (subst (λ (x : Taboo). (b ≡ true → Bars x n) × (Bars x n → b ≡ true)) e h)
+
+-- the last of the names
+pub name_last : (a : Ask) (names : List (List ℕ)) (name : List ℕ) → name_tasks a (names ++ name ∷ []) ≡ name_tasks a names ++ name_tasks a (name ∷ [])
+name_last a names name = filter_map-append (name_task a) names (name ∷ [])
+
+-- a fault of a visit was told
+pub told_stands : (old new : Course) (f : Fault) (s : Stage) → ToldFault old new f → StandsAt old s → StandsAt new (telling s f s.todo)
+told_stands old new f s t st = record {
+  knows = t.knows s.lines s.inside st.knows;
+  files = t.rest.files ∙ st.files;
+  bytes = t.rest.bytes ∙ st.bytes;
+  todo = ap reverse t.rest.todo ∙ st.todo;
+}
+
+-- the rest of the directory was passed over
+pub passed_stands : (old new : Course) (s : Stage) → SameButTodo old new → reverse new.todo.items ≡ behind_names (reverse old.todo.items) → StandsAt old s → StandsAt new (record s { todo = behind_names s.todo })
+passed_stands old new s same todo st = record {
+  knows = subst (λ (x : Layer). Knows x new.faults.items s.lines s.inside) (sym same.layer) (subst (λ (fs : List Fault). Knows old.layer fs s.lines s.inside) (sym same.faults) st.knows);
+  files = same.files ∙ st.files;
+  bytes = same.bytes ∙ st.bytes;
+  todo = todo ∙ ap behind_names st.todo;
+}
+
+pub shown_at : (x : Path) (lists lists' : Bool) (room room' : Option ℕ) (v : Visit) {o n : Option Journal} → lists ≡ lists' → room ≡ room' → Left (ShowsVisit x lists room v) o n → Left (ShowsVisit x lists' room' v) o n
+shown_at x lists lists' room room' v e f l = left_as l (λ ts h. subst (λ (b : Bool). ShowsVisit x b room' v ts) e (subst (λ (k : Option ℕ). ShowsVisit x lists k v ts) f h))
+
+-- ---- the whole
+
+settled_end : (s : Stage) → s.todo ≡ [] → settled s ≡ record s { todo = [] }
+settled_end s e = ap (settled_from s) e
+
+pub reads_all : (paths : List Path) (m : Meaning) (s : Stage) {o n : Option Journal} → WentOn (begun paths) s o n → s.todo ≡ [] → m ≡ meaning built.SoFar false [] s.lines → Left (Reads paths m) o n
+reads_all paths m s w none is = left_as w.shown (λ ts h.
+    let at = ap (at_visits (begun paths)) (sym (append-nil w.visits)) ∙ (w.leads [] ∙ settled_end s none) in
+    record {
+      visits = w.visits;
+      shown = subst (λ (vs : List (Option Visit)). ShowsVisits (begun paths) vs ts) (append-nil w.visits) (subst (λ (es : List Entry). ShowsVisits (begun paths) (w.visits ++ []) es) (append-nil ts) (h [] [] refl));
+      all = ap (λ (x : Stage). x.todo) at;
+      means = is ∙ sym (ap (λ (x : Stage). meaning built.SoFar false [] x.lines) at);
+    })
+
+pub same_then : (a b c : Course) → SameButTodo a b → SameButTodo b c → SameButTodo a c
+same_then a b c x y = record { layer = y.layer ∙ x.layer; faults = y.faults ∙ x.faults; files = y.files ∙ x.files; bytes = y.bytes ∙ x.bytes }
+
+-- ---- turns
+
+-- what was next was taken off, and read on by
+pub stepped : (old popped new : Course) (t : Task) (s : Stage) (o n : Option Journal) → popped.layer ≡ old.layer → popped.faults.items ≡ old.faults.items → popped.files ≡ old.files → popped.bytes ≡ old.bytes → old.todo.items ≡ popped.todo.items ++ t ∷ []
+    → ((m : Stage) → StandsAt popped m → GoesOn (record m { todo = t ∷ m.todo }) new o n) → StandsAt old s → GoesOn s new o n
+stepped old popped new t s o n layer faults files bytes todo f st =
+    let next : t ∷ reverse popped.todo.items ≡ s.todo = sym (reverse-append popped.todo.items (t ∷ [])) ∙ (sym (ap reverse todo) ∙ st.todo) in
+    let g = f (record s { todo = reverse popped.todo.items }) (record {
+      knows = subst (λ (x : Layer). Knows x popped.faults.items s.lines s.inside) (sym layer) (subst (λ (fs : List Fault). Knows old.layer fs s.lines s.inside) (sym faults) st.knows);
+      files = files ∙ st.files;
+      bytes = bytes ∙ st.bytes;
+      todo = refl;
+    }) in
+    subst (λ (ts : List Task). GoesOn (record s { todo = ts }) new o n) next g
+
+pub stayed : (c : Course) (s : Stage) (o : Option Journal) → StandsAt c s → GoesOn s c o o
+stayed c s o st = record { stage = s; stands = st; went = went_same s s o refl }
+
+pub popped_none : (old new : Course) (s : Stage) (o : Option Journal) → new.layer ≡ old.layer → new.faults.items ≡ old.faults.items → new.files ≡ old.files → new.bytes ≡ old.bytes → old.todo.items ≡ new.todo.items ++ [] → StandsAt old s → GoesOn s new o o
+popped_none old new s o layer faults files bytes todo st = stayed new s o (record {
+  knows = subst (λ (x : Layer). Knows x new.faults.items s.lines s.inside) (sym layer) (subst (λ (fs : List Fault). Knows old.layer fs s.lines s.inside) (sym faults) st.knows);
+  files = files ∙ st.files;
+  bytes = bytes ∙ st.bytes;
+  todo = ap reverse (sym (todo ∙ append-nil new.todo.items)) ∙ st.todo;
+})
+
+pub goes_on : (s : Stage) (a b : Course) {o m n : Option Journal} → GoesOn s a o m → ((t : Stage) → StandsAt a t → GoesOn t b m n) → GoesOn s b o n
+goes_on s a b g f = let h = f g.stage g.stands in record { stage = h.stage; stands = h.stands; went = went_then s g.stage h.stage g.went h.went }
+
+pub no_todo : (c : Course) (s : Stage) → StandsAt c s → c.todo.items ≡ [] → s.todo ≡ []
+no_todo c s st e = sym st.todo ∙ ap reverse e

@@ -1,0 +1,98 @@
+-- What a reading under way knows.
+use Rattle.std.specs.Prelude.{◌≡◌, ◌<◌, ◌⊎◌, ℕ, false, List, [], ◌∷◌, ◌++◌, map, reverse, length, Option, Some, None, Result, Ok, Err}
+use Rattle.lr_rules.specs.declared.path.Path.{Path}
+use Rattle.lr_rules.specs.declared.fault.Fault.{Fault}
+use Rattle.lr_forms.specs.declared.built.Built.TheVariants as built
+use Rattle.lr_match.specs.Taboos.{first_taboo}
+use Rattle.lr_conf.specs.declared.layer.Layer.{Layer}
+use Rattle.lr_conf.specs.declared.stop.Include.{Include}
+use Rattle.lr_conf.specs.declared.stop.LayerStop.{LayerStop}
+use Rattle.lr_conf.specs.declared.stop.LayerStop.TheVariants as stop
+use Rattle.lr_conf.specs.Stops.{faults_of, include_of}
+use Rattle.lr_conf.specs.Meaning.{Line, Spoiled, End, Meaning, meaning, ◌and◌, told, list_of, asked, banned}
+use Rattle.lr_conf.specs.Fold.{coming, asking, banning, entered, file_of_layer}
+use Rattle.lr_host.specs.declared.entry.Entry.{Entry}
+use Rattle.lr_host.specs.declared.journal.Journal.{Journal}
+use Rattle.lr_host.specs.Told.{Left}
+use Rattle.lr_visits.specs.declared.visit.Visit.{Visit}
+use Rattle.lr_include.specs.declared.course.Course.{Course}
+use Rattle.lr_include.specs.declared.task.Piece.{Piece}
+use Rattle.lr_include.specs.declared.task.Task.{Task}
+use Rattle.lr_include.specs.Stages.{Stage, ask_of, lines_now, open_behind, asks_now, behind_names, at_visits, ShowsVisits}
+
+-- The layer took these lines, with these faults, and these files are entered.
+pub record Knows (layer : Layer) (faults : List Fault) (lines : List Line) (inside : List Path) : Type 0 where
+  pub means : (more : List Line) → (told faults and coming layer more) ≡ meaning built.SoFar false [] (lines ++ more)
+  pub asks : (more : List Line) → asked built.SoFar false (lines ++ more) ≡ asked built.SoFar false lines ++ asking layer more
+  pub bans : (more : List Line) → banned built.SoFar false first_taboo (lines ++ more) ≡ banning layer more
+  pub files : entered layer ≡ inside
+
+-- The course stands at this stage.
+pub record StandsAt (c : Course) (s : Stage) : Type 0 where
+  pub knows : Knows c.layer c.faults.items s.lines s.inside
+  pub files : c.files ≡ s.files
+  pub bytes : c.bytes ≡ s.bytes
+  pub todo : reverse c.todo.items ≡ s.todo
+
+-- A piece was taken in behind these lines.
+pub record TookPiece (old new : Course) (p : Piece) (lines : List Line) (inside : List Path) : Type 0 where
+  pub knows : Knows new.layer new.faults.items (lines ++ lines_now inside p) (open_behind inside p)
+  pub files : new.files ≡ old.files
+  pub bytes : new.bytes ≡ old.bytes
+  pub todo : reverse new.todo.items ≡ asks_now inside lines p ++ reverse old.todo.items
+
+abbrev pub TakesPiece : Course → Course → Piece → Type 0
+TakesPiece old new p = (lines : List Line) (inside : List Path) → Knows old.layer old.faults.items lines inside → TookPiece old new p lines inside
+
+-- The reading went on from one stage to another, by visits that the entries show.
+pub record WentOn (s t : Stage) (before after : Option Journal) : Type 0 where
+  pub visits : List (Option Visit)
+  pub leads : (more : List (Option Visit)) → at_visits s (visits ++ more) ≡ at_visits t more
+  pub shown : Left (λ ts. (more : List (Option Visit)) (us : List Entry) → ShowsVisits t more us → ShowsVisits s (visits ++ more) (ts ++ us)) before after
+
+-- The course went on, from where it stood.
+pub record GoesOn (s : Stage) (c : Course) (before after : Option Journal) : Type 0 where
+  pub stage : Stage
+  pub stands : StandsAt c stage
+  pub went : WentOn s stage before after
+
+-- ---- steps
+
+-- how much may still be read, and what
+pub record SameRest (old new : Course) : Type 0 where
+  pub files : new.files ≡ old.files
+  pub bytes : new.bytes ≡ old.bytes
+  pub todo : new.todo.items ≡ old.todo.items
+
+-- These faults were told, and these files of it are asked for.
+pub record Tells (old new : Course) (file : Path) (faults : List Fault) (includes : List Include) : Type 0 where
+  pub layer : new.layer ≡ old.layer
+  pub faults_are : new.faults.items ≡ old.faults.items ++ faults
+  pub files : new.files ≡ old.files
+  pub bytes : new.bytes ≡ old.bytes
+  pub todo : new.todo.items ≡ old.todo.items ++ map (ask_of file) includes
+
+-- what a layer answered was told
+abbrev pub TellsAnswer : Course → Course → Path → Result (Option Include) LayerStop → Type 0
+TellsAnswer old new file (Ok include) = Tells old new file [] (list_of include)
+TellsAnswer old new file (Err stop.Memory) = ⊥
+TellsAnswer old new file (Err s) = Tells old new file (faults_of file s) (include_of s)
+
+-- a fault was told behind these lines
+pub record ToldFault (old new : Course) (f : Fault) : Type 0 where
+  pub knows : (lines : List Line) (inside : List Path) → Knows old.layer old.faults.items lines inside → Knows new.layer new.faults.items (lines ++ Spoiled f ∷ []) inside
+  pub entered_are : entered new.layer ≡ entered old.layer
+  pub rest : SameRest old new
+
+-- the end of the file was taken in, and it is entered still
+pub record ClosesFile (old new : Course) : Type 0 where
+  pub knows : (lines : List Line) (inside : List Path) → Knows old.layer old.faults.items lines inside → Knows new.layer new.faults.items (lines ++ End (file_of_layer old.layer) ∷ []) inside
+  pub entered_are : entered new.layer ≡ entered old.layer
+  pub rest : SameRest old new
+
+-- all but what is still to be read is the same
+pub record SameButTodo (old new : Course) : Type 0 where
+  pub layer : new.layer ≡ old.layer
+  pub faults : new.faults.items ≡ old.faults.items
+  pub files : new.files ≡ old.files
+  pub bytes : new.bytes ≡ old.bytes
