@@ -112,18 +112,28 @@ limit_kind s = if is_shallow s then kind.TooManyFiles else kind.TooDeep
 
 -- ---- what a visit gave
 
-abbrev pub piece_of : Told → Option Piece
-piece_of (Ok i) = Some (piece.Item i)
-piece_of (Err f) = option_map (λ k. piece.Fault f.line k) (conf_kind f.kind)
+-- a line with this fault; where the text breaks off, that a script in it has no end is no fault
+abbrev pub fault_piece : Bool → ℕ → ConfKind → Option Piece
+fault_piece false at kind.NoEndscript = None
+fault_piece whole at k = Some (piece.Fault at k)
 
-abbrev pub pieces_of : List ℕ → List Piece
-pieces_of bytes = filter_map piece_of (items bytes)
+abbrev pub kind_piece : Bool → ℕ → Option ConfKind → Option Piece
+kind_piece whole at None = None
+kind_piece whole at (Some k) = fault_piece whole at k
+
+abbrev pub piece_of : Bool → Told → Option Piece
+piece_of whole (Ok i) = Some (piece.Item i)
+piece_of whole (Err f) = kind_piece whole f.line (conf_kind f.kind)
+
+-- the lines of a text, which is whole or breaks off
+abbrev pub pieces_of : Bool → List ℕ → List Piece
+pieces_of whole bytes = filter_map (piece_of whole) (items bytes)
 
 -- The lines of a file, up to its end; or the whole lines of what counts of it, up to where it breaks off.
 abbrev pub pieces : Path → ℕ → List ℕ → TextEnd → List Piece
-pieces file room bytes end.Whole = pieces_of bytes ++ piece.End ∷ []
-pieces file room bytes end.TooMany = pieces_of (whole_lines (take room bytes)) ++ piece.Break (conf file kind.TooBig 0) ∷ []
-pieces file room bytes end.Failed = pieces_of (whole_lines bytes) ++ piece.Break (fault.Call call.Read file) ∷ []
+pieces file room bytes end.Whole = pieces_of true bytes ++ piece.End ∷ []
+pieces file room bytes end.TooMany = pieces_of false (whole_lines (take room bytes)) ++ piece.Break (conf file kind.TooBig 0) ∷ []
+pieces file room bytes end.Failed = pieces_of false (whole_lines bytes) ++ piece.Break (fault.Call call.Read file) ∷ []
 
 -- the file is read now
 abbrev pub entering : Stage → Path → List ℕ → TextEnd → List Task → Stage

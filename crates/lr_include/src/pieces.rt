@@ -2,7 +2,7 @@
 ghost use Rattle.std.specs.Prelude.{◌≡◌, ◌≤◌, ◌<◌, ◌^◌, ◌∷◌, ◌++◌, [], take, length, IfOk, OnOk};
 ghost use Rattle.lr_rules.specs.declared.fault.ConfKind.TheVariants as kind;
 ghost use Rattle.lr_conf.specs.Meaning.{conf};
-ghost use Rattle.lr_include.specs.Stages.{pieces_of, pieces};
+ghost use Rattle.lr_include.specs.Stages.{fault_piece, pieces_of, pieces};
 
 use crate::kind::conf_kind;
 use crate::task::Piece;
@@ -12,10 +12,20 @@ use lr_rules::{CallKind, ConfKind, Fault, Memory, Path};
 use lr_visits::TextEnd;
 use std::alloc::Global;
 
-/// The lines of a text.
-fn pieces_of(alloc: Global, bytes: &[u8]) -> Result<Vec<Piece>, Memory>
+// A line with this fault; where the text breaks off, that a script in it has no end is no fault.
+fn fault_piece(whole: bool, line: u32, kind: ConfKind) -> Option<Piece>
+    ensures { result ≡ fault_piece whole line kind }
+{
+    match kind {
+        ConfKind::NoEndscript if !whole => None,
+        kind => Some(Piece::Fault(line, kind)),
+    }
+}
+
+/// The lines of a text, which is whole or breaks off.
+fn pieces_of(alloc: Global, whole: bool, bytes: &[u8]) -> Result<Vec<Piece>, Memory>
     requires { length bytes.now < 2 ^ 32 }
-    ensures { IfOk result (λ v. v.items ≡ pieces_of bytes.now) }
+    ensures { IfOk result (λ v. v.items ≡ pieces_of whole bytes.now) }
 {
     let mut pieces = Vec::new(alloc);
     let mut lexer = Lexer::new(alloc, bytes);
@@ -27,18 +37,25 @@ fn pieces_of(alloc: Global, bytes: &[u8]) -> Result<Vec<Piece>, Memory>
                 let Some(kind) = conf_kind(fault.kind) else {
                     return Err(Memory);
                 };
-                pieces.push(Piece::Fault(fault.line, kind))?;
+                if let Some(piece) = fault_piece(whole, fault.line, kind) {
+                    pieces.push(piece)?;
+                }
             }
         }
     }
 }
 
 /// The lines of a text, and a last piece.
-fn with_last(alloc: Global, bytes: &[u8], last: Piece) -> Result<Vec<Piece>, Memory>
+fn with_last(
+    alloc: Global,
+    whole: bool,
+    bytes: &[u8],
+    last: Piece,
+) -> Result<Vec<Piece>, Memory>
     requires { length bytes.now < 2 ^ 32 }
-    ensures { IfOk result (λ v. v.items ≡ pieces_of bytes.now ++ last ∷ []) }
+    ensures { IfOk result (λ v. v.items ≡ pieces_of whole bytes.now ++ last ∷ []) }
 {
-    let mut pieces = pieces_of(alloc, bytes)?;
+    let mut pieces = pieces_of(alloc, whole, bytes)?;
     pieces.push(last)?;
     Ok(pieces)
 }
@@ -74,14 +91,14 @@ pub(crate) fn pieces(
     ensures { IfOk result (λ v. v.items ≡ pieces file.now room bytes.now how) }
 {
     match how {
-        TextEnd::Whole => with_last(alloc, bytes, Piece::End),
+        TextEnd::Whole => with_last(alloc, true, bytes, Piece::End),
         TextEnd::TooMany => {
             let fault = too_big(alloc, file)?;
-            with_last(alloc, whole_lines(part(bytes, room)), Piece::Break(fault))
+            with_last(alloc, false, whole_lines(part(bytes, room)), Piece::Break(fault))
         }
         TextEnd::Failed => {
             let fault = Fault::Call(CallKind::Read, file.copy(alloc)?);
-            with_last(alloc, whole_lines(bytes), Piece::Break(fault))
+            with_last(alloc, false, whole_lines(bytes), Piece::Break(fault))
         }
     }
 }
