@@ -1,4 +1,6 @@
 pub mod Faults
+pub mod AllQuiet
+pub mod Allowed
 pub mod Means
 pub mod Newlines
 pub mod Plain

@@ -13,12 +13,12 @@ use Rattle.lr_host.specs.Reading.{IsReadOf}
 use Rattle.lr_host.specs.Looks.{Sees, IsFile}
 use Rattle.lr_include.specs.Reading.{ReadsFile, no_file, directory, whole, cut, ReadsAs, means, look_failed, read_failed}
 
-quiet_reads : (x : Path) (ts : List Entry) → Each (IsReadOf x) ts → filter is_change ts ≡ []
+pub quiet_reads : (x : Path) (ts : List Entry) → Each (IsReadOf x) ts → filter is_change ts ≡ []
 quiet_reads x [] only = refl
 quiet_reads x (Reads y from piece ∷ ts) only = quiet_reads x ts only.1
 quiet_reads x (_ ∷ ts) only = absurd only.0
 
-quiet_sight : (x : Path) (P : Option Seen → Type 0) (ts : List Entry) → Sees x P ts → filter is_change ts ≡ []
+pub quiet_sight : (x : Path) (P : Option Seen → Type 0) (ts : List Entry) → Sees x P ts → filter is_change ts ≡ []
 quiet_sight x P ts s = ap (filter is_change) s.look
 
 quiet_reading : (file : Path) (ts : List Entry) → Then (Sees file IsFile) (Each (IsReadOf file)) ts → filter is_change ts ≡ []

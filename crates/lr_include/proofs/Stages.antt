@@ -1,5 +1,5 @@
 -- How a reading goes on from one stage to another.
-use Rattle.std.proofs.Common.{◌≡◌, ◌+◌, ◌-◌, ◌<◌, ◌⊎◌, inl, inr, arith, ℕ, Bool, true, false, List, [], ◌∷◌, ◌++◌, map, reverse, length, take, drop, refl, sym, ap, ◌∙◌, subst, append-nil, append_assoc, Option, Some, None, Result, Ok, Err, OnOk}
+use Rattle.std.proofs.Common.{◌≡◌, ◌-◌, ◌<◌, ◌⊎◌, inl, inr, arith, ℕ, Bool, true, false, List, [], ◌∷◌, ◌++◌, map, reverse, length, take, drop, refl, sym, ap, ◌∙◌, subst, append-nil, append_assoc, Option, Some, None, Result, Ok, Err, OnOk}
 use Rattle.std.proofs.Math.Seq.{drop-append_seam}
 use Rattle.std.proofs.lemmas.List.{reverse-append}
 use Rattle.std.proofs.lemmas.List.Elements.{filter_map-append}
@@ -13,7 +13,7 @@ use Rattle.lr_conf.specs.declared.layer.Layer.{Layer}
 use Rattle.lr_conf.specs.declared.stop.Include.{Include}
 use Rattle.lr_conf.specs.declared.stop.LayerStop.{LayerStop}
 use Rattle.lr_conf.specs.declared.stop.LayerStop.TheVariants as stop
-use Rattle.lr_conf.specs.Stops.{faults_of, include_of}
+use Rattle.lr_conf.specs.Stops.{faults_of}
 use Rattle.lr_lex.specs.declared.item.Item.{Item}
 use Rattle.lr_conf.specs.Meaning.{Line, Read, Spoiled, End, Cut, Meaning, meaning, ◌and◌, told, conf, asked, banned, list_of}
 use Rattle.lr_conf.specs.Fold.{coming, asking, banning, entered, file_of_layer, Took, Asks, Bans, Alike, Passes}
@@ -31,7 +31,7 @@ use Rattle.lr_include.specs.declared.task.Piece.{Piece}
 use Rattle.lr_include.specs.declared.task.Piece.TheVariants as piece
 use Rattle.lr_include.specs.declared.task.Task.{Task}
 use Rattle.lr_include.specs.declared.task.Task.TheVariants as task
-use Rattle.lr_include.specs.Stages.{Stage, ask_of, asked_at, lines_in, lines_now, open_behind, asks_in, asks_now, taken, before_asks, settled_from, settled, is_shallow, room_for, telling, name_task, name_tasks, behind_names, after_ask, after_name, IsBarred, visited, visited_by, at_visits, ShowsNext, ShowsVisits, begun, Reads}
+use Rattle.lr_include.specs.Stages.{Stage, ask_of, asked_at, lines_in, lines_now, open_behind, asks_in, asks_now, taken, before_asks, settled_from, settled, is_shallow, room_for, telling, name_task, name_tasks, behind_names, after_ask, after_name, IsBarred, visited, at_visits, ShowsNext, ShowsVisits, begun, visits_mean, Reads}
 use Rattle.lr_include.specs.Course.{Knows, StandsAt, SameRest, SameButTodo, Tells, TellsAnswer, TookPiece, TakesPiece, ToldFault, ClosesFile, WentOn, GoesOn}
 
 -- ---- one more line
@@ -385,15 +385,19 @@ shown_at x lists lists' room room' v e f l = left_as l (λ ts h. subst (λ (b : 
 settled_end : (s : Stage) → s.todo ≡ [] → settled s ≡ record s { todo = [] }
 settled_end s e = ap (settled_from s) e
 
-pub reads_all : (paths : List Path) (m : Meaning) (s : Stage) {o n : Option Journal} → WentOn (begun paths) s o n → s.todo ≡ [] → m ≡ meaning built.SoFar false [] s.lines → Left (Reads paths m) o n
-reads_all paths m s w none is = left_as w.shown (λ ts h.
-    let at = ap (at_visits (begun paths)) (sym (append-nil w.visits)) ∙ (w.leads [] ∙ settled_end s none) in
-    record {
-      visits = w.visits;
-      shown = subst (λ (vs : List (Option Visit)). ShowsVisits (begun paths) vs ts) (append-nil w.visits) (subst (λ (es : List Entry). ShowsVisits (begun paths) (w.visits ++ []) es) (append-nil ts) (h [] [] refl));
-      all = ap (λ (x : Stage). x.todo) at;
-      means = is ∙ sym (ap (λ (x : Stage). meaning built.SoFar false [] x.lines) at);
-    })
+pub all_read : (paths : List Path) (s : Stage) {o n : Option Journal} → (w : WentOn (begun paths) s o n) → s.todo ≡ [] → at_visits (begun paths) w.visits ≡ record s { todo = [] }
+all_read paths s w none = ap (at_visits (begun paths)) (sym (append-nil w.visits)) ∙ (w.leads [] ∙ settled_end s none)
+
+pub all_mean : (paths : List Path) (m : Meaning) (s : Stage) {o n : Option Journal} → (w : WentOn (begun paths) s o n) → s.todo ≡ [] → m ≡ meaning built.SoFar false [] s.lines → m ≡ visits_mean paths w.visits
+all_mean paths m s w none is = is ∙ sym (ap (λ (x : Stage). meaning built.SoFar false [] x.lines) (all_read paths s w none))
+
+pub reads_all : (paths : List Path) (m : Meaning) (s : Stage) {o n : Option Journal} → (w : WentOn (begun paths) s o n) → s.todo ≡ [] → m ≡ meaning built.SoFar false [] s.lines → Left (Reads paths m) o n
+reads_all paths m s w none is = left_as w.shown (λ ts h. record {
+  visits = w.visits;
+  shown = subst (λ (vs : List (Option Visit)). ShowsVisits (begun paths) vs ts) (append-nil w.visits) (subst (λ (es : List Entry). ShowsVisits (begun paths) (w.visits ++ []) es) (append-nil ts) (h [] [] refl));
+  all = ap (λ (x : Stage). x.todo) (all_read paths s w none);
+  means = all_mean paths m s w none is;
+})
 
 pub same_then : (a b c : Course) → SameButTodo a b → SameButTodo b c → SameButTodo a c
 same_then a b c x y = record { layer = y.layer ∙ x.layer; faults = y.faults ∙ x.faults; files = y.files ∙ x.files; bytes = y.bytes ∙ x.bytes }

@@ -1,5 +1,5 @@
 -- What a reading under way knows.
-use Rattle.std.specs.Prelude.{◌≡◌, ◌<◌, ◌⊎◌, ℕ, false, List, [], ◌∷◌, ◌++◌, map, reverse, length, Option, Some, None, Result, Ok, Err}
+use Rattle.std.specs.Prelude.{◌≡◌, false, List, [], ◌∷◌, ◌++◌, map, reverse, Option, Result, Ok, Err}
 use Rattle.lr_rules.specs.declared.path.Path.{Path}
 use Rattle.lr_rules.specs.declared.fault.Fault.{Fault}
 use Rattle.lr_forms.specs.declared.built.Built.TheVariants as built
@@ -9,7 +9,7 @@ use Rattle.lr_conf.specs.declared.stop.Include.{Include}
 use Rattle.lr_conf.specs.declared.stop.LayerStop.{LayerStop}
 use Rattle.lr_conf.specs.declared.stop.LayerStop.TheVariants as stop
 use Rattle.lr_conf.specs.Stops.{faults_of, include_of}
-use Rattle.lr_conf.specs.Meaning.{Line, Spoiled, End, Meaning, meaning, ◌and◌, told, list_of, asked, banned}
+use Rattle.lr_conf.specs.Meaning.{Line, Spoiled, End, meaning, ◌and◌, told, list_of, asked, banned}
 use Rattle.lr_conf.specs.Fold.{coming, asking, banning, entered, file_of_layer}
 use Rattle.lr_host.specs.declared.entry.Entry.{Entry}
 use Rattle.lr_host.specs.declared.journal.Journal.{Journal}
@@ -17,8 +17,7 @@ use Rattle.lr_host.specs.Told.{Left}
 use Rattle.lr_visits.specs.declared.visit.Visit.{Visit}
 use Rattle.lr_include.specs.declared.course.Course.{Course}
 use Rattle.lr_include.specs.declared.task.Piece.{Piece}
-use Rattle.lr_include.specs.declared.task.Task.{Task}
-use Rattle.lr_include.specs.Stages.{Stage, ask_of, lines_now, open_behind, asks_now, behind_names, at_visits, ShowsVisits}
+use Rattle.lr_include.specs.Stages.{Stage, ask_of, lines_now, open_behind, asks_now, at_visits, ShowsVisits}
 
 -- The layer took these lines, with these faults, and these files are entered.
 pub record Knows (layer : Layer) (faults : List Fault) (lines : List Line) (inside : List Path) : Type 0 where

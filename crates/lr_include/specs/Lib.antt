@@ -1,4 +1,5 @@
 pub mod Course
+pub mod Allowed
 pub mod Lines
 pub mod Looking
 pub mod Readers

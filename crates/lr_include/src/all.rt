@@ -4,7 +4,7 @@ ghost use Rattle.lr_forms.specs.declared.built.Built.TheVariants as built;
 ghost use Rattle.lr_conf.specs.Meaning.{meaning};
 ghost use Rattle.lr_conf.specs.Plain.{IsPlainRule};
 ghost use Rattle.lr_host.specs.Told.{Left, Onward};
-ghost use Rattle.lr_include.specs.Readers.{meaning_of};
+ghost use Rattle.lr_include.specs.Readers.{meaning_of, IsConfOrCall};
 ghost use Rattle.lr_include.specs.Stages.{Stage, line_ask, begun, Reads};
 ghost use Rattle.lr_include.specs.Course.{StandsAt, GoesOn};
 
@@ -111,6 +111,7 @@ impl Course {
 /// all (TooBig). A failed call is told, and what was read before it counts.
 pub fn read_all<H: Host>(alloc: Global, host: &mut H, paths: &[Path]) -> Result<Reading, Memory>
     ensures told { IfOk result (λ r. Left (Reads paths.now (meaning_of r)) (H.told host.old) (H.told host.new)) }
+    ensures only { IfOk result (λ r. All IsConfOrCall r.faults) }
     ensures plain { IfOk result (λ r. All IsPlainRule r.rules.sets) }
     ensures counts { Onward (H.counts host.old) (H.counts host.new) }
 {

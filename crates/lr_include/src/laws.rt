@@ -1,10 +1,13 @@
 // Laws of the definitions.
-ghost use Rattle.std.specs.Prelude.{◌≡◌, List, [], All, filter};
+ghost use Rattle.std.specs.Prelude.{◌≡◌, Bool, List, [], All, Option, filter};
 ghost use Rattle.lr_rules.specs.declared.path.Path.{Path};
 ghost use Rattle.lr_conf.specs.Meaning.{Meaning};
 ghost use Rattle.lr_host.specs.declared.entry.Entry.{Entry};
 ghost use Rattle.lr_host.specs.Steps.{is_change};
 ghost use Rattle.lr_include.specs.Readers.{IsConf};
+ghost use Rattle.lr_visits.specs.declared.visit.Visit.{Visit};
+ghost use Rattle.lr_include.specs.Allowed.{IsAllowed, AreAllowedVisits};
+ghost use Rattle.lr_include.specs.Stages.{visits_mean, Reads};
 ghost use Rattle.lr_include.specs.Reading.{MeansAs, ReadsAs};
 
 /// What entries show of a file has no failed call among its faults.
@@ -15,4 +18,14 @@ pub fn meanings_tell_no_call()
 /// Reading a file changes nothing.
 pub fn readings_change_nothing()
     ensures { (file : Path) (m : Meaning) (ts : List Entry) → ReadsAs file m ts → filter is_change ts ≡ [] }
+{}
+
+/// Where no call of the visits failed, they mean no failed call; and no fault is of another kind than those two.
+pub fn visits_tell_their_calls()
+    ensures { (calls : Bool) (paths : List Path) (visits : List (Option Visit)) → AreAllowedVisits calls visits → All (IsAllowed calls) (visits_mean paths visits).faults }
+{}
+
+/// The reading of all paths changes nothing.
+pub fn visits_change_nothing()
+    ensures { (paths : List Path) (m : Meaning) (ts : List Entry) → Reads paths m ts → filter is_change ts ≡ [] }
 {}

@@ -1,10 +1,12 @@
-use Rattle.std.proofs.Common.{List, sym, subst, ap}
+use Rattle.std.proofs.Common.{sym, subst}
 use Rattle.std.specs.Prelude.{All}
 use Rattle.lr_conf.specs.Meaning.{Meaning}
 use Rattle.lr_conf.specs.Plain.{IsPlainRule}
 use Rattle.lr_include.specs.Stages.{begun}
 use Rattle.lr_include.proofs.Plain.{all_plain}
-use Rattle.lr_include.proofs.Stages.{reads_all, no_todo}
+use Rattle.lr_include.proofs.Stages.{reads_all, all_mean, no_todo}
+use Rattle.lr_include.specs.Readers.{IsConfOrCall}
+use Rattle.lr_include.proofs.Allowed.{only_those}
 use Rattle.lr_include.proofs.all.read_all.Goals as goal
 
 pub returns-clause-told : goal.returns-clause-told
@@ -16,3 +18,9 @@ pub returns-clause-plain : goal.returns-clause-plain
 returns-clause-plain g c =
     let went = c.in_ok-run.ensures.told (begun c.args.paths.now) c.in_ok-course.ensures in
     subst (λ (m : Meaning). All IsPlainRule m.rules) (sym (c.finish.ensures went.stage went.stands)) (all_plain went.stage.lines)
+
+pub returns-clause-only : goal.returns-clause-only
+returns-clause-only g c =
+    let went = c.in_ok-run.ensures.told (begun c.args.paths.now) c.in_ok-course.ensures in
+    subst (λ (m : Meaning). All IsConfOrCall m.faults) (sym (all_mean c.args.paths.now _ went.stage went.went (no_todo c.run.new.self went.stage went.stands c.in_ok-run.ensures.none) (c.finish.ensures went.stage went.stands)))
+    (only_those c.args.paths.now went.went.visits)

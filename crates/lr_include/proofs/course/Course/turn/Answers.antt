@@ -1,7 +1,6 @@
 use Rattle.std.proofs.Common.{◌∷◌, sym, subst}
 use Rattle.lr_include.specs.declared.task.Task.{Task}
-use Rattle.lr_include.specs.Stages.{Stage}
-use Rattle.lr_include.specs.Course.{StandsAt, GoesOn}
+use Rattle.lr_include.specs.Course.{GoesOn}
 use Rattle.lr_include.proofs.Readers.{on_ok_as}
 use Rattle.lr_include.proofs.Stages.{line_turned}
 use Rattle.lr_include.proofs.course.Course.turn.Goals as goal

@@ -1,4 +1,4 @@
-use Rattle.std.proofs.Common.{false, refl, sym, ◌∙◌}
+use Rattle.std.proofs.Common.{false, refl}
 use Rattle.lr_include.proofs.Readers.{on_ok_as}
 use Rattle.lr_include.proofs.Stages.{name_turned, name_barred, shown_at}
 use Rattle.lr_include.specs.Stages.{room_for}
