@@ -1,5 +1,6 @@
 -- How a reading goes on from one stage to another.
-use Rattle.std.proofs.Common.{◌≡◌, ◌-◌, ◌<◌, ◌⊎◌, inl, inr, arith, ℕ, Bool, true, false, List, [], ◌∷◌, ◌++◌, map, reverse, length, take, drop, refl, sym, ap, ◌∙◌, subst, append-nil, append_assoc, Option, Some, None, Result, Ok, Err, OnOk}
+use Rattle.std.specs.Prelude.{◌≡◌, ◌+◌, ◌≤◌, ◌^◌, min}
+use Rattle.std.proofs.Common.{◌-◌, ◌<◌, ◌⊎◌, inl, inr, arith, ℕ, Bool, true, false, List, [], ◌∷◌, ◌++◌, map, reverse, length, take, drop, refl, sym, ap, ◌∙◌, subst, append-nil, append_assoc, Option, Some, None, Result, Ok, Err, OnOk}
 use Rattle.std.proofs.Math.Seq.{drop-append_seam}
 use Rattle.std.proofs.lemmas.List.{reverse-append}
 use Rattle.std.proofs.lemmas.List.Elements.{filter_map-append}
@@ -24,7 +25,9 @@ use Rattle.lr_host.specs.Told.{Left, Then}
 use Rattle.lr_host.proofs.Left.{left_first, left_as, left_then}
 use Rattle.lr_visits.specs.declared.visit.Visit.{Visit}
 use Rattle.lr_visits.specs.declared.visit.Visit.TheVariants as visit
-use Rattle.lr_visits.specs.Visits.{ShowsVisit}
+use Rattle.lr_visits.specs.declared.part.TextEnd.TheVariants as end
+use Rattle.lr_visits.specs.Visits.{ShowsVisit, HasFailed}
+use Rattle.lr_include.specs.Allowed.{failed_in, failed_visit, failed_read, RoseBy}
 use Rattle.lr_include.specs.declared.course.Course.{Course}
 use Rattle.lr_include.specs.declared.task.Ask.{Ask}
 use Rattle.lr_include.specs.declared.task.Piece.{Piece}
@@ -244,18 +247,28 @@ shows_same : (s t : Stage) → settled s ≡ settled t → (more : List (Option 
 shows_same s t e [] us h = h
 shows_same s t e (v ∷ vs) us h = subst (λ (x : Stage). Then (ShowsNext x x.todo v) (ShowsVisits (visited x v) vs) us) (sym e) h
 
-pub went_same : (s t : Stage) (o : Option Journal) → settled s ≡ settled t → WentOn s t o o
-went_same s t o e = record { visits = []; leads = at_same s t e; shown = left_first _ o (shows_same s t e) }
+pub went_same : (s t : Stage) (o : Option Journal) (b : ℕ) → settled s ≡ settled t → WentOn s t o o b b
+went_same s t o b e = record { visits = []; leads = at_same s t e; shown = left_first _ o (shows_same s t e); counted = omega arith }
 
-pub went_by : (s t : Stage) (v : Option Visit) {o n : Option Journal} → visited (settled s) v ≡ t → Left (ShowsNext (settled s) (settled s).todo v) o n → WentOn s t o n
-went_by s t v e l = record {
+pub went_by : (s t : Stage) (v : Option Visit) {o n : Option Journal} (b a : ℕ) → RoseBy (failed_in (v ∷ [])) b a → visited (settled s) v ≡ t → Left (ShowsNext (settled s) (settled s).todo v) o n → WentOn s t o n b a
+went_by s t v b a c e l = record {
+  counted = c;
   visits = v ∷ [];
   leads = λ more. ap (λ (x : Stage). at_visits x more) e;
   shown = left_as l (λ ts h more us k. record { front = ts; back = us; joined = refl; first = h; second = subst (λ (x : Stage). ShowsVisits x more us) (sym e) k });
 }
 
-pub went_then : (r s t : Stage) {o m n : Option Journal} → WentOn r s o m → WentOn s t m n → WentOn r t o n
-went_then r s t a b = record {
+failed_more : (vs ws : List (Option Visit)) → failed_in (vs ++ ws) ≡ failed_in vs + failed_in ws
+failed_more [] ws = omega arith
+failed_more (Some v ∷ vs) ws = let more = failed_more vs ws in omega (arith, more)
+failed_more (None ∷ vs) ws = failed_more vs ws
+
+rose_both : (a b c m n k : ℕ) → k ≡ m + n → RoseBy m a b → RoseBy n b c → RoseBy k a c
+rose_both a b c m n k e f g = omega (arith, e, f, g)
+
+pub went_then : (r s t : Stage) {o m n : Option Journal} (i j k : ℕ) → WentOn r s o m i j → WentOn s t m n j k → WentOn r t o n i k
+went_then r s t i j k a b = record {
+  counted = rose_both i j k (failed_in a.visits) (failed_in b.visits) (failed_in (a.visits ++ b.visits)) (failed_more a.visits b.visits) a.counted b.counted;
   visits = a.visits ++ b.visits;
   leads = λ more. ap (at_visits r) (append_assoc a.visits b.visits more) ∙ (a.leads (b.visits ++ more) ∙ b.leads more);
   shown = left_then a.shown b.shown (λ xs ys p q more us h.
@@ -293,13 +306,13 @@ behind_piece s p =
     ∙ piece_settled (taken s p) (asks_now s.inside s.lines p) s.todo (asks_are s.inside s.lines p)
 
 -- a piece was taken in
-pub line_turned : (old new : Course) (p : Piece) (s : Stage) (o : Option Journal) → TakesPiece old new p → StandsAt old s → GoesOn (record s { todo = task.Line p ∷ s.todo }) new o o
-line_turned old new p s o t st =
+pub line_turned : (old new : Course) (p : Piece) (s : Stage) (o : Option Journal) (b : ℕ) → TakesPiece old new p → StandsAt old s → GoesOn (record s { todo = task.Line p ∷ s.todo }) new o o b b
+line_turned old new p s o b t st =
     let k = t s.lines s.inside st.knows in
     record {
       stage = record (taken s p) { todo = asks_now s.inside s.lines p ++ s.todo };
       stands = record { knows = k.knows; files = k.files ∙ st.files; bytes = k.bytes ∙ st.bytes; todo = k.todo ∙ ap (λ (ts : List Task). asks_now s.inside s.lines p ++ ts) st.todo };
-      went = went_same _ _ o (behind_piece s p);
+      went = went_same _ _ o b (behind_piece s p);
     }
 
 -- ---- visits
@@ -322,25 +335,36 @@ after_name_any s x a visit.Unlisted todo = refl
 after_name_any s x a (visit.Holds names) todo = refl
 after_name_any s x a (visit.Reads bytes how) todo = refl
 
-pub ask_turned : (s : Stage) (new : Course) (a : Ask) (v : Visit) {o n : Option Journal} → Left (ShowsVisit a.path (is_shallow s) (room_for s) v) o n → StandsAt new (after_ask s a v s.todo) → GoesOn (record s { todo = task.Ask a ∷ s.todo }) new o n
-ask_turned s new a v l st = record {
+one_failed : (v : Visit) (b a : ℕ) → b ≤ a → (HasFailed v → min (b + 1) (2 ^ 64 - 1) ≤ a) → RoseBy (failed_in (Some v ∷ [])) b a
+one_failed visit.Unseen b a le h = let f = h tt in omega (arith, f)
+one_failed visit.Nothing b a le h = omega (arith, le)
+one_failed visit.File b a le h = omega (arith, le)
+one_failed visit.Dir b a le h = omega (arith, le)
+one_failed visit.Unlisted b a le h = let f = h tt in omega (arith, f)
+one_failed (visit.Holds names) b a le h = omega (arith, le)
+one_failed (visit.Reads bytes end.Whole) b a le h = omega (arith, le)
+one_failed (visit.Reads bytes end.TooMany) b a le h = omega (arith, le)
+one_failed (visit.Reads bytes end.Failed) b a le h = let f = h refl in omega (arith, f)
+
+pub ask_turned : (s : Stage) (new : Course) (a : Ask) (v : Visit) {o n : Option Journal} (i j : ℕ) → i ≤ j → (HasFailed v → min (i + 1) (2 ^ 64 - 1) ≤ j) → Left (ShowsVisit a.path (is_shallow s) (room_for s) v) o n → StandsAt new (after_ask s a v s.todo) → GoesOn (record s { todo = task.Ask a ∷ s.todo }) new o n i j
+ask_turned s new a v i j le c l st = record {
   stage = after_ask s a v s.todo;
   stands = st;
-  went = went_by (record s { todo = task.Ask a ∷ s.todo }) (after_ask s a v s.todo) (Some v) (after_ask_any s (task.Ask a ∷ s.todo) a v s.todo) l;
+  went = went_by (record s { todo = task.Ask a ∷ s.todo }) (after_ask s a v s.todo) (Some v) i j (one_failed v i j le c) (after_ask_any s (task.Ask a ∷ s.todo) a v s.todo) l;
 }
 
-pub name_turned : (s : Stage) (new : Course) (a : Ask) (v : Visit) {o n : Option Journal} → (IsBarred s.lines a.path → ⊥) → Left (ShowsVisit a.path false (room_for s) v) o n → StandsAt new (after_name s a v s.todo) → GoesOn (record s { todo = task.Name a ∷ s.todo }) new o n
-name_turned s new a v free l st = record {
+pub name_turned : (s : Stage) (new : Course) (a : Ask) (v : Visit) {o n : Option Journal} (i j : ℕ) → i ≤ j → (HasFailed v → min (i + 1) (2 ^ 64 - 1) ≤ j) → (IsBarred s.lines a.path → ⊥) → Left (ShowsVisit a.path false (room_for s) v) o n → StandsAt new (after_name s a v s.todo) → GoesOn (record s { todo = task.Name a ∷ s.todo }) new o n i j
+name_turned s new a v i j le c free l st = record {
   stage = after_name s a v s.todo;
   stands = st;
-  went = went_by (record s { todo = task.Name a ∷ s.todo }) (after_name s a v s.todo) (Some v) (after_name_any s (task.Name a ∷ s.todo) a v s.todo) (left_as l (λ ts h. (free, h)));
+  went = went_by (record s { todo = task.Name a ∷ s.todo }) (after_name s a v s.todo) (Some v) i j (one_failed v i j le c) (after_name_any s (task.Name a ∷ s.todo) a v s.todo) (left_as l (λ ts h. (free, h)));
 }
 
-pub name_barred : (s : Stage) (c : Course) (a : Ask) (o : Option Journal) → IsBarred s.lines a.path → StandsAt c s → GoesOn (record s { todo = task.Name a ∷ s.todo }) c o o
-name_barred s c a o bars st = record {
+pub name_barred : (s : Stage) (c : Course) (a : Ask) (o : Option Journal) (i : ℕ) → IsBarred s.lines a.path → StandsAt c s → GoesOn (record s { todo = task.Name a ∷ s.todo }) c o o i i
+name_barred s c a o i bars st = record {
   stage = s;
   stands = st;
-  went = went_by (record s { todo = task.Name a ∷ s.todo }) s None refl (left_first _ o (bars, refl));
+  went = went_by (record s { todo = task.Name a ∷ s.todo }) s None i i (omega arith) refl (left_first _ o (bars, refl));
 }
 
 -- ---- answers
@@ -385,13 +409,13 @@ shown_at x lists lists' room room' v e f l = left_as l (λ ts h. subst (λ (b : 
 settled_end : (s : Stage) → s.todo ≡ [] → settled s ≡ record s { todo = [] }
 settled_end s e = ap (settled_from s) e
 
-pub all_read : (paths : List Path) (s : Stage) {o n : Option Journal} → (w : WentOn (begun paths) s o n) → s.todo ≡ [] → at_visits (begun paths) w.visits ≡ record s { todo = [] }
+pub all_read : (paths : List Path) (s : Stage) {o n : Option Journal} {i j : ℕ} → (w : WentOn (begun paths) s o n i j) → s.todo ≡ [] → at_visits (begun paths) w.visits ≡ record s { todo = [] }
 all_read paths s w none = ap (at_visits (begun paths)) (sym (append-nil w.visits)) ∙ (w.leads [] ∙ settled_end s none)
 
-pub all_mean : (paths : List Path) (m : Meaning) (s : Stage) {o n : Option Journal} → (w : WentOn (begun paths) s o n) → s.todo ≡ [] → m ≡ meaning built.SoFar false [] s.lines → m ≡ visits_mean paths w.visits
+pub all_mean : (paths : List Path) (m : Meaning) (s : Stage) {o n : Option Journal} {i j : ℕ} → (w : WentOn (begun paths) s o n i j) → s.todo ≡ [] → m ≡ meaning built.SoFar false [] s.lines → m ≡ visits_mean paths w.visits
 all_mean paths m s w none is = is ∙ sym (ap (λ (x : Stage). meaning built.SoFar false [] x.lines) (all_read paths s w none))
 
-pub reads_all : (paths : List Path) (m : Meaning) (s : Stage) {o n : Option Journal} → (w : WentOn (begun paths) s o n) → s.todo ≡ [] → m ≡ meaning built.SoFar false [] s.lines → Left (Reads paths m) o n
+pub reads_all : (paths : List Path) (m : Meaning) (s : Stage) {o n : Option Journal} {i j : ℕ} → (w : WentOn (begun paths) s o n i j) → s.todo ≡ [] → m ≡ meaning built.SoFar false [] s.lines → Left (Reads paths m) o n
 reads_all paths m s w none is = left_as w.shown (λ ts h. record {
   visits = w.visits;
   shown = subst (λ (vs : List (Option Visit)). ShowsVisits (begun paths) vs ts) (append-nil w.visits) (subst (λ (es : List Entry). ShowsVisits (begun paths) (w.visits ++ []) es) (append-nil ts) (h [] [] refl));
@@ -405,9 +429,9 @@ same_then a b c x y = record { layer = y.layer ∙ x.layer; faults = y.faults �
 -- ---- turns
 
 -- what was next was taken off, and read on by
-pub stepped : (old popped new : Course) (t : Task) (s : Stage) (o n : Option Journal) → popped.layer ≡ old.layer → popped.faults.items ≡ old.faults.items → popped.files ≡ old.files → popped.bytes ≡ old.bytes → old.todo.items ≡ popped.todo.items ++ t ∷ []
-    → ((m : Stage) → StandsAt popped m → GoesOn (record m { todo = t ∷ m.todo }) new o n) → StandsAt old s → GoesOn s new o n
-stepped old popped new t s o n layer faults files bytes todo f st =
+pub stepped : (old popped new : Course) (t : Task) (s : Stage) (o n : Option Journal) (i j : ℕ) → popped.layer ≡ old.layer → popped.faults.items ≡ old.faults.items → popped.files ≡ old.files → popped.bytes ≡ old.bytes → old.todo.items ≡ popped.todo.items ++ t ∷ []
+    → ((m : Stage) → StandsAt popped m → GoesOn (record m { todo = t ∷ m.todo }) new o n i j) → StandsAt old s → GoesOn s new o n i j
+stepped old popped new t s o n i j layer faults files bytes todo f st =
     let next : t ∷ reverse popped.todo.items ≡ s.todo = sym (reverse-append popped.todo.items (t ∷ [])) ∙ (sym (ap reverse todo) ∙ st.todo) in
     let g = f (record s { todo = reverse popped.todo.items }) (record {
       knows = subst (λ (x : Layer). Knows x popped.faults.items s.lines s.inside) (sym layer) (subst (λ (fs : List Fault). Knows old.layer fs s.lines s.inside) (sym faults) st.knows);
@@ -415,21 +439,21 @@ stepped old popped new t s o n layer faults files bytes todo f st =
       bytes = bytes ∙ st.bytes;
       todo = refl;
     }) in
-    subst (λ (ts : List Task). GoesOn (record s { todo = ts }) new o n) next g
+    subst (λ (ts : List Task). GoesOn (record s { todo = ts }) new o n i j) next g
 
-pub stayed : (c : Course) (s : Stage) (o : Option Journal) → StandsAt c s → GoesOn s c o o
-stayed c s o st = record { stage = s; stands = st; went = went_same s s o refl }
+pub stayed : (c : Course) (s : Stage) (o : Option Journal) (i : ℕ) → StandsAt c s → GoesOn s c o o i i
+stayed c s o i st = record { stage = s; stands = st; went = went_same s s o i refl }
 
-pub popped_none : (old new : Course) (s : Stage) (o : Option Journal) → new.layer ≡ old.layer → new.faults.items ≡ old.faults.items → new.files ≡ old.files → new.bytes ≡ old.bytes → old.todo.items ≡ new.todo.items ++ [] → StandsAt old s → GoesOn s new o o
-popped_none old new s o layer faults files bytes todo st = stayed new s o (record {
+pub popped_none : (old new : Course) (s : Stage) (o : Option Journal) (i : ℕ) → new.layer ≡ old.layer → new.faults.items ≡ old.faults.items → new.files ≡ old.files → new.bytes ≡ old.bytes → old.todo.items ≡ new.todo.items ++ [] → StandsAt old s → GoesOn s new o o i i
+popped_none old new s o i layer faults files bytes todo st = stayed new s o i (record {
   knows = subst (λ (x : Layer). Knows x new.faults.items s.lines s.inside) (sym layer) (subst (λ (fs : List Fault). Knows old.layer fs s.lines s.inside) (sym faults) st.knows);
   files = files ∙ st.files;
   bytes = bytes ∙ st.bytes;
   todo = ap reverse (sym (todo ∙ append-nil new.todo.items)) ∙ st.todo;
 })
 
-pub goes_on : (s : Stage) (a b : Course) {o m n : Option Journal} → GoesOn s a o m → ((t : Stage) → StandsAt a t → GoesOn t b m n) → GoesOn s b o n
-goes_on s a b g f = let h = f g.stage g.stands in record { stage = h.stage; stands = h.stands; went = went_then s g.stage h.stage g.went h.went }
+pub goes_on : (s : Stage) (a b : Course) {o m n : Option Journal} (i j k : ℕ) → GoesOn s a o m i j → ((t : Stage) → StandsAt a t → GoesOn t b m n j k) → GoesOn s b o n i k
+goes_on s a b i j k g f = let h = f g.stage g.stands in record { stage = h.stage; stands = h.stands; went = went_then s g.stage h.stage i j k g.went h.went }
 
 pub no_todo : (c : Course) (s : Stage) → StandsAt c s → c.todo.items ≡ [] → s.todo ≡ []
 no_todo c s st e = sym st.todo ∙ ap reverse e

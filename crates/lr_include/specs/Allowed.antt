@@ -1,8 +1,11 @@
 -- Which faults a reading tells.
-use Rattle.std.specs.Prelude.{◌≡◌, Bool, true, List, [], ◌∷◌, Option, Some, None}
+use Rattle.std.specs.Prelude.{◌≡◌, ◌≤◌, ◌+◌, ◌-◌, ◌^◌, min, ℕ, Bool, true, List, [], ◌∷◌, Option, Some, None}
 use Rattle.lr_rules.specs.declared.fault.Fault.{Fault}
 use Rattle.lr_rules.specs.declared.fault.Fault.TheVariants as fault
 use Rattle.lr_visits.specs.declared.visit.Visit.{Visit}
+use Rattle.lr_visits.specs.declared.visit.Visit.TheVariants as visit
+use Rattle.lr_visits.specs.declared.part.TextEnd.{TextEnd}
+use Rattle.lr_visits.specs.declared.part.TextEnd.TheVariants as end
 use Rattle.lr_visits.specs.Visits.{HasFailed}
 
 -- a fault of a file or of a line of it, or, where there may be any, a failed call
@@ -19,3 +22,25 @@ abbrev pub AreAllowedVisits : Bool → List (Option Visit) → Type 0
 AreAllowedVisits calls [] = Unit {0}
 AreAllowedVisits calls (Some v ∷ vs) = IsAllowedVisit calls v × AreAllowedVisits calls vs
 AreAllowedVisits calls (None ∷ vs) = Unit {0} × AreAllowedVisits calls vs
+
+-- ---- how many failed
+
+abbrev pub failed_read : TextEnd → ℕ
+failed_read end.Failed = 1
+failed_read how = 0
+
+abbrev pub failed_visit : Visit → ℕ
+failed_visit visit.Unseen = 1
+failed_visit visit.Unlisted = 1
+failed_visit (visit.Reads bytes how) = failed_read how
+failed_visit v = 0
+
+-- how many of the visits have a failed call
+abbrev pub failed_in : List (Option Visit) → ℕ
+failed_in [] = 0
+failed_in (Some v ∷ vs) = failed_visit v + failed_in vs
+failed_in (None ∷ vs) = failed_in vs
+
+-- the count rose by no fewer than so many; at its greatest value it counts as risen
+abbrev pub RoseBy : ℕ → ℕ → ℕ → Type 0
+RoseBy n before now = min (before + n) (2 ^ 64 - 1) ≤ now

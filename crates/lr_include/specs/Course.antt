@@ -1,4 +1,5 @@
 -- What a reading under way knows.
+use Rattle.std.specs.Prelude.{ℕ}
 use Rattle.std.specs.Prelude.{◌≡◌, false, List, [], ◌∷◌, ◌++◌, map, reverse, Option, Result, Ok, Err}
 use Rattle.lr_rules.specs.declared.path.Path.{Path}
 use Rattle.lr_rules.specs.declared.fault.Fault.{Fault}
@@ -17,6 +18,7 @@ use Rattle.lr_host.specs.Told.{Left}
 use Rattle.lr_visits.specs.declared.visit.Visit.{Visit}
 use Rattle.lr_include.specs.declared.course.Course.{Course}
 use Rattle.lr_include.specs.declared.task.Piece.{Piece}
+use Rattle.lr_include.specs.Allowed.{failed_in, RoseBy}
 use Rattle.lr_include.specs.Stages.{Stage, ask_of, lines_now, open_behind, asks_now, at_visits, ShowsVisits}
 
 -- The layer took these lines, with these faults, and these files are entered.
@@ -43,17 +45,19 @@ pub record TookPiece (old new : Course) (p : Piece) (lines : List Line) (inside 
 abbrev pub TakesPiece : Course → Course → Piece → Type 0
 TakesPiece old new p = (lines : List Line) (inside : List Path) → Knows old.layer old.faults.items lines inside → TookPiece old new p lines inside
 
--- The reading went on from one stage to another, by visits that the entries show.
-pub record WentOn (s t : Stage) (before after : Option Journal) : Type 0 where
+-- The reading went on from one stage to another, by visits that the entries show, of which no more have a failed call than
+-- the count of them rose by.
+pub record WentOn (s t : Stage) (before after : Option Journal) (low high : ℕ) : Type 0 where
   pub visits : List (Option Visit)
   pub leads : (more : List (Option Visit)) → at_visits s (visits ++ more) ≡ at_visits t more
   pub shown : Left (λ ts. (more : List (Option Visit)) (us : List Entry) → ShowsVisits t more us → ShowsVisits s (visits ++ more) (ts ++ us)) before after
+  pub counted : RoseBy (failed_in visits) low high
 
 -- The course went on, from where it stood.
-pub record GoesOn (s : Stage) (c : Course) (before after : Option Journal) : Type 0 where
+pub record GoesOn (s : Stage) (c : Course) (before after : Option Journal) (low high : ℕ) : Type 0 where
   pub stage : Stage
   pub stands : StandsAt c stage
-  pub went : WentOn s stage before after
+  pub went : WentOn s stage before after low high
 
 -- ---- steps
 

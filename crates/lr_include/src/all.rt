@@ -1,9 +1,12 @@
 // Reading the configuration that paths give.
-ghost use Rattle.std.specs.Prelude.{◌≡◌, [], false, All, reverse, Ok, IfOk, OnOk};
+ghost use Rattle.std.specs.Prelude.{◌≡◌, [], false, All, Contains, reverse, Ok, IfOk, OnOk};
 ghost use Rattle.lr_forms.specs.declared.built.Built.TheVariants as built;
 ghost use Rattle.lr_conf.specs.Meaning.{meaning};
 ghost use Rattle.lr_conf.specs.Plain.{IsPlainRule};
-ghost use Rattle.lr_host.specs.Told.{Left, Onward};
+ghost use Rattle.lr_rules.specs.declared.fault.CallKind.{CallKind};
+ghost use Rattle.lr_rules.specs.declared.path.Path.{Path};
+ghost use Rattle.lr_rules.specs.declared.fault.Fault.TheVariants as fault;
+ghost use Rattle.lr_host.specs.Told.{Left, Onward, Rose};
 ghost use Rattle.lr_include.specs.Readers.{meaning_of, IsConfOrCall};
 ghost use Rattle.lr_include.specs.Stages.{Stage, line_ask, begun, Reads};
 ghost use Rattle.lr_include.specs.Course.{StandsAt, GoesOn};
@@ -45,7 +48,7 @@ fn asks_of(alloc: Global, paths: &[Path]) -> Result<Vec<Task>, Memory>
 impl Course {
     // Reads on by the next task; false where nothing is still to be read.
     fn step<H: Host>(&mut self, host: &mut H) -> Result<bool, Memory>
-        ensures told { IfOk result (λ more. (s : Stage) → StandsAt self.old s → GoesOn s self.new (H.told host.old) (H.told host.new)) }
+        ensures told { IfOk result (λ more. (s : Stage) → StandsAt self.old s → GoesOn s self.new (H.told host.old) (H.told host.new) (H.counts host.old).faults (H.counts host.new).faults) }
         ensures none { result ≡ Ok false → self.new.todo.items ≡ [] }
         ensures counts { Onward (H.counts host.old) (H.counts host.new) }
     {
@@ -60,7 +63,7 @@ impl Course {
 
     // Reads on until nothing is still to be read.
     fn run<H: Host>(&mut self, host: &mut H) -> Result<(), Memory>
-        ensures told { OnOk result ((s : Stage) → StandsAt self.old s → GoesOn s self.new (H.told host.old) (H.told host.new)) }
+        ensures told { OnOk result ((s : Stage) → StandsAt self.old s → GoesOn s self.new (H.told host.old) (H.told host.new) (H.counts host.old).faults (H.counts host.new).faults) }
         ensures none { OnOk result (self.new.todo.items ≡ []) }
         ensures counts { Onward (H.counts host.old) (H.counts host.new) }
     {
@@ -111,6 +114,7 @@ impl Course {
 /// all (TooBig). A failed call is told, and what was read before it counts.
 pub fn read_all<H: Host>(alloc: Global, host: &mut H, paths: &[Path]) -> Result<Reading, Memory>
     ensures told { IfOk result (λ r. Left (Reads paths.now (meaning_of r)) (H.told host.old) (H.told host.new)) }
+    ensures cause { IfOk result (λ r. (kind : CallKind) (path : Path) → Contains r.faults (fault.Call kind path) → Rose (H.counts host.old).faults (H.counts host.new).faults) }
     ensures only { IfOk result (λ r. All IsConfOrCall r.faults) }
     ensures plain { IfOk result (λ r. All IsPlainRule r.rules.sets) }
     ensures counts { Onward (H.counts host.old) (H.counts host.new) }

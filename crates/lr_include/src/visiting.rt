@@ -177,7 +177,7 @@ impl Course {
 
     // Visits a path that a line or the command line asks for.
     fn turn_ask<H: Host>(&mut self, host: &mut H, ask: Ask) -> Result<(), Memory>
-        ensures told { OnOk result ((s : Stage) → StandsAt self.old s → GoesOn (record s { todo = task.Ask ask ∷ s.todo }) self.new (H.told host.old) (H.told host.new)) }
+        ensures told { OnOk result ((s : Stage) → StandsAt self.old s → GoesOn (record s { todo = task.Ask ask ∷ s.todo }) self.new (H.told host.old) (H.told host.new) (H.counts host.old).faults (H.counts host.new).faults) }
         ensures counts { Onward (H.counts host.old) (H.counts host.new) }
     {
         let lists = self.shallow();
@@ -188,7 +188,7 @@ impl Course {
 
     // Visits a name in a directory, where it isn't barred.
     fn turn_name<H: Host>(&mut self, host: &mut H, ask: Ask) -> Result<(), Memory>
-        ensures told { OnOk result ((s : Stage) → StandsAt self.old s → GoesOn (record s { todo = task.Name ask ∷ s.todo }) self.new (H.told host.old) (H.told host.new)) }
+        ensures told { OnOk result ((s : Stage) → StandsAt self.old s → GoesOn (record s { todo = task.Name ask ∷ s.todo }) self.new (H.told host.old) (H.told host.new) (H.counts host.old).faults (H.counts host.new).faults) }
         ensures counts { Onward (H.counts host.old) (H.counts host.new) }
     {
         let barred = self.is_barred(&ask.path)?;
@@ -202,7 +202,7 @@ impl Course {
 
     /// Reads on by a task that was the next.
     pub(crate) fn turn<H: Host>(&mut self, host: &mut H, task: Task) -> Result<(), Memory>
-        ensures told { OnOk result ((s : Stage) → StandsAt self.old s → GoesOn (record s { todo = task ∷ s.todo }) self.new (H.told host.old) (H.told host.new)) }
+        ensures told { OnOk result ((s : Stage) → StandsAt self.old s → GoesOn (record s { todo = task ∷ s.todo }) self.new (H.told host.old) (H.told host.new) (H.counts host.old).faults (H.counts host.new).faults) }
         ensures counts { Onward (H.counts host.old) (H.counts host.new) }
     {
         match task {

@@ -1,12 +1,13 @@
 use Rattle.std.proofs.Common.{sym, subst}
-use Rattle.std.specs.Prelude.{All}
+use Rattle.std.specs.Prelude.{All, Contains}
+use Rattle.lr_rules.specs.declared.fault.Fault.TheVariants as fault
 use Rattle.lr_conf.specs.Meaning.{Meaning}
 use Rattle.lr_conf.specs.Plain.{IsPlainRule}
 use Rattle.lr_include.specs.Stages.{begun}
 use Rattle.lr_include.proofs.Plain.{all_plain}
 use Rattle.lr_include.proofs.Stages.{reads_all, all_mean, no_todo}
 use Rattle.lr_include.specs.Readers.{IsConfOrCall}
-use Rattle.lr_include.proofs.Allowed.{only_those}
+use Rattle.lr_include.proofs.Allowed.{only_those, told_rose}
 use Rattle.lr_include.proofs.all.read_all.Goals as goal
 
 pub returns-clause-told : goal.returns-clause-told
@@ -24,3 +25,9 @@ returns-clause-only g c =
     let went = c.in_ok-run.ensures.told (begun c.args.paths.now) c.in_ok-course.ensures in
     subst (λ (m : Meaning). All IsConfOrCall m.faults) (sym (all_mean c.args.paths.now _ went.stage went.went (no_todo c.run.new.self went.stage went.stands c.in_ok-run.ensures.none) (c.finish.ensures went.stage went.stands)))
     (only_those c.args.paths.now went.went.visits)
+
+pub returns-clause-cause : goal.returns-clause-cause
+returns-clause-cause g c = λ kind path h.
+    let went = c.in_ok-run.ensures.told (begun c.args.paths.now) c.in_ok-course.ensures in
+    told_rose c.args.paths.now went.went.visits _ _ kind path went.went.counted
+    (subst (λ (m : Meaning). Contains m.faults (fault.Call kind path)) (all_mean c.args.paths.now _ went.stage went.went (no_todo c.run.new.self went.stage went.stands c.in_ok-run.ensures.none) (c.finish.ensures went.stage went.stands)) h)

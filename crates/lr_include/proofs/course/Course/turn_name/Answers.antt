@@ -5,9 +5,9 @@ use Rattle.lr_include.specs.Stages.{room_for}
 use Rattle.lr_include.proofs.course.Course.turn_name.Goals as goal
 
 pub returns-then-barred-clause-told : goal.returns-then-barred-clause-told
-returns-then-barred-clause-told g c = λ s st. name_barred s c.args.self.now c.args.ask _ ((c.in_ok-barred.ensures s st).0 c.if-barred.true) st
+returns-then-barred-clause-told g c = λ s st. name_barred s c.args.self.now c.args.ask _ _ ((c.in_ok-barred.ensures s st).0 c.if-barred.true) st
 
 pub returns-clause-told : goal.returns-clause-told
 returns-clause-told g c = on_ok_as c.after_name.result _ _ c.after_name.ensures (λ f s st.
-    name_turned s c.after_name.new.self c.args.ask c.in_ok-visit.visit (λ bars. let is = (c.in_ok-barred.ensures s st).1 bars in absurd (cc (is, c.if-barred.false)))
+    name_turned s c.after_name.new.self c.args.ask c.in_ok-visit.visit _ _ c.in_ok-visit.ensures.counts.0.0 c.in_ok-visit.ensures.cause (λ bars. let is = (c.in_ok-barred.ensures s st).1 bars in absurd (cc (is, c.if-barred.false)))
     (shown_at c.args.ask.path false false _ (room_for s) c.in_ok-visit.visit refl (c.room_for-room.ensures.room s st) c.in_ok-visit.ensures.told) (f s st))
