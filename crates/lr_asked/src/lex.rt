@@ -1,6 +1,7 @@
 // Items and faults of configuration texts.
 ghost use Rattle.std.specs.Prelude.{◌<◌, ◌^◌, length, IfOk};
 
+use crate::streamed::put_unlike;
 use crate::values::put_bytes;
 use lr_lex::{Item, LexFault, LexKind, Lexer, Word};
 use lr_line::{Line, Trouble};
@@ -90,7 +91,7 @@ fn put_text_of(item: &Item, out: &mut String) -> Result<(), Trouble> {
     }
 }
 
-fn put_item(item: &Item, out: &mut String) -> Result<(), Trouble> {
+pub fn put_item(item: &Item, out: &mut String) -> Result<(), Trouble> {
     put_said(item, out)?;
     put_item_flags(item, out)?;
     put_text_of(item, out)?;
@@ -149,7 +150,19 @@ fn put_text(alloc: Global, text: &[u8], out: &mut String) -> Result<(), Trouble>
     put_items(&mut lexer, out)
 }
 
-/// The items and faults of the text, each followed by a semicolon.
+// What the text tells, and what it tells in pieces where that is something else.
+fn put_either(alloc: Global, text: &[u8], out: &mut String) -> Result<(), Trouble>
+    requires { length text.now < 2 ^ 32 }
+{
+    let mut whole = String::new(alloc);
+    put_text(alloc, text, &mut whole)?;
+    out.push_str(whole.as_str())?;
+    put_unlike(alloc, text, 1, whole.as_str(), out)?;
+    put_unlike(alloc, text, 7, whole.as_str(), out)?;
+    put_unlike(alloc, text, 65_536, whole.as_str(), out)
+}
+
+/// The items and faults of the text, each followed by a semicolon: whole, and in pieces of 1, 7 and 65,536 bytes.
 pub fn lex(line: Line, out: &mut String) -> Result<(), Trouble> {
-    put_text(line.alloc, text_at(line, 1)?, out)
+    put_either(line.alloc, text_at(line, 1)?, out)
 }

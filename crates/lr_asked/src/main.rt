@@ -29,6 +29,7 @@ mod rule;
 mod setting;
 mod sheet;
 mod state;
+mod streamed;
 mod table;
 mod tell;
 mod values;
