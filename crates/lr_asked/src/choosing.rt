@@ -37,6 +37,7 @@ fn stamp(line: Line, text: &[u8]) -> Result<Format, Trouble> {
     Ok(Format {
         pieces: Listed::from_vec(pieces),
         back: Back::Now,
+        serial: false,
     })
 }
 

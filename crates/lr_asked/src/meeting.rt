@@ -42,6 +42,7 @@ fn format(line: Line, at: usize) -> Result<Option<Format>, Trouble> {
     Ok(Some(Format {
         pieces: Listed::from_vec(pieces),
         back: Back::Now,
+        serial: false,
     }))
 }
 

@@ -29,7 +29,7 @@ use Rattle.lr_conf.specs.declared.draft.Draft.{Draft}
 use Rattle.lr_conf.specs.declared.stop.Include.{Include}
 use Rattle.lr_conf.specs.declared.stop.LayerStop.{LayerStop}
 use Rattle.lr_conf.specs.declared.stop.LayerStop.TheVariants as stop
-use Rattle.lr_fields.specs.Fields.{fields_of, last_set, criterion_set, count_set, maxage_set, minage_set, minsize_set, maxsize_set, start_set, extension_set, addextension_set, olddir_set, createolddir_set, create_set, mail_set, pieces_set, dated_set, back_set}
+use Rattle.lr_fields.specs.Fields.{fields_of, last_set, criterion_set, count_set, maxage_set, minage_set, minsize_set, maxsize_set, start_set, extension_set, addextension_set, olddir_set, createolddir_set, create_set, mail_set, pieces_set, dated_set, back_set, serial_set}
 use Rattle.lr_fields.specs.Rules.{pieces_of, rule_of}
 use Rattle.lr_fields.specs.Scripts.{script_fault}
 use Rattle.lr_conf.specs.Meaning.{Line, End, Meaning, ◌and◌, told, conf, script_says, meaning}
@@ -132,7 +132,7 @@ mail_given (set.Mail (Some address)) ok = ok
 mail_given v ok = tt
 
 abbrev are_format : List Piece → Bool
-are_format ps = is_format (record { pieces = ps; back = back.Now })
+are_format ps = is_format (record { pieces = ps; back = back.Now; serial = false })
 
 pieces_given : (v : Set) → S v → Given (λ o. or_none are_format o ≡ true) (pieces_set v)
 pieces_given (set.DateFormat ps) ok = ok
@@ -181,10 +181,10 @@ default_ok criterion.Monthly = ap (λ t. t && true) day_text
 default_ok criterion.Yearly = ap (λ t. t && true) day_text
 default_ok (criterion.Size n) = ap (λ t. t && true) day_text
 
-format_ok : (dated : Bool) (c : Criterion) (o : Option (List Piece)) (at : Back) → or_none are_format o ≡ true → or_none is_format (cond dated (Some (record { pieces = pieces_of c o; back = at })) None) ≡ true
-format_ok false c o at h = refl
-format_ok true c None at h = default_ok c
-format_ok true c (Some ps) at h = h
+format_ok : (dated : Bool) (c : Criterion) (o : Option (List Piece)) (at : Back) (serial : Bool) → or_none are_format o ≡ true → or_none is_format (cond dated (Some (record { pieces = pieces_of c o; back = at; serial = serial })) None) ≡ true
+format_ok false c o at serial h = refl
+format_ok true c None at serial h = default_ok c
+format_ok true c (Some ps) at serial h = h
 
 rule_ok : (file : Path) (at : ℕ) (words : List (List ℕ)) (vs : List Set) → N words → Each S vs → meets_limits (rule_of file at words (fields_of vs)) ≡ true
 rule_ok file at words vs n ok =
@@ -202,7 +202,7 @@ rule_ok file at words vs n ok =
     (and_true _ _ (last_given S (λ m. is_make m ≡ true) createolddir_set make.No refl createolddir_given vs ok)
     (and_true _ _ (last_given S (λ m. is_make m ≡ true) create_set make.No refl create_given vs ok)
     (and_true _ _ (last_given S (λ o. or_none is_address o ≡ true) mail_set None refl mail_given vs ok)
-    (format_ok (last_set dated_set false vs) (last_set criterion_set (criterion.Size 1048576) vs) (last_set pieces_set None vs) (last_set back_set back.Now vs)
+    (format_ok (last_set dated_set false vs) (last_set criterion_set (criterion.Size 1048576) vs) (last_set pieces_set None vs) (last_set back_set back.Now vs) (last_set serial_set false vs)
     (last_given S (λ o. or_none are_format o ≡ true) pieces_set None refl pieces_given vs ok)))))))))))))))
 
 walk : (b : Built) → Walk b S N (λ r. meets_limits r ≡ true)

@@ -21,7 +21,7 @@ pieces_of c (Some pieces) = pieces
 pieces_of c None = default_pieces c
 
 abbrev pub format_of : Fields → Option Format
-format_of f = if f.dated then Some (record { pieces = pieces_of f.rule.criterion f.pieces; back = f.back }) else None
+format_of f = if f.dated then Some (record { pieces = pieces_of f.rule.criterion f.pieces; back = f.back; serial = f.serial }) else None
 
 -- the rule of a definition that is whole
 abbrev pub rule_of : Path → ℕ → List (List ℕ) → Fields → Rule

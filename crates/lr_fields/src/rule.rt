@@ -50,6 +50,7 @@ pub fn format_of(alloc: Global, fields: &Fields) -> Result<Option<Format>, Memor
     Ok(Some(Format {
         pieces: pieces_of(alloc, fields.rule.criterion, &fields.pieces)?,
         back: fields.back,
+        serial: fields.serial,
     }))
 }
 

@@ -63,7 +63,7 @@ value_meets value.Extension w = setting_meets is_extension set.Extension (λ a h
 value_meets value.AddExtension w = setting_meets is_extension set.AddExtension (λ a h. h) (extension_value w) (extension_meets w)
 value_meets value.Olddir w = setting_meets is_olddir (λ dir. set.Olddir (Some dir)) (λ a h. h) (olddir_value w) (olddir_meets w)
 value_meets value.Mail w = setting_meets is_address (λ a. set.Mail (Some a)) (λ a h. h) (address_value w) (address_meets w)
-value_meets value.DateFormat w = setting_meets (λ ps. is_format (record { pieces = ps; back = back.Now })) set.DateFormat (λ a h. h) (format_value w) (format_meets w)
+value_meets value.DateFormat w = setting_meets (λ ps. is_format (record { pieces = ps; back = back.Now; serial = false })) set.DateFormat (λ a h. h) (format_value w) (format_meets w)
 
 -- ---- lines
 

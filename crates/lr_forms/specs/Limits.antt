@@ -26,7 +26,7 @@ set_meets (set.Olddir (Some dir)) = is_olddir dir
 set_meets (set.CreateOlddir m) = is_make m
 set_meets (set.Create m) = is_make m
 set_meets (set.Mail (Some address)) = is_address address
-set_meets (set.DateFormat pieces) = is_format (record { pieces = pieces; back = back.Now })
+set_meets (set.DateFormat pieces) = is_format (record { pieces = pieces; back = back.Now; serial = false })
 set_meets v = true
 
 -- what is set meets its limit, and names are names of logs

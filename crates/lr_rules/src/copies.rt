@@ -64,13 +64,15 @@ fn copy_scripts(alloc: Global, scripts: &Scripts) -> Result<Scripts, Memory>
     })
 }
 
-fn copy_format(alloc: Global, format: &Option<Format>) -> Result<Option<Format>, Memory>
+/// A copy of the format, where there is one.
+pub fn copy_format(alloc: Global, format: &Option<Format>) -> Result<Option<Format>, Memory>
     ensures { IfOk result (λ copy. copy ≡ format.now) }
 {
     match format {
         Some(format) => Ok(Some(Format {
             pieces: Listed::from_vec(format.pieces.as_slice().to_vec(alloc)?),
             back: format.back,
+            serial: format.serial,
         })),
         None => Ok(None),
     }

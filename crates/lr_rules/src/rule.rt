@@ -64,6 +64,8 @@ pub enum Piece {
 pub struct Format {
     pub pieces: Listed<Piece>,
     pub back: Back,
+    /// Whether a name that is taken gets a serial number behind its stamp.
+    pub serial: bool,
 }
 
 /// Whether a file or directory is made, and with which mode (permission bits).

@@ -77,7 +77,7 @@ written_back (b ∷ bs) true = by (field_of b) refl (written_back bs false)
     by (Some f) is k = ap (λ x. 37 ∷ x ∷ written (pieces_from false bs)) (letter_at b f is) ∙ ap (λ x. 37 ∷ b ∷ x) k
 
 abbrev pub tested : List Piece → Bool
-tested ps = is_format (record { pieces = ps; back = back.Now })
+tested ps = is_format (record { pieces = ps; back = back.Now; serial = false })
 
 abbrev given : Bool → List Piece → Result (List Piece) ConfKind
 given b ps = cond b (Ok ps) (Err kind.BadFormat)

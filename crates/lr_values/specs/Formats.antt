@@ -12,7 +12,7 @@ use Rattle.lr_rules.specs.Limits.{is_plain_piece, written, is_format}
 -- The word writes these pieces, and they are a format: bytes that stand for themselves, and the fields of a moment.
 pub record Writes (word : List ℕ) (pieces : List Piece) : Type 0 where
   pub bytes : written pieces ≡ word
-  pub format : is_format (record { pieces = pieces; back = back.Now }) ≡ true
+  pub format : is_format (record { pieces = pieces; back = back.Now; serial = false }) ≡ true
 
 -- the format that the word writes; BadFormat where it writes none
 abbrev pub FormatSays : List ℕ → Result (List Piece) ConfKind → Type 0
@@ -47,7 +47,7 @@ pieces_from true (b ∷ bs) = behind_percent b (field_of b) (pieces_from false b
 
 -- the format that the word says: its pieces, where they are one
 unfoldable pub format_value : List ℕ → Result (List Piece) ConfKind
-format_value word = let pieces = pieces_from false word in if is_format (record { pieces = pieces; back = back.Now }) then Ok pieces else Err kind.BadFormat
+format_value word = let pieces = pieces_from false word in if is_format (record { pieces = pieces; back = back.Now; serial = false }) then Ok pieces else Err kind.BadFormat
 
 -- ---- pieces
 
