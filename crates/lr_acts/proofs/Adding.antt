@@ -9,9 +9,9 @@ use Rattle.lr_host.proofs.Left.{left_as, left_then, left_first}
 use Rattle.lr_plan.specs.declared.mark.Mark.{Mark}
 use Rattle.lr_plan.specs.declared.step.Step.{Step}
 use Rattle.lr_plan.specs.Outcomes.{Succeeds, Fails, marks_of}
-use Rattle.lr_plan.specs.Counted.{AreCounted}
+use Rattle.lr_host.specs.Counted.{AreCounted}
 use Rattle.lr_plan.specs.Course.{Part, Nothing, StepFails}
-use Rattle.lr_plan.proofs.Counts.{free_none, counted_on, counted_none, counted_free, counted_call, counted_script}
+use Rattle.lr_host.proofs.Counts.{free_none, counted_on, counted_none, counted_free, counted_call, counted_script}
 use Rattle.lr_acts.specs.declared.progress.Progress.{Progress}
 use Rattle.lr_acts.specs.Adding.{Adds, AreCaused, HasRoom, Fills}
 use Rattle.lr_acts.specs.Making.{FaultCause, StepNames, WasMade, list_of}

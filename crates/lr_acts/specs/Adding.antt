@@ -6,7 +6,7 @@ use Rattle.lr_host.specs.declared.journal.Journal.{Journal}
 use Rattle.lr_host.specs.Told.{Left, Counts, Onward}
 use Rattle.lr_plan.specs.declared.mark.Mark.{Mark}
 use Rattle.lr_plan.specs.declared.step.Step.{Step}
-use Rattle.lr_plan.specs.Counted.{AreCounted}
+use Rattle.lr_host.specs.Counted.{AreCounted}
 use Rattle.lr_plan.specs.Course.{Part}
 use Rattle.lr_acts.specs.declared.progress.Progress.{Progress}
 use Rattle.lr_acts.specs.Making.{FaultCause}

@@ -1,5 +1,5 @@
 -- What a look says of the thing that the path names.
-use Rattle.std.proofs.Common.{◌≡◌, ◌≢◌, ℕ, refl, Option, Some, None}
+use Rattle.std.proofs.Common.{◌≡◌, ◌≢◌, ℕ, refl, Some, None}
 use Rattle.lr_host.specs.declared.thing.Thing.{Thing}
 use Rattle.lr_host.specs.declared.thing.Thing.TheVariants as thing
 use Rattle.lr_host.specs.declared.thing.Kind.TheVariants as kind

@@ -1,9 +1,7 @@
 -- What the tool left, with writers' entries between: joined, and cut in two.
-use Rattle.std.proofs.Common.{◌≡◌, ℕ, ◌+◌, ◌≤◌, ap, subst, arith, refl, List, [], ◌∷◌, ◌++◌}
-use Rattle.lr_rules.specs.declared.path.Path.{Path}
+use Rattle.std.proofs.Common.{◌≡◌, subst, refl, List, [], ◌∷◌, ◌++◌}
 use Rattle.lr_host.specs.declared.entry.Entry.{Entry}
-use Rattle.lr_host.specs.declared.entry.Entry.TheVariants.{Attach, Feed, Flush, Detach}
-use Rattle.lr_host.specs.World.{Past, Opens, ◌▸◌, world, then}
+use Rattle.lr_host.specs.World.{Past, ◌▸◌, world, then}
 use Rattle.lr_host.specs.Fits.{Fits}
 use Rattle.lr_host.specs.Told.{Each, IsTools, Made, at_first, by_writer, by_tool}
 use Rattle.lr_host.specs.Opening.{IsJournal}

@@ -9,10 +9,10 @@ use Rattle.lr_host.specs.declared.entry.Entry.TheVariants as entry
 use Rattle.lr_host.specs.Lists.{IsIn}
 use Rattle.lr_host.specs.World.{Past, Opens, ◌▸◌, world, names}
 use Rattle.lr_host.specs.Fits.{Fits}
-use Rattle.lr_host.specs.Told.{Each, IsTools, IsWriters, Made, at_first, by_writer, by_tool, Then}
+use Rattle.lr_host.specs.Told.{IsTools, IsWriters, Made, at_first, by_writer, by_tool, Then}
 use Rattle.lr_host.specs.Steps.{is_change}
 use Rattle.lr_host.specs.Steady.{AttachesOnly, AttachedOnly}
-use Rattle.lr_host.specs.Quiet.{is_disk_change, ChangesNothing, ChangeNothing, IsQuiet, AreQuiet, AttachedOnlySince, from_here, further, Quiet, here, wrote, looked}
+use Rattle.lr_host.specs.Quiet.{is_disk_change, ChangeNothing, IsQuiet, AreQuiet, AttachedOnlySince, from_here, further, Quiet, here, wrote, looked}
 use Rattle.lr_host.proofs.Each.{each_append, each_as, none_pass, none_passed, filter_reverse}
 use Rattle.lr_host.proofs.Made.{made_on}
 use Rattle.lr_host.proofs.More.{IsMore, more_on, wrote_names, attach_names}

@@ -1,4 +1,5 @@
 pub mod Below
+pub mod Counted
 pub mod Fits
 pub mod Forward
 pub mod Kept

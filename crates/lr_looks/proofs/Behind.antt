@@ -20,8 +20,8 @@ use Rattle.lr_rules.specs.declared.fault.Fault.{Fault}
 use Rattle.lr_host.specs.Told.{Counts, NoneFell, Rose}
 use Rattle.lr_family.specs.Stands.{IsFailedCall}
 use Rattle.lr_looks.specs.declared.found.Found.{Found}
-use Rattle.lr_plan.specs.Counted.{AddsFaults}
-use Rattle.lr_plan.proofs.Counts.{free_none, adds_free, adds_call}
+use Rattle.lr_host.specs.Counted.{AddsFaults}
+use Rattle.lr_host.proofs.Counts.{free_none, adds_free, adds_call}
 use Rattle.lr_looks.specs.Found.{FoundLog, found_in, all_found_in, HasNumbers, HaveNumbers}
 use Rattle.lr_looks.specs.Families.{ShowFamilies, HadMemory, AllHadMemory, stop_fault, family_fault, family_faults, LookedLog, looked_at, looked_by, looked_of, LookedAtFamilies, LookedAtSomeFamilies, FamilySight, Stood, Stopped, sight_of, ShowsMembersIn, ShowsFamily, behind_listing, with_listing, not_listed}
 use Rattle.lr_looks.specs.Internal.{TakesListing, before, taken, LacksListing, IsAt, NoListing, lacks, unadded, FamilyPart, AddsLooked, AddsFamily, AddsFamilies, LooksBySets, AreOf}

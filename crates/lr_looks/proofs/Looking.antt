@@ -19,8 +19,8 @@ use Rattle.lr_glob.specs.Stops.{IsFailedCall}
 use Rattle.lr_glob.specs.Words.{Comes, Stopped}
 use Rattle.lr_looks.specs.declared.found.Found.{Found}
 use Rattle.lr_looks.specs.Asked.{Word, AreTexts}
-use Rattle.lr_plan.specs.Counted.{AddsFaults}
-use Rattle.lr_plan.proofs.Counts.{AreFree, free_none, adds_free, adds_call}
+use Rattle.lr_host.specs.Counted.{AddsFaults}
+use Rattle.lr_host.proofs.Counts.{AreFree, free_none, adds_free, adds_call}
 use Rattle.lr_looks.specs.Found.{FoundLog, found_in, all_found_in, HasLogPath, HaveLogPaths}
 use Rattle.lr_looks.specs.Sights.{WordSight, found_at, found_by, glob_fault, fault_of, found_of, faults_of, ShowsWord, ShowWords, WordHadMemory, WordsHadMemory, AreFoundOf, LookedAt, LookedAtSome}
 use Rattle.lr_looks.specs.Internal.{AddsFound}

@@ -11,8 +11,8 @@ use Rattle.lr_host.specs.declared.journal.Journal.{Journal}
 use Rattle.lr_host.specs.Told.{Counts, NoneFell, Left}
 use Rattle.lr_host.proofs.Left.{left_as, left_then}
 use Rattle.lr_plan.specs.declared.looks.Looks.{Looks}
-use Rattle.lr_plan.specs.Counted.{AddsFaults}
-use Rattle.lr_plan.proofs.Counts.{AreFree, free_none, free_on, adds_on, adds_free}
+use Rattle.lr_host.specs.Counted.{AddsFaults}
+use Rattle.lr_host.proofs.Counts.{AreFree, free_none, free_on, adds_on, adds_free}
 use Rattle.lr_kept.specs.declared.choice.Choice.{Choice}
 use Rattle.lr_kept.specs.declared.choice.Choice.TheVariants.{Kept, Again, MemberOf, Reserved, Meets}
 use Rattle.lr_looks.specs.Asked.{Word, asked_by, AreTexts}

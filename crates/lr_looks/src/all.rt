@@ -2,7 +2,7 @@
 ghost use Rattle.std.specs.Prelude.{◌≡◌, OnErr, IfOk, length};
 ghost use Rattle.lr_host.specs.Told.{Left, Onward};
 ghost use Rattle.lr_looks.specs.Asked.{CanAskAll};
-ghost use Rattle.lr_plan.specs.Counted.{AddsFaults};
+ghost use Rattle.lr_host.specs.Counted.{AddsFaults};
 ghost use Rattle.lr_looks.specs.Internal.{AreReady};
 ghost use Rattle.lr_looks.specs.Shown.{LooksAtAll, ShowsSomeLooks};
 

@@ -6,7 +6,7 @@ ghost use Rattle.lr_family.specs.declared.listing.Listing.{Listing};
 ghost use Rattle.lr_family.specs.Stands.{IsFailedCall};
 ghost use Rattle.lr_family.specs.Places.{AreNamed};
 ghost use Rattle.lr_family.specs.declared.stand.StandStop.TheVariants as stop;
-ghost use Rattle.lr_plan.specs.Counted.{AddsFaults};
+ghost use Rattle.lr_host.specs.Counted.{AddsFaults};
 ghost use Rattle.lr_looks.specs.Families.{LookedLog, looked_at, looked_by, ShowsFamily, sight_of, stop_fault, LookedAtFamilies, LooksAtFamilies, LookedAtSomeFamilies};
 ghost use Rattle.lr_looks.specs.Found.{found_in, all_found_in, paths_of, HasNumbers, HaveNumbers};
 ghost use Rattle.lr_looks.specs.Internal.{AreListings, FamilyPart, AddsLooked, AddsFamily, AddsFamilies, LooksBySets, AreReady, AreOf};

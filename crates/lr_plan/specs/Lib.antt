@@ -1,5 +1,4 @@
 pub mod Copying
-pub mod Counted
 pub mod Course
 pub mod Done
 pub mod Internal

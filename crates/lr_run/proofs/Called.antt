@@ -12,12 +12,12 @@ use Rattle.lr_plan.specs.declared.looks.SetLooks.{SetLooks}
 use Rattle.lr_plan.specs.declared.mark.Mark.{Mark}
 use Rattle.lr_plan.specs.declared.step.Step.{Step}
 use Rattle.lr_plan.specs.declared.step.Step.TheVariants.{Removes, Renames, Rotated}
-use Rattle.lr_plan.specs.Counted.{call_in, calls_in}
+use Rattle.lr_host.specs.Counted.{call_in, calls_in}
 use Rattle.lr_plan.specs.Done.{PlanDone}
 use Rattle.lr_plan.specs.Outcomes.{Fails}
 use Rattle.lr_plan.specs.Planned.{plan_of}
 use Rattle.lr_plan.specs.Steps.{steps_of_plan}
-use Rattle.lr_plan.proofs.Counts.{calls_on}
+use Rattle.lr_host.proofs.Counts.{calls_on}
 use Rattle.lr_seen.specs.Built.{AreBuiltRules}
 use Rattle.lr_run.specs.Runs.{Worked, plan_in}
 use Rattle.lr_run.proofs.Folded.{Folds, acts_fold}

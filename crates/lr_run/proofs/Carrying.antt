@@ -18,7 +18,7 @@ use Rattle.lr_plan.specs.declared.mark.Mark.TheVariants as mark
 use Rattle.lr_plan.specs.Course.{Course}
 use Rattle.lr_plan.specs.Done.{SetsDone, rotated_logs}
 use Rattle.lr_plan.specs.Steps.{state_steps}
-use Rattle.lr_plan.proofs.Counts.{counted_on}
+use Rattle.lr_host.proofs.Counts.{counted_on}
 use Rattle.lr_acts.specs.declared.progress.Progress.{Progress}
 use Rattle.lr_acts.specs.Adding.{Adds}
 use Rattle.lr_acts.specs.Making.{all_of_sets}

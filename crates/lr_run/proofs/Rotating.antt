@@ -19,7 +19,7 @@ use Rattle.lr_host.proofs.Quiet.{quiet_both}
 use Rattle.lr_kept.proofs.Finding.{meet_back}
 use Rattle.lr_due.specs.declared.answer.Due.{Due}
 use Rattle.lr_plan.specs.declared.looks.LogLook.{LogLook}
-use Rattle.lr_plan.specs.Counted.{calls_in}
+use Rattle.lr_host.specs.Counted.{calls_in}
 use Rattle.lr_plan.specs.Done.{PlanDone}
 use Rattle.lr_plan.specs.Planned.{decision}
 use Rattle.lr_rotations.specs.AllTurns.{AllTurned, other_paths}

@@ -32,13 +32,13 @@ use Rattle.lr_plan.specs.declared.mark.Mark.{Mark}
 use Rattle.lr_plan.specs.declared.planned.Plan.{Plan}
 use Rattle.lr_plan.specs.declared.step.SetSteps.{SetSteps}
 use Rattle.lr_plan.specs.declared.step.Step.{Step}
-use Rattle.lr_plan.specs.Counted.{AddsFaults}
+use Rattle.lr_host.specs.Counted.{AddsFaults}
 use Rattle.lr_plan.specs.Course.{Course}
 use Rattle.lr_plan.specs.Done.{SetsDone, rotated_logs}
 use Rattle.lr_plan.specs.Internal.Asking.{asks, CanMake, CanEach, CanSet, CanSets}
 use Rattle.lr_plan.specs.Planned.{decision, hindrances, is_too_high, where_due, log_faults, all_plans, all_faults, plan_of, CanPlanAll}
 use Rattle.lr_plan.specs.Steps.{steps_of_set, steps_of_plan, state_steps}
-use Rattle.lr_plan.proofs.Counts.{AreFree, free_none, free_on, adds_on, adds_free, adds_call}
+use Rattle.lr_host.proofs.Counts.{AreFree, free_none, free_on, adds_on, adds_free, adds_call}
 use Rattle.lr_acts.specs.declared.progress.Progress.{Progress}
 use Rattle.lr_acts.specs.Making.{HasProgram, all_of_sets}
 use Rattle.lr_looks.specs.Asked.{CanAsk, CanAskAll}

@@ -9,7 +9,7 @@ ghost use Rattle.lr_host.specs.World.{Past};
 ghost use Rattle.lr_host.specs.Opening.{IsJournal};
 ghost use Rattle.lr_host.specs.Quiet.{AreQuiet};
 ghost use Rattle.lr_host.specs.Told.{Made};
-ghost use Rattle.lr_plan.specs.Counted.{calls_in};
+ghost use Rattle.lr_host.specs.Counted.{calls_in};
 ghost use Rattle.lr_rotations.specs.Target.{Target, IsOneOf};
 ghost use Rattle.lr_seen.specs.Built.{AreBuiltRules};
 ghost use Rattle.lr_run.specs.Rotated.{rotated_in, IsRotatedAmong};

@@ -5,7 +5,7 @@ ghost use Rattle.lr_rules.specs.Path.{parent_of};
 ghost use Rattle.lr_host.specs.Told.{Left, Onward, Rose};
 ghost use Rattle.lr_durable.specs.StateWhole.{KeepsWhole};
 ghost use Rattle.lr_rotations.specs.Keeps.{KeepsSafe};
-ghost use Rattle.lr_plan.specs.Counted.{AddsFaults};
+ghost use Rattle.lr_host.specs.Counted.{AddsFaults};
 ghost use Rattle.lr_rotations.specs.AllTurns.{IsWholeRun};
 ghost use Rattle.lr_seen.specs.Built.{AreBuiltRules};
 ghost use Rattle.lr_run.specs.Internal.{RunsOn, StopsSo, dir_fault_of};

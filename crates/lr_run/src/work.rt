@@ -6,7 +6,7 @@ ghost use Rattle.lr_rules.specs.declared.fault.StateKind.TheVariants as kind;
 ghost use Rattle.lr_rules.specs.Path.{parent_of};
 ghost use Rattle.lr_host.specs.declared.entry.Entry.TheVariants as entry;
 ghost use Rattle.lr_host.specs.Told.{Left, Can, Onward};
-ghost use Rattle.lr_plan.specs.Counted.{AddsFaults};
+ghost use Rattle.lr_host.specs.Counted.{AddsFaults};
 ghost use Rattle.lr_plan.specs.Planned.{CanPlanAll};
 ghost use Rattle.lr_reading.specs.Sights.{state_part};
 ghost use Rattle.lr_seen.specs.Built.{AreBuiltRules};

@@ -8,8 +8,8 @@ use Rattle.lr_host.specs.declared.journal.Journal.{Journal}
 use Rattle.lr_host.specs.World.{past}
 use Rattle.lr_host.specs.Told.{Left, not_told, is_told, at_first, Counts, NoneFell, Onward}
 use Rattle.lr_host.proofs.Made.{made_on}
-use Rattle.lr_plan.specs.Counted.{AreCounted}
-use Rattle.lr_plan.proofs.Counts.{counted_free, counted_call, counted_script}
+use Rattle.lr_host.specs.Counted.{AreCounted}
+use Rattle.lr_host.proofs.Counts.{counted_free, counted_call, counted_script}
 use Rattle.lr_acts.specs.Adding.{AreCaused}
 use Rattle.lr_acts.specs.Making.{FaultCause}
 use Rattle.lr_acts.specs.Named.{IsNamed, WasNamed, untold, at_moment}

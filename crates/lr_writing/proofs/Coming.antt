@@ -14,7 +14,7 @@ use Rattle.lr_plan.specs.Steps.{state_part, state_steps}
 use Rattle.lr_plan.specs.Course.{Course, StepThen}
 use Rattle.lr_plan.specs.Internal.Asking.{CanMake}
 use Rattle.lr_plan.specs.Outcomes.{Succeeds, Fails, marks_of}
-use Rattle.lr_plan.proofs.Counts.{counted_free, free_none}
+use Rattle.lr_host.proofs.Counts.{counted_free, free_none}
 use Rattle.lr_plan.proofs.Courses.{course_then}
 use Rattle.lr_acts.specs.Making.{FaultCause}
 use Rattle.lr_writing.specs.Target.{Target}

@@ -10,7 +10,7 @@ use Rattle.lr_host.specs.Told.{Left, Each, Counts, Onward}
 use Rattle.lr_plan.specs.declared.step.Step.{Step}
 use Rattle.lr_plan.specs.declared.step.Step.TheVariants.{Removes, Renames, Takes, Appends, SyncsFile, SyncsDir}
 use Rattle.lr_plan.specs.Steps.{step_if}
-use Rattle.lr_plan.specs.Counted.{AreCounted}
+use Rattle.lr_host.specs.Counted.{AreCounted}
 use Rattle.lr_plan.specs.Course.{Course}
 use Rattle.lr_plan.specs.Internal.Asking.{CanMake}
 use Rattle.lr_acts.specs.Adding.{AreCaused}

@@ -3,7 +3,7 @@ use Rattle.std.specs.Vec.Iter.{into_iter_items}
 use Rattle.std.proofs.lemmas.List.{append-nil, nil_from_length}
 use Rattle.lr_looks.specs.declared.found.Found.{Found}
 use Rattle.lr_looks.proofs.Known.{places_none}
-use Rattle.lr_plan.proofs.Counts.{adds_none, adds_on}
+use Rattle.lr_host.proofs.Counts.{adds_none, adds_on}
 use Rattle.lr_looks.proofs.Behind.{families_none, families_more, families_part, families_all, next_numbers, next_of}
 use Rattle.lr_looks.proofs.families.look_at_each.Goals as goal
 

@@ -1,6 +1,6 @@
 use Rattle.std.proofs.Common.{◌≡◌, ◌<◌, ◌∷◌, [], List, length, map, take, get_or, ap, subst, rules, arith}
 use Rattle.std.proofs.lemmas.List.{take_all}
-use Rattle.lr_plan.proofs.Counts.{adds_none, adds_on}
+use Rattle.lr_host.proofs.Counts.{adds_none, adds_on}
 use Rattle.lr_looks.specs.Asked.{word_of, AreTexts}
 use Rattle.lr_looks.specs.Found.{all_found_in}
 use Rattle.lr_looks.specs.Internal.{AddsFound}

@@ -1,6 +1,6 @@
 use Rattle.std.proofs.Common.{◌≡◌, [], List, take, sym, ap, ◌∙◌, subst, rules, arith}
 use Rattle.std.proofs.lemmas.List.{take_all}
-use Rattle.lr_plan.proofs.Counts.{adds_none, adds_on}
+use Rattle.lr_host.proofs.Counts.{adds_none, adds_on}
 use Rattle.lr_rules.specs.declared.rule.Rule.{Rule}
 use Rattle.lr_looks.specs.Asked.{words_of, asked_by, AreTexts}
 use Rattle.lr_looks.specs.Found.{FoundLog, all_found_in, HaveLogPaths}

@@ -1,6 +1,6 @@
 use Rattle.std.proofs.Common.{[], take}
 use Rattle.lr_host.specs.Told.{Left, Onward}
-use Rattle.lr_plan.specs.Counted.{AddsFaults}
+use Rattle.lr_host.specs.Counted.{AddsFaults}
 use Rattle.lr_looks.specs.Asked.{asked_by, AreTexts}
 use Rattle.lr_looks.specs.Found.{all_found_in, HaveLogPaths}
 use Rattle.lr_looks.specs.Internal.{AddsFound}

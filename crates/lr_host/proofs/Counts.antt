@@ -8,7 +8,7 @@ use Rattle.lr_rules.specs.declared.fault.Fault.TheVariants as fault
 use Rattle.lr_rules.specs.declared.fault.Phase.{Phase}
 use Rattle.lr_rules.specs.declared.path.Path.{Path}
 use Rattle.lr_host.specs.Told.{Counts, NoneFell, Rose}
-use Rattle.lr_plan.specs.Counted.{calls_in, scripts_in, HasNoOut, RoseBy, AreCounted, AddsFaults}
+use Rattle.lr_host.specs.Counted.{calls_in, scripts_in, HasNoOut, RoseBy, AreCounted, AddsFaults}
 
 none_more : (n : ℕ) → 0 + n ≡ n
 none_more n = omega arith
