@@ -4,6 +4,7 @@ use Rattle.lr_rules.specs.declared.path.Path.{Path}
 use Rattle.lr_rules.specs.declared.rule.Naming.{Naming}
 use Rattle.lr_rules.specs.declared.rule.Format.{Format}
 use Rattle.lr_rules.specs.Names.{IsMemberAt, HasMemberShape}
+use Rattle.lr_rules.specs.Path.{path_fault}
 use Rattle.lr_host.specs.Lists.{AreDistinct}
 use Rattle.lr_host.specs.World.{Names}
 use Rattle.lr_host.specs.Fits.{IsFileAt}
@@ -22,9 +23,10 @@ abbrev pub IsKeyBy : Order → Naming → (Path → Option ℤ) → Type 0
 IsKeyBy Numbered n key = (x : Path) (k : ℤ) → (key x ≡ Some k) ↔ ((place : ℕ) × (k ≡ pos place) × IsMemberAt n place x)
 IsKeyBy Dated n key = (x : Path) (k : ℤ) → key x ≡ Some k → HasMemberShape n x
 
--- A log and the naming of its members, of which it is none.
+-- A log, which is a path, and the naming of its members, of which it is none.
 pub record LogSet : Type 0 where
   pub log : Path
+  pub log_path : path_fault log ≡ None
   pub naming : Naming
   -- of a numbered member its place, of a dated one the moment of its stamp, None at every other path
   pub key : Path → Option ℤ

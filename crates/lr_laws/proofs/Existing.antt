@@ -10,7 +10,7 @@ use Rattle.std.proofs.lemmas.Slice.Eq.{bytes_eq-Decides}
 use Rattle.lr_rules.specs.declared.path.Path.{Path}
 use Rattle.lr_rules.specs.declared.rule.Naming.{Naming}
 use Rattle.lr_rules.specs.declared.rule.Format.{Format}
-use Rattle.lr_rules.specs.Path.{joined}
+use Rattle.lr_rules.specs.Path.{joined, path_fault}
 use Rattle.lr_rules.specs.Names.{IsMemberAt}
 use Rattle.lr_host.specs.Sets.{LogSet, order_of, IsKeyBy}
 
@@ -87,8 +87,8 @@ no_key n x apart = go (key_by n x) refl
     go None q = q
     go (Some k) q = let m : (place : ℕ) × (k ≡ pos place) × IsMemberAt n place x = reads n x (number_in n x) k q in absurd (apart m.0 m.2)
 
-pub set_exists : (log : Path) (n : Naming) → n.dated ≡ None → ((place : ℕ) → IsMemberAt n place log → ⊥) → (s : LogSet) × (s.log ≡ log) × (s.naming ≡ n)
-set_exists log n numbered apart = (record { log = log; naming = n; key = key_by n; keys = keys; log_apart = no_key n log apart }, refl, refl)
+pub set_exists : (log : Path) (n : Naming) → path_fault log ≡ None → n.dated ≡ None → ((place : ℕ) → IsMemberAt n place log → ⊥) → (s : LogSet) × (s.log ≡ log) × (s.naming ≡ n)
+set_exists log n path numbered apart = (record { log = log; log_path = path; naming = n; key = key_by n; keys = keys; log_apart = no_key n log apart }, refl, refl)
   where
     keys : IsKeyBy (order_of n.dated) n (key_by n)
     keys = subst (λ (d : Option Format). IsKeyBy (order_of d) n (key_by n)) (sym numbered) (λ x k. ((λ is. reads n x (number_in n x) k is), (λ m. writes n x k m)))

@@ -9,7 +9,6 @@ use Rattle.lr_rules.specs.declared.rule.Count.{Count}
 use Rattle.lr_rules.specs.declared.rule.Naming.{Naming}
 use Rattle.lr_rules.specs.declared.rules.Rules.{Rules}
 use Rattle.lr_rules.specs.Names.{IsOwnName, the_log, IsName, Meet}
-use Rattle.lr_rules.specs.Path.{path_fault}
 use Rattle.lr_host.specs.declared.thing.Thing.TheVariants as thing
 use Rattle.lr_host.specs.declared.entry.Entry.{Entry}
 use Rattle.lr_host.specs.declared.entry.Entry.TheVariants as entry
@@ -149,11 +148,11 @@ same_walk s y k key p _ _ (by_tool {es = es} {q = q} {e = e} m i f) a none = go 
     go further false h a = looked_names q e y i (no_disk_change e h) ∙ further a
 
 pub others_left : (s : LogSet) (u q : Past) (state : Path) (now : Moment) (rules : Rules) (tail : List Entry) (t : AllTurns state rules tail) → Made (u ▸ entry.Starts state now rules) (reverse tail) q
-    → path_fault s.log ≡ None → IsJournal (u ▸ entry.Starts state now rules) → IsSafe s (u ▸ entry.Starts state now rules) → IsSteady s q → ((x : Target) → IsOneOf x t.targets → x.log ≢ s.log) → (y : Path) (k : ℤ) → s.key y ≡ Some k → names (world q) y ≡ names (world u) y
-others_left s u q state now rules tail t m path journal safe st ne y k key = same_walk s y k key (u ▸ entry.Starts state now rules) q (reverse tail) m apart (none_attached s q st)
+    → IsJournal (u ▸ entry.Starts state now rules) → IsSafe s (u ▸ entry.Starts state now rules) → IsSteady s q → ((x : Target) → IsOneOf x t.targets → x.log ≢ s.log) → (y : Path) (k : ℤ) → s.key y ≡ Some k → names (world q) y ≡ names (world u) y
+others_left s u q state now rules tail t m journal safe st ne y k key = same_walk s y k key (u ▸ entry.Starts state now rules) q (reverse tail) m apart (none_attached s q st)
   where
     changes : filter is_change tail ≡ filter is_change t.acts
     changes = ap (filter is_change) t.joined ∙ (filter-append is_change t.looks t.acts ∙ ap (λ xs. xs ++ filter is_change t.acts) (quiet_changes t.looks t.quiet))
 
     apart : Each (IsApart s) (filter is_change (reverse tail))
-    apart = subst (Each (IsApart s)) (sym (filter_reverse is_change tail)) (each_reverse (IsApart s) (filter is_change tail) (subst (Each (IsApart s)) (sym changes) (acts_apart s u q state now rules tail t m path journal safe st ne)))
+    apart = subst (Each (IsApart s)) (sym (filter_reverse is_change tail)) (each_reverse (IsApart s) (filter is_change tail) (subst (Each (IsApart s)) (sym changes) (acts_apart s u q state now rules tail t m journal safe st ne)))

@@ -17,7 +17,6 @@ use Rattle.lr_rules.specs.Limits.{meets_limits, is_count, is_small, is_criterion
 use Rattle.lr_rules.specs.declared.rule.Format.{Format}
 use Rattle.lr_rules.specs.Match.{WordGives, literal, RuleGives, is_wildcard, literal_path}
 use Rattle.lr_rules.specs.Names.{IsMemberAt, naming_of, Meet}
-use Rattle.lr_rules.specs.Path.{path_fault}
 use Rattle.lr_host.specs.declared.entry.Entry.{Entry}
 use Rattle.lr_host.specs.declared.entry.Entry.TheVariants as entry
 use Rattle.lr_host.specs.World.{Past, ◌▸◌, world, names}
@@ -122,9 +121,9 @@ stood_before x p _ es (by_writer {q = q} {e = e} m i f) a s = stood_before x p q
 stood_before x p _ _ (by_tool {es = es} {q = q} {e = e} m i f) a s = stood_before x p q es m a.1 (quiet_stood x q e a.0 s)
 
 -- a set of another log, that is steady where the log names a file, doesn't meet the log's
-pub no_meet : (s : LogSet) (u v : Past) (rules : List Rule) (looks : List Entry) (log : Path) (n : Naming) (c : Count) → AreQuiet looks → Made u (reverse looks) v → path_fault s.log ≡ None → ((x : Path) → StoodAtStart x u → IsFileAt (names (world u)) x) → n.dated ≡ None
+pub no_meet : (s : LogSet) (u v : Past) (rules : List Rule) (looks : List Entry) (log : Path) (n : Naming) (c : Count) → AreQuiet looks → Made u (reverse looks) v → ((x : Path) → StoodAtStart x u → IsFileAt (names (world u)) x) → n.dated ≡ None
     → IsSteadyAt s v → rules_of v ≡ rules → IsGiven rules looks log n c → IsFileAt (names (world v)) log → log ≢ s.log → Meet s.log s.naming log n → ⊥
-no_meet s u v rules looks log n c quiet m path begun numbered steady is g file other meet =
+no_meet s u v rules looks log n c quiet m begun numbered steady is g file other meet =
     none.4.1 member.0 (subst (λ (k : Naming). IsMemberAt k member.0 log) (sym (named none.1 (none.0, none.2, none.3) none.4.0)) member.1)
   where
     t : Stretch u (Gives rules g.rule g.word log)
@@ -159,7 +158,7 @@ no_meet s u v rules looks log n c quiet m path begun numbered steady is g file o
     stood = still_file u t.from t.before s.log t.quiet t.ahead (begun s.log (stood_before s.log u v (reverse looks) m (each_reverse IsQuiet looks quiet) over.log_stood))
 
     none : SomeRule rules s.log (λ r. (at : ℕ) → IsMemberAt (naming_of r s.log) at log → ⊥)
-    none = t.is.alone t.from t.to (reverse t.part) t.made (sym (reverse-reverse t.part)) wild.0 s.log member.0 (λ e. other (sym e)) path wild.1 stood
+    none = t.is.alone t.from t.to (reverse t.part) t.made (sym (reverse-reverse t.part)) wild.0 s.log member.0 (λ e. other (sym e)) s.log_path wild.1 stood
         (subst (λ (k : Naming). IsMemberAt k member.0 log) (sym naming) member.1)
 
 -- the rule gives the set of its log the naming that the set has

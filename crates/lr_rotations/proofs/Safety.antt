@@ -9,7 +9,6 @@ use Rattle.lr_rules.specs.declared.rule.Count.{Count}
 use Rattle.lr_rules.specs.declared.rule.Naming.{Naming}
 use Rattle.lr_rules.specs.declared.rules.Rules.{Rules}
 use Rattle.lr_rules.specs.Names.{IsName}
-use Rattle.lr_rules.specs.Path.{path_fault}
 use Rattle.lr_host.specs.declared.entry.Entry.{Entry}
 use Rattle.lr_host.specs.declared.entry.Entry.TheVariants as entry
 use Rattle.lr_host.specs.declared.journal.Journal.{Journal}
@@ -22,7 +21,7 @@ use Rattle.lr_host.specs.Opening.{IsJournal}
 use Rattle.lr_host.specs.Quiet.{IsQuiet, AreQuiet}
 use Rattle.lr_host.specs.Sets.{LogSet, in_set}
 use Rattle.lr_host.specs.Runs.{rules_of, state_of, SomeRule, StoodAtStart, has_begun}
-use Rattle.lr_host.specs.Safe.{IsSafe}
+use Rattle.lr_host.specs.Safe.{IsSafe, KeepsSafe}
 use Rattle.lr_host.specs.Steady.{IsSteady, IsSteadyAt, NoneAttached}
 use Rattle.lr_host.specs.Looks.{Sees, IsFile}
 use Rattle.lr_host.proofs.Each.{filter_reverse, each_reverse, each_as}
@@ -40,7 +39,6 @@ use Rattle.lr_chain.specs.Rotation.{places_of, rotation}
 use Rattle.lr_chain.proofs.Steps.{each_rotation}
 use Rattle.lr_rotations.specs.AllTurns.{IsStatePath, IsOfState, IsOfSome, IsOfOther, StandsBetween, AllTurns, MayTurnAll, not_yet, started, IsWholeRun}
 use Rattle.lr_rotations.specs.Apart.{HasNames}
-use Rattle.lr_rotations.specs.Keeps.{KeepsSafe}
 use Rattle.lr_rotations.specs.Members.{IsFamily, HasName, AreThere, HaveNext}
 use Rattle.lr_rotations.specs.Shown.{Shown}
 use Rattle.lr_rotations.specs.Target.{Target, rotation_of, IsSeen, AreSeen, IsOneOf}
@@ -129,7 +127,7 @@ record Known (t : Target) (v : Past) : Type 0 where
   file : IsFileAt (names (world v)) t.log
   names_all : HasNames t
 
-module _ (s : LogSet) (state : Path) (rules : Rules) (u v : Past) (looks : List Entry) (quiet : AreQuiet looks) (m : Made u (reverse looks) v) (path : path_fault s.log ≡ None) (begun : (x : Path) → StoodAtStart x u → IsFileAt (names (world u)) x) (here : Here s state rules v) (none_at : NoneAttached s v) where
+module _ (s : LogSet) (state : Path) (rules : Rules) (u v : Past) (looks : List Entry) (quiet : AreQuiet looks) (m : Made u (reverse looks) v) (begun : (x : Path) → StoodAtStart x u → IsFileAt (names (world u)) x) (here : Here s state rules v) (none_at : NoneAttached s v) where
   in_order : reverse (reverse looks) ≡ looks
   in_order = reverse-reverse looks
 
@@ -147,7 +145,7 @@ module _ (s : LogSet) (state : Path) (rules : Rules) (u v : Past) (looks : List 
       k = known t seen
 
       aside : Each (IsAside s) (rotation_of t)
-      aside = lies_aside s t.log t.naming seen.family.numbered (no_meet s u v rules.sets looks t.log t.naming t.count quiet m path begun seen.family.numbered here.steady here.rules_are seen.given k.file other) t.count (places_of t.stand.members) (every_all (HasName t.naming) (places_of t.stand.members) k.names_all.named) k.names_all.next
+      aside = lies_aside s t.log t.naming seen.family.numbered (no_meet s u v rules.sets looks t.log t.naming t.count quiet m begun seen.family.numbered here.steady here.rules_are seen.given k.file other) t.count (places_of t.stand.members) (every_all (HasName t.naming) (places_of t.stand.members) k.names_all.named) k.names_all.next
 
   others_apart : (ts : List Target) → AreSeen rules looks ts → (e : Entry) → IsOfOther s.log ts e → IsApart s e
   others_apart [] seen e h = absurd h
@@ -272,21 +270,21 @@ looked s u q state now rules tail looks acts joined quiet m journal safe st = re
     }
 
 tail_safe : (s : LogSet) (u q : Past) (state : Path) (now : Moment) (rules : Rules) (tail : List Entry) → AllTurns state rules tail → Made (u ▸ entry.Starts state now rules) (reverse tail) q
-    → path_fault s.log ≡ None → IsJournal (u ▸ entry.Starts state now rules) → IsSafe s (u ▸ entry.Starts state now rules) → IsSteady s q → IsSafe s q
-tail_safe s u q state now rules tail t m path journal safe st =
+    → IsJournal (u ▸ entry.Starts state now rules) → IsSafe s (u ▸ entry.Starts state now rules) → IsSteady s q → IsSafe s q
+tail_safe s u q state now rules tail t m journal safe st =
     let k = looked s u q state now rules tail t.looks t.acts t.joined t.quiet m journal safe st in
-    acts_safe s state rules (u ▸ entry.Starts state now rules) k.mid t.looks t.quiet k.first path (λ x h. h) k.here k.none t.targets t.seen t.acts q t.all t.each k.second (none_attached s q st)
+    acts_safe s state rules (u ▸ entry.Starts state now rules) k.mid t.looks t.quiet k.first (λ x h. h) k.here k.none t.targets t.seen t.acts q t.all t.each k.second (none_attached s q st)
 
 -- where none of the logs is the set's, each change lies apart of it
 pub acts_apart : (s : LogSet) (u q : Past) (state : Path) (now : Moment) (rules : Rules) (tail : List Entry) (t : AllTurns state rules tail) → Made (u ▸ entry.Starts state now rules) (reverse tail) q
-    → path_fault s.log ≡ None → IsJournal (u ▸ entry.Starts state now rules) → IsSafe s (u ▸ entry.Starts state now rules) → IsSteady s q → ((x : Target) → IsOneOf x t.targets → x.log ≢ s.log) → Each (IsApart s) (filter is_change t.acts)
-acts_apart s u q state now rules tail t m path journal safe st ne =
+    → IsJournal (u ▸ entry.Starts state now rules) → IsSafe s (u ▸ entry.Starts state now rules) → IsSteady s q → ((x : Target) → IsOneOf x t.targets → x.log ≢ s.log) → Each (IsApart s) (filter is_change t.acts)
+acts_apart s u q state now rules tail t m journal safe st ne =
     let k = looked s u q state now rules tail t.looks t.acts t.joined t.quiet m journal safe st in
     each_as (λ e. IsOfSome t.targets e ⊎ IsOfState state e) (IsApart s) (filter is_change t.acts)
-    (λ e h. ⊎_elim (λ o. all_apart s state rules (u ▸ entry.Starts state now rules) k.mid t.looks t.quiet k.first path (λ x h. h) k.here k.none t.targets t.seen ne e o) (λ o. state_apart s state rules k.mid k.here e o) h) t.all
+    (λ e h. ⊎_elim (λ o. all_apart s state rules (u ▸ entry.Starts state now rules) k.mid t.looks t.quiet k.first (λ x h. h) k.here k.none t.targets t.seen ne e o) (λ o. state_apart s state rules k.mid k.here e o) h) t.all
 
-pub run_safe : (s : LogSet) (p q : Past) (es : List Entry) → path_fault s.log ≡ None → IsJournal p → IsSafe s p → Made p es q → IsWholeRun (reverse es) → IsSteady s q → IsSafe s q
-run_safe s p q es path journal safe m run st = go run.goes_on
+pub run_safe : (s : LogSet) (p q : Past) (es : List Entry) → IsJournal p → IsSafe s p → Made p es q → IsWholeRun (reverse es) → IsSteady s q → IsSafe s q
+run_safe s p q es journal safe m run st = go run.goes_on
   where
     k : Cut p q (reverse run.rest) (reverse run.front)
     k = cut p q es (reverse run.rest) (reverse run.front) (sym (reverse-reverse es) ∙ (ap reverse run.joined ∙ reverse-append run.front run.rest)) m
@@ -300,7 +298,7 @@ run_safe s p q es path journal safe m run st = go run.goes_on
     go : MayTurnAll run.rest → IsSafe s q
     go (not_yet none) = quiet_safe_on s k.mid q [] tt journal_mid safe_mid (subst (λ (ts : List Entry). Made k.mid (reverse ts) q) none k.second) st
     go (started state now rules tail is tail_is) =
-        tail_safe s a.mid q state now rules tail tail_is behind_start path (journal_u, a.fits) (quiet_safe s a.mid (entry.Starts state now rules) (journal_u, a.fits) safe_u (tt, refl)) st
+        tail_safe s a.mid q state now rules tail tail_is behind_start (journal_u, a.fits) (quiet_safe s a.mid (entry.Starts state now rules) (journal_u, a.fits) safe_u (tt, refl)) st
       where
         behind : reverse run.rest ≡ reverse tail ++ entry.Starts state now rules ∷ []
         behind = ap reverse is ∙ reverse-append (entry.Starts state now rules ∷ []) tail
@@ -326,4 +324,4 @@ run_safe s p q es path journal safe m run st = go run.goes_on
 
 pub call_safe : (o n : Option Journal) → Left IsWholeRun o n → KeepsSafe o n
 call_safe o n not_told = tt
-call_safe o n (is_told {j = j} {k = k} {es = es} m run) = λ s path journal safe st. run_safe s (past j) (past k) es path journal safe m run st
+call_safe o n (is_told {j = j} {k = k} {es = es} m run) = λ s journal safe st. run_safe s (past j) (past k) es journal safe m run st

@@ -1,6 +1,5 @@
 pub mod AllTurns
 pub mod Apart
-pub mod Keeps
 pub mod Members
 pub mod Rotated
 pub mod Shown

@@ -4,21 +4,19 @@ ghost use Rattle.lr_rules.specs.declared.path.Path.{Path};
 ghost use Rattle.lr_rules.specs.declared.civil.Moment.{Moment};
 ghost use Rattle.lr_rules.specs.declared.rules.Rules.{Rules};
 ghost use Rattle.lr_rules.specs.Names.{IsName, Meet};
-ghost use Rattle.lr_rules.specs.Path.{path_fault};
 ghost use Rattle.lr_host.specs.declared.entry.Entry.{Entry};
 ghost use Rattle.lr_host.specs.declared.entry.Entry.TheVariants.{Starts};
 ghost use Rattle.lr_host.specs.declared.journal.Journal.{Journal};
 ghost use Rattle.lr_host.specs.World.{Past, ◌▸◌, world, names};
 ghost use Rattle.lr_host.specs.Opening.{IsJournal};
 ghost use Rattle.lr_host.specs.Quiet.{AreQuiet};
-ghost use Rattle.lr_host.specs.Safe.{IsSafe};
+ghost use Rattle.lr_host.specs.Safe.{IsSafe, KeepsSafe};
 ghost use Rattle.lr_host.specs.Sets.{LogSet};
 ghost use Rattle.lr_host.specs.Steady.{IsSteady};
 ghost use Rattle.lr_host.specs.Steps.{CanAll};
 ghost use Rattle.lr_host.specs.Told.{Made, Left};
 ghost use Rattle.lr_rotations.specs.AllTurns.{other_paths, AllTurns, AllTurned, IsWholeRun};
 ghost use Rattle.lr_rotations.specs.Apart.{HasNames, HaveNames};
-ghost use Rattle.lr_rotations.specs.Keeps.{KeepsSafe};
 ghost use Rattle.lr_rotations.specs.Members.{IsFamily};
 ghost use Rattle.lr_rotations.specs.Rotated.{AreOutside, RotatesAmong};
 ghost use Rattle.lr_rotations.specs.Target.{Target, rotation_of, IsSeen, IsOneOf};
@@ -59,7 +57,7 @@ pub fn others_are_outside()
 pub fn other_sets_are_left()
     ensures { (s : LogSet) (u q : Past) (state : Path) (now : Moment) (rules : Rules) (tail : List Entry)
         (t : AllTurns state rules tail) → Made (u ▸ Starts state now rules) (reverse tail) q
-        → path_fault s.log ≡ None → IsJournal (u ▸ Starts state now rules) → IsSafe s (u ▸ Starts state now rules) → IsSteady s q
+        → IsJournal (u ▸ Starts state now rules) → IsSafe s (u ▸ Starts state now rules) → IsSteady s q
         → ((x : Target) → IsOneOf x t.targets → x.log ≢ s.log)
         → (y : Path) (k : ℤ) → s.key y ≡ Some k → names (world q) y ≡ names (world u) y }
 {}

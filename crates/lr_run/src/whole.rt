@@ -4,7 +4,7 @@ ghost use Rattle.std.specs.Vec.{vec_capacity};
 ghost use Rattle.lr_rules.specs.Path.{parent_of};
 ghost use Rattle.lr_host.specs.Told.{Left, Onward, Rose};
 ghost use Rattle.lr_durable.specs.StateWhole.{KeepsWhole};
-ghost use Rattle.lr_rotations.specs.Keeps.{KeepsSafe};
+ghost use Rattle.lr_host.specs.Safe.{KeepsSafe};
 ghost use Rattle.lr_host.specs.Counted.{AddsFaults};
 ghost use Rattle.lr_rotations.specs.AllTurns.{IsWholeRun};
 ghost use Rattle.lr_seen.specs.Built.{AreBuiltRules};
