@@ -96,12 +96,12 @@ plain_naming rule log can = go rule.olddir rule.addextension rule.extension rule
         naming base = record { dir = parent_of log; base = base; ext = []; start = rule.start; dated = None }
 
 -- a log as the code makes it of a match is the one that the word gives
-pub found_same : (set : ℕ) (rule : Rule) (word : List ℕ) (at : Match) (f : Found) → CanAsk rule → f.set ≡ set → f.family.log ≡ at.path → f.family.naming ≡ naming_at rule.start at.path → f.ignore_duplicates ≡ rule.ignore_duplicates → f.wild ≡ is_wildcard word → f.seen ≡ at.seen
+pub found_same : (set : ℕ) (rule : Rule) (word : List ℕ) (at : Match) (f : Found) → f.set ≡ set → f.family.log ≡ at.path → f.family.naming ≡ naming_of rule at.path → f.ignore_duplicates ≡ rule.ignore_duplicates → f.wild ≡ is_wildcard word → f.seen ≡ at.seen
     → found_in f ≡ found_at (word_of set rule word) at
-found_same set rule word at f can a b c d e g =
+found_same set rule word at f a b c d e g =
     ap (λ n. made n f.family.log f.family.naming f.ignore_duplicates f.wild f.seen) a
     ∙ (ap (λ (p : Path). made set p f.family.naming f.ignore_duplicates f.wild f.seen) b
-    ∙ (ap (λ (n : Naming). made set at.path n f.ignore_duplicates f.wild f.seen) (c ∙ sym (plain_naming rule at.path can))
+    ∙ (ap (λ (n : Naming). made set at.path n f.ignore_duplicates f.wild f.seen) c
     ∙ (ap (λ x. made set at.path (naming_of rule at.path) x f.wild f.seen) d
     ∙ (ap (λ x. made set at.path (naming_of rule at.path) rule.ignore_duplicates x f.seen) e
     ∙ ap (λ (s : Seen). made set at.path (naming_of rule at.path) rule.ignore_duplicates (is_wildcard word) s) g))))

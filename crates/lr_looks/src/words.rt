@@ -13,7 +13,7 @@ ghost use Rattle.lr_looks.specs.Sights.{WordSight, found_at, found_by, missing, 
 ghost use Rattle.lr_looks.specs.Internal.{AddsFound};
 
 use crate::found::Found;
-use crate::naming::family_at;
+use crate::naming::family_of;
 use lr_glob::{Found as Match, GlobStop, expand};
 use lr_host::Host;
 use lr_rules::{Fault, Memory, Rule, Rules, Text};
@@ -125,7 +125,7 @@ fn add_log(
     ensures path { OnOk result (HasLogPath (found_at (word_of set rule.now word.now) at)) }
 {
     let Match { path, seen } = at;
-    let family = family_at(alloc, path, rule.start)?;
+    let family = family_of(alloc, path, rule)?;
     found.push(Found {
         set,
         family,
