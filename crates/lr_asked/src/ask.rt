@@ -1,7 +1,7 @@
 // The calls that a line may make.
 use crate::{
-    built, chain, choosing, clock, conf, due, glob, layer, lex, lines, meeting, moment, name, path,
-    report, setting, state, word,
+    built, chain, choosing, clock, conf, due, glob, layer, lex, lines, meeting, moment, name, naming,
+    path, report, setting, state, word,
 };
 use lr_line::{Line, Trouble};
 
@@ -41,6 +41,7 @@ enum Ask {
     Place,
     ReadBack,
     NamedAgain,
+    Named,
     Apart,
     Meets,
     Rotation,
@@ -55,7 +56,7 @@ enum Ask {
 }
 
 // Each call with its name, and how many words stand behind that, at least and at most.
-static ASKS: [(&str, Ask, usize, usize); 45] = [
+static ASKS: [(&str, Ask, usize, usize); 46] = [
     ("path", Ask::Path, 1, 1),
     ("word", Ask::Word, 2, 2),
     ("parent", Ask::Parent, 1, 1),
@@ -90,6 +91,7 @@ static ASKS: [(&str, Ask, usize, usize); 45] = [
     ("place", Ask::Place, 6, 6),
     ("read-back", Ask::ReadBack, 6, 6),
     ("named-again", Ask::NamedAgain, 6, 6),
+    ("named", Ask::Named, 2, 2),
     ("apart", Ask::Apart, 10, 10),
     ("meets", Ask::Meets, 6, 6),
     ("rotation", Ask::Rotation, 7, 99),
@@ -133,6 +135,7 @@ fn answer_of_runs(ask: Ask, line: Line, out: &mut String) -> Result<(), Trouble>
         Ask::Place => name::place(line, out),
         Ask::ReadBack => name::read_back(line, out),
         Ask::NamedAgain => name::named_again(line, out),
+        Ask::Named => naming::named(line, out),
         Ask::Apart => meeting::are_apart(line, out),
         Ask::Meets => meeting::meets(line, out),
         Ask::Rotation => chain::rotation(line, out),

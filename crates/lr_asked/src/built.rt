@@ -11,9 +11,19 @@ fn put_comma(out: &mut String) -> Result<(), Trouble> {
     Ok(out.push_str(", ")?)
 }
 
+fn put_serial(serial: bool, out: &mut String) -> Result<(), Trouble> {
+    if serial {
+        out.push_str(" and a serial number")?;
+    }
+    Ok(())
+}
+
 fn put_dated(dated: &Option<Format>, out: &mut String) -> Result<(), Trouble> {
     match dated {
-        Some(format) => put_format(format.pieces.as_slice(), out),
+        Some(format) => {
+            put_format(format.pieces.as_slice(), out)?;
+            put_serial(format.serial, out)
+        }
         None => Ok(out.push_str("undated")?),
     }
 }

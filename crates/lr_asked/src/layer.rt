@@ -92,11 +92,19 @@ fn read(
     Ok(())
 }
 
-// The faults of the first text as of `/c`, and of the second, where there is one, as of `/d`.
+/// The faults of the first text, as of `/c`.
+pub fn read_one(line: Line, layer: &mut Layer, out: &mut String) -> Result<(), Trouble>
+    requires { entered layer.old ≡ [] }
+    ensures { IfOk result (λ _. entered layer.new ≡ []) }
+{
+    read(line.alloc, layer, b"/c", text_at(line, 1)?, out)
+}
+
+// Those, and of the second text, where there is one, as of `/d`.
 pub fn read_both(line: Line, layer: &mut Layer, out: &mut String) -> Result<(), Trouble>
     requires { entered layer.old ≡ [] }
 {
-    read(line.alloc, layer, b"/c", text_at(line, 1)?, out)?;
+    read_one(line, layer, out)?;
     if line.words.len() > 2 {
         read(line.alloc, layer, b"/d", text_at(line, 2)?, out)?;
     }

@@ -23,6 +23,7 @@ mod lines;
 mod meeting;
 mod moment;
 mod name;
+mod naming;
 mod path;
 mod report;
 mod rule;
