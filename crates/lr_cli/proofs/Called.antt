@@ -14,7 +14,7 @@ use Rattle.lr_host.specs.Quiet.{is_disk_change, ChangeNothing}
 use Rattle.lr_host.proofs.Quiet.{quiet_still, then_still}
 use Rattle.lr_host.proofs.Left.{left_as, left_first, left_both, left_then}
 use Rattle.lr_due.specs.declared.tz.Zone.{Zone}
-use Rattle.lr_plan.specs.Counted.{AreCounted}
+use Rattle.lr_host.specs.Counted.{AreCounted}
 use Rattle.lr_rotations.specs.AllTurns.{IsWholeRun}
 use Rattle.lr_run.specs.declared.answer.RunStop.{RunStop}
 use Rattle.lr_run.specs.declared.answer.RunStop.TheVariants as stop

@@ -18,8 +18,8 @@ use Rattle.lr_due.specs.declared.tz.Zone.TheVariants.{Utc, Rule, File}
 use Rattle.lr_due.specs.declared.zone.ZoneText.{ZoneText}
 use Rattle.lr_due.specs.declared.zone.ZoneText.TheVariants as text
 use Rattle.lr_due.specs.Zone.{IsInRange, IsRefusedZone, IsTable, IsClockIn}
-use Rattle.lr_plan.specs.Counted.{AreCounted}
-use Rattle.lr_plan.proofs.Counts.{counted_free}
+use Rattle.lr_host.specs.Counted.{AreCounted}
+use Rattle.lr_host.proofs.Counts.{counted_free}
 use Rattle.lr_cli.specs.declared.clock.ClockStop.{ClockStop}
 use Rattle.lr_cli.specs.declared.clock.ClockStop.TheVariants as stop
 use Rattle.lr_cli.specs.Clock.{ShowsClock, ClockStopped, out_of_range, no_text, refused, HasClock, IsClockFault, is_refused}

@@ -18,8 +18,8 @@ use Rattle.lr_conf.specs.Meaning.{Meaning}
 use Rattle.lr_host.specs.Looks.{Sees, IsDir, IsFile}
 use Rattle.lr_host.specs.Quiet.{AreQuiet, is_disk_change, ChangeNothing}
 use Rattle.lr_host.proofs.Quiet.{quiet_both, quiet_still, then_still}
-use Rattle.lr_plan.specs.Counted.{HasNoOut, IsOut, AreCounted, AddsFaults}
-use Rattle.lr_plan.proofs.Counts.{AreFree, free_none, free_on, counted_on, counted_free, counted_call}
+use Rattle.lr_host.specs.Counted.{HasNoOut, IsOut, AreCounted, AddsFaults}
+use Rattle.lr_host.proofs.Counts.{AreFree, free_none, free_on, counted_on, counted_free, counted_call}
 use Rattle.lr_include.specs.declared.reading.Reading.{Reading}
 use Rattle.lr_include.specs.Readers.{meaning_of, IsConf, IsConfOrCall}
 use Rattle.lr_include.specs.Reading.{ReadsAs, IsReading, of_stop, of_bytes}

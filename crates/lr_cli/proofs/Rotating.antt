@@ -20,7 +20,7 @@ use Rattle.lr_include.specs.Lines.{whole_means, cut_means}
 use Rattle.lr_include.specs.Reading.{MeansAs, no_file, directory, whole, cut, ReadsAs, means, look_failed, read_failed}
 use Rattle.lr_include.proofs.Plain.{whole_plain, cut_plain}
 use Rattle.lr_run.proofs.Rotating.{run_rotated}
-use Rattle.lr_plan.specs.Counted.{call_in, calls_in}
+use Rattle.lr_host.specs.Counted.{call_in, calls_in}
 use Rattle.lr_run.specs.Runs.{Inside, Worked}
 use Rattle.lr_seen.specs.Built.{AreBuiltRules}
 use Rattle.lr_cli.specs.declared.outcome.Outcome.{Outcome}

@@ -5,7 +5,7 @@ ghost use Rattle.lr_rules.specs.declared.fault.Fault.TheVariants as fault;
 ghost use Rattle.lr_rules.specs.declared.fault.ZoneWhy.TheVariants as why;
 ghost use Rattle.lr_host.specs.Told.{Left, Onward};
 ghost use Rattle.lr_due.specs.Zone.{IsInRange, IsRefusedZone, IsTable, IsClockIn};
-ghost use Rattle.lr_plan.specs.Counted.{AreCounted};
+ghost use Rattle.lr_host.specs.Counted.{AreCounted};
 ghost use Rattle.lr_cli.specs.declared.clock.ClockStop.TheVariants as stop;
 ghost use Rattle.lr_cli.specs.Clock.{ShowsClock, ClockStopped, HasClock, IsClockFault};
 

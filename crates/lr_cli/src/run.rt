@@ -1,7 +1,7 @@
 // One run over one configuration.
 ghost use Rattle.std.specs.Prelude.{◌≡◌, ◌≤◌, ◌+◌, [], Err, IfOk, vec_len, vec_capacity};
 ghost use Rattle.lr_host.specs.Told.{Left, Onward, Rose};
-ghost use Rattle.lr_plan.specs.Counted.{AreCounted};
+ghost use Rattle.lr_host.specs.Counted.{AreCounted};
 ghost use Rattle.lr_rotations.specs.AllTurns.{IsWholeRun};
 ghost use Rattle.lr_cli.specs.Answer.{Answers, AnswersAt, state_path};
 ghost use Rattle.lr_cli.specs.Clock.{IsClocked};

@@ -7,7 +7,7 @@ ghost use Rattle.lr_host.specs.World.{past};
 ghost use Rattle.lr_host.specs.Told.{Left, NoneFell, Rose};
 ghost use Rattle.lr_host.specs.Quiet.{ChangeNothing};
 ghost use Rattle.lr_durable.specs.StateWhole.{KeepsWhole};
-ghost use Rattle.lr_rotations.specs.Keeps.{KeepsSafe};
+ghost use Rattle.lr_host.specs.Safe.{KeepsSafe};
 ghost use Rattle.lr_report.specs.Puts.{Took, TookPart};
 ghost use Rattle.lr_cli.specs.declared.outcome.Report.{Report};
 ghost use Rattle.lr_cli.specs.declared.words.Request.{Request};

@@ -6,7 +6,7 @@ ghost use Rattle.lr_host.specs.Told.{Left, Are, Then, Can, Onward, Rose};
 ghost use Rattle.lr_host.specs.Looks.{Sees, IsFile};
 ghost use Rattle.lr_due.specs.declared.tz.Zone.TheVariants as asked;
 ghost use Rattle.lr_due.specs.declared.zone.ZoneText.TheVariants as text;
-ghost use Rattle.lr_plan.specs.Counted.{AreCounted};
+ghost use Rattle.lr_host.specs.Counted.{AreCounted};
 ghost use Rattle.lr_cli.specs.declared.clock.ClockStop.TheVariants as clock_stop;
 ghost use Rattle.lr_cli.specs.declared.zone.ZoneFileStop.TheVariants as stop;
 ghost use Rattle.lr_cli.specs.Zone.{IsNotFile, GivesBytes, ReadStopped, FileStopped, ShowsZone, ZoneStopped, file_stop, IsTextOf, IsFileFault, IsTextFault};
