@@ -1,7 +1,7 @@
 -- One fault, and whether a call failed.
 use Rattle.std.proofs.Common.{◌≡◌, ◌+◌, List, [], ◌∷◌, ap, arith}
 use Rattle.lr_rules.specs.declared.fault.Fault.{Fault}
-use Rattle.lr_plan.specs.Counted.{call_in, calls_in}
+use Rattle.lr_host.specs.Counted.{call_in, calls_in}
 
 -- one failed call isn't none
 pub one_called : (own : List Fault) (f : Fault) → own ≡ f ∷ [] → call_in f ≡ 1 → calls_in own ≡ 0 → ⊥

@@ -13,8 +13,8 @@ use Rattle.lr_family.specs.declared.stand.StandStop.{StandStop}
 use Rattle.lr_family.specs.declared.stand.StandStop.TheVariants as stop
 use Rattle.lr_family.specs.Among.{ShowsIn, ShowsNoneIn}
 use Rattle.lr_family.specs.Listed.{ShowsListing, NotListed}
-use Rattle.lr_plan.specs.Counted.{calls_in}
-use Rattle.lr_plan.proofs.Counts.{calls_on}
+use Rattle.lr_host.specs.Counted.{calls_in}
+use Rattle.lr_host.proofs.Counts.{calls_on}
 use Rattle.lr_looks.specs.Families.{HadMemory, AllHadMemory, FamilySight, Stood, Stopped, WasListed, WasNotListed, ShowsMembersIn, ShowsFamily, behind_listing, with_listing, not_listed, ShowFamilies, family_fault, family_faults}
 use Rattle.lr_looks.specs.Found.{FoundLog}
 use Rattle.lr_fixed.proofs.Listings.{OneListing, one_listing, listing_or_none, AreSame, KnownAlike, more_alike}

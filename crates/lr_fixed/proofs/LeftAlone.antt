@@ -6,7 +6,7 @@ use Rattle.lr_rules.specs.declared.fault.Fault.{Fault}
 use Rattle.lr_rules.specs.declared.path.Path.{Path}
 use Rattle.lr_rules.specs.declared.rule.Rule.{Rule}
 use Rattle.lr_rules.specs.declared.rules.Rules.{Rules}
-use Rattle.lr_rules.specs.Path.{path_fault, parent_of}
+use Rattle.lr_rules.specs.Path.{parent_of}
 use Rattle.lr_host.specs.declared.entry.Entry.{Entry}
 use Rattle.lr_host.specs.declared.entry.Entry.TheVariants as entry
 use Rattle.lr_host.specs.Opening.{IsJournal}
@@ -64,11 +64,11 @@ still_member s p u ts still made steady y k key = quiet_same (IsKeyless s) p u y
     calm : Quiet (IsKeyless s) p u
     calm = made_quiet (IsKeyless s) p u (reverse ts) (since_of (IsKeyless s) p u (reverse ts) made (none_attached s u steady)) made (still_reverse ts still)
 
-pub left_alone : (s : LogSet) (state : Path) (force : Bool) (now : Moment) (rules : Rules) (own : List Fault) (p q : Past) (es reads acts : List Entry) → AreBuiltRules rules.sets → path_fault s.log ≡ None → Made p es q → IsJournal p → reverse es ≡ reads ++ acts → AreQuiet reads
+pub left_alone : (s : LogSet) (state : Path) (force : Bool) (now : Moment) (rules : Rules) (own : List Fault) (p q : Past) (es reads acts : List Entry) → AreBuiltRules rules.sets → Made p es q → IsJournal p → reverse es ≡ reads ++ acts → AreQuiet reads
     → (i : Inside state now rules (Worked state rules.sets now force own) acts) → IsSafe s p → IsSteady s q → ((t : Target) → IsOneOf t (rotated_in state rules.sets i.between i.within.looked now force) → t.log ≢ s.log)
     → (y : Path) (k : ℤ) → s.key y ≡ Some k → names (world q) y ≡ names (world p) y
-left_alone s state force now rules own p q es reads acts built path made journal joined quiet i safe steady apart y k key =
-    others_left s a.mid q state now rules tail turns behind_start path (journal_u, a.fits) (quiet_safe s a.mid starts (journal_u, a.fits) safe_u (tt, refl)) steady apart y k key
+left_alone s state force now rules own p q es reads acts built made journal joined quiet i safe steady apart y k key =
+    others_left s a.mid q state now rules tail turns behind_start (journal_u, a.fits) (quiet_safe s a.mid starts (journal_u, a.fits) safe_u (tt, refl)) steady apart y k key
     ∙ still_member s p a.mid front (quiet_still front quiet_front) made_u steady_u y k key
   where
     starts : Entry

@@ -7,7 +7,7 @@ use Rattle.lr_rules.specs.declared.path.Path.{Path}
 use Rattle.lr_rules.specs.declared.rule.Rule.{Rule}
 use Rattle.lr_host.specs.declared.entry.Entry.{Entry}
 use Rattle.lr_state.specs.Table.{Entry as Row}
-use Rattle.lr_plan.specs.Counted.{calls_in}
+use Rattle.lr_host.specs.Counted.{calls_in}
 use Rattle.lr_plan.specs.Planned.{plan_of}
 use Rattle.lr_reading.specs.Answers.{Known}
 use Rattle.lr_record.specs.After.{after}

@@ -10,7 +10,7 @@ use Rattle.lr_host.specs.Looks.{Sees, IsFile}
 use Rattle.lr_host.specs.Reading.{IsReadOf}
 use Rattle.lr_host.specs.Told.{Then, Each}
 use Rattle.lr_conf.specs.Meaning.{Meaning}
-use Rattle.lr_plan.specs.Counted.{calls_in}
+use Rattle.lr_host.specs.Counted.{calls_in}
 use Rattle.lr_include.specs.Reading.{ReadsFile, MeansAs, no_file, directory, whole, cut, ReadsAs, means, look_failed, read_failed}
 use Rattle.lr_include.proofs.Means.{exactly}
 use Rattle.lr_fixed.proofs.Called.{one_called}

@@ -27,7 +27,7 @@ use Rattle.lr_due.specs.declared.tz.Zone.{Zone}
 use Rattle.lr_due.specs.declared.tz.Zone.TheVariants.{Utc, Rule as RuleZone, File}
 use Rattle.lr_due.specs.declared.zone.ZoneText.{ZoneText}
 use Rattle.lr_due.specs.Zone.{IsInRange}
-use Rattle.lr_plan.specs.Counted.{call_in, calls_in}
+use Rattle.lr_host.specs.Counted.{call_in, calls_in}
 use Rattle.lr_include.specs.Reading.{MeansAs, no_file, directory, whole, cut}
 use Rattle.lr_seen.specs.Built.{AreBuiltRules}
 use Rattle.lr_run.specs.Runs.{Runs, no_directory, not_seen, not_begun, began}

@@ -7,7 +7,7 @@ use Rattle.lr_rules.specs.declared.fault.Fault.TheVariants as fault
 use Rattle.lr_rules.specs.declared.path.Path.{Path}
 use Rattle.lr_host.specs.declared.entry.Entry.{Entry}
 use Rattle.lr_host.specs.declared.entry.Entry.TheVariants as entry
-use Rattle.lr_plan.specs.Counted.{call_in}
+use Rattle.lr_host.specs.Counted.{call_in}
 use Rattle.lr_reading.specs.declared.look.LookStop.{LookStop}
 use Rattle.lr_reading.specs.Answers.{Known, IsKnownBy, IsKnownBehind, IsKnownOf, IsKnown, text_of}
 use Rattle.lr_reading.specs.Pieces.{Reading, Whole, Broken, AreSome, IsLast, IsReading, bytes_of, reads_from}

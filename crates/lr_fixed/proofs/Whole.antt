@@ -7,7 +7,7 @@ use Rattle.lr_rules.specs.declared.fault.Fault.{Fault}
 use Rattle.lr_rules.specs.declared.rule.Rule.{Rule}
 use Rattle.lr_host.specs.declared.entry.Entry.{Entry}
 use Rattle.lr_plan.specs.declared.looks.SetLooks.{SetLooks}
-use Rattle.lr_plan.specs.Counted.{calls_in}
+use Rattle.lr_host.specs.Counted.{calls_in}
 use Rattle.lr_looks.specs.Asked.{asked_by}
 use Rattle.lr_looks.specs.Choices.{choice_faults, kind_fault, kept_of, where_file, Keeps}
 use Rattle.lr_looks.specs.Families.{LookedLog, ShowFamilies, family_faults, looked_of}

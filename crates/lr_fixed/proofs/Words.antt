@@ -6,8 +6,8 @@ use Rattle.lr_host.specs.declared.entry.Entry.{Entry}
 use Rattle.lr_glob.specs.declared.found.GlobStop.TheVariants as stop
 use Rattle.lr_glob.specs.Words.{Comes}
 use Rattle.lr_sought.proofs.OneWord.{comes_one}
-use Rattle.lr_plan.specs.Counted.{calls_in}
-use Rattle.lr_plan.proofs.Counts.{calls_on}
+use Rattle.lr_host.specs.Counted.{calls_in}
+use Rattle.lr_host.proofs.Counts.{calls_on}
 use Rattle.lr_looks.specs.Asked.{Word}
 use Rattle.lr_looks.specs.Sights.{WordSight, found_by, fault_of, faults_of, ShowsWord, ShowWords, WordHadMemory, WordsHadMemory}
 use Rattle.lr_fixed.proofs.LiteralPaths.{HavePaths}

@@ -11,7 +11,7 @@ use Rattle.lr_rules.specs.declared.fault.StateKind.TheVariants as kind
 use Rattle.lr_rules.specs.declared.path.Path.{Path}
 use Rattle.lr_rules.specs.declared.rule.Rule.{Rule}
 use Rattle.lr_host.specs.declared.entry.Entry.{Entry}
-use Rattle.lr_plan.specs.Counted.{calls_in}
+use Rattle.lr_host.specs.Counted.{calls_in}
 use Rattle.lr_plan.specs.Planned.{decision}
 use Rattle.lr_plan.specs.Steps.{state_part}
 use Rattle.lr_reading.specs.declared.remembered.Remembered.{Remembered}

@@ -4,7 +4,6 @@ ghost use Rattle.std.specs.Prelude.{◌≡◌, ◌≢◌, ◌≤◌, ◌+◌, �
 ghost use Rattle.lr_rules.specs.declared.path.Path.{Path};
 ghost use Rattle.lr_rules.specs.declared.civil.Moment.{Moment};
 ghost use Rattle.lr_rules.specs.declared.rules.Rules.{Rules};
-ghost use Rattle.lr_rules.specs.Path.{path_fault};
 ghost use Rattle.lr_rules.specs.declared.fault.Fault.{Fault};
 ghost use Rattle.lr_host.specs.declared.entry.Entry.{Entry};
 ghost use Rattle.lr_host.specs.Opening.{IsJournal};
@@ -16,7 +15,7 @@ ghost use Rattle.lr_host.specs.Told.{Made};
 ghost use Rattle.lr_host.specs.World.{Past, world, names};
 ghost use Rattle.lr_due.specs.declared.tz.Zone.{Zone};
 ghost use Rattle.lr_plan.specs.declared.looks.SetLooks.{SetLooks};
-ghost use Rattle.lr_plan.specs.Counted.{calls_in};
+ghost use Rattle.lr_host.specs.Counted.{calls_in};
 ghost use Rattle.lr_looks.specs.Shown.{ShowsLooks};
 ghost use Rattle.lr_seen.specs.Built.{AreBuiltRules};
 ghost use Rattle.lr_rotations.specs.Target.{Target, IsOneOf};
@@ -62,11 +61,10 @@ pub fn directories_are_listed_once()
 {}
 
 /// A run that came to its plan leaves each set alone whose log it doesn't rotate, whatever failed: each member names what
-/// it named before. It holds of sets that are safe before and steady, and whose log is a path. A run that didn't leaves all
-/// steady sets alone.
+/// it named before. It holds of sets that are safe before and steady. A run that didn't leaves all steady sets alone.
 pub fn others_are_left()
     ensures planned { (s : LogSet) (state : Path) (force : Bool) (now : Moment) (rules : Rules) (own : List Fault) (p q : Past) (es reads acts : List Entry) → AreBuiltRules rules.sets
-        → path_fault s.log ≡ None → Made p es q → IsJournal p → reverse es ≡ reads ++ acts → AreQuiet reads → (i : Inside state now rules (Worked state rules.sets now force own) acts)
+        → Made p es q → IsJournal p → reverse es ≡ reads ++ acts → AreQuiet reads → (i : Inside state now rules (Worked state rules.sets now force own) acts)
         → IsSafe s p → IsSteady s q
         → ((t : Target) → IsOneOf t (rotated_in state rules.sets i.between i.within.looked now force) → t.log ≢ s.log)
         → (y : Path) (k : ℤ) → s.key y ≡ Some k → names (world q) y ≡ names (world p) y }
