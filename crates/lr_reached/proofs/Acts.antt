@@ -1,0 +1,47 @@
+-- What the acts of a plan are told of ends no run.
+use Rattle.std.proofs.Common.{List, [], ◌∷◌, map}
+use Rattle.std.proofs.lemmas.List.Elements.{All-head, All-tail}
+use Rattle.lr_rules.specs.declared.fault.CallKind.TheVariants as call
+use Rattle.lr_rules.specs.declared.fault.Fault.{Fault}
+use Rattle.lr_rules.specs.declared.fault.Fault.TheVariants as fault
+use Rattle.lr_rules.specs.declared.path.Path.{Path}
+use Rattle.lr_rules.specs.declared.rule.Rule.{Rule}
+use Rattle.lr_due.specs.declared.answer.Due.{Due}
+use Rattle.lr_host.specs.declared.entry.Entry.{Entry}
+use Rattle.lr_plan.specs.declared.looks.LogLook.{LogLook}
+use Rattle.lr_plan.specs.declared.looks.SetLooks.{SetLooks}
+use Rattle.lr_plan.specs.declared.mark.Mark.{Mark}
+use Rattle.lr_plan.specs.declared.step.Step.{Step}
+use Rattle.lr_plan.specs.declared.step.Step.TheVariants.{Removes, Renames, Rotated}
+use Rattle.lr_plan.specs.Done.{SetsDone}
+use Rattle.lr_plan.specs.Outcomes.{Fails}
+use Rattle.lr_plan.specs.Planned.{all_plans}
+use Rattle.lr_plan.specs.Steps.{steps_of_set}
+use Rattle.lr_seen.specs.Built.{IsBuiltRule, AreBuiltRules}
+use Rattle.lr_run.proofs.Folded.{Folds, acts_fold}
+use Rattle.lr_run.proofs.Simple.{IsSimple, HaveNoScripts, plan_simple}
+use Rattle.lr_reached.specs.Ending.{NoneEnds}
+use Rattle.lr_reached.proofs.Ends.{none_both, is_none}
+
+-- of rules without scripts they are unlinks and renames, which fail by a call
+simple_none : (state : Path) (s : Step) (f : Fault) (ts : List Entry) → IsSimple s → Fails s f ts → NoneEnds state (f ∷ [])
+simple_none state (Removes path) f ts i h = is_none state f (fault.Call call.Unlink path) h.0 (λ e. e)
+simple_none state (Renames from to) f ts i h = is_none state f (fault.Call call.Rename from) h.0 (λ e. e)
+simple_none state (Rotated log) f ts i h = absurd h
+simple_none state _ f ts i h = absurd i
+
+none_folds : (state : Path) → Folds (λ fs ts. NoneEnds state fs)
+none_folds state = record {
+  none = tt;
+  made = λ s ts i h. tt;
+  failed = simple_none state;
+  both = λ fs gs ts us h g. none_both state fs gs h g;
+}
+
+-- built rules have no scripts
+no_scripts : (rules : List Rule) → AreBuiltRules rules → HaveNoScripts rules
+no_scripts [] b = tt
+no_scripts (x ∷ xs) b = ((All-head IsBuiltRule x xs b).scripts, no_scripts xs (All-tail IsBuiltRule x xs b))
+
+pub acts_none : (state : Path) (rules : List Rule) (sets : List SetLooks) (decide : Rule → LogLook → Due) (ms : List Mark) (fs : List Fault) (ts : List Entry) → AreBuiltRules rules → SetsDone (map steps_of_set (all_plans decide rules sets)) ms fs ts → NoneEnds state fs
+acts_none state rules sets decide ms fs ts built h = acts_fold (λ gs us. NoneEnds state gs) (none_folds state) (map steps_of_set (all_plans decide rules sets)) ms fs ts (plan_simple decide rules sets (no_scripts rules built)) h

@@ -1,0 +1,97 @@
+-- What families are told of ends no run: a path that is no file is a name of their log.
+use Rattle.std.proofs.Common.{◌≡◌, inl, inr, Bool, true, false, ℕ, List, [], ◌∷◌, map, refl, sym, ap, subst}
+use Rattle.std.specs.Prelude.{Contains}
+use Rattle.std.proofs.lemmas.List.Sorted.{Contains-permutation, IsPermutation-sym}
+use Rattle.lr_rules.specs.declared.fault.CallKind.{CallKind}
+use Rattle.lr_rules.specs.declared.fault.CallKind.TheVariants as call
+use Rattle.lr_rules.specs.declared.path.Path.{Path}
+use Rattle.lr_rules.specs.declared.rule.Naming.{Naming}
+use Rattle.lr_rules.specs.Names.{IsOwnName}
+use Rattle.lr_host.specs.declared.entry.Entry.{Entry}
+use Rattle.lr_host.specs.Lists.{IsIn}
+use Rattle.lr_host.specs.Looks.{Sees, IsNoFile}
+use Rattle.lr_host.proofs.Lists.{in_back, in_from, in_to, in_unmap}
+use Rattle.lr_family.specs.declared.listing.Listing.{Listing}
+use Rattle.lr_family.specs.declared.spot.Spot.{Spot}
+use Rattle.lr_family.specs.declared.stand.StandStop.{StandStop}
+use Rattle.lr_family.specs.declared.stand.StandStop.TheVariants as stop
+use Rattle.lr_family.specs.Among.{StopsAmong, ShowsNoneIn}
+use Rattle.lr_family.specs.Listed.{NotListedAt, NotListed}
+use Rattle.lr_family.specs.Looks.{ShowsTo}
+use Rattle.lr_family.specs.Spots.{path_at, spot_at, AreSpots}
+use Rattle.lr_looks.specs.Families.{FamilySight, Stood, Stopped, ShowsMembersIn, ShowsFamily, behind_listing, with_listing, not_listed, ShowFamilies, stop_fault, family_fault, family_faults}
+use Rattle.lr_looks.specs.Found.{FoundLog, HasNumbers, Hold}
+use Rattle.lr_rotations.specs.Members.{HasName}
+use Rattle.lr_rotations.proofs.Outside.{place_name}
+use Rattle.lr_seen.specs.Free.{reserved_by}
+use Rattle.lr_reached.specs.Ending.{NoneEnds}
+use Rattle.lr_reached.proofs.Ends.{none_both, IsLooking, looking_ends}
+use Rattle.lr_reached.proofs.Kept.{IsFreeLog, free_ends}
+
+-- ---- members
+
+-- The path is that of a member at some place.
+abbrev IsMember : Naming → Path → Type 0
+IsMember n path = (place : ℕ) × HasName n place × (path ≡ path_at n place)
+
+spot_member : (n : Naming) (names : List (List ℕ)) (spots : List Spot) (s : Spot) → AreSpots n names spots → IsIn s spots → IsMember n s.path
+spot_member n names spots s a i =
+    let c : Contains (map (spot_at n) a.places) s = Contains-permutation spots (map (spot_at n) a.places) s (IsPermutation-sym (map (spot_at n) a.places) spots a.each) (in_to s spots i) in
+    let r = in_unmap (spot_at n) s a.places (in_from s (map (spot_at n) a.places) c) in
+    (r.0, ((a.all r.0).0 (in_to r.0 a.places r.1)).0, ap (λ (x : Spot). x.path) (sym r.2))
+
+to_member : (n : Naming) (names : List (List ℕ)) (spots : List Spot) (path : Path) (P : List Entry → Type 0) (ts : List Entry) → AreSpots n names spots → ShowsTo spots path P ts → IsMember n path
+to_member n names spots path P ts a s = spot_member n names spots here a
+    (subst (IsIn here) (sym s.each) (in_back here (map (λ sight. sight.spot) s.before) (here ∷ s.after) (inl refl)))
+  where
+    here : Spot
+    here = record { place = s.place; path = path }
+
+-- ---- one family
+
+module _ (state : Path) (f : FoundLog) (free : IsFreeLog (reserved_by state) f) (numbers : HasNumbers f) where
+  -- a stop of the looks at it
+  among_none : (names : List (List ℕ)) (why : StandStop) (ts : List Entry) → StopsAmong f.log.naming names why ts → NoneEnds state (stop_fault why)
+  among_none names (stop.Call k path) ts s = (looking_ends state k path (subst IsLooking (sym s.looks.0) tt), tt)
+  among_none names (stop.NotFile path) ts s =
+      let m = to_member f.log.naming names s.spots path (Sees path IsNoFile) ts s.spots_are s.looks in
+      (free_ends state f path free (inl (subst (IsOwnName f.log.path f.log.naming) (sym m.2) (place_name f.log.path f.log.naming m.0 numbers.numbered m.1))), tt)
+  among_none names stop.Memory ts s = tt
+
+  memory_none : (why : StandStop) → why ≡ stop.Memory → NoneEnds state (stop_fault why)
+  memory_none why e = subst (λ (w : StandStop). NoneEnds state (stop_fault w)) (sym e) tt
+
+  none_in : (there : Bool) (names : List (List ℕ)) (why : StandStop) (ts : List Entry) → ShowsNoneIn f.log.naming there names why ts → NoneEnds state (stop_fault why)
+  none_in true names why ts (inl h) = memory_none why h.0
+  none_in true names why ts (inr s) = among_none names why ts s
+  none_in false names why ts h = absurd h
+
+  members_none : (l : Listing) (s : FamilySight) (ts : List Entry) → ShowsMembersIn f.log.naming l s ts → NoneEnds state (family_fault s)
+  members_none l (Stood stand) ts h = tt
+  members_none l (Stopped why) ts (inl h) = memory_none why h.0
+  members_none l (Stopped why) ts (inr h) = none_in l.there l.names why ts h
+
+  at_looks : (dir : Path) (k : CallKind) (path : Path) (ts : List Entry) → NotListedAt dir k path ts → IsLooking k
+  at_looks dir call.Look path ts h = tt
+  at_looks dir call.List path ts h = tt
+  at_looks dir _ path ts h = absurd h
+
+  listed_none : (why : StandStop) (ts : List Entry) → NotListed f.log.naming.dir why ts → NoneEnds state (stop_fault why)
+  listed_none (stop.Call k path) ts h = (looking_ends state k path (at_looks f.log.naming.dir k path ts h), tt)
+  listed_none (stop.NotFile path) ts h = (free_ends state f path free (inr h.0), tt)
+  listed_none stop.Memory ts h = tt
+
+  family_none : (known after : List Listing) (s : FamilySight) (ts : List Entry) → ShowsFamily known f.log.naming after s ts → NoneEnds state (family_fault s)
+  family_none known after s ts (behind_listing l was same m) = members_none l s ts m
+  family_none known after s ts (with_listing l new e same t) = members_none l s t.back t.second
+  family_none known after s ts (not_listed why new same e h) = subst (λ (x : FamilySight). NoneEnds state (family_fault x)) (sym e) (listed_none why ts h)
+
+-- ---- all of them
+
+pub families_none : (state : Path) (known : List Listing) (fs : List FoundLog) (after : List Listing) (ss : List FamilySight) (ts : List Entry) → Hold (IsFreeLog (reserved_by state)) fs → Hold HasNumbers fs → ShowFamilies known fs after ss ts → NoneEnds state (family_faults ss)
+families_none state known [] after [] ts free numbers h = tt
+families_none state known [] after (s ∷ ss) ts free numbers h = absurd h
+families_none state known (f ∷ fs) after [] ts free numbers h = absurd h
+families_none state known (f ∷ fs) after (s ∷ ss) ts free numbers h = none_both state (family_fault s) (family_faults ss)
+    (family_none state f free.0 numbers.0 known h.0 s h.1.front h.1.first)
+    (families_none state h.0 fs after ss h.1.back free.1 numbers.1 h.1.second)

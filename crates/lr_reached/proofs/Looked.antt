@@ -1,0 +1,84 @@
+-- No fault of the looks is one that ends a run, and a directory that a plan lacks was missed by one of them.
+use Rattle.std.proofs.Common.{◌≡◌, inl, inr, ⊎_elim, ◌+◌, ℕ, Bool, true, false, cond, eqb, List, [], ◌∷◌, None, sym, subst, rules}
+use Rattle.std.specs.Prelude.{All}
+use Rattle.std.specs.List.{flat_map, AllByRecursion}
+use Rattle.std.proofs.lemmas.List.Elements.{All-cons, All-head, All-tail}
+use Rattle.lr_rules.specs.declared.fault.Fault.{Fault}
+use Rattle.lr_rules.specs.declared.path.Path.{Path}
+use Rattle.lr_rules.specs.declared.rule.Rule.{Rule}
+use Rattle.lr_rules.specs.Path.{parent_of}
+use Rattle.lr_host.specs.declared.entry.Entry.{Entry}
+use Rattle.lr_host.specs.declared.entry.Entry.TheVariants as entry
+use Rattle.lr_host.specs.Lists.{IsIn}
+use Rattle.lr_host.proofs.Lists.{in_append, in_back, in_map}
+use Rattle.lr_plan.specs.declared.looks.LogLook.{LogLook}
+use Rattle.lr_plan.specs.declared.looks.SetLooks.{SetLooks}
+use Rattle.lr_looks.specs.Asked.{CanAsk, CanAskAll, asked_by}
+use Rattle.lr_looks.specs.Choices.{choice_faults, kind_fault, kept_of}
+use Rattle.lr_looks.specs.Families.{LookedLog, family_faults}
+use Rattle.lr_looks.specs.Found.{Hold}
+use Rattle.lr_looks.specs.Sets.{where_in, of_set, looked_in, HaveLooksFrom}
+use Rattle.lr_looks.specs.Shown.{ShowsLooks}
+use Rattle.lr_looks.proofs.Holding.{kept_numbers}
+use Rattle.lr_seen.specs.Built.{IsBuiltRule, AreBuiltRules}
+use Rattle.lr_seen.specs.Free.{reserved_by}
+use Rattle.lr_reached.specs.Ending.{NoneEnds}
+use Rattle.lr_reached.proofs.Ends.{none_both}
+use Rattle.lr_reached.proofs.Families.{families_none}
+use Rattle.lr_reached.proofs.Gone.{IsGone, all_gone}
+use Rattle.lr_reached.proofs.Kept.{IsFreeLog, kept_free, files_hold, choices_none, kinds_none}
+use Rattle.lr_reached.proofs.Planned.{NoneMissed}
+use Rattle.lr_reached.proofs.Words.{words_none}
+
+-- ---- a log of the plan was looked at whole
+
+in_flat : (k : ℕ) (logs : List LookedLog) (x : LookedLog) → IsIn x (of_set k logs) → IsIn x logs
+in_flat k [] x h = absurd h
+in_flat k (l ∷ ls) x h = ⊎_elim (λ a. inl (one (eqb k l.set) a)) (λ b. inr (in_flat k ls x b)) (in_append x (where_in k l) (of_set k ls) h)
+  where
+    one : (b : Bool) → IsIn x (cond b (l ∷ []) []) → l ≡ x
+    one true (inl e) = e
+    one true (inr none) = absurd none
+    one false none = absurd none
+
+was_looked : (k : ℕ) (logs : List LookedLog) (sets : List SetLooks) (set : SetLooks) (look : LogLook) → HaveLooksFrom k logs sets → IsIn set sets → IsIn look set.logs → (n : ℕ) × IsIn (looked_in n look) logs
+was_looked k logs [] set look h at i = absurd at
+was_looked k logs (s ∷ ss) set look h (inl e) i = (k, in_flat k logs (looked_in k look) (subst (IsIn (looked_in k look)) h.0 (in_map (looked_in k) look s.logs (subst (λ (x : SetLooks). IsIn look x.logs) (sym e) i))))
+was_looked k logs (s ∷ ss) set look h (inr at) i = was_looked (k + 1) logs ss set look h.1 at i
+
+-- ---- the looks
+
+-- rules that are built can be asked for
+asks_all : (rules : List Rule) → AreBuiltRules rules → CanAskAll rules
+asks_all [] b = none
+  where
+    none : All CanAsk []
+    none = search rules
+asks_all (x ∷ xs) b = All-cons CanAsk x xs (All-head IsBuiltRule x xs b).can_ask (asks_all xs (All-tail IsBuiltRule x xs b))
+
+module _ (state : Path) (rules : List Rule) (sets : List SetLooks) (faults : List Fault) (ts : List Entry) (s : ShowsLooks (reserved_by state) rules sets faults ts) where
+  -- a directory that isn't there was missed by a look
+  missed_gone : (set : SetLooks) (look : LogLook) → IsIn set sets → IsIn look set.logs → look.stand.there ≡ false → IsGone ts look.family.naming.dir
+  missed_gone set look at i there =
+      let w = was_looked 0 s.looked sets set look s.by_sets at i in
+      subst (λ (us : List Entry). IsGone us look.family.naming.dir) (sym s.entries.joined) (in_back (entry.Look look.family.naming.dir None) s.entries.front s.entries.back
+      (all_gone s.kept s.entries.second.listings s.entries.second.families.sights s.entries.back s.entries.second.families.shown (looked_in w.0 look)
+      (subst (IsIn (looked_in w.0 look)) s.entries.second.families.looked_are w.1) there))
+
+  pub none_missed : (IsGone ts (parent_of state) → ⊥) → NoneMissed state sets
+  none_missed stands set look at i there is = stands (subst (IsGone ts) is (missed_gone set look at i there))
+
+  free : AllByRecursion (IsFreeLog (reserved_by state)) (kept_of s.found s.keeps.choices)
+  free = kept_free (reserved_by state) s.found s.keeps.choices s.keeps.chosen
+
+  of_words : NoneEnds state s.of_words
+  of_words = subst (NoneEnds state) (sym s.entries.first.faults_are) (words_none state 0 (asked_by rules) s.entries.first.sights s.entries.front s.entries.first.shown)
+
+  of_kept : NoneEnds state s.of_kept
+  of_kept = subst (NoneEnds state) (sym s.keeps.faults_are) (none_both state s.of_words _ of_words
+      (none_both state (choice_faults (reserved_by state) s.found s.found s.keeps.choices) (flat_map kind_fault (kept_of s.found s.keeps.choices)) (choices_none state (reserved_by state) s.found s.found s.keeps.choices) (kinds_none state (kept_of s.found s.keeps.choices) free)))
+
+  pub looks_none : AreBuiltRules rules → NoneEnds state faults
+  looks_none built = subst (NoneEnds state) (sym s.entries.second.families.faults_are) (none_both state s.of_kept (family_faults s.entries.second.families.sights) of_kept
+      (families_none state [] s.kept s.entries.second.listings s.entries.second.families.sights s.entries.back (subst (Hold (IsFreeLog (reserved_by state))) (sym s.keeps.left_are) (files_hold (IsFreeLog (reserved_by state)) (kept_of s.found s.keeps.choices) free))
+      (kept_numbers rules s.found s.kept s.of_words s.of_kept (asks_all rules built) (record { sights = s.entries.first.sights; found_are = s.entries.first.found_are }) s.keeps) s.entries.second.families.shown))

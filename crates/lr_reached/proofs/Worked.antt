@@ -1,0 +1,63 @@
+-- No fault of a run that came to its plan is one that ends a run.
+use Rattle.std.proofs.Common.{◌≡◌, inr, Bool, List, [], ◌∷◌, ◌++◌, None, reverse, sym, ap, ◌∙◌, subst, append_assoc}
+use Rattle.lr_rules.specs.declared.civil.Moment.{Moment}
+use Rattle.lr_rules.specs.declared.fault.Fault.{Fault}
+use Rattle.lr_rules.specs.declared.path.Path.{Path}
+use Rattle.lr_rules.specs.declared.rule.Rule.{Rule}
+use Rattle.lr_rules.specs.declared.rules.Rules.{Rules}
+use Rattle.lr_rules.specs.Path.{parent_of}
+use Rattle.lr_host.specs.declared.entry.Entry.{Entry}
+use Rattle.lr_host.specs.declared.entry.Entry.TheVariants as entry
+use Rattle.lr_host.specs.Looks.{Sees, IsDir}
+use Rattle.lr_host.specs.Quiet.{ChangeNothing}
+use Rattle.lr_host.specs.Told.{Made}
+use Rattle.lr_host.specs.World.{Past}
+use Rattle.lr_host.proofs.Lists.{in_back}
+use Rattle.lr_host.proofs.Quiet.{quiet_still, quiet_both}
+use Rattle.lr_plan.specs.Planned.{decision}
+use Rattle.lr_reading.proofs.Quiet.{state_quiet}
+use Rattle.lr_seen.specs.Built.{AreBuiltRules}
+use Rattle.lr_seen.proofs.Quiet.{whole_quiet}
+use Rattle.lr_run.specs.Runs.{Worked, plan_in}
+use Rattle.lr_reached.specs.Ending.{NoneEnds}
+use Rattle.lr_reached.proofs.Acts.{acts_none}
+use Rattle.lr_reached.proofs.Ends.{none_both}
+use Rattle.lr_reached.proofs.Gone.{IsGone}
+use Rattle.lr_reached.proofs.Looked.{none_missed, looks_none}
+use Rattle.lr_reached.proofs.Planned.{plan_none}
+use Rattle.lr_reached.proofs.Standing.{still_there}
+use Rattle.lr_reached.proofs.Written.{written_none}
+
+-- where no look missed the state's directory
+worked_none : (state : Path) (rules : List Rule) (now : Moment) (force : Bool) (own : List Fault) (ts : List Entry) → AreBuiltRules rules → (w : Worked state rules now force own ts) → (IsGone w.looked.looks (parent_of state) → ⊥) → NoneEnds state own
+worked_none state rules now force own ts built w stands = subst (NoneEnds state) (sym w.acted.faults_are)
+    (none_both state w.looked.of_looks _ (looks_none state rules w.looked.sets w.looked.of_looks w.looked.looks w.looked.shown built)
+    (none_both state (plan_in state rules ts w.looked now force).faults w.acted.of_acts
+    (plan_none state (decision w.looked.remembered.table now force) rules w.looked.sets (none_missed state rules w.looked.sets w.looked.of_looks w.looked.looks w.looked.shown stands))
+    (subst (NoneEnds state) (sym w.acted.entries.faults_are) (none_both state w.acted.entries.of_plan w.acted.entries.of_state
+    (acts_none state rules w.looked.sets (decision w.looked.remembered.table now force) w.acted.marks w.acted.entries.of_plan w.acted.entries.entries.front built w.acted.entries.entries.first)
+    (written_none state w.looked.remembered.stale w.acted.dirs _ w.acted.entries.of_state w.acted.entries.entries.back w.acted.entries.entries.second)))))
+
+-- none did, since it was seen before the run began
+stands : (state : Path) (now : Moment) (rules : Rules) (force : Bool) (own : List Fault) (p q : Past) (ts before between : List Entry) → ts ≡ before ++ (entry.Starts state now rules ∷ (between ++ entry.Ends ∷ [])) → Sees (parent_of state) IsDir before → Made p (reverse ts) q
+    → (w : Worked state rules.sets now force own between) → IsGone w.looked.looks (parent_of state) → ⊥
+stands state now rules force own p q ts before between entries directory made w gone = still_there p q (parent_of state) ts before still (w.looked.acts ++ entry.Ends ∷ []) parts made directory quiet
+    (inr (in_back (entry.Look (parent_of state) None) w.looked.reads w.looked.looks gone))
+  where
+    still : List Entry
+    still = entry.Starts state now rules ∷ (w.looked.reads ++ w.looked.looks)
+
+    joined : between ++ entry.Ends ∷ [] ≡ (w.looked.reads ++ w.looked.looks) ++ (w.looked.acts ++ entry.Ends ∷ [])
+    joined =
+        ap (λ es. es ++ entry.Ends ∷ []) (w.looked.joined ∙ sym (append_assoc w.looked.reads w.looked.looks w.looked.acts))
+        ∙ append_assoc (w.looked.reads ++ w.looked.looks) w.looked.acts (entry.Ends ∷ [])
+
+    parts : ts ≡ before ++ (still ++ (w.looked.acts ++ entry.Ends ∷ []))
+    parts = entries ∙ ap (λ es. before ++ (entry.Starts state now rules ∷ es)) joined
+
+    quiet : ChangeNothing still
+    quiet = quiet_still (w.looked.reads ++ w.looked.looks) (quiet_both w.looked.reads w.looked.looks (state_quiet state 65_536 w.looked.sights w.looked.reads w.looked.read) (whole_quiet rules.sets w.looked.sets w.looked.of_looks w.looked.looks w.looked.shown))
+
+pub none_ends : (state : Path) (now : Moment) (rules : Rules) (force : Bool) (own : List Fault) (p q : Past) (ts before between : List Entry) → AreBuiltRules rules.sets → ts ≡ before ++ (entry.Starts state now rules ∷ (between ++ entry.Ends ∷ []))
+    → Sees (parent_of state) IsDir before → Made p (reverse ts) q → Worked state rules.sets now force own between → NoneEnds state own
+none_ends state now rules force own p q ts before between built entries directory made w = worked_none state rules.sets now force own between built w (stands state now rules force own p q ts before between entries directory made w)
