@@ -1,19 +1,20 @@
 // What lines made, as it is kept from one line to the next.
-ghost use Rattle.std.specs.Prelude.{◌≡◌, ◌<◌, ◌-◌, List, [], ◌∷◌, ◌++◌, false, length, take, IfOk, MatchOption};
+ghost use Rattle.std.specs.Prelude.{◌≡◌, ◌<◌, List, [], ◌∷◌, false, length, IfOk, MatchOption};
 ghost use Rattle.lr_rules.specs.declared.fault.Fault.{Fault};
 ghost use Rattle.lr_match.specs.Taboos.{first_taboo};
+ghost use Rattle.lr_fields.specs.Setting.{default_fields};
 ghost use Rattle.lr_conf.specs.Meaning.{Line, Read, Spoiled, End, Cut, meaning, asked, banned, told, conf, ◌and◌};
-ghost use Rattle.lr_conf.specs.Internal.Draft.{coming_from, asking_from, banning_from, TookIn, AsksIn, BansIn, AlikeIn, PassesIn, file_of_draft, files_of};
+ghost use Rattle.lr_conf.specs.Internal.Draft.{coming_from, asking_from, banning_from, TookIn, AsksIn, BansIn, PassesIn, file_of_draft, files_of};
 
-use crate::files::Files;
 use crate::place::Place;
 use crate::stop::{Include, LayerStop};
-use lr_fields::{Fields, default_fields};
+use lr_fields::{Fields, Files, default_fields};
 use lr_forms::Built;
 use lr_lex::Item;
 use lr_match::Taboo;
-use lr_rules::{ConfKind, Memory, Notice, Path, Phase, Rule, Text};
+use lr_rules::{ConfKind, Memory, Notice, Phase, Rule, Text};
 use std::alloc::Global;
+use std::mem;
 
 /// What the lines of a configuration made so far: rules and notices, and what lines to come are read by.
 #[derive(Drop)]
@@ -38,6 +39,20 @@ pub struct Draft {
     pub(crate) taboo: Taboo,
 }
 
+// The fields that no line set, of the defaults and of a definition.
+fn both_fields(alloc: Global) -> Result<(Fields, Fields), Memory>
+    ensures { IfOk result (λ both. (both.0 ≡ default_fields) × (both.1 ≡ default_fields)) }
+{
+    let defaults = default_fields(alloc)?;
+    match default_fields(alloc) {
+        Ok(fields) => Ok((defaults, fields)),
+        Err(_) => {
+            drop(defaults);
+            Err(Memory)
+        }
+    }
+}
+
 impl Draft {
     /// A draft of no line, with room for 8 entered files.
     pub fn new(alloc: Global, built: Built) -> Result<Draft, Memory>
@@ -48,8 +63,7 @@ impl Draft {
     {
         let files = Files::new(alloc)?;
         let taboo = Taboo::first(alloc)?;
-        let defaults = default_fields(alloc)?;
-        let fields = default_fields(alloc)?;
+        let (defaults, fields) = both_fields(alloc)?;
         Ok(Draft {
             alloc,
             built,
@@ -64,41 +78,6 @@ impl Draft {
             notices: Vec::new(alloc),
             taboo,
         })
-    }
-
-    /// The lines that come are those of this file.
-    pub fn enter(&mut self, file: Path)
-        requires { length (files_of self.old) < 8 }
-        ensures files { files_of self.new ≡ files_of self.old ++ file ∷ [] }
-        ensures same { (lines : List Line) → coming_from self.new lines ≡ coming_from self.old lines }
-        ensures alike { AlikeIn self.old self.new }
-    {
-        self.files.enter(file);
-    }
-
-    /// The lines that come are those of the file that was entered before.
-    pub fn leave(&mut self)
-        requires { 0 < length (files_of self.old) }
-        ensures files { files_of self.new ≡ take (length (files_of self.old) - 1) (files_of self.old) }
-        ensures same { (lines : List Line) → coming_from self.new lines ≡ coming_from self.old lines }
-        ensures alike { AlikeIn self.old self.new }
-    {
-        self.files.leave();
-    }
-
-    /// How many files are entered.
-    pub fn depth(&self) -> usize
-        ensures { result ≡ length (files_of self.now) }
-    {
-        self.files.len()
-    }
-
-    /// The file that is read.
-    pub fn file(&self) -> &Path
-        requires { 0 < length (files_of self.now) }
-        ensures { result.now ≡ file_of_draft self.now }
-    {
-        self.files.top()
     }
 
     /// Takes an item of the file in. A fault is told, and the line that has it; `Memory` leaves all as it was, and the
@@ -147,19 +126,14 @@ impl Draft {
         self.break_off();
     }
 
-    /// The taboo list behind the lines so far.
-    pub fn taboo(&self) -> &Taboo
-        ensures { result.now ≡ banning_from self.now [] }
+    /// Takes out the rules and the notices of all that was taken. The draft is lent, since it costs much to let go what is
+    /// left of one that is taken apart.
+    pub fn finish(&mut self) -> (Vec<Rule>, Vec<Notice>)
+        ensures rules { result.0.items ≡ (coming_from self.old []).rules }
+        ensures notices { result.1.items ≡ (coming_from self.old []).notices }
     {
-        &self.taboo
-    }
-
-    /// The rules and the notices of all that was taken.
-    pub fn finish(self) -> (Vec<Rule>, Vec<Notice>)
-        ensures rules { result.0.items ≡ (coming_from self []).rules }
-        ensures notices { result.1.items ≡ (coming_from self []).notices }
-    {
-        let Draft { rules, notices, .. } = self;
+        let rules = mem::replace(&mut self.rules, Vec::new(self.alloc));
+        let notices = mem::replace(&mut self.notices, Vec::new(self.alloc));
         (rules, notices)
     }
 }

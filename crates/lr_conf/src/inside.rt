@@ -1,18 +1,34 @@
 // Lines in a definition.
-ghost use Rattle.std.specs.Prelude.{◌≡◌, ◌<◌, length};
+ghost use Rattle.std.specs.Prelude.{◌≡◌, ◌<◌, [], None, length};
+ghost use Rattle.lr_fields.specs.Rules.{format_of, rule_of};
 ghost use Rattle.lr_conf.specs.declared.place.Place.TheVariants as place;
 ghost use Rattle.lr_forms.specs.declared.said.Said.TheVariants as says;
-ghost use Rattle.lr_conf.specs.Internal.Draft.{SaysInside, Closes, file_of_draft, files_of};
+ghost use Rattle.lr_conf.specs.Internal.Draft.{SaysInside, Closes, SameRest, file_of_draft, files_of, first_of, state_of};
 
 use crate::draft::Draft;
 use crate::place::Place;
 use crate::stop::{Include, LayerStop};
-use lr_fields::{default_fields, format_of, rule_of, script_fault, set_field};
+use lr_fields::{Fields, default_fields, format_of, rule_of, script_fault, set_field};
 use lr_forms::{Said, Set};
-use lr_rules::{ConfKind, Listed, Phase, Text};
+use lr_rules::{ConfKind, Format, Listed, Path, Phase, Rule, Text};
 use std::mem;
 
 impl Draft {
+    // Ends the definition: the rule of its file, words and fields, and of the format of its dates.
+    fn end_with(&mut self, file: Path, fresh: Fields, dated: Option<Format>) -> Rule
+        requires { dated ≡ format_of self.old.fields }
+        ensures rule { result ≡ rule_of file (first_of (state_of self.old)) self.old.words.items self.old.fields }
+        ensures state { state_of self.new ≡ record (state_of self.old) { place = place.Outside; words = []; first = None; fields = fresh } }
+        ensures rules { self.new.rules ≡ self.old.rules }
+        ensures rest { SameRest self.old self.new }
+    {
+        let words = Listed::from_vec(mem::replace(&mut self.words, Vec::new(self.alloc)));
+        let fields = mem::replace(&mut self.fields, fresh);
+        let line = self.first.take().unwrap_or(0);
+        self.place = Place::Outside;
+        rule_of(file, line, words, fields, dated)
+    }
+
     /// The line that ends a definition, which gives its rule.
     pub(crate) fn close(&mut self) -> Result<Option<Include>, LayerStop>
         requires { 0 < length (files_of self.old) }
@@ -22,11 +38,8 @@ impl Draft {
         let dated = format_of(self.alloc, &self.fields)?;
         let file = self.files.top().copy(self.alloc)?;
         let fresh = default_fields(self.alloc)?;
-        let words = Listed::from_vec(mem::replace(&mut self.words, Vec::new(self.alloc)));
-        let fields = mem::replace(&mut self.fields, fresh);
-        let line = self.first.take().unwrap_or(0);
-        self.place = Place::Outside;
-        self.rules.push(rule_of(file, line, words, fields, dated))?;
+        let rule = self.end_with(file, fresh, dated);
+        self.rules.push_reserved(rule);
         Ok(None)
     }
 
@@ -97,7 +110,13 @@ impl Draft {
             Said::Passed(word) => self.pass_inside(at, word),
             Said::Unknown => Err(LayerStop::Conf(at, ConfKind::Unknown)),
             Said::Bad(kind) => self.drop_for(at, kind),
-            _other => Ok(None),
+            Said::Names(_names) => Ok(None),
+            Said::Include(_path) => Ok(None),
+            Said::Taboo {
+                patterns: _,
+                items: _items,
+            } => Ok(None),
+            Said::Open | Said::Close | Said::Quiet | Said::BadNames(_) => Ok(None),
         }
     }
 }

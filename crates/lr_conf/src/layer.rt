@@ -46,7 +46,7 @@ impl Layer {
         ensures same { (lines : List Line) → coming self.new lines ≡ coming self.old lines }
         ensures alike { Alike self.old self.new }
     {
-        self.draft.enter(file);
+        self.draft.files.enter(file);
     }
 
     /// The lines that come are those of the file that was entered before.
@@ -56,14 +56,14 @@ impl Layer {
         ensures same { (lines : List Line) → coming self.new lines ≡ coming self.old lines }
         ensures alike { Alike self.old self.new }
     {
-        self.draft.leave();
+        self.draft.files.leave();
     }
 
     /// How many files are entered and not left.
     pub fn depth(&self) -> usize
         ensures { result ≡ length (entered self.now) }
     {
-        self.draft.depth()
+        self.draft.files.len()
     }
 
     /// The file that is read, which was entered last.
@@ -71,7 +71,7 @@ impl Layer {
         requires { 0 < length (entered self.now) }
         ensures { result.now ≡ file_of_layer self.now }
     {
-        self.draft.file()
+        self.draft.files.top()
     }
 
     /// Takes an item of the file in. A fault is told, and the line that has it; `Memory` leaves all as it was, and the
@@ -122,7 +122,7 @@ impl Layer {
     pub fn taboo(&self) -> &Taboo
         ensures { result.now ≡ banning self.now [] }
     {
-        self.draft.taboo()
+        &self.draft.taboo
     }
 
     /// The rules and the notices of all that was taken.
@@ -130,7 +130,9 @@ impl Layer {
         ensures rules { result.0.sets ≡ (coming self []).rules }
         ensures notices { result.1.items ≡ (coming self []).notices }
     {
-        let (rules, notices) = self.draft.finish();
+        let mut draft = self.draft;
+        let (rules, notices) = draft.finish();
+        drop(draft);
         (
             Rules {
                 sets: Listed::from_vec(rules),

@@ -25,7 +25,6 @@
 #![tactic(auto)]
 
 mod draft;
-mod files;
 mod inside;
 mod laws;
 mod layer;

@@ -1,9 +1,9 @@
 // Lines outside definitions.
-ghost use Rattle.std.specs.Prelude.{◌≡◌, ◌<◌, [], IfOk, OnOk, OnErr, length};
+ghost use Rattle.std.specs.Prelude.{◌≡◌, ◌<◌, [], ◌++◌, Some, OnOk, OnErr, length};
 ghost use Rattle.lr_conf.specs.declared.place.Place.TheVariants as place;
 ghost use Rattle.lr_forms.specs.declared.said.Said.TheVariants as says;
-ghost use Rattle.lr_conf.specs.Meaning.{stands};
-ghost use Rattle.lr_conf.specs.Internal.Draft.{Speaks, Noticed, Banned, SameRest, Aside, Unchanged, fields_at, Settled, answer_of, asking_answer, file_of_draft, files_of, without_names, state_of};
+ghost use Rattle.lr_conf.specs.Meaning.{stands, or_line};
+ghost use Rattle.lr_conf.specs.Internal.Draft.{Speaks, Noticed, Banned, SameRest, Aside, Unchanged, Settled, answer_of, asking_answer, file_of_draft, files_of, without_names, state_of};
 
 use crate::draft::Draft;
 use crate::place::Place;
@@ -13,6 +13,7 @@ use lr_fields::{Fields, copy_fields, set_field};
 use lr_forms::{Said, Set};
 use lr_rules::{ConfKind, Listed, Memory, Notice, Path, Phase, Text};
 use lr_words::TabooItems;
+use std::mem;
 
 /// The answer that tells NoBrace at the first line, if there is one, and the line's own fault.
 fn answer(first: Option<u32>, at: u32, own: Option<ConfKind>) -> Result<Option<Include>, LayerStop>
@@ -62,25 +63,27 @@ impl Draft {
         self.first.take()
     }
 
-    // The fields of a definition that begins here, where the line has a brace.
-    fn fields_at(&self, brace: bool) -> Result<Option<Fields>, Memory>
-        ensures { IfOk result (λ begun. begun ≡ fields_at brace self.now.defaults) }
-    {
-        if brace {
-            Ok(Some(copy_fields(self.alloc, &self.defaults)?))
-        } else {
-            Ok(None)
-        }
-    }
-
     // A definition begins with these fields, and without scripts.
     fn begin(&mut self, fields: Fields)
         ensures state { state_of self.new ≡ record (state_of self.old) { place = place.Good; fields = fields; scripts = [] } }
         ensures rest { SameRest self.old self.new }
     {
         self.scripts.clear();
-        self.fields = fields;
+        drop(mem::replace(&mut self.fields, fields));
         self.place = Place::Good;
+    }
+
+    // Adds names to those that are pending.
+    fn add_names(&mut self, at: u32, names: Listed<Text>) -> Result<(), Memory>
+        ensures state { OnOk result (state_of self.new ≡ record (state_of self.old) { words = self.old.words.items ++ names; first = Some (or_line self.old.first at) }) }
+        ensures rest { OnOk result (SameRest self.old self.new) }
+        ensures err { OnErr result (Unchanged self.old self.new) }
+    {
+        self.words.append(&mut names.into_vec())?;
+        if self.first.is_none() {
+            self.first = Some(at);
+        }
+        Ok(())
     }
 
     /// Names of logs.
@@ -93,15 +96,21 @@ impl Draft {
         requires { self.old.place ≡ place.Outside }
         ensures { Speaks self.old self.new (file_of_draft self.old) (stands at brace (says.Names names)) result }
     {
-        let begun = self.fields_at(brace)?;
-        self.words.append(&mut names.into_vec())?;
-        if let Some(fields) = begun {
-            self.begin(fields);
+        if !brace {
+            self.add_names(at, names)?;
+            return Ok(None);
         }
-        if self.first.is_none() {
-            self.first = Some(at);
+        let fields = copy_fields(self.alloc, &self.defaults)?;
+        match self.add_names(at, names) {
+            Ok(()) => {
+                self.begin(fields);
+                Ok(None)
+            }
+            Err(_) => {
+                drop(fields);
+                Err(LayerStop::Memory)
+            }
         }
-        Ok(None)
     }
 
     /// A brace alone: it opens a definition of the names that are pending.

@@ -29,10 +29,6 @@ use Rattle.lr_conf.specs.Meaning.{Line, file_of, Read, Spoiled, End, Cut, Past, 
 use Rattle.lr_conf.specs.Stops.{faults_of, include_of}
 use Rattle.lr_fields.specs.Setting.{default_fields, with_set}
 
--- the fields that a definition begins with, where the line has a brace
-abbrev pub fields_at : Bool → Fields → Option Fields
-fields_at brace defaults = if brace then Some defaults else None
-
 -- ---- states
 
 -- In a definition: its words, the line of its first name, its fields so far, and which scripts stood in it. Outside: the

@@ -1,7 +1,7 @@
 use Rattle.std.proofs.Common.{◌≡◌, [], ◌<◌, length, sym, ap, ◌∙◌, subst}
 use Rattle.lr_fields.specs.Fields.{last_or}
 use Rattle.lr_fields.proofs.Lasts.{last_at}
-use Rattle.lr_conf.proofs.files.Files.top.Goals as goal
+use Rattle.lr_fields.proofs.files.Files.top.Goals as goal
 
 pub returns : goal.returns
 returns c =
