@@ -1,7 +1,7 @@
 // The calls that a line may make.
 use crate::{
-    built, chain, choosing, clock, conf, due, glob, layer, lex, lines, meeting, moment, name, naming,
-    path, report, setting, state, word,
+    built, chain, choosing, clock, conf, due, glob, layer, lex, lines, meeting, moment, name,
+    naming, path, report, setting, state, word,
 };
 use lr_line::{Line, Trouble};
 

@@ -1,4 +1,4 @@
--- For proofs: the naming that the code makes, logs that are found, choices that name logs of the list, the map of listings, and logs that are added to their definitions.
+-- For proofs: the naming that rules give a log so far, logs that are found, choices that name logs of the list, the map of listings, and logs that are added to their definitions.
 use Rattle.std.specs.Prelude.{◌≡◌, ◌<◌, ℕ, List, [], ◌∷◌, ◌++◌, All, Option, Some, None, length, slice_get}
 use Rattle.lr_kept.specs.declared.choice.Choice.{Choice}
 use Rattle.lr_kept.specs.declared.choice.Choice.TheVariants.{Kept, Again, MemberOf, Reserved, Meets}
