@@ -1,0 +1,146 @@
+-- What is read and appended, piece by piece.
+use Rattle.std.proofs.Common.{◌≡◌, refl, sym, ◌∙◌, ap, subst, ℕ, ◌+◌, ◌-◌, ◌≤◌, ◌<◌, arith, List, [], ◌∷◌, ◌++◌, take, drop, length, append_assoc, append-nil, Option}
+use Rattle.std.specs.Prelude.{filter}
+use Rattle.std.proofs.lemmas.List.{take-append-drop, take_all, drop_all, length-append, length-drop, drop-drop, length-take-le}
+use Rattle.std.proofs.lemmas.List.Elements.{filter-append}
+use Rattle.lr_rules.specs.declared.path.Path.{Path}
+use Rattle.lr_host.specs.declared.entry.Entry.{Entry}
+use Rattle.lr_host.specs.declared.entry.Entry.TheVariants.{Reads, Appends}
+use Rattle.lr_host.specs.declared.journal.Journal.{Journal}
+use Rattle.lr_host.specs.Reading.{text, AreJoined}
+use Rattle.lr_host.specs.Steps.{is_naming}
+use Rattle.lr_host.specs.Told.{Left, Then}
+use Rattle.lr_host.proofs.Left.{left_first, left_then, left_as}
+use Rattle.lr_copy.specs.declared.job.Job.{Job}
+use Rattle.lr_copy.specs.Copying.{Copying, none_read, read_more, took_more, appended, Takes, none_taken, piece_taken, TakesPart, TakesBroke, Copies}
+
+-- ---- appends
+
+-- they name nothing
+named_both : (xs ys : List Entry) → filter is_naming xs ≡ [] → filter is_naming ys ≡ [] → filter is_naming (xs ++ ys) ≡ []
+named_both xs ys a b = filter-append is_naming xs ys ∙ (ap (λ zs. zs ++ filter is_naming ys) a ∙ b)
+
+pub none_named : (to : Path) (owed left : List ℕ) (ts : List Entry) → Takes to owed left ts → filter is_naming ts ≡ []
+none_named to owed _ _ none_taken = refl
+none_named to owed left _ (piece_taken {ts = ts} piece _ t) = named_both ts (Appends to piece ∷ []) (none_named to owed (piece ++ left) ts t) refl
+
+pub rest_is : (at : ℕ) (xs : List ℕ) → take (length xs - at) (drop at xs) ≡ drop at xs
+rest_is at xs = let l : length (drop at xs) ≡ length xs - at = length-drop at xs in take_all (length xs - at) (drop at xs) (omega (arith, l))
+
+-- one piece more
+pub piece_more : (to : Path) (bytes : List ℕ) (at count : ℕ) (ts us : List Entry) → Takes to bytes (drop at bytes) ts → us ≡ Appends to (take count (take (length bytes - at) (drop at bytes))) ∷ [] → Takes to bytes (drop (at + count) bytes) (ts ++ us)
+piece_more to bytes at count ts us t e =
+    let piece = take count (drop at bytes) in
+    let left = drop count (drop at bytes) in
+    let same : us ≡ Appends to piece ∷ [] = e ∙ ap (λ (xs : List ℕ). Appends to (take count xs) ∷ []) (rest_is at bytes) in
+    let more : Takes to bytes left (ts ++ Appends to piece ∷ []) = piece_taken piece left (subst (λ (xs : List ℕ). Takes to bytes xs ts) (sym (take-append-drop count (drop at bytes))) t) in
+    subst (λ (vs : List Entry). Takes to bytes (drop (at + count) bytes) (ts ++ vs)) (sym same) (subst (λ (xs : List ℕ). Takes to bytes xs (ts ++ Appends to piece ∷ [])) (drop-drop count at bytes) more)
+
+-- all was taken
+pub all_taken : (to : Path) (bytes : List ℕ) (at : ℕ) (ts : List Entry) → length bytes ≤ at → Takes to bytes (drop at bytes) ts → Takes to bytes [] ts
+all_taken to bytes at ts le t = subst (λ (xs : List ℕ). Takes to bytes xs ts) (drop_all at bytes le) t
+
+-- an append failed
+pub part_broke : (to : Path) (bytes : List ℕ) (at : ℕ) (ts us : List Entry) → Takes to bytes (drop at bytes) ts → TakesPart to (take (length bytes - at) (drop at bytes)) us → TakesBroke to bytes (ts ++ us)
+part_broke to bytes at ts us t h = (drop at bytes, record { front = ts; back = us; joined = refl; first = t; second = subst (λ (xs : List ℕ). TakesPart to xs us) (rest_is at bytes) h })
+
+-- ---- reads and appends
+
+-- appends behind a copy so far
+pub takes_on : (from to : Path) (bytes owed left : List ℕ) (ts us : List Entry) → Copying from to bytes owed ts → Takes to owed left us → Copying from to bytes left (ts ++ us)
+takes_on from to bytes owed _ ts _ c none_taken = subst (Copying from to bytes owed) (sym (append-nil ts)) c
+takes_on from to bytes owed left ts _ c (piece_taken {ts = us} piece _ t) =
+    subst (Copying from to bytes left) (append_assoc ts us (Appends to piece ∷ [])) (took_more piece left (takes_on from to bytes owed (piece ++ left) ts us c t))
+
+-- so many bytes were read, and these of them are owed
+abbrev pub Owes : Job → ℕ → List ℕ → List Entry → Type 0
+Owes job count owed ts = (bytes : List ℕ) × (count ≡ length bytes) × Copying job.from job.part bytes owed ts
+
+pub owes_first : (job : Job) (o : Option Journal) → Left (Owes job 0 []) o o
+owes_first job o = left_first (Owes job 0 []) o ([], refl, none_read)
+
+-- a read gave bytes
+pub owes_more : (job : Job) (count more : ℕ) (into : List ℕ) {o m n : Option Journal} → more ≤ length into → (more ≡ 0 → ⊥) → Left (Owes job count []) o m → Left (λ ts. ts ≡ Reads job.from count (take more into) ∷ []) m n → Left (Owes job (count + more) (take more into)) o n
+owes_more job count more into le some l r = left_then l r (λ ts us h e. (h.0 ++ take more into, longer h.0 h.1, subst (λ (vs : List Entry). Copying job.from job.part (h.0 ++ take more into) (take more into) (ts ++ vs)) (sym (at_end h.0 us h.1 e)) (read_more h.2 (take more into) (λ none. some (sym long ∙ ap length none)))))
+  where
+    long : length (take more into) ≡ more
+    long = length-take-le more into le
+
+    longer : (bytes : List ℕ) → count ≡ length bytes → count + more ≡ length (bytes ++ take more into)
+    longer bytes e = let a : length (bytes ++ take more into) ≡ length bytes + length (take more into) = length-append bytes (take more into) in omega (arith, a, e, long)
+
+    at_end : (bytes : List ℕ) (us : List Entry) → count ≡ length bytes → us ≡ Reads job.from count (take more into) ∷ [] → us ≡ Reads job.from (length bytes) (take more into) ∷ []
+    at_end bytes us e is = is ∙ ap (λ (k : ℕ). Reads job.from k (take more into) ∷ []) e
+
+-- they were appended
+pub owes_none : (job : Job) (count : ℕ) (piece : List ℕ) {o m n : Option Journal} → Left (Owes job count piece) o m → Left (Takes job.part piece []) m n → Left (Owes job count []) o n
+owes_none job count piece l t = left_then l t (λ ts us h k. (h.0, h.1, takes_on job.from job.part h.0 piece [] ts us h.2 k))
+
+-- a read failed
+pub read_broke : (job : Job) (count : ℕ) {o m n : Option Journal} → count ≤ job.limit → Left (Owes job count []) o m → Left (λ ts. ts ≡ []) m n → Left (λ ts. (bytes : List ℕ) × (length bytes ≤ job.limit) × Copying job.from job.part bytes [] ts) o n
+read_broke job count le l r = left_then l r (λ ts us h e. (h.0, subst (λ (k : ℕ). k ≤ job.limit) h.1 le, subst (λ (vs : List Entry). Copying job.from job.part h.0 [] (ts ++ vs)) (sym e) (subst (Copying job.from job.part h.0 []) (sym (append-nil ts)) h.2)))
+
+-- an append failed
+pub append_broke : (job : Job) (count : ℕ) (piece : List ℕ) {o m n : Option Journal} → count ≤ job.limit → Left (Owes job count piece) o m → Left (TakesBroke job.part piece) m n
+    → Left (λ ts. (bytes owed : List ℕ) × (length bytes ≤ job.limit) × Then (Copying job.from job.part bytes owed) (TakesPart job.part owed) ts) o n
+append_broke job count piece le l t = left_then l t (λ ts us h k. (
+  h.0,
+  k.0,
+  subst (λ (n : ℕ). n ≤ job.limit) h.1 le,
+  record {
+    front = ts ++ k.1.front;
+    back = k.1.back;
+    joined = ap (λ (vs : List Entry). ts ++ vs) k.1.joined ∙ sym (append_assoc ts k.1.front k.1.back);
+    first = takes_on job.from job.part h.0 piece k.0 ts k.1.front h.2 k.1.first;
+    second = k.1.second;
+  },
+))
+
+-- more than the limit was read
+pub too_long : (job : Job) (count : ℕ) (piece : List ℕ) {o n : Option Journal} → job.limit < count → Left (Owes job count piece) o n → Left (λ ts. (bytes owed : List ℕ) × (job.limit < length bytes) × Copying job.from job.part bytes owed ts) o n
+too_long job count piece lt l = left_as l (λ ts h. (h.0, piece, subst (λ (k : ℕ). job.limit < k) h.1 lt, h.2))
+
+-- a read gave nothing
+pub copies_all : (job : Job) (count more : ℕ) (into : List ℕ) {o m n : Option Journal} → count ≤ job.limit → more ≡ 0 → Left (Owes job count []) o m → Left (λ ts. ts ≡ Reads job.from count (take more into) ∷ []) m n → Left (Copies job count) o n
+copies_all job count more into le none l r = left_then l r (λ ts us h e. record {
+  bytes = h.0;
+  count_is = h.1;
+  within = subst (λ (k : ℕ). k ≤ job.limit) h.1 le;
+  entries = record { front = ts; back = us; joined = refl; first = h.2; second = e ∙ (ap (λ (k : ℕ). Reads job.from count (take k into) ∷ []) none ∙ ap (λ (k : ℕ). Reads job.from k [] ∷ []) h.1) };
+})
+
+-- ---- what they show
+
+text_both : (xs ys : List Entry) → text (xs ++ ys) ≡ text xs ++ text ys
+text_both [] ys = refl
+text_both (Reads x from piece ∷ xs) ys = ap (λ zs. piece ++ zs) (text_both xs ys) ∙ sym (append_assoc piece (text xs) (text ys))
+text_both (_ ∷ xs) ys = text_both xs ys
+
+appended_both : (xs ys : List Entry) → appended (xs ++ ys) ≡ appended xs ++ appended ys
+appended_both [] ys = refl
+appended_both (Appends x piece ∷ xs) ys = ap (λ zs. piece ++ zs) (appended_both xs ys) ∙ sym (append_assoc piece (appended xs) (appended ys))
+appended_both (_ ∷ xs) ys = appended_both xs ys
+
+joined_both : (place : ℕ) (xs ys : List Entry) → AreJoined place xs → AreJoined (place + length (text xs)) ys → AreJoined place (xs ++ ys)
+joined_both place [] ys a b = subst (λ (k : ℕ). AreJoined k ys) (omega arith) b
+joined_both place (Reads x from piece ∷ xs) ys a b =
+    let long : length (piece ++ text xs) ≡ length piece + length (text xs) = length-append piece (text xs) in
+    (a.0, joined_both (place + length piece) xs ys a.1 (subst (λ (k : ℕ). AreJoined k ys) (omega (arith, long)) b))
+joined_both place (_ ∷ xs) ys a b = joined_both place xs ys a b
+
+pub shows : (from to : Path) (bytes owed : List ℕ) (ts : List Entry) → Copying from to bytes owed ts → (text ts ≡ bytes) × AreJoined 0 ts × (appended ts ++ owed ≡ bytes)
+shows from to _ _ _ none_read = (refl, tt, refl)
+shows from to _ _ _ (read_more {bytes = bytes} {ts = ts} c piece some) =
+    let h = shows from to bytes [] ts c in
+    let e = Reads from (length bytes) piece in (
+      text_both ts (e ∷ []) ∙ (ap (λ xs. text ts ++ xs) (append-nil piece) ∙ ap (λ xs. xs ++ piece) h.0),
+      joined_both 0 ts (e ∷ []) h.1 (let long : length (text ts) ≡ length bytes = ap length h.0 in omega (arith, long), tt),
+      ap (λ xs. xs ++ piece) (appended_both ts (e ∷ []) ∙ h.2),
+    )
+shows from to bytes owed _ (took_more {ts = ts} piece _ c) =
+    let h = shows from to bytes (piece ++ owed) ts c in
+    let e = Appends to piece in (
+      text_both ts (e ∷ []) ∙ (append-nil (text ts) ∙ h.0),
+      joined_both 0 ts (e ∷ []) h.1 tt,
+      ap (λ xs. xs ++ owed) (appended_both ts (e ∷ []) ∙ ap (λ xs. appended ts ++ xs) (append-nil piece)) ∙ (append_assoc (appended ts) piece owed ∙ h.2),
+    )

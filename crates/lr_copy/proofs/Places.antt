@@ -1,0 +1,184 @@
+-- Each call of a copy fits, wherever those before it left the disk.
+use Rattle.std.proofs.Common.{◌≡◌, ◌≢◌, ⊎_elim, inl, refl, sym, ◌∙◌, ap, subst, true, List, [], ◌∷◌, reverse, Option, Some, None}
+use Rattle.std.specs.Prelude.{filter}
+use Rattle.std.proofs.lemmas.List.{reverse-reverse}
+use Rattle.lr_rules.specs.declared.path.Path.{Path}
+use Rattle.lr_host.specs.declared.thing.Thing.{Thing}
+use Rattle.lr_host.specs.declared.thing.Thing.TheVariants as thing
+use Rattle.lr_host.specs.declared.entry.Entry.{Entry}
+use Rattle.lr_host.specs.declared.entry.Entry.TheVariants as entry
+use Rattle.lr_host.specs.declared.journal.Journal.{Journal}
+use Rattle.lr_host.specs.World.{Past, ◌▸◌, past, world, Names, names, put}
+use Rattle.lr_host.specs.Fits.{Fits, IsFileAt, IsDirectoryAt}
+use Rattle.lr_host.specs.Steps.{is_naming}
+use Rattle.lr_host.specs.Told.{Made, at_first, by_writer, by_tool, Left, not_told, is_told, Can, CanCall, WhereTold}
+use Rattle.lr_host.proofs.Each.{filter_reverse, none_passed}
+use Rattle.lr_host.proofs.Left.{still_step}
+use Rattle.lr_host.proofs.Looked.{nothing_no_dir, file_no_dir}
+use Rattle.lr_host.proofs.More.{IsMore, more_on, made_more, wrote_names, file_same}
+use Rattle.lr_host.proofs.Names.{put_here, put_other}
+use Rattle.lr_copy.specs.declared.job.Job.{Job}
+use Rattle.lr_copy.specs.Fits.{ArePaths, HasPlace, CanCopy, CanOpen, CanName, CanCut}
+
+-- ---- what entries do to facts of names
+
+-- a fact that stays where files come
+abbrev Stays : (Names → Type 0) → Type 0
+Stays Q = (n n' : Names) → IsMore n n' → Q n → Q n'
+
+still_walk : (p q : Past) (es : List Entry) → Made p es q → filter is_naming es ≡ [] → IsMore (names (world p)) (names (world q))
+still_walk p _ _ at_first h = λ y. inl refl
+still_walk p _ es (by_writer {q = q} {e = e} m i f) h = more_on (names (world p)) (names (world q)) (names (world (q ▸ e))) (still_walk p q es m h) (λ y. wrote_names q e y i)
+still_walk p _ _ (by_tool {es = es} {q = q} {e = e} m i f) h = let s = none_passed is_naming e es h in
+    more_on (names (world p)) (names (world q)) (names (world (q ▸ e))) (still_walk p q es m s.1) (still_step q e i f s.0)
+
+-- entries by which no name goes
+left_still : {P : List Entry → Type 0} {o m : Option Journal} (Q : Names → Type 0) → Stays Q → Left P o m → ((ts : List Entry) → P ts → filter is_naming ts ≡ []) → WhereTold o (λ p. Q (names (world p))) → WhereTold m (λ p. Q (names (world p)))
+left_still Q stays not_told f h = tt
+left_still Q stays (is_told {j = j} {k = k} {es = es} m l) f h = stays (names (world (past j))) (names (world (past k))) (still_walk (past j) (past k) es m (none (f (reverse es) l))) h
+  where
+    none : filter is_naming (reverse es) ≡ [] → filter is_naming es ≡ []
+    none e = sym (reverse-reverse (filter is_naming es)) ∙ (ap reverse (sym (filter_reverse is_naming es) ∙ e))
+
+one_walk : (Q R : Names → Type 0) → Stays Q → Stays R → (e : Entry) → ((r : Past) → Q (names (world r)) → Fits (world r) e → R (names (world (r ▸ e))))
+    → (p q : Past) (es : List Entry) → Made p es q → es ≡ e ∷ [] → Q (names (world p)) → R (names (world q))
+one_walk Q R sq sr e f p _ _ at_first is h = absurd (cc)
+one_walk Q R sq sr e f p _ es (by_writer {q = q} {e = w} m i t) is h = sr (names (world q)) (names (world (q ▸ w))) (λ y. wrote_names q w y i) (one_walk Q R sq sr e f p q es m is h)
+one_walk Q R sq sr e f p _ _ (by_tool {es = es} {q = q} {e = t} m i fits) is h =
+    let same : e ≡ t = cc in
+    let none : es ≡ [] = cc in
+    subst (λ (s : Entry). R (names (world (q ▸ s)))) same (f q (sq (names (world p)) (names (world q)) (still_walk p q es m (ap (filter is_naming) none)) h) (subst (λ (s : Entry). Fits (world q) s) (sym same) fits))
+
+-- one entry
+left_one : {o m : Option Journal} (Q R : Names → Type 0) → Stays Q → Stays R → (e : Entry) → ((r : Past) → Q (names (world r)) → Fits (world r) e → R (names (world (r ▸ e))))
+    → Left (λ ts. ts ≡ e ∷ []) o m → WhereTold o (λ p. Q (names (world p))) → WhereTold m (λ p. R (names (world p)))
+left_one Q R sq sr e f not_told h = tt
+left_one Q R sq sr e f (is_told {j = j} {k = k} {es = es} m l) h = one_walk Q R sq sr e f (past j) (past k) es m (sym (reverse-reverse es) ∙ ap reverse l) h
+
+can_by : (Q : Names → Type 0) (e : Entry) (o : Option Journal) → ((n : Names) → Q n → CanCall n e) → WhereTold o (λ p. Q (names (world p))) → Can o e
+can_by Q e o f h = record { can = go o h }
+  where
+    go : (o : Option Journal) → WhereTold o (λ p. Q (names (world p))) → WhereTold o (λ p. CanCall (names (world p)) e)
+    go None h = tt
+    go (Some j) h = f (names (world (past j))) h
+
+told_as : (Q R : Names → Type 0) (o : Option Journal) → ((n : Names) → Q n → R n) → WhereTold o (λ p. Q (names (world p))) → WhereTold o (λ p. R (names (world p)))
+told_as Q R None f h = tt
+told_as Q R (Some j) f h = f (names (world (past j))) h
+
+-- ---- the place of a copy
+
+dir_more : (x : Path) → Stays (λ n. IsDirectoryAt n x)
+dir_more x n n' more h = ⊎_elim (λ same. same ∙ h) (λ new. absurd (nothing_no_dir (n x) new.0 h)) (more x)
+
+file_more : (x : Path) → Stays (λ n. IsFileAt n x)
+file_more x n n' more h = (h.0, file_same n n' x more h ∙ h.1)
+
+place_more : (job : Job) → Stays (HasPlace job)
+place_more job n n' more h = record {
+  log = file_more job.from n n' more h.log;
+  directory = dir_more job.dir n n' more h.directory;
+  no_directory = λ is. ⊎_elim (λ same. h.no_directory (sym same ∙ is)) (λ new. file_no_dir (n' job.to) new.1.0 new.1.1 is) (more job.to);
+  no_other = λ is. ⊎_elim (λ same. h.no_other (sym same ∙ is)) (λ new. let a = new.1.1 in cc) (more job.to);
+}
+
+-- with the part file
+abbrev Full : Job → Names → Type 0
+Full job n = HasPlace job n × IsFileAt n job.part
+
+full_more : (job : Job) → Stays (Full job)
+full_more job n n' more h = (place_more job n n' more h.0, file_more job.part n n' more h.1)
+
+-- the log and the directory
+abbrev Near : Job → Names → Type 0
+Near job n = IsFileAt n job.from × IsDirectoryAt n job.dir
+
+near_more : (job : Job) → Stays (Near job)
+near_more job n n' more h = (file_more job.from n n' more h.0, dir_more job.dir n n' more h.1)
+
+-- a directory stays where the name of a file changes, and a file where another's does
+dir_put : (n : Names) (x y : Path) (t : Thing) → n x ≢ thing.Directory → IsDirectoryAt n y → IsDirectoryAt (put n x t) y
+dir_put n x y t ne h = put_other n x y t (λ same. ne (subst (λ z. n z ≡ thing.Directory) same h)) ∙ h
+
+file_put : (n : Names) (x y : Path) (t : Thing) → x ≢ y → IsFileAt n y → IsFileAt (put n x t) y
+file_put n x y t ne h = (h.0, put_other n x y t (λ same. ne (sym same)) ∙ h.1)
+
+no_dir : (n : Names) (x : Path) → IsFileAt n x → n x ≢ thing.Directory
+no_dir n x f is = file_no_dir (n x) f.0 f.1 is
+
+-- an old part file goes
+place_dropped : (job : Job) (n : Names) → ArePaths job → IsFileAt n job.part → HasPlace job n → HasPlace job (put n job.part thing.Nothing)
+place_dropped job n paths f h =
+    let other : put n job.part thing.Nothing job.to ≡ n job.to = put_other n job.part job.to thing.Nothing (λ e. paths.part_not_to (sym e)) in record {
+      log = file_put n job.part job.from thing.Nothing paths.part_apart h.log;
+      directory = dir_put n job.part job.dir thing.Nothing (no_dir n job.part f) h.directory;
+      no_directory = λ is. h.no_directory (sym other ∙ is);
+      no_other = λ is. h.no_other (sym other ∙ is);
+    }
+
+-- ---- the calls, in order
+
+pub can_unlink : (job : Job) {o : Option Journal} → job.stale ≡ true → CanCopy o job → Can o (entry.Unlinks job.part)
+can_unlink job {o = o} stale can = can_by (λ n. HasPlace job n × (job.stale ≡ true → IsFileAt n job.part)) (entry.Unlinks job.part) o (λ n f. f.1 stale) can.place
+
+pub not_cleared : (job : Job) {o : Option Journal} → CanCopy o job → CanOpen o job
+not_cleared job {o = o} can = record { place = told_as (λ n. HasPlace job n × (job.stale ≡ true → IsFileAt n job.part)) (HasPlace job) o (λ n f. f.0) can.place }
+
+pub is_cleared : (job : Job) {o m : Option Journal} → ArePaths job → job.stale ≡ true → CanCopy o job → Left (λ ts. ts ≡ entry.Unlinks job.part ∷ []) o m → CanOpen m job
+is_cleared job {o = o} paths stale can l = record {
+  place = left_one (Full job) (HasPlace job) (full_more job) (place_more job) (entry.Unlinks job.part) (λ r h fits. place_dropped job (names (world r)) paths h.1 h.0) l
+      (told_as (λ n. HasPlace job n × (job.stale ≡ true → IsFileAt n job.part)) (Full job) o (λ n f. (f.0, f.1 stale)) can.place);
+}
+
+pub can_make : (job : Job) {o : Option Journal} → ArePaths job → CanOpen o job → Can o (entry.Makes job.part job.mode)
+can_make job {o = o} paths can = can_by (HasPlace job) (entry.Makes job.part job.mode) o (λ n f. subst (λ d. IsDirectoryAt n d) (sym paths.part_in) f.directory) can.place
+
+pub is_made : (job : Job) {o m : Option Journal} → CanOpen o job → Left (λ ts. ts ≡ entry.Makes job.part job.mode ∷ []) o m → CanName m job
+is_made job can l = record { place = left_one (HasPlace job) (Full job) (place_more job) (full_more job) (entry.Makes job.part job.mode) made l can.place }
+  where
+    made : (r : Past) → HasPlace job (names (world r)) → Fits (world r) (entry.Makes job.part job.mode) → Full job (names (world (r ▸ entry.Makes job.part job.mode)))
+    made r h fits =
+        let n = names (world r) in (
+          place_more job n (names (world (r ▸ entry.Makes job.part job.mode))) (made_more n job.part (world r).drawn fits.1) h,
+          ((world r).drawn, put_here n job.part job.part (thing.File (world r).drawn) refl),
+        )
+
+pub can_read : (job : Job) {o : Option Journal} → CanName o job → Can o (entry.Reads job.from 0 [])
+can_read job {o = o} can = can_by (Full job) (entry.Reads job.from 0 []) o (λ n f. f.0.log) can.place
+
+pub can_append : (job : Job) {o : Option Journal} → CanName o job → Can o (entry.Appends job.part [])
+can_append job {o = o} can = can_by (Full job) (entry.Appends job.part []) o (λ n f. f.1) can.place
+
+pub can_sync : (job : Job) {o : Option Journal} → CanName o job → Can o (entry.SyncsFile job.part)
+can_sync job {o = o} can = can_by (Full job) (entry.SyncsFile job.part) o (λ n f. f.1) can.place
+
+pub name_still : (job : Job) {P : List Entry → Type 0} {o m : Option Journal} → CanName o job → Left P o m → ((ts : List Entry) → P ts → filter is_naming ts ≡ []) → CanName m job
+name_still job can l none = record { place = left_still (Full job) (full_more job) l none can.place }
+
+pub can_rename : (job : Job) {o : Option Journal} → ArePaths job → CanName o job → Can o (entry.Renames job.part job.to)
+can_rename job {o = o} paths can = can_by (Full job) (entry.Renames job.part job.to) o (λ n f. (f.1, f.0.no_directory, f.0.no_other, subst (λ d. IsDirectoryAt n d) paths.dir_is f.0.directory, paths.part_not_to)) can.place
+
+-- the part file has its final path, and the directory isn't synced yet
+pub record CanSync (told : Option Journal) (job : Job) : Type 0 where
+  pub near : WhereTold told (λ p. Near job (names (world p)))
+
+pub is_renamed : (job : Job) {o m : Option Journal} → ArePaths job → CanName o job → Left (λ ts. ts ≡ entry.Renames job.part job.to ∷ []) o m → CanSync m job
+is_renamed job paths can l = record { near = left_one (Full job) (Near job) (full_more job) (near_more job) (entry.Renames job.part job.to) moved l can.place }
+  where
+    moved : (r : Past) → Full job (names (world r)) → Fits (world r) (entry.Renames job.part job.to) → Near job (names (world (r ▸ entry.Renames job.part job.to)))
+    moved r h fits =
+        let n = names (world r) in
+        let gone = put n job.part thing.Nothing in
+        let same : gone job.to ≡ n job.to = put_other n job.part job.to thing.Nothing (λ e. paths.part_not_to (sym e)) in (
+          file_put gone job.to job.from (n job.part) paths.to_apart (file_put n job.part job.from thing.Nothing paths.part_apart h.0.log),
+          dir_put gone job.to job.dir (n job.part) (λ is. h.0.no_directory (sym same ∙ is)) (dir_put n job.part job.dir thing.Nothing (no_dir n job.part h.1) h.0.directory),
+        )
+
+pub can_sync_dir : (job : Job) {o : Option Journal} → CanSync o job → Can o (entry.SyncsDir job.dir)
+can_sync_dir job {o = o} can = can_by (Near job) (entry.SyncsDir job.dir) o (λ n f. f.1) can.near
+
+pub is_synced : (job : Job) {o m : Option Journal} → CanSync o job → Left (λ ts. ts ≡ entry.SyncsDir job.dir ∷ []) o m → CanCut m job
+is_synced job {m = m} can l = record { log = told_as (Near job) (λ n. IsFileAt n job.from) m (λ n f. f.0) (left_still (Near job) (near_more job) l (λ ts t. ap (filter is_naming) t) can.near) }
+
+pub can_truncate : (job : Job) {o : Option Journal} → CanCut o job → Can o (entry.Truncates job.from)
+can_truncate job {o = o} can = can_by (λ n. IsFileAt n job.from) (entry.Truncates job.from) o (λ n f. f) can.log
