@@ -1,10 +1,10 @@
 mod Behind
 mod Examples
-mod Files
-mod Leaving
-mod Lists
-mod Parts
+pub mod Files
+pub mod Leaving
+pub mod Lists
+pub mod Parts
 mod Renewed
-mod Syncs
-mod Walks
+pub mod Syncs
+pub mod Walks
 pub mod Whole

@@ -95,7 +95,7 @@ module _ (P : Path → Type 0) (x : Path) (g : ℕ) (far : (y : Path) → P y �
   appended_bytes true bytes piece now e n = ap (λ xs. xs ++ piece) n
   appended_bytes false bytes piece now e n = absurd (cc)
 
-  own_append : (bytes piece : List ℕ) (q : Past) → IsOwn x g bytes q → IsOwn x g (bytes ++ piece) (q ▸ entry.Appends x piece)
+  pub own_append : (bytes piece : List ℕ) (q : Past) → IsOwn x g bytes q → IsOwn x g (bytes ++ piece) (q ▸ entry.Appends x piece)
   own_append bytes piece q h = record {
     named = h.named;
     guarded = record {

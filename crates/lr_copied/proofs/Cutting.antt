@@ -1,0 +1,123 @@
+-- The moment just before the log is emptied.
+use Rattle.std.proofs.Common.{◌≡◌, refl, sym, ◌∙◌, ap, subst, arith, ℕ, Bool, true, false, cond, List, [], ◌∷◌, ◌++◌, reverse, append_assoc}
+use Rattle.std.proofs.lemmas.List.{reverse-append}
+use Rattle.lr_rules.specs.declared.path.Path.{Path}
+use Rattle.lr_host.specs.declared.entry.Entry.{Entry}
+use Rattle.lr_host.specs.declared.entry.Entry.TheVariants as entry
+use Rattle.lr_host.specs.Fits.{Fits, IsFileAt}
+use Rattle.lr_host.specs.Opening.{IsJournal}
+use Rattle.lr_host.specs.Safe.{IsPrefix, shorter}
+use Rattle.lr_host.specs.Told.{Each, Made, at_first, by_writer, by_tool, IsWriters}
+use Rattle.lr_host.specs.World.{Past, ◌▸◌, world, names}
+use Rattle.lr_host.proofs.Each.{each_append}
+use Rattle.lr_host.proofs.Made.{made_on}
+use Rattle.lr_host.proofs.Quiet.{size, since_before}
+use Rattle.lr_copy.specs.declared.job.Job.{Job}
+use Rattle.lr_copy.specs.Copying.{Copying, none_read, read_more, took_more, clearing, opening, Fills, naming, cutting, Copied}
+use Rattle.lr_copy.specs.Fits.{ArePaths}
+use Rattle.lr_durable.proofs.Lists.{IsOnWay, on_way, prefix_size}
+use Rattle.lr_copied.specs.Whole.{Named, WritersSpare, IsWhole}
+use Rattle.lr_copied.proofs.Named.{whole}
+
+-- ---- the one truncation
+
+abbrev IsNoCut : Entry → Type 0
+IsNoCut (entry.Truncates x) = ⊥
+IsNoCut _ = Unit {0}
+
+no_cut_copying : (from to : Path) (bytes owed : List ℕ) (ts : List Entry) → Copying from to bytes owed ts → Each IsNoCut ts
+no_cut_copying from to _ _ _ none_read = tt
+no_cut_copying from to _ _ _ (read_more {bytes = bytes} {ts = ts} c piece some) = each_append IsNoCut ts _ (no_cut_copying from to bytes [] ts c) (tt, tt)
+no_cut_copying from to bytes owed _ (took_more {ts = ts} piece _ c) = each_append IsNoCut ts _ (no_cut_copying from to bytes (piece ++ owed) ts c) (tt, tt)
+
+no_cut_opening : (job : Job) → Each IsNoCut (opening job)
+no_cut_opening job = each_append IsNoCut (clearing job) (entry.Makes job.part job.mode ∷ []) (go job.stale) (tt, tt)
+  where
+    go : (b : Bool) → Each IsNoCut (cond b (entry.Unlinks job.part ∷ []) [])
+    go true = (tt, tt)
+    go false = tt
+
+no_cut_filling : (job : Job) (count : ℕ) (ts : List Entry) → Fills job count ts → Each IsNoCut ts
+no_cut_filling job count ts f = let c = f.first in subst (Each IsNoCut) (sym f.joined) (each_append IsNoCut f.front f.back
+    (subst (Each IsNoCut) (sym c.entries.joined) (each_append IsNoCut c.entries.front c.entries.back (no_cut_copying job.from job.part c.bytes [] c.entries.front c.entries.first) (subst (Each IsNoCut) (sym c.entries.second) (tt, tt))))
+    (subst (Each IsNoCut) (sym f.second) (tt, tt)))
+
+-- it stands last
+ends_there : (b : Bool) (e : Entry) (ns xs ys : List Entry) → (IsNoCut e → ⊥) → Each IsNoCut ns → ns ++ cond b (e ∷ []) [] ≡ xs ++ (e ∷ ys) → xs ≡ ns
+ends_there b e [] [] ys cut a is = refl
+ends_there true e [] (x ∷ xs) ys cut a is = absurd (nothing xs is)
+  where
+    nothing : (xs : List Entry) → e ∷ [] ≡ x ∷ (xs ++ (e ∷ ys)) → ⊥
+    nothing [] is = cc
+    nothing (z ∷ zs) is = cc
+ends_there false e [] (x ∷ xs) ys cut a is = absurd (cc)
+ends_there b e (n ∷ ns) [] ys cut a is = absurd (cut (subst IsNoCut same a.0))
+  where
+    same : n ≡ e
+    same = cc
+ends_there b e (n ∷ ns) (x ∷ xs) ys cut a is = ap (λ z. z ∷ xs) (sym head) ∙ ap (λ zs. n ∷ zs) (ends_there b e ns xs ys cut a.1 tail)
+  where
+    head : n ≡ x
+    head = cc
+
+    tail : ns ++ cond b (e ∷ []) [] ≡ xs ++ (e ∷ ys)
+    tail = cc
+
+-- ---- the moment before an entry of the tool
+
+record IsLast (p u : Past) (e : Entry) (es : List Entry) : Type 0 where
+  front : List Entry
+  es_are : es ≡ e ∷ front
+  made : Made p front u
+  fits : Fits (world u) e
+
+is_last : (p u r : Past) (e : Entry) (es : List Entry) → (IsWriters e → ⊥) → IsPrefix p u → Made p es r → r ≡ u ▸ e → IsLast p u e es
+is_last p u _ e _ tools i at_first is = absurd (let le = prefix_size p u i in let long : size p ≡ size (u ▸ e) = ap size is in omega (arith, le, long))
+is_last p u _ e es tools i (by_writer {q = q} {e = d} m w f) is = absurd (tools (subst IsWriters same w))
+  where
+    same : d ≡ e
+    same = cc
+is_last p u _ e _ tools i (by_tool {es = es} {q = q} {e = d} m t f) is = record {
+  front = es;
+  es_are = ap (λ z. z ∷ es) last;
+  made = subst (λ (v : Past). Made p es v) first m;
+  fits = subst (λ (v : Past). Fits (world v) e) first (subst (λ (z : Entry). Fits (world q) z) last f);
+}
+  where
+    last : d ≡ e
+    last = cc
+
+    first : q ≡ u
+    first = cc
+
+-- ---- the law
+
+pub whole_before_cut : (job : Job) (count : ℕ) (p q : Past) (es : List Entry) → Made p es q → IsJournal p → ArePaths job → IsFileAt (names (world p)) job.from → WritersSpare job p q → Copied job count (reverse es)
+    → (u : Past) → IsPrefix p u → IsPrefix (u ▸ entry.Truncates job.from) q → IsWhole job.from job.to p u
+whole_before_cut job count p q es m j paths log only n u since until = behind (on_way p (u ▸ e) q es m (shorter since) until)
+  where
+    e : Entry
+    e = entry.Truncates job.from
+
+    -- all before it
+    named : List Entry
+    named = n.front ++ (n.second.front ++ naming job)
+
+    is_named : Named job count named
+    is_named = record { front = n.front; back = n.second.front ++ naming job; joined = refl; first = n.first; second = record { front = n.second.front; back = naming job; joined = refl; first = n.second.first; second = refl } }
+
+    no_cut : Each IsNoCut named
+    no_cut = each_append IsNoCut n.front (n.second.front ++ naming job) (subst (Each IsNoCut) (sym n.first) (no_cut_opening job)) (each_append IsNoCut n.second.front (naming job) (no_cut_filling job count n.second.front n.second.first) (tt, (tt, tt)))
+
+    all_are : reverse es ≡ named ++ cutting job
+    all_are = n.joined ∙ (ap (λ us. n.front ++ us) (n.second.joined ∙ (ap (λ us. n.second.front ++ us) n.second.second ∙ sym (append_assoc n.second.front (naming job) (cutting job)))) ∙ sym (append_assoc n.front (n.second.front ++ naming job) (cutting job)))
+
+    just : (w : IsOnWay p (u ▸ e) q es) → IsLast p u e w.old → IsWhole job.from job.to p u
+    just w k =
+        let whole_list : reverse es ≡ reverse k.front ++ (e ∷ reverse w.new) = ap reverse (w.es_are ∙ ap (λ us. w.new ++ us) k.es_are) ∙ (reverse-append w.new (e ∷ k.front) ∙ (ap (λ us. us ++ reverse w.new) (reverse-append (e ∷ []) k.front) ∙ append_assoc (reverse k.front) (e ∷ []) (reverse w.new))) in
+        let same : reverse k.front ≡ named = ends_there job.cut e named (reverse k.front) (reverse w.new) (λ i. i) no_cut (sym all_are ∙ whole_list) in
+        let one : Made u (e ∷ []) (u ▸ e) = by_tool at_first tt k.fits in
+        whole job count p u k.front k.made j paths log (since_before _ p u q k.front (w.new ++ e ∷ []) k.made (made_on u (u ▸ e) q (e ∷ []) w.new one w.behind) only) (subst (Named job count) (sym same) is_named)
+
+    behind : IsOnWay p (u ▸ e) q es → IsWhole job.from job.to p u
+    behind w = just w (is_last p u (u ▸ e) e w.old (λ i. i) since w.before refl)

@@ -1,0 +1,4 @@
+mod Cutting
+mod Filled
+mod Logs
+mod Named

@@ -1,0 +1,9 @@
+//! What a copy of a log leaves durable: before the log is emptied the copy has its final path, whole, and after each cut.
+//!
+//! A law is the contract of a function that does nothing; begin with `copy_is_whole_before_cut`, whose words stand in
+//! `specs/Whole.antt`.
+#![tactic(auto)]
+
+mod laws;
+
+pub use laws::{copy_is_whole, copy_is_whole_before_cut};
