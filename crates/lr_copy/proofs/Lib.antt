@@ -1,3 +1,4 @@
+mod Keeping
 mod Pieces
 mod Places
 mod Stopping

@@ -58,3 +58,27 @@ CopyCause _ before now = Unit {0}
 abbrev pub ShowsTaken : CopyStop → Option Journal → Type 0
 ShowsTaken (stop.Taken path) told = WhereTold told (λ p. names (world p) path.now ≢ thing.Nothing)
 ShowsTaken _ told = Unit {0}
+
+-- ---- what is left undone
+
+-- the entry empties no file
+abbrev pub EmptiesNone : Entry → Type 0
+EmptiesNone (Truncates x) = ⊥
+EmptiesNone _ = Unit {0}
+
+-- the entry renames none
+abbrev pub RenamesNone : Entry → Type 0
+RenamesNone (Renames from to) = ⊥
+RenamesNone _ = Unit {0}
+
+-- the truncation failed
+abbrev pub IsCutStop : CopyStop → Type 0
+IsCutStop (stop.Call call.Truncate path) = Unit {0}
+IsCutStop _ = ⊥
+
+-- neither a rename, nor a sync, nor a truncation failed
+abbrev pub IsEarly : CopyStop → Type 0
+IsEarly (stop.Call call.Rename path) = ⊥
+IsEarly (stop.Call call.Sync path) = ⊥
+IsEarly (stop.Call call.Truncate path) = ⊥
+IsEarly _ = Unit {0}

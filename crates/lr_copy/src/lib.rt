@@ -21,4 +21,6 @@ mod opening;
 
 pub use copy::copy_out;
 pub use job::{CopyStop, Job};
-pub use laws::copies_take_what_they_read;
+pub use laws::{
+    copies_take_what_they_read, stopped_copies_keep_the_log, unnamed_copies_rename_nothing,
+};
