@@ -1,2 +1,3 @@
 pub mod OneOrder
 pub mod OneWord
+pub mod Standing
