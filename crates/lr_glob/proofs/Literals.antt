@@ -80,7 +80,7 @@ escaped_step _ _ xs (high d b bs m n h) e = drops b (bs ++ xs) (no_slash_byte b 
 escape_low : 92 < 128
 escape_low = omega arith
 
-literal_spelt : (cs : List ℕ) → list_any is_slash cs ≡ false → literal_path (encodes cs) ≡ encodes (literal_path cs)
+pub literal_spelt : (cs : List ℕ) → list_any is_slash cs ≡ false → literal_path (encodes cs) ≡ encodes (literal_path cs)
 literal_spelt [] h = refl
 literal_spelt (c ∷ []) h = by (c == 92) refl
   where
@@ -109,7 +109,7 @@ sign_highs : (bs xs : List ℕ) → Highs bs → has_sign false (bs ++ xs) ≡ h
 sign_highs [] xs h = refl
 sign_highs (b ∷ bs) xs h = ap (λ t. t || has_sign (b == 92) (bs ++ xs)) (no_sign_byte b h.0) ∙ (ap (λ t. has_sign t (bs ++ xs)) (no_escape b h.0) ∙ sign_highs bs xs h.1)
 
-no_sign : (e : Bool) (cs : List ℕ) → has_sign e (encodes cs) ≡ false → has_sign e cs ≡ false
+pub no_sign : (e : Bool) (cs : List ℕ) → has_sign e (encodes cs) ≡ false → has_sign e cs ≡ false
 no_sign e [] h = refl
 no_sign true (c ∷ cs) h = no_sign false cs (by c (encode c) (spelt c) h)
   where
@@ -171,7 +171,7 @@ true_both true true h g = refl
 true_both true false h g = absurd (cc)
 true_both false b h g = absurd (cc)
 
-literal_scalars : (cs : List ℕ) → scalars cs ≡ true → scalars (literal_path cs) ≡ true
+pub literal_scalars : (cs : List ℕ) → scalars cs ≡ true → scalars (literal_path cs) ≡ true
 literal_scalars [] h = refl
 literal_scalars (c ∷ []) h = h
 literal_scalars (c ∷ d ∷ cs) h = by (c == 92 && not (is_slash d)) (literal_scalars (d ∷ cs) p.1) (literal_scalars cs q.1)
@@ -201,6 +201,54 @@ literal_matches part u plain s = subst (λ xs. Matches true xs (chars (literal_p
 
     name : literal_path u.0 ≡ chars (literal_path part)
     name = sym (chars-encodes (literal_path u.0) (literal_scalars u.0 u.1.0)) ∙ ap chars (sym (literal_spelt u.0 slashes) ∙ ap literal_path u.1.1)
+
+-- ---- one name alone
+
+sign_none : (c : ℕ) (cs : List ℕ) (s : ℕ) → has_sign false (c ∷ cs) ≡ false → c ≡ s → is_sign s ≡ true → ⊥
+sign_none c cs s none is t = let g = sym (ap is_sign is ∙ t) ∙ (or_parts (is_sign c) (has_sign (c == 92) cs) none).0 in absurd (cc)
+
+itself_is : (c : ℕ) (part name : List ℕ) → IsPlain c part → name ≡ literal_path part → c ∷ name ≡ literal_path (c ∷ part)
+itself_is c part name p e = by (c == 92) refl
+  where
+    last : part ≡ [] → c ∷ name ≡ literal_path (c ∷ part)
+    last none = ap (λ xs. c ∷ xs) (e ∙ ap literal_path none) ∙ sym (ap (λ xs. literal_path (c ∷ xs)) none)
+
+    by : (t : Bool) → (c == 92) ≡ t → c ∷ name ≡ literal_path (c ∷ part)
+    by true h = last (p.no_escape ((Decides-eqb c 92).0 h))
+    by false h = ap (λ xs. c ∷ xs) e ∙ sym (stay c part h)
+
+behind_itself : (c : ℕ) (part : List ℕ) → IsPlain c part → has_sign (c == 92) part ≡ false → has_sign false part ≡ false
+behind_itself c part p none = by (c == 92) refl none
+  where
+    by : (t : Bool) → (c == 92) ≡ t → has_sign t part ≡ false → has_sign false part ≡ false
+    by true h g = ap (has_sign false) (p.no_escape ((Decides-eqb c 92).0 h))
+    by false h g = g
+
+matched_is : (f : Bool) (cs name : List ℕ) → has_sign false cs ≡ false → list_any is_slash cs ≡ false → Matches f cs name → name ≡ literal_path cs
+matched_is f _ _ none plain Matches.ends = refl
+matched_is f _ _ none plain (Matches.itself {c = c} {part = part} {name = name} p m) =
+    itself_is c part name p (matched_is false part name (behind_itself c part p (or_parts (is_sign c) (has_sign (c == 92) part) none).1) (or_parts (is_slash c) (list_any is_slash part) plain).1 m)
+matched_is f _ _ none plain (Matches.escaped {sign = sign} {c = c} {part = part} {name = name} is m) =
+    let slashes = or_parts (is_slash c) (list_any is_slash part) (or_parts (is_slash sign) (list_any is_slash (c ∷ part)) plain).1 in
+    let signs = subst (λ t. has_sign t (c ∷ part) ≡ false) ((Decides-eqb sign 92).1 is) (or_parts (is_sign sign) (has_sign (sign == 92) (c ∷ part)) none).1 in
+    subst (λ x. c ∷ name ≡ literal_path (x ∷ c ∷ part)) (sym is) (ap (λ xs. c ∷ xs) (matched_is false part name signs slashes.1 m) ∙ sym (drops c part slashes.0))
+matched_is f _ _ none plain (Matches.any_one {sign = sign} {part = part} is opens m) = absurd (sign_none sign part 63 none is refl)
+matched_is f _ _ none plain (Matches.run_ends {sign = sign} {part = part} is m) = absurd (sign_none sign part 42 none is refl)
+matched_is f _ _ none plain (Matches.run_goes_on {sign = sign} {part = part} is opens m) = absurd (sign_none sign part 42 none is refl)
+matched_is f _ _ none plain (Matches.of_class {sign = sign} {part = part} is k opens h m) = absurd (sign_none sign part 91 none is refl)
+
+-- a part of a text without signs matches no other name than that without its backslashes
+pub one_name : (part name : List ℕ) → IsUtf8 part → IsUtf8 name → is_wildcard part ≡ false → list_any is_slash part ≡ false → Matches true (chars part) (chars name) → name ≡ literal_path part
+one_name part name u v plain s m = sym v.1.1 ∙ (ap encodes (matched_is true u.0 v.0 signs slashes as_characters) ∙ (sym (literal_spelt u.0 slashes) ∙ ap literal_path u.1.1))
+  where
+    slashes : list_any is_slash u.0 ≡ false
+    slashes = no_slash u.0 (ap (list_any is_slash) u.1.1 ∙ s)
+
+    signs : has_sign false u.0 ≡ false
+    signs = no_sign false u.0 (ap (has_sign false) u.1.1 ∙ plain)
+
+    as_characters : Matches true u.0 v.0
+    as_characters = subst (Matches true u.0) (sym (chars_from_encodes v.0 name v v.1.1)) (subst (λ cs. Matches true cs (chars name)) (sym (chars_from_encodes u.0 part u u.1.1)) m)
 
 -- ---- the parts of a text
 

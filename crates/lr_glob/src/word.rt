@@ -37,6 +37,7 @@ fn any_long(found: &[Found]) -> bool
 // What is found, where no path of it is too long and there is room for so many.
 fn judge(room: usize, found: Vec<Found>) -> Result<Vec<Found>, GlobStop>
     ensures ok { IfOk result (λ all. judged room found.items ≡ Ok all.items) }
+    ensures short { IfOk result (λ all. list_any is_long all.items ≡ false) }
     ensures stopped { IfErr result (λ why. judged room found.items ≡ Err why) }
     ensures no_call { IfErr result (λ why. IsFailedCall why → ⊥) }
 {
@@ -228,6 +229,7 @@ pub fn expand<H: Host>(
     room: usize,
 ) -> Result<Vec<Found>, GlobStop>
     ensures told { IfOk result (λ found. Left (Comes word.now room (Ok found.items)) (H.told host.old) (H.told host.new)) }
+    ensures short { IfOk result (λ found. list_any is_long found.items ≡ false) }
     ensures stopped { IfErr result (λ why. Left (Stopped word.now room why) (H.told host.old) (H.told host.new)) }
     ensures cause { IfErr result (λ why. IsFailedCall why → Rose (H.counts host.old).faults (H.counts host.new).faults) }
     ensures counts { Onward (H.counts host.old) (H.counts host.new) }
