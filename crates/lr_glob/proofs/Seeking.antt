@@ -145,7 +145,7 @@ whole_ends_not x whole ends = let t = (ends_tell x part_end).1 ends in let n = s
 
 -- ---- what is found
 
-all_are : (room : ℕ) (all found : List Found) → judged room all ≡ Ok found → all ≡ found
+pub all_are : (room : ℕ) (all found : List Found) → judged room all ≡ Ok found → all ≡ found
 all_are room all found e = by (list_any is_long all) (nat_lt room (length all)) e
   where
     by : (b c : Bool) → cond b (Err stop.LongName) (cond c (Err stop.TooMany) (Ok all)) ≡ Ok found → all ≡ found

@@ -1,3 +1,6 @@
 pub mod OneOrder
 pub mod OneWord
+pub mod Pairs
 pub mod Standing
+pub mod Stood
+pub mod Ways

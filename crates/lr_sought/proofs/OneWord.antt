@@ -148,11 +148,11 @@ round_by false part dirs Went Went a b vs ws g h e = record { came = gathered (�
 round_by false part dirs Went (Asked ys) a b vs ws g h e = absurd h
 round_by false part dirs (Asked xs) s a b vs ws g h e = absurd g
 
-abbrev LeadsBy : List (List ℕ) → List Path → List Round → List Path → Type 0
+abbrev pub LeadsBy : List (List ℕ) → List Path → List Round → List Path → Type 0
 LeadsBy [] dirs rounds paths = (rounds ≡ []) × (paths ≡ dirs)
 LeadsBy (part ∷ parts) dirs rounds paths = (between : List Path) × (round : Round) × (rest : List Round) × (rounds ≡ round ∷ rest) × Follows part dirs round between × LeadsBy parts between rest paths
 
-leads_by : (parts : List (List ℕ)) (dirs : List Path) (rounds : List Round) (paths : List Path) → Leads parts dirs rounds paths → LeadsBy parts dirs rounds paths
+pub leads_by : (parts : List (List ℕ)) (dirs : List Path) (rounds : List Round) (paths : List Path) → Leads parts dirs rounds paths → LeadsBy parts dirs rounds paths
 leads_by _ _ _ _ (there dirs) = (refl, refl)
 leads_by _ _ _ _ (on part parts dirs between paths round rounds f l) = (between, round, rounds, refl, f, leads_by parts between rounds paths l)
 
