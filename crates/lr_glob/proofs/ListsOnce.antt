@@ -284,6 +284,10 @@ module _ (dir : Path) where
   stopped_by word room stop.LongName ts a s = gave_once word s.all ts a s.gave
   stopped_by word room stop.TooMany ts a s = gave_once word s.all ts a s.gave
 
+-- no path stands twice among those to which the parts of a word lead
+pub led_apart : (parts : List (List ℕ)) (paths : List Path) (ts : List Entry) → Led parts (root ∷ []) paths ts → Each IsTrue ts → AreDistinct paths
+led_apart parts paths ts l t = (led root parts paths ts l t).stage.apart
+
 pub made_true : (p q : Past) (es : List Entry) → Made p es q → Each IsTrue (reverse es)
 made_true p q es m = each_reverse IsTrue es (true_entries p q es m)
 

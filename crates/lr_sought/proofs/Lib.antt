@@ -1,5 +1,7 @@
+pub mod Came
 pub mod OneOrder
 pub mod OneWord
+pub mod Ordered
 pub mod Pairs
 pub mod Standing
 pub mod Stood

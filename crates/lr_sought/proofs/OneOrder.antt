@@ -16,16 +16,16 @@ use Rattle.lr_rules.specs.declared.path.Path.{Path}
 use Rattle.lr_glob.specs.Sights.{InOrder}
 
 -- how often a path stands among these
-abbrev one_at : Path → Path → ℕ
+abbrev pub one_at : Path → Path → ℕ
 one_at y x = cond (bytes_eq x y) 1 0
 
-abbrev count : Path → List Path → ℕ
+abbrev pub count : Path → List Path → ℕ
 count y xs = sum_by (one_at y) xs
 
-count_cons : (y x : Path) (xs : List Path) → count y (x ∷ xs) ≡ one_at y x + count y xs
+pub count_cons : (y x : Path) (xs : List Path) → count y (x ∷ xs) ≡ one_at y x + count y xs
 count_cons y x xs = sum_by-cons (one_at y) x xs
 
-itself : (x : Path) → one_at x x ≡ 1
+pub itself : (x : Path) → one_at x x ≡ 1
 itself x = ap (λ b. cond b 1 0) ((bytes_eq-Decides x x).1 refl)
 
 there_by : (y x : Path) (xs : List Path) → 1 ≤ count y (x ∷ xs) → (1 ≤ count y xs → Contains xs y) → (b : Bool) → bytes_eq x y ≡ b → Contains (x ∷ xs) y
@@ -37,7 +37,7 @@ there_by y x xs h rest false e =
     (suc r.0, (let l : r.0 < length xs = r.1 in omega arith), r.2)
 
 -- one that is counted stands there
-there : (y : Path) (xs : List Path) → 1 ≤ count y xs → Contains xs y
+pub there : (y : Path) (xs : List Path) → 1 ≤ count y xs → Contains xs y
 there y [] h = absurd (let le : 1 ≤ 0 = h in omega arith)
 there y (x ∷ xs) h = there_by y x xs h (λ more. there y xs more) (bytes_eq x y) refl
 
@@ -49,14 +49,14 @@ tied Greater Less e f g = absurd (cc)
 tied Greater Equal e f g = absurd (cc)
 tied Greater Greater e f g = absurd (cc)
 
-abbrev IsRising : List Path → Type 0
+abbrev pub IsRising : List Path → Type 0
 IsRising xs = IsSortedByKey (λ path. path) (slice_cmp nat_cmp) xs
 
 -- none is before the first
-first_before : (x : Path) (xs : List Path) (y : Path) → IsRising (x ∷ xs) → Contains (x ∷ xs) y → is_lt (slice_cmp nat_cmp y x) ≡ false
+pub first_before : (x : Path) (xs : List Path) (y : Path) → IsRising (x ∷ xs) → Contains (x ∷ xs) y → is_lt (slice_cmp nat_cmp y x) ≡ false
 first_before x xs y up c = subst (λ (z : Path). is_lt (slice_cmp nat_cmp z x) ≡ false) c.2 (sorted_far (λ v w. is_lt (slice_cmp nat_cmp v w)) (ranks_by nat_list_cmp_total (λ path. path)) (x ∷ xs) up 0 c.0 y (omega arith) c.1)
 
-behind_first : (x : Path) (xs : List Path) → IsRising (x ∷ xs) → IsRising xs
+pub behind_first : (x : Path) (xs : List Path) → IsRising (x ∷ xs) → IsRising xs
 behind_first x xs up k d le lt =
     let more : suc k + 1 ≡ suc (k + 1) = omega arith in
     subst (λ j. is_lt (slice_cmp nat_cmp (get_or (x ∷ xs) j d) (get_or xs k d)) ≡ false) more (up (suc k) d (omega arith) (let l : k + 1 < length xs = lt in omega arith))

@@ -36,6 +36,7 @@ use Rattle.lr_glob.proofs.Apart.{dir_of}
 use Rattle.lr_glob.proofs.Literals.{one_name, parts_utf8}
 use Rattle.lr_glob.proofs.OnlyLooks.{comes_looks, looks_quiet}
 use Rattle.lr_glob.proofs.Seeking.{all_are}
+use Rattle.lr_sought.specs.Finds.{FindsFile}
 use Rattle.lr_sought.proofs.OneWord.{LeadsBy, leads_by}
 use Rattle.lr_sought.proofs.Pairs.{Pairs, parts_match, matches_absolute}
 use Rattle.lr_sought.proofs.Ways.{Way, file_way}
@@ -127,10 +128,6 @@ at_moment p q es m quiet e i =
     let t = moment IsAny p q e es (since_any p q es m) m (still_in_order es (quiet_still (reverse es) quiet)) (from_reverse e es i) in
     record { at = t.at; fits = t.fits; more = quiet_more IsAny p t.at t.since }
 
--- A regular file at this path was seen.
-abbrev pub IsFileIn : Path → List Found → Type 0
-IsFileIn x found = (f : Found) × IsIn f found × (f.path ≡ x) × (f.seen.kind ≡ kind.File)
-
 module _ (p q : Past) (es : List Entry) (m : Made p es q) (quiet : AreQuiet (reverse es)) where
   IsOne : Entry → Type 0
   IsOne e = IsIn e (reverse es)
@@ -190,14 +187,14 @@ module _ (p q : Past) (es : List Entry) (m : Made p es q) (quiet : AreQuiet (rev
         (λ e j. within e (subst (IsIn e) (sym l.entries) j))
 
     -- the look at it saw a file
-    saw : (s : Sight) → s.path ≡ x → IsIn (look_of s) (reverse es) → IsFileIn x (file_of s)
+    saw : (s : Sight) → s.path ≡ x → IsIn (look_of s) (reverse es) → FindsFile x (file_of s)
     saw s is i =
         let t = at_moment p q es m quiet (look_of s) i in
         let still = file_more (names (world p)) (names (world t.at)) x t.more file in
         let z = sees_file (world t.at) (names (world t.at) s.path) s.seen still.0 (ap (names (world t.at)) is ∙ still.1) t.fits in
         (record { path = s.path; seen = z.0 }, subst (λ look. IsIn (record { path = s.path; seen = z.0 }) (file_at s.path look)) (sym z.1) (file_there s.path z.0 z.2), is, z.2)
 
-    searched : (word : List ℕ) (found : List Found) → IsUtf8 word → is_wildcard word ≡ true → PathMatches word x → (EndsWith x part_end → ⊥) → SearchThen word (λ ordered us. LookedAt ordered found us) (reverse es) → IsFileIn x found
+    searched : (word : List ℕ) (found : List Found) → IsUtf8 word → is_wildcard word ≡ true → PathMatches word x → (EndsWith x part_end → ⊥) → SearchThen word (λ ordered us. LookedAt ordered found us) (reverse es) → FindsFile x found
     searched word found text wild matches whole s = (g.0, subst (IsIn g.0) (sym l.found_are) (in_flat file_of l.sights sight.0 g.0 sight.1 g.1), g.2, g.3)
       where
         l : LookedAt s.ordered found s.entries.back
@@ -212,7 +209,7 @@ module _ (p q : Past) (es : List Entry) (m : Made p es q) (quiet : AreQuiet (rev
         sight : (v : Sight) × IsIn v l.sights × (v.path ≡ x)
         sight = in_unmap (λ (v : Sight). v.path) x l.sights (subst (IsIn x) (sym l.each) ordered)
 
-        g : IsFileIn x (file_of sight.0)
+        g : FindsFile x (file_of sight.0)
         g = saw sight.0 sight.2 (subst (IsIn (look_of sight.0)) (sym s.entries.joined) (in_back (look_of sight.0) s.entries.front s.entries.back (subst (IsIn (look_of sight.0)) (sym l.looks) (in_map look_of sight.0 l.sights sight.1))))
 
   -- ---- a literal word
@@ -237,7 +234,7 @@ module _ (p q : Past) (es : List Entry) (m : Made p es q) (quiet : AreQuiet (rev
   literal_any word found plain path named (Gave.wildcard wild absolute s) = absurd (let t = sym wild ∙ plain in cc)
   literal_any word found plain path named (Gave.relative wild relative none e) = absurd (let t = sym wild ∙ plain in cc)
 
-  literal_file : (word : List ℕ) (found : List Found) → is_wildcard word ≡ false → path_fault (literal_path word) ≡ None → IsFileAt (names (world p)) (literal_path word) → Gave word found (reverse es) → IsFileIn (literal_path word) found
+  literal_file : (word : List ℕ) (found : List Found) → is_wildcard word ≡ false → path_fault (literal_path word) ≡ None → IsFileAt (names (world p)) (literal_path word) → Gave word found (reverse es) → FindsFile (literal_path word) found
   literal_file word found plain path file (Gave.literal is s) =
       let z = file_at_path word s.seen (subst (IsIn (entry.Look (literal_path word) s.seen)) (sym s.look) (inl refl)) file in
       (record { path = literal_path word; seen = z.0 }, subst (IsIn (record { path = literal_path word; seen = z.0 })) (sym (s.is ∙ ap (seen_at (literal_path word)) z.1)) (inl refl), refl, z.2)
@@ -247,26 +244,26 @@ module _ (p q : Past) (es : List Entry) (m : Made p es q) (quiet : AreQuiet (rev
 
   -- ---- a word
 
-  wildcard_file : (word : List ℕ) (found : List Found) (x : Path) → IsUtf8 word → is_wildcard word ≡ true → PathMatches word x → (EndsWith x part_end → ⊥) → IsFileAt (names (world p)) x → Way (names (world p)) x root (parts_in x) → Gave word found (reverse es) → IsFileIn x found
+  wildcard_file : (word : List ℕ) (found : List Found) (x : Path) → IsUtf8 word → is_wildcard word ≡ true → PathMatches word x → (EndsWith x part_end → ⊥) → IsFileAt (names (world p)) x → Way (names (world p)) x root (parts_in x) → Gave word found (reverse es) → FindsFile x found
   wildcard_file word found x text wild matches whole file way (Gave.literal plain s) = absurd (let t = sym wild ∙ plain in cc)
   wildcard_file word found x text wild matches whole file way (Gave.no_path plain other none e) = absurd (let t = sym wild ∙ plain in cc)
   wildcard_file word found x text wild matches whole file way (Gave.wildcard is absolute s) = searched x file way word found text wild matches whole s
   wildcard_file word found x text wild matches whole file way (Gave.relative is relative none e) = absurd (let t = sym (matches_absolute word x wild matches) ∙ relative in cc)
 
   -- by a way to it
-  word_file : (word : List ℕ) (found : List Found) (x : Path) → IsUtf8 word → WordGives word x → path_fault x ≡ None → IsFileAt (names (world p)) x → (is_wildcard word ≡ true → Way (names (world p)) x root (parts_in x)) → Gave word found (reverse es) → IsFileIn x found
-  word_file word found x text (literal plain is) path file way g = subst (λ y. IsFileIn y found) (sym is) (literal_file word found plain (subst (λ y. path_fault y ≡ None) is path) (subst (IsFileAt (names (world p))) is file) g)
+  word_file : (word : List ℕ) (found : List Found) (x : Path) → IsUtf8 word → WordGives word x → path_fault x ≡ None → IsFileAt (names (world p)) x → (is_wildcard word ≡ true → Way (names (world p)) x root (parts_in x)) → Gave word found (reverse es) → FindsFile x found
+  word_file word found x text (literal plain is) path file way g = subst (λ y. FindsFile y found) (sym is) (literal_file word found plain (subst (λ y. path_fault y ≡ None) is path) (subst (IsFileAt (names (world p))) is file) g)
   word_file word found x text (wildcard wild matches whole) path file way g = wildcard_file word found x text wild matches whole file (way wild) g
 
 -- Each regular file that the word gives, that stood as the call began, and to which directories led then.
 pub found_by_way : (p q : Past) (es : List Entry) (word : List ℕ) (room : ℕ) (found : List Found) → IsUtf8 word → Made p es q → Comes word room (Ok found) (reverse es)
-    → (x : Path) → path_fault x ≡ None → IsFileAt (names (world p)) x → (is_wildcard word ≡ true → Way (names (world p)) x root (parts_in x)) → WordGives word x → IsFileIn x found
+    → (x : Path) → path_fault x ≡ None → IsFileAt (names (world p)) x → (is_wildcard word ≡ true → Way (names (world p)) x root (parts_in x)) → WordGives word x → FindsFile x found
 found_by_way p q es word room found text m c x path file way gives =
-    subst (IsFileIn x) (all_are room c.all found c.is) (word_file p q es m (looks_quiet (reverse es) (comes_looks word room (Ok found) (reverse es) c)) word c.all x text gives path file way c.gave)
+    subst (FindsFile x) (all_are room c.all found c.is) (word_file p q es m (looks_quiet (reverse es) (comes_looks word room (Ok found) (reverse es) c)) word c.all x text gives path file way c.gave)
 
 -- In a journal they did.
 pub stood_is_found : (p q : Past) (es : List Entry) (word : List ℕ) (room : ℕ) (found : List Found) → IsUtf8 word → IsJournal p → Made p es q → Comes word room (Ok found) (reverse es)
-    → (x : Path) → path_fault x ≡ None → IsFileAt (names (world p)) x → WordGives word x → IsFileIn x found
+    → (x : Path) → path_fault x ≡ None → IsFileAt (names (world p)) x → WordGives word x → FindsFile x found
 stood_is_found p q es word room found text j m c x path file gives = found_by_way p q es word room found text m c x path file (λ wild. file_way p x j path file) gives
 
 -- A literal word's one path, of any kind.
