@@ -48,7 +48,8 @@ SameLines old new faults includes e =
 one_line : (old new : Layer) (before after faults : List Fault) (includes : List Include) (lines : List Line) (inside : List Path) (e : Line)
     → SameLines old new faults includes e → entered new ≡ entered old → after ≡ before ++ faults → Knows old before lines inside
     → Knows new after (lines ++ e ∷ []) inside × (asked_at lines e ≡ includes)
-one_line old new before after faults includes lines inside e same files_are is k = (record {
+one_line old new before after faults includes lines inside e same files_are is k = (
+  record {
     means = λ more.
         ap (λ (fs : List Fault). told fs and coming new more) is
         ∙ (ap (λ (fs : List Fault). record { rules = (coming new more).rules; notices = (coming new more).notices; faults = fs }) (append_assoc before faults (coming new more).faults)
@@ -63,7 +64,8 @@ one_line old new before after faults includes lines inside e same files_are is k
     bans = λ more. ap (banned built.SoFar false first_taboo) (append_assoc lines (e ∷ []) more) ∙ (k.bans (e ∷ more) ∙ same.2 more);
     files = files_are ∙ k.files;
   },
-  ap (drop (length (asked built.SoFar false lines))) one ∙ drop-append_seam (asked built.SoFar false lines) includes)
+  ap (drop (length (asked built.SoFar false lines))) one ∙ drop-append_seam (asked built.SoFar false lines) includes,
+)
   where
     one : asked built.SoFar false (lines ++ e ∷ []) ≡ asked built.SoFar false lines ++ includes
     one = k.asks (e ∷ []) ∙ ap (λ (is : List Include). asked built.SoFar false lines ++ is) (same.1 [] ∙ append-nil includes)
@@ -138,7 +140,7 @@ took_item old mid new item r same files pos took asks bans tells = by_entered ol
     let a = of_answer mid new old.layer mid.layer file (Read file item) r took asks bans told_here in
     let t = a.3 in
     let one = one_line old.layer mid.layer old.faults.items new.faults.items a.0 a.1 lines (entered old.layer) (Read file item) a.2 files
-        (t.faults_are ∙ ap (λ (fs : List Fault). fs ++ a.0) same.0) k in
+    (t.faults_are ∙ ap (λ (fs : List Fault). fs ++ a.0) same.0) k in
     record {
       knows = subst (λ (ls : List Line). Knows new.layer new.faults.items (lines ++ ls) (entered old.layer)) (sym (lines_of_open (entered old.layer) (piece.Item item) (some_file old.layer pos)))
           (subst (λ (x : Layer). Knows x new.faults.items (lines ++ Read file item ∷ []) (entered old.layer)) (sym t.layer) one.0);
@@ -428,18 +430,24 @@ same_then a b c x y = record { layer = y.layer ∙ x.layer; faults = y.faults �
 
 -- ---- turns
 
--- what was next was taken off, and read on by
+-- what was next was taken off
+pub popped_stands : (old popped : Course) (s : Stage) → popped.layer ≡ old.layer → popped.faults.items ≡ old.faults.items → popped.files ≡ old.files → popped.bytes ≡ old.bytes → StandsAt old s → StandsAt popped (record s { todo = reverse popped.todo.items })
+popped_stands old popped s layer faults files bytes st = record {
+  knows = subst (λ (x : Layer). Knows x popped.faults.items s.lines s.inside) (sym layer) (subst (λ (fs : List Fault). Knows old.layer fs s.lines s.inside) (sym faults) st.knows);
+  files = files ∙ st.files;
+  bytes = bytes ∙ st.bytes;
+  todo = refl;
+}
+
+pub next_was : (old popped : Course) (t : Task) (s : Stage) → old.todo.items ≡ popped.todo.items ++ t ∷ [] → StandsAt old s → t ∷ reverse popped.todo.items ≡ s.todo
+next_was old popped t s todo st = sym (reverse-append popped.todo.items (t ∷ [])) ∙ (sym (ap reverse todo) ∙ st.todo)
+
+-- and read on by
 pub stepped : (old popped new : Course) (t : Task) (s : Stage) (o n : Option Journal) (i j : ℕ) → popped.layer ≡ old.layer → popped.faults.items ≡ old.faults.items → popped.files ≡ old.files → popped.bytes ≡ old.bytes → old.todo.items ≡ popped.todo.items ++ t ∷ []
     → ((m : Stage) → StandsAt popped m → GoesOn (record m { todo = t ∷ m.todo }) new o n i j) → StandsAt old s → GoesOn s new o n i j
 stepped old popped new t s o n i j layer faults files bytes todo f st =
-    let next : t ∷ reverse popped.todo.items ≡ s.todo = sym (reverse-append popped.todo.items (t ∷ [])) ∙ (sym (ap reverse todo) ∙ st.todo) in
-    let g = f (record s { todo = reverse popped.todo.items }) (record {
-      knows = subst (λ (x : Layer). Knows x popped.faults.items s.lines s.inside) (sym layer) (subst (λ (fs : List Fault). Knows old.layer fs s.lines s.inside) (sym faults) st.knows);
-      files = files ∙ st.files;
-      bytes = bytes ∙ st.bytes;
-      todo = refl;
-    }) in
-    subst (λ (ts : List Task). GoesOn (record s { todo = ts }) new o n i j) next g
+    let g = f (record s { todo = reverse popped.todo.items }) (popped_stands old popped s layer faults files bytes st) in
+    subst (λ (ts : List Task). GoesOn (record s { todo = ts }) new o n i j) (next_was old popped t s todo st) g
 
 pub stayed : (c : Course) (s : Stage) (o : Option Journal) (i : ℕ) → StandsAt c s → GoesOn s c o o i i
 stayed c s o i st = record { stage = s; stands = st; went = went_same s s o i refl }

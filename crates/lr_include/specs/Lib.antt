@@ -1,5 +1,6 @@
 pub mod Course
 pub mod Allowed
+pub mod Lacking
 pub mod Lines
 pub mod Looking
 pub mod Readers

@@ -1,5 +1,5 @@
 // Reading the configuration that paths give.
-ghost use Rattle.std.specs.Prelude.{◌≡◌, [], false, All, Contains, reverse, Ok, IfOk, OnOk};
+ghost use Rattle.std.specs.Prelude.{◌≡◌, [], false, All, Contains, reverse, Ok, IfOk, OnOk, OnErr};
 ghost use Rattle.lr_forms.specs.declared.built.Built.TheVariants as built;
 ghost use Rattle.lr_conf.specs.Meaning.{meaning};
 ghost use Rattle.lr_conf.specs.Plain.{IsPlainRule};
@@ -10,6 +10,7 @@ ghost use Rattle.lr_host.specs.Told.{Left, Onward, Rose};
 ghost use Rattle.lr_include.specs.Readers.{meaning_of, IsConfOrCall};
 ghost use Rattle.lr_include.specs.Stages.{Stage, line_ask, begun, Reads};
 ghost use Rattle.lr_include.specs.Course.{StandsAt, GoesOn};
+ghost use Rattle.lr_include.specs.Lacking.{LacksFrom, LacksReading};
 
 use crate::course::Course;
 use crate::reader::Reader;
@@ -49,6 +50,7 @@ impl Course {
     // Reads on by the next task; false where nothing is still to be read.
     fn step<H: Host>(&mut self, host: &mut H) -> Result<bool, Memory>
         ensures told { IfOk result (λ more. (s : Stage) → StandsAt self.old s → GoesOn s self.new (H.told host.old) (H.told host.new) (H.counts host.old).faults (H.counts host.new).faults) }
+        ensures lacking { OnErr result ((s : Stage) → StandsAt self.old s → Left (LacksFrom s) (H.told host.old) (H.told host.new)) }
         ensures none { result ≡ Ok false → self.new.todo.items ≡ [] }
         ensures counts { Onward (H.counts host.old) (H.counts host.new) }
     {
@@ -64,6 +66,7 @@ impl Course {
     // Reads on until nothing is still to be read.
     fn run<H: Host>(&mut self, host: &mut H) -> Result<(), Memory>
         ensures told { OnOk result ((s : Stage) → StandsAt self.old s → GoesOn s self.new (H.told host.old) (H.told host.new) (H.counts host.old).faults (H.counts host.new).faults) }
+        ensures lacking { OnErr result ((s : Stage) → StandsAt self.old s → Left (LacksFrom s) (H.told host.old) (H.told host.new)) }
         ensures none { OnOk result (self.new.todo.items ≡ []) }
         ensures counts { Onward (H.counts host.old) (H.counts host.new) }
     {
@@ -96,7 +99,12 @@ impl Course {
     fn finish(self) -> Reading
         ensures { (s : Stage) → StandsAt self s → meaning_of result ≡ meaning built.SoFar false [] s.lines }
     {
-        let Course { alloc, layer, faults, .. } = self;
+        let Course {
+            alloc,
+            layer,
+            faults,
+            ..
+        } = self;
         Reader {
             alloc,
             layer,
@@ -114,6 +122,7 @@ impl Course {
 /// all (TooBig). A failed call is told, and what was read before it counts.
 pub fn read_all<H: Host>(alloc: Global, host: &mut H, paths: &[Path]) -> Result<Reading, Memory>
     ensures told { IfOk result (λ r. Left (Reads paths.now (meaning_of r)) (H.told host.old) (H.told host.new)) }
+    ensures lacking { OnErr result (Left (LacksReading paths.now) (H.told host.old) (H.told host.new)) }
     ensures cause { IfOk result (λ r. (kind : CallKind) (path : Path) → Contains r.faults (fault.Call kind path) → Rose (H.counts host.old).faults (H.counts host.new).faults) }
     ensures only { IfOk result (λ r. All IsConfOrCall r.faults) }
     ensures plain { IfOk result (λ r. All IsPlainRule r.rules.sets) }

@@ -4,10 +4,12 @@ ghost use Rattle.lr_rules.specs.declared.path.Path.{Path};
 ghost use Rattle.lr_conf.specs.Meaning.{Meaning};
 ghost use Rattle.lr_host.specs.declared.entry.Entry.{Entry};
 ghost use Rattle.lr_host.specs.Steps.{is_change};
+ghost use Rattle.lr_host.specs.Quiet.{AreQuiet};
 ghost use Rattle.lr_include.specs.Readers.{IsConf};
 ghost use Rattle.lr_visits.specs.declared.visit.Visit.{Visit};
 ghost use Rattle.lr_include.specs.Allowed.{IsAllowed, AreAllowedVisits};
 ghost use Rattle.lr_include.specs.Stages.{visits_mean, Reads};
+ghost use Rattle.lr_include.specs.Lacking.{LacksReading};
 ghost use Rattle.lr_include.specs.Reading.{MeansAs, ReadsAs};
 
 /// What entries show of a file has no failed call among its faults.
@@ -28,4 +30,15 @@ pub fn visits_tell_their_calls()
 /// The reading of all paths changes nothing.
 pub fn visits_change_nothing()
     ensures { (paths : List Path) (m : Meaning) (ts : List Entry) → Reads paths m ts → filter is_change ts ≡ [] }
+{}
+
+/// So does a reading that ends for want of memory.
+pub fn lacking_changes_nothing()
+    ensures { (paths : List Path) (ts : List Entry) → LacksReading paths ts → filter is_change ts ≡ [] }
+{}
+
+/// Each entry of a reading, whole or not, is quiet: one of the tool that changes nothing and starts no run.
+pub fn readings_are_quiet()
+    ensures whole { (paths : List Path) (m : Meaning) (ts : List Entry) → Reads paths m ts → AreQuiet ts }
+    ensures lacking { (paths : List Path) (ts : List Entry) → LacksReading paths ts → AreQuiet ts }
 {}

@@ -30,8 +30,11 @@ mod whole;
 
 pub use all::read_all;
 pub use conf::read_conf;
-pub use laws::{meanings_tell_no_call, readings_change_nothing, visits_change_nothing, visits_tell_their_calls};
+pub use laws::{
+    lacking_changes_nothing, meanings_tell_no_call, readings_are_quiet, readings_change_nothing,
+    visits_change_nothing, visits_tell_their_calls,
+};
+pub use lr_visits::{ReadStop, read_text};
 pub use reading::Reading;
 pub use task::{Ask, Piece, Task};
-pub use lr_visits::{ReadStop, read_text};
 pub use whole::read_bytes;

@@ -46,12 +46,7 @@ fn pieces_of(alloc: Global, whole: bool, bytes: &[u8]) -> Result<Vec<Piece>, Mem
 }
 
 /// The lines of a text, and a last piece.
-fn with_last(
-    alloc: Global,
-    whole: bool,
-    bytes: &[u8],
-    last: Piece,
-) -> Result<Vec<Piece>, Memory>
+fn with_last(alloc: Global, whole: bool, bytes: &[u8], last: Piece) -> Result<Vec<Piece>, Memory>
     requires { length bytes.now < 2 ^ 32 }
     ensures { IfOk result (λ v. v.items ≡ pieces_of whole bytes.now ++ last ∷ []) }
 {
@@ -75,7 +70,11 @@ fn part(bytes: &[u8], room: usize) -> &[u8]
     ensures bytes { result.now ≡ take room bytes.now }
     ensures size { length result.now ≤ length bytes.now }
 {
-    if room < bytes.len() { first_part(bytes, room) } else { bytes }
+    if room < bytes.len() {
+        first_part(bytes, room)
+    } else {
+        bytes
+    }
 }
 
 /// The lines of a file with these bytes, and its end; or the whole lines of what counts of it, and the place where its
@@ -94,7 +93,12 @@ pub(crate) fn pieces(
         TextEnd::Whole => with_last(alloc, true, bytes, Piece::End),
         TextEnd::TooMany => {
             let fault = too_big(alloc, file)?;
-            with_last(alloc, false, whole_lines(part(bytes, room)), Piece::Break(fault))
+            with_last(
+                alloc,
+                false,
+                whole_lines(part(bytes, room)),
+                Piece::Break(fault),
+            )
         }
         TextEnd::Failed => {
             let fault = Fault::Call(CallKind::Read, file.copy(alloc)?);

@@ -1,12 +1,13 @@
 // Visits of the paths that are asked for.
-ghost use Rattle.std.specs.Prelude.{◌≡◌, ◌<◌, ◌≤◌, ◌+◌, ◌^◌, ◌↔◌, ◌∷◌, ◌++◌, [], true, Some, option_copied, length, map, reverse, IfOk, OnOk};
-ghost use Rattle.lr_host.specs.Told.{Onward};
+ghost use Rattle.std.specs.Prelude.{◌≡◌, ◌<◌, ◌≤◌, ◌+◌, ◌^◌, ◌↔◌, ◌∷◌, ◌++◌, [], true, Some, option_copied, length, map, reverse, IfOk, OnOk, OnErr};
+ghost use Rattle.lr_host.specs.Told.{Left, Onward};
 ghost use Rattle.lr_conf.specs.Meaning.{conf};
 ghost use Rattle.lr_conf.specs.Fold.{entered};
 ghost use Rattle.lr_visits.specs.Visits.{IsRead, bytes_in, HasRoom};
 ghost use Rattle.lr_include.specs.declared.task.Task.TheVariants as task;
 ghost use Rattle.lr_include.specs.Stages.{Stage, is_shallow, room_of, room_for, limit_kind, name_tasks, is_name, behind_names, entering, after_ask, after_name, IsBarred};
 ghost use Rattle.lr_include.specs.Course.{StandsAt, SameButTodo, ToldFault, GoesOn};
+ghost use Rattle.lr_include.specs.Lacking.{LacksFrom};
 
 use crate::course::Course;
 use crate::pieces::pieces;
@@ -41,7 +42,11 @@ impl Course {
         ensures bound { result + 1 < 2 ^ 32 }
         ensures within { result ≤ self.now.bytes }
     {
-        if self.bytes < FILE_LIMIT { self.bytes } else { FILE_LIMIT }
+        if self.bytes < FILE_LIMIT {
+            self.bytes
+        } else {
+            FILE_LIMIT
+        }
     }
 
     // The room for the next file, where one more may be read.
@@ -50,13 +55,21 @@ impl Course {
         ensures depth { HasRoom result → length (entered self.now.layer) < 8 }
         ensures bound { (n : _) → result ≡ Some n → n + 1 < 2 ^ 32 }
     {
-        if self.shallow() && self.files > 0 { Some(self.room()) } else { None }
+        if self.shallow() && self.files > 0 {
+            Some(self.room())
+        } else {
+            None
+        }
     }
 
     fn limit_kind(&self) -> ConfKind
         ensures { (s : Stage) → StandsAt self.now s → result ≡ limit_kind s }
     {
-        if self.shallow() { ConfKind::TooManyFiles } else { ConfKind::TooDeep }
+        if self.shallow() {
+            ConfKind::TooManyFiles
+        } else {
+            ConfKind::TooDeep
+        }
     }
 
     // Whether the taboo list bars the last part of the path.
@@ -129,7 +142,11 @@ impl Course {
         let pieces = pieces(self.alloc, &file, room, bytes, how)?;
         self.layer.enter(file);
         self.files = self.files.saturating_sub(1);
-        self.bytes -= if bytes.len() < room { bytes.len() } else { room };
+        self.bytes -= if bytes.len() < room {
+            bytes.len()
+        } else {
+            room
+        };
         self.push_pieces(pieces)
     }
 
@@ -178,6 +195,7 @@ impl Course {
     // Visits a path that a line or the command line asks for.
     fn turn_ask<H: Host>(&mut self, host: &mut H, ask: Ask) -> Result<(), Memory>
         ensures told { OnOk result ((s : Stage) → StandsAt self.old s → GoesOn (record s { todo = task.Ask ask ∷ s.todo }) self.new (H.told host.old) (H.told host.new) (H.counts host.old).faults (H.counts host.new).faults) }
+        ensures lacking { OnErr result ((s : Stage) → StandsAt self.old s → Left (LacksFrom (record s { todo = task.Ask ask ∷ s.todo })) (H.told host.old) (H.told host.new)) }
         ensures counts { Onward (H.counts host.old) (H.counts host.new) }
     {
         let lists = self.shallow();
@@ -189,6 +207,7 @@ impl Course {
     // Visits a name in a directory, where it isn't barred.
     fn turn_name<H: Host>(&mut self, host: &mut H, ask: Ask) -> Result<(), Memory>
         ensures told { OnOk result ((s : Stage) → StandsAt self.old s → GoesOn (record s { todo = task.Name ask ∷ s.todo }) self.new (H.told host.old) (H.told host.new) (H.counts host.old).faults (H.counts host.new).faults) }
+        ensures lacking { OnErr result ((s : Stage) → StandsAt self.old s → Left (LacksFrom (record s { todo = task.Name ask ∷ s.todo })) (H.told host.old) (H.told host.new)) }
         ensures counts { Onward (H.counts host.old) (H.counts host.new) }
     {
         let barred = self.is_barred(&ask.path)?;
@@ -203,6 +222,7 @@ impl Course {
     /// Reads on by a task that was the next.
     pub(crate) fn turn<H: Host>(&mut self, host: &mut H, task: Task) -> Result<(), Memory>
         ensures told { OnOk result ((s : Stage) → StandsAt self.old s → GoesOn (record s { todo = task ∷ s.todo }) self.new (H.told host.old) (H.told host.new) (H.counts host.old).faults (H.counts host.new).faults) }
+        ensures lacking { OnErr result ((s : Stage) → StandsAt self.old s → Left (LacksFrom (record s { todo = task ∷ s.todo })) (H.told host.old) (H.told host.new)) }
         ensures counts { Onward (H.counts host.old) (H.counts host.new) }
     {
         match task {

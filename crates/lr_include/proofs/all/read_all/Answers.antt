@@ -8,6 +8,7 @@ use Rattle.lr_include.proofs.Plain.{all_plain}
 use Rattle.lr_include.proofs.Stages.{reads_all, all_mean, no_todo}
 use Rattle.lr_include.specs.Readers.{IsConfOrCall}
 use Rattle.lr_include.proofs.Allowed.{only_those, told_rose}
+use Rattle.lr_include.proofs.Lacking.{on_err, lacks_here}
 use Rattle.lr_include.proofs.all.read_all.Goals as goal
 
 pub returns-clause-told : goal.returns-clause-told
@@ -31,3 +32,9 @@ returns-clause-cause g c = λ kind path h.
     let went = c.in_ok-run.ensures.told (begun c.args.paths.now) c.in_ok-course.ensures in
     told_rose c.args.paths.now went.went.visits _ _ kind path went.went.counted
     (subst (λ (m : Meaning). Contains m.faults (fault.Call kind path)) (all_mean c.args.paths.now _ went.stage went.went (no_todo c.run.new.self went.stage went.stands c.in_ok-run.ensures.none) (c.finish.ensures went.stage went.stands)) h)
+
+pub returns-in_err-course-clause-lacking : goal.returns-in_err-course-clause-lacking
+returns-in_err-course-clause-lacking g c = on_err c.from_residual.result _ (lacks_here (begun c.args.paths.now) _)
+
+pub returns-in_err-run-clause-lacking : goal.returns-in_err-run-clause-lacking
+returns-in_err-run-clause-lacking g c = on_err c.from_residual-in_err-run.result _ (c.in_err-run.ensures.lacking (begun c.args.paths.now) c.in_ok-course.ensures)
