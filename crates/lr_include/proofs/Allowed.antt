@@ -1,12 +1,8 @@
 -- The faults of lines are those of the configuration, and of failed calls only where a line has one.
-use Rattle.std.proofs.Common.{zero, suc}
-use Rattle.std.proofs.Common.{arith}
-use Rattle.std.specs.Prelude.{◌≡◌, ◌+◌, ◌-◌, ◌≤◌, ◌^◌, min}
 use Rattle.std.proofs.Common.{ℕ, Bool, true, false, cond, List, [], ◌∷◌, ◌++◌, map, take, Option, Some, None, Ok, Err, refl, is_none}
 use Rattle.std.specs.List.{AllByRecursion as Each, filter_map, list_any, find}
-use Rattle.std.specs.Prelude.{All, Contains}
-use Rattle.lr_rules.specs.declared.fault.CallKind.{CallKind}
-use Rattle.std.proofs.lemmas.List.Elements.{All-from_recursion, All-contains}
+use Rattle.std.specs.Prelude.{All}
+use Rattle.std.proofs.lemmas.List.Elements.{All-from_recursion}
 use Rattle.lr_rules.specs.declared.path.Path.{Path}
 use Rattle.lr_rules.specs.declared.fault.Fault.{Fault}
 use Rattle.lr_rules.specs.declared.fault.Fault.TheVariants as fault
@@ -34,7 +30,7 @@ use Rattle.lr_include.specs.declared.task.Piece.TheVariants as piece
 use Rattle.lr_include.specs.declared.task.Task.{Task}
 use Rattle.lr_include.specs.declared.task.Task.TheVariants as task
 use Rattle.lr_include.specs.Lines.{conf_kind, whole_lines}
-use Rattle.lr_include.specs.Allowed.{IsAllowed, IsAllowedVisit, AreAllowedVisits, failed_visit, failed_in, RoseBy}
+use Rattle.lr_include.specs.Allowed.{IsAllowed, IsAllowedVisit, AreAllowedVisits}
 use Rattle.lr_include.specs.Stages.{Stage, lines_in, lines_now, ask_of, asked_at, asks_in, asks_now, taken, before_asks, settled_from, settled, room_of, kind_piece, piece_of, pieces_of, pieces, entering, name_task, name_tasks, behind_names, after_ask, after_name, visited, visited_by, at_visits, begun, line_ask, visits_mean}
 
 through_each : {A : Type 0} (P : A → Type 0) (p : A → Bool) (xs : List A) → Each P xs → Each P (through p xs)
@@ -319,28 +315,3 @@ conf_or_call (_ ∷ fs) ok = absurd ok.0
 
 pub only_those : (paths : List Path) (vs : List (Option Visit)) → All IsConfOrCall (visits_mean paths vs).faults
 only_those paths vs = All-from_recursion IsConfOrCall (visits_mean paths vs).faults (conf_or_call (visits_mean paths vs).faults (means_allowed true paths vs (all_allowed vs)))
-
--- where none failed
-none_failed : (vs : List (Option Visit)) → failed_in vs ≡ 0 → AreAllowedVisits false vs
-none_failed [] e = tt
-none_failed (None ∷ vs) e = (tt, none_failed vs e)
-none_failed (Some v ∷ vs) e = (one v (let z : failed_visit v + failed_in vs ≡ 0 = e in omega (arith, z)), none_failed vs (let z : failed_visit v + failed_in vs ≡ 0 = e in omega (arith, z)))
-  where
-    one : (v : Visit) → failed_visit v ≡ 0 → IsAllowedVisit false v
-    one visit.Unseen z = absurd (omega (arith, z))
-    one visit.Unlisted z = absurd (omega (arith, z))
-    one (visit.Reads bytes end.Failed) z = absurd (omega (arith, z))
-    one (visit.Reads bytes end.Whole) z = λ h. absurd (cc)
-    one (visit.Reads bytes end.TooMany) z = λ h. absurd (cc)
-    one visit.Nothing z = λ h. absurd h
-    one visit.File z = λ h. absurd h
-    one visit.Dir z = λ h. absurd h
-    one (visit.Holds names) z = λ h. absurd h
-
--- a failed call that is told was one
-pub told_rose : (paths : List Path) (vs : List (Option Visit)) (b a : ℕ) (kind : CallKind) (path : Path) → RoseBy (failed_in vs) b a → Contains (visits_mean paths vs).faults (fault.Call kind path) → min (b + 1) (2 ^ 64 - 1) ≤ a
-told_rose paths vs b a kind path r h = by (failed_in vs) refl
-  where
-    by : (n : ℕ) → failed_in vs ≡ n → min (b + 1) (2 ^ 64 - 1) ≤ a
-    by zero e = absurd (let no : false ≡ true = All-contains (IsAllowed false) (visits_mean paths vs).faults (fault.Call kind path) (All-from_recursion (IsAllowed false) (visits_mean paths vs).faults (means_allowed false paths vs (none_failed vs e))) h in cc no)
-    by (suc n) e = omega (arith, r, e)

@@ -1,7 +1,6 @@
 -- Readings that end for want of memory.
 use Rattle.std.proofs.Common.{◌≡◌, ◌++◌, ℕ, List, [], ◌∷◌, false, refl, sym, ap, ◌∙◌, subst, inl, append-nil, append_assoc, reverse, Option, Some, Result, Ok, Err}
 use Rattle.std.specs.Prelude.{OnErr}
-use Rattle.lr_rules.specs.declared.path.Path.{Path}
 use Rattle.lr_host.specs.declared.entry.Entry.{Entry}
 use Rattle.lr_host.specs.declared.journal.Journal.{Journal}
 use Rattle.lr_host.specs.Told.{Left}

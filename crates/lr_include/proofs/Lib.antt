@@ -1,6 +1,7 @@
 pub mod Faults
 pub mod AllQuiet
 pub mod Allowed
+pub mod Calls
 pub mod Lacking
 pub mod Means
 pub mod Newlines

@@ -25,6 +25,15 @@ AreAllowedVisits calls (None ∷ vs) = Unit {0} × AreAllowedVisits calls vs
 
 -- ---- how many failed
 
+-- how many of the faults are failed calls
+abbrev pub call_in : Fault → ℕ
+call_in (fault.Call kind path) = 1
+call_in _ = 0
+
+abbrev pub calls_in : List Fault → ℕ
+calls_in [] = 0
+calls_in (f ∷ fs) = call_in f + calls_in fs
+
 abbrev pub failed_read : TextEnd → ℕ
 failed_read end.Failed = 1
 failed_read how = 0

@@ -8,6 +8,7 @@ ghost use Rattle.lr_rules.specs.declared.path.Path.{Path};
 ghost use Rattle.lr_rules.specs.declared.fault.Fault.TheVariants as fault;
 ghost use Rattle.lr_host.specs.Told.{Left, Onward, Rose};
 ghost use Rattle.lr_include.specs.Readers.{meaning_of, IsConfOrCall};
+ghost use Rattle.lr_include.specs.Allowed.{calls_in, RoseBy};
 ghost use Rattle.lr_include.specs.Stages.{Stage, line_ask, begun, Reads};
 ghost use Rattle.lr_include.specs.Course.{StandsAt, GoesOn};
 ghost use Rattle.lr_include.specs.Lacking.{LacksFrom, LacksReading};
@@ -123,6 +124,7 @@ impl Course {
 pub fn read_all<H: Host>(alloc: Global, host: &mut H, paths: &[Path]) -> Result<Reading, Memory>
     ensures told { IfOk result (λ r. Left (Reads paths.now (meaning_of r)) (H.told host.old) (H.told host.new)) }
     ensures lacking { OnErr result (Left (LacksReading paths.now) (H.told host.old) (H.told host.new)) }
+    ensures counted { IfOk result (λ r. RoseBy (calls_in r.faults) (H.counts host.old).faults (H.counts host.new).faults) }
     ensures cause { IfOk result (λ r. (kind : CallKind) (path : Path) → Contains r.faults (fault.Call kind path) → Rose (H.counts host.old).faults (H.counts host.new).faults) }
     ensures only { IfOk result (λ r. All IsConfOrCall r.faults) }
     ensures plain { IfOk result (λ r. All IsPlainRule r.rules.sets) }

@@ -1,13 +1,13 @@
 use Rattle.std.proofs.Common.{sym, subst}
-use Rattle.std.specs.Prelude.{All, Contains}
-use Rattle.lr_rules.specs.declared.fault.Fault.TheVariants as fault
+use Rattle.std.specs.Prelude.{All}
 use Rattle.lr_conf.specs.Meaning.{Meaning}
 use Rattle.lr_conf.specs.Plain.{IsPlainRule}
 use Rattle.lr_include.specs.Stages.{begun}
 use Rattle.lr_include.proofs.Plain.{all_plain}
 use Rattle.lr_include.proofs.Stages.{reads_all, all_mean, no_todo}
 use Rattle.lr_include.specs.Readers.{IsConfOrCall}
-use Rattle.lr_include.proofs.Allowed.{only_those, told_rose}
+use Rattle.lr_include.proofs.Allowed.{only_those}
+use Rattle.lr_include.proofs.Calls.{told_rose_by, told_rose}
 use Rattle.lr_include.proofs.Lacking.{on_err, lacks_here}
 use Rattle.lr_include.proofs.all.read_all.Goals as goal
 
@@ -27,11 +27,13 @@ returns-clause-only g c =
     subst (λ (m : Meaning). All IsConfOrCall m.faults) (sym (all_mean c.args.paths.now _ went.stage went.went (no_todo c.run.new.self went.stage went.stands c.in_ok-run.ensures.none) (c.finish.ensures went.stage went.stands)))
     (only_those c.args.paths.now went.went.visits)
 
-pub returns-clause-cause : goal.returns-clause-cause
-returns-clause-cause g c = λ kind path h.
+pub returns-clause-counted : goal.returns-clause-counted
+returns-clause-counted g c =
     let went = c.in_ok-run.ensures.told (begun c.args.paths.now) c.in_ok-course.ensures in
-    told_rose c.args.paths.now went.went.visits _ _ kind path went.went.counted
-    (subst (λ (m : Meaning). Contains m.faults (fault.Call kind path)) (all_mean c.args.paths.now _ went.stage went.went (no_todo c.run.new.self went.stage went.stands c.in_ok-run.ensures.none) (c.finish.ensures went.stage went.stands)) h)
+    told_rose_by c.args.paths.now _ went.went.visits _ _ (all_mean c.args.paths.now _ went.stage went.went (no_todo c.run.new.self went.stage went.stands c.in_ok-run.ensures.none) (c.finish.ensures went.stage went.stands)) went.went.counted
+
+pub returns-clause-cause : goal.returns-clause-cause
+returns-clause-cause g c = λ kind path h. told_rose c.finish.result.faults _ _ kind path (returns-clause-counted g c) h
 
 pub returns-in_err-course-clause-lacking : goal.returns-in_err-course-clause-lacking
 returns-in_err-course-clause-lacking g c = on_err c.from_residual.result _ (lacks_here (begun c.args.paths.now) _)
