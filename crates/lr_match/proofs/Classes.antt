@@ -1,10 +1,11 @@
 -- The signs of a class, one by one.
-use Rattle.std.proofs.Common.{◌≡◌, ℕ, ◌==◌, Bool, true, false, cond, ◌||◌, ◌&&◌, List, [], ◌∷◌, ◌++◌, nat_le, refl, sym, ap, ◌∙◌, arith}
+use Rattle.std.proofs.Common.{◌≡◌, ◌≤◌, ℕ, ◌==◌, Bool, true, false, cond, ◌||◌, ◌&&◌, List, [], ◌∷◌, ◌++◌, length, drop, nat_le, refl, sym, ap, ◌∙◌, arith}
 use Rattle.std.specs.List.{list_any}
+use Rattle.std.proofs.lemmas.Bool.{or_parts}
 use Rattle.std.proofs.lemmas.Bool.Decides.{nat_tests}
 use Rattle.std.proofs.lemmas.List.Folds.{list_any-append}
 use Rattle.lr_rules.specs.Match.{ranges_have, is_close, IsClass}
-use Rattle.lr_match.specs.Classes.{before_close, signs_of}
+use Rattle.lr_match.specs.Classes.{before_close, signs_of, Turned, HasNoClass}
 
 -- ---- ranges
 
@@ -81,3 +82,49 @@ pub class_turned : (cs bs rest : List ℕ) (is_turned : Bool) → is_turned ≡ 
 class_turned cs [] rest t is turn e = absurd (cc)
 class_turned cs (b ∷ bs) rest false is turn e = absurd (cc)
 class_turned cs (b ∷ bs) rest true is turn e = IsClass.turned b (before_close bs) rest (none_closes bs) (turn ∙ ap (λ t. 33 ∷ t) e)
+
+-- ---- what a `!` leaves
+
+pub class_by : (cs bs rest : List ℕ) (t : Bool) → Turned cs t bs → Ends bs rest → IsClass cs t (signs_of bs) rest
+class_by cs bs rest true h e = class_turned cs bs rest true refl h e
+class_by cs bs rest false h e = class_straight cs bs rest false refl (sym h.0) h.1 e
+
+pub turned_shorter : (cs bs : List ℕ) (t : Bool) → Turned cs t bs → length bs ≤ length cs
+turned_shorter cs bs true h = let l = ap length h in omega (arith, l)
+turned_shorter cs bs false h = let l = ap length h.0 in omega (arith, l)
+
+-- what no `]` closes
+tail_free : (xs : List ℕ) → list_any is_close (drop 1 xs) ≡ false → list_any is_close (drop 2 xs) ≡ false
+tail_free [] h = refl
+tail_free (x ∷ []) h = refl
+tail_free (x ∷ y ∷ ys) h = (or_parts (is_close y) (list_any is_close ys) h).1
+
+pub none_by : (cs bs : List ℕ) (t : Bool) → Turned cs t bs → list_any is_close (drop 1 bs) ≡ false → list_any is_close (drop 2 cs) ≡ false
+none_by cs bs true h n = ap (λ xs. list_any is_close (drop 2 xs)) h ∙ n
+none_by cs bs false h n = tail_free cs (ap (λ xs. list_any is_close (drop 1 xs)) (sym h.0) ∙ n)
+
+closed_behind : (sign : ℕ) (bs more rest : List ℕ) → bs ≡ sign ∷ more ++ 93 ∷ rest → list_any is_close (drop 1 bs) ≡ false → ⊥
+closed_behind sign bs more rest e n = let t = sym (some_closes more rest) ∙ (ap (λ xs. list_any is_close (drop 1 xs)) (sym e) ∙ n) in absurd (cc)
+
+heads : (x y : ℕ) (xs ys : List ℕ) → x ∷ xs ≡ y ∷ ys → x ≡ y
+heads x y xs ys e = cc
+
+tails : (x y : ℕ) (xs ys : List ℕ) → x ∷ xs ≡ y ∷ ys → xs ≡ ys
+tails x y xs ys e = cc
+
+pub no_class_by : (cs bs : List ℕ) (t : Bool) → Turned cs t bs → list_any is_close (drop 1 bs) ≡ false → (u : Bool) (signs rest : List ℕ) → IsClass cs u signs rest → ⊥
+no_class_by cs bs true h n _ _ _ (IsClass.straight sign more rest other none e) = other (heads sign 33 (more ++ 93 ∷ rest) bs (sym e ∙ h))
+no_class_by cs bs true h n _ _ _ (IsClass.turned sign more rest none e) = closed_behind sign bs more rest (tails 33 33 bs (sign ∷ more ++ 93 ∷ rest) (sym h ∙ e)) n
+no_class_by cs bs false h n _ _ _ (IsClass.straight sign more rest other none e) = closed_behind sign bs more rest (h.0 ∙ e) n
+no_class_by cs bs false h n _ _ _ (IsClass.turned sign more rest none e) = h.1 (sign ∷ more ++ 93 ∷ rest) e
+
+-- ---- where no class begins
+
+-- none does behind a `[`
+pub no_class_behind : (behind : List ℕ) → HasNoClass (91 ∷ behind) → (u : Bool) (signs rest : List ℕ) → IsClass behind u signs rest → ⊥
+no_class_behind behind n _ _ _ (IsClass.straight sign more rest other none e) = closed_behind sign behind more rest e n
+no_class_behind behind n _ _ _ (IsClass.turned sign more rest none e) = closed_behind 33 behind (sign ∷ more) rest e n
+
+-- nor further on
+pub no_class_on : (c : ℕ) (text : List ℕ) → HasNoClass (c ∷ text) → HasNoClass text
+no_class_on c text h = tail_free text h

@@ -1,4 +1,5 @@
 pub mod Classes
+pub mod Counts
 pub mod Ends
 pub mod Matching
 pub mod Signs

@@ -1,5 +1,5 @@
 -- The signs of a pattern, one by one.
-use Rattle.std.specs.Prelude.{◌≡◌, ℕ, ◌==◌, Bool, true, false, not, List, ◌∷◌, if◌then◌else◌}
+use Rattle.std.specs.Prelude.{◌≡◌, ℕ, ◌+◌, ◌*◌, ◌==◌, Bool, true, false, not, List, ◌∷◌, length, if◌then◌else◌}
 use Rattle.std.specs.Str.{chars}
 use Rattle.lr_rules.specs.Match.{IsPlain, IsClass, class_has}
 use Rattle.lr_match.specs.declared.sign.Sign.{Sign}
@@ -26,3 +26,8 @@ sign_has (sign.Class k) c = if k.turned then not (class_has (signs_of (chars k.s
 abbrev pub IsSingle : Sign → Type 0
 IsSingle sign.Run = ⊥
 IsSingle _ = Unit {0}
+
+-- how many steps it takes to ask whether the sign goes with a character, at most
+abbrev pub length_of_sign : Sign → ℕ
+length_of_sign (sign.Class k) = 3 * length (signs_of (chars k.signs.now)) + 1
+length_of_sign _ = 0

@@ -2,8 +2,9 @@
 //!
 //! The contract: a pattern matches a name exactly where the relation `Matches` holds of their characters, and a name is
 //! barred exactly where it ends with an extension of the list, or a pattern of it matches the name. Neither takes memory.
-//! How long they take is no clause: a pattern of many `*` goes back to the last one alone, so it takes about as many steps
-//! as the product of the lengths, and more only where many `[` in it have no `]`. Begin with [`matches`]:
+//! A call of [`matches`] reads no more characters than a few times the product of the lengths: behind a `*` it goes back to
+//! the last one alone, and it doesn't search twice for a `]` that isn't there. [`matches_in`] counts them. Begin with
+//! [`matches`]:
 //!
 //! ```text
 //! assert!(matches("[!a-c]*.log", "dx.log"));
@@ -20,5 +21,5 @@ mod sign;
 mod taboo;
 mod walk;
 
-pub use pattern::matches;
+pub use pattern::{matches, matches_in};
 pub use taboo::Taboo;

@@ -4,8 +4,8 @@ use Rattle.lr_match.specs.Signs.{Begins}
 use Rattle.lr_match.proofs.Signs.{last_backslash}
 use Rattle.lr_match.proofs.sign.escaped.Goals as goal
 
-pub returns-in-Some : goal.returns-in-Some
-returns-in-Some c = Begins.escaped c.in-Some.c (chars c.in-Some.rest.now) (ap (λ t. 92 ∷ t) c.in-Some.ensures)
+pub returns-in-Some-clause-begins : goal.returns-in-Some-clause-begins
+returns-in-Some-clause-begins g c = Begins.escaped c.in-Some.c (chars c.in-Some.rest.now) (ap (λ t. 92 ∷ t) c.in-Some.ensures.first)
 
-pub returns-in-None : goal.returns-in-None
-returns-in-None c = last_backslash (chars c.args.behind.now) c.in-None.ensures
+pub returns-in-None-clause-begins : goal.returns-in-None-clause-begins
+returns-in-None-clause-begins g c = last_backslash (chars c.args.behind.now) c.in-None.ensures.first
