@@ -1,14 +1,13 @@
 -- What a call found stood as it began, or came meanwhile.
-use Rattle.std.proofs.Common.{◌≡◌, ◌⊎◌, inl, inr, ⊎_elim, ℕ, List, reverse, Option, Some, None, Ok, refl, sym, ap, ◌∙◌, subst}
+use Rattle.std.proofs.Common.{◌≡◌, ◌⊎◌, inl, inr, ⊎_elim, ℕ, List, reverse, Some, None, Ok, refl, sym, ◌∙◌, subst}
 use Rattle.lr_rules.specs.declared.path.Path.{Path}
 use Rattle.lr_host.specs.declared.entry.Entry.{Entry}
 use Rattle.lr_host.specs.declared.entry.Entry.TheVariants as entry
-use Rattle.lr_host.specs.declared.thing.Kind.{Kind}
 use Rattle.lr_host.specs.declared.thing.Kind.TheVariants as kind
 use Rattle.lr_host.specs.declared.thing.Seen.{Seen}
 use Rattle.lr_host.specs.declared.thing.Thing.{Thing}
 use Rattle.lr_host.specs.declared.thing.Thing.TheVariants as thing
-use Rattle.lr_host.specs.Fits.{Fits, IsFileAt, IsDirectoryAt, Sees}
+use Rattle.lr_host.specs.Fits.{IsFileAt, IsDirectoryAt, Sees}
 use Rattle.lr_host.specs.Lists.{IsIn}
 use Rattle.lr_host.specs.Quiet.{Quiet, here, wrote, looked}
 use Rattle.lr_host.specs.Safe.{IsPrefix, whole, shorter}

@@ -1,5 +1,5 @@
 -- What is found stands in order of bytes, no path twice.
-use Rattle.std.proofs.Common.{◌≡◌, ◌≢◌, inl, inr, ⊎_elim, ℕ, ◌+◌, ◌≤◌, Bool, true, false, cond, List, [], ◌∷◌, ◌++◌, map, reverse, Option, Some, None, Ok, refl, sym, ap, ◌∙◌, subst, Ordering, Less, Equal, Greater, nat_cmp, arith}
+use Rattle.std.proofs.Common.{◌≡◌, ◌≢◌, inl, inr, ⊎_elim, ℕ, ◌≤◌, Bool, true, false, cond, List, [], ◌∷◌, ◌++◌, map, reverse, Option, Some, None, Ok, refl, sym, ap, ◌∙◌, subst, Ordering, Less, Equal, Greater, nat_cmp, arith}
 use Rattle.std.specs.Prelude.{filter, flat_map}
 use Rattle.std.specs.List.{AllByRecursion}
 use Rattle.std.specs.List.Sorted.{IsStrictlySortedBy}
@@ -17,10 +17,10 @@ use Rattle.lr_host.specs.Lists.{IsIn, IsNotIn, AreDistinct}
 use Rattle.lr_host.specs.Told.{Each, Made}
 use Rattle.lr_host.specs.World.{Past}
 use Rattle.lr_host.proofs.Each.{each_first}
-use Rattle.lr_host.proofs.Lists.{in_append, in_to, in_map, in_unmap}
+use Rattle.lr_host.proofs.Lists.{in_append, in_to, in_unmap}
 use Rattle.lr_glob.specs.declared.found.Found.{Found}
 use Rattle.lr_glob.specs.Parts.{parts_in}
-use Rattle.lr_glob.specs.Sights.{InOrder, Sight, file_of, file_at, is_file_kind, is_whole, seen_at, LookedAt}
+use Rattle.lr_glob.specs.Sights.{Sight, file_of, file_at, is_file_kind, is_whole, seen_at, LookedAt}
 use Rattle.lr_glob.specs.Words.{Gave, Comes, SearchThen}
 use Rattle.lr_glob.proofs.ListsOnce.{IsTrue, led_apart, made_true}
 use Rattle.lr_glob.proofs.Seeking.{all_are}

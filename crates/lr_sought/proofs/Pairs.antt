@@ -1,10 +1,9 @@
 -- The parts of a wildcard and those of a path that it matches, place by place.
-use Rattle.std.proofs.Common.{◌≡◌, inl, inr, ℕ, true, false, Bool, cond, List, [], ◌∷◌, ◌++◌, drop, refl, sym, ap, ◌∙◌, subst}
+use Rattle.std.proofs.Common.{◌≡◌, ℕ, true, false, cond, List, [], ◌∷◌, ◌++◌, refl, sym, ap, ◌∙◌, subst}
 use Rattle.std.specs.Prelude.{chars}
 use Rattle.std.specs.List.{list_any, slice_split, onto_first}
 use Rattle.std.proofs.lemmas.Bool.{or_parts}
 use Rattle.std.proofs.lemmas.List.{append-nil}
-use Rattle.lr_rules.specs.declared.path.Path.{Path}
 use Rattle.lr_rules.specs.Match.{Matches, PathMatches, is_wildcard}
 use Rattle.lr_rules.specs.Path.{is_slash, is_absolute}
 use Rattle.lr_glob.specs.Parts.{parts_in}
