@@ -1,4 +1,5 @@
 mod Cutting
+mod Examples
 mod Filled
 mod Logs
 mod Named

@@ -1,1 +1,2 @@
+mod CanCopy
 mod Removing

@@ -1,5 +1,6 @@
 // The calls that a row can ask for, by their names.
 use crate::conf::{read, read_paths};
+use crate::copying::copy_log;
 use crate::globbing::expand_word;
 use crate::host_calls::{
     append, begin, begin_and_end, cut, make, make_dir, rename, sync, sync_dir, truncate, unlink,
@@ -23,6 +24,7 @@ enum Part {
     ReadConf,
     ReadAll,
     Expand,
+    Copy,
 }
 
 // A call of the host that changes nothing.
@@ -61,7 +63,7 @@ enum Ask {
     Put,
 }
 
-static ASKS: [(&[u8], Ask); 26] = [
+static ASKS: [(&[u8], Ask); 27] = [
     (b"stand", Ask::Part(Part::Stand)),
     (b"prepare", Ask::Part(Part::Prepare)),
     (b"run-phase", Ask::Part(Part::RunPhase)),
@@ -69,6 +71,7 @@ static ASKS: [(&[u8], Ask); 26] = [
     (b"read-conf", Ask::Part(Part::ReadConf)),
     (b"read-all", Ask::Part(Part::ReadAll)),
     (b"expand", Ask::Part(Part::Expand)),
+    (b"copy", Ask::Part(Part::Copy)),
     (b"look", Ask::Quiet(Quiet::Look)),
     (b"list", Ask::Quiet(Quiet::List)),
     (b"read", Ask::Quiet(Quiet::Read)),
@@ -108,6 +111,7 @@ fn ask_part(host: &mut MemHost, part: Part, cursor: &mut Cursor) -> Result<Vec<u
         Part::ReadConf => read(host, cursor),
         Part::ReadAll => read_paths(host, cursor),
         Part::Expand => expand_word(host, cursor),
+        Part::Copy => copy_log(host, cursor),
     }
 }
 

@@ -19,8 +19,8 @@ pub fn rename(host: &mut MemHost, cursor: &mut Cursor) -> Result<Vec<u8>, Troubl
     rename_to(host, cursor.alloc, &from, &to)
 }
 
-// Trouble unless a rename can give a file the path.
-fn is_free(host: &MemHost, path: &Path) -> Result<(), Trouble>
+/// Trouble unless a rename can give a file the path.
+pub fn is_free(host: &MemHost, path: &Path) -> Result<(), Trouble>
     ensures directory { OnOk result (names (world (past host.now.journal)) path.now ≢ thing.Directory) }
     ensures other { OnOk result (names (world (past host.now.journal)) path.now ≢ thing.Other) }
 {
@@ -46,7 +46,8 @@ fn rename_to(
     done(alloc, host.rename(from, to))
 }
 
-fn mode(cursor: &mut Cursor) -> Result<Option<u32>, Trouble> {
+/// `[mode O]`.
+pub fn mode(cursor: &mut Cursor) -> Result<Option<u32>, Trouble> {
     if cursor.takes(b"mode") {
         Ok(Some(cursor.octal()?))
     } else {

@@ -11,6 +11,7 @@
 mod answer;
 mod ask;
 mod conf;
+mod copying;
 mod family;
 mod globbing;
 mod host_calls;
