@@ -1,5 +1,5 @@
 -- A log that is copied, in three ways: a disk with a log and two members, whose log is copied to a path that is free.
-use Rattle.std.specs.Prelude.{List, ℕ, [], ◌++◌, codes, true, false, None}
+use Rattle.std.specs.Prelude.{[], ◌++◌, codes, true, false, None}
 use Rattle.lr_rules.specs.declared.path.Path.{Path}
 use Rattle.lr_host.specs.declared.entry.Entry.TheVariants.{Reads, Renames, Makes, Appends, SyncsFile, SyncsDir}
 use Rattle.lr_host.specs.World.{Past, Opens, ◌▸◌}
