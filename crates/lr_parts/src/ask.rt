@@ -1,5 +1,5 @@
 // The calls that a row can ask for, by their names.
-use crate::conf::{read, read_paths};
+use crate::conf::read_paths;
 use crate::copying::copy_log;
 use crate::globbing::expand_word;
 use crate::host_calls::{
@@ -21,7 +21,6 @@ enum Part {
     Prepare,
     RunPhase,
     Remove,
-    ReadConf,
     ReadAll,
     Expand,
     Copy,
@@ -63,12 +62,11 @@ enum Ask {
     Put,
 }
 
-static ASKS: [(&[u8], Ask); 27] = [
+static ASKS: [(&[u8], Ask); 26] = [
     (b"stand", Ask::Part(Part::Stand)),
     (b"prepare", Ask::Part(Part::Prepare)),
     (b"run-phase", Ask::Part(Part::RunPhase)),
     (b"remove", Ask::Part(Part::Remove)),
-    (b"read-conf", Ask::Part(Part::ReadConf)),
     (b"read-all", Ask::Part(Part::ReadAll)),
     (b"expand", Ask::Part(Part::Expand)),
     (b"copy", Ask::Part(Part::Copy)),
@@ -108,7 +106,6 @@ fn ask_part(host: &mut MemHost, part: Part, cursor: &mut Cursor) -> Result<Vec<u
         Part::Prepare => prepare_rotation(host, cursor),
         Part::RunPhase => run_script(host, cursor),
         Part::Remove => remove_file(host, cursor),
-        Part::ReadConf => read(host, cursor),
         Part::ReadAll => read_paths(host, cursor),
         Part::Expand => expand_word(host, cursor),
         Part::Copy => copy_log(host, cursor),

@@ -1,6 +1,6 @@
 // What a configuration gives.
 use crate::answer::add;
-use lr_include::{Reading, read_all, read_conf};
+use lr_include::{Reading, read_all};
 use lr_line::Trouble;
 use lr_memhost::{MemHost, MemSink};
 use lr_report::put_lines;
@@ -57,13 +57,6 @@ fn reading_text(alloc: Global, reading: &Reading) -> Result<Vec<u8>, Trouble> {
     let mut text = Vec::from_slice(alloc, out.bytes())?;
     add_rules(&mut text, alloc, reading)?;
     Ok(text)
-}
-
-/// `read-conf PATH`: the notices and faults of a configuration, and its rules.
-pub fn read(host: &mut MemHost, cursor: &mut Cursor) -> Result<Vec<u8>, Trouble> {
-    let path = cursor.path()?;
-    let reading = read_conf(cursor.alloc, host, &path)?;
-    reading_text(cursor.alloc, &reading)
 }
 
 // The paths of the command line, up to 64.
