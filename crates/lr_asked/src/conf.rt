@@ -1,6 +1,7 @@
 // What the bytes of a configuration file give.
+use crate::disk::host_with;
 use crate::rule::{put_conf_fault, put_notices, put_rules, put_whole};
-use lr_include::{Reading, read_bytes};
+use lr_include::{Reading, read_all};
 use lr_line::{Line, Trouble};
 use lr_rules::{Fault, Path, Rule, Rules};
 
@@ -25,7 +26,8 @@ fn put_faults(faults: &[Fault], out: &mut String) -> Result<(), Trouble> {
 // The reading of `/c` with the bytes.
 fn reading(line: Line) -> Result<Reading, Trouble> {
     let file = Path::new(line.alloc, b"/c")?;
-    Ok(read_bytes(line.alloc, &file, line.word(1)?)?)
+    let mut host = host_with(line.alloc, &file, line.word(1)?)?;
+    Ok(read_all(line.alloc, &mut host, &[file])?)
 }
 
 fn put_reading(reading: &Reading, out: &mut String) -> Result<(), Trouble> {

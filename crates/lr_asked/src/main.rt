@@ -12,6 +12,7 @@ mod chain;
 mod choosing;
 mod clock;
 mod conf;
+mod disk;
 mod due;
 mod family;
 mod fault;
