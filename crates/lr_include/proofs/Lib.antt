@@ -1,11 +1,8 @@
-pub mod Faults
 pub mod AllQuiet
 pub mod Allowed
 pub mod Calls
 pub mod Lacking
-pub mod Means
 pub mod Newlines
 pub mod Plain
-pub mod Quiet
 pub mod Readers
 pub mod Stages

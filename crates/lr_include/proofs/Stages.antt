@@ -7,6 +7,8 @@ use Rattle.std.proofs.lemmas.List.Elements.{filter_map-append}
 use Rattle.lr_rules.specs.declared.path.Path.{Path}
 use Rattle.lr_rules.specs.declared.fault.ConfKind.{ConfKind}
 use Rattle.lr_rules.specs.declared.fault.Fault.{Fault}
+use Rattle.lr_rules.specs.declared.fault.Notice.{Notice}
+use Rattle.lr_rules.specs.declared.rule.Rule.{Rule}
 use Rattle.lr_forms.specs.declared.built.Built.TheVariants as built
 use Rattle.lr_match.specs.declared.taboo.Taboo.{Taboo}
 use Rattle.lr_match.specs.Taboos.{Bars, first_taboo}
@@ -424,6 +426,16 @@ reads_all paths m s w none is = left_as w.shown (λ ts h. record {
   all = ap (λ (x : Stage). x.todo) (all_read paths s w none);
   means = all_mean paths m s w none is;
 })
+
+abbrev made : List Rule → List Notice → List Fault → Meaning
+made rules notices faults = record { rules = rules; notices = notices; faults = faults }
+
+-- what a layer that is finished gave, with the faults that were told
+pub finished : (layer : Layer) (faults kept : List Fault) (rules : List Rule) (notices : List Notice) → rules ≡ (coming layer []).rules → notices ≡ (coming layer []).notices → kept ≡ faults → made rules notices kept ≡ (told faults and coming layer [])
+finished layer faults kept rules notices r n f =
+    ap (λ (xs : List Rule). made xs notices kept) r
+    ∙ (ap (λ (xs : List Notice). made (coming layer []).rules xs kept) n
+    ∙ ap (λ (fs : List Fault). made (coming layer []).rules (coming layer []).notices fs) (f ∙ sym (append-nil faults)))
 
 pub same_then : (a b c : Course) → SameButTodo a b → SameButTodo b c → SameButTodo a c
 same_then a b c x y = record { layer = y.layer ∙ x.layer; faults = y.faults ∙ x.faults; files = y.files ∙ x.files; bytes = y.bytes ∙ x.bytes }

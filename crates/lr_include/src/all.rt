@@ -14,13 +14,12 @@ ghost use Rattle.lr_include.specs.Course.{StandsAt, GoesOn};
 ghost use Rattle.lr_include.specs.Lacking.{LacksFrom, LacksReading};
 
 use crate::course::Course;
-use crate::reader::Reader;
 use crate::reading::Reading;
 use crate::task::{Ask, Task};
 use lr_conf::Layer;
 use lr_forms::Built;
 use lr_host::Host;
-use lr_rules::{Memory, Path};
+use lr_rules::{Listed, Memory, Path};
 use std::alloc::Global;
 
 fn ask_of(alloc: Global, path: &Path) -> Result<Task, Memory>
@@ -85,8 +84,8 @@ impl Course {
     fn begin(alloc: Global, paths: &[Path]) -> Result<Course, Memory>
         ensures { IfOk result (λ c. StandsAt c (begun paths.now)) }
     {
-        let layer = Layer::new(alloc, Built::SoFar)?;
         let todo = asks_of(alloc, paths)?;
+        let layer = Layer::new(alloc, Built::SoFar)?;
         Ok(Course {
             alloc,
             layer,
@@ -100,18 +99,13 @@ impl Course {
     fn finish(self) -> Reading
         ensures { (s : Stage) → StandsAt self s → meaning_of result ≡ meaning built.SoFar false [] s.lines }
     {
-        let Course {
-            alloc,
-            layer,
-            faults,
-            ..
-        } = self;
-        Reader {
-            alloc,
-            layer,
-            faults,
+        let Course { layer, faults, .. } = self;
+        let (rules, notices) = layer.finish();
+        Reading {
+            rules,
+            notices: Listed::from_vec(notices),
+            faults: Listed::from_vec(faults),
         }
-        .finish()
     }
 }
 
@@ -131,6 +125,8 @@ pub fn read_all<H: Host>(alloc: Global, host: &mut H, paths: &[Path]) -> Result<
     ensures counts { Onward (H.counts host.old) (H.counts host.new) }
 {
     let mut course = Course::begin(alloc, paths)?;
-    course.run(host)?;
-    Ok(course.finish())
+    let ran = course.run(host);
+    let reading = course.finish();
+    ran?;
+    Ok(reading)
 }

@@ -5,22 +5,10 @@ ghost use Rattle.lr_conf.specs.Meaning.{Meaning};
 ghost use Rattle.lr_host.specs.declared.entry.Entry.{Entry};
 ghost use Rattle.lr_host.specs.Steps.{is_change};
 ghost use Rattle.lr_host.specs.Quiet.{AreQuiet};
-ghost use Rattle.lr_include.specs.Readers.{IsConf};
 ghost use Rattle.lr_visits.specs.declared.visit.Visit.{Visit};
 ghost use Rattle.lr_include.specs.Allowed.{IsAllowed, AreAllowedVisits};
 ghost use Rattle.lr_include.specs.Stages.{visits_mean, Reads};
 ghost use Rattle.lr_include.specs.Lacking.{LacksReading};
-ghost use Rattle.lr_include.specs.Reading.{MeansAs, ReadsAs};
-
-/// What entries show of a file has no failed call among its faults.
-pub fn meanings_tell_no_call()
-    ensures { (file : Path) (m : Meaning) (ts : List Entry) → MeansAs file m ts → All IsConf m.faults }
-{}
-
-/// Reading a file changes nothing.
-pub fn readings_change_nothing()
-    ensures { (file : Path) (m : Meaning) (ts : List Entry) → ReadsAs file m ts → filter is_change ts ≡ [] }
-{}
 
 /// Where no call of the visits failed, they mean no failed call; and no fault is of another kind than those two.
 pub fn visits_tell_their_calls()
