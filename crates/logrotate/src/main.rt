@@ -1,6 +1,6 @@
 //! The program: rotates the logs that a configuration defines.
 //!
-//! `logrotate CONF`, or `logrotate -f CONF` by force, ends with 0 where there was no fault, with 1 where there was one,
+//! `logrotate CONF..`, or `logrotate -f CONF..` by force, ends with 0 where there was no fault, with 1 where there was one,
 //! with 2 for other words, with 3 where another run holds the lock, and with 4 for want of memory. Standard output gets a
 //! line for each notice and each fault, or one line that says why there is no report.
 //! The contract above it is that of `lr_cli::logrotate`; begin there.

@@ -26,10 +26,10 @@ use Rattle.lr_cli.specs.declared.outcome.Outcome.TheVariants.{Done, BadWords, Ou
 use Rattle.lr_cli.specs.declared.outcome.Report.{Report}
 use Rattle.lr_cli.specs.declared.words.Request.{Request}
 use Rattle.lr_cli.specs.Answer.{at_first as lacks_first, Answers, AnswersAt, no_clock, no_memory, called, Answered, not_read, read}
-use Rattle.lr_cli.specs.Clock.{ShowsClock, LacksClock, ClockStopped, HasClock, IsClockFault, IsClocked, with_clock, without_clock}
+use Rattle.lr_cli.specs.Clock.{ShowsClock, ClockStopped, HasClock, IsClockFault, IsClocked, with_clock, without_clock}
 use Rattle.lr_cli.specs.Faults.{answer_of, clock_answer, HasCounted}
 use Rattle.lr_cli.specs.Words.{AreWords}
-use Rattle.lr_cli.specs.Zone.{LacksZoneMemory, at_first}
+use Rattle.lr_cli.specs.Zone.{at_first}
 use Rattle.lr_cli.proofs.Reading.{no_out_among, run_behind, alone_run}
 use Rattle.lr_cli.proofs.Still.{clock_quiet, stop_quiet}
 
@@ -69,13 +69,13 @@ stop_clocked zone s seconds (Err w) c why Y same e is h = tt
 
 -- ---- a run at a clock
 
-pub by_first : (conf : Path) (force : Bool) (now : Moment) (o : Option Journal) → Left (Answers conf force now OutOfMemory) o o
-by_first conf force now o = left_first (Answers conf force now OutOfMemory) o (refl, lacks_first refl)
+pub by_first : (confs : List Path) (force : Bool) (now : Moment) (o : Option Journal) → Left (Answers confs force now OutOfMemory) o o
+by_first confs force now o = left_first (Answers confs force now OutOfMemory) o (refl, lacks_first refl)
 
-pub by_force : (conf : Path) (a b : Bool) (now : Moment) (outcome : Outcome) (o n : Option Journal) → a ≡ b → Left (Answers conf a now outcome) o n → Left (Answers conf b now outcome) o n
-by_force conf a b now outcome o n same l = subst (λ (f : Bool). Left (Answers conf f now outcome) o n) same l
+pub by_force : (xs confs : List Path) (a b : Bool) (now : Moment) (outcome : Outcome) (o n : Option Journal) → xs ≡ confs → a ≡ b → Left (Answers xs a now outcome) o n → Left (Answers confs b now outcome) o n
+by_force xs confs a b now outcome o n at same l = subst (λ (f : Bool). Left (Answers confs f now outcome) o n) same (subst (λ (ps : List Path). Left (Answers ps a now outcome) o n) at l)
 
-pub at_clock : (request : Request) (zone : Zone) (s seconds : ℤ) (clock : Clock) (outcome : Outcome) {o m n : Option Journal} → s ≡ seconds → Left (ShowsClock zone s clock) o m → Left (Answers request.conf request.force clock.now outcome) m n → Left (AnswersAt request zone seconds outcome) o n
+pub at_clock : (request : Request) (zone : Zone) (s seconds : ℤ) (clock : Clock) (outcome : Outcome) {o m n : Option Journal} → s ≡ seconds → Left (ShowsClock zone s clock) o m → Left (Answers request.confs request.force clock.now outcome) m n → Left (AnswersAt request zone seconds outcome) o n
 at_clock request zone s seconds clock outcome {o = o} {m = m} same a b = left_as (left_both (subst (λ (z : ℤ). Left (ShowsClock zone z clock) o m) same a) b) (λ ts t. called clock t)
 
 pub clock_shape : (zone : Zone) (seconds : ℤ) (clock : Clock) {o m n : Option Journal} → Left (ShowsClock zone seconds clock) o m → Left IsWholeRun m n → Left IsWholeRun o n
@@ -96,13 +96,13 @@ answered here words zone s seconds request a o j k at same w l =
     subst (λ (z : ℤ). Left (Answered here words zone z a) j k) at (subst (λ (r : Outcome). Left (Answered here words zone s r) j k) (sym same) (left_as l (λ ts h. read request w h)))
 
 -- where there was no memory, that changed nothing
-answers_still : (conf : Path) (force : Bool) (now : Moment) (outcome : Outcome) (ts : List Entry) → outcome ≡ OutOfMemory → Answers conf force now outcome ts → ChangeNothing ts
-answers_still conf force now outcome ts e h = (subst (λ (a : Outcome). Answers conf force now a ts) e h).0
+answers_still : (confs : List Path) (force : Bool) (now : Moment) (outcome : Outcome) (ts : List Entry) → outcome ≡ OutOfMemory → Answers confs force now outcome ts → ChangeNothing ts
+answers_still confs force now outcome ts e h = (subst (λ (a : Outcome). Answers confs force now a ts) e h).0
 
 at_still : (request : Request) (zone : Zone) (seconds : ℤ) (outcome : Outcome) (ts : List Entry) → outcome ≡ OutOfMemory → AnswersAt request zone seconds outcome ts → ChangeNothing ts
 at_still request zone seconds outcome ts e (no_clock f is l) = absurd (cc)
 at_still request zone seconds outcome ts e (no_memory is l) = quiet_still ts (stop_quiet zone seconds clock_stop.Memory ts l)
-at_still request zone seconds outcome ts e (called clock t) = then_still _ _ ts (λ us p. quiet_still us (clock_quiet zone seconds clock us p)) (λ us h. answers_still request.conf request.force clock.now outcome us e h) t
+at_still request zone seconds outcome ts e (called clock t) = then_still _ _ ts (λ us p. quiet_still us (clock_quiet zone seconds clock us p)) (λ us h. answers_still request.confs request.force clock.now outcome us e h) t
 
 answered_still : (here : Path) (words : List (List ℕ)) (zone : Zone) (seconds : ℤ) (outcome : Outcome) (ts : List Entry) → outcome ≡ OutOfMemory → Answered here words zone seconds outcome ts → ChangeNothing ts
 answered_still here words zone seconds outcome ts e (not_read is none) = ap (filter is_disk_change) none

@@ -11,12 +11,10 @@ use Rattle.lr_rules.specs.declared.fault.ZoneWhy.TheVariants as why
 use Rattle.lr_host.specs.declared.entry.Entry.{Entry}
 use Rattle.lr_host.specs.declared.journal.Journal.{Journal}
 use Rattle.lr_host.specs.Told.{Counts, NoneFell, Left}
-use Rattle.lr_host.specs.Reading.{IsReadOf}
 use Rattle.lr_host.proofs.Left.{left_as, left_first}
 use Rattle.lr_due.specs.declared.tz.Zone.{Zone}
 use Rattle.lr_due.specs.declared.tz.Zone.TheVariants.{Utc, Rule, File}
 use Rattle.lr_due.specs.declared.zone.ZoneText.{ZoneText}
-use Rattle.lr_due.specs.declared.zone.ZoneText.TheVariants as text
 use Rattle.lr_due.specs.Zone.{IsInRange, IsRefusedZone, IsTable, IsClockIn}
 use Rattle.lr_host.specs.Counted.{AreCounted}
 use Rattle.lr_host.proofs.Counts.{counted_free}

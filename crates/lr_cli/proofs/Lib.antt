@@ -8,3 +8,4 @@ pub mod Rotating
 pub mod Still
 pub mod Zoned
 mod Whole
+pub mod Named

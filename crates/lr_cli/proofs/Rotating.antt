@@ -1,12 +1,10 @@
 -- From what a call is told to have left: where it tells of nothing that stopped it, each log of the plan was rotated.
-use Rattle.std.proofs.Common.{◌≡◌, Bool, arith, List, [], ◌∷◌, ◌++◌, Option, Some, All, inl, inr, reverse, refl, sym, ap, ◌∙◌, append_assoc, subst, rules}
+use Rattle.std.proofs.Common.{◌≡◌, arith, List, [], ◌∷◌, ◌++◌, Option, Some, inl, inr, reverse, refl, sym, ap, ◌∙◌, append_assoc, subst}
 use Rattle.std.specs.Prelude.{ℕ, ℤ}
-use Rattle.lr_rules.specs.declared.civil.Moment.{Moment}
 use Rattle.lr_rules.specs.declared.clock.Clock.{Clock}
 use Rattle.lr_rules.specs.declared.fault.Fault.{Fault}
 use Rattle.lr_rules.specs.declared.fault.Fault.TheVariants as fault
 use Rattle.lr_rules.specs.declared.path.Path.{Path}
-use Rattle.lr_rules.specs.declared.rules.Rules.{Rules}
 use Rattle.lr_host.specs.declared.entry.Entry.{Entry}
 use Rattle.lr_host.specs.declared.journal.Journal.{Journal}
 use Rattle.lr_host.specs.Opening.{IsJournal}
@@ -14,11 +12,9 @@ use Rattle.lr_host.specs.Told.{Left, Then, is_told, Made}
 use Rattle.lr_host.specs.World.{past}
 use Rattle.lr_host.proofs.Quiet.{quiet_both}
 use Rattle.lr_due.specs.declared.tz.Zone.{Zone}
-use Rattle.lr_conf.specs.Meaning.{Meaning, told}
-use Rattle.lr_conf.specs.Plain.{IsPlainRule}
-use Rattle.lr_include.specs.Lines.{whole_means, cut_means}
-use Rattle.lr_include.specs.Reading.{MeansAs, no_file, directory, whole, cut, ReadsAs, means, look_failed, read_failed}
-use Rattle.lr_include.proofs.Plain.{whole_plain, cut_plain}
+use Rattle.lr_conf.specs.Meaning.{Meaning}
+use Rattle.lr_include.specs.Stages.{visits_mean, begun, at_visits, Reads}
+use Rattle.lr_include.proofs.Plain.{all_plain}
 use Rattle.lr_run.proofs.Rotating.{run_rotated}
 use Rattle.lr_host.specs.Counted.{call_in, calls_in}
 use Rattle.lr_run.specs.Runs.{Inside, Worked}
@@ -35,7 +31,8 @@ use Rattle.lr_cli.specs.Rotated.{RotatesAll}
 use Rattle.lr_cli.specs.Words.{AreWords}
 use Rattle.lr_cli.proofs.Built.{built}
 use Rattle.lr_cli.proofs.Stopping.{stops_behind, first_stops, run_worked}
-use Rattle.lr_cli.proofs.Still.{conf_quiet, clock_quiet}
+use Rattle.lr_include.proofs.AllQuiet.{reads_quiet as confs_quiet}
+use Rattle.lr_cli.proofs.Still.{clock_quiet}
 
 none_in : (f : Fault) → StopsNothing f → call_in f ≡ 0
 none_in (fault.Call kind path) h = absurd h
@@ -46,26 +43,12 @@ none_called : (fs : List Fault) → StopNothing fs → calls_in fs ≡ 0
 none_called [] h = refl
 none_called (f ∷ fs) h = let a = none_in f h.0 in let b = none_called fs h.1 in omega (arith, a, b)
 
-none_built : (m : Meaning) (fs : List Fault) → m ≡ told fs → AreBuiltRules m.rules
-none_built m fs e = subst (λ (x : Meaning). AreBuiltRules x.rules) (sym e) (built [] none)
-  where
-    none : All IsPlainRule []
-    none = search rules
-
-pub means_built : (conf : Path) (m : Meaning) (ts : List Entry) → MeansAs conf m ts → AreBuiltRules m.rules
-means_built conf m ts (no_file s e) = none_built m _ e
-means_built conf m ts (directory s e) = none_built m _ e
-means_built conf m ts (whole bytes le r e) = subst (λ (x : Meaning). AreBuiltRules x.rules) (sym e) (built (whole_means conf bytes).rules (whole_plain conf bytes))
-means_built conf m ts (cut bytes le r e) = subst (λ (x : Meaning). AreBuiltRules x.rules) (sym e) (built (cut_means conf bytes).rules (cut_plain conf bytes))
-
 -- the rules that a configuration gives are such as a run takes
-pub built_means : (conf : Path) (m : Meaning) (ts : List Entry) → ReadsAs conf m ts → AreBuiltRules m.rules
-built_means conf m ts (means r) = means_built conf m ts r
-built_means conf m ts (look_failed none e) = none_built m _ e
-built_means conf m ts (read_failed r e) = none_built m _ e
+pub built_means : (confs : List Path) (m : Meaning) (ts : List Entry) → Reads confs m ts → AreBuiltRules m.rules
+built_means confs m ts r = subst (λ (x : Meaning). AreBuiltRules x.rules) (sym r.means) (built (visits_mean confs r.visits).rules (all_plain (at_visits (begun confs) r.visits).lines))
 
 -- behind the clock
-pub reports_rotated : (request : Request) (zone : Zone) (seconds : ℤ) (clock : Clock) (report : Report) (j k : Journal) (es : List Entry) → Made (past j) es (past k) → Then (ShowsClock zone seconds clock) (Reports request.conf request.force clock.now report.notices report.faults) (reverse es) → StopNothing report.faults
+pub reports_rotated : (request : Request) (zone : Zone) (seconds : ℤ) (clock : Clock) (report : Report) (j k : Journal) (es : List Entry) → Made (past j) es (past k) → Then (ShowsClock zone seconds clock) (Reports request.confs request.force clock.now report.notices report.faults) (reverse es) → StopNothing report.faults
     → IsJournal (past j) → RotatesAll request zone seconds report.faults j k
 reports_rotated request zone seconds clock report j k es made t none journal = record {
   clock = clock;
@@ -84,17 +67,17 @@ reports_rotated request zone seconds clock report j k es made t none journal = r
   read = r.entries.first;
   run = inside;
   each = λ x one. run_rotated state_path request.force clock.now r.rules r.own (past j) (past k) es (t.front ++ r.entries.front) r.entries.back built_rules made journal (whole ∙ sym (append_assoc t.front r.entries.front r.entries.back))
-      (quiet_both t.front r.entries.front (clock_quiet zone seconds clock t.front t.first) (conf_quiet request.conf r.meaning r.entries.front r.entries.first)) inside (none_called r.own own) x one;
+      (quiet_both t.front r.entries.front (clock_quiet zone seconds clock t.front t.first) (confs_quiet request.confs r.meaning r.entries.front r.entries.first)) inside (none_called r.own own) x one;
 }
   where
-    r : Reports request.conf request.force clock.now report.notices report.faults t.back
+    r : Reports request.confs request.force clock.now report.notices report.faults t.back
     r = t.second
 
     whole : reverse es ≡ t.front ++ (r.entries.front ++ r.entries.back)
     whole = t.joined ∙ ap (λ xs. t.front ++ xs) r.entries.joined
 
     built_rules : AreBuiltRules r.rules.sets
-    built_rules = subst AreBuiltRules (sym r.rules_are) (built_means request.conf r.meaning r.entries.front r.entries.first)
+    built_rules = subst AreBuiltRules (sym r.rules_are) (built_means request.confs r.meaning r.entries.front r.entries.first)
 
     own : StopNothing r.own
     own = stops_behind r.meaning.faults r.own (subst StopNothing r.faults_are none)

@@ -10,11 +10,9 @@ use Rattle.lr_host.specs.declared.entry.Entry.{Entry}
 use Rattle.lr_host.specs.declared.entry.Entry.TheVariants as entry
 use Rattle.lr_host.specs.Told.{Then, Each}
 use Rattle.lr_host.specs.Reading.{IsReadOf, ReadsAll}
-use Rattle.lr_conf.specs.Meaning.{Meaning}
 use Rattle.lr_host.specs.Looks.{IsFile, Sees}
 use Rattle.lr_host.specs.Quiet.{AreQuiet, is_disk_change, ChangeNothing}
 use Rattle.lr_host.proofs.Quiet.{quiet_both, then_quiet, sees_quiet, quiet_still, still_both}
-use Rattle.lr_include.specs.Reading.{ReadsAs, means, look_failed, read_failed, no_file, directory, whole, cut}
 use Rattle.lr_due.specs.declared.tz.Zone.{Zone}
 use Rattle.lr_due.specs.declared.tz.Zone.TheVariants.{Utc, Rule, File}
 use Rattle.lr_due.specs.declared.zone.ZoneText.{ZoneText}
@@ -35,14 +33,6 @@ file_quiet conf ts t = subst AreQuiet (sym t.joined) (quiet_both t.front t.back 
 
 whole_quiet : (conf : Path) (bytes : List ℕ) (ts : List Entry) → Then (Sees conf IsFile) (ReadsAll conf 1048577 bytes) ts → AreQuiet ts
 whole_quiet conf bytes ts t = subst AreQuiet (sym t.joined) (quiet_both t.front t.back (sees_quiet conf t.front t.first) (reads_quiet conf t.back t.second.reads.only))
-
-pub conf_quiet : (conf : Path) (m : Meaning) (ts : List Entry) → ReadsAs conf m ts → AreQuiet ts
-conf_quiet conf m ts (means (no_file s e)) = sees_quiet conf ts s
-conf_quiet conf m ts (means (directory s e)) = sees_quiet conf ts s
-conf_quiet conf m ts (means (whole bytes n r e)) = whole_quiet conf bytes ts r
-conf_quiet conf m ts (means (cut bytes n r e)) = whole_quiet conf bytes ts r
-conf_quiet conf m ts (look_failed none e) = subst AreQuiet (sym none) tt
-conf_quiet conf m ts (read_failed r e) = file_quiet conf ts r
 
 -- ---- a run that lacked memory
 

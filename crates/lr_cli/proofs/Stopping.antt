@@ -1,20 +1,19 @@
 -- A run of which nothing stopped what was planned came to its plan.
-use Rattle.std.proofs.Common.{◌≡◌, Bool, true, false, List, [], ◌∷◌, ◌++◌, Result, Ok, Err, inl, inr, refl, subst}
+use Rattle.std.proofs.Common.{◌≡◌, Bool, true, false, List, [], ◌∷◌, ◌++◌, Result, Ok, Err, refl, subst}
 use Rattle.lr_rules.specs.declared.civil.Moment.{Moment}
 use Rattle.lr_rules.specs.declared.fault.CallKind.TheVariants as call
 use Rattle.lr_rules.specs.declared.fault.Fault.{Fault}
 use Rattle.lr_rules.specs.declared.fault.Fault.TheVariants as fault
 use Rattle.lr_rules.specs.declared.fault.StateKind.TheVariants as kind
-use Rattle.lr_rules.specs.declared.path.Path.{Path}
 use Rattle.lr_rules.specs.declared.rules.Rules.{Rules}
 use Rattle.lr_host.specs.declared.entry.Entry.{Entry}
 use Rattle.lr_state.specs.Grammar.{Said}
 use Rattle.lr_reading.specs.declared.look.LookStop.{LookStop}
 use Rattle.lr_reading.specs.declared.look.LookStop.TheVariants as look
 use Rattle.lr_reading.specs.declared.remembered.Remembered.{Remembered}
-use Rattle.lr_reading.specs.Answers.{Known, IsKnown, IsKnownOf, IsKnownBehind, IsKnownBy, known_of, fault_of, text_of}
+use Rattle.lr_reading.specs.Answers.{Known, IsKnownOf, IsKnownBehind, IsKnownBy, known_of, fault_of, text_of}
 use Rattle.lr_reading.specs.Pieces.{Reading, Whole, Broken}
-use Rattle.lr_reading.specs.Sights.{StateSights, found, state_part}
+use Rattle.lr_reading.specs.Sights.{found, state_part}
 use Rattle.lr_run.specs.Runs as runs
 use Rattle.lr_run.specs.Runs.{Inside, Worked, Works, not_known, too_big, worked, Runs, no_directory, not_seen, not_begun}
 use Rattle.lr_cli.specs.Answer.{state_path}

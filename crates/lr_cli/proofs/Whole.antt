@@ -1,15 +1,13 @@
 -- The state stays whole over a call.
-use Rattle.std.proofs.Common.{◌≡◌, ◌⊎◌, inl, inr, ℕ, List, [], ◌∷◌, ◌++◌, Option, refl, sym, ap, ◌∙◌, subst}
+use Rattle.std.proofs.Common.{ℕ, List, Option, sym, subst}
 use Rattle.std.specs.Prelude.{ℤ}
 use Rattle.lr_rules.specs.declared.clock.Clock.{Clock}
 use Rattle.lr_rules.specs.declared.path.Path.{Path}
 use Rattle.lr_rules.specs.Path.{parent_of}
 use Rattle.lr_host.specs.declared.entry.Entry.{Entry}
 use Rattle.lr_host.specs.declared.journal.Journal.{Journal}
-use Rattle.lr_host.specs.Looks.{IsDir}
 use Rattle.lr_host.specs.Quiet.{AreQuiet}
 use Rattle.lr_host.specs.Told.{Each, IsTools, Left, Then}
-use Rattle.lr_host.proofs.Each.{each_first}
 use Rattle.lr_host.proofs.Quiet.{quiet_both, sees_quiet}
 use Rattle.lr_durable.specs.Renewing.{MayRenew}
 use Rattle.lr_durable.specs.StateWhole.{KeepsWhole}
@@ -27,21 +25,22 @@ use Rattle.lr_cli.specs.Clock.{ShowsClock}
 use Rattle.lr_cli.specs.State.{IsNewText}
 use Rattle.lr_cli.specs.Words.{AreWords}
 use Rattle.lr_cli.proofs.Rotating.{built_means}
-use Rattle.lr_cli.proofs.Still.{conf_quiet, clock_quiet, stop_quiet}
+use Rattle.lr_include.proofs.AllQuiet.{reads_quiet as confs_quiet}
+use Rattle.lr_cli.proofs.Still.{clock_quiet, stop_quiet}
 
 module _ (here : Path) (words : List (List ℕ)) (zone : Zone) (seconds : ℤ) where
   abbrev Text : List Entry → List ℕ → Type 0
   Text ts text = IsNewText here words zone seconds ts text
 
   -- behind the clock, a run was made
-  reports_may : (request : Request) → AreWords here words request → (clock : Clock) (report : Report) (ts : List Entry) → Each IsTools ts → Then (ShowsClock zone seconds clock) (Reports request.conf request.force clock.now report.notices report.faults) ts → MayRenew state_path (Text ts) ts
+  reports_may : (request : Request) → AreWords here words request → (clock : Clock) (report : Report) (ts : List Entry) → Each IsTools ts → Then (ShowsClock zone seconds clock) (Reports request.confs request.force clock.now report.notices report.faults) ts → MayRenew state_path (Text ts) ts
   reports_may request asked clock report ts tools t = subst (MayRenew state_path (Text ts)) (sym t.joined)
       (behind_quiet state_path OfRun (Text ts) (λ text is. is) t.front t.back (clock_quiet zone seconds clock t.front t.first)
       (subst (MayRenew state_path OfRun) (sym r.entries.joined)
-      (behind_quiet state_path (λ text. IsTextOfRun state_path clock.now request.force r.rules r.entries.back text) OfRun of_run r.entries.front r.entries.back (conf_quiet request.conf r.meaning r.entries.front r.entries.first)
+      (behind_quiet state_path (λ text. IsTextOfRun state_path clock.now request.force r.rules r.entries.back text) OfRun of_run r.entries.front r.entries.back (confs_quiet request.confs r.meaning r.entries.front r.entries.first)
       (runs_may state_path r.rules clock.now request.force built_rules r.own r.entries.back run_tools r.entries.second))))
     where
-      r : Reports request.conf request.force clock.now report.notices report.faults t.back
+      r : Reports request.confs request.force clock.now report.notices report.faults t.back
       r = t.second
 
       OfRun : List ℕ → Type 0
@@ -59,18 +58,18 @@ module _ (here : Path) (words : List (List ℕ)) (zone : Zone) (seconds : ℤ) w
       }
 
       built_rules : AreBuiltRules r.rules.sets
-      built_rules = subst AreBuiltRules (sym r.rules_are) (built_means request.conf r.meaning r.entries.front r.entries.first)
+      built_rules = subst AreBuiltRules (sym r.rules_are) (built_means request.confs r.meaning r.entries.front r.entries.first)
 
       run_tools : Each IsTools r.entries.back
       run_tools = each_later IsTools r.entries.front r.entries.back (subst (Each IsTools) r.entries.joined (each_later IsTools t.front t.back (subst (Each IsTools) t.joined tools)))
 
-  lock_quiet : (conf : Path) (ts : List Entry) → FindsLock conf ts → AreQuiet ts
-  lock_quiet conf ts f = subst AreQuiet (sym f.entries.joined) (quiet_both f.entries.front f.entries.back (conf_quiet conf f.meaning f.entries.front f.entries.first) (sees_quiet (parent_of state_path) f.entries.back f.entries.second))
+  lock_quiet : (confs : List Path) (ts : List Entry) → FindsLock confs ts → AreQuiet ts
+  lock_quiet confs ts f = subst AreQuiet (sym f.entries.joined) (quiet_both f.entries.front f.entries.back (confs_quiet confs f.meaning f.entries.front f.entries.first) (sees_quiet (parent_of state_path) f.entries.back f.entries.second))
 
   -- behind the clock, whatever the answer
-  called_may : (request : Request) → AreWords here words request → (clock : Clock) (outcome : Outcome) (ts : List Entry) → Each IsTools ts → Then (ShowsClock zone seconds clock) (Answers request.conf request.force clock.now outcome) ts → MayRenew state_path (Text ts) ts
+  called_may : (request : Request) → AreWords here words request → (clock : Clock) (outcome : Outcome) (ts : List Entry) → Each IsTools ts → Then (ShowsClock zone seconds clock) (Answers request.confs request.force clock.now outcome) ts → MayRenew state_path (Text ts) ts
   called_may request asked clock (Done report) ts tools t = reports_may request asked clock report ts tools t
-  called_may request asked clock Held ts tools t = quiet_alone state_path (Text ts) ts (subst AreQuiet (sym t.joined) (quiet_both t.front t.back (clock_quiet zone seconds clock t.front t.first) (lock_quiet request.conf t.back t.second)))
+  called_may request asked clock Held ts tools t = quiet_alone state_path (Text ts) ts (subst AreQuiet (sym t.joined) (quiet_both t.front t.back (clock_quiet zone seconds clock t.front t.first) (lock_quiet request.confs t.back t.second)))
   called_may request asked clock OutOfMemory ts tools t = subst (MayRenew state_path (Text ts)) (sym t.joined)
       (behind_quiet state_path (Text ts) (Text ts) (λ text is. is) t.front t.back (clock_quiet zone seconds clock t.front t.first)
       (still_alone state_path (Text ts) t.back (each_later IsTools t.front t.back (subst (Each IsTools) t.joined tools)) t.second.0))

@@ -8,12 +8,12 @@ use Rattle.lr_rules.specs.declared.fault.Notice.{Notice}
 use Rattle.lr_rules.specs.declared.rules.Rules.{Rules}
 use Rattle.lr_rules.specs.Path.{parent_of}
 use Rattle.lr_host.specs.declared.entry.Entry.{Entry}
-use Rattle.lr_host.specs.Told.{Then, Each}
-use Rattle.lr_host.specs.Reading.{IsReadOf}
+use Rattle.lr_host.specs.Told.{Then}
 use Rattle.lr_conf.specs.Meaning.{Meaning}
-use Rattle.lr_host.specs.Looks.{Sees, IsDir, IsFile}
+use Rattle.lr_host.specs.Looks.{Sees, IsDir}
 use Rattle.lr_host.specs.Quiet.{ChangeNothing}
-use Rattle.lr_include.specs.Reading.{ReadsAs}
+use Rattle.lr_include.specs.Stages.{Reads}
+use Rattle.lr_include.specs.Lacking.{LacksReading}
 use Rattle.lr_due.specs.declared.tz.Zone.{Zone}
 use Rattle.lr_run.specs.Runs.{Runs}
 use Rattle.lr_run.specs.Runs.{LacksMemory as RunLacks}
@@ -32,39 +32,39 @@ state_path = codes "/var/lib/logrotate/status"
 abbrev pub mailer_path : Path
 mailer_path = codes "/usr/bin/mail"
 
--- The configuration was read, and a run was made over its rules, by force or not. The report has the notices of the configuration, and its faults before those of the run.
-pub record Reports (conf : Path) (force : Bool) (now : Moment) (notices : List Notice) (faults : List Fault) (ts : List Entry) : Type 0 where
+-- The configuration of these paths was read, and a run was made over its rules, by force or not. The report has the notices of the configuration, and its faults before those of the run.
+pub record Reports (confs : List Path) (force : Bool) (now : Moment) (notices : List Notice) (faults : List Fault) (ts : List Entry) : Type 0 where
   pub meaning : Meaning
   pub rules : Rules
   pub own : List Fault
   pub rules_are : rules.sets ≡ meaning.rules
   pub notices_are : notices ≡ meaning.notices
   pub faults_are : faults ≡ meaning.faults ++ own
-  pub entries : Then (ReadsAs conf meaning) (Runs state_path force now rules own) ts
+  pub entries : Then (Reads confs meaning) (Runs state_path force now rules own) ts
 
 -- The configuration was read, and the state's directory was seen; the lock was another's.
-pub record FindsLock (conf : Path) (ts : List Entry) : Type 0 where
+pub record FindsLock (confs : List Path) (ts : List Entry) : Type 0 where
   pub meaning : Meaning
-  pub entries : Then (ReadsAs conf meaning) (Sees (parent_of state_path) IsDir) ts
+  pub entries : Then (Reads confs meaning) (Sees (parent_of state_path) IsDir) ts
 
--- Where there was no memory: before the first call, for the configuration's text or its rules, or in the run, behind a first part of its looks.
-pub data LacksMemory (conf : Path) (now : Moment) (ts : List Entry) : Type 0 where
-  at_first : ts ≡ [] → LacksMemory conf now ts
-  at_conf : Then (Sees conf IsFile) (Each (IsReadOf conf)) ts → LacksMemory conf now ts
-  at_run : (meaning : Meaning) (rules : Rules) → rules.sets ≡ meaning.rules → Then (ReadsAs conf meaning) (RunLacks state_path now rules) ts → LacksMemory conf now ts
+-- Where there was no memory: before the first call, for the configuration's texts or its rules, or in the run, behind a first part of its looks.
+pub data LacksMemory (confs : List Path) (now : Moment) (ts : List Entry) : Type 0 where
+  at_first : ts ≡ [] → LacksMemory confs now ts
+  at_confs : LacksReading confs ts → LacksMemory confs now ts
+  at_run : (meaning : Meaning) (rules : Rules) → rules.sets ≡ meaning.rules → Then (Reads confs meaning) (RunLacks state_path now rules) ts → LacksMemory confs now ts
 
--- What a call left that was to run with this configuration, by force or not, at a moment that its clock shows.
-abbrev pub Answers : Path → Bool → Moment → Outcome → List Entry → Type 0
-Answers conf force now (Done report) ts = Reports conf force now report.notices report.faults ts
-Answers conf force now Held ts = FindsLock conf ts
-Answers conf force now OutOfMemory ts = ChangeNothing ts × LacksMemory conf now ts
-Answers conf force now BadWords ts = ⊥
+-- What a call left that was to run with the configuration of these paths, by force or not, at a moment that its clock shows.
+abbrev pub Answers : List Path → Bool → Moment → Outcome → List Entry → Type 0
+Answers confs force now (Done report) ts = Reports confs force now report.notices report.faults ts
+Answers confs force now Held ts = FindsLock confs ts
+Answers confs force now OutOfMemory ts = ChangeNothing ts × LacksMemory confs now ts
+Answers confs force now BadWords ts = ⊥
 
 -- The same for a request, in a zone at these seconds: where there is no clock, its fault is the one that is told, and no more is called; and nothing is changed where there was no memory for it.
 pub data AnswersAt (request : Request) (zone : Zone) (seconds : ℤ) (outcome : Outcome) (ts : List Entry) : Type 0 where
   no_clock : (f : Fault) → outcome ≡ Done (record { notices = []; faults = f ∷ [] }) → LacksClock zone seconds f ts → AnswersAt request zone seconds outcome ts
   no_memory : outcome ≡ OutOfMemory → LacksZoneMemory zone ts → AnswersAt request zone seconds outcome ts
-  called : (clock : Clock) → Then (ShowsClock zone seconds clock) (Answers request.conf request.force clock.now outcome) ts → AnswersAt request zone seconds outcome ts
+  called : (clock : Clock) → Then (ShowsClock zone seconds clock) (Answers request.confs request.force clock.now outcome) ts → AnswersAt request zone seconds outcome ts
 
 -- What a call of the program left: where the words ask for nothing, nothing, and so where there was no memory for what they ask for.
 pub data Answered (here : Path) (words : List (List ℕ)) (zone : Zone) (seconds : ℤ) (outcome : Outcome) (ts : List Entry) : Type 0 where

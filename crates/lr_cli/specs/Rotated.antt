@@ -8,7 +8,7 @@ use Rattle.lr_host.specs.declared.journal.Journal.{Journal}
 use Rattle.lr_host.specs.World.{past}
 use Rattle.lr_host.specs.Told.{Made}
 use Rattle.lr_conf.specs.Meaning.{Meaning}
-use Rattle.lr_include.specs.Reading.{ReadsAs}
+use Rattle.lr_include.specs.Stages.{Reads}
 use Rattle.lr_due.specs.declared.tz.Zone.{Zone}
 use Rattle.lr_rotations.specs.Target.{Target, IsOneOf}
 use Rattle.lr_run.specs.Rotated.{rotated_in, IsRotatedAmong}
@@ -34,7 +34,7 @@ pub record RotatesAll (request : Request) (zone : Zone) (seconds : ℤ) (faults 
   pub acts : List Entry
   pub joined : reverse entries ≡ of_clock ++ (reads ++ acts)
   pub shown : ShowsClock zone seconds clock of_clock
-  pub read : ReadsAs request.conf meaning reads
+  pub read : Reads request.confs meaning reads
   pub run : Inside state_path clock.now rules (Worked state_path rules.sets clock.now request.force own) acts
   pub each : (t : Target) → IsOneOf t (rotated_in state_path rules.sets run.between run.within.looked clock.now request.force)
       → IsRotatedAmong state_path (rotated_in state_path rules.sets run.between run.within.looked clock.now request.force) (past before) (past after) t

@@ -6,7 +6,7 @@ use Rattle.lr_rules.specs.declared.rules.Rules.{Rules}
 use Rattle.lr_host.specs.declared.entry.Entry.{Entry}
 use Rattle.lr_host.specs.Told.{Then}
 use Rattle.lr_conf.specs.Meaning.{Meaning}
-use Rattle.lr_include.specs.Reading.{ReadsAs}
+use Rattle.lr_include.specs.Stages.{Reads}
 use Rattle.lr_due.specs.declared.tz.Zone.{Zone}
 use Rattle.lr_run.specs.State.{IsNewText as IsTextOfRun}
 use Rattle.lr_cli.specs.declared.words.Request.{Request}
@@ -22,4 +22,4 @@ pub record IsNewText (here : Path) (words : List (List ℕ)) (zone : Zone) (seco
   pub meaning : Meaning
   pub rules : Rules
   pub rules_are : rules.sets ≡ meaning.rules
-  pub entries : Then (ShowsClock zone seconds clock) (Then (ReadsAs request.conf meaning) (λ us. IsTextOfRun state_path clock.now request.force rules us text)) ts
+  pub entries : Then (ShowsClock zone seconds clock) (Then (Reads request.confs meaning) (λ us. IsTextOfRun state_path clock.now request.force rules us text)) ts

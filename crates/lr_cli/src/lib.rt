@@ -25,7 +25,7 @@ pub use defaults::{settings, state_file};
 pub use lr_due::{Zone, zone_of};
 pub use outcome::{Outcome, Report, status};
 pub use report::{printed, put_outcome, put_report};
-pub use run::{run_at, run_by, run_conf};
+pub use run::{run_at, run_by, run_confs};
 pub use told::Told;
 pub use top::logrotate;
 pub use words::{Request, WordsFault, request_of};

@@ -1,4 +1,4 @@
-// One run over one configuration.
+// One run over the configuration of some paths.
 ghost use Rattle.std.specs.Prelude.{◌≡◌, ◌≤◌, ◌+◌, [], Err, IfOk, vec_len, vec_capacity};
 ghost use Rattle.lr_host.specs.Told.{Left, Onward, Rose};
 ghost use Rattle.lr_host.specs.Counted.{AreCounted};
@@ -13,29 +13,29 @@ use crate::told::Told;
 use crate::words::Request;
 use lr_due::Zone;
 use lr_host::Host;
-use lr_include::{Reading, read_conf};
+use lr_include::{Reading, read_all};
 use lr_plan::Settings;
 use lr_rules::{Clock, Fault, Listed, Path};
 use lr_run::{RunStop, run};
 use std::alloc::Global;
 
-/// Reads the configuration, and makes a run over its rules. All memory is taken before the first change.
-pub fn run_conf<H: Host>(
+/// Reads the configuration of these paths, and makes a run over its rules. All memory is taken before the first change.
+pub fn run_confs<H: Host>(
     alloc: Global,
     host: &mut H,
-    conf: &Path,
+    confs: &[Path],
     settings: &Settings,
     clock: &Clock,
 ) -> Result<Told, RunStop>
     requires state { settings.now.state ≡ state_path }
-    ensures told { Left (Answers conf.now settings.now.force clock.entry.now.now (answer_of result)) (H.told host.old) (H.told host.new) }
+    ensures told { Left (Answers confs.now settings.now.force clock.entry.now.now (answer_of result)) (H.told host.old) (H.told host.new) }
     ensures shape { Left IsWholeRun (H.told host.old) (H.told host.new) }
     ensures counted { IfOk result (λ told. AreCounted told.faults.items (H.counts host.old) (H.counts host.new)) }
     ensures room { IfOk result (λ told. vec_len told.faults + 1 ≤ vec_capacity told.faults) }
     ensures held { result ≡ Err RunStop.Held → Rose (H.counts host.old).held (H.counts host.new).held }
     ensures counts { Onward (H.counts host.old) (H.counts host.new) }
 {
-    let Ok(reading) = read_conf(alloc, host, conf) else {
+    let Ok(reading) = read_all(alloc, host, confs) else {
         return Err(RunStop::Memory);
     };
     let Reading {
@@ -59,7 +59,7 @@ pub fn run_by<H: Host>(
     request: &Request,
     clock: &Clock,
 ) -> Result<Told, RunStop>
-    ensures told { Left (Answers request.now.conf request.now.force clock.entry.now.now (answer_of result)) (H.told host.old) (H.told host.new) }
+    ensures told { Left (Answers request.now.confs request.now.force clock.entry.now.now (answer_of result)) (H.told host.old) (H.told host.new) }
     ensures shape { Left IsWholeRun (H.told host.old) (H.told host.new) }
     ensures counted { IfOk result (λ told. AreCounted told.faults.items (H.counts host.old) (H.counts host.new)) }
     ensures room { IfOk result (λ told. vec_len told.faults + 1 ≤ vec_capacity told.faults) }
@@ -69,7 +69,7 @@ pub fn run_by<H: Host>(
     let Ok(settings) = settings(alloc, request.force) else {
         return Err(RunStop::Memory);
     };
-    run_conf(alloc, host, &request.conf, &settings, clock)
+    run_confs(alloc, host, request.confs.as_slice(), &settings, clock)
 }
 
 // What is told where there is no clock, in a list that has room for it and one more.

@@ -28,8 +28,8 @@ use lr_host::{Host, Sink};
 use lr_rules::{Path, Text};
 use std::alloc::Global;
 
-/// One call of the program: reads the configuration that the words name, from the directory `here` on, makes a run over
-/// its rules by a clock in the zone, and prints its report. `now` is in seconds since 1970-01-01 0:0:0 UTC.
+/// One call of the program: reads the configurations that the words name, from the directory `here` on, makes a run over
+/// their rules by a clock in the zone, and prints its report. `now` is in seconds since 1970-01-01 0:0:0 UTC.
 ///
 /// Printing ends at the first fault of the output, and then the report has the fault `Out` behind its others.
 pub fn logrotate<H: Host, K: Sink>(

@@ -1,9 +1,7 @@
-use Rattle.std.proofs.Common.{◌≡◌, [], ◌∷◌, Err, IfErr, subst}
+use Rattle.std.proofs.Common.{[], ◌∷◌, IfErr, subst}
 use Rattle.std.specs.Prelude.{ℤ}
-use Rattle.lr_rules.specs.declared.fault.Fault.{Fault}
 use Rattle.lr_host.specs.Told.{Left}
 use Rattle.lr_host.specs.Counted.{AreCounted}
-use Rattle.lr_cli.specs.declared.clock.ClockStop.TheVariants as stop
 use Rattle.lr_cli.specs.Clock.{ClockStopped, IsClockFault}
 use Rattle.lr_cli.proofs.Clocked.{own_seconds, is_out, range_told}
 use Rattle.lr_cli.proofs.clock.clock_in.Goals as goal

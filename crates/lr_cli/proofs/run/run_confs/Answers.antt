@@ -1,0 +1,29 @@
+use Rattle.lr_cli.proofs.Built.{built}
+use Rattle.lr_cli.proofs.Reading.{reports, stopped, lacks_at_confs, reading_counted, both_counted, confs_shape, lacking_shape}
+use Rattle.lr_cli.proofs.run.run_confs.Goals as goal
+
+pub returns-in_default-clause-told : goal.returns-in_default-clause-told
+returns-in_default-clause-told g c = lacks_at_confs c.args.confs.now c.args.clock.now.now c.in_default.ensures.lacking
+
+pub returns-in_default-clause-shape : goal.returns-in_default-clause-shape
+returns-in_default-clause-shape g c = lacking_shape c.args.confs.now c.in_default.ensures.lacking
+
+pub run-requires : goal.run-requires
+run-requires g c = built c.in-Ok.reading.rules.sets c.in-Ok.ensures.plain
+
+pub returns-in-Ok-run-clause-told : goal.returns-in-Ok-run-clause-told
+returns-in-Ok-run-clause-told g c = reports c.args.confs.now c.args.settings.now.state c.args.settings.now.force c.args.clock.now.now c.in-Ok.reading c.into_vec.result.items c.in-Ok-run.ran.faults.items c.requires.state c.into_vec.ensures
+    c.in-Ok.ensures.told c.in-Ok-run.ensures.told
+
+pub returns-in-Ok-run-clause-shape : goal.returns-in-Ok-run-clause-shape
+returns-in-Ok-run-clause-shape g c = confs_shape c.args.confs.now _ c.in-Ok.ensures.told c.run.ensures.shape
+
+pub returns-in-Ok-run-clause-counted : goal.returns-in-Ok-run-clause-counted
+returns-in-Ok-run-clause-counted g c = both_counted c.into_vec.result.items c.in-Ok.reading.faults c.in-Ok-run.ran.faults.items _ _ _ c.into_vec.ensures
+    (reading_counted c.in-Ok.reading.faults _ _ c.in-Ok.ensures.only c.in-Ok.ensures.counted c.read_all.ensures.counts.0) c.in-Ok-run.ensures.counted
+
+pub returns-clause-told : goal.returns-clause-told
+returns-clause-told g c = stopped c.args.confs.now c.args.settings.now.state c.args.settings.now.force c.args.clock.now.now c.in-Ok.reading c.into_vec.result.items c.in-Err.stop c.requires.state c.in-Ok.ensures.told c.in-Err.ensures.told
+
+pub returns-clause-shape : goal.returns-clause-shape
+returns-clause-shape g c = confs_shape c.args.confs.now _ c.in-Ok.ensures.told c.run.ensures.shape
