@@ -17,7 +17,7 @@ mod CountedListings
 mod Moves
 mod Works
 mod Run
-mod Meanings
+mod Fronts
 mod Reports
 mod LooksListNone
 mod WordsListOnce

@@ -1,11 +1,11 @@
 -- Two reports that were told of the same entries are one.
-use Rattle.std.proofs.Common.{◌≡◌, ◌≢◌, ◌<◌, ◌≤◌, ◌+◌, inl, inr, ℕ, ℤ, Bool, true, false, List, [], ◌∷◌, ◌++◌, Option, None, Some, length, drop, refl, sym, ap, ◌∙◌, subst, codes, arith, append-nil}
+use Rattle.std.proofs.Common.{◌≡◌, ◌≢◌, ◌<◌, ◌≤◌, ◌+◌, inl, inr, ℕ, ℤ, Bool, true, false, List, [], ◌∷◌, ◌++◌, Option, None, Some, length, drop, refl, sym, ap, ◌∙◌, subst, codes, arith, append-nil, length-append}
 use Rattle.std.proofs.Math.Bool.{Bool-set}
 use Rattle.std.proofs.Math.Seq.{drop-append_seam}
 use Rattle.std.proofs.lemmas.Option.{same_Some}
 use Rattle.std.specs.List.{list_all}
 use Rattle.lr_rules.specs.Limits.{meets_limits}
-use Rattle.lr_rules.specs.Path.{parent_of, cleaned}
+use Rattle.lr_rules.specs.Path.{parent_of}
 use Rattle.lr_rules.specs.declared.civil.Moment.{Moment}
 use Rattle.lr_rules.specs.declared.clock.Clock.{Clock}
 use Rattle.lr_rules.specs.declared.fault.CallKind.TheVariants as call
@@ -28,7 +28,6 @@ use Rattle.lr_due.specs.declared.tz.Zone.TheVariants.{Utc, Rule as RuleZone, Fil
 use Rattle.lr_due.specs.declared.zone.ZoneText.{ZoneText}
 use Rattle.lr_due.specs.Zone.{IsInRange}
 use Rattle.lr_host.specs.Counted.{call_in, calls_in}
-use Rattle.lr_include.specs.Reading.{MeansAs, no_file, directory, whole, cut}
 use Rattle.lr_seen.specs.Built.{AreBuiltRules}
 use Rattle.lr_run.specs.Runs.{Runs, no_directory, not_seen, not_begun, began}
 use Rattle.lr_cli.specs.declared.outcome.Outcome.TheVariants.{Done}
@@ -36,14 +35,16 @@ use Rattle.lr_cli.specs.declared.outcome.Report.{Report}
 use Rattle.lr_cli.specs.declared.words.Request.{Request}
 use Rattle.lr_cli.specs.Answer.{state_path, Reports, AnswersAt, no_clock, no_memory, called, Answered, not_read, read}
 use Rattle.lr_cli.specs.Clock.{ShowsClock, LacksClock, out_of_range, no_text, refused}
-use Rattle.lr_cli.specs.Words.{asking, AreWords}
+use Rattle.lr_cli.specs.Words.{HaveNoOption, AreNames, asking, NameConfs, AreWords}
 use Rattle.lr_cli.specs.Zone.{IsNotFile, ShowsZone, GivesBytes, LacksText, not_file, too_big, look_failed, read_failed}
 use Rattle.lr_run.proofs.Called.{none_before, none_behind}
-use Rattle.lr_fixed.proofs.Called.{one_uncalled}
+use Rattle.lr_fixed.proofs.Called.{one_called, one_uncalled}
 use Rattle.lr_fixed.proofs.Peeled.{one_look}
 use Rattle.lr_fixed.proofs.Run.{runs_at}
-use Rattle.lr_cli.proofs.Rotating.{means_built}
-use Rattle.lr_fixed.proofs.Meanings.{no_failed, meaning_one, conf_front, begins_by_read, means_front, conf_is_front, look_alone}
+use Rattle.lr_cli.proofs.Rotating.{built_means}
+use Rattle.lr_read_fixed.specs.Behind.{begins_by_read}
+use Rattle.lr_read_fixed.proofs.OneReading.{readings_one, reads_begin}
+use Rattle.lr_fixed.proofs.Fronts.{file_front, file_is_front, look_alone}
 
 -- ---- a run begins with no read
 
@@ -58,6 +59,13 @@ run_begins state force now rules own ts (no_directory e s) = look_begins (parent
 run_begins state force now rules own ts (not_seen e none) = ap begins_by_read none
 run_begins state force now rules own ts (not_begun e t) = ap begins_by_read t.joined ∙ look_in_front (parent_of state) _ t.front t.back t.first
 run_begins state force now rules own ts (began i) = ap begins_by_read i.entries ∙ look_in_front (parent_of state) _ i.before _ i.directory
+
+-- where none of its calls failed, it begins with a look
+run_look : (state : Path) (force : Bool) (now : Moment) (rules : Rules) (own : List Fault) (ts : List Entry) → Runs state force now rules own ts → calls_in own ≡ 0 → (seen : Option Seen) × (rest : List Entry) × (ts ≡ entry.Look (parent_of state) seen ∷ rest)
+run_look state force now rules own ts (no_directory e s) z = (s.seen, [], s.look)
+run_look state force now rules own ts (not_seen e none) z = absurd (one_called own _ e refl z)
+run_look state force now rules own ts (not_begun e t) z = (t.first.seen, t.back, t.joined ∙ ap (λ vs. vs ++ t.back) t.first.look)
+run_look state force now rules own ts (began i) z = (i.directory.seen, entry.Starts state now rules ∷ (i.between ++ entry.Ends ∷ []), i.entries ∙ ap (λ vs. vs ++ (entry.Starts state now rules ∷ (i.between ++ entry.Ends ∷ []))) i.directory.look)
 
 -- ---- records with the same parts
 
@@ -76,29 +84,28 @@ rules_same a b e = go a.sets b.sets a.limits b.limits e
 
 -- ---- a reading and the run behind it
 
-module _ (conf : Path) (force : Bool) (now other : Moment) (notices others : List Notice) (faults more : List Fault) (ts us : List Entry) (same : ts ≡ us) (p : Reports conf force now notices faults ts) (q : Reports conf force other others more us) (c : calls_in faults ≡ 0) (d : calls_in more ≡ 0) where
-  reads_p : MeansAs conf p.meaning p.entries.front
-  reads_p = no_failed conf p.meaning p.entries.front (none_before faults p.meaning.faults p.own p.faults_are c) p.entries.first
+-- where a report tells no failed call, the reading tells none
+read_none : (confs : List Path) (force : Bool) (now : Moment) (notices : List Notice) (faults : List Fault) (ts : List Entry) (p : Reports confs force now notices faults ts) → calls_in faults ≡ 0 → calls_in p.meaning.faults ≡ 0
+read_none confs force now notices faults ts p c = none_before faults p.meaning.faults p.own p.faults_are c
 
-  reads_q : MeansAs conf q.meaning q.entries.front
-  reads_q = no_failed conf q.meaning q.entries.front (none_before more q.meaning.faults q.own q.faults_are d) q.entries.first
-
-  front_is : p.entries.front ≡ q.entries.front
-  front_is =
-      sym (means_front conf p.meaning p.entries.front p.entries.back reads_p (run_begins state_path force now p.rules p.own p.entries.back p.entries.second))
-      ∙ (ap conf_front (sym p.entries.joined ∙ (same ∙ q.entries.joined)) ∙ means_front conf q.meaning q.entries.front q.entries.back reads_q (run_begins state_path force other q.rules q.own q.entries.back q.entries.second))
+module _ (confs : List Path) (force : Bool) (now other : Moment) (notices others : List Notice) (faults more : List Fault) (ts us : List Entry) (same : ts ≡ us) (p : Reports confs force now notices faults ts) (q : Reports confs force other others more us) (c : calls_in faults ≡ 0) (d : calls_in more ≡ 0) where
+  both_read : (p.meaning ≡ q.meaning) × (p.entries.front ≡ q.entries.front) × (p.entries.back ≡ q.entries.back)
+  both_read = readings_one confs p.meaning q.meaning p.entries.front q.entries.front p.entries.back q.entries.back p.entries.first q.entries.first
+      (read_none confs force now notices faults ts p c) (read_none confs force other others more us q d)
+      (run_begins state_path force now p.rules p.own p.entries.back p.entries.second) (run_begins state_path force other q.rules q.own q.entries.back q.entries.second)
+      (sym p.entries.joined ∙ (same ∙ q.entries.joined))
 
   back_is : p.entries.back ≡ q.entries.back
-  back_is = behind_same q.entries.front p.entries.back q.entries.back (ap (λ xs. xs ++ p.entries.back) (sym front_is) ∙ (sym p.entries.joined ∙ (same ∙ q.entries.joined)))
+  back_is = both_read.2
 
   meaning_is : p.meaning ≡ q.meaning
-  meaning_is = meaning_one conf p.meaning q.meaning p.entries.front q.entries.front front_is reads_p reads_q
+  meaning_is = both_read.0
 
   rules_is : p.rules ≡ q.rules
   rules_is = rules_same p.rules q.rules (p.rules_are ∙ (ap (λ (m : Meaning). m.rules) meaning_is ∙ sym q.rules_are))
 
   are_built : AreBuiltRules p.rules.sets
-  are_built = subst AreBuiltRules (sym p.rules_are) (means_built conf p.meaning p.entries.front reads_p)
+  are_built = subst AreBuiltRules (sym p.rules_are) (built_means confs p.meaning p.entries.front p.entries.first)
 
   -- the other run, over the rules and the entries of the one
   as_run : Runs state_path force other p.rules q.own p.entries.back
@@ -114,35 +121,31 @@ module _ (conf : Path) (force : Bool) (now other : Moment) (notices others : Lis
     p.faults_are ∙ (ap (λ (m : Meaning). m.faults ++ p.own) meaning_is ∙ (ap (λ xs. q.meaning.faults ++ xs) own_is ∙ sym q.faults_are)),
   )
 
--- ---- a configuration's look comes first
+-- ---- a report's entries begin by no read, and there are some
 
-means_look : (file : Path) (m : Meaning) (ts : List Entry) → MeansAs file m ts → (seen : Option Seen) × (rest : List Entry) × (ts ≡ entry.Look file seen ∷ rest)
-means_look file m ts (no_file s e) = (s.seen, [], s.look)
-means_look file m ts (directory s e) = (s.seen, [], s.look)
-means_look file m ts (whole bytes n r e) = (r.first.seen, r.back, r.joined ∙ ap (λ vs. vs ++ r.back) r.first.look)
-means_look file m ts (cut bytes n r e) = (r.first.seen, r.back, r.joined ∙ ap (λ vs. vs ++ r.back) r.first.look)
+reports_begin : (confs : List Path) (force : Bool) (now : Moment) (notices : List Notice) (faults : List Fault) (ts : List Entry) → Reports confs force now notices faults ts → calls_in faults ≡ 0 → begins_by_read ts ≡ false
+reports_begin confs force now notices faults ts p c = ap begins_by_read p.entries.joined
+    ∙ reads_begin confs p.meaning p.entries.front p.entries.back p.entries.first (read_none confs force now notices faults ts p c) (run_begins state_path force now p.rules p.own p.entries.back p.entries.second)
 
-reports_look : (conf : Path) (force : Bool) (now : Moment) (notices : List Notice) (faults : List Fault) (ts : List Entry) → Reports conf force now notices faults ts → calls_in faults ≡ 0 → (seen : Option Seen) × (rest : List Entry) × (ts ≡ entry.Look conf seen ∷ rest)
-reports_look conf force now notices faults ts p c =
-    let l = means_look conf p.meaning p.entries.front (no_failed conf p.meaning p.entries.front (none_before faults p.meaning.faults p.own p.faults_are c) p.entries.first) in
-    (l.0, l.1 ++ p.entries.back, p.entries.joined ∙ ap (λ vs. vs ++ p.entries.back) l.2)
-
-look_first : (conf : Path) (seen : Option Seen) (rest ts : List Entry) → ts ≡ entry.Look conf seen ∷ rest → begins_by_read ts ≡ false
-look_first conf seen rest ts e = ap begins_by_read e
-
-look_some : (conf : Path) (seen : Option Seen) (rest ts : List Entry) → ts ≡ entry.Look conf seen ∷ rest → ts ≡ [] → ⊥
-look_some conf seen rest ts e none = let n = ap (λ (l : List Entry). length l) (sym e ∙ none) in omega (arith, n)
+reports_some : (confs : List Path) (force : Bool) (now : Moment) (notices : List Notice) (faults : List Fault) (ts : List Entry) → Reports confs force now notices faults ts → calls_in faults ≡ 0 → ts ≡ [] → ⊥
+reports_some confs force now notices faults ts p c none =
+    let l = run_look state_path force now p.rules p.own p.entries.back p.entries.second (none_behind faults p.meaning.faults p.own p.faults_are c) in
+    let n : length ts ≡ 0 = ap (λ (l : List Entry). length l) none in
+    let j : length ts ≡ length (p.entries.front ++ p.entries.back) = ap (λ (l : List Entry). length l) p.entries.joined in
+    let m : length (p.entries.front ++ p.entries.back) ≡ length p.entries.front + length p.entries.back = length-append p.entries.front p.entries.back in
+    let k : length p.entries.back ≡ length l.1 + 1 = ap (λ (l : List Entry). length l) l.2 ∙ (omega arith) in
+    omega (arith, n, j, m, k)
 
 -- ---- the entries of the zone
 
 abbrev zone_front : Zone → List Entry → List Entry
-zone_front (File path) ts = conf_front ts
+zone_front (File path) ts = file_front ts
 zone_front _ ts = []
 
 zone_is_front : (zone : Zone) (text : ZoneText) (ts us : List Entry) → ShowsZone zone text ts → begins_by_read us ≡ false → zone_front zone (ts ++ us) ≡ ts
 zone_is_front Utc text ts us h n = sym h.1
 zone_is_front (RuleZone rule) text ts us h n = sym h.1
-zone_is_front (File path) text ts us h n = conf_is_front path IsFile ts us (record { front = t.front; back = t.back; joined = t.joined; first = t.first; second = t.second.1.reads.only }) n
+zone_is_front (File path) text ts us h n = file_is_front path IsFile ts us (record { front = t.front; back = t.back; joined = t.joined; first = t.first; second = t.second.1.reads.only }) n
   where
     t : Then (Sees path IsFile) (GivesBytes path h.0) ts
     t = h.2
@@ -150,18 +153,18 @@ zone_is_front (File path) text ts us h n = conf_is_front path IsFile ts us (reco
 at_end : (zone : Zone) (ts : List Entry) → zone_front zone (ts ++ []) ≡ ts → zone_front zone ts ≡ ts
 at_end zone ts e = ap (zone_front zone) (sym (append-nil ts)) ∙ e
 
-as_file : (zone : Zone) (path : Path) (ts : List Entry) → zone ≡ File path → conf_front ts ≡ ts → zone_front zone ts ≡ ts
+as_file : (zone : Zone) (path : Path) (ts : List Entry) → zone ≡ File path → file_front ts ≡ ts → zone_front zone ts ≡ ts
 as_file zone path ts z e = subst (λ (y : Zone). zone_front y ts ≡ ts) (sym z) e
 
-file_at_end : (path : Path) (ts : List Entry) → conf_front (ts ++ []) ≡ ts → conf_front ts ≡ ts
-file_at_end path ts e = ap conf_front (sym (append-nil ts)) ∙ e
+file_at_end : (path : Path) (ts : List Entry) → file_front (ts ++ []) ≡ ts → file_front ts ≡ ts
+file_at_end path ts e = ap file_front (sym (append-nil ts)) ∙ e
 
 no_call : (f g : Fault) → f ≡ g → call_in g ≡ 1 → call_in f ≡ 0 → ⊥
 no_call f g e one z = let a : call_in f ≡ call_in g = ap call_in e in omega (arith, a, one, z)
 
 text_alone : (zone : Zone) (f : Fault) (ts : List Entry) → LacksText zone f ts → call_in f ≡ 0 → zone_front zone ts ≡ ts
-text_alone zone f ts (not_file path z e s) n = as_file zone path ts z (file_at_end path ts (conf_is_front path IsNotFile ts [] (look_alone path IsNotFile ts s) refl))
-text_alone zone f ts (too_big path bytes z e big t) n = as_file zone path ts z (file_at_end path ts (conf_is_front path IsFile ts [] (record { front = t.front; back = t.back; joined = t.joined; first = t.first; second = t.second.reads.only }) refl))
+text_alone zone f ts (not_file path z e s) n = as_file zone path ts z (file_at_end path ts (file_is_front path IsNotFile ts [] (look_alone path IsNotFile ts s) refl))
+text_alone zone f ts (too_big path bytes z e big t) n = as_file zone path ts z (file_at_end path ts (file_is_front path IsFile ts [] (record { front = t.front; back = t.back; joined = t.joined; first = t.first; second = t.second.reads.only }) refl))
 text_alone zone f ts (look_failed path z e none) n = absurd (no_call f _ e refl n)
 text_alone zone f ts (read_failed path z e t) n = absurd (no_call f _ e refl n)
 
@@ -174,13 +177,12 @@ clock_alone zone seconds f ts (refused text range e r s) n there = at_end zone t
 nothing_behind : (xs ys : List Entry) → xs ++ ys ≡ xs → ys ≡ []
 nothing_behind xs ys e = behind_same xs ys [] (e ∙ sym (append-nil xs))
 
-clocked_or_not : (conf : Path) (force : Bool) (zone : Zone) (seconds : ℤ) (clock : Clock) (notices : List Notice) (faults : List Fault) (f : Fault) (ts : List Entry) → Then (ShowsClock zone seconds clock) (Reports conf force clock.now notices faults) ts → calls_in faults ≡ 0
+clocked_or_not : (confs : List Path) (force : Bool) (zone : Zone) (seconds : ℤ) (clock : Clock) (notices : List Notice) (faults : List Fault) (f : Fault) (ts : List Entry) → Then (ShowsClock zone seconds clock) (Reports confs force clock.now notices faults) ts → calls_in faults ≡ 0
     → LacksClock zone seconds f ts → call_in f ≡ 0 → ⊥
-clocked_or_not conf force zone seconds clock notices faults f ts t c l n =
-    let r = reports_look conf force clock.now notices faults t.back t.second c in
-    let front : zone_front zone (t.front ++ t.back) ≡ t.front = zone_is_front zone t.first.text t.front t.back t.first.shows (look_first conf r.0 r.1 t.back r.2) in
+clocked_or_not confs force zone seconds clock notices faults f ts t c l n =
+    let front : zone_front zone (t.front ++ t.back) ≡ t.front = zone_is_front zone t.first.text t.front t.back t.first.shows (reports_begin confs force clock.now notices faults t.back t.second c) in
     let all : zone_front zone ts ≡ ts = clock_alone zone seconds f ts l n t.first.in_range in
-    look_some conf r.0 r.1 t.back r.2 (nothing_behind t.front t.back (sym t.joined ∙ (sym all ∙ (ap (zone_front zone) t.joined ∙ front))))
+    reports_some confs force clock.now notices faults t.back t.second c (nothing_behind t.front t.back (sym t.joined ∙ (sym all ∙ (ap (zone_front zone) t.joined ∙ front))))
 
 -- ---- one fault of the clock
 
@@ -250,16 +252,14 @@ alone_faults a f e = ap (λ (r : Report). r.faults) (report_same a (alone f) e)
 both_same : (a b : Report) → a ≡ b → (a.notices ≡ b.notices) × (a.faults ≡ b.faults)
 both_same a b e = (ap (λ (r : Report). r.notices) e, ap (λ (r : Report). r.faults) e)
 
-both_clocked : (request : Request) (zone : Zone) (seconds : ℤ) (clock other : Clock) (one two : Report) (ts : List Entry) → Then (ShowsClock zone seconds clock) (Reports request.conf request.force clock.now one.notices one.faults) ts
-    → Then (ShowsClock zone seconds other) (Reports request.conf request.force other.now two.notices two.faults) ts → calls_in one.faults ≡ 0 → calls_in two.faults ≡ 0 → (one.notices ≡ two.notices) × (one.faults ≡ two.faults)
-both_clocked request zone seconds clock other one two ts t u c d = told_one request.conf request.force clock.now other.now one.notices two.notices one.faults two.faults t.back u.back back t.second u.second c d
+both_clocked : (request : Request) (zone : Zone) (seconds : ℤ) (clock other : Clock) (one two : Report) (ts : List Entry) → Then (ShowsClock zone seconds clock) (Reports request.confs request.force clock.now one.notices one.faults) ts
+    → Then (ShowsClock zone seconds other) (Reports request.confs request.force other.now two.notices two.faults) ts → calls_in one.faults ≡ 0 → calls_in two.faults ≡ 0 → (one.notices ≡ two.notices) × (one.faults ≡ two.faults)
+both_clocked request zone seconds clock other one two ts t u c d = told_one request.confs request.force clock.now other.now one.notices two.notices one.faults two.faults t.back u.back back t.second u.second c d
   where
     front : t.front ≡ u.front
     front =
-        let r = reports_look request.conf request.force clock.now one.notices one.faults t.back t.second c in
-        let q = reports_look request.conf request.force other.now two.notices two.faults u.back u.second d in
-        sym (zone_is_front zone t.first.text t.front t.back t.first.shows (look_first request.conf r.0 r.1 t.back r.2))
-        ∙ (ap (zone_front zone) (sym t.joined ∙ u.joined) ∙ zone_is_front zone u.first.text u.front u.back u.first.shows (look_first request.conf q.0 q.1 u.back q.2))
+        sym (zone_is_front zone t.first.text t.front t.back t.first.shows (reports_begin request.confs request.force clock.now one.notices one.faults t.back t.second c))
+        ∙ (ap (zone_front zone) (sym t.joined ∙ u.joined) ∙ zone_is_front zone u.first.text u.front u.back u.first.shows (reports_begin request.confs request.force other.now two.notices two.faults u.back u.second d))
 
     back : t.back ≡ u.back
     back = behind_same u.front t.back u.back (ap (λ xs. xs ++ t.back) (sym front) ∙ (sym t.joined ∙ u.joined))
@@ -270,27 +270,41 @@ at_one request zone seconds one other ts (no_clock f e l) (no_memory h none) c d
 at_one request zone seconds one other ts (no_clock f e l) (no_clock g h m) c d =
     let same = clock_one zone seconds f g ts l m (one_uncalled one.faults f (alone_faults one f e) c) (one_uncalled other.faults g (alone_faults other g h) d) in
     both_same one other (report_same one (alone f) e ∙ (ap alone same ∙ sym (report_same other (alone g) h)))
-at_one request zone seconds one other ts (no_clock f e l) (called clock t) c d = absurd (clocked_or_not request.conf request.force zone seconds clock other.notices other.faults f ts t d l (one_uncalled one.faults f (alone_faults one f e) c))
+at_one request zone seconds one other ts (no_clock f e l) (called clock t) c d = absurd (clocked_or_not request.confs request.force zone seconds clock other.notices other.faults f ts t d l (one_uncalled one.faults f (alone_faults one f e) c))
 at_one request zone seconds one other ts (called clock t) (no_memory h none) c d = absurd (cc)
-at_one request zone seconds one other ts (called clock t) (no_clock g h m) c d = absurd (clocked_or_not request.conf request.force zone seconds clock one.notices one.faults g ts t c m (one_uncalled other.faults g (alone_faults other g h) d))
+at_one request zone seconds one other ts (called clock t) (no_clock g h m) c d = absurd (clocked_or_not request.confs request.force zone seconds clock one.notices one.faults g ts t c m (one_uncalled other.faults g (alone_faults other g h) d))
 at_one request zone seconds one other ts (called clock t) (called another u) c d = both_clocked request zone seconds clock another one other ts t u c d
 
 -- ---- the words
 
--- words ask for one thing
-asked_same : (a b : Bool) (w v : List ℕ) → asking a w ≡ asking b v → (a ≡ b) × (w ≡ v)
-asked_same true true w v e = (refl, cc)
-asked_same true false w v e = let n = ap (λ (l : List (List ℕ)). length l) e in absurd (omega (arith, n))
-asked_same false true w v e = let n = ap (λ (l : List (List ℕ)). length l) e in absurd (omega (arith, n))
-asked_same false false w v e = (refl, cc)
+-- `-f` is no name
+no_first : (ws vs : List (List ℕ)) → vs ≡ codes "-f" ∷ ws → HaveNoOption vs → ⊥
+no_first ws vs e n = (subst HaveNoOption e n).0 refl
 
-abbrev request_with : Bool → Path → Request
-request_with force conf = record { force = force; conf = conf }
+-- words ask for one thing
+asked_same : (a b : Bool) (ws vs : List (List ℕ)) → AreNames ws → AreNames vs → asking a ws ≡ asking b vs → (a ≡ b) × (ws ≡ vs)
+asked_same true true ws vs n m e = (refl, cc)
+asked_same true false ws vs n m e = absurd (no_first ws vs (sym e) m.no_option)
+asked_same false true ws vs n m e = absurd (no_first vs ws e n.no_option)
+asked_same false false ws vs n m e = (refl, e)
+
+-- names name one list of paths
+confs_same : (here : Path) (ws : List (List ℕ)) (xs ys : List Path) → NameConfs here ws xs → NameConfs here ws ys → xs ≡ ys
+confs_same here [] [] [] h g = refl
+confs_same here [] [] (y ∷ ys) h g = absurd g
+confs_same here [] (x ∷ xs) ys h g = absurd h
+confs_same here (w ∷ ws) [] ys h g = absurd h
+confs_same here (w ∷ ws) (x ∷ xs) [] h g = absurd g
+confs_same here (w ∷ ws) (x ∷ xs) (y ∷ ys) h g = ap (λ z. z ∷ xs) (h.0.names ∙ sym g.0.names) ∙ ap (λ zs. y ∷ zs) (confs_same here ws xs ys h.1 g.1)
+
+abbrev request_with : Bool → List Path → Request
+request_with force confs = record { force = force; confs = confs }
 
 request_one : (here : Path) (words : List (List ℕ)) (request another : Request) → AreWords here words request → AreWords here words another → request ≡ another
 request_one here words request another v w =
-    let s = asked_same request.force another.force v.word w.word (sym v.are ∙ w.are) in
-    ap (λ (b : Bool). request_with b request.conf) s.0 ∙ ap (request_with another.force) (v.names_conf.names ∙ (ap (cleaned here) s.1 ∙ sym w.names_conf.names))
+    let s = asked_same request.force another.force v.names w.names v.are_names w.are_names (sym v.are ∙ w.are) in
+    ap (λ (b : Bool). request_with b request.confs) s.0
+    ∙ ap (request_with another.force) (confs_same here w.names request.confs another.confs (subst (λ ws. NameConfs here ws request.confs) s.1 v.name_confs) w.name_confs)
 
 pub answers_one : (here : Path) (words : List (List ℕ)) (zone : Zone) (seconds : ℤ) (one other : Report) (ts : List Entry) → Answered here words zone seconds (Done one) ts → Answered here words zone seconds (Done other) ts → calls_in one.faults ≡ 0 → calls_in other.faults ≡ 0
     → (one.notices ≡ other.notices) × (one.faults ≡ other.faults)

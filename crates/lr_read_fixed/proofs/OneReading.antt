@@ -16,7 +16,8 @@ use Rattle.lr_visits.specs.declared.visit.Visit.TheVariants as visit
 use Rattle.lr_visits.specs.Visits.{ReadsPart, ShowsNames, ShowsBytes, ShowsFile, ShowsDir, ShowsVisit, look_failed, nothing, directory, file}
 use Rattle.lr_include.specs.declared.task.Task.{Task}
 use Rattle.lr_include.specs.declared.task.Task.TheVariants as task
-use Rattle.lr_include.specs.Allowed.{calls_in, failed_read, failed_visit, failed_in}
+use Rattle.lr_host.specs.Counted.{calls_in}
+use Rattle.lr_include.specs.Allowed.{failed_read, failed_visit, failed_in}
 use Rattle.lr_include.specs.Stages.{Stage, settled, visited, at_visits, is_shallow, room_for, ShowsNext, ShowsVisits, begun, visits_mean, Reads}
 use Rattle.lr_include.proofs.Calls.{calls_are_failed}
 use Rattle.lr_sought.proofs.OneOrder.{one_order}
@@ -245,3 +246,7 @@ readings_one paths m n ts us vs ws r s f g p q e =
     let b = calls_are_failed paths n us s in
     let one = visits_one (begun paths) r.visits s.visits ts us vs ws r.all s.all (omega (arith, a, f)) (omega (arith, b, g)) p q r.shown s.shown e in
     (r.means ∙ (ap (visits_mean paths) one.gave ∙ sym s.means), one.left, one.behind)
+
+-- a reading begins by no read, nor does what comes behind it
+pub reads_begin : (paths : List Path) (m : Meaning) (ts vs : List Entry) → Reads paths m ts → calls_in m.faults ≡ 0 → begins_by_read vs ≡ false → begins_by_read (ts ++ vs) ≡ false
+reads_begin paths m ts vs r f p = let a = calls_are_failed paths m ts r in visits_begin (begun paths) r.visits ts vs (omega (arith, a, f)) p r.shown
