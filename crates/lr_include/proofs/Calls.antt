@@ -31,7 +31,8 @@ use Rattle.lr_include.specs.declared.task.Piece.TheVariants as piece
 use Rattle.lr_include.specs.declared.task.Task.{Task}
 use Rattle.lr_include.specs.declared.task.Task.TheVariants as task
 use Rattle.lr_include.specs.Lines.{conf_kind, whole_lines}
-use Rattle.lr_include.specs.Allowed.{call_in, calls_in, failed_read, failed_visit, failed_in, RoseBy}
+use Rattle.lr_host.specs.Counted.{call_in, calls_in, RoseBy}
+use Rattle.lr_include.specs.Allowed.{failed_read, failed_visit, failed_in}
 use Rattle.lr_include.specs.Stages.{Stage, lines_now, open_behind, ask_of, asked_at, asks_now, taken, before_asks, settled_from, settled, room_of, room_for, kind_piece, piece_of, pieces_of, pieces, entering, name_tasks, behind_names, visited, visited_by, at_visits, ShowsNext, ShowsVisits, begun, line_ask, visits_mean, Reads}
 
 -- ---- sums over lists

@@ -29,7 +29,8 @@ use Rattle.lr_visits.specs.declared.visit.Visit.{Visit}
 use Rattle.lr_visits.specs.declared.visit.Visit.TheVariants as visit
 use Rattle.lr_visits.specs.declared.part.TextEnd.TheVariants as end
 use Rattle.lr_visits.specs.Visits.{ShowsVisit, HasFailed}
-use Rattle.lr_include.specs.Allowed.{failed_in, RoseBy}
+use Rattle.lr_host.specs.Counted.{RoseBy}
+use Rattle.lr_include.specs.Allowed.{failed_in}
 use Rattle.lr_include.specs.declared.course.Course.{Course}
 use Rattle.lr_include.specs.declared.task.Ask.{Ask}
 use Rattle.lr_include.specs.declared.task.Piece.{Piece}

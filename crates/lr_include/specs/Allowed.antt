@@ -1,5 +1,5 @@
 -- Which faults a reading tells.
-use Rattle.std.specs.Prelude.{◌≡◌, ◌≤◌, ◌+◌, ◌-◌, ◌^◌, min, ℕ, Bool, true, List, [], ◌∷◌, Option, Some, None}
+use Rattle.std.specs.Prelude.{◌≡◌, ◌+◌, ℕ, Bool, true, List, [], ◌∷◌, Option, Some, None}
 use Rattle.lr_rules.specs.declared.fault.Fault.{Fault}
 use Rattle.lr_rules.specs.declared.fault.Fault.TheVariants as fault
 use Rattle.lr_visits.specs.declared.visit.Visit.{Visit}
@@ -25,15 +25,6 @@ AreAllowedVisits calls (None ∷ vs) = Unit {0} × AreAllowedVisits calls vs
 
 -- ---- how many failed
 
--- how many of the faults are failed calls
-abbrev pub call_in : Fault → ℕ
-call_in (fault.Call kind path) = 1
-call_in _ = 0
-
-abbrev pub calls_in : List Fault → ℕ
-calls_in [] = 0
-calls_in (f ∷ fs) = call_in f + calls_in fs
-
 abbrev pub failed_read : TextEnd → ℕ
 failed_read end.Failed = 1
 failed_read how = 0
@@ -49,7 +40,3 @@ abbrev pub failed_in : List (Option Visit) → ℕ
 failed_in [] = 0
 failed_in (Some v ∷ vs) = failed_visit v + failed_in vs
 failed_in (None ∷ vs) = failed_in vs
-
--- the count rose by no fewer than so many; at its greatest value it counts as risen
-abbrev pub RoseBy : ℕ → ℕ → ℕ → Type 0
-RoseBy n before now = min (before + n) (2 ^ 64 - 1) ≤ now

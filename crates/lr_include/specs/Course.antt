@@ -18,7 +18,8 @@ use Rattle.lr_host.specs.Told.{Left}
 use Rattle.lr_visits.specs.declared.visit.Visit.{Visit}
 use Rattle.lr_include.specs.declared.course.Course.{Course}
 use Rattle.lr_include.specs.declared.task.Piece.{Piece}
-use Rattle.lr_include.specs.Allowed.{failed_in, RoseBy}
+use Rattle.lr_host.specs.Counted.{RoseBy}
+use Rattle.lr_include.specs.Allowed.{failed_in}
 use Rattle.lr_include.specs.Stages.{Stage, ask_of, lines_now, open_behind, asks_now, at_visits, ShowsVisits}
 
 -- The layer took these lines, with these faults, and these files are entered.

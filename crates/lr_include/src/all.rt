@@ -8,7 +8,7 @@ ghost use Rattle.lr_rules.specs.declared.path.Path.{Path};
 ghost use Rattle.lr_rules.specs.declared.fault.Fault.TheVariants as fault;
 ghost use Rattle.lr_host.specs.Told.{Left, Onward, Rose};
 ghost use Rattle.lr_include.specs.Readers.{meaning_of, IsConfOrCall};
-ghost use Rattle.lr_include.specs.Allowed.{calls_in, RoseBy};
+ghost use Rattle.lr_host.specs.Counted.{calls_in, RoseBy};
 ghost use Rattle.lr_include.specs.Stages.{Stage, line_ask, begun, Reads};
 ghost use Rattle.lr_include.specs.Course.{StandsAt, GoesOn};
 ghost use Rattle.lr_include.specs.Lacking.{LacksFrom, LacksReading};

@@ -3,7 +3,7 @@ ghost use Rattle.std.specs.Prelude.{◌≡◌, ◌++◌, false, List};
 ghost use Rattle.lr_rules.specs.declared.path.Path.{Path};
 ghost use Rattle.lr_conf.specs.Meaning.{Meaning};
 ghost use Rattle.lr_host.specs.declared.entry.Entry.{Entry};
-ghost use Rattle.lr_include.specs.Allowed.{calls_in};
+ghost use Rattle.lr_host.specs.Counted.{calls_in};
 ghost use Rattle.lr_include.specs.Stages.{Reads};
 ghost use Rattle.lr_read_fixed.specs.Behind.{begins_by_read};
 
