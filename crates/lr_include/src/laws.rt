@@ -20,7 +20,7 @@ pub fn visits_change_nothing()
     ensures { (paths : List Path) (m : Meaning) (ts : List Entry) → Reads paths m ts → filter is_change ts ≡ [] }
 {}
 
-/// So does a reading that ends for want of memory.
+/// Nor does a reading that ends for want of memory.
 pub fn lacking_changes_nothing()
     ensures { (paths : List Path) (ts : List Entry) → LacksReading paths ts → filter is_change ts ≡ [] }
 {}
