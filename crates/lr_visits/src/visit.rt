@@ -48,12 +48,7 @@ fn names_of<H: Host>(alloc: Global, host: &mut H, dir: &Path) -> Result<Visit, M
 }
 
 // Lists the directory, or doesn't.
-fn in_dir<H: Host>(
-    alloc: Global,
-    host: &mut H,
-    dir: &Path,
-    lists: bool,
-) -> Result<Visit, Memory>
+fn in_dir<H: Host>(alloc: Global, host: &mut H, dir: &Path, lists: bool) -> Result<Visit, Memory>
     requires list { Can (H.told host.old) (entry.List dir.now []) }
     ensures told { IfOk result (λ v. Left (ShowsDir dir.now lists v) (H.told host.old) (H.told host.new)) }
     ensures lacking { OnErr result (Left (Are []) (H.told host.old) (H.told host.new)) }
@@ -69,12 +64,7 @@ fn in_dir<H: Host>(
 }
 
 // Reads the file.
-fn bytes_of<H: Host>(
-    alloc: Global,
-    host: &mut H,
-    file: &Path,
-    room: usize,
-) -> Result<Visit, Memory>
+fn bytes_of<H: Host>(alloc: Global, host: &mut H, file: &Path, room: usize) -> Result<Visit, Memory>
     requires file { Can (H.told host.old) (entry.Reads file.now 0 []) }
     requires room { room + 1 < 2 ^ 32 }
     ensures told { IfOk result (λ v. Left (ShowsBytes file.now room v) (H.told host.old) (H.told host.new)) }

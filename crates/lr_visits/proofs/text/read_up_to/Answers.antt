@@ -17,9 +17,10 @@ returns-in-Err-clause-stopped g c = reads_on c.args.path.now c.loop-piece.bytes.
 pub returns-in-Err-clause-failed : goal.returns-in-Err-clause-failed
 returns-in-Err-clause-failed g c = λ e.
     let why : c.in-Err.why ≡ stop.Call = cc e in
-    let f = c.read_on.ensures.failed (subst (λ (w : ReadStop). c.read_on.result ≡ Err w) why c.in-Err.is) in
-    (omega (arith, ap length f.0, c.loop-piece-test.true, c.loop-piece.auto.piece, c.len.ensures),
-    reads_none c.args.path.now c.loop-piece.bytes.items c.read_on.new.bytes.items f.0 c.loop-piece.invariant.told f.1)
+    let f = c.read_on.ensures.failed (subst (λ (w : ReadStop). c.read_on.result ≡ Err w) why c.in-Err.is) in (
+      omega (arith, ap length f.0, c.loop-piece-test.true, c.loop-piece.auto.piece, c.len.ensures),
+      reads_none c.args.path.now c.loop-piece.bytes.items c.read_on.new.bytes.items f.0 c.loop-piece.invariant.told f.1,
+    )
 
 pub returns-then-count-eq0-clause-told : goal.returns-then-count-eq0-clause-told
 returns-then-count-eq0-clause-told g c =
