@@ -1,4 +1,3 @@
-pub mod Built
 pub mod Called
 pub mod Clocked
 pub mod OutAside

@@ -13,12 +13,12 @@ use Rattle.lr_host.specs.World.{past}
 use Rattle.lr_host.proofs.Quiet.{quiet_both}
 use Rattle.lr_due.specs.declared.tz.Zone.{Zone}
 use Rattle.lr_conf.specs.Meaning.{Meaning}
-use Rattle.lr_include.specs.Stages.{visits_mean, begun, at_visits, Reads}
-use Rattle.lr_include.proofs.Plain.{all_plain}
+use Rattle.lr_conf.proofs.Built.{all_built}
+use Rattle.lr_include.specs.Stages.{begun, at_visits, Reads}
 use Rattle.lr_run.proofs.Rotating.{run_rotated}
 use Rattle.lr_host.specs.Counted.{call_in, calls_in}
 use Rattle.lr_run.specs.Runs.{Inside, Worked}
-use Rattle.lr_seen.specs.Built.{AreBuiltRules}
+use Rattle.lr_fields.specs.Built.{AreBuiltRules}
 use Rattle.lr_cli.specs.declared.outcome.Outcome.{Outcome}
 use Rattle.lr_cli.specs.declared.outcome.Outcome.TheVariants.{Done}
 use Rattle.lr_cli.specs.declared.outcome.Report.{Report}
@@ -29,7 +29,6 @@ use Rattle.lr_cli.specs.Clock.{ShowsClock, LacksClock, out_of_range, no_text, re
 use Rattle.lr_cli.specs.Zone.{LacksText, not_file, too_big, look_failed as text_look_failed, read_failed as text_read_failed}
 use Rattle.lr_cli.specs.Rotated.{RotatesAll}
 use Rattle.lr_cli.specs.Words.{AreWords}
-use Rattle.lr_cli.proofs.Built.{built}
 use Rattle.lr_cli.proofs.Stopping.{stops_behind, first_stops, run_worked}
 use Rattle.lr_include.proofs.AllQuiet.{reads_quiet as confs_quiet}
 use Rattle.lr_cli.proofs.Still.{clock_quiet}
@@ -45,7 +44,7 @@ none_called (f ∷ fs) h = let a = none_in f h.0 in let b = none_called fs h.1 i
 
 -- the rules that a configuration gives are such as a run takes
 pub built_means : (confs : List Path) (m : Meaning) (ts : List Entry) → Reads confs m ts → AreBuiltRules m.rules
-built_means confs m ts r = subst (λ (x : Meaning). AreBuiltRules x.rules) (sym r.means) (built (visits_mean confs r.visits).rules (all_plain (at_visits (begun confs) r.visits).lines))
+built_means confs m ts r = subst (λ (x : Meaning). AreBuiltRules x.rules) (sym r.means) (all_built (at_visits (begun confs) r.visits).lines)
 
 -- behind the clock
 pub reports_rotated : (request : Request) (zone : Zone) (seconds : ℤ) (clock : Clock) (report : Report) (j k : Journal) (es : List Entry) → Made (past j) es (past k) → Then (ShowsClock zone seconds clock) (Reports request.confs request.force clock.now report.notices report.faults) (reverse es) → StopNothing report.faults

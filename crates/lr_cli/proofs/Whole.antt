@@ -12,7 +12,7 @@ use Rattle.lr_host.proofs.Quiet.{quiet_both, sees_quiet}
 use Rattle.lr_durable.specs.Renewing.{MayRenew}
 use Rattle.lr_durable.specs.StateWhole.{KeepsWhole}
 use Rattle.lr_due.specs.declared.tz.Zone.{Zone}
-use Rattle.lr_seen.specs.Built.{AreBuiltRules}
+use Rattle.lr_fields.specs.Built.{AreBuiltRules}
 use Rattle.lr_run.specs.State.{IsNewText as IsTextOfRun}
 use Rattle.lr_run.proofs.Renewing.{each_later, quiet_alone, still_alone, behind_quiet, runs_may, left_whole}
 use Rattle.lr_cli.specs.declared.clock.ClockStop.TheVariants as stop

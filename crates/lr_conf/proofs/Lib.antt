@@ -4,4 +4,5 @@ pub mod Others
 pub mod Each
 pub mod Walk
 pub mod Plain
+pub mod Built
 pub mod Limits

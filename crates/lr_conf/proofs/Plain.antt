@@ -1,6 +1,6 @@
--- What no line can set yet has its default in each rule, and the words of a rule, of which there is one at least, are within their limits.
-use Rattle.std.proofs.Common.{◌≡◌, ℕ, Bool, true, false, cond, List, [], ◌∷◌, ◌++◌, Option, Some, None, refl, ap, arith}
-use Rattle.std.specs.Prelude.{◌≢◌}
+-- Each rule has a word at least, and its words and its count are within their limits.
+use Rattle.std.proofs.Common.{◌≡◌, ℕ, Bool, true, false, cond, List, [], ◌∷◌, ◌++◌, Some, refl, arith}
+use Rattle.std.specs.Prelude.{◌≢◌, All}
 use Rattle.std.specs.List.{AllByRecursion as Each, list_any, list_all}
 use Rattle.std.proofs.lemmas.Bool.{and_parts}
 use Rattle.std.proofs.lemmas.List.Elements.{All-from_recursion}
@@ -10,8 +10,7 @@ use Rattle.lr_rules.specs.declared.fault.ConfKind.TheVariants as kind
 use Rattle.lr_rules.specs.declared.fault.Phase.{Phase}
 use Rattle.lr_rules.specs.declared.rule.Count.{Count}
 use Rattle.lr_rules.specs.declared.rule.Count.TheVariants as count
-use Rattle.lr_rules.specs.declared.rule.Make.TheVariants as make
-use Rattle.lr_rules.specs.declared.rule.Way.TheVariants as way
+use Rattle.lr_rules.specs.declared.rule.Rule.{Rule}
 use Rattle.lr_rules.specs.Limits.{is_count, is_log_word}
 use Rattle.lr_forms.specs.declared.built.Built.TheVariants as built
 use Rattle.lr_forms.specs.declared.set.Set.{Set}
@@ -22,23 +21,22 @@ use Rattle.lr_forms.specs.Says.{said}
 use Rattle.lr_forms.specs.Limits.{set_meets, said_meets, is_so_far, IsSoFar}
 use Rattle.lr_forms.proofs.Limits.{said_fine}
 use Rattle.lr_forms.proofs.SoFar.{said_so_far}
-use Rattle.lr_fields.specs.Fields.{fields_of, last_set, count_set, maxage_set, start_set, extension_set, addextension_set, olddir_set, createolddir_set, create_set, mail_set, mailfirst_set, shared_set, first_set, pre_set, post_set, last_script_set, preremove_set, dated_set, way_of}
-use Rattle.lr_fields.specs.Rules.{format_of, rule_of}
+use Rattle.lr_fields.specs.Fields.{fields_of, count_set}
+use Rattle.lr_fields.specs.Rules.{rule_of}
 use Rattle.lr_fields.specs.Scripts.{is_phase, script_fault}
 use Rattle.lr_conf.specs.Meaning.{Line, script_says, meaning}
 use Rattle.lr_conf.specs.Plain.{IsRuleWord, IsSmallCount, IsPlainRule}
 use Rattle.lr_conf.proofs.Each.{append, Given}
-use Rattle.lr_fields.proofs.Settings.{same_scripts}
 use Rattle.lr_conf.proofs.Walk.{OkSaid, Walk, each_rule, last_given}
 
 -- ---- lines
 
 -- a line sets this so far, within its limit
-abbrev S : Set → Type 0
+abbrev pub S : Set → Type 0
 S v = (is_so_far v ≡ true) × (set_meets v ≡ true)
 
 -- a word at least, and each within its limits
-abbrev N : List (List ℕ) → Type 0
+abbrev pub N : List (List ℕ) → Type 0
 N ws = (ws ≢ []) × Each IsRuleWord ws
 
 each_word : (ws : List (List ℕ)) → list_all is_log_word ws ≡ true → Each IsRuleWord ws
@@ -47,7 +45,7 @@ each_word (w ∷ ws) h = let both = and_parts (is_log_word w) (list_all is_log_w
 
 line_ok : (v : Said) → IsSoFar v → said_meets v ≡ true → OkSaid S N v
 line_ok (says.Sets v) so_far fine = (so_far, fine)
-line_ok (says.OwnerPassed v) so_far fine = absurd so_far
+line_ok (says.OwnerPassed v) so_far fine = (so_far, fine)
 line_ok (says.Names ws) so_far fine = (so_far, each_word ws fine)
 line_ok v so_far fine = tt
 
@@ -75,113 +73,21 @@ count_given : (v : Set) → S v → Given IsSmallCount (count_set v)
 count_given (set.Count c) ok = small c ok.1
 count_given v ok = tt
 
-maxage_given : (v : Set) → S v → Given (λ o. o ≡ None) (maxage_set v)
-maxage_given (set.MaxAge n) ok = let no = ok.0 in absurd (cc no)
-maxage_given v ok = tt
-
-start_given : (v : Set) → S v → Given (λ n. n ≡ 1) (start_set v)
-start_given (set.Start n) ok = let no = ok.0 in absurd (cc no)
-start_given v ok = tt
-
-extension_given : (v : Set) → S v → Given (λ o. o ≡ None) (extension_set v)
-extension_given (set.Extension e) ok = let no = ok.0 in absurd (cc no)
-extension_given v ok = tt
-
-addextension_given : (v : Set) → S v → Given (λ o. o ≡ None) (addextension_set v)
-addextension_given (set.AddExtension e) ok = let no = ok.0 in absurd (cc no)
-addextension_given v ok = tt
-
-olddir_given : (v : Set) → S v → Given (λ o. o ≡ None) (olddir_set v)
-olddir_given (set.Olddir None) ok = refl
-olddir_given (set.Olddir (Some dir)) ok = let no = ok.0 in absurd (cc no)
-olddir_given v ok = tt
-
-createolddir_given : (v : Set) → S v → Given (λ m. m ≡ make.No) (createolddir_set v)
-createolddir_given (set.CreateOlddir make.No) ok = refl
-createolddir_given (set.CreateOlddir (make.Yes mode)) ok = let no = ok.0 in absurd (cc no)
-createolddir_given v ok = tt
-
-create_given : (v : Set) → S v → Given (λ m. m ≡ make.No) (create_set v)
-create_given (set.Create make.No) ok = refl
-create_given (set.Create (make.Yes mode)) ok = let no = ok.0 in absurd (cc no)
-create_given v ok = tt
-
-mail_given : (v : Set) → S v → Given (λ o. o ≡ None) (mail_set v)
-mail_given (set.Mail None) ok = refl
-mail_given (set.Mail (Some address)) ok = let no = ok.0 in absurd (cc no)
-mail_given v ok = tt
-
-mailfirst_given : (v : Set) → S v → Given (λ b. b ≡ false) (mailfirst_set v)
-mailfirst_given (set.MailFirst false) ok = refl
-mailfirst_given (set.MailFirst true) ok = let no = ok.0 in absurd (cc no)
-mailfirst_given v ok = tt
-
-shared_given : (v : Set) → S v → Given (λ b. b ≡ false) (shared_set v)
-shared_given (set.Shared false) ok = refl
-shared_given (set.Shared true) ok = let no = ok.0 in absurd (cc no)
-shared_given v ok = tt
-
-dated_given : (v : Set) → S v → Given (λ b. b ≡ false) (dated_set v)
-dated_given (set.Dated false) ok = refl
-dated_given (set.Dated true) ok = let no = ok.0 in absurd (cc no)
-dated_given v ok = tt
-
-first_given : (v : Set) → S v → Given (λ o. o ≡ None) (first_set v)
-first_given (set.Script p text) ok = let no = ok.0 in absurd (cc no)
-first_given v ok = tt
-
-pre_given : (v : Set) → S v → Given (λ o. o ≡ None) (pre_set v)
-pre_given (set.Script p text) ok = let no = ok.0 in absurd (cc no)
-pre_given v ok = tt
-
-post_given : (v : Set) → S v → Given (λ o. o ≡ None) (post_set v)
-post_given (set.Script p text) ok = let no = ok.0 in absurd (cc no)
-post_given v ok = tt
-
-last_script_given : (v : Set) → S v → Given (λ o. o ≡ None) (last_script_set v)
-last_script_given (set.Script p text) ok = let no = ok.0 in absurd (cc no)
-last_script_given v ok = tt
-
-preremove_given : (v : Set) → S v → Given (λ o. o ≡ None) (preremove_set v)
-preremove_given (set.Script p text) ok = let no = ok.0 in absurd (cc no)
-preremove_given v ok = tt
-
-way_ok : (vs : List Set) → Each S vs → way_of vs ≡ way.Rename
-way_ok [] ok = refl
-way_ok (set.Way w ∷ vs) ok = let no = ok.0.0 in absurd (cc no)
-way_ok (v ∷ vs) ok = way_ok vs ok.1
-
--- what has its default where no setting sets it
-unset : {A : Type 0} (sets : Set → Option A) (d : A) → ((v : Set) → S v → Given (λ x. x ≡ d) (sets v)) → (vs : List Set) → Each S vs → last_set sets d vs ≡ d
-unset sets d given vs ok = last_given S (λ x. x ≡ d) sets d refl given vs ok
-
 rule_ok : (file : Path) (at : ℕ) (words : List (List ℕ)) (vs : List Set) → N words → Each S vs → IsPlainRule (rule_of file at words (fields_of vs))
 rule_ok file at words vs n ok = record {
   named = n.0;
   words = All-from_recursion IsRuleWord words n.1;
   count = last_given S IsSmallCount count_set (count.Keep 0) (omega arith) count_given vs ok;
-  maxage = unset maxage_set None maxage_given vs ok;
-  start = unset start_set 1 start_given vs ok;
-  extension = unset extension_set None extension_given vs ok;
-  addextension = unset addextension_set None addextension_given vs ok;
-  olddir = unset olddir_set None olddir_given vs ok;
-  createolddir = unset createolddir_set make.No createolddir_given vs ok;
-  way = way_ok vs ok;
-  create = unset create_set make.No create_given vs ok;
-  mail = unset mail_set None mail_given vs ok;
-  mailfirst = unset mailfirst_set false mailfirst_given vs ok;
-  shared = unset shared_set false shared_given vs ok;
-  scripts = same_scripts (unset first_set None first_given vs ok) (unset pre_set None pre_given vs ok) (unset post_set None post_given vs ok) (unset last_script_set None last_script_given vs ok) (unset preremove_set None preremove_given vs ok);
-  dated = ap (λ b. format_of (record (fields_of vs) { dated = b })) (unset dated_set false dated_given vs ok);
 }
 
-walk : Walk built.SoFar S N IsPlainRule
-walk = record {
+-- what holds of each rule where it follows from what lines set so far
+pub walk : (R : Rule → Type 0) → ((file : Path) (at : ℕ) (words : List (List ℕ)) (vs : List Set) → N words → Each S vs → R (rule_of file at words (fields_of vs))) → Walk built.SoFar S N R
+walk R rule = record {
   line = λ inside i. line_ok (said built.SoFar inside i) (said_so_far inside i) (said_fine built.SoFar inside i);
   script = script_ok;
   more = more_ok;
-  rule = rule_ok;
+  rule = rule;
 }
 
-pub plain : (lines : List Line) → Each IsPlainRule (meaning built.SoFar false [] lines).rules
-plain lines = each_rule walk lines
+pub all_plain : (lines : List Line) → All IsPlainRule (meaning built.SoFar false [] lines).rules
+all_plain lines = All-from_recursion IsPlainRule (meaning built.SoFar false [] lines).rules (each_rule (walk IsPlainRule rule_ok) lines)

@@ -2,3 +2,4 @@ pub mod Fields
 pub mod Setting
 pub mod Rules
 pub mod Scripts
+pub mod Built

@@ -1,6 +1,5 @@
 -- The acts of a plan of rules without scripts are unlinks and renames.
 use Rattle.std.proofs.Common.{◌≡◌, false, List, [], ◌∷◌, map, refl}
-use Rattle.std.proofs.lemmas.List.Elements.{All-head, All-tail}
 use Rattle.lr_rules.specs.declared.fault.Fault.{Fault}
 use Rattle.lr_rules.specs.declared.rule.Rule.{Rule}
 use Rattle.lr_host.specs.declared.entry.Entry.{Entry}
@@ -20,8 +19,9 @@ use Rattle.lr_plan.specs.Planned.{all_plans}
 use Rattle.lr_plan.specs.Steps.{steps_of_set}
 use Rattle.lr_acts.specs.Making.{all_of_sets}
 use Rattle.lr_run.proofs.Folded.{Folds, acts_fold}
-use Rattle.lr_seen.specs.Built.{IsBuiltRule, AreBuiltRules}
-use Rattle.lr_run.proofs.Simple.{IsSimple, AreSimple, HaveNoScripts, plan_simple}
+use Rattle.lr_fields.specs.Built.{AreBuiltRules}
+use Rattle.lr_run.proofs.Simple.{IsSimple, AreSimple, plan_simple}
+use Rattle.lr_run.proofs.Works.{no_scripts}
 use Rattle.lr_run.proofs.Stating.{none_leaves, one_leaves, maybe_leaves}
 use Rattle.lr_fixed.proofs.CountedListings.{IsNoListing, AreNoListings}
 use Rattle.lr_fixed.proofs.Writing.{is_make, makes_in}
@@ -56,11 +56,6 @@ moves_fold = record {
 
 sets_move : (sets : List SetSteps) (ms : List Mark) (fs : List Fault) (ts : List Entry) → AreSimple (all_of_sets sets) → SetsDone sets ms fs ts → Each IsMove ts
 sets_move sets ms fs ts i h = acts_fold (λ fs ts. Each IsMove ts) moves_fold sets ms fs ts i h
-
--- built rules have no scripts
-no_scripts : (rules : List Rule) → AreBuiltRules rules → HaveNoScripts rules
-no_scripts [] b = tt
-no_scripts (x ∷ xs) b = ((All-head IsBuiltRule x xs b).scripts, no_scripts xs (All-tail IsBuiltRule x xs b))
 
 -- the acts of the plan of built rules
 pub plan_moves : (rules : List Rule) (sets : List SetLooks) (decide : Rule → LogLook → Due) (ms : List Mark) (fs : List Fault) (ts : List Entry) → AreBuiltRules rules → SetsDone (map steps_of_set (all_plans decide rules sets)) ms fs ts → Each IsMove ts

@@ -28,7 +28,7 @@ use Rattle.lr_due.specs.declared.tz.Zone.TheVariants.{Utc, Rule as RuleZone, Fil
 use Rattle.lr_due.specs.declared.zone.ZoneText.{ZoneText}
 use Rattle.lr_due.specs.Zone.{IsInRange}
 use Rattle.lr_host.specs.Counted.{call_in, calls_in}
-use Rattle.lr_seen.specs.Built.{AreBuiltRules}
+use Rattle.lr_fields.specs.Built.{AreBuiltRules}
 use Rattle.lr_run.specs.Runs.{Runs, no_directory, not_seen, not_begun, began}
 use Rattle.lr_cli.specs.declared.outcome.Outcome.TheVariants.{Done}
 use Rattle.lr_cli.specs.declared.outcome.Report.{Report}

@@ -10,7 +10,7 @@ use Rattle.lr_host.specs.declared.entry.Entry.{Entry}
 use Rattle.lr_host.specs.declared.entry.Entry.TheVariants as entry
 use Rattle.lr_host.specs.Looks.{Sees, IsDir, IsNotDir}
 use Rattle.lr_host.specs.Counted.{calls_in}
-use Rattle.lr_seen.specs.Built.{AreBuiltRules}
+use Rattle.lr_fields.specs.Built.{AreBuiltRules}
 use Rattle.lr_run.specs.Runs.{Runs, no_directory, not_seen, not_begun, began}
 use Rattle.lr_fixed.proofs.Called.{one_called}
 use Rattle.lr_fixed.proofs.Peeled.{first_same, one_look, others_same}

@@ -17,7 +17,7 @@ use Rattle.lr_plan.specs.Steps.{state_part}
 use Rattle.lr_reading.specs.declared.remembered.Remembered.{Remembered}
 use Rattle.lr_reading.specs.Answers.{Known, IsKnown}
 use Rattle.lr_reading.specs.Sights.{StateSights, ShowsState}
-use Rattle.lr_seen.specs.Built.{AreBuiltRules}
+use Rattle.lr_fields.specs.Built.{AreBuiltRules}
 use Rattle.lr_run.specs.Runs.{Looked, Worked, Works, not_known, too_big, worked, plan_in, measured_in}
 use Rattle.lr_run.proofs.Called.{none_before, none_behind, worked_met_none}
 use Rattle.lr_fixed.proofs.Called.{one_uncalled}

@@ -17,7 +17,7 @@ ghost use Rattle.lr_due.specs.declared.tz.Zone.{Zone};
 ghost use Rattle.lr_plan.specs.declared.looks.SetLooks.{SetLooks};
 ghost use Rattle.lr_host.specs.Counted.{calls_in};
 ghost use Rattle.lr_looks.specs.Shown.{ShowsLooks};
-ghost use Rattle.lr_seen.specs.Built.{AreBuiltRules};
+ghost use Rattle.lr_fields.specs.Built.{AreBuiltRules};
 ghost use Rattle.lr_rotations.specs.Target.{Target, IsOneOf};
 ghost use Rattle.lr_run.specs.Rotated.{rotated_in};
 ghost use Rattle.lr_run.specs.Runs.{Inside, Worked, Runs};

@@ -1,5 +1,5 @@
 -- What a line says so far.
-use Rattle.std.proofs.Common.{◌≡◌, ℕ, Bool, true, false, cond, not, ◌&&◌, ◌||◌, List, [], ◌∷◌, Option, Some, None, Result, Ok, Err, refl}
+use Rattle.std.proofs.Common.{◌≡◌, ℕ, Bool, true, false, cond, not, ◌&&◌, ◌||◌, List, [], ◌∷◌, Option, Some, None, Result, Ok, Err, length, refl, ap, ◌∙◌}
 use Rattle.std.specs.List.{cons_option}
 use Rattle.std.specs.Result.{result_ok, result_err}
 use Rattle.lr_lex.specs.declared.item.Item.{Item}
@@ -10,15 +10,19 @@ use Rattle.lr_rules.specs.declared.fault.ConfKind.{ConfKind}
 use Rattle.lr_rules.specs.declared.fault.ConfKind.TheVariants as kind
 use Rattle.lr_rules.specs.declared.fault.Phase.{Phase}
 use Rattle.lr_rules.specs.declared.rule.Criterion.TheVariants as criterion
+use Rattle.lr_rules.specs.declared.rule.Make.TheVariants as make
 use Rattle.lr_tables.specs.declared.directive.Directive.{Directive}
 use Rattle.lr_tables.specs.declared.directive.Directive.TheVariants as is
-use Rattle.lr_values.specs.Numbers.{number_value, count_value, size_value}
+use Rattle.lr_values.specs.Formats.{format_value}
+use Rattle.lr_values.specs.Numbers.{number_value, count_value, size_value, names_owner}
 use Rattle.lr_words.specs.declared.taboo.TabooItems.{TabooItems}
 use Rattle.lr_words.specs.Lists.{taboo_value}
 use Rattle.lr_words.specs.Names.{log_name_value, include_value}
+use Rattle.lr_words.specs.Words.{extension_value, address_value, olddir_value}
 use Rattle.lr_forms.specs.declared.built.Built.TheVariants as built
 use Rattle.lr_forms.specs.declared.form.Form.{Form}
 use Rattle.lr_forms.specs.declared.form.Form.TheVariants as form
+use Rattle.lr_forms.specs.declared.form.Value.{Value}
 use Rattle.lr_forms.specs.declared.form.Value.TheVariants as value
 use Rattle.lr_forms.specs.declared.set.Set.{Set}
 use Rattle.lr_forms.specs.declared.set.Set.TheVariants as set
@@ -26,99 +30,140 @@ use Rattle.lr_forms.specs.declared.said.Said.{Said}
 use Rattle.lr_forms.specs.declared.said.Said.TheVariants as says
 use Rattle.lr_forms.specs.Built.{so_far_unbuilt}
 use Rattle.lr_forms.specs.Forms.{form_of}
-use Rattle.lr_forms.specs.Values.{setting, sets_or_bad, day_of, included, include_says, barred}
+use Rattle.lr_forms.specs.Values.{setting, value_of, sets_or_bad, one_says, day_of, mode_of, making, made, included, include_says, barred}
 use Rattle.lr_forms.specs.Says.{directive_of, is_script, is_outside, checks, first_fault, means, or_bad, by_directive, texts, words_say, log_names, name_faults, named, names_say, nested, phase_named, script_in, said}
-use Rattle.lr_forms.specs.Limits.{is_so_far, IsSoFar}
+use Rattle.lr_forms.specs.Limits.{set_by, is_built_word, IsSoFar}
 
 -- ---- directives
 
-setting_so_far : {A : Type 0} (field : A → Set) → ((a : A) → is_so_far (field a) ≡ true) → (r : Result A ConfKind) → IsSoFar (sets_or_bad (setting field r))
-setting_so_far field h (Ok a) = h a
-setting_so_far field h (Err k) = tt
+-- what is said is set by this directive, if anything is
+abbrev SetBy : Directive → Said → Type 0
+SetBy d (says.Sets v) = set_by v ≡ Some d
+SetBy d (says.OwnerPassed v) = set_by v ≡ Some d
+SetBy d (says.Names ws) = ⊥
+SetBy d s = Unit {0}
 
-counted : (vs : List (List ℕ)) → IsSoFar (means (form.One value.Count) [] vs)
-counted [] = tt
-counted (w ∷ ws) = setting_so_far set.Count (λ n. refl) (count_value w)
+by_setting : {A : Type 0} (d : Directive) (field : A → Set) → ((a : A) → set_by (field a) ≡ Some d) → (r : Result A ConfKind) → SetBy d (sets_or_bad (setting field r))
+by_setting d field h (Ok a) = h a
+by_setting d field h (Err k) = tt
 
-sized : (vs : List (List ℕ)) → IsSoFar (means (form.One value.Size) [] vs)
-sized [] = tt
-sized (w ∷ ws) = setting_so_far (λ n. set.Criterion (criterion.Size n)) (λ n. refl) (size_value w)
+-- the directive of each value
+abbrev valued : Value → Directive
+valued value.Count = is.Rotate
+valued value.Size = is.Size
+valued value.MinSize = is.Minsize
+valued value.MaxSize = is.Maxsize
+valued value.MinAge = is.Minage
+valued value.MaxAge = is.Maxage
+valued value.Start = is.Start
+valued value.Extension = is.Extension
+valued value.AddExtension = is.Addextension
+valued value.Olddir = is.Olddir
+valued value.Mail = is.Mail
+valued value.DateFormat = is.Dateformat
 
-at_least : (vs : List (List ℕ)) → IsSoFar (means (form.One value.MinSize) [] vs)
-at_least [] = tt
-at_least (w ∷ ws) = setting_so_far set.MinSize (λ n. refl) (size_value w)
+by_value : (v : Value) (w : List ℕ) → SetBy (valued v) (sets_or_bad (value_of v w))
+by_value value.Count w = by_setting is.Rotate set.Count (λ n. refl) (count_value w)
+by_value value.Size w = by_setting is.Size (λ n. set.Criterion (criterion.Size n)) (λ n. refl) (size_value w)
+by_value value.MinSize w = by_setting is.Minsize set.MinSize (λ n. refl) (size_value w)
+by_value value.MaxSize w = by_setting is.Maxsize set.MaxSize (λ n. refl) (size_value w)
+by_value value.MinAge w = by_setting is.Minage set.MinAge (λ n. refl) (number_value w)
+by_value value.MaxAge w = by_setting is.Maxage set.MaxAge (λ n. refl) (number_value w)
+by_value value.Start w = by_setting is.Start set.Start (λ n. refl) (number_value w)
+by_value value.Extension w = by_setting is.Extension set.Extension (λ e. refl) (extension_value w)
+by_value value.AddExtension w = by_setting is.Addextension set.AddExtension (λ e. refl) (extension_value w)
+by_value value.Olddir w = by_setting is.Olddir (λ dir. set.Olddir (Some dir)) (λ dir. refl) (olddir_value w)
+by_value value.Mail w = by_setting is.Mail (λ address. set.Mail (Some address)) (λ address. refl) (address_value w)
+by_value value.DateFormat w = by_setting is.Dateformat set.DateFormat (λ pieces. refl) (format_value w)
 
-at_most : (vs : List (List ℕ)) → IsSoFar (means (form.One value.MaxSize) [] vs)
-at_most [] = tt
-at_most (w ∷ ws) = setting_so_far set.MaxSize (λ n. refl) (size_value w)
+by_one : (v : Value) (vs : List (List ℕ)) → SetBy (valued v) (one_says v vs)
+by_one v [] = tt
+by_one v (w ∷ ws) = by_value v w
 
-aged : (vs : List (List ℕ)) → IsSoFar (means (form.One value.MinAge) [] vs)
-aged [] = tt
-aged (w ∷ ws) = setting_so_far set.MinAge (λ n. refl) (number_value w)
+abbrev maker : Bool → Directive
+maker true = is.Createolddir
+maker false = is.Create
 
-included_so_far : (r : Result Path ConfKind) → IsSoFar (included r)
-included_so_far (Ok path) = tt
-included_so_far (Err k) = tt
+by_mode : (olddir : Bool) (mode : Option ℕ) (owner : Bool) → SetBy (maker olddir) (cond owner (says.OwnerPassed (making olddir (make.Yes mode))) (says.Sets (making olddir (make.Yes mode))))
+by_mode true mode true = refl
+by_mode true mode false = refl
+by_mode false mode true = refl
+by_mode false mode false = refl
 
-including : (vs : List (List ℕ)) → IsSoFar (include_says vs)
-including [] = tt
-including (w ∷ ws) = included_so_far (include_value w)
+by_making : (olddir : Bool) (words : ℕ) (r : Result (Option ℕ) ConfKind) → SetBy (maker olddir) (made olddir words r)
+by_making olddir words (Ok mode) = by_mode olddir mode (names_owner words mode)
+by_making olddir words (Err k) = tt
 
-barring : (patterns : Bool) (r : Result TabooItems ConfKind) → IsSoFar (barred patterns r)
-barring patterns (Ok items) = tt
-barring patterns (Err k) = tt
+by_include : (d : Directive) (vs : List (List ℕ)) → SetBy d (include_says vs)
+by_include d [] = tt
+by_include d (w ∷ ws) = go (include_value w)
+  where
+    go : (r : Result Path ConfKind) → SetBy d (included r)
+    go (Ok path) = tt
+    go (Err k) = tt
 
--- a directive that isn't built says no more than a fault
-abbrev BuiltSays : Directive → List ℕ → List (List ℕ) → Type 0
-BuiltSays d word vs = so_far_unbuilt d ≡ false → IsSoFar (means (form_of d) word vs)
+by_taboo : (d : Directive) (patterns : Bool) (r : Result TabooItems ConfKind) → SetBy d (barred patterns r)
+by_taboo d patterns (Ok items) = tt
+by_taboo d patterns (Err k) = tt
 
-built_says : (d : Directive) (word : List ℕ) (vs : List (List ℕ)) → BuiltSays d word vs
-built_says is.Rotate word vs h = counted vs
-built_says is.Size word vs h = sized vs
-built_says is.Minsize word vs h = at_least vs
-built_says is.Maxsize word vs h = at_most vs
-built_says is.Minage word vs h = aged vs
-built_says is.Weekly word vs h = setting_so_far (λ day. set.Criterion (criterion.Weekly day)) (λ n. refl) (day_of vs)
-built_says is.Hourly word vs h = refl
-built_says is.Daily word vs h = refl
-built_says is.Monthly word vs h = refl
-built_says is.Yearly word vs h = refl
-built_says is.Ifempty word vs h = refl
-built_says is.Notifempty word vs h = refl
-built_says is.Missingok word vs h = refl
-built_says is.Nomissingok word vs h = refl
-built_says is.Ignoreduplicates word vs h = refl
-built_says is.Noolddir word vs h = refl
-built_says is.Nocreateolddir word vs h = refl
-built_says is.Nocopy word vs h = refl
-built_says is.Nocopytruncate word vs h = refl
-built_says is.Nocreate word vs h = refl
-built_says is.Nomail word vs h = refl
-built_says is.Maillast word vs h = refl
-built_says is.Nosharedscripts word vs h = refl
-built_says is.Nodateext word vs h = refl
-built_says is.Nodateserial word vs h = refl
-built_says is.Addextension word vs h = absurd (cc)
-built_says is.Copy word vs h = absurd (cc)
-built_says is.Copytruncate word vs h = absurd (cc)
-built_says is.Create word vs h = absurd (cc)
-built_says is.Createolddir word vs h = absurd (cc)
-built_says is.Dateext word vs h = absurd (cc)
-built_says is.Dateformat word vs h = absurd (cc)
-built_says is.Datehourago word vs h = absurd (cc)
-built_says is.Dateserial word vs h = absurd (cc)
-built_says is.Dateyesterday word vs h = absurd (cc)
-built_says is.Extension word vs h = absurd (cc)
-built_says is.Include word vs h = including vs
-built_says is.Mail word vs h = absurd (cc)
-built_says is.Mailfirst word vs h = absurd (cc)
-built_says is.Maxage word vs h = absurd (cc)
-built_says is.Olddir word vs h = absurd (cc)
-built_says is.Sharedscripts word vs h = absurd (cc)
-built_says is.Start word vs h = absurd (cc)
-built_says is.Tabooext word vs h = barring false (taboo_value vs)
-built_says is.Taboopat word vs h = barring true (taboo_value vs)
-built_says d word vs h = tt
+-- what a directive sets is set by it
+sets_own : (d : Directive) (word : List ℕ) (vs : List (List ℕ)) → SetBy d (means (form_of d) word vs)
+sets_own is.Addextension word vs = by_one value.AddExtension vs
+sets_own is.Dateformat word vs = by_one value.DateFormat vs
+sets_own is.Extension word vs = by_one value.Extension vs
+sets_own is.Mail word vs = by_one value.Mail vs
+sets_own is.Maxage word vs = by_one value.MaxAge vs
+sets_own is.Maxsize word vs = by_one value.MaxSize vs
+sets_own is.Minage word vs = by_one value.MinAge vs
+sets_own is.Minsize word vs = by_one value.MinSize vs
+sets_own is.Olddir word vs = by_one value.Olddir vs
+sets_own is.Rotate word vs = by_one value.Count vs
+sets_own is.Size word vs = by_one value.Size vs
+sets_own is.Start word vs = by_one value.Start vs
+sets_own is.Weekly word vs = by_setting is.Weekly (λ day. set.Criterion (criterion.Weekly day)) (λ n. refl) (day_of vs)
+sets_own is.Create word vs = by_making false (length vs) (mode_of vs)
+sets_own is.Createolddir word vs = by_making true (length vs) (mode_of vs)
+sets_own is.Include word vs = by_include is.Include vs
+sets_own is.Tabooext word vs = by_taboo is.Tabooext false (taboo_value vs)
+sets_own is.Taboopat word vs = by_taboo is.Taboopat true (taboo_value vs)
+sets_own is.Hourly word vs = refl
+sets_own is.Daily word vs = refl
+sets_own is.Monthly word vs = refl
+sets_own is.Yearly word vs = refl
+sets_own is.Ifempty word vs = refl
+sets_own is.Notifempty word vs = refl
+sets_own is.Missingok word vs = refl
+sets_own is.Nomissingok word vs = refl
+sets_own is.Ignoreduplicates word vs = refl
+sets_own is.Noolddir word vs = refl
+sets_own is.Nocreateolddir word vs = refl
+sets_own is.Copy word vs = refl
+sets_own is.Copytruncate word vs = refl
+sets_own is.Nocopy word vs = refl
+sets_own is.Nocopytruncate word vs = refl
+sets_own is.Nocreate word vs = refl
+sets_own is.Nomail word vs = refl
+sets_own is.Mailfirst word vs = refl
+sets_own is.Maillast word vs = refl
+sets_own is.Sharedscripts word vs = refl
+sets_own is.Nosharedscripts word vs = refl
+sets_own is.Dateext word vs = refl
+sets_own is.Nodateext word vs = refl
+sets_own is.Dateyesterday word vs = refl
+sets_own is.Datehourago word vs = refl
+sets_own is.Dateserial word vs = refl
+sets_own is.Nodateserial word vs = refl
+sets_own d word vs = tt
+
+-- so what a directive that is built says is set by a word that is
+said_by : (d : Directive) (s : Said) → so_far_unbuilt d ≡ false → SetBy d s → IsSoFar s
+said_by d (says.Sets v) h own = ap is_built_word own ∙ ap not h
+said_by d (says.OwnerPassed v) h own = ap is_built_word own ∙ ap not h
+said_by d (says.Names ws) h own = absurd own
+said_by d s h own = tt
+
+built_says : (d : Directive) (word : List ℕ) (vs : List (List ℕ)) → so_far_unbuilt d ≡ false → IsSoFar (means (form_of d) word vs)
+built_says d word vs h = said_by d (means (form_of d) word vs) h (sets_own d word vs)
 
 -- ---- lines
 

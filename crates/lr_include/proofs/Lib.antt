@@ -3,6 +3,5 @@ pub mod Allowed
 pub mod Calls
 pub mod Lacking
 pub mod Newlines
-pub mod Plain
 pub mod Readers
 pub mod Stages

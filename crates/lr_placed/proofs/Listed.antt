@@ -14,13 +14,13 @@ use Rattle.lr_rotations.proofs.Fitting.{first_named}
 use Rattle.lr_rotations.proofs.Paths.{path_parent}
 use Rattle.lr_rotations.proofs.SeenFits.{seen_names}
 use Rattle.lr_chain.specs.Rotation.{places_of}
-use Rattle.lr_seen.specs.Built.{IsBuiltRule, AreBuiltRules}
+use Rattle.lr_fields.specs.Built.{IsBuiltRule, AreBuiltRules}
 use Rattle.lr_placed.specs.Dirs.{IsDirOfLog}
 use Rattle.lr_placed.proofs.Lasting.{Says}
 
 -- the members stand in the log's directory
 own_dir : (rules : Rules) (looks : List Entry) (t : Target) → AreBuiltRules rules.sets → IsSeen rules looks t → t.naming.dir ≡ parent_of t.log
-own_dir rules looks t built seen = sym (ap (λ n. n.dir) seen.given.naming_is) ∙ ap (family_dir (parent_of t.log)) (All-contains IsBuiltRule rules.sets seen.given.rule built seen.given.among).can_ask.olddir
+own_dir rules looks t built seen = sym (ap (λ n. n.dir) seen.given.naming_is) ∙ ap (family_dir (parent_of t.log)) (All-contains IsBuiltRule rules.sets seen.given.rule built seen.given.among).olddir
 
 dir_is : (rules : Rules) (looks : List Entry) (t : Target) (dir : Path) → AreBuiltRules rules.sets → IsSeen rules looks t → IsDirOfLog t dir → t.naming.dir ≡ dir
 dir_is rules looks t dir built seen (inl is) = own_dir rules looks t built seen ∙ sym is

@@ -17,7 +17,7 @@ ghost use Rattle.lr_plan.specs.Planned.{all_plans};
 ghost use Rattle.lr_plan.specs.Steps.{steps_of_set};
 ghost use Rattle.lr_reading.specs.declared.remembered.Remembered.{Remembered};
 ghost use Rattle.lr_reading.specs.Answers.{ReadsState};
-ghost use Rattle.lr_seen.specs.Built.{AreBuiltRules};
+ghost use Rattle.lr_fields.specs.Built.{AreBuiltRules};
 ghost use Rattle.lr_seen.specs.Free.{reserved_by};
 ghost use Rattle.lr_seen.specs.Targets.{all_targets};
 ghost use Rattle.lr_writing.specs.Fits.{CanBegin};

@@ -1,6 +1,5 @@
 -- What the acts of a plan are told of ends no run.
 use Rattle.std.proofs.Common.{List, [], ◌∷◌, map}
-use Rattle.std.proofs.lemmas.List.Elements.{All-head, All-tail}
 use Rattle.lr_rules.specs.declared.fault.CallKind.TheVariants as call
 use Rattle.lr_rules.specs.declared.fault.Fault.{Fault}
 use Rattle.lr_rules.specs.declared.fault.Fault.TheVariants as fault
@@ -17,9 +16,10 @@ use Rattle.lr_plan.specs.Done.{SetsDone}
 use Rattle.lr_plan.specs.Outcomes.{Fails}
 use Rattle.lr_plan.specs.Planned.{all_plans}
 use Rattle.lr_plan.specs.Steps.{steps_of_set}
-use Rattle.lr_seen.specs.Built.{IsBuiltRule, AreBuiltRules}
+use Rattle.lr_fields.specs.Built.{AreBuiltRules}
 use Rattle.lr_run.proofs.Folded.{Folds, acts_fold}
-use Rattle.lr_run.proofs.Simple.{IsSimple, HaveNoScripts, plan_simple}
+use Rattle.lr_run.proofs.Simple.{IsSimple, plan_simple}
+use Rattle.lr_run.proofs.Works.{no_scripts}
 use Rattle.lr_reached.specs.Ending.{NoneEnds}
 use Rattle.lr_reached.proofs.Ends.{none_both, is_none}
 
@@ -37,11 +37,6 @@ none_folds state = record {
   failed = simple_none state;
   both = λ fs gs ts us h g. none_both state fs gs h g;
 }
-
--- built rules have no scripts
-no_scripts : (rules : List Rule) → AreBuiltRules rules → HaveNoScripts rules
-no_scripts [] b = tt
-no_scripts (x ∷ xs) b = ((All-head IsBuiltRule x xs b).scripts, no_scripts xs (All-tail IsBuiltRule x xs b))
 
 pub acts_none : (state : Path) (rules : List Rule) (sets : List SetLooks) (decide : Rule → LogLook → Due) (ms : List Mark) (fs : List Fault) (ts : List Entry) → AreBuiltRules rules → SetsDone (map steps_of_set (all_plans decide rules sets)) ms fs ts → NoneEnds state fs
 acts_none state rules sets decide ms fs ts built h = acts_fold (λ gs us. NoneEnds state gs) (none_folds state) (map steps_of_set (all_plans decide rules sets)) ms fs ts (plan_simple decide rules sets (no_scripts rules built)) h

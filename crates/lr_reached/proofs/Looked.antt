@@ -2,7 +2,6 @@
 use Rattle.std.proofs.Common.{◌≡◌, inl, inr, ⊎_elim, ◌+◌, ℕ, Bool, true, false, cond, eqb, List, [], ◌∷◌, None, sym, subst, rules}
 use Rattle.std.specs.Prelude.{All}
 use Rattle.std.specs.List.{flat_map, AllByRecursion}
-use Rattle.std.proofs.lemmas.List.Elements.{All-cons, All-head, All-tail}
 use Rattle.lr_rules.specs.declared.fault.Fault.{Fault}
 use Rattle.lr_rules.specs.declared.path.Path.{Path}
 use Rattle.lr_rules.specs.declared.rule.Rule.{Rule}
@@ -13,15 +12,16 @@ use Rattle.lr_host.specs.Lists.{IsIn}
 use Rattle.lr_host.proofs.Lists.{in_append, in_back, in_map}
 use Rattle.lr_plan.specs.declared.looks.LogLook.{LogLook}
 use Rattle.lr_plan.specs.declared.looks.SetLooks.{SetLooks}
-use Rattle.lr_looks.specs.Asked.{CanAsk, CanAskAll, asked_by}
+use Rattle.lr_looks.specs.Asked.{asked_by}
 use Rattle.lr_looks.specs.Choices.{choice_faults, kind_fault, kept_of}
 use Rattle.lr_looks.specs.Families.{LookedLog, family_faults}
 use Rattle.lr_looks.specs.Found.{Hold}
 use Rattle.lr_looks.specs.Sets.{where_in, of_set, looked_in, HaveLooksFrom}
 use Rattle.lr_looks.specs.Shown.{ShowsLooks}
 use Rattle.lr_looks.proofs.Holding.{kept_numbers}
-use Rattle.lr_seen.specs.Built.{IsBuiltRule, AreBuiltRules}
+use Rattle.lr_fields.specs.Built.{AreBuiltRules}
 use Rattle.lr_seen.specs.Free.{reserved_by}
+use Rattle.lr_seen.proofs.Built.{asks_all}
 use Rattle.lr_reached.specs.Ending.{NoneEnds}
 use Rattle.lr_reached.proofs.Ends.{none_both}
 use Rattle.lr_reached.proofs.Families.{families_none}
@@ -47,14 +47,6 @@ was_looked k logs (s ∷ ss) set look h (inl e) i = (k, in_flat k logs (looked_i
 was_looked k logs (s ∷ ss) set look h (inr at) i = was_looked (k + 1) logs ss set look h.1 at i
 
 -- ---- the looks
-
--- rules that are built can be asked for
-asks_all : (rules : List Rule) → AreBuiltRules rules → CanAskAll rules
-asks_all [] b = none
-  where
-    none : All CanAsk []
-    none = search rules
-asks_all (x ∷ xs) b = All-cons CanAsk x xs (All-head IsBuiltRule x xs b).can_ask (asks_all xs (All-tail IsBuiltRule x xs b))
 
 module _ (state : Path) (rules : List Rule) (sets : List SetLooks) (faults : List Fault) (ts : List Entry) (s : ShowsLooks (reserved_by state) rules sets faults ts) where
   -- a directory that isn't there was missed by a look

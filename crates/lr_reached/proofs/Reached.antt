@@ -19,7 +19,7 @@ use Rattle.lr_host.specs.Told.{Made}
 use Rattle.lr_host.specs.World.{Past}
 use Rattle.lr_host.proofs.Lists.{in_append, in_front, in_back}
 use Rattle.lr_reading.specs.Sights.{state_part}
-use Rattle.lr_seen.specs.Built.{AreBuiltRules}
+use Rattle.lr_fields.specs.Built.{AreBuiltRules}
 use Rattle.lr_run.specs.Runs.{Worked, Works, not_known, too_big, worked, Runs, no_directory, not_seen, not_begun, began}
 use Rattle.lr_reached.specs.Ending.{NoneEnds, IsFailedLook, SaysWhy}
 use Rattle.lr_reached.specs.Looked.{WasLookedAt}

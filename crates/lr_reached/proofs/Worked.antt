@@ -16,7 +16,7 @@ use Rattle.lr_host.proofs.Lists.{in_back}
 use Rattle.lr_host.proofs.Quiet.{quiet_still, quiet_both}
 use Rattle.lr_plan.specs.Planned.{decision}
 use Rattle.lr_reading.proofs.Quiet.{state_quiet}
-use Rattle.lr_seen.specs.Built.{AreBuiltRules}
+use Rattle.lr_fields.specs.Built.{AreBuiltRules}
 use Rattle.lr_seen.proofs.Quiet.{whole_quiet}
 use Rattle.lr_run.specs.Runs.{Worked, plan_in}
 use Rattle.lr_reached.specs.Ending.{NoneEnds}

@@ -8,7 +8,7 @@ ghost use Rattle.lr_host.specs.declared.entry.Entry.{Entry};
 ghost use Rattle.lr_host.specs.Lists.{IsIn};
 ghost use Rattle.lr_host.specs.Told.{Made};
 ghost use Rattle.lr_host.specs.World.{Past};
-ghost use Rattle.lr_seen.specs.Built.{AreBuiltRules};
+ghost use Rattle.lr_fields.specs.Built.{AreBuiltRules};
 ghost use Rattle.lr_run.specs.Runs.{Runs};
 ghost use Rattle.lr_reached.specs.Ending.{NoneEnds, IsFailedLook, SaysWhy};
 ghost use Rattle.lr_reached.specs.Looked.{WasLookedAt};

@@ -18,7 +18,7 @@ use Rattle.lr_plan.specs.Outcomes.{Fails}
 use Rattle.lr_plan.specs.Planned.{plan_of}
 use Rattle.lr_plan.specs.Steps.{steps_of_plan}
 use Rattle.lr_host.proofs.Counts.{calls_on}
-use Rattle.lr_seen.specs.Built.{AreBuiltRules}
+use Rattle.lr_fields.specs.Built.{AreBuiltRules}
 use Rattle.lr_run.specs.Runs.{Worked, plan_in}
 use Rattle.lr_run.proofs.Folded.{Folds, acts_fold}
 use Rattle.lr_run.proofs.Simple.{IsSimple}

@@ -17,7 +17,7 @@ use Rattle.lr_family.proofs.OnlyLooks.{IsLooking, AreLooking}
 use Rattle.lr_host.specs.Counted.{AreCounted, AddsFaults}
 use Rattle.lr_plan.specs.Steps.{steps_of_plan}
 use Rattle.lr_seen.proofs.Quiet.{whole_looking, part_looking}
-use Rattle.lr_seen.specs.Built.{AreBuiltRules}
+use Rattle.lr_fields.specs.Built.{AreBuiltRules}
 use Rattle.lr_host.proofs.Counts.{adds_free, adds_call}
 use Rattle.lr_run.specs.declared.directory.DirStop.{DirStop}
 use Rattle.lr_run.specs.declared.directory.DirStop.TheVariants as dir

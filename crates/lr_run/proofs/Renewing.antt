@@ -36,7 +36,7 @@ use Rattle.lr_weave.specs.Parts.{ArePlanned, parts_of_sets}
 use Rattle.lr_weave.specs.Planned.{HaveLogs}
 use Rattle.lr_weave.proofs.Parting.{sets_parts, all_parts}
 use Rattle.lr_weave.proofs.Planning.{ready_planned}
-use Rattle.lr_seen.specs.Built.{AreBuiltRules}
+use Rattle.lr_fields.specs.Built.{AreBuiltRules}
 use Rattle.lr_seen.specs.Targets.{groups_of, all_targets}
 use Rattle.lr_seen.proofs.Apart.{targets_apart}
 use Rattle.lr_seen.proofs.Free.{targets_free}

@@ -32,7 +32,7 @@ use Rattle.lr_rotations.proofs.Others.{run_rotates}
 use Rattle.lr_weave.specs.Fitting.{NoneMeets, DontMeet}
 use Rattle.lr_weave.proofs.Planning.{ready_planned}
 use Rattle.lr_weave.proofs.Turned.{done_turned}
-use Rattle.lr_seen.specs.Built.{AreBuiltRules}
+use Rattle.lr_fields.specs.Built.{AreBuiltRules}
 use Rattle.lr_seen.specs.Free.{reserved_by, IsFreeOf, AreFreeOf}
 use Rattle.lr_seen.specs.Targets.{groups_of}
 use Rattle.lr_seen.proofs.Apart.{targets_apart, targets_dont_meet}

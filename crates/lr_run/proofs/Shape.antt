@@ -33,7 +33,7 @@ use Rattle.lr_rotations.proofs.Moments.{shown_in}
 use Rattle.lr_rotations.proofs.Weaving.{weave_on, weave_others}
 use Rattle.lr_weave.proofs.Parting.{done_turns}
 use Rattle.lr_weave.proofs.Planning.{ready_planned}
-use Rattle.lr_seen.specs.Built.{AreBuiltRules}
+use Rattle.lr_fields.specs.Built.{AreBuiltRules}
 use Rattle.lr_seen.specs.Targets.{groups_of, all_targets}
 use Rattle.lr_run.specs.declared.answer.Ran.{Ran}
 use Rattle.lr_run.specs.declared.answer.RunStop.{RunStop}

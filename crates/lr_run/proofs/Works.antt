@@ -3,8 +3,11 @@ use Rattle.std.proofs.Common.{◌≡◌, ◌≤◌, ◌<◌, ℕ, Bool, true, fa
 use Rattle.std.specs.Prelude.{OnOk, All}
 use Rattle.std.specs.Result.{IsErr}
 use Rattle.std.proofs.lemmas.Result.{IfOk-from_err}
-use Rattle.std.proofs.lemmas.List.Elements.{All-cons, All-head, All-tail}
+use Rattle.std.specs.List.{list_all}
+use Rattle.std.proofs.lemmas.Bool.{and_parts}
+use Rattle.std.proofs.lemmas.List.Elements.{All-head, All-tail}
 use Rattle.std.proofs.Math.Seq.{take-length}
+use Rattle.lr_rules.specs.Limits.{meets_limits}
 use Rattle.lr_rules.specs.declared.path.Path.{Path}
 use Rattle.lr_rules.specs.declared.civil.Civil.{Civil}
 use Rattle.lr_rules.specs.declared.civil.Moment.{Moment}
@@ -41,7 +44,6 @@ use Rattle.lr_plan.specs.Steps.{steps_of_set, steps_of_plan, state_steps}
 use Rattle.lr_host.proofs.Counts.{AreFree, free_none, free_on, adds_on, adds_free, adds_call}
 use Rattle.lr_acts.specs.declared.progress.Progress.{Progress}
 use Rattle.lr_acts.specs.Making.{HasProgram, all_of_sets}
-use Rattle.lr_looks.specs.Asked.{CanAsk, CanAskAll}
 use Rattle.lr_looks.specs.Families.{ShowFamilies, LooksAtFamilies, LookedAtSomeFamilies}
 use Rattle.lr_looks.specs.Found.{FoundLog, paths_of}
 use Rattle.lr_looks.specs.Internal.{AreReady}
@@ -57,10 +59,11 @@ use Rattle.lr_record.proofs.After.{stamps}
 use Rattle.lr_weave.proofs.Seen.{seen_fit}
 use Rattle.lr_weave.proofs.Sets.{can_sets}
 use Rattle.lr_writing.specs.Target.{Target}
-use Rattle.lr_seen.specs.Built.{IsBuiltRule, AreBuiltRules}
+use Rattle.lr_fields.specs.Built.{IsBuiltRule, AreBuiltRules}
 use Rattle.lr_seen.specs.Free.{reserved_by}
 use Rattle.lr_seen.specs.Targets.{groups_of, all_targets}
 use Rattle.lr_seen.proofs.Apart.{targets_dont_meet}
+use Rattle.lr_seen.proofs.Built.{no_script, small_count}
 use Rattle.lr_seen.proofs.Quiet.{whole_quiet}
 use Rattle.lr_seen.proofs.Ready.{plans_have_logs, plans_read_none}
 use Rattle.lr_seen.proofs.Seen.{targets_seen, targets_have_names}
@@ -72,25 +75,17 @@ use Rattle.lr_run.proofs.Simple.{HaveNoScripts, AreSimple, no_program, plan_simp
 
 -- ---- rules that are built can be planned for
 
-rule_at : (rule : Rule) (rules : List Rule) → AreBuiltRules (rule ∷ rules) → IsBuiltRule rule
-rule_at rule rules h = All-head IsBuiltRule rule rules h
-
-pub can_plan : (rules : List Rule) (sets : List SetLooks) → AreBuiltRules rules → AreReady sets → length sets ≡ length rules → CanPlanAll rules sets
-can_plan [] [] b r e = record {}
-can_plan [] (s ∷ ss) b r e = absurd (omega (arith, e))
-can_plan (x ∷ xs) [] b r e = absurd (omega (arith, e))
-can_plan (x ∷ xs) (s ∷ ss) b r e = (record { count = (rule_at x xs b).count; no_scripts = (rule_at x xs b).scripts; each = r.0 x }, can_plan xs ss (All-tail IsBuiltRule x xs b) r.1 (omega (arith, e)))
-
-pub asks_all : (rules : List Rule) → AreBuiltRules rules → CanAskAll rules
-asks_all [] b = none
-  where
-    none : All CanAsk []
-    none = search rules
-asks_all (x ∷ xs) b = All-cons CanAsk x xs (rule_at x xs b).can_ask (asks_all xs (All-tail IsBuiltRule x xs b))
+pub can_plan : (rules : List Rule) (sets : List SetLooks) → AreBuiltRules rules → list_all meets_limits rules ≡ true → AreReady sets → length sets ≡ length rules → CanPlanAll rules sets
+can_plan [] [] b limits r e = record {}
+can_plan [] (s ∷ ss) b limits r e = absurd (omega (arith, e))
+can_plan (x ∷ xs) [] b limits r e = absurd (omega (arith, e))
+can_plan (x ∷ xs) (s ∷ ss) b limits r e =
+    let both = and_parts (meets_limits x) (list_all meets_limits xs) limits in
+    (record { count = small_count x both.0; no_scripts = no_script x (All-head IsBuiltRule x xs b); each = r.0 x }, can_plan xs ss (All-tail IsBuiltRule x xs b) both.1 r.1 (omega (arith, e)))
 
 pub no_scripts : (rules : List Rule) → AreBuiltRules rules → HaveNoScripts rules
 no_scripts [] b = tt
-no_scripts (x ∷ xs) b = ((rule_at x xs b).scripts, no_scripts xs (All-tail IsBuiltRule x xs b))
+no_scripts (x ∷ xs) b = (no_script x (All-head IsBuiltRule x xs b), no_scripts xs (All-tail IsBuiltRule x xs b))
 
 -- ---- the faults of a plan
 

@@ -11,7 +11,7 @@ ghost use Rattle.lr_host.specs.Quiet.{AreQuiet};
 ghost use Rattle.lr_host.specs.Told.{Made};
 ghost use Rattle.lr_host.specs.Counted.{calls_in};
 ghost use Rattle.lr_rotations.specs.Target.{Target, IsOneOf};
-ghost use Rattle.lr_seen.specs.Built.{AreBuiltRules};
+ghost use Rattle.lr_fields.specs.Built.{AreBuiltRules};
 ghost use Rattle.lr_run.specs.Rotated.{rotated_in, IsRotatedAmong};
 ghost use Rattle.lr_run.specs.Runs.{Inside, Worked};
 

@@ -7,7 +7,7 @@ ghost use Rattle.lr_durable.specs.StateWhole.{KeepsWhole};
 ghost use Rattle.lr_host.specs.Safe.{KeepsSafe};
 ghost use Rattle.lr_host.specs.Counted.{AddsFaults};
 ghost use Rattle.lr_rotations.specs.AllTurns.{IsWholeRun};
-ghost use Rattle.lr_seen.specs.Built.{AreBuiltRules};
+ghost use Rattle.lr_fields.specs.Built.{AreBuiltRules};
 ghost use Rattle.lr_run.specs.Internal.{RunsOn, StopsSo, dir_fault_of};
 ghost use Rattle.lr_run.specs.Runs.{Answers};
 ghost use Rattle.lr_run.specs.State.{IsNewText};

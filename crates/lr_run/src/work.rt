@@ -9,7 +9,7 @@ ghost use Rattle.lr_host.specs.Told.{Left, Can, Onward};
 ghost use Rattle.lr_host.specs.Counted.{AddsFaults};
 ghost use Rattle.lr_plan.specs.Planned.{CanPlanAll};
 ghost use Rattle.lr_reading.specs.Sights.{state_part};
-ghost use Rattle.lr_seen.specs.Built.{AreBuiltRules};
+ghost use Rattle.lr_fields.specs.Built.{AreBuiltRules};
 ghost use Rattle.lr_run.specs.Runs.{SomeSeen};
 ghost use Rattle.lr_run.specs.Internal.{WorkDone, LookedDone, SomeLooked, KnownBefore, SeenBefore, Carries};
 

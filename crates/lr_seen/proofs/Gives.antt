@@ -41,7 +41,8 @@ use Rattle.lr_looks.specs.Sights.{found_at}
 use Rattle.lr_looks.proofs.Kindred.{plain_naming}
 use Rattle.lr_rotations.specs.Target.{Gives}
 use Rattle.lr_rotations.proofs.Given.{Stretch, stretch, still_file}
-use Rattle.lr_seen.specs.Built.{IsBuiltRule, AreBuiltRules}
+use Rattle.lr_fields.specs.Built.{IsBuiltRule, AreBuiltRules}
+use Rattle.lr_seen.proofs.Built.{can_ask}
 use Rattle.lr_seen.proofs.Coming.{IsFoundBy, found_word, IsAsked, was_asked}
 use Rattle.lr_seen.proofs.Elements.{in_list, map_at, unmap_at}
 use Rattle.lr_seen.proofs.Finding.{found_too}
@@ -162,7 +163,7 @@ module _ {reserved : List Path} (rules : Rules) (sets : List SetLooks) (faults :
   rule_in w a = in_list rules.sets a.place w.rule a.at
 
   can : (w : Word) → IsAsked 0 rules.sets w → CanAsk w.rule
-  can w a = (All-contains IsBuiltRule rules.sets w.rule built (in_to w.rule rules.sets (rule_in w a))).can_ask
+  can w a = can_ask w.rule (All-contains IsBuiltRule rules.sets w.rule built (in_to w.rule rules.sets (rule_in w a)))
 
   full : (w : Word) → IsIn w (asked_by rules.sets) → is_wildcard w.text ≡ true → has_empty_part w.text ≡ false
   full w i wild =

@@ -1,4 +1,5 @@
 pub mod Apart
+pub mod Built
 mod Coming
 mod Elements
 mod Finding

@@ -16,7 +16,7 @@ use Rattle.lr_looks.specs.Shown.{ShowsLooks}
 use Rattle.lr_rotations.specs.Target.{Target}
 use Rattle.lr_weave.specs.Fitting.{ReadsNothing, AsksNothing, AskNothing, ReadNoFiles}
 use Rattle.lr_weave.specs.Planned.{IsReadyFor, AreReadyFor, HaveLogs}
-use Rattle.lr_seen.specs.Built.{AreBuiltRules}
+use Rattle.lr_fields.specs.Built.{AreBuiltRules}
 use Rattle.lr_seen.specs.Targets.{target_of, where_free, targets_of, groups_of}
 
 -- ---- programs

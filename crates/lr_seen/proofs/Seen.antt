@@ -43,10 +43,11 @@ use Rattle.lr_rotations.specs.Members.{IsFamily}
 use Rattle.lr_rotations.specs.Target.{Target, IsOneTooHigh, Gives, IsSeen, AreSeen}
 use Rattle.lr_rotations.specs.Weave.{Among}
 use Rattle.lr_rotations.proofs.SeenFits.{seen_names}
-use Rattle.lr_seen.specs.Built.{IsBuiltRule, AreBuiltRules}
+use Rattle.lr_fields.specs.Built.{IsBuiltRule, AreBuiltRules}
 use Rattle.lr_seen.specs.Targets.{all_targets}
 use Rattle.lr_seen.proofs.Elements.{in_list}
 use Rattle.lr_seen.proofs.Apart.{kept_at}
+use Rattle.lr_seen.proofs.Built.{can_ask}
 use Rattle.lr_seen.proofs.Coming.{Comes, comes_from, was_looked, in_kept, IsFrom, came_from}
 use Rattle.lr_seen.proofs.Gives.{gives_kept}
 use Rattle.lr_seen.proofs.Listed.{all_shown}
@@ -149,7 +150,7 @@ target_seen rules sets faults ts t built s c = subst (IsSeen rules ts) (sym c.is
     same = same_read rules.sets c.place c.rule o.by_word.word.rule c.at_rule (subst (λ (n : ℕ). slice_get rules.sets n ≡ Some o.by_word.word.rule) (none_more c.place) o.at)
 
     can : CanAsk o.by_word.word.rule
-    can = (All-contains IsBuiltRule rules.sets o.by_word.word.rule built (in_to o.by_word.word.rule rules.sets (in_list rules.sets x.set o.by_word.word.rule o.at))).can_ask
+    can = can_ask o.by_word.word.rule (All-contains IsBuiltRule rules.sets o.by_word.word.rule built (in_to o.by_word.word.rule rules.sets (in_list rules.sets x.set o.by_word.word.rule o.at)))
 
     naming : naming_of o.by_word.word.rule o.found.log.path ≡ o.found.log.naming
     naming = ap (λ (g : FoundLog). naming_of o.by_word.word.rule g.log.path) o.by_word.is ∙ sym (ap (λ (g : FoundLog). g.log.naming) o.by_word.is)

@@ -15,7 +15,7 @@ ghost use Rattle.lr_rotations.specs.Apart.{HaveNames};
 ghost use Rattle.lr_rotations.specs.Target.{AreSeen};
 ghost use Rattle.lr_weave.specs.Fitting.{DontMeet, ReadNoFiles};
 ghost use Rattle.lr_weave.specs.Planned.{HaveLogs, AreApart};
-ghost use Rattle.lr_seen.specs.Built.{AreBuiltRules};
+ghost use Rattle.lr_fields.specs.Built.{AreBuiltRules};
 ghost use Rattle.lr_seen.specs.Free.{AreFreeOf};
 ghost use Rattle.lr_seen.specs.Targets.{groups_of, all_targets};
 

@@ -1,4 +1,3 @@
-use Rattle.lr_cli.proofs.Built.{built}
 use Rattle.lr_cli.proofs.Reading.{reports, stopped, lacks_at_confs, reading_counted, both_counted, confs_shape, lacking_shape}
 use Rattle.lr_cli.proofs.run.run_confs.Goals as goal
 
@@ -9,7 +8,7 @@ pub returns-in_default-clause-shape : goal.returns-in_default-clause-shape
 returns-in_default-clause-shape g c = lacking_shape c.args.confs.now c.in_default.ensures.lacking
 
 pub run-requires : goal.run-requires
-run-requires g c = built c.in-Ok.reading.rules.sets c.in-Ok.ensures.plain
+run-requires g c = c.in-Ok.ensures.built
 
 pub returns-in-Ok-run-clause-told : goal.returns-in-Ok-run-clause-told
 returns-in-Ok-run-clause-told g c = reports c.args.confs.now c.args.settings.now.state c.args.settings.now.force c.args.clock.now.now c.in-Ok.reading c.into_vec.result.items c.in-Ok-run.ran.faults.items c.requires.state c.into_vec.ensures

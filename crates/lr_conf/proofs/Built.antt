@@ -1,0 +1,121 @@
+-- What no line can set so far has its default in each rule.
+use Rattle.std.proofs.Common.{◌≡◌, ℕ, true, false, List, [], ◌∷◌, Option, Some, None, refl, ap}
+use Rattle.std.specs.Prelude.{All}
+use Rattle.std.specs.List.{AllByRecursion as Each}
+use Rattle.std.proofs.lemmas.List.Elements.{All-from_recursion}
+use Rattle.lr_rules.specs.declared.path.Path.{Path}
+use Rattle.lr_rules.specs.declared.rule.Make.TheVariants as make
+use Rattle.lr_rules.specs.declared.rule.Way.TheVariants as way
+use Rattle.lr_forms.specs.declared.built.Built.TheVariants as built
+use Rattle.lr_forms.specs.declared.set.Set.{Set}
+use Rattle.lr_forms.specs.declared.set.Set.TheVariants as set
+use Rattle.lr_fields.specs.Built.{IsBuiltRule, AreBuiltRules}
+use Rattle.lr_fields.specs.Fields.{fields_of, last_set, maxage_set, start_set, extension_set, addextension_set, olddir_set, createolddir_set, create_set, mail_set, mailfirst_set, shared_set, first_set, pre_set, post_set, last_script_set, preremove_set, dated_set, way_of}
+use Rattle.lr_fields.specs.Rules.{format_of, rule_of}
+use Rattle.lr_fields.proofs.Settings.{same_scripts}
+use Rattle.lr_conf.specs.Meaning.{Line, meaning}
+use Rattle.lr_conf.proofs.Each.{Given}
+use Rattle.lr_conf.proofs.Plain.{S, N, walk}
+use Rattle.lr_conf.proofs.Walk.{each_rule, last_given}
+
+maxage_given : (v : Set) → S v → Given (λ o. o ≡ None) (maxage_set v)
+maxage_given (set.MaxAge n) ok = let no = ok.0 in absurd (cc no)
+maxage_given v ok = tt
+
+start_given : (v : Set) → S v → Given (λ n. n ≡ 1) (start_set v)
+start_given (set.Start n) ok = let no = ok.0 in absurd (cc no)
+start_given v ok = tt
+
+extension_given : (v : Set) → S v → Given (λ o. o ≡ None) (extension_set v)
+extension_given (set.Extension e) ok = let no = ok.0 in absurd (cc no)
+extension_given v ok = tt
+
+addextension_given : (v : Set) → S v → Given (λ o. o ≡ None) (addextension_set v)
+addextension_given (set.AddExtension e) ok = let no = ok.0 in absurd (cc no)
+addextension_given v ok = tt
+
+olddir_given : (v : Set) → S v → Given (λ o. o ≡ None) (olddir_set v)
+olddir_given (set.Olddir None) ok = refl
+olddir_given (set.Olddir (Some dir)) ok = let no = ok.0 in absurd (cc no)
+olddir_given v ok = tt
+
+createolddir_given : (v : Set) → S v → Given (λ m. m ≡ make.No) (createolddir_set v)
+createolddir_given (set.CreateOlddir make.No) ok = refl
+createolddir_given (set.CreateOlddir (make.Yes mode)) ok = let no = ok.0 in absurd (cc no)
+createolddir_given v ok = tt
+
+create_given : (v : Set) → S v → Given (λ m. m ≡ make.No) (create_set v)
+create_given (set.Create make.No) ok = refl
+create_given (set.Create (make.Yes mode)) ok = let no = ok.0 in absurd (cc no)
+create_given v ok = tt
+
+mail_given : (v : Set) → S v → Given (λ o. o ≡ None) (mail_set v)
+mail_given (set.Mail None) ok = refl
+mail_given (set.Mail (Some address)) ok = let no = ok.0 in absurd (cc no)
+mail_given v ok = tt
+
+mailfirst_given : (v : Set) → S v → Given (λ b. b ≡ false) (mailfirst_set v)
+mailfirst_given (set.MailFirst false) ok = refl
+mailfirst_given (set.MailFirst true) ok = let no = ok.0 in absurd (cc no)
+mailfirst_given v ok = tt
+
+shared_given : (v : Set) → S v → Given (λ b. b ≡ false) (shared_set v)
+shared_given (set.Shared false) ok = refl
+shared_given (set.Shared true) ok = let no = ok.0 in absurd (cc no)
+shared_given v ok = tt
+
+dated_given : (v : Set) → S v → Given (λ b. b ≡ false) (dated_set v)
+dated_given (set.Dated false) ok = refl
+dated_given (set.Dated true) ok = let no = ok.0 in absurd (cc no)
+dated_given v ok = tt
+
+first_given : (v : Set) → S v → Given (λ o. o ≡ None) (first_set v)
+first_given (set.Script p text) ok = let no = ok.0 in absurd (cc no)
+first_given v ok = tt
+
+pre_given : (v : Set) → S v → Given (λ o. o ≡ None) (pre_set v)
+pre_given (set.Script p text) ok = let no = ok.0 in absurd (cc no)
+pre_given v ok = tt
+
+post_given : (v : Set) → S v → Given (λ o. o ≡ None) (post_set v)
+post_given (set.Script p text) ok = let no = ok.0 in absurd (cc no)
+post_given v ok = tt
+
+last_script_given : (v : Set) → S v → Given (λ o. o ≡ None) (last_script_set v)
+last_script_given (set.Script p text) ok = let no = ok.0 in absurd (cc no)
+last_script_given v ok = tt
+
+preremove_given : (v : Set) → S v → Given (λ o. o ≡ None) (preremove_set v)
+preremove_given (set.Script p text) ok = let no = ok.0 in absurd (cc no)
+preremove_given v ok = tt
+
+way_ok : (vs : List Set) → Each S vs → way_of vs ≡ way.Rename
+way_ok [] ok = refl
+way_ok (set.Way way.Rename ∷ vs) ok = let no = ok.0.0 in absurd (cc no)
+way_ok (set.Way way.Copy ∷ vs) ok = let no = ok.0.0 in absurd (cc no)
+way_ok (set.Way way.CopyTruncate ∷ vs) ok = let no = ok.0.0 in absurd (cc no)
+way_ok (v ∷ vs) ok = way_ok vs ok.1
+
+-- what has its default where no setting sets it
+unset : {A : Type 0} (sets : Set → Option A) (d : A) → ((v : Set) → S v → Given (λ x. x ≡ d) (sets v)) → (vs : List Set) → Each S vs → last_set sets d vs ≡ d
+unset sets d given vs ok = last_given S (λ x. x ≡ d) sets d refl given vs ok
+
+rule_ok : (file : Path) (at : ℕ) (words : List (List ℕ)) (vs : List Set) → N words → Each S vs → IsBuiltRule (rule_of file at words (fields_of vs))
+rule_ok file at words vs n ok = record {
+  maxage = unset maxage_set None maxage_given vs ok;
+  start = unset start_set 1 start_given vs ok;
+  extension = unset extension_set None extension_given vs ok;
+  addextension = unset addextension_set None addextension_given vs ok;
+  olddir = unset olddir_set None olddir_given vs ok;
+  createolddir = unset createolddir_set make.No createolddir_given vs ok;
+  way = way_ok vs ok;
+  create = unset create_set make.No create_given vs ok;
+  mail = unset mail_set None mail_given vs ok;
+  mailfirst = unset mailfirst_set false mailfirst_given vs ok;
+  shared = unset shared_set false shared_given vs ok;
+  scripts = same_scripts (unset first_set None first_given vs ok) (unset pre_set None pre_given vs ok) (unset post_set None post_given vs ok) (unset last_script_set None last_script_given vs ok) (unset preremove_set None preremove_given vs ok);
+  dated = ap (λ b. format_of (record (fields_of vs) { dated = b })) (unset dated_set false dated_given vs ok);
+}
+
+pub all_built : (lines : List Line) → AreBuiltRules (meaning built.SoFar false [] lines).rules
+all_built lines = All-from_recursion IsBuiltRule (meaning built.SoFar false [] lines).rules (each_rule (walk IsBuiltRule rule_ok) lines)

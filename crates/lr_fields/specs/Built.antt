@@ -1,0 +1,24 @@
+-- The rules that a run takes so far: what no line can set yet has its default, by the table of what isn't built
+-- (`so_far_unbuilt` in lr_forms/specs/Built.antt). What is built takes its line away there and its field here.
+use Rattle.std.specs.Prelude.{◌≡◌, false, List, All, None}
+use Rattle.lr_rules.specs.declared.rule.Make.TheVariants as make
+use Rattle.lr_rules.specs.declared.rule.Rule.{Rule}
+use Rattle.lr_rules.specs.declared.rule.Way.TheVariants as way
+
+pub record IsBuiltRule (r : Rule) : Type 0 where
+  pub maxage : r.maxage ≡ None
+  pub start : r.start ≡ 1
+  pub extension : r.extension ≡ None
+  pub addextension : r.addextension ≡ None
+  pub olddir : r.olddir ≡ None
+  pub createolddir : r.createolddir ≡ make.No
+  pub way : r.way ≡ way.Rename
+  pub create : r.create ≡ make.No
+  pub mail : r.mail ≡ None
+  pub mailfirst : r.mailfirst ≡ false
+  pub shared : r.shared ≡ false
+  pub scripts : r.scripts ≡ record { first = None; pre = None; post = None; last = None; preremove = None }
+  pub dated : r.dated ≡ None
+
+abbrev pub AreBuiltRules : List Rule → Type 0
+AreBuiltRules rules = All IsBuiltRule rules

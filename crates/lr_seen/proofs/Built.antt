@@ -1,0 +1,52 @@
+-- What the calls of a run ask of rules, of those that are built.
+use Rattle.std.proofs.Common.{◌≡◌, ◌≤◌, true, List, [], ◌∷◌, All, subst, sym, ap, arith, rules}
+use Rattle.std.specs.List.{list_all}
+use Rattle.std.proofs.lemmas.Bool.{and_parts}
+use Rattle.std.proofs.lemmas.Bool.Decides.{nat_tests}
+use Rattle.std.proofs.lemmas.List.Elements.{All-cons, All-head, All-tail}
+use Rattle.lr_rules.specs.declared.rule.Count.{Count}
+use Rattle.lr_rules.specs.declared.rule.Count.TheVariants as count
+use Rattle.lr_rules.specs.declared.rule.Rule.{Rule}
+use Rattle.lr_rules.specs.Limits.{is_log_word, is_criterion, is_count, meets_limits}
+use Rattle.lr_fields.specs.Built.{IsBuiltRule, AreBuiltRules}
+use Rattle.lr_chain.specs.Ready.{IsCount}
+use Rattle.lr_plan.specs.Planned.{HasNoScripts}
+use Rattle.lr_looks.specs.Asked.{CanAsk, CanAskAll}
+
+-- its logs can be asked for
+pub can_ask : (rule : Rule) → IsBuiltRule rule → CanAsk rule
+can_ask rule b = record {
+  olddir = b.olddir;
+  extension = b.extension;
+  addextension = b.addextension;
+  dated = b.dated;
+  start = subst (λ n. n ≤ 999999) (sym b.start) (omega arith);
+}
+
+pub asks_all : (rules : List Rule) → AreBuiltRules rules → CanAskAll rules
+asks_all [] b = none
+  where
+    none : All CanAsk []
+    none = search rules
+asks_all (x ∷ xs) b = All-cons CanAsk x xs (can_ask x (All-head IsBuiltRule x xs b)) (asks_all xs (All-tail IsBuiltRule x xs b))
+
+-- it has no scripts
+pub no_script : (rule : Rule) → IsBuiltRule rule → HasNoScripts rule.scripts
+no_script rule b = record {
+  first = ap (λ s. s.first) b.scripts;
+  pre = ap (λ s. s.pre) b.scripts;
+  post = ap (λ s. s.post) b.scripts;
+  last = ap (λ s. s.last) b.scripts;
+  preremove = ap (λ s. s.preremove) b.scripts;
+}
+
+-- a rule within its limits has a count that a rotation can have
+small : (c : Count) → is_count c ≡ true → IsCount c
+small (count.Keep n) h = grind (arith, nat_tests)
+small count.Always h = tt
+
+pub small_count : (rule : Rule) → meets_limits rule ≡ true → IsCount rule.count
+small_count rule h =
+    let behind_words = (and_parts (list_all is_log_word rule.words) _ h).1 in
+    let behind_criterion = (and_parts (is_criterion rule.criterion) _ behind_words).1 in
+    small rule.count (and_parts (is_count rule.count) _ behind_criterion).0
