@@ -1,6 +1,7 @@
 // One run over the configuration of some paths.
 ghost use Rattle.std.specs.Prelude.{◌≡◌, ◌≤◌, ◌+◌, [], Err, IfOk, vec_len, vec_capacity};
-ghost use Rattle.lr_host.specs.Told.{Left, Onward, Rose};
+ghost use Rattle.lr_host.specs.Opening.{IsJournal};
+ghost use Rattle.lr_host.specs.Told.{Left, Onward, Rose, WhereTold};
 ghost use Rattle.lr_host.specs.Counted.{AreCounted};
 ghost use Rattle.lr_rotations.specs.AllTurns.{IsWholeRun};
 ghost use Rattle.lr_cli.specs.Answer.{Answers, AnswersAt, state_path};
@@ -28,6 +29,7 @@ pub fn run_confs<H: Host>(
     clock: &Clock,
 ) -> Result<Told, RunStop>
     requires state { settings.now.state ≡ state_path }
+    requires disk { WhereTold (H.told host.old) IsJournal }
     ensures told { Left (Answers confs.now settings.now.force clock.entry.now.now (answer_of result)) (H.told host.old) (H.told host.new) }
     ensures shape { Left IsWholeRun (H.told host.old) (H.told host.new) }
     ensures counted { IfOk result (λ told. AreCounted told.faults.items (H.counts host.old) (H.counts host.new)) }
@@ -59,6 +61,7 @@ pub fn run_by<H: Host>(
     request: &Request,
     clock: &Clock,
 ) -> Result<Told, RunStop>
+    requires { WhereTold (H.told host.old) IsJournal }
     ensures told { Left (Answers request.now.confs request.now.force clock.entry.now.now (answer_of result)) (H.told host.old) (H.told host.new) }
     ensures shape { Left IsWholeRun (H.told host.old) (H.told host.new) }
     ensures counted { IfOk result (λ told. AreCounted told.faults.items (H.counts host.old) (H.counts host.new)) }
@@ -100,6 +103,7 @@ pub fn run_at<H: Host>(
     zone: &Zone,
     seconds: i64,
 ) -> Result<Told, RunStop>
+    requires { WhereTold (H.told host.old) IsJournal }
     ensures told { Left (AnswersAt request.now zone.now seconds (answer_of result)) (H.told host.old) (H.told host.new) }
     ensures clock { IfOk result (λ told. IsClocked zone.now seconds told.notices told.faults.items) }
     ensures shape { Left IsWholeRun (H.told host.old) (H.told host.new) }

@@ -4,7 +4,7 @@ ghost use Rattle.lr_rules.specs.declared.fault.Fault.TheVariants as fault;
 ghost use Rattle.lr_host.specs.declared.journal.Journal.{Journal};
 ghost use Rattle.lr_host.specs.Opening.{IsJournal};
 ghost use Rattle.lr_host.specs.World.{past};
-ghost use Rattle.lr_host.specs.Told.{Left, NoneFell, Rose};
+ghost use Rattle.lr_host.specs.Told.{Left, NoneFell, Rose, WhereTold};
 ghost use Rattle.lr_host.specs.Quiet.{ChangeNothing};
 ghost use Rattle.lr_durable.specs.StateWhole.{KeepsWhole};
 ghost use Rattle.lr_host.specs.Safe.{KeepsSafe};
@@ -41,6 +41,9 @@ pub fn logrotate<H: Host, K: Sink>(
     host: &mut H,
     out: &mut K,
 ) -> Outcome
+    // A journal that the host tells is one of a disk.
+    requires { WhereTold (H.told host.old) IsJournal }
+
     // A set that was safe in the journal before is safe in the journal after, where it is steady there: whatever failed, and
     // wherever the run stopped.
     ensures safe { KeepsSafe (H.told host.old) (H.told host.new) }

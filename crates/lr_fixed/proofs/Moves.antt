@@ -1,5 +1,5 @@
 -- The acts of a plan of rules without scripts are unlinks and renames.
-use Rattle.std.proofs.Common.{◌≡◌, false, List, [], ◌∷◌, map, refl}
+use Rattle.std.proofs.Common.{◌≡◌, false, List, [], map, refl}
 use Rattle.lr_rules.specs.declared.fault.Fault.{Fault}
 use Rattle.lr_rules.specs.declared.rule.Rule.{Rule}
 use Rattle.lr_host.specs.declared.entry.Entry.{Entry}

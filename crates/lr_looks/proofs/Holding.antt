@@ -12,6 +12,7 @@ use Rattle.lr_looks.specs.Asked.{Word, word_of, words_of, words_from, asked_by, 
 use Rattle.lr_looks.specs.Choices.{kept_of, where_file, is_file, Keeps}
 use Rattle.lr_looks.specs.Found.{FoundLog, HasNumbers, HaveNumbers, Hold}
 use Rattle.lr_looks.specs.Internal.{AreOf}
+use Rattle.lr_looks.proofs.Kindred.{start_fine}
 use Rattle.lr_looks.specs.Sights.{WordSight, found_at, found_of, AreFoundOf}
 
 -- P holds of each log that one of these words can give
@@ -60,7 +61,7 @@ files_hold P (f ∷ fs) h = hold_both P (where_file f) (flat_map where_file fs) 
 
 numbers_of : (set : ℕ) (rule : Rule) (words : List (List ℕ)) → CanAsk rule → HoldsOf HasNumbers (map (word_of set rule) words)
 numbers_of set rule [] can = tt
-numbers_of set rule (word ∷ words) can = ((λ m. record { numbered = can.dated; start = can.start }), numbers_of set rule words can)
+numbers_of set rule (word ∷ words) can = ((λ m. record { numbered = can.dated; start = start_fine rule can.limits }), numbers_of set rule words can)
 
 numbers_from : (k : ℕ) (rules : List Rule) → CanAskAll rules → HoldsOf HasNumbers (words_from k rules)
 numbers_from k [] can = tt

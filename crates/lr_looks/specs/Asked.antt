@@ -1,8 +1,9 @@
 -- The words of rules, and the logs that they give.
-use Rattle.std.specs.Prelude.{◌≡◌, ◌≤◌, ◌+◌, ℕ, Bool, List, [], ◌∷◌, ◌++◌, map, All, None, IsUtf8}
+use Rattle.std.specs.Prelude.{◌≡◌, ◌+◌, ℕ, Bool, true, List, [], ◌∷◌, ◌++◌, map, All, None, IsUtf8}
 use Rattle.lr_rules.specs.declared.path.Path.{Path}
 use Rattle.lr_rules.specs.declared.rule.Naming.{Naming}
 use Rattle.lr_rules.specs.declared.rule.Rule.{Rule}
+use Rattle.lr_rules.specs.Limits.{meets_limits}
 use Rattle.lr_rules.specs.Match.{is_wildcard}
 use Rattle.lr_rules.specs.Names.{naming_of}
 
@@ -51,13 +52,10 @@ log_at w path = record {
 
 -- ---- what is asked of the rules
 
--- So far: the members stand in the log's own directory, with numbers behind its name, of which the first is at most 999,999.
+-- The rule is within its limits, and its members have numbers.
 pub record CanAsk (rule : Rule) : Type 0 where
-  pub olddir : rule.olddir ≡ None
-  pub extension : rule.extension ≡ None
-  pub addextension : rule.addextension ≡ None
+  pub limits : meets_limits rule ≡ true
   pub dated : rule.dated ≡ None
-  pub start : rule.start ≤ 999999
 
 abbrev pub CanAskAll : List Rule → Type 0
 CanAskAll rules = All CanAsk rules

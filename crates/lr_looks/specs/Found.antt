@@ -30,9 +30,10 @@ pub record HasNumbers (f : FoundLog) : Type 0 where
   pub numbered : f.log.naming.dated ≡ None
   pub start : f.log.naming.start ≤ 999999
 
--- Its path is one, of 2,048 bytes at most, with a last part of 255 at most.
+-- Its path is one, of 2,048 bytes at most, with a last part of 255 at most; so is the directory of its members.
 pub record HasLogPath (f : FoundLog) : Type 0 where
   pub path : path_fault f.log.path ≡ None
+  pub dir : path_fault f.log.naming.dir ≡ None
   pub size : length f.log.path ≤ 2048
   pub last : length (last_of f.log.path) ≤ 255
 

@@ -1,10 +1,9 @@
--- For proofs: the naming that rules give a log so far, logs that are found, choices that name logs of the list, the map of listings, and logs that are added to their definitions.
+-- For proofs: logs that are found, choices that name logs of the list, the map of listings, and logs that are added to their definitions.
 use Rattle.std.specs.Prelude.{◌≡◌, ◌<◌, ℕ, List, [], ◌∷◌, ◌++◌, All, Option, Some, None, length, slice_get}
 use Rattle.lr_kept.specs.declared.choice.Choice.{Choice}
 use Rattle.lr_kept.specs.declared.choice.Choice.TheVariants.{Kept, Again, MemberOf, Reserved, Meets}
 use Rattle.lr_rules.specs.declared.path.Path.{Path}
 use Rattle.lr_rules.specs.declared.rule.Naming.{Naming}
-use Rattle.lr_rules.specs.Path.{parent_of, last_of}
 use Rattle.lr_rules.specs.declared.fault.Fault.{Fault}
 use Rattle.lr_rules.specs.declared.rule.Rule.{Rule}
 use Rattle.lr_host.specs.declared.entry.Entry.{Entry}
@@ -23,10 +22,6 @@ use Rattle.lr_looks.specs.Asked.{Word}
 use Rattle.lr_looks.specs.Found.{FoundLog, Hold}
 use Rattle.lr_looks.specs.Sights.{WordSight, found_of}
 use Rattle.lr_looks.specs.Sets.{HaveLooks}
-
--- the naming of a log's members in its own directory, with numbers behind its name
-abbrev pub naming_at : ℕ → Path → Naming
-naming_at start log = record { dir = parent_of log; base = last_of log; ext = []; start = start; dated = None }
 
 -- Some sights of these words, one for each, found the logs that were added.
 pub record AddsFound (words : List Word) (found all_found : List FoundLog) : Type 0 where

@@ -17,6 +17,7 @@ pub fn family_of(alloc: Global, log: Path, rule: &Rule) -> Result<Family, Memory
     ensures log { IfOk result (λ family. family.log ≡ log) }
     ensures naming { IfOk result (λ family. family.naming ≡ naming_of rule.now log) }
     ensures path { OnOk result (path_fault log ≡ None) }
+    ensures dir { OnOk result (path_fault (naming_of rule.now log).dir ≡ None) }
 {
     let _bytes = log.bytes();
     let naming = naming_of(alloc, rule, &log)?;

@@ -6,12 +6,14 @@ use Rattle.lr_host.specs.declared.entry.Entry.{Entry}
 use Rattle.lr_host.specs.declared.journal.Journal.{Journal}
 use Rattle.lr_host.specs.Fits.{Fits}
 use Rattle.lr_host.specs.Lists.{IsIn}
-use Rattle.lr_host.specs.Quiet.{AreQuiet}
+use Rattle.lr_host.specs.Opening.{IsJournal}
+use Rattle.lr_host.specs.Quiet.{AreQuiet, Quiet, here, wrote, looked}
 use Rattle.lr_host.specs.Steps.{is_change}
 use Rattle.lr_host.specs.Told.{Each, Made, at_first, by_writer, by_tool, Left, not_told, is_told, WhereTold}
 use Rattle.lr_host.specs.World.{Past, ◌▸◌, past, world, Names, names}
 use Rattle.lr_host.proofs.Each.{each_reverse, filter_reverse}
 use Rattle.lr_host.proofs.Lists.{from_reverse}
+use Rattle.lr_host.proofs.Made.{made_journal}
 use Rattle.lr_host.proofs.More.{IsMore, wrote_names}
 use Rattle.lr_host.proofs.Quiet.{IsAny, since_any, looked_names, moment, no_disk_change, quiet_changes, quiet_more, quiet_still, still_in_order}
 
@@ -46,16 +48,26 @@ lasts Q R stays kept (is_told {j = j} {k = k} {es = es} m l) f h = walk Q R stay
 pub lasts_quiet : (Q : Names → Type 0) {P : List Entry → Type 0} {o n : Option Journal} → Stays Q → Left P o n → ((ts : List Entry) → P ts → AreQuiet ts) → Holds Q o → Holds Q n
 lasts_quiet Q stays left f h = lasts Q (λ e. ⊥) stays (λ q e none. absurd none) left (λ ts p. subst (Each (λ e. ⊥)) (sym (quiet_changes ts (f ts p))) tt) h
 
--- An entry among these says the fact of the moment that it was made at.
+-- An entry among these says the fact of the moment of a disk that it was made at.
 pub record Says (Q : Names → Type 0) (ts : List Entry) : Type 0 where
   pub entry : Entry
   pub among : IsIn entry ts
-  pub so : (w : Past) → Fits (world w) entry → Q (names (world w))
+  pub so : (w : Past) → IsJournal w → Fits (world w) entry → Q (names (world w))
+
+quiet_disk : (p q : Past) → Quiet IsAny p q → IsJournal p → IsJournal q
+quiet_disk p _ here h = h
+quiet_disk p _ (wrote {q = q} w i f none) h = (quiet_disk p q w h, f)
+quiet_disk p _ (looked {q = q} w i f none) h = (quiet_disk p q w h, f)
+
+-- a disk goes on as one
+pub disk_on : {P : List Entry → Type 0} {o n : Option Journal} → Left P o n → WhereTold o IsJournal → WhereTold n IsJournal
+disk_on not_told h = tt
+disk_on (is_told {j = j} {k = k} {es = es} m p) h = made_journal (past j) (past k) es m h
 
 -- what one of quiet entries says is so behind them
-pub said : (Q : Names → Type 0) {P : List Entry → Type 0} {o n : Option Journal} → Stays Q → Left P o n → ((ts : List Entry) → P ts → AreQuiet ts) → ((ts : List Entry) → P ts → Says Q ts) → Holds Q n
-said Q stays not_told f g = tt
-said Q stays (is_told {j = j} {k = k} {es = es} m l) f g =
+pub said : (Q : Names → Type 0) {P : List Entry → Type 0} {o n : Option Journal} → Stays Q → WhereTold o IsJournal → Left P o n → ((ts : List Entry) → P ts → AreQuiet ts) → ((ts : List Entry) → P ts → Says Q ts) → Holds Q n
+said Q stays disk not_told f g = tt
+said Q stays disk (is_told {j = j} {k = k} {es = es} m l) f g =
     let s = g (reverse es) l in
     let t = moment IsAny (past j) (past k) s.entry es (since_any (past j) (past k) es m) m (still_in_order es (quiet_still (reverse es) (f (reverse es) l))) (from_reverse s.entry es s.among) in
-    stays (names (world t.at)) (names (world (past k))) (quiet_more IsAny t.at (past k) t.until) (s.so t.at t.fits)
+    stays (names (world t.at)) (names (world (past k))) (quiet_more IsAny t.at (past k) t.until) (s.so t.at (quiet_disk (past j) t.at t.since disk) t.fits)

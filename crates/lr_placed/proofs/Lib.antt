@@ -1,5 +1,5 @@
 mod Acts
-mod Lasting
+pub mod Lasting
 mod Listed
 pub mod Placed
 mod Reading

@@ -1,38 +1,51 @@
--- The directory of a log that was seen was listed.
-use Rattle.std.proofs.Common.{◌≡◌, inl, inr, sym, ◌∙◌, ap, subst, List, [], ◌∷◌}
-use Rattle.std.proofs.lemmas.List.Elements.{All-contains}
+-- The directories of a log that was seen stand.
+use Rattle.std.proofs.Common.{◌≡◌, inl, inr, ⊎_elim, sym, subst, List, [], ◌∷◌, Some, None}
 use Rattle.lr_rules.specs.declared.path.Path.{Path}
 use Rattle.lr_rules.specs.declared.rules.Rules.{Rules}
-use Rattle.lr_rules.specs.Names.{family_dir}
-use Rattle.lr_rules.specs.Path.{parent_of}
+use Rattle.lr_rules.specs.Path.{path_fault, parent_of}
+use Rattle.lr_rules.proofs.PathLemmas.{joined_parts}
+use Rattle.lr_family.specs.Spots.{path_at}
 use Rattle.lr_host.specs.declared.entry.Entry.{Entry}
 use Rattle.lr_host.specs.declared.entry.Entry.TheVariants as entry
-use Rattle.lr_host.specs.Fits.{IsDirectoryAt}
+use Rattle.lr_host.specs.Fits.{IsFileAt, IsDirectoryAt}
+use Rattle.lr_host.specs.Opening.{IsJournal}
+use Rattle.lr_host.specs.World.{Past, world, names}
+use Rattle.lr_host.proofs.Looked.{seen_file, nothing_no_file}
+use Rattle.lr_sought.proofs.Standing.{stands_in}
 use Rattle.lr_rotations.specs.Apart.{HasNames}
 use Rattle.lr_rotations.specs.Target.{Target, IsSeen, AreSeen, IsOneOf}
 use Rattle.lr_rotations.proofs.Fitting.{first_named}
+use Rattle.lr_rotations.proofs.Moments.{SawFile, saw_one}
 use Rattle.lr_rotations.proofs.Paths.{path_parent}
 use Rattle.lr_rotations.proofs.SeenFits.{seen_names}
 use Rattle.lr_chain.specs.Rotation.{places_of}
-use Rattle.lr_fields.specs.Built.{IsBuiltRule, AreBuiltRules}
 use Rattle.lr_placed.specs.Dirs.{IsDirOfLog}
 use Rattle.lr_placed.proofs.Lasting.{Says}
 
--- the members stand in the log's directory
-own_dir : (rules : Rules) (looks : List Entry) (t : Target) → AreBuiltRules rules.sets → IsSeen rules looks t → t.naming.dir ≡ parent_of t.log
-own_dir rules looks t built seen = sym (ap (λ n. n.dir) seen.given.naming_is) ∙ ap (family_dir (parent_of t.log)) (All-contains IsBuiltRule rules.sets seen.given.rule built seen.given.among).olddir
-
-dir_is : (rules : Rules) (looks : List Entry) (t : Target) (dir : Path) → AreBuiltRules rules.sets → IsSeen rules looks t → IsDirOfLog t dir → t.naming.dir ≡ dir
-dir_is rules looks t dir built seen (inl is) = own_dir rules looks t built seen ∙ sym is
-dir_is rules looks t dir built seen (inr is) =
+-- the directory of the members was listed
+says_listed : (rules : Rules) (looks : List Entry) (t : Target) → IsSeen rules looks t → Says (λ n. IsDirectoryAt n (parent_of (path_at t.naming 0))) looks
+says_listed rules looks t seen =
     let h : HasNames t = seen_names rules looks t seen in
-    sym (is ∙ path_parent t.log t.naming 0 h.family (first_named t.naming t.count (places_of t.stand.members) h.next))
+    let is = path_parent t.log t.naming 0 h.family (first_named t.naming t.count (places_of t.stand.members) h.next) in
+    subst (λ (d : Path). Says (λ n. IsDirectoryAt n d) looks) (sym is) (record { entry = entry.List t.naming.dir seen.seen.names; among = seen.seen.list; so = λ w j f. f.0 })
+
+-- that of the log has a file
+says_own : (rules : Rules) (looks : List Entry) (t : Target) → path_fault t.log ≡ None → IsSeen rules looks t → Says (λ n. IsDirectoryAt n (parent_of t.log)) looks
+says_own rules looks t valid seen = record { entry = entry.Look t.log (Some saw.0); among = saw.2; so = λ w j f. has w j (seen_file (world w) (names (world w) t.log) saw.0 f saw.1) }
+  where
+    saw : SawFile t.log looks
+    saw = saw_one t.log looks seen.log_seen
+
+    has : (w : Past) → IsJournal w → IsFileAt (names (world w)) t.log → IsDirectoryAt (names (world w)) (parent_of t.log)
+    has w j file = stands_in w t.log j (joined_parts t.log valid) (λ none. nothing_no_file (names (world w) t.log) file.0 none file.1)
 
 -- so one of the looks says that it stands
-pub says_dir : (rules : Rules) (looks : List Entry) (ts : List Target) (t : Target) (dir : Path) → AreBuiltRules rules.sets → AreSeen rules looks ts → IsOneOf t ts → IsDirOfLog t dir → Says (λ n. IsDirectoryAt n dir) looks
-says_dir rules looks [] t dir built seen i of = absurd i
-says_dir rules looks (x ∷ xs) t dir built seen (inl is) of = one (subst (λ (u : Target). IsDirOfLog u dir) (sym is) of)
+pub says_dir : (rules : Rules) (looks : List Entry) (ts : List Target) (t : Target) (dir : Path) → AreSeen rules looks ts → IsOneOf t ts → path_fault t.log ≡ None → IsDirOfLog t dir → Says (λ n. IsDirectoryAt n dir) looks
+says_dir rules looks ts t dir seen i valid of = ⊎_elim
+    (λ is. subst (λ (d : Path). Says (λ n. IsDirectoryAt n d) looks) (sym is) (says_own rules looks t valid (one_of ts seen i)))
+    (λ is. subst (λ (d : Path). Says (λ n. IsDirectoryAt n d) looks) (sym is) (says_listed rules looks t (one_of ts seen i))) of
   where
-    one : IsDirOfLog x dir → Says (λ n. IsDirectoryAt n dir) looks
-    one of = subst (λ (d : Path). Says (λ n. IsDirectoryAt n d) looks) (dir_is rules looks x dir built seen.0 of) (record { entry = entry.List x.naming.dir seen.0.seen.names; among = seen.0.seen.list; so = λ w f. f.0 })
-says_dir rules looks (x ∷ xs) t dir built seen (inr i) of = says_dir rules looks xs t dir built seen.1 i of
+    one_of : (us : List Target) → AreSeen rules looks us → IsOneOf t us → IsSeen rules looks t
+    one_of [] s i = absurd i
+    one_of (u ∷ us) s (inl e) = subst (IsSeen rules looks) e s.0
+    one_of (u ∷ us) s (inr i) = one_of us s.1 i

@@ -11,8 +11,9 @@ use Rattle.lr_host.specs.declared.entry.Entry.TheVariants as entry
 use Rattle.lr_host.specs.declared.journal.Journal.{Journal}
 use Rattle.lr_host.specs.Fits.{IsFileAt, IsDirectoryAt}
 use Rattle.lr_host.specs.Lists.{IsIn}
+use Rattle.lr_host.specs.Opening.{IsJournal}
 use Rattle.lr_host.specs.Quiet.{AreQuiet}
-use Rattle.lr_host.specs.Told.{Left, not_told, is_told, Can}
+use Rattle.lr_host.specs.Told.{Left, not_told, is_told, Can, WhereTold}
 use Rattle.lr_host.specs.World.{past, world, Names, names}
 use Rattle.lr_plan.specs.declared.looks.LogLook.{LogLook}
 use Rattle.lr_plan.specs.declared.looks.SetLooks.{SetLooks}
@@ -24,7 +25,7 @@ use Rattle.lr_looks.specs.Shown.{ShowsLooks}
 use Rattle.lr_reading.specs.declared.remembered.Remembered.{Remembered}
 use Rattle.lr_reading.specs.Answers.{ReadsState}
 use Rattle.lr_reading.proofs.Quiet.{state_quiet}
-use Rattle.lr_rotations.specs.Target.{Target}
+use Rattle.lr_rotations.specs.Target.{Target, IsOneOf}
 use Rattle.lr_weave.specs.Parts.{ArePlanned}
 use Rattle.lr_weave.proofs.Planning.{ready_planned}
 use Rattle.lr_fields.specs.Built.{AreBuiltRules}
@@ -33,12 +34,12 @@ use Rattle.lr_seen.specs.Targets.{groups_of, all_targets}
 use Rattle.lr_seen.proofs.Apart.{targets_apart}
 use Rattle.lr_seen.proofs.Quiet.{whole_quiet}
 use Rattle.lr_seen.proofs.Ready.{plans_have_logs}
-use Rattle.lr_seen.proofs.Seen.{targets_seen, targets_have_names}
+use Rattle.lr_seen.proofs.Seen.{targets_seen, targets_have_names, targets_have_paths}
 use Rattle.lr_writing.specs.Fits.{AreDirectories, HasPlace, IsThere, CanBegin}
 use Rattle.lr_placed.specs.Dirs.{AreDirsOfLogs}
 use Rattle.lr_placed.specs.Looked.{LooksCameTo}
 use Rattle.lr_placed.proofs.Acts.{Spares, acts_spare, IsFree, free_stays, free_kept, dir_stays, dir_kept, file_stays, file_kept}
-use Rattle.lr_placed.proofs.Lasting.{Stays, Holds, IsKeptBy, lasts, lasts_quiet, said}
+use Rattle.lr_placed.proofs.Lasting.{Stays, Holds, IsKeptBy, disk_on, lasts, lasts_quiet, said}
 use Rattle.lr_placed.proofs.Listed.{says_dir}
 use Rattle.lr_placed.proofs.Reading.{reading_says_free, reading_says_part}
 
@@ -73,21 +74,27 @@ AllAreFree = (reserved : List Path) (rules : List Rule) (sets : List SetLooks) (
 
 -- behind a reading and looks that left entries
 placed : AllAreFree → (state : Path) (size : ℕ) (r : Remembered) (rules : Rules) (sets : List SetLooks) (decide : Rule → LogLook → Due) (marks : List Mark) (faults : List Fault) (dirs : List Path) (before read looked acted : Option Journal) (us : List Entry)
-    → AreBuiltRules rules.sets → AreDirsOfLogs (all_targets decide rules.sets sets) dirs → Can before (entry.List (parent_of state) [])
+    → AreBuiltRules rules.sets → AreDirsOfLogs (all_targets decide rules.sets sets) dirs → WhereTold before IsJournal → Can before (entry.List (parent_of state) [])
     → Left (ReadsState state size (Ok (Ok r))) before read → Left (LooksCameTo (reserved_by state) rules.sets sets) read looked → LooksCameTo (reserved_by state) rules.sets sets us
     → Left (SetsDone (map steps_of_set (all_plans decide rules.sets sets)) marks faults) looked acted → CanBegin acted state r.stale dirs
-placed free state size r rules sets decide marks faults dirs before read looked acted us built of_logs there reading looks shown acts = record {
+placed free state size r rules sets decide marks faults dirs before read looked acted us built of_logs disk there reading looks shown acts = record {
   place = has_place state dirs acted
-      (on (IsFree state) (free_stays state) (free_kept reserved state (inl refl)) (said (IsFree state) (free_stays state) reading quiet (reading_says_free state size r)))
+      (on (IsFree state) (free_stays state) (free_kept reserved state (inl refl)) (said (IsFree state) (free_stays state) disk reading quiet (reading_says_free state size r)))
       (on (λ n. IsDirectoryAt n (parent_of state)) (dir_stays (parent_of state)) (dir_kept reserved (parent_of state)) (lasts_quiet (λ n. IsDirectoryAt n (parent_of state)) (dir_stays (parent_of state)) reading quiet there.can))
       (λ dir i. let o = of_logs dir i in
       over_acts (λ n. IsDirectoryAt n dir) (dir_stays dir) (dir_kept reserved dir)
-      (said (λ n. IsDirectoryAt n dir) (dir_stays dir) looks quiet_looks (λ ts s. says_dir rules ts targets o.0 dir built (targets_seen rules sets s.0 ts decide built s.1) o.1 o.2)));
+      (said (λ n. IsDirectoryAt n dir) (dir_stays dir) (disk_on reading disk) looks quiet_looks
+      (λ ts s. says_dir rules ts targets o.0 dir (targets_seen rules sets s.0 ts decide built s.1) o.1 (targets_have_paths rules.sets sets s.0 ts decide s.1 o.0 (is_in o.0 targets o.1)) o.2)));
   part = is_there (state_part state) r.stale acted (λ stale.
       on (λ n. IsFileAt n (state_part state)) (file_stays (state_part state)) (file_kept reserved (state_part state) (inr (inl refl)))
-      (said (λ n. IsFileAt n (state_part state)) (file_stays (state_part state)) reading quiet (reading_says_part state size r stale)));
+      (said (λ n. IsFileAt n (state_part state)) (file_stays (state_part state)) disk reading quiet (reading_says_part state size r stale)));
 }
   where
+    is_in : (t : Target) (ts : List Target) → IsOneOf t ts → IsIn t ts
+    is_in t [] i = absurd i
+    is_in t (x ∷ xs) (inl e) = inl e
+    is_in t (x ∷ xs) (inr i) = inr (is_in t xs i)
+
     reserved : List Path
     reserved = reserved_by state
 
@@ -111,9 +118,9 @@ placed free state size r rules sets decide marks faults dirs before read looked 
     on Q stays kept h = over_acts Q stays kept (lasts_quiet Q stays looks quiet_looks h)
 
 pub state_placed : AllAreFree → (state : Path) (size : ℕ) (remembered : Remembered) (rules : Rules) (sets : List SetLooks) (decide : Rule → LogLook → Due) (marks : List Mark) (faults : List Fault) (dirs : List Path) (before read looked acted : Option Journal)
-    → AreBuiltRules rules.sets → AreDirsOfLogs (all_targets decide rules.sets sets) dirs → Can before (entry.List (parent_of state) [])
+    → AreBuiltRules rules.sets → AreDirsOfLogs (all_targets decide rules.sets sets) dirs → WhereTold before IsJournal → Can before (entry.List (parent_of state) [])
     → Left (ReadsState state size (Ok (Ok remembered))) before read → Left (LooksCameTo (reserved_by state) rules.sets sets) read looked
     → Left (SetsDone (map steps_of_set (all_plans decide rules.sets sets)) marks faults) looked acted → CanBegin acted state remembered.stale dirs
-state_placed free state size r rules sets decide marks faults dirs before read looked acted built of_logs there reading looks acts =
+state_placed free state size r rules sets decide marks faults dirs before read looked acted built of_logs disk there reading looks acts =
     ⊎_elim (λ none. subst (λ told. CanBegin told state r.stale dirs) (sym (untold acts none)) (record { place = tt; part = tt }))
-    (λ s. placed free state size r rules sets decide marks faults dirs before read looked acted s.0 built of_logs there reading looks s.1 acts) (shown_or_none looks)
+    (λ s. placed free state size r rules sets decide marks faults dirs before read looked acted s.0 built of_logs disk there reading looks s.1 acts) (shown_or_none looks)

@@ -59,13 +59,13 @@ file_free x n f = let e = f.1 in (λ is. cc, λ is. cc)
 
 says_free : (x : Path) (s : Sight) (there : Bool) → found s ≡ Ok there → Says (IsFree x) (look_of x s)
 says_free x Failed there e = absurd (cc)
-says_free x Nothing there e = record { entry = entry.Look x None; among = inl refl; so = λ w f. nothing_free x (names (world w)) (seen_none (world w) (names (world w) x) f) }
-says_free x (Saw seen) there e = record { entry = entry.Look x (Some seen); among = inl refl; so = λ w f. file_free x (names (world w)) (seen_file (world w) (names (world w) x) seen f (file_kind seen.kind there e)) }
+says_free x Nothing there e = record { entry = entry.Look x None; among = inl refl; so = λ w j f. nothing_free x (names (world w)) (seen_none (world w) (names (world w) x) f) }
+says_free x (Saw seen) there e = record { entry = entry.Look x (Some seen); among = inl refl; so = λ w j f. file_free x (names (world w)) (seen_file (world w) (names (world w) x) seen f (file_kind seen.kind there e)) }
 
 says_file : (x : Path) (s : Sight) → found s ≡ Ok true → Says (λ n. IsFileAt n x) (look_of x s)
 says_file x Failed e = absurd (cc)
 says_file x Nothing e = absurd (cc)
-says_file x (Saw seen) e = record { entry = entry.Look x (Some seen); among = inl refl; so = λ w f. seen_file (world w) (names (world w) x) seen f (file_kind seen.kind true e) }
+says_file x (Saw seen) e = record { entry = entry.Look x (Some seen); among = inl refl; so = λ w j f. seen_file (world w) (names (world w) x) seen f (file_kind seen.kind true e) }
 
 -- ---- all entries of the reading
 

@@ -8,7 +8,8 @@ ghost use Rattle.lr_rules.specs.Path.{parent_of};
 ghost use Rattle.lr_due.specs.declared.answer.Due.{Due};
 ghost use Rattle.lr_host.specs.declared.entry.Entry.TheVariants as entry;
 ghost use Rattle.lr_host.specs.declared.journal.Journal.{Journal};
-ghost use Rattle.lr_host.specs.Told.{Left, Can};
+ghost use Rattle.lr_host.specs.Opening.{IsJournal};
+ghost use Rattle.lr_host.specs.Told.{Left, Can, WhereTold};
 ghost use Rattle.lr_plan.specs.declared.looks.LogLook.{LogLook};
 ghost use Rattle.lr_plan.specs.declared.looks.SetLooks.{SetLooks};
 ghost use Rattle.lr_plan.specs.declared.mark.Mark.{Mark};
@@ -28,11 +29,11 @@ use lr_seen::targets_are_free;
 
 /// Behind the acts of a plan the state can be written, whatever failed in them and whatever writers did: its path and that
 /// of its part file are as the reading saw them, since no log of the plan has such a name, and its directory stands, as do
-/// those of the logs. The state was read, the logs were looked at and the acts were made, one behind another.
+/// those of the logs and of their members, on a disk. The state was read, the logs were looked at and the acts were made, one behind another.
 pub fn state_has_its_place()
     ensures { (state : Path) (size : ℕ) (remembered : Remembered) (rules : Rules) (sets : List SetLooks) (decide : Rule → LogLook → Due) (marks : List Mark) (faults : List Fault) (dirs : List Path)
         (before read looked acted : Option Journal)
-        → AreBuiltRules rules.sets → AreDirsOfLogs (all_targets decide rules.sets sets) dirs → Can before (entry.List (parent_of state) [])
+        → AreBuiltRules rules.sets → AreDirsOfLogs (all_targets decide rules.sets sets) dirs → WhereTold before IsJournal → Can before (entry.List (parent_of state) [])
         → Left (ReadsState state size (Ok (Ok remembered))) before read → Left (LooksCameTo (reserved_by state) rules.sets sets) read looked
         → Left (SetsDone (map steps_of_set (all_plans decide rules.sets sets)) marks faults) looked acted → CanBegin acted state remembered.stale dirs }
 {

@@ -1,10 +1,12 @@
 -- No fault of a run that came to its plan is one that ends a run.
-use Rattle.std.proofs.Common.{◌≡◌, inr, Bool, List, [], ◌∷◌, ◌++◌, None, reverse, sym, ap, ◌∙◌, subst, append_assoc}
+use Rattle.std.proofs.Common.{◌≡◌, inr, Bool, true, List, [], ◌∷◌, ◌++◌, None, reverse, sym, ap, ◌∙◌, subst, append_assoc}
+use Rattle.std.specs.List.{list_all}
 use Rattle.lr_rules.specs.declared.civil.Moment.{Moment}
 use Rattle.lr_rules.specs.declared.fault.Fault.{Fault}
 use Rattle.lr_rules.specs.declared.path.Path.{Path}
 use Rattle.lr_rules.specs.declared.rule.Rule.{Rule}
 use Rattle.lr_rules.specs.declared.rules.Rules.{Rules}
+use Rattle.lr_rules.specs.Limits.{meets_limits}
 use Rattle.lr_rules.specs.Path.{parent_of}
 use Rattle.lr_host.specs.declared.entry.Entry.{Entry}
 use Rattle.lr_host.specs.declared.entry.Entry.TheVariants as entry
@@ -29,9 +31,9 @@ use Rattle.lr_reached.proofs.Standing.{still_there}
 use Rattle.lr_reached.proofs.Written.{written_none}
 
 -- where no look missed the state's directory
-worked_none : (state : Path) (rules : List Rule) (now : Moment) (force : Bool) (own : List Fault) (ts : List Entry) → AreBuiltRules rules → (w : Worked state rules now force own ts) → (IsGone w.looked.looks (parent_of state) → ⊥) → NoneEnds state own
-worked_none state rules now force own ts built w stands = subst (NoneEnds state) (sym w.acted.faults_are)
-    (none_both state w.looked.of_looks _ (looks_none state rules w.looked.sets w.looked.of_looks w.looked.looks w.looked.shown built)
+worked_none : (state : Path) (rules : List Rule) (now : Moment) (force : Bool) (own : List Fault) (ts : List Entry) → AreBuiltRules rules → list_all meets_limits rules ≡ true → (w : Worked state rules now force own ts) → (IsGone w.looked.looks (parent_of state) → ⊥) → NoneEnds state own
+worked_none state rules now force own ts built limits w stands = subst (NoneEnds state) (sym w.acted.faults_are)
+    (none_both state w.looked.of_looks _ (looks_none state rules w.looked.sets w.looked.of_looks w.looked.looks w.looked.shown built limits)
     (none_both state (plan_in state rules ts w.looked now force).faults w.acted.of_acts
     (plan_none state (decision w.looked.remembered.table now force) rules w.looked.sets (none_missed state rules w.looked.sets w.looked.of_looks w.looked.looks w.looked.shown stands))
     (subst (NoneEnds state) (sym w.acted.entries.faults_are) (none_both state w.acted.entries.of_plan w.acted.entries.of_state
@@ -60,4 +62,4 @@ stands state now rules force own p q ts before between entries directory made w 
 
 pub none_ends : (state : Path) (now : Moment) (rules : Rules) (force : Bool) (own : List Fault) (p q : Past) (ts before between : List Entry) → AreBuiltRules rules.sets → ts ≡ before ++ (entry.Starts state now rules ∷ (between ++ entry.Ends ∷ []))
     → Sees (parent_of state) IsDir before → Made p (reverse ts) q → Worked state rules.sets now force own between → NoneEnds state own
-none_ends state now rules force own p q ts before between built entries directory made w = worked_none state rules.sets now force own between built w (stands state now rules force own p q ts before between entries directory made w)
+none_ends state now rules force own p q ts before between built entries directory made w = worked_none state rules.sets now force own between built rules.limits w (stands state now rules force own p q ts before between entries directory made w)

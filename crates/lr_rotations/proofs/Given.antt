@@ -28,7 +28,8 @@ use Rattle.lr_host.specs.Steady.{IsSteadyAt, IsPassedOver}
 use Rattle.lr_host.specs.Told.{Each, IsWriters, Made, at_first, by_writer, by_tool}
 use Rattle.lr_host.specs.Lists.{IsIn}
 use Rattle.lr_host.proofs.Each.{each_first, each_reverse}
-use Rattle.lr_host.proofs.Made.{Cut, cut}
+use Rattle.lr_host.specs.Opening.{IsJournal}
+use Rattle.lr_host.proofs.Made.{Cut, cut, made_journal}
 use Rattle.lr_host.proofs.More.{file_more}
 use Rattle.lr_host.proofs.Quiet.{IsAny, quiet_more, made_quiet, since_any, quiet_still, still_reverse}
 use Rattle.lr_host.proofs.Lists.{in_from, in_to, in_unmap, from_reverse}
@@ -47,7 +48,7 @@ all_in P xs x a c = subst P c.2 (a c.0 x c.1)
 
 -- it gives its one path, whatever was seen
 pub literal_gives : (rules : List Rule) (rule : Rule) (word : List ℕ) (log : Path) (ts : List Entry) → is_wildcard word ≡ false → log ≡ literal_path word → Gives rules rule word log ts
-literal_gives rules rule word log ts plain is = record { gives = λ p q es m e. literal plain is; alone = λ p q es m e wild. absurd (clash (is_wildcard word) plain wild) }
+literal_gives rules rule word log ts plain is = record { gives = λ p q es m e. literal plain is; alone = λ p q es m journal e wild. absurd (clash (is_wildcard word) plain wild) }
   where
     clash : (b : Bool) → b ≡ false → b ≡ true → ⊥
     clash b h g = cc
@@ -120,10 +121,16 @@ stood_before x p _ _ at_first a s = s
 stood_before x p _ es (by_writer {q = q} {e = e} m i f) a s = stood_before x p q es m a (wrote_stood x q e i s)
 stood_before x p _ _ (by_tool {es = es} {q = q} {e = e} m i f) a s = stood_before x p q es m a.1 (quiet_stood x q e a.0 s)
 
+-- what the journal of a disk begins with is one
+journal_before : (p q : Past) (es : List Entry) → Made p es q → IsJournal q → IsJournal p
+journal_before p _ _ at_first j = j
+journal_before p _ es (by_writer {q = q} m i f) j = journal_before p q es m j.0
+journal_before p _ _ (by_tool {es = es} {q = q} m i f) j = journal_before p q es m j.0
+
 -- a set of another log, that is steady where the log names a file, doesn't meet the log's
 pub no_meet : (s : LogSet) (u v : Past) (rules : List Rule) (looks : List Entry) (log : Path) (n : Naming) (c : Count) → AreQuiet looks → Made u (reverse looks) v → ((x : Path) → StoodAtStart x u → IsFileAt (names (world u)) x) → n.dated ≡ None
-    → IsSteadyAt s v → rules_of v ≡ rules → IsGiven rules looks log n c → IsFileAt (names (world v)) log → log ≢ s.log → Meet s.log s.naming log n → ⊥
-no_meet s u v rules looks log n c quiet m begun numbered steady is g file other meet =
+    → IsJournal v → IsSteadyAt s v → rules_of v ≡ rules → IsGiven rules looks log n c → IsFileAt (names (world v)) log → log ≢ s.log → Meet s.log s.naming log n → ⊥
+no_meet s u v rules looks log n c quiet m begun numbered journal steady is g file other meet =
     none.4.1 member.0 (subst (λ (k : Naming). IsMemberAt k member.0 log) (sym (named none.1 (none.0, none.2, none.3) none.4.0)) member.1)
   where
     t : Stretch u (Gives rules g.rule g.word log)
@@ -158,7 +165,7 @@ no_meet s u v rules looks log n c quiet m begun numbered steady is g file other 
     stood = still_file u t.from t.before s.log t.quiet t.ahead (begun s.log (stood_before s.log u v (reverse looks) m (each_reverse IsQuiet looks quiet) over.log_stood))
 
     none : SomeRule rules s.log (λ r. (at : ℕ) → IsMemberAt (naming_of r s.log) at log → ⊥)
-    none = t.is.alone t.from t.to (reverse t.part) t.made (sym (reverse-reverse t.part)) wild.0 s.log member.0 (λ e. other (sym e)) s.log_path wild.1 stood
+    none = t.is.alone t.from t.to (reverse t.part) t.made (made_journal u t.from (reverse t.before) t.ahead (journal_before u v (reverse looks) m journal)) (sym (reverse-reverse t.part)) wild.0 s.log member.0 (λ e. other (sym e)) s.log_path wild.1 stood
         (subst (λ (k : Naming). IsMemberAt k member.0 log) (sym naming) member.1)
 
 -- the rule gives the set of its log the naming that the set has

@@ -145,7 +145,7 @@ module _ (s : LogSet) (state : Path) (rules : Rules) (u v : Past) (looks : List 
       k = known t seen
 
       aside : Each (IsAside s) (rotation_of t)
-      aside = lies_aside s t.log t.naming seen.family.numbered (no_meet s u v rules.sets looks t.log t.naming t.count quiet m begun seen.family.numbered here.steady here.rules_are seen.given k.file other) t.count (places_of t.stand.members) (every_all (HasName t.naming) (places_of t.stand.members) k.names_all.named) k.names_all.next
+      aside = lies_aside s t.log t.naming seen.family.numbered (no_meet s u v rules.sets looks t.log t.naming t.count quiet m begun seen.family.numbered here.journal here.steady here.rules_are seen.given k.file other) t.count (places_of t.stand.members) (every_all (HasName t.naming) (places_of t.stand.members) k.names_all.named) k.names_all.next
 
   others_apart : (ts : List Target) → AreSeen rules looks ts → (e : Entry) → IsOfOther s.log ts e → IsApart s e
   others_apart [] seen e h = absurd h

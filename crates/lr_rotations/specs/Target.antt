@@ -12,6 +12,7 @@ use Rattle.lr_rules.specs.Path.{path_fault}
 use Rattle.lr_host.specs.declared.entry.Entry.{Entry}
 use Rattle.lr_host.specs.Fits.{IsFileAt}
 use Rattle.lr_host.specs.Looks.{Sees, IsFile}
+use Rattle.lr_host.specs.Opening.{IsJournal}
 use Rattle.lr_host.specs.Runs.{SomeRule}
 use Rattle.lr_host.specs.Told.{Made}
 use Rattle.lr_host.specs.World.{Past, world, names}
@@ -26,7 +27,7 @@ use Rattle.lr_rotations.specs.Weave.{Among}
 -- What looks and listings tell of a log where they are true: this word of one of the rules gives it. Where the word is a wildcard that gives another log too, which named a file before and of which it is a member, it is none by the naming of a rule that gives that log.
 pub record Gives (rules : List Rule) (rule : Rule) (word : List ℕ) (log : Path) (ts : List Entry) : Type 0 where
   pub gives : (p q : Past) (es : List Entry) → Made p es q → ts ≡ reverse es → WordGives word log
-  pub alone : (p q : Past) (es : List Entry) → Made p es q → ts ≡ reverse es → is_wildcard word ≡ true
+  pub alone : (p q : Past) (es : List Entry) → Made p es q → IsJournal p → ts ≡ reverse es → is_wildcard word ≡ true
       → (x : Path) (place : ℕ) → x ≢ log → path_fault x ≡ None → WordGives word x → IsFileAt (names (world p)) x → IsMemberAt (naming_of rule x) place log
       → SomeRule rules x (λ r. (at : ℕ) → IsMemberAt (naming_of r x) at log → ⊥)
 

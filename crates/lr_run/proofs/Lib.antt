@@ -2,7 +2,7 @@ mod Sights
 pub mod Simple
 pub mod Folded
 mod Working
-mod Works
+pub mod Works
 mod Carrying
 mod Placing
 pub mod Stating

@@ -92,7 +92,7 @@ state_fits state rules looks remembered now force ready x y text a b {middle = m
     (state_placed none_reserved state 65_536 remembered rules looks.sets (decision remembered.table now force) l.0 l.1 r.is.writes.0 known.before middle told later built
     (dirs_of_logs (groups_of (decision remembered.table now force) rules.sets looks.sets) (PlanFor rules looks remembered now force).sets r.is.writes.0
     (plans_have_logs rules.sets looks.sets h.own (reverse es) (decision remembered.table now force) built h.shown) r.is.writes.1)
-    known.there known.read (is_told m (h.own, h.shown)) (subst (λ (ss : List SetSteps). Left (SetsDone ss l.0 l.1) told later) r.is.steps l.2)))
+    known.disk known.there known.read (is_told m (h.own, h.shown)) (subst (λ (ss : List SetSteps). Left (SetsDone ss l.0 l.1) told later) r.is.steps l.2)))
 
 pub fits_behind_acts : (state : Path) (rules : Rules) (looks : Looks) (remembered : Remembered) (now : Moment) (force : Bool) (ready : Ready) (x y : Progress) (text : List ℕ) (told later : Option Journal)
     → AreBuiltRules rules.sets → ReadyFor state now remembered looks.kept (PlanFor rules looks remembered now force) ready x y → SeenBefore state rules looks remembered told

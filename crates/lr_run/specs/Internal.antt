@@ -14,7 +14,8 @@ use Rattle.lr_host.specs.declared.entry.Entry.{Entry}
 use Rattle.lr_host.specs.declared.entry.Entry.TheVariants as entry
 use Rattle.lr_host.specs.declared.entry.Entry.TheVariants.{Starts, Ends}
 use Rattle.lr_host.specs.declared.journal.Journal.{Journal}
-use Rattle.lr_host.specs.Told.{Left, Then, Can, Counts}
+use Rattle.lr_host.specs.Opening.{IsJournal}
+use Rattle.lr_host.specs.Told.{Left, Then, Can, Counts, WhereTold}
 use Rattle.lr_host.specs.Looks.{Sees, IsDir, IsNotDir}
 use Rattle.lr_state.specs.Table.{Entry as Row}
 use Rattle.lr_state.specs.Written.{text_of}
@@ -92,9 +93,10 @@ pub record ActsAndWrites (ready : Ready) (now : Civil) (before later : Progress)
 
 -- ---- the parts of the work
 
--- The state was read, and this is known by it, behind a moment at which its directory stood.
+-- The state was read, and this is known by it, behind a moment of a disk at which its directory stood.
 pub record KnownBefore (state : Path) (remembered : Remembered) (told : Option Journal) : Type 0 where
   pub before : Option Journal
+  pub disk : WhereTold before IsJournal
   pub there : Can before (entry.List (parent_of state) [])
   pub read : Left (ReadsState state 65_536 (Ok (Ok remembered))) before told
 

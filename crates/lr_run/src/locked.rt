@@ -5,6 +5,7 @@ ghost use Rattle.lr_rules.specs.declared.fault.CallKind.TheVariants as call;
 ghost use Rattle.lr_rules.specs.declared.fault.Fault.TheVariants as fault;
 ghost use Rattle.lr_rules.specs.Path.{parent_of};
 ghost use Rattle.lr_host.specs.declared.entry.Entry.TheVariants as entry;
+ghost use Rattle.lr_host.specs.Opening.{IsJournal};
 ghost use Rattle.lr_host.specs.Told.{Left, Then, Are, Can, NoneFell, Onward, Rose, WhereTold};
 ghost use Rattle.lr_host.specs.World.{world};
 ghost use Rattle.lr_host.specs.Counted.{AddsFaults};
@@ -30,6 +31,7 @@ fn work_to_end<H: Host>(
     progress: &mut Progress,
 ) -> Result<(), Memory>
     requires built { AreBuiltRules rules.now.sets }
+    requires disk { WhereTold (H.told host.old) IsJournal }
     requires dir { Can (H.told host.old) (entry.List (parent_of settings.now.state) []) }
     requires room { vec_len progress.old.faults + 2 ≤ vec_capacity progress.old.faults }
     requires on { WhereTold (H.told host.old) (λ p. (world p).running ≡ true) }
@@ -65,6 +67,7 @@ pub fn begin_to_end<H: Host>(
     progress: &mut Progress,
 ) -> Result<(), RunStop>
     requires built { AreBuiltRules rules.now.sets }
+    requires disk { WhereTold (H.told host.old) IsJournal }
     requires there { Can (H.told host.old) (entry.Starts settings.now.state clock.now.now rules.now) }
     requires name { name ≡ settings.now.state }
     requires room { vec_len progress.old.faults + 2 ≤ vec_capacity progress.old.faults }

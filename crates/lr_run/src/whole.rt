@@ -2,7 +2,8 @@
 ghost use Rattle.std.specs.Prelude.{◌≡◌, ◌+◌, ◌≤◌, ◌++◌, ◌∷◌, [], Err, IfOk, OnOk, IfErr, vec_len};
 ghost use Rattle.std.specs.Vec.{vec_capacity};
 ghost use Rattle.lr_rules.specs.Path.{parent_of};
-ghost use Rattle.lr_host.specs.Told.{Left, Onward, Rose};
+ghost use Rattle.lr_host.specs.Opening.{IsJournal};
+ghost use Rattle.lr_host.specs.Told.{Left, Onward, Rose, WhereTold};
 ghost use Rattle.lr_durable.specs.StateWhole.{KeepsWhole};
 ghost use Rattle.lr_host.specs.Safe.{KeepsSafe};
 ghost use Rattle.lr_host.specs.Counted.{AddsFaults};
@@ -58,6 +59,7 @@ fn make_run<H: Host>(
     progress: &mut Progress,
 ) -> Result<(), RunStop>
     requires built { AreBuiltRules rules.now.sets }
+    requires disk { WhereTold (H.told host.old) IsJournal }
     requires dir { names.dir ≡ parent_of settings.now.state }
     requires state { names.state ≡ settings.now.state }
     requires room { vec_len progress.old.faults + 2 ≤ vec_capacity progress.old.faults }
@@ -82,7 +84,8 @@ fn make_run<H: Host>(
 
 /// Makes one run: looks at the state's directory, takes the lock, reads the state, looks at the logs that the rules ask
 /// for, carries out the plan that follows, writes the state, and gives the lock back. Each fault leaves the answer Ok. All
-/// memory is taken before the first change; where there is none, the run ends with no change. Where nothing is known of
+/// memory is taken before the first change; where there is none, the run ends with no change. A journal that the host tells
+/// has to be one of a disk. Where nothing is known of
 /// the state, no log is looked at; where its text could become longer than 67,108,864 bytes, nothing is changed.
 pub fn run<H: Host>(
     alloc: Global,
@@ -92,7 +95,8 @@ pub fn run<H: Host>(
     earlier: Vec<Fault>,
     host: &mut H,
 ) -> Result<Ran, RunStop>
-    requires { AreBuiltRules rules.now.sets }
+    requires built { AreBuiltRules rules.now.sets }
+    requires disk { WhereTold (H.told host.old) IsJournal }
     ensures safe { KeepsSafe (H.told host.old) (H.told host.new) }
     ensures state { KeepsWhole settings.now.state (IsNewText settings.now.state clock.entry.now.now settings.now.force rules.now) (H.told host.old) (H.told host.new) }
     ensures told { Left (Answers settings.now.state settings.now.force clock.entry.now.now rules.now earlier.items result) (H.told host.old) (H.told host.new) }

@@ -1,5 +1,5 @@
 -- What the calls of a run ask of rules, of those that are built.
-use Rattle.std.proofs.Common.{◌≡◌, ◌≤◌, true, List, [], ◌∷◌, All, subst, sym, ap, arith, rules}
+use Rattle.std.proofs.Common.{◌≡◌, true, List, [], ◌∷◌, All, ap, arith, rules}
 use Rattle.std.specs.List.{list_all}
 use Rattle.std.proofs.lemmas.Bool.{and_parts}
 use Rattle.std.proofs.lemmas.Bool.Decides.{nat_tests}
@@ -14,21 +14,17 @@ use Rattle.lr_plan.specs.Planned.{HasNoScripts}
 use Rattle.lr_looks.specs.Asked.{CanAsk, CanAskAll}
 
 -- its logs can be asked for
-pub can_ask : (rule : Rule) → IsBuiltRule rule → CanAsk rule
-can_ask rule b = record {
-  olddir = b.olddir;
-  extension = b.extension;
-  addextension = b.addextension;
-  dated = b.dated;
-  start = subst (λ n. n ≤ 999999) (sym b.start) (omega arith);
-}
+pub can_ask : (rule : Rule) → IsBuiltRule rule → meets_limits rule ≡ true → CanAsk rule
+can_ask rule b limits = record { limits = limits; dated = b.dated }
 
-pub asks_all : (rules : List Rule) → AreBuiltRules rules → CanAskAll rules
-asks_all [] b = none
+pub asks_all : (rules : List Rule) → AreBuiltRules rules → list_all meets_limits rules ≡ true → CanAskAll rules
+asks_all [] b limits = none
   where
     none : All CanAsk []
     none = search rules
-asks_all (x ∷ xs) b = All-cons CanAsk x xs (can_ask x (All-head IsBuiltRule x xs b)) (asks_all xs (All-tail IsBuiltRule x xs b))
+asks_all (x ∷ xs) b limits =
+    let both = and_parts (meets_limits x) (list_all meets_limits xs) limits in
+    All-cons CanAsk x xs (can_ask x (All-head IsBuiltRule x xs b) both.0) (asks_all xs (All-tail IsBuiltRule x xs b) both.1)
 
 -- it has no scripts
 pub no_script : (rule : Rule) → IsBuiltRule rule → HasNoScripts rule.scripts

@@ -22,12 +22,12 @@ use Rattle.lr_host.specs.Quiet.{AreQuiet}
 use Rattle.lr_host.specs.Runs.{SomeRule}
 use Rattle.lr_host.specs.Told.{Made}
 use Rattle.lr_host.specs.World.{Past, world, names}
+use Rattle.lr_host.specs.Opening.{IsJournal}
 use Rattle.lr_host.proofs.Lists.{in_to}
+use Rattle.lr_host.proofs.Made.{made_journal}
 use Rattle.lr_family.specs.declared.family.Family.{Family}
 use Rattle.lr_family.proofs.OnlyLooks.{looks_quiet}
-use Rattle.lr_glob.specs.declared.found.Found.{Found as Match}
 use Rattle.lr_glob.specs.Words.{Comes}
-use Rattle.lr_glob.proofs.OnlyLooks.{comes_looks, looks_quiet as glob_quiet}
 use Rattle.lr_glob.proofs.Seeking.{wildcards_seek, literals_give}
 use Rattle.lr_kept.specs.declared.choice.Choice.{Choice}
 use Rattle.lr_kept.specs.declared.choice.Choice.TheVariants.{Kept}
@@ -38,19 +38,19 @@ use Rattle.lr_looks.specs.Choices.{names_of, found_names, is_wild, IsChoiceAmong
 use Rattle.lr_looks.specs.Found.{FoundLog}
 use Rattle.lr_looks.specs.Shown.{ShowsLooks}
 use Rattle.lr_looks.specs.Sights.{found_at}
-use Rattle.lr_looks.proofs.Kindred.{plain_naming}
+use Rattle.lr_sought.specs.Finds.{FindsFile}
+use Rattle.lr_sought.proofs.Stood.{stood_is_found}
 use Rattle.lr_rotations.specs.Target.{Gives}
 use Rattle.lr_rotations.proofs.Given.{Stretch, stretch, still_file}
 use Rattle.lr_fields.specs.Built.{IsBuiltRule, AreBuiltRules}
 use Rattle.lr_seen.proofs.Built.{can_ask}
 use Rattle.lr_seen.proofs.Coming.{IsFoundBy, found_word, IsAsked, was_asked}
 use Rattle.lr_seen.proofs.Elements.{in_list, map_at, unmap_at}
-use Rattle.lr_seen.proofs.Finding.{found_too}
 use Rattle.lr_seen.proofs.Quiet.{looking_words}
 
 -- ---- words of rules that meet their limits
 
-all_in : {A : Type 0} (f : A → Bool) (xs : List A) (x : A) → list_all f xs ≡ true → IsIn x xs → f x ≡ true
+pub all_in : {A : Type 0} (f : A → Bool) (xs : List A) (x : A) → list_all f xs ≡ true → IsIn x xs → f x ≡ true
 all_in f [] x h i = absurd i
 all_in f (y ∷ ys) x h (inl e) = subst (λ z. f z ≡ true) e (and_parts (f y) (list_all f ys) h).0
 all_in f (y ∷ ys) x h (inr i) = all_in f ys x (and_parts (f y) (list_all f ys) h).1 i
@@ -163,7 +163,7 @@ module _ {reserved : List Path} (rules : Rules) (sets : List SetLooks) (faults :
   rule_in w a = in_list rules.sets a.place w.rule a.at
 
   can : (w : Word) → IsAsked 0 rules.sets w → CanAsk w.rule
-  can w a = can_ask w.rule (All-contains IsBuiltRule rules.sets w.rule built (in_to w.rule rules.sets (rule_in w a)))
+  can w a = can_ask w.rule (All-contains IsBuiltRule rules.sets w.rule built (in_to w.rule rules.sets (rule_in w a))) (all_in meets_limits rules.sets w.rule rules.limits (rule_in w a))
 
   full : (w : Word) → IsIn w (asked_by rules.sets) → is_wildcard w.text ≡ true → has_empty_part w.text ≡ false
   full w i wild =
@@ -190,10 +190,10 @@ module _ {reserved : List Path} (rules : Rules) (sets : List SetLooks) (faults :
       path : f.log.path ≡ b.one.path
       path = ap (λ (g : FoundLog). g.log.path) b.is
 
-      alone : (p q : Past) (es : List Entry) → Made p es q → s.entries.front ≡ reverse es → is_wildcard b.word.text ≡ true
+      alone : (p q : Past) (es : List Entry) → Made p es q → IsJournal p → s.entries.front ≡ reverse es → is_wildcard b.word.text ≡ true
           → (x : Path) (place : ℕ) → x ≢ f.log.path → path_fault x ≡ None → WordGives b.word.text x → IsFileAt (names (world p)) x → IsMemberAt (naming_of b.word.rule x) place f.log.path
           → SomeRule rules.sets x (λ r. (at : ℕ) → IsMemberAt (naming_of r x) at f.log.path → ⊥)
-      alone p q es m e wild x place other valid gives file member = (c.0, w.word.rule, c.1, c.2, ((d.0, w.word.text, d.1, d.2, subst (WordGives w.word.text) first.path (word_given p q es m e first.log w)), none))
+      alone p q es m journal e wild x place other valid gives file member = (c.0, w.word.rule, c.1, c.2, ((d.0, w.word.text, d.1, d.2, subst (WordGives w.word.text) first.path (word_given p q es m e first.log w)), none))
         where
           t : Stretch p (Comes b.word.text b.room (Ok b.matches))
           t = stretch p q s.entries.front (Comes b.word.text b.room (Ok b.matches)) quiet (subst (λ xs. Made p xs q) (sym (reverse-reverse es) ∙ ap reverse (sym e)) m) b.shown
@@ -202,11 +202,9 @@ module _ {reserved : List Path} (rules : Rules) (sets : List SetLooks) (faults :
           shown = subst (Comes b.word.text b.room (Ok b.matches)) (sym (reverse-reverse t.part)) t.is
 
           -- the other log was found too
-          too : (g : Match) × IsIn g b.matches × (g.path ≡ x)
-          too = found_too t.from t.to (reverse t.part) t.made (glob_quiet (reverse (reverse t.part)) (comes_looks b.word.text b.room (Ok b.matches) (reverse (reverse t.part)) shown))
-              b.word.rule.start x f.log.path place valid (still_file p t.from t.before x t.quiet t.ahead file)
-              (subst (λ (n : Naming). IsMemberAt n place f.log.path) (plain_naming b.word.rule x (can b.word (asked b.word b.among))) member)
-              b.word.text b.room b.matches (text_in (asked_by rules.sets) b.word s.texts b.among) wild (full b.word b.among wild) gives shown b.one b.has (sym path)
+          too : FindsFile x b.matches
+          too = stood_is_found t.from t.to (reverse t.part) b.word.text b.room b.matches (text_in (asked_by rules.sets) b.word s.texts b.among) (made_journal p t.from (reverse t.before) t.ahead journal) t.made shown
+              x valid (still_file p t.from t.before x t.quiet t.ahead file) gives
 
           first : First s.found x
           first = first_found s.found (found_at b.word too.0) x (b.others too.0 too.1) too.2

@@ -11,8 +11,8 @@ use Rattle.lr_rules.specs.declared.rule.Naming.{Naming}
 use Rattle.lr_rules.specs.declared.rule.Rule.{Rule}
 use Rattle.lr_rules.specs.declared.rules.Rules.{Rules}
 use Rattle.lr_rules.specs.Names.{naming_of}
+use Rattle.lr_rules.specs.Limits.{meets_limits}
 use Rattle.lr_rules.specs.Path.{path_fault}
-use Rattle.lr_rules.proofs.ParentPath.{parent_path}
 use Rattle.lr_due.specs.declared.answer.Due.{Due}
 use Rattle.lr_host.specs.declared.entry.Entry.{Entry}
 use Rattle.lr_host.specs.declared.entry.Entry.TheVariants as entry
@@ -22,7 +22,6 @@ use Rattle.lr_host.specs.Lists.{IsIn}
 use Rattle.lr_host.specs.Looks.{Sees, IsFile}
 use Rattle.lr_host.proofs.Lists.{in_to, in_front, in_back}
 use Rattle.lr_family.specs.declared.stand.Member.{Member}
-use Rattle.lr_family.specs.Kin.{IsKin}
 use Rattle.lr_family.specs.Stands.{number_in}
 use Rattle.lr_glob.proofs.Seeking.{found_were_seen}
 use Rattle.lr_kept.specs.declared.choice.Choice.TheVariants.{Kept}
@@ -37,7 +36,7 @@ use Rattle.lr_looks.specs.Choices.{kept_of}
 use Rattle.lr_looks.specs.Found.{FoundLog, HasLogPath, HaveLogPaths}
 use Rattle.lr_looks.specs.Sets.{looked_in}
 use Rattle.lr_looks.specs.Shown.{ShowsLooks}
-use Rattle.lr_looks.proofs.Kindred.{kin_at, plain_naming}
+use Rattle.lr_looks.proofs.Kindred.{kin_of}
 use Rattle.lr_rotations.specs.Apart.{HaveNames}
 use Rattle.lr_rotations.specs.Members.{IsFamily}
 use Rattle.lr_rotations.specs.Target.{Target, IsOneTooHigh, Gives, IsSeen, AreSeen}
@@ -49,7 +48,7 @@ use Rattle.lr_seen.proofs.Elements.{in_list}
 use Rattle.lr_seen.proofs.Apart.{kept_at}
 use Rattle.lr_seen.proofs.Built.{can_ask}
 use Rattle.lr_seen.proofs.Coming.{Comes, comes_from, was_looked, in_kept, IsFrom, came_from}
-use Rattle.lr_seen.proofs.Gives.{gives_kept}
+use Rattle.lr_seen.proofs.Gives.{all_in, gives_kept}
 use Rattle.lr_seen.proofs.Listed.{all_shown}
 
 -- ---- the family
@@ -58,8 +57,8 @@ use Rattle.lr_seen.proofs.Listed.{all_shown}
 is_family : (rule : Rule) (f : FoundLog) → CanAsk rule → HasLogPath f → naming_of rule f.log.path ≡ f.log.naming → IsFamily f.log.path f.log.naming
 is_family rule f can fit is = subst (IsFamily f.log.path) is (record {
   numbered = can.dated;
-  kin = subst (IsKin f.log.path) (sym (plain_naming rule f.log.path can)) (kin_at rule.start f.log.path fit.path fit.size fit.last);
-  dir = subst (λ (m : Naming). path_fault m.dir ≡ None) (sym (plain_naming rule f.log.path can)) (parent_path f.log.path fit.path);
+  kin = kin_of rule f.log.path can.limits fit.path fit.size fit.last;
+  dir = subst (λ (m : Naming). path_fault m.dir ≡ None) (sym is) fit.dir;
 })
 
 log_path : (found : List FoundLog) (f : FoundLog) → HaveLogPaths found → IsIn f found → HasLogPath f
@@ -107,7 +106,7 @@ target_seen rules sets faults ts t built s c = subst (IsSeen rules ts) (sym c.is
   given = record {
     rule = o.by_word.word.rule;
     word = o.by_word.word.text;
-    among = in_to o.by_word.word.rule rules.sets (in_list rules.sets x.set o.by_word.word.rule o.at);
+    among = in_to o.by_word.word.rule rules.sets among;
     has = in_to o.by_word.word.text o.by_word.word.rule.words o.has;
     given = record {
       before = [];
@@ -149,8 +148,11 @@ target_seen rules sets faults ts t built s c = subst (IsSeen rules ts) (sym c.is
     same : c.rule ≡ o.by_word.word.rule
     same = same_read rules.sets c.place c.rule o.by_word.word.rule c.at_rule (subst (λ (n : ℕ). slice_get rules.sets n ≡ Some o.by_word.word.rule) (none_more c.place) o.at)
 
+    among : IsIn o.by_word.word.rule rules.sets
+    among = in_list rules.sets x.set o.by_word.word.rule o.at
+
     can : CanAsk o.by_word.word.rule
-    can = can_ask o.by_word.word.rule (All-contains IsBuiltRule rules.sets o.by_word.word.rule built (in_to o.by_word.word.rule rules.sets (in_list rules.sets x.set o.by_word.word.rule o.at)))
+    can = can_ask o.by_word.word.rule (All-contains IsBuiltRule rules.sets o.by_word.word.rule built (in_to o.by_word.word.rule rules.sets among)) (all_in meets_limits rules.sets o.by_word.word.rule rules.limits among)
 
     naming : naming_of o.by_word.word.rule o.found.log.path ≡ o.found.log.naming
     naming = ap (λ (g : FoundLog). naming_of o.by_word.word.rule g.log.path) o.by_word.is ∙ sym (ap (λ (g : FoundLog). g.log.naming) o.by_word.is)
@@ -180,3 +182,16 @@ all_names rules ts (u ∷ us) h = (seen_names rules ts u h.0, all_names rules ts
 
 pub targets_have_names : {reserved : List Path} (rules : Rules) (sets : List SetLooks) (faults : List Fault) (ts : List Entry) (decide : Rule → LogLook → Due) → AreBuiltRules rules.sets → ShowsLooks reserved rules.sets sets faults ts → HaveNames (all_targets decide rules.sets sets)
 targets_have_names rules sets faults ts decide built s = all_names rules ts (all_targets decide rules.sets sets) (targets_seen rules sets faults ts decide built s)
+
+-- each log of a plan has a path that is one
+pub targets_have_paths : {reserved : List Path} (rules : List Rule) (sets : List SetLooks) (faults : List Fault) (ts : List Entry) (decide : Rule → LogLook → Due) → ShowsLooks reserved rules sets faults ts → (t : Target) → IsIn t (all_targets decide rules sets) → path_fault t.log ≡ None
+targets_have_paths rules sets faults ts decide s t i = subst (λ (u : Target). path_fault u.log ≡ None) (sym c.is) (subst (λ (x : Path). path_fault x ≡ None) came.0.path_is (log_path s.found came.0.found s.paths (in_kept s.found s.keeps.choices came.0.found came.1)).path)
+  where
+    c : Comes rules sets t
+    c = comes_from decide rules sets t i
+
+    x : LookedLog
+    x = looked_in (0 + c.place) c.look
+
+    came : (o : IsFrom rules s.entries.front s.found x) × IsIn o.found (kept_of s.found s.keeps.choices)
+    came = came_from rules sets faults ts s x (was_looked 0 c.place s.looked sets c.set c.look s.by_sets c.at_set c.among)

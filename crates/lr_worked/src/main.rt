@@ -57,6 +57,8 @@ impl Caller for Program {
         }
         let here = Path::new(alloc, b"/h")?;
         let (zone, words) = zone_and_words(alloc, &call.words)?;
+        // What a disk in memory tells is the history of a disk.
+        let _disk = host.journal();
         let outcome = logrotate(alloc, words, &here, &zone, call.now, host, out);
         Ok(status(&outcome))
     }

@@ -1,3 +1,4 @@
+use Rattle.lr_placed.proofs.Lasting.{disk_on}
 use Rattle.std.proofs.Common.{[]}
 use Rattle.lr_host.proofs.Left.{left_first}
 use Rattle.lr_rotations.specs.AllTurns.{IsWholeRun}
@@ -12,6 +13,9 @@ returns-in_default-clause-told g c = at_none c.args.request.now c.args.zone.now 
 
 pub returns-in_default-clause-shape : goal.returns-in_default-clause-shape
 returns-in_default-clause-shape g c = left_first IsWholeRun _ (alone_run [] tt)
+
+pub run_by-requires : goal.run_by-requires
+run_by-requires g c = disk_on c.in-Ok-clock_in.ensures.told c.requires
 
 pub returns-in-Ok-clock_in-clause-told : goal.returns-in-Ok-clock_in-clause-told
 returns-in-Ok-clock_in-clause-told g c = at_clock c.args.request.now c.args.zone.now _ c.args.seconds c.in-Ok-clock_in.clock (answer_of c.run_by.result) (own_seconds c.args.seconds c.ranges.seconds.sfits) c.in-Ok-clock_in.ensures.told c.run_by.ensures.told

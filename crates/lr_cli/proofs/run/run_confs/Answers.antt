@@ -1,3 +1,4 @@
+use Rattle.lr_placed.proofs.Lasting.{disk_on}
 use Rattle.lr_cli.proofs.Reading.{reports, stopped, lacks_at_confs, reading_counted, both_counted, confs_shape, lacking_shape}
 use Rattle.lr_cli.proofs.run.run_confs.Goals as goal
 
@@ -7,8 +8,11 @@ returns-in_default-clause-told g c = lacks_at_confs c.args.confs.now c.args.cloc
 pub returns-in_default-clause-shape : goal.returns-in_default-clause-shape
 returns-in_default-clause-shape g c = lacking_shape c.args.confs.now c.in_default.ensures.lacking
 
-pub run-requires : goal.run-requires
-run-requires g c = c.in-Ok.ensures.built
+pub run-requires-clause-built : goal.run-requires-clause-built
+run-requires-clause-built g c = c.in-Ok.ensures.built
+
+pub run-requires-clause-disk : goal.run-requires-clause-disk
+run-requires-clause-disk g c = disk_on c.in-Ok.ensures.told c.requires.disk
 
 pub returns-in-Ok-run-clause-told : goal.returns-in-Ok-run-clause-told
 returns-in-Ok-run-clause-told g c = reports c.args.confs.now c.args.settings.now.state c.args.settings.now.force c.args.clock.now.now c.in-Ok.reading c.into_vec.result.items c.in-Ok-run.ran.faults.items c.requires.state c.into_vec.ensures

@@ -1,3 +1,4 @@
+use Rattle.lr_placed.proofs.Lasting.{disk_on}
 use Rattle.lr_run.proofs.Parts.{began, locked, goes, lacks, goes_not}
 use Rattle.lr_run.proofs.Working.{is_on}
 use Rattle.std.proofs.Common.{ap}
@@ -5,6 +6,9 @@ use Rattle.std.specs.Prelude.{filter}
 use Rattle.lr_host.specs.Steps.{is_naming}
 use Rattle.lr_host.proofs.Left.{can_as, can_stay}
 use Rattle.lr_run.proofs.locked.begin_to_end.Goals as goal
+
+pub work_to_end-requires-clause-disk : goal.work_to_end-requires-clause-disk
+work_to_end-requires-clause-disk g c = disk_on (began c.args.settings.now.state c.args.clock.now.now c.args.rules.now c.in-Ok-true.field-0 c.in-Ok-true.field-0-test c.in-Ok-true.ensures.told) c.requires.disk
 
 pub work_to_end-requires-clause-dir : goal.work_to_end-requires-clause-dir
 work_to_end-requires-clause-dir g c = can_stay (can_as c.requires.there (λ n h. h)) (began c.args.settings.now.state c.args.clock.now.now c.args.rules.now c.in-Ok-true.field-0 c.in-Ok-true.field-0-test c.in-Ok-true.ensures.told) (λ ts h. ap (filter is_naming) h)

@@ -1,9 +1,13 @@
 use Rattle.std.proofs.Common.{Err, ap, ◌∙◌, subst}
 use Rattle.lr_host.specs.Fits.{IsDirectoryAt}
 use Rattle.lr_host.proofs.Left.{can_as}
+use Rattle.lr_placed.proofs.Lasting.{disk_on}
 use Rattle.lr_run.proofs.Ending.{adds_later, dir_counted}
 use Rattle.lr_run.proofs.Parts.{behind_dir, stopped_behind, no_dir}
 use Rattle.lr_run.proofs.whole.make_run.Goals as goal
+
+pub begin_to_end-requires-clause-disk : goal.begin_to_end-requires-clause-disk
+begin_to_end-requires-clause-disk g c = disk_on c.in-Ok.ensures.told c.requires.disk
 
 pub begin_to_end-requires-clause-there : goal.begin_to_end-requires-clause-there
 begin_to_end-requires-clause-there g c = can_as c.in-Ok.ensures.there (λ n h. subst (IsDirectoryAt n) c.requires.dir h)

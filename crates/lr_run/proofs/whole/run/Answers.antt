@@ -31,7 +31,7 @@ pub returns-in-Ok-make_run-clause-told : goal.returns-in-Ok-make_run-clause-told
 returns-in-Ok-make_run-clause-told g c = ran_so c.args.settings.now.state c.args.settings.now.force c.args.clock.now.now c.args.rules.now c.args.earlier.items c.reserve.new.self.items (record { faults = c.make_run.new.progress.faults }) c.reserve.ensures.items c.in-Ok-make_run.ensures.told
 
 pub returns-in-Ok-make_run-clause-shape : goal.returns-in-Ok-make_run-clause-shape
-returns-in-Ok-make_run-clause-shape g c = left_as (returns-in-Ok-make_run-clause-told g c) (λ ts h. whole_run c.args.settings.now.state c.args.settings.now.force c.args.clock.now.now c.args.rules.now c.args.earlier.items (Ok (record { faults = c.make_run.new.progress.faults })) ts c.requires h)
+returns-in-Ok-make_run-clause-shape g c = left_as (returns-in-Ok-make_run-clause-told g c) (λ ts h. whole_run c.args.settings.now.state c.args.settings.now.force c.args.clock.now.now c.args.rules.now c.args.earlier.items (Ok (record { faults = c.make_run.new.progress.faults })) ts c.requires.built h)
 
 pub returns-in-Ok-make_run-clause-safe : goal.returns-in-Ok-make_run-clause-safe
 returns-in-Ok-make_run-clause-safe g c = call_safe _ _ (returns-in-Ok-make_run-clause-shape g c)
@@ -40,19 +40,19 @@ pub returns-in-Err-clause-told : goal.returns-in-Err-clause-told
 returns-in-Err-clause-told g c = stopped_so c.args.settings.now.state c.args.settings.now.force c.args.clock.now.now c.args.rules.now c.args.earlier.items c.in-Err.why c.in-Err.ensures.stopped
 
 pub returns-in-Err-clause-shape : goal.returns-in-Err-clause-shape
-returns-in-Err-clause-shape g c = left_as (returns-in-Err-clause-told g c) (λ ts h. whole_run c.args.settings.now.state c.args.settings.now.force c.args.clock.now.now c.args.rules.now c.args.earlier.items (Err c.in-Err.why) ts c.requires h)
+returns-in-Err-clause-shape g c = left_as (returns-in-Err-clause-told g c) (λ ts h. whole_run c.args.settings.now.state c.args.settings.now.force c.args.clock.now.now c.args.rules.now c.args.earlier.items (Err c.in-Err.why) ts c.requires.built h)
 
 pub returns-in-Err-clause-safe : goal.returns-in-Err-clause-safe
 returns-in-Err-clause-safe g c = call_safe _ _ (returns-in-Err-clause-shape g c)
 
 pub returns-in_default-clause-state : goal.returns-in_default-clause-state
-returns-in_default-clause-state g c = run_whole c.args.settings.now.state c.args.settings.now.force c.args.clock.now.now c.args.rules.now c.args.earlier.items (Err stop.Memory) c.requires (returns-in_default-clause-told g c)
+returns-in_default-clause-state g c = run_whole c.args.settings.now.state c.args.settings.now.force c.args.clock.now.now c.args.rules.now c.args.earlier.items (Err stop.Memory) c.requires.built (returns-in_default-clause-told g c)
 
 pub returns-in_default-reserve-clause-state : goal.returns-in_default-reserve-clause-state
-returns-in_default-reserve-clause-state g c = run_whole c.args.settings.now.state c.args.settings.now.force c.args.clock.now.now c.args.rules.now c.args.earlier.items (Err stop.Memory) c.requires (returns-in_default-reserve-clause-told g c)
+returns-in_default-reserve-clause-state g c = run_whole c.args.settings.now.state c.args.settings.now.force c.args.clock.now.now c.args.rules.now c.args.earlier.items (Err stop.Memory) c.requires.built (returns-in_default-reserve-clause-told g c)
 
 pub returns-in-Ok-make_run-clause-state : goal.returns-in-Ok-make_run-clause-state
-returns-in-Ok-make_run-clause-state g c = run_whole c.args.settings.now.state c.args.settings.now.force c.args.clock.now.now c.args.rules.now c.args.earlier.items (Ok (record { faults = c.make_run.new.progress.faults })) c.requires (returns-in-Ok-make_run-clause-told g c)
+returns-in-Ok-make_run-clause-state g c = run_whole c.args.settings.now.state c.args.settings.now.force c.args.clock.now.now c.args.rules.now c.args.earlier.items (Ok (record { faults = c.make_run.new.progress.faults })) c.requires.built (returns-in-Ok-make_run-clause-told g c)
 
 pub returns-in-Err-clause-state : goal.returns-in-Err-clause-state
-returns-in-Err-clause-state g c = run_whole c.args.settings.now.state c.args.settings.now.force c.args.clock.now.now c.args.rules.now c.args.earlier.items (Err c.in-Err.why) c.requires (returns-in-Err-clause-told g c)
+returns-in-Err-clause-state g c = run_whole c.args.settings.now.state c.args.settings.now.force c.args.clock.now.now c.args.rules.now c.args.earlier.items (Err c.in-Err.why) c.requires.built (returns-in-Err-clause-told g c)

@@ -10,7 +10,7 @@ pub returns-in_err-looks-clause-some : goal.returns-in_err-looks-clause-some
 returns-in_err-looks-clause-some g c = some_reserved c.from_residual-in_err-looks.result c.args.settings.now.state _ c.args.rules.now.sets (c.deref.ensures.value ∙ c.in_ok-reserved.ensures) c.in_err-looks.ensures.some
 
 pub look_all-requires : goal.look_all-requires
-look_all-requires g c = asks_all c.args.rules.now.sets c.requires.built
+look_all-requires g c = asks_all c.args.rules.now.sets c.requires.built c.args.rules.now.limits
 
 pub plan_and_act-requires-clause-rules : goal.plan_and_act-requires-clause-rules
 plan_and_act-requires-clause-rules g c = can_plan c.args.rules.now.sets c.in_ok-looks.looks.sets c.requires.built c.args.rules.now.limits c.in_ok-looks.ensures.ready c.in_ok-looks.ensures.many

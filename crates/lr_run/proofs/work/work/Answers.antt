@@ -8,6 +8,9 @@ returns-in_err-part-clause-some g c = none_seen c.from_residual.result c.args.se
 pub returns-in_err-remembered-clause-some : goal.returns-in_err-remembered-clause-some
 returns-in_err-remembered-clause-some g c = some_read c.from_residual-in_err-remembered.result c.args.settings.now.state c.args.rules.now.sets _ c.in_err-remembered.ensures.told
 
+pub look_and_act-requires-clause-known : goal.look_and_act-requires-clause-known
+look_and_act-requires-clause-known g c = record { before = _; disk = c.requires.disk; there = c.requires.dir; read = rw c.in-Ok.is at c.in_ok-remembered.ensures.told }
+
 pub returns-in-Ok-clause-told : goal.returns-in-Ok-clause-told
 returns-in-Ok-clause-told g c = known_done c.look_and_act.result c.args.settings.now.state c.args.rules.now.sets c.args.clock.now.now c.args.settings.now.force c.in-Ok.remembered c.args.progress.now.faults.items c.look_and_act.new.progress.faults.items _ (rw c.in-Ok.is at c.in_ok-remembered.ensures.told) c.look_and_act.ensures.told
 
