@@ -10,7 +10,7 @@ use Rattle.lr_forms.specs.declared.built.Built.TheVariants as built
 use Rattle.lr_forms.specs.declared.set.Set.{Set}
 use Rattle.lr_forms.specs.declared.set.Set.TheVariants as set
 use Rattle.lr_fields.specs.Built.{IsBuiltRule, AreBuiltRules}
-use Rattle.lr_fields.specs.Fields.{fields_of, last_set, maxage_set, start_set, extension_set, addextension_set, olddir_set, createolddir_set, create_set, mail_set, mailfirst_set, shared_set, first_set, pre_set, post_set, last_script_set, preremove_set, dated_set, way_of}
+use Rattle.lr_fields.specs.Fields.{fields_of, last_set, maxage_set, createolddir_set, create_set, mail_set, mailfirst_set, shared_set, first_set, pre_set, post_set, last_script_set, preremove_set, dated_set, way_of}
 use Rattle.lr_fields.specs.Rules.{format_of, rule_of}
 use Rattle.lr_fields.proofs.Settings.{same_scripts}
 use Rattle.lr_conf.specs.Meaning.{Line, meaning}
@@ -21,23 +21,6 @@ use Rattle.lr_conf.proofs.Walk.{each_rule, last_given}
 maxage_given : (v : Set) → S v → Given (λ o. o ≡ None) (maxage_set v)
 maxage_given (set.MaxAge n) ok = let no = ok.0 in absurd (cc no)
 maxage_given v ok = tt
-
-start_given : (v : Set) → S v → Given (λ n. n ≡ 1) (start_set v)
-start_given (set.Start n) ok = let no = ok.0 in absurd (cc no)
-start_given v ok = tt
-
-extension_given : (v : Set) → S v → Given (λ o. o ≡ None) (extension_set v)
-extension_given (set.Extension e) ok = let no = ok.0 in absurd (cc no)
-extension_given v ok = tt
-
-addextension_given : (v : Set) → S v → Given (λ o. o ≡ None) (addextension_set v)
-addextension_given (set.AddExtension e) ok = let no = ok.0 in absurd (cc no)
-addextension_given v ok = tt
-
-olddir_given : (v : Set) → S v → Given (λ o. o ≡ None) (olddir_set v)
-olddir_given (set.Olddir None) ok = refl
-olddir_given (set.Olddir (Some dir)) ok = let no = ok.0 in absurd (cc no)
-olddir_given v ok = tt
 
 createolddir_given : (v : Set) → S v → Given (λ m. m ≡ make.No) (createolddir_set v)
 createolddir_given (set.CreateOlddir make.No) ok = refl
@@ -103,10 +86,6 @@ unset sets d given vs ok = last_given S (λ x. x ≡ d) sets d refl given vs ok
 rule_ok : (file : Path) (at : ℕ) (words : List (List ℕ)) (vs : List Set) → N words → Each S vs → IsBuiltRule (rule_of file at words (fields_of vs))
 rule_ok file at words vs n ok = record {
   maxage = unset maxage_set None maxage_given vs ok;
-  start = unset start_set 1 start_given vs ok;
-  extension = unset extension_set None extension_given vs ok;
-  addextension = unset addextension_set None addextension_given vs ok;
-  olddir = unset olddir_set None olddir_given vs ok;
   createolddir = unset createolddir_set make.No createolddir_given vs ok;
   way = way_ok vs ok;
   create = unset create_set make.No create_given vs ok;

@@ -7,10 +7,6 @@ use Rattle.lr_rules.specs.declared.rule.Way.TheVariants as way
 
 pub record IsBuiltRule (r : Rule) : Type 0 where
   pub maxage : r.maxage ≡ None
-  pub start : r.start ≡ 1
-  pub extension : r.extension ≡ None
-  pub addextension : r.addextension ≡ None
-  pub olddir : r.olddir ≡ None
   pub createolddir : r.createolddir ≡ make.No
   pub way : r.way ≡ way.Rename
   pub create : r.create ≡ make.No

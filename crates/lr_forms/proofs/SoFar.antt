@@ -1,5 +1,5 @@
 -- What a line says so far.
-use Rattle.std.proofs.Common.{◌≡◌, ℕ, Bool, true, false, cond, not, ◌&&◌, ◌||◌, List, [], ◌∷◌, Option, Some, None, Result, Ok, Err, length, refl, ap, ◌∙◌}
+use Rattle.std.proofs.Common.{◌≡◌, ℕ, Bool, true, false, cond, not, ◌&&◌, List, [], ◌∷◌, Option, Some, None, Result, Ok, Err, length, refl, ap, ◌∙◌}
 use Rattle.std.specs.List.{cons_option}
 use Rattle.std.specs.Result.{result_ok, result_err}
 use Rattle.lr_lex.specs.declared.item.Item.{Item}
@@ -21,7 +21,6 @@ use Rattle.lr_words.specs.Names.{log_name_value, include_value}
 use Rattle.lr_words.specs.Words.{extension_value, address_value, olddir_value}
 use Rattle.lr_forms.specs.declared.built.Built.TheVariants as built
 use Rattle.lr_forms.specs.declared.form.Form.{Form}
-use Rattle.lr_forms.specs.declared.form.Form.TheVariants as form
 use Rattle.lr_forms.specs.declared.form.Value.{Value}
 use Rattle.lr_forms.specs.declared.form.Value.TheVariants as value
 use Rattle.lr_forms.specs.declared.set.Set.{Set}

@@ -17,7 +17,6 @@ so_far_unbuilt is.Postrotate = true
 so_far_unbuilt is.Preremove = true
 so_far_unbuilt is.Prerotate = true
 -- fields of a definition
-so_far_unbuilt is.Addextension = true
 so_far_unbuilt is.Copy = true
 so_far_unbuilt is.Copytruncate = true
 so_far_unbuilt is.Create = true
@@ -27,14 +26,11 @@ so_far_unbuilt is.Dateformat = true
 so_far_unbuilt is.Datehourago = true
 so_far_unbuilt is.Dateserial = true
 so_far_unbuilt is.Dateyesterday = true
-so_far_unbuilt is.Extension = true
 so_far_unbuilt is.Mail = true
 so_far_unbuilt is.Mailfirst = true
 so_far_unbuilt is.Maxage = true
-so_far_unbuilt is.Olddir = true
 so_far_unbuilt is.Renamecopy = true
 so_far_unbuilt is.Sharedscripts = true
-so_far_unbuilt is.Start = true
 -- all else is built
 so_far_unbuilt d = false
 

@@ -16,8 +16,7 @@ fn so_far_unbuilt(directive: Directive) -> bool
     ensures { result ≡ so_far_unbuilt directive }
 {
     match directive {
-        Directive::Addextension
-        | Directive::Copy
+        Directive::Copy
         | Directive::Copytruncate
         | Directive::Create
         | Directive::Createolddir
@@ -26,19 +25,16 @@ fn so_far_unbuilt(directive: Directive) -> bool
         | Directive::Datehourago
         | Directive::Dateserial
         | Directive::Dateyesterday
-        | Directive::Extension
         | Directive::Firstaction
         | Directive::Lastaction
         | Directive::Mail
         | Directive::Mailfirst
         | Directive::Maxage
-        | Directive::Olddir
         | Directive::Postrotate
         | Directive::Preremove
         | Directive::Prerotate
         | Directive::Renamecopy
-        | Directive::Sharedscripts
-        | Directive::Start => true,
+        | Directive::Sharedscripts => true,
         _ => false,
     }
 }
