@@ -9,7 +9,7 @@ use lr_chain::{PrepareStop, Ready, prepare};
 use lr_family::{Family, Member, Place, Stand};
 use lr_host::{Kind, Seen};
 use lr_line::{Line, Trouble, small};
-use lr_rules::{Count, Listed, Path};
+use lr_rules::{Count, Listed, Make, Path};
 use lr_scripts::Removal;
 
 fn is_count(count: Count) -> bool
@@ -154,7 +154,7 @@ fn put_prepared_of(
     requires count { IsCount count }
     requires named { AreNamed family.now.naming stand.now.members }
 {
-    let made = prepare(line.alloc, family, stand, count);
+    let made = prepare(line.alloc, family, stand, count, Make::No);
     put_prepared(&made, out)
 }
 

@@ -4,7 +4,7 @@ use Rattle.std.specs.List.{flat_map, list_any}
 use Rattle.lr_rules.specs.declared.path.Path.{Path}
 use Rattle.lr_rules.specs.declared.rule.Count.{Count}
 use Rattle.lr_rules.specs.declared.rule.Count.TheVariants as count
-use Rattle.lr_rules.specs.declared.rule.Make.TheVariants as make
+use Rattle.lr_rules.specs.declared.rule.Make.{Make}
 use Rattle.lr_rules.specs.declared.rule.Naming.{Naming}
 use Rattle.lr_rules.specs.Path.{joined}
 use Rattle.lr_host.specs.declared.entry.Entry.{Entry}
@@ -27,9 +27,9 @@ removal_at n place = record { path = path_at n place; preremove = None; mail = N
 abbrev pub move_from : Naming → ℕ → Move
 move_from n place = record { from = path_at n place; to = path_at n (place + 1) }
 
--- the log's way alone
-abbrev pub at_rest : Path → Naming → Ready
-at_rest log n = record { leftovers = []; dir = None; moves = []; log = log; target = path_at n 0; make = make.No; retire = [] }
+-- the log's way alone, and whether it is made anew behind that
+abbrev pub at_rest : Path → Naming → Make → Ready
+at_rest log n anew = record { leftovers = []; dir = None; moves = []; log = log; target = path_at n 0; make = anew; retire = [] }
 
 -- with what is to be done with the members at these places
 abbrev pub with_members : Naming → Count → List ℕ → Ready → Ready
@@ -43,14 +43,14 @@ with_members n c places ready = record {
   retire = map (removal_at n) (one_too_many c places);
 }
 
--- The rotation is ready: its parts are those of one rotation of the log, where these members stand.
-pub record IsReady (log : Path) (n : Naming) (c : Count) (members : List Member) (ready : Ready) : Type 0 where
+-- The rotation is ready: its parts are those of one rotation of the log, where these members stand, and the log is made anew so.
+pub record IsReady (log : Path) (n : Naming) (c : Count) (anew : Make) (members : List Member) (ready : Ready) : Type 0 where
   pub leftovers_are : ready.leftovers ≡ map (removal_at n) (leftovers c (places_of members))
   pub no_dir : ready.dir ≡ None
   pub moves_are : ready.moves ≡ map (move_from n) (kept c (places_of members))
   pub log_is : ready.log ≡ log
   pub target_is : ready.target ≡ path_at n 0
-  pub no_make : ready.make ≡ make.No
+  pub make_is : ready.make ≡ anew
   pub retire_is : ready.retire ≡ map (removal_at n) (one_too_many c (places_of members))
 
 -- a count that a rule can have

@@ -13,7 +13,7 @@ use lr_rules::Count;
 
 /// The removals of the leftovers, the turn and the retirement are the entries of one rotation, in order.
 pub fn steps_of_ready(family: &Family, stand: &Stand, count: Count, ready: &Ready)
-    requires { IsReady family.now.log family.now.naming count stand.now.members ready.now }
+    requires { IsReady family.now.log family.now.naming count ready.now.make stand.now.members ready.now }
     ensures { removals_of ready.now.leftovers ++ (turn_of ready.now ++ removals_of ready.now.retire) ≡ rotation family.now.naming count family.now.log (places_of stand.now.members) }
 {}
 

@@ -4,7 +4,7 @@
 //! steps, in order. Begin with `prepare`:
 //!
 //! ```text
-//! let ready = prepare(alloc, &family, &stand, Count::Keep(7))?;
+//! let ready = prepare(alloc, &family, &stand, Count::Keep(7), Make::No)?;
 //! retire(alloc, &mut host, ready.leftovers.as_slice())?;
 //! turn(&mut host, &ready)?;                                     // /var/log/app.log is /var/log/app.log.1
 //! retire(alloc, &mut host, ready.retire.as_slice())?;

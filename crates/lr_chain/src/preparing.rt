@@ -28,10 +28,10 @@ fn too_high<'a>(naming: &Naming, count: Count, members: &'a [Member]) -> Option<
 }
 
 // The rotation where no member stands and none is kept: the log's way alone.
-fn at_rest(alloc: Global, family: &Family) -> Result<Ready, Memory>
+fn at_rest(alloc: Global, family: &Family, anew: Make) -> Result<Ready, Memory>
     requires numbered { family.now.naming.dated ≡ None }
     requires start { family.now.naming.start ≤ 999999 }
-    ensures { IfOk result (λ ready. ready ≡ at_rest family.now.log family.now.naming) }
+    ensures { IfOk result (λ ready. ready ≡ at_rest family.now.log family.now.naming anew) }
 {
     let log = family.log().copy(alloc)?;
     let target = path_there(alloc, family, 0)?;
@@ -41,7 +41,7 @@ fn at_rest(alloc: Global, family: &Family) -> Result<Ready, Memory>
         moves: Listed::new(alloc),
         log,
         target,
-        make: Make::No,
+        make: anew,
         retire: Listed::new(alloc),
     })
 }
@@ -72,6 +72,7 @@ fn ready_of(
     alloc: Global,
     family: &Family,
     count: Count,
+    anew: Make,
     members: &[Member],
 ) -> Result<Ready, Memory>
     requires numbered { family.now.naming.dated ≡ None }
@@ -79,15 +80,16 @@ fn ready_of(
     requires count { IsCount count }
     requires named { AreNamed family.now.naming members.now }
     requires low { NoneTooHigh family.now.naming count members.now }
-    ensures { IfOk result (IsReady family.now.log family.now.naming count members.now) }
+    ensures { IfOk result (IsReady family.now.log family.now.naming count anew members.now) }
 {
     let places = places(alloc, members)?;
-    let mut ready = at_rest(alloc, family)?;
+    let mut ready = at_rest(alloc, family, anew)?;
     put_members(alloc, family, count, &places, &mut ready)?;
     Ok(ready)
 }
 
-/// Makes the rotation of a numbered family ready, where these members stand. Want of memory aside, `NoDir` comes exactly
+/// Makes the rotation of a numbered family ready, where these members stand, with the log made anew behind it or not. Want
+/// of memory aside, `NoDir` comes exactly
 /// where the family's directory wasn't there, and `TooHigh` exactly where all members are kept and one has the highest
 /// number that there is. `Taken` has no case yet.
 pub fn prepare(
@@ -95,12 +97,13 @@ pub fn prepare(
     family: &Family,
     stand: &Stand,
     count: Count,
+    anew: Make,
 ) -> Result<Ready, PrepareStop>
     requires numbered { family.now.naming.dated ≡ None }
     requires start { family.now.naming.start ≤ 999999 }
     requires count { IsCount count }
     requires named { AreNamed family.now.naming stand.now.members }
-    ensures ready { IfOk result (IsReady family.now.log family.now.naming count stand.now.members) }
+    ensures ready { IfOk result (IsReady family.now.log family.now.naming count anew stand.now.members) }
     ensures fits { IfOk result (λ ready. FitsWhereTheyStand family.now.log family.now.naming count (places_of stand.now.members)) }
     ensures turns { IfOk result (λ ready. TurnsWhereTheyStand family.now.log family.now.naming count (places_of stand.now.members)) }
     ensures no_dir { result ≢ Err PrepareStop.Memory → (path : Path) → (result ≡ Err (PrepareStop.NoDir path)) ↔ IsMissing family.now.naming stand.now path }
@@ -122,7 +125,7 @@ pub fn prepare(
     }
     rotation_fits(family, stand, count);
     rotation_turns(family, stand, count);
-    match ready_of(alloc, family, count, members) {
+    match ready_of(alloc, family, count, anew, members) {
         Ok(ready) => Ok(ready),
         Err(_) => Err(PrepareStop::Memory),
     }

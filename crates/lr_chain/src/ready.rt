@@ -21,7 +21,7 @@ pub struct Ready {
     pub log: Path,
     /// Where the log goes.
     pub target: Path,
-    /// Whether the log is made anew, and with which mode. No so far.
+    /// Whether the log is made anew, and with which mode (permission bits).
     pub make: Make,
     /// What is removed at the end: the member that is then one too many, where there is one.
     pub retire: Listed<Removal>,

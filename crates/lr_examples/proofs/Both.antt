@@ -91,8 +91,8 @@ module _ (state : Path) (rules : Rules) (looks : List Entry) (x y : Target) (apa
 
     all : Each IsOne (filter is_change acts)
     all = subst (Each IsOne) (sym changes)
-        (each_append IsOne us (vs ++ saved) (each_as (λ e. IsIn e (rotation_of x)) IsOne us (λ e h. inl (inl h)) (each_in_steps (rotation_of x) us first))
-        (each_append IsOne vs saved (each_as (λ e. IsIn e (rotation_of y)) IsOne vs (λ e h. inl (inr (inl h))) (each_in_steps (rotation_of y) vs second)) (each_as (IsOfState state) IsOne saved (λ e h. inr h) of_state)))
+        (each_append IsOne us (vs ++ saved) (each_as (λ e. IsIn e (rotation_of x)) IsOne us (λ e h. inl (inl (inl h))) (each_in_steps (rotation_of x) us first))
+        (each_append IsOne vs saved (each_as (λ e. IsIn e (rotation_of y)) IsOne vs (λ e h. inl (inr (inl (inl h)))) (each_in_steps (rotation_of y) vs second)) (each_as (IsOfState state) IsOne saved (λ e h. inr h) of_state)))
 
     -- seen from the first log, the second's steps and the state's entries stand between
     abbrev ByFirst : Entry → Type 0
@@ -100,8 +100,8 @@ module _ (state : Path) (rules : Rules) (looks : List Entry) (x y : Target) (apa
 
     by_first : Weave ByFirst us (filter is_change acts)
     by_first = subst (Weave ByFirst us) (sym changes) (own_first ByFirst us (vs ++ saved)
-        (each_append ByFirst vs saved (each_as (λ e. IsIn e (rotation_of y)) ByFirst vs (λ e h. inl (inr (inl ((λ same. apart (sym same)), h)))) (each_in_steps (rotation_of y) vs second))
-        (each_as (IsOfState state) ByFirst saved (λ e h. inr h) of_state)))
+        (each_append ByFirst vs saved (each_as (λ e. IsIn e (rotation_of y)) ByFirst vs (λ e h. inl (inr (inl ((λ same. apart (sym same)), inl h)))) (each_in_steps (rotation_of y) vs second))
+        (each_as (IsOfState state) ByFirst saved (λ e h. inr (inl h)) of_state)))
 
     -- and from the second, the first's
     abbrev BySecond : Entry → Type 0
@@ -109,8 +109,8 @@ module _ (state : Path) (rules : Rules) (looks : List Entry) (x y : Target) (apa
 
     by_second : Weave BySecond vs (filter is_change acts)
     by_second = subst (Weave BySecond vs) (sym changes) (weave_on BySecond [] us vs (vs ++ saved)
-        (weave_others BySecond us (each_as (λ e. IsIn e (rotation_of x)) BySecond us (λ e h. inl (inl (apart, h))) (each_in_steps (rotation_of x) us first)))
-        (own_first BySecond vs saved (each_as (IsOfState state) BySecond saved (λ e h. inr h) of_state)))
+        (weave_others BySecond us (each_as (λ e. IsIn e (rotation_of x)) BySecond us (λ e h. inl (inl (apart, inl h))) (each_in_steps (rotation_of x) us first)))
+        (own_first BySecond vs saved (each_as (IsOfState state) BySecond saved (λ e h. inr (inl h)) of_state)))
 
     abbrev SeenFrom : Target → Type 0
     SeenFrom t = FirstWoven (StandsBetween state t.log targets) (rotation_of t) (filter is_change acts)

@@ -21,7 +21,7 @@ use Rattle.lr_host.specs.Looks.{Sees, IsFile}
 use Rattle.lr_family.proofs.Unique.{joined_same}
 use Rattle.lr_chain.specs.Rotation.{places_of}
 use Rattle.lr_rotations.specs.Members.{IsNoMember, AreThere, HaveNext, NoMemberAttached}
-use Rattle.lr_rotations.specs.Rotated.{IsOn, AreOutside, IsRotatedWhole, RotatesAmong}
+use Rattle.lr_rotations.specs.Rotated.{IsBeside, AreOutside, IsRotatedWhole, RotatesAmong}
 use Rattle.lr_rotations.specs.Weave.{Weave, none, own, other}
 use Rattle.lr_rotations.proofs.Moments.{shown_in}
 use Rattle.lr_rotations.proofs.Others.{among_behind}
@@ -179,8 +179,8 @@ outside x (inr (inr (inr (inl e)))) = subst IsApart e (elsewhere b_first refl)
 outside x (inr (inr (inr (inr never)))) = absurd never
 
 -- between the log's own steps stand the making of the part file, the other log's rename, the writing of the state and its rename
-woven : Weave (IsOn paths) a_steps (filter is_disk_change moves)
-woven = own _ (other _ (inr (inl refl)) (own _ (other _ (inr (inr (inl refl)), inr (inr (inr (inl refl)))) (own _ (other _ (inr (inl refl)) (own _ (other _ (inr (inl refl), inl refl) none)))))))
+woven : Weave (IsBeside paths a_log) a_steps (filter is_disk_change moves)
+woven = own _ (other _ (inl (inr (inl refl))) (own _ (other _ (inl (inr (inr (inl refl)), inr (inr (inr (inl refl))))) (own _ (other _ (inl (inr (inl refl))) (own _ (other _ (inl (inr (inl refl), inl refl)) none)))))))
 
 pub rotates : (now : Moment) → RotatesAmong paths a_log a_naming a_count a_stand (reverse (left now))
 rotates now = record {
@@ -190,7 +190,7 @@ rotates now = record {
   still = refl;
   log_seen = among_behind (Sees a_log IsFile) (entry.Starts state now rules) (entry.Look (codes "/s") (Some directory) ∷ []) looks a_seen;
   seen = shown_in a_naming (places_of a_stand.members) looks (entry.Look (codes "/s") (Some directory) ∷ entry.Starts state now rules ∷ looks) (λ e h. inr (inr h)) a_shown;
-  changes = subst (λ steps. Weave (IsOn paths) steps (filter is_disk_change moves)) (sym a_rotation) woven;
+  changes = subst (λ steps. Weave (IsBeside paths a_log) steps (filter is_disk_change moves)) (sym a_rotation) woven;
 }
 
 -- ---- the opening

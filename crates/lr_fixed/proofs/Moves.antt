@@ -1,9 +1,13 @@
--- The acts of a plan of rules without scripts are unlinks and renames.
-use Rattle.std.proofs.Common.{◌≡◌, false, List, [], map, refl}
+-- The acts of a plan of rules without scripts are unlinks, renames and makings of logs.
+use Rattle.std.proofs.Common.{◌≡◌, inl, inr, ℕ, Bool, true, false, bytes_eq, Option, List, [], ◌∷◌, map, refl, sym, ◌∙◌}
+use Rattle.std.proofs.lemmas.Slice.Eq.{bytes_eq-Decides}
+use Rattle.lr_rules.specs.declared.path.Path.{Path}
+use Rattle.lr_rules.specs.Names.{the_log}
 use Rattle.lr_rules.specs.declared.fault.Fault.{Fault}
 use Rattle.lr_rules.specs.declared.rule.Rule.{Rule}
 use Rattle.lr_host.specs.declared.entry.Entry.{Entry}
 use Rattle.lr_host.specs.declared.entry.Entry.TheVariants as entry
+use Rattle.lr_host.specs.Lists.{IsIn}
 use Rattle.lr_host.specs.Told.{Each}
 use Rattle.lr_host.proofs.Each.{each_append, each_as, none_pass}
 use Rattle.lr_due.specs.declared.answer.Due.{Due}
@@ -12,7 +16,7 @@ use Rattle.lr_plan.specs.declared.looks.SetLooks.{SetLooks}
 use Rattle.lr_plan.specs.declared.mark.Mark.{Mark}
 use Rattle.lr_plan.specs.declared.step.SetSteps.{SetSteps}
 use Rattle.lr_plan.specs.declared.step.Step.{Step}
-use Rattle.lr_plan.specs.declared.step.Step.TheVariants.{Removes, Renames, Rotated}
+use Rattle.lr_plan.specs.declared.step.Step.TheVariants.{Removes, Renames, Creates, Rotated}
 use Rattle.lr_plan.specs.Outcomes.{Succeeds, Fails}
 use Rattle.lr_plan.specs.Done.{SetsDone}
 use Rattle.lr_plan.specs.Planned.{all_plans}
@@ -24,12 +28,24 @@ use Rattle.lr_run.proofs.Simple.{IsSimple, AreSimple, plan_simple}
 use Rattle.lr_run.proofs.Works.{no_scripts}
 use Rattle.lr_run.proofs.Stating.{none_leaves, one_leaves, maybe_leaves}
 use Rattle.lr_fixed.proofs.CountedListings.{IsNoListing, AreNoListings}
+use Rattle.lr_rotations.specs.Target.{Target}
+use Rattle.lr_weave.specs.Parts.{MakesOnly, MakesOne}
+use Rattle.lr_weave.proofs.Parting.{sets_parts}
+use Rattle.lr_weave.proofs.Planning.{ready_planned}
+use Rattle.lr_looks.specs.Shown.{ShowsLooks}
+use Rattle.lr_seen.specs.Free.{reserved_by, AreFreeOf}
+use Rattle.lr_seen.specs.Targets.{groups_of, all_targets}
+use Rattle.lr_seen.proofs.Apart.{targets_apart}
+use Rattle.lr_seen.proofs.Free.{targets_free}
+use Rattle.lr_seen.proofs.Ready.{plans_have_logs}
+use Rattle.lr_plan.specs.Steps.{state_part}
 use Rattle.lr_fixed.proofs.Writing.{is_make, makes_in}
 
--- an unlink or a rename
+-- an unlink, a rename or the making of a file
 abbrev pub IsMove : Entry → Type 0
 IsMove (entry.Unlinks path) = Unit {0}
 IsMove (entry.Renames from to) = Unit {0}
+IsMove (entry.Makes path mode) = Unit {0}
 IsMove _ = ⊥
 
 -- ---- one step
@@ -37,12 +53,14 @@ IsMove _ = ⊥
 made_moves : (s : Step) (ts : List Entry) → IsSimple s → Succeeds s ts → Each IsMove ts
 made_moves (Removes path) ts i h = one_leaves IsMove (entry.Unlinks path) ts tt h
 made_moves (Renames from to) ts i h = one_leaves IsMove (entry.Renames from to) ts tt h
+made_moves (Creates path mode) ts i h = maybe_leaves IsMove (entry.Makes path mode) ts tt h
 made_moves (Rotated log) ts i h = none_leaves IsMove ts h
 made_moves _ ts i h = absurd i
 
 failed_moves : (s : Step) (f : Fault) (ts : List Entry) → IsSimple s → Fails s f ts → Each IsMove ts
 failed_moves (Removes path) f ts i h = maybe_leaves IsMove (entry.Unlinks path) ts tt h.1
 failed_moves (Renames from to) f ts i h = maybe_leaves IsMove (entry.Renames from to) ts tt h.1
+failed_moves (Creates path mode) f ts i h = maybe_leaves IsMove (entry.Makes path mode) ts tt h.1
 failed_moves (Rotated log) f ts i h = absurd h
 failed_moves _ f ts i h = absurd i
 
@@ -71,10 +89,28 @@ no_listing _ i = tt
 pub moves_list_none : (ts : List Entry) → Each IsMove ts → AreNoListings ts
 moves_list_none ts m = each_as IsMove IsNoListing ts no_listing m
 
-no_make : (e : Entry) → IsMove e → is_make e ≡ false
-no_make (entry.Makes path mode) i = absurd i
-no_make _ i = refl
+-- what they make is no file that the run reserves for itself
+not_reserved : (reserved : List Path) (ts : List Target) (x part : Path) (mode : Option ℕ) → AreFreeOf reserved ts → IsIn part reserved → MakesOne ts (entry.Makes x mode) → x ≡ part → ⊥
+not_reserved reserved [] x part mode free i h e = h
+not_reserved reserved (t ∷ ts) x part mode free i (inl is) e = free.0 part i (inl (the_log (sym e ∙ is)))
+not_reserved reserved (t ∷ ts) x part mode free i (inr h) e = not_reserved reserved ts x part mode free.1 i h e
 
--- they make no file
-pub moves_make_none : (ts : List Entry) → Each IsMove ts → makes_in ts ≡ []
-moves_make_none ts m = none_pass is_make ts (each_as IsMove (λ e. is_make e ≡ false) ts no_make m)
+no_make : (reserved : List Path) (ts : List Target) (part : Path) (e : Entry) → AreFreeOf reserved ts → IsIn part reserved → MakesOnly (MakesOne ts) e → is_make part e ≡ false
+no_make reserved ts part (entry.Makes x mode) free i h = go (bytes_eq x part) refl
+  where
+    go : (b : Bool) → bytes_eq x part ≡ b → b ≡ false
+    go true same = absurd (not_reserved reserved ts x part mode free i h ((bytes_eq-Decides x part).0 same))
+    go false differ = refl
+no_make reserved ts part (entry.Starts state now rules) free i h = absurd h
+no_make reserved ts part (entry.Appends x bytes) free i h = absurd h
+no_make reserved ts part (entry.Truncates x) free i h = absurd h
+no_make reserved ts part _ free i h = refl
+
+-- the acts of the plan make no part file of the state
+pub acts_make_none : (state : Path) (rules : List Rule) (sets : List SetLooks) (decide : Rule → LogLook → Due) (of_looks : List Fault) (looks : List Entry) (ms : List Mark) (fs : List Fault) (ts : List Entry) → AreBuiltRules rules → ShowsLooks (reserved_by state) rules sets of_looks looks
+    → SetsDone (map steps_of_set (all_plans decide rules sets)) ms fs ts → makes_in (state_part state) ts ≡ []
+acts_make_none state rules sets decide of_looks looks ms fs ts built shown done =
+    none_pass (is_make (state_part state)) ts (each_as (MakesOnly (MakesOne (all_targets decide rules sets))) (λ e. is_make (state_part state) e ≡ false) ts
+    (λ e h. no_make (reserved_by state) (all_targets decide rules sets) (state_part state) e (targets_free rules sets of_looks looks decide shown) (inr (inl refl)) h)
+    (sets_parts (MakesOne (all_targets decide rules sets)) (map steps_of_set (all_plans decide rules sets)) ms fs ts
+    (ready_planned (groups_of decide rules sets) (all_plans decide rules sets) (plans_have_logs rules sets of_looks looks decide built shown) (targets_apart rules sets of_looks looks decide shown)).plain done).only)

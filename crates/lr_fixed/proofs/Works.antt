@@ -22,7 +22,7 @@ use Rattle.lr_run.specs.Runs.{Looked, Worked, Works, not_known, too_big, worked,
 use Rattle.lr_run.proofs.Called.{none_before, none_behind, worked_met_none}
 use Rattle.lr_fixed.proofs.Called.{one_uncalled}
 use Rattle.lr_fixed.proofs.LookedOne.{looks_are, acts_are, plans_are, measured_is}
-use Rattle.lr_fixed.proofs.Moves.{plan_moves, moves_make_none}
+use Rattle.lr_fixed.proofs.Moves.{acts_make_none}
 use Rattle.lr_fixed.proofs.StateRead.{state_one}
 use Rattle.lr_fixed.proofs.Writing.{is_make, makes_in, told_by, state_told}
 
@@ -38,14 +38,14 @@ module _ (state : Path) (rules : List Rule) (now : Moment) (force : Bool) (own :
   no_call_written = none_behind w.acted.of_acts w.acted.entries.of_plan w.acted.entries.of_state w.acted.entries.faults_are (none_behind _ (plan_in state rules ts w.looked now force).faults w.acted.of_acts refl no_call)
 
   -- the files that were made are those of the writing
-  made_is : makes_in w.looked.acts ≡ makes_in w.acted.entries.entries.back
+  made_is : makes_in (state_part state) w.looked.acts ≡ makes_in (state_part state) w.acted.entries.entries.back
   made_is =
-      ap makes_in w.acted.entries.entries.joined
-      ∙ (filter-append is_make w.acted.entries.entries.front w.acted.entries.entries.back
-      ∙ ap (λ es. es ++ makes_in w.acted.entries.entries.back) (moves_make_none w.acted.entries.entries.front (plan_moves rules w.looked.sets (decision w.looked.remembered.table now force) w.acted.marks w.acted.entries.of_plan w.acted.entries.entries.front built w.acted.entries.entries.first)))
+      ap (makes_in (state_part state)) w.acted.entries.entries.joined
+      ∙ (filter-append (is_make (state_part state)) w.acted.entries.entries.front w.acted.entries.entries.back
+      ∙ ap (λ es. es ++ makes_in (state_part state) w.acted.entries.entries.back) (acts_make_none state rules w.looked.sets (decision w.looked.remembered.table now force) w.looked.of_looks w.looked.looks w.acted.marks w.acted.entries.of_plan w.acted.entries.entries.front built w.looked.shown w.acted.entries.entries.first))
 
   -- by them the faults of the acts are told
-  acts_told : w.acted.of_acts ≡ told_by (state_part state) (makes_in w.looked.acts)
+  acts_told : w.acted.of_acts ≡ told_by (state_part state) (makes_in (state_part state) w.looked.acts)
   acts_told =
       w.acted.entries.faults_are
       ∙ (ap (λ fs. fs ++ w.acted.entries.of_state) (worked_met_none state rules now force own ts built w c)
@@ -98,7 +98,7 @@ module _ (state : Path) (rules : List Rule) (now : Moment) (force : Bool) (own m
       plans = plans_are state rules now force ts us v.looked w.looked e no_v no_w limits
 
       acts : v.acted.of_acts ≡ w.acted.of_acts
-      acts = acts_told state rules now force own ts built v c ∙ (ap (λ es. told_by (state_part state) (makes_in es)) (acts_are state rules now force ts us v.looked w.looked e no_v no_w limits) ∙ sym (acts_told state rules now force more us built w d))
+      acts = acts_told state rules now force own ts built v c ∙ (ap (λ es. told_by (state_part state) (makes_in (state_part state) es)) (acts_are state rules now force ts us v.looked w.looked e no_v no_w limits) ∙ sym (acts_told state rules now force more us built w d))
 
   -- the text of both could become too big
   big_one : (v : Looked state rules ts) (w : Looked state rules us) → own ≡ v.of_looks ++ fault.State 0 kind.TooBig ∷ [] → more ≡ w.of_looks ++ fault.State 0 kind.TooBig ∷ [] → own ≡ more

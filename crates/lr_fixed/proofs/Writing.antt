@@ -1,5 +1,6 @@
 -- The faults of the writing of the state are fixed by its entries, where no call failed.
-use Rattle.std.proofs.Common.{◌≡◌, inl, inr, ℕ, Bool, true, false, List, [], ◌∷◌, ◌++◌, map, Some, sym, ap, ◌∙◌}
+use Rattle.std.proofs.Common.{◌≡◌, inl, inr, ℕ, Bool, true, false, bytes_eq, cond, List, [], ◌∷◌, ◌++◌, map, Some, refl, sym, ap, ◌∙◌}
+use Rattle.std.proofs.lemmas.Slice.Eq.{bytes_eq-Decides}
 use Rattle.std.specs.Prelude.{filter}
 use Rattle.lr_rules.specs.declared.fault.Fault.{Fault}
 use Rattle.lr_rules.specs.declared.fault.Fault.TheVariants as fault
@@ -51,32 +52,33 @@ behind_by_call state dirs text = (
 
 -- ---- the part file, which is made or is another's
 
--- the entry makes a file
-abbrev pub is_make : Entry → Bool
-is_make (entry.Makes path mode) = true
-is_make _ = false
+-- the entry makes a file at this path
+abbrev pub is_make : Path → Entry → Bool
+is_make part (entry.Makes path mode) = bytes_eq path part
+is_make part _ = false
 
-abbrev pub makes_in : List Entry → List Entry
-makes_in ts = filter is_make ts
+abbrev pub makes_in : Path → List Entry → List Entry
+makes_in part ts = filter (is_make part) ts
 
 -- where none was made, the path was taken
 abbrev pub told_by : Path → List Entry → List Fault
 told_by part [] = fault.Taken part ∷ []
 told_by part (e ∷ es) = []
 
-at_take : (state : Path) (dirs : List Path) (text : List ℕ) (ms : List Mark) (fs : List Fault) (ts : List Entry) → Course (Takes (state_part state) (Some 416) ∷ behind_take state dirs text) ms fs ts → calls_in fs ≡ 0 → fs ≡ told_by (state_part state) (makes_in ts)
+at_take : (state : Path) (dirs : List Path) (text : List ℕ) (ms : List Mark) (fs : List Fault) (ts : List Entry) → Course (Takes (state_part state) (Some 416) ∷ behind_take state dirs text) ms fs ts → calls_in fs ≡ 0 → fs ≡ told_by (state_part state) (makes_in (state_part state) ts)
 at_take state dirs text ms fs ts (inl h) z = go h.failed
   where
-    go : Fails (Takes (state_part state) (Some 416)) h.fault ts → fs ≡ told_by (state_part state) (makes_in ts)
+    go : Fails (Takes (state_part state) (Some 416)) h.fault ts → fs ≡ told_by (state_part state) (makes_in (state_part state) ts)
     go (inl f) = absurd (one_called fs h.fault h.told (ap call_in f.0) z)
-    go (inr f) = h.told ∙ (ap (λ (x : Fault). x ∷ []) f.0 ∙ sym (ap (λ es. told_by (state_part state) (makes_in es)) f.1))
+    go (inr f) = h.told ∙ (ap (λ (x : Fault). x ∷ []) f.0 ∙ sym (ap (λ es. told_by (state_part state) (makes_in (state_part state) es)) f.1))
 at_take state dirs text ms fs ts (inr h) z =
     none_failed (behind_take state dirs text) h.later fs h.entries.back (behind_by_call state dirs text) h.entries.second z
-    ∙ sym (ap (λ es. told_by (state_part state) (makes_in es)) (h.entries.joined ∙ ap (λ es. es ++ h.entries.back) h.entries.first))
+    ∙ sym (ap (λ es. told_by (state_part state) (makes_in (state_part state) es)) (h.entries.joined ∙ ap (λ es. es ++ h.entries.back) h.entries.first)
+    ∙ ap (λ b. told_by (state_part state) (cond b (entry.Makes (state_part state) (Some 416) ∷ makes_in (state_part state) h.entries.back) (makes_in (state_part state) h.entries.back))) ((bytes_eq-Decides (state_part state) (state_part state)).1 refl))
 
-pub state_told : (state : Path) (stale : Bool) (dirs : List Path) (text : List ℕ) (ms : List Mark) (fs : List Fault) (ts : List Entry) → Course (state_steps state stale dirs text) ms fs ts → calls_in fs ≡ 0 → fs ≡ told_by (state_part state) (makes_in ts)
+pub state_told : (state : Path) (stale : Bool) (dirs : List Path) (text : List ℕ) (ms : List Mark) (fs : List Fault) (ts : List Entry) → Course (state_steps state stale dirs text) ms fs ts → calls_in fs ≡ 0 → fs ≡ told_by (state_part state) (makes_in (state_part state) ts)
 state_told state false dirs text ms fs ts h z = at_take state dirs text ms fs ts h z
 state_told state true dirs text ms fs ts (inl h) z = absurd (one_called fs h.fault h.told (ap call_in h.failed.0) z)
 state_told state true dirs text ms fs ts (inr h) z =
     at_take state dirs text h.later fs h.entries.back h.entries.second z
-    ∙ sym (ap (λ es. told_by (state_part state) (makes_in es)) (h.entries.joined ∙ ap (λ es. es ++ h.entries.back) h.entries.first))
+    ∙ sym (ap (λ es. told_by (state_part state) (makes_in (state_part state) es)) (h.entries.joined ∙ ap (λ es. es ++ h.entries.back) h.entries.first))

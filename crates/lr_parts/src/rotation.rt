@@ -11,7 +11,7 @@ use lr_family::{Family, Stand};
 use lr_line::{Trouble, small};
 use lr_memhost::MemHost;
 use lr_row::Cursor;
-use lr_rules::{Count, Path};
+use lr_rules::{Count, Make, Path};
 use lr_scripts::Removal;
 use std::alloc::{AllocError, Global};
 
@@ -77,7 +77,7 @@ fn prepared(alloc: Global, family: &Family, stand: &Stand, count: Count) -> Resu
     requires count { IsCount count }
     requires named { AreNamed family.now.naming stand.now.members }
 {
-    match prepare(alloc, family, stand, count) {
+    match prepare(alloc, family, stand, count, Make::No) {
         Ok(ready) => ready_text(alloc, &ready),
         Err(stop) => prepare_stop_text(alloc, &stop),
     }

@@ -5,14 +5,14 @@ use Rattle.lr_rules.specs.declared.fault.Fault.{Fault}
 use Rattle.lr_rules.specs.declared.path.Path.{Path}
 use Rattle.lr_host.specs.declared.thing.Thing.TheVariants as thing
 use Rattle.lr_host.specs.declared.entry.Entry.{Entry}
-use Rattle.lr_host.specs.declared.entry.Entry.TheVariants.{Renames, Unlinks}
+use Rattle.lr_host.specs.declared.entry.Entry.TheVariants.{Renames, Makes, Unlinks}
 use Rattle.lr_host.specs.Fits.{Fits, IsFileAt, IsDirectoryAt}
 use Rattle.lr_host.specs.Lists.{IsIn}
 use Rattle.lr_host.specs.Steps.{is_change}
 use Rattle.lr_host.specs.Told.{Each}
 use Rattle.lr_host.specs.World.{Past, ◌▸◌, World, world, Names, names, put}
 use Rattle.lr_host.proofs.Each.{each_as}
-use Rattle.lr_host.proofs.Looked.{file_no_dir}
+use Rattle.lr_host.proofs.Looked.{nothing_no_dir, file_no_dir}
 use Rattle.lr_host.proofs.More.{directory_more, file_more, not_more}
 use Rattle.lr_host.proofs.Names.{put_other}
 use Rattle.lr_laws.specs.Follow.{changed_paths}
@@ -21,25 +21,24 @@ use Rattle.lr_plan.specs.declared.step.SetSteps.{SetSteps}
 use Rattle.lr_plan.specs.Done.{SetsDone}
 use Rattle.lr_rotations.specs.AllTurns.{IsOfSome}
 use Rattle.lr_rotations.specs.Apart.{HaveNames}
-use Rattle.lr_rotations.specs.Target.{Target, rotation_of}
-use Rattle.lr_rotations.proofs.Apart.{AllOwn, own_paths}
-use Rattle.lr_rotations.proofs.Fed.{IsTurn}
-use Rattle.lr_rotations.proofs.Others.{rotation_turns}
-use Rattle.lr_rotations.proofs.Weaving.{each_in}
-use Rattle.lr_weave.specs.Parts.{ArePlanned, parts_of_sets}
-use Rattle.lr_weave.proofs.Parting.{sets_parts, all_parts}
+use Rattle.lr_rotations.specs.Target.{Target}
+use Rattle.lr_rotations.proofs.Apart.{own_change}
+use Rattle.lr_rotations.proofs.Fed.{IsTurnOrMake}
+use Rattle.lr_rotations.proofs.Others.{own_turns}
+use Rattle.lr_weave.specs.Parts.{ArePlanned}
+use Rattle.lr_weave.proofs.Parting.{done_some}
 use Rattle.lr_seen.specs.Free.{AreFreeOf}
 use Rattle.lr_placed.proofs.Lasting.{Stays, IsKeptBy}
 
--- a rename or an unlink of other paths than these
+-- a rename, an unlink or the making of a file, at other paths than these
 abbrev pub Spares : List Path → Entry → Type 0
-Spares reserved e = IsTurn e × ((x : Path) → IsIn x (changed_paths e) → IsIn x reserved → ⊥)
+Spares reserved e = IsTurnOrMake e × ((x : Path) → IsIn x (changed_paths e) → IsIn x reserved → ⊥)
 
 some_spares : (reserved : List Path) (ts : List Target) (e : Entry) → HaveNames ts → AreFreeOf reserved ts → IsOfSome ts e → Spares reserved e
 some_spares reserved [] e h free i = absurd i
 some_spares reserved (t ∷ ts) e h free (inl i) = (
-  each_in IsTurn (rotation_of t) e (rotation_turns t) i,
-  λ x changed r. free.0 x r (inl (each_in (AllOwn t.log t.naming) (rotation_of t) e (own_paths t h.0) i x changed)),
+  own_turns t e i,
+  λ x changed r. free.0 x r (inl (own_change t e h.0 i x changed)),
 )
 some_spares reserved (t ∷ ts) e h free (inr i) = some_spares reserved ts e h.1 free.1 i
 
@@ -48,22 +47,25 @@ pub acts_spare : (reserved : List Path) (targets : List Target) (sets : List Set
     → SetsDone sets marks faults ts → Each (Spares reserved) (filter is_change ts)
 acts_spare reserved targets sets marks faults ts h free planned done =
     each_as (IsOfSome targets) (Spares reserved) (filter is_change ts) (λ e i. some_spares reserved targets e h free i)
-    (all_parts (IsOfSome targets) (parts_of_sets sets) (filter is_change ts) planned.all (sets_parts sets marks faults ts planned.plain done))
+    (done_some targets sets marks faults ts planned done)
 
 -- ---- what such changes keep
 
-same_name : (q : Past) (e : Entry) (y : Path) → IsTurn e → (IsIn y (changed_paths e) → ⊥) → names (world (q ▸ e)) y ≡ names (world q) y
+same_name : (q : Past) (e : Entry) (y : Path) → IsTurnOrMake e → (IsIn y (changed_paths e) → ⊥) → names (world (q ▸ e)) y ≡ names (world q) y
 same_name q (Renames from to) y t out =
     put_other (put (names (world q)) from thing.Nothing) to y (names (world q) from) (λ is. out (inr (inl (sym is)))) ∙ put_other (names (world q)) from y thing.Nothing (λ is. out (inl (sym is)))
 same_name q (Unlinks x) y t out = put_other (names (world q)) x y thing.Nothing (λ is. out (inl (sym is)))
+same_name q (Makes x mode) y t out = put_other (names (world q)) x y (thing.File (world q).drawn) (λ is. out (inl (sym is)))
 same_name q _ y t out = absurd t
 
-no_directory : (w : World) (e : Entry) (y : Path) → IsTurn e → Fits w e → IsDirectoryAt (names w) y → IsIn y (changed_paths e) → ⊥
+no_directory : (w : World) (e : Entry) (y : Path) → IsTurnOrMake e → Fits w e → IsDirectoryAt (names w) y → IsIn y (changed_paths e) → ⊥
 no_directory w (Renames from to) y t f d (inl is) = file_no_dir (names w from) f.0.0 f.0.1 (ap (names w) is ∙ d)
 no_directory w (Renames from to) y t f d (inr (inl is)) = f.1 (ap (names w) is ∙ d)
 no_directory w (Renames from to) y t f d (inr (inr none)) = none
 no_directory w (Unlinks x) y t f d (inl is) = file_no_dir (names w x) f.0 f.1 (ap (names w) is ∙ d)
 no_directory w (Unlinks x) y t f d (inr none) = none
+no_directory w (Makes x mode) y t f d (inl is) = nothing_no_dir (names w x) f.1 (ap (names w) is ∙ d)
+no_directory w (Makes x mode) y t f d (inr none) = none
 no_directory w _ y t f d i = absurd t
 
 -- a directory stands

@@ -3,15 +3,13 @@ use Rattle.std.proofs.Common.{◌≡◌, inl, inr, ⊎_elim, sym, subst, List, [
 use Rattle.lr_rules.specs.declared.path.Path.{Path}
 use Rattle.lr_rules.specs.declared.rules.Rules.{Rules}
 use Rattle.lr_rules.specs.Path.{path_fault, parent_of}
-use Rattle.lr_rules.proofs.PathLemmas.{joined_parts}
 use Rattle.lr_family.specs.Spots.{path_at}
 use Rattle.lr_host.specs.declared.entry.Entry.{Entry}
 use Rattle.lr_host.specs.declared.entry.Entry.TheVariants as entry
-use Rattle.lr_host.specs.Fits.{IsFileAt, IsDirectoryAt}
-use Rattle.lr_host.specs.Opening.{IsJournal}
-use Rattle.lr_host.specs.World.{Past, world, names}
-use Rattle.lr_host.proofs.Looked.{seen_file, nothing_no_file}
-use Rattle.lr_sought.proofs.Standing.{stands_in}
+use Rattle.lr_host.specs.Fits.{IsDirectoryAt}
+use Rattle.lr_host.specs.World.{world, names}
+use Rattle.lr_host.proofs.Looked.{seen_file}
+use Rattle.lr_weave.proofs.Seen.{log_dir}
 use Rattle.lr_rotations.specs.Apart.{HasNames}
 use Rattle.lr_rotations.specs.Target.{Target, IsSeen, AreSeen, IsOneOf}
 use Rattle.lr_rotations.proofs.Fitting.{first_named}
@@ -31,13 +29,10 @@ says_listed rules looks t seen =
 
 -- that of the log has a file
 says_own : (rules : Rules) (looks : List Entry) (t : Target) → path_fault t.log ≡ None → IsSeen rules looks t → Says (λ n. IsDirectoryAt n (parent_of t.log)) looks
-says_own rules looks t valid seen = record { entry = entry.Look t.log (Some saw.0); among = saw.2; so = λ w j f. has w j (seen_file (world w) (names (world w) t.log) saw.0 f saw.1) }
+says_own rules looks t valid seen = record { entry = entry.Look t.log (Some saw.0); among = saw.2; so = λ w j f. log_dir t w valid j (seen_file (world w) (names (world w) t.log) saw.0 f saw.1) }
   where
     saw : SawFile t.log looks
     saw = saw_one t.log looks seen.log_seen
-
-    has : (w : Past) → IsJournal w → IsFileAt (names (world w)) t.log → IsDirectoryAt (names (world w)) (parent_of t.log)
-    has w j file = stands_in w t.log j (joined_parts t.log valid) (λ none. nothing_no_file (names (world w) t.log) file.0 none file.1)
 
 -- so one of the looks says that it stands
 pub says_dir : (rules : Rules) (looks : List Entry) (ts : List Target) (t : Target) (dir : Path) → AreSeen rules looks ts → IsOneOf t ts → path_fault t.log ≡ None → IsDirOfLog t dir → Says (λ n. IsDirectoryAt n dir) looks

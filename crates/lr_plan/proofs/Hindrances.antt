@@ -30,7 +30,7 @@ use Rattle.lr_plan.specs.declared.looks.SetLooks.{SetLooks}
 use Rattle.lr_plan.specs.declared.planned.LogPlan.{LogPlan}
 use Rattle.lr_plan.specs.declared.planned.SetPlan.{SetPlan}
 use Rattle.lr_plan.specs.Internal.Hindered.{fault_of}
-use Rattle.lr_plan.specs.Planned.{script, where_so, keeps_all, is_too_high, hindrances, ready_for, log_plan, none_hinders, plans_of, decisions_of, log_plans, log_faults, set_plan, all_decisions, all_plans, all_faults, HasNoScripts, CanPlanSet, CanPlanAll}
+use Rattle.lr_plan.specs.Planned.{script, where_so, keeps_all, is_too_high, hindrances, make_of, ready_for, log_plan, none_hinders, plans_of, decisions_of, log_plans, log_faults, set_plan, all_decisions, all_plans, all_faults, HasNoScripts, CanPlanSet, CanPlanAll}
 
 -- ---- one log
 
@@ -41,10 +41,10 @@ same_ready : (l l' : List Removal) (d d' : Option (Path × Option ℕ)) (m m' : 
     → l ≡ l' → d ≡ d' → m ≡ m' → g ≡ g' → t ≡ t' → k ≡ k' → r ≡ r' → made l d m g t k r ≡ made l' d' m' g' t' k' r'
 same_ready l l' d d' m m' g g' t t' k k' r r' a b c e f h i = cc
 
-pub ready_is : (rule : Rule) (look : LogLook) (ready : Ready) → look.family.log ≡ look.path → IsReady look.family.log look.family.naming rule.count look.stand.members ready
+pub ready_is : (rule : Rule) (look : LogLook) (ready : Ready) → look.family.log ≡ look.path → IsReady look.family.log look.family.naming rule.count (make_of rule.create look.seen) look.stand.members ready
     → ready ≡ ready_for rule look
 ready_is rule look ready e i = same_ready ready.leftovers _ ready.dir _ ready.moves _ ready.log _ ready.target _ ready.make _ ready.retire _
-    i.leftovers_are i.no_dir i.moves_are (i.log_is ∙ e) i.target_is i.no_make i.retire_is
+    i.leftovers_are i.no_dir i.moves_are (i.log_is ∙ e) i.target_is i.make_is i.retire_is
 
 abbrev set_made : Option Command → Option Command → Option Command → Option Command → Bool → List LogPlan → SetPlan
 set_made a b c d s l = record { first = a; pre = b; post = c; last = d; shared = s; logs = l }
@@ -64,7 +64,7 @@ one_script : (text : Option (List ℕ)) (args : List (List ℕ)) → text ≡ No
 one_script (Some text) args e = absurd (cc)
 one_script None args e = refl
 
-pub plan_is : (rule : Rule) (look : LogLook) (ready : Ready) → HasNoScripts rule.scripts → look.family.log ≡ look.path → IsReady look.family.log look.family.naming rule.count look.stand.members ready
+pub plan_is : (rule : Rule) (look : LogLook) (ready : Ready) → HasNoScripts rule.scripts → look.family.log ≡ look.path → IsReady look.family.log look.family.naming rule.count (make_of rule.create look.seen) look.stand.members ready
     → planned None None None ready None ≡ log_plan rule look
 plan_is rule look ready s e i = same_plan None _ None _ None None ready _ None None (no_script (not rule.shared) rule.scripts.pre _ s.pre) (no_script (not rule.shared) rule.scripts.post _ s.post) refl (ready_is rule look ready e i) refl
 

@@ -8,8 +8,11 @@ use Rattle.lr_rules.specs.declared.fault.Fault.{Fault}
 use Rattle.lr_rules.specs.declared.fault.Fault.TheVariants as fault
 use Rattle.lr_rules.specs.declared.rule.Count.{Count}
 use Rattle.lr_rules.specs.declared.rule.Count.TheVariants as count
+use Rattle.lr_rules.specs.declared.rule.Make.{Make}
+use Rattle.lr_rules.specs.declared.rule.Make.TheVariants as make
 use Rattle.lr_rules.specs.declared.rule.Rule.{Rule}
 use Rattle.lr_rules.specs.declared.rule.Scripts.{Scripts}
+use Rattle.lr_host.specs.declared.thing.Seen.{Seen}
 use Rattle.lr_due.specs.declared.answer.Due.{Due}
 use Rattle.lr_due.specs.declared.answer.Due.TheVariants as due
 use Rattle.lr_due.specs.Due.{due_of}
@@ -62,9 +65,15 @@ abbrev pub hindrances : Rule → LogLook → List Fault
 hindrances rule look =
     if look.stand.there then (if is_too_high rule look then fault.TooHigh (highest_path look.family.naming) ∷ [] else []) else fault.NoDir look.family.naming.dir ∷ []
 
+-- where the log is made anew, with which mode: the one that the rule gives, else the one that was seen
+abbrev pub make_of : Make → Seen → Make
+make_of make.No seen = make.No
+make_of (make.Yes None) seen = make.Yes seen.mode
+make_of (make.Yes (Some mode)) seen = make.Yes (Some mode)
+
 -- its rotation, with all its paths
 abbrev pub ready_for : Rule → LogLook → Ready
-ready_for rule look = with_members look.family.naming rule.count (places_of look.stand.members) (at_rest look.path look.family.naming)
+ready_for rule look = with_members look.family.naming rule.count (places_of look.stand.members) (at_rest look.path look.family.naming (make_of rule.create look.seen))
 
 -- what is done with it: its own scripts where the definition doesn't share them, and the rotation
 abbrev pub log_plan : Rule → LogLook → LogPlan

@@ -3,7 +3,7 @@ ghost use Rattle.std.specs.Prelude.{◌≡◌, ◌++◌, ◌∷◌, [], OnOk, If
 ghost use Rattle.lr_rules.specs.declared.rule.Rule.{Rule};
 ghost use Rattle.lr_plan.specs.declared.looks.LogLook.{LogLook};
 ghost use Rattle.lr_plan.specs.Internal.Hindered.{fault_of};
-ghost use Rattle.lr_plan.specs.Planned.{decision, decisions_of, hindrances, plans_of, log_plans, log_faults, set_plan, where_due, all_decisions, all_plans, all_faults, plan_of, CanPlan, CanPlanSet, CanPlanAll, HasNoScripts};
+ghost use Rattle.lr_plan.specs.Planned.{decision, decisions_of, hindrances, plans_of, log_plans, log_faults, set_plan, where_due, all_decisions, all_plans, all_faults, plan_of, make_of, CanPlan, CanPlanSet, CanPlanAll, HasNoScripts};
 ghost use Rattle.lr_chain.specs.Ready.{IsCount};
 
 use crate::looks::{LogLook, Looks, SetLooks};
@@ -11,7 +11,8 @@ use crate::planned::{LogPlan, Plan, SetPlan};
 use crate::settings::Settings;
 use lr_chain::{PrepareStop, prepare};
 use lr_due::{Due, due};
-use lr_rules::{Clock, Fault, Listed, Memory, Moment, Path, Rule, Rules};
+use lr_host::Seen;
+use lr_rules::{Clock, Fault, Listed, Make, Memory, Moment, Path, Rule, Rules};
 use lr_state::State;
 use std::alloc::Global;
 
@@ -35,6 +36,17 @@ fn hindrance(stop: PrepareStop) -> Result<Fault, Memory>
     }
 }
 
+// Whether the log is made anew, and with which mode: the one that is given, else the one that was seen.
+fn made_with(create: Make, seen: &Seen) -> Make
+    ensures { result ≡ make_of create seen.now }
+{
+    match create {
+        Make::No => Make::No,
+        Make::Yes(None) => Make::Yes(seen.mode),
+        Make::Yes(Some(mode)) => Make::Yes(Some(mode)),
+    }
+}
+
 // Adds the plan of a log that is due, or what hinders it.
 fn add_due(
     alloc: Global,
@@ -49,7 +61,8 @@ fn add_due(
     ensures plans { OnOk result (plans.new.items ≡ plans.old.items ++ plans_of rule.now look.now) }
     ensures faults { OnOk result (faults.new.items ≡ faults.old.items ++ hindrances rule.now look.now) }
 {
-    match prepare(alloc, &look.family, &look.stand, rule.count) {
+    let anew = made_with(rule.create, &look.seen);
+    match prepare(alloc, &look.family, &look.stand, rule.count, anew) {
         Ok(ready) => {
             plans.push(LogPlan {
                 pre: None,

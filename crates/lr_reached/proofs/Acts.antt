@@ -11,7 +11,7 @@ use Rattle.lr_plan.specs.declared.looks.LogLook.{LogLook}
 use Rattle.lr_plan.specs.declared.looks.SetLooks.{SetLooks}
 use Rattle.lr_plan.specs.declared.mark.Mark.{Mark}
 use Rattle.lr_plan.specs.declared.step.Step.{Step}
-use Rattle.lr_plan.specs.declared.step.Step.TheVariants.{Removes, Renames, Rotated}
+use Rattle.lr_plan.specs.declared.step.Step.TheVariants.{Removes, Renames, Creates, Rotated}
 use Rattle.lr_plan.specs.Done.{SetsDone}
 use Rattle.lr_plan.specs.Outcomes.{Fails}
 use Rattle.lr_plan.specs.Planned.{all_plans}
@@ -23,10 +23,11 @@ use Rattle.lr_run.proofs.Works.{no_scripts}
 use Rattle.lr_reached.specs.Ending.{NoneEnds}
 use Rattle.lr_reached.proofs.Ends.{none_both, is_none}
 
--- of rules without scripts they are unlinks and renames, which fail by a call
+-- of rules without scripts they are unlinks, renames and makings of logs, which fail by a call
 simple_none : (state : Path) (s : Step) (f : Fault) (ts : List Entry) → IsSimple s → Fails s f ts → NoneEnds state (f ∷ [])
 simple_none state (Removes path) f ts i h = is_none state f (fault.Call call.Unlink path) h.0 (λ e. e)
 simple_none state (Renames from to) f ts i h = is_none state f (fault.Call call.Rename from) h.0 (λ e. e)
+simple_none state (Creates path mode) f ts i h = is_none state f (fault.Call call.Make path) h.0 (λ e. e)
 simple_none state (Rotated log) f ts i h = absurd h
 simple_none state _ f ts i h = absurd i
 

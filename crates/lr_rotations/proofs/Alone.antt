@@ -12,7 +12,7 @@ use Rattle.lr_host.specs.Quiet.{is_disk_change}
 use Rattle.lr_host.specs.Told.{Left, is_told}
 use Rattle.lr_chain.specs.Rotation.{rotation}
 use Rattle.lr_rotations.specs.Members.{IsFamily, AreThere, HaveNext, NoMemberAttached}
-use Rattle.lr_rotations.specs.Rotated.{IsOn, IsRotated}
+use Rattle.lr_rotations.specs.Rotated.{IsBeside, IsRotated}
 use Rattle.lr_rotations.specs.Weave.{Weave}
 use Rattle.lr_rotations.proofs.FamilyRotated.{rotated}
 use Rattle.lr_rotations.proofs.Weaving.{weave_own}
@@ -21,4 +21,4 @@ pub call_rotated : (log : Path) (n : Naming) (c : Count) (places : List ℕ) (be
     → IsFamily log n → HaveNext n c places → NoMemberAttached n (past before) (past after) → AreThere n (names (world (past before))) places → IsFileAt (names (world (past before))) log → IsRotated [] n c log (past before) (past after)
 call_rotated log n c places before after (is_told {es = es} made is) journal family next att stands file =
     rotated [] log n c places (past before) (past after) es family next journal stands file att (λ x none. absurd none) made
-    (subst (λ xs. Weave (IsOn []) xs (filter is_disk_change (reverse es))) is (weave_own (IsOn []) (filter is_disk_change (reverse es))))
+    (subst (λ xs. Weave (IsBeside [] log) xs (filter is_disk_change (reverse es))) is (weave_own (IsBeside [] log) (filter is_disk_change (reverse es))))

@@ -33,7 +33,7 @@ use Rattle.lr_family.specs.Spots.{path_at}
 use Rattle.lr_family.proofs.Numbers.{every_all, every_filter}
 use Rattle.lr_chain.specs.Rotation.{places_of, is_left, leftovers, kept, one_too_many, leftover_steps, shift_steps, turn_steps, retire_steps}
 use Rattle.lr_host.proofs.Each.{each_append}
-use Rattle.lr_rotations.specs.AllTurns.{paths_of_others, other_paths, AllTurns}
+use Rattle.lr_rotations.specs.AllTurns.{IsOf, paths_of_others, other_paths, AllTurns}
 use Rattle.lr_rotations.specs.Apart.{HasNames, HaveNames}
 use Rattle.lr_rotations.specs.Members.{IsFamily, HasName, IsNoMember}
 use Rattle.lr_rotations.specs.Rotated.{AreOutside}
@@ -42,7 +42,7 @@ use Rattle.lr_rotations.proofs.Fitting.{kept_next, first_named, retire_named}
 use Rattle.lr_rotations.proofs.Members.{IsOfMembers, unlinks_of, moves_of}
 use Rattle.lr_rotations.proofs.Outside.{place_name}
 use Rattle.lr_rotations.proofs.Safety.{acts_apart}
-use Rattle.lr_rotations.proofs.Weaving.{IsApart, keyed}
+use Rattle.lr_rotations.proofs.Weaving.{each_in, IsApart, keyed}
 
 -- ---- the paths of a rotation are own names
 
@@ -90,6 +90,12 @@ own_paths t h =
 
     P : Entry → Type 0
     P = AllOwn t.log t.naming
+
+-- of all that is done to the log
+pub own_change : (t : Target) (e : Entry) → HasNames t → IsOf t e → AllOwn t.log t.naming e
+own_change t e h (inl i) = each_in (AllOwn t.log t.naming) (rotation_of t) e (own_paths t h) i
+own_change t (entry.Makes y mode) h (inr is) = λ x i. ⊎_elim (λ same. the_log (sym same ∙ is)) (λ none. absurd none) i
+own_change t _ h (inr none) = absurd none
 
 in_flat : (log : Path) (n : Naming) (es : List Entry) (x : Path) → Each (AllOwn log n) es → IsIn x (flat_map changed_paths es) → IsOwnName log n x
 in_flat log n [] x a i = absurd i

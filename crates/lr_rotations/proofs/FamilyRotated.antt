@@ -8,7 +8,7 @@ use Rattle.lr_rules.specs.declared.rule.Naming.{Naming}
 use Rattle.lr_host.specs.declared.thing.Thing.{Thing}
 use Rattle.lr_host.specs.declared.thing.Thing.TheVariants as thing
 use Rattle.lr_host.specs.declared.entry.Entry.{Entry}
-use Rattle.lr_host.specs.declared.entry.Entry.TheVariants.{Renames, Unlinks}
+use Rattle.lr_host.specs.declared.entry.Entry.TheVariants.{Renames, Makes, MakesDir, Appends, Truncates, Unlinks}
 use Rattle.lr_host.specs.World.{Names, Past, ◌▸◌, world, names, names_after, put, step}
 use Rattle.lr_host.specs.Fits.{IsFileAt}
 use Rattle.lr_host.specs.Opening.{IsJournal}
@@ -31,16 +31,16 @@ use Rattle.lr_chain.specs.Turning.{turned, IsTurned}
 use Rattle.lr_chain.proofs.Falling.{falls_all}
 use Rattle.lr_chain.proofs.Turned as chain
 use Rattle.lr_rotations.specs.Members.{IsFamily, HasName, IsNoMember, NoMemberAttached, AreThere, HaveNext}
-use Rattle.lr_rotations.specs.Rotated.{IsOn, AreOutside, IsBehind, IsNeverAt, IsRotated}
+use Rattle.lr_rotations.specs.Rotated.{IsOn, MakesAt, IsBeside, AreOutside, IsBehind, IsNeverAt, IsRotated}
 use Rattle.lr_rotations.specs.Weave.{Weave}
-use Rattle.lr_rotations.proofs.Fed.{IsTurn, fed_bytes}
+use Rattle.lr_rotations.proofs.Fed.{IsTurnOrMake, fed_bytes}
 use Rattle.lr_rotations.proofs.Fitting.{kept_next, first_named, top_named, next_named, so_standing, retire_named}
 use Rattle.lr_rotations.proofs.Members.{IsOfMembers, unlinks_of, moves_of, AreAlike, members_spare, on_spares, spared_alone, members_walk}
 use Rattle.lr_rotations.proofs.Never.{IsOfFamily, IsWithin, inside_first, never_inside}
-use Rattle.lr_rotations.proofs.OrMade.{IsOrMade, Spares, spared_or_made, drawn_grows, made_behind, made_one, made_more}
+use Rattle.lr_rotations.proofs.OrMade.{IsOrMade, Spares, SparesOrMakes, spared_or_made, spared_or_anew, drawn_grows, made_behind, made_one, made_more}
 use Rattle.lr_rotations.proofs.Paths.{path_other}
 use Rattle.lr_rotations.proofs.Splitting.{SplitAt, split, weave_each}
-use Rattle.lr_rotations.proofs.Weaving.{weave_back, both_put}
+use Rattle.lr_rotations.proofs.Weaving.{weave_as, weave_back, both_put}
 
 -- ---- the rotation, the newest step first
 
@@ -84,10 +84,36 @@ members_within log n (Renames from to) h = inr (h.3.0, h.3.1, h.3.2)
 members_within log n (Unlinks x) h = tt
 members_within log n _ h = absurd h
 
-members_turn : (n : Naming) (e : Entry) → IsOfMembers n e → IsTurn e
+members_turn : (n : Naming) (e : Entry) → IsOfMembers n e → IsTurnOrMake e
 members_turn n (Renames from to) h = tt
 members_turn n (Unlinks x) h = tt
 members_turn n _ h = absurd h
+
+-- ---- the making of the log anew
+
+anew_within : (log : Path) (n : Naming) (e : Entry) → MakesAt log e → IsWithin log n e
+anew_within log n (Makes x mode) h = tt
+anew_within log n _ h = absurd h
+
+anew_turns : (log : Path) (e : Entry) → MakesAt log e → IsTurnOrMake e
+anew_turns log (Makes x mode) h = tt
+anew_turns log _ h = absurd h
+
+anew_spares : (log x : Path) (e : Entry) → x ≢ log → MakesAt log e → Spares x e
+anew_spares log x (Makes y mode) l h = λ same. l (same ∙ h)
+anew_spares log x _ l h = absurd h
+
+-- so what stands between is on these paths and on the log's
+beside_on : (paths : List Path) (log : Path) (e : Entry) → IsBeside paths log e → IsOn (log ∷ paths) e
+beside_on paths log (Renames from to) (inl h) = (inr h.0, inr h.1)
+beside_on paths log (Makes x mode) (inl h) = inr h
+beside_on paths log (MakesDir x mode) (inl h) = inr h
+beside_on paths log (Appends x bytes) (inl h) = inr h
+beside_on paths log (Truncates x) (inl h) = inr h
+beside_on paths log (Unlinks x) (inl h) = inr h
+beside_on paths log (Makes x mode) (inr h) = inl (sym h)
+beside_on paths log _ (inl h) = absurd h
+beside_on paths log _ (inr h) = absurd h
 
 -- what a member names behind a rotation depends on members alone
 pub turned_as : (n : Naming) (c : Count) (t : Thing) (f g : ℕ → Thing) (k : ℕ) → HasName n k → ((j : ℕ) → HasName n j → f j ≡ g j) → turned c t f k ≡ turned c t g k
@@ -103,7 +129,7 @@ stays_file p q x g h is = ⊎_elim (λ same. same ∙ is) (λ new. absurd (nothi
 -- ---- from a moment at which the members stand
 
 module _ (paths : List Path) (log : Path) (n : Naming) (c : Count) (places : List ℕ) (p q : Past) (es : List Entry) (family : IsFamily log n) (next : HaveNext n c places) (journal : IsJournal p) (stands : AreThere n (names (world p)) places)
-    (file : IsFileAt (names (world p)) log) (att : NoMemberAttached n p q) (out : AreOutside paths log n) (made : Made p es q) (woven : Weave (IsOn paths) (rotation n c log places) (filter is_disk_change (reverse es))) where
+    (file : IsFileAt (names (world p)) log) (att : NoMemberAttached n p q) (out : AreOutside paths log n) (made : Made p es q) (woven : Weave (IsBeside paths log) (rotation n c log places) (filter is_disk_change (reverse es))) where
   named : Every (HasName n) places
   named = every_all (HasName n) places stands.named
 
@@ -113,19 +139,26 @@ module _ (paths : List Path) (log : Path) (n : Naming) (c : Count) (places : Lis
   no_member_in : (x : Path) → IsIn x paths → IsNoMember n x
   no_member_in x i = (out x i).1
 
+  no_member_of : (x : Path) → IsIn x (log ∷ paths) → IsNoMember n x
+  no_member_of x (inl is) = subst (IsNoMember n) is no_member
+  no_member_of x (inr i) = no_member_in x i
+
+  on_all : {steps all : List Entry} → Weave (IsBeside paths log) steps all → Weave (IsOn (log ∷ paths)) steps all
+  on_all {steps} {all} w = weave_as (IsBeside paths log) (IsOn (log ∷ paths)) steps all (beside_on paths log) w
+
   no_log : IsIn log paths → ⊥
   no_log i = (out log i).0 refl
 
   rename : Entry
   rename = Renames log (path_at n 0)
 
-  back_woven : Weave (IsOn paths) (newer n c places ++ Renames log (path_at n 0) ∷ older n c places) (filter is_disk_change es)
-  back_woven = subst (λ xs. Weave (IsOn paths) xs (filter is_disk_change es)) (turned_round n c log places)
-      (subst (Weave (IsOn paths) (reverse (rotation n c log places))) (ap reverse (filter_reverse is_disk_change es) ∙ reverse-reverse (filter is_disk_change es))
-      (weave_back (IsOn paths) (rotation n c log places) (filter is_disk_change (reverse es)) woven))
+  back_woven : Weave (IsBeside paths log) (newer n c places ++ Renames log (path_at n 0) ∷ older n c places) (filter is_disk_change es)
+  back_woven = subst (λ xs. Weave (IsBeside paths log) xs (filter is_disk_change es)) (turned_round n c log places)
+      (subst (Weave (IsBeside paths log) (reverse (rotation n c log places))) (ap reverse (filter_reverse is_disk_change es) ∙ reverse-reverse (filter is_disk_change es))
+      (weave_back (IsBeside paths log) (rotation n c log places) (filter is_disk_change (reverse es)) woven))
 
-  at : SplitAt (IsOn paths) p q (older n c places) (Renames log (path_at n 0)) (newer n c places)
-  at = split (IsOn paths) p q es (older n c places) (Renames log (path_at n 0)) (newer n c places) made back_woven
+  at : SplitAt (IsBeside paths log) p q (older n c places) (Renames log (path_at n 0)) (newer n c places)
+  at = split (IsBeside paths log) p q es (older n c places) (Renames log (path_at n 0)) (newer n c places) made back_woven
 
   abbrev t : Past
   t = at.at
@@ -142,24 +175,25 @@ module _ (paths : List Path) (log : Path) (n : Naming) (c : Count) (places : Lis
   first : HasName n 0
   first = first_named n c places next
 
-  -- what no step is on is spared
-  spare_by : (x : Path) → IsNoMember n x → (IsIn x paths → ⊥) → (steps all : List Entry) → Weave (IsOn paths) steps all → Each (IsOfMembers n) steps → Each (Spares x) all
-  spare_by x m o steps all w a = weave_each (IsOn paths) (Spares x) steps all w (each_as (IsOfMembers n) (Spares x) steps (λ e h. members_spare n x e m h) a) (λ e h. on_spares paths x e o h)
+  -- the log's path is spared, but that the log is made anew there
+  spare_by : (steps all : List Entry) → Weave (IsBeside paths log) steps all → Each (IsOfMembers n) steps → Each (SparesOrMakes log) all
+  spare_by steps all w a = weave_each (IsBeside paths log) (SparesOrMakes log) steps all w (each_as (IsOfMembers n) (SparesOrMakes log) steps (λ e h. inl (members_spare n log e no_member h)) a)
+      (λ e h. ⊎_elim (λ on. inl (on_spares paths log e no_log on)) (λ anew. inr anew) h)
 
-  to_turn : (x : Path) → IsNoMember n x → (IsIn x paths → ⊥) → IsOrMade p t x
-  to_turn x m o = spared_or_made p t at.before x at.first (spare_by x m o (older n c places) (filter is_disk_change at.before) at.old_woven older_is)
+  to_turn : IsOrMade p t log
+  to_turn = spared_or_anew p t at.before log at.first (spare_by (older n c places) (filter is_disk_change at.before) at.old_woven older_is)
 
-  from_turn : (x : Path) → IsNoMember n x → (IsIn x paths → ⊥) → IsOrMade u q x
-  from_turn x m o = spared_or_made u q at.after x at.second (spare_by x m o (newer n c places) (filter is_disk_change at.after) at.new_woven newer_is)
+  from_turn : IsOrMade u q log
+  from_turn = spared_or_anew u q at.after log at.second (spare_by (newer n c places) (filter is_disk_change at.after) at.new_woven newer_is)
 
   was_log : names (world t) log ≡ thing.File file.0
-  was_log = stays_file p t log file.0 (to_turn log no_member no_log) file.1
+  was_log = stays_file p t log file.0 to_turn file.1
 
   log_gone : names (world u) log ≡ thing.Nothing
   log_gone = put_other (put (names (world t)) log thing.Nothing) (path_at n 0) log (names (world t) log) (λ e. path_other log n 0 family first e) ∙ put_here (names (world t)) log log thing.Nothing refl
 
   log_now : (names (world q) log ≡ thing.Nothing) ⊎ ((g : ℕ) × (names (world q) log ≡ thing.File g) × ((world t).drawn ≤ g))
-  log_now = ⊎_elim (λ same. inl (same ∙ log_gone)) (λ new. inr (new.1.0, new.1.1, grown new.1.0 new.1.2)) (from_turn log no_member no_log)
+  log_now = ⊎_elim (λ same. inl (same ∙ log_gone)) (λ new. inr (new.1.0, new.1.1, grown new.1.0 new.1.2)) from_turn
     where
       grown : (g : ℕ) → (world u).drawn ≤ g → (world t).drawn ≤ g
       grown g le = let more = drawn_grows (world t) (step (world t) (Renames log (path_at n 0))) in omega (arith, le, more)
@@ -173,7 +207,7 @@ module _ (paths : List Path) (log : Path) (n : Naming) (c : Count) (places : Lis
   behind_old = names_after (names (world p)) (changes_of (older n c places))
 
   old_alike : AreAlike n (names_after (names (world p)) (changes_of (older n c places))) (names (world t))
-  old_alike = members_walk n paths (names (world p)) p t at.before (older n c places) no_member_in at.first (since_before (IsNoMember n) p t q at.before (at.after ++ Renames log (path_at n 0) ∷ []) at.first second_on att) at.old_woven older_is (λ k i. refl)
+  old_alike = members_walk n (log ∷ paths) (names (world p)) p t at.before (older n c places) no_member_of at.first (since_before (IsNoMember n) p t q at.before (at.after ++ Renames log (path_at n 0) ∷ []) at.first second_on att) (on_all at.old_woven) older_is (λ k i. refl)
     where
       second_on : Made t (at.after ++ Renames log (path_at n 0) ∷ []) q
       second_on = made_on t u q (Renames log (path_at n 0) ∷ []) at.after (made_one t (Renames log (path_at n 0)) tt at.fits) at.second
@@ -188,8 +222,8 @@ module _ (paths : List Path) (log : Path) (n : Naming) (c : Count) (places : Lis
 
   all_alike : AreAlike n (names_after (names (world p)) (changes_of (reverse (rotation n c log places)))) (names (world q))
   all_alike = subst (λ (m : Names). AreAlike n m (names (world q))) parts
-      (members_walk n paths (names_after (names (world p)) (changes_of (Renames log (path_at n 0) ∷ older n c places))) u q at.after (newer n c places) no_member_in at.second
-      (since_behind (IsNoMember n) p u q (Renames log (path_at n 0) ∷ at.before) at.after first_on at.second att) at.new_woven newer_is renamed_alike)
+      (members_walk n (log ∷ paths) (names_after (names (world p)) (changes_of (Renames log (path_at n 0) ∷ older n c places))) u q at.after (newer n c places) no_member_of at.second
+      (since_behind (IsNoMember n) p u q (Renames log (path_at n 0) ∷ at.before) at.after first_on at.second att) (on_all at.new_woven) newer_is renamed_alike)
     where
       first_on : Made p (Renames log (path_at n 0) ∷ at.before) u
       first_on = made_more p t (Renames log (path_at n 0)) at.before at.first tt at.fits
@@ -211,18 +245,18 @@ module _ (paths : List Path) (log : Path) (n : Naming) (c : Count) (places : Lis
   steps_by : (P : Entry → Type 0) → ((e : Entry) → IsOfMembers n e → P e) → P (Renames log (path_at n 0)) → Each P (newer n c places ++ Renames log (path_at n 0) ∷ older n c places)
   steps_by P f r = each_append P (newer n c places) (Renames log (path_at n 0) ∷ older n c places) (each_as (IsOfMembers n) P (newer n c places) f newer_is) (r, each_as (IsOfMembers n) P (older n c places) f older_is)
 
-  all_by : (P : Entry → Type 0) → ((e : Entry) → IsOfMembers n e → P e) → P (Renames log (path_at n 0)) → Each (λ e. P e ⊎ IsOn paths e) (filter is_disk_change es)
-  all_by P f r = weave_each (IsOn paths) (λ e. P e ⊎ IsOn paths e) (newer n c places ++ Renames log (path_at n 0) ∷ older n c places) (filter is_disk_change es) back_woven (steps_by (λ e. P e ⊎ IsOn paths e) (λ e h. inl (f e h)) (inl r)) (λ e h. inr h)
+  all_by : (P : Entry → Type 0) → ((e : Entry) → IsOfMembers n e → P e) → ((e : Entry) → MakesAt log e → P e) → P (Renames log (path_at n 0)) → Each (λ e. P e ⊎ IsOn paths e) (filter is_disk_change es)
+  all_by P f g r = weave_each (IsBeside paths log) (λ e. P e ⊎ IsOn paths e) (newer n c places ++ Renames log (path_at n 0) ∷ older n c places) (filter is_disk_change es) back_woven (steps_by (λ e. P e ⊎ IsOn paths e) (λ e h. inl (f e h)) (inl r)) (λ e h. ⊎_elim (λ on. inr on) (λ anew. inl (g e anew)) h)
 
   all_within : Each (λ e. IsWithin log n e ⊎ IsOn paths e) (filter is_disk_change es)
-  all_within = all_by (IsWithin log n) (members_within log n) rename_within
+  all_within = all_by (IsWithin log n) (members_within log n) (anew_within log n) rename_within
 
-  pub all_turn : Each (λ e. IsTurn e ⊎ IsOn paths e) (filter is_disk_change es)
-  all_turn = all_by IsTurn (members_turn n) tt
+  pub all_turn : Each (λ e. IsTurnOrMake e ⊎ IsOn paths e) (filter is_disk_change es)
+  all_turn = all_by IsTurnOrMake (members_turn n) (anew_turns log) tt
 
   all_spare : (x : Path) → x ≢ log → IsNoMember n x → (IsIn x paths → ⊥) → Each (Spares x) (filter is_disk_change es)
-  all_spare x l m o = weave_each (IsOn paths) (Spares x) (newer n c places ++ Renames log (path_at n 0) ∷ older n c places) (filter is_disk_change es) back_woven
-      (steps_by (Spares x) (λ e h. members_spare n x e m h) (l, m 0 first)) (λ e h. on_spares paths x e o h)
+  all_spare x l m o = weave_each (IsBeside paths log) (Spares x) (newer n c places ++ Renames log (path_at n 0) ∷ older n c places) (filter is_disk_change es) back_woven
+      (steps_by (Spares x) (λ e h. members_spare n x e m h) (l, m 0 first)) (λ e h. ⊎_elim (λ on. on_spares paths x e o on) (λ anew. anew_spares log x e l anew) h)
 
   others_now : (x : Path) → x ≢ log → IsNoMember n x → (IsIn x paths → ⊥) → IsOrMade p q x
   others_now x l m o = spared_or_made p q es x made (all_spare x l m o)

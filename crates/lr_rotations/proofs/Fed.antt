@@ -157,6 +157,11 @@ IsTurn (Renames from to) = Unit {0}
 IsTurn (Unlinks x) = Unit {0}
 IsTurn _ = ⊥
 
+-- or the making of a file
+abbrev pub IsTurnOrMake : Entry → Type 0
+IsTurnOrMake (Makes x mode) = Unit {0}
+IsTurnOrMake e = IsTurn e
+
 not_file : (t : Thing) (id : ℕ) → t ≢ thing.File id → is_file t id ≡ false
 not_file t id ne = go (is_file t id) refl
   where
@@ -164,7 +169,7 @@ not_file t id ne = go (is_file t id) refl
     go true e = absurd (ne (is_file_true t id e))
     go false e = refl
 
-feeds_changed : (paths : List Path) (id : ℕ) (p q : Past) (e : Entry) → IsTurn e ⊎ IsOn paths e → IsAtNone paths q id → Feeds id p q → Feeds id p (q ▸ e)
+feeds_changed : (paths : List Path) (id : ℕ) (p q : Past) (e : Entry) → IsTurnOrMake e ⊎ IsOn paths e → IsAtNone paths q id → Feeds id p q → Feeds id p (q ▸ e)
 feeds_changed paths id p q (Renames from to) i n h = feeds_same id p q (q ▸ Renames from to) (omega arith) refl refl h
 feeds_changed paths id p q (Unlinks x) i n h = feeds_same id p q (q ▸ Unlinks x) (omega arith) refl refl h
 feeds_changed paths id p q (MakesDir x mode) i n h = feeds_same id p q (q ▸ MakesDir x mode) (omega arith) refl refl h
@@ -196,7 +201,7 @@ never_size paths id p q e _ (nor_then {q = r} {e = d} a n) is other = let same :
 pub never_before : (paths : List Path) (id : ℕ) (p q : Past) (e : Entry) (es : List Entry) → Made p es q → IsNeverAt paths id p (q ▸ e) → IsNeverAt paths id p q
 never_before paths id p q e es m n = never_size paths id p q e (q ▸ e) n refl (λ same. let a = made_size p q es m in let b : size p ≡ size q + 1 = ap size same in omega (arith, a, b))
 
-feeds_walk : (paths : List Path) (id : ℕ) (p q : Past) (es : List Entry) → IsJournal p → Made p es q → Each (λ e. IsTurn e ⊎ IsOn paths e) (filter is_disk_change es) → IsNeverAt paths id p q → Feeds id p q
+feeds_walk : (paths : List Path) (id : ℕ) (p q : Past) (es : List Entry) → IsJournal p → Made p es q → Each (λ e. IsTurnOrMake e ⊎ IsOn paths e) (filter is_disk_change es) → IsNeverAt paths id p q → Feeds id p q
 feeds_walk paths id p _ _ j at_first a n = feeds_first id p (journal_drawn p j)
 feeds_walk paths id p _ es j (by_writer {q = q} {e = e} m i f) a n =
     feeds_wrote id p q e (journal_drawn q (made_journal p q es m j)) i (feeds_walk paths id p q es j m a (never_before paths id p q e es m n))
@@ -205,12 +210,12 @@ feeds_walk paths id p _ _ j (by_tool {es = es} {q = q} {e = e} m i f) a n = go (
     before : IsNeverAt paths id p q
     before = never_before paths id p q e es m n
 
-    go : (Each (λ e. IsTurn e ⊎ IsOn paths e) (filter is_disk_change es) → Feeds id p q) → (b : Bool) → is_disk_change e ≡ b → Each (λ e. IsTurn e ⊎ IsOn paths e) (cond b (e ∷ filter is_disk_change es) (filter is_disk_change es)) → Feeds id p (q ▸ e)
+    go : (Each (λ e. IsTurnOrMake e ⊎ IsOn paths e) (filter is_disk_change es) → Feeds id p q) → (b : Bool) → is_disk_change e ≡ b → Each (λ e. IsTurnOrMake e ⊎ IsOn paths e) (cond b (e ∷ filter is_disk_change es) (filter is_disk_change es)) → Feeds id p (q ▸ e)
     go further true h a = feeds_changed paths id p q e a.0 (never_last paths id p q before) (further a.1)
     go further false h a = feeds_looked id p q e i h (further a)
 
--- Where the tool's changes are renames, unlinks and those on these paths, the file has its old bytes, none where it was made since, and then what writers fed it.
-pub fed_bytes : (paths : List Path) (id : ℕ) (p q : Past) (es : List Entry) → IsJournal p → Made p es q → Each (λ e. IsTurn e ⊎ IsOn paths e) (filter is_disk_change es) → IsNeverAt paths id p q
+-- Where the tool's changes are renames, unlinks, makings and those on these paths, the file has its old bytes, none where it was made since, and then what writers fed it.
+pub fed_bytes : (paths : List Path) (id : ℕ) (p q : Past) (es : List Entry) → IsJournal p → Made p es q → Each (λ e. IsTurnOrMake e ⊎ IsOn paths e) (filter is_disk_change es) → IsNeverAt paths id p q
     → ((world q).files id).bytes ≡ cond (nat_le ((world p).drawn + 1) (id + 1)) [] ((world p).files id).bytes ++ drop (length (fed p id)) (fed q id)
 fed_bytes paths id p q es j m a n =
     let h : Feeds id p q = feeds_walk paths id p q es j m a n in

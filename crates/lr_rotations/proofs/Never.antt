@@ -54,10 +54,11 @@ never_quiet paths id p _ _ (by_tool {es = es} {q = q} {e = e} m i f) h n =
 abbrev pub IsOfFamily : Path → Naming → Path → Type 0
 IsOfFamily log n x = (x ≡ log) ⊎ ((k : ℕ) × HasName n k × (x ≡ path_at n k))
 
--- the rename goes to a path of the family, or the entry is an unlink
+-- the rename goes to a path of the family, or the entry is an unlink or the making of a file
 abbrev pub IsWithin : Path → Naming → Entry → Type 0
 IsWithin log n (Renames from to) = IsOfFamily log n to
 IsWithin log n (Unlinks x) = Unit {0}
+IsWithin log n (Makes x mode) = Unit {0}
 IsWithin log n _ = ⊥
 
 -- whatever names the file is a path of the family

@@ -1,5 +1,5 @@
 -- What a path names where the tool's changes spare it: what it named, or a file that was made since.
-use Rattle.std.proofs.Common.{◌≡◌, ◌≢◌, ◌⊎◌, inl, inr, ⊎_elim, ℕ, ◌≤◌, Bool, true, false, cond, refl, sym, ◌∙◌, arith, List, [], ◌∷◌}
+use Rattle.std.proofs.Common.{◌≡◌, ◌≢◌, ◌⊎◌, inl, inr, ⊎_elim, ℕ, ◌≤◌, Bool, true, false, cond, refl, sym, ◌∙◌, ap, arith, List, [], ◌∷◌}
 use Rattle.std.specs.Prelude.{filter}
 use Rattle.lr_rules.specs.declared.path.Path.{Path}
 use Rattle.lr_host.specs.declared.thing.Thing.TheVariants as thing
@@ -11,9 +11,10 @@ use Rattle.lr_host.specs.Fits.{Fits}
 use Rattle.lr_host.specs.Told.{Each, IsTools, IsWriters, Made, at_first, by_writer, by_tool}
 use Rattle.lr_host.specs.Quiet.{is_disk_change}
 use Rattle.lr_host.proofs.More.{attach_names}
-use Rattle.lr_host.proofs.Names.{put_other}
+use Rattle.lr_host.proofs.Each.{each_as}
+use Rattle.lr_host.proofs.Names.{put_here, put_other}
 use Rattle.lr_host.proofs.Quiet.{looked_names}
-use Rattle.lr_rotations.specs.Rotated.{IsBehind, itself, one_more}
+use Rattle.lr_rotations.specs.Rotated.{MakesAt, IsBehind, itself, one_more}
 
 -- the path names what it named, or a file that was made since
 abbrev pub IsOrMade : Past → Past → Path → Type 0
@@ -81,11 +82,24 @@ spared_names p (entry.Appends y bytes) x s = refl
 spared_names p (entry.Truncates y) x s = refl
 spared_names p _ x s = absurd s
 
-pub spared_or_made : (p q : Past) (es : List Entry) (x : Path) → Made p es q → Each (Spares x) (filter is_disk_change es) → IsOrMade p q x
-spared_or_made p _ _ x at_first s = inl refl
-spared_or_made p _ es x (by_writer {q = q} {e = e} m i f) s = or_made_on p q (q ▸ e) x (made_drawn p q es m) (spared_or_made p q es x m s) (wrote_or_made q e x i)
-spared_or_made p _ _ x (by_tool {es = es} {q = q} {e = e} m i f) s = go (λ r. spared_or_made p q es x m r) (is_disk_change e) refl s
+-- it spares the path, or makes a file there
+abbrev pub SparesOrMakes : Path → Entry → Type 0
+SparesOrMakes x e = Spares x e ⊎ MakesAt x e
+
+one_or_made : (q : Past) (e : Entry) (x : Path) → Fits (world q) e → SparesOrMakes x e → IsOrMade q (q ▸ e) x
+one_or_made q e x f (inl s) = inl (spared_names q e x s)
+one_or_made q (Makes y mode) x f (inr is) = inr (ap (names (world q)) (sym is) ∙ f.1, ((world q).drawn, put_here (names (world q)) y x (thing.File (world q).drawn) (sym is), omega arith))
+one_or_made q _ x f (inr none) = absurd none
+
+-- where files are made at the path itself, too: it names nothing then
+pub spared_or_anew : (p q : Past) (es : List Entry) (x : Path) → Made p es q → Each (SparesOrMakes x) (filter is_disk_change es) → IsOrMade p q x
+spared_or_anew p _ _ x at_first s = inl refl
+spared_or_anew p _ es x (by_writer {q = q} {e = e} m i f) s = or_made_on p q (q ▸ e) x (made_drawn p q es m) (spared_or_anew p q es x m s) (wrote_or_made q e x i)
+spared_or_anew p _ _ x (by_tool {es = es} {q = q} {e = e} m i f) s = go (λ r. spared_or_anew p q es x m r) (is_disk_change e) refl s
   where
-    go : (Each (Spares x) (filter is_disk_change es) → IsOrMade p q x) → (b : Bool) → is_disk_change e ≡ b → Each (Spares x) (cond b (e ∷ filter is_disk_change es) (filter is_disk_change es)) → IsOrMade p (q ▸ e) x
-    go further true h s = or_made_on p q (q ▸ e) x (made_drawn p q es m) (further s.1) (inl (spared_names q e x s.0))
+    go : (Each (SparesOrMakes x) (filter is_disk_change es) → IsOrMade p q x) → (b : Bool) → is_disk_change e ≡ b → Each (SparesOrMakes x) (cond b (e ∷ filter is_disk_change es) (filter is_disk_change es)) → IsOrMade p (q ▸ e) x
+    go further true h s = or_made_on p q (q ▸ e) x (made_drawn p q es m) (further s.1) (one_or_made q e x f s.0)
     go further false h s = or_made_on p q (q ▸ e) x (made_drawn p q es m) (further s) (inl (looked_names q e x i h))
+
+pub spared_or_made : (p q : Past) (es : List Entry) (x : Path) → Made p es q → Each (Spares x) (filter is_disk_change es) → IsOrMade p q x
+spared_or_made p q es x m s = spared_or_anew p q es x m (each_as (Spares x) (SparesOrMakes x) (filter is_disk_change es) (λ e h. inl h) s)

@@ -1,5 +1,5 @@
 -- What stands between a log's own steps is on the paths of other logs and of the state.
-use Rattle.std.proofs.Common.{◌≡◌, ◌⊎◌, inl, inr, Bool, true, false, cond, bytes_eq, refl, sym, ◌∙◌, ap, subst, List, [], ◌∷◌, ◌++◌, append_assoc}
+use Rattle.std.proofs.Common.{◌≡◌, ◌⊎◌, inl, inr, ℕ, Bool, true, false, cond, bytes_eq, refl, sym, ◌∙◌, ap, subst, List, [], ◌∷◌, ◌++◌, append_assoc}
 use Rattle.std.specs.Prelude.{filter}
 use Rattle.std.specs.List.{flat_map}
 use Rattle.std.proofs.lemmas.Slice.Eq.{bytes_eq-Decides}
@@ -8,7 +8,7 @@ use Rattle.lr_rules.specs.declared.civil.Moment.{Moment}
 use Rattle.lr_rules.specs.declared.rules.Rules.{Rules}
 use Rattle.lr_host.specs.declared.entry.Entry.{Entry}
 use Rattle.lr_host.specs.declared.entry.Entry.TheVariants as entry
-use Rattle.lr_host.specs.declared.entry.Entry.TheVariants.{Renames, Makes, Appends, Unlinks}
+use Rattle.lr_host.specs.declared.entry.Entry.TheVariants.{Renames, Makes, MakesDir, Appends, Truncates, Unlinks}
 use Rattle.lr_host.specs.Lists.{IsIn}
 use Rattle.lr_host.specs.Looks.{Sees, IsFile}
 use Rattle.lr_host.specs.Quiet.{is_disk_change, AreQuiet}
@@ -18,23 +18,28 @@ use Rattle.lr_host.proofs.Each.{all_pass}
 use Rattle.lr_host.proofs.Lists.{in_front, in_back}
 use Rattle.lr_host.proofs.Quiet.{disk_of_changes, quiet_still, still_both}
 use Rattle.lr_laws.specs.Follow.{changed_paths}
-use Rattle.lr_chain.specs.Rotation.{places_of}
+use Rattle.lr_family.specs.Spots.{path_at}
+use Rattle.lr_chain.specs.Rotation.{places_of, leftover_steps, shift_steps, turn_steps, retire_steps}
 use Rattle.lr_chain.proofs.Steps.{each_rotation}
-use Rattle.lr_rotations.specs.AllTurns.{IsStatePath, IsOfState, IsOfOther, StandsBetween, paths_of_others, other_paths, AllTurned}
-use Rattle.lr_rotations.specs.Rotated.{IsOn, RotatesAmong}
+use Rattle.lr_rotations.specs.AllTurns.{IsStatePath, IsOfState, IsOf, IsOfOther, StandsBetween, paths_of_others, other_paths, AllTurned}
+use Rattle.lr_rotations.specs.Rotated.{IsOn, MakesAt, IsBeside, RotatesAmong}
 use Rattle.lr_rotations.specs.Target.{Target, rotation_of, IsSeen, AreSeen, IsOneOf}
 use Rattle.lr_rotations.specs.Weave.{Among, Weave}
-use Rattle.lr_rotations.proofs.Fed.{IsTurn}
+use Rattle.lr_rotations.proofs.Fed.{IsTurn, IsTurnOrMake}
 use Rattle.lr_rotations.proofs.Moments.{shown_in}
 use Rattle.lr_rotations.proofs.Splitting.{weave_each}
 use Rattle.lr_rotations.proofs.Weaving.{weave_as, each_in}
 
 -- ---- on which paths
 
-on_more : (xs ys : List Path) (e : Entry) → IsTurn e → ((x : Path) → IsIn x xs → IsIn x ys) → IsOn xs e → IsOn ys e
-on_more xs ys (Renames from to) t f h = (f from h.0, f to h.1)
-on_more xs ys (Unlinks x) t f h = f x h
-on_more xs ys _ t f h = absurd t
+on_more : (xs ys : List Path) (e : Entry) → ((x : Path) → IsIn x xs → IsIn x ys) → IsOn xs e → IsOn ys e
+on_more xs ys (Renames from to) f h = (f from h.0, f to h.1)
+on_more xs ys (Makes x mode) f h = f x h
+on_more xs ys (MakesDir x mode) f h = f x h
+on_more xs ys (Appends x bytes) f h = f x h
+on_more xs ys (Truncates x) f h = f x h
+on_more xs ys (Unlinks x) f h = f x h
+on_more xs ys _ f h = absurd h
 
 -- a rename or an unlink is on its own paths
 turn_on : (e : Entry) → IsTurn e → IsOn (changed_paths e) e
@@ -44,11 +49,25 @@ turn_on _ t = absurd t
 
 in_on : (es : List Entry) (e : Entry) → IsIn e es → IsTurn e → IsOn (flat_map changed_paths es) e
 in_on [] e i t = absurd i
-in_on (x ∷ xs) e (inl is) t = on_more (changed_paths e) (flat_map changed_paths (x ∷ xs)) e t (λ y h. in_front y (changed_paths x) (flat_map changed_paths xs) (subst (λ (d : Entry). IsIn y (changed_paths d)) (sym is) h)) (turn_on e t)
-in_on (x ∷ xs) e (inr i) t = on_more (flat_map changed_paths xs) (flat_map changed_paths (x ∷ xs)) e t (λ y h. in_back y (changed_paths x) (flat_map changed_paths xs) h) (in_on xs e i t)
+in_on (x ∷ xs) e (inl is) t = on_more (changed_paths e) (flat_map changed_paths (x ∷ xs)) e (λ y h. in_front y (changed_paths x) (flat_map changed_paths xs) (subst (λ (d : Entry). IsIn y (changed_paths d)) (sym is) h)) (turn_on e t)
+in_on (x ∷ xs) e (inr i) t = on_more (flat_map changed_paths xs) (flat_map changed_paths (x ∷ xs)) e (λ y h. in_back y (changed_paths x) (flat_map changed_paths xs) h) (in_on xs e i t)
 
 pub rotation_turns : (t : Target) → Each IsTurn (rotation_of t)
 rotation_turns t = each_rotation IsTurn (λ x. tt) (λ x y. tt) t.naming t.count t.log (places_of t.stand.members)
+
+turn_or_make : (e : Entry) → IsTurn e → IsTurnOrMake e
+turn_or_make (Renames from to) t = tt
+turn_or_make (Unlinks x) t = tt
+turn_or_make _ t = absurd t
+
+make_or_turn : (log : Path) (e : Entry) → MakesAt log e → IsTurnOrMake e
+make_or_turn log (Makes x mode) is = tt
+make_or_turn log _ is = absurd is
+
+-- all that is done to a log is a rename, an unlink or the making of a file
+pub own_turns : (t : Target) (e : Entry) → IsOf t e → IsTurnOrMake e
+own_turns t e (inl i) = turn_or_make e (each_in IsTurn (rotation_of t) e (rotation_turns t) i)
+own_turns t e (inr anew) = make_or_turn t.log e anew
 
 -- what holds of the one list or of the other, holds of those of all other logs
 either : (b : Bool) (log other : Path) (xs ys : List Path) (x : Path) → bytes_eq other log ≡ b → IsIn x xs ⊎ IsIn x ys → ((b ≡ true) → IsIn x xs → ⊥) → IsIn x (cond b ys (xs ++ ys))
@@ -57,16 +76,37 @@ either true log other xs ys x e (inr i) differ = i
 either false log other xs ys x e (inl i) differ = in_front x xs ys i
 either false log other xs ys x e (inr i) differ = in_back x xs ys i
 
-other_turns : (log : Path) (ts : List Target) (e : Entry) → IsOfOther log ts e → IsTurn e
-other_turns log [] e h = absurd h
-other_turns log (t ∷ ts) e (inl h) = each_in IsTurn (rotation_of t) e (rotation_turns t) h.1
-other_turns log (t ∷ ts) e (inr h) = other_turns log ts e h
+-- the log is a path of its rotation
+in_flat : (x : Path) (e : Entry) (es : List Entry) → IsIn e es → IsIn x (changed_paths e) → IsIn x (flat_map changed_paths es)
+in_flat x e [] i h = absurd i
+in_flat x e (d ∷ es) (inl is) h = in_front x (changed_paths d) (flat_map changed_paths es) (subst (λ (c : Entry). IsIn x (changed_paths c)) (sym is) h)
+in_flat x e (d ∷ es) (inr i) h = in_back x (changed_paths d) (flat_map changed_paths es) (in_flat x e es i h)
+
+log_in : (t : Target) → IsIn t.log (flat_map changed_paths (rotation_of t))
+log_in t = in_flat t.log turn (rotation_of t)
+    (in_back turn (leftover_steps t.naming t.count places) (turn_steps t.naming t.count t.log places ++ retire_steps t.naming t.count places)
+    (in_front turn (turn_steps t.naming t.count t.log places) (retire_steps t.naming t.count places) (in_back turn (shift_steps t.naming t.count places) (turn ∷ []) (inl refl)))) (inl refl)
+  where
+    places : List ℕ
+    places = places_of t.stand.members
+
+    turn : Entry
+    turn = Renames t.log (path_at t.naming 0)
+
+-- what is made at one of these paths is on them
+made_on : (paths : List Path) (log : Path) (e : Entry) → IsIn log paths → MakesAt log e → IsOn paths e
+made_on paths log (Makes x mode) i is = subst (λ (y : Path). IsIn y paths) (sym is) i
+made_on paths log _ i is = absurd is
+
+own_on : (t : Target) (e : Entry) → IsOf t e → IsOn (flat_map changed_paths (rotation_of t)) e
+own_on t e (inl i) = in_on (rotation_of t) e i (each_in IsTurn (rotation_of t) e (rotation_turns t) i)
+own_on t e (inr anew) = made_on (flat_map changed_paths (rotation_of t)) t.log e (log_in t) anew
 
 other_on : (log : Path) (ts : List Target) (e : Entry) → IsOfOther log ts e → IsOn (paths_of_others log ts) e
 other_on log [] e h = absurd h
-other_on log (t ∷ ts) e (inl h) = on_more (flat_map changed_paths (rotation_of t)) (paths_of_others log (t ∷ ts)) e (other_turns log (t ∷ ts) e (inl h))
-    (λ x i. either (bytes_eq t.log log) log t.log (flat_map changed_paths (rotation_of t)) (paths_of_others log ts) x refl (inl i) (λ same j. h.0 ((bytes_eq-Decides t.log log).0 same))) (in_on (rotation_of t) e h.1 (other_turns log (t ∷ ts) e (inl h)))
-other_on log (t ∷ ts) e (inr h) = on_more (paths_of_others log ts) (paths_of_others log (t ∷ ts)) e (other_turns log ts e h) (λ x i. behind (bytes_eq t.log log) x i) (other_on log ts e h)
+other_on log (t ∷ ts) e (inl h) = on_more (flat_map changed_paths (rotation_of t)) (paths_of_others log (t ∷ ts)) e
+    (λ x i. either (bytes_eq t.log log) log t.log (flat_map changed_paths (rotation_of t)) (paths_of_others log ts) x refl (inl i) (λ same j. h.0 ((bytes_eq-Decides t.log log).0 same))) (own_on t e h.1)
+other_on log (t ∷ ts) e (inr h) = on_more (paths_of_others log ts) (paths_of_others log (t ∷ ts)) e (λ x i. behind (bytes_eq t.log log) x i) (other_on log ts e h)
   where
     behind : (b : Bool) (x : Path) → IsIn x (paths_of_others log ts) → IsIn x (cond b (paths_of_others log ts) (flat_map changed_paths (rotation_of t) ++ paths_of_others log ts))
     behind true x i = i
@@ -83,9 +123,10 @@ state_on state log ts (Appends x bytes) h = state_in state log ts x h
 state_on state log ts (Unlinks x) h = state_in state log ts x h
 state_on state log ts _ h = absurd h
 
-between_on : (state log : Path) (ts : List Target) (e : Entry) → StandsBetween state log ts e → IsOn (other_paths state log ts) e
-between_on state log ts e (inl h) = on_more (paths_of_others log ts) (other_paths state log ts) e (other_turns log ts e h) (λ x i. inr (inr i)) (other_on log ts e h)
-between_on state log ts e (inr h) = state_on state log ts e h
+between_beside : (state log : Path) (ts : List Target) (e : Entry) → StandsBetween state log ts e → IsBeside (other_paths state log ts) log e
+between_beside state log ts e (inl h) = inl (on_more (paths_of_others log ts) (other_paths state log ts) e (λ x i. inr (inr i)) (other_on log ts e h))
+between_beside state log ts e (inr (inl h)) = inl (state_on state log ts e h)
+between_beside state log ts e (inr (inr anew)) = inr anew
 
 -- ---- all are changes of the disk
 
@@ -98,9 +139,14 @@ on_changes paths (entry.Truncates x) h = refl
 on_changes paths (Unlinks x) h = refl
 on_changes paths _ h = absurd h
 
-disk_changes : (paths : List Path) (x : Target) (acts : List Entry) → Weave (IsOn paths) (rotation_of x) (filter is_change acts) → filter is_change acts ≡ filter is_disk_change acts
-disk_changes paths x acts w = sym (all_pass is_disk_change (filter is_change acts) (weave_each (IsOn paths) (λ e. is_disk_change e ≡ true) (rotation_of x) (filter is_change acts) w
-    (each_rotation (λ e. is_disk_change e ≡ true) (λ x. refl) (λ x y. refl) x.naming x.count x.log (places_of x.stand.members)) (λ e h. on_changes paths e h))) ∙ disk_of_changes acts
+beside_changes : (paths : List Path) (log : Path) (e : Entry) → IsBeside paths log e → is_disk_change e ≡ true
+beside_changes paths log e (inl h) = on_changes paths e h
+beside_changes paths log (Makes x mode) (inr h) = refl
+beside_changes paths log _ (inr h) = absurd h
+
+disk_changes : (paths : List Path) (x : Target) (acts : List Entry) → Weave (IsBeside paths x.log) (rotation_of x) (filter is_change acts) → filter is_change acts ≡ filter is_disk_change acts
+disk_changes paths x acts w = sym (all_pass is_disk_change (filter is_change acts) (weave_each (IsBeside paths x.log) (λ e. is_disk_change e ≡ true) (rotation_of x) (filter is_change acts) w
+    (each_rotation (λ e. is_disk_change e ≡ true) (λ x. refl) (λ x y. refl) x.naming x.count x.log (places_of x.stand.members)) (λ e h. beside_changes paths x.log e h))) ∙ disk_of_changes acts
 
 -- ---- a whole run
 
@@ -128,7 +174,7 @@ run_rotates state now rules reads tail t x read i = record {
   still = still_both reads (starts ∷ t.turns.looks) (quiet_still reads read) (quiet_still t.turns.looks t.turns.quiet);
   log_seen = among_behind (Sees x.log IsFile) starts reads t.turns.looks seen.log_seen;
   seen = shown_in x.naming (places_of x.stand.members) t.turns.looks (reads ++ starts ∷ t.turns.looks) (λ e h. in_back e reads (starts ∷ t.turns.looks) (inr h)) seen.seen;
-  changes = subst (Weave (IsOn paths) (rotation_of x)) (disk_changes paths x t.turns.acts on) on;
+  changes = subst (Weave (IsBeside paths x.log) (rotation_of x)) (disk_changes paths x t.turns.acts on) on;
 }
   where
     starts : Entry
@@ -140,5 +186,5 @@ run_rotates state now rules reads tail t x read i = record {
     seen : IsSeen rules t.turns.looks x
     seen = seen_one rules t.turns.looks t.turns.targets t.turns.seen x i
 
-    on : Weave (IsOn paths) (rotation_of x) (filter is_change t.turns.acts)
-    on = weave_as (StandsBetween state x.log t.turns.targets) (IsOn paths) (rotation_of x) (filter is_change t.turns.acts) (λ e h. between_on state x.log t.turns.targets e h) (t.whole x i)
+    on : Weave (IsBeside paths x.log) (rotation_of x) (filter is_change t.turns.acts)
+    on = weave_as (StandsBetween state x.log t.turns.targets) (IsBeside paths x.log) (rotation_of x) (filter is_change t.turns.acts) (λ e h. between_beside state x.log t.turns.targets e h) (t.whole x i)

@@ -35,7 +35,7 @@ module _ (s : LogSet) (log : Path) (n : Naming) (numbered : n.dated ≡ None) (a
   place_out : (place : ℕ) → HasName n place → in_set s (path_at n place) ≡ false
   place_out place i = apart_outside s log n (path_at n place) apart (inl (place_name log n place numbered i))
 
-  log_out : in_set s log ≡ false
+  pub log_out : in_set s log ≡ false
   log_out = apart_outside s log n log apart (inl (the_log refl))
 
   unlinks_aside : (ls : List ℕ) → Every (HasName n) ls → Each (IsAside s) (map (unlink_at n) ls)

@@ -8,7 +8,7 @@ use Rattle.lr_rules.specs.declared.civil.Moment.{Moment}
 use Rattle.lr_rules.specs.declared.rule.Count.{Count}
 use Rattle.lr_rules.specs.declared.rule.Naming.{Naming}
 use Rattle.lr_rules.specs.declared.rules.Rules.{Rules}
-use Rattle.lr_rules.specs.Names.{IsName}
+use Rattle.lr_rules.specs.Names.{IsName, Meet}
 use Rattle.lr_host.specs.declared.entry.Entry.{Entry}
 use Rattle.lr_host.specs.declared.entry.Entry.TheVariants as entry
 use Rattle.lr_host.specs.declared.journal.Journal.{Journal}
@@ -37,21 +37,22 @@ use Rattle.lr_laws.proofs.Walk.{walk, log_filter}
 use Rattle.lr_family.proofs.Numbers.{every_all}
 use Rattle.lr_chain.specs.Rotation.{places_of, rotation}
 use Rattle.lr_chain.proofs.Steps.{each_rotation}
-use Rattle.lr_rotations.specs.AllTurns.{IsStatePath, IsOfState, IsOfSome, IsOfOther, StandsBetween, AllTurns, MayTurnAll, not_yet, started, IsWholeRun}
+use Rattle.lr_rotations.specs.AllTurns.{IsStatePath, IsOfState, IsOf, IsOfSome, IsOfOther, StandsBetween, AllTurns, MayTurnAll, not_yet, started, IsWholeRun}
 use Rattle.lr_rotations.specs.Apart.{HasNames}
 use Rattle.lr_rotations.specs.Members.{IsFamily, HasName, AreThere, HaveNext}
+use Rattle.lr_rotations.specs.Rotated.{MakesAt}
 use Rattle.lr_rotations.specs.Shown.{Shown}
 use Rattle.lr_rotations.specs.Target.{Target, rotation_of, IsSeen, AreSeen, IsOneOf}
 use Rattle.lr_rotations.specs.Weave.{Among, FirstWoven}
 use Rattle.lr_rotations.proofs.Fitting.{fits}
 use Rattle.lr_rotations.proofs.Given.{gives, no_meet, naming_same, counts}
 use Rattle.lr_rotations.proofs.Moments.{saw_file, shown_members}
-use Rattle.lr_rotations.proofs.Outside.{lies_aside}
+use Rattle.lr_rotations.proofs.Outside.{log_out, lies_aside}
 use Rattle.lr_rotations.proofs.Over.{first_aside}
 use Rattle.lr_rotations.proofs.SeenFits.{seen_names}
 use Rattle.lr_rotations.proofs.Still.{IsStill, quiet_safe_on, made_still}
 use Rattle.lr_rotations.proofs.Turning.{is_one}
-use Rattle.lr_rotations.proofs.Weaving.{each_in, weave_as, weave_back, IsApart, apart_aside, IsWoven, woven}
+use Rattle.lr_rotations.proofs.Weaving.{each_in, weave_as, weave_back, IsApart, IsApartOrMakes, apart_aside, IsWoven, woven}
 
 -- ---- the state's path
 
@@ -121,6 +122,11 @@ apart_of s (entry.Detach writer) i a = a
 apart_of s (entry.Cut kept lengths) i a = a
 apart_of s _ i a = tt
 
+-- a file that is made at a path outside of the set
+made_apart : (s : LogSet) (log : Path) (e : Entry) → in_set s log ≡ false → MakesAt log e → IsApart s e
+made_apart s log (entry.Makes x mode) out is = ap (in_set s) is ∙ out
+made_apart s log _ out is = absurd is
+
 -- ---- what the looks tell of one log
 
 record Known (t : Target) (v : Past) : Type 0 where
@@ -137,15 +143,19 @@ module _ (s : LogSet) (state : Path) (rules : Rules) (u v : Past) (looks : List 
   known : (t : Target) → IsSeen rules looks t → Known t v
   known t seen = record { file = saw_file u v (reverse looks) t.log m quiet_in_order (subst (Among (Sees t.log IsFile)) (sym in_order) seen.log_seen); names_all = seen_names rules looks t seen }
 
-  -- the steps of another log are apart
-  other_apart : (t : Target) → IsSeen rules looks t → t.log ≢ s.log → (e : Entry) → IsIn e (rotation_of t) → IsApart s e
-  other_apart t seen other e i = apart_of s e (each_in IsNoDir (rotation_of t) e (rotation_no_dir t.naming t.count t.log (places_of t.stand.members)) i) (each_in (IsAside s) (rotation_of t) e aside i)
+  -- the steps of another log are apart, and so is its making
+  other_apart : (t : Target) → IsSeen rules looks t → t.log ≢ s.log → (e : Entry) → IsOf t e → IsApart s e
+  other_apart t seen other e h = ⊎_elim (λ i. apart_of s e (each_in IsNoDir (rotation_of t) e (rotation_no_dir t.naming t.count t.log (places_of t.stand.members)) i) (each_in (IsAside s) (rotation_of t) e aside i))
+      (λ anew. made_apart s t.log e (log_out s t.log t.naming seen.family.numbered meets_not) anew) h
     where
       k : Known t v
       k = known t seen
 
+      meets_not : Meet s.log s.naming t.log t.naming → ⊥
+      meets_not = no_meet s u v rules.sets looks t.log t.naming t.count quiet m begun seen.family.numbered here.journal here.steady here.rules_are seen.given k.file other
+
       aside : Each (IsAside s) (rotation_of t)
-      aside = lies_aside s t.log t.naming seen.family.numbered (no_meet s u v rules.sets looks t.log t.naming t.count quiet m begun seen.family.numbered here.journal here.steady here.rules_are seen.given k.file other) t.count (places_of t.stand.members) (every_all (HasName t.naming) (places_of t.stand.members) k.names_all.named) k.names_all.next
+      aside = lies_aside s t.log t.naming seen.family.numbered meets_not t.count (places_of t.stand.members) (every_all (HasName t.naming) (places_of t.stand.members) k.names_all.named) k.names_all.next
 
   others_apart : (ts : List Target) → AreSeen rules looks ts → (e : Entry) → IsOfOther s.log ts e → IsApart s e
   others_apart [] seen e h = absurd h
@@ -172,7 +182,7 @@ module _ (s : LogSet) (state : Path) (rules : Rules) (u v : Past) (looks : List 
       none_of differ ne x (inr i) same = ne x i same
 
   -- the set's own log is turned, with the steps of others between its own
-  own_safe : (t : Target) → IsSeen rules looks t → t.log ≡ s.log → (acts : List Entry) (q : Past) → FirstWoven (IsApart s) (rotation_of t) (filter is_change acts) → Made v (reverse acts) q → NoneAttached s q → IsSafe s q
+  own_safe : (t : Target) → IsSeen rules looks t → t.log ≡ s.log → (acts : List Entry) (q : Past) → FirstWoven (IsApartOrMakes s) (rotation_of t) (filter is_change acts) → Made v (reverse acts) q → NoneAttached s q → IsSafe s q
   own_safe t seen same acts q w mq none_q = (walk s v q rotates.limit (reverse acts) rotates.numbered mq
       (log_filter s (names (world v)) (reverse acts) (subst (LogFits s (names (world v))) (sym (filter_reverse is_change acts)) all.fits))
       (rotation_filter s rotates.limit v q (reverse acts) mq (subst (IsRotation s v rotates.limit) (sym (filter_reverse is_change acts)) all.rotation))
@@ -210,7 +220,7 @@ module _ (s : LogSet) (state : Path) (rules : Rules) (u v : Past) (looks : List 
       split = ap reverse w.first.1 ∙ reverse-append w.made w.first.0
 
       all : IsWoven s v rotates.limit (reverse w.made) (reverse (filter is_change acts))
-      all = woven s v rotates.limit (reverse w.made) (reverse (filter is_change acts)) (weave_back (IsApart s) w.made (filter is_change acts) w.woven)
+      all = woven s v rotates.limit (reverse w.made) (reverse (filter is_change acts)) (weave_back (IsApartOrMakes s) w.made (filter is_change acts) w.woven)
           (later_rotation s v rotates.limit (reverse w.first.0) (reverse w.made) (subst (IsRotation s v rotates.limit) split rotates.rotation))
           (later_fit (names (world v)) (reverse w.first.0) (reverse w.made) (subst (FitAll (names (world v))) split (fits (names (world v)) t.log t.naming t.count places seen.family k.file stands k.names_all.next)))
 
@@ -220,10 +230,12 @@ module _ (s : LogSet) (state : Path) (rules : Rules) (u v : Past) (looks : List 
   acts_safe ts seen acts q all each mq none_q = ⊎_elim own others (find ts)
     where
       own : ((t : Target) × IsOneOf t ts × (t.log ≡ s.log)) → IsSafe s q
-      own f = own_safe f.0 (seen_one ts seen f.0 f.1) f.2 acts q (record { made = (each f.0 f.1).made; first = (each f.0 f.1).first; woven = weave_as _ (IsApart s) _ _ apart (each f.0 f.1).woven }) mq none_q
+      own f = own_safe f.0 (seen_one ts seen f.0 f.1) f.2 acts q (record { made = (each f.0 f.1).made; first = (each f.0 f.1).first; woven = weave_as _ (IsApartOrMakes s) _ _ apart (each f.0 f.1).woven }) mq none_q
         where
-          apart : (e : Entry) → StandsBetween state f.0.log ts e → IsApart s e
-          apart e h = ⊎_elim (λ o. others_apart ts seen e (subst (λ (x : Path). IsOfOther x ts e) f.2 o)) (λ o. state_apart s state rules v here e o) h
+          apart : (e : Entry) → StandsBetween state f.0.log ts e → IsApartOrMakes s e
+          apart e (inl o) = inl (others_apart ts seen e (subst (λ (x : Path). IsOfOther x ts e) f.2 o))
+          apart e (inr (inl o)) = inl (state_apart s state rules v here e o)
+          apart e (inr (inr anew)) = inr (subst (λ (x : Path). MakesAt x e) f.2 anew)
 
       others : ((t : Target) → IsOneOf t ts → t.log ≢ s.log) → IsSafe s q
       others ne = aside_walked s v q (reverse acts) here.journal here.safe mq

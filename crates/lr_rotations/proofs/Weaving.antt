@@ -17,6 +17,7 @@ use Rattle.lr_host.specs.Steps.{changes_of, FitAll}
 use Rattle.lr_host.specs.Sets.{LogSet, in_set}
 use Rattle.lr_host.proofs.Names.{put_other}
 use Rattle.lr_laws.specs.Rotation.{IsAside, IsStep, limit_by, limit_after, IsRotation, LogFits}
+use Rattle.lr_rotations.specs.Rotated.{MakesAt}
 use Rattle.lr_rotations.specs.Weave.{Weave, none, own, other}
 
 -- ---- lists
@@ -155,7 +156,16 @@ pub record IsWoven (s : LogSet) (p : Past) (limit : ℕ) (os es : List Entry) : 
 pub log_there : (s : LogSet) (n : Names) (e : Entry) (to : Path) → e ≡ Renames s.log to → CanCall n e → IsFileAt n s.log
 log_there s n e to is can = (subst (CanCall n) is can).0
 
-pub woven : (s : LogSet) (p : Past) (limit : ℕ) (os es : List Entry) → Weave (IsApart s) os es → IsRotation s p limit os → FitAll (names (world p)) os → IsWoven s p limit os es
+-- the entry is apart, or makes the set's log anew
+abbrev pub IsApartOrMakes : LogSet → Entry → Type 0
+IsApartOrMakes s e = IsApart s e ⊎ MakesAt s.log e
+
+-- the making of the log is a step of the rotation, and changes no name that the rotation asks for
+anew_more : (s : LogSet) (p : Past) (limit : ℕ) (os es : List Entry) (e : Entry) → MakesAt s.log e → IsWoven s p limit os es → IsWoven s p limit os (e ∷ es)
+anew_more s p limit os es (Makes x mode) is k = record { rotation = (k.rotation, inr is); fits = (k.fits, λ to renames. absurd (cc)); limits = k.limits; alike = k.alike }
+anew_more s p limit os es _ is k = absurd is
+
+pub woven : (s : LogSet) (p : Past) (limit : ℕ) (os es : List Entry) → Weave (IsApartOrMakes s) os es → IsRotation s p limit os → FitAll (names (world p)) os → IsWoven s p limit os es
 woven s p limit _ _ none rot fit = record { rotation = tt; fits = tt; limits = refl; alike = λ y i. refl }
 woven s p limit _ _ (own {steps = os} {all = es} e w) rot fit = more (woven s p limit os es w rot.0 fit.0)
   where
@@ -173,7 +183,8 @@ woven s p limit _ _ (own {steps = os} {all = es} e w) rot fit = more (woven s p 
       limits = own_limit s limit os es e k.limits;
       alike = own_alike s p (limit_after s limit os) n os es e rot.1 k.alike;
     }
-woven s p limit os _ (other {all = es} e out w) rot fit = more (woven s p limit os es w rot fit)
+woven s p limit os _ (other {all = es} e (inr anew) w) rot fit = anew_more s p limit os es e anew (woven s p limit os es w rot fit)
+woven s p limit os _ (other {all = es} e (inl out) w) rot fit = more (woven s p limit os es w rot fit)
   where
     n : Names
     n = names (world p)

@@ -23,10 +23,10 @@ use Rattle.lr_family.specs.declared.stand.Stand.{Stand}
 use Rattle.lr_family.specs.Spots.{path_at}
 use Rattle.lr_chain.specs.Rotation.{places_of, rotation}
 use Rattle.lr_rotations.specs.Members.{IsFamily, HasName, AreThere, HaveNext, NoMemberAttached, IsNoMember}
-use Rattle.lr_rotations.specs.Rotated.{IsOn, AreOutside, IsNeverAt, IsRotated, IsRotatedWhole, RotatesAmong}
+use Rattle.lr_rotations.specs.Rotated.{IsOn, IsBeside, AreOutside, IsNeverAt, IsRotated, IsRotatedWhole, RotatesAmong}
 use Rattle.lr_rotations.specs.Weave.{Weave}
 use Rattle.lr_rotations.proofs.FamilyRotated.{rotated, all_turn, turned_as}
-use Rattle.lr_rotations.proofs.Fed.{IsTurn, fed_bytes, never_first}
+use Rattle.lr_rotations.proofs.Fed.{IsTurnOrMake, fed_bytes, never_first}
 use Rattle.lr_rotations.proofs.Moments.{SawFile, saw_one, shown_in, quiet_members, members_before, members_behind}
 use Rattle.lr_rotations.proofs.Never.{never_on, never_quiet}
 use Rattle.lr_rotations.proofs.OrMade.{IsOrMade, Spares, spared_or_made, or_made_on, made_drawn, made_behind, behind_on}
@@ -87,14 +87,14 @@ module _ (paths : List Path) (log : Path) (n : Naming) (c : Count) (stand : Stan
   att_v : NoMemberAttached n v q
   att_v = since_behind (IsNoMember n) p v q (reverse front) (reverse back) cut.first cut.second att
 
-  woven : Weave (IsOn paths) (rotation n c log places) (filter is_disk_change (reverse (reverse back)))
-  woven = subst (λ es. Weave (IsOn paths) (rotation n c log places) (filter is_disk_change es)) (sym (reverse-reverse back)) over.changes
+  woven : Weave (IsBeside paths log) (rotation n c log places) (filter is_disk_change (reverse (reverse back)))
+  woven = subst (λ es. Weave (IsBeside paths log) (rotation n c log places) (filter is_disk_change es)) (sym (reverse-reverse back)) over.changes
 
   later : IsRotated paths n c log v q
   later = rotated paths log n c places v q (reverse back) family next journal_v stands file att_v out cut.second woven
 
-  turns : Each (λ e. IsTurn e ⊎ IsOn paths e) (filter is_disk_change es)
-  turns = subst (Each (λ e. IsTurn e ⊎ IsOn paths e)) (sym all) (all_turn paths log n c places v q (reverse back) family next journal_v stands file att_v out cut.second woven)
+  turns : Each (λ e. IsTurnOrMake e ⊎ IsOn paths e) (filter is_disk_change es)
+  turns = subst (Each (λ e. IsTurnOrMake e ⊎ IsOn paths e)) (sym all) (all_turn paths log n c places v q (reverse back) family next journal_v stands file att_v out cut.second woven)
     where
       all : filter is_disk_change es ≡ filter is_disk_change (reverse back)
       all = ap (filter is_disk_change) backwards ∙ (filter-append is_disk_change (reverse back) (reverse front) ∙ (ap (λ xs. filter is_disk_change (reverse back) ++ xs) still ∙ append-nil (filter is_disk_change (reverse back))))

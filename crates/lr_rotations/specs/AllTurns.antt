@@ -11,6 +11,7 @@ use Rattle.lr_host.specs.Quiet.{AreQuiet}
 use Rattle.lr_host.specs.Steps.{is_change}
 use Rattle.lr_host.specs.Told.{Each}
 use Rattle.lr_laws.specs.Follow.{changed_paths}
+use Rattle.lr_rotations.specs.Rotated.{MakesAt}
 use Rattle.lr_rotations.specs.Target.{Target, rotation_of, AreSeen, IsOneOf}
 use Rattle.lr_rotations.specs.Weave.{Weave, FirstWoven}
 
@@ -26,19 +27,23 @@ IsOfState state (entry.Appends x bytes) = IsStatePath state x
 IsOfState state (entry.Unlinks x) = IsStatePath state x
 IsOfState state _ = ⊥
 
--- the entry is a step of the rotation of one of these logs
+-- the entry is a step of the rotation of this log, or makes it anew
+abbrev pub IsOf : Target → Entry → Type 0
+IsOf t e = IsIn e (rotation_of t) ⊎ MakesAt t.log e
+
+-- of one of these logs
 abbrev pub IsOfSome : List Target → Entry → Type 0
 IsOfSome [] e = ⊥
-IsOfSome (t ∷ ts) e = IsIn e (rotation_of t) ⊎ IsOfSome ts e
+IsOfSome (t ∷ ts) e = IsOf t e ⊎ IsOfSome ts e
 
 -- of one that is another than this
 abbrev pub IsOfOther : Path → List Target → Entry → Type 0
 IsOfOther log [] e = ⊥
-IsOfOther log (t ∷ ts) e = ((t.log ≢ log) × IsIn e (rotation_of t)) ⊎ IsOfOther log ts e
+IsOfOther log (t ∷ ts) e = ((t.log ≢ log) × IsOf t e) ⊎ IsOfOther log ts e
 
--- of another log, or of the state: what may stand between this log's own
+-- of another log, or of the state, or the making of this log anew: what may stand between the steps of this log's rotation
 abbrev pub StandsBetween : Path → Path → List Target → Entry → Type 0
-StandsBetween state log targets e = IsOfOther log targets e ⊎ IsOfState state e
+StandsBetween state log targets e = IsOfOther log targets e ⊎ (IsOfState state e ⊎ MakesAt log e)
 
 -- the paths that the steps of other logs change, and those of the state
 abbrev pub paths_of_others : Path → List Target → List Path
@@ -48,7 +53,7 @@ paths_of_others log (t ∷ ts) = cond (bytes_eq t.log log) (paths_of_others log 
 abbrev pub other_paths : Path → Path → List Target → List Path
 other_paths state log targets = state ∷ (state ++ codes ".tmp") ∷ paths_of_others log targets
 
--- All logs were looked at while nothing was changed. Of the changes behind that, each is a step of one of the logs or is the state's; seen from each log, they are a first part of its own rotation, in order, with the steps of others between.
+-- All logs were looked at while nothing was changed. Of the changes behind that, each is a step of one of the logs, or makes it anew, or is the state's; seen from each log, they are a first part of its own rotation, in order, with the steps of others between, and the making of the log.
 pub record AllTurns (state : Path) (rules : Rules) (ts : List Entry) : Type 0 where
   pub looks : List Entry
   pub acts : List Entry

@@ -41,6 +41,15 @@ IsOn paths (Truncates x) = IsIn x paths
 IsOn paths (Unlinks x) = IsIn x paths
 IsOn paths _ = ⊥
 
+-- the entry makes a file at this path
+abbrev pub MakesAt : Path → Entry → Type 0
+MakesAt log (Makes x mode) = x ≡ log
+MakesAt log _ = ⊥
+
+-- it changes these paths alone, or makes this log anew
+abbrev pub IsBeside : List Path → Path → Entry → Type 0
+IsBeside paths log e = IsOn paths e ⊎ MakesAt log e
+
 -- none of them is the log's or a member's
 abbrev pub AreOutside : List Path → Path → Naming → Type 0
 AreOutside paths log n = (x : Path) → IsIn x paths → (x ≢ log) × IsNoMember n x
@@ -56,7 +65,7 @@ pub data IsNeverAt (paths : List Path) (id : ℕ) (p : Past) : Past → Type 0 w
 
 -- ---- the family
 
--- The family was rotated between the two pasts, while the tool's other changes were on these paths.
+-- The family was rotated between the two pasts, while the tool's other changes were on these paths, or made the log anew.
 pub record IsRotated (paths : List Path) (n : Naming) (c : Count) (log : Path) (before after : Past) : Type 0 where
   -- just before the log was renamed
   pub turning : Past
@@ -68,7 +77,7 @@ pub record IsRotated (paths : List Path) (n : Naming) (c : Count) (log : Path) (
   pub at_first : (names (world before) log ≡ thing.File file) ⊎ ((names (world before) log ≡ thing.Nothing) × ((world before).drawn ≤ file))
   -- each member has its file, by identity
   pub members : (place : ℕ) → HasName n place → names (world after) (path_at n place) ≡ turned c (thing.File file) (λ k. names (world before) (path_at n k)) place
-  -- the log's path names nothing, or a file that a writer made since
+  -- the log's path names nothing, or a file that was made since, by a writer or anew
   pub log_now : (names (world after) log ≡ thing.Nothing) ⊎ ((g : ℕ) × (names (world after) log ≡ thing.File g) × ((world turning).drawn ≤ g))
   -- each other path, but for these, names what it named, or a file that a writer made since
   pub others : (x : Path) → x ≢ log → IsNoMember n x → (IsIn x paths → ⊥)
@@ -86,7 +95,7 @@ pub record IsRotatedWhole (paths : List Path) (n : Naming) (c : Count) (log : Pa
   pub until : IsBehind first rotated.turning
   pub log_stood : names (world first) log ≡ thing.File rotated.file
 
--- The log was seen, a file, and its members, where nothing of the disk was changed; and then the changes are the rotation of the members that were seen, in order, with others on these paths between.
+-- The log was seen, a file, and its members, where nothing of the disk was changed; and then the changes are the rotation of the members that were seen, in order, with others on these paths between, and the making of the log anew.
 pub record RotatesAmong (paths : List Path) (log : Path) (n : Naming) (c : Count) (stand : Stand) (ts : List Entry) : Type 0 where
   pub front : List Entry
   pub back : List Entry
@@ -94,4 +103,4 @@ pub record RotatesAmong (paths : List Path) (log : Path) (n : Naming) (c : Count
   pub still : ChangeNothing front
   pub log_seen : Among (Sees log IsFile) front
   pub seen : Shown n (places_of stand.members) front
-  pub changes : Weave (IsOn paths) (rotation n c log (places_of stand.members)) (filter is_disk_change back)
+  pub changes : Weave (IsBeside paths log) (rotation n c log (places_of stand.members)) (filter is_disk_change back)

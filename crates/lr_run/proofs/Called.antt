@@ -11,7 +11,7 @@ use Rattle.lr_state.specs.Table.{Entry as Row}
 use Rattle.lr_plan.specs.declared.looks.SetLooks.{SetLooks}
 use Rattle.lr_plan.specs.declared.mark.Mark.{Mark}
 use Rattle.lr_plan.specs.declared.step.Step.{Step}
-use Rattle.lr_plan.specs.declared.step.Step.TheVariants.{Removes, Renames, Rotated}
+use Rattle.lr_plan.specs.declared.step.Step.TheVariants.{Removes, Renames, Creates, Rotated}
 use Rattle.lr_host.specs.Counted.{call_in, calls_in}
 use Rattle.lr_plan.specs.Done.{PlanDone}
 use Rattle.lr_plan.specs.Outcomes.{Fails}
@@ -59,6 +59,7 @@ is_call f g e h = (ap call_in e ∙ h, tt)
 step_called : (s : Step) (f : Fault) (ts : List Entry) → IsSimple s → Fails s f ts → AreCalls (f ∷ [])
 step_called (Removes path) f ts i h = is_call f (fault.Call call.Unlink path) h.0 refl
 step_called (Renames from to) f ts i h = is_call f (fault.Call call.Rename from) h.0 refl
+step_called (Creates path mode) f ts i h = is_call f (fault.Call call.Make path) h.0 refl
 step_called (Rotated log) f ts i h = absurd h
 step_called _ f ts i h = absurd i
 

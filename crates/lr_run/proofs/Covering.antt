@@ -27,8 +27,9 @@ use Rattle.lr_plan.specs.declared.planned.SetPlan.{SetPlan}
 use Rattle.lr_rotations.specs.AllTurns.{IsOfSome}
 use Rattle.lr_rotations.specs.Apart.{HasNames, HaveNames}
 use Rattle.lr_rotations.specs.Members.{HasName}
+use Rattle.lr_rotations.specs.Rotated.{MakesAt}
 use Rattle.lr_rotations.specs.Target.{Target, rotation_of, IsOneOf}
-use Rattle.lr_rotations.proofs.Apart.{AllOwn, own_paths}
+use Rattle.lr_rotations.proofs.Apart.{own_change}
 use Rattle.lr_rotations.proofs.Fitting.{kept_next, first_named, retire_named}
 use Rattle.lr_rotations.proofs.Members.{IsOfMembers, unlinks_of, moves_of}
 use Rattle.lr_rotations.proofs.Paths.{path_parent}
@@ -91,6 +92,11 @@ of_members log n (Renames from to) h x (inr (inr none)) = absurd none
 of_members log n (Unlinks y) h x (inl is) = inr (h.0, h.1, sym is ∙ h.2)
 of_members log n (Unlinks y) h x (inr none) = absurd none
 of_members log n _ h x i = absurd h
+
+of_anew : (log : Path) (n : Naming) (e : Entry) → MakesAt log e → IsOnFamily log n e
+of_anew log n (entry.Makes y mode) is x (inl same) = inl (sym same ∙ is)
+of_anew log n (entry.Makes y mode) is x (inr none) = absurd none
+of_anew log n _ is x i = absurd is
 
 of_rename : (log : Path) (n : Naming) → HasName n 0 → IsOnFamily log n (Renames log (path_at n 0))
 of_rename log n first x (inl is) = inl (sym is)
@@ -157,12 +163,12 @@ within_family part paths dirs t e a h c f x i = inr (⊎_elim
 
 pub some_within : (part : Path) (paths dirs : List Path) (ts : List Target) (e : Entry) → AreDirectoriesOf paths dirs → HaveNames ts → ((t : Target) → IsOneOf t ts → IsCovered paths t) → IsOfSome ts e → IsWithin part dirs e
 some_within part paths dirs [] e a h c i = absurd i
-some_within part paths dirs (t ∷ ts) e a h c (inl i) = within_family part paths dirs t e a h.0 (c t (inl refl)) (each_in (IsOnFamily t.log t.naming) (rotation_of t) e (on_family t h.0) i)
+some_within part paths dirs (t ∷ ts) e a h c (inl i) = within_family part paths dirs t e a h.0 (c t (inl refl)) (⊎_elim (λ j. each_in (IsOnFamily t.log t.naming) (rotation_of t) e (on_family t h.0) j) (λ anew. of_anew t.log t.naming e anew) i)
 some_within part paths dirs (t ∷ ts) e a h c (inr i) = some_within part paths dirs ts e a h.1 (λ u j. c u (inr j)) i
 
 pub some_aside : (state : Path) (ts : List Target) (e : Entry) → HaveNames ts → AreFreeOf (reserved_by state) ts → IsOfSome ts e → IsAsideOf state e
 some_aside state [] e h free i = absurd i
-some_aside state (t ∷ ts) e h free (inl i) = λ changed. free.0 state (inl refl) (inl (each_in (AllOwn t.log t.naming) (rotation_of t) e (own_paths t h.0) i state changed))
+some_aside state (t ∷ ts) e h free (inl i) = λ changed. free.0 state (inl refl) (inl (own_change t e h.0 i state changed))
 some_aside state (t ∷ ts) e h free (inr i) = some_aside state ts e h.1 free.1 i
 
 pub groups_within : (part : Path) (dirs : List Path) (groups : List (List Target)) (sets : List SetPlan) (e : Entry) → AreDirectoriesOf (all_changed_of sets) dirs → HaveLogs groups sets → HaveNames (flat_map (λ ts. ts) groups) → IsOfSome (flat_map (λ ts. ts) groups) e → IsWithin part dirs e

@@ -32,9 +32,9 @@ use Rattle.lr_plan.specs.Steps.{steps_of_set}
 use Rattle.lr_rotations.specs.AllTurns.{IsOfSome}
 use Rattle.lr_rotations.specs.Apart.{HaveNames}
 use Rattle.lr_rotations.specs.Target.{Target}
-use Rattle.lr_weave.specs.Parts.{ArePlanned, parts_of_sets}
+use Rattle.lr_weave.specs.Parts.{ArePlanned}
 use Rattle.lr_weave.specs.Planned.{HaveLogs}
-use Rattle.lr_weave.proofs.Parting.{sets_parts, all_parts}
+use Rattle.lr_weave.proofs.Parting.{done_some}
 use Rattle.lr_weave.proofs.Planning.{ready_planned}
 use Rattle.lr_fields.specs.Built.{AreBuiltRules}
 use Rattle.lr_seen.specs.Targets.{groups_of, all_targets}
@@ -198,7 +198,7 @@ module _ (state : Path) (rules : Rules) (now : Moment) (force : Bool) (built : A
     have_names = targets_have_names rules l.sets l.of_looks l.looks decide built l.shown
 
     of_logs : Each (IsOfSome targets) (filter is_change acts)
-    of_logs = all_parts (IsOfSome targets) (parts_of_sets (map steps_of_set (plan_in state rules.sets ts l now force).sets)) (filter is_change acts) planned.all (sets_parts (map steps_of_set (plan_in state rules.sets ts l now force).sets) w.acted.marks w.acted.entries.of_plan acts planned.plain w.acted.entries.entries.first)
+    of_logs = done_some targets (map steps_of_set (plan_in state rules.sets ts l now force).sets) w.acted.marks w.acted.entries.of_plan acts planned w.acted.entries.entries.first
 
     in_three : ts ≡ ((l.reads ++ l.looks) ++ acts) ++ w.acted.entries.entries.back
     in_three = in_parts state rules.sets now force own ts w

@@ -105,14 +105,14 @@ written state rules ts us t a = record {
   all = subst (Each (λ e. IsOfSome t.targets e ⊎ IsOfState state e)) (sym (filter-append is_change t.acts us))
       (each_append (λ e. IsOfSome t.targets e ⊎ IsOfState state e) (filter is_change t.acts) (filter is_change us) t.all (each_as (IsOfState state) (λ e. IsOfSome t.targets e ⊎ IsOfState state e) (filter is_change us) (λ e h. inr h) a));
   each = λ x h. subst (FirstWoven (StandsBetween state x.log t.targets) (rotation_of x)) (sym (filter-append is_change t.acts us))
-      (first_behind (StandsBetween state x.log t.targets) (rotation_of x) (filter is_change t.acts) (filter is_change us) (t.each x h) (each_as (IsOfState state) (StandsBetween state x.log t.targets) (filter is_change us) (λ e h. inr h) a));
+      (first_behind (StandsBetween state x.log t.targets) (rotation_of x) (filter is_change t.acts) (filter is_change us) (t.each x h) (each_as (IsOfState state) (StandsBetween state x.log t.targets) (filter is_change us) (λ e h. inr (inl h)) a));
 }
 
 abbrev pub written_whole : (state : Path) (rules : Rules) (ts us : List Entry) → AllTurned state rules ts → Each (IsOfState state) (filter is_change us) → AllTurned state rules (ts ++ us)
 written_whole state rules ts us t a = record {
   turns = written state rules ts us t.turns a;
   whole = λ x h. subst (Weave (StandsBetween state x.log t.turns.targets) (rotation_of x)) (sym (filter-append is_change t.turns.acts us))
-      (woven_behind (StandsBetween state x.log t.turns.targets) (rotation_of x) (filter is_change t.turns.acts) (filter is_change us) (t.whole x h) (each_as (IsOfState state) (StandsBetween state x.log t.turns.targets) (filter is_change us) (λ e h. inr h) a));
+      (woven_behind (StandsBetween state x.log t.turns.targets) (rotation_of x) (filter is_change t.turns.acts) (filter is_change us) (t.whole x h) (each_as (IsOfState state) (StandsBetween state x.log t.turns.targets) (filter is_change us) (λ e h. inr (inl h)) a));
 }
 
 -- ---- what was seen behind a reading

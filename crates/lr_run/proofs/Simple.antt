@@ -1,9 +1,12 @@
--- The steps of a plan of rules without scripts: unlinks, renames and marks alone.
+-- The steps of a plan of rules without scripts: unlinks, renames, makings of logs and marks alone.
 use Rattle.std.proofs.Common.{◌≡◌, inl, inr, ℕ, Bool, true, false, not, List, [], ◌∷◌, ◌++◌, map, Option, None, refl, sym, ap, subst}
 use Rattle.std.specs.List.{flat_map}
 use Rattle.lr_rules.specs.declared.fault.Fault.{Fault}
 use Rattle.lr_rules.specs.declared.fault.Phase.{Phase}
 use Rattle.lr_rules.specs.declared.fault.Phase.TheVariants as phase
+use Rattle.lr_rules.specs.declared.path.Path.{Path}
+use Rattle.lr_rules.specs.declared.rule.Make.{Make}
+use Rattle.lr_rules.specs.declared.rule.Make.TheVariants as make
 use Rattle.lr_rules.specs.declared.rule.Naming.{Naming}
 use Rattle.lr_rules.specs.declared.rule.Rule.{Rule}
 use Rattle.lr_due.specs.declared.answer.Due.{Due}
@@ -16,15 +19,16 @@ use Rattle.lr_plan.specs.declared.looks.SetLooks.{SetLooks}
 use Rattle.lr_plan.specs.declared.planned.LogPlan.{LogPlan}
 use Rattle.lr_plan.specs.declared.planned.SetPlan.{SetPlan}
 use Rattle.lr_plan.specs.declared.step.Step.{Step}
-use Rattle.lr_plan.specs.declared.step.Step.TheVariants.{Runs, Removes, Renames, Copies, Rotated}
+use Rattle.lr_plan.specs.declared.step.Step.TheVariants.{Runs, Removes, Renames, Creates, Copies, Rotated}
 use Rattle.lr_plan.specs.Planned.{script, where_so, hindrances, ready_for, log_plan, none_hinders, plans_of, where_due, log_plans, set_plan, all_plans, HasNoScripts}
-use Rattle.lr_plan.specs.Steps.{program, removals, move, rotation_of, retirement_of, steps_of_log, shared_steps, by_logs, steps_of_set}
+use Rattle.lr_plan.specs.Steps.{program, removals, move, made_anew, rotation_of, retirement_of, steps_of_log, shared_steps, by_logs, steps_of_set}
 use Rattle.lr_acts.specs.Making.{IsBuilt, AreBuilt, IsProgram, HasProgram, all_of_each, all_of_set, all_of_sets}
 
--- an unlink, a rename, or no call: it fails by a call alone
+-- an unlink, a rename, the making of a log, or no call: it fails by a call alone
 abbrev pub IsSimple : Step → Type 0
 IsSimple (Removes path) = Unit {0}
 IsSimple (Renames from to) = Unit {0}
+IsSimple (Creates path mode) = Unit {0}
 IsSimple (Rotated log) = Unit {0}
 IsSimple _ = ⊥
 
@@ -79,6 +83,10 @@ moves_simple : (ms : List Move) → AreSimple (map move ms)
 moves_simple [] = tt
 moves_simple (m ∷ ms) = (tt, moves_simple ms)
 
+anew_simple : (m : Make) (log : Path) → AreSimple (made_anew m log None)
+anew_simple make.No log = tt
+anew_simple (make.Yes mode) log = (tt, tt)
+
 -- of each log: its rotation, its retirement, and no programs
 record IsBare (log : LogPlan) : Type 0 where
   rotation : AreSimple (rotation_of log)
@@ -92,7 +100,7 @@ AreBare (log ∷ logs) = IsBare log × AreBare logs
 
 log_bare : (rule : Rule) (look : LogLook) → HasNoScripts rule.scripts → IsBare (log_plan rule look)
 log_bare rule look h = record {
-  rotation = simple_both (removals (ready_for rule look).leftovers) _ (removals_simple look.family.naming _) (simple_both (map move (ready_for rule look).moves) _ (moves_simple (ready_for rule look).moves) (tt, (tt, tt)));
+  rotation = simple_both (removals (ready_for rule look).leftovers) _ (removals_simple look.family.naming _) (simple_both (map move (ready_for rule look).moves) _ (moves_simple (ready_for rule look).moves) (tt, (tt, anew_simple (ready_for rule look).make look.path)));
   retirement = removals_simple look.family.naming _;
   pre = nowhere (not rule.shared) (script rule.scripts.pre (look.path ∷ [])) (no_script rule.scripts.pre (look.path ∷ []) h.pre);
   post = nowhere (not rule.shared) _ (no_script rule.scripts.post _ h.post);

@@ -14,7 +14,7 @@ use Rattle.lr_host.proofs.Each.{each_append, each_in_order}
 use Rattle.lr_plan.specs.declared.mark.Mark.{Mark}
 use Rattle.lr_plan.specs.declared.step.SetSteps.{SetSteps}
 use Rattle.lr_plan.specs.declared.step.Step.{Step}
-use Rattle.lr_plan.specs.declared.step.Step.TheVariants.{Removes, Renames, Rotated}
+use Rattle.lr_plan.specs.declared.step.Step.TheVariants.{Removes, Renames, Creates, Rotated}
 use Rattle.lr_plan.specs.Outcomes.{Succeeds, Fails}
 use Rattle.lr_plan.specs.Done.{SetsDone}
 use Rattle.lr_acts.specs.Making.{all_of_sets}
@@ -51,12 +51,14 @@ maybe_work e ts w (inr h) = are_work ts (e ∷ []) h (w, tt)
 made_work : (s : Step) (ts : List Entry) → IsSimple s → Succeeds s ts → AreWork ts
 made_work (Removes path) ts i h = are_work ts _ h (tt, tt)
 made_work (Renames from to) ts i h = are_work ts _ h (tt, tt)
+made_work (Creates path mode) ts i h = maybe_work (entry.Makes path mode) ts tt h
 made_work (Rotated log) ts i h = are_work ts [] h tt
 made_work _ ts i h = absurd i
 
 failed_work : (s : Step) (f : Fault) (ts : List Entry) → IsSimple s → Fails s f ts → AreWork ts
 failed_work (Removes path) f ts i h = maybe_work (entry.Unlinks path) ts tt h.1
 failed_work (Renames from to) f ts i h = maybe_work (entry.Renames from to) ts tt h.1
+failed_work (Creates path mode) f ts i h = maybe_work (entry.Makes path mode) ts tt h.1
 failed_work (Rotated log) f ts i h = absurd h
 failed_work _ f ts i h = absurd i
 

@@ -20,7 +20,8 @@ use Rattle.lr_rules.specs.declared.rule.Rule.{Rule}
 use Rattle.lr_rules.specs.declared.rules.Rules.{Rules}
 use Rattle.lr_host.specs.declared.entry.Entry.{Entry}
 use Rattle.lr_host.specs.declared.journal.Journal.{Journal}
-use Rattle.lr_host.specs.Told.{Counts, NoneFell, Rose, Left, Then, not_told, is_told}
+use Rattle.lr_host.specs.Opening.{IsJournal}
+use Rattle.lr_host.specs.Told.{Counts, NoneFell, Rose, Left, Then, not_told, is_told, WhereTold}
 use Rattle.lr_host.specs.Steps.{CanAll}
 use Rattle.lr_host.proofs.Left.{left_as, left_first, left_then}
 use Rattle.lr_state.specs.Table.{Entry as Row}
@@ -66,7 +67,7 @@ use Rattle.lr_seen.proofs.Apart.{targets_dont_meet}
 use Rattle.lr_seen.proofs.Built.{no_script, small_count}
 use Rattle.lr_seen.proofs.Quiet.{whole_quiet}
 use Rattle.lr_seen.proofs.Ready.{plans_have_logs, plans_read_none}
-use Rattle.lr_seen.proofs.Seen.{targets_seen, targets_have_names}
+use Rattle.lr_seen.proofs.Seen.{targets_seen, targets_have_names, targets_have_paths}
 use Rattle.lr_run.specs.declared.ready.Ready.{Ready}
 use Rattle.lr_run.specs.Internal.{WritesTo, ReadyFor, MayBeReady, ActsAndWrites, CarriesOn, Carries, SomeLooked, LookedDone, WorkDone}
 use Rattle.lr_run.specs.Runs as runs
@@ -174,11 +175,12 @@ sets_none : (sets : List SetSteps) → CanSets None sets
 sets_none [] = tt
 sets_none (s ∷ ss) = (set_none s, λ now l. sets_at ss (sets_none ss) l.2)
 
-pub fits_behind : (reserved : List Path) (rules : Rules) (looks : Looks) (a b : List Fault) (decide : Rule → LogLook → Due) {o n : Option Journal} → AreBuiltRules rules.sets → Left (LooksAtAll reserved rules.sets looks a b) o n → CanSets n (map steps_of_set (all_plans decide rules.sets looks.sets))
-fits_behind reserved rules looks a b decide built not_told = sets_none (map steps_of_set (all_plans decide rules.sets looks.sets))
-fits_behind reserved rules looks a b decide built (is_told {j = j} {k = k} {es = es} m h) =
+pub fits_behind : (reserved : List Path) (rules : Rules) (looks : Looks) (a b : List Fault) (decide : Rule → LogLook → Due) {o n : Option Journal} → AreBuiltRules rules.sets → WhereTold o IsJournal → Left (LooksAtAll reserved rules.sets looks a b) o n → CanSets n (map steps_of_set (all_plans decide rules.sets looks.sets))
+fits_behind reserved rules looks a b decide built disk not_told = sets_none (map steps_of_set (all_plans decide rules.sets looks.sets))
+fits_behind reserved rules looks a b decide built disk (is_told {j = j} {k = k} {es = es} m h) =
     can_sets (Some k) (groups_of decide rules.sets looks.sets) (all_plans decide rules.sets looks.sets) (plans_have_logs rules.sets looks.sets h.own (reverse es) decide built h.shown) (plans_read_none rules.sets looks.sets decide built)
     (seen_fit rules (all_targets decide rules.sets looks.sets) (Some j) (Some k) (targets_have_names rules looks.sets h.own (reverse es) decide built h.shown)
+    (targets_have_paths rules.sets looks.sets h.own (reverse es) decide h.shown) disk
     (is_told m (whole_quiet rules.sets looks.sets h.own (reverse es) h.shown, targets_seen rules looks.sets h.own (reverse es) decide built h.shown)))
     (targets_dont_meet rules.sets looks.sets h.own (reverse es) decide h.shown)
 
@@ -194,9 +196,9 @@ PlanFor rules looks remembered now force = plan_of rules.sets looks.sets remembe
 pub ready_simple : (rules : Rules) (looks : Looks) (state : Path) (remembered : Remembered) (now : Moment) (force : Bool) (ready : Ready) (x y : Progress) → AreBuiltRules rules.sets → ReadyFor state now remembered looks.kept (PlanFor rules looks remembered now force) ready x y → AreSimple (all_of_sets ready.steps)
 ready_simple rules looks state remembered now force ready x y built r = subst (λ (ss : List SetSteps). AreSimple (all_of_sets ss)) (sym r.is.steps) (steps_simple rules.sets looks.sets remembered.table now force built)
 
-pub ready_fit : (reserved : List Path) (rules : Rules) (looks : Looks) (state : Path) (remembered : Remembered) (now : Moment) (force : Bool) (ready : Ready) (x y : Progress) (a b : List Fault) {o n : Option Journal} → AreBuiltRules rules.sets
+pub ready_fit : (reserved : List Path) (rules : Rules) (looks : Looks) (state : Path) (remembered : Remembered) (now : Moment) (force : Bool) (ready : Ready) (x y : Progress) (a b : List Fault) {o n : Option Journal} → AreBuiltRules rules.sets → WhereTold o IsJournal
     → ReadyFor state now remembered looks.kept (PlanFor rules looks remembered now force) ready x y → Left (LooksAtAll reserved rules.sets looks a b) o n → CanSets n ready.steps
-ready_fit reserved rules looks state remembered now force ready x y a b {n = n} built r l = subst (CanSets n) (sym r.is.steps) (fits_behind reserved rules looks a b (decision remembered.table now force) built l)
+ready_fit reserved rules looks state remembered now force ready x y a b {n = n} built disk r l = subst (CanSets n) (sym r.is.steps) (fits_behind reserved rules looks a b (decision remembered.table now force) built disk l)
 
 -- the text was small enough, and all was taken
 pub ready_of : (state : Path) (now : Moment) (remembered : Remembered) (kept logs : List Path) (plan for : Plan) (o : Option Ready) (ready : Ready) (x y : Progress) → kept ≡ logs → plan ≡ for → o ≡ Some ready → MayBeReady state now remembered kept plan o x y

@@ -74,7 +74,7 @@ plans_read_none rules sets decide built = read_none rules sets decide
 
 ready_log : (rule : Rule) (look : LogLook) → IsReadyFor (target_of rule look) (log_plan rule look)
 ready_log rule look = record {
-  ready = record { leftovers_are = refl; no_dir = refl; moves_are = refl; log_is = refl; target_is = refl; no_make = refl; retire_is = refl };
+  ready = record { leftovers_are = refl; no_dir = refl; moves_are = refl; log_is = refl; target_is = refl; make_is = refl; retire_is = refl };
   no_job = refl;
 }
 

@@ -1,5 +1,5 @@
 -- The steps of logs that don't meet fit, wherever those before them ended.
-use Rattle.std.proofs.Common.{◌≡◌, inl, inr, ℕ, zero, suc, ◌+◌, ◌==◌, Bool, true, false, not, cond, refl, sym, ◌∙◌, ap, subst, Option, Some, None, List, [], ◌∷◌, ◌++◌, map, reverse, All}
+use Rattle.std.proofs.Common.{◌≡◌, inl, inr, ⊎_elim, ℕ, zero, suc, ◌+◌, ◌==◌, Bool, true, false, not, cond, refl, sym, ◌∙◌, ap, subst, Option, Some, None, List, [], ◌∷◌, ◌++◌, map, reverse, All}
 use Rattle.std.specs.Prelude.{filter}
 use Rattle.std.specs.List.{flat_map, list_any}
 use Rattle.std.proofs.lemmas.List.{reverse-reverse}
@@ -18,13 +18,12 @@ use Rattle.lr_host.specs.declared.entry.Entry.TheVariants as entry
 use Rattle.lr_host.specs.declared.journal.Journal.{Journal}
 use Rattle.lr_host.specs.World.{Past, ◌▸◌, past, world, Names, put, names, names_after}
 use Rattle.lr_host.specs.Fits.{MaybeFileAt}
-use Rattle.lr_host.specs.Told.{Each, Made, at_first, by_writer, by_tool, Left, not_told, is_told, CanCall}
-use Rattle.lr_host.specs.Steps.{changes_of, is_change, FitAll, CanAll}
+use Rattle.lr_host.specs.Told.{Each, Made, at_first, by_writer, by_tool, Left, not_told, is_told, CanCall, Can}
+use Rattle.lr_host.specs.Steps.{changes_of, is_naming, FitAll, CanAll}
 use Rattle.lr_host.proofs.More.{IsMoreAt, file_at, moved_at, put_at, directory_at, not_at, more_at_on, wrote_names}
 use Rattle.lr_host.proofs.Names.{put_other}
-use Rattle.lr_host.proofs.Quiet.{looked_names, no_disk_change}
 use Rattle.lr_host.proofs.Each.{filter_reverse, each_append, each_reverse, each_first}
-use Rattle.lr_host.proofs.Left.{can_part, can_rest}
+use Rattle.lr_host.proofs.Left.{can_part, can_as, still_step}
 use Rattle.lr_scripts.specs.declared.command.Command.{Command}
 use Rattle.lr_scripts.specs.Programs.{runs}
 use Rattle.lr_family.specs.Spots.{path_at}
@@ -55,8 +54,9 @@ use Rattle.lr_rotations.specs.Target.{Target, rotation_of}
 use Rattle.lr_weave.specs.Fitting.{IsFit, AreFit, NoneMeets, DontMeet, ReadsNothing, AsksNothing, AskNothing}
 use Rattle.lr_weave.specs.Parts.{changes_by}
 use Rattle.lr_weave.specs.Planned.{IsReadyFor, AreReadyFor}
+use Rattle.lr_weave.proofs.Lasting.{can_rest, makes_later}
 use Rattle.lr_weave.proofs.Parting.{course_first}
-use Rattle.lr_weave.proofs.Planning.{log_is, log_plain, program_none, program_plain}
+use Rattle.lr_weave.proofs.Planning.{Anything, log_is, log_plain, program_none, program_plain}
 
 -- ---- entries that read and change paths
 
@@ -106,21 +106,21 @@ avoided X q (entry.Renames from to) y a i =
 avoided X q (entry.Unlinks x) y a i = put_other (names (world q)) x y thing.Nothing (λ same. a (subst X same i))
 avoided X q _ y a i = absurd a
 
-more_made : (X : Path → Type 0) (p q : Past) (es : List Entry) → Made p es q → Each (Avoids X) (filter is_change es) → MoreOn X (names (world p)) (names (world q))
+more_made : (X : Path → Type 0) (p q : Past) (es : List Entry) → Made p es q → Each (Avoids X) (filter is_naming es) → MoreOn X (names (world p)) (names (world q))
 more_made X p _ _ at_first a y i = inl refl
 more_made X p _ es (by_writer {q = q} {e = e} m w f) a y i = more_at_on (names (world p)) (names (world q)) (names (world (q ▸ e))) y (more_made X p q es m a y i) (wrote_names q e y w)
-more_made X p _ _ (by_tool {es = es} {q = q} {e = e} m t f) a y i = go (λ b. more_made X p q es m b y i) (is_change e) refl a
+more_made X p _ _ (by_tool {es = es} {q = q} {e = e} m t f) a y i = go (λ b. more_made X p q es m b y i) (is_naming e) refl a
   where
-    go : (Each (Avoids X) (filter is_change es) → IsMoreAt y (names (world p)) (names (world q))) → (b : Bool) → is_change e ≡ b → Each (Avoids X) (cond b (e ∷ filter is_change es) (filter is_change es)) → IsMoreAt y (names (world p)) (names (world (q ▸ e)))
+    go : (Each (Avoids X) (filter is_naming es) → IsMoreAt y (names (world p)) (names (world q))) → (b : Bool) → is_naming e ≡ b → Each (Avoids X) (cond b (e ∷ filter is_naming es) (filter is_naming es)) → IsMoreAt y (names (world p)) (names (world (q ▸ e)))
     go further true h a = more_at_on (names (world p)) (names (world q)) (names (world (q ▸ e))) y (further a.1) (inl (avoided X q e y a.0 i))
-    go further false h a = more_at_on (names (world p)) (names (world q)) (names (world (q ▸ e))) y (further a) (inl (looked_names q e y t (no_disk_change e h)))
+    go further false h a = more_at_on (names (world p)) (names (world q)) (names (world (q ▸ e))) y (further a) (still_step q e t f h y)
 
 -- what fits goes on fitting
-pub can_far : (X : Path → Type 0) (steps : List Entry) {P : List Entry → Type 0} {o m : Option Journal} → Each (Reads X) steps → CanAll o steps → Left P o m → ((ts : List Entry) → P ts → Each (Avoids X) (filter is_change ts)) → CanAll m steps
+pub can_far : (X : Path → Type 0) (steps : List Entry) {P : List Entry → Type 0} {o m : Option Journal} → Each (Reads X) steps → CanAll o steps → Left P o m → ((ts : List Entry) → P ts → Each (Avoids X) (filter is_naming ts)) → CanAll m steps
 can_far X steps reads can not_told f = record { can = tt }
 can_far X steps reads can (is_told {j = j} {k = k} {es = es} m h) f = record {
   can = (fit_on X (names (world (past j))) (names (world (past k))) (reverse steps) (each_reverse (Reads X) steps reads)
-      (more_made X (past j) (past k) es m (subst (Each (Avoids X)) (ap (filter is_change) (reverse-reverse es)) (subst (Each (Avoids X)) (sym (filter_reverse is_change (reverse es))) (each_reverse (Avoids X) (filter is_change (reverse es)) (f (reverse es) h))))) can.can).fits;
+      (more_made X (past j) (past k) es m (subst (Each (Avoids X)) (ap (filter is_naming) (reverse-reverse es)) (subst (Each (Avoids X)) (sym (filter_reverse is_naming (reverse es))) (each_reverse (Avoids X) (filter is_naming (reverse es)) (f (reverse es) h))))) can.can).fits;
 }
 
 -- ---- the steps of a rotation
@@ -186,96 +186,115 @@ rotation_far x t fit apart = each_two IsTurn (AllOwn t.log t.naming) (Avoids (Na
 
 -- ---- what goes on fitting
 
-pub fit_later : (x : Target) {P : List Entry → Type 0} {o m : Option Journal} → IsFit o x → Left P o m → ((ts : List Entry) → P ts → Each (Avoids (NamesOf x)) (filter is_change ts)) → IsFit m x
-fit_later x fit left f = record { names = fit.names; fits = can_far (NamesOf x) (rotation_of x) (rotation_reads x fit.names.family fit.names.named fit.names.next) fit.fits left f }
+pub fit_later : (x : Target) {P : List Entry → Type 0} {o m : Option Journal} → IsFit o x → Left P o m → ((ts : List Entry) → P ts → Each (Avoids (NamesOf x)) (filter is_naming ts)) → IsFit m x
+fit_later x fit left f = record { names = fit.names; fits = can_far (NamesOf x) (rotation_of x) (rotation_reads x fit.names.family fit.names.named fit.names.next) fit.fits left f; anew = makes_later x.log None left fit.anew }
 
-begun_far : {o : Option Journal} (x t : Target) (ts : List Entry) → IsFit o t → (Meet x.log x.naming t.log t.naming → ⊥) → IsFirstOf (rotation_of t) (filter is_change ts) → Each (Avoids (NamesOf x)) (filter is_change ts)
-begun_far x t ts fit apart first = each_first (Avoids (NamesOf x)) (filter is_change ts) first.0 (subst (Each (Avoids (NamesOf x))) first.1 (rotation_far x t fit apart))
+begun_far : {o : Option Journal} (x t : Target) (ts : List Entry) → IsFit o t → (Meet x.log x.naming t.log t.naming → ⊥) → IsFirstOf (rotation_of t) (filter is_naming ts) → Each (Avoids (NamesOf x)) (filter is_naming ts)
+begun_far x t ts fit apart first = each_first (Avoids (NamesOf x)) (filter is_naming ts) first.0 (subst (Each (Avoids (NamesOf x))) first.1 (rotation_far x t fit apart))
 
-all_later : (t : Target) (xs : List Target) {P : List Entry → Type 0} {o m : Option Journal} → IsFit o t → NoneMeets t xs → AreFit o xs → Left P o m → ((ts : List Entry) → P ts → IsFirstOf (rotation_of t) (filter is_change ts)) → AreFit m xs
+all_later : (t : Target) (xs : List Target) {P : List Entry → Type 0} {o m : Option Journal} → IsFit o t → NoneMeets t xs → AreFit o xs → Left P o m → ((ts : List Entry) → P ts → IsFirstOf (rotation_of t) (filter is_naming ts)) → AreFit m xs
 all_later t [] fit none fits left f = tt
 all_later t (x ∷ xs) fit none fits left f = (fit_later x fits.0 left (λ ts p. begun_far x t ts fit none.0 (f ts p)), all_later t xs fit none.1 fits.1 left f)
 
-pub unchanged : (xs : List Target) {P : List Entry → Type 0} {o m : Option Journal} → AreFit o xs → Left P o m → ((ts : List Entry) → P ts → filter is_change ts ≡ []) → AreFit m xs
+pub unchanged : (xs : List Target) {P : List Entry → Type 0} {o m : Option Journal} → AreFit o xs → Left P o m → ((ts : List Entry) → P ts → filter is_naming ts ≡ []) → AreFit m xs
 unchanged [] fits left f = tt
 unchanged (x ∷ xs) fits left f = (fit_later x fits.0 left (λ ts p. subst (Each (Avoids (NamesOf x))) (sym (f ts p)) tt), unchanged xs fits.1 left f)
 
 -- ---- one list of steps
 
--- a step of a rotation, or a program that reads no file
-abbrev pub IsBareStep : Step → Type 0
-IsBareStep (step.Runs p on command) = command.input ≡ None
-IsBareStep (step.Removes path) = Unit {0}
-IsBareStep (step.Renames from to) = Unit {0}
-IsBareStep (step.Rotated log) = Unit {0}
-IsBareStep _ = ⊥
+-- a step of a rotation, the making of a log in a directory that stands, or a program that reads no file
+abbrev pub IsBareStep : Option Journal → Step → Type 0
+IsBareStep o (step.Runs p on command) = command.input ≡ None
+IsBareStep o (step.Removes path) = Unit {0}
+IsBareStep o (step.Renames from to) = Unit {0}
+IsBareStep o (step.Creates path mode) = Can o (entry.Makes path mode)
+IsBareStep o (step.Rotated log) = Unit {0}
+IsBareStep o _ = ⊥
 
-abbrev pub AreBareSteps : List Step → Type 0
-AreBareSteps [] = Unit {0}
-AreBareSteps (s ∷ ss) = IsBareStep s × AreBareSteps ss
+abbrev pub AreBareSteps : Option Journal → List Step → Type 0
+AreBareSteps o [] = Unit {0}
+AreBareSteps o (s ∷ ss) = IsBareStep o s × AreBareSteps o ss
+
+bare_one : (s : Step) {P : List Entry → Type 0} {o m : Option Journal} → Left P o m → IsBareStep o s → IsBareStep m s
+bare_one (step.Creates path mode) left i = makes_later path mode left i
+bare_one (step.Runs p on command) left i = i
+bare_one (step.Removes path) left i = i
+bare_one (step.Renames from to) left i = i
+bare_one (step.Rotated log) left i = i
+bare_one _ left i = absurd i
+
+-- so they are later on
+bare_later : (ss : List Step) {P : List Entry → Type 0} {o m : Option Journal} → Left P o m → AreBareSteps o ss → AreBareSteps m ss
+bare_later [] left bare = tt
+bare_later (s ∷ ss) left bare = (bare_one s left bare.0, bare_later ss left bare.1)
 
 pub none_asked : (o : Option Journal) → CanAll o []
 none_asked None = record { can = tt }
 none_asked (Some j) = record { can = tt }
 
+makes_asked : (path : Path) (mode : Option ℕ) (o : Option Journal) → Can o (entry.Makes path mode) → CanAll o (entry.Makes path mode ∷ [])
+makes_asked path mode None c = record { can = tt }
+makes_asked path mode (Some j) c = record { can = (tt, c.can) }
+
 run_asked : (command : Command) (o : Option Journal) → command.input ≡ None → CanAll o (runs command (Rattle.lr_rules.specs.declared.fault.Ended.TheVariants.Exit (Rattle.std.specs.Prelude.pos 0)) ∷ [])
 run_asked command None e = record { can = tt }
 run_asked command (Some j) e = record { can = (tt, subst (MaybeFileAt (names (world (past j)))) (sym e) tt) }
 
-pub can_make : (ss : List Step) {o : Option Journal} → AreBareSteps ss → CanAll o (changes_by ss) → CanMake o ss
+pub can_make : (ss : List Step) {o : Option Journal} → AreBareSteps o ss → CanAll o (changes_by ss) → CanMake o ss
 can_make [] bare can = tt
-can_make (step.Runs p on command ∷ ss) {o} bare can = (run_asked command o bare.0, λ m left. can_make ss bare.1 (can_rest [] (changes_by ss) can left (λ ts w. ap (filter is_change) w)))
-can_make (step.Removes path ∷ ss) {o} bare can = (can_part (entry.Unlinks path ∷ []) (changes_by ss) can, λ m left. can_make ss bare.1 (can_rest (entry.Unlinks path ∷ []) (changes_by ss) can left (λ ts w. ap (filter is_change) w)))
-can_make (step.Renames from to ∷ ss) {o} bare can = (can_part (entry.Renames from to ∷ []) (changes_by ss) can, λ m left. can_make ss bare.1 (can_rest (entry.Renames from to ∷ []) (changes_by ss) can left (λ ts w. ap (filter is_change) w)))
-can_make (step.Rotated log ∷ ss) {o} bare can = (none_asked o, λ m left. can_make ss bare.1 (can_rest [] (changes_by ss) can left (λ ts w. ap (filter is_change) w)))
+can_make (step.Runs p on command ∷ ss) {o} bare can = (run_asked command o bare.0, λ m left. can_make ss (bare_later ss left bare.1) (can_rest [] (changes_by ss) can left (λ ts w. ap (filter is_naming) w)))
+can_make (step.Removes path ∷ ss) {o} bare can = (can_part (entry.Unlinks path ∷ []) (changes_by ss) can, λ m left. can_make ss (bare_later ss left bare.1) (can_rest (entry.Unlinks path ∷ []) (changes_by ss) can left (λ ts w. ap (filter is_naming) w)))
+can_make (step.Renames from to ∷ ss) {o} bare can = (can_part (entry.Renames from to ∷ []) (changes_by ss) can, λ m left. can_make ss (bare_later ss left bare.1) (can_rest (entry.Renames from to ∷ []) (changes_by ss) can left (λ ts w. ap (filter is_naming) w)))
+can_make (step.Creates path mode ∷ ss) {o} bare can = (makes_asked path mode o bare.0, λ m left. can_make ss (bare_later ss left bare.1) (can_rest [] (changes_by ss) can left (λ ts w. ⊎_elim (λ none. ap (filter is_naming) none) (λ one. ap (filter is_naming) one) w)))
+can_make (step.Rotated log ∷ ss) {o} bare can = (none_asked o, λ m left. can_make ss (bare_later ss left bare.1) (can_rest [] (changes_by ss) can left (λ ts w. ap (filter is_naming) w)))
 can_make (_ ∷ ss) bare can = absurd bare.0
 
 -- ---- the steps of one log
 
-bare_on : (xs ys : List Step) → AreBareSteps xs → AreBareSteps ys → AreBareSteps (xs ++ ys)
-bare_on [] ys a b = b
-bare_on (x ∷ xs) ys a b = (a.0, bare_on xs ys a.1 b)
+bare_on : (o : Option Journal) (xs ys : List Step) → AreBareSteps o xs → AreBareSteps o ys → AreBareSteps o (xs ++ ys)
+bare_on o [] ys a b = b
+bare_on o (x ∷ xs) ys a b = (a.0, bare_on o xs ys a.1 b)
 
-pub program_bare : (p : Phase) (o : Option Command) → ReadsNothing o → AreBareSteps (program p o)
-program_bare p None r = tt
-program_bare p (Some command) r = (r, tt)
+pub program_bare : (o : Option Journal) (p : Phase) (c : Option Command) → ReadsNothing c → AreBareSteps o (program p c)
+program_bare o p None r = tt
+program_bare o p (Some command) r = (r, tt)
 
-no_program_bare : (p : Phase) (o : Option Command) → o ≡ None → AreBareSteps (program p o)
-no_program_bare p None e = tt
-no_program_bare p (Some command) e = absurd (cc)
+no_program_bare : (o : Option Journal) (p : Phase) (c : Option Command) → c ≡ None → AreBareSteps o (program p c)
+no_program_bare o p None e = tt
+no_program_bare o p (Some command) e = absurd (cc)
 
-removals_bare : (n : Naming) (ks : List ℕ) → AreBareSteps (removals (map (removal_at n) ks))
-removals_bare n [] = tt
-removals_bare n (k ∷ ks) = (tt, removals_bare n ks)
+removals_bare : (o : Option Journal) (n : Naming) (ks : List ℕ) → AreBareSteps o (removals (map (removal_at n) ks))
+removals_bare o n [] = tt
+removals_bare o n (k ∷ ks) = (tt, removals_bare o n ks)
 
-moves_bare : (ms : List Move) → AreBareSteps (map move ms)
-moves_bare [] = tt
-moves_bare (m ∷ ms) = (tt, moves_bare ms)
+moves_bare : (o : Option Journal) (ms : List Move) → AreBareSteps o (map move ms)
+moves_bare o [] = tt
+moves_bare o (m ∷ ms) = (tt, moves_bare o ms)
 
-dir_bare : (d : Option (Path × Option ℕ)) → d ≡ None → AreBareSteps (directory d)
-dir_bare None e = tt
-dir_bare (Some x) e = absurd (cc)
+dir_bare : (o : Option Journal) (d : Option (Path × Option ℕ)) → d ≡ None → AreBareSteps o (directory d)
+dir_bare o None e = tt
+dir_bare o (Some x) e = absurd (cc)
 
-turn_bare : (log target : Path) (m : Make) (j : Option Job) → m ≡ make.No → j ≡ None → AreBareSteps (transfer log target j ++ step.Rotated log ∷ made_anew m log j)
-turn_bare log target make.No None e f = (tt, (tt, tt))
-turn_bare log target make.No (Some job) e f = absurd (cc)
-turn_bare log target (make.Yes mode) j e f = absurd (cc)
+turn_bare : (o : Option Journal) (log target : Path) (m : Make) (j : Option Job) → Can o (entry.Makes log None) → j ≡ None → AreBareSteps o (transfer log target j ++ step.Rotated log ∷ made_anew m log j)
+turn_bare o log target make.No None c f = (tt, (tt, tt))
+turn_bare o log target (make.Yes mode) None c f = (tt, (tt, (can_as c (λ n h. h), tt)))
+turn_bare o log target m (Some job) c f = absurd (cc)
 
-pub front_bare : (t : Target) (log : LogPlan) → IsReadyFor t log → AreBareSteps (steps.rotation_of log)
-front_bare t log r =
-    bare_on (removals log.ready.leftovers) _ (subst (λ rs. AreBareSteps (removals rs)) (sym r.ready.leftovers_are) (removals_bare t.naming (leftovers t.count (places_of t.stand.members))))
-    (bare_on (directory log.ready.dir) _ (dir_bare log.ready.dir r.ready.no_dir)
-    (bare_on (map move log.ready.moves) _ (moves_bare log.ready.moves) (turn_bare log.ready.log log.ready.target log.ready.make log.job r.ready.no_make r.no_job)))
+pub front_bare : (o : Option Journal) (t : Target) (log : LogPlan) → Can o (entry.Makes t.log None) → IsReadyFor t log → AreBareSteps o (steps.rotation_of log)
+front_bare o t log c r =
+    bare_on o (removals log.ready.leftovers) _ (subst (λ rs. AreBareSteps o (removals rs)) (sym r.ready.leftovers_are) (removals_bare o t.naming (leftovers t.count (places_of t.stand.members))))
+    (bare_on o (directory log.ready.dir) _ (dir_bare o log.ready.dir r.ready.no_dir)
+    (bare_on o (map move log.ready.moves) _ (moves_bare o log.ready.moves) (turn_bare o log.ready.log log.ready.target log.ready.make log.job (subst (λ (x : Path). Can o (entry.Makes x None)) (sym r.ready.log_is) c) r.no_job)))
 
-pub back_bare : (t : Target) (log : LogPlan) → IsReadyFor t log → log.first_mail ≡ None → AreBareSteps (steps.retirement_of log)
-back_bare t log r q = bare_on (program phase.Mail log.first_mail) (removals log.ready.retire) (no_program_bare phase.Mail log.first_mail q)
-    (subst (λ rs. AreBareSteps (removals rs)) (sym r.ready.retire_is) (removals_bare t.naming (one_too_many t.count (places_of t.stand.members))))
+pub back_bare : (o : Option Journal) (t : Target) (log : LogPlan) → IsReadyFor t log → log.first_mail ≡ None → AreBareSteps o (steps.retirement_of log)
+back_bare o t log r q = bare_on o (program phase.Mail log.first_mail) (removals log.ready.retire) (no_program_bare o phase.Mail log.first_mail q)
+    (subst (λ rs. AreBareSteps o (removals rs)) (sym r.ready.retire_is) (removals_bare o t.naming (one_too_many t.count (places_of t.stand.members))))
 
-log_bare : (t : Target) (log : LogPlan) → IsReadyFor t log → AsksNothing log → AreBareSteps (steps_of_log log)
-log_bare t log r q =
-    bare_on (program phase.Pre log.pre) _ (program_bare phase.Pre log.pre q.pre)
-    (bare_on (steps.rotation_of log) _ (front_bare t log r)
-    (bare_on (program phase.Post log.post) (steps.retirement_of log) (program_bare phase.Post log.post q.post) (back_bare t log r q.no_mail)))
+log_bare : (o : Option Journal) (t : Target) (log : LogPlan) → Can o (entry.Makes t.log None) → IsReadyFor t log → AsksNothing log → AreBareSteps o (steps_of_log log)
+log_bare o t log c r q =
+    bare_on o (program phase.Pre log.pre) _ (program_bare o phase.Pre log.pre q.pre)
+    (bare_on o (steps.rotation_of log) _ (front_bare o t log c r)
+    (bare_on o (program phase.Post log.post) (steps.retirement_of log) (program_bare o phase.Post log.post q.post) (back_bare o t log r q.no_mail)))
 
 -- ---- the logs of one definition
 
@@ -284,17 +303,17 @@ can_each o [] [] r q fits dont = tt
 can_each o [] (log ∷ logs) r q fits dont = absurd r
 can_each o (t ∷ ts) [] r q fits dont = absurd r
 can_each o (t ∷ ts) (log ∷ logs) r q fits dont = (
-  can_make (steps_of_log log) (log_bare t log r.0 q.0) (subst (CanAll o) (sym (log_is t log r.0)) fits.0.fits),
+  can_make (steps_of_log log) (log_bare o t log fits.0.anew r.0 q.0) (subst (CanAll o) (sym (log_is t log r.0)) fits.0.fits),
   λ m leads. can_each m ts logs r.1 q.1 (all_later t ts fits.0 dont.0 fits.1 leads.2
-      (λ us c. subst (λ steps. IsFirstOf steps (filter is_change us)) (log_is t log r.0) (course_first (steps_of_log log) leads.0 leads.1 us (log_plain t log r.0) c))) dont.1,
+      (λ us c. subst (λ steps. IsFirstOf steps (filter is_naming us)) (log_is t log r.0) (course_first Anything (steps_of_log log) leads.0 leads.1 us (log_plain Anything t log (λ mode. tt) r.0) c).first)) dont.1,
 )
 
 nil_first : (xs : List Entry) → IsFirstOf [] xs → xs ≡ []
 nil_first [] f = refl
 nil_first (x ∷ xs) f = absurd (let e : [] ≡ x ∷ (xs ++ f.0) = f.1 in cc)
 
-pub program_changes : (p : Phase) (o : Option Command) (t : List Mark) (f : List Fault) (us : List Entry) → Course (program p o) t f us → filter is_change us ≡ []
-program_changes p o t f us c = nil_first (filter is_change us) (subst (λ steps. IsFirstOf steps (filter is_change us)) (program_none p o) (course_first (program p o) t f us (program_plain p o) c))
+pub program_changes : (p : Phase) (o : Option Command) (t : List Mark) (f : List Fault) (us : List Entry) → Course (program p o) t f us → filter is_naming us ≡ []
+program_changes p o t f us c = nil_first (filter is_naming us) (subst (λ steps. IsFirstOf steps (filter is_naming us)) (program_none p o) (course_first Anything (program p o) t f us (program_plain Anything p o) c).first)
 
 pub program_can : (p : Phase) (c : Option Command) (o : Option Journal) → ReadsNothing c → CanMake o (program p c)
-program_can p c o r = can_make (program p c) (program_bare p c r) (subst (CanAll o) (sym (program_none p c)) (none_asked o))
+program_can p c o r = can_make (program p c) (program_bare o p c r) (subst (CanAll o) (sym (program_none p c)) (none_asked o))

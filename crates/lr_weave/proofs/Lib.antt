@@ -1,5 +1,6 @@
 pub mod Firsts
 pub mod Fits
+pub mod Lasting
 pub mod Parting
 pub mod Planning
 pub mod Seen

@@ -1,15 +1,16 @@
 -- What the acts of a plan change, part by part.
 use Rattle.std.specs.List.{list_any}
-use Rattle.std.proofs.Common.{◌≡◌, Bool, true, false, cond, ◌⊎◌, inl, inr, ⊎_elim, refl, sym, ◌∙◌, ap, subst, List, [], ◌∷◌, ◌++◌, map, append_assoc, append-nil}
+use Rattle.std.proofs.Common.{◌≡◌, bytes_eq, Bool, true, false, cond, ◌⊎◌, inl, inr, ⊎_elim, refl, sym, ◌∙◌, ap, subst, List, [], ◌∷◌, ◌++◌, map, append_assoc, append-nil}
 use Rattle.std.specs.Prelude.{filter}
 use Rattle.std.proofs.lemmas.List.Elements.{filter-append}
 use Rattle.std.proofs.lemmas.Grind.{flat_map-append}
+use Rattle.std.proofs.lemmas.Slice.Eq.{bytes_eq-Decides}
 use Rattle.lr_rules.specs.declared.path.Path.{Path}
 use Rattle.lr_rules.specs.declared.fault.Fault.{Fault}
 use Rattle.lr_host.specs.declared.entry.Entry.{Entry}
 use Rattle.lr_host.specs.declared.entry.Entry.TheVariants as entry
 use Rattle.lr_host.specs.Told.{Each}
-use Rattle.lr_host.specs.Steps.{is_change}
+use Rattle.lr_host.specs.Steps.{is_change, is_naming}
 use Rattle.lr_host.proofs.Each.{each_append, each_first, each_as}
 use Rattle.lr_rotations.specs.Weave.{IsFirstOf}
 use Rattle.lr_host.specs.Quiet.{AreQuiet}
@@ -23,7 +24,8 @@ use Rattle.lr_plan.specs.Course.{Course}
 use Rattle.lr_plan.specs.Internal.Cut.{CourseCut, ListCut, LogsCut, in_each, in_last, SetCut, in_first, in_logs, SetsCut}
 use Rattle.lr_plan.specs.Done.{EachDone, LogsDone, is_rotated, if_rotated, SetDone, broke_off, went_on, SetsDone}
 use Rattle.lr_rotations.specs.Weave.{Weave, none, own, other, FirstWoven}
-use Rattle.lr_weave.specs.Parts.{change_of, changes_by, IsPlain, ArePlain, EachPlain, IsPlainSet, ArePlainSets, parts_of_set, parts_of_sets, FirstParts, AllOf, ArePlanned}
+use Rattle.lr_weave.specs.Parts.{change_of, changes_by, IsPlain, ArePlain, EachPlain, IsPlainSet, ArePlainSets, MakesOnly, MakesOne, parts_of_set, parts_of_sets, FirstParts, AllOf, ArePlanned}
+use Rattle.lr_rotations.specs.Rotated.{MakesAt}
 use Rattle.lr_rotations.specs.Target.{Target, rotation_of, AreSeen}
 use Rattle.lr_rotations.specs.AllTurns.{IsOfSome, IsOfOther, IsOfState, StandsBetween, AllTurns}
 use Rattle.lr_rotations.proofs.Weaving.{weave_as, weave_on, weave_others}
@@ -31,38 +33,72 @@ use Rattle.lr_rules.specs.declared.rules.Rules.{Rules}
 
 -- ---- one step
 
-changes_are : (ts us : List Entry) → ts ≡ us → filter is_change ts ≡ filter is_change us
-changes_are ts us e = ap (filter is_change) e
+changes_are : (ts us : List Entry) → ts ≡ us → filter is_naming ts ≡ filter is_naming us
+changes_are ts us e = ap (filter is_naming) e
 
-pub went_changes : (s : Step) (ts : List Entry) → IsPlain s → Succeeds s ts → filter is_change ts ≡ change_of s
-went_changes (step.Runs phase on command) ts i w = changes_are ts _ w
-went_changes (step.Removes path) ts i w = changes_are ts _ w
-went_changes (step.Renames from to) ts i w = changes_are ts _ w
-went_changes (step.Takes path mode) ts i w = changes_are ts _ w
-went_changes (step.SyncsFile path) ts i w = changes_are ts _ w
-went_changes (step.SyncsDir path) ts i w = changes_are ts _ w
-went_changes (step.Truncates path) ts i w = changes_are ts _ w
-went_changes (step.Rotated log) ts i w = changes_are ts [] w
-went_changes _ ts i w = absurd i
+pub went_changes : (P : Entry → Type 0) (s : Step) (ts : List Entry) → IsPlain P s → Succeeds s ts → filter is_naming ts ≡ change_of s
+went_changes P (step.Runs phase on command) ts i w = changes_are ts _ w
+went_changes P (step.Removes path) ts i w = changes_are ts _ w
+went_changes P (step.Renames from to) ts i w = changes_are ts _ w
+went_changes P (step.Creates path mode) ts i w = ⊎_elim (λ none. changes_are ts [] none) (λ one. changes_are ts (entry.Makes path mode ∷ []) one) w
+went_changes P (step.SyncsFile path) ts i w = changes_are ts _ w
+went_changes P (step.SyncsDir path) ts i w = changes_are ts _ w
+went_changes P (step.Rotated log) ts i w = changes_are ts [] w
+went_changes P _ ts i w = absurd i
 
-maybe_first : (e : Entry) (ts : List Entry) → (ts ≡ []) ⊎ (ts ≡ e ∷ []) → IsFirstOf (filter is_change (e ∷ [])) (filter is_change ts)
-maybe_first e ts h = ⊎_elim (λ nothing. (filter is_change (e ∷ []), sym (ap (λ us. us ++ filter is_change (e ∷ [])) (changes_are ts [] nothing)))) (λ one. ([], sym (append-nil (filter is_change ts) ∙ changes_are ts (e ∷ []) one))) h
+maybe_first : (e : Entry) (ts : List Entry) → (ts ≡ []) ⊎ (ts ≡ e ∷ []) → IsFirstOf (filter is_naming (e ∷ [])) (filter is_naming ts)
+maybe_first e ts h = ⊎_elim (λ nothing. (filter is_naming (e ∷ []), sym (ap (λ us. us ++ filter is_naming (e ∷ [])) (changes_are ts [] nothing)))) (λ one. ([], sym (append-nil (filter is_naming ts) ∙ changes_are ts (e ∷ []) one))) h
 
-failed_changes : (s : Step) (f : Fault) (ts : List Entry) → IsPlain s → Fails s f ts → IsFirstOf (change_of s) (filter is_change ts)
-failed_changes (step.Runs phase on command) f ts i (badly end ne is one) = ([], sym (append-nil (filter is_change ts) ∙ changes_are ts _ one))
-failed_changes (step.Runs phase on command) f ts i (not_run is nothing) = ([], sym (append-nil (filter is_change ts) ∙ changes_are ts [] nothing))
-failed_changes (step.Runs phase on command) f ts i (maybe_run end is one) = ([], sym (append-nil (filter is_change ts) ∙ changes_are ts _ one))
-failed_changes (step.Removes path) f ts i h = maybe_first (entry.Unlinks path) ts h.1
-failed_changes (step.Renames from to) f ts i h = maybe_first (entry.Renames from to) ts h.1
-failed_changes (step.Takes path mode) f ts i (inl h) = maybe_first (entry.Makes path mode) ts h.1
-failed_changes (step.Takes path mode) f ts i (inr h) = maybe_first (entry.Makes path mode) ts (inl h.1)
-failed_changes (step.SyncsFile path) f ts i h = maybe_first (entry.SyncsFile path) ts h.1
-failed_changes (step.SyncsDir path) f ts i h = maybe_first (entry.SyncsDir path) ts h.1
-failed_changes (step.Truncates path) f ts i h = maybe_first (entry.Truncates path) ts h.1
-failed_changes (step.Rotated log) f ts i h = absurd h
-failed_changes _ f ts i h = absurd i
+failed_changes : (P : Entry → Type 0) (s : Step) (f : Fault) (ts : List Entry) → IsPlain P s → Fails s f ts → IsFirstOf (change_of s) (filter is_naming ts)
+failed_changes P (step.Runs phase on command) f ts i (badly end ne is one) = ([], sym (append-nil (filter is_naming ts) ∙ changes_are ts _ one))
+failed_changes P (step.Runs phase on command) f ts i (not_run is nothing) = ([], sym (append-nil (filter is_naming ts) ∙ changes_are ts [] nothing))
+failed_changes P (step.Runs phase on command) f ts i (maybe_run end is one) = ([], sym (append-nil (filter is_naming ts) ∙ changes_are ts _ one))
+failed_changes P (step.Removes path) f ts i h = maybe_first (entry.Unlinks path) ts h.1
+failed_changes P (step.Renames from to) f ts i h = maybe_first (entry.Renames from to) ts h.1
+failed_changes P (step.Creates path mode) f ts i h = maybe_first (entry.Makes path mode) ts h.1
+failed_changes P (step.SyncsFile path) f ts i h = maybe_first (entry.SyncsFile path) ts h.1
+failed_changes P (step.SyncsDir path) f ts i h = maybe_first (entry.SyncsDir path) ts h.1
+failed_changes P (step.Rotated log) f ts i h = absurd h
+failed_changes P _ f ts i h = absurd i
+
+-- what a step makes
+none_only : (P : Entry → Type 0) (ts : List Entry) → ts ≡ [] → Each (MakesOnly P) ts
+none_only P ts e = subst (Each (MakesOnly P)) (sym e) tt
+
+one_only : (P : Entry → Type 0) (e : Entry) (ts : List Entry) → MakesOnly P e → ts ≡ e ∷ [] → Each (MakesOnly P) ts
+one_only P e ts i is = subst (Each (MakesOnly P)) (sym is) (i, tt)
+
+maybe_only : (P : Entry → Type 0) (e : Entry) (ts : List Entry) → MakesOnly P e → (ts ≡ []) ⊎ (ts ≡ e ∷ []) → Each (MakesOnly P) ts
+maybe_only P e ts i h = ⊎_elim (λ none. none_only P ts none) (λ one. one_only P e ts i one) h
+
+went_only : (P : Entry → Type 0) (s : Step) (ts : List Entry) → IsPlain P s → Succeeds s ts → Each (MakesOnly P) ts
+went_only P (step.Runs phase on command) ts i w = one_only P _ ts tt w
+went_only P (step.Removes path) ts i w = one_only P (entry.Unlinks path) ts tt w
+went_only P (step.Renames from to) ts i w = one_only P (entry.Renames from to) ts tt w
+went_only P (step.Creates path mode) ts i w = maybe_only P (entry.Makes path mode) ts i w
+went_only P (step.SyncsFile path) ts i w = one_only P (entry.SyncsFile path) ts tt w
+went_only P (step.SyncsDir path) ts i w = one_only P (entry.SyncsDir path) ts tt w
+went_only P (step.Rotated log) ts i w = none_only P ts w
+went_only P _ ts i w = absurd i
+
+failed_only : (P : Entry → Type 0) (s : Step) (f : Fault) (ts : List Entry) → IsPlain P s → Fails s f ts → Each (MakesOnly P) ts
+failed_only P (step.Runs phase on command) f ts i (badly end ne is one) = one_only P _ ts tt one
+failed_only P (step.Runs phase on command) f ts i (not_run is nothing) = none_only P ts nothing
+failed_only P (step.Runs phase on command) f ts i (maybe_run end is one) = one_only P _ ts tt one
+failed_only P (step.Removes path) f ts i h = maybe_only P (entry.Unlinks path) ts tt h.1
+failed_only P (step.Renames from to) f ts i h = maybe_only P (entry.Renames from to) ts tt h.1
+failed_only P (step.Creates path mode) f ts i h = maybe_only P (entry.Makes path mode) ts i h.1
+failed_only P (step.SyncsFile path) f ts i h = maybe_only P (entry.SyncsFile path) ts tt h.1
+failed_only P (step.SyncsDir path) f ts i h = maybe_only P (entry.SyncsDir path) ts tt h.1
+failed_only P (step.Rotated log) f ts i h = absurd h
+failed_only P _ f ts i h = absurd i
 
 -- ---- a course
+
+-- A first part of these changes of names, in order; and of each file that was made P holds.
+pub record Begun (P : Entry → Type 0) (steps : List Entry) (ts : List Entry) : Type 0 where
+  pub first : IsFirstOf steps (filter is_naming ts)
+  pub only : Each (MakesOnly P) ts
 
 first_none : (xs : List Entry) → IsFirstOf xs []
 first_none xs = (xs, refl)
@@ -70,21 +106,26 @@ first_none xs = (xs, refl)
 first_same : (xs ts us : List Entry) → ts ≡ us → IsFirstOf xs us → IsFirstOf xs ts
 first_same xs ts us e f = subst (IsFirstOf xs) (sym e) f
 
-pub course_first : (ss : List Step) (t : List Mark) (f : List Fault) (ts : List Entry) → ArePlain ss → Course ss t f ts → IsFirstOf (changes_by ss) (filter is_change ts)
-course_first [] t f ts plain c = first_same [] (filter is_change ts) [] (changes_are ts [] c.2) (first_none [])
-course_first (s ∷ ss) t f ts plain (inl h) = first_longer (change_of s) (changes_by ss) (filter is_change ts) (failed_changes s h.fault ts plain.0 h.failed)
-course_first (s ∷ ss) t f ts plain (inr g) =
-    first_same (change_of s ++ changes_by ss) (filter is_change ts) (change_of s ++ filter is_change g.entries.back)
-    (changes_are ts _ g.entries.joined ∙ (filter-append is_change g.entries.front g.entries.back ∙ ap (λ us. us ++ filter is_change g.entries.back) (went_changes s g.entries.front plain.0 g.entries.first)))
-    (first_behind (change_of s) (changes_by ss) (filter is_change g.entries.back) (course_first ss g.later f g.entries.back plain.1 g.entries.second))
+pub course_first : (P : Entry → Type 0) (ss : List Step) (t : List Mark) (f : List Fault) (ts : List Entry) → ArePlain P ss → Course ss t f ts → Begun P (changes_by ss) ts
+course_first P [] t f ts plain c = record { first = first_same [] (filter is_naming ts) [] (changes_are ts [] c.2) (first_none []); only = none_only P ts c.2 }
+course_first P (s ∷ ss) t f ts plain (inl h) = record { first = first_longer (change_of s) (changes_by ss) (filter is_naming ts) (failed_changes P s h.fault ts plain.0 h.failed); only = failed_only P s h.fault ts plain.0 h.failed }
+course_first P (s ∷ ss) t f ts plain (inr g) = let rest = course_first P ss g.later f g.entries.back plain.1 g.entries.second in record {
+  first = first_same (change_of s ++ changes_by ss) (filter is_naming ts) (change_of s ++ filter is_naming g.entries.back)
+      (changes_are ts _ g.entries.joined ∙ (filter-append is_naming g.entries.front g.entries.back ∙ ap (λ us. us ++ filter is_naming g.entries.back) (went_changes P s g.entries.front plain.0 g.entries.first)))
+      (first_behind (change_of s) (changes_by ss) (filter is_naming g.entries.back) rest.first);
+  only = subst (Each (MakesOnly P)) (sym g.entries.joined) (each_append (MakesOnly P) g.entries.front g.entries.back (went_only P s g.entries.front plain.0 g.entries.first) rest.only);
+}
 
-plain_part : (xs ys : List Step) → ArePlain (xs ++ ys) → ArePlain xs
-plain_part [] ys a = tt
-plain_part (x ∷ xs) ys a = (a.0, plain_part xs ys a.1)
+plain_part : (P : Entry → Type 0) (xs ys : List Step) → ArePlain P (xs ++ ys) → ArePlain P xs
+plain_part P [] ys a = tt
+plain_part P (x ∷ xs) ys a = (a.0, plain_part P xs ys a.1)
 
-pub cut_first : (ss : List Step) (t : List Mark) (f : List Fault) (ts : List Entry) → ArePlain ss → CourseCut ss t f ts → IsFirstOf (changes_by ss) (filter is_change ts)
-cut_first ss t f ts plain c = subst (λ xs. IsFirstOf xs (filter is_change ts)) (sym (ap changes_by c.steps_are ∙ flat_map-append change_of c.made c.rest))
-    (first_longer (changes_by c.made) (changes_by c.rest) (filter is_change ts) (course_first c.made t f ts (plain_part c.made c.rest (subst ArePlain c.steps_are plain)) c.part.1))
+begun_longer : (P : Entry → Type 0) (xs ys ts : List Entry) → Begun P xs ts → Begun P (xs ++ ys) ts
+begun_longer P xs ys ts b = record { first = first_longer xs ys (filter is_naming ts) b.first; only = b.only }
+
+pub cut_first : (P : Entry → Type 0) (ss : List Step) (t : List Mark) (f : List Fault) (ts : List Entry) → ArePlain P ss → CourseCut ss t f ts → Begun P (changes_by ss) ts
+cut_first P ss t f ts plain c = subst (λ xs. Begun P xs ts) (sym (ap changes_by c.steps_are ∙ flat_map-append change_of c.made c.rest))
+    (begun_longer P (changes_by c.made) (changes_by c.rest) ts (course_first P c.made t f ts (plain_part P c.made c.rest (subst (ArePlain P) c.steps_are plain)) c.part.1))
 
 -- ---- parts
 
@@ -92,8 +133,16 @@ pub parts_none : (ps : List (List Entry)) → FirstParts ps []
 parts_none [] = refl
 parts_none (p ∷ ps) = record { front = []; back = []; joined = refl; first = first_none p; second = parts_none ps }
 
-pub parts_one : (p : List Entry) (ts : List Entry) → IsFirstOf p ts → FirstParts (p ∷ []) ts
-parts_one p ts f = record { front = ts; back = []; joined = sym (append-nil ts); first = f; second = refl }
+-- A first part of each part of these changes of names, one behind another; and of each file that was made P holds.
+pub record BegunParts (P : Entry → Type 0) (parts : List (List Entry)) (ts : List Entry) : Type 0 where
+  pub first : FirstParts parts (filter is_naming ts)
+  pub only : Each (MakesOnly P) ts
+
+first_one : (p : List Entry) (ts : List Entry) → IsFirstOf p ts → FirstParts (p ∷ []) ts
+first_one p ts f = record { front = ts; back = []; joined = sym (append-nil ts); first = f; second = refl }
+
+parts_one : (P : Entry → Type 0) (p : List Entry) (ts : List Entry) → Begun P p ts → BegunParts P (p ∷ []) ts
+parts_one P p ts b = record { first = first_one p (filter is_naming ts) b.first; only = b.only }
 
 pub parts_on : (ps qs : List (List Entry)) (ts us : List Entry) → FirstParts ps ts → FirstParts qs us → FirstParts (ps ++ qs) (ts ++ us)
 parts_on [] qs ts us p q = subst (FirstParts qs) (sym (ap (λ x. x ++ us) p)) q
@@ -108,108 +157,114 @@ parts_on (p ∷ ps) qs ts us h q = record {
 parts_as : (ps : List (List Entry)) (ts us : List Entry) → ts ≡ us → FirstParts ps us → FirstParts ps ts
 parts_as ps ts us e p = subst (FirstParts ps) (sym e) p
 
-pub joined_changes : (ts front back : List Entry) → ts ≡ front ++ back → filter is_change ts ≡ filter is_change front ++ filter is_change back
-joined_changes ts front back e = changes_are ts (front ++ back) e ∙ filter-append is_change front back
+pub joined_changes : (ts front back : List Entry) → ts ≡ front ++ back → filter is_naming ts ≡ filter is_naming front ++ filter is_naming back
+joined_changes ts front back e = changes_are ts (front ++ back) e ∙ filter-append is_naming front back
 
 -- one behind another
-parts_both : (ps qs : List (List Entry)) (ts front back : List Entry) → ts ≡ front ++ back → FirstParts ps (filter is_change front) → FirstParts qs (filter is_change back) → FirstParts (ps ++ qs) (filter is_change ts)
-parts_both ps qs ts front back e p q = parts_as (ps ++ qs) (filter is_change ts) (filter is_change front ++ filter is_change back) (joined_changes ts front back e) (parts_on ps qs (filter is_change front) (filter is_change back) p q)
+parts_both : (P : Entry → Type 0) (ps qs : List (List Entry)) (ts front back : List Entry) → ts ≡ front ++ back → BegunParts P ps front → BegunParts P qs back → BegunParts P (ps ++ qs) ts
+parts_both P ps qs ts front back e p q = record {
+  first = parts_as (ps ++ qs) (filter is_naming ts) (filter is_naming front ++ filter is_naming back) (joined_changes ts front back e) (parts_on ps qs (filter is_naming front) (filter is_naming back) p.first q.first);
+  only = subst (Each (MakesOnly P)) (sym e) (each_append (MakesOnly P) front back p.only q.only);
+}
 
 -- parts behind which nothing was done
-parts_more : (ps qs : List (List Entry)) (ts : List Entry) → FirstParts ps ts → FirstParts (ps ++ qs) ts
-parts_more ps qs ts p = parts_as (ps ++ qs) ts (ts ++ []) (sym (append-nil ts)) (parts_on ps qs ts [] p (parts_none qs))
+parts_more : (P : Entry → Type 0) (ps qs : List (List Entry)) (ts : List Entry) → BegunParts P ps ts → BegunParts P (ps ++ qs) ts
+parts_more P ps qs ts p = record {
+  first = parts_as (ps ++ qs) (filter is_naming ts) (filter is_naming ts ++ []) (sym (append-nil (filter is_naming ts))) (parts_on ps qs (filter is_naming ts) [] p.first (parts_none qs));
+  only = p.only;
+}
 
-each_parts : (each : List (List Step)) (t : List Mark) (f : List Fault) (ts : List Entry) → EachPlain each → EachDone each t f ts → FirstParts (map changes_by each) (filter is_change ts)
-each_parts [] t f ts plain d = changes_are ts [] d.2
-each_parts (ss ∷ each) t f ts plain d =
-    parts_both (changes_by ss ∷ []) (map changes_by each) ts d.entries.front d.entries.back d.entries.joined
-    (parts_one (changes_by ss) (filter is_change d.entries.front) (course_first ss d.first_marks d.first_faults d.entries.front plain.0 d.entries.first))
-    (each_parts each d.second_marks d.second_faults d.entries.back plain.1 d.entries.second)
+each_parts : (P : Entry → Type 0) (each : List (List Step)) (t : List Mark) (f : List Fault) (ts : List Entry) → EachPlain P each → EachDone each t f ts → BegunParts P (map changes_by each) ts
+each_parts P [] t f ts plain d = record { first = changes_are ts [] d.2; only = none_only P ts d.2 }
+each_parts P (ss ∷ each) t f ts plain d =
+    parts_both P (changes_by ss ∷ []) (map changes_by each) ts d.entries.front d.entries.back d.entries.joined
+    (parts_one P (changes_by ss) d.entries.front (course_first P ss d.first_marks d.first_faults d.entries.front plain.0 d.entries.first))
+    (each_parts P each d.second_marks d.second_faults d.entries.back plain.1 d.entries.second)
 
-last_first : (marks : List Mark) (last : List Step) (t : List Mark) (f : List Fault) (ts : List Entry) → ArePlain last → Course (if_rotated marks last) t f ts → IsFirstOf (changes_by last) (filter is_change ts)
-last_first marks last t f ts plain c = go (list_any is_rotated marks) c
+last_first : (P : Entry → Type 0) (marks : List Mark) (last : List Step) (t : List Mark) (f : List Fault) (ts : List Entry) → ArePlain P last → Course (if_rotated marks last) t f ts → Begun P (changes_by last) ts
+last_first P marks last t f ts plain c = go (list_any is_rotated marks) c
   where
-    go : (b : Bool) → Course (cond b last []) t f ts → IsFirstOf (changes_by last) (filter is_change ts)
-    go true c = course_first last t f ts plain c
-    go false c = first_same (changes_by last) (filter is_change ts) [] (changes_are ts [] c.2) (first_none (changes_by last))
+    go : (b : Bool) → Course (cond b last []) t f ts → Begun P (changes_by last) ts
+    go true c = course_first P last t f ts plain c
+    go false c = record { first = first_same (changes_by last) (filter is_naming ts) [] (changes_are ts [] c.2) (first_none (changes_by last)); only = none_only P ts c.2 }
 
-last_cut_first : (marks : List Mark) (last : List Step) (t : List Mark) (f : List Fault) (ts : List Entry) → ArePlain last → CourseCut (if_rotated marks last) t f ts → IsFirstOf (changes_by last) (filter is_change ts)
-last_cut_first marks last t f ts plain c = go (list_any is_rotated marks) c
+last_cut_first : (P : Entry → Type 0) (marks : List Mark) (last : List Step) (t : List Mark) (f : List Fault) (ts : List Entry) → ArePlain P last → CourseCut (if_rotated marks last) t f ts → Begun P (changes_by last) ts
+last_cut_first P marks last t f ts plain c = go (list_any is_rotated marks) c
   where
     none_of : (ts us : List Entry) → IsFirstOf [] us → us ≡ []
     none_of ts [] h = refl
     none_of ts (u ∷ us) h = absurd (let e : [] ≡ u ∷ (us ++ h.0) = h.1 in cc)
 
-    go : (b : Bool) → CourseCut (cond b last []) t f ts → IsFirstOf (changes_by last) (filter is_change ts)
-    go true c = cut_first last t f ts plain c
-    go false c = first_same (changes_by last) (filter is_change ts) [] (none_of ts (filter is_change ts) (cut_first [] t f ts tt c)) (first_none (changes_by last))
+    go : (b : Bool) → CourseCut (cond b last []) t f ts → Begun P (changes_by last) ts
+    go true c = cut_first P last t f ts plain c
+    go false c = let k = cut_first P [] t f ts tt c in record { first = first_same (changes_by last) (filter is_naming ts) [] (none_of ts (filter is_naming ts) k.first) (first_none (changes_by last)); only = k.only }
 
-logs_parts : (each : List (List Step)) (last : List Step) (t : List Mark) (f : List Fault) (ts : List Entry) → EachPlain each → ArePlain last → LogsDone each last t f ts → FirstParts (map changes_by each ++ changes_by last ∷ []) (filter is_change ts)
-logs_parts each last t f ts plain plain_last d =
-    parts_both (map changes_by each) (changes_by last ∷ []) ts d.entries.front d.entries.back d.entries.joined
-    (each_parts each d.by_each d.of_each d.entries.front plain d.entries.first)
-    (parts_one (changes_by last) (filter is_change d.entries.back) (last_first d.by_each last d.by_last d.of_last d.entries.back plain_last d.entries.second))
+logs_parts : (P : Entry → Type 0) (each : List (List Step)) (last : List Step) (t : List Mark) (f : List Fault) (ts : List Entry) → EachPlain P each → ArePlain P last → LogsDone each last t f ts → BegunParts P (map changes_by each ++ changes_by last ∷ []) ts
+logs_parts P each last t f ts plain plain_last d =
+    parts_both P (map changes_by each) (changes_by last ∷ []) ts d.entries.front d.entries.back d.entries.joined
+    (each_parts P each d.by_each d.of_each d.entries.front plain d.entries.first)
+    (parts_one P (changes_by last) d.entries.back (last_first P d.by_each last d.by_last d.of_last d.entries.back plain_last d.entries.second))
 
-pub set_parts : (s : SetSteps) (t : List Mark) (f : List Fault) (ts : List Entry) → IsPlainSet s → SetDone s t f ts → FirstParts (parts_of_set s) (filter is_change ts)
-set_parts s t f ts plain (broke_off b) =
-    parts_more (changes_by s.first ∷ []) (map changes_by s.each ++ changes_by s.last ∷ []) (filter is_change ts) (parts_one (changes_by s.first) (filter is_change ts) (course_first s.first t f ts plain.first b.part))
-set_parts s t f ts plain (went_on b) =
-    parts_both (changes_by s.first ∷ []) (map changes_by s.each ++ changes_by s.last ∷ []) ts b.entries.front b.entries.back b.entries.joined
-    (parts_one (changes_by s.first) (filter is_change b.entries.front) (course_first s.first b.first_marks b.first_faults b.entries.front plain.first b.entries.first.1))
-    (logs_parts s.each s.last b.second_marks b.second_faults b.entries.back plain.each plain.last b.entries.second)
+pub set_parts : (P : Entry → Type 0) (s : SetSteps) (t : List Mark) (f : List Fault) (ts : List Entry) → IsPlainSet P s → SetDone s t f ts → BegunParts P (parts_of_set s) ts
+set_parts P s t f ts plain (broke_off b) =
+    parts_more P (changes_by s.first ∷ []) (map changes_by s.each ++ changes_by s.last ∷ []) ts (parts_one P (changes_by s.first) ts (course_first P s.first t f ts plain.first b.part))
+set_parts P s t f ts plain (went_on b) =
+    parts_both P (changes_by s.first ∷ []) (map changes_by s.each ++ changes_by s.last ∷ []) ts b.entries.front b.entries.back b.entries.joined
+    (parts_one P (changes_by s.first) b.entries.front (course_first P s.first b.first_marks b.first_faults b.entries.front plain.first b.entries.first.1))
+    (logs_parts P s.each s.last b.second_marks b.second_faults b.entries.back plain.each plain.last b.entries.second)
 
-pub sets_parts : (sets : List SetSteps) (t : List Mark) (f : List Fault) (ts : List Entry) → ArePlainSets sets → SetsDone sets t f ts → FirstParts (parts_of_sets sets) (filter is_change ts)
-sets_parts [] t f ts plain d = changes_are ts [] d.2
-sets_parts (s ∷ sets) t f ts plain d =
-    parts_both (parts_of_set s) (parts_of_sets sets) ts d.entries.front d.entries.back d.entries.joined
-    (set_parts s d.first_marks d.first_faults d.entries.front plain.0 d.entries.first) (sets_parts sets d.second_marks d.second_faults d.entries.back plain.1 d.entries.second)
+pub sets_parts : (P : Entry → Type 0) (sets : List SetSteps) (t : List Mark) (f : List Fault) (ts : List Entry) → ArePlainSets P sets → SetsDone sets t f ts → BegunParts P (parts_of_sets sets) ts
+sets_parts P [] t f ts plain d = record { first = changes_are ts [] d.2; only = none_only P ts d.2 }
+sets_parts P (s ∷ sets) t f ts plain d =
+    parts_both P (parts_of_set s) (parts_of_sets sets) ts d.entries.front d.entries.back d.entries.joined
+    (set_parts P s d.first_marks d.first_faults d.entries.front plain.0 d.entries.first) (sets_parts P sets d.second_marks d.second_faults d.entries.back plain.1 d.entries.second)
 
 -- ---- and where memory ran out
 
-each_plain_split : (xs ys : List (List Step)) → EachPlain (xs ++ ys) → EachPlain xs × EachPlain ys
-each_plain_split [] ys a = (tt, a)
-each_plain_split (x ∷ xs) ys a = let r = each_plain_split xs ys a.1 in ((a.0, r.0), r.1)
+each_plain_split : (P : Entry → Type 0) (xs ys : List (List Step)) → EachPlain P (xs ++ ys) → EachPlain P xs × EachPlain P ys
+each_plain_split P [] ys a = (tt, a)
+each_plain_split P (x ∷ xs) ys a = let r = each_plain_split P xs ys a.1 in ((a.0, r.0), r.1)
 
-sets_plain_split : (xs ys : List SetSteps) → ArePlainSets (xs ++ ys) → ArePlainSets xs × ArePlainSets ys
-sets_plain_split [] ys a = (tt, a)
-sets_plain_split (x ∷ xs) ys a = let r = sets_plain_split xs ys a.1 in ((a.0, r.0), r.1)
+sets_plain_split : (P : Entry → Type 0) (xs ys : List SetSteps) → ArePlainSets P (xs ++ ys) → ArePlainSets P xs × ArePlainSets P ys
+sets_plain_split P [] ys a = (tt, a)
+sets_plain_split P (x ∷ xs) ys a = let r = sets_plain_split P xs ys a.1 in ((a.0, r.0), r.1)
 
 map_split : (xs ys : List (List Step)) → map changes_by (xs ++ ys) ≡ map changes_by xs ++ map changes_by ys
 map_split [] ys = refl
 map_split (x ∷ xs) ys = ap (λ zs. changes_by x ∷ zs) (map_split xs ys)
 
-each_cut_parts : (each : List (List Step)) (t : List Mark) (f : List Fault) (ts : List Entry) → EachPlain each → ListCut Course CourseCut each t f ts → FirstParts (map changes_by each) (filter is_change ts)
-each_cut_parts each t f ts plain c = subst (λ ps. FirstParts ps (filter is_change ts)) (sym (ap (map changes_by) c.list_is ∙ map_split c.done (c.next ∷ c.rest)))
-    (parts_both (map changes_by c.done) (changes_by c.next ∷ map changes_by c.rest) ts c.part.entries.front c.part.entries.back c.part.entries.joined
-    (each_parts c.done c.part.first_marks c.part.first_faults c.part.entries.front p.0 c.part.entries.first)
-    (parts_more (changes_by c.next ∷ []) (map changes_by c.rest) (filter is_change c.part.entries.back) (parts_one (changes_by c.next) (filter is_change c.part.entries.back) (cut_first c.next c.part.second_marks c.part.second_faults c.part.entries.back p.1.0 c.part.entries.second))))
+each_cut_parts : (P : Entry → Type 0) (each : List (List Step)) (t : List Mark) (f : List Fault) (ts : List Entry) → EachPlain P each → ListCut Course CourseCut each t f ts → BegunParts P (map changes_by each) ts
+each_cut_parts P each t f ts plain c = subst (λ ps. BegunParts P ps ts) (sym (ap (map changes_by) c.list_is ∙ map_split c.done (c.next ∷ c.rest)))
+    (parts_both P (map changes_by c.done) (changes_by c.next ∷ map changes_by c.rest) ts c.part.entries.front c.part.entries.back c.part.entries.joined
+    (each_parts P c.done c.part.first_marks c.part.first_faults c.part.entries.front p.0 c.part.entries.first)
+    (parts_more P (changes_by c.next ∷ []) (map changes_by c.rest) c.part.entries.back (parts_one P (changes_by c.next) c.part.entries.back (cut_first P c.next c.part.second_marks c.part.second_faults c.part.entries.back p.1.0 c.part.entries.second))))
   where
-    p : EachPlain c.done × EachPlain (c.next ∷ c.rest)
-    p = each_plain_split c.done (c.next ∷ c.rest) (subst EachPlain c.list_is plain)
+    p : EachPlain P c.done × EachPlain P (c.next ∷ c.rest)
+    p = each_plain_split P c.done (c.next ∷ c.rest) (subst (EachPlain P) c.list_is plain)
 
-logs_cut_parts : (each : List (List Step)) (last : List Step) (t : List Mark) (f : List Fault) (ts : List Entry) → EachPlain each → ArePlain last → LogsCut each last t f ts → FirstParts (map changes_by each ++ changes_by last ∷ []) (filter is_change ts)
-logs_cut_parts each last t f ts plain plain_last (in_each c) = parts_more (map changes_by each) (changes_by last ∷ []) (filter is_change ts) (each_cut_parts each t f ts plain c)
-logs_cut_parts each last t f ts plain plain_last (in_last b) =
-    parts_both (map changes_by each) (changes_by last ∷ []) ts b.entries.front b.entries.back b.entries.joined
-    (each_parts each b.by_each b.of_each b.entries.front plain b.entries.first)
-    (parts_one (changes_by last) (filter is_change b.entries.back) (last_cut_first b.by_each last b.by_last b.of_last b.entries.back plain_last b.entries.second))
+logs_cut_parts : (P : Entry → Type 0) (each : List (List Step)) (last : List Step) (t : List Mark) (f : List Fault) (ts : List Entry) → EachPlain P each → ArePlain P last → LogsCut each last t f ts → BegunParts P (map changes_by each ++ changes_by last ∷ []) ts
+logs_cut_parts P each last t f ts plain plain_last (in_each c) = parts_more P (map changes_by each) (changes_by last ∷ []) ts (each_cut_parts P each t f ts plain c)
+logs_cut_parts P each last t f ts plain plain_last (in_last b) =
+    parts_both P (map changes_by each) (changes_by last ∷ []) ts b.entries.front b.entries.back b.entries.joined
+    (each_parts P each b.by_each b.of_each b.entries.front plain b.entries.first)
+    (parts_one P (changes_by last) b.entries.back (last_cut_first P b.by_each last b.by_last b.of_last b.entries.back plain_last b.entries.second))
 
-set_cut_parts : (s : SetSteps) (t : List Mark) (f : List Fault) (ts : List Entry) → IsPlainSet s → SetCut s t f ts → FirstParts (parts_of_set s) (filter is_change ts)
-set_cut_parts s t f ts plain (in_first c) =
-    parts_more (changes_by s.first ∷ []) (map changes_by s.each ++ changes_by s.last ∷ []) (filter is_change ts) (parts_one (changes_by s.first) (filter is_change ts) (cut_first s.first t f ts plain.first c))
-set_cut_parts s t f ts plain (in_logs b) =
-    parts_both (changes_by s.first ∷ []) (map changes_by s.each ++ changes_by s.last ∷ []) ts b.entries.front b.entries.back b.entries.joined
-    (parts_one (changes_by s.first) (filter is_change b.entries.front) (course_first s.first b.first_marks b.first_faults b.entries.front plain.first b.entries.first.1))
-    (logs_cut_parts s.each s.last b.second_marks b.second_faults b.entries.back plain.each plain.last b.entries.second)
+set_cut_parts : (P : Entry → Type 0) (s : SetSteps) (t : List Mark) (f : List Fault) (ts : List Entry) → IsPlainSet P s → SetCut s t f ts → BegunParts P (parts_of_set s) ts
+set_cut_parts P s t f ts plain (in_first c) =
+    parts_more P (changes_by s.first ∷ []) (map changes_by s.each ++ changes_by s.last ∷ []) ts (parts_one P (changes_by s.first) ts (cut_first P s.first t f ts plain.first c))
+set_cut_parts P s t f ts plain (in_logs b) =
+    parts_both P (changes_by s.first ∷ []) (map changes_by s.each ++ changes_by s.last ∷ []) ts b.entries.front b.entries.back b.entries.joined
+    (parts_one P (changes_by s.first) b.entries.front (course_first P s.first b.first_marks b.first_faults b.entries.front plain.first b.entries.first.1))
+    (logs_cut_parts P s.each s.last b.second_marks b.second_faults b.entries.back plain.each plain.last b.entries.second)
 
-pub sets_cut_parts : (sets : List SetSteps) (t : List Mark) (f : List Fault) (ts : List Entry) → ArePlainSets sets → SetsCut sets t f ts → FirstParts (parts_of_sets sets) (filter is_change ts)
-sets_cut_parts sets t f ts plain c = subst (λ ps. FirstParts ps (filter is_change ts)) (sym (ap parts_of_sets c.list_is ∙ flat_map-append parts_of_set c.done (c.next ∷ c.rest)))
-    (parts_both (parts_of_sets c.done) (parts_of_set c.next ++ parts_of_sets c.rest) ts c.part.entries.front c.part.entries.back c.part.entries.joined
-    (sets_parts c.done c.part.first_marks c.part.first_faults c.part.entries.front p.0 c.part.entries.first)
-    (parts_more (parts_of_set c.next) (parts_of_sets c.rest) (filter is_change c.part.entries.back) (set_cut_parts c.next c.part.second_marks c.part.second_faults c.part.entries.back p.1.0 c.part.entries.second)))
+pub sets_cut_parts : (P : Entry → Type 0) (sets : List SetSteps) (t : List Mark) (f : List Fault) (ts : List Entry) → ArePlainSets P sets → SetsCut sets t f ts → BegunParts P (parts_of_sets sets) ts
+sets_cut_parts P sets t f ts plain c = subst (λ ps. BegunParts P ps ts) (sym (ap parts_of_sets c.list_is ∙ flat_map-append parts_of_set c.done (c.next ∷ c.rest)))
+    (parts_both P (parts_of_sets c.done) (parts_of_set c.next ++ parts_of_sets c.rest) ts c.part.entries.front c.part.entries.back c.part.entries.joined
+    (sets_parts P c.done c.part.first_marks c.part.first_faults c.part.entries.front p.0 c.part.entries.first)
+    (parts_more P (parts_of_set c.next) (parts_of_sets c.rest) c.part.entries.back (set_cut_parts P c.next c.part.second_marks c.part.second_faults c.part.entries.back p.1.0 c.part.entries.second)))
   where
-    p : ArePlainSets c.done × ArePlainSets (c.next ∷ c.rest)
-    p = sets_plain_split c.done (c.next ∷ c.rest) (subst ArePlainSets c.list_is plain)
+    p : ArePlainSets P c.done × ArePlainSets P (c.next ∷ c.rest)
+    p = sets_plain_split P c.done (c.next ∷ c.rest) (subst (ArePlainSets P) c.list_is plain)
 
 -- ---- seen from one log
 
@@ -259,8 +314,74 @@ one_part P steps (p ∷ ps) part after ts b w a f = subst (FirstWoven P steps) (
 
 -- ---- the shape
 
+-- all changes: those of names, and the makings
+pub each_change : (P : Entry → Type 0) (ts : List Entry) → Each P (filter is_naming ts) → Each (MakesOnly P) ts → Each P (filter is_change ts)
+each_change P [] a m = tt
+each_change P (entry.Renames from to ∷ ts) a m = (a.0, each_change P ts a.1 m.1)
+each_change P (entry.Unlinks x ∷ ts) a m = (a.0, each_change P ts a.1 m.1)
+each_change P (entry.MakesDir x mode ∷ ts) a m = (a.0, each_change P ts a.1 m.1)
+each_change P (entry.Makes x mode ∷ ts) a m = (m.0, each_change P ts a m.1)
+each_change P (entry.Starts state now rules ∷ ts) a m = absurd m.0
+each_change P (entry.Appends x bytes ∷ ts) a m = absurd m.0
+each_change P (entry.Truncates x ∷ ts) a m = absurd m.0
+each_change P (_ ∷ ts) a m = each_change P ts a m.1
+
+-- one entry more
+weave_one : (P : Entry → Type 0) (os : List Entry) (e : Entry) (xs ys : List Entry) → Weave P os (e ∷ xs) → ((us : List Entry) → Weave P us xs → Weave P us ys) → Weave P os (e ∷ ys)
+weave_one P _ e xs ys (own {steps = os} x w) f = own e (f os w)
+weave_one P os e xs ys (other x p w) f = other e p (f os w)
+
+-- the makings stand between
+pub weave_change : (P : Entry → Type 0) (os ts : List Entry) → Weave P os (filter is_naming ts) → Each (MakesOnly P) ts → Weave P os (filter is_change ts)
+weave_change P os [] w m = w
+weave_change P os (entry.Renames from to ∷ ts) w m = weave_one P os (entry.Renames from to) (filter is_naming ts) (filter is_change ts) w (λ us v. weave_change P us ts v m.1)
+weave_change P os (entry.Unlinks x ∷ ts) w m = weave_one P os (entry.Unlinks x) (filter is_naming ts) (filter is_change ts) w (λ us v. weave_change P us ts v m.1)
+weave_change P os (entry.MakesDir x mode ∷ ts) w m = weave_one P os (entry.MakesDir x mode) (filter is_naming ts) (filter is_change ts) w (λ us v. weave_change P us ts v m.1)
+weave_change P os (entry.Makes x mode ∷ ts) w m = other (entry.Makes x mode) m.0 (weave_change P os ts w m.1)
+weave_change P os (entry.Starts state now rules ∷ ts) w m = absurd m.0
+weave_change P os (entry.Appends x bytes ∷ ts) w m = absurd m.0
+weave_change P os (entry.Truncates x ∷ ts) w m = absurd m.0
+weave_change P os (_ ∷ ts) w m = weave_change P os ts w m.1
+
+-- for one condition of what is made another
+only_one : (P Q : Entry → Type 0) (e : Entry) → ((e : Entry) → P e → Q e) → MakesOnly P e → MakesOnly Q e
+only_one P Q (entry.Makes x mode) f m = f (entry.Makes x mode) m
+only_one P Q (entry.Starts state now rules) f m = m
+only_one P Q (entry.Appends x bytes) f m = m
+only_one P Q (entry.Truncates x) f m = m
+only_one P Q _ f m = tt
+
+pub only_as : (P Q : Entry → Type 0) (ts : List Entry) → ((e : Entry) → P e → Q e) → Each (MakesOnly P) ts → Each (MakesOnly Q) ts
+only_as P Q ts f m = each_as (MakesOnly P) (MakesOnly Q) ts (λ e h. only_one P Q e f h) m
+
+-- ---- the logs that are made anew
+
+made_some : (ts : List Target) (e : Entry) → MakesOne ts e → IsOfSome ts e
+made_some [] e h = h
+made_some (t ∷ ts) e (inl h) = inl (inr h)
+made_some (t ∷ ts) e (inr h) = inr (made_some ts e h)
+
+made_other : (log : Path) (ts : List Target) (e : Entry) → MakesOne ts e → IsOfOther log ts e ⊎ MakesAt log e
+made_other log [] e h = absurd h
+made_other log (t ∷ ts) e (inl h) = go (bytes_eq t.log log) refl
+  where
+    go : (b : Bool) → bytes_eq t.log log ≡ b → IsOfOther log (t ∷ ts) e ⊎ MakesAt log e
+    go true is = inr (subst (λ (x : Path). MakesAt x e) ((bytes_eq-Decides t.log log).0 is) h)
+    go false differ = inl (inl ((λ same. let yes : bytes_eq t.log log ≡ true = (bytes_eq-Decides t.log log).1 same in cc), inr h))
+made_other log (t ∷ ts) e (inr h) = ⊎_elim (λ o. inl (inr o)) (λ own. inr own) (made_other log ts e h)
+
+pub made_between : (state log : Path) (ts : List Target) (e : Entry) → MakesOne ts e → StandsBetween state log ts e
+made_between state log ts e h = ⊎_elim (λ o. inl o) (λ own. inr (inr own)) (made_other log ts e h)
+
+-- each change of the acts is of one of the logs
+pub changes_of_some : (targets : List Target) (sets : List SetSteps) (ts : List Entry) → ArePlanned targets sets → BegunParts (MakesOne targets) (parts_of_sets sets) ts → Each (IsOfSome targets) (filter is_change ts)
+changes_of_some targets sets ts planned f = each_change (IsOfSome targets) ts (all_parts (IsOfSome targets) (parts_of_sets sets) (filter is_naming ts) planned.all f.first) (only_as (MakesOne targets) (IsOfSome targets) ts (made_some targets) f.only)
+
+pub done_some : (targets : List Target) (sets : List SetSteps) (t : List Mark) (f : List Fault) (ts : List Entry) → ArePlanned targets sets → SetsDone sets t f ts → Each (IsOfSome targets) (filter is_change ts)
+done_some targets sets t f ts planned d = changes_of_some targets sets ts planned (sets_parts (MakesOne targets) sets t f ts planned.plain d)
+
 abbrev pub turns_by : (state : Path) (rules : Rules) (looks : List Entry) (targets : List Target) (sets : List SetSteps) (ts : List Entry) → AreQuiet looks → AreSeen rules looks targets → ArePlanned targets sets
-    → FirstParts (parts_of_sets sets) (filter is_change ts) → AllTurns state rules (looks ++ ts)
+    → BegunParts (MakesOne targets) (parts_of_sets sets) ts → AllTurns state rules (looks ++ ts)
 turns_by state rules looks targets sets ts quiet seen planned f = record {
   looks = looks;
   acts = ts;
@@ -268,17 +389,22 @@ turns_by state rules looks targets sets ts quiet seen planned f = record {
   quiet = quiet;
   targets = targets;
   seen = seen;
-  all = each_as (IsOfSome targets) (λ e. IsOfSome targets e ⊎ IsOfState state e) (filter is_change ts) (λ e h. inl h) (all_parts (IsOfSome targets) (parts_of_sets sets) (filter is_change ts) planned.all f);
+  all = each_as (IsOfSome targets) (λ e. IsOfSome targets e ⊎ IsOfState state e) (filter is_change ts) (λ e h. inl h) (changes_of_some targets sets ts planned f);
   each = λ t i.
       let o = planned.each t i in
-      let w = one_part (IsOfOther t.log targets) (rotation_of t) o.before o.part o.after (filter is_change ts) o.first o.woven o.rest (subst (λ ps. FirstParts ps (filter is_change ts)) o.parts_are f) in
-      record { made = w.made; first = w.first; woven = weave_as (IsOfOther t.log targets) (StandsBetween state t.log targets) w.made (filter is_change ts) (λ e h. inl h) w.woven };
+      let w = one_part (IsOfOther t.log targets) (rotation_of t) o.before o.part o.after (filter is_naming ts) o.first o.woven o.rest (subst (λ ps. FirstParts ps (filter is_naming ts)) o.parts_are f.first) in
+      record {
+        made = w.made;
+        first = w.first;
+        woven = weave_change (StandsBetween state t.log targets) w.made ts (weave_as (IsOfOther t.log targets) (StandsBetween state t.log targets) w.made (filter is_naming ts) (λ e h. inl h) w.woven)
+            (only_as (MakesOne targets) (StandsBetween state t.log targets) ts (made_between state t.log targets) f.only);
+      };
 }
 
 abbrev pub done_turns : (state : Path) (rules : Rules) (looks : List Entry) (targets : List Target) (sets : List SetSteps) (t : List Mark) (f : List Fault) (ts : List Entry) → AreQuiet looks → AreSeen rules looks targets → ArePlanned targets sets
     → SetsDone sets t f ts → AllTurns state rules (looks ++ ts)
-done_turns state rules looks targets sets t f ts quiet seen planned d = turns_by state rules looks targets sets ts quiet seen planned (sets_parts sets t f ts planned.plain d)
+done_turns state rules looks targets sets t f ts quiet seen planned d = turns_by state rules looks targets sets ts quiet seen planned (sets_parts (MakesOne targets) sets t f ts planned.plain d)
 
 pub cut_turns : (state : Path) (rules : Rules) (looks : List Entry) (targets : List Target) (sets : List SetSteps) (t : List Mark) (f : List Fault) (ts : List Entry) → AreQuiet looks → AreSeen rules looks targets → ArePlanned targets sets
     → SetsCut sets t f ts → AllTurns state rules (looks ++ ts)
-cut_turns state rules looks targets sets t f ts quiet seen planned c = turns_by state rules looks targets sets ts quiet seen planned (sets_cut_parts sets t f ts planned.plain c)
+cut_turns state rules looks targets sets t f ts quiet seen planned c = turns_by state rules looks targets sets ts quiet seen planned (sets_cut_parts (MakesOne targets) sets t f ts planned.plain c)

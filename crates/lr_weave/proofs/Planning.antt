@@ -25,10 +25,10 @@ use Rattle.lr_plan.specs.declared.planned.SetPlan.{SetPlan}
 use Rattle.lr_plan.specs.declared.step.Step.{Step}
 use Rattle.lr_plan.specs.Steps.{program, removals, directory, move, transfer, made_anew, rotation_of as rotation, retirement_of as retirement, steps_of_log, shared_steps, by_logs, steps_of_set}
 use Rattle.lr_rotations.specs.Weave.{Weave}
-use Rattle.lr_weave.specs.Parts.{change_of, changes_by, ArePlain, EachPlain, IsPlainSet, ArePlainSets, parts_of_set, parts_of_sets, AllOf, InOnePart, ArePlanned}
+use Rattle.lr_weave.specs.Parts.{change_of, changes_by, ArePlain, EachPlain, IsPlainSet, ArePlainSets, MakesOne, parts_of_set, parts_of_sets, AllOf, InOnePart, ArePlanned}
 use Rattle.lr_weave.specs.Planned.{IsReadyFor, AreReadyFor, HaveLogs, NoneHas, AreApart}
 use Rattle.lr_rotations.specs.Target.{Target, rotation_of, IsOneOf}
-use Rattle.lr_rotations.specs.AllTurns.{IsOfSome, IsOfOther}
+use Rattle.lr_rotations.specs.AllTurns.{IsOf, IsOfSome, IsOfOther}
 use Rattle.lr_rotations.proofs.Weaving.{weave_on, weave_own, weave_others}
 
 -- ---- the changes of one log
@@ -56,10 +56,10 @@ by_rename : (log target : Path) (j : Option Job) → j ≡ None → changes_by (
 by_rename log target None e = refl
 by_rename log target (Some job) e = absurd (cc)
 
-no_make : (m : Make) (log : Path) (j : Option Job) → m ≡ make.No → j ≡ None → changes_by (made_anew m log j) ≡ []
-no_make make.No log None e f = refl
-no_make make.No log (Some job) e f = absurd (cc)
-no_make (make.Yes mode) log j e f = absurd (cc)
+no_make : (m : Make) (log : Path) (j : Option Job) → j ≡ None → changes_by (made_anew m log j) ≡ []
+no_make make.No log None f = refl
+no_make (make.Yes mode) log None f = refl
+no_make m log (Some job) f = absurd (cc)
 
 abbrev pub front_of : Target → List Entry
 front_of t = map (unlink_at t.naming) (leftovers t.count (places_of t.stand.members)) ++ (map (move_at t.naming) (kept t.count (places_of t.stand.members)) ++ entry.Renames t.log (path_at t.naming 0) ∷ [])
@@ -80,7 +80,7 @@ front_is t log r =
     ∙ two (ap (λ xs. changes_by (map move xs)) r.ready.moves_are ∙ moves t.naming (kept t.count (places_of t.stand.members)))
     (on (transfer log.ready.log log.ready.target log.job) rest
     ∙ two (by_rename log.ready.log log.ready.target log.job r.no_job ∙ (ap (λ x. entry.Renames x log.ready.target ∷ []) r.ready.log_is ∙ ap (λ x. entry.Renames t.log x ∷ []) r.ready.target_is))
-    (no_make log.ready.make log.ready.log log.job r.ready.no_make r.no_job))))
+    (no_make log.ready.make log.ready.log log.job r.no_job))))
   where
     rest : List Step
     rest = Rattle.lr_plan.specs.declared.step.Step.TheVariants.Rotated log.ready.log ∷ made_anew log.ready.make log.ready.log log.job
@@ -102,79 +102,88 @@ log_is t log r =
 
 -- ---- plain steps
 
-plain_on : (xs ys : List Step) → ArePlain xs → ArePlain ys → ArePlain (xs ++ ys)
-plain_on [] ys a b = b
-plain_on (x ∷ xs) ys a b = (a.0, plain_on xs ys a.1 b)
+plain_on : (P : Entry → Type 0) (xs ys : List Step) → ArePlain P xs → ArePlain P ys → ArePlain P (xs ++ ys)
+plain_on P [] ys a b = b
+plain_on P (x ∷ xs) ys a b = (a.0, plain_on P xs ys a.1 b)
 
-pub program_plain : (p : Phase) (o : Option Command) → ArePlain (program p o)
-program_plain p None = tt
-program_plain p (Some command) = (tt, tt)
+pub program_plain : (P : Entry → Type 0) (p : Phase) (o : Option Command) → ArePlain P (program p o)
+program_plain P p None = tt
+program_plain P p (Some command) = (tt, tt)
 
-removals_plain : (rs : List Removal) → ArePlain (removals rs)
-removals_plain [] = tt
-removals_plain (r ∷ rs) = plain_on (program phase.Preremove r.preremove ++ (program phase.Mail r.mail ++ Rattle.lr_plan.specs.declared.step.Step.TheVariants.Removes r.path ∷ [])) (removals rs)
-    (plain_on (program phase.Preremove r.preremove) (program phase.Mail r.mail ++ Rattle.lr_plan.specs.declared.step.Step.TheVariants.Removes r.path ∷ []) (program_plain phase.Preremove r.preremove)
-    (plain_on (program phase.Mail r.mail) (Rattle.lr_plan.specs.declared.step.Step.TheVariants.Removes r.path ∷ []) (program_plain phase.Mail r.mail) (tt, tt))) (removals_plain rs)
+removals_plain : (P : Entry → Type 0) (rs : List Removal) → ArePlain P (removals rs)
+removals_plain P [] = tt
+removals_plain P (r ∷ rs) = plain_on P (program phase.Preremove r.preremove ++ (program phase.Mail r.mail ++ Rattle.lr_plan.specs.declared.step.Step.TheVariants.Removes r.path ∷ [])) (removals rs)
+    (plain_on P (program phase.Preremove r.preremove) (program phase.Mail r.mail ++ Rattle.lr_plan.specs.declared.step.Step.TheVariants.Removes r.path ∷ []) (program_plain P phase.Preremove r.preremove)
+    (plain_on P (program phase.Mail r.mail) (Rattle.lr_plan.specs.declared.step.Step.TheVariants.Removes r.path ∷ []) (program_plain P phase.Mail r.mail) (tt, tt))) (removals_plain P rs)
 
-moves_plain : (ms : List Move) → ArePlain (map move ms)
-moves_plain [] = tt
-moves_plain (m ∷ ms) = (tt, moves_plain ms)
+moves_plain : (P : Entry → Type 0) (ms : List Move) → ArePlain P (map move ms)
+moves_plain P [] = tt
+moves_plain P (m ∷ ms) = (tt, moves_plain P ms)
 
-dir_plain : (d : Option (Path × Option ℕ)) → d ≡ None → ArePlain (directory d)
-dir_plain None e = tt
-dir_plain (Some x) e = absurd (cc)
+dir_plain : (P : Entry → Type 0) (d : Option (Path × Option ℕ)) → d ≡ None → ArePlain P (directory d)
+dir_plain P None e = tt
+dir_plain P (Some x) e = absurd (cc)
 
-turn_plain : (log target : Path) (m : Make) (j : Option Job) → m ≡ make.No → j ≡ None → ArePlain (transfer log target j ++ Rattle.lr_plan.specs.declared.step.Step.TheVariants.Rotated log ∷ made_anew m log j)
-turn_plain log target make.No None e f = (tt, (tt, tt))
-turn_plain log target make.No (Some job) e f = absurd (cc)
-turn_plain log target (make.Yes mode) j e f = absurd (cc)
+-- P holds of the making of this log, with any mode
+abbrev pub OfMaking : (Entry → Type 0) → Path → Type 0
+OfMaking P log = (mode : Option ℕ) → P (entry.Makes log mode)
 
-pub front_plain : (t : Target) (log : LogPlan) → IsReadyFor t log → ArePlain (rotation log)
-front_plain t log r =
-    plain_on (removals log.ready.leftovers) _ (removals_plain log.ready.leftovers)
-    (plain_on (directory log.ready.dir) _ (dir_plain log.ready.dir r.ready.no_dir)
-    (plain_on (map move log.ready.moves) _ (moves_plain log.ready.moves) (turn_plain log.ready.log log.ready.target log.ready.make log.job r.ready.no_make r.no_job)))
+turn_plain : (P : Entry → Type 0) (log target : Path) (m : Make) (j : Option Job) → OfMaking P log → j ≡ None → ArePlain P (transfer log target j ++ Rattle.lr_plan.specs.declared.step.Step.TheVariants.Rotated log ∷ made_anew m log j)
+turn_plain P log target make.No None h f = (tt, (tt, tt))
+turn_plain P log target (make.Yes mode) None h f = (tt, (tt, (h mode, tt)))
+turn_plain P log target m (Some job) h f = absurd (cc)
 
-pub back_plain : (log : LogPlan) → ArePlain (retirement log)
-back_plain log = plain_on (program phase.Mail log.first_mail) (removals log.ready.retire) (program_plain phase.Mail log.first_mail) (removals_plain log.ready.retire)
+pub front_plain : (P : Entry → Type 0) (t : Target) (log : LogPlan) → OfMaking P t.log → IsReadyFor t log → ArePlain P (rotation log)
+front_plain P t log h r =
+    plain_on P (removals log.ready.leftovers) _ (removals_plain P log.ready.leftovers)
+    (plain_on P (directory log.ready.dir) _ (dir_plain P log.ready.dir r.ready.no_dir)
+    (plain_on P (map move log.ready.moves) _ (moves_plain P log.ready.moves) (turn_plain P log.ready.log log.ready.target log.ready.make log.job (subst (OfMaking P) (sym r.ready.log_is) h) r.no_job)))
 
-pub log_plain : (t : Target) (log : LogPlan) → IsReadyFor t log → ArePlain (steps_of_log log)
-log_plain t log r =
-    plain_on (program phase.Pre log.pre) _ (program_plain phase.Pre log.pre)
-    (plain_on (rotation log) _ (front_plain t log r) (plain_on (program phase.Post log.post) (retirement log) (program_plain phase.Post log.post) (back_plain log)))
+pub back_plain : (P : Entry → Type 0) (log : LogPlan) → ArePlain P (retirement log)
+back_plain P log = plain_on P (program phase.Mail log.first_mail) (removals log.ready.retire) (program_plain P phase.Mail log.first_mail) (removals_plain P log.ready.retire)
+
+pub log_plain : (P : Entry → Type 0) (t : Target) (log : LogPlan) → OfMaking P t.log → IsReadyFor t log → ArePlain P (steps_of_log log)
+log_plain P t log h r =
+    plain_on P (program phase.Pre log.pre) _ (program_plain P phase.Pre log.pre)
+    (plain_on P (rotation log) _ (front_plain P t log h r) (plain_on P (program phase.Post log.post) (retirement log) (program_plain P phase.Post log.post) (back_plain P log)))
 
 -- ---- one definition
 
-fronts : (ts : List Target) (logs : List LogPlan) → AreReadyFor ts logs → (changes_by (flat_map rotation logs) ≡ flat_map front_of ts) × ArePlain (flat_map rotation logs)
-fronts [] [] r = (refl, tt)
-fronts [] (log ∷ logs) r = absurd r
-fronts (t ∷ ts) [] r = absurd r
-fronts (t ∷ ts) (log ∷ logs) r = let h = fronts ts logs r.1 in (on (rotation log) (flat_map rotation logs) ∙ two (front_is t log r.0) h.0, plain_on (rotation log) (flat_map rotation logs) (front_plain t log r.0) h.1)
+-- so of each of these logs
+abbrev pub OfMakings : (Entry → Type 0) → List Target → Type 0
+OfMakings P [] = Unit {0}
+OfMakings P (t ∷ ts) = OfMaking P t.log × OfMakings P ts
 
-backs : (ts : List Target) (logs : List LogPlan) → AreReadyFor ts logs → (changes_by (flat_map retirement logs) ≡ flat_map back_of ts) × ArePlain (flat_map retirement logs)
-backs [] [] r = (refl, tt)
-backs [] (log ∷ logs) r = absurd r
-backs (t ∷ ts) [] r = absurd r
-backs (t ∷ ts) (log ∷ logs) r = let h = backs ts logs r.1 in (on (retirement log) (flat_map retirement logs) ∙ two (back_is t log r.0) h.0, plain_on (retirement log) (flat_map retirement logs) (back_plain log) h.1)
+fronts : (P : Entry → Type 0) (ts : List Target) (logs : List LogPlan) → OfMakings P ts → AreReadyFor ts logs → (changes_by (flat_map rotation logs) ≡ flat_map front_of ts) × ArePlain P (flat_map rotation logs)
+fronts P [] [] m r = (refl, tt)
+fronts P [] (log ∷ logs) m r = absurd r
+fronts P (t ∷ ts) [] m r = absurd r
+fronts P (t ∷ ts) (log ∷ logs) m r = let h = fronts P ts logs m.1 r.1 in (on (rotation log) (flat_map rotation logs) ∙ two (front_is t log r.0) h.0, plain_on P (rotation log) (flat_map rotation logs) (front_plain P t log m.0 r.0) h.1)
 
-eachs : (ts : List Target) (logs : List LogPlan) → AreReadyFor ts logs → (map changes_by (map steps_of_log logs) ≡ map rotation_of ts) × EachPlain (map steps_of_log logs)
-eachs [] [] r = (refl, tt)
-eachs [] (log ∷ logs) r = absurd r
-eachs (t ∷ ts) [] r = absurd r
-eachs (t ∷ ts) (log ∷ logs) r = let h = eachs ts logs r.1 in (ap (λ x. x ∷ map changes_by (map steps_of_log logs)) (log_is t log r.0) ∙ ap (λ xs. rotation_of t ∷ xs) h.0, (log_plain t log r.0, h.1))
+backs : (P : Entry → Type 0) (ts : List Target) (logs : List LogPlan) → AreReadyFor ts logs → (changes_by (flat_map retirement logs) ≡ flat_map back_of ts) × ArePlain P (flat_map retirement logs)
+backs P [] [] r = (refl, tt)
+backs P [] (log ∷ logs) r = absurd r
+backs P (t ∷ ts) [] r = absurd r
+backs P (t ∷ ts) (log ∷ logs) r = let h = backs P ts logs r.1 in (on (retirement log) (flat_map retirement logs) ∙ two (back_is t log r.0) h.0, plain_on P (retirement log) (flat_map retirement logs) (back_plain P log) h.1)
 
-shared_is : (set : SetPlan) (ts : List Target) → AreReadyFor ts set.logs → (changes_by (shared_steps set) ≡ flat_map front_of ts ++ flat_map back_of ts) × ArePlain (shared_steps set)
-shared_is set ts r = (
+eachs : (P : Entry → Type 0) (ts : List Target) (logs : List LogPlan) → OfMakings P ts → AreReadyFor ts logs → (map changes_by (map steps_of_log logs) ≡ map rotation_of ts) × EachPlain P (map steps_of_log logs)
+eachs P [] [] m r = (refl, tt)
+eachs P [] (log ∷ logs) m r = absurd r
+eachs P (t ∷ ts) [] m r = absurd r
+eachs P (t ∷ ts) (log ∷ logs) m r = let h = eachs P ts logs m.1 r.1 in (ap (λ x. x ∷ map changes_by (map steps_of_log logs)) (log_is t log r.0) ∙ ap (λ xs. rotation_of t ∷ xs) h.0, (log_plain P t log m.0 r.0, h.1))
+
+shared_is : (P : Entry → Type 0) (set : SetPlan) (ts : List Target) → OfMakings P ts → AreReadyFor ts set.logs → (changes_by (shared_steps set) ≡ flat_map front_of ts ++ flat_map back_of ts) × ArePlain P (shared_steps set)
+shared_is P set ts m r = (
   on (program phase.First set.first) _ ∙ two (program_none phase.First set.first)
       (on (program phase.Pre set.pre) _ ∙ two (program_none phase.Pre set.pre)
-      (on (flat_map rotation set.logs) _ ∙ two (fronts ts set.logs r).0
+      (on (flat_map rotation set.logs) _ ∙ two (fronts P ts set.logs m r).0
       (on (program phase.Post set.post) _ ∙ two (program_none phase.Post set.post)
-      (on (flat_map retirement set.logs) (program phase.Last set.last) ∙ (two (backs ts set.logs r).0 (program_none phase.Last set.last) ∙ append-nil (flat_map back_of ts)))))),
-  plain_on (program phase.First set.first) _ (program_plain phase.First set.first)
-      (plain_on (program phase.Pre set.pre) _ (program_plain phase.Pre set.pre)
-      (plain_on (flat_map rotation set.logs) _ (fronts ts set.logs r).1
-      (plain_on (program phase.Post set.post) _ (program_plain phase.Post set.post)
-      (plain_on (flat_map retirement set.logs) (program phase.Last set.last) (backs ts set.logs r).1 (program_plain phase.Last set.last))))),
+      (on (flat_map retirement set.logs) (program phase.Last set.last) ∙ (two (backs P ts set.logs r).0 (program_none phase.Last set.last) ∙ append-nil (flat_map back_of ts)))))),
+  plain_on P (program phase.First set.first) _ (program_plain P phase.First set.first)
+      (plain_on P (program phase.Pre set.pre) _ (program_plain P phase.Pre set.pre)
+      (plain_on P (flat_map rotation set.logs) _ (fronts P ts set.logs m r).1
+      (plain_on P (program phase.Post set.post) _ (program_plain P phase.Post set.post)
+      (plain_on P (flat_map retirement set.logs) (program phase.Last set.last) (backs P ts set.logs r).1 (program_plain P phase.Last set.last))))),
 )
 
 -- the parts of a definition's changes: those of all its logs in one, or each log's in its own
@@ -185,23 +194,31 @@ pub data ArePartsOf (ts : List Target) (ps : List (List Entry)) : Type 0 where
 three : (a a' : List Entry) (b b' : List (List Entry)) (c c' : List Entry) → a ≡ a' → b ≡ b' → c ≡ c' → a ∷ (b ++ c ∷ []) ≡ a' ∷ (b' ++ c' ∷ [])
 three a a' b b' c c' p q r = ap (λ x. x ∷ (b ++ c ∷ [])) p ∙ (ap (λ x. a' ∷ (x ++ c ∷ [])) q ∙ ap (λ x. a' ∷ (b' ++ x ∷ [])) r)
 
-pub set_is : (set : SetPlan) (ts : List Target) → AreReadyFor ts set.logs → ArePartsOf ts (parts_of_set (steps_of_set set)) × IsPlainSet (steps_of_set set)
-set_is set ts r = go set.shared set.logs r
+pub set_is : (P : Entry → Type 0) (set : SetPlan) (ts : List Target) → OfMakings P ts → AreReadyFor ts set.logs → ArePartsOf ts (parts_of_set (steps_of_set set)) × IsPlainSet P (steps_of_set set)
+set_is P set ts m r = go set.shared set.logs r
   where
     no_logs : (us : List Target) → AreReadyFor us [] → us ≡ []
     no_logs [] q = refl
     no_logs (u ∷ us) q = absurd q
 
-    go : (shared : Bool) (logs : List LogPlan) → AreReadyFor ts logs → ArePartsOf ts (parts_of_set (by_logs shared logs set)) × IsPlainSet (by_logs shared logs set)
+    go : (shared : Bool) (logs : List LogPlan) → AreReadyFor ts logs → ArePartsOf ts (parts_of_set (by_logs shared logs set)) × IsPlainSet P (by_logs shared logs set)
     go shared [] q = (by_logs_each (ap (λ (us : List Target). [] ∷ (map rotation_of us ++ [] ∷ [])) (sym (no_logs ts q))), record { first = tt; each = tt; last = tt })
     go true (log ∷ logs) q = (
-      together (three (changes_by (shared_steps set)) (flat_map front_of ts ++ flat_map back_of ts) [] [] [] [] (shared_is set ts r).0 refl refl),
-      record { first = (shared_is set ts r).1; each = tt; last = tt },
+      together (three (changes_by (shared_steps set)) (flat_map front_of ts ++ flat_map back_of ts) [] [] [] [] (shared_is P set ts m r).0 refl refl),
+      record { first = (shared_is P set ts m r).1; each = tt; last = tt },
     )
     go false (log ∷ logs) q = (
-      by_logs_each (three (changes_by (program phase.First set.first)) [] (map changes_by (map steps_of_log set.logs)) (map rotation_of ts) (changes_by (program phase.Last set.last)) [] (program_none phase.First set.first) (eachs ts set.logs r).0 (program_none phase.Last set.last)),
-      record { first = program_plain phase.First set.first; each = (eachs ts set.logs r).1; last = program_plain phase.Last set.last },
+      by_logs_each (three (changes_by (program phase.First set.first)) [] (map changes_by (map steps_of_log set.logs)) (map rotation_of ts) (changes_by (program phase.Last set.last)) [] (program_none phase.First set.first) (eachs P ts set.logs m r).0 (program_none phase.Last set.last)),
+      record { first = program_plain P phase.First set.first; each = (eachs P ts set.logs m r).1; last = program_plain P phase.Last set.last },
     )
+
+-- whatever is made
+abbrev pub Anything : Entry → Type 0
+Anything e = Unit {0}
+
+pub anything : (ts : List Target) → OfMakings Anything ts
+anything [] = tt
+anything (t ∷ ts) = (λ mode. tt, anything ts)
 
 -- ---- seen from one log
 
@@ -342,7 +359,7 @@ sets_out : (P : Entry → Type 0) (groups : List (List Target)) (sets : List Set
 sets_out P [] [] h a = tt
 sets_out P [] (s ∷ sets) h a = absurd h
 sets_out P (g ∷ gs) [] h a = absurd h
-sets_out P (g ∷ gs) (s ∷ sets) h a = let r = logs_split g (flat_map (λ ts. ts) gs) a in all_on P (parts_of_set (steps_of_set s)) (parts_of_sets (map steps_of_set sets)) (set_out P g (parts_of_set (steps_of_set s)) (set_is s g h.0).0 r.0) (sets_out P gs sets h.1 r.1)
+sets_out P (g ∷ gs) (s ∷ sets) h a = let r = logs_split g (flat_map (λ ts. ts) gs) a in all_on P (parts_of_set (steps_of_set s)) (parts_of_sets (map steps_of_set sets)) (set_out P g (parts_of_set (steps_of_set s)) (set_is Anything s g (anything g) h.0).0 r.0) (sets_out P gs sets h.1 r.1)
   where
     logs_split : (xs ys : List Target) → AllLogs P (xs ++ ys) → AllLogs P xs × AllLogs P ys
     logs_split [] ys a = (tt, a)
@@ -354,18 +371,22 @@ sets_in P [] sets t h i ap a = absurd i
 sets_in P (g ∷ gs) [] t h i ap a = absurd h
 sets_in P (g ∷ gs) (s ∷ sets) t h i ap a = ⊎_elim
     (λ here. all_behind P (rotation_of t) (parts_of_set (steps_of_set s)) (parts_of_sets (map steps_of_set sets))
-    (set_in P g (parts_of_set (steps_of_set s)) t (set_is s g h.0).0 here (apart_split g (all_targets gs) ap).0 (but_split P t.log g (all_targets gs) a).0)
+    (set_in P g (parts_of_set (steps_of_set s)) t (set_is Anything s g (anything g) h.0).0 here (apart_split g (all_targets gs) ap).0 (but_split P t.log g (all_targets gs) a).0)
     (sets_out P gs sets h.1 (all_of P t.log (all_targets gs) (not_behind t g (all_targets gs) ap here) (but_split P t.log g (all_targets gs) a).1)))
     (λ there. all_before P (rotation_of t) (parts_of_set (steps_of_set s)) (parts_of_sets (map steps_of_set sets))
-    (set_out P g (parts_of_set (steps_of_set s)) (set_is s g h.0).0 (all_of P t.log g (not_before t g (all_targets gs) ap there) (but_split P t.log g (all_targets gs) a).0))
+    (set_out P g (parts_of_set (steps_of_set s)) (set_is Anything s g (anything g) h.0).0 (all_of P t.log g (not_before t g (all_targets gs) ap there) (but_split P t.log g (all_targets gs) a).0))
     (sets_in P gs sets t h.1 there (apart_split g (all_targets gs) ap).1 (but_split P t.log g (all_targets gs) a).1))
     (one_split t g (all_targets gs) i)
 
-sets_plain : (groups : List (List Target)) (sets : List SetPlan) → HaveLogs groups sets → ArePlainSets (map steps_of_set sets)
-sets_plain [] [] h = tt
-sets_plain [] (s ∷ sets) h = absurd h
-sets_plain (g ∷ gs) [] h = absurd h
-sets_plain (g ∷ gs) (s ∷ sets) h = ((set_is s g h.0).1, sets_plain gs sets h.1)
+makings_split : (P : Entry → Type 0) (xs ys : List Target) → OfMakings P (xs ++ ys) → OfMakings P xs × OfMakings P ys
+makings_split P [] ys m = (tt, m)
+makings_split P (x ∷ xs) ys m = let r = makings_split P xs ys m.1 in ((m.0, r.0), r.1)
+
+sets_plain : (P : Entry → Type 0) (groups : List (List Target)) (sets : List SetPlan) → OfMakings P (all_targets groups) → HaveLogs groups sets → ArePlainSets P (map steps_of_set sets)
+sets_plain P [] [] m h = tt
+sets_plain P [] (s ∷ sets) m h = absurd h
+sets_plain P (g ∷ gs) [] m h = absurd h
+sets_plain P (g ∷ gs) (s ∷ sets) m h = let k = makings_split P g (all_targets gs) m in ((set_is P s g k.0 h.0).1, sets_plain P gs sets k.1 h.1)
 
 -- ---- P of the others
 
@@ -375,12 +396,12 @@ each_every P (x ∷ xs) f = (f x (inl refl), each_every P xs (λ e i. f e (inr i
 
 of_other : (log : Path) (ts : List Target) (t : Target) (e : Entry) → IsOneOf t ts → t.log ≢ log → IsIn e (rotation_of t) → IsOfOther log ts e
 of_other log [] t e i ne h = absurd i
-of_other log (x ∷ xs) t e (inl is) ne h = inl (subst (λ (y : Target). (y.log ≢ log) × IsIn e (rotation_of y)) (sym is) (ne, h))
+of_other log (x ∷ xs) t e (inl is) ne h = inl (subst (λ (y : Target). (y.log ≢ log) × IsOf y e) (sym is) (ne, inl h))
 of_other log (x ∷ xs) t e (inr i) ne h = inr (of_other log xs t e i ne h)
 
 of_some : (ts : List Target) (t : Target) (e : Entry) → IsOneOf t ts → IsIn e (rotation_of t) → IsOfSome ts e
 of_some [] t e i h = absurd i
-of_some (x ∷ xs) t e (inl is) h = inl (subst (λ (y : Target). IsIn e (rotation_of y)) (sym is) h)
+of_some (x ∷ xs) t e (inl is) h = inl (subst (λ (y : Target). IsOf y e) (sym is) (inl h))
 of_some (x ∷ xs) t e (inr i) h = inr (of_some xs t e i h)
 
 others : (log : Path) (all ts : List Target) → ((t : Target) → IsOneOf t ts → IsOneOf t all) → AllBut (IsOfOther log all) log ts
@@ -391,10 +412,19 @@ somes : (all ts : List Target) → ((t : Target) → IsOneOf t ts → IsOneOf t 
 somes all [] f = tt
 somes all (t ∷ ts) f = (each_every (IsOfSome all) (rotation_of t) (λ e i. of_some all t e (f t (inl refl)) i), somes all ts (λ x i. f x (inr i)))
 
+one_made : (ts : List Target) (t : Target) (mode : Option ℕ) → IsOneOf t ts → MakesOne ts (entry.Makes t.log mode)
+one_made [] t mode i = absurd i
+one_made (x ∷ xs) t mode (inl is) = inl (ap (λ (y : Target). y.log) (sym is))
+one_made (x ∷ xs) t mode (inr i) = inr (one_made xs t mode i)
+
+own_makings : (all ts : List Target) → ((t : Target) → IsOneOf t ts → IsOneOf t all) → OfMakings (MakesOne all) ts
+own_makings all [] f = tt
+own_makings all (t ∷ ts) f = (λ mode. one_made all t mode (f t (inl refl)), own_makings all ts (λ x i. f x (inr i)))
+
 -- a plan whose rotations are ready, of logs of which none stands twice, is planned
 pub ready_planned : (groups : List (List Target)) (sets : List SetPlan) → HaveLogs groups sets → AreApart (flat_map (λ ts. ts) groups) → ArePlanned (flat_map (λ ts. ts) groups) (map steps_of_set sets)
 ready_planned groups sets h ap = record {
-  plain = sets_plain groups sets h;
+  plain = sets_plain (MakesOne (flat_map (λ ts. ts) groups)) groups sets (own_makings (flat_map (λ ts. ts) groups) (flat_map (λ ts. ts) groups) (λ t i. i)) h;
   all = sets_out (IsOfSome (flat_map (λ ts. ts) groups)) groups sets h (somes (flat_map (λ ts. ts) groups) (flat_map (λ ts. ts) groups) (λ t i. i));
   each = λ t i. sets_in (IsOfOther t.log (flat_map (λ ts. ts) groups)) groups sets t h i ap (others t.log (flat_map (λ ts. ts) groups) (flat_map (λ ts. ts) groups) (λ x j. j));
 }

@@ -4,7 +4,7 @@ use Rattle.std.specs.Prelude.{filter}
 use Rattle.std.specs.List.{flat_map}
 use Rattle.lr_rules.specs.declared.fault.Phase.TheVariants as phase
 use Rattle.lr_host.specs.declared.journal.Journal.{Journal}
-use Rattle.lr_host.specs.Steps.{is_change}
+use Rattle.lr_host.specs.Steps.{is_naming}
 use Rattle.lr_plan.specs.declared.planned.LogPlan.{LogPlan}
 use Rattle.lr_plan.specs.declared.planned.SetPlan.{SetPlan}
 use Rattle.lr_plan.specs.Steps.{by_logs, steps_of_set}
@@ -15,7 +15,7 @@ use Rattle.lr_weave.specs.Fitting.{AreFit, NoneMeets, DontMeet}
 use Rattle.lr_weave.specs.Parts.{parts_of_set}
 use Rattle.lr_weave.specs.Planned.{AreReadyFor, HaveLogs}
 use Rattle.lr_weave.proofs.Parting.{set_parts, all_parts}
-use Rattle.lr_weave.proofs.Planning.{AllLogs, set_is, set_out}
+use Rattle.lr_weave.proofs.Planning.{Anything, anything, AllLogs, set_is, set_out}
 use Rattle.lr_weave.specs.Fitting.{ReadsNoFile, ReadNoFiles}
 use Rattle.lr_weave.proofs.Shared.{can_shared}
 use Rattle.lr_weave.proofs.Fits.{Avoids, NamesOf, can_each, unchanged, program_changes, program_can, fit_later, rotation_far}
@@ -66,8 +66,8 @@ behind_less (t ∷ g) x ys n = (n.0.1, behind_less g x ys n.1)
 set_later : (o m : Option Journal) (set : SetPlan) (g ys : List Target) → AreReadyFor g set.logs → AreFit o g → NoneBehind g ys → AreFit o ys → LeadsTo (SetDone (steps_of_set set)) o m → AreFit m ys
 set_later o m set g [] r fits n later leads = tt
 set_later o m set g (x ∷ ys) r fits n later leads = (
-  fit_later x later.0 leads.2 (λ us d. all_parts (Avoids (NamesOf x)) (parts_of_set (steps_of_set set)) (filter is_change us) (set_out (Avoids (NamesOf x)) g (parts_of_set (steps_of_set set)) (set_is set g r).0 (far_all o g x ys fits n))
-      (set_parts (steps_of_set set) leads.0 leads.1 us (set_is set g r).1 d)),
+  fit_later x later.0 leads.2 (λ us d. all_parts (Avoids (NamesOf x)) (parts_of_set (steps_of_set set)) (filter is_naming us) (set_out (Avoids (NamesOf x)) g (parts_of_set (steps_of_set set)) (set_is Anything set g (anything g) r).0 (far_all o g x ys fits n))
+      (set_parts Anything (steps_of_set set) leads.0 leads.1 us (set_is Anything set g (anything g) r).1 d).first),
   set_later o m set g ys r fits (behind_less g x ys n) later.1 leads,
 )
 

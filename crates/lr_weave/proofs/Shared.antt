@@ -7,9 +7,10 @@ use Rattle.lr_rules.specs.Names.{Meet}
 use Rattle.lr_host.specs.declared.entry.Entry.{Entry}
 use Rattle.lr_host.specs.declared.journal.Journal.{Journal}
 use Rattle.lr_host.specs.Told.{Each, Then, Left}
-use Rattle.lr_host.specs.Steps.{is_change, CanAll}
+use Rattle.lr_host.specs.Steps.{is_naming, CanAll}
 use Rattle.lr_host.proofs.Each.{each_first}
-use Rattle.lr_host.proofs.Left.{left_first, left_then, can_part, can_rest}
+use Rattle.lr_host.proofs.Left.{left_first, left_then, can_part}
+use Rattle.lr_weave.proofs.Lasting.{can_rest}
 use Rattle.lr_plan.specs.declared.planned.LogPlan.{LogPlan}
 use Rattle.lr_plan.specs.declared.planned.SetPlan.{SetPlan}
 use Rattle.lr_plan.specs.declared.step.Step.{Step}
@@ -22,7 +23,7 @@ use Rattle.lr_weave.specs.Fitting.{IsFit, AreFit, NoneMeets, DontMeet, AskNothin
 use Rattle.lr_weave.specs.Parts.{changes_by, ArePlain}
 use Rattle.lr_weave.specs.Planned.{IsReadyFor, AreReadyFor}
 use Rattle.lr_weave.proofs.Parting.{went_changes, joined_changes}
-use Rattle.lr_weave.proofs.Planning.{front_of, back_of, front_is, back_is, halves, front_plain, back_plain, program_none, program_plain}
+use Rattle.lr_weave.proofs.Planning.{Anything, front_of, back_of, front_is, back_is, halves, front_plain, back_plain, program_none, program_plain}
 use Rattle.lr_weave.proofs.Fits.{Avoids, Reads, NamesOf, can_far, can_make, rotation_reads, rotation_far, fit_later, front_bare, back_bare, program_can, unchanged}
 
 -- ---- one list behind another
@@ -36,9 +37,9 @@ can_on : (xs ys : List Step) {o : Option Journal} → CanMake o xs → ((m : Opt
 can_on [] ys {o} can f = f o (left_first (AllSucceed []) o refl)
 can_on (x ∷ xs) ys {o} can f = (can.0, λ m l. can_on xs ys (can.1 m l) (λ k l'. f k (left_then l l' (λ ts us p q. record { front = ts; back = us; joined = refl; first = p; second = q }))))
 
-went_all : (ss : List Step) (ts : List Entry) → ArePlain ss → AllSucceed ss ts → filter is_change ts ≡ changes_by ss
-went_all [] ts plain w = ap (filter is_change) w
-went_all (s ∷ ss) ts plain w = joined_changes ts w.front w.back w.joined ∙ (ap (λ us. us ++ filter is_change w.back) (went_changes s w.front plain.0 w.first) ∙ ap (λ us. filter is_change (Rattle.lr_plan.specs.Internal.Asking.asks s) ++ us) (went_all ss w.back plain.1 w.second))
+went_all : (ss : List Step) (ts : List Entry) → ArePlain Anything ss → AllSucceed ss ts → filter is_naming ts ≡ changes_by ss
+went_all [] ts plain w = ap (filter is_naming) w
+went_all (s ∷ ss) ts plain w = joined_changes ts w.front w.back w.joined ∙ (ap (λ us. us ++ filter is_naming w.back) (went_changes Anything s w.front plain.0 w.first) ∙ ap (λ us. filter is_naming (Rattle.lr_plan.specs.Internal.Asking.asks s) ++ us) (went_all ss w.back plain.1 w.second))
 
 -- ---- what is left of one log
 
@@ -58,45 +59,45 @@ front_far : (o : Option Journal) (x t : Target) → IsFit o t → (Meet x.log x.
 front_far o x t fit apart = each_first (Avoids (NamesOf x)) (front_of t) (back_of t) (subst (Each (Avoids (NamesOf x))) (sym (halves t)) (rotation_far x t fit apart))
 
 -- behind its rotation
-back_left : (o m : Option Journal) (t : Target) {P : List Entry → Type 0} → IsFit o t → Left P o m → ((ts : List Entry) → P ts → filter is_change ts ≡ filter is_change (front_of t)) → HasBack m t
+back_left : (o m : Option Journal) (t : Target) {P : List Entry → Type 0} → IsFit o t → Left P o m → ((ts : List Entry) → P ts → filter is_naming ts ≡ filter is_naming (front_of t)) → HasBack m t
 back_left o m t fit left f = record {
   reads = each_end (Reads (NamesOf t)) (front_of t) (back_of t) (subst (Each (Reads (NamesOf t))) (sym (halves t)) (rotation_reads t fit.names.family fit.names.named fit.names.next));
   far_from = λ x apart. each_end (Avoids (NamesOf x)) (front_of t) (back_of t) (subst (Each (Avoids (NamesOf x))) (sym (halves t)) (rotation_far x t fit apart));
   fits = can_rest (front_of t) (back_of t) (subst (CanAll o) (sym (halves t)) fit.fits) left f;
 }
 
-back_later : (x : Target) {P : List Entry → Type 0} {o m : Option Journal} → HasBack o x → Left P o m → ((ts : List Entry) → P ts → Each (Avoids (NamesOf x)) (filter is_change ts)) → HasBack m x
+back_later : (x : Target) {P : List Entry → Type 0} {o m : Option Journal} → HasBack o x → Left P o m → ((ts : List Entry) → P ts → Each (Avoids (NamesOf x)) (filter is_naming ts)) → HasBack m x
 back_later x b left f = record { reads = b.reads; far_from = b.far_from; fits = can_far (NamesOf x) (back_of x) b.reads b.fits left f }
 
 turned_about : (x t : Target) → (Meet x.log x.naming t.log t.naming → ⊥) → Meet t.log t.naming x.log x.naming → ⊥
 turned_about x t f m = f (m.0, ⊎_elim (λ a. inr (a.1, a.0)) (λ b. inl (b.1, b.0)) m.1)
 
 -- the changes of the rotation's own steps
-front_same : (t : Target) (log : LogPlan) (ts : List Entry) → IsReadyFor t log → AllSucceed (steps.rotation_of log) ts → filter is_change ts ≡ front_of t
-front_same t log ts r w = went_all (steps.rotation_of log) ts (front_plain t log r) w ∙ front_is t log r
+front_same : (t : Target) (log : LogPlan) (ts : List Entry) → IsReadyFor t log → AllSucceed (steps.rotation_of log) ts → filter is_naming ts ≡ front_of t
+front_same t log ts r w = went_all (steps.rotation_of log) ts (front_plain Anything t log (λ mode. tt) r) w ∙ front_is t log r
 
-back_same : (t : Target) (log : LogPlan) (ts : List Entry) → IsReadyFor t log → AllSucceed (steps.retirement_of log) ts → filter is_change ts ≡ back_of t
-back_same t log ts r w = went_all (steps.retirement_of log) ts (back_plain log) w ∙ back_is t log r
+back_same : (t : Target) (log : LogPlan) (ts : List Entry) → IsReadyFor t log → AllSucceed (steps.retirement_of log) ts → filter is_naming ts ≡ back_of t
+back_same t log ts r w = went_all (steps.retirement_of log) ts (back_plain Anything log) w ∙ back_is t log r
 
 none_in : (t : Target) (xs : List Target) (x : Target) → NoneMeets t xs → IsOneOf x xs → Meet x.log x.naming t.log t.naming → ⊥
 none_in t [] x n i = absurd i
 none_in t (y ∷ ys) x n (inl is) = subst (λ (z : Target). Meet z.log z.naming t.log t.naming → ⊥) is n.0
 none_in t (y ∷ ys) x n (inr i) = none_in t ys x n.1 i
 
-fits_later : (o m : Option Journal) (t : Target) (xs : List Target) {P : List Entry → Type 0} → NoneMeets t xs → AreFit o xs → Left P o m → ((x : Target) → (Meet x.log x.naming t.log t.naming → ⊥) → (ts : List Entry) → P ts → Each (Avoids (NamesOf x)) (filter is_change ts)) → AreFit m xs
+fits_later : (o m : Option Journal) (t : Target) (xs : List Target) {P : List Entry → Type 0} → NoneMeets t xs → AreFit o xs → Left P o m → ((x : Target) → (Meet x.log x.naming t.log t.naming → ⊥) → (ts : List Entry) → P ts → Each (Avoids (NamesOf x)) (filter is_naming ts)) → AreFit m xs
 fits_later o m t [] n fits left f = tt
 fits_later o m t (x ∷ xs) n fits left f = (fit_later x fits.0 left (f x n.0), fits_later o m t xs n.1 fits.1 left f)
 
-filter_twice : (ts : List Entry) → filter is_change (filter is_change ts) ≡ filter is_change ts
+filter_twice : (ts : List Entry) → filter is_naming (filter is_naming ts) ≡ filter is_naming ts
 filter_twice [] = refl
-filter_twice (t ∷ ts) = go (is_change t) refl (filter_twice ts)
+filter_twice (t ∷ ts) = go (is_naming t) refl (filter_twice ts)
   where
-    go : (b : Bool) → is_change t ≡ b → filter is_change (filter is_change ts) ≡ filter is_change ts → filter is_change (cond b (t ∷ filter is_change ts) (filter is_change ts)) ≡ cond b (t ∷ filter is_change ts) (filter is_change ts)
-    go true h r = ap (λ c. cond c (t ∷ filter is_change (filter is_change ts)) (filter is_change (filter is_change ts))) h ∙ ap (λ us. t ∷ us) r
+    go : (b : Bool) → is_naming t ≡ b → filter is_naming (filter is_naming ts) ≡ filter is_naming ts → filter is_naming (cond b (t ∷ filter is_naming ts) (filter is_naming ts)) ≡ cond b (t ∷ filter is_naming ts) (filter is_naming ts)
+    go true h r = ap (λ c. cond c (t ∷ filter is_naming (filter is_naming ts)) (filter is_naming (filter is_naming ts))) h ∙ ap (λ us. t ∷ us) r
     go false h r = r
 
-all_changes : (ts us : List Entry) → filter is_change ts ≡ us → filter is_change ts ≡ filter is_change us
-all_changes ts us e = sym (filter_twice ts) ∙ ap (filter is_change) e
+all_changes : (ts us : List Entry) → filter is_naming ts ≡ us → filter is_naming ts ≡ filter is_naming us
+all_changes ts us e = sym (filter_twice ts) ∙ ap (filter is_naming) e
 
 -- ---- all rotations, and then the rest
 
@@ -108,7 +109,7 @@ fronts_can rest o [] (log ∷ logs) gone r fits dont apart done k = absurd r
 fronts_can rest o (t ∷ ts) [] gone r fits dont apart done k = absurd r
 fronts_can rest o (t ∷ ts) (log ∷ logs) gone r fits dont apart done k =
     subst (CanMake o) (sym (append_assoc (steps.rotation_of log) (flat_map steps.rotation_of logs) rest))
-    (can_on (steps.rotation_of log) (flat_map steps.rotation_of logs ++ rest) (can_make (steps.rotation_of log) (front_bare t log r.0) (subst (CanAll o) (sym (front_is t log r.0)) (fit_front o t fits.0)))
+    (can_on (steps.rotation_of log) (flat_map steps.rotation_of logs ++ rest) (can_make (steps.rotation_of log) (front_bare o t log fits.0.anew r.0) (subst (CanAll o) (sym (front_is t log r.0)) (fit_front o t fits.0)))
     (λ m l. fronts_can rest m ts logs (t ∷ gone) r.1
     (fits_later o m t ts dont.0 fits.1 l (λ x ne us w. subst (Each (Avoids (NamesOf x))) (sym (front_same t log us r.0 w)) (front_far o x t fits.0 ne))) dont.1
     (λ d j x i. ⊎_elim (λ is. subst (λ (z : Target). Meet z.log z.naming x.log x.naming → ⊥) is (turned_about x t (none_in t ts x dont.0 i))) (λ old. apart d old x (inr i)) j)
@@ -123,14 +124,14 @@ backs_can rest o [] (log ∷ logs) r q dont h k = absurd r
 backs_can rest o (t ∷ ts) [] r q dont h k = absurd r
 backs_can rest o (t ∷ ts) (log ∷ logs) r q dont h k =
     subst (CanMake o) (sym (append_assoc (steps.retirement_of log) (flat_map steps.retirement_of logs) rest))
-    (can_on (steps.retirement_of log) (flat_map steps.retirement_of logs ++ rest) (can_make (steps.retirement_of log) (back_bare t log r.0 q.0.no_mail) (subst (CanAll o) (sym (back_is t log r.0)) (h t (inl refl)).fits))
+    (can_on (steps.retirement_of log) (flat_map steps.retirement_of logs ++ rest) (can_make (steps.retirement_of log) (back_bare o t log r.0 q.0.no_mail) (subst (CanAll o) (sym (back_is t log r.0)) (h t (inl refl)).fits))
     (λ m l. backs_can rest m ts logs r.1 q.1 dont.1
     (λ x i. back_later x (h x (inr i)) l (λ us w. subst (Each (Avoids (NamesOf x))) (sym (back_same t log us r.0 w)) ((h t (inl refl)).far_from x (none_in t ts x dont.0 i)))) k))
 
 -- ---- a definition with shared scripts
 
-program_still : (p : _) (c : _) (us : List Entry) → AllSucceed (program p c) us → filter is_change us ≡ []
-program_still p c us w = went_all (program p c) us (program_plain p c) w ∙ program_none p c
+program_still : (p : _) (c : _) (us : List Entry) → AllSucceed (program p c) us → filter is_naming us ≡ []
+program_still p c us w = went_all (program p c) us (program_plain Anything p c) w ∙ program_none p c
 
 pub can_shared : (set : SetPlan) (ts : List Target) (o : Option Journal) → ReadsNothing set.first → ReadsNothing set.pre → ReadsNothing set.post → ReadsNothing set.last → AskNothing set.logs → AreReadyFor ts set.logs → AreFit o ts → DontMeet ts → CanMake o (shared_steps set)
 can_shared set ts o first pre post last q r fits dont =

@@ -5,7 +5,7 @@ use Rattle.lr_plan.specs.declared.mark.Mark.{Mark}
 use Rattle.lr_rules.specs.declared.path.Path.{Path}
 use Rattle.lr_rules.specs.declared.rules.Rules.{Rules}
 use Rattle.lr_host.specs.declared.entry.Entry.{Entry}
-use Rattle.lr_host.specs.Steps.{is_change}
+use Rattle.lr_host.specs.Steps.{is_naming}
 use Rattle.lr_host.specs.Quiet.{AreQuiet}
 use Rattle.lr_plan.specs.declared.planned.SetPlan.{SetPlan}
 use Rattle.lr_plan.specs.Steps.{steps_of_set}
@@ -13,9 +13,9 @@ use Rattle.lr_plan.specs.Done.{SetsDone}
 use Rattle.lr_rotations.specs.Target.{Target, rotation_of, AreSeen}
 use Rattle.lr_rotations.specs.AllTurns.{IsOfOther, StandsBetween}
 use Rattle.lr_rotations.specs.AllTurns.{AllTurned}
-use Rattle.lr_weave.specs.Parts.{ArePlanned, parts_of_sets}
+use Rattle.lr_weave.specs.Parts.{MakesOne, ArePlanned, parts_of_sets}
 use Rattle.lr_rotations.specs.Weave.{Weave}
-use Rattle.lr_weave.proofs.Parting.{done_turns}
+use Rattle.lr_weave.proofs.Parting.{only_as, made_between, sets_parts, weave_change, done_turns}
 use Rattle.lr_rotations.proofs.Weaving.{weave_as}
 use Rattle.lr_weave.proofs.Whole.{done_whole, one_joined}
 
@@ -23,6 +23,8 @@ abbrev pub done_turned : (state : Path) (rules : Rules) (looks : List Entry) (ta
     → SetsDone (map steps_of_set sets) t [] ts → AllTurned state rules (looks ++ ts)
 done_turned state rules looks targets sets t ts quiet seen planned d = record {
   turns = done_turns state rules looks targets (map steps_of_set sets) t [] ts quiet seen planned d;
-  whole = λ x i. weave_as (IsOfOther x.log targets) (StandsBetween state x.log targets) (rotation_of x) (filter is_change ts) (λ e h. inl h)
-      (subst (Weave (IsOfOther x.log targets) (rotation_of x)) (sym (done_whole sets t ts planned.plain d)) (one_joined (IsOfOther x.log targets) (rotation_of x) (parts_of_sets (map steps_of_set sets)) (planned.each x i)));
+  whole = λ x i. weave_change (StandsBetween state x.log targets) (rotation_of x) ts
+      (weave_as (IsOfOther x.log targets) (StandsBetween state x.log targets) (rotation_of x) (filter is_naming ts) (λ e h. inl h)
+      (subst (Weave (IsOfOther x.log targets) (rotation_of x)) (sym (done_whole (MakesOne targets) sets t ts planned.plain d)) (one_joined (IsOfOther x.log targets) (rotation_of x) (parts_of_sets (map steps_of_set sets)) (planned.each x i))))
+      (only_as (MakesOne targets) (StandsBetween state x.log targets) ts (made_between state x.log targets) (sets_parts (MakesOne targets) (map steps_of_set sets) t [] ts planned.plain d).only);
 }

@@ -6,7 +6,7 @@ use Rattle.std.proofs.lemmas.Grind.{flat_map-append}
 use Rattle.lr_rules.specs.declared.fault.Fault.{Fault}
 use Rattle.lr_rules.specs.declared.fault.Phase.TheVariants as phase
 use Rattle.lr_host.specs.declared.entry.Entry.{Entry}
-use Rattle.lr_host.specs.Steps.{is_change}
+use Rattle.lr_host.specs.Steps.{is_naming}
 use Rattle.lr_plan.specs.declared.mark.Mark.{Mark}
 use Rattle.lr_plan.specs.declared.planned.SetPlan.{SetPlan}
 use Rattle.lr_plan.specs.declared.planned.LogPlan.{LogPlan}
@@ -33,57 +33,57 @@ nil_split : {A : Type 0} (xs ys zs : List A) → xs ≡ ys ++ zs → xs ≡ [] �
 nil_split xs [] zs e n = (refl, sym e ∙ n)
 nil_split xs (y ∷ ys) zs e n = absurd (cc)
 
-pub course_whole : (ss : List Step) (t : List Mark) (f : List Fault) (ts : List Entry) → ArePlain ss → f ≡ [] → Course ss t f ts → filter is_change ts ≡ changes_by ss
-course_whole [] t f ts plain n c = ap (filter is_change) c.2
-course_whole (s ∷ ss) t f ts plain n (inl h) = absurd (one_none h.fault f h.told n)
-course_whole (s ∷ ss) t f ts plain n (inr g) =
+pub course_whole : (P : Entry → Type 0) (ss : List Step) (t : List Mark) (f : List Fault) (ts : List Entry) → ArePlain P ss → f ≡ [] → Course ss t f ts → filter is_naming ts ≡ changes_by ss
+course_whole P [] t f ts plain n c = ap (filter is_naming) c.2
+course_whole P (s ∷ ss) t f ts plain n (inl h) = absurd (one_none h.fault f h.told n)
+course_whole P (s ∷ ss) t f ts plain n (inr g) =
     joined_changes ts g.entries.front g.entries.back g.entries.joined
-    ∙ (ap (λ us. us ++ filter is_change g.entries.back) (went_changes s g.entries.front plain.0 g.entries.first) ∙ ap (λ us. change_of s ++ us) (course_whole ss g.later f g.entries.back plain.1 n g.entries.second))
+    ∙ (ap (λ us. us ++ filter is_naming g.entries.back) (went_changes P s g.entries.front plain.0 g.entries.first) ∙ ap (λ us. change_of s ++ us) (course_whole P ss g.later f g.entries.back plain.1 n g.entries.second))
 
-each_whole : (each : List (List Step)) (t : List Mark) (f : List Fault) (ts : List Entry) → EachPlain each → f ≡ [] → EachDone each t f ts → filter is_change ts ≡ flat_map changes_by each
-each_whole [] t f ts plain n d = ap (filter is_change) d.2
-each_whole (ss ∷ each) t f ts plain n d =
+each_whole : (P : Entry → Type 0) (each : List (List Step)) (t : List Mark) (f : List Fault) (ts : List Entry) → EachPlain P each → f ≡ [] → EachDone each t f ts → filter is_naming ts ≡ flat_map changes_by each
+each_whole P [] t f ts plain n d = ap (filter is_naming) d.2
+each_whole P (ss ∷ each) t f ts plain n d =
     let parts = nil_split f d.first_faults d.second_faults d.faults_are n in
     joined_changes ts d.entries.front d.entries.back d.entries.joined
-    ∙ (ap (λ us. us ++ filter is_change d.entries.back) (course_whole ss d.first_marks d.first_faults d.entries.front plain.0 parts.0 d.entries.first)
-    ∙ ap (λ us. changes_by ss ++ us) (each_whole each d.second_marks d.second_faults d.entries.back plain.1 parts.1 d.entries.second))
+    ∙ (ap (λ us. us ++ filter is_naming d.entries.back) (course_whole P ss d.first_marks d.first_faults d.entries.front plain.0 parts.0 d.entries.first)
+    ∙ ap (λ us. changes_by ss ++ us) (each_whole P each d.second_marks d.second_faults d.entries.back plain.1 parts.1 d.entries.second))
 
-last_whole : (marks : List Mark) (last : List Step) (t : List Mark) (f : List Fault) (ts : List Entry) → ArePlain last → changes_by last ≡ [] → f ≡ [] → Course (if_rotated marks last) t f ts → filter is_change ts ≡ []
-last_whole marks last t f ts plain quiet n c = go (list_any is_rotated marks) c
+last_whole : (P : Entry → Type 0) (marks : List Mark) (last : List Step) (t : List Mark) (f : List Fault) (ts : List Entry) → ArePlain P last → changes_by last ≡ [] → f ≡ [] → Course (if_rotated marks last) t f ts → filter is_naming ts ≡ []
+last_whole P marks last t f ts plain quiet n c = go (list_any is_rotated marks) c
   where
-    go : (b : Bool) → Course (cond b last []) t f ts → filter is_change ts ≡ []
-    go true c = course_whole last t f ts plain n c ∙ quiet
-    go false c = ap (filter is_change) c.2
+    go : (b : Bool) → Course (cond b last []) t f ts → filter is_naming ts ≡ []
+    go true c = course_whole P last t f ts plain n c ∙ quiet
+    go false c = ap (filter is_naming) c.2
 
 -- the changes of a definition whose last steps change nothing
 abbrev pub changes_of_set : SetSteps → List Entry
 changes_of_set s = changes_by s.first ++ flat_map changes_by s.each
 
-set_whole : (s : SetSteps) (t : List Mark) (f : List Fault) (ts : List Entry) → IsPlainSet s → changes_by s.last ≡ [] → f ≡ [] → SetDone s t f ts → filter is_change ts ≡ changes_of_set s
-set_whole s t f ts plain quiet n (broke_off b) = absurd (one_none b.fault f b.told n)
-set_whole s t f ts plain quiet n (went_on b) = go (nil_split f b.first_faults b.second_faults b.faults_are n) b.entries.second
+set_whole : (P : Entry → Type 0) (s : SetSteps) (t : List Mark) (f : List Fault) (ts : List Entry) → IsPlainSet P s → changes_by s.last ≡ [] → f ≡ [] → SetDone s t f ts → filter is_naming ts ≡ changes_of_set s
+set_whole P s t f ts plain quiet n (broke_off b) = absurd (one_none b.fault f b.told n)
+set_whole P s t f ts plain quiet n (went_on b) = go (nil_split f b.first_faults b.second_faults b.faults_are n) b.entries.second
   where
-    go : (b.first_faults ≡ []) × (b.second_faults ≡ []) → LogsDone s.each s.last b.second_marks b.second_faults b.entries.back → filter is_change ts ≡ changes_of_set s
+    go : (b.first_faults ≡ []) × (b.second_faults ≡ []) → LogsDone s.each s.last b.second_marks b.second_faults b.entries.back → filter is_naming ts ≡ changes_of_set s
     go parts d =
         let ends = nil_split b.second_faults d.of_each d.of_last d.faults_are parts.1 in
         joined_changes ts b.entries.front b.entries.back b.entries.joined
-        ∙ (ap (λ us. us ++ filter is_change b.entries.back) (course_whole s.first b.first_marks b.first_faults b.entries.front plain.first parts.0 b.entries.first.1)
+        ∙ (ap (λ us. us ++ filter is_naming b.entries.back) (course_whole P s.first b.first_marks b.first_faults b.entries.front plain.first parts.0 b.entries.first.1)
         ∙ ap (λ us. changes_by s.first ++ us)
         (joined_changes b.entries.back d.entries.front d.entries.back d.entries.joined
-        ∙ (ap (λ us. us ++ filter is_change d.entries.back) (each_whole s.each d.by_each d.of_each d.entries.front plain.each ends.0 d.entries.first)
-        ∙ (ap (λ us. flat_map changes_by s.each ++ us) (last_whole d.by_each s.last d.by_last d.of_last d.entries.back plain.last quiet ends.1 d.entries.second) ∙ append-nil (flat_map changes_by s.each)))))
+        ∙ (ap (λ us. us ++ filter is_naming d.entries.back) (each_whole P s.each d.by_each d.of_each d.entries.front plain.each ends.0 d.entries.first)
+        ∙ (ap (λ us. flat_map changes_by s.each ++ us) (last_whole P d.by_each s.last d.by_last d.of_last d.entries.back plain.last quiet ends.1 d.entries.second) ∙ append-nil (flat_map changes_by s.each)))))
 
 abbrev QuietLast : List SetSteps → Type 0
 QuietLast [] = Unit {0}
 QuietLast (s ∷ sets) = (changes_by s.last ≡ []) × QuietLast sets
 
-sets_whole : (sets : List SetSteps) (t : List Mark) (f : List Fault) (ts : List Entry) → ArePlainSets sets → QuietLast sets → f ≡ [] → SetsDone sets t f ts → filter is_change ts ≡ flat_map changes_of_set sets
-sets_whole [] t f ts plain quiet n d = ap (filter is_change) d.2
-sets_whole (s ∷ sets) t f ts plain quiet n d =
+sets_whole : (P : Entry → Type 0) (sets : List SetSteps) (t : List Mark) (f : List Fault) (ts : List Entry) → ArePlainSets P sets → QuietLast sets → f ≡ [] → SetsDone sets t f ts → filter is_naming ts ≡ flat_map changes_of_set sets
+sets_whole P [] t f ts plain quiet n d = ap (filter is_naming) d.2
+sets_whole P (s ∷ sets) t f ts plain quiet n d =
     let parts = nil_split f d.first_faults d.second_faults d.faults_are n in
     joined_changes ts d.entries.front d.entries.back d.entries.joined
-    ∙ (ap (λ us. us ++ filter is_change d.entries.back) (set_whole s d.first_marks d.first_faults d.entries.front plain.0 quiet.0 parts.0 d.entries.first)
-    ∙ ap (λ us. changes_of_set s ++ us) (sets_whole sets d.second_marks d.second_faults d.entries.back plain.1 quiet.1 parts.1 d.entries.second))
+    ∙ (ap (λ us. us ++ filter is_naming d.entries.back) (set_whole P s d.first_marks d.first_faults d.entries.front plain.0 quiet.0 parts.0 d.entries.first)
+    ∙ ap (λ us. changes_of_set s ++ us) (sets_whole P sets d.second_marks d.second_faults d.entries.back plain.1 quiet.1 parts.1 d.entries.second))
 
 quiet_set : (set : SetPlan) → changes_by (steps_of_set set).last ≡ []
 quiet_set set = go set.shared set.logs
@@ -112,8 +112,8 @@ sets_joined [] quiet = refl
 sets_joined (s ∷ sets) quiet = flat_map-append (λ part. part) (parts_of_set s) (parts_of_sets sets) ∙ (ap (λ us. us ++ flat_map (λ part. part) (parts_of_sets sets)) (parts_joined s quiet.0) ∙ ap (λ us. changes_of_set s ++ us) (sets_joined sets quiet.1))
 
 -- all changes of the plan, in order, where nothing failed
-pub done_whole : (sets : List SetPlan) (t : List Mark) (ts : List Entry) → ArePlainSets (map steps_of_set sets) → SetsDone (map steps_of_set sets) t [] ts → filter is_change ts ≡ flat_map (λ part. part) (parts_of_sets (map steps_of_set sets))
-done_whole sets t ts plain d = sets_whole (map steps_of_set sets) t [] ts plain (quiet_sets sets) refl d ∙ sym (sets_joined (map steps_of_set sets) (quiet_sets sets))
+pub done_whole : (P : Entry → Type 0) (sets : List SetPlan) (t : List Mark) (ts : List Entry) → ArePlainSets P (map steps_of_set sets) → SetsDone (map steps_of_set sets) t [] ts → filter is_naming ts ≡ flat_map (λ part. part) (parts_of_sets (map steps_of_set sets))
+done_whole P sets t ts plain d = sets_whole P (map steps_of_set sets) t [] ts plain (quiet_sets sets) refl d ∙ sym (sets_joined (map steps_of_set sets) (quiet_sets sets))
 
 all_joined : (P : Entry → Type 0) (ps : List (List Entry)) → AllOf P ps → Weave P [] (flat_map (λ part. part) ps)
 all_joined P [] a = none

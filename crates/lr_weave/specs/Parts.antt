@@ -1,49 +1,66 @@
 -- The changes of the steps of a plan, part by part.
-use Rattle.std.specs.Prelude.{◌≡◌, List, [], ◌∷◌, ◌++◌, map, filter}
+use Rattle.std.specs.Prelude.{◌≡◌, ◌⊎◌, List, [], ◌∷◌, ◌++◌, map, filter}
 use Rattle.std.specs.List.{flat_map}
 use Rattle.lr_host.specs.declared.entry.Entry.{Entry}
+use Rattle.lr_host.specs.declared.entry.Entry.TheVariants as entry
 use Rattle.lr_host.specs.Told.{Each, Then}
-use Rattle.lr_host.specs.Steps.{is_change}
+use Rattle.lr_host.specs.Steps.{is_naming}
 use Rattle.lr_rotations.specs.Weave.{IsFirstOf}
 use Rattle.lr_plan.specs.declared.step.Step.{Step}
-use Rattle.lr_plan.specs.declared.step.Step.TheVariants.{MakesDir, Creates, Copies, Appends}
+use Rattle.lr_plan.specs.declared.step.Step.TheVariants.{MakesDir, Creates, Takes, Copies, Appends, Truncates}
 use Rattle.lr_plan.specs.declared.step.SetSteps.{SetSteps}
 use Rattle.lr_plan.specs.Internal.Asking.{asks}
 use Rattle.lr_rotations.specs.Weave.{Weave}
 use Rattle.lr_rotations.specs.Target.{Target, rotation_of, IsOneOf}
 use Rattle.lr_rotations.specs.AllTurns.{IsOfSome, IsOfOther}
+use Rattle.lr_rotations.specs.Rotated.{MakesAt}
 
--- the change that a step makes, if any; of steps that make one or none for certain
+-- the change by which a step takes or gives names, if any; the making of a log isn't one, since it is left out where the log is there
 abbrev pub change_of : Step → List Entry
-change_of step = filter is_change (asks step)
+change_of step = filter is_naming (asks step)
 
 abbrev pub changes_by : List Step → List Entry
 changes_by steps = flat_map change_of steps
 
--- not one that makes something where it isn't there yet, nor one in pieces
-abbrev pub IsPlain : Step → Type 0
-IsPlain (MakesDir path mode) = ⊥
-IsPlain (Creates path mode) = ⊥
-IsPlain (Copies from to limit) = ⊥
-IsPlain (Appends path text) = ⊥
-IsPlain _ = Unit {0}
+-- It makes no directory and changes no bytes; and where it makes a log anew, P holds of that.
+abbrev pub IsPlain : (Entry → Type 0) → Step → Type 0
+IsPlain P (Creates path mode) = P (entry.Makes path mode)
+IsPlain P (MakesDir path mode) = ⊥
+IsPlain P (Takes path mode) = ⊥
+IsPlain P (Copies from to limit) = ⊥
+IsPlain P (Appends path text) = ⊥
+IsPlain P (Truncates path) = ⊥
+IsPlain P _ = Unit {0}
 
-abbrev pub ArePlain : List Step → Type 0
-ArePlain [] = Unit {0}
-ArePlain (step ∷ steps) = IsPlain step × ArePlain steps
+abbrev pub ArePlain : (Entry → Type 0) → List Step → Type 0
+ArePlain P [] = Unit {0}
+ArePlain P (step ∷ steps) = IsPlain P step × ArePlain P steps
 
-abbrev pub EachPlain : List (List Step) → Type 0
-EachPlain [] = Unit {0}
-EachPlain (steps ∷ each) = ArePlain steps × EachPlain each
+abbrev pub EachPlain : (Entry → Type 0) → List (List Step) → Type 0
+EachPlain P [] = Unit {0}
+EachPlain P (steps ∷ each) = ArePlain P steps × EachPlain P each
 
-pub record IsPlainSet (s : SetSteps) : Type 0 where
-  pub first : ArePlain s.first
-  pub each : EachPlain s.each
-  pub last : ArePlain s.last
+pub record IsPlainSet (P : Entry → Type 0) (s : SetSteps) : Type 0 where
+  pub first : ArePlain P s.first
+  pub each : EachPlain P s.each
+  pub last : ArePlain P s.last
 
-abbrev pub ArePlainSets : List SetSteps → Type 0
-ArePlainSets [] = Unit {0}
-ArePlainSets (s ∷ sets) = IsPlainSet s × ArePlainSets sets
+abbrev pub ArePlainSets : (Entry → Type 0) → List SetSteps → Type 0
+ArePlainSets P [] = Unit {0}
+ArePlainSets P (s ∷ sets) = IsPlainSet P s × ArePlainSets P sets
+
+-- The entry starts no run and changes no bytes; and where it makes a file, P holds of it.
+abbrev pub MakesOnly : (Entry → Type 0) → Entry → Type 0
+MakesOnly P (entry.Makes path mode) = P (entry.Makes path mode)
+MakesOnly P (entry.Starts state now rules) = ⊥
+MakesOnly P (entry.Appends path bytes) = ⊥
+MakesOnly P (entry.Truncates path) = ⊥
+MakesOnly P _ = Unit {0}
+
+-- the entry makes one of these logs anew
+abbrev pub MakesOne : List Target → Entry → Type 0
+MakesOne [] e = ⊥
+MakesOne (t ∷ ts) e = MakesAt t.log e ⊎ MakesOne ts e
 
 -- the parts of a definition, and of all
 abbrev pub parts_of_set : SetSteps → List (List Entry)
@@ -72,8 +89,8 @@ pub record InOnePart (P : Entry → Type 0) (steps : List Entry) (parts : List (
   pub woven : Weave P steps part
   pub rest : AllOf P after
 
--- The changes of the plan are those of the rotations of these logs.
+-- The changes of the plan are those of the rotations of these logs, and what it makes are these logs.
 pub record ArePlanned (targets : List Target) (sets : List SetSteps) : Type 0 where
-  pub plain : ArePlainSets sets
+  pub plain : ArePlainSets (MakesOne targets) sets
   pub all : AllOf (IsOfSome targets) (parts_of_sets sets)
   pub each : (t : Target) → IsOneOf t targets → InOnePart (IsOfOther t.log targets) (rotation_of t) (parts_of_sets sets)

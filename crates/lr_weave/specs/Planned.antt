@@ -8,7 +8,7 @@ use Rattle.lr_rotations.specs.Target.{Target}
 
 -- The rotation of the log is ready, by rename.
 pub record IsReadyFor (t : Target) (log : LogPlan) : Type 0 where
-  pub ready : IsReady t.log t.naming t.count t.stand.members log.ready
+  pub ready : IsReady t.log t.naming t.count log.ready.make t.stand.members log.ready
   pub no_job : log.job ≡ None
 
 abbrev pub AreReadyFor : List Target → List LogPlan → Type 0

@@ -7,7 +7,8 @@ ghost use Rattle.lr_rules.specs.declared.rules.Rules.{Rules};
 ghost use Rattle.lr_host.specs.declared.entry.Entry.{Entry};
 ghost use Rattle.lr_host.specs.declared.journal.Journal.{Journal};
 ghost use Rattle.lr_host.specs.Quiet.{AreQuiet};
-ghost use Rattle.lr_host.specs.Told.{Left};
+ghost use Rattle.lr_host.specs.Opening.{IsJournal};
+ghost use Rattle.lr_host.specs.Told.{Left, WhereTold};
 ghost use Rattle.lr_plan.specs.declared.mark.Mark.{Mark};
 ghost use Rattle.lr_plan.specs.declared.planned.SetPlan.{SetPlan};
 ghost use Rattle.lr_plan.specs.declared.step.SetSteps.{SetSteps};
@@ -18,7 +19,7 @@ ghost use Rattle.lr_plan.specs.Internal.Cut.{SetsCut};
 ghost use Rattle.lr_rotations.specs.AllTurns.{AllTurns, AllTurned};
 ghost use Rattle.lr_rotations.specs.Apart.{HaveNames};
 ghost use Rattle.lr_rotations.specs.Target.{Target, AreSeen};
-ghost use Rattle.lr_weave.specs.Fitting.{AreFit, ReadNoFiles, DontMeet};
+ghost use Rattle.lr_weave.specs.Fitting.{AreFit, HaveLogPaths, ReadNoFiles, DontMeet};
 ghost use Rattle.lr_weave.specs.Parts.{ArePlanned};
 ghost use Rattle.lr_weave.specs.Planned.{HaveLogs, AreApart};
 
@@ -41,9 +42,10 @@ pub fn cut_acts_turn_all()
         → AreQuiet looks → AreSeen rules looks targets → ArePlanned targets sets → SetsCut sets marks faults ts → AllTurns state rules (looks ++ ts) }
 {}
 
-/// Behind looks that saw the logs, the rotation of each fits by itself, whatever writers did meanwhile.
+/// Behind looks that saw the logs, the rotation of each fits by itself, whatever writers did meanwhile, and on a disk the log
+/// can be made anew, since what stood there stood in a directory.
 pub fn seen_is_fit()
-    ensures { (rules : Rules) (targets : List Target) (before now : Option Journal) → HaveNames targets
+    ensures { (rules : Rules) (targets : List Target) (before now : Option Journal) → HaveNames targets → HaveLogPaths targets → WhereTold before IsJournal
         → Left (λ ts. AreQuiet ts × AreSeen rules ts targets) before now → AreFit now targets }
 {}
 

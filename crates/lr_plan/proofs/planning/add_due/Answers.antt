@@ -1,6 +1,8 @@
-use Rattle.std.proofs.Common.{◌++◌, List, sym, ap, ◌∙◌}
+use Rattle.std.proofs.Common.{◌++◌, List, sym, ap, subst, ◌∙◌}
 use Rattle.std.proofs.lemmas.List.{append-nil}
 use Rattle.lr_rules.specs.declared.fault.Fault.{Fault}
+use Rattle.lr_rules.specs.declared.rule.Make.{Make}
+use Rattle.lr_chain.specs.Ready.{IsReady}
 use Rattle.lr_plan.specs.declared.planned.LogPlan.{LogPlan}
 use Rattle.lr_plan.proofs.Hindrances.{plan_is, ready_unhindered, plans_there, plans_none, stop_hinders}
 use Rattle.lr_plan.proofs.planning.add_due.Goals as goal
@@ -10,7 +12,8 @@ returns-in_ok-push-in-Ok-clause-plans c =
     c.in_ok-push-in-Ok.ensures.items ∙ ap (λ (xs : List LogPlan). c.args.plans.now.items ++ xs)
     (plans_there c.args.rule.now c.args.look.now _
     (ready_unhindered c.args.rule.now c.args.look.now c.prepare.result c.in-Ok.ready c.requires.look.named c.in-Ok.is c.prepare.ensures.no_dir c.prepare.ensures.too_high)
-    (plan_is c.args.rule.now c.args.look.now c.in-Ok.ready c.requires.no_scripts c.requires.look.log c.in-Ok.ensures.ready))
+    (plan_is c.args.rule.now c.args.look.now c.in-Ok.ready c.requires.no_scripts c.requires.look.log
+    (subst (λ (m : Make). IsReady c.args.look.now.family.log c.args.look.now.family.naming c.args.rule.now.count m c.args.look.now.stand.members c.in-Ok.ready) c.made_with-anew.ensures c.in-Ok.ensures.ready)))
 
 pub returns-in_ok-push-in-Ok-clause-faults : goal.returns-in_ok-push-in-Ok-clause-faults
 returns-in_ok-push-in-Ok-clause-faults c =
