@@ -33,7 +33,7 @@ pub(crate) fn look_at<R: Files>(rt: &R, path: &str, follow: bool) -> io::Result<
             kind: kind_of(&seen),
             size: seen.len(),
             mtime: seen.mtime(),
-            mode: None,
+            mode: Some(seen.mode() & 0o7777),
         })),
         Err(e) if e.kind() == ErrorKind::NotFound || e.kind() == ErrorKind::NotADirectory => {
             Ok(None)

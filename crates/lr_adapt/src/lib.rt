@@ -23,7 +23,7 @@
 //! | `make_dir` | `mkdir`, then `chmod` |
 //! | `run` | starts the program, with the environment, working directory and output of this one, and waits for its end |
 //!
-//! The file of a look has no mode: none is told.
+//! The mode that a look tells is the permission bits, with those behind `u+s`, `g+s` and `+t`.
 #![tactic(auto)]
 
 mod calls;

@@ -52,15 +52,13 @@ fn thing(alloc: Global, seen: Seen) -> Result<String, Trouble> {
     let kind = kind_name(seen.kind);
     let size = seen.size;
     let mtime = seen.mtime;
-    let told = if seen.mode.is_some() {
-        " with a mode"
-    } else {
-        ""
-    };
-    Ok(format!(in alloc; "{kind} {size} {mtime}{told}")?)
+    match seen.mode {
+        Some(mode) => Ok(format!(in alloc; "{kind} {size} {mtime} mode {mode}")?),
+        None => Ok(format!(in alloc; "{kind} {size} {mtime}")?),
+    }
 }
 
-/// The kind, the size and the second of the last change; `nothing`; or `failed`.
+/// The kind, the size, the second of the last change and the mode, in decimal; `nothing`; or `failed`.
 pub fn seen(alloc: Global, got: Result<Option<Seen>, CallFault>) -> Result<String, Trouble> {
     match got {
         Ok(Some(seen)) => thing(alloc, seen),
