@@ -10,7 +10,7 @@ use Rattle.lr_forms.specs.declared.built.Built.TheVariants as built
 use Rattle.lr_forms.specs.declared.set.Set.{Set}
 use Rattle.lr_forms.specs.declared.set.Set.TheVariants as set
 use Rattle.lr_fields.specs.Built.{IsBuiltRule, AreBuiltRules}
-use Rattle.lr_fields.specs.Fields.{fields_of, last_set, maxage_set, createolddir_set, create_set, mail_set, mailfirst_set, shared_set, first_set, pre_set, post_set, last_script_set, preremove_set, dated_set, way_of}
+use Rattle.lr_fields.specs.Fields.{fields_of, last_set, maxage_set, createolddir_set, mail_set, mailfirst_set, shared_set, first_set, pre_set, post_set, last_script_set, preremove_set, dated_set, way_of}
 use Rattle.lr_fields.specs.Rules.{format_of, rule_of}
 use Rattle.lr_fields.proofs.Settings.{same_scripts}
 use Rattle.lr_conf.specs.Meaning.{Line, meaning}
@@ -26,11 +26,6 @@ createolddir_given : (v : Set) → S v → Given (λ m. m ≡ make.No) (createol
 createolddir_given (set.CreateOlddir make.No) ok = refl
 createolddir_given (set.CreateOlddir (make.Yes mode)) ok = let no = ok.0 in absurd (cc no)
 createolddir_given v ok = tt
-
-create_given : (v : Set) → S v → Given (λ m. m ≡ make.No) (create_set v)
-create_given (set.Create make.No) ok = refl
-create_given (set.Create (make.Yes mode)) ok = let no = ok.0 in absurd (cc no)
-create_given v ok = tt
 
 mail_given : (v : Set) → S v → Given (λ o. o ≡ None) (mail_set v)
 mail_given (set.Mail None) ok = refl
@@ -88,7 +83,6 @@ rule_ok file at words vs n ok = record {
   maxage = unset maxage_set None maxage_given vs ok;
   createolddir = unset createolddir_set make.No createolddir_given vs ok;
   way = way_ok vs ok;
-  create = unset create_set make.No create_given vs ok;
   mail = unset mail_set None mail_given vs ok;
   mailfirst = unset mailfirst_set false mailfirst_given vs ok;
   shared = unset shared_set false shared_given vs ok;

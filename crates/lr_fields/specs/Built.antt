@@ -9,7 +9,6 @@ pub record IsBuiltRule (r : Rule) : Type 0 where
   pub maxage : r.maxage ≡ None
   pub createolddir : r.createolddir ≡ make.No
   pub way : r.way ≡ way.Rename
-  pub create : r.create ≡ make.No
   pub mail : r.mail ≡ None
   pub mailfirst : r.mailfirst ≡ false
   pub shared : r.shared ≡ false

@@ -19,7 +19,6 @@ so_far_unbuilt is.Prerotate = true
 -- fields of a definition
 so_far_unbuilt is.Copy = true
 so_far_unbuilt is.Copytruncate = true
-so_far_unbuilt is.Create = true
 so_far_unbuilt is.Createolddir = true
 so_far_unbuilt is.Dateext = true
 so_far_unbuilt is.Dateformat = true

@@ -18,7 +18,6 @@ fn so_far_unbuilt(directive: Directive) -> bool
     match directive {
         Directive::Copy
         | Directive::Copytruncate
-        | Directive::Create
         | Directive::Createolddir
         | Directive::Dateext
         | Directive::Dateformat

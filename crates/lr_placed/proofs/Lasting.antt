@@ -7,7 +7,7 @@ use Rattle.lr_host.specs.declared.journal.Journal.{Journal}
 use Rattle.lr_host.specs.Fits.{Fits}
 use Rattle.lr_host.specs.Lists.{IsIn}
 use Rattle.lr_host.specs.Opening.{IsJournal}
-use Rattle.lr_host.specs.Quiet.{AreQuiet, Quiet, here, wrote, looked}
+use Rattle.lr_host.specs.Quiet.{AreQuiet}
 use Rattle.lr_host.specs.Steps.{is_change}
 use Rattle.lr_host.specs.Told.{Each, Made, at_first, by_writer, by_tool, Left, not_told, is_told, WhereTold}
 use Rattle.lr_host.specs.World.{Past, ◌▸◌, past, world, Names, names}
@@ -16,6 +16,7 @@ use Rattle.lr_host.proofs.Lists.{from_reverse}
 use Rattle.lr_host.proofs.Made.{made_journal}
 use Rattle.lr_host.proofs.More.{IsMore, wrote_names}
 use Rattle.lr_host.proofs.Quiet.{IsAny, since_any, looked_names, moment, no_disk_change, quiet_changes, quiet_more, quiet_still, still_in_order}
+use Rattle.lr_weave.proofs.Seen.{quiet_disk}
 
 -- A fact of names that stays where writers make files.
 abbrev pub Stays : (Names → Type 0) → Type 0
@@ -53,11 +54,6 @@ pub record Says (Q : Names → Type 0) (ts : List Entry) : Type 0 where
   pub entry : Entry
   pub among : IsIn entry ts
   pub so : (w : Past) → IsJournal w → Fits (world w) entry → Q (names (world w))
-
-quiet_disk : (p q : Past) → Quiet IsAny p q → IsJournal p → IsJournal q
-quiet_disk p _ here h = h
-quiet_disk p _ (wrote {q = q} w i f none) h = (quiet_disk p q w h, f)
-quiet_disk p _ (looked {q = q} w i f none) h = (quiet_disk p q w h, f)
 
 -- a disk goes on as one
 pub disk_on : {P : List Entry → Type 0} {o n : Option Journal} → Left P o n → WhereTold o IsJournal → WhereTold n IsJournal

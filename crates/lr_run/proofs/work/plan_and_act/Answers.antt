@@ -1,4 +1,5 @@
 use Rattle.lr_acts.specs.Making.{all_of_sets}
+use Rattle.lr_placed.proofs.Lasting.{disk_on}
 use Rattle.lr_run.proofs.Placing.{fits_behind_acts}
 use Rattle.lr_run.proofs.Simple.{simple_built}
 use Rattle.lr_run.proofs.Works.{ready_of, not_ready, ready_simple, ready_fit, carried_out, carried_counted, too_big_told, work_lacks}
@@ -12,7 +13,7 @@ carry_out-requires-clause-built g c =
 pub carry_out-requires-clause-fits : goal.carry_out-requires-clause-fits
 carry_out-requires-clause-fits g c =
     let r = ready_of c.args.settings.now.state c.args.clock.now.now c.args.remembered _ _ c.in_ok-plan.plan _ c.in_ok-ready.field-0 c.in-Some.ready c.args.progress.now c.make_ready.new.progress c.as_slice-kept.ensures c.in_ok-plan.ensures c.in-Some.is c.in_ok-ready.ensures in
-    ready_fit _ c.args.rules.now c.args.looks.now c.args.settings.now.state c.args.remembered c.args.clock.now.now c.args.settings.now.force c.in-Some.ready c.args.progress.now c.make_ready.new.progress _ _ c.requires.built r c.requires.seen.looked
+    ready_fit _ c.args.rules.now c.args.looks.now c.args.settings.now.state c.args.remembered c.args.clock.now.now c.args.settings.now.force c.in-Some.ready c.args.progress.now c.make_ready.new.progress _ _ c.requires.built (disk_on c.requires.seen.known.read c.requires.seen.known.disk) r c.requires.seen.looked
 
 pub carry_out-requires-clause-fits_state : goal.carry_out-requires-clause-fits_state
 carry_out-requires-clause-fits_state g c =
