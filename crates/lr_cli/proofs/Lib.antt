@@ -1,8 +1,8 @@
 pub mod Called
 pub mod Clocked
 pub mod OutAside
+pub mod Reached
 pub mod Reading
-mod Stopping
 pub mod Rotating
 pub mod Still
 pub mod Zoned

@@ -4,6 +4,7 @@ use Rattle.std.specs.List.{AllByRecursion as Every}
 use Rattle.std.proofs.lemmas.List.Elements.{recursion_from_All, Contains-append_cases}
 use Rattle.lr_rules.specs.declared.path.Path.{Path}
 use Rattle.lr_rules.specs.declared.civil.Moment.{Moment}
+use Rattle.lr_rules.specs.declared.fault.CallKind.TheVariants as call
 use Rattle.lr_rules.specs.declared.fault.Fault.{Fault}
 use Rattle.lr_rules.specs.declared.fault.Fault.TheVariants as fault
 use Rattle.lr_rules.specs.Path.{parent_of}
@@ -79,7 +80,9 @@ no_more fs z = omega (arith, z)
 none_scripted : (fs : List Fault) → Every IsConfOrCall fs → (scripts_in fs ≡ 0) × HasNoOut fs
 none_scripted [] h = (refl, tt)
 none_scripted (fault.Conf file line kind ∷ fs) h = (no_more fs (none_scripted fs h.1).0, ((λ x. x), (none_scripted fs h.1).1))
-none_scripted (fault.Call kind path ∷ fs) h = (no_more fs (none_scripted fs h.1).0, ((λ x. x), (none_scripted fs h.1).1))
+none_scripted (fault.Call call.Look path ∷ fs) h = (no_more fs (none_scripted fs h.1).0, ((λ x. x), (none_scripted fs h.1).1))
+none_scripted (fault.Call call.List path ∷ fs) h = (no_more fs (none_scripted fs h.1).0, ((λ x. x), (none_scripted fs h.1).1))
+none_scripted (fault.Call call.Read path ∷ fs) h = (no_more fs (none_scripted fs h.1).0, ((λ x. x), (none_scripted fs h.1).1))
 none_scripted (_ ∷ fs) h = absurd h.0
 
 -- a reading tells no more failed calls than the count of them rose by

@@ -24,7 +24,7 @@ use Rattle.lr_cli.specs.Answer.{state_path, Reports, FindsLock, Answers, Answers
 use Rattle.lr_cli.specs.Clock.{ShowsClock}
 use Rattle.lr_cli.specs.State.{IsNewText}
 use Rattle.lr_cli.specs.Words.{AreWords}
-use Rattle.lr_cli.proofs.Rotating.{built_means}
+use Rattle.lr_cli.proofs.Reached.{built_means}
 use Rattle.lr_include.proofs.AllQuiet.{reads_quiet as confs_quiet}
 use Rattle.lr_cli.proofs.Still.{clock_quiet, stop_quiet}
 

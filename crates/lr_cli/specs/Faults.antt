@@ -1,12 +1,11 @@
 -- The faults of a call's answer.
-use Rattle.std.specs.Prelude.{◌≢◌, Contains, List, [], ◌∷◌, ◌++◌, codes, Result, Ok, Err}
+use Rattle.std.specs.Prelude.{◌≡◌, Contains, List, [], ◌∷◌, Result, Ok, Err}
 use Rattle.lr_rules.specs.declared.fault.Fault.{Fault}
-use Rattle.lr_rules.specs.declared.fault.Fault.TheVariants as fault
-use Rattle.lr_rules.specs.Path.{parent_of}
 use Rattle.lr_host.specs.Told.{Counts}
-use Rattle.lr_host.specs.Counted.{AreCounted}
+use Rattle.lr_host.specs.Counted.{calls_in, scripts_in, AreCounted}
 use Rattle.lr_run.specs.declared.answer.RunStop.{RunStop}
 use Rattle.lr_run.specs.declared.answer.RunStop.TheVariants as stop
+use Rattle.lr_reached.specs.Ending.{NoneEnds}
 use Rattle.lr_cli.specs.Answer.{state_path}
 use Rattle.lr_cli.specs.declared.clock.ClockStop.{ClockStop}
 use Rattle.lr_cli.specs.declared.clock.ClockStop.TheVariants as clock_stop
@@ -35,17 +34,8 @@ abbrev pub HasCounted : Outcome → Counts → Counts → Type 0
 HasCounted (Done report) counted counts = AreCounted report.faults counted counts
 HasCounted _ counted counts = Unit {0}
 
--- The fault stopped nothing that was planned: it ended no run before its plan, and tells of no call that failed and of no script that ended badly. So it is one of the configuration, of what the looks at the logs saw, or of the plan.
-abbrev pub StopsNothing : Fault → Type 0
-StopsNothing fault.Clock = ⊥
-StopsNothing (fault.Zone why) = ⊥
-StopsNothing (fault.State line kind) = ⊥
-StopsNothing (fault.NotFile path) = (path ≢ state_path) × (path ≢ state_path ++ codes ".tmp")
-StopsNothing (fault.NoDir path) = path ≢ parent_of state_path
-StopsNothing (fault.Call kind path) = ⊥
-StopsNothing (fault.Script phase on end) = ⊥
-StopsNothing _ = Unit {0}
-
-abbrev pub StopNothing : List Fault → Type 0
-StopNothing [] = Unit {0}
-StopNothing (f ∷ fs) = StopsNothing f × StopNothing fs
+-- The faults stopped nothing that was planned: none of them ends a run, and none tells of a call that failed or of a script that ended badly. So each is one of the configuration, of what the looks at the logs saw, or of the plan.
+pub record StopNothing (faults : List Fault) : Type 0 where
+  pub none_ends : NoneEnds state_path faults
+  pub no_call : calls_in faults ≡ 0
+  pub no_script : scripts_in faults ≡ 0

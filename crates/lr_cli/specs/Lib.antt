@@ -2,6 +2,7 @@ pub mod Answer
 pub mod Clock
 pub mod Faults
 pub mod Printed
+pub mod Reached
 pub mod Rotated
 pub mod State
 pub mod Status

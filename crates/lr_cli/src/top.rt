@@ -15,6 +15,7 @@ ghost use Rattle.lr_cli.specs.Answer.{Answered, state_path};
 ghost use Rattle.lr_cli.specs.Clock.{IsClocked};
 ghost use Rattle.lr_cli.specs.Faults.{HasFault, HasCounted, StopNothing};
 ghost use Rattle.lr_cli.specs.Printed.{printed_of, without_out};
+ghost use Rattle.lr_cli.specs.Reached.{TellsOfPlan};
 ghost use Rattle.lr_cli.specs.Rotated.{RotatesAll};
 ghost use Rattle.lr_cli.specs.State.{IsNewText};
 ghost use Rattle.lr_cli.specs.Words.{AreWords, HaveForm};
@@ -60,9 +61,15 @@ pub fn logrotate<H: Host, K: Sink>(
     // For want of memory nothing was changed.
     ensures still { result ≡ Outcome.OutOfMemory → Left ChangeNothing (H.told host.old) (H.told host.new) }
 
-    // Where the run came to its plan and the report tells of no call that failed, each log of the plan was rotated, file by
-    // file, whatever else is told: of other logs that aren't there, say.
-    ensures rotated { (report : Report) (before after : Journal) → without_out result ≡ Outcome.Done report → StopNothing report.faults → H.told host.old ≡ Some before → H.told host.new ≡ Some after → IsJournal (past before) → (request : Request) × AreWords here.now words.now request × RotatesAll request zone.now now report.faults before after }
+    // Whether the call came to its plan, so that logs were looked at, decided and rotated by it, its report tells: exactly where
+    // none of the faults is one that ends a run before anything is rotated. Where one is a failed look or read of the zone's
+    // file or of a path of the state, as a configuration or a log there may have too, the entries tell which it was. A call
+    // that didn't come to its plan says why by its last fault.
+    ensures reached { (report : Report) → without_out result ≡ Outcome.Done report → Left (TellsOfPlan here.now words.now zone.now now report) (H.told host.old) (H.told host.new) }
+
+    // Where none ends a run, and none tells of a call that failed or of a script that ended badly, each log of the plan was
+    // rotated, file by file, whatever else is told: of other logs that aren't there, say.
+    ensures rotated { (report : Report) (before after : Journal) → without_out result ≡ Outcome.Done report → StopNothing report.faults → H.told host.old ≡ Some before → H.told host.new ≡ Some after → IsJournal (past before) → RotatesAll here.now words.now zone.now now report before after }
 
     // What the output took: a first part of what is printed of the answer, and all of it unless a put failed.
     ensures printed { TookPart (printed_of result) (K.taken out.old) (K.taken out.new) }

@@ -4,6 +4,7 @@ use Rattle.std.specs.List.{AllByRecursion as Each, filter_map, list_any, find}
 use Rattle.std.specs.Prelude.{All}
 use Rattle.std.proofs.lemmas.List.Elements.{All-from_recursion}
 use Rattle.lr_rules.specs.declared.path.Path.{Path}
+use Rattle.lr_rules.specs.declared.fault.CallKind.TheVariants as call
 use Rattle.lr_rules.specs.declared.fault.Fault.{Fault}
 use Rattle.lr_rules.specs.declared.fault.Fault.TheVariants as fault
 use Rattle.lr_include.specs.Readers.{IsConfOrCall}
@@ -310,7 +311,9 @@ all_allowed (None ∷ vs) = (tt, all_allowed vs)
 conf_or_call : (fs : List Fault) → Each (IsAllowed true) fs → Each IsConfOrCall fs
 conf_or_call [] ok = tt
 conf_or_call (fault.Conf file line kind ∷ fs) ok = (tt, conf_or_call fs ok.1)
-conf_or_call (fault.Call kind path ∷ fs) ok = (tt, conf_or_call fs ok.1)
+conf_or_call (fault.Call call.Look path ∷ fs) ok = (tt, conf_or_call fs ok.1)
+conf_or_call (fault.Call call.List path ∷ fs) ok = (tt, conf_or_call fs ok.1)
+conf_or_call (fault.Call call.Read path ∷ fs) ok = (tt, conf_or_call fs ok.1)
 conf_or_call (_ ∷ fs) ok = absurd ok.0
 
 pub only_those : (paths : List Path) (vs : List (Option Visit)) → All IsConfOrCall (visits_mean paths vs).faults

@@ -1,5 +1,6 @@
 -- Which faults a reading tells.
 use Rattle.std.specs.Prelude.{◌≡◌, ◌+◌, ℕ, Bool, true, List, [], ◌∷◌, Option, Some, None}
+use Rattle.lr_rules.specs.declared.fault.CallKind.TheVariants as call
 use Rattle.lr_rules.specs.declared.fault.Fault.{Fault}
 use Rattle.lr_rules.specs.declared.fault.Fault.TheVariants as fault
 use Rattle.lr_visits.specs.declared.visit.Visit.{Visit}
@@ -8,10 +9,12 @@ use Rattle.lr_visits.specs.declared.part.TextEnd.{TextEnd}
 use Rattle.lr_visits.specs.declared.part.TextEnd.TheVariants as end
 use Rattle.lr_visits.specs.Visits.{HasFailed}
 
--- a fault of a file or of a line of it, or, where there may be any, a failed call
+-- a fault of a file or of a line of it, or, where there may be any, a failed call: a look, a listing or a read
 abbrev pub IsAllowed : Bool → Fault → Type 0
 IsAllowed calls (fault.Conf file line kind) = Unit {0}
-IsAllowed calls (fault.Call kind path) = calls ≡ true
+IsAllowed calls (fault.Call call.Look path) = calls ≡ true
+IsAllowed calls (fault.Call call.List path) = calls ≡ true
+IsAllowed calls (fault.Call call.Read path) = calls ≡ true
 IsAllowed calls f = ⊥
 
 -- the visit has a failed call only where there may be any

@@ -1,10 +1,11 @@
 -- Faults of which none ends a run.
-use Rattle.std.proofs.Common.{◌≡◌, List, [], ◌∷◌, ◌++◌, subst}
+use Rattle.std.proofs.Common.{◌≡◌, inl, inr, List, [], ◌∷◌, ◌++◌, refl, sym, subst}
 use Rattle.lr_rules.specs.declared.fault.CallKind.{CallKind}
 use Rattle.lr_rules.specs.declared.fault.CallKind.TheVariants as call
 use Rattle.lr_rules.specs.declared.fault.Fault.{Fault}
 use Rattle.lr_rules.specs.declared.fault.Fault.TheVariants as fault
 use Rattle.lr_rules.specs.declared.path.Path.{Path}
+use Rattle.lr_host.specs.Lists.{IsIn}
 use Rattle.lr_reached.specs.Ending.{EndsRun, NoneEnds}
 
 pub none_both : (state : Path) (xs ys : List Fault) → NoneEnds state xs → NoneEnds state ys → NoneEnds state (xs ++ ys)
@@ -16,9 +17,13 @@ pub last_ends : (state : Path) (xs : List Fault) (f : Fault) → NoneEnds state 
 last_ends state [] f a e = a.0 e
 last_ends state (x ∷ xs) f a e = last_ends state xs f a.1 e
 
--- the one doesn't
-pub one_ends : (state : Path) (own : List Fault) (f : Fault) → own ≡ f ∷ [] → NoneEnds state own → EndsRun state f → ⊥
-one_ends state own f is a e = (subst (NoneEnds state) is a).0 e
+-- the last of them is one of them
+pub last_in : (before : List Fault) (f : Fault) (own : List Fault) → own ≡ before ++ f ∷ [] → IsIn f own
+last_in before f own is = subst (IsIn f) (sym is) (go before)
+  where
+    go : (xs : List Fault) → IsIn f (xs ++ f ∷ [])
+    go [] = inl refl
+    go (x ∷ xs) = inr (go xs)
 
 -- a fault that is this one ends no run where that doesn't
 pub is_none : (state : Path) (f g : Fault) → f ≡ g → (EndsRun state g → ⊥) → NoneEnds state (f ∷ [])

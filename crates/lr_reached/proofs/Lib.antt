@@ -1,5 +1,5 @@
 mod Acts
-mod Ends
+pub mod Ends
 mod Families
 mod Gone
 mod Kept
@@ -7,7 +7,8 @@ mod Known
 mod Looked
 mod Planned
 pub mod Reached
-mod Standing
+pub mod Standing
+pub mod Start
 mod Words
 mod Worked
 mod Written

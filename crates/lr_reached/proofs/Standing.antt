@@ -18,7 +18,7 @@ use Rattle.lr_host.proofs.More.{directory_more}
 use Rattle.lr_host.proofs.Quiet.{IsAny, Moment, moment, quiet_more, quiet_still, sees_quiet, since_any, still_reverse}
 
 -- the moment between two parts of what a call left
-cut_at : (p q : Past) (ts front back : List Entry) → ts ≡ front ++ back → Made p (reverse ts) q → Cut p q (reverse back) (reverse front)
+pub cut_at : (p q : Past) (ts front back : List Entry) → ts ≡ front ++ back → Made p (reverse ts) q → Cut p q (reverse back) (reverse front)
 cut_at p q ts front back e m = cut p q (reverse ts) (reverse back) (reverse front) (ap reverse e ∙ reverse-append front back) m
 
 -- one of these entries, of which none changes anything

@@ -1,5 +1,5 @@
 // By what it is known whether a run reached its plan.
-ghost use Rattle.std.specs.Prelude.{◌↔◌, ◌++◌, codes, reverse, Bool, List};
+ghost use Rattle.std.specs.Prelude.{◌↔◌, reverse, Bool, List};
 ghost use Rattle.lr_rules.specs.declared.civil.Moment.{Moment};
 ghost use Rattle.lr_rules.specs.declared.fault.Fault.{Fault};
 ghost use Rattle.lr_rules.specs.declared.path.Path.{Path};
@@ -10,19 +10,19 @@ ghost use Rattle.lr_host.specs.Told.{Made};
 ghost use Rattle.lr_host.specs.World.{Past};
 ghost use Rattle.lr_fields.specs.Built.{AreBuiltRules};
 ghost use Rattle.lr_run.specs.Runs.{Runs};
-ghost use Rattle.lr_reached.specs.Ending.{NoneEnds, IsFailedLook, SaysWhy};
-ghost use Rattle.lr_reached.specs.Looked.{WasLookedAt};
+ghost use Rattle.lr_reached.specs.Ending.{NoneEnds, MayEnd, SaysWhy};
+ghost use Rattle.lr_reached.specs.Looked.{behind_start, SawState};
 ghost use Rattle.lr_reached.specs.Reached.{IsReached};
 
-/// A run reached its plan exactly where it looked at the file that a new state is first written to and none of its own
-/// faults is one that ends a run. Where none of them is a failed look at the state's directory, at its path or at that of
-/// this file, they alone tell. Where it didn't reach its plan, the last of them says why: it is such a fault, or the one
-/// fault is such a look.
+/// A run reached its plan exactly where it saw its state behind its start and none of its own faults is one that ends a
+/// run. Where none of them is a failed look at the state's directory, at its path or at that of its part file, nor a failed
+/// read of it, they alone tell. Where it didn't reach its plan, the last of them says why: it is one that ends a run, or
+/// the one fault is such a look or read.
 pub fn plan_is_reached()
-    ensures reached { (state : Path) (force : Bool) (now : Moment) (rules : Rules) (own : List Fault) (p q : Past) (es : List Entry) → AreBuiltRules rules.sets → Made p es q
-        → (r : Runs state force now rules own (reverse es)) → IsReached state force now rules own (reverse es) r ↔ (WasLookedAt (state ++ codes ".tmp") (reverse es) × NoneEnds state own) }
-    ensures told { (state : Path) (force : Bool) (now : Moment) (rules : Rules) (own : List Fault) (p q : Past) (es : List Entry) → AreBuiltRules rules.sets → Made p es q → ((f : Fault) → IsIn f own → IsFailedLook state f → ⊥)
-        → (r : Runs state force now rules own (reverse es)) → IsReached state force now rules own (reverse es) r ↔ NoneEnds state own }
-    ensures ended { (state : Path) (force : Bool) (now : Moment) (rules : Rules) (own : List Fault) (ts : List Entry)
-        → (r : Runs state force now rules own ts) → (IsReached state force now rules own ts r → ⊥) → SaysWhy state own }
+    ensures reached { (state : Path) (force : Bool) (now : Moment) (rules : Rules) (own : List Fault) (p q : Past) (es : List Entry) → AreBuiltRules rules.sets → Made p es q → Runs state force now rules own (reverse es)
+        → IsReached state force now rules own (reverse es) ↔ (SawState state (behind_start (reverse es)) × NoneEnds state own) }
+    ensures told { (state : Path) (force : Bool) (now : Moment) (rules : Rules) (own : List Fault) (p q : Past) (es : List Entry) → AreBuiltRules rules.sets → Made p es q → Runs state force now rules own (reverse es)
+        → ((f : Fault) → IsIn f own → MayEnd state f → ⊥) → IsReached state force now rules own (reverse es) ↔ NoneEnds state own }
+    ensures ended { (state : Path) (force : Bool) (now : Moment) (rules : Rules) (own : List Fault) (ts : List Entry) → Runs state force now rules own ts
+        → (IsReached state force now rules own ts → ⊥) → SaysWhy state own }
 {}

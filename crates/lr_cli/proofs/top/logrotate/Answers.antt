@@ -8,6 +8,7 @@ use Rattle.lr_cli.specs.Faults.{answer_of}
 use Rattle.lr_cli.specs.Printed.{without_out}
 use Rattle.lr_cli.proofs.Clocked.{own_seconds}
 use Rattle.lr_cli.proofs.Called.{nothing_called, answered, left_still, has_counted, has_clocked, not_counted, none_out}
+use Rattle.lr_cli.proofs.Reached.{left_tells}
 use Rattle.lr_cli.proofs.Reading.{alone_run}
 use Rattle.lr_cli.proofs.Rotating.{answered_rotated}
 use Rattle.lr_cli.proofs.Whole.{answered_whole}
@@ -45,6 +46,9 @@ returns-clause-told g c = answered c.args.here.now c.args.words.now c.args.zone.
 
 pub returns-clause-counted : goal.returns-clause-counted
 returns-clause-counted g c = has_counted c.run_at-run.result _ _ _ c.finish.ensures.answer c.run_at-run.ensures.counted
+
+pub returns-clause-reached : goal.returns-clause-reached
+returns-clause-reached g c = λ report done. left_tells c.args.here.now c.args.words.now c.args.zone.now c.args.now _ report done (returns-clause-told g c)
 
 pub returns-clause-rotated : goal.returns-clause-rotated
 returns-clause-rotated g c = λ report before after done all told_before told_after journal. answered_rotated c.args.here.now c.args.words.now c.args.zone.now c.args.now _ report _ _ before after (returns-clause-told g c) done all told_before told_after journal
