@@ -1,14 +1,13 @@
 -- A literal word of rules that meet their limits is a path, without the backslashes that escape.
-use Rattle.std.proofs.Common.{◌≡◌, inl, inr, ⊎_elim, ℕ, suc, ◌+◌, ◌<◌, ◌≤◌, Bool, true, false, cond, not, nat_lt, nat_le, ◌==◌, ◌&&◌, List, [], ◌∷◌, ◌++◌, Option, Some, None, length, get_or, refl, sym, ap, ◌∙◌, subst, arith}
+use Rattle.std.proofs.Common.{◌≡◌, inl, inr, ⊎_elim, ℕ, suc, ◌+◌, ◌<◌, ◌≤◌, Bool, true, false, cond, not, nat_lt, nat_le, ◌==◌, ◌&&◌, List, [], ◌∷◌, ◌++◌, Some, None, length, get_or, refl, sym, ap, ◌∙◌, subst, arith}
 use Rattle.std.specs.Prelude.{IsUtf8}
 use Rattle.std.specs.List.{list_all}
 use Rattle.std.specs.Str.{is_utf8}
-use Rattle.std.proofs.Math.Utf8.{encode, encodes, scalar, scalars}
+use Rattle.std.proofs.Math.Utf8.{encode, encodes}
 use Rattle.std.proofs.lemmas.Bool.{and_parts}
 use Rattle.std.proofs.lemmas.Bool.Decides.{Decides-eqb, Decides-ltb, nat_tests}
 use Rattle.std.proofs.lemmas.List.{append-nil}
 use Rattle.std.proofs.lemmas.Str.{encode_ascii, length-encode, len_utf8_bounds, inside_one, is_utf8-from_IsUtf8}
-use Rattle.lr_rules.specs.declared.path.PathFault.{PathFault}
 use Rattle.lr_rules.specs.declared.path.PathFault.TheVariants as fault
 use Rattle.lr_rules.specs.declared.rule.Rule.{Rule}
 use Rattle.lr_rules.specs.Limits.{meets_limits, is_log_word, is_pattern_word, is_literal_word, is_path_text, can_be_log}
@@ -16,6 +15,7 @@ use Rattle.lr_rules.specs.Match.{is_wildcard, literal_path}
 use Rattle.lr_rules.specs.Path.{path_fault, is_slash, is_absolute, has_bad_byte, has_empty_part, has_dot_part}
 use Rattle.lr_host.specs.Lists.{IsIn}
 use Rattle.lr_host.proofs.Lists.{in_unmap, in_append}
+use Rattle.lr_glob.proofs.Literals.{literal_scalars}
 use Rattle.lr_looks.specs.Asked.{Word, word_of, words_of, words_from, asked_by, AreTexts}
 
 -- ---- the bytes of a character
@@ -112,26 +112,6 @@ literal_spelt (c ∷ d ∷ cs) = by (c == 92) refl (is_slash d) refl (literal_sp
         ∙ (ap (λ ys. 92 ∷ ys) one
         ∙ (sym (ap (λ bs. bs ++ encodes (literal_path (d ∷ cs))) (encode_ascii 92 escape_low)) ∙ ap encodes (sym (keeps d cs n))))))
     by false e s n one two = plain_step c (encode c) (encodes (d ∷ cs)) (spelt c) e ∙ (ap (λ ys. encode c ++ ys) one ∙ ap encodes (sym (stay c (d ∷ cs) e)))
-
-true_both : (a b : Bool) → a ≡ true → b ≡ true → (a && b) ≡ true
-true_both true true h g = refl
-true_both true false h g = absurd (cc)
-true_both false b h g = absurd (cc)
-
-literal_scalars : (cs : List ℕ) → scalars cs ≡ true → scalars (literal_path cs) ≡ true
-literal_scalars [] h = refl
-literal_scalars (c ∷ []) h = h
-literal_scalars (c ∷ d ∷ cs) h = by (c == 92 && not (is_slash d)) (literal_scalars (d ∷ cs) p.1) (literal_scalars cs q.1)
-  where
-    p : (scalar c ≡ true) × (scalars (d ∷ cs) ≡ true)
-    p = and_parts (scalar c) (scalars (d ∷ cs)) h
-
-    q : (scalar d ≡ true) × (scalars cs ≡ true)
-    q = and_parts (scalar d) (scalars cs) p.1
-
-    by : (b : Bool) → scalars (literal_path (d ∷ cs)) ≡ true → scalars (literal_path cs) ≡ true → scalars (cond b (d ∷ literal_path cs) (c ∷ literal_path (d ∷ cs))) ≡ true
-    by true x y = true_both (scalar d) (scalars (literal_path cs)) q.0 y
-    by false x y = true_both (scalar c) (scalars (literal_path (d ∷ cs))) p.0 x
 
 literal_utf8 : (word : List ℕ) → IsUtf8 word → IsUtf8 (literal_path word)
 literal_utf8 word u = (literal_path u.0, (literal_scalars u.0 u.1.0, sym (literal_spelt u.0) ∙ ap literal_path u.1.1))

@@ -1,5 +1,5 @@
 -- Two reports that were told of the same entries are one.
-use Rattle.std.proofs.Common.{◌≡◌, ◌≢◌, ◌<◌, ◌≤◌, ◌+◌, inl, inr, ℕ, ℤ, Bool, true, false, List, [], ◌∷◌, ◌++◌, Option, None, Some, length, drop, refl, sym, ap, ◌∙◌, subst, codes, arith, append-nil, length-append}
+use Rattle.std.proofs.Common.{◌≡◌, ◌<◌, ◌≤◌, ◌+◌, inl, inr, ℕ, ℤ, Bool, true, false, List, [], ◌∷◌, ◌++◌, Option, None, Some, length, drop, refl, sym, ap, ◌∙◌, subst, codes, arith, append-nil, length-append}
 use Rattle.std.proofs.Math.Bool.{Bool-set}
 use Rattle.std.proofs.Math.Seq.{drop-append_seam}
 use Rattle.std.proofs.lemmas.Option.{same_Some}
@@ -8,9 +8,7 @@ use Rattle.lr_rules.specs.Limits.{meets_limits}
 use Rattle.lr_rules.specs.Path.{parent_of}
 use Rattle.lr_rules.specs.declared.civil.Moment.{Moment}
 use Rattle.lr_rules.specs.declared.clock.Clock.{Clock}
-use Rattle.lr_rules.specs.declared.fault.CallKind.TheVariants as call
 use Rattle.lr_rules.specs.declared.fault.Fault.{Fault}
-use Rattle.lr_rules.specs.declared.fault.Fault.TheVariants as fault
 use Rattle.lr_rules.specs.declared.fault.Notice.{Notice}
 use Rattle.lr_rules.specs.declared.path.Path.{Path}
 use Rattle.lr_rules.specs.declared.rule.Rule.{Rule}
@@ -41,7 +39,7 @@ use Rattle.lr_run.proofs.Called.{none_before, none_behind}
 use Rattle.lr_fixed.proofs.Called.{one_called, one_uncalled}
 use Rattle.lr_fixed.proofs.Peeled.{one_look}
 use Rattle.lr_fixed.proofs.Run.{runs_at}
-use Rattle.lr_cli.proofs.Rotating.{built_means}
+use Rattle.lr_cli.proofs.Reached.{built_means}
 use Rattle.lr_read_fixed.specs.Behind.{begins_by_read}
 use Rattle.lr_read_fixed.proofs.OneReading.{readings_one, reads_begin}
 use Rattle.lr_fixed.proofs.Fronts.{file_front, file_is_front, look_alone}

@@ -1,6 +1,6 @@
 -- A run lists a directory once, and once for each wildcard.
-use Rattle.std.proofs.Common.{◌≡◌, ◌≤◌, ◌+◌, inl, inr, ℕ, Bool, List, [], ◌∷◌, ◌++◌, reverse, refl, sym, ap, ◌∙◌, subst, arith}
-use Rattle.std.proofs.lemmas.List.{reverse-append, reverse-reverse}
+use Rattle.std.proofs.Common.{◌≤◌, ◌+◌, inl, inr, ℕ, Bool, List, [], ◌∷◌, ◌++◌, reverse, refl, sym, subst, arith}
+use Rattle.std.proofs.lemmas.List.{reverse-reverse}
 use Rattle.lr_rules.specs.declared.civil.Moment.{Moment}
 use Rattle.lr_rules.specs.declared.fault.Fault.{Fault}
 use Rattle.lr_rules.specs.declared.path.Path.{Path}
@@ -12,7 +12,7 @@ use Rattle.lr_host.specs.declared.entry.Entry.TheVariants as entry
 use Rattle.lr_host.specs.Looks.{IsDir, IsNotDir}
 use Rattle.lr_host.specs.Told.{Made}
 use Rattle.lr_host.specs.World.{Past}
-use Rattle.lr_host.proofs.Made.{Cut, cut}
+use Rattle.lr_host.proofs.Made.{Cut}
 use Rattle.lr_plan.specs.declared.looks.SetLooks.{SetLooks}
 use Rattle.lr_plan.specs.Outcomes.{Maybe}
 use Rattle.lr_plan.specs.Planned.{decision}
@@ -20,6 +20,7 @@ use Rattle.lr_looks.specs.Shown.{ShowsLooks}
 use Rattle.lr_fields.specs.Built.{AreBuiltRules}
 use Rattle.lr_seen.specs.Free.{reserved_by}
 use Rattle.lr_run.specs.Runs.{Looked, Worked, Works, not_known, too_big, worked, Inside, Runs, no_directory, not_seen, not_begun, began}
+use Rattle.lr_reached.proofs.Standing.{cut_at}
 use Rattle.lr_glob.specs.Listings.{listings_of}
 use Rattle.lr_fixed.specs.Listings.{wildcards_of}
 use Rattle.lr_fixed.proofs.CountedListings.{AreNoListings, count_none, count_joined, none_both, none_empty}
@@ -28,10 +29,6 @@ use Rattle.lr_fixed.proofs.LooksListNone.{sees_none}
 use Rattle.lr_fixed.proofs.Moves.{plan_moves, moves_list_none}
 use Rattle.lr_fixed.proofs.WordsListOnce.{asked_once}
 use Rattle.lr_fixed.proofs.StateListsNone.{state_read_none, state_written_none}
-
--- the moment between two parts of what a call left
-cut_at : (p q : Past) (ts front back : List Entry) → ts ≡ front ++ back → Made p (reverse ts) q → Cut p q (reverse back) (reverse front)
-cut_at p q ts front back e m = cut p q (reverse ts) (reverse back) (reverse front) (ap reverse e ∙ reverse-append front back) m
 
 -- entries that list nothing list the directory at most so often
 none_once : (n : ℕ) (dir : Path) (ts : List Entry) → AreNoListings ts → listings_of dir ts ≤ n + 1
