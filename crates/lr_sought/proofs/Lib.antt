@@ -3,6 +3,5 @@ pub mod OneOrder
 pub mod OneWord
 pub mod Ordered
 pub mod Pairs
-pub mod Standing
 pub mod Stood
 pub mod Ways

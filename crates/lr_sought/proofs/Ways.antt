@@ -21,7 +21,7 @@ use Rattle.lr_glob.specs.Words.{root}
 use Rattle.lr_glob.proofs.Levels.{IsAt, part_at}
 use Rattle.lr_glob.proofs.Literals.{parts_utf8}
 use Rattle.lr_glob.proofs.Names.{Parts, some_parts, split_parts, behind, under, AreParts, under_root, word_behind, word_parts}
-use Rattle.lr_sought.proofs.Standing.{stands_in}
+use Rattle.lr_laws.proofs.StandsIn.{stands_in}
 
 -- ---- what a path has
 

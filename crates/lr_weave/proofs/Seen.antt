@@ -15,7 +15,7 @@ use Rattle.lr_host.proofs.Looked.{seen_file, nothing_no_file}
 use Rattle.lr_host.proofs.More.{directory_more}
 use Rattle.lr_host.proofs.Quiet.{IsAny, since_any, moment, quiet_more, quiet_still, still_in_order}
 use Rattle.lr_host.proofs.Left.{left_as}
-use Rattle.lr_laws.proofs.Standing.{stands_in}
+use Rattle.lr_laws.proofs.StandsIn.{stands_in}
 use Rattle.lr_rotations.specs.Apart.{HaveNames}
 use Rattle.lr_rotations.specs.Target.{Target, IsSeen, AreSeen}
 use Rattle.lr_rotations.proofs.Moments.{SawFile, saw_one}

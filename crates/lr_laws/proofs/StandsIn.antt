@@ -1,76 +1,25 @@
 -- What is named in a journal stands in a directory, where its path is its directory and its last part: whatever entries name besides.
-use Rattle.std.proofs.Common.{◌≡◌, ◌≢◌, ◌⊎◌, inl, inr, ℕ, true, cond, ◌||◌, refl, sym, ◌∙◌, ap, subst, List, [], ◌∷◌, ◌++◌, length, take}
-use Rattle.std.specs.Prelude.{◌==◌}
-use Rattle.std.specs.List.{list_any}
-use Rattle.std.proofs.lemmas.Slice.Eq.{bytes_eq-Decides}
-use Rattle.std.proofs.lemmas.Bool.{or_right}
+use Rattle.std.proofs.Common.{◌≡◌, ◌≢◌, ◌⊎◌, inl, inr, ℕ, refl, sym, ◌∙◌, ap, subst, List, [], ◌∷◌}
 use Rattle.lr_rules.specs.declared.path.Path.{Path}
-use Rattle.lr_rules.specs.Path.{parent_of, last_of, joined}
+use Rattle.lr_rules.specs.Path.{parent_of}
 use Rattle.lr_host.specs.declared.thing.Thing.{Thing}
 use Rattle.lr_host.specs.declared.thing.Thing.TheVariants as thing
 use Rattle.lr_host.specs.declared.entry.Entry.{Entry}
 use Rattle.lr_host.specs.declared.entry.Entry.TheVariants.{Attach, Renames, Makes, MakesDir, Unlinks}
-use Rattle.lr_host.specs.World.{Names, names_after, put, Change, Puts, Moves, Drops, changed, paths_in, makes_above, is_inside, in_list, shares, kept_at, undone_at, settled, MayLeave, Step, Stays, Adds, Settles, Keeps, making, step, World, names, durable_after, pending_after, Past, Opens, ◌▸◌, world}
+use Rattle.lr_host.specs.World.{Names, names_after, put, Change, Puts, Moves, Drops, changed, kept_at, undone_at, settled, MayLeave, Step, Stays, Adds, Settles, Keeps, making, step, World, names, durable_after, pending_after, Past, Opens, ◌▸◌, world}
 use Rattle.lr_host.specs.Fits.{Fits, IsFileAt, IsDirectoryAt}
 use Rattle.lr_host.specs.Opening.{IsJournal}
 use Rattle.lr_host.specs.Kept.{Leaves}
 use Rattle.lr_host.proofs.Names.{put_here, put_other}
-use Rattle.lr_host.proofs.Closed.{Touches, touches_or_not, touched_any, Splits, of_none, with_next, without_next, IsApart, apart_first, apart_rest, apart_none, NoneTouches, kept_names, untouched, not_both, all_closed}
+use Rattle.lr_host.proofs.Closed.{Touches, touches_or_not, Splits, with_next, without_next, IsApart, apart_none, kept_names, untouched, all_closed}
 use Rattle.lr_host.proofs.Places.{IsSplit, split_of, splits, leaves_of, bound, synced_names}
 use Rattle.lr_laws.specs.Rooted.{IsParted}
 use Rattle.lr_laws.proofs.Disk.{fits_closed, LeftBy, as_it_was, taken_back, kept_too, by_cut, left_by}
-use Rattle.lr_laws.proofs.RootedLaw.{stand_after}
+use Rattle.lr_laws.proofs.RootedLaw.{inside_parent, LastMakes, others_make, none_touches, clash_nothing, clash_file, clash_named, stand_after}
 
 -- each such path that names something stands in a directory
 abbrev PartedStand : Names → Type 0
 PartedStand n = (x : Path) → IsParted x → n x ≢ thing.Nothing → n (parent_of x) ≡ thing.Directory
-
--- ---- a path is inside its directory
-
-take_front : (b rest : List ℕ) → take (length (b ++ 47 ∷ [])) (b ++ 47 ∷ rest) ≡ b ++ 47 ∷ []
-take_front [] rest = refl
-take_front (x ∷ b) rest = ap (λ l. x ∷ l) (take_front b rest)
-
-inside_parent : (x : Path) → IsParted x → is_inside (parent_of x) x ≡ true
-inside_parent x is = (bytes_eq-Decides (take (length (joined (parent_of x) [])) x) (joined (parent_of x) [])).1 (subst (λ y. take (length (joined (parent_of x) [])) y ≡ joined (parent_of x) []) is (take_front (cond (length (parent_of x) == 1) [] (parent_of x)) (last_of x)))
-
--- ---- the newest change of a directory's path is its making
-
-abbrev LastMakes : Path → List Change → Type 0
-LastMakes d [] = Unit {0}
-LastMakes d (c ∷ older) = (Touches c d → c ≡ Puts d thing.Directory) × ((Touches c d → ⊥) → LastMakes d older)
-
-none_makes : (d : Path) (cs : List Change) → NoneTouches cs d → LastMakes d cs
-none_makes d [] n = tt
-none_makes d (c ∷ cs) n = ((λ t. absurd (n.0 t)), λ nt. none_makes d cs n.1)
-
-others_make : (d : Path) (cs held others : List Change) → Splits cs held others → LastMakes d cs → LastMakes d others
-others_make d _ _ _ of_none m = tt
-others_make d _ _ others (with_next {c = c} {older = older} {held = held} p a) m = go (touches_or_not c d) (others_make d older held others p)
-  where
-    go : Touches c d ⊎ (Touches c d → ⊥) → (LastMakes d older → LastMakes d others) → LastMakes d others
-    go (inl t) r = none_makes d others (apart_none c others d t a)
-    go (inr nt) r = r (m.1 nt)
-others_make d _ held _ (without_next {c = c} {older = older} {others = others} p) m = (m.0, λ nt. others_make d older held others p (m.1 nt))
-
-makes_shared : (c : Change) (d x : Path) → Touches c x → is_inside d x ≡ true → shares c (Puts d thing.Directory) ≡ true
-makes_shared c d x t i =
-    or_right (list_any (in_list (d ∷ [])) (paths_in c)) (makes_above c (Puts d thing.Directory) || makes_above (Puts d thing.Directory) c)
-    (or_right (makes_above c (Puts d thing.Directory)) (list_any (is_inside d) (paths_in c)) (touched_any c x (is_inside d) t i))
-
--- what is apart from a change with a path inside the directory has not its path
-none_touches : (d x : Path) (c : Change) (cs held others : List Change) → Touches c x → is_inside d x ≡ true → Splits cs held others → LastMakes d cs → IsApart c others → NoneTouches others d
-none_touches d x c _ _ _ t i of_none m a = tt
-none_touches d x c _ _ others t i (with_next {c = u} {older = older} {held = held} p b) m a = go (touches_or_not u d) (λ m. none_touches d x c older held others t i p m a)
-  where
-    go : Touches u d ⊎ (Touches u d → ⊥) → (LastMakes d older → NoneTouches others d) → NoneTouches others d
-    go (inl tu) r = apart_none u others d tu b
-    go (inr nu) r = r (m.1 nu)
-none_touches d x c _ held _ t i (without_next {c = u} {older = older} {others = others} p) m a = go (touches_or_not u d) (λ m. none_touches d x c older held others t i p m (apart_rest c u others a))
-  where
-    go : Touches u d ⊎ (Touches u d → ⊥) → (LastMakes d older → NoneTouches others d) → (Touches u d → ⊥) × NoneTouches others d
-    go (inl tu) r = absurd (not_both (shares c u) (ap (shares c) (m.0 tu) ∙ makes_shared c d x t i) (apart_first c u others a))
-    go (inr nu) r = (nu, r (m.1 nu))
 
 -- ---- what a change that fits finds
 
@@ -78,15 +27,6 @@ data Fitted (n : Names) : Change → Type 0 where
   puts : {x : Path} {t : Thing} → n x ≡ thing.Nothing → n (parent_of x) ≡ thing.Directory → Fitted n (Puts x t)
   moves : {from to : Path} {g : ℕ} → n from ≡ thing.File g → n to ≢ thing.Directory → n (parent_of to) ≡ thing.Directory → from ≢ to → Fitted n (Moves from to)
   drops : {x : Path} {g : ℕ} → n x ≡ thing.File g → Fitted n (Drops x)
-
-clash_nothing : (t : Thing) → t ≡ thing.Nothing → t ≡ thing.Directory → ⊥
-clash_nothing t a b = cc
-
-clash_file : (t : Thing) (g : ℕ) → t ≡ thing.File g → t ≡ thing.Directory → ⊥
-clash_file t g a b = cc
-
-clash_named : (t : Thing) (g : ℕ) → t ≡ thing.Nothing → t ≡ thing.File g → ⊥
-clash_named t g a b = cc
 
 fitted : (w : World) (e : Entry) (c : Change) → Fits w e → step w e ≡ Adds c → Fitted (names w) c
 fitted w (Renames from to) c f q = subst (Fitted (names w)) same (moves f.0.1 f.1 f.3 f.4)
