@@ -12,6 +12,7 @@ use Rattle.lr_host.specs.Told.{Then, Each}
 use Rattle.lr_host.specs.Reading.{IsReadOf, ReadsAll}
 use Rattle.lr_host.specs.Looks.{IsFile, Sees}
 use Rattle.lr_host.specs.Quiet.{AreQuiet, is_disk_change, ChangeNothing}
+use Rattle.lr_host.proofs.Reading.{reads_only}
 use Rattle.lr_host.proofs.Quiet.{quiet_both, then_quiet, sees_quiet, quiet_still, still_both}
 use Rattle.lr_due.specs.declared.tz.Zone.{Zone}
 use Rattle.lr_due.specs.declared.tz.Zone.TheVariants.{Utc, Rule, File}
@@ -32,7 +33,7 @@ pub file_quiet : (conf : Path) (ts : List Entry) → Then (Sees conf IsFile) (Ea
 file_quiet conf ts t = subst AreQuiet (sym t.joined) (quiet_both t.front t.back (sees_quiet conf t.front t.first) (reads_quiet conf t.back t.second))
 
 whole_quiet : (conf : Path) (bytes : List ℕ) (ts : List Entry) → Then (Sees conf IsFile) (ReadsAll conf 1048577 bytes) ts → AreQuiet ts
-whole_quiet conf bytes ts t = subst AreQuiet (sym t.joined) (quiet_both t.front t.back (sees_quiet conf t.front t.first) (reads_quiet conf t.back t.second.reads.only))
+whole_quiet conf bytes ts t = subst AreQuiet (sym t.joined) (quiet_both t.front t.back (sees_quiet conf t.front t.first) (reads_quiet conf t.back (reads_only conf 1048577 bytes t.back t.second)))
 
 -- ---- a run that lacked memory
 
@@ -46,7 +47,7 @@ lacks_still state now rules ts (in_looks i) = ap (filter is_disk_change) i.entri
 zone_quiet : (zone : Zone) (text : ZoneText) (ts : List Entry) → ShowsZone zone text ts → AreQuiet ts
 zone_quiet Utc text ts h = subst AreQuiet (sym h.1) tt
 zone_quiet (Rule rule) text ts h = subst AreQuiet (sym h.1) tt
-zone_quiet (File path) text ts h = then_quiet ts (λ us s. sees_quiet path us s) (λ us g. reads_quiet path us g.1.reads.only) h.2
+zone_quiet (File path) text ts h = then_quiet ts (λ us s. sees_quiet path us s) (λ us g. reads_quiet path us (reads_only path 1048577 h.0 us g.1)) h.2
 
 pub clock_quiet : (zone : Zone) (seconds : ℤ) (clock : Clock) (ts : List Entry) → ShowsClock zone seconds clock ts → AreQuiet ts
 clock_quiet zone seconds clock ts h = zone_quiet zone h.text ts h.shows

@@ -8,6 +8,7 @@ use Rattle.lr_host.specs.declared.entry.Entry.{Entry}
 use Rattle.lr_host.specs.declared.entry.Entry.TheVariants.{Reads, Appends}
 use Rattle.lr_host.specs.declared.journal.Journal.{Journal}
 use Rattle.lr_host.specs.Reading.{text, AreJoined}
+use Rattle.lr_host.proofs.Reading.{text_both}
 use Rattle.lr_host.specs.Steps.{is_naming}
 use Rattle.lr_host.specs.Told.{Left, Then}
 use Rattle.lr_host.proofs.Left.{left_first, left_then, left_as}
@@ -110,11 +111,6 @@ copies_all job count more into le none l r = left_then l r (λ ts us h e. record
 })
 
 -- ---- what they show
-
-text_both : (xs ys : List Entry) → text (xs ++ ys) ≡ text xs ++ text ys
-text_both [] ys = refl
-text_both (Reads x from piece ∷ xs) ys = ap (λ zs. piece ++ zs) (text_both xs ys) ∙ sym (append_assoc piece (text xs) (text ys))
-text_both (_ ∷ xs) ys = text_both xs ys
 
 appended_both : (xs ys : List Entry) → appended (xs ++ ys) ≡ appended xs ++ appended ys
 appended_both [] ys = refl

@@ -17,7 +17,6 @@ mod CountedListings
 mod Moves
 mod Works
 mod Run
-mod Fronts
 mod Reports
 mod LooksListNone
 mod WordsListOnce

@@ -1,11 +1,11 @@
 -- The text that reads of one path give.
-use Rattle.std.specs.Prelude.{◌≡◌, ◌⊎◌, ℕ, ◌+◌, Bool, true, false, List, [], ◌∷◌, ◌++◌, length}
+use Rattle.std.specs.Prelude.{◌≡◌, ◌<◌, ℕ, ◌+◌, Bool, true, false, List, [], ◌∷◌, ◌++◌, length}
 use Rattle.std.specs.List.{list_any}
 use Rattle.lr_rules.specs.declared.path.Path.{Path}
 use Rattle.lr_rules.specs.Path.{is_empty}
 use Rattle.lr_host.specs.declared.entry.Entry.{Entry}
 use Rattle.lr_host.specs.declared.entry.Entry.TheVariants.{Reads}
-use Rattle.lr_host.specs.Told.{Each}
+use Rattle.lr_host.specs.Told.{Each, Are, Then}
 
 -- a read of the path
 abbrev pub IsReadOf : Path → Entry → Type 0
@@ -29,13 +29,14 @@ abbrev pub is_end : Entry → Bool
 is_end (Reads x from piece) = is_empty piece
 is_end _ = false
 
--- These bytes were read of the path from its first byte on.
+-- These bytes were read of the path from its first byte on, and each read gave some.
 pub record ReadsOf (path : Path) (bytes : List ℕ) (ts : List Entry) : Type 0 where
   pub only : Each (IsReadOf path) ts
   pub joined : AreJoined 0 ts
+  pub some : list_any is_end ts ≡ false
   pub bytes_are : text ts ≡ bytes
 
--- They are all bytes of it, or as many as the limit.
-pub record ReadsAll (path : Path) (limit : ℕ) (bytes : List ℕ) (ts : List Entry) : Type 0 where
-  pub reads : ReadsOf path bytes ts
-  pub whole : (length bytes ≡ limit) ⊎ (list_any is_end ts ≡ true)
+-- They are as many as the limit; or all bytes of the path, fewer than the limit, and a last read gave nothing.
+pub data ReadsAll (path : Path) (limit : ℕ) (bytes : List ℕ) (ts : List Entry) : Type 0 where
+  to_limit : length bytes ≡ limit → ReadsOf path bytes ts → ReadsAll path limit bytes ts
+  to_end : length bytes < limit → Then (ReadsOf path bytes) (Are (Reads path (length bytes) [] ∷ [])) ts → ReadsAll path limit bytes ts

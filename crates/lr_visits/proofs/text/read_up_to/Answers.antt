@@ -4,7 +4,7 @@ use Rattle.lr_host.specs.Steps.{is_naming}
 use Rattle.lr_host.proofs.Left.{can_stay}
 use Rattle.lr_visits.specs.declared.text.ReadStop.{ReadStop}
 use Rattle.lr_visits.specs.declared.text.ReadStop.TheVariants as stop
-use Rattle.lr_visits.proofs.Texts.{reads_first, reads_on, reads_more, reads_end, reads_full, read_as, none_added, same_bytes, take_short}
+use Rattle.lr_visits.proofs.Texts.{reads_first, reads_on, reads_more, reads_end, reads_full, read_as, none_added, some_added, same_bytes, take_short}
 use Rattle.lr_visits.proofs.Visiting.{reads_none}
 use Rattle.lr_visits.proofs.text.read_up_to.Goals as goal
 
@@ -25,13 +25,15 @@ returns-in-Err-clause-failed g c = λ e.
 pub returns-then-count-eq0-clause-told : goal.returns-then-count-eq0-clause-told
 returns-then-count-eq0-clause-told g c =
     let size : length c.read_on.new.bytes.items ≡ length c.loop-piece.bytes.items = omega (arith, c.in-Ok.ensures.count, c.if-count-eq0.true) in
-    reads_end c.args.path.now (length c.args.piece.now) c.loop-piece.bytes.items c.read_on.new.bytes.items c.loop-piece.invariant.told
+    reads_end c.args.path.now (length c.args.piece.now) c.loop-piece.bytes.items c.read_on.new.bytes.items
+    (omega (arith, c.loop-piece-test.true, c.loop-piece.auto.piece, c.len.ensures)) c.loop-piece.invariant.told
     (read_as c.args.path.now _ _ _ [] c.in-Ok.ensures.told refl (none_added c.loop-piece.bytes.items c.read_on.new.bytes.items size))
     (same_bytes c.loop-piece.bytes.items c.read_on.new.bytes.items c.in-Ok.ensures.grown size)
 
 pub loop-piece-preserved : goal.loop-piece-preserved
 loop-piece-preserved g c = record {
-  told = reads_more c.args.path.now c.loop-piece.bytes.items _ c.read_on.new.bytes.items c.loop-piece.invariant.told c.in-Ok.ensures.told c.in-Ok.ensures.grown;
+  told = reads_more c.args.path.now c.loop-piece.bytes.items _ c.read_on.new.bytes.items
+      (some_added c.loop-piece.bytes.items c.read_on.new.bytes.items c.in-Ok.count c.in-Ok.ensures.count c.if-count-eq0.false) c.loop-piece.invariant.told c.in-Ok.ensures.told c.in-Ok.ensures.grown;
   file = can_stay c.loop-piece.invariant.file c.in-Ok.ensures.told (λ ts is. ap (filter is_naming) is);
   within = omega (arith, c.in-Ok.ensures.count, c.in-Ok.ensures.within, c.read_on.auto.piece, c.loop-piece.auto.piece, c.loop-piece.invariant.within, c.len-in-loop-piece.ensures, take_short (length c.loop-piece.piece - c.len-in-loop-piece.result) c.loop-piece.piece);
   counts = search rules;
