@@ -21,7 +21,6 @@ use Rattle.lr_include.specs.Readers.{IsConfOrCall}
 use Rattle.lr_include.specs.Stages.{visits_mean, begun, at_visits, Reads}
 use Rattle.lr_include.proofs.AllQuiet.{reads_quiet as confs_quiet}
 use Rattle.lr_include.proofs.Allowed.{only_those}
-use Rattle.lr_include.proofs.Plain.{all_plain}
 use Rattle.lr_due.specs.declared.tz.Zone.{Zone}
 use Rattle.lr_due.specs.declared.tz.Zone.TheVariants.{File}
 use Rattle.lr_fields.specs.Built.{AreBuiltRules}

@@ -1,7 +1,6 @@
 -- Two reports that were told of the same entries are one.
-use Rattle.std.proofs.Common.{◌≡◌, ◌<◌, ◌≤◌, ◌+◌, inl, inr, ℕ, ℤ, Bool, true, false, List, [], ◌∷◌, ◌++◌, Option, None, Some, length, drop, refl, sym, ap, ◌∙◌, subst, codes, arith, append-nil, length-append}
+use Rattle.std.proofs.Common.{◌≡◌, ◌<◌, ◌≤◌, ◌+◌, inl, inr, ℕ, ℤ, Bool, true, false, List, [], ◌∷◌, ◌++◌, Option, None, Some, length, refl, sym, ap, ◌∙◌, subst, codes, arith, append-nil, append_assoc, length-append}
 use Rattle.std.proofs.Math.Bool.{Bool-set}
-use Rattle.std.proofs.Math.Seq.{drop-append_seam}
 use Rattle.std.proofs.lemmas.Option.{same_Some}
 use Rattle.std.specs.List.{list_all}
 use Rattle.lr_rules.specs.Limits.{meets_limits}
@@ -20,11 +19,11 @@ use Rattle.lr_host.specs.declared.thing.Seen.{Seen}
 use Rattle.lr_host.specs.Looks.{Sees, IsFile}
 use Rattle.lr_host.specs.Reading.{text, ReadsAll}
 use Rattle.lr_host.specs.Told.{Then}
+use Rattle.lr_host.proofs.Reading.{reads_text, reads_one}
 use Rattle.lr_conf.specs.Meaning.{Meaning}
 use Rattle.lr_due.specs.declared.tz.Zone.{Zone}
 use Rattle.lr_due.specs.declared.tz.Zone.TheVariants.{Utc, Rule as RuleZone, File}
 use Rattle.lr_due.specs.declared.zone.ZoneText.{ZoneText}
-use Rattle.lr_due.specs.Zone.{IsInRange}
 use Rattle.lr_host.specs.Counted.{call_in, calls_in}
 use Rattle.lr_fields.specs.Built.{AreBuiltRules}
 use Rattle.lr_run.specs.Runs.{Runs, no_directory, not_seen, not_begun, began}
@@ -37,26 +36,12 @@ use Rattle.lr_cli.specs.Words.{HaveNoOption, AreNames, asking, NameConfs, AreWor
 use Rattle.lr_cli.specs.Zone.{IsNotFile, ShowsZone, GivesBytes, LacksText, not_file, too_big, look_failed, read_failed}
 use Rattle.lr_run.proofs.Called.{none_before, none_behind}
 use Rattle.lr_fixed.proofs.Called.{one_called, one_uncalled}
-use Rattle.lr_fixed.proofs.Peeled.{one_look}
+use Rattle.lr_fixed.proofs.Peeled.{front_same, then_same, joined_same, one_look}
 use Rattle.lr_fixed.proofs.Run.{runs_at}
 use Rattle.lr_cli.proofs.Reached.{built_means}
-use Rattle.lr_read_fixed.specs.Behind.{begins_by_read}
-use Rattle.lr_read_fixed.proofs.OneReading.{readings_one, reads_begin}
-use Rattle.lr_fixed.proofs.Fronts.{file_front, file_is_front, look_alone}
+use Rattle.lr_read_fixed.proofs.OneReading.{readings_one}
 
--- ---- a run begins with no read
-
-look_in_front : (x : Path) (P : Option Seen → Type 0) (ts us : List Entry) → Sees x P ts → begins_by_read (ts ++ us) ≡ false
-look_in_front x P ts us s = ap (λ vs. begins_by_read (vs ++ us)) s.look
-
-look_begins : (x : Path) (P : Option Seen → Type 0) (ts : List Entry) → Sees x P ts → begins_by_read ts ≡ false
-look_begins x P ts s = ap begins_by_read s.look
-
-run_begins : (state : Path) (force : Bool) (now : Moment) (rules : Rules) (own : List Fault) (ts : List Entry) → Runs state force now rules own ts → begins_by_read ts ≡ false
-run_begins state force now rules own ts (no_directory e s) = look_begins (parent_of state) _ ts s
-run_begins state force now rules own ts (not_seen e none) = ap begins_by_read none
-run_begins state force now rules own ts (not_begun e t) = ap begins_by_read t.joined ∙ look_in_front (parent_of state) _ t.front t.back t.first
-run_begins state force now rules own ts (began i) = ap begins_by_read i.entries ∙ look_in_front (parent_of state) _ i.before _ i.directory
+-- ---- a run begins with a look
 
 -- where none of its calls failed, it begins with a look
 run_look : (state : Path) (force : Bool) (now : Moment) (rules : Rules) (own : List Fault) (ts : List Entry) → Runs state force now rules own ts → calls_in own ≡ 0 → (seen : Option Seen) × (rest : List Entry) × (ts ≡ entry.Look (parent_of state) seen ∷ rest)
@@ -66,10 +51,6 @@ run_look state force now rules own ts (not_begun e t) z = (t.first.seen, t.back,
 run_look state force now rules own ts (began i) z = (i.directory.seen, entry.Starts state now rules ∷ (i.between ++ entry.Ends ∷ []), i.entries ∙ ap (λ vs. vs ++ (entry.Starts state now rules ∷ (i.between ++ entry.Ends ∷ []))) i.directory.look)
 
 -- ---- records with the same parts
-
--- what stands behind the same entries is the same
-behind_same : (xs ys zs : List Entry) → xs ++ ys ≡ xs ++ zs → ys ≡ zs
-behind_same xs ys zs e = sym (drop-append_seam xs ys) ∙ (ap (drop (length xs)) e ∙ drop-append_seam xs zs)
 
 abbrev rules_with : (sets : List Rule) → list_all meets_limits sets ≡ true → Rules
 rules_with sets p = record { sets = sets; limits = p }
@@ -90,7 +71,6 @@ module _ (confs : List Path) (force : Bool) (now other : Moment) (notices others
   both_read : (p.meaning ≡ q.meaning) × (p.entries.front ≡ q.entries.front) × (p.entries.back ≡ q.entries.back)
   both_read = readings_one confs p.meaning q.meaning p.entries.front q.entries.front p.entries.back q.entries.back p.entries.first q.entries.first
       (read_none confs force now notices faults ts p c) (read_none confs force other others more us q d)
-      (run_begins state_path force now p.rules p.own p.entries.back p.entries.second) (run_begins state_path force other q.rules q.own q.entries.back q.entries.second)
       (sym p.entries.joined ∙ (same ∙ q.entries.joined))
 
   back_is : p.entries.back ≡ q.entries.back
@@ -119,11 +99,7 @@ module _ (confs : List Path) (force : Bool) (now other : Moment) (notices others
     p.faults_are ∙ (ap (λ (m : Meaning). m.faults ++ p.own) meaning_is ∙ (ap (λ xs. q.meaning.faults ++ xs) own_is ∙ sym q.faults_are)),
   )
 
--- ---- a report's entries begin by no read, and there are some
-
-reports_begin : (confs : List Path) (force : Bool) (now : Moment) (notices : List Notice) (faults : List Fault) (ts : List Entry) → Reports confs force now notices faults ts → calls_in faults ≡ 0 → begins_by_read ts ≡ false
-reports_begin confs force now notices faults ts p c = ap begins_by_read p.entries.joined
-    ∙ reads_begin confs p.meaning p.entries.front p.entries.back p.entries.first (read_none confs force now notices faults ts p c) (run_begins state_path force now p.rules p.own p.entries.back p.entries.second)
+-- ---- a report has entries
 
 reports_some : (confs : List Path) (force : Bool) (now : Moment) (notices : List Notice) (faults : List Fault) (ts : List Entry) → Reports confs force now notices faults ts → calls_in faults ≡ 0 → ts ≡ [] → ⊥
 reports_some confs force now notices faults ts p c none =
@@ -136,53 +112,8 @@ reports_some confs force now notices faults ts p c none =
 
 -- ---- the entries of the zone
 
-abbrev zone_front : Zone → List Entry → List Entry
-zone_front (File path) ts = file_front ts
-zone_front _ ts = []
-
-zone_is_front : (zone : Zone) (text : ZoneText) (ts us : List Entry) → ShowsZone zone text ts → begins_by_read us ≡ false → zone_front zone (ts ++ us) ≡ ts
-zone_is_front Utc text ts us h n = sym h.1
-zone_is_front (RuleZone rule) text ts us h n = sym h.1
-zone_is_front (File path) text ts us h n = file_is_front path IsFile ts us (record { front = t.front; back = t.back; joined = t.joined; first = t.first; second = t.second.1.reads.only }) n
-  where
-    t : Then (Sees path IsFile) (GivesBytes path h.0) ts
-    t = h.2
-
-at_end : (zone : Zone) (ts : List Entry) → zone_front zone (ts ++ []) ≡ ts → zone_front zone ts ≡ ts
-at_end zone ts e = ap (zone_front zone) (sym (append-nil ts)) ∙ e
-
-as_file : (zone : Zone) (path : Path) (ts : List Entry) → zone ≡ File path → file_front ts ≡ ts → zone_front zone ts ≡ ts
-as_file zone path ts z e = subst (λ (y : Zone). zone_front y ts ≡ ts) (sym z) e
-
-file_at_end : (path : Path) (ts : List Entry) → file_front (ts ++ []) ≡ ts → file_front ts ≡ ts
-file_at_end path ts e = ap file_front (sym (append-nil ts)) ∙ e
-
 no_call : (f g : Fault) → f ≡ g → call_in g ≡ 1 → call_in f ≡ 0 → ⊥
 no_call f g e one z = let a : call_in f ≡ call_in g = ap call_in e in omega (arith, a, one, z)
-
-text_alone : (zone : Zone) (f : Fault) (ts : List Entry) → LacksText zone f ts → call_in f ≡ 0 → zone_front zone ts ≡ ts
-text_alone zone f ts (not_file path z e s) n = as_file zone path ts z (file_at_end path ts (file_is_front path IsNotFile ts [] (look_alone path IsNotFile ts s) refl))
-text_alone zone f ts (too_big path bytes z e big t) n = as_file zone path ts z (file_at_end path ts (file_is_front path IsFile ts [] (record { front = t.front; back = t.back; joined = t.joined; first = t.first; second = t.second.reads.only }) refl))
-text_alone zone f ts (look_failed path z e none) n = absurd (no_call f _ e refl n)
-text_alone zone f ts (read_failed path z e t) n = absurd (no_call f _ e refl n)
-
--- where there is no clock, nothing is called but for the zone
-clock_alone : (zone : Zone) (seconds : ℤ) (f : Fault) (ts : List Entry) → LacksClock zone seconds f ts → call_in f ≡ 0 → IsInRange seconds → zone_front zone ts ≡ ts
-clock_alone zone seconds f ts (out_of_range out e none) n range = absurd (out range)
-clock_alone zone seconds f ts (no_text range l) n there = text_alone zone f ts l n
-clock_alone zone seconds f ts (refused text range e r s) n there = at_end zone ts (zone_is_front zone text ts [] s refl)
-
-nothing_behind : (xs ys : List Entry) → xs ++ ys ≡ xs → ys ≡ []
-nothing_behind xs ys e = behind_same xs ys [] (e ∙ sym (append-nil xs))
-
-clocked_or_not : (confs : List Path) (force : Bool) (zone : Zone) (seconds : ℤ) (clock : Clock) (notices : List Notice) (faults : List Fault) (f : Fault) (ts : List Entry) → Then (ShowsClock zone seconds clock) (Reports confs force clock.now notices faults) ts → calls_in faults ≡ 0
-    → LacksClock zone seconds f ts → call_in f ≡ 0 → ⊥
-clocked_or_not confs force zone seconds clock notices faults f ts t c l n =
-    let front : zone_front zone (t.front ++ t.back) ≡ t.front = zone_is_front zone t.first.text t.front t.back t.first.shows (reports_begin confs force clock.now notices faults t.back t.second c) in
-    let all : zone_front zone ts ≡ ts = clock_alone zone seconds f ts l n t.first.in_range in
-    reports_some confs force clock.now notices faults t.back t.second c (nothing_behind t.front t.back (sym t.joined ∙ (sym all ∙ (ap (zone_front zone) t.joined ∙ front))))
-
--- ---- one fault of the clock
 
 file_not_file : (s t : Option Seen) → IsNotFile s → IsFile t → s ≡ t → ⊥
 file_not_file None None n i e = i
@@ -193,24 +124,59 @@ file_not_file (Some s) (Some t) n i e = n (ap kind_of (same_Some s t e) ∙ i)
     kind_of : Seen → Kind
     kind_of x = x.kind
 
-seen_otherwise : (path other : Path) (Q : List Entry → Type 0) (ts : List Entry) → Sees path IsNotFile ts → Then (Sees other IsFile) Q ts → ⊥
-seen_otherwise path other Q ts s t = let o = one_look path other ts t.front [] t.back s t.first (append-nil ts ∙ t.joined) in file_not_file s.seen t.first.seen s.is t.first.is o.seen_is
+seen_otherwise : (path other : Path) (Q : List Entry → Type 0) (ts us vs ws : List Entry) → Sees path IsNotFile ts → Then (Sees other IsFile) Q us → ts ++ vs ≡ us ++ ws → ⊥
+seen_otherwise path other Q ts us vs ws s t e =
+    let o = one_look path other ts t.front vs (t.back ++ ws) s t.first (e ∙ (ap (λ (l : List Entry). l ++ ws) t.joined ∙ append_assoc t.front t.back ws)) in
+    file_not_file s.seen t.first.seen s.is t.first.is o.seen_is
 
-too_long : (path other : Path) (bytes more : List ℕ) (ts : List Entry) → 1048576 < length bytes → Then (Sees path IsFile) (ReadsAll path 1048577 bytes) ts → Then (Sees other IsFile) (GivesBytes other more) ts → ⊥
-too_long path other bytes more ts big t u =
-    let o = one_look path other t.front u.front t.back u.back t.first u.first (sym t.joined ∙ u.joined) in
-    let same : length bytes ≡ length more = ap (λ (bs : List ℕ). length bs) (sym t.second.reads.bytes_are ∙ (ap text o.rest_is ∙ u.second.1.reads.bytes_are)) in
+-- what was read of a file that was looked at
+record OneFile (bytes more : List ℕ) (ts us vs ws : List Entry) : Type 0 where
+  bytes_are : bytes ≡ more
+  files_are : ts ≡ us
+  rest_is : vs ≡ ws
+
+one_file : (path other : Path) (bytes more : List ℕ) (ts us vs ws : List Entry) → Then (Sees path IsFile) (ReadsAll path 1048577 bytes) ts → Then (Sees other IsFile) (ReadsAll other 1048577 more) us → ts ++ vs ≡ us ++ ws → OneFile bytes more ts us vs ws
+one_file path other bytes more ts us vs ws t u e =
+    let o = one_look path other t.front u.front (t.back ++ vs) (u.back ++ ws) t.first u.first (then_same ts us vs ws t u e) in
+    let r = reads_one path other 1048577 bytes more t.back u.back vs ws t.second u.second o.rest_is in
+    record {
+      bytes_are = sym (reads_text path 1048577 bytes t.back t.second) ∙ (ap text r.0 ∙ reads_text other 1048577 more u.back u.second);
+      files_are = joined_same ts us t u o.looks_are r.0;
+      rest_is = r.1;
+    }
+
+all_of : (path : Path) (bytes : List ℕ) (ts : List Entry) → Then (Sees path IsFile) (GivesBytes path bytes) ts → Then (Sees path IsFile) (ReadsAll path 1048577 bytes) ts
+all_of path bytes ts t = record { front = t.front; back = t.back; joined = t.joined; first = t.first; second = t.second.1 }
+
+-- of two zones that are one the entries are the same, and what comes behind them
+zone_one : (zone : Zone) (a b : ZoneText) (ts us vs ws : List Entry) → ShowsZone zone a ts → ShowsZone zone b us → ts ++ vs ≡ us ++ ws → (ts ≡ us) × (vs ≡ ws)
+zone_one Utc a b ts us vs ws h g e = (h.1 ∙ sym g.1, front_same ts us [] [] vs ws h.1 g.1 e)
+zone_one (RuleZone rule) a b ts us vs ws h g e = (h.1 ∙ sym g.1, front_same ts us [] [] vs ws h.1 g.1 e)
+zone_one (File path) a b ts us vs ws h g e = let o = one_file path path h.0 g.0 ts us vs ws (all_of path h.0 ts h.2) (all_of path g.0 us g.2) e in (o.files_are, o.rest_is)
+
+too_long : (path other : Path) (bytes more : List ℕ) (ts us vs ws : List Entry) → 1048576 < length bytes → Then (Sees path IsFile) (ReadsAll path 1048577 bytes) ts → Then (Sees other IsFile) (GivesBytes other more) us → ts ++ vs ≡ us ++ ws → ⊥
+too_long path other bytes more ts us vs ws big t u e =
+    let o = one_file path other bytes more ts us vs ws t (all_of other more us u) e in
+    let same : length bytes ≡ length more = ap (λ (bs : List ℕ). length bs) o.bytes_are in
     let le : length more ≤ 1048576 = u.second.0 in
     omega (arith, big, same, le)
 
 file_shown : (zone : Zone) (path : Path) (text : ZoneText) (ts : List Entry) → zone ≡ File path → ShowsZone zone text ts → (bytes : List ℕ) × Then (Sees path IsFile) (GivesBytes path bytes) ts
 file_shown zone path text ts z s = let h = subst (λ (y : Zone). ShowsZone y text ts) z s in (h.0, h.2)
 
-text_or_not : (zone : Zone) (f : Fault) (text : ZoneText) (ts : List Entry) → LacksText zone f ts → call_in f ≡ 0 → ShowsZone zone text ts → ⊥
-text_or_not zone f text ts (not_file path z e s) n h = let g = file_shown zone path text ts z h in seen_otherwise path path (GivesBytes path g.0) ts s g.1
-text_or_not zone f text ts (too_big path bytes z e big t) n h = let g = file_shown zone path text ts z h in too_long path path bytes g.0 ts big t g.1
-text_or_not zone f text ts (look_failed path z e none) n h = no_call f _ e refl n
-text_or_not zone f text ts (read_failed path z e t) n h = no_call f _ e refl n
+text_or_not : (zone : Zone) (f : Fault) (text : ZoneText) (ts us vs ws : List Entry) → LacksText zone f ts → call_in f ≡ 0 → ShowsZone zone text us → ts ++ vs ≡ us ++ ws → ⊥
+text_or_not zone f text ts us vs ws (not_file path z e s) n h same = let g = file_shown zone path text us z h in seen_otherwise path path (GivesBytes path g.0) ts us vs ws s g.1 same
+text_or_not zone f text ts us vs ws (too_big path bytes z e big t) n h same = let g = file_shown zone path text us z h in too_long path path bytes g.0 ts us vs ws big t g.1 same
+text_or_not zone f text ts us vs ws (look_failed path z e none) n h same = no_call f _ e refl n
+text_or_not zone f text ts us vs ws (read_failed path z e t) n h same = no_call f _ e refl n
+
+-- where there is no clock, no report comes behind
+clocked_or_not : (confs : List Path) (force : Bool) (zone : Zone) (seconds : ℤ) (clock : Clock) (notices : List Notice) (faults : List Fault) (f : Fault) (ts : List Entry) → Then (ShowsClock zone seconds clock) (Reports confs force clock.now notices faults) ts → calls_in faults ≡ 0
+    → LacksClock zone seconds f ts → call_in f ≡ 0 → ⊥
+clocked_or_not confs force zone seconds clock notices faults f ts t c (out_of_range out e none) n = out t.first.in_range
+clocked_or_not confs force zone seconds clock notices faults f ts t c (no_text range l) n = text_or_not zone f t.first.text ts t.front [] t.back l n t.first.shows (append-nil ts ∙ t.joined)
+clocked_or_not confs force zone seconds clock notices faults f ts t c (refused text range e r s) n =
+    reports_some confs force clock.now notices faults t.back t.second c (sym (zone_one zone text t.first.text ts t.front [] t.back s t.first.shows (append-nil ts ∙ t.joined)).1)
 
 text_one : (zone : Zone) (f g : Fault) (ts : List Entry) → LacksText zone f ts → LacksText zone g ts → call_in f ≡ 0 → call_in g ≡ 0 → f ≡ g
 text_one zone f g ts (look_failed path z e none) m c d = absurd (no_call f _ e refl c)
@@ -218,10 +184,10 @@ text_one zone f g ts (read_failed path z e t) m c d = absurd (no_call f _ e refl
 text_one zone f g ts (not_file path z e s) (look_failed other y h none) c d = absurd (no_call g _ h refl d)
 text_one zone f g ts (not_file path z e s) (read_failed other y h t) c d = absurd (no_call g _ h refl d)
 text_one zone f g ts (not_file path z e s) (not_file other y h t) c d = e ∙ sym h
-text_one zone f g ts (not_file path z e s) (too_big other bytes y h big t) c d = absurd (seen_otherwise path other (ReadsAll other 1048577 bytes) ts s t)
+text_one zone f g ts (not_file path z e s) (too_big other bytes y h big t) c d = absurd (seen_otherwise path other (ReadsAll other 1048577 bytes) ts ts [] [] s t refl)
 text_one zone f g ts (too_big path bytes z e big t) (look_failed other y h none) c d = absurd (no_call g _ h refl d)
 text_one zone f g ts (too_big path bytes z e big t) (read_failed other y h u) c d = absurd (no_call g _ h refl d)
-text_one zone f g ts (too_big path bytes z e big t) (not_file other y h s) c d = absurd (seen_otherwise other path (ReadsAll path 1048577 bytes) ts s t)
+text_one zone f g ts (too_big path bytes z e big t) (not_file other y h s) c d = absurd (seen_otherwise other path (ReadsAll path 1048577 bytes) ts ts [] [] s t refl)
 text_one zone f g ts (too_big path bytes z e big t) (too_big other more y h more_big u) c d = e ∙ sym h
 
 clock_one : (zone : Zone) (seconds : ℤ) (f g : Fault) (ts : List Entry) → LacksClock zone seconds f ts → LacksClock zone seconds g ts → call_in f ≡ 0 → call_in g ≡ 0 → f ≡ g
@@ -230,9 +196,9 @@ clock_one zone seconds f g ts (out_of_range out e none) (no_text range l) c d = 
 clock_one zone seconds f g ts (out_of_range out e none) (refused text range h r s) c d = absurd (out range)
 clock_one zone seconds f g ts (no_text range l) (out_of_range out h none) c d = absurd (out range)
 clock_one zone seconds f g ts (no_text range l) (no_text there m) c d = text_one zone f g ts l m c d
-clock_one zone seconds f g ts (no_text range l) (refused text there h r s) c d = absurd (text_or_not zone f text ts l c s)
+clock_one zone seconds f g ts (no_text range l) (refused text there h r s) c d = absurd (text_or_not zone f text ts ts [] [] l c s refl)
 clock_one zone seconds f g ts (refused text range e r s) (out_of_range out h none) c d = absurd (out range)
-clock_one zone seconds f g ts (refused text range e r s) (no_text there m) c d = absurd (text_or_not zone g text ts m d s)
+clock_one zone seconds f g ts (refused text range e r s) (no_text there m) c d = absurd (text_or_not zone g text ts ts [] [] m d s refl)
 clock_one zone seconds f g ts (refused text range e r s) (refused other there h q u) c d = e ∙ sym h
 
 -- ---- the call
@@ -252,15 +218,10 @@ both_same a b e = (ap (λ (r : Report). r.notices) e, ap (λ (r : Report). r.fau
 
 both_clocked : (request : Request) (zone : Zone) (seconds : ℤ) (clock other : Clock) (one two : Report) (ts : List Entry) → Then (ShowsClock zone seconds clock) (Reports request.confs request.force clock.now one.notices one.faults) ts
     → Then (ShowsClock zone seconds other) (Reports request.confs request.force other.now two.notices two.faults) ts → calls_in one.faults ≡ 0 → calls_in two.faults ≡ 0 → (one.notices ≡ two.notices) × (one.faults ≡ two.faults)
-both_clocked request zone seconds clock other one two ts t u c d = told_one request.confs request.force clock.now other.now one.notices two.notices one.faults two.faults t.back u.back back t.second u.second c d
+both_clocked request zone seconds clock other one two ts t u c d = told_one request.confs request.force clock.now other.now one.notices two.notices one.faults two.faults t.back u.back same.1 t.second u.second c d
   where
-    front : t.front ≡ u.front
-    front =
-        sym (zone_is_front zone t.first.text t.front t.back t.first.shows (reports_begin request.confs request.force clock.now one.notices one.faults t.back t.second c))
-        ∙ (ap (zone_front zone) (sym t.joined ∙ u.joined) ∙ zone_is_front zone u.first.text u.front u.back u.first.shows (reports_begin request.confs request.force other.now two.notices two.faults u.back u.second d))
-
-    back : t.back ≡ u.back
-    back = behind_same u.front t.back u.back (ap (λ xs. xs ++ t.back) (sym front) ∙ (sym t.joined ∙ u.joined))
+    same : (t.front ≡ u.front) × (t.back ≡ u.back)
+    same = zone_one zone t.first.text u.first.text t.front u.front t.back u.back t.first.shows u.first.shows (sym t.joined ∙ u.joined)
 
 at_one : (request : Request) (zone : Zone) (seconds : ℤ) (one other : Report) (ts : List Entry) → AnswersAt request zone seconds (Done one) ts → AnswersAt request zone seconds (Done other) ts → calls_in one.faults ≡ 0 → calls_in other.faults ≡ 0 → (one.notices ≡ other.notices) × (one.faults ≡ other.faults)
 at_one request zone seconds one other ts (no_memory e none) b c d = absurd (cc)

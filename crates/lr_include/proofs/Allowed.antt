@@ -1,5 +1,5 @@
 -- The faults of lines are those of the configuration, and of failed calls only where a line has one.
-use Rattle.std.proofs.Common.{ℕ, Bool, true, false, cond, List, [], ◌∷◌, ◌++◌, map, take, Option, Some, None, Ok, Err, refl, is_none}
+use Rattle.std.proofs.Common.{ℕ, Bool, true, false, cond, List, [], ◌∷◌, ◌++◌, map, Option, Some, None, Ok, Err, refl, is_none}
 use Rattle.std.specs.List.{AllByRecursion as Each, filter_map, list_any, find}
 use Rattle.std.specs.Prelude.{All}
 use Rattle.std.proofs.lemmas.List.Elements.{All-from_recursion}
@@ -11,7 +11,7 @@ use Rattle.lr_include.specs.Readers.{IsConfOrCall}
 use Rattle.lr_rules.specs.declared.fault.ConfKind.{ConfKind}
 use Rattle.lr_rules.specs.declared.fault.ConfKind.TheVariants as kind
 use Rattle.lr_rules.specs.Path.{path_fault, joined}
-use Rattle.lr_lex.specs.Items.{Told, items}
+use Rattle.lr_lex.specs.Items.{Told}
 use Rattle.lr_fields.specs.declared.fields.Fields.{Fields}
 use Rattle.lr_forms.specs.declared.set.Set.{Set}
 use Rattle.lr_forms.specs.declared.said.Said.{Said}
@@ -30,9 +30,9 @@ use Rattle.lr_include.specs.declared.task.Piece.{Piece}
 use Rattle.lr_include.specs.declared.task.Piece.TheVariants as piece
 use Rattle.lr_include.specs.declared.task.Task.{Task}
 use Rattle.lr_include.specs.declared.task.Task.TheVariants as task
-use Rattle.lr_include.specs.Lines.{conf_kind, whole_lines}
+use Rattle.lr_include.specs.Lines.{conf_kind}
 use Rattle.lr_include.specs.Allowed.{IsAllowed, IsAllowedVisit, AreAllowedVisits}
-use Rattle.lr_include.specs.Stages.{Stage, lines_in, lines_now, ask_of, asked_at, asks_in, asks_now, taken, before_asks, settled_from, settled, room_of, kind_piece, piece_of, pieces_of, pieces, entering, name_task, name_tasks, behind_names, after_ask, after_name, visited, visited_by, at_visits, begun, line_ask, visits_mean}
+use Rattle.lr_include.specs.Stages.{Stage, lines_in, lines_now, ask_of, asked_at, asks_in, asks_now, taken, before_asks, settled_from, settled, kind_piece, piece_of, last_piece, line_tasks, entering, name_task, name_tasks, behind_names, after_ask, after_name, visited, visited_by, at_visits, begun, line_ask, visits_mean}
 
 through_each : {A : Type 0} (P : A → Type 0) (p : A → Bool) (xs : List A) → Each P xs → Each P (through p xs)
 through_each P p [] a = tt
@@ -221,21 +221,19 @@ settled_fine calls s (task.Name a ∷ todo) l t = (l, t)
 
 -- ---- visits
 
-kind_piece_fine : (calls whole : Bool) (at : ℕ) (o : Option ConfKind) → Given (FinePiece calls) (kind_piece whole at o)
-kind_piece_fine calls whole at None = tt
-kind_piece_fine calls true at (Some k) = tt
-kind_piece_fine calls false at (Some kind.NoEndscript) = tt
-kind_piece_fine calls false at (Some k) = tt
+kind_piece_fine : (calls : Bool) (at : ℕ) (o : Option ConfKind) → Given (FinePiece calls) (kind_piece at o)
+kind_piece_fine calls at None = tt
+kind_piece_fine calls at (Some k) = tt
 
-pieces_fine : (calls whole : Bool) (ts : List Told) → Each (FinePiece calls) (filter_map (piece_of whole) ts)
-pieces_fine calls whole [] = tt
-pieces_fine calls whole (Ok i ∷ ts) = (tt, pieces_fine calls whole ts)
-pieces_fine calls whole (Err f ∷ ts) = one_more (FinePiece calls) (kind_piece whole f.line (conf_kind f.kind)) (filter_map (piece_of whole) ts) (kind_piece_fine calls whole f.line (conf_kind f.kind)) (pieces_fine calls whole ts)
+pieces_fine : (calls : Bool) (ts : List Told) → Each (FinePiece calls) (filter_map piece_of ts)
+pieces_fine calls [] = tt
+pieces_fine calls (Ok i ∷ ts) = (tt, pieces_fine calls ts)
+pieces_fine calls (Err f ∷ ts) = one_more (FinePiece calls) (kind_piece f.line (conf_kind f.kind)) (filter_map piece_of ts) (kind_piece_fine calls f.line (conf_kind f.kind)) (pieces_fine calls ts)
 
-file_fine : (calls : Bool) (file : Path) (room : ℕ) (bytes : List ℕ) (how : TextEnd) → IsAllowedVisit calls (visit.Reads bytes how) → Each (FinePiece calls) (pieces file room bytes how)
-file_fine calls file room bytes end.Whole ok = append (FinePiece calls) (pieces_of true bytes) (piece.End ∷ []) (pieces_fine calls true (items bytes)) (tt, tt)
-file_fine calls file room bytes end.TooMany ok = append (FinePiece calls) (pieces_of false (whole_lines (take room bytes))) _ (pieces_fine calls false (items (whole_lines (take room bytes)))) (tt, tt)
-file_fine calls file room bytes end.Failed ok = append (FinePiece calls) (pieces_of false (whole_lines bytes)) _ (pieces_fine calls false (items (whole_lines bytes))) (ok refl, tt)
+last_fine : (calls : Bool) (file : Path) (told : List Told) (size : ℕ) (how : TextEnd) → IsAllowedVisit calls (visit.Reads told size how) → FinePiece calls (last_piece file how)
+last_fine calls file told size end.Whole ok = tt
+last_fine calls file told size end.TooMany ok = tt
+last_fine calls file told size end.Failed ok = ok refl
 
 tasks_fine : (calls : Bool) (ps : List Piece) → Each (FinePiece calls) ps → Each (FineTask calls) (map task.Line ps)
 tasks_fine calls [] ok = tt
@@ -255,9 +253,9 @@ behind_fine calls (task.Line p ∷ todo) ok = ok
 behind_fine calls (task.Ask a ∷ todo) ok = ok
 behind_fine calls (task.Name a ∷ todo) ok = behind_fine calls todo ok.1
 
-entering_fine : (calls : Bool) (s : Stage) (file : Path) (bytes : List ℕ) (how : TextEnd) (todo : List Task) → IsAllowedVisit calls (visit.Reads bytes how) → Each (IsFine calls) s.lines → Each (FineTask calls) todo → FineStage calls (entering s file bytes how todo)
-entering_fine calls s file bytes how todo ok l t =
-    (l, append (FineTask calls) (map task.Line (pieces file (room_of s) bytes how)) todo (tasks_fine calls (pieces file (room_of s) bytes how) (file_fine calls file (room_of s) bytes how ok)) t)
+entering_fine : (calls : Bool) (s : Stage) (file : Path) (told : List Told) (size : ℕ) (how : TextEnd) (todo : List Task) → IsAllowedVisit calls (visit.Reads told size how) → Each (IsFine calls) s.lines → Each (FineTask calls) todo → FineStage calls (entering s file told size how todo)
+entering_fine calls s file told size how todo ok l t =
+    (l, append (FineTask calls) (line_tasks told) (task.Line (last_piece file how) ∷ todo) (tasks_fine calls (filter_map piece_of told) (pieces_fine calls told)) (last_fine calls file told size how ok, t))
 
 ask_fine : (calls : Bool) (s : Stage) (a : Ask) (v : Visit) (todo : List Task) → IsAllowedVisit calls v → Each (IsFine calls) s.lines → Each (FineTask calls) todo → FineStage calls (after_ask s a v todo)
 ask_fine calls s a visit.Unseen todo ok l t = (append (IsFine calls) s.lines _ l (ok tt, tt), t)
@@ -266,7 +264,7 @@ ask_fine calls s a visit.File todo ok l t = (append (IsFine calls) s.lines _ l (
 ask_fine calls s a visit.Dir todo ok l t = (append (IsFine calls) s.lines _ l (tt, tt), t)
 ask_fine calls s a visit.Unlisted todo ok l t = (append (IsFine calls) s.lines _ l (ok tt, tt), t)
 ask_fine calls s a (visit.Holds names) todo ok l t = (l, append (FineTask calls) (name_tasks a names) todo (names_fine calls a names) t)
-ask_fine calls s a (visit.Reads bytes how) todo ok l t = entering_fine calls s a.path bytes how todo ok l t
+ask_fine calls s a (visit.Reads told size how) todo ok l t = entering_fine calls s a.path told size how todo ok l t
 
 name_fine : (calls : Bool) (s : Stage) (a : Ask) (v : Visit) (todo : List Task) → IsAllowedVisit calls v → Each (IsFine calls) s.lines → Each (FineTask calls) todo → FineStage calls (after_name s a v todo)
 name_fine calls s a visit.Unseen todo ok l t = (append (IsFine calls) s.lines _ l (ok tt, tt), t)
@@ -275,7 +273,7 @@ name_fine calls s a visit.File todo ok l t = (append (IsFine calls) s.lines _ l 
 name_fine calls s a visit.Dir todo ok l t = (l, t)
 name_fine calls s a visit.Unlisted todo ok l t = (l, t)
 name_fine calls s a (visit.Holds names) todo ok l t = (l, t)
-name_fine calls s a (visit.Reads bytes how) todo ok l t = entering_fine calls s a.path bytes how todo ok l t
+name_fine calls s a (visit.Reads told size how) todo ok l t = entering_fine calls s a.path told size how todo ok l t
 
 visited_fine : (calls : Bool) (s : Stage) (todo : List Task) (v : Option Visit) → AreAllowedVisits calls (v ∷ []) → FineStage calls s → Each (FineTask calls) todo → FineStage calls (visited_by s todo v)
 visited_fine calls s (task.Ask a ∷ todo) (Some v) ok f t = ask_fine calls s a v todo ok.0 f.0 t.1

@@ -10,7 +10,7 @@ use Rattle.lr_rules.specs.declared.fault.ConfKind.TheVariants as kind
 use Rattle.lr_rules.specs.declared.fault.Fault.{Fault}
 use Rattle.lr_rules.specs.declared.fault.Fault.TheVariants as fault
 use Rattle.lr_rules.specs.Path.{path_fault, joined}
-use Rattle.lr_lex.specs.Items.{Told, items}
+use Rattle.lr_lex.specs.Items.{Told}
 use Rattle.lr_forms.specs.declared.built.Built.TheVariants as built
 use Rattle.lr_forms.specs.declared.said.Said.{Said}
 use Rattle.lr_forms.specs.declared.said.Said.TheVariants as says
@@ -30,10 +30,10 @@ use Rattle.lr_include.specs.declared.task.Piece.{Piece}
 use Rattle.lr_include.specs.declared.task.Piece.TheVariants as piece
 use Rattle.lr_include.specs.declared.task.Task.{Task}
 use Rattle.lr_include.specs.declared.task.Task.TheVariants as task
-use Rattle.lr_include.specs.Lines.{conf_kind, whole_lines}
+use Rattle.lr_include.specs.Lines.{conf_kind}
 use Rattle.lr_host.specs.Counted.{call_in, calls_in, RoseBy}
 use Rattle.lr_include.specs.Allowed.{failed_read, failed_visit, failed_in}
-use Rattle.lr_include.specs.Stages.{Stage, lines_now, open_behind, ask_of, asked_at, asks_now, taken, before_asks, settled_from, settled, room_of, room_for, kind_piece, piece_of, pieces_of, pieces, entering, name_tasks, behind_names, visited, visited_by, at_visits, ShowsNext, ShowsVisits, begun, line_ask, visits_mean, Reads}
+use Rattle.lr_include.specs.Stages.{Stage, lines_now, open_behind, ask_of, asked_at, asks_now, taken, before_asks, settled_from, settled, room_for, kind_piece, piece_of, last_piece, line_tasks, entering, name_tasks, behind_names, visited, visited_by, at_visits, ShowsNext, ShowsVisits, begun, line_ask, visits_mean, Reads}
 
 -- ---- sums over lists
 
@@ -317,33 +317,24 @@ settled_sums n s (task.Name a ∷ todo) e f = record { calls = e; ends_are = f }
 
 -- ---- visits
 
-option_none : (w : Task → ℕ) → ((p : Piece) → ends_piece p ≡ 0 → calls_piece p ≡ 0 → w (task.Line p) ≡ 0) → (whole : Bool) (ts : List Told) → total w (map task.Line (filter_map (piece_of whole) ts)) ≡ 0
-option_none w h whole [] = refl
-option_none w h whole (Ok i ∷ ts) = let a = h (piece.Item i) refl refl in let more = option_none w h whole ts in omega (arith, a, more)
-option_none w h whole (Err f ∷ ts) = by whole (conf_kind f.kind) (option_none w h whole ts)
+option_none : (w : Task → ℕ) → ((p : Piece) → ends_piece p ≡ 0 → calls_piece p ≡ 0 → w (task.Line p) ≡ 0) → (ts : List Told) → total w (map task.Line (filter_map piece_of ts)) ≡ 0
+option_none w h [] = refl
+option_none w h (Ok i ∷ ts) = let a = h (piece.Item i) refl refl in let more = option_none w h ts in omega (arith, a, more)
+option_none w h (Err f ∷ ts) = by (conf_kind f.kind) (option_none w h ts)
   where
-    by : (b : Bool) (o : Option ConfKind) → total w (map task.Line (filter_map (piece_of whole) ts)) ≡ 0 → total w (map task.Line (cons_option (kind_piece b f.line o) (filter_map (piece_of whole) ts))) ≡ 0
-    by b None more = more
-    by false (Some kind.NoEndscript) more = more
-    by false (Some k) more = let a = h (piece.Fault f.line k) refl refl in omega (arith, a, more)
-    by true (Some k) more = let a = h (piece.Fault f.line k) refl refl in omega (arith, a, more)
+    by : (o : Option ConfKind) → total w (map task.Line (filter_map piece_of ts)) ≡ 0 → total w (map task.Line (cons_option (kind_piece f.line o) (filter_map piece_of ts))) ≡ 0
+    by None more = more
+    by (Some k) more = let a = h (piece.Fault f.line k) refl refl in omega (arith, a, more)
 
-lines_last : (w : Task → ℕ) → ((p : Piece) → ends_piece p ≡ 0 → calls_piece p ≡ 0 → w (task.Line p) ≡ 0) → (whole : Bool) (bytes : List ℕ) (p : Piece) → total w (map task.Line (pieces_of whole bytes ++ p ∷ [])) ≡ w (task.Line p)
-lines_last w h whole bytes p = go (pieces_of whole bytes) (option_none w h whole (items bytes))
-  where
-    go : (ps : List Piece) → total w (map task.Line ps) ≡ 0 → total w (map task.Line (ps ++ p ∷ [])) ≡ w (task.Line p)
-    go [] z = omega arith
-    go (q ∷ ps) z = let k : w (task.Line q) + total w (map task.Line ps) ≡ 0 = z in let more = go ps (omega (arith, k)) in omega (arith, k, more)
+last_calls : (file : Path) (how : TextEnd) → calls_piece (last_piece file how) ≡ failed_read how
+last_calls file end.Whole = refl
+last_calls file end.TooMany = refl
+last_calls file end.Failed = refl
 
-pieces_calls : (file : Path) (room : ℕ) (bytes : List ℕ) (how : TextEnd) → total calls_task (map task.Line (pieces file room bytes how)) ≡ failed_read how
-pieces_calls file room bytes end.Whole = lines_last calls_task (λ p e c. c) true bytes piece.End
-pieces_calls file room bytes end.TooMany = lines_last calls_task (λ p e c. c) false (whole_lines (take room bytes)) _
-pieces_calls file room bytes end.Failed = lines_last calls_task (λ p e c. c) false (whole_lines bytes) _
-
-pieces_ends : (file : Path) (room : ℕ) (bytes : List ℕ) (how : TextEnd) → total ends_task (map task.Line (pieces file room bytes how)) ≡ 1
-pieces_ends file room bytes end.Whole = lines_last ends_task (λ p e c. e) true bytes piece.End
-pieces_ends file room bytes end.TooMany = lines_last ends_task (λ p e c. e) false (whole_lines (take room bytes)) _
-pieces_ends file room bytes end.Failed = lines_last ends_task (λ p e c. e) false (whole_lines bytes) _
+last_ends : (file : Path) (how : TextEnd) → ends_piece (last_piece file how) ≡ 1
+last_ends file end.Whole = refl
+last_ends file end.TooMany = refl
+last_ends file end.Failed = refl
 
 names_none : (w : Task → ℕ) → ((a : Ask) → w (task.Name a) ≡ 0) → (a : Ask) (names : List (List ℕ)) → total w (name_tasks a names) ≡ 0
 names_none w h a [] = refl
@@ -359,14 +350,16 @@ behind_none w h (task.Line p ∷ todo) = refl
 behind_none w h (task.Ask a ∷ todo) = refl
 behind_none w h (task.Name a ∷ todo) = let k = h a in let more = behind_none w h todo in omega (arith, k, more)
 
-entering_sums : (n : ℕ) (s : Stage) (file : Path) (bytes : List ℕ) (how : TextEnd) (todo : List Task) → total calls_line s.lines + total calls_task todo ≡ n → total ends_task todo ≡ length s.inside → Sums (n + failed_read how) (entering s file bytes how todo)
-entering_sums n s file bytes how todo e f =
-    let a = total_both calls_task (map task.Line (pieces file (room_of s) bytes how)) todo in
-    let b = pieces_calls file (room_of s) bytes how in
-    let c = total_both ends_task (map task.Line (pieces file (room_of s) bytes how)) todo in
-    let d = pieces_ends file (room_of s) bytes how in
+entering_sums : (n : ℕ) (s : Stage) (file : Path) (told : List Told) (size : ℕ) (how : TextEnd) (todo : List Task) → total calls_line s.lines + total calls_task todo ≡ n → total ends_task todo ≡ length s.inside → Sums (n + failed_read how) (entering s file told size how todo)
+entering_sums n s file told size how todo e f =
+    let a = total_both calls_task (line_tasks told) (task.Line (last_piece file how) ∷ todo) in
+    let b = option_none calls_task (λ p e c. c) told in
+    let c = total_both ends_task (line_tasks told) (task.Line (last_piece file how) ∷ todo) in
+    let d = option_none ends_task (λ p e c. e) told in
+    let k = last_calls file how in
+    let l = last_ends file how in
     let g = length-append s.inside (file ∷ []) in
-    record { calls = omega (arith, a, b, e); ends_are = omega (arith, c, d, f, g) }
+    record { calls = omega (arith, a, b, k, e); ends_are = omega (arith, c, d, l, f, g) }
 
 told_sums : (n : ℕ) (s : Stage) (f : Fault) (todo : List Task) → total calls_line s.lines + total calls_task todo ≡ n → total ends_task todo ≡ length s.inside → Sums (n + call_in f) (record s { lines = s.lines ++ Spoiled f ∷ []; todo = todo })
 told_sums n s f todo e g = let a = total_both calls_line s.lines (Spoiled f ∷ []) in record { calls = omega (arith, a, e); ends_are = g }
@@ -400,7 +393,7 @@ ask_tells n s a (visit.Holds names) todo e f =
     let d = total_both ends_task (name_tasks a names) todo in
     let g = names_none ends_task (λ x. refl) a names in
     tells_all n n s (task.Ask a ∷ todo) (Some (visit.Holds names)) (record { calls = omega (arith, b, c, e); ends_are = omega (arith, d, g, f) }) (omega arith)
-ask_tells n s a (visit.Reads bytes how) todo e f = tells_all n (n + failed_read how) s (task.Ask a ∷ todo) (Some (visit.Reads bytes how)) (entering_sums n s a.path bytes how todo e f) refl
+ask_tells n s a (visit.Reads told size how) todo e f = tells_all n (n + failed_read how) s (task.Ask a ∷ todo) (Some (visit.Reads told size how)) (entering_sums n s a.path told size how todo e f) refl
 
 -- no name is listed
 not_unlisted : (x : Path) (room : Option ℕ) (ts : List Entry) → ShowsVisit x false room visit.Unlisted ts → ⊥
@@ -420,7 +413,7 @@ name_tells n s a visit.File todo e f =
 name_tells n s a visit.Dir todo e f = tells_all n n s (task.Name a ∷ todo) (Some visit.Dir) (record { calls = e; ends_are = f }) (omega arith)
 name_tells n s a visit.Unlisted todo e f = tells_never n s (task.Name a ∷ todo) (Some visit.Unlisted) (record { calls = e; ends_are = f }) (λ ts h. not_unlisted a.path (room_for s) ts h.1)
 name_tells n s a (visit.Holds names) todo e f = tells_all n n s (task.Name a ∷ todo) (Some (visit.Holds names)) (record { calls = e; ends_are = f }) (omega arith)
-name_tells n s a (visit.Reads bytes how) todo e f = tells_all n (n + failed_read how) s (task.Name a ∷ todo) (Some (visit.Reads bytes how)) (entering_sums n s a.path bytes how todo e f) refl
+name_tells n s a (visit.Reads told size how) todo e f = tells_all n (n + failed_read how) s (task.Name a ∷ todo) (Some (visit.Reads told size how)) (entering_sums n s a.path told size how todo e f) refl
 
 next_tells : (n : ℕ) (s : Stage) (todo : List Task) (v : Option Visit) → Sums n s → total calls_line s.lines + total calls_task todo ≡ n → total ends_task todo ≡ length s.inside → Tells n s todo v
 next_tells n s (task.Ask a ∷ todo) (Some v) h e f = ask_tells n s a v todo (omega (arith, e)) (omega (arith, f))

@@ -2,6 +2,5 @@ pub mod AllQuiet
 pub mod Allowed
 pub mod Calls
 pub mod Lacking
-pub mod Newlines
 pub mod Readers
 pub mod Stages

@@ -1,8 +1,8 @@
 -- How a reading goes on from one stage to another.
 use Rattle.std.specs.Prelude.{◌≡◌, ◌+◌, ◌≤◌, ◌^◌, min}
-use Rattle.std.proofs.Common.{◌-◌, ◌<◌, ◌⊎◌, inl, inr, arith, ℕ, Bool, true, false, List, [], ◌∷◌, ◌++◌, map, reverse, length, take, drop, refl, sym, ap, ◌∙◌, subst, append-nil, append_assoc, Option, Some, None, Result, Ok, Err, OnOk}
+use Rattle.std.proofs.Common.{◌-◌, ◌<◌, ◌⊎◌, inl, inr, arith, ℕ, Bool, true, false, List, [], ◌∷◌, ◌++◌, map, filter_map, reverse, length, take, drop, refl, sym, ap, ◌∙◌, subst, append-nil, append_assoc, Option, Some, None, Result, Ok, Err, OnOk}
 use Rattle.std.proofs.Math.Seq.{drop-append_seam}
-use Rattle.std.proofs.lemmas.List.{reverse-append}
+use Rattle.std.proofs.lemmas.List.{reverse-append, map-append}
 use Rattle.std.proofs.lemmas.List.Elements.{filter_map-append}
 use Rattle.lr_rules.specs.declared.path.Path.{Path}
 use Rattle.lr_rules.specs.declared.fault.ConfKind.{ConfKind}
@@ -18,6 +18,7 @@ use Rattle.lr_conf.specs.declared.stop.LayerStop.{LayerStop}
 use Rattle.lr_conf.specs.declared.stop.LayerStop.TheVariants as stop
 use Rattle.lr_conf.specs.Stops.{faults_of}
 use Rattle.lr_lex.specs.declared.item.Item.{Item}
+use Rattle.lr_lex.specs.Items.{Told}
 use Rattle.lr_conf.specs.Meaning.{Line, Read, Spoiled, End, Cut, Meaning, meaning, ◌and◌, told, conf, asked, banned, list_of}
 use Rattle.lr_conf.specs.Fold.{coming, asking, banning, entered, file_of_layer, Took, Asks, Bans, Alike, Passes}
 use Rattle.lr_fields.specs.Fields.{last_or}
@@ -37,7 +38,7 @@ use Rattle.lr_include.specs.declared.task.Piece.{Piece}
 use Rattle.lr_include.specs.declared.task.Piece.TheVariants as piece
 use Rattle.lr_include.specs.declared.task.Task.{Task}
 use Rattle.lr_include.specs.declared.task.Task.TheVariants as task
-use Rattle.lr_include.specs.Stages.{Stage, ask_of, asked_at, lines_in, lines_now, open_behind, asks_in, asks_now, taken, before_asks, settled_from, settled, is_shallow, room_for, telling, name_task, name_tasks, behind_names, after_ask, after_name, IsBarred, visited, at_visits, ShowsNext, ShowsVisits, begun, visits_mean, Reads}
+use Rattle.lr_include.specs.Stages.{Stage, piece_of, line_tasks, ask_of, asked_at, lines_in, lines_now, open_behind, asks_in, asks_now, taken, before_asks, settled_from, settled, is_shallow, room_for, telling, name_task, name_tasks, behind_names, after_ask, after_name, IsBarred, visited, at_visits, ShowsNext, ShowsVisits, begun, visits_mean, Reads}
 use Rattle.lr_include.specs.Course.{Knows, StandsAt, SameRest, SameButTodo, Tells, TellsAnswer, TookPiece, TakesPiece, ToldFault, ClosesFile, WentOn, GoesOn}
 
 -- ---- one more line
@@ -329,7 +330,7 @@ after_ask_any s x a visit.File todo = refl
 after_ask_any s x a visit.Dir todo = refl
 after_ask_any s x a visit.Unlisted todo = refl
 after_ask_any s x a (visit.Holds names) todo = refl
-after_ask_any s x a (visit.Reads bytes how) todo = refl
+after_ask_any s x a (visit.Reads told size how) todo = refl
 
 after_name_any : (s : Stage) (x : List Task) (a : Ask) (v : Visit) (todo : List Task) → after_name (record s { todo = x }) a v todo ≡ after_name s a v todo
 after_name_any s x a visit.Unseen todo = refl
@@ -338,7 +339,7 @@ after_name_any s x a visit.File todo = refl
 after_name_any s x a visit.Dir todo = refl
 after_name_any s x a visit.Unlisted todo = refl
 after_name_any s x a (visit.Holds names) todo = refl
-after_name_any s x a (visit.Reads bytes how) todo = refl
+after_name_any s x a (visit.Reads told size how) todo = refl
 
 one_failed : (v : Visit) (b a : ℕ) → b ≤ a → (HasFailed v → min (b + 1) (2 ^ 64 - 1) ≤ a) → RoseBy (failed_in (Some v ∷ [])) b a
 one_failed visit.Unseen b a le h = let f = h tt in omega (arith, f)
@@ -347,9 +348,9 @@ one_failed visit.File b a le h = omega (arith, le)
 one_failed visit.Dir b a le h = omega (arith, le)
 one_failed visit.Unlisted b a le h = let f = h tt in omega (arith, f)
 one_failed (visit.Holds names) b a le h = omega (arith, le)
-one_failed (visit.Reads bytes end.Whole) b a le h = omega (arith, le)
-one_failed (visit.Reads bytes end.TooMany) b a le h = omega (arith, le)
-one_failed (visit.Reads bytes end.Failed) b a le h = let f = h refl in omega (arith, f)
+one_failed (visit.Reads told size end.Whole) b a le h = omega (arith, le)
+one_failed (visit.Reads told size end.TooMany) b a le h = omega (arith, le)
+one_failed (visit.Reads told size end.Failed) b a le h = let f = h refl in omega (arith, f)
 
 pub ask_turned : (s : Stage) (new : Course) (a : Ask) (v : Visit) {o n : Option Journal} (i j : ℕ) → i ≤ j → (HasFailed v → min (i + 1) (2 ^ 64 - 1) ≤ j) → Left (ShowsVisit a.path (is_shallow s) (room_for s) v) o n → StandsAt new (after_ask s a v s.todo) → GoesOn (record s { todo = task.Ask a ∷ s.todo }) new o n i j
 ask_turned s new a v i j le c l st = record {
@@ -387,6 +388,10 @@ barred b t u n m e f h = subst (λ (x : List ℕ). (b ≡ true → Bars u x) × 
 -- the last of the names
 pub name_last : (a : Ask) (names : List (List ℕ)) (name : List ℕ) → name_tasks a (names ++ name ∷ []) ≡ name_tasks a names ++ name_tasks a (name ∷ [])
 name_last a names name = filter_map-append (name_task a) names (name ∷ [])
+
+-- the last that a file told
+pub line_last : (told : List Told) (one : Told) → line_tasks (told ++ one ∷ []) ≡ line_tasks told ++ line_tasks (one ∷ [])
+line_last told one = ap (map task.Line) (filter_map-append piece_of told (one ∷ [])) ∙ map-append task.Line (filter_map piece_of told) (filter_map piece_of (one ∷ []))
 
 -- a fault of a visit was told
 pub told_stands : (old new : Course) (f : Fault) (s : Stage) → ToldFault old new f → StandsAt old s → StandsAt new (telling s f s.todo)

@@ -35,7 +35,7 @@ failed_read how = 0
 abbrev pub failed_visit : Visit → ℕ
 failed_visit visit.Unseen = 1
 failed_visit visit.Unlisted = 1
-failed_visit (visit.Reads bytes how) = failed_read how
+failed_visit (visit.Reads told size how) = failed_read how
 failed_visit v = 0
 
 -- how many of the visits have a failed call

@@ -8,7 +8,7 @@ use Rattle.lr_rules.specs.declared.fault.ConfKind.TheVariants as kind
 use Rattle.lr_rules.specs.declared.fault.Fault.{Fault}
 use Rattle.lr_rules.specs.declared.fault.Fault.TheVariants as fault
 use Rattle.lr_rules.specs.Path.{path_fault, joined, last_of}
-use Rattle.lr_lex.specs.Items.{Told, items}
+use Rattle.lr_lex.specs.Items.{Told}
 use Rattle.lr_forms.specs.declared.built.Built.TheVariants as built
 use Rattle.lr_fields.specs.Fields.{last_or}
 use Rattle.lr_match.specs.Taboos.{Bars, first_taboo}
@@ -26,7 +26,7 @@ use Rattle.lr_include.specs.declared.task.Piece.{Piece}
 use Rattle.lr_include.specs.declared.task.Piece.TheVariants as piece
 use Rattle.lr_include.specs.declared.task.Task.{Task}
 use Rattle.lr_include.specs.declared.task.Task.TheVariants as task
-use Rattle.lr_include.specs.Lines.{conf_kind, whole_lines}
+use Rattle.lr_include.specs.Lines.{conf_kind}
 
 -- A stage of a reading: the lines so far; the files that are being read, the last of them now; how many files, and how many
 -- bytes, may still be read; and what is still to be read, in order.
@@ -112,37 +112,33 @@ limit_kind s = if is_shallow s then kind.TooManyFiles else kind.TooDeep
 
 -- ---- what a visit gave
 
--- a line with this fault; where the text breaks off, that a script in it has no end is no fault
-abbrev pub fault_piece : Bool → ℕ → ConfKind → Option Piece
-fault_piece false at kind.NoEndscript = None
-fault_piece whole at k = Some (piece.Fault at k)
+-- the fault of a line; want of memory is none of these
+abbrev pub kind_piece : ℕ → Option ConfKind → Option Piece
+kind_piece at None = None
+kind_piece at (Some k) = Some (piece.Fault at k)
 
-abbrev pub kind_piece : Bool → ℕ → Option ConfKind → Option Piece
-kind_piece whole at None = None
-kind_piece whole at (Some k) = fault_piece whole at k
+abbrev pub piece_of : Told → Option Piece
+piece_of (Ok i) = Some (piece.Item i)
+piece_of (Err f) = kind_piece f.line (conf_kind f.kind)
 
-abbrev pub piece_of : Bool → Told → Option Piece
-piece_of whole (Ok i) = Some (piece.Item i)
-piece_of whole (Err f) = kind_piece whole f.line (conf_kind f.kind)
+-- the end of the file, or the place where its reading breaks off
+abbrev pub last_piece : Path → TextEnd → Piece
+last_piece file end.Whole = piece.End
+last_piece file end.TooMany = piece.Break (conf file kind.TooBig 0)
+last_piece file end.Failed = piece.Break (fault.Call call.Read file)
 
--- the lines of a text, which is whole or breaks off
-abbrev pub pieces_of : Bool → List ℕ → List Piece
-pieces_of whole bytes = filter_map (piece_of whole) (items bytes)
-
--- The lines of a file, up to its end; or the whole lines of what counts of it, up to where it breaks off.
-abbrev pub pieces : Path → ℕ → List ℕ → TextEnd → List Piece
-pieces file room bytes end.Whole = pieces_of true bytes ++ piece.End ∷ []
-pieces file room bytes end.TooMany = pieces_of false (whole_lines (take room bytes)) ++ piece.Break (conf file kind.TooBig 0) ∷ []
-pieces file room bytes end.Failed = pieces_of false (whole_lines bytes) ++ piece.Break (fault.Call call.Read file) ∷ []
+-- what a file told comes next
+abbrev pub line_tasks : List Told → List Task
+line_tasks told = map task.Line (filter_map piece_of told)
 
 -- the file is read now
-abbrev pub entering : Stage → Path → List ℕ → TextEnd → List Task → Stage
-entering s file bytes how todo = record {
+abbrev pub entering : Stage → Path → List Told → ℕ → TextEnd → List Task → Stage
+entering s file told size how todo = record {
   lines = s.lines;
   inside = s.inside ++ file ∷ [];
   files = s.files - 1;
-  bytes = s.bytes - min (length bytes) (room_of s);
-  todo = map task.Line (pieces file (room_of s) bytes how) ++ todo;
+  bytes = s.bytes - min size (room_of s);
+  todo = line_tasks told ++ task.Line (last_piece file how) ∷ todo;
 }
 
 -- a fault of the visit, told where it was asked for
@@ -173,14 +169,14 @@ after_ask s a visit.File todo = telling s (conf a.file (limit_kind s) a.line) to
 after_ask s a visit.Dir todo = telling s (conf a.file kind.TooDeep a.line) todo
 after_ask s a visit.Unlisted todo = telling s (fault.Call call.List a.path) todo
 after_ask s a (visit.Holds names) todo = record s { todo = name_tasks a names ++ todo }
-after_ask s a (visit.Reads bytes how) todo = entering s a.path bytes how todo
+after_ask s a (visit.Reads told size how) todo = entering s a.path told size how todo
 
 -- Behind the visit of a name in a directory: what is no file is passed over. Where no file more may be read, that is told
 -- once, and the rest of the directory is passed over.
 abbrev pub after_name : Stage → Ask → Visit → List Task → Stage
 after_name s a visit.Unseen todo = telling s (fault.Call call.Look a.path) todo
 after_name s a visit.File todo = telling s (conf a.file (limit_kind s) a.line) (behind_names todo)
-after_name s a (visit.Reads bytes how) todo = entering s a.path bytes how todo
+after_name s a (visit.Reads told size how) todo = entering s a.path told size how todo
 after_name s a v todo = record s { todo = todo }
 
 -- ---- visits

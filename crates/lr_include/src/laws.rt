@@ -5,7 +5,9 @@ ghost use Rattle.lr_conf.specs.Meaning.{Meaning};
 ghost use Rattle.lr_host.specs.declared.entry.Entry.{Entry};
 ghost use Rattle.lr_host.specs.Steps.{is_change};
 ghost use Rattle.lr_host.specs.Quiet.{AreQuiet};
+ghost use Rattle.lr_host.specs.Told.{Each};
 ghost use Rattle.lr_visits.specs.declared.visit.Visit.{Visit};
+ghost use Rattle.lr_visits.specs.Visits.{IsShortRead};
 ghost use Rattle.lr_include.specs.Allowed.{IsAllowed, AreAllowedVisits};
 ghost use Rattle.lr_include.specs.Stages.{visits_mean, Reads};
 ghost use Rattle.lr_include.specs.Lacking.{LacksReading};
@@ -29,4 +31,10 @@ pub fn lacking_changes_nothing()
 pub fn readings_are_quiet()
     ensures whole { (paths : List Path) (m : Meaning) (ts : List Entry) → Reads paths m ts → AreQuiet ts }
     ensures lacking { (paths : List Path) (ts : List Entry) → LacksReading paths ts → AreQuiet ts }
+{}
+
+/// No read of a reading, whole or not, gives more than 65,536 bytes.
+pub fn readings_are_short()
+    ensures whole { (paths : List Path) (m : Meaning) (ts : List Entry) → Reads paths m ts → Each IsShortRead ts }
+    ensures lacking { (paths : List Path) (ts : List Entry) → LacksReading paths ts → Each IsShortRead ts }
 {}

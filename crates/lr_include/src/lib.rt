@@ -23,11 +23,11 @@ mod reading;
 mod taking;
 mod task;
 mod visiting;
-mod whole;
 
 pub use all::read_all;
 pub use laws::{
-    lacking_changes_nothing, readings_are_quiet, visits_change_nothing, visits_tell_their_calls,
+    lacking_changes_nothing, readings_are_quiet, readings_are_short, visits_change_nothing,
+    visits_tell_their_calls,
 };
 pub use lr_visits::{ReadStop, read_text};
 pub use reading::Reading;

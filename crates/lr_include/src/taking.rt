@@ -140,10 +140,10 @@ impl Course {
     pub(crate) fn take_piece(&mut self, piece: Piece) -> Result<(), Memory>
         ensures { OnOk result (TakesPiece self.old self.new piece) }
     {
-        if self.layer.depth() == 0 {
-            Ok(())
-        } else {
-            self.take_open(piece)
+        if self.layer.depth() > 0 {
+            return self.take_open(piece);
         }
+        drop(piece);
+        Ok(())
     }
 }

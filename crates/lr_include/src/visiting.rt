@@ -1,18 +1,19 @@
 // Visits of the paths that are asked for.
-ghost use Rattle.std.specs.Prelude.{◌≡◌, ◌<◌, ◌≤◌, ◌+◌, ◌^◌, ◌↔◌, ◌∷◌, ◌++◌, [], true, Some, option_copied, length, map, reverse, IfOk, OnOk, OnErr};
+ghost use Rattle.std.specs.Prelude.{◌≡◌, ◌<◌, ◌≤◌, ◌+◌, ◌^◌, ◌↔◌, ◌∷◌, ◌++◌, [], true, Some, option_copied, length, reverse, IfOk, OnOk, OnErr};
 ghost use Rattle.lr_host.specs.Told.{Left, Onward};
 ghost use Rattle.lr_conf.specs.Meaning.{conf};
 ghost use Rattle.lr_conf.specs.Fold.{entered};
-ghost use Rattle.lr_visits.specs.Visits.{IsRead, bytes_in, HasRoom};
+ghost use Rattle.lr_visits.specs.Visits.{IsRead, HasRoom};
 ghost use Rattle.lr_include.specs.declared.task.Task.TheVariants as task;
-ghost use Rattle.lr_include.specs.Stages.{Stage, is_shallow, room_of, room_for, limit_kind, name_tasks, is_name, behind_names, entering, after_ask, after_name, IsBarred};
+ghost use Rattle.lr_include.specs.Stages.{Stage, is_shallow, room_of, room_for, limit_kind, line_tasks, name_tasks, is_name, behind_names, entering, after_ask, after_name, IsBarred};
 ghost use Rattle.lr_include.specs.Course.{StandsAt, SameButTodo, ToldFault, GoesOn};
 ghost use Rattle.lr_include.specs.Lacking.{LacksFrom};
 
 use crate::course::Course;
-use crate::pieces::pieces;
-use crate::task::{Ask, Piece, Task};
+use crate::pieces::{last_piece, piece_of};
+use crate::task::{Ask, Task};
 use lr_host::Host;
+use lr_lex::{Item, LexFault};
 use lr_rules::{CallKind, ConfKind, Fault, Listed, Memory, Path, PathFault, Text};
 use lr_visits::{TextEnd, Visit, visit_path};
 
@@ -80,14 +81,29 @@ impl Course {
         Ok(self.layer.taboo().bars(name.as_str()))
     }
 
-    // Puts the pieces of a file in front of what is still to be read.
-    fn push_pieces(&mut self, pieces: Vec<Piece>) -> Result<(), Memory>
-        ensures todo { OnOk result (reverse self.new.todo.items ≡ map task.Line pieces.items ++ reverse self.old.todo.items) }
+    // Puts an item or a fault of the file in front of what is still to be read.
+    fn push_line(&mut self, told: Result<Item, LexFault>) -> Result<(), Memory>
+        ensures todo { OnOk result (reverse self.new.todo.items ≡ line_tasks (told ∷ []) ++ reverse self.old.todo.items) }
         ensures rest { OnOk result (SameButTodo self.old self.new) }
     {
-        let mut pieces = pieces;
-        while let Some(piece) = pieces.pop() {
-            self.todo.push(Task::Line(piece))?;
+        match piece_of(told) {
+            Some(piece) => {
+                self.todo.push(Task::Line(piece))?;
+                Ok(())
+            }
+            None => Ok(()),
+        }
+    }
+
+    // Puts what a file told in front of what is still to be read.
+    #[tactic(auto, using(crate::proofs::Stages::line_last))]
+    fn push_lines(&mut self, told: Listed<Result<Item, LexFault>>) -> Result<(), Memory>
+        ensures todo { OnOk result (reverse self.new.todo.items ≡ line_tasks told ++ reverse self.old.todo.items) }
+        ensures rest { OnOk result (SameButTodo self.old self.new) }
+    {
+        let mut told = told.into_vec();
+        while let Some(one) = told.pop() {
+            self.push_line(one)?;
         }
         Ok(())
     }
@@ -128,26 +144,28 @@ impl Course {
         ensures rest { SameButTodo self.old self.new }
     {
         while is_name(self.todo.last()) {
-            let _name = self.todo.pop();
+            drop(self.todo.pop());
         }
     }
 
     // Enters the file, and puts its pieces in front of what is still to be read.
-    fn enter(&mut self, file: Path, bytes: &[u8], how: TextEnd) -> Result<(), Memory>
+    fn enter(
+        &mut self,
+        file: Path,
+        told: Listed<Result<Item, LexFault>>,
+        size: usize,
+        how: TextEnd,
+    ) -> Result<(), Memory>
         requires depth { length (entered self.old.layer) < 8 }
-        requires size { length bytes.now < 2 ^ 32 }
-        ensures { OnOk result ((s : Stage) → StandsAt self.old s → StandsAt self.new (entering s file bytes.now how s.todo)) }
+        ensures { OnOk result ((s : Stage) → StandsAt self.old s → StandsAt self.new (entering s file told size how s.todo)) }
     {
         let room = self.room();
-        let pieces = pieces(self.alloc, &file, room, bytes, how)?;
+        let last = last_piece(self.alloc, &file, how)?;
         self.layer.enter(file);
         self.files = self.files.saturating_sub(1);
-        self.bytes -= if bytes.len() < room {
-            bytes.len()
-        } else {
-            room
-        };
-        self.push_pieces(pieces)
+        self.bytes -= if size < room { size } else { room };
+        self.todo.push(Task::Line(last))?;
+        self.push_lines(told)
     }
 
     // Tells a fault of a line that asks, or of a path of the command line.
@@ -159,7 +177,7 @@ impl Course {
     }
 
     fn after_ask(&mut self, ask: Ask, visit: Visit) -> Result<(), Memory>
-        requires { IsRead visit → (length (entered self.old.layer) < 8) × (length (bytes_in visit) < 2 ^ 32) }
+        requires { IsRead visit → length (entered self.old.layer) < 8 }
         ensures { OnOk result ((s : Stage) → StandsAt self.old s → StandsAt self.new (after_ask s ask visit s.todo)) }
     {
         match visit {
@@ -172,12 +190,12 @@ impl Course {
             Visit::Dir => self.tell_at(ask, ConfKind::TooDeep),
             Visit::Unlisted => self.tell_fault(Fault::Call(CallKind::List, ask.path)),
             Visit::Holds(names) => self.push_names(&ask, names),
-            Visit::Reads(bytes, how) => self.enter(ask.path, bytes.as_slice(), how),
+            Visit::Reads(told, size, how) => self.enter(ask.path, told, size, how),
         }
     }
 
     fn after_name(&mut self, ask: Ask, visit: Visit) -> Result<(), Memory>
-        requires { IsRead visit → (length (entered self.old.layer) < 8) × (length (bytes_in visit) < 2 ^ 32) }
+        requires { IsRead visit → length (entered self.old.layer) < 8 }
         ensures { OnOk result ((s : Stage) → StandsAt self.old s → StandsAt self.new (after_name s ask visit s.todo)) }
     {
         match visit {
@@ -187,7 +205,7 @@ impl Course {
                 let kind = self.limit_kind();
                 self.tell_at(ask, kind)
             }
-            Visit::Reads(bytes, how) => self.enter(ask.path, bytes.as_slice(), how),
+            Visit::Reads(told, size, how) => self.enter(ask.path, told, size, how),
             _ => Ok(()),
         }
     }

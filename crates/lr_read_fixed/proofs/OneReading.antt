@@ -3,17 +3,18 @@ use Rattle.std.proofs.Common.{◌≡◌, ◌+◌, ◌⊎◌, inl, inr, ℕ, Bool
 use Rattle.std.specs.List.Sorted.{IsPermutation}
 use Rattle.lr_rules.specs.declared.path.Path.{Path}
 use Rattle.lr_conf.specs.Meaning.{Meaning}
+use Rattle.lr_lex.specs.Items.{Told}
 use Rattle.lr_host.specs.declared.thing.Seen.{Seen}
 use Rattle.lr_host.specs.declared.entry.Entry.{Entry}
 use Rattle.lr_host.specs.declared.entry.Entry.TheVariants as entry
-use Rattle.lr_host.specs.Told.{Each}
 use Rattle.lr_host.specs.Looks.{IsFile, IsDir, IsNothingOrOther}
-use Rattle.lr_host.specs.Reading.{IsReadOf, ReadsOf, text}
+use Rattle.lr_host.specs.Reading.{text, ReadsAll}
+use Rattle.lr_host.proofs.Reading.{reads_text, reads_one}
 use Rattle.lr_visits.specs.declared.part.TextEnd.{TextEnd}
 use Rattle.lr_visits.specs.declared.part.TextEnd.TheVariants as end
 use Rattle.lr_visits.specs.declared.visit.Visit.{Visit}
 use Rattle.lr_visits.specs.declared.visit.Visit.TheVariants as visit
-use Rattle.lr_visits.specs.Visits.{ReadsPart, ShowsNames, ShowsBytes, ShowsFile, ShowsDir, ShowsVisit, look_failed, nothing, directory, file}
+use Rattle.lr_visits.specs.Visits.{ReadsPart, ShowsText, told_by, ShowsNames, ShowsBytes, ShowsFile, ShowsDir, ShowsVisit, look_failed, nothing, directory, file}
 use Rattle.lr_include.specs.declared.task.Task.{Task}
 use Rattle.lr_include.specs.declared.task.Task.TheVariants as task
 use Rattle.lr_host.specs.Counted.{calls_in}
@@ -21,7 +22,6 @@ use Rattle.lr_include.specs.Allowed.{failed_read, failed_visit, failed_in}
 use Rattle.lr_include.specs.Stages.{Stage, settled, visited, at_visits, is_shallow, room_for, ShowsNext, ShowsVisits, begun, visits_mean, Reads}
 use Rattle.lr_include.proofs.Calls.{calls_are_failed}
 use Rattle.lr_sought.proofs.OneOrder.{one_order}
-use Rattle.lr_read_fixed.specs.Behind.{begins_by_read}
 
 -- ---- entries, taken apart from the front
 
@@ -51,23 +51,11 @@ none_one a b c ts us vs ws p q r s e = record { gave = p ∙ sym q; left = r ∙
 
 -- ---- reads
 
-begins_so : (x : Path) (e : Entry) (es : List Entry) → IsReadOf x e → begins_by_read (e ∷ es) ≡ true
-begins_so x (entry.Reads y from piece) es h = refl
-begins_so x _ es h = absurd h
-
-reads_one : (x : Path) (ts us vs ws : List Entry) → Each (IsReadOf x) ts → Each (IsReadOf x) us → begins_by_read vs ≡ false → begins_by_read ws ≡ false → ts ++ vs ≡ us ++ ws → (ts ≡ us) × (vs ≡ ws)
-reads_one x [] [] vs ws a b p q e = (refl, e)
-reads_one x [] (u ∷ us) vs ws a b p q e = absurd (let t = begins_so x u (us ++ ws) b.0 in let k : begins_by_read vs ≡ begins_by_read (u ∷ (us ++ ws)) = ap begins_by_read e in cc (t, k, p))
-reads_one x (t ∷ ts) [] vs ws a b p q e = absurd (let s = begins_so x t (ts ++ vs) a.0 in let k : begins_by_read (t ∷ (ts ++ vs)) ≡ begins_by_read ws = ap begins_by_read e in cc (s, k, q))
-reads_one x (t ∷ ts) (u ∷ us) vs ws a b p q e =
-    let one = first_same t u (ts ++ vs) (us ++ ws) e in
-    let more = reads_one x ts us vs ws a.1 b.1 p q (others_same t u (ts ++ vs) (us ++ ws) e) in
-    (ap (λ y. y ∷ ts) one ∙ ap (λ ys. u ∷ ys) more.0, more.1)
-
-part_reads : (x : Path) (room : ℕ) (bytes : List ℕ) (how : TextEnd) (ts : List Entry) → ReadsPart x room bytes how ts → ReadsOf x bytes ts
-part_reads x room bytes end.Whole ts r = r.1.reads
-part_reads x room bytes end.TooMany ts r = r.1.reads
-part_reads x room bytes end.Failed ts r = r.1
+-- where none failed, all were made
+part_all : (x : Path) (room : ℕ) (bytes : List ℕ) (how : TextEnd) (ts : List Entry) → failed_read how ≡ 0 → ReadsPart x room bytes how ts → ReadsAll x (room + 1) bytes ts
+part_all x room bytes end.Whole ts z r = r.1
+part_all x room bytes end.TooMany ts z r = r.1
+part_all x room bytes end.Failed ts z r = absurd (cc z)
 
 -- where none failed, the reads ended in one way
 how_one : (x : Path) (room : ℕ) (a b : List ℕ) (h k : TextEnd) (ts us : List Entry) → a ≡ b → ReadsPart x room a h ts → ReadsPart x room b k us → failed_read h ≡ 0 → failed_read k ≡ 0 → h ≡ k
@@ -78,24 +66,26 @@ how_one x room a b end.TooMany end.TooMany ts us e r s p q = refl
 how_one x room a b end.Whole end.TooMany ts us e r s p q = absurd (let f = r.0 in let g = s.0 in let l = ap length e in omega (arith, f, g, l))
 how_one x room a b end.TooMany end.Whole ts us e r s p q = absurd (let f = r.0 in let g = s.0 in let l = ap length e in omega (arith, f, g, l))
 
-bytes_both : (x : Path) (room : ℕ) (a b : List ℕ) (h k : TextEnd) (ts us vs ws : List Entry) → ReadsPart x room a h ts → ReadsPart x room b k us → failed_read h ≡ 0 → failed_read k ≡ 0 → begins_by_read vs ≡ false → begins_by_read ws ≡ false → ts ++ vs ≡ us ++ ws
-    → AreOne Visit (visit.Reads a h) (visit.Reads b k) ts us vs ws
-bytes_both x room a b h k ts us vs ws r s f g p q e =
-    let one = part_reads x room a h ts r in
-    let other = part_reads x room b k us s in
-    let reads = reads_one x ts us vs ws one.only other.only p q e in
-    let bytes : a ≡ b = sym one.bytes_are ∙ (ap text reads.0 ∙ other.bytes_are) in
-    let how = how_one x room a b h k ts us bytes r s f g in
-    record { gave = ap (λ y. visit.Reads y h) bytes ∙ ap (visit.Reads b) how; left = reads.0; behind = reads.1 }
+bytes_both : (x : Path) (room : ℕ) (a b : List Told) (m n : ℕ) (h k : TextEnd) (ts us vs ws : List Entry) → ShowsText x room a m h ts → ShowsText x room b n k us → failed_read h ≡ 0 → failed_read k ≡ 0 → ts ++ vs ≡ us ++ ws
+    → AreOne Visit (visit.Reads a m h) (visit.Reads b n k) ts us vs ws
+bytes_both x room a b m n h k ts us vs ws r s f g e =
+    let one = part_all x room r.bytes h ts f r.reads in
+    let other = part_all x room s.bytes k us g s.reads in
+    let reads = reads_one x x (room + 1) r.bytes s.bytes ts us vs ws one other e in
+    let bytes : r.bytes ≡ s.bytes = sym (reads_text x (room + 1) r.bytes ts one) ∙ (ap text reads.0 ∙ reads_text x (room + 1) s.bytes us other) in
+    let how = how_one x room r.bytes s.bytes h k ts us bytes r.reads s.reads f g in
+    let told : a ≡ b = r.told_are ∙ (ap (λ (bs : List ℕ). told_by room bs h) bytes ∙ (ap (told_by room s.bytes) how ∙ sym s.told_are)) in
+    let size : m ≡ n = r.size_is ∙ (ap (λ (bs : List ℕ). length bs) bytes ∙ sym s.size_is) in
+    record { gave = ap (λ (y : List Told). visit.Reads y m h) told ∙ (ap (λ (y : ℕ). visit.Reads b y h) size ∙ ap (visit.Reads b n) how); left = reads.0; behind = reads.1 }
 
-bytes_one : (x : Path) (room : ℕ) (v w : Visit) (ts us vs ws : List Entry) → ShowsBytes x room v ts → ShowsBytes x room w us → failed_visit v ≡ 0 → failed_visit w ≡ 0 → begins_by_read vs ≡ false → begins_by_read ws ≡ false → ts ++ vs ≡ us ++ ws → AreOne Visit v w ts us vs ws
-bytes_one x room (visit.Reads a h) (visit.Reads b k) ts us vs ws r s f g p q e = bytes_both x room a b h k ts us vs ws r s f g p q e
-bytes_one x room (visit.Reads a h) _ ts us vs ws r s f g p q e = absurd s
-bytes_one x room _ w ts us vs ws r s f g p q e = absurd r
+bytes_one : (x : Path) (room : ℕ) (v w : Visit) (ts us vs ws : List Entry) → ShowsBytes x room v ts → ShowsBytes x room w us → failed_visit v ≡ 0 → failed_visit w ≡ 0 → ts ++ vs ≡ us ++ ws → AreOne Visit v w ts us vs ws
+bytes_one x room (visit.Reads a m h) (visit.Reads b n k) ts us vs ws r s f g e = bytes_both x room a b m n h k ts us vs ws r s f g e
+bytes_one x room (visit.Reads a m h) _ ts us vs ws r s f g e = absurd s
+bytes_one x room _ w ts us vs ws r s f g e = absurd r
 
-file_one : (x : Path) (room : Option ℕ) (v w : Visit) (ts us vs ws : List Entry) → ShowsFile x room v ts → ShowsFile x room w us → failed_visit v ≡ 0 → failed_visit w ≡ 0 → begins_by_read vs ≡ false → begins_by_read ws ≡ false → ts ++ vs ≡ us ++ ws → AreOne Visit v w ts us vs ws
-file_one x None v w ts us vs ws r s f g p q e = none_one v w visit.File ts us vs ws r.0 s.0 r.1 s.1 e
-file_one x (Some room) v w ts us vs ws r s f g p q e = bytes_one x room v w ts us vs ws r s f g p q e
+file_one : (x : Path) (room : Option ℕ) (v w : Visit) (ts us vs ws : List Entry) → ShowsFile x room v ts → ShowsFile x room w us → failed_visit v ≡ 0 → failed_visit w ≡ 0 → ts ++ vs ≡ us ++ ws → AreOne Visit v w ts us vs ws
+file_one x None v w ts us vs ws r s f g e = none_one v w visit.File ts us vs ws r.0 s.0 r.1 s.1 e
+file_one x (Some room) v w ts us vs ws r s f g e = bytes_one x room v w ts us vs ws r s f g e
 
 -- ---- names
 
@@ -150,30 +140,27 @@ not_both : (seen : Option Seen) → IsDir seen → IsFile seen → ⊥
 not_both None a b = b
 not_both (Some s) a b = cc (a, b)
 
-behind_one : (x : Path) (lists : Bool) (room : Option ℕ) (v w : Visit) (seen : Option Seen) (ts us vs ws : List Entry) → failed_visit v ≡ 0 → failed_visit w ≡ 0 → begins_by_read vs ≡ false → begins_by_read ws ≡ false → Behind x lists room v seen ts → Behind x lists room w seen us → ts ++ vs ≡ us ++ ws → AreOne Visit v w ts us vs ws
-behind_one x lists room v w seen ts us vs ws f g p q (inl a) (inl b) e = none_one v w visit.Nothing ts us vs ws a.1 b.1 a.2 b.2 e
-behind_one x lists room v w seen ts us vs ws f g p q (inl a) (inr (inl b)) e = absurd (not_dir seen a.0 b.0)
-behind_one x lists room v w seen ts us vs ws f g p q (inl a) (inr (inr b)) e = absurd (not_file seen a.0 b.0)
-behind_one x lists room v w seen ts us vs ws f g p q (inr (inl a)) (inl b) e = absurd (not_dir seen b.0 a.0)
-behind_one x lists room v w seen ts us vs ws f g p q (inr (inl a)) (inr (inl b)) e = dir_one x lists v w ts us vs ws a.1 b.1 f g e
-behind_one x lists room v w seen ts us vs ws f g p q (inr (inl a)) (inr (inr b)) e = absurd (not_both seen a.0 b.0)
-behind_one x lists room v w seen ts us vs ws f g p q (inr (inr a)) (inl b) e = absurd (not_file seen b.0 a.0)
-behind_one x lists room v w seen ts us vs ws f g p q (inr (inr a)) (inr (inl b)) e = absurd (not_both seen b.0 a.0)
-behind_one x lists room v w seen ts us vs ws f g p q (inr (inr a)) (inr (inr b)) e = file_one x room v w ts us vs ws a.1 b.1 f g p q e
+behind_one : (x : Path) (lists : Bool) (room : Option ℕ) (v w : Visit) (seen : Option Seen) (ts us vs ws : List Entry) → failed_visit v ≡ 0 → failed_visit w ≡ 0 → Behind x lists room v seen ts → Behind x lists room w seen us → ts ++ vs ≡ us ++ ws → AreOne Visit v w ts us vs ws
+behind_one x lists room v w seen ts us vs ws f g (inl a) (inl b) e = none_one v w visit.Nothing ts us vs ws a.1 b.1 a.2 b.2 e
+behind_one x lists room v w seen ts us vs ws f g (inl a) (inr (inl b)) e = absurd (not_dir seen a.0 b.0)
+behind_one x lists room v w seen ts us vs ws f g (inl a) (inr (inr b)) e = absurd (not_file seen a.0 b.0)
+behind_one x lists room v w seen ts us vs ws f g (inr (inl a)) (inl b) e = absurd (not_dir seen b.0 a.0)
+behind_one x lists room v w seen ts us vs ws f g (inr (inl a)) (inr (inl b)) e = dir_one x lists v w ts us vs ws a.1 b.1 f g e
+behind_one x lists room v w seen ts us vs ws f g (inr (inl a)) (inr (inr b)) e = absurd (not_both seen a.0 b.0)
+behind_one x lists room v w seen ts us vs ws f g (inr (inr a)) (inl b) e = absurd (not_file seen b.0 a.0)
+behind_one x lists room v w seen ts us vs ws f g (inr (inr a)) (inr (inl b)) e = absurd (not_both seen b.0 a.0)
+behind_one x lists room v w seen ts us vs ws f g (inr (inr a)) (inr (inr b)) e = file_one x room v w ts us vs ws a.1 b.1 f g e
 
-visit_one : (x : Path) (lists : Bool) (room : Option ℕ) (v w : Visit) (ts us vs ws : List Entry) → failed_visit v ≡ 0 → failed_visit w ≡ 0 → begins_by_read vs ≡ false → begins_by_read ws ≡ false → ShowsVisit x lists room v ts → ShowsVisit x lists room w us → ts ++ vs ≡ us ++ ws → AreOne Visit v w ts us vs ws
-visit_one x lists room v w ts us vs ws f g p q a b e =
+visit_one : (x : Path) (lists : Bool) (room : Option ℕ) (v w : Visit) (ts us vs ws : List Entry) → failed_visit v ≡ 0 → failed_visit w ≡ 0 → ShowsVisit x lists room v ts → ShowsVisit x lists room w us → ts ++ vs ≡ us ++ ws → AreOne Visit v w ts us vs ws
+visit_one x lists room v w ts us vs ws f g a b e =
     let one = looks x lists room v ts f a in
     let other = looks x lists room w us g b in
     let split = front_same ts us (entry.Look x one.seen ∷ one.back) (entry.Look x other.seen ∷ other.back) vs ws one.are other.are e in
     let first = first_same (entry.Look x one.seen) (entry.Look x other.seen) (one.back ++ vs) (other.back ++ ws) split in
     let rest = others_same (entry.Look x one.seen) (entry.Look x other.seen) (one.back ++ vs) (other.back ++ ws) split in
     let saw = saw_same x x one.seen other.seen first in
-    let same = behind_one x lists room v w one.seen one.back other.back vs ws f g p q one.shown (subst (λ (s : Option Seen). Behind x lists room w s other.back) (sym saw) other.shown) rest in
+    let same = behind_one x lists room v w one.seen one.back other.back vs ws f g one.shown (subst (λ (s : Option Seen). Behind x lists room w s other.back) (sym saw) other.shown) rest in
     record { gave = same.gave; left = one.are ∙ (ap (λ y. y ∷ one.back) first ∙ (ap (λ ys. entry.Look x other.seen ∷ ys) same.left ∙ sym other.are)); behind = same.behind }
-
-visit_begins : (x : Path) (lists : Bool) (room : Option ℕ) (v : Visit) (ts vs : List Entry) → failed_visit v ≡ 0 → ShowsVisit x lists room v ts → begins_by_read (ts ++ vs) ≡ false
-visit_begins x lists room v ts vs z h = let l = looks x lists room v ts z h in ap (λ es. begins_by_read (es ++ vs)) l.are
 
 -- ---- the next visit
 
@@ -181,24 +168,16 @@ abbrev failed_one : Option Visit → ℕ
 failed_one None = 0
 failed_one (Some v) = failed_visit v
 
-next_one : (s : Stage) (todo : List Task) (v w : Option Visit) (ts us vs ws : List Entry) → failed_one v ≡ 0 → failed_one w ≡ 0 → begins_by_read vs ≡ false → begins_by_read ws ≡ false → ShowsNext s todo v ts → ShowsNext s todo w us → ts ++ vs ≡ us ++ ws → AreOne (Option Visit) v w ts us vs ws
-next_one s (task.Ask a ∷ todo) (Some v) (Some w) ts us vs ws f g p q h k e = let one = visit_one a.path (is_shallow s) (room_for s) v w ts us vs ws f g p q h k e in record { gave = ap Some one.gave; left = one.left; behind = one.behind }
-next_one s (task.Name a ∷ todo) (Some v) (Some w) ts us vs ws f g p q h k e = let one = visit_one a.path false (room_for s) v w ts us vs ws f g p q h.1 k.1 e in record { gave = ap Some one.gave; left = one.left; behind = one.behind }
-next_one s (task.Name a ∷ todo) (Some v) None ts us vs ws f g p q h k e = absurd (h.0 k.0)
-next_one s (task.Name a ∷ todo) None (Some w) ts us vs ws f g p q h k e = absurd (k.0 h.0)
-next_one s (task.Name a ∷ todo) None None ts us vs ws f g p q h k e = none_one None None None ts us vs ws refl refl h.1 k.1 e
-next_one s (task.Ask a ∷ todo) None w ts us vs ws f g p q h k e = absurd h
-next_one s (task.Ask a ∷ todo) (Some v) None ts us vs ws f g p q h k e = absurd k
-next_one s (task.Line l ∷ todo) v w ts us vs ws f g p q h k e = absurd h
-next_one s [] v w ts us vs ws f g p q h k e = absurd h
-
-next_begins : (s : Stage) (todo : List Task) (v : Option Visit) (ts vs : List Entry) → failed_one v ≡ 0 → begins_by_read vs ≡ false → ShowsNext s todo v ts → begins_by_read (ts ++ vs) ≡ false
-next_begins s (task.Ask a ∷ todo) (Some v) ts vs f p h = visit_begins a.path (is_shallow s) (room_for s) v ts vs f h
-next_begins s (task.Name a ∷ todo) (Some v) ts vs f p h = visit_begins a.path false (room_for s) v ts vs f h.1
-next_begins s (task.Name a ∷ todo) None ts vs f p h = ap (λ es. begins_by_read (es ++ vs)) h.1 ∙ p
-next_begins s (task.Ask a ∷ todo) None ts vs f p h = absurd h
-next_begins s (task.Line l ∷ todo) v ts vs f p h = absurd h
-next_begins s [] v ts vs f p h = absurd h
+next_one : (s : Stage) (todo : List Task) (v w : Option Visit) (ts us vs ws : List Entry) → failed_one v ≡ 0 → failed_one w ≡ 0 → ShowsNext s todo v ts → ShowsNext s todo w us → ts ++ vs ≡ us ++ ws → AreOne (Option Visit) v w ts us vs ws
+next_one s (task.Ask a ∷ todo) (Some v) (Some w) ts us vs ws f g h k e = let one = visit_one a.path (is_shallow s) (room_for s) v w ts us vs ws f g h k e in record { gave = ap Some one.gave; left = one.left; behind = one.behind }
+next_one s (task.Name a ∷ todo) (Some v) (Some w) ts us vs ws f g h k e = let one = visit_one a.path false (room_for s) v w ts us vs ws f g h.1 k.1 e in record { gave = ap Some one.gave; left = one.left; behind = one.behind }
+next_one s (task.Name a ∷ todo) (Some v) None ts us vs ws f g h k e = absurd (h.0 k.0)
+next_one s (task.Name a ∷ todo) None (Some w) ts us vs ws f g h k e = absurd (k.0 h.0)
+next_one s (task.Name a ∷ todo) None None ts us vs ws f g h k e = none_one None None None ts us vs ws refl refl h.1 k.1 e
+next_one s (task.Ask a ∷ todo) None w ts us vs ws f g h k e = absurd h
+next_one s (task.Ask a ∷ todo) (Some v) None ts us vs ws f g h k e = absurd k
+next_one s (task.Line l ∷ todo) v w ts us vs ws f g h k e = absurd h
+next_one s [] v w ts us vs ws f g h k e = absurd h
 
 no_next : (s : Stage) (todo : List Task) (v : Option Visit) (ts : List Entry) → todo ≡ [] → ShowsNext s todo v ts → ⊥
 no_next s todo v ts e h = subst (λ (t : List Task). ShowsNext s t v ts) e h
@@ -209,29 +188,20 @@ failed_first : (v : Option Visit) (vs : List (Option Visit)) → failed_in (v �
 failed_first None vs = omega arith
 failed_first (Some v) vs = refl
 
-visits_begin : (s : Stage) (xs : List (Option Visit)) (ts vs : List Entry) → failed_in xs ≡ 0 → begins_by_read vs ≡ false → ShowsVisits s xs ts → begins_by_read (ts ++ vs) ≡ false
-visits_begin s [] ts vs z p h = ap (λ es. begins_by_read (es ++ vs)) h ∙ p
-visits_begin s (x ∷ xs) ts vs z p h =
-    let k = failed_first x xs in
-    ap (λ es. begins_by_read (es ++ vs)) h.joined
-    ∙ (ap begins_by_read (append_assoc h.front h.back vs)
-    ∙ next_begins (settled s) (settled s).todo x h.front (h.back ++ vs) (omega (arith, k, z)) (visits_begin (visited (settled s) x) xs h.back vs (omega (arith, k, z)) p h.second) h.first)
-
-visits_one : (s : Stage) (xs ys : List (Option Visit)) (ts us vs ws : List Entry) → (at_visits s xs).todo ≡ [] → (at_visits s ys).todo ≡ [] → failed_in xs ≡ 0 → failed_in ys ≡ 0 → begins_by_read vs ≡ false → begins_by_read ws ≡ false
+visits_one : (s : Stage) (xs ys : List (Option Visit)) (ts us vs ws : List Entry) → (at_visits s xs).todo ≡ [] → (at_visits s ys).todo ≡ [] → failed_in xs ≡ 0 → failed_in ys ≡ 0
     → ShowsVisits s xs ts → ShowsVisits s ys us → ts ++ vs ≡ us ++ ws → AreOne (List (Option Visit)) xs ys ts us vs ws
-visits_one s [] [] ts us vs ws m n f g p q h k e = none_one [] [] [] ts us vs ws refl refl h k e
-visits_one s [] (y ∷ ys) ts us vs ws m n f g p q h k e = absurd (no_next (settled s) (settled s).todo y k.front m k.first)
-visits_one s (x ∷ xs) [] ts us vs ws m n f g p q h k e = absurd (no_next (settled s) (settled s).todo x h.front n h.first)
-visits_one s (x ∷ xs) (y ∷ ys) ts us vs ws m n f g p q h k e =
+visits_one s [] [] ts us vs ws m n f g h k e = none_one [] [] [] ts us vs ws refl refl h k e
+visits_one s [] (y ∷ ys) ts us vs ws m n f g h k e = absurd (no_next (settled s) (settled s).todo y k.front m k.first)
+visits_one s (x ∷ xs) [] ts us vs ws m n f g h k e = absurd (no_next (settled s) (settled s).todo x h.front n h.first)
+visits_one s (x ∷ xs) (y ∷ ys) ts us vs ws m n f g h k e =
     let a = failed_first x xs in
     let b = failed_first y ys in
     let fx : failed_in xs ≡ 0 = omega (arith, a, f) in
     let gy : failed_in ys ≡ 0 = omega (arith, b, g) in
     let split = front_same ts us (h.front ++ h.back) (k.front ++ k.back) vs ws h.joined k.joined e in
-    let one = next_one (settled s) (settled s).todo x y h.front k.front (h.back ++ vs) (k.back ++ ws) (omega (arith, a, f)) (omega (arith, b, g))
-    (visits_begin (visited (settled s) x) xs h.back vs fx p h.second) (visits_begin (visited (settled s) y) ys k.back ws gy q k.second) h.first k.first
+    let one = next_one (settled s) (settled s).todo x y h.front k.front (h.back ++ vs) (k.back ++ ws) (omega (arith, a, f)) (omega (arith, b, g)) h.first k.first
     (sym (append_assoc h.front h.back vs) ∙ (split ∙ append_assoc k.front k.back ws)) in
-    let more = visits_one (visited (settled s) x) xs ys h.back k.back vs ws m (subst (λ (v : Option Visit). (at_visits (visited (settled s) v) ys).todo ≡ []) (sym one.gave) n) fx gy p q h.second
+    let more = visits_one (visited (settled s) x) xs ys h.back k.back vs ws m (subst (λ (v : Option Visit). (at_visits (visited (settled s) v) ys).todo ≡ []) (sym one.gave) n) fx gy h.second
     (subst (λ (v : Option Visit). ShowsVisits (visited (settled s) v) ys k.back) (sym one.gave) k.second) one.behind in
     record {
       gave = ap (λ v. v ∷ xs) one.gave ∙ ap (λ l. y ∷ l) more.gave;
@@ -239,14 +209,10 @@ visits_one s (x ∷ xs) (y ∷ ys) ts us vs ws m n f g p q h k e =
       behind = more.behind;
     }
 
-pub readings_one : (paths : List Path) (m n : Meaning) (ts us vs ws : List Entry) → Reads paths m ts → Reads paths n us → calls_in m.faults ≡ 0 → calls_in n.faults ≡ 0 → begins_by_read vs ≡ false → begins_by_read ws ≡ false → ts ++ vs ≡ us ++ ws
+pub readings_one : (paths : List Path) (m n : Meaning) (ts us vs ws : List Entry) → Reads paths m ts → Reads paths n us → calls_in m.faults ≡ 0 → calls_in n.faults ≡ 0 → ts ++ vs ≡ us ++ ws
     → (m ≡ n) × (ts ≡ us) × (vs ≡ ws)
-readings_one paths m n ts us vs ws r s f g p q e =
+readings_one paths m n ts us vs ws r s f g e =
     let a = calls_are_failed paths m ts r in
     let b = calls_are_failed paths n us s in
-    let one = visits_one (begun paths) r.visits s.visits ts us vs ws r.all s.all (omega (arith, a, f)) (omega (arith, b, g)) p q r.shown s.shown e in
+    let one = visits_one (begun paths) r.visits s.visits ts us vs ws r.all s.all (omega (arith, a, f)) (omega (arith, b, g)) r.shown s.shown e in
     (r.means ∙ (ap (visits_mean paths) one.gave ∙ sym s.means), one.left, one.behind)
-
--- a reading begins by no read, nor does what comes behind it
-pub reads_begin : (paths : List Path) (m : Meaning) (ts vs : List Entry) → Reads paths m ts → calls_in m.faults ≡ 0 → begins_by_read vs ≡ false → begins_by_read (ts ++ vs) ≡ false
-reads_begin paths m ts vs r f p = let a = calls_are_failed paths m ts r in visits_begin (begun paths) r.visits ts vs (omega (arith, a, f)) p r.shown

@@ -1,2 +1,5 @@
+pub mod Going
+pub mod Telling
 pub mod Texts
 pub mod Visiting
+pub mod Whole

@@ -1,24 +1,22 @@
 -- What a visit leaves.
-use Rattle.std.proofs.Common.{◌≡◌, ◌≤◌, ◌<◌, ◌+◌, inl, inr, ℕ, Bool, true, false, List, [], ◌∷◌, ◌++◌, length, drop, refl, sym, ap, ◌∙◌, subst, append-nil, Option, Some, None, Result, Ok, Err, OnErr, arith}
+use Rattle.std.proofs.Common.{◌≡◌, ◌+◌, inl, inr, ℕ, Bool, List, [], ◌∷◌, ◌++◌, length, drop, refl, sym, ap, ◌∙◌, subst, append-nil, Option, Some, Result, Ok, Err, OnErr}
 use Rattle.std.specs.Prelude.{IfOk}
 use Rattle.std.specs.List.Sorted.{IsPermutation}
 use Rattle.lr_rules.specs.declared.path.Path.{Path}
 use Rattle.lr_host.specs.declared.thing.Kind.TheVariants as kind
 use Rattle.lr_host.specs.declared.thing.Seen.{Seen}
-use Rattle.lr_host.specs.declared.entry.Entry.{Entry}
 use Rattle.lr_host.specs.declared.entry.Entry.TheVariants as entry
 use Rattle.lr_host.specs.declared.journal.Journal.{Journal}
 use Rattle.lr_host.specs.World.{world, names}
-use Rattle.lr_host.specs.Told.{Left, Then, Are, Each, Can}
+use Rattle.lr_host.specs.Told.{Left, Are, Each, Can}
 use Rattle.lr_host.specs.Looks.{Sees, IsFile, IsDir, IsNothingOrOther}
-use Rattle.lr_host.specs.Reading.{IsReadOf, ReadsOf, ReadsAll}
-use Rattle.lr_host.proofs.Left.{left_first, left_as, left_then}
+use Rattle.lr_host.specs.Reading.{ReadsOf}
+use Rattle.lr_host.proofs.Left.{left_as, left_then}
 use Rattle.lr_host.proofs.Known.{entry_says}
 use Rattle.lr_host.proofs.Looked.{seen_dir}
-use Rattle.lr_visits.specs.declared.part.TextEnd.TheVariants as end
 use Rattle.lr_visits.specs.declared.visit.Visit.{Visit}
 use Rattle.lr_visits.specs.declared.visit.Visit.TheVariants as visit
-use Rattle.lr_visits.specs.Visits.{HasListed, ReadsPart, ShowsDir, ShowsFile, ShowsVisit, look_failed, nothing, directory, file, PartVisit}
+use Rattle.lr_visits.specs.Visits.{HasListed, ShowsDir, ShowsFile, IsShortReadOf, ShowsVisit, look_failed, nothing, directory, file, PartVisit}
 
 -- a look, and what it saw
 pub sees : (x : Path) (P : Option Seen → Type 0) (seen : Option Seen) {o n : Option Journal} → Left (λ ts. ts ≡ entry.Look x seen ∷ []) o n → P seen → Left (Sees x P) o n
@@ -43,15 +41,6 @@ pub reads_none : (path : Path) (bytes all : List ℕ) {o m n : Option Journal} �
 reads_none path bytes all is a b = left_then a b (λ xs ys r e.
     subst (λ bs. ReadsOf path bs (xs ++ ys)) (sym is) (subst (λ vs. ReadsOf path bytes (xs ++ vs)) (sym e) (subst (ReadsOf path bytes) (sym (append-nil xs)) r)))
 
-pub too_many : (path : Path) (room limit : ℕ) (bytes all : List ℕ) {o n : Option Journal} → limit ≡ room + 1 → all ≡ bytes → room < length bytes → Left (ReadsAll path limit bytes) o n → Left (ReadsPart path room all end.TooMany) o n
-too_many path room limit bytes all is same more l = left_as l (λ ts r. (omega (arith, ap length same, more), subst (λ (bs : List ℕ). ReadsAll path (room + 1) bs ts) (sym same) (subst (λ (k : ℕ). ReadsAll path k bytes ts) is r)))
-
-pub whole : (path : Path) (room limit : ℕ) (bytes all : List ℕ) {o n : Option Journal} → limit ≡ room + 1 → all ≡ bytes → length bytes ≤ room → Left (ReadsAll path limit bytes) o n → Left (ReadsPart path room all end.Whole) o n
-whole path room limit bytes all is same few l = left_as l (λ ts r. (omega (arith, ap length same, few), subst (λ (bs : List ℕ). ReadsAll path (room + 1) bs ts) (sym same) (subst (λ (k : ℕ). ReadsAll path k bytes ts) is r)))
-
-pub failed : (path : Path) (room limit : ℕ) (bytes all : List ℕ) {o n : Option Journal} → limit ≡ room + 1 → all ≡ bytes → (length bytes < limit) × Left (ReadsOf path bytes) o n → Left (ReadsPart path room all end.Failed) o n
-failed path room limit bytes all is same p = left_as p.1 (λ ts r. (omega (arith, ap length same, p.0, is), subst (λ (bs : List ℕ). ReadsOf path bs ts) (sym same) r))
-
 -- ---- visits
 
 pub in_dir : (x : Path) (lists : Bool) (room : Option ℕ) {E : Type 0} (r : Result Visit E) {o m : Option Journal} (n : Option Journal) → Left (Sees x IsDir) o m → IfOk r (λ v. Left (ShowsDir x lists v) m n) → IfOk r (λ v. Left (ShowsVisit x lists room v) o n)
@@ -66,7 +55,7 @@ pub dir_lacking : (x : Path) {T E : Type 0} (r : Result T E) {o m : Option Journ
 dir_lacking x (Ok v) n s l = tt
 dir_lacking x (Err e) n s l = left_then s l (λ xs ys p q. inr (inl (subst (Sees x IsDir) (sym (append-nil xs) ∙ ap (λ us. xs ++ us) (sym q)) p)))
 
-pub file_lacking : (x : Path) {T E : Type 0} (r : Result T E) {o m : Option Journal} (n : Option Journal) → Left (Sees x IsFile) o m → OnErr r (Left (Each (IsReadOf x)) m n) → OnErr r (Left (PartVisit x) o n)
+pub file_lacking : (x : Path) {T E : Type 0} (r : Result T E) {o m : Option Journal} (n : Option Journal) → Left (Sees x IsFile) o m → OnErr r (Left (Each (IsShortReadOf x)) m n) → OnErr r (Left (PartVisit x) o n)
 file_lacking x (Ok v) n s l = tt
 file_lacking x (Err e) n s l = left_then s l (λ xs ys p q. inr (inr (record { front = xs; back = ys; joined = refl; first = p; second = q })))
 

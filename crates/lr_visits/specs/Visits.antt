@@ -1,14 +1,16 @@
 -- What a visit of a path gave, and the entries that show it.
-use Rattle.std.specs.Prelude.{◌≡◌, ◌≤◌, ◌<◌, ◌+◌, ◌⊎◌, ℕ, Bool, true, false, List, [], ◌∷◌, length, Option, Some, None}
+use Rattle.std.specs.Prelude.{◌≡◌, ◌≤◌, ◌<◌, ◌+◌, ◌⊎◌, ℕ, Bool, true, false, List, [], ◌∷◌, length, take, Option, Some, None}
 use Rattle.std.specs.List.Sorted.{IsPermutation, IsSortedByKey}
 use Rattle.std.specs.Ordering.{nat_cmp}
 use Rattle.std.specs.Cmp.Lexicographic.{slice_cmp}
 use Rattle.lr_rules.specs.declared.path.Path.{Path}
+use Rattle.lr_lex.specs.Items.{Told, items}
 use Rattle.lr_host.specs.declared.entry.Entry.{Entry}
 use Rattle.lr_host.specs.declared.entry.Entry.TheVariants as entry
 use Rattle.lr_host.specs.Told.{Then, Each}
 use Rattle.lr_host.specs.Looks.{Sees, IsFile, IsDir, IsNothingOrOther}
 use Rattle.lr_host.specs.Reading.{IsReadOf, ReadsOf, ReadsAll}
+use Rattle.lr_visits.specs.Whole.{whole_items}
 use Rattle.lr_visits.specs.declared.look.Sight.{Sight}
 use Rattle.lr_visits.specs.declared.look.Sight.TheVariants as sight
 use Rattle.lr_visits.specs.declared.part.TextEnd.{TextEnd}
@@ -45,6 +47,28 @@ ReadsPart x room bytes end.Whole ts = (length bytes ≤ room) × ReadsAll x (roo
 ReadsPart x room bytes end.TooMany ts = (room < length bytes) × ReadsAll x (room + 1) bytes ts
 ReadsPart x room bytes end.Failed ts = (length bytes ≤ room) × ReadsOf x bytes ts
 
+-- what the bytes tell that count, by how their reading ended
+abbrev pub told_by : ℕ → List ℕ → TextEnd → List Told
+told_by room bytes end.Whole = items bytes
+told_by room bytes end.TooMany = whole_items (take room bytes)
+told_by room bytes end.Failed = whole_items bytes
+
+-- a read gave at most 65,536 bytes
+abbrev pub IsShortRead : Entry → Type 0
+IsShortRead (entry.Reads x from piece) = length piece ≤ 65536
+IsShortRead _ = Unit {0}
+
+abbrev pub IsShortReadOf : Path → Entry → Type 0
+IsShortReadOf x t = IsReadOf x t × IsShortRead t
+
+-- The reads of the file, each of 65,536 bytes at most, gave so many bytes, and this is what they tell.
+pub record ShowsText (x : Path) (room : ℕ) (told : List Told) (size : ℕ) (how : TextEnd) (ts : List Entry) : Type 0 where
+  pub bytes : List ℕ
+  pub reads : ReadsPart x room bytes how ts
+  pub short : Each IsShortRead ts
+  pub size_is : size ≡ length bytes
+  pub told_are : told ≡ told_by room bytes how
+
 -- ---- visits
 
 -- what a listing of the directory gave
@@ -55,7 +79,7 @@ ShowsNames x _ ts = ⊥
 
 -- what the reads of the file gave
 abbrev pub ShowsBytes : Path → ℕ → Visit → List Entry → Type 0
-ShowsBytes x room (visit.Reads bytes how) ts = ReadsPart x room bytes how ts
+ShowsBytes x room (visit.Reads told size how) ts = ShowsText x room told size how ts
 ShowsBytes x room _ ts = ⊥
 
 abbrev pub ShowsFile : Path → Option ℕ → Visit → List Entry → Type 0
@@ -76,13 +100,8 @@ pub data ShowsVisit (x : Path) (lists : Bool) (room : Option ℕ) (v : Visit) (t
 
 -- a file was read
 abbrev pub IsRead : Visit → Type 0
-IsRead (visit.Reads bytes how) = Unit {0}
+IsRead (visit.Reads told size how) = Unit {0}
 IsRead _ = ⊥
-
--- the bytes that were read
-abbrev pub bytes_in : Visit → List ℕ
-bytes_in (visit.Reads bytes how) = bytes
-bytes_in _ = []
 
 abbrev pub HasRoom : Option ℕ → Type 0
 HasRoom None = ⊥
@@ -92,9 +111,9 @@ HasRoom (Some room) = Unit {0}
 abbrev pub HasFailed : Visit → Type 0
 HasFailed visit.Unseen = Unit {0}
 HasFailed visit.Unlisted = Unit {0}
-HasFailed (visit.Reads bytes how) = how ≡ end.Failed
+HasFailed (visit.Reads told size how) = how ≡ end.Failed
 HasFailed _ = ⊥
 
 -- A first part of what a visit leaves: no entry, or a look at a directory, or a look at a file and reads of it.
 abbrev pub PartVisit : Path → List Entry → Type 0
-PartVisit x ts = (ts ≡ []) ⊎ (Sees x IsDir ts ⊎ Then (Sees x IsFile) (Each (IsReadOf x)) ts)
+PartVisit x ts = (ts ≡ []) ⊎ (Sees x IsDir ts ⊎ Then (Sees x IsFile) (Each (IsShortReadOf x)) ts)

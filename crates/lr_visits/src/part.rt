@@ -1,15 +1,15 @@
-// The bytes of a file of which there is room for so many.
-ghost use Rattle.std.specs.Prelude.{◌≡◌, ◌<◌, ◌+◌, ◌^◌, [], length, IfOk, OnErr};
+// What a file tells of which there is room for so many bytes.
+ghost use Rattle.std.specs.Prelude.{◌≡◌, ◌≤◌, ◌<◌, ◌+◌, ◌^◌, [], Option, Some, None, Ok, length, IfOk, OnErr};
 ghost use Rattle.lr_host.specs.declared.entry.Entry.TheVariants as entry;
+ghost use Rattle.lr_host.specs.declared.journal.Journal.{Journal};
 ghost use Rattle.lr_host.specs.Told.{Left, Each, Can, Onward, Rose};
-ghost use Rattle.lr_host.specs.Reading.{IsReadOf};
-ghost use Rattle.lr_visits.specs.Visits.{ReadsPart};
+ghost use Rattle.lr_visits.specs.Visits.{ShowsText, IsShortReadOf};
+ghost use Rattle.lr_visits.specs.Taken.{IsOpen, Brings, TookFrom, GoesOn};
 ghost use Rattle.lr_visits.specs.declared.part.TextEnd.TheVariants as end;
 
-use crate::text::{ReadStop, read_up_to};
+use crate::taking::Taking;
 use lr_host::Host;
-use lr_rules::{Listed, Memory, Path};
-use std::alloc::Global;
+use lr_rules::{Memory, Path};
 
 /// How the reading of a file ended.
 #[derive(Clone, Copy, PartialEq, Eq)]
@@ -22,29 +22,89 @@ pub enum TextEnd {
     Failed,
 }
 
-/// The bytes of the file from its first on, and how their reading ended.
-pub fn read_part<H: Host>(
-    alloc: Global,
+// Takes in what a read gave; how the reading ended by it, None where it goes on.
+fn take_in(taking: &mut Taking, piece: &[u8], room: usize) -> Result<Option<TextEnd>, Memory>
+    requires ready { IsOpen taking.old }
+    requires size { taking.old.size ≤ room }
+    requires within { taking.old.size + length piece.now < 2 ^ 32 }
+    ensures { IfOk result (Brings taking.old taking.new room piece.now) }
+{
+    if piece.is_empty() {
+        taking.finish()?;
+        return Ok(Some(TextEnd::Whole));
+    }
+    taking.take(piece, room)?;
+    if taking.size > room {
+        Ok(Some(TextEnd::TooMany))
+    } else {
+        Ok(None)
+    }
+}
+
+// So many bytes may be read next.
+fn next_count(room: usize, size: usize, limit: usize) -> usize
+    requires size { size ≤ room }
+    requires room { room + 1 < 2 ^ 32 }
+    requires limit { 0 < limit }
+    ensures some { 0 < result }
+    ensures limit { result ≤ limit }
+    ensures within { size + result ≤ room + 1 }
+{
+    let left = room + 1 - size;
+    if left < limit { left } else { limit }
+}
+
+// Reads once more; how the reading ended by it, None where it goes on.
+fn read_on<H: Host>(
     host: &mut H,
     path: &Path,
+    taking: &mut Taking,
+    buffer: &mut [u8],
     room: usize,
-) -> Result<(Listed<u8>, TextEnd), Memory>
-    requires file { Can (H.told host.old) (entry.Reads path.now 0 []) }
+) -> Result<Option<TextEnd>, Memory>
+    requires ready { IsOpen taking.old }
+    requires size { taking.old.size ≤ room }
     requires room { room + 1 < 2 ^ 32 }
-    ensures told { IfOk result (λ r. Left (ReadsPart path.now room r.0 r.1) (H.told host.old) (H.told host.new)) }
-    ensures lacking { OnErr result (Left (Each (IsReadOf path.now)) (H.told host.old) (H.told host.new)) }
-    ensures size { IfOk result (λ r. length r.0 < 2 ^ 32) }
-    ensures cause { IfOk result (λ r. r.1 ≡ end.Failed → Rose (H.counts host.old).faults (H.counts host.new).faults) }
+    requires buffer { 0 < length buffer.old }
+    requires short { length buffer.old ≤ 65536 }
+    requires file { Can (H.told host.old) (entry.Reads path.now 0 []) }
+    ensures told { IfOk result (λ how. (before : Option Journal) → TookFrom path.now taking.old before (H.told host.old) → GoesOn path.now room taking.new before (H.told host.new) how) }
+    ensures more { result ≡ Ok None → IsOpen taking.new × (taking.new.size ≤ room) × (taking.old.size < taking.new.size) }
+    ensures only { Left (Each (IsShortReadOf path.now)) (H.told host.old) (H.told host.new) }
+    ensures cause { result ≡ Ok (Some end.Failed) → Rose (H.counts host.old).faults (H.counts host.new).faults }
     ensures counts { Onward (H.counts host.old) (H.counts host.new) }
 {
-    let mut bytes = Vec::new(alloc);
-    let Ok(mut piece) = vec![in alloc; 0u8; room + 1] else {
-        return Err(Memory);
+    let limit = next_count(room, taking.size, buffer.len());
+    let piece = &mut buffer[..limit];
+    let Ok(count) = host.read(path, taking.size as u64, piece) else {
+        return Ok(Some(TextEnd::Failed));
     };
-    match read_up_to(host, path, &mut bytes, &mut piece) {
-        Ok(()) if bytes.len() > room => Ok((Listed::from_vec(bytes), TextEnd::TooMany)),
-        Ok(()) => Ok((Listed::from_vec(bytes), TextEnd::Whole)),
-        Err(ReadStop::Call) => Ok((Listed::from_vec(bytes), TextEnd::Failed)),
-        Err(ReadStop::Memory) => Err(Memory),
+    take_in(taking, &piece[..count], room)
+}
+
+/// Reads on until the reading ends; how it ended. No read asks for more than the buffer has.
+pub fn read_pieces<H: Host>(
+    host: &mut H,
+    path: &Path,
+    taking: &mut Taking,
+    buffer: &mut [u8],
+    room: usize,
+) -> Result<TextEnd, Memory>
+    requires ready { IsOpen taking.old }
+    requires size { taking.old.size ≤ room }
+    requires room { room + 1 < 2 ^ 32 }
+    requires buffer { 0 < length buffer.old }
+    requires short { length buffer.old ≤ 65536 }
+    requires file { Can (H.told host.old) (entry.Reads path.now 0 []) }
+    requires begun { TookFrom path.now taking.old (H.told host.old) (H.told host.old) }
+    ensures told { IfOk result (λ how. Left (ShowsText path.now room taking.new.told.items taking.new.size how) (H.told host.old) (H.told host.new)) }
+    ensures only { Left (Each (IsShortReadOf path.now)) (H.told host.old) (H.told host.new) }
+    ensures cause { result ≡ Ok end.Failed → Rose (H.counts host.old).faults (H.counts host.new).faults }
+    ensures counts { Onward (H.counts host.old) (H.counts host.new) }
+{
+    loop {
+        if let Some(how) = read_on(host, path, taking, buffer, room)? {
+            return Ok(how);
+        }
     }
 }

@@ -1,14 +1,15 @@
 // One visit of a path.
-ghost use Rattle.std.specs.Prelude.{◌≡◌, ◌<◌, ◌+◌, ◌^◌, [], Some, length, IfOk, OnErr};
+ghost use Rattle.std.specs.Prelude.{◌≡◌, ◌<◌, ◌+◌, ◌^◌, [], Some, IfOk, OnErr};
 ghost use Rattle.lr_host.specs.declared.entry.Entry.TheVariants as entry;
 ghost use Rattle.lr_host.specs.Told.{Left, Are, Each, Can, Onward, Rose};
-ghost use Rattle.lr_host.specs.Reading.{IsReadOf};
-ghost use Rattle.lr_visits.specs.Visits.{ShowsNames, ShowsBytes, ShowsDir, ShowsFile, ShowsVisit, IsRead, bytes_in, HasRoom, HasFailed, PartVisit};
+ghost use Rattle.lr_visits.specs.Visits.{ShowsNames, ShowsBytes, ShowsDir, ShowsFile, ShowsVisit, IsRead, IsShortReadOf, HasRoom, HasFailed, PartVisit};
 
 use crate::listing::list_rising;
 use crate::look::{Sight, look_at};
-use crate::part::{TextEnd, read_part};
+use crate::part::{TextEnd, read_pieces};
+use crate::taking::Taking;
 use lr_host::{Host, ListFault};
+use lr_lex::{Item, LexFault};
 use lr_rules::{Listed, Memory, Path, Text};
 use std::alloc::Global;
 
@@ -27,8 +28,8 @@ pub enum Visit {
     Unlisted,
     /// A directory with these names, in order of bytes.
     Holds(Listed<Text>),
-    /// A file with these bytes, and how their reading ended.
-    Reads(Listed<u8>, TextEnd),
+    /// A file: the items and faults of its lines that its bytes told, how many bytes were read, and how their reading ended.
+    Reads(Listed<Result<Item, LexFault>>, usize, TextEnd),
 }
 
 // Lists the directory.
@@ -68,13 +69,17 @@ fn bytes_of<H: Host>(alloc: Global, host: &mut H, file: &Path, room: usize) -> R
     requires file { Can (H.told host.old) (entry.Reads file.now 0 []) }
     requires room { room + 1 < 2 ^ 32 }
     ensures told { IfOk result (λ v. Left (ShowsBytes file.now room v) (H.told host.old) (H.told host.new)) }
-    ensures lacking { OnErr result (Left (Each (IsReadOf file.now)) (H.told host.old) (H.told host.new)) }
-    ensures size { IfOk result (λ v. length (bytes_in v) < 2 ^ 32) }
+    ensures lacking { OnErr result (Left (Each (IsShortReadOf file.now)) (H.told host.old) (H.told host.new)) }
     ensures cause { IfOk result (λ v. HasFailed v → Rose (H.counts host.old).faults (H.counts host.new).faults) }
     ensures counts { Onward (H.counts host.old) (H.counts host.new) }
 {
-    let (bytes, end) = read_part(alloc, host, file, room)?;
-    Ok(Visit::Reads(bytes, end))
+    let mut taking = Taking::new(alloc);
+    let Ok(mut buffer) = vec![in alloc; 0u8; 65_536] else {
+        return Err(Memory);
+    };
+    let how = read_pieces(host, file, &mut taking, &mut buffer, room)?;
+    let Taking { told, size, .. } = taking;
+    Ok(Visit::Reads(Listed::from_vec(told), size, how))
 }
 
 // Reads the file, or doesn't.
@@ -87,8 +92,8 @@ fn in_file<H: Host>(
     requires file { Can (H.told host.old) (entry.Reads file.now 0 []) }
     requires room { (n : _) → room ≡ Some n → n + 1 < 2 ^ 32 }
     ensures told { IfOk result (λ v. Left (ShowsFile file.now room v) (H.told host.old) (H.told host.new)) }
-    ensures lacking { OnErr result (Left (Each (IsReadOf file.now)) (H.told host.old) (H.told host.new)) }
-    ensures read { IfOk result (λ v. IsRead v → HasRoom room × (length (bytes_in v) < 2 ^ 32)) }
+    ensures lacking { OnErr result (Left (Each (IsShortReadOf file.now)) (H.told host.old) (H.told host.new)) }
+    ensures read { IfOk result (λ v. IsRead v → HasRoom room) }
     ensures cause { IfOk result (λ v. HasFailed v → Rose (H.counts host.old).faults (H.counts host.new).faults) }
     ensures counts { Onward (H.counts host.old) (H.counts host.new) }
 {
@@ -112,7 +117,7 @@ pub fn visit_path<H: Host>(
     requires { (n : _) → room ≡ Some n → n + 1 < 2 ^ 32 }
     ensures told { IfOk result (λ v. Left (ShowsVisit path.now lists room v) (H.told host.old) (H.told host.new)) }
     ensures lacking { OnErr result (Left (PartVisit path.now) (H.told host.old) (H.told host.new)) }
-    ensures read { IfOk result (λ v. IsRead v → HasRoom room × (length (bytes_in v) < 2 ^ 32)) }
+    ensures read { IfOk result (λ v. IsRead v → HasRoom room) }
     ensures cause { IfOk result (λ v. HasFailed v → Rose (H.counts host.old).faults (H.counts host.new).faults) }
     ensures counts { Onward (H.counts host.old) (H.counts host.new) }
 {

@@ -1,0 +1,16 @@
+use Rattle.std.proofs.Common.{List, sym, subst}
+use Rattle.lr_lex.specs.Items.{Told}
+use Rattle.lr_host.specs.Told.{Left, Each}
+use Rattle.lr_host.proofs.Left.{left_first}
+use Rattle.lr_visits.specs.Visits.{ShowsText, IsShortReadOf}
+use Rattle.lr_visits.proofs.Going.{goes_first}
+use Rattle.lr_visits.proofs.visit.bytes_of.Goals as goal
+
+pub returns-in_default-clause-lacking : goal.returns-in_default-clause-lacking
+returns-in_default-clause-lacking g c = left_first (Each (IsShortReadOf c.args.file.now)) _ tt
+
+pub read_pieces-requires-clause-begun : goal.read_pieces-requires-clause-begun
+read_pieces-requires-clause-begun g c = goes_first c.args.file.now c.new-taking.result _ c.new-taking.ensures.none c.new-taking.ensures.text c.new-taking.ensures.size
+
+pub returns-clause-told : goal.returns-clause-told
+returns-clause-told g c = subst (λ (ts : List Told). Left (ShowsText c.args.file.now c.args.room ts c.read_pieces.new.taking.size c.in_ok-how.how) (g.H.Host.told c.args.host.now) (g.H.Host.told c.read_pieces.new.host)) (sym c.from_vec.ensures) c.in_ok-how.ensures.told
