@@ -1,6 +1,10 @@
 pub mod Between
 pub mod Civil
+pub mod Dated
 pub mod Limits
 pub mod Match
+pub mod Moments
 pub mod Names
 pub mod Path
+pub mod StampParts
+pub mod Stamps

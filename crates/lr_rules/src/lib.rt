@@ -20,6 +20,7 @@ mod memory;
 mod path;
 mod rule;
 mod rules;
+mod stamp_parts;
 mod steps;
 mod text;
 
@@ -33,5 +34,6 @@ pub use memory::Memory;
 pub use path::{Path, PathFault};
 pub use rule::{Back, Count, Criterion, Field, Format, Make, Naming, Piece, Rule, Scripts, Way};
 pub use rules::Rules;
+pub use stamp_parts::StampParts;
 pub use steps::Steps;
 pub use text::{Text, TextFault, is_utf8};

@@ -1,0 +1,4 @@
+pub mod Asked
+pub mod Clocks
+pub mod Dated
+pub mod Serials
