@@ -3,7 +3,8 @@ use Rattle.std.specs.Prelude.{◌≡◌, ◌↔◌, ◌≤◌, ℕ, Bool, ◌||�
 use Rattle.lr_rules.specs.declared.path.Path.{Path}
 use Rattle.lr_rules.specs.declared.rule.Naming.{Naming}
 use Rattle.lr_rules.specs.declared.rule.Format.{Format}
-use Rattle.lr_rules.specs.Names.{IsMemberAt, HasMemberShape}
+use Rattle.lr_rules.specs.Names.{IsMemberAt}
+use Rattle.lr_rules.specs.Dated.{stamp_key, IsDatedAt}
 use Rattle.lr_rules.specs.Path.{path_fault}
 use Rattle.lr_host.specs.Lists.{AreDistinct}
 use Rattle.lr_host.specs.World.{Names}
@@ -18,17 +19,17 @@ abbrev pub order_of : Option Format → Order
 order_of None = Numbered
 order_of (Some format) = Dated
 
--- The key of each path is what the naming says: a numbered member's is its place, and no other path has one. Of a dated naming only the order of its stamps counts here, so any key will do that only paths with a member's shape have.
+-- The key of each path is what the naming says: a numbered member's is its place, that of a dated one its stamp's seconds and its serial number as one number (`stamp_key`), and no other path has one.
 abbrev pub IsKeyBy : Order → Naming → (Path → Option ℤ) → Type 0
 IsKeyBy Numbered n key = (x : Path) (k : ℤ) → (key x ≡ Some k) ↔ ((place : ℕ) × (k ≡ pos place) × IsMemberAt n place x)
-IsKeyBy Dated n key = (x : Path) (k : ℤ) → key x ≡ Some k → HasMemberShape n x
+IsKeyBy Dated n key = (x : Path) (k : ℤ) → (key x ≡ Some k) ↔ ((seconds : ℤ) × (serial : ℕ) × (k ≡ stamp_key seconds serial) × IsDatedAt n seconds serial x)
 
 -- A log, which is a path, and the naming of its members, of which it is none.
 pub record LogSet : Type 0 where
   pub log : Path
   pub log_path : path_fault log ≡ None
   pub naming : Naming
-  -- of a numbered member its place, of a dated one the moment of its stamp, None at every other path
+  -- of a numbered member its place, of a dated one the moment of its stamp with its serial number, None at every other path
   pub key : Path → Option ℤ
   pub keys : IsKeyBy (order_of naming.dated) naming key
   pub log_apart : key log ≡ None

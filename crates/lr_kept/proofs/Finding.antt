@@ -7,7 +7,7 @@ use Rattle.lr_rules.specs.declared.rule.Format.{Format}
 use Rattle.lr_rules.specs.declared.rule.Piece.{Piece}
 use Rattle.lr_rules.specs.declared.rule.Piece.TheVariants as piece
 use Rattle.lr_rules.specs.Match.{part_end}
-use Rattle.lr_rules.specs.Names.{IsStampShape, IsMiddleShape, IsMemberShape, IsOwnName, the_log, a_member, a_part, IsName, Meet}
+use Rattle.lr_rules.specs.Names.{IsStampShape, number_pieces, IsMiddleShape, IsMemberShape, IsOwnName, the_log, a_member, a_part, IsName, Meet}
 use Rattle.lr_rules.specs.Path.{joined}
 use Rattle.lr_family.specs.declared.family.Family.{Family}
 use Rattle.lr_kept.specs.Fronts.{Begins, before_field, middle_front, member_front, below, Finds}
@@ -22,9 +22,18 @@ stamp_begins (piece.Byte b ∷ pieces) middle h =
     (more.0, h.1 ∙ ap (λ xs. b ∷ xs) more.1)
 stamp_begins (piece.Field f ∷ pieces) middle h = (middle, refl)
 
+-- also where more stands behind them
+front_begins : (pieces more : List Piece) (middle : List ℕ) → IsStampShape (pieces ++ more) middle → Begins (before_field pieces) middle
+front_begins [] more middle h = (middle, refl)
+front_begins (piece.Byte b ∷ pieces) more middle h =
+    let rest = front_begins pieces more h.0 h.2 in
+    (rest.0, h.1 ∙ ap (λ xs. b ∷ xs) rest.1)
+front_begins (piece.Field f ∷ pieces) more middle h = (middle, refl)
+
 middle_begins : (dated : Option Format) (middle : List ℕ) → IsMiddleShape dated middle → Begins (middle_front dated) middle
 middle_begins None middle h = (h.0, h.1)
-middle_begins (Some format) middle h = stamp_begins format.pieces middle h
+middle_begins (Some format) middle (inl h) = stamp_begins format.pieces middle h
+middle_begins (Some format) middle (inr h) = front_begins format.pieces number_pieces middle h.1
 
 spelled : (dir base front rest ext end : List ℕ) → dir ++ 47 ∷ (((base ++ (front ++ rest)) ++ ext) ++ end) ≡ (dir ++ 47 ∷ (base ++ front)) ++ (rest ++ (ext ++ end))
 spelled dir base front rest ext end = simp append_assoc

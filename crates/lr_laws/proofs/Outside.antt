@@ -6,7 +6,9 @@ use Rattle.lr_rules.specs.declared.path.Path.{Path}
 use Rattle.lr_rules.specs.declared.rule.Naming.{Naming}
 use Rattle.lr_rules.specs.declared.rule.Format.{Format}
 use Rattle.lr_rules.specs.Names.{IsMemberAt, IsMiddleShape, HasMemberShape, IsOwnName, the_log, a_member, IsName, Meet}
+use Rattle.lr_rules.specs.Dated.{stamp_key, IsDatedAt}
 use Rattle.lr_rules.proofs.Digits.{decimal_run}
+use Rattle.lr_stamps.proofs.StampShapes.{dated_shape}
 use Rattle.lr_host.specs.declared.entry.Entry.{Entry}
 use Rattle.lr_host.specs.declared.entry.Entry.TheVariants as entry
 use Rattle.lr_host.specs.Sets.{LogSet, Order, Numbered, Dated, order, order_of, IsKeyBy, in_set}
@@ -33,7 +35,7 @@ shape_name s x (last, shape, is) = a_member last shape is
 -- what has a key has a member's shape
 keyed_name : (s : LogSet) (o : Order) → order s ≡ o → IsKeyBy o s.naming s.key → (x : Path) (k : ℤ) → s.key x ≡ Some k → IsOwnName s.log s.naming x
 keyed_name s Numbered q keys x k is = let m : (place : ℕ) × (k ≡ pos place) × IsMemberAt s.naming place x = (keys x k).0 is in member_name s x m.0 q m.2
-keyed_name s Dated q keys x k is = shape_name s x (keys x k is)
+keyed_name s Dated q keys x k is = let m : (seconds : ℤ) × (serial : ℕ) × (k ≡ stamp_key seconds serial) × IsDatedAt s.naming seconds serial x = (keys x k).0 is in shape_name s x (dated_shape s.naming m.0 m.1 x m.3)
 
 pub in_set_own : (s : LogSet) (x : Path) → in_set s x ≡ true → IsOwnName s.log s.naming x
 in_set_own s x h = ⊎_elim (λ e. the_log (sym ((bytes_eq-Decides s.log x).0 e))) (λ e. keyed (s.key x) refl e) (or_cases (bytes_eq s.log x) (is_some (s.key x)) h)

@@ -1,5 +1,5 @@
 -- What fits lists of tokens, one behind the other.
-use Rattle.std.proofs.Common.{◌≡◌, inl, inr, ℕ, suc, zero, ◌≤◌, ◌<◌, true, List, [], ◌∷◌, ◌++◌, length, refl, sym, ap, subst, arith}
+use Rattle.std.proofs.Common.{◌≡◌, inl, inr, ℕ, suc, zero, ◌≤◌, ◌<◌, true, List, [], ◌∷◌, ◌++◌, length, append_assoc, refl, sym, ap, ◌∙◌, subst, arith}
 use Rattle.std.specs.Char.{is_ascii_digit}
 use Rattle.std.proofs.lemmas.Bool.Decides.{nat_tests}
 use Rattle.std.proofs.lemmas.List.Elements.{All-nil, All-cons, All-head, All-tail}
@@ -11,7 +11,7 @@ use Rattle.lr_rules.specs.Names.{AreDigits, IsRun, IsFieldShape, IsStampShape}
 use Rattle.lr_shapes.specs.declared.token.Token.{Token}
 use Rattle.lr_shapes.specs.declared.token.Token.TheVariants.{Byte, Digit, Digits}
 use Rattle.lr_shapes.specs.Tokens.{RunThen, Fits}
-use Rattle.lr_shapes.specs.Pieces.{plain, field_tokens, stamp_tokens}
+use Rattle.lr_shapes.specs.Pieces.{plain, field_tokens, piece_tokens, stamp_tokens}
 
 -- bytes of two parts, of which the first has P and the second fits
 pub record InTwo (P : List ℕ → Type 0) (us : List Token) (w : List ℕ) : Type 0 where
@@ -164,3 +164,7 @@ pub shape_stamp : (pieces : List Piece) (w : List ℕ) → IsStampShape pieces w
 shape_stamp [] w e = subst (Fits []) (sym e) tt
 shape_stamp (piece.Byte b ∷ pieces) w h = subst (Fits (Byte b ∷ stamp_tokens pieces)) (sym h.1) (refl, shape_stamp pieces h.0 h.2)
 shape_stamp (piece.Field f ∷ pieces) w h = subst (Fits (field_tokens f ++ stamp_tokens pieces)) (sym h.2) (fits_join (field_tokens f) (stamp_tokens pieces) h.0 h.1 (shape_field f h.0 h.3) (shape_stamp pieces h.1 h.4))
+
+pub tokens_append : (ps qs : List Piece) → stamp_tokens (ps ++ qs) ≡ stamp_tokens ps ++ stamp_tokens qs
+tokens_append [] qs = refl
+tokens_append (p ∷ ps) qs = ap (λ (ts : List Token). piece_tokens p ++ ts) (tokens_append ps qs) ∙ sym (append_assoc (piece_tokens p) (stamp_tokens ps) (stamp_tokens qs))

@@ -1,0 +1,12 @@
+pub mod Clocks
+pub mod Fields
+pub mod Formats
+pub mod Members
+pub mod Middles
+pub mod MomentLemmas
+pub mod Moments
+pub mod Plain
+pub mod Readings
+pub mod Serials
+pub mod StampLemmas
+pub mod StampShapes
