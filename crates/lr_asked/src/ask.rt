@@ -1,6 +1,6 @@
 // The calls that a line may make.
 use crate::{
-    built, chain, choosing, clock, conf, due, glob, layer, lex, lines, meeting, moment, name,
+    built, chain, choosing, clock, copied, due, glob, layer, lex, lines, meeting, moment, name,
     naming, path, report, setting, state, word,
 };
 use lr_line::{Line, Trouble};
@@ -26,7 +26,6 @@ enum Ask {
     OneLine,
     Layer,
     LayerOfAll,
-    Conf,
     Copied,
     Due,
     Clock,
@@ -56,7 +55,7 @@ enum Ask {
 }
 
 // Each call with its name, and how many words stand behind that, at least and at most.
-static ASKS: [(&str, Ask, usize, usize); 46] = [
+static ASKS: [(&str, Ask, usize, usize); 45] = [
     ("path", Ask::Path, 1, 1),
     ("word", Ask::Word, 2, 2),
     ("parent", Ask::Parent, 1, 1),
@@ -76,7 +75,6 @@ static ASKS: [(&str, Ask, usize, usize); 46] = [
     ("line", Ask::OneLine, 2, 2),
     ("layer", Ask::Layer, 1, 2),
     ("layer-of-all", Ask::LayerOfAll, 1, 2),
-    ("conf", Ask::Conf, 1, 1),
     ("copied", Ask::Copied, 1, 1),
     ("due", Ask::Due, 10, 10),
     ("clock", Ask::Clock, 2, 3),
@@ -161,8 +159,7 @@ fn answer_of_texts(ask: Ask, line: Line, out: &mut String) -> Result<(), Trouble
         Ask::OneLine => lines::one_line(line, out),
         Ask::Layer => layer::layer(line, out),
         Ask::LayerOfAll => built::layer_of_all(line, out),
-        Ask::Conf => conf::conf(line, out),
-        Ask::Copied => conf::copied(line, out),
+        Ask::Copied => copied::copied(line, out),
         Ask::Due => due::is_due(line, out),
         Ask::Clock => clock::clock(line, out),
         Ask::Tz => clock::tz(line, out),

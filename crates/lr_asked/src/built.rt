@@ -1,8 +1,7 @@
 // What the lines of a configuration mean where all directives count as built.
-use crate::layer::read_both;
+use crate::layer::read_texts;
 use crate::lines::{phase_name, put_criterion, put_format, put_make, put_way};
 use crate::rule::{put_notices, put_words};
-use lr_conf::Layer;
 use lr_forms::Built;
 use lr_line::{Line, Trouble};
 use lr_rules::{Format, Notice, Phase, Rule, Rules, Text};
@@ -79,14 +78,8 @@ fn put_both(rules: &Rules, notices: &[Notice], out: &mut String) -> Result<(), T
     put_rules(rules, out)
 }
 
-fn put_made(layer: Layer, out: &mut String) -> Result<(), Trouble> {
-    let (rules, notices) = layer.finish();
-    put_both(&rules, &notices, out)
-}
-
 /// The faults of the files, then their notices, then of their rules what more than counts and flags is set.
 pub fn layer_of_all(line: Line, out: &mut String) -> Result<(), Trouble> {
-    let mut layer = Layer::new(line.alloc, Built::All)?;
-    read_both(line, &mut layer, out)?;
-    put_made(layer, out)
+    let (rules, notices) = read_texts(line, Built::All, out)?;
+    put_both(&rules, &notices, out)
 }

@@ -203,5 +203,8 @@ pub fn is_due(line: Line, out: &mut String) -> Result<(), Trouble> {
     let case = case_at(line)?;
     let file = Path::new(line.alloc, b"/etc/c")?;
     let rule = rule_of(line.alloc, file, case);
-    put_due(&rule, line, out)
+    let put = put_due(&rule, line, out);
+    // in one step, which is cheaper to check than field by field
+    drop(rule);
+    put
 }

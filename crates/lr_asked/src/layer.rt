@@ -92,8 +92,8 @@ fn read(
     Ok(())
 }
 
-/// The faults of the first text, as of `/c`.
-pub fn read_one(line: Line, layer: &mut Layer, out: &mut String) -> Result<(), Trouble>
+// The faults of the first text, as of `/c`.
+fn read_one(line: Line, layer: &mut Layer, out: &mut String) -> Result<(), Trouble>
     requires { entered layer.old ≡ [] }
     ensures { IfOk result (λ _. entered layer.new ≡ []) }
 {
@@ -101,7 +101,7 @@ pub fn read_one(line: Line, layer: &mut Layer, out: &mut String) -> Result<(), T
 }
 
 // Those, and of the second text, where there is one, as of `/d`.
-pub fn read_both(line: Line, layer: &mut Layer, out: &mut String) -> Result<(), Trouble>
+fn read_both(line: Line, layer: &mut Layer, out: &mut String) -> Result<(), Trouble>
     requires { entered layer.old ≡ [] }
 {
     read_one(line, layer, out)?;
@@ -111,19 +111,29 @@ pub fn read_both(line: Line, layer: &mut Layer, out: &mut String) -> Result<(), 
     Ok(())
 }
 
+/// The faults of the texts that stand behind the call's name, one or two; the rules and notices of their lines.
+pub fn read_texts(
+    line: Line,
+    built: Built,
+    out: &mut String,
+) -> Result<(Rules, Vec<Notice>), Trouble> {
+    let mut layer = Layer::new(line.alloc, built)?;
+    match read_both(line, &mut layer, out) {
+        Ok(()) => Ok(layer.finish()),
+        Err(trouble) => {
+            drop(layer);
+            Err(trouble)
+        }
+    }
+}
+
 fn put_both(rules: &Rules, notices: &[Notice], out: &mut String) -> Result<(), Trouble> {
     put_notices(notices, out)?;
     put_rules(rules, out)
 }
 
-fn put_made(layer: Layer, out: &mut String) -> Result<(), Trouble> {
-    let (rules, notices) = layer.finish();
-    put_both(&rules, &notices, out)
-}
-
 /// The faults of the files, then their notices, then their rules.
 pub fn layer(line: Line, out: &mut String) -> Result<(), Trouble> {
-    let mut layer = Layer::new(line.alloc, Built::SoFar)?;
-    read_both(line, &mut layer, out)?;
-    put_made(layer, out)
+    let (rules, notices) = read_texts(line, Built::SoFar, out)?;
+    put_both(&rules, &notices, out)
 }

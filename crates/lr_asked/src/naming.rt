@@ -1,10 +1,9 @@
 // How rules name the members of a log.
-use crate::layer::read_one;
-use lr_conf::Layer;
+use crate::layer::read_texts;
 use lr_forms::Built;
 use lr_line::{Line, Trouble};
 use lr_naming::naming_of;
-use lr_rules::{Naming, Path, Rule};
+use lr_rules::{Naming, Path, Rule, Rules};
 
 fn put_naming(naming: &Naming, out: &mut String) -> Result<(), Trouble> {
     let dir = naming.dir.as_str();
@@ -21,14 +20,27 @@ fn put_named(line: Line, rule: &Rule, log: &Path, out: &mut String) -> Result<()
     put_naming(&naming_of(line.alloc, rule, log)?, out)
 }
 
-/// The directory, base, extension and first number by which the rule of the text names the members of the log.
-pub fn named(line: Line, out: &mut String) -> Result<(), Trouble> {
-    let log = line.path(2)?;
-    let mut layer = Layer::new(line.alloc, Built::All)?;
-    read_one(line, &mut layer, out)?;
-    let (rules, _) = layer.finish();
+fn put_each(line: Line, rules: &Rules, log: &Path, out: &mut String) -> Result<(), Trouble> {
     for rule in rules.sets.as_slice() {
-        put_named(line, rule, &log, out)?;
+        put_named(line, rule, log, out)?;
     }
     Ok(())
+}
+
+fn put_all_named(line: Line, log: &Path, out: &mut String) -> Result<(), Trouble> {
+    let (rules, _) = read_texts(line, Built::All, out)?;
+    put_each(line, &rules, log, out)
+}
+
+/// The directory, base, extension and first number by which the rule of the text names the members of the log.
+pub fn named(line: Line, out: &mut String) -> Result<(), Trouble> {
+    let [front @ .., log] = line.words else {
+        return Err(Trouble::Odd("a word is missing"));
+    };
+    let log = Path::new(line.alloc, log)?;
+    let text = Line {
+        alloc: line.alloc,
+        words: front,
+    };
+    put_all_named(text, &log, out)
 }
