@@ -1,4 +1,5 @@
 // The calls that a line may make.
+use crate::answer::Answer;
 use crate::{
     built, chain, choosing, clock, copied, due, glob, layer, lex, lines, meeting, moment, name,
     naming, path, report, setting, state, word,
@@ -126,7 +127,7 @@ fn ask_of(line: Line) -> Result<Ask, Trouble> {
 }
 
 // Of the printed lines, and of rotations.
-fn answer_of_runs(ask: Ask, line: Line, out: &mut String) -> Result<(), Trouble> {
+fn answer_of_runs(ask: Ask, line: Line, out: &mut Answer) -> Result<(), Trouble> {
     match ask {
         Ask::Kin => name::kin(line, out),
         Ask::Name => name::name(line, out),
@@ -150,7 +151,7 @@ fn answer_of_runs(ask: Ask, line: Line, out: &mut String) -> Result<(), Trouble>
 }
 
 // Of configurations, clocks and the state.
-fn answer_of_texts(ask: Ask, line: Line, out: &mut String) -> Result<(), Trouble> {
+fn answer_of_texts(ask: Ask, line: Line, out: &mut Answer) -> Result<(), Trouble> {
     match ask {
         Ask::Value => setting::value(line, out),
         Ask::Row => word::row(line, out),
@@ -173,7 +174,7 @@ fn answer_of_texts(ask: Ask, line: Line, out: &mut String) -> Result<(), Trouble
 }
 
 // Of what all crates share, else of the others.
-fn answer_of(ask: Ask, line: Line, out: &mut String) -> Result<(), Trouble> {
+fn answer_of(ask: Ask, line: Line, out: &mut Answer) -> Result<(), Trouble> {
     match ask {
         Ask::Path => path::path(line, out),
         Ask::Word => path::word(line, out),
@@ -192,7 +193,7 @@ fn answer_of(ask: Ask, line: Line, out: &mut String) -> Result<(), Trouble> {
 }
 
 /// Puts what the call of the line answers.
-pub fn answer(line: Line, out: &mut String) -> Result<(), Trouble> {
+pub fn answer(line: Line, out: &mut Answer) -> Result<(), Trouble> {
     let ask = ask_of(line)?;
     answer_of(ask, line, out)
 }

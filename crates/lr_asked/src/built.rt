@@ -1,4 +1,5 @@
 // What the lines of a configuration mean where all directives count as built.
+use crate::answer::Answer;
 use crate::layer::read_texts;
 use crate::lines::{phase_name, put_criterion, put_format, put_make, put_way};
 use crate::rule::{put_notices, put_words};
@@ -6,80 +7,79 @@ use lr_forms::Built;
 use lr_line::{Line, Trouble};
 use lr_rules::{Format, Notice, Phase, Rule, Rules, Text};
 
-fn put_comma(out: &mut String) -> Result<(), Trouble> {
-    Ok(out.push_str(", ")?)
+fn put_comma(out: &mut Answer) {
+    out.put(", ")
 }
 
-fn put_serial(serial: bool, out: &mut String) -> Result<(), Trouble> {
+fn put_serial(serial: bool, out: &mut Answer) {
     if serial {
-        out.push_str(" and a serial number")?;
+        out.put(" and a serial number");
     }
-    Ok(())
 }
 
-fn put_dated(dated: &Option<Format>, out: &mut String) -> Result<(), Trouble> {
+fn put_dated(dated: &Option<Format>, out: &mut Answer) {
     match dated {
         Some(format) => {
-            put_format(format.pieces.as_slice(), out)?;
+            put_format(format.pieces.as_slice(), out);
             put_serial(format.serial, out)
         }
-        None => Ok(out.push_str("undated")?),
+        None => out.put("undated"),
     }
 }
 
-fn put_script(phase: Phase, text: &Option<Text>, out: &mut String) -> Result<(), Trouble> {
+fn put_script(phase: Phase, text: &Option<Text>, out: &mut Answer) {
     if text.is_none() {
-        return Ok(());
+        return;
     }
-    let name = phase_name(phase);
-    Ok(write!(out, ", script {name}")?)
+    out.put(", script ");
+    out.put(phase_name(phase))
 }
 
-fn put_scripts(rule: &Rule, out: &mut String) -> Result<(), Trouble> {
-    put_script(Phase::First, &rule.scripts.first, out)?;
-    put_script(Phase::Pre, &rule.scripts.pre, out)?;
-    put_script(Phase::Post, &rule.scripts.post, out)?;
+fn put_scripts(rule: &Rule, out: &mut Answer) {
+    put_script(Phase::First, &rule.scripts.first, out);
+    put_script(Phase::Pre, &rule.scripts.pre, out);
+    put_script(Phase::Post, &rule.scripts.post, out);
     put_script(Phase::Last, &rule.scripts.last, out)
 }
 
 // Which files it makes, and how their names are stamped.
-fn put_makes(rule: &Rule, out: &mut String) -> Result<(), Trouble> {
-    put_make("create", rule.create, out)?;
-    put_comma(out)?;
+fn put_makes(rule: &Rule, out: &mut Answer) {
+    put_make("create", rule.create, out);
+    put_comma(out);
     put_dated(&rule.dated, out)
 }
 
 // When its logs are due, and how they are rotated.
-fn put_course(rule: &Rule, out: &mut String) -> Result<(), Trouble> {
-    put_criterion(rule.criterion, out)?;
-    put_comma(out)?;
+fn put_course(rule: &Rule, out: &mut Answer) {
+    put_criterion(rule.criterion, out);
+    put_comma(out);
     put_way("way", rule.way, out)
 }
 
-fn put_rule(rule: &Rule, out: &mut String) -> Result<(), Trouble> {
-    put_words(rule, out)?;
-    put_comma(out)?;
-    put_course(rule, out)?;
-    put_comma(out)?;
+fn put_rule(rule: &Rule, out: &mut Answer) {
+    put_words(rule, out);
+    put_comma(out);
+    put_course(rule, out);
+    put_comma(out);
     put_makes(rule, out)
 }
 
-fn put_rules(rules: &Rules, out: &mut String) -> Result<(), Trouble> {
+fn put_rules(rules: &Rules, out: &mut Answer) {
     for rule in rules.sets.as_slice() {
-        put_rule(rule, out)?;
-        put_scripts(rule, out)?;
-        out.push_str(";")?;
+        put_rule(rule, out);
+        put_scripts(rule, out);
+        out.put(";");
     }
-    Ok(())
 }
 
-fn put_both(rules: &Rules, notices: &[Notice], out: &mut String) -> Result<(), Trouble> {
-    put_notices(notices, out)?;
+fn put_both(rules: &Rules, notices: &[Notice], out: &mut Answer) {
+    put_notices(notices, out);
     put_rules(rules, out)
 }
 
 /// The faults of the files, then their notices, then of their rules what more than counts and flags is set.
-pub fn layer_of_all(line: Line, out: &mut String) -> Result<(), Trouble> {
+pub fn layer_of_all(line: Line, out: &mut Answer) -> Result<(), Trouble> {
     let (rules, notices) = read_texts(line, Built::All, out)?;
-    put_both(&rules, &notices, out)
+    put_both(&rules, &notices, out);
+    Ok(())
 }

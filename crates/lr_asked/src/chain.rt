@@ -4,6 +4,7 @@ ghost use Rattle.std.specs.Prelude.{◌≡◌, ◌↔◌, ◌≤◌, None, true,
 ghost use Rattle.lr_family.specs.Places.{IsPlaceOf, AreNamed};
 ghost use Rattle.lr_chain.specs.Ready.{IsCount};
 
+use crate::answer::Answer;
 use crate::family::family;
 use lr_chain::{PrepareStop, Ready, prepare};
 use lr_family::{Family, Member, Place, Stand};
@@ -99,66 +100,67 @@ fn members(line: Line, family: &Family) -> Result<Listed<Member>, Trouble>
     Ok(Listed::from_vec(members))
 }
 
-fn put_step(word: &str, path: &Path, out: &mut String) -> Result<(), Trouble> {
+fn put_step(word: &str, path: &Path, out: &mut Answer) {
     let path = path.as_str();
-    Ok(write!(out, "{word} {path}\n")?)
+    out.put(word);
+    out.put(" ");
+    out.put(path);
+    out.put("\n");
 }
 
-fn put_move(from: &Path, to: &Path, out: &mut String) -> Result<(), Trouble> {
+fn put_move(from: &Path, to: &Path, out: &mut Answer) {
     let from = from.as_str();
     let to = to.as_str();
-    Ok(write!(out, "move {from} {to}\n")?)
+    out.put("move ");
+    out.put(from);
+    out.put(" ");
+    out.put(to);
+    out.put("\n");
 }
 
-fn put_removals(removals: &[Removal], out: &mut String) -> Result<(), Trouble> {
+fn put_removals(removals: &[Removal], out: &mut Answer) {
     for removal in removals {
-        put_step("remove", &removal.path, out)?;
+        put_step("remove", &removal.path, out);
     }
-    Ok(())
 }
 
-fn put_ready(ready: &Ready, out: &mut String) -> Result<(), Trouble> {
-    put_removals(ready.leftovers.as_slice(), out)?;
+fn put_ready(ready: &Ready, out: &mut Answer) {
+    put_removals(ready.leftovers.as_slice(), out);
     for step in ready.moves.as_slice() {
-        put_move(&step.from, &step.to, out)?;
+        put_move(&step.from, &step.to, out);
     }
-    put_move(&ready.log, &ready.target, out)?;
+    put_move(&ready.log, &ready.target, out);
     put_removals(ready.retire.as_slice(), out)
 }
 
-fn put_stop(stop: &PrepareStop, out: &mut String) -> Result<(), Trouble> {
+fn put_stop(stop: &PrepareStop, out: &mut Answer) {
     match stop {
         PrepareStop::Taken(path) => put_step("taken", path, out),
         PrepareStop::TooHigh(path) => put_step("too high", path, out),
         PrepareStop::NoDir(path) => put_step("no directory", path, out),
-        PrepareStop::Memory => Err(Trouble::Memory),
+        PrepareStop::Memory => out.starve(),
     }
 }
 
-fn put_prepared(made: &Result<Ready, PrepareStop>, out: &mut String) -> Result<(), Trouble> {
+fn put_prepared(made: &Result<Ready, PrepareStop>, out: &mut Answer) {
     match made {
         Ok(ready) => put_ready(ready, out),
         Err(stop) => put_stop(stop, out),
     }
 }
 
-fn put_prepared_of(
-    line: Line,
-    family: &Family,
-    stand: &Stand,
-    count: Count,
-    out: &mut String,
-) -> Result<(), Trouble>
+fn put_prepared_of(line: Line, family: &Family, stand: &Stand, count: Count, out: &mut Answer)
     requires numbered { family.now.naming.dated ≡ None }
     requires start { family.now.naming.start ≤ 999999 }
     requires count { IsCount count }
     requires named { AreNamed family.now.naming stand.now.members }
 {
     let made = prepare(line.alloc, family, stand, count, Make::No);
-    put_prepared(&made, out)
+    put_prepared(&made, out);
+    drop(made)
 }
 
-fn put_rotation(line: Line, family: &Family, out: &mut String) -> Result<(), Trouble>
+fn put_rotation(line: Line, family: &Family, out: &mut Answer) -> Result<(), Trouble>
     requires numbered { family.now.naming.dated ≡ None }
     requires start { family.now.naming.start ≤ 999999 }
 {
@@ -170,11 +172,12 @@ fn put_rotation(line: Line, family: &Family, out: &mut String) -> Result<(), Tro
         parent: true,
         members,
     };
-    put_prepared_of(line, family, &stand, count, out)
+    put_prepared_of(line, family, &stand, count, out);
+    Ok(())
 }
 
 /// The steps of the rotation, each on a line, or why there is none.
-pub fn rotation(line: Line, out: &mut String) -> Result<(), Trouble> {
+pub fn rotation(line: Line, out: &mut Answer) -> Result<(), Trouble> {
     let family = family(line)?;
     if family.naming().start > 999_999 {
         return Err(Trouble::Odd("the first number is too high"));

@@ -1,6 +1,7 @@
 // Which of the logs that were found are kept. Each word of a line is a log: its path, or its path and the directory, the
 // base, the extension and the stamp of its members, between commas. What lacks is as it is without directives. A `*` before
 // it says that a wildcard gave the path. A word that begins with `-` is a path that is reserved.
+use crate::answer::Answer;
 use lr_family::{Family, are_kin};
 use lr_kept::{Choice, choose};
 use lr_line::{Line, Trouble};
@@ -108,24 +109,35 @@ fn reserved(line: Line) -> Result<Vec<Path>, Trouble> {
     Ok(paths)
 }
 
-fn put_choice(choice: Choice, out: &mut String) -> Result<(), Trouble> {
+fn put_choice(choice: Choice, out: &mut Answer) {
     match choice {
-        Choice::Kept => Ok(out.push_str("kept")?),
-        Choice::Again(place) => Ok(write!(out, "again {place}")?),
-        Choice::MemberOf(place) => Ok(write!(out, "member of {place}")?),
-        Choice::Reserved(place) => Ok(write!(out, "reserved {place}")?),
-        Choice::Meets(place) => Ok(write!(out, "meets {place}")?),
+        Choice::Kept => out.put("kept"),
+        Choice::Again(place) => {
+            out.put("again ");
+            out.put_number(place as u64);
+        }
+        Choice::MemberOf(place) => {
+            out.put("member of ");
+            out.put_number(place as u64);
+        }
+        Choice::Reserved(place) => {
+            out.put("reserved ");
+            out.put_number(place as u64);
+        }
+        Choice::Meets(place) => {
+            out.put("meets ");
+            out.put_number(place as u64);
+        }
     }
 }
 
-fn put_choices(choices: &[Choice], out: &mut String) -> Result<(), Trouble> {
+fn put_choices(choices: &[Choice], out: &mut Answer) {
     for (place, choice) in choices.iter().enumerate() {
         if place > 0 {
-            out.push_str(", ")?;
+            out.put(", ");
         }
-        put_choice(*choice, out)?;
+        put_choice(*choice, out);
     }
-    Ok(())
 }
 
 fn put_choices_among(
@@ -133,7 +145,7 @@ fn put_choices_among(
     families: &[Family],
     wild: &[bool],
     reserved: &[Path],
-    out: &mut String,
+    out: &mut Answer,
 ) -> Result<(), Trouble> {
     let mut logs = Vec::new(line.alloc);
     for family in families {
@@ -143,11 +155,12 @@ fn put_choices_among(
         return Err(Trouble::Odd("each log has one mark"));
     }
     let choices = choose(line.alloc, &logs, wild, reserved)?;
-    put_choices(&choices, out)
+    put_choices(&choices, out);
+    Ok(())
 }
 
 /// What comes of each of the logs.
-pub fn choices(line: Line, out: &mut String) -> Result<(), Trouble> {
+pub fn choices(line: Line, out: &mut Answer) -> Result<(), Trouble> {
     let families = families(line)?;
     let wild = wild(line)?;
     let reserved = reserved(line)?;

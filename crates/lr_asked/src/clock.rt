@@ -1,4 +1,5 @@
 // What clocks in time zones show.
+use crate::answer::Answer;
 use crate::moment::put_moment;
 use lr_due::{Zone, ZoneStop, ZoneText, clock_of, zone_of};
 use lr_line::{Line, Trouble};
@@ -38,29 +39,30 @@ fn zone(line: Line) -> Result<ZoneText, Trouble> {
     Err(Trouble::Odd("no such zone"))
 }
 
-fn put_one(moment: &Moment, out: &mut String) -> Result<(), Trouble> {
+fn put_one(moment: &Moment, out: &mut Answer) {
     let seconds = moment.seconds;
-    write!(out, "{seconds} ")?;
+    out.put_signed(seconds);
+    out.put(" ");
     put_moment(&moment.civil, out)
 }
 
-fn put_clock(clock: &Clock, out: &mut String) -> Result<(), Trouble> {
-    put_one(&clock.now, out)?;
-    out.push_str(", ")?;
-    put_one(&clock.yesterday, out)?;
-    out.push_str(", ")?;
+fn put_clock(clock: &Clock, out: &mut Answer) {
+    put_one(&clock.now, out);
+    out.put(", ");
+    put_one(&clock.yesterday, out);
+    out.put(", ");
     put_one(&clock.hour_ago, out)
 }
 
-fn put_stop(stop: ZoneStop, out: &mut String) -> Result<(), Trouble> {
+fn put_stop(stop: ZoneStop, out: &mut Answer) {
     match stop {
-        ZoneStop::Range => Ok(out.push_str("Range")?),
-        ZoneStop::Refused => Ok(out.push_str("Refused")?),
-        ZoneStop::Memory => Err(Trouble::Memory),
+        ZoneStop::Range => out.put("Range"),
+        ZoneStop::Refused => out.put("Refused"),
+        ZoneStop::Memory => out.starve(),
     }
 }
 
-fn put_shown(line: Line, zone: &ZoneText, seconds: i64, out: &mut String) -> Result<(), Trouble> {
+fn put_shown(line: Line, zone: &ZoneText, seconds: i64, out: &mut Answer) {
     match clock_of(line.alloc, zone, seconds) {
         Ok(clock) => put_clock(&clock, out),
         Err(stop) => put_stop(stop, out),
@@ -68,30 +70,44 @@ fn put_shown(line: Line, zone: &ZoneText, seconds: i64, out: &mut String) -> Res
 }
 
 /// The moment of the run, that of the day before and that of an hour before, each as seconds and as the zone shows it.
-pub fn clock(line: Line, out: &mut String) -> Result<(), Trouble> {
+pub fn clock(line: Line, out: &mut Answer) -> Result<(), Trouble> {
     let seconds = seconds(line.word(1)?)?;
     let zone = zone(line)?;
-    put_shown(line, &zone, seconds, out)
+    put_shown(line, &zone, seconds, out);
+    drop(zone);
+    Ok(())
 }
 
-fn put_asked(asked: Result<Zone, PathFault>, out: &mut String) -> Result<(), Trouble> {
+fn put_asked(asked: Result<Zone, PathFault>, out: &mut Answer) {
     match asked {
-        Ok(Zone::Utc) => Ok(out.push_str("utc")?),
-        Ok(Zone::Rule(rule)) => Ok(write!(out, "rule {}", rule.as_str())?),
-        Ok(Zone::File(path)) => Ok(write!(out, "file {}", path.as_str())?),
-        Err(fault) => Ok(write!(out, "{fault}")?),
+        Ok(Zone::Utc) => out.put("utc"),
+        Ok(Zone::Rule(rule)) => {
+            out.put("rule ");
+            out.put(rule.as_str());
+        }
+        Ok(Zone::File(path)) => {
+            out.put("file ");
+            out.put(path.as_str());
+        }
+        Err(fault) => {
+            out.put_path_fault(&fault);
+        }
     }
 }
 
-fn put_tz(line: Line, value: &[u8], out: &mut String) -> Result<(), Trouble> {
+fn put_tz(line: Line, value: &[u8], out: &mut Answer) -> Result<(), Trouble> {
     let value = Text::new(line.alloc, value)?;
-    put_asked(zone_of(line.alloc, Some(&value)), out)
+    put_asked(zone_of(line.alloc, Some(&value)), out);
+    Ok(())
 }
 
 /// The zone that a value of the variable TZ asks for, or none.
-pub fn tz(line: Line, out: &mut String) -> Result<(), Trouble> {
+pub fn tz(line: Line, out: &mut Answer) -> Result<(), Trouble> {
     match line.words.get(1) {
         Some(value) => put_tz(line, value.as_slice(), out),
-        None => put_asked(zone_of(line.alloc, None), out),
+        None => {
+            put_asked(zone_of(line.alloc, None), out);
+            Ok(())
+        }
     }
 }

@@ -1,5 +1,6 @@
 // When logs are due. The words of a line are the criterion; `ifempty` or `notifempty`; minage, minsize and maxsize; the
 // size and the age in seconds; the moment of the last rotation and that of the run; `force`. A `-` is none of it.
+use crate::answer::Answer;
 use crate::moment::moment_at;
 use lr_due::{Due, Why, WhyNot, due};
 use lr_host::{Kind, Seen};
@@ -185,21 +186,22 @@ fn put_answer(
     line: Line,
     now: &Moment,
     force: bool,
-    out: &mut String,
+    out: &mut Answer,
 ) -> Result<(), Trouble> {
     let seen = seen_at(line, now.seconds)?;
     let last = last_at(line)?;
-    Ok(out.push_str(name_of(due(rule, &seen, last, now, force)))?)
+    out.put(name_of(due(rule, &seen, last, now, force)));
+    Ok(())
 }
 
-fn put_due(rule: &Rule, line: Line, out: &mut String) -> Result<(), Trouble> {
+fn put_due(rule: &Rule, line: Line, out: &mut Answer) -> Result<(), Trouble> {
     let now = now_at(line)?;
     let force = is_first(line.word(10)?, b"force", b"-")?;
     put_answer(rule, line, &now, force, out)
 }
 
 /// Why the log is due, or why not.
-pub fn is_due(line: Line, out: &mut String) -> Result<(), Trouble> {
+pub fn is_due(line: Line, out: &mut Answer) -> Result<(), Trouble> {
     let case = case_at(line)?;
     let file = Path::new(line.alloc, b"/etc/c")?;
     let rule = rule_of(line.alloc, file, case);

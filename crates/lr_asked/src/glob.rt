@@ -2,6 +2,7 @@
 // `sets`, and the items.
 ghost use Rattle.std.specs.Prelude.{◌≤◌};
 
+use crate::answer::Answer;
 use crate::values::{put_all, put_yes};
 use lr_line::{Line, Trouble};
 use lr_match::{Taboo, matches};
@@ -31,14 +32,18 @@ fn is_second(line: Line, at: usize, first: &str, second: &str) -> Result<bool, T
     }
 }
 
+fn changed_to(line: Line, items: &[Text], patterns: bool, adding: bool) -> Result<Taboo, Trouble> {
+    let first = Taboo::first(line.alloc)?;
+    Ok(first.changed(line.alloc, items, patterns, adding)?)
+}
+
 fn changed_by(line: Line, at: usize) -> Result<Taboo, Trouble>
     requires { at ≤ 90 }
 {
     let patterns = is_second(line, at, "tabooext", "taboopat")?;
     let adding = is_second(line, at + 1, "sets", "adds")?;
     let items = items(line, at + 2)?;
-    let first = Taboo::first(line.alloc)?;
-    Ok(first.changed(line.alloc, &items, patterns, adding)?)
+    changed_to(line, &items, patterns, adding)
 }
 
 fn taboo(line: Line, at: usize) -> Result<Taboo, Trouble>
@@ -52,23 +57,26 @@ fn taboo(line: Line, at: usize) -> Result<Taboo, Trouble>
 }
 
 /// Whether the pattern matches the name.
-pub fn is_match(line: Line, out: &mut String) -> Result<(), Trouble> {
+pub fn is_match(line: Line, out: &mut Answer) -> Result<(), Trouble> {
     let pattern = text(line, 1)?;
     let name = text(line, 2)?;
-    put_yes(matches(pattern.as_str(), name.as_str()), out)
+    put_yes(matches(pattern.as_str(), name.as_str()), out);
+    Ok(())
 }
 
 /// Whether the list bars the name.
-pub fn bars(line: Line, out: &mut String) -> Result<(), Trouble> {
+pub fn bars(line: Line, out: &mut Answer) -> Result<(), Trouble> {
     let name = text(line, 1)?;
     let taboo = taboo(line, 2)?;
-    put_yes(taboo.bars(name.as_str()), out)
+    put_yes(taboo.bars(name.as_str()), out);
+    Ok(())
 }
 
 /// The extensions and the patterns of the list.
-pub fn changed(line: Line, out: &mut String) -> Result<(), Trouble> {
+pub fn changed(line: Line, out: &mut Answer) -> Result<(), Trouble> {
     let taboo = taboo(line, 1)?;
-    put_all(taboo.extensions.as_slice(), out)?;
-    out.push_str(" and")?;
-    put_all(taboo.patterns.as_slice(), out)
+    put_all(taboo.extensions.as_slice(), out);
+    out.put(" and");
+    put_all(taboo.patterns.as_slice(), out);
+    Ok(())
 }

@@ -2,6 +2,7 @@
 ghost use Rattle.std.specs.Prelude.{◌≡◌, ◌<◌, ◌^◌, [], length, IfOk};
 ghost use Rattle.lr_conf.specs.Fold.{entered};
 
+use crate::answer::Answer;
 use crate::lex::{put_lex_fault, text_at};
 use crate::rule::{put_conf_fault, put_notices, put_rules};
 use lr_conf::{Layer, LayerStop};
@@ -11,64 +12,64 @@ use lr_line::{Line, Trouble};
 use lr_rules::{ConfKind, Notice, Path, Rules};
 use std::alloc::Global;
 
-fn put_stop(stop: LayerStop, out: &mut String) -> Result<(), Trouble> {
+fn put_stop(stop: LayerStop, out: &mut Answer) {
     match stop {
         LayerStop::Conf(line, kind) => put_conf_fault(line, kind, out),
         LayerStop::NoBraceAnd(first, line, kind) => {
-            put_conf_fault(first, ConfKind::NoBrace, out)?;
+            put_conf_fault(first, ConfKind::NoBrace, out);
             put_conf_fault(line, kind, out)
         }
         // The file isn't read.
         LayerStop::NoBraceThen(first, _) => put_conf_fault(first, ConfKind::NoBrace, out),
-        LayerStop::Memory => Err(Trouble::Memory),
+        LayerStop::Memory => out.starve(),
     }
 }
 
 // Takes an item in, and tells its faults.
-fn take(layer: &mut Layer, item: Item, out: &mut String) -> Result<(), Trouble>
+fn take(layer: &mut Layer, item: Item, out: &mut Answer)
     requires { 0 < length (entered layer.old) }
     ensures { entered layer.new ≡ entered layer.old }
 {
     match layer.take(item) {
-        Ok(_) => Ok(()),
+        Ok(_) => {}
         Err(stop) => put_stop(stop, out),
     }
 }
 
 // Takes a fault of the lexer in, and tells it.
-fn spoil(layer: &mut Layer, fault: LexFault, out: &mut String) -> Result<(), Trouble>
+fn spoil(layer: &mut Layer, fault: LexFault, out: &mut Answer)
     requires { 0 < length (entered layer.old) }
     ensures { entered layer.new ≡ entered layer.old }
 {
     if let LexKind::Memory = fault.kind {
-        return Err(Trouble::Memory);
+        return out.starve();
     }
     layer.spoil(fault.line);
     put_lex_fault(fault, out)
 }
 
 // Takes the items in, up to 64.
-fn take_all(lexer: &mut Lexer, layer: &mut Layer, out: &mut String) -> Result<(), Trouble>
+fn take_all(lexer: &mut Lexer, layer: &mut Layer, out: &mut Answer) -> Result<(), Trouble>
     requires { 0 < length (entered layer.old) }
     ensures { entered layer.new ≡ entered layer.old }
 {
     for _ in 0..64 {
         match lexer.next() {
-            Ok(Some(item)) => take(layer, item, out)?,
+            Ok(Some(item)) => take(layer, item, out),
             Ok(None) => return Ok(()),
-            Err(fault) => spoil(layer, fault, out)?,
+            Err(fault) => spoil(layer, fault, out),
         }
     }
     Err(Trouble::Odd("a text has too many lines"))
 }
 
-fn close(layer: &mut Layer, out: &mut String) -> Result<(), Trouble>
+fn close(layer: &mut Layer, out: &mut Answer)
     requires { 0 < length (entered layer.old) }
     ensures { entered layer.new ≡ entered layer.old }
 {
     match layer.close_file() {
         Some((line, kind)) => put_conf_fault(line, kind, out),
-        None => Ok(()),
+        None => {}
     }
 }
 
@@ -78,7 +79,7 @@ fn read(
     layer: &mut Layer,
     name: &[u8],
     text: &[u8],
-    out: &mut String,
+    out: &mut Answer,
 ) -> Result<(), Trouble>
     requires files { entered layer.old ≡ [] }
     requires size { length text.now < 2 ^ 32 }
@@ -87,13 +88,13 @@ fn read(
     layer.enter(Path::new(alloc, name)?);
     let mut lexer = Lexer::new(alloc, text);
     take_all(&mut lexer, layer, out)?;
-    close(layer, out)?;
+    close(layer, out);
     layer.leave();
     Ok(())
 }
 
 // The faults of the first text, as of `/c`.
-fn read_one(line: Line, layer: &mut Layer, out: &mut String) -> Result<(), Trouble>
+fn read_one(line: Line, layer: &mut Layer, out: &mut Answer) -> Result<(), Trouble>
     requires { entered layer.old ≡ [] }
     ensures { IfOk result (λ _. entered layer.new ≡ []) }
 {
@@ -101,7 +102,7 @@ fn read_one(line: Line, layer: &mut Layer, out: &mut String) -> Result<(), Troub
 }
 
 // Those, and of the second text, where there is one, as of `/d`.
-fn read_both(line: Line, layer: &mut Layer, out: &mut String) -> Result<(), Trouble>
+fn read_both(line: Line, layer: &mut Layer, out: &mut Answer) -> Result<(), Trouble>
     requires { entered layer.old ≡ [] }
 {
     read_one(line, layer, out)?;
@@ -115,7 +116,7 @@ fn read_both(line: Line, layer: &mut Layer, out: &mut String) -> Result<(), Trou
 pub fn read_texts(
     line: Line,
     built: Built,
-    out: &mut String,
+    out: &mut Answer,
 ) -> Result<(Rules, Vec<Notice>), Trouble> {
     let mut layer = Layer::new(line.alloc, built)?;
     match read_both(line, &mut layer, out) {
@@ -127,13 +128,14 @@ pub fn read_texts(
     }
 }
 
-fn put_both(rules: &Rules, notices: &[Notice], out: &mut String) -> Result<(), Trouble> {
-    put_notices(notices, out)?;
+fn put_both(rules: &Rules, notices: &[Notice], out: &mut Answer) {
+    put_notices(notices, out);
     put_rules(rules, out)
 }
 
 /// The faults of the files, then their notices, then their rules.
-pub fn layer(line: Line, out: &mut String) -> Result<(), Trouble> {
+pub fn layer(line: Line, out: &mut Answer) -> Result<(), Trouble> {
     let (rules, notices) = read_texts(line, Built::SoFar, out)?;
-    put_both(&rules, &notices, out)
+    put_both(&rules, &notices, out);
+    Ok(())
 }

@@ -1,6 +1,7 @@
 // Items and faults of configuration texts.
 ghost use Rattle.std.specs.Prelude.{◌<◌, ◌^◌, length, IfOk};
 
+use crate::answer::Answer;
 use crate::streamed::put_unlike;
 use crate::values::put_bytes;
 use lr_lex::{Item, LexFault, LexKind, Lexer, Word};
@@ -18,60 +19,68 @@ pub fn text_at(line: Line, at: usize) -> Result<&[u8], Trouble>
     Ok(text)
 }
 
-fn put_word(word: &Word, out: &mut String) -> Result<(), Trouble> {
+fn put_word(word: &Word, out: &mut Answer) {
     let text = word.text.as_str();
     let at = word.at;
     let len = word.len;
-    Ok(write!(out, " [{text}]@{at}+{len}")?)
+    out.put(" [");
+    out.put(text);
+    out.put("]@");
+    out.put_number(at as u64);
+    out.put("+");
+    out.put_number(len as u64);
 }
 
-fn put_words(words: &[Word], out: &mut String) -> Result<(), Trouble> {
+fn put_words(words: &[Word], out: &mut Answer) {
     for word in words {
-        put_word(word, out)?;
+        put_word(word, out);
     }
-    Ok(())
 }
 
-fn put_flag(is_so: bool, name: &str, out: &mut String) -> Result<(), Trouble> {
+fn put_flag(is_so: bool, name: &str, out: &mut Answer) {
     if is_so {
-        out.push_str(" ")?;
-        out.push_str(name)?;
+        out.put(" ");
+        out.put(name);
     }
-    Ok(())
 }
 
-fn put_script(text: &[u8], out: &mut String) -> Result<(), Trouble> {
-    out.push_str(" <")?;
-    put_bytes(text, out)?;
-    Ok(out.push_str(">")?)
+fn put_script(text: &[u8], out: &mut Answer) {
+    out.put(" <");
+    put_bytes(text, out);
+    out.put(">")
 }
 
-fn put_flags(names: bool, brace: bool, stray: bool, out: &mut String) -> Result<(), Trouble> {
-    put_flag(names, "names", out)?;
-    put_flag(brace, "brace", out)?;
+fn put_flags(names: bool, brace: bool, stray: bool, out: &mut Answer) {
+    put_flag(names, "names", out);
+    put_flag(brace, "brace", out);
     put_flag(stray, "stray", out)
 }
 
-fn put_line(line: u32, words: &[Word], out: &mut String) -> Result<(), Trouble> {
-    write!(out, "{line} line")?;
+fn put_line(line: u32, words: &[Word], out: &mut Answer) {
+    out.put_number(u64::from(line));
+    out.put(" line");
     put_words(words, out)
 }
 
-fn put_front(line: u32, word: &Word, out: &mut String) -> Result<(), Trouble> {
-    write!(out, "{line} script")?;
+fn put_front(line: u32, word: &Word, out: &mut Answer) {
+    out.put_number(u64::from(line));
+    out.put(" script");
     put_word(word, out)
 }
 
 // The line or the script, without its flags.
-fn put_said(item: &Item, out: &mut String) -> Result<(), Trouble> {
+fn put_said(item: &Item, out: &mut Answer) {
     match item {
         Item::Line { words, line, .. } => put_line(*line, words.as_slice(), out),
-        Item::Close { line } => Ok(write!(out, "{line} close")?),
+        Item::Close { line } => {
+            out.put_number(u64::from(*line));
+            out.put(" close");
+        }
         Item::Script { word, line, .. } => put_front(*line, word, out),
     }
 }
 
-fn put_item_flags(item: &Item, out: &mut String) -> Result<(), Trouble> {
+fn put_item_flags(item: &Item, out: &mut Answer) {
     match item {
         Item::Line {
             names,
@@ -79,23 +88,23 @@ fn put_item_flags(item: &Item, out: &mut String) -> Result<(), Trouble> {
             stray,
             ..
         } => put_flags(*names, *brace, *stray, out),
-        Item::Close { .. } => Ok(()),
+        Item::Close { .. } => {}
         Item::Script { brace, stray, .. } => put_flags(false, *brace, *stray, out),
     }
 }
 
-fn put_text_of(item: &Item, out: &mut String) -> Result<(), Trouble> {
+fn put_text_of(item: &Item, out: &mut Answer) {
     match item {
         Item::Script { text, .. } => put_script(text.bytes(), out),
-        _ => Ok(()),
+        _ => {}
     }
 }
 
-pub fn put_item(item: &Item, out: &mut String) -> Result<(), Trouble> {
-    put_said(item, out)?;
-    put_item_flags(item, out)?;
-    put_text_of(item, out)?;
-    Ok(out.push_str(";")?)
+pub fn put_item(item: &Item, out: &mut Answer) {
+    put_said(item, out);
+    put_item_flags(item, out);
+    put_text_of(item, out);
+    out.put(";")
 }
 
 fn kind_name(kind: LexKind) -> &'static str {
@@ -108,42 +117,50 @@ fn kind_name(kind: LexKind) -> &'static str {
     }
 }
 
-pub fn put_lex_fault(fault: LexFault, out: &mut String) -> Result<(), Trouble> {
+pub fn put_lex_fault(fault: LexFault, out: &mut Answer) {
     let LexFault { line, kind } = fault;
     let name = kind_name(kind);
-    Ok(write!(out, "{line} {name};")?)
+    out.put_number(u64::from(line));
+    out.put(" ");
+    out.put(name);
+    out.put(";");
 }
 
 // The end stays the end; whether it came.
-fn put_end(lexer: &mut Lexer, out: &mut String) -> Result<bool, Trouble> {
+fn put_end(lexer: &mut Lexer, out: &mut Answer) -> bool {
     match lexer.next() {
         Ok(None) => {}
-        _ => out.push_str("went on")?,
+        _ => out.put("went on"),
     }
-    Ok(true)
+    true
+}
+
+fn put_all_of(item: Item, out: &mut Answer) {
+    put_item(&item, out);
+    drop(item)
 }
 
 // What comes next; whether that is the end.
-fn put_next(lexer: &mut Lexer, out: &mut String) -> Result<bool, Trouble> {
+fn put_next(lexer: &mut Lexer, out: &mut Answer) -> bool {
     match lexer.next() {
-        Ok(Some(item)) => put_item(&item, out)?,
+        Ok(Some(item)) => put_all_of(item, out),
         Ok(None) => return put_end(lexer, out),
-        Err(fault) => put_lex_fault(fault, out)?,
+        Err(fault) => put_lex_fault(fault, out),
     }
-    Ok(false)
+    false
 }
 
 // What comes up to the end, 64 items and faults at most.
-fn put_items(lexer: &mut Lexer, out: &mut String) -> Result<(), Trouble> {
+fn put_items(lexer: &mut Lexer, out: &mut Answer) {
     for _ in 0..64 {
-        if put_next(lexer, out)? {
-            return Ok(());
+        if put_next(lexer, out) {
+            return;
         }
     }
-    Ok(out.push_str("and more")?)
+    out.put("and more")
 }
 
-fn put_text(alloc: Global, text: &[u8], out: &mut String) -> Result<(), Trouble>
+fn put_text(alloc: Global, text: &[u8], out: &mut Answer)
     requires { length text.now < 2 ^ 32 }
 {
     let mut lexer = Lexer::new(alloc, text);
@@ -151,18 +168,19 @@ fn put_text(alloc: Global, text: &[u8], out: &mut String) -> Result<(), Trouble>
 }
 
 // What the text tells, and what it tells in pieces where that is something else.
-fn put_either(alloc: Global, text: &[u8], out: &mut String) -> Result<(), Trouble>
+fn put_either(alloc: Global, text: &[u8], out: &mut Answer)
     requires { length text.now < 2 ^ 32 }
 {
-    let mut whole = String::new(alloc);
-    put_text(alloc, text, &mut whole)?;
-    out.push_str(whole.as_str())?;
-    put_unlike(alloc, text, 1, whole.as_str(), out)?;
-    put_unlike(alloc, text, 7, whole.as_str(), out)?;
-    put_unlike(alloc, text, 65_536, whole.as_str(), out)
+    let mut whole = Answer::new(alloc);
+    put_text(alloc, text, &mut whole);
+    out.put_answer(&whole);
+    put_unlike(alloc, text, 1, &whole, out);
+    put_unlike(alloc, text, 7, &whole, out);
+    put_unlike(alloc, text, 65_536, &whole, out)
 }
 
 /// The items and faults of the text, each followed by a semicolon: whole, and in pieces of 1, 7 and 65,536 bytes.
-pub fn lex(line: Line, out: &mut String) -> Result<(), Trouble> {
-    put_either(line.alloc, text_at(line, 1)?, out)
+pub fn lex(line: Line, out: &mut Answer) -> Result<(), Trouble> {
+    put_either(line.alloc, text_at(line, 1)?, out);
+    Ok(())
 }

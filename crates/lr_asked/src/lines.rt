@@ -1,4 +1,5 @@
 // What one line of a configuration says by itself.
+use crate::answer::Answer;
 use crate::kinds::conf_kind_name;
 use crate::lex::text_at;
 use crate::setting::{put_pieces, put_taboo};
@@ -11,27 +12,33 @@ use lr_words::TabooItems;
 
 // ---- what is set
 
-fn put_number(name: &str, number: u64, out: &mut String) -> Result<(), Trouble> {
-    Ok(write!(out, "{name} {number}")?)
+fn put_number(name: &str, number: u64, out: &mut Answer) {
+    out.put(name);
+    out.put(" ");
+    out.put_number(number);
 }
 
-fn put_flag(name: &str, is_so: bool, out: &mut String) -> Result<(), Trouble> {
+fn put_flag(name: &str, is_so: bool, out: &mut Answer) {
     let said = if is_so { "yes" } else { "no" };
-    Ok(write!(out, "{name} {said}")?)
+    out.put(name);
+    out.put(" ");
+    out.put(said);
 }
 
-fn put_named(name: &str, value: &str, out: &mut String) -> Result<(), Trouble> {
-    Ok(write!(out, "{name} {value}")?)
+fn put_named(name: &str, value: &str, out: &mut Answer) {
+    out.put(name);
+    out.put(" ");
+    out.put(value);
 }
 
-fn put_maybe(name: &str, text: &Option<Text>, out: &mut String) -> Result<(), Trouble> {
+fn put_maybe(name: &str, text: &Option<Text>, out: &mut Answer) {
     match text {
         Some(text) => put_named(name, text.as_str(), out),
         None => put_named(name, "none", out),
     }
 }
 
-pub fn put_criterion(criterion: Criterion, out: &mut String) -> Result<(), Trouble> {
+pub fn put_criterion(criterion: Criterion, out: &mut Answer) {
     match criterion {
         Criterion::Hourly => put_named("criterion", "hourly", out),
         Criterion::Daily => put_named("criterion", "daily", out),
@@ -42,7 +49,7 @@ pub fn put_criterion(criterion: Criterion, out: &mut String) -> Result<(), Troub
     }
 }
 
-fn put_count(count: Count, out: &mut String) -> Result<(), Trouble> {
+fn put_count(count: Count, out: &mut Answer) {
     match count {
         Count::Keep(count) => put_number("count", u64::from(count), out),
         Count::Always => put_named("count", "all", out),
@@ -50,7 +57,7 @@ fn put_count(count: Count, out: &mut String) -> Result<(), Trouble> {
 }
 
 // A mode stands in decimal.
-pub fn put_make(name: &str, make: Make, out: &mut String) -> Result<(), Trouble> {
+pub fn put_make(name: &str, make: Make, out: &mut Answer) {
     match make {
         Make::No => put_named(name, "no", out),
         Make::Yes(None) => put_named(name, "yes", out),
@@ -58,7 +65,7 @@ pub fn put_make(name: &str, make: Make, out: &mut String) -> Result<(), Trouble>
     }
 }
 
-pub fn put_way(name: &str, way: Way, out: &mut String) -> Result<(), Trouble> {
+pub fn put_way(name: &str, way: Way, out: &mut Answer) {
     match way {
         Way::Rename => put_named(name, "rename", out),
         Way::Copy => put_named(name, "copy", out),
@@ -66,7 +73,7 @@ pub fn put_way(name: &str, way: Way, out: &mut String) -> Result<(), Trouble> {
     }
 }
 
-fn put_back(back: Back, out: &mut String) -> Result<(), Trouble> {
+fn put_back(back: Back, out: &mut Answer) {
     match back {
         Back::Now => put_named("back", "now", out),
         Back::Yesterday => put_named("back", "yesterday", out),
@@ -74,12 +81,12 @@ fn put_back(back: Back, out: &mut String) -> Result<(), Trouble> {
     }
 }
 
-pub fn put_format(pieces: &[Piece], out: &mut String) -> Result<(), Trouble> {
-    out.push_str("format ")?;
+pub fn put_format(pieces: &[Piece], out: &mut Answer) {
+    out.put("format ");
     put_pieces(pieces, out)
 }
 
-fn put_set(set: &Set, out: &mut String) -> Result<(), Trouble> {
+fn put_set(set: &Set, out: &mut Answer) {
     match set {
         Set::Criterion(criterion) => put_criterion(*criterion, out),
         Set::Count(count) => put_count(*count, out),
@@ -122,34 +129,38 @@ pub fn phase_name(phase: Phase) -> &'static str {
     }
 }
 
-fn put_script(phase: Phase, text: &Text, stray: bool, out: &mut String) -> Result<(), Trouble> {
+fn put_script(phase: Phase, text: &Text, stray: bool, out: &mut Answer) {
     let name = phase_name(phase);
     let text = text.as_str();
     let more = if stray { ", stray" } else { "" };
-    Ok(write!(out, "script {name}{more}: {text}")?)
+    out.put("script ");
+    out.put(name);
+    out.put(more);
+    out.put(": ");
+    out.put(text);
 }
 
-fn put_owner(set: &Set, out: &mut String) -> Result<(), Trouble> {
-    put_set(set, out)?;
-    Ok(out.push_str(", owner passed over")?)
+fn put_owner(set: &Set, out: &mut Answer) {
+    put_set(set, out);
+    out.put(", owner passed over")
 }
 
-fn put_names(names: &[Text], out: &mut String) -> Result<(), Trouble> {
-    out.push_str("names")?;
+fn put_names(names: &[Text], out: &mut Answer) {
+    out.put("names");
     put_all(names, out)
 }
 
-fn put_barred(patterns: bool, items: &TabooItems, out: &mut String) -> Result<(), Trouble> {
-    out.push_str(if patterns { "patterns: " } else { "endings: " })?;
+fn put_barred(patterns: bool, items: &TabooItems, out: &mut Answer) {
+    out.put(if patterns { "patterns: " } else { "endings: " });
     put_taboo(items, out)
 }
 
-fn put_kind(name: &str, kind: ConfKind, out: &mut String) -> Result<(), Trouble> {
-    out.push_str(name)?;
-    Ok(out.push_str(conf_kind_name(kind))?)
+fn put_kind(name: &str, kind: ConfKind, out: &mut Answer) {
+    out.put(name);
+    out.put(conf_kind_name(kind))
 }
 
-fn put_said(said: &Said, out: &mut String) -> Result<(), Trouble> {
+fn put_said(said: &Said, out: &mut Answer) {
     match said {
         Said::Sets(set) => put_set(set, out),
         Said::OwnerPassed(set) => put_owner(set, out),
@@ -196,9 +207,11 @@ fn item_of(line: Line) -> Result<Item, Trouble> {
 }
 
 /// What the first line of the text says, in this place.
-pub fn one_line(line: Line, out: &mut String) -> Result<(), Trouble> {
+pub fn one_line(line: Line, out: &mut Answer) -> Result<(), Trouble> {
     let (inside, built) = place_of(line.word(1)?)?;
     let item = item_of(line)?;
     let said = say(line.alloc, item, inside, built)?;
-    put_said(&said, out)
+    put_said(&said, out);
+    drop(said);
+    Ok(())
 }

@@ -6,6 +6,7 @@
 //! refused, and how is printed.
 #![tactic(auto)]
 
+mod answer;
 mod ask;
 mod built;
 mod chain;

@@ -2,6 +2,7 @@
 // stamp stands for numbers.
 ghost use Rattle.std.specs.Prelude.{◌≤◌};
 
+use crate::answer::Answer;
 use crate::values::put_yes;
 use lr_family::{Family, apart, are_kin};
 use lr_line::{Line, Trouble};
@@ -79,16 +80,25 @@ fn log(line: Line, at: usize) -> Result<Family, Trouble>
     }
 }
 
-/// Whether the two logs are apart.
-pub fn are_apart(line: Line, out: &mut String) -> Result<(), Trouble> {
-    let one = log(line, 1)?;
+fn put_apart(line: Line, one: &Family, out: &mut Answer) -> Result<(), Trouble> {
     let other = log(line, 6)?;
-    put_yes(apart(&one, &other), out)
+    put_yes(apart(one, &other), out);
+    drop(other);
+    Ok(())
+}
+
+/// Whether the two logs are apart.
+pub fn are_apart(line: Line, out: &mut Answer) -> Result<(), Trouble> {
+    let one = log(line, 1)?;
+    let put = put_apart(line, &one, out);
+    drop(one);
+    put
 }
 
 /// Whether the log meets the path that is the last word.
-pub fn meets(line: Line, out: &mut String) -> Result<(), Trouble> {
+pub fn meets(line: Line, out: &mut Answer) -> Result<(), Trouble> {
     let path = line.path(6)?;
     let log = log(line, 1)?;
-    put_yes(log.meets(&path), out)
+    put_yes(log.meets(&path), out);
+    Ok(())
 }

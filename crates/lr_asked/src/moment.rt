@@ -1,4 +1,5 @@
 // Civil moments, as `2024-1-14-0:5:0`.
+use crate::answer::Answer;
 use lr_line::{Line, Trouble, number};
 use lr_rules::Civil;
 
@@ -46,7 +47,7 @@ pub fn moment_at(line: Line, at: usize) -> Result<Civil, Trouble> {
     }
 }
 
-pub fn put_moment(civil: &Civil, out: &mut String) -> Result<(), Trouble> {
+pub fn put_moment(civil: &Civil, out: &mut Answer) {
     let Civil {
         year,
         month,
@@ -56,13 +57,24 @@ pub fn put_moment(civil: &Civil, out: &mut String) -> Result<(), Trouble> {
         second,
         ..
     } = *civil;
-    Ok(write!(out, "{year}-{month}-{day}-{hour}:{minute}:{second}")?)
+    out.put_signed(i64::from(year));
+    out.put("-");
+    out.put_number(u64::from(month));
+    out.put("-");
+    out.put_number(u64::from(day));
+    out.put("-");
+    out.put_number(u64::from(hour));
+    out.put(":");
+    out.put_number(u64::from(minute));
+    out.put(":");
+    out.put_number(u64::from(second));
 }
 
 /// The civil seconds of the moment since 1970, or `none` where there is no such moment.
-pub fn seconds(line: Line, out: &mut String) -> Result<(), Trouble> {
+pub fn seconds(line: Line, out: &mut Answer) -> Result<(), Trouble> {
     match moment(line.word(1)?)? {
-        Some(civil) => Ok(write!(out, "{}", civil.seconds())?),
-        None => Ok(out.push_str("none")?),
+        Some(civil) => out.put_signed(civil.seconds()),
+        None => out.put("none"),
     }
+    Ok(())
 }

@@ -1,6 +1,7 @@
 // Names of members, and their places.
 ghost use Rattle.std.specs.Prelude.{◌≡◌, None};
 
+use crate::answer::Answer;
 use crate::family::{family, naming};
 use crate::values::put_yes;
 use lr_family::{Family, NameStop, Place, are_kin, name_is_read_back, path_is_named_again};
@@ -8,43 +9,48 @@ use lr_line::{Line, Trouble};
 use lr_rules::Path;
 
 /// Whether the log and the naming make a family.
-pub fn kin(line: Line, out: &mut String) -> Result<(), Trouble> {
+pub fn kin(line: Line, out: &mut Answer) -> Result<(), Trouble> {
     let log = line.path(1)?;
     let naming = naming(line)?;
-    put_yes(are_kin(&log, &naming), out)
+    put_yes(are_kin(&log, &naming), out);
+    Ok(())
 }
 
-fn put_name(made: Result<Path, NameStop>, out: &mut String) -> Result<(), Trouble> {
+fn put_name(made: Result<Path, NameStop>, out: &mut Answer) {
     match made {
-        Ok(path) => Ok(out.push_str(path.as_str())?),
-        Err(NameStop::TooHigh) => Ok(out.push_str("TooHigh")?),
-        Err(NameStop::Memory) => Err(Trouble::Memory),
+        Ok(path) => out.put(path.as_str()),
+        Err(NameStop::TooHigh) => out.put("TooHigh"),
+        Err(NameStop::Memory) => out.starve(),
     }
 }
 
 /// The path at the place that is the last word.
-pub fn name(line: Line, out: &mut String) -> Result<(), Trouble> {
+pub fn name(line: Line, out: &mut Answer) -> Result<(), Trouble> {
     let place = line.small(6)?;
     let family = family(line)?;
-    put_name(family.name_at(line.alloc, place), out)
+    put_name(family.name_at(line.alloc, place), out);
+    Ok(())
 }
 
-fn put_place(place: Option<Place>, out: &mut String) -> Result<(), Trouble> {
+fn put_place(place: Option<Place>, out: &mut Answer) {
     match place {
-        Some(Place::Number(place)) => Ok(write!(out, "{place}")?),
-        Some(Place::Stamp(_)) => Ok(out.push_str("a stamp")?),
-        None => Ok(out.push_str("none")?),
+        Some(Place::Number(place)) => {
+            out.put_number(u64::from(place));
+        }
+        Some(Place::Stamp(_)) => out.put("a stamp"),
+        None => out.put("none"),
     }
 }
 
 /// The place of the path that is the last word.
-pub fn place(line: Line, out: &mut String) -> Result<(), Trouble> {
+pub fn place(line: Line, out: &mut Answer) -> Result<(), Trouble> {
     let path = line.path(6)?;
     let family = family(line)?;
-    put_place(family.place_of(&path), out)
+    put_place(family.place_of(&path), out);
+    Ok(())
 }
 
-fn put_read_back(line: Line, family: &Family, place: u32, out: &mut String) -> Result<(), Trouble>
+fn put_read_back(line: Line, family: &Family, place: u32, out: &mut Answer)
     requires { family.now.naming.dated ≡ None }
 {
     match name_is_read_back(line.alloc, family, place) {
@@ -54,30 +60,27 @@ fn put_read_back(line: Line, family: &Family, place: u32, out: &mut String) -> R
 }
 
 /// The place that is read from the name of the place that is the last word.
-pub fn read_back(line: Line, out: &mut String) -> Result<(), Trouble> {
+pub fn read_back(line: Line, out: &mut Answer) -> Result<(), Trouble> {
     let place = line.small(6)?;
     let family = family(line)?;
-    put_read_back(line, &family, place, out)
+    put_read_back(line, &family, place, out);
+    Ok(())
 }
 
-fn put_named_again(
-    line: Line,
-    family: &Family,
-    path: &Path,
-    out: &mut String,
-) -> Result<(), Trouble>
+fn put_named_again(line: Line, family: &Family, path: &Path, out: &mut Answer)
     requires { family.now.naming.dated ≡ None }
 {
     match path_is_named_again(line.alloc, family, path) {
         Ok(Some(path)) => put_name(Ok(path), out),
-        Ok(None) => Ok(out.push_str("none")?),
+        Ok(None) => out.put("none"),
         Err(stop) => put_name(Err(stop), out),
     }
 }
 
 /// The name of the place of the path that is the last word.
-pub fn named_again(line: Line, out: &mut String) -> Result<(), Trouble> {
+pub fn named_again(line: Line, out: &mut Answer) -> Result<(), Trouble> {
     let path = line.path(6)?;
     let family = family(line)?;
-    put_named_again(line, &family, &path, out)
+    put_named_again(line, &family, &path, out);
+    Ok(())
 }

@@ -4,6 +4,7 @@ ghost use Rattle.std.specs.Str.{is_utf8};
 ghost use Rattle.lr_rules.specs.Path.{has_bad_byte};
 ghost use Rattle.lr_state.specs.Table.{is_name};
 
+use crate::answer::Answer;
 use crate::kinds::state_kind_name;
 use crate::moment::{moment_at, put_moment};
 use crate::values::put_bytes;
@@ -11,22 +12,23 @@ use lr_line::{Line, Trouble};
 use lr_rules::Civil;
 use lr_state::{Reader, State, StateStop, first_line};
 
-fn put_lines(state: &State, out: &mut String) -> Result<(), Trouble> {
+fn put_lines(state: &State, out: &mut Answer) {
     let mut room = [0u8; 8448];
     for k in 0..state.len() {
         let count = state.line(k, &mut room);
-        put_bytes(room.get(..count).unwrap_or(b""), out)?;
+        put_bytes(room.get(..count).unwrap_or(b""), out);
     }
-    Ok(())
 }
 
-fn put_stop(stop: StateStop, out: &mut String) -> Result<(), Trouble> {
+fn put_stop(stop: StateStop, out: &mut Answer) {
     match stop {
         StateStop::Bad(line, kind) => {
             let name = state_kind_name(kind);
-            Ok(write!(out, "{line}: {name}")?)
+            out.put_number(u64::from(line));
+            out.put(": ");
+            out.put(name);
         }
-        StateStop::Memory => Err(Trouble::Memory),
+        StateStop::Memory => out.starve(),
     }
 }
 
@@ -39,7 +41,7 @@ fn text_from(line: Line, at: usize) -> Result<Vec<u8>, Trouble> {
     Ok(text)
 }
 
-fn put_read(read: Result<State, StateStop>, out: &mut String) -> Result<(), Trouble> {
+fn put_read(read: Result<State, StateStop>, out: &mut Answer) {
     match read {
         Ok(state) => put_lines(&state, out),
         Err(stop) => put_stop(stop, out),
@@ -47,9 +49,10 @@ fn put_read(read: Result<State, StateStop>, out: &mut String) -> Result<(), Trou
 }
 
 /// The lines of the text's table, or its first fault.
-pub fn state(line: Line, out: &mut String) -> Result<(), Trouble> {
+pub fn state(line: Line, out: &mut Answer) -> Result<(), Trouble> {
     let text = text_from(line, 1)?;
-    put_read(State::read(line.alloc, &text), out)
+    put_read(State::read(line.alloc, &text), out);
+    Ok(())
 }
 
 fn give_all(reader: &mut Reader, text: &[u8], size: usize) -> Result<(), Trouble> {
@@ -70,11 +73,12 @@ fn reader_of(line: Line, text: &[u8], size: usize) -> Result<Reader, Trouble> {
 }
 
 /// The same of a text that comes in pieces of so many bytes.
-pub fn pieces(line: Line, out: &mut String) -> Result<(), Trouble> {
+pub fn pieces(line: Line, out: &mut Answer) -> Result<(), Trouble> {
     let size = line.small(1)?;
     let text = text_from(line, 2)?;
     let reader = reader_of(line, &text, size as usize)?;
-    put_read(reader.finish(), out)
+    put_read(reader.finish(), out);
+    Ok(())
 }
 
 // The table of the text from this place on.
@@ -86,18 +90,19 @@ fn read_from(line: Line, at: usize) -> Result<State, Trouble> {
     }
 }
 
-fn put_moment_of(state: &State, name: &[u8], out: &mut String) -> Result<(), Trouble> {
+fn put_moment_of(state: &State, name: &[u8], out: &mut Answer) {
     match state.get(name) {
         Some(civil) => put_moment(&civil, out),
-        None => Ok(out.push_str("none")?),
+        None => out.put("none"),
     }
 }
 
 /// The moment of the name in the table of the text, or `none`.
-pub fn moment(line: Line, out: &mut String) -> Result<(), Trouble> {
+pub fn moment(line: Line, out: &mut Answer) -> Result<(), Trouble> {
     let name = line.word(1)?;
     let state = read_from(line, 2)?;
-    put_moment_of(&state, name, out)
+    put_moment_of(&state, name, out);
+    Ok(())
 }
 
 fn has_bad_byte(name: &[u8]) -> bool
@@ -142,20 +147,20 @@ fn set_all(state: &mut State, line: Line) -> Result<(), Trouble> {
 }
 
 // The whole text of the table, which is as long as the table says.
-fn put_whole(state: &State, out: &mut String) -> Result<(), Trouble> {
-    put_bytes(first_line(), out)?;
-    put_lines(state, out)?;
-    if out.len() as u64 != state.text_len() {
-        out.push_str("another length")?;
+fn put_whole(state: &State, out: &mut Answer) {
+    put_bytes(first_line(), out);
+    put_lines(state, out);
+    if out.text().len() as u64 != state.text_len() {
+        out.put("another length");
     }
-    Ok(())
 }
 
 /// What is written for a table in which each name was set to the moment behind it, one after another.
-pub fn set(line: Line, out: &mut String) -> Result<(), Trouble> {
+pub fn set(line: Line, out: &mut Answer) -> Result<(), Trouble> {
     let mut state = State::new(line.alloc);
     set_all(&mut state, line)?;
-    put_whole(&state, out)
+    put_whole(&state, out);
+    Ok(())
 }
 
 fn purge_all(state: &mut State, used: &[u8], now: &Civil) {
@@ -163,10 +168,11 @@ fn purge_all(state: &mut State, used: &[u8], now: &Civil) {
 }
 
 /// The lines of the text's table, behind the purge at the moment, where only the name is used.
-pub fn purge(line: Line, out: &mut String) -> Result<(), Trouble> {
+pub fn purge(line: Line, out: &mut Answer) -> Result<(), Trouble> {
     let used = line.word(1)?;
     let now = moment_at(line, 2)?;
     let mut state = read_from(line, 3)?;
     purge_all(&mut state, used, &now);
-    put_lines(&state, out)
+    put_lines(&state, out);
+    Ok(())
 }

@@ -2,13 +2,14 @@
 ghost use Rattle.std.specs.Prelude.{◌≡◌, ◌<◌, ◌≤◌, ◌+◌, ◌^◌, false, length};
 ghost use Rattle.lr_stream.specs.Streams.{Stands, given};
 
+use crate::answer::Answer;
 use crate::lex::{put_item, put_lex_fault};
 use lr_line::Trouble;
 use lr_stream::Stream;
 use std::alloc::Global;
 
 // What is whole so far, 64 items and faults at most.
-fn put_whole(stream: &mut Stream, out: &mut String) -> Result<(), Trouble>
+fn put_whole(stream: &mut Stream, out: &mut Answer)
     requires { Stands stream.old }
     ensures stands { Stands stream.new }
     ensures closed { stream.new.closed ≡ stream.old.closed }
@@ -16,15 +17,15 @@ fn put_whole(stream: &mut Stream, out: &mut String) -> Result<(), Trouble>
 {
     for _ in 0..64 {
         match stream.next() {
-            Ok(Some(item)) => put_item(&item, out)?,
-            Ok(None) => return Ok(()),
-            Err(fault) => put_lex_fault(fault, out)?,
+            Ok(Some(item)) => put_item(&item, out),
+            Ok(None) => return,
+            Err(fault) => put_lex_fault(fault, out),
         }
     }
-    Ok(out.push_str("and more")?)
+    out.put("and more")
 }
 
-fn put_piece(stream: &mut Stream, piece: &[u8], out: &mut String) -> Result<(), Trouble>
+fn put_piece(stream: &mut Stream, piece: &[u8], out: &mut Answer) -> Result<(), Trouble>
     requires stands { Stands stream.old }
     requires open { stream.old.closed ≡ false }
     requires few { given stream.old + length piece.now < 2 ^ 32 }
@@ -33,7 +34,8 @@ fn put_piece(stream: &mut Stream, piece: &[u8], out: &mut String) -> Result<(), 
     ensures given { given stream.new ≤ given stream.old + length piece.now }
 {
     stream.give(piece)?;
-    put_whole(stream, out)
+    put_whole(stream, out);
+    Ok(())
 }
 
 // Gives all pieces, and closes the stream.
@@ -41,7 +43,7 @@ fn put_pieces(
     stream: &mut Stream,
     text: &[u8],
     size: usize,
-    out: &mut String,
+    out: &mut Answer,
 ) -> Result<(), Trouble>
     requires stands { Stands stream.old }
     requires open { stream.old.closed ≡ false }
@@ -55,25 +57,29 @@ fn put_pieces(
         rest = behind;
     }
     stream.close();
-    put_whole(stream, out)
+    put_whole(stream, out);
+    Ok(())
+}
+
+fn put_other(size: usize, told: &Answer, whole: &Answer, out: &mut Answer) {
+    if told.text() == whole.text() && told.is_whole() {
+        return;
+    }
+    out.put(" in pieces of ");
+    out.put_number(size as u64);
+    out.put(": ");
+    out.put_answer(told)
 }
 
 /// Puts what the text tells in pieces of so many bytes, where that is something else.
-pub fn put_unlike(
-    alloc: Global,
-    text: &[u8],
-    size: usize,
-    whole: &str,
-    out: &mut String,
-) -> Result<(), Trouble>
+pub fn put_unlike(alloc: Global, text: &[u8], size: usize, whole: &Answer, out: &mut Answer)
     requires few { length text.now < 2 ^ 32 }
     requires some { 0 < size }
 {
-    let mut told = String::new(alloc);
+    let mut told = Answer::new(alloc);
     let mut stream = Stream::new(alloc);
-    put_pieces(&mut stream, text, size, &mut told)?;
-    if told.as_str() == whole {
-        return Ok(());
+    if put_pieces(&mut stream, text, size, &mut told).is_err() {
+        told.starve();
     }
-    Ok(write!(out, " in pieces of {size}: {told}")?)
+    put_other(size, &told, whole, out)
 }

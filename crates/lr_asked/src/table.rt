@@ -1,4 +1,5 @@
 // The lines of a table: notes, texts with a name, and calls.
+use crate::answer::Answer;
 use crate::ask::answer;
 use lr_line::{Line, Trouble, put_quoted, words_of};
 use std::alloc::{AllocError, Global};
@@ -108,7 +109,11 @@ fn put_both(into: &mut Vec<u8>, found: &[u8], wanted: &[u8]) -> Result<(), Alloc
     put_quoted(into, wanted)
 }
 
-fn compared(alloc: Global, found: &[u8], wanted: &[u8]) -> Result<Came, Trouble> {
+fn compared(alloc: Global, found: &Answer, wanted: &[u8]) -> Result<Came, Trouble> {
+    if !found.is_whole() {
+        return Err(Trouble::Memory);
+    }
+    let found = found.text().as_bytes();
     if found == wanted {
         return Ok(Came::Right);
     }
@@ -129,9 +134,9 @@ fn asked(alloc: Global, words: &[Vec<u8>]) -> Result<Came, Trouble> {
         alloc,
         words: front,
     };
-    let mut found = String::new(alloc);
+    let mut found = Answer::new(alloc);
     answer(line, &mut found)?;
-    compared(alloc, found.as_bytes(), wanted)
+    compared(alloc, &found, wanted)
 }
 
 fn is_note(line: &[u8]) -> bool {

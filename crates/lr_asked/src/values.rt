@@ -1,24 +1,24 @@
 // Values as answers have them.
-use lr_line::Trouble;
+use crate::answer::Answer;
 use lr_rules::Text;
 
-pub fn put_yes(is_so: bool, out: &mut String) -> Result<(), Trouble> {
-    Ok(out.push_str(if is_so { "yes" } else { "no" })?)
+pub fn put_yes(is_so: bool, out: &mut Answer) {
+    out.put(if is_so { "yes" } else { "no" })
 }
 
 /// Each text behind a space.
-pub fn put_all(texts: &[Text], out: &mut String) -> Result<(), Trouble> {
+pub fn put_all(texts: &[Text], out: &mut Answer) {
     for text in texts {
         let text = text.as_str();
-        write!(out, " {text}")?;
+        out.put(" ");
+        out.put(text);
     }
-    Ok(())
 }
 
 /// The bytes of a text.
-pub fn put_bytes(bytes: &[u8], out: &mut String) -> Result<(), Trouble> {
+pub fn put_bytes(bytes: &[u8], out: &mut Answer) {
     match str::from_utf8(bytes) {
-        Ok(text) => Ok(out.push_str(text)?),
-        Err(_) => Ok(out.push_str("no text")?),
+        Ok(text) => out.put(text),
+        Err(_) => out.put("no text"),
     }
 }

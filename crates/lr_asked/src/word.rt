@@ -1,6 +1,7 @@
 // The words of directives.
 ghost use Rattle.std.specs.Prelude.{◌≡◌, ◌<◌};
 
+use crate::answer::Answer;
 use crate::values::put_bytes;
 use lr_line::{Line, Trouble};
 use lr_rules::Steps;
@@ -19,12 +20,13 @@ fn row_at<L: Ledger>(word: &[u8], blank: Blank) -> Option<usize>
 }
 
 /// The number of the row that has the word, counted from 0.
-pub fn place(line: Line, out: &mut String) -> Result<(), Trouble> {
+pub fn place(line: Line, out: &mut Answer) -> Result<(), Trouble> {
     let place = row_at::<Brand>(line.word(1)?, Blank::new(1));
     match place {
-        Some(place) => Ok(write!(out, "{place}")?),
-        None => Ok(out.push_str("none")?),
+        Some(place) => out.put_number(place as u64),
+        None => out.put("none"),
     }
+    Ok(())
 }
 
 // The directives that the table of rows asks for.
@@ -46,25 +48,35 @@ fn name_of(directive: Directive) -> &'static str {
     }
 }
 
-fn put_undone(undone: Option<Directive>, out: &mut String) -> Result<(), Trouble> {
+fn put_undone(undone: Option<Directive>, out: &mut Answer) {
     match undone {
-        Some(undone) => Ok(write!(out, " undoes {}", name_of(undone))?),
-        None => Ok(()),
+        Some(undone) => {
+            out.put(" undoes ");
+            out.put(name_of(undone));
+        }
+        None => {}
     }
 }
 
-fn put_row(row: &Row, out: &mut String) -> Result<(), Trouble> {
-    put_bytes(row.word, out)?;
-    write!(out, " {}", name_of(row.directive))?;
+fn put_row(row: &Row, out: &mut Answer) {
+    put_bytes(row.word, out);
+    out.put(" ");
+    out.put(name_of(row.directive));
     put_undone(row.undoes, out)
 }
 
 /// The row with this number: its word, its directive, and the directive that it undoes; `none` behind the last.
-pub fn row(line: Line, out: &mut String) -> Result<(), Trouble> {
+pub fn row(line: Line, out: &mut Answer) -> Result<(), Trouble> {
     let place = line.small(1)? as usize;
     let rows = directives().rows;
     match rows.get(place) {
-        Some(row) => put_row(row, out),
-        None => Ok(out.push_str("none")?),
+        Some(row) => {
+            put_row(row, out);
+            Ok(())
+        }
+        None => {
+            out.put("none");
+            Ok(())
+        }
     }
 }
