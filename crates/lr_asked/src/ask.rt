@@ -2,7 +2,7 @@
 use crate::answer::Answer;
 use crate::{
     built, chain, choosing, clock, copied, due, glob, layer, lex, lines, meeting, moment, name,
-    naming, path, report, setting, state, word,
+    naming, path, report, setting, stamps, state, word,
 };
 use lr_line::{Line, Trouble};
 
@@ -42,6 +42,9 @@ enum Ask {
     ReadBack,
     NamedAgain,
     Named,
+    Stamp,
+    SerialStamp,
+    Dated,
     Apart,
     Meets,
     Rotation,
@@ -56,7 +59,7 @@ enum Ask {
 }
 
 // Each call with its name, and how many words stand behind that, at least and at most.
-static ASKS: [(&str, Ask, usize, usize); 45] = [
+static ASKS: [(&str, Ask, usize, usize); 48] = [
     ("path", Ask::Path, 1, 1),
     ("word", Ask::Word, 2, 2),
     ("parent", Ask::Parent, 1, 1),
@@ -91,6 +94,9 @@ static ASKS: [(&str, Ask, usize, usize); 45] = [
     ("read-back", Ask::ReadBack, 6, 6),
     ("named-again", Ask::NamedAgain, 6, 6),
     ("named", Ask::Named, 2, 2),
+    ("stamp", Ask::Stamp, 3, 3),
+    ("serial-stamp", Ask::SerialStamp, 3, 3),
+    ("dated", Ask::Dated, 5, 5),
     ("apart", Ask::Apart, 10, 10),
     ("meets", Ask::Meets, 6, 6),
     ("rotation", Ask::Rotation, 7, 99),
@@ -135,6 +141,9 @@ fn answer_of_runs(ask: Ask, line: Line, out: &mut Answer) -> Result<(), Trouble>
         Ask::ReadBack => name::read_back(line, out),
         Ask::NamedAgain => name::named_again(line, out),
         Ask::Named => naming::named(line, out),
+        Ask::Stamp => stamps::stamp(line, out),
+        Ask::SerialStamp => stamps::serial_stamp(line, out),
+        Ask::Dated => stamps::dated(line, out),
         Ask::Apart => meeting::are_apart(line, out),
         Ask::Meets => meeting::meets(line, out),
         Ask::Rotation => chain::rotation(line, out),

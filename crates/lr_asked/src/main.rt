@@ -30,6 +30,7 @@ mod report;
 mod rule;
 mod setting;
 mod sheet;
+mod stamps;
 mod state;
 mod streamed;
 mod table;

@@ -33,17 +33,24 @@ fn add_pieces(stamp: &[u8], pieces: &mut Vec<Piece>) -> Result<(), Trouble> {
     Ok(())
 }
 
+fn pieces(line: Line, stamp: &[u8]) -> Result<Listed<Piece>, Trouble> {
+    let mut pieces = Vec::new(line.alloc);
+    add_pieces(stamp, &mut pieces)?;
+    Ok(Listed::from_vec(pieces))
+}
+
+// A stamp; one that ends with `%n` has serial numbers.
 fn format(line: Line, at: usize) -> Result<Option<Format>, Trouble> {
     let stamp = line.word(at)?;
     if stamp.is_empty() {
         return Ok(None);
     }
-    let mut pieces = Vec::new(line.alloc);
-    add_pieces(stamp, &mut pieces)?;
+    let serial = stamp.ends_with(b"%n");
+    let pieces = pieces(line, stamp.strip_suffix(b"%n").unwrap_or(stamp))?;
     Ok(Some(Format {
-        pieces: Listed::from_vec(pieces),
+        pieces,
         back: Back::Now,
-        serial: false,
+        serial,
     }))
 }
 
