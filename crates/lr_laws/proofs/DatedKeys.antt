@@ -259,9 +259,12 @@ reads n f x k d is = first (is_right n f x (plain_parts n f x) 0) refl is
         let a = both (is_counted f (serial_in n x)) (is_right n f x (serial_parts n f x) (serial_in n x)) e in
         let c = both f.serial (nat_lt 0 (serial_in n x) && nat_lt (serial_in n x) 4294967296) a.0 in
         let h = both (nat_lt 0 (serial_in n x)) (nat_lt (serial_in n x) 4294967296) c.1 in
-        let below : serial_in n x < 4294967296 = (Decides-ltb (serial_in n x) 4294967296).0 h.1 in
-        (seconds_by f.pieces (serial_parts n f x), serial_in n x, sym (some (stamp_key (seconds_by f.pieces (serial_parts n f x)) (serial_in n x)) k q),
-         right_member n f x (serial_parts n f x) (serial_in n x) (λ g i. guess_rest f.pieces (front_bytes (middle_in n x)) least g i) d (inr (c.0, omega (arith, below))) a.1)
+        let below : serial_in n x < 4294967296 = (Decides-ltb (serial_in n x) 4294967296).0 h.1 in (
+          seconds_by f.pieces (serial_parts n f x),
+          serial_in n x,
+          sym (some (stamp_key (seconds_by f.pieces (serial_parts n f x)) (serial_in n x)) k q),
+          right_member n f x (serial_parts n f x) (serial_in n x) (λ g i. guess_rest f.pieces (front_bytes (middle_in n x)) least g i) d (inr (c.0, omega (arith, below))) a.1,
+        )
     second false e q = absurd (cc)
 
     first : (b : Bool) → is_right n f x (plain_parts n f x) 0 ≡ b → key_if b (stamp_key (seconds_by f.pieces (plain_parts n f x)) 0) (serial_key n f x (serial_parts n f x) (serial_in n x)) ≡ Some k → Keyed n k x

@@ -38,7 +38,7 @@ seen_makes rules t o m valid disk (is_told {j = j} {k = k} {es = es} made h) = r
   can = let saw : SawFile t.log (reverse es) = saw_one t.log (reverse es) h.1.log_seen in
       let at = moment IsAny (past j) (past k) (entry.Look t.log (Some saw.0)) es (since_any (past j) (past k) es made) made (still_in_order es (quiet_still (reverse es) h.0)) (from_reverse (entry.Look t.log (Some saw.0)) es saw.2) in
       directory_more (names (world at.at)) (names (world (past k))) (parent_of t.log) (quiet_more IsAny at.at (past k) at.until)
-          (log_dir t at.at valid (quiet_disk (past j) at.at at.since disk) (seen_file (world at.at) (names (world at.at) t.log) saw.0 at.fits saw.1));
+      (log_dir t at.at valid (quiet_disk (past j) at.at at.since disk) (seen_file (world at.at) (names (world at.at) t.log) saw.0 at.fits saw.1));
 }
 
 pub seen_fit : (rules : Rules) (ts : List Target) (o m : Option Journal) → HaveNames ts → HaveLogPaths ts → WhereTold o IsJournal → Left (λ us. AreQuiet us × AreSeen rules us ts) o m → AreFit m ts
