@@ -2,6 +2,7 @@
 -- before it in the order of kinds. What is built takes its line away here.
 use Rattle.std.specs.Prelude.{Bool, true, false}
 use Rattle.lr_rules.specs.declared.fault.Phase.{Phase}
+use Rattle.lr_rules.specs.declared.fault.Phase.TheVariants as phase
 use Rattle.lr_tables.specs.declared.directive.Directive.{Directive}
 use Rattle.lr_tables.specs.declared.directive.Directive.TheVariants as is
 use Rattle.lr_forms.specs.declared.built.Built.{Built}
@@ -10,12 +11,8 @@ use Rattle.lr_forms.specs.declared.built.Built.TheVariants as built
 -- ---- so far
 
 abbrev pub so_far_unbuilt : Directive → Bool
--- scripts
-so_far_unbuilt is.Firstaction = true
-so_far_unbuilt is.Lastaction = true
-so_far_unbuilt is.Postrotate = true
+-- a script
 so_far_unbuilt is.Preremove = true
-so_far_unbuilt is.Prerotate = true
 -- fields of a definition
 so_far_unbuilt is.Copy = true
 so_far_unbuilt is.Copytruncate = true
@@ -29,13 +26,14 @@ so_far_unbuilt is.Mail = true
 so_far_unbuilt is.Mailfirst = true
 so_far_unbuilt is.Maxage = true
 so_far_unbuilt is.Renamecopy = true
-so_far_unbuilt is.Sharedscripts = true
 -- all else is built
 so_far_unbuilt d = false
 
--- a script of this phase
+-- a script of this phase; a mail has none
 abbrev pub so_far_no_script : Phase → Bool
-so_far_no_script phase = true
+so_far_no_script phase.Preremove = true
+so_far_no_script phase.Mail = true
+so_far_no_script p = false
 
 -- ---- where all counts as built
 
@@ -51,5 +49,5 @@ is_unbuilt built.SoFar d = so_far_unbuilt d
 is_unbuilt built.All d = never_built d
 
 abbrev pub script_is_unbuilt : Built → Phase → Bool
-script_is_unbuilt built.SoFar phase = so_far_no_script phase
-script_is_unbuilt built.All phase = false
+script_is_unbuilt built.SoFar p = so_far_no_script p
+script_is_unbuilt built.All p = false

@@ -1,6 +1,7 @@
 -- What holds of whatever a line says.
 use Rattle.std.specs.Prelude.{◌≡◌, ◌≢◌, Bool, true, false, not, [], Option, Some, None}
 use Rattle.std.specs.List.{list_all}
+use Rattle.lr_rules.specs.declared.fault.Phase.TheVariants as phase
 use Rattle.lr_rules.specs.declared.rule.Back.TheVariants as back
 use Rattle.lr_rules.specs.declared.rule.Criterion.TheVariants as criterion
 use Rattle.lr_rules.specs.declared.rule.Make.TheVariants as make
@@ -43,7 +44,7 @@ said_meets s = true
 
 -- ---- so far
 
--- the word that sets this; none where no line by itself does
+-- the word that sets this, of a script the one before its text; none where no word does
 abbrev pub set_by : Set → Option Directive
 set_by (set.Criterion criterion.Hourly) = Some is.Hourly
 set_by (set.Criterion criterion.Daily) = Some is.Daily
@@ -87,13 +88,18 @@ set_by (set.Back back.Yesterday) = Some is.Dateyesterday
 set_by (set.Back back.HourAgo) = Some is.Datehourago
 set_by (set.Serial true) = Some is.Dateserial
 set_by (set.Serial false) = Some is.Nodateserial
+set_by (set.Script phase.First text) = Some is.Firstaction
+set_by (set.Script phase.Pre text) = Some is.Prerotate
+set_by (set.Script phase.Post text) = Some is.Postrotate
+set_by (set.Script phase.Last text) = Some is.Lastaction
+set_by (set.Script phase.Preremove text) = Some is.Preremove
 set_by v = None
 
 abbrev pub is_built_word : Option Directive → Bool
 is_built_word None = false
 is_built_word (Some d) = not (so_far_unbuilt d)
 
--- a line sets this so far
+-- lines set this so far
 abbrev pub is_so_far : Set → Bool
 is_so_far v = is_built_word (set_by v)
 

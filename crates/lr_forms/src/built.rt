@@ -24,16 +24,11 @@ fn so_far_unbuilt(directive: Directive) -> bool
         | Directive::Datehourago
         | Directive::Dateserial
         | Directive::Dateyesterday
-        | Directive::Firstaction
-        | Directive::Lastaction
         | Directive::Mail
         | Directive::Mailfirst
         | Directive::Maxage
-        | Directive::Postrotate
         | Directive::Preremove
-        | Directive::Prerotate
-        | Directive::Renamecopy
-        | Directive::Sharedscripts => true,
+        | Directive::Renamecopy => true,
         _ => false,
     }
 }
@@ -42,8 +37,9 @@ fn so_far_no_script(phase: Phase) -> bool
     ensures { result ≡ so_far_no_script phase }
 {
     match phase {
-        Phase::First | Phase::Pre | Phase::Post | Phase::Last | Phase::Preremove | Phase::Mail =>
-            true,
+        Phase::First | Phase::Pre | Phase::Post | Phase::Last => false,
+        // A mail has no script.
+        Phase::Preremove | Phase::Mail => true,
     }
 }
 
