@@ -253,10 +253,10 @@ behind_is (set.Back b) f = refl
 behind_is (set.Serial b) f = refl
 
 -- records with the same fields are the same
-abbrev pub scripts_made : Option (List ℕ) → Option (List ℕ) → Option (List ℕ) → Option (List ℕ) → Option (List ℕ) → Scripts
+abbrev scripts_made : Option (List ℕ) → Option (List ℕ) → Option (List ℕ) → Option (List ℕ) → Option (List ℕ) → Scripts
 scripts_made x0 x1 x2 x3 x4 = record { first = x0; pre = x1; post = x2; last = x3; preremove = x4 }
 
-pub same_scripts : {x0 y0 : Option (List ℕ)} {x1 y1 : Option (List ℕ)} {x2 y2 : Option (List ℕ)} {x3 y3 : Option (List ℕ)} {x4 y4 : Option (List ℕ)} → x0 ≡ y0 → x1 ≡ y1 → x2 ≡ y2 → x3 ≡ y3 → x4 ≡ y4
+same_scripts : {x0 y0 : Option (List ℕ)} {x1 y1 : Option (List ℕ)} {x2 y2 : Option (List ℕ)} {x3 y3 : Option (List ℕ)} {x4 y4 : Option (List ℕ)} → x0 ≡ y0 → x1 ≡ y1 → x2 ≡ y2 → x3 ≡ y3 → x4 ≡ y4
     → scripts_made x0 x1 x2 x3 x4 ≡ scripts_made y0 y1 y2 y3 y4
 same_scripts e0 e1 e2 e3 e4 = cc (e0, e1, e2, e3, e4)
 

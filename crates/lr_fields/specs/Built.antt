@@ -11,8 +11,7 @@ pub record IsBuiltRule (r : Rule) : Type 0 where
   pub way : r.way ≡ way.Rename
   pub mail : r.mail ≡ None
   pub mailfirst : r.mailfirst ≡ false
-  pub shared : r.shared ≡ false
-  pub scripts : r.scripts ≡ record { first = None; pre = None; post = None; last = None; preremove = None }
+  pub preremove : r.scripts.preremove ≡ None
   pub dated : r.dated ≡ None
 
 abbrev pub AreBuiltRules : List Rule → Type 0
