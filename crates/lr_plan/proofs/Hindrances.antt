@@ -1,6 +1,6 @@
 -- What is planned of one log, and of all.
-use Rattle.std.proofs.Common.{◌≡◌, ◌≢◌, ◌<◌, ◌+◌, ◌&&◌, ℕ, zero, suc, Bool, true, false, not, List, [], ◌∷◌, ◌++◌, length, take, get_or, Option, Some, None, Result, Ok, Err, refl, sym, ap, ◌∙◌, subst, arith, eq-eqb, append_assoc}
-use Rattle.std.specs.Prelude.{◌↔◌, if◌then◌else◌}
+use Rattle.std.proofs.Common.{◌≡◌, ◌≢◌, ◌<◌, ◌+◌, ◌&&◌, ℕ, zero, suc, Bool, true, false, List, [], ◌∷◌, ◌++◌, length, take, get_or, Option, Result, Ok, Err, refl, sym, ap, ◌∙◌, subst, arith, eq-eqb, append_assoc}
+use Rattle.std.specs.Prelude.{◌↔◌, OnOk, if◌then◌else◌}
 use Rattle.std.proofs.lemmas.List.{append-nil}
 use Rattle.std.proofs.lemmas.List.Folds.{list_any_at}
 use Rattle.lr_rules.specs.declared.path.Path.{Path}
@@ -15,7 +15,6 @@ use Rattle.lr_due.specs.declared.answer.Due.{Due}
 use Rattle.lr_family.specs.declared.stand.Member.{Member}
 use Rattle.lr_family.specs.Places.{IsPlaceOf, AreNamed}
 use Rattle.lr_family.specs.Stands.{number_in}
-use Rattle.lr_scripts.specs.declared.command.Command.{Command}
 use Rattle.lr_scripts.specs.declared.removal.Removal.{Removal}
 use Rattle.lr_chain.specs.declared.ready.Move.{Move}
 use Rattle.lr_chain.specs.declared.ready.Ready.{Ready}
@@ -24,13 +23,15 @@ use Rattle.lr_chain.specs.declared.ready.PrepareStop.TheVariants as prepare
 use Rattle.lr_chain.specs.Ready.{IsReady, IsMissing, IsTooHigh, is_highest, highest_path}
 use Rattle.lr_chain.proofs.Bounds.{none_too_high}
 use Rattle.lr_chain.proofs.Highest.{path_is}
-use Rattle.lr_plan.specs.declared.job.Job.{Job}
 use Rattle.lr_plan.specs.declared.looks.LogLook.{LogLook}
 use Rattle.lr_plan.specs.declared.looks.SetLooks.{SetLooks}
-use Rattle.lr_plan.specs.declared.planned.LogPlan.{LogPlan}
-use Rattle.lr_plan.specs.declared.planned.SetPlan.{SetPlan}
 use Rattle.lr_plan.specs.Internal.Hindered.{fault_of}
-use Rattle.lr_plan.specs.Planned.{script, where_so, keeps_all, is_too_high, hindrances, make_of, ready_for, log_plan, none_hinders, plans_of, decisions_of, log_plans, log_faults, set_plan, all_decisions, all_plans, all_faults, HasNoScripts, CanPlanSet, CanPlanAll}
+use Rattle.lr_plan.specs.Planned.{keeps_all, is_too_high, hindrances, make_of, ready_for, log_plan, none_hinders, plans_of, decisions_of, log_plans, log_faults, set_plan, all_decisions, all_plans, all_faults, CanPlanSet, CanPlanAll}
+
+-- where a call went well, what follows from what it ensures
+pub where_ok : {T E P Q : Type 0} (r : Result T E) → OnOk r P → (P → Q) → OnOk r Q
+where_ok (Ok t) p f = f p
+where_ok (Err e) p f = tt
 
 -- ---- one log
 
@@ -45,28 +46,6 @@ pub ready_is : (rule : Rule) (look : LogLook) (ready : Ready) → look.family.lo
     → ready ≡ ready_for rule look
 ready_is rule look ready e i = same_ready ready.leftovers _ ready.dir _ ready.moves _ ready.log _ ready.target _ ready.make _ ready.retire _
     i.leftovers_are i.no_dir i.moves_are (i.log_is ∙ e) i.target_is i.make_is i.retire_is
-
-abbrev set_made : Option Command → Option Command → Option Command → Option Command → Bool → List LogPlan → SetPlan
-set_made a b c d s l = record { first = a; pre = b; post = c; last = d; shared = s; logs = l }
-
-abbrev planned : Option Command → Option Command → Option Command → Ready → Option Job → LogPlan
-planned pre post mail ready job = record { pre = pre; post = post; first_mail = mail; ready = ready; job = job }
-
-same_plan : (p p' q q' m m' : Option Command) (r r' : Ready) (j j' : Option Job) → p ≡ p' → q ≡ q' → m ≡ m' → r ≡ r' → j ≡ j' → planned p q m r j ≡ planned p' q' m' r' j'
-same_plan p p' q q' m m' r r' j j' a b c d e = cc
-
-no_script : (b : Bool) (text : Option (List ℕ)) (args : List (List ℕ)) → text ≡ None → None ≡ where_so b (script text args)
-no_script b (Some text) args e = absurd (cc)
-no_script true None args e = refl
-no_script false None args e = refl
-
-one_script : (text : Option (List ℕ)) (args : List (List ℕ)) → text ≡ None → None ≡ script text args
-one_script (Some text) args e = absurd (cc)
-one_script None args e = refl
-
-pub plan_is : (rule : Rule) (look : LogLook) (ready : Ready) → HasNoScripts rule.scripts → look.family.log ≡ look.path → IsReady look.family.log look.family.naming rule.count (make_of rule.create look.seen) look.stand.members ready
-    → planned None None None ready None ≡ log_plan rule look
-plan_is rule look ready s e i = same_plan None _ None _ None None ready _ None None (no_script (not rule.shared) rule.scripts.pre _ s.pre) (no_script (not rule.shared) rule.scripts.post _ s.post) refl (ready_is rule look ready e i) refl
 
 -- nothing hinders
 abbrev by_high : Bool → Naming → List Fault
@@ -134,8 +113,8 @@ height_hinders rule look path named h =
     let k = highest_has rule look path named h in
     high_by look.stand.there (is_too_high rule look) look.family.naming h.0 k.0 ∙ ap (λ (x : Path). fault.TooHigh x ∷ []) k.1
 
-pub plans_there : (rule : Rule) (look : LogLook) (p : LogPlan) → hindrances rule look ≡ [] → p ≡ log_plan rule look → p ∷ [] ≡ plans_of rule look
-plans_there rule look p h e = ap (λ (x : LogPlan). x ∷ []) e ∙ ap (λ (fs : List Fault). none_hinders fs (log_plan rule look ∷ [])) (sym h)
+pub plans_there : (rule : Rule) (look : LogLook) → hindrances rule look ≡ [] → log_plan rule look ∷ [] ≡ plans_of rule look
+plans_there rule look h = ap (λ (fs : List Fault). none_hinders fs (log_plan rule look ∷ [])) (sym h)
 
 pub plans_none : (rule : Rule) (look : LogLook) (f : Fault) → hindrances rule look ≡ f ∷ [] → plans_of rule look ≡ []
 plans_none rule look f h = ap (λ (fs : List Fault). none_hinders fs (log_plan rule look ∷ [])) h
@@ -153,15 +132,6 @@ stop_hinders rule look r (prepare.TooHigh path) f named e is dir high taken =
 stop_hinders rule look r prepare.Memory f named e is dir high taken = absurd (cc)
 
 -- ---- all definitions
-
-pub set_is : (rule : Rule) (logs : List LogPlan) (set : SetPlan) → HasNoScripts rule.scripts → set.first ≡ None → set.pre ≡ None → set.post ≡ None → set.last ≡ None → set.shared ≡ rule.shared → set.logs ≡ logs
-    → set ≡ set_plan rule logs
-set_is rule logs set s a b c d e f = same_set set.first _ set.pre _ set.post _ set.last _ set.shared _ set.logs _
-    (a ∙ one_script rule.scripts.first _ s.first) (b ∙ no_script rule.shared rule.scripts.pre _ s.pre) (c ∙ no_script rule.shared rule.scripts.post _ s.post) (d ∙ one_script rule.scripts.last _ s.last) e f
-  where
-    same_set : (a a' b b' c c' d d' : Option Command) (s s' : Bool) (l l' : List LogPlan) → a ≡ a' → b ≡ b' → c ≡ c' → d ≡ d' → s ≡ s' → l ≡ l'
-        → set_made a b c d s l ≡ set_made a' b' c' d' s' l'
-    same_set a a' b b' c c' d d' s s' l l' e f g h i j = cc
 
 -- at each place a rule has its looks
 pub can_at : (rules : List Rule) (sets : List SetLooks) (at : ℕ) (rule : Rule) (set : SetLooks) → CanPlanAll rules sets → at < length rules → rule ≡ get_or rules at rule → set ≡ get_or sets at set → CanPlanSet rule set.logs

@@ -1,6 +1,6 @@
 -- The plan that the rules, what was seen of their logs, the table of the state, the moment of the run and `--force` make
 -- together.
-use Rattle.std.specs.Prelude.{◌≡◌, ◌≤◌, ◌&&◌, ℕ, Bool, true, false, not, List, [], ◌∷◌, ◌++◌, map, All, Option, Some, None, codes, if◌then◌else◌}
+use Rattle.std.specs.Prelude.{◌≡◌, ◌≤◌, ◌&&◌, Bool, true, false, not, List, [], ◌∷◌, ◌++◌, map, All, Some, None, if◌then◌else◌}
 use Rattle.std.specs.List.{flat_map, list_any}
 use Rattle.lr_rules.specs.declared.path.Path.{Path}
 use Rattle.lr_rules.specs.declared.civil.Moment.{Moment}
@@ -19,7 +19,7 @@ use Rattle.lr_due.specs.Due.{due_of}
 use Rattle.lr_state.specs.Table.{Entry, moment_of}
 use Rattle.lr_family.specs.Places.{AreNamed}
 use Rattle.lr_family.specs.Spots.{path_at}
-use Rattle.lr_scripts.specs.declared.command.Command.{Command}
+use Rattle.lr_commands.specs.Commands.{spaced, script, where_so}
 use Rattle.lr_chain.specs.declared.ready.Ready.{Ready}
 use Rattle.lr_chain.specs.Ready.{IsCount, at_rest, with_members, is_highest, highest_path}
 use Rattle.lr_chain.specs.Rotation.{places_of}
@@ -28,22 +28,6 @@ use Rattle.lr_plan.specs.declared.looks.SetLooks.{SetLooks}
 use Rattle.lr_plan.specs.declared.planned.LogPlan.{LogPlan}
 use Rattle.lr_plan.specs.declared.planned.SetPlan.{SetPlan}
 use Rattle.lr_plan.specs.declared.planned.Plan.{Plan}
-
--- ---- scripts
-
--- the words, with one space between
-abbrev pub spaced : List (List ℕ) → List ℕ
-spaced [] = []
-spaced (word ∷ []) = word
-spaced (word ∷ next ∷ words) = word ++ 32 ∷ spaced (next ∷ words)
-
--- a script as a shell runs it, with its arguments
-abbrev pub script : Option (List ℕ) → List (List ℕ) → Option Command
-script None args = None
-script (Some text) args = Some (record { program = codes "/bin/sh"; args = codes "-c" ∷ text ∷ codes "logrotate_script" ∷ args; input = None })
-
-abbrev pub where_so : Bool → Option Command → Option Command
-where_so b command = if b then command else None
 
 -- ---- one log
 
@@ -143,7 +127,7 @@ plan_of rules sets table now force = record {
 
 -- ---- what is asked of rules and looks
 
--- there are no scripts
+-- a rule runs no script
 pub record HasNoScripts (s : Scripts) : Type 0 where
   pub first : s.first ≡ None
   pub pre : s.pre ≡ None
@@ -158,10 +142,10 @@ pub record CanPlan (rule : Rule) (look : LogLook) : Type 0 where
   pub start : look.family.naming.start ≤ 999999
   pub named : AreNamed look.family.naming look.stand.members
 
--- So far: a rule without scripts, mail and copies, and its looks.
+-- So far: a rule without a preremove, mail and copies, and its looks.
 pub record CanPlanSet (rule : Rule) (looks : List LogLook) : Type 0 where
   pub count : IsCount rule.count
-  pub no_scripts : HasNoScripts rule.scripts
+  pub no_preremove : rule.scripts.preremove ≡ None
   pub each : All (CanPlan rule) looks
 
 -- So far: the same of all rules, of which each has its looks.

@@ -13,6 +13,7 @@
 //! ```
 #![tactic(auto)]
 
+mod commands;
 mod job;
 mod looks;
 mod mark;

@@ -3,13 +3,16 @@ ghost use Rattle.std.specs.Prelude.{◌≡◌, ◌++◌, ◌∷◌, [], OnOk, If
 ghost use Rattle.lr_rules.specs.declared.rule.Rule.{Rule};
 ghost use Rattle.lr_plan.specs.declared.looks.LogLook.{LogLook};
 ghost use Rattle.lr_plan.specs.Internal.Hindered.{fault_of};
-ghost use Rattle.lr_plan.specs.Planned.{decision, decisions_of, hindrances, plans_of, log_plans, log_faults, set_plan, where_due, all_decisions, all_plans, all_faults, plan_of, make_of, CanPlan, CanPlanSet, CanPlanAll, HasNoScripts};
+ghost use Rattle.lr_plan.specs.Planned.{decision, decisions_of, hindrances, plans_of, log_plans, log_faults, set_plan, where_due, all_decisions, all_plans, all_faults, plan_of, make_of, ready_for, log_plan, CanPlan, CanPlanSet, CanPlanAll};
 ghost use Rattle.lr_chain.specs.Ready.{IsCount};
+ghost use Rattle.lr_commands.specs.Commands.{spaced};
 
+use crate::commands::{outer_scripts, own_scripts, shared_scripts};
 use crate::looks::{LogLook, Looks, SetLooks};
 use crate::planned::{LogPlan, Plan, SetPlan};
 use crate::settings::Settings;
-use lr_chain::{PrepareStop, prepare};
+use lr_chain::{PrepareStop, Ready, prepare};
+use lr_commands::spaced;
 use lr_due::{Due, due};
 use lr_host::Seen;
 use lr_rules::{Clock, Fault, Listed, Make, Memory, Moment, Path, Rule, Rules};
@@ -47,6 +50,28 @@ fn made_with(create: Make, seen: &Seen) -> Make
     }
 }
 
+// Adds the plan of a log whose rotation is ready, with its own scripts.
+fn add_plan(
+    alloc: Global,
+    rule: &Rule,
+    look: &LogLook,
+    ready: Ready,
+    plans: &mut Vec<LogPlan>,
+) -> Result<(), Memory>
+    requires { ready ≡ ready_for rule.now look.now }
+    ensures { OnOk result (plans.new.items ≡ plans.old.items ++ log_plan rule.now look.now ∷ []) }
+{
+    let (pre, post) = own_scripts(alloc, rule, &look.path, &ready.target)?;
+    plans.push(LogPlan {
+        pre,
+        post,
+        first_mail: None,
+        ready,
+        job: None,
+    })?;
+    Ok(())
+}
+
 // Adds the plan of a log that is due, or what hinders it.
 fn add_due(
     alloc: Global,
@@ -56,23 +81,13 @@ fn add_due(
     faults: &mut Vec<Fault>,
 ) -> Result<(), Memory>
     requires count { IsCount rule.now.count }
-    requires no_scripts { HasNoScripts rule.now.scripts }
     requires look { CanPlan rule.now look.now }
     ensures plans { OnOk result (plans.new.items ≡ plans.old.items ++ plans_of rule.now look.now) }
     ensures faults { OnOk result (faults.new.items ≡ faults.old.items ++ hindrances rule.now look.now) }
 {
     let anew = made_with(rule.create, &look.seen);
     match prepare(alloc, &look.family, &look.stand, rule.count, anew) {
-        Ok(ready) => {
-            plans.push(LogPlan {
-                pre: None,
-                post: None,
-                first_mail: None,
-                ready,
-                job: None,
-            })?;
-            Ok(())
-        }
+        Ok(ready) => add_plan(alloc, rule, look, ready, plans),
         Err(stop) => {
             faults.push(hindrance(stop)?)?;
             Ok(())
@@ -90,7 +105,6 @@ fn add_look(
     faults: &mut Vec<Fault>,
 ) -> Result<(), Memory>
     requires count { IsCount rule.now.count }
-    requires no_scripts { HasNoScripts rule.now.scripts }
     requires look { CanPlan rule.now look.now }
     ensures plans { OnOk result (plans.new.items ≡ plans.old.items ++ where_due decided (plans_of rule.now look.now)) }
     ensures faults { OnOk result (faults.new.items ≡ faults.old.items ++ where_due decided (hindrances rule.now look.now)) }
@@ -142,6 +156,35 @@ fn plan_all(
     Ok(plans)
 }
 
+// The plan of a definition with these words and these logs.
+fn with_scripts(
+    alloc: Global,
+    rule: &Rule,
+    words: &[u8],
+    logs: Vec<LogPlan>,
+) -> Result<SetPlan, Memory>
+    requires { words.now ≡ spaced rule.now.words }
+    ensures { IfOk result (λ set. set ≡ set_plan rule.now logs.items) }
+{
+    let (pre, post) = shared_scripts(alloc, rule, words)?;
+    let (first, last) = outer_scripts(alloc, rule, words)?;
+    Ok(SetPlan {
+        first,
+        pre,
+        post,
+        last,
+        shared: rule.shared,
+        logs: Listed::from_vec(logs),
+    })
+}
+
+fn set_of(alloc: Global, rule: &Rule, logs: Vec<LogPlan>) -> Result<SetPlan, Memory>
+    ensures { IfOk result (λ set. set ≡ set_plan rule.now logs.items) }
+{
+    let words = spaced(alloc, rule.words.as_slice())?;
+    with_scripts(alloc, rule, words.bytes(), logs)
+}
+
 // The plan of a definition; adds what hinders some of its logs.
 fn plan_set(
     alloc: Global,
@@ -157,14 +200,7 @@ fn plan_set(
     ensures faults { OnOk result (faults.new.items ≡ faults.old.items ++ log_faults rule.now (decision state.now now.now force rule.now) looks.now) }
 {
     let logs = plan_all(alloc, rule, looks, state, now, force, faults)?;
-    Ok(SetPlan {
-        first: None,
-        pre: None,
-        post: None,
-        last: None,
-        shared: rule.shared,
-        logs: Listed::from_vec(logs),
-    })
+    set_of(alloc, rule, logs)
 }
 
 // What is planned so far.
@@ -226,7 +262,8 @@ fn plan_sets(
 }
 
 /// The plan of a run: whether each log that was looked at whole is due, what is done with those that are, and what
-/// hinders some. So far of logs that are rotated by rename, with numbers and without programs.
+/// hinders some. So far of logs that are rotated by rename, with numbers, and of which no file has a preremove or is
+/// mailed.
 pub fn plan(
     alloc: Global,
     rules: &Rules,

@@ -7,6 +7,7 @@ ghost use Rattle.lr_plan.specs.Steps.{input_of, on_of, program, removal, removal
 use crate::job::Job;
 use crate::step::Step;
 use lr_chain::{Move, Ready};
+use lr_commands::text_of;
 use lr_rules::{Listed, Make, Memory, Path, Phase, Text};
 use lr_scripts::{Command, Removal};
 use std::alloc::Global;
@@ -15,14 +16,8 @@ fn input_text(alloc: Global, input: Option<&Path>) -> Result<Text, Memory>
     ensures { IfOk result (λ text. text ≡ input_of (option_copied input.entry)) }
 {
     match input {
-        Some(path) => match Text::new(alloc, path.bytes()) {
-            Ok(text) => Ok(text),
-            Err(_) => Err(Memory),
-        },
-        None => match Text::new(alloc, b"") {
-            Ok(text) => Ok(text),
-            Err(_) => Err(Memory),
-        },
+        Some(path) => text_of(alloc, path.bytes()),
+        None => text_of(alloc, b""),
     }
 }
 
@@ -32,10 +27,7 @@ fn argument_text(alloc: Global, args: &[Text]) -> Result<Text, Memory>
     if 3 < args.len() {
         return Ok(args[3].copy(alloc)?);
     }
-    match Text::new(alloc, b"") {
-        Ok(text) => Ok(text),
-        Err(_) => Err(Memory),
-    }
+    text_of(alloc, b"")
 }
 
 // What the program is about, as its fault tells.

@@ -4,21 +4,23 @@ use Rattle.lr_rules.specs.declared.fault.Fault.{Fault}
 use Rattle.lr_rules.specs.declared.rule.Make.{Make}
 use Rattle.lr_chain.specs.Ready.{IsReady}
 use Rattle.lr_plan.specs.declared.planned.LogPlan.{LogPlan}
-use Rattle.lr_plan.proofs.Hindrances.{plan_is, ready_unhindered, plans_there, plans_none, stop_hinders}
+use Rattle.lr_plan.proofs.Hindrances.{where_ok, ready_is, ready_unhindered, plans_there, plans_none, stop_hinders}
 use Rattle.lr_plan.proofs.planning.add_due.Goals as goal
 
-pub returns-in_ok-push-in-Ok-clause-plans : goal.returns-in_ok-push-in-Ok-clause-plans
-returns-in_ok-push-in-Ok-clause-plans c =
-    c.in_ok-push-in-Ok.ensures.items ∙ ap (λ (xs : List LogPlan). c.args.plans.now.items ++ xs)
-    (plans_there c.args.rule.now c.args.look.now _
-    (ready_unhindered c.args.rule.now c.args.look.now c.prepare.result c.in-Ok.ready c.requires.look.named c.in-Ok.is c.prepare.ensures.no_dir c.prepare.ensures.too_high)
-    (plan_is c.args.rule.now c.args.look.now c.in-Ok.ready c.requires.no_scripts c.requires.look.log
-    (subst (λ (m : Make). IsReady c.args.look.now.family.log c.args.look.now.family.naming c.args.rule.now.count m c.args.look.now.stand.members c.in-Ok.ready) c.made_with-anew.ensures c.in-Ok.ensures.ready)))
+pub add_plan-requires : goal.add_plan-requires
+add_plan-requires c = ready_is c.args.rule.now c.args.look.now c.in-Ok.ready c.requires.look.log
+    (subst (λ (m : Make). IsReady c.args.look.now.family.log c.args.look.now.family.naming c.args.rule.now.count m c.args.look.now.stand.members c.in-Ok.ready) c.made_with-anew.ensures c.in-Ok.ensures.ready)
 
-pub returns-in_ok-push-in-Ok-clause-faults : goal.returns-in_ok-push-in-Ok-clause-faults
-returns-in_ok-push-in-Ok-clause-faults c =
-    sym (append-nil c.args.faults.now.items) ∙ ap (λ (xs : List Fault). c.args.faults.now.items ++ xs)
-    (sym (ready_unhindered c.args.rule.now c.args.look.now c.prepare.result c.in-Ok.ready c.requires.look.named c.in-Ok.is c.prepare.ensures.no_dir c.prepare.ensures.too_high))
+pub returns-in-Ok-clause-plans : goal.returns-in-Ok-clause-plans
+returns-in-Ok-clause-plans c = where_ok c.add_plan.result c.add_plan.ensures
+    (λ added. added ∙ ap (λ (xs : List LogPlan). c.args.plans.now.items ++ xs)
+    (plans_there c.args.rule.now c.args.look.now
+    (ready_unhindered c.args.rule.now c.args.look.now c.prepare.result c.in-Ok.ready c.requires.look.named c.in-Ok.is c.prepare.ensures.no_dir c.prepare.ensures.too_high)))
+
+pub returns-in-Ok-clause-faults : goal.returns-in-Ok-clause-faults
+returns-in-Ok-clause-faults c = where_ok c.add_plan.result c.add_plan.ensures
+    (λ added. sym (append-nil c.args.faults.now.items) ∙ ap (λ (xs : List Fault). c.args.faults.now.items ++ xs)
+    (sym (ready_unhindered c.args.rule.now c.args.look.now c.prepare.result c.in-Ok.ready c.requires.look.named c.in-Ok.is c.prepare.ensures.no_dir c.prepare.ensures.too_high)))
 
 pub returns-in_ok-push-in-Err-clause-plans : goal.returns-in_ok-push-in-Err-clause-plans
 returns-in_ok-push-in-Err-clause-plans c =
