@@ -1,18 +1,17 @@
 -- What no line can set so far has its default in each rule.
 use Rattle.std.proofs.Common.{◌≡◌, ℕ, true, false, List, [], ◌∷◌, Option, Some, None, refl, ap}
-use Rattle.std.specs.Prelude.{All}
 use Rattle.std.specs.List.{AllByRecursion as Each}
 use Rattle.std.proofs.lemmas.List.Elements.{All-from_recursion}
 use Rattle.lr_rules.specs.declared.path.Path.{Path}
+use Rattle.lr_rules.specs.declared.fault.Phase.TheVariants as phase
 use Rattle.lr_rules.specs.declared.rule.Make.TheVariants as make
 use Rattle.lr_rules.specs.declared.rule.Way.TheVariants as way
 use Rattle.lr_forms.specs.declared.built.Built.TheVariants as built
 use Rattle.lr_forms.specs.declared.set.Set.{Set}
 use Rattle.lr_forms.specs.declared.set.Set.TheVariants as set
 use Rattle.lr_fields.specs.Built.{IsBuiltRule, AreBuiltRules}
-use Rattle.lr_fields.specs.Fields.{fields_of, last_set, maxage_set, createolddir_set, mail_set, mailfirst_set, shared_set, first_set, pre_set, post_set, last_script_set, preremove_set, dated_set, way_of}
+use Rattle.lr_fields.specs.Fields.{fields_of, last_set, maxage_set, createolddir_set, mail_set, mailfirst_set, preremove_set, dated_set, way_of}
 use Rattle.lr_fields.specs.Rules.{format_of, rule_of}
-use Rattle.lr_fields.proofs.Settings.{same_scripts}
 use Rattle.lr_conf.specs.Meaning.{Line, meaning}
 use Rattle.lr_conf.proofs.Each.{Given}
 use Rattle.lr_conf.proofs.Plain.{S, N, walk}
@@ -37,34 +36,13 @@ mailfirst_given (set.MailFirst false) ok = refl
 mailfirst_given (set.MailFirst true) ok = let no = ok.0 in absurd (cc no)
 mailfirst_given v ok = tt
 
-shared_given : (v : Set) → S v → Given (λ b. b ≡ false) (shared_set v)
-shared_given (set.Shared false) ok = refl
-shared_given (set.Shared true) ok = let no = ok.0 in absurd (cc no)
-shared_given v ok = tt
-
 dated_given : (v : Set) → S v → Given (λ b. b ≡ false) (dated_set v)
 dated_given (set.Dated false) ok = refl
 dated_given (set.Dated true) ok = let no = ok.0 in absurd (cc no)
 dated_given v ok = tt
 
-first_given : (v : Set) → S v → Given (λ o. o ≡ None) (first_set v)
-first_given (set.Script p text) ok = let no = ok.0 in absurd (cc no)
-first_given v ok = tt
-
-pre_given : (v : Set) → S v → Given (λ o. o ≡ None) (pre_set v)
-pre_given (set.Script p text) ok = let no = ok.0 in absurd (cc no)
-pre_given v ok = tt
-
-post_given : (v : Set) → S v → Given (λ o. o ≡ None) (post_set v)
-post_given (set.Script p text) ok = let no = ok.0 in absurd (cc no)
-post_given v ok = tt
-
-last_script_given : (v : Set) → S v → Given (λ o. o ≡ None) (last_script_set v)
-last_script_given (set.Script p text) ok = let no = ok.0 in absurd (cc no)
-last_script_given v ok = tt
-
 preremove_given : (v : Set) → S v → Given (λ o. o ≡ None) (preremove_set v)
-preremove_given (set.Script p text) ok = let no = ok.0 in absurd (cc no)
+preremove_given (set.Script phase.Preremove text) ok = let no = ok.0 in absurd (cc no)
 preremove_given v ok = tt
 
 way_ok : (vs : List Set) → Each S vs → way_of vs ≡ way.Rename
@@ -85,8 +63,7 @@ rule_ok file at words vs n ok = record {
   way = way_ok vs ok;
   mail = unset mail_set None mail_given vs ok;
   mailfirst = unset mailfirst_set false mailfirst_given vs ok;
-  shared = unset shared_set false shared_given vs ok;
-  scripts = same_scripts (unset first_set None first_given vs ok) (unset pre_set None pre_given vs ok) (unset post_set None post_given vs ok) (unset last_script_set None last_script_given vs ok) (unset preremove_set None preremove_given vs ok);
+  preremove = unset preremove_set None preremove_given vs ok;
   dated = ap (λ b. format_of (record (fields_of vs) { dated = b })) (unset dated_set false dated_given vs ok);
 }
 

@@ -1,5 +1,5 @@
 -- Each rule has a word at least, and its words and its count are within their limits.
-use Rattle.std.proofs.Common.{◌≡◌, ℕ, Bool, true, false, cond, List, [], ◌∷◌, ◌++◌, Some, refl, arith}
+use Rattle.std.proofs.Common.{◌≡◌, ℕ, Bool, true, false, cond, List, [], ◌∷◌, ◌++◌, Some, None, refl, arith}
 use Rattle.std.specs.Prelude.{◌≢◌, All}
 use Rattle.std.specs.List.{AllByRecursion as Each, list_any, list_all}
 use Rattle.std.proofs.lemmas.Bool.{and_parts}
@@ -8,6 +8,7 @@ use Rattle.std.proofs.lemmas.Bool.Decides.{nat_tests}
 use Rattle.lr_rules.specs.declared.path.Path.{Path}
 use Rattle.lr_rules.specs.declared.fault.ConfKind.TheVariants as kind
 use Rattle.lr_rules.specs.declared.fault.Phase.{Phase}
+use Rattle.lr_rules.specs.declared.fault.Phase.TheVariants as phase
 use Rattle.lr_rules.specs.declared.rule.Count.{Count}
 use Rattle.lr_rules.specs.declared.rule.Count.TheVariants as count
 use Rattle.lr_rules.specs.declared.rule.Rule.{Rule}
@@ -17,6 +18,7 @@ use Rattle.lr_forms.specs.declared.set.Set.{Set}
 use Rattle.lr_forms.specs.declared.set.Set.TheVariants as set
 use Rattle.lr_forms.specs.declared.said.Said.{Said}
 use Rattle.lr_forms.specs.declared.said.Said.TheVariants as says
+use Rattle.lr_forms.specs.Built.{so_far_no_script}
 use Rattle.lr_forms.specs.Says.{said}
 use Rattle.lr_forms.specs.Limits.{set_meets, said_meets, is_so_far, IsSoFar}
 use Rattle.lr_forms.proofs.Limits.{said_fine}
@@ -49,12 +51,22 @@ line_ok (says.OwnerPassed v) so_far fine = (so_far, fine)
 line_ok (says.Names ws) so_far fine = (so_far, each_word ws fine)
 line_ok v so_far fine = tt
 
+-- a script is taken where its phase is built
 script_ok : (earlier : List Phase) (p : Phase) (text : List ℕ) (stray : Bool) → OkSaid S N (script_says (script_fault built.SoFar earlier p stray) p text)
-script_ok earlier p text stray = by (list_any (is_phase p) earlier)
+script_ok earlier p text stray = by p (list_any (is_phase p) earlier) stray
   where
-    by : (twice : Bool) → OkSaid S N (script_says (cond twice (Some kind.ScriptTwice) (Some kind.NotYet)) p text)
-    by true = tt
-    by false = tt
+    by : (p : Phase) (twice stray : Bool) → OkSaid S N (script_says (cond twice (Some kind.ScriptTwice) (cond (so_far_no_script p) (Some kind.NotYet) (cond stray (Some kind.Stray) None))) p text)
+    by p true stray = tt
+    by phase.Preremove false stray = tt
+    by phase.Mail false stray = tt
+    by phase.First false true = tt
+    by phase.First false false = (refl, refl)
+    by phase.Pre false true = tt
+    by phase.Pre false false = (refl, refl)
+    by phase.Post false true = tt
+    by phase.Post false false = (refl, refl)
+    by phase.Last false true = tt
+    by phase.Last false false = (refl, refl)
 
 more_front : (xs ys : List (List ℕ)) → (xs ≢ []) → (xs ++ ys) ≢ []
 more_front [] ys some = absurd (some refl)

@@ -34,6 +34,6 @@ mod stop;
 mod taboo;
 mod taking;
 
-pub use laws::{rules_are_built, rules_are_plain, rules_meet_limits};
+pub use laws::rules_of_lines;
 pub use layer::Layer;
 pub use stop::{Include, LayerStop};
