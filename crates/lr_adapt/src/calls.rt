@@ -210,15 +210,17 @@ fn add_args(command: &mut Command, args: &[Text]) -> io::Result<()> {
     Ok(())
 }
 
-// Without a file the program reads what this process does.
+// Without a file the program's input is empty: it doesn't read what this process may be given.
 fn give_input<R: Files<File = File>>(
     rt: &R,
     command: &mut Command,
     input: Option<&Path>,
 ) -> io::Result<()> {
-    if let Some(path) = input {
-        command.stdin(File::open(rt, path.as_str())?);
-    }
+    let file = match input {
+        Some(path) => File::open(rt, path.as_str())?,
+        None => File::open(rt, "/dev/null")?,
+    };
+    command.stdin(file);
     Ok(())
 }
 

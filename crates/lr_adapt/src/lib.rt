@@ -21,7 +21,7 @@
 //! | `unlink` | `unlink` |
 //! | `sync_file`, `sync_dir` | opens the file or the directory for reading, then `fsync` |
 //! | `make_dir` | `mkdir`, then `chmod` |
-//! | `run` | starts the program, with the environment, working directory and output of this one, and waits for its end |
+//! | `run` | starts the program, with the environment, working directory and output of this one, and waits for its end; without a file its input is empty (`/dev/null`) |
 //!
 //! The mode that a look tells is the permission bits, with those behind `u+s`, `g+s` and `+t`.
 #![tactic(auto)]
