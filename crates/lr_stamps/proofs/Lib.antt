@@ -5,6 +5,7 @@ pub mod Members
 pub mod Middles
 pub mod MomentLemmas
 pub mod Moments
+pub mod Naming
 pub mod Plain
 pub mod Readings
 pub mod Serials

@@ -1,20 +1,18 @@
 -- Stamps with serial numbers: a name has one stamp and one serial number.
-use Rattle.std.proofs.Common.{◌≡◌, ◌⊎◌, inl, inr, ⊎_elim, ℕ, zero, suc, ◌<◌, ◌≤◌, ◌+◌, ◌^◌, Bool, true, false, ◌||◌, List, [], ◌∷◌, ◌++◌, length, refl, sym, ap, ◌∙◌, subst, arith, append_assoc, append-nil, length-append, nat_eq, eqb-true, Option, Some, None, ℤ, pos, negsuc, ◌<ℤ◌, ◌≤ℤ◌}
+use Rattle.std.proofs.Common.{◌≡◌, ◌⊎◌, inl, inr, ⊎_elim, ℕ, zero, suc, ◌<◌, ◌≤◌, ◌+◌, Bool, true, false, ◌||◌, List, [], ◌∷◌, ◌++◌, length, refl, sym, ap, ◌∙◌, subst, arith, append_assoc, append-nil, length-append, nat_eq, eqb-true, Option, Some, None, ℤ}
 use Rattle.std.specs.Prelude.{◌↔◌, ◌≢◌, decimal}
 use Rattle.std.specs.List.{list_any}
-use Rattle.std.proofs.lemmas.Bool.{cases_lt, or_parts, or_from}
-use Rattle.std.proofs.lemmas.Int.{ints}
+use Rattle.std.proofs.lemmas.Bool.{or_from}
 use Rattle.std.proofs.lemmas.Fmt.{decimal_injective}
 use Rattle.std.proofs.lemmas.List.Elements.{All-head, All-tail, All-cons, All-append}
-use Rattle.lr_rules.specs.declared.rule.Field.{Field}
 use Rattle.lr_rules.specs.declared.rule.Field.TheVariants as field
 use Rattle.lr_rules.specs.declared.rule.Format.{Format}
 use Rattle.lr_rules.specs.declared.rule.Piece.{Piece}
 use Rattle.lr_rules.specs.declared.rule.Piece.TheVariants as piece
 use Rattle.lr_rules.specs.declared.stamp_parts.StampParts.{StampParts}
-use Rattle.lr_rules.specs.Names.{AreDigits, IsRun}
-use Rattle.lr_rules.specs.StampParts.{part, least}
-use Rattle.lr_rules.specs.Stamps.{field_text, stamp_text, is_in, bound}
+use Rattle.lr_rules.specs.Names.{AreDigits}
+use Rattle.lr_rules.specs.StampParts.{least}
+use Rattle.lr_rules.specs.Stamps.{stamp_text, is_in}
 use Rattle.lr_stamps.specs.Asked.{are_bytes, AreApart}
 use Rattle.lr_rules.specs.Moments.{IsStamp, seconds_by}
 use Rattle.lr_rules.specs.Dated.{serial_text, IsSerial, IsNumberedStamp}

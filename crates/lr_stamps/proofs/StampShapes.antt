@@ -1,5 +1,5 @@
 -- A dated member has a member's shape.
-use Rattle.std.proofs.Common.{◌≡◌, ◌∙◌, ◌⊎◌, inl, inr, ℕ, zero, suc, ◌+◌, ◌%◌, ◌/◌, ◌≤◌, ◌<◌, Bool, true, false, ◌||◌, refl, sym, ap, subst, arith, append_assoc, append-nil, List, [], ◌∷◌, ◌++◌, Some, ℤ}
+use Rattle.std.proofs.Common.{◌≡◌, ◌∙◌, inl, inr, ℕ, zero, suc, ◌+◌, ◌%◌, ◌/◌, ◌≤◌, ◌<◌, Bool, true, false, ◌||◌, refl, sym, ap, subst, arith, append_assoc, append-nil, List, [], ◌∷◌, ◌++◌, Some, ℤ}
 use Rattle.std.specs.Prelude.{decimal}
 use Rattle.std.proofs.lemmas.List.Elements.{All-cons, All-append}
 use Rattle.lr_rules.specs.declared.path.Path.{Path}

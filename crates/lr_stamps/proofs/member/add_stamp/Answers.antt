@@ -1,6 +1,5 @@
 use Rattle.std.proofs.Common.{◌≡◌, List, ℕ, ◌++◌, ◌∙◌, ap, append_assoc, Result, Ok, Err}
 use Rattle.std.specs.Prelude.{OnOk}
-use Rattle.lr_rules.specs.declared.civil.Moment.{Moment}
 use Rattle.lr_rules.specs.declared.rule.Piece.{Piece}
 use Rattle.lr_rules.specs.declared.stamp_parts.StampParts.{StampParts}
 use Rattle.lr_rules.specs.Stamps.{stamp_text}

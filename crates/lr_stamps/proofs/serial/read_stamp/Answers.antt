@@ -1,4 +1,4 @@
-use Rattle.std.proofs.Common.{◌≡◌, true, false, ◌∙◌, sym, subst, rules, FitsSigned, to_z, of_z, w64, ℤ, List, Some}
+use Rattle.std.proofs.Common.{◌≡◌, false, sym, subst, rules, FitsSigned, to_z, of_z, w64, ℤ, List, Some}
 use Rattle.std.specs.Prelude.{◌↔◌}
 use Rattle.std.proofs.lemmas.Int.{to_z-of_z}
 use Rattle.lr_rules.specs.declared.rule.Piece.{Piece}

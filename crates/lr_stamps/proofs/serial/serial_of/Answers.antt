@@ -1,4 +1,4 @@
-use Rattle.std.proofs.Common.{◌≡◌, ◌<◌, ◌≤◌, ℕ, ◌∙◌, sym, arith, decimal}
+use Rattle.std.proofs.Common.{◌≡◌, ◌∙◌, sym, arith}
 use Rattle.std.proofs.lemmas.Fmt.{decimal_injective}
 use Rattle.lr_stamps.proofs.serial.serial_of.Goals.{else-number-gt0-via-then-number-gt0+else-number-le4294967295, else-number-gt0-via-else-number-gt0}
 use Rattle.lr_stamps.proofs.serial.serial_of.Goals as goal

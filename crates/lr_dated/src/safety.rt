@@ -1,0 +1,34 @@
+// How the promise goes on over the entries of a dated rotation.
+ghost use Rattle.std.specs.Prelude.{◌≡◌, ℤ, Bool, false, List, Option};
+ghost use Rattle.lr_host.specs.declared.entry.Entry.{Entry};
+ghost use Rattle.lr_host.specs.declared.journal.Journal.{Journal};
+ghost use Rattle.lr_host.specs.World.{Past, world, names};
+ghost use Rattle.lr_host.specs.Opening.{IsJournal};
+ghost use Rattle.lr_host.specs.Told.{Made, Left};
+ghost use Rattle.lr_host.specs.Steps.{CanAll, Took};
+ghost use Rattle.lr_host.specs.Sets.{LogSet, Dated, order};
+ghost use Rattle.lr_host.specs.Runs.{has_begun};
+ghost use Rattle.lr_host.specs.Forward.{IsForward};
+ghost use Rattle.lr_host.specs.Safe.{IsSafe};
+ghost use Rattle.lr_host.specs.Steady.{NoneAttached};
+ghost use Rattle.lr_laws.specs.Rotation.{LogFits};
+ghost use Rattle.lr_laws.specs.Stays.{StaysSafe};
+ghost use Rattle.lr_dated.specs.Rotation.{IsDatedRotation};
+ghost use Rattle.lr_dated.specs.Stays.{RotatesDated};
+
+/// A dated set that is safe is safe behind the entries of one rotation to a member that none is later than, with entries
+/// aside and writers' entries between them, in a run that has begun no rotation of the set: the log, which is a file there,
+/// goes to that member, which names nothing; then those go that as many later ones follow as the count says, or that are
+/// too old; and the log is made anew. Of the entries aside nothing else is asked.
+pub fn dated_rotation_stays_safe()
+    ensures { (s : LogSet) (p q : Past) (newest : ℤ) (es : List Entry) → order s ≡ Dated → IsJournal p → IsSafe s p
+        → has_begun s p ≡ false → IsForward s p newest → Made p es q → LogFits s (names (world p)) es
+        → IsDatedRotation s p newest es → NoneAttached s q → IsSafe s q }
+{}
+
+/// Over calls that leave the change entries of a first part of these steps, each set is safe of which they are such a
+/// rotation.
+pub fn dated_steps_stay_safe()
+    ensures { (steps : List Entry) (ok : Bool) (before after : Option Journal) → Left (Took steps ok) before after
+        → CanAll before steps → StaysSafe (RotatesDated steps) before after }
+{}
