@@ -1,5 +1,5 @@
 -- What the calls of a run ask of rules, of those that are built.
-use Rattle.std.proofs.Common.{◌≡◌, true, List, [], ◌∷◌, All, ap, arith, rules}
+use Rattle.std.proofs.Common.{◌≡◌, true, List, [], ◌∷◌, All, arith, rules}
 use Rattle.std.specs.List.{list_all}
 use Rattle.std.proofs.lemmas.Bool.{and_parts}
 use Rattle.std.proofs.lemmas.Bool.Decides.{nat_tests}
@@ -10,7 +10,8 @@ use Rattle.lr_rules.specs.declared.rule.Rule.{Rule}
 use Rattle.lr_rules.specs.Limits.{is_log_word, is_criterion, is_count, meets_limits}
 use Rattle.lr_fields.specs.Built.{IsBuiltRule, AreBuiltRules}
 use Rattle.lr_chain.specs.Ready.{IsCount}
-use Rattle.lr_plan.specs.Planned.{HasNoScripts}
+use Rattle.lr_plan.specs.declared.looks.LogLook.{LogLook}
+use Rattle.lr_plan.specs.Planned.{CanPlan, CanPlanSet}
 use Rattle.lr_looks.specs.Asked.{CanAsk, CanAskAll}
 
 -- its logs can be asked for
@@ -26,16 +27,6 @@ asks_all (x ∷ xs) b limits =
     let both = and_parts (meets_limits x) (list_all meets_limits xs) limits in
     All-cons CanAsk x xs (can_ask x (All-head IsBuiltRule x xs b) both.0) (asks_all xs (All-tail IsBuiltRule x xs b) both.1)
 
--- it has no scripts
-pub no_script : (rule : Rule) → IsBuiltRule rule → HasNoScripts rule.scripts
-no_script rule b = record {
-  first = ap (λ s. s.first) b.scripts;
-  pre = ap (λ s. s.pre) b.scripts;
-  post = ap (λ s. s.post) b.scripts;
-  last = ap (λ s. s.last) b.scripts;
-  preremove = ap (λ s. s.preremove) b.scripts;
-}
-
 -- a rule within its limits has a count that a rotation can have
 small : (c : Count) → is_count c ≡ true → IsCount c
 small (count.Keep n) h = grind (arith, nat_tests)
@@ -46,3 +37,7 @@ small_count rule h =
     let behind_words = (and_parts (list_all is_log_word rule.words) _ h).1 in
     let behind_criterion = (and_parts (is_criterion rule.criterion) _ behind_words).1 in
     small rule.count (and_parts (is_count rule.count) _ behind_criterion).0
+
+-- its logs can be planned for, where each look can
+pub can_plan_set : (rule : Rule) (looks : List LogLook) → IsBuiltRule rule → meets_limits rule ≡ true → All (CanPlan rule) looks → CanPlanSet rule looks
+can_plan_set rule looks b limits each = record { count = small_count rule limits; no_preremove = b.preremove; each = each }

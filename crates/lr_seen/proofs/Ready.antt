@@ -11,7 +11,8 @@ use Rattle.lr_host.specs.declared.entry.Entry.{Entry}
 use Rattle.lr_plan.specs.declared.looks.LogLook.{LogLook}
 use Rattle.lr_plan.specs.declared.looks.SetLooks.{SetLooks}
 use Rattle.lr_plan.specs.declared.planned.LogPlan.{LogPlan}
-use Rattle.lr_plan.specs.Planned.{spaced, script, where_so, hindrances, log_plan, none_hinders, plans_of, where_due, log_plans, all_plans}
+use Rattle.lr_commands.specs.Commands.{spaced, script, where_so}
+use Rattle.lr_plan.specs.Planned.{hindrances, log_plan, none_hinders, plans_of, where_due, log_plans, all_plans}
 use Rattle.lr_looks.specs.Shown.{ShowsLooks}
 use Rattle.lr_rotations.specs.Target.{Target}
 use Rattle.lr_weave.specs.Fitting.{ReadsNothing, AsksNothing, AskNothing, ReadNoFiles}
