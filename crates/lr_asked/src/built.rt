@@ -1,11 +1,11 @@
 // What the lines of a configuration mean where all directives count as built.
 use crate::answer::Answer;
 use crate::layer::read_texts;
-use crate::lines::{phase_name, put_criterion, put_format, put_make, put_way};
-use crate::rule::{put_notices, put_words};
+use crate::lines::{put_criterion, put_format, put_make, put_way};
+use crate::rule::{put_notices, put_scripts, put_words};
 use lr_forms::Built;
 use lr_line::{Line, Trouble};
-use lr_rules::{Format, Notice, Phase, Rule, Rules, Text};
+use lr_rules::{Format, Notice, Rule, Rules};
 
 fn put_comma(out: &mut Answer) {
     out.put(", ")
@@ -25,21 +25,6 @@ fn put_dated(dated: &Option<Format>, out: &mut Answer) {
         }
         None => out.put("undated"),
     }
-}
-
-fn put_script(phase: Phase, text: &Option<Text>, out: &mut Answer) {
-    if text.is_none() {
-        return;
-    }
-    out.put(", script ");
-    out.put(phase_name(phase))
-}
-
-fn put_scripts(rule: &Rule, out: &mut Answer) {
-    put_script(Phase::First, &rule.scripts.first, out);
-    put_script(Phase::Pre, &rule.scripts.pre, out);
-    put_script(Phase::Post, &rule.scripts.post, out);
-    put_script(Phase::Last, &rule.scripts.last, out)
 }
 
 // Which files it makes, and how their names are stamped.

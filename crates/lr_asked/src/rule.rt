@@ -1,8 +1,9 @@
 // Rules and notices of configurations, as answers have them.
 use crate::answer::Answer;
 use crate::kinds::conf_kind_name;
+use crate::lines::phase_name;
 use crate::values::put_all;
-use lr_rules::{ConfKind, Count, Criterion, Make, Notice, Rule, Rules, Way};
+use lr_rules::{ConfKind, Count, Criterion, Make, Notice, Phase, Rule, Rules, Text, Way};
 
 fn put_count(count: Count, out: &mut Answer) {
     match count {
@@ -16,7 +17,8 @@ fn put_count(count: Count, out: &mut Answer) {
 
 fn put_flags(rule: &Rule, out: &mut Answer) {
     out.put(if rule.ifempty { "" } else { " notifempty" });
-    out.put(if rule.missingok { " missingok" } else { "" })
+    out.put(if rule.missingok { " missingok" } else { "" });
+    out.put(if rule.shared { " sharedscripts" } else { "" })
 }
 
 // Where it stands, and its words.
@@ -37,8 +39,30 @@ fn put_front(rule: &Rule, out: &mut Answer) {
     put_flags(rule, out)
 }
 
+fn put_script(phase: Phase, text: &Option<Text>, out: &mut Answer) {
+    let Some(text) = text else {
+        return;
+    };
+    let name = phase_name(phase);
+    let text = text.as_str();
+    out.put(", script ");
+    out.put(name);
+    out.put(": ");
+    out.put(text)
+}
+
+/// Its scripts, each with its text.
+pub fn put_scripts(rule: &Rule, out: &mut Answer) {
+    put_script(Phase::First, &rule.scripts.first, out);
+    put_script(Phase::Pre, &rule.scripts.pre, out);
+    put_script(Phase::Post, &rule.scripts.post, out);
+    put_script(Phase::Last, &rule.scripts.last, out);
+    put_script(Phase::Preremove, &rule.scripts.preremove, out)
+}
+
 fn put_rule(rule: &Rule, out: &mut Answer) {
     put_front(rule, out);
+    put_scripts(rule, out);
     out.put(";")
 }
 
