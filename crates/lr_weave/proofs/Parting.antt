@@ -380,6 +380,10 @@ changes_of_some targets sets ts planned f = each_change (IsOfSome targets) ts (a
 pub done_some : (targets : List Target) (sets : List SetSteps) (t : List Mark) (f : List Fault) (ts : List Entry) → ArePlanned targets sets → SetsDone sets t f ts → Each (IsOfSome targets) (filter is_change ts)
 done_some targets sets t f ts planned d = changes_of_some targets sets ts planned (sets_parts (MakesOne targets) sets t f ts planned.plain d)
 
+-- so is each of a first part of them
+pub cut_some : (targets : List Target) (sets : List SetSteps) (t : List Mark) (f : List Fault) (ts : List Entry) → ArePlanned targets sets → SetsCut sets t f ts → Each (IsOfSome targets) (filter is_change ts)
+cut_some targets sets t f ts planned c = changes_of_some targets sets ts planned (sets_cut_parts (MakesOne targets) sets t f ts planned.plain c)
+
 abbrev pub turns_by : (state : Path) (rules : Rules) (looks : List Entry) (targets : List Target) (sets : List SetSteps) (ts : List Entry) → AreQuiet looks → AreSeen rules looks targets → ArePlanned targets sets
     → BegunParts (MakesOne targets) (parts_of_sets sets) ts → AllTurns state rules (looks ++ ts)
 turns_by state rules looks targets sets ts quiet seen planned f = record {
