@@ -1,5 +1,5 @@
 -- The acts of a run, and the state behind them.
-use Rattle.std.proofs.Common.{◌≡◌, ◌<◌, ◌+◌, ◌-◌, ℕ, Bool, true, false, cond, ◌||◌, List, [], ◌∷◌, ◌++◌, length, take, drop, get_or, map, Option, refl, sym, ap, ◌∙◌, subst, arith, append_assoc}
+use Rattle.std.proofs.Common.{◌≡◌, ◌<◌, ◌+◌, ◌-◌, ℕ, Bool, true, false, cond, ◌||◌, List, [], ◌∷◌, ◌++◌, length, take, drop, get_or, map, Option, Result, Ok, Err, OnErr, refl, sym, ap, ◌∙◌, subst, arith, append_assoc}
 use Rattle.std.specs.Str.{bytes_eq}
 use Rattle.std.proofs.lemmas.List.{take_more, take_all, length-drop}
 use Rattle.std.proofs.lemmas.List.Folds.{list_any-append}
@@ -9,14 +9,17 @@ use Rattle.lr_rules.specs.declared.fault.Fault.{Fault}
 use Rattle.lr_rules.specs.declared.path.Path.{Path}
 use Rattle.lr_host.specs.declared.entry.Entry.{Entry}
 use Rattle.lr_host.specs.declared.journal.Journal.{Journal}
-use Rattle.lr_host.specs.Told.{Counts}
+use Rattle.lr_host.specs.Told.{Counts, Left}
 use Rattle.lr_host.proofs.Left.{left_as, left_both}
 use Rattle.lr_state.specs.Table.{Entry as Row}
 use Rattle.lr_state.specs.Written.{text_of}
 use Rattle.lr_plan.specs.declared.mark.Mark.{Mark}
 use Rattle.lr_plan.specs.declared.mark.Mark.TheVariants as mark
+use Rattle.lr_plan.specs.declared.step.SetSteps.{SetSteps}
+use Rattle.lr_plan.specs.declared.step.Step.{Step}
 use Rattle.lr_plan.specs.Course.{Course}
 use Rattle.lr_plan.specs.Done.{SetsDone, rotated_logs}
+use Rattle.lr_plan.specs.Internal.Cut.{SetsCut}
 use Rattle.lr_plan.specs.Steps.{state_steps}
 use Rattle.lr_host.proofs.Counts.{counted_on}
 use Rattle.lr_acts.specs.declared.progress.Progress.{Progress}
@@ -25,7 +28,7 @@ use Rattle.lr_acts.specs.Making.{all_of_sets}
 use Rattle.lr_record.specs.After.{is_among, stamped}
 use Rattle.lr_writing.specs.Writes.{AddsCourse}
 use Rattle.lr_run.specs.declared.ready.Ready.{Ready}
-use Rattle.lr_run.specs.Internal.{ActsAndWrites}
+use Rattle.lr_run.specs.Internal.{ActsAndWrites, SomeActs}
 
 -- ---- marks one behind another
 
@@ -82,3 +85,9 @@ acts_and_writes ready now x y z before o m n j k l is a s = record {
   where
     own : drop before y.marks.items ≡ a.marks
     own = ap (drop before) a.marks_are ∙ (ap (λ (i : ℕ). drop i (x.marks.items ++ a.marks)) is ∙ drop-append_seam x.marks.items a.marks)
+
+-- ---- a first part of the acts
+
+pub some_acts : {T E : Type 0} (r : Result T E) (steps : List SetSteps) {all : List Step} {x y : Progress} {o n : Option Journal} {j k : Counts} → Adds (SetsCut steps) all x y o n j k → OnErr r (Left (SomeActs steps) o n)
+some_acts (Ok u) steps a = tt
+some_acts (Err u) steps a = left_as a.entries (λ ts h. record { marks = a.marks; faults = a.faults; part = h })

@@ -1,4 +1,4 @@
--- What holds of each step that was made and of each that failed holds of all acts of a plan.
+-- What holds of each step that was made and of each that failed holds of all acts of a plan, and of a first part of them.
 use Rattle.std.proofs.Common.{◌≡◌, inl, inr, Bool, true, false, cond, List, [], ◌∷◌, ◌++◌, sym, subst}
 use Rattle.std.specs.List.{list_any}
 use Rattle.lr_rules.specs.declared.fault.Fault.{Fault}
@@ -9,8 +9,9 @@ use Rattle.lr_plan.specs.declared.step.Step.{Step}
 use Rattle.lr_plan.specs.Outcomes.{Succeeds, Fails}
 use Rattle.lr_plan.specs.Course.{Course}
 use Rattle.lr_plan.specs.Done.{EachDone, LogsDone, SetDone, broke_off, went_on, SetsDone, if_rotated, is_rotated}
+use Rattle.lr_plan.specs.Internal.Cut.{CourseCut, ListCut, LogsCut, in_each, in_last, SetCut, in_first, in_logs, SetsCut}
 use Rattle.lr_acts.specs.Making.{all_of_each, all_of_set, all_of_sets}
-use Rattle.lr_run.proofs.Simple.{IsSimple, AreSimple, simple_split}
+use Rattle.lr_run.proofs.Simple.{IsSimple, AreSimple, step_both, simple_split}
 
 -- it holds where nothing was done, of each step by itself, and of two parts where it holds of each
 pub record Folds (F : List Fault → List Entry → Type 0) : Type 0 where
@@ -60,3 +61,44 @@ acts_fold F k [] ms fs ts i h = stated F fs [] ts [] h.1 h.2 k.none
 acts_fold F k (s ∷ ss) ms fs ts i h = let r = simple_split (all_of_set s) (all_of_sets ss) i in
     stated F fs (h.first_faults ++ h.second_faults) ts (h.entries.front ++ h.entries.back) h.faults_are h.entries.joined
     (k.both h.first_faults h.second_faults h.entries.front h.entries.back (set_folds F k s h.first_marks h.first_faults h.entries.front r.0 h.entries.first) (acts_fold F k ss h.second_marks h.second_faults h.entries.back r.1 h.entries.second))
+
+-- ---- of a first part of them, where there was no memory to run a program
+
+cut_folds : (F : List Fault → List Entry → Type 0) → Folds F → (steps : List Step) (ms : List Mark) (fs : List Fault) (ts : List Entry) → AreSimple steps → CourseCut steps ms fs ts → F fs ts
+cut_folds F k steps ms fs ts i c = course_folds F k c.made ms fs ts (simple_split c.made c.rest (subst AreSimple c.steps_are i)).0 c.part.1
+
+each_split : (xs ys : List (List Step)) → AreSimple (all_of_each (xs ++ ys)) → AreSimple (all_of_each xs) × AreSimple (all_of_each ys)
+each_split [] ys i = (tt, i)
+each_split (x ∷ xs) ys i = let r = simple_split x (all_of_each (xs ++ ys)) i in let s = each_split xs ys r.1 in (step_both IsSimple x (all_of_each xs) r.0 s.0, s.1)
+
+each_cut_folds : (F : List Fault → List Entry → Type 0) → Folds F → (each : List (List Step)) (ms : List Mark) (fs : List Fault) (ts : List Entry) → AreSimple (all_of_each each) → ListCut Course CourseCut each ms fs ts → F fs ts
+each_cut_folds F k each ms fs ts i c = let r = each_split c.done (c.next ∷ c.rest) (subst (λ ss. AreSimple (all_of_each ss)) c.list_is i) in
+    stated F fs (c.part.first_faults ++ c.part.second_faults) ts (c.part.entries.front ++ c.part.entries.back) c.part.faults_are c.part.entries.joined
+    (k.both c.part.first_faults c.part.second_faults c.part.entries.front c.part.entries.back (each_folds F k c.done c.part.first_marks c.part.first_faults c.part.entries.front r.0 c.part.entries.first)
+    (cut_folds F k c.next c.part.second_marks c.part.second_faults c.part.entries.back (simple_split c.next (all_of_each c.rest) r.1).0 c.part.entries.second))
+
+logs_cut_folds : (F : List Fault → List Entry → Type 0) → Folds F → (each : List (List Step)) (last : List Step) (ms : List Mark) (fs : List Fault) (ts : List Entry) → AreSimple (all_of_each each) → AreSimple last → LogsCut each last ms fs ts → F fs ts
+logs_cut_folds F k each last ms fs ts i j (in_each c) = each_cut_folds F k each ms fs ts i c
+logs_cut_folds F k each last ms fs ts i j (in_last h) =
+    stated F fs (h.of_each ++ h.of_last) ts (h.entries.front ++ h.entries.back) h.faults_are h.entries.joined
+    (k.both h.of_each h.of_last h.entries.front h.entries.back (each_folds F k each h.by_each h.of_each h.entries.front i h.entries.first)
+    (cut_folds F k (if_rotated h.by_each last) h.by_last h.of_last h.entries.back (last_simple (list_any is_rotated h.by_each) last j) h.entries.second))
+
+set_cut_folds : (F : List Fault → List Entry → Type 0) → Folds F → (set : SetSteps) (ms : List Mark) (fs : List Fault) (ts : List Entry) → AreSimple (all_of_set set) → SetCut set ms fs ts → F fs ts
+set_cut_folds F k set ms fs ts i (in_first c) = cut_folds F k set.first ms fs ts (simple_split set.first _ i).0 c
+set_cut_folds F k set ms fs ts i (in_logs h) =
+    let r = simple_split set.first _ i in
+    let s = simple_split (all_of_each set.each) set.last r.1 in
+    stated F fs (h.first_faults ++ h.second_faults) ts (h.entries.front ++ h.entries.back) h.faults_are h.entries.joined
+    (k.both h.first_faults h.second_faults h.entries.front h.entries.back (course_folds F k set.first h.first_marks h.first_faults h.entries.front r.0 h.entries.first.1)
+    (logs_cut_folds F k set.each set.last h.second_marks h.second_faults h.entries.back s.0 s.1 h.entries.second))
+
+sets_split : (xs ys : List SetSteps) → AreSimple (all_of_sets (xs ++ ys)) → AreSimple (all_of_sets xs) × AreSimple (all_of_sets ys)
+sets_split [] ys i = (tt, i)
+sets_split (x ∷ xs) ys i = let r = simple_split (all_of_set x) (all_of_sets (xs ++ ys)) i in let s = sets_split xs ys r.1 in (step_both IsSimple (all_of_set x) (all_of_sets xs) r.0 s.0, s.1)
+
+pub cut_acts_fold : (F : List Fault → List Entry → Type 0) → Folds F → (sets : List SetSteps) (ms : List Mark) (fs : List Fault) (ts : List Entry) → AreSimple (all_of_sets sets) → SetsCut sets ms fs ts → F fs ts
+cut_acts_fold F k sets ms fs ts i c = let r = sets_split c.done (c.next ∷ c.rest) (subst (λ (ss : List SetSteps). AreSimple (all_of_sets ss)) c.list_is i) in
+    stated F fs (c.part.first_faults ++ c.part.second_faults) ts (c.part.entries.front ++ c.part.entries.back) c.part.faults_are c.part.entries.joined
+    (k.both c.part.first_faults c.part.second_faults c.part.entries.front c.part.entries.back (acts_fold F k c.done c.part.first_marks c.part.first_faults c.part.entries.front r.0 c.part.entries.first)
+    (set_cut_folds F k c.next c.part.second_marks c.part.second_faults c.part.entries.back (simple_split (all_of_set c.next) (all_of_sets c.rest) r.1).0 c.part.entries.second))

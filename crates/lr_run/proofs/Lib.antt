@@ -1,10 +1,12 @@
 mod Sights
 pub mod Simple
+pub mod Scriptless
 pub mod Folded
 mod Working
 pub mod Works
 mod Carrying
 mod Placing
+pub mod Seeing
 pub mod Stating
 pub mod Called
 pub mod Shape

@@ -21,16 +21,15 @@ use Rattle.lr_run.specs.declared.answer.RunStop.{RunStop}
 use Rattle.lr_run.specs.declared.answer.RunStop.TheVariants as stop
 use Rattle.lr_run.specs.declared.directory.DirStop.{DirStop}
 use Rattle.lr_run.specs.declared.directory.DirStop.TheVariants as dir
-use Rattle.lr_run.specs.Internal.{NotSeen, dir_fault_of, WorksOn, Begun, Goes, begun, not_begun, Stopped, RunsOn, StopsSo}
-use Rattle.lr_run.specs.Runs.{SomeSeen}
+use Rattle.lr_run.specs.Internal.{NotSeen, dir_fault_of, WorksOn, SomeWork, some_seen, some_done, Begun, Goes, begun, not_begun, Stopped, RunsOn, StopsSo}
 use Rattle.lr_run.specs.Runs as runs
 
 -- the begin answered so
 pub began : (state : Path) (now : Moment) (rules : Rules) (b : Bool) {o n : Option Journal} → b ≡ true → Left (DidWhere {E = CallFault} (Ok b) (Starts state now rules)) o n → Left (Are (Starts state now rules ∷ [])) o n
 began state now rules b e l = left_as l (λ ts h. subst (λ (x : Bool). DidWhere {E = CallFault} (Ok x) (Starts state now rules) ts) e h)
 
-pub locked : (state : Path) (now : Moment) (rules : Rules) (b : Bool) {o n : Option Journal} → b ≡ false → Left (DidWhere {E = CallFault} (Ok b) (Starts state now rules)) o n → Left (Stopped state now rules stop.Held) o n
-locked state now rules b e l = left_as l (λ ts h. subst (λ (x : Bool). DidWhere {E = CallFault} (Ok x) (Starts state now rules) ts) e h)
+pub locked : (state : Path) (force : Bool) (now : Moment) (rules : Rules) (b : Bool) {o n : Option Journal} → b ≡ false → Left (DidWhere {E = CallFault} (Ok b) (Starts state now rules)) o n → Left (Stopped state force now rules stop.Held) o n
+locked state force now rules b e l = left_as l (λ ts h. subst (λ (x : Bool). DidWhere {E = CallFault} (Ok x) (Starts state now rules) ts) e h)
 
 -- ---- between the begin and the end
 
@@ -40,8 +39,8 @@ begins state now rules P ts us vs a p b = record { between = us; entries = ap (�
 pub goes : (state : Path) (force : Bool) (now : Moment) (rules : Rules) (a b : List Fault) {o m n : Option Journal} → Left (Are (Starts state now rules ∷ [])) o m → Left (Then (WorksOn state rules.sets now force a b) (Are (Ends ∷ []))) m n → Left (Goes state force now rules a b) o n
 goes state force now rules a b l k = left_then l k (λ ts us p q. begun (subst (λ (xs : List Entry). Begun state now rules (WorksOn state rules.sets now force a b) (ts ++ xs)) (sym q.joined) (begins state now rules (WorksOn state rules.sets now force a b) ts q.front q.back p q.first q.second)))
 
-pub lacks : (state : Path) (now : Moment) (rules : Rules) {o m n : Option Journal} → Left (Are (Starts state now rules ∷ [])) o m → Left (Then (SomeSeen state rules.sets) (Are (Ends ∷ []))) m n → Left (Stopped state now rules stop.Memory) o n
-lacks state now rules l k = left_then l k (λ ts us p q. subst (λ (xs : List Entry). Begun state now rules (SomeSeen state rules.sets) (ts ++ xs)) (sym q.joined) (begins state now rules (SomeSeen state rules.sets) ts q.front q.back p q.first q.second))
+pub lacks : (state : Path) (force : Bool) (now : Moment) (rules : Rules) {o m n : Option Journal} → Left (Are (Starts state now rules ∷ [])) o m → Left (Then (SomeWork state rules.sets now force) (Are (Ends ∷ []))) m n → Left (Stopped state force now rules stop.Memory) o n
+lacks state force now rules l k = left_then l k (λ ts us p q. subst (λ (xs : List Entry). Begun state now rules (SomeWork state rules.sets now force) (ts ++ xs)) (sym q.joined) (begins state now rules (SomeWork state rules.sets now force) ts q.front q.back p q.first q.second))
 
 pub goes_not : (state : Path) (force : Bool) (now : Moment) (rules : Rules) (name : Path) (a b : List Fault) {o n : Option Journal} → name ≡ state → b ≡ a ++ fault.Call call.Begin name ∷ [] → Left (λ ts. (ts ≡ []) ⊎ (ts ≡ Starts state now rules ∷ [])) o n → Left (Goes state force now rules a b) o n
 goes_not state force now rules name a b e f l = left_as l (λ ts h. not_begun (f ∙ ap (λ (x : Path). a ++ fault.Call call.Begin x ∷ []) e) h)
@@ -62,13 +61,17 @@ pub behind_dir : (state : Path) (force : Bool) (now : Moment) (rules : Rules) (d
 behind_dir state force now rules dir a b (Ok x) n e l k = left_then l k (λ ts us p q. runs_on state force now rules a b ts us (subst (λ (x : Path). Sees x IsDir ts) e p) q)
 behind_dir state force now rules dir a b (Err x) n e l k = tt
 
-stops : (state : Path) (now : Moment) (rules : Rules) (why : RunStop) (ts us : List Entry) → Sees (parent_of state) IsDir ts → Stopped state now rules why us → StopsSo state now rules why (ts ++ us)
-stops state now rules stop.Held ts us s h = subst (Sees (parent_of state) IsDir) (sym (ap (λ xs. ts ++ xs) h ∙ append-nil ts)) s
-stops state now rules stop.Memory ts us s h = runs.in_looks (inside state now rules (SomeSeen state rules.sets) ts us s h)
+lacked : (state : Path) (force : Bool) (now : Moment) (rules : Rules) (ts : List Entry) → (i : runs.Inside state now rules (SomeWork state rules.sets now force) ts) → SomeWork state rules.sets now force i.between → runs.LacksMemory state force now rules ts
+lacked state force now rules ts i (some_seen s) = runs.in_looks (inside_as state now rules (SomeWork state rules.sets now force) (runs.SomeSeen state rules.sets) ts i s)
+lacked state force now rules ts i (some_done b) = runs.in_acts (inside_as state now rules (SomeWork state rules.sets now force) (runs.BrokeOff state rules.sets now force) ts i b)
 
-pub stopped_behind : (state : Path) (now : Moment) (rules : Rules) (dir : Path) {T : Type 0} (r : Result T RunStop) {o m : Option Journal} (n : Option Journal) → dir ≡ parent_of state → Left (Sees dir IsDir) o m → IfErr r (λ why. Left (Stopped state now rules why) m n) → IfErr r (λ why. Left (StopsSo state now rules why) o n)
-stopped_behind state now rules dir (Ok x) n e l k = tt
-stopped_behind state now rules dir (Err why) n e l k = left_then l k (λ ts us p q. stops state now rules why ts us (subst (λ (x : Path). Sees x IsDir ts) e p) q)
+stops : (state : Path) (force : Bool) (now : Moment) (rules : Rules) (why : RunStop) (ts us : List Entry) → Sees (parent_of state) IsDir ts → Stopped state force now rules why us → StopsSo state force now rules why (ts ++ us)
+stops state force now rules stop.Held ts us s h = subst (Sees (parent_of state) IsDir) (sym (ap (λ xs. ts ++ xs) h ∙ append-nil ts)) s
+stops state force now rules stop.Memory ts us s h = let i = inside state now rules (SomeWork state rules.sets now force) ts us s h in lacked state force now rules (ts ++ us) i i.within
+
+pub stopped_behind : (state : Path) (force : Bool) (now : Moment) (rules : Rules) (dir : Path) {T : Type 0} (r : Result T RunStop) {o m : Option Journal} (n : Option Journal) → dir ≡ parent_of state → Left (Sees dir IsDir) o m → IfErr r (λ why. Left (Stopped state force now rules why) m n) → IfErr r (λ why. Left (StopsSo state force now rules why) o n)
+stopped_behind state force now rules dir (Ok x) n e l k = tt
+stopped_behind state force now rules dir (Err why) n e l k = left_then l k (λ ts us p q. stops state force now rules why ts us (subst (λ (x : Path). Sees x IsDir ts) e p) q)
 
 -- the directory wasn't seen as one
 pub no_dir : (state : Path) (force : Bool) (now : Moment) (rules : Rules) (why : DirStop) (x : Path) (a b : List Fault) {o n : Option Journal} → x ≡ parent_of state → b ≡ a ++ dir_fault_of why x ∷ [] → Left (NotSeen x why) o n → Left (RunsOn state force now rules a b) o n
@@ -80,6 +83,6 @@ no_dir state force now rules dir.Call x a b e is l = left_as l (λ ts h. (fault.
 pub ran_so : (state : Path) (force : Bool) (now : Moment) (rules : Rules) (earlier first : List Fault) (ran : Ran) {o n : Option Journal} → first ≡ earlier → Left (RunsOn state force now rules first ran.faults.items) o n → Left (runs.Answers state force now rules earlier (Ok ran)) o n
 ran_so state force now rules earlier first ran e l = left_as l (λ ts h. (h.0, h.1 ∙ ap (λ (fs : List Fault). fs ++ h.0) e, h.2))
 
-pub stopped_so : (state : Path) (force : Bool) (now : Moment) (rules : Rules) (earlier : List Fault) (why : RunStop) {o n : Option Journal} → Left (StopsSo state now rules why) o n → Left (runs.Answers state force now rules earlier (Err why)) o n
+pub stopped_so : (state : Path) (force : Bool) (now : Moment) (rules : Rules) (earlier : List Fault) (why : RunStop) {o n : Option Journal} → Left (StopsSo state force now rules why) o n → Left (runs.Answers state force now rules earlier (Err why)) o n
 stopped_so state force now rules earlier stop.Held l = l
 stopped_so state force now rules earlier stop.Memory l = l

@@ -13,11 +13,11 @@ use Rattle.lr_host.specs.declared.entry.Entry.{Entry}
 use Rattle.lr_host.specs.declared.entry.Entry.TheVariants as entry
 use Rattle.lr_host.specs.declared.journal.Journal.{Journal}
 use Rattle.lr_host.specs.Looks.{IsDir}
-use Rattle.lr_host.specs.Quiet.{IsQuiet, AreQuiet, is_disk_change, ChangeNothing}
+use Rattle.lr_host.specs.Quiet.{IsQuiet, AreQuiet, is_disk_change}
 use Rattle.lr_host.specs.Steps.{is_change}
 use Rattle.lr_host.specs.Told.{Each, IsTools, Left, not_told, is_told}
 use Rattle.lr_host.specs.World.{past}
-use Rattle.lr_host.proofs.Each.{each_append, each_as, each_first, each_reverse, none_passed}
+use Rattle.lr_host.proofs.Each.{each_append, each_as, each_first, each_reverse}
 use Rattle.lr_host.proofs.Made.{made_tools}
 use Rattle.lr_durable.specs.Renewing.{IsAsideOf, IsWithin, MayRenew, left_alone, renewed}
 use Rattle.lr_durable.specs.StateWhole.{part_of, KeepsWhole}
@@ -34,7 +34,7 @@ use Rattle.lr_rotations.specs.Apart.{HaveNames}
 use Rattle.lr_rotations.specs.Target.{Target}
 use Rattle.lr_weave.specs.Parts.{ArePlanned}
 use Rattle.lr_weave.specs.Planned.{HaveLogs}
-use Rattle.lr_weave.proofs.Parting.{done_some}
+use Rattle.lr_weave.proofs.Parting.{done_some, cut_some}
 use Rattle.lr_weave.proofs.Planning.{ready_planned}
 use Rattle.lr_fields.specs.Built.{AreBuiltRules}
 use Rattle.lr_seen.specs.Targets.{groups_of, all_targets}
@@ -43,16 +43,17 @@ use Rattle.lr_seen.proofs.Free.{targets_free}
 use Rattle.lr_seen.proofs.Ready.{plans_have_logs}
 use Rattle.lr_seen.proofs.Seen.{targets_have_names}
 use Rattle.lr_reading.proofs.Quiet.{state_quiet}
+use Rattle.lr_writing.specs.Directories.{AreDirectoriesOf}
 use Rattle.lr_writing.specs.Named.{Spares, NamedLast, not_named, named}
 use Rattle.lr_writing.proofs.Named.{named_last}
 use Rattle.lr_run.specs.declared.answer.Ran.{Ran}
 use Rattle.lr_run.specs.declared.answer.RunStop.{RunStop}
 use Rattle.lr_run.specs.declared.answer.RunStop.TheVariants as stop
 use Rattle.lr_run.specs.Runs as runs
-use Rattle.lr_run.specs.Runs.{Inside, Looked, Worked, Works, not_known, too_big, worked, Runs, no_directory, not_seen, not_begun, Answers, at_first, in_looks, plan_in, state_text}
+use Rattle.lr_run.specs.Runs.{Inside, Looked, Worked, Works, not_known, too_big, worked, Runs, no_directory, not_seen, not_begun, BrokeOff, Answers, at_first, in_looks, in_acts, changed_in, plan_in, state_text}
 use Rattle.lr_run.specs.State.{Tells, IsNewText}
-use Rattle.lr_run.proofs.Covering.{disk_unchanged, none_changed, none_aside, none_within, of_changes, some_aside, groups_within}
-use Rattle.lr_run.proofs.Shape.{sees_quiet, some_quiet, seen_quiet, in_parts}
+use Rattle.lr_run.proofs.Covering.{none_changed, none_aside, none_within, of_changes, some_aside, groups_within}
+use Rattle.lr_run.proofs.Shape.{sees_quiet, some_quiet, seen_quiet, looked_parts, in_parts}
 
 -- ---- what the writing leaves
 
@@ -146,14 +147,6 @@ calm_within part dirs ts q = each_as IsQuiet (IsWithin part dirs) ts (λ e i. no
 pub quiet_alone : (state : Path) (IsText : List ℕ → Type 0) (ts : List Entry) → AreQuiet ts → MayRenew state IsText ts
 quiet_alone state IsText ts q = left_alone (calm_aside state ts q)
 
--- what changes nothing of the disk leaves it alone
-still_aside : (x : Path) (ts : List Entry) → Each IsTools ts → ChangeNothing ts → Each (IsAsideOf x) ts
-still_aside x [] i h = tt
-still_aside x (t ∷ ts) i h = let n = none_passed is_disk_change t ts h in (none_aside x t (disk_unchanged t i.0 n.0), still_aside x ts i.1 n.1)
-
-pub still_alone : (state : Path) (IsText : List ℕ → Type 0) (ts : List Entry) → Each IsTools ts → ChangeNothing ts → MayRenew state IsText ts
-still_alone state IsText ts i h = left_alone (still_aside state ts i h)
-
 -- behind entries that change nothing
 pub behind_quiet : (state : Path) (I J : List ℕ → Type 0) → ((text : List ℕ) → I text → J text) → (xs ts : List Entry) → AreQuiet xs → MayRenew state I ts → MayRenew state J (xs ++ ts)
 behind_quiet state I J f xs ts q (left_alone a) = left_alone (each_append (IsAsideOf state) xs ts (calm_aside state xs q) a)
@@ -174,16 +167,10 @@ around : (state x : Path) (now : Moment) (rules : Rules) (before between : List 
 around state x now rules before between a b = each_append (IsAsideOf x) before (entry.Starts state now rules ∷ (between ++ entry.Ends ∷ [])) a ((λ i. i), each_append (IsAsideOf x) between (entry.Ends ∷ []) b ((λ i. i), tt))
 
 module _ (state : Path) (rules : Rules) (now : Moment) (force : Bool) (built : AreBuiltRules rules.sets) where
-  -- the changes of the acts
-  module _ (own : List Fault) (ts : List Entry) (w : Worked state rules.sets now force own ts) (tools : Each IsTools ts) where
-    abbrev l : Looked state rules.sets ts
-    l = w.looked
-
+  -- acts behind the looks
+  module _ (ts : List Entry) (l : Looked state rules.sets ts) where
     abbrev decide : Rule → LogLook → Due
     decide = decision l.remembered.table now force
-
-    abbrev acts : List Entry
-    acts = w.acted.entries.entries.front
 
     abbrev targets : List Target
     targets = all_targets decide rules.sets l.sets
@@ -197,31 +184,55 @@ module _ (state : Path) (rules : Rules) (now : Moment) (force : Bool) (built : A
     have_names : HaveNames targets
     have_names = targets_have_names rules l.sets l.of_looks l.looks decide built l.shown
 
-    of_logs : Each (IsOfSome targets) (filter is_change acts)
-    of_logs = done_some targets (map steps_of_set (plan_in state rules.sets ts l now force).sets) w.acted.marks w.acted.entries.of_plan acts planned w.acted.entries.entries.first
-
-    in_three : ts ≡ ((l.reads ++ l.looks) ++ acts) ++ w.acted.entries.entries.back
-    in_three = in_parts state rules.sets now force own ts w
-
     abbrev seen : List Entry
     seen = l.reads ++ l.looks
 
-    tools_of : Each IsTools ((seen ++ acts) ++ w.acted.entries.entries.back)
+    -- whose changes are of the logs
+    behind_aside : (acts : List Entry) → Each IsTools acts → Each (IsOfSome targets) (filter is_change acts) → Each (IsAsideOf state) (seen ++ acts)
+    behind_aside acts tools of_logs = each_append (IsAsideOf state) seen acts (calm_aside state seen (seen_quiet state rules.sets ts l))
+        (of_changes (IsAsideOf state) acts (λ e i h. none_aside state e (none_changed e i h)) tools (each_as (IsOfSome targets) (IsAsideOf state) (filter is_change acts) (λ e i. some_aside state targets e have_names (targets_free rules.sets l.sets l.of_looks l.looks decide l.shown) i) of_logs))
+
+    behind_within : (dirs : List Path) → AreDirectoriesOf (changed_in (plan_in state rules.sets ts l now force)) dirs → (acts : List Entry) → Each IsTools acts → Each (IsOfSome targets) (filter is_change acts) → Each (IsWithin (part_of state) dirs) (seen ++ acts)
+    behind_within dirs dirs_are acts tools of_logs = each_append (IsWithin (part_of state) dirs) seen acts (calm_within (part_of state) dirs seen (seen_quiet state rules.sets ts l))
+        (of_changes (IsWithin (part_of state) dirs) acts (λ e i h. none_within (part_of state) dirs e (none_changed e i h)) tools (each_as (IsOfSome targets) (IsWithin (part_of state) dirs) (filter is_change acts) (λ e i. groups_within (part_of state) dirs (groups_of decide rules.sets l.sets) (plan_in state rules.sets ts l now force).sets e dirs_are logs have_names i) of_logs))
+
+  -- a first part of the acts
+  broke_aside : (ts : List Entry) → Each IsTools ts → BrokeOff state rules.sets now force ts → Each (IsAsideOf state) ts
+  broke_aside ts tools b = subst (Each (IsAsideOf state)) (sym parts)
+      (behind_aside ts b.looked b.looked.acts (each_later IsTools (b.looked.reads ++ b.looked.looks) b.looked.acts (subst (Each IsTools) parts tools))
+      (cut_some (targets ts b.looked) (map steps_of_set (plan_in state rules.sets ts b.looked now force).sets) b.marks b.of_acts b.looked.acts (planned ts b.looked) b.part))
+    where
+      parts : ts ≡ (b.looked.reads ++ b.looked.looks) ++ b.looked.acts
+      parts = looked_parts state rules.sets ts b.looked
+
+  -- all of the acts, and the writing of the state
+  module _ (own : List Fault) (ts : List Entry) (w : Worked state rules.sets now force own ts) (tools : Each IsTools ts) where
+    abbrev l : Looked state rules.sets ts
+    l = w.looked
+
+    abbrev acts : List Entry
+    acts = w.acted.entries.entries.front
+
+    of_logs : Each (IsOfSome (targets ts l)) (filter is_change acts)
+    of_logs = done_some (targets ts l) (map steps_of_set (plan_in state rules.sets ts l now force).sets) w.acted.marks w.acted.entries.of_plan acts (planned ts l) w.acted.entries.entries.first
+
+    in_three : ts ≡ (seen ts l ++ acts) ++ w.acted.entries.entries.back
+    in_three = in_parts state rules.sets now force own ts w
+
+    tools_of : Each IsTools ((seen ts l ++ acts) ++ w.acted.entries.entries.back)
     tools_of = subst (Each IsTools) in_three tools
 
     acts_tools : Each IsTools acts
-    acts_tools = each_later IsTools seen acts (each_first IsTools (seen ++ acts) w.acted.entries.entries.back tools_of)
+    acts_tools = each_later IsTools (seen ts l) acts (each_first IsTools (seen ts l ++ acts) w.acted.entries.entries.back tools_of)
 
     back_tools : Each IsTools w.acted.entries.entries.back
-    back_tools = each_later IsTools (seen ++ acts) w.acted.entries.entries.back tools_of
+    back_tools = each_later IsTools (seen ts l ++ acts) w.acted.entries.entries.back tools_of
 
-    pub acts_aside : Each (IsAsideOf state) (seen ++ acts)
-    acts_aside = each_append (IsAsideOf state) seen acts (calm_aside state seen (seen_quiet state rules.sets ts l))
-        (of_changes (IsAsideOf state) acts (λ e i h. none_aside state e (none_changed e i h)) acts_tools (each_as (IsOfSome targets) (IsAsideOf state) (filter is_change acts) (λ e i. some_aside state targets e have_names (targets_free rules.sets l.sets l.of_looks l.looks decide l.shown) i) of_logs))
+    acts_aside : Each (IsAsideOf state) (seen ts l ++ acts)
+    acts_aside = behind_aside ts l acts acts_tools of_logs
 
-    pub acts_within : Each (IsWithin (part_of state) w.acted.dirs) (seen ++ acts)
-    acts_within = each_append (IsWithin (part_of state) w.acted.dirs) seen acts (calm_within (part_of state) w.acted.dirs seen (seen_quiet state rules.sets ts l))
-        (of_changes (IsWithin (part_of state) w.acted.dirs) acts (λ e i h. none_within (part_of state) w.acted.dirs e (none_changed e i h)) acts_tools (each_as (IsOfSome targets) (IsWithin (part_of state) w.acted.dirs) (filter is_change acts) (λ e i. groups_within (part_of state) w.acted.dirs (groups_of decide rules.sets l.sets) (plan_in state rules.sets ts l now force).sets e w.acted.dirs_are logs have_names i) of_logs))
+    acts_within : Each (IsWithin (part_of state) w.acted.dirs) (seen ts l ++ acts)
+    acts_within = behind_within ts l w.acted.dirs w.acted.dirs_are acts acts_tools of_logs
 
     abbrev text : List ℕ
     text = state_text state rules.sets ts l now (rotated_logs w.acted.marks)
@@ -229,12 +240,12 @@ module _ (state : Path) (rules : Rules) (now : Moment) (force : Bool) (built : A
     -- behind more that leaves the state alone, and before its end
     pub worked_may : (IsText : List ℕ → Type 0) → IsText text → (front : List Entry) → Each (IsAsideOf state) front → Each (IsWithin (part_of state) w.acted.dirs) front → MayRenew state IsText (front ++ (ts ++ entry.Ends ∷ []))
     worked_may IsText is front aside within = subst (MayRenew state IsText) (sym in_order)
-        (back_may state w.acted.dirs text IsText is (front ++ (seen ++ acts)) (each_append (IsAsideOf state) front (seen ++ acts) aside acts_aside) (each_append (IsWithin (part_of state) w.acted.dirs) front (seen ++ acts) within acts_within)
+        (back_may state w.acted.dirs text IsText is (front ++ (seen ts l ++ acts)) (each_append (IsAsideOf state) front (seen ts l ++ acts) aside acts_aside) (each_append (IsWithin (part_of state) w.acted.dirs) front (seen ts l ++ acts) within acts_within)
         w.acted.entries.entries.back (entry.Ends ∷ []) back_tools ((λ i. i), tt) (refl, tt)
         (named_last state l.remembered.stale w.acted.dirs text w.acted.entries.of_state w.acted.entries.entries.back w.acted.entries.entries.second))
       where
-        in_order : front ++ (ts ++ entry.Ends ∷ []) ≡ (front ++ (seen ++ acts)) ++ (w.acted.entries.entries.back ++ entry.Ends ∷ [])
-        in_order = ap (λ es. front ++ (es ++ entry.Ends ∷ [])) in_three ∙ (ap (λ es. front ++ es) (append_assoc (seen ++ acts) w.acted.entries.entries.back (entry.Ends ∷ [])) ∙ sym (append_assoc front (seen ++ acts) (w.acted.entries.entries.back ++ entry.Ends ∷ [])))
+        in_order : front ++ (ts ++ entry.Ends ∷ []) ≡ (front ++ (seen ts l ++ acts)) ++ (w.acted.entries.entries.back ++ entry.Ends ∷ [])
+        in_order = ap (λ es. front ++ (es ++ entry.Ends ∷ [])) in_three ∙ (ap (λ es. front ++ es) (append_assoc (seen ts l ++ acts) w.acted.entries.entries.back (entry.Ends ∷ [])) ∙ sym (append_assoc front (seen ts l ++ acts) (w.acted.entries.entries.back ++ entry.Ends ∷ [])))
 
   -- the work, between what was before and the end
   works_may : (own : List Fault) (before between : List Entry) → AreQuiet before → Each IsTools between → Works state rules.sets now force own between
@@ -271,6 +282,7 @@ module _ (state : Path) (rules : Rules) (now : Moment) (force : Bool) (built : A
   answers_may earlier (Err stop.Held) ts tools h = quiet_alone state (IsTextOf ts) ts (sees_quiet (parent_of state) IsDir ts h)
   answers_may earlier (Err stop.Memory) ts tools (at_first e) = quiet_alone state (IsTextOf ts) ts (subst AreQuiet (sym e) tt)
   answers_may earlier (Err stop.Memory) ts tools (in_looks i) = subst (MayRenew state (IsTextOf ts)) (sym i.entries) (left_alone (around state state now rules i.before i.between (calm_aside state i.before (sees_quiet (parent_of state) IsDir i.before i.directory)) (calm_aside state i.between (some_quiet state rules.sets i.between i.within))))
+  answers_may earlier (Err stop.Memory) ts tools (in_acts i) = subst (MayRenew state (IsTextOf ts)) (sym i.entries) (left_alone (around state state now rules i.before i.between (calm_aside state i.before (sees_quiet (parent_of state) IsDir i.before i.directory)) (broke_aside i.between (begun_tools i.before i.between ts i.entries tools) i.within)))
 
 -- ---- a call
 

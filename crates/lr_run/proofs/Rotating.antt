@@ -1,4 +1,4 @@
--- A run of which no call failed rotates each log of its plan.
+-- A run of which no call failed and no program ended badly rotates each log of its plan.
 use Rattle.std.proofs.Common.{◌≡◌, ◌≢◌, inl, inr, Bool, List, [], ◌∷◌, ◌++◌, reverse, refl, sym, ap, ◌∙◌, subst, append_assoc}
 use Rattle.std.specs.Prelude.{codes}
 use Rattle.lr_rules.specs.declared.civil.Moment.{Moment}
@@ -19,7 +19,7 @@ use Rattle.lr_host.proofs.Quiet.{quiet_both}
 use Rattle.lr_kept.proofs.Finding.{meet_back}
 use Rattle.lr_due.specs.declared.answer.Due.{Due}
 use Rattle.lr_plan.specs.declared.looks.LogLook.{LogLook}
-use Rattle.lr_host.specs.Counted.{calls_in}
+use Rattle.lr_host.specs.Counted.{calls_in, scripts_in}
 use Rattle.lr_plan.specs.Done.{PlanDone}
 use Rattle.lr_plan.specs.Planned.{decision}
 use Rattle.lr_rotations.specs.AllTurns.{AllTurned, other_paths}
@@ -85,9 +85,9 @@ worked_whole state rules now force own ts built w none =
     (subst (λ (fs : List Fault). PlanDone (plan_in state rules.sets ts w.looked now force) w.acted.marks fs w.acted.entries.entries.front) none w.acted.entries.entries.first)
 
 pub run_rotated : (state : Path) (force : Bool) (now : Moment) (rules : Rules) (own : List Fault) (p q : Past) (es reads acts : List Entry) → AreBuiltRules rules.sets → Made p es q → IsJournal p → reverse es ≡ reads ++ acts → AreQuiet reads
-    → (i : Inside state now rules (Worked state rules.sets now force own) acts) → calls_in own ≡ 0 → (t : Target) → IsOneOf t (rotated_in state rules.sets i.between i.within.looked now force)
+    → (i : Inside state now rules (Worked state rules.sets now force own) acts) → calls_in own ≡ 0 → scripts_in own ≡ 0 → (t : Target) → IsOneOf t (rotated_in state rules.sets i.between i.within.looked now force)
     → IsRotatedAmong state (rotated_in state rules.sets i.between i.within.looked now force) p q t
-run_rotated state force now rules own p q es reads acts built made journal joined quiet i no_call t one = λ unattached. (
+run_rotated state force now rules own p q es reads acts built made journal joined quiet i no_call no_end t one = λ unattached. (
   seen_members (other_paths state t.log targets) t.log t.naming t.count t.stand p q es made journal has.family has.next unattached aside_paths among,
   rotated_whole (other_paths state t.log targets) t.log t.naming t.count t.stand p q es made journal has.family has.next unattached aside_paths among,
 )
@@ -114,7 +114,7 @@ run_rotated state force now rules own p q es reads acts built made journal joine
     free = free_one (reserved_by state) t targets (targets_free rules.sets l.sets l.of_looks l.looks decide l.shown) one
 
     none : w.acted.entries.of_plan ≡ []
-    none = worked_met_none state rules.sets now force own i.between built w no_call
+    none = worked_met_none state rules.sets now force own i.between w no_call no_end
 
     work : List Entry
     work = ((l.reads ++ l.looks) ++ w.acted.entries.entries.front) ++ w.acted.entries.entries.back

@@ -31,7 +31,7 @@ use Rattle.lr_rotations.specs.Target.{Target, rotation_of, IsGiven, AreSeen}
 use Rattle.lr_rotations.specs.Weave.{Weave, FirstWoven, Among}
 use Rattle.lr_rotations.proofs.Moments.{shown_in}
 use Rattle.lr_rotations.proofs.Weaving.{weave_on, weave_others}
-use Rattle.lr_weave.proofs.Parting.{done_turns}
+use Rattle.lr_weave.proofs.Parting.{done_turns, cut_turns}
 use Rattle.lr_weave.proofs.Planning.{ready_planned}
 use Rattle.lr_fields.specs.Built.{AreBuiltRules}
 use Rattle.lr_seen.specs.Targets.{groups_of, all_targets}
@@ -39,7 +39,7 @@ use Rattle.lr_run.specs.declared.answer.Ran.{Ran}
 use Rattle.lr_run.specs.declared.answer.RunStop.{RunStop}
 use Rattle.lr_run.specs.declared.answer.RunStop.TheVariants as stop
 use Rattle.lr_run.specs.Runs as runs
-use Rattle.lr_run.specs.Runs.{Looked, Worked, Works, not_known, too_big, worked, Runs, no_directory, not_seen, not_begun, SomeSeen, of_state, of_looks, at_first, in_looks, Answers}
+use Rattle.lr_run.specs.Runs.{Looked, Worked, Works, not_known, too_big, worked, Runs, no_directory, not_seen, not_begun, SomeSeen, of_state, of_looks, BrokeOff, at_first, in_looks, in_acts, Answers}
 use Rattle.lr_run.proofs.Stating.{state_writing, changes_of_state}
 use Rattle.lr_seen.proofs.Apart.{targets_apart}
 use Rattle.lr_seen.proofs.Quiet.{whole_quiet, part_quiet}
@@ -154,11 +154,15 @@ seen_later rules xs looks (t ∷ ts) s = (
 pub seen_quiet : (state : Path) (rules : List Rule) (ts : List Entry) → (l : Looked state rules ts) → AreQuiet (l.reads ++ l.looks)
 seen_quiet state rules ts l = quiet_both l.reads l.looks (state_quiet state 65_536 l.sights l.reads l.read) (whole_quiet rules l.sets l.of_looks l.looks l.shown)
 
+-- all of a run that looked, what was done behind that as one part
+pub looked_parts : (state : Path) (rules : List Rule) (ts : List Entry) → (l : Looked state rules ts) → ts ≡ (l.reads ++ l.looks) ++ l.acts
+looked_parts state rules ts l = l.joined ∙ sym (append_assoc l.reads l.looks l.acts)
+
 -- all of a run that worked, in three parts
 pub in_parts : (state : Path) (rules : List Rule) (now : Moment) (force : Bool) (own : List Fault) (ts : List Entry) → (w : Worked state rules now force own ts) → ts ≡ ((w.looked.reads ++ w.looked.looks) ++ w.acted.entries.entries.front) ++ w.acted.entries.entries.back
 in_parts state rules now force own ts w =
     let l = w.looked in let e = w.acted.entries.entries in
-    l.joined ∙ (ap (λ xs. l.reads ++ (l.looks ++ xs)) e.joined ∙ (sym (append_assoc l.reads l.looks (e.front ++ e.back)) ∙ sym (append_assoc (l.reads ++ l.looks) e.front e.back)))
+    looked_parts state rules ts l ∙ (ap (λ xs. (l.reads ++ l.looks) ++ xs) e.joined ∙ sym (append_assoc (l.reads ++ l.looks) e.front e.back))
 
 -- the changes behind the rotations are the state's
 pub all_of_state : (state : Path) (rules : List Rule) (now : Moment) (force : Bool) (own : List Fault) (ts : List Entry) → (w : Worked state rules now force own ts) → Each (IsOfState state) (filter is_change w.acted.entries.entries.back)
@@ -203,9 +207,24 @@ runs_shape state force now rules own ts built (not_begun e t) = go t.second
     go (inr one) = begun_run state now rules t.front [] ts t.first (t.joined ∙ ap (λ es. t.front ++ es) one) (no_turns state rules [] tt)
 runs_shape state force now rules own ts built (runs.began i) = begun_run state now rules i.before (i.between ++ entry.Ends ∷ []) ts i.directory i.entries (ended state rules i.between (works_turn state rules now force own i.between built i.within))
 
+-- of acts that broke off
+broke_turn : (state : Path) (rules : Rules) (now : Moment) (force : Bool) (ts : List Entry) → AreBuiltRules rules.sets → BrokeOff state rules.sets now force ts → AllTurns state rules ts
+broke_turn state rules now force ts built b = subst (AllTurns state rules) (sym (looked_parts state rules.sets ts l))
+    (cut_turns state rules (l.reads ++ l.looks) (all_targets decide rules.sets l.sets) _ b.marks b.of_acts l.acts
+    (seen_quiet state rules.sets ts l) (seen_later rules l.reads l.looks (all_targets decide rules.sets l.sets) (targets_seen rules l.sets l.of_looks l.looks decide built l.shown))
+    (ready_planned (groups_of decide rules.sets l.sets) _ (plans_have_logs rules.sets l.sets l.of_looks l.looks decide built l.shown) (targets_apart rules.sets l.sets l.of_looks l.looks decide l.shown))
+    b.part)
+  where
+    l : Looked state rules.sets ts
+    l = b.looked
+
+    decide : Rule → LogLook → Due
+    decide = decision l.remembered.table now force
+
 pub whole_run : (state : Path) (force : Bool) (now : Moment) (rules : Rules) (earlier : List Fault) (r : Result Ran RunStop) (ts : List Entry) → AreBuiltRules rules.sets → Answers state force now rules earlier r ts → IsWholeRun ts
 whole_run state force now rules earlier (Ok ran) ts built h = runs_shape state force now rules h.0 ts built h.2
 whole_run state force now rules earlier (Err stop.Held) ts built h = quiet_run ts (sees_quiet (parent_of state) IsDir ts h)
 whole_run state force now rules earlier (Err stop.Memory) ts built (at_first e) = none_run ts e
 whole_run state force now rules earlier (Err stop.Memory) ts built (in_looks i) = begun_run state now rules i.before (i.between ++ entry.Ends ∷ []) ts i.directory i.entries
     (ended state rules i.between (quiet_turns state rules i.between (some_quiet state rules.sets i.between i.within)))
+whole_run state force now rules earlier (Err stop.Memory) ts built (in_acts i) = begun_run state now rules i.before (i.between ++ entry.Ends ∷ []) ts i.directory i.entries (ended state rules i.between (broke_turn state rules now force i.between built i.within))

@@ -1,5 +1,5 @@
--- The steps of a plan of rules without scripts: unlinks, renames, makings of logs and marks alone.
-use Rattle.std.proofs.Common.{◌≡◌, inl, inr, ℕ, Bool, true, false, not, List, [], ◌∷◌, ◌++◌, map, Option, None, refl, sym, ap, subst}
+-- The steps of a plan: unlinks, renames, makings of logs, programs and marks alone.
+use Rattle.std.proofs.Common.{ℕ, Bool, true, false, not, List, [], ◌∷◌, ◌++◌, map, Option, Some, None}
 use Rattle.std.specs.List.{flat_map}
 use Rattle.lr_rules.specs.declared.fault.Fault.{Fault}
 use Rattle.lr_rules.specs.declared.fault.Phase.{Phase}
@@ -11,21 +11,168 @@ use Rattle.lr_rules.specs.declared.rule.Naming.{Naming}
 use Rattle.lr_rules.specs.declared.rule.Rule.{Rule}
 use Rattle.lr_due.specs.declared.answer.Due.{Due}
 use Rattle.lr_due.specs.declared.answer.Due.TheVariants as due
-use Rattle.lr_scripts.specs.declared.command.Command.{Command}
 use Rattle.lr_chain.specs.declared.ready.Move.{Move}
 use Rattle.lr_chain.specs.Ready.{removal_at}
+use Rattle.lr_commands.specs.Commands.{script, where_so}
 use Rattle.lr_plan.specs.declared.looks.LogLook.{LogLook}
 use Rattle.lr_plan.specs.declared.looks.SetLooks.{SetLooks}
 use Rattle.lr_plan.specs.declared.planned.LogPlan.{LogPlan}
 use Rattle.lr_plan.specs.declared.planned.SetPlan.{SetPlan}
 use Rattle.lr_plan.specs.declared.step.Step.{Step}
 use Rattle.lr_plan.specs.declared.step.Step.TheVariants.{Runs, Removes, Renames, Creates, Copies, Rotated}
-use Rattle.lr_plan.specs.Planned.{script, where_so, hindrances, ready_for, log_plan, none_hinders, plans_of, where_due, log_plans, set_plan, all_plans, HasNoScripts}
+use Rattle.lr_plan.specs.Planned.{hindrances, ready_for, log_plan, none_hinders, plans_of, where_due, log_plans, set_plan, all_plans}
 use Rattle.lr_plan.specs.Steps.{program, removals, move, made_anew, rotation_of, retirement_of, steps_of_log, shared_steps, by_logs, steps_of_set}
-use Rattle.lr_acts.specs.Making.{IsBuilt, AreBuilt, IsProgram, HasProgram, all_of_each, all_of_set, all_of_sets}
+use Rattle.lr_acts.specs.Making.{IsBuilt, AreBuilt, all_of_each, all_of_set, all_of_sets}
 
--- an unlink, a rename, the making of a log, or no call: it fails by a call alone
+-- ---- what holds of each of some steps
+
+abbrev pub EachStep : (Step → Type 0) → List Step → Type 0
+EachStep P [] = Unit {0}
+EachStep P (step ∷ steps) = P step × EachStep P steps
+
+pub step_both : (P : Step → Type 0) (xs ys : List Step) → EachStep P xs → EachStep P ys → EachStep P (xs ++ ys)
+step_both P [] ys h g = g
+step_both P (x ∷ xs) ys h g = (h.0, step_both P xs ys h.1 g)
+
+pub step_split : (P : Step → Type 0) (xs ys : List Step) → EachStep P (xs ++ ys) → EachStep P xs × EachStep P ys
+step_split P [] ys h = (tt, h)
+step_split P (x ∷ xs) ys h = let r = step_split P xs ys h.1 in ((h.0, r.0), r.1)
+
+-- ---- what holds of the steps of each plan, where Q holds of the texts of its scripts
+
+-- P holds of an unlink, a rename, the making of a log and a mark, and of the program of a script of which Q holds
+pub record IsOfSteps (P : Step → Type 0) (Q : Option (List ℕ) → Type 0) : Type 0 where
+  pub removes : (path : Path) → P (Removes path)
+  pub renames : (from to : Path) → P (Renames from to)
+  pub creates : (path : Path) (mode : Option ℕ) → P (Creates path mode)
+  pub rotated : (log : Path) → P (Rotated log)
+  pub runs : (p : Phase) (text : Option (List ℕ)) (args : List (List ℕ)) → Q text → EachStep P (program p (script text args))
+
+-- Q holds of the scripts of the rule that a plan runs
+pub record IsOfScripts (Q : Option (List ℕ) → Type 0) (rule : Rule) : Type 0 where
+  pub first : Q rule.scripts.first
+  pub pre : Q rule.scripts.pre
+  pub post : Q rule.scripts.post
+  pub last : Q rule.scripts.last
+
+abbrev pub AreOfScripts : (Option (List ℕ) → Type 0) → List Rule → Type 0
+AreOfScripts Q [] = Unit {0}
+AreOfScripts Q (rule ∷ rules) = IsOfScripts Q rule × AreOfScripts Q rules
+
+module _ (P : Step → Type 0) (Q : Option (List ℕ) → Type 0) (k : IsOfSteps P Q) where
+  -- ---- one log
+
+  where_runs : (b : Bool) (p : Phase) (text : Option (List ℕ)) (args : List (List ℕ)) → Q text → EachStep P (program p (where_so b (script text args)))
+  where_runs true p text args q = k.runs p text args q
+  where_runs false p text args q = tt
+
+  removals_so : (n : Naming) (places : List ℕ) → EachStep P (removals (map (removal_at n) places))
+  removals_so n [] = tt
+  removals_so n (p ∷ ps) = (k.removes _, removals_so n ps)
+
+  moves_so : (ms : List Move) → EachStep P (map move ms)
+  moves_so [] = tt
+  moves_so (m ∷ ms) = (k.renames _ _, moves_so ms)
+
+  anew_so : (m : Make) (log : Path) → EachStep P (made_anew m log None)
+  anew_so make.No log = tt
+  anew_so (make.Yes mode) log = (k.creates log mode, tt)
+
+  -- of each log: its rotation, its retirement, and its programs
+  record IsLogSo (log : LogPlan) : Type 0 where
+    rotation : EachStep P (rotation_of log)
+    retirement : EachStep P (retirement_of log)
+    pre : EachStep P (program phase.Pre log.pre)
+    post : EachStep P (program phase.Post log.post)
+
+  abbrev AreLogsSo : List LogPlan → Type 0
+  AreLogsSo [] = Unit {0}
+  AreLogsSo (log ∷ logs) = IsLogSo log × AreLogsSo logs
+
+  log_so : (rule : Rule) (look : LogLook) → IsOfScripts Q rule → IsLogSo (log_plan rule look)
+  log_so rule look h = record {
+    rotation = step_both P (removals (ready_for rule look).leftovers) _ (removals_so look.family.naming _)
+        (step_both P (map move (ready_for rule look).moves) _ (moves_so (ready_for rule look).moves) (k.renames _ _, (k.rotated _, anew_so (ready_for rule look).make look.path)));
+    retirement = removals_so look.family.naming _;
+    pre = where_runs (not rule.shared) phase.Pre rule.scripts.pre _ h.pre;
+    post = where_runs (not rule.shared) phase.Post rule.scripts.post _ h.post;
+  }
+
+  logs_both : (xs ys : List LogPlan) → AreLogsSo xs → AreLogsSo ys → AreLogsSo (xs ++ ys)
+  logs_both [] ys h g = g
+  logs_both (x ∷ xs) ys h g = (h.0, logs_both xs ys h.1 g)
+
+  free_so : (fs : List Fault) (log : LogPlan) → IsLogSo log → AreLogsSo (none_hinders fs (log ∷ []))
+  free_so [] log h = (h, tt)
+  free_so (f ∷ fs) log h = tt
+
+  due_so : (d : Due) (logs : List LogPlan) → AreLogsSo logs → AreLogsSo (where_due d logs)
+  due_so (due.Yes why) logs h = h
+  due_so (due.No why) logs h = tt
+
+  logs_so : (rule : Rule) (decide : LogLook → Due) (looks : List LogLook) → IsOfScripts Q rule → AreLogsSo (log_plans rule decide looks)
+  logs_so rule decide [] h = tt
+  logs_so rule decide (l ∷ ls) h = logs_both (where_due (decide l) (plans_of rule l)) (log_plans rule decide ls) (due_so (decide l) (plans_of rule l) (free_so (hindrances rule l) (log_plan rule l) (log_so rule l h))) (logs_so rule decide ls h)
+
+  -- ---- one definition
+
+  log_steps : (log : LogPlan) → IsLogSo log → EachStep P (steps_of_log log)
+  log_steps log h = step_both P (program phase.Pre log.pre) _ h.pre (step_both P (rotation_of log) _ h.rotation (step_both P (program phase.Post log.post) _ h.post h.retirement))
+
+  each_steps : (logs : List LogPlan) → AreLogsSo logs → EachStep P (all_of_each (map steps_of_log logs))
+  each_steps [] h = tt
+  each_steps (l ∷ ls) h = step_both P (steps_of_log l) _ (log_steps l h.0) (each_steps ls h.1)
+
+  rotations_so : (logs : List LogPlan) → AreLogsSo logs → EachStep P (flat_map rotation_of logs)
+  rotations_so [] h = tt
+  rotations_so (l ∷ ls) h = step_both P (rotation_of l) _ h.0.rotation (rotations_so ls h.1)
+
+  retirements_so : (logs : List LogPlan) → AreLogsSo logs → EachStep P (flat_map retirement_of logs)
+  retirements_so [] h = tt
+  retirements_so (l ∷ ls) h = step_both P (retirement_of l) _ h.0.retirement (retirements_so ls h.1)
+
+  -- its own programs
+  record IsSetSo (set : SetPlan) : Type 0 where
+    first : EachStep P (program phase.First set.first)
+    pre : EachStep P (program phase.Pre set.pre)
+    post : EachStep P (program phase.Post set.post)
+    last : EachStep P (program phase.Last set.last)
+
+  shared_so : (set : SetPlan) → IsSetSo set → AreLogsSo set.logs → EachStep P (shared_steps set)
+  shared_so set n h = step_both P (program phase.First set.first) _ n.first (step_both P (program phase.Pre set.pre) _ n.pre
+      (step_both P (flat_map rotation_of set.logs) _ (rotations_so set.logs h) (step_both P (program phase.Post set.post) _ n.post
+      (step_both P (flat_map retirement_of set.logs) _ (retirements_so set.logs h) n.last))))
+
+  set_so : (set : SetPlan) → IsSetSo set → AreLogsSo set.logs → EachStep P (all_of_set (steps_of_set set))
+  set_so set n h = go set.shared set.logs
+    where
+      go : (b : Bool) (logs : List LogPlan) → EachStep P (all_of_set (by_logs b logs set))
+      go b [] = tt
+      go true (l ∷ ls) = step_both P (shared_steps set) [] (shared_so set n h) tt
+      go false (l ∷ ls) = step_both P (program phase.First set.first) _ n.first (step_both P (all_of_each (map steps_of_log set.logs)) _ (each_steps set.logs h) n.last)
+
+  own_so : (rule : Rule) (logs : List LogPlan) → IsOfScripts Q rule → IsSetSo (set_plan rule logs)
+  own_so rule logs h = record {
+    first = k.runs phase.First rule.scripts.first _ h.first;
+    pre = where_runs rule.shared phase.Pre rule.scripts.pre _ h.pre;
+    post = where_runs rule.shared phase.Post rule.scripts.post _ h.post;
+    last = k.runs phase.Last rule.scripts.last _ h.last;
+  }
+
+  -- ---- all definitions
+
+  pub plan_so : (decide : Rule → LogLook → Due) (rules : List Rule) (sets : List SetLooks) → AreOfScripts Q rules → EachStep P (all_of_sets (map steps_of_set (all_plans decide rules sets)))
+  plan_so decide [] [] h = tt
+  plan_so decide [] (s ∷ ss) h = tt
+  plan_so decide (r ∷ rs) [] h = tt
+  plan_so decide (r ∷ rs) (s ∷ ss) h = step_both P (all_of_set (steps_of_set (set_plan r (log_plans r (decide r) s.logs)))) _
+      (set_so (set_plan r (log_plans r (decide r) s.logs)) (own_so r (log_plans r (decide r) s.logs) h.0) (logs_so r (decide r) s.logs h.0)) (plan_so decide rs ss h.1)
+
+-- ---- simple steps
+
+-- an unlink, a rename, the making of a log, a program, or no call: it fails by a call, or by a program that ends badly
 abbrev pub IsSimple : Step → Type 0
+IsSimple (Runs phase on command) = Unit {0}
 IsSimple (Removes path) = Unit {0}
 IsSimple (Renames from to) = Unit {0}
 IsSimple (Creates path mode) = Unit {0}
@@ -33,19 +180,12 @@ IsSimple (Rotated log) = Unit {0}
 IsSimple _ = ⊥
 
 abbrev pub AreSimple : List Step → Type 0
-AreSimple [] = Unit {0}
-AreSimple (step ∷ steps) = IsSimple step × AreSimple steps
-
-pub simple_both : (xs ys : List Step) → AreSimple xs → AreSimple ys → AreSimple (xs ++ ys)
-simple_both [] ys h g = g
-simple_both (x ∷ xs) ys h g = (h.0, simple_both xs ys h.1 g)
+AreSimple steps = EachStep IsSimple steps
 
 pub simple_split : (xs ys : List Step) → AreSimple (xs ++ ys) → AreSimple xs × AreSimple ys
-simple_split [] ys h = (tt, h)
-simple_split (x ∷ xs) ys h = let r = simple_split xs ys h.1 in ((h.0, r.0), r.1)
+simple_split xs ys h = step_split IsSimple xs ys h
 
--- ---- neither programs nor copies
-
+-- none is a copy
 built_one : (s : Step) → IsSimple s → IsBuilt s
 built_one (Copies from to limit) h = absurd h
 built_one _ h = tt
@@ -54,128 +194,20 @@ pub simple_built : (steps : List Step) → AreSimple steps → AreBuilt steps
 simple_built [] h = tt
 simple_built (s ∷ ss) h = (built_one s h.0, simple_built ss h.1)
 
-no_program_one : (s : Step) → IsSimple s → IsProgram s → ⊥
-no_program_one (Runs phase on command) h p = h
-no_program_one _ h p = p
+-- so are the programs of all scripts
+abbrev Any : Option (List ℕ) → Type 0
+Any text = Unit {0}
 
-pub no_program : (steps : List Step) → AreSimple steps → HasProgram steps → ⊥
-no_program [] h p = p
-no_program (s ∷ ss) h (inl p) = no_program_one s h.0 p
-no_program (s ∷ ss) h (inr p) = no_program ss h.1 p
+program_simple : (p : Phase) (text : Option (List ℕ)) (args : List (List ℕ)) → Any text → AreSimple (program p (script text args))
+program_simple p None args q = tt
+program_simple p (Some text) args q = (tt, tt)
 
--- ---- one log
+simple_steps : IsOfSteps IsSimple Any
+simple_steps = record { removes = λ path. tt; renames = λ from to. tt; creates = λ path mode. tt; rotated = λ log. tt; runs = program_simple }
 
-no_step : (p : Phase) (c : Option Command) → c ≡ None → AreSimple (program p c)
-no_step p c e = subst (λ (x : Option Command). AreSimple (program p x)) (sym e) tt
+any_scripts : (rules : List Rule) → AreOfScripts Any rules
+any_scripts [] = tt
+any_scripts (rule ∷ rules) = (record { first = tt; pre = tt; post = tt; last = tt }, any_scripts rules)
 
-no_script : (o : Option (List ℕ)) (args : List (List ℕ)) → o ≡ None → script o args ≡ None
-no_script o args e = ap (λ (x : Option (List ℕ)). script x args) e
-
-nowhere : (b : Bool) (c : Option Command) → c ≡ None → where_so b c ≡ None
-nowhere true c e = e
-nowhere false c e = refl
-
-removals_simple : (n : Naming) (places : List ℕ) → AreSimple (removals (map (removal_at n) places))
-removals_simple n [] = tt
-removals_simple n (p ∷ ps) = (tt, removals_simple n ps)
-
-moves_simple : (ms : List Move) → AreSimple (map move ms)
-moves_simple [] = tt
-moves_simple (m ∷ ms) = (tt, moves_simple ms)
-
-anew_simple : (m : Make) (log : Path) → AreSimple (made_anew m log None)
-anew_simple make.No log = tt
-anew_simple (make.Yes mode) log = (tt, tt)
-
--- of each log: its rotation, its retirement, and no programs
-record IsBare (log : LogPlan) : Type 0 where
-  rotation : AreSimple (rotation_of log)
-  retirement : AreSimple (retirement_of log)
-  pre : log.pre ≡ None
-  post : log.post ≡ None
-
-abbrev AreBare : List LogPlan → Type 0
-AreBare [] = Unit {0}
-AreBare (log ∷ logs) = IsBare log × AreBare logs
-
-log_bare : (rule : Rule) (look : LogLook) → HasNoScripts rule.scripts → IsBare (log_plan rule look)
-log_bare rule look h = record {
-  rotation = simple_both (removals (ready_for rule look).leftovers) _ (removals_simple look.family.naming _) (simple_both (map move (ready_for rule look).moves) _ (moves_simple (ready_for rule look).moves) (tt, (tt, anew_simple (ready_for rule look).make look.path)));
-  retirement = removals_simple look.family.naming _;
-  pre = nowhere (not rule.shared) (script rule.scripts.pre (look.path ∷ [])) (no_script rule.scripts.pre (look.path ∷ []) h.pre);
-  post = nowhere (not rule.shared) _ (no_script rule.scripts.post _ h.post);
-}
-
-bare_both : (xs ys : List LogPlan) → AreBare xs → AreBare ys → AreBare (xs ++ ys)
-bare_both [] ys h g = g
-bare_both (x ∷ xs) ys h g = (h.0, bare_both xs ys h.1 g)
-
-free_bare : (fs : List Fault) (log : LogPlan) → IsBare log → AreBare (none_hinders fs (log ∷ []))
-free_bare [] log h = (h, tt)
-free_bare (f ∷ fs) log h = tt
-
-due_bare : (d : Due) (logs : List LogPlan) → AreBare logs → AreBare (where_due d logs)
-due_bare (due.Yes why) logs h = h
-due_bare (due.No why) logs h = tt
-
-logs_bare : (rule : Rule) (decide : LogLook → Due) (looks : List LogLook) → HasNoScripts rule.scripts → AreBare (log_plans rule decide looks)
-logs_bare rule decide [] h = tt
-logs_bare rule decide (l ∷ ls) h = bare_both (where_due (decide l) (plans_of rule l)) (log_plans rule decide ls) (due_bare (decide l) (plans_of rule l) (free_bare (hindrances rule l) (log_plan rule l) (log_bare rule l h))) (logs_bare rule decide ls h)
-
--- ---- one definition
-
-log_steps : (log : LogPlan) → IsBare log → AreSimple (steps_of_log log)
-log_steps log h = simple_both (program phase.Pre log.pre) _ (no_step phase.Pre log.pre h.pre) (simple_both (rotation_of log) _ h.rotation (simple_both (program phase.Post log.post) _ (no_step phase.Post log.post h.post) h.retirement))
-
-each_steps : (logs : List LogPlan) → AreBare logs → AreSimple (all_of_each (map steps_of_log logs))
-each_steps [] h = tt
-each_steps (l ∷ ls) h = simple_both (steps_of_log l) _ (log_steps l h.0) (each_steps ls h.1)
-
-rotations_simple : (logs : List LogPlan) → AreBare logs → AreSimple (flat_map rotation_of logs)
-rotations_simple [] h = tt
-rotations_simple (l ∷ ls) h = simple_both (rotation_of l) _ h.0.rotation (rotations_simple ls h.1)
-
-retirements_simple : (logs : List LogPlan) → AreBare logs → AreSimple (flat_map retirement_of logs)
-retirements_simple [] h = tt
-retirements_simple (l ∷ ls) h = simple_both (retirement_of l) _ h.0.retirement (retirements_simple ls h.1)
-
--- no programs of its own
-record HasNone (set : SetPlan) : Type 0 where
-  first : set.first ≡ None
-  pre : set.pre ≡ None
-  post : set.post ≡ None
-  last : set.last ≡ None
-
-shared_simple : (set : SetPlan) → HasNone set → AreBare set.logs → AreSimple (shared_steps set)
-shared_simple set n h = simple_both (program phase.First set.first) _ (no_step phase.First set.first n.first) (simple_both (program phase.Pre set.pre) _ (no_step phase.Pre set.pre n.pre)
-    (simple_both (flat_map rotation_of set.logs) _ (rotations_simple set.logs h) (simple_both (program phase.Post set.post) _ (no_step phase.Post set.post n.post)
-    (simple_both (flat_map retirement_of set.logs) _ (retirements_simple set.logs h) (no_step phase.Last set.last n.last)))))
-
-set_simple : (set : SetPlan) → HasNone set → AreBare set.logs → AreSimple (all_of_set (steps_of_set set))
-set_simple set n h = go set.shared set.logs
-  where
-    go : (b : Bool) (logs : List LogPlan) → AreSimple (all_of_set (by_logs b logs set))
-    go b [] = tt
-    go true (l ∷ ls) = simple_both (shared_steps set) [] (shared_simple set n h) tt
-    go false (l ∷ ls) = simple_both (program phase.First set.first) _ (no_step phase.First set.first n.first) (simple_both (all_of_each (map steps_of_log set.logs)) _ (each_steps set.logs h) (no_step phase.Last set.last n.last))
-
-none_of : (rule : Rule) (logs : List LogPlan) → HasNoScripts rule.scripts → HasNone (set_plan rule logs)
-none_of rule logs h = record {
-  first = no_script rule.scripts.first _ h.first;
-  pre = nowhere rule.shared _ (no_script rule.scripts.pre _ h.pre);
-  post = nowhere rule.shared _ (no_script rule.scripts.post _ h.post);
-  last = no_script rule.scripts.last _ h.last;
-}
-
--- ---- all definitions
-
-abbrev pub HaveNoScripts : List Rule → Type 0
-HaveNoScripts [] = Unit {0}
-HaveNoScripts (rule ∷ rules) = HasNoScripts rule.scripts × HaveNoScripts rules
-
-pub plan_simple : (decide : Rule → LogLook → Due) (rules : List Rule) (sets : List SetLooks) → HaveNoScripts rules → AreSimple (all_of_sets (map steps_of_set (all_plans decide rules sets)))
-plan_simple decide [] [] h = tt
-plan_simple decide [] (s ∷ ss) h = tt
-plan_simple decide (r ∷ rs) [] h = tt
-plan_simple decide (r ∷ rs) (s ∷ ss) h = simple_both (all_of_set (steps_of_set (set_plan r (log_plans r (decide r) s.logs)))) _
-    (set_simple (set_plan r (log_plans r (decide r) s.logs)) (none_of r (log_plans r (decide r) s.logs) h.0) (logs_bare r (decide r) s.logs h.0)) (plan_simple decide rs ss h.1)
+pub plan_simple : (decide : Rule → LogLook → Due) (rules : List Rule) (sets : List SetLooks) → AreSimple (all_of_sets (map steps_of_set (all_plans decide rules sets)))
+plan_simple decide rules sets = plan_so IsSimple Any simple_steps decide rules sets (any_scripts rules)

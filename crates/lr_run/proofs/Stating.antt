@@ -1,5 +1,5 @@
--- What the reading of the state and its writing leave.
-use Rattle.std.proofs.Common.{◌≡◌, ◌⊎◌, inl, inr, ◌+◌, ℕ, Bool, true, false, cond, List, [], ◌∷◌, ◌++◌, length, map, Option, Result, Ok, Err, refl, sym, subst}
+-- What the writing of the state leaves.
+use Rattle.std.proofs.Common.{◌≡◌, ◌⊎◌, inl, inr, ℕ, Bool, true, false, cond, List, [], ◌∷◌, ◌++◌, map, Option, refl, sym, subst}
 use Rattle.std.specs.Prelude.{filter}
 use Rattle.lr_rules.specs.declared.fault.Fault.{Fault}
 use Rattle.lr_rules.specs.declared.path.Path.{Path}
@@ -16,42 +16,8 @@ use Rattle.lr_plan.specs.Copying.{Appended, no_more, piece_more, AppendBroke, at
 use Rattle.lr_plan.specs.Course.{Course}
 use Rattle.lr_plan.specs.Outcomes.{Succeeds, Fails}
 use Rattle.lr_plan.specs.Steps.{state_part, state_steps, step_if}
-use Rattle.lr_reading.specs.declared.look.LookStop.{LookStop}
-use Rattle.lr_reading.specs.Pieces.{Reading, Whole, Broken, reads_from, reads_of}
-use Rattle.lr_reading.specs.Sights.{Sight, Failed, Nothing, Saw, StateSights, ShowsState, found, look_of, text_entries, behind_part, behind_state}
 use Rattle.lr_rotations.specs.AllTurns.{IsOfState}
 use Rattle.lr_run.proofs.Working.{IsWork, AreWork}
-
--- ---- the reading
-
-reads_work : (path : Path) (place : ℕ) (pieces : List (List ℕ)) → AreWork (reads_from path place pieces)
-reads_work path place [] = tt
-reads_work path place (piece ∷ pieces) = (tt, reads_work path (place + length piece) pieces)
-
-reading_work : (path : Path) (r : Reading) → AreWork (reads_of path r)
-reading_work path (Whole pieces last) = reads_work path 0 (pieces ++ last ∷ [])
-reading_work path (Broken pieces) = reads_work path 0 pieces
-
-look_work : (path : Path) (s : Sight) → AreWork (look_of path s)
-look_work path Failed = tt
-look_work path Nothing = (tt, tt)
-look_work path (Saw seen) = (tt, tt)
-
-text_work : (state : Path) (there : Bool) (r : Reading) → AreWork (text_entries state there r)
-text_work state true r = reading_work state r
-text_work state false r = tt
-
-behind_part_work : (state : Path) (there : Bool) (f : Result Bool LookStop) (r : Reading) → AreWork (behind_part state there f r)
-behind_part_work state there (Ok stale) r = text_work state there r
-behind_part_work state there (Err why) r = tt
-
-behind_state_work : (state : Path) (f : Result Bool LookStop) (part : Sight) (r : Reading) → AreWork (behind_state state f part r)
-behind_state_work state (Ok there) part r = each_append IsWork (look_of (state_part state) part) (behind_part state there (found part) r) (look_work (state_part state) part) (behind_part_work state there (found part) r)
-behind_state_work state (Err why) part r = tt
-
-pub state_read_work : (state : Path) (size : ℕ) (s : StateSights) (ts : List Entry) → ShowsState state size s ts → AreWork ts
-state_read_work state size s ts shown =
-    subst AreWork (sym shown.entries) (each_append IsWork (look_of state s.state) (behind_state state (found s.state) s.part s.reading) (look_work state s.state) (behind_state_work state (found s.state) s.part s.reading))
 
 -- ---- steps of which each entry is so
 
@@ -98,9 +64,19 @@ take_fails P path mode f ts p (inr h) = none_leaves P ts h.1
 
 -- ---- the writing
 
--- the entry leaves the run on, and changes paths of the state alone
+-- a change of a name or of bytes that the writing makes, or a sync
+abbrev pub IsWrite : Entry → Type 0
+IsWrite (entry.Renames from to) = Unit {0}
+IsWrite (entry.Makes x mode) = Unit {0}
+IsWrite (entry.Appends x piece) = Unit {0}
+IsWrite (entry.Unlinks x) = Unit {0}
+IsWrite (entry.SyncsFile x) = Unit {0}
+IsWrite (entry.SyncsDir x) = Unit {0}
+IsWrite _ = ⊥
+
+-- such an entry, which changes paths of the state alone
 abbrev pub IsWriting : Path → Entry → Type 0
-IsWriting state e = IsWork e × (is_change e ≡ true → IsOfState state e)
+IsWriting state e = IsWrite e × (is_change e ≡ true → IsOfState state e)
 
 removes : (state : Path) → Leaves (IsWriting state) (Removes (state_part state))
 removes state = record {
@@ -153,8 +129,18 @@ steps_leave state stale dirs text = leave_both (IsWriting state) (step_if stale 
 pub state_writing : (state : Path) (stale : Bool) (dirs : List Path) (text : List ℕ) (fs : List Fault) (ts : List Entry) → Course (state_steps state stale dirs text) [] fs ts → Each (IsWriting state) ts
 state_writing state stale dirs text fs ts h = course_leaves (IsWriting state) (state_steps state stale dirs text) [] fs ts (steps_leave state stale dirs text) h
 
+-- it leaves the run on
+write_work : (e : Entry) → IsWrite e → IsWork e
+write_work (entry.Renames from to) i = i
+write_work (entry.Makes x mode) i = i
+write_work (entry.Appends x piece) i = i
+write_work (entry.Unlinks x) i = i
+write_work (entry.SyncsFile x) i = i
+write_work (entry.SyncsDir x) i = i
+write_work _ i = absurd i
+
 pub writing_work : (state : Path) (ts : List Entry) → Each (IsWriting state) ts → AreWork ts
-writing_work state ts a = each_as (IsWriting state) IsWork ts (λ e h. h.0) a
+writing_work state ts a = each_as (IsWriting state) IsWork ts (λ e h. write_work e h.0) a
 
 pub changes_of_state : (state : Path) (ts : List Entry) → Each (IsWriting state) ts → Each (IsOfState state) (filter is_change ts)
 changes_of_state state [] a = tt

@@ -1,24 +1,27 @@
--- Between its begin and its end a run leaves looks, listings, reads, changes and syncs alone, so it goes on.
-use Rattle.std.proofs.Common.{◌≡◌, ◌⊎◌, inl, inr, true, List, [], ◌∷◌, reverse, Option, refl, sym, ap, ◌∙◌, subst}
+-- Between its begin and its end a run leaves looks, listings, reads, changes, syncs and programs alone, so it goes on.
+use Rattle.std.proofs.Common.{◌≡◌, ◌⊎◌, inl, inr, ℕ, true, List, [], ◌∷◌, reverse, Option, refl, sym, ap, ◌∙◌, subst}
 use Rattle.std.proofs.lemmas.List.{reverse-reverse}
 use Rattle.lr_rules.specs.declared.path.Path.{Path}
 use Rattle.lr_rules.specs.declared.civil.Moment.{Moment}
 use Rattle.lr_rules.specs.declared.rules.Rules.{Rules}
 use Rattle.lr_rules.specs.declared.fault.Fault.{Fault}
+use Rattle.lr_rules.specs.declared.fault.Phase.{Phase}
 use Rattle.lr_host.specs.declared.entry.Entry.{Entry}
 use Rattle.lr_host.specs.declared.entry.Entry.TheVariants as entry
 use Rattle.lr_host.specs.declared.journal.Journal.{Journal}
 use Rattle.lr_host.specs.World.{Past, ◌▸◌, past, world}
 use Rattle.lr_host.specs.Told.{Each, IsWriters, Are, Made, at_first, by_writer, by_tool, Left, not_told, is_told, WhereTold}
 use Rattle.lr_host.proofs.Each.{each_append, each_in_order}
+use Rattle.lr_scripts.specs.declared.command.Command.{Command}
 use Rattle.lr_plan.specs.declared.mark.Mark.{Mark}
 use Rattle.lr_plan.specs.declared.step.SetSteps.{SetSteps}
 use Rattle.lr_plan.specs.declared.step.Step.{Step}
-use Rattle.lr_plan.specs.declared.step.Step.TheVariants.{Removes, Renames, Creates, Rotated}
-use Rattle.lr_plan.specs.Outcomes.{Succeeds, Fails}
+use Rattle.lr_plan.specs.declared.step.Step.TheVariants.{Runs, Removes, Renames, Creates, Rotated}
+use Rattle.lr_plan.specs.Outcomes.{Succeeds, Fails, ProgramFailed, badly, not_run, maybe_run}
 use Rattle.lr_plan.specs.Done.{SetsDone}
+use Rattle.lr_plan.specs.Internal.Cut.{SetsCut}
 use Rattle.lr_acts.specs.Making.{all_of_sets}
-use Rattle.lr_run.proofs.Folded.{Folds, acts_fold}
+use Rattle.lr_run.proofs.Folded.{Folds, acts_fold, cut_acts_fold}
 use Rattle.lr_run.proofs.Simple.{IsSimple, AreSimple}
 
 -- neither the begin nor the end of a run, nor a writer's
@@ -34,6 +37,7 @@ IsWork (entry.Truncates x) = Unit {0}
 IsWork (entry.Unlinks x) = Unit {0}
 IsWork (entry.SyncsFile x) = Unit {0}
 IsWork (entry.SyncsDir x) = Unit {0}
+IsWork (entry.Runs program args input end) = Unit {0}
 IsWork _ = ⊥
 
 abbrev pub AreWork : List Entry → Type 0
@@ -49,13 +53,20 @@ maybe_work e ts w (inl h) = are_work ts [] h tt
 maybe_work e ts w (inr h) = are_work ts (e ∷ []) h (w, tt)
 
 made_work : (s : Step) (ts : List Entry) → IsSimple s → Succeeds s ts → AreWork ts
+made_work (Runs p on command) ts i h = are_work ts _ h (tt, tt)
 made_work (Removes path) ts i h = are_work ts _ h (tt, tt)
 made_work (Renames from to) ts i h = are_work ts _ h (tt, tt)
 made_work (Creates path mode) ts i h = maybe_work (entry.Makes path mode) ts tt h
 made_work (Rotated log) ts i h = are_work ts [] h tt
 made_work _ ts i h = absurd i
 
+program_work : (p : Phase) (on : List ℕ) (c : Command) (f : Fault) (ts : List Entry) → ProgramFailed p on c f ts → AreWork ts
+program_work p on c f ts (badly end bad e o) = are_work ts _ o (tt, tt)
+program_work p on c f ts (not_run e o) = are_work ts [] o tt
+program_work p on c f ts (maybe_run end e o) = are_work ts _ o (tt, tt)
+
 failed_work : (s : Step) (f : Fault) (ts : List Entry) → IsSimple s → Fails s f ts → AreWork ts
+failed_work (Runs p on command) f ts i h = program_work p on command f ts h
 failed_work (Removes path) f ts i h = maybe_work (entry.Unlinks path) ts tt h.1
 failed_work (Renames from to) f ts i h = maybe_work (entry.Renames from to) ts tt h.1
 failed_work (Creates path mode) f ts i h = maybe_work (entry.Makes path mode) ts tt h.1
@@ -75,6 +86,9 @@ work_folds = record {
 
 pub sets_work : (sets : List SetSteps) (ms : List Mark) (fs : List Fault) (ts : List Entry) → AreSimple (all_of_sets sets) → SetsDone sets ms fs ts → AreWork ts
 sets_work sets ms fs ts i h = acts_fold (λ fs ts. AreWork ts) work_folds sets ms fs ts i h
+
+pub cut_sets_work : (sets : List SetSteps) (ms : List Mark) (fs : List Fault) (ts : List Entry) → AreSimple (all_of_sets sets) → SetsCut sets ms fs ts → AreWork ts
+cut_sets_work sets ms fs ts i c = cut_acts_fold (λ fs ts. AreWork ts) work_folds sets ms fs ts i c
 
 -- ---- the run goes on
 
@@ -100,6 +114,7 @@ works_on p (entry.Truncates x) i r = r
 works_on p (entry.Unlinks x) i r = r
 works_on p (entry.SyncsFile x) i r = r
 works_on p (entry.SyncsDir x) i r = r
+works_on p (entry.Runs program args input end) i r = r
 works_on p _ i r = absurd i
 
 made_on : (p q : Past) (es : List Entry) → Made p es q → AreWork es → IsOn p → IsOn q

@@ -1,10 +1,11 @@
 -- The work of a run, put together of its parts.
 use Rattle.std.proofs.Common.{◌≡◌, ◌≤◌, ◌<◌, ℕ, Bool, true, false, cond, List, [], ◌∷◌, ◌++◌, length, take, map, reverse, Option, Some, None, Result, Ok, Err, OnErr, refl, sym, ap, ◌∙◌, subst, arith, append_assoc, rules}
-use Rattle.std.specs.Prelude.{OnOk, All}
+use Rattle.std.specs.Prelude.{OnOk}
 use Rattle.std.specs.Result.{IsErr}
 use Rattle.std.proofs.lemmas.Result.{IfOk-from_err}
 use Rattle.std.specs.List.{list_all}
 use Rattle.std.proofs.lemmas.Bool.{and_parts}
+use Rattle.std.proofs.lemmas.List.{append-nil}
 use Rattle.std.proofs.lemmas.List.Elements.{All-head, All-tail}
 use Rattle.std.proofs.Math.Seq.{take-length}
 use Rattle.lr_rules.specs.Limits.{meets_limits}
@@ -39,6 +40,7 @@ use Rattle.lr_plan.specs.declared.step.Step.{Step}
 use Rattle.lr_host.specs.Counted.{AddsFaults}
 use Rattle.lr_plan.specs.Course.{Course}
 use Rattle.lr_plan.specs.Done.{SetsDone, rotated_logs}
+use Rattle.lr_plan.specs.Internal.Cut.{SetsCut}
 use Rattle.lr_plan.specs.Internal.Asking.{asks, CanMake, CanEach, CanSet, CanSets}
 use Rattle.lr_plan.specs.Planned.{decision, hindrances, is_too_high, where_due, log_faults, all_plans, all_faults, plan_of, CanPlanAll}
 use Rattle.lr_plan.specs.Steps.{steps_of_set, steps_of_plan, state_steps}
@@ -64,15 +66,15 @@ use Rattle.lr_fields.specs.Built.{IsBuiltRule, AreBuiltRules}
 use Rattle.lr_seen.specs.Free.{reserved_by}
 use Rattle.lr_seen.specs.Targets.{groups_of, all_targets}
 use Rattle.lr_seen.proofs.Apart.{targets_dont_meet}
-use Rattle.lr_seen.proofs.Built.{no_script, small_count}
+use Rattle.lr_seen.proofs.Built.{can_plan_set}
 use Rattle.lr_seen.proofs.Quiet.{whole_quiet}
 use Rattle.lr_seen.proofs.Ready.{plans_have_logs, plans_read_none}
 use Rattle.lr_seen.proofs.Seen.{targets_seen, targets_have_names, targets_have_paths}
 use Rattle.lr_run.specs.declared.ready.Ready.{Ready}
-use Rattle.lr_run.specs.Internal.{WritesTo, ReadyFor, MayBeReady, ActsAndWrites, CarriesOn, Carries, SomeLooked, LookedDone, WorkDone}
+use Rattle.lr_run.specs.Internal.{WritesTo, ReadyFor, MayBeReady, ActsAndWrites, SomeActs, CarriesOn, Carries, LookedDone, WorkDone, SomeWork, some_seen, some_done, EndsBehindLooks, EndsBehindState}
 use Rattle.lr_run.specs.Runs as runs
-use Rattle.lr_run.specs.Runs.{logs_in, Looked, Worked, worked, too_big, not_known, SomeSeen}
-use Rattle.lr_run.proofs.Simple.{HaveNoScripts, AreSimple, no_program, plan_simple}
+use Rattle.lr_run.specs.Runs.{logs_in, Looked, Worked, worked, too_big, not_known}
+use Rattle.lr_run.proofs.Simple.{AreSimple, plan_simple}
 
 -- ---- rules that are built can be planned for
 
@@ -82,11 +84,7 @@ can_plan [] (s ∷ ss) b limits r e = absurd (omega (arith, e))
 can_plan (x ∷ xs) [] b limits r e = absurd (omega (arith, e))
 can_plan (x ∷ xs) (s ∷ ss) b limits r e =
     let both = and_parts (meets_limits x) (list_all meets_limits xs) limits in
-    (record { count = small_count x both.0; no_scripts = no_script x (All-head IsBuiltRule x xs b); each = r.0 x }, can_plan xs ss (All-tail IsBuiltRule x xs b) both.1 r.1 (omega (arith, e)))
-
-pub no_scripts : (rules : List Rule) → AreBuiltRules rules → HaveNoScripts rules
-no_scripts [] b = tt
-no_scripts (x ∷ xs) b = (no_script x (All-head IsBuiltRule x xs b), no_scripts xs (All-tail IsBuiltRule x xs b))
+    (can_plan_set x s.logs (All-head IsBuiltRule x xs b) both.0 (r.0 x), can_plan xs ss (All-tail IsBuiltRule x xs b) both.1 r.1 (omega (arith, e)))
 
 -- ---- the faults of a plan
 
@@ -127,21 +125,6 @@ some_of_whole reserved rules sets faults ts h = at_families h.found h.of_words h
       after = l.listings;
       shown = subst (λ (fs : List FoundLog). ShowFamilies [] fs l.listings l.families.sights us) (sym (ap (λ n. take n h.kept) many ∙ take-length h.kept)) l.families.shown;
     }
-
--- nothing was looked at
-pub none_looked : {T E : Type 0} (r : Result T E) (state : Path) (rules : List Rule) (o : Option Journal) → OnErr r (Left (SomeLooked state rules) o o)
-none_looked (Ok x) state rules o = tt
-none_looked (Err x) state rules o = left_first (SomeLooked state rules) o (at_words (record { sights = []; few = omega arith; shown = refl }))
-
--- not all that were reserved were known
-pub some_reserved : {T E : Type 0} (r : Result T E) (state : Path) (reserved : List Path) (rules : List Rule) {o n : Option Journal} → reserved ≡ reserved_by state → Left (ShowsSomeLooks reserved rules) o n → OnErr r (Left (SomeLooked state rules) o n)
-some_reserved (Ok x) state reserved rules e l = tt
-some_reserved (Err x) state reserved rules {o = o} {n = n} e l = subst (λ (ps : List Path). Left (ShowsSomeLooks ps rules) o n) e l
-
--- nothing was told behind the looks
-pub some_at_looks : {T E : Type 0} (r : Result T E) (state : Path) (rules : List Rule) (looks : Looks) (a b : List Fault) {o m : Option Journal} (n : Option Journal) → Left (LooksAtAll (reserved_by state) rules looks a b) o m → OnErr r (n ≡ m) → OnErr r (Left (SomeLooked state rules) o n)
-some_at_looks (Ok x) state rules looks a b n l e = tt
-some_at_looks (Err x) state rules looks a b {o = o} n l e = subst (λ (k : Option Journal). Left (SomeLooked state rules) o k) (sym e) (left_as l (λ ts h. some_of_whole (reserved_by state) rules looks.sets h.own ts h.shown))
 
 -- ---- the steps fit
 
@@ -186,15 +169,15 @@ fits_behind reserved rules looks a b decide built disk (is_told {j = j} {k = k} 
 
 -- ---- what is ready can be done
 
-pub steps_simple : (rules : List Rule) (sets : List SetLooks) (table : List Row) (now : Moment) (force : Bool) → AreBuiltRules rules → AreSimple (all_of_sets (steps_of_plan (plan_of rules sets table now force)))
-steps_simple rules sets table now force built = plan_simple (decision table now force) rules sets (no_scripts rules built)
+pub steps_simple : (rules : List Rule) (sets : List SetLooks) (table : List Row) (now : Moment) (force : Bool) → AreSimple (all_of_sets (steps_of_plan (plan_of rules sets table now force)))
+steps_simple rules sets table now force = plan_simple (decision table now force) rules sets
 
 -- the steps that are ready are those of the plan
 abbrev pub PlanFor : Rules → Looks → Remembered → Moment → Bool → Plan
 PlanFor rules looks remembered now force = plan_of rules.sets looks.sets remembered.table now force
 
-pub ready_simple : (rules : Rules) (looks : Looks) (state : Path) (remembered : Remembered) (now : Moment) (force : Bool) (ready : Ready) (x y : Progress) → AreBuiltRules rules.sets → ReadyFor state now remembered looks.kept (PlanFor rules looks remembered now force) ready x y → AreSimple (all_of_sets ready.steps)
-ready_simple rules looks state remembered now force ready x y built r = subst (λ (ss : List SetSteps). AreSimple (all_of_sets ss)) (sym r.is.steps) (steps_simple rules.sets looks.sets remembered.table now force built)
+pub ready_simple : (rules : Rules) (looks : Looks) (state : Path) (remembered : Remembered) (now : Moment) (force : Bool) (ready : Ready) (x y : Progress) → ReadyFor state now remembered looks.kept (PlanFor rules looks remembered now force) ready x y → AreSimple (all_of_sets ready.steps)
+ready_simple rules looks state remembered now force ready x y r = subst (λ (ss : List SetSteps). AreSimple (all_of_sets ss)) (sym r.is.steps) (steps_simple rules.sets looks.sets remembered.table now force)
 
 pub ready_fit : (reserved : List Path) (rules : Rules) (looks : Looks) (state : Path) (remembered : Remembered) (now : Moment) (force : Bool) (ready : Ready) (x y : Progress) (a b : List Fault) {o n : Option Journal} → AreBuiltRules rules.sets → WhereTold o IsJournal
     → ReadyFor state now remembered looks.kept (PlanFor rules looks remembered now force) ready x y → Left (LooksAtAll reserved rules.sets looks a b) o n → CanSets n ready.steps
@@ -281,10 +264,6 @@ looked_done (Ok u) state rules looks remembered now force a b c n l h = left_the
 })
 looked_done (Err u) state rules looks remembered now force a b c n l h = tt
 
-pub work_lacks : {T : Type 0} (r : Result T Memory) (steps : List Step) (X : Type 0) → AreSimple steps → OnErr r (HasProgram steps) → OnErr r X
-work_lacks (Ok u) steps X s h = tt
-work_lacks (Err u) steps X s h = absurd (no_program steps s h)
-
 pub carried_counted : {T : Type 0} (r : Result T Memory) (state : Path) (rules : Rules) (looks : Looks) (remembered : Remembered) (now : Moment) (force : Bool) (ready : Ready) (x y z : Progress) (m n : Option Journal) (k l : Counts)
     → ReadyFor state now remembered looks.kept (PlanFor rules looks remembered now force) ready x y → OnOk r (ActsAndWrites ready now.civil y z m n k l) → OnOk r (AddsFaults x.faults.items z.faults.items k l)
 carried_counted (Ok u) state rules looks remembered now force ready x y z m n k l r h =
@@ -309,23 +288,11 @@ known_done (Err u) state rules now force remembered a b n l h = tt
 pub unknown_done : (state : Path) (rules : List Rule) (now : Moment) (force : Bool) (f : Fault) (a b : List Fault) {o n : Option Journal} → Left (ReadsState state 65_536 (Ok (Err f))) o n → b ≡ a ++ f ∷ [] → WorkDone state rules now force a b o n
 unknown_done state rules now force f a b l e = left_as l (λ ts p. (f ∷ [], e, not_known p.sights f p.known refl p.shown))
 
-pub some_known : {T E : Type 0} (r : Result T E) (state : Path) (rules : List Rule) (remembered : Remembered) {o m : Option Journal} (n : Option Journal) → Left (ReadsState state 65_536 (Ok (Ok remembered))) o m → OnErr r (Left (SomeLooked state rules) m n) → OnErr r (Left (SomeSeen state rules) o n)
-some_known (Ok u) state rules remembered n l h = tt
-some_known (Err u) state rules remembered n l h = left_then l h (λ ts us p q. runs.of_looks p.sights remembered p.known (record { front = ts; back = us; joined = refl; first = p.shown; second = q }))
-
-pub some_read : {T E : Type 0} (r : Result T E) (state : Path) (rules : List Rule) (m : Memory) {o n : Option Journal} → Left (ReadsState state 65_536 (Err m)) o n → OnErr r (Left (SomeSeen state rules) o n)
-some_read (Ok u) state rules m l = tt
-some_read (Err u) state rules m l = left_as l (λ ts p. runs.of_state p.sights p.shown)
-
 abbrev none_sights : StateSights
 none_sights = record { state = Failed; part = Failed; reading = Broken [] }
 
 none_shown : (state : Path) → ShowsState state 65_536 none_sights []
 none_shown state = record { reading = (tt, omega arith); entries = refl }
-
-pub none_seen : {T E : Type 0} (r : Result T E) (state : Path) (rules : List Rule) (o : Option Journal) → OnErr r (Left (SomeSeen state rules) o o)
-none_seen (Ok u) state rules o = tt
-none_seen (Err u) state rules o = left_first (SomeSeen state rules) o (runs.of_state none_sights (none_shown state))
 
 -- the counts tell of the fault by which nothing is known
 pub unknown_counted : (state : Path) (f : Fault) (a b : List Fault) (k l : Counts) → b ≡ a ++ f ∷ [] → IsStateFault state f → ((kind : CallKind) (path : Path) → f ≡ fault.Call kind path → Rose k.faults l.faults) → NoneFell k l → AddsFaults a b k l
@@ -337,3 +304,69 @@ unknown_counted state _ a b k l e i r le = absurd i
 -- nothing was read
 pub reads_none : (state : Path) (answer : Result (Result Remembered Fault) Memory) → IsErr answer → ReadsState state 65_536 answer []
 reads_none state answer e = record { sights = none_sights; shown = none_shown state; known = IfOk-from_err answer _ e }
+
+-- ---- where there was no memory
+
+-- nothing was done behind the looks
+pub none_acted : {T E : Type 0} (r : Result T E) (rules : Rules) (looks : Looks) (state : Path) (remembered : Remembered) (now : Moment) (force : Bool) (o : Option Journal) → OnErr r (Left (EndsBehindLooks rules looks state remembered now force) o o)
+none_acted (Ok x) rules looks state remembered now force o = tt
+none_acted (Err x) rules looks state remembered now force o = left_first (EndsBehindLooks rules looks state remembered now force) o (record {
+  some = λ sights reads ls of_looks known read shown kept. some_seen (runs.of_looks sights remembered known (record {
+    front = reads;
+    back = ls ++ [];
+    joined = refl;
+    first = read;
+    second = subst (ShowsSomeLooks (reserved_by state) rules.sets) (sym (append-nil ls)) (some_of_whole (reserved_by state) rules.sets looks.sets of_looks ls shown);
+  }));
+})
+
+-- of the acts a first part was
+pub some_acted : {T E : Type 0} (r : Result T E) (state : Path) (rules : Rules) (looks : Looks) (remembered : Remembered) (now : Moment) (force : Bool) (ready : Ready) (x y : Progress) (m n : Option Journal)
+    → ReadyFor state now remembered looks.kept (PlanFor rules looks remembered now force) ready x y → OnErr r (HasProgram (all_of_sets ready.steps)) → OnErr r (Left (SomeActs ready.steps) m n) → OnErr r (Left (EndsBehindLooks rules looks state remembered now force) m n)
+some_acted (Ok u) state rules looks remembered now force ready x y m n r p h = tt
+some_acted (Err u) state rules looks remembered now force ready x y m n r p h = left_as h (λ us c. record {
+  some = λ sights reads ls of_looks known read shown kept. some_done (record {
+    looked = record { sights = sights; remembered = remembered; known = known; sets = looks.sets; of_looks = of_looks; reads = reads; looks = ls; acts = us; joined = refl; read = read; shown = shown };
+    small = subst (λ (ks : List Path). length (measured_text (logs_in (PlanFor rules looks remembered now force)) now.civil (after remembered.table [] ks now.civil)) ≤ 67_108_864) kept r.small;
+    program = subst (λ (ss : List SetSteps). HasProgram (all_of_sets ss)) r.is.steps p;
+    marks = c.marks;
+    of_acts = c.faults;
+    part = subst (λ (ss : List SetSteps). SetsCut ss c.marks c.faults us) r.is.steps c.part;
+  });
+})
+
+-- nothing was looked at
+pub none_looked : {T E : Type 0} (r : Result T E) (state : Path) (rules : List Rule) (now : Moment) (force : Bool) (remembered : Remembered) (o : Option Journal) → OnErr r (Left (EndsBehindState state rules now force remembered) o o)
+none_looked (Ok x) state rules now force remembered o = tt
+none_looked (Err x) state rules now force remembered o = left_first (EndsBehindState state rules now force remembered) o (record {
+  some = λ sights reads known read. some_seen (runs.of_looks sights remembered known (record { front = reads; back = []; joined = refl; first = read; second = at_words (record { sights = []; few = omega arith; shown = refl }) }));
+})
+
+-- a first part of the looks was made
+pub some_looked : {T E : Type 0} (r : Result T E) (state : Path) (reserved : List Path) (rules : List Rule) (now : Moment) (force : Bool) (remembered : Remembered) {o n : Option Journal} → reserved ≡ reserved_by state → Left (ShowsSomeLooks reserved rules) o n → OnErr r (Left (EndsBehindState state rules now force remembered) o n)
+some_looked (Ok x) state reserved rules now force remembered e l = tt
+some_looked (Err x) state reserved rules now force remembered e l = left_as l (λ us h. record {
+  some = λ sights reads known read. some_seen (runs.of_looks sights remembered known (record { front = reads; back = us; joined = refl; first = read; second = subst (λ (ps : List Path). ShowsSomeLooks ps rules us) e h }));
+})
+
+-- it ended behind the looks
+pub behind_looks : {T E : Type 0} (r : Result T E) (state : Path) (rules : Rules) (looks : Looks) (remembered : Remembered) (now : Moment) (force : Bool) (a b : List Fault) {o m : Option Journal} (n : Option Journal) → Left (LooksAtAll (reserved_by state) rules.sets looks a b) o m
+    → OnErr r (Left (EndsBehindLooks rules looks state remembered now force) m n) → OnErr r (Left (EndsBehindState state rules.sets now force remembered) o n)
+behind_looks (Ok x) state rules looks remembered now force a b n l h = tt
+behind_looks (Err x) state rules looks remembered now force a b n l h = left_then l h (λ ts us g q. record { some = λ sights reads known read. q.some sights reads ts g.own known read g.shown g.kept_are })
+
+-- nothing was read of the state
+pub none_seen : {T E : Type 0} (r : Result T E) (state : Path) (rules : List Rule) (now : Moment) (force : Bool) (o : Option Journal) → OnErr r (Left (SomeWork state rules now force) o o)
+none_seen (Ok u) state rules now force o = tt
+none_seen (Err u) state rules now force o = left_first (SomeWork state rules now force) o (some_seen (runs.of_state none_sights (none_shown state)))
+
+-- a first part of it was read
+pub some_read : {T E : Type 0} (r : Result T E) (state : Path) (rules : List Rule) (now : Moment) (force : Bool) (m : Memory) {o n : Option Journal} → Left (ReadsState state 65_536 (Err m)) o n → OnErr r (Left (SomeWork state rules now force) o n)
+some_read (Ok u) state rules now force m l = tt
+some_read (Err u) state rules now force m l = left_as l (λ ts p. some_seen (runs.of_state p.sights p.shown))
+
+-- it ended behind the reading
+pub behind_state : {T E : Type 0} (r : Result T E) (state : Path) (rules : List Rule) (now : Moment) (force : Bool) (remembered : Remembered) {o m : Option Journal} (n : Option Journal) → Left (ReadsState state 65_536 (Ok (Ok remembered))) o m
+    → OnErr r (Left (EndsBehindState state rules now force remembered) m n) → OnErr r (Left (SomeWork state rules now force) o n)
+behind_state (Ok u) state rules now force remembered n l h = tt
+behind_state (Err u) state rules now force remembered n l h = left_then l h (λ ts us p q. q.some p.sights ts p.known p.shown)

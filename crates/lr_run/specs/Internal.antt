@@ -24,14 +24,16 @@ use Rattle.lr_plan.specs.declared.mark.Mark.{Mark}
 use Rattle.lr_plan.specs.declared.planned.Plan.{Plan}
 use Rattle.lr_host.specs.Counted.{AreCounted}
 use Rattle.lr_plan.specs.Course.{Course}
+use Rattle.lr_plan.specs.declared.step.SetSteps.{SetSteps}
 use Rattle.lr_plan.specs.Done.{SetsDone, rotated_logs}
+use Rattle.lr_plan.specs.Internal.Cut.{SetsCut}
 use Rattle.lr_plan.specs.Outcomes.{Maybe}
 use Rattle.lr_plan.specs.Steps.{steps_of_plan, state_steps}
 use Rattle.lr_acts.specs.declared.progress.Progress.{Progress}
 use Rattle.lr_acts.specs.Adding.{HasRoom}
 use Rattle.lr_acts.specs.Making.{all_of_sets}
 use Rattle.lr_looks.specs.Found.{paths_of}
-use Rattle.lr_looks.specs.Shown.{ShowsLooks, LooksAtAll, ShowsSomeLooks}
+use Rattle.lr_looks.specs.Shown.{ShowsLooks, LooksAtAll}
 use Rattle.lr_reading.specs.declared.remembered.Remembered.{Remembered}
 use Rattle.lr_reading.specs.Answers.{IsKnown, ReadsState}
 use Rattle.lr_reading.specs.Sights.{StateSights, ShowsState}
@@ -45,7 +47,7 @@ use Rattle.lr_run.specs.declared.answer.RunStop.TheVariants as stop
 use Rattle.lr_run.specs.declared.directory.DirStop.{DirStop}
 use Rattle.lr_run.specs.declared.directory.DirStop.TheVariants as dir
 use Rattle.lr_run.specs.declared.ready.Ready.{Ready}
-use Rattle.lr_run.specs.Runs.{logs_in, changed_in, Works, Runs, SomeSeen, LacksMemory}
+use Rattle.lr_run.specs.Runs.{logs_in, changed_in, Works, Runs, SomeSeen, BrokeOff, LacksMemory}
 
 -- the directory wasn't seen as one
 abbrev pub NotSeen : Path → DirStop → List Entry → Type 0
@@ -118,10 +120,6 @@ pub record CarriesOn (rules : Rules) (looks : Looks) (state : Path) (remembered 
 abbrev pub Carries : Rules → Looks → Path → Remembered → Moment → Bool → List Fault → List Fault → Option Journal → Option Journal → Type 0
 Carries rules looks state remembered now force faults all_faults told later = Left (CarriesOn rules looks state remembered now force faults all_faults) told later
 
--- a first part of the looks was made
-abbrev pub SomeLooked : Path → List Rule → List Entry → Type 0
-SomeLooked state rules ts = ShowsSomeLooks (reserved_by state) rules ts
-
 -- What was done behind a reading by which this is known; its faults were added.
 pub record BehindState (state : Path) (rules : List Rule) (now : Moment) (force : Bool) (remembered : Remembered) (faults all_faults : List Fault) (ts : List Entry) : Type 0 where
   pub own : List Fault
@@ -138,6 +136,28 @@ WorksOn state rules now force faults all_faults ts = (own : List Fault) × (all_
 abbrev pub WorkDone : Path → List Rule → Moment → Bool → List Fault → List Fault → Option Journal → Option Journal → Type 0
 WorkDone state rules now force faults all_faults told later = Left (WorksOn state rules now force faults all_faults) told later
 
+-- ---- the same where there was no memory
+
+-- a first part of the acts
+pub record SomeActs (steps : List SetSteps) (ts : List Entry) : Type 0 where
+  pub marks : List Mark
+  pub faults : List Fault
+  pub part : SetsCut steps marks faults ts
+
+-- A first part of the work: of what is seen, or of the acts.
+pub data SomeWork (state : Path) (rules : List Rule) (now : Moment) (force : Bool) (ts : List Entry) : Type 0 where
+  some_seen : SomeSeen state rules ts → SomeWork state rules now force ts
+  some_done : BrokeOff state rules now force ts → SomeWork state rules now force ts
+
+-- It ends so behind these looks, whatever of them is shown before.
+pub record EndsBehindLooks (rules : Rules) (looks : Looks) (state : Path) (remembered : Remembered) (now : Moment) (force : Bool) (ts : List Entry) : Type 0 where
+  pub some : (sights : StateSights) (reads ls : List Entry) (of_looks : List Fault) → IsKnown state sights (Ok remembered) → ShowsState state 65_536 sights reads
+      → (shown : ShowsLooks (reserved_by state) rules.sets looks.sets of_looks ls) → looks.kept ≡ paths_of shown.kept → SomeWork state rules.sets now force (reads ++ (ls ++ ts))
+
+-- It ends so behind a reading by which this is known.
+pub record EndsBehindState (state : Path) (rules : List Rule) (now : Moment) (force : Bool) (remembered : Remembered) (ts : List Entry) : Type 0 where
+  pub some : (sights : StateSights) (reads : List Entry) → IsKnown state sights (Ok remembered) → ShowsState state 65_536 sights reads → SomeWork state rules now force (reads ++ ts)
+
 -- ---- around the work
 
 -- The run began and ended, and of the entries between the two this holds.
@@ -151,15 +171,15 @@ pub data Goes (state : Path) (force : Bool) (now : Moment) (rules : Rules) (faul
   begun : Begun state now rules (WorksOn state rules.sets now force faults all_faults) ts → Goes state force now rules faults all_faults ts
   not_begun : all_faults ≡ faults ++ fault.Call call.Begin state ∷ [] → Maybe (Starts state now rules) ts → Goes state force now rules faults all_faults ts
 
-abbrev pub Stopped : Path → Moment → Rules → RunStop → List Entry → Type 0
-Stopped state now rules stop.Held ts = ts ≡ []
-Stopped state now rules stop.Memory ts = Begun state now rules (SomeSeen state rules.sets) ts
+abbrev pub Stopped : Path → Bool → Moment → Rules → RunStop → List Entry → Type 0
+Stopped state force now rules stop.Held ts = ts ≡ []
+Stopped state force now rules stop.Memory ts = Begun state now rules (SomeWork state rules.sets now force) ts
 
 -- what a run left: its faults were added; or it stopped
 abbrev pub RunsOn : Path → Bool → Moment → Rules → List Fault → List Fault → List Entry → Type 0
 RunsOn state force now rules faults all_faults ts = (own : List Fault) × (all_faults ≡ faults ++ own) × Runs state force now rules own ts
 
--- a run that stopped: the lock is another's, or there was no memory in its looks
-abbrev pub StopsSo : Path → Moment → Rules → RunStop → List Entry → Type 0
-StopsSo state now rules stop.Held ts = Sees (parent_of state) IsDir ts
-StopsSo state now rules stop.Memory ts = LacksMemory state now rules ts
+-- a run that stopped: the lock is another's, or there was no memory
+abbrev pub StopsSo : Path → Bool → Moment → Rules → RunStop → List Entry → Type 0
+StopsSo state force now rules stop.Held ts = Sees (parent_of state) IsDir ts
+StopsSo state force now rules stop.Memory ts = LacksMemory state force now rules ts

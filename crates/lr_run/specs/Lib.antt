@@ -1,4 +1,5 @@
 pub mod Internal
 pub mod Rotated
 pub mod Runs
+pub mod Scripts
 pub mod State

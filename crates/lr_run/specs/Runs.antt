@@ -20,9 +20,12 @@ use Rattle.lr_plan.specs.declared.mark.Mark.{Mark}
 use Rattle.lr_plan.specs.declared.planned.LogPlan.{LogPlan}
 use Rattle.lr_plan.specs.declared.planned.SetPlan.{SetPlan}
 use Rattle.lr_plan.specs.declared.planned.Plan.{Plan}
+use Rattle.lr_acts.specs.Making.{HasProgram, all_of_sets}
 use Rattle.lr_plan.specs.Done.{ActsDone}
+use Rattle.lr_plan.specs.Internal.Cut.{SetsCut}
 use Rattle.lr_plan.specs.Outcomes.{Maybe}
 use Rattle.lr_plan.specs.Planned.{plan_of}
+use Rattle.lr_plan.specs.Steps.{steps_of_plan}
 use Rattle.lr_looks.specs.Found.{paths_of}
 use Rattle.lr_looks.specs.Shown.{ShowsLooks, ShowsSomeLooks}
 use Rattle.lr_reading.specs.declared.remembered.Remembered.{Remembered}
@@ -135,13 +138,23 @@ pub data SomeSeen (state : Path) (rules : List Rule) (ts : List Entry) : Type 0 
   of_state : (sights : StateSights) → ShowsState state 65_536 sights ts → SomeSeen state rules ts
   of_looks : (sights : StateSights) (remembered : Remembered) → IsKnown state sights (Ok remembered) → Then (ShowsState state 65_536 sights) (ShowsSomeLooks (reserved_by state) rules) ts → SomeSeen state rules ts
 
--- There was no memory: before the first call, or behind a first part of what is seen, where the run ended with no change.
-pub data LacksMemory (state : Path) (now : Moment) (rules : Rules) (ts : List Entry) : Type 0 where
-  at_first : ts ≡ [] → LacksMemory state now rules ts
-  in_looks : Inside state now rules (SomeSeen state rules.sets) ts → LacksMemory state now rules ts
+-- The state was read and the logs were looked at, and of the acts of the plan, among which there is a program, a first part was done. There was no memory to run a program behind that, and the state was not written.
+pub record BrokeOff (state : Path) (rules : List Rule) (now : Moment) (force : Bool) (ts : List Entry) : Type 0 where
+  pub looked : Looked state rules ts
+  pub small : length (measured_in state rules ts looked now force) ≤ 67_108_864
+  pub program : HasProgram (all_of_sets (steps_of_plan (plan_in state rules ts looked now force)))
+  pub marks : List Mark
+  pub of_acts : List Fault
+  pub part : SetsCut (steps_of_plan (plan_in state rules ts looked now force)) marks of_acts looked.acts
+
+-- There was no memory: before the first call; behind a first part of what is seen, where the run ended with no change; or for a program, amid the acts.
+pub data LacksMemory (state : Path) (force : Bool) (now : Moment) (rules : Rules) (ts : List Entry) : Type 0 where
+  at_first : ts ≡ [] → LacksMemory state force now rules ts
+  in_looks : Inside state now rules (SomeSeen state rules.sets) ts → LacksMemory state force now rules ts
+  in_acts : Inside state now rules (BrokeOff state rules.sets now force) ts → LacksMemory state force now rules ts
 
 -- What a run left, by its answer. The faults that were handed in stand before its own; where another held the lock, the state's directory was seen, and no more.
 abbrev pub Answers : Path → Bool → Moment → Rules → List Fault → Result Ran RunStop → List Entry → Type 0
 Answers state force now rules earlier (Ok ran) ts = (own : List Fault) × (ran.faults.items ≡ earlier ++ own) × Runs state force now rules own ts
 Answers state force now rules earlier (Err stop.Held) ts = Sees (parent_of state) IsDir ts
-Answers state force now rules earlier (Err stop.Memory) ts = LacksMemory state now rules ts
+Answers state force now rules earlier (Err stop.Memory) ts = LacksMemory state force now rules ts

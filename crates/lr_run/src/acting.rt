@@ -3,7 +3,7 @@ ghost use Rattle.std.specs.Prelude.{◌≡◌, ◌+◌, ◌≤◌, ◌∷◌, []
 ghost use Rattle.std.specs.Vec.{vec_capacity};
 ghost use Rattle.lr_rules.specs.declared.fault.Fault.{Fault};
 ghost use Rattle.lr_host.specs.declared.journal.Journal.{Journal};
-ghost use Rattle.lr_host.specs.Told.{Onward};
+ghost use Rattle.lr_host.specs.Told.{Left, Onward};
 ghost use Rattle.lr_acts.specs.Adding.{HasRoom};
 ghost use Rattle.lr_acts.specs.Making.{AreBuilt, HasProgram, all_of_sets};
 ghost use Rattle.lr_plan.specs.Done.{SetsDone, rotated_logs};
@@ -12,7 +12,7 @@ ghost use Rattle.lr_plan.specs.Steps.{state_steps};
 ghost use Rattle.lr_record.specs.After.{stamped};
 ghost use Rattle.lr_state.specs.Written.{text_of};
 ghost use Rattle.lr_writing.specs.Writes.{AddsCourse};
-ghost use Rattle.lr_run.specs.Internal.{ActsAndWrites};
+ghost use Rattle.lr_run.specs.Internal.{ActsAndWrites, SomeActs};
 
 use crate::ready::Ready;
 use lr_acts::{Progress, act};
@@ -65,7 +65,8 @@ fn save<H: Host>(
     write_state(host, writing, &table, &mut progress.faults);
 }
 
-/// Carries the steps out, and then writes the state, in which the logs that were rotated have this moment.
+/// Carries the steps out, and then writes the state, in which the logs that were rotated have this moment. Only a program
+/// takes memory; where there is none for it, nothing more is done, and the state isn't written.
 pub fn carry_out<H: Host>(
     alloc: Global,
     host: &mut H,
@@ -80,6 +81,7 @@ pub fn carry_out<H: Host>(
     requires two_more { vec_len progress.old.faults + length (all_of_sets ready.steps) + 2 ≤ vec_capacity progress.old.faults }
     ensures told { OnOk result (ActsAndWrites ready now.now progress.old progress.new (H.told host.old) (H.told host.new) (H.counts host.old) (H.counts host.new)) }
     ensures memory { OnErr result (HasProgram (all_of_sets ready.steps)) }
+    ensures some { OnErr result (Left (SomeActs ready.steps) (H.told host.old) (H.told host.new)) }
     ensures room { OnOk result (vec_len progress.new.faults + 1 ≤ vec_capacity progress.new.faults) }
     ensures counts { Onward (H.counts host.old) (H.counts host.new) }
 {

@@ -6,7 +6,7 @@ use lr_rules::Fault;
 pub enum RunStop {
     /// Another holds the lock.
     Held,
-    /// Want of memory, before the first change.
+    /// Want of memory: before the first change, or amid the acts, for a program.
     Memory,
 }
 

@@ -10,8 +10,7 @@ ghost use Rattle.lr_host.specs.Told.{Left, Then, Are, Can, NoneFell, Onward, Ros
 ghost use Rattle.lr_host.specs.World.{world};
 ghost use Rattle.lr_host.specs.Counted.{AddsFaults};
 ghost use Rattle.lr_fields.specs.Built.{AreBuiltRules};
-ghost use Rattle.lr_run.specs.Internal.{WorksOn, Goes, Stopped};
-ghost use Rattle.lr_run.specs.Runs.{SomeSeen};
+ghost use Rattle.lr_run.specs.Internal.{WorksOn, Goes, SomeWork, Stopped};
 
 use crate::answer::RunStop;
 use crate::work::work;
@@ -36,7 +35,7 @@ fn work_to_end<H: Host>(
     requires room { vec_len progress.old.faults + 2 ≤ vec_capacity progress.old.faults }
     requires on { WhereTold (H.told host.old) (λ p. (world p).running ≡ true) }
     ensures told { OnOk result (Left (Then (WorksOn settings.now.state rules.now.sets clock.entry.now.now settings.now.force progress.old.faults.items progress.new.faults.items) (Are (entry.Ends ∷ []))) (H.told host.old) (H.told host.new)) }
-    ensures some { OnErr result (Left (Then (SomeSeen settings.now.state rules.now.sets) (Are (entry.Ends ∷ []))) (H.told host.old) (H.told host.new)) }
+    ensures some { OnErr result (Left (Then (SomeWork settings.now.state rules.now.sets clock.entry.now.now settings.now.force) (Are (entry.Ends ∷ []))) (H.told host.old) (H.told host.new)) }
     ensures room { OnOk result (vec_len progress.new.faults + 1 ≤ vec_capacity progress.new.faults) }
     ensures counted { OnOk result (AddsFaults progress.old.faults.items progress.new.faults.items (H.counts host.old) (H.counts host.new)) }
     ensures lock { (H.counts host.new).locked ≡ false }
@@ -72,7 +71,7 @@ pub fn begin_to_end<H: Host>(
     requires name { name ≡ settings.now.state }
     requires room { vec_len progress.old.faults + 2 ≤ vec_capacity progress.old.faults }
     ensures told { OnOk result (Left (Goes settings.now.state settings.now.force clock.entry.now.now rules.now progress.old.faults.items progress.new.faults.items) (H.told host.old) (H.told host.new)) }
-    ensures stopped { IfErr result (λ why. Left (Stopped settings.now.state clock.entry.now.now rules.now why) (H.told host.old) (H.told host.new)) }
+    ensures stopped { IfErr result (λ why. Left (Stopped settings.now.state settings.now.force clock.entry.now.now rules.now why) (H.told host.old) (H.told host.new)) }
     ensures held { result ≡ Err RunStop.Held → Rose (H.counts host.old).held (H.counts host.new).held }
     ensures room { OnOk result (vec_len progress.new.faults + 1 ≤ vec_capacity progress.new.faults) }
     ensures counted { OnOk result (AddsFaults progress.old.faults.items progress.new.faults.items (H.counts host.old) (H.counts host.new)) }

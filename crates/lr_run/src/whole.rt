@@ -64,7 +64,7 @@ fn make_run<H: Host>(
     requires state { names.state ≡ settings.now.state }
     requires room { vec_len progress.old.faults + 2 ≤ vec_capacity progress.old.faults }
     ensures told { OnOk result (Left (RunsOn settings.now.state settings.now.force clock.entry.now.now rules.now progress.old.faults.items progress.new.faults.items) (H.told host.old) (H.told host.new)) }
-    ensures stopped { IfErr result (λ why. Left (StopsSo settings.now.state clock.entry.now.now rules.now why) (H.told host.old) (H.told host.new)) }
+    ensures stopped { IfErr result (λ why. Left (StopsSo settings.now.state settings.now.force clock.entry.now.now rules.now why) (H.told host.old) (H.told host.new)) }
     ensures held { result ≡ Err RunStop.Held → Rose (H.counts host.old).held (H.counts host.new).held }
     ensures room { OnOk result (vec_len progress.new.faults + 1 ≤ vec_capacity progress.new.faults) }
     ensures counted { OnOk result (AddsFaults progress.old.faults.items progress.new.faults.items (H.counts host.old) (H.counts host.new)) }
@@ -84,9 +84,10 @@ fn make_run<H: Host>(
 
 /// Makes one run: looks at the state's directory, takes the lock, reads the state, looks at the logs that the rules ask
 /// for, carries out the plan that follows, writes the state, and gives the lock back. Each fault leaves the answer Ok. All
-/// memory is taken before the first change; where there is none, the run ends with no change. A journal that the host tells
-/// has to be one of a disk. Where nothing is known of
-/// the state, no log is looked at; where its text could become longer than 67,108,864 bytes, nothing is changed.
+/// memory but that of programs is taken before the first change; where there is none, the run ends with no change. Where
+/// there is none for a program, the acts end there, and the state is not written. A journal that the host tells has to be
+/// one of a disk. Where nothing is known of the state, no log is looked at; where its text could become longer than
+/// 67,108,864 bytes, nothing is changed.
 pub fn run<H: Host>(
     alloc: Global,
     rules: &Rules,

@@ -11,8 +11,7 @@ ghost use Rattle.lr_host.specs.Counted.{AddsFaults};
 ghost use Rattle.lr_plan.specs.Planned.{CanPlanAll};
 ghost use Rattle.lr_reading.specs.Sights.{state_part};
 ghost use Rattle.lr_fields.specs.Built.{AreBuiltRules};
-ghost use Rattle.lr_run.specs.Runs.{SomeSeen};
-ghost use Rattle.lr_run.specs.Internal.{WorkDone, LookedDone, SomeLooked, KnownBefore, SeenBefore, Carries};
+ghost use Rattle.lr_run.specs.Internal.{WorkDone, LookedDone, KnownBefore, SeenBefore, Carries, SomeWork, EndsBehindLooks, EndsBehindState};
 
 use crate::acting::carry_out;
 use crate::known::known_state;
@@ -56,7 +55,7 @@ fn plan_and_act<H: Host>(
     requires part { part ≡ state_part settings.now.state }
     requires seen { SeenBefore settings.now.state rules.now looks.now remembered (H.told host.old) }
     ensures told { OnOk result (Carries rules.now looks.now settings.now.state remembered clock.entry.now.now settings.now.force progress.old.faults.items progress.new.faults.items (H.told host.old) (H.told host.new)) }
-    ensures memory { OnErr result (H.told host.new ≡ H.told host.old) }
+    ensures some { OnErr result (Left (EndsBehindLooks rules.now looks.now settings.now.state remembered clock.entry.now.now settings.now.force) (H.told host.old) (H.told host.new)) }
     ensures room { OnOk result (vec_len progress.new.faults + 1 ≤ vec_capacity progress.new.faults) }
     ensures counted { OnOk result (AddsFaults progress.old.faults.items progress.new.faults.items (H.counts host.old) (H.counts host.new)) }
     ensures counts { Onward (H.counts host.old) (H.counts host.new) }
@@ -93,7 +92,7 @@ fn look_and_act<H: Host>(
     requires part { part ≡ state_part settings.now.state }
     requires known { KnownBefore settings.now.state remembered (H.told host.old) }
     ensures told { OnOk result (LookedDone settings.now.state rules.now.sets clock.entry.now.now settings.now.force remembered progress.old.faults.items progress.new.faults.items (H.told host.old) (H.told host.new)) }
-    ensures some { OnErr result (Left (SomeLooked settings.now.state rules.now.sets) (H.told host.old) (H.told host.new)) }
+    ensures some { OnErr result (Left (EndsBehindState settings.now.state rules.now.sets clock.entry.now.now settings.now.force remembered) (H.told host.old) (H.told host.new)) }
     ensures room { OnOk result (vec_len progress.new.faults + 1 ≤ vec_capacity progress.new.faults) }
     ensures counted { OnOk result (AddsFaults progress.old.faults.items progress.new.faults.items (H.counts host.old) (H.counts host.new)) }
     ensures counts { Onward (H.counts host.old) (H.counts host.new) }
@@ -114,8 +113,8 @@ fn add_unknown(faults: &mut Vec<Fault>, fault: Fault)
     faults.push_reserved(fault);
 }
 
-/// Reads the state, looks at the logs, and carries the plan out that follows from both. All memory is taken before the
-/// first act.
+/// Reads the state, looks at the logs, and carries the plan out that follows from both. All memory but that of programs is
+/// taken before the first act.
 pub fn work<H: Host>(
     alloc: Global,
     host: &mut H,
@@ -129,7 +128,7 @@ pub fn work<H: Host>(
     requires dir { Can (H.told host.old) (entry.List (parent_of settings.now.state) []) }
     requires room { vec_len progress.old.faults + 2 ≤ vec_capacity progress.old.faults }
     ensures told { OnOk result (WorkDone settings.now.state rules.now.sets clock.entry.now.now settings.now.force progress.old.faults.items progress.new.faults.items (H.told host.old) (H.told host.new)) }
-    ensures some { OnErr result (Left (SomeSeen settings.now.state rules.now.sets) (H.told host.old) (H.told host.new)) }
+    ensures some { OnErr result (Left (SomeWork settings.now.state rules.now.sets clock.entry.now.now settings.now.force) (H.told host.old) (H.told host.new)) }
     ensures room { OnOk result (vec_len progress.new.faults + 1 ≤ vec_capacity progress.new.faults) }
     ensures counted { OnOk result (AddsFaults progress.old.faults.items progress.new.faults.items (H.counts host.old) (H.counts host.new)) }
     ensures counts { Onward (H.counts host.old) (H.counts host.new) }

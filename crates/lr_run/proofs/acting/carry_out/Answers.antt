@@ -1,5 +1,5 @@
 use Rattle.std.proofs.Common.{length, ap, arith}
-use Rattle.lr_run.proofs.Carrying.{acts_and_writes}
+use Rattle.lr_run.proofs.Carrying.{acts_and_writes, some_acts}
 use Rattle.lr_run.proofs.acting.carry_out.Goals as goal
 
 pub returns-clause-told : goal.returns-clause-told
@@ -7,3 +7,6 @@ returns-clause-told g c = acts_and_writes c.args.ready c.args.now.now c.args.pro
 
 pub returns-clause-room : goal.returns-clause-room
 returns-clause-room g c = let f = c.in_ok-act.ensures.fills in let a = f.faults in let b = f.faults_room in let d = c.save.ensures.few in let e = c.save.ensures.room in let r = c.requires.two_more in omega (arith, a, b, d, e, r)
+
+pub returns-in_err-act-clause-some : goal.returns-in_err-act-clause-some
+returns-in_err-act-clause-some g c = some_acts c.from_residual.result c.args.ready.steps c.in_err-act.ensures.told

@@ -21,11 +21,11 @@ returns-in-Ok-clause-told g c = goes c.args.settings.now.state c.args.settings.n
     (began c.args.settings.now.state c.args.clock.now.now c.args.rules.now c.in-Ok-true.field-0 c.in-Ok-true.field-0-test c.in-Ok-true.ensures.told) c.in-Ok.ensures.told
 
 pub returns-in-Ok-true-clause-stopped : goal.returns-in-Ok-true-clause-stopped
-returns-in-Ok-true-clause-stopped g c = lacks c.args.settings.now.state c.args.clock.now.now c.args.rules.now
+returns-in-Ok-true-clause-stopped g c = lacks c.args.settings.now.state c.args.settings.now.force c.args.clock.now.now c.args.rules.now
     (began c.args.settings.now.state c.args.clock.now.now c.args.rules.now c.in-Ok-true.field-0 c.in-Ok-true.field-0-test c.in-Ok-true.ensures.told) c.in-Err-work_to_end.ensures.some
 
 pub returns-in-Ok-false-clause-stopped : goal.returns-in-Ok-false-clause-stopped
-returns-in-Ok-false-clause-stopped g c = locked c.args.settings.now.state c.args.clock.now.now c.args.rules.now c.in-Ok-false.field-0 c.in-Ok-false.field-0-test c.in-Ok-false.ensures.told
+returns-in-Ok-false-clause-stopped g c = locked c.args.settings.now.state c.args.settings.now.force c.args.clock.now.now c.args.rules.now c.in-Ok-false.field-0 c.in-Ok-false.field-0-test c.in-Ok-false.ensures.told
 
 pub returns-clause-told : goal.returns-clause-told
 returns-clause-told g c = goes_not c.args.settings.now.state c.args.settings.now.force c.args.clock.now.now c.args.rules.now c.args.name c.args.progress.now.faults.items c.add_not_begun.new.faults.items c.requires.name c.add_not_begun.ensures.faults c.in-Err.ensures.told

@@ -16,7 +16,7 @@ pub returns-in-Ok-clause-told : goal.returns-in-Ok-clause-told
 returns-in-Ok-clause-told g c = behind_dir c.args.settings.now.state c.args.settings.now.force c.args.clock.now.now c.args.rules.now c.args.names.dir c.args.progress.now.faults.items c.begin_to_end.new.progress.faults.items c.begin_to_end.result _ c.requires.dir c.in-Ok.ensures.told c.begin_to_end.ensures.told
 
 pub returns-in-Ok-clause-stopped : goal.returns-in-Ok-clause-stopped
-returns-in-Ok-clause-stopped g c = stopped_behind c.args.settings.now.state c.args.clock.now.now c.args.rules.now c.args.names.dir c.begin_to_end.result _ c.requires.dir c.in-Ok.ensures.told c.begin_to_end.ensures.stopped
+returns-in-Ok-clause-stopped g c = stopped_behind c.args.settings.now.state c.args.settings.now.force c.args.clock.now.now c.args.rules.now c.args.names.dir c.begin_to_end.result _ c.requires.dir c.in-Ok.ensures.told c.begin_to_end.ensures.stopped
 
 pub returns-in-Err-clause-told : goal.returns-in-Err-clause-told
 returns-in-Err-clause-told g c = no_dir c.args.settings.now.state c.args.settings.now.force c.args.clock.now.now c.args.rules.now c.in-Err.why c.args.names.dir c.args.progress.now.faults.items c.add_dir_fault.new.faults.items c.requires.dir c.add_dir_fault.ensures.faults c.in-Err.ensures.stopped

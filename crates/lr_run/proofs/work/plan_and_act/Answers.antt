@@ -2,13 +2,13 @@ use Rattle.lr_acts.specs.Making.{all_of_sets}
 use Rattle.lr_placed.proofs.Lasting.{disk_on}
 use Rattle.lr_run.proofs.Placing.{fits_behind_acts}
 use Rattle.lr_run.proofs.Simple.{simple_built}
-use Rattle.lr_run.proofs.Works.{ready_of, not_ready, ready_simple, ready_fit, carried_out, carried_counted, too_big_told, work_lacks}
+use Rattle.lr_run.proofs.Works.{ready_of, not_ready, ready_simple, ready_fit, carried_out, carried_counted, too_big_told, none_acted, some_acted}
 use Rattle.lr_run.proofs.work.plan_and_act.Goals as goal
 
 pub carry_out-requires-clause-built : goal.carry_out-requires-clause-built
 carry_out-requires-clause-built g c =
     let r = ready_of c.args.settings.now.state c.args.clock.now.now c.args.remembered _ _ c.in_ok-plan.plan _ c.in_ok-ready.field-0 c.in-Some.ready c.args.progress.now c.make_ready.new.progress c.as_slice-kept.ensures c.in_ok-plan.ensures c.in-Some.is c.in_ok-ready.ensures in
-    simple_built (all_of_sets c.in-Some.ready.steps) (ready_simple c.args.rules.now c.args.looks.now c.args.settings.now.state c.args.remembered c.args.clock.now.now c.args.settings.now.force c.in-Some.ready c.args.progress.now c.make_ready.new.progress c.requires.built r)
+    simple_built (all_of_sets c.in-Some.ready.steps) (ready_simple c.args.rules.now c.args.looks.now c.args.settings.now.state c.args.remembered c.args.clock.now.now c.args.settings.now.force c.in-Some.ready c.args.progress.now c.make_ready.new.progress r)
 
 pub carry_out-requires-clause-fits : goal.carry_out-requires-clause-fits
 carry_out-requires-clause-fits g c =
@@ -25,10 +25,10 @@ returns-in-Some-clause-told g c =
     let r = ready_of c.args.settings.now.state c.args.clock.now.now c.args.remembered _ _ c.in_ok-plan.plan _ c.in_ok-ready.field-0 c.in-Some.ready c.args.progress.now c.make_ready.new.progress c.as_slice-kept.ensures c.in_ok-plan.ensures c.in-Some.is c.in_ok-ready.ensures in
     carried_out c.carry_out.result c.args.settings.now.state c.args.rules.now c.args.looks.now c.args.remembered c.args.clock.now.now c.args.settings.now.force c.in-Some.ready c.args.progress.now c.make_ready.new.progress c.carry_out.new.progress _ _ _ _ r c.carry_out.ensures.told
 
-pub returns-in-Some-clause-memory : goal.returns-in-Some-clause-memory
-returns-in-Some-clause-memory g c =
+pub returns-in-Some-clause-some : goal.returns-in-Some-clause-some
+returns-in-Some-clause-some g c =
     let r = ready_of c.args.settings.now.state c.args.clock.now.now c.args.remembered _ _ c.in_ok-plan.plan _ c.in_ok-ready.field-0 c.in-Some.ready c.args.progress.now c.make_ready.new.progress c.as_slice-kept.ensures c.in_ok-plan.ensures c.in-Some.is c.in_ok-ready.ensures in
-    work_lacks c.carry_out.result (all_of_sets c.in-Some.ready.steps) _ (ready_simple c.args.rules.now c.args.looks.now c.args.settings.now.state c.args.remembered c.args.clock.now.now c.args.settings.now.force c.in-Some.ready c.args.progress.now c.make_ready.new.progress c.requires.built r) c.carry_out.ensures.memory
+    some_acted c.carry_out.result c.args.settings.now.state c.args.rules.now c.args.looks.now c.args.remembered c.args.clock.now.now c.args.settings.now.force c.in-Some.ready c.args.progress.now c.make_ready.new.progress _ _ r c.carry_out.ensures.memory c.carry_out.ensures.some
 
 pub returns-in-Some-clause-counted : goal.returns-in-Some-clause-counted
 returns-in-Some-clause-counted g c =
@@ -39,3 +39,12 @@ pub returns-in-None-clause-told : goal.returns-in-None-clause-told
 returns-in-None-clause-told g c =
     too_big_told c.add_too_big.result c.args.settings.now.state c.args.rules.now c.args.looks.now c.args.remembered c.args.clock.now.now c.args.settings.now.force c.args.progress.now c.make_ready.new.progress c.add_too_big.new.faults.items _
     (not_ready c.args.settings.now.state c.args.clock.now.now c.args.remembered _ _ c.in_ok-plan.plan _ c.in_ok-ready.field-0 c.args.progress.now c.make_ready.new.progress c.as_slice-kept.ensures c.in_ok-plan.ensures c.in-None.is c.in_ok-ready.ensures) c.add_too_big.ensures.faults
+
+pub returns-in_err-plan-clause-some : goal.returns-in_err-plan-clause-some
+returns-in_err-plan-clause-some g c = none_acted c.from_residual.result c.args.rules.now c.args.looks.now c.args.settings.now.state c.args.remembered c.args.clock.now.now c.args.settings.now.force _
+
+pub returns-in_err-ready-clause-some : goal.returns-in_err-ready-clause-some
+returns-in_err-ready-clause-some g c = none_acted c.from_residual-in_err-ready.result c.args.rules.now c.args.looks.now c.args.settings.now.state c.args.remembered c.args.clock.now.now c.args.settings.now.force _
+
+pub returns-in-None-clause-some : goal.returns-in-None-clause-some
+returns-in-None-clause-some g c = none_acted c.add_too_big.result c.args.rules.now c.args.looks.now c.args.settings.now.state c.args.remembered c.args.clock.now.now c.args.settings.now.force _

@@ -1,0 +1,40 @@
+-- Without scripts a plan has no program, and so its acts want no memory.
+use Rattle.std.proofs.Common.{◌≡◌, inl, inr, ℕ, Bool, List, [], ◌∷◌, Option, None, sym, subst}
+use Rattle.lr_rules.specs.declared.civil.Moment.{Moment}
+use Rattle.lr_rules.specs.declared.fault.Phase.{Phase}
+use Rattle.lr_rules.specs.declared.path.Path.{Path}
+use Rattle.lr_rules.specs.declared.rule.Rule.{Rule}
+use Rattle.lr_host.specs.declared.entry.Entry.{Entry}
+use Rattle.lr_commands.specs.Commands.{script}
+use Rattle.lr_plan.specs.declared.step.Step.{Step}
+use Rattle.lr_plan.specs.Planned.{decision}
+use Rattle.lr_plan.specs.Steps.{program}
+use Rattle.lr_acts.specs.Making.{IsProgram, HasProgram}
+use Rattle.lr_run.specs.Runs.{BrokeOff}
+use Rattle.lr_run.specs.Scripts.{HaveNoScripts}
+use Rattle.lr_run.proofs.Simple.{EachStep, IsOfSteps, AreOfScripts, plan_so}
+
+abbrev IsNoProgram : Step → Type 0
+IsNoProgram s = IsProgram s → ⊥
+
+no_program : (steps : List Step) → EachStep IsNoProgram steps → HasProgram steps → ⊥
+no_program [] h p = p
+no_program (s ∷ ss) h (inl p) = h.0 p
+no_program (s ∷ ss) h (inr p) = no_program ss h.1 p
+
+abbrev IsNone : Option (List ℕ) → Type 0
+IsNone text = text ≡ None
+
+none_runs : (p : Phase) (text : Option (List ℕ)) (args : List (List ℕ)) → IsNone text → EachStep IsNoProgram (program p (script text args))
+none_runs p text args e = subst (λ (t : Option (List ℕ)). EachStep IsNoProgram (program p (script t args))) (sym e) tt
+
+no_steps : IsOfSteps IsNoProgram IsNone
+no_steps = record { removes = λ path h. h; renames = λ from to h. h; creates = λ path mode h. h; rotated = λ log h. h; runs = none_runs }
+
+none_scripts : (rules : List Rule) → HaveNoScripts rules → AreOfScripts IsNone rules
+none_scripts [] h = tt
+none_scripts (rule ∷ rules) h = (record { first = h.0.first; pre = h.0.pre; post = h.0.post; last = h.0.last }, none_scripts rules h.1)
+
+-- so a run over rules without scripts doesn't break off amid its acts
+pub never_broke_off : (state : Path) (rules : List Rule) (now : Moment) (force : Bool) (ts : List Entry) → HaveNoScripts rules → BrokeOff state rules now force ts → ⊥
+never_broke_off state rules now force ts none b = no_program _ (plan_so IsNoProgram IsNone no_steps (decision b.looked.remembered.table now force) rules b.looked.sets (none_scripts rules none)) b.program
