@@ -1,30 +1,37 @@
 -- What the acts of a plan are told of ends no run.
-use Rattle.std.proofs.Common.{List, [], ◌∷◌, map}
+use Rattle.std.proofs.Common.{ℕ, List, [], ◌∷◌, map}
 use Rattle.lr_rules.specs.declared.fault.CallKind.TheVariants as call
 use Rattle.lr_rules.specs.declared.fault.Fault.{Fault}
 use Rattle.lr_rules.specs.declared.fault.Fault.TheVariants as fault
+use Rattle.lr_rules.specs.declared.fault.Phase.{Phase}
 use Rattle.lr_rules.specs.declared.path.Path.{Path}
 use Rattle.lr_rules.specs.declared.rule.Rule.{Rule}
 use Rattle.lr_due.specs.declared.answer.Due.{Due}
 use Rattle.lr_host.specs.declared.entry.Entry.{Entry}
+use Rattle.lr_scripts.specs.declared.command.Command.{Command}
 use Rattle.lr_plan.specs.declared.looks.LogLook.{LogLook}
 use Rattle.lr_plan.specs.declared.looks.SetLooks.{SetLooks}
 use Rattle.lr_plan.specs.declared.mark.Mark.{Mark}
 use Rattle.lr_plan.specs.declared.step.Step.{Step}
-use Rattle.lr_plan.specs.declared.step.Step.TheVariants.{Removes, Renames, Creates, Rotated}
+use Rattle.lr_plan.specs.declared.step.Step.TheVariants.{Runs, Removes, Renames, Creates, Rotated}
 use Rattle.lr_plan.specs.Done.{SetsDone}
-use Rattle.lr_plan.specs.Outcomes.{Fails}
+use Rattle.lr_plan.specs.Outcomes.{Fails, ProgramFailed, badly, not_run, maybe_run}
 use Rattle.lr_plan.specs.Planned.{all_plans}
 use Rattle.lr_plan.specs.Steps.{steps_of_set}
-use Rattle.lr_fields.specs.Built.{AreBuiltRules}
 use Rattle.lr_run.proofs.Folded.{Folds, acts_fold}
 use Rattle.lr_run.proofs.Simple.{IsSimple, plan_simple}
-use Rattle.lr_run.proofs.Works.{no_scripts}
 use Rattle.lr_reached.specs.Ending.{NoneEnds}
 use Rattle.lr_reached.proofs.Ends.{none_both, is_none}
 
--- of rules without scripts they are unlinks, renames and makings of logs, which fail by a call
+-- a program that ended badly, or that couldn't be run
+program_none : (state : Path) (p : Phase) (on : List ℕ) (c : Command) (f : Fault) (ts : List Entry) → ProgramFailed p on c f ts → NoneEnds state (f ∷ [])
+program_none state p on c f ts (badly end bad e o) = is_none state f (fault.Script p on end) e (λ h. h)
+program_none state p on c f ts (not_run e o) = is_none state f (fault.Call call.Run c.program) e (λ h. h)
+program_none state p on c f ts (maybe_run end e o) = is_none state f (fault.Call call.Run c.program) e (λ h. h)
+
+-- the acts are unlinks, renames, makings of logs and programs, which fail by a call or by a bad end
 simple_none : (state : Path) (s : Step) (f : Fault) (ts : List Entry) → IsSimple s → Fails s f ts → NoneEnds state (f ∷ [])
+simple_none state (Runs p on command) f ts i h = program_none state p on command f ts h
 simple_none state (Removes path) f ts i h = is_none state f (fault.Call call.Unlink path) h.0 (λ e. e)
 simple_none state (Renames from to) f ts i h = is_none state f (fault.Call call.Rename from) h.0 (λ e. e)
 simple_none state (Creates path mode) f ts i h = is_none state f (fault.Call call.Make path) h.0 (λ e. e)
@@ -39,5 +46,5 @@ none_folds state = record {
   both = λ fs gs ts us h g. none_both state fs gs h g;
 }
 
-pub acts_none : (state : Path) (rules : List Rule) (sets : List SetLooks) (decide : Rule → LogLook → Due) (ms : List Mark) (fs : List Fault) (ts : List Entry) → AreBuiltRules rules → SetsDone (map steps_of_set (all_plans decide rules sets)) ms fs ts → NoneEnds state fs
-acts_none state rules sets decide ms fs ts built h = acts_fold (λ gs us. NoneEnds state gs) (none_folds state) (map steps_of_set (all_plans decide rules sets)) ms fs ts (plan_simple decide rules sets (no_scripts rules built)) h
+pub acts_none : (state : Path) (rules : List Rule) (sets : List SetLooks) (decide : Rule → LogLook → Due) (ms : List Mark) (fs : List Fault) (ts : List Entry) → SetsDone (map steps_of_set (all_plans decide rules sets)) ms fs ts → NoneEnds state fs
+acts_none state rules sets decide ms fs ts h = acts_fold (λ gs us. NoneEnds state gs) (none_folds state) (map steps_of_set (all_plans decide rules sets)) ms fs ts (plan_simple decide rules sets) h
