@@ -1,17 +1,14 @@
 -- The answers of a call of the program.
 use Rattle.std.proofs.Common.{◌≡◌, ◌⊎◌, inl, inr, ℕ, Bool, List, [], ◌∷◌, Option, Result, Ok, Err, IfOk, refl, sym, ap, ◌∙◌, subst}
-use Rattle.std.specs.Prelude.{ℤ, Contains, filter}
+use Rattle.std.specs.Prelude.{ℤ, Contains}
 use Rattle.lr_rules.specs.declared.civil.Moment.{Moment}
 use Rattle.lr_rules.specs.declared.clock.Clock.{Clock}
 use Rattle.lr_rules.specs.declared.path.Path.{Path}
 use Rattle.lr_rules.specs.declared.fault.Fault.{Fault}
 use Rattle.lr_rules.specs.declared.fault.Fault.TheVariants as fault
 use Rattle.lr_rules.specs.declared.fault.Notice.{Notice}
-use Rattle.lr_host.specs.declared.entry.Entry.{Entry}
 use Rattle.lr_host.specs.declared.journal.Journal.{Journal}
 use Rattle.lr_host.specs.Told.{Counts, Left}
-use Rattle.lr_host.specs.Quiet.{is_disk_change, ChangeNothing}
-use Rattle.lr_host.proofs.Quiet.{quiet_still, then_still}
 use Rattle.lr_host.proofs.Left.{left_as, left_first, left_both, left_then}
 use Rattle.lr_due.specs.declared.tz.Zone.{Zone}
 use Rattle.lr_host.specs.Counted.{AreCounted}
@@ -70,7 +67,7 @@ stop_clocked zone s seconds (Err w) c why Y same e is h = tt
 -- ---- a run at a clock
 
 pub by_first : (confs : List Path) (force : Bool) (now : Moment) (o : Option Journal) → Left (Answers confs force now OutOfMemory) o o
-by_first confs force now o = left_first (Answers confs force now OutOfMemory) o (refl, lacks_first refl)
+by_first confs force now o = left_first (Answers confs force now OutOfMemory) o (lacks_first refl)
 
 pub by_force : (xs confs : List Path) (a b : Bool) (now : Moment) (outcome : Outcome) (o n : Option Journal) → xs ≡ confs → a ≡ b → Left (Answers xs a now outcome) o n → Left (Answers confs b now outcome) o n
 by_force xs confs a b now outcome o n at same l = subst (λ (f : Bool). Left (Answers confs f now outcome) o n) same (subst (λ (ps : List Path). Left (Answers ps a now outcome) o n) at l)
@@ -94,22 +91,6 @@ nothing_called here words zone seconds a o j same which = left_first (Answered h
 pub answered : (here : Path) (words : List (List ℕ)) (zone : Zone) (s seconds : ℤ) (request : Request) (a o : Outcome) (j k : Option Journal) → s ≡ seconds → a ≡ o → AreWords here words request → Left (AnswersAt request zone s o) j k → Left (Answered here words zone seconds a) j k
 answered here words zone s seconds request a o j k at same w l =
     subst (λ (z : ℤ). Left (Answered here words zone z a) j k) at (subst (λ (r : Outcome). Left (Answered here words zone s r) j k) (sym same) (left_as l (λ ts h. read request w h)))
-
--- where there was no memory, that changed nothing
-answers_still : (confs : List Path) (force : Bool) (now : Moment) (outcome : Outcome) (ts : List Entry) → outcome ≡ OutOfMemory → Answers confs force now outcome ts → ChangeNothing ts
-answers_still confs force now outcome ts e h = (subst (λ (a : Outcome). Answers confs force now a ts) e h).0
-
-at_still : (request : Request) (zone : Zone) (seconds : ℤ) (outcome : Outcome) (ts : List Entry) → outcome ≡ OutOfMemory → AnswersAt request zone seconds outcome ts → ChangeNothing ts
-at_still request zone seconds outcome ts e (no_clock f is l) = absurd (cc)
-at_still request zone seconds outcome ts e (no_memory is l) = quiet_still ts (stop_quiet zone seconds clock_stop.Memory ts l)
-at_still request zone seconds outcome ts e (called clock t) = then_still _ _ ts (λ us p. quiet_still us (clock_quiet zone seconds clock us p)) (λ us h. answers_still request.confs request.force clock.now outcome us e h) t
-
-answered_still : (here : Path) (words : List (List ℕ)) (zone : Zone) (seconds : ℤ) (outcome : Outcome) (ts : List Entry) → outcome ≡ OutOfMemory → Answered here words zone seconds outcome ts → ChangeNothing ts
-answered_still here words zone seconds outcome ts e (not_read is none) = ap (filter is_disk_change) none
-answered_still here words zone seconds outcome ts e (read request w h) = at_still request zone seconds outcome ts e h
-
-pub left_still : (here : Path) (words : List (List ℕ)) (zone : Zone) (seconds : ℤ) (outcome : Outcome) {o n : Option Journal} → outcome ≡ OutOfMemory → Left (Answered here words zone seconds outcome) o n → Left ChangeNothing o n
-left_still here words zone seconds outcome e l = left_as l (λ ts h. answered_still here words zone seconds outcome ts e h)
 
 pub has_counted : (r : Result Told RunStop) (a : Outcome) (k l : Counts) → a ≡ answer_of r → IfOk r (λ told. AreCounted told.faults.items k l) → HasCounted a k l
 has_counted (Ok told) a k l same h = subst (λ (o : Outcome). HasCounted o k l) (sym same) h

@@ -14,8 +14,8 @@ use Rattle.lr_host.specs.Told.{Counts, NoneFell, Left}
 use Rattle.lr_host.proofs.Left.{left_as, left_both, left_then}
 use Rattle.lr_conf.specs.Meaning.{Meaning}
 use Rattle.lr_host.specs.Looks.{Sees, IsDir}
-use Rattle.lr_host.specs.Quiet.{AreQuiet, ChangeNothing}
-use Rattle.lr_host.proofs.Quiet.{quiet_both, quiet_still, then_still}
+use Rattle.lr_host.specs.Quiet.{AreQuiet}
+use Rattle.lr_host.proofs.Quiet.{quiet_both}
 use Rattle.lr_host.specs.Counted.{calls_in, scripts_in, HasNoOut, IsOut, RoseBy, AreCounted, AddsFaults}
 use Rattle.lr_host.proofs.Counts.{counted_on}
 use Rattle.lr_include.specs.declared.reading.Reading.{Reading}
@@ -29,7 +29,6 @@ use Rattle.lr_run.specs.Runs.{Answers as RunAnswers}
 use Rattle.lr_run.specs.declared.answer.RunStop.{RunStop}
 use Rattle.lr_run.specs.declared.answer.RunStop.TheVariants as stop
 use Rattle.lr_run.specs.Runs.{LacksMemory as RunLacks}
-use Rattle.lr_cli.proofs.Still.{lacks_still}
 use Rattle.lr_cli.specs.Faults.{answer_of}
 use Rattle.lr_cli.proofs.OutAside.{Contains-only}
 use Rattle.lr_cli.specs.Answer.{state_path, Answers, Reports, FindsLock, LacksMemory, at_confs, at_run}
@@ -55,21 +54,19 @@ finds_lock confs state r at a b = left_as (left_both a b) (λ ts t. record {
   entries = record { front = t.front; back = t.back; joined = t.joined; first = t.first; second = subst (λ p. Sees (parent_of p) IsDir t.back) at t.second };
 })
 
-pub lacks_at_confs : (confs : List Path) (now : Moment) {o n : Option Journal} → Left (LacksReading confs) o n → Left (λ ts. ChangeNothing ts × LacksMemory confs now ts) o n
-lacks_at_confs confs now l = left_as l (λ ts h. (quiet_still ts (lacking_quiet confs ts h), at_confs h))
+pub lacks_at_confs : (confs : List Path) (force : Bool) (now : Moment) {o n : Option Journal} → Left (LacksReading confs) o n → Left (LacksMemory confs force now) o n
+lacks_at_confs confs force now l = left_as l (λ ts h. at_confs h)
 
-pub lacks_at_run : (confs : List Path) (state : Path) (now : Moment) (r : Reading) {o m n : Option Journal} → state ≡ state_path
-    → Left (Reads confs (meaning_of r)) o m → Left (RunLacks state now r.rules) m n → Left (λ ts. ChangeNothing ts × LacksMemory confs now ts) o n
-lacks_at_run confs state now r at a b = left_as (left_both a b) (λ ts t. (
-  then_still _ _ ts (λ us p. quiet_still us (confs_quiet confs (meaning_of r) us p)) (λ us p. lacks_still state now r.rules us p) t,
-  at_run (meaning_of r) r.rules refl (record { front = t.front; back = t.back; joined = t.joined; first = t.first; second = subst (λ p. RunLacks p now r.rules t.back) at t.second }),
-))
+pub lacks_at_run : (confs : List Path) (state : Path) (force : Bool) (now : Moment) (r : Reading) {o m n : Option Journal} → state ≡ state_path
+    → Left (Reads confs (meaning_of r)) o m → Left (RunLacks state force now r.rules) m n → Left (LacksMemory confs force now) o n
+lacks_at_run confs state force now r at a b = left_as (left_both a b) (λ ts t.
+    at_run (meaning_of r) r.rules refl (record { front = t.front; back = t.back; joined = t.joined; first = t.first; second = subst (λ p. RunLacks p force now r.rules t.back) at t.second }))
 
 -- what a run that stopped left
 pub stopped : (confs : List Path) (state : Path) (force : Bool) (now : Moment) (r : Reading) (earlier : List Fault) (s : RunStop) {o m n : Option Journal} → state ≡ state_path
     → Left (Reads confs (meaning_of r)) o m → Left (RunAnswers state force now r.rules earlier (Err s)) m n → Left (Answers confs force now (answer_of (Err s))) o n
 stopped confs state force now r earlier stop.Held at a b = finds_lock confs state r at a b
-stopped confs state force now r earlier stop.Memory at a b = lacks_at_run confs state now r at a b
+stopped confs state force now r earlier stop.Memory at a b = lacks_at_run confs state force now r at a b
 
 -- ---- the faults, and the counts
 

@@ -5,11 +5,11 @@ use Rattle.lr_rules.specs.declared.fault.Fault.{Fault}
 use Rattle.lr_rules.specs.declared.path.Path.{Path}
 use Rattle.lr_host.specs.declared.entry.Entry.{Entry}
 use Rattle.lr_host.specs.declared.journal.Journal.{Journal}
-use Rattle.lr_host.specs.Counted.{call_in, calls_in}
+use Rattle.lr_host.specs.Counted.{call_in, calls_in, scripts_in}
 use Rattle.lr_host.specs.Opening.{IsJournal}
 use Rattle.lr_host.specs.Told.{Left, is_told, Made}
 use Rattle.lr_host.specs.World.{past}
-use Rattle.lr_host.proofs.Counts.{calls_on}
+use Rattle.lr_host.proofs.Counts.{calls_on, scripts_on}
 use Rattle.lr_due.specs.declared.tz.Zone.{Zone}
 use Rattle.lr_due.specs.declared.tz.Zone.TheVariants.{Utc, Rule, File}
 use Rattle.lr_run.proofs.Rotating.{run_rotated}
@@ -49,13 +49,16 @@ nothing_stopped zone faults us u none = ⊎_elim
 own_calls : (xs ys : List Fault) → calls_in (xs ++ ys) ≡ 0 → calls_in ys ≡ 0
 own_calls xs ys h = let all : calls_in (xs ++ ys) ≡ calls_in xs + calls_in ys = calls_on xs ys in omega (arith, h, all)
 
+own_ends : (xs ys : List Fault) → scripts_in (xs ++ ys) ≡ 0 → scripts_in ys ≡ 0
+own_ends xs ys h = let all : scripts_in (xs ++ ys) ≡ scripts_in xs + scripts_in ys = scripts_on xs ys in omega (arith, h, all)
+
 plan_rotates : (here : Path) (words : List (List ℕ)) (zone : Zone) (seconds : ℤ) (report : Report) (j k : Journal) (es : List Entry) → Made (past j) es (past k) → StopNothing report.faults → IsJournal (past j) → ReachesPlan here words zone seconds report (reverse es) → RotatesAll here words zone seconds report j k
 plan_rotates here words zone seconds report j k es made none journal p = record {
   entries = es;
   made = made;
   plan = p;
   each = λ x one. run_rotated state_path p.request.force p.clock.now p.rules p.own (past j) (past k) es (p.of_clock ++ p.reads) p.acts (plan_built here words zone seconds report (reverse es) p) made journal
-      (plan_joined here words zone seconds report (reverse es) p) (plan_quiet here words zone seconds report (reverse es) p) p.run (own_calls p.meaning.faults p.own (sym (ap calls_in p.faults_are) ∙ none.no_call)) x one;
+      (plan_joined here words zone seconds report (reverse es) p) (plan_quiet here words zone seconds report (reverse es) p) p.run (own_calls p.meaning.faults p.own (sym (ap calls_in p.faults_are) ∙ none.no_call)) (own_ends p.meaning.faults p.own (sym (ap scripts_in p.faults_are) ∙ none.no_script)) x one;
 }
 
 from_entries : (here : Path) (words : List (List ℕ)) (zone : Zone) (seconds : ℤ) (report : Report) (j k : Journal) → Left (Answered here words zone seconds (Done report)) (Some j) (Some k) → StopNothing report.faults → IsJournal (past j) → RotatesAll here words zone seconds report j k

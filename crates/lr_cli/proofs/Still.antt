@@ -1,28 +1,46 @@
--- What changes nothing of the disk.
-use Rattle.std.proofs.Common.{ℕ, List, [], ◌∷◌, ◌++◌, refl, sym, ap, ◌∙◌, subst}
-use Rattle.std.specs.Prelude.{ℤ, filter}
+-- What changes nothing of the disk, and what a call leaves where there was no memory.
+use Rattle.std.proofs.Common.{◌≡◌, ℕ, List, [], ◌∷◌, ◌++◌, Option, refl, sym, subst}
+use Rattle.std.specs.Prelude.{ℤ}
 use Rattle.lr_rules.specs.declared.path.Path.{Path}
 use Rattle.lr_rules.specs.declared.civil.Moment.{Moment}
 use Rattle.lr_rules.specs.declared.clock.Clock.{Clock}
 use Rattle.lr_rules.specs.declared.fault.Fault.{Fault}
 use Rattle.lr_rules.specs.declared.rules.Rules.{Rules}
+use Rattle.lr_rules.specs.Path.{parent_of}
+use Rattle.lr_conf.specs.Meaning.{Meaning}
 use Rattle.lr_host.specs.declared.entry.Entry.{Entry}
 use Rattle.lr_host.specs.declared.entry.Entry.TheVariants as entry
-use Rattle.lr_host.specs.Told.{Then, Each}
+use Rattle.lr_host.specs.declared.journal.Journal.{Journal}
+use Rattle.lr_host.specs.declared.thing.Seen.{Seen}
+use Rattle.lr_host.specs.Told.{Then, Each, Left}
 use Rattle.lr_host.specs.Reading.{IsReadOf, ReadsAll}
-use Rattle.lr_host.specs.Looks.{IsFile, Sees}
-use Rattle.lr_host.specs.Quiet.{AreQuiet, is_disk_change, ChangeNothing}
+use Rattle.lr_host.specs.Looks.{IsFile, IsDir, Sees}
+use Rattle.lr_host.specs.Quiet.{AreQuiet}
+use Rattle.lr_host.proofs.Each.{each_append}
+use Rattle.lr_host.proofs.Left.{left_as}
 use Rattle.lr_host.proofs.Reading.{reads_only}
-use Rattle.lr_host.proofs.Quiet.{quiet_both, then_quiet, sees_quiet, quiet_still, still_both}
+use Rattle.lr_host.proofs.Quiet.{quiet_both, then_quiet, sees_quiet}
 use Rattle.lr_due.specs.declared.tz.Zone.{Zone}
 use Rattle.lr_due.specs.declared.tz.Zone.TheVariants.{Utc, Rule, File}
 use Rattle.lr_due.specs.declared.zone.ZoneText.{ZoneText}
-use Rattle.lr_run.proofs.Shape.{some_quiet}
-use Rattle.lr_run.specs.Runs.{LacksMemory, at_first, in_looks}
+use Rattle.lr_include.specs.Lacking.{LacksReading}
+use Rattle.lr_include.specs.Stages.{Reads}
+use Rattle.lr_include.proofs.AllQuiet.{all_so, lacking_so}
+use Rattle.lr_run.specs.Runs.{Inside, SomeSeen, in_looks, in_acts}
+use Rattle.lr_run.specs.Runs.{LacksMemory as RunLacks, at_first as run_at_first}
+use Rattle.lr_run.specs.Scripts.{HaveNoScripts}
+use Rattle.lr_run.proofs.Scriptless.{never_broke_off}
+use Rattle.lr_run.proofs.Seeing.{some_so}
 use Rattle.lr_cli.specs.declared.clock.ClockStop.{ClockStop}
 use Rattle.lr_cli.specs.declared.clock.ClockStop.TheVariants as stop
 use Rattle.lr_cli.specs.Clock.{ShowsClock, out_of_range, no_text, refused, ClockStopped}
-use Rattle.lr_cli.specs.Zone.{ShowsZone, LacksText, not_file, too_big, look_failed as text_look_failed, read_failed as text_read_failed, at_first as zone_at_first, at_file}
+use Rattle.lr_cli.specs.declared.outcome.Outcome.{Outcome}
+use Rattle.lr_cli.specs.declared.outcome.Outcome.TheVariants.{OutOfMemory}
+use Rattle.lr_cli.specs.declared.words.Request.{Request}
+use Rattle.lr_cli.specs.Answer.{state_path, LacksMemory, at_first, at_confs, at_run, AnswersAt, no_clock, no_memory, called, Answered, not_read, read}
+use Rattle.lr_cli.specs.Still.{IsStill, AreStill, WasShort, all_still, broke_off}
+use Rattle.lr_cli.specs.Words.{AreWords}
+use Rattle.lr_cli.specs.Zone.{LacksZoneMemory, ShowsZone, LacksText, not_file, too_big, look_failed as text_look_failed, read_failed as text_read_failed, at_first as zone_at_first, at_file}
 
 pub reads_quiet : (conf : Path) (ts : List Entry) → Each (IsReadOf conf) ts → AreQuiet ts
 reads_quiet conf [] each = tt
@@ -34,13 +52,6 @@ file_quiet conf ts t = subst AreQuiet (sym t.joined) (quiet_both t.front t.back 
 
 whole_quiet : (conf : Path) (bytes : List ℕ) (ts : List Entry) → Then (Sees conf IsFile) (ReadsAll conf 1048577 bytes) ts → AreQuiet ts
 whole_quiet conf bytes ts t = subst AreQuiet (sym t.joined) (quiet_both t.front t.back (sees_quiet conf t.front t.first) (reads_quiet conf t.back (reads_only conf 1048577 bytes t.back t.second)))
-
--- ---- a run that lacked memory
-
-pub lacks_still : (state : Path) (now : Moment) (rules : Rules) (ts : List Entry) → LacksMemory state now rules ts → ChangeNothing ts
-lacks_still state now rules ts (at_first none) = ap (filter is_disk_change) none
-lacks_still state now rules ts (in_looks i) = ap (filter is_disk_change) i.entries ∙ still_both i.before (entry.Starts state now rules ∷ (i.between ++ entry.Ends ∷ [])) (quiet_still i.before (sees_quiet _ i.before i.directory))
-    (still_both i.between (entry.Ends ∷ []) (quiet_still i.between (some_quiet state rules.sets i.between i.within)) refl)
 
 -- ---- a clock, or none
 
@@ -64,3 +75,80 @@ stop_quiet zone seconds (stop.Fault f) ts (no_text range h) = text_quiet zone f 
 stop_quiet zone seconds (stop.Fault f) ts (refused text range e r h) = zone_quiet zone text ts h
 stop_quiet zone seconds stop.Memory ts (zone_at_first none) = subst AreQuiet (sym none) tt
 stop_quiet zone seconds stop.Memory ts (at_file path z t) = file_quiet path ts t
+
+-- ---- where there was no memory
+
+none_still : (ts : List Entry) → ts ≡ [] → AreStill ts
+none_still ts e = subst AreStill (sym e) tt
+
+then_both : {P Q : List Entry → Type 0} (ts : List Entry) → ((us : List Entry) → P us → AreStill us) → ((us : List Entry) → Q us → AreStill us) → Then P Q ts → AreStill ts
+then_both ts f g t = subst AreStill (sym t.joined) (each_append IsStill t.front t.back (f t.front t.first) (g t.back t.second))
+
+sees_still : (x : Path) (P : Option Seen → Type 0) (ts : List Entry) → Sees x P ts → AreStill ts
+sees_still x P ts s = subst AreStill (sym s.look) (tt, tt)
+
+only_reads_still : (x : Path) (ts : List Entry) → Each (IsReadOf x) ts → AreStill ts
+only_reads_still x [] each = tt
+only_reads_still x (entry.Reads y from piece ∷ ts) each = (tt, only_reads_still x ts each.1)
+only_reads_still x (_ ∷ ts) each = absurd each.0
+
+zone_still : (zone : Zone) (text : ZoneText) (ts : List Entry) → ShowsZone zone text ts → AreStill ts
+zone_still Utc text ts h = none_still ts h.1
+zone_still (Rule rule) text ts h = none_still ts h.1
+zone_still (File path) text ts h = then_both ts (λ us s. sees_still path IsFile us s) (λ us g. only_reads_still path us (reads_only path 1048577 h.0 us g.1)) h.2
+
+pub clock_still : (zone : Zone) (seconds : ℤ) (clock : Clock) (ts : List Entry) → ShowsClock zone seconds clock ts → AreStill ts
+clock_still zone seconds clock ts h = zone_still zone h.text ts h.shows
+
+pub zone_memory_still : (zone : Zone) (ts : List Entry) → LacksZoneMemory zone ts → AreStill ts
+zone_memory_still zone ts (zone_at_first none) = none_still ts none
+zone_memory_still zone ts (at_file path z t) = then_both ts (λ us s. sees_still path IsFile us s) (λ us g. only_reads_still path us g) t
+
+confs_still : (confs : List Path) (m : Meaning) (ts : List Entry) → Reads confs m ts → AreStill ts
+confs_still = all_so IsStill (λ x seen. tt) (λ x names. tt) (λ x from piece le. tt)
+
+lacking_still : (confs : List Path) (ts : List Entry) → LacksReading confs ts → AreStill ts
+lacking_still = lacking_so IsStill (λ x seen. tt) (λ x names. tt) (λ x from piece le. tt)
+
+-- a run that broke off while it looked
+looks_still : (state : Path) (now : Moment) (rules : Rules) (ts : List Entry) → Inside state now rules (SomeSeen state rules.sets) ts → AreStill ts
+looks_still state now rules ts i = subst AreStill (sym i.entries) (each_append IsStill i.before (entry.Starts state now rules ∷ (i.between ++ entry.Ends ∷ [])) (sees_still (parent_of state) IsDir i.before i.directory)
+    (tt, each_append IsStill i.between (entry.Ends ∷ []) (some_so IsStill (λ x seen. tt) (λ x names. tt) (λ x place piece. tt) state rules.sets i.between i.within) (tt, tt)))
+
+-- ---- a call
+
+module _ (here : Path) (words : List (List ℕ)) (zone : Zone) (seconds : ℤ) where
+  -- behind the clock and the reading
+  run_short : (request : Request) → AreWords here words request → (clock : Clock) (meaning : Meaning) (rules : Rules) (ts us reads acts : List Entry) (front : List Entry) → rules.sets ≡ meaning.rules → ts ≡ front ++ us → us ≡ reads ++ acts
+      → ShowsClock zone seconds clock front → Reads request.confs meaning reads → RunLacks state_path request.force clock.now rules acts → WasShort here words zone seconds ts
+  run_short request asked clock meaning rules ts us reads acts front same joined parts shown given (run_at_first none) =
+      all_still (subst AreStill (sym joined) (each_append IsStill front us (clock_still zone seconds clock front shown) (subst AreStill (sym parts) (each_append IsStill reads acts (confs_still request.confs meaning reads given) (none_still acts none)))))
+  run_short request asked clock meaning rules ts us reads acts front same joined parts shown given (in_looks i) =
+      all_still (subst AreStill (sym joined) (each_append IsStill front us (clock_still zone seconds clock front shown) (subst AreStill (sym parts) (each_append IsStill reads acts (confs_still request.confs meaning reads given) (looks_still state_path clock.now rules acts i)))))
+  run_short request asked clock meaning rules ts us reads acts front same joined parts shown given (in_acts i) = broke_off (record {
+    request = request;
+    asked = asked;
+    clock = clock;
+    meaning = meaning;
+    rules = rules;
+    rules_are = same;
+    some_script = λ none. never_broke_off state_path rules.sets clock.now request.force i.between (subst HaveNoScripts (sym same) none) i.within;
+    entries = record { front = front; back = us; joined = joined; first = shown; second = record { front = reads; back = acts; joined = parts; first = given; second = i } };
+  })
+
+  lacks_short : (request : Request) → AreWords here words request → (clock : Clock) (ts us front : List Entry) → ts ≡ front ++ us → ShowsClock zone seconds clock front → LacksMemory request.confs request.force clock.now us → WasShort here words zone seconds ts
+  lacks_short request asked clock ts us front joined shown (at_first none) = all_still (subst AreStill (sym joined) (each_append IsStill front us (clock_still zone seconds clock front shown) (none_still us none)))
+  lacks_short request asked clock ts us front joined shown (at_confs l) = all_still (subst AreStill (sym joined) (each_append IsStill front us (clock_still zone seconds clock front shown) (lacking_still request.confs us l)))
+  lacks_short request asked clock ts us front joined shown (at_run meaning rules same t) = run_short request asked clock meaning rules ts us t.front t.back front same joined t.joined shown t.first t.second
+
+  at_short : (request : Request) → AreWords here words request → (ts : List Entry) → AnswersAt request zone seconds OutOfMemory ts → WasShort here words zone seconds ts
+  at_short request asked ts (no_clock f is l) = absurd (cc)
+  at_short request asked ts (no_memory is l) = all_still (zone_memory_still zone ts l)
+  at_short request asked ts (called clock t) = lacks_short request asked clock ts t.back t.front t.joined t.first t.second
+
+  short : (ts : List Entry) → Answered here words zone seconds OutOfMemory ts → WasShort here words zone seconds ts
+  short ts (not_read is none) = all_still (none_still ts none)
+  short ts (read request asked h) = at_short request asked ts h
+
+  pub left_short : (outcome : Outcome) {o n : Option Journal} → outcome ≡ OutOfMemory → Left (Answered here words zone seconds outcome) o n → Left (WasShort here words zone seconds) o n
+  left_short outcome {o = o} {n = n} e l = left_as (subst (λ (a : Outcome). Left (Answered here words zone seconds a) o n) e l) short

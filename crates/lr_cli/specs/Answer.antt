@@ -11,7 +11,6 @@ use Rattle.lr_host.specs.declared.entry.Entry.{Entry}
 use Rattle.lr_host.specs.Told.{Then}
 use Rattle.lr_conf.specs.Meaning.{Meaning}
 use Rattle.lr_host.specs.Looks.{Sees, IsDir}
-use Rattle.lr_host.specs.Quiet.{ChangeNothing}
 use Rattle.lr_include.specs.Stages.{Reads}
 use Rattle.lr_include.specs.Lacking.{LacksReading}
 use Rattle.lr_due.specs.declared.tz.Zone.{Zone}
@@ -47,17 +46,17 @@ pub record FindsLock (confs : List Path) (ts : List Entry) : Type 0 where
   pub meaning : Meaning
   pub entries : Then (Reads confs meaning) (Sees (parent_of state_path) IsDir) ts
 
--- Where there was no memory: before the first call, for the configuration's texts or its rules, or in the run, behind a first part of its looks.
-pub data LacksMemory (confs : List Path) (now : Moment) (ts : List Entry) : Type 0 where
-  at_first : ts ≡ [] → LacksMemory confs now ts
-  at_confs : LacksReading confs ts → LacksMemory confs now ts
-  at_run : (meaning : Meaning) (rules : Rules) → rules.sets ≡ meaning.rules → Then (Reads confs meaning) (RunLacks state_path now rules) ts → LacksMemory confs now ts
+-- Where there was no memory: before the first call, for the configuration's texts or its rules, or in the run, behind a first part of what it sees, or for a program, amid its acts.
+pub data LacksMemory (confs : List Path) (force : Bool) (now : Moment) (ts : List Entry) : Type 0 where
+  at_first : ts ≡ [] → LacksMemory confs force now ts
+  at_confs : LacksReading confs ts → LacksMemory confs force now ts
+  at_run : (meaning : Meaning) (rules : Rules) → rules.sets ≡ meaning.rules → Then (Reads confs meaning) (RunLacks state_path force now rules) ts → LacksMemory confs force now ts
 
 -- What a call left that was to run with the configuration of these paths, by force or not, at a moment that its clock shows.
 abbrev pub Answers : List Path → Bool → Moment → Outcome → List Entry → Type 0
 Answers confs force now (Done report) ts = Reports confs force now report.notices report.faults ts
 Answers confs force now Held ts = FindsLock confs ts
-Answers confs force now OutOfMemory ts = ChangeNothing ts × LacksMemory confs now ts
+Answers confs force now OutOfMemory ts = LacksMemory confs force now ts
 Answers confs force now BadWords ts = ⊥
 
 -- The same for a request, in a zone at these seconds: where there is no clock, its fault is the one that is told, and no more is called; and nothing is changed where there was no memory for it.

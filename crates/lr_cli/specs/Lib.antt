@@ -6,5 +6,6 @@ pub mod Reached
 pub mod Rotated
 pub mod State
 pub mod Status
+pub mod Still
 pub mod Words
 pub mod Zone

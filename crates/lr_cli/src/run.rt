@@ -20,7 +20,8 @@ use lr_rules::{Clock, Fault, Listed, Path};
 use lr_run::{RunStop, run};
 use std::alloc::Global;
 
-/// Reads the configuration of these paths, and makes a run over its rules. All memory is taken before the first change.
+/// Reads the configuration of these paths, and makes a run over its rules. All memory but that of programs is taken before
+/// the first change.
 pub fn run_confs<H: Host>(
     alloc: Global,
     host: &mut H,

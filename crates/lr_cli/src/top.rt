@@ -5,7 +5,6 @@ ghost use Rattle.lr_host.specs.declared.journal.Journal.{Journal};
 ghost use Rattle.lr_host.specs.Opening.{IsJournal};
 ghost use Rattle.lr_host.specs.World.{past};
 ghost use Rattle.lr_host.specs.Told.{Left, NoneFell, Rose, WhereTold};
-ghost use Rattle.lr_host.specs.Quiet.{ChangeNothing};
 ghost use Rattle.lr_durable.specs.StateWhole.{KeepsWhole};
 ghost use Rattle.lr_host.specs.Safe.{KeepsSafe};
 ghost use Rattle.lr_report.specs.Puts.{Took, TookPart};
@@ -18,6 +17,7 @@ ghost use Rattle.lr_cli.specs.Printed.{printed_of, without_out};
 ghost use Rattle.lr_cli.specs.Reached.{TellsOfPlan};
 ghost use Rattle.lr_cli.specs.Rotated.{RotatesAll};
 ghost use Rattle.lr_cli.specs.State.{IsNewText};
+ghost use Rattle.lr_cli.specs.Still.{WasShort};
 ghost use Rattle.lr_cli.specs.Words.{AreWords, HaveForm};
 
 use crate::outcome::Outcome;
@@ -58,8 +58,9 @@ pub fn logrotate<H: Host, K: Sink>(
     // the looks, the acts of the plan that follows from them, and the end.
     ensures told { Left (Answered here.now words.now zone.now now (without_out result)) (H.told host.old) (H.told host.new) }
 
-    // For want of memory nothing was changed.
-    ensures still { result ≡ Outcome.OutOfMemory → Left ChangeNothing (H.told host.old) (H.told host.new) }
+    // For want of memory nothing was changed and no program was started; or a run broke off amid its acts, where a program
+    // found none, which only comes where one of the rules has a script.
+    ensures still { result ≡ Outcome.OutOfMemory → Left (WasShort here.now words.now zone.now now) (H.told host.old) (H.told host.new) }
 
     // Whether the call came to its plan, so that logs were looked at, decided and rotated by it, its report tells: exactly where
     // none of the faults is one that ends a run before anything is rotated. Where one is a failed look or read of the zone's

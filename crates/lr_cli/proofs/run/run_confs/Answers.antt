@@ -3,7 +3,7 @@ use Rattle.lr_cli.proofs.Reading.{reports, stopped, lacks_at_confs, reading_coun
 use Rattle.lr_cli.proofs.run.run_confs.Goals as goal
 
 pub returns-in_default-clause-told : goal.returns-in_default-clause-told
-returns-in_default-clause-told g c = lacks_at_confs c.args.confs.now c.args.clock.now.now c.in_default.ensures.lacking
+returns-in_default-clause-told g c = lacks_at_confs c.args.confs.now c.args.settings.now.force c.args.clock.now.now c.in_default.ensures.lacking
 
 pub returns-in_default-clause-shape : goal.returns-in_default-clause-shape
 returns-in_default-clause-shape g c = lacking_shape c.args.confs.now c.in_default.ensures.lacking

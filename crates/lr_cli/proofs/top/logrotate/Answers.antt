@@ -1,16 +1,17 @@
 use Rattle.std.proofs.Common.{[], inl, inr, refl, ap, ◌∙◌, Err}
 use Rattle.lr_host.proofs.Left.{left_first}
-use Rattle.lr_host.specs.Quiet.{ChangeNothing}
 use Rattle.lr_rotations.specs.AllTurns.{IsWholeRun}
 use Rattle.lr_rotations.proofs.Safety.{call_safe}
 use Rattle.lr_cli.specs.declared.outcome.Outcome.TheVariants.{BadWords, OutOfMemory}
 use Rattle.lr_cli.specs.Faults.{answer_of}
 use Rattle.lr_cli.specs.Printed.{without_out}
+use Rattle.lr_cli.specs.Still.{WasShort, all_still}
 use Rattle.lr_cli.proofs.Clocked.{own_seconds}
-use Rattle.lr_cli.proofs.Called.{nothing_called, answered, left_still, has_counted, has_clocked, not_counted, none_out}
+use Rattle.lr_cli.proofs.Called.{nothing_called, answered, has_counted, has_clocked, not_counted, none_out}
 use Rattle.lr_cli.proofs.Reached.{left_tells}
 use Rattle.lr_cli.proofs.Reading.{alone_run}
 use Rattle.lr_cli.proofs.Rotating.{answered_rotated}
+use Rattle.lr_cli.proofs.Still.{left_short}
 use Rattle.lr_cli.proofs.Whole.{answered_whole}
 use Rattle.lr_cli.proofs.top.logrotate.Goals as goal
 
@@ -57,13 +58,13 @@ pub returns-clause-clock : goal.returns-clause-clock
 returns-clause-clock g c = λ report done. has_clocked c.args.zone.now _ c.args.now c.run_at-run.result _ report (own_seconds c.args.now c.ranges.now.sfits) c.finish.ensures.answer done c.run_at-run.ensures.clock
 
 pub returns-in-Err-Refused-clause-still : goal.returns-in-Err-Refused-clause-still
-returns-in-Err-Refused-clause-still g c = λ e. left_first ChangeNothing _ refl
+returns-in-Err-Refused-clause-still g c = λ e. left_first (WasShort c.args.here.now c.args.words.now c.args.zone.now c.args.now) _ (all_still tt)
 
 pub returns-in-Err-Memory-clause-still : goal.returns-in-Err-Memory-clause-still
-returns-in-Err-Memory-clause-still g c = λ e. left_first ChangeNothing _ refl
+returns-in-Err-Memory-clause-still g c = λ e. left_first (WasShort c.args.here.now c.args.words.now c.args.zone.now c.args.now) _ (all_still tt)
 
 pub returns-clause-still : goal.returns-clause-still
-returns-clause-still g c = λ e. left_still c.args.here.now c.args.words.now c.args.zone.now c.args.now _ (ap without_out e) (returns-clause-told g c)
+returns-clause-still g c = λ e. left_short c.args.here.now c.args.words.now c.args.zone.now c.args.now _ (ap without_out e) (returns-clause-told g c)
 
 pub returns-in-Err-Refused-clause-state : goal.returns-in-Err-Refused-clause-state
 returns-in-Err-Refused-clause-state g c = answered_whole c.args.here.now c.args.words.now c.args.zone.now c.args.now _ (returns-in-Err-Refused-clause-told g c)

@@ -1,0 +1,45 @@
+-- What a call leaves where there was no memory.
+use Rattle.std.specs.Prelude.{◌≡◌, ℕ, ℤ, List}
+use Rattle.lr_rules.specs.declared.path.Path.{Path}
+use Rattle.lr_rules.specs.declared.clock.Clock.{Clock}
+use Rattle.lr_rules.specs.declared.rules.Rules.{Rules}
+use Rattle.lr_host.specs.declared.entry.Entry.{Entry}
+use Rattle.lr_host.specs.declared.entry.Entry.TheVariants as entry
+use Rattle.lr_host.specs.Told.{Each, Then}
+use Rattle.lr_conf.specs.Meaning.{Meaning}
+use Rattle.lr_include.specs.Stages.{Reads}
+use Rattle.lr_due.specs.declared.tz.Zone.{Zone}
+use Rattle.lr_run.specs.Runs.{Inside, BrokeOff}
+use Rattle.lr_run.specs.Scripts.{HaveNoScripts}
+use Rattle.lr_cli.specs.declared.words.Request.{Request}
+use Rattle.lr_cli.specs.Answer.{state_path}
+use Rattle.lr_cli.specs.Clock.{ShowsClock}
+use Rattle.lr_cli.specs.Words.{AreWords}
+
+-- a look, a listing or a read, or the begin or the end of a run: it leaves the disk as it is, and starts no program
+abbrev pub IsStill : Entry → Type 0
+IsStill (entry.Look path seen) = Unit {0}
+IsStill (entry.List dir names) = Unit {0}
+IsStill (entry.Reads path from piece) = Unit {0}
+IsStill (entry.Starts state now rules) = Unit {0}
+IsStill entry.Ends = Unit {0}
+IsStill _ = ⊥
+
+abbrev pub AreStill : List Entry → Type 0
+AreStill ts = Each IsStill ts
+
+-- The configuration was read, and a run over its rules, of which not all are without scripts, broke off amid its acts.
+pub record BrokeOffAmidActs (here : Path) (words : List (List ℕ)) (zone : Zone) (seconds : ℤ) (ts : List Entry) : Type 0 where
+  pub request : Request
+  pub asked : AreWords here words request
+  pub clock : Clock
+  pub meaning : Meaning
+  pub rules : Rules
+  pub rules_are : rules.sets ≡ meaning.rules
+  pub some_script : HaveNoScripts meaning.rules → ⊥
+  pub entries : Then (ShowsClock zone seconds clock) (Then (Reads request.confs meaning) (Inside state_path clock.now rules (BrokeOff state_path rules.sets clock.now request.force))) ts
+
+-- Where there was no memory the call changed nothing and started no program; or it broke off amid the acts of a run, which it can only where a rule has a script.
+pub data WasShort (here : Path) (words : List (List ℕ)) (zone : Zone) (seconds : ℤ) (ts : List Entry) : Type 0 where
+  all_still : AreStill ts → WasShort here words zone seconds ts
+  broke_off : BrokeOffAmidActs here words zone seconds ts → WasShort here words zone seconds ts
