@@ -12,4 +12,6 @@ mod kinds;
 mod lines;
 mod put;
 
+pub use kinds::phase_name;
 pub use lines::{put_fault, put_lines, put_notice, put_said};
+pub use put::{put_five, put_four, put_one, put_three, put_two};
