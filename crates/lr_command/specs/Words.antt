@@ -1,0 +1,70 @@
+-- What the words of the command line ask for.
+use Rattle.std.specs.Prelude.{ℕ, Bool, true, ◌&&◌, List, map, length, nat_le, Option, Some, None, is_none, codes, if◌then◌else◌}
+use Rattle.std.specs.List.{list_all}
+use Rattle.clap.specs.Words.{Row}
+use Rattle.lr_rules.specs.declared.path.Path.{Path}
+use Rattle.lr_rules.specs.Path.{cleaned, last_of, word_fault}
+use Rattle.lr_command.specs.declared.request.Request.{Request}
+use Rattle.lr_command.specs.Command.{are_taken, found_in, has_flag, value_of, words_of}
+
+-- ---- paths
+
+-- the word names a path
+abbrev pub is_path : Path → List ℕ → Bool
+is_path here word = is_none (word_fault here word)
+
+-- so does the value, where there is one
+abbrev pub may_be_path : Path → Option (List ℕ) → Bool
+may_be_path here None = true
+may_be_path here (Some word) = is_path here word
+
+-- the path that the value names, else this one
+abbrev pub path_or : Path → Path → Option (List ℕ) → Path
+path_or here other None = other
+path_or here other (Some word) = cleaned here word
+
+-- what a state file's path may be: at most 4,000 bytes, and a last part
+abbrev pub can_be_state : List ℕ → Bool
+can_be_state path = nat_le (length path) 4000 && nat_le 1 (length (last_of path))
+
+-- ---- the request
+
+abbrev pub state_in : Path → List Row → Path
+state_in here found = path_or here (codes "/var/lib/logrotate/status") (value_of (codes "state") found)
+
+abbrev pub mailer_in : Path → List Row → Path
+mailer_in here found = path_or here (codes "/usr/bin/mail") (value_of (codes "mail") found)
+
+abbrev pub confs_in : Path → List Row → List Path
+confs_in here found = map (cleaned here) (words_of (codes "conf") found)
+
+-- FILE names a path that a state file may have
+abbrev pub has_state : Path → List Row → Bool
+has_state here found = may_be_path here (value_of (codes "state") found) && can_be_state (state_in here found)
+
+-- COMMAND names a path
+abbrev pub has_mailer : Path → List Row → Bool
+has_mailer here found = may_be_path here (value_of (codes "mail") found)
+
+-- each CONF names a path
+abbrev pub has_confs : Path → List Row → Bool
+has_confs here found = list_all (is_path here) (words_of (codes "conf") found)
+
+-- the request of what was found
+abbrev pub request_in : Path → List Row → Request
+request_in here found = record {
+  state = state_in here found;
+  mailer = mailer_in here found;
+  force = has_flag (codes "force") found;
+  debug = has_flag (codes "debug") found;
+  verbose = has_flag (codes "verbose") found;
+  confs = confs_in here found;
+}
+
+-- it, where each path is one and the state file can have its own
+abbrev pub request_where : Path → List Row → Option Request
+request_where here found = if has_state here found && (has_mailer here found && has_confs here found) then Some (request_in here found) else None
+
+-- The request that the words ask for, from the directory `here` on: `clap` takes them, each path that they name is one, and the state file can have its own. Else they ask for none.
+abbrev pub asked : Path → List (List ℕ) → Option Request
+asked here words = if are_taken words then request_where here (found_in words) else None

@@ -1,0 +1,77 @@
+// The paths that values and words name.
+ghost use Rattle.std.specs.Prelude.{◌≡◌, ◌≢◌, ◌++◌, ◌∷◌, [], IfOk, OnOk, map, option_map, true, false};
+ghost use Rattle.std.specs.List.{list_all};
+ghost use Rattle.lr_rules.specs.Path.{cleaned};
+ghost use Rattle.lr_command.specs.Words.{is_path, may_be_path, path_or};
+
+use crate::request::WordsFault;
+use lr_rules::{Listed, Path, PathFault};
+use std::alloc::Global;
+
+// The path that the word names.
+fn path_of(alloc: Global, here: &Path, word: &str) -> Result<Path, WordsFault>
+    ensures path { IfOk result (λ path. path ≡ cleaned here.now word.now) }
+    ensures is_path { IfOk result (λ path. is_path here.now word.now ≡ true) }
+    ensures refused { result ≡ Err WordsFault.Refused → is_path here.now word.now ≡ false }
+{
+    match Path::from_word(alloc, here, word.as_bytes()) {
+        Ok(path) => Ok(path),
+        Err(PathFault::Memory) => Err(WordsFault::Memory),
+        Err(_) => Err(WordsFault::Refused),
+    }
+}
+
+// The path of these bytes, which are those of one.
+fn path_with(alloc: Global, path: &[u8]) -> Result<Path, WordsFault>
+    ensures path { IfOk result (λ made. made ≡ path.now) }
+    ensures memory { result ≢ Err WordsFault.Refused }
+{
+    match Path::new(alloc, path) {
+        Ok(path) => Ok(path),
+        // So this is want of memory.
+        Err(_) => Err(WordsFault::Memory),
+    }
+}
+
+/// The path that the value names, else this other one, whose bytes are those of a path.
+pub fn path_or(
+    alloc: Global,
+    here: &Path,
+    other: &[u8],
+    value: Option<&str>,
+) -> Result<Path, WordsFault>
+    ensures path { IfOk result (λ path. path ≡ path_or here.now other.now (option_map (λ s. s.now) value.entry)) }
+    ensures is_path { IfOk result (λ path. may_be_path here.now (option_map (λ s. s.now) value.entry) ≡ true) }
+    ensures refused { result ≡ Err WordsFault.Refused → may_be_path here.now (option_map (λ s. s.now) value.entry) ≡ false }
+{
+    match value {
+        Some(word) => path_of(alloc, here, word),
+        None => path_with(alloc, other),
+    }
+}
+
+// Adds the path that the word names.
+fn add_path(alloc: Global, here: &Path, paths: &mut Vec<Path>, word: &str) -> Result<(), WordsFault>
+    ensures path { OnOk result (paths.new.items ≡ paths.old.items ++ cleaned here.now word.now ∷ []) }
+    ensures is_path { OnOk result (is_path here.now word.now ≡ true) }
+    ensures refused { result ≡ Err WordsFault.Refused → is_path here.now word.now ≡ false }
+{
+    let path = path_of(alloc, here, word)?;
+    match paths.push(path) {
+        Ok(()) => Ok(()),
+        Err(_) => Err(WordsFault::Memory),
+    }
+}
+
+/// The paths that the words name, in order.
+pub fn paths_of(alloc: Global, here: &Path, words: &[&str]) -> Result<Listed<Path>, WordsFault>
+    ensures paths { IfOk result (λ paths. paths ≡ map (cleaned here.now) (map (λ s. s.now) words.now)) }
+    ensures are_paths { IfOk result (λ paths. list_all (is_path here.now) (map (λ s. s.now) words.now) ≡ true) }
+    ensures refused { result ≡ Err WordsFault.Refused → list_all (is_path here.now) (map (λ s. s.now) words.now) ≡ false }
+{
+    let mut paths = Vec::new(alloc);
+    for word in words {
+        add_path(alloc, here, &mut paths, word)?;
+    }
+    Ok(Listed::from_vec(paths))
+}
