@@ -13,14 +13,15 @@ mod Planned
 mod StateRead
 mod LookedOne
 mod Writing
+mod Programs
 mod CountedListings
 mod Moves
+mod StateListsNone
 mod Works
 mod Run
 mod Reports
 mod LooksListNone
 mod WordsListOnce
-mod StateListsNone
 mod FamiliesListOnce
 mod RunListsOnce
 mod LeftAlone

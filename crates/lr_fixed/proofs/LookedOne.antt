@@ -13,9 +13,9 @@ use Rattle.lr_reading.specs.Answers.{Known}
 use Rattle.lr_record.specs.After.{after}
 use Rattle.lr_record.specs.Measured.{measured_text}
 use Rattle.lr_seen.specs.Free.{reserved_by}
-use Rattle.lr_run.specs.Runs.{Looked, logs_in, plan_in, kept_in, measured_in}
+use Rattle.lr_run.specs.Runs.{Looked, all_logs_of, logs_in, plan_in, kept_in, measured_in}
 use Rattle.lr_fixed.specs.Alike.{AreAlike}
-use Rattle.lr_fixed.proofs.Planned.{faults_alike, logs_alike}
+use Rattle.lr_fixed.proofs.Planned.{faults_alike, plans_alike}
 use Rattle.lr_fixed.proofs.StateRead.{OneState, state_one}
 use Rattle.lr_fixed.proofs.Whole.{behind_looks, kept_paths, looks_one}
 
@@ -48,9 +48,13 @@ module _ (state : Path) (rules : List Rule) (now : Moment) (force : Bool) (ts us
   pub plans_are : (plan_in state rules ts v now force).faults ≡ (plan_in state rules us w now force).faults
   plans_are = ap (λ (t : List Row). (plan_of rules v.sets t now force).faults) table_is ∙ faults_alike w.remembered.table now force rules v.sets w.sets looks_are.2
 
+  -- and what they do of each definition
+  pub sets_are : (plan_in state rules ts v now force).sets ≡ (plan_in state rules us w now force).sets
+  sets_are = ap (λ (t : List Row). (plan_of rules v.sets t now force).sets) table_is ∙ plans_alike w.remembered.table now force rules v.sets w.sets looks_are.2
+
   -- the logs that they rotate
   logs_are : logs_in (plan_in state rules ts v now force) ≡ logs_in (plan_in state rules us w now force)
-  logs_are = ap (λ (t : List Row). logs_in (plan_of rules v.sets t now force)) table_is ∙ logs_alike w.remembered.table now force rules v.sets w.sets looks_are.2
+  logs_are = ap all_logs_of sets_are
 
   -- the text that is measured
   pub measured_is : measured_in state rules ts v now force ≡ measured_in state rules us w now force

@@ -1,9 +1,10 @@
--- The acts of a plan of rules without scripts are unlinks, renames and makings of logs.
+-- The acts of a plan are unlinks, renames, makings of logs and programs.
 use Rattle.std.proofs.Common.{◌≡◌, inl, inr, ℕ, Bool, true, false, bytes_eq, Option, List, [], ◌∷◌, map, refl, sym, ◌∙◌}
 use Rattle.std.proofs.lemmas.Slice.Eq.{bytes_eq-Decides}
 use Rattle.lr_rules.specs.declared.path.Path.{Path}
 use Rattle.lr_rules.specs.Names.{the_log}
 use Rattle.lr_rules.specs.declared.fault.Fault.{Fault}
+use Rattle.lr_rules.specs.declared.fault.Phase.{Phase}
 use Rattle.lr_rules.specs.declared.rule.Rule.{Rule}
 use Rattle.lr_host.specs.declared.entry.Entry.{Entry}
 use Rattle.lr_host.specs.declared.entry.Entry.TheVariants as entry
@@ -11,13 +12,14 @@ use Rattle.lr_host.specs.Lists.{IsIn}
 use Rattle.lr_host.specs.Told.{Each}
 use Rattle.lr_host.proofs.Each.{each_append, each_as, none_pass}
 use Rattle.lr_due.specs.declared.answer.Due.{Due}
+use Rattle.lr_scripts.specs.declared.command.Command.{Command}
 use Rattle.lr_plan.specs.declared.looks.LogLook.{LogLook}
 use Rattle.lr_plan.specs.declared.looks.SetLooks.{SetLooks}
 use Rattle.lr_plan.specs.declared.mark.Mark.{Mark}
 use Rattle.lr_plan.specs.declared.step.SetSteps.{SetSteps}
 use Rattle.lr_plan.specs.declared.step.Step.{Step}
-use Rattle.lr_plan.specs.declared.step.Step.TheVariants.{Removes, Renames, Creates, Rotated}
-use Rattle.lr_plan.specs.Outcomes.{Succeeds, Fails}
+use Rattle.lr_plan.specs.declared.step.Step.TheVariants.{Runs, Removes, Renames, Creates, Rotated}
+use Rattle.lr_plan.specs.Outcomes.{Succeeds, Fails, ProgramFailed, badly, not_run, maybe_run}
 use Rattle.lr_plan.specs.Done.{SetsDone}
 use Rattle.lr_plan.specs.Planned.{all_plans}
 use Rattle.lr_plan.specs.Steps.{steps_of_set}
@@ -25,7 +27,6 @@ use Rattle.lr_acts.specs.Making.{all_of_sets}
 use Rattle.lr_run.proofs.Folded.{Folds, acts_fold}
 use Rattle.lr_fields.specs.Built.{AreBuiltRules}
 use Rattle.lr_run.proofs.Simple.{IsSimple, AreSimple, plan_simple}
-use Rattle.lr_run.proofs.Works.{no_scripts}
 use Rattle.lr_run.proofs.Stating.{none_leaves, one_leaves, maybe_leaves}
 use Rattle.lr_fixed.proofs.CountedListings.{IsNoListing, AreNoListings}
 use Rattle.lr_rotations.specs.Target.{Target}
@@ -41,23 +42,31 @@ use Rattle.lr_seen.proofs.Ready.{plans_have_logs}
 use Rattle.lr_plan.specs.Steps.{state_part}
 use Rattle.lr_fixed.proofs.Writing.{is_make, makes_in}
 
--- an unlink, a rename or the making of a file
+-- an unlink, a rename, the making of a file, or a program
 abbrev pub IsMove : Entry → Type 0
 IsMove (entry.Unlinks path) = Unit {0}
 IsMove (entry.Renames from to) = Unit {0}
 IsMove (entry.Makes path mode) = Unit {0}
+IsMove (entry.Runs program args input end) = Unit {0}
 IsMove _ = ⊥
 
 -- ---- one step
 
 made_moves : (s : Step) (ts : List Entry) → IsSimple s → Succeeds s ts → Each IsMove ts
+made_moves (Runs p on command) ts i h = one_leaves IsMove _ ts tt h
 made_moves (Removes path) ts i h = one_leaves IsMove (entry.Unlinks path) ts tt h
 made_moves (Renames from to) ts i h = one_leaves IsMove (entry.Renames from to) ts tt h
 made_moves (Creates path mode) ts i h = maybe_leaves IsMove (entry.Makes path mode) ts tt h
 made_moves (Rotated log) ts i h = none_leaves IsMove ts h
 made_moves _ ts i h = absurd i
 
+program_moves : (p : Phase) (on : List ℕ) (c : Command) (f : Fault) (ts : List Entry) → ProgramFailed p on c f ts → Each IsMove ts
+program_moves p on c f ts (badly end bad e o) = one_leaves IsMove _ ts tt o
+program_moves p on c f ts (not_run e o) = none_leaves IsMove ts o
+program_moves p on c f ts (maybe_run end e o) = one_leaves IsMove _ ts tt o
+
 failed_moves : (s : Step) (f : Fault) (ts : List Entry) → IsSimple s → Fails s f ts → Each IsMove ts
+failed_moves (Runs p on command) f ts i h = program_moves p on command f ts h
 failed_moves (Removes path) f ts i h = maybe_leaves IsMove (entry.Unlinks path) ts tt h.1
 failed_moves (Renames from to) f ts i h = maybe_leaves IsMove (entry.Renames from to) ts tt h.1
 failed_moves (Creates path mode) f ts i h = maybe_leaves IsMove (entry.Makes path mode) ts tt h.1
@@ -75,9 +84,9 @@ moves_fold = record {
 sets_move : (sets : List SetSteps) (ms : List Mark) (fs : List Fault) (ts : List Entry) → AreSimple (all_of_sets sets) → SetsDone sets ms fs ts → Each IsMove ts
 sets_move sets ms fs ts i h = acts_fold (λ fs ts. Each IsMove ts) moves_fold sets ms fs ts i h
 
--- the acts of the plan of built rules
-pub plan_moves : (rules : List Rule) (sets : List SetLooks) (decide : Rule → LogLook → Due) (ms : List Mark) (fs : List Fault) (ts : List Entry) → AreBuiltRules rules → SetsDone (map steps_of_set (all_plans decide rules sets)) ms fs ts → Each IsMove ts
-plan_moves rules sets decide ms fs ts built h = sets_move (map steps_of_set (all_plans decide rules sets)) ms fs ts (plan_simple decide rules sets (no_scripts rules built)) h
+-- the acts of a plan
+pub plan_moves : (rules : List Rule) (sets : List SetLooks) (decide : Rule → LogLook → Due) (ms : List Mark) (fs : List Fault) (ts : List Entry) → SetsDone (map steps_of_set (all_plans decide rules sets)) ms fs ts → Each IsMove ts
+plan_moves rules sets decide ms fs ts h = sets_move (map steps_of_set (all_plans decide rules sets)) ms fs ts (plan_simple decide rules sets) h
 
 -- ---- what they aren't
 

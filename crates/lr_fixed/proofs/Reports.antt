@@ -35,7 +35,7 @@ use Rattle.lr_cli.specs.Clock.{ShowsClock, LacksClock, out_of_range, no_text, re
 use Rattle.lr_cli.specs.Words.{HaveNoOption, AreNames, asking, NameConfs, AreWords}
 use Rattle.lr_cli.specs.Zone.{IsNotFile, ShowsZone, GivesBytes, LacksText, not_file, too_big, look_failed, read_failed}
 use Rattle.lr_run.proofs.Called.{none_before, none_behind}
-use Rattle.lr_fixed.proofs.Called.{one_called, one_uncalled}
+use Rattle.lr_fixed.proofs.Called.{one_called, one_uncalled, no_call}
 use Rattle.lr_fixed.proofs.Peeled.{front_same, then_same, joined_same, one_look}
 use Rattle.lr_fixed.proofs.Run.{runs_at}
 use Rattle.lr_cli.proofs.Reached.{built_means}
@@ -111,9 +111,6 @@ reports_some confs force now notices faults ts p c none =
     omega (arith, n, j, m, k)
 
 -- ---- the entries of the zone
-
-no_call : (f g : Fault) → f ≡ g → call_in g ≡ 1 → call_in f ≡ 0 → ⊥
-no_call f g e one z = let a : call_in f ≡ call_in g = ap call_in e in omega (arith, a, one, z)
 
 file_not_file : (s t : Option Seen) → IsNotFile s → IsFile t → s ≡ t → ⊥
 file_not_file None None n i e = i

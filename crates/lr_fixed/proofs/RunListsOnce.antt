@@ -58,7 +58,7 @@ looked_once p q state rules ts dir m l none =
 -- the acts of the plan, and the writing of the state
 acts_none : (state : Path) (rules : List Rule) (now : Moment) (force : Bool) (faults : List Fault) (ts : List Entry) → AreBuiltRules rules → (w : Worked state rules now force faults ts) → AreNoListings w.looked.acts
 acts_none state rules now force faults ts built w = none_both w.looked.acts
-    (λ us h. moves_list_none us (plan_moves rules w.looked.sets (decision w.looked.remembered.table now force) w.acted.marks w.acted.entries.of_plan us built h))
+    (λ us h. moves_list_none us (plan_moves rules w.looked.sets (decision w.looked.remembered.table now force) w.acted.marks w.acted.entries.of_plan us h))
     (λ us h. state_written_none state w.looked.remembered.stale w.acted.dirs _ w.acted.entries.of_state us h) w.acted.entries.entries
 
 works_once : (p q : Past) (state : Path) (rules : List Rule) (now : Moment) (force : Bool) (faults : List Fault) (ts : List Entry) (dir : Path) → Made p (reverse ts) q → AreBuiltRules rules → Works state rules now force faults ts → listings_of dir ts ≤ wildcards_of rules + 1

@@ -1,5 +1,5 @@
 -- The work of two runs that left the same entries met the same faults.
-use Rattle.std.proofs.Common.{◌≡◌, ◌≤◌, ◌<◌, Bool, true, List, [], ◌∷◌, ◌++◌, length, Ok, Err, refl, sym, ap, ◌∙◌, arith}
+use Rattle.std.proofs.Common.{◌≡◌, ◌≤◌, ◌<◌, Bool, true, List, [], ◌∷◌, ◌++◌, length, map, Ok, Err, refl, sym, ap, ◌∙◌, subst, arith}
 use Rattle.std.proofs.lemmas.List.{append-nil}
 use Rattle.std.proofs.lemmas.List.Elements.{filter-append}
 use Rattle.std.specs.List.{list_all}
@@ -12,17 +12,23 @@ use Rattle.lr_rules.specs.declared.path.Path.{Path}
 use Rattle.lr_rules.specs.declared.rule.Rule.{Rule}
 use Rattle.lr_host.specs.declared.entry.Entry.{Entry}
 use Rattle.lr_host.specs.Counted.{calls_in}
+use Rattle.lr_plan.specs.declared.planned.SetPlan.{SetPlan}
+use Rattle.lr_plan.specs.declared.step.SetSteps.{SetSteps}
+use Rattle.lr_plan.specs.Done.{SetsDone}
 use Rattle.lr_plan.specs.Planned.{decision}
-use Rattle.lr_plan.specs.Steps.{state_part}
+use Rattle.lr_plan.specs.Steps.{state_part, steps_of_set, steps_of_plan}
 use Rattle.lr_reading.specs.declared.remembered.Remembered.{Remembered}
 use Rattle.lr_reading.specs.Answers.{Known, IsKnown}
 use Rattle.lr_reading.specs.Sights.{StateSights, ShowsState}
 use Rattle.lr_fields.specs.Built.{AreBuiltRules}
 use Rattle.lr_run.specs.Runs.{Looked, Worked, Works, not_known, too_big, worked, plan_in, measured_in}
-use Rattle.lr_run.proofs.Called.{none_before, none_behind, worked_met_none}
+use Rattle.lr_run.proofs.Called.{none_before, none_behind}
+use Rattle.lr_run.proofs.Works.{steps_simple}
 use Rattle.lr_fixed.proofs.Called.{one_uncalled}
-use Rattle.lr_fixed.proofs.LookedOne.{looks_are, acts_are, plans_are, measured_is}
+use Rattle.lr_fixed.proofs.LookedOne.{looks_are, acts_are, plans_are, sets_are, measured_is}
 use Rattle.lr_fixed.proofs.Moves.{acts_make_none}
+use Rattle.lr_fixed.proofs.Programs.{is_run, programs_in, sets_fixed}
+use Rattle.lr_fixed.proofs.StateListsNone.{state_runs_none}
 use Rattle.lr_fixed.proofs.StateRead.{state_one}
 use Rattle.lr_fixed.proofs.Writing.{is_make, makes_in, told_by, state_told}
 
@@ -44,13 +50,22 @@ module _ (state : Path) (rules : List Rule) (now : Moment) (force : Bool) (own :
       ∙ (filter-append (is_make (state_part state)) w.acted.entries.entries.front w.acted.entries.entries.back
       ∙ ap (λ es. es ++ makes_in (state_part state) w.acted.entries.entries.back) (acts_make_none state rules w.looked.sets (decision w.looked.remembered.table now force) w.looked.of_looks w.looked.looks w.acted.marks w.acted.entries.of_plan w.acted.entries.entries.front built w.looked.shown w.acted.entries.entries.first))
 
-  -- by them the faults of the acts are told
-  acts_told : w.acted.of_acts ≡ told_by (state_part state) (makes_in (state_part state) w.looked.acts)
-  acts_told =
-      w.acted.entries.faults_are
-      ∙ (ap (λ fs. fs ++ w.acted.entries.of_state) (worked_met_none state rules now force own ts built w c)
-      ∙ (state_told state w.looked.remembered.stale w.acted.dirs _ [] w.acted.entries.of_state w.acted.entries.entries.back w.acted.entries.entries.second no_call_written
-      ∙ sym (ap (told_by (state_part state)) made_is)))
+  -- by them the faults of the writing are told
+  written_told : w.acted.entries.of_state ≡ told_by (state_part state) (makes_in (state_part state) w.looked.acts)
+  written_told =
+      state_told state w.looked.remembered.stale w.acted.dirs _ [] w.acted.entries.of_state w.acted.entries.entries.back w.acted.entries.entries.second no_call_written
+      ∙ sym (ap (told_by (state_part state)) made_is)
+
+  -- nor at the acts of the plan
+  no_call_acted : calls_in w.acted.entries.of_plan ≡ 0
+  no_call_acted = none_before w.acted.of_acts w.acted.entries.of_plan w.acted.entries.of_state w.acted.entries.faults_are (none_behind _ (plan_in state rules ts w.looked now force).faults w.acted.of_acts refl no_call)
+
+  -- the programs that were run are those of the plan
+  run_is : programs_in w.looked.acts ≡ programs_in w.acted.entries.entries.front ++ []
+  run_is =
+      ap programs_in w.acted.entries.entries.joined
+      ∙ (filter-append is_run w.acted.entries.entries.front w.acted.entries.entries.back
+      ∙ ap (λ es. programs_in w.acted.entries.entries.front ++ es) (state_runs_none state w.looked.remembered.stale w.acted.dirs _ w.acted.entries.of_state w.acted.entries.entries.back w.acted.entries.entries.second))
 
 -- ---- one that knew its state, and one that didn't
 
@@ -77,7 +92,7 @@ module _ (state : Path) (rules : List Rule) (now : Moment) (force : Bool) (own m
 
   -- both worked
   worked_one : Worked state rules now force own ts → Worked state rules now force more us → own ≡ more
-  worked_one v w = v.acted.faults_are ∙ (ap (λ fs. fs ++ (v_plan ++ v.acted.of_acts)) looks ∙ (ap (λ fs. w.looked.of_looks ++ (fs ++ v.acted.of_acts)) plans ∙ (ap (λ fs. w.looked.of_looks ++ (w_plan ++ fs)) acts ∙ sym w.acted.faults_are)))
+  worked_one v w = v.acted.faults_are ∙ (ap (λ fs. fs ++ (v_plan ++ v.acted.of_acts)) looks ∙ (ap (λ fs. w.looked.of_looks ++ (fs ++ v.acted.of_acts)) plans ∙ (ap (λ fs. w.looked.of_looks ++ (w_plan ++ fs)) of_acts ∙ sym w.acted.faults_are)))
     where
       v_plan : List Fault
       v_plan = (plan_in state rules ts v.looked now force).faults
@@ -97,8 +112,26 @@ module _ (state : Path) (rules : List Rule) (now : Moment) (force : Bool) (own m
       plans : v_plan ≡ w_plan
       plans = plans_are state rules now force ts us v.looked w.looked e no_v no_w limits
 
-      acts : v.acted.of_acts ≡ w.acted.of_acts
-      acts = acts_told state rules now force own ts built v c ∙ (ap (λ es. told_by (state_part state) (makes_in (state_part state) es)) (acts_are state rules now force ts us v.looked w.looked e no_v no_w limits) ∙ sym (acts_told state rules now force more us built w d))
+      acts : v.looked.acts ≡ w.looked.acts
+      acts = acts_are state rules now force ts us v.looked w.looked e no_v no_w limits
+
+      -- the steps of the one are those of the other
+      steps : List SetSteps
+      steps = steps_of_plan (plan_in state rules us w.looked now force)
+
+      done : SetsDone steps v.acted.marks v.acted.entries.of_plan v.acted.entries.entries.front
+      done = subst (λ (ps : List SetPlan). SetsDone (map steps_of_set ps) v.acted.marks v.acted.entries.of_plan v.acted.entries.entries.front) (sets_are state rules now force ts us v.looked w.looked e no_v no_w limits) v.acted.entries.entries.first
+
+      of_plan : v.acted.entries.of_plan ≡ w.acted.entries.of_plan
+      of_plan = (sets_fixed steps (steps_simple rules w.looked.sets w.looked.remembered.table now force) v.acted.marks w.acted.marks v.acted.entries.of_plan w.acted.entries.of_plan v.acted.entries.entries.front w.acted.entries.entries.front [] [] done w.acted.entries.entries.first
+          (no_call_acted state rules now force own ts built v c) (no_call_acted state rules now force more us built w d)
+          (sym (run_is state rules now force own ts built v c) ∙ (ap programs_in acts ∙ run_is state rules now force more us built w d))).faults_are
+
+      of_state : v.acted.entries.of_state ≡ w.acted.entries.of_state
+      of_state = written_told state rules now force own ts built v c ∙ (ap (λ es. told_by (state_part state) (makes_in (state_part state) es)) acts ∙ sym (written_told state rules now force more us built w d))
+
+      of_acts : v.acted.of_acts ≡ w.acted.of_acts
+      of_acts = v.acted.entries.faults_are ∙ (ap (λ fs. fs ++ v.acted.entries.of_state) of_plan ∙ (ap (λ fs. w.acted.entries.of_plan ++ fs) of_state ∙ sym w.acted.entries.faults_are))
 
   -- the text of both could become too big
   big_one : (v : Looked state rules ts) (w : Looked state rules us) → own ≡ v.of_looks ++ fault.State 0 kind.TooBig ∷ [] → more ≡ w.of_looks ++ fault.State 0 kind.TooBig ∷ [] → own ≡ more

@@ -36,7 +36,7 @@ each_folds F k (s ∷ ss) ms fs ts i h = let r = simple_split s (all_of_each ss)
     stated F fs (h.first_faults ++ h.second_faults) ts (h.entries.front ++ h.entries.back) h.faults_are h.entries.joined
     (k.both h.first_faults h.second_faults h.entries.front h.entries.back (course_folds F k s h.first_marks h.first_faults h.entries.front r.0 h.entries.first) (each_folds F k ss h.second_marks h.second_faults h.entries.back r.1 h.entries.second))
 
-last_simple : (b : Bool) (last : List Step) → AreSimple last → AreSimple (cond b last [])
+pub last_simple : (b : Bool) (last : List Step) → AreSimple last → AreSimple (cond b last [])
 last_simple true last i = i
 last_simple false last i = tt
 
