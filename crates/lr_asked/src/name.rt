@@ -37,7 +37,7 @@ fn put_place(place: Option<Place>, out: &mut Answer) {
         Some(Place::Number(place)) => {
             out.put_number(u64::from(place));
         }
-        Some(Place::Stamp(_)) => out.put("a stamp"),
+        Some(Place::Stamp(_, _)) => out.put("a stamp"),
         None => out.put("none"),
     }
 }

@@ -5,9 +5,9 @@ ghost use Rattle.lr_stamps.specs.Dated.{MayHaveSerial};
 
 use crate::answer::Answer;
 use lr_due::{ZoneText, clock_of};
+use lr_family::{Family, Place, are_kin};
 use lr_line::{Line, Trouble};
 use lr_rules::{Back, Clock, Format, Naming, Path, Text};
-use lr_stamps::{dated_path, stamp_at};
 use lr_values::format;
 
 // The format that the word writes, with serial numbers or without.
@@ -41,25 +41,38 @@ fn naming_by(line: Line, log: &Path, format: Format) -> Result<Naming, Trouble>
     })
 }
 
+// The family of the log that is the second word, by this format.
+fn family_by(line: Line, format: Format) -> Result<Family, Trouble>
+    ensures { IfOk result (λ family. family.naming.dated ≡ Some format) }
+{
+    let log = line.path(1)?;
+    let naming = naming_by(line, &log, format)?;
+    if are_kin(&log, &naming) {
+        Ok(Family::of(log, naming))
+    } else {
+        Err(Trouble::Odd("these are no family"))
+    }
+}
+
 fn put_some(seconds: i64, serial: u32, out: &mut Answer) {
     out.put_signed(seconds);
     out.put(" ");
     out.put_number(u64::from(serial));
 }
 
-fn put_stamp(stamp: Option<(i64, u32)>, out: &mut Answer) {
-    match stamp {
-        Some((seconds, serial)) => put_some(seconds, serial, out),
+fn put_stamp(place: Option<Place>, out: &mut Answer) {
+    match place {
+        Some(Place::Stamp(seconds, serial)) => put_some(seconds, serial, out),
+        Some(Place::Number(_)) => out.put("a number"),
         None => out.put("none"),
     }
 }
 
 fn put_stamp_at(line: Line, serial: bool, out: &mut Answer) -> Result<(), Trouble> {
-    let log = line.path(1)?;
     let path = line.path(3)?;
     let format = format_by(line, line.word(2)?, Back::Now, serial)?;
-    let naming = naming_by(line, &log, format)?;
-    put_stamp(stamp_at(&naming, &path), out);
+    let family = family_by(line, format)?;
+    put_stamp(family.place_of(&path), out);
     Ok(())
 }
 
@@ -103,8 +116,8 @@ fn put_dated(
     requires format { is_format format ≡ true }
     requires serial { format.serial ≡ true }
 {
-    let naming = naming_by(line, &line.path(1)?, format)?;
-    let path = dated_path(line.alloc, &naming, clock, serial)?;
+    let family = family_by(line, format)?;
+    let path = family.dated(line.alloc, clock, serial)?;
     out.put(path.as_str());
     Ok(())
 }

@@ -36,7 +36,7 @@ all_reverse P (x ∷ xs) h = subst (All P) (sym (reverse-append (x ∷ []) xs)) 
 
 bound_of : (n : Naming) (place : Place) (path : Path) → IsPlaceOf n place path → n.start + number_in place ≤ 4294967295
 bound_of n (at.Number k) path named = named.bound
-bound_of n (at.Stamp s) path named = absurd named
+bound_of n (at.Stamp s k) path named = absurd named
 
 pub have_names : (n : Naming) (members : List Member) → AreNamed n members → HaveNames n (places_of members)
 have_names n members named = all_reverse (λ place. n.start + place ≤ 4294967295) (map (λ m. number_in m.place) members)

@@ -15,7 +15,7 @@ use Rattle.lr_chain.specs.Ready.{is_highest, highest_path}
 
 by_place : (n : Naming) (place : Place) (path : Path) → IsPlaceOf n place path → n.start + number_in place ≡ 4294967295 → path ≡ highest_path n
 by_place n (at.Number k) path named e = named.named ∙ ap (λ (i : ℕ). joined n.dir (member_name n i)) e
-by_place n (at.Stamp s) path named e = absurd named
+by_place n (at.Stamp s k) path named e = absurd named
 
 pub path_is : (n : Naming) (m : Member) → IsPlaceOf n m.place m.path → is_highest n m ≡ true → m.path ≡ highest_path n
 path_is n m named e = by_place n m.place m.path named (eqb-true (n.start + number_in m.place) 4294967295 e)

@@ -16,7 +16,7 @@ fn number_at(place: Place) -> u32
 {
     match place {
         Place::Number(number) => number,
-        Place::Stamp(_) => 0,
+        Place::Stamp(_, _) => 0,
     }
 }
 

@@ -48,7 +48,8 @@ stand_well : (n : Naming) (there parent : Bool) (members : List Member) (ts : Li
 stand_well n true parent members ts t = behind n.dir ts None t.1 (λ us s. ap past_list (sym (append-nil us)) ∙ stands_well n members us [] s)
 stand_well n false parent members ts t = ap wrong t.1.joined ∙ saw_nothing n.dir t.1.front t.1.back t.1.first
 
-abbrev named : StandStop → Option Path
+-- the path that a stop tells to be no file
+abbrev pub named : StandStop → Option Path
 named (stop.NotFile path) = Some path
 named (stop.Call kind path) = None
 named stop.Memory = None
@@ -81,7 +82,7 @@ stop_names n (stop.NotFile path) ts t = none_wrong n path ts t
 stop_names n (stop.Call kind path) ts t = call_well n kind path ts t
 stop_names n stop.Memory ts t = so_far_well n ts t
 
-is_named : (s : StandStop) (path : Path) → named s ≡ Some path → s ≡ stop.NotFile path
+pub is_named : (s : StandStop) (path : Path) → named s ≡ Some path → s ≡ stop.NotFile path
 is_named (stop.NotFile other) path e = let same : other ≡ path = cc in ap stop.NotFile same
 is_named (stop.Call kind other) path e = absurd (cc)
 is_named stop.Memory path e = absurd (cc)
@@ -140,11 +141,11 @@ exactly_among n there parent names (Err s) a b = left_as b (among_exactly n ther
 
 -- ---- and of a listing
 
-listing_well : (dir : Path) (there parent : Bool) (names : List (List ℕ)) (ts : List Entry) → ShowsListing dir there parent names ts → wrong ts ≡ None
+pub listing_well : (dir : Path) (there parent : Bool) (names : List (List ℕ)) (ts : List Entry) → ShowsListing dir there parent names ts → wrong ts ≡ None
 listing_well dir true parent names ts t = behind dir ts None t.1 (λ us l. ap past_list l.list)
 listing_well dir false parent names ts t = ap wrong t.1.joined ∙ saw_nothing dir t.1.front t.1.back t.1.first
 
-no_dir : (dir path : Path) (ts : List Entry) → ShowsNoDir dir path ts → wrong ts ≡ Some path
+pub no_dir : (dir path : Path) (ts : List Entry) → ShowsNoDir dir path ts → wrong ts ≡ Some path
 no_dir dir path ts t = ap wrong t.1.look ∙ (no_dir_wrong dir t.1.seen [] t.1.is ∙ ap Some (sym t.0))
 
 listing_call : (dir : Path) (k : CallKind) (path : Path) (ts : List Entry) → NotListedAt dir k path ts → wrong ts ≡ None
@@ -153,14 +154,14 @@ listing_call dir call.Look path ts (inr t) = ap wrong (alone dir ts t.1) ∙ saw
 listing_call dir call.List path ts t = ap wrong (alone dir ts t.1) ∙ saw_dir dir ts [] t.1
 listing_call dir _ path ts t = absurd t
 
-listing_names : (dir : Path) (s : StandStop) (ts : List Entry) → NotListed dir s ts → wrong ts ≡ named s
+pub listing_names : (dir : Path) (s : StandStop) (ts : List Entry) → NotListed dir s ts → wrong ts ≡ named s
 listing_names dir (stop.NotFile path) ts t = no_dir dir path ts t
 listing_names dir (stop.Call kind path) ts t = listing_call dir kind path ts t
 listing_names dir stop.Memory ts (inl e) = ap wrong e
 listing_names dir stop.Memory ts (inr (inl s)) = ap wrong (alone dir ts s) ∙ saw_nothing dir ts [] s
 listing_names dir stop.Memory ts (inr (inr s)) = ap wrong (alone dir ts s) ∙ saw_dir dir ts [] s
 
-stop_of_err : {T : Type 0} (s t : StandStop) (r : Result T StandStop) → r ≡ Err s → r ≡ Err t → s ≡ t
+pub stop_of_err : {T : Type 0} (s t : StandStop) (r : Result T StandStop) → r ≡ Err s → r ≡ Err t → s ≡ t
 stop_of_err s t r p q = cc
 
 pub exactly_no_dir : {T : Type 0} (dir : Path) (there parent : T → Bool) (names : T → List (List ℕ)) (r : Result T StandStop) {o m : Option Journal} → IfOk r (λ l. Left (ShowsListing dir (there l) (parent l) (names l)) o m) → IfErr r (λ s. Left (NotListed dir s) o m) → Left (IsExactlyNoDir dir r) o m

@@ -36,7 +36,7 @@ both ts t = ap length t.joined ∙ length-append t.front t.back
 
 -- ---- of a listing
 
-listing_two : (dir : Path) (there parent : Bool) (names : List (List ℕ)) (ts : List Entry) → ShowsListing dir there parent names ts → length ts ≤ 2
+pub listing_two : (dir : Path) (there parent : Bool) (names : List (List ℕ)) (ts : List Entry) → ShowsListing dir there parent names ts → length ts ≤ 2
 listing_two dir true parent names ts t =
     let all = both ts t.1 in let front = one dir _ t.1.front t.1.first in let back : length t.1.back ≡ 1 = ap length t.1.second.list in omega arith
 listing_two dir false parent names ts t =
@@ -48,7 +48,7 @@ call_one dir call.Look path ts (inr t) = let is = one dir _ ts t.1 in omega arit
 call_one dir call.List path ts t = let is = one dir _ ts t.1 in omega arith
 call_one dir _ path ts t = absurd t
 
-not_listed_one : (dir : Path) (s : StandStop) (ts : List Entry) → NotListed dir s ts → length ts ≤ 1
+pub not_listed_one : (dir : Path) (s : StandStop) (ts : List Entry) → NotListed dir s ts → length ts ≤ 1
 not_listed_one dir (stop.NotFile path) ts t = let is = one dir _ ts t.1 in omega arith
 not_listed_one dir (stop.Call kind path) ts t = call_one dir kind path ts t
 not_listed_one dir stop.Memory ts (inl e) = let none : length ts ≡ 0 = ap length e in omega arith
@@ -61,7 +61,7 @@ at_most_three dir there parent names (Err s) a b = left_as b (λ ts t. let few =
 
 -- ---- of the members among names
 
-none_once : IsStrictlyIncreasing []
+pub none_once : IsStrictlyIncreasing []
 none_once k lt = absurd (omega arith)
 
 few_of : (n : Naming) (names : List (List ℕ)) (spots : List Spot) (ts : List Entry) → AreSpots n names spots → length ts ≤ length spots → AreFewAmong n names ts
@@ -116,7 +116,7 @@ few_among n there parent names (Err s) a b = left_as b (none_few n there names s
 
 -- ---- of both
 
-told : (dir : Path) (there parent : Bool) (names : List (List ℕ)) (ts us : List Entry) → ShowsListing dir there parent names ts → (name : List ℕ) → Contains names name → Contains (names_told (ts ++ us)) name
+pub told : (dir : Path) (there parent : Bool) (names : List (List ℕ)) (ts us : List Entry) → ShowsListing dir there parent names ts → (name : List ℕ) → Contains names name → Contains (names_told (ts ++ us)) name
 told dir true parent names ts us t name c =
     let l = t.1.second in
     let here : names_told ts ≡ l.listed ++ [] = ap names_told t.1.joined ∙ (ap (λ xs. names_told (xs ++ t.1.back)) t.1.first.look ∙ ap names_told l.list) in

@@ -7,8 +7,8 @@ pub mod Numbers
 pub mod OnlyLooks
 pub mod Paths
 pub mod Placed
-pub mod Plain
 pub mod Prefixes
+pub mod Stamped
 pub mod Unique
 pub mod Whole
 pub mod Wrong

@@ -1,5 +1,5 @@
 -- The names of numbered members.
-use Rattle.std.specs.Prelude.{◌≡◌, ◌≤◌, ◌+◌, ℕ, Bool, false, ◌&&◌, nat_le, List, [], ◌∷◌, ◌++◌, decimal}
+use Rattle.std.specs.Prelude.{◌≡◌, ◌≤◌, ◌+◌, ℕ, List, ◌∷◌, ◌++◌, decimal}
 use Rattle.lr_rules.specs.declared.rule.Naming.{Naming}
 
 -- a name of a base, a dot, digits and an extension
@@ -9,12 +9,6 @@ framed base digits ext = base ++ 46 ∷ digits ++ ext
 -- the name of the member with this number
 abbrev pub member_name : Naming → ℕ → List ℕ
 member_name n number = framed n.base (decimal number) n.ext
-
--- the first byte is a digit, and no zero but where it stands alone
-abbrev pub is_plain : List ℕ → Bool
-is_plain [] = false
-is_plain (d ∷ []) = nat_le 48 d && nat_le d 57
-is_plain (d ∷ e ∷ ds) = nat_le 49 d && nat_le d 57
 
 -- The name is that of the numbered member at this place.
 pub record IsNamedAt (n : Naming) (place : ℕ) (name : List ℕ) : Type 0 where

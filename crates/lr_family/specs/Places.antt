@@ -7,10 +7,10 @@ use Rattle.lr_family.specs.declared.place.Place.{Place}
 use Rattle.lr_family.specs.declared.place.Place.TheVariants as at
 use Rattle.lr_family.specs.declared.stand.Member.{Member}
 
--- The path is that of the member at this place. Stamps are no places of a numbered member.
+-- The path is that of the numbered member at this place. Stamps are no places of one.
 abbrev pub IsPlaceOf : Naming → Place → Path → Type 0
 IsPlaceOf n (at.Number place) x = IsMemberAt n place x
-IsPlaceOf n (at.Stamp seconds) x = ⊥
+IsPlaceOf n (at.Stamp seconds serial) x = ⊥
 
 -- Each member has the path of its place.
 abbrev pub AreNamed : Naming → List Member → Type 0

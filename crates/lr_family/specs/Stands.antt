@@ -24,7 +24,7 @@ use Rattle.lr_family.specs.Looks.{Shows, ShowsTo, ShowsSome}
 -- the number of a place; a numbered family has no stamps
 abbrev pub number_in : Place → ℕ
 number_in (at.Number number) = number
-number_in (at.Stamp seconds) = 0
+number_in (at.Stamp seconds serial) = 0
 
 -- the newest member first
 abbrev pub AreNewestFirst : List Member → Type 0

@@ -1,11 +1,14 @@
 // A log and the names of its members.
-ghost use Rattle.std.specs.Prelude.{◌≡◌, ◌<◌, ◌+◌, ◌↔◌, ℕ, true, false, Some, None, IfOk, IfSome, IfErr, IsErrOf};
+ghost use Rattle.std.specs.Prelude.{◌≡◌, ◌≢◌, ◌<◌, ◌+◌, ◌↔◌, ℕ, ℤ, true, false, Some, None, IfOk, IfErr, IsErrOf};
 ghost use Rattle.lr_rules.specs.Names.{IsMemberAt, IsName, Meet};
+ghost use Rattle.lr_rules.specs.Limits.{is_format, or_none};
+ghost use Rattle.lr_rules.specs.Dated.{IsDatedAt};
+ghost use Rattle.lr_stamps.specs.Dated.{IsDatedBy, MayHaveSerial, clock_seconds};
 ghost use Rattle.lr_host.specs.Told.{Left, Onward, Rose};
 ghost use Rattle.lr_family.specs.declared.place.Place.TheVariants as at;
 ghost use Rattle.lr_family.specs.Among.{ShowsIn, ShowsNoneIn, IsExactlyAmong, AreFewAmong, AreFew};
 ghost use Rattle.lr_family.specs.Kin.{IsKin};
-ghost use Rattle.lr_family.specs.Places.{IsPlaceOf, AreNamed};
+ghost use Rattle.lr_family.specs.Places.{AreNamed};
 ghost use Rattle.lr_family.specs.Stands.{ShowsStand, ShowsStop, IsExactly, IsFailedCall};
 
 use crate::listing::Listing;
@@ -14,8 +17,32 @@ use crate::place::{NameStop, Place};
 use crate::stand::{Stand, StandStop};
 use crate::standing::stand_among;
 use lr_host::Host;
-use lr_rules::{Naming, Path};
+use lr_rules::{Clock, Memory, Naming, Path};
+use lr_stamps::{dated_path, stamp_at};
 use std::alloc::Global;
+
+// The place of the numbered member with this path.
+fn number_place(naming: &Naming, path: &Path) -> Option<Place>
+    ensures numbers { (place : ℕ) → (result ≡ Some (at.Number place)) ↔ IsMemberAt naming.now place path.now }
+    ensures no_stamp { (seconds : ℤ) (serial : ℕ) → result ≢ Some (at.Stamp seconds serial) }
+{
+    match place_of_path(naming, path) {
+        Some(place) => Some(Place::Number(place)),
+        None => None,
+    }
+}
+
+// The place of the dated member with this path.
+fn stamp_place(naming: &Naming, path: &Path) -> Option<Place>
+    requires { or_none is_format naming.now.dated ≡ true }
+    ensures stamps { (seconds : ℤ) (serial : ℕ) → (result ≡ Some (at.Stamp seconds serial)) ↔ IsDatedAt naming.now seconds serial path.now }
+    ensures no_number { (place : ℕ) → result ≢ Some (at.Number place) }
+{
+    match stamp_at(naming, path) {
+        Some((seconds, serial)) => Some(Place::Stamp(seconds, serial)),
+        None => None,
+    }
+}
 
 /// A log and how its members are named. The directory has at most 2,600 bytes, base and extension together at most 400,
 /// and no `/`, newline or zero byte; so each member's path is a path. The log is no member.
@@ -66,16 +93,25 @@ impl Family {
         }
     }
 
-    /// The place of the member with this path, of a numbered family; None exactly where the path is no member's. It
-    /// takes no memory.
-    pub fn place_of(&self, path: &Path) -> Option<Place>
-        requires numbered { self.now.naming.dated ≡ None }
-        ensures member { IfSome result (λ place. IsPlaceOf self.now.naming place path.now) }
-        ensures inverse { (place : ℕ) → (result ≡ Some (at.Number place)) ↔ IsMemberAt self.now.naming place path.now }
+    /// The path of the member of a dated family whose stamp this clock gives, with this serial number, 0 for none.
+    pub fn dated(&self, alloc: Global, clock: &Clock, serial: u32) -> Result<Path, Memory>
+        requires format { or_none is_format self.now.naming.dated ≡ true }
+        requires serial { MayHaveSerial self.now.naming.dated serial }
+        ensures path { IfOk result (λ path. IsDatedBy self.now.naming clock.entry.now serial path) }
+        ensures member { IfOk result (λ path. IsDatedAt self.now.naming (clock_seconds self.now.naming.dated clock.entry.now) serial path) }
     {
-        match place_of_path(&self.naming, path) {
-            Some(place) => Some(Place::Number(place)),
-            None => None,
+        dated_path(alloc, &self.naming, clock, serial)
+    }
+
+    /// The place of the member with this path; None exactly where the path is no member's. It takes no memory.
+    pub fn place_of(&self, path: &Path) -> Option<Place>
+        requires format { or_none is_format self.now.naming.dated ≡ true }
+        ensures numbers { (place : ℕ) → (result ≡ Some (at.Number place)) ↔ ((self.now.naming.dated ≡ None) × IsMemberAt self.now.naming place path.now) }
+        ensures stamps { (seconds : ℤ) (serial : ℕ) → (result ≡ Some (at.Stamp seconds serial)) ↔ IsDatedAt self.now.naming seconds serial path.now }
+    {
+        match &self.naming.dated {
+            Some(_) => stamp_place(&self.naming, path),
+            None => number_place(&self.naming, path),
         }
     }
 

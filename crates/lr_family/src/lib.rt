@@ -28,7 +28,9 @@ mod standing;
 
 pub use family::{Family, apart};
 pub use kin::are_kin;
-pub use laws::{name_is_read_back, path_is_named_again};
+pub use laws::{name_is_read_back, path_is_named_again, stamp_is_read_back};
 pub use listing::Listing;
+pub use look::{LookStop, look_at, stop_at};
 pub use place::{NameStop, Place};
+pub use prefix::names_with;
 pub use stand::{Member, Stand, StandStop};

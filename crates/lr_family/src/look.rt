@@ -17,7 +17,7 @@ use lr_host::{Host, Kind, Seen};
 use lr_rules::{CallKind, Memory, Path};
 use std::alloc::Global;
 
-// Why a path isn't seen as a regular file or as nothing.
+/// Why a path isn't seen as a regular file or as nothing.
 #[derive(Clone, Copy)]
 pub enum LookStop {
     /// The look failed.
@@ -26,8 +26,8 @@ pub enum LookStop {
     NotFile,
 }
 
-// Looks at one path: a regular file, or nothing.
-fn look_at<H: Host>(host: &mut H, path: &Path) -> Result<Option<Seen>, LookStop>
+/// Looks at one path: a regular file, or nothing.
+pub fn look_at<H: Host>(host: &mut H, path: &Path) -> Result<Option<Seen>, LookStop>
     ensures file { IfOk result IsFileOrGone }
     ensures told { IfOk result (λ seen. Left (Are (entry.Look path.now seen ∷ [])) (H.told host.old) (H.told host.new)) }
     ensures stopped { IfErr result (λ stop. Left (OneStopped path.now stop) (H.told host.old) (H.told host.new)) }
@@ -47,8 +47,8 @@ fn look_at<H: Host>(host: &mut H, path: &Path) -> Result<Option<Seen>, LookStop>
     }
 }
 
-// The stop at this path.
-fn stop_at(stop: LookStop, path: Path) -> StandStop
+/// The stop at this path.
+pub fn stop_at(stop: LookStop, path: Path) -> StandStop
     ensures { result ≡ stop_of stop path }
 {
     match stop {

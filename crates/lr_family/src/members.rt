@@ -24,7 +24,7 @@ fn number_of(place: &Place) -> u32
     match *place {
         Place::Number(number) => number,
         // A numbered family has no stamps.
-        Place::Stamp(_) => 0,
+        Place::Stamp(_, _) => 0,
     }
 }
 

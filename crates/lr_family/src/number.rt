@@ -2,35 +2,20 @@
 ghost use Rattle.std.specs.Prelude.{◌≡◌, ◌≢◌, ◌≤◌, ◌++◌, ℕ, List, decimal, OnOk, IfOk, IfSome, IfNone, MatchOption};
 ghost use Rattle.lr_rules.specs.Names.{IsMemberAt};
 ghost use Rattle.lr_rules.specs.Path.{joined};
-ghost use Rattle.lr_family.specs.Named.{framed, member_name, is_plain, IsNamedAt};
+ghost use Rattle.lr_family.specs.Named.{framed, member_name, IsNamedAt};
 
 use lr_rules::{Memory, Naming, Path};
+use lr_stamps::{between, name_under, plain_number};
 use std::alloc::{AllocError, Global};
 
-// Whether the digits are written as a number is: `0`, or with no zero in front.
-fn begins_plain(digits: &[u8]) -> bool
-    ensures { result ≡ is_plain digits.now }
-{
-    match digits {
-        [] => false,
-        [one] => b'0' <= *one && *one <= b'9',
-        [first, ..] => b'1' <= *first && *first <= b'9',
-    }
-}
-
-// The number that these bytes are the plain decimal text of.
-fn plain_number(digits: &[u8]) -> Option<u32>
+// The number up to 4,294,967,295 that these bytes are the plain decimal text of.
+fn small_number(digits: &[u8]) -> Option<u32>
     ensures some { IfSome result (λ number. (number ≤ 4294967295) × (digits.now ≡ decimal number)) }
     ensures none { IfNone result ((number : ℕ) → number ≤ 4294967295 → digits.now ≡ decimal number → ⊥) }
 {
-    let Ok(text) = str::from_utf8(digits) else {
-        return None;
-    };
-    let Ok(number) = text.parse::<u32>() else {
-        return None;
-    };
-    if begins_plain(digits) {
-        Some(number)
+    let number = plain_number(digits)?;
+    if number <= 4_294_967_295 {
+        Some(number as u32)
     } else {
         None
     }
@@ -40,13 +25,10 @@ fn plain_number(digits: &[u8]) -> Option<u32>
 fn middle<'a>(base: &[u8], ext: &[u8], name: &'a [u8]) -> Option<&'a [u8]>
     ensures { MatchOption result ((digits : List ℕ) → name.now ≢ framed base.now digits ext.now) (λ digits. name.now ≡ framed base.now digits.now ext.now) }
 {
-    let Some(rest) = name.strip_prefix(base) else {
-        return None;
-    };
-    let Some(rest) = rest.strip_prefix(b".") else {
-        return None;
-    };
-    rest.strip_suffix(ext)
+    match between(base, ext, name) {
+        Some(rest) => rest.strip_prefix(b"."),
+        None => None,
+    }
 }
 
 // The number in the name, where it is base, dot, a plain number and extension.
@@ -55,7 +37,7 @@ fn number_of(base: &[u8], ext: &[u8], name: &[u8]) -> Option<u32>
     ensures none { IfNone result ((number : ℕ) → number ≤ 4294967295 → name.now ≡ framed base.now (decimal number) ext.now → ⊥) }
 {
     match middle(base, ext, name) {
-        Some(digits) => plain_number(digits),
+        Some(digits) => small_number(digits),
         None => None,
     }
 }
@@ -66,20 +48,6 @@ pub fn place_of_name(naming: &Naming, name: &[u8]) -> Option<u32>
 {
     match number_of(naming.base.bytes(), naming.ext.bytes(), name) {
         Some(number) => number.checked_sub(naming.start),
-        None => None,
-    }
-}
-
-// The name of the path in the directory, where it is a path of one.
-fn name_under<'a>(dir: &Path, path: &'a Path) -> Option<&'a [u8]>
-    ensures { MatchOption result ((name : List ℕ) → path.now ≢ joined dir.now name) (λ name. path.now ≡ joined dir.now name.now) }
-{
-    let dir = dir.bytes();
-    if dir.len() == 1 {
-        return path.bytes().strip_prefix(b"/");
-    }
-    match path.bytes().strip_prefix(dir) {
-        Some(rest) => rest.strip_prefix(b"/"),
         None => None,
     }
 }

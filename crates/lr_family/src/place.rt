@@ -5,8 +5,8 @@
 pub enum Place {
     /// Of a numbered member: its number less the start; 0 is the newest.
     Number(u32),
-    /// Of a dated member: the moment of its stamp, in seconds since 1970.
-    Stamp(i64),
+    /// Of a dated member: the moment of its stamp, in seconds since 1970, and its serial number, 0 where it has none.
+    Stamp(i64, u32),
 }
 
 /// Why a place has no name.

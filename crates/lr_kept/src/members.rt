@@ -7,7 +7,7 @@ ghost use Rattle.lr_kept.specs.Pairs.{HavePairs};
 
 use crate::choice::Choice;
 use crate::pair::Pair;
-use lr_family::Family;
+use lr_family::{Family, Place};
 use lr_rules::Path;
 
 // Whether the path is that of a member of the log.
@@ -17,7 +17,7 @@ fn has_member(log: &Family, path: &Path) -> bool
     if log.naming().dated.is_some() {
         return false;
     }
-    log.place_of(path).is_some()
+    matches!(log.place_of(path), Some(Place::Number(_)))
 }
 
 // Whether a wildcard gave the path at this place, and it is that of a member of the log at the other.

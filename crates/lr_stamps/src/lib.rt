@@ -18,5 +18,6 @@ mod reading;
 mod serial;
 mod writing;
 
+pub use digits::plain_number;
 pub use laws::{stamp_keys_rise, stamps_are_names};
-pub use member::{dated_path, stamp_at};
+pub use member::{between, dated_path, name_under, stamp_at, stamp_in};

@@ -13,8 +13,8 @@ use crate::writing::push_stamp;
 use lr_rules::{Back, Clock, Format, Memory, Moment, Naming, Path, StampParts};
 use std::alloc::Global;
 
-// What stands in the name between the base and the extension.
-fn between<'a>(base: &[u8], ext: &[u8], name: &'a [u8]) -> Option<&'a [u8]>
+/// What stands in the name between the base and the extension.
+pub fn between<'a>(base: &[u8], ext: &[u8], name: &'a [u8]) -> Option<&'a [u8]>
     ensures { MatchOption result ((middle : List ℕ) → name.now ≢ base.now ++ middle ++ ext.now) (λ middle. name.now ≡ base.now ++ middle.now ++ ext.now) }
 {
     let Some(rest) = name.strip_prefix(base) else {
@@ -23,8 +23,8 @@ fn between<'a>(base: &[u8], ext: &[u8], name: &'a [u8]) -> Option<&'a [u8]>
     rest.strip_suffix(ext)
 }
 
-// The name of the path in the directory, where it is a path of one.
-fn name_under<'a>(dir: &Path, path: &'a Path) -> Option<&'a [u8]>
+/// The name of the path in the directory, where it is a path of one.
+pub fn name_under<'a>(dir: &Path, path: &'a Path) -> Option<&'a [u8]>
     ensures { MatchOption result ((name : List ℕ) → path.now ≢ joined dir.now name) (λ name. path.now ≡ joined dir.now name.now) }
 {
     let dir = dir.bytes();
@@ -37,8 +37,8 @@ fn name_under<'a>(dir: &Path, path: &'a Path) -> Option<&'a [u8]>
     }
 }
 
-// The seconds of the stamp in the name, and the serial number, where it is a member's.
-fn stamp_in(naming: &Naming, format: &Format, name: &[u8]) -> Option<(i64, u32)>
+/// The seconds of the stamp in the name, and the serial number, where it is a member's of this naming. It takes no memory.
+pub fn stamp_in(naming: &Naming, format: &Format, name: &[u8]) -> Option<(i64, u32)>
     requires { is_format format.now ≡ true }
     ensures { (t : ℤ) (k : ℕ) → (result ≡ Some (t, k)) ↔ IsNamedBy naming.now format.now t k name.now }
 {

@@ -9,4 +9,4 @@ none_of base ext name digits (Some n) e h = tt
 none_of base ext name digits None e h = λ number i f. h number i (frame_same base digits (decimal number) ext (sym e ∙ f))
 
 pub returns-in-Some-clause-none : goal.returns-in-Some-clause-none
-returns-in-Some-clause-none c = none_of c.args.base.now c.args.ext.now c.args.name.now c.in-Some.digits.now c.plain_number.result c.in-Some.ensures c.plain_number.ensures.none
+returns-in-Some-clause-none c = none_of c.args.base.now c.args.ext.now c.args.name.now c.in-Some.digits.now c.small_number.result c.in-Some.ensures c.small_number.ensures.none
