@@ -1,0 +1,20 @@
+use Rattle.std.proofs.Common.{◌≡◌, List, ap, Bor, Ordering, rules}
+use Rattle.std.specs.Fn.{Called}
+use Rattle.std.specs.Ordering.{is_lt}
+use Rattle.std.specs.List.Sorted.{IsSorted, IsSortedByClosure}
+use Rattle.std.proofs.lemmas.List.MinMax.{ranks_by}
+use Rattle.std.proofs.lemmas.Fn.{always_returns_same, dedup_same}
+use denote.Param.Members.{Mut}
+use Rattle.lr_days.specs.declared.day.Day.{Day}
+use Rattle.lr_days.specs.Days.{by_path}
+use Rattle.lr_days.proofs.Rising.{is_same, total, sorted_days}
+use Rattle.lr_days.proofs.day.sort_rising.Goals as goal
+
+sorted : {F : Type 0} {g : Mut F (Bor Day × (Bor Day × Unit {0})) Ordering} {f : F} (xs : List Day) → IsSortedByClosure g f xs
+    → ((a : Bor Day × (Bor Day × Unit {0})) (r : Ordering) (f' : F) → Called g f a r f' → (r ≡ by_path a.0.now a.1.0.now) × (f' ≡ f)) → IsSorted by_path xs
+sorted {g = g} {f = f} xs up h = up (λ x y. is_lt (by_path x y)) (ranks_by total (λ (x : Day). x))
+    (always_returns_same g (λ a r. is_lt r ≡ is_lt (by_path a.0.now a.1.0.now)) f (λ a r f' k. (ap is_lt (h a r f' k).0, (h a r f' k).1)))
+
+pub returns : goal.returns
+returns c = sorted_days c.args.naming.now c.args.names.now c.args.days.now.items c.sort_unstable_by.new.self.items c.dedup_by.new.self.items c.requires c.sort_unstable_by.ensures.permutation
+    (sorted c.sort_unstable_by.new.self.items c.sort_unstable_by.ensures.sorted (λ a r q k. search rules)) (dedup_same _ is_same _ (λ x y b f' x' y' k. search rules) _ _ c.dedup_by.ensures.filtered)

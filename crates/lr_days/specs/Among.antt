@@ -1,0 +1,54 @@
+-- What the looks at the dated members among the names of a listing show.
+use Rattle.std.specs.Prelude.{◌≡◌, ◌≤◌, ◌⊎◌, ◌↔◌, ℕ, Bool, true, false, List, [], length, All, Result, Err}
+use Rattle.std.specs.List.Sorted.{IsPermutation, IsStrictlySortedBy}
+use Rattle.lr_rules.specs.declared.path.Path.{Path}
+use Rattle.lr_rules.specs.declared.rule.Naming.{Naming}
+use Rattle.lr_host.specs.declared.entry.Entry.{Entry}
+use Rattle.lr_family.specs.declared.stand.Member.{Member}
+use Rattle.lr_family.specs.declared.stand.Stand.{Stand}
+use Rattle.lr_family.specs.declared.stand.StandStop.{StandStop}
+use Rattle.lr_family.specs.declared.stand.StandStop.TheVariants as stop
+use Rattle.lr_days.specs.declared.day.Day.{Day}
+use Rattle.lr_days.specs.Days.{by_bytes, IsListed, AreDays}
+use Rattle.lr_days.specs.Looks.{Shows, SomeStopped}
+use Rattle.lr_days.specs.Newest.{AreNewestFirst}
+
+-- Each member among the names was looked at, in order of bytes; these were seen.
+pub record StandsAmong (n : Naming) (names : List (List ℕ)) (members : List Member) (ts : List Entry) : Type 0 where
+  pub days : List Day
+  pub days_are : AreDays n names days
+  pub shown : List Member
+  pub each : IsPermutation shown members
+  pub newest_first : AreNewestFirst members
+  pub looks : Shows days shown ts
+
+-- One of the members among the names stopped the looks, or there was no memory.
+pub record StopsAmong (n : Naming) (names : List (List ℕ)) (why : StandStop) (ts : List Entry) : Type 0 where
+  pub days : List Day
+  pub days_are : AreDays n names days
+  pub looks : SomeStopped days why ts
+
+-- In a directory that isn't there no member stands, and none is looked at.
+abbrev pub ShowsMembers : Naming → Bool → List (List ℕ) → List Member → List Entry → Type 0
+ShowsMembers n true names members ts = StandsAmong n names members ts
+ShowsMembers n false names members ts = (members ≡ []) × (ts ≡ [])
+
+-- What stands of the family, in a directory that was listed so.
+abbrev pub ShowsIn : Naming → Bool → Bool → List (List ℕ) → Stand → List Entry → Type 0
+ShowsIn n there parent names stand ts = (stand.there ≡ there) × (stand.parent ≡ parent) × ShowsMembers n there names stand.members ts
+
+-- Why that isn't known. There may be no memory before the first look.
+abbrev pub ShowsNoneIn : Naming → Bool → List (List ℕ) → StandStop → List Entry → Type 0
+ShowsNoneIn n true names why ts = ((why ≡ stop.Memory) × (ts ≡ [])) ⊎ StopsAmong n names why ts
+ShowsNoneIn n false names why ts = ⊥
+
+-- it is NotFile of a path exactly where the looks show it
+abbrev pub IsExactlyAmong : Naming → List (List ℕ) → Result Stand StandStop → List Entry → Type 0
+IsExactlyAmong n names result ts = (path : Path) → (result ≡ Err (stop.NotFile path)) ↔ StopsAmong n names (stop.NotFile path) ts
+
+-- At most one entry for each member among the names: these paths are different, and there are as many as entries.
+pub record AreFewAmong (n : Naming) (names : List (List ℕ)) (ts : List Entry) : Type 0 where
+  pub paths : List Path
+  pub once : IsStrictlySortedBy by_bytes paths
+  pub listed : All (IsListed n names) paths
+  pub few : length ts ≤ length paths

@@ -1,0 +1,5 @@
+pub mod Among
+pub mod Days
+pub mod Looks
+pub mod Newest
+pub mod Stands
