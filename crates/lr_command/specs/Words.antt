@@ -66,5 +66,5 @@ abbrev pub request_where : Path → List Row → Option Request
 request_where here found = if has_state here found && (has_mailer here found && has_confs here found) then Some (request_in here found) else None
 
 -- The request that the words ask for, from the directory `here` on: `clap` takes them, each path that they name is one, and the state file can have its own. Else they ask for none.
-abbrev pub asked : Path → List (List ℕ) → Option Request
+unfoldable pub asked : Path → List (List ℕ) → Option Request
 asked here words = if are_taken words then request_where here (found_in words) else None

@@ -132,6 +132,7 @@ fn request_of_found(
     request_with(alloc, here, found, state)
 }
 
+#[tactic(auto, unfolding(crate::specs::Words::asked))]
 /// The request that the words ask for, where a relative path stands behind `here`.
 pub fn request_of(alloc: Global, words: &[Text], here: &Path) -> Result<Request, WordsFault>
     ensures request { IfOk result (λ request. asked here.now words.now ≡ Some request) }
