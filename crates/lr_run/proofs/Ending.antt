@@ -13,6 +13,7 @@ use Rattle.lr_host.specs.Told.{Counts, NoneFell, Rose, Left, Then, WhereTold}
 use Rattle.lr_host.proofs.Each.{each_append}
 use Rattle.lr_host.proofs.Left.{left_both}
 use Rattle.lr_host.specs.Counted.{AreCounted, AddsFaults}
+use Rattle.lr_plan.specs.declared.planned.Plan.{Plan}
 use Rattle.lr_plan.specs.Steps.{steps_of_plan}
 use Rattle.lr_reading.specs.Sights.{StateSights, ShowsState}
 use Rattle.lr_host.proofs.Counts.{adds_free, adds_call}
@@ -42,10 +43,10 @@ worked_work state rules now force own ts w = subst AreWork (sym (in_parts state 
     (sets_work (steps_of_plan (plan_in state rules ts w.looked now force)) w.acted.marks w.acted.entries.of_plan w.acted.entries.entries.front (steps_simple rules w.looked.sets w.looked.remembered.table now force) w.acted.entries.entries.first))
     (writing_work state w.acted.entries.entries.back (state_writing state w.looked.remembered.stale w.acted.dirs _ w.acted.entries.of_state w.acted.entries.entries.back w.acted.entries.entries.second)))
 
-works_work : (state : Path) (rules : List Rule) (now : Moment) (force : Bool) (own : List Fault) (ts : List Entry) → Works state rules now force own ts → AreWork ts
-works_work state rules now force own ts (not_known sights f known is shown) = state_work state sights ts shown
-works_work state rules now force own ts (too_big l big is none) = subst AreWork (sym (l.joined ∙ (ap (λ xs. l.reads ++ (l.looks ++ xs)) none ∙ ap (λ xs. l.reads ++ xs) (append-nil l.looks)))) (seen_work state rules ts l)
-works_work state rules now force own ts (worked w) = worked_work state rules now force own ts w
+works_work : (state : Path) (rules : List Rule) (now : Moment) (force : Bool) (plan : Option Plan) (own : List Fault) (ts : List Entry) → Works state rules now force plan own ts → AreWork ts
+works_work state rules now force plan own ts (not_known sights f known lost is shown) = state_work state sights ts shown
+works_work state rules now force plan own ts (too_big l big lost is none) = subst AreWork (sym (l.joined ∙ (ap (λ xs. l.reads ++ (l.looks ++ xs)) none ∙ ap (λ xs. l.reads ++ xs) (append-nil l.looks)))) (seen_work state rules ts l)
+works_work state rules now force plan own ts (worked w is) = worked_work state rules now force own ts w
 
 -- those of a first part of the work
 broke_work : (state : Path) (rules : List Rule) (now : Moment) (force : Bool) (ts : List Entry) → BrokeOff state rules now force ts → AreWork ts
@@ -57,10 +58,10 @@ lacking_work state rules now force ts (some_seen s) = some_work state rules ts s
 lacking_work state rules now force ts (some_done b) = broke_work state rules now force ts b
 
 -- the run is on where the work ends
-pub end_there : {T E : Type 0} (r : Result T E) (state : Path) (rules : List Rule) (now : Moment) (force : Bool) (a b : List Fault) (o n : Option Journal) → OnOk r (Left (WorksOn state rules now force a b) o n) → OnErr r (Left (SomeWork state rules now force) o n)
+pub end_there : {T E : Type 0} (r : Result T E) (state : Path) (rules : List Rule) (now : Moment) (force : Bool) (plan : Option Plan) (a b : List Fault) (o n : Option Journal) → OnOk r (Left (WorksOn state rules now force plan a b) o n) → OnErr r (Left (SomeWork state rules now force) o n)
     → WhereTold o IsOn → WhereTold n IsOn
-end_there (Ok x) state rules now force a b o n l s on = goes_on l (λ ts h. works_work state rules now force h.0 ts h.2) on
-end_there (Err x) state rules now force a b o n l s on = goes_on s (λ ts h. lacking_work state rules now force ts h) on
+end_there (Ok x) state rules now force plan a b o n l s on = goes_on l (λ ts h. works_work state rules now force plan h.0 ts h.2) on
+end_there (Err x) state rules now force plan a b o n l s on = goes_on s (λ ts h. lacking_work state rules now force ts h) on
 
 pub work_ended : {T E : Type 0} (r : Result T E) (P Q : List Entry → Type 0) (o m n : Option Journal) → OnOk r (Left P o m) → Left Q m n → OnOk r (Left (Then P Q) o n)
 work_ended (Ok x) P Q o m n l k = left_both l k
@@ -95,5 +96,6 @@ adds_later (Ok x) a b j k l le h = record { added = h.added; after_is = h.after_
 adds_later (Err x) a b j k l le h = tt
 
 pub dir_counted : (why : DirStop) (x : Path) (a b : List Fault) (k l : Counts) → b ≡ a ++ dir_fault_of why x ∷ [] → (why ≡ dir.Call → Rose k.faults l.faults) → NoneFell k l → AddsFaults a b k l
+dir_counted dir.Nothing x a b k l e r le = adds_free a b (fault.NoDir x ∷ []) k l e (record { calls = refl; scripts = refl; no_out = ((λ h. h), tt) }) le
 dir_counted dir.NoDir x a b k l e r le = adds_free a b (fault.NoDir x ∷ []) k l e (record { calls = refl; scripts = refl; no_out = ((λ h. h), tt) }) le
 dir_counted dir.Call x a b k l e r le = adds_call a b call.Look x k l e (r refl) le

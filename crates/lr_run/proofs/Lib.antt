@@ -15,3 +15,4 @@ mod Ending
 pub mod Rotating
 mod Covering
 pub mod Renewing
+pub mod Drying

@@ -1,5 +1,5 @@
 -- A run, put together of its parts.
-use Rattle.std.proofs.Common.{◌≡◌, ◌⊎◌, Bool, true, false, List, [], ◌∷◌, ◌++◌, Option, Result, Ok, Err, refl, sym, ap, ◌∙◌, subst}
+use Rattle.std.proofs.Common.{◌≡◌, ◌⊎◌, Bool, true, false, List, [], ◌∷◌, ◌++◌, Option, Some, None, Result, Ok, Err, refl, sym, ap, ◌∙◌, subst}
 use Rattle.std.specs.Prelude.{OnOk, IfErr}
 use Rattle.std.proofs.lemmas.List.{append-nil}
 use Rattle.lr_rules.specs.declared.civil.Moment.{Moment}
@@ -13,15 +13,18 @@ use Rattle.lr_host.specs.declared.entry.Entry.{Entry}
 use Rattle.lr_host.specs.declared.entry.Entry.TheVariants.{Starts, Ends}
 use Rattle.lr_host.specs.declared.host.CallFault.{CallFault}
 use Rattle.lr_host.specs.declared.journal.Journal.{Journal}
-use Rattle.lr_host.specs.Looks.{Sees, IsDir, IsNotDir}
+use Rattle.lr_host.specs.declared.thing.Seen.{Seen}
+use Rattle.lr_host.specs.Looks.{Sees, IsDir, IsNoDir, IsNothing, IsNotDir}
 use Rattle.lr_host.specs.Told.{DidWhere, Left, Then, Are}
 use Rattle.lr_host.proofs.Left.{left_as, left_then}
+use Rattle.lr_plan.specs.declared.planned.Plan.{Plan}
 use Rattle.lr_run.specs.declared.answer.Ran.{Ran}
 use Rattle.lr_run.specs.declared.answer.RunStop.{RunStop}
 use Rattle.lr_run.specs.declared.answer.RunStop.TheVariants as stop
 use Rattle.lr_run.specs.declared.directory.DirStop.{DirStop}
 use Rattle.lr_run.specs.declared.directory.DirStop.TheVariants as dir
 use Rattle.lr_run.specs.Internal.{NotSeen, dir_fault_of, WorksOn, SomeWork, some_seen, some_done, Begun, Goes, begun, not_begun, Stopped, RunsOn, StopsSo}
+use Rattle.lr_run.specs.Answers.{Answers}
 use Rattle.lr_run.specs.Runs as runs
 
 -- the begin answered so
@@ -36,14 +39,14 @@ locked state force now rules b e l = left_as l (λ ts h. subst (λ (x : Bool). D
 begins : (state : Path) (now : Moment) (rules : Rules) (P : List Entry → Type 0) (ts us vs : List Entry) → ts ≡ Starts state now rules ∷ [] → P us → vs ≡ Ends ∷ [] → Begun state now rules P (ts ++ (us ++ vs))
 begins state now rules P ts us vs a p b = record { between = us; entries = ap (λ xs. xs ++ (us ++ vs)) a ∙ ap (λ xs. Starts state now rules ∷ (us ++ xs)) b; within = p }
 
-pub goes : (state : Path) (force : Bool) (now : Moment) (rules : Rules) (a b : List Fault) {o m n : Option Journal} → Left (Are (Starts state now rules ∷ [])) o m → Left (Then (WorksOn state rules.sets now force a b) (Are (Ends ∷ []))) m n → Left (Goes state force now rules a b) o n
-goes state force now rules a b l k = left_then l k (λ ts us p q. begun (subst (λ (xs : List Entry). Begun state now rules (WorksOn state rules.sets now force a b) (ts ++ xs)) (sym q.joined) (begins state now rules (WorksOn state rules.sets now force a b) ts q.front q.back p q.first q.second)))
+pub goes : (state : Path) (force : Bool) (now : Moment) (rules : Rules) (plan : Option Plan) (a b : List Fault) {o m n : Option Journal} → Left (Are (Starts state now rules ∷ [])) o m → Left (Then (WorksOn state rules.sets now force plan a b) (Are (Ends ∷ []))) m n → Left (Goes state force now rules plan a b) o n
+goes state force now rules plan a b l k = left_then l k (λ ts us p q. begun (subst (λ (xs : List Entry). Begun state now rules (WorksOn state rules.sets now force plan a b) (ts ++ xs)) (sym q.joined) (begins state now rules (WorksOn state rules.sets now force plan a b) ts q.front q.back p q.first q.second)))
 
 pub lacks : (state : Path) (force : Bool) (now : Moment) (rules : Rules) {o m n : Option Journal} → Left (Are (Starts state now rules ∷ [])) o m → Left (Then (SomeWork state rules.sets now force) (Are (Ends ∷ []))) m n → Left (Stopped state force now rules stop.Memory) o n
 lacks state force now rules l k = left_then l k (λ ts us p q. subst (λ (xs : List Entry). Begun state now rules (SomeWork state rules.sets now force) (ts ++ xs)) (sym q.joined) (begins state now rules (SomeWork state rules.sets now force) ts q.front q.back p q.first q.second))
 
-pub goes_not : (state : Path) (force : Bool) (now : Moment) (rules : Rules) (name : Path) (a b : List Fault) {o n : Option Journal} → name ≡ state → b ≡ a ++ fault.Call call.Begin name ∷ [] → Left (λ ts. (ts ≡ []) ⊎ (ts ≡ Starts state now rules ∷ [])) o n → Left (Goes state force now rules a b) o n
-goes_not state force now rules name a b e f l = left_as l (λ ts h. not_begun (f ∙ ap (λ (x : Path). a ++ fault.Call call.Begin x ∷ []) e) h)
+pub goes_not : (state : Path) (force : Bool) (now : Moment) (rules : Rules) (plan : Option Plan) (name : Path) (a b : List Fault) {o n : Option Journal} → plan ≡ None → name ≡ state → b ≡ a ++ fault.Call call.Begin name ∷ [] → Left (λ ts. (ts ≡ []) ⊎ (ts ≡ Starts state now rules ∷ [])) o n → Left (Goes state force now rules plan a b) o n
+goes_not state force now rules plan name a b none e f l = left_as l (λ ts h. not_begun none (f ∙ ap (λ (x : Path). a ++ fault.Call call.Begin x ∷ []) e) h)
 
 -- ---- behind the look at the state's directory
 
@@ -53,13 +56,13 @@ inside state now rules P ts us s b = record { before = ts; between = b.between; 
 inside_as : (state : Path) (now : Moment) (rules : Rules) (P Q : List Entry → Type 0) (ts : List Entry) → (i : runs.Inside state now rules P ts) → Q i.between → runs.Inside state now rules Q ts
 inside_as state now rules P Q ts i q = record { before = i.before; between = i.between; entries = i.entries; directory = i.directory; within = q }
 
-runs_on : (state : Path) (force : Bool) (now : Moment) (rules : Rules) (a b : List Fault) (ts us : List Entry) → Sees (parent_of state) IsDir ts → Goes state force now rules a b us → RunsOn state force now rules a b (ts ++ us)
-runs_on state force now rules a b ts us s (begun g) = (g.within.0, g.within.1, runs.began (inside_as state now rules (WorksOn state rules.sets now force a b) (runs.Works state rules.sets now force g.within.0) (ts ++ us) (inside state now rules (WorksOn state rules.sets now force a b) ts us s g) g.within.2))
-runs_on state force now rules a b ts us s (not_begun e m) = (fault.Call call.Begin state ∷ [], e, runs.not_begun refl (record { front = ts; back = us; joined = refl; first = s; second = m }))
+runs_on : (state : Path) (force : Bool) (now : Moment) (rules : Rules) (plan : Option Plan) (a b : List Fault) (ts us : List Entry) → Sees (parent_of state) IsDir ts → Goes state force now rules plan a b us → RunsOn state force now rules plan a b (ts ++ us)
+runs_on state force now rules plan a b ts us s (begun g) = (g.within.0, g.within.1, runs.began (inside_as state now rules (WorksOn state rules.sets now force plan a b) (runs.Works state rules.sets now force plan g.within.0) (ts ++ us) (inside state now rules (WorksOn state rules.sets now force plan a b) ts us s g) g.within.2))
+runs_on state force now rules plan a b ts us s (not_begun none e m) = (fault.Call call.Begin state ∷ [], e, runs.not_begun none refl (record { front = ts; back = us; joined = refl; first = s; second = m }))
 
-pub behind_dir : (state : Path) (force : Bool) (now : Moment) (rules : Rules) (dir : Path) (a b : List Fault) {T E : Type 0} (r : Result T E) {o m : Option Journal} (n : Option Journal) → dir ≡ parent_of state → Left (Sees dir IsDir) o m → OnOk r (Left (Goes state force now rules a b) m n) → OnOk r (Left (RunsOn state force now rules a b) o n)
-behind_dir state force now rules dir a b (Ok x) n e l k = left_then l k (λ ts us p q. runs_on state force now rules a b ts us (subst (λ (x : Path). Sees x IsDir ts) e p) q)
-behind_dir state force now rules dir a b (Err x) n e l k = tt
+pub behind_dir : (state : Path) (force : Bool) (now : Moment) (rules : Rules) (plan : Option Plan) (dir : Path) (a b : List Fault) {T E : Type 0} (r : Result T E) {o m : Option Journal} (n : Option Journal) → dir ≡ parent_of state → Left (Sees dir IsDir) o m → OnOk r (Left (Goes state force now rules plan a b) m n) → OnOk r (Left (RunsOn state force now rules plan a b) o n)
+behind_dir state force now rules plan dir a b (Ok x) n e l k = left_then l k (λ ts us p q. runs_on state force now rules plan a b ts us (subst (λ (x : Path). Sees x IsDir ts) e p) q)
+behind_dir state force now rules plan dir a b (Err x) n e l k = tt
 
 lacked : (state : Path) (force : Bool) (now : Moment) (rules : Rules) (ts : List Entry) → (i : runs.Inside state now rules (SomeWork state rules.sets now force) ts) → SomeWork state rules.sets now force i.between → runs.LacksMemory state force now rules ts
 lacked state force now rules ts i (some_seen s) = runs.in_looks (inside_as state now rules (SomeWork state rules.sets now force) (runs.SomeSeen state rules.sets) ts i s)
@@ -74,15 +77,23 @@ stopped_behind state force now rules dir (Ok x) n e l k = tt
 stopped_behind state force now rules dir (Err why) n e l k = left_then l k (λ ts us p q. stops state force now rules why ts us (subst (λ (x : Path). Sees x IsDir ts) e p) q)
 
 -- the directory wasn't seen as one
-pub no_dir : (state : Path) (force : Bool) (now : Moment) (rules : Rules) (why : DirStop) (x : Path) (a b : List Fault) {o n : Option Journal} → x ≡ parent_of state → b ≡ a ++ dir_fault_of why x ∷ [] → Left (NotSeen x why) o n → Left (RunsOn state force now rules a b) o n
-no_dir state force now rules dir.NoDir x a b e is l = left_as l (λ ts h. (fault.NoDir (parent_of state) ∷ [], is ∙ ap (λ (y : Path). a ++ fault.NoDir y ∷ []) e, runs.no_directory refl (subst (λ (y : Path). Sees y IsNotDir ts) e h)))
-no_dir state force now rules dir.Call x a b e is l = left_as l (λ ts h. (fault.Call call.Look (parent_of state) ∷ [], is ∙ ap (λ (y : Path). a ++ fault.Call call.Look y ∷ []) e, runs.not_seen refl h))
+other_seen : (look : Option Seen) → IsNoDir look → IsNotDir look
+other_seen None h = absurd h
+other_seen (Some seen) h = h
+
+no_directory_at : (state x : Path) (P : Option Seen → Type 0) (ts : List Entry) → x ≡ parent_of state → ((look : Option Seen) → P look → IsNotDir look) → Sees x P ts → Sees (parent_of state) IsNotDir ts
+no_directory_at state x P ts e f h = subst (λ (y : Path). Sees y IsNotDir ts) e (record { seen = h.seen; is = f h.seen h.is; look = h.look })
+
+pub no_dir : (state : Path) (force : Bool) (now : Moment) (rules : Rules) (plan : Option Plan) (why : DirStop) (x : Path) (a b : List Fault) {o n : Option Journal} → plan ≡ None → x ≡ parent_of state → b ≡ a ++ dir_fault_of why x ∷ [] → Left (NotSeen x why) o n → Left (RunsOn state force now rules plan a b) o n
+no_dir state force now rules plan dir.Nothing x a b none e is l = left_as l (λ ts h. (fault.NoDir (parent_of state) ∷ [], is ∙ ap (λ (y : Path). a ++ fault.NoDir y ∷ []) e, runs.no_directory none refl (no_directory_at state x IsNothing ts e (λ look h. subst IsNotDir (sym h) tt) h)))
+no_dir state force now rules plan dir.NoDir x a b none e is l = left_as l (λ ts h. (fault.NoDir (parent_of state) ∷ [], is ∙ ap (λ (y : Path). a ++ fault.NoDir y ∷ []) e, runs.no_directory none refl (no_directory_at state x IsNoDir ts e other_seen h)))
+no_dir state force now rules plan dir.Call x a b none e is l = left_as l (λ ts h. (fault.Call call.Look (parent_of state) ∷ [], is ∙ ap (λ (y : Path). a ++ fault.Call call.Look y ∷ []) e, runs.not_seen none refl h))
 
 -- ---- the whole run
 
-pub ran_so : (state : Path) (force : Bool) (now : Moment) (rules : Rules) (earlier first : List Fault) (ran : Ran) {o n : Option Journal} → first ≡ earlier → Left (RunsOn state force now rules first ran.faults.items) o n → Left (runs.Answers state force now rules earlier (Ok ran)) o n
+pub ran_so : (state : Path) (force : Bool) (now : Moment) (rules : Rules) (earlier first : List Fault) (ran : Ran) {o n : Option Journal} → first ≡ earlier → Left (RunsOn state force now rules ran.plan first ran.faults.items) o n → Left (Answers state false force now rules earlier (Ok ran)) o n
 ran_so state force now rules earlier first ran e l = left_as l (λ ts h. (h.0, h.1 ∙ ap (λ (fs : List Fault). fs ++ h.0) e, h.2))
 
-pub stopped_so : (state : Path) (force : Bool) (now : Moment) (rules : Rules) (earlier : List Fault) (why : RunStop) {o n : Option Journal} → Left (StopsSo state force now rules why) o n → Left (runs.Answers state force now rules earlier (Err why)) o n
+pub stopped_so : (state : Path) (force : Bool) (now : Moment) (rules : Rules) (earlier : List Fault) (why : RunStop) {o n : Option Journal} → Left (StopsSo state force now rules why) o n → Left (Answers state false force now rules earlier (Err why)) o n
 stopped_so state force now rules earlier stop.Held l = l
 stopped_so state force now rules earlier stop.Memory l = l

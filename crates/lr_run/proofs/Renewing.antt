@@ -46,11 +46,13 @@ use Rattle.lr_reading.proofs.Quiet.{state_quiet}
 use Rattle.lr_writing.specs.Directories.{AreDirectoriesOf}
 use Rattle.lr_writing.specs.Named.{Spares, NamedLast, not_named, named}
 use Rattle.lr_writing.proofs.Named.{named_last}
+use Rattle.lr_plan.specs.declared.planned.Plan.{Plan}
 use Rattle.lr_run.specs.declared.answer.Ran.{Ran}
 use Rattle.lr_run.specs.declared.answer.RunStop.{RunStop}
 use Rattle.lr_run.specs.declared.answer.RunStop.TheVariants as stop
 use Rattle.lr_run.specs.Runs as runs
-use Rattle.lr_run.specs.Runs.{Inside, Looked, Worked, Works, not_known, too_big, worked, Runs, no_directory, not_seen, not_begun, BrokeOff, Answers, at_first, in_looks, in_acts, changed_in, plan_in, state_text}
+use Rattle.lr_run.specs.Answers.{Answers}
+use Rattle.lr_run.specs.Runs.{Inside, Looked, Worked, Works, not_known, too_big, worked, Runs, no_directory, not_seen, not_begun, BrokeOff, at_first, in_looks, in_acts, changed_in, plan_in, state_text}
 use Rattle.lr_run.specs.State.{Tells, IsNewText}
 use Rattle.lr_run.proofs.Covering.{none_changed, none_aside, none_within, of_changes, some_aside, groups_within}
 use Rattle.lr_run.proofs.Shape.{sees_quiet, some_quiet, seen_quiet, looked_parts, in_parts}
@@ -248,12 +250,12 @@ module _ (state : Path) (rules : Rules) (now : Moment) (force : Bool) (built : A
         in_order = ap (λ es. front ++ (es ++ entry.Ends ∷ [])) in_three ∙ (ap (λ es. front ++ es) (append_assoc (seen ts l ++ acts) w.acted.entries.entries.back (entry.Ends ∷ [])) ∙ sym (append_assoc front (seen ts l ++ acts) (w.acted.entries.entries.back ++ entry.Ends ∷ [])))
 
   -- the work, between what was before and the end
-  works_may : (own : List Fault) (before between : List Entry) → AreQuiet before → Each IsTools between → Works state rules.sets now force own between
+  works_may : (plan : Option Plan) (own : List Fault) (before between : List Entry) → AreQuiet before → Each IsTools between → Works state rules.sets now force plan own between
       → (IsText : List ℕ → Type 0) → ((text : List ℕ) → Tells state rules.sets now force text between → IsText text) → MayRenew state IsText (before ++ (entry.Starts state now rules ∷ (between ++ entry.Ends ∷ [])))
-  works_may own before between q tools (not_known sights f known e shown) IsText tells = left_alone (around state state now rules before between (calm_aside state before q) (calm_aside state between (state_quiet state 65_536 sights between shown)))
-  works_may own before between q tools (too_big l big e none) IsText tells = left_alone (around state state now rules before between (calm_aside state before q)
+  works_may plan own before between q tools (not_known sights f known lost e shown) IsText tells = left_alone (around state state now rules before between (calm_aside state before q) (calm_aside state between (state_quiet state 65_536 sights between shown)))
+  works_may plan own before between q tools (too_big l big lost e none) IsText tells = left_alone (around state state now rules before between (calm_aside state before q)
       (calm_aside state between (subst AreQuiet (sym (l.joined ∙ (ap (λ xs. l.reads ++ (l.looks ++ xs)) none ∙ ap (λ xs. l.reads ++ xs) (append-nil l.looks)))) (seen_quiet state rules.sets between l))))
-  works_may own before between q tools (worked w) IsText tells = subst (MayRenew state IsText) (append_assoc before (entry.Starts state now rules ∷ []) (between ++ entry.Ends ∷ []))
+  works_may plan own before between q tools (worked w is) IsText tells = subst (MayRenew state IsText) (append_assoc before (entry.Starts state now rules ∷ []) (between ++ entry.Ends ∷ []))
       (worked_may own between w tools IsText (tells _ (record { own = own; worked = w; text_is = refl })) (before ++ entry.Starts state now rules ∷ [])
       (each_append (IsAsideOf state) before (entry.Starts state now rules ∷ []) (calm_aside state before q) ((λ i. i), tt))
       (each_append (IsWithin (part_of state) w.acted.dirs) before (entry.Starts state now rules ∷ []) (calm_within (part_of state) w.acted.dirs before q) ((λ x i. absurd i), tt)))
@@ -265,20 +267,20 @@ module _ (state : Path) (rules : Rules) (now : Moment) (force : Bool) (built : A
   abbrev IsTextOf : List Entry → List ℕ → Type 0
   IsTextOf ts text = IsNewText state now force rules ts text
 
-  pub runs_may : (own : List Fault) (ts : List Entry) → Each IsTools ts → Runs state force now rules own ts → MayRenew state (IsTextOf ts) ts
-  runs_may own ts tools (no_directory e s) = quiet_alone state (IsTextOf ts) ts (sees_quiet (parent_of state) _ ts s)
-  runs_may own ts tools (not_seen e s) = quiet_alone state (IsTextOf ts) ts (subst AreQuiet (sym s) tt)
-  runs_may own ts tools (not_begun e t) = left_alone (go t.second)
+  pub runs_may : (plan : Option Plan) (own : List Fault) (ts : List Entry) → Each IsTools ts → Runs state force now rules plan own ts → MayRenew state (IsTextOf ts) ts
+  runs_may plan own ts tools (no_directory lost e s) = quiet_alone state (IsTextOf ts) ts (sees_quiet (parent_of state) _ ts s)
+  runs_may plan own ts tools (not_seen lost e s) = quiet_alone state (IsTextOf ts) ts (subst AreQuiet (sym s) tt)
+  runs_may plan own ts tools (not_begun lost e t) = left_alone (go t.second)
     where
       go : (t.back ≡ []) ⊎ (t.back ≡ entry.Starts state now rules ∷ []) → Each (IsAsideOf state) ts
       go (inl none) = calm_aside state ts (subst AreQuiet (sym (t.joined ∙ (ap (λ es. t.front ++ es) none ∙ append-nil t.front))) (sees_quiet (parent_of state) IsDir t.front t.first))
       go (inr one) = subst (Each (IsAsideOf state)) (sym (t.joined ∙ ap (λ es. t.front ++ es) one)) (each_append (IsAsideOf state) t.front (entry.Starts state now rules ∷ []) (calm_aside state t.front (sees_quiet (parent_of state) IsDir t.front t.first)) ((λ i. i), tt))
-  runs_may own ts tools (runs.began i) = subst (MayRenew state (IsTextOf ts)) (sym i.entries)
-      (works_may own i.before i.between (sees_quiet (parent_of state) IsDir i.before i.directory) (begun_tools i.before i.between ts i.entries tools) i.within (IsTextOf ts)
+  runs_may plan own ts tools (runs.began i) = subst (MayRenew state (IsTextOf ts)) (sym i.entries)
+      (works_may plan own i.before i.between (sees_quiet (parent_of state) IsDir i.before i.directory) (begun_tools i.before i.between ts i.entries tools) i.within (IsTextOf ts)
       (λ text t. record { before = i.before; between = i.between; entries = i.entries; directory = i.directory; within = t }))
 
-  pub answers_may : (earlier : List Fault) (r : Result Ran RunStop) (ts : List Entry) → Each IsTools ts → Answers state force now rules earlier r ts → MayRenew state (IsTextOf ts) ts
-  answers_may earlier (Ok ran) ts tools h = runs_may h.0 ts tools h.2
+  pub answers_may : (earlier : List Fault) (r : Result Ran RunStop) (ts : List Entry) → Each IsTools ts → Answers state false force now rules earlier r ts → MayRenew state (IsTextOf ts) ts
+  answers_may earlier (Ok ran) ts tools h = runs_may ran.plan h.0 ts tools h.2
   answers_may earlier (Err stop.Held) ts tools h = quiet_alone state (IsTextOf ts) ts (sees_quiet (parent_of state) IsDir ts h)
   answers_may earlier (Err stop.Memory) ts tools (at_first e) = quiet_alone state (IsTextOf ts) ts (subst AreQuiet (sym e) tt)
   answers_may earlier (Err stop.Memory) ts tools (in_looks i) = subst (MayRenew state (IsTextOf ts)) (sym i.entries) (left_alone (around state state now rules i.before i.between (calm_aside state i.before (sees_quiet (parent_of state) IsDir i.before i.directory)) (calm_aside state i.between (some_quiet state rules.sets i.between i.within))))
@@ -295,5 +297,5 @@ left_whole state IsText P (is_told {j = j} {k = k} {es = es} m h) f = λ journal
   each = λ u since until. whole_at state (IsText (reverse es)) (past j) (past k) es m journal (f (reverse es) (each_reverse IsTools es (made_tools (past j) (past k) es m)) h) settled spare u since until;
 }
 
-pub run_whole : (state : Path) (force : Bool) (now : Moment) (rules : Rules) (earlier : List Fault) (r : Result Ran RunStop) {o n : Option Journal} → AreBuiltRules rules.sets → Left (Answers state force now rules earlier r) o n → KeepsWhole state (IsNewText state now force rules) o n
-run_whole state force now rules earlier r built l = left_whole state (IsNewText state now force rules) (Answers state force now rules earlier r) l (λ ts tools h. answers_may state rules now force built earlier r ts tools h)
+pub run_whole : (state : Path) (force : Bool) (now : Moment) (rules : Rules) (earlier : List Fault) (r : Result Ran RunStop) {o n : Option Journal} → AreBuiltRules rules.sets → Left (Answers state false force now rules earlier r) o n → KeepsWhole state (IsNewText state now force rules) o n
+run_whole state force now rules earlier r built l = left_whole state (IsNewText state now force rules) (Answers state false force now rules earlier r) l (λ ts tools h. answers_may state rules now force built earlier r ts tools h)

@@ -52,7 +52,7 @@ module _ (P : Entry → Type 0) (look : (x : Path) (seen : Option Seen) → P (e
   one_so (entry.List dir listed) i = list dir listed
   one_so _ i = absurd i
 
-  looks_so : (ts : List Entry) → AreLooking ts → Each P ts
+  pub looks_so : (ts : List Entry) → AreLooking ts → Each P ts
   looks_so ts a = each_as IsLooking P ts one_so a
 
   pub seen_so : (state : Path) (rules : List Rule) (ts : List Entry) → (l : Looked state rules ts) → Each P (l.reads ++ l.looks)

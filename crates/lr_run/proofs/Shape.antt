@@ -1,5 +1,5 @@
 -- The entries of a run are those of one that looks first, and rotates then.
-use Rattle.std.proofs.Common.{◌≡◌, ◌⊎◌, inl, inr, Option, Bool, List, [], ◌∷◌, ◌++◌, Result, Ok, Err, refl, sym, ap, ◌∙◌, subst, append_assoc}
+use Rattle.std.proofs.Common.{◌≡◌, ◌⊎◌, inl, inr, Option, Bool, false, List, [], ◌∷◌, ◌++◌, Result, Ok, Err, refl, sym, ap, ◌∙◌, subst, append_assoc}
 use Rattle.std.specs.Prelude.{filter}
 use Rattle.std.proofs.lemmas.List.{append-nil}
 use Rattle.std.proofs.lemmas.List.Elements.{filter-append}
@@ -37,9 +37,11 @@ use Rattle.lr_fields.specs.Built.{AreBuiltRules}
 use Rattle.lr_seen.specs.Targets.{groups_of, all_targets}
 use Rattle.lr_run.specs.declared.answer.Ran.{Ran}
 use Rattle.lr_run.specs.declared.answer.RunStop.{RunStop}
+use Rattle.lr_plan.specs.declared.planned.Plan.{Plan}
 use Rattle.lr_run.specs.declared.answer.RunStop.TheVariants as stop
+use Rattle.lr_run.specs.Answers.{Answers}
 use Rattle.lr_run.specs.Runs as runs
-use Rattle.lr_run.specs.Runs.{Looked, Worked, Works, not_known, too_big, worked, Runs, no_directory, not_seen, not_begun, SomeSeen, of_state, of_looks, BrokeOff, at_first, in_looks, in_acts, Answers}
+use Rattle.lr_run.specs.Runs.{Looked, Worked, Works, not_known, too_big, worked, Runs, no_directory, not_seen, not_begun, SomeSeen, of_state, of_looks, BrokeOff, at_first, in_looks, in_acts}
 use Rattle.lr_run.proofs.Stating.{state_writing, changes_of_state}
 use Rattle.lr_seen.proofs.Apart.{targets_apart}
 use Rattle.lr_seen.proofs.Quiet.{whole_quiet, part_quiet}
@@ -54,7 +56,7 @@ sees_quiet x P ts s = subst AreQuiet (sym s.look) ((tt, refl), tt)
 no_turns : (state : Path) (rules : Rules) (looks : List Entry) → AreQuiet looks → AllTurns state rules (looks ++ [])
 no_turns state rules looks q = record { looks = looks; acts = []; joined = refl; quiet = q; targets = []; seen = tt; all = tt; each = λ t h. absurd h }
 
-quiet_run : (ts : List Entry) → AreQuiet ts → IsWholeRun ts
+pub quiet_run : (ts : List Entry) → AreQuiet ts → IsWholeRun ts
 quiet_run ts q = record { front = ts; rest = []; joined = sym (append-nil ts); quiet = q; goes_on = not_yet refl }
 
 pub none_run : (ts : List Entry) → ts ≡ [] → IsWholeRun ts
@@ -186,10 +188,10 @@ worked_turn state rules now force own ts built w = subst (AllTurns state rules) 
 quiet_turns : (state : Path) (rules : Rules) (ts : List Entry) → AreQuiet ts → AllTurns state rules ts
 quiet_turns state rules ts q = subst (AllTurns state rules) (append-nil ts) (no_turns state rules ts q)
 
-works_turn : (state : Path) (rules : Rules) (now : Moment) (force : Bool) (own : List Fault) (ts : List Entry) → AreBuiltRules rules.sets → Works state rules.sets now force own ts → AllTurns state rules ts
-works_turn state rules now force own ts built (not_known sights f known is shown) = quiet_turns state rules ts (state_quiet state 65_536 sights ts shown)
-works_turn state rules now force own ts built (too_big l big is none) = quiet_turns state rules ts (subst AreQuiet (sym (l.joined ∙ (ap (λ xs. l.reads ++ (l.looks ++ xs)) none ∙ ap (λ xs. l.reads ++ xs) (append-nil l.looks)))) (seen_quiet state rules.sets ts l))
-works_turn state rules now force own ts built (worked w) = worked_turn state rules now force own ts built w
+works_turn : (state : Path) (rules : Rules) (now : Moment) (force : Bool) (plan : Option Plan) (own : List Fault) (ts : List Entry) → AreBuiltRules rules.sets → Works state rules.sets now force plan own ts → AllTurns state rules ts
+works_turn state rules now force plan own ts built (not_known sights f known lost is shown) = quiet_turns state rules ts (state_quiet state 65_536 sights ts shown)
+works_turn state rules now force plan own ts built (too_big l big lost is none) = quiet_turns state rules ts (subst AreQuiet (sym (l.joined ∙ (ap (λ xs. l.reads ++ (l.looks ++ xs)) none ∙ ap (λ xs. l.reads ++ xs) (append-nil l.looks)))) (seen_quiet state rules.sets ts l))
+works_turn state rules now force plan own ts built (worked w is) = worked_turn state rules now force own ts built w
 
 pub some_quiet : (state : Path) (rules : List Rule) (ts : List Entry) → SomeSeen state rules ts → AreQuiet ts
 some_quiet state rules ts (of_state sights shown) = state_quiet state 65_536 sights ts shown
@@ -197,15 +199,15 @@ some_quiet state rules ts (of_looks sights remembered known t) = subst AreQuiet 
 
 -- ---- the run
 
-runs_shape : (state : Path) (force : Bool) (now : Moment) (rules : Rules) (own : List Fault) (ts : List Entry) → AreBuiltRules rules.sets → Runs state force now rules own ts → IsWholeRun ts
-runs_shape state force now rules own ts built (no_directory e s) = quiet_run ts (sees_quiet (parent_of state) _ ts s)
-runs_shape state force now rules own ts built (not_seen e s) = none_run ts s
-runs_shape state force now rules own ts built (not_begun e t) = go t.second
+runs_shape : (state : Path) (force : Bool) (now : Moment) (rules : Rules) (plan : Option Plan) (own : List Fault) (ts : List Entry) → AreBuiltRules rules.sets → Runs state force now rules plan own ts → IsWholeRun ts
+runs_shape state force now rules plan own ts built (no_directory lost e s) = quiet_run ts (sees_quiet (parent_of state) _ ts s)
+runs_shape state force now rules plan own ts built (not_seen lost e s) = none_run ts s
+runs_shape state force now rules plan own ts built (not_begun lost e t) = go t.second
   where
     go : (t.back ≡ []) ⊎ (t.back ≡ entry.Starts state now rules ∷ []) → IsWholeRun ts
     go (inl none) = quiet_run ts (subst AreQuiet (sym (t.joined ∙ (ap (λ es. t.front ++ es) none ∙ append-nil t.front))) (sees_quiet (parent_of state) IsDir t.front t.first))
     go (inr one) = begun_run state now rules t.front [] ts t.first (t.joined ∙ ap (λ es. t.front ++ es) one) (no_turns state rules [] tt)
-runs_shape state force now rules own ts built (runs.began i) = begun_run state now rules i.before (i.between ++ entry.Ends ∷ []) ts i.directory i.entries (ended state rules i.between (works_turn state rules now force own i.between built i.within))
+runs_shape state force now rules plan own ts built (runs.began i) = begun_run state now rules i.before (i.between ++ entry.Ends ∷ []) ts i.directory i.entries (ended state rules i.between (works_turn state rules now force plan own i.between built i.within))
 
 -- of acts that broke off
 broke_turn : (state : Path) (rules : Rules) (now : Moment) (force : Bool) (ts : List Entry) → AreBuiltRules rules.sets → BrokeOff state rules.sets now force ts → AllTurns state rules ts
@@ -221,8 +223,8 @@ broke_turn state rules now force ts built b = subst (AllTurns state rules) (sym 
     decide : Rule → LogLook → Due
     decide = decision l.remembered.table now force
 
-pub whole_run : (state : Path) (force : Bool) (now : Moment) (rules : Rules) (earlier : List Fault) (r : Result Ran RunStop) (ts : List Entry) → AreBuiltRules rules.sets → Answers state force now rules earlier r ts → IsWholeRun ts
-whole_run state force now rules earlier (Ok ran) ts built h = runs_shape state force now rules h.0 ts built h.2
+pub whole_run : (state : Path) (force : Bool) (now : Moment) (rules : Rules) (earlier : List Fault) (r : Result Ran RunStop) (ts : List Entry) → AreBuiltRules rules.sets → Answers state false force now rules earlier r ts → IsWholeRun ts
+whole_run state force now rules earlier (Ok ran) ts built h = runs_shape state force now rules ran.plan h.0 ts built h.2
 whole_run state force now rules earlier (Err stop.Held) ts built h = quiet_run ts (sees_quiet (parent_of state) IsDir ts h)
 whole_run state force now rules earlier (Err stop.Memory) ts built (at_first e) = none_run ts e
 whole_run state force now rules earlier (Err stop.Memory) ts built (in_looks i) = begun_run state now rules i.before (i.between ++ entry.Ends ∷ []) ts i.directory i.entries

@@ -104,13 +104,13 @@ logs_free : (rule : Rule) (decide : LogLook → Due) (looks : List LogLook) → 
 logs_free rule decide [] = free_none
 logs_free rule decide (l ∷ ls) = free_on (where_due (decide l) (hindrances rule l)) (log_faults rule decide ls) (due_free (decide l) (hindrances rule l) (hindered_free rule l)) (logs_free rule decide ls)
 
-plan_free : (decide : Rule → LogLook → Due) (rules : List Rule) (sets : List SetLooks) → AreFree (all_faults decide rules sets)
+pub plan_free : (decide : Rule → LogLook → Due) (rules : List Rule) (sets : List SetLooks) → AreFree (all_faults decide rules sets)
 plan_free decide [] [] = free_none
 plan_free decide [] (s ∷ ss) = free_none
 plan_free decide (r ∷ rs) [] = free_none
 plan_free decide (r ∷ rs) (s ∷ ss) = free_on (log_faults r (decide r) s.logs) (all_faults decide rs ss) (logs_free r (decide r) s.logs) (plan_free decide rs ss)
 
-none_fell : (k : Counts) → NoneFell k k
+pub none_fell : (k : Counts) → NoneFell k k
 none_fell k = (omega arith, omega arith, omega arith)
 
 -- ---- whole looks are first parts too
@@ -202,7 +202,7 @@ writes_state : (state : Path) (stale : Bool) (plan : Plan) (written : Target) (t
 writes_state state stale plan written text new fs ts w e c =
     subst (λ (t : List ℕ). Course (state_steps state stale w.0 t) [] fs ts) e (subst (λ (x : Target). Course (state_steps x.state x.stale x.dirs text) [] fs ts) w.2 c)
 
-acted : (state : Path) (rules : Rules) (looks : Looks) (remembered : Remembered) (now : Moment) (force : Bool) (ready : Ready) (x y : Progress) (sights : StateSights) (reads ls us : List Entry) (of_looks : List Fault) (marks : List Mark) (of_plan of_state : List Fault)
+abbrev acted : (state : Path) (rules : Rules) (looks : Looks) (remembered : Remembered) (now : Moment) (force : Bool) (ready : Ready) (x y : Progress) (sights : StateSights) (reads ls us : List Entry) (of_looks : List Fault) (marks : List Mark) (of_plan of_state : List Fault)
     → ReadyFor state now remembered looks.kept (PlanFor rules looks remembered now force) ready x y → IsKnown state sights (Ok remembered) → ShowsState state 65_536 sights reads
     → (shown : ShowsLooks (reserved_by state) rules.sets looks.sets of_looks ls) → looks.kept ≡ paths_of shown.kept
     → Then (SetsDone ready.steps marks of_plan) (Course (state_steps ready.writing.state ready.writing.stale ready.writing.dirs (text_of (map (stamped (rotated_logs marks) now.civil) ready.table))) [] of_state) us
@@ -234,35 +234,35 @@ acted state rules looks remembered now force ready x y sights reads ls us of_loo
   };
 }
 
-pub carried_out : {T : Type 0} (r : Result T Memory) (state : Path) (rules : Rules) (looks : Looks) (remembered : Remembered) (now : Moment) (force : Bool) (ready : Ready) (x y z : Progress) (m n : Option Journal) (k l : Counts)
-    → ReadyFor state now remembered looks.kept (PlanFor rules looks remembered now force) ready x y → OnOk r (ActsAndWrites ready now.civil y z m n k l)
-    → OnOk r (Carries rules looks state remembered now force x.faults.items z.faults.items m n)
-carried_out (Ok u) state rules looks remembered now force ready x y z m n k l r h = left_as h.entries (λ us t. record {
+pub carried_out : {T : Type 0} (r : Result T Memory) (state : Path) (rules : Rules) (looks : Looks) (remembered : Remembered) (now : Moment) (force : Bool) (plan : Option Plan) (ready : Ready) (x y z : Progress) (m n : Option Journal) (k l : Counts)
+    → plan ≡ Some (PlanFor rules looks remembered now force) → ReadyFor state now remembered looks.kept (PlanFor rules looks remembered now force) ready x y → OnOk r (ActsAndWrites ready now.civil y z m n k l)
+    → OnOk r (Carries rules looks state remembered now force plan x.faults.items z.faults.items m n)
+carried_out (Ok u) state rules looks remembered now force plan ready x y z m n k l is r h = left_as h.entries (λ us t. record {
   own = (PlanFor rules looks remembered now force).faults ++ (h.of_plan ++ h.of_state);
   faults_are = h.faults_are ∙ (ap (λ (fs : List Fault). fs ++ (h.of_plan ++ h.of_state)) r.is.faults ∙ append_assoc x.faults.items (PlanFor rules looks remembered now force).faults (h.of_plan ++ h.of_state));
-  works = λ sights reads ls own known read shown kept. worked (acted state rules looks remembered now force ready x y sights reads ls us own h.marks h.of_plan h.of_state r known read shown kept t);
+  works = λ sights reads ls own known read shown kept. worked (acted state rules looks remembered now force ready x y sights reads ls us own h.marks h.of_plan h.of_state r known read shown kept t) is;
 })
-carried_out (Err u) state rules looks remembered now force ready x y z m n k l r h = tt
+carried_out (Err u) state rules looks remembered now force plan ready x y z m n k l is r h = tt
 
-pub too_big_told : {T E : Type 0} (r : Result T E) (state : Path) (rules : Rules) (looks : Looks) (remembered : Remembered) (now : Moment) (force : Bool) (x y : Progress) (b : List Fault) (o : Option Journal)
-    → (67_108_864 < length (measured_text (logs_in (PlanFor rules looks remembered now force)) now.civil (after remembered.table [] looks.kept now.civil))) × (y ≡ x) → OnOk r (b ≡ y.faults.items ++ fault.State 0 kind.TooBig ∷ [])
-    → OnOk r (Carries rules looks state remembered now force x.faults.items b o o)
-too_big_told (Ok u) state rules looks remembered now force x y b o big e = left_first (CarriesOn rules looks state remembered now force x.faults.items b) o (record {
+pub too_big_told : {T E : Type 0} (r : Result T E) (state : Path) (rules : Rules) (looks : Looks) (remembered : Remembered) (now : Moment) (force : Bool) (plan : Option Plan) (x y : Progress) (b : List Fault) (o : Option Journal)
+    → plan ≡ None → (67_108_864 < length (measured_text (logs_in (PlanFor rules looks remembered now force)) now.civil (after remembered.table [] looks.kept now.civil))) × (y ≡ x) → OnOk r (b ≡ y.faults.items ++ fault.State 0 kind.TooBig ∷ [])
+    → OnOk r (Carries rules looks state remembered now force plan x.faults.items b o o)
+too_big_told (Ok u) state rules looks remembered now force plan x y b o none big e = left_first (CarriesOn rules looks state remembered now force plan x.faults.items b) o (record {
   own = fault.State 0 kind.TooBig ∷ [];
   faults_are = e ∙ ap (λ (p : Progress). p.faults.items ++ fault.State 0 kind.TooBig ∷ []) big.1;
   works = λ sights reads ls own known read shown kept. too_big (record { sights = sights; remembered = remembered; known = known; sets = looks.sets; of_looks = own; reads = reads; looks = ls; acts = []; joined = refl; read = read; shown = shown })
-      (subst (λ (ks : List Path). 67_108_864 < length (measured_text (logs_in (PlanFor rules looks remembered now force)) now.civil (after remembered.table [] ks now.civil))) kept big.0) refl refl;
+      (subst (λ (ks : List Path). 67_108_864 < length (measured_text (logs_in (PlanFor rules looks remembered now force)) now.civil (after remembered.table [] ks now.civil))) kept big.0) none refl refl;
 })
-too_big_told (Err u) state rules looks remembered now force x y b o big e = tt
+too_big_told (Err u) state rules looks remembered now force plan x y b o none big e = tt
 
-pub looked_done : {T E : Type 0} (r : Result T E) (state : Path) (rules : Rules) (looks : Looks) (remembered : Remembered) (now : Moment) (force : Bool) (a b c : List Fault) {o m : Option Journal} (n : Option Journal) → Left (LooksAtAll (reserved_by state) rules.sets looks a b) o m
-    → OnOk r (Carries rules looks state remembered now force b c m n) → OnOk r (LookedDone state rules.sets now force remembered a c o n)
-looked_done (Ok u) state rules looks remembered now force a b c n l h = left_then l h (λ ts us g q. record {
+pub looked_done : {T E : Type 0} (r : Result T E) (state : Path) (rules : Rules) (looks : Looks) (remembered : Remembered) (now : Moment) (force : Bool) (plan : Option Plan) (a b c : List Fault) {o m : Option Journal} (n : Option Journal) → Left (LooksAtAll (reserved_by state) rules.sets looks a b) o m
+    → OnOk r (Carries rules looks state remembered now force plan b c m n) → OnOk r (LookedDone state rules.sets now force remembered plan a c o n)
+looked_done (Ok u) state rules looks remembered now force plan a b c n l h = left_then l h (λ ts us g q. record {
   own = g.own ++ q.own;
   faults_are = q.faults_are ∙ (ap (λ (fs : List Fault). fs ++ q.own) g.faults_are ∙ append_assoc a g.own q.own);
   works = λ sights reads known shown. q.works sights reads ts g.own known shown g.shown g.kept_are;
 })
-looked_done (Err u) state rules looks remembered now force a b c n l h = tt
+looked_done (Err u) state rules looks remembered now force plan a b c n l h = tt
 
 pub carried_counted : {T : Type 0} (r : Result T Memory) (state : Path) (rules : Rules) (looks : Looks) (remembered : Remembered) (now : Moment) (force : Bool) (ready : Ready) (x y z : Progress) (m n : Option Journal) (k l : Counts)
     → ReadyFor state now remembered looks.kept (PlanFor rules looks remembered now force) ready x y → OnOk r (ActsAndWrites ready now.civil y z m n k l) → OnOk r (AddsFaults x.faults.items z.faults.items k l)
@@ -280,18 +280,18 @@ looked_counted (Err u) a b c k l m h g = tt
 
 -- ---- behind the reading
 
-pub known_done : {T E : Type 0} (r : Result T E) (state : Path) (rules : List Rule) (now : Moment) (force : Bool) (remembered : Remembered) (a b : List Fault) {o m : Option Journal} (n : Option Journal) → Left (ReadsState state 65_536 (Ok (Ok remembered))) o m
-    → OnOk r (LookedDone state rules now force remembered a b m n) → OnOk r (WorkDone state rules now force a b o n)
-known_done (Ok u) state rules now force remembered a b n l h = left_then l h (λ ts us p q. (q.own, q.faults_are, q.works p.sights ts p.known p.shown))
-known_done (Err u) state rules now force remembered a b n l h = tt
+pub known_done : {T E : Type 0} (r : Result T E) (state : Path) (rules : List Rule) (now : Moment) (force : Bool) (remembered : Remembered) (plan : Option Plan) (a b : List Fault) {o m : Option Journal} (n : Option Journal) → Left (ReadsState state 65_536 (Ok (Ok remembered))) o m
+    → OnOk r (LookedDone state rules now force remembered plan a b m n) → OnOk r (WorkDone state rules now force plan a b o n)
+known_done (Ok u) state rules now force remembered plan a b n l h = left_then l h (λ ts us p q. (q.own, q.faults_are, q.works p.sights ts p.known p.shown))
+known_done (Err u) state rules now force remembered plan a b n l h = tt
 
-pub unknown_done : (state : Path) (rules : List Rule) (now : Moment) (force : Bool) (f : Fault) (a b : List Fault) {o n : Option Journal} → Left (ReadsState state 65_536 (Ok (Err f))) o n → b ≡ a ++ f ∷ [] → WorkDone state rules now force a b o n
-unknown_done state rules now force f a b l e = left_as l (λ ts p. (f ∷ [], e, not_known p.sights f p.known refl p.shown))
+pub unknown_done : (state : Path) (rules : List Rule) (now : Moment) (force : Bool) (plan : Option Plan) (f : Fault) (a b : List Fault) {o n : Option Journal} → plan ≡ None → Left (ReadsState state 65_536 (Ok (Err f))) o n → b ≡ a ++ f ∷ [] → WorkDone state rules now force plan a b o n
+unknown_done state rules now force plan f a b none l e = left_as l (λ ts p. (f ∷ [], e, not_known p.sights f p.known none refl p.shown))
 
-abbrev none_sights : StateSights
+abbrev pub none_sights : StateSights
 none_sights = record { state = Failed; part = Failed; reading = Broken [] }
 
-none_shown : (state : Path) → ShowsState state 65_536 none_sights []
+pub none_shown : (state : Path) → ShowsState state 65_536 none_sights []
 none_shown state = record { reading = (tt, omega arith); entries = refl }
 
 -- the counts tell of the fault by which nothing is known

@@ -1,5 +1,5 @@
 -- For proofs: the parts of a run, with what they add to the faults.
-use Rattle.std.specs.Prelude.{◌≡◌, ◌≤◌, ◌<◌, ◌+◌, Bool, List, [], ◌∷◌, ◌++◌, length, map, Option, Some, None, Ok, vec_len}
+use Rattle.std.specs.Prelude.{◌≡◌, ◌≤◌, ◌<◌, ◌+◌, Bool, true, false, List, [], ◌∷◌, ◌++◌, length, map, Option, Some, None, Ok, vec_len}
 use Rattle.std.specs.Vec.{vec_capacity}
 use Rattle.lr_rules.specs.declared.path.Path.{Path}
 use Rattle.lr_rules.specs.declared.civil.Civil.{Civil}
@@ -10,13 +10,14 @@ use Rattle.lr_rules.specs.Path.{parent_of}
 use Rattle.lr_rules.specs.declared.fault.CallKind.TheVariants as call
 use Rattle.lr_rules.specs.declared.fault.Fault.{Fault}
 use Rattle.lr_rules.specs.declared.fault.Fault.TheVariants as fault
+use Rattle.lr_rules.specs.declared.fault.StateKind.TheVariants as kind
 use Rattle.lr_host.specs.declared.entry.Entry.{Entry}
 use Rattle.lr_host.specs.declared.entry.Entry.TheVariants as entry
 use Rattle.lr_host.specs.declared.entry.Entry.TheVariants.{Starts, Ends}
 use Rattle.lr_host.specs.declared.journal.Journal.{Journal}
 use Rattle.lr_host.specs.Opening.{IsJournal}
 use Rattle.lr_host.specs.Told.{Left, Then, Can, Counts, WhereTold}
-use Rattle.lr_host.specs.Looks.{Sees, IsDir, IsNotDir}
+use Rattle.lr_host.specs.Looks.{Sees, IsDir, IsNoDir, IsNothing}
 use Rattle.lr_state.specs.Table.{Entry as Row}
 use Rattle.lr_state.specs.Written.{text_of}
 use Rattle.lr_plan.specs.declared.looks.Looks.{Looks}
@@ -47,14 +48,17 @@ use Rattle.lr_run.specs.declared.answer.RunStop.TheVariants as stop
 use Rattle.lr_run.specs.declared.directory.DirStop.{DirStop}
 use Rattle.lr_run.specs.declared.directory.DirStop.TheVariants as dir
 use Rattle.lr_run.specs.declared.ready.Ready.{Ready}
+use Rattle.lr_run.specs.Dry.{Plans, PlansBy, Tries}
 use Rattle.lr_run.specs.Runs.{logs_in, changed_in, Works, Runs, SomeSeen, BrokeOff, LacksMemory}
 
 -- the directory wasn't seen as one
 abbrev pub NotSeen : Path → DirStop → List Entry → Type 0
-NotSeen path dir.NoDir ts = Sees path IsNotDir ts
+NotSeen path dir.Nothing ts = Sees path IsNothing ts
+NotSeen path dir.NoDir ts = Sees path IsNoDir ts
 NotSeen path dir.Call ts = ts ≡ []
 
 abbrev pub dir_fault_of : DirStop → Path → Fault
+dir_fault_of dir.Nothing path = fault.NoDir path
 dir_fault_of dir.NoDir path = fault.NoDir path
 dir_fault_of dir.Call path = fault.Call call.Look path
 
@@ -110,31 +114,31 @@ pub record SeenBefore (state : Path) (rules : Rules) (looks : Looks) (remembered
   pub all_faults : List Fault
   pub looked : Left (LooksAtAll (reserved_by state) rules.sets looks faults all_faults) middle told
 
--- What follows from the looks was done, whatever of them is shown before: its faults were added.
-pub record CarriesOn (rules : Rules) (looks : Looks) (state : Path) (remembered : Remembered) (now : Moment) (force : Bool) (faults all_faults : List Fault) (ts : List Entry) : Type 0 where
+-- What follows from the looks was done, whatever of them is shown before: it came to this plan, and its faults were added.
+pub record CarriesOn (rules : Rules) (looks : Looks) (state : Path) (remembered : Remembered) (now : Moment) (force : Bool) (plan : Option Plan) (faults all_faults : List Fault) (ts : List Entry) : Type 0 where
   pub own : List Fault
   pub faults_are : all_faults ≡ faults ++ own
   pub works : (sights : StateSights) (reads ls : List Entry) (of_looks : List Fault) → IsKnown state sights (Ok remembered) → ShowsState state 65_536 sights reads
-      → (shown : ShowsLooks (reserved_by state) rules.sets looks.sets of_looks ls) → looks.kept ≡ paths_of shown.kept → Works state rules.sets now force (of_looks ++ own) (reads ++ (ls ++ ts))
+      → (shown : ShowsLooks (reserved_by state) rules.sets looks.sets of_looks ls) → looks.kept ≡ paths_of shown.kept → Works state rules.sets now force plan (of_looks ++ own) (reads ++ (ls ++ ts))
 
-abbrev pub Carries : Rules → Looks → Path → Remembered → Moment → Bool → List Fault → List Fault → Option Journal → Option Journal → Type 0
-Carries rules looks state remembered now force faults all_faults told later = Left (CarriesOn rules looks state remembered now force faults all_faults) told later
+abbrev pub Carries : Rules → Looks → Path → Remembered → Moment → Bool → Option Plan → List Fault → List Fault → Option Journal → Option Journal → Type 0
+Carries rules looks state remembered now force plan faults all_faults told later = Left (CarriesOn rules looks state remembered now force plan faults all_faults) told later
 
 -- What was done behind a reading by which this is known; its faults were added.
-pub record BehindState (state : Path) (rules : List Rule) (now : Moment) (force : Bool) (remembered : Remembered) (faults all_faults : List Fault) (ts : List Entry) : Type 0 where
+pub record BehindState (state : Path) (rules : List Rule) (now : Moment) (force : Bool) (remembered : Remembered) (plan : Option Plan) (faults all_faults : List Fault) (ts : List Entry) : Type 0 where
   pub own : List Fault
   pub faults_are : all_faults ≡ faults ++ own
-  pub works : (sights : StateSights) (reads : List Entry) → IsKnown state sights (Ok remembered) → ShowsState state 65_536 sights reads → Works state rules now force own (reads ++ ts)
+  pub works : (sights : StateSights) (reads : List Entry) → IsKnown state sights (Ok remembered) → ShowsState state 65_536 sights reads → Works state rules now force plan own (reads ++ ts)
 
-abbrev pub LookedDone : Path → List Rule → Moment → Bool → Remembered → List Fault → List Fault → Option Journal → Option Journal → Type 0
-LookedDone state rules now force remembered faults all_faults told later = Left (BehindState state rules now force remembered faults all_faults) told later
+abbrev pub LookedDone : Path → List Rule → Moment → Bool → Remembered → Option Plan → List Fault → List Fault → Option Journal → Option Journal → Type 0
+LookedDone state rules now force remembered plan faults all_faults told later = Left (BehindState state rules now force remembered plan faults all_faults) told later
 
 -- The work was done; its faults were added.
-abbrev pub WorksOn : Path → List Rule → Moment → Bool → List Fault → List Fault → List Entry → Type 0
-WorksOn state rules now force faults all_faults ts = (own : List Fault) × (all_faults ≡ faults ++ own) × Works state rules now force own ts
+abbrev pub WorksOn : Path → List Rule → Moment → Bool → Option Plan → List Fault → List Fault → List Entry → Type 0
+WorksOn state rules now force plan faults all_faults ts = (own : List Fault) × (all_faults ≡ faults ++ own) × Works state rules now force plan own ts
 
-abbrev pub WorkDone : Path → List Rule → Moment → Bool → List Fault → List Fault → Option Journal → Option Journal → Type 0
-WorkDone state rules now force faults all_faults told later = Left (WorksOn state rules now force faults all_faults) told later
+abbrev pub WorkDone : Path → List Rule → Moment → Bool → Option Plan → List Fault → List Fault → Option Journal → Option Journal → Type 0
+WorkDone state rules now force plan faults all_faults told later = Left (WorksOn state rules now force plan faults all_faults) told later
 
 -- ---- the same where there was no memory
 
@@ -167,19 +171,43 @@ pub record Begun (state : Path) (now : Moment) (rules : Rules) (P : List Entry �
   pub within : P between
 
 -- what was left from the begin on: the work, or the begin failed
-pub data Goes (state : Path) (force : Bool) (now : Moment) (rules : Rules) (faults all_faults : List Fault) (ts : List Entry) : Type 0 where
-  begun : Begun state now rules (WorksOn state rules.sets now force faults all_faults) ts → Goes state force now rules faults all_faults ts
-  not_begun : all_faults ≡ faults ++ fault.Call call.Begin state ∷ [] → Maybe (Starts state now rules) ts → Goes state force now rules faults all_faults ts
+pub data Goes (state : Path) (force : Bool) (now : Moment) (rules : Rules) (plan : Option Plan) (faults all_faults : List Fault) (ts : List Entry) : Type 0 where
+  begun : Begun state now rules (WorksOn state rules.sets now force plan faults all_faults) ts → Goes state force now rules plan faults all_faults ts
+  not_begun : plan ≡ None → all_faults ≡ faults ++ fault.Call call.Begin state ∷ [] → Maybe (Starts state now rules) ts → Goes state force now rules plan faults all_faults ts
 
 abbrev pub Stopped : Path → Bool → Moment → Rules → RunStop → List Entry → Type 0
 Stopped state force now rules stop.Held ts = ts ≡ []
 Stopped state force now rules stop.Memory ts = Begun state now rules (SomeWork state rules.sets now force) ts
 
 -- what a run left: its faults were added; or it stopped
-abbrev pub RunsOn : Path → Bool → Moment → Rules → List Fault → List Fault → List Entry → Type 0
-RunsOn state force now rules faults all_faults ts = (own : List Fault) × (all_faults ≡ faults ++ own) × Runs state force now rules own ts
+abbrev pub RunsOn : Path → Bool → Moment → Rules → Option Plan → List Fault → List Fault → List Entry → Type 0
+RunsOn state force now rules plan faults all_faults ts = (own : List Fault) × (all_faults ≡ faults ++ own) × Runs state force now rules plan own ts
 
 -- a run that stopped: the lock is another's, or there was no memory
 abbrev pub StopsSo : Path → Bool → Moment → Rules → RunStop → List Entry → Type 0
 StopsSo state force now rules stop.Held ts = Sees (parent_of state) IsDir ts
 StopsSo state force now rules stop.Memory ts = LacksMemory state force now rules ts
+
+-- ---- a dry run
+
+-- The logs were looked at, and it was planned by this table; the faults were added.
+abbrev pub PlansOn : Path → List Rule → List Row → Moment → Bool → Option Plan → List Fault → List Fault → List Entry → Type 0
+PlansOn state rules table now force plan faults all_faults ts = (own : List Fault) × (all_faults ≡ faults ++ own) × Plans state rules table now force plan own ts
+
+-- The state was read besides.
+abbrev pub PlansByOn : Path → List Rule → Moment → Bool → Option Plan → List Fault → List Fault → List Entry → Type 0
+PlansByOn state rules now force plan faults all_faults ts = (own : List Fault) × (all_faults ≡ faults ++ own) × PlansBy state rules now force plan own ts
+
+-- The whole dry run was made.
+abbrev pub TriesOn : Path → List Rule → Moment → Bool → Option Plan → List Fault → List Fault → List Entry → Type 0
+TriesOn state rules now force plan faults all_faults ts = (own : List Fault) × (all_faults ≡ faults ++ own) × Tries state rules now force plan own ts
+
+-- the plan, where it is small enough, and else none
+abbrev pub plan_if : Bool → Plan → Option Plan
+plan_if true plan = Some plan
+plan_if false plan = None
+
+-- its faults, or the one of a text that could become too big
+abbrev pub faults_if : Bool → Plan → List Fault
+faults_if true plan = plan.faults
+faults_if false plan = fault.State 0 kind.TooBig ∷ []

@@ -1,3 +1,5 @@
+pub mod Answers
+pub mod Dry
 pub mod Internal
 pub mod Rotated
 pub mod Runs

@@ -1,5 +1,5 @@
 -- What a run shows: how it began, what was known of its state, what its looks came to, and the acts of the plan that follows from them.
-use Rattle.std.specs.Prelude.{◌≡◌, ◌<◌, ◌≤◌, ℕ, Bool, List, [], ◌∷◌, ◌++◌, length, map, Result, Ok, Err}
+use Rattle.std.specs.Prelude.{◌≡◌, ◌<◌, ◌≤◌, ℕ, Bool, List, [], ◌∷◌, ◌++◌, length, map, Option, Some, None, Ok, Err}
 use Rattle.std.specs.List.{flat_map}
 use Rattle.lr_rules.specs.declared.path.Path.{Path}
 use Rattle.lr_rules.specs.declared.civil.Moment.{Moment}
@@ -35,9 +35,6 @@ use Rattle.lr_record.specs.After.{after}
 use Rattle.lr_record.specs.Measured.{measured_text}
 use Rattle.lr_seen.specs.Free.{reserved_by}
 use Rattle.lr_writing.specs.Directories.{AreDirectoriesOf}
-use Rattle.lr_run.specs.declared.answer.Ran.{Ran}
-use Rattle.lr_run.specs.declared.answer.RunStop.{RunStop}
-use Rattle.lr_run.specs.declared.answer.RunStop.TheVariants as stop
 
 -- ---- the paths of a plan
 
@@ -110,11 +107,11 @@ pub record Worked (state : Path) (rules : List Rule) (now : Moment) (force : Boo
   pub looked : Looked state rules ts
   pub acted : Acted state rules now force ts looked faults
 
--- Between its begin and its end a run has these faults: nothing is known of the state, with the one fault of that; or its text could become too big, and then nothing is done behind the looks; or it worked.
-pub data Works (state : Path) (rules : List Rule) (now : Moment) (force : Bool) (faults : List Fault) (ts : List Entry) : Type 0 where
-  not_known : (sights : StateSights) (f : Fault) → IsKnown state sights (Err f) → faults ≡ f ∷ [] → ShowsState state 65_536 sights ts → Works state rules now force faults ts
-  too_big : (l : Looked state rules ts) → 67_108_864 < length (measured_in state rules ts l now force) → faults ≡ l.of_looks ++ fault.State 0 kind.TooBig ∷ [] → l.acts ≡ [] → Works state rules now force faults ts
-  worked : Worked state rules now force faults ts → Works state rules now force faults ts
+-- Between its begin and its end a run has these faults, and comes to this plan: nothing is known of the state, with the one fault of that, and there is no plan; or its text could become too big, and then nothing is done behind the looks, and there is none; or it worked, and the plan is the one that follows from what it saw.
+pub data Works (state : Path) (rules : List Rule) (now : Moment) (force : Bool) (plan : Option Plan) (faults : List Fault) (ts : List Entry) : Type 0 where
+  not_known : (sights : StateSights) (f : Fault) → IsKnown state sights (Err f) → plan ≡ None → faults ≡ f ∷ [] → ShowsState state 65_536 sights ts → Works state rules now force plan faults ts
+  too_big : (l : Looked state rules ts) → 67_108_864 < length (measured_in state rules ts l now force) → plan ≡ None → faults ≡ l.of_looks ++ fault.State 0 kind.TooBig ∷ [] → l.acts ≡ [] → Works state rules now force plan faults ts
+  worked : (w : Worked state rules now force faults ts) → plan ≡ Some (plan_in state rules ts w.looked now force) → Works state rules now force plan faults ts
 
 -- The state's directory was seen, the run began and ended, and of the entries between the two this holds.
 pub record Inside (state : Path) (now : Moment) (rules : Rules) (P : List Entry → Type 0) (ts : List Entry) : Type 0 where
@@ -124,12 +121,12 @@ pub record Inside (state : Path) (now : Moment) (rules : Rules) (P : List Entry 
   pub directory : Sees (parent_of state) IsDir before
   pub within : P between
 
--- A run with these faults of its own: the state's directory isn't there, or the look at it failed; the begin failed, with its entry or without; or it began, and ended.
-pub data Runs (state : Path) (force : Bool) (now : Moment) (rules : Rules) (faults : List Fault) (ts : List Entry) : Type 0 where
-  no_directory : faults ≡ fault.NoDir (parent_of state) ∷ [] → Sees (parent_of state) IsNotDir ts → Runs state force now rules faults ts
-  not_seen : faults ≡ fault.Call call.Look (parent_of state) ∷ [] → ts ≡ [] → Runs state force now rules faults ts
-  not_begun : faults ≡ fault.Call call.Begin state ∷ [] → Then (Sees (parent_of state) IsDir) (Maybe (Starts state now rules)) ts → Runs state force now rules faults ts
-  began : Inside state now rules (Works state rules.sets now force faults) ts → Runs state force now rules faults ts
+-- A run with these faults of its own, that came to this plan: the state's directory isn't there, or the look at it failed; the begin failed, with its entry or without; or it began, and ended.
+pub data Runs (state : Path) (force : Bool) (now : Moment) (rules : Rules) (plan : Option Plan) (faults : List Fault) (ts : List Entry) : Type 0 where
+  no_directory : plan ≡ None → faults ≡ fault.NoDir (parent_of state) ∷ [] → Sees (parent_of state) IsNotDir ts → Runs state force now rules plan faults ts
+  not_seen : plan ≡ None → faults ≡ fault.Call call.Look (parent_of state) ∷ [] → ts ≡ [] → Runs state force now rules plan faults ts
+  not_begun : plan ≡ None → faults ≡ fault.Call call.Begin state ∷ [] → Then (Sees (parent_of state) IsDir) (Maybe (Starts state now rules)) ts → Runs state force now rules plan faults ts
+  began : Inside state now rules (Works state rules.sets now force plan faults) ts → Runs state force now rules plan faults ts
 
 -- ---- without memory
 
@@ -152,9 +149,3 @@ pub data LacksMemory (state : Path) (force : Bool) (now : Moment) (rules : Rules
   at_first : ts ≡ [] → LacksMemory state force now rules ts
   in_looks : Inside state now rules (SomeSeen state rules.sets) ts → LacksMemory state force now rules ts
   in_acts : Inside state now rules (BrokeOff state rules.sets now force) ts → LacksMemory state force now rules ts
-
--- What a run left, by its answer. The faults that were handed in stand before its own; where another held the lock, the state's directory was seen, and no more.
-abbrev pub Answers : Path → Bool → Moment → Rules → List Fault → Result Ran RunStop → List Entry → Type 0
-Answers state force now rules earlier (Ok ran) ts = (own : List Fault) × (ran.faults.items ≡ earlier ++ own) × Runs state force now rules own ts
-Answers state force now rules earlier (Err stop.Held) ts = Sees (parent_of state) IsDir ts
-Answers state force now rules earlier (Err stop.Memory) ts = LacksMemory state force now rules ts

@@ -11,7 +11,9 @@ use lr_rules::{CallKind, Fault, Path};
 /// Why a directory isn't seen as one.
 #[derive(Clone, Copy)]
 pub enum DirStop {
-    /// Nothing has its path, or another kind of thing.
+    /// Nothing has its path.
+    Nothing,
+    /// Another kind of thing has it.
     NoDir,
     /// The look failed.
     Call,
@@ -29,7 +31,7 @@ pub fn look_for_dir<H: Host>(host: &mut H, dir: &Path) -> Result<(), DirStop>
         return Err(DirStop::Call);
     };
     let Some(seen) = look else {
-        return Err(DirStop::NoDir);
+        return Err(DirStop::Nothing);
     };
     match seen.kind {
         Kind::Dir => Ok(()),
@@ -43,6 +45,7 @@ pub fn dir_fault(stop: DirStop, dir: Path) -> Fault
     ensures { result ≡ dir_fault_of stop dir }
 {
     match stop {
+        DirStop::Nothing => Fault::NoDir(dir),
         DirStop::NoDir => Fault::NoDir(dir),
         DirStop::Call => Fault::Call(CallKind::Look, dir),
     }

@@ -2,7 +2,8 @@
 //!
 //! The contract above it: the entries of a run are a look at the state's directory, its start, the reading of the state,
 //! the looks at its logs, the acts of the plan that follows from both, the writing of the state, and its end; and its
-//! faults are those of the looks, of the plan and of the acts (`specs/Runs.antt`). Begin with `run`:
+//! faults are those of the looks, of the plan and of the acts (`specs/Runs.antt`). A dry run only looks, and plans
+//! (`specs/Dry.antt`). Begin with `run`:
 //!
 //! ```text
 //! let ran = run(alloc, &rules, &settings, &clock, earlier, &mut host)?;   // Err(RunStop::Held): another run is on
@@ -11,7 +12,9 @@
 
 mod acting;
 mod answer;
+mod asked;
 mod directory;
+mod dry;
 mod known;
 mod laws;
 mod locked;
@@ -21,5 +24,5 @@ mod whole;
 mod work;
 
 pub use answer::{Ran, RunStop};
+pub use asked::run;
 pub use laws::run_rotates_all;
-pub use whole::run;

@@ -1,5 +1,5 @@
 // A run from its begin to its end.
-ghost use Rattle.std.specs.Prelude.{◌≡◌, ◌+◌, ◌≤◌, ◌++◌, [], ◌∷◌, true, false, Ok, Err, OnOk, OnErr, IfErr, vec_len};
+ghost use Rattle.std.specs.Prelude.{◌≡◌, ◌+◌, ◌≤◌, ◌++◌, [], ◌∷◌, true, false, None, Ok, Err, OnOk, OnErr, IfErr, vec_len};
 ghost use Rattle.std.specs.Vec.{vec_capacity};
 ghost use Rattle.lr_rules.specs.declared.fault.CallKind.TheVariants as call;
 ghost use Rattle.lr_rules.specs.declared.fault.Fault.TheVariants as fault;
@@ -16,7 +16,7 @@ use crate::answer::RunStop;
 use crate::work::work;
 use lr_acts::Progress;
 use lr_host::Host;
-use lr_plan::Settings;
+use lr_plan::{Plan, Settings};
 use lr_rules::{CallKind, Clock, Fault, Memory, Path, Rules};
 use std::alloc::Global;
 
@@ -27,21 +27,23 @@ fn work_to_end<H: Host>(
     rules: &Rules,
     settings: &Settings,
     clock: &Clock,
+    reached: &mut Option<Plan>,
     progress: &mut Progress,
 ) -> Result<(), Memory>
     requires built { AreBuiltRules rules.now.sets }
+    requires none { reached.old ≡ None }
     requires disk { WhereTold (H.told host.old) IsJournal }
     requires dir { Can (H.told host.old) (entry.List (parent_of settings.now.state) []) }
     requires room { vec_len progress.old.faults + 2 ≤ vec_capacity progress.old.faults }
     requires on { WhereTold (H.told host.old) (λ p. (world p).running ≡ true) }
-    ensures told { OnOk result (Left (Then (WorksOn settings.now.state rules.now.sets clock.entry.now.now settings.now.force progress.old.faults.items progress.new.faults.items) (Are (entry.Ends ∷ []))) (H.told host.old) (H.told host.new)) }
+    ensures told { OnOk result (Left (Then (WorksOn settings.now.state rules.now.sets clock.entry.now.now settings.now.force reached.new progress.old.faults.items progress.new.faults.items) (Are (entry.Ends ∷ []))) (H.told host.old) (H.told host.new)) }
     ensures some { OnErr result (Left (Then (SomeWork settings.now.state rules.now.sets clock.entry.now.now settings.now.force) (Are (entry.Ends ∷ []))) (H.told host.old) (H.told host.new)) }
     ensures room { OnOk result (vec_len progress.new.faults + 1 ≤ vec_capacity progress.new.faults) }
     ensures counted { OnOk result (AddsFaults progress.old.faults.items progress.new.faults.items (H.counts host.old) (H.counts host.new)) }
     ensures lock { (H.counts host.new).locked ≡ false }
     ensures counts { NoneFell (H.counts host.old) (H.counts host.new) }
 {
-    let done = work(alloc, host, rules, settings, clock, progress);
+    let done = work(alloc, host, rules, settings, clock, reached, progress);
     host.end();
     done
 }
@@ -63,14 +65,16 @@ pub fn begin_to_end<H: Host>(
     settings: &Settings,
     clock: &Clock,
     name: Path,
+    reached: &mut Option<Plan>,
     progress: &mut Progress,
 ) -> Result<(), RunStop>
     requires built { AreBuiltRules rules.now.sets }
+    requires none { reached.old ≡ None }
     requires disk { WhereTold (H.told host.old) IsJournal }
     requires there { Can (H.told host.old) (entry.Starts settings.now.state clock.now.now rules.now) }
     requires name { name ≡ settings.now.state }
     requires room { vec_len progress.old.faults + 2 ≤ vec_capacity progress.old.faults }
-    ensures told { OnOk result (Left (Goes settings.now.state settings.now.force clock.entry.now.now rules.now progress.old.faults.items progress.new.faults.items) (H.told host.old) (H.told host.new)) }
+    ensures told { OnOk result (Left (Goes settings.now.state settings.now.force clock.entry.now.now rules.now reached.new progress.old.faults.items progress.new.faults.items) (H.told host.old) (H.told host.new)) }
     ensures stopped { IfErr result (λ why. Left (Stopped settings.now.state settings.now.force clock.entry.now.now rules.now why) (H.told host.old) (H.told host.new)) }
     ensures held { result ≡ Err RunStop.Held → Rose (H.counts host.old).held (H.counts host.new).held }
     ensures room { OnOk result (vec_len progress.new.faults + 1 ≤ vec_capacity progress.new.faults) }
@@ -78,7 +82,7 @@ pub fn begin_to_end<H: Host>(
     ensures counts { Onward (H.counts host.old) (H.counts host.new) }
 {
     match host.begin(&settings.state, &clock.now, rules) {
-        Ok(true) => match work_to_end(alloc, host, rules, settings, clock, progress) {
+        Ok(true) => match work_to_end(alloc, host, rules, settings, clock, reached, progress) {
             Ok(()) => Ok(()),
             Err(_) => Err(RunStop::Memory),
         },

@@ -30,8 +30,8 @@ pub struct Ready {
     pub table: State,
 }
 
-// Brings the table up to the looks; the answer is whether the text is small enough, however the rotations end.
-fn bring_up_to(
+/// Brings the table up to the looks; the answer is whether the text is small enough, however the rotations end.
+pub fn bring_up_to(
     alloc: Global,
     table: &mut State,
     kept: &[Path],
@@ -62,8 +62,8 @@ fn writing_for(
     prepare(alloc, state, part, stale, dirs)
 }
 
-// Adds the faults of the plan.
-fn add_all(faults: &mut Vec<Fault>, more: Listed<Fault>) -> Result<(), Memory>
+/// Adds the faults of the plan.
+pub fn add_all(faults: &mut Vec<Fault>, more: Listed<Fault>) -> Result<(), Memory>
     ensures { OnOk result (faults.new.items ≡ faults.old.items ++ more) }
 {
     for fault in more.into_vec() {

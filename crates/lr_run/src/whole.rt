@@ -1,5 +1,5 @@
 // The run over the definitions of a configuration.
-ghost use Rattle.std.specs.Prelude.{◌≡◌, ◌+◌, ◌≤◌, ◌++◌, ◌∷◌, [], Err, IfOk, OnOk, IfErr, vec_len};
+ghost use Rattle.std.specs.Prelude.{◌≡◌, ◌+◌, ◌≤◌, ◌++◌, ◌∷◌, [], None, false, Err, IfOk, OnOk, IfErr, vec_len};
 ghost use Rattle.std.specs.Vec.{vec_capacity};
 ghost use Rattle.lr_rules.specs.Path.{parent_of};
 ghost use Rattle.lr_host.specs.Opening.{IsJournal};
@@ -10,7 +10,7 @@ ghost use Rattle.lr_host.specs.Counted.{AddsFaults};
 ghost use Rattle.lr_rotations.specs.AllTurns.{IsWholeRun};
 ghost use Rattle.lr_fields.specs.Built.{AreBuiltRules};
 ghost use Rattle.lr_run.specs.Internal.{RunsOn, StopsSo, dir_fault_of};
-ghost use Rattle.lr_run.specs.Runs.{Answers};
+ghost use Rattle.lr_run.specs.Answers.{Answers};
 ghost use Rattle.lr_run.specs.State.{IsNewText};
 
 use crate::answer::{Ran, RunStop};
@@ -18,7 +18,7 @@ use crate::directory::{DirStop, dir_fault, look_for_dir};
 use crate::locked::begin_to_end;
 use lr_acts::Progress;
 use lr_host::Host;
-use lr_plan::Settings;
+use lr_plan::{Plan, Settings};
 use lr_rules::{Clock, Fault, Memory, Path, Rules};
 use std::alloc::Global;
 
@@ -56,14 +56,16 @@ fn make_run<H: Host>(
     settings: &Settings,
     clock: &Clock,
     names: Names,
+    reached: &mut Option<Plan>,
     progress: &mut Progress,
 ) -> Result<(), RunStop>
     requires built { AreBuiltRules rules.now.sets }
+    requires none { reached.old ≡ None }
     requires disk { WhereTold (H.told host.old) IsJournal }
     requires dir { names.dir ≡ parent_of settings.now.state }
     requires state { names.state ≡ settings.now.state }
     requires room { vec_len progress.old.faults + 2 ≤ vec_capacity progress.old.faults }
-    ensures told { OnOk result (Left (RunsOn settings.now.state settings.now.force clock.entry.now.now rules.now progress.old.faults.items progress.new.faults.items) (H.told host.old) (H.told host.new)) }
+    ensures told { OnOk result (Left (RunsOn settings.now.state settings.now.force clock.entry.now.now rules.now reached.new progress.old.faults.items progress.new.faults.items) (H.told host.old) (H.told host.new)) }
     ensures stopped { IfErr result (λ why. Left (StopsSo settings.now.state settings.now.force clock.entry.now.now rules.now why) (H.told host.old) (H.told host.new)) }
     ensures held { result ≡ Err RunStop.Held → Rose (H.counts host.old).held (H.counts host.new).held }
     ensures room { OnOk result (vec_len progress.new.faults + 1 ≤ vec_capacity progress.new.faults) }
@@ -73,7 +75,9 @@ fn make_run<H: Host>(
     match look_for_dir(host, &names.dir) {
         Ok(()) => {
             let Names { state, .. } = names;
-            begin_to_end(alloc, host, rules, settings, clock, state, progress)
+            begin_to_end(
+                alloc, host, rules, settings, clock, state, reached, progress,
+            )
         }
         Err(why) => {
             add_dir_fault(&mut progress.faults, why, names);
@@ -82,13 +86,9 @@ fn make_run<H: Host>(
     }
 }
 
-/// Makes one run: looks at the state's directory, takes the lock, reads the state, looks at the logs that the rules ask
-/// for, carries out the plan that follows, writes the state, and gives the lock back. Each fault leaves the answer Ok. All
-/// memory but that of programs is taken before the first change; where there is none, the run ends with no change. Where
-/// there is none for a program, the acts end there, and the state is not written. A journal that the host tells has to be
-/// one of a disk. Where nothing is known of the state, no log is looked at; where its text could become longer than
-/// 67,108,864 bytes, nothing is changed.
-pub fn run<H: Host>(
+/// Makes a run that acts: looks at the state's directory, takes the lock, reads the state, looks at the logs that the rules
+/// ask for, carries out the plan that follows, writes the state, and gives the lock back.
+pub fn real_run<H: Host>(
     alloc: Global,
     rules: &Rules,
     settings: &Settings,
@@ -100,7 +100,7 @@ pub fn run<H: Host>(
     requires disk { WhereTold (H.told host.old) IsJournal }
     ensures safe { KeepsSafe (H.told host.old) (H.told host.new) }
     ensures state { KeepsWhole settings.now.state (IsNewText settings.now.state clock.entry.now.now settings.now.force rules.now) (H.told host.old) (H.told host.new) }
-    ensures told { Left (Answers settings.now.state settings.now.force clock.entry.now.now rules.now earlier.items result) (H.told host.old) (H.told host.new) }
+    ensures told { Left (Answers settings.now.state false settings.now.force clock.entry.now.now rules.now earlier.items result) (H.told host.old) (H.told host.new) }
     ensures shape { Left IsWholeRun (H.told host.old) (H.told host.new) }
     ensures counted { IfOk result (λ ran. AddsFaults earlier.items ran.faults.items (H.counts host.old) (H.counts host.new)) }
     ensures held { result ≡ Err RunStop.Held → Rose (H.counts host.old).held (H.counts host.new).held }
@@ -117,10 +117,23 @@ pub fn run<H: Host>(
     let Ok(()) = progress.faults.reserve(2) else {
         return Err(RunStop::Memory);
     };
-    match make_run(alloc, host, rules, settings, clock, names, &mut progress) {
+    let mut reached = None;
+    match make_run(
+        alloc,
+        host,
+        rules,
+        settings,
+        clock,
+        names,
+        &mut reached,
+        &mut progress,
+    ) {
         Ok(()) => {
             let Progress { faults, .. } = progress;
-            Ok(Ran { faults })
+            Ok(Ran {
+                plan: reached,
+                faults,
+            })
         }
         Err(why) => Err(why),
     }

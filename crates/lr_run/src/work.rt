@@ -1,5 +1,5 @@
 // What stands between the begin of a run and its end: the state, the looks, the plan, its acts, and the state's writing.
-ghost use Rattle.std.specs.Prelude.{◌≡◌, ◌+◌, ◌≤◌, ◌++◌, ◌∷◌, [], OnOk, OnErr, vec_len};
+ghost use Rattle.std.specs.Prelude.{◌≡◌, ◌+◌, ◌≤◌, ◌++◌, ◌∷◌, [], None, OnOk, OnErr, vec_len};
 ghost use Rattle.std.specs.Vec.{vec_capacity};
 ghost use Rattle.lr_rules.specs.declared.fault.Fault.TheVariants as fault;
 ghost use Rattle.lr_rules.specs.declared.fault.StateKind.TheVariants as kind;
@@ -20,13 +20,13 @@ use crate::ready::make_ready;
 use lr_acts::Progress;
 use lr_host::Host;
 use lr_looks::look_all;
-use lr_plan::{Looks, Settings, plan};
+use lr_plan::{Looks, Plan, Settings, plan};
 use lr_reading::{Remembered, part_path};
 use lr_rules::{Clock, Fault, Memory, Path, Rules, StateKind};
 use std::alloc::Global;
 
-// Adds the fault of a text that could become too big to be written.
-fn add_too_big(faults: &mut Vec<Fault>) -> Result<(), Memory>
+/// Adds the fault of a text that could become too big to be written.
+pub fn add_too_big(faults: &mut Vec<Fault>) -> Result<(), Memory>
     ensures faults { OnOk result (faults.new.items ≡ faults.old.items ++ fault.State 0 kind.TooBig ∷ []) }
     ensures room { OnOk result (vec_len faults.new + 1 ≤ vec_capacity faults.new) }
 {
@@ -38,7 +38,8 @@ fn add_too_big(faults: &mut Vec<Fault>) -> Result<(), Memory>
     Ok(())
 }
 
-// Plans, and carries the plan out; or tells that the text of the state could become too big.
+// Plans, and carries the plan out, which is then the one that was reached; or tells that the text of the state could become
+// too big. A plan is taken apart into its steps, so it is made twice.
 fn plan_and_act<H: Host>(
     alloc: Global,
     host: &mut H,
@@ -48,18 +49,21 @@ fn plan_and_act<H: Host>(
     looks: &Looks,
     part: Path,
     remembered: Remembered,
+    reached: &mut Option<Plan>,
     progress: &mut Progress,
 ) -> Result<(), Memory>
     requires built { AreBuiltRules rules.now.sets }
+    requires none { reached.old ≡ None }
     requires rules { CanPlanAll rules.now.sets looks.now.sets }
     requires part { part ≡ state_part settings.now.state }
     requires seen { SeenBefore settings.now.state rules.now looks.now remembered (H.told host.old) }
-    ensures told { OnOk result (Carries rules.now looks.now settings.now.state remembered clock.entry.now.now settings.now.force progress.old.faults.items progress.new.faults.items (H.told host.old) (H.told host.new)) }
+    ensures told { OnOk result (Carries rules.now looks.now settings.now.state remembered clock.entry.now.now settings.now.force reached.new progress.old.faults.items progress.new.faults.items (H.told host.old) (H.told host.new)) }
     ensures some { OnErr result (Left (EndsBehindLooks rules.now looks.now settings.now.state remembered clock.entry.now.now settings.now.force) (H.told host.old) (H.told host.new)) }
     ensures room { OnOk result (vec_len progress.new.faults + 1 ≤ vec_capacity progress.new.faults) }
     ensures counted { OnOk result (AddsFaults progress.old.faults.items progress.new.faults.items (H.counts host.old) (H.counts host.new)) }
     ensures counts { Onward (H.counts host.old) (H.counts host.new) }
 {
+    let told = plan(alloc, rules, looks, &remembered.table, clock, settings)?;
     let plan = plan(alloc, rules, looks, &remembered.table, clock, settings)?;
     let kept = looks.kept.as_slice();
     match make_ready(
@@ -72,7 +76,10 @@ fn plan_and_act<H: Host>(
         remembered,
         progress,
     )? {
-        Some(ready) => carry_out(alloc, host, ready, &clock.now.civil, progress),
+        Some(ready) => {
+            *reached = Some(told);
+            carry_out(alloc, host, ready, &clock.now.civil, progress)
+        }
         None => add_too_big(&mut progress.faults),
     }
 }
@@ -86,12 +93,14 @@ fn look_and_act<H: Host>(
     clock: &Clock,
     part: Path,
     remembered: Remembered,
+    reached: &mut Option<Plan>,
     progress: &mut Progress,
 ) -> Result<(), Memory>
     requires built { AreBuiltRules rules.now.sets }
+    requires none { reached.old ≡ None }
     requires part { part ≡ state_part settings.now.state }
     requires known { KnownBefore settings.now.state remembered (H.told host.old) }
-    ensures told { OnOk result (LookedDone settings.now.state rules.now.sets clock.entry.now.now settings.now.force remembered progress.old.faults.items progress.new.faults.items (H.told host.old) (H.told host.new)) }
+    ensures told { OnOk result (LookedDone settings.now.state rules.now.sets clock.entry.now.now settings.now.force remembered reached.new progress.old.faults.items progress.new.faults.items (H.told host.old) (H.told host.new)) }
     ensures some { OnErr result (Left (EndsBehindState settings.now.state rules.now.sets clock.entry.now.now settings.now.force remembered) (H.told host.old) (H.told host.new)) }
     ensures room { OnOk result (vec_len progress.new.faults + 1 ≤ vec_capacity progress.new.faults) }
     ensures counted { OnOk result (AddsFaults progress.old.faults.items progress.new.faults.items (H.counts host.old) (H.counts host.new)) }
@@ -100,7 +109,7 @@ fn look_and_act<H: Host>(
     let reserved = reserved_paths(alloc, &settings.state)?;
     let looks = look_all(alloc, host, rules, &reserved, &mut progress.faults)?;
     plan_and_act(
-        alloc, host, rules, settings, clock, &looks, part, remembered, progress,
+        alloc, host, rules, settings, clock, &looks, part, remembered, reached, progress,
     )
 }
 
@@ -113,21 +122,23 @@ fn add_unknown(faults: &mut Vec<Fault>, fault: Fault)
     faults.push_reserved(fault);
 }
 
-/// Reads the state, looks at the logs, and carries the plan out that follows from both. All memory but that of programs is
-/// taken before the first act.
+/// Reads the state, looks at the logs, and carries the plan out that follows from both, which is then the one that was
+/// reached. All memory but that of programs is taken before the first act.
 pub fn work<H: Host>(
     alloc: Global,
     host: &mut H,
     rules: &Rules,
     settings: &Settings,
     clock: &Clock,
+    reached: &mut Option<Plan>,
     progress: &mut Progress,
 ) -> Result<(), Memory>
     requires built { AreBuiltRules rules.now.sets }
+    requires none { reached.old ≡ None }
     requires disk { WhereTold (H.told host.old) IsJournal }
     requires dir { Can (H.told host.old) (entry.List (parent_of settings.now.state) []) }
     requires room { vec_len progress.old.faults + 2 ≤ vec_capacity progress.old.faults }
-    ensures told { OnOk result (WorkDone settings.now.state rules.now.sets clock.entry.now.now settings.now.force progress.old.faults.items progress.new.faults.items (H.told host.old) (H.told host.new)) }
+    ensures told { OnOk result (WorkDone settings.now.state rules.now.sets clock.entry.now.now settings.now.force reached.new progress.old.faults.items progress.new.faults.items (H.told host.old) (H.told host.new)) }
     ensures some { OnErr result (Left (SomeWork settings.now.state rules.now.sets clock.entry.now.now settings.now.force) (H.told host.old) (H.told host.new)) }
     ensures room { OnOk result (vec_len progress.new.faults + 1 ≤ vec_capacity progress.new.faults) }
     ensures counted { OnOk result (AddsFaults progress.old.faults.items progress.new.faults.items (H.counts host.old) (H.counts host.new)) }
@@ -137,7 +148,7 @@ pub fn work<H: Host>(
     match known_state(alloc, host, &settings.state, &part)? {
         Ok(remembered) => {
             look_and_act(
-                alloc, host, rules, settings, clock, part, remembered, progress,
+                alloc, host, rules, settings, clock, part, remembered, reached, progress,
             )
         }
         Err(fault) => {

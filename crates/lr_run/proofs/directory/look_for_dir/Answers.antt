@@ -1,12 +1,11 @@
-use Rattle.std.proofs.Common.{sym, subst}
-use Rattle.lr_host.specs.Looks.{IsDir, IsNotDir}
+use Rattle.lr_host.specs.Looks.{IsDir, IsNoDir, IsNothing}
 use Rattle.lr_family.proofs.Looking.{sees}
 use Rattle.lr_family.proofs.Whole.{can_list, is_dir_seen}
 use Rattle.lr_run.proofs.Sights.{file_not_dir, other_not_dir}
 use Rattle.lr_run.proofs.directory.look_for_dir.Goals as goal
 
 pub returns-in_default-look-clause-stopped : goal.returns-in_default-look-clause-stopped
-returns-in_default-look-clause-stopped g c = sees c.args.dir.now IsNotDir c.in-Ok.look c.in-Ok.ensures.told (subst IsNotDir (sym c.in_default-look.is) tt)
+returns-in_default-look-clause-stopped g c = sees c.args.dir.now IsNothing c.in-Ok.look c.in-Ok.ensures.told c.in_default-look.is
 
 pub returns-in-Dir-clause-told : goal.returns-in-Dir-clause-told
 returns-in-Dir-clause-told g c = sees c.args.dir.now IsDir c.in-Ok.look c.in-Ok.ensures.told (is_dir_seen c.in-Ok.look c.in-Some.seen c.in-Some.is c.in-Dir.is)
@@ -15,7 +14,7 @@ pub returns-in-Dir-clause-there : goal.returns-in-Dir-clause-there
 returns-in-Dir-clause-there g c = can_list c.args.dir.now c.in-Ok.look c.in-Some.seen c.in-Ok.ensures.told c.in-Some.is c.in-Dir.is
 
 pub returns-in-File-clause-stopped : goal.returns-in-File-clause-stopped
-returns-in-File-clause-stopped g c = sees c.args.dir.now IsNotDir c.in-Ok.look c.in-Ok.ensures.told (file_not_dir c.in-Ok.look c.in-Some.seen c.in-Some.is c.in-File.is)
+returns-in-File-clause-stopped g c = sees c.args.dir.now IsNoDir c.in-Ok.look c.in-Ok.ensures.told (file_not_dir c.in-Ok.look c.in-Some.seen c.in-Some.is c.in-File.is)
 
 pub returns-in-Other-clause-stopped : goal.returns-in-Other-clause-stopped
-returns-in-Other-clause-stopped g c = sees c.args.dir.now IsNotDir c.in-Ok.look c.in-Ok.ensures.told (other_not_dir c.in-Ok.look c.in-Some.seen c.in-Some.is c.in-Other.is)
+returns-in-Other-clause-stopped g c = sees c.args.dir.now IsNoDir c.in-Ok.look c.in-Ok.ensures.told (other_not_dir c.in-Ok.look c.in-Some.seen c.in-Some.is c.in-Other.is)

@@ -17,7 +17,7 @@ pub work_to_end-requires-clause-on : goal.work_to_end-requires-clause-on
 work_to_end-requires-clause-on g c = is_on c.args.settings.now.state c.args.clock.now.now c.args.rules.now (began c.args.settings.now.state c.args.clock.now.now c.args.rules.now c.in-Ok-true.field-0 c.in-Ok-true.field-0-test c.in-Ok-true.ensures.told)
 
 pub returns-in-Ok-clause-told : goal.returns-in-Ok-clause-told
-returns-in-Ok-clause-told g c = goes c.args.settings.now.state c.args.settings.now.force c.args.clock.now.now c.args.rules.now c.args.progress.now.faults.items c.work_to_end.new.progress.faults.items
+returns-in-Ok-clause-told g c = goes c.args.settings.now.state c.args.settings.now.force c.args.clock.now.now c.args.rules.now c.work_to_end.new.reached c.args.progress.now.faults.items c.work_to_end.new.progress.faults.items
     (began c.args.settings.now.state c.args.clock.now.now c.args.rules.now c.in-Ok-true.field-0 c.in-Ok-true.field-0-test c.in-Ok-true.ensures.told) c.in-Ok.ensures.told
 
 pub returns-in-Ok-true-clause-stopped : goal.returns-in-Ok-true-clause-stopped
@@ -28,4 +28,4 @@ pub returns-in-Ok-false-clause-stopped : goal.returns-in-Ok-false-clause-stopped
 returns-in-Ok-false-clause-stopped g c = locked c.args.settings.now.state c.args.settings.now.force c.args.clock.now.now c.args.rules.now c.in-Ok-false.field-0 c.in-Ok-false.field-0-test c.in-Ok-false.ensures.told
 
 pub returns-clause-told : goal.returns-clause-told
-returns-clause-told g c = goes_not c.args.settings.now.state c.args.settings.now.force c.args.clock.now.now c.args.rules.now c.args.name c.args.progress.now.faults.items c.add_not_begun.new.faults.items c.requires.name c.add_not_begun.ensures.faults c.in-Err.ensures.told
+returns-clause-told g c = goes_not c.args.settings.now.state c.args.settings.now.force c.args.clock.now.now c.args.rules.now c.args.reached.now c.args.name c.args.progress.now.faults.items c.add_not_begun.new.faults.items c.requires.none c.requires.name c.add_not_begun.ensures.faults c.in-Err.ensures.told

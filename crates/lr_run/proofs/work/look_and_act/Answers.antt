@@ -16,7 +16,7 @@ pub plan_and_act-requires-clause-rules : goal.plan_and_act-requires-clause-rules
 plan_and_act-requires-clause-rules g c = can_plan c.args.rules.now.sets c.in_ok-looks.looks.sets c.requires.built c.args.rules.now.limits c.in_ok-looks.ensures.ready c.in_ok-looks.ensures.many
 
 pub returns-clause-told : goal.returns-clause-told
-returns-clause-told g c = looked_done c.plan_and_act.result c.args.settings.now.state c.args.rules.now c.in_ok-looks.looks c.args.remembered c.args.clock.now.now c.args.settings.now.force c.args.progress.now.faults.items c.look_all.new.faults.items c.plan_and_act.new.progress.faults.items _
+returns-clause-told g c = looked_done c.plan_and_act.result c.args.settings.now.state c.args.rules.now c.in_ok-looks.looks c.args.remembered c.args.clock.now.now c.args.settings.now.force c.plan_and_act.new.reached c.args.progress.now.faults.items c.look_all.new.faults.items c.plan_and_act.new.progress.faults.items _
     (rw (c.deref.ensures.value ∙ c.in_ok-reserved.ensures) at c.in_ok-looks.ensures.told) c.plan_and_act.ensures.told
 
 pub returns-clause-some : goal.returns-clause-some

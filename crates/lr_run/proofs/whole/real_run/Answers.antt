@@ -1,16 +1,17 @@
-use Rattle.std.proofs.Common.{[], Ok, Err, refl}
+use Rattle.std.proofs.Common.{[], false, Ok, Err, refl}
 use Rattle.lr_host.proofs.Left.{left_as, left_first}
 use Rattle.lr_rotations.specs.AllTurns.{IsWholeRun}
 use Rattle.lr_rotations.proofs.Safety.{call_safe}
 use Rattle.lr_run.specs.declared.answer.RunStop.TheVariants as stop
-use Rattle.lr_run.specs.Runs.{Answers, at_first}
+use Rattle.lr_run.specs.Answers.{Answers}
+use Rattle.lr_run.specs.Runs.{at_first}
 use Rattle.lr_run.proofs.Parts.{ran_so, stopped_so}
 use Rattle.lr_run.proofs.Shape.{none_run, whole_run}
 use Rattle.lr_run.proofs.Renewing.{run_whole}
-use Rattle.lr_run.proofs.whole.run.Goals as goal
+use Rattle.lr_run.proofs.whole.real_run.Goals as goal
 
 pub returns-in_default-clause-told : goal.returns-in_default-clause-told
-returns-in_default-clause-told g c = left_first (Answers c.args.settings.now.state c.args.settings.now.force c.args.clock.now.now c.args.rules.now c.args.earlier.items (Err stop.Memory)) _ (at_first refl)
+returns-in_default-clause-told g c = left_first (Answers c.args.settings.now.state false c.args.settings.now.force c.args.clock.now.now c.args.rules.now c.args.earlier.items (Err stop.Memory)) _ (at_first refl)
 
 pub returns-in_default-clause-shape : goal.returns-in_default-clause-shape
 returns-in_default-clause-shape g c = left_first IsWholeRun _ (none_run [] refl)
@@ -19,7 +20,7 @@ pub returns-in_default-clause-safe : goal.returns-in_default-clause-safe
 returns-in_default-clause-safe g c = call_safe _ _ (left_first IsWholeRun _ (none_run [] refl))
 
 pub returns-in_default-reserve-clause-told : goal.returns-in_default-reserve-clause-told
-returns-in_default-reserve-clause-told g c = left_first (Answers c.args.settings.now.state c.args.settings.now.force c.args.clock.now.now c.args.rules.now c.args.earlier.items (Err stop.Memory)) _ (at_first refl)
+returns-in_default-reserve-clause-told g c = left_first (Answers c.args.settings.now.state false c.args.settings.now.force c.args.clock.now.now c.args.rules.now c.args.earlier.items (Err stop.Memory)) _ (at_first refl)
 
 pub returns-in_default-reserve-clause-shape : goal.returns-in_default-reserve-clause-shape
 returns-in_default-reserve-clause-shape g c = left_first IsWholeRun _ (none_run [] refl)
@@ -28,10 +29,10 @@ pub returns-in_default-reserve-clause-safe : goal.returns-in_default-reserve-cla
 returns-in_default-reserve-clause-safe g c = call_safe _ _ (left_first IsWholeRun _ (none_run [] refl))
 
 pub returns-in-Ok-make_run-clause-told : goal.returns-in-Ok-make_run-clause-told
-returns-in-Ok-make_run-clause-told g c = ran_so c.args.settings.now.state c.args.settings.now.force c.args.clock.now.now c.args.rules.now c.args.earlier.items c.reserve.new.self.items (record { faults = c.make_run.new.progress.faults }) c.reserve.ensures.items c.in-Ok-make_run.ensures.told
+returns-in-Ok-make_run-clause-told g c = ran_so c.args.settings.now.state c.args.settings.now.force c.args.clock.now.now c.args.rules.now c.args.earlier.items c.reserve.new.self.items (record { plan = c.make_run.new.reached; faults = c.make_run.new.progress.faults }) c.reserve.ensures.items c.in-Ok-make_run.ensures.told
 
 pub returns-in-Ok-make_run-clause-shape : goal.returns-in-Ok-make_run-clause-shape
-returns-in-Ok-make_run-clause-shape g c = left_as (returns-in-Ok-make_run-clause-told g c) (λ ts h. whole_run c.args.settings.now.state c.args.settings.now.force c.args.clock.now.now c.args.rules.now c.args.earlier.items (Ok (record { faults = c.make_run.new.progress.faults })) ts c.requires.built h)
+returns-in-Ok-make_run-clause-shape g c = left_as (returns-in-Ok-make_run-clause-told g c) (λ ts h. whole_run c.args.settings.now.state c.args.settings.now.force c.args.clock.now.now c.args.rules.now c.args.earlier.items (Ok (record { plan = c.make_run.new.reached; faults = c.make_run.new.progress.faults })) ts c.requires.built h)
 
 pub returns-in-Ok-make_run-clause-safe : goal.returns-in-Ok-make_run-clause-safe
 returns-in-Ok-make_run-clause-safe g c = call_safe _ _ (returns-in-Ok-make_run-clause-shape g c)
@@ -52,7 +53,7 @@ pub returns-in_default-reserve-clause-state : goal.returns-in_default-reserve-cl
 returns-in_default-reserve-clause-state g c = run_whole c.args.settings.now.state c.args.settings.now.force c.args.clock.now.now c.args.rules.now c.args.earlier.items (Err stop.Memory) c.requires.built (returns-in_default-reserve-clause-told g c)
 
 pub returns-in-Ok-make_run-clause-state : goal.returns-in-Ok-make_run-clause-state
-returns-in-Ok-make_run-clause-state g c = run_whole c.args.settings.now.state c.args.settings.now.force c.args.clock.now.now c.args.rules.now c.args.earlier.items (Ok (record { faults = c.make_run.new.progress.faults })) c.requires.built (returns-in-Ok-make_run-clause-told g c)
+returns-in-Ok-make_run-clause-state g c = run_whole c.args.settings.now.state c.args.settings.now.force c.args.clock.now.now c.args.rules.now c.args.earlier.items (Ok (record { plan = c.make_run.new.reached; faults = c.make_run.new.progress.faults })) c.requires.built (returns-in-Ok-make_run-clause-told g c)
 
 pub returns-in-Err-clause-state : goal.returns-in-Err-clause-state
 returns-in-Err-clause-state g c = run_whole c.args.settings.now.state c.args.settings.now.force c.args.clock.now.now c.args.rules.now c.args.earlier.items (Err c.in-Err.why) c.requires.built (returns-in-Err-clause-told g c)

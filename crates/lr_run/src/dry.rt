@@ -1,0 +1,229 @@
+// A dry run: it looks, and plans, and leaves all as it is.
+ghost use Rattle.std.specs.Prelude.{◌≡◌, ◌≢◌, ◌+◌, ◌≤◌, ◌++◌, ◌∷◌, [], List, true, Err, IfOk, OnOk, OnErr, length, nat_le, vec_len};
+ghost use Rattle.std.specs.Vec.{vec_capacity};
+ghost use Rattle.lr_rules.specs.declared.civil.Moment.{Moment};
+ghost use Rattle.lr_rules.specs.declared.fault.Fault.{Fault};
+ghost use Rattle.lr_rules.specs.Path.{parent_of};
+ghost use Rattle.lr_host.specs.Counted.{AddsFaults};
+ghost use Rattle.lr_host.specs.Told.{Left, Onward};
+ghost use Rattle.lr_fields.specs.Built.{AreBuiltRules};
+ghost use Rattle.lr_looks.specs.Shown.{ShowsSomeLooks};
+ghost use Rattle.lr_plan.specs.Planned.{CanPlanAll};
+ghost use Rattle.lr_seen.specs.Free.{reserved_by};
+ghost use Rattle.lr_run.specs.Answers.{Answers};
+ghost use Rattle.lr_run.specs.Dry.{Follows, LacksTry, measured_by};
+ghost use Rattle.lr_run.specs.Internal.{PlansOn, PlansByOn, TriesOn, plan_if, faults_if};
+ghost use Rattle.lr_run.specs.Runs.{SomeSeen};
+
+use crate::answer::{Ran, RunStop};
+use crate::directory::{DirStop, dir_fault, look_for_dir};
+use crate::known::known_state;
+use crate::paths::reserved_paths;
+use crate::ready::{add_all, bring_up_to};
+use crate::work::add_too_big;
+use lr_host::Host;
+use lr_looks::look_all;
+use lr_plan::{Looks, Plan, Settings, plan};
+use lr_reading::part_path;
+use lr_rules::{Civil, Clock, Fault, Memory, Path, Rules};
+use lr_state::State;
+use std::alloc::Global;
+
+// Adds a fault for which there is room.
+fn add_fault(faults: &mut Vec<Fault>, fault: Fault)
+    requires { vec_len faults.old + 2 ≤ vec_capacity faults.old }
+    ensures faults { faults.new.items ≡ faults.old.items ++ fault ∷ [] }
+    ensures room { vec_len faults.new + 1 ≤ vec_capacity faults.new }
+{
+    faults.push_reserved(fault);
+}
+
+// Whether the text of the state that a plan would leave is small enough, however its rotations end.
+fn is_small(
+    alloc: Global,
+    table: State,
+    kept: &[Path],
+    plan: &Plan,
+    now: &Civil,
+) -> Result<bool, Memory>
+    ensures { (at : Moment) → at.civil ≡ now.now → IfOk result (λ b. b ≡ nat_le (length (measured_by plan.now table kept.now at)) 67_108_864) }
+{
+    let mut table = table;
+    bring_up_to(alloc, &mut table, kept, plan, now)
+}
+
+// Adds the faults of a plan, and makes room for one more.
+fn add_planned(faults: &mut Vec<Fault>, plan: Plan) -> Result<(), Memory>
+    ensures faults { OnOk result (faults.new.items ≡ faults.old.items ++ plan.faults) }
+    ensures room { OnOk result (vec_len faults.new + 1 ≤ vec_capacity faults.new) }
+{
+    let Plan { faults: more, .. } = plan;
+    add_all(faults, more)?;
+    faults.reserve(1)?;
+    Ok(())
+}
+
+// The plan, where it is small enough, and else none. What is told of it is added: by the same plan, which is taken apart.
+fn tell(
+    small: bool,
+    plan: Plan,
+    same: Plan,
+    faults: &mut Vec<Fault>,
+) -> Result<Option<Plan>, Memory>
+    requires { same ≡ plan }
+    ensures plan { IfOk result (λ told. told ≡ plan_if small plan) }
+    ensures faults { OnOk result (faults.new.items ≡ faults.old.items ++ faults_if small plan) }
+    ensures room { OnOk result (vec_len faults.new + 1 ≤ vec_capacity faults.new) }
+{
+    if small {
+        add_planned(faults, same)?;
+        Ok(Some(plan))
+    } else {
+        add_too_big(faults)?;
+        Ok(None)
+    }
+}
+
+// Plans by what was seen.
+fn plan_dry(
+    alloc: Global,
+    rules: &Rules,
+    settings: &Settings,
+    clock: &Clock,
+    looks: &Looks,
+    table: State,
+    faults: &mut Vec<Fault>,
+) -> Result<Option<Plan>, Memory>
+    requires { CanPlanAll rules.now.sets looks.now.sets }
+    ensures follows { IfOk result (λ plan. (own : List Fault) × (faults.new.items ≡ faults.old.items ++ own) × Follows rules.now.sets looks.now.sets looks.now.kept table clock.entry.now.now settings.now.force plan own) }
+    ensures room { OnOk result (vec_len faults.new + 1 ≤ vec_capacity faults.new) }
+{
+    let told = plan(alloc, rules, looks, &table, clock, settings)?;
+    let same = plan(alloc, rules, looks, &table, clock, settings)?;
+    let small = is_small(alloc, table, looks.kept.as_slice(), &told, &clock.now.civil)?;
+    tell(small, told, same, faults)
+}
+
+// Looks at the logs, and plans by what was seen and by this table.
+fn look_and_plan<H: Host>(
+    alloc: Global,
+    host: &mut H,
+    rules: &Rules,
+    settings: &Settings,
+    clock: &Clock,
+    table: State,
+    faults: &mut Vec<Fault>,
+) -> Result<Option<Plan>, Memory>
+    requires built { AreBuiltRules rules.now.sets }
+    ensures told { IfOk result (λ plan. Left (PlansOn settings.now.state rules.now.sets table clock.entry.now.now settings.now.force plan faults.old.items faults.new.items) (H.told host.old) (H.told host.new)) }
+    ensures some { OnErr result (Left (ShowsSomeLooks (reserved_by settings.now.state) rules.now.sets) (H.told host.old) (H.told host.new)) }
+    ensures room { OnOk result (vec_len faults.new + 1 ≤ vec_capacity faults.new) }
+    ensures counted { OnOk result (AddsFaults faults.old.items faults.new.items (H.counts host.old) (H.counts host.new)) }
+    ensures counts { Onward (H.counts host.old) (H.counts host.new) }
+{
+    let reserved = reserved_paths(alloc, &settings.state)?;
+    let looks = look_all(alloc, host, rules, &reserved, faults)?;
+    plan_dry(alloc, rules, settings, clock, &looks, table, faults)
+}
+
+// Reads the state, looks at the logs, and plans by both.
+fn read_and_plan<H: Host>(
+    alloc: Global,
+    host: &mut H,
+    rules: &Rules,
+    settings: &Settings,
+    clock: &Clock,
+    faults: &mut Vec<Fault>,
+) -> Result<Option<Plan>, Memory>
+    requires built { AreBuiltRules rules.now.sets }
+    requires room { vec_len faults.old + 2 ≤ vec_capacity faults.old }
+    ensures told { IfOk result (λ plan. Left (PlansByOn settings.now.state rules.now.sets clock.entry.now.now settings.now.force plan faults.old.items faults.new.items) (H.told host.old) (H.told host.new)) }
+    ensures some { OnErr result (Left (SomeSeen settings.now.state rules.now.sets) (H.told host.old) (H.told host.new)) }
+    ensures room { OnOk result (vec_len faults.new + 1 ≤ vec_capacity faults.new) }
+    ensures counted { OnOk result (AddsFaults faults.old.items faults.new.items (H.counts host.old) (H.counts host.new)) }
+    ensures counts { Onward (H.counts host.old) (H.counts host.new) }
+{
+    let part = part_path(alloc, &settings.state)?;
+    match known_state(alloc, host, &settings.state, &part)? {
+        Ok(remembered) => {
+            look_and_plan(
+                alloc,
+                host,
+                rules,
+                settings,
+                clock,
+                remembered.table,
+                faults,
+            )
+        }
+        Err(fault) => {
+            add_fault(faults, fault);
+            Ok(None)
+        }
+    }
+}
+
+// Looks for the state's directory, and makes the dry run. Where nothing stands there, no log has an entry.
+fn try_run<H: Host>(
+    alloc: Global,
+    host: &mut H,
+    rules: &Rules,
+    settings: &Settings,
+    clock: &Clock,
+    dir: Path,
+    faults: &mut Vec<Fault>,
+) -> Result<Option<Plan>, Memory>
+    requires built { AreBuiltRules rules.now.sets }
+    requires dir { dir ≡ parent_of settings.now.state }
+    requires room { vec_len faults.old + 2 ≤ vec_capacity faults.old }
+    ensures told { IfOk result (λ plan. Left (TriesOn settings.now.state rules.now.sets clock.entry.now.now settings.now.force plan faults.old.items faults.new.items) (H.told host.old) (H.told host.new)) }
+    ensures some { OnErr result (Left (LacksTry settings.now.state rules.now.sets) (H.told host.old) (H.told host.new)) }
+    ensures room { OnOk result (vec_len faults.new + 1 ≤ vec_capacity faults.new) }
+    ensures counted { OnOk result (AddsFaults faults.old.items faults.new.items (H.counts host.old) (H.counts host.new)) }
+    ensures counts { Onward (H.counts host.old) (H.counts host.new) }
+{
+    match look_for_dir(host, &dir) {
+        Ok(()) => read_and_plan(alloc, host, rules, settings, clock, faults),
+        Err(DirStop::Nothing) => {
+            let table = State::new(alloc);
+            look_and_plan(alloc, host, rules, settings, clock, table, faults)
+        }
+        Err(DirStop::NoDir) => {
+            add_fault(faults, dir_fault(DirStop::NoDir, dir));
+            Ok(None)
+        }
+        Err(DirStop::Call) => {
+            add_fault(faults, dir_fault(DirStop::Call, dir));
+            Ok(None)
+        }
+    }
+}
+
+/// Makes a dry run: looks at the state's directory, reads the state, looks at the logs that the rules ask for, and plans.
+pub fn dry_run<H: Host>(
+    alloc: Global,
+    rules: &Rules,
+    settings: &Settings,
+    clock: &Clock,
+    earlier: Vec<Fault>,
+    host: &mut H,
+) -> Result<Ran, RunStop>
+    requires built { AreBuiltRules rules.now.sets }
+    ensures told { Left (Answers settings.now.state true settings.now.force clock.entry.now.now rules.now earlier.items result) (H.told host.old) (H.told host.new) }
+    ensures counted { IfOk result (λ ran. AddsFaults earlier.items ran.faults.items (H.counts host.old) (H.counts host.new)) }
+    ensures held { result ≢ Err RunStop.Held }
+    ensures room { IfOk result (λ ran. vec_len ran.faults + 1 ≤ vec_capacity ran.faults) }
+    ensures counts { Onward (H.counts host.old) (H.counts host.new) }
+{
+    let Ok(dir) = settings.state.parent(alloc) else {
+        return Err(RunStop::Memory);
+    };
+    let mut faults = earlier;
+    let Ok(()) = faults.reserve(2) else {
+        return Err(RunStop::Memory);
+    };
+    match try_run(alloc, host, rules, settings, clock, dir, &mut faults) {
+        Ok(plan) => Ok(Ran { plan, faults }),
+        Err(_) => Err(RunStop::Memory),
+    }
+}
