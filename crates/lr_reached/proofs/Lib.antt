@@ -9,6 +9,7 @@ mod Planned
 pub mod Reached
 pub mod Standing
 pub mod Start
+pub mod Tried
 mod Words
 mod Worked
 mod Written

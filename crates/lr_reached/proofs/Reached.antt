@@ -1,5 +1,5 @@
 -- A run reached its plan exactly where it saw its state and none of its faults ends a run.
-use Rattle.std.proofs.Common.{◌≡◌, ◌⊎◌, inl, inr, ⊎_elim, Bool, List, [], ◌∷◌, ◌++◌, reverse, refl, sym, ap, ◌∙◌, subst}
+use Rattle.std.proofs.Common.{◌≡◌, ◌⊎◌, inl, inr, ⊎_elim, Bool, List, [], ◌∷◌, ◌++◌, Option, reverse, refl, sym, ap, ◌∙◌, subst}
 use Rattle.std.specs.Prelude.{◌↔◌}
 use Rattle.std.proofs.lemmas.List.{reverse-reverse}
 use Rattle.lr_rules.specs.declared.civil.Moment.{Moment}
@@ -19,6 +19,7 @@ use Rattle.lr_host.specs.World.{Past}
 use Rattle.lr_host.proofs.Lists.{in_append, in_front}
 use Rattle.lr_host.proofs.Quiet.{sees_quiet}
 use Rattle.lr_plan.specs.Outcomes.{Maybe}
+use Rattle.lr_plan.specs.declared.planned.Plan.{Plan}
 use Rattle.lr_fields.specs.Built.{AreBuiltRules}
 use Rattle.lr_run.specs.Runs.{Inside, Worked, Works, not_known, too_big, worked, Runs, no_directory, not_seen, not_begun, began}
 use Rattle.lr_reached.specs.Ending.{EndsRun, NoneEnds, MayEnd, SaysWhy}
@@ -56,10 +57,10 @@ before_end state us s = record { part = (s.part.0, look (in_append (entry.Look _
     read (inr (inl e)) = absurd (cc)
     read (inr (inr none)) = absurd none
 
-works_reached : (state : Path) (rules : List Rule) (now : Moment) (force : Bool) (own : List Fault) (ts : List Entry) → Works state rules now force own ts → Worked state rules now force own ts ⊎ Unreached state own (ts ++ entry.Ends ∷ [])
-works_reached state rules now force own ts (not_known sights f k is s) = inr (record { before = []; last = f; own_are = is; ends = ⊎_elim (λ ends. inl ends) (λ may. inr (refl, may.0, λ saw. may.1 (before_end state ts saw))) (state_why state 65_536 sights f ts k s) })
-works_reached state rules now force own ts (too_big l big is nothing) = inr (record { before = l.of_looks; last = fault.State 0 kind.TooBig; own_are = is; ends = inl tt })
-works_reached state rules now force own ts (worked w) = inl w
+works_reached : (state : Path) (rules : List Rule) (now : Moment) (force : Bool) (plan : Option Plan) (own : List Fault) (ts : List Entry) → Works state rules now force plan own ts → Worked state rules now force own ts ⊎ Unreached state own (ts ++ entry.Ends ∷ [])
+works_reached state rules now force plan own ts (not_known sights f k lost is s) = inr (record { before = []; last = f; own_are = is; ends = ⊎_elim (λ ends. inl ends) (λ may. inr (refl, may.0, λ saw. may.1 (before_end state ts saw))) (state_why state 65_536 sights f ts k s) })
+works_reached state rules now force plan own ts (too_big l big lost is nothing) = inr (record { before = l.of_looks; last = fault.State 0 kind.TooBig; own_are = is; ends = inl tt })
+works_reached state rules now force plan own ts (worked w is) = inl w
 
 -- one that worked saw the state
 worked_saw : (state : Path) (rules : List Rule) (now : Moment) (force : Bool) (own : List Fault) (ts : List Entry) → Worked state rules now force own ts → SawState state ts
@@ -77,14 +78,14 @@ not_begun_behind : (state : Path) (now : Moment) (rules : Rules) (ts : List Entr
 not_begun_behind state now rules ts (inl e) = ap behind_start e
 not_begun_behind state now rules ts (inr e) = ap behind_start e
 
-pub run_reached : (state : Path) (force : Bool) (now : Moment) (rules : Rules) (own : List Fault) (ts : List Entry) → Runs state force now rules own ts → IsReached state force now rules own ts ⊎ Unreached state own (behind_start ts)
-run_reached state force now rules own ts (no_directory is s) = inr (record { before = []; last = fault.NoDir (parent_of state); own_are = is; ends = inl refl })
-run_reached state force now rules own ts (not_seen is none) = inr (record { before = []; last = fault.Call call.Look (parent_of state); own_are = is; ends = inr (refl, inl (parent_of state, inl refl, refl), λ saw. unseen state (behind_start ts) (ap behind_start none) saw) })
-run_reached state force now rules own ts (not_begun is t) = inr (record { before = []; last = fault.Call call.Begin state; own_are = is; ends = inl tt })
-run_reached state force now rules own ts (began i) = ⊎_elim
+pub run_reached : (state : Path) (force : Bool) (now : Moment) (rules : Rules) (plan : Option Plan) (own : List Fault) (ts : List Entry) → Runs state force now rules plan own ts → IsReached state force now rules own ts ⊎ Unreached state own (behind_start ts)
+run_reached state force now rules plan own ts (no_directory lost is s) = inr (record { before = []; last = fault.NoDir (parent_of state); own_are = is; ends = inl refl })
+run_reached state force now rules plan own ts (not_seen lost is none) = inr (record { before = []; last = fault.Call call.Look (parent_of state); own_are = is; ends = inr (refl, inl (parent_of state, inl refl, refl), λ saw. unseen state (behind_start ts) (ap behind_start none) saw) })
+run_reached state force now rules plan own ts (not_begun lost is t) = inr (record { before = []; last = fault.Call call.Begin state; own_are = is; ends = inl tt })
+run_reached state force now rules plan own ts (began i) = ⊎_elim
     (λ w. inl (record { before = i.before; between = i.between; entries = i.entries; directory = i.directory; within = w }))
     (λ u. inr (subst (Unreached state own) (sym (begun_behind state now rules _ ts i)) u))
-    (works_reached state rules.sets now force own i.between i.within)
+    (works_reached state rules.sets now force plan own i.between i.within)
 
 pub reached_saw : (state : Path) (force : Bool) (now : Moment) (rules : Rules) (own : List Fault) (ts : List Entry) → IsReached state force now rules own ts → SawState state (behind_start ts)
 reached_saw state force now rules own ts i = subst (SawState state) (sym (begun_behind state now rules _ ts i))
@@ -103,19 +104,19 @@ in_order p q es made = subst (λ us. Made p us q) (sym (reverse-reverse es)) mad
 ends_not : (state : Path) (own : List Fault) (us : List Entry) → (u : Unreached state own us) → NoneEnds state own → EndsRun state u.last → ⊥
 ends_not state own us u none ends = last_ends state u.before u.last (subst (NoneEnds state) u.own_are none) ends
 
-pub reached : (state : Path) (force : Bool) (now : Moment) (rules : Rules) (own : List Fault) (p q : Past) (es : List Entry) → AreBuiltRules rules.sets → Made p es q → Runs state force now rules own (reverse es)
+pub reached : (state : Path) (force : Bool) (now : Moment) (rules : Rules) (plan : Option Plan) (own : List Fault) (p q : Past) (es : List Entry) → AreBuiltRules rules.sets → Made p es q → Runs state force now rules plan own (reverse es)
     → IsReached state force now rules own (reverse es) ↔ (SawState state (behind_start (reverse es)) × NoneEnds state own)
-reached state force now rules own p q es built made r = (
+reached state force now rules plan own p q es built made r = (
   λ i. (reached_saw state force now rules own (reverse es) i, reached_none state force now rules own p q (reverse es) built (in_order p q es made) i),
-  λ b. ⊎_elim (λ i. i) (λ u. absurd (⊎_elim (λ ends. ends_not state own _ u b.1 ends) (λ may. may.2 b.0) u.ends)) (run_reached state force now rules own (reverse es) r),
+  λ b. ⊎_elim (λ i. i) (λ u. absurd (⊎_elim (λ ends. ends_not state own _ u b.1 ends) (λ may. may.2 b.0) u.ends)) (run_reached state force now rules plan own (reverse es) r),
 )
 
-pub told : (state : Path) (force : Bool) (now : Moment) (rules : Rules) (own : List Fault) (p q : Past) (es : List Entry) → AreBuiltRules rules.sets → Made p es q → Runs state force now rules own (reverse es) → ((f : Fault) → IsIn f own → MayEnd state f → ⊥)
+pub told : (state : Path) (force : Bool) (now : Moment) (rules : Rules) (plan : Option Plan) (own : List Fault) (p q : Past) (es : List Entry) → AreBuiltRules rules.sets → Made p es q → Runs state force now rules plan own (reverse es) → ((f : Fault) → IsIn f own → MayEnd state f → ⊥)
     → IsReached state force now rules own (reverse es) ↔ NoneEnds state own
-told state force now rules own p q es built made r plain = (
+told state force now rules plan own p q es built made r plain = (
   λ i. reached_none state force now rules own p q (reverse es) built (in_order p q es made) i,
-  λ none. ⊎_elim (λ i. i) (λ u. absurd (⊎_elim (λ ends. ends_not state own _ u none ends) (λ may. plain u.last (last_in u.before u.last own u.own_are) may.1) u.ends)) (run_reached state force now rules own (reverse es) r),
+  λ none. ⊎_elim (λ i. i) (λ u. absurd (⊎_elim (λ ends. ends_not state own _ u none ends) (λ may. plain u.last (last_in u.before u.last own u.own_are) may.1) u.ends)) (run_reached state force now rules plan own (reverse es) r),
 )
 
-pub ended : (state : Path) (force : Bool) (now : Moment) (rules : Rules) (own : List Fault) (ts : List Entry) → Runs state force now rules own ts → (IsReached state force now rules own ts → ⊥) → SaysWhy state own
-ended state force now rules own ts r h = ⊎_elim (λ i. absurd (h i)) (λ u. record { before = u.before; last = u.last; own_are = u.own_are; ends = ⊎_elim (λ ends. inl ends) (λ may. inr (may.0, may.1)) u.ends }) (run_reached state force now rules own ts r)
+pub ended : (state : Path) (force : Bool) (now : Moment) (rules : Rules) (plan : Option Plan) (own : List Fault) (ts : List Entry) → Runs state force now rules plan own ts → (IsReached state force now rules own ts → ⊥) → SaysWhy state own
+ended state force now rules plan own ts r h = ⊎_elim (λ i. absurd (h i)) (λ u. record { before = u.before; last = u.last; own_are = u.own_are; ends = ⊎_elim (λ ends. inl ends) (λ may. inr (may.0, may.1)) u.ends }) (run_reached state force now rules plan own ts r)

@@ -1,3 +1,4 @@
 pub mod Ending
 pub mod Looked
 pub mod Reached
+pub mod Tried
