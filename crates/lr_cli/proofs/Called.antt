@@ -1,5 +1,5 @@
 -- The answers of a call of the program.
-use Rattle.std.proofs.Common.{◌≡◌, ◌⊎◌, inl, inr, ℕ, Bool, List, [], ◌∷◌, Option, Result, Ok, Err, IfOk, refl, sym, ap, ◌∙◌, subst}
+use Rattle.std.proofs.Common.{◌≡◌, ◌⊎◌, inl, inr, ℕ, Bool, List, [], ◌∷◌, ◌++◌, Option, Some, None, Result, Ok, Err, IfOk, OnOk, OnErr, refl, sym, ap, ◌∙◌, subst}
 use Rattle.std.specs.Prelude.{ℤ, Contains}
 use Rattle.lr_rules.specs.declared.civil.Moment.{Moment}
 use Rattle.lr_rules.specs.declared.clock.Clock.{Clock}
@@ -8,40 +8,49 @@ use Rattle.lr_rules.specs.declared.fault.Fault.{Fault}
 use Rattle.lr_rules.specs.declared.fault.Fault.TheVariants as fault
 use Rattle.lr_rules.specs.declared.fault.Notice.{Notice}
 use Rattle.lr_host.specs.declared.journal.Journal.{Journal}
-use Rattle.lr_host.specs.Told.{Counts, Left}
+use Rattle.lr_host.specs.declared.sink.SinkFault.{SinkFault}
+use Rattle.lr_host.specs.Told.{Counts, Left, Rose}
 use Rattle.lr_host.proofs.Left.{left_as, left_first, left_both, left_then}
 use Rattle.lr_due.specs.declared.tz.Zone.{Zone}
 use Rattle.lr_host.specs.Counted.{AreCounted}
 use Rattle.lr_rotations.specs.AllTurns.{IsWholeRun}
+use Rattle.lr_plan.specs.declared.planned.Plan.{Plan}
+use Rattle.lr_report.specs.Lines.{lines}
+use Rattle.lr_report.specs.Puts.{Took, TookPart}
+use Rattle.lr_shown.specs.Puts.{Puts}
 use Rattle.lr_run.specs.declared.answer.RunStop.{RunStop}
 use Rattle.lr_run.specs.declared.answer.RunStop.TheVariants as stop
 use Rattle.lr_cli.specs.declared.clock.ClockStop.{ClockStop}
 use Rattle.lr_cli.specs.declared.clock.ClockStop.TheVariants as clock_stop
 use Rattle.lr_cli.specs.declared.told.Told.{Told}
 use Rattle.lr_cli.specs.declared.outcome.Outcome.{Outcome}
-use Rattle.lr_cli.specs.declared.outcome.Outcome.TheVariants.{Done, BadWords, OutOfMemory}
+use Rattle.lr_cli.specs.declared.outcome.Outcome.TheVariants.{Done, BadWords, Held, OutOfMemory}
 use Rattle.lr_cli.specs.declared.outcome.Report.{Report}
-use Rattle.lr_cli.specs.declared.words.Request.{Request}
+use Rattle.lr_command.specs.declared.request.Request.{Request}
+use Rattle.lr_command.specs.Words.{asked}
 use Rattle.lr_cli.specs.Answer.{at_first as lacks_first, Answers, AnswersAt, no_clock, no_memory, called, Answered, not_read, read}
 use Rattle.lr_cli.specs.Clock.{ShowsClock, ClockStopped, HasClock, IsClockFault, IsClocked, with_clock, without_clock}
-use Rattle.lr_cli.specs.Faults.{answer_of, clock_answer, HasCounted}
-use Rattle.lr_cli.specs.Words.{AreWords}
+use Rattle.lr_cli.specs.Faults.{answer_of, clock_answer, HasCounted, HasFault}
+use Rattle.lr_cli.specs.Asked.{AskFor, planned_text}
+use Rattle.lr_cli.specs.Printed.{text_of, without_out, printed_of}
+use Rattle.lr_cli.specs.Says.{asked_text, Prints, Says}
+use Rattle.lr_cli.proofs.OutAside.{report_with}
 use Rattle.lr_cli.specs.Zone.{at_first}
 use Rattle.lr_cli.proofs.Reading.{no_out_among, run_behind, alone_run}
 use Rattle.lr_cli.proofs.Still.{clock_quiet, stop_quiet}
 
 -- ---- a run where there is no clock
 
-pub at_none : (request : Request) (zone : Zone) (seconds : ℤ) (o : Option Journal) → Left (AnswersAt request zone seconds OutOfMemory) o o
-at_none request zone seconds o = left_first (AnswersAt request zone seconds OutOfMemory) o (no_memory refl (at_first refl))
+pub at_none : (request : Request) (zone : Zone) (seconds : ℤ) (o : Option Journal) → Left (AnswersAt request zone seconds None OutOfMemory) o o
+at_none request zone seconds o = left_first (AnswersAt request zone seconds None OutOfMemory) o (no_memory refl refl (at_first refl))
 
-stopped_at : (request : Request) (zone : Zone) (seconds : ℤ) (why : ClockStop) {o n : Option Journal} → Left (ClockStopped zone seconds why) o n → Left (AnswersAt request zone seconds (clock_answer why)) o n
-stopped_at request zone seconds (clock_stop.Fault f) l = left_as l (λ ts h. no_clock f refl h)
-stopped_at request zone seconds clock_stop.Memory l = left_as l (λ ts h. no_memory refl h)
+stopped_at : (request : Request) (zone : Zone) (seconds : ℤ) (why : ClockStop) {o n : Option Journal} → Left (ClockStopped zone seconds why) o n → Left (AnswersAt request zone seconds None (clock_answer why)) o n
+stopped_at request zone seconds (clock_stop.Fault f) l = left_as l (λ ts h. no_clock f refl refl h)
+stopped_at request zone seconds clock_stop.Memory l = left_as l (λ ts h. no_memory refl refl h)
 
-pub at_stop : (request : Request) (zone : Zone) (s seconds : ℤ) (why : ClockStop) (outcome : Outcome) {o n : Option Journal} → s ≡ seconds → outcome ≡ clock_answer why → Left (ClockStopped zone s why) o n → Left (AnswersAt request zone seconds outcome) o n
-at_stop request zone s seconds why outcome {o = o} {n = n} same is l =
-    subst (λ (a : Outcome). Left (AnswersAt request zone seconds a) o n) (sym is) (stopped_at request zone seconds why (subst (λ (z : ℤ). Left (ClockStopped zone z why) o n) same l))
+pub at_stop : (request : Request) (zone : Zone) (s seconds : ℤ) (why : ClockStop) (plan : Option Plan) (outcome : Outcome) {o n : Option Journal} → s ≡ seconds → plan ≡ None → outcome ≡ clock_answer why → Left (ClockStopped zone s why) o n → Left (AnswersAt request zone seconds plan outcome) o n
+at_stop request zone s seconds why plan outcome {o = o} {n = n} same none is l =
+    subst (λ (a : Outcome). Left (AnswersAt request zone seconds plan a) o n) (sym is) (subst (λ (p : Option Plan). Left (AnswersAt request zone seconds p (clock_answer why)) o n) (sym none) (stopped_at request zone seconds why (subst (λ (z : ℤ). Left (ClockStopped zone z why) o n) same l)))
 
 pub stop_shape : (zone : Zone) (seconds : ℤ) (why : ClockStop) {o n : Option Journal} → Left (ClockStopped zone seconds why) o n → Left IsWholeRun o n
 stop_shape zone seconds why l = left_as l (λ ts h. alone_run ts (stop_quiet zone seconds why ts h))
@@ -66,14 +75,11 @@ stop_clocked zone s seconds (Err w) c why Y same e is h = tt
 
 -- ---- a run at a clock
 
-pub by_first : (confs : List Path) (force : Bool) (now : Moment) (o : Option Journal) → Left (Answers confs force now OutOfMemory) o o
-by_first confs force now o = left_first (Answers confs force now OutOfMemory) o (lacks_first refl)
+pub by_first : (request : Request) (now : Moment) (o : Option Journal) → Left (Answers request now None OutOfMemory) o o
+by_first request now o = left_first (Answers request now None OutOfMemory) o (refl, lacks_first refl)
 
-pub by_force : (xs confs : List Path) (a b : Bool) (now : Moment) (outcome : Outcome) (o n : Option Journal) → xs ≡ confs → a ≡ b → Left (Answers xs a now outcome) o n → Left (Answers confs b now outcome) o n
-by_force xs confs a b now outcome o n at same l = subst (λ (f : Bool). Left (Answers confs f now outcome) o n) same (subst (λ (ps : List Path). Left (Answers ps a now outcome) o n) at l)
-
-pub at_clock : (request : Request) (zone : Zone) (s seconds : ℤ) (clock : Clock) (outcome : Outcome) {o m n : Option Journal} → s ≡ seconds → Left (ShowsClock zone s clock) o m → Left (Answers request.confs request.force clock.now outcome) m n → Left (AnswersAt request zone seconds outcome) o n
-at_clock request zone s seconds clock outcome {o = o} {m = m} same a b = left_as (left_both (subst (λ (z : ℤ). Left (ShowsClock zone z clock) o m) same a) b) (λ ts t. called clock t)
+pub at_clock : (request : Request) (zone : Zone) (s seconds : ℤ) (clock : Clock) (plan : Option Plan) (outcome : Outcome) {o m n : Option Journal} → s ≡ seconds → Left (ShowsClock zone s clock) o m → Left (Answers request clock.now plan outcome) m n → Left (AnswersAt request zone seconds plan outcome) o n
+at_clock request zone s seconds clock plan outcome {o = o} {m = m} same a b = left_as (left_both (subst (λ (z : ℤ). Left (ShowsClock zone z clock) o m) same a) b) (λ ts t. called clock t)
 
 pub clock_shape : (zone : Zone) (seconds : ℤ) (clock : Clock) {o m n : Option Journal} → Left (ShowsClock zone seconds clock) o m → Left IsWholeRun m n → Left IsWholeRun o n
 clock_shape zone seconds clock a b = left_then a b (λ xs ys p q. run_behind xs ys (clock_quiet zone seconds clock xs p) q)
@@ -85,12 +91,68 @@ clock_clocked zone s seconds clock (Err w) same h = tt
 -- ---- the call
 
 -- a call that called nothing
-pub nothing_called : (here : Path) (words : List (List ℕ)) (zone : Zone) (seconds : ℤ) (a o : Outcome) (j : Option Journal) → a ≡ o → (o ≡ BadWords) ⊎ (o ≡ OutOfMemory) → Left (Answered here words zone seconds a) j j
-nothing_called here words zone seconds a o j same which = left_first (Answered here words zone seconds a) j (not_read (subst (λ (r : Outcome). (r ≡ BadWords) ⊎ (r ≡ OutOfMemory)) (sym same) which) refl)
+pub nothing_called : (here : Path) (words : List (List ℕ)) (zone : Zone) (seconds : ℤ) (a o : Outcome) (j : Option Journal) → a ≡ o → (o ≡ BadWords) ⊎ (o ≡ OutOfMemory) → Left (Answered here words zone seconds None a) j j
+nothing_called here words zone seconds a o j same which = left_first (Answered here words zone seconds None a) j (not_read refl (subst (λ (r : Outcome). (r ≡ BadWords) ⊎ (r ≡ OutOfMemory)) (sym same) which) refl)
 
-pub answered : (here : Path) (words : List (List ℕ)) (zone : Zone) (s seconds : ℤ) (request : Request) (a o : Outcome) (j k : Option Journal) → s ≡ seconds → a ≡ o → AreWords here words request → Left (AnswersAt request zone s o) j k → Left (Answered here words zone seconds a) j k
-answered here words zone s seconds request a o j k at same w l =
-    subst (λ (z : ℤ). Left (Answered here words zone z a) j k) at (subst (λ (r : Outcome). Left (Answered here words zone s r) j k) (sym same) (left_as l (λ ts h. read request w h)))
+pub answered : (here : Path) (words : List (List ℕ)) (zone : Zone) (s seconds : ℤ) (request : Request) (plan : Option Plan) (a o : Outcome) (j k : Option Journal) → s ≡ seconds → a ≡ o → AskFor here words request → Left (AnswersAt request zone s plan o) j k → Left (Answered here words zone seconds plan a) j k
+answered here words zone s seconds request plan a o j k at same w l =
+    subst (λ (z : ℤ). Left (Answered here words zone z plan a) j k) at (subst (λ (r : Outcome). Left (Answered here words zone s plan r) j k) (sym same) (left_as l (λ ts h. read request w h)))
+
+-- ---- what is printed
+
+-- no plan has no text
+none_asked : (r : Option Request) → asked_text r None ≡ []
+none_asked None = refl
+none_asked (Some request) = refl
+
+-- an outcome of one line
+abbrev pub IsLine : Outcome → Type 0
+IsLine (Done report) = ⊥
+IsLine _ = Unit {0}
+
+line_prints : (o : Outcome) (x y : Option (List ℕ)) (low high : ℕ) → IsLine o → TookPart (text_of o) x y → Took (text_of o) x y ⊎ Rose low high → Prints (printed_of [] o) o x y low high
+line_prints (Done report) x y low high i p w = absurd i
+line_prints BadWords x y low high i p w = record { printed = p; whole = w; broken_off = λ report e. absurd (cc) }
+line_prints Held x y low high i p w = record { printed = p; whole = w; broken_off = λ report e. absurd (cc) }
+line_prints OutOfMemory x y low high i p w = record { printed = p; whole = w; broken_off = λ report e. absurd (cc) }
+
+pub prints_line : (front : List ℕ) (o a : Outcome) (x y : Option (List ℕ)) (low high : ℕ) → IsLine o → front ≡ [] → a ≡ o → TookPart (text_of o) x y → Took (text_of o) x y ⊎ Rose low high → Prints (printed_of front a) a x y low high
+prints_line front o a x y low high i f e p w = subst (λ (b : Outcome). Prints (printed_of front b) b x y low high) (sym e) (subst (λ (t : List ℕ). Prints (printed_of t o) o x y low high) (sym f) (line_prints o x y low high i p w))
+
+-- words that ask for nothing, or there was no memory for what they ask for
+pub says_nothing : (here : Path) (words : List (List ℕ)) (zone : Zone) (seconds : ℤ) (a o : Outcome) (j : Option Journal) (x y : Option (List ℕ)) (low high : ℕ) → a ≡ o → (o ≡ BadWords) ⊎ (o ≡ OutOfMemory) → IsLine o → without_out a ≡ without_out o → without_out o ≡ o → TookPart (text_of o) x y → Took (text_of o) x y ⊎ Rose low high
+    → Says here words zone seconds a j j x y low high
+says_nothing here words zone seconds a o j x y low high same which i w v p t = record {
+  plan = None;
+  shown = nothing_called here words zone seconds (without_out a) o j (w ∙ v) which;
+  prints = prints_line (asked_text (asked here words) None) o a x y low high i (none_asked (asked here words)) same p t;
+}
+
+-- a request's
+pub says_so : (here : Path) (words : List (List ℕ)) (zone : Zone) (seconds : ℤ) (request : Request) (plan : Option Plan) (a : Outcome) (j k : Option Journal) (x y : Option (List ℕ)) (low high : ℕ) → AskFor here words request → Left (Answered here words zone seconds plan (without_out a)) j k → Prints (printed_of (planned_text request plan) a) a x y low high
+    → Says here words zone seconds a j k x y low high
+says_so here words zone seconds request plan a j k x y low high w l p = record {
+  plan = plan;
+  shown = l;
+  prints = subst (λ (r : Option Request). Prints (printed_of (asked_text r plan) a) a x y low high) (sym w) p;
+}
+
+-- what was put of a report
+pub report_prints : (put : Result (Unit {0}) SinkFault) (front : List ℕ) (ns : List Notice) (fs : List Fault) (o : Outcome) (x y : Option (List ℕ)) (low high : ℕ) → Puts (front ++ lines ns fs) put x y low high → without_out o ≡ report_with ns fs → OnErr put (HasFault o fault.Out) → Prints (printed_of front o) o x y low high
+report_prints (Ok u) front ns fs o x y low high p e h = record {
+  printed = subst (λ (r : Outcome). TookPart (front ++ text_of r) x y) (sym e) p.part;
+  whole = inl (subst (λ (r : Outcome). Took (front ++ text_of r) x y) (sym e) p.whole);
+  broken_off = λ report is. inl (subst (λ (r : Outcome). Took (front ++ text_of r) x y) (sym e) p.whole);
+}
+report_prints (Err f) front ns fs o x y low high p e h = record {
+  printed = subst (λ (r : Outcome). TookPart (front ++ text_of r) x y) (sym e) p.part;
+  whole = inr p.cause;
+  broken_off = λ report is. inr (subst (λ (r : Outcome). HasFault r fault.Out) is h);
+}
+
+pub report_out : (put : Result (Unit {0}) SinkFault) (text : List ℕ) (ns : List Notice) (fs : List Fault) (o : Outcome) (x y : Option (List ℕ)) (low high : ℕ) → Puts text put x y low high → OnOk put (o ≡ report_with ns fs) → (Contains fs fault.Out → ⊥) → HasFault o fault.Out → Rose low high
+report_out (Ok u) text ns fs o x y low high p e lost h = absurd (lost (subst (λ (r : Outcome). HasFault r fault.Out) e h))
+report_out (Err f) text ns fs o x y low high p e lost h = p.cause
 
 pub has_counted : (r : Result Told RunStop) (a : Outcome) (k l : Counts) → a ≡ answer_of r → IfOk r (λ told. AreCounted told.faults.items k l) → HasCounted a k l
 has_counted (Ok told) a k l same h = subst (λ (o : Outcome). HasCounted o k l) (sym same) h

@@ -7,4 +7,3 @@ pub mod Rotating
 pub mod Still
 pub mod Zoned
 mod Whole
-pub mod Named

@@ -9,12 +9,10 @@ use Rattle.lr_rules.specs.declared.fault.Notice.{Notice}
 use Rattle.lr_host.specs.declared.entry.Entry.{Entry}
 use Rattle.lr_host.specs.declared.journal.Journal.{Journal}
 use Rattle.lr_host.specs.Told.{Left}
-use Rattle.lr_report.specs.Lines.{lines}
-use Rattle.lr_report.specs.Puts.{Took, TookPart}
 use Rattle.lr_cli.specs.declared.outcome.Outcome.{Outcome}
 use Rattle.lr_cli.specs.declared.outcome.Outcome.TheVariants.{Done, BadWords, Held, OutOfMemory}
 use Rattle.lr_cli.specs.Faults.{HasFault}
-use Rattle.lr_cli.specs.Printed.{no_out, but_out, without_out, text_of, printed_of}
+use Rattle.lr_cli.specs.Printed.{no_out, but_out, without_out}
 
 -- what is in a list of one is that one
 pub Contains-only : {X : Type 0} (x y : X) → Contains (x ∷ []) y → x ≡ y
@@ -66,13 +64,6 @@ report_with ns fs = Done (record { notices = ns; faults = fs })
 
 pub has_out : (o : Outcome) (ns : List Notice) (fs : List Fault) → o ≡ report_with ns (fs ++ fault.Out ∷ []) → HasFault o fault.Out
 has_out o ns fs e = subst (λ r. HasFault r fault.Out) (sym e) (Contains-push fs fault.Out)
-
--- the text of these notices and faults is printed of the answer with them
-pub part_printed : (o : Outcome) (ns : List Notice) (fs : List Fault) (before after : Option (List ℕ)) → without_out o ≡ report_with ns fs → TookPart (lines ns fs) before after → TookPart (printed_of o) before after
-part_printed o ns fs before after e h = subst (λ r. TookPart (text_of r) before after) (sym e) h
-
-pub whole_printed : (o : Outcome) (ns : List Notice) (fs : List Fault) (before after : Option (List ℕ)) → without_out o ≡ report_with ns fs → Took (lines ns fs) before after → Took (printed_of o) before after
-whole_printed o ns fs before after e h = subst (λ r. Took (text_of r) before after) (sym e) h
 
 -- the answer is the same without its `Out`
 pub from_memory : (o : Outcome) → without_out o ≡ OutOfMemory → o ≡ OutOfMemory

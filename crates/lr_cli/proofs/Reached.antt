@@ -1,5 +1,5 @@
 -- Whether a call came to its plan: what its entries show of that, and what its report tells.
-use Rattle.std.proofs.Common.{◌≡◌, ◌⊎◌, inl, inr, ⊎_elim, ℕ, List, [], ◌∷◌, ◌++◌, Option, reverse, sym, ap, ◌∙◌, subst, append_assoc}
+use Rattle.std.proofs.Common.{◌≡◌, ◌⊎◌, inl, inr, ⊎_elim, ℕ, Bool, false, List, [], ◌∷◌, ◌++◌, Option, reverse, sym, ap, ◌∙◌, subst, append_assoc}
 use Rattle.std.specs.Prelude.{ℤ}
 use Rattle.std.specs.List.{AllByRecursion as Every}
 use Rattle.std.proofs.lemmas.List.Elements.{recursion_from_All}
@@ -24,6 +24,9 @@ use Rattle.lr_include.proofs.Allowed.{only_those}
 use Rattle.lr_due.specs.declared.tz.Zone.{Zone}
 use Rattle.lr_due.specs.declared.tz.Zone.TheVariants.{File}
 use Rattle.lr_fields.specs.Built.{AreBuiltRules}
+use Rattle.lr_plan.specs.declared.planned.Plan.{Plan as RunPlan}
+use Rattle.lr_run.specs.Answers.{Leaves}
+use Rattle.lr_run.specs.Runs.{Runs}
 use Rattle.lr_reached.specs.Ending.{EndsRun, NoneEnds}
 use Rattle.lr_reached.specs.Looked.{behind_start, SawState}
 use Rattle.lr_reached.proofs.Ends.{none_both, last_ends, last_in}
@@ -34,78 +37,76 @@ use Rattle.lr_cli.specs.declared.clock.ClockStop.TheVariants as stop
 use Rattle.lr_cli.specs.declared.outcome.Outcome.{Outcome}
 use Rattle.lr_cli.specs.declared.outcome.Outcome.TheVariants.{Done}
 use Rattle.lr_cli.specs.declared.outcome.Report.{Report}
-use Rattle.lr_cli.specs.declared.words.Request.{Request}
-use Rattle.lr_cli.specs.Answer.{state_path, Reports, AnswersAt, no_clock, no_memory, called, Answered, not_read, read}
+use Rattle.lr_command.specs.declared.request.Request.{Request}
+use Rattle.lr_cli.specs.Answer.{Reports, AnswersAt, no_clock, no_memory, called, Answered, not_read, read}
 use Rattle.lr_cli.specs.Clock.{ShowsClock, LacksClock, out_of_range, no_text, refused}
 use Rattle.lr_cli.specs.Reached.{ReachesPlan, IsOfZone, MayEndCall, TellsOfPlan}
-use Rattle.lr_cli.specs.Words.{AreWords}
+use Rattle.lr_cli.specs.Asked.{AskFor}
 use Rattle.lr_cli.specs.Zone.{LacksText, not_file, too_big, look_failed as text_look_failed, read_failed as text_read_failed}
-use Rattle.lr_cli.proofs.Still.{clock_quiet, stop_quiet}
+use Rattle.lr_cli.proofs.Still.{clock_quiet, stop_quiet, same_Some}
 
 -- the rules that a configuration gives are such as a run takes
 pub built_means : (confs : List Path) (m : Meaning) (ts : List Entry) → Reads confs m ts → AreBuiltRules m.rules
 built_means confs m ts r = subst (λ (x : Meaning). AreBuiltRules x.rules) (sym r.means) (all_built (at_visits (begun confs) r.visits).lines)
 
 -- what it tells ends no run
-conf_none : (fs : List Fault) → Every IsConfOrCall fs → NoneEnds state_path fs
-conf_none [] h = tt
-conf_none (fault.Conf file line kind ∷ fs) h = ((λ e. e), conf_none fs h.1)
-conf_none (fault.Call call.Look path ∷ fs) h = ((λ e. e), conf_none fs h.1)
-conf_none (fault.Call call.List path ∷ fs) h = ((λ e. e), conf_none fs h.1)
-conf_none (fault.Call call.Read path ∷ fs) h = ((λ e. e), conf_none fs h.1)
-conf_none (_ ∷ fs) h = absurd h.0
+conf_none : (state : Path) (fs : List Fault) → Every IsConfOrCall fs → NoneEnds state fs
+conf_none state [] h = tt
+conf_none state (fault.Conf file line kind ∷ fs) h = ((λ e. e), conf_none state fs h.1)
+conf_none state (fault.Call call.Look path ∷ fs) h = ((λ e. e), conf_none state fs h.1)
+conf_none state (fault.Call call.List path ∷ fs) h = ((λ e. e), conf_none state fs h.1)
+conf_none state (fault.Call call.Read path ∷ fs) h = ((λ e. e), conf_none state fs h.1)
+conf_none state (_ ∷ fs) h = absurd h.0
 
-means_none : (confs : List Path) (m : Meaning) (ts : List Entry) → Reads confs m ts → NoneEnds state_path m.faults
-means_none confs m ts r = subst (λ (x : Meaning). NoneEnds state_path x.faults) (sym r.means) (conf_none (visits_mean confs r.visits).faults (recursion_from_All IsConfOrCall (visits_mean confs r.visits).faults (only_those confs r.visits)))
+means_none : (state : Path) (confs : List Path) (m : Meaning) (ts : List Entry) → Reads confs m ts → NoneEnds state m.faults
+means_none state confs m ts r = subst (λ (x : Meaning). NoneEnds state x.faults) (sym r.means) (conf_none state (visits_mean confs r.visits).faults (recursion_from_All IsConfOrCall (visits_mean confs r.visits).faults (only_those confs r.visits)))
 
 -- Why a fault ended a call: it ends a run; or it may end it, and the state wasn't seen.
-abbrev IsWhy : Zone → Fault → List Entry → Type 0
-IsWhy zone f us = EndsRun state_path f ⊎ (MayEndCall zone f × (SawState state_path us → ⊥))
+abbrev IsWhy : Path → Zone → Fault → List Entry → Type 0
+IsWhy state zone f us = EndsRun state f ⊎ (MayEndCall state zone f × (SawState state us → ⊥))
 
 -- Such a fault is the last.
-pub record Unreached (zone : Zone) (faults : List Fault) (us : List Entry) : Type 0 where
+pub record Unreached (state : Path) (zone : Zone) (faults : List Fault) (us : List Entry) : Type 0 where
   pub before : List Fault
   pub last : Fault
   pub faults_are : faults ≡ before ++ last ∷ []
-  pub ends : IsWhy zone last us
+  pub ends : IsWhy state zone last us
 
 -- ---- without a clock
 
-ends_as : (f g : Fault) → f ≡ g → EndsRun state_path g → EndsRun state_path f
-ends_as f g is h = subst (EndsRun state_path) (sym is) h
+ends_as : (state : Path) (f g : Fault) → f ≡ g → EndsRun state g → EndsRun state f
+ends_as state f g is h = subst (EndsRun state) (sym is) h
 
-of_zone : (zone : Zone) (path : Path) (f : Fault) → zone ≡ File path → (f ≡ fault.Call call.Look path) ⊎ (f ≡ fault.Call call.Read path) → MayEndCall zone f
-of_zone zone path f is h = inl (subst (λ (z : Zone). IsOfZone z f) (sym is) h)
+of_zone : (state : Path) (zone : Zone) (path : Path) (f : Fault) → zone ≡ File path → (f ≡ fault.Call call.Look path) ⊎ (f ≡ fault.Call call.Read path) → MayEndCall state zone f
+of_zone state zone path f is h = inl (subst (λ (z : Zone). IsOfZone z f) (sym is) h)
 
-text_why : (zone : Zone) (f : Fault) (ts : List Entry) → (SawState state_path (behind_start ts) → ⊥) → LacksText zone f ts → IsWhy zone f (behind_start ts)
-text_why zone f ts unseen_there (not_file path z e s) = inl (ends_as f _ e tt)
-text_why zone f ts unseen_there (too_big path bytes z e n t) = inl (ends_as f _ e tt)
-text_why zone f ts unseen_there (text_look_failed path z e none) = inr (of_zone zone path f z (inl e), unseen_there)
-text_why zone f ts unseen_there (text_read_failed path z e t) = inr (of_zone zone path f z (inr e), unseen_there)
+text_why : (state : Path) (zone : Zone) (f : Fault) (ts : List Entry) → (SawState state (behind_start ts) → ⊥) → LacksText zone f ts → IsWhy state zone f (behind_start ts)
+text_why state zone f ts unseen_there (not_file path z e s) = inl (ends_as state f _ e tt)
+text_why state zone f ts unseen_there (too_big path bytes z e n t) = inl (ends_as state f _ e tt)
+text_why state zone f ts unseen_there (text_look_failed path z e none) = inr (of_zone state zone path f z (inl e), unseen_there)
+text_why state zone f ts unseen_there (text_read_failed path z e t) = inr (of_zone state zone path f z (inr e), unseen_there)
 
-clock_why : (zone : Zone) (seconds : ℤ) (f : Fault) (ts : List Entry) → (SawState state_path (behind_start ts) → ⊥) → LacksClock zone seconds f ts → IsWhy zone f (behind_start ts)
-clock_why zone seconds f ts unseen_there (out_of_range out e none) = inl (ends_as f _ e tt)
-clock_why zone seconds f ts unseen_there (no_text range l) = text_why zone f ts unseen_there l
-clock_why zone seconds f ts unseen_there (refused text range e r s) = inl (ends_as f _ e tt)
+clock_why : (state : Path) (zone : Zone) (seconds : ℤ) (f : Fault) (ts : List Entry) → (SawState state (behind_start ts) → ⊥) → LacksClock zone seconds f ts → IsWhy state zone f (behind_start ts)
+clock_why state zone seconds f ts unseen_there (out_of_range out e none) = inl (ends_as state f _ e tt)
+clock_why state zone seconds f ts unseen_there (no_text range l) = text_why state zone f ts unseen_there l
+clock_why state zone seconds f ts unseen_there (refused text range e r s) = inl (ends_as state f _ e tt)
 
-clock_unreached : (zone : Zone) (seconds : ℤ) (f : Fault) (report : Report) (ts : List Entry) → Done report ≡ Done (record { notices = []; faults = f ∷ [] }) → LacksClock zone seconds f ts → Unreached zone report.faults (behind_start ts)
-clock_unreached zone seconds f report ts e l = record { before = []; last = f; faults_are = faults; ends = clock_why zone seconds f ts (λ s. unseen state_path (behind_start ts) (none_behind ts (stop_quiet zone seconds (stop.Fault f) ts l)) s) l }
+clock_unreached : (state : Path) (zone : Zone) (seconds : ℤ) (f : Fault) (report : Report) (ts : List Entry) → Done report ≡ Done (record { notices = []; faults = f ∷ [] }) → LacksClock zone seconds f ts → Unreached state zone report.faults (behind_start ts)
+clock_unreached state zone seconds f report ts e l = record { before = []; last = f; faults_are = faults; ends = clock_why state zone seconds f ts (λ s. unseen state (behind_start ts) (none_behind ts (stop_quiet zone seconds (stop.Fault f) ts l)) s) l }
   where
     faults : report.faults ≡ f ∷ []
     faults = cc
 
 -- ---- what the entries show
 
-module _ (here : Path) (words : List (List ℕ)) (zone : Zone) (seconds : ℤ) (report : Report) (ts : List Entry) where
+module _ (request : Request) (zone : Zone) (seconds : ℤ) (report : Report) (ts : List Entry) where
   abbrev Plan : Type 0
-  Plan = ReachesPlan here words zone seconds report ts
+  Plan = ReachesPlan request zone seconds report ts
 
   -- behind the clock
-  reports_reached : (request : Request) → AreWords here words request → (clock : Clock) → Then (ShowsClock zone seconds clock) (Reports request.confs request.force clock.now report.notices report.faults) ts → Plan ⊎ Unreached zone report.faults (behind_start ts)
-  reports_reached request asked clock t = ⊎_elim
+  reports_reached : (plan : Option RunPlan) → request.debug ≡ false → (clock : Clock) → Then (ShowsClock zone seconds clock) (Reports request clock.now plan report.notices report.faults) ts → Plan ⊎ Unreached request.state zone report.faults (behind_start ts)
+  reports_reached plan dry clock t = ⊎_elim
       (λ i. inl (record {
-        request = request;
-        asked = asked;
         clock = clock;
         meaning = r.meaning;
         rules = r.rules;
@@ -125,64 +126,67 @@ module _ (here : Path) (words : List (List ℕ)) (zone : Zone) (seconds : ℤ) (
         before = r.meaning.faults ++ u.before;
         last = u.last;
         faults_are = r.faults_are ∙ ap (λ fs. r.meaning.faults ++ fs) u.own_are ∙ sym (append_assoc r.meaning.faults u.before (u.last ∷ []));
-        ends = ⊎_elim (λ ends. inl ends) (λ may. inr (inr may.1, λ s. may.2 (subst (SawState state_path) behind s))) u.ends;
+        ends = ⊎_elim (λ ends. inl ends) (λ may. inr (inr may.1, λ s. may.2 (subst (SawState request.state) behind s))) u.ends;
       }))
-      (run_reached state_path request.force clock.now r.rules r.own r.entries.back r.entries.second)
+      (run_reached request.state request.force clock.now r.rules plan r.own r.entries.back runs)
     where
-      r : Reports request.confs request.force clock.now report.notices report.faults t.back
+      r : Reports request clock.now plan report.notices report.faults t.back
       r = t.second
+
+      runs : Runs request.state request.force clock.now r.rules plan r.own r.entries.back
+      runs = subst (λ (b : Bool). Leaves b request.state request.force clock.now r.rules plan r.own r.entries.back) dry r.entries.second
 
       behind : behind_start ts ≡ behind_start r.entries.back
       behind = ap behind_start t.joined ∙ behind_quiet t.front t.back (clock_quiet zone seconds clock t.front t.first)
           ∙ ap behind_start r.entries.joined ∙ behind_quiet r.entries.front r.entries.back (confs_quiet request.confs r.meaning r.entries.front r.entries.first)
 
-  at_reached : (request : Request) → AreWords here words request → AnswersAt request zone seconds (Done report) ts → Plan ⊎ Unreached zone report.faults (behind_start ts)
-  at_reached request asked (no_clock f e l) = inr (clock_unreached zone seconds f report ts e l)
-  at_reached request asked (no_memory e l) = absurd (cc)
-  at_reached request asked (called clock t) = reports_reached request asked clock t
+  at_reached : (plan : Option RunPlan) → request.debug ≡ false → AnswersAt request zone seconds plan (Done report) ts → Plan ⊎ Unreached request.state zone report.faults (behind_start ts)
+  at_reached plan dry (no_clock f lost e l) = inr (clock_unreached request.state zone seconds f report ts e l)
+  at_reached plan dry (no_memory lost e l) = absurd (cc)
+  at_reached plan dry (called clock t) = reports_reached plan dry clock t
 
-  pub call_reached : Answered here words zone seconds (Done report) ts → Plan ⊎ Unreached zone report.faults (behind_start ts)
-  call_reached (not_read (inl e) none) = absurd (cc)
-  call_reached (not_read (inr e) none) = absurd (cc)
-  call_reached (read request asked a) = at_reached request asked a
+  pub call_reached : (here : Path) (words : List (List ℕ)) (plan : Option RunPlan) → AskFor here words request → request.debug ≡ false → Answered here words zone seconds plan (Done report) ts → Plan ⊎ Unreached request.state zone report.faults (behind_start ts)
+  call_reached here words plan asks dry (not_read lost (inl e) none) = absurd (cc)
+  call_reached here words plan asks dry (not_read lost (inr e) none) = absurd (cc)
+  call_reached here words plan asks dry (read other asked a) = at_reached plan dry (subst (λ (r : Request). AnswersAt r zone seconds plan (Done report) ts) (same_Some other request (sym asked ∙ asks)) a)
 
   -- what comes before the run starts none
   pub plan_quiet : (p : Plan) → AreQuiet (p.of_clock ++ p.reads)
-  plan_quiet p = quiet_both p.of_clock p.reads (clock_quiet zone seconds p.clock p.of_clock p.shown) (confs_quiet p.request.confs p.meaning p.reads p.read)
+  plan_quiet p = quiet_both p.of_clock p.reads (clock_quiet zone seconds p.clock p.of_clock p.shown) (confs_quiet request.confs p.meaning p.reads p.read)
 
   pub plan_joined : (p : Plan) → ts ≡ (p.of_clock ++ p.reads) ++ p.acts
   plan_joined p = p.joined ∙ sym (append_assoc p.of_clock p.reads p.acts)
 
   pub plan_built : (p : Plan) → AreBuiltRules p.rules.sets
-  plan_built p = subst AreBuiltRules (sym p.rules_are) (built_means p.request.confs p.meaning p.reads p.read)
+  plan_built p = subst AreBuiltRules (sym p.rules_are) (built_means request.confs p.meaning p.reads p.read)
 
-  plan_saw : Plan → SawState state_path (behind_start ts)
-  plan_saw p = subst (SawState state_path) (sym (ap behind_start (plan_joined p) ∙ behind_quiet (p.of_clock ++ p.reads) p.acts (plan_quiet p)))
-      (reached_saw state_path p.request.force p.clock.now p.rules p.own p.acts p.run)
+  plan_saw : Plan → SawState request.state (behind_start ts)
+  plan_saw p = subst (SawState request.state) (sym (ap behind_start (plan_joined p) ∙ behind_quiet (p.of_clock ++ p.reads) p.acts (plan_quiet p)))
+      (reached_saw request.state request.force p.clock.now p.rules p.own p.acts p.run)
 
-  plan_none : (q r : Past) → Made q (reverse ts) r → Plan → NoneEnds state_path report.faults
-  plan_none q r made p = subst (NoneEnds state_path) (sym p.faults_are) (none_both state_path p.meaning.faults p.own (means_none p.request.confs p.meaning p.reads p.read)
-      (reached_none state_path p.request.force p.clock.now p.rules p.own c.mid r p.acts (plan_built p) c.second p.run))
+  plan_none : (q r : Past) → Made q (reverse ts) r → Plan → NoneEnds request.state report.faults
+  plan_none q r made p = subst (NoneEnds request.state) (sym p.faults_are) (none_both request.state p.meaning.faults p.own (means_none request.state request.confs p.meaning p.reads p.read)
+      (reached_none request.state request.force p.clock.now p.rules p.own c.mid r p.acts (plan_built p) c.second p.run))
     where
       c : Cut q r (reverse p.acts) (reverse (p.of_clock ++ p.reads))
       c = cut_at q r ts (p.of_clock ++ p.reads) p.acts (plan_joined p) made
 
   -- ---- what the report tells
 
-  none_last : (u : Unreached zone report.faults (behind_start ts)) → NoneEnds state_path report.faults → EndsRun state_path u.last → ⊥
-  none_last u none ends = last_ends state_path u.before u.last (subst (NoneEnds state_path) u.faults_are none) ends
+  none_last : (u : Unreached request.state zone report.faults (behind_start ts)) → NoneEnds request.state report.faults → EndsRun request.state u.last → ⊥
+  none_last u none ends = last_ends request.state u.before u.last (subst (NoneEnds request.state) u.faults_are none) ends
 
-  tells : (q r : Past) → Made q (reverse ts) r → Answered here words zone seconds (Done report) ts → TellsOfPlan here words zone seconds report ts
+  tells : (q r : Past) → Made q (reverse ts) r → Plan ⊎ Unreached request.state zone report.faults (behind_start ts) → TellsOfPlan request zone seconds report ts
   tells q r made a = record {
-    alone = λ plain. (λ p. plan_none q r made p, λ none. ⊎_elim (λ p. p) (λ u. absurd (⊎_elim (λ ends. none_last u none ends) (λ may. plain u.last (last_in u.before u.last report.faults u.faults_are) may.0) u.ends)) (call_reached a));
-    exactly = (λ p. (plan_none q r made p, plan_saw p), λ b. ⊎_elim (λ p. p) (λ u. absurd (⊎_elim (λ ends. none_last u b.0 ends) (λ may. may.1 b.1) u.ends)) (call_reached a));
-    why = λ h. ⊎_elim (λ p. absurd (h p)) (λ u. record { before = u.before; last = u.last; faults_are = u.faults_are; ends = ⊎_elim (λ ends. inl ends) (λ may. inr may.0) u.ends }) (call_reached a);
+    alone = λ plain. (λ p. plan_none q r made p, λ none. ⊎_elim (λ p. p) (λ u. absurd (⊎_elim (λ ends. none_last u none ends) (λ may. plain u.last (last_in u.before u.last report.faults u.faults_are) may.0) u.ends)) a);
+    exactly = (λ p. (plan_none q r made p, plan_saw p), λ b. ⊎_elim (λ p. p) (λ u. absurd (⊎_elim (λ ends. none_last u b.0 ends) (λ may. may.1 b.1) u.ends)) a);
+    why = λ h. ⊎_elim (λ p. absurd (h p)) (λ u. record { before = u.before; last = u.last; faults_are = u.faults_are; ends = ⊎_elim (λ ends. inl ends) (λ may. inr may.0) u.ends }) a;
   }
 
 -- that a call with these words left its answer
-done_tells : (here : Path) (words : List (List ℕ)) (zone : Zone) (seconds : ℤ) (report : Report) {o n : Option Journal} → Left (Answered here words zone seconds (Done report)) o n → Left (TellsOfPlan here words zone seconds report) o n
-done_tells here words zone seconds report not_told = not_told
-done_tells here words zone seconds report (is_told {j = j} {k = k} {es = es} made a) = is_told made (tells here words zone seconds report (reverse es) (past j) (past k) (in_order (past j) (past k) es made) a)
+done_tells : (here : Path) (words : List (List ℕ)) (request : Request) (zone : Zone) (seconds : ℤ) (plan : Option RunPlan) (report : Report) {o n : Option Journal} → AskFor here words request → request.debug ≡ false → Left (Answered here words zone seconds plan (Done report)) o n → Left (TellsOfPlan request zone seconds report) o n
+done_tells here words request zone seconds plan report asks dry not_told = not_told
+done_tells here words request zone seconds plan report asks dry (is_told {j = j} {k = k} {es = es} made a) = is_told made (tells request zone seconds report (reverse es) (past j) (past k) (in_order (past j) (past k) es made) (call_reached request zone seconds report (reverse es) here words plan asks dry a))
 
-pub left_tells : (here : Path) (words : List (List ℕ)) (zone : Zone) (seconds : ℤ) (outcome : Outcome) (report : Report) {o n : Option Journal} → outcome ≡ Done report → Left (Answered here words zone seconds outcome) o n → Left (TellsOfPlan here words zone seconds report) o n
-left_tells here words zone seconds outcome report {o = o} {n = n} done l = done_tells here words zone seconds report (subst (λ (a : Outcome). Left (Answered here words zone seconds a) o n) done l)
+pub left_tells : (here : Path) (words : List (List ℕ)) (request : Request) (zone : Zone) (seconds : ℤ) (plan : Option RunPlan) (outcome : Outcome) (report : Report) {o n : Option Journal} → AskFor here words request → request.debug ≡ false → outcome ≡ Done report → Left (Answered here words zone seconds plan outcome) o n → Left (TellsOfPlan request zone seconds report) o n
+left_tells here words request zone seconds plan outcome report {o = o} {n = n} asks dry done l = done_tells here words request zone seconds plan report asks dry (subst (λ (a : Outcome). Left (Answered here words zone seconds plan a) o n) done l)

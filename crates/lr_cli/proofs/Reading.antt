@@ -1,5 +1,5 @@
 -- What the reading of a configuration and the run behind it leave together.
-use Rattle.std.proofs.Common.{◌≡◌, ◌≤◌, ◌+◌, ⊎_elim, Bool, List, [], ◌∷◌, ◌++◌, Option, All, Contains, Err, refl, sym, ap, ◌∙◌, subst, append-nil, append_assoc, arith}
+use Rattle.std.proofs.Common.{◌≡◌, ◌≤◌, ◌+◌, ⊎_elim, Bool, List, [], ◌∷◌, ◌++◌, Option, None, All, Contains, Err, refl, sym, ap, ◌∙◌, subst, append-nil, append_assoc, arith}
 use Rattle.std.specs.List.{AllByRecursion as Every}
 use Rattle.std.proofs.lemmas.List.Elements.{recursion_from_All, Contains-append_cases}
 use Rattle.lr_rules.specs.declared.path.Path.{Path}
@@ -7,13 +7,12 @@ use Rattle.lr_rules.specs.declared.civil.Moment.{Moment}
 use Rattle.lr_rules.specs.declared.fault.CallKind.TheVariants as call
 use Rattle.lr_rules.specs.declared.fault.Fault.{Fault}
 use Rattle.lr_rules.specs.declared.fault.Fault.TheVariants as fault
-use Rattle.lr_rules.specs.Path.{parent_of}
+use Rattle.lr_rules.specs.declared.rules.Rules.{Rules}
 use Rattle.lr_host.specs.declared.entry.Entry.{Entry}
 use Rattle.lr_host.specs.declared.journal.Journal.{Journal}
 use Rattle.lr_host.specs.Told.{Counts, NoneFell, Left}
 use Rattle.lr_host.proofs.Left.{left_as, left_both, left_then}
 use Rattle.lr_conf.specs.Meaning.{Meaning}
-use Rattle.lr_host.specs.Looks.{Sees, IsDir}
 use Rattle.lr_host.specs.Quiet.{AreQuiet}
 use Rattle.lr_host.proofs.Quiet.{quiet_both}
 use Rattle.lr_host.specs.Counted.{calls_in, scripts_in, HasNoOut, IsOut, RoseBy, AreCounted, AddsFaults}
@@ -24,49 +23,69 @@ use Rattle.lr_include.specs.Stages.{Reads}
 use Rattle.lr_include.specs.Lacking.{LacksReading}
 use Rattle.lr_include.proofs.AllQuiet.{reads_quiet as confs_quiet, lacking_quiet}
 use Rattle.lr_rotations.specs.AllTurns.{IsWholeRun, not_yet}
-use Rattle.lr_run.specs.Runs.{Runs}
-use Rattle.lr_run.specs.Runs.{Answers as RunAnswers}
+use Rattle.lr_plan.specs.declared.planned.Plan.{Plan}
+use Rattle.lr_plan.specs.declared.settings.Settings.{Settings}
+use Rattle.lr_run.specs.Answers.{Leaves, Holds, Lacks}
+use Rattle.lr_run.specs.Answers.{Answers as RunAnswers}
 use Rattle.lr_run.specs.declared.answer.RunStop.{RunStop}
 use Rattle.lr_run.specs.declared.answer.RunStop.TheVariants as stop
-use Rattle.lr_run.specs.Runs.{LacksMemory as RunLacks}
+use Rattle.lr_command.specs.declared.request.Request.{Request}
 use Rattle.lr_cli.specs.Faults.{answer_of}
 use Rattle.lr_cli.proofs.OutAside.{Contains-only}
-use Rattle.lr_cli.specs.Answer.{state_path, Answers, Reports, FindsLock, LacksMemory, at_confs, at_run}
+use Rattle.lr_cli.specs.declared.outcome.Outcome.TheVariants.{OutOfMemory}
+use Rattle.lr_cli.specs.Answer.{Answers, Reports, FindsLock, LacksMemory, at_confs, at_run}
+use Rattle.lr_cli.specs.Settled.{AreSettingsOf}
 
 -- ---- what was left
 
+-- by the settings of a request, a run leaves what the request asks for
+leaves_by : (request : Request) (settings : Settings) (now : Moment) (rules : Rules) (plan : Option Plan) (own : List Fault) (ts : List Entry) → AreSettingsOf request settings → Leaves settings.debug settings.state settings.force now rules plan own ts → Leaves request.debug request.state request.force now rules plan own ts
+leaves_by request settings now rules plan own ts a h =
+    subst (λ (b : Bool). Leaves request.debug request.state b now rules plan own ts) a.force
+    (subst (λ (x : Path). Leaves request.debug x settings.force now rules plan own ts) a.state
+    (subst (λ (b : Bool). Leaves b settings.state settings.force now rules plan own ts) a.debug h))
+
+holds_by : (request : Request) (settings : Settings) (ts : List Entry) → AreSettingsOf request settings → Holds settings.debug settings.state ts → Holds request.debug request.state ts
+holds_by request settings ts a h = subst (λ (x : Path). Holds request.debug x ts) a.state (subst (λ (b : Bool). Holds b settings.state ts) a.debug h)
+
+lacks_by : (request : Request) (settings : Settings) (now : Moment) (rules : Rules) (ts : List Entry) → AreSettingsOf request settings → Lacks settings.debug settings.state settings.force now rules ts → Lacks request.debug request.state request.force now rules ts
+lacks_by request settings now rules ts a h =
+    subst (λ (b : Bool). Lacks request.debug request.state b now rules ts) a.force
+    (subst (λ (x : Path). Lacks request.debug x settings.force now rules ts) a.state
+    (subst (λ (b : Bool). Lacks b settings.state settings.force now rules ts) a.debug h))
+
 -- the report of a reading and of the run behind it
-pub reports : (confs : List Path) (state : Path) (force : Bool) (now : Moment) (r : Reading) (earlier faults : List Fault) {o m n : Option Journal} → state ≡ state_path → earlier ≡ r.faults
-    → Left (Reads confs (meaning_of r)) o m → Left (λ ts. (own : List Fault) × (faults ≡ earlier ++ own) × Runs state force now r.rules own ts) m n → Left (Reports confs force now r.notices faults) o n
-reports confs state force now r earlier faults at e a b = left_as (left_both a b) (λ ts t. record {
+pub reports : (request : Request) (settings : Settings) (now : Moment) (plan : Option Plan) (r : Reading) (earlier faults : List Fault) {o m n : Option Journal} → AreSettingsOf request settings → earlier ≡ r.faults
+    → Left (Reads request.confs (meaning_of r)) o m → Left (λ ts. (own : List Fault) × (faults ≡ earlier ++ own) × Leaves settings.debug settings.state settings.force now r.rules plan own ts) m n → Left (Reports request now plan r.notices faults) o n
+reports request settings now plan r earlier faults at e a b = left_as (left_both a b) (λ ts t. record {
   meaning = meaning_of r;
   rules = r.rules;
   own = t.second.0;
   rules_are = refl;
   notices_are = refl;
   faults_are = t.second.1 ∙ ap (λ fs. fs ++ t.second.0) e;
-  entries = record { front = t.front; back = t.back; joined = t.joined; first = t.first; second = subst (λ p. Runs p force now r.rules t.second.0 t.back) at t.second.2 };
+  entries = record { front = t.front; back = t.back; joined = t.joined; first = t.first; second = leaves_by request settings now r.rules plan t.second.0 t.back at t.second.2 };
 })
 
-pub finds_lock : (confs : List Path) (state : Path) (r : Reading) {o m n : Option Journal} → state ≡ state_path → Left (Reads confs (meaning_of r)) o m → Left (Sees (parent_of state) IsDir) m n → Left (FindsLock confs) o n
-finds_lock confs state r at a b = left_as (left_both a b) (λ ts t. record {
+finds_lock : (request : Request) (settings : Settings) (r : Reading) {o m n : Option Journal} → AreSettingsOf request settings → Left (Reads request.confs (meaning_of r)) o m → Left (Holds settings.debug settings.state) m n → Left (FindsLock request) o n
+finds_lock request settings r at a b = left_as (left_both a b) (λ ts t. record {
   meaning = meaning_of r;
-  entries = record { front = t.front; back = t.back; joined = t.joined; first = t.first; second = subst (λ p. Sees (parent_of p) IsDir t.back) at t.second };
+  entries = record { front = t.front; back = t.back; joined = t.joined; first = t.first; second = holds_by request settings t.back at t.second };
 })
 
-pub lacks_at_confs : (confs : List Path) (force : Bool) (now : Moment) {o n : Option Journal} → Left (LacksReading confs) o n → Left (LacksMemory confs force now) o n
-lacks_at_confs confs force now l = left_as l (λ ts h. at_confs h)
+pub lacks_at_confs : (request : Request) (now : Moment) (confs : List Path) {o n : Option Journal} → confs ≡ request.confs → Left (LacksReading confs) o n → Left (Answers request now None OutOfMemory) o n
+lacks_at_confs request now confs e l = left_as l (λ ts h. (refl, at_confs (subst (λ (ps : List Path). LacksReading ps ts) e h)))
 
-pub lacks_at_run : (confs : List Path) (state : Path) (force : Bool) (now : Moment) (r : Reading) {o m n : Option Journal} → state ≡ state_path
-    → Left (Reads confs (meaning_of r)) o m → Left (RunLacks state force now r.rules) m n → Left (LacksMemory confs force now) o n
-lacks_at_run confs state force now r at a b = left_as (left_both a b) (λ ts t.
-    at_run (meaning_of r) r.rules refl (record { front = t.front; back = t.back; joined = t.joined; first = t.first; second = subst (λ p. RunLacks p force now r.rules t.back) at t.second }))
+lacks_at_run : (request : Request) (settings : Settings) (now : Moment) (r : Reading) {o m n : Option Journal} → AreSettingsOf request settings
+    → Left (Reads request.confs (meaning_of r)) o m → Left (Lacks settings.debug settings.state settings.force now r.rules) m n → Left (LacksMemory request now) o n
+lacks_at_run request settings now r at a b = left_as (left_both a b) (λ ts t.
+    at_run (meaning_of r) r.rules refl (record { front = t.front; back = t.back; joined = t.joined; first = t.first; second = lacks_by request settings now r.rules t.back at t.second }))
 
 -- what a run that stopped left
-pub stopped : (confs : List Path) (state : Path) (force : Bool) (now : Moment) (r : Reading) (earlier : List Fault) (s : RunStop) {o m n : Option Journal} → state ≡ state_path
-    → Left (Reads confs (meaning_of r)) o m → Left (RunAnswers state force now r.rules earlier (Err s)) m n → Left (Answers confs force now (answer_of (Err s))) o n
-stopped confs state force now r earlier stop.Held at a b = finds_lock confs state r at a b
-stopped confs state force now r earlier stop.Memory at a b = lacks_at_run confs state force now r at a b
+pub stopped : (request : Request) (settings : Settings) (now : Moment) (r : Reading) (earlier : List Fault) (s : RunStop) {o m n : Option Journal} → AreSettingsOf request settings
+    → Left (Reads request.confs (meaning_of r)) o m → Left (RunAnswers settings.state settings.debug settings.force now r.rules earlier (Err s)) m n → Left (Answers request now None (answer_of (Err s))) o n
+stopped request settings now r earlier stop.Held at a b = left_as (finds_lock request settings r at a b) (λ ts h. (refl, h))
+stopped request settings now r earlier stop.Memory at a b = left_as (lacks_at_run request settings now r at a b) (λ ts h. (refl, h))
 
 -- ---- the faults, and the counts
 

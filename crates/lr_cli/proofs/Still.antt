@@ -1,5 +1,5 @@
 -- What changes nothing of the disk, and what a call leaves where there was no memory.
-use Rattle.std.proofs.Common.{◌≡◌, ℕ, List, [], ◌∷◌, ◌++◌, Option, refl, sym, subst}
+use Rattle.std.proofs.Common.{◌≡◌, ℕ, Bool, true, false, List, [], ◌∷◌, ◌++◌, Option, Some, refl, sym, ap, ◌∙◌, subst}
 use Rattle.std.specs.Prelude.{ℤ}
 use Rattle.lr_rules.specs.declared.path.Path.{Path}
 use Rattle.lr_rules.specs.declared.civil.Moment.{Moment}
@@ -26,20 +26,24 @@ use Rattle.lr_due.specs.declared.zone.ZoneText.{ZoneText}
 use Rattle.lr_include.specs.Lacking.{LacksReading}
 use Rattle.lr_include.specs.Stages.{Reads}
 use Rattle.lr_include.proofs.AllQuiet.{all_so, lacking_so}
+use Rattle.lr_plan.specs.declared.planned.Plan.{Plan}
+use Rattle.lr_run.specs.Answers.{Leaves, Holds, Lacks}
+use Rattle.lr_run.specs.Dry.{IsSight, AreSights}
 use Rattle.lr_run.specs.Runs.{Inside, SomeSeen, in_looks, in_acts}
 use Rattle.lr_run.specs.Runs.{LacksMemory as RunLacks, at_first as run_at_first}
 use Rattle.lr_run.specs.Scripts.{HaveNoScripts}
+use Rattle.lr_run.proofs.Drying.{tries_so, lacks_so}
 use Rattle.lr_run.proofs.Scriptless.{never_broke_off}
 use Rattle.lr_run.proofs.Seeing.{some_so}
 use Rattle.lr_cli.specs.declared.clock.ClockStop.{ClockStop}
 use Rattle.lr_cli.specs.declared.clock.ClockStop.TheVariants as stop
-use Rattle.lr_cli.specs.Clock.{ShowsClock, out_of_range, no_text, refused, ClockStopped}
+use Rattle.lr_cli.specs.Clock.{ShowsClock, LacksClock, out_of_range, no_text, refused, ClockStopped}
 use Rattle.lr_cli.specs.declared.outcome.Outcome.{Outcome}
-use Rattle.lr_cli.specs.declared.outcome.Outcome.TheVariants.{OutOfMemory}
-use Rattle.lr_cli.specs.declared.words.Request.{Request}
-use Rattle.lr_cli.specs.Answer.{state_path, LacksMemory, at_first, at_confs, at_run, AnswersAt, no_clock, no_memory, called, Answered, not_read, read}
+use Rattle.lr_cli.specs.declared.outcome.Outcome.TheVariants.{Done, BadWords, Held, OutOfMemory}
+use Rattle.lr_command.specs.declared.request.Request.{Request}
+use Rattle.lr_cli.specs.Answer.{Answers, LacksMemory, at_first, at_confs, at_run, AnswersAt, no_clock, no_memory, called, Answered, not_read, read}
 use Rattle.lr_cli.specs.Still.{IsStill, AreStill, WasShort, all_still, broke_off}
-use Rattle.lr_cli.specs.Words.{AreWords}
+use Rattle.lr_cli.specs.Asked.{AskFor}
 use Rattle.lr_cli.specs.Zone.{LacksZoneMemory, ShowsZone, LacksText, not_file, too_big, look_failed as text_look_failed, read_failed as text_read_failed, at_first as zone_at_first, at_file}
 
 pub reads_quiet : (conf : Path) (ts : List Entry) → Each (IsReadOf conf) ts → AreQuiet ts
@@ -117,38 +121,123 @@ looks_still state now rules ts i = subst AreStill (sym i.entries) (each_append I
 
 -- ---- a call
 
+-- words ask for one request
+pub same_Some : (a b : Request) → Some a ≡ Some b → a ≡ b
+same_Some a b e = cc
+
 module _ (here : Path) (words : List (List ℕ)) (zone : Zone) (seconds : ℤ) where
   -- behind the clock and the reading
-  run_short : (request : Request) → AreWords here words request → (clock : Clock) (meaning : Meaning) (rules : Rules) (ts us reads acts : List Entry) (front : List Entry) → rules.sets ≡ meaning.rules → ts ≡ front ++ us → us ≡ reads ++ acts
-      → ShowsClock zone seconds clock front → Reads request.confs meaning reads → RunLacks state_path request.force clock.now rules acts → WasShort here words zone seconds ts
-  run_short request asked clock meaning rules ts us reads acts front same joined parts shown given (run_at_first none) =
-      all_still (subst AreStill (sym joined) (each_append IsStill front us (clock_still zone seconds clock front shown) (subst AreStill (sym parts) (each_append IsStill reads acts (confs_still request.confs meaning reads given) (none_still acts none)))))
-  run_short request asked clock meaning rules ts us reads acts front same joined parts shown given (in_looks i) =
-      all_still (subst AreStill (sym joined) (each_append IsStill front us (clock_still zone seconds clock front shown) (subst AreStill (sym parts) (each_append IsStill reads acts (confs_still request.confs meaning reads given) (looks_still state_path clock.now rules acts i)))))
-  run_short request asked clock meaning rules ts us reads acts front same joined parts shown given (in_acts i) = broke_off (record {
+  run_short : (request : Request) → AskFor here words request → (clock : Clock) (meaning : Meaning) (rules : Rules) (ts us reads acts : List Entry) (front : List Entry) → rules.sets ≡ meaning.rules → ts ≡ front ++ us → us ≡ reads ++ acts
+      → ShowsClock zone seconds clock front → Reads request.confs meaning reads → RunLacks request.state request.force clock.now rules acts → WasShort here words zone seconds ts
+  run_short request asked clock meaning rules ts us reads acts front same joined parts shown of_confs (run_at_first none) =
+      all_still (subst AreStill (sym joined) (each_append IsStill front us (clock_still zone seconds clock front shown) (subst AreStill (sym parts) (each_append IsStill reads acts (confs_still request.confs meaning reads of_confs) (none_still acts none)))))
+  run_short request asked clock meaning rules ts us reads acts front same joined parts shown of_confs (in_looks i) =
+      all_still (subst AreStill (sym joined) (each_append IsStill front us (clock_still zone seconds clock front shown) (subst AreStill (sym parts) (each_append IsStill reads acts (confs_still request.confs meaning reads of_confs) (looks_still request.state clock.now rules acts i)))))
+  run_short request asked clock meaning rules ts us reads acts front same joined parts shown of_confs (in_acts i) = broke_off (record {
     request = request;
     asked = asked;
     clock = clock;
     meaning = meaning;
     rules = rules;
     rules_are = same;
-    some_script = λ none. never_broke_off state_path rules.sets clock.now request.force i.between (subst HaveNoScripts (sym same) none) i.within;
-    entries = record { front = front; back = us; joined = joined; first = shown; second = record { front = reads; back = acts; joined = parts; first = given; second = i } };
+    some_script = λ none. never_broke_off request.state rules.sets clock.now request.force i.between (subst HaveNoScripts (sym same) none) i.within;
+    entries = record { front = front; back = us; joined = joined; first = shown; second = record { front = reads; back = acts; joined = parts; first = of_confs; second = i } };
   })
 
-  lacks_short : (request : Request) → AreWords here words request → (clock : Clock) (ts us front : List Entry) → ts ≡ front ++ us → ShowsClock zone seconds clock front → LacksMemory request.confs request.force clock.now us → WasShort here words zone seconds ts
+  -- so it is of a run that is dry, or isn't
+  any_short : (request : Request) → AskFor here words request → (clock : Clock) (meaning : Meaning) (rules : Rules) (ts us reads acts : List Entry) (front : List Entry) → rules.sets ≡ meaning.rules → ts ≡ front ++ us → us ≡ reads ++ acts
+      → ShowsClock zone seconds clock front → Reads request.confs meaning reads → Lacks request.debug request.state request.force clock.now rules acts → WasShort here words zone seconds ts
+  any_short request asked clock meaning rules ts us reads acts front same joined parts shown of_confs l = go request.debug l
+    where
+      go : (b : Bool) → Lacks b request.state request.force clock.now rules acts → WasShort here words zone seconds ts
+      go true l = all_still (subst AreStill (sym joined) (each_append IsStill front us (clock_still zone seconds clock front shown) (subst AreStill (sym parts) (each_append IsStill reads acts (confs_still request.confs meaning reads of_confs)
+          (lacks_so IsStill (λ x seen. tt) (λ x names. tt) (λ x place piece. tt) request.state rules.sets acts l)))))
+      go false l = run_short request asked clock meaning rules ts us reads acts front same joined parts shown of_confs l
+
+  lacks_short : (request : Request) → AskFor here words request → (clock : Clock) (ts us front : List Entry) → ts ≡ front ++ us → ShowsClock zone seconds clock front → LacksMemory request clock.now us → WasShort here words zone seconds ts
   lacks_short request asked clock ts us front joined shown (at_first none) = all_still (subst AreStill (sym joined) (each_append IsStill front us (clock_still zone seconds clock front shown) (none_still us none)))
   lacks_short request asked clock ts us front joined shown (at_confs l) = all_still (subst AreStill (sym joined) (each_append IsStill front us (clock_still zone seconds clock front shown) (lacking_still request.confs us l)))
-  lacks_short request asked clock ts us front joined shown (at_run meaning rules same t) = run_short request asked clock meaning rules ts us t.front t.back front same joined t.joined shown t.first t.second
+  lacks_short request asked clock ts us front joined shown (at_run meaning rules same t) = any_short request asked clock meaning rules ts us t.front t.back front same joined t.joined shown t.first t.second
 
-  at_short : (request : Request) → AreWords here words request → (ts : List Entry) → AnswersAt request zone seconds OutOfMemory ts → WasShort here words zone seconds ts
-  at_short request asked ts (no_clock f is l) = absurd (cc)
-  at_short request asked ts (no_memory is l) = all_still (zone_memory_still zone ts l)
-  at_short request asked ts (called clock t) = lacks_short request asked clock ts t.back t.front t.joined t.first t.second
+  at_short : (request : Request) (plan : Option Plan) → AskFor here words request → (ts : List Entry) → AnswersAt request zone seconds plan OutOfMemory ts → WasShort here words zone seconds ts
+  at_short request plan asked ts (no_clock f lost is l) = absurd (cc)
+  at_short request plan asked ts (no_memory lost is l) = all_still (zone_memory_still zone ts l)
+  at_short request plan asked ts (called clock t) = lacks_short request asked clock ts t.back t.front t.joined t.first t.second.1
 
-  short : (ts : List Entry) → Answered here words zone seconds OutOfMemory ts → WasShort here words zone seconds ts
-  short ts (not_read is none) = all_still (none_still ts none)
-  short ts (read request asked h) = at_short request asked ts h
+  short : (plan : Option Plan) (ts : List Entry) → Answered here words zone seconds plan OutOfMemory ts → WasShort here words zone seconds ts
+  short plan ts (not_read lost is none) = all_still (none_still ts none)
+  short plan ts (read request asked h) = at_short request plan asked ts h
 
-  pub left_short : (outcome : Outcome) {o n : Option Journal} → outcome ≡ OutOfMemory → Left (Answered here words zone seconds outcome) o n → Left (WasShort here words zone seconds) o n
-  left_short outcome {o = o} {n = n} e l = left_as (subst (λ (a : Outcome). Left (Answered here words zone seconds a) o n) e l) short
+  pub left_short : (plan : Option Plan) (outcome : Outcome) {o n : Option Journal} → outcome ≡ OutOfMemory → Left (Answered here words zone seconds plan outcome) o n → Left (WasShort here words zone seconds) o n
+  left_short plan outcome {o = o} {n = n} e l = left_as (subst (λ (a : Outcome). Left (Answered here words zone seconds plan a) o n) e l) (short plan)
+
+  -- ---- a dry run
+
+  module _ (P : Entry → Type 0) (look : (x : Path) (seen : Option Seen) → P (entry.Look x seen)) (list : (x : Path) (names : List (List ℕ)) → P (entry.List x names)) (reads : (x : Path) (place : ℕ) (piece : List ℕ) → P (entry.Reads x place piece)) where
+    only_reads_so : (x : Path) (ts : List Entry) → Each (IsReadOf x) ts → Each P ts
+    only_reads_so x [] each = tt
+    only_reads_so x (entry.Reads y from piece ∷ ts) each = (reads y from piece, only_reads_so x ts each.1)
+    only_reads_so x (_ ∷ ts) each = absurd each.0
+
+    then_so : (Q R : List Entry → Type 0) (ts : List Entry) → ((us : List Entry) → Q us → Each P us) → ((us : List Entry) → R us → Each P us) → Then Q R ts → Each P ts
+    then_so Q R ts f g t = subst (Each P) (sym t.joined) (each_append P t.front t.back (f t.front t.first) (g t.back t.second))
+
+    sees_so : (x : Path) (Q : Option Seen → Type 0) (ts : List Entry) → Sees x Q ts → Each P ts
+    sees_so x Q ts s = subst (Each P) (sym s.look) (look x s.seen, tt)
+
+    none_so : (ts : List Entry) → ts ≡ [] → Each P ts
+    none_so ts e = subst (Each P) (sym e) tt
+
+    zone_so : (z : Zone) (text : ZoneText) (ts : List Entry) → ShowsZone z text ts → Each P ts
+    zone_so Utc text ts h = none_so ts h.1
+    zone_so (Rule rule) text ts h = none_so ts h.1
+    zone_so (File path) text ts h = then_so _ _ ts (λ us s. sees_so path IsFile us s) (λ us g. only_reads_so path us (reads_only path 1048577 h.0 us g.1)) h.2
+
+    whole_so : (path : Path) (bytes : List ℕ) (ts : List Entry) → Then (Sees path IsFile) (ReadsAll path 1048577 bytes) ts → Each P ts
+    whole_so path bytes ts t = then_so _ _ ts (λ us s. sees_so path IsFile us s) (λ us g. only_reads_so path us (reads_only path 1048577 bytes us g)) t
+
+    file_so : (path : Path) (ts : List Entry) → Then (Sees path IsFile) (Each (IsReadOf path)) ts → Each P ts
+    file_so path ts t = then_so _ _ ts (λ us s. sees_so path IsFile us s) (λ us g. only_reads_so path us g) t
+
+    text_so : (f : Fault) (ts : List Entry) → LacksText zone f ts → Each P ts
+    text_so f ts (not_file path z e s) = sees_so path _ ts s
+    text_so f ts (too_big path bytes z e n t) = whole_so path bytes ts t
+    text_so f ts (text_look_failed path z e none) = none_so ts none
+    text_so f ts (text_read_failed path z e t) = file_so path ts t
+
+    lost_clock_so : (f : Fault) (ts : List Entry) → LacksClock zone seconds f ts → Each P ts
+    lost_clock_so f ts (out_of_range out e none) = none_so ts none
+    lost_clock_so f ts (no_text range h) = text_so f ts h
+    lost_clock_so f ts (refused text range e r h) = zone_so zone text ts h
+
+    lost_memory_so : (ts : List Entry) → LacksZoneMemory zone ts → Each P ts
+    lost_memory_so ts (zone_at_first none) = none_so ts none
+    lost_memory_so ts (at_file path z t) = file_so path ts t
+
+    confs_so : (confs : List Path) (m : Meaning) (ts : List Entry) → Reads confs m ts → Each P ts
+    confs_so = all_so P look list (λ x from piece le. reads x from piece)
+
+    answers_dry : (request : Request) (now : Moment) (plan : Option Plan) (outcome : Outcome) (ts : List Entry) → request.debug ≡ true → Answers request now plan outcome ts → Each P ts
+    answers_dry request now plan (Done report) ts dry h = then_so _ _ ts (λ us r. confs_so request.confs h.meaning us r)
+        (λ us r. tries_so P look list reads request.state h.rules.sets now request.force plan h.own us (subst (λ (b : Bool). Leaves b request.state request.force now h.rules plan h.own us) dry r)) h.entries
+    answers_dry request now plan Held ts dry h = then_so _ _ ts (λ us r. confs_so request.confs h.1.meaning us r) (λ us r. absurd (subst (λ (b : Bool). Holds b request.state us) dry r)) h.1.entries
+    answers_dry request now plan BadWords ts dry h = absurd h
+    answers_dry request now plan OutOfMemory ts dry h = go h.1
+      where
+        go : LacksMemory request now ts → Each P ts
+        go (at_first none) = none_so ts none
+        go (at_confs l) = lacking_so P look list (λ x from piece le. reads x from piece) request.confs ts l
+        go (at_run meaning rules same t) = then_so _ _ ts (λ us r. confs_so request.confs meaning us r)
+            (λ us r. lacks_so P look list reads request.state rules.sets us (subst (λ (b : Bool). Lacks b request.state request.force now rules us) dry r)) t
+
+    at_dry : (request : Request) (plan : Option Plan) (outcome : Outcome) (ts : List Entry) → request.debug ≡ true → AnswersAt request zone seconds plan outcome ts → Each P ts
+    at_dry request plan outcome ts dry (no_clock f lost is l) = lost_clock_so f ts l
+    at_dry request plan outcome ts dry (no_memory lost is l) = lost_memory_so ts l
+    at_dry request plan outcome ts dry (called clock t) = then_so _ _ ts (λ us h. zone_so zone h.text us h.shows) (λ us h. answers_dry request clock.now plan outcome us dry h) t
+
+    pub answered_dry : (request : Request) (plan : Option Plan) (outcome : Outcome) (ts : List Entry) → AskFor here words request → request.debug ≡ true → Answered here words zone seconds plan outcome ts → Each P ts
+    answered_dry request plan outcome ts asks dry (not_read lost is none) = none_so ts none
+    answered_dry request plan outcome ts asks dry (read other asked h) = at_dry other plan outcome ts (ap (λ (r : Request). r.debug) (same_Some other request (sym asked ∙ asks)) ∙ dry) h
+
+pub left_dry : (here : Path) (words : List (List ℕ)) (zone : Zone) (seconds : ℤ) (request : Request) (plan : Option Plan) (outcome : Outcome) {o n : Option Journal} → AskFor here words request → request.debug ≡ true → Left (Answered here words zone seconds plan outcome) o n → Left AreSights o n
+left_dry here words zone seconds request plan outcome asks dry l = left_as l (λ ts h. answered_dry here words zone seconds IsSight (λ x seen. tt) (λ x names. tt) (λ x place piece. tt) request plan outcome ts asks dry h)

@@ -1,12 +1,13 @@
 -- The faults of a call's answer.
-use Rattle.std.specs.Prelude.{◌≡◌, Contains, List, [], ◌∷◌, Result, Ok, Err}
+use Rattle.std.specs.Prelude.{◌≡◌, Contains, List, [], ◌∷◌, Option, None, Result, Ok, Err}
 use Rattle.lr_rules.specs.declared.fault.Fault.{Fault}
+use Rattle.lr_rules.specs.declared.path.Path.{Path}
+use Rattle.lr_plan.specs.declared.planned.Plan.{Plan}
 use Rattle.lr_host.specs.Told.{Counts}
 use Rattle.lr_host.specs.Counted.{calls_in, scripts_in, AreCounted}
 use Rattle.lr_run.specs.declared.answer.RunStop.{RunStop}
 use Rattle.lr_run.specs.declared.answer.RunStop.TheVariants as stop
 use Rattle.lr_reached.specs.Ending.{NoneEnds}
-use Rattle.lr_cli.specs.Answer.{state_path}
 use Rattle.lr_cli.specs.declared.clock.ClockStop.{ClockStop}
 use Rattle.lr_cli.specs.declared.clock.ClockStop.TheVariants as clock_stop
 use Rattle.lr_cli.specs.declared.outcome.Outcome.{Outcome}
@@ -18,6 +19,11 @@ abbrev pub answer_of : Result Told RunStop → Outcome
 answer_of (Ok told) = Done (record { notices = told.notices; faults = told.faults.items })
 answer_of (Err stop.Held) = Held
 answer_of (Err stop.Memory) = OutOfMemory
+
+-- the plan that it came to
+abbrev pub plan_told : Result Told RunStop → Option Plan
+plan_told (Ok told) = told.plan
+plan_told (Err why) = None
 
 -- the answer where there is no clock
 abbrev pub clock_answer : ClockStop → Outcome
@@ -35,7 +41,7 @@ HasCounted (Done report) counted counts = AreCounted report.faults counted count
 HasCounted _ counted counts = Unit {0}
 
 -- The faults stopped nothing that was planned: none of them ends a run, and none tells of a call that failed or of a script that ended badly. So each is one of the configuration, of what the looks at the logs saw, or of the plan.
-pub record StopNothing (faults : List Fault) : Type 0 where
-  pub none_ends : NoneEnds state_path faults
+pub record StopNothing (state : Path) (faults : List Fault) : Type 0 where
+  pub none_ends : NoneEnds state faults
   pub no_call : calls_in faults ≡ 0
   pub no_script : scripts_in faults ≡ 0

@@ -1,11 +1,13 @@
 pub mod Answer
+pub mod Asked
 pub mod Clock
 pub mod Faults
 pub mod Printed
 pub mod Reached
 pub mod Rotated
+pub mod Says
+pub mod Settled
 pub mod State
 pub mod Status
 pub mod Still
-pub mod Words
 pub mod Zone

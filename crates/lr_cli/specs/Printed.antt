@@ -1,5 +1,5 @@
 -- What a call prints, and what its report says beside the output's own fault.
-use Rattle.std.specs.Prelude.{ℕ, List, [], ◌∷◌, codes}
+use Rattle.std.specs.Prelude.{ℕ, List, [], ◌∷◌, ◌++◌, codes}
 use Rattle.lr_rules.specs.declared.fault.Fault.{Fault}
 use Rattle.lr_rules.specs.declared.fault.Fault.TheVariants as fault
 use Rattle.lr_report.specs.Lines.{line, lines}
@@ -31,6 +31,6 @@ text_of BadWords = line (codes "bad command line")
 text_of Held = line (codes "state file is locked")
 text_of OutOfMemory = line (codes "out of memory")
 
--- What is printed of an answer: its text but for the line of `Out`, which only comes where the output failed.
-abbrev pub printed_of : Outcome → List ℕ
-printed_of outcome = text_of (without_out outcome)
+-- What is printed of an answer: the text of the plan, where there is one to print, and then its own text but for the line of `Out`, which only comes where the output failed.
+abbrev pub printed_of : List ℕ → Outcome → List ℕ
+printed_of planned outcome = planned ++ text_of (without_out outcome)

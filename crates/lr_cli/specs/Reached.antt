@@ -1,5 +1,5 @@
--- Whether a call came to its plan, by its entries and by its report.
-use Rattle.std.specs.Prelude.{◌≡◌, ◌⊎◌, ◌↔◌, ℕ, ℤ, List, [], ◌∷◌, ◌++◌}
+-- Whether a call that isn't a dry run came to its plan, by its entries and by its report.
+use Rattle.std.specs.Prelude.{◌≡◌, ◌⊎◌, ◌↔◌, ℤ, List, [], ◌∷◌, ◌++◌}
 use Rattle.lr_rules.specs.declared.clock.Clock.{Clock}
 use Rattle.lr_rules.specs.declared.fault.CallKind.TheVariants as call
 use Rattle.lr_rules.specs.declared.fault.Fault.{Fault}
@@ -16,15 +16,11 @@ use Rattle.lr_reached.specs.Ending.{EndsRun, NoneEnds, MayEnd}
 use Rattle.lr_reached.specs.Looked.{behind_start, SawState}
 use Rattle.lr_reached.specs.Reached.{IsReached}
 use Rattle.lr_cli.specs.declared.outcome.Report.{Report}
-use Rattle.lr_cli.specs.declared.words.Request.{Request}
-use Rattle.lr_cli.specs.Answer.{state_path}
+use Rattle.lr_command.specs.declared.request.Request.{Request}
 use Rattle.lr_cli.specs.Clock.{ShowsClock}
-use Rattle.lr_cli.specs.Words.{AreWords}
 
 -- The call came to its plan: the zone's clock was had, the configuration was read, and a run over its rules by this clock came to its plan and carried it out, whatever failed then. The report has the notices of the configuration, and its faults before those of the run.
-pub record ReachesPlan (here : Path) (words : List (List ℕ)) (zone : Zone) (seconds : ℤ) (report : Report) (ts : List Entry) : Type 0 where
-  pub request : Request
-  pub asked : AreWords here words request
+pub record ReachesPlan (request : Request) (zone : Zone) (seconds : ℤ) (report : Report) (ts : List Entry) : Type 0 where
   pub clock : Clock
   pub meaning : Meaning
   pub rules : Rules
@@ -38,7 +34,7 @@ pub record ReachesPlan (here : Path) (words : List (List ℕ)) (zone : Zone) (se
   pub joined : ts ≡ of_clock ++ (reads ++ acts)
   pub shown : ShowsClock zone seconds clock of_clock
   pub read : Reads request.confs meaning reads
-  pub run : IsReached state_path request.force clock.now rules own acts
+  pub run : IsReached request.state request.force clock.now rules own acts
 
 -- a look at the zone's file failed, or a read of it
 abbrev pub IsOfZone : Zone → Fault → Type 0
@@ -46,18 +42,18 @@ IsOfZone (File path) f = (f ≡ fault.Call call.Look path) ⊎ (f ≡ fault.Call
 IsOfZone _ f = ⊥
 
 -- A look or a read failed of the zone's file or of a path of the state. Made for the zone or the state, it ended the call; made for a configuration or a log there, it ended nothing.
-abbrev pub MayEndCall : Zone → Fault → Type 0
-MayEndCall zone f = IsOfZone zone f ⊎ MayEnd state_path f
+abbrev pub MayEndCall : Path → Zone → Fault → Type 0
+MayEndCall state zone f = IsOfZone zone f ⊎ MayEnd state f
 
 -- The last of the faults is why the call ended before its plan.
-pub record SaysWhy (zone : Zone) (faults : List Fault) : Type 0 where
+pub record SaysWhy (state : Path) (zone : Zone) (faults : List Fault) : Type 0 where
   pub before : List Fault
   pub last : Fault
   pub faults_are : faults ≡ before ++ last ∷ []
-  pub ends : EndsRun state_path last ⊎ MayEndCall zone last
+  pub ends : EndsRun state last ⊎ MayEndCall state zone last
 
 -- What the report tells of it. Where none of the faults is such a failed look or read, it tells all: the call came to its plan exactly where none of them ends a run. Where one is, the entries tell besides whether the run saw its state. Where the call didn't come to its plan, the last of the faults is why.
-pub record TellsOfPlan (here : Path) (words : List (List ℕ)) (zone : Zone) (seconds : ℤ) (report : Report) (ts : List Entry) : Type 0 where
-  pub alone : ((f : Fault) → IsIn f report.faults → MayEndCall zone f → ⊥) → ReachesPlan here words zone seconds report ts ↔ NoneEnds state_path report.faults
-  pub exactly : ReachesPlan here words zone seconds report ts ↔ (NoneEnds state_path report.faults × SawState state_path (behind_start ts))
-  pub why : (ReachesPlan here words zone seconds report ts → ⊥) → SaysWhy zone report.faults
+pub record TellsOfPlan (request : Request) (zone : Zone) (seconds : ℤ) (report : Report) (ts : List Entry) : Type 0 where
+  pub alone : ((f : Fault) → IsIn f report.faults → MayEndCall request.state zone f → ⊥) → ReachesPlan request zone seconds report ts ↔ NoneEnds request.state report.faults
+  pub exactly : ReachesPlan request zone seconds report ts ↔ (NoneEnds request.state report.faults × SawState request.state (behind_start ts))
+  pub why : (ReachesPlan request zone seconds report ts → ⊥) → SaysWhy request.state zone report.faults

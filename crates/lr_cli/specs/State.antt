@@ -1,6 +1,5 @@
 -- The text that a call gives the state file.
 use Rattle.std.specs.Prelude.{◌≡◌, ℕ, ℤ, List}
-use Rattle.lr_rules.specs.declared.path.Path.{Path}
 use Rattle.lr_rules.specs.declared.clock.Clock.{Clock}
 use Rattle.lr_rules.specs.declared.rules.Rules.{Rules}
 use Rattle.lr_host.specs.declared.entry.Entry.{Entry}
@@ -9,17 +8,13 @@ use Rattle.lr_conf.specs.Meaning.{Meaning}
 use Rattle.lr_include.specs.Stages.{Reads}
 use Rattle.lr_due.specs.declared.tz.Zone.{Zone}
 use Rattle.lr_run.specs.State.{IsNewText as IsTextOfRun}
-use Rattle.lr_cli.specs.declared.words.Request.{Request}
-use Rattle.lr_cli.specs.Answer.{state_path}
+use Rattle.lr_command.specs.declared.request.Request.{Request}
 use Rattle.lr_cli.specs.Clock.{ShowsClock}
-use Rattle.lr_cli.specs.Words.{AreWords}
 
 -- The zone's clock was had, the configuration was read, and this is the text of the run that was made over its rules by this clock.
-pub record IsNewText (here : Path) (words : List (List ℕ)) (zone : Zone) (seconds : ℤ) (ts : List Entry) (text : List ℕ) : Type 0 where
-  pub request : Request
-  pub asked : AreWords here words request
+pub record IsNewText (request : Request) (zone : Zone) (seconds : ℤ) (ts : List Entry) (text : List ℕ) : Type 0 where
   pub clock : Clock
   pub meaning : Meaning
   pub rules : Rules
   pub rules_are : rules.sets ≡ meaning.rules
-  pub entries : Then (ShowsClock zone seconds clock) (Then (Reads request.confs meaning) (λ us. IsTextOfRun state_path clock.now request.force rules us text)) ts
+  pub entries : Then (ShowsClock zone seconds clock) (Then (Reads request.confs meaning) (λ us. IsTextOfRun request.state clock.now request.force rules us text)) ts

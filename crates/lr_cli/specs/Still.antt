@@ -11,10 +11,9 @@ use Rattle.lr_include.specs.Stages.{Reads}
 use Rattle.lr_due.specs.declared.tz.Zone.{Zone}
 use Rattle.lr_run.specs.Runs.{Inside, BrokeOff}
 use Rattle.lr_run.specs.Scripts.{HaveNoScripts}
-use Rattle.lr_cli.specs.declared.words.Request.{Request}
-use Rattle.lr_cli.specs.Answer.{state_path}
+use Rattle.lr_command.specs.declared.request.Request.{Request}
+use Rattle.lr_cli.specs.Asked.{AskFor}
 use Rattle.lr_cli.specs.Clock.{ShowsClock}
-use Rattle.lr_cli.specs.Words.{AreWords}
 
 -- a look, a listing or a read, or the begin or the end of a run: it leaves the disk as it is, and starts no program
 abbrev pub IsStill : Entry → Type 0
@@ -31,13 +30,13 @@ AreStill ts = Each IsStill ts
 -- The configuration was read, and a run over its rules, of which not all are without scripts, broke off amid its acts.
 pub record BrokeOffAmidActs (here : Path) (words : List (List ℕ)) (zone : Zone) (seconds : ℤ) (ts : List Entry) : Type 0 where
   pub request : Request
-  pub asked : AreWords here words request
+  pub asked : AskFor here words request
   pub clock : Clock
   pub meaning : Meaning
   pub rules : Rules
   pub rules_are : rules.sets ≡ meaning.rules
   pub some_script : HaveNoScripts meaning.rules → ⊥
-  pub entries : Then (ShowsClock zone seconds clock) (Then (Reads request.confs meaning) (Inside state_path clock.now rules (BrokeOff state_path rules.sets clock.now request.force))) ts
+  pub entries : Then (ShowsClock zone seconds clock) (Then (Reads request.confs meaning) (Inside request.state clock.now rules (BrokeOff request.state rules.sets clock.now request.force))) ts
 
 -- Where there was no memory the call changed nothing and started no program; or it broke off amid the acts of a run, which it can only where a rule has a script.
 pub data WasShort (here : Path) (words : List (List ℕ)) (zone : Zone) (seconds : ℤ) (ts : List Entry) : Type 0 where

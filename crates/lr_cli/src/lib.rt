@@ -11,22 +11,20 @@
 #![tactic(auto)]
 
 mod clock;
-mod defaults;
 mod outcome;
 mod report;
 mod run;
+mod settings;
 mod told;
 mod top;
-mod words;
 mod zone;
 
 pub use clock::{ClockStop, clock_in};
-pub use defaults::{settings, state_file};
 pub use lr_due::{Zone, zone_of};
 pub use outcome::{Outcome, Report, status};
 pub use report::{printed, put_outcome, put_report};
 pub use run::{run_at, run_by, run_confs};
+pub use settings::settings_of;
 pub use told::Told;
 pub use top::logrotate;
-pub use words::{Request, WordsFault, request_of};
 pub use zone::zone_text;

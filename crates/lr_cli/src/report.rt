@@ -1,19 +1,26 @@
 // What a call prints, and the report that it answers.
-ghost use Rattle.std.specs.Prelude.{◌≡◌, ◌≤◌, ◌<◌, ◌+◌, ◌⊎◌, Contains, IfOk, OnErr, OnOk, vec_len, vec_capacity};
+ghost use Rattle.std.specs.Prelude.{◌≡◌, ◌≤◌, ◌<◌, ◌+◌, ◌++◌, ◌⊎◌, ◌||◌, [], Contains, IfOk, OnErr, OnOk, vec_len, vec_capacity, if◌then◌else◌};
 ghost use Rattle.lr_rules.specs.declared.fault.Fault.TheVariants as fault;
 ghost use Rattle.lr_host.specs.Told.{Rose};
 ghost use Rattle.lr_report.specs.Lines.{lines};
 ghost use Rattle.lr_report.specs.Puts.{Took, TookPart};
+ghost use Rattle.lr_shown.specs.Lines.{plan_text};
+ghost use Rattle.lr_shown.specs.Puts.{Puts};
 ghost use Rattle.lr_cli.specs.declared.outcome.Report.{Report};
-ghost use Rattle.lr_cli.specs.Faults.{answer_of, HasFault};
+ghost use Rattle.lr_cli.specs.Asked.{planned_text};
+ghost use Rattle.lr_cli.specs.Faults.{answer_of, plan_told, HasFault};
 ghost use Rattle.lr_cli.specs.Printed.{printed_of, text_of, without_out};
+ghost use Rattle.lr_cli.specs.Says.{Prints};
 
 use crate::outcome::{Outcome, Report};
 use crate::told::Told;
+use lr_command::Request;
 use lr_host::{Sink, SinkFault};
+use lr_plan::Plan;
 use lr_report::{put_lines, put_said};
 use lr_rules::{Fault, Listed, Notice};
 use lr_run::RunStop;
+use lr_shown::print;
 
 /// Puts the lines of a report: of its notices, then of its faults, each in order. It takes no memory, and stops at the
 /// first fault of the output.
@@ -80,37 +87,87 @@ fn report_with_out(notices: Listed<Notice>, faults: Vec<Fault>) -> Outcome
     })
 }
 
-#[tactic(auto, using(crate::proofs::OutAside::part_printed, crate::proofs::OutAside::whole_printed))]
-// The report of these notices and faults, which are put. Where the output fails, it has `Out` behind them, for which
-// there is room.
-fn report<K: Sink>(notices: Listed<Notice>, faults: Vec<Fault>, out: &mut K) -> Outcome
-    requires room { vec_len faults < vec_capacity faults }
-    requires no_out { Contains faults.items fault.Out → ⊥ }
-    ensures faults { without_out result ≡ Outcome.Done (record { notices = notices; faults = faults.items }) }
-    ensures printed { TookPart (printed_of result) (K.taken out.old) (K.taken out.new) }
-    ensures broken_off { Took (printed_of result) (K.taken out.old) (K.taken out.new) ⊎ HasFault result fault.Out }
-    ensures out { HasFault result fault.Out → Rose (K.faults out.old) (K.faults out.new) }
-    ensures counts { K.faults out.old ≤ K.faults out.new }
+// Puts the text of a plan, so far as the request asks for it.
+fn put_plan<K: Sink>(request: &Request, plan: &Plan, out: &mut K) -> Result<(), SinkFault>
+    ensures { Puts (if request.now.debug || request.now.verbose then plan_text request.now.state request.now.debug plan.now else []) result (K.taken out.old) (K.taken out.new) (K.faults out.old) (K.faults out.new) }
 {
-    match put_lines(notices.as_slice(), &faults, out) {
+    if request.debug || request.verbose {
+        print(plan, &request.state, request.debug, out)
+    } else {
+        Ok(())
+    }
+}
+
+// Puts the text of the plan that a run came to.
+fn put_planned<K: Sink>(request: &Request, told: &Told, out: &mut K) -> Result<(), SinkFault>
+    ensures { Puts (planned_text request.now told.now.plan) result (K.taken out.old) (K.taken out.new) (K.faults out.old) (K.faults out.new) }
+{
+    match &told.plan {
+        Some(plan) => put_plan(request, plan, out),
+        None => Ok(()),
+    }
+}
+
+// Puts the lines of what a run told.
+fn put_said_lines<K: Sink>(told: &Told, out: &mut K) -> Result<(), SinkFault>
+    ensures { Puts (lines told.now.notices told.now.faults.items) result (K.taken out.old) (K.taken out.new) (K.faults out.old) (K.faults out.new) }
+{
+    put_lines(told.notices.as_slice(), &told.faults, out)
+}
+
+// Puts all that there is to say of a run that told this: the text of its plan, and then the lines.
+fn put_told<K: Sink>(request: &Request, told: &Told, out: &mut K) -> Result<(), SinkFault>
+    ensures { Puts (planned_text request.now told.now.plan ++ lines told.now.notices told.now.faults.items) result (K.taken out.old) (K.taken out.new) (K.faults out.old) (K.faults out.new) }
+{
+    put_planned(request, told, out)?;
+    put_said_lines(told, out)
+}
+
+// The report of what a run told, of which all that there is to say was put, or a first part, where the output failed.
+fn report_after(put: Result<(), SinkFault>, told: Told) -> Outcome
+    requires room { vec_len told.faults < vec_capacity told.faults }
+    requires no_out { Contains told.faults.items fault.Out → ⊥ }
+    ensures faults { without_out result ≡ Outcome.Done (record { notices = told.notices; faults = told.faults.items }) }
+    ensures same { OnOk put (result ≡ Outcome.Done (record { notices = told.notices; faults = told.faults.items })) }
+    ensures out { OnErr put (HasFault result fault.Out) }
+{
+    let Told {
+        notices,
+        faults,
+        ..
+    } = told;
+    match put {
         Ok(()) => report_of(notices, faults),
         Err(_) => report_with_out(notices, faults),
     }
 }
 
-/// The answer of a run that told this, or stopped so, printed. There is room for `Out`, so no memory is taken here.
-pub fn finish<K: Sink>(run: Result<Told, RunStop>, out: &mut K) -> Outcome
+// The report of what a run told, all of which is put. Where the output fails, it has `Out` behind the other faults, for
+// which there is room.
+fn report<K: Sink>(request: &Request, told: Told, out: &mut K) -> Outcome
+    requires room { vec_len told.faults < vec_capacity told.faults }
+    requires no_out { Contains told.faults.items fault.Out → ⊥ }
+    ensures faults { without_out result ≡ Outcome.Done (record { notices = told.notices; faults = told.faults.items }) }
+    ensures prints { Prints (printed_of (planned_text request.now told.plan) result) result (K.taken out.old) (K.taken out.new) (K.faults out.old) (K.faults out.new) }
+    ensures out { HasFault result fault.Out → Rose (K.faults out.old) (K.faults out.new) }
+    ensures counts { K.faults out.old ≤ K.faults out.new }
+{
+    let put = put_told(request, &told, out);
+    report_after(put, told)
+}
+
+/// The answer of a run that told this, or stopped so, printed with the text of its plan. There is room for `Out`, so no
+/// memory is taken here.
+pub fn finish<K: Sink>(request: &Request, run: Result<Told, RunStop>, out: &mut K) -> Outcome
     requires room { IfOk run (λ told. vec_len told.faults + 1 ≤ vec_capacity told.faults) }
     requires no_out { IfOk run (λ told. Contains told.faults.items fault.Out → ⊥) }
     ensures answer { without_out result ≡ answer_of run }
-    ensures printed { TookPart (printed_of result) (K.taken out.old) (K.taken out.new) }
-    ensures whole { Took (printed_of result) (K.taken out.old) (K.taken out.new) ⊎ Rose (K.faults out.old) (K.faults out.new) }
-    ensures broken_off { (report : Report) → result ≡ Outcome.Done report → Took (printed_of result) (K.taken out.old) (K.taken out.new) ⊎ Contains report.faults fault.Out }
+    ensures prints { Prints (printed_of (planned_text request.now (plan_told run)) result) result (K.taken out.old) (K.taken out.new) (K.faults out.old) (K.faults out.new) }
     ensures out { HasFault result fault.Out → Rose (K.faults out.old) (K.faults out.new) }
     ensures counts { K.faults out.old ≤ K.faults out.new }
 {
     match run {
-        Ok(told) => report(told.notices, told.faults, out),
+        Ok(told) => report(request, told, out),
         Err(RunStop::Held) => printed(Outcome::Held, out),
         Err(RunStop::Memory) => printed(Outcome::OutOfMemory, out),
     }

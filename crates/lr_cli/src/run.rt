@@ -1,44 +1,46 @@
 // One run over the configuration of some paths.
-ghost use Rattle.std.specs.Prelude.{◌≡◌, ◌≤◌, ◌+◌, [], Err, IfOk, vec_len, vec_capacity};
+ghost use Rattle.std.specs.Prelude.{◌≡◌, ◌≤◌, ◌+◌, [], None, true, Err, IfOk, vec_len, vec_capacity};
 ghost use Rattle.lr_host.specs.Opening.{IsJournal};
 ghost use Rattle.lr_host.specs.Told.{Left, Onward, Rose, WhereTold};
 ghost use Rattle.lr_host.specs.Counted.{AreCounted};
 ghost use Rattle.lr_rotations.specs.AllTurns.{IsWholeRun};
-ghost use Rattle.lr_cli.specs.Answer.{Answers, AnswersAt, state_path};
+ghost use Rattle.lr_command.specs.Words.{can_be_state};
+ghost use Rattle.lr_cli.specs.Answer.{Answers, AnswersAt};
 ghost use Rattle.lr_cli.specs.Clock.{IsClocked};
-ghost use Rattle.lr_cli.specs.Faults.{answer_of, clock_answer};
+ghost use Rattle.lr_cli.specs.Faults.{answer_of, clock_answer, plan_told};
+ghost use Rattle.lr_cli.specs.Settled.{AreSettingsOf};
 
 use crate::clock::{ClockStop, clock_in};
-use crate::defaults::settings;
+use crate::settings::settings_of;
 use crate::told::Told;
-use crate::words::Request;
+use lr_command::Request;
 use lr_due::Zone;
 use lr_host::Host;
 use lr_include::{Reading, read_all};
 use lr_plan::Settings;
-use lr_rules::{Clock, Fault, Listed, Path};
+use lr_rules::{Clock, Fault, Listed};
 use lr_run::{RunStop, run};
 use std::alloc::Global;
 
-/// Reads the configuration of these paths, and makes a run over its rules. All memory but that of programs is taken before
+/// Reads the configuration of a request, and makes a run over its rules, by the settings of the request. All memory but that of programs is taken before
 /// the first change.
 pub fn run_confs<H: Host>(
     alloc: Global,
     host: &mut H,
-    confs: &[Path],
+    request: &Request,
     settings: &Settings,
     clock: &Clock,
 ) -> Result<Told, RunStop>
-    requires state { settings.now.state ≡ state_path }
+    requires settled { AreSettingsOf request.now settings.now }
     requires disk { WhereTold (H.told host.old) IsJournal }
-    ensures told { Left (Answers confs.now settings.now.force clock.entry.now.now (answer_of result)) (H.told host.old) (H.told host.new) }
+    ensures told { Left (Answers request.now clock.entry.now.now (plan_told result) (answer_of result)) (H.told host.old) (H.told host.new) }
     ensures shape { Left IsWholeRun (H.told host.old) (H.told host.new) }
     ensures counted { IfOk result (λ told. AreCounted told.faults.items (H.counts host.old) (H.counts host.new)) }
     ensures room { IfOk result (λ told. vec_len told.faults + 1 ≤ vec_capacity told.faults) }
     ensures held { result ≡ Err RunStop.Held → Rose (H.counts host.old).held (H.counts host.new).held }
     ensures counts { Onward (H.counts host.old) (H.counts host.new) }
 {
-    let Ok(reading) = read_all(alloc, host, confs) else {
+    let Ok(reading) = read_all(alloc, host, request.confs.as_slice()) else {
         return Err(RunStop::Memory);
     };
     let Reading {
@@ -48,6 +50,7 @@ pub fn run_confs<H: Host>(
     } = reading;
     match run(alloc, &rules, settings, clock, faults.into_vec(), host) {
         Ok(ran) => Ok(Told {
+            plan: ran.plan,
             notices,
             faults: ran.faults,
         }),
@@ -55,25 +58,26 @@ pub fn run_confs<H: Host>(
     }
 }
 
-/// The same for a request, by the settings of each call so far.
+/// The same, by settings that are made of the request.
 pub fn run_by<H: Host>(
     alloc: Global,
     host: &mut H,
     request: &Request,
     clock: &Clock,
 ) -> Result<Told, RunStop>
-    requires { WhereTold (H.told host.old) IsJournal }
-    ensures told { Left (Answers request.now.confs request.now.force clock.entry.now.now (answer_of result)) (H.told host.old) (H.told host.new) }
+    requires disk { WhereTold (H.told host.old) IsJournal }
+    requires fits { can_be_state request.now.state ≡ true }
+    ensures told { Left (Answers request.now clock.entry.now.now (plan_told result) (answer_of result)) (H.told host.old) (H.told host.new) }
     ensures shape { Left IsWholeRun (H.told host.old) (H.told host.new) }
     ensures counted { IfOk result (λ told. AreCounted told.faults.items (H.counts host.old) (H.counts host.new)) }
     ensures room { IfOk result (λ told. vec_len told.faults + 1 ≤ vec_capacity told.faults) }
     ensures held { result ≡ Err RunStop.Held → Rose (H.counts host.old).held (H.counts host.new).held }
     ensures counts { Onward (H.counts host.old) (H.counts host.new) }
 {
-    let Ok(settings) = settings(alloc, request.force) else {
+    let Ok(settings) = settings_of(alloc, request) else {
         return Err(RunStop::Memory);
     };
-    run_confs(alloc, host, request.confs.as_slice(), &settings, clock)
+    run_confs(alloc, host, request, &settings, clock)
 }
 
 // What is told where there is no clock, in a list that has room for it and one more.
@@ -81,6 +85,7 @@ fn without_clock(alloc: Global, stop: ClockStop, faults: Vec<Fault>) -> Result<T
     requires none { faults.items ≡ [] }
     requires room { vec_len faults + 2 ≤ vec_capacity faults }
     ensures answer { answer_of result ≡ clock_answer stop }
+    ensures plan { plan_told result ≡ None }
     ensures room { IfOk result (λ told. vec_len told.faults + 1 ≤ vec_capacity told.faults) }
 {
     match stop {
@@ -88,6 +93,7 @@ fn without_clock(alloc: Global, stop: ClockStop, faults: Vec<Fault>) -> Result<T
             let mut faults = faults;
             faults.push_reserved(fault);
             Ok(Told {
+                plan: None,
                 notices: Listed::new(alloc),
                 faults,
             })
@@ -104,8 +110,9 @@ pub fn run_at<H: Host>(
     zone: &Zone,
     seconds: i64,
 ) -> Result<Told, RunStop>
-    requires { WhereTold (H.told host.old) IsJournal }
-    ensures told { Left (AnswersAt request.now zone.now seconds (answer_of result)) (H.told host.old) (H.told host.new) }
+    requires disk { WhereTold (H.told host.old) IsJournal }
+    requires fits { can_be_state request.now.state ≡ true }
+    ensures told { Left (AnswersAt request.now zone.now seconds (plan_told result) (answer_of result)) (H.told host.old) (H.told host.new) }
     ensures clock { IfOk result (λ told. IsClocked zone.now seconds told.notices told.faults.items) }
     ensures shape { Left IsWholeRun (H.told host.old) (H.told host.new) }
     ensures counted { IfOk result (λ told. AreCounted told.faults.items (H.counts host.old) (H.counts host.new)) }

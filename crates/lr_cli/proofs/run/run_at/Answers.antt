@@ -2,7 +2,7 @@ use Rattle.lr_placed.proofs.Lasting.{disk_on}
 use Rattle.std.proofs.Common.{[]}
 use Rattle.lr_host.proofs.Left.{left_first}
 use Rattle.lr_rotations.specs.AllTurns.{IsWholeRun}
-use Rattle.lr_cli.specs.Faults.{answer_of}
+use Rattle.lr_cli.specs.Faults.{answer_of, plan_told}
 use Rattle.lr_cli.proofs.Clocked.{own_seconds}
 use Rattle.lr_cli.proofs.Called.{at_none, at_stop, stop_shape, stop_clocked, at_clock, clock_shape, clock_clocked}
 use Rattle.lr_cli.proofs.Reading.{alone_run}
@@ -14,11 +14,11 @@ returns-in_default-clause-told g c = at_none c.args.request.now c.args.zone.now 
 pub returns-in_default-clause-shape : goal.returns-in_default-clause-shape
 returns-in_default-clause-shape g c = left_first IsWholeRun _ (alone_run [] tt)
 
-pub run_by-requires : goal.run_by-requires
-run_by-requires g c = disk_on c.in-Ok-clock_in.ensures.told c.requires
+pub run_by-requires-clause-disk : goal.run_by-requires-clause-disk
+run_by-requires-clause-disk g c = disk_on c.in-Ok-clock_in.ensures.told c.requires.disk
 
 pub returns-in-Ok-clock_in-clause-told : goal.returns-in-Ok-clock_in-clause-told
-returns-in-Ok-clock_in-clause-told g c = at_clock c.args.request.now c.args.zone.now _ c.args.seconds c.in-Ok-clock_in.clock (answer_of c.run_by.result) (own_seconds c.args.seconds c.ranges.seconds.sfits) c.in-Ok-clock_in.ensures.told c.run_by.ensures.told
+returns-in-Ok-clock_in-clause-told g c = at_clock c.args.request.now c.args.zone.now _ c.args.seconds c.in-Ok-clock_in.clock (plan_told c.run_by.result) (answer_of c.run_by.result) (own_seconds c.args.seconds c.ranges.seconds.sfits) c.in-Ok-clock_in.ensures.told c.run_by.ensures.told
 
 pub returns-in-Ok-clock_in-clause-clock : goal.returns-in-Ok-clock_in-clause-clock
 returns-in-Ok-clock_in-clause-clock g c = clock_clocked c.args.zone.now _ c.args.seconds c.in-Ok-clock_in.clock c.run_by.result (own_seconds c.args.seconds c.ranges.seconds.sfits) c.in-Ok-clock_in.ensures.clock
@@ -27,7 +27,7 @@ pub returns-in-Ok-clock_in-clause-shape : goal.returns-in-Ok-clock_in-clause-sha
 returns-in-Ok-clock_in-clause-shape g c = clock_shape c.args.zone.now _ c.in-Ok-clock_in.clock c.in-Ok-clock_in.ensures.told c.run_by.ensures.shape
 
 pub returns-in-Err-clause-told : goal.returns-in-Err-clause-told
-returns-in-Err-clause-told g c = at_stop c.args.request.now c.args.zone.now _ c.args.seconds c.in-Err.stop (answer_of c.without_clock.result) (own_seconds c.args.seconds c.ranges.seconds.sfits) c.without_clock.ensures.answer c.in-Err.ensures.stopped
+returns-in-Err-clause-told g c = at_stop c.args.request.now c.args.zone.now _ c.args.seconds c.in-Err.stop (plan_told c.without_clock.result) (answer_of c.without_clock.result) (own_seconds c.args.seconds c.ranges.seconds.sfits) c.without_clock.ensures.plan c.without_clock.ensures.answer c.in-Err.ensures.stopped
 
 pub returns-in-Err-clause-clock : goal.returns-in-Err-clause-clock
 returns-in-Err-clause-clock g c = stop_clocked c.args.zone.now _ c.args.seconds c.without_clock.result c.clock_in.result c.in-Err.stop _ (own_seconds c.args.seconds c.ranges.seconds.sfits) c.without_clock.ensures.answer c.in-Err.is c.clock_in.ensures.fault

@@ -1,16 +1,12 @@
 use Rattle.std.proofs.Common.{[]}
 use Rattle.lr_host.proofs.Left.{left_first}
 use Rattle.lr_rotations.specs.AllTurns.{IsWholeRun}
-use Rattle.lr_cli.specs.Faults.{answer_of}
-use Rattle.lr_cli.proofs.Called.{by_first, by_force}
+use Rattle.lr_cli.proofs.Called.{by_first}
 use Rattle.lr_cli.proofs.Reading.{alone_run}
 use Rattle.lr_cli.proofs.run.run_by.Goals as goal
 
 pub returns-in_default-clause-told : goal.returns-in_default-clause-told
-returns-in_default-clause-told g c = by_first c.args.request.now.confs c.args.request.now.force c.args.clock.now.now _
+returns-in_default-clause-told g c = by_first c.args.request.now c.args.clock.now.now _
 
 pub returns-in_default-clause-shape : goal.returns-in_default-clause-shape
 returns-in_default-clause-shape g c = left_first IsWholeRun _ (alone_run [] tt)
-
-pub returns-clause-told : goal.returns-clause-told
-returns-clause-told g c = by_force c.as_slice.result.now c.args.request.now.confs _ c.args.request.now.force c.args.clock.now.now (answer_of c.run_confs.result) _ _ c.as_slice.ensures c.in-Ok.ensures.force c.run_confs.ensures.told
