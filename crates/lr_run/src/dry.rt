@@ -8,7 +8,7 @@ ghost use Rattle.lr_host.specs.Counted.{AddsFaults};
 ghost use Rattle.lr_host.specs.Told.{Left, Onward};
 ghost use Rattle.lr_fields.specs.Built.{AreBuiltRules};
 ghost use Rattle.lr_looks.specs.Shown.{ShowsSomeLooks};
-ghost use Rattle.lr_plan.specs.Planned.{CanPlanAll};
+ghost use Rattle.lr_plan.specs.Planned.{CanPlanAll, plan_of};
 ghost use Rattle.lr_seen.specs.Free.{reserved_by};
 ghost use Rattle.lr_run.specs.Answers.{Answers};
 ghost use Rattle.lr_run.specs.Dry.{Follows, LacksTry, measured_by};
@@ -84,6 +84,27 @@ fn tell(
     }
 }
 
+// Measures this plan, and tells of it. A plan is taken apart for its faults, so it is made again.
+fn measure(
+    alloc: Global,
+    rules: &Rules,
+    settings: &Settings,
+    clock: &Clock,
+    looks: &Looks,
+    told: Plan,
+    table: State,
+    faults: &mut Vec<Fault>,
+) -> Result<Option<Plan>, Memory>
+    requires rules { CanPlanAll rules.now.sets looks.now.sets }
+    requires told { told ≡ plan_of rules.now.sets looks.now.sets table clock.now.now settings.now.force }
+    ensures follows { IfOk result (λ plan. (own : List Fault) × (faults.new.items ≡ faults.old.items ++ own) × Follows rules.now.sets looks.now.sets looks.now.kept table clock.entry.now.now settings.now.force plan own) }
+    ensures room { OnOk result (vec_len faults.new + 1 ≤ vec_capacity faults.new) }
+{
+    let same = plan(alloc, rules, looks, &table, clock, settings)?;
+    let small = is_small(alloc, table, looks.kept.as_slice(), &told, &clock.now.civil)?;
+    tell(small, told, same, faults)
+}
+
 // Plans by what was seen.
 fn plan_dry(
     alloc: Global,
@@ -99,9 +120,7 @@ fn plan_dry(
     ensures room { OnOk result (vec_len faults.new + 1 ≤ vec_capacity faults.new) }
 {
     let told = plan(alloc, rules, looks, &table, clock, settings)?;
-    let same = plan(alloc, rules, looks, &table, clock, settings)?;
-    let small = is_small(alloc, table, looks.kept.as_slice(), &told, &clock.now.civil)?;
-    tell(small, told, same, faults)
+    measure(alloc, rules, settings, clock, looks, told, table, faults)
 }
 
 // Looks at the logs, and plans by what was seen and by this table.
