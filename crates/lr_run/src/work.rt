@@ -1,5 +1,5 @@
 // What stands between the begin of a run and its end: the state, the looks, the plan, its acts, and the state's writing.
-ghost use Rattle.std.specs.Prelude.{◌≡◌, ◌+◌, ◌≤◌, ◌++◌, ◌∷◌, [], None, OnOk, OnErr, vec_len};
+ghost use Rattle.std.specs.Prelude.{◌≡◌, ◌+◌, ◌≤◌, ◌++◌, ◌∷◌, [], Some, None, OnOk, OnErr, vec_len};
 ghost use Rattle.std.specs.Vec.{vec_capacity};
 ghost use Rattle.lr_rules.specs.declared.fault.Fault.TheVariants as fault;
 ghost use Rattle.lr_rules.specs.declared.fault.StateKind.TheVariants as kind;
@@ -36,6 +36,13 @@ pub fn add_too_big(faults: &mut Vec<Fault>) -> Result<(), Memory>
         kind: StateKind::TooBig,
     });
     Ok(())
+}
+
+// The plan was reached.
+fn reach(reached: &mut Option<Plan>, plan: Plan)
+    ensures { reached.new ≡ Some plan }
+{
+    *reached = Some(plan);
 }
 
 // Carries this plan out, which is then the one that was reached; or tells that the text of the state could become too big. A
@@ -78,7 +85,7 @@ fn act_by<H: Host>(
         progress,
     )? {
         Some(ready) => {
-            *reached = Some(told);
+            reach(reached, told);
             carry_out(alloc, host, ready, &clock.now.civil, progress)
         }
         None => add_too_big(&mut progress.faults),

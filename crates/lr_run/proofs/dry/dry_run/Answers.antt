@@ -1,5 +1,5 @@
-use Rattle.std.proofs.Common.{Ok, Err, true, refl}
-use Rattle.lr_host.proofs.Left.{left_as, left_first}
+use Rattle.std.proofs.Common.{Err, true, refl}
+use Rattle.lr_host.proofs.Left.{left_first}
 use Rattle.lr_run.specs.declared.answer.RunStop.TheVariants as stop
 use Rattle.lr_run.specs.Answers.{Answers}
 use Rattle.lr_run.specs.Dry.{before_all}

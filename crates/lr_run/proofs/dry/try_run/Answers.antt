@@ -1,4 +1,4 @@
-use Rattle.std.proofs.Common.{List, [], ◌∷◌, ◌++◌, Err, ap, ◌∙◌}
+use Rattle.std.proofs.Common.{[], ◌∷◌, ◌++◌, Err, ap, ◌∙◌}
 use Rattle.lr_rules.specs.declared.fault.Fault.{Fault}
 use Rattle.lr_run.specs.declared.directory.DirStop.TheVariants as dir
 use Rattle.lr_run.proofs.Drying.{tried_by, tried_by_none, not_tried, lacks_state, lacks_looks}

@@ -1,4 +1,4 @@
-use Rattle.std.proofs.Common.{Some, ap}
+use Rattle.std.proofs.Common.{Some, ap, ◌∙◌}
 use Rattle.lr_acts.specs.Making.{all_of_sets}
 use Rattle.lr_placed.proofs.Lasting.{disk_on}
 use Rattle.lr_run.proofs.Placing.{fits_behind_acts}
@@ -24,7 +24,7 @@ carry_out-requires-clause-fits_state g c =
 pub returns-in-Some-clause-told : goal.returns-in-Some-clause-told
 returns-in-Some-clause-told g c =
     let r = ready_of c.args.settings.now.state c.args.clock.now.now c.args.remembered _ _ c.in_ok-plan.plan _ c.in_ok-ready.field-0 c.in-Some.ready c.args.progress.now c.make_ready.new.progress c.as_slice-kept.ensures c.in_ok-plan.ensures c.in-Some.is c.in_ok-ready.ensures in
-    carried_out c.carry_out.result c.args.settings.now.state c.args.rules.now c.args.looks.now c.args.remembered c.args.clock.now.now c.args.settings.now.force (Some c.args.told) c.in-Some.ready c.args.progress.now c.make_ready.new.progress c.carry_out.new.progress _ _ _ _ (ap Some c.requires.told) r c.carry_out.ensures.told
+    carried_out c.carry_out.result c.args.settings.now.state c.args.rules.now c.args.looks.now c.args.remembered c.args.clock.now.now c.args.settings.now.force c.reach.new.reached c.in-Some.ready c.args.progress.now c.make_ready.new.progress c.carry_out.new.progress _ _ _ _ (c.reach.ensures ∙ ap Some c.requires.told) r c.carry_out.ensures.told
 
 pub returns-in-Some-clause-some : goal.returns-in-Some-clause-some
 returns-in-Some-clause-some g c =
