@@ -5,5 +5,6 @@ pub mod Reached
 pub mod Reading
 pub mod Rotating
 pub mod Still
+mod Tried
 pub mod Zoned
 mod Whole

@@ -58,7 +58,7 @@ conf_none state (fault.Call call.List path ∷ fs) h = ((λ e. e), conf_none sta
 conf_none state (fault.Call call.Read path ∷ fs) h = ((λ e. e), conf_none state fs h.1)
 conf_none state (_ ∷ fs) h = absurd h.0
 
-means_none : (state : Path) (confs : List Path) (m : Meaning) (ts : List Entry) → Reads confs m ts → NoneEnds state m.faults
+pub means_none : (state : Path) (confs : List Path) (m : Meaning) (ts : List Entry) → Reads confs m ts → NoneEnds state m.faults
 means_none state confs m ts r = subst (λ (x : Meaning). NoneEnds state x.faults) (sym r.means) (conf_none state (visits_mean confs r.visits).faults (recursion_from_All IsConfOrCall (visits_mean confs r.visits).faults (only_those confs r.visits)))
 
 -- Why a fault ended a call: it ends a run; or it may end it, and the state wasn't seen.

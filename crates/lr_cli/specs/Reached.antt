@@ -1,5 +1,5 @@
--- Whether a call that isn't a dry run came to its plan, by its entries and by its report.
-use Rattle.std.specs.Prelude.{◌≡◌, ◌⊎◌, ◌↔◌, ℤ, List, [], ◌∷◌, ◌++◌}
+-- Whether a call came to its plan, by its entries and by its report: one that isn't a dry run, and a dry one.
+use Rattle.std.specs.Prelude.{◌≡◌, ◌⊎◌, ◌↔◌, ℤ, List, [], ◌∷◌, ◌++◌, Some}
 use Rattle.lr_rules.specs.declared.clock.Clock.{Clock}
 use Rattle.lr_rules.specs.declared.fault.CallKind.TheVariants as call
 use Rattle.lr_rules.specs.declared.fault.Fault.{Fault}
@@ -8,11 +8,15 @@ use Rattle.lr_rules.specs.declared.path.Path.{Path}
 use Rattle.lr_rules.specs.declared.rules.Rules.{Rules}
 use Rattle.lr_host.specs.declared.entry.Entry.{Entry}
 use Rattle.lr_host.specs.Lists.{IsIn}
+use Rattle.lr_host.specs.Told.{Then}
 use Rattle.lr_conf.specs.Meaning.{Meaning}
 use Rattle.lr_include.specs.Stages.{Reads}
 use Rattle.lr_due.specs.declared.tz.Zone.{Zone}
 use Rattle.lr_due.specs.declared.tz.Zone.TheVariants.{File}
+use Rattle.lr_plan.specs.declared.planned.Plan.{Plan}
+use Rattle.lr_run.specs.Dry.{Tries}
 use Rattle.lr_reached.specs.Ending.{EndsRun, NoneEnds, MayEnd}
+use Rattle.lr_reached.specs.Tried.{EndsTry, NoneEndsTry, MayEndTry}
 use Rattle.lr_reached.specs.Looked.{behind_start, SawState}
 use Rattle.lr_reached.specs.Reached.{IsReached}
 use Rattle.lr_cli.specs.declared.outcome.Report.{Report}
@@ -57,3 +61,33 @@ pub record TellsOfPlan (request : Request) (zone : Zone) (seconds : ℤ) (report
   pub alone : ((f : Fault) → IsIn f report.faults → MayEndCall request.state zone f → ⊥) → ReachesPlan request zone seconds report ts ↔ NoneEnds request.state report.faults
   pub exactly : ReachesPlan request zone seconds report ts ↔ (NoneEnds request.state report.faults × SawState request.state (behind_start ts))
   pub why : (ReachesPlan request zone seconds report ts → ⊥) → SaysWhy request.state zone report.faults
+
+-- ---- a dry run
+
+-- The call came to its plan: the zone's clock was had, the configuration was read, and a dry run over its rules by this clock came to its plan. The report has the notices of the configuration, and its faults before those of the run.
+pub record TriesPlan (request : Request) (zone : Zone) (seconds : ℤ) (report : Report) (ts : List Entry) : Type 0 where
+  pub clock : Clock
+  pub meaning : Meaning
+  pub rules : Rules
+  pub rules_are : rules.sets ≡ meaning.rules
+  pub notices_are : report.notices ≡ meaning.notices
+  pub own : List Fault
+  pub faults_are : report.faults ≡ meaning.faults ++ own
+  pub plan : Plan
+  pub entries : Then (ShowsClock zone seconds clock) (Then (Reads request.confs meaning) (Tries request.state rules.sets clock.now request.force (Some plan) own)) ts
+
+-- A look or a read failed of the zone's file or of a path of the state, or the state's directory isn't there. Each may be told of a configuration or a log too, and then ended nothing.
+abbrev pub MayEndDry : Path → Zone → Fault → Type 0
+MayEndDry state zone f = IsOfZone zone f ⊎ MayEndTry state f
+
+-- The last of the faults is why a dry call ended before its plan.
+pub record SaysWhyDry (state : Path) (zone : Zone) (faults : List Fault) : Type 0 where
+  pub before : List Fault
+  pub last : Fault
+  pub faults_are : faults ≡ before ++ last ∷ []
+  pub ends : EndsTry state last ⊎ MayEndDry state zone last
+
+-- What the report tells of it. Where none of the faults is one that may end such a call, it tells all: the call came to its plan exactly where none of them ends it. Where it didn't, the last of them is why.
+pub record TellsOfTry (request : Request) (zone : Zone) (seconds : ℤ) (report : Report) (ts : List Entry) : Type 0 where
+  pub alone : ((f : Fault) → IsIn f report.faults → MayEndDry request.state zone f → ⊥) → TriesPlan request zone seconds report ts ↔ NoneEndsTry request.state report.faults
+  pub why : (TriesPlan request zone seconds report ts → ⊥) → SaysWhyDry request.state zone report.faults

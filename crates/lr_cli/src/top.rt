@@ -14,7 +14,7 @@ ghost use Rattle.lr_cli.specs.Asked.{AskFor, AskForNone};
 ghost use Rattle.lr_cli.specs.Clock.{IsClocked};
 ghost use Rattle.lr_cli.specs.Faults.{HasFault, HasCounted, StopNothing};
 ghost use Rattle.lr_cli.specs.Printed.{without_out};
-ghost use Rattle.lr_cli.specs.Reached.{TellsOfPlan};
+ghost use Rattle.lr_cli.specs.Reached.{TellsOfPlan, TellsOfTry};
 ghost use Rattle.lr_cli.specs.Rotated.{RotatesAll};
 ghost use Rattle.lr_cli.specs.Says.{Says};
 ghost use Rattle.lr_cli.specs.State.{IsNewText};
@@ -73,6 +73,9 @@ pub fn logrotate<H: Host, K: Sink>(
     // read of the zone's file or of a path of the state, as a configuration or a log there may have too, the entries tell which
     // it was. A call that didn't come to its plan says why by its last fault.
     ensures reached { (request : Request) (report : Report) → AskFor here.now words.now request → request.debug ≡ false → without_out result ≡ Outcome.Done report → Left (TellsOfPlan request zone.now now report) (H.told host.old) (H.told host.new) }
+
+    // Of a dry run the report tells it too, where no fault may be one of the zone or the state and of a log as well.
+    ensures tried { (request : Request) (report : Report) → AskFor here.now words.now request → request.debug ≡ true → without_out result ≡ Outcome.Done report → Left (TellsOfTry request zone.now now report) (H.told host.old) (H.told host.new) }
 
     // Where none ends a run, and none tells of a call that failed or of a script that ended badly, each log of the plan was
     // rotated, file by file, whatever else is told: of other logs that aren't there, say.

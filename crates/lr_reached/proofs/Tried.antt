@@ -23,7 +23,7 @@ use Rattle.lr_plan.specs.declared.planned.Plan.{Plan}
 use Rattle.lr_plan.specs.Planned.{is_too_high, hindrances, where_due, log_faults, all_faults, decision}
 use Rattle.lr_fields.specs.Built.{AreBuiltRules}
 use Rattle.lr_run.specs.Dry.{Follows, Plans, PlansBy, unknown, known, Tries, unseen, not_directory, by_none, by_state}
-use Rattle.lr_reached.specs.Ending.{EndsRun, NoneEnds, MayEnd}
+use Rattle.lr_reached.specs.Ending.{EndsRun, NoneEnds}
 use Rattle.lr_reached.specs.Tried.{EndsTry, NoneEndsTry, MayEndTry, SaysWhyTry}
 use Rattle.lr_reached.proofs.Ends.{last_in}
 use Rattle.lr_reached.proofs.Known.{state_why}

@@ -13,6 +13,7 @@ use Rattle.lr_cli.proofs.Reached.{left_tells}
 use Rattle.lr_cli.proofs.Reading.{alone_run}
 use Rattle.lr_cli.proofs.Rotating.{answered_rotated}
 use Rattle.lr_cli.proofs.Still.{left_short, left_dry}
+use Rattle.lr_cli.proofs.Tried.{left_tries}
 use Rattle.lr_cli.proofs.Whole.{answered_whole}
 use Rattle.lr_cli.proofs.top.logrotate.Goals as goal
 
@@ -86,3 +87,6 @@ returns-clause-state g c = λ request asks. let s = returns-clause-told g c in a
 
 pub returns-clause-dry : goal.returns-clause-dry
 returns-clause-dry g c = λ request asks dry. let s = returns-clause-told g c in left_dry c.args.here.now c.args.words.now c.args.zone.now c.args.now request s.plan _ asks dry s.shown
+
+pub returns-clause-tried : goal.returns-clause-tried
+returns-clause-tried g c = λ request report asks dry done. let s = returns-clause-told g c in left_tries c.args.here.now c.args.words.now request c.args.zone.now c.args.now s.plan _ report asks dry done s.shown
