@@ -37,6 +37,7 @@ use Rattle.lr_seen.proofs.Apart.{targets_apart}
 use Rattle.lr_seen.proofs.Ready.{plans_have_logs}
 use Rattle.lr_seen.proofs.Seen.{targets_seen}
 use Rattle.lr_run.specs.Rotated.{rotated_in}
+use Rattle.lr_plan.specs.declared.planned.Plan.{Plan}
 use Rattle.lr_run.specs.Runs.{Inside, Worked, Works, not_known, too_big, worked, Runs, no_directory, not_seen, not_begun, began}
 use Rattle.lr_run.proofs.Shape.{all_of_state, ended, in_parts, seen_later, seen_quiet, written}
 use Rattle.lr_fixed.specs.Unplanned.{IsUnplannedWork, IsUnplanned}
@@ -121,11 +122,11 @@ left_alone s state force now rules own p q es reads acts built made journal join
 
 -- ---- a run that didn't come to its plan
 
-work_quiet : (state : Path) (rules : List Rule) (now : Moment) (force : Bool) (own : List Fault) (ts : List Entry) → (w : Works state rules now force own ts) → IsUnplannedWork state rules now force own ts w → AreQuiet ts
-work_quiet state rules now force own ts (not_known sights f known is shown) u = state_quiet state 65_536 sights ts shown
-work_quiet state rules now force own ts (too_big l big is none) u =
+work_quiet : (state : Path) (rules : List Rule) (now : Moment) (force : Bool) (plan : Option Plan) (own : List Fault) (ts : List Entry) → (w : Works state rules now force plan own ts) → IsUnplannedWork state rules now force plan own ts w → AreQuiet ts
+work_quiet state rules now force plan own ts (not_known sights f known lost is shown) u = state_quiet state 65_536 sights ts shown
+work_quiet state rules now force plan own ts (too_big l big lost is none) u =
     subst AreQuiet (sym (l.joined ∙ ap (λ xs. l.reads ++ xs) (ap (λ xs. l.looks ++ xs) none ∙ append-nil l.looks))) (seen_quiet state rules ts l)
-work_quiet state rules now force own ts (worked w) u = absurd u
+work_quiet state rules now force plan own ts (worked w is) u = absurd u
 
 maybe_still : (state : Path) (now : Moment) (rules : Rules) (ts : List Entry) → Maybe (entry.Starts state now rules) ts → ChangeNothing ts
 maybe_still state now rules ts (inl e) = subst ChangeNothing (sym e) refl
@@ -134,15 +135,15 @@ maybe_still state now rules ts (inr e) = subst ChangeNothing (sym e) refl
 sees_still : (x : Path) (P : Option Seen → Type 0) (ts : List Entry) → Sees x P ts → ChangeNothing ts
 sees_still x P ts s = quiet_still ts (sees_quiet x ts s)
 
-run_still : (state : Path) (force : Bool) (now : Moment) (rules : Rules) (own : List Fault) (ts : List Entry) → (r : Runs state force now rules own ts) → IsUnplanned state force now rules own ts r → ChangeNothing ts
-run_still state force now rules own ts (no_directory is s) u = sees_still (parent_of state) IsNotDir ts s
-run_still state force now rules own ts (not_seen is e) u = subst ChangeNothing (sym e) refl
-run_still state force now rules own ts (not_begun is t) u = then_still (Sees (parent_of state) IsDir) (Maybe (entry.Starts state now rules)) ts (sees_still (parent_of state) IsDir) (maybe_still state now rules) t
-run_still state force now rules own ts (began i) u =
+run_still : (state : Path) (force : Bool) (now : Moment) (rules : Rules) (plan : Option Plan) (own : List Fault) (ts : List Entry) → (r : Runs state force now rules plan own ts) → IsUnplanned state force now rules plan own ts r → ChangeNothing ts
+run_still state force now rules plan own ts (no_directory lost is s) u = sees_still (parent_of state) IsNotDir ts s
+run_still state force now rules plan own ts (not_seen lost is e) u = subst ChangeNothing (sym e) refl
+run_still state force now rules plan own ts (not_begun lost is t) u = then_still (Sees (parent_of state) IsDir) (Maybe (entry.Starts state now rules)) ts (sees_still (parent_of state) IsDir) (maybe_still state now rules) t
+run_still state force now rules plan own ts (began i) u =
     subst ChangeNothing (sym i.entries) (still_both i.before (entry.Starts state now rules ∷ (i.between ++ entry.Ends ∷ [])) (sees_still (parent_of state) IsDir i.before i.directory)
-    (still_both i.between (entry.Ends ∷ []) (quiet_still i.between (work_quiet state rules.sets now force own i.between i.within u)) refl))
+    (still_both i.between (entry.Ends ∷ []) (quiet_still i.between (work_quiet state rules.sets now force plan own i.between i.within u)) refl))
 
-pub all_left : (s : LogSet) (state : Path) (force : Bool) (now : Moment) (rules : Rules) (own : List Fault) (p q : Past) (es reads acts : List Entry) → Made p es q → reverse es ≡ reads ++ acts → AreQuiet reads
-    → (r : Runs state force now rules own acts) → IsUnplanned state force now rules own acts r → IsSteady s q → (y : Path) (k : ℤ) → s.key y ≡ Some k → names (world q) y ≡ names (world p) y
-all_left s state force now rules own p q es reads acts made joined quiet r u steady y k key =
-    still_member s p q (reads ++ acts) (still_both reads acts (quiet_still reads quiet) (run_still state force now rules own acts r u)) (subst (λ (xs : List Entry). Made p xs q) (sym (reverse-reverse es) ∙ ap reverse joined) made) steady y k key
+pub all_left : (s : LogSet) (state : Path) (force : Bool) (now : Moment) (rules : Rules) (plan : Option Plan) (own : List Fault) (p q : Past) (es reads acts : List Entry) → Made p es q → reverse es ≡ reads ++ acts → AreQuiet reads
+    → (r : Runs state force now rules plan own acts) → IsUnplanned state force now rules plan own acts r → IsSteady s q → (y : Path) (k : ℤ) → s.key y ≡ Some k → names (world q) y ≡ names (world p) y
+all_left s state force now rules plan own p q es reads acts made joined quiet r u steady y k key =
+    still_member s p q (reads ++ acts) (still_both reads acts (quiet_still reads quiet) (run_still state force now rules plan own acts r u)) (subst (λ (xs : List Entry). Made p xs q) (sym (reverse-reverse es) ∙ ap reverse joined) made) steady y k key

@@ -26,13 +26,15 @@ use Rattle.lr_due.specs.declared.tz.Zone.TheVariants.{Utc, Rule as RuleZone, Fil
 use Rattle.lr_due.specs.declared.zone.ZoneText.{ZoneText}
 use Rattle.lr_host.specs.Counted.{call_in, calls_in}
 use Rattle.lr_fields.specs.Built.{AreBuiltRules}
+use Rattle.lr_plan.specs.declared.planned.Plan.{Plan}
+use Rattle.lr_run.specs.Answers.{Leaves}
 use Rattle.lr_run.specs.Runs.{Runs, no_directory, not_seen, not_begun, began}
 use Rattle.lr_cli.specs.declared.outcome.Outcome.TheVariants.{Done}
 use Rattle.lr_cli.specs.declared.outcome.Report.{Report}
-use Rattle.lr_cli.specs.declared.words.Request.{Request}
-use Rattle.lr_cli.specs.Answer.{state_path, Reports, AnswersAt, no_clock, no_memory, called, Answered, not_read, read}
+use Rattle.lr_command.specs.declared.request.Request.{Request}
+use Rattle.lr_cli.specs.Answer.{Reports, AnswersAt, no_clock, no_memory, called, Answered, not_read, read}
 use Rattle.lr_cli.specs.Clock.{ShowsClock, LacksClock, out_of_range, no_text, refused}
-use Rattle.lr_cli.specs.Words.{HaveNoOption, AreNames, asking, NameConfs, AreWords}
+use Rattle.lr_cli.specs.Asked.{AskFor}
 use Rattle.lr_cli.specs.Zone.{IsNotFile, ShowsZone, GivesBytes, LacksText, not_file, too_big, look_failed, read_failed}
 use Rattle.lr_run.proofs.Called.{none_before, none_behind}
 use Rattle.lr_fixed.proofs.Called.{one_called, one_uncalled, no_call}
@@ -44,11 +46,11 @@ use Rattle.lr_read_fixed.proofs.OneReading.{readings_one}
 -- ---- a run begins with a look
 
 -- where none of its calls failed, it begins with a look
-run_look : (state : Path) (force : Bool) (now : Moment) (rules : Rules) (own : List Fault) (ts : List Entry) → Runs state force now rules own ts → calls_in own ≡ 0 → (seen : Option Seen) × (rest : List Entry) × (ts ≡ entry.Look (parent_of state) seen ∷ rest)
-run_look state force now rules own ts (no_directory e s) z = (s.seen, [], s.look)
-run_look state force now rules own ts (not_seen e none) z = absurd (one_called own _ e refl z)
-run_look state force now rules own ts (not_begun e t) z = (t.first.seen, t.back, t.joined ∙ ap (λ vs. vs ++ t.back) t.first.look)
-run_look state force now rules own ts (began i) z = (i.directory.seen, entry.Starts state now rules ∷ (i.between ++ entry.Ends ∷ []), i.entries ∙ ap (λ vs. vs ++ (entry.Starts state now rules ∷ (i.between ++ entry.Ends ∷ []))) i.directory.look)
+run_look : (state : Path) (force : Bool) (now : Moment) (rules : Rules) (plan : Option Plan) (own : List Fault) (ts : List Entry) → Runs state force now rules plan own ts → calls_in own ≡ 0 → (seen : Option Seen) × (rest : List Entry) × (ts ≡ entry.Look (parent_of state) seen ∷ rest)
+run_look state force now rules plan own ts (no_directory lost e s) z = (s.seen, [], s.look)
+run_look state force now rules plan own ts (not_seen lost e none) z = absurd (one_called own _ e refl z)
+run_look state force now rules plan own ts (not_begun lost e t) z = (t.first.seen, t.back, t.joined ∙ ap (λ vs. vs ++ t.back) t.first.look)
+run_look state force now rules plan own ts (began i) z = (i.directory.seen, entry.Starts state now rules ∷ (i.between ++ entry.Ends ∷ []), i.entries ∙ ap (λ vs. vs ++ (entry.Starts state now rules ∷ (i.between ++ entry.Ends ∷ []))) i.directory.look)
 
 -- ---- records with the same parts
 
@@ -64,13 +66,13 @@ rules_same a b e = go a.sets b.sets a.limits b.limits e
 -- ---- a reading and the run behind it
 
 -- where a report tells no failed call, the reading tells none
-read_none : (confs : List Path) (force : Bool) (now : Moment) (notices : List Notice) (faults : List Fault) (ts : List Entry) (p : Reports confs force now notices faults ts) → calls_in faults ≡ 0 → calls_in p.meaning.faults ≡ 0
-read_none confs force now notices faults ts p c = none_before faults p.meaning.faults p.own p.faults_are c
+read_none : (request : Request) (now : Moment) (plan : Option Plan) (notices : List Notice) (faults : List Fault) (ts : List Entry) (p : Reports request now plan notices faults ts) → calls_in faults ≡ 0 → calls_in p.meaning.faults ≡ 0
+read_none request now plan notices faults ts p c = none_before faults p.meaning.faults p.own p.faults_are c
 
-module _ (confs : List Path) (force : Bool) (now other : Moment) (notices others : List Notice) (faults more : List Fault) (ts us : List Entry) (same : ts ≡ us) (p : Reports confs force now notices faults ts) (q : Reports confs force other others more us) (c : calls_in faults ≡ 0) (d : calls_in more ≡ 0) where
+module _ (request : Request) (dry : request.debug ≡ false) (now other : Moment) (plan another : Option Plan) (notices others : List Notice) (faults more : List Fault) (ts us : List Entry) (same : ts ≡ us) (p : Reports request now plan notices faults ts) (q : Reports request other another others more us) (c : calls_in faults ≡ 0) (d : calls_in more ≡ 0) where
   both_read : (p.meaning ≡ q.meaning) × (p.entries.front ≡ q.entries.front) × (p.entries.back ≡ q.entries.back)
-  both_read = readings_one confs p.meaning q.meaning p.entries.front q.entries.front p.entries.back q.entries.back p.entries.first q.entries.first
-      (read_none confs force now notices faults ts p c) (read_none confs force other others more us q d)
+  both_read = readings_one request.confs p.meaning q.meaning p.entries.front q.entries.front p.entries.back q.entries.back p.entries.first q.entries.first
+      (read_none request now plan notices faults ts p c) (read_none request other another others more us q d)
       (sym p.entries.joined ∙ (same ∙ q.entries.joined))
 
   back_is : p.entries.back ≡ q.entries.back
@@ -83,14 +85,18 @@ module _ (confs : List Path) (force : Bool) (now other : Moment) (notices others
   rules_is = rules_same p.rules q.rules (p.rules_are ∙ (ap (λ (m : Meaning). m.rules) meaning_is ∙ sym q.rules_are))
 
   are_built : AreBuiltRules p.rules.sets
-  are_built = subst AreBuiltRules (sym p.rules_are) (built_means confs p.meaning p.entries.front p.entries.first)
+  are_built = subst AreBuiltRules (sym p.rules_are) (built_means request.confs p.meaning p.entries.front p.entries.first)
 
-  -- the other run, over the rules and the entries of the one
-  as_run : Runs state_path force other p.rules q.own p.entries.back
-  as_run = subst (λ (r : Rules). Runs state_path force other r q.own p.entries.back) (sym rules_is) (subst (λ vs. Runs state_path force other q.rules q.own vs) (sym back_is) q.entries.second)
+  -- the one run, and the other, over the rules and the entries of the one
+  one_run : Runs request.state request.force now p.rules plan p.own p.entries.back
+  one_run = subst (λ (b : Bool). Leaves b request.state request.force now p.rules plan p.own p.entries.back) dry p.entries.second
+
+  as_run : Runs request.state request.force other p.rules another q.own p.entries.back
+  as_run = subst (λ (r : Rules). Runs request.state request.force other r another q.own p.entries.back) (sym rules_is) (subst (λ vs. Runs request.state request.force other q.rules another q.own vs) (sym back_is)
+      (subst (λ (b : Bool). Leaves b request.state request.force other q.rules another q.own q.entries.back) dry q.entries.second))
 
   own_is : p.own ≡ q.own
-  own_is = runs_at state_path force now other p.rules p.own q.own p.entries.back are_built p.entries.second as_run
+  own_is = runs_at request.state request.force now other p.rules plan another p.own q.own p.entries.back are_built one_run as_run
       (none_behind faults p.meaning.faults p.own p.faults_are c) (none_behind more q.meaning.faults q.own q.faults_are d)
 
   told_one : (notices ≡ others) × (faults ≡ more)
@@ -101,9 +107,9 @@ module _ (confs : List Path) (force : Bool) (now other : Moment) (notices others
 
 -- ---- a report has entries
 
-reports_some : (confs : List Path) (force : Bool) (now : Moment) (notices : List Notice) (faults : List Fault) (ts : List Entry) → Reports confs force now notices faults ts → calls_in faults ≡ 0 → ts ≡ [] → ⊥
-reports_some confs force now notices faults ts p c none =
-    let l = run_look state_path force now p.rules p.own p.entries.back p.entries.second (none_behind faults p.meaning.faults p.own p.faults_are c) in
+reports_some : (request : Request) → request.debug ≡ false → (now : Moment) (plan : Option Plan) (notices : List Notice) (faults : List Fault) (ts : List Entry) → Reports request now plan notices faults ts → calls_in faults ≡ 0 → ts ≡ [] → ⊥
+reports_some request dry now plan notices faults ts p c none =
+    let l = run_look request.state request.force now p.rules plan p.own p.entries.back (subst (λ (b : Bool). Leaves b request.state request.force now p.rules plan p.own p.entries.back) dry p.entries.second) (none_behind faults p.meaning.faults p.own p.faults_are c) in
     let n : length ts ≡ 0 = ap (λ (l : List Entry). length l) none in
     let j : length ts ≡ length (p.entries.front ++ p.entries.back) = ap (λ (l : List Entry). length l) p.entries.joined in
     let m : length (p.entries.front ++ p.entries.back) ≡ length p.entries.front + length p.entries.back = length-append p.entries.front p.entries.back in
@@ -168,12 +174,12 @@ text_or_not zone f text ts us vs ws (look_failed path z e none) n h same = no_ca
 text_or_not zone f text ts us vs ws (read_failed path z e t) n h same = no_call f _ e refl n
 
 -- where there is no clock, no report comes behind
-clocked_or_not : (confs : List Path) (force : Bool) (zone : Zone) (seconds : ℤ) (clock : Clock) (notices : List Notice) (faults : List Fault) (f : Fault) (ts : List Entry) → Then (ShowsClock zone seconds clock) (Reports confs force clock.now notices faults) ts → calls_in faults ≡ 0
+clocked_or_not : (request : Request) → request.debug ≡ false → (zone : Zone) (seconds : ℤ) (clock : Clock) (plan : Option Plan) (notices : List Notice) (faults : List Fault) (f : Fault) (ts : List Entry) → Then (ShowsClock zone seconds clock) (Reports request clock.now plan notices faults) ts → calls_in faults ≡ 0
     → LacksClock zone seconds f ts → call_in f ≡ 0 → ⊥
-clocked_or_not confs force zone seconds clock notices faults f ts t c (out_of_range out e none) n = out t.first.in_range
-clocked_or_not confs force zone seconds clock notices faults f ts t c (no_text range l) n = text_or_not zone f t.first.text ts t.front [] t.back l n t.first.shows (append-nil ts ∙ t.joined)
-clocked_or_not confs force zone seconds clock notices faults f ts t c (refused text range e r s) n =
-    reports_some confs force clock.now notices faults t.back t.second c (sym (zone_one zone text t.first.text ts t.front [] t.back s t.first.shows (append-nil ts ∙ t.joined)).1)
+clocked_or_not request dry zone seconds clock plan notices faults f ts t c (out_of_range out e none) n = out t.first.in_range
+clocked_or_not request dry zone seconds clock plan notices faults f ts t c (no_text range l) n = text_or_not zone f t.first.text ts t.front [] t.back l n t.first.shows (append-nil ts ∙ t.joined)
+clocked_or_not request dry zone seconds clock plan notices faults f ts t c (refused text range e r s) n =
+    reports_some request dry clock.now plan notices faults t.back t.second c (sym (zone_one zone text t.first.text ts t.front [] t.back s t.first.shows (append-nil ts ∙ t.joined)).1)
 
 text_one : (zone : Zone) (f g : Fault) (ts : List Entry) → LacksText zone f ts → LacksText zone g ts → call_in f ≡ 0 → call_in g ≡ 0 → f ≡ g
 text_one zone f g ts (look_failed path z e none) m c d = absurd (no_call f _ e refl c)
@@ -213,60 +219,32 @@ alone_faults a f e = ap (λ (r : Report). r.faults) (report_same a (alone f) e)
 both_same : (a b : Report) → a ≡ b → (a.notices ≡ b.notices) × (a.faults ≡ b.faults)
 both_same a b e = (ap (λ (r : Report). r.notices) e, ap (λ (r : Report). r.faults) e)
 
-both_clocked : (request : Request) (zone : Zone) (seconds : ℤ) (clock other : Clock) (one two : Report) (ts : List Entry) → Then (ShowsClock zone seconds clock) (Reports request.confs request.force clock.now one.notices one.faults) ts
-    → Then (ShowsClock zone seconds other) (Reports request.confs request.force other.now two.notices two.faults) ts → calls_in one.faults ≡ 0 → calls_in two.faults ≡ 0 → (one.notices ≡ two.notices) × (one.faults ≡ two.faults)
-both_clocked request zone seconds clock other one two ts t u c d = told_one request.confs request.force clock.now other.now one.notices two.notices one.faults two.faults t.back u.back same.1 t.second u.second c d
+both_clocked : (request : Request) → request.debug ≡ false → (zone : Zone) (seconds : ℤ) (clock other : Clock) (plan another : Option Plan) (one two : Report) (ts : List Entry) → Then (ShowsClock zone seconds clock) (Reports request clock.now plan one.notices one.faults) ts
+    → Then (ShowsClock zone seconds other) (Reports request other.now another two.notices two.faults) ts → calls_in one.faults ≡ 0 → calls_in two.faults ≡ 0 → (one.notices ≡ two.notices) × (one.faults ≡ two.faults)
+both_clocked request dry zone seconds clock other plan another one two ts t u c d = told_one request dry clock.now other.now plan another one.notices two.notices one.faults two.faults t.back u.back same.1 t.second u.second c d
   where
     same : (t.front ≡ u.front) × (t.back ≡ u.back)
     same = zone_one zone t.first.text u.first.text t.front u.front t.back u.back t.first.shows u.first.shows (sym t.joined ∙ u.joined)
 
-at_one : (request : Request) (zone : Zone) (seconds : ℤ) (one other : Report) (ts : List Entry) → AnswersAt request zone seconds (Done one) ts → AnswersAt request zone seconds (Done other) ts → calls_in one.faults ≡ 0 → calls_in other.faults ≡ 0 → (one.notices ≡ other.notices) × (one.faults ≡ other.faults)
-at_one request zone seconds one other ts (no_memory e none) b c d = absurd (cc)
-at_one request zone seconds one other ts (no_clock f e l) (no_memory h none) c d = absurd (cc)
-at_one request zone seconds one other ts (no_clock f e l) (no_clock g h m) c d =
+at_one : (request : Request) → request.debug ≡ false → (zone : Zone) (seconds : ℤ) (plan another : Option Plan) (one other : Report) (ts : List Entry) → AnswersAt request zone seconds plan (Done one) ts → AnswersAt request zone seconds another (Done other) ts → calls_in one.faults ≡ 0 → calls_in other.faults ≡ 0
+    → (one.notices ≡ other.notices) × (one.faults ≡ other.faults)
+at_one request dry zone seconds plan another one other ts (no_memory lost e none) b c d = absurd (cc)
+at_one request dry zone seconds plan another one other ts (no_clock f lost e l) (no_memory gone h none) c d = absurd (cc)
+at_one request dry zone seconds plan another one other ts (no_clock f lost e l) (no_clock g gone h m) c d =
     let same = clock_one zone seconds f g ts l m (one_uncalled one.faults f (alone_faults one f e) c) (one_uncalled other.faults g (alone_faults other g h) d) in
     both_same one other (report_same one (alone f) e ∙ (ap alone same ∙ sym (report_same other (alone g) h)))
-at_one request zone seconds one other ts (no_clock f e l) (called clock t) c d = absurd (clocked_or_not request.confs request.force zone seconds clock other.notices other.faults f ts t d l (one_uncalled one.faults f (alone_faults one f e) c))
-at_one request zone seconds one other ts (called clock t) (no_memory h none) c d = absurd (cc)
-at_one request zone seconds one other ts (called clock t) (no_clock g h m) c d = absurd (clocked_or_not request.confs request.force zone seconds clock one.notices one.faults g ts t c m (one_uncalled other.faults g (alone_faults other g h) d))
-at_one request zone seconds one other ts (called clock t) (called another u) c d = both_clocked request zone seconds clock another one other ts t u c d
+at_one request dry zone seconds plan another one other ts (no_clock f lost e l) (called clock t) c d = absurd (clocked_or_not request dry zone seconds clock another other.notices other.faults f ts t d l (one_uncalled one.faults f (alone_faults one f e) c))
+at_one request dry zone seconds plan another one other ts (called clock t) (no_memory gone h none) c d = absurd (cc)
+at_one request dry zone seconds plan another one other ts (called clock t) (no_clock g gone h m) c d = absurd (clocked_or_not request dry zone seconds clock plan one.notices one.faults g ts t c m (one_uncalled other.faults g (alone_faults other g h) d))
+at_one request dry zone seconds plan another one other ts (called clock t) (called clocked u) c d = both_clocked request dry zone seconds clock clocked plan another one other ts t u c d
 
 -- ---- the words
 
--- `-f` is no name
-no_first : (ws vs : List (List ℕ)) → vs ≡ codes "-f" ∷ ws → HaveNoOption vs → ⊥
-no_first ws vs e n = (subst HaveNoOption e n).0 refl
-
--- words ask for one thing
-asked_same : (a b : Bool) (ws vs : List (List ℕ)) → AreNames ws → AreNames vs → asking a ws ≡ asking b vs → (a ≡ b) × (ws ≡ vs)
-asked_same true true ws vs n m e = (refl, cc)
-asked_same true false ws vs n m e = absurd (no_first ws vs (sym e) m.no_option)
-asked_same false true ws vs n m e = absurd (no_first vs ws e n.no_option)
-asked_same false false ws vs n m e = (refl, e)
-
--- names name one list of paths
-confs_same : (here : Path) (ws : List (List ℕ)) (xs ys : List Path) → NameConfs here ws xs → NameConfs here ws ys → xs ≡ ys
-confs_same here [] [] [] h g = refl
-confs_same here [] [] (y ∷ ys) h g = absurd g
-confs_same here [] (x ∷ xs) ys h g = absurd h
-confs_same here (w ∷ ws) [] ys h g = absurd h
-confs_same here (w ∷ ws) (x ∷ xs) [] h g = absurd g
-confs_same here (w ∷ ws) (x ∷ xs) (y ∷ ys) h g = ap (λ z. z ∷ xs) (h.0.names ∙ sym g.0.names) ∙ ap (λ zs. y ∷ zs) (confs_same here ws xs ys h.1 g.1)
-
-abbrev request_with : Bool → List Path → Request
-request_with force confs = record { force = force; confs = confs }
-
-request_one : (here : Path) (words : List (List ℕ)) (request another : Request) → AreWords here words request → AreWords here words another → request ≡ another
-request_one here words request another v w =
-    let s = asked_same request.force another.force v.names w.names v.are_names w.are_names (sym v.are ∙ w.are) in
-    ap (λ (b : Bool). request_with b request.confs) s.0
-    ∙ ap (request_with another.force) (confs_same here w.names request.confs another.confs (subst (λ ws. NameConfs here ws request.confs) s.1 v.name_confs) w.name_confs)
-
-pub answers_one : (here : Path) (words : List (List ℕ)) (zone : Zone) (seconds : ℤ) (one other : Report) (ts : List Entry) → Answered here words zone seconds (Done one) ts → Answered here words zone seconds (Done other) ts → calls_in one.faults ≡ 0 → calls_in other.faults ≡ 0
+pub answers_one : (here : Path) (words : List (List ℕ)) (request : Request) (zone : Zone) (seconds : ℤ) (plan another : Option Plan) (one other : Report) (ts : List Entry) → AskFor here words request → request.debug ≡ false → Answered here words zone seconds plan (Done one) ts → Answered here words zone seconds another (Done other) ts → calls_in one.faults ≡ 0 → calls_in other.faults ≡ 0
     → (one.notices ≡ other.notices) × (one.faults ≡ other.faults)
-answers_one here words zone seconds one other ts (not_read (inl e) none) b c d = absurd (cc)
-answers_one here words zone seconds one other ts (not_read (inr e) none) b c d = absurd (cc)
-answers_one here words zone seconds one other ts (read request w h) (not_read (inl e) none) c d = absurd (cc)
-answers_one here words zone seconds one other ts (read request w h) (not_read (inr e) none) c d = absurd (cc)
-answers_one here words zone seconds one other ts (read request w h) (read another v g) c d =
-    at_one request zone seconds one other ts h (subst (λ (x : Request). AnswersAt x zone seconds (Done other) ts) (request_one here words another request v w) g) c d
+answers_one here words request zone seconds plan another one other ts asks dry (not_read lost (inl e) none) b c d = absurd (cc)
+answers_one here words request zone seconds plan another one other ts asks dry (not_read lost (inr e) none) b c d = absurd (cc)
+answers_one here words request zone seconds plan another one other ts asks dry (read r w h) (not_read gone (inl e) none) c d = absurd (cc)
+answers_one here words request zone seconds plan another one other ts asks dry (read r w h) (not_read gone (inr e) none) c d = absurd (cc)
+answers_one here words request zone seconds plan another one other ts asks dry (read r w h) (read s v g) c d = at_one request dry zone seconds plan another one other ts
+    (subst (λ (x : Request). AnswersAt x zone seconds plan (Done one) ts) (same_Some r request (sym w ∙ asks)) h) (subst (λ (x : Request). AnswersAt x zone seconds another (Done other) ts) (same_Some s request (sym v ∙ asks)) g) c d

@@ -1,5 +1,5 @@
 -- The work of two runs that left the same entries met the same faults.
-use Rattle.std.proofs.Common.{◌≡◌, ◌≤◌, ◌<◌, Bool, true, List, [], ◌∷◌, ◌++◌, length, map, Ok, Err, refl, sym, ap, ◌∙◌, subst, arith}
+use Rattle.std.proofs.Common.{◌≡◌, ◌≤◌, ◌<◌, Bool, true, Option, List, [], ◌∷◌, ◌++◌, length, map, Ok, Err, refl, sym, ap, ◌∙◌, subst, arith}
 use Rattle.std.proofs.lemmas.List.{append-nil}
 use Rattle.std.proofs.lemmas.List.Elements.{filter-append}
 use Rattle.std.specs.List.{list_all}
@@ -21,6 +21,7 @@ use Rattle.lr_reading.specs.declared.remembered.Remembered.{Remembered}
 use Rattle.lr_reading.specs.Answers.{Known, IsKnown}
 use Rattle.lr_reading.specs.Sights.{StateSights, ShowsState}
 use Rattle.lr_fields.specs.Built.{AreBuiltRules}
+use Rattle.lr_plan.specs.declared.planned.Plan.{Plan}
 use Rattle.lr_run.specs.Runs.{Looked, Worked, Works, not_known, too_big, worked, plan_in, measured_in}
 use Rattle.lr_run.proofs.Called.{none_before, none_behind}
 use Rattle.lr_run.proofs.Works.{steps_simple}
@@ -144,13 +145,13 @@ module _ (state : Path) (rules : List Rule) (now : Moment) (force : Bool) (own m
   small_or_not : (v : Looked state rules ts) (w : Looked state rules us) → calls_in v.of_looks ≡ 0 → calls_in w.of_looks ≡ 0 → length (measured_in state rules ts v now force) ≤ 67_108_864 → 67_108_864 < length (measured_in state rules us w now force) → ⊥
   small_or_not v w no_v no_w small big = let same : length (measured_in state rules ts v now force) ≡ length (measured_in state rules us w now force) = ap length (measured_is state rules now force ts us v w e no_v no_w limits) in omega (arith, same, big, small)
 
-  pub works_one : Works state rules now force own ts → Works state rules now force more us → own ≡ more
-  works_one (not_known a f x is h) (not_known b g y are k) = unknown_one a b f g x y is are h k
-  works_one (not_known a f x is h) (too_big w big are none) = absurd (known_or_not state rules own ts us a f x is h w e c)
-  works_one (not_known a f x is h) (worked w) = absurd (known_or_not state rules own ts us a f x is h w.looked e c)
-  works_one (too_big v big is none) (not_known b g y are k) = absurd (known_or_not state rules more us ts b g y are k v (sym e) d)
-  works_one (too_big v big is none) (too_big w great are nothing) = big_one v w is are
-  works_one (too_big v big is none) (worked w) = absurd (big_or_not v w.looked (none_before own v.of_looks _ is c) (none_before more w.looked.of_looks _ w.acted.faults_are d) big w.acted.small)
-  works_one (worked v) (not_known b g y are k) = absurd (known_or_not state rules more us ts b g y are k v.looked (sym e) d)
-  works_one (worked v) (too_big w big are none) = absurd (small_or_not v.looked w (none_before own v.looked.of_looks _ v.acted.faults_are c) (none_before more w.of_looks _ are d) v.acted.small big)
-  works_one (worked v) (worked w) = worked_one v w
+  pub works_one : {plan other : Option Plan} → Works state rules now force plan own ts → Works state rules now force other more us → own ≡ more
+  works_one (not_known a f x lost is h) (not_known b g y gone are k) = unknown_one a b f g x y is are h k
+  works_one (not_known a f x lost is h) (too_big w big gone are none) = absurd (known_or_not state rules own ts us a f x is h w e c)
+  works_one (not_known a f x lost is h) (worked w lies) = absurd (known_or_not state rules own ts us a f x is h w.looked e c)
+  works_one (too_big v big lost is none) (not_known b g y gone are k) = absurd (known_or_not state rules more us ts b g y are k v (sym e) d)
+  works_one (too_big v big lost is none) (too_big w great gone are nothing) = big_one v w is are
+  works_one (too_big v big lost is none) (worked w lies) = absurd (big_or_not v w.looked (none_before own v.of_looks _ is c) (none_before more w.looked.of_looks _ w.acted.faults_are d) big w.acted.small)
+  works_one (worked v tells) (not_known b g y gone are k) = absurd (known_or_not state rules more us ts b g y are k v.looked (sym e) d)
+  works_one (worked v tells) (too_big w big gone are none) = absurd (small_or_not v.looked w (none_before own v.looked.of_looks _ v.acted.faults_are c) (none_before more w.of_looks _ are d) v.acted.small big)
+  works_one (worked v tells) (worked w lies) = worked_one v w

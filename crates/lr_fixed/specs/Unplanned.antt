@@ -1,19 +1,20 @@
 -- Runs that didn't come to their plan.
-use Rattle.std.specs.Prelude.{Bool, List}
+use Rattle.std.specs.Prelude.{Bool, List, Option}
 use Rattle.lr_rules.specs.declared.path.Path.{Path}
 use Rattle.lr_rules.specs.declared.civil.Moment.{Moment}
 use Rattle.lr_rules.specs.declared.fault.Fault.{Fault}
 use Rattle.lr_rules.specs.declared.rule.Rule.{Rule}
 use Rattle.lr_rules.specs.declared.rules.Rules.{Rules}
 use Rattle.lr_host.specs.declared.entry.Entry.{Entry}
+use Rattle.lr_plan.specs.declared.planned.Plan.{Plan}
 use Rattle.lr_run.specs.Runs.{Works, worked, Runs, began}
 
 -- nothing was known of the state, or its text could become too big
-abbrev pub IsUnplannedWork : (state : Path) (rules : List Rule) (now : Moment) (force : Bool) (own : List Fault) (ts : List Entry) → Works state rules now force own ts → Type 0
-IsUnplannedWork state rules now force own ts (worked w) = ⊥
-IsUnplannedWork state rules now force own ts _ = Unit {0}
+abbrev pub IsUnplannedWork : (state : Path) (rules : List Rule) (now : Moment) (force : Bool) (plan : Option Plan) (own : List Fault) (ts : List Entry) → Works state rules now force plan own ts → Type 0
+IsUnplannedWork state rules now force plan own ts (worked w is) = ⊥
+IsUnplannedWork state rules now force plan own ts _ = Unit {0}
 
 -- the run began and its work was so; or it didn't begin
-abbrev pub IsUnplanned : (state : Path) (force : Bool) (now : Moment) (rules : Rules) (own : List Fault) (ts : List Entry) → Runs state force now rules own ts → Type 0
-IsUnplanned state force now rules own ts (began i) = IsUnplannedWork state rules.sets now force own i.between i.within
-IsUnplanned state force now rules own ts _ = Unit {0}
+abbrev pub IsUnplanned : (state : Path) (force : Bool) (now : Moment) (rules : Rules) (plan : Option Plan) (own : List Fault) (ts : List Entry) → Runs state force now rules plan own ts → Type 0
+IsUnplanned state force now rules plan own ts (began i) = IsUnplannedWork state rules.sets now force plan own i.between i.within
+IsUnplanned state force now rules plan own ts _ = Unit {0}

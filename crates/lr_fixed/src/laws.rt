@@ -1,6 +1,6 @@
 // What the entries of a call show: what it found and what it tells, where no call failed, how often it lists, and what it
 // leaves alone.
-ghost use Rattle.std.specs.Prelude.{◌≡◌, ◌≢◌, ◌≤◌, ◌+◌, ◌++◌, reverse, Bool, List, Option, Some, None, ℕ, ℤ};
+ghost use Rattle.std.specs.Prelude.{◌≡◌, ◌≢◌, ◌≤◌, ◌+◌, ◌++◌, reverse, Bool, false, List, Option, Some, None, ℕ, ℤ};
 ghost use Rattle.lr_rules.specs.declared.path.Path.{Path};
 ghost use Rattle.lr_rules.specs.declared.civil.Moment.{Moment};
 ghost use Rattle.lr_rules.specs.declared.rules.Rules.{Rules};
@@ -15,6 +15,7 @@ ghost use Rattle.lr_host.specs.Told.{Made};
 ghost use Rattle.lr_host.specs.World.{Past, world, names};
 ghost use Rattle.lr_due.specs.declared.tz.Zone.{Zone};
 ghost use Rattle.lr_plan.specs.declared.looks.SetLooks.{SetLooks};
+ghost use Rattle.lr_plan.specs.declared.planned.Plan.{Plan};
 ghost use Rattle.lr_host.specs.Counted.{calls_in};
 ghost use Rattle.lr_looks.specs.Shown.{ShowsLooks};
 ghost use Rattle.lr_fields.specs.Built.{AreBuiltRules};
@@ -23,7 +24,9 @@ ghost use Rattle.lr_run.specs.Rotated.{rotated_in};
 ghost use Rattle.lr_run.specs.Runs.{Inside, Worked, Runs};
 ghost use Rattle.lr_cli.specs.declared.outcome.Outcome.TheVariants.{Done};
 ghost use Rattle.lr_cli.specs.declared.outcome.Report.{Report};
+ghost use Rattle.lr_command.specs.declared.request.Request.{Request};
 ghost use Rattle.lr_cli.specs.Answer.{Answered};
+ghost use Rattle.lr_cli.specs.Asked.{AskFor};
 ghost use Rattle.lr_fixed.specs.Alike.{AreAlike};
 ghost use Rattle.lr_glob.specs.Listings.{listings_of};
 ghost use Rattle.lr_fixed.specs.Listings.{wildcards_of};
@@ -41,23 +44,23 @@ pub fn looks_are_fixed()
 /// Entries fix the faults of a run: where the same entries are shown as those of two runs over the same rules, and no call
 /// failed in either, their own faults are the same. A program that ended badly is told by its entry.
 pub fn faults_are_fixed()
-    ensures { (state : Path) (force : Bool) (now : Moment) (rules : Rules) (own more : List Fault) (ts : List Entry) → AreBuiltRules rules.sets
-        → Runs state force now rules own ts → Runs state force now rules more ts → calls_in own ≡ 0 → calls_in more ≡ 0 → own ≡ more }
+    ensures { (state : Path) (force : Bool) (now : Moment) (rules : Rules) (plan other : Option Plan) (own more : List Fault) (ts : List Entry) → AreBuiltRules rules.sets
+        → Runs state force now rules plan own ts → Runs state force now rules other more ts → calls_in own ≡ 0 → calls_in more ≡ 0 → own ≡ more }
 {}
 
-/// Entries fix the report of a call: where the same entries are shown as those of two reports, and no failed call is told
+/// Entries fix the report of a call that isn't a dry run: where the same entries are shown as those of two reports, and no failed call is told
 /// by either, the reports are the same.
 pub fn reports_are_fixed()
-    ensures { (here : Path) (words : List (List ℕ)) (zone : Zone) (seconds : ℤ) (one other : Report) (ts : List Entry)
-        → Answered here words zone seconds (Done one) ts → Answered here words zone seconds (Done other) ts
+    ensures { (here : Path) (words : List (List ℕ)) (request : Request) (zone : Zone) (seconds : ℤ) (plan another : Option Plan) (one other : Report) (ts : List Entry) → AskFor here words request → request.debug ≡ false
+        → Answered here words zone seconds plan (Done one) ts → Answered here words zone seconds another (Done other) ts
         → calls_in one.faults ≡ 0 → calls_in other.faults ≡ 0 → (one.notices ≡ other.notices) × (one.faults ≡ other.faults) }
 {}
 
 /// In one run a directory is listed no more often than there are wildcards among the words of its rules, and once more,
 /// however many logs are in it: once for the families of all logs, and at most once for each wildcard.
 pub fn directories_are_listed_once()
-    ensures { (state : Path) (force : Bool) (now : Moment) (rules : Rules) (own : List Fault) (p q : Past) (es : List Entry) → AreBuiltRules rules.sets
-        → Made p es q → Runs state force now rules own (reverse es) → (dir : Path) → listings_of dir (reverse es) ≤ wildcards_of rules.sets + 1 }
+    ensures { (state : Path) (force : Bool) (now : Moment) (rules : Rules) (plan : Option Plan) (own : List Fault) (p q : Past) (es : List Entry) → AreBuiltRules rules.sets
+        → Made p es q → Runs state force now rules plan own (reverse es) → (dir : Path) → listings_of dir (reverse es) ≤ wildcards_of rules.sets + 1 }
 {}
 
 /// A run that came to its plan leaves each set alone whose log it doesn't rotate, whatever failed: each member names what
@@ -68,7 +71,7 @@ pub fn others_are_left()
         → IsSafe s p → IsSteady s q
         → ((t : Target) → IsOneOf t (rotated_in state rules.sets i.between i.within.looked now force) → t.log ≢ s.log)
         → (y : Path) (k : ℤ) → s.key y ≡ Some k → names (world q) y ≡ names (world p) y }
-    ensures unplanned { (s : LogSet) (state : Path) (force : Bool) (now : Moment) (rules : Rules) (own : List Fault) (p q : Past) (es reads acts : List Entry)
-        → Made p es q → reverse es ≡ reads ++ acts → AreQuiet reads → (r : Runs state force now rules own acts) → IsUnplanned state force now rules own acts r
+    ensures unplanned { (s : LogSet) (state : Path) (force : Bool) (now : Moment) (rules : Rules) (plan : Option Plan) (own : List Fault) (p q : Past) (es reads acts : List Entry)
+        → Made p es q → reverse es ≡ reads ++ acts → AreQuiet reads → (r : Runs state force now rules plan own acts) → IsUnplanned state force now rules plan own acts r
         → IsSteady s q → (y : Path) (k : ℤ) → s.key y ≡ Some k → names (world q) y ≡ names (world p) y }
 {}

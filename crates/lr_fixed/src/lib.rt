@@ -1,6 +1,7 @@
 //! What the entries of a call show. Where no call failed, they fix what was found and what is told: one outcome of a run's
-//! looks, the faults of one run, from the reading of its state to the writing, and one report, and no other. A run lists
-//! no directory more often than its words ask for, and leaves each set alone whose log it doesn't rotate.
+//! looks, the faults of one run, from the reading of its state to the writing, and of a call that isn't a dry run
+//! one report, and no other. A run lists no directory more often than its words ask for, and leaves each set alone whose
+//! log it doesn't rotate.
 //!
 //! A law is the contract of a function without a body: `looks_are_fixed`, `faults_are_fixed`,
 //! `reports_are_fixed`, `directories_are_listed_once` and `others_are_left`.
