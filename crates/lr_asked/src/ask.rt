@@ -1,8 +1,8 @@
 // The calls that a line may make.
 use crate::answer::Answer;
 use crate::{
-    built, chain, choosing, clock, copied, due, glob, layer, lex, lines, meeting, moment, name,
-    naming, path, report, setting, stamps, state, word,
+    built, chain, choosing, clock, command, copied, due, glob, layer, lex, lines, meeting, moment,
+    name, naming, path, report, setting, shown, stamps, state, word,
 };
 use lr_line::{Line, Trouble};
 
@@ -56,10 +56,13 @@ enum Ask {
     Matches,
     Bars,
     Changed,
+    Command,
+    Decided,
+    Plan,
 }
 
 // Each call with its name, and how many words stand behind that, at least and at most.
-static ASKS: [(&str, Ask, usize, usize); 48] = [
+static ASKS: [(&str, Ask, usize, usize); 51] = [
     ("path", Ask::Path, 1, 1),
     ("word", Ask::Word, 2, 2),
     ("parent", Ask::Parent, 1, 1),
@@ -108,6 +111,9 @@ static ASKS: [(&str, Ask, usize, usize); 48] = [
     ("matches", Ask::Matches, 2, 2),
     ("bars", Ask::Bars, 1, 99),
     ("changed", Ask::Changed, 0, 99),
+    ("command", Ask::Command, 0, 99),
+    ("decided", Ask::Decided, 1, 1),
+    ("plan", Ask::Plan, 0, 9),
 ];
 
 // The call, where so many words stand behind its name.
@@ -155,6 +161,9 @@ fn answer_of_runs(ask: Ask, line: Line, out: &mut Answer) -> Result<(), Trouble>
         Ask::Matches => glob::is_match(line, out),
         Ask::Bars => glob::bars(line, out),
         Ask::Changed => glob::changed(line, out),
+        Ask::Command => command::command(line, out),
+        Ask::Decided => shown::decided(line, out),
+        Ask::Plan => shown::shown(line, out),
         _ => Err(Trouble::Odd("no such call")),
     }
 }
