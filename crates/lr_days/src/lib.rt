@@ -15,4 +15,5 @@ mod glance;
 mod newest;
 mod standing;
 
+pub use newest::key_of;
 pub use standing::{stand, stand_in};

@@ -6,8 +6,9 @@ ghost use Rattle.lr_days.specs.Newest.{key_in, by_age, AreApart, AreNewestFirst}
 use lr_family::{Member, Place};
 use std::cmp::Ordering;
 
-// The stamp and serial number of a place as one number.
-fn key_of(place: &Place) -> i128
+/// The stamp and serial number of a place as one number: greater where the moment is later, or the moment is the same and
+/// the serial number greater.
+pub fn key_of(place: &Place) -> i128
     ensures { result ≡ key_in place.now }
 {
     match *place {
