@@ -91,7 +91,7 @@ fn ready_of(
 /// Makes the rotation of a numbered family ready, where these members stand, with the log made anew behind it or not. Want
 /// of memory aside, `NoDir` comes exactly
 /// where the family's directory wasn't there, and `TooHigh` exactly where all members are kept and one has the highest
-/// number that there is. `Taken` has no case yet.
+/// number that there is. `Taken` never comes.
 pub fn prepare(
     alloc: Global,
     family: &Family,

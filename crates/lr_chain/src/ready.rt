@@ -30,7 +30,7 @@ pub struct Ready {
 /// Why a rotation can't be prepared.
 #[derive(Drop)]
 pub enum PrepareStop {
-    /// The name that the log would get is taken. No case so far.
+    /// The name that the log would get is a member's; of dated families alone.
     Taken(Path),
     /// This member's number can't become higher.
     TooHigh(Path),

@@ -1,0 +1,10 @@
+use Rattle.std.proofs.Common.{◌≡◌, ◌+◌, ◌++◌, map, take}
+use Rattle.lr_dated.specs.Steps.{gone}
+use Rattle.lr_dated_chain.specs.Ready.{ranked, removal_of}
+use Rattle.lr_dated_chain.proofs.gone.add_gone.Given as goal
+
+abbrev pub invariant-loop-member : goal.invariant-loop-member
+invariant-loop-member l = record {
+  later : l.later ≡ l.first + l.member-index;
+  removals : l.into.items ≡ l.initial.into.items ++ map removal_of (gone l.count l.first (map ranked (take l.member-index l.members)));
+}
