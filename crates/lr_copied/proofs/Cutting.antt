@@ -13,7 +13,8 @@ use Rattle.lr_host.proofs.Each.{each_append}
 use Rattle.lr_host.proofs.Made.{made_on}
 use Rattle.lr_host.proofs.Quiet.{size, since_before}
 use Rattle.lr_copy.specs.declared.job.Job.{Job}
-use Rattle.lr_copy.specs.Copying.{Copying, none_read, read_more, took_more, clearing, opening, Fills, naming, cutting, Copied}
+use Rattle.lr_copy.specs.Bytes.{Copying, none_read, read_more, took_more}
+use Rattle.lr_copy.specs.Copying.{clearing, opening, Fills, naming, cutting, Copied}
 use Rattle.lr_copy.specs.Fits.{ArePaths}
 use Rattle.lr_durable.proofs.Lists.{IsOnWay, on_way, prefix_size}
 use Rattle.lr_copied.specs.Whole.{Named, WritersSpare, IsWhole}

@@ -12,7 +12,8 @@ use Rattle.lr_host.specs.Told.{Made, at_first, by_tool}
 use Rattle.lr_host.specs.World.{Past, Opens, ◌▸◌, world}
 use Rattle.lr_laws.specs.Chain.{log, third, found}
 use Rattle.lr_laws.proofs.Example.{found_valid}
-use Rattle.lr_copy.specs.Copying.{none_read, read_more, took_more, opening, naming}
+use Rattle.lr_copy.specs.Bytes.{none_read, read_more, took_more}
+use Rattle.lr_copy.specs.Copying.{opening, naming}
 use Rattle.lr_copy.specs.Fits.{ArePaths}
 use Rattle.lr_copied.specs.Whole.{Named, WritersSpare, Has, IsWhole}
 use Rattle.lr_copied.specs.Worked.{part, job, filled, in_order, name_pending, bytes_pending}

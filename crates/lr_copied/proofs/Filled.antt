@@ -15,7 +15,7 @@ use Rattle.lr_host.specs.Told.{Made, at_first, by_tool}
 use Rattle.lr_host.specs.World.{Past, ◌▸◌, world, names}
 use Rattle.lr_host.proofs.Made.{made_journal}
 use Rattle.lr_host.proofs.Names.{put_cases, put_here}
-use Rattle.lr_copy.specs.Copying.{Copying, none_read, read_more, took_more}
+use Rattle.lr_copy.specs.Bytes.{Copying, none_read, read_more, took_more}
 use Rattle.lr_durable.proofs.Lists.{at}
 use Rattle.lr_durable.proofs.Parts.{named_drawn, held_drawn, IsOwn, own_append, own_waits, own_walk}
 use Rattle.lr_copied.specs.Whole.{Has}

@@ -17,7 +17,8 @@ use Rattle.lr_host.proofs.Made.{made_on, made_journal}
 use Rattle.lr_host.proofs.Names.{put_cases, put_here}
 use Rattle.lr_laws.proofs.Disk.{cut_leaves, fits_closed}
 use Rattle.lr_copy.specs.declared.job.Job.{Job}
-use Rattle.lr_copy.specs.Copying.{Copying, clearing}
+use Rattle.lr_copy.specs.Bytes.{Copying}
+use Rattle.lr_copy.specs.Copying.{clearing}
 use Rattle.lr_copy.specs.Fits.{ArePaths}
 use Rattle.lr_durable.proofs.Files.{IsGuarded, IsSynced, cut_whole}
 use Rattle.lr_durable.proofs.Leaving.{Lasts}

@@ -1,5 +1,5 @@
 -- What a copy that broke off leaves undone.
-use Rattle.std.proofs.Common.{⊎_elim, sym, subst, ℕ, Bool, true, false, cond, List, [], ◌∷◌, ◌++◌, length}
+use Rattle.std.proofs.Common.{⊎_elim, sym, subst, ℕ, Bool, true, false, cond, List, [], ◌∷◌, ◌++◌}
 use Rattle.lr_rules.specs.declared.fault.CallKind.TheVariants as call
 use Rattle.lr_host.specs.declared.entry.Entry.{Entry}
 use Rattle.lr_host.specs.declared.entry.Entry.TheVariants.{Reads, Renames, Makes, Appends, Unlinks, SyncsFile, SyncsDir}
@@ -8,14 +8,10 @@ use Rattle.lr_host.proofs.Each.{each_append}
 use Rattle.lr_copy.specs.declared.job.Job.{Job}
 use Rattle.lr_copy.specs.declared.job.CopyStop.{CopyStop}
 use Rattle.lr_copy.specs.declared.job.CopyStop.TheVariants as stop
-use Rattle.lr_copy.specs.Copying.{Maybe, Copying, none_read, read_more, took_more, TakesPart, Copies, clearing, opening, Fills}
+use Rattle.lr_copy.specs.declared.job.BytesStop.TheVariants as broke
+use Rattle.lr_copy.specs.Copying.{Maybe, Copies, clearing, opening, Fills}
+use Rattle.lr_copy.proofs.EachOfBytes.{each_both, each_are, each_all, each_broke}
 use Rattle.lr_copy.specs.Stops.{OpenStopped, FillStopped, NameStopped, CutStopped, CloseStopped, at_name, at_cut, CopyStopped, at_open, at_fill, at_close, EmptiesNone, RenamesNone, IsCutStop, IsEarly}
-
-each_both : (P : Entry → Type 0) (Q R : List Entry → Type 0) (ts : List Entry) → ((us : List Entry) → Q us → Each P us) → ((us : List Entry) → R us → Each P us) → Then Q R ts → Each P ts
-each_both P Q R ts f g h = subst (Each P) (sym h.joined) (each_append P h.front h.back (f h.front h.first) (g h.back h.second))
-
-each_are : (P : Entry → Type 0) (es ts : List Entry) → Each P es → Are es ts → Each P ts
-each_are P es ts a is = subst (Each P) (sym is) a
 
 each_maybe : (P : Entry → Type 0) (e : Entry) (ts : List Entry) → P e → Maybe e ts → Each P ts
 each_maybe P e ts p m = ⊎_elim (λ none. subst (Each P) (sym none) tt) (λ one. subst (Each P) (sym one) (p, tt)) m
@@ -32,16 +28,8 @@ module _ (job : Job) (P : Entry → Type 0) (unlinks : P (Unlinks job.part)) (ma
   opens : Each P (opening job)
   opens = each_append P (clearing job) (Makes job.part job.mode ∷ []) clears (makes, tt)
 
-  copying : (bytes owed : List ℕ) (ts : List Entry) → Copying job.from job.part bytes owed ts → Each P ts
-  copying _ _ _ none_read = tt
-  copying _ _ _ (read_more {bytes = bytes} {ts = ts} c piece some) = each_append P ts (Reads job.from (length bytes) piece ∷ []) (copying bytes [] ts c) (reads (length bytes) piece, tt)
-  copying bytes owed _ (took_more {ts = ts} piece _ c) = each_append P ts (Appends job.part piece ∷ []) (copying bytes (piece ++ owed) ts c) (appends piece, tt)
-
-  part : (owed : List ℕ) (ts : List Entry) → TakesPart job.part owed ts → Each P ts
-  part owed ts h = ⊎_elim (λ none. subst (Each P) (sym none) tt) (λ some. subst (Each P) (sym some.2) (appends _, tt)) h
-
   copies : (count : ℕ) (ts : List Entry) → Copies job count ts → Each P ts
-  copies count ts c = each_both P (Copying job.from job.part c.bytes []) (Are (Reads job.from (length c.bytes) [] ∷ [])) ts (λ us h. copying c.bytes [] us h) (λ us is. each_are P (Reads job.from (length c.bytes) [] ∷ []) us (reads (length c.bytes) [], tt) is) c.entries
+  copies count ts c = each_all P job.from job.part reads appends job.limit count ts c
 
   fills : (count : ℕ) (ts : List Entry) → Fills job count ts → Each P ts
   fills count ts f = each_both P (Copies job count) (Are (SyncsFile job.part ∷ [])) ts (λ us h. copies count us h) (λ us is. each_are P (SyncsFile job.part ∷ []) us (syncs, tt) is) f
@@ -53,9 +41,9 @@ module _ (job : Job) (P : Entry → Type 0) (unlinks : P (Unlinks job.part)) (ma
   open_stops _ ts h = absurd h
 
   fill_stops : (why : CopyStop) (ts : List Entry) → FillStopped job why ts → Each P ts
-  fill_stops (stop.Call call.Read path) ts h = copying h.1.0 [] ts h.1.2
-  fill_stops (stop.Call call.Append path) ts h = each_both P (Copying job.from job.part h.1.0 h.1.1) (TakesPart job.part h.1.1) ts (λ us c. copying h.1.0 h.1.1 us c) (λ us t. part h.1.1 us t) h.1.3
-  fill_stops (stop.TooLong path) ts h = copying h.1.0 h.1.1 ts h.1.3
+  fill_stops (stop.Call call.Read path) ts h = each_broke P job.from job.part reads appends job.limit broke.Read ts h.1
+  fill_stops (stop.Call call.Append path) ts h = each_broke P job.from job.part reads appends job.limit broke.Append ts h.1
+  fill_stops (stop.TooLong path) ts h = each_broke P job.from job.part reads appends job.limit broke.TooLong ts h.1
   fill_stops (stop.Call call.Sync path) ts h = each_both P (Copies job h.1.0) (Maybe (SyncsFile job.part)) ts (λ us c. copies h.1.0 us c) (λ us m. each_maybe P (SyncsFile job.part) us syncs m) h.1.1
   fill_stops _ ts h = absurd h
 

@@ -1,3 +1,5 @@
+pub mod EachOfBytes
+mod Endings
 mod Keeping
 mod Pieces
 mod Places

@@ -10,10 +10,10 @@ use Rattle.lr_host.specs.declared.journal.Journal.{Journal}
 use Rattle.lr_host.specs.Reading.{text, AreJoined}
 use Rattle.lr_host.proofs.Reading.{text_both}
 use Rattle.lr_host.specs.Steps.{is_naming}
-use Rattle.lr_host.specs.Told.{Left, Then}
+use Rattle.lr_host.specs.Told.{Left}
 use Rattle.lr_host.proofs.Left.{left_first, left_then, left_as}
-use Rattle.lr_copy.specs.declared.job.Job.{Job}
-use Rattle.lr_copy.specs.Copying.{Copying, none_read, read_more, took_more, appended, Takes, none_taken, piece_taken, TakesPart, TakesBroke, Copies}
+use Rattle.lr_copy.specs.declared.job.BytesStop.TheVariants as broke
+use Rattle.lr_copy.specs.Bytes.{Copying, none_read, read_more, took_more, appended, Takes, none_taken, piece_taken, TakesPart, TakesBroke, AllBytes, BytesBroke}
 
 -- ---- appends
 
@@ -54,15 +54,15 @@ takes_on from to bytes owed left ts _ c (piece_taken {ts = us} piece _ t) =
     subst (Copying from to bytes left) (append_assoc ts us (Appends to piece ∷ [])) (took_more piece left (takes_on from to bytes owed (piece ++ left) ts us c t))
 
 -- so many bytes were read, and these of them are owed
-abbrev pub Owes : Job → ℕ → List ℕ → List Entry → Type 0
-Owes job count owed ts = (bytes : List ℕ) × (count ≡ length bytes) × Copying job.from job.part bytes owed ts
+abbrev pub Owes : Path → Path → ℕ → List ℕ → List Entry → Type 0
+Owes from to count owed ts = (bytes : List ℕ) × (count ≡ length bytes) × Copying from to bytes owed ts
 
-pub owes_first : (job : Job) (o : Option Journal) → Left (Owes job 0 []) o o
-owes_first job o = left_first (Owes job 0 []) o ([], refl, none_read)
+pub owes_first : (from to : Path) (o : Option Journal) → Left (Owes from to 0 []) o o
+owes_first from to o = left_first (Owes from to 0 []) o ([], refl, none_read)
 
 -- a read gave bytes
-pub owes_more : (job : Job) (count more : ℕ) (into : List ℕ) {o m n : Option Journal} → more ≤ length into → (more ≡ 0 → ⊥) → Left (Owes job count []) o m → Left (λ ts. ts ≡ Reads job.from count (take more into) ∷ []) m n → Left (Owes job (count + more) (take more into)) o n
-owes_more job count more into le some l r = left_then l r (λ ts us h e. (h.0 ++ take more into, longer h.0 h.1, subst (λ (vs : List Entry). Copying job.from job.part (h.0 ++ take more into) (take more into) (ts ++ vs)) (sym (at_end h.0 us h.1 e)) (read_more h.2 (take more into) (λ none. some (sym long ∙ ap length none)))))
+pub owes_more : (from to : Path) (count more : ℕ) (into : List ℕ) {o m n : Option Journal} → more ≤ length into → (more ≡ 0 → ⊥) → Left (Owes from to count []) o m → Left (λ ts. ts ≡ Reads from count (take more into) ∷ []) m n → Left (Owes from to (count + more) (take more into)) o n
+owes_more from to count more into le some l r = left_then l r (λ ts us h e. (h.0 ++ take more into, longer h.0 h.1, subst (λ (vs : List Entry). Copying from to (h.0 ++ take more into) (take more into) (ts ++ vs)) (sym (at_end h.0 us h.1 e)) (read_more h.2 (take more into) (λ none. some (sym long ∙ ap length none)))))
   where
     long : length (take more into) ≡ more
     long = length-take-le more into le
@@ -70,45 +70,55 @@ owes_more job count more into le some l r = left_then l r (λ ts us h e. (h.0 ++
     longer : (bytes : List ℕ) → count ≡ length bytes → count + more ≡ length (bytes ++ take more into)
     longer bytes e = let a : length (bytes ++ take more into) ≡ length bytes + length (take more into) = length-append bytes (take more into) in omega (arith, a, e, long)
 
-    at_end : (bytes : List ℕ) (us : List Entry) → count ≡ length bytes → us ≡ Reads job.from count (take more into) ∷ [] → us ≡ Reads job.from (length bytes) (take more into) ∷ []
-    at_end bytes us e is = is ∙ ap (λ (k : ℕ). Reads job.from k (take more into) ∷ []) e
+    at_end : (bytes : List ℕ) (us : List Entry) → count ≡ length bytes → us ≡ Reads from count (take more into) ∷ [] → us ≡ Reads from (length bytes) (take more into) ∷ []
+    at_end bytes us e is = is ∙ ap (λ (k : ℕ). Reads from k (take more into) ∷ []) e
 
 -- they were appended
-pub owes_none : (job : Job) (count : ℕ) (piece : List ℕ) {o m n : Option Journal} → Left (Owes job count piece) o m → Left (Takes job.part piece []) m n → Left (Owes job count []) o n
-owes_none job count piece l t = left_then l t (λ ts us h k. (h.0, h.1, takes_on job.from job.part h.0 piece [] ts us h.2 k))
+pub owes_none : (from to : Path) (count : ℕ) (piece : List ℕ) {o m n : Option Journal} → Left (Owes from to count piece) o m → Left (Takes to piece []) m n → Left (Owes from to count []) o n
+owes_none from to count piece l t = left_then l t (λ ts us h k. (h.0, h.1, takes_on from to h.0 piece [] ts us h.2 k))
 
 -- a read failed
-pub read_broke : (job : Job) (count : ℕ) {o m n : Option Journal} → count ≤ job.limit → Left (Owes job count []) o m → Left (λ ts. ts ≡ []) m n → Left (λ ts. (bytes : List ℕ) × (length bytes ≤ job.limit) × Copying job.from job.part bytes [] ts) o n
-read_broke job count le l r = left_then l r (λ ts us h e. (h.0, subst (λ (k : ℕ). k ≤ job.limit) h.1 le, subst (λ (vs : List Entry). Copying job.from job.part h.0 [] (ts ++ vs)) (sym e) (subst (Copying job.from job.part h.0 []) (sym (append-nil ts)) h.2)))
+pub read_broke : (from to : Path) (limit count : ℕ) {o m n : Option Journal} → count ≤ limit → Left (Owes from to count []) o m → Left (λ ts. ts ≡ []) m n → Left (BytesBroke from to limit broke.Read) o n
+read_broke from to limit count le l r = left_then l r (λ ts us h e. (h.0, subst (λ (k : ℕ). k ≤ limit) h.1 le, subst (λ (vs : List Entry). Copying from to h.0 [] (ts ++ vs)) (sym e) (subst (Copying from to h.0 []) (sym (append-nil ts)) h.2)))
 
 -- an append failed
-pub append_broke : (job : Job) (count : ℕ) (piece : List ℕ) {o m n : Option Journal} → count ≤ job.limit → Left (Owes job count piece) o m → Left (TakesBroke job.part piece) m n
-    → Left (λ ts. (bytes owed : List ℕ) × (length bytes ≤ job.limit) × Then (Copying job.from job.part bytes owed) (TakesPart job.part owed) ts) o n
-append_broke job count piece le l t = left_then l t (λ ts us h k. (
+pub append_broke : (from to : Path) (limit count : ℕ) (piece : List ℕ) {o m n : Option Journal} → count ≤ limit → Left (Owes from to count piece) o m → Left (TakesBroke to piece) m n → Left (BytesBroke from to limit broke.Append) o n
+append_broke from to limit count piece le l t = left_then l t (λ ts us h k. (
   h.0,
   k.0,
-  subst (λ (n : ℕ). n ≤ job.limit) h.1 le,
+  subst (λ (n : ℕ). n ≤ limit) h.1 le,
   record {
     front = ts ++ k.1.front;
     back = k.1.back;
     joined = ap (λ (vs : List Entry). ts ++ vs) k.1.joined ∙ sym (append_assoc ts k.1.front k.1.back);
-    first = takes_on job.from job.part h.0 piece k.0 ts k.1.front h.2 k.1.first;
+    first = takes_on from to h.0 piece k.0 ts k.1.front h.2 k.1.first;
     second = k.1.second;
   },
 ))
 
 -- more than the limit was read
-pub too_long : (job : Job) (count : ℕ) (piece : List ℕ) {o n : Option Journal} → job.limit < count → Left (Owes job count piece) o n → Left (λ ts. (bytes owed : List ℕ) × (job.limit < length bytes) × Copying job.from job.part bytes owed ts) o n
-too_long job count piece lt l = left_as l (λ ts h. (h.0, piece, subst (λ (k : ℕ). job.limit < k) h.1 lt, h.2))
+pub too_long : (from to : Path) (limit count : ℕ) (piece : List ℕ) {o n : Option Journal} → limit < count → Left (Owes from to count piece) o n → Left (BytesBroke from to limit broke.TooLong) o n
+too_long from to limit count piece lt l = left_as l (λ ts h. (h.0, piece, subst (λ (k : ℕ). limit < k) h.1 lt, h.2))
 
 -- a read gave nothing
-pub copies_all : (job : Job) (count more : ℕ) (into : List ℕ) {o m n : Option Journal} → count ≤ job.limit → more ≡ 0 → Left (Owes job count []) o m → Left (λ ts. ts ≡ Reads job.from count (take more into) ∷ []) m n → Left (Copies job count) o n
-copies_all job count more into le none l r = left_then l r (λ ts us h e. record {
+pub copies_all : (from to : Path) (limit count more : ℕ) (into : List ℕ) {o m n : Option Journal} → count ≤ limit → more ≡ 0 → Left (Owes from to count []) o m → Left (λ ts. ts ≡ Reads from count (take more into) ∷ []) m n → Left (AllBytes from to limit count) o n
+copies_all from to limit count more into le none l r = left_then l r (λ ts us h e. record {
   bytes = h.0;
   count_is = h.1;
-  within = subst (λ (k : ℕ). k ≤ job.limit) h.1 le;
-  entries = record { front = ts; back = us; joined = refl; first = h.2; second = e ∙ (ap (λ (k : ℕ). Reads job.from count (take k into) ∷ []) none ∙ ap (λ (k : ℕ). Reads job.from k [] ∷ []) h.1) };
+  within = subst (λ (k : ℕ). k ≤ limit) h.1 le;
+  entries = record { front = ts; back = us; joined = refl; first = h.2; second = e ∙ (ap (λ (k : ℕ). Reads from count (take k into) ∷ []) none ∙ ap (λ (k : ℕ). Reads from k [] ∷ []) h.1) };
 })
+
+-- neither reads nor appends name anything
+copying_names : (from to : Path) (bytes owed : List ℕ) (ts : List Entry) → Copying from to bytes owed ts → filter is_naming ts ≡ []
+copying_names from to _ _ _ none_read = refl
+copying_names from to _ _ _ (read_more {bytes = bytes} {ts = ts} c piece some) = named_both ts (Reads from (length bytes) piece ∷ []) (copying_names from to bytes [] ts c) refl
+copying_names from to bytes owed _ (took_more {ts = ts} piece _ c) = named_both ts (Appends to piece ∷ []) (copying_names from to bytes (piece ++ owed) ts c) refl
+
+pub all_name_none : (from to : Path) (limit count : ℕ) (ts : List Entry) → AllBytes from to limit count ts → filter is_naming ts ≡ []
+all_name_none from to limit count ts a =
+    ap (filter is_naming) a.entries.joined
+    ∙ named_both a.entries.front a.entries.back (copying_names from to a.bytes [] a.entries.front a.entries.first) (ap (filter is_naming) a.entries.second)
 
 -- ---- what they show
 

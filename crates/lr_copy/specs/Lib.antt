@@ -1,3 +1,4 @@
+pub mod Bytes
 pub mod Copying
 pub mod Fits
 pub mod Stops

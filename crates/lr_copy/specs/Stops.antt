@@ -1,5 +1,5 @@
 -- Where a copy broke off, and why.
-use Rattle.std.specs.Prelude.{◌≡◌, ◌≢◌, ◌≤◌, ◌<◌, ℕ, true, List, [], ◌∷◌, length, Option}
+use Rattle.std.specs.Prelude.{◌≡◌, ◌≢◌, ℕ, true, List, [], ◌∷◌, Option}
 use Rattle.lr_rules.specs.declared.fault.CallKind.TheVariants as call
 use Rattle.lr_host.specs.declared.thing.Thing.TheVariants as thing
 use Rattle.lr_host.specs.declared.entry.Entry.{Entry}
@@ -7,10 +7,12 @@ use Rattle.lr_host.specs.declared.entry.Entry.TheVariants.{Renames, Makes, Trunc
 use Rattle.lr_host.specs.declared.journal.Journal.{Journal}
 use Rattle.lr_host.specs.World.{world, names}
 use Rattle.lr_host.specs.Told.{Then, Are, Counts, Rose, WhereTold}
+use Rattle.lr_copy.specs.declared.job.BytesStop.TheVariants as broke
 use Rattle.lr_copy.specs.declared.job.Job.{Job}
 use Rattle.lr_copy.specs.declared.job.CopyStop.{CopyStop}
 use Rattle.lr_copy.specs.declared.job.CopyStop.TheVariants as stop
-use Rattle.lr_copy.specs.Copying.{Maybe, Copying, TakesPart, Copies, clearing, opening, Fills, naming}
+use Rattle.lr_copy.specs.Bytes.{BytesBroke}
+use Rattle.lr_copy.specs.Copying.{Maybe, Copies, clearing, opening, Fills, naming}
 
 -- The part file wasn't made: the unlink of an old one failed, or the make, with its entry or without; or the path is named, and no make stands.
 abbrev pub OpenStopped : Job → CopyStop → List Entry → Type 0
@@ -19,11 +21,11 @@ OpenStopped job (stop.Call call.Make path) ts = (path.now ≡ job.part) × Then 
 OpenStopped job (stop.Taken path) ts = (path.now ≡ job.part) × (ts ≡ clearing job)
 OpenStopped job _ ts = ⊥
 
--- It didn't get the bytes: a read failed, where all that was read before was appended; an append failed, of which a first part may stand; more bytes were read than the limit; or its sync failed.
+-- It didn't get the bytes, or not durably: they broke off, or its sync failed.
 abbrev pub FillStopped : Job → CopyStop → List Entry → Type 0
-FillStopped job (stop.Call call.Read path) ts = (path.now ≡ job.from) × ((bytes : List ℕ) × (length bytes ≤ job.limit) × Copying job.from job.part bytes [] ts)
-FillStopped job (stop.Call call.Append path) ts = (path.now ≡ job.part) × ((bytes owed : List ℕ) × (length bytes ≤ job.limit) × Then (Copying job.from job.part bytes owed) (TakesPart job.part owed) ts)
-FillStopped job (stop.TooLong path) ts = (path.now ≡ job.from) × ((bytes owed : List ℕ) × (job.limit < length bytes) × Copying job.from job.part bytes owed ts)
+FillStopped job (stop.Call call.Read path) ts = (path.now ≡ job.from) × BytesBroke job.from job.part job.limit broke.Read ts
+FillStopped job (stop.Call call.Append path) ts = (path.now ≡ job.part) × BytesBroke job.from job.part job.limit broke.Append ts
+FillStopped job (stop.TooLong path) ts = (path.now ≡ job.from) × BytesBroke job.from job.part job.limit broke.TooLong ts
 FillStopped job (stop.Call call.Sync path) ts = (path.now ≡ job.part) × ((count : ℕ) × Then (Copies job count) (Maybe (SyncsFile job.part)) ts)
 FillStopped job _ ts = ⊥
 

@@ -1,14 +1,12 @@
-// The bytes of a log, read and appended through a buffer.
+// The bytes of a file, read and put behind those of another through a buffer.
 ghost use Rattle.std.specs.Prelude.{◌<◌, [], length, OnOk, OnErr, IfOk, IfErr};
 ghost use Rattle.lr_host.specs.declared.entry.Entry.TheVariants as entry;
 ghost use Rattle.lr_host.specs.Told.{Left, Can, Onward, Rose};
-ghost use Rattle.lr_copy.specs.Copying.{Takes, TakesBroke, Copies};
-ghost use Rattle.lr_copy.specs.Fits.{CanName};
-ghost use Rattle.lr_copy.specs.Stops.{FillStopped, CopyCause, ShowsTaken};
+ghost use Rattle.lr_copy.specs.Bytes.{Takes, TakesBroke, AllBytes, BytesBroke, BytesCause};
 
-use crate::job::{CopyStop, Job};
+use crate::job::BytesStop;
 use lr_host::{CallFault, Host};
-use lr_rules::{CallKind, Path};
+use lr_rules::Path;
 
 // Appends all of these bytes, piece by piece.
 fn append_all<H: Host>(host: &mut H, path: &Path, bytes: &[u8]) -> Result<(), CallFault>
@@ -28,35 +26,37 @@ fn append_all<H: Host>(host: &mut H, path: &Path, bytes: &[u8]) -> Result<(), Ca
     Ok(())
 }
 
-/// Reads the log from its first byte on, and appends what was read to the part file, up to a read that gives nothing; the
-/// answer is how many bytes that were.
-pub fn copy_bytes<'a, H: Host>(
+/// Reads a file from its first byte on, and puts what was read behind the bytes of another, through the buffer, up to a read
+/// that gives nothing; the answer is how many bytes that were. What fails leaves the rest undone: a read (`Read`), an append,
+/// of which a first part may stand (`Append`), or more bytes than the limit (`TooLong`). It takes no memory.
+pub fn copy_bytes<H: Host>(
     host: &mut H,
-    job: &'a Job,
+    from: &Path,
+    to: &Path,
+    limit: u64,
     buffer: &mut [u8],
-) -> Result<u64, CopyStop<'a>>
+) -> Result<u64, BytesStop>
     requires room { 0 < length buffer.old }
-    requires fits { CanName (H.told host.old) job.now }
-    ensures told { IfOk result (λ count. Left (Copies job.now count) (H.told host.old) (H.told host.new)) }
-    ensures next { OnOk result (CanName (H.told host.new) job.now) }
-    ensures refused { IfErr result (λ stop. Left (FillStopped job.now stop) (H.told host.old) (H.told host.new)) }
-    ensures taken { IfErr result (λ stop. ShowsTaken stop (H.told host.new)) }
-    ensures cause { IfErr result (λ stop. CopyCause stop (H.counts host.old) (H.counts host.new)) }
+    requires read { Can (H.told host.old) (entry.Reads from.now 0 []) }
+    requires append { Can (H.told host.old) (entry.Appends to.now []) }
+    ensures told { IfOk result (λ count. Left (AllBytes from.now to.now limit count) (H.told host.old) (H.told host.new)) }
+    ensures refused { IfErr result (λ stop. Left (BytesBroke from.now to.now limit stop) (H.told host.old) (H.told host.new)) }
+    ensures cause { IfErr result (λ stop. BytesCause stop (H.counts host.old) (H.counts host.new)) }
     ensures counts { Onward (H.counts host.old) (H.counts host.new) }
 {
     let mut copied = 0;
     loop {
-        let Ok(count) = host.read(&job.from, copied, buffer) else {
-            return Err(CopyStop::Call(CallKind::Read, &job.from));
+        let Ok(count) = host.read(from, copied, buffer) else {
+            return Err(BytesStop::Read);
         };
         if count == 0 {
             return Ok(copied);
         }
-        if count as u64 > job.limit - copied {
-            return Err(CopyStop::TooLong(&job.from));
+        if count as u64 > limit - copied {
+            return Err(BytesStop::TooLong);
         }
-        let Ok(()) = append_all(host, &job.part, &buffer[..count]) else {
-            return Err(CopyStop::Call(CallKind::Append, &job.part));
+        let Ok(()) = append_all(host, to, &buffer[..count]) else {
+            return Err(BytesStop::Append);
         };
         copied += count as u64;
     }

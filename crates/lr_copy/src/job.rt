@@ -29,3 +29,14 @@ pub enum CopyStop<'a> {
     /// More bytes were read than are copied.
     TooLong(&'a Path),
 }
+
+/// Why the bytes of a file weren't copied.
+#[derive(Clone, Copy)]
+pub enum BytesStop {
+    /// A read failed.
+    Read,
+    /// An append failed.
+    Append,
+    /// More bytes were read than are copied.
+    TooLong,
+}

@@ -6,7 +6,7 @@ ghost use Rattle.lr_host.specs.Reading.{text, AreJoined};
 ghost use Rattle.lr_host.specs.Told.{Each};
 ghost use Rattle.lr_copy.specs.declared.job.Job.{Job};
 ghost use Rattle.lr_copy.specs.declared.job.CopyStop.{CopyStop};
-ghost use Rattle.lr_copy.specs.Copying.{Copying, appended};
+ghost use Rattle.lr_copy.specs.Bytes.{Copying, appended};
 ghost use Rattle.lr_copy.specs.Stops.{CopyStopped, EmptiesNone, RenamesNone, IsCutStop, IsEarly};
 
 /// So far in a copy, the reads are a reading of the log from its first byte on, which gave these bytes; and what the appends

@@ -1,12 +1,12 @@
 // The part file, from its making up to its sync.
 ghost use Rattle.std.specs.Prelude.{◌<◌, length, OnOk, IfOk, IfErr};
 ghost use Rattle.lr_host.specs.Told.{Left, Are, Onward};
-ghost use Rattle.lr_copy.specs.Copying.{clearing, opening, Fills};
+ghost use Rattle.lr_copy.specs.Copying.{clearing, opening, Copies, Fills};
 ghost use Rattle.lr_copy.specs.Fits.{ArePaths, CanCopy, CanOpen, CanName};
 ghost use Rattle.lr_copy.specs.Stops.{OpenStopped, FillStopped, CopyCause, ShowsTaken};
 
 use crate::bytes::copy_bytes;
-use crate::job::{CopyStop, Job};
+use crate::job::{BytesStop, CopyStop, Job};
 use lr_host::Host;
 use lr_rules::CallKind;
 
@@ -51,6 +51,29 @@ pub fn open_part<'a, H: Host>(host: &mut H, job: &'a Job) -> Result<(), CopyStop
     }
 }
 
+// Copies the bytes of the log into the part file; the answer is how many bytes they are.
+fn fill_bytes<'a, H: Host>(
+    host: &mut H,
+    job: &'a Job,
+    buffer: &mut [u8],
+) -> Result<u64, CopyStop<'a>>
+    requires room { 0 < length buffer.old }
+    requires fits { CanName (H.told host.old) job.now }
+    ensures told { IfOk result (λ count. Left (Copies job.now count) (H.told host.old) (H.told host.new)) }
+    ensures next { OnOk result (CanName (H.told host.new) job.now) }
+    ensures refused { IfErr result (λ stop. Left (FillStopped job.now stop) (H.told host.old) (H.told host.new)) }
+    ensures taken { IfErr result (λ stop. ShowsTaken stop (H.told host.new)) }
+    ensures cause { IfErr result (λ stop. CopyCause stop (H.counts host.old) (H.counts host.new)) }
+    ensures counts { Onward (H.counts host.old) (H.counts host.new) }
+{
+    match copy_bytes(host, &job.from, &job.part, job.limit, buffer) {
+        Ok(copied) => Ok(copied),
+        Err(BytesStop::Read) => Err(CopyStop::Call(CallKind::Read, &job.from)),
+        Err(BytesStop::Append) => Err(CopyStop::Call(CallKind::Append, &job.part)),
+        Err(BytesStop::TooLong) => Err(CopyStop::TooLong(&job.from)),
+    }
+}
+
 /// Copies the bytes of the log into the part file, and syncs it; the answer is how many bytes they are.
 pub fn fill_part<'a, H: Host>(
     host: &mut H,
@@ -66,7 +89,7 @@ pub fn fill_part<'a, H: Host>(
     ensures cause { IfErr result (λ stop. CopyCause stop (H.counts host.old) (H.counts host.new)) }
     ensures counts { Onward (H.counts host.old) (H.counts host.new) }
 {
-    match copy_bytes(host, job, buffer) {
+    match fill_bytes(host, job, buffer) {
         Ok(copied) => match host.sync_file(&job.part) {
             Ok(()) => Ok(copied),
             Err(_) => Err(CopyStop::Call(CallKind::Sync, &job.part)),

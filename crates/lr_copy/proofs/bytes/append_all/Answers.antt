@@ -2,7 +2,7 @@ use Rattle.std.proofs.Common.{ap, arith, length, rules}
 use Rattle.std.specs.Prelude.{filter}
 use Rattle.lr_host.specs.Steps.{is_naming}
 use Rattle.lr_host.proofs.Left.{left_first, left_then, left_as, can_stay}
-use Rattle.lr_copy.specs.Copying.{none_taken}
+use Rattle.lr_copy.specs.Bytes.{none_taken}
 use Rattle.lr_copy.proofs.Pieces.{piece_more, part_broke, all_taken, rest_is}
 use Rattle.lr_copy.proofs.bytes.append_all.Goals as goal
 

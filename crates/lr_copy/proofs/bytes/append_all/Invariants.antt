@@ -1,7 +1,7 @@
 use Rattle.std.proofs.Common.{[], ◌≤◌, ◌-◌, length, drop}
 use Rattle.lr_host.specs.declared.entry.Entry.TheVariants.{Appends}
 use Rattle.lr_host.specs.Told.{Left, Can, Onward}
-use Rattle.lr_copy.specs.Copying.{Takes}
+use Rattle.lr_copy.specs.Bytes.{Takes}
 use Rattle.lr_copy.proofs.bytes.append_all.Given as goal
 
 abbrev pub invariant-loop-at : goal.invariant-loop-at
