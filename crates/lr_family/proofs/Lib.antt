@@ -1,10 +1,14 @@
 pub mod Among
+pub mod BehindListing
 pub mod Exact
 pub mod Few
 pub mod Looking
 pub mod Middles
 pub mod Numbers
 pub mod OnlyLooks
+pub mod Ordered
+pub mod PartLooks
+pub mod PartNames
 pub mod Paths
 pub mod Placed
 pub mod Prefixes

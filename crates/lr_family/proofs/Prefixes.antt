@@ -1,5 +1,5 @@
 -- Of names in order of bytes, those that begin alike stand side by side.
-use Rattle.std.proofs.Common.{◌≡◌, ⊎_elim, ℕ, ◌+◌, ◌-◌, ◌<◌, ◌≤◌, nat_eq, Bool, true, false, List, [], ◌∷◌, ◌++◌, length, take, drop, get_or, Ordering, Less, Equal, Greater, refl, sym, ap, ◌∙◌, subst, arith}
+use Rattle.std.proofs.Common.{◌≡◌, ⊎_elim, ℕ, ◌+◌, ◌-◌, ◌<◌, ◌≤◌, nat_eq, min, Bool, true, false, List, [], ◌∷◌, ◌++◌, length, take, drop, get_or, Ordering, Less, Equal, Greater, refl, sym, ap, ◌∙◌, subst, arith}
 use Rattle.std.specs.Prelude.{Contains}
 use Rattle.std.specs.Ordering.{MatchOrdering, nat_cmp, is_lt, ordering_then, ordering_index}
 use Rattle.std.specs.Cmp.Lexicographic.{slice_cmp}
@@ -8,7 +8,7 @@ use Rattle.std.specs.List.Sorted.{IsPartitionedBy, IsPartitionPoint}
 use Rattle.std.proofs.lemmas.Bool.{cases_lt}
 use Rattle.std.proofs.lemmas.Bool.Decides.{Decides-eqb}
 use Rattle.std.proofs.lemmas.Cmp.{ranked, nat_list_cmp_total}
-use Rattle.std.proofs.lemmas.List.{get_or-drop, get_or-take, take_all, length-drop, length-take-le}
+use Rattle.std.proofs.lemmas.List.{get_or-drop, get_or-take, take_all, length-drop, length-take, length-take-le}
 use Rattle.std.proofs.lemmas.List.MinMax.{ranks_by}
 use Rattle.std.proofs.lemmas.List.Sorted.{sorted_far, searchable_from_sorted}
 use Rattle.std.proofs.lemmas.Slice.Eq.{starts_is}
@@ -28,7 +28,7 @@ begins_so base name rest e = (starts_is Decides-eqb name base (begins base name)
 
 -- ---- what begins with the base isn't before it
 
-same_number : (b : ℕ) → nat_cmp b b ≡ Equal
+pub same_number : (b : ℕ) → nat_cmp b b ≡ Equal
 same_number b = go (nat_cmp b b) (ranked b b (nat_cmp b b) refl)
   where
     go : (o : Ordering) → MatchOrdering o (b < b) (b ≡ b) (b < b) → o ≡ Equal
@@ -139,3 +139,20 @@ part_begins base names j end fits k d lt =
     let size : length (take j names) ≡ j = length-take-le j names fits in
     let bound : k < length (take j names) = lt in
     subst (λ (y : List ℕ). begins base y ≡ true) (sym (get_or-take j names k d (omega arith))) (end.0 k d (omega arith) (omega arith))
+
+-- a part of names that rise rises
+pub part_rises : (names : List (List ℕ)) (i j : ℕ) → AreRising names → AreRising (take j (drop i names))
+part_rises names i j up k d le lt = subst (λ (x : List ℕ). is_lt (slice_cmp nat_cmp x (get_or (take j (drop i names)) k d)) ≡ false) (sym (at (k + 1) lt))
+    (subst (λ (x : List ℕ). is_lt (slice_cmp nat_cmp (get_or names (i + (k + 1)) d) x) ≡ false) (sym (at k (omega arith))) (subst (λ (m : ℕ). is_lt (slice_cmp nat_cmp (get_or names m d) (get_or names (i + k) d)) ≡ false) next (up (i + k) d (omega arith) inside)))
+  where
+    size : length (take j (drop i names)) ≡ min j (length names - i)
+    size = length-take j (drop i names) ∙ ap (λ m. min j m) (length-drop i names)
+
+    next : i + k + 1 ≡ i + (k + 1)
+    next = omega arith
+
+    inside : i + k + 1 < length names
+    inside = omega (arith, size, lt)
+
+    at : (m : ℕ) → m < length (take j (drop i names)) → get_or (take j (drop i names)) m d ≡ get_or names (i + m) d
+    at m in_part = get_or-take j (drop i names) m d (omega (arith, size, in_part)) ∙ get_or-drop i names m d

@@ -1,8 +1,7 @@
 -- What a listing, and the looks at members behind it, leave taken together.
-use Rattle.std.proofs.Common.{◌≡◌, inl, inr, ℕ, ◌+◌, Bool, true, false, List, [], ◌∷◌, ◌++◌, Option, Some, None, Result, Ok, Err, refl, sym, ap, ◌∙◌, subst, append_assoc}
+use Rattle.std.proofs.Common.{◌≡◌, inl, inr, ℕ, Bool, true, false, List, [], ◌∷◌, ◌++◌, Option, Some, None, Result, Ok, Err, refl, sym, ap, ◌∙◌, subst}
 use Rattle.std.specs.Prelude.{IfOk, IfErr}
 use Rattle.std.proofs.lemmas.List.{append-nil}
-use Rattle.std.proofs.lemmas.List.Sorted.{Contains-permutation, IsPermutation-sym}
 use Rattle.std.specs.List.Sorted.{IsPermutation}
 use Rattle.lr_rules.specs.declared.path.Path.{Path}
 use Rattle.lr_rules.specs.declared.rule.Naming.{Naming}
@@ -18,7 +17,7 @@ use Rattle.lr_host.specs.declared.entry.Entry.TheVariants as entry
 use Rattle.lr_host.specs.declared.journal.Journal.{Journal}
 use Rattle.lr_host.specs.World.{World, world, names}
 use Rattle.lr_host.specs.Fits.{Sees as TrulySees}
-use Rattle.lr_host.specs.Told.{Left, Then, Are, Can}
+use Rattle.lr_host.specs.Told.{Left, Can}
 use Rattle.lr_host.proofs.Left.{left_first, left_as, left_then, left_both}
 use Rattle.lr_host.proofs.Known.{entry_says}
 use Rattle.lr_family.specs.declared.spot.Spot.{Spot}
@@ -31,10 +30,11 @@ use Rattle.lr_family.specs.declared.directory.DirStop.TheVariants as stopped
 use Rattle.lr_family.specs.Spots.{AreSpots}
 use Rattle.lr_host.specs.Looks.{Sees, IsNothing, IsDir, IsNoDir, is_dir}
 use Rattle.lr_family.specs.Among.{StandsAmong, ShowsMembers, ShowsIn, ShowsNoneIn}
-use Rattle.lr_family.specs.Listed.{HasListed, ShowsListing, NotListedAt, NotListed}
-use Rattle.lr_family.specs.Looks.{Shows, ShowsTo}
-use Rattle.lr_family.specs.Named.{member_name}
-use Rattle.lr_family.specs.Stands.{AreNewestFirst, Lists, Reaches, ShowsAs, ShowsStand, ShowsSomeIn, ShowsStop}
+use Rattle.lr_family.specs.Listed.{HasListed, ShowsListing, NotListed}
+use Rattle.lr_family.specs.Looks.{Shows}
+use Rattle.lr_family.specs.Parts.{PartsAmong, ShowsParts, ShowsNoParts}
+use Rattle.lr_family.specs.Standing.{ShowsStand, ShowsStop}
+use Rattle.lr_family.specs.Stands.{AreNewestFirst}
 use Rattle.lr_family.specs.Stops.{SomeStopped}
 use Rattle.lr_family.specs.Directory.{DirSeen, DirStopped, ParentStopped, ListStopped}
 
@@ -124,99 +124,66 @@ seen_as d b k e l = left_as l (λ ts t. subst (λ q. DirSeen d q ts) e t)
 pub stopped_as : (d : Path) (s k : DirStop) {o m : Option Journal} → s ≡ k → Left (DirStopped d s) o m → Left (DirStopped d k) o m
 stopped_as d s k e l = left_as l (λ ts t. subst (λ q. DirStopped d q ts) e t)
 
--- ---- the members among names
+-- ---- the members among names, and their part files
 
 pub stands_among : (n : Naming) (names : List (List ℕ)) (spots : List Spot) (shown members : List Member) {o m : Option Journal} → AreSpots n names spots → IsPermutation shown members → AreNewestFirst members → Left (Shows spots shown) o m → Left (StandsAmong n names members) o m
 stands_among n names spots shown members are p f l = left_as l (λ ts t. record { spots = spots; spots_are = are; shown = shown; each = p; newest_first = f; looks = t })
 
 pub stops_among : (n : Naming) (names : List (List ℕ)) (spots : List Spot) (s : StandStop) {o m : Option Journal} → AreSpots n names spots → Left (SomeStopped spots s) o m → Left (ShowsNoneIn n true names s) o m
-stops_among n names spots s are l = left_as l (λ ts t. inr (record { spots = spots; spots_are = are; looks = t }))
+stops_among n names spots s are l = left_as l (λ ts t. inr (inl (record { spots = spots; spots_are = are; looks = t })))
 
 -- in a directory that isn't there
-pub shows_none_in : (n : Naming) (there parent : Bool) (names : List (List ℕ)) (stand : Stand) (o : Option Journal) → there ≡ false → stand.there ≡ there → stand.parent ≡ parent → stand.members ≡ [] → Left (ShowsIn n there parent names stand) o o
-shows_none_in n there parent names stand o e f g h = left_first (ShowsIn n there parent names stand) o (f, g, subst (λ b. ShowsMembers n b names stand.members []) (sym e) (h, refl))
+pub shows_none_in : (n : Naming) (there parent : Bool) (names : List (List ℕ)) (stand : Stand) (o : Option Journal) → there ≡ false → stand.there ≡ there → stand.parent ≡ parent → stand.members ≡ [] → stand.parts ≡ [] → Left (ShowsIn n there parent names stand) o o
+shows_none_in n there parent names stand o e f g h i = left_first (ShowsIn n there parent names stand) o (
+  f,
+  g,
+  record { front = []; back = []; joined = refl; first = subst (λ b. ShowsMembers n b names stand.members []) (sym e) (h, refl); second = subst (λ b. ShowsParts n b names stand.parts []) (sym e) (i, refl) },
+)
 
-pub shows_in : (n : Naming) (there parent : Bool) (names all : List (List ℕ)) (members : List Member) (stand : Stand) {o m : Option Journal} → there ≡ true → stand.there ≡ there → stand.parent ≡ parent → stand.members ≡ members → names ≡ all → Left (StandsAmong n names members) o m → Left (ShowsIn n there parent all stand) o m
-shows_in n there parent names all members stand e f g h i l = left_as l (λ ts t. (f, g, subst (λ b. ShowsMembers n b all stand.members ts) (sym e) (subst (λ ms. StandsAmong n all ms ts) (sym h) (subst (λ ns. StandsAmong n ns members ts) i t))))
+pub shows_in : (n : Naming) (there parent : Bool) (names more all : List (List ℕ)) (members : List Member) (parts : List Path) (stand : Stand) {o m k : Option Journal} → there ≡ true → stand.there ≡ there → stand.parent ≡ parent → stand.members ≡ members → stand.parts ≡ parts → names ≡ all → more ≡ all
+    → Left (StandsAmong n names members) o m → Left (PartsAmong n more parts) m k → Left (ShowsIn n there parent all stand) o k
+shows_in n there parent names more all members parts stand e f g h i j k a b = left_then a b (λ ts us t u. (
+  f,
+  g,
+  record {
+    front = ts;
+    back = us;
+    joined = refl;
+    first = subst (λ b. ShowsMembers n b all stand.members ts) (sym e) (subst (λ ms. StandsAmong n all ms ts) (sym h) (subst (λ ns. StandsAmong n ns members ts) j t));
+    second = subst (λ b. ShowsParts n b all stand.parts us) (sym e) (subst (λ ps. PartsAmong n all ps us) (sym i) (subst (λ ns. PartsAmong n ns parts us) k u));
+  },
+))
 
 pub none_in : (n : Naming) (there : Bool) (names all : List (List ℕ)) (s : StandStop) {o m : Option Journal} → there ≡ true → names ≡ all → Left (ShowsNoneIn n true names s) o m → Left (ShowsNoneIn n there all s) o m
 none_in n there names all s e i l = left_as l (λ ts t. subst (λ b. ShowsNoneIn n b all s ts) (sym e) (subst (λ ns. ShowsNoneIn n true ns s ts) i t))
 
+-- the looks at part files stopped
+pub none_behind : (n : Naming) (there : Bool) (names more all : List (List ℕ)) (members : List Member) (s : StandStop) {o m k : Option Journal} → there ≡ true → names ≡ all → more ≡ all → Left (StandsAmong n names members) o m → Left (ShowsNoParts n more s) m k → Left (ShowsNoneIn n there all s) o k
+none_behind n there names more all members s e i j a b = left_then a b (λ ts us t u. subst (λ b. ShowsNoneIn n b all s (ts ++ us)) (sym e)
+    (inr (inr (members, record { front = ts; back = us; joined = refl; first = subst (λ ns. StandsAmong n ns members ts) i t; second = subst (λ ns. ShowsNoParts n ns s us) j u }))))
+
 -- ---- a listing, and the looks behind it
 
--- the same spots, of the names in the order in which they were listed
-spots_listed : (n : Naming) (listed names : List (List ℕ)) (spots : List Spot) → IsPermutation listed names → AreSpots n names spots → AreSpots n listed spots
-spots_listed n listed names spots p are = record {
-  places = are.places;
-  once = are.once;
-  all = λ place. (
-    λ c. let h = (are.all place).0 c in (h.0, Contains-permutation names listed (member_name n (n.start + place)) (IsPermutation-sym listed names p) h.1),
-    λ h. (are.all place).1 (h.0, Contains-permutation listed names (member_name n (n.start + place)) p h.1),
-  );
-  each = are.each;
-  rising = are.rising;
-}
-
-lists : (n : Naming) (names : List (List ℕ)) (spots : List Spot) (ts : List Entry) → HasListed n.dir names ts → AreSpots n names spots → Lists n spots ts
-lists n names spots ts l are = record { names = l.listed; spots_are = spots_listed n l.listed names spots l.same are; list = l.list }
-
--- behind the look at the directory
-behind : (n : Naming) {P Q : List Entry → Type 0} (ts us : List Entry) → (t : Then (Sees n.dir IsDir) P ts) → (P t.back → Q (t.back ++ us)) → Then (Sees n.dir IsDir) Q (ts ++ us)
-behind n ts us t f = record { front = t.front; back = t.back ++ us; joined = ap (λ vs. vs ++ us) t.joined ∙ append_assoc t.front t.back us; first = t.first; second = f t.second }
-
-reaches : (n : Naming) (names : List (List ℕ)) (path : Path) {P : List Entry → Type 0} (ts us : List Entry) → HasListed n.dir names ts → (spots : List Spot) → AreSpots n names spots → ShowsTo spots path P us → Reaches n path P (ts ++ us)
-reaches n names path ts us l spots are t = record { spots = spots; looks = record { front = ts; back = us; joined = refl; first = lists n names spots ts l are; second = t } }
-
-whole_as : (n : Naming) (there parent p : Bool) (names : List (List ℕ)) (members : List Member) (ts us : List Entry) → ShowsListing n.dir there parent names ts → ShowsMembers n there names members us → p ≡ parent → ShowsAs n there p members (ts ++ us)
-whole_as n true parent p names members ts us t s e = (
-  e ∙ t.0,
-  behind n ts us t.1 (λ l. record {
-    spots = s.spots;
-    shown = s.shown;
-    each = s.each;
-    newest_first = s.newest_first;
-    looks = record { front = t.1.back; back = us; joined = refl; first = lists n names s.spots t.1.back l s.spots_are; second = s.looks };
-  }),
+one_stand : (n : Naming) (there parent : Bool) (names : List (List ℕ)) (stand : Stand) (ts us : List Entry) → ShowsListing n.dir there parent names ts → ShowsIn n there parent names stand us → ShowsStand n stand (ts ++ us)
+one_stand n there parent names stand ts us t s = (
+  names,
+  record {
+    front = ts;
+    back = us;
+    joined = refl;
+    first = subst (λ b. ShowsListing n.dir b stand.parent names ts) (sym s.0) (subst (λ b. ShowsListing n.dir there b names ts) (sym s.1) t);
+    second = subst (λ b. ShowsIn n b stand.parent names stand us) (sym s.0) (subst (λ b. ShowsIn n there b names stand us) (sym s.1) s);
+  },
 )
-whole_as n false parent p names members ts us t s e = (s.0, subst (Then (Sees n.dir IsNothing) (Sees (parent_of n.dir) (λ seen. is_dir seen ≡ p))) (sym (ap (λ vs. ts ++ vs) s.1 ∙ append-nil ts)) (subst (λ b. Then (Sees n.dir IsNothing) (Sees (parent_of n.dir) (λ seen. is_dir seen ≡ b)) ts) (sym e) t.1))
-
-whole : (n : Naming) (there parent : Bool) (names : List (List ℕ)) (stand : Stand) (ts us : List Entry) → ShowsListing n.dir there parent names ts → ShowsIn n there parent names stand us → ShowsStand n stand (ts ++ us)
-whole n there parent names stand ts us t s = subst (λ b. ShowsAs n b stand.parent stand.members (ts ++ us)) (sym s.0) (whole_as n there parent stand.parent names stand.members ts us t s.2 s.1)
-
-in_call : (n : Naming) (k : CallKind) (path : Path) (ts : List Entry) → k ≡ call.Look → Then (Sees n.dir IsDir) (Reaches n path (Are [])) ts → ShowsStop n (stop.Call k path) ts
-in_call n k path ts e t = subst (λ q. ShowsStop n (stop.Call q path) ts) (sym e) (inr (inr t))
-
-some_in : (n : Naming) (names : List (List ℕ)) (ts us : List Entry) → HasListed n.dir names ts → us ≡ [] → ShowsSomeIn n (ts ++ us)
-some_in n names ts us l e = inr (inl (l.listed, ap (λ vs. ts ++ vs) e ∙ (append-nil ts ∙ l.list)))
-
-stops : (n : Naming) (there parent : Bool) (names : List (List ℕ)) (s : StandStop) (ts us : List Entry) → ShowsListing n.dir there parent names ts → ShowsNoneIn n there names s us → ShowsStop n s (ts ++ us)
-stops n true parent names s ts us t (inl q) = subst (λ r. ShowsStop n r (ts ++ us)) (sym q.0) (inr (inr (behind n ts us t.1 (λ l. some_in n names t.1.back us l q.1))))
-stops n true parent names (stop.NotFile path) ts us t (inr q) = inr (behind n ts us t.1 (λ l. reaches n names path t.1.back us l q.spots q.spots_are q.looks))
-stops n true parent names (stop.Call kind path) ts us t (inr q) = in_call n kind path (ts ++ us) q.looks.0 (behind n ts us t.1 (λ l. reaches n names path t.1.back us l q.spots q.spots_are q.looks.1))
-stops n true parent names stop.Memory ts us t (inr q) = inr (inr (behind n ts us t.1 (λ l. inr (inr (q.spots, record { front = t.1.back; back = us; joined = refl; first = lists n names q.spots t.1.back l q.spots_are; second = q.looks })))))
-stops n false parent names s ts us t q = absurd q
 
 pub stand_told : (n : Naming) (there parent : Bool) (names : List (List ℕ)) (r : Result Stand StandStop) (k : Option Journal) {o m : Option Journal} → Left (ShowsListing n.dir there parent names) o m → IfOk r (λ stand. Left (ShowsIn n there parent names stand) m k) → IfOk r (λ stand. Left (ShowsStand n stand) o k)
-stand_told n there parent names (Ok stand) k a b = left_then a b (λ ts us t s. whole n there parent names stand ts us t s)
+stand_told n there parent names (Ok stand) k a b = left_then a b (one_stand n there parent names stand)
 stand_told n there parent names (Err s) k a b = tt
 
 pub stand_stopped : (n : Naming) (there parent : Bool) (names : List (List ℕ)) (r : Result Stand StandStop) (k : Option Journal) {o m : Option Journal} → Left (ShowsListing n.dir there parent names) o m → IfErr r (λ s. Left (ShowsNoneIn n there names s) m k) → IfErr r (λ s. Left (ShowsStop n s) o k)
 stand_stopped n there parent names (Ok stand) k a b = tt
-stand_stopped n there parent names (Err s) k a b = left_then a b (λ ts us t q. stops n there parent names s ts us t q)
-
-unlisted_call : (n : Naming) (k : CallKind) (path : Path) (ts : List Entry) → NotListedAt n.dir k path ts → ShowsStop n (stop.Call k path) ts
-unlisted_call n call.Look path ts (inl t) = inl t
-unlisted_call n call.Look path ts (inr t) = inr (inl t)
-unlisted_call n call.List path ts t = t
-unlisted_call n _ path ts t = absurd t
-
-unlisted : (n : Naming) (s : StandStop) (ts : List Entry) → NotListed n.dir s ts → ShowsStop n s ts
-unlisted n (stop.NotFile path) ts t = inl t
-unlisted n (stop.Call kind path) ts t = unlisted_call n kind path ts t
-unlisted n stop.Memory ts (inl e) = inl e
-unlisted n stop.Memory ts (inr (inl s)) = inr (inl s)
-unlisted n stop.Memory ts (inr (inr s)) = inr (inr (record { front = ts; back = []; joined = sym (append-nil ts); first = s; second = inl refl }))
+stand_stopped n there parent names (Err s) k a b = left_then a b (λ ts us t q. inr (there, parent, names, record { front = ts; back = us; joined = refl; first = t; second = q }))
 
 -- a stand without a listing
 pub never_listed : (n : Naming) (s : StandStop) {o m : Option Journal} → Left (NotListed n.dir s) o m → Left (ShowsStop n s) o m
-never_listed n s l = left_as l (unlisted n s)
+never_listed n s l = left_as l (λ ts t. inl t)

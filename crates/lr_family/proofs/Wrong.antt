@@ -1,19 +1,14 @@
--- Which path the looks at a family, and whatever entries behind them, show to be no file.
-use Rattle.std.proofs.Common.{◌≡◌, ◌≢◌, inl, inr, List, [], ◌∷◌, ◌++◌, map, Option, Some, None, refl, sym, ap, ◌∙◌, append_assoc}
+-- Which path looks at a directory and at members show to be none.
+use Rattle.std.proofs.Common.{◌≡◌, ◌≢◌, List, [], ◌∷◌, ◌++◌, map, Option, Some, None, refl, ap, ◌∙◌}
 use Rattle.std.proofs.lemmas.List.Elements.{All-head, All-tail}
 use Rattle.lr_rules.specs.declared.path.Path.{Path}
-use Rattle.lr_rules.specs.declared.rule.Naming.{Naming}
 use Rattle.lr_host.specs.declared.thing.Kind.{Kind}
 use Rattle.lr_host.specs.declared.thing.Kind.TheVariants as kind
 use Rattle.lr_host.specs.declared.thing.Seen.{Seen}
 use Rattle.lr_host.specs.declared.entry.Entry.{Entry}
 use Rattle.lr_host.specs.declared.entry.Entry.TheVariants as entry
-use Rattle.lr_host.specs.Told.{Then}
-use Rattle.lr_family.specs.declared.spot.Spot.{Spot}
-use Rattle.lr_family.specs.declared.stand.Member.{Member}
 use Rattle.lr_host.specs.Looks.{Sees, IsDir, IsNoDir, IsNoFile, IsFileOrGone}
 use Rattle.lr_family.specs.Looks.{Sight, look_of, AreFilesOrGone}
-use Rattle.lr_family.specs.Stands.{Lists, StandsIn, Reaches, ShowsNoFile}
 
 abbrev pub by_file : Path → Kind → Option Path → Option Path
 by_file x kind.File rest = rest
@@ -77,27 +72,5 @@ pub sights_passed : (sights : List Sight) (ts : List Entry) → AreFilesOrGone s
 sights_passed [] ts h = refl
 sights_passed (g ∷ gs) ts h = file_passed g.spot.path g.seen (wrong_member (map look_of gs ++ ts)) (All-head (λ (g : Sight). IsFileOrGone g.seen) g gs h) ∙ sights_passed gs ts (All-tail (λ (g : Sight). IsFileOrGone g.seen) g gs h)
 
--- behind the looks
-pub split : {P Q : List Entry → Type 0} (ts more : List Entry) (f : List Entry → Option Path) (t : Then P Q ts) → f (ts ++ more) ≡ f (t.front ++ (t.back ++ more))
-split ts more f t = ap (λ xs. f (xs ++ more)) t.joined ∙ ap f (append_assoc t.front t.back more)
-
 pub saw_dir : (x : Path) (ts more : List Entry) → Sees x IsDir ts → wrong (ts ++ more) ≡ past_list more
 saw_dir x ts more s = ap (λ vs. wrong (vs ++ more)) s.look ∙ dir_passed x s.seen more s.is
-
-pub listed : (n : Naming) (spots : List Spot) (ts more : List Entry) → Lists n spots ts → past_list (ts ++ more) ≡ wrong_member more
-listed n spots ts more l = ap (λ vs. past_list (vs ++ more)) l.list
-
-pub no_file_shown : (n : Naming) (path : Path) (ts more : List Entry) → Reaches n path (Sees path IsNoFile) ts → past_list (ts ++ more) ≡ Some path
-no_file_shown n path ts more r =
-    let to = r.looks.second in
-    split ts more past_list r.looks ∙ (listed n r.spots r.looks.front (r.looks.back ++ more) r.looks.first
-    ∙ (split r.looks.back more wrong_member to.looks ∙ (ap (λ vs. wrong_member (vs ++ (to.looks.back ++ more))) to.looks.first ∙ (sights_passed to.before (to.looks.back ++ more) to.files
-    ∙ (ap (λ vs. wrong_member (vs ++ more)) to.looks.second.look ∙ no_file_wrong path to.looks.second.seen (wrong_member more) to.looks.second.is)))))
-
-pub shows_wrong : (n : Naming) (path : Path) (ts more : List Entry) → ShowsNoFile n path ts → wrong (ts ++ more) ≡ Some path
-shows_wrong n path ts more (inl s) = ap (λ vs. wrong (vs ++ more)) s.1.look ∙ (no_dir_wrong n.dir s.1.seen more s.1.is ∙ ap Some (sym s.0))
-shows_wrong n path ts more (inr t) = split ts more wrong t ∙ (saw_dir n.dir t.front (t.back ++ more) t.first ∙ no_file_shown n path t.back more t.second)
-
-pub stands_well : (n : Naming) (members : List Member) (ts more : List Entry) → StandsIn n members ts → past_list (ts ++ more) ≡ wrong_member more
-stands_well n members ts more s = split ts more past_list s.looks ∙ (listed n s.spots s.looks.front (s.looks.back ++ more) s.looks.first
-    ∙ (ap (λ vs. wrong_member (vs ++ more)) s.looks.second.looks ∙ sights_passed s.looks.second.sights more s.looks.second.files))

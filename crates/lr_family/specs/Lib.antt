@@ -1,10 +1,13 @@
 pub mod Among
 pub mod Directory
+pub mod InternalParts
 pub mod Kin
 pub mod Listed
 pub mod Looks
 pub mod Named
+pub mod Parts
 pub mod Places
 pub mod Spots
+pub mod Standing
 pub mod Stands
 pub mod Stops

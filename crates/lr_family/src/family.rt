@@ -9,7 +9,8 @@ ghost use Rattle.lr_family.specs.declared.place.Place.TheVariants as at;
 ghost use Rattle.lr_family.specs.Among.{ShowsIn, ShowsNoneIn, IsExactlyAmong, AreFewAmong, AreFew};
 ghost use Rattle.lr_family.specs.Kin.{IsKin};
 ghost use Rattle.lr_family.specs.Places.{AreNamed};
-ghost use Rattle.lr_family.specs.Stands.{ShowsStand, ShowsStop, IsExactly, IsFailedCall};
+ghost use Rattle.lr_family.specs.Standing.{ShowsStand, ShowsStop, IsExactly};
+ghost use Rattle.lr_family.specs.Stands.{IsFailedCall};
 
 use crate::listing::Listing;
 use crate::number::{member_path, place_of_path};
@@ -123,9 +124,10 @@ impl Family {
         lr_shapes::meets(&self.log, &self.naming, path)
     }
 
-    /// Which members of a numbered family stand, in a directory that was listed: looks at each member among its names, in
-    /// order of bytes, and at nothing else. A name that is gone since it was listed is no member. Each member has the path
-    /// of its place. `NotFile` comes exactly where a member isn't a regular file.
+    /// Which members of a numbered family stand, and which of their part files, in a directory that was listed: looks at
+    /// each member among its names, in order of bytes, then at each part file of one, and at nothing else. A name that is
+    /// gone since it was listed is no member. Each member has the path of its place. `NotFile` comes exactly where a
+    /// member isn't a regular file; a part file that isn't one is left out.
     pub fn stand_in<H: Host>(
         &self,
         alloc: Global,
@@ -145,11 +147,10 @@ impl Family {
         stand_among(alloc, host, &self.naming, listing)
     }
 
-    /// Which members of a numbered family stand: looks for the directory, lists it, and looks at each member among the
-    /// names, in order of bytes. Where the directory isn't there, looks for its parent. A name that is gone since it was
-    /// listed is no member. Each member has the path of its place. `NotFile` comes exactly where the directory is named
-    /// but is no directory, or a member isn't a regular file. Who asks for several families of a directory lists it once
-    /// (`Listing::take`, `stand_in`).
+    /// Which members of a numbered family stand, and which of their part files: looks for the directory, lists it, and
+    /// looks as `stand_in` does. Where the directory isn't there, looks for its parent. Each member has the path of its
+    /// place. `NotFile` comes exactly where the directory is named but is no directory, or a member isn't a regular file.
+    /// Who asks for several families of a directory lists it once (`Listing::take`, `stand_in`).
     pub fn stand<H: Host>(&self, alloc: Global, host: &mut H) -> Result<Stand, StandStop>
         requires numbered { self.now.naming.dated ≡ None }
         ensures told { IfOk result (λ stand. Left (ShowsStand self.now.naming stand) (H.told host.old) (H.told host.new)) }

@@ -1,4 +1,5 @@
-//! The names of a log's members, both ways, which members stand, and when two logs are apart.
+//! The names of a log's members, both ways, which members and which of their part files stand, and when two logs are
+//! apart.
 //!
 //! The contract above it: a member's name and its place determine each other, and what `Family::stand` answers is what
 //! its looks showed. Begin with `Family::of`:
@@ -20,6 +21,7 @@ mod listing;
 mod look;
 mod members;
 mod number;
+mod parts;
 mod place;
 mod prefix;
 mod spot;
@@ -31,6 +33,7 @@ pub use kin::are_kin;
 pub use laws::{name_is_read_back, path_is_named_again, stamp_is_read_back};
 pub use listing::Listing;
 pub use look::{LookStop, look_at, stop_at};
+pub use parts::{parts_among, path_in};
 pub use place::{NameStop, Place};
 pub use prefix::names_with;
 pub use stand::{Member, Stand, StandStop};

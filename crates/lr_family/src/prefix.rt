@@ -24,6 +24,7 @@ pub fn names_with<'a>(names: &'a [Text], base: &[u8]) -> &'a [Text]
     requires { AreRising names.now }
     ensures among { (name : List ℕ) → Contains result.now name → Contains names.now name }
     ensures all { (rest : List ℕ) → Contains names.now (base.now ++ rest) → Contains result.now (base.now ++ rest) }
+    ensures rising { AreRising result.now }
     ensures begin { All (λ name. starts_with nat_eq name base.now ≡ true) result.now }
 {
     let first = names.partition_point(|name| is_before(name, base));

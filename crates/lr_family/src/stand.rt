@@ -1,4 +1,4 @@
-// Which members of a family stand.
+// Which members of a family stand, and which of their part files.
 use crate::place::Place;
 use lr_host::Seen;
 use lr_rules::{CallKind, Listed, Path};
@@ -20,6 +20,8 @@ pub struct Stand {
     pub parent: bool,
     /// The members, the newest first.
     pub members: Listed<Member>,
+    /// The part files of members, which are copies that aren't whole, in order of bytes: those that are regular files.
+    pub parts: Listed<Path>,
 }
 
 /// Why it isn't known what stands.

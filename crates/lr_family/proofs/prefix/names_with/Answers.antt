@@ -2,7 +2,8 @@ use Rattle.std.proofs.Common.{◌≡◌, ◌≤◌, ◌-◌, ◌++◌, ℕ, List
 use Rattle.std.specs.Prelude.{All, Contains}
 use Rattle.std.specs.List.Sorted.{IsPartitionedBy}
 use Rattle.std.proofs.lemmas.List.Sorted.{IsPartitionPoint-from_clause}
-use Rattle.lr_family.proofs.Prefixes.{before, begins, before_first, begun_first, StartsAt, EndsAt, rest_is, part_has, part_begins}
+use Rattle.lr_family.specs.Listed.{AreRising}
+use Rattle.lr_family.proofs.Prefixes.{before, begins, before_first, begun_first, StartsAt, EndsAt, rest_is, part_has, part_begins, part_rises}
 use Rattle.lr_family.proofs.prefix.names_with.Goals as goal
 
 -- where they begin, and where they end
@@ -27,3 +28,6 @@ returns-clause-all c = λ more here. subst (λ (xs : List (List ℕ)). Contains 
 pub returns-clause-begin : goal.returns-clause-begin
 returns-clause-begin c = subst (λ (xs : List (List ℕ)). All (λ name. begins c.args.base.now name ≡ true) (take c.partition_point-end.result xs)) (sym (rest_is c.args.names.now c.partition_point-first.result))
     (λ k d lt. part_begins c.args.base.now (drop c.partition_point-first.result c.args.names.now) c.partition_point-end.result (found c).1 (fits c) k d lt)
+
+pub returns-clause-rising : goal.returns-clause-rising
+returns-clause-rising c = subst (λ (xs : List (List ℕ)). AreRising (take c.partition_point-end.result xs)) (sym (rest_is c.args.names.now c.partition_point-first.result)) (part_rises c.args.names.now c.partition_point-first.result c.partition_point-end.result c.requires)

@@ -1,6 +1,6 @@
 use Rattle.std.proofs.Common.{Err}
-use Rattle.lr_family.proofs.Exact.{exactly}
-use Rattle.lr_family.proofs.Few.{few_then, few_stopped}
+use Rattle.lr_family.proofs.BehindListing.{exactly}
+use Rattle.lr_family.proofs.Few.{few_then, few_unlisted}
 use Rattle.lr_family.proofs.Whole.{stand_told, stand_stopped, never_listed}
 use Rattle.lr_family.proofs.family.Family.stand.Goals as goal
 
@@ -25,4 +25,4 @@ pub returns-in-Err-clause-exactly : goal.returns-in-Err-clause-exactly
 returns-in-Err-clause-exactly g c = exactly c.args.self.now.naming (Err c.in-Err.stop) tt (never_listed c.args.self.now.naming c.in-Err.stop c.in-Err.ensures.stopped)
 
 pub returns-in-Err-clause-few : goal.returns-in-Err-clause-few
-returns-in-Err-clause-few g c = few_stopped c.args.self.now.naming c.args.self.now.naming.dir c.in-Err.stop c.in-Err.ensures.stopped
+returns-in-Err-clause-few g c = few_unlisted c.args.self.now.naming c.args.self.now.naming.dir c.in-Err.stop c.in-Err.ensures.stopped
