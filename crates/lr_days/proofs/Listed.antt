@@ -8,8 +8,9 @@ use Rattle.lr_rules.specs.declared.rule.Naming.{Naming}
 use Rattle.lr_rules.specs.Dated.{IsDatedAt}
 use Rattle.lr_rules.specs.Path.{joined}
 use Rattle.lr_stamps.proofs.Members.{joined_same}
+use Rattle.lr_family.specs.Parts.{IsDated}
 use Rattle.lr_days.specs.declared.day.Day.{Day}
-use Rattle.lr_days.specs.Days.{IsMember, IsListed, HasStamp, IsAmong, HasDays, AddsDay}
+use Rattle.lr_days.specs.Days.{IsListed, HasStamp, IsAmong, HasDays, AddsDay}
 
 -- ---- one name
 
@@ -19,15 +20,15 @@ adds_one n name old new day grown is stamp = record {
   all = λ x. (to x, from x);
 }
   where
-    to : (x : Path) → IsAmong new x → IsAmong old x ⊎ ((x ≡ joined n.dir name) × IsMember n x)
+    to : (x : Path) → IsAmong new x → IsAmong old x ⊎ ((x ≡ joined n.dir name) × IsDated n x)
     to x a = ⊎_elim (λ c. inl (a.0, c, a.2)) (λ (same : day ≡ a.0). inr (here same)) (Contains-push_cases old day a.0 (subst (λ (ds : List Day). Contains ds a.0) grown a.1))
       where
-        here : day ≡ a.0 → (x ≡ joined n.dir name) × IsMember n x
+        here : day ≡ a.0 → (x ≡ joined n.dir name) × IsDated n x
         here same =
             let path : day.path ≡ x = ap (λ (d : Day). d.path) same ∙ a.2 in
             (sym path ∙ is, (day.seconds, day.serial, subst (IsDatedAt n day.seconds day.serial) path stamp))
 
-    from : (x : Path) → IsAmong old x ⊎ ((x ≡ joined n.dir name) × IsMember n x) → IsAmong new x
+    from : (x : Path) → IsAmong old x ⊎ ((x ≡ joined n.dir name) × IsDated n x) → IsAmong new x
     from x (inl a) = (a.0, subst (λ (ds : List Day). Contains ds a.0) (sym grown) (Contains-append_left old (day ∷ []) a.0 a.1), a.2)
     from x (inr m) = (day, subst (λ (ds : List Day). Contains ds day) (sym grown) (Contains-push old day), is ∙ sym m.0)
 

@@ -1,20 +1,26 @@
 -- Dated members, each once, in order of bytes.
-use Rattle.std.proofs.Common.{◌≡◌, ℕ, Bool, true, Less, List, [], ◌∷◌, map, bytes_eq, sym, ◌∙◌, subst}
+use Rattle.std.proofs.Common.{◌≡◌, ℕ, Bool, true, Less, List, [], ◌∷◌, length, map, bytes_eq, sym, ap, ◌∙◌, subst}
 use Rattle.std.specs.Prelude.{All, Contains, Any}
 use Rattle.std.specs.Ordering.{eq_by_cmp}
 use Rattle.std.specs.List.{dedup, AllByRecursion}
 use Rattle.std.specs.List.Sorted.{IsPermutation, IsSorted, IsStrictlySortedBy}
 use Rattle.std.specs.Cmp.{IsTotalOrder, IsEquivalence}
 use Rattle.std.proofs.lemmas.Cmp.{nat_list_cmp_total, on_total, eq_by_cmp_equiv}
+use Rattle.std.proofs.lemmas.List.{length-map}
 use Rattle.std.proofs.lemmas.List.Filters.{All-dedup}
 use Rattle.std.proofs.lemmas.List.Kept.{IsStrictlySortedBy-dedup, Contains-from_dedup, Any-dedup}
 use Rattle.std.proofs.lemmas.List.Sorted.{All-permutation, Contains-permutation, IsPermutation-sym}
+use Rattle.std.proofs.lemmas.Map.Lookups.{exact_bytes}
 use Rattle.std.proofs.lemmas.Map.Text.{is_eq-slice_cmp}
 use Rattle.std.proofs.lemmas.Slice.Eq.{bytes_eq-Decides}
 use Rattle.lr_rules.specs.declared.path.Path.{Path}
 use Rattle.lr_rules.specs.declared.rule.Naming.{Naming}
+use Rattle.lr_host.specs.Lists.{IsIn}
+use Rattle.lr_host.proofs.Lists.{in_from, in_to, in_map, in_unmap}
+use Rattle.lr_family.specs.Parts.{by_bytes}
+use Rattle.lr_family.proofs.Ordered.{AreAmong, same_rising}
 use Rattle.lr_days.specs.declared.day.Day.{Day}
-use Rattle.lr_days.specs.Days.{IsListed, HasStamp, IsAmong, HasDays, AreDays, by_bytes, by_path}
+use Rattle.lr_days.specs.Days.{IsListed, HasStamp, IsAmong, HasDays, AreDays, by_path}
 
 -- the same path
 abbrev pub is_same : Day → Day → Bool
@@ -64,3 +70,30 @@ pub paths_rise : (days : List Day) → IsStrictlySortedBy by_path days → IsStr
 unfolding IsStrictlySortedBy
 paths_rise [] h = tt
 paths_rise (d ∷ ds) h = (each_path d ds h.0, paths_rise ds h.1)
+
+-- ---- dated members among the same names
+
+listed_more : (n : Naming) (names more : List (List ℕ)) (x : Path) → AreAmong names more → IsListed n names x → IsListed n more x
+listed_more n names more x f l = record { member = l.member; name = l.name; listed = f l.name l.listed; named = l.named }
+
+-- in another order
+pub days_more : (n : Naming) (names more : List (List ℕ)) (days : List Day) → AreAmong names more → AreAmong more names → AreDays n names days → AreDays n more days
+days_more n names more days f g are = record {
+  has = record { stamps = are.has.stamps; all = λ x. (λ a. listed_more n names more x f ((are.has.all x).0 a), λ l. (are.has.all x).1 (listed_more n more names x g l)) };
+  rising = are.rising;
+}
+
+to_path : (days : List Day) (x : Path) → IsAmong days x → Contains (map (λ (d : Day). d.path) days) x
+to_path days x a = in_to x (map (λ (d : Day). d.path) days) (subst (λ (y : Path). IsIn y (map (λ (d : Day). d.path) days)) a.2 (in_map (λ (d : Day). d.path) a.0 days (in_from a.0 days a.1)))
+
+from_path : (days : List Day) (x : Path) → Contains (map (λ (d : Day). d.path) days) x → IsAmong days x
+from_path days x c = let r = in_unmap (λ (d : Day). d.path) x days (in_from x (map (λ (d : Day). d.path) days) c) in (r.0, in_to r.0 days r.1, r.2)
+
+-- they have the same paths
+same_paths : (n : Naming) (names : List (List ℕ)) (days others : List Day) → AreDays n names days → AreDays n names others → map (λ (d : Day). d.path) days ≡ map (λ (d : Day). d.path) others
+same_paths n names days others are be = same_rising {R = by_bytes} nat_list_cmp_total exact_bytes (map (λ (d : Day). d.path) days) (map (λ (d : Day). d.path) others) (paths_rise days are.rising) (paths_rise others be.rising)
+    (λ x c. to_path others x ((be.has.all x).1 ((are.has.all x).0 (from_path days x c)))) (λ x c. to_path days x ((are.has.all x).1 ((be.has.all x).0 (from_path others x c))))
+
+-- and are as many
+pub as_many_days : (n : Naming) (names : List (List ℕ)) (days others : List Day) → AreDays n names days → AreDays n names others → length days ≡ length others
+as_many_days n names days others are be = sym (length-map days (λ (d : Day). d.path)) ∙ (ap length (same_paths n names days others are be) ∙ length-map others (λ (d : Day). d.path))

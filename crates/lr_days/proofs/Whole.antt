@@ -13,6 +13,7 @@ use Rattle.lr_family.specs.declared.stand.Member.{Member}
 use Rattle.lr_family.specs.declared.stand.Stand.{Stand}
 use Rattle.lr_family.specs.declared.stand.StandStop.{StandStop}
 use Rattle.lr_family.specs.Listed.{ShowsListing, NotListed}
+use Rattle.lr_family.specs.Parts.{PartsAmong, ShowsParts, ShowsNoParts}
 use Rattle.lr_days.specs.declared.day.Day.{Day}
 use Rattle.lr_days.specs.Days.{AreDays}
 use Rattle.lr_days.specs.Looks.{Shows, SomeStopped}
@@ -24,20 +25,40 @@ pub stands_among : (n : Naming) (names : List (List ℕ)) (days : List Day) (sho
 stands_among n names days shown members are p f l = left_as l (λ ts t. record { days = days; days_are = are; shown = shown; each = p; newest_first = f; looks = t })
 
 pub stops_among : (n : Naming) (names : List (List ℕ)) (days : List Day) (s : StandStop) {o m : Option Journal} → AreDays n names days → Left (SomeStopped days s) o m → Left (ShowsNoneIn n true names s) o m
-stops_among n names days s are l = left_as l (λ ts t. inr (record { days = days; days_are = are; looks = t }))
+stops_among n names days s are l = left_as l (λ ts t. inr (inl (record { days = days; days_are = are; looks = t })))
 
 pub dated_sorted : (n : Naming) (shown members : List Member) → IsPermutation shown members → AreDated n shown → AreDated n members
 dated_sorted n shown members p dated = All-permutation (λ (m : Member). IsDayOf n m.place m.path) shown members p dated
 
 -- in a directory that isn't there
-pub shows_none_in : (n : Naming) (there parent : Bool) (names : List (List ℕ)) (stand : Stand) (o : Option Journal) → there ≡ false → stand.there ≡ there → stand.parent ≡ parent → stand.members ≡ [] → Left (ShowsIn n there parent names stand) o o
-shows_none_in n there parent names stand o e f g h = left_first (ShowsIn n there parent names stand) o (f, g, subst (λ b. ShowsMembers n b names stand.members []) (sym e) (h, refl))
+pub shows_none_in : (n : Naming) (there parent : Bool) (names : List (List ℕ)) (stand : Stand) (o : Option Journal) → there ≡ false → stand.there ≡ there → stand.parent ≡ parent → stand.members ≡ [] → stand.parts ≡ [] → Left (ShowsIn n there parent names stand) o o
+shows_none_in n there parent names stand o e f g h i = left_first (ShowsIn n there parent names stand) o (
+  f,
+  g,
+  record { front = []; back = []; joined = refl; first = subst (λ b. ShowsMembers n b names stand.members []) (sym e) (h, refl); second = subst (λ b. ShowsParts n b names stand.parts []) (sym e) (i, refl) },
+)
 
-pub shows_in : (n : Naming) (there parent : Bool) (names all : List (List ℕ)) (members : List Member) (stand : Stand) {o m : Option Journal} → there ≡ true → stand.there ≡ there → stand.parent ≡ parent → stand.members ≡ members → names ≡ all → Left (StandsAmong n names members) o m → Left (ShowsIn n there parent all stand) o m
-shows_in n there parent names all members stand e f g h i l = left_as l (λ ts t. (f, g, subst (λ b. ShowsMembers n b all stand.members ts) (sym e) (subst (λ ms. StandsAmong n all ms ts) (sym h) (subst (λ ns. StandsAmong n ns members ts) i t))))
+pub shows_in : (n : Naming) (there parent : Bool) (names more all : List (List ℕ)) (members : List Member) (parts : List Path) (stand : Stand) {o m k : Option Journal} → there ≡ true → stand.there ≡ there → stand.parent ≡ parent → stand.members ≡ members → stand.parts ≡ parts → names ≡ all → more ≡ all
+    → Left (StandsAmong n names members) o m → Left (PartsAmong n more parts) m k → Left (ShowsIn n there parent all stand) o k
+shows_in n there parent names more all members parts stand e f g h i j k a b = left_then a b (λ ts us t u. (
+  f,
+  g,
+  record {
+    front = ts;
+    back = us;
+    joined = refl;
+    first = subst (λ b. ShowsMembers n b all stand.members ts) (sym e) (subst (λ ms. StandsAmong n all ms ts) (sym h) (subst (λ ns. StandsAmong n ns members ts) j t));
+    second = subst (λ b. ShowsParts n b all stand.parts us) (sym e) (subst (λ ps. PartsAmong n all ps us) (sym i) (subst (λ ns. PartsAmong n ns parts us) k u));
+  },
+))
 
 pub none_in : (n : Naming) (there : Bool) (names all : List (List ℕ)) (s : StandStop) {o m : Option Journal} → there ≡ true → names ≡ all → Left (ShowsNoneIn n true names s) o m → Left (ShowsNoneIn n there all s) o m
 none_in n there names all s e i l = left_as l (λ ts t. subst (λ b. ShowsNoneIn n b all s ts) (sym e) (subst (λ ns. ShowsNoneIn n true ns s ts) i t))
+
+-- the looks at part files stopped
+pub none_behind : (n : Naming) (there : Bool) (names more all : List (List ℕ)) (members : List Member) (s : StandStop) {o m k : Option Journal} → there ≡ true → names ≡ all → more ≡ all → Left (StandsAmong n names members) o m → Left (ShowsNoParts n more s) m k → Left (ShowsNoneIn n there all s) o k
+none_behind n there names more all members s e i j a b = left_then a b (λ ts us t u. subst (λ b. ShowsNoneIn n b all s (ts ++ us)) (sym e)
+    (inr (inr (members, record { front = ts; back = us; joined = refl; first = subst (λ ns. StandsAmong n ns members ts) i t; second = subst (λ ns. ShowsNoParts n ns s us) j u }))))
 
 -- ---- a listing, and the looks behind it
 
@@ -49,7 +70,7 @@ one_stand n there parent names stand ts us t s = (
     back = us;
     joined = refl;
     first = subst (λ b. ShowsListing n.dir b stand.parent names ts) (sym s.0) (subst (λ b. ShowsListing n.dir there b names ts) (sym s.1) t);
-    second = subst (λ b. ShowsMembers n b names stand.members us) (sym s.0) s.2;
+    second = subst (λ b. ShowsIn n b stand.parent names stand us) (sym s.0) (subst (λ b. ShowsIn n there b names stand us) (sym s.1) s);
   },
 )
 

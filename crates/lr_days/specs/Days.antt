@@ -1,22 +1,17 @@
 -- The dated members that a listing names, in order of bytes.
-use Rattle.std.specs.Prelude.{◌≡◌, ◌⊎◌, ◌↔◌, ℕ, ℤ, List, All, Contains}
+use Rattle.std.specs.Prelude.{◌≡◌, ◌⊎◌, ◌↔◌, ℕ, List, All, Contains}
 use Rattle.std.specs.declared.cmp.Ordering.{Ordering}
-use Rattle.std.specs.Ordering.{nat_cmp}
-use Rattle.std.specs.Cmp.Lexicographic.{slice_cmp}
 use Rattle.std.specs.List.Sorted.{IsStrictlySortedBy}
 use Rattle.lr_rules.specs.declared.path.Path.{Path}
 use Rattle.lr_rules.specs.declared.rule.Naming.{Naming}
 use Rattle.lr_rules.specs.Dated.{IsDatedAt}
 use Rattle.lr_rules.specs.Path.{joined}
+use Rattle.lr_family.specs.Parts.{IsDated, by_bytes}
 use Rattle.lr_days.specs.declared.day.Day.{Day}
 
--- the path is that of a dated member
-abbrev pub IsMember : Naming → Path → Type 0
-IsMember n x = (seconds : ℤ) × (serial : ℕ) × IsDatedAt n seconds serial x
-
--- The path is a member's, and its name is among these.
+-- The path is a dated member's, and its name is among these.
 pub record IsListed (n : Naming) (names : List (List ℕ)) (x : Path) : Type 0 where
-  pub member : IsMember n x
+  pub member : IsDated n x
   pub name : List ℕ
   pub listed : Contains names name
   pub named : x ≡ joined n.dir name
@@ -34,10 +29,7 @@ pub record HasDays (n : Naming) (names : List (List ℕ)) (days : List Day) : Ty
   pub stamps : All (HasStamp n) days
   pub all : (x : Path) → IsAmong days x ↔ IsListed n names x
 
--- the order of the bytes of paths
-abbrev pub by_bytes : Path → Path → Ordering
-by_bytes a b = slice_cmp nat_cmp a b
-
+-- the order of the bytes of their paths
 abbrev pub by_path : Day → Day → Ordering
 by_path a b = by_bytes a.path b.path
 
@@ -49,4 +41,4 @@ pub record AreDays (n : Naming) (names : List (List ℕ)) (days : List Day) : Ty
 -- the member with this name is added, where it is one
 pub record AddsDay (n : Naming) (name : List ℕ) (before now : List Day) : Type 0 where
   pub stamps : All (HasStamp n) before → All (HasStamp n) now
-  pub all : (x : Path) → IsAmong now x ↔ (IsAmong before x ⊎ ((x ≡ joined n.dir name) × IsMember n x))
+  pub all : (x : Path) → IsAmong now x ↔ (IsAmong before x ⊎ ((x ≡ joined n.dir name) × IsDated n x))

@@ -1,4 +1,4 @@
--- What a stand of a dated family shows, and why there is none: a listing of its directory, and then looks at the members among the names.
+-- What a stand of a dated family shows, and why there is none: a listing of its directory, and then looks at the members among the names, and at their part files.
 use Rattle.std.specs.Prelude.{◌≡◌, ◌≤◌, ◌+◌, ◌⊎◌, ◌↔◌, ℕ, Bool, true, List, length, All, Result, Err}
 use Rattle.std.specs.List.Sorted.{IsStrictlySortedBy}
 use Rattle.lr_rules.specs.declared.path.Path.{Path}
@@ -10,14 +10,15 @@ use Rattle.lr_family.specs.declared.stand.StandStop.{StandStop}
 use Rattle.lr_family.specs.declared.stand.StandStop.TheVariants as stop
 use Rattle.lr_family.specs.Among.{names_told}
 use Rattle.lr_family.specs.Listed.{ShowsListing, ShowsNoDir, NotListed}
-use Rattle.lr_days.specs.Days.{by_bytes, IsListed}
-use Rattle.lr_days.specs.Among.{ShowsMembers, ShowsNoneIn, StopsAmong}
+use Rattle.lr_family.specs.Parts.{SomeParts, by_bytes}
+use Rattle.lr_days.specs.Days.{IsListed}
+use Rattle.lr_days.specs.Among.{ShowsIn, ShowsNoneIn, StopsAmong}
 
--- The directory was listed, or isn't there, and the looks at the members among its names show these.
+-- The directory was listed, or isn't there, and the looks at the members among its names, and at their part files, show these.
 abbrev pub ShowsStand : Naming → Stand → List Entry → Type 0
-ShowsStand n stand ts = (names : List (List ℕ)) × Then (ShowsListing n.dir stand.there stand.parent names) (ShowsMembers n stand.there names stand.members) ts
+ShowsStand n stand ts = (names : List (List ℕ)) × Then (ShowsListing n.dir stand.there stand.parent names) (ShowsIn n stand.there stand.parent names stand) ts
 
--- The directory wasn't listed for this cause, or it was, and the looks at members stopped for it.
+-- The directory wasn't listed for this cause, or it was, and the looks behind it stopped for it.
 abbrev pub ShowsStop : Naming → StandStop → List Entry → Type 0
 ShowsStop n why ts = NotListed n.dir why ts
     ⊎ ((there parent : Bool) × (names : List (List ℕ)) × Then (ShowsListing n.dir there parent names) (ShowsNoneIn n there names why) ts)
@@ -31,9 +32,10 @@ ShowsNoFile n path ts = ShowsNoDir n.dir path ts
 abbrev pub IsExactly : Naming → Result Stand StandStop → List Entry → Type 0
 IsExactly n result ts = (path : Path) → (result ≡ Err (stop.NotFile path)) ↔ ShowsNoFile n path ts
 
--- At most four entries more than there are members among the names that were listed.
+-- At most four entries more than there are members and part files among the names that were listed.
 pub record AreFew (n : Naming) (ts : List Entry) : Type 0 where
   pub paths : List Path
   pub once : IsStrictlySortedBy by_bytes paths
   pub listed : All (IsListed n (names_told ts)) paths
-  pub few : length ts ≤ length paths + 4
+  pub parts : SomeParts n (names_told ts)
+  pub few : length ts ≤ length paths + length parts.paths + 4

@@ -1,4 +1,4 @@
-// The dated members among the names of a directory.
+// The dated members among the names of a directory, and their part files.
 ghost use Rattle.std.specs.Prelude.{◌≡◌, true, Some, IfOk, IfErr};
 ghost use Rattle.lr_rules.specs.Limits.{is_format};
 ghost use Rattle.lr_host.specs.Told.{Left, Onward, Rose};
@@ -10,7 +10,7 @@ ghost use Rattle.lr_days.specs.Newest.{AreDated, AreNewestFirst};
 use crate::day::days_among;
 use crate::glance::look_at_days;
 use crate::newest::sort_newest;
-use lr_family::{Listing, Member, Stand, StandStop};
+use lr_family::{Listing, Member, Stand, StandStop, parts_among};
 use lr_host::Host;
 use lr_rules::{Format, Listed, Naming, Text};
 use std::alloc::Global;
@@ -45,7 +45,8 @@ fn members_among<H: Host>(
     }
 }
 
-/// Looks at each member that the listing names; in a directory that isn't there none stands.
+/// Looks at each member that the listing names, and then at each part file of one; in a directory that isn't there none
+/// stands.
 pub fn stand_among<H: Host>(
     alloc: Global,
     host: &mut H,
@@ -69,13 +70,19 @@ pub fn stand_among<H: Host>(
             there,
             parent,
             members: Listed::new(alloc),
+            parts: Listed::new(alloc),
         });
     }
-    match members_among(alloc, host, naming, format, listing.names()) {
-        Ok(members) => Ok(Stand {
+    let members = match members_among(alloc, host, naming, format, listing.names()) {
+        Ok(members) => Listed::from_vec(members),
+        Err(stop) => return Err(stop),
+    };
+    match parts_among(alloc, host, naming, listing.names()) {
+        Ok(parts) => Ok(Stand {
             there,
             parent,
-            members: Listed::from_vec(members),
+            members,
+            parts,
         }),
         Err(stop) => Err(stop),
     }

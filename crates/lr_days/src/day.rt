@@ -4,11 +4,10 @@ ghost use Rattle.std.specs.Ordering.{is_lt};
 ghost use Rattle.std.specs.List.Sorted.{IsPermutation, IsStrictlySortedBy};
 ghost use Rattle.std.specs.List.{dedup};
 ghost use Rattle.lr_rules.specs.Limits.{is_format};
-ghost use Rattle.lr_rules.specs.Path.{joined};
 ghost use Rattle.lr_family.specs.Listed.{AreRising};
 ghost use Rattle.lr_days.specs.Days.{by_path, HasDays, AreDays, AddsDay};
 
-use lr_family::names_with;
+use lr_family::{names_with, path_in};
 use lr_rules::{Format, Memory, Naming, Path, Text};
 use lr_stamps::stamp_in;
 use std::alloc::Global;
@@ -20,17 +19,6 @@ pub struct Day {
     pub path: Path,
     pub seconds: i64,
     pub serial: u32,
-}
-
-// The path of this name in the directory.
-fn path_of(alloc: Global, dir: &Path, name: &Text) -> Result<Path, Memory>
-    ensures { IfOk result (λ path. path ≡ joined dir.now name.now) }
-{
-    match dir.join(alloc, name.bytes()) {
-        Ok(path) => Ok(path),
-        // A member's name is short enough to be a path, so this is want of memory.
-        Err(_) => Err(Memory),
-    }
 }
 
 // Adds the member with this name, where it is one.
@@ -46,7 +34,7 @@ fn add_day(
     ensures { OnOk result (AddsDay naming.now name.now days.old.items days.new.items) }
 {
     if let Some((seconds, serial)) = stamp_in(naming, format, name.bytes()) {
-        let path = path_of(alloc, &naming.dir, name)?;
+        let path = path_in(alloc, &naming.dir, name)?;
         days.push(Day {
             path,
             seconds,

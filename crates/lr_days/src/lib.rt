@@ -1,4 +1,4 @@
-//! Which members of a dated family stand.
+//! Which members of a dated family stand, and which of their part files.
 //!
 //! The contract above it: what `stand` answers is what its looks showed, the newest member first. Begin with `stand`:
 //!

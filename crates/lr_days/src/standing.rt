@@ -12,9 +12,10 @@ use lr_family::{Family, Listing, Stand, StandStop};
 use lr_host::Host;
 use std::alloc::Global;
 
-/// Which members of a dated family stand, in a directory that was listed: looks at each member among its names, in order
-/// of bytes, and at nothing else. A name that is gone since it was listed is no member. Each member has the path of its
-/// stamp and serial number. `NotFile` comes exactly where a member isn't a regular file.
+/// Which members of a dated family stand, and which of their part files, in a directory that was listed: looks at each
+/// member among its names, in order of bytes, then at each part file of one, and at nothing else. A name that is gone
+/// since it was listed is no member. Each member has the path of its stamp and serial number. `NotFile` comes exactly
+/// where a member isn't a regular file; a part file that isn't one is left out.
 pub fn stand_in<H: Host>(
     alloc: Global,
     host: &mut H,
@@ -40,8 +41,8 @@ pub fn stand_in<H: Host>(
     stand_among(alloc, host, naming, format, listing)
 }
 
-/// Which members of a dated family stand: looks for the directory, lists it, and looks at each member among the names, in
-/// order of bytes. Where the directory isn't there, looks for its parent. `NotFile` comes exactly where the directory is
+/// Which members of a dated family stand, and which of their part files: looks for the directory, lists it, and looks as
+/// `stand_in` does. Where the directory isn't there, looks for its parent. `NotFile` comes exactly where the directory is
 /// named but is no directory, or a member isn't a regular file. Who asks for several families of a directory lists it once
 /// (`Listing::take`, `stand_in`).
 pub fn stand<H: Host>(alloc: Global, host: &mut H, family: &Family) -> Result<Stand, StandStop>

@@ -1,7 +1,7 @@
 use Rattle.std.proofs.Common.{Err, ap}
 use Rattle.lr_rules.specs.declared.rule.Naming.{Naming}
 use Rattle.lr_days.proofs.Exact.{exactly}
-use Rattle.lr_days.proofs.Few.{few_then, few_stopped}
+use Rattle.lr_days.proofs.Few.{few_then, few_unlisted}
 use Rattle.lr_days.proofs.Whole.{listing_at, unlisted_at, stand_told, stand_stopped, never_listed}
 use Rattle.lr_days.proofs.standing.stand.Goals as goal
 
@@ -26,4 +26,4 @@ pub returns-in-Err-clause-exactly : goal.returns-in-Err-clause-exactly
 returns-in-Err-clause-exactly g c = exactly c.args.family.now.naming (Err c.in-Err.stop) tt (never_listed c.args.family.now.naming c.in-Err.stop (unlisted_at c.naming.result.now.dir c.args.family.now.naming.dir c.in-Err.stop (ap (λ (n : Naming). n.dir) c.naming.ensures) c.in-Err.ensures.stopped))
 
 pub returns-in-Err-clause-few : goal.returns-in-Err-clause-few
-returns-in-Err-clause-few g c = few_stopped c.args.family.now.naming c.args.family.now.naming.dir c.in-Err.stop (unlisted_at c.naming.result.now.dir c.args.family.now.naming.dir c.in-Err.stop (ap (λ (n : Naming). n.dir) c.naming.ensures) c.in-Err.ensures.stopped)
+returns-in-Err-clause-few g c = few_unlisted c.args.family.now.naming c.args.family.now.naming.dir c.in-Err.stop (unlisted_at c.naming.result.now.dir c.args.family.now.naming.dir c.in-Err.stop (ap (λ (n : Naming). n.dir) c.naming.ensures) c.in-Err.ensures.stopped)
