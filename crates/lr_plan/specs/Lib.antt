@@ -1,4 +1,4 @@
-pub mod Copying
+pub mod Appending
 pub mod Course
 pub mod Done
 pub mod Internal

@@ -12,7 +12,10 @@ use Rattle.lr_host.specs.declared.entry.Entry.TheVariants as entry
 use Rattle.lr_host.specs.Looks.{Sees, IsDir, IsNotDir}
 use Rattle.lr_scripts.specs.declared.command.Command.{Command}
 use Rattle.lr_scripts.specs.Programs.{runs}
-use Rattle.lr_plan.specs.Copying.{Copied, CopyBroke, Appended, AppendBroke}
+use Rattle.lr_copy.specs.declared.job.BytesStop.{BytesStop}
+use Rattle.lr_copy.specs.declared.job.BytesStop.TheVariants as broke
+use Rattle.lr_copy.specs.Bytes.{AllBytes, BytesBroke}
+use Rattle.lr_plan.specs.Appending.{Appended, AppendBroke}
 use Rattle.lr_plan.specs.declared.mark.Mark.{Mark}
 use Rattle.lr_plan.specs.declared.mark.Mark.TheVariants as mark
 use Rattle.lr_plan.specs.declared.step.Step.{Step}
@@ -33,7 +36,7 @@ Succeeds (MakesDir path mode) ts = One (entry.MakesDir path mode) ts ⊎ Sees pa
 Succeeds (Renames from to) ts = One (entry.Renames from to) ts
 Succeeds (Creates path mode) ts = Maybe (entry.Makes path mode) ts
 Succeeds (Takes path mode) ts = One (entry.Makes path mode) ts
-Succeeds (Copies from to limit) ts = Copied from to 0 [] ts
+Succeeds (Copies from to limit) ts = (count : ℕ) × AllBytes from to limit count ts
 Succeeds (Appends path text) ts = Appended path text ts
 Succeeds (SyncsFile path) ts = One (entry.SyncsFile path) ts
 Succeeds (SyncsDir path) ts = One (entry.SyncsDir path) ts
@@ -63,6 +66,12 @@ pub data DirFailed (path : Path) (mode : Option ℕ) (f : Fault) (ts : List Entr
   at_look : f ≡ fault.Call call.Look path → ts ≡ [] → DirFailed path mode f ts
   no_dir : f ≡ fault.NotFile path → Sees path IsNotDir ts → DirFailed path mode f ts
 
+-- what is told of a copy of bytes that broke off
+abbrev pub bytes_fault : Path → Path → BytesStop → Fault
+bytes_fault from to broke.Read = fault.Call call.Read from
+bytes_fault from to broke.Append = fault.Call call.Append to
+bytes_fault from to broke.TooLong = fault.TooLong from
+
 -- The step failed so: what its calls left up to the one that failed, and of that one its entry or none.
 abbrev pub Fails : Step → Fault → List Entry → Type 0
 Fails (Runs phase on command) f ts = ProgramFailed phase on command f ts
@@ -71,7 +80,7 @@ Fails (MakesDir path mode) f ts = DirFailed path mode f ts
 Fails (Renames from to) f ts = CallFailed (fault.Call call.Rename from) f (entry.Renames from to) ts
 Fails (Creates path mode) f ts = CallFailed (fault.Call call.Make path) f (entry.Makes path mode) ts
 Fails (Takes path mode) f ts = CallFailed (fault.Call call.Make path) f (entry.Makes path mode) ts ⊎ ((f ≡ fault.Taken path) × (ts ≡ []))
-Fails (Copies from to limit) f ts = CopyBroke from to limit 0 [] f ts
+Fails (Copies from to limit) f ts = (why : BytesStop) × (f ≡ bytes_fault from to why) × BytesBroke from to limit why ts
 Fails (Appends path text) f ts = (f ≡ fault.Call call.Append path) × AppendBroke path text ts
 Fails (SyncsFile path) f ts = CallFailed (fault.Call call.Sync path) f (entry.SyncsFile path) ts
 Fails (SyncsDir path) f ts = CallFailed (fault.Call call.Sync path) f (entry.SyncsDir path) ts

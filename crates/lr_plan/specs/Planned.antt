@@ -1,7 +1,8 @@
 -- The plan that the rules, what was seen of their logs, the table of the state, the moment of the run and `--force` make
 -- together.
-use Rattle.std.specs.Prelude.{◌≡◌, ◌≤◌, ◌&&◌, Bool, true, false, not, List, [], ◌∷◌, ◌++◌, map, All, Some, None, if◌then◌else◌}
+use Rattle.std.specs.Prelude.{◌≡◌, ◌≤◌, ◌&&◌, Bool, true, false, not, List, [], ◌∷◌, ◌++◌, map, All, Option, Some, None, if◌then◌else◌}
 use Rattle.std.specs.List.{flat_map, list_any}
+use Rattle.std.specs.Str.{bytes_eq}
 use Rattle.lr_rules.specs.declared.path.Path.{Path}
 use Rattle.lr_rules.specs.declared.civil.Moment.{Moment}
 use Rattle.lr_rules.specs.declared.fault.Fault.{Fault}
@@ -12,17 +13,21 @@ use Rattle.lr_rules.specs.declared.rule.Make.{Make}
 use Rattle.lr_rules.specs.declared.rule.Make.TheVariants as make
 use Rattle.lr_rules.specs.declared.rule.Rule.{Rule}
 use Rattle.lr_rules.specs.declared.rule.Scripts.{Scripts}
+use Rattle.lr_rules.specs.declared.rule.Way.{Way}
+use Rattle.lr_rules.specs.declared.rule.Way.TheVariants as way
 use Rattle.lr_host.specs.declared.thing.Seen.{Seen}
 use Rattle.lr_due.specs.declared.answer.Due.{Due}
 use Rattle.lr_due.specs.declared.answer.Due.TheVariants as due
 use Rattle.lr_due.specs.Due.{due_of}
 use Rattle.lr_state.specs.Table.{Entry, moment_of}
+use Rattle.lr_family.specs.Parts.{part_of}
 use Rattle.lr_family.specs.Places.{AreNamed}
 use Rattle.lr_family.specs.Spots.{path_at}
 use Rattle.lr_commands.specs.Commands.{spaced, script, where_so}
 use Rattle.lr_chain.specs.declared.ready.Ready.{Ready}
 use Rattle.lr_chain.specs.Ready.{IsCount, at_rest, with_members, is_highest, highest_path}
 use Rattle.lr_chain.specs.Rotation.{places_of}
+use Rattle.lr_copy.specs.declared.job.Job.{Job}
 use Rattle.lr_plan.specs.declared.looks.LogLook.{LogLook}
 use Rattle.lr_plan.specs.declared.looks.SetLooks.{SetLooks}
 use Rattle.lr_plan.specs.declared.planned.LogPlan.{LogPlan}
@@ -59,14 +64,40 @@ make_of (make.Yes (Some mode)) seen = make.Yes (Some mode)
 abbrev pub ready_for : Rule → LogLook → Ready
 ready_for rule look = with_members look.family.naming rule.count (places_of look.stand.members) (at_rest look.path look.family.naming (make_of rule.create look.seen))
 
--- what is done with it: its own scripts where the definition doesn't share them, and the rotation
+-- the part file is among these
+abbrev pub has_part : List Path → Path → Bool
+has_part parts part = list_any (bytes_eq part) parts
+
+-- The copy of the log to its final path, by the part file beside that: an old one that was seen goes before, and the new one has the log's mode, as that was seen. It takes 2^40 bytes at most.
+abbrev pub copy_job : LogLook → Bool → Job
+copy_job look cut = record {
+  from = look.path;
+  part = part_of (path_at look.family.naming 0);
+  to = path_at look.family.naming 0;
+  dir = look.family.naming.dir;
+  stale = has_part look.stand.parts (part_of (path_at look.family.naming 0));
+  mode = look.seen.mode;
+  cut = cut;
+  limit = 1099511627776;
+}
+
+-- the copy in place of the log's rename, where the rule's way is one; the log is emptied behind it, or stays as it is
+abbrev pub job_by : Way → LogLook → Option Job
+job_by way.Rename look = None
+job_by way.Copy look = Some (copy_job look false)
+job_by way.CopyTruncate look = Some (copy_job look true)
+
+abbrev pub job_of : Rule → LogLook → Option Job
+job_of rule look = job_by rule.way look
+
+-- what is done with it: its own scripts where the definition doesn't share them, and the rotation, by rename or by copy
 abbrev pub log_plan : Rule → LogLook → LogPlan
 log_plan rule look = record {
   pre = where_so (not rule.shared) (script rule.scripts.pre (look.path ∷ []));
   post = where_so (not rule.shared) (script rule.scripts.post (look.path ∷ path_at look.family.naming 0 ∷ []));
   first_mail = None;
   ready = ready_for rule look;
-  job = None;
+  job = job_of rule look;
 }
 
 abbrev pub none_hinders : List Fault → List LogPlan → List LogPlan
@@ -135,14 +166,14 @@ pub record HasNoScripts (s : Scripts) : Type 0 where
   pub last : s.last ≡ None
   pub preremove : s.preremove ≡ None
 
--- So far: the log of the look goes by rename to numbered members, each of which has the path of its place.
+-- So far: the log of the look goes to numbered members, each of which has the path of its place.
 pub record CanPlan (rule : Rule) (look : LogLook) : Type 0 where
   pub log : look.family.log ≡ look.path
   pub numbered : look.family.naming.dated ≡ None
   pub start : look.family.naming.start ≤ 999999
   pub named : AreNamed look.family.naming look.stand.members
 
--- So far: a rule without a preremove, mail and copies, and its looks.
+-- So far: a rule without a preremove and mail, and its looks.
 pub record CanPlanSet (rule : Rule) (looks : List LogLook) : Type 0 where
   pub count : IsCount rule.count
   pub no_preremove : rule.scripts.preremove ≡ None

@@ -14,7 +14,7 @@
 #![tactic(auto)]
 
 mod commands;
-mod job;
+mod copying;
 mod looks;
 mod mark;
 mod planned;
@@ -24,8 +24,8 @@ mod settings;
 mod step;
 mod steps;
 
-pub use job::Job;
 pub use looks::{LogLook, Looks, SetLooks};
+pub use lr_copy::Job;
 pub use mark::Mark;
 pub use planned::{LogPlan, Plan, SetPlan};
 pub use planning::plan;

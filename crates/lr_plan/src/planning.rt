@@ -1,18 +1,20 @@
 // What makes the plan.
-ghost use Rattle.std.specs.Prelude.{◌≡◌, ◌++◌, ◌∷◌, [], OnOk, IfOk};
+ghost use Rattle.std.specs.Prelude.{◌≡◌, ◌≤◌, ◌++◌, ◌∷◌, [], OnOk, IfOk};
 ghost use Rattle.lr_rules.specs.declared.rule.Rule.{Rule};
 ghost use Rattle.lr_plan.specs.declared.looks.LogLook.{LogLook};
 ghost use Rattle.lr_plan.specs.Internal.Hindered.{fault_of};
-ghost use Rattle.lr_plan.specs.Planned.{decision, decisions_of, hindrances, plans_of, log_plans, log_faults, set_plan, where_due, all_decisions, all_plans, all_faults, plan_of, make_of, ready_for, log_plan, CanPlan, CanPlanSet, CanPlanAll};
+ghost use Rattle.lr_plan.specs.Planned.{decision, decisions_of, hindrances, plans_of, log_plans, log_faults, set_plan, where_due, all_decisions, all_plans, all_faults, plan_of, make_of, ready_for, job_of, log_plan, CanPlan, CanPlanSet, CanPlanAll};
 ghost use Rattle.lr_chain.specs.Ready.{IsCount};
 ghost use Rattle.lr_commands.specs.Commands.{spaced};
 
 use crate::commands::{outer_scripts, own_scripts, shared_scripts};
+use crate::copying::job_of;
 use crate::looks::{LogLook, Looks, SetLooks};
 use crate::planned::{LogPlan, Plan, SetPlan};
 use crate::settings::Settings;
 use lr_chain::{PrepareStop, Ready, prepare};
 use lr_commands::spaced;
+use lr_copy::Job;
 use lr_due::{Due, due};
 use lr_host::Seen;
 use lr_rules::{Clock, Fault, Listed, Make, Memory, Moment, Path, Rule, Rules};
@@ -50,7 +52,29 @@ fn made_with(create: Make, seen: &Seen) -> Make
     }
 }
 
-// Adds the plan of a log whose rotation is ready, with its own scripts.
+// The plan of a log whose rotation is ready, and its copy, where it goes by one; with its own scripts.
+fn scripted(
+    alloc: Global,
+    rule: &Rule,
+    look: &LogLook,
+    ready: Ready,
+    job: Option<Job>,
+) -> Result<LogPlan, Memory>
+    requires ready { ready ≡ ready_for rule.now look.now }
+    requires job { job ≡ job_of rule.now look.now }
+    ensures { IfOk result (λ plan. plan ≡ log_plan rule.now look.now) }
+{
+    let (pre, post) = own_scripts(alloc, rule, &look.path, &ready.target)?;
+    Ok(LogPlan {
+        pre,
+        post,
+        first_mail: None,
+        ready,
+        job,
+    })
+}
+
+// Adds the plan of a log whose rotation is ready.
 fn add_plan(
     alloc: Global,
     rule: &Rule,
@@ -58,17 +82,12 @@ fn add_plan(
     ready: Ready,
     plans: &mut Vec<LogPlan>,
 ) -> Result<(), Memory>
-    requires { ready ≡ ready_for rule.now look.now }
+    requires start { look.now.family.naming.start ≤ 999999 }
+    requires ready { ready ≡ ready_for rule.now look.now }
     ensures { OnOk result (plans.new.items ≡ plans.old.items ++ log_plan rule.now look.now ∷ []) }
 {
-    let (pre, post) = own_scripts(alloc, rule, &look.path, &ready.target)?;
-    plans.push(LogPlan {
-        pre,
-        post,
-        first_mail: None,
-        ready,
-        job: None,
-    })?;
+    let job = job_of(alloc, rule, look, &ready.target)?;
+    plans.push(scripted(alloc, rule, look, ready, job)?)?;
     Ok(())
 }
 

@@ -4,11 +4,11 @@ ghost use Rattle.std.specs.List.{flat_map};
 ghost use Rattle.lr_rules.specs.declared.fault.Phase.TheVariants as phase;
 ghost use Rattle.lr_plan.specs.Steps.{program, rotation, retirement, rotation_of, retirement_of, steps_of_log, single_steps, shared_steps, steps_of_set};
 
-use crate::job::Job;
 use crate::planned::{LogPlan, SetPlan};
 use crate::step::{SetSteps, Step};
 use crate::steps::{add_all, add_program, add_retirement, add_rotation};
 use lr_chain::Ready;
+use lr_copy::Job;
 use lr_rules::{Listed, Memory, Phase};
 use lr_scripts::{Command, Removal};
 use std::alloc::Global;

@@ -4,10 +4,10 @@ ghost use Rattle.lr_rules.specs.declared.fault.Phase.TheVariants as phase;
 ghost use Rattle.lr_plan.specs.declared.step.Step.TheVariants as step;
 ghost use Rattle.lr_plan.specs.Steps.{input_of, on_of, program, removal, removals, directory, move, copy, transfer, made_anew, rotation, retirement, step_if};
 
-use crate::job::Job;
 use crate::step::Step;
 use lr_chain::{Move, Ready};
 use lr_commands::text_of;
+use lr_copy::Job;
 use lr_rules::{Listed, Make, Memory, Path, Phase, Text};
 use lr_scripts::{Command, Removal};
 use std::alloc::Global;

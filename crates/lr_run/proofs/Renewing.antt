@@ -24,7 +24,7 @@ use Rattle.lr_durable.specs.StateWhole.{part_of, KeepsWhole}
 use Rattle.lr_durable.proofs.Whole.{whole_at}
 use Rattle.lr_due.specs.declared.answer.Due.{Due}
 use Rattle.lr_plan.specs.declared.looks.LogLook.{LogLook}
-use Rattle.lr_plan.specs.Copying.{Appended, no_more, piece_more}
+use Rattle.lr_plan.specs.Appending.{Appended, no_more, piece_more}
 use Rattle.lr_plan.specs.Done.{rotated_logs}
 use Rattle.lr_plan.specs.Outcomes.{Maybe}
 use Rattle.lr_plan.specs.Planned.{decision}

@@ -20,7 +20,7 @@ use Rattle.lr_host.proofs.Looked.{nothing_no_dir, file_no_dir}
 use Rattle.lr_host.proofs.More.{IsMore, more_on, made_more, wrote_names, file_same}
 use Rattle.lr_host.proofs.Names.{put_here, put_other}
 use Rattle.lr_plan.specs.declared.step.Step.TheVariants.{Renames, Takes, Appends, SyncsFile, SyncsDir}
-use Rattle.lr_plan.specs.Copying.{Appended, no_more, piece_more}
+use Rattle.lr_plan.specs.Appending.{Appended, no_more, piece_more}
 use Rattle.lr_plan.specs.Internal.Asking.{CanMake}
 use Rattle.lr_plan.specs.Steps.{state_part, state_steps}
 use Rattle.lr_writing.specs.Fits.{AreDirectories, HasPlace, CanBegin}

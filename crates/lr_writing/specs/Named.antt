@@ -5,7 +5,7 @@ use Rattle.lr_rules.specs.Path.{parent_of}
 use Rattle.lr_host.specs.declared.entry.Entry.{Entry}
 use Rattle.lr_host.specs.declared.entry.Entry.TheVariants.{Renames, Makes, Appends, Truncates, Unlinks, SyncsFile, SyncsDir, MakesDir}
 use Rattle.lr_host.specs.Told.{Each}
-use Rattle.lr_plan.specs.Copying.{Appended}
+use Rattle.lr_plan.specs.Appending.{Appended}
 use Rattle.lr_plan.specs.Outcomes.{Maybe}
 use Rattle.lr_plan.specs.Steps.{state_part}
 

@@ -7,8 +7,8 @@ use Rattle.lr_plan.specs.declared.planned.LogPlan.{LogPlan}
 use Rattle.lr_plan.proofs.Hindrances.{where_ok, ready_is, ready_unhindered, plans_there, plans_none, stop_hinders}
 use Rattle.lr_plan.proofs.planning.add_due.Goals as goal
 
-pub add_plan-requires : goal.add_plan-requires
-add_plan-requires c = ready_is c.args.rule.now c.args.look.now c.in-Ok.ready c.requires.look.log
+pub add_plan-requires-clause-ready : goal.add_plan-requires-clause-ready
+add_plan-requires-clause-ready c = ready_is c.args.rule.now c.args.look.now c.in-Ok.ready c.requires.look.log
     (subst (λ (m : Make). IsReady c.args.look.now.family.log c.args.look.now.family.naming c.args.rule.now.count m c.args.look.now.stand.members c.in-Ok.ready) c.made_with-anew.ensures c.in-Ok.ensures.ready)
 
 pub returns-in-Ok-clause-plans : goal.returns-in-Ok-clause-plans

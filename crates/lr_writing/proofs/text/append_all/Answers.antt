@@ -5,7 +5,7 @@ use Rattle.lr_host.specs.declared.entry.Entry.{Entry}
 use Rattle.lr_host.specs.declared.entry.Entry.TheVariants.{Appends}
 use Rattle.lr_host.specs.Steps.{is_naming}
 use Rattle.lr_host.proofs.Left.{left_first, left_then, can_stay}
-use Rattle.lr_plan.specs.Copying.{no_more, AppendBroke}
+use Rattle.lr_plan.specs.Appending.{no_more, AppendBroke}
 use Rattle.lr_writing.proofs.Pieces.{append_stops, one_broke, take_two, rest_is}
 use Rattle.lr_writing.specs.Buffer.{Wrote}
 use Rattle.lr_writing.proofs.Buffers.{wrote_more, broke_short, short_on}
