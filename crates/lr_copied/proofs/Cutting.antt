@@ -1,50 +1,40 @@
 -- The moment just before the log is emptied.
 use Rattle.std.proofs.Common.{◌≡◌, refl, sym, ◌∙◌, ap, subst, arith, ℕ, Bool, true, false, cond, List, [], ◌∷◌, ◌++◌, reverse, append_assoc}
 use Rattle.std.proofs.lemmas.List.{reverse-append}
-use Rattle.lr_rules.specs.declared.path.Path.{Path}
 use Rattle.lr_host.specs.declared.entry.Entry.{Entry}
 use Rattle.lr_host.specs.declared.entry.Entry.TheVariants as entry
-use Rattle.lr_host.specs.Fits.{Fits, IsFileAt}
+use Rattle.lr_host.specs.Fits.{Fits}
 use Rattle.lr_host.specs.Opening.{IsJournal}
 use Rattle.lr_host.specs.Safe.{IsPrefix, shorter}
 use Rattle.lr_host.specs.Told.{Each, Made, at_first, by_writer, by_tool, IsWriters}
-use Rattle.lr_host.specs.World.{Past, ◌▸◌, world, names}
+use Rattle.lr_host.specs.World.{Past, ◌▸◌, world}
 use Rattle.lr_host.proofs.Each.{each_append}
 use Rattle.lr_host.proofs.Made.{made_on}
 use Rattle.lr_host.proofs.Quiet.{size, since_before}
 use Rattle.lr_copy.specs.declared.job.Job.{Job}
-use Rattle.lr_copy.specs.Bytes.{Copying, none_read, read_more, took_more}
 use Rattle.lr_copy.specs.Copying.{clearing, opening, Fills, naming, cutting, Copied}
 use Rattle.lr_copy.specs.Fits.{ArePaths}
+use Rattle.lr_copy.specs.Stops.{EmptiesNone}
+use Rattle.lr_copy.proofs.EachOfBytes.{each_all}
 use Rattle.lr_durable.proofs.Lists.{IsOnWay, on_way, prefix_size}
 use Rattle.lr_copied.specs.Whole.{Named, WritersSpare, IsWhole}
 use Rattle.lr_copied.proofs.Named.{whole}
 
 -- ---- the one truncation
 
-abbrev IsNoCut : Entry → Type 0
-IsNoCut (entry.Truncates x) = ⊥
-IsNoCut _ = Unit {0}
-
-no_cut_copying : (from to : Path) (bytes owed : List ℕ) (ts : List Entry) → Copying from to bytes owed ts → Each IsNoCut ts
-no_cut_copying from to _ _ _ none_read = tt
-no_cut_copying from to _ _ _ (read_more {bytes = bytes} {ts = ts} c piece some) = each_append IsNoCut ts _ (no_cut_copying from to bytes [] ts c) (tt, tt)
-no_cut_copying from to bytes owed _ (took_more {ts = ts} piece _ c) = each_append IsNoCut ts _ (no_cut_copying from to bytes (piece ++ owed) ts c) (tt, tt)
-
-no_cut_opening : (job : Job) → Each IsNoCut (opening job)
-no_cut_opening job = each_append IsNoCut (clearing job) (entry.Makes job.part job.mode ∷ []) (go job.stale) (tt, tt)
+no_cut_opening : (job : Job) → Each EmptiesNone (opening job)
+no_cut_opening job = each_append EmptiesNone (clearing job) (entry.Makes job.part job.mode ∷ []) (go job.stale) (tt, tt)
   where
-    go : (b : Bool) → Each IsNoCut (cond b (entry.Unlinks job.part ∷ []) [])
+    go : (b : Bool) → Each EmptiesNone (cond b (entry.Unlinks job.part ∷ []) [])
     go true = (tt, tt)
     go false = tt
 
-no_cut_filling : (job : Job) (count : ℕ) (ts : List Entry) → Fills job count ts → Each IsNoCut ts
-no_cut_filling job count ts f = let c = f.first in subst (Each IsNoCut) (sym f.joined) (each_append IsNoCut f.front f.back
-    (subst (Each IsNoCut) (sym c.entries.joined) (each_append IsNoCut c.entries.front c.entries.back (no_cut_copying job.from job.part c.bytes [] c.entries.front c.entries.first) (subst (Each IsNoCut) (sym c.entries.second) (tt, tt))))
-    (subst (Each IsNoCut) (sym f.second) (tt, tt)))
+no_cut_filling : (job : Job) (count : ℕ) (ts : List Entry) → Fills job count ts → Each EmptiesNone ts
+no_cut_filling job count ts f = subst (Each EmptiesNone) (sym f.joined)
+    (each_append EmptiesNone f.front f.back (each_all EmptiesNone job.from job.part (λ k piece. tt) (λ piece. tt) job.limit count f.front f.first) (subst (Each EmptiesNone) (sym f.second) (tt, tt)))
 
 -- it stands last
-ends_there : (b : Bool) (e : Entry) (ns xs ys : List Entry) → (IsNoCut e → ⊥) → Each IsNoCut ns → ns ++ cond b (e ∷ []) [] ≡ xs ++ (e ∷ ys) → xs ≡ ns
+ends_there : (b : Bool) (e : Entry) (ns xs ys : List Entry) → (EmptiesNone e → ⊥) → Each EmptiesNone ns → ns ++ cond b (e ∷ []) [] ≡ xs ++ (e ∷ ys) → xs ≡ ns
 ends_there b e [] [] ys cut a is = refl
 ends_there true e [] (x ∷ xs) ys cut a is = absurd (nothing xs is)
   where
@@ -52,7 +42,7 @@ ends_there true e [] (x ∷ xs) ys cut a is = absurd (nothing xs is)
     nothing [] is = cc
     nothing (z ∷ zs) is = cc
 ends_there false e [] (x ∷ xs) ys cut a is = absurd (cc)
-ends_there b e (n ∷ ns) [] ys cut a is = absurd (cut (subst IsNoCut same a.0))
+ends_there b e (n ∷ ns) [] ys cut a is = absurd (cut (subst EmptiesNone same a.0))
   where
     same : n ≡ e
     same = cc
@@ -66,13 +56,13 @@ ends_there b e (n ∷ ns) (x ∷ xs) ys cut a is = ap (λ z. z ∷ xs) (sym head
 
 -- ---- the moment before an entry of the tool
 
-record IsLast (p u : Past) (e : Entry) (es : List Entry) : Type 0 where
-  front : List Entry
-  es_are : es ≡ e ∷ front
-  made : Made p front u
-  fits : Fits (world u) e
+pub record IsLast (p u : Past) (e : Entry) (es : List Entry) : Type 0 where
+  pub front : List Entry
+  pub es_are : es ≡ e ∷ front
+  pub made : Made p front u
+  pub fits : Fits (world u) e
 
-is_last : (p u r : Past) (e : Entry) (es : List Entry) → (IsWriters e → ⊥) → IsPrefix p u → Made p es r → r ≡ u ▸ e → IsLast p u e es
+pub is_last : (p u r : Past) (e : Entry) (es : List Entry) → (IsWriters e → ⊥) → IsPrefix p u → Made p es r → r ≡ u ▸ e → IsLast p u e es
 is_last p u _ e _ tools i at_first is = absurd (let le = prefix_size p u i in let long : size p ≡ size (u ▸ e) = ap size is in omega (arith, le, long))
 is_last p u _ e es tools i (by_writer {q = q} {e = d} m w f) is = absurd (tools (subst IsWriters same w))
   where
@@ -93,9 +83,9 @@ is_last p u _ e _ tools i (by_tool {es = es} {q = q} {e = d} m t f) is = record 
 
 -- ---- the law
 
-pub whole_before_cut : (job : Job) (count : ℕ) (p q : Past) (es : List Entry) → Made p es q → IsJournal p → ArePaths job → IsFileAt (names (world p)) job.from → WritersSpare job p q → Copied job count (reverse es)
+pub whole_before_cut : (job : Job) (count : ℕ) (p q : Past) (es : List Entry) → Made p es q → IsJournal p → ArePaths job → WritersSpare job p q → Copied job count (reverse es)
     → (u : Past) → IsPrefix p u → IsPrefix (u ▸ entry.Truncates job.from) q → IsWhole job.from job.to p u
-whole_before_cut job count p q es m j paths log only n u since until = behind (on_way p (u ▸ e) q es m (shorter since) until)
+whole_before_cut job count p q es m j paths only n u since until = behind (on_way p (u ▸ e) q es m (shorter since) until)
   where
     e : Entry
     e = entry.Truncates job.from
@@ -107,8 +97,8 @@ whole_before_cut job count p q es m j paths log only n u since until = behind (o
     is_named : Named job count named
     is_named = record { front = n.front; back = n.second.front ++ naming job; joined = refl; first = n.first; second = record { front = n.second.front; back = naming job; joined = refl; first = n.second.first; second = refl } }
 
-    no_cut : Each IsNoCut named
-    no_cut = each_append IsNoCut n.front (n.second.front ++ naming job) (subst (Each IsNoCut) (sym n.first) (no_cut_opening job)) (each_append IsNoCut n.second.front (naming job) (no_cut_filling job count n.second.front n.second.first) (tt, (tt, tt)))
+    no_cut : Each EmptiesNone named
+    no_cut = each_append EmptiesNone n.front (n.second.front ++ naming job) (subst (Each EmptiesNone) (sym n.first) (no_cut_opening job)) (each_append EmptiesNone n.second.front (naming job) (no_cut_filling job count n.second.front n.second.first) (tt, (tt, tt)))
 
     all_are : reverse es ≡ named ++ cutting job
     all_are = n.joined ∙ (ap (λ us. n.front ++ us) (n.second.joined ∙ (ap (λ us. n.second.front ++ us) n.second.second ∙ sym (append_assoc n.second.front (naming job) (cutting job)))) ∙ sym (append_assoc n.front (n.second.front ++ naming job) (cutting job)))
@@ -118,7 +108,7 @@ whole_before_cut job count p q es m j paths log only n u since until = behind (o
         let whole_list : reverse es ≡ reverse k.front ++ (e ∷ reverse w.new) = ap reverse (w.es_are ∙ ap (λ us. w.new ++ us) k.es_are) ∙ (reverse-append w.new (e ∷ k.front) ∙ (ap (λ us. us ++ reverse w.new) (reverse-append (e ∷ []) k.front) ∙ append_assoc (reverse k.front) (e ∷ []) (reverse w.new))) in
         let same : reverse k.front ≡ named = ends_there job.cut e named (reverse k.front) (reverse w.new) (λ i. i) no_cut (sym all_are ∙ whole_list) in
         let one : Made u (e ∷ []) (u ▸ e) = by_tool at_first tt k.fits in
-        whole job count p u k.front k.made j paths log (since_before _ p u q k.front (w.new ++ e ∷ []) k.made (made_on u (u ▸ e) q (e ∷ []) w.new one w.behind) only) (subst (Named job count) (sym same) is_named)
+        whole job count p u k.front k.made j paths (since_before _ p u q k.front (w.new ++ e ∷ []) k.made (made_on u (u ▸ e) q (e ∷ []) w.new one w.behind) only) (subst (Named job count) (sym same) is_named)
 
     behind : IsOnWay p (u ▸ e) q es → IsWhole job.from job.to p u
     behind w = just w (is_last p u (u ▸ e) e w.old (λ i. i) since w.before refl)

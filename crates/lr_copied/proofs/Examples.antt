@@ -19,7 +19,7 @@ use Rattle.lr_copied.specs.Whole.{Named, WritersSpare, Has, IsWhole}
 use Rattle.lr_copied.specs.Worked.{part, job, filled, in_order, name_pending, bytes_pending}
 use Rattle.lr_copied.proofs.Named.{whole}
 
-abbrev start : Past
+abbrev pub start : Past
 start = Opens found
 
 other : (x y : Path) → bytes_eq x y ≡ false → x ≢ y
@@ -41,19 +41,19 @@ bytes_journal = ((filled_journal, ((3, refl), λ e. cc, λ e. cc, refl, other pa
 
 -- ---- in order
 
-paths : ArePaths job
+pub paths : ArePaths job
 paths = record { part_apart = other part log refl; to_apart = other third log refl; part_not_to = other part third refl; dir_is = refl; part_in = refl }
 
-abbrev entries : List Entry
+abbrev pub entries : List Entry
 entries = entry.SyncsDir (codes "/v") ∷ entry.Renames part third ∷ entry.SyncsFile part ∷ entry.Reads log 1 [] ∷ entry.Appends part (codes "C") ∷ entry.Reads log 0 (codes "C") ∷ entry.Makes part None ∷ []
 
-made : Made start entries in_order
+pub made : Made start entries in_order
 made = by_tool (by_tool (by_tool (by_tool (by_tool (by_tool (by_tool at_first tt filled_journal.0.0.0.1) tt filled_journal.0.0.1) tt filled_journal.0.1) tt filled_journal.1) tt name_journal.0.1) tt name_journal.1) tt refl
 
 spare : WritersSpare job start in_order
 spare = further (further (further (further (further (further (further from_here tt) tt) tt) tt) tt) tt) tt
 
-named : Named job 1 (reverse entries)
+pub named : Named job 1 (reverse entries)
 named = record {
   front = opening job;
   back = entry.Reads log 0 (codes "C") ∷ entry.Appends part (codes "C") ∷ entry.Reads log 1 [] ∷ entry.SyncsFile part ∷ naming job;
@@ -86,7 +86,7 @@ named = record {
 }
 
 pub in_order_whole : IsWhole log third start in_order
-in_order_whole = whole job 1 start in_order entries made found_valid paths (0, refl) spare named
+in_order_whole = whole job 1 start in_order entries made found_valid paths spare named
 
 -- ---- the other two
 

@@ -7,7 +7,7 @@ use Rattle.lr_host.specs.declared.thing.Thing.{Thing}
 use Rattle.lr_host.specs.declared.thing.Thing.TheVariants as thing
 use Rattle.lr_host.specs.declared.entry.Entry.{Entry}
 use Rattle.lr_host.specs.declared.entry.Entry.TheVariants as entry
-use Rattle.lr_host.specs.Fits.{Fits, Gives, IsPiece}
+use Rattle.lr_host.specs.Fits.{Fits, Gives, IsFileAt, IsPiece}
 use Rattle.lr_host.specs.Opening.{IsJournal}
 use Rattle.lr_host.specs.Quiet.{AttachedOnlySince, from_here, further}
 use Rattle.lr_host.specs.Steady.{AttachesOnly}
@@ -107,18 +107,68 @@ module _ (P : Path → Type 0) (from part : Path) (g h : ℕ) (far : (y : Path) 
         own = own_append P part h far s.taken piece p s.own;
       }
 
+-- ---- from the make on
+
+-- Nothing was read yet: the log needn't stand, and the part file is empty. Or something was.
+pub data IsUnderWay (from part : Path) (h : ℕ) (bytes owed : List ℕ) (p : Past) : Type 0 where
+  not_read : bytes ≡ [] → owed ≡ [] → IsOwn part h [] p → IsUnderWay from part h bytes owed p
+  is_read : (g : ℕ) → IsSoFar from part g h bytes owed p → IsUnderWay from part h bytes owed p
+
+-- what is read is a file
+pub read_file : (p : Past) (x : Path) (k : ℕ) (piece : List ℕ) → Fits (world p) (entry.Reads x k piece) → IsFileAt (names (world p)) x
+read_file p x k piece fits = go (names (world p) x) fits
+  where
+    go : (t : Thing) → Gives (world p) t k piece → (g : ℕ) × (t ≡ thing.File g)
+    go thing.Nothing fits = absurd fits
+    go (thing.File g) fits = (g, refl)
+    go thing.Directory fits = absurd fits
+    go thing.Other fits = absurd fits
+
+-- where the log is a file
+pub so_far : (from part : Path) (h : ℕ) (bytes : List ℕ) (p : Past) → IsFileAt (names (world p)) from → IsUnderWay from part h bytes [] p → (g : ℕ) × IsSoFar from part g h bytes [] p
+so_far from part h bytes p log (not_read none paid own) = (
+  log.0,
+  subst (λ (xs : List ℕ). IsSoFar from part log.0 h xs [] p) (sym none)
+      (record { rest = ((world p).files log.0).bytes; log = record { named = log.1; bytes_are = refl }; taken = []; same = refl; own = own }),
+)
+so_far from part h bytes p log (is_read g s) = (g, s)
+
+both_empty : (xs ys : List ℕ) → xs ++ ys ≡ [] → (xs ≡ []) × (ys ≡ [])
+both_empty [] ys is = (refl, is)
+both_empty (x ∷ xs) ys is = absurd (cc)
+
+module _ (P : Path → Type 0) (from part : Path) (h : ℕ) (far : (y : Path) → P y → y ≢ part) (apart : part ≢ from) where
+  abbrev Under : List ℕ → List ℕ → Past → Type 0
+  Under bytes owed p = IsUnderWay from part h bytes owed p
+
+  -- what writers do between
+  under_waits : (bytes owed : List ℕ) (p q : Past) → IsJournal p → Made p [] q → AttachedOnlySince P p q → Under bytes owed p → Under bytes owed q
+  under_waits bytes owed p q j m only (not_read none paid own) = not_read none paid (own_waits P part h far [] p q m only own)
+  under_waits bytes owed p q j m only (is_read g s) = is_read g (so_waits P from part g h far apart bytes owed p q j m only s)
+
+  -- a read
+  under_read : (bytes piece : List ℕ) (p : Past) → Fits (world p) (entry.Reads from (length bytes) piece) → Under bytes [] p → Under (bytes ++ piece) piece (p ▸ entry.Reads from (length bytes) piece)
+  under_read bytes piece p fits u = let l = so_far from part h bytes p (read_file p from (length bytes) piece fits) u in is_read l.0 (so_read P from part l.0 h far apart bytes piece p fits l.1)
+
+  -- an append
+  under_append : (bytes piece owed : List ℕ) (p : Past) → IsJournal p → Fits (world p) (entry.Appends part piece) → Under bytes (piece ++ owed) p → Under bytes owed (p ▸ entry.Appends part piece)
+  under_append bytes piece owed p j fits (not_read none paid own) =
+      let no_more = both_empty piece owed paid in
+      not_read none no_more.1 (subst (λ (xs : List ℕ). IsOwn part h xs (p ▸ entry.Appends part piece)) no_more.0 (own_append P part h far [] piece p own))
+  under_append bytes piece owed p j fits (is_read g s) = is_read g (so_append P from part g h far apart bytes piece owed p j fits s)
+
   -- the whole copying
-  pub so_copies : (bytes owed : List ℕ) (ts : List Entry) → Copying from part bytes owed ts → (p q : Past) → IsJournal p → Made p (reverse ts) q → AttachedOnlySince P p q → SoFar [] [] p → SoFar bytes owed q
-  so_copies _ _ _ none_read p q j m only s = so_waits [] [] p q j m only s
-  so_copies _ _ _ (read_more {bytes = bytes} {ts = ts} c piece some) p q j m only s =
+  pub under_copies : (bytes owed : List ℕ) (ts : List Entry) → Copying from part bytes owed ts → (p q : Past) → IsJournal p → Made p (reverse ts) q → AttachedOnlySince P p q → IsOwn part h [] p → Under bytes owed q
+  under_copies _ _ _ none_read p q j m only own = under_waits [] [] p q j m only (not_read refl refl own)
+  under_copies _ _ _ (read_more {bytes = bytes} {ts = ts} c piece some) p q j m only own =
       let e = entry.Reads from (length bytes) piece in
       let a = at P p q ts e [] tt m only in
       let k : IsJournal a.mid = made_journal p a.mid (reverse ts) a.first j in
-      so_waits (bytes ++ piece) piece (a.mid ▸ e) q (made_journal a.mid (a.mid ▸ e) (e ∷ []) (by_tool at_first tt a.fits) k) a.second a.only_second
-      (so_read bytes piece a.mid a.fits (so_copies bytes [] ts c p a.mid j a.first a.only_first s))
-  so_copies bytes owed _ (took_more {ts = ts} piece _ c) p q j m only s =
+      under_waits (bytes ++ piece) piece (a.mid ▸ e) q (made_journal a.mid (a.mid ▸ e) (e ∷ []) (by_tool at_first tt a.fits) k) a.second a.only_second
+      (under_read bytes piece a.mid a.fits (under_copies bytes [] ts c p a.mid j a.first a.only_first own))
+  under_copies bytes owed _ (took_more {ts = ts} piece _ c) p q j m only own =
       let e = entry.Appends part piece in
       let a = at P p q ts e [] tt m only in
       let k : IsJournal a.mid = made_journal p a.mid (reverse ts) a.first j in
-      so_waits bytes owed (a.mid ▸ e) q (made_journal a.mid (a.mid ▸ e) (e ∷ []) (by_tool at_first tt a.fits) k) a.second a.only_second
-      (so_append bytes piece owed a.mid k a.fits (so_copies bytes (piece ++ owed) ts c p a.mid j a.first a.only_first s))
+      under_waits bytes owed (a.mid ▸ e) q (made_journal a.mid (a.mid ▸ e) (e ∷ []) (by_tool at_first tt a.fits) k) a.second a.only_second
+      (under_append bytes piece owed a.mid k a.fits (under_copies bytes (piece ++ owed) ts c p a.mid j a.first a.only_first own))

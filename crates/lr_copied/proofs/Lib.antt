@@ -1,5 +1,5 @@
-mod Cutting
-mod Examples
+pub mod Cutting
+pub mod Examples
 mod Filled
 mod Logs
-mod Named
+pub mod Named

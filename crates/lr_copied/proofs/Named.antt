@@ -1,12 +1,12 @@
 -- The copy from its last read on, up to its final path.
-use Rattle.std.proofs.Common.{◌≡◌, ◌≢◌, ⊎_elim, ◌<◌, ◌+◌, ℕ, Bool, true, false, cond, refl, sym, ◌∙◌, ap, subst, arith, List, [], ◌∷◌, ◌++◌, length, reverse, append_assoc, append-nil}
+use Rattle.std.proofs.Common.{◌≡◌, ◌≢◌, ⊎_elim, ◌<◌, ◌+◌, ℕ, refl, sym, ◌∙◌, ap, subst, arith, List, [], ◌∷◌, ◌++◌, length, reverse, append_assoc, append-nil}
 use Rattle.std.proofs.lemmas.List.{reverse-reverse}
 use Rattle.lr_rules.specs.declared.path.Path.{Path}
 use Rattle.lr_host.specs.declared.thing.Thing.{Thing}
 use Rattle.lr_host.specs.declared.thing.Thing.TheVariants as thing
 use Rattle.lr_host.specs.declared.entry.Entry.{Entry}
 use Rattle.lr_host.specs.declared.entry.Entry.TheVariants as entry
-use Rattle.lr_host.specs.Fits.{Fits, IsFileAt, Gives}
+use Rattle.lr_host.specs.Fits.{Fits, Gives}
 use Rattle.lr_host.specs.Opening.{IsJournal}
 use Rattle.lr_host.specs.Quiet.{AttachedOnlySince, from_here, further}
 use Rattle.lr_host.specs.Safe.{IsMachines, IsPrefix}
@@ -28,7 +28,7 @@ use Rattle.lr_durable.proofs.Syncs.{synced_durable}
 use Rattle.lr_durable.proofs.Walks.{IsSafeFile, named_walk, safe_walk}
 use Rattle.lr_copied.specs.Whole.{Named, WritersSpare, Has, IsWhole}
 use Rattle.lr_copied.proofs.Logs.{LeavesLog, HasMore, log_walk}
-use Rattle.lr_copied.proofs.Filled.{IsSoFar, made_own, read_none, so_copies}
+use Rattle.lr_copied.proofs.Filled.{IsSoFar, made_own, read_none, read_file, so_far, under_copies}
 
 -- ---- the rename
 
@@ -113,24 +113,14 @@ module _ (P : Path → Type 0) (job : Job) (paths : ArePaths job) (far_part : (y
             ∙ (ap (λ us. us ++ behind) (c.entries.joined ∙ ap (λ us. c.entries.front ++ us) c.entries.second) ∙ append_assoc c.entries.front ends behind))))))));
       }
 
-  clears : Each (LeavesLog job.from) (reverse (clearing job))
-  clears = go job.stale
-    where
-      go : (b : Bool) → Each (LeavesLog job.from) (reverse (cond b (entry.Unlinks job.part ∷ []) []))
-      go true = ((tt, λ i. ⊎_elim (λ e. paths.part_apart e) (λ n. n) i), tt)
-      go false = tt
-
-  module _ (count : ℕ) (p q : Past) (ts : List Entry) (j : IsJournal p) (log : IsFileAt (names (world p)) job.from) (only : AttachedOnlySince P p q) (f : IsFlat count ts) where
-    abbrev g : ℕ
-    g = log.0
-
+  module _ (count : ℕ) (p q : Past) (ts : List Entry) (j : IsJournal p) (only : AttachedOnlySince P p q) (f : IsFlat count ts) where
     abbrev ends : List Entry
     ends = entry.Reads job.from (length f.bytes) [] ∷ behind
 
     -- just before the last read
-    whole_behind : (b : Past) → IsPrefix p b → IsJournal b → Fits (world b) (entry.Reads job.from (length f.bytes) []) → (h : ℕ) → IsSoFar job.from job.part g h f.bytes [] b → Made (b ▸ entry.Reads job.from (length f.bytes) []) (reverse behind) q
+    whole_behind : (g : ℕ) (b : Past) → IsPrefix p b → IsJournal b → Fits (world b) (entry.Reads job.from (length f.bytes) []) → (h : ℕ) → IsSoFar job.from job.part g h f.bytes [] b → Made (b ▸ entry.Reads job.from (length f.bytes) []) (reverse behind) q
         → AttachedOnlySince P (b ▸ entry.Reads job.from (length f.bytes) []) q → IsWhole job.from job.to p q
-    whole_behind b since k fits h s m only = record {
+    whole_behind g b since k fits h s m only = record {
       log = g;
       copy = h;
       bytes = f.bytes;
@@ -190,19 +180,19 @@ module _ (P : Path → Type 0) (job : Job) (paths : ArePaths job) (far_part : (y
             one : Made a.mid (e ∷ []) r
             one = by_tool at_first tt a.fits
 
-            here : HasMore job.from g ((world p).files g).bytes p r
-            here = log_walk job.from g ((world p).files g).bytes p r (e ∷ reverse (clearing job)) j (by_tool a.first tt a.fits) ((tt, λ i. ⊎_elim (λ s. paths.part_apart s) (λ n. n) i), clears) (record { named = log.1; bytes_are = refl })
-
-            first : IsSoFar job.from job.part g (world a.mid).drawn [] [] r
-            first = record { rest = ((world p).files g).bytes ++ here.later; log = here.has; taken = []; same = refl; own = made_own a.mid job.part job.mode k }
-
             read : At P r q f.copying (entry.Reads job.from (length f.bytes) []) behind → IsWhole job.from job.to p q
-            read b = whole_behind b.mid (prefix_on p r b.mid (made_prefix p r (e ∷ reverse (clearing job)) (by_tool a.first tt a.fits)) (made_prefix r b.mid (reverse f.copying) b.first))
-                (made_journal r b.mid (reverse f.copying) b.first (made_journal a.mid r (e ∷ []) one k)) b.fits (world a.mid).drawn
-                (so_copies P job.from job.part g (world a.mid).drawn far_part paths.part_apart f.bytes [] f.copying f.copies r b.mid (made_journal a.mid r (e ∷ []) one k) b.first b.only_first first) b.second b.only_second
+            read b = behind_it (so_far job.from job.part (world a.mid).drawn f.bytes b.mid (read_file b.mid job.from (length f.bytes) [] b.fits)
+                (under_copies P job.from job.part (world a.mid).drawn far_part paths.part_apart f.bytes [] f.copying f.copies r b.mid k_next b.first b.only_first (made_own a.mid job.part job.mode k)))
+              where
+                k_next : IsJournal r
+                k_next = made_journal a.mid r (e ∷ []) one k
 
-pub whole : (job : Job) (count : ℕ) (p q : Past) (es : List Entry) → Made p es q → IsJournal p → ArePaths job → IsFileAt (names (world p)) job.from → WritersSpare job p q → Named job count (reverse es) → IsWhole job.from job.to p q
-whole job count p q es m j paths log only n = go (flat P job paths far_part far_to count (reverse es) n)
+                behind_it : (g : ℕ) × IsSoFar job.from job.part g (world a.mid).drawn f.bytes [] b.mid → IsWhole job.from job.to p q
+                behind_it l = whole_behind l.0 b.mid (prefix_on p r b.mid (made_prefix p r (e ∷ reverse (clearing job)) (by_tool a.first tt a.fits)) (made_prefix r b.mid (reverse f.copying) b.first))
+                    (made_journal r b.mid (reverse f.copying) b.first k_next) b.fits (world a.mid).drawn l.1 b.second b.only_second
+
+pub whole : (job : Job) (count : ℕ) (p q : Past) (es : List Entry) → Made p es q → IsJournal p → ArePaths job → WritersSpare job p q → Named job count (reverse es) → IsWhole job.from job.to p q
+whole job count p q es m j paths only n = go (flat P job paths far_part far_to count (reverse es) n)
   where
     P : Path → Type 0
     P x = (x ≢ job.part) × (x ≢ job.to)
@@ -214,4 +204,4 @@ whole job count p q es m j paths log only n = go (flat P job paths far_part far_
     far_to y s = s.1
 
     go : IsFlat P job paths far_part far_to count (reverse es) → IsWhole job.from job.to p q
-    go f = whole_at P job paths far_part far_to count p q (reverse es) j log only f (subst (λ (xs : List Entry). Made p xs q) (sym (reverse-reverse es) ∙ ap reverse f.ts_are) m)
+    go f = whole_at P job paths far_part far_to count p q (reverse es) j only f (subst (λ (xs : List Entry). Made p xs q) (sym (reverse-reverse es) ∙ ap reverse f.ts_are) m)

@@ -2,11 +2,10 @@
 ghost use Rattle.std.specs.Prelude.{◌≡◌, ℕ, List, reverse, true};
 ghost use Rattle.lr_host.specs.declared.entry.Entry.{Entry};
 ghost use Rattle.lr_host.specs.declared.entry.Entry.TheVariants as entry;
-ghost use Rattle.lr_host.specs.Fits.{IsFileAt};
 ghost use Rattle.lr_host.specs.Opening.{IsJournal};
 ghost use Rattle.lr_host.specs.Safe.{IsPrefix};
 ghost use Rattle.lr_host.specs.Told.{Made};
-ghost use Rattle.lr_host.specs.World.{Past, ◌▸◌, world, names};
+ghost use Rattle.lr_host.specs.World.{Past, ◌▸◌};
 ghost use Rattle.lr_copy.specs.declared.job.Job.{Job};
 ghost use Rattle.lr_copy.specs.Copying.{Copied};
 ghost use Rattle.lr_copy.specs.Fits.{ArePaths};
@@ -16,12 +15,12 @@ ghost use Rattle.lr_copied.specs.Whole.{Named, WritersSpare, IsWhole};
 /// as it was last read, now and after each cut, whatever writers do that spare it.
 pub fn copy_is_whole()
     ensures { (job : Job) (count : ℕ) (p q : Past) (es : List Entry) → Made p es q → IsJournal p → ArePaths job
-        → IsFileAt (names (world p)) job.from → WritersSpare job p q → Named job count (reverse es) → IsWhole job.from job.to p q }
+        → WritersSpare job p q → Named job count (reverse es) → IsWhole job.from job.to p q }
 {}
 
 /// So it is just before the log is emptied; what is lost then is what was fed to the log since that read, and no more.
 pub fn copy_is_whole_before_cut()
     ensures { (job : Job) (count : ℕ) (p q : Past) (es : List Entry) → Made p es q → IsJournal p → ArePaths job
-        → IsFileAt (names (world p)) job.from → WritersSpare job p q → Copied job count (reverse es)
+        → WritersSpare job p q → Copied job count (reverse es)
         → (u : Past) → IsPrefix p u → IsPrefix (u ▸ entry.Truncates job.from) q → IsWhole job.from job.to p u }
 {}
