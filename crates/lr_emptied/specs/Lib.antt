@@ -1,0 +1,4 @@
+pub mod Emptied
+pub mod Jobs
+pub mod Steps
+pub mod Worked

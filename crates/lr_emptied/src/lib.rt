@@ -1,0 +1,14 @@
+//! What a run empties: each log that it truncates it copied whole just before.
+//!
+//! A law is the contract of a function without a body; begin with `acts_empty_copied` and `copies_are_whole`.
+//! `specs/Emptied.antt` has the words of entries, `Steps.antt` those of steps, and `Jobs.antt` says which copies a plan makes.
+#![tactic(auto)]
+
+mod laws;
+mod worked;
+
+pub use laws::{
+    acts_empty_copied, copies_are_whole, emptied_in_run, plan_copies_by_rules,
+    plan_steps_are_copies,
+};
+pub use worked::{copied_first_is_whole, emptied_at_once_is_not_whole};
