@@ -1,48 +1,37 @@
--- Where logs don't meet, what the one's steps change lies outside of the other's family; and sets of other logs are left as they were.
-use Rattle.std.proofs.Common.{◌≡◌, ◌≢◌, inl, inr, ⊎_elim, ℕ, Bool, true, false, not, cond, bytes_eq, refl, sym, ◌∙◌, ap, subst, List, [], ◌∷◌, ◌++◌, reverse, ℤ, Some, None}
-use Rattle.std.specs.Prelude.{filter, codes}
+-- Where logs don't meet, what the one's rotation changes lies outside of the other's family.
+use Rattle.std.proofs.Common.{◌≡◌, ◌≢◌, inl, inr, ⊎_elim, ℕ, ◌+◌, Bool, true, false, not, cond, bytes_eq, refl, sym, ◌∙◌, subst, Option, Some, None, List, [], ◌∷◌, ◌++◌}
+use Rattle.std.specs.Prelude.{codes}
 use Rattle.std.specs.List.{flat_map}
 use Rattle.std.proofs.lemmas.Slice.Eq.{bytes_eq-Decides}
 use Rattle.lr_rules.specs.declared.path.Path.{Path}
-use Rattle.lr_rules.specs.declared.civil.Moment.{Moment}
 use Rattle.lr_rules.specs.declared.rule.Count.{Count}
 use Rattle.lr_rules.specs.declared.rule.Naming.{Naming}
-use Rattle.lr_rules.specs.declared.rules.Rules.{Rules}
-use Rattle.lr_rules.specs.Names.{IsOwnName, the_log, IsName, Meet}
-use Rattle.lr_host.specs.declared.thing.Thing.TheVariants as thing
+use Rattle.lr_rules.specs.Names.{IsOwnName, the_log, a_part, IsName, Meet}
 use Rattle.lr_host.specs.declared.entry.Entry.{Entry}
 use Rattle.lr_host.specs.declared.entry.Entry.TheVariants as entry
 use Rattle.lr_host.specs.declared.entry.Entry.TheVariants.{Renames, Unlinks}
-use Rattle.lr_host.specs.World.{Past, ◌▸◌, world, names, put}
 use Rattle.lr_host.specs.Lists.{IsIn}
-use Rattle.lr_host.specs.Opening.{IsJournal}
-use Rattle.lr_host.specs.Safe.{IsSafe}
-use Rattle.lr_host.specs.Sets.{LogSet, in_set}
-use Rattle.lr_host.specs.Steady.{IsSteady, NoneAttached}
-use Rattle.lr_host.specs.Steps.{is_change}
-use Rattle.lr_host.specs.Told.{Each, IsTools, Made, at_first, by_writer, by_tool}
-use Rattle.lr_host.proofs.Each.{each_reverse, filter_reverse}
-use Rattle.std.proofs.lemmas.List.Elements.{filter-append}
+use Rattle.lr_host.specs.Told.{Each}
+use Rattle.lr_host.proofs.Each.{each_append}
 use Rattle.lr_host.proofs.Lists.{in_append}
-use Rattle.lr_host.proofs.Names.{put_other}
-use Rattle.lr_host.proofs.Quiet.{looked_names, no_disk_change, quiet_changes}
-use Rattle.lr_host.proofs.Steady.{none_attached}
 use Rattle.lr_laws.specs.Follow.{changed_paths}
-use Rattle.lr_laws.proofs.Writing.{attached_before, wrote_member}
+use Rattle.lr_family.specs.Named.{member_name}
 use Rattle.lr_family.specs.Spots.{path_at}
 use Rattle.lr_family.proofs.Numbers.{every_all, every_filter}
-use Rattle.lr_chain.specs.Rotation.{places_of, is_left, leftovers, kept, one_too_many, leftover_steps, shift_steps, turn_steps, retire_steps}
-use Rattle.lr_host.proofs.Each.{each_append}
-use Rattle.lr_rotations.specs.AllTurns.{IsOf, paths_of_others, other_paths, AllTurns}
+use Rattle.lr_copy.specs.declared.job.Job.{Job}
+use Rattle.lr_copy.specs.Copying.{clearing}
+use Rattle.lr_chain.specs.Rotation.{places_of, is_left, leftovers, kept, one_too_many, leftover_steps, shift_steps, retire_steps}
+use Rattle.lr_rotations.specs.AllTurns.{AlsoDoes, IsOf, part_paths, paths_of, paths_of_others, other_paths}
 use Rattle.lr_rotations.specs.Apart.{HasNames, HaveNames}
 use Rattle.lr_rotations.specs.Members.{IsFamily, HasName, IsNoMember}
 use Rattle.lr_rotations.specs.Rotated.{AreOutside}
-use Rattle.lr_rotations.specs.Target.{Target, rotation_of, IsOneOf}
+use Rattle.lr_rotations.specs.Target.{Target, transfer_of, rotation_of, IsOneOf}
 use Rattle.lr_rotations.proofs.Fitting.{kept_next, first_named, retire_named}
 use Rattle.lr_rotations.proofs.Members.{IsOfMembers, unlinks_of, moves_of}
-use Rattle.lr_rotations.proofs.Outside.{place_name}
-use Rattle.lr_rotations.proofs.Safety.{acts_apart}
-use Rattle.lr_rotations.proofs.Weaving.{each_in, IsApart, keyed}
+use Rattle.lr_rotations.proofs.Outside.{place_shape, place_name}
+use Rattle.lr_rotations.proofs.PartFile.{part_at, part_joined, job_target, job_part}
+use Rattle.lr_rotations.proofs.Rotating.{left_are, shift_are, retire_are, each_part}
+use Rattle.lr_rotations.proofs.Weaving.{each_in}
 
 -- ---- the paths of a rotation are own names
 
@@ -70,14 +59,44 @@ each_own : (log : Path) (n : Naming) (es : List Entry) → IsFamily log n → Ea
 each_own log n [] family a = tt
 each_own log n (e ∷ es) family a = (of_members log n family e a.0, each_own log n es family a.1)
 
+-- the path that the log comes to is one, and so is that of the part file before it
+part_own_name : (log : Path) (n : Naming) → IsFamily log n → HasName n 0 → IsOwnName log n (part_at n)
+part_own_name log n family first = a_part (member_name n (n.start + 0)) (place_shape n 0 family.numbered first) (part_joined n)
+
+pub part_own : (t : Target) → HasNames t → (job : Job) → t.job ≡ Some job → IsOwnName t.log t.naming job.part
+part_own t h job is = subst (IsOwnName t.log t.naming) (sym (job_part t job h.ready (h.job job is))) (part_own_name t.log t.naming h.family (first_named t.naming t.count (places_of t.stand.members) h.next))
+
+pub to_own : (t : Target) → HasNames t → (job : Job) → t.job ≡ Some job → IsOwnName t.log t.naming job.to
+to_own t h job is = member_own t.log t.naming h.family job.to 0 (first_named t.naming t.count (places_of t.stand.members) h.next) (job_target t job h.ready (h.job job is))
+
+transfer_own : (t : Target) → HasNames t → (j : Option Job) → t.job ≡ j → Each (AllOwn t.log t.naming) (transfer_of t.ready j)
+transfer_own t h None is = (
+  subst (λ (x : Path). AllOwn t.log t.naming (Renames x t.ready.target)) (sym h.ready.log_is)
+      (subst (λ (x : Path). AllOwn t.log t.naming (Renames t.log x)) (sym h.ready.target_is) (of_rename t.log t.naming h.family (first_named t.naming t.count (places_of t.stand.members) h.next))),
+  tt,
+)
+transfer_own t h (Some job) is = each_append (AllOwn t.log t.naming) (clearing job) (Renames job.part job.to ∷ []) (cleared job.stale) (moved, tt)
+  where
+    dropped : AllOwn t.log t.naming (Unlinks job.part)
+    dropped x (inl e) = subst (IsOwnName t.log t.naming) e (part_own t h job is)
+    dropped x (inr none) = absurd none
+
+    cleared : (b : Bool) → Each (AllOwn t.log t.naming) (cond b (Unlinks job.part ∷ []) [])
+    cleared true = (dropped, tt)
+    cleared false = tt
+
+    moved : AllOwn t.log t.naming (Renames job.part job.to)
+    moved x (inl e) = subst (IsOwnName t.log t.naming) e (part_own t h job is)
+    moved x (inr (inl e)) = subst (IsOwnName t.log t.naming) e (to_own t h job is)
+    moved x (inr (inr none)) = absurd none
+
 pub own_paths : (t : Target) → HasNames t → Each (AllOwn t.log t.naming) (rotation_of t)
-own_paths t h =
-    each_append P (leftover_steps n c ps) (turn_steps n c t.log ps ++ retire_steps n c ps) (each_own t.log n (leftover_steps n c ps) h.family (unlinks_of n (leftovers c ps) (every_filter (HasName n) (is_left c) ps (every_all (HasName n) ps h.named))))
-    (each_append P (turn_steps n c t.log ps) (retire_steps n c ps)
-    (each_append P (shift_steps n c ps) (Renames t.log (path_at n 0) ∷ [])
-    (each_own t.log n (shift_steps n c ps) h.family (moves_of n (kept c ps) (every_filter (HasName n) (λ k. not (is_left c k)) ps (every_all (HasName n) ps h.named)) (kept_next n c ps h.next)))
-    (of_rename t.log n h.family (first_named n c ps h.next), tt))
-    (each_own t.log n (retire_steps n c ps) h.family (unlinks_of n (one_too_many c ps) (retire_named n c ps h.next))))
+own_paths t h = each_part P t
+    (subst (Each P) (sym (left_are t h.ready)) (each_own t.log n (leftover_steps n c ps) h.family (unlinks_of n (leftovers c ps) (every_filter (HasName n) (is_left c) ps (every_all (HasName n) ps h.named)))))
+    (subst (Each P) (sym (shift_are t h.ready))
+    (each_own t.log n (shift_steps n c ps) h.family (moves_of n (kept c ps) (every_filter (HasName n) (λ k. not (is_left c k)) ps (every_all (HasName n) ps h.named)) (kept_next n c ps h.next))))
+    (transfer_own t h t.job refl)
+    (subst (Each P) (sym (retire_are t h.ready)) (each_own t.log n (retire_steps n c ps) h.family (unlinks_of n (one_too_many c ps) (retire_named n c ps h.next))))
   where
     n : Naming
     n = t.naming
@@ -91,15 +110,36 @@ own_paths t h =
     P : Entry → Type 0
     P = AllOwn t.log t.naming
 
+-- of all that is done besides
+also_own : (t : Target) (e : Entry) → HasNames t → AlsoDoes t e → AllOwn t.log t.naming e
+also_own t (entry.Makes y mode) h (inl is) x (inl same) = the_log (sym same ∙ is)
+also_own t (entry.Makes y mode) h (inl is) x (inr none) = absurd none
+also_own t (entry.Makes y mode) h (inr p) x (inl same) = subst (IsOwnName t.log t.naming) (sym p.2 ∙ same) (part_own t h p.0 p.1)
+also_own t (entry.Makes y mode) h (inr p) x (inr none) = absurd none
+also_own t (entry.Appends y bytes) h p x (inl same) = subst (IsOwnName t.log t.naming) (sym p.2 ∙ same) (part_own t h p.0 p.1)
+also_own t (entry.Appends y bytes) h p x (inr none) = absurd none
+also_own t (entry.Truncates y) h p x (inl same) = the_log (sym same ∙ p.1)
+also_own t (entry.Truncates y) h p x (inr none) = absurd none
+also_own t _ h none x i = absurd none
+
 -- of all that is done to the log
 pub own_change : (t : Target) (e : Entry) → HasNames t → IsOf t e → AllOwn t.log t.naming e
 own_change t e h (inl i) = each_in (AllOwn t.log t.naming) (rotation_of t) e (own_paths t h) i
-own_change t (entry.Makes y mode) h (inr is) = λ x i. ⊎_elim (λ same. the_log (sym same ∙ is)) (λ none. absurd none) i
-own_change t _ h (inr none) = absurd none
+own_change t e h (inr also) = also_own t e h also
 
 in_flat : (log : Path) (n : Naming) (es : List Entry) (x : Path) → Each (AllOwn log n) es → IsIn x (flat_map changed_paths es) → IsOwnName log n x
 in_flat log n [] x a i = absurd i
 in_flat log n (e ∷ es) x a i = ⊎_elim (λ h. a.0 x h) (λ h. in_flat log n es x a.1 h) (in_append x (changed_paths e) (flat_map changed_paths es) i)
+
+in_parts : (t : Target) → HasNames t → (j : Option Job) → t.job ≡ j → (x : Path) → IsIn x (part_paths j) → IsOwnName t.log t.naming x
+in_parts t h None is x i = absurd i
+in_parts t h (Some job) is x (inl same) = subst (IsOwnName t.log t.naming) same (part_own t h job is)
+in_parts t h (Some job) is x (inr none) = absurd none
+
+-- all paths of a rotation are own names
+in_own : (t : Target) → HasNames t → (x : Path) → IsIn x (paths_of t) → IsOwnName t.log t.naming x
+in_own t h x (inl is) = the_log (sym is)
+in_own t h x (inr i) = ⊎_elim (λ j. in_parts t h t.job refl x j) (λ j. in_flat t.log t.naming (rotation_of t) x (own_paths t h) j) (in_append x (part_paths t.job) (flat_map changed_paths (rotation_of t)) i)
 
 -- ---- outside of a family
 
@@ -115,50 +155,11 @@ module _ (state : Path) (t : Target) (family : IsFamily t.log t.naming) where
       differ : bytes_eq x.log t.log ≡ false → x.log ≢ t.log
       differ e same = let yes : bytes_eq x.log t.log ≡ true = (bytes_eq-Decides x.log t.log).1 same in cc
 
-      go : (IsIn y (paths_of_others t.log xs) → ⊥) → (b : Bool) → bytes_eq x.log t.log ≡ b → IsIn y (cond b (paths_of_others t.log xs) (flat_map changed_paths (rotation_of x) ++ paths_of_others t.log xs)) → ⊥
+      go : (IsIn y (paths_of_others t.log xs) → ⊥) → (b : Bool) → bytes_eq x.log t.log ≡ b → IsIn y (cond b (paths_of_others t.log xs) (paths_of x ++ paths_of_others t.log xs)) → ⊥
       go further true e i = further i
-      go further false e i = ⊎_elim (λ j. apart x (inl refl) (differ e) (y, inl (in_flat x.log x.naming (rotation_of x) y (own_paths x h.0) j, inl own))) further
-          (in_append y (flat_map changed_paths (rotation_of x)) (paths_of_others t.log xs) i)
+      go further false e i = ⊎_elim (λ j. apart x (inl refl) (differ e) (y, inl (in_own x h.0 y j, inl own))) further (in_append y (paths_of x) (paths_of_others t.log xs) i)
 
   pub outside : (ts : List Target) → HaveNames ts → ((x : Target) → IsOneOf x ts → x.log ≢ t.log → Meet x.log x.naming t.log t.naming → ⊥) → (IsName t.log t.naming state → ⊥) → (IsName t.log t.naming (state ++ codes ".tmp") → ⊥) → AreOutside (other_paths state t.log ts) t.log t.naming
   outside ts h apart no_state no_part x (inl is) = no_name_outside x (λ own. no_state (inl (subst (IsOwnName t.log t.naming) (sym is) own)))
   outside ts h apart no_state no_part x (inr (inl is)) = no_name_outside x (λ own. no_part (inl (subst (IsOwnName t.log t.naming) (sym is) own)))
   outside ts h apart no_state no_part x (inr (inr i)) = no_name_outside x (λ own. others_out ts h apart x i own)
-
--- ---- sets of other logs
-
-clash : (b : Bool) → b ≡ true → b ≡ false → ⊥
-clash b p q = cc
-
--- an entry apart leaves the names of the set alone
-apart_names : (s : LogSet) (q : Past) (e : Entry) (y : Path) → IsTools e → is_change e ≡ true → IsApart s e → in_set s y ≡ true → names (world (q ▸ e)) y ≡ names (world q) y
-apart_names s q (Renames from to) y i c out h =
-    put_other (put (names (world q)) from thing.Nothing) to y (names (world q) from) (λ same. clash (in_set s y) h (ap (in_set s) same ∙ out.1))
-    ∙ put_other (names (world q)) from y thing.Nothing (λ same. clash (in_set s y) h (ap (in_set s) same ∙ out.0))
-apart_names s q (Unlinks x) y i c out h = put_other (names (world q)) x y thing.Nothing (λ same. clash (in_set s y) h (ap (in_set s) same ∙ out))
-apart_names s q (entry.MakesDir x mode) y i c out h = put_other (names (world q)) x y thing.Directory (λ same. clash (in_set s y) h (ap (in_set s) same ∙ out))
-apart_names s q (entry.Makes x mode) y i c out h = put_other (names (world q)) x y (thing.File (world q).drawn) (λ same. clash (in_set s y) h (ap (in_set s) same ∙ out))
-apart_names s q (entry.Appends x bytes) y i c out h = refl
-apart_names s q (entry.Truncates x) y i c out h = refl
-apart_names s q (entry.Starts state now rules) y i c out h = absurd out
-apart_names s q _ y i c out h = absurd (cc)
-
--- a member names what it named
-same_walk : (s : LogSet) (y : Path) (k : ℤ) → s.key y ≡ Some k → (p q : Past) (es : List Entry) → Made p es q → Each (IsApart s) (filter is_change es) → NoneAttached s q → names (world q) y ≡ names (world p) y
-same_walk s y k key p _ _ at_first a none = refl
-same_walk s y k key p _ es (by_writer {q = q} {e = e} m i f) a none = wrote_member s q e y k i none key ∙ same_walk s y k key p q es m a (attached_before s q e none)
-same_walk s y k key p _ _ (by_tool {es = es} {q = q} {e = e} m i f) a none = go (λ a. same_walk s y k key p q es m a (attached_before s q e none)) (is_change e) refl a
-  where
-    go : (Each (IsApart s) (filter is_change es) → names (world q) y ≡ names (world p) y) → (b : Bool) → is_change e ≡ b → Each (IsApart s) (cond b (e ∷ filter is_change es) (filter is_change es)) → names (world (q ▸ e)) y ≡ names (world p) y
-    go further true h a = apart_names s q e y i h a.0 (keyed s y k key) ∙ further a.1
-    go further false h a = looked_names q e y i (no_disk_change e h) ∙ further a
-
-pub others_left : (s : LogSet) (u q : Past) (state : Path) (now : Moment) (rules : Rules) (tail : List Entry) (t : AllTurns state rules tail) → Made (u ▸ entry.Starts state now rules) (reverse tail) q
-    → IsJournal (u ▸ entry.Starts state now rules) → IsSafe s (u ▸ entry.Starts state now rules) → IsSteady s q → ((x : Target) → IsOneOf x t.targets → x.log ≢ s.log) → (y : Path) (k : ℤ) → s.key y ≡ Some k → names (world q) y ≡ names (world u) y
-others_left s u q state now rules tail t m journal safe st ne y k key = same_walk s y k key (u ▸ entry.Starts state now rules) q (reverse tail) m apart (none_attached s q st)
-  where
-    changes : filter is_change tail ≡ filter is_change t.acts
-    changes = ap (filter is_change) t.joined ∙ (filter-append is_change t.looks t.acts ∙ ap (λ xs. xs ++ filter is_change t.acts) (quiet_changes t.looks t.quiet))
-
-    apart : Each (IsApart s) (filter is_change (reverse tail))
-    apart = subst (Each (IsApart s)) (sym (filter_reverse is_change tail)) (each_reverse (IsApart s) (filter is_change tail) (subst (Each (IsApart s)) (sym changes) (acts_apart s u q state now rules tail t m journal safe st ne)))

@@ -35,6 +35,7 @@ use Rattle.lr_host.proofs.Quiet.{IsAny, quiet_more, made_quiet, since_any, quiet
 use Rattle.lr_host.proofs.Lists.{in_from, in_to, in_unmap, from_reverse}
 use Rattle.lr_family.specs.declared.stand.Member.{Member}
 use Rattle.lr_family.specs.Stands.{number_in}
+use Rattle.lr_copy.specs.declared.job.Job.{Job}
 use Rattle.lr_chain.specs.Rotation.{places_of}
 use Rattle.lr_rotations.specs.Members.{HasName, HaveNext}
 use Rattle.lr_rotations.specs.Target.{Gives, IsGiven, IsOneTooHigh}
@@ -89,8 +90,8 @@ pub still_file : (u v : Past) (before : List Entry) (x : Path) → AreQuiet befo
 still_file u v before x quiet m file = file_more (names (world u)) (names (world v)) x
     (quiet_more IsAny u v (made_quiet IsAny u v (reverse before) (since_any u v (reverse before) m) m (still_reverse before (quiet_still before quiet)))) file
 
-pub gives : (u v : Past) (rules : List Rule) (looks : List Entry) (log : Path) (n : Naming) (c : Count) → AreQuiet looks → Made u (reverse looks) v → (g : IsGiven rules looks log n c) → RuleGives g.rule log
-gives u v rules looks log n c quiet m g =
+pub gives : (u v : Past) (rules : List Rule) (looks : List Entry) (log : Path) (n : Naming) (c : Count) (job : Option Job) → AreQuiet looks → Made u (reverse looks) v → (g : IsGiven rules looks log n c job) → RuleGives g.rule log
+gives u v rules looks log n c job quiet m g =
     let t = stretch u v looks (Gives rules g.rule g.word log) quiet m g.given in
     (g.has.0, g.word, g.has.1, g.has.2, t.is.gives t.from t.to (reverse t.part) t.made (sym (reverse-reverse t.part)))
 
@@ -128,9 +129,9 @@ journal_before p _ es (by_writer {q = q} m i f) j = journal_before p q es m j.0
 journal_before p _ _ (by_tool {es = es} {q = q} m i f) j = journal_before p q es m j.0
 
 -- a set of another log, that is steady where the log names a file, doesn't meet the log's
-pub no_meet : (s : LogSet) (u v : Past) (rules : List Rule) (looks : List Entry) (log : Path) (n : Naming) (c : Count) → AreQuiet looks → Made u (reverse looks) v → ((x : Path) → StoodAtStart x u → IsFileAt (names (world u)) x) → n.dated ≡ None
-    → IsJournal v → IsSteadyAt s v → rules_of v ≡ rules → IsGiven rules looks log n c → IsFileAt (names (world v)) log → log ≢ s.log → Meet s.log s.naming log n → ⊥
-no_meet s u v rules looks log n c quiet m begun numbered journal steady is g file other meet =
+pub no_meet : (s : LogSet) (u v : Past) (rules : List Rule) (looks : List Entry) (log : Path) (n : Naming) (c : Count) (job : Option Job) → AreQuiet looks → Made u (reverse looks) v → ((x : Path) → StoodAtStart x u → IsFileAt (names (world u)) x) → n.dated ≡ None
+    → IsJournal v → IsSteadyAt s v → rules_of v ≡ rules → IsGiven rules looks log n c job → IsFileAt (names (world v)) log → log ≢ s.log → Meet s.log s.naming log n → ⊥
+no_meet s u v rules looks log n c job quiet m begun numbered journal steady is g file other meet =
     none.4.1 member.0 (subst (λ (k : Naming). IsMemberAt k member.0 log) (sym (named none.1 (none.0, none.2, none.3) none.4.0)) member.1)
   where
     t : Stretch u (Gives rules g.rule g.word log)
@@ -168,16 +169,24 @@ no_meet s u v rules looks log n c quiet m begun numbered journal steady is g fil
     none = t.is.alone t.from t.to (reverse t.part) t.made (made_journal u t.from (reverse t.before) t.ahead (journal_before u v (reverse looks) m journal)) (sym (reverse-reverse t.part)) wild.0 s.log member.0 (λ e. other (sym e)) s.log_path wild.1 stood
         (subst (λ (k : Naming). IsMemberAt k member.0 log) (sym naming) member.1)
 
--- the rule gives the set of its log the naming that the set has
-pub naming_same : (s : LogSet) (v : Past) (rules : List Rule) (looks : List Entry) (log : Path) (n : Naming) (c : Count) → IsSteadyAt s v → rules_of v ≡ rules → (g : IsGiven rules looks log n c) → RuleGives g.rule log → s.log ≡ log → s.naming ≡ n
-naming_same s v rules looks log n c steady is g h same =
-    sym (all_in (λ (r : Rule). RuleGives r s.log → (r.way ≡ Rename) × (naming_of r s.log ≡ s.naming)) rules g.rule
+-- where the set is steady, the rule that gives its log rotates it by rename and gives it the set's naming
+of_steady : (s : LogSet) (v : Past) (rules : List Rule) (looks : List Entry) (log : Path) (n : Naming) (c : Count) (job : Option Job) → IsSteadyAt s v → rules_of v ≡ rules → (g : IsGiven rules looks log n c job) → RuleGives g.rule log → s.log ≡ log
+    → (g.rule.way ≡ Rename) × (naming_of g.rule s.log ≡ s.naming)
+of_steady s v rules looks log n c job steady is g h same =
+    all_in (λ (r : Rule). RuleGives r s.log → (r.way ≡ Rename) × (naming_of r s.log ≡ s.naming)) rules g.rule
     (subst (All (λ (r : Rule). RuleGives r s.log → (r.way ≡ Rename) × (naming_of r s.log ≡ s.naming))) is steady.rules) g.among
-    (subst (λ (x : Path). RuleGives g.rule x) (sym same) h)).1
-    ∙ (ap (naming_of g.rule) same ∙ g.naming_is)
+    (subst (λ (x : Path). RuleGives g.rule x) (sym same) h)
 
-pub counts : (v : Past) (rules : List Rule) (looks : List Entry) (log : Path) (n : Naming) (c : Count) → rules_of v ≡ rules → (g : IsGiven rules looks log n c) → RuleGives g.rule log → SomeRule (rules_of v) log (λ r. r.count ≡ c)
-counts v rules looks log n c is g h = subst (λ (rs : List Rule). SomeRule rs log (λ r. r.count ≡ c)) (sym is) (g.among.0, g.rule, g.among.1, g.among.2, (h, g.count_is))
+-- the rule gives the set of its log the naming that the set has
+pub naming_same : (s : LogSet) (v : Past) (rules : List Rule) (looks : List Entry) (log : Path) (n : Naming) (c : Count) (job : Option Job) → IsSteadyAt s v → rules_of v ≡ rules → (g : IsGiven rules looks log n c job) → RuleGives g.rule log → s.log ≡ log → s.naming ≡ n
+naming_same s v rules looks log n c job steady is g h same = sym (of_steady s v rules looks log n c job steady is g h same).1 ∙ (ap (naming_of g.rule) same ∙ g.naming_is)
+
+-- and its log isn't copied
+pub no_copy : (s : LogSet) (v : Past) (rules : List Rule) (looks : List Entry) (log : Path) (n : Naming) (c : Count) (job : Option Job) → IsSteadyAt s v → rules_of v ≡ rules → (g : IsGiven rules looks log n c job) → RuleGives g.rule log → s.log ≡ log → job ≡ None
+no_copy s v rules looks log n c job steady is g h same = g.way_is.0 (of_steady s v rules looks log n c job steady is g h same).0
+
+pub counts : (v : Past) (rules : List Rule) (looks : List Entry) (log : Path) (n : Naming) (c : Count) (job : Option Job) → rules_of v ≡ rules → (g : IsGiven rules looks log n c job) → RuleGives g.rule log → SomeRule (rules_of v) log (λ r. r.count ≡ c)
+counts v rules looks log n c job is g h = subst (λ (rs : List Rule). SomeRule rs log (λ r. r.count ≡ c)) (sym is) (g.among.0, g.rule, g.among.1, g.among.2, (h, g.count_is))
 
 -- ---- the numbers of places
 
@@ -207,8 +216,8 @@ limits rules r h e = record { count = both.0; start = both.1 }
     both = third_and_eighth (list_all is_log_word r.words) (is_criterion r.criterion) (is_count r.count) (or_none is_small r.maxage) (or_none is_small r.minage) (or_none is_size r.minsize) (or_none is_size r.maxsize) (is_small r.start) _ all
 
 -- where no member is at the highest number, each place that is come to has a name
-pub have_next : (rules : Rules) (looks : List Entry) (log : Path) (n : Naming) (c : Count) (members : List Member) → IsGiven rules.sets looks log n c → All (HasName n) (places_of members) → (IsOneTooHigh n c members → ⊥) → HaveNext n c (places_of members)
-have_next rules looks log n c members one named low = go c refl
+pub have_next : (rules : Rules) (looks : List Entry) (log : Path) (n : Naming) (c : Count) (job : Option Job) (members : List Member) → IsGiven rules.sets looks log n c job → All (HasName n) (places_of members) → (IsOneTooHigh n c members → ⊥) → HaveNext n c (places_of members)
+have_next rules looks log n c job members one named low = go c refl
   where
     l : Limits one.rule
     l = limits rules.sets one.rule rules.limits one.among

@@ -1,10 +1,13 @@
+pub mod Alike
 pub mod Alone
 pub mod Apart
+pub mod CopyFits
 pub mod Drawn
 pub mod FamilyRotated
 pub mod Fed
 pub mod Fitting
 pub mod Given
+pub mod LeftAlone
 pub mod Members
 pub mod Moments
 pub mod Never
@@ -12,7 +15,9 @@ pub mod OrMade
 pub mod Others
 pub mod Outside
 pub mod Over
+pub mod PartFile
 pub mod Paths
+pub mod Rotating
 pub mod Safety
 pub mod SeenFits
 pub mod Shapes

@@ -1,5 +1,5 @@
 -- What looks showed of a log and its members is so behind them, and was so before them, where the tool changed nothing of the disk.
-use Rattle.std.proofs.Common.{◌≡◌, inl, inr, ⊎_elim, ℕ, ◌+◌, true, pos, refl, sym, ◌∙◌, subst, List, ◌++◌, reverse, Option, Some, None, ℤ, Contains, ap, get_or}
+use Rattle.std.proofs.Common.{◌≡◌, inl, inr, ⊎_elim, ℕ, ◌+◌, pos, refl, sym, ◌∙◌, subst, List, ◌++◌, reverse, Option, Some, None, ℤ, Contains, ap, get_or}
 use Rattle.std.proofs.lemmas.List.Elements.{All-contains_itself}
 use Rattle.lr_rules.specs.declared.path.Path.{Path}
 use Rattle.lr_rules.specs.declared.rule.Naming.{Naming}
@@ -14,12 +14,9 @@ use Rattle.lr_host.specs.Told.{Made}
 use Rattle.lr_host.specs.Sets.{LogSet}
 use Rattle.lr_host.specs.Steady.{NoneAttached, IsKeyless}
 use Rattle.lr_host.proofs.More.{file_more, directory_more, dir_before}
-use Rattle.lr_family.specs.declared.stand.Stand.{Stand}
 use Rattle.lr_family.specs.Named.{member_name}
 use Rattle.lr_family.specs.Spots.{path_at}
 use Rattle.lr_host.specs.Looks.{Sees, IsFile}
-use Rattle.lr_family.specs.Stands.{ShowsStand}
-use Rattle.lr_chain.specs.Rotation.{places_of}
 use Rattle.lr_rotations.specs.Members.{IsFamily, HasName, AreThere, IsNoMember, NoMemberAttached}
 use Rattle.lr_rotations.specs.Weave.{Among}
 use Rattle.lr_host.specs.Lists.{IsIn}
@@ -29,7 +26,6 @@ use Rattle.lr_host.proofs.Quiet.{quiet_still, still_in_order, since_as, since_of
 use Rattle.lr_host.proofs.Looked.{seen_file, seen_none, is_nothing}
 use Rattle.lr_rotations.proofs.Paths.{name_part}
 use Rattle.lr_rotations.specs.Shown.{Shown}
-use Rattle.lr_rotations.proofs.Shown.{shown}
 use Rattle.lr_rotations.proofs.Turning.{numbered, key_at}
 
 in_among : (e : Entry) (ts before part after : List Entry) → ts ≡ before ++ (part ++ after) → IsIn e part → IsIn e ts
@@ -46,9 +42,6 @@ shown_in n places ts us more s = record {
   files = λ place c. let f = s.files place c in (f.0, f.1, more _ f.2);
   others = λ place i out. ⊎_elim (λ absent. inl absent) (λ h. inr (more _ h)) (s.others place i out);
 }
-
-pub among_shown : (n : Naming) (stand : Stand) (ts : List Entry) → stand.there ≡ true → Among (ShowsStand n stand) ts → Shown n (places_of stand.members) ts
-among_shown n stand ts there a = shown_in n (places_of stand.members) a.part ts (λ e h. in_among e ts a.before a.part a.after a.joined h) (shown n stand a.part there a.is)
 
 -- a look at this path saw a file
 abbrev pub SawFile : Path → List Entry → Type 0
@@ -123,7 +116,3 @@ shown_members s p q es places family m quiet none w =
 
     no_member : (x : Path) → IsKeyless s x → IsNoMember s.naming x
     no_member x none place i same = clash (s.key x) (pos place) (ap s.key same ∙ key_at s place (numbered s family) i) none
-
-pub saw_members : (s : LogSet) (p q : Past) (es : List Entry) (stand : Stand) → IsFamily s.log s.naming → Made p es q → AreQuiet (reverse es) → NoneAttached s q → stand.there ≡ true → Among (ShowsStand s.naming stand) (reverse es)
-    → AreThere s.naming (names (world q)) (places_of stand.members)
-saw_members s p q es stand family m quiet none there a = shown_members s p q es (places_of stand.members) family m quiet none (among_shown s.naming stand (reverse es) there a)

@@ -1,5 +1,5 @@
 -- What stands between a log's own steps is on the paths of other logs and of the state.
-use Rattle.std.proofs.Common.{◌≡◌, ◌⊎◌, inl, inr, ℕ, Bool, true, false, cond, bytes_eq, refl, sym, ◌∙◌, ap, subst, List, [], ◌∷◌, ◌++◌, append_assoc}
+use Rattle.std.proofs.Common.{◌≡◌, ◌⊎◌, inl, inr, Bool, true, false, cond, bytes_eq, refl, sym, ◌∙◌, ap, subst, Option, Some, None, List, [], ◌∷◌, ◌++◌, append_assoc}
 use Rattle.std.specs.Prelude.{filter}
 use Rattle.std.specs.List.{flat_map}
 use Rattle.std.proofs.lemmas.Slice.Eq.{bytes_eq-Decides}
@@ -18,15 +18,15 @@ use Rattle.lr_host.proofs.Each.{all_pass}
 use Rattle.lr_host.proofs.Lists.{in_front, in_back}
 use Rattle.lr_host.proofs.Quiet.{disk_of_changes, quiet_still, still_both}
 use Rattle.lr_laws.specs.Follow.{changed_paths}
-use Rattle.lr_family.specs.Spots.{path_at}
-use Rattle.lr_chain.specs.Rotation.{places_of, leftover_steps, shift_steps, turn_steps, retire_steps}
-use Rattle.lr_chain.proofs.Steps.{each_rotation}
-use Rattle.lr_rotations.specs.AllTurns.{IsStatePath, IsOfState, IsOf, IsOfOther, StandsBetween, paths_of_others, other_paths, AllTurned}
+use Rattle.lr_copy.specs.declared.job.Job.{Job}
+use Rattle.lr_chain.specs.Rotation.{places_of}
+use Rattle.lr_rotations.specs.AllTurns.{IsStatePath, IsOfState, IsPartFile, AlsoDoes, IsOf, IsOfOther, StandsBetween, part_paths, paths_of, paths_of_others, other_paths, AllTurned}
 use Rattle.lr_rotations.specs.Rotated.{IsOn, MakesAt, IsBeside, RotatesAmong}
 use Rattle.lr_rotations.specs.Target.{Target, rotation_of, IsSeen, AreSeen, IsOneOf}
 use Rattle.lr_rotations.specs.Weave.{Among, Weave}
-use Rattle.lr_rotations.proofs.Fed.{IsTurn, IsTurnOrMake}
+use Rattle.lr_rotations.proofs.Fed.{IsTurn}
 use Rattle.lr_rotations.proofs.Moments.{shown_in}
+use Rattle.lr_rotations.proofs.Rotating.{rotation_is, each_turn}
 use Rattle.lr_rotations.proofs.Splitting.{weave_each}
 use Rattle.lr_rotations.proofs.Weaving.{weave_as, each_in}
 
@@ -53,21 +53,43 @@ in_on (x ∷ xs) e (inl is) t = on_more (changed_paths e) (flat_map changed_path
 in_on (x ∷ xs) e (inr i) t = on_more (flat_map changed_paths xs) (flat_map changed_paths (x ∷ xs)) e (λ y h. in_back y (changed_paths x) (flat_map changed_paths xs) h) (in_on xs e i t)
 
 pub rotation_turns : (t : Target) → Each IsTurn (rotation_of t)
-rotation_turns t = each_rotation IsTurn (λ x. tt) (λ x y. tt) t.naming t.count t.log (places_of t.stand.members)
+rotation_turns t = each_turn IsTurn (λ x. tt) (λ x y. tt) t
 
-turn_or_make : (e : Entry) → IsTurn e → IsTurnOrMake e
-turn_or_make (Renames from to) t = tt
-turn_or_make (Unlinks x) t = tt
-turn_or_make _ t = absurd t
+-- the entry renames or unlinks a file, or makes, fills or empties one
+abbrev pub IsFileChange : Entry → Type 0
+IsFileChange (Renames from to) = Unit {0}
+IsFileChange (Unlinks x) = Unit {0}
+IsFileChange (Makes x mode) = Unit {0}
+IsFileChange (Appends x bytes) = Unit {0}
+IsFileChange (Truncates x) = Unit {0}
+IsFileChange _ = ⊥
 
-make_or_turn : (log : Path) (e : Entry) → MakesAt log e → IsTurnOrMake e
-make_or_turn log (Makes x mode) is = tt
-make_or_turn log _ is = absurd is
+turn_changes : (e : Entry) → IsTurn e → IsFileChange e
+turn_changes (Renames from to) t = tt
+turn_changes (Unlinks x) t = tt
+turn_changes _ t = absurd t
 
--- all that is done to a log is a rename, an unlink or the making of a file
-pub own_turns : (t : Target) (e : Entry) → IsOf t e → IsTurnOrMake e
-own_turns t e (inl i) = turn_or_make e (each_in IsTurn (rotation_of t) e (rotation_turns t) i)
-own_turns t e (inr anew) = make_or_turn t.log e anew
+also_changes : (t : Target) (e : Entry) → AlsoDoes t e → IsFileChange e
+also_changes t (Makes x mode) h = tt
+also_changes t (Appends x bytes) h = tt
+also_changes t (Truncates x) h = tt
+also_changes t _ h = absurd h
+
+-- all that is done to a log is such a change
+pub own_turns : (t : Target) (e : Entry) → IsOf t e → IsFileChange e
+own_turns t e (inl i) = turn_changes e (each_in IsTurn (rotation_of t) e (rotation_turns t) i)
+own_turns t e (inr also) = also_changes t e also
+
+-- where it isn't copied, it is made anew besides, and nothing more
+no_job : (j : Option Job) (job : Job) → j ≡ Some job → j ≡ None → ⊥
+no_job j job a b = cc
+
+pub also_made : (t : Target) (e : Entry) → t.job ≡ None → AlsoDoes t e → MakesAt t.log e
+also_made t (Makes x mode) none (inl is) = is
+also_made t (Makes x mode) none (inr p) = absurd (no_job t.job p.0 p.1 none)
+also_made t (Appends x bytes) none p = absurd (no_job t.job p.0 p.1 none)
+also_made t (Truncates x) none p = absurd (no_job t.job p.0.0 p.0.1 none)
+also_made t _ none h = absurd h
 
 -- what holds of the one list or of the other, holds of those of all other logs
 either : (b : Bool) (log other : Path) (xs ys : List Path) (x : Path) → bytes_eq other log ≡ b → IsIn x xs ⊎ IsIn x ys → ((b ≡ true) → IsIn x xs → ⊥) → IsIn x (cond b ys (xs ++ ys))
@@ -76,41 +98,29 @@ either true log other xs ys x e (inr i) differ = i
 either false log other xs ys x e (inl i) differ = in_front x xs ys i
 either false log other xs ys x e (inr i) differ = in_back x xs ys i
 
--- the log is a path of its rotation
-in_flat : (x : Path) (e : Entry) (es : List Entry) → IsIn e es → IsIn x (changed_paths e) → IsIn x (flat_map changed_paths es)
-in_flat x e [] i h = absurd i
-in_flat x e (d ∷ es) (inl is) h = in_front x (changed_paths d) (flat_map changed_paths es) (subst (λ (c : Entry). IsIn x (changed_paths c)) (sym is) h)
-in_flat x e (d ∷ es) (inr i) h = in_back x (changed_paths d) (flat_map changed_paths es) (in_flat x e es i h)
+part_in : (t : Target) (x : Path) → IsPartFile t x → IsIn x (paths_of t)
+part_in t x p = inr (in_front x (part_paths t.job) (flat_map changed_paths (rotation_of t)) (subst (λ (j : Option Job). IsIn x (part_paths j)) (sym p.1) (inl (sym p.2))))
 
-log_in : (t : Target) → IsIn t.log (flat_map changed_paths (rotation_of t))
-log_in t = in_flat t.log turn (rotation_of t)
-    (in_back turn (leftover_steps t.naming t.count places) (turn_steps t.naming t.count t.log places ++ retire_steps t.naming t.count places)
-    (in_front turn (turn_steps t.naming t.count t.log places) (retire_steps t.naming t.count places) (in_back turn (shift_steps t.naming t.count places) (turn ∷ []) (inl refl)))) (inl refl)
-  where
-    places : List ℕ
-    places = places_of t.stand.members
+also_on : (t : Target) (e : Entry) → AlsoDoes t e → IsOn (paths_of t) e
+also_on t (Makes x mode) (inl is) = inl (sym is)
+also_on t (Makes x mode) (inr p) = part_in t x p
+also_on t (Appends x bytes) p = part_in t x p
+also_on t (Truncates x) p = inl (sym p.1)
+also_on t _ h = absurd h
 
-    turn : Entry
-    turn = Renames t.log (path_at t.naming 0)
-
--- what is made at one of these paths is on them
-made_on : (paths : List Path) (log : Path) (e : Entry) → IsIn log paths → MakesAt log e → IsOn paths e
-made_on paths log (Makes x mode) i is = subst (λ (y : Path). IsIn y paths) (sym is) i
-made_on paths log _ i is = absurd is
-
-own_on : (t : Target) (e : Entry) → IsOf t e → IsOn (flat_map changed_paths (rotation_of t)) e
-own_on t e (inl i) = in_on (rotation_of t) e i (each_in IsTurn (rotation_of t) e (rotation_turns t) i)
-own_on t e (inr anew) = made_on (flat_map changed_paths (rotation_of t)) t.log e (log_in t) anew
+own_on : (t : Target) (e : Entry) → IsOf t e → IsOn (paths_of t) e
+own_on t e (inl i) = on_more (flat_map changed_paths (rotation_of t)) (paths_of t) e (λ x j. inr (in_back x (part_paths t.job) (flat_map changed_paths (rotation_of t)) j)) (in_on (rotation_of t) e i (each_in IsTurn (rotation_of t) e (rotation_turns t) i))
+own_on t e (inr also) = also_on t e also
 
 other_on : (log : Path) (ts : List Target) (e : Entry) → IsOfOther log ts e → IsOn (paths_of_others log ts) e
 other_on log [] e h = absurd h
-other_on log (t ∷ ts) e (inl h) = on_more (flat_map changed_paths (rotation_of t)) (paths_of_others log (t ∷ ts)) e
-    (λ x i. either (bytes_eq t.log log) log t.log (flat_map changed_paths (rotation_of t)) (paths_of_others log ts) x refl (inl i) (λ same j. h.0 ((bytes_eq-Decides t.log log).0 same))) (own_on t e h.1)
+other_on log (t ∷ ts) e (inl h) = on_more (paths_of t) (paths_of_others log (t ∷ ts)) e
+    (λ x i. either (bytes_eq t.log log) log t.log (paths_of t) (paths_of_others log ts) x refl (inl i) (λ same j. h.0 ((bytes_eq-Decides t.log log).0 same))) (own_on t e h.1)
 other_on log (t ∷ ts) e (inr h) = on_more (paths_of_others log ts) (paths_of_others log (t ∷ ts)) e (λ x i. behind (bytes_eq t.log log) x i) (other_on log ts e h)
   where
-    behind : (b : Bool) (x : Path) → IsIn x (paths_of_others log ts) → IsIn x (cond b (paths_of_others log ts) (flat_map changed_paths (rotation_of t) ++ paths_of_others log ts))
+    behind : (b : Bool) (x : Path) → IsIn x (paths_of_others log ts) → IsIn x (cond b (paths_of_others log ts) (paths_of t ++ paths_of_others log ts))
     behind true x i = i
-    behind false x i = in_back x (flat_map changed_paths (rotation_of t)) (paths_of_others log ts) i
+    behind false x i = in_back x (paths_of t) (paths_of_others log ts) i
 
 state_in : (state log : Path) (ts : List Target) (x : Path) → IsStatePath state x → IsIn x (other_paths state log ts)
 state_in state log ts x (inl is) = inl (sym is)
@@ -123,10 +133,10 @@ state_on state log ts (Appends x bytes) h = state_in state log ts x h
 state_on state log ts (Unlinks x) h = state_in state log ts x h
 state_on state log ts _ h = absurd h
 
-between_beside : (state log : Path) (ts : List Target) (e : Entry) → StandsBetween state log ts e → IsBeside (other_paths state log ts) log e
-between_beside state log ts e (inl h) = inl (on_more (paths_of_others log ts) (other_paths state log ts) e (λ x i. inr (inr i)) (other_on log ts e h))
-between_beside state log ts e (inr (inl h)) = inl (state_on state log ts e h)
-between_beside state log ts e (inr (inr anew)) = inr anew
+between_beside : (state : Path) (t : Target) (ts : List Target) (e : Entry) → t.job ≡ None → StandsBetween state t ts e → IsBeside (other_paths state t.log ts) t.log e
+between_beside state t ts e none (inl h) = inl (on_more (paths_of_others t.log ts) (other_paths state t.log ts) e (λ x i. inr (inr i)) (other_on t.log ts e h))
+between_beside state t ts e none (inr (inl h)) = inl (state_on state t.log ts e h)
+between_beside state t ts e none (inr (inr also)) = inr (also_made t e none also)
 
 -- ---- all are changes of the disk
 
@@ -146,7 +156,7 @@ beside_changes paths log _ (inr h) = absurd h
 
 disk_changes : (paths : List Path) (x : Target) (acts : List Entry) → Weave (IsBeside paths x.log) (rotation_of x) (filter is_change acts) → filter is_change acts ≡ filter is_disk_change acts
 disk_changes paths x acts w = sym (all_pass is_disk_change (filter is_change acts) (weave_each (IsBeside paths x.log) (λ e. is_disk_change e ≡ true) (rotation_of x) (filter is_change acts) w
-    (each_rotation (λ e. is_disk_change e ≡ true) (λ x. refl) (λ x y. refl) x.naming x.count x.log (places_of x.stand.members)) (λ e h. beside_changes paths x.log e h))) ∙ disk_of_changes acts
+    (each_turn (λ e. is_disk_change e ≡ true) (λ x. refl) (λ x y. refl) x) (λ e h. beside_changes paths x.log e h))) ∙ disk_of_changes acts
 
 -- ---- a whole run
 
@@ -165,16 +175,16 @@ seen_one rules looks [] seen t i = absurd i
 seen_one rules looks (x ∷ xs) seen t (inl is) = subst (IsSeen rules looks) is seen.0
 seen_one rules looks (x ∷ xs) seen t (inr i) = seen_one rules looks xs seen.1 t i
 
-pub run_rotates : (state : Path) (now : Moment) (rules : Rules) (reads tail : List Entry) (t : AllTurned state rules tail) (x : Target) → AreQuiet reads → IsOneOf x t.turns.targets
+pub run_rotates : (state : Path) (now : Moment) (rules : Rules) (reads tail : List Entry) (t : AllTurned state rules tail) (x : Target) → AreQuiet reads → IsOneOf x t.turns.targets → x.job ≡ None
     → RotatesAmong (other_paths state x.log t.turns.targets) x.log x.naming x.count x.stand (reads ++ entry.Starts state now rules ∷ tail)
-run_rotates state now rules reads tail t x read i = record {
+run_rotates state now rules reads tail t x read i none = record {
   front = reads ++ starts ∷ t.turns.looks;
   back = t.turns.acts;
   joined = ap (λ ts. reads ++ starts ∷ ts) t.turns.joined ∙ sym (append_assoc reads (starts ∷ t.turns.looks) t.turns.acts);
   still = still_both reads (starts ∷ t.turns.looks) (quiet_still reads read) (quiet_still t.turns.looks t.turns.quiet);
   log_seen = among_behind (Sees x.log IsFile) starts reads t.turns.looks seen.log_seen;
   seen = shown_in x.naming (places_of x.stand.members) t.turns.looks (reads ++ starts ∷ t.turns.looks) (λ e h. in_back e reads (starts ∷ t.turns.looks) (inr h)) seen.seen;
-  changes = subst (Weave (IsBeside paths x.log) (rotation_of x)) (disk_changes paths x t.turns.acts on) on;
+  changes = subst (λ (steps : List Entry). Weave (IsBeside paths x.log) steps (filter is_disk_change t.turns.acts)) (rotation_is x seen.ready none) (subst (Weave (IsBeside paths x.log) (rotation_of x)) (disk_changes paths x t.turns.acts on) on);
 }
   where
     starts : Entry
@@ -187,4 +197,4 @@ run_rotates state now rules reads tail t x read i = record {
     seen = seen_one rules t.turns.looks t.turns.targets t.turns.seen x i
 
     on : Weave (IsBeside paths x.log) (rotation_of x) (filter is_change t.turns.acts)
-    on = weave_as (StandsBetween state x.log t.turns.targets) (IsBeside paths x.log) (rotation_of x) (filter is_change t.turns.acts) (λ e h. between_beside state x.log t.turns.targets e h) (t.whole x i)
+    on = weave_as (StandsBetween state x t.turns.targets) (IsBeside paths x.log) (rotation_of x) (filter is_change t.turns.acts) (λ e h. between_beside state x t.turns.targets e none h) (t.whole x i)

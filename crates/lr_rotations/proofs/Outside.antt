@@ -6,7 +6,7 @@ use Rattle.lr_rules.specs.declared.path.Path.{Path}
 use Rattle.lr_rules.specs.declared.rule.Count.{Count}
 use Rattle.lr_rules.specs.declared.rule.Count.TheVariants as count
 use Rattle.lr_rules.specs.declared.rule.Naming.{Naming}
-use Rattle.lr_rules.specs.Names.{IsMiddleShape, IsOwnName, the_log, a_member, Meet}
+use Rattle.lr_rules.specs.Names.{IsMiddleShape, IsMemberShape, IsOwnName, the_log, a_member, Meet}
 use Rattle.lr_rules.proofs.Digits.{decimal_run}
 use Rattle.lr_host.specs.declared.entry.Entry.TheVariants as entry
 use Rattle.lr_host.specs.Told.{Each}
@@ -21,15 +21,19 @@ use Rattle.lr_chain.specs.Rotation.{is_left, leftovers, kept, one_too_many, unli
 use Rattle.lr_rotations.specs.Members.{HasName, HaveNext}
 use Rattle.lr_rotations.proofs.Fitting.{kept_next, first_named}
 
--- the path of a place is a name of the family
-pub place_name : (log : Path) (n : Naming) (place : ℕ) → n.dated ≡ None → HasName n place → IsOwnName log n (path_at n place)
-place_name log n place numbered i = a_member (member_name n (n.start + place)) (46 ∷ decimal (n.start + place), middle, whole) refl
+-- the name of a place has a member's shape
+pub place_shape : (n : Naming) (place : ℕ) → n.dated ≡ None → HasName n place → IsMemberShape n (member_name n (n.start + place))
+place_shape n place numbered i = (46 ∷ decimal (n.start + place), middle, whole)
   where
     middle : IsMiddleShape n.dated (46 ∷ decimal (n.start + place))
     middle = subst (λ d. IsMiddleShape d (46 ∷ decimal (n.start + place))) (sym numbered) (decimal (n.start + place), refl, decimal_run (n.start + place) (omega arith))
 
     whole : member_name n (n.start + place) ≡ n.base ++ (46 ∷ decimal (n.start + place)) ++ n.ext
     whole = refl
+
+-- the path of a place is a name of the family
+pub place_name : (log : Path) (n : Naming) (place : ℕ) → n.dated ≡ None → HasName n place → IsOwnName log n (path_at n place)
+place_name log n place numbered i = a_member (member_name n (n.start + place)) (place_shape n place numbered i) refl
 
 module _ (s : LogSet) (log : Path) (n : Naming) (numbered : n.dated ≡ None) (apart : Meet s.log s.naming log n → ⊥) where
   place_out : (place : ℕ) → HasName n place → in_set s (path_at n place) ≡ false

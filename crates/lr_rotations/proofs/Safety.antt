@@ -5,16 +5,15 @@ use Rattle.std.proofs.lemmas.List.{reverse-append, reverse-reverse}
 use Rattle.std.proofs.lemmas.Slice.Eq.{bytes_eq-Decides}
 use Rattle.lr_rules.specs.declared.path.Path.{Path}
 use Rattle.lr_rules.specs.declared.civil.Moment.{Moment}
-use Rattle.lr_rules.specs.declared.rule.Count.{Count}
 use Rattle.lr_rules.specs.declared.rule.Naming.{Naming}
 use Rattle.lr_rules.specs.declared.rules.Rules.{Rules}
+use Rattle.lr_rules.specs.Match.{RuleGives}
 use Rattle.lr_rules.specs.Names.{IsName, Meet}
 use Rattle.lr_host.specs.declared.entry.Entry.{Entry}
 use Rattle.lr_host.specs.declared.entry.Entry.TheVariants as entry
 use Rattle.lr_host.specs.declared.journal.Journal.{Journal}
 use Rattle.lr_host.specs.World.{Past, ◌▸◌, past, world, names}
 use Rattle.lr_host.specs.Fits.{IsFileAt}
-use Rattle.lr_host.specs.Lists.{IsIn}
 use Rattle.lr_host.specs.Told.{Each, IsWriters, Made, at_first, by_writer, by_tool, Left, not_told, is_told}
 use Rattle.lr_host.specs.Steps.{is_change, FitAll}
 use Rattle.lr_host.specs.Opening.{IsJournal}
@@ -31,28 +30,28 @@ use Rattle.lr_host.proofs.Steady.{steady_before, steady_at, none_attached}
 use Rattle.lr_laws.specs.Rotation.{IsAside, IsRotation, LogFits}
 use Rattle.lr_laws.specs.Stays.{Rotates}
 use Rattle.lr_laws.proofs.Calls.{aside_walked, rotation_filter, later_rotation}
-use Rattle.lr_laws.proofs.Outside.{in_set_own}
+use Rattle.lr_laws.proofs.Outside.{in_set_own, apart_outside}
 use Rattle.lr_laws.proofs.Stated.{quiet_safe}
 use Rattle.lr_laws.proofs.Walk.{walk, log_filter}
-use Rattle.lr_family.proofs.Numbers.{every_all}
 use Rattle.lr_chain.specs.Rotation.{places_of, rotation}
-use Rattle.lr_chain.proofs.Steps.{each_rotation}
 use Rattle.lr_rotations.specs.AllTurns.{IsStatePath, IsOfState, IsOf, IsOfSome, IsOfOther, StandsBetween, AllTurns, MayTurnAll, not_yet, started, IsWholeRun}
 use Rattle.lr_rotations.specs.Apart.{HasNames}
-use Rattle.lr_rotations.specs.Members.{IsFamily, HasName, AreThere, HaveNext}
+use Rattle.lr_rotations.specs.Members.{IsFamily, AreThere, HaveNext}
 use Rattle.lr_rotations.specs.Rotated.{MakesAt}
 use Rattle.lr_rotations.specs.Shown.{Shown}
 use Rattle.lr_rotations.specs.Target.{Target, rotation_of, IsSeen, AreSeen, IsOneOf}
 use Rattle.lr_rotations.specs.Weave.{Among, FirstWoven}
+use Rattle.lr_rotations.proofs.Apart.{AllOwn, own_change}
 use Rattle.lr_rotations.proofs.Fitting.{fits}
-use Rattle.lr_rotations.proofs.Given.{gives, no_meet, naming_same, counts}
+use Rattle.lr_rotations.proofs.Given.{gives, no_meet, naming_same, no_copy, counts}
 use Rattle.lr_rotations.proofs.Moments.{saw_file, shown_members}
-use Rattle.lr_rotations.proofs.Outside.{log_out, lies_aside}
+use Rattle.lr_rotations.proofs.Others.{IsFileChange, own_turns, also_made}
 use Rattle.lr_rotations.proofs.Over.{first_aside}
+use Rattle.lr_rotations.proofs.Rotating.{rotation_is}
 use Rattle.lr_rotations.proofs.SeenFits.{seen_names}
 use Rattle.lr_rotations.proofs.Still.{IsStill, quiet_safe_on, made_still}
 use Rattle.lr_rotations.proofs.Turning.{is_one}
-use Rattle.lr_rotations.proofs.Weaving.{each_in, weave_as, weave_back, IsApart, IsApartOrMakes, apart_aside, IsWoven, woven}
+use Rattle.lr_rotations.proofs.Weaving.{weave_as, weave_back, IsApart, IsApartOrMakes, apart_aside, IsWoven, woven}
 
 -- ---- the state's path
 
@@ -98,34 +97,15 @@ module _ (s : LogSet) (state : Path) (rules : Rules) (v : Past) (here : Here s s
   state_apart (entry.Unlinks x) h = state_out x h
   state_apart _ h = absurd h
 
--- ---- the steps of a rotation make no directory
+-- ---- what is done to a log whose names the set doesn't meet
 
-abbrev IsNoDir : Entry → Type 0
-IsNoDir (entry.MakesDir x mode) = ⊥
-IsNoDir _ = Unit {0}
-
-rotation_no_dir : (n : Naming) (c : Count) (log : Path) (places : List ℕ) → Each IsNoDir (rotation n c log places)
-rotation_no_dir n c log places = each_rotation IsNoDir (λ x. tt) (λ x y. tt) n c log places
-
-apart_of : (s : LogSet) (e : Entry) → IsNoDir e → IsAside s e → IsApart s e
-apart_of s (entry.MakesDir x mode) i a = absurd i
-apart_of s (entry.Renames from to) i a = a
-apart_of s (entry.Unlinks x) i a = a
-apart_of s (entry.Makes x mode) i a = a
-apart_of s (entry.Appends x bytes) i a = a
-apart_of s (entry.Truncates x) i a = a
-apart_of s (entry.Starts state now rules) i a = a
-apart_of s (entry.Attach writer x at) i a = a
-apart_of s (entry.Feed writer bytes at) i a = a
-apart_of s (entry.Flush writer) i a = a
-apart_of s (entry.Detach writer) i a = a
-apart_of s (entry.Cut kept lengths) i a = a
-apart_of s _ i a = tt
-
--- a file that is made at a path outside of the set
-made_apart : (s : LogSet) (log : Path) (e : Entry) → in_set s log ≡ false → MakesAt log e → IsApart s e
-made_apart s log (entry.Makes x mode) out is = ap (in_set s) is ∙ out
-made_apart s log _ out is = absurd is
+own_apart : (s : LogSet) (t : Target) (e : Entry) → (Meet s.log s.naming t.log t.naming → ⊥) → IsFileChange e → AllOwn t.log t.naming e → IsApart s e
+own_apart s t (entry.Renames from to) not c own = (apart_outside s t.log t.naming from not (inl (own from (inl refl))), apart_outside s t.log t.naming to not (inl (own to (inr (inl refl)))))
+own_apart s t (entry.Unlinks x) not c own = apart_outside s t.log t.naming x not (inl (own x (inl refl)))
+own_apart s t (entry.Makes x mode) not c own = apart_outside s t.log t.naming x not (inl (own x (inl refl)))
+own_apart s t (entry.Appends x bytes) not c own = apart_outside s t.log t.naming x not (inl (own x (inl refl)))
+own_apart s t (entry.Truncates x) not c own = apart_outside s t.log t.naming x not (inl (own x (inl refl)))
+own_apart s t _ not c own = absurd c
 
 -- ---- what the looks tell of one log
 
@@ -143,19 +123,15 @@ module _ (s : LogSet) (state : Path) (rules : Rules) (u v : Past) (looks : List 
   known : (t : Target) → IsSeen rules looks t → Known t v
   known t seen = record { file = saw_file u v (reverse looks) t.log m quiet_in_order (subst (Among (Sees t.log IsFile)) (sym in_order) seen.log_seen); names_all = seen_names rules looks t seen }
 
-  -- the steps of another log are apart, and so is its making
+  -- all that is done to another log is apart
   other_apart : (t : Target) → IsSeen rules looks t → t.log ≢ s.log → (e : Entry) → IsOf t e → IsApart s e
-  other_apart t seen other e h = ⊎_elim (λ i. apart_of s e (each_in IsNoDir (rotation_of t) e (rotation_no_dir t.naming t.count t.log (places_of t.stand.members)) i) (each_in (IsAside s) (rotation_of t) e aside i))
-      (λ anew. made_apart s t.log e (log_out s t.log t.naming seen.family.numbered meets_not) anew) h
+  other_apart t seen other e h = own_apart s t e meets_not (own_turns t e h) (own_change t e k.names_all h)
     where
       k : Known t v
       k = known t seen
 
       meets_not : Meet s.log s.naming t.log t.naming → ⊥
-      meets_not = no_meet s u v rules.sets looks t.log t.naming t.count quiet m begun seen.family.numbered here.journal here.steady here.rules_are seen.given k.file other
-
-      aside : Each (IsAside s) (rotation_of t)
-      aside = lies_aside s t.log t.naming seen.family.numbered meets_not t.count (places_of t.stand.members) (every_all (HasName t.naming) (places_of t.stand.members) k.names_all.named) k.names_all.next
+      meets_not = no_meet s u v rules.sets looks t.log t.naming t.count t.job quiet m begun seen.family.numbered here.journal here.steady here.rules_are seen.given k.file other
 
   others_apart : (ts : List Target) → AreSeen rules looks ts → (e : Entry) → IsOfOther s.log ts e → IsApart s e
   others_apart [] seen e h = absurd h
@@ -181,7 +157,11 @@ module _ (s : LogSet) (state : Path) (rules : Rules) (u v : Past) (looks : List 
       none_of differ ne x (inl is) same = let e : bytes_eq t.log s.log ≡ true = (bytes_eq-Decides t.log s.log).1 (ap (λ (y : Target). y.log) is ∙ same) in cc
       none_of differ ne x (inr i) same = ne x i same
 
-  -- the set's own log is turned, with the steps of others between its own
+  -- the set's own log isn't copied
+  not_copied : (t : Target) → IsSeen rules looks t → t.log ≡ s.log → t.job ≡ None
+  not_copied t seen same = no_copy s v rules.sets looks t.log t.naming t.count t.job here.steady here.rules_are seen.given (gives u v rules.sets looks t.log t.naming t.count t.job quiet m seen.given) (sym same)
+
+  -- it is turned, with the steps of others between its own
   own_safe : (t : Target) → IsSeen rules looks t → t.log ≡ s.log → (acts : List Entry) (q : Past) → FirstWoven (IsApartOrMakes s) (rotation_of t) (filter is_change acts) → Made v (reverse acts) q → NoneAttached s q → IsSafe s q
   own_safe t seen same acts q w mq none_q = (walk s v q rotates.limit (reverse acts) rotates.numbered mq
       (log_filter s (names (world v)) (reverse acts) (subst (LogFits s (names (world v))) (sym (filter_reverse is_change acts)) all.fits))
@@ -191,8 +171,11 @@ module _ (s : LogSet) (state : Path) (rules : Rules) (u v : Past) (looks : List 
       k : Known t v
       k = known t seen
 
+      given : RuleGives seen.given.rule t.log
+      given = gives u v rules.sets looks t.log t.naming t.count t.job quiet m seen.given
+
       naming : s.naming ≡ t.naming
-      naming = naming_same s v rules.sets looks t.log t.naming t.count here.steady here.rules_are seen.given (gives u v rules.sets looks t.log t.naming t.count quiet m seen.given) (sym same)
+      naming = naming_same s v rules.sets looks t.log t.naming t.count t.job here.steady here.rules_are seen.given given (sym same)
 
       places : List ℕ
       places = places_of t.stand.members
@@ -204,7 +187,11 @@ module _ (s : LogSet) (state : Path) (rules : Rules) (u v : Past) (looks : List 
           m quiet_in_order none_at
           (subst (λ (x : Naming). Shown x places (reverse (reverse looks))) (sym naming) (subst (Shown t.naming places) (sym in_order) seen.seen)))
 
-      rotates : Rotates (rotation_of t) s v
+      -- it isn't copied
+      steps_are : rotation_of t ≡ rotation t.naming t.count t.log places
+      steps_are = rotation_is t seen.ready (not_copied t seen same)
+
+      rotates : Rotates (rotation t.naming t.count t.log places) s v
       rotates =
           subst (λ (n : Naming). Rotates (rotation n t.count t.log places) s v) naming
           (subst (λ (x : Path). Rotates (rotation s.naming t.count x places) s v) (sym same)
@@ -214,10 +201,10 @@ module _ (s : LogSet) (state : Path) (rules : Rules) (u v : Past) (looks : List 
           (subst (λ (n : Naming). AreThere n (names (world v)) places) (sym naming) stands)
           (subst (λ (n : Naming). HaveNext n t.count places) (sym naming) k.names_all.next)
           here.not_begun here.safe
-          (subst (λ (x : Path). SomeRule (rules_of v) x (λ r. r.count ≡ t.count)) same (counts v rules.sets looks t.log t.naming t.count here.rules_are seen.given (gives u v rules.sets looks t.log t.naming t.count quiet m seen.given)))))
+          (subst (λ (x : Path). SomeRule (rules_of v) x (λ r. r.count ≡ t.count)) same (counts v rules.sets looks t.log t.naming t.count t.job here.rules_are seen.given given))))
 
-      split : reverse (rotation_of t) ≡ reverse w.first.0 ++ reverse w.made
-      split = ap reverse w.first.1 ∙ reverse-append w.made w.first.0
+      split : reverse (rotation t.naming t.count t.log places) ≡ reverse w.first.0 ++ reverse w.made
+      split = ap reverse (sym steps_are ∙ w.first.1) ∙ reverse-append w.made w.first.0
 
       all : IsWoven s v rotates.limit (reverse w.made) (reverse (filter is_change acts))
       all = woven s v rotates.limit (reverse w.made) (reverse (filter is_change acts)) (weave_back (IsApartOrMakes s) w.made (filter is_change acts) w.woven)
@@ -226,16 +213,16 @@ module _ (s : LogSet) (state : Path) (rules : Rules) (u v : Past) (looks : List 
 
   -- behind all acts
   acts_safe : (ts : List Target) → AreSeen rules looks ts → (acts : List Entry) (q : Past) → Each (λ e. IsOfSome ts e ⊎ IsOfState state e) (filter is_change acts)
-      → ((t : Target) → IsOneOf t ts → FirstWoven (StandsBetween state t.log ts) (rotation_of t) (filter is_change acts)) → Made v (reverse acts) q → NoneAttached s q → IsSafe s q
+      → ((t : Target) → IsOneOf t ts → FirstWoven (StandsBetween state t ts) (rotation_of t) (filter is_change acts)) → Made v (reverse acts) q → NoneAttached s q → IsSafe s q
   acts_safe ts seen acts q all each mq none_q = ⊎_elim own others (find ts)
     where
       own : ((t : Target) × IsOneOf t ts × (t.log ≡ s.log)) → IsSafe s q
       own f = own_safe f.0 (seen_one ts seen f.0 f.1) f.2 acts q (record { made = (each f.0 f.1).made; first = (each f.0 f.1).first; woven = weave_as _ (IsApartOrMakes s) _ _ apart (each f.0 f.1).woven }) mq none_q
         where
-          apart : (e : Entry) → StandsBetween state f.0.log ts e → IsApartOrMakes s e
+          apart : (e : Entry) → StandsBetween state f.0 ts e → IsApartOrMakes s e
           apart e (inl o) = inl (others_apart ts seen e (subst (λ (x : Path). IsOfOther x ts e) f.2 o))
           apart e (inr (inl o)) = inl (state_apart s state rules v here e o)
-          apart e (inr (inr anew)) = inr (subst (λ (x : Path). MakesAt x e) f.2 anew)
+          apart e (inr (inr also)) = inr (subst (λ (x : Path). MakesAt x e) f.2 (also_made f.0 e (not_copied f.0 (seen_one ts seen f.0 f.1) f.2) also))
 
       others : ((t : Target) → IsOneOf t ts → t.log ≢ s.log) → IsSafe s q
       others ne = aside_walked s v q (reverse acts) here.journal here.safe mq

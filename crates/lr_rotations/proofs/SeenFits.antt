@@ -1,40 +1,55 @@
--- The steps of a rotation fit behind looks that showed the log and its members, whatever writers did.
-use Rattle.std.proofs.Common.{◌≡◌, ◌⊎◌, inl, inr, ⊎_elim, ℕ, ◌+◌, Bool, true, false, cond, ◌||◌, bytes_eq, refl, sym, ap, ◌∙◌, subst, List, [], ◌∷◌, reverse, map, Option, Some, None, Contains, All}
+-- The calls of a rotation fit behind looks that showed the log and its members, whatever writers did.
+use Rattle.std.proofs.Common.{◌≡◌, ◌≢◌, ◌⊎◌, inl, inr, ⊎_elim, ℕ, ◌+◌, Bool, true, false, not, cond, ◌||◌, bytes_eq, refl, sym, ap, ◌∙◌, subst, List, [], ◌∷◌, ◌++◌, reverse, map, Option, Some, None, Contains, All}
 use Rattle.std.proofs.lemmas.List.Elements.{All-weaker, All-contains_itself}
 use Rattle.std.proofs.lemmas.Slice.Eq.{bytes_eq-Decides}
 use Rattle.std.proofs.lemmas.Bool.{or_right}
 use Rattle.lr_rules.specs.declared.path.Path.{Path}
 use Rattle.lr_rules.specs.declared.rule.Count.{Count}
 use Rattle.lr_rules.specs.declared.rule.Naming.{Naming}
+use Rattle.lr_rules.specs.declared.rules.Rules.{Rules}
+use Rattle.lr_rules.specs.Path.{parent_of}
 use Rattle.lr_host.specs.declared.thing.Thing.TheVariants as thing
 use Rattle.lr_host.specs.declared.thing.Kind.TheVariants as kind
 use Rattle.lr_host.specs.declared.thing.Seen.{Seen}
 use Rattle.lr_host.specs.declared.entry.Entry.{Entry}
 use Rattle.lr_host.specs.declared.entry.Entry.TheVariants as entry
-use Rattle.lr_host.specs.World.{Past, past, world, Names, names}
+use Rattle.lr_host.specs.declared.journal.Journal.{Journal}
+use Rattle.lr_host.specs.World.{Past, past, world, Names, names, put}
 use Rattle.lr_host.specs.Fits.{IsFileAt, IsDirectoryAt}
-use Rattle.lr_host.specs.Told.{Made, Left, not_told, is_told}
-use Rattle.lr_host.specs.Steps.{FitAll, CanAll}
+use Rattle.lr_host.specs.Told.{Each, Made, Left, not_told, is_told, CanCall}
+use Rattle.lr_host.specs.Steps.{FitAll}
+use Rattle.lr_host.specs.Lists.{IsIn}
+use Rattle.lr_host.specs.Quiet.{AreQuiet, ChangeNothing, AttachedOnlySince}
+use Rattle.lr_host.proofs.Each.{each_as}
+use Rattle.lr_host.proofs.Left.{fit_more}
+use Rattle.lr_host.proofs.Lists.{in_from, in_to, in_map, in_unmap, from_reverse}
+use Rattle.lr_host.proofs.Looked.{seen_file, seen_dir, seen_none, is_nothing}
 use Rattle.lr_host.proofs.More.{IsMore, file_more, directory_more, dir_before, nothing_before}
+use Rattle.lr_host.proofs.Names.{put_here, put_other}
+use Rattle.lr_host.proofs.Quiet.{IsAny, since_any, made_quiet, quiet_more, Moment, moment, quiet_still, still_in_order}
 use Rattle.lr_family.specs.Named.{member_name}
 use Rattle.lr_family.specs.Spots.{path_at}
-use Rattle.lr_host.specs.Lists.{IsIn}
-use Rattle.lr_host.proofs.Lists.{in_from, in_to, in_map, in_unmap, from_reverse}
-use Rattle.lr_host.specs.Quiet.{AreQuiet, ChangeNothing, AttachedOnlySince}
-use Rattle.lr_host.proofs.Left.{fit_more}
-use Rattle.lr_host.proofs.Looked.{seen_file, seen_dir, seen_none, is_nothing}
-use Rattle.lr_host.proofs.Quiet.{IsAny, since_any, made_quiet, quiet_more, Moment, moment, quiet_still, still_in_order}
-use Rattle.lr_chain.specs.Rotation.{places_of, rotation}
-use Rattle.lr_rotations.specs.Members.{IsFamily, HasName, HaveNext}
-use Rattle.lr_rotations.proofs.Paths.{name_part, path_same, path_other}
-use Rattle.lr_rotations.specs.Shown.{Shown}
-use Rattle.lr_rotations.proofs.Fitting.{fits}
-use Rattle.lr_host.specs.declared.journal.Journal.{Journal}
-use Rattle.lr_rules.specs.declared.rules.Rules.{Rules}
+use Rattle.lr_family.proofs.Numbers.{Every, every_all, every_filter}
+use Rattle.lr_copy.specs.declared.job.Job.{Job}
+use Rattle.lr_copy.specs.Fits.{ArePaths, HasPlace, IsStale}
+use Rattle.lr_chain.specs.Rotation.{places_of, is_left, leftovers, kept, one_too_many, unlink_at, leftover_steps, shift_steps, retire_steps, rotation}
+use Rattle.lr_chain.proofs.Steps.{each_rotation}
 use Rattle.lr_rotations.specs.Apart.{HasNames}
-use Rattle.lr_rotations.specs.Target.{Target, rotation_of, IsSeen}
+use Rattle.lr_rotations.specs.Calls.{after_call, FitCalls, CanCalls, copy_calls, calls_of}
+use Rattle.lr_rotations.specs.Members.{IsFamily, HasName, IsNoMember, HaveNext}
+use Rattle.lr_rotations.specs.Shown.{Shown}
+use Rattle.lr_rotations.specs.Target.{Target, IsJob, IsSeen}
+use Rattle.lr_rotations.proofs.Alike.{IsLike, like_self, AreLike, Reads, fit_like, afters, fit_first, fit_rest, fit_both, afters_on, fit_calls}
+use Rattle.lr_rotations.proofs.CopyFits.{copy_fits, copied_to, copied_other}
+use Rattle.lr_rotations.proofs.Fed.{IsTurn}
+use Rattle.lr_rotations.proofs.Fitting.{fits, kept_next, first_named, retire_named}
 use Rattle.lr_rotations.proofs.Given.{have_next}
-use Rattle.lr_rotations.proofs.Moments.{saw_one}
+use Rattle.lr_rotations.proofs.Members.{IsOfMembers, unlinks_of, moves_of, members_spare}
+use Rattle.lr_rotations.proofs.Moments.{saw_one, saw_file}
+use Rattle.lr_rotations.proofs.OrMade.{Spares}
+use Rattle.lr_rotations.proofs.PartFile.{part_at, part_no_member, job_target, job_part, job_paths, job_no_dir}
+use Rattle.lr_rotations.proofs.Paths.{name_part, path_same, path_other}
+use Rattle.lr_rotations.proofs.Rotating.{calls_by_parts, calls_are}
 
 -- ---- names in between: those of later at some paths, those of before at all others
 
@@ -143,17 +158,163 @@ rotation_at log n c places p q es seen family next m quiet k there w =
         nothing_before (names (world p)) (names (world t.at)) (path_at n place) (quiet_more IsAny p t.at t.since)
         (is_nothing (names (world t.at) (path_at n place)) (λ some. absent ((t.fits.1.all (member_name n (n.start + place))).1 (name_part log n place family i, some))))
 
+-- ---- calls that leave a path alone
+
+after_spared : (n : Names) (e : Entry) (y : Path) → Spares y e → after_call n e y ≡ n y
+after_spared n (entry.Renames from to) y s = put_other (put n from thing.Nothing) to y (n from) s.1 ∙ put_other n from y thing.Nothing s.0
+after_spared n (entry.Makes x mode) y s = put_other n x y (thing.File 0) s
+after_spared n (entry.MakesDir x mode) y s = put_other n x y thing.Directory s
+after_spared n (entry.Unlinks x) y s = put_other n x y thing.Nothing s
+after_spared n (entry.Appends x bytes) y s = refl
+after_spared n (entry.Truncates x) y s = refl
+after_spared n _ y s = absurd s
+
+spared : (n : Names) (es : List Entry) (y : Path) → Each (Spares y) es → afters n es y ≡ n y
+spared n [] y a = refl
+spared n (e ∷ es) y a = spared (after_call n e) es y a.1 ∙ after_spared n e y a.0
+
 -- ---- of a log that was seen
 
 pub seen_names : (rules : Rules) (looks : List Entry) (t : Target) → IsSeen rules looks t → HasNames t
-seen_names rules looks t seen = record { family = seen.family; named = named; next = have_next rules looks t.log t.naming t.count t.stand.members seen.given named seen.low }
+seen_names rules looks t seen = record { family = seen.family; named = named; next = have_next rules looks t.log t.naming t.count t.job t.stand.members seen.given named seen.low; ready = seen.ready; job = λ job is. (seen.job job is).0 }
   where
     named : All (HasName t.naming) (places_of t.stand.members)
     named = All-weaker (Contains (places_of t.stand.members)) (HasName t.naming) seen.seen.named (places_of t.stand.members) (All-contains_itself (places_of t.stand.members))
 
-pub seen_can : (rules : Rules) (t : Target) (o m : Option Journal) → Left (λ ts. AreQuiet ts × IsSeen rules ts t) o m → CanAll m (rotation_of t)
+-- the paths of its copy
+pub seen_paths : (rules : Rules) (looks : List Entry) (t : Target) (job : Job) → IsSeen rules looks t → t.job ≡ Some job → ArePaths job
+seen_paths rules looks t job seen is = job_paths seen.given.rule t job seen.given.naming_is seen.family (first_named t.naming t.count (places_of t.stand.members) (seen_names rules looks t seen).next) seen.ready (seen.job job is).0
+
+module _ (rules : Rules) (t : Target) (p q : Past) (es : List Entry) (m : Made p es q) (quiet : AreQuiet (reverse es)) (seen : IsSeen rules (reverse es) t) where
+  abbrev places : List ℕ
+  places = places_of t.stand.members
+
+  abbrev now : Names
+  now = names (world q)
+
+  names_all : HasNames t
+  names_all = seen_names rules (reverse es) t seen
+
+  -- the rotation of the places fits
+  by_places : FitCalls now (rotation t.naming t.count t.log places)
+  by_places = fit_calls now (rotation t.naming t.count t.log places) (each_rotation IsTurn (λ x. tt) (λ x y. tt) t.naming t.count t.log places)
+      (let saw = saw_one t.log (reverse es) seen.log_seen in rotation_at t.log t.naming t.count places p q es saw.0 seen.family names_all.next m quiet saw.1 saw.2 seen.seen)
+
+  -- ---- of a log that is copied
+
+  module _ (job : Job) (is : t.job ≡ Some job) where
+    abbrev L : List Entry
+    L = leftover_steps t.naming t.count places
+
+    abbrev S : List Entry
+    S = shift_steps t.naming t.count places
+
+    abbrev R : Entry
+    R = entry.Renames t.log (path_at t.naming 0)
+
+    abbrev U : List Entry
+    U = retire_steps t.naming t.count places
+
+    -- behind the leftovers, and behind the moves
+    abbrev left : Names
+    left = afters now L
+
+    abbrev shifted : Names
+    shifted = afters left S
+
+    shape : IsJob t job
+    shape = (seen.job job is).0
+
+    first : HasName t.naming 0
+    first = first_named t.naming t.count places names_all.next
+
+    to : job.to ≡ path_at t.naming 0
+    to = job_target t job seen.ready shape
+
+    part : job.part ≡ part_at t.naming
+    part = job_part t job seen.ready shape
+
+    paths : ArePaths job
+    paths = seen_paths rules (reverse es) t job seen is
+
+    behind_left : FitCalls left ((S ++ R ∷ []) ++ U)
+    behind_left = fit_rest now L ((S ++ R ∷ []) ++ U) by_places
+
+    turn_fits : FitCalls left (S ++ R ∷ [])
+    turn_fits = fit_first left (S ++ R ∷ []) U behind_left
+
+    can_turn : CanCall shifted R
+    can_turn = (fit_rest left S (R ∷ []) turn_fits).0
+
+    place : HasPlace job shifted
+    place = record {
+      log = subst (λ (x : Path). IsFileAt shifted x) (sym shape.from_is) can_turn.0;
+      directory = subst (λ (x : Path). IsDirectoryAt shifted x) (ap parent_of (sym to) ∙ sym paths.dir_is) can_turn.3;
+      no_directory = λ e. can_turn.1 (ap shifted (sym to) ∙ e);
+      no_other = λ e. can_turn.2 (ap shifted (sym to) ∙ e);
+    }
+
+    -- the leftovers and the moves leave the part file alone
+    part_no : IsNoMember t.naming job.part
+    part_no k i e = part_no_member t.log t.naming seen.family first k i (sym part ∙ e)
+
+    places_named : Every (HasName t.naming) places
+    places_named = every_all (HasName t.naming) places names_all.named
+
+    part_left : shifted job.part ≡ now job.part
+    part_left =
+        spared left S job.part (each_as (IsOfMembers t.naming) (Spares job.part) S (λ e h. members_spare t.naming job.part e part_no h)
+        (moves_of t.naming (kept t.count places) (every_filter (HasName t.naming) (λ k. not (is_left t.count k)) places places_named) (kept_next t.naming t.count places names_all.next)))
+        ∙ spared now L job.part (each_as (IsOfMembers t.naming) (Spares job.part) L (λ e h. members_spare t.naming job.part e part_no h)
+        (unlinks_of t.naming (leftovers t.count places) (every_filter (HasName t.naming) (is_left t.count) places places_named)))
+
+    stale : IsStale job shifted
+    stale old = let file = saw_file p q es job.part m quiet ((seen.job job is).1 old) in (file.0, part_left ∙ file.1)
+
+    -- the members are as behind the rename
+    abbrev OfMember : Path → Type 0
+    OfMember y = (k : ℕ) × HasName t.naming k × (y ≡ path_at t.naming k)
+
+    reads_of : (ks : List ℕ) → Every (HasName t.naming) ks → Each (Reads OfMember) (map (unlink_at t.naming) ks)
+    reads_of [] i = tt
+    reads_of (k ∷ ks) i = ((k, i.0, refl), reads_of ks i.1)
+
+    no_dir : job.part ≢ job.dir
+    no_dir = job_no_dir t job seen.family first seen.ready shape
+
+    like : AreLike OfMember (after_call shifted R) (afters shifted (copy_calls job))
+    like y h = at (bytes_eq job.to y) refl
+      where
+        at : (b : Bool) → bytes_eq job.to y ≡ b → IsLike (after_call shifted R y) (afters shifted (copy_calls job) y)
+        at true e =
+            let same : job.to ≡ y = (bytes_eq-Decides job.to y).0 e in
+            let by_rename : after_call shifted R y ≡ thing.File can_turn.0.0 = put_here (put shifted t.log thing.Nothing) (path_at t.naming 0) y (shifted t.log) (sym same ∙ to) ∙ can_turn.0.1 in
+            let by_copy : afters shifted (copy_calls job) y ≡ thing.File 0 = ap (afters shifted (copy_calls job)) (sym same) ∙ copied_to job paths no_dir shifted place in
+            subst (λ v. IsLike v (afters shifted (copy_calls job) y)) (sym by_rename) (0, by_copy)
+        at false e =
+            let other : y ≢ job.to = λ is. (let yes : bytes_eq job.to y ≡ true = (bytes_eq-Decides job.to y).1 (sym is) in cc) in
+            let by_rename : after_call shifted R y ≡ shifted y =
+            put_other (put shifted t.log thing.Nothing) (path_at t.naming 0) y (shifted t.log) (λ is. other (is ∙ sym to)) ∙ put_other shifted t.log y thing.Nothing (λ is. path_other t.log t.naming h.0 seen.family h.1 (sym is ∙ h.2)) in
+            let by_copy : afters shifted (copy_calls job) y ≡ shifted y = copied_other job paths no_dir shifted place y (λ is. part_no h.0 h.1 (sym is ∙ h.2)) other in
+            subst (λ v. IsLike v (afters shifted (copy_calls job) y)) (sym by_rename) (subst (IsLike (shifted y)) (sym by_copy) (like_self (shifted y)))
+
+    behind_turn : FitCalls (after_call shifted R) U
+    behind_turn = subst (λ (n : Names). FitCalls n U) (afters_on left S (R ∷ [])) (fit_rest left (S ++ R ∷ []) U behind_left)
+
+    copy_by_places : FitCalls now (L ++ (S ++ (copy_calls job ++ U)))
+    copy_by_places =
+        fit_both now L (S ++ (copy_calls job ++ U)) (fit_first now L ((S ++ R ∷ []) ++ U) by_places)
+        (fit_both left S (copy_calls job ++ U) (fit_first left S (R ∷ []) turn_fits)
+        (fit_both shifted (copy_calls job) U (copy_fits job paths no_dir shifted place stale)
+        (fit_like OfMember (after_call shifted R) (afters shifted (copy_calls job)) U (reads_of (one_too_many t.count places) (retire_named t.naming t.count places names_all.next)) like behind_turn)))
+
+  seen_fits : FitCalls now (calls_of t)
+  seen_fits = go t.job refl
+    where
+      go : (j : Option Job) → t.job ≡ j → FitCalls now (calls_of t)
+      go None none = subst (FitCalls now) (sym (calls_are t seen.ready none)) by_places
+      go (Some job) is = subst (FitCalls now) (sym (calls_by_parts t seen.ready (Some job) is)) (copy_by_places job is)
+
+pub seen_can : (rules : Rules) (t : Target) (o m : Option Journal) → Left (λ ts. AreQuiet ts × IsSeen rules ts t) o m → CanCalls m (calls_of t)
 seen_can rules t o m not_told = record { can = tt }
-seen_can rules t o m (is_told {j = j} {k = k} {es = es} made h) = record {
-  can = let saw = saw_one t.log (reverse es) h.1.log_seen in
-      rotation_at t.log t.naming t.count (places_of t.stand.members) (past j) (past k) es saw.0 h.1.family (seen_names rules (reverse es) t h.1).next made h.0 saw.1 saw.2 h.1.seen;
-}
+seen_can rules t o m (is_told {j = j} {k = k} {es = es} made h) = record { can = seen_fits rules t (past j) (past k) es made h.0 h.1 }

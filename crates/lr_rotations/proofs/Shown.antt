@@ -1,4 +1,4 @@
--- What a stand's looks tell of its places, whatever the disk is.
+-- What the looks at members tell of their places, whatever the disk is.
 use Rattle.std.proofs.Common.{◌≡◌, ◌⊎◌, inl, inr, ℕ, ◌+◌, ◌<◌, ◌≤◌, get_or, Bool, true, false, eqb, List, [], ◌∷◌, ◌++◌, length, map, Option, Some, None, refl, sym, ap, ◌∙◌, subst, arith, Contains, eqb-true, eq-eqb}
 use Rattle.std.proofs.lemmas.List.{length-map, get_or-map, reverse-reverse}
 use Rattle.std.specs.List.{flat_map, IsDistinct, AllByRecursion}
@@ -14,17 +14,16 @@ use Rattle.lr_host.specs.declared.thing.Kind.TheVariants as kind
 use Rattle.lr_host.specs.declared.thing.Seen.{Seen}
 use Rattle.lr_host.specs.declared.entry.Entry.{Entry}
 use Rattle.lr_host.specs.declared.entry.Entry.TheVariants as entry
-use Rattle.lr_host.specs.Told.{Then}
 use Rattle.lr_family.specs.declared.spot.Spot.{Spot}
 use Rattle.lr_family.specs.declared.stand.Member.{Member}
-use Rattle.lr_family.specs.declared.stand.Stand.{Stand}
 use Rattle.lr_family.specs.Named.{member_name}
 use Rattle.lr_family.specs.Spots.{path_at, spot_at}
-use Rattle.lr_host.specs.Looks.{Sees, IsDir, IsFileOrGone}
+use Rattle.lr_host.specs.Looks.{IsFileOrGone}
 use Rattle.lr_host.specs.Lists.{IsIn}
-use Rattle.lr_host.proofs.Lists.{in_from, in_to, in_map, in_unmap, in_front, in_back, in_reverse, from_reverse}
+use Rattle.lr_host.proofs.Lists.{in_from, in_to, in_map, in_unmap, in_reverse, from_reverse}
 use Rattle.lr_family.specs.Looks.{Sight, look_of, seen_at, member_of, AreFilesOrGone}
-use Rattle.lr_family.specs.Stands.{number_in, StandsIn, ShowsAs, ShowsStand}
+use Rattle.lr_family.specs.Among.{StandsAmong}
+use Rattle.lr_family.specs.Stands.{number_in}
 use Rattle.lr_family.proofs.Numbers.{in_or_not}
 use Rattle.lr_chain.specs.Rotation.{places_of}
 use Rattle.lr_rotations.specs.Members.{HasName}
@@ -126,41 +125,34 @@ file_of g (f ∷ fs) a (inr h) = file_of g fs (All-tail (λ (x : Sight). IsFileO
 file_seen : (o : Option Seen) (seen : Seen) → o ≡ Some seen → IsFileOrGone o → seen.kind ≡ kind.File
 file_seen o seen e h = subst IsFileOrGone e h
 
-stands_shown : (n : Naming) (members : List Member) (ts us vs : List Entry) → ts ≡ us ++ vs → ((seen : Seen) × (seen.kind ≡ kind.Dir) × IsIn (entry.Look n.dir (Some seen)) us) → StandsIn n members vs → Shown n (places_of members) ts
-stands_shown n members ts us vs joined dir s = record {
-  dir = (dir.0, dir.1, in_us (entry.Look n.dir (Some dir.0)) dir.2);
-  names = l.names;
-  list = in_vs (entry.List n.dir l.names) (subst (IsIn (entry.List n.dir l.names)) (sym s.looks.joined) (in_front (entry.List n.dir l.names) s.looks.front s.looks.back (subst (IsIn (entry.List n.dir l.names)) (sym l.list) (inl refl))));
+-- Looks at the members among the names of a listing, where that and a look at the directory stand among all entries.
+pub stands_shown : (n : Naming) (names : List (List ℕ)) (members : List Member) (us ts : List Entry) → ((e : Entry) → IsIn e us → IsIn e ts) → ((seen : Seen) × (seen.kind ≡ kind.Dir) × IsIn (entry.Look n.dir (Some seen)) ts) → IsIn (entry.List n.dir names) ts → StandsAmong n names members us
+    → Shown n (places_of members) ts
+stands_shown n names members us ts in_ts dir list s = record {
+  dir = dir;
+  names = names;
+  list = list;
   falling = subst IsStrictlyIncreasing (sym (reverse-reverse numbers)) rising;
-  named = λ place c. let f = found place c in ((l.spots_are.all place).0 (spotted f.0 f.1 place f.2)).0;
+  named = λ place c. let f = found place c in ((s.spots_are.all place).0 (spotted f.0 f.1 place f.2)).0;
   files = λ place c. let f = found place c in
       (f.3.0, file_seen f.0.seen f.3.0 f.3.1 (file_of f.0 k.sights k.files f.1), look_in f.0 f.1 place f.2 (Some f.3.0) f.3.1);
-  others = λ place i out. absent place i out (in_or_not l.spots_are.places place);
+  others = λ place i out. absent place i out (in_or_not s.spots_are.places place);
 }
   where
-    l : Rattle.lr_family.specs.Stands.Lists n s.spots s.looks.front
-    l = s.looks.first
-
-    k : Rattle.lr_family.specs.Looks.Shows s.spots s.shown s.looks.back
-    k = s.looks.second
+    k : Rattle.lr_family.specs.Looks.Shows s.spots s.shown us
+    k = s.looks
 
     numbers : List ℕ
     numbers = map (λ (m : Member). number_in m.place) members
-
-    in_us : (e : Entry) → IsIn e us → IsIn e ts
-    in_us e h = subst (IsIn e) (sym joined) (in_front e us vs h)
-
-    in_vs : (e : Entry) → IsIn e vs → IsIn e ts
-    in_vs e h = subst (IsIn e) (sym joined) (in_back e us vs h)
 
     distinct : IsDistinct eqb numbers
     distinct =
         IsDistinct-IsPermutation eqb flips (map (λ (m : Member). number_in m.place) s.shown) numbers (IsPermutation-map (λ (m : Member). number_in m.place) s.shown members s.each)
         (subst (λ (ms : List Member). IsDistinct eqb (map (λ (m : Member). number_in m.place) ms)) (sym k.members_are)
         (seen_distinct k.sights (subst (IsDistinct eqb) (ap (map (λ (x : Spot). x.place)) (sym k.each) ∙ sight_places k.sights)
-        (IsDistinct-IsPermutation eqb flips (map (λ (x : Spot). x.place) (map (spot_at n) l.spots_are.places)) (map (λ (x : Spot). x.place) s.spots)
-        (IsPermutation-map (λ (x : Spot). x.place) (map (spot_at n) l.spots_are.places) s.spots l.spots_are.each)
-        (subst (IsDistinct eqb) (sym (spot_places n l.spots_are.places)) (rising_distinct l.spots_are.places l.spots_are.once))))))
+        (IsDistinct-IsPermutation eqb flips (map (λ (x : Spot). x.place) (map (spot_at n) s.spots_are.places)) (map (λ (x : Spot). x.place) s.spots)
+        (IsPermutation-map (λ (x : Spot). x.place) (map (spot_at n) s.spots_are.places) s.spots s.spots_are.each)
+        (subst (IsDistinct eqb) (sym (spot_places n s.spots_are.places)) (rising_distinct s.spots_are.places s.spots_are.once))))))
 
     rising : IsStrictlyIncreasing numbers
     rising = IsStrictlyIncreasing-from_distinct numbers (numbers_rise (λ (m : Member). number_in m.place) members (IsNonDecreasingBy-from_sort (λ (m : Member). number_in m.place) members s.newest_first)) distinct
@@ -172,30 +164,30 @@ stands_shown n members ts us vs joined dir s = record {
         (Contains-permutation numbers (map (λ (m : Member). number_in m.place) s.shown) place (IsPermutation-sym (map (λ (m : Member). number_in m.place) s.shown) numbers (IsPermutation-map (λ (m : Member). number_in m.place) s.shown members s.each))
         (in_to place numbers (from_reverse place numbers (in_from place (places_of members) c))))))
 
-    spot_in : (g : Sight) → IsIn g k.sights → IsIn g.spot (map (spot_at n) l.spots_are.places)
-    spot_in g h = in_from g.spot (map (spot_at n) l.spots_are.places)
-        (Contains-permutation s.spots (map (spot_at n) l.spots_are.places) g.spot (IsPermutation-sym (map (spot_at n) l.spots_are.places) s.spots l.spots_are.each)
+    spot_in : (g : Sight) → IsIn g k.sights → IsIn g.spot (map (spot_at n) s.spots_are.places)
+    spot_in g h = in_from g.spot (map (spot_at n) s.spots_are.places)
+        (Contains-permutation s.spots (map (spot_at n) s.spots_are.places) g.spot (IsPermutation-sym (map (spot_at n) s.spots_are.places) s.spots s.spots_are.each)
         (in_to g.spot s.spots (subst (IsIn g.spot) k.each (in_map (λ (f : Sight). f.spot) g k.sights h))))
 
-    spot_is : (g : Sight) → IsIn g k.sights → (g.spot ≡ spot_at n g.spot.place) × IsIn g.spot.place l.spots_are.places
+    spot_is : (g : Sight) → IsIn g k.sights → (g.spot ≡ spot_at n g.spot.place) × IsIn g.spot.place s.spots_are.places
     spot_is g h =
-        let r = in_unmap (spot_at n) g.spot l.spots_are.places (spot_in g h) in
+        let r = in_unmap (spot_at n) g.spot s.spots_are.places (spot_in g h) in
         let same : r.0 ≡ g.spot.place = ap (λ (x : Spot). x.place) r.2 in
-        (sym r.2 ∙ ap (spot_at n) same, subst (λ (j : ℕ). IsIn j l.spots_are.places) same r.1)
+        (sym r.2 ∙ ap (spot_at n) same, subst (λ (j : ℕ). IsIn j s.spots_are.places) same r.1)
 
-    spotted : (g : Sight) → IsIn g k.sights → (place : ℕ) → g.spot.place ≡ place → Contains l.spots_are.places place
-    spotted g h place e = in_to place l.spots_are.places (subst (λ (j : ℕ). IsIn j l.spots_are.places) e (spot_is g h).1)
+    spotted : (g : Sight) → IsIn g k.sights → (place : ℕ) → g.spot.place ≡ place → Contains s.spots_are.places place
+    spotted g h place e = in_to place s.spots_are.places (subst (λ (j : ℕ). IsIn j s.spots_are.places) e (spot_is g h).1)
 
     look_in : (g : Sight) → IsIn g k.sights → (place : ℕ) → g.spot.place ≡ place → (o : Option Seen) → g.seen ≡ o → IsIn (entry.Look (path_at n place) o) ts
     look_in g h place e o q =
         let path : g.spot.path ≡ path_at n place = ap (λ (x : Spot). x.path) (spot_is g h).0 ∙ ap (path_at n) e in
-        in_vs (entry.Look (path_at n place) o) (subst (IsIn (entry.Look (path_at n place) o)) (sym s.looks.joined) (in_back (entry.Look (path_at n place) o) s.looks.front s.looks.back
-        (subst (IsIn (entry.Look (path_at n place) o)) (sym k.looks) (subst (λ (x : Path). IsIn (entry.Look x o) (map look_of k.sights)) path (subst (λ (v : Option Seen). IsIn (entry.Look g.spot.path v) (map look_of k.sights)) q (in_map look_of g k.sights h))))))
+        in_ts (entry.Look (path_at n place) o)
+        (subst (IsIn (entry.Look (path_at n place) o)) (sym k.looks) (subst (λ (x : Path). IsIn (entry.Look x o) (map look_of k.sights)) path (subst (λ (v : Option Seen). IsIn (entry.Look g.spot.path v) (map look_of k.sights)) q (in_map look_of g k.sights h))))
 
-    sight_of : (place : ℕ) → Contains l.spots_are.places place → (g : Sight) × IsIn g k.sights × (g.spot ≡ spot_at n place)
+    sight_of : (place : ℕ) → Contains s.spots_are.places place → (g : Sight) × IsIn g k.sights × (g.spot ≡ spot_at n place)
     sight_of place c = in_unmap (λ (f : Sight). f.spot) (spot_at n place) k.sights (subst (IsIn (spot_at n place)) (sym k.each)
-        (in_from (spot_at n place) s.spots (Contains-permutation (map (spot_at n) l.spots_are.places) s.spots (spot_at n place) l.spots_are.each
-        (in_to (spot_at n place) (map (spot_at n) l.spots_are.places) (in_map (spot_at n) place l.spots_are.places (in_from place l.spots_are.places c))))))
+        (in_from (spot_at n place) s.spots (Contains-permutation (map (spot_at n) s.spots_are.places) s.spots (spot_at n place) s.spots_are.each
+        (in_to (spot_at n place) (map (spot_at n) s.spots_are.places) (in_map (spot_at n) place s.spots_are.places (in_from place s.spots_are.places c))))))
 
     place_in : (g : Sight) (seen : Seen) (place : ℕ) → IsIn g k.sights → g.spot.place ≡ place → g.seen ≡ Some seen → Contains (places_of members) place
     place_in g seen place h e q = in_to place (places_of members) (in_reverse place numbers (in_from place numbers
@@ -203,9 +195,9 @@ stands_shown n members ts us vs joined dir s = record {
         (in_to place (map (λ (m : Member). number_in m.place) s.shown) (subst (λ (ms : List Member). IsIn place (map (λ (m : Member). number_in m.place) ms)) (sym k.members_are)
         (subst (λ (j : ℕ). IsIn j (map (λ (m : Member). number_in m.place) (flat_map member_of k.sights))) e (seen_in g seen k.sights h q)))))))
 
-    absent : (place : ℕ) → HasName n place → (Contains (places_of members) place → ⊥) → Contains l.spots_are.places place ⊎ (Contains l.spots_are.places place → ⊥)
-        → (Contains l.names (member_name n (n.start + place)) → ⊥) ⊎ IsIn (entry.Look (path_at n place) None) ts
-    absent place i out (inr unlisted) = inl (λ c. unlisted ((l.spots_are.all place).1 (i, c)))
+    absent : (place : ℕ) → HasName n place → (Contains (places_of members) place → ⊥) → Contains s.spots_are.places place ⊎ (Contains s.spots_are.places place → ⊥)
+        → (Contains names (member_name n (n.start + place)) → ⊥) ⊎ IsIn (entry.Look (path_at n place) None) ts
+    absent place i out (inr unlisted) = inl (λ c. unlisted ((s.spots_are.all place).1 (i, c)))
     absent place i out (inl listed) = by g.0.seen refl
       where
         g : (g : Sight) × IsIn g k.sights × (g.spot ≡ spot_at n place)
@@ -214,20 +206,6 @@ stands_shown n members ts us vs joined dir s = record {
         at_place : g.0.spot.place ≡ place
         at_place = ap (λ (x : Spot). x.place) g.2
 
-        by : (o : Option Seen) → g.0.seen ≡ o → (Contains l.names (member_name n (n.start + place)) → ⊥) ⊎ IsIn (entry.Look (path_at n place) None) ts
+        by : (o : Option Seen) → g.0.seen ≡ o → (Contains names (member_name n (n.start + place)) → ⊥) ⊎ IsIn (entry.Look (path_at n place) None) ts
         by None q = inr (look_in g.0 g.1 place at_place None q)
         by (Some seen) q = absurd (out (place_in g.0 seen place g.1 at_place q))
-
-dir_seen : (x : Path) (ts : List Entry) → Sees x IsDir ts → (seen : Seen) × (seen.kind ≡ kind.Dir) × IsIn (entry.Look x (Some seen)) ts
-dir_seen x ts s = go s.seen s.is s.look
-  where
-    go : (o : Option Seen) → IsDir o → ts ≡ entry.Look x o ∷ [] → (seen : Seen) × (seen.kind ≡ kind.Dir) × IsIn (entry.Look x (Some seen)) ts
-    go None d e = absurd d
-    go (Some seen) d e = (seen, d, subst (IsIn (entry.Look x (Some seen))) (sym e) (inl refl))
-
--- a stand whose directory is there
-pub shown : (n : Naming) (stand : Stand) (ts : List Entry) → stand.there ≡ true → ShowsStand n stand ts → Shown n (places_of stand.members) ts
-shown n stand ts there h = go (subst (λ (b : Bool). ShowsAs n b stand.parent stand.members ts) there h)
-  where
-    go : (stand.parent ≡ true) × Then (Sees n.dir IsDir) (StandsIn n stand.members) ts → Shown n (places_of stand.members) ts
-    go t = stands_shown n stand.members ts t.1.front t.1.back t.1.joined (dir_seen n.dir t.1.front t.1.first) t.1.second

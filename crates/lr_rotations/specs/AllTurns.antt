@@ -1,5 +1,5 @@
 -- The entries of a run that looks at all its logs first, and rotates them then.
-use Rattle.std.specs.Prelude.{◌≡◌, ◌≢◌, ◌⊎◌, List, [], ◌∷◌, ◌++◌, filter, codes, cond, bytes_eq}
+use Rattle.std.specs.Prelude.{◌≡◌, ◌≢◌, ◌⊎◌, List, [], ◌∷◌, ◌++◌, filter, codes, cond, bytes_eq, Option, Some, None}
 use Rattle.std.specs.List.{flat_map}
 use Rattle.lr_rules.specs.declared.path.Path.{Path}
 use Rattle.lr_rules.specs.declared.civil.Moment.{Moment}
@@ -11,7 +11,7 @@ use Rattle.lr_host.specs.Quiet.{AreQuiet}
 use Rattle.lr_host.specs.Steps.{is_change}
 use Rattle.lr_host.specs.Told.{Each}
 use Rattle.lr_laws.specs.Follow.{changed_paths}
-use Rattle.lr_rotations.specs.Rotated.{MakesAt}
+use Rattle.lr_copy.specs.declared.job.Job.{Job}
 use Rattle.lr_rotations.specs.Target.{Target, rotation_of, AreSeen, IsOneOf}
 use Rattle.lr_rotations.specs.Weave.{Weave, FirstWoven}
 
@@ -27,9 +27,24 @@ IsOfState state (entry.Appends x bytes) = IsStatePath state x
 IsOfState state (entry.Unlinks x) = IsStatePath state x
 IsOfState state _ = ⊥
 
--- the entry is a step of the rotation of this log, or makes it anew
+-- the log is copied
+abbrev pub IsCopied : Target → Type 0
+IsCopied t = (job : Job) × (t.job ≡ Some job)
+
+-- the path is that of the part file of its copy
+abbrev pub IsPartFile : Target → Path → Type 0
+IsPartFile t x = (job : Job) × (t.job ≡ Some job) × (x ≡ job.part)
+
+-- What a rotation does besides its renames and unlinks: the log is made anew; where it is copied, its part file is made and filled, and the log is emptied.
+abbrev pub AlsoDoes : Target → Entry → Type 0
+AlsoDoes t (entry.Makes x mode) = (x ≡ t.log) ⊎ IsPartFile t x
+AlsoDoes t (entry.Appends x bytes) = IsPartFile t x
+AlsoDoes t (entry.Truncates x) = IsCopied t × (x ≡ t.log)
+AlsoDoes t _ = ⊥
+
+-- the entry is of the rotation of this log
 abbrev pub IsOf : Target → Entry → Type 0
-IsOf t e = IsIn e (rotation_of t) ⊎ MakesAt t.log e
+IsOf t e = IsIn e (rotation_of t) ⊎ AlsoDoes t e
 
 -- of one of these logs
 abbrev pub IsOfSome : List Target → Entry → Type 0
@@ -41,19 +56,28 @@ abbrev pub IsOfOther : Path → List Target → Entry → Type 0
 IsOfOther log [] e = ⊥
 IsOfOther log (t ∷ ts) e = ((t.log ≢ log) × IsOf t e) ⊎ IsOfOther log ts e
 
--- of another log, or of the state, or the making of this log anew: what may stand between the steps of this log's rotation
-abbrev pub StandsBetween : Path → Path → List Target → Entry → Type 0
-StandsBetween state log targets e = IsOfOther log targets e ⊎ (IsOfState state e ⊎ MakesAt log e)
+-- of another log, or of the state, or what this log's rotation does besides: what may stand between its renames and unlinks
+abbrev pub StandsBetween : Path → Target → List Target → Entry → Type 0
+StandsBetween state t targets e = IsOfOther t.log targets e ⊎ (IsOfState state e ⊎ AlsoDoes t e)
 
--- the paths that the steps of other logs change, and those of the state
+-- the path of the part file, where the log is copied
+abbrev pub part_paths : Option Job → List Path
+part_paths None = []
+part_paths (Some job) = job.part ∷ []
+
+-- all paths that a rotation changes
+abbrev pub paths_of : Target → List Path
+paths_of t = t.log ∷ (part_paths t.job ++ flat_map changed_paths (rotation_of t))
+
+-- the paths that the rotations of other logs change, and those of the state
 abbrev pub paths_of_others : Path → List Target → List Path
 paths_of_others log [] = []
-paths_of_others log (t ∷ ts) = cond (bytes_eq t.log log) (paths_of_others log ts) (flat_map changed_paths (rotation_of t) ++ paths_of_others log ts)
+paths_of_others log (t ∷ ts) = cond (bytes_eq t.log log) (paths_of_others log ts) (paths_of t ++ paths_of_others log ts)
 
 abbrev pub other_paths : Path → Path → List Target → List Path
 other_paths state log targets = state ∷ (state ++ codes ".tmp") ∷ paths_of_others log targets
 
--- All logs were looked at while nothing was changed. Of the changes behind that, each is a step of one of the logs, or makes it anew, or is the state's; seen from each log, they are a first part of its own rotation, in order, with the steps of others between, and the making of the log.
+-- All logs were looked at while nothing was changed. Of the changes behind that, each is of the rotation of one of the logs, or the state's; seen from each log, they are a first part of its own renames and unlinks, in order, with the changes of others between, and what its rotation does besides.
 pub record AllTurns (state : Path) (rules : Rules) (ts : List Entry) : Type 0 where
   pub looks : List Entry
   pub acts : List Entry
@@ -62,12 +86,12 @@ pub record AllTurns (state : Path) (rules : Rules) (ts : List Entry) : Type 0 wh
   pub targets : List Target
   pub seen : AreSeen rules looks targets
   pub all : Each (λ e. IsOfSome targets e ⊎ IsOfState state e) (filter is_change acts)
-  pub each : (t : Target) → IsOneOf t targets → FirstWoven (StandsBetween state t.log targets) (rotation_of t) (filter is_change acts)
+  pub each : (t : Target) → IsOneOf t targets → FirstWoven (StandsBetween state t targets) (rotation_of t) (filter is_change acts)
 
--- Each log was rotated whole: its rotation stands in order, with the steps of others between.
+-- Each log was rotated whole: its renames and unlinks stand in order, with the changes of others between, and what its rotation does besides.
 pub record AllTurned (state : Path) (rules : Rules) (ts : List Entry) : Type 0 where
   pub turns : AllTurns state rules ts
-  pub whole : (t : Target) → IsOneOf t turns.targets → Weave (StandsBetween state t.log turns.targets) (rotation_of t) (filter is_change turns.acts)
+  pub whole : (t : Target) → IsOneOf t turns.targets → Weave (StandsBetween state t turns.targets) (rotation_of t) (filter is_change turns.acts)
 
 -- What a run did behind what it read: nothing more, or it started, looked, and rotated.
 pub data MayTurnAll (ts : List Entry) : Type 0 where

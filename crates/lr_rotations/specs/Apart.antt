@@ -2,13 +2,15 @@
 use Rattle.std.specs.Prelude.{List, [], ◌∷◌, All}
 use Rattle.lr_chain.specs.Rotation.{places_of}
 use Rattle.lr_rotations.specs.Members.{IsFamily, HasName, HaveNext}
-use Rattle.lr_rotations.specs.Target.{Target}
+use Rattle.lr_rotations.specs.Target.{Target, HasReady, HasJob}
 
--- each member that was seen has a name, and each place that one comes to
+-- Each member that was seen has a name, and each place that one comes to; the rotation that is ready is theirs, and so is the copy.
 pub record HasNames (t : Target) : Type 0 where
   pub family : IsFamily t.log t.naming
   pub named : All (HasName t.naming) (places_of t.stand.members)
   pub next : HaveNext t.naming t.count (places_of t.stand.members)
+  pub ready : HasReady t
+  pub job : HasJob t
 
 abbrev pub HaveNames : List Target → Type 0
 HaveNames [] = Unit {0}

@@ -1,5 +1,6 @@
 pub mod AllTurns
 pub mod Apart
+pub mod Calls
 pub mod Members
 pub mod Rotated
 pub mod Shown

@@ -1,15 +1,17 @@
 -- The logs that a run may rotate, and what it saw of each.
-use Rattle.std.specs.Prelude.{◌≡◌, ◌≢◌, ◌⊎◌, ◌+◌, ℕ, true, List, [], ◌∷◌, reverse, None, Any, Contains}
+use Rattle.std.specs.Prelude.{◌≡◌, ◌≢◌, ◌⊎◌, ◌↔◌, ◌+◌, ℕ, true, List, [], ◌∷◌, ◌++◌, map, reverse, Option, Some, None, Any, Contains}
 use Rattle.lr_rules.specs.declared.path.Path.{Path}
 use Rattle.lr_rules.specs.declared.rule.Count.{Count}
 use Rattle.lr_rules.specs.declared.rule.Count.TheVariants as count
 use Rattle.lr_rules.specs.declared.rule.Naming.{Naming}
 use Rattle.lr_rules.specs.declared.rule.Rule.{Rule}
+use Rattle.lr_rules.specs.declared.rule.Way.TheVariants.{Rename}
 use Rattle.lr_rules.specs.declared.rules.Rules.{Rules}
 use Rattle.lr_rules.specs.Match.{WordGives, is_wildcard}
 use Rattle.lr_rules.specs.Names.{IsMemberAt, naming_of}
 use Rattle.lr_rules.specs.Path.{path_fault}
 use Rattle.lr_host.specs.declared.entry.Entry.{Entry}
+use Rattle.lr_host.specs.declared.entry.Entry.TheVariants.{Renames, Unlinks}
 use Rattle.lr_host.specs.Fits.{IsFileAt}
 use Rattle.lr_host.specs.Looks.{Sees, IsFile}
 use Rattle.lr_host.specs.Opening.{IsJournal}
@@ -18,8 +20,14 @@ use Rattle.lr_host.specs.Told.{Made}
 use Rattle.lr_host.specs.World.{Past, world, names}
 use Rattle.lr_family.specs.declared.stand.Member.{Member}
 use Rattle.lr_family.specs.declared.stand.Stand.{Stand}
+use Rattle.lr_family.specs.Parts.{part_of}
 use Rattle.lr_family.specs.Stands.{number_in}
-use Rattle.lr_chain.specs.Rotation.{places_of, rotation}
+use Rattle.lr_scripts.specs.declared.removal.Removal.{Removal}
+use Rattle.lr_copy.specs.declared.job.Job.{Job}
+use Rattle.lr_copy.specs.Copying.{clearing}
+use Rattle.lr_chain.specs.declared.ready.Ready.{Ready}
+use Rattle.lr_chain.specs.Ready.{IsReady, move_step}
+use Rattle.lr_chain.specs.Rotation.{places_of}
 use Rattle.lr_rotations.specs.Members.{IsFamily}
 use Rattle.lr_rotations.specs.Shown.{Shown}
 use Rattle.lr_rotations.specs.Weave.{Among}
@@ -31,8 +39,8 @@ pub record Gives (rules : List Rule) (rule : Rule) (word : List ℕ) (log : Path
       → (x : Path) (place : ℕ) → x ≢ log → path_fault x ≡ None → WordGives word x → IsFileAt (names (world p)) x → IsMemberAt (naming_of rule x) place log
       → SomeRule rules x (λ r. (at : ℕ) → IsMemberAt (naming_of r x) at log → ⊥)
 
--- One of the rules has a word that gives this log, as some of these looks tell. The rule gives the log this naming and this count.
-pub record IsGiven (rules : List Rule) (looks : List Entry) (log : Path) (n : Naming) (c : Count) : Type 0 where
+-- One of the rules has a word that gives this log, as some of these looks tell. The rule gives the log this naming and this count; it has the log copied where there is a job, and renamed where there is none.
+pub record IsGiven (rules : List Rule) (looks : List Entry) (log : Path) (n : Naming) (c : Count) (job : Option Job) : Type 0 where
   pub rule : Rule
   pub word : List ℕ
   pub among : Contains rules rule
@@ -40,28 +48,62 @@ pub record IsGiven (rules : List Rule) (looks : List Entry) (log : Path) (n : Na
   pub given : Among (Gives rules rule word log) looks
   pub naming_is : naming_of rule log ≡ n
   pub count_is : rule.count ≡ c
+  pub way_is : (rule.way ≡ Rename) ↔ (job ≡ None)
 
 -- a member has the highest number that there is, and all members are kept: it would have to move
 abbrev pub IsOneTooHigh : Naming → Count → List Member → Type 0
 IsOneTooHigh n c members = (c ≡ count.Always) × Any (λ m. n.start + number_in m.place ≡ 4294967295) members
 
--- A log that a run may rotate: its naming and count, and what stood of its family.
+-- A log that a run may rotate: its naming and count, what stood of its family, its rotation, which is ready, and the copy that stands in the place of the log's rename, if any.
 pub record Target : Type 0 where
   pub log : Path
   pub naming : Naming
   pub count : Count
   pub stand : Stand
+  pub ready : Ready
+  pub job : Option Job
 
+-- the unlinks of these removals
+abbrev pub unlinks : List Removal → List Entry
+unlinks rs = map (λ r. Unlinks r.path) rs
+
+-- What brings the log to its final path: its rename; or, of a copy, the unlink of an old part file and the rename of the new one.
+abbrev pub transfer_of : Ready → Option Job → List Entry
+transfer_of ready None = Renames ready.log ready.target ∷ []
+transfer_of ready (Some job) = clearing job ++ Renames job.part job.to ∷ []
+
+-- The renames and unlinks of its rotation, in order.
 abbrev pub rotation_of : Target → List Entry
-rotation_of t = rotation t.naming t.count t.log (places_of t.stand.members)
+rotation_of t = unlinks t.ready.leftovers ++ (map move_step t.ready.moves ++ (transfer_of t.ready t.job ++ unlinks t.ready.retire))
 
--- A word of a rule gives the log; it was seen as a file, and its members were, wherever these looks stand.
+-- the rotation that is ready is that of the members that stood
+abbrev pub HasReady : Target → Type 0
+HasReady t = IsReady t.log t.naming t.count t.ready.make t.stand.members t.ready
+
+-- The job copies the log, by a part file in the family's directory, to the final path.
+pub record IsJob (t : Target) (job : Job) : Type 0 where
+  pub from_is : job.from ≡ t.log
+  pub to_is : job.to ≡ t.ready.target
+  pub part_is : job.part ≡ part_of job.to
+  pub dir_is : job.dir ≡ t.naming.dir
+
+-- where there is a job, it is such a one
+abbrev pub HasJob : Target → Type 0
+HasJob t = (job : Job) → t.job ≡ Some job → IsJob t job
+
+-- and where an old part file goes, these looks saw one
+abbrev pub IsJobOf : Target → List Entry → Type 0
+IsJobOf t looks = (job : Job) → t.job ≡ Some job → IsJob t job × (job.stale ≡ true → Among (Sees job.part IsFile) looks)
+
+-- A word of a rule gives the log; it was seen as a file, and its members were, wherever these looks stand. Its rotation is that of the members that were seen, and so is its copy.
 pub record IsSeen (rules : Rules) (looks : List Entry) (t : Target) : Type 0 where
-  pub given : IsGiven rules.sets looks t.log t.naming t.count
+  pub given : IsGiven rules.sets looks t.log t.naming t.count t.job
   pub family : IsFamily t.log t.naming
   pub log_seen : Among (Sees t.log IsFile) looks
   pub seen : Shown t.naming (places_of t.stand.members) looks
   pub low : IsOneTooHigh t.naming t.count t.stand.members → ⊥
+  pub ready : HasReady t
+  pub job : IsJobOf t looks
 
 abbrev pub AreSeen : Rules → List Entry → List Target → Type 0
 AreSeen rules looks [] = Unit {0}

@@ -13,34 +13,38 @@ ghost use Rattle.lr_host.specs.Quiet.{AreQuiet};
 ghost use Rattle.lr_host.specs.Safe.{IsSafe, KeepsSafe};
 ghost use Rattle.lr_host.specs.Sets.{LogSet};
 ghost use Rattle.lr_host.specs.Steady.{IsSteady};
-ghost use Rattle.lr_host.specs.Steps.{CanAll};
 ghost use Rattle.lr_host.specs.Told.{Made, Left};
+ghost use Rattle.lr_copy.specs.declared.job.Job.{Job};
+ghost use Rattle.lr_copy.specs.Fits.{ArePaths};
 ghost use Rattle.lr_rotations.specs.AllTurns.{other_paths, AllTurns, AllTurned, IsWholeRun};
 ghost use Rattle.lr_rotations.specs.Apart.{HasNames, HaveNames};
+ghost use Rattle.lr_rotations.specs.Calls.{CanCalls, calls_of};
 ghost use Rattle.lr_rotations.specs.Members.{IsFamily};
 ghost use Rattle.lr_rotations.specs.Rotated.{AreOutside, RotatesAmong};
-ghost use Rattle.lr_rotations.specs.Target.{Target, rotation_of, IsSeen, IsOneOf};
+ghost use Rattle.lr_rotations.specs.Target.{Target, IsSeen, IsOneOf};
 
 /// Over calls that leave the entries of such a run, as far as it came, each set stays safe: the set of a log that was
 /// rotated, or of any other, numbered or dated, whatever other logs' steps and the state's entries stand between, with
-/// writers' entries in a journal where the set is steady.
+/// writers' entries in a journal where the set is steady. It is not where the rule of its log asks for a copy.
 pub fn all_stay_safe()
     ensures { (before after : Option Journal) → Left IsWholeRun before after → KeepsSafe before after }
 {}
 
-/// Behind looks that saw a log and its family its rotation fits by itself, whatever writers did meanwhile, and there are
-/// names for all its members.
+/// Behind looks that saw a log and its family the calls of its rotation fit by themselves, one after another, whatever
+/// writers did meanwhile, also where the log is copied; and there are names for all its members, and for the part file of a
+/// copy, which is neither the log nor the final path.
 pub fn seen_can_be_rotated()
     ensures fits { (rules : Rules) (t : Target) (before now : Option Journal) → Left (λ ts. AreQuiet ts × IsSeen rules ts t) before now
-        → CanAll now (rotation_of t) }
+        → CanCalls now (calls_of t) }
     ensures names { (rules : Rules) (looks : List Entry) (t : Target) → IsSeen rules looks t → HasNames t }
+    ensures paths { (rules : Rules) (looks : List Entry) (t : Target) (job : Job) → IsSeen rules looks t → t.job ≡ Some job → ArePaths job }
 {}
 
-/// Where each log was rotated whole, the entries are, for each of them, the looks at it and its rotation, with others
-/// between on the paths of other logs and of the state: `family_is_rotated` says what becomes of its files.
+/// Where each log was rotated whole, the entries are, for each of them that isn't copied, the looks at it and its rotation,
+/// with others between on the paths of other logs and of the state: `family_is_rotated` says what becomes of its files.
 pub fn whole_run_rotates()
     ensures { (state : Path) (now : Moment) (rules : Rules) (reads tail : List Entry) (t : AllTurned state rules tail)
-        (x : Target) → AreQuiet reads → IsOneOf x t.turns.targets
+        (x : Target) → AreQuiet reads → IsOneOf x t.turns.targets → x.job ≡ None
         → RotatesAmong (other_paths state x.log t.turns.targets) x.log x.naming x.count x.stand (reads ++ Starts state now rules ∷ tail) }
 {}
 

@@ -1,4 +1,4 @@
-use Rattle.lr_rotations.proofs.Apart.{others_left}
+use Rattle.lr_rotations.proofs.LeftAlone.{others_left}
 use Rattle.lr_rotations.proofs.run.other_sets_are_left.Goals as goal
 
 pub returns : goal.returns
