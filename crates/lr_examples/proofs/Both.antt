@@ -10,11 +10,10 @@ use Rattle.lr_host.specs.Quiet.{AreQuiet}
 use Rattle.lr_host.specs.Steps.{is_change}
 use Rattle.lr_host.specs.Told.{Each}
 use Rattle.lr_host.proofs.Each.{each_append, each_first, each_as, all_pass}
-use Rattle.lr_chain.specs.Rotation.{places_of}
-use Rattle.lr_chain.proofs.Steps.{each_rotation}
 use Rattle.lr_rotations.specs.AllTurns.{IsOfState, IsOfSome, StandsBetween, AllTurns, AllTurned}
 use Rattle.lr_rotations.specs.Target.{Target, rotation_of, AreSeen, IsOneOf}
 use Rattle.lr_rotations.specs.Weave.{Weave, IsFirstOf, FirstWoven}
+use Rattle.lr_rotations.proofs.Rotating.{each_turn}
 use Rattle.lr_rotations.proofs.Weaving.{weave_on, weave_own, weave_others}
 
 -- ---- first parts
@@ -61,7 +60,7 @@ each_in_steps xs us f = each_first (λ e. IsIn e xs) us f.0 (subst (Each (λ e. 
 -- the steps of a rotation are changes
 first_changes : (t : Target) (us : List Entry) → IsFirstOf (rotation_of t) us → filter is_change us ≡ us
 first_changes t us f =
-    all_pass is_change us (each_first (λ e. is_change e ≡ true) us f.0 (subst (Each (λ e. is_change e ≡ true)) f.1 (each_rotation (λ e. is_change e ≡ true) (λ x. refl) (λ x y. refl) t.naming t.count t.log (places_of t.stand.members))))
+    all_pass is_change us (each_first (λ e. is_change e ≡ true) us f.0 (subst (Each (λ e. is_change e ≡ true)) f.1 (each_turn (λ e. is_change e ≡ true) (λ x. refl) (λ x y. refl) t)))
 
 -- own entries, and then others
 own_first : (P : Entry → Type 0) (us os : List Entry) → Each P os → Weave P us (us ++ os)
@@ -96,7 +95,7 @@ module _ (state : Path) (rules : Rules) (looks : List Entry) (x y : Target) (apa
 
     -- seen from the first log, the second's steps and the state's entries stand between
     abbrev ByFirst : Entry → Type 0
-    ByFirst e = StandsBetween state x.log targets e
+    ByFirst e = StandsBetween state x targets e
 
     by_first : Weave ByFirst us (filter is_change acts)
     by_first = subst (Weave ByFirst us) (sym changes) (own_first ByFirst us (vs ++ saved)
@@ -105,7 +104,7 @@ module _ (state : Path) (rules : Rules) (looks : List Entry) (x y : Target) (apa
 
     -- and from the second, the first's
     abbrev BySecond : Entry → Type 0
-    BySecond e = StandsBetween state y.log targets e
+    BySecond e = StandsBetween state y targets e
 
     by_second : Weave BySecond vs (filter is_change acts)
     by_second = subst (Weave BySecond vs) (sym changes) (weave_on BySecond [] us vs (vs ++ saved)
@@ -113,7 +112,7 @@ module _ (state : Path) (rules : Rules) (looks : List Entry) (x y : Target) (apa
         (own_first BySecond vs saved (each_as (IsOfState state) BySecond saved (λ e h. inr (inl h)) of_state)))
 
     abbrev SeenFrom : Target → Type 0
-    SeenFrom t = FirstWoven (StandsBetween state t.log targets) (rotation_of t) (filter is_change acts)
+    SeenFrom t = FirstWoven (StandsBetween state t targets) (rotation_of t) (filter is_change acts)
 
     each : (t : Target) → IsOneOf t targets → SeenFrom t
     each t (inl is) = subst SeenFrom is (record { made = us; first = first; woven = by_first })
@@ -132,11 +131,11 @@ module _ (state : Path) (rules : Rules) (looks : List Entry) (x y : Target) (apa
     second_whole = ([], second ∙ sym (append-nil vs))
 
     abbrev IsWhole : Target → Type 0
-    IsWhole t = Weave (StandsBetween state t.log targets) (rotation_of t) (filter is_change (us ++ (vs ++ behind)))
+    IsWhole t = Weave (StandsBetween state t targets) (rotation_of t) (filter is_change (us ++ (vs ++ behind)))
 
     whole : (t : Target) → IsOneOf t targets → IsWhole t
-    whole t (inl is) = subst IsWhole is (subst (λ steps. Weave (StandsBetween state x.log targets) steps (filter is_change (us ++ (vs ++ behind)))) (sym first) (by_first us vs behind first_whole second_whole of_state))
-    whole t (inr (inl is)) = subst IsWhole is (subst (λ steps. Weave (StandsBetween state y.log targets) steps (filter is_change (us ++ (vs ++ behind)))) (sym second) (by_second us vs behind first_whole second_whole of_state))
+    whole t (inl is) = subst IsWhole is (subst (λ steps. Weave (StandsBetween state x targets) steps (filter is_change (us ++ (vs ++ behind)))) (sym first) (by_first us vs behind first_whole second_whole of_state))
+    whole t (inr (inl is)) = subst IsWhole is (subst (λ steps. Weave (StandsBetween state y targets) steps (filter is_change (us ++ (vs ++ behind)))) (sym second) (by_second us vs behind first_whole second_whole of_state))
     whole t (inr (inr none)) = absurd none
 
     pub both_turned : (t : AllTurned state rules (looks ++ (us ++ (vs ++ behind)))) × (t.turns.targets ≡ targets)

@@ -1,5 +1,5 @@
 -- The names of the members of both logs, and that both are families.
-use Rattle.std.proofs.Common.{◌≡◌, ℕ, zero, suc, ◌+◌, refl, ◌∙◌, ap, arith, None, List, [], ◌∷◌, ◌++◌, codes, true}
+use Rattle.std.proofs.Common.{◌≡◌, ℕ, zero, suc, ◌+◌, refl, sym, ◌∙◌, ap, arith, None, List, [], ◌∷◌, ◌++◌, map, codes, true}
 use Rattle.std.specs.Prelude.{decimal, IsAscii}
 use Rattle.std.specs.Str.{is_utf8}
 use Rattle.std.proofs.lemmas.Str.{is_utf8-from_IsUtf8, IsUtf8-from_ascii}
@@ -12,9 +12,12 @@ use Rattle.lr_family.specs.Named.{framed, member_name}
 use Rattle.lr_family.specs.Spots.{path_at}
 use Rattle.lr_family.proofs.Unique.{joined_same}
 use Rattle.lr_rotations.specs.Members.{IsFamily}
-use Rattle.lr_rotations.specs.Target.{rotation_of}
-use Rattle.lr_examples.specs.Logs.{a_log, a_first, a_second, a_third, a_naming, a_target, b_log, b_first, b_naming, b_target}
-use Rattle.lr_examples.specs.TwoLogs.{a_steps, b_steps}
+use Rattle.lr_chain.specs.declared.ready.Move.{Move}
+use Rattle.lr_chain.specs.Ready.{move_from}
+use Rattle.lr_chain.specs.Rotation.{places_of, rotation}
+use Rattle.lr_rotations.specs.Target.{HasReady}
+use Rattle.lr_examples.specs.Logs.{a_log, a_first, a_second, a_third, a_count, a_naming, a_stand, a_ready, a_target, b_log, b_first, b_naming, b_target}
+use Rattle.lr_examples.specs.TwoLogs.{a_steps}
 
 -- ---- names and paths of members
 
@@ -89,10 +92,30 @@ b_family = record {
 by_paths : Path → Path → Path → List Entry
 by_paths first second third = Renames second third ∷ Renames first second ∷ Renames a_log first ∷ Unlinks third ∷ []
 
-pub a_rotation : rotation_of a_target ≡ a_steps
+pub a_rotation : rotation a_naming a_count a_log (places_of a_stand.members) ≡ a_steps
 unfolding by_paths
 a_rotation =
     ap (λ (x : Path). by_paths x (path_at a_naming 1) (path_at a_naming 2)) first_path ∙ (ap (λ (x : Path). by_paths a_first x (path_at a_naming 2)) second_path ∙ ap (λ (x : Path). by_paths a_first a_second x) third_path)
 
-pub b_rotation : rotation_of b_target ≡ b_steps
-b_rotation = ap (λ (x : Path). Renames b_log x ∷ []) b_first_path
+-- what is ready is that
+by_moves : Path → Path → Path → List Move
+by_moves first second third = record { from = second; to = third } ∷ record { from = first; to = second } ∷ []
+
+a_moves : a_ready.moves ≡ map (move_from a_naming) (1 ∷ 0 ∷ [])
+unfolding by_moves
+a_moves =
+    ap (λ (x : Path). by_moves x a_second a_third) (sym first_path) ∙ (ap (λ (x : Path). by_moves (path_at a_naming 0) x a_third) (sym second_path) ∙ ap (λ (x : Path). by_moves (path_at a_naming 0) (path_at a_naming 1) x) (sym third_path))
+
+pub a_is_ready : HasReady a_target
+a_is_ready = record {
+  leftovers_are = refl;
+  no_dir = refl;
+  moves_are = a_moves;
+  log_is = refl;
+  target_is = sym first_path;
+  make_is = refl;
+  retire_is = ap (λ (x : Path). record { path = x; preremove = None; mail = None } ∷ []) (sym third_path);
+}
+
+pub b_is_ready : HasReady b_target
+b_is_ready = record { leftovers_are = refl; no_dir = refl; moves_are = refl; log_is = refl; target_is = sym b_first_path; make_is = refl; retire_is = refl }

@@ -1,5 +1,5 @@
 -- What the looks show of both logs.
-use Rattle.std.proofs.Common.{◌≡◌, ◌≢◌, inl, inr, ℕ, zero, suc, ◌+◌, refl, sym, ap, subst, arith, Some, List, [], ◌∷◌, get_or, Contains, codes}
+use Rattle.std.proofs.Common.{◌≡◌, ◌≢◌, inl, inr, ℕ, zero, suc, ◌+◌, refl, sym, ap, subst, arith, Some, None, List, [], ◌∷◌, get_or, Contains, codes}
 use Rattle.std.specs.Prelude.{decimal}
 use Rattle.std.specs.List.Sorted.{IsStrictlyIncreasing}
 use Rattle.lr_rules.specs.declared.path.Path.{Path}
@@ -20,7 +20,7 @@ use Rattle.lr_rotations.specs.Target.{IsGiven, AreSeen}
 use Rattle.lr_rotations.specs.Weave.{Among}
 use Rattle.lr_rotations.proofs.Given.{literal_gives}
 use Rattle.lr_examples.specs.Logs.{rule_of, rules, a_log, a_first, a_second, a_count, a_naming, a_stand, a_listed, a_target, b_log, b_count, b_naming, b_stand, b_listed, b_target, file, directory, looks}
-use Rattle.lr_examples.proofs.Naming.{first_name, second_name, first_path, second_path, a_unnumbered, b_unnumbered, a_family, b_family}
+use Rattle.lr_examples.proofs.Naming.{first_name, second_name, first_path, second_path, a_unnumbered, b_unnumbered, a_family, b_family, a_is_ready, b_is_ready}
 
 -- ---- the first log
 
@@ -71,8 +71,8 @@ a_shown = record {
   others = λ place has out. inl (λ c. out (in_to place a_places (a_listed_at place has (in_from (member_name a_naming (1 + place)) a_listed c))));
 }
 
-a_given : IsGiven rules.sets looks a_log a_naming a_count
-a_given = record { rule = rule_of 1 a_log a_count; word = a_log; among = (0, omega arith, refl); has = (0, omega arith, refl); given = record { before = []; part = []; after = looks; joined = refl; is = literal_gives rules.sets (rule_of 1 a_log a_count) a_log a_log [] refl refl }; naming_is = refl; count_is = refl }
+a_given : IsGiven rules.sets looks a_log a_naming a_count None
+a_given = record { rule = rule_of 1 a_log a_count; word = a_log; among = (0, omega arith, refl); has = (0, omega arith, refl); given = record { before = []; part = []; after = looks; joined = refl; is = literal_gives rules.sets (rule_of 1 a_log a_count) a_log a_log [] refl refl }; naming_is = refl; count_is = refl; way_is = ((λ e. refl), (λ e. refl)) }
 
 -- ---- the second log
 
@@ -106,15 +106,15 @@ b_shown = record {
   others = λ place has out. inl (λ c. b_unlisted place (in_from (member_name b_naming (1 + place)) b_listed c));
 }
 
-b_given : IsGiven rules.sets looks b_log b_naming b_count
-b_given = record { rule = rule_of 2 b_log b_count; word = b_log; among = (1, omega arith, refl); has = (0, omega arith, refl); given = record { before = []; part = []; after = looks; joined = refl; is = literal_gives rules.sets (rule_of 2 b_log b_count) b_log b_log [] refl refl }; naming_is = refl; count_is = refl }
+b_given : IsGiven rules.sets looks b_log b_naming b_count None
+b_given = record { rule = rule_of 2 b_log b_count; word = b_log; among = (1, omega arith, refl); has = (0, omega arith, refl); given = record { before = []; part = []; after = looks; joined = refl; is = literal_gives rules.sets (rule_of 2 b_log b_count) b_log b_log [] refl refl }; naming_is = refl; count_is = refl; way_is = ((λ e. refl), (λ e. refl)) }
 
 -- ---- both
 
 pub both_seen : AreSeen rules looks (a_target ∷ b_target ∷ [])
 both_seen = (
-  record { given = a_given; family = a_family; log_seen = a_seen; seen = a_shown; low = λ high. absurd (cc) },
-  (record { given = b_given; family = b_family; log_seen = b_seen; seen = b_shown; low = λ high. absurd (cc) }, tt),
+  record { given = a_given; family = a_family; log_seen = a_seen; seen = a_shown; low = λ high. absurd (cc); ready = a_is_ready; job = λ job is. absurd (cc) },
+  (record { given = b_given; family = b_family; log_seen = b_seen; seen = b_shown; low = λ high. absurd (cc); ready = b_is_ready; job = λ job is. absurd (cc) }, tt),
 )
 
 pub looks_quiet : AreQuiet looks

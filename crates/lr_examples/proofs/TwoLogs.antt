@@ -8,12 +8,11 @@ use Rattle.lr_rotations.specs.Weave.{IsFirstOf}
 use Rattle.lr_examples.specs.Logs.{state, rules, directory, looks, a_log, a_first, a_second, a_third, a_target, b_target}
 use Rattle.lr_examples.specs.TwoLogs.{a_steps, b_steps, steps, saves, two_logs_run}
 use Rattle.lr_examples.proofs.Both.{FirstOfBoth, first_of_both, all_first, both_turn, both_turned}
-use Rattle.lr_examples.proofs.Naming.{a_rotation, b_rotation}
 use Rattle.lr_examples.proofs.Seen.{both_seen, looks_quiet, logs_differ}
 
 -- a first part of the one log's steps, and then one of the other's
 turns : (us vs : List Entry) → IsFirstOf a_steps us → IsFirstOf b_steps vs → AllTurns state rules (looks ++ (us ++ (vs ++ Ends ∷ [])))
-turns us vs first second = both_turn state rules looks a_target b_target logs_differ looks_quiet both_seen us vs (Ends ∷ []) (first.0, a_rotation ∙ first.1) (second.0, b_rotation ∙ second.1) tt
+turns us vs first second = both_turn state rules looks a_target b_target logs_differ looks_quiet both_seen us vs (Ends ∷ []) first second tt
 
 turned : (us vs made : List Entry) → made ≡ us ++ vs → IsFirstOf a_steps us → IsFirstOf b_steps vs → AllTurns state rules (looks ++ (made ++ Ends ∷ []))
 turned us vs made joined first second =
@@ -38,7 +37,7 @@ pub failed : (now : Moment) → IsWholeRun (two_logs_run now (Renames a_second a
 failed now = one_of_two now (Renames a_second a_third ∷ []) (Renames a_first a_second ∷ Renames a_log a_first ∷ Unlinks a_third ∷ []) refl
 
 pub alone : (t : AllTurned state rules (looks ++ (steps ++ Ends ∷ []))) × (t.turns.targets ≡ a_target ∷ b_target ∷ [])
-alone = both_turned state rules looks a_target b_target logs_differ looks_quiet both_seen a_steps b_steps (Ends ∷ []) a_rotation b_rotation tt
+alone = both_turned state rules looks a_target b_target logs_differ looks_quiet both_seen a_steps b_steps (Ends ∷ []) refl refl tt
 
 pub saved : (t : AllTurned state rules (looks ++ (steps ++ (saves ++ Ends ∷ [])))) × (t.turns.targets ≡ a_target ∷ b_target ∷ [])
-saved = both_turned state rules looks a_target b_target logs_differ looks_quiet both_seen a_steps b_steps (saves ++ Ends ∷ []) a_rotation b_rotation (inr refl, (inr refl, ((inr refl, inl refl), tt)))
+saved = both_turned state rules looks a_target b_target logs_differ looks_quiet both_seen a_steps b_steps (saves ++ Ends ∷ []) refl refl (inr refl, (inr refl, ((inr refl, inl refl), tt)))

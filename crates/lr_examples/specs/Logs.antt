@@ -18,6 +18,7 @@ use Rattle.lr_host.specs.declared.entry.Entry.TheVariants as entry
 use Rattle.lr_family.specs.declared.place.Place.TheVariants as at
 use Rattle.lr_family.specs.declared.stand.Member.{Member}
 use Rattle.lr_family.specs.declared.stand.Stand.{Stand}
+use Rattle.lr_chain.specs.declared.ready.Ready.{Ready}
 use Rattle.lr_rotations.specs.Target.{Target}
 
 -- ---- paths
@@ -114,16 +115,32 @@ abbrev pub a_members : List Member
 a_members = record { path = a_first; place = at.Number 0; seen = file } ∷ record { path = a_second; place = at.Number 1; seen = file } ∷ []
 
 abbrev pub a_stand : Stand
-a_stand = record { there = true; parent = true; members = a_members }
+a_stand = record { there = true; parent = true; members = a_members; parts = [] }
 
 abbrev pub b_stand : Stand
-b_stand = record { there = true; parent = true; members = [] }
+b_stand = record { there = true; parent = true; members = []; parts = [] }
+
+-- ---- what is to be done
+
+abbrev pub a_ready : Ready
+a_ready = record {
+  leftovers = [];
+  dir = None;
+  moves = record { from = a_second; to = a_third } ∷ record { from = a_first; to = a_second } ∷ [];
+  log = a_log;
+  target = a_first;
+  make = No;
+  retire = record { path = a_third; preremove = None; mail = None } ∷ [];
+}
+
+abbrev pub b_ready : Ready
+b_ready = record { leftovers = []; dir = None; moves = []; log = b_log; target = b_first; make = No; retire = [] }
 
 abbrev pub a_target : Target
-a_target = record { log = a_log; naming = a_naming; count = a_count; stand = a_stand }
+a_target = record { log = a_log; naming = a_naming; count = a_count; stand = a_stand; ready = a_ready; job = None }
 
 abbrev pub b_target : Target
-b_target = record { log = b_log; naming = b_naming; count = b_count; stand = b_stand }
+b_target = record { log = b_log; naming = b_naming; count = b_count; stand = b_stand; ready = b_ready; job = None }
 
 -- ---- the looks
 
