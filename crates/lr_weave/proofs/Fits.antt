@@ -1,14 +1,13 @@
 -- The steps of logs that don't meet fit, wherever those before them ended.
-use Rattle.std.proofs.Common.{◌≡◌, inl, inr, ⊎_elim, ℕ, zero, suc, ◌+◌, ◌==◌, Bool, true, false, not, cond, refl, sym, ◌∙◌, ap, subst, Option, Some, None, List, [], ◌∷◌, ◌++◌, map, reverse, All}
+use Rattle.std.proofs.Common.{◌≡◌, inl, inr, ⊎_elim, ℕ, ◌+◌, Bool, true, false, not, cond, refl, sym, ◌∙◌, ap, subst, Option, Some, None, List, [], ◌∷◌, ◌++◌, map, reverse, append_assoc, append-nil}
 use Rattle.std.specs.Prelude.{filter}
-use Rattle.std.specs.List.{flat_map, list_any}
 use Rattle.std.proofs.lemmas.List.{reverse-reverse}
 use Rattle.lr_rules.specs.declared.path.Path.{Path}
 use Rattle.lr_rules.specs.declared.fault.Fault.{Fault}
 use Rattle.lr_rules.specs.declared.fault.Phase.{Phase}
 use Rattle.lr_rules.specs.declared.fault.Phase.TheVariants as phase
-use Rattle.lr_rules.specs.declared.rule.Count.{Count}
-use Rattle.lr_rules.specs.declared.rule.Count.TheVariants as count
+use Rattle.lr_rules.specs.declared.rule.Make.{Make}
+use Rattle.lr_rules.specs.declared.rule.Make.TheVariants as make
 use Rattle.lr_rules.specs.declared.rule.Naming.{Naming}
 use Rattle.lr_rules.specs.Names.{IsOwnName, the_log, IsName, Meet}
 use Rattle.lr_rules.specs.Path.{parent_of}
@@ -16,89 +15,59 @@ use Rattle.lr_host.specs.declared.thing.Thing.TheVariants as thing
 use Rattle.lr_host.specs.declared.entry.Entry.{Entry}
 use Rattle.lr_host.specs.declared.entry.Entry.TheVariants as entry
 use Rattle.lr_host.specs.declared.journal.Journal.{Journal}
-use Rattle.lr_host.specs.World.{Past, ◌▸◌, past, world, Names, put, names, names_after}
+use Rattle.lr_host.specs.World.{Past, ◌▸◌, past, world, put, names}
 use Rattle.lr_host.specs.Fits.{MaybeFileAt}
-use Rattle.lr_host.specs.Told.{Each, Made, at_first, by_writer, by_tool, Left, not_told, is_told, CanCall, Can}
-use Rattle.lr_host.specs.Steps.{changes_of, is_naming, FitAll, CanAll}
-use Rattle.lr_host.proofs.More.{IsMoreAt, file_at, moved_at, put_at, directory_at, not_at, more_at_on, wrote_names}
+use Rattle.lr_host.specs.Told.{Each, Then, Made, at_first, by_writer, by_tool, Left, not_told, is_told, Can}
+use Rattle.lr_host.specs.Steps.{is_naming, CanAll}
+use Rattle.lr_host.proofs.More.{IsMoreAt, more_at_on, wrote_names}
 use Rattle.lr_host.proofs.Names.{put_other}
 use Rattle.lr_host.proofs.Each.{filter_reverse, each_append, each_reverse, each_first}
-use Rattle.lr_host.proofs.Left.{can_part, can_as, still_step}
+use Rattle.lr_host.proofs.Left.{left_first, left_then, can_as, still_step}
 use Rattle.lr_scripts.specs.declared.command.Command.{Command}
 use Rattle.lr_scripts.specs.Programs.{runs}
 use Rattle.lr_family.specs.Spots.{path_at}
-use Rattle.lr_chain.specs.Rotation.{is_left, places_of, leftovers, kept, one_too_many, unlink_at, move_at}
-use Rattle.lr_rotations.specs.Members.{IsFamily, HasName, HaveNext}
-use Rattle.lr_rotations.specs.Weave.{IsFirstOf}
 use Rattle.lr_family.proofs.Numbers.{Every, every_all, every_filter}
-use Rattle.lr_rotations.proofs.Apart.{AllOwn, own_paths}
+use Rattle.lr_copy.specs.declared.job.Job.{Job}
+use Rattle.lr_copy.specs.Copying.{clearing}
+use Rattle.lr_chain.specs.declared.ready.Move.{Move}
+use Rattle.lr_chain.specs.declared.ready.Ready.{Ready}
+use Rattle.lr_chain.specs.Ready.{removal_at, move_step}
+use Rattle.lr_chain.specs.Rotation.{is_left, places_of, leftovers, kept, one_too_many, unlink_at, move_at}
+use Rattle.lr_rotations.specs.Apart.{HasNames}
+use Rattle.lr_rotations.specs.Calls.{CanCalls, transfer_calls, calls_of}
+use Rattle.lr_rotations.specs.Members.{HasName}
+use Rattle.lr_rotations.specs.Target.{Target, unlinks, rotation_of, IsJob}
+use Rattle.lr_rotations.specs.Weave.{IsFirstOf}
+use Rattle.lr_rotations.proofs.Alike.{Reads, fit_like, more_like, calls_as, calls_made, calls_still}
+use Rattle.lr_rotations.proofs.Apart.{AllOwn, own_paths, part_own, to_own}
 use Rattle.lr_rotations.proofs.Fed.{IsTurn}
-use Rattle.lr_rotations.proofs.Fitting.{kept_next, first_named}
+use Rattle.lr_rotations.proofs.Fitting.{kept_next, first_named, retire_named}
 use Rattle.lr_rotations.proofs.Others.{rotation_turns}
 use Rattle.lr_rotations.proofs.Outside.{place_name}
+use Rattle.lr_rotations.proofs.PartFile.{part_parent, job_target, job_part}
 use Rattle.lr_rotations.proofs.Paths.{path_parent}
+use Rattle.lr_rotations.proofs.Rotating.{left_are, shift_are, retire_are}
 use Rattle.lr_plan.specs.declared.mark.Mark.{Mark}
 use Rattle.lr_plan.specs.declared.planned.LogPlan.{LogPlan}
 use Rattle.lr_plan.specs.declared.step.Step.{Step}
 use Rattle.lr_plan.specs.declared.step.Step.TheVariants as step
-use Rattle.lr_plan.specs.declared.job.Job.{Job}
-use Rattle.lr_chain.specs.declared.ready.Move.{Move}
-use Rattle.lr_chain.specs.Ready.{removal_at}
-use Rattle.lr_rules.specs.declared.rule.Make.{Make}
-use Rattle.lr_rules.specs.declared.rule.Make.TheVariants as make
+use Rattle.lr_plan.specs.Outcomes.{Succeeds}
 use Rattle.lr_plan.specs.Steps as steps
-use Rattle.lr_plan.specs.Steps.{program, removals, directory, move, transfer, made_anew, steps_of_log, single_steps, by_logs, steps_of_set}
-use Rattle.lr_plan.specs.Internal.Asking.{CanMake, CanEach}
+use Rattle.lr_plan.specs.Steps.{program, removals, directory, move, step_if, copy, transfer, made_anew, steps_of_log}
+use Rattle.lr_plan.specs.Internal.Asking.{asks, CanMake, CanEach}
 use Rattle.lr_plan.specs.Course.{Course}
-use Rattle.lr_rotations.specs.Target.{Target, rotation_of}
 use Rattle.lr_weave.specs.Fitting.{IsFit, AreFit, NoneMeets, DontMeet, ReadsNothing, AsksNothing, AskNothing}
-use Rattle.lr_weave.specs.Parts.{changes_by}
 use Rattle.lr_weave.specs.Planned.{IsReadyFor, AreReadyFor}
-use Rattle.lr_weave.proofs.Lasting.{can_rest, makes_later}
-use Rattle.lr_weave.proofs.Parting.{course_first}
-use Rattle.lr_weave.proofs.Planning.{Anything, log_is, log_plain, program_none, program_plain}
+use Rattle.lr_weave.proofs.Lasting.{makes_later}
+use Rattle.lr_weave.proofs.Parting.{bytes_none, course_first}
+use Rattle.lr_weave.proofs.Planning.{Anything, back_of, calls_of_step, calls_by, log_is, log_asks, log_plain, program_none, program_asks, program_plain}
 
--- ---- entries that read and change paths
-
-abbrev pub Reads : (Path → Type 0) → Entry → Type 0
-Reads X (entry.Renames from to) = X from × X to × X (parent_of to)
-Reads X (entry.Unlinks x) = X x
-Reads X _ = ⊥
+-- ---- entries that change other paths
 
 abbrev pub Avoids : (Path → Type 0) → Entry → Type 0
 Avoids X (entry.Renames from to) = (X from → ⊥) × (X to → ⊥)
 Avoids X (entry.Unlinks x) = X x → ⊥
 Avoids X _ = ⊥
-
-abbrev MoreOn : (Path → Type 0) → Names → Names → Type 0
-MoreOn X n n' = (y : Path) → X y → IsMoreAt y n n'
-
-record Fit (X : Path → Type 0) (n n' : Names) (es : List Entry) : Type 0 where
-  fits : FitAll n' es
-  more : MoreOn X (names_after n (changes_of es)) (names_after n' (changes_of es))
-
-fit_on : (X : Path → Type 0) (n n' : Names) (es : List Entry) → Each (Reads X) es → MoreOn X n n' → FitAll n es → Fit X n n' es
-fit_on X n n' [] reads more fit = record { fits = tt; more = more }
-fit_on X n n' (e ∷ es) reads more fit = go e reads.0 fit.1 (fit_on X n n' es reads.1 more fit.0)
-  where
-    m : Names
-    m = names_after n (changes_of es)
-
-    m' : Names
-    m' = names_after n' (changes_of es)
-
-    go : (e : Entry) → Reads X e → CanCall m e → Fit X n n' es → Fit X n n' (e ∷ es)
-    go (entry.Renames from to) r can k = record {
-      fits = (k.fits, ((can.0.0, file_at m m' from (k.more from r.0) can.0 ∙ can.0.1), not_at m m' to thing.Directory (k.more to r.1) (λ g x. cc) can.1, not_at m m' to thing.Other (k.more to r.1) (λ g x. cc) can.2, directory_at m m' (parent_of to) (k.more (parent_of to) r.2) can.3, can.4));
-      more = λ y i. moved_at m m' from to y (file_at m m' from (k.more from r.0) can.0) (k.more y i);
-    }
-    go (entry.Unlinks x) r can k = record {
-      fits = (k.fits, (can.0, file_at m m' x (k.more x r) can ∙ can.1));
-      more = λ y i. put_at m m' x thing.Nothing y (k.more y i);
-    }
-    go _ r can k = absurd r
-
--- ---- over calls that leave these paths alone
 
 avoided : (X : Path → Type 0) (q : Past) (e : Entry) (y : Path) → Avoids X e → X y → names (world (q ▸ e)) y ≡ names (world q) y
 avoided X q (entry.Renames from to) y a i =
@@ -106,7 +75,7 @@ avoided X q (entry.Renames from to) y a i =
 avoided X q (entry.Unlinks x) y a i = put_other (names (world q)) x y thing.Nothing (λ same. a (subst X same i))
 avoided X q _ y a i = absurd a
 
-more_made : (X : Path → Type 0) (p q : Past) (es : List Entry) → Made p es q → Each (Avoids X) (filter is_naming es) → MoreOn X (names (world p)) (names (world q))
+more_made : (X : Path → Type 0) (p q : Past) (es : List Entry) → Made p es q → Each (Avoids X) (filter is_naming es) → (y : Path) → X y → IsMoreAt y (names (world p)) (names (world q))
 more_made X p _ _ at_first a y i = inl refl
 more_made X p _ es (by_writer {q = q} {e = e} m w f) a y i = more_at_on (names (world p)) (names (world q)) (names (world (q ▸ e))) y (more_made X p q es m a y i) (wrote_names q e y w)
 more_made X p _ _ (by_tool {es = es} {q = q} {e = e} m t f) a y i = go (λ b. more_made X p q es m b y i) (is_naming e) refl a
@@ -115,25 +84,26 @@ more_made X p _ _ (by_tool {es = es} {q = q} {e = e} m t f) a y i = go (λ b. mo
     go further true h a = more_at_on (names (world p)) (names (world q)) (names (world (q ▸ e))) y (further a.1) (inl (avoided X q e y a.0 i))
     go further false h a = more_at_on (names (world p)) (names (world q)) (names (world (q ▸ e))) y (further a) (still_step q e t f h y)
 
--- what fits goes on fitting
-pub can_far : (X : Path → Type 0) (steps : List Entry) {P : List Entry → Type 0} {o m : Option Journal} → Each (Reads X) steps → CanAll o steps → Left P o m → ((ts : List Entry) → P ts → Each (Avoids X) (filter is_naming ts)) → CanAll m steps
-can_far X steps reads can not_told f = record { can = tt }
-can_far X steps reads can (is_told {j = j} {k = k} {es = es} m h) f = record {
-  can = (fit_on X (names (world (past j))) (names (world (past k))) (reverse steps) (each_reverse (Reads X) steps reads)
-      (more_made X (past j) (past k) es m (subst (Each (Avoids X)) (ap (filter is_naming) (reverse-reverse es)) (subst (Each (Avoids X)) (sym (filter_reverse is_naming (reverse es))) (each_reverse (Avoids X) (filter is_naming (reverse es)) (f (reverse es) h))))) can.can).fits;
+-- what fits goes on fitting over calls that leave its paths alone
+pub can_far : (X : Path → Type 0) (calls : List Entry) {P : List Entry → Type 0} {o m : Option Journal} → Each (Reads X) calls → CanCalls o calls → Left P o m → ((ts : List Entry) → P ts → Each (Avoids X) (filter is_naming ts)) → CanCalls m calls
+can_far X calls reads can not_told f = record { can = tt }
+can_far X calls reads can (is_told {j = j} {k = k} {es = es} m h) f = record {
+  can = fit_like X (names (world (past j))) (names (world (past k))) calls reads
+      (λ y i. more_like (names (world (past j))) (names (world (past k))) y
+      (more_made X (past j) (past k) es m (subst (Each (Avoids X)) (ap (filter is_naming) (reverse-reverse es)) (subst (Each (Avoids X)) (sym (filter_reverse is_naming (reverse es))) (each_reverse (Avoids X) (filter is_naming (reverse es)) (f (reverse es) h)))) y i)) can.can;
 }
 
--- ---- the steps of a rotation
+-- ---- the calls of a rotation
 
 abbrev pub NamesOf : Target → Path → Type 0
 NamesOf t y = IsName t.log t.naming y
 
-module _ (t : Target) (family : IsFamily t.log t.naming) where
+module _ (t : Target) (h : HasNames t) where
   own_place : (place : ℕ) → HasName t.naming place → IsOwnName t.log t.naming (path_at t.naming place)
-  own_place place i = place_name t.log t.naming place family.numbered i
+  own_place place i = place_name t.log t.naming place h.family.numbered i
 
   parent_name : (place : ℕ) → HasName t.naming place → NamesOf t (parent_of (path_at t.naming place))
-  parent_name place i = inr (path_parent t.log t.naming place family i)
+  parent_name place i = inr (path_parent t.log t.naming place h.family i)
 
   unlinks_read : (ks : List ℕ) → Every (HasName t.naming) ks → Each (Reads (NamesOf t)) (map (unlink_at t.naming) ks)
   unlinks_read [] i = tt
@@ -143,33 +113,58 @@ module _ (t : Target) (family : IsFamily t.log t.naming) where
   moves_read [] i next = tt
   moves_read (k ∷ ks) i next = ((inl (own_place k i.0), inl (own_place (k + 1) next.0), parent_name (k + 1) next.0), moves_read ks i.1 next.1)
 
-  last_read : (c : Count) (places : List ℕ) → HaveNext t.naming c places → Each (Reads (NamesOf t)) (map (unlink_at t.naming) (one_too_many c places))
-  last_read count.Always places next = tt
-  last_read (count.Keep zero) places next = (inl (own_place 0 next), tt)
-  last_read (count.Keep (suc k)) places next = go (list_any (λ place. place == k) places)
+  first : HasName t.naming 0
+  first = first_named t.naming t.count (places_of t.stand.members) h.next
+
+  transfer_read : (j : Option Job) → t.job ≡ j → Each (Reads (NamesOf t)) (transfer_calls t.ready j)
+  transfer_read None is = ((inl (the_log h.ready.log_is), subst (NamesOf t) (sym h.ready.target_is) (inl (own_place 0 first)), subst (λ (x : Path). NamesOf t (parent_of x)) (sym h.ready.target_is) (parent_name 0 first)), tt)
+  transfer_read (Some job) is =
+      each_append (Reads (NamesOf t)) (clearing job) (behind job.cut) (cleared job.stale) (part_dir, (log, (part, (part, ((part, to, to_dir), (inr shape.dir_is, emptied job.cut))))))
     where
-      go : (b : Bool) → Each (Reads (NamesOf t)) (map (unlink_at t.naming) (cond b (suc k ∷ []) []))
-      go true = (inl (own_place (suc k) next), tt)
-      go false = tt
+      shape : IsJob t job
+      shape = h.job job is
 
-  pub rotation_reads : All (HasName t.naming) (places_of t.stand.members) → HaveNext t.naming t.count (places_of t.stand.members) → Each (Reads (NamesOf t)) (rotation_of t)
-  rotation_reads named next =
-      each_append (Reads (NamesOf t)) (map (unlink_at t.naming) (leftovers t.count places)) ((map (move_at t.naming) (kept t.count places) ++ entry.Renames t.log (path_at t.naming 0) ∷ []) ++ map (unlink_at t.naming) (one_too_many t.count places))
-      (unlinks_read (leftovers t.count places) (every_filter (HasName t.naming) (is_left t.count) places all))
-      (each_append (Reads (NamesOf t)) (map (move_at t.naming) (kept t.count places) ++ entry.Renames t.log (path_at t.naming 0) ∷ []) (map (unlink_at t.naming) (one_too_many t.count places))
-      (each_append (Reads (NamesOf t)) (map (move_at t.naming) (kept t.count places)) (entry.Renames t.log (path_at t.naming 0) ∷ [])
-      (moves_read (kept t.count places) (every_filter (HasName t.naming) (λ k. not (is_left t.count k)) places all) (kept_next t.naming t.count places next))
-      ((inl (the_log refl), inl (own_place 0 first), parent_name 0 first), tt))
-      (last_read t.count places next))
-    where
-      places : List ℕ
-      places = places_of t.stand.members
+      log : NamesOf t job.from
+      log = inl (the_log shape.from_is)
 
-      all : Every (HasName t.naming) places
-      all = every_all (HasName t.naming) places named
+      part : NamesOf t job.part
+      part = inl (part_own t h job is)
 
-      first : HasName t.naming 0
-      first = first_named t.naming t.count places next
+      to : NamesOf t job.to
+      to = inl (to_own t h job is)
+
+      part_dir : NamesOf t (parent_of job.part)
+      part_dir = inr (ap parent_of (job_part t job h.ready shape) ∙ part_parent t.log t.naming h.family first)
+
+      to_dir : NamesOf t (parent_of job.to)
+      to_dir = subst (λ (x : Path). NamesOf t (parent_of x)) (sym (job_target t job h.ready shape)) (parent_name 0 first)
+
+      cleared : (b : Bool) → Each (Reads (NamesOf t)) (cond b (entry.Unlinks job.part ∷ []) [])
+      cleared true = (part, tt)
+      cleared false = tt
+
+      behind : Bool → List Entry
+      behind c = entry.Makes job.part job.mode ∷ entry.Reads job.from 0 [] ∷ entry.Appends job.part [] ∷ entry.SyncsFile job.part ∷ entry.Renames job.part job.to ∷ entry.SyncsDir job.dir ∷ cond c (entry.Truncates job.from ∷ []) []
+
+      emptied : (c : Bool) → Each (Reads (NamesOf t)) (cond c (entry.Truncates job.from ∷ []) [])
+      emptied true = (log, tt)
+      emptied false = tt
+
+  places_named : Every (HasName t.naming) (places_of t.stand.members)
+  places_named = every_all (HasName t.naming) (places_of t.stand.members) h.named
+
+  pub back_reads : Each (Reads (NamesOf t)) (back_of t)
+  back_reads = subst (Each (Reads (NamesOf t))) (sym (retire_are t h.ready)) (unlinks_read (one_too_many t.count (places_of t.stand.members)) (retire_named t.naming t.count (places_of t.stand.members) h.next))
+
+  -- they ask for what its names name alone
+  pub calls_read : Each (Reads (NamesOf t)) (calls_of t)
+  calls_read =
+      each_append (Reads (NamesOf t)) (unlinks t.ready.leftovers) (map move_step t.ready.moves ++ (transfer_calls t.ready t.job ++ back_of t))
+      (subst (Each (Reads (NamesOf t))) (sym (left_are t h.ready)) (unlinks_read (leftovers t.count (places_of t.stand.members)) (every_filter (HasName t.naming) (is_left t.count) (places_of t.stand.members) places_named)))
+      (each_append (Reads (NamesOf t)) (map move_step t.ready.moves) (transfer_calls t.ready t.job ++ back_of t)
+      (subst (Each (Reads (NamesOf t))) (sym (shift_are t h.ready))
+      (moves_read (kept t.count (places_of t.stand.members)) (every_filter (HasName t.naming) (λ k. not (is_left t.count k)) (places_of t.stand.members) places_named) (kept_next t.naming t.count (places_of t.stand.members) h.next)))
+      (each_append (Reads (NamesOf t)) (transfer_calls t.ready t.job) (back_of t) (transfer_read t.job refl) back_reads))
 
 -- what one rotation changes is no name of a set that it doesn't meet
 far : (x t : Target) (e : Entry) → (Meet x.log x.naming t.log t.naming → ⊥) → IsTurn e → AllOwn t.log t.naming e → Avoids (NamesOf x) e
@@ -187,7 +182,7 @@ rotation_far x t fit apart = each_two IsTurn (AllOwn t.log t.naming) (Avoids (Na
 -- ---- what goes on fitting
 
 pub fit_later : (x : Target) {P : List Entry → Type 0} {o m : Option Journal} → IsFit o x → Left P o m → ((ts : List Entry) → P ts → Each (Avoids (NamesOf x)) (filter is_naming ts)) → IsFit m x
-fit_later x fit left f = record { names = fit.names; fits = can_far (NamesOf x) (rotation_of x) (rotation_reads x fit.names.family fit.names.named fit.names.next) fit.fits left f; anew = makes_later x.log None left fit.anew }
+fit_later x fit left f = record { names = fit.names; fits = can_far (NamesOf x) (calls_of x) (calls_read x fit.names) fit.fits left f; anew = makes_later x.log None left fit.anew }
 
 begun_far : {o : Option Journal} (x t : Target) (ts : List Entry) → IsFit o t → (Meet x.log x.naming t.log t.naming → ⊥) → IsFirstOf (rotation_of t) (filter is_naming ts) → Each (Avoids (NamesOf x)) (filter is_naming ts)
 begun_far x t ts fit apart first = each_first (Avoids (NamesOf x)) (filter is_naming ts) first.0 (subst (Each (Avoids (NamesOf x))) first.1 (rotation_far x t fit apart))
@@ -205,11 +200,10 @@ unchanged (x ∷ xs) fits left f = (fit_later x fits.0 left (λ ts p. subst (Eac
 -- a step of a rotation, the making of a log in a directory that stands, or a program that reads no file
 abbrev pub IsBareStep : Option Journal → Step → Type 0
 IsBareStep o (step.Runs p on command) = command.input ≡ None
-IsBareStep o (step.Removes path) = Unit {0}
-IsBareStep o (step.Renames from to) = Unit {0}
 IsBareStep o (step.Creates path mode) = Can o (entry.Makes path mode)
-IsBareStep o (step.Rotated log) = Unit {0}
-IsBareStep o _ = ⊥
+IsBareStep o (step.MakesDir path mode) = ⊥
+IsBareStep o (step.Appends path text) = ⊥
+IsBareStep o _ = Unit {0}
 
 abbrev pub AreBareSteps : Option Journal → List Step → Type 0
 AreBareSteps o [] = Unit {0}
@@ -218,19 +212,22 @@ AreBareSteps o (s ∷ ss) = IsBareStep o s × AreBareSteps o ss
 bare_one : (s : Step) {P : List Entry → Type 0} {o m : Option Journal} → Left P o m → IsBareStep o s → IsBareStep m s
 bare_one (step.Creates path mode) left i = makes_later path mode left i
 bare_one (step.Runs p on command) left i = i
-bare_one (step.Removes path) left i = i
-bare_one (step.Renames from to) left i = i
-bare_one (step.Rotated log) left i = i
-bare_one _ left i = absurd i
+bare_one (step.MakesDir path mode) left i = i
+bare_one (step.Appends path text) left i = i
+bare_one _ left i = tt
 
 -- so they are later on
 bare_later : (ss : List Step) {P : List Entry → Type 0} {o m : Option Journal} → Left P o m → AreBareSteps o ss → AreBareSteps m ss
 bare_later [] left bare = tt
 bare_later (s ∷ ss) left bare = (bare_one s left bare.0, bare_later ss left bare.1)
 
-pub none_asked : (o : Option Journal) → CanAll o []
+none_asked : (o : Option Journal) → CanAll o []
 none_asked None = record { can = tt }
 none_asked (Some j) = record { can = tt }
+
+none_called : (o : Option Journal) → CanCalls o []
+none_called None = record { can = tt }
+none_called (Some j) = record { can = tt }
 
 makes_asked : (path : Path) (mode : Option ℕ) (o : Option Journal) → Can o (entry.Makes path mode) → CanAll o (entry.Makes path mode ∷ [])
 makes_asked path mode None c = record { can = tt }
@@ -240,14 +237,61 @@ run_asked : (command : Command) (o : Option Journal) → command.input ≡ None 
 run_asked command None e = record { can = tt }
 run_asked command (Some j) e = record { can = (tt, subst (MaybeFileAt (names (world (past j)))) (sym e) tt) }
 
-pub can_make : (ss : List Step) {o : Option Journal} → AreBareSteps o ss → CanAll o (changes_by ss) → CanMake o ss
-can_make [] bare can = tt
-can_make (step.Runs p on command ∷ ss) {o} bare can = (run_asked command o bare.0, λ m left. can_make ss (bare_later ss left bare.1) (can_rest [] (changes_by ss) can left (λ ts w. ap (filter is_naming) w)))
-can_make (step.Removes path ∷ ss) {o} bare can = (can_part (entry.Unlinks path ∷ []) (changes_by ss) can, λ m left. can_make ss (bare_later ss left bare.1) (can_rest (entry.Unlinks path ∷ []) (changes_by ss) can left (λ ts w. ap (filter is_naming) w)))
-can_make (step.Renames from to ∷ ss) {o} bare can = (can_part (entry.Renames from to ∷ []) (changes_by ss) can, λ m left. can_make ss (bare_later ss left bare.1) (can_rest (entry.Renames from to ∷ []) (changes_by ss) can left (λ ts w. ap (filter is_naming) w)))
-can_make (step.Creates path mode ∷ ss) {o} bare can = (makes_asked path mode o bare.0, λ m left. can_make ss (bare_later ss left bare.1) (can_rest [] (changes_by ss) can left (λ ts w. ⊎_elim (λ none. ap (filter is_naming) none) (λ one. ap (filter is_naming) one) w)))
-can_make (step.Rotated log ∷ ss) {o} bare can = (none_asked o, λ m left. can_make ss (bare_later ss left bare.1) (can_rest [] (changes_by ss) can left (λ ts w. ap (filter is_naming) w)))
-can_make (_ ∷ ss) bare can = absurd bare.0
+one_asked : (e : Entry) (es : List Entry) (o : Option Journal) → CanCalls o (e ∷ es) → CanAll o (e ∷ [])
+one_asked e es None c = record { can = tt }
+one_asked e es (Some j) c = record { can = (tt, c.can.0) }
+
+bytes_asked : (from to : Path) (es : List Entry) (o : Option Journal) → CanCalls o (entry.Reads from 0 [] ∷ entry.Appends to [] ∷ es) → CanAll o (entry.Reads from 0 [] ∷ entry.Appends to [] ∷ [])
+bytes_asked from to es None c = record { can = tt }
+bytes_asked from to es (Some j) c = record { can = ((tt, c.can.0), c.can.1.0) }
+
+-- it fits
+asked : (s : Step) (es : List Entry) (o : Option Journal) → IsBareStep o s → CanCalls o (calls_of_step s ++ es) → CanAll o (asks s)
+asked (step.Runs p on command) es o bare c = run_asked command o bare
+asked (step.Removes path) es o bare c = one_asked (entry.Unlinks path) es o c
+asked (step.Renames from to) es o bare c = one_asked (entry.Renames from to) es o c
+asked (step.Creates path mode) es o bare c = makes_asked path mode o bare
+asked (step.Takes path mode) es o bare c = one_asked (entry.Makes path mode) es o c
+asked (step.Copies from to limit) es o bare c = bytes_asked from to es o c
+asked (step.SyncsFile path) es o bare c = one_asked (entry.SyncsFile path) es o c
+asked (step.SyncsDir path) es o bare c = one_asked (entry.SyncsDir path) es o c
+asked (step.Truncates path) es o bare c = one_asked (entry.Truncates path) es o c
+asked (step.Rotated log) es o bare c = none_asked o
+asked _ es o bare c = absurd bare
+
+-- and where it was made, what follows fits
+behind : (s : Step) (es : List Entry) {o m : Option Journal} → IsBareStep o s → CanCalls o (calls_of_step s ++ es) → Left (Succeeds s) o m → CanCalls m es
+behind (step.Runs p on command) es bare c left = calls_still es c left (λ ts w. ap (filter is_naming) w)
+behind (step.Removes path) es bare c left = calls_made (entry.Unlinks path) es c left (λ ts w. w)
+behind (step.Renames from to) es bare c left = calls_made (entry.Renames from to) es c left (λ ts w. w)
+behind (step.Creates path mode) es bare c left = calls_still es c left (λ ts w. ⊎_elim (λ none. ap (filter is_naming) none) (λ one. ap (filter is_naming) one) w)
+behind (step.Takes path mode) es bare c left = calls_made (entry.Makes path mode) es c left (λ ts w. w)
+behind (step.Copies from to limit) es bare c left = calls_still es (calls_as c (λ n fit. fit.1.1)) left (λ ts w. bytes_none from to limit w.0 ts w.1)
+behind (step.SyncsFile path) es bare c left = calls_made (entry.SyncsFile path) es c left (λ ts w. w)
+behind (step.SyncsDir path) es bare c left = calls_made (entry.SyncsDir path) es c left (λ ts w. w)
+behind (step.Truncates path) es bare c left = calls_made (entry.Truncates path) es c left (λ ts w. w)
+behind (step.Rotated log) es bare c left = calls_still es c left (λ ts w. ap (filter is_naming) w)
+behind _ es bare c left = absurd bare
+
+-- all these steps were made
+abbrev pub AllSucceed : List Step → List Entry → Type 0
+AllSucceed [] ts = ts ≡ []
+AllSucceed (s ∷ ss) ts = Then (Succeeds s) (AllSucceed ss) ts
+
+-- these steps can be made, and then others
+pub make_then : (ss rest : List Step) (es : List Entry) {o : Option Journal} → AreBareSteps o ss → CanCalls o (calls_by ss ++ es) → ((m : Option Journal) → Left (AllSucceed ss) o m → CanCalls m es → CanMake m rest) → CanMake o (ss ++ rest)
+make_then [] rest es {o} bare can f = f o (left_first (AllSucceed []) o refl) can
+make_then (s ∷ ss) rest es {o} bare can f = (
+  asked s (calls_by ss ++ es) o bare.0 calls,
+  λ m left. make_then ss rest es (bare_later ss left bare.1) (behind s (calls_by ss ++ es) bare.0 calls left)
+      (λ k later c. f k (left_then left later (λ ts us p q. record { front = ts; back = us; joined = refl; first = p; second = q })) c),
+)
+  where
+    calls : CanCalls o (calls_of_step s ++ (calls_by ss ++ es))
+    calls = subst (CanCalls o) (append_assoc (calls_of_step s) (calls_by ss) es) can
+
+pub can_make : (ss : List Step) {o : Option Journal} → AreBareSteps o ss → CanCalls o (calls_by ss) → CanMake o ss
+can_make ss {o} bare can = subst (CanMake o) (append-nil ss) (make_then ss [] [] bare (subst (CanCalls o) (sym (append-nil (calls_by ss))) can) (λ m left c. tt))
 
 -- ---- the steps of one log
 
@@ -275,20 +319,27 @@ dir_bare : (o : Option Journal) (d : Option (Path × Option ℕ)) → d ≡ None
 dir_bare o None e = tt
 dir_bare o (Some x) e = absurd (cc)
 
-turn_bare : (o : Option Journal) (log target : Path) (m : Make) (j : Option Job) → Can o (entry.Makes log None) → j ≡ None → AreBareSteps o (transfer log target j ++ step.Rotated log ∷ made_anew m log j)
-turn_bare o log target make.No None c f = (tt, (tt, tt))
-turn_bare o log target (make.Yes mode) None c f = (tt, (tt, (can_as c (λ n h. h), tt)))
-turn_bare o log target m (Some job) c f = absurd (cc)
+copy_bare : (o : Option Journal) (job : Job) (b c : Bool) → AreBareSteps o (step_if b (step.Removes job.part) ++ (step.Takes job.part job.mode ∷ step.Copies job.from job.part job.limit ∷ step.SyncsFile job.part ∷ step.Renames job.part job.to ∷ step.SyncsDir job.dir ∷ step_if c (step.Truncates job.from)))
+copy_bare o job true true = (tt, (tt, (tt, (tt, (tt, (tt, (tt, tt)))))))
+copy_bare o job true false = (tt, (tt, (tt, (tt, (tt, (tt, tt))))))
+copy_bare o job false true = (tt, (tt, (tt, (tt, (tt, (tt, tt))))))
+copy_bare o job false false = (tt, (tt, (tt, (tt, (tt, tt)))))
+
+transfer_bare : (o : Option Journal) (log target : Path) (m : Make) (j : Option Job) → Can o (entry.Makes log None) → AreBareSteps o (transfer log target j ++ step.Rotated log ∷ made_anew m log j)
+transfer_bare o log target make.No None c = (tt, (tt, tt))
+transfer_bare o log target (make.Yes mode) None c = (tt, (tt, (can_as c (λ n h. h), tt)))
+transfer_bare o log target m (Some job) c = bare_on o (copy job) (step.Rotated log ∷ []) (copy_bare o job job.stale job.cut) (tt, tt)
 
 pub front_bare : (o : Option Journal) (t : Target) (log : LogPlan) → Can o (entry.Makes t.log None) → IsReadyFor t log → AreBareSteps o (steps.rotation_of log)
 front_bare o t log c r =
-    bare_on o (removals log.ready.leftovers) _ (subst (λ rs. AreBareSteps o (removals rs)) (sym r.ready.leftovers_are) (removals_bare o t.naming (leftovers t.count (places_of t.stand.members))))
-    (bare_on o (directory log.ready.dir) _ (dir_bare o log.ready.dir r.ready.no_dir)
-    (bare_on o (map move log.ready.moves) _ (moves_bare o log.ready.moves) (turn_bare o log.ready.log log.ready.target log.ready.make log.job (subst (λ (x : Path). Can o (entry.Makes x None)) (sym r.ready.log_is) c) r.no_job)))
+    subst (λ (x : Ready). AreBareSteps o (steps.rotation x log.job)) (sym r.ready_is)
+    (bare_on o (removals t.ready.leftovers) _ (subst (λ rs. AreBareSteps o (removals rs)) (sym r.ready.leftovers_are) (removals_bare o t.naming (leftovers t.count (places_of t.stand.members))))
+    (bare_on o (directory t.ready.dir) _ (dir_bare o t.ready.dir r.ready.no_dir)
+    (bare_on o (map move t.ready.moves) _ (moves_bare o t.ready.moves) (transfer_bare o t.ready.log t.ready.target t.ready.make log.job (subst (λ (x : Path). Can o (entry.Makes x None)) (sym r.ready.log_is) c)))))
 
 pub back_bare : (o : Option Journal) (t : Target) (log : LogPlan) → IsReadyFor t log → log.first_mail ≡ None → AreBareSteps o (steps.retirement_of log)
 back_bare o t log r q = bare_on o (program phase.Mail log.first_mail) (removals log.ready.retire) (no_program_bare o phase.Mail log.first_mail q)
-    (subst (λ rs. AreBareSteps o (removals rs)) (sym r.ready.retire_is) (removals_bare o t.naming (one_too_many t.count (places_of t.stand.members))))
+    (subst (λ rs. AreBareSteps o (removals rs)) (sym (ap (λ (x : Ready). x.retire) r.ready_is ∙ r.ready.retire_is)) (removals_bare o t.naming (one_too_many t.count (places_of t.stand.members))))
 
 log_bare : (o : Option Journal) (t : Target) (log : LogPlan) → Can o (entry.Makes t.log None) → IsReadyFor t log → AsksNothing log → AreBareSteps o (steps_of_log log)
 log_bare o t log c r q =
@@ -303,9 +354,9 @@ can_each o [] [] r q fits dont = tt
 can_each o [] (log ∷ logs) r q fits dont = absurd r
 can_each o (t ∷ ts) [] r q fits dont = absurd r
 can_each o (t ∷ ts) (log ∷ logs) r q fits dont = (
-  can_make (steps_of_log log) (log_bare o t log fits.0.anew r.0 q.0) (subst (CanAll o) (sym (log_is t log r.0)) fits.0.fits),
+  can_make (steps_of_log log) (log_bare o t log fits.0.anew r.0 q.0) (subst (CanCalls o) (sym (log_asks t log r.0)) fits.0.fits),
   λ m leads. can_each m ts logs r.1 q.1 (all_later t ts fits.0 dont.0 fits.1 leads.2
-      (λ us c. subst (λ steps. IsFirstOf steps (filter is_naming us)) (log_is t log r.0) (course_first Anything (steps_of_log log) leads.0 leads.1 us (log_plain Anything t log (λ mode. tt) r.0) c).first)) dont.1,
+      (λ us c. subst (λ steps. IsFirstOf steps (filter is_naming us)) (log_is t log r.0) (course_first Anything (steps_of_log log) leads.0 leads.1 us (log_plain Anything t log (λ e also. tt) r.0) c).first)) dont.1,
 )
 
 nil_first : (xs : List Entry) → IsFirstOf [] xs → xs ≡ []
@@ -316,4 +367,4 @@ pub program_changes : (p : Phase) (o : Option Command) (t : List Mark) (f : List
 program_changes p o t f us c = nil_first (filter is_naming us) (subst (λ steps. IsFirstOf steps (filter is_naming us)) (program_none p o) (course_first Anything (program p o) t f us (program_plain Anything p o) c).first)
 
 pub program_can : (p : Phase) (c : Option Command) (o : Option Journal) → ReadsNothing c → CanMake o (program p c)
-program_can p c o r = can_make (program p c) (program_bare o p c r) (subst (CanAll o) (sym (program_none p c)) (none_asked o))
+program_can p c o r = can_make (program p c) (program_bare o p c r) (subst (CanCalls o) (sym (program_asks p c)) (none_called o))

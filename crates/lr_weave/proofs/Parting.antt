@@ -1,6 +1,6 @@
 -- What the acts of a plan change, part by part.
 use Rattle.std.specs.List.{list_any}
-use Rattle.std.proofs.Common.{◌≡◌, bytes_eq, Bool, true, false, cond, ◌⊎◌, inl, inr, ⊎_elim, refl, sym, ◌∙◌, ap, subst, List, [], ◌∷◌, ◌++◌, map, append_assoc, append-nil}
+use Rattle.std.proofs.Common.{◌≡◌, ◌≢◌, ℕ, bytes_eq, Bool, true, false, cond, ◌⊎◌, inl, inr, ⊎_elim, refl, sym, ◌∙◌, ap, subst, List, [], ◌∷◌, ◌++◌, map, append_assoc, append-nil}
 use Rattle.std.specs.Prelude.{filter}
 use Rattle.std.proofs.lemmas.List.Elements.{filter-append}
 use Rattle.std.proofs.lemmas.Grind.{flat_map-append}
@@ -11,10 +11,13 @@ use Rattle.lr_host.specs.declared.entry.Entry.{Entry}
 use Rattle.lr_host.specs.declared.entry.Entry.TheVariants as entry
 use Rattle.lr_host.specs.Told.{Each}
 use Rattle.lr_host.specs.Steps.{is_change, is_naming}
-use Rattle.lr_host.proofs.Each.{each_append, each_first, each_as}
+use Rattle.lr_host.proofs.Each.{each_append, each_first, each_as, none_pass}
 use Rattle.lr_rotations.specs.Weave.{IsFirstOf}
 use Rattle.lr_host.specs.Quiet.{AreQuiet}
 use Rattle.lr_weave.proofs.Firsts.{first_longer, first_behind}
+use Rattle.lr_copy.specs.declared.job.BytesStop.{BytesStop}
+use Rattle.lr_copy.specs.Bytes.{AllBytes, BytesBroke}
+use Rattle.lr_copy.proofs.EachOfBytes.{each_all, each_broke}
 use Rattle.lr_plan.specs.declared.mark.Mark.{Mark}
 use Rattle.lr_plan.specs.declared.step.Step.{Step}
 use Rattle.lr_plan.specs.declared.step.Step.TheVariants as step
@@ -25,9 +28,9 @@ use Rattle.lr_plan.specs.Internal.Cut.{CourseCut, ListCut, LogsCut, in_each, in_
 use Rattle.lr_plan.specs.Done.{EachDone, LogsDone, is_rotated, if_rotated, SetDone, broke_off, went_on, SetsDone}
 use Rattle.lr_rotations.specs.Weave.{Weave, none, own, other, FirstWoven}
 use Rattle.lr_weave.specs.Parts.{change_of, changes_by, IsPlain, ArePlain, EachPlain, IsPlainSet, ArePlainSets, MakesOnly, MakesOne, parts_of_set, parts_of_sets, FirstParts, AllOf, ArePlanned}
-use Rattle.lr_rotations.specs.Rotated.{MakesAt}
-use Rattle.lr_rotations.specs.Target.{Target, rotation_of, AreSeen}
-use Rattle.lr_rotations.specs.AllTurns.{IsOfSome, IsOfOther, IsOfState, StandsBetween, AllTurns}
+use Rattle.lr_weave.specs.Planned.{NoneHas, AreApart}
+use Rattle.lr_rotations.specs.Target.{Target, rotation_of, AreSeen, IsOneOf}
+use Rattle.lr_rotations.specs.AllTurns.{AlsoDoes, IsOf, IsOfSome, IsOfOther, IsOfState, StandsBetween, AllTurns}
 use Rattle.lr_rotations.proofs.Weaving.{weave_as, weave_on, weave_others}
 use Rattle.lr_rules.specs.declared.rules.Rules.{Rules}
 
@@ -36,11 +39,21 @@ use Rattle.lr_rules.specs.declared.rules.Rules.{Rules}
 changes_are : (ts us : List Entry) → ts ≡ us → filter is_naming ts ≡ filter is_naming us
 changes_are ts us e = ap (filter is_naming) e
 
+-- reads and appends change no names
+pub bytes_none : (from to : Path) (limit count : ℕ) (ts : List Entry) → AllBytes from to limit count ts → filter is_naming ts ≡ []
+bytes_none from to limit count ts w = none_pass is_naming ts (each_all (λ e. is_naming e ≡ false) from to (λ k piece. refl) (λ piece. refl) limit count ts w)
+
+broke_none : (from to : Path) (limit : ℕ) (why : BytesStop) (ts : List Entry) → BytesBroke from to limit why ts → filter is_naming ts ≡ []
+broke_none from to limit why ts w = none_pass is_naming ts (each_broke (λ e. is_naming e ≡ false) from to (λ k piece. refl) (λ piece. refl) limit why ts w)
+
 pub went_changes : (P : Entry → Type 0) (s : Step) (ts : List Entry) → IsPlain P s → Succeeds s ts → filter is_naming ts ≡ change_of s
 went_changes P (step.Runs phase on command) ts i w = changes_are ts _ w
 went_changes P (step.Removes path) ts i w = changes_are ts _ w
 went_changes P (step.Renames from to) ts i w = changes_are ts _ w
 went_changes P (step.Creates path mode) ts i w = ⊎_elim (λ none. changes_are ts [] none) (λ one. changes_are ts (entry.Makes path mode ∷ []) one) w
+went_changes P (step.Takes path mode) ts i w = changes_are ts _ w
+went_changes P (step.Copies from to limit) ts i w = bytes_none from to limit w.0 ts w.1
+went_changes P (step.Truncates path) ts i w = changes_are ts _ w
 went_changes P (step.SyncsFile path) ts i w = changes_are ts _ w
 went_changes P (step.SyncsDir path) ts i w = changes_are ts _ w
 went_changes P (step.Rotated log) ts i w = changes_are ts [] w
@@ -56,6 +69,10 @@ failed_changes P (step.Runs phase on command) f ts i (maybe_run end is one) = ([
 failed_changes P (step.Removes path) f ts i h = maybe_first (entry.Unlinks path) ts h.1
 failed_changes P (step.Renames from to) f ts i h = maybe_first (entry.Renames from to) ts h.1
 failed_changes P (step.Creates path mode) f ts i h = maybe_first (entry.Makes path mode) ts h.1
+failed_changes P (step.Takes path mode) f ts i (inl h) = maybe_first (entry.Makes path mode) ts h.1
+failed_changes P (step.Takes path mode) f ts i (inr h) = ([], sym (append-nil (filter is_naming ts) ∙ changes_are ts [] h.1))
+failed_changes P (step.Copies from to limit) f ts i h = ([], sym (append-nil (filter is_naming ts) ∙ broke_none from to limit h.0 ts h.2))
+failed_changes P (step.Truncates path) f ts i h = maybe_first (entry.Truncates path) ts h.1
 failed_changes P (step.SyncsFile path) f ts i h = maybe_first (entry.SyncsFile path) ts h.1
 failed_changes P (step.SyncsDir path) f ts i h = maybe_first (entry.SyncsDir path) ts h.1
 failed_changes P (step.Rotated log) f ts i h = absurd h
@@ -76,6 +93,9 @@ went_only P (step.Runs phase on command) ts i w = one_only P _ ts tt w
 went_only P (step.Removes path) ts i w = one_only P (entry.Unlinks path) ts tt w
 went_only P (step.Renames from to) ts i w = one_only P (entry.Renames from to) ts tt w
 went_only P (step.Creates path mode) ts i w = maybe_only P (entry.Makes path mode) ts i w
+went_only P (step.Takes path mode) ts i w = one_only P (entry.Makes path mode) ts i w
+went_only P (step.Copies from to limit) ts i w = each_all (MakesOnly P) from to (λ k piece. tt) i limit w.0 ts w.1
+went_only P (step.Truncates path) ts i w = one_only P (entry.Truncates path) ts i w
 went_only P (step.SyncsFile path) ts i w = one_only P (entry.SyncsFile path) ts tt w
 went_only P (step.SyncsDir path) ts i w = one_only P (entry.SyncsDir path) ts tt w
 went_only P (step.Rotated log) ts i w = none_only P ts w
@@ -88,6 +108,10 @@ failed_only P (step.Runs phase on command) f ts i (maybe_run end is one) = one_o
 failed_only P (step.Removes path) f ts i h = maybe_only P (entry.Unlinks path) ts tt h.1
 failed_only P (step.Renames from to) f ts i h = maybe_only P (entry.Renames from to) ts tt h.1
 failed_only P (step.Creates path mode) f ts i h = maybe_only P (entry.Makes path mode) ts i h.1
+failed_only P (step.Takes path mode) f ts i (inl h) = maybe_only P (entry.Makes path mode) ts i h.1
+failed_only P (step.Takes path mode) f ts i (inr h) = none_only P ts h.1
+failed_only P (step.Copies from to limit) f ts i h = each_broke (MakesOnly P) from to (λ k piece. tt) i limit h.0 ts h.2
+failed_only P (step.Truncates path) f ts i h = maybe_only P (entry.Truncates path) ts i h.1
 failed_only P (step.SyncsFile path) f ts i h = maybe_only P (entry.SyncsFile path) ts tt h.1
 failed_only P (step.SyncsDir path) f ts i h = maybe_only P (entry.SyncsDir path) ts tt h.1
 failed_only P (step.Rotated log) f ts i h = absurd h
@@ -95,7 +119,7 @@ failed_only P _ f ts i h = absurd i
 
 -- ---- a course
 
--- A first part of these changes of names, in order; and of each file that was made P holds.
+-- A first part of these changes of names, in order; and of what was made, filled or emptied P holds.
 pub record Begun (P : Entry → Type 0) (steps : List Entry) (ts : List Entry) : Type 0 where
   pub first : IsFirstOf steps (filter is_naming ts)
   pub only : Each (MakesOnly P) ts
@@ -133,7 +157,7 @@ pub parts_none : (ps : List (List Entry)) → FirstParts ps []
 parts_none [] = refl
 parts_none (p ∷ ps) = record { front = []; back = []; joined = refl; first = first_none p; second = parts_none ps }
 
--- A first part of each part of these changes of names, one behind another; and of each file that was made P holds.
+-- A first part of each part of these changes of names, one behind another; and of what was made, filled or emptied P holds.
 pub record BegunParts (P : Entry → Type 0) (parts : List (List Entry)) (ts : List Entry) : Type 0 where
   pub first : FirstParts parts (filter is_naming ts)
   pub only : Each (MakesOnly P) ts
@@ -314,7 +338,7 @@ one_part P steps (p ∷ ps) part after ts b w a f = subst (FirstWoven P steps) (
 
 -- ---- the shape
 
--- all changes: those of names, and the makings
+-- all changes: those of names, and what files are made, filled or emptied
 pub each_change : (P : Entry → Type 0) (ts : List Entry) → Each P (filter is_naming ts) → Each (MakesOnly P) ts → Each P (filter is_change ts)
 each_change P [] a m = tt
 each_change P (entry.Renames from to ∷ ts) a m = (a.0, each_change P ts a.1 m.1)
@@ -322,8 +346,8 @@ each_change P (entry.Unlinks x ∷ ts) a m = (a.0, each_change P ts a.1 m.1)
 each_change P (entry.MakesDir x mode ∷ ts) a m = (a.0, each_change P ts a.1 m.1)
 each_change P (entry.Makes x mode ∷ ts) a m = (m.0, each_change P ts a m.1)
 each_change P (entry.Starts state now rules ∷ ts) a m = absurd m.0
-each_change P (entry.Appends x bytes ∷ ts) a m = absurd m.0
-each_change P (entry.Truncates x ∷ ts) a m = absurd m.0
+each_change P (entry.Appends x bytes ∷ ts) a m = (m.0, each_change P ts a m.1)
+each_change P (entry.Truncates x ∷ ts) a m = (m.0, each_change P ts a m.1)
 each_change P (_ ∷ ts) a m = each_change P ts a m.1
 
 -- one entry more
@@ -331,7 +355,7 @@ weave_one : (P : Entry → Type 0) (os : List Entry) (e : Entry) (xs ys : List E
 weave_one P _ e xs ys (own {steps = os} x w) f = own e (f os w)
 weave_one P os e xs ys (other x p w) f = other e p (f os w)
 
--- the makings stand between
+-- what files are made, filled or emptied stands between
 pub weave_change : (P : Entry → Type 0) (os ts : List Entry) → Weave P os (filter is_naming ts) → Each (MakesOnly P) ts → Weave P os (filter is_change ts)
 weave_change P os [] w m = w
 weave_change P os (entry.Renames from to ∷ ts) w m = weave_one P os (entry.Renames from to) (filter is_naming ts) (filter is_change ts) w (λ us v. weave_change P us ts v m.1)
@@ -339,39 +363,61 @@ weave_change P os (entry.Unlinks x ∷ ts) w m = weave_one P os (entry.Unlinks x
 weave_change P os (entry.MakesDir x mode ∷ ts) w m = weave_one P os (entry.MakesDir x mode) (filter is_naming ts) (filter is_change ts) w (λ us v. weave_change P us ts v m.1)
 weave_change P os (entry.Makes x mode ∷ ts) w m = other (entry.Makes x mode) m.0 (weave_change P os ts w m.1)
 weave_change P os (entry.Starts state now rules ∷ ts) w m = absurd m.0
-weave_change P os (entry.Appends x bytes ∷ ts) w m = absurd m.0
-weave_change P os (entry.Truncates x ∷ ts) w m = absurd m.0
+weave_change P os (entry.Appends x bytes ∷ ts) w m = other (entry.Appends x bytes) m.0 (weave_change P os ts w m.1)
+weave_change P os (entry.Truncates x ∷ ts) w m = other (entry.Truncates x) m.0 (weave_change P os ts w m.1)
 weave_change P os (_ ∷ ts) w m = weave_change P os ts w m.1
 
 -- for one condition of what is made another
 only_one : (P Q : Entry → Type 0) (e : Entry) → ((e : Entry) → P e → Q e) → MakesOnly P e → MakesOnly Q e
 only_one P Q (entry.Makes x mode) f m = f (entry.Makes x mode) m
 only_one P Q (entry.Starts state now rules) f m = m
-only_one P Q (entry.Appends x bytes) f m = m
-only_one P Q (entry.Truncates x) f m = m
+only_one P Q (entry.Appends x bytes) f m = f (entry.Appends x bytes) m
+only_one P Q (entry.Truncates x) f m = f (entry.Truncates x) m
 only_one P Q _ f m = tt
 
 pub only_as : (P Q : Entry → Type 0) (ts : List Entry) → ((e : Entry) → P e → Q e) → Each (MakesOnly P) ts → Each (MakesOnly Q) ts
 only_as P Q ts f m = each_as (MakesOnly P) (MakesOnly Q) ts (λ e h. only_one P Q e f h) m
 
--- ---- the logs that are made anew
+-- ---- what is done besides
 
 made_some : (ts : List Target) (e : Entry) → MakesOne ts e → IsOfSome ts e
 made_some [] e h = h
 made_some (t ∷ ts) e (inl h) = inl (inr h)
 made_some (t ∷ ts) e (inr h) = inr (made_some ts e h)
 
-made_other : (log : Path) (ts : List Target) (e : Entry) → MakesOne ts e → IsOfOther log ts e ⊎ MakesAt log e
-made_other log [] e h = absurd h
-made_other log (t ∷ ts) e (inl h) = go (bytes_eq t.log log) refl
-  where
-    go : (b : Bool) → bytes_eq t.log log ≡ b → IsOfOther log (t ∷ ts) e ⊎ MakesAt log e
-    go true is = inr (subst (λ (x : Path). MakesAt x e) ((bytes_eq-Decides t.log log).0 is) h)
-    go false differ = inl (inl ((λ same. let yes : bytes_eq t.log log ≡ true = (bytes_eq-Decides t.log log).1 same in cc), inr h))
-made_other log (t ∷ ts) e (inr h) = ⊎_elim (λ o. inl (inr o)) (λ own. inr own) (made_other log ts e h)
+-- by which log
+made_by : (ts : List Target) (e : Entry) → MakesOne ts e → (t : Target) × IsOneOf t ts × AlsoDoes t e
+made_by [] e h = absurd h
+made_by (t ∷ ts) e (inl h) = (t, inl refl, h)
+made_by (t ∷ ts) e (inr h) = let r = made_by ts e h in (r.0, inr r.1, r.2)
 
-pub made_between : (state log : Path) (ts : List Target) (e : Entry) → MakesOne ts e → StandsBetween state log ts e
-made_between state log ts e h = ⊎_elim (λ o. inl o) (λ own. inr (inr own)) (made_other log ts e h)
+pub of_other : (log : Path) (ts : List Target) (t : Target) (e : Entry) → IsOneOf t ts → t.log ≢ log → IsOf t e → IsOfOther log ts e
+of_other log [] t e i ne h = absurd i
+of_other log (x ∷ xs) t e (inl is) ne h = inl (subst (λ (y : Target). (y.log ≢ log) × IsOf y e) (sym is) (ne, h))
+of_other log (x ∷ xs) t e (inr i) ne h = inr (of_other log xs t e i ne h)
+
+pub none_has : (log : Path) (ts : List Target) (t : Target) → NoneHas log ts → IsOneOf t ts → t.log ≢ log
+none_has log [] t n i = absurd i
+none_has log (x ∷ xs) t n (inl is) = subst (λ (y : Target). y.log ≢ log) is n.0
+none_has log (x ∷ xs) t n (inr i) = none_has log xs t n.1 i
+
+-- of logs of which none stands twice
+one_log : (ts : List Target) (x t : Target) → AreApart ts → IsOneOf x ts → IsOneOf t ts → x.log ≡ t.log → x ≡ t
+one_log [] x t a i j same = absurd i
+one_log (y ∷ ys) x t a (inl is) (inl it) same = sym is ∙ it
+one_log (y ∷ ys) x t a (inl is) (inr j) same = absurd (none_has y.log ys t a.0 j (sym (ap (λ (z : Target). z.log) is ∙ same)))
+one_log (y ∷ ys) x t a (inr i) (inl it) same = absurd (none_has y.log ys x a.0 i (same ∙ sym (ap (λ (z : Target). z.log) it)))
+one_log (y ∷ ys) x t a (inr i) (inr j) same = one_log ys x t a.1 i j same
+
+pub made_between : (state : Path) (ts : List Target) (t : Target) → AreApart ts → IsOneOf t ts → (e : Entry) → MakesOne ts e → StandsBetween state t ts e
+made_between state ts t a i e h = go (bytes_eq by.0.log t.log) refl
+  where
+    by : (x : Target) × IsOneOf x ts × AlsoDoes x e
+    by = made_by ts e h
+
+    go : (b : Bool) → bytes_eq by.0.log t.log ≡ b → StandsBetween state t ts e
+    go true is = inr (inr (subst (λ (x : Target). AlsoDoes x e) (one_log ts by.0 t a by.1 i ((bytes_eq-Decides by.0.log t.log).0 is)) by.2))
+    go false differ = inl (of_other t.log ts by.0 e by.1 (λ same. let yes : bytes_eq by.0.log t.log ≡ true = (bytes_eq-Decides by.0.log t.log).1 same in cc) (inr by.2))
 
 -- each change of the acts is of one of the logs
 pub changes_of_some : (targets : List Target) (sets : List SetSteps) (ts : List Entry) → ArePlanned targets sets → BegunParts (MakesOne targets) (parts_of_sets sets) ts → Each (IsOfSome targets) (filter is_change ts)
@@ -400,8 +446,8 @@ turns_by state rules looks targets sets ts quiet seen planned f = record {
       record {
         made = w.made;
         first = w.first;
-        woven = weave_change (StandsBetween state t.log targets) w.made ts (weave_as (IsOfOther t.log targets) (StandsBetween state t.log targets) w.made (filter is_naming ts) (λ e h. inl h) w.woven)
-            (only_as (MakesOne targets) (StandsBetween state t.log targets) ts (made_between state t.log targets) f.only);
+        woven = weave_change (StandsBetween state t targets) w.made ts (weave_as (IsOfOther t.log targets) (StandsBetween state t targets) w.made (filter is_naming ts) (λ e h. inl h) w.woven)
+            (only_as (MakesOne targets) (StandsBetween state t targets) ts (made_between state targets t planned.apart i) f.only);
       };
 }
 

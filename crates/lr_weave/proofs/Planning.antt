@@ -1,5 +1,5 @@
 -- The changes of a plan whose rotations are ready are those rotations.
-use Rattle.std.proofs.Common.{◌≡◌, ◌≢◌, ◌⊎◌, inl, inr, ⊎_elim, ℕ, Bool, true, false, refl, sym, ◌∙◌, ap, subst, Option, Some, None, List, [], ◌∷◌, ◌++◌, map, append_assoc, append-nil}
+use Rattle.std.proofs.Common.{◌≡◌, ◌≢◌, ◌⊎◌, inl, inr, ⊎_elim, ℕ, Bool, true, false, cond, refl, sym, ◌∙◌, ap, subst, Option, Some, None, List, [], ◌∷◌, ◌++◌, map, append_assoc, append-nil}
 use Rattle.std.specs.List.{flat_map}
 use Rattle.std.proofs.lemmas.Grind.{flat_map-append}
 use Rattle.lr_rules.specs.declared.path.Path.{Path}
@@ -7,7 +7,6 @@ use Rattle.lr_rules.specs.declared.fault.Phase.{Phase}
 use Rattle.lr_rules.specs.declared.fault.Phase.TheVariants as phase
 use Rattle.lr_rules.specs.declared.rule.Make.{Make}
 use Rattle.lr_rules.specs.declared.rule.Make.TheVariants as make
-use Rattle.lr_rules.specs.declared.rule.Naming.{Naming}
 use Rattle.lr_host.specs.declared.entry.Entry.{Entry}
 use Rattle.lr_host.specs.declared.entry.Entry.TheVariants as entry
 use Rattle.lr_host.specs.Lists.{IsIn}
@@ -15,90 +14,169 @@ use Rattle.lr_host.specs.Told.{Each}
 use Rattle.lr_host.proofs.Each.{each_append, each_first}
 use Rattle.lr_scripts.specs.declared.command.Command.{Command}
 use Rattle.lr_scripts.specs.declared.removal.Removal.{Removal}
-use Rattle.lr_family.specs.Spots.{path_at}
+use Rattle.lr_copy.specs.declared.job.Job.{Job}
 use Rattle.lr_chain.specs.declared.ready.Move.{Move}
-use Rattle.lr_chain.specs.Ready.{removal_at, move_from}
-use Rattle.lr_chain.specs.Rotation.{places_of, leftovers, kept, one_too_many, unlink_at, move_at}
-use Rattle.lr_plan.specs.declared.job.Job.{Job}
+use Rattle.lr_chain.specs.declared.ready.Ready.{Ready}
+use Rattle.lr_chain.specs.Ready.{move_step}
 use Rattle.lr_plan.specs.declared.planned.LogPlan.{LogPlan}
 use Rattle.lr_plan.specs.declared.planned.SetPlan.{SetPlan}
 use Rattle.lr_plan.specs.declared.step.Step.{Step}
-use Rattle.lr_plan.specs.Steps.{program, removals, directory, move, transfer, made_anew, rotation_of as rotation, retirement_of as retirement, steps_of_log, shared_steps, by_logs, steps_of_set}
+use Rattle.lr_plan.specs.declared.step.Step.TheVariants as step
+use Rattle.lr_plan.specs.Internal.Asking.{asks}
+use Rattle.lr_plan.specs.Steps.{on_of, program, removal, removals, directory, move, step_if, transfer, made_anew, rotation as steps_of_rotation, retirement as steps_of_retirement, rotation_of as rotation, retirement_of as retirement, steps_of_log, shared_steps, by_logs, steps_of_set}
+use Rattle.lr_rotations.specs.Calls.{transfer_calls, calls_of}
 use Rattle.lr_rotations.specs.Weave.{Weave}
+use Rattle.lr_rotations.specs.Target.{Target, unlinks, transfer_of, rotation_of, HasReady, IsJob, HasJob, IsOneOf}
+use Rattle.lr_rotations.specs.AllTurns.{AlsoDoes, IsOf, IsOfSome, IsOfOther}
+use Rattle.lr_rotations.proofs.Rotating.{two}
+use Rattle.lr_rotations.proofs.Weaving.{weave_on, weave_own, weave_others}
 use Rattle.lr_weave.specs.Parts.{change_of, changes_by, ArePlain, EachPlain, IsPlainSet, ArePlainSets, MakesOne, parts_of_set, parts_of_sets, AllOf, InOnePart, ArePlanned}
 use Rattle.lr_weave.specs.Planned.{IsReadyFor, AreReadyFor, HaveLogs, NoneHas, AreApart}
-use Rattle.lr_rotations.specs.Target.{Target, rotation_of, IsOneOf}
-use Rattle.lr_rotations.specs.AllTurns.{IsOf, IsOfSome, IsOfOther}
-use Rattle.lr_rotations.proofs.Weaving.{weave_on, weave_own, weave_others}
+use Rattle.lr_weave.proofs.Parting.{none_has, of_other}
 
--- ---- the changes of one log
+-- ---- what the steps of one log ask for
+
+-- of each kind of step a list: none of a program and of what may be left out, just their entries of removals and renames
+module _ (f : Step → List Entry) (runs : (p : Phase) (on : List ℕ) (c : Command) → f (step.Runs p on c) ≡ []) (removes : (x : Path) → f (step.Removes x) ≡ entry.Unlinks x ∷ []) (renames : (x y : Path) → f (step.Renames x y) ≡ entry.Renames x y ∷ []) (creates : (x : Path) (mode : Option ℕ) → f (step.Creates x mode) ≡ [])
+    (rotated : (x : Path) → f (step.Rotated x) ≡ []) where
+  on_by : (xs ys : List Step) → flat_map f (xs ++ ys) ≡ flat_map f xs ++ flat_map f ys
+  on_by xs ys = flat_map-append f xs ys
+
+  one_by : (s : Step) (ss : List Step) (es : List Entry) → f s ≡ es → flat_map f (s ∷ ss) ≡ es ++ flat_map f ss
+  one_by s ss es e = ap (λ xs. xs ++ flat_map f ss) e
+
+  program_by : (p : Phase) (o : Option Command) → flat_map f (program p o) ≡ []
+  program_by p None = refl
+  program_by p (Some command) = one_by (step.Runs p (on_of p command) command) [] [] (runs p (on_of p command) command)
+
+  removal_by : (r : Removal) → flat_map f (removal r) ≡ entry.Unlinks r.path ∷ []
+  removal_by r =
+      on_by (program phase.Preremove r.preremove) (program phase.Mail r.mail ++ step.Removes r.path ∷ [])
+      ∙ two (program_by phase.Preremove r.preremove) (on_by (program phase.Mail r.mail) (step.Removes r.path ∷ []) ∙ two (program_by phase.Mail r.mail) (one_by (step.Removes r.path) [] (entry.Unlinks r.path ∷ []) (removes r.path)))
+
+  removals_by : (rs : List Removal) → flat_map f (removals rs) ≡ unlinks rs
+  removals_by [] = refl
+  removals_by (r ∷ rs) = on_by (removal r) (removals rs) ∙ two (removal_by r) (removals_by rs)
+
+  moves_by : (ms : List Move) → flat_map f (map move ms) ≡ map move_step ms
+  moves_by [] = refl
+  moves_by (m ∷ ms) = one_by (step.Renames m.from m.to) (map move ms) (entry.Renames m.from m.to ∷ []) (renames m.from m.to) ∙ ap (λ xs. entry.Renames m.from m.to ∷ xs) (moves_by ms)
+
+  no_dir : (d : Option (Path × Option ℕ)) → d ≡ None → flat_map f (directory d) ≡ []
+  no_dir None e = refl
+  no_dir (Some x) e = absurd (cc)
+
+  anew_by : (m : Make) (log : Path) (j : Option Job) → flat_map f (made_anew m log j) ≡ []
+  anew_by make.No log None = refl
+  anew_by (make.Yes mode) log None = one_by (step.Creates log mode) [] [] (creates log mode)
+  anew_by m log (Some job) = refl
+
+  rotation_by : (ready : Ready) (j : Option Job) (es : List Entry) → ready.dir ≡ None → flat_map f (transfer ready.log ready.target j) ≡ es → flat_map f (steps_of_rotation ready j) ≡ unlinks ready.leftovers ++ (map move_step ready.moves ++ es)
+  rotation_by ready j es none e =
+      on_by (removals ready.leftovers) (directory ready.dir ++ (map move ready.moves ++ (transfer ready.log ready.target j ++ rest)))
+      ∙ two (removals_by ready.leftovers)
+      (on_by (directory ready.dir) (map move ready.moves ++ (transfer ready.log ready.target j ++ rest))
+      ∙ two (no_dir ready.dir none)
+      (on_by (map move ready.moves) (transfer ready.log ready.target j ++ rest)
+      ∙ two (moves_by ready.moves)
+      (on_by (transfer ready.log ready.target j) rest ∙ (two e (one_by (step.Rotated ready.log) (made_anew ready.make ready.log j) [] (rotated ready.log) ∙ anew_by ready.make ready.log j) ∙ append-nil es))))
+    where
+      rest : List Step
+      rest = step.Rotated ready.log ∷ made_anew ready.make ready.log j
+
+  retirement_by : (mail : Option Command) (rs : List Removal) → flat_map f (steps_of_retirement mail rs) ≡ unlinks rs
+  retirement_by mail rs = on_by (program phase.Mail mail) (removals rs) ∙ two (program_by phase.Mail mail) (removals_by rs)
+
+  log_by : (log : LogPlan) (xs ys : List Entry) → flat_map f (rotation log) ≡ xs → flat_map f (retirement log) ≡ ys → flat_map f (steps_of_log log) ≡ xs ++ ys
+  log_by log xs ys a b =
+      on_by (program phase.Pre log.pre) (rotation log ++ (program phase.Post log.post ++ retirement log))
+      ∙ two (program_by phase.Pre log.pre)
+      (on_by (rotation log) (program phase.Post log.post ++ retirement log) ∙ two a (on_by (program phase.Post log.post) (retirement log) ∙ two (program_by phase.Post log.post) b))
+
+-- ---- their changes of names
+
+-- up to the log's final path, and behind that
+abbrev pub front_of : Target → List Entry
+front_of t = unlinks t.ready.leftovers ++ (map move_step t.ready.moves ++ transfer_of t.ready t.job)
+
+abbrev pub back_of : Target → List Entry
+back_of t = unlinks t.ready.retire
+
+pub halves_on : (t : Target) (es : List Entry) → (unlinks t.ready.leftovers ++ (map move_step t.ready.moves ++ es)) ++ back_of t ≡ unlinks t.ready.leftovers ++ (map move_step t.ready.moves ++ (es ++ back_of t))
+halves_on t es = append_assoc (unlinks t.ready.leftovers) (map move_step t.ready.moves ++ es) (back_of t) ∙ ap (λ xs. unlinks t.ready.leftovers ++ xs) (append_assoc (map move_step t.ready.moves) es (back_of t))
+
+pub halves : (t : Target) → front_of t ++ back_of t ≡ rotation_of t
+halves t = halves_on t (transfer_of t.ready t.job)
 
 on : (xs ys : List Step) → changes_by (xs ++ ys) ≡ changes_by xs ++ changes_by ys
 on xs ys = flat_map-append change_of xs ys
 
 pub program_none : (p : Phase) (o : Option Command) → changes_by (program p o) ≡ []
-program_none p None = refl
-program_none p (Some command) = refl
+program_none p o = program_by change_of (λ p on c. refl) (λ x. refl) (λ x y. refl) (λ x mode. refl) (λ x. refl) p o
 
-unlinks : (n : Naming) (ks : List ℕ) → changes_by (removals (map (removal_at n) ks)) ≡ map (unlink_at n) ks
-unlinks n [] = refl
-unlinks n (k ∷ ks) = ap (λ xs. unlink_at n k ∷ xs) (unlinks n ks)
+copy_changes : (job : Job) (b c : Bool) → changes_by (step_if b (step.Removes job.part) ++ (step.Takes job.part job.mode ∷ step.Copies job.from job.part job.limit ∷ step.SyncsFile job.part ∷ step.Renames job.part job.to ∷ step.SyncsDir job.dir ∷ step_if c (step.Truncates job.from)))
+    ≡ cond b (entry.Unlinks job.part ∷ []) [] ++ entry.Renames job.part job.to ∷ []
+copy_changes job true true = refl
+copy_changes job true false = refl
+copy_changes job false true = refl
+copy_changes job false false = refl
 
-moves : (n : Naming) (ks : List ℕ) → changes_by (map move (map (move_from n) ks)) ≡ map (move_at n) ks
-moves n [] = refl
-moves n (k ∷ ks) = ap (λ xs. move_at n k ∷ xs) (moves n ks)
-
-no_dir : (d : Option (Path × Option ℕ)) → d ≡ None → changes_by (directory d) ≡ []
-no_dir None e = refl
-no_dir (Some x) e = absurd (cc)
-
-by_rename : (log target : Path) (j : Option Job) → j ≡ None → changes_by (transfer log target j) ≡ entry.Renames log target ∷ []
-by_rename log target None e = refl
-by_rename log target (Some job) e = absurd (cc)
-
-no_make : (m : Make) (log : Path) (j : Option Job) → j ≡ None → changes_by (made_anew m log j) ≡ []
-no_make make.No log None f = refl
-no_make (make.Yes mode) log None f = refl
-no_make m log (Some job) f = absurd (cc)
-
-abbrev pub front_of : Target → List Entry
-front_of t = map (unlink_at t.naming) (leftovers t.count (places_of t.stand.members)) ++ (map (move_at t.naming) (kept t.count (places_of t.stand.members)) ++ entry.Renames t.log (path_at t.naming 0) ∷ [])
-
-abbrev pub back_of : Target → List Entry
-back_of t = map (unlink_at t.naming) (one_too_many t.count (places_of t.stand.members))
-
-two : {xs ys xs' ys' : List Entry} → xs ≡ xs' → ys ≡ ys' → xs ++ ys ≡ xs' ++ ys'
-two {ys = ys} {xs' = xs'} a b = ap (λ x. x ++ ys) a ∙ ap (λ y. xs' ++ y) b
+transfer_is : (ready : Ready) (j : Option Job) → changes_by (transfer ready.log ready.target j) ≡ transfer_of ready j
+transfer_is ready None = refl
+transfer_is ready (Some job) = copy_changes job job.stale job.cut
 
 pub front_is : (t : Target) (log : LogPlan) → IsReadyFor t log → changes_by (rotation log) ≡ front_of t
 front_is t log r =
-    on (removals log.ready.leftovers) (directory log.ready.dir ++ (map move log.ready.moves ++ (transfer log.ready.log log.ready.target log.job ++ rest)))
-    ∙ two (ap (λ xs. changes_by (removals xs)) r.ready.leftovers_are ∙ unlinks t.naming (leftovers t.count (places_of t.stand.members)))
-    (on (directory log.ready.dir) (map move log.ready.moves ++ (transfer log.ready.log log.ready.target log.job ++ rest))
-    ∙ two (no_dir log.ready.dir r.ready.no_dir)
-    (on (map move log.ready.moves) (transfer log.ready.log log.ready.target log.job ++ rest)
-    ∙ two (ap (λ xs. changes_by (map move xs)) r.ready.moves_are ∙ moves t.naming (kept t.count (places_of t.stand.members)))
-    (on (transfer log.ready.log log.ready.target log.job) rest
-    ∙ two (by_rename log.ready.log log.ready.target log.job r.no_job ∙ (ap (λ x. entry.Renames x log.ready.target ∷ []) r.ready.log_is ∙ ap (λ x. entry.Renames t.log x ∷ []) r.ready.target_is))
-    (no_make log.ready.make log.ready.log log.job r.no_job))))
-  where
-    rest : List Step
-    rest = Rattle.lr_plan.specs.declared.step.Step.TheVariants.Rotated log.ready.log ∷ made_anew log.ready.make log.ready.log log.job
+    ap (λ (x : Ready). changes_by (steps_of_rotation x log.job)) r.ready_is ∙ (ap (λ (j : Option Job). changes_by (steps_of_rotation t.ready j)) r.job_is
+    ∙ rotation_by change_of (λ p on c. refl) (λ x. refl) (λ x y. refl) (λ x mode. refl) (λ x. refl) t.ready t.job (transfer_of t.ready t.job) r.ready.no_dir (transfer_is t.ready t.job))
 
 pub back_is : (t : Target) (log : LogPlan) → IsReadyFor t log → changes_by (retirement log) ≡ back_of t
-back_is t log r =
-    on (program phase.Mail log.first_mail) (removals log.ready.retire)
-    ∙ two (program_none phase.Mail log.first_mail) (ap (λ xs. changes_by (removals xs)) r.ready.retire_is ∙ unlinks t.naming (one_too_many t.count (places_of t.stand.members)))
-
-pub halves : (t : Target) → front_of t ++ back_of t ≡ rotation_of t
-halves t = append_assoc (map (unlink_at t.naming) (leftovers t.count (places_of t.stand.members))) (map (move_at t.naming) (kept t.count (places_of t.stand.members)) ++ entry.Renames t.log (path_at t.naming 0) ∷ []) (back_of t)
+back_is t log r = retirement_by change_of (λ p on c. refl) (λ x. refl) (λ x y. refl) (λ x mode. refl) (λ x. refl) log.first_mail log.ready.retire ∙ ap (λ (x : Ready). unlinks x.retire) r.ready_is
 
 pub log_is : (t : Target) (log : LogPlan) → IsReadyFor t log → changes_by (steps_of_log log) ≡ rotation_of t
-log_is t log r =
-    on (program phase.Pre log.pre) (rotation log ++ (program phase.Post log.post ++ retirement log))
-    ∙ two (program_none phase.Pre log.pre)
-    (on (rotation log) (program phase.Post log.post ++ retirement log)
-    ∙ (two (front_is t log r) (on (program phase.Post log.post) (retirement log) ∙ two (program_none phase.Post log.post) (back_is t log r)) ∙ halves t))
+log_is t log r = log_by change_of (λ p on c. refl) (λ x. refl) (λ x y. refl) (λ x mode. refl) (λ x. refl) log (front_of t) (back_of t) (front_is t log r) (back_is t log r) ∙ halves t
+
+-- ---- and their calls
+
+-- The calls by which a step asks for names and changes them: none of a program, and none of the making of a log, which may be left out.
+abbrev pub calls_of_step : Step → List Entry
+calls_of_step (step.Runs p on command) = []
+calls_of_step (step.Creates path mode) = []
+calls_of_step s = asks s
+
+abbrev pub calls_by : List Step → List Entry
+calls_by ss = flat_map calls_of_step ss
+
+abbrev pub front_calls : Target → List Entry
+front_calls t = unlinks t.ready.leftovers ++ (map move_step t.ready.moves ++ transfer_calls t.ready t.job)
+
+pub call_halves : (t : Target) → front_calls t ++ back_of t ≡ calls_of t
+call_halves t = halves_on t (transfer_calls t.ready t.job)
+
+pub program_asks : (p : Phase) (o : Option Command) → calls_by (program p o) ≡ []
+program_asks p o = program_by calls_of_step (λ p on c. refl) (λ x. refl) (λ x y. refl) (λ x mode. refl) (λ x. refl) p o
+
+copy_asks : (job : Job) (b c : Bool) → calls_by (step_if b (step.Removes job.part) ++ (step.Takes job.part job.mode ∷ step.Copies job.from job.part job.limit ∷ step.SyncsFile job.part ∷ step.Renames job.part job.to ∷ step.SyncsDir job.dir ∷ step_if c (step.Truncates job.from)))
+    ≡ cond b (entry.Unlinks job.part ∷ []) [] ++ (entry.Makes job.part job.mode ∷ entry.Reads job.from 0 [] ∷ entry.Appends job.part [] ∷ entry.SyncsFile job.part ∷ entry.Renames job.part job.to ∷ entry.SyncsDir job.dir ∷ cond c (entry.Truncates job.from ∷ []) [])
+copy_asks job true true = refl
+copy_asks job true false = refl
+copy_asks job false true = refl
+copy_asks job false false = refl
+
+transfer_asks : (ready : Ready) (j : Option Job) → calls_by (transfer ready.log ready.target j) ≡ transfer_calls ready j
+transfer_asks ready None = refl
+transfer_asks ready (Some job) = copy_asks job job.stale job.cut
+
+pub front_asks : (t : Target) (log : LogPlan) → IsReadyFor t log → calls_by (rotation log) ≡ front_calls t
+front_asks t log r =
+    ap (λ (x : Ready). calls_by (steps_of_rotation x log.job)) r.ready_is ∙ (ap (λ (j : Option Job). calls_by (steps_of_rotation t.ready j)) r.job_is
+    ∙ rotation_by calls_of_step (λ p on c. refl) (λ x. refl) (λ x y. refl) (λ x mode. refl) (λ x. refl) t.ready t.job (transfer_calls t.ready t.job) r.ready.no_dir (transfer_asks t.ready t.job))
+
+pub back_asks : (t : Target) (log : LogPlan) → IsReadyFor t log → calls_by (retirement log) ≡ back_of t
+back_asks t log r = retirement_by calls_of_step (λ p on c. refl) (λ x. refl) (λ x y. refl) (λ x mode. refl) (λ x. refl) log.first_mail log.ready.retire ∙ ap (λ (x : Ready). unlinks x.retire) r.ready_is
+
+pub log_asks : (t : Target) (log : LogPlan) → IsReadyFor t log → calls_by (steps_of_log log) ≡ calls_of t
+log_asks t log r = log_by calls_of_step (λ p on c. refl) (λ x. refl) (λ x y. refl) (λ x mode. refl) (λ x. refl) log (front_calls t) (back_of t) (front_asks t log r) (back_asks t log r) ∙ call_halves t
 
 -- ---- plain steps
 
@@ -112,9 +190,9 @@ program_plain P p (Some command) = (tt, tt)
 
 removals_plain : (P : Entry → Type 0) (rs : List Removal) → ArePlain P (removals rs)
 removals_plain P [] = tt
-removals_plain P (r ∷ rs) = plain_on P (program phase.Preremove r.preremove ++ (program phase.Mail r.mail ++ Rattle.lr_plan.specs.declared.step.Step.TheVariants.Removes r.path ∷ [])) (removals rs)
-    (plain_on P (program phase.Preremove r.preremove) (program phase.Mail r.mail ++ Rattle.lr_plan.specs.declared.step.Step.TheVariants.Removes r.path ∷ []) (program_plain P phase.Preremove r.preremove)
-    (plain_on P (program phase.Mail r.mail) (Rattle.lr_plan.specs.declared.step.Step.TheVariants.Removes r.path ∷ []) (program_plain P phase.Mail r.mail) (tt, tt))) (removals_plain P rs)
+removals_plain P (r ∷ rs) = plain_on P (program phase.Preremove r.preremove ++ (program phase.Mail r.mail ++ step.Removes r.path ∷ [])) (removals rs)
+    (plain_on P (program phase.Preremove r.preremove) (program phase.Mail r.mail ++ step.Removes r.path ∷ []) (program_plain P phase.Preremove r.preremove)
+    (plain_on P (program phase.Mail r.mail) (step.Removes r.path ∷ []) (program_plain P phase.Mail r.mail) (tt, tt))) (removals_plain P rs)
 
 moves_plain : (P : Entry → Type 0) (ms : List Move) → ArePlain P (map move ms)
 moves_plain P [] = tt
@@ -124,25 +202,46 @@ dir_plain : (P : Entry → Type 0) (d : Option (Path × Option ℕ)) → d ≡ N
 dir_plain P None e = tt
 dir_plain P (Some x) e = absurd (cc)
 
--- P holds of the making of this log, with any mode
-abbrev pub OfMaking : (Entry → Type 0) → Path → Type 0
-OfMaking P log = (mode : Option ℕ) → P (entry.Makes log mode)
+-- P holds of what the rotation does besides
+abbrev pub OfMaking : (Entry → Type 0) → Target → Type 0
+OfMaking P t = (e : Entry) → AlsoDoes t e → P e
 
-turn_plain : (P : Entry → Type 0) (log target : Path) (m : Make) (j : Option Job) → OfMaking P log → j ≡ None → ArePlain P (transfer log target j ++ Rattle.lr_plan.specs.declared.step.Step.TheVariants.Rotated log ∷ made_anew m log j)
-turn_plain P log target make.No None h f = (tt, (tt, tt))
-turn_plain P log target (make.Yes mode) None h f = (tt, (tt, (h mode, tt)))
-turn_plain P log target m (Some job) h f = absurd (cc)
+copy_plain : (P : Entry → Type 0) (t : Target) (job : Job) (b c : Bool) → OfMaking P t → IsJob t job → t.job ≡ Some job
+    → ArePlain P (step_if b (step.Removes job.part) ++ (step.Takes job.part job.mode ∷ step.Copies job.from job.part job.limit ∷ step.SyncsFile job.part ∷ step.Renames job.part job.to ∷ step.SyncsDir job.dir ∷ step_if c (step.Truncates job.from)))
+copy_plain P t job b c h shape is = plain_on P (step_if b (step.Removes job.part)) _ (removed b) (taken, (filled, (tt, (tt, (tt, emptied c)))))
+  where
+    removed : (b : Bool) → ArePlain P (step_if b (step.Removes job.part))
+    removed true = (tt, tt)
+    removed false = tt
 
-pub front_plain : (P : Entry → Type 0) (t : Target) (log : LogPlan) → OfMaking P t.log → IsReadyFor t log → ArePlain P (rotation log)
+    taken : P (entry.Makes job.part job.mode)
+    taken = h (entry.Makes job.part job.mode) (inr (job, is, refl))
+
+    filled : (piece : List ℕ) → P (entry.Appends job.part piece)
+    filled piece = h (entry.Appends job.part piece) (job, is, refl)
+
+    emptied : (c : Bool) → ArePlain P (step_if c (step.Truncates job.from))
+    emptied true = (h (entry.Truncates job.from) ((job, is), shape.from_is), tt)
+    emptied false = tt
+
+transfer_plain : (P : Entry → Type 0) (t : Target) (j : Option Job) → OfMaking P t → HasReady t → HasJob t → t.job ≡ j → ArePlain P (transfer t.ready.log t.ready.target j ++ step.Rotated t.ready.log ∷ made_anew t.ready.make t.ready.log j)
+transfer_plain P t None h r shape is = (tt, (tt, anew t.ready.make))
+  where
+    anew : (m : Make) → ArePlain P (made_anew m t.ready.log None)
+    anew make.No = tt
+    anew (make.Yes mode) = (h (entry.Makes t.ready.log mode) (inl r.log_is), tt)
+transfer_plain P t (Some job) h r shape is = plain_on P (transfer t.ready.log t.ready.target (Some job)) (step.Rotated t.ready.log ∷ []) (copy_plain P t job job.stale job.cut h (shape job is) is) (tt, tt)
+
+pub front_plain : (P : Entry → Type 0) (t : Target) (log : LogPlan) → OfMaking P t → IsReadyFor t log → ArePlain P (rotation log)
 front_plain P t log h r =
-    plain_on P (removals log.ready.leftovers) _ (removals_plain P log.ready.leftovers)
-    (plain_on P (directory log.ready.dir) _ (dir_plain P log.ready.dir r.ready.no_dir)
-    (plain_on P (map move log.ready.moves) _ (moves_plain P log.ready.moves) (turn_plain P log.ready.log log.ready.target log.ready.make log.job (subst (OfMaking P) (sym r.ready.log_is) h) r.no_job)))
+    subst (λ (x : Ready). ArePlain P (steps_of_rotation x log.job)) (sym r.ready_is) (subst (λ (j : Option Job). ArePlain P (steps_of_rotation t.ready j)) (sym r.job_is)
+    (plain_on P (removals t.ready.leftovers) _ (removals_plain P t.ready.leftovers)
+    (plain_on P (directory t.ready.dir) _ (dir_plain P t.ready.dir r.ready.no_dir) (plain_on P (map move t.ready.moves) _ (moves_plain P t.ready.moves) (transfer_plain P t t.job h r.ready r.job refl)))))
 
 pub back_plain : (P : Entry → Type 0) (log : LogPlan) → ArePlain P (retirement log)
 back_plain P log = plain_on P (program phase.Mail log.first_mail) (removals log.ready.retire) (program_plain P phase.Mail log.first_mail) (removals_plain P log.ready.retire)
 
-pub log_plain : (P : Entry → Type 0) (t : Target) (log : LogPlan) → OfMaking P t.log → IsReadyFor t log → ArePlain P (steps_of_log log)
+pub log_plain : (P : Entry → Type 0) (t : Target) (log : LogPlan) → OfMaking P t → IsReadyFor t log → ArePlain P (steps_of_log log)
 log_plain P t log h r =
     plain_on P (program phase.Pre log.pre) _ (program_plain P phase.Pre log.pre)
     (plain_on P (rotation log) _ (front_plain P t log h r) (plain_on P (program phase.Post log.post) (retirement log) (program_plain P phase.Post log.post) (back_plain P log)))
@@ -152,7 +251,7 @@ log_plain P t log h r =
 -- so of each of these logs
 abbrev pub OfMakings : (Entry → Type 0) → List Target → Type 0
 OfMakings P [] = Unit {0}
-OfMakings P (t ∷ ts) = OfMaking P t.log × OfMakings P ts
+OfMakings P (t ∷ ts) = OfMaking P t × OfMakings P ts
 
 fronts : (P : Entry → Type 0) (ts : List Target) (logs : List LogPlan) → OfMakings P ts → AreReadyFor ts logs → (changes_by (flat_map rotation logs) ≡ flat_map front_of ts) × ArePlain P (flat_map rotation logs)
 fronts P [] [] m r = (refl, tt)
@@ -218,7 +317,7 @@ Anything e = Unit {0}
 
 pub anything : (ts : List Target) → OfMakings Anything ts
 anything [] = tt
-anything (t ∷ ts) = (λ mode. tt, anything ts)
+anything (t ∷ ts) = (λ e also. tt, anything ts)
 
 -- ---- seen from one log
 
@@ -270,20 +369,15 @@ set_out P ts ps (by_logs_each e) a = subst (AllOf P) (sym e) (tt, all_on P (map 
 own_first : (P : Entry → Type 0) (xs ys : List Entry) → Each P ys → Weave P xs (xs ++ ys)
 own_first P xs ys a = subst (λ os. Weave P os (xs ++ ys)) (append-nil xs) (weave_on P xs xs [] ys (weave_own P xs) (weave_others P ys a))
 
-none_one : (log : Path) (ts : List Target) (t : Target) → NoneHas log ts → IsOneOf t ts → t.log ≢ log
-none_one log [] t n i = absurd i
-none_one log (x ∷ xs) t n (inl is) = subst (λ (y : Target). y.log ≢ log) is n.0
-none_one log (x ∷ xs) t n (inr i) = none_one log xs t n.1 i
-
 weave_fronts : (P : Entry → Type 0) (ts : List Target) (t : Target) → IsOneOf t ts → AreApart ts → AllBut P t.log ts → Weave P (front_of t) (flat_map front_of ts)
 weave_fronts P [] t i ap a = absurd i
 weave_fronts P (x ∷ xs) t (inl is) ap a = subst (λ (y : Target). AllBut P y.log xs → Weave P (front_of y) (front_of x ++ flat_map front_of xs)) is (λ b. own_first P (front_of x) (flat_map front_of xs) (flat_fronts P xs (all_of P x.log xs ap.0 b))) a.1
-weave_fronts P (x ∷ xs) t (inr i) ap a = weave_on P [] (front_of x) (front_of t) (flat_map front_of xs) (weave_others P (front_of x) (in_front P x (a.0 (λ e. none_one x.log xs t ap.0 i (sym e))))) (weave_fronts P xs t i ap.1 a.1)
+weave_fronts P (x ∷ xs) t (inr i) ap a = weave_on P [] (front_of x) (front_of t) (flat_map front_of xs) (weave_others P (front_of x) (in_front P x (a.0 (λ e. none_has x.log xs t ap.0 i (sym e))))) (weave_fronts P xs t i ap.1 a.1)
 
 weave_backs : (P : Entry → Type 0) (ts : List Target) (t : Target) → IsOneOf t ts → AreApart ts → AllBut P t.log ts → Weave P (back_of t) (flat_map back_of ts)
 weave_backs P [] t i ap a = absurd i
 weave_backs P (x ∷ xs) t (inl is) ap a = subst (λ (y : Target). AllBut P y.log xs → Weave P (back_of y) (back_of x ++ flat_map back_of xs)) is (λ b. own_first P (back_of x) (flat_map back_of xs) (flat_backs P xs (all_of P x.log xs ap.0 b))) a.1
-weave_backs P (x ∷ xs) t (inr i) ap a = weave_on P [] (back_of x) (back_of t) (flat_map back_of xs) (weave_others P (back_of x) (in_back P x (a.0 (λ e. none_one x.log xs t ap.0 i (sym e))))) (weave_backs P xs t i ap.1 a.1)
+weave_backs P (x ∷ xs) t (inr i) ap a = weave_on P [] (back_of x) (back_of t) (flat_map back_of xs) (weave_others P (back_of x) (in_back P x (a.0 (λ e. none_has x.log xs t ap.0 i (sym e))))) (weave_backs P xs t i ap.1 a.1)
 
 more_before : (P : Entry → Type 0) (steps p : List Entry) (ps : List (List Entry)) → Each P p → InOnePart P steps ps → InOnePart P steps (p ∷ ps)
 more_before P steps p ps a o = record { before = p ∷ o.before; part = o.part; after = o.after; parts_are = ap (λ xs. p ∷ xs) o.parts_are; first = (a, o.first); woven = o.woven; rest = o.rest }
@@ -307,7 +401,7 @@ one_of_map : (P : Entry → Type 0) (ts : List Target) (t : Target) → IsOneOf 
 one_of_map P [] t i ap a = absurd i
 one_of_map P (x ∷ xs) t (inl is) ap a = subst (λ (y : Target). AllBut P y.log xs → InOnePart P (rotation_of y) (rotation_of x ∷ map rotation_of xs)) is
     (λ b. record { before = []; part = rotation_of x; after = map rotation_of xs; parts_are = refl; first = tt; woven = weave_own P (rotation_of x); rest = map_all P xs (all_of P x.log xs ap.0 b) }) a.1
-one_of_map P (x ∷ xs) t (inr i) ap a = more_before P (rotation_of t) (rotation_of x) (map rotation_of xs) (a.0 (λ e. none_one x.log xs t ap.0 i (sym e))) (one_of_map P xs t i ap.1 a.1)
+one_of_map P (x ∷ xs) t (inr i) ap a = more_before P (rotation_of t) (rotation_of x) (map rotation_of xs) (a.0 (λ e. none_has x.log xs t ap.0 i (sym e))) (one_of_map P xs t i ap.1 a.1)
 
 -- the definition with the log
 set_in : (P : Entry → Type 0) (ts : List Target) (ps : List (List Entry)) (t : Target) → ArePartsOf ts ps → IsOneOf t ts → AreApart ts → AllBut P t.log ts → InOnePart P (rotation_of t) ps
@@ -353,7 +447,7 @@ not_behind t (x ∷ xs) ys ap (inr i) = not_behind t xs ys ap.1 i
 
 not_before : (t : Target) (xs ys : List Target) → AreApart (xs ++ ys) → IsOneOf t ys → NoneHas t.log xs
 not_before t [] ys ap i = tt
-not_before t (x ∷ xs) ys ap i = ((λ e. none_one x.log ys t (none_split x.log xs ys ap.0).1 i (sym e)), not_before t xs ys ap.1 i)
+not_before t (x ∷ xs) ys ap i = ((λ e. none_has x.log ys t (none_split x.log xs ys ap.0).1 i (sym e)), not_before t xs ys ap.1 i)
 
 sets_out : (P : Entry → Type 0) (groups : List (List Target)) (sets : List SetPlan) → HaveLogs groups sets → AllLogs P (all_targets groups) → AllOf P (parts_of_sets (map steps_of_set sets))
 sets_out P [] [] h a = tt
@@ -394,11 +488,6 @@ each_every : (P : Entry → Type 0) (es : List Entry) → ((e : Entry) → IsIn 
 each_every P [] f = tt
 each_every P (x ∷ xs) f = (f x (inl refl), each_every P xs (λ e i. f e (inr i)))
 
-of_other : (log : Path) (ts : List Target) (t : Target) (e : Entry) → IsOneOf t ts → t.log ≢ log → IsIn e (rotation_of t) → IsOfOther log ts e
-of_other log [] t e i ne h = absurd i
-of_other log (x ∷ xs) t e (inl is) ne h = inl (subst (λ (y : Target). (y.log ≢ log) × IsOf y e) (sym is) (ne, inl h))
-of_other log (x ∷ xs) t e (inr i) ne h = inr (of_other log xs t e i ne h)
-
 of_some : (ts : List Target) (t : Target) (e : Entry) → IsOneOf t ts → IsIn e (rotation_of t) → IsOfSome ts e
 of_some [] t e i h = absurd i
 of_some (x ∷ xs) t e (inl is) h = inl (subst (λ (y : Target). IsOf y e) (sym is) (inl h))
@@ -406,24 +495,25 @@ of_some (x ∷ xs) t e (inr i) h = inr (of_some xs t e i h)
 
 others : (log : Path) (all ts : List Target) → ((t : Target) → IsOneOf t ts → IsOneOf t all) → AllBut (IsOfOther log all) log ts
 others log all [] f = tt
-others log all (t ∷ ts) f = ((λ ne. each_every (IsOfOther log all) (rotation_of t) (λ e i. of_other log all t e (f t (inl refl)) ne i)), others log all ts (λ x i. f x (inr i)))
+others log all (t ∷ ts) f = ((λ ne. each_every (IsOfOther log all) (rotation_of t) (λ e i. of_other log all t e (f t (inl refl)) ne (inl i))), others log all ts (λ x i. f x (inr i)))
 
 somes : (all ts : List Target) → ((t : Target) → IsOneOf t ts → IsOneOf t all) → AllLogs (IsOfSome all) ts
 somes all [] f = tt
 somes all (t ∷ ts) f = (each_every (IsOfSome all) (rotation_of t) (λ e i. of_some all t e (f t (inl refl)) i), somes all ts (λ x i. f x (inr i)))
 
-one_made : (ts : List Target) (t : Target) (mode : Option ℕ) → IsOneOf t ts → MakesOne ts (entry.Makes t.log mode)
-one_made [] t mode i = absurd i
-one_made (x ∷ xs) t mode (inl is) = inl (ap (λ (y : Target). y.log) (sym is))
-one_made (x ∷ xs) t mode (inr i) = inr (one_made xs t mode i)
+one_made : (ts : List Target) (t : Target) (e : Entry) → IsOneOf t ts → AlsoDoes t e → MakesOne ts e
+one_made [] t e i h = absurd i
+one_made (x ∷ xs) t e (inl is) h = inl (subst (λ (y : Target). AlsoDoes y e) (sym is) h)
+one_made (x ∷ xs) t e (inr i) h = inr (one_made xs t e i h)
 
 own_makings : (all ts : List Target) → ((t : Target) → IsOneOf t ts → IsOneOf t all) → OfMakings (MakesOne all) ts
 own_makings all [] f = tt
-own_makings all (t ∷ ts) f = (λ mode. one_made all t mode (f t (inl refl)), own_makings all ts (λ x i. f x (inr i)))
+own_makings all (t ∷ ts) f = (λ e h. one_made all t e (f t (inl refl)) h, own_makings all ts (λ x i. f x (inr i)))
 
 -- a plan whose rotations are ready, of logs of which none stands twice, is planned
 pub ready_planned : (groups : List (List Target)) (sets : List SetPlan) → HaveLogs groups sets → AreApart (flat_map (λ ts. ts) groups) → ArePlanned (flat_map (λ ts. ts) groups) (map steps_of_set sets)
 ready_planned groups sets h ap = record {
+  apart = ap;
   plain = sets_plain (MakesOne (flat_map (λ ts. ts) groups)) groups sets (own_makings (flat_map (λ ts. ts) groups) (flat_map (λ ts. ts) groups) (λ t i. i)) h;
   all = sets_out (IsOfSome (flat_map (λ ts. ts) groups)) groups sets h (somes (flat_map (λ ts. ts) groups) (flat_map (λ ts. ts) groups) (λ t i. i));
   each = λ t i. sets_in (IsOfOther t.log (flat_map (λ ts. ts) groups)) groups sets t h i ap (others t.log (flat_map (λ ts. ts) groups) (flat_map (λ ts. ts) groups) (λ x j. j));

@@ -1,37 +1,32 @@
 -- The steps of logs that share their scripts fit: all rotations, and then all retirements.
-use Rattle.std.proofs.Common.{◌≡◌, ◌⊎◌, inl, inr, ⊎_elim, refl, sym, ◌∙◌, ap, subst, Bool, true, false, cond, Option, List, [], ◌∷◌, ◌++◌, append_assoc}
+use Rattle.std.proofs.Common.{◌≡◌, ◌⊎◌, inl, inr, ⊎_elim, refl, sym, ◌∙◌, ap, subst, Option, List, [], ◌∷◌, ◌++◌, append_assoc}
 use Rattle.std.specs.Prelude.{filter}
 use Rattle.std.specs.List.{flat_map}
 use Rattle.lr_rules.specs.declared.fault.Phase.TheVariants as phase
 use Rattle.lr_rules.specs.Names.{Meet}
 use Rattle.lr_host.specs.declared.entry.Entry.{Entry}
 use Rattle.lr_host.specs.declared.journal.Journal.{Journal}
-use Rattle.lr_host.specs.Told.{Each, Then, Left}
-use Rattle.lr_host.specs.Steps.{is_naming, CanAll}
+use Rattle.lr_host.specs.Told.{Each, Left}
+use Rattle.lr_host.specs.Steps.{is_naming}
 use Rattle.lr_host.proofs.Each.{each_first}
-use Rattle.lr_host.proofs.Left.{left_first, left_then, can_part}
-use Rattle.lr_weave.proofs.Lasting.{can_rest}
+use Rattle.lr_host.proofs.Left.{left_first, left_then}
 use Rattle.lr_plan.specs.declared.planned.LogPlan.{LogPlan}
 use Rattle.lr_plan.specs.declared.planned.SetPlan.{SetPlan}
 use Rattle.lr_plan.specs.declared.step.Step.{Step}
 use Rattle.lr_plan.specs.Steps.{program, removals, shared_steps}
 use Rattle.lr_plan.specs.Steps as steps
-use Rattle.lr_plan.specs.Outcomes.{Succeeds}
 use Rattle.lr_plan.specs.Internal.Asking.{CanMake}
+use Rattle.lr_rotations.specs.Calls.{CanCalls}
 use Rattle.lr_rotations.specs.Target.{Target, IsOneOf}
+use Rattle.lr_rotations.proofs.Alike.{Reads}
 use Rattle.lr_weave.specs.Fitting.{IsFit, AreFit, NoneMeets, DontMeet, AskNothing, ReadsNothing}
 use Rattle.lr_weave.specs.Parts.{changes_by, ArePlain}
 use Rattle.lr_weave.specs.Planned.{IsReadyFor, AreReadyFor}
 use Rattle.lr_weave.proofs.Parting.{went_changes, joined_changes}
-use Rattle.lr_weave.proofs.Planning.{Anything, front_of, back_of, front_is, back_is, halves, front_plain, back_plain, program_none, program_plain}
-use Rattle.lr_weave.proofs.Fits.{Avoids, Reads, NamesOf, can_far, can_make, rotation_reads, rotation_far, fit_later, front_bare, back_bare, program_can, unchanged}
+use Rattle.lr_weave.proofs.Planning.{Anything, front_of, back_of, front_is, back_is, front_asks, back_asks, halves, call_halves, front_plain, back_plain, program_none, program_plain}
+use Rattle.lr_weave.proofs.Fits.{Avoids, NamesOf, AllSucceed, can_far, make_then, can_make, back_reads, rotation_far, fit_later, front_bare, back_bare, program_can, unchanged}
 
 -- ---- one list behind another
-
--- all these steps were made
-abbrev AllSucceed : List Step → List Entry → Type 0
-AllSucceed [] ts = ts ≡ []
-AllSucceed (s ∷ ss) ts = Then (Succeeds s) (AllSucceed ss) ts
 
 can_on : (xs ys : List Step) {o : Option Journal} → CanMake o xs → ((m : Option Journal) → Left (AllSucceed xs) o m → CanMake m ys) → CanMake o (xs ++ ys)
 can_on [] ys {o} can f = f o (left_first (AllSucceed []) o refl)
@@ -50,20 +45,17 @@ each_end P (x ∷ xs) ys a = each_end P xs ys a.1
 record HasBack (told : Option Journal) (t : Target) : Type 0 where
   reads : Each (Reads (NamesOf t)) (back_of t)
   far_from : (x : Target) → (Meet x.log x.naming t.log t.naming → ⊥) → Each (Avoids (NamesOf x)) (back_of t)
-  fits : CanAll told (back_of t)
-
-fit_front : (o : Option Journal) (t : Target) → IsFit o t → CanAll o (front_of t)
-fit_front o t fit = can_part (front_of t) (back_of t) (subst (CanAll o) (sym (halves t)) fit.fits)
+  fits : CanCalls told (back_of t)
 
 front_far : (o : Option Journal) (x t : Target) → IsFit o t → (Meet x.log x.naming t.log t.naming → ⊥) → Each (Avoids (NamesOf x)) (front_of t)
 front_far o x t fit apart = each_first (Avoids (NamesOf x)) (front_of t) (back_of t) (subst (Each (Avoids (NamesOf x))) (sym (halves t)) (rotation_far x t fit apart))
 
 -- behind its rotation
-back_left : (o m : Option Journal) (t : Target) {P : List Entry → Type 0} → IsFit o t → Left P o m → ((ts : List Entry) → P ts → filter is_naming ts ≡ filter is_naming (front_of t)) → HasBack m t
-back_left o m t fit left f = record {
-  reads = each_end (Reads (NamesOf t)) (front_of t) (back_of t) (subst (Each (Reads (NamesOf t))) (sym (halves t)) (rotation_reads t fit.names.family fit.names.named fit.names.next));
+back_left : (o m : Option Journal) (t : Target) → IsFit o t → CanCalls m (back_of t) → HasBack m t
+back_left o m t fit can = record {
+  reads = back_reads t fit.names;
   far_from = λ x apart. each_end (Avoids (NamesOf x)) (front_of t) (back_of t) (subst (Each (Avoids (NamesOf x))) (sym (halves t)) (rotation_far x t fit apart));
-  fits = can_rest (front_of t) (back_of t) (subst (CanAll o) (sym (halves t)) fit.fits) left f;
+  fits = can;
 }
 
 back_later : (x : Target) {P : List Entry → Type 0} {o m : Option Journal} → HasBack o x → Left P o m → ((ts : List Entry) → P ts → Each (Avoids (NamesOf x)) (filter is_naming ts)) → HasBack m x
@@ -74,7 +66,7 @@ turned_about x t f m = f (m.0, ⊎_elim (λ a. inr (a.1, a.0)) (λ b. inl (b.1, 
 
 -- the changes of the rotation's own steps
 front_same : (t : Target) (log : LogPlan) (ts : List Entry) → IsReadyFor t log → AllSucceed (steps.rotation_of log) ts → filter is_naming ts ≡ front_of t
-front_same t log ts r w = went_all (steps.rotation_of log) ts (front_plain Anything t log (λ mode. tt) r) w ∙ front_is t log r
+front_same t log ts r w = went_all (steps.rotation_of log) ts (front_plain Anything t log (λ e also. tt) r) w ∙ front_is t log r
 
 back_same : (t : Target) (log : LogPlan) (ts : List Entry) → IsReadyFor t log → AllSucceed (steps.retirement_of log) ts → filter is_naming ts ≡ back_of t
 back_same t log ts r w = went_all (steps.retirement_of log) ts (back_plain Anything log) w ∙ back_is t log r
@@ -88,17 +80,6 @@ fits_later : (o m : Option Journal) (t : Target) (xs : List Target) {P : List En
 fits_later o m t [] n fits left f = tt
 fits_later o m t (x ∷ xs) n fits left f = (fit_later x fits.0 left (f x n.0), fits_later o m t xs n.1 fits.1 left f)
 
-filter_twice : (ts : List Entry) → filter is_naming (filter is_naming ts) ≡ filter is_naming ts
-filter_twice [] = refl
-filter_twice (t ∷ ts) = go (is_naming t) refl (filter_twice ts)
-  where
-    go : (b : Bool) → is_naming t ≡ b → filter is_naming (filter is_naming ts) ≡ filter is_naming ts → filter is_naming (cond b (t ∷ filter is_naming ts) (filter is_naming ts)) ≡ cond b (t ∷ filter is_naming ts) (filter is_naming ts)
-    go true h r = ap (λ c. cond c (t ∷ filter is_naming (filter is_naming ts)) (filter is_naming (filter is_naming ts))) h ∙ ap (λ us. t ∷ us) r
-    go false h r = r
-
-all_changes : (ts us : List Entry) → filter is_naming ts ≡ us → filter is_naming ts ≡ filter is_naming us
-all_changes ts us e = sym (filter_twice ts) ∙ ap (filter is_naming) e
-
 -- ---- all rotations, and then the rest
 
 fronts_can : (rest : List Step) (o : Option Journal) (ts : List Target) (logs : List LogPlan) (gone : List Target) → AreReadyFor ts logs → AreFit o ts → DontMeet ts
@@ -109,11 +90,12 @@ fronts_can rest o [] (log ∷ logs) gone r fits dont apart done k = absurd r
 fronts_can rest o (t ∷ ts) [] gone r fits dont apart done k = absurd r
 fronts_can rest o (t ∷ ts) (log ∷ logs) gone r fits dont apart done k =
     subst (CanMake o) (sym (append_assoc (steps.rotation_of log) (flat_map steps.rotation_of logs) rest))
-    (can_on (steps.rotation_of log) (flat_map steps.rotation_of logs ++ rest) (can_make (steps.rotation_of log) (front_bare o t log fits.0.anew r.0) (subst (CanAll o) (sym (front_is t log r.0)) (fit_front o t fits.0)))
-    (λ m l. fronts_can rest m ts logs (t ∷ gone) r.1
+    (make_then (steps.rotation_of log) (flat_map steps.rotation_of logs ++ rest) (back_of t) (front_bare o t log fits.0.anew r.0)
+    (subst (CanCalls o) (sym (ap (λ es. es ++ back_of t) (front_asks t log r.0) ∙ call_halves t)) fits.0.fits)
+    (λ m l can. fronts_can rest m ts logs (t ∷ gone) r.1
     (fits_later o m t ts dont.0 fits.1 l (λ x ne us w. subst (Each (Avoids (NamesOf x))) (sym (front_same t log us r.0 w)) (front_far o x t fits.0 ne))) dont.1
     (λ d j x i. ⊎_elim (λ is. subst (λ (z : Target). Meet z.log z.naming x.log x.naming → ⊥) is (turned_about x t (none_in t ts x dont.0 i))) (λ old. apart d old x (inr i)) j)
-    (λ d j. ⊎_elim (λ is. subst (HasBack m) is (back_left o m t fits.0 l (λ us w. all_changes us (front_of t) (front_same t log us r.0 w))))
+    (λ d j. ⊎_elim (λ is. subst (HasBack m) is (back_left o m t fits.0 can))
     (λ old. back_later d (done d old) l (λ us w. subst (Each (Avoids (NamesOf d))) (sym (front_same t log us r.0 w)) (front_far o d t fits.0 (apart d old t (inl refl))))) j)
     (λ q h. k q (λ x i. h x (⊎_elim (λ a. ⊎_elim (λ is. inr (inl is)) (λ b. inl b) a) (λ j. inr (inr j)) i)))))
 
@@ -124,7 +106,7 @@ backs_can rest o [] (log ∷ logs) r q dont h k = absurd r
 backs_can rest o (t ∷ ts) [] r q dont h k = absurd r
 backs_can rest o (t ∷ ts) (log ∷ logs) r q dont h k =
     subst (CanMake o) (sym (append_assoc (steps.retirement_of log) (flat_map steps.retirement_of logs) rest))
-    (can_on (steps.retirement_of log) (flat_map steps.retirement_of logs ++ rest) (can_make (steps.retirement_of log) (back_bare o t log r.0 q.0.no_mail) (subst (CanAll o) (sym (back_is t log r.0)) (h t (inl refl)).fits))
+    (can_on (steps.retirement_of log) (flat_map steps.retirement_of logs ++ rest) (can_make (steps.retirement_of log) (back_bare o t log r.0 q.0.no_mail) (subst (CanCalls o) (sym (back_asks t log r.0)) (h t (inl refl)).fits))
     (λ m l. backs_can rest m ts logs r.1 q.1 dont.1
     (λ x i. back_later x (h x (inr i)) l (λ us w. subst (Each (Avoids (NamesOf x))) (sym (back_same t log us r.0 w)) ((h t (inl refl)).far_from x (none_in t ts x dont.0 i)))) k))
 

@@ -23,8 +23,8 @@ abbrev pub done_turned : (state : Path) (rules : Rules) (looks : List Entry) (ta
     → SetsDone (map steps_of_set sets) t [] ts → AllTurned state rules (looks ++ ts)
 done_turned state rules looks targets sets t ts quiet seen planned d = record {
   turns = done_turns state rules looks targets (map steps_of_set sets) t [] ts quiet seen planned d;
-  whole = λ x i. weave_change (StandsBetween state x.log targets) (rotation_of x) ts
-      (weave_as (IsOfOther x.log targets) (StandsBetween state x.log targets) (rotation_of x) (filter is_naming ts) (λ e h. inl h)
+  whole = λ x i. weave_change (StandsBetween state x targets) (rotation_of x) ts
+      (weave_as (IsOfOther x.log targets) (StandsBetween state x targets) (rotation_of x) (filter is_naming ts) (λ e h. inl h)
       (subst (Weave (IsOfOther x.log targets) (rotation_of x)) (sym (done_whole (MakesOne targets) sets t ts planned.plain d)) (one_joined (IsOfOther x.log targets) (rotation_of x) (parts_of_sets (map steps_of_set sets)) (planned.each x i))))
-      (only_as (MakesOne targets) (StandsBetween state x.log targets) ts (made_between state x.log targets) (sets_parts (MakesOne targets) (map steps_of_set sets) t [] ts planned.plain d).only);
+      (only_as (MakesOne targets) (StandsBetween state x targets) ts (made_between state targets x planned.apart i) (sets_parts (MakesOne targets) (map steps_of_set sets) t [] ts planned.plain d).only);
 }

@@ -5,18 +5,18 @@ use Rattle.lr_rules.specs.Path.{path_fault}
 use Rattle.lr_host.specs.declared.entry.Entry.TheVariants as entry
 use Rattle.lr_host.specs.declared.journal.Journal.{Journal}
 use Rattle.lr_host.specs.Told.{Can}
-use Rattle.lr_host.specs.Steps.{CanAll}
 use Rattle.lr_host.specs.Lists.{IsIn}
 use Rattle.lr_scripts.specs.declared.command.Command.{Command}
 use Rattle.lr_rotations.specs.Apart.{HasNames}
+use Rattle.lr_rotations.specs.Calls.{CanCalls, calls_of}
 use Rattle.lr_plan.specs.declared.planned.LogPlan.{LogPlan}
 use Rattle.lr_plan.specs.declared.planned.SetPlan.{SetPlan}
-use Rattle.lr_rotations.specs.Target.{Target, rotation_of}
+use Rattle.lr_rotations.specs.Target.{Target}
 
--- The rotation of the log has names for all its members, and fits where the calls are now; and the log can be made anew.
+-- The rotation of the log has names for all its members, and its calls fit where the calls are now; and the log can be made anew.
 pub record IsFit (told : Option Journal) (t : Target) : Type 0 where
   pub names : HasNames t
-  pub fits : CanAll told (rotation_of t)
+  pub fits : CanCalls told (calls_of t)
   pub anew : Can told (entry.Makes t.log None)
 
 abbrev pub AreFit : Option Journal → List Target → Type 0

@@ -1,5 +1,5 @@
 -- The changes of the steps of a plan, part by part.
-use Rattle.std.specs.Prelude.{◌≡◌, ◌⊎◌, List, [], ◌∷◌, ◌++◌, map, filter}
+use Rattle.std.specs.Prelude.{◌≡◌, ◌⊎◌, ℕ, List, [], ◌∷◌, ◌++◌, map, filter}
 use Rattle.std.specs.List.{flat_map}
 use Rattle.lr_host.specs.declared.entry.Entry.{Entry}
 use Rattle.lr_host.specs.declared.entry.Entry.TheVariants as entry
@@ -12,8 +12,8 @@ use Rattle.lr_plan.specs.declared.step.SetSteps.{SetSteps}
 use Rattle.lr_plan.specs.Internal.Asking.{asks}
 use Rattle.lr_rotations.specs.Weave.{Weave}
 use Rattle.lr_rotations.specs.Target.{Target, rotation_of, IsOneOf}
-use Rattle.lr_rotations.specs.AllTurns.{IsOfSome, IsOfOther}
-use Rattle.lr_rotations.specs.Rotated.{MakesAt}
+use Rattle.lr_rotations.specs.AllTurns.{AlsoDoes, IsOfSome, IsOfOther}
+use Rattle.lr_weave.specs.Planned.{AreApart}
 
 -- the change by which a step takes or gives names, if any; the making of a log isn't one, since it is left out where the log is there
 abbrev pub change_of : Step → List Entry
@@ -22,14 +22,14 @@ change_of step = filter is_naming (asks step)
 abbrev pub changes_by : List Step → List Entry
 changes_by steps = flat_map change_of steps
 
--- It makes no directory and changes no bytes; and where it makes a log anew, P holds of that.
+-- It makes no directory and appends no text; and where it makes, fills or empties a file, P holds of that.
 abbrev pub IsPlain : (Entry → Type 0) → Step → Type 0
 IsPlain P (Creates path mode) = P (entry.Makes path mode)
 IsPlain P (MakesDir path mode) = ⊥
-IsPlain P (Takes path mode) = ⊥
-IsPlain P (Copies from to limit) = ⊥
+IsPlain P (Takes path mode) = P (entry.Makes path mode)
+IsPlain P (Copies from to limit) = (piece : List ℕ) → P (entry.Appends to piece)
 IsPlain P (Appends path text) = ⊥
-IsPlain P (Truncates path) = ⊥
+IsPlain P (Truncates path) = P (entry.Truncates path)
 IsPlain P _ = Unit {0}
 
 abbrev pub ArePlain : (Entry → Type 0) → List Step → Type 0
@@ -49,18 +49,18 @@ abbrev pub ArePlainSets : (Entry → Type 0) → List SetSteps → Type 0
 ArePlainSets P [] = Unit {0}
 ArePlainSets P (s ∷ sets) = IsPlainSet P s × ArePlainSets P sets
 
--- The entry starts no run and changes no bytes; and where it makes a file, P holds of it.
+-- The entry starts no run; and where it makes, fills or empties a file, P holds of it.
 abbrev pub MakesOnly : (Entry → Type 0) → Entry → Type 0
 MakesOnly P (entry.Makes path mode) = P (entry.Makes path mode)
 MakesOnly P (entry.Starts state now rules) = ⊥
-MakesOnly P (entry.Appends path bytes) = ⊥
-MakesOnly P (entry.Truncates path) = ⊥
+MakesOnly P (entry.Appends path bytes) = P (entry.Appends path bytes)
+MakesOnly P (entry.Truncates path) = P (entry.Truncates path)
 MakesOnly P _ = Unit {0}
 
--- the entry makes one of these logs anew
+-- the entry is what the rotation of one of these logs does besides its renames and unlinks
 abbrev pub MakesOne : List Target → Entry → Type 0
 MakesOne [] e = ⊥
-MakesOne (t ∷ ts) e = MakesAt t.log e ⊎ MakesOne ts e
+MakesOne (t ∷ ts) e = AlsoDoes t e ⊎ MakesOne ts e
 
 -- the parts of a definition, and of all
 abbrev pub parts_of_set : SetSteps → List (List Entry)
@@ -89,8 +89,9 @@ pub record InOnePart (P : Entry → Type 0) (steps : List Entry) (parts : List (
   pub woven : Weave P steps part
   pub rest : AllOf P after
 
--- The changes of the plan are those of the rotations of these logs, and what it makes are these logs.
+-- The changes of the plan are those of the rotations of these logs, of which none stands twice, and what they do besides.
 pub record ArePlanned (targets : List Target) (sets : List SetSteps) : Type 0 where
+  pub apart : AreApart targets
   pub plain : ArePlainSets (MakesOne targets) sets
   pub all : AllOf (IsOfSome targets) (parts_of_sets sets)
   pub each : (t : Target) → IsOneOf t targets → InOnePart (IsOfOther t.log targets) (rotation_of t) (parts_of_sets sets)

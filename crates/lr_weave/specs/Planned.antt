@@ -1,15 +1,16 @@
 -- Plans whose logs are those that were seen, each with its rotation ready.
-use Rattle.std.specs.Prelude.{◌≡◌, ◌≢◌, List, [], ◌∷◌, None}
+use Rattle.std.specs.Prelude.{◌≡◌, ◌≢◌, List, [], ◌∷◌}
 use Rattle.lr_rules.specs.declared.path.Path.{Path}
-use Rattle.lr_chain.specs.Ready.{IsReady}
 use Rattle.lr_plan.specs.declared.planned.LogPlan.{LogPlan}
 use Rattle.lr_plan.specs.declared.planned.SetPlan.{SetPlan}
-use Rattle.lr_rotations.specs.Target.{Target}
+use Rattle.lr_rotations.specs.Target.{Target, HasReady, HasJob}
 
--- The rotation of the log is ready, by rename.
+-- The rotation of the log is ready, and its copy, where it is copied; and they are what the plan does with it.
 pub record IsReadyFor (t : Target) (log : LogPlan) : Type 0 where
-  pub ready : IsReady t.log t.naming t.count log.ready.make t.stand.members log.ready
-  pub no_job : log.job ≡ None
+  pub ready : HasReady t
+  pub job : HasJob t
+  pub ready_is : log.ready ≡ t.ready
+  pub job_is : log.job ≡ t.job
 
 abbrev pub AreReadyFor : List Target → List LogPlan → Type 0
 AreReadyFor [] [] = Unit {0}
