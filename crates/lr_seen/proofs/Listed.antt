@@ -1,9 +1,10 @@
 -- What the looks showed of a family, whose directory may have been listed for another log before.
-use Rattle.std.proofs.Common.{◌≡◌, inl, inr, ⊎_elim, ℕ, ◌+◌, true, List, [], ◌∷◌, Option, Some, None, refl, sym, ◌∙◌, subst}
+use Rattle.std.proofs.Common.{◌≡◌, inl, inr, ⊎_elim, ℕ, ◌+◌, Bool, true, false, List, [], ◌∷◌, map, Option, Some, None, refl, sym, ◌∙◌, ap, subst}
 use Rattle.std.specs.List.Sorted.{IsPermutation}
 use Rattle.std.proofs.lemmas.List.Sorted.{Contains-permutation, IsPermutation-sym}
 use Rattle.lr_rules.specs.declared.path.Path.{Path}
 use Rattle.lr_rules.specs.declared.rule.Naming.{Naming}
+use Rattle.lr_host.specs.declared.thing.Kind.{Kind}
 use Rattle.lr_host.specs.declared.thing.Kind.TheVariants as kind
 use Rattle.lr_host.specs.declared.thing.Seen.{Seen}
 use Rattle.lr_host.specs.declared.entry.Entry.{Entry}
@@ -11,21 +12,21 @@ use Rattle.lr_host.specs.declared.entry.Entry.TheVariants as entry
 use Rattle.lr_host.specs.Lists.{IsIn}
 use Rattle.lr_host.specs.Looks.{Sees, IsDir}
 use Rattle.lr_host.specs.Told.{Then}
-use Rattle.lr_host.proofs.Lists.{in_front, in_back, in_append}
+use Rattle.lr_host.proofs.Lists.{in_map, in_front, in_back, in_append}
 use Rattle.lr_family.specs.declared.listing.Listing.{Listing}
 use Rattle.lr_family.specs.declared.spot.Spot.{Spot}
 use Rattle.lr_family.specs.declared.stand.Stand.{Stand}
 use Rattle.lr_family.specs.Among.{StandsAmong, ShowsMembers, ShowsIn}
 use Rattle.lr_family.specs.Listed.{HasListed, ShowsListing}
 use Rattle.lr_family.specs.Named.{member_name}
+use Rattle.lr_family.specs.Parts.{part_if_file, part_seen, part_in, part_look, ShowsParts}
 use Rattle.lr_family.specs.Spots.{AreSpots}
-use Rattle.lr_family.specs.Stands.{ShowsAs}
 use Rattle.lr_chain.specs.Rotation.{places_of}
 use Rattle.lr_looks.specs.Families.{FamilySight, Stood, Stopped, ShowsFamily, behind_listing, with_listing, not_listed, ShowFamilies, LookedLog, looked_by, looked_of}
 use Rattle.lr_looks.specs.Found.{FoundLog}
 use Rattle.lr_rotations.specs.Shown.{Shown}
-use Rattle.lr_rotations.proofs.Shown.{shown}
-use Rattle.lr_seen.proofs.Elements.{in_list}
+use Rattle.lr_rotations.proofs.Shown.{stands_shown}
+use Rattle.lr_seen.proofs.Elements.{in_list, in_flat}
 
 -- ---- listings
 
@@ -92,22 +93,12 @@ spots_as n names listed spots same s = record {
   rising = s.rising;
 }
 
--- what some entries show, all show
-shown_more : (n : Naming) (places : List ℕ) (ts all : List Entry) → ((e : Entry) → IsIn e ts → IsIn e all) → Shown n places ts → Shown n places all
-shown_more n places ts all more s = record {
-  dir = (s.dir.0, s.dir.1, more _ s.dir.2);
-  names = s.names;
-  list = more _ s.list;
-  falling = s.falling;
-  named = s.named;
-  files = λ place c. let f = s.files place c in (f.0, f.1, more _ f.2);
-  others = λ place h out. ⊎_elim (λ a. inl a) (λ b. inr (more _ b)) (s.others place h out);
-}
-
 -- looks at the members, behind a listing that was told anywhere among all entries
 members_shown : (all : List Entry) (n : Naming) (l : Listing) (stand : Stand) (ts : List Entry) → ((e : Entry) → IsIn e ts → IsIn e all) → AreTold all (l ∷ []) → l.dir ≡ n.dir → stand.there ≡ true
     → ShowsIn n l.there l.parent l.names stand ts → Shown n (places_of stand.members) all
-members_shown all n l stand ts in_all told dir there h = shown_more n (places_of stand.members) us all more (shown n stand us there (subst (λ b. ShowsAs n b stand.parent stand.members us) (sym there) stands))
+members_shown all n l stand ts in_all told dir there h =
+    stands_shown n t.names stand.members h.2.front all (λ e i. in_all e (subst (IsIn e) (sym h.2.joined) (in_front e h.2.front h.2.back i))) (t.seen, t.is_dir, subst (λ (x : Path). IsIn (entry.Look x (Some t.seen)) all) dir t.look)
+    (subst (λ (x : Path). IsIn (entry.List x t.names) all) dir t.list) among
   where
     listed : l.there ≡ true
     listed = sym h.0 ∙ there
@@ -115,66 +106,75 @@ members_shown all n l stand ts in_all told dir there h = shown_more n (places_of
     t : IsTold all l
     t = told l (inl refl) listed
 
-    s : StandsAmong n l.names stand.members ts
-    s = subst (λ b. ShowsMembers n b l.names stand.members ts) listed h.2
+    s : StandsAmong n l.names stand.members h.2.front
+    s = subst (λ b. ShowsMembers n b l.names stand.members h.2.front) listed h.2.first
 
-    us : List Entry
-    us = entry.Look n.dir (Some t.seen) ∷ entry.List n.dir t.names ∷ ts
+    among : StandsAmong n t.names stand.members h.2.front
+    among = record { spots = s.spots; spots_are = spots_as n l.names t.names s.spots t.same s.spots_are; shown = s.shown; each = s.each; newest_first = s.newest_first; looks = s.looks }
 
-    more : (e : Entry) → IsIn e us → IsIn e all
-    more e (inl is) = subst (λ (x : Entry). IsIn x all) is (subst (λ (x : Path). IsIn (entry.Look x (Some t.seen)) all) dir t.look)
-    more e (inr (inl is)) = subst (λ (x : Entry). IsIn x all) is (subst (λ (x : Path). IsIn (entry.List x t.names) all) dir t.list)
-    more e (inr (inr i)) = in_all e i
+-- ---- part files
 
-    stands : ShowsAs n true stand.parent stand.members us
-    stands = (
-      h.1 ∙ t.parent,
-      record {
-        front = entry.Look n.dir (Some t.seen) ∷ [];
-        back = entry.List n.dir t.names ∷ ts;
-        joined = refl;
-        first = record { seen = Some t.seen; is = t.is_dir; look = refl };
-        second = record {
-          spots = s.spots;
-          shown = s.shown;
-          each = s.each;
-          newest_first = s.newest_first;
-          looks = record {
-            front = entry.List n.dir t.names ∷ [];
-            back = ts;
-            joined = refl;
-            first = record { names = t.names; spots_are = spots_as n l.names t.names s.spots t.same s.spots_are; list = refl };
-            second = s.looks;
-          };
-        };
-      },
-    )
+-- of each of these paths a look saw a regular file
+abbrev pub SawFiles : List Path → List Entry → Type 0
+SawFiles paths ts = (x : Path) → IsIn x paths → (seen : Seen) × (seen.kind ≡ kind.File) × IsIn (entry.Look x (Some seen)) ts
+
+-- a part file that stands is that of a sight
+part_of_sight : (path x : Path) (o : Option Seen) → IsIn x (part_seen path o) → (path ≡ x) × ((seen : Seen) × (seen.kind ≡ kind.File) × (o ≡ Some seen))
+part_of_sight path x None i = absurd i
+part_of_sight path x (Some seen) i = go seen.kind refl i
+  where
+    go : (k : Kind) → seen.kind ≡ k → IsIn x (part_if_file path k) → (path ≡ x) × ((s : Seen) × (s.kind ≡ kind.File) × (Some seen ≡ Some s))
+    go kind.File is (inl e) = (e, (seen, is, refl))
+    go kind.File is (inr none) = absurd none
+    go kind.Dir is none = absurd none
+    go kind.Other is none = absurd none
+
+parts_shown : (all : List Entry) (n : Naming) (l : Listing) (stand : Stand) (ts : List Entry) → ((e : Entry) → IsIn e ts → IsIn e all) → ShowsIn n l.there l.parent l.names stand ts → SawFiles stand.parts all
+parts_shown all n l stand ts in_all h x i = go l.there h.2.second
+  where
+    go : (b : Bool) → ShowsParts n b l.names stand.parts h.2.back → (seen : Seen) × (seen.kind ≡ kind.File) × IsIn (entry.Look x (Some seen)) all
+    go false none = absurd (subst (IsIn x) none.0 i)
+    go true p =
+        let g = in_flat part_in p.sights x (subst (IsIn x) p.parts_are i) in
+        let s = part_of_sight g.0.path x g.0.seen g.2 in
+        let e : entry.Look g.0.path g.0.seen ≡ entry.Look x (Some s.1.0) = ap (λ (y : Path). entry.Look y g.0.seen) s.0 ∙ ap (entry.Look x) s.1.2 in (
+          s.1.0,
+          s.1.1,
+          in_all (entry.Look x (Some s.1.0)) (subst (IsIn (entry.Look x (Some s.1.0))) (sym h.2.joined) (in_back (entry.Look x (Some s.1.0)) h.2.front h.2.back
+              (subst (IsIn (entry.Look x (Some s.1.0))) (sym p.looks) (subst (λ (d : Entry). IsIn d (map part_look p.sights)) e (in_map part_look g.0 p.sights g.1))))),
+        )
 
 -- ---- families
 
+-- The members of such a family were seen where its directory is there, and its part files.
+abbrev pub WasShown : Naming → Stand → List Entry → Type 0
+WasShown n stand all = (stand.there ≡ true → Shown n (places_of stand.members) all) × SawFiles stand.parts all
+
 -- a family, whether its directory was listed before or is listed now
-family_shown : (all : List Entry) (known : List Listing) (n : Naming) (after : List Listing) (stand : Stand) (s : FamilySight) (ts : List Entry) → s ≡ Stood stand → ((e : Entry) → IsIn e ts → IsIn e all) → AreTold all known → AreTold all after → stand.there ≡ true
-    → ShowsFamily known n after s ts → Shown n (places_of stand.members) all
-family_shown all known n after stand s ts is in_all told next there f = go (subst (λ (x : FamilySight). ShowsFamily known n after x ts) is f)
+family_shown : (all : List Entry) (known : List Listing) (n : Naming) (after : List Listing) (stand : Stand) (s : FamilySight) (ts : List Entry) → s ≡ Stood stand → ((e : Entry) → IsIn e ts → IsIn e all) → AreTold all known → AreTold all after
+    → ShowsFamily known n after s ts → WasShown n stand all
+family_shown all known n after stand s ts is in_all told next f = go (subst (λ (x : FamilySight). ShowsFamily known n after x ts) is f)
   where
     alone : (ls : List Listing) (l : Listing) → AreTold all ls → IsIn l ls → AreTold all (l ∷ [])
     alone ls l told i k (inl e) b = subst (λ (x : Listing). x.there ≡ true → IsTold all x) e (told l i) b
     alone ls l told i k (inr none) b = absurd none
 
-    go : ShowsFamily known n after (Stood stand) ts → Shown n (places_of stand.members) all
-    go (behind_listing l was same m) = members_shown all n l stand ts in_all (alone known l told (in_list known was.place l was.there)) was.same there m
-    go (with_listing l new e same t) = members_shown all n l stand t.back (λ x i. in_all x (subst (IsIn x) (sym t.joined) (in_back x t.front t.back i))) (alone after l next (subst (IsIn l) (sym same) (in_back l known (l ∷ []) (inl refl)))) e there t.second
+    go : ShowsFamily known n after (Stood stand) ts → WasShown n stand all
+    go (behind_listing l was same m) = ((λ there. members_shown all n l stand ts in_all (alone known l told (in_list known was.place l was.there)) was.same there m), parts_shown all n l stand ts in_all m)
+    go (with_listing l new e same t) =
+        let more = λ (x : Entry) (i : IsIn x t.back). in_all x (subst (IsIn x) (sym t.joined) (in_back x t.front t.back i)) in
+        ((λ there. members_shown all n l stand t.back more (alone after l next (subst (IsIn l) (sym same) (in_back l known (l ∷ []) (inl refl)))) e there t.second), parts_shown all n l stand t.back more t.second)
     go (not_listed why new same e h) = absurd (cc)
 
--- of each log that was looked at whole, and whose directory is there
+-- of each log that was looked at whole
 families_shown : (all : List Entry) (known : List Listing) (fs : List FoundLog) (after : List Listing) (ss : List FamilySight) (ts : List Entry) → ((e : Entry) → IsIn e ts → IsIn e all) → AreTold all known → ShowFamilies known fs after ss ts
-    → (x : LookedLog) → IsIn x (looked_of fs ss) → x.stand.there ≡ true → Shown x.naming (places_of x.stand.members) all
-families_shown all known [] after [] ts in_all told h x i there = absurd i
-families_shown all known [] after (s ∷ ss) ts in_all told h x i there = absurd i
-families_shown all known (f ∷ fs) after [] ts in_all told h x i there = absurd i
-families_shown all known (f ∷ fs) after (s ∷ ss) ts in_all told h x i there = ⊎_elim
+    → (x : LookedLog) → IsIn x (looked_of fs ss) → WasShown x.naming x.stand all
+families_shown all known [] after [] ts in_all told h x i = absurd i
+families_shown all known [] after (s ∷ ss) ts in_all told h x i = absurd i
+families_shown all known (f ∷ fs) after [] ts in_all told h x i = absurd i
+families_shown all known (f ∷ fs) after (s ∷ ss) ts in_all told h x i = ⊎_elim
     (λ a. own s refl a)
-    (λ b. families_shown all h.0 fs after ss h.1.back (λ e j. in_all e (subst (IsIn e) (sym h.1.joined) (in_back e h.1.front h.1.back j))) next h.1.second x b there)
+    (λ b. families_shown all h.0 fs after ss h.1.back (λ e j. in_all e (subst (IsIn e) (sym h.1.joined) (in_back e h.1.front h.1.back j))) next h.1.second x b)
     (in_append x (looked_by f s) (looked_of fs ss) i)
   where
     in_front_all : (e : Entry) → IsIn e h.1.front → IsIn e all
@@ -183,11 +183,11 @@ families_shown all known (f ∷ fs) after (s ∷ ss) ts in_all told h x i there 
     next : AreTold all h.0
     next = told_next all known f.log.naming h.0 s h.1.front in_front_all told h.1.first
 
-    own : (r : FamilySight) → s ≡ r → IsIn x (looked_by f r) → Shown x.naming (places_of x.stand.members) all
-    own (Stood stand) is (inl e) = subst (λ (y : LookedLog). y.stand.there ≡ true → Shown y.naming (places_of y.stand.members) all) e (λ b. family_shown all known f.log.naming h.0 stand s h.1.front is in_front_all told next b h.1.first) there
+    own : (r : FamilySight) → s ≡ r → IsIn x (looked_by f r) → WasShown x.naming x.stand all
+    own (Stood stand) is (inl e) = subst (λ (y : LookedLog). WasShown y.naming y.stand all) e (family_shown all known f.log.naming h.0 stand s h.1.front is in_front_all told next h.1.first)
     own (Stood stand) is (inr none) = absurd none
     own (Stopped why) is none = absurd none
 
 pub all_shown : (all : List Entry) (fs : List FoundLog) (after : List Listing) (ss : List FamilySight) (ts : List Entry) → ((e : Entry) → IsIn e ts → IsIn e all) → ShowFamilies [] fs after ss ts
-    → (x : LookedLog) → IsIn x (looked_of fs ss) → x.stand.there ≡ true → Shown x.naming (places_of x.stand.members) all
+    → (x : LookedLog) → IsIn x (looked_of fs ss) → WasShown x.naming x.stand all
 all_shown all fs after ss ts in_all h = families_shown all [] fs after ss ts in_all (λ l i. absurd i) h

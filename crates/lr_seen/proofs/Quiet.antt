@@ -22,7 +22,7 @@ use Rattle.lr_family.specs.Among.{ShowsMembers, ShowsNoneIn}
 use Rattle.lr_family.specs.Listed.{HasListed, ShowsListing, NotListedAt, NotListed}
 use Rattle.lr_family.specs.Looks.{ShowsTo}
 use Rattle.lr_family.specs.Stops.{SomeStopped}
-use Rattle.lr_family.proofs.OnlyLooks.{IsLooking, AreLooking, looking_both, looking_none, looking_sees, looking_sights, looks_quiet}
+use Rattle.lr_family.proofs.OnlyLooks.{IsLooking, AreLooking, looking_both, looking_none, looking_sees, looking_sights, looking_shown_parts, looking_no_parts, looks_quiet}
 use Rattle.lr_glob.specs.Looking.{IsLooking as GlobIsLooking, AreLooking as GlobLooking}
 use Rattle.lr_glob.proofs.OnlyLooks.{comes_looks, stopped_looks}
 use Rattle.lr_plan.specs.declared.looks.SetLooks.{SetLooks}
@@ -53,7 +53,7 @@ looking_words n [] (s ∷ ss) ts h = absurd h
 looking_words n (w ∷ ws) [] ts h = absurd h
 looking_words n (w ∷ ws) (s ∷ ss) ts h = looking_both ts (looking_word w (16_384 - n) s) (looking_words (n + length (found_by w s)) ws ss) h
 
--- ---- the looks at members
+-- ---- the looks at members and part files
 
 looking_to : (spots : List Spot) (path : Path) (P : List Entry → Type 0) (ts : List Entry) → ((us : List Entry) → P us → AreLooking us) → ShowsTo spots path P ts → AreLooking ts
 looking_to spots path P ts f s = looking_both ts (λ us e. subst AreLooking (sym e) (looking_sights s.before)) f s.looks
@@ -63,17 +63,18 @@ looking_stops spots (stop.Call kind path) ts s = looking_to spots path (Are []) 
 looking_stops spots (stop.NotFile path) ts s = looking_to spots path (Sees path IsNoFile) ts (looking_sees path IsNoFile) s
 looking_stops spots stop.Memory ts s = subst AreLooking (sym s.looks) (looking_sights s.sights)
 
-looking_none_in : (n : Naming) (there : Bool) (names : List _) (why : StandStop) (ts : List Entry) → ShowsNoneIn n there names why ts → AreLooking ts
-looking_none_in n true names why ts (inl h) = looking_none ts h.1
-looking_none_in n true names why ts (inr s) = looking_stops s.spots why ts s.looks
-looking_none_in n false names why ts h = absurd h
-
 looking_members : (n : Naming) (there : Bool) (names : List _) (members : List Member) (ts : List Entry) → ShowsMembers n there names members ts → AreLooking ts
 looking_members n true names members ts s = subst AreLooking (sym s.looks.looks) (looking_sights s.looks.sights)
 looking_members n false names members ts h = looking_none ts h.1
 
+looking_none_in : (n : Naming) (there : Bool) (names : List _) (why : StandStop) (ts : List Entry) → ShowsNoneIn n there names why ts → AreLooking ts
+looking_none_in n true names why ts (inl h) = looking_none ts h.1
+looking_none_in n true names why ts (inr (inl s)) = looking_stops s.spots why ts s.looks
+looking_none_in n true names why ts (inr (inr b)) = looking_both ts (looking_members n true names b.0) (looking_no_parts n names why) b.1
+looking_none_in n false names why ts h = absurd h
+
 looking_members_in : (n : Naming) (l : Listing) (s : FamilySight) (ts : List Entry) → ShowsMembersIn n l s ts → AreLooking ts
-looking_members_in n l (Stood stand) ts h = looking_members n l.there l.names stand.members ts h.2
+looking_members_in n l (Stood stand) ts h = looking_both ts (looking_members n l.there l.names stand.members) (looking_shown_parts n l.there l.names stand.parts) h.2
 looking_members_in n l (Stopped why) ts (inl h) = looking_none ts h.1
 looking_members_in n l (Stopped why) ts (inr h) = looking_none_in n l.there l.names why ts h
 

@@ -1,20 +1,23 @@
 -- The plan has the logs of the targets, each ready, and programs that read no file.
-use Rattle.std.proofs.Common.{ℕ, Bool, true, false, not, List, [], ◌∷◌, ◌++◌, Option, Some, None, refl}
+use Rattle.std.proofs.Common.{◌≡◌, ◌↔◌, ℕ, Bool, true, false, not, List, [], ◌∷◌, ◌++◌, Option, Some, None, refl, subst}
 use Rattle.lr_rules.specs.declared.fault.Fault.{Fault}
 use Rattle.lr_rules.specs.declared.path.Path.{Path}
 use Rattle.lr_rules.specs.declared.rule.Rule.{Rule}
+use Rattle.lr_rules.specs.declared.rule.Way.{Way}
+use Rattle.lr_rules.specs.declared.rule.Way.TheVariants as way
 use Rattle.lr_due.specs.declared.answer.Due.{Due}
 use Rattle.lr_due.specs.declared.answer.Due.TheVariants as due
 use Rattle.lr_scripts.specs.declared.command.Command.{Command}
 use Rattle.lr_family.specs.Spots.{path_at}
+use Rattle.lr_copy.specs.declared.job.Job.{Job}
 use Rattle.lr_host.specs.declared.entry.Entry.{Entry}
 use Rattle.lr_plan.specs.declared.looks.LogLook.{LogLook}
 use Rattle.lr_plan.specs.declared.looks.SetLooks.{SetLooks}
 use Rattle.lr_plan.specs.declared.planned.LogPlan.{LogPlan}
 use Rattle.lr_commands.specs.Commands.{spaced, script, where_so}
-use Rattle.lr_plan.specs.Planned.{hindrances, log_plan, none_hinders, plans_of, where_due, log_plans, all_plans}
+use Rattle.lr_plan.specs.Planned.{copy_job, job_by, hindrances, log_plan, none_hinders, plans_of, where_due, log_plans, all_plans}
 use Rattle.lr_looks.specs.Shown.{ShowsLooks}
-use Rattle.lr_rotations.specs.Target.{Target}
+use Rattle.lr_rotations.specs.Target.{Target, HasReady, IsJob, HasJob}
 use Rattle.lr_weave.specs.Fitting.{ReadsNothing, AsksNothing, AskNothing, ReadNoFiles}
 use Rattle.lr_weave.specs.Planned.{IsReadyFor, AreReadyFor, HaveLogs}
 use Rattle.lr_fields.specs.Built.{AreBuiltRules}
@@ -73,11 +76,27 @@ plans_read_none rules sets decide built = read_none rules sets decide
 
 -- ---- rotations
 
+-- the rotation is that of the members that stood
+pub target_ready : (rule : Rule) (look : LogLook) → HasReady (target_of rule look)
+target_ready rule look = record { leftovers_are = refl; no_dir = refl; moves_are = refl; log_is = refl; target_is = refl; make_is = refl; retire_is = refl }
+
+-- where the log is copied, it is copied so
+pub by_copy : (w : Way) (look : LogLook) (job : Job) → job_by w look ≡ Some job → (cut : Bool) × (copy_job look cut ≡ job)
+by_copy way.Rename look job is = absurd (cc)
+by_copy way.Copy look job is = (false, cc)
+by_copy way.CopyTruncate look job is = (true, cc)
+
+pub target_job : (rule : Rule) (look : LogLook) → HasJob (target_of rule look)
+target_job rule look job is = let by = by_copy rule.way look job is in subst (IsJob (target_of rule look)) by.1 (record { from_is = refl; to_is = refl; part_is = refl; dir_is = refl })
+
+-- by rename exactly where there is no copy
+pub by_rename : (w : Way) (look : LogLook) → (w ≡ way.Rename) ↔ (job_by w look ≡ None)
+by_rename way.Rename look = ((λ e. refl), (λ e. refl))
+by_rename way.Copy look = ((λ e. absurd (cc)), (λ e. absurd (cc)))
+by_rename way.CopyTruncate look = ((λ e. absurd (cc)), (λ e. absurd (cc)))
+
 ready_log : (rule : Rule) (look : LogLook) → IsReadyFor (target_of rule look) (log_plan rule look)
-ready_log rule look = record {
-  ready = record { leftovers_are = refl; no_dir = refl; moves_are = refl; log_is = refl; target_is = refl; make_is = refl; retire_is = refl };
-  no_job = refl;
-}
+ready_log rule look = record { ready = target_ready rule look; job = target_job rule look; ready_is = refl; job_is = refl }
 
 ready_both : (ts us : List Target) (xs ys : List LogPlan) → AreReadyFor ts xs → AreReadyFor us ys → AreReadyFor (ts ++ us) (xs ++ ys)
 ready_both [] us [] ys a b = b

@@ -1,14 +1,16 @@
 -- Each log that a plan rotates was seen, with its members.
-use Rattle.std.proofs.Common.{◌≡◌, inl, inr, ℕ, ◌+◌, ◌&&◌, Bool, true, false, cond, List, [], ◌∷◌, ◌++◌, Some, None, slice_get, refl, sym, ap, ◌∙◌, subst, arith, eq-eqb}
+use Rattle.std.proofs.Common.{◌≡◌, ◌↔◌, inl, inr, ℕ, ◌+◌, ◌&&◌, ◌||◌, bytes_eq, Bool, true, false, cond, List, [], ◌∷◌, ◌++◌, Some, None, slice_get, refl, sym, ap, ◌∙◌, subst, arith, eq-eqb}
 use Rattle.std.specs.List.{list_any}
 use Rattle.std.proofs.lemmas.List.Elements.{All-contains}
 use Rattle.std.proofs.lemmas.List.Folds.{list_any_at}
+use Rattle.std.proofs.lemmas.Slice.Eq.{bytes_eq-Decides}
 use Rattle.lr_rules.specs.declared.fault.Fault.{Fault}
 use Rattle.lr_rules.specs.declared.fault.Fault.TheVariants as fault
 use Rattle.lr_rules.specs.declared.path.Path.{Path}
 use Rattle.lr_rules.specs.declared.rule.Count.{Count}
 use Rattle.lr_rules.specs.declared.rule.Naming.{Naming}
 use Rattle.lr_rules.specs.declared.rule.Rule.{Rule}
+use Rattle.lr_rules.specs.declared.rule.Way.TheVariants.{Rename}
 use Rattle.lr_rules.specs.declared.rules.Rules.{Rules}
 use Rattle.lr_rules.specs.Names.{naming_of}
 use Rattle.lr_rules.specs.Limits.{meets_limits}
@@ -22,14 +24,17 @@ use Rattle.lr_host.specs.Lists.{IsIn}
 use Rattle.lr_host.specs.Looks.{Sees, IsFile}
 use Rattle.lr_host.proofs.Lists.{in_to, in_front, in_back}
 use Rattle.lr_family.specs.declared.stand.Member.{Member}
+use Rattle.lr_family.specs.Parts.{part_of}
+use Rattle.lr_family.specs.Spots.{path_at}
 use Rattle.lr_family.specs.Stands.{number_in}
 use Rattle.lr_glob.proofs.Seeking.{found_were_seen}
 use Rattle.lr_kept.specs.declared.choice.Choice.TheVariants.{Kept}
 use Rattle.lr_kept.proofs.Elements.{same_read}
+use Rattle.lr_copy.specs.declared.job.Job.{Job}
 use Rattle.lr_chain.specs.Ready.{is_highest, highest_path}
 use Rattle.lr_plan.specs.declared.looks.LogLook.{LogLook}
 use Rattle.lr_plan.specs.declared.looks.SetLooks.{SetLooks}
-use Rattle.lr_plan.specs.Planned.{keeps_all, is_too_high, hindrances}
+use Rattle.lr_plan.specs.Planned.{job_of, keeps_all, is_too_high, hindrances}
 use Rattle.lr_looks.specs.Asked.{CanAsk}
 use Rattle.lr_looks.specs.Families.{LookedLog}
 use Rattle.lr_looks.specs.Choices.{kept_of}
@@ -49,7 +54,8 @@ use Rattle.lr_seen.proofs.Apart.{kept_at}
 use Rattle.lr_seen.proofs.Built.{can_ask}
 use Rattle.lr_seen.proofs.Coming.{Comes, comes_from, was_looked, in_kept, IsFrom, came_from}
 use Rattle.lr_seen.proofs.Gives.{all_in, gives_kept}
-use Rattle.lr_seen.proofs.Listed.{all_shown}
+use Rattle.lr_seen.proofs.Listed.{WasShown, all_shown}
+use Rattle.lr_seen.proofs.Ready.{by_copy, by_rename, target_ready, target_job}
 
 -- ---- the family
 
@@ -77,6 +83,21 @@ sees_file : (log : Path) (seen : Seen) (ts : List Entry) → seen.kind ≡ kind.
 sees_file log seen ts file i =
     let r = among_one (entry.Look log (Some seen)) ts i in
     record { before = r.0; part = entry.Look log (Some seen) ∷ []; after = r.1; joined = r.2; is = record { seen = Some seen; is = file; look = refl } }
+
+-- ---- an old part file
+
+has_in : (x : Path) (xs : List Path) → list_any (bytes_eq x) xs ≡ true → IsIn x xs
+has_in x [] h = absurd (cc)
+has_in x (y ∷ ys) h = go (λ k. has_in x ys k) (bytes_eq x y) refl h
+  where
+    go : (list_any (bytes_eq x) ys ≡ true → IsIn x ys) → (b : Bool) → bytes_eq x y ≡ b → (b || list_any (bytes_eq x) ys) ≡ true → IsIn x (y ∷ ys)
+    go further true e h = inl (sym ((bytes_eq-Decides x y).0 e))
+    go further false e h = inr (further h)
+
+-- one that goes before the copy stood
+stale_stands : (rule : Rule) (look : LogLook) (job : Job) → job_of rule look ≡ Some job → job.stale ≡ true → IsIn job.part look.stand.parts
+stale_stands rule look job is stale = let by = by_copy rule.way look job is in
+    subst (λ (j : Job). IsIn j.part look.stand.parts) by.1 (has_in (part_of (path_at look.family.naming 0)) look.stand.parts (ap (λ (j : Job). j.stale) by.1 ∙ stale))
 
 -- ---- nothing hinders
 
@@ -117,13 +138,15 @@ target_seen rules sets faults ts t built s c = subst (IsSeen rules ts) (sym c.is
     };
     naming_is = ap (naming_of o.by_word.word.rule) (sym o.path_is) ∙ (naming ∙ o.naming_is);
     count_is = ap (λ (r : Rule). r.count) (sym same);
+    way_is = subst (λ (r : Rule). (r.way ≡ Rename) ↔ (job_of c.rule c.look ≡ None)) same (by_rename c.rule.way c.look);
   };
   family = subst (λ (p : Path). IsFamily p x.naming) o.path_is (subst (IsFamily o.found.log.path) o.naming_is
       (is_family o.by_word.word.rule o.found can (log_path s.found o.found s.paths (in_kept s.found s.keeps.choices o.found came.1)) naming));
   log_seen = sees_file x.path o.found.seen ts o.file (subst (λ (p : Path). IsIn (entry.Look p (Some o.found.seen)) ts) o.path_is look);
-  seen = all_shown ts s.kept s.entries.second.listings s.entries.second.families.sights s.entries.back (λ e i. subst (IsIn e) (sym s.entries.joined) (in_back e s.entries.front s.entries.back i)) s.entries.second.families.shown
-      x (subst (IsIn x) s.entries.second.families.looked_are looked) free.0;
+  seen = shown.0 free.0;
   low = not_high x.naming c.rule.count x.stand.members free.1;
+  ready = target_ready c.rule c.look;
+  job = λ job is. (target_job c.rule c.look job is, λ stale. let old = shown.1 job.part (stale_stands c.rule c.look job is stale) in sees_file job.part old.0 ts old.1 old.2);
 })
   where
     x : LookedLog
@@ -141,6 +164,10 @@ target_seen rules sets faults ts t built s c = subst (IsSeen rules ts) (sym c.is
     -- the log stands at this place among those that were found, and is kept
     at : (k : ℕ) × (slice_get s.found k ≡ Some o.found) × (slice_get s.keeps.choices k ≡ Some Kept)
     at = kept_at s.found s.keeps.choices o.found came.1
+
+    shown : WasShown x.naming x.stand ts
+    shown = all_shown ts s.kept s.entries.second.listings s.entries.second.families.sights s.entries.back (λ e i. subst (IsIn e) (sym s.entries.joined) (in_back e s.entries.front s.entries.back i)) s.entries.second.families.shown
+        x (subst (IsIn x) s.entries.second.families.looked_are looked)
 
     none_more : (n : ℕ) → 0 + n ≡ n
     none_more n = omega arith

@@ -6,12 +6,12 @@ use Rattle.lr_rules.specs.declared.rule.Rule.{Rule}
 use Rattle.lr_due.specs.declared.answer.Due.{Due}
 use Rattle.lr_plan.specs.declared.looks.LogLook.{LogLook}
 use Rattle.lr_plan.specs.declared.looks.SetLooks.{SetLooks}
-use Rattle.lr_plan.specs.Planned.{hindrances, where_due}
+use Rattle.lr_plan.specs.Planned.{ready_for, job_of, hindrances, where_due}
 use Rattle.lr_rotations.specs.Target.{Target}
 
--- a log with the count of its rule
+-- a log with the count of its rule, its rotation, and its copy where the rule asks for one
 abbrev pub target_of : Rule → LogLook → Target
-target_of rule look = record { log = look.path; naming = look.family.naming; count = rule.count; stand = look.stand }
+target_of rule look = record { log = look.path; naming = look.family.naming; count = rule.count; stand = look.stand; ready = ready_for rule look; job = job_of rule look }
 
 -- where nothing hinders
 abbrev pub where_free : List Fault → Target → List Target
