@@ -97,12 +97,12 @@ adds_none {P} x o a p = record {
   onward = onward_same a;
 }
 
-pub adds_nothing : (steps : List Step) (x : Progress) {o n : Option Journal} {a b : Counts} → Left (λ ts. ts ≡ []) o n → Onward a b → Adds Nothing steps x x o n a b
-adds_nothing steps x {a = a} {b = b} l onward = record {
+pub adds_nothing : (steps : List Step) (x y : Progress) {o n : Option Journal} {a b : Counts} → y.marks.items ≡ x.marks.items ++ [] → y.faults.items ≡ x.faults.items ++ [] → Left (λ ts. ts ≡ []) o n → Onward a b → Adds Nothing steps x y o n a b
+adds_nothing steps x y {a = a} {b = b} ms fs l onward = record {
   marks = [];
   faults = [];
-  marks_are = sym (append-nil x.marks.items);
-  faults_are = sym (append-nil x.faults.items);
+  marks_are = ms;
+  faults_are = fs;
   entries = left_as l (λ ts e. (refl, refl, e));
   caused = tt;
   are_counted = counted_free [] a b free_none onward.0;
@@ -155,16 +155,17 @@ step_failed step f x y {o = o} {n = n} {a = a} {b = b} ms fs l cause onward = re
 -- ---- room
 
 pub room_part : (m n k : ℕ) (x : Progress) → m + n ≤ k → HasRoom k x → HasRoom m x
-room_part m n k x e r = record { marks = omega (arith, e, r.marks); faults = omega (arith, e, r.faults) }
+room_part m n k x e r = record { marks = omega (arith, e, r.marks); faults = omega (arith, e, r.faults); buffer = r.buffer }
 
 pub room_rest : (m n k : ℕ) (x y : Progress) → m + n ≤ k → HasRoom k x → Fills m x y → HasRoom n y
 room_rest m n k x y e r f = record {
   marks = omega (arith, e, r.marks, f.marks, f.marks_room);
   faults = omega (arith, e, r.faults, f.faults, f.faults_room);
+  buffer = omega (arith, r.buffer, f.buffer);
 }
 
 pub fills_none : (x : Progress) → Fills 0 x x
-fills_none x = record { marks = omega arith; faults = omega arith; marks_room = omega arith; faults_room = omega arith }
+fills_none x = record { marks = omega arith; faults = omega arith; marks_room = omega arith; faults_room = omega arith; buffer = refl }
 
 pub fills_on : (m n k : ℕ) (x y z : Progress) → m + n ≤ k → Fills m x y → Fills n y z → Fills k x z
 fills_on m n k x y z e f g = record {
@@ -172,7 +173,8 @@ fills_on m n k x y z e f g = record {
   faults = omega (arith, e, f.faults, g.faults);
   marks_room = omega (arith, f.marks_room, g.marks_room);
   faults_room = omega (arith, f.faults_room, g.faults_room);
+  buffer = g.buffer ∙ f.buffer;
 }
 
 pub fills_more : (m k : ℕ) (x y : Progress) → m ≤ k → Fills m x y → Fills k x y
-fills_more m k x y e f = record { marks = omega (arith, e, f.marks); faults = omega (arith, e, f.faults); marks_room = f.marks_room; faults_room = f.faults_room }
+fills_more m k x y e f = record { marks = omega (arith, e, f.marks); faults = omega (arith, e, f.faults); marks_room = f.marks_room; faults_room = f.faults_room; buffer = f.buffer }

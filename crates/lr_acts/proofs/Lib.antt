@@ -1,7 +1,8 @@
 mod Adding
+mod Copies
+mod Counting
 mod Dirs
 mod Naming
 mod Parts
 mod Programs
 mod Texts
-mod Counting

@@ -19,10 +19,11 @@ use Rattle.lr_host.proofs.Looked.{nothing_no_file}
 use Rattle.lr_host.proofs.Made.{made_on}
 use Rattle.lr_host.proofs.More.{not_more, wrote_names}
 use Rattle.lr_host.proofs.Names.{put_cases, put_here}
+use Rattle.lr_copy.proofs.EachOfBytes.{each_all, each_broke}
 use Rattle.lr_plan.specs.declared.mark.Mark.{Mark}
 use Rattle.lr_plan.specs.declared.step.Step.{Step}
 use Rattle.lr_plan.specs.declared.step.Step.TheVariants as step
-use Rattle.lr_plan.specs.Copying.{Copied, at_end, reads, appends, CopyBroke, at_read, at_append, in_append, too_long, read_on, append_on, Appended, no_more, piece_more, AppendBroke, at_piece, in_piece, piece_on}
+use Rattle.lr_plan.specs.Appending.{Appended, no_more, piece_more, AppendBroke, at_piece, in_piece, piece_on}
 use Rattle.lr_plan.specs.Outcomes.{Succeeds, Fails, ProgramFailed, badly, not_run, maybe_run, DirFailed, at_make, at_look, no_dir, marks_of}
 use Rattle.lr_acts.specs.Making.{StepNames}
 use Rattle.lr_acts.specs.Named.{IsNamed, WasNamed, untold, at_moment, TakesName, KeepName, CreatesAt, OneCreates, LastsBehind, TellCreated, KeepsNames}
@@ -107,19 +108,6 @@ none_keeps x is = subst (Each (KeepsName x)) (sym is) tt
 maybe_keeps : (x : Path) (e : Entry) {ts : List Entry} → (ts ≡ []) ⊎ (ts ≡ e ∷ []) → KeepsName x e → Each (KeepsName x) ts
 maybe_keeps x e m k = ⊎_elim (λ none. none_keeps x none) (λ one. one_keeps x one k) m
 
-copied_keeps : (x from to : Path) (read : ℕ) (owed : List ℕ) (ts : List Entry) → Copied from to read owed ts → Each (KeepsName x) ts
-copied_keeps x from to _ _ _ at_end = (tt, tt)
-copied_keeps x from to _ _ _ (reads {read = read} bytes {ts = ts} ne c) = (tt, copied_keeps x from to (read + length bytes) bytes ts c)
-copied_keeps x from to _ _ _ (appends {read = read} piece owed {ts = ts} c) = (tt, copied_keeps x from to read owed ts c)
-
-copy_broke_keeps : (x from to : Path) (limit read : ℕ) (owed : List ℕ) (f : Fault) (ts : List Entry) → CopyBroke from to limit read owed f ts → Each (KeepsName x) ts
-copy_broke_keeps x from to limit _ _ _ _ at_read = tt
-copy_broke_keeps x from to limit _ _ _ _ (at_append owed) = tt
-copy_broke_keeps x from to limit _ _ _ _ (in_append piece owed) = (tt, tt)
-copy_broke_keeps x from to limit _ _ _ _ (too_long owed lt) = tt
-copy_broke_keeps x from to limit _ _ _ _ (read_on {read = read} bytes {f = f} {ts = ts} ne c) = (tt, copy_broke_keeps x from to limit (read + length bytes) bytes f ts c)
-copy_broke_keeps x from to limit _ _ _ _ (append_on {read = read} piece owed {f = f} {ts = ts} c) = (tt, copy_broke_keeps x from to limit read owed f ts c)
-
 appended_keeps : (x to : Path) (text : List ℕ) (ts : List Entry) → Appended to text ts → Each (KeepsName x) ts
 appended_keeps x to _ _ no_more = tt
 appended_keeps x to _ _ (piece_more piece text {ts = ts} a) = (tt, appended_keeps x to text ts a)
@@ -136,7 +124,7 @@ succeeds_keep x (step.MakesDir path mode) ts k w = ⊎_elim (λ made. one_keeps 
 succeeds_keep x (step.Renames from to) ts k w = one_keeps x w k
 succeeds_keep x (step.Creates path mode) ts k w = maybe_keeps x (Makes path mode) w tt
 succeeds_keep x (step.Takes path mode) ts k w = one_keeps x w tt
-succeeds_keep x (step.Copies from to limit) ts k w = copied_keeps x from to 0 [] ts w
+succeeds_keep x (step.Copies from to limit) ts k w = each_all (KeepsName x) from to (λ k piece. tt) (λ piece. tt) limit w.0 ts w.1
 succeeds_keep x (step.Appends path text) ts k w = appended_keeps x path text ts w
 succeeds_keep x (step.SyncsFile path) ts k w = one_keeps x w tt
 succeeds_keep x (step.SyncsDir path) ts k w = one_keeps x w tt
@@ -160,7 +148,7 @@ fails_keep x (step.MakesDir path mode) f ts k h = dir_keeps x path mode f ts h
 fails_keep x (step.Renames from to) f ts k h = maybe_keeps x (Renames from to) h.1 k
 fails_keep x (step.Creates path mode) f ts k h = maybe_keeps x (Makes path mode) h.1 tt
 fails_keep x (step.Takes path mode) f ts k h = ⊎_elim (λ c. maybe_keeps x (Makes path mode) c.1 tt) (λ taken. none_keeps x taken.1) h
-fails_keep x (step.Copies from to limit) f ts k h = copy_broke_keeps x from to limit 0 [] f ts h
+fails_keep x (step.Copies from to limit) f ts k h = each_broke (KeepsName x) from to (λ k piece. tt) (λ piece. tt) limit h.0 ts h.2
 fails_keep x (step.Appends path text) f ts k h = append_broke_keeps x path text ts h.1
 fails_keep x (step.SyncsFile path) f ts k h = maybe_keeps x (entry.SyncsFile path) h.1 tt
 fails_keep x (step.SyncsDir path) f ts k h = maybe_keeps x (entry.SyncsDir path) h.1 tt

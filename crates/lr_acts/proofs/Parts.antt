@@ -19,7 +19,7 @@ use Rattle.lr_plan.specs.Done.{is_rotated, EachDone, LogsThen, LogsDone, if_rota
 use Rattle.lr_plan.proofs.Courses.{both_of}
 use Rattle.lr_acts.specs.declared.progress.Progress.{Progress}
 use Rattle.lr_acts.specs.Adding.{Adds}
-use Rattle.lr_acts.specs.Making.{StepsEnd, Ends, AreBuilt, all_of_each, all_of_set, all_of_sets}
+use Rattle.lr_acts.specs.Making.{StepsEnd, Ends, all_of_each, all_of_set, all_of_sets}
 use Rattle.lr_acts.proofs.Adding.{adds_as, adds_of_more, adds_on}
 
 -- steps that were made or not are a course of them
@@ -124,12 +124,3 @@ sets_next xs x = sets_more xs (x ∷ []) ∙ ap (λ zs. all_of_sets xs ++ zs) (a
 
 pub sets_rest : (xs : List SetSteps) (x : SetSteps) (rest : List SetSteps) → all_of_sets (xs ++ x ∷ rest) ≡ (all_of_sets xs ++ all_of_set x) ++ all_of_sets rest
 sets_rest xs x rest = sets_more xs (x ∷ rest) ∙ sym (append_assoc (all_of_sets xs) (all_of_set x) (all_of_sets rest))
-
--- what is built
-pub built_first : (xs ys : List Step) → AreBuilt (xs ++ ys) → AreBuilt xs
-built_first [] ys b = tt
-built_first (x ∷ xs) ys b = (b.0, built_first xs ys b.1)
-
-pub built_later : (xs ys : List Step) → AreBuilt (xs ++ ys) → AreBuilt ys
-built_later [] ys b = b
-built_later (x ∷ xs) ys b = built_later xs ys b.1

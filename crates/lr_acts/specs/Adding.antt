@@ -1,5 +1,5 @@
 -- What acts add to what came before, and the room for it.
-use Rattle.std.specs.Prelude.{◌≡◌, ◌+◌, ◌≤◌, ℕ, List, [], ◌∷◌, ◌++◌, Option, vec_len}
+use Rattle.std.specs.Prelude.{◌≡◌, ◌+◌, ◌≤◌, ◌<◌, ℕ, List, [], ◌∷◌, ◌++◌, Option, vec_len}
 use Rattle.std.specs.Vec.{vec_capacity}
 use Rattle.lr_rules.specs.declared.fault.Fault.{Fault}
 use Rattle.lr_host.specs.declared.journal.Journal.{Journal}
@@ -29,14 +29,16 @@ pub record Adds (P : Part) (steps : List Step) (before now : Progress) (told lat
   pub names : KeepsNames steps marks told later
   pub onward : Onward counted counts
 
--- there is room for so many marks, and for so many faults
+-- there is room for so many marks, and for so many faults, and a buffer
 pub record HasRoom (n : ℕ) (progress : Progress) : Type 0 where
   pub marks : vec_len progress.marks + n ≤ vec_capacity progress.marks
   pub faults : vec_len progress.faults + n ≤ vec_capacity progress.faults
+  pub buffer : 0 < vec_len progress.buffer
 
--- at most so many of each were added
+-- at most so many of each were added, and the buffer has its length still
 pub record Fills (n : ℕ) (before now : Progress) : Type 0 where
   pub marks : vec_len now.marks ≤ vec_len before.marks + n
   pub faults : vec_len now.faults ≤ vec_len before.faults + n
   pub marks_room : vec_capacity before.marks ≤ vec_capacity now.marks
   pub faults_room : vec_capacity before.faults ≤ vec_capacity now.faults
+  pub buffer : vec_len now.buffer ≡ vec_len before.buffer

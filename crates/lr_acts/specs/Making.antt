@@ -11,7 +11,7 @@ use Rattle.lr_scripts.specs.declared.command.Bad.TheVariants as bad
 use Rattle.lr_scripts.specs.declared.command.Command.{Command}
 use Rattle.lr_plan.specs.declared.mark.Mark.{Mark}
 use Rattle.lr_plan.specs.declared.step.Step.{Step}
-use Rattle.lr_plan.specs.declared.step.Step.TheVariants.{Runs, Creates, Copies}
+use Rattle.lr_plan.specs.declared.step.Step.TheVariants.{Runs, Creates}
 use Rattle.lr_plan.specs.declared.step.SetSteps.{SetSteps}
 use Rattle.lr_plan.specs.Outcomes.{Succeeds, Fails, marks_of}
 use Rattle.lr_plan.specs.Course.{Part, Nothing, Course, StepFails, Unbroken, BrokenOff}
@@ -86,16 +86,6 @@ all_of_set set = set.first ++ (all_of_each set.each ++ set.last)
 abbrev pub all_of_sets : List SetSteps → List Step
 all_of_sets [] = []
 all_of_sets (set ∷ sets) = all_of_set set ++ all_of_sets sets
-
--- ---- what is built: all steps but copies
-
-abbrev pub IsBuilt : Step → Type 0
-IsBuilt (Copies from to limit) = ⊥
-IsBuilt _ = Unit {0}
-
-abbrev pub AreBuilt : List Step → Type 0
-AreBuilt [] = Unit {0}
-AreBuilt (step ∷ steps) = IsBuilt step × AreBuilt steps
 
 -- ---- what takes memory: programs alone
 

@@ -7,7 +7,7 @@ ghost use Rattle.lr_host.specs.declared.journal.Journal.{Journal};
 ghost use Rattle.lr_plan.specs.Internal.Cut.{CourseCut, ListCut, LogsCut, SetCut, SetsCut};
 ghost use Rattle.lr_plan.specs.Done.{EachDone, LogsDone, SetDone, SetsDone};
 ghost use Rattle.lr_acts.specs.Adding.{Adds, HasRoom, Fills};
-ghost use Rattle.lr_acts.specs.Making.{IsBuilt, AreBuilt, IsProgram, HasProgram, StepEnds, StepsEnd, Ends, all_of_each, all_of_set, all_of_sets};
+ghost use Rattle.lr_acts.specs.Making.{IsProgram, HasProgram, StepEnds, StepsEnd, Ends, all_of_each, all_of_set, all_of_sets};
 
 use crate::marks::any_rotated;
 use crate::progress::{Progress, add_fault, add_mark};
@@ -25,14 +25,13 @@ fn take_step<H: Host>(
     step: Step,
     progress: &mut Progress,
 ) -> Result<bool, Memory>
-    requires built { IsBuilt step }
     requires fits { CanAll (H.told host.old) (asks step) }
     requires room { HasRoom 1 progress.old }
     ensures told { Adds (StepEnds step result) (step ∷ []) progress.old progress.new (H.told host.old) (H.told host.new) (H.counts host.old) (H.counts host.new) }
     ensures fills { Fills 1 progress.old progress.new }
     ensures memory { OnErr result (IsProgram step) }
 {
-    match make(alloc, host, step) {
+    match make(alloc, host, step, progress.buffer.as_mut_slice()) {
         Ok(None) => Ok(true),
         Ok(Some(mark)) => {
             add_mark(progress, mark);
@@ -53,7 +52,6 @@ fn make_all<H: Host>(
     steps: Listed<Step>,
     progress: &mut Progress,
 ) -> Result<bool, Memory>
-    requires built { AreBuilt steps }
     requires fits { CanMake (H.told host.old) steps }
     requires room { HasRoom (length steps) progress.old }
     ensures told { Adds (StepsEnd steps result) steps progress.old progress.new (H.told host.old) (H.told host.new) (H.counts host.old) (H.counts host.new) }
@@ -76,7 +74,6 @@ fn make_each<H: Host>(
     each: Listed<Listed<Step>>,
     progress: &mut Progress,
 ) -> Result<(), Memory>
-    requires built { AreBuilt (all_of_each each) }
     requires fits { CanEach (H.told host.old) each }
     requires room { HasRoom (length (all_of_each each)) progress.old }
     ensures told { Adds (Ends (EachDone each) (ListCut Course CourseCut each) result) (all_of_each each) progress.old progress.new (H.told host.old) (H.told host.new) (H.counts host.old) (H.counts host.new) }
@@ -97,8 +94,6 @@ fn make_logs<H: Host>(
     last: Listed<Step>,
     progress: &mut Progress,
 ) -> Result<(), Memory>
-    requires built { AreBuilt (all_of_each each) }
-    requires built_last { AreBuilt last }
     requires fits { CanEach (H.told host.old) each }
     requires fits_last { (later : Option Journal) → LeadsTo (EachDone each) (H.told host.old) later → CanMake later last }
     requires room { HasRoom (length (all_of_each each ++ last)) progress.old }
@@ -121,7 +116,6 @@ fn make_set<H: Host>(
     set: SetSteps,
     progress: &mut Progress,
 ) -> Result<(), Memory>
-    requires built { AreBuilt (all_of_set set) }
     requires fits { CanSet (H.told host.old) set }
     requires room { HasRoom (length (all_of_set set)) progress.old }
     ensures told { Adds (Ends (SetDone set) (SetCut set) result) (all_of_set set) progress.old progress.new (H.told host.old) (H.told host.new) (H.counts host.old) (H.counts host.new) }
@@ -138,14 +132,14 @@ fn make_set<H: Host>(
 
 /// Makes the steps of all definitions, and adds what they come to. A step that fails ends what follows of its log, or of
 /// its definition where that shares its scripts; its fault is added, with the path that the step held. Only a program
-/// takes memory; where there is none, nothing more is done. There has to be room for as many marks and faults as steps.
+/// takes memory; where there is none, nothing more is done. There has to be room for as many marks and faults as steps, and
+/// a buffer for copies.
 pub fn act<H: Host>(
     alloc: Global,
     host: &mut H,
     sets: Listed<SetSteps>,
     progress: &mut Progress,
 ) -> Result<(), Memory>
-    requires built { AreBuilt (all_of_sets sets) }
     requires fits { CanSets (H.told host.old) sets }
     requires room { HasRoom (length (all_of_sets sets)) progress.old }
     ensures told { Adds (Ends (SetsDone sets) (SetsCut sets) result) (all_of_sets sets) progress.old progress.new (H.told host.old) (H.told host.new) (H.counts host.old) (H.counts host.new) }

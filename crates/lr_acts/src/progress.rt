@@ -11,6 +11,8 @@ use lr_rules::Fault;
 pub struct Progress {
     pub marks: Vec<Mark>,
     pub faults: Vec<Fault>,
+    /// What copies of bytes pass through; its content tells nothing.
+    pub buffer: Vec<u8>,
 }
 
 /// Adds a fault for which there is room.

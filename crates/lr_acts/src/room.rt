@@ -47,8 +47,8 @@ fn count_all(sets: &[SetSteps]) -> Result<usize, Memory>
 }
 
 /// Takes the room that the acts of these definitions need in any case, for a mark and a fault of each step, and that of
-/// two faults more, which may be added behind them: one of the state's writing, and one of the output. What came before
-/// stays.
+/// two faults more, which may be added behind them: one of the state's writing, and one of the output; and a buffer of
+/// 65,536 bytes. What came before stays.
 pub fn take_room(progress: &mut Progress, sets: &[SetSteps]) -> Result<(), Memory>
     ensures room { OnOk result (HasRoom (length (all_of_sets sets.now)) progress.new) }
     ensures two_more { OnOk result (vec_len progress.new.faults + length (all_of_sets sets.now) + 2 ≤ vec_capacity progress.new.faults) }
@@ -59,5 +59,6 @@ pub fn take_room(progress: &mut Progress, sets: &[SetSteps]) -> Result<(), Memor
     let faults = sum(count, 2)?;
     progress.marks.reserve(count)?;
     progress.faults.reserve(faults)?;
+    progress.buffer.resize(65_536, 0)?;
     Ok(())
 }

@@ -1,12 +1,13 @@
 // One step of the acts, made on a host.
-ghost use Rattle.std.specs.Prelude.{◌≡◌, Err, IfOk, IfErr};
+ghost use Rattle.std.specs.Prelude.{◌≡◌, ◌<◌, length, Err, IfOk, IfErr};
 ghost use Rattle.lr_host.specs.Told.{Left, Onward};
 ghost use Rattle.lr_host.specs.Steps.{CanAll};
 ghost use Rattle.lr_plan.specs.Internal.Asking.{asks};
 ghost use Rattle.lr_plan.specs.Outcomes.{marks_of};
 ghost use Rattle.lr_acts.specs.declared.stop.Stop.TheVariants as stop;
-ghost use Rattle.lr_acts.specs.Making.{IsBuilt, IsProgram, StepLeft, StepNames, StopCause, list_of};
+ghost use Rattle.lr_acts.specs.Making.{IsProgram, StepLeft, StepNames, StopCause, list_of};
 
+use crate::bytes::copy_file;
 use crate::calls::{
     create_file, empty_file, make_directory, remove_file, rename_file, run_program, sync_directory,
     sync_file, take_file,
@@ -15,19 +16,17 @@ use crate::stop::Stop;
 use crate::text::append_text;
 use lr_host::Host;
 use lr_plan::{Mark, Step};
-use lr_rules::Path;
 use std::alloc::Global;
 
-// A copy isn't built yet; `make` asks for steps without one.
-fn copy_file(_from: Path, _to: Path) -> Result<Option<Mark>, Stop>
-    ensures { result ≡ Err stop.Memory }
-{
-    Err(Stop::Memory)
-}
-
-/// Makes one step; the answer is what it tells the steps behind it, if anything. Only a program takes memory.
-pub fn make<H: Host>(alloc: Global, host: &mut H, step: Step) -> Result<Option<Mark>, Stop>
-    requires built { IsBuilt step }
+/// Makes one step, a copy through the buffer; the answer is what it tells the steps behind it, if anything. Only a program
+/// takes memory.
+pub fn make<H: Host>(
+    alloc: Global,
+    host: &mut H,
+    step: Step,
+    buffer: &mut [u8],
+) -> Result<Option<Mark>, Stop>
+    requires room { 0 < length buffer.old }
     requires fits { CanAll (H.told host.old) (asks step) }
     ensures told { Left (StepLeft step result) (H.told host.old) (H.told host.new) }
     ensures marks { IfOk result (λ told. list_of told ≡ marks_of step) }
@@ -48,6 +47,6 @@ pub fn make<H: Host>(alloc: Global, host: &mut H, step: Step) -> Result<Option<M
         Step::Truncates { path } => empty_file(host, path),
         Step::Rotated { log } => Ok(Some(Mark::Rotated(log))),
         Step::Appends { path, text } => append_text(host, path, text),
-        Step::Copies { from, to, .. } => copy_file(from, to),
+        Step::Copies { from, to, limit } => copy_file(host, from, to, limit, buffer),
     }
 }

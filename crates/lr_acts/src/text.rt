@@ -2,7 +2,7 @@
 ghost use Rattle.std.specs.Prelude.{◌≡◌, ◌≢◌, Err, [], OnOk, OnErr, IfOk, IfErr};
 ghost use Rattle.lr_host.specs.declared.entry.Entry.TheVariants as entry;
 ghost use Rattle.lr_host.specs.Told.{Left, Can, Onward, Rose};
-ghost use Rattle.lr_plan.specs.Copying.{Appended, AppendBroke};
+ghost use Rattle.lr_plan.specs.Appending.{Appended, AppendBroke};
 ghost use Rattle.lr_plan.specs.declared.step.Step.TheVariants as step;
 ghost use Rattle.lr_acts.specs.declared.stop.Stop.TheVariants as stop;
 ghost use Rattle.lr_acts.specs.Making.{StepLeft, StopCause, list_of};

@@ -113,6 +113,7 @@ pub fn real_run<H: Host>(
     let mut progress = Progress {
         marks: Vec::new(alloc),
         faults: earlier,
+        buffer: Vec::new(alloc),
     };
     let Ok(()) = progress.faults.reserve(2) else {
         return Err(RunStop::Memory);

@@ -9,9 +9,9 @@ use Rattle.lr_plan.specs.Done.{SetDone, SetsDone}
 use Rattle.lr_plan.proofs.Courses.{every_more}
 use Rattle.lr_plan.proofs.Cuts.{list_cut}
 use Rattle.lr_acts.specs.Adding.{Adds, HasRoom}
-use Rattle.lr_acts.specs.Making.{AreBuilt, HasProgram, Ends, all_of_set, all_of_sets}
+use Rattle.lr_acts.specs.Making.{HasProgram, Ends, all_of_set, all_of_sets}
 use Rattle.lr_acts.proofs.Adding.{adds_on, adds_of_more, adds_none, fills_none, fills_on, room_part, room_rest}
-use Rattle.lr_acts.proofs.Parts.{leads, sets_next, sets_rest, built_first, built_later}
+use Rattle.lr_acts.proofs.Parts.{leads, sets_next, sets_rest}
 use Rattle.lr_acts.proofs.Programs.{program_first, program_later, at_error}
 use Rattle.lr_acts.proofs.acts.act.Goals as goal
 
@@ -22,17 +22,11 @@ loop-set-init g c =
       finite = tt;
       all = refl;
       long = search rules;
-      built = subst (λ (xs : List SetSteps). AreBuilt (all_of_sets xs)) (sym same) c.requires.built;
       fits = subst (CanSets (g.H.Host.told c.args.host.now)) (sym same) c.requires.fits;
       room = subst (λ (xs : List SetSteps). HasRoom (length (all_of_sets xs)) c.args.progress.now) (sym same) c.requires.room;
       added = adds_none c.args.progress.now (g.H.Host.told c.args.host.now) (g.H.Host.counts c.args.host.now) (refl, refl, refl);
       fills = fills_none c.args.progress.now;
     }
-
-pub make_set-requires-clause-built : goal.make_set-requires-clause-built
-make_set-requires-clause-built g c =
-    let steps : into_iter_items c.loop-set.set-iterator ≡ c.in-Some.set ∷ into_iter_items c.next.new.self = c.in-Some.ensures.steps.0 in
-    built_first (all_of_set c.in-Some.set) (all_of_sets (into_iter_items c.next.new.self)) (subst (λ (xs : List SetSteps). AreBuilt (all_of_sets xs)) steps c.loop-set.invariant.built)
 
 pub make_set-requires-clause-room : goal.make_set-requires-clause-room
 make_set-requires-clause-room g c =
@@ -93,7 +87,6 @@ loop-set-preserved g c =
       finite = tt;
       all = append_assoc at.yielded (x ∷ []) rest ∙ (sym (ap (λ xs. at.yielded ++ xs) steps) ∙ at.invariant.all);
       long = (let was = at.invariant.long in let gone = c.in-Some.ensures.steps.1 in omega arith);
-      built = built_later (all_of_set x) (all_of_sets rest) (subst (λ (xs : List SetSteps). AreBuilt (all_of_sets xs)) steps at.invariant.built);
       fits = (subst (CanSets (g.H.Host.told at.host)) steps at.invariant.fits).1 (g.H.Host.told c.make_set.new.host) (leads c.in_ok-make_set.ensures.told (λ ms f ts p. p));
       room = room_rest (length (all_of_set x)) (length (all_of_sets rest)) (length (all_of_sets (into_iter_items at.set-iterator))) at.progress c.make_set.new.progress (omega (arith, size)) at.invariant.room c.make_set.ensures.fills;
       added = subst (λ (ss : List Step). Adds (SetsDone (at.yielded ++ x ∷ [])) ss c.args.progress.now c.make_set.new.progress (g.H.Host.told c.args.host.now) (g.H.Host.told c.make_set.new.host) (g.H.Host.counts c.args.host.now) (g.H.Host.counts c.make_set.new.host)) (sym (sets_next at.yielded x))

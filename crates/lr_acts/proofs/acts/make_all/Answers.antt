@@ -10,7 +10,7 @@ use Rattle.lr_plan.specs.Course.{Course, BrokenOff}
 use Rattle.lr_plan.proofs.Courses.{course_more, course_stops}
 use Rattle.lr_plan.proofs.Cuts.{course_cut}
 use Rattle.lr_acts.specs.Adding.{Adds, HasRoom}
-use Rattle.lr_acts.specs.Making.{AreBuilt, HasProgram, WasMade, StepsEnd}
+use Rattle.lr_acts.specs.Making.{HasProgram, WasMade, StepsEnd}
 use Rattle.lr_acts.proofs.Adding.{adds_on, adds_of_more, adds_none, fills_none, fills_on, room_rest}
 use Rattle.lr_acts.proofs.Programs.{program_later, at_error}
 use Rattle.lr_acts.proofs.acts.make_all.Goals as goal
@@ -22,7 +22,6 @@ loop-step-init g c =
       finite = tt;
       all = refl;
       long = search rules;
-      built = subst AreBuilt (sym same) c.requires.built;
       fits = subst (CanMake (g.H.Host.told c.args.host.now)) (sym same) c.requires.fits;
       room = subst (λ (xs : List Step). HasRoom (length xs) c.args.progress.now) (sym same) c.requires.room;
       added = adds_none c.args.progress.now (g.H.Host.told c.args.host.now) (g.H.Host.counts c.args.host.now) (refl, (refl, refl, refl));
@@ -80,7 +79,6 @@ loop-step-preserved g c =
       finite = tt;
       all = append_assoc at.yielded (x ∷ []) rest ∙ (sym (ap (λ xs. at.yielded ++ xs) steps) ∙ at.invariant.all);
       long = (let was = at.invariant.long in let gone = c.in-Some.ensures.steps.1 in omega arith);
-      built = (subst AreBuilt steps at.invariant.built).1;
       fits = (subst (CanMake (g.H.Host.told at.host)) steps at.invariant.fits).1 (g.H.Host.told c.take_step.new.host) left;
       room = room_rest 1 (length rest) (length (into_iter_items at.step-iterator)) at.progress c.take_step.new.progress (omega arith) at.invariant.room c.take_step.ensures.fills;
       added = adds_on at.yielded (x ∷ []) at.invariant.added took (λ ms ms' f f' ts ts' w m. course_more at.yielded x ms ms' f f' ts ts' w m.0 m.1 m.2);

@@ -9,9 +9,9 @@ use Rattle.lr_plan.specs.Done.{EachDone}
 use Rattle.lr_plan.proofs.Courses.{every_more}
 use Rattle.lr_plan.proofs.Cuts.{list_cut}
 use Rattle.lr_acts.specs.Adding.{Adds, HasRoom}
-use Rattle.lr_acts.specs.Making.{AreBuilt, HasProgram, Ends, all_of_each}
+use Rattle.lr_acts.specs.Making.{HasProgram, Ends, all_of_each}
 use Rattle.lr_acts.proofs.Adding.{adds_on, adds_of_more, adds_none, fills_none, fills_on, room_part, room_rest}
-use Rattle.lr_acts.proofs.Parts.{course_of, leads, each_next, each_rest, built_first, built_later}
+use Rattle.lr_acts.proofs.Parts.{course_of, leads, each_next, each_rest}
 use Rattle.lr_acts.proofs.Programs.{program_first, program_later, at_error}
 use Rattle.lr_acts.proofs.acts.make_each.Goals as goal
 
@@ -22,17 +22,11 @@ loop-steps-init g c =
       finite = tt;
       all = refl;
       long = search rules;
-      built = subst (λ (xs : List (List Step)). AreBuilt (all_of_each xs)) (sym same) c.requires.built;
       fits = subst (CanEach (g.H.Host.told c.args.host.now)) (sym same) c.requires.fits;
       room = subst (λ (xs : List (List Step)). HasRoom (length (all_of_each xs)) c.args.progress.now) (sym same) c.requires.room;
       added = adds_none c.args.progress.now (g.H.Host.told c.args.host.now) (g.H.Host.counts c.args.host.now) (refl, refl, refl);
       fills = fills_none c.args.progress.now;
     }
-
-pub make_all-requires-clause-built : goal.make_all-requires-clause-built
-make_all-requires-clause-built g c =
-    let steps : into_iter_items c.loop-steps.steps-iterator ≡ c.in-Some.steps ∷ into_iter_items c.next.new.self = c.in-Some.ensures.steps.0 in
-    built_first c.in-Some.steps (all_of_each (into_iter_items c.next.new.self)) (subst (λ (xs : List (List Step)). AreBuilt (all_of_each xs)) steps c.loop-steps.invariant.built)
 
 pub make_all-requires-clause-room : goal.make_all-requires-clause-room
 make_all-requires-clause-room g c =
@@ -93,7 +87,6 @@ loop-steps-preserved g c =
       finite = tt;
       all = append_assoc at.yielded (x ∷ []) rest ∙ (sym (ap (λ xs. at.yielded ++ xs) steps) ∙ at.invariant.all);
       long = (let was = at.invariant.long in let gone = c.in-Some.ensures.steps.1 in omega arith);
-      built = built_later x (all_of_each rest) (subst (λ (xs : List (List Step)). AreBuilt (all_of_each xs)) steps at.invariant.built);
       fits = (subst (CanEach (g.H.Host.told at.host)) steps at.invariant.fits).1 (g.H.Host.told c.make_all.new.host) (leads c.in_ok-_went.ensures.told (course_of x c.in_ok-_went._went));
       room = room_rest (length x) (length (all_of_each rest)) (length (all_of_each (into_iter_items at.steps-iterator))) at.progress c.make_all.new.progress (omega (arith, size)) at.invariant.room c.make_all.ensures.fills;
       added = subst (λ (ss : List Step). Adds (EachDone (at.yielded ++ x ∷ [])) ss c.args.progress.now c.make_all.new.progress (g.H.Host.told c.args.host.now) (g.H.Host.told c.make_all.new.host) (g.H.Host.counts c.args.host.now) (g.H.Host.counts c.make_all.new.host)) (sym (each_next at.yielded x))

@@ -6,12 +6,9 @@ use Rattle.lr_plan.specs.Done.{SetDone, broke_off}
 use Rattle.lr_acts.specs.Adding.{Adds}
 use Rattle.lr_acts.specs.Making.{Ends, HasProgram, all_of_each, all_of_set}
 use Rattle.lr_acts.proofs.Adding.{adds_as, adds_of_more, fills_more, fills_on, room_part, room_rest}
-use Rattle.lr_acts.proofs.Parts.{set_ends, leads, course_of, built_first, built_later}
+use Rattle.lr_acts.proofs.Parts.{set_ends, leads, course_of}
 use Rattle.lr_acts.proofs.Programs.{program_first, program_later, at_error}
 use Rattle.lr_acts.proofs.acts.make_set.Goals as goal
-
-pub make_all-requires-clause-built : goal.make_all-requires-clause-built
-make_all-requires-clause-built g c = built_first c.args.set.first (all_of_each c.args.set.each ++ c.args.set.last) c.requires.built
 
 pub make_all-requires-clause-room : goal.make_all-requires-clause-room
 make_all-requires-clause-room g c =
@@ -38,12 +35,6 @@ pub returns-then-not-went-clause-fills : goal.returns-then-not-went-clause-fills
 returns-then-not-went-clause-fills g c =
     let size = length-append c.args.set.first (all_of_each c.args.set.each ++ c.args.set.last) in
     fills_more (length c.args.set.first) (length (all_of_set c.args.set)) c.args.progress.now c.make_all.new.progress (omega (arith, size)) c.make_all.ensures.fills
-
-pub make_logs-requires-clause-built : goal.make_logs-requires-clause-built
-make_logs-requires-clause-built g c = built_first (all_of_each c.args.set.each) c.args.set.last (built_later c.args.set.first (all_of_each c.args.set.each ++ c.args.set.last) c.requires.built)
-
-pub make_logs-requires-clause-built_last : goal.make_logs-requires-clause-built_last
-make_logs-requires-clause-built_last g c = built_later (all_of_each c.args.set.each) c.args.set.last (built_later c.args.set.first (all_of_each c.args.set.each ++ c.args.set.last) c.requires.built)
 
 pub make_logs-requires-clause-fits : goal.make_logs-requires-clause-fits
 make_logs-requires-clause-fits g c = c.requires.fits.each (g.H.Host.told c.make_all.new.host) (leads c.in_ok-went.ensures.told (course_of c.args.set.first c.in_ok-went.went))

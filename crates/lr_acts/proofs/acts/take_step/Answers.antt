@@ -4,7 +4,7 @@ use Rattle.lr_acts.proofs.acts.take_step.Goals as goal
 
 pub returns-in-Ok-None-clause-told : goal.returns-in-Ok-None-clause-told
 returns-in-Ok-None-clause-told g c =
-    step_made c.args.step None c.args.progress.now c.args.progress.now (rw c.in-Ok-None.field-0-is at c.in-Ok-None.ensures.marks) (no_more c.args.progress.now) (no_fault c.args.progress.now)
+    step_made c.args.step None c.args.progress.now _ (rw c.in-Ok-None.field-0-is at c.in-Ok-None.ensures.marks) (no_more c.args.progress.now) (no_fault c.args.progress.now)
     c.in-Ok-None.ensures.told (rw c.in-Ok-None.field-0-is at rw c.in-Ok-None.is at c.make.ensures.named) c.make.ensures.counts
 
 pub returns-in-Ok-Some-clause-told : goal.returns-in-Ok-Some-clause-told
@@ -18,4 +18,4 @@ returns-in-Err-Fault-clause-told g c =
     (rw c.in-Err-Fault.field-0-is at c.in-Err-Fault.ensures.cause) c.make.ensures.counts
 
 pub returns-in-Err-Memory-clause-told : goal.returns-in-Err-Memory-clause-told
-returns-in-Err-Memory-clause-told g c = adds_nothing (c.args.step ∷ []) c.args.progress.now (rw c.in-Err-Memory.field-0-is at c.in-Err-Memory.ensures.told) c.make.ensures.counts
+returns-in-Err-Memory-clause-told g c = adds_nothing (c.args.step ∷ []) c.args.progress.now _ (no_more c.args.progress.now) (no_fault c.args.progress.now) (rw c.in-Err-Memory.field-0-is at c.in-Err-Memory.ensures.told) c.make.ensures.counts

@@ -39,6 +39,9 @@ returns-in-Rotated-clause-told g c = subst (λ (s : Step). Left (StepLeft s (Ok 
 pub returns-in-Appends-clause-told : goal.returns-in-Appends-clause-told
 returns-in-Appends-clause-told g c = subst (λ (s : Step). Left (StepLeft s c.append_text.result) (g.H.Host.told c.args.host.now) (g.H.Host.told c.append_text.new.host)) (sym c.in-Appends.is) c.append_text.ensures.told
 
+pub returns-in-Copies-clause-told : goal.returns-in-Copies-clause-told
+returns-in-Copies-clause-told g c = subst (λ (s : Step). Left (StepLeft s c.copy_file.result) (g.H.Host.told c.args.host.now) (g.H.Host.told c.copy_file.new.host)) (sym c.in-Copies.is) c.copy_file.ensures.told
+
 pub returns-in-Runs-clause-named : goal.returns-in-Runs-clause-named
 returns-in-Runs-clause-named g c = subst (λ (s : Step). StepNames s c.run_program.result (g.H.Host.told c.run_program.new.host)) (sym c.in-Runs.is) tt
 
@@ -71,3 +74,6 @@ returns-in-Creates-clause-named g c = subst (λ (s : Step). StepNames s c.create
 
 pub returns-in-Rotated-clause-named : goal.returns-in-Rotated-clause-named
 returns-in-Rotated-clause-named g c = subst (λ (s : Step). StepNames s (Ok (Some (mark.Rotated c.in-Rotated.log))) (g.H.Host.told c.args.host.now)) (sym c.in-Rotated.is) tt
+
+pub returns-in-Copies-clause-named : goal.returns-in-Copies-clause-named
+returns-in-Copies-clause-named g c = subst (λ (s : Step). StepNames s c.copy_file.result (g.H.Host.told c.copy_file.new.host)) (sym c.in-Copies.is) tt

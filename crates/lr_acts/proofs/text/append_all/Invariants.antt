@@ -1,7 +1,7 @@
 use Rattle.std.proofs.Common.{[], ◌≤◌, ◌-◌, length, take}
 use Rattle.lr_host.specs.declared.entry.Entry.TheVariants.{Appends}
 use Rattle.lr_host.specs.Told.{Left, Can, Onward}
-use Rattle.lr_plan.specs.Copying.{Appended}
+use Rattle.lr_plan.specs.Appending.{Appended}
 use Rattle.lr_acts.proofs.text.append_all.Given as goal
 
 abbrev pub invariant-loop-at : goal.invariant-loop-at
