@@ -36,7 +36,7 @@ pub record WasListed (known : List Listing) (dir : Path) (l : Listing) : Type 0 
 abbrev pub WasNotListed : List Listing → Path → Type 0
 WasNotListed known dir = (l : Listing) → WasListed known dir l → ⊥
 
--- what the looks at the members among the names of a listing showed; there may be no memory before the first
+-- what the looks at the members among the names of a listing, and at their part files, showed; there may be no memory before the first
 abbrev pub ShowsMembersIn : Naming → Listing → FamilySight → List Entry → Type 0
 ShowsMembersIn n l (Stood stand) ts = ShowsIn n l.there l.parent l.names stand ts
 ShowsMembersIn n l (Stopped why) ts = ((why ≡ stop.Memory) × (ts ≡ [])) ⊎ ShowsNoneIn n l.there l.names why ts
