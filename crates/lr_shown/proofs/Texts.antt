@@ -7,7 +7,7 @@ use Rattle.lr_rules.specs.declared.fault.Phase.{Phase}
 use Rattle.lr_rules.specs.declared.fault.Phase.TheVariants as phase
 use Rattle.lr_scripts.specs.declared.command.Command.{Command}
 use Rattle.lr_rules.specs.declared.path.Path.{Path}
-use Rattle.lr_plan.specs.declared.job.Job.{Job}
+use Rattle.lr_copy.specs.declared.job.Job.{Job}
 use Rattle.lr_plan.specs.declared.step.Step.{Step}
 use Rattle.lr_plan.specs.declared.step.Step.TheVariants as step
 use Rattle.lr_plan.specs.Steps.{copy, step_if}

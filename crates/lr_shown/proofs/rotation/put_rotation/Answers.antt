@@ -1,6 +1,6 @@
 use Rattle.std.proofs.Common.{rules, ◌≡◌, ◌∙◌, ◌++◌, ◌∷◌, Err, Option, ap, map}
 use Rattle.lr_plan.specs.declared.step.Step.TheVariants as step
-use Rattle.lr_plan.specs.declared.job.Job.{Job}
+use Rattle.lr_copy.specs.declared.job.Job.{Job}
 use Rattle.lr_plan.specs.Steps.{directory, made_anew, move, removals, rotation_of, transfer}
 use Rattle.lr_shown.specs.Lines.{lines_of}
 use Rattle.lr_shown.proofs.Joined.{puts_as, puts_on, puts_stop}
