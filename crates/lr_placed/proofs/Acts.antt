@@ -1,11 +1,11 @@
 -- What the acts of a plan change: no name that the run reserves for itself, and no directory.
-use Rattle.std.proofs.Common.{◌≡◌, ◌≢◌, inl, inr, sym, ◌∙◌, ap, List, [], ◌∷◌}
+use Rattle.std.proofs.Common.{◌≡◌, ◌≢◌, inl, inr, refl, sym, ◌∙◌, ap, List, [], ◌∷◌}
 use Rattle.std.specs.Prelude.{filter}
 use Rattle.lr_rules.specs.declared.fault.Fault.{Fault}
 use Rattle.lr_rules.specs.declared.path.Path.{Path}
 use Rattle.lr_host.specs.declared.thing.Thing.TheVariants as thing
 use Rattle.lr_host.specs.declared.entry.Entry.{Entry}
-use Rattle.lr_host.specs.declared.entry.Entry.TheVariants.{Renames, Makes, Unlinks}
+use Rattle.lr_host.specs.declared.entry.Entry.TheVariants.{Renames, Makes, Appends, Truncates, Unlinks}
 use Rattle.lr_host.specs.Fits.{Fits, IsFileAt, IsDirectoryAt}
 use Rattle.lr_host.specs.Lists.{IsIn}
 use Rattle.lr_host.specs.Steps.{is_change}
@@ -23,16 +23,15 @@ use Rattle.lr_rotations.specs.AllTurns.{IsOfSome}
 use Rattle.lr_rotations.specs.Apart.{HaveNames}
 use Rattle.lr_rotations.specs.Target.{Target}
 use Rattle.lr_rotations.proofs.Apart.{own_change}
-use Rattle.lr_rotations.proofs.Fed.{IsTurnOrMake}
-use Rattle.lr_rotations.proofs.Others.{own_turns}
+use Rattle.lr_rotations.proofs.Others.{IsFileChange, own_turns}
 use Rattle.lr_weave.specs.Parts.{ArePlanned}
 use Rattle.lr_weave.proofs.Parting.{done_some}
 use Rattle.lr_seen.specs.Free.{AreFreeOf}
 use Rattle.lr_placed.proofs.Lasting.{Stays, IsKeptBy}
 
--- a rename, an unlink or the making of a file, at other paths than these
+-- a rename, an unlink, or the making, filling or emptying of a file, at other paths than these
 abbrev pub Spares : List Path → Entry → Type 0
-Spares reserved e = IsTurnOrMake e × ((x : Path) → IsIn x (changed_paths e) → IsIn x reserved → ⊥)
+Spares reserved e = IsFileChange e × ((x : Path) → IsIn x (changed_paths e) → IsIn x reserved → ⊥)
 
 some_spares : (reserved : List Path) (ts : List Target) (e : Entry) → HaveNames ts → AreFreeOf reserved ts → IsOfSome ts e → Spares reserved e
 some_spares reserved [] e h free i = absurd i
@@ -51,14 +50,16 @@ acts_spare reserved targets sets marks faults ts h free planned done =
 
 -- ---- what such changes keep
 
-same_name : (q : Past) (e : Entry) (y : Path) → IsTurnOrMake e → (IsIn y (changed_paths e) → ⊥) → names (world (q ▸ e)) y ≡ names (world q) y
+same_name : (q : Past) (e : Entry) (y : Path) → IsFileChange e → (IsIn y (changed_paths e) → ⊥) → names (world (q ▸ e)) y ≡ names (world q) y
 same_name q (Renames from to) y t out =
     put_other (put (names (world q)) from thing.Nothing) to y (names (world q) from) (λ is. out (inr (inl (sym is)))) ∙ put_other (names (world q)) from y thing.Nothing (λ is. out (inl (sym is)))
 same_name q (Unlinks x) y t out = put_other (names (world q)) x y thing.Nothing (λ is. out (inl (sym is)))
 same_name q (Makes x mode) y t out = put_other (names (world q)) x y (thing.File (world q).drawn) (λ is. out (inl (sym is)))
+same_name q (Appends x bytes) y t out = refl
+same_name q (Truncates x) y t out = refl
 same_name q _ y t out = absurd t
 
-no_directory : (w : World) (e : Entry) (y : Path) → IsTurnOrMake e → Fits w e → IsDirectoryAt (names w) y → IsIn y (changed_paths e) → ⊥
+no_directory : (w : World) (e : Entry) (y : Path) → IsFileChange e → Fits w e → IsDirectoryAt (names w) y → IsIn y (changed_paths e) → ⊥
 no_directory w (Renames from to) y t f d (inl is) = file_no_dir (names w from) f.0.0 f.0.1 (ap (names w) is ∙ d)
 no_directory w (Renames from to) y t f d (inr (inl is)) = f.1 (ap (names w) is ∙ d)
 no_directory w (Renames from to) y t f d (inr (inr none)) = none
@@ -66,6 +67,10 @@ no_directory w (Unlinks x) y t f d (inl is) = file_no_dir (names w x) f.0 f.1 (a
 no_directory w (Unlinks x) y t f d (inr none) = none
 no_directory w (Makes x mode) y t f d (inl is) = nothing_no_dir (names w x) f.1 (ap (names w) is ∙ d)
 no_directory w (Makes x mode) y t f d (inr none) = none
+no_directory w (Appends x bytes) y t f d (inl is) = file_no_dir (names w x) f.0 f.1 (ap (names w) is ∙ d)
+no_directory w (Appends x bytes) y t f d (inr none) = none
+no_directory w (Truncates x) y t f d (inl is) = file_no_dir (names w x) f.0 f.1 (ap (names w) is ∙ d)
+no_directory w (Truncates x) y t f d (inr none) = none
 no_directory w _ y t f d i = absurd t
 
 -- a directory stands
