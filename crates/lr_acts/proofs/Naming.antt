@@ -1,5 +1,5 @@
 -- Which names stay behind steps, and which are there.
-use Rattle.std.proofs.Common.{◌≡◌, ◌≢◌, ◌⊎◌, inl, inr, ⊎_elim, false, refl, sym, ◌∙◌, ap, subst, ℕ, ◌+◌, length, List, [], ◌∷◌, ◌++◌, reverse, Option, Ok}
+use Rattle.std.proofs.Common.{◌≡◌, ◌≢◌, ◌⊎◌, inl, inr, ⊎_elim, false, refl, sym, ◌∙◌, ap, subst, ℕ, List, [], ◌∷◌, ◌++◌, reverse, Option, Ok}
 use Rattle.std.proofs.lemmas.List.{reverse-reverse}
 use Rattle.lr_rules.specs.declared.path.Path.{Path}
 use Rattle.lr_rules.specs.declared.fault.Fault.{Fault}

@@ -1,5 +1,5 @@
 -- What a copy that broke off leaves undone.
-use Rattle.std.proofs.Common.{⊎_elim, sym, subst, ℕ, Bool, true, false, cond, List, [], ◌∷◌, ◌++◌}
+use Rattle.std.proofs.Common.{⊎_elim, sym, subst, ℕ, Bool, true, false, cond, List, [], ◌∷◌}
 use Rattle.lr_rules.specs.declared.fault.CallKind.TheVariants as call
 use Rattle.lr_host.specs.declared.entry.Entry.{Entry}
 use Rattle.lr_host.specs.declared.entry.Entry.TheVariants.{Reads, Renames, Makes, Appends, Unlinks, SyncsFile, SyncsDir}
