@@ -29,6 +29,7 @@ enum Ask {
     LayerOfAll,
     Copied,
     Due,
+    DueCases,
     Clock,
     Tz,
     State,
@@ -62,7 +63,7 @@ enum Ask {
 }
 
 // Each call with its name, and how many words stand behind that, at least and at most.
-static ASKS: [(&str, Ask, usize, usize); 51] = [
+static ASKS: [(&str, Ask, usize, usize); 52] = [
     ("path", Ask::Path, 1, 1),
     ("word", Ask::Word, 2, 2),
     ("parent", Ask::Parent, 1, 1),
@@ -84,6 +85,7 @@ static ASKS: [(&str, Ask, usize, usize); 51] = [
     ("layer-of-all", Ask::LayerOfAll, 1, 2),
     ("copied", Ask::Copied, 1, 1),
     ("due", Ask::Due, 10, 10),
+    ("due-cases", Ask::DueCases, 1, 1),
     ("clock", Ask::Clock, 2, 3),
     ("tz", Ask::Tz, 0, 1),
     ("state", Ask::State, 1, 9),
@@ -180,6 +182,7 @@ fn answer_of_texts(ask: Ask, line: Line, out: &mut Answer) -> Result<(), Trouble
         Ask::LayerOfAll => built::layer_of_all(line, out),
         Ask::Copied => copied::copied(line, out),
         Ask::Due => due::is_due(line, out),
+        Ask::DueCases => due::due_of_cases(line, out),
         Ask::Clock => clock::clock(line, out),
         Ask::Tz => clock::tz(line, out),
         Ask::State => state::state(line, out),

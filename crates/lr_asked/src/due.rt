@@ -6,6 +6,7 @@ use lr_due::{Due, Why, WhyNot, due};
 use lr_host::{Kind, Seen};
 use lr_line::{Line, Trouble, number, seconds};
 use lr_rules::{Civil, Count, Criterion, Listed, Make, Moment, Path, Rule, Scripts, Way};
+use lr_tables::{DueCase, due_cases};
 use std::alloc::Global;
 
 static NAMED: [(&str, Criterion); 4] = [
@@ -159,8 +160,8 @@ fn last_at(line: Line) -> Result<Option<Civil>, Trouble> {
     Ok(Some(moment_at(line, 8)?))
 }
 
-fn now_at(line: Line) -> Result<Moment, Trouble> {
-    let civil = moment_at(line, 9)?;
+fn now_at(line: Line, at: usize) -> Result<Moment, Trouble> {
+    let civil = moment_at(line, at)?;
     Ok(Moment {
         seconds: civil.seconds(),
         civil,
@@ -195,7 +196,7 @@ fn put_answer(
 }
 
 fn put_due(rule: &Rule, line: Line, out: &mut Answer) -> Result<(), Trouble> {
-    let now = now_at(line)?;
+    let now = now_at(line, 9)?;
     let force = is_first(line.word(10)?, b"force", b"-")?;
     put_answer(rule, line, &now, force, out)
 }
@@ -209,4 +210,49 @@ pub fn is_due(line: Line, out: &mut Answer) -> Result<(), Trouble> {
     // in one step, which is cheaper to check than field by field
     drop(rule);
     put
+}
+
+fn told_by(row: &DueCase) -> Case {
+    Case {
+        criterion: row.criterion,
+        ifempty: row.ifempty,
+        minage: row.minage,
+        minsize: row.minsize,
+        maxsize: row.maxsize,
+    }
+}
+
+fn seen_by(row: &DueCase) -> Seen {
+    Seen {
+        kind: Kind::File,
+        size: row.size,
+        mtime: row.mtime,
+        mode: None,
+    }
+}
+
+// The number of the line that decides the case, and what is answered of it.
+fn put_case(rule: &Rule, row: &DueCase, now: &Moment, out: &mut Answer) {
+    let due = due(rule, &seen_by(row), row.last, now, row.force);
+    out.put_number(u64::from(row.answer));
+    out.put(" ");
+    out.put(name_of(due));
+    out.put(";")
+}
+
+fn put_row(line: Line, row: &DueCase, now: &Moment, out: &mut Answer) -> Result<(), Trouble> {
+    let file = Path::new(line.alloc, b"/etc/c")?;
+    let rule = rule_of(line.alloc, file, told_by(row));
+    put_case(&rule, row, now, out);
+    drop(rule);
+    Ok(())
+}
+
+/// What is answered of each of the cases that cover the lines of the table, at this moment.
+pub fn due_of_cases(line: Line, out: &mut Answer) -> Result<(), Trouble> {
+    let now = now_at(line, 1)?;
+    for row in &due_cases().rows {
+        put_row(line, row, &now, out)?;
+    }
+    Ok(())
 }
