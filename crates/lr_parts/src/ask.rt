@@ -1,6 +1,7 @@
 // The calls that a row can ask for, by their names.
 use crate::conf::read_paths;
 use crate::copying::copy_log;
+use crate::cut_case::cut_case;
 use crate::globbing::expand_word;
 use crate::host_calls::{
     append, begin, begin_and_end, cut, make, make_dir, rename, sync, sync_dir, truncate, unlink,
@@ -52,6 +53,7 @@ enum Change {
     Begin,
     BeginAndEnd,
     Cut,
+    CutCase,
 }
 
 #[derive(Clone, Copy)]
@@ -62,7 +64,7 @@ enum Ask {
     Put,
 }
 
-static ASKS: [(&[u8], Ask); 26] = [
+static ASKS: [(&[u8], Ask); 27] = [
     (b"stand", Ask::Part(Part::Stand)),
     (b"prepare", Ask::Part(Part::Prepare)),
     (b"run-phase", Ask::Part(Part::RunPhase)),
@@ -88,6 +90,7 @@ static ASKS: [(&[u8], Ask); 26] = [
     (b"begin", Ask::Change(Change::Begin)),
     (b"begin-and-end", Ask::Change(Change::BeginAndEnd)),
     (b"cut", Ask::Change(Change::Cut)),
+    (b"cut-case", Ask::Change(Change::CutCase)),
     (b"put", Ask::Put),
 ];
 
@@ -137,6 +140,7 @@ fn ask_change(host: &mut MemHost, change: Change, cursor: &mut Cursor) -> Result
         Change::Begin => begin(host, cursor),
         Change::BeginAndEnd => begin_and_end(host, cursor),
         Change::Cut => cut(host, cursor),
+        Change::CutCase => cut_case(host, cursor),
     }
 }
 

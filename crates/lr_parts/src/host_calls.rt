@@ -31,7 +31,8 @@ pub fn is_free(host: &MemHost, path: &Path) -> Result<(), Trouble>
     }
 }
 
-fn rename_to(
+/// Renames the file, where that may be done.
+pub fn rename_to(
     host: &mut MemHost,
     alloc: Global,
     from: &Path,
@@ -213,7 +214,8 @@ fn lengths(cursor: &mut Cursor) -> Result<Vec<(u64, u64)>, Trouble> {
     Ok(lengths)
 }
 
-fn cut_to(
+/// `done`, or `not allowed`.
+pub fn cut_to(
     host: &mut MemHost,
     alloc: Global,
     kept: &[usize],

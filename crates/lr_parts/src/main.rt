@@ -12,6 +12,7 @@ mod answer;
 mod ask;
 mod conf;
 mod copying;
+mod cut_case;
 mod family;
 mod globbing;
 mod host_calls;
