@@ -1,7 +1,7 @@
 pub mod Apart
 pub mod Built
-mod Coming
-mod Elements
+pub mod Coming
+pub mod Elements
 pub mod Free
 mod Gives
 mod Listed
