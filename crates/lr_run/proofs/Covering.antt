@@ -1,5 +1,5 @@
 -- What the acts of a plan change: no name of the state, and names in the directories alone that are synced.
-use Rattle.std.proofs.Common.{◌≡◌, ◌⊎◌, inl, inr, ⊎_elim, ℕ, Bool, true, false, not, cond, refl, sym, ◌∙◌, ap, subst, List, [], ◌∷◌, ◌++◌}
+use Rattle.std.proofs.Common.{◌≡◌, ◌⊎◌, inl, inr, ⊎_elim, ℕ, Bool, true, false, not, cond, refl, sym, ◌∙◌, ap, subst, Option, Some, None, List, [], ◌∷◌, ◌++◌}
 use Rattle.std.specs.Prelude.{filter}
 use Rattle.std.specs.List.{flat_map}
 use Rattle.lr_rules.specs.declared.path.Path.{Path}
@@ -21,18 +21,22 @@ use Rattle.lr_durable.specs.Renewing.{IsAsideOf, IsWithin}
 use Rattle.lr_durable.specs.StateWhole.{renamed_paths}
 use Rattle.lr_family.specs.Spots.{path_at}
 use Rattle.lr_family.proofs.Numbers.{every_all, every_filter}
-use Rattle.lr_chain.specs.Rotation.{places_of, is_left, leftovers, kept, one_too_many, leftover_steps, shift_steps, turn_steps, retire_steps}
+use Rattle.lr_copy.specs.declared.job.Job.{Job}
+use Rattle.lr_copy.specs.Copying.{clearing}
+use Rattle.lr_chain.specs.declared.ready.Ready.{Ready}
+use Rattle.lr_chain.specs.Rotation.{places_of, is_left, leftovers, kept, one_too_many, leftover_steps, shift_steps, retire_steps}
 use Rattle.lr_plan.specs.declared.planned.LogPlan.{LogPlan}
 use Rattle.lr_plan.specs.declared.planned.SetPlan.{SetPlan}
-use Rattle.lr_rotations.specs.AllTurns.{IsOfSome}
+use Rattle.lr_rotations.specs.AllTurns.{AlsoDoes, IsOfSome}
 use Rattle.lr_rotations.specs.Apart.{HasNames, HaveNames}
-use Rattle.lr_rotations.specs.Members.{HasName}
-use Rattle.lr_rotations.specs.Rotated.{MakesAt}
-use Rattle.lr_rotations.specs.Target.{Target, rotation_of, IsOneOf}
+use Rattle.lr_rotations.specs.Members.{IsFamily, HasName}
+use Rattle.lr_rotations.specs.Target.{Target, transfer_of, rotation_of, IsOneOf}
 use Rattle.lr_rotations.proofs.Apart.{own_change}
 use Rattle.lr_rotations.proofs.Fitting.{kept_next, first_named, retire_named}
 use Rattle.lr_rotations.proofs.Members.{IsOfMembers, unlinks_of, moves_of}
+use Rattle.lr_rotations.proofs.PartFile.{part_parent, job_target, job_part}
 use Rattle.lr_rotations.proofs.Paths.{path_parent}
+use Rattle.lr_rotations.proofs.Rotating.{left_are, shift_are, retire_are, each_part}
 use Rattle.lr_rotations.proofs.Weaving.{each_in}
 use Rattle.lr_weave.specs.Planned.{AreReadyFor, HaveLogs}
 use Rattle.lr_seen.specs.Free.{reserved_by, AreFreeOf}
@@ -81,40 +85,74 @@ of_changes R (e ∷ ts) calm tools a = go (is_change e) refl (λ a. of_changes R
 
 -- ---- the paths of a rotation
 
--- each path whose name the entry changes is the log's or a member's
+-- each path whose name the entry changes is the log's, or stands in the family's directory
 abbrev IsOnFamily : Path → Naming → Entry → Type 0
-IsOnFamily log n e = (x : Path) → IsIn x (renamed_paths e) → (x ≡ log) ⊎ ((k : ℕ) × HasName n k × (x ≡ path_at n k))
+IsOnFamily log n e = (x : Path) → IsIn x (renamed_paths e) → (x ≡ log) ⊎ (parent_of x ≡ n.dir)
 
-of_members : (log : Path) (n : Naming) (e : Entry) → IsOfMembers n e → IsOnFamily log n e
-of_members log n (Renames from to) h x (inl is) = inr (h.0, h.1, sym is ∙ h.2)
-of_members log n (Renames from to) h x (inr (inl is)) = inr (h.3.0, h.3.1, sym is ∙ h.3.2)
-of_members log n (Renames from to) h x (inr (inr none)) = absurd none
-of_members log n (Unlinks y) h x (inl is) = inr (h.0, h.1, sym is ∙ h.2)
-of_members log n (Unlinks y) h x (inr none) = absurd none
-of_members log n _ h x i = absurd h
+of_members : (log : Path) (n : Naming) → IsFamily log n → (e : Entry) → IsOfMembers n e → IsOnFamily log n e
+of_members log n family (Renames from to) h x (inl is) = inr (ap parent_of (sym is ∙ h.2) ∙ path_parent log n h.0 family h.1)
+of_members log n family (Renames from to) h x (inr (inl is)) = inr (ap parent_of (sym is ∙ h.3.2) ∙ path_parent log n h.3.0 family h.3.1)
+of_members log n family (Renames from to) h x (inr (inr none)) = absurd none
+of_members log n family (Unlinks y) h x (inl is) = inr (ap parent_of (sym is ∙ h.2) ∙ path_parent log n h.0 family h.1)
+of_members log n family (Unlinks y) h x (inr none) = absurd none
+of_members log n family _ h x i = absurd h
 
-of_anew : (log : Path) (n : Naming) (e : Entry) → MakesAt log e → IsOnFamily log n e
-of_anew log n (entry.Makes y mode) is x (inl same) = inl (sym same ∙ is)
-of_anew log n (entry.Makes y mode) is x (inr none) = absurd none
-of_anew log n _ is x i = absurd is
+each_member : (log : Path) (n : Naming) → IsFamily log n → (es : List Entry) → Each (IsOfMembers n) es → Each (IsOnFamily log n) es
+each_member log n family [] a = tt
+each_member log n family (e ∷ es) a = (of_members log n family e a.0, each_member log n family es a.1)
 
-of_rename : (log : Path) (n : Naming) → HasName n 0 → IsOnFamily log n (Renames log (path_at n 0))
-of_rename log n first x (inl is) = inl (sym is)
-of_rename log n first x (inr (inl is)) = inr (0, first, sym is)
-of_rename log n first x (inr (inr none)) = absurd none
+module _ (t : Target) (h : HasNames t) where
+  first : HasName t.naming 0
+  first = first_named t.naming t.count (places_of t.stand.members) h.next
 
-each_member : (log : Path) (n : Naming) (es : List Entry) → Each (IsOfMembers n) es → Each (IsOnFamily log n) es
-each_member log n [] a = tt
-each_member log n (e ∷ es) a = (of_members log n e a.0, each_member log n es a.1)
+  target_in : parent_of t.ready.target ≡ t.naming.dir
+  target_in = ap parent_of h.ready.target_is ∙ path_parent t.log t.naming 0 h.family first
+
+  part_in : (job : Job) → t.job ≡ Some job → parent_of job.part ≡ t.naming.dir
+  part_in job is = ap parent_of (job_part t job h.ready (h.job job is)) ∙ part_parent t.log t.naming h.family first
+
+  to_in : (job : Job) → t.job ≡ Some job → parent_of job.to ≡ t.naming.dir
+  to_in job is = ap parent_of (job_target t job h.ready (h.job job is)) ∙ path_parent t.log t.naming 0 h.family first
+
+  transfer_in : (j : Option Job) → t.job ≡ j → Each (IsOnFamily t.log t.naming) (transfer_of t.ready j)
+  transfer_in None is = (renamed, tt)
+    where
+      renamed : IsOnFamily t.log t.naming (Renames t.ready.log t.ready.target)
+      renamed x (inl e) = inl (sym e ∙ h.ready.log_is)
+      renamed x (inr (inl e)) = inr (ap parent_of (sym e) ∙ target_in)
+      renamed x (inr (inr none)) = absurd none
+  transfer_in (Some job) is = each_append (IsOnFamily t.log t.naming) (clearing job) (Renames job.part job.to ∷ []) (cleared job.stale) (moved, tt)
+    where
+      dropped : IsOnFamily t.log t.naming (Unlinks job.part)
+      dropped x (inl e) = inr (ap parent_of (sym e) ∙ part_in job is)
+      dropped x (inr none) = absurd none
+
+      cleared : (b : Bool) → Each (IsOnFamily t.log t.naming) (cond b (Unlinks job.part ∷ []) [])
+      cleared true = (dropped, tt)
+      cleared false = tt
+
+      moved : IsOnFamily t.log t.naming (Renames job.part job.to)
+      moved x (inl e) = inr (ap parent_of (sym e) ∙ part_in job is)
+      moved x (inr (inl e)) = inr (ap parent_of (sym e) ∙ to_in job is)
+      moved x (inr (inr none)) = absurd none
+
+  -- what is done besides
+  also_in : (e : Entry) → AlsoDoes t e → IsOnFamily t.log t.naming e
+  also_in (entry.Makes y mode) (inl is) x (inl same) = inl (sym same ∙ is)
+  also_in (entry.Makes y mode) (inl is) x (inr none) = absurd none
+  also_in (entry.Makes y mode) (inr p) x (inl same) = inr (ap parent_of (sym same ∙ p.2) ∙ part_in p.0 p.1)
+  also_in (entry.Makes y mode) (inr p) x (inr none) = absurd none
+  also_in (entry.Appends y bytes) p x i = absurd i
+  also_in (entry.Truncates y) p x i = absurd i
+  also_in _ none x i = absurd none
 
 on_family : (t : Target) → HasNames t → Each (IsOnFamily t.log t.naming) (rotation_of t)
-on_family t h =
-    each_append P (leftover_steps n c ps) (turn_steps n c t.log ps ++ retire_steps n c ps) (each_member t.log n (leftover_steps n c ps) (unlinks_of n (leftovers c ps) (every_filter (HasName n) (is_left c) ps (every_all (HasName n) ps h.named))))
-    (each_append P (turn_steps n c t.log ps) (retire_steps n c ps)
-    (each_append P (shift_steps n c ps) (Renames t.log (path_at n 0) ∷ [])
-    (each_member t.log n (shift_steps n c ps) (moves_of n (kept c ps) (every_filter (HasName n) (λ k. not (is_left c k)) ps (every_all (HasName n) ps h.named)) (kept_next n c ps h.next)))
-    (of_rename t.log n (first_named n c ps h.next), tt))
-    (each_member t.log n (retire_steps n c ps) (unlinks_of n (one_too_many c ps) (retire_named n c ps h.next))))
+on_family t h = each_part P t
+    (subst (Each P) (sym (left_are t h.ready)) (each_member t.log n h.family (leftover_steps n c ps) (unlinks_of n (leftovers c ps) (every_filter (HasName n) (is_left c) ps (every_all (HasName n) ps h.named)))))
+    (subst (Each P) (sym (shift_are t h.ready))
+    (each_member t.log n h.family (shift_steps n c ps) (moves_of n (kept c ps) (every_filter (HasName n) (λ k. not (is_left c k)) ps (every_all (HasName n) ps h.named)) (kept_next n c ps h.next))))
+    (transfer_in t h t.job refl)
+    (subst (Each P) (sym (retire_are t h.ready)) (each_member t.log n h.family (retire_steps n c ps) (unlinks_of n (one_too_many c ps) (retire_named n c ps h.next))))
   where
     n : Naming
     n = t.naming
@@ -137,7 +175,7 @@ IsCovered paths t = IsIn t.log paths × IsIn (path_at t.naming 0) paths
 covered_log : (t : Target) (ts : List Target) (logs : List LogPlan) → AreReadyFor ts logs → IsOneOf t ts → IsCovered (changed_of logs) t
 covered_log t [] logs r i = absurd i
 covered_log t (u ∷ us) [] r i = absurd r
-covered_log t (u ∷ us) (l ∷ ls) r (inl e) = (inl (r.0.ready.log_is ∙ ap (λ (v : Target). v.log) e), inr (inl (r.0.ready.target_is ∙ ap (λ (v : Target). path_at v.naming 0) e)))
+covered_log t (u ∷ us) (l ∷ ls) r (inl e) = (inl (ap (λ (x : Ready). x.log) r.0.ready_is ∙ (r.0.ready.log_is ∙ ap (λ (v : Target). v.log) e)), inr (inl (ap (λ (x : Ready). x.target) r.0.ready_is ∙ (r.0.ready.target_is ∙ ap (λ (v : Target). path_at v.naming 0) e))))
 covered_log t (u ∷ us) (l ∷ ls) r (inr i) = let c = covered_log t us ls r.1 i in (inr (inr c.0), inr (inr c.1))
 
 one_of_two : (t : Target) (xs ys : List Target) → IsOneOf t (xs ++ ys) → IsOneOf t xs ⊎ IsOneOf t ys
@@ -156,14 +194,14 @@ covered t (ts ∷ groups) (s ∷ ss) h i = ⊎_elim
 within_family : (part : Path) (paths dirs : List Path) (t : Target) (e : Entry) → AreDirectoriesOf paths dirs → HasNames t → IsCovered paths t → IsOnFamily t.log t.naming e → IsWithin part dirs e
 within_family part paths dirs t e a h c f x i = inr (⊎_elim
     (λ is. subst (λ (y : Path). IsIn (parent_of y) dirs) (sym is) (a.all t.log c.0))
-    (λ m. subst (λ (d : Path). IsIn d dirs) (path_parent t.log t.naming 0 h.family (first_named t.naming t.count (places_of t.stand.members) h.next) ∙ (sym (path_parent t.log t.naming m.0 h.family m.1) ∙ ap parent_of (sym m.2))) (a.all (path_at t.naming 0) c.1))
+    (λ in_dir. subst (λ (d : Path). IsIn d dirs) (path_parent t.log t.naming 0 h.family (first_named t.naming t.count (places_of t.stand.members) h.next) ∙ sym in_dir) (a.all (path_at t.naming 0) c.1))
     (f x i))
 
 -- ---- a change of the acts
 
 pub some_within : (part : Path) (paths dirs : List Path) (ts : List Target) (e : Entry) → AreDirectoriesOf paths dirs → HaveNames ts → ((t : Target) → IsOneOf t ts → IsCovered paths t) → IsOfSome ts e → IsWithin part dirs e
 some_within part paths dirs [] e a h c i = absurd i
-some_within part paths dirs (t ∷ ts) e a h c (inl i) = within_family part paths dirs t e a h.0 (c t (inl refl)) (⊎_elim (λ j. each_in (IsOnFamily t.log t.naming) (rotation_of t) e (on_family t h.0) j) (λ anew. of_anew t.log t.naming e anew) i)
+some_within part paths dirs (t ∷ ts) e a h c (inl i) = within_family part paths dirs t e a h.0 (c t (inl refl)) (⊎_elim (λ j. each_in (IsOnFamily t.log t.naming) (rotation_of t) e (on_family t h.0) j) (λ also. also_in t h.0 e also) i)
 some_within part paths dirs (t ∷ ts) e a h c (inr i) = some_within part paths dirs ts e a h.1 (λ u j. c u (inr j)) i
 
 pub some_aside : (state : Path) (ts : List Target) (e : Entry) → HaveNames ts → AreFreeOf (reserved_by state) ts → IsOfSome ts e → IsAsideOf state e

@@ -33,6 +33,8 @@ use Rattle.lr_reading.specs.Answers.{ReadsState}
 use Rattle.lr_rotations.specs.AllTurns.{IsWholeRun}
 use Rattle.lr_durable.specs.Renewing.{MayRenew}
 use Rattle.lr_durable.specs.StateWhole.{KeepsWhole}
+use Rattle.lr_emptied.specs.Emptied.{EmptiesCopied, EmptiesWhole}
+use Rattle.lr_emptied.proofs.Entries.{quiet_empties}
 use Rattle.lr_fields.specs.Built.{AreBuiltRules}
 use Rattle.lr_seen.specs.Free.{reserved_by}
 use Rattle.lr_seen.proofs.Quiet.{whole_looking, part_looking}
@@ -42,10 +44,12 @@ use Rattle.lr_run.specs.declared.answer.RunStop.TheVariants as stop
 use Rattle.lr_run.specs.declared.directory.DirStop.{DirStop}
 use Rattle.lr_run.specs.declared.directory.DirStop.TheVariants as dir
 use Rattle.lr_run.specs.Answers.{Answers, Leaves, Holds, Lacks}
+use Rattle.lr_run.specs.Copied.{IsCopyBy}
 use Rattle.lr_run.specs.Dry.{IsSight, AreSights, measured_by, Follows, Plans, PlansBy, unknown, known, Tries, unseen, not_directory, by_none, by_state, LacksTry, before_all, amid_looks, amid_state}
 use Rattle.lr_run.specs.Internal.{NotSeen, dir_fault_of, PlansOn, PlansByOn, TriesOn, plan_if, faults_if}
 use Rattle.lr_run.specs.Runs.{SomeSeen, of_state, of_looks}
 use Rattle.lr_run.specs.State.{IsNewText}
+use Rattle.lr_run.proofs.Emptying.{left_copied, runs_copied, answers_copied}
 use Rattle.lr_run.proofs.Renewing.{left_whole, quiet_alone, runs_may, answers_may}
 use Rattle.lr_run.proofs.Seeing.{state_so, looks_so, some_so}
 use Rattle.lr_run.proofs.Shape.{quiet_run, sees_quiet}
@@ -213,6 +217,10 @@ pub dry_whole : (state : Path) (force : Bool) (now : Moment) (rules : Rules) (ea
 dry_whole state force now rules earlier r l = left_whole state (IsNewText state now force rules) (Answers state true force now rules earlier r) l
     (λ ts tools h. quiet_alone state (IsNewText state now force rules ts) ts (answers_quiet state force now rules earlier r ts h))
 
+-- it empties nothing
+pub dry_copied : (state : Path) (force : Bool) (now : Moment) (rules : Rules) (earlier : List Fault) (r : Result Ran RunStop) {o n : Option Journal} → Left (Answers state true force now rules earlier r) o n → EmptiesWhole (IsCopyBy rules.sets) o n
+dry_copied state force now rules earlier r l = left_copied rules.sets (Answers state true force now rules earlier r) l (λ ts h. quiet_empties (IsCopyBy rules.sets) ts (answers_quiet state force now rules earlier r ts h))
+
 -- ---- the answer
 
 pub tried_so : (state : Path) (force : Bool) (now : Moment) (rules : Rules) (earlier first : List Fault) (ran : Ran) {o n : Option Journal} → first ≡ earlier → Left (TriesOn state rules.sets now force ran.plan first ran.faults.items) o n → Left (Answers state true force now rules earlier (Ok ran)) o n
@@ -227,6 +235,15 @@ leaves_may false state force now rules plan own ts built tools h = runs_may stat
 pub lacks_may : (debug : Bool) (state : Path) (force : Bool) (now : Moment) (rules : Rules) (ts : List Entry) → AreBuiltRules rules.sets → Each IsTools ts → Lacks debug state force now rules ts → MayRenew state (IsNewText state now force rules ts) ts
 lacks_may true state force now rules ts built tools h = quiet_alone state (IsNewText state now force rules ts) ts (lacks_so IsQuiet (λ x seen. (tt, refl)) (λ x names. (tt, refl)) (λ x place piece. (tt, refl)) state rules.sets ts h)
 lacks_may false state force now rules ts built tools h = answers_may state rules now force built [] (Err stop.Memory) ts tools h
+
+-- each log that it empties it copied just before
+pub leaves_copied : (debug : Bool) (state : Path) (rules : Rules) (now : Moment) (force : Bool) → AreBuiltRules rules.sets → (plan : Option Plan) (own : List Fault) (ts : List Entry) → Leaves debug state force now rules plan own ts → EmptiesCopied (IsCopyBy rules.sets) ts
+leaves_copied true state rules now force built plan own ts h = quiet_empties (IsCopyBy rules.sets) ts (tries_so IsQuiet (λ x seen. (tt, refl)) (λ x names. (tt, refl)) (λ x place piece. (tt, refl)) state rules.sets now force plan own ts h)
+leaves_copied false state rules now force built plan own ts h = runs_copied state rules now force built plan own ts h
+
+pub lacks_copied : (debug : Bool) (state : Path) (rules : Rules) (now : Moment) (force : Bool) → AreBuiltRules rules.sets → (ts : List Entry) → Lacks debug state force now rules ts → EmptiesCopied (IsCopyBy rules.sets) ts
+lacks_copied true state rules now force built ts h = quiet_empties (IsCopyBy rules.sets) ts (lacks_so IsQuiet (λ x seen. (tt, refl)) (λ x names. (tt, refl)) (λ x place piece. (tt, refl)) state rules.sets ts h)
+lacks_copied false state rules now force built ts h = answers_copied state rules now force built [] (Err stop.Memory) ts h
 
 pub holds_quiet : (debug : Bool) (state : Path) (ts : List Entry) → Holds debug state ts → AreQuiet ts
 holds_quiet true state ts h = absurd h

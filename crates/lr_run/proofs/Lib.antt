@@ -15,4 +15,5 @@ mod Ending
 pub mod Rotating
 mod Covering
 pub mod Renewing
+pub mod Emptying
 pub mod Drying

@@ -7,6 +7,7 @@ use Rattle.lr_rules.specs.declared.path.Path.{Path}
 use Rattle.lr_rules.specs.declared.rules.Rules.{Rules}
 use Rattle.lr_rules.specs.Path.{parent_of}
 use Rattle.lr_family.specs.Spots.{path_at}
+use Rattle.lr_chain.specs.declared.ready.Ready as chain
 use Rattle.lr_host.specs.declared.journal.Journal.{Journal}
 use Rattle.lr_host.specs.Lists.{IsIn}
 use Rattle.lr_host.specs.Told.{Left, not_told, is_told}
@@ -60,8 +61,8 @@ of_log : (ts : List Target) (logs : List LogPlan) (path : Path) → AreReadyFor 
 of_log [] [] path r i = absurd i
 of_log [] (l ∷ ls) path r i = absurd r
 of_log (t ∷ ts) [] path r i = absurd r
-of_log (t ∷ ts) (l ∷ ls) path r (inl e) = record { target = t; one = inl refl; is = inl (sym e ∙ r.0.ready.log_is) }
-of_log (t ∷ ts) (l ∷ ls) path r (inr (inl e)) = record { target = t; one = inl refl; is = inr (sym e ∙ r.0.ready.target_is) }
+of_log (t ∷ ts) (l ∷ ls) path r (inl e) = record { target = t; one = inl refl; is = inl (sym e ∙ (ap (λ (x : chain.Ready). x.log) r.0.ready_is ∙ r.0.ready.log_is)) }
+of_log (t ∷ ts) (l ∷ ls) path r (inr (inl e)) = record { target = t; one = inl refl; is = inr (sym e ∙ (ap (λ (x : chain.Ready). x.target) r.0.ready_is ∙ r.0.ready.target_is)) }
 of_log (t ∷ ts) (l ∷ ls) path r (inr (inr i)) = let o = of_log ts ls path r.1 i in record { target = o.target; one = inr o.one; is = o.is }
 
 of_set : (groups : List (List Target)) (sets : List SetPlan) (path : Path) → HaveLogs groups sets → IsIn path (all_changed_of sets) → IsOfOne (flat_map (λ ts. ts) groups) path

@@ -1,5 +1,5 @@
--- A run of which no call failed and no program ended badly rotates each log of its plan.
-use Rattle.std.proofs.Common.{◌≡◌, ◌≢◌, inl, inr, Bool, List, [], ◌∷◌, ◌++◌, reverse, refl, sym, ap, ◌∙◌, subst, append_assoc}
+-- A run of which no call failed, no program ended badly and no copy broke off rotates each log of its plan that isn't copied.
+use Rattle.std.proofs.Common.{◌≡◌, ◌≢◌, inl, inr, Bool, None, List, [], ◌∷◌, ◌++◌, reverse, refl, sym, ap, ◌∙◌, subst, append_assoc}
 use Rattle.std.specs.Prelude.{codes}
 use Rattle.lr_rules.specs.declared.civil.Moment.{Moment}
 use Rattle.lr_rules.specs.declared.fault.Fault.{Fault}
@@ -39,6 +39,7 @@ use Rattle.lr_seen.proofs.Apart.{targets_apart, targets_dont_meet}
 use Rattle.lr_seen.proofs.Free.{targets_free}
 use Rattle.lr_seen.proofs.Ready.{plans_have_logs}
 use Rattle.lr_seen.proofs.Seen.{targets_seen, targets_have_names}
+use Rattle.lr_run.specs.Copied.{NoneOfCopy}
 use Rattle.lr_run.specs.Rotated.{rotated_in, IsRotatedAmong}
 use Rattle.lr_run.specs.Runs.{Inside, Looked, Worked, plan_in}
 use Rattle.lr_run.proofs.Called.{worked_met_none}
@@ -85,9 +86,9 @@ worked_whole state rules now force own ts built w none =
     (subst (λ (fs : List Fault). PlanDone (plan_in state rules.sets ts w.looked now force) w.acted.marks fs w.acted.entries.entries.front) none w.acted.entries.entries.first)
 
 pub run_rotated : (state : Path) (force : Bool) (now : Moment) (rules : Rules) (own : List Fault) (p q : Past) (es reads acts : List Entry) → AreBuiltRules rules.sets → Made p es q → IsJournal p → reverse es ≡ reads ++ acts → AreQuiet reads
-    → (i : Inside state now rules (Worked state rules.sets now force own) acts) → calls_in own ≡ 0 → scripts_in own ≡ 0 → (t : Target) → IsOneOf t (rotated_in state rules.sets i.between i.within.looked now force)
+    → (i : Inside state now rules (Worked state rules.sets now force own) acts) → calls_in own ≡ 0 → scripts_in own ≡ 0 → NoneOfCopy own → (t : Target) → IsOneOf t (rotated_in state rules.sets i.between i.within.looked now force) → t.job ≡ None
     → IsRotatedAmong state (rotated_in state rules.sets i.between i.within.looked now force) p q t
-run_rotated state force now rules own p q es reads acts built made journal joined quiet i no_call no_end t one = λ unattached. (
+run_rotated state force now rules own p q es reads acts built made journal joined quiet i no_call no_end no_copy t one by_rename = λ unattached. (
   seen_members (other_paths state t.log targets) t.log t.naming t.count t.stand p q es made journal has.family has.next unattached aside_paths among,
   rotated_whole (other_paths state t.log targets) t.log t.naming t.count t.stand p q es made journal has.family has.next unattached aside_paths among,
 )
@@ -114,7 +115,7 @@ run_rotated state force now rules own p q es reads acts built made journal joine
     free = free_one (reserved_by state) t targets (targets_free rules.sets l.sets l.of_looks l.looks decide l.shown) one
 
     none : w.acted.entries.of_plan ≡ []
-    none = worked_met_none state rules.sets now force own i.between w no_call no_end
+    none = worked_met_none state rules.sets now force own i.between w no_call no_end no_copy
 
     work : List Entry
     work = ((l.reads ++ l.looks) ++ w.acted.entries.entries.front) ++ w.acted.entries.entries.back
@@ -131,4 +132,4 @@ run_rotated state force now rules own p q es reads acts built made journal joine
 
     among : RotatesAmong (other_paths state t.log targets) t.log t.naming t.count t.stand (reverse es)
     among = subst (RotatesAmong (other_paths state t.log targets) t.log t.naming t.count t.stand) (sym whole)
-        (run_rotates state now rules (reads ++ i.before) (work ++ entry.Ends ∷ []) turned t (quiet_both reads i.before quiet (sees_quiet (parent_of state) IsDir i.before i.directory)) one)
+        (run_rotates state now rules (reads ++ i.before) (work ++ entry.Ends ∷ []) turned t (quiet_both reads i.before quiet (sees_quiet (parent_of state) IsDir i.before i.directory)) one by_rename)

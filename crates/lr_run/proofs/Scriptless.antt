@@ -29,7 +29,18 @@ none_runs : (p : Phase) (text : Option (List ℕ)) (args : List (List ℕ)) → 
 none_runs p text args e = subst (λ (t : Option (List ℕ)). EachStep IsNoProgram (program p (script t args))) (sym e) tt
 
 no_steps : IsOfSteps IsNoProgram IsNone
-no_steps = record { removes = λ path h. h; renames = λ from to h. h; creates = λ path mode h. h; rotated = λ log h. h; runs = none_runs }
+no_steps = record {
+  removes = λ path h. h;
+  renames = λ from to h. h;
+  creates = λ path mode h. h;
+  takes = λ path mode h. h;
+  copies = λ from to limit h. h;
+  syncs_file = λ path h. h;
+  syncs_dir = λ path h. h;
+  truncates = λ path h. h;
+  rotated = λ log h. h;
+  runs = none_runs;
+}
 
 none_scripts : (rules : List Rule) → HaveNoScripts rules → AreOfScripts IsNone rules
 none_scripts [] h = tt

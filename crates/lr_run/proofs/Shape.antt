@@ -21,13 +21,14 @@ use Rattle.lr_host.specs.Steps.{is_change}
 use Rattle.lr_host.specs.Told.{Each}
 use Rattle.lr_host.proofs.Each.{each_append, each_as}
 use Rattle.lr_host.proofs.Quiet.{quiet_both}
+use Rattle.lr_copy.specs.declared.job.Job.{Job}
 use Rattle.lr_chain.specs.Rotation.{places_of}
 use Rattle.lr_due.specs.declared.answer.Due.{Due}
 use Rattle.lr_plan.specs.declared.looks.LogLook.{LogLook}
 use Rattle.lr_plan.specs.Planned.{decision}
 use Rattle.lr_rotations.specs.AllTurns.{AllTurns, AllTurned, not_yet, started, IsWholeRun, IsOfSome, IsOfState, StandsBetween}
 use Rattle.lr_reading.proofs.Quiet.{state_quiet}
-use Rattle.lr_rotations.specs.Target.{Target, rotation_of, IsGiven, AreSeen}
+use Rattle.lr_rotations.specs.Target.{Target, rotation_of, IsGiven, IsJobOf, AreSeen}
 use Rattle.lr_rotations.specs.Weave.{Weave, FirstWoven, Among}
 use Rattle.lr_rotations.proofs.Moments.{shown_in}
 use Rattle.lr_rotations.proofs.Weaving.{weave_on, weave_others}
@@ -79,13 +80,13 @@ ended state rules ts t = record {
   targets = t.targets;
   seen = t.seen;
   all = subst (Each (λ e. IsOfSome t.targets e ⊎ IsOfState state e)) (sym (ended_changes t.acts)) t.all;
-  each = λ x h. subst (FirstWoven (StandsBetween state x.log t.targets) (rotation_of x)) (sym (ended_changes t.acts)) (t.each x h);
+  each = λ x h. subst (FirstWoven (StandsBetween state x t.targets) (rotation_of x)) (sym (ended_changes t.acts)) (t.each x h);
 }
 
 abbrev pub ended_whole : (state : Path) (rules : Rules) (ts : List Entry) → AllTurned state rules ts → AllTurned state rules (ts ++ entry.Ends ∷ [])
 ended_whole state rules ts t = record {
   turns = ended state rules ts t.turns;
-  whole = λ x h. subst (Weave (StandsBetween state x.log t.turns.targets) (rotation_of x)) (sym (ended_changes t.turns.acts)) (t.whole x h);
+  whole = λ x h. subst (Weave (StandsBetween state x t.turns.targets) (rotation_of x)) (sym (ended_changes t.turns.acts)) (t.whole x h);
 }
 
 -- ---- the state's writing behind the rotations
@@ -106,15 +107,15 @@ written state rules ts us t a = record {
   seen = t.seen;
   all = subst (Each (λ e. IsOfSome t.targets e ⊎ IsOfState state e)) (sym (filter-append is_change t.acts us))
       (each_append (λ e. IsOfSome t.targets e ⊎ IsOfState state e) (filter is_change t.acts) (filter is_change us) t.all (each_as (IsOfState state) (λ e. IsOfSome t.targets e ⊎ IsOfState state e) (filter is_change us) (λ e h. inr h) a));
-  each = λ x h. subst (FirstWoven (StandsBetween state x.log t.targets) (rotation_of x)) (sym (filter-append is_change t.acts us))
-      (first_behind (StandsBetween state x.log t.targets) (rotation_of x) (filter is_change t.acts) (filter is_change us) (t.each x h) (each_as (IsOfState state) (StandsBetween state x.log t.targets) (filter is_change us) (λ e h. inr (inl h)) a));
+  each = λ x h. subst (FirstWoven (StandsBetween state x t.targets) (rotation_of x)) (sym (filter-append is_change t.acts us))
+      (first_behind (StandsBetween state x t.targets) (rotation_of x) (filter is_change t.acts) (filter is_change us) (t.each x h) (each_as (IsOfState state) (StandsBetween state x t.targets) (filter is_change us) (λ e h. inr (inl h)) a));
 }
 
 abbrev pub written_whole : (state : Path) (rules : Rules) (ts us : List Entry) → AllTurned state rules ts → Each (IsOfState state) (filter is_change us) → AllTurned state rules (ts ++ us)
 written_whole state rules ts us t a = record {
   turns = written state rules ts us t.turns a;
-  whole = λ x h. subst (Weave (StandsBetween state x.log t.turns.targets) (rotation_of x)) (sym (filter-append is_change t.turns.acts us))
-      (woven_behind (StandsBetween state x.log t.turns.targets) (rotation_of x) (filter is_change t.turns.acts) (filter is_change us) (t.whole x h) (each_as (IsOfState state) (StandsBetween state x.log t.turns.targets) (filter is_change us) (λ e h. inr (inl h)) a));
+  whole = λ x h. subst (Weave (StandsBetween state x t.turns.targets) (rotation_of x)) (sym (filter-append is_change t.turns.acts us))
+      (woven_behind (StandsBetween state x t.turns.targets) (rotation_of x) (filter is_change t.turns.acts) (filter is_change us) (t.whole x h) (each_as (IsOfState state) (StandsBetween state x t.turns.targets) (filter is_change us) (λ e h. inr (inl h)) a));
 }
 
 -- ---- what was seen behind a reading
@@ -126,7 +127,7 @@ in_behind e (x ∷ xs) ys i = inr (in_behind e xs ys i)
 among_later : (P : List Entry → Type 0) (xs ys : List Entry) → Among P ys → Among P (xs ++ ys)
 among_later P xs ys a = record { before = xs ++ a.before; part = a.part; after = a.after; joined = ap (λ zs. xs ++ zs) a.joined ∙ sym (append_assoc xs a.before (a.part ++ a.after)); is = a.is }
 
-given_later : {rules : List Rule} {log : Path} {n : Naming} {c : Count} (xs looks : List Entry) → IsGiven rules looks log n c → IsGiven rules (xs ++ looks) log n c
+given_later : {rules : List Rule} {log : Path} {n : Naming} {c : Count} {job : Option Job} (xs looks : List Entry) → IsGiven rules looks log n c job → IsGiven rules (xs ++ looks) log n c job
 given_later xs looks g = record {
   rule = g.rule;
   word = g.word;
@@ -135,6 +136,7 @@ given_later xs looks g = record {
   given = among_later _ xs looks g.given;
   naming_is = g.naming_is;
   count_is = g.count_is;
+  way_is = g.way_is;
 }
 
 pub seen_later : (rules : Rules) (xs looks : List Entry) (ts : List Target) → AreSeen rules looks ts → AreSeen rules (xs ++ looks) ts
@@ -146,9 +148,14 @@ seen_later rules xs looks (t ∷ ts) s = (
     log_seen = among_later (Sees t.log IsFile) xs looks s.0.log_seen;
     seen = shown_in t.naming (places_of t.stand.members) looks (xs ++ looks) (λ e i. in_behind e xs looks i) s.0.seen;
     low = s.0.low;
+    ready = s.0.ready;
+    job = job_later s.0.job;
   },
   seen_later rules xs looks ts s.1,
 )
+  where
+    job_later : IsJobOf t looks → IsJobOf t (xs ++ looks)
+    job_later f = λ job is. let h = f job is in (h.0, λ stale. among_later (Sees job.part IsFile) xs looks (h.1 stale))
 
 -- ---- the work
 

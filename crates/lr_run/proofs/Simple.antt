@@ -1,5 +1,5 @@
--- The steps of a plan: unlinks, renames, makings of logs, programs and marks alone.
-use Rattle.std.proofs.Common.{ℕ, Bool, true, false, not, List, [], ◌∷◌, ◌++◌, map, Option, Some, None}
+-- The steps of a plan: unlinks, renames, makings of logs, the steps of copies, programs and marks alone.
+use Rattle.std.proofs.Common.{ℕ, Bool, true, false, not, List, [], ◌∷◌, ◌++◌, map, Option, Some, None, refl}
 use Rattle.std.specs.List.{flat_map}
 use Rattle.lr_rules.specs.declared.fault.Fault.{Fault}
 use Rattle.lr_rules.specs.declared.fault.Phase.{Phase}
@@ -9,8 +9,13 @@ use Rattle.lr_rules.specs.declared.rule.Make.{Make}
 use Rattle.lr_rules.specs.declared.rule.Make.TheVariants as make
 use Rattle.lr_rules.specs.declared.rule.Naming.{Naming}
 use Rattle.lr_rules.specs.declared.rule.Rule.{Rule}
+use Rattle.lr_rules.specs.declared.rule.Way.{Way}
+use Rattle.lr_rules.specs.declared.rule.Way.TheVariants as way
+use Rattle.lr_rules.specs.Match.{part_end, EndsWith}
 use Rattle.lr_due.specs.declared.answer.Due.{Due}
 use Rattle.lr_due.specs.declared.answer.Due.TheVariants as due
+use Rattle.lr_family.specs.Parts.{part_of}
+use Rattle.lr_family.specs.Spots.{path_at}
 use Rattle.lr_chain.specs.declared.ready.Move.{Move}
 use Rattle.lr_chain.specs.Ready.{removal_at}
 use Rattle.lr_commands.specs.Commands.{script, where_so}
@@ -19,10 +24,10 @@ use Rattle.lr_plan.specs.declared.looks.SetLooks.{SetLooks}
 use Rattle.lr_plan.specs.declared.planned.LogPlan.{LogPlan}
 use Rattle.lr_plan.specs.declared.planned.SetPlan.{SetPlan}
 use Rattle.lr_plan.specs.declared.step.Step.{Step}
-use Rattle.lr_plan.specs.declared.step.Step.TheVariants.{Runs, Removes, Renames, Creates, Copies, Rotated}
-use Rattle.lr_plan.specs.Planned.{hindrances, ready_for, log_plan, none_hinders, plans_of, where_due, log_plans, set_plan, all_plans}
-use Rattle.lr_plan.specs.Steps.{program, removals, move, made_anew, rotation_of, retirement_of, steps_of_log, shared_steps, by_logs, steps_of_set}
-use Rattle.lr_acts.specs.Making.{IsBuilt, AreBuilt, all_of_each, all_of_set, all_of_sets}
+use Rattle.lr_plan.specs.declared.step.Step.TheVariants.{Runs, Removes, Renames, Creates, Takes, Copies, SyncsFile, SyncsDir, Truncates, Rotated}
+use Rattle.lr_plan.specs.Planned.{copy_job, job_by, hindrances, ready_for, log_plan, none_hinders, plans_of, where_due, log_plans, set_plan, all_plans}
+use Rattle.lr_plan.specs.Steps.{program, removals, move, step_if, copy, transfer, anew, made_anew, rotation_of, retirement_of, steps_of_log, shared_steps, by_logs, steps_of_set}
+use Rattle.lr_acts.specs.Making.{all_of_each, all_of_set, all_of_sets}
 
 -- ---- what holds of each of some steps
 
@@ -40,11 +45,16 @@ step_split P (x ∷ xs) ys h = let r = step_split P xs ys h.1 in ((h.0, r.0), r.
 
 -- ---- what holds of the steps of each plan, where Q holds of the texts of its scripts
 
--- P holds of an unlink, a rename, the making of a log and a mark, and of the program of a script of which Q holds
+-- P holds of an unlink, a rename, the making of a log and a mark, of the steps of a copy, whose part file has the ending of one, and of the program of a script of which Q holds
 pub record IsOfSteps (P : Step → Type 0) (Q : Option (List ℕ) → Type 0) : Type 0 where
   pub removes : (path : Path) → P (Removes path)
   pub renames : (from to : Path) → P (Renames from to)
   pub creates : (path : Path) (mode : Option ℕ) → P (Creates path mode)
+  pub takes : (path : Path) (mode : Option ℕ) → P (Takes (part_of path) mode)
+  pub copies : (from to : Path) (limit : ℕ) → P (Copies from to limit)
+  pub syncs_file : (path : Path) → P (SyncsFile path)
+  pub syncs_dir : (path : Path) → P (SyncsDir path)
+  pub truncates : (path : Path) → P (Truncates path)
   pub rotated : (log : Path) → P (Rotated log)
   pub runs : (p : Phase) (text : Option (List ℕ)) (args : List (List ℕ)) → Q text → EachStep P (program p (script text args))
 
@@ -74,9 +84,28 @@ module _ (P : Step → Type 0) (Q : Option (List ℕ) → Type 0) (k : IsOfSteps
   moves_so [] = tt
   moves_so (m ∷ ms) = (k.renames _ _, moves_so ms)
 
-  anew_so : (m : Make) (log : Path) → EachStep P (made_anew m log None)
+  anew_so : (m : Make) (log : Path) → EachStep P (anew m log)
   anew_so make.No log = tt
   anew_so (make.Yes mode) log = (k.creates log mode, tt)
+
+  step_where : (b : Bool) (s : Step) → P s → EachStep P (step_if b s)
+  step_where true s p = (p, tt)
+  step_where false s p = tt
+
+  copy_so : (look : LogLook) (cut : Bool) → EachStep P (copy (copy_job look cut))
+  copy_so look cut = step_both P (step_if (copy_job look cut).stale (Removes (copy_job look cut).part)) _ (step_where (copy_job look cut).stale _ (k.removes _))
+      (k.takes (path_at look.family.naming 0) _, (k.copies _ _ _, (k.syncs_file _, (k.renames _ _, (k.syncs_dir _, step_where cut _ (k.truncates _))))))
+
+  -- by rename or by copy
+  transfer_so : (w : Way) (look : LogLook) (log target : Path) → EachStep P (transfer log target (job_by w look))
+  transfer_so way.Rename look log target = (k.renames log target, tt)
+  transfer_so way.Copy look log target = copy_so look false
+  transfer_so way.CopyTruncate look log target = copy_so look true
+
+  made_so : (w : Way) (look : LogLook) (m : Make) (log : Path) → EachStep P (made_anew m log (job_by w look))
+  made_so way.Rename look m log = anew_so m log
+  made_so way.Copy look m log = tt
+  made_so way.CopyTruncate look m log = tt
 
   -- of each log: its rotation, its retirement, and its programs
   record IsLogSo (log : LogPlan) : Type 0 where
@@ -92,7 +121,9 @@ module _ (P : Step → Type 0) (Q : Option (List ℕ) → Type 0) (k : IsOfSteps
   log_so : (rule : Rule) (look : LogLook) → IsOfScripts Q rule → IsLogSo (log_plan rule look)
   log_so rule look h = record {
     rotation = step_both P (removals (ready_for rule look).leftovers) _ (removals_so look.family.naming _)
-        (step_both P (map move (ready_for rule look).moves) _ (moves_so (ready_for rule look).moves) (k.renames _ _, (k.rotated _, anew_so (ready_for rule look).make look.path)));
+        (step_both P (map move (ready_for rule look).moves) _ (moves_so (ready_for rule look).moves)
+        (step_both P (transfer look.path (ready_for rule look).target (job_by rule.way look)) _ (transfer_so rule.way look look.path (ready_for rule look).target)
+        (k.rotated _, made_so rule.way look (ready_for rule look).make look.path)));
     retirement = removals_so look.family.naming _;
     pre = where_runs (not rule.shared) phase.Pre rule.scripts.pre _ h.pre;
     post = where_runs (not rule.shared) phase.Post rule.scripts.post _ h.post;
@@ -170,12 +201,17 @@ module _ (P : Step → Type 0) (Q : Option (List ℕ) → Type 0) (k : IsOfSteps
 
 -- ---- simple steps
 
--- an unlink, a rename, the making of a log, a program, or no call: it fails by a call, or by a program that ends badly
+-- an unlink, a rename, the making of a log, a step of a copy, a program, or no call: it fails by a call, by a program that ends badly, or by a part file's name that is taken or a log that is too long
 abbrev pub IsSimple : Step → Type 0
 IsSimple (Runs phase on command) = Unit {0}
 IsSimple (Removes path) = Unit {0}
 IsSimple (Renames from to) = Unit {0}
 IsSimple (Creates path mode) = Unit {0}
+IsSimple (Takes path mode) = EndsWith path part_end
+IsSimple (Copies from to limit) = Unit {0}
+IsSimple (SyncsFile path) = Unit {0}
+IsSimple (SyncsDir path) = Unit {0}
+IsSimple (Truncates path) = Unit {0}
 IsSimple (Rotated log) = Unit {0}
 IsSimple _ = ⊥
 
@@ -184,15 +220,6 @@ AreSimple steps = EachStep IsSimple steps
 
 pub simple_split : (xs ys : List Step) → AreSimple (xs ++ ys) → AreSimple xs × AreSimple ys
 simple_split xs ys h = step_split IsSimple xs ys h
-
--- none is a copy
-built_one : (s : Step) → IsSimple s → IsBuilt s
-built_one (Copies from to limit) h = absurd h
-built_one _ h = tt
-
-pub simple_built : (steps : List Step) → AreSimple steps → AreBuilt steps
-simple_built [] h = tt
-simple_built (s ∷ ss) h = (built_one s h.0, simple_built ss h.1)
 
 -- so are the programs of all scripts
 abbrev Any : Option (List ℕ) → Type 0
@@ -203,7 +230,18 @@ program_simple p None args q = tt
 program_simple p (Some text) args q = (tt, tt)
 
 simple_steps : IsOfSteps IsSimple Any
-simple_steps = record { removes = λ path. tt; renames = λ from to. tt; creates = λ path mode. tt; rotated = λ log. tt; runs = program_simple }
+simple_steps = record {
+  removes = λ path. tt;
+  renames = λ from to. tt;
+  creates = λ path mode. tt;
+  takes = λ path mode. (path, refl);
+  copies = λ from to limit. tt;
+  syncs_file = λ path. tt;
+  syncs_dir = λ path. tt;
+  truncates = λ path. tt;
+  rotated = λ log. tt;
+  runs = program_simple;
+}
 
 any_scripts : (rules : List Rule) → AreOfScripts Any rules
 any_scripts [] = tt

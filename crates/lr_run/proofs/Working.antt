@@ -10,13 +10,14 @@ use Rattle.lr_host.specs.declared.entry.Entry.{Entry}
 use Rattle.lr_host.specs.declared.entry.Entry.TheVariants as entry
 use Rattle.lr_host.specs.declared.journal.Journal.{Journal}
 use Rattle.lr_host.specs.World.{Past, ◌▸◌, past, world}
+use Rattle.lr_copy.proofs.EachOfBytes.{each_all, each_broke}
 use Rattle.lr_host.specs.Told.{Each, IsWriters, Are, Made, at_first, by_writer, by_tool, Left, not_told, is_told, WhereTold}
 use Rattle.lr_host.proofs.Each.{each_append, each_in_order}
 use Rattle.lr_scripts.specs.declared.command.Command.{Command}
 use Rattle.lr_plan.specs.declared.mark.Mark.{Mark}
 use Rattle.lr_plan.specs.declared.step.SetSteps.{SetSteps}
 use Rattle.lr_plan.specs.declared.step.Step.{Step}
-use Rattle.lr_plan.specs.declared.step.Step.TheVariants.{Runs, Removes, Renames, Creates, Rotated}
+use Rattle.lr_plan.specs.declared.step.Step.TheVariants.{Runs, Removes, Renames, Creates, Takes, Copies, SyncsFile, SyncsDir, Truncates, Rotated}
 use Rattle.lr_plan.specs.Outcomes.{Succeeds, Fails, ProgramFailed, badly, not_run, maybe_run}
 use Rattle.lr_plan.specs.Done.{SetsDone}
 use Rattle.lr_plan.specs.Internal.Cut.{SetsCut}
@@ -57,6 +58,11 @@ made_work (Runs p on command) ts i h = are_work ts _ h (tt, tt)
 made_work (Removes path) ts i h = are_work ts _ h (tt, tt)
 made_work (Renames from to) ts i h = are_work ts _ h (tt, tt)
 made_work (Creates path mode) ts i h = maybe_work (entry.Makes path mode) ts tt h
+made_work (Takes path mode) ts i h = are_work ts _ h (tt, tt)
+made_work (Copies from to limit) ts i h = each_all IsWork from to (λ k piece. tt) (λ piece. tt) limit h.0 ts h.1
+made_work (SyncsFile path) ts i h = are_work ts _ h (tt, tt)
+made_work (SyncsDir path) ts i h = are_work ts _ h (tt, tt)
+made_work (Truncates path) ts i h = are_work ts _ h (tt, tt)
 made_work (Rotated log) ts i h = are_work ts [] h tt
 made_work _ ts i h = absurd i
 
@@ -65,11 +71,20 @@ program_work p on c f ts (badly end bad e o) = are_work ts _ o (tt, tt)
 program_work p on c f ts (not_run e o) = are_work ts [] o tt
 program_work p on c f ts (maybe_run end e o) = are_work ts _ o (tt, tt)
 
+take_work : (path : Path) (mode : Option ℕ) (f : Fault) (ts : List Entry) → Fails (Takes path mode) f ts → AreWork ts
+take_work path mode f ts (inl h) = maybe_work (entry.Makes path mode) ts tt h.1
+take_work path mode f ts (inr h) = are_work ts [] h.1 tt
+
 failed_work : (s : Step) (f : Fault) (ts : List Entry) → IsSimple s → Fails s f ts → AreWork ts
 failed_work (Runs p on command) f ts i h = program_work p on command f ts h
 failed_work (Removes path) f ts i h = maybe_work (entry.Unlinks path) ts tt h.1
 failed_work (Renames from to) f ts i h = maybe_work (entry.Renames from to) ts tt h.1
 failed_work (Creates path mode) f ts i h = maybe_work (entry.Makes path mode) ts tt h.1
+failed_work (Takes path mode) f ts i h = take_work path mode f ts h
+failed_work (Copies from to limit) f ts i h = each_broke IsWork from to (λ k piece. tt) (λ piece. tt) limit h.0 ts h.2
+failed_work (SyncsFile path) f ts i h = maybe_work (entry.SyncsFile path) ts tt h.1
+failed_work (SyncsDir path) f ts i h = maybe_work (entry.SyncsDir path) ts tt h.1
+failed_work (Truncates path) f ts i h = maybe_work (entry.Truncates path) ts tt h.1
 failed_work (Rotated log) f ts i h = absurd h
 failed_work _ f ts i h = absurd i
 

@@ -176,9 +176,6 @@ steps_simple rules sets table now force = plan_simple (decision table now force)
 abbrev pub PlanFor : Rules → Looks → Remembered → Moment → Bool → Plan
 PlanFor rules looks remembered now force = plan_of rules.sets looks.sets remembered.table now force
 
-pub ready_simple : (rules : Rules) (looks : Looks) (state : Path) (remembered : Remembered) (now : Moment) (force : Bool) (ready : Ready) (x y : Progress) → ReadyFor state now remembered looks.kept (PlanFor rules looks remembered now force) ready x y → AreSimple (all_of_sets ready.steps)
-ready_simple rules looks state remembered now force ready x y r = subst (λ (ss : List SetSteps). AreSimple (all_of_sets ss)) (sym r.is.steps) (steps_simple rules.sets looks.sets remembered.table now force)
-
 pub ready_fit : (reserved : List Path) (rules : Rules) (looks : Looks) (state : Path) (remembered : Remembered) (now : Moment) (force : Bool) (ready : Ready) (x y : Progress) (a b : List Fault) {o n : Option Journal} → AreBuiltRules rules.sets → WhereTold o IsJournal
     → ReadyFor state now remembered looks.kept (PlanFor rules looks remembered now force) ready x y → Left (LooksAtAll reserved rules.sets looks a b) o n → CanSets n ready.steps
 ready_fit reserved rules looks state remembered now force ready x y a b {n = n} built disk r l = subst (CanSets n) (sym r.is.steps) (fits_behind reserved rules looks a b (decision remembered.table now force) built disk l)

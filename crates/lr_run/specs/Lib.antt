@@ -1,4 +1,5 @@
 pub mod Answers
+pub mod Copied
 pub mod Dry
 pub mod Internal
 pub mod Rotated

@@ -5,7 +5,7 @@ ghost use Rattle.lr_rules.specs.declared.fault.Fault.{Fault};
 ghost use Rattle.lr_host.specs.declared.journal.Journal.{Journal};
 ghost use Rattle.lr_host.specs.Told.{Left, Onward};
 ghost use Rattle.lr_acts.specs.Adding.{HasRoom};
-ghost use Rattle.lr_acts.specs.Making.{AreBuilt, HasProgram, all_of_sets};
+ghost use Rattle.lr_acts.specs.Making.{HasProgram, all_of_sets};
 ghost use Rattle.lr_plan.specs.Done.{SetsDone, rotated_logs};
 ghost use Rattle.lr_plan.specs.Internal.Asking.{CanMake, CanSets, LeadsTo};
 ghost use Rattle.lr_plan.specs.Steps.{state_steps};
@@ -74,7 +74,6 @@ pub fn carry_out<H: Host>(
     now: &Civil,
     progress: &mut Progress,
 ) -> Result<(), Memory>
-    requires built { AreBuilt (all_of_sets ready.steps) }
     requires fits { CanSets (H.told host.old) ready.steps }
     requires fits_state { (later : Option Journal) (text : List ℕ) → LeadsTo (SetsDone ready.steps) (H.told host.old) later → CanMake later (state_steps ready.writing.state ready.writing.stale ready.writing.dirs text) }
     requires room { HasRoom (length (all_of_sets ready.steps)) progress.old }

@@ -1,5 +1,5 @@
-// What a run of which no call failed and no program ended badly makes of its logs.
-ghost use Rattle.std.specs.Prelude.{◌≡◌, Bool, List, ◌++◌, reverse};
+// What a run of which no call failed, no program ended badly and no copy broke off makes of its logs.
+ghost use Rattle.std.specs.Prelude.{◌≡◌, Bool, List, ◌++◌, reverse, None};
 ghost use Rattle.lr_rules.specs.declared.path.Path.{Path};
 ghost use Rattle.lr_rules.specs.declared.civil.Moment.{Moment};
 ghost use Rattle.lr_rules.specs.declared.fault.Fault.{Fault};
@@ -12,15 +12,16 @@ ghost use Rattle.lr_host.specs.Told.{Made};
 ghost use Rattle.lr_host.specs.Counted.{calls_in, scripts_in};
 ghost use Rattle.lr_rotations.specs.Target.{Target, IsOneOf};
 ghost use Rattle.lr_fields.specs.Built.{AreBuiltRules};
+ghost use Rattle.lr_run.specs.Copied.{NoneOfCopy};
 ghost use Rattle.lr_run.specs.Rotated.{rotated_in, IsRotatedAmong};
 ghost use Rattle.lr_run.specs.Runs.{Inside, Worked};
 
-/// A run that came to its plan and tells no failed call and no program that ended badly, behind reads that change nothing,
-/// rotates each log of its plan whole, whatever writers do meanwhile, and whatever else it tells: of a log that isn't
-/// there, or that meets another, say.
+/// A run that came to its plan and tells no failed call, no program that ended badly and no copy that broke off, behind
+/// reads that change nothing, rotates each log of its plan that isn't copied whole, whatever writers do meanwhile, and
+/// whatever else it tells: of a log that isn't there, or that meets another, say.
 pub fn run_rotates_all()
     ensures { (state : Path) (force : Bool) (now : Moment) (rules : Rules) (own : List Fault) (p q : Past) (es reads acts : List Entry) → AreBuiltRules rules.sets
-        → Made p es q → IsJournal p → reverse es ≡ reads ++ acts → AreQuiet reads → (i : Inside state now rules (Worked state rules.sets now force own) acts) → calls_in own ≡ 0 → scripts_in own ≡ 0
-        → (t : Target) → IsOneOf t (rotated_in state rules.sets i.between i.within.looked now force)
+        → Made p es q → IsJournal p → reverse es ≡ reads ++ acts → AreQuiet reads → (i : Inside state now rules (Worked state rules.sets now force own) acts) → calls_in own ≡ 0 → scripts_in own ≡ 0 → NoneOfCopy own
+        → (t : Target) → IsOneOf t (rotated_in state rules.sets i.between i.within.looked now force) → t.job ≡ None
         → IsRotatedAmong state (rotated_in state rules.sets i.between i.within.looked now force) p q t }
 {}

@@ -3,7 +3,7 @@
 //! The contract above it: the entries of a run are a look at the state's directory, its start, the reading of the state,
 //! the looks at its logs, the acts of the plan that follows from both, the writing of the state, and its end; and its
 //! faults are those of the looks, of the plan and of the acts (`specs/Runs.antt`). A dry run only looks, and plans
-//! (`specs/Dry.antt`). Begin with `run`:
+//! (`specs/Dry.antt`). A log is emptied only behind a copy of it (`specs/Copied.antt`). Begin with `run`:
 //!
 //! ```text
 //! let ran = run(alloc, &rules, &settings, &clock, earlier, &mut host)?;   // Err(RunStop::Held): another run is on

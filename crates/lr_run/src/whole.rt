@@ -7,10 +7,12 @@ ghost use Rattle.lr_host.specs.Told.{Left, Onward, Rose, WhereTold};
 ghost use Rattle.lr_durable.specs.StateWhole.{KeepsWhole};
 ghost use Rattle.lr_host.specs.Safe.{KeepsSafe};
 ghost use Rattle.lr_host.specs.Counted.{AddsFaults};
+ghost use Rattle.lr_emptied.specs.Emptied.{EmptiesWhole};
 ghost use Rattle.lr_rotations.specs.AllTurns.{IsWholeRun};
 ghost use Rattle.lr_fields.specs.Built.{AreBuiltRules};
 ghost use Rattle.lr_run.specs.Internal.{RunsOn, StopsSo, dir_fault_of};
 ghost use Rattle.lr_run.specs.Answers.{Answers};
+ghost use Rattle.lr_run.specs.Copied.{IsCopyBy};
 ghost use Rattle.lr_run.specs.State.{IsNewText};
 
 use crate::answer::{Ran, RunStop};
@@ -100,6 +102,7 @@ pub fn real_run<H: Host>(
     requires disk { WhereTold (H.told host.old) IsJournal }
     ensures safe { KeepsSafe (H.told host.old) (H.told host.new) }
     ensures state { KeepsWhole settings.now.state (IsNewText settings.now.state clock.entry.now.now settings.now.force rules.now) (H.told host.old) (H.told host.new) }
+    ensures copied { EmptiesWhole (IsCopyBy rules.now.sets) (H.told host.old) (H.told host.new) }
     ensures told { Left (Answers settings.now.state false settings.now.force clock.entry.now.now rules.now earlier.items result) (H.told host.old) (H.told host.new) }
     ensures shape { Left IsWholeRun (H.told host.old) (H.told host.new) }
     ensures counted { IfOk result (λ ran. AddsFaults earlier.items ran.faults.items (H.counts host.old) (H.counts host.new)) }

@@ -1,7 +1,7 @@
 use Rattle.std.proofs.Common.{true, false}
 use Rattle.lr_host.proofs.Left.{left_as}
 use Rattle.lr_rotations.proofs.Safety.{call_safe}
-use Rattle.lr_run.proofs.Drying.{asked_so, answers_sights, dry_shape, dry_whole}
+use Rattle.lr_run.proofs.Drying.{asked_so, answers_sights, dry_shape, dry_whole, dry_copied}
 use Rattle.lr_run.proofs.asked.run.Goals as goal
 
 pub returns-then-settings-clause-shape : goal.returns-then-settings-clause-shape
@@ -21,3 +21,6 @@ returns-then-settings-clause-dry g c = λ e. left_as c.dry_run.ensures.told (ans
 
 pub returns-else-settings-clause-told : goal.returns-else-settings-clause-told
 returns-else-settings-clause-told g c = asked_so c.args.settings.now.state c.args.settings.now.debug false c.args.settings.now.force c.args.clock.now.now c.args.rules.now c.args.earlier.items c.real_run.result _ _ c.if-settings.false c.real_run.ensures.told
+
+pub returns-then-settings-clause-copied : goal.returns-then-settings-clause-copied
+returns-then-settings-clause-copied g c = dry_copied c.args.settings.now.state c.args.settings.now.force c.args.clock.now.now c.args.rules.now c.args.earlier.items c.dry_run.result c.dry_run.ensures.told

@@ -5,6 +5,7 @@ use Rattle.lr_rotations.proofs.Safety.{call_safe}
 use Rattle.lr_run.specs.declared.answer.RunStop.TheVariants as stop
 use Rattle.lr_run.specs.Answers.{Answers}
 use Rattle.lr_run.specs.Runs.{at_first}
+use Rattle.lr_run.proofs.Emptying.{run_copied}
 use Rattle.lr_run.proofs.Parts.{ran_so, stopped_so}
 use Rattle.lr_run.proofs.Shape.{none_run, whole_run}
 use Rattle.lr_run.proofs.Renewing.{run_whole}
@@ -57,3 +58,15 @@ returns-in-Ok-make_run-clause-state g c = run_whole c.args.settings.now.state c.
 
 pub returns-in-Err-clause-state : goal.returns-in-Err-clause-state
 returns-in-Err-clause-state g c = run_whole c.args.settings.now.state c.args.settings.now.force c.args.clock.now.now c.args.rules.now c.args.earlier.items (Err c.in-Err.why) c.requires.built (returns-in-Err-clause-told g c)
+
+pub returns-in_default-clause-copied : goal.returns-in_default-clause-copied
+returns-in_default-clause-copied g c = run_copied c.args.settings.now.state c.args.settings.now.force c.args.clock.now.now c.args.rules.now c.args.earlier.items (Err stop.Memory) c.requires.built (returns-in_default-clause-told g c)
+
+pub returns-in_default-reserve-clause-copied : goal.returns-in_default-reserve-clause-copied
+returns-in_default-reserve-clause-copied g c = run_copied c.args.settings.now.state c.args.settings.now.force c.args.clock.now.now c.args.rules.now c.args.earlier.items (Err stop.Memory) c.requires.built (returns-in_default-reserve-clause-told g c)
+
+pub returns-in-Ok-make_run-clause-copied : goal.returns-in-Ok-make_run-clause-copied
+returns-in-Ok-make_run-clause-copied g c = run_copied c.args.settings.now.state c.args.settings.now.force c.args.clock.now.now c.args.rules.now c.args.earlier.items (Ok (record { plan = c.make_run.new.reached; faults = c.make_run.new.progress.faults })) c.requires.built (returns-in-Ok-make_run-clause-told g c)
+
+pub returns-in-Err-clause-copied : goal.returns-in-Err-clause-copied
+returns-in-Err-clause-copied g c = run_copied c.args.settings.now.state c.args.settings.now.force c.args.clock.now.now c.args.rules.now c.args.earlier.items (Err c.in-Err.why) c.requires.built (returns-in-Err-clause-told g c)

@@ -1,15 +1,8 @@
 use Rattle.std.proofs.Common.{Some, ap, ◌∙◌}
-use Rattle.lr_acts.specs.Making.{all_of_sets}
 use Rattle.lr_placed.proofs.Lasting.{disk_on}
 use Rattle.lr_run.proofs.Placing.{fits_behind_acts}
-use Rattle.lr_run.proofs.Simple.{simple_built}
-use Rattle.lr_run.proofs.Works.{ready_of, not_ready, ready_simple, ready_fit, carried_out, carried_counted, too_big_told, none_acted, some_acted}
+use Rattle.lr_run.proofs.Works.{ready_of, not_ready, ready_fit, carried_out, carried_counted, too_big_told, none_acted, some_acted}
 use Rattle.lr_run.proofs.work.act_by.Goals as goal
-
-pub carry_out-requires-clause-built : goal.carry_out-requires-clause-built
-carry_out-requires-clause-built g c =
-    let r = ready_of c.args.settings.now.state c.args.clock.now.now c.args.remembered _ _ c.in_ok-plan.plan _ c.in_ok-ready.field-0 c.in-Some.ready c.args.progress.now c.make_ready.new.progress c.as_slice-kept.ensures c.in_ok-plan.ensures c.in-Some.is c.in_ok-ready.ensures in
-    simple_built (all_of_sets c.in-Some.ready.steps) (ready_simple c.args.rules.now c.args.looks.now c.args.settings.now.state c.args.remembered c.args.clock.now.now c.args.settings.now.force c.in-Some.ready c.args.progress.now c.make_ready.new.progress r)
 
 pub carry_out-requires-clause-fits : goal.carry_out-requires-clause-fits
 carry_out-requires-clause-fits g c =

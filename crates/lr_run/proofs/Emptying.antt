@@ -1,0 +1,255 @@
+-- Each log that a run empties it copied whole just before, by a copy that one of its rules asks for.
+use Rattle.std.proofs.Common.{◌≡◌, ◌⊎◌, inl, inr, ⊎_elim, ℕ, ◌+◌, arith, Bool, true, false, List, [], ◌∷◌, ◌++◌, Option, Some, None, Result, Ok, Err, slice_get, refl, sym, ap, ◌∙◌, subst}
+use Rattle.std.specs.Prelude.{Contains}
+use Rattle.std.specs.List.{flat_map}
+use Rattle.std.proofs.lemmas.List.{append-nil}
+use Rattle.lr_rules.specs.declared.civil.Moment.{Moment}
+use Rattle.lr_rules.specs.declared.fault.Fault.{Fault}
+use Rattle.lr_rules.specs.declared.path.Path.{Path}
+use Rattle.lr_rules.specs.declared.rule.Naming.{Naming}
+use Rattle.lr_rules.specs.declared.rule.Rule.{Rule}
+use Rattle.lr_rules.specs.declared.rules.Rules.{Rules}
+use Rattle.lr_rules.specs.Names.{IsMemberAt, naming_of}
+use Rattle.lr_rules.specs.Path.{parent_of}
+use Rattle.lr_host.specs.declared.entry.Entry.{Entry}
+use Rattle.lr_host.specs.declared.entry.Entry.TheVariants as entry
+use Rattle.lr_host.specs.declared.journal.Journal.{Journal}
+use Rattle.lr_host.specs.Lists.{IsIn}
+use Rattle.lr_host.specs.Looks.{IsDir}
+use Rattle.lr_host.specs.Quiet.{AreQuiet}
+use Rattle.lr_host.specs.Told.{Left}
+use Rattle.lr_host.proofs.Left.{left_as}
+use Rattle.lr_host.proofs.Lists.{in_append, in_front, in_back, in_to}
+use Rattle.lr_reading.proofs.Quiet.{state_quiet}
+use Rattle.lr_kept.proofs.Elements.{same_read}
+use Rattle.lr_due.specs.declared.answer.Due.{Due}
+use Rattle.lr_copy.specs.declared.job.Job.{Job}
+use Rattle.lr_chain.specs.Rotation.{places_of}
+use Rattle.lr_plan.specs.declared.looks.LogLook.{LogLook}
+use Rattle.lr_plan.specs.declared.looks.SetLooks.{SetLooks}
+use Rattle.lr_plan.specs.declared.planned.LogPlan.{LogPlan}
+use Rattle.lr_plan.specs.declared.planned.Plan.{Plan}
+use Rattle.lr_plan.specs.declared.planned.SetPlan.{SetPlan}
+use Rattle.lr_plan.specs.Planned.{job_of, decision, all_plans}
+use Rattle.lr_plan.specs.Steps.{steps_of_plan}
+use Rattle.lr_emptied.specs.Emptied.{IsJobIn, EmptiesCopied, EmptiesWhole}
+use Rattle.lr_emptied.specs.Jobs.{job_in, jobs_in, jobs_of}
+use Rattle.lr_emptied.proofs.Acts.{sets_copying, sets_cut_copying, state_copying}
+use Rattle.lr_emptied.proofs.Entries.{none_empties, quiet_empties, both_empty, same_empties}
+use Rattle.lr_emptied.proofs.Jobs.{cut_way}
+use Rattle.lr_emptied.proofs.Steps.{plan_copied}
+use Rattle.lr_emptied.proofs.Whole.{empties_whole}
+use Rattle.lr_looks.specs.Families.{LookedLog}
+use Rattle.lr_looks.specs.Choices.{kept_of}
+use Rattle.lr_looks.specs.Sets.{looked_in}
+use Rattle.lr_looks.specs.Shown.{ShowsLooks}
+use Rattle.lr_rotations.specs.Apart.{HasNames}
+use Rattle.lr_rotations.specs.Target.{Target, IsJob, IsSeen, AreSeen}
+use Rattle.lr_rotations.proofs.Fitting.{first_named}
+use Rattle.lr_rotations.proofs.PartFile.{job_target}
+use Rattle.lr_rotations.proofs.Paths.{path_member}
+use Rattle.lr_rotations.proofs.SeenFits.{seen_names, seen_paths}
+use Rattle.lr_weave.specs.Planned.{AreReadyFor, HaveLogs}
+use Rattle.lr_fields.specs.Built.{AreBuiltRules}
+use Rattle.lr_seen.specs.Targets.{groups_of, all_targets}
+use Rattle.lr_seen.proofs.Coming.{Comes, comes_from, was_looked, IsFrom, came_from}
+use Rattle.lr_seen.proofs.Elements.{in_list}
+use Rattle.lr_seen.proofs.Ready.{plans_have_logs}
+use Rattle.lr_seen.proofs.Seen.{targets_seen}
+use Rattle.lr_run.specs.declared.answer.Ran.{Ran}
+use Rattle.lr_run.specs.declared.answer.RunStop.{RunStop}
+use Rattle.lr_run.specs.declared.answer.RunStop.TheVariants as stop
+use Rattle.lr_run.specs.Answers.{Answers}
+use Rattle.lr_run.specs.Copied.{IsCopyBy}
+use Rattle.lr_run.specs.Runs as runs
+use Rattle.lr_run.specs.Runs.{Looked, plan_in, Worked, Works, not_known, too_big, worked, Runs, no_directory, not_seen, not_begun, BrokeOff, at_first, in_looks, in_acts}
+use Rattle.lr_run.proofs.Shape.{sees_quiet, some_quiet, seen_quiet, looked_parts, in_parts}
+
+-- ---- the copies of a plan are those of its logs
+
+-- the copy is that of one of these logs
+record IsOfTarget (ts : List Target) (job : Job) : Type 0 where
+  target : Target
+  one : IsIn target ts
+  is : target.job ≡ Some job
+
+in_one : (o : Option Job) (job : Job) → IsIn job (job_in o) → o ≡ Some job
+in_one None job i = absurd i
+in_one (Some j) job (inl e) = ap Some e
+in_one (Some j) job (inr none) = absurd none
+
+of_logs : (ts : List Target) (logs : List LogPlan) (job : Job) → AreReadyFor ts logs → IsIn job (jobs_in logs) → IsOfTarget ts job
+of_logs [] [] job r i = absurd i
+of_logs [] (l ∷ ls) job r i = absurd r
+of_logs (t ∷ ts) [] job r i = absurd r
+of_logs (t ∷ ts) (l ∷ ls) job r i = ⊎_elim (λ a. record { target = t; one = inl refl; is = sym r.0.job_is ∙ in_one l.job job a }) (λ b. further (of_logs ts ls job r.1 b)) (in_append job (job_in l.job) (jobs_in ls) i)
+  where
+    further : IsOfTarget ts job → IsOfTarget (t ∷ ts) job
+    further o = record { target = o.target; one = inr o.one; is = o.is }
+
+of_groups : (groups : List (List Target)) (sets : List SetPlan) (job : Job) → HaveLogs groups sets → IsIn job (jobs_of sets) → IsOfTarget (flat_map (λ ts. ts) groups) job
+of_groups [] [] job h i = absurd i
+of_groups [] (s ∷ ss) job h i = absurd h
+of_groups (ts ∷ groups) [] job h i = absurd h
+of_groups (ts ∷ groups) (s ∷ ss) job h i = ⊎_elim (λ a. here (of_logs ts s.logs job h.0 a)) (λ b. there (of_groups groups ss job h.1 b)) (in_append job (jobs_in s.logs) (jobs_of ss) i)
+  where
+    here : IsOfTarget ts job → IsOfTarget (flat_map (λ us. us) (ts ∷ groups)) job
+    here o = record { target = o.target; one = in_front o.target ts (flat_map (λ us. us) groups) o.one; is = o.is }
+
+    there : IsOfTarget (flat_map (λ us. us) groups) job → IsOfTarget (flat_map (λ us. us) (ts ∷ groups)) job
+    there o = record { target = o.target; one = in_back o.target ts (flat_map (λ us. us) groups) o.one; is = o.is }
+
+-- ---- the rule of a log
+
+-- One of the rules names the log's members, and says by which copy.
+record HasRule (rules : List Rule) (t : Target) : Type 0 where
+  rule : Rule
+  among : Contains rules rule
+  naming_is : naming_of rule t.log ≡ t.naming
+  look : LogLook
+  job_is : job_of rule look ≡ t.job
+
+has_rule : {reserved : List Path} (rules : List Rule) (sets : List SetLooks) (faults : List Fault) (ts : List Entry) (t : Target) → ShowsLooks reserved rules sets faults ts → Comes rules sets t → HasRule rules t
+has_rule rules sets faults ts t s c = subst (HasRule rules) (sym c.is) (record {
+  rule = c.rule;
+  among = in_to c.rule rules (in_list rules c.place c.rule c.at_rule);
+  naming_is = ap (λ (r : Rule). naming_of r x.path) same ∙ (ap (naming_of o.by_word.word.rule) (sym o.path_is) ∙ (naming ∙ o.naming_is));
+  look = c.look;
+  job_is = refl;
+})
+  where
+    x : LookedLog
+    x = looked_in (0 + c.place) c.look
+
+    came : (o : IsFrom rules s.entries.front s.found x) × IsIn o.found (kept_of s.found s.keeps.choices)
+    came = came_from rules sets faults ts s x (was_looked 0 c.place s.looked sets c.set c.look s.by_sets c.at_set c.among)
+
+    o : IsFrom rules s.entries.front s.found x
+    o = came.0
+
+    none_more : (n : ℕ) → 0 + n ≡ n
+    none_more n = omega arith
+
+    same : c.rule ≡ o.by_word.word.rule
+    same = same_read rules c.place c.rule o.by_word.word.rule c.at_rule (subst (λ (n : ℕ). slice_get rules n ≡ Some o.by_word.word.rule) (none_more c.place) o.at)
+
+    naming : naming_of o.by_word.word.rule o.found.log.path ≡ o.found.log.naming
+    naming = subst (λ (f : _). naming_of o.by_word.word.rule f.log.path ≡ f.log.naming) (sym o.by_word.is) refl
+
+seen_one : (rules : Rules) (looks : List Entry) (t : Target) (ts : List Target) → AreSeen rules looks ts → IsIn t ts → IsSeen rules looks t
+seen_one rules looks t [] s i = absurd i
+seen_one rules looks t (u ∷ us) s (inl e) = subst (IsSeen rules looks) e s.0
+seen_one rules looks t (u ∷ us) s (inr i) = seen_one rules looks t us s.1 i
+
+-- a copy of a plan that empties its log is one that a rule asks for
+is_copy : {reserved : List Path} (rules : Rules) (sets : List SetLooks) (faults : List Fault) (ts : List Entry) (decide : Rule → LogLook → Due) → AreBuiltRules rules.sets → ShowsLooks reserved rules.sets sets faults ts
+    → (job : Job) → IsIn job (jobs_of (all_plans decide rules.sets sets)) → job.cut ≡ true → IsCopyBy rules.sets job
+is_copy rules sets faults ts decide built s job i cut = record {
+  rule = r.rule;
+  among = r.among;
+  way_is = cut_way r.rule r.look job (r.job_is ∙ o.is) cut;
+  newest = subst (λ (log : Path). IsMemberAt (naming_of r.rule log) 0 job.to) (sym j.from_is) (subst (λ (n : Naming). IsMemberAt n 0 job.to) (sym r.naming_is)
+      (subst (IsMemberAt t.naming 0) (sym (job_target t job h.ready j)) (path_member t.naming 0 (first_named t.naming t.count (places_of t.stand.members) h.next))));
+  part_is = j.part_is;
+  paths = seen_paths rules ts t job seen o.is;
+  cut = cut;
+}
+  where
+    o : IsOfTarget (all_targets decide rules.sets sets) job
+    o = of_groups (groups_of decide rules.sets sets) (all_plans decide rules.sets sets) job (plans_have_logs rules.sets sets faults ts decide built s) i
+
+    t : Target
+    t = o.target
+
+    r : HasRule rules.sets t
+    r = has_rule rules.sets sets faults ts t s (comes_from decide rules.sets sets t o.one)
+
+    seen : IsSeen rules ts t
+    seen = seen_one rules ts t (all_targets decide rules.sets sets) (targets_seen rules sets faults ts decide built s) o.one
+
+    h : HasNames t
+    h = seen_names rules ts t seen
+
+    j : IsJob t job
+    j = (seen.job job o.is).0
+
+-- ---- what a run leaves
+
+-- by other jobs, of which each that empties its log is one of these
+copied_as : (P Q : Job → Type 0) → ((job : Job) → P job → job.cut ≡ true → Q job) → (ts : List Entry) → EmptiesCopied P ts → EmptiesCopied Q ts
+copied_as P Q f ts e = λ before log after is. let c = e before log after is in record {
+  job = c.job;
+  is = f c.job c.is c.cut;
+  from_is = c.from_is;
+  cut = c.cut;
+  count = c.count;
+  front = c.front;
+  named = c.named;
+  joined = c.joined;
+  is_named = c.is_named;
+}
+
+module _ (state : Path) (rules : Rules) (now : Moment) (force : Bool) (built : AreBuiltRules rules.sets) where
+  abbrev P : Job → Type 0
+  P = IsCopyBy rules.sets
+
+  quiet_none : (ts : List Entry) → AreQuiet ts → EmptiesCopied P ts
+  quiet_none ts q = quiet_empties P ts q
+
+  module _ (ts : List Entry) (l : Looked state rules.sets ts) where
+    abbrev planned : Plan
+    planned = plan_in state rules.sets ts l now force
+
+    abbrev Planned : Job → Type 0
+    Planned = IsJobIn (jobs_of planned.sets)
+
+    acts_copied : (acts : List Entry) → EmptiesCopied Planned acts → EmptiesCopied P ((l.reads ++ l.looks) ++ acts)
+    acts_copied acts e = both_empty P (l.reads ++ l.looks) acts (quiet_none (l.reads ++ l.looks) (seen_quiet state rules.sets ts l))
+        (copied_as Planned P (λ job i cut. is_copy rules l.sets l.of_looks l.looks (decision l.remembered.table now force) built l.shown job i cut) acts e)
+
+  worked_copied : (own : List Fault) (ts : List Entry) → Worked state rules.sets now force own ts → EmptiesCopied P ts
+  worked_copied own ts w = same_empties P (((w.looked.reads ++ w.looked.looks) ++ w.acted.entries.entries.front) ++ w.acted.entries.entries.back) ts (in_parts state rules.sets now force own ts w)
+      (both_empty P ((w.looked.reads ++ w.looked.looks) ++ w.acted.entries.entries.front) w.acted.entries.entries.back
+      (acts_copied ts w.looked w.acted.entries.entries.front (sets_copying (Planned ts w.looked) (steps_of_plan (planned ts w.looked)) (plan_copied (Planned ts w.looked) (planned ts w.looked).sets (λ job i. i)) w.acted.marks w.acted.entries.of_plan w.acted.entries.entries.front w.acted.entries.entries.first))
+      (state_copying P state w.looked.remembered.stale w.acted.dirs _ [] w.acted.entries.of_state w.acted.entries.entries.back w.acted.entries.entries.second))
+
+  works_copied : (plan : Option Plan) (own : List Fault) (ts : List Entry) → Works state rules.sets now force plan own ts → EmptiesCopied P ts
+  works_copied plan own ts (not_known sights f known lost is shown) = quiet_none ts (state_quiet state 65_536 sights ts shown)
+  works_copied plan own ts (too_big l big lost is none) = quiet_none ts (subst AreQuiet (sym (l.joined ∙ (ap (λ xs. l.reads ++ (l.looks ++ xs)) none ∙ ap (λ xs. l.reads ++ xs) (append-nil l.looks)))) (seen_quiet state rules.sets ts l))
+  works_copied plan own ts (worked w is) = worked_copied own ts w
+
+  broke_copied : (ts : List Entry) → BrokeOff state rules.sets now force ts → EmptiesCopied P ts
+  broke_copied ts b = same_empties P ((b.looked.reads ++ b.looked.looks) ++ b.looked.acts) ts (looked_parts state rules.sets ts b.looked)
+      (acts_copied ts b.looked b.looked.acts (sets_cut_copying (Planned ts b.looked) (steps_of_plan (planned ts b.looked)) (plan_copied (Planned ts b.looked) (planned ts b.looked).sets (λ job i. i)) b.marks b.of_acts b.looked.acts b.part))
+
+  -- between the begin and the end
+  within : (before between ts : List Entry) → ts ≡ before ++ (entry.Starts state now rules ∷ (between ++ entry.Ends ∷ [])) → AreQuiet before → EmptiesCopied P between → EmptiesCopied P ts
+  within before between ts e q c = same_empties P (before ++ (entry.Starts state now rules ∷ (between ++ entry.Ends ∷ []))) ts e
+      (both_empty P before (entry.Starts state now rules ∷ (between ++ entry.Ends ∷ [])) (quiet_none before q)
+      (both_empty P (entry.Starts state now rules ∷ []) (between ++ entry.Ends ∷ []) (none_empties P (entry.Starts state now rules ∷ []) (tt, tt))
+      (both_empty P between (entry.Ends ∷ []) c (none_empties P (entry.Ends ∷ []) (tt, tt)))))
+
+  pub runs_copied : (plan : Option Plan) (own : List Fault) (ts : List Entry) → Runs state force now rules plan own ts → EmptiesCopied P ts
+  runs_copied plan own ts (no_directory lost e s) = quiet_none ts (sees_quiet (parent_of state) _ ts s)
+  runs_copied plan own ts (not_seen lost e s) = quiet_none ts (subst AreQuiet (sym s) tt)
+  runs_copied plan own ts (not_begun lost e t) = same_empties P (t.front ++ t.back) ts t.joined (both_empty P t.front t.back (quiet_none t.front (sees_quiet (parent_of state) IsDir t.front t.first)) (go t.second))
+    where
+      go : (t.back ≡ []) ⊎ (t.back ≡ entry.Starts state now rules ∷ []) → EmptiesCopied P t.back
+      go (inl none) = same_empties P [] t.back none (none_empties P [] tt)
+      go (inr one) = same_empties P (entry.Starts state now rules ∷ []) t.back one (none_empties P (entry.Starts state now rules ∷ []) (tt, tt))
+  runs_copied plan own ts (runs.began i) = within i.before i.between ts i.entries (sees_quiet (parent_of state) IsDir i.before i.directory) (works_copied plan own i.between i.within)
+
+  pub answers_copied : (earlier : List Fault) (r : Result Ran RunStop) (ts : List Entry) → Answers state false force now rules earlier r ts → EmptiesCopied P ts
+  answers_copied earlier (Ok ran) ts h = runs_copied ran.plan h.0 ts h.2
+  answers_copied earlier (Err stop.Held) ts h = quiet_none ts (sees_quiet (parent_of state) IsDir ts h)
+  answers_copied earlier (Err stop.Memory) ts (at_first e) = quiet_none ts (subst AreQuiet (sym e) tt)
+  answers_copied earlier (Err stop.Memory) ts (in_looks i) = within i.before i.between ts i.entries (sees_quiet (parent_of state) IsDir i.before i.directory) (quiet_none i.between (some_quiet state rules.sets i.between i.within))
+  answers_copied earlier (Err stop.Memory) ts (in_acts i) = within i.before i.between ts i.entries (sees_quiet (parent_of state) IsDir i.before i.directory) (broke_copied i.between i.within)
+
+-- ---- a call
+
+pub left_copied : (rules : List Rule) (R : List Entry → Type 0) {o n : Option Journal} → Left R o n → ((ts : List Entry) → R ts → EmptiesCopied (IsCopyBy rules) ts) → EmptiesWhole (IsCopyBy rules) o n
+left_copied rules R l f = empties_whole (IsCopyBy rules) (λ job copy. copy.paths) (left_as l f)
+
+pub run_copied : (state : Path) (force : Bool) (now : Moment) (rules : Rules) (earlier : List Fault) (r : Result Ran RunStop) {o n : Option Journal} → AreBuiltRules rules.sets → Left (Answers state false force now rules earlier r) o n → EmptiesWhole (IsCopyBy rules.sets) o n
+run_copied state force now rules earlier r built l = left_copied rules.sets (Answers state false force now rules earlier r) l (λ ts h. answers_copied state rules now force built earlier r ts h)
