@@ -15,9 +15,10 @@ use Rattle.lr_family.specs.declared.listing.Listing.{Listing}
 use Rattle.lr_family.specs.declared.spot.Spot.{Spot}
 use Rattle.lr_family.specs.declared.stand.StandStop.{StandStop}
 use Rattle.lr_family.specs.declared.stand.StandStop.TheVariants as stop
-use Rattle.lr_family.specs.Among.{StopsAmong, ShowsNoneIn}
+use Rattle.lr_family.specs.Among.{StopsAmong, StopsBehind, ShowsNoneIn}
 use Rattle.lr_family.specs.Listed.{NotListedAt, NotListed}
 use Rattle.lr_family.specs.Looks.{ShowsTo}
+use Rattle.lr_family.specs.Parts.{StopsBefore, ShowsNoParts}
 use Rattle.lr_family.specs.Spots.{path_at, spot_at, AreSpots}
 use Rattle.lr_looks.specs.Families.{FamilySight, Stood, Stopped, ShowsMembersIn, ShowsFamily, behind_listing, with_listing, not_listed, ShowFamilies, stop_fault, family_fault, family_faults}
 use Rattle.lr_looks.specs.Found.{FoundLog, HasNumbers, Hold}
@@ -47,6 +48,23 @@ to_member n names spots path P ts a s = spot_member n names spots here a
     here : Spot
     here = record { place = s.place; path = path }
 
+-- ---- part files
+
+-- a look at one of them that failed, or no memory
+before_none : (state : Path) (after : List Path) (why : StandStop) → StopsBefore after why → NoneEnds state (stop_fault why)
+before_none state [] (stop.Call k path) e = absurd (cc)
+before_none state [] (stop.NotFile path) e = absurd (cc)
+before_none state [] stop.Memory e = tt
+before_none state (x ∷ xs) (stop.Call k path) (inl e) = (looking_ends state k path (let same : k ≡ call.Look = cc in subst IsLooking (sym same) tt), tt)
+before_none state (x ∷ xs) (stop.Call k path) (inr e) = absurd (cc)
+before_none state (x ∷ xs) (stop.NotFile path) (inl e) = absurd (cc)
+before_none state (x ∷ xs) (stop.NotFile path) (inr e) = absurd (cc)
+before_none state (x ∷ xs) stop.Memory e = tt
+
+parts_none : (state : Path) (n : Naming) (names : List (List ℕ)) (why : StandStop) (ts : List Entry) → ShowsNoParts n names why ts → NoneEnds state (stop_fault why)
+parts_none state n names why ts (inl h) = subst (λ (w : StandStop). NoneEnds state (stop_fault w)) (sym h.0) tt
+parts_none state n names why ts (inr s) = before_none state s.after why s.stopped
+
 -- ---- one family
 
 module _ (state : Path) (f : FoundLog) (free : IsFreeLog (reserved_by state) f) (numbers : HasNumbers f) where
@@ -63,7 +81,8 @@ module _ (state : Path) (f : FoundLog) (free : IsFreeLog (reserved_by state) f) 
 
   none_in : (there : Bool) (names : List (List ℕ)) (why : StandStop) (ts : List Entry) → ShowsNoneIn f.log.naming there names why ts → NoneEnds state (stop_fault why)
   none_in true names why ts (inl h) = memory_none why h.0
-  none_in true names why ts (inr s) = among_none names why ts s
+  none_in true names why ts (inr (inl s)) = among_none names why ts s
+  none_in true names why ts (inr (inr s)) = parts_none state f.log.naming names why s.1.back s.1.second
   none_in false names why ts h = absurd h
 
   members_none : (l : Listing) (s : FamilySight) (ts : List Entry) → ShowsMembersIn f.log.naming l s ts → NoneEnds state (family_fault s)
