@@ -19,6 +19,7 @@ use Rattle.lr_looks.specs.Families.{HadMemory, AllHadMemory, FamilySight, Stood,
 use Rattle.lr_looks.specs.Found.{FoundLog}
 use Rattle.lr_fixed.proofs.Listings.{OneListing, one_listing, listing_or_none, AreSame, KnownAlike, more_alike}
 use Rattle.lr_fixed.proofs.Members.{stands_same, stops_same, stands_or_stops}
+use Rattle.lr_fixed.proofs.Parts.{parts_same, behind_never}
 use Rattle.lr_fixed.proofs.Peeled.{front_same, then_same, joined_same, one_look}
 
 -- the two are one, and so are their entries and what comes behind
@@ -31,11 +32,15 @@ IsSure s = HadMemory s × (calls_in (family_fault s) ≡ 0)
 
 -- ---- the members
 
--- what stands is told by its three parts
-stand_same : (a b : Stand) → a.there ≡ b.there → a.parent ≡ b.parent → a.members ≡ b.members → a ≡ b
-stand_same a b p q r = ap {B = Stand} (λ (x : Bool). record { there = x; parent = a.parent; members = a.members }) p ∙ (ap {B = Stand} (λ (x : Bool). record { there = b.there; parent = x; members = a.members }) q ∙ ap {B = Stand} (λ (x : List Member). record { there = b.there; parent = b.parent; members = x }) r)
+-- what stands is told by its four parts
+stand_same : (a b : Stand) → a.there ≡ b.there → a.parent ≡ b.parent → a.members ≡ b.members → a.parts ≡ b.parts → a ≡ b
+stand_same a b p q r s =
+    ap {B = Stand} (λ (x : Bool). record { there = x; parent = a.parent; members = a.members; parts = a.parts }) p
+    ∙ (ap {B = Stand} (λ (x : Bool). record { there = b.there; parent = x; members = a.members; parts = a.parts }) q
+    ∙ (ap {B = Stand} (λ (x : List Member). record { there = b.there; parent = b.parent; members = x; parts = a.parts }) r
+    ∙ ap {B = Stand} (λ (x : List Path). record { there = b.there; parent = b.parent; members = b.members; parts = x }) s))
 
--- what the looks at the members among names showed
+-- what the looks at the members among names, and at their part files, showed
 abbrev ShowsAt : Naming → Bool → Bool → List (List ℕ) → FamilySight → List Entry → Type 0
 ShowsAt n there parent names (Stood stand) ts = ShowsIn n there parent names stand ts
 ShowsAt n there parent names (Stopped why) ts = ((why ≡ stop.Memory) × (ts ≡ [])) ⊎ ShowsNoneIn n there names why ts
@@ -49,15 +54,21 @@ module _ (n : Naming) (parent : Bool) (names more : List (List ℕ)) (perm : IsP
   -- two stands are one
   both_stood : (there : Bool) (a b : Stand) → ShowsIn n there parent names a ts → ShowsIn n there parent more b us → One (Stood a) (Stood b) ts us vs ws
   both_stood true a b h g =
-      let r = stands_same n names more perm a.members b.members ts us vs ws h.2 g.2 e in
-      (ap (λ s. Stood s) (stand_same a b (h.0 ∙ sym g.0) (h.1 ∙ sym g.1) r.0), r.1, r.2)
-  both_stood false a b h g = (ap (λ s. Stood s) (stand_same a b (h.0 ∙ sym g.0) (h.1 ∙ sym g.1) (h.2.0 ∙ sym g.2.0)), h.2.1 ∙ sym g.2.1, front_same ts us [] [] vs ws h.2.1 g.2.1 e)
+      let r = stands_same n names more perm a.members b.members h.2.front g.2.front (h.2.back ++ vs) (g.2.back ++ ws) h.2.first g.2.first (then_same ts us vs ws h.2 g.2 e) in
+      let q = parts_same n names more perm a.parts b.parts h.2.back g.2.back vs ws h.2.second g.2.second r.2 in
+      (ap (λ s. Stood s) (stand_same a b (h.0 ∙ sym g.0) (h.1 ∙ sym g.1) r.0 q.0), joined_same ts us h.2 g.2 r.1 q.1, q.2)
+  both_stood false a b h g = (
+    ap (λ s. Stood s) (stand_same a b (h.0 ∙ sym g.0) (h.1 ∙ sym g.1) (h.2.first.0 ∙ sym g.2.first.0) (h.2.second.0 ∙ sym g.2.second.0)),
+    joined_same ts us h.2 g.2 (h.2.first.1 ∙ sym g.2.first.1) (h.2.second.1 ∙ sym g.2.second.1),
+    front_same h.2.back g.2.back [] [] vs ws h.2.second.1 g.2.second.1 (front_same h.2.front g.2.front [] [] (h.2.back ++ vs) (g.2.back ++ ws) h.2.first.1 g.2.first.1 (then_same ts us vs ws h.2 g.2 e)),
+  )
 
   -- not a stand and a member that is no file
   stood_or_none : (there : Bool) (a : Stand) (path : Path) → ShowsIn n there parent names a ts → ((stop.NotFile path ≡ stop.Memory) × (us ≡ [])) ⊎ ShowsNoneIn n there more (stop.NotFile path) us → ⊥
   stood_or_none there a path h (inl g) = cc (g.0)
   stood_or_none true a path h (inr (inl g)) = cc (g.0)
-  stood_or_none true a path h (inr (inr g)) = stands_or_stops n names more perm a.members path ts us vs ws h.2 g e
+  stood_or_none true a path h (inr (inr (inl g))) = stands_or_stops n names more perm a.members path h.2.front us (h.2.back ++ vs) ws h.2.first g (sym (append_assoc h.2.front h.2.back vs) ∙ (sym (ap (λ x. x ++ vs) h.2.joined) ∙ e))
+  stood_or_none true a path h (inr (inr (inr g))) = behind_never n more path us g
   stood_or_none false a path h (inr g) = g
 
   -- two members that are no files are one
@@ -67,7 +78,9 @@ module _ (n : Naming) (parent : Bool) (names more : List (List ℕ)) (perm : IsP
   both_stopped there path other (inr h) (inl g) = absurd (cc (g.0))
   both_stopped true path other (inr (inl h)) (inr g) = absurd (cc (h.0))
   both_stopped true path other (inr (inr h)) (inr (inl g)) = absurd (cc (g.0))
-  both_stopped true path other (inr (inr h)) (inr (inr g)) = let r = stops_same n names more perm path other ts us vs ws h g e in (ap (λ p. Stopped (stop.NotFile p)) r.0, r.1, r.2)
+  both_stopped true path other (inr (inr (inr h))) (inr (inr g)) = absurd (behind_never n names path ts h)
+  both_stopped true path other (inr (inr (inl h))) (inr (inr (inr g))) = absurd (behind_never n more other us g)
+  both_stopped true path other (inr (inr (inl h))) (inr (inr (inl g))) = let r = stops_same n names more perm path other ts us vs ws h g e in (ap (λ p. Stopped (stop.NotFile p)) r.0, r.1, r.2)
   both_stopped false path other (inr h) (inr g) = absurd h
 
 -- a failed call counts

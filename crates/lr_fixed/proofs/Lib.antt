@@ -3,6 +3,7 @@ mod Spots
 mod Peeled
 mod Called
 mod Members
+mod Parts
 mod Listings
 mod Families
 mod LiteralPaths
@@ -13,10 +14,13 @@ mod Planned
 mod StateRead
 mod LookedOne
 mod Writing
+mod Keys
+mod PlanKeys
 mod Programs
 mod CountedListings
 mod Moves
 mod StateListsNone
+mod Agreeing
 mod Works
 mod Run
 mod Reports

@@ -1,4 +1,4 @@
--- Looks at paths list nothing: those for a literal word, at members, and at a directory that isn't listed then.
+-- Looks at paths list nothing: those for a literal word, at members, at part files, and at a directory that isn't listed then.
 use Rattle.std.proofs.Common.{◌≡◌, inl, inr, ℕ, Bool, true, false, List, [], ◌∷◌, map, Option, Ok, Err, sym, ◌∙◌, subst}
 use Rattle.lr_rules.specs.declared.path.Path.{Path}
 use Rattle.lr_rules.specs.declared.rule.Naming.{Naming}
@@ -14,9 +14,10 @@ use Rattle.lr_family.specs.declared.spot.Spot.{Spot}
 use Rattle.lr_family.specs.declared.stand.Member.{Member}
 use Rattle.lr_family.specs.declared.stand.StandStop.{StandStop}
 use Rattle.lr_family.specs.declared.stand.StandStop.TheVariants as stop
-use Rattle.lr_family.specs.Among.{ShowsMembers, ShowsNoneIn}
+use Rattle.lr_family.specs.Among.{StandsAmong, ShowsMembers, ShowsNoneIn}
 use Rattle.lr_family.specs.Listed.{NotListedAt, NotListed}
 use Rattle.lr_family.specs.Looks.{Sight as Glance, look_of as glance_of, ShowsTo}
+use Rattle.lr_family.specs.Parts.{PartSight, part_look, ShowsParts, ShowsNoParts}
 use Rattle.lr_family.specs.Stops.{SomeStopped}
 use Rattle.lr_glob.specs.declared.found.Found.{Found as Match}
 use Rattle.lr_glob.specs.declared.found.GlobStop.TheVariants as glob
@@ -74,17 +75,35 @@ stops_none spots (stop.Call kind path) ts s = to_none spots path (Are []) ts non
 stops_none spots (stop.NotFile path) ts s = to_none spots path (Sees path IsNoFile) ts (sees_none path IsNoFile) s
 stops_none spots stop.Memory ts s = subst AreNoListings (sym s.looks) (sights_none s.sights)
 
-none_in_none : (n : Naming) (there : Bool) (names : List _) (why : StandStop) (ts : List Entry) → ShowsNoneIn n there names why ts → AreNoListings ts
-none_in_none n true names why ts (inl h) = none_empty ts h.1
-none_in_none n true names why ts (inr s) = stops_none s.spots why ts s.looks
-none_in_none n false names why ts h = absurd h
+among_none : (n : Naming) (names : List _) (members : List Member) (ts : List Entry) → StandsAmong n names members ts → AreNoListings ts
+among_none n names members ts s = subst AreNoListings (sym s.looks.looks) (sights_none s.looks.sights)
 
 members_none : (n : Naming) (there : Bool) (names : List _) (members : List Member) (ts : List Entry) → ShowsMembers n there names members ts → AreNoListings ts
-members_none n true names members ts s = subst AreNoListings (sym s.looks.looks) (sights_none s.looks.sights)
+members_none n true names members ts s = among_none n names members ts s
 members_none n false names members ts h = none_empty ts h.1
 
+-- ---- the looks at part files
+
+part_sights_none : (ss : List PartSight) → AreNoListings (map part_look ss)
+part_sights_none [] = tt
+part_sights_none (s ∷ ss) = (tt, part_sights_none ss)
+
+parts_none : (n : Naming) (there : Bool) (names : List _) (parts : List Path) (ts : List Entry) → ShowsParts n there names parts ts → AreNoListings ts
+parts_none n true names parts ts s = subst AreNoListings (sym s.looks) (part_sights_none s.sights)
+parts_none n false names parts ts h = none_empty ts h.1
+
+no_parts_none : (n : Naming) (names : List _) (why : StandStop) (ts : List Entry) → ShowsNoParts n names why ts → AreNoListings ts
+no_parts_none n names why ts (inl h) = none_empty ts h.1
+no_parts_none n names why ts (inr s) = subst AreNoListings (sym s.looks) (part_sights_none s.sights)
+
+none_in_none : (n : Naming) (there : Bool) (names : List _) (why : StandStop) (ts : List Entry) → ShowsNoneIn n there names why ts → AreNoListings ts
+none_in_none n true names why ts (inl h) = none_empty ts h.1
+none_in_none n true names why ts (inr (inl s)) = stops_none s.spots why ts s.looks
+none_in_none n true names why ts (inr (inr s)) = none_both ts (among_none n names s.0) (no_parts_none n names why) s.1
+none_in_none n false names why ts h = absurd h
+
 pub members_in_none : (n : Naming) (l : Listing) (s : FamilySight) (ts : List Entry) → ShowsMembersIn n l s ts → AreNoListings ts
-members_in_none n l (Stood stand) ts h = members_none n l.there l.names stand.members ts h.2
+members_in_none n l (Stood stand) ts h = none_both ts (members_none n l.there l.names stand.members) (parts_none n l.there l.names stand.parts) h.2
 members_in_none n l (Stopped why) ts (inl h) = none_empty ts h.1
 members_in_none n l (Stopped why) ts (inr h) = none_in_none n l.there l.names why ts h
 

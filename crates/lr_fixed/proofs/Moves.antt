@@ -1,11 +1,12 @@
--- The acts of a plan are unlinks, renames, makings of logs and programs.
-use Rattle.std.proofs.Common.{◌≡◌, inl, inr, ℕ, Bool, true, false, bytes_eq, Option, List, [], ◌∷◌, map, refl, sym, ◌∙◌}
+-- The acts of a plan are unlinks, renames, makings of logs, the steps of copies and programs.
+use Rattle.std.proofs.Common.{◌≡◌, inl, inr, ℕ, Bool, true, false, bytes_eq, Option, List, [], ◌∷◌, map, refl, sym, ◌∙◌, subst}
 use Rattle.std.proofs.lemmas.Slice.Eq.{bytes_eq-Decides}
 use Rattle.lr_rules.specs.declared.path.Path.{Path}
-use Rattle.lr_rules.specs.Names.{the_log}
+use Rattle.lr_rules.specs.Names.{the_log, IsOwnName}
 use Rattle.lr_rules.specs.declared.fault.Fault.{Fault}
 use Rattle.lr_rules.specs.declared.fault.Phase.{Phase}
 use Rattle.lr_rules.specs.declared.rule.Rule.{Rule}
+use Rattle.lr_rules.specs.declared.rules.Rules.{Rules}
 use Rattle.lr_host.specs.declared.entry.Entry.{Entry}
 use Rattle.lr_host.specs.declared.entry.Entry.TheVariants as entry
 use Rattle.lr_host.specs.Lists.{IsIn}
@@ -13,12 +14,13 @@ use Rattle.lr_host.specs.Told.{Each}
 use Rattle.lr_host.proofs.Each.{each_append, each_as, none_pass}
 use Rattle.lr_due.specs.declared.answer.Due.{Due}
 use Rattle.lr_scripts.specs.declared.command.Command.{Command}
+use Rattle.lr_copy.proofs.EachOfBytes.{each_all, each_broke}
 use Rattle.lr_plan.specs.declared.looks.LogLook.{LogLook}
 use Rattle.lr_plan.specs.declared.looks.SetLooks.{SetLooks}
 use Rattle.lr_plan.specs.declared.mark.Mark.{Mark}
 use Rattle.lr_plan.specs.declared.step.SetSteps.{SetSteps}
 use Rattle.lr_plan.specs.declared.step.Step.{Step}
-use Rattle.lr_plan.specs.declared.step.Step.TheVariants.{Runs, Removes, Renames, Creates, Rotated}
+use Rattle.lr_plan.specs.declared.step.Step.TheVariants.{Runs, Removes, Renames, Creates, Takes, Copies, SyncsFile, SyncsDir, Truncates, Rotated}
 use Rattle.lr_plan.specs.Outcomes.{Succeeds, Fails, ProgramFailed, badly, not_run, maybe_run}
 use Rattle.lr_plan.specs.Done.{SetsDone}
 use Rattle.lr_plan.specs.Planned.{all_plans}
@@ -27,9 +29,11 @@ use Rattle.lr_acts.specs.Making.{all_of_sets}
 use Rattle.lr_run.proofs.Folded.{Folds, acts_fold}
 use Rattle.lr_fields.specs.Built.{AreBuiltRules}
 use Rattle.lr_run.proofs.Simple.{IsSimple, AreSimple, plan_simple}
-use Rattle.lr_run.proofs.Stating.{none_leaves, one_leaves, maybe_leaves}
+use Rattle.lr_run.proofs.Stating.{none_leaves, one_leaves, maybe_leaves, take_fails}
 use Rattle.lr_fixed.proofs.CountedListings.{IsNoListing, AreNoListings}
+use Rattle.lr_rotations.specs.Apart.{HaveNames}
 use Rattle.lr_rotations.specs.Target.{Target}
+use Rattle.lr_rotations.proofs.Apart.{part_own}
 use Rattle.lr_weave.specs.Parts.{MakesOnly, MakesOne}
 use Rattle.lr_weave.proofs.Parting.{sets_parts}
 use Rattle.lr_weave.proofs.Planning.{ready_planned}
@@ -39,14 +43,20 @@ use Rattle.lr_seen.specs.Targets.{groups_of, all_targets}
 use Rattle.lr_seen.proofs.Apart.{targets_apart}
 use Rattle.lr_seen.proofs.Free.{targets_free}
 use Rattle.lr_seen.proofs.Ready.{plans_have_logs}
+use Rattle.lr_seen.proofs.Seen.{targets_have_names}
 use Rattle.lr_plan.specs.Steps.{state_part}
 use Rattle.lr_fixed.proofs.Writing.{is_make, makes_in}
 
--- an unlink, a rename, the making of a file, or a program
+-- an unlink, a rename, the making, filling or emptying of a file, a read of one, a sync, or a program
 abbrev pub IsMove : Entry → Type 0
 IsMove (entry.Unlinks path) = Unit {0}
 IsMove (entry.Renames from to) = Unit {0}
 IsMove (entry.Makes path mode) = Unit {0}
+IsMove (entry.Reads path place piece) = Unit {0}
+IsMove (entry.Appends path piece) = Unit {0}
+IsMove (entry.Truncates path) = Unit {0}
+IsMove (entry.SyncsFile path) = Unit {0}
+IsMove (entry.SyncsDir path) = Unit {0}
 IsMove (entry.Runs program args input end) = Unit {0}
 IsMove _ = ⊥
 
@@ -57,6 +67,11 @@ made_moves (Runs p on command) ts i h = one_leaves IsMove _ ts tt h
 made_moves (Removes path) ts i h = one_leaves IsMove (entry.Unlinks path) ts tt h
 made_moves (Renames from to) ts i h = one_leaves IsMove (entry.Renames from to) ts tt h
 made_moves (Creates path mode) ts i h = maybe_leaves IsMove (entry.Makes path mode) ts tt h
+made_moves (Takes path mode) ts i h = one_leaves IsMove (entry.Makes path mode) ts tt h
+made_moves (Copies from to limit) ts i h = each_all IsMove from to (λ k piece. tt) (λ piece. tt) limit h.0 ts h.1
+made_moves (SyncsFile path) ts i h = one_leaves IsMove (entry.SyncsFile path) ts tt h
+made_moves (SyncsDir path) ts i h = one_leaves IsMove (entry.SyncsDir path) ts tt h
+made_moves (Truncates path) ts i h = one_leaves IsMove (entry.Truncates path) ts tt h
 made_moves (Rotated log) ts i h = none_leaves IsMove ts h
 made_moves _ ts i h = absurd i
 
@@ -70,6 +85,11 @@ failed_moves (Runs p on command) f ts i h = program_moves p on command f ts h
 failed_moves (Removes path) f ts i h = maybe_leaves IsMove (entry.Unlinks path) ts tt h.1
 failed_moves (Renames from to) f ts i h = maybe_leaves IsMove (entry.Renames from to) ts tt h.1
 failed_moves (Creates path mode) f ts i h = maybe_leaves IsMove (entry.Makes path mode) ts tt h.1
+failed_moves (Takes path mode) f ts i h = take_fails IsMove path mode f ts tt h
+failed_moves (Copies from to limit) f ts i h = each_broke IsMove from to (λ k piece. tt) (λ piece. tt) limit h.0 ts h.2
+failed_moves (SyncsFile path) f ts i h = maybe_leaves IsMove (entry.SyncsFile path) ts tt h.1
+failed_moves (SyncsDir path) f ts i h = maybe_leaves IsMove (entry.SyncsDir path) ts tt h.1
+failed_moves (Truncates path) f ts i h = maybe_leaves IsMove (entry.Truncates path) ts tt h.1
 failed_moves (Rotated log) f ts i h = absurd h
 failed_moves _ f ts i h = absurd i
 
@@ -99,27 +119,25 @@ pub moves_list_none : (ts : List Entry) → Each IsMove ts → AreNoListings ts
 moves_list_none ts m = each_as IsMove IsNoListing ts no_listing m
 
 -- what they make is no file that the run reserves for itself
-not_reserved : (reserved : List Path) (ts : List Target) (x part : Path) (mode : Option ℕ) → AreFreeOf reserved ts → IsIn part reserved → MakesOne ts (entry.Makes x mode) → x ≡ part → ⊥
-not_reserved reserved [] x part mode free i h e = h
-not_reserved reserved (t ∷ ts) x part mode free i (inl is) e = free.0 part i (inl (the_log (sym e ∙ is)))
-not_reserved reserved (t ∷ ts) x part mode free i (inr h) e = not_reserved reserved ts x part mode free.1 i h e
+not_reserved : (reserved : List Path) (ts : List Target) (x part : Path) (mode : Option ℕ) → HaveNames ts → AreFreeOf reserved ts → IsIn part reserved → MakesOne ts (entry.Makes x mode) → x ≡ part → ⊥
+not_reserved reserved [] x part mode names free i h e = h
+not_reserved reserved (t ∷ ts) x part mode names free i (inl (inl is)) e = free.0 part i (inl (the_log (sym e ∙ is)))
+not_reserved reserved (t ∷ ts) x part mode names free i (inl (inr p)) e = free.0 part i (inl (subst (IsOwnName t.log t.naming) (sym p.2 ∙ e) (part_own t names.0 p.0 p.1)))
+not_reserved reserved (t ∷ ts) x part mode names free i (inr h) e = not_reserved reserved ts x part mode names.1 free.1 i h e
 
-no_make : (reserved : List Path) (ts : List Target) (part : Path) (e : Entry) → AreFreeOf reserved ts → IsIn part reserved → MakesOnly (MakesOne ts) e → is_make part e ≡ false
-no_make reserved ts part (entry.Makes x mode) free i h = go (bytes_eq x part) refl
+no_make : (reserved : List Path) (ts : List Target) (part : Path) (e : Entry) → HaveNames ts → AreFreeOf reserved ts → IsIn part reserved → MakesOnly (MakesOne ts) e → is_make part e ≡ false
+no_make reserved ts part (entry.Makes x mode) names free i h = go (bytes_eq x part) refl
   where
     go : (b : Bool) → bytes_eq x part ≡ b → b ≡ false
-    go true same = absurd (not_reserved reserved ts x part mode free i h ((bytes_eq-Decides x part).0 same))
+    go true same = absurd (not_reserved reserved ts x part mode names free i h ((bytes_eq-Decides x part).0 same))
     go false differ = refl
-no_make reserved ts part (entry.Starts state now rules) free i h = absurd h
-no_make reserved ts part (entry.Appends x bytes) free i h = absurd h
-no_make reserved ts part (entry.Truncates x) free i h = absurd h
-no_make reserved ts part _ free i h = refl
+no_make reserved ts part _ names free i h = refl
 
 -- the acts of the plan make no part file of the state
-pub acts_make_none : (state : Path) (rules : List Rule) (sets : List SetLooks) (decide : Rule → LogLook → Due) (of_looks : List Fault) (looks : List Entry) (ms : List Mark) (fs : List Fault) (ts : List Entry) → AreBuiltRules rules → ShowsLooks (reserved_by state) rules sets of_looks looks
-    → SetsDone (map steps_of_set (all_plans decide rules sets)) ms fs ts → makes_in (state_part state) ts ≡ []
+pub acts_make_none : (state : Path) (rules : Rules) (sets : List SetLooks) (decide : Rule → LogLook → Due) (of_looks : List Fault) (looks : List Entry) (ms : List Mark) (fs : List Fault) (ts : List Entry) → AreBuiltRules rules.sets → ShowsLooks (reserved_by state) rules.sets sets of_looks looks
+    → SetsDone (map steps_of_set (all_plans decide rules.sets sets)) ms fs ts → makes_in (state_part state) ts ≡ []
 acts_make_none state rules sets decide of_looks looks ms fs ts built shown done =
-    none_pass (is_make (state_part state)) ts (each_as (MakesOnly (MakesOne (all_targets decide rules sets))) (λ e. is_make (state_part state) e ≡ false) ts
-    (λ e h. no_make (reserved_by state) (all_targets decide rules sets) (state_part state) e (targets_free rules sets of_looks looks decide shown) (inr (inl refl)) h)
-    (sets_parts (MakesOne (all_targets decide rules sets)) (map steps_of_set (all_plans decide rules sets)) ms fs ts
-    (ready_planned (groups_of decide rules sets) (all_plans decide rules sets) (plans_have_logs rules sets of_looks looks decide built shown) (targets_apart rules sets of_looks looks decide shown)).plain done).only)
+    none_pass (is_make (state_part state)) ts (each_as (MakesOnly (MakesOne (all_targets decide rules.sets sets))) (λ e. is_make (state_part state) e ≡ false) ts
+    (λ e h. no_make (reserved_by state) (all_targets decide rules.sets sets) (state_part state) e (targets_have_names rules sets of_looks looks decide built shown) (targets_free rules.sets sets of_looks looks decide shown) (inr (inl refl)) h)
+    (sets_parts (MakesOne (all_targets decide rules.sets sets)) (map steps_of_set (all_plans decide rules.sets sets)) ms fs ts
+    (ready_planned (groups_of decide rules.sets sets) (all_plans decide rules.sets sets) (plans_have_logs rules.sets sets of_looks looks decide built shown) (targets_apart rules.sets sets of_looks looks decide shown)).plain done).only)

@@ -1,21 +1,25 @@
 -- The faults of a plan and what is done by it are those of looks that are alike.
-use Rattle.std.proofs.Common.{◌≡◌, ◌+◌, ◌&&◌, ℕ, Bool, not, List, [], ◌∷◌, ◌++◌, map, None, if◌then◌else◌, refl, sym, ap, ◌∙◌}
+use Rattle.std.proofs.Common.{◌≡◌, ◌+◌, ◌&&◌, ℕ, Bool, true, false, not, List, [], ◌∷◌, ◌++◌, map, Option, None, Some, if◌then◌else◌, refl, sym, ap, ◌∙◌}
 use Rattle.std.specs.List.{flat_map, list_any}
 use Rattle.lr_rules.specs.declared.civil.Moment.{Moment}
 use Rattle.lr_rules.specs.declared.fault.Fault.{Fault}
 use Rattle.lr_rules.specs.declared.fault.Fault.TheVariants as fault
 use Rattle.lr_rules.specs.declared.rule.Rule.{Rule}
+use Rattle.lr_rules.specs.declared.rule.Way.{Way}
+use Rattle.lr_rules.specs.declared.rule.Way.TheVariants as way
 use Rattle.lr_due.specs.declared.answer.Due.{Due}
 use Rattle.lr_due.specs.Due.{due_of}
 use Rattle.lr_state.specs.Table.{Entry as Row, moment_of}
+use Rattle.lr_family.specs.Parts.{part_of}
 use Rattle.lr_family.specs.Spots.{path_at}
 use Rattle.lr_chain.specs.Ready.{at_rest, with_members, is_highest, highest_path}
 use Rattle.lr_chain.specs.Rotation.{places_of}
 use Rattle.lr_commands.specs.Commands.{script, where_so}
+use Rattle.lr_copy.specs.declared.job.Job.{Job}
 use Rattle.lr_plan.specs.declared.looks.LogLook.{LogLook}
 use Rattle.lr_plan.specs.declared.looks.SetLooks.{SetLooks}
 use Rattle.lr_plan.specs.declared.planned.LogPlan.{LogPlan}
-use Rattle.lr_plan.specs.Planned.{make_of, decision, keeps_all, none_hinders, where_due, hindrances, log_plan, plans_of, log_plans, log_faults, set_plan, all_plans, all_faults}
+use Rattle.lr_plan.specs.Planned.{make_of, decision, keeps_all, none_hinders, where_due, hindrances, has_part, job_by, log_plan, plans_of, log_plans, log_faults, set_plan, all_plans, all_faults}
 use Rattle.lr_looks.specs.Families.{LookedLog}
 use Rattle.lr_looks.specs.Sets.{looked_in}
 use Rattle.lr_fixed.specs.Alike.{AreAlikeFrom, AreAlike}
@@ -24,14 +28,27 @@ use Rattle.lr_fixed.specs.Alike.{AreAlikeFrom, AreAlike}
 abbrev hindered : Rule → LookedLog → List Fault
 hindered rule l = if l.stand.there then (if keeps_all rule.count && list_any (is_highest l.naming) l.stand.members then fault.TooHigh (highest_path l.naming) ∷ [] else []) else fault.NoDir l.naming.dir ∷ []
 
--- what is done with it
-abbrev plan_for : Rule → LookedLog → LogPlan
-plan_for rule l = record {
+-- what is done with it, by rename or by this copy
+abbrev plan_for : Rule → LookedLog → Option Job → LogPlan
+plan_for rule l job = record {
   pre = where_so (not rule.shared) (script rule.scripts.pre (l.path ∷ []));
   post = where_so (not rule.shared) (script rule.scripts.post (l.path ∷ path_at l.naming 0 ∷ []));
   first_mail = None;
   ready = with_members l.naming rule.count (places_of l.stand.members) (at_rest l.path l.naming (make_of rule.create l.seen));
-  job = None;
+  job = job;
+}
+
+-- its copy
+abbrev copy_for : LookedLog → Bool → Job
+copy_for l cut = record {
+  from = l.path;
+  part = part_of (path_at l.naming 0);
+  to = path_at l.naming 0;
+  dir = l.naming.dir;
+  stale = has_part l.stand.parts (part_of (path_at l.naming 0));
+  mode = l.seen.mode;
+  cut = cut;
+  limit = 1099511627776;
 }
 
 -- two lists of logs that were looked at alike
@@ -40,6 +57,12 @@ first_looked set x y xs ys e = cc
 
 others_looked : (set : ℕ) (x y : LogLook) (xs ys : List LogLook) → map (looked_in set) (x ∷ xs) ≡ map (looked_in set) (y ∷ ys) → map (looked_in set) xs ≡ map (looked_in set) ys
 others_looked set x y xs ys e = cc
+
+-- whose copies are the same
+job_same : (set : ℕ) (w : Way) (x y : LogLook) → looked_in set x ≡ looked_in set y → job_by w x ≡ job_by w y
+job_same set way.Rename x y e = refl
+job_same set way.Copy x y e = ap (λ (l : LookedLog). Some (copy_for l false)) e
+job_same set way.CopyTruncate x y e = ap (λ (l : LookedLog). Some (copy_for l true)) e
 
 module _ (table : List Row) (now : Moment) (force : Bool) where
   -- the decision on it
@@ -82,10 +105,13 @@ module _ (table : List Row) (now : Moment) (force : Bool) where
   plans_same : (rule : Rule) (x y : LogLook) → hindrances rule x ≡ hindrances rule y → log_plan rule x ≡ log_plan rule y → plans_of rule x ≡ plans_of rule y
   plans_same rule x y h p = ap (λ fs. none_hinders fs (log_plan rule x ∷ [])) h ∙ ap (λ (l : LogPlan). none_hinders (hindrances rule y) (l ∷ [])) p
 
+  planned_same : (set : ℕ) (rule : Rule) (x y : LogLook) → looked_in set x ≡ looked_in set y → log_plan rule x ≡ log_plan rule y
+  planned_same set rule x y e = ap (λ (l : LookedLog). plan_for rule l (job_by rule.way x)) e ∙ ap (λ (j : Option Job). plan_for rule (looked_in set y) j) (job_same set rule.way x y e)
+
   one_same : (set : ℕ) (rule : Rule) (x y : LogLook) → looked_in set x ≡ looked_in set y → where_due (decision table now force rule x) (plans_of rule x) ≡ where_due (decision table now force rule y) (plans_of rule y)
   one_same set rule x y e =
       ap (λ (d : Due). where_due d (plans_of rule x)) (due_same set rule x y e)
-      ∙ ap (λ ls. where_due (decision table now force rule y) ls) (plans_same rule x y (ap (hindered rule) e) (ap (plan_for rule) e))
+      ∙ ap (λ ls. where_due (decision table now force rule y) ls) (plans_same rule x y (ap (hindered rule) e) (planned_same set rule x y e))
 
   logs_same : (set : ℕ) (rule : Rule) (xs ys : List LogLook) → map (looked_in set) xs ≡ map (looked_in set) ys → log_plans rule (decision table now force rule) xs ≡ log_plans rule (decision table now force rule) ys
   logs_same set rule [] [] e = refl

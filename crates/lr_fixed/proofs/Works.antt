@@ -10,6 +10,7 @@ use Rattle.lr_rules.specs.declared.fault.Fault.TheVariants as fault
 use Rattle.lr_rules.specs.declared.fault.StateKind.TheVariants as kind
 use Rattle.lr_rules.specs.declared.path.Path.{Path}
 use Rattle.lr_rules.specs.declared.rule.Rule.{Rule}
+use Rattle.lr_rules.specs.declared.rules.Rules.{Rules}
 use Rattle.lr_host.specs.declared.entry.Entry.{Entry}
 use Rattle.lr_host.specs.Counted.{calls_in}
 use Rattle.lr_plan.specs.declared.planned.SetPlan.{SetPlan}
@@ -24,8 +25,11 @@ use Rattle.lr_fields.specs.Built.{AreBuiltRules}
 use Rattle.lr_plan.specs.declared.planned.Plan.{Plan}
 use Rattle.lr_run.specs.Runs.{Looked, Worked, Works, not_known, too_big, worked, plan_in, measured_in}
 use Rattle.lr_run.proofs.Called.{none_before, none_behind}
+use Rattle.lr_run.proofs.Stating.{state_writing}
 use Rattle.lr_run.proofs.Works.{steps_simple}
+use Rattle.lr_fixed.proofs.Agreeing.{acts_agree}
 use Rattle.lr_fixed.proofs.Called.{one_uncalled}
+use Rattle.lr_fixed.proofs.Keys.{shown, Agree}
 use Rattle.lr_fixed.proofs.LookedOne.{looks_are, acts_are, plans_are, sets_are, measured_is}
 use Rattle.lr_fixed.proofs.Moves.{acts_make_none}
 use Rattle.lr_fixed.proofs.Programs.{is_run, programs_in, sets_fixed}
@@ -35,7 +39,10 @@ use Rattle.lr_fixed.proofs.Writing.{is_make, makes_in, told_by, state_told}
 
 -- ---- one that acted
 
-module _ (state : Path) (rules : List Rule) (now : Moment) (force : Bool) (own : List Fault) (ts : List Entry) (built : AreBuiltRules rules) (w : Worked state rules now force own ts) (c : calls_in own ≡ 0) where
+module _ (state : Path) (rules : List Rule) (now : Moment) (force : Bool) (own : List Fault) (ts : List Entry) (built : AreBuiltRules rules) (limits : list_all meets_limits rules ≡ true) (w : Worked state rules now force own ts) (c : calls_in own ≡ 0) where
+  abbrev given : Rules
+  given = record { sets = rules; limits = limits }
+
   -- no call failed behind the looks
   no_call : calls_in ((plan_in state rules ts w.looked now force).faults ++ w.acted.of_acts) ≡ 0
   no_call = none_behind own w.looked.of_looks _ w.acted.faults_are c
@@ -49,7 +56,7 @@ module _ (state : Path) (rules : List Rule) (now : Moment) (force : Bool) (own :
   made_is =
       ap (makes_in (state_part state)) w.acted.entries.entries.joined
       ∙ (filter-append (is_make (state_part state)) w.acted.entries.entries.front w.acted.entries.entries.back
-      ∙ ap (λ es. es ++ makes_in (state_part state) w.acted.entries.entries.back) (acts_make_none state rules w.looked.sets (decision w.looked.remembered.table now force) w.looked.of_looks w.looked.looks w.acted.marks w.acted.entries.of_plan w.acted.entries.entries.front built w.looked.shown w.acted.entries.entries.first))
+      ∙ ap (λ es. es ++ makes_in (state_part state) w.acted.entries.entries.back) (acts_make_none state given w.looked.sets (decision w.looked.remembered.table now force) w.looked.of_looks w.looked.looks w.acted.marks w.acted.entries.of_plan w.acted.entries.entries.front built w.looked.shown w.acted.entries.entries.first))
 
   -- by them the faults of the writing are told
   written_told : w.acted.entries.of_state ≡ told_by (state_part state) (makes_in (state_part state) w.looked.acts)
@@ -67,6 +74,11 @@ module _ (state : Path) (rules : List Rule) (now : Moment) (force : Bool) (own :
       ap programs_in w.acted.entries.entries.joined
       ∙ (filter-append is_run w.acted.entries.entries.front w.acted.entries.entries.back
       ∙ ap (λ es. programs_in w.acted.entries.entries.front ++ es) (state_runs_none state w.looked.remembered.stale w.acted.dirs _ w.acted.entries.of_state w.acted.entries.entries.back w.acted.entries.entries.second))
+
+  -- nothing that the faults of the plan's acts deny was done
+  agreed : Agree (shown w.looked.acts) w.acted.entries.of_plan w.acted.entries.entries.front
+  agreed = acts_agree state given w.looked.sets w.looked.of_looks w.looked.looks (decision w.looked.remembered.table now force) built w.looked.shown w.acted.marks w.acted.entries.of_plan w.looked.acts w.acted.entries.entries.front w.acted.entries.entries.back
+      w.acted.entries.entries.joined w.acted.entries.entries.first (state_writing state w.looked.remembered.stale w.acted.dirs _ w.acted.entries.of_state w.acted.entries.entries.back w.acted.entries.entries.second)
 
 -- ---- one that knew its state, and one that didn't
 
@@ -124,12 +136,13 @@ module _ (state : Path) (rules : List Rule) (now : Moment) (force : Bool) (own m
       done = subst (λ (ps : List SetPlan). SetsDone (map steps_of_set ps) v.acted.marks v.acted.entries.of_plan v.acted.entries.entries.front) (sets_are state rules now force ts us v.looked w.looked e no_v no_w limits) v.acted.entries.entries.first
 
       of_plan : v.acted.entries.of_plan ≡ w.acted.entries.of_plan
-      of_plan = (sets_fixed steps (steps_simple rules w.looked.sets w.looked.remembered.table now force) v.acted.marks w.acted.marks v.acted.entries.of_plan w.acted.entries.of_plan v.acted.entries.entries.front w.acted.entries.entries.front [] [] done w.acted.entries.entries.first
-          (no_call_acted state rules now force own ts built v c) (no_call_acted state rules now force more us built w d)
-          (sym (run_is state rules now force own ts built v c) ∙ (ap programs_in acts ∙ run_is state rules now force more us built w d))).faults_are
+      of_plan = (sets_fixed (shown v.looked.acts) steps (steps_simple rules w.looked.sets w.looked.remembered.table now force) v.acted.marks w.acted.marks v.acted.entries.of_plan w.acted.entries.of_plan v.acted.entries.entries.front w.acted.entries.entries.front [] [] done w.acted.entries.entries.first
+          (no_call_acted state rules now force own ts built limits v c) (no_call_acted state rules now force more us built limits w d)
+          (agreed state rules now force own ts built limits v c) (subst (λ (es : List Entry). Agree (shown es) w.acted.entries.of_plan w.acted.entries.entries.front) (sym acts) (agreed state rules now force more us built limits w d))
+          (sym (run_is state rules now force own ts built limits v c) ∙ (ap programs_in acts ∙ run_is state rules now force more us built limits w d))).faults_are
 
       of_state : v.acted.entries.of_state ≡ w.acted.entries.of_state
-      of_state = written_told state rules now force own ts built v c ∙ (ap (λ es. told_by (state_part state) (makes_in (state_part state) es)) acts ∙ sym (written_told state rules now force more us built w d))
+      of_state = written_told state rules now force own ts built limits v c ∙ (ap (λ es. told_by (state_part state) (makes_in (state_part state) es)) acts ∙ sym (written_told state rules now force more us built limits w d))
 
       of_acts : v.acted.of_acts ≡ w.acted.of_acts
       of_acts = v.acted.entries.faults_are ∙ (ap (λ fs. fs ++ v.acted.entries.of_state) of_plan ∙ (ap (λ fs. w.acted.entries.of_plan ++ fs) of_state ∙ sym w.acted.entries.faults_are))
