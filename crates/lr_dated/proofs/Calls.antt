@@ -1,5 +1,5 @@
 -- Safe goes on over calls that make the steps of a dated rotation.
-use Rattle.std.proofs.Common.{◌≡◌, ◌⊎◌, inl, Bool, true, false, cond, ◌||◌, refl, sym, ap, ◌∙◌, subst, bytes_eq, List, [], ◌∷◌, ◌++◌, Option, ℤ}
+use Rattle.std.proofs.Common.{◌≡◌, ◌⊎◌, inl, Bool, true, false, cond, ◌||◌, refl, sym, ap, ◌∙◌, subst, bytes_eq, List, [], ◌∷◌, ◌++◌, Option, Some, None, ℤ}
 use Rattle.std.specs.Prelude.{filter}
 use Rattle.lr_host.specs.declared.entry.Entry.{Entry}
 use Rattle.lr_host.specs.declared.entry.Entry.TheVariants as entry
@@ -7,6 +7,7 @@ use Rattle.lr_host.specs.declared.journal.Journal.{Journal}
 use Rattle.lr_host.specs.World.{Past, past, world, names, names_after, Change}
 use Rattle.lr_host.specs.Told.{Made, at_first, by_writer, by_tool, Left, not_told, is_told}
 use Rattle.lr_host.specs.Steps.{changes_of, is_change, FitAll, CanAll, Took}
+use Rattle.lr_host.specs.Safe.{KeepsSafe}
 use Rattle.lr_host.specs.Sets.{LogSet}
 use Rattle.lr_host.proofs.Left.{changes_filter, later_fit}
 use Rattle.lr_laws.specs.Rotation.{IsAside}
@@ -14,7 +15,7 @@ use Rattle.lr_laws.specs.Stays.{StaysSafe}
 use Rattle.lr_laws.proofs.Calls.{passed_aside, taken}
 use Rattle.lr_laws.proofs.Walk.{log_fits, log_filter}
 use Rattle.lr_dated.specs.Rotation.{has_turned, IsDatedStep, IsDatedRotation}
-use Rattle.lr_dated.specs.Stays.{RotatesDated}
+use Rattle.lr_dated.specs.Stays.{RotatesDated, KeepsSafeWhere}
 use Rattle.lr_dated.proofs.Walk.{walk}
 
 turned_filter : (s : LogSet) (es : List Entry) → has_turned s (filter is_change es) ≡ has_turned s es
@@ -61,3 +62,11 @@ took_dated {steps} {ok} (is_told {j = j} {k = k} {es = es} m h) can = λ s r a v
 
 pub dated_took : (steps : List Entry) (ok : Bool) (o n : Option Journal) → Left (Took steps ok) o n → CanAll o steps → StaysSafe (RotatesDated steps) o n
 dated_took steps ok o n left can = took_dated left can
+
+-- ---- under a condition
+
+pub safe_where : (when : LogSet → Past → Type 0) (o n : Option Journal) → KeepsSafe o n → KeepsSafeWhere when o n
+safe_where when (Some j) (Some k) h = λ s w journal safe steady. h s journal safe steady
+safe_where when None None h = tt
+safe_where when (Some j) None h = h
+safe_where when None (Some k) h = h

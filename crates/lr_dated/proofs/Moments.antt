@@ -1,13 +1,24 @@
--- No member is later than the one of the clock's moment with the next serial number.
-use Rattle.std.proofs.Common.{◌≡◌, ◌⊎◌, inl, inr, ⊎_elim, ℕ, ◌≤◌, ◌<◌, subst, sym, arith, ℤ, pos, negsuc, ◌≤ℤ◌, ◌<ℤ◌}
+-- No member is later than the one of the clock's moment with the next serial number; and moments don't go ahead where nothing is changed.
+use Rattle.std.proofs.Common.{◌≡◌, ◌⊎◌, ◌∙◌, inl, inr, ⊎_elim, ℕ, ◌≤◌, ◌<◌, subst, sym, arith, ℤ, pos, negsuc, ◌≤ℤ◌, ◌<ℤ◌, Some}
 use Rattle.std.proofs.lemmas.Bool.{cases_lt}
 use Rattle.std.proofs.lemmas.Int.{ints}
+use Rattle.lr_rules.specs.declared.clock.Clock.{Clock}
+use Rattle.lr_rules.specs.declared.path.Path.{Path}
 use Rattle.lr_rules.specs.declared.rule.Format.{Format}
 use Rattle.lr_rules.specs.Dated.{stamp_key, IsSerial, IsDatedAt}
+use Rattle.lr_host.specs.declared.entry.Entry.{Entry}
+use Rattle.lr_host.specs.Fits.{IsFileAt}
 use Rattle.lr_host.specs.Forward.{IsForward}
-use Rattle.lr_host.specs.Sets.{LogSet, Order, Dated, order, IsKeyBy}
-use Rattle.lr_host.specs.World.{Past, world, names}
-use Rattle.lr_dated.specs.Forward.{IsForwardBy, IsNextSerial}
+use Rattle.lr_host.specs.Quiet.{Quiet, here, wrote, looked}
+use Rattle.lr_host.specs.Sets.{LogSet, Order, Numbered, Dated, order, IsKeyBy}
+use Rattle.lr_host.specs.Steady.{IsKeyless}
+use Rattle.lr_host.specs.World.{Past, ◌▸◌, world, names, step}
+use Rattle.lr_host.proofs.Quiet.{wrote_same, looked_names}
+use Rattle.lr_laws.proofs.Disk.{KeepsClosed}
+use Rattle.lr_laws.proofs.Writing.{no_key}
+use Rattle.lr_dated.specs.Forward.{IsForwardBy, IsForwardFor, IsNextSerial}
+use Rattle.lr_dated.proofs.Tame.{IsTame, had_before, closed_writer, tame_writer, closed_quiet, tame_quiet}
+use Rattle.lr_dated.proofs.Whole.{keyed}
 
 serial_small : (f : Format) (k : ℕ) → IsSerial f k → k ≤ 4294967295
 serial_small f k (inl zero) = omega arith
@@ -44,3 +55,30 @@ moment_forward s p seconds serial dated by next small n undone lv y v is f = go 
         by_moment (inr same) =
             let now : IsDatedAt s.naming seconds k y = subst (λ (u : ℤ). IsDatedAt s.naming u k y) same at in
             lower t seconds k serial same (next.above y k now (by.none_back n undone lv y k now f))
+
+-- ---- where nothing is changed
+
+-- behind a step by which no member gets a file, and none loses it
+by_on : (s : LogSet) (p : Past) (e : Entry) (seconds : ℤ) → order s ≡ Dated → KeepsClosed (world p) e → IsTame s (step (world p) e) → ((y : Path) (k : ℤ) → s.key y ≡ Some k → IsFileAt (names (world p)) y → IsFileAt (names (world (p ▸ e))) y)
+    → IsForwardBy s p seconds → IsForwardBy s (p ▸ e) seconds
+by_on s p e seconds dated cl tame stays by = record {
+  none_later = λ n undone lv y t serial at f. let b = had_before s p e cl tame n undone lv in by.none_later b.names b.undone b.left y t serial at (f.0, b.had y (stamp_key t serial) f.0 (keyed s dated y t serial at) f.1);
+  none_back = λ n undone lv y serial at f. let b = had_before s p e cl tame n undone lv in
+      stays y (stamp_key seconds serial) (keyed s dated y seconds serial at) (by.none_back b.names b.undone b.left y serial at (f.0, b.had y (stamp_key seconds serial) f.0 (keyed s dated y seconds serial at) f.1));
+}
+
+pub by_quiet : (s : LogSet) (p q : Past) (seconds : ℤ) → order s ≡ Dated → Quiet (IsKeyless s) p q → IsForwardBy s p seconds → IsForwardBy s q seconds
+by_quiet s p _ seconds dated here by = by
+by_quiet s p _ seconds dated (wrote {q = q} {e = e} w i f a) by = by_on s q e seconds dated (closed_writer (world q) e i) (tame_writer s (world q) e i a)
+    (λ y k is file. (file.0, wrote_same (IsKeyless s) q e y i a (λ none. no_key (s.key y) k is none) ∙ file.1)) (by_quiet s p q seconds dated w by)
+by_quiet s p _ seconds dated (looked {q = q} {e = e} w i f h) by = by_on s q e seconds dated (closed_quiet (world q) e (i, h)) (tame_quiet s (world q) e (i, h))
+    (λ y k is file. (file.0, looked_names q e y i h ∙ file.1)) (by_quiet s p q seconds dated w by)
+
+pub for_quiet : (clock : Clock) (s : LogSet) (p q : Past) → Quiet (IsKeyless s) p q → IsForwardFor clock s p → IsForwardFor clock s q
+for_quiet clock s p q quiet forward dated = by_quiet s p q _ dated quiet (forward dated)
+
+pub for_numbered : (clock : Clock) (s : LogSet) (p : Past) → order s ≡ Numbered → IsForwardFor clock s p
+for_numbered clock s p numbered dated = absurd (clash (order s) numbered dated)
+  where
+    clash : (o : Order) → o ≡ Numbered → o ≡ Dated → ⊥
+    clash o a b = cc

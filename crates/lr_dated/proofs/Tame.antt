@@ -145,29 +145,29 @@ closed_aside : (s : LogSet) (w : World) (e : Entry) → IsAside s e → KeepsClo
 closed_aside s w (entry.Cut kept lengths) out = absurd out
 closed_aside s w _ out = tt
 
-closed_writer : (w : World) (e : Entry) → IsWriters e → KeepsClosed w e
+pub closed_writer : (w : World) (e : Entry) → IsWriters e → KeepsClosed w e
 closed_writer w (entry.Cut kept lengths) i = absurd i
 closed_writer w _ i = tt
+
+pub closed_quiet : (w : World) (e : Entry) → ChangesNothing e → KeepsClosed w e
+closed_quiet w (entry.Cut kept lengths) i = absurd i.0
+closed_quiet w _ i = tt
+
+pub tame_quiet : (s : LogSet) (w : World) (e : Entry) → ChangesNothing e → IsTame s (step w e)
+tame_quiet s w (Attach v x at) i = absurd i.0
+tame_quiet s w (Renames from to) i = absurd (cc i.1)
+tame_quiet s w (Makes x mode) i = absurd (cc i.1)
+tame_quiet s w (MakesDir x mode) i = absurd (cc i.1)
+tame_quiet s w (Unlinks x) i = absurd (cc i.1)
+tame_quiet s w (entry.Cut kept lengths) i = absurd i.0
+tame_quiet s w (entry.SyncsDir x) i = tame_settles s x
+tame_quiet s w _ i = tame_stays s
 
 pub forward_writer : (s : LogSet) (p : Past) (e : Entry) (newest : ℤ) → IsWriters e → AttachesNoMember s e → IsForward s p newest → IsForward s (p ▸ e) newest
 forward_writer s p e newest i a forward = forward_on s p e (closed_writer (world p) e i) (tame_writer s (world p) e i a) newest forward
 
 pub forward_quiet : (s : LogSet) (p : Past) (e : Entry) (newest : ℤ) → ChangesNothing e → IsForward s p newest → IsForward s (p ▸ e) newest
-forward_quiet s p e newest i forward = forward_on s p e (closed e i) (tame e i) newest forward
-  where
-    closed : (e : Entry) → ChangesNothing e → KeepsClosed (world p) e
-    closed (entry.Cut kept lengths) i = absurd i.0
-    closed _ i = tt
-
-    tame : (e : Entry) → ChangesNothing e → IsTame s (step (world p) e)
-    tame (Attach v x at) i = absurd i.0
-    tame (Renames from to) i = absurd (cc i.1)
-    tame (Makes x mode) i = absurd (cc i.1)
-    tame (MakesDir x mode) i = absurd (cc i.1)
-    tame (Unlinks x) i = absurd (cc i.1)
-    tame (entry.Cut kept lengths) i = absurd i.0
-    tame (entry.SyncsDir x) i = tame_settles s x
-    tame _ i = tame_stays s
+forward_quiet s p e newest i forward = forward_on s p e (closed_quiet (world p) e i) (tame_quiet s (world p) e i) newest forward
 
 pub forward_aside : (s : LogSet) (p : Past) (e : Entry) (newest : ℤ) → IsAside s e → IsForward s p newest → IsForward s (p ▸ e) newest
 forward_aside s p e newest out forward = forward_on s p e (closed_aside s (world p) e out) (tame_aside s (world p) e out) newest forward

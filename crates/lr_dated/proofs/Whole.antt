@@ -35,10 +35,10 @@ use Rattle.lr_dated.specs.Turned.{AreFiles, IsOutside, StandSo, AreOld, IsDatedT
 use Rattle.lr_dated.proofs.Falling.{AreOthers, IsOne, AreKeyed, HasKey, AreLaterThan, others_gone, unlinked_same, removals_rotate, removals_fit, removals_turn}
 
 -- the steps, the newest first
-steps_are : (c : Count) (log target : Path) (all : List Ranked) → reverse (dated_rotation c log target all) ≡ map unlink (gone c 0 all) ++ Renames log target ∷ []
+pub steps_are : (c : Count) (log target : Path) (all : List Ranked) → reverse (dated_rotation c log target all) ≡ map unlink (gone c 0 all) ++ Renames log target ∷ []
 steps_are c log target all = reverse-append (Renames log target ∷ []) (reverse (map unlink (gone c 0 all))) ∙ ap (λ xs. xs ++ Renames log target ∷ []) (reverse-reverse (map unlink (gone c 0 all)))
 
-moved_other : (n : Names) (log target x : Path) → x ≢ log → x ≢ target → changed (Moves log target) n x ≡ n x
+pub moved_other : (n : Names) (log target x : Path) → x ≢ log → x ≢ target → changed (Moves log target) n x ≡ n x
 moved_other n log target x a b = put_other (put n log thing.Nothing) target x (n log) b ∙ put_other n log x thing.Nothing a
 
 -- the log has another path than what is free
@@ -50,13 +50,13 @@ log_moved n log target ne = put_other (put n log thing.Nothing) target log (n lo
 
 -- ---- keys by the naming
 
-abbrev HasStamp : Naming → Path → ℤ → Type 0
+abbrev pub HasStamp : Naming → Path → ℤ → Type 0
 HasStamp n x k = (seconds : ℤ) × (serial : ℕ) × (k ≡ stamp_key seconds serial) × IsDatedAt n seconds serial x
 
-one_stamp : (n : Naming) → or_none is_format n.dated ≡ true → IsOne (HasStamp n)
+pub one_stamp : (n : Naming) → or_none is_format n.dated ≡ true → IsOne (HasStamp n)
 one_stamp n good x a b (t, k, p, at) (u, l, q, bt) = let e = one_stamp_at n t u k l x good at bt in p ∙ (ap (λ v. stamp_key v k) e.0 ∙ (ap (stamp_key u) e.1 ∙ sym q))
 
-keyed_by : (n : Naming) (ms : List Ranked) → AreDatedAt n ms → AreKeyed (HasStamp n) ms
+pub keyed_by : (n : Naming) (ms : List Ranked) → AreDatedAt n ms → AreKeyed (HasStamp n) ms
 keyed_by n [] h = tt
 keyed_by n (m ∷ ms) h = ((m.seconds, m.serial, refl, h.0), keyed_by n ms h.1)
 

@@ -1,5 +1,6 @@
 // How the promise goes on over the entries of a dated rotation.
 ghost use Rattle.std.specs.Prelude.{◌≡◌, ℤ, Bool, false, List, Option};
+ghost use Rattle.lr_rules.specs.declared.clock.Clock.{Clock};
 ghost use Rattle.lr_host.specs.declared.entry.Entry.{Entry};
 ghost use Rattle.lr_host.specs.declared.journal.Journal.{Journal};
 ghost use Rattle.lr_host.specs.World.{Past, world, names};
@@ -9,12 +10,13 @@ ghost use Rattle.lr_host.specs.Steps.{CanAll, Took};
 ghost use Rattle.lr_host.specs.Sets.{LogSet, Dated, order};
 ghost use Rattle.lr_host.specs.Runs.{has_begun};
 ghost use Rattle.lr_host.specs.Forward.{IsForward};
-ghost use Rattle.lr_host.specs.Safe.{IsSafe};
+ghost use Rattle.lr_host.specs.Safe.{IsSafe, KeepsSafe};
 ghost use Rattle.lr_host.specs.Steady.{NoneAttached};
 ghost use Rattle.lr_laws.specs.Rotation.{LogFits};
 ghost use Rattle.lr_laws.specs.Stays.{StaysSafe};
+ghost use Rattle.lr_dated.specs.Forward.{IsForwardFor};
 ghost use Rattle.lr_dated.specs.Rotation.{IsDatedRotation};
-ghost use Rattle.lr_dated.specs.Stays.{RotatesDated};
+ghost use Rattle.lr_dated.specs.Stays.{RotatesDated, KeepsSafeWhere};
 
 /// A dated set that is safe is safe behind the entries of one rotation to a member that none is later than, with entries
 /// aside and writers' entries between them, in a run that has begun no rotation of the set: the log, which is a file there,
@@ -31,4 +33,10 @@ pub fn dated_rotation_stays_safe()
 pub fn dated_steps_stay_safe()
     ensures { (steps : List Entry) (ok : Bool) (before after : Option Journal) → Left (Took steps ok) before after
         → CanAll before steps → StaysSafe (RotatesDated steps) before after }
+{}
+
+/// A call that keeps each set safe keeps those safe of which a clock's condition holds.
+pub fn safe_without_clock()
+    ensures { (clock : Clock) (before after : Option Journal) → KeepsSafe before after
+        → KeepsSafeWhere (IsForwardFor clock) before after }
 {}
