@@ -1,0 +1,5 @@
+pub mod Names
+pub mod Picking
+pub mod Rotating
+pub mod Shows
+pub mod Stood

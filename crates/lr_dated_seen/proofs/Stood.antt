@@ -1,0 +1,177 @@
+-- The members that were seen stand, and no other does; so the log and they stand as its rotation asks for.
+use Rattle.std.proofs.Common.{◌≡◌, ◌≢◌, ◌⊎◌, inl, inr, ⊎_elim, ℕ, ℤ, ◌<◌, Bool, true, false, cond, refl, sym, ◌∙◌, ap, subst, List, [], ◌∷◌, map, reverse, Option, Some, None}
+use Rattle.std.specs.Prelude.{All, int_lt, IsSome}
+use Rattle.std.proofs.lemmas.List.Elements.{All-head, All-tail, All-cons, All-nil}
+use Rattle.lr_rules.specs.declared.path.Path.{Path}
+use Rattle.lr_rules.specs.declared.rule.Format.{Format}
+use Rattle.lr_rules.specs.declared.rule.Naming.{Naming}
+use Rattle.lr_rules.specs.Dated.{stamp_key, IsDatedAt}
+use Rattle.lr_rules.specs.Limits.{is_format, or_none}
+use Rattle.lr_host.specs.declared.entry.Entry.{Entry}
+use Rattle.lr_host.specs.declared.entry.Entry.TheVariants as entry
+use Rattle.lr_host.specs.declared.thing.Thing.TheVariants as thing
+use Rattle.lr_host.specs.Fits.{IsFileAt, IsDirectoryAt}
+use Rattle.lr_host.specs.Lists.{IsIn}
+use Rattle.lr_host.specs.Quiet.{ChangeNothing, Quiet}
+use Rattle.lr_host.specs.Sets.{LogSet, Dated, order, order_of}
+use Rattle.lr_host.specs.Steady.{NoneAttached, IsKeyless}
+use Rattle.lr_host.specs.Told.{Made}
+use Rattle.lr_host.specs.World.{Names, put, Moves, changed, Past, world, names}
+use Rattle.lr_host.proofs.Lists.{from_reverse}
+use Rattle.lr_host.proofs.Looked.{seen_file, seen_none, is_nothing, nothing_no_file}
+use Rattle.lr_host.proofs.More.{directory_more, dir_before}
+use Rattle.lr_host.proofs.Names.{put_here}
+use Rattle.lr_host.proofs.Quiet.{moment, since_as, since_of, quiet_more, quiet_same}
+use Rattle.lr_family.specs.declared.stand.Member.{Member}
+use Rattle.lr_days.specs.Newest.{IsDayOf, AreDated}
+use Rattle.lr_dated.specs.Forward.{IsNextSerial}
+use Rattle.lr_dated.specs.Steps.{Ranked, key_of}
+use Rattle.lr_dated.specs.Turned.{AreFiles, IsOutside, StandSo}
+use Rattle.lr_dated.proofs.Whole.{keyed, moved_other}
+use Rattle.lr_dated_chain.specs.Next.{IsNext}
+use Rattle.lr_dated_chain.specs.Ready.{ranked, renamed, with_one, all_of}
+use Rattle.lr_dated_chain.proofs.Newest.{one_in, IsStamp}
+use Rattle.lr_dated_chain.proofs.Order.{all_fall, all_dated}
+use Rattle.lr_dated_seen.specs.Family.{IsNoDated, IsDatedFamily}
+use Rattle.lr_dated_seen.specs.Shown.{WasSeen, HasNone, IsUnlisted, ShownDated}
+use Rattle.lr_dated_seen.specs.There.{NoDatedAttached, IsThere, AreDatedThere}
+use Rattle.lr_dated_seen.proofs.Names.{name_of, name_part, stands_in}
+use Rattle.lr_dated_seen.proofs.Picking.{has_or_none, day_of, lower, next_free, stamped, there_at}
+
+-- ---- what was seen
+
+-- where a dated member names what it named
+abbrev IsAlike : Naming → Past → Past → Type 0
+IsAlike n a r = (x : Path) (t : ℤ) (k : ℕ) → IsDatedAt n t k x → names (world r) x ≡ names (world a) x
+
+-- a dated member names the same all along
+quiet_days : (n : Naming) (p q : Past) → Quiet (IsNoDated n) p q → IsAlike n p q
+quiet_days n p q quiet x t k is = quiet_same (IsNoDated n) p q x quiet (λ none. none t k is)
+
+found : (log : Path) (n : Naming) (members : List Member) (p q r : Past) (es : List Entry) → IsDatedFamily log n → NoDatedAttached n p q → Made p es q → ChangeNothing es → ShownDated n members (reverse es)
+    → ((a : Past) → Quiet (IsNoDated n) p a → Quiet (IsNoDated n) a q → IsAlike n a r)
+    → ((a : Past) → Quiet (IsNoDated n) p a → Quiet (IsNoDated n) a q → IsDirectoryAt (names (world a)) n.dir → IsDirectoryAt (names (world r)) n.dir) → AreDatedThere n (names (world r)) members
+found log n members p q r es family none made still s same dir = record {
+  dir = let t = moment (IsNoDated n) p q (entry.List n.dir s.names) es none made still (from_reverse _ es s.list) in dir t.at t.since t.until t.fits.0;
+  newest_first = s.newest_first;
+  named = s.named;
+  files = all_there members s.named s.files;
+  others = λ x t k is out. ⊎_elim (λ absent. unlisted x t k is absent) (λ h. gone x t k is h) (s.others x t k is out);
+}
+  where
+    there : (m : Member) (t : ℤ) (k : ℕ) → IsDatedAt n t k m.path → WasSeen (reverse es) m → IsThere (names (world r)) m
+    there m t k is seen =
+        let a = moment (IsNoDated n) p q (entry.Look m.path (Some m.seen)) es none made still (from_reverse _ es seen.1) in
+        let file = seen_file (world a.at) (names (world a.at) m.path) m.seen a.fits seen.0 in
+        (file.0, same a.at a.since a.until m.path t k is ∙ file.1)
+
+    all_there : (ms : List Member) → AreDated n ms → All (WasSeen (reverse es)) ms → All (IsThere (names (world r))) ms
+    all_there [] d h = All-nil (IsThere (names (world r)))
+    all_there (m ∷ ms) d h =
+        let y = day_of n (m ∷ ms) m d (inl refl) in
+        All-cons (IsThere (names (world r))) m ms (there m y.0 y.1 y.3 (All-head (WasSeen (reverse es)) m ms h)) (all_there ms (All-tail (λ (m : Member). IsDayOf n m.place m.path) m ms d) (All-tail (WasSeen (reverse es)) m ms h))
+
+    gone : (x : Path) (t : ℤ) (k : ℕ) → IsDatedAt n t k x → IsIn (entry.Look x None) (reverse es) → names (world r) x ≡ thing.Nothing
+    gone x t k is h =
+        let a = moment (IsNoDated n) p q (entry.Look x None) es none made still (from_reverse _ es h) in
+        same a.at a.since a.until x t k is ∙ seen_none (world a.at) (names (world a.at) x) a.fits
+
+    unlisted : (x : Path) (t : ℤ) (k : ℕ) → IsDatedAt n t k x → IsUnlisted n.dir s.names x → names (world r) x ≡ thing.Nothing
+    unlisted x t k is absent =
+        let a = moment (IsNoDated n) p q (entry.List n.dir s.names) es none made still (from_reverse _ es s.list) in
+        same a.at a.since a.until x t k is
+        ∙ is_nothing (names (world a.at) x) (λ some. absent (name_of n t k x is) ((a.fits.1.all (name_of n t k x is)).1 (name_part log n t k x family.kin family.format is, subst (λ (y : Path). names (world a.at) y ≢ thing.Nothing) is.named some)) is.named)
+
+-- they stood before these entries
+pub stood_before : (log : Path) (n : Naming) (members : List Member) (p q : Past) (es : List Entry) → IsDatedFamily log n → NoDatedAttached n p q → Made p es q → ChangeNothing es → ShownDated n members (reverse es) → AreDatedThere n (names (world p)) members
+stood_before log n members p q es family none made still s = found log n members p q p es family none made still s
+    (λ a since until x t k is. sym (quiet_days n p a since x t k is)) (λ a since until d. dir_before (names (world p)) (names (world a)) n.dir (quiet_more (IsNoDated n) p a since) d)
+
+-- and stand behind them
+pub stand_behind : (log : Path) (n : Naming) (members : List Member) (p q : Past) (es : List Entry) → IsDatedFamily log n → NoDatedAttached n p q → Made p es q → ChangeNothing es → ShownDated n members (reverse es) → AreDatedThere n (names (world q)) members
+stand_behind log n members p q es family none made still s = found log n members p q q es family none made still s
+    (λ a since until x t k is. quiet_days n a q until x t k is) (λ a since until d. directory_more (names (world a)) (names (world q)) n.dir (quiet_more (IsNoDated n) a q until) d)
+
+-- ---- of a set
+
+order_dated : (d : Option Format) → IsSome d → order_of d ≡ Dated
+order_dated None h = absurd (cc h)
+order_dated (Some f) h = refl
+
+pub is_dated : (s : LogSet) → IsDatedFamily s.log s.naming → order s ≡ Dated
+is_dated s family = order_dated s.naming.dated family.dated
+
+pub set_stands : (s : LogSet) (members : List Member) (p q : Past) (es : List Entry) → IsDatedFamily s.log s.naming → NoneAttached s q → Made p es q → ChangeNothing es → ShownDated s.naming members (reverse es) → AreDatedThere s.naming (names (world q)) members
+set_stands s members p q es family none made still = stand_behind s.log s.naming members p q es family (since_as (IsKeyless s) (IsNoDated s.naming) p q no_member (since_of (IsKeyless s) p q es made none)) made still
+  where
+    clash : (o : Option ℤ) (k : ℤ) → o ≡ Some k → o ≡ None → ⊥
+    clash o k a b = cc
+
+    no_member : (x : Path) → IsKeyless s x → IsNoDated s.naming x
+    no_member x keyless t k is = clash (s.key x) (stamp_key t k) (keyed s (is_dated s family) x t k is) keyless
+
+-- ---- once the log has its new name
+
+files_with : (n : Names) (one : Ranked) (ms : List Ranked) → IsFileAt n one.path → AreFiles n ms → AreFiles n (with_one one ms)
+files_with n one [] f fs = (f, tt)
+files_with n one (m ∷ ms) f fs = go (int_lt (key_of one) (key_of m)) (files_with n one ms f fs.1)
+  where
+    go : (b : Bool) → AreFiles n (with_one one ms) → AreFiles n (cond b (m ∷ with_one one ms) (one ∷ m ∷ ms))
+    go true r = (fs.0, r)
+    go false r = (f, fs)
+
+-- a member's file and the log's under its new name
+pub moved_files : (log : Path) (n : Naming) (m : Names) (members : List Member) (target : Path) (t : ℤ) (serial : ℕ) → IsDatedFamily log n → IsFileAt m log → AreDated n members → HasNone members target → All (IsThere m) members
+    → AreFiles (changed (Moves log target) m) (all_of t serial target members)
+moved_files log n m members target t serial family file named none files =
+    files_with (changed (Moves log target) m) (renamed t serial target) (map ranked members) (file.0, put_here (put m log thing.Nothing) target target (m log) refl ∙ file.1) (all members named none files)
+  where
+    all : (ms : List Member) → AreDated n ms → HasNone ms target → All (IsThere m) ms → AreFiles (changed (Moves log target) m) (map ranked ms)
+    all [] d none files = tt
+    all (y ∷ ys) d none files =
+        let day = day_of n (y ∷ ys) y d (inl refl) in
+        let f = All-head (IsThere m) y ys files in (
+          (f.0, moved_other m log target y.path (λ same. family.apart day.0 day.1 (subst (IsDatedAt n day.0 day.1) same day.3)) (λ same. none.0 (sym same)) ∙ f.1),
+          all ys (All-tail (λ (m : Member). IsDayOf n m.place m.path) y ys d) none.1 (All-tail (IsThere m) y ys files),
+        )
+
+-- a path that none of all has is another than the one, and none of the others has it
+outside_with : (x : Path) (one : Ranked) (ms : List Ranked) → IsOutside x (with_one one ms) → (x ≢ one.path) × IsOutside x ms
+outside_with x one [] o = (o.0, tt)
+outside_with x one (m ∷ ms) o = go (int_lt (key_of one) (key_of m)) (outside_with x one ms) o
+  where
+    go : (b : Bool) → (IsOutside x (with_one one ms) → (x ≢ one.path) × IsOutside x ms) → IsOutside x (cond b (m ∷ with_one one ms) (one ∷ m ∷ ms)) → (x ≢ one.path) × IsOutside x (m ∷ ms)
+    go true further o = let r = further o.1 in (r.0, (o.0, r.1))
+    go false further o = o
+
+outside_members : (x : Path) (ms : List Member) → IsOutside x (map ranked ms) → HasNone ms x
+outside_members x [] o = tt
+outside_members x (m ∷ ms) o = (o.0, outside_members x ms o.1)
+
+pub stand_so : (log : Path) (n : Naming) (m : Names) (members : List Member) (target : Path) (t : ℤ) (serial : ℕ) → IsDatedFamily log n → IsFileAt m log → AreDatedThere n m members → IsNext members t serial → IsDatedAt n t serial target
+    → StandSo n log target (all_of t serial target members) m
+stand_so log n m members target t serial family file here next is = record {
+  log_file = file;
+  free = here.others target t serial is none;
+  dir = ap m (stands_in log n t serial target family.kin family.format is family.dir) ∙ here.dir;
+  falling = all_fall n t serial target members here.newest_first next here.named is;
+  named = all_dated n t serial target members here.named is;
+  files = moved_files log n m members target t serial family file here.named none here.files;
+  others = λ x u k at out. let o = outside_with x (renamed t serial target) (map ranked members) out in
+      moved_other m log target x (λ same. family.apart u k (subst (IsDatedAt n u k) same at)) o.0 ∙ here.others x u k at (outside_members x members o.1);
+}
+  where
+    none : HasNone members target
+    none = next_free n family.format members here.named t serial next target is
+
+-- ---- the serial number that comes next
+
+pub next_serial : (n : Naming) (m : Names) (members : List Member) (t : ℤ) (serial : ℕ) → or_none is_format n.dated ≡ true → AreDatedThere n m members → IsNext members t serial → IsNextSerial n m t serial
+next_serial n m members t serial good here next = record {
+  above = λ y k is f. above y k is f (has_or_none y members);
+  least = ⊎_elim (λ none. inl none) (λ h. let r = stamped n good members here.named t serial next h.0 (one_in (IsStamp t h.0) members h.2) in inr (r.0.path, h.0, h.1, r.2, there_at m members r.0 here.files r.1)) next.least;
+}
+  where
+    above : (y : Path) (k : ℕ) → IsDatedAt n t k y → IsFileAt m y → ((v : Member) × IsIn v members × (v.path ≡ y)) ⊎ HasNone members y → k < serial
+    above y k is f (inl h) = lower n good members here.named t serial next h.0 k y h.1 h.2 is
+    above y k is f (inr none) = absurd (nothing_no_file (m y) f.0 (here.others y t k is none) f.1)

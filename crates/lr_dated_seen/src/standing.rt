@@ -1,0 +1,50 @@
+// The members that were seen are those that stand.
+ghost use Rattle.std.specs.Prelude.{◌≡◌, ℕ, ℤ, true, List, reverse};
+ghost use Rattle.lr_rules.specs.declared.path.Path.{Path};
+ghost use Rattle.lr_rules.specs.declared.rule.Naming.{Naming};
+ghost use Rattle.lr_rules.specs.Limits.{is_format, or_none};
+ghost use Rattle.lr_rules.specs.Dated.{IsDatedAt};
+ghost use Rattle.lr_host.specs.declared.entry.Entry.{Entry};
+ghost use Rattle.lr_host.specs.World.{Names, Past, world, names};
+ghost use Rattle.lr_host.specs.Fits.{IsFileAt};
+ghost use Rattle.lr_host.specs.Told.{Made};
+ghost use Rattle.lr_host.specs.Quiet.{ChangeNothing};
+ghost use Rattle.lr_host.specs.Sets.{LogSet};
+ghost use Rattle.lr_host.specs.Steady.{NoneAttached};
+ghost use Rattle.lr_family.specs.declared.stand.Member.{Member};
+ghost use Rattle.lr_dated.specs.Forward.{IsNextSerial};
+ghost use Rattle.lr_dated.specs.Turned.{StandSo};
+ghost use Rattle.lr_dated_chain.specs.Next.{IsNext};
+ghost use Rattle.lr_dated_chain.specs.Ready.{all_of};
+ghost use Rattle.lr_dated_seen.specs.Family.{IsDatedFamily};
+ghost use Rattle.lr_dated_seen.specs.Shown.{ShownDated};
+ghost use Rattle.lr_dated_seen.specs.There.{NoDatedAttached, AreDatedThere};
+
+/// Where the tool changed nothing and no writer was attached to a member, the members that were seen are just those that
+/// stood before these entries and that stand behind them; so it is for a set.
+pub fn shown_members_stand()
+    ensures before { (log : Path) (n : Naming) (members : List Member) (p q : Past) (es : List Entry) → IsDatedFamily log n
+        → NoDatedAttached n p q → Made p es q → ChangeNothing es → ShownDated n members (reverse es)
+        → AreDatedThere n (names (world p)) members }
+    ensures behind { (log : Path) (n : Naming) (members : List Member) (p q : Past) (es : List Entry) → IsDatedFamily log n
+        → NoDatedAttached n p q → Made p es q → ChangeNothing es → ShownDated n members (reverse es)
+        → AreDatedThere n (names (world q)) members }
+    ensures set { (s : LogSet) (members : List Member) (p q : Past) (es : List Entry) → IsDatedFamily s.log s.naming
+        → NoneAttached s q → Made p es q → ChangeNothing es → ShownDated s.naming members (reverse es)
+        → AreDatedThere s.naming (names (world q)) members }
+{}
+
+/// Where the log is a file and just these members stand, they stand as the rotation asks for that gives the log the serial
+/// number that comes next at a moment.
+pub fn members_stand_so()
+    ensures { (log : Path) (n : Naming) (m : Names) (members : List Member) (target : Path) (seconds : ℤ) (serial : ℕ)
+        → IsDatedFamily log n → IsFileAt m log → AreDatedThere n m members → IsNext members seconds serial
+        → IsDatedAt n seconds serial target → StandSo n log target (all_of seconds serial target members) m }
+{}
+
+/// The serial number that comes next among them is the one that comes next on the disk.
+pub fn next_serial_comes()
+    ensures { (n : Naming) (m : Names) (members : List Member) (seconds : ℤ) (serial : ℕ)
+        → or_none is_format n.dated ≡ true → AreDatedThere n m members → IsNext members seconds serial
+        → IsNextSerial n m seconds serial }
+{}
