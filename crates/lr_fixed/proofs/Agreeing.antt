@@ -22,7 +22,7 @@ use Rattle.lr_fields.specs.Built.{AreBuiltRules}
 use Rattle.lr_seen.specs.Free.{reserved_by}
 use Rattle.lr_run.proofs.Simple.{plan_simple}
 use Rattle.lr_run.proofs.Stating.{IsWriting}
-use Rattle.lr_fixed.proofs.Keys.{Key, Made, keys_of, denied, shown_by, shown, shown_joined, Keep, sets_keep, Agree}
+use Rattle.lr_fixed.proofs.Keys.{Key, Made, keys_of, shown_by, shown, shown_joined, Keep, sets_keep, Agree}
 use Rattle.lr_fixed.proofs.PlanKeys.{plan_once, none_reserved}
 
 -- ---- the writing of the state
