@@ -171,6 +171,7 @@ fn put_rotation(line: Line, family: &Family, out: &mut Answer) -> Result<(), Tro
         there,
         parent: true,
         members,
+        parts: Listed::new(line.alloc),
     };
     put_prepared_of(line, family, &stand, count, out);
     Ok(())

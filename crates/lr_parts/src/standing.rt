@@ -1,4 +1,4 @@
-// Which members of a family stand.
+// Which members of a family stand, and which of their part files.
 ghost use Rattle.std.specs.Prelude.{◌≡◌, None};
 
 use crate::answer::{add, failed_call, said, said_path};
@@ -7,6 +7,7 @@ use lr_family::{Family, Member, Place, Stand, StandStop};
 use lr_line::Trouble;
 use lr_memhost::MemHost;
 use lr_row::Cursor;
+use lr_rules::Path;
 use std::alloc::{AllocError, Global};
 
 fn add_member(into: &mut Vec<u8>, alloc: Global, member: &Member) -> Result<(), AllocError> {
@@ -18,28 +19,41 @@ fn add_member(into: &mut Vec<u8>, alloc: Global, member: &Member) -> Result<(), 
     add(into, line.as_str())
 }
 
-fn members_text(alloc: Global, members: &[Member]) -> Result<Vec<u8>, Trouble> {
-    let mut text = Vec::new(alloc);
+fn add_members(into: &mut Vec<u8>, alloc: Global, members: &[Member]) -> Result<(), AllocError> {
+    if members.is_empty() {
+        add(into, "no member")?;
+    }
     for member in members {
-        add_member(&mut text, alloc, member)?;
+        add_member(into, alloc, member)?;
+    }
+    Ok(())
+}
+
+fn add_part(into: &mut Vec<u8>, alloc: Global, path: &Path) -> Result<(), AllocError> {
+    let path = path.as_str();
+    let line = format!(in alloc; "part file {path}")?;
+    add(into, line.as_str())
+}
+
+fn there_text(alloc: Global, stand: &Stand) -> Result<Vec<u8>, Trouble> {
+    let mut text = Vec::new(alloc);
+    add_members(&mut text, alloc, stand.members.as_slice())?;
+    for path in stand.parts.as_slice() {
+        add_part(&mut text, alloc, path)?;
     }
     Ok(text)
 }
 
-fn there_text(alloc: Global, stand: &Stand) -> Result<Vec<u8>, Trouble> {
-    let members = stand.members.as_slice();
-    if members.is_empty() {
-        said(alloc, "no member")
-    } else {
-        members_text(alloc, members)
-    }
+// Whether no member stands, and no part file of one.
+fn is_bare(stand: &Stand) -> bool {
+    stand.members.as_slice().is_empty() && stand.parts.as_slice().is_empty()
 }
 
 fn stand_text(alloc: Global, stand: &Stand) -> Result<Vec<u8>, Trouble> {
-    match (stand.there, stand.parent, stand.members.len()) {
+    match (stand.there, stand.parent, is_bare(stand)) {
         (true, true, _) => there_text(alloc, stand),
-        (false, true, 0) => said(alloc, "no directory, but the one that it would stand in"),
-        (false, false, 0) => said(alloc, "no directory, nor the one that it would stand in"),
+        (false, true, true) => said(alloc, "no directory, but the one that it would stand in"),
+        (false, false, true) => said(alloc, "no directory, nor the one that it would stand in"),
         _ => said(alloc, "what can't be"),
     }
 }
@@ -62,7 +76,8 @@ fn stand_of(host: &mut MemHost, alloc: Global, family: &Family) -> Result<Vec<u8
     }
 }
 
-/// `stand LOG DIRECTORY BASE EXTENSION FIRST`: the members that stand, the newest first, a line for each.
+/// `stand LOG DIRECTORY BASE EXTENSION FIRST`: the members that stand, the newest first, and then their part files, a line
+/// for each.
 pub fn stand(host: &mut MemHost, cursor: &mut Cursor) -> Result<Vec<u8>, Trouble> {
     let family = family(cursor)?;
     stand_of(host, cursor.alloc, &family)
