@@ -8,3 +8,4 @@ pub mod Still
 mod Tried
 pub mod Zoned
 mod Whole
+mod Copied

@@ -13,6 +13,7 @@ use Rattle.lr_host.proofs.Counts.{calls_on, scripts_on}
 use Rattle.lr_due.specs.declared.tz.Zone.{Zone}
 use Rattle.lr_due.specs.declared.tz.Zone.TheVariants.{Utc, Rule, File}
 use Rattle.lr_plan.specs.declared.planned.Plan.{Plan}
+use Rattle.lr_run.specs.Copied.{NoneOfCopy}
 use Rattle.lr_run.proofs.Rotating.{run_rotated}
 use Rattle.lr_reached.specs.Ending.{NoneEnds}
 use Rattle.lr_reached.proofs.Ends.{last_ends}
@@ -55,13 +56,17 @@ own_calls xs ys h = let all : calls_in (xs ++ ys) ≡ calls_in xs + calls_in ys 
 own_ends : (xs ys : List Fault) → scripts_in (xs ++ ys) ≡ 0 → scripts_in ys ≡ 0
 own_ends xs ys h = let all : scripts_in (xs ++ ys) ≡ scripts_in xs + scripts_in ys = scripts_on xs ys in omega (arith, h, all)
 
+own_copies : (xs ys : List Fault) → NoneOfCopy (xs ++ ys) → NoneOfCopy ys
+own_copies [] ys h = h
+own_copies (x ∷ xs) ys h = own_copies xs ys h.1
+
 plan_rotates : (request : Request) (zone : Zone) (seconds : ℤ) (report : Report) (j k : Journal) (es : List Entry) → Made (past j) es (past k) → StopNothing request.state report.faults → IsJournal (past j) → ReachesPlan request zone seconds report (reverse es) → RotatesAll request zone seconds report j k
 plan_rotates request zone seconds report j k es made none journal p = record {
   entries = es;
   made = made;
   plan = p;
-  each = λ x one. run_rotated request.state request.force p.clock.now p.rules p.own (past j) (past k) es (p.of_clock ++ p.reads) p.acts (plan_built request zone seconds report (reverse es) p) made journal
-      (plan_joined request zone seconds report (reverse es) p) (plan_quiet request zone seconds report (reverse es) p) p.run (own_calls p.meaning.faults p.own (sym (ap calls_in p.faults_are) ∙ none.no_call)) (own_ends p.meaning.faults p.own (sym (ap scripts_in p.faults_are) ∙ none.no_script)) x one;
+  each = λ x one by_rename. run_rotated request.state request.force p.clock.now p.rules p.own (past j) (past k) es (p.of_clock ++ p.reads) p.acts (plan_built request zone seconds report (reverse es) p) made journal
+      (plan_joined request zone seconds report (reverse es) p) (plan_quiet request zone seconds report (reverse es) p) p.run (own_calls p.meaning.faults p.own (sym (ap calls_in p.faults_are) ∙ none.no_call)) (own_ends p.meaning.faults p.own (sym (ap scripts_in p.faults_are) ∙ none.no_script)) (own_copies p.meaning.faults p.own (subst NoneOfCopy p.faults_are none.no_copy)) x one by_rename;
 }
 
 from_entries : (here : Path) (words : List (List ℕ)) (request : Request) (zone : Zone) (seconds : ℤ) (plan : Option Plan) (report : Report) (j k : Journal) → AskFor here words request → request.debug ≡ false → Left (Answered here words zone seconds plan (Done report)) (Some j) (Some k) → StopNothing request.state report.faults → IsJournal (past j)

@@ -7,6 +7,7 @@ use Rattle.lr_host.specs.Told.{Counts}
 use Rattle.lr_host.specs.Counted.{calls_in, scripts_in, AreCounted}
 use Rattle.lr_run.specs.declared.answer.RunStop.{RunStop}
 use Rattle.lr_run.specs.declared.answer.RunStop.TheVariants as stop
+use Rattle.lr_run.specs.Copied.{NoneOfCopy}
 use Rattle.lr_reached.specs.Ending.{NoneEnds}
 use Rattle.lr_cli.specs.declared.clock.ClockStop.{ClockStop}
 use Rattle.lr_cli.specs.declared.clock.ClockStop.TheVariants as clock_stop
@@ -40,8 +41,9 @@ abbrev pub HasCounted : Outcome → Counts → Counts → Type 0
 HasCounted (Done report) counted counts = AreCounted report.faults counted counts
 HasCounted _ counted counts = Unit {0}
 
--- The faults stopped nothing that was planned: none of them ends a run, and none tells of a call that failed or of a script that ended badly. So each is one of the configuration, of what the looks at the logs saw, or of the plan.
+-- The faults stopped nothing that was planned: none of them ends a run, and none tells of a call that failed, of a script that ended badly, or of a copy that broke off. So each is one of the configuration, of what the looks at the logs saw, or of the plan.
 pub record StopNothing (state : Path) (faults : List Fault) : Type 0 where
   pub none_ends : NoneEnds state faults
   pub no_call : calls_in faults ≡ 0
   pub no_script : scripts_in faults ≡ 0
+  pub no_copy : NoneOfCopy faults

@@ -1,6 +1,7 @@
 pub mod Answer
 pub mod Asked
 pub mod Clock
+pub mod Copied
 pub mod Faults
 pub mod Printed
 pub mod Reached

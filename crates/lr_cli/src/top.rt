@@ -12,6 +12,7 @@ ghost use Rattle.lr_command.specs.declared.request.Request.{Request};
 ghost use Rattle.lr_cli.specs.declared.outcome.Report.{Report};
 ghost use Rattle.lr_cli.specs.Asked.{AskFor, AskForNone};
 ghost use Rattle.lr_cli.specs.Clock.{IsClocked};
+ghost use Rattle.lr_cli.specs.Copied.{CopiesWhole};
 ghost use Rattle.lr_cli.specs.Faults.{HasFault, HasCounted, StopNothing};
 ghost use Rattle.lr_cli.specs.Printed.{without_out};
 ghost use Rattle.lr_cli.specs.Reached.{TellsOfPlan, TellsOfTry};
@@ -58,6 +59,11 @@ pub fn logrotate<H: Host, K: Sink>(
     ensures state { (request : Request) → AskFor here.now words.now request → KeepsWhole request.state (IsNewText request zone.now now) (H.told host.old) (H.told host.new) }
     ensures nothing { AskForNone here.now words.now → H.told host.new ≡ H.told host.old }
 
+    // Just before a log is emptied, which only a rule with copytruncate asks for, its copy has the newest member's path, with all
+    // bytes that the log had as it was last read, now and after each cut; what is lost is what was written since that read. So
+    // it is where no writer was attached to the copy's path or to that of its part file since the call began.
+    ensures copied { (request : Request) → AskFor here.now words.now request → CopiesWhole request zone.now now (H.told host.old) (H.told host.new) }
+
     // Of the plan that the call came to: what the calls showed, what the answer has to do with it, and what was printed.
     ensures told { Says here.now words.now zone.now now result (H.told host.old) (H.told host.new) (K.taken out.old) (K.taken out.new) (K.faults out.old) (K.faults out.new) }
 
@@ -77,8 +83,8 @@ pub fn logrotate<H: Host, K: Sink>(
     // Of a dry run the report tells it too, where no fault may be one of the zone or the state and of a log as well.
     ensures tried { (request : Request) (report : Report) → AskFor here.now words.now request → request.debug ≡ true → without_out result ≡ Outcome.Done report → Left (TellsOfTry request zone.now now report) (H.told host.old) (H.told host.new) }
 
-    // Where none ends a run, and none tells of a call that failed or of a script that ended badly, each log of the plan was
-    // rotated, file by file, whatever else is told: of other logs that aren't there, say.
+    // Where none ends a run, and none tells of a call that failed, of a script that ended badly, or of a copy that broke off,
+    // each log that the plan renames was rotated, file by file, whatever else is told: of other logs that aren't there, say.
     ensures rotated { (request : Request) (report : Report) (before after : Journal) → AskFor here.now words.now request → request.debug ≡ false → without_out result ≡ Outcome.Done report → StopNothing request.state report.faults
         → H.told host.old ≡ Some before → H.told host.new ≡ Some after → IsJournal (past before) → RotatesAll request zone.now now report before after }
 

@@ -8,6 +8,7 @@ use Rattle.lr_cli.specs.Faults.{answer_of, plan_told}
 use Rattle.lr_cli.specs.Printed.{without_out}
 use Rattle.lr_cli.specs.Still.{WasShort, all_still}
 use Rattle.lr_cli.proofs.Clocked.{own_seconds}
+use Rattle.lr_cli.proofs.Copied.{answered_copies}
 use Rattle.lr_cli.proofs.Called.{nothing_called, answered, has_counted, has_clocked, not_counted, none_out, says_nothing, says_so}
 use Rattle.lr_cli.proofs.Reached.{left_tells}
 use Rattle.lr_cli.proofs.Reading.{alone_run}
@@ -32,6 +33,9 @@ returns-in-Err-Refused-clause-still g c = λ e. left_first (WasShort c.args.here
 pub returns-in-Err-Refused-clause-state : goal.returns-in-Err-Refused-clause-state
 returns-in-Err-Refused-clause-state g c = λ request asks. answered_whole request c.args.zone.now c.args.now c.args.here.now c.args.words.now None _ asks (nothing_called c.args.here.now c.args.words.now c.args.zone.now c.args.now _ BadWords _ (ap without_out c.printed.ensures.same) (inl refl))
 
+pub returns-in-Err-Refused-clause-copied : goal.returns-in-Err-Refused-clause-copied
+returns-in-Err-Refused-clause-copied g c = λ request asks. answered_copies request c.args.zone.now c.args.now c.args.here.now c.args.words.now None _ asks (nothing_called c.args.here.now c.args.words.now c.args.zone.now c.args.now _ BadWords _ (ap without_out c.printed.ensures.same) (inl refl))
+
 pub returns-in-Err-Refused-clause-dry : goal.returns-in-Err-Refused-clause-dry
 returns-in-Err-Refused-clause-dry g c = λ request asks dry. left_first AreSights _ tt
 
@@ -49,6 +53,9 @@ returns-in-Err-Memory-clause-still g c = λ e. left_first (WasShort c.args.here.
 
 pub returns-in-Err-Memory-clause-state : goal.returns-in-Err-Memory-clause-state
 returns-in-Err-Memory-clause-state g c = λ request asks. answered_whole request c.args.zone.now c.args.now c.args.here.now c.args.words.now None _ asks (nothing_called c.args.here.now c.args.words.now c.args.zone.now c.args.now _ OutOfMemory _ (ap without_out c.printed-in-Err-Memory.ensures.same) (inr refl))
+
+pub returns-in-Err-Memory-clause-copied : goal.returns-in-Err-Memory-clause-copied
+returns-in-Err-Memory-clause-copied g c = λ request asks. answered_copies request c.args.zone.now c.args.now c.args.here.now c.args.words.now None _ asks (nothing_called c.args.here.now c.args.words.now c.args.zone.now c.args.now _ OutOfMemory _ (ap without_out c.printed-in-Err-Memory.ensures.same) (inr refl))
 
 pub returns-in-Err-Memory-clause-dry : goal.returns-in-Err-Memory-clause-dry
 returns-in-Err-Memory-clause-dry g c = λ request asks dry. left_first AreSights _ tt
@@ -84,6 +91,9 @@ returns-clause-still g c = λ e. let s = returns-clause-told g c in left_short c
 
 pub returns-clause-state : goal.returns-clause-state
 returns-clause-state g c = λ request asks. let s = returns-clause-told g c in answered_whole request c.args.zone.now c.args.now c.args.here.now c.args.words.now s.plan _ asks s.shown
+
+pub returns-clause-copied : goal.returns-clause-copied
+returns-clause-copied g c = λ request asks. let s = returns-clause-told g c in answered_copies request c.args.zone.now c.args.now c.args.here.now c.args.words.now s.plan _ asks s.shown
 
 pub returns-clause-dry : goal.returns-clause-dry
 returns-clause-dry g c = λ request asks dry. let s = returns-clause-told g c in left_dry c.args.here.now c.args.words.now c.args.zone.now c.args.now request s.plan _ asks dry s.shown
