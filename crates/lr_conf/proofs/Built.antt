@@ -5,12 +5,11 @@ use Rattle.std.proofs.lemmas.List.Elements.{All-from_recursion}
 use Rattle.lr_rules.specs.declared.path.Path.{Path}
 use Rattle.lr_rules.specs.declared.fault.Phase.TheVariants as phase
 use Rattle.lr_rules.specs.declared.rule.Make.TheVariants as make
-use Rattle.lr_rules.specs.declared.rule.Way.TheVariants as way
 use Rattle.lr_forms.specs.declared.built.Built.TheVariants as built
 use Rattle.lr_forms.specs.declared.set.Set.{Set}
 use Rattle.lr_forms.specs.declared.set.Set.TheVariants as set
 use Rattle.lr_fields.specs.Built.{IsBuiltRule, AreBuiltRules}
-use Rattle.lr_fields.specs.Fields.{fields_of, last_set, maxage_set, createolddir_set, mail_set, mailfirst_set, preremove_set, dated_set, way_of}
+use Rattle.lr_fields.specs.Fields.{fields_of, last_set, maxage_set, createolddir_set, mail_set, mailfirst_set, preremove_set, dated_set}
 use Rattle.lr_fields.specs.Rules.{format_of, rule_of}
 use Rattle.lr_conf.specs.Meaning.{Line, meaning}
 use Rattle.lr_conf.proofs.Each.{Given}
@@ -45,13 +44,6 @@ preremove_given : (v : Set) → S v → Given (λ o. o ≡ None) (preremove_set 
 preremove_given (set.Script phase.Preremove text) ok = let no = ok.0 in absurd (cc no)
 preremove_given v ok = tt
 
-way_ok : (vs : List Set) → Each S vs → way_of vs ≡ way.Rename
-way_ok [] ok = refl
-way_ok (set.Way way.Rename ∷ vs) ok = let no = ok.0.0 in absurd (cc no)
-way_ok (set.Way way.Copy ∷ vs) ok = let no = ok.0.0 in absurd (cc no)
-way_ok (set.Way way.CopyTruncate ∷ vs) ok = let no = ok.0.0 in absurd (cc no)
-way_ok (v ∷ vs) ok = way_ok vs ok.1
-
 -- what has its default where no setting sets it
 unset : {A : Type 0} (sets : Set → Option A) (d : A) → ((v : Set) → S v → Given (λ x. x ≡ d) (sets v)) → (vs : List Set) → Each S vs → last_set sets d vs ≡ d
 unset sets d given vs ok = last_given S (λ x. x ≡ d) sets d refl given vs ok
@@ -60,7 +52,6 @@ rule_ok : (file : Path) (at : ℕ) (words : List (List ℕ)) (vs : List Set) →
 rule_ok file at words vs n ok = record {
   maxage = unset maxage_set None maxage_given vs ok;
   createolddir = unset createolddir_set make.No createolddir_given vs ok;
-  way = way_ok vs ok;
   mail = unset mail_set None mail_given vs ok;
   mailfirst = unset mailfirst_set false mailfirst_given vs ok;
   preremove = unset preremove_set None preremove_given vs ok;

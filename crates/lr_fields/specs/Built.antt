@@ -3,12 +3,10 @@
 use Rattle.std.specs.Prelude.{◌≡◌, false, List, All, None}
 use Rattle.lr_rules.specs.declared.rule.Make.TheVariants as make
 use Rattle.lr_rules.specs.declared.rule.Rule.{Rule}
-use Rattle.lr_rules.specs.declared.rule.Way.TheVariants as way
 
 pub record IsBuiltRule (r : Rule) : Type 0 where
   pub maxage : r.maxage ≡ None
   pub createolddir : r.createolddir ≡ make.No
-  pub way : r.way ≡ way.Rename
   pub mail : r.mail ≡ None
   pub mailfirst : r.mailfirst ≡ false
   pub preremove : r.scripts.preremove ≡ None

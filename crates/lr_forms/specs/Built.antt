@@ -14,8 +14,6 @@ abbrev pub so_far_unbuilt : Directive → Bool
 -- a script
 so_far_unbuilt is.Preremove = true
 -- fields of a definition
-so_far_unbuilt is.Copy = true
-so_far_unbuilt is.Copytruncate = true
 so_far_unbuilt is.Createolddir = true
 so_far_unbuilt is.Dateext = true
 so_far_unbuilt is.Dateformat = true

@@ -16,9 +16,7 @@ fn so_far_unbuilt(directive: Directive) -> bool
     ensures { result ≡ so_far_unbuilt directive }
 {
     match directive {
-        Directive::Copy
-        | Directive::Copytruncate
-        | Directive::Createolddir
+        Directive::Createolddir
         | Directive::Dateext
         | Directive::Dateformat
         | Directive::Datehourago
