@@ -4,7 +4,7 @@ pub mod Coming
 pub mod Elements
 pub mod Free
 mod Gives
-mod Listed
+pub mod Listed
 pub mod Quiet
 pub mod Ready
 pub mod Seen

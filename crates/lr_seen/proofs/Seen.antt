@@ -72,6 +72,26 @@ log_path [] f h i = absurd i
 log_path (g ∷ gs) f h (inl e) = subst HasLogPath e h.0
 log_path (g ∷ gs) f h (inr i) = log_path gs f h.1 i
 
+-- a log that was looked at whole
+pub looked_family : {reserved : List Path} (rules : Rules) (sets : List SetLooks) (faults : List Fault) (ts : List Entry) (x : LookedLog) → AreBuiltRules rules.sets → (s : ShowsLooks reserved rules.sets sets faults ts) → IsIn x s.looked → IsFamily x.path x.naming
+looked_family rules sets faults ts x built s looked = subst (λ (p : Path). IsFamily p x.naming) o.path_is (subst (IsFamily o.found.log.path) o.naming_is
+    (is_family o.by_word.word.rule o.found can (log_path s.found o.found s.paths (in_kept s.found s.keeps.choices o.found came.1)) naming))
+  where
+    came : (o : IsFrom rules.sets s.entries.front s.found x) × IsIn o.found (kept_of s.found s.keeps.choices)
+    came = came_from rules.sets sets faults ts s x looked
+
+    o : IsFrom rules.sets s.entries.front s.found x
+    o = came.0
+
+    among : IsIn o.by_word.word.rule rules.sets
+    among = in_list rules.sets x.set o.by_word.word.rule o.at
+
+    can : CanAsk o.by_word.word.rule
+    can = can_ask o.by_word.word.rule (All-contains IsBuiltRule rules.sets o.by_word.word.rule built (in_to o.by_word.word.rule rules.sets among)) (all_in meets_limits rules.sets o.by_word.word.rule rules.limits among)
+
+    naming : naming_of o.by_word.word.rule o.found.log.path ≡ o.found.log.naming
+    naming = ap (λ (g : FoundLog). naming_of o.by_word.word.rule g.log.path) o.by_word.is ∙ sym (ap (λ (g : FoundLog). g.log.naming) o.by_word.is)
+
 -- ---- the look at the log
 
 among_one : (e : Entry) (ts : List Entry) → IsIn e ts → (before after : List Entry) × (ts ≡ before ++ (e ∷ after))
@@ -140,8 +160,7 @@ target_seen rules sets faults ts t built s c = subst (IsSeen rules ts) (sym c.is
     count_is = ap (λ (r : Rule). r.count) (sym same);
     way_is = subst (λ (r : Rule). (r.way ≡ Rename) ↔ (job_of c.rule c.look ≡ None)) same (by_rename c.rule.way c.look);
   };
-  family = subst (λ (p : Path). IsFamily p x.naming) o.path_is (subst (IsFamily o.found.log.path) o.naming_is
-      (is_family o.by_word.word.rule o.found can (log_path s.found o.found s.paths (in_kept s.found s.keeps.choices o.found came.1)) naming));
+  family = looked_family rules sets faults ts x built s looked;
   log_seen = sees_file x.path o.found.seen ts o.file (subst (λ (p : Path). IsIn (entry.Look p (Some o.found.seen)) ts) o.path_is look);
   seen = shown.0 free.0;
   low = not_high x.naming c.rule.count x.stand.members free.1;
@@ -177,9 +196,6 @@ target_seen rules sets faults ts t built s c = subst (IsSeen rules ts) (sym c.is
 
     among : IsIn o.by_word.word.rule rules.sets
     among = in_list rules.sets x.set o.by_word.word.rule o.at
-
-    can : CanAsk o.by_word.word.rule
-    can = can_ask o.by_word.word.rule (All-contains IsBuiltRule rules.sets o.by_word.word.rule built (in_to o.by_word.word.rule rules.sets among)) (all_in meets_limits rules.sets o.by_word.word.rule rules.limits among)
 
     naming : naming_of o.by_word.word.rule o.found.log.path ≡ o.found.log.naming
     naming = ap (λ (g : FoundLog). naming_of o.by_word.word.rule g.log.path) o.by_word.is ∙ sym (ap (λ (g : FoundLog). g.log.naming) o.by_word.is)

@@ -25,7 +25,7 @@ use Rattle.lr_sought.specs.Finds.{IsAttachedBetween, StoodOrCame}
 
 -- ---- prefixes
 
-quiet_prefix : (p q : Past) → Quiet IsAny p q → IsPrefix p q
+pub quiet_prefix : (p q : Past) → Quiet IsAny p q → IsPrefix p q
 quiet_prefix p _ here = whole
 quiet_prefix p _ (wrote {q = q} w i f only) = shorter (quiet_prefix p q w)
 quiet_prefix p _ (looked {q = q} w i f h) = shorter (quiet_prefix p q w)
@@ -61,7 +61,7 @@ same_or_came x p _ (looked {q = q} {e = e} w i f h) = ⊎_elim
     (λ came. inr (later x p q (q ▸ e) came (shorter whole)))
     (same_or_came x p q w)
 
-stood_or_came : (x : Path) (p q r : Past) → Quiet IsAny p q → IsPrefix q r → IsFileAt (names (world q)) x → StoodOrCame x p r
+pub stood_or_came : (x : Path) (p q r : Past) → Quiet IsAny p q → IsPrefix q r → IsFileAt (names (world q)) x → StoodOrCame x p r
 stood_or_came x p q r s on file = ⊎_elim
     (λ same. inl (file.0, sym same ∙ file.1))
     (λ new. inr (new.0, ⊎_elim (λ same. absurd (nothing_no_file (names (world q) x) file.0 (same ∙ new.0) file.1)) (λ came. later x p q r came on) (same_or_came x p q s)))

@@ -1,0 +1,71 @@
+-- All looks of a run.
+use Rattle.std.proofs.Common.{◌≡◌, ℕ, List, ◌++◌, reverse, Some, Ok, slice_get, sym, ap, ◌∙◌, subst, append_assoc}
+use Rattle.lr_rules.specs.declared.fault.Fault.{Fault}
+use Rattle.lr_rules.specs.declared.path.Path.{Path}
+use Rattle.lr_rules.specs.declared.rules.Rules.{Rules}
+use Rattle.lr_fields.specs.Built.{AreBuiltRules}
+use Rattle.lr_host.specs.declared.entry.Entry.{Entry}
+use Rattle.lr_host.specs.Lists.{IsIn}
+use Rattle.lr_host.specs.Opening.{IsJournal}
+use Rattle.lr_host.specs.Quiet.{AreQuiet, ChangeNothing}
+use Rattle.lr_host.specs.Told.{Made}
+use Rattle.lr_host.specs.World.{Past}
+use Rattle.lr_host.proofs.Lists.{in_back}
+use Rattle.lr_host.proofs.Quiet.{quiet_both, quiet_still, still_in_order}
+use Rattle.lr_glob.specs.declared.found.Found.{Found as Match}
+use Rattle.lr_plan.specs.declared.looks.SetLooks.{SetLooks}
+use Rattle.lr_looks.specs.Asked.{Word, asked_by}
+use Rattle.lr_looks.specs.Families.{LookedLog}
+use Rattle.lr_looks.specs.Shown.{ShowsLooks}
+use Rattle.lr_seen.proofs.Listed.{all_shown}
+use Rattle.lr_seen.proofs.Quiet.{whole_quiet}
+use Rattle.lr_seen.proofs.Seen.{looked_family}
+use Rattle.lr_stood.specs.True.{IsTrueWord, IsTrueFamily, AreTrue}
+use Rattle.lr_stood.proofs.Families.{true_family}
+use Rattle.lr_stood.proofs.Sought.{all_sought}
+use Rattle.lr_stood.proofs.Words.{WasShown, word_shown, text_at, true_word}
+
+module _ {reserved : List Path} (rules : Rules) (sets : List SetLooks) (faults : List Fault) (front ts es : List Entry) (p q : Past) (built : AreBuiltRules rules.sets) (s : ShowsLooks reserved rules.sets sets faults ts) (journal : IsJournal p) (made : Made p es q) (joined : reverse es ≡ front ++ ts)
+    (quiet : AreQuiet front) where
+  all_quiet : AreQuiet (reverse es)
+  all_quiet = subst AreQuiet (sym joined) (quiet_both front ts quiet (whole_quiet rules.sets sets faults ts s))
+
+  still : ChangeNothing es
+  still = still_in_order es (quiet_still (reverse es) all_quiet)
+
+  in_looks : (e : Entry) → IsIn e ts → IsIn e (reverse es)
+  in_looks e i = subst (IsIn e) (sym joined) (in_back e front ts i)
+
+  in_families : (e : Entry) → IsIn e s.entries.back → IsIn e (reverse es)
+  in_families e i = in_looks e (subst (IsIn e) (sym s.entries.joined) (in_back e s.entries.front s.entries.back i))
+
+  one_word : (place : ℕ) (w : Word) (matches : List Match) → slice_get (asked_by rules.sets) place ≡ Some w → slice_get s.entries.first.sights place ≡ Some (Ok matches) → IsTrueWord w matches p q
+  one_word place w matches at is = true_word w matches p q es made journal all_quiet (text_at (asked_by rules.sets) place w s.texts at) (record {
+    room = shown.room;
+    among = record {
+      before = front ++ shown.among.before;
+      part = shown.among.part;
+      after = shown.among.after ++ s.entries.back;
+      joined = joined ∙ (ap (λ (xs : List Entry). front ++ xs) (s.entries.joined ∙ (ap (λ (xs : List Entry). xs ++ s.entries.back) shown.among.joined
+          ∙ (append_assoc shown.among.before (shown.among.part ++ shown.among.after) s.entries.back ∙ ap (λ (xs : List Entry). shown.among.before ++ xs) (append_assoc shown.among.part shown.among.after s.entries.back))))
+          ∙ sym (append_assoc front shown.among.before (shown.among.part ++ (shown.among.after ++ s.entries.back))));
+      is = shown.among.is;
+    };
+  })
+    where
+      shown : WasShown w matches s.entries.front
+      shown = word_shown 0 (asked_by rules.sets) s.entries.first.sights s.entries.front place w matches s.entries.first.shown at is
+
+  one_family : (x : LookedLog) → IsIn x s.looked → IsTrueFamily x.naming x.stand p q
+  one_family x i = true_family x.path x.naming x.stand p q es (looked_family rules sets faults ts x built s i) made journal still
+      (all_shown (reverse es) s.kept f.listings f.families.sights s.entries.back in_families f.families.shown x of_sights)
+      (all_sought (reverse es) s.kept f.listings f.families.sights s.entries.back in_families f.families.shown x of_sights)
+    where
+      f : Rattle.lr_looks.specs.Families.LooksAtFamilies s.kept s.of_kept faults s.looked s.entries.back
+      f = s.entries.second
+
+      of_sights : IsIn x (Rattle.lr_looks.specs.Families.looked_of s.kept f.families.sights)
+      of_sights = subst (IsIn x) f.families.looked_are i
+
+  pub looks_true : AreTrue rules.sets sets faults ts s p q
+  looks_true = record { words = one_word; families = one_family }

@@ -1,0 +1,4 @@
+mod All
+mod Families
+mod Sought
+mod Words

@@ -1,0 +1,48 @@
+-- Looks that are true of the disk: what stood at the first moment is among what they saw, and nothing else is but what came up to the second.
+use Rattle.std.specs.Prelude.{◌≡◌, ◌≢◌, ℕ, false, List, [], ◌∷◌, Some, None, Ok, slice_get, Contains}
+use Rattle.lr_rules.specs.declared.fault.Fault.{Fault}
+use Rattle.lr_rules.specs.declared.path.Path.{Path}
+use Rattle.lr_rules.specs.declared.rule.Naming.{Naming}
+use Rattle.lr_rules.specs.declared.rule.Rule.{Rule}
+use Rattle.lr_rules.specs.Match.{WordGives, is_wildcard, literal_path}
+use Rattle.lr_rules.specs.Path.{path_fault}
+use Rattle.lr_host.specs.declared.entry.Entry.{Entry}
+use Rattle.lr_host.specs.declared.thing.Kind.TheVariants as kind
+use Rattle.lr_host.specs.declared.thing.Thing.TheVariants as thing
+use Rattle.lr_host.specs.Fits.{IsFileAt}
+use Rattle.lr_host.specs.Lists.{IsIn}
+use Rattle.lr_host.specs.World.{Past, world, names}
+use Rattle.lr_family.specs.declared.stand.Stand.{Stand}
+use Rattle.lr_family.specs.Parts.{IsMembersPart}
+use Rattle.lr_family.specs.Spots.{path_at}
+use Rattle.lr_glob.specs.declared.found.Found.{Found as Match}
+use Rattle.lr_sought.specs.Finds.{FindsFile, StoodOrCame}
+use Rattle.lr_chain.specs.Rotation.{places_of}
+use Rattle.lr_plan.specs.declared.looks.SetLooks.{SetLooks}
+use Rattle.lr_looks.specs.Asked.{Word, asked_by}
+use Rattle.lr_looks.specs.Families.{LookedLog}
+use Rattle.lr_looks.specs.Shown.{ShowsLooks}
+use Rattle.lr_rotations.specs.Members.{HasName}
+
+-- What a word came to.
+pub record IsTrueWord (w : Word) (matches : List Match) (before behind : Past) : Type 0 where
+  -- each regular file that the word gives and that stood
+  pub files : (x : Path) → path_fault x ≡ None → IsFileAt (names (world before)) x → WordGives w.text x → FindsFile x matches
+  -- of a literal word whatever stood at its one path
+  pub literal : is_wildcard w.text ≡ false → path_fault (literal_path w.text) ≡ None → names (world before) (literal_path w.text) ≢ thing.Nothing → (m : Match) × (matches ≡ m ∷ []) × (m.path ≡ literal_path w.text)
+  -- each file among them stood, or a writer was attached to its path since
+  pub came : (m : Match) → IsIn m matches → m.seen.kind ≡ kind.File → StoodOrCame m.path before behind
+
+-- What stands of a family with numbers.
+pub record IsTrueFamily (n : Naming) (stand : Stand) (before behind : Past) : Type 0 where
+  -- each member that stood, and each part file of a member
+  pub members : (place : ℕ) → HasName n place → IsFileAt (names (world before)) (path_at n place) → Contains (places_of stand.members) place
+  pub parts : (x : Path) → IsMembersPart n x → IsFileAt (names (world before)) x → IsIn x stand.parts
+  -- each of them stood, or a writer was attached to its path since
+  pub member_came : (place : ℕ) → HasName n place → Contains (places_of stand.members) place → StoodOrCame (path_at n place) before behind
+  pub part_came : (x : Path) → IsIn x stand.parts → StoodOrCame x before behind
+
+-- So are the looks of a run: at each word that no fault passed over, and at the family of each log that none did.
+pub record AreTrue {reserved : List Path} (rules : List Rule) (sets : List SetLooks) (faults : List Fault) (ts : List Entry) (s : ShowsLooks reserved rules sets faults ts) (before behind : Past) : Type 0 where
+  pub words : (place : ℕ) (w : Word) (matches : List Match) → slice_get (asked_by rules) place ≡ Some w → slice_get s.entries.first.sights place ≡ Some (Ok matches) → IsTrueWord w matches before behind
+  pub families : (x : LookedLog) → IsIn x s.looked → IsTrueFamily x.naming x.stand before behind
