@@ -18,7 +18,7 @@ use Rattle.lr_host.proofs.Closed.{Touches, NoneTouches, by_bytes}
 use Rattle.lr_host.proofs.Each.{each_as, each_reverse}
 use Rattle.lr_host.proofs.Looked.{same_file}
 use Rattle.lr_host.proofs.Quiet.{before_last}
-use Rattle.lr_durable.specs.Renewing.{Renews, IsWritten}
+use Rattle.lr_durable.specs.Renewing.{Renews, IsWritten, HasText}
 use Rattle.lr_durable.specs.StateWhole.{part_of, renamed_paths, IsSettled, WritersSpare}
 use Rattle.lr_durable.proofs.Files.{LeavesFile}
 use Rattle.lr_durable.proofs.Lists.{At, at, each_last}
@@ -94,10 +94,7 @@ none_walk P x p _ _ far (by_tool {es = es} {q = q} {e = e} m i f) only a none = 
 
 -- ---- the writing
 
-module _ (state : Path) (dirs : List Path) (text : List ℕ) (p q : Past) (ts : List Entry) (m : Made p (reverse ts) q) (j : IsJournal p) (w : IsWritten state dirs text ts) (only : AttachedOnlySince (Spared state) p q) where
-  abbrev r : Renews state dirs text ts
-  r = w.renews
-
+module _ (state : Path) (dirs : List Path) (text : List ℕ) (p q : Past) (ts : List Entry) (m : Made p (reverse ts) q) (j : IsJournal p) (r : Renews state dirs text ts) (only : AttachedOnlySince (Spared state) p q) where
   abbrev part : Path
   part = part_of state
 
@@ -107,17 +104,32 @@ module _ (state : Path) (dirs : List Path) (text : List ℕ) (p q : Past) (ts : 
   calm : Each (λ e. LeavesFile state e × NamesNone e) r.after
   calm = each_as (λ e. is_disk_change e ≡ false) (λ e. LeavesFile state e × NamesNone e) r.after (calm_entry state) r.nothing_more
 
-  turn : At (Spared state) p q firsts (entry.Renames part state) r.after
+  -- the moment at which the part file gets the state's path
+  abbrev Turn : Type 0
+  Turn = At (Spared state) p q firsts (entry.Renames part state) r.after
+
+  turn : Turn
   turn = at (Spared state) p q firsts (entry.Renames part state) r.after tt (subst (λ (es : List Entry). Made p (reverse es) q) (in_two state dirs text ts r) m) only
 
-  is_settled : (t : At (Spared state) p q firsts (entry.Renames part state) r.after) → IsSettled state q
-  is_settled t = record { synced = synced; durable = none_false (world q).pending state none }
-    where
-      f : IsFilled state text t.mid
-      f = subst (λ (bs : List ℕ). IsFilled state bs t.mid) r.text_is (filled state (Spared state) (λ y s. s.1) r.front r.mode r.pieces dirs p t.mid j t.first t.only_first)
+  filled_at : (t : Turn) → IsFilled state text t.mid
+  filled_at t = subst (λ (bs : List ℕ). IsFilled state bs t.mid) r.text_is (filled state (Spared state) (λ y s. s.1) r.front r.mode r.pieces dirs p t.mid j t.first t.only_first)
 
+  -- the state's path names that file, to the end
+  own_at : (t : Turn) → (f : IsFilled state text t.mid) → IsOwn state f.file text q
+  own_at t f = own_walk (Spared state) state f.file (λ y s. s.0) text (t.mid ▸ entry.Renames part state) q (reverse r.after) t.second t.only_second (each_reverse (λ e. LeavesFile state e × NamesNone e) r.after calm) (renamed_own state text t.mid f).0
+
+  has_text_at : (t : Turn) → HasText state text q
+  has_text_at t = let f = filled_at t in let own = own_at t f in record { file = f.file; named = own.named; bytes = own.guarded.has }
+
+  has_text : HasText state text q
+  has_text = has_text_at turn
+
+  -- it is settled, where the state's directory was synced behind that
+  settled_at : (earlier later : List Entry) → r.after ≡ earlier ++ (entry.SyncsDir (parent_of state) ∷ later) → (t : Turn) → (f : IsFilled state text t.mid) → IsSettled state q
+  settled_at earlier later after_is t f = record { synced = synced; durable = none_false (world q).pending state none }
+    where
       own : IsOwn state f.file text q
-      own = own_walk (Spared state) state f.file (λ y s. s.0) text (t.mid ▸ entry.Renames part state) q (reverse r.after) t.second t.only_second (each_reverse (λ e. LeavesFile state e × NamesNone e) r.after calm) (renamed_own state text t.mid f).0
+      own = own_at t f
 
       safe : IsSafeFile state f.file text q
       safe = safe_walk (Spared state) state f.file text (t.mid ▸ entry.Renames part state) q (reverse r.after) (λ y s. s.0) t.second t.only_second (each_reverse (LeavesFile state) r.after (each_as (λ e. LeavesFile state e × NamesNone e) (LeavesFile state) r.after (λ e c. c.0) calm)) (renamed_own state text t.mid f).1
@@ -125,19 +137,27 @@ module _ (state : Path) (dirs : List Path) (text : List ℕ) (p q : Past) (ts : 
       synced : (g : ℕ) → names (world q) state ≡ thing.File g → length ((world q).files g).bytes ≤ ((world q).files g).synced
       synced g e = subst (λ (h : ℕ). length ((world q).files h).bytes ≤ ((world q).files h).synced) (same_file (names (world q) state) f.file g own.named e) (subst (λ (bs : List ℕ). length bs ≤ ((world q).files f.file).synced) (sym safe.0.has) safe.1)
 
-      later : At (Spared state) (t.mid ▸ entry.Renames part state) q w.earlier (entry.SyncsDir (parent_of state)) w.later
-      later = at (Spared state) (t.mid ▸ entry.Renames part state) q w.earlier (entry.SyncsDir (parent_of state)) w.later tt (subst (λ (es : List Entry). Made (t.mid ▸ entry.Renames part state) (reverse es) q) w.after_is t.second) t.only_second
+      after : At (Spared state) (t.mid ▸ entry.Renames part state) q earlier (entry.SyncsDir (parent_of state)) later
+      after = at (Spared state) (t.mid ▸ entry.Renames part state) q earlier (entry.SyncsDir (parent_of state)) later tt (subst (λ (es : List Entry). Made (t.mid ▸ entry.Renames part state) (reverse es) q) after_is t.second) t.only_second
 
-      behind : (s : At (Spared state) (t.mid ▸ entry.Renames part state) q w.earlier (entry.SyncsDir (parent_of state)) w.later) → NoneTouches (world q).pending state
-      behind s = none_walk (Spared state) state (s.mid ▸ entry.SyncsDir (parent_of state)) q (reverse w.later) (λ y h. h.0) s.second s.only_second
-          (each_reverse NamesNone w.later (each_last NamesNone (w.earlier ++ entry.SyncsDir (parent_of state) ∷ []) w.later (subst (Each NamesNone) (w.after_is ∙ sym (append_assoc w.earlier (entry.SyncsDir (parent_of state) ∷ []) w.later)) (each_as (λ e. LeavesFile state e × NamesNone e) NamesNone r.after (λ e c. c.1) calm))))
+      behind : (s : At (Spared state) (t.mid ▸ entry.Renames part state) q earlier (entry.SyncsDir (parent_of state)) later) → NoneTouches (world q).pending state
+      behind s = none_walk (Spared state) state (s.mid ▸ entry.SyncsDir (parent_of state)) q (reverse later) (λ y h. h.0) s.second s.only_second
+          (each_reverse NamesNone later (each_last NamesNone (earlier ++ entry.SyncsDir (parent_of state) ∷ []) later (subst (Each NamesNone) (after_is ∙ sym (append_assoc earlier (entry.SyncsDir (parent_of state) ∷ []) later)) (each_as (λ e. LeavesFile state e × NamesNone e) NamesNone r.after (λ e c. c.1) calm))))
           (none_undone (parent_of state) (world s.mid).pending state (is_parent (parent_of state) state refl))
 
       none : NoneTouches (world q).pending state
-      none = behind later
+      none = behind after
+
+in_order : (p q : Past) (es : List Entry) → Made p es q → Made p (reverse (reverse es)) q
+in_order p q es m = subst (λ (xs : List Entry). Made p xs q) (sym (reverse-reverse es)) m
+
+pub renewed_text : (state : Path) (dirs : List Path) (text : List ℕ) (p q : Past) (es : List Entry) → Made p es q → IsJournal p → Renews state dirs text (reverse es) → AttachedOnlySince (Spared state) p q → HasText state text q
+renewed_text state dirs text p q es m j r only = has_text state dirs text p q (reverse es) (in_order p q es m) j r only
 
 pub written_settled : (state : Path) (dirs : List Path) (text : List ℕ) (p q : Past) (es : List Entry) → Made p es q → IsJournal p → IsWritten state dirs text (reverse es) → WritersSpare state p q → IsSettled state q
-written_settled state dirs text p q es m j w spare = go (subst (λ (xs : List Entry). Made p xs q) (sym (reverse-reverse es)) m)
+written_settled state dirs text p q es m j w spare = go (in_order p q es m)
   where
     go : Made p (reverse (reverse es)) q → IsSettled state q
-    go m = is_settled state dirs text p q (reverse es) m j w spare.attached (turn state dirs text p q (reverse es) m j w spare.attached)
+    go m =
+        let t = turn state dirs text p q (reverse es) m j w.renews spare.attached in
+        settled_at state dirs text p q (reverse es) m j w.renews spare.attached w.earlier w.later w.after_is t (filled_at state dirs text p q (reverse es) m j w.renews spare.attached t)

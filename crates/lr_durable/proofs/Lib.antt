@@ -1,4 +1,4 @@
-mod Behind
+pub mod Behind
 mod Examples
 pub mod Files
 pub mod Leaving

@@ -3,11 +3,13 @@ use Rattle.std.specs.Prelude.{◌≡◌, ◌⊎◌, ℕ, false, List, ◌∷◌,
 use Rattle.std.specs.List.{flat_map}
 use Rattle.lr_rules.specs.declared.path.Path.{Path}
 use Rattle.lr_rules.specs.Path.{parent_of}
+use Rattle.lr_host.specs.declared.thing.Thing.TheVariants as thing
 use Rattle.lr_host.specs.declared.entry.Entry.{Entry}
 use Rattle.lr_host.specs.declared.entry.Entry.TheVariants.{Makes, Appends, SyncsFile, SyncsDir, Renames}
 use Rattle.lr_host.specs.Lists.{IsIn}
 use Rattle.lr_host.specs.Quiet.{is_disk_change}
 use Rattle.lr_host.specs.Told.{Each}
+use Rattle.lr_host.specs.World.{Past, world, names}
 use Rattle.lr_laws.specs.Follow.{changed_paths}
 use Rattle.lr_durable.specs.StateWhole.{part_of, renamed_paths}
 
@@ -42,3 +44,9 @@ pub record IsWritten (state : Path) (dirs : List Path) (text : List ℕ) (ts : L
   pub earlier : List Entry
   pub later : List Entry
   pub after_is : renews.after ≡ earlier ++ (SyncsDir (parent_of state) ∷ later)
+
+-- The path names a file with these bytes.
+pub record HasText (x : Path) (text : List ℕ) (p : Past) : Type 0 where
+  pub file : ℕ
+  pub named : names (world p) x ≡ thing.File file
+  pub bytes : ((world p).files file).bytes ≡ text

@@ -1,16 +1,17 @@
 // The state over the entries of a call.
-ghost use Rattle.std.specs.Prelude.{◌≡◌, ℕ, List, reverse};
+ghost use Rattle.std.specs.Prelude.{◌≡◌, ◌≢◌, ℕ, List, reverse};
 ghost use Rattle.lr_rules.specs.declared.path.Path.{Path};
 ghost use Rattle.lr_rules.specs.Path.{parent_of};
 ghost use Rattle.lr_host.specs.declared.entry.Entry.{Entry};
 ghost use Rattle.lr_host.specs.declared.entry.Entry.TheVariants as entry;
 ghost use Rattle.lr_host.specs.Kept.{Leaves};
 ghost use Rattle.lr_host.specs.Opening.{IsJournal};
+ghost use Rattle.lr_host.specs.Quiet.{AttachedOnlySince};
 ghost use Rattle.lr_host.specs.Safe.{IsPrefix};
 ghost use Rattle.lr_host.specs.Told.{Made};
 ghost use Rattle.lr_host.specs.World.{Past, ◌▸◌, world, Names, names, Change};
-ghost use Rattle.lr_durable.specs.Renewing.{MayRenew, IsWritten};
-ghost use Rattle.lr_durable.specs.StateWhole.{IsSettled, WritersSpare, IsWholeAt};
+ghost use Rattle.lr_durable.specs.Renewing.{MayRenew, Renews, IsWritten, HasText};
+ghost use Rattle.lr_durable.specs.StateWhole.{part_of, IsSettled, WritersSpare, IsWholeAt};
 
 /// Where a tool leaves its state alone, or writes it last, behind the syncs of its file and of all directories in which it
 /// changed a name, the state is the old one or the new one, whole, at each moment from the first to the last and after each
@@ -27,6 +28,13 @@ pub fn state_stays_whole()
 pub fn written_state_is_settled()
     ensures { (state : Path) (dirs : List Path) (text : List ℕ) (p q : Past) (es : List Entry) → Made p es q → IsJournal p
         → IsWritten state dirs text (reverse es) → WritersSpare state p q → IsSettled state q }
+{}
+
+/// Behind a renewing the state's path names a file with the whole text, whatever writers do that are attached neither to that
+/// path nor to that of its part file.
+pub fn renewed_state_has_its_text()
+    ensures { (state : Path) (dirs : List Path) (text : List ℕ) (p q : Past) (es : List Entry) → Made p es q → IsJournal p
+        → Renews state dirs text (reverse es) → AttachedOnlySince (λ x. (x ≢ state) × (x ≢ part_of state)) p q → HasText state text q }
 {}
 
 /// Behind the sync of a directory each path right in it names, after each cut, what it names now.
