@@ -34,13 +34,13 @@ use Rattle.lr_seen.proofs.Coming.{in_due, in_free, Comes, comes_from, of_look, w
 -- ---- two logs that are apart
 
 -- the paths differ, and the names don't meet, either way round
-abbrev Off : Path → Naming → Path → Naming → Type 0
+abbrev pub Off : Path → Naming → Path → Naming → Type 0
 Off p n q m = (p ≢ q) × (Meet p n q m → ⊥) × (Meet q m p n → ⊥)
 
 off_back : (p : Path) (n : Naming) (q : Path) (m : Naming) → Off p n q m → Off q m p n
 off_back p n q m h = (λ e. h.0 (sym e), h.2, h.1)
 
-abbrev OffFound : FoundLog → FoundLog → Type 0
+abbrev pub OffFound : FoundLog → FoundLog → Type 0
 OffFound f g = Off f.log.path f.log.naming g.log.path g.log.naming
 
 abbrev OffLooked : LookedLog → LookedLog → Type 0
@@ -229,9 +229,12 @@ all_pairs decide logs k (rule ∷ rules) (set ∷ sets) p h =
     cross : (t u : Target) → IsIn t (targets_of rule (decide rule) set.logs) → IsIn u (all_targets decide rules sets) → OffTarget t u
     cross t u i j = let a = own t i in off_of logs k t u p a.0 a.1 (is_of logs (k + 1) rules sets u h.1 (comes_from decide rules sets u j))
 
+-- the logs that are kept are apart
+pub kept_off : {reserved : List Path} (rules : List Rule) (sets : List SetLooks) (faults : List Fault) (ts : List Entry) (s : ShowsLooks reserved rules sets faults ts) → Pairs OffFound s.kept
+kept_off rules sets faults ts s = subst (Pairs OffFound) (sym s.keeps.left_are) (files_pairs (kept_of s.found s.keeps.choices) (kept_pairs s.found s.keeps.choices (choice_off s.found s.keeps.choices s.keeps.chosen)))
+
 looks_pairs : {reserved : List Path} (rules : List Rule) (sets : List SetLooks) (faults : List Fault) (ts : List Entry) (s : ShowsLooks reserved rules sets faults ts) → Pairs OffLooked s.looked
-looks_pairs rules sets faults ts s = subst (Pairs OffLooked) (sym s.entries.second.families.looked_are) (looked_pairs s.kept s.entries.second.families.sights
-    (subst (Pairs OffFound) (sym s.keeps.left_are) (files_pairs (kept_of s.found s.keeps.choices) (kept_pairs s.found s.keeps.choices (choice_off s.found s.keeps.choices s.keeps.chosen)))))
+looks_pairs rules sets faults ts s = subst (Pairs OffLooked) (sym s.entries.second.families.looked_are) (looked_pairs s.kept s.entries.second.families.sights (kept_off rules sets faults ts s))
 
 -- in the words of the laws
 none_has : (t : Target) (us : List Target) → AllByRecursion (OffTarget t) us → NoneHas t.log us

@@ -33,13 +33,13 @@ place_in [] x h = absurd h
 place_in (y ∷ ys) x (inl e) = (0, ap (λ z. Some z) e)
 place_in (y ∷ ys) x (inr i) = let r = place_in ys x i in (suc r.0, r.1)
 
-abbrev HasNone : List Path → FoundLog → Type 0
+abbrev pub HasNone : List Path → FoundLog → Type 0
 HasNone reserved f = (path : Path) → IsIn path reserved → IsName f.log.path f.log.naming path → ⊥
 
 abbrev Names : Path → (Path × Naming) → Type 0
 Names path n = IsName n.0 n.1 path
 
-kept_free : (reserved : List Path) (found : List FoundLog) (choices : List Choice) → IsChoiceAmong reserved found choices → AllByRecursion (HasNone reserved) (kept_of found choices)
+pub kept_free : (reserved : List Path) (found : List FoundLog) (choices : List Choice) → IsChoiceAmong reserved found choices → AllByRecursion (HasNone reserved) (kept_of found choices)
 kept_free reserved found choices c = kept_each (HasNone reserved) found choices (λ k f at kept path i named.
     let b : (b : Bor Family) × (slice_get c.logs k ≡ Some b) × (names_of b ≡ found_names f) = unmap_at names_of c.logs k (found_names f) (ap (λ (xs : List (Path × Naming)). slice_get xs k) c.same ∙ map_at found_names found k f at) in
     let p = place_in reserved path i in

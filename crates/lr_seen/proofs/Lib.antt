@@ -4,6 +4,7 @@ pub mod Coming
 pub mod Elements
 pub mod Free
 mod Gives
+pub mod Kept
 pub mod Listed
 pub mod Quiet
 pub mod Ready

@@ -1,18 +1,21 @@
 // What looks show of the logs of a plan.
-ghost use Rattle.std.specs.Prelude.{List};
+ghost use Rattle.std.specs.Prelude.{◌≢◌, List};
 ghost use Rattle.lr_rules.specs.declared.fault.Fault.{Fault};
 ghost use Rattle.lr_rules.specs.declared.path.Path.{Path};
 ghost use Rattle.lr_rules.specs.declared.rule.Rule.{Rule};
 ghost use Rattle.lr_rules.specs.declared.rules.Rules.{Rules};
+ghost use Rattle.lr_rules.specs.Names.{IsName, Meet};
 ghost use Rattle.lr_due.specs.declared.answer.Due.{Due};
 ghost use Rattle.lr_host.specs.declared.entry.Entry.{Entry};
+ghost use Rattle.lr_host.specs.Lists.{IsIn};
 ghost use Rattle.lr_host.specs.Quiet.{AreQuiet};
 ghost use Rattle.lr_plan.specs.declared.looks.LogLook.{LogLook};
 ghost use Rattle.lr_plan.specs.declared.looks.SetLooks.{SetLooks};
 ghost use Rattle.lr_plan.specs.Planned.{all_plans};
+ghost use Rattle.lr_looks.specs.Found.{FoundLog};
 ghost use Rattle.lr_looks.specs.Shown.{ShowsLooks, ShowsSomeLooks};
 ghost use Rattle.lr_rotations.specs.Apart.{HaveNames};
-ghost use Rattle.lr_rotations.specs.Target.{AreSeen};
+ghost use Rattle.lr_rotations.specs.Target.{Target, AreSeen, IsOneOf};
 ghost use Rattle.lr_weave.specs.Fitting.{DontMeet, ReadNoFiles};
 ghost use Rattle.lr_weave.specs.Planned.{HaveLogs, AreApart};
 ghost use Rattle.lr_fields.specs.Built.{AreBuiltRules};
@@ -46,6 +49,14 @@ pub fn targets_are_apart()
 pub fn targets_are_free()
     ensures { (reserved : List Path) (rules : List Rule) (sets : List SetLooks) (faults : List Fault) (ts : List Entry) (decide : Rule → LogLook → Due)
         → ShowsLooks reserved rules sets faults ts → AreFreeOf reserved (all_targets decide rules sets) }
+{}
+
+/// A log that the looks kept has no reserved name, and meets no other log that the plan rotates.
+pub fn kept_are_apart()
+    ensures free { (reserved : List Path) (rules : List Rule) (sets : List SetLooks) (faults : List Fault) (ts : List Entry) (f : FoundLog) (path : Path)
+        → (s : ShowsLooks reserved rules sets faults ts) → IsIn f s.kept → IsIn path reserved → IsName f.log.path f.log.naming path → ⊥ }
+    ensures meet { (reserved : List Path) (rules : List Rule) (sets : List SetLooks) (faults : List Fault) (ts : List Entry) (decide : Rule → LogLook → Due) (f : FoundLog) (t : Target)
+        → (s : ShowsLooks reserved rules sets faults ts) → IsIn f s.kept → IsOneOf t (all_targets decide rules sets) → t.log ≢ f.log.path → Meet t.log t.naming f.log.path f.log.naming → ⊥ }
 {}
 
 /// The plan has just them, each with its rotation ready; its programs read no file.

@@ -6,5 +6,6 @@
 mod laws;
 
 pub use laws::{
-    looks_are_quiet, looks_see_targets, plan_has_targets, targets_are_apart, targets_are_free,
+    kept_are_apart, looks_are_quiet, looks_see_targets, plan_has_targets, targets_are_apart,
+    targets_are_free,
 };
