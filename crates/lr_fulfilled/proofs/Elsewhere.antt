@@ -1,0 +1,110 @@
+-- The changes of a run are names of the logs that it rotates, and of its state; all else is left alone.
+use Rattle.std.proofs.Common.{◌≡◌, ◌≢◌, ◌⊎◌, inl, inr, ⊎_elim, Bool, true, false, cond, refl, sym, ◌∙◌, ap, subst, List, [], ◌∷◌, ◌++◌, reverse}
+use Rattle.std.specs.Prelude.{filter}
+use Rattle.std.proofs.lemmas.List.{reverse-reverse}
+use Rattle.std.proofs.lemmas.List.Elements.{filter-append}
+use Rattle.lr_rules.specs.declared.civil.Moment.{Moment}
+use Rattle.lr_rules.specs.declared.fault.Fault.{Fault}
+use Rattle.lr_rules.specs.declared.path.Path.{Path}
+use Rattle.lr_rules.specs.declared.rule.Rule.{Rule}
+use Rattle.lr_rules.specs.declared.rules.Rules.{Rules}
+use Rattle.lr_rules.specs.Names.{IsOwnName}
+use Rattle.lr_due.specs.declared.answer.Due.{Due}
+use Rattle.lr_host.specs.declared.entry.Entry.{Entry}
+use Rattle.lr_host.specs.declared.entry.Entry.TheVariants as entry
+use Rattle.lr_host.specs.Lists.{IsIn}
+use Rattle.lr_host.specs.Opening.{IsJournal}
+use Rattle.lr_host.specs.Quiet.{is_disk_change, AreQuiet}
+use Rattle.lr_host.specs.Steps.{is_change}
+use Rattle.lr_host.specs.Told.{Each, Made}
+use Rattle.lr_host.specs.World.{Past}
+use Rattle.lr_host.proofs.Each.{each_as, each_reverse, filter_reverse}
+use Rattle.lr_host.proofs.Quiet.{disk_of_changes, quiet_changes, quiet_still}
+use Rattle.lr_durable.specs.Renewing.{IsAsideOf}
+use Rattle.lr_looks.specs.Found.{FoundLog}
+use Rattle.lr_looks.specs.Shown.{ShowsLooks}
+use Rattle.lr_plan.specs.declared.looks.LogLook.{LogLook}
+use Rattle.lr_plan.specs.declared.looks.SetLooks.{SetLooks}
+use Rattle.lr_plan.specs.Steps.{state_part}
+use Rattle.lr_rotations.specs.AllTurns.{IsStatePath, IsOfState, IsOfSome, AllTurns}
+use Rattle.lr_rotations.specs.Apart.{HaveNames}
+use Rattle.lr_rotations.specs.Target.{Target, IsOneOf, AreSeen}
+use Rattle.lr_rotations.proofs.Apart.{own_change}
+use Rattle.lr_rotations.proofs.SeenFits.{seen_names}
+use Rattle.lr_seen.specs.Free.{reserved_by}
+use Rattle.lr_seen.specs.Targets.{all_targets}
+use Rattle.lr_seen.proofs.Kept.{kept_has_none, kept_meets_none}
+use Rattle.lr_fulfilled.specs.Fulfilled.{IsElsewhere, HasNone}
+use Rattle.lr_fulfilled.specs.Left.{IsLeftAlone}
+use Rattle.lr_fulfilled.proofs.Left.{left_alone}
+
+-- ---- one change
+
+some_aside : (x : Path) (ts : List Target) (e : Entry) → HaveNames ts → ((t : Target) → IsOneOf t ts → IsOwnName t.log t.naming x → ⊥) → IsOfSome ts e → IsAsideOf x e
+some_aside x [] e h none i = absurd i
+some_aside x (t ∷ ts) e h none (inl i) = λ at. none t (inl refl) (own_change t e h.0 i x at)
+some_aside x (t ∷ ts) e h none (inr i) = some_aside x ts e h.1 (λ u j. none u (inr j)) i
+
+no_state_path : (state x y : Path) → x ≢ state → x ≢ state_part state → IsStatePath state y → y ≡ x → ⊥
+no_state_path state x y a b (inl is) same = a (sym same ∙ is)
+no_state_path state x y a b (inr is) same = b (sym same ∙ is)
+
+state_aside : (state x : Path) (e : Entry) → x ≢ state → x ≢ state_part state → IsOfState state e → IsAsideOf x e
+state_aside state x (entry.Renames from to) a b h = λ i. ⊎_elim (λ same. no_state_path state x from a b h.0 same) (λ j. ⊎_elim (λ same. no_state_path state x to a b h.1 same) (λ none. none) j) i
+state_aside state x (entry.Makes y mode) a b h = λ i. ⊎_elim (λ same. no_state_path state x y a b h same) (λ none. none) i
+state_aside state x (entry.Appends y bytes) a b h = λ i. ⊎_elim (λ same. no_state_path state x y a b h same) (λ none. none) i
+state_aside state x (entry.Unlinks y) a b h = λ i. ⊎_elim (λ same. no_state_path state x y a b h same) (λ none. none) i
+state_aside state x _ a b h = absurd h
+
+-- of the state, or of one of the logs
+abbrev pub IsOfRun : Path → List Target → Entry → Type 0
+IsOfRun state targets e = IsOfSome targets e ⊎ IsOfState state e
+
+one_aside : (state x : Path) (targets : List Target) (e : Entry) → HaveNames targets → IsElsewhere state targets x → IsOfRun state targets e → IsAsideOf x e
+one_aside state x targets e h away (inl i) = some_aside x targets e h away.no_name i
+one_aside state x targets e h away (inr i) = state_aside state x e away.no_state away.no_part i
+
+-- ---- all changes
+
+each_passed : (P : Entry → Type 0) (f : Entry → Bool) (es : List Entry) → Each P es → Each P (filter f es)
+each_passed P f [] a = tt
+each_passed P f (e ∷ es) a = go (f e) (each_passed P f es a.1)
+  where
+    go : (b : Bool) → Each P (filter f es) → Each P (cond b (e ∷ filter f es) (filter f es))
+    go true rest = (a.0, rest)
+    go false rest = rest
+
+-- entries whose changes are of the state and of these logs leave all else alone
+pub elsewhere_left : (state : Path) (targets : List Target) (p q : Past) (es ts : List Entry) (x : Path) → Made p es q → IsJournal p → HaveNames targets → IsElsewhere state targets x → filter is_disk_change (reverse es) ≡ filter is_disk_change ts → Each (IsOfRun state targets) (filter is_change ts) → IsLeftAlone p q x
+elsewhere_left state targets p q es ts x m j h away same a = left_alone p q es x m j
+    (subst (Each (IsAsideOf x)) (sym (filter_reverse is_disk_change (reverse es)) ∙ ap (filter is_disk_change) (reverse-reverse es)) (each_reverse (IsAsideOf x) (filter is_disk_change (reverse es)) in_order))
+  where
+    in_order : Each (IsAsideOf x) (filter is_disk_change (reverse es))
+    in_order = subst (Each (IsAsideOf x)) (disk_of_changes ts ∙ sym same)
+        (each_passed (IsAsideOf x) is_disk_change (filter is_change ts) (each_as (IsOfRun state targets) (IsAsideOf x) (filter is_change ts) (λ e i. one_aside state x targets e h away i) a))
+
+-- ---- a run that looks first
+
+seen_have_names : (rules : Rules) (looks : List Entry) (ts : List Target) → AreSeen rules looks ts → HaveNames ts
+seen_have_names rules looks [] s = tt
+seen_have_names rules looks (t ∷ ts) s = (seen_names rules looks t s.0, seen_have_names rules looks ts s.1)
+
+-- what stands before its changes changes nothing
+pub behind_start : (state : Path) (now : Moment) (rules : Rules) (reads tail : List Entry) → AreQuiet reads → filter is_disk_change (reads ++ entry.Starts state now rules ∷ tail) ≡ filter is_disk_change tail
+behind_start state now rules reads tail quiet = filter-append is_disk_change reads (entry.Starts state now rules ∷ tail) ∙ ap (λ (xs : List Entry). xs ++ filter is_disk_change tail) (quiet_still reads quiet)
+
+pub turns_leave : (state : Path) (now : Moment) (rules : Rules) (p q : Past) (es reads tail : List Entry) (x : Path) (t : AllTurns state rules tail) → Made p es q → IsJournal p → reverse es ≡ reads ++ entry.Starts state now rules ∷ tail → AreQuiet reads
+    → IsElsewhere state t.targets x → IsLeftAlone p q x
+turns_leave state now rules p q es reads tail x t m j joined quiet away = elsewhere_left state t.targets p q es tail x m j (seen_have_names rules t.looks t.targets t.seen) away
+    (ap (filter is_disk_change) joined ∙ behind_start state now rules reads tail quiet)
+    (subst (Each (IsOfRun state t.targets)) (sym (ap (filter is_change) t.joined ∙ (filter-append is_change t.looks t.acts ∙ ap (λ (xs : List Entry). xs ++ filter is_change t.acts) (quiet_changes t.looks t.quiet)))) t.all)
+
+-- ---- a log that was kept
+
+pub kept_elsewhere : (state : Path) (rules : List Rule) (sets : List SetLooks) (faults : List Fault) (ts : List Entry) (decide : Rule → LogLook → Due) (f : FoundLog) (x : Path) → (s : ShowsLooks (reserved_by state) rules sets faults ts) → IsIn f s.kept
+    → HasNone (all_targets decide rules sets) f.log.path → IsOwnName f.log.path f.log.naming x → IsElsewhere state (all_targets decide rules sets) x
+kept_elsewhere state rules sets faults ts decide f x s kept none own = record {
+  no_state = λ same. kept_has_none rules sets faults ts s f kept state (inl refl) (inl (subst (IsOwnName f.log.path f.log.naming) same own));
+  no_part = λ same. kept_has_none rules sets faults ts s f kept (state_part state) (inr (inl refl)) (inl (subst (IsOwnName f.log.path f.log.naming) same own));
+  no_name = λ t one named. kept_meets_none rules sets faults ts s f kept decide t one (none t one) (x, inl (named, inl own));
+}

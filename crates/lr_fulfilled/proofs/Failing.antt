@@ -1,0 +1,105 @@
+-- Where a run tells of nothing that failed, its acts met no fault.
+use Rattle.std.proofs.Common.{◌≡◌, ◌⊎◌, inl, inr, ⊎_elim, ◌+◌, ℕ, Bool, true, false, refl, sym, ◌∙◌, ap, subst, arith, List, [], ◌∷◌, ◌++◌, map, Option, Some}
+use Rattle.lr_rules.specs.declared.civil.Moment.{Moment}
+use Rattle.lr_rules.specs.declared.fault.CallKind.TheVariants as call
+use Rattle.lr_rules.specs.declared.fault.Fault.{Fault}
+use Rattle.lr_rules.specs.declared.fault.Fault.TheVariants as fault
+use Rattle.lr_rules.specs.declared.path.Path.{Path}
+use Rattle.lr_rules.specs.declared.rule.Rule.{Rule}
+use Rattle.lr_rules.specs.Path.{parent_of}
+use Rattle.lr_host.specs.declared.entry.Entry.{Entry}
+use Rattle.lr_host.specs.Counted.{call_in, calls_in}
+use Rattle.lr_host.specs.Lists.{IsIn}
+use Rattle.lr_host.proofs.Lists.{in_back}
+use Rattle.lr_plan.specs.declared.mark.Mark.{Mark}
+use Rattle.lr_plan.specs.declared.step.Step.{Step}
+use Rattle.lr_plan.specs.declared.step.Step.TheVariants.{Removes, Renames, Takes, Appends, SyncsFile, SyncsDir}
+use Rattle.lr_plan.specs.Course.{Course}
+use Rattle.lr_plan.specs.Done.{ActsDone}
+use Rattle.lr_plan.specs.Outcomes.{Fails}
+use Rattle.lr_plan.specs.Steps.{state_part, step_if, state_steps}
+use Rattle.lr_run.specs.Runs.{Worked, plan_in, state_text}
+use Rattle.lr_run.proofs.Called.{none_behind, worked_met_none}
+use Rattle.lr_fulfilled.specs.Fulfilled.{NothingFailed}
+
+-- ---- the writing of the state
+
+-- it tells of a failed call, or that the path of the part file was named
+abbrev IsOfWriting : Path → Fault → Type 0
+IsOfWriting part f = (call_in f ≡ 1) ⊎ (f ≡ fault.Taken part)
+
+-- however the step fails, it tells so
+abbrev TellsSo : Path → Step → Type 0
+TellsSo part s = (f : Fault) (ts : List Entry) → Fails s f ts → IsOfWriting part f
+
+abbrev TellSo : Path → List Step → Type 0
+TellSo part [] = Unit {0}
+TellSo part (s ∷ ss) = TellsSo part s × TellSo part ss
+
+tell_both : (part : Path) (xs ys : List Step) → TellSo part xs → TellSo part ys → TellSo part (xs ++ ys)
+tell_both part [] ys a b = b
+tell_both part (x ∷ xs) ys a b = (a.0, tell_both part xs ys a.1 b)
+
+is_call : (part : Path) (f g : Fault) → f ≡ g → call_in g ≡ 1 → IsOfWriting part f
+is_call part f g e one = inl (ap call_in e ∙ one)
+
+removes : (part x : Path) → TellsSo part (Removes x)
+removes part x f ts h = is_call part f (fault.Call call.Unlink x) h.0 refl
+
+takes : (part : Path) (mode : Option ℕ) → TellsSo part (Takes part mode)
+takes part mode f ts (inl h) = is_call part f (fault.Call call.Make part) h.0 refl
+takes part mode f ts (inr h) = inr h.0
+
+appends : (part x : Path) (text : List ℕ) → TellsSo part (Appends x text)
+appends part x text f ts h = is_call part f (fault.Call call.Append x) h.0 refl
+
+syncs_file : (part x : Path) → TellsSo part (SyncsFile x)
+syncs_file part x f ts h = is_call part f (fault.Call call.Sync x) h.0 refl
+
+syncs_dir : (part x : Path) → TellsSo part (SyncsDir x)
+syncs_dir part x f ts h = is_call part f (fault.Call call.Sync x) h.0 refl
+
+renames : (part from to : Path) → TellsSo part (Renames from to)
+renames part from to f ts h = is_call part f (fault.Call call.Rename from) h.0 refl
+
+all_synced : (part : Path) (dirs : List Path) → TellSo part (map SyncsDir dirs)
+all_synced part [] = tt
+all_synced part (d ∷ dirs) = (syncs_dir part d, all_synced part dirs)
+
+cleared : (part : Path) (stale : Bool) → TellSo part (step_if stale (Removes part))
+cleared part true = (removes part part, tt)
+cleared part false = tt
+
+state_tells : (state : Path) (stale : Bool) (dirs : List Path) (text : List ℕ) → TellSo (state_part state) (state_steps state stale dirs text)
+state_tells state stale dirs text = tell_both part (step_if stale (Removes part)) _ (cleared part stale)
+    (takes part (Some 416), (appends part part text, (syncs_file part part, tell_both part (map SyncsDir dirs) _ (all_synced part dirs) (renames part part state, (syncs_dir part (parent_of state), tt)))))
+  where
+    part : Path
+    part = state_part state
+
+-- such steps met no fault, where no call failed and the path wasn't named
+course_none : (part : Path) (steps : List Step) (ms : List Mark) (fs : List Fault) (ts : List Entry) → TellSo part steps → Course steps ms fs ts → calls_in fs ≡ 0 → (IsIn (fault.Taken part) fs → ⊥) → fs ≡ []
+course_none part [] ms fs ts tell c no_call free = c.1
+course_none part (s ∷ ss) ms fs ts tell (inl h) no_call free = absurd (⊎_elim
+    (λ (one : call_in h.fault ≡ 1). let all : calls_in fs ≡ call_in h.fault + 0 = ap calls_in h.told in omega (arith, one, all, no_call))
+    (λ (taken : h.fault ≡ fault.Taken part). free (subst (IsIn (fault.Taken part)) (sym h.told) (inl taken)))
+    (tell.0 h.fault ts h.failed))
+course_none part (s ∷ ss) ms fs ts tell (inr g) no_call free = course_none part ss g.later fs g.entries.back tell.1 g.entries.second no_call free
+
+-- ---- all acts
+
+pub worked_met_nothing : (state : Path) (rules : List Rule) (now : Moment) (force : Bool) (own : List Fault) (ts : List Entry) → (w : Worked state rules now force own ts) → NothingFailed state own → w.acted.of_acts ≡ []
+worked_met_nothing state rules now force own ts w n = a.faults_are ∙ (ap (λ fs. fs ++ a.of_state) (worked_met_none state rules now force own ts w n.no_call n.no_end n.no_copy) ∙ wrote)
+  where
+    a : ActsDone (plan_in state rules ts w.looked now force) state w.looked.remembered.stale (λ made. w.acted.dirs) (state_text state rules ts w.looked now) w.acted.marks w.acted.of_acts w.looked.acts
+    a = w.acted.entries
+
+    acts_called : calls_in w.acted.of_acts ≡ 0
+    acts_called = none_behind _ (plan_in state rules ts w.looked now force).faults w.acted.of_acts refl (none_behind own w.looked.of_looks _ w.acted.faults_are n.no_call)
+
+    in_own : IsIn (fault.Taken (state_part state)) a.of_state → IsIn (fault.Taken (state_part state)) own
+    in_own i = subst (IsIn (fault.Taken (state_part state))) (sym w.acted.faults_are)
+        (in_back _ w.looked.of_looks _ (in_back _ (plan_in state rules ts w.looked now force).faults w.acted.of_acts (subst (IsIn (fault.Taken (state_part state))) (sym a.faults_are) (in_back _ a.of_plan a.of_state i))))
+
+    wrote : a.of_state ≡ []
+    wrote = course_none (state_part state) _ [] a.of_state a.entries.back (state_tells state w.looked.remembered.stale w.acted.dirs _) a.entries.second (none_behind w.acted.of_acts a.of_plan a.of_state a.faults_are acts_called) (λ i. n.not_taken (in_own i))

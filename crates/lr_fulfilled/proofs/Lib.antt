@@ -1,0 +1,7 @@
+pub mod Acts
+pub mod Elsewhere
+pub mod Failing
+pub mod Fulfilled
+pub mod Left
+mod Logs
+pub mod Planned

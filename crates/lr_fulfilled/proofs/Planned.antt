@@ -1,0 +1,33 @@
+-- The acts of a plan without a fault.
+use Rattle.std.proofs.Common.{◌≡◌, ℕ, Bool, refl, sym, ◌∙◌, ap, subst, List, [], ◌++◌}
+use Rattle.std.specs.Prelude.{filter}
+use Rattle.std.proofs.lemmas.List.Elements.{filter-append}
+use Rattle.lr_rules.specs.declared.path.Path.{Path}
+use Rattle.lr_host.specs.declared.entry.Entry.{Entry}
+use Rattle.lr_acts.specs.Making.{all_of_sets}
+use Rattle.lr_plan.specs.declared.mark.Mark.{Mark}
+use Rattle.lr_plan.specs.declared.planned.Plan.{Plan}
+use Rattle.lr_plan.specs.Done.{ActsDone, rotated_logs}
+use Rattle.lr_plan.specs.Steps.{steps_of_plan, state_steps}
+use Rattle.lr_run.specs.Runs.{logs_in}
+use Rattle.lr_fulfilled.specs.Acts.{is_act, AreActsOf}
+use Rattle.lr_fulfilled.proofs.Acts.{acts_both, Went, none_of, course_went, sets_went}
+use Rattle.lr_fulfilled.proofs.Logs.{plan_logs, sets_stand}
+
+module _ (plan : Plan) (state : Path) (stale : Bool) (dirs : List Mark → List Path) (text : List Path → List ℕ) (marks : List Mark) (ts : List Entry) (d : ActsDone plan state stale dirs text marks [] ts) where
+  parts : (d.of_plan ≡ []) × (d.of_state ≡ [])
+  parts = none_of [] d.of_plan d.of_state d.faults_are refl
+
+  went : Went (all_of_sets (steps_of_plan plan)) marks d.entries.front
+  went = sets_went (steps_of_plan plan) marks d.of_plan d.entries.front (sets_stand plan.sets) parts.0 d.entries.first
+
+  pub logs_planned : rotated_logs marks ≡ logs_in plan
+  logs_planned = ap rotated_logs went.marks_are ∙ plan_logs plan
+
+  wrote : AreActsOf (state_steps state stale (dirs marks) (text (rotated_logs marks))) (filter is_act d.entries.back)
+  wrote = (course_went (state_steps state stale (dirs marks) (text (rotated_logs marks))) [] d.of_state d.entries.back parts.1 d.entries.second).acts
+
+  pub acts_planned : AreActsOf (all_of_sets (steps_of_plan plan) ++ state_steps state stale (dirs marks) (text (logs_in plan))) (filter is_act ts)
+  acts_planned = subst (λ (logs : List Path). AreActsOf (all_of_sets (steps_of_plan plan) ++ state_steps state stale (dirs marks) (text logs)) (filter is_act ts)) logs_planned
+      (subst (AreActsOf (all_of_sets (steps_of_plan plan) ++ state_steps state stale (dirs marks) (text (rotated_logs marks)))) (sym (ap (filter is_act) d.entries.joined ∙ filter-append is_act d.entries.front d.entries.back))
+      (acts_both (all_of_sets (steps_of_plan plan)) (state_steps state stale (dirs marks) (text (rotated_logs marks))) (filter is_act d.entries.front) (filter is_act d.entries.back) went.acts wrote))

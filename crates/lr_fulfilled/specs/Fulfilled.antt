@@ -1,0 +1,64 @@
+-- What a run makes of its plan, where nothing failed.
+use Rattle.std.specs.Prelude.{◌≡◌, ◌≢◌, Bool, List, ◌++◌, filter, None}
+use Rattle.lr_rules.specs.declared.civil.Moment.{Moment}
+use Rattle.lr_rules.specs.declared.fault.Fault.{Fault}
+use Rattle.lr_rules.specs.declared.fault.Fault.TheVariants as fault
+use Rattle.lr_rules.specs.declared.path.Path.{Path}
+use Rattle.lr_rules.specs.declared.rule.Rule.{Rule}
+use Rattle.lr_rules.specs.Names.{IsOwnName}
+use Rattle.lr_host.specs.declared.entry.Entry.{Entry}
+use Rattle.lr_host.specs.Counted.{calls_in, scripts_in}
+use Rattle.lr_host.specs.Lists.{IsIn}
+use Rattle.lr_host.specs.Quiet.{AttachedOnlySince}
+use Rattle.lr_host.specs.World.{Past}
+use Rattle.lr_durable.specs.Renewing.{HasText}
+use Rattle.lr_acts.specs.Making.{all_of_sets}
+use Rattle.lr_looks.specs.Found.{FoundLog}
+use Rattle.lr_plan.specs.declared.step.Step.{Step}
+use Rattle.lr_plan.specs.Steps.{steps_of_plan, state_part, state_steps}
+use Rattle.lr_rotations.specs.Target.{Target, IsOneOf}
+use Rattle.lr_run.specs.Copied.{NoneOfCopy}
+use Rattle.lr_run.specs.Rotated.{rotated_in, IsRotatedAmong}
+use Rattle.lr_run.specs.Runs.{Looked, logs_in, changed_in, plan_in, state_text}
+use Rattle.lr_writing.specs.Directories.{AreDirectoriesOf}
+use Rattle.lr_fulfilled.specs.Acts.{is_act, AreActsOf}
+use Rattle.lr_fulfilled.specs.Left.{IsLeftAlone}
+
+-- Nothing failed of what a run did, by its own faults: none tells of a call that failed, of a program that ended badly or of a copy that broke off, and none that the path of the file was named to which a new state is first written. So each tells of what the looks saw, or of what the plan couldn't rotate.
+pub record NothingFailed (state : Path) (faults : List Fault) : Type 0 where
+  pub no_call : calls_in faults ≡ 0
+  pub no_end : scripts_in faults ≡ 0
+  pub no_copy : NoneOfCopy faults
+  pub not_taken : IsIn (fault.Taken (state_part state)) faults → ⊥
+
+-- the steps of the plan that follows from these looks, and then those of the writing of the state, with each log of the plan as rotated
+abbrev pub steps_in : (state : Path) (rules : List Rule) (ts : List Entry) → Looked state rules ts → Moment → Bool → List Path → List Step
+steps_in state rules ts l now force dirs =
+    all_of_sets (steps_of_plan (plan_in state rules ts l now force)) ++ state_steps state l.remembered.stale dirs (state_text state rules ts l now (logs_in (plan_in state rules ts l now force)))
+
+-- The path is none of the state's, and no name of these logs.
+pub record IsElsewhere (state : Path) (targets : List Target) (x : Path) : Type 0 where
+  pub no_state : x ≢ state
+  pub no_part : x ≢ state_part state
+  pub no_name : (t : Target) → IsOneOf t targets → IsOwnName t.log t.naming x → ⊥
+
+-- none of these has the log
+abbrev pub HasNone : List Target → Path → Type 0
+HasNone targets log = (t : Target) → IsOneOf t targets → t.log ≢ log
+
+-- Of a run that came to its plan by these looks, with these faults of its own, and of all entries between the two pasts: what it planned was done, and nothing else.
+pub record IsFulfilled (state : Path) (rules : List Rule) (now : Moment) (force : Bool) (ts : List Entry) (l : Looked state rules ts) (own : List Fault) (all : List Entry) (before after : Past) : Type 0 where
+  -- its faults are those of the looks and of the plan, and no other
+  pub faults : own ≡ l.of_looks ++ (plan_in state rules ts l now force).faults
+  -- the acts, in order, are those of the plan's steps and then those of the state's writing, before which these directories are synced
+  pub dirs : List Path
+  pub dirs_are : AreDirectoriesOf (changed_in (plan_in state rules ts l now force)) dirs
+  pub acts : AreActsOf (steps_in state rules ts l now force dirs) (filter is_act all)
+  -- each log of the plan that isn't copied was rotated, file by file
+  pub rotated : (t : Target) → IsOneOf t (rotated_in state rules ts l now force) → t.job ≡ None → IsRotatedAmong state (rotated_in state rules ts l now force) before after t
+  -- the state tells of each of them, where no writer was attached to its path or to that of its part file
+  pub written : AttachedOnlySince (λ x. (x ≢ state) × (x ≢ state_part state)) before after → HasText state (state_text state rules ts l now (logs_in (plan_in state rules ts l now force))) after
+  -- each other log that is kept was left alone, with its members
+  pub kept : (f : FoundLog) → IsIn f l.shown.kept → HasNone (rotated_in state rules ts l now force) f.log.path → (x : Path) → IsOwnName f.log.path f.log.naming x → IsLeftAlone before after x
+  -- and so was all else
+  pub others : (x : Path) → IsElsewhere state (rotated_in state rules ts l now force) x → IsLeftAlone before after x

@@ -1,0 +1,70 @@
+// What a run of which nothing failed makes of its plan.
+ghost use Rattle.std.specs.Prelude.{◌≡◌, ℕ, Bool, List, [], ◌∷◌, ◌++◌, filter, reverse};
+ghost use Rattle.lr_rules.specs.declared.civil.Moment.{Moment};
+ghost use Rattle.lr_rules.specs.declared.fault.Fault.{Fault};
+ghost use Rattle.lr_rules.specs.declared.path.Path.{Path};
+ghost use Rattle.lr_rules.specs.declared.rule.Rule.{Rule};
+ghost use Rattle.lr_rules.specs.declared.rules.Rules.{Rules};
+ghost use Rattle.lr_rules.specs.Names.{IsOwnName};
+ghost use Rattle.lr_due.specs.declared.answer.Due.{Due};
+ghost use Rattle.lr_fields.specs.Built.{AreBuiltRules};
+ghost use Rattle.lr_host.specs.declared.entry.Entry.{Entry};
+ghost use Rattle.lr_host.specs.declared.entry.Entry.TheVariants.{Starts};
+ghost use Rattle.lr_host.specs.Lists.{IsIn};
+ghost use Rattle.lr_host.specs.Opening.{IsJournal};
+ghost use Rattle.lr_host.specs.Quiet.{AreQuiet};
+ghost use Rattle.lr_host.specs.Told.{Made};
+ghost use Rattle.lr_host.specs.World.{Past};
+ghost use Rattle.lr_acts.specs.Making.{all_of_sets};
+ghost use Rattle.lr_looks.specs.Found.{FoundLog};
+ghost use Rattle.lr_looks.specs.Shown.{ShowsLooks};
+ghost use Rattle.lr_plan.specs.declared.looks.LogLook.{LogLook};
+ghost use Rattle.lr_plan.specs.declared.looks.SetLooks.{SetLooks};
+ghost use Rattle.lr_plan.specs.declared.mark.Mark.{Mark};
+ghost use Rattle.lr_plan.specs.declared.planned.Plan.{Plan};
+ghost use Rattle.lr_plan.specs.Done.{ActsDone, rotated_logs};
+ghost use Rattle.lr_plan.specs.Steps.{steps_of_plan, state_steps};
+ghost use Rattle.lr_rotations.specs.AllTurns.{AllTurns};
+ghost use Rattle.lr_run.specs.Dry.{AreSights};
+ghost use Rattle.lr_run.specs.Runs.{Inside, Worked, logs_in};
+ghost use Rattle.lr_seen.specs.Free.{reserved_by};
+ghost use Rattle.lr_seen.specs.Targets.{all_targets};
+ghost use Rattle.lr_fulfilled.specs.Acts.{is_act, AreActsOf};
+ghost use Rattle.lr_fulfilled.specs.Fulfilled.{NothingFailed, IsElsewhere, HasNone, IsFulfilled};
+ghost use Rattle.lr_fulfilled.specs.Left.{IsLeftAlone};
+
+/// A run that came to its plan, behind looks, listings and reads, and whose own faults tell of nothing that failed,
+/// fulfilled it, whatever writers did meanwhile: its acts are those of the plan, each log of the plan was rotated, the state
+/// tells of them, and all else was left alone.
+pub fn run_is_fulfilled()
+    ensures { (state : Path) (force : Bool) (now : Moment) (rules : Rules) (own : List Fault) (p q : Past) (es reads acts : List Entry) → AreBuiltRules rules.sets
+        → Made p es q → IsJournal p → reverse es ≡ reads ++ acts → AreSights reads → (i : Inside state now rules (Worked state rules.sets now force own) acts) → NothingFailed state own
+        → IsFulfilled state rules.sets now force i.between i.within.looked own (reverse es) p q }
+{}
+
+/// Acts of a plan without a fault, with the writing of the state behind them: they are those of all its steps, in order, and
+/// each of its logs counts as rotated. So it is of every plan.
+pub fn acts_are_planned()
+    ensures acts { (plan : Plan) (state : Path) (stale : Bool) (dirs : List Mark → List Path) (text : List Path → List ℕ) (marks : List Mark) (ts : List Entry) → ActsDone plan state stale dirs text marks [] ts
+        → AreActsOf (all_of_sets (steps_of_plan plan) ++ state_steps state stale (dirs marks) (text (logs_in plan))) (filter is_act ts) }
+    ensures logs { (plan : Plan) (state : Path) (stale : Bool) (dirs : List Mark → List Path) (text : List Path → List ℕ) (marks : List Mark) (ts : List Entry) → ActsDone plan state stale dirs text marks [] ts
+        → rotated_logs marks ≡ logs_in plan }
+{}
+
+/// Where a run tells of nothing that failed, its acts met no fault.
+pub fn run_meets_no_fault()
+    ensures { (state : Path) (rules : List Rule) (now : Moment) (force : Bool) (own : List Fault) (ts : List Entry) → (w : Worked state rules now force own ts) → NothingFailed state own → w.acted.of_acts ≡ [] }
+{}
+
+/// A run leaves alone what is no path of its state and no name of a log that it rotates, however far it came, and whatever
+/// failed.
+pub fn others_are_left()
+    ensures { (state : Path) (now : Moment) (rules : Rules) (p q : Past) (es reads tail : List Entry) (x : Path) (t : AllTurns state rules tail) → Made p es q → IsJournal p → reverse es ≡ reads ++ Starts state now rules ∷ tail → AreQuiet reads
+        → IsElsewhere state t.targets x → IsLeftAlone p q x }
+{}
+
+/// Each name of a log that the looks kept, and that none of these has, is such a path.
+pub fn kept_are_elsewhere()
+    ensures { (state : Path) (rules : List Rule) (sets : List SetLooks) (faults : List Fault) (ts : List Entry) (decide : Rule → LogLook → Due) (f : FoundLog) (x : Path) → (s : ShowsLooks (reserved_by state) rules sets faults ts)
+        → IsIn f s.kept → HasNone (all_targets decide rules sets) f.log.path → IsOwnName f.log.path f.log.naming x → IsElsewhere state (all_targets decide rules sets) x }
+{}
