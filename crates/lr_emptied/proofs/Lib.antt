@@ -2,7 +2,7 @@ pub mod Acts
 pub mod Entries
 mod Examples
 pub mod Jobs
-mod Lists
-mod Made
+pub mod Lists
+pub mod Made
 pub mod Steps
 pub mod Whole

@@ -1,0 +1,9 @@
+pub mod Among
+mod Beside
+pub mod Changes
+pub mod Copy
+pub mod Moments
+pub mod Stands
+pub mod Turned
+pub mod Walks
+pub mod Weaves
