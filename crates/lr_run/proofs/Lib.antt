@@ -13,6 +13,7 @@ pub mod Shape
 mod Parts
 mod Ending
 pub mod Rotating
+pub mod Turning
 mod Covering
 pub mod Renewing
 pub mod Emptying

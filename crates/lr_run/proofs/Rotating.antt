@@ -85,51 +85,56 @@ worked_whole state rules now force own ts built w none =
     (targets_apart rules.sets w.looked.sets w.looked.of_looks w.looked.looks (decision w.looked.remembered.table now force) w.looked.shown))
     (subst (λ (fs : List Fault). PlanDone (plan_in state rules.sets ts w.looked now force) w.acted.marks fs w.acted.entries.entries.front) none w.acted.entries.entries.first)
 
-pub run_rotated : (state : Path) (force : Bool) (now : Moment) (rules : Rules) (own : List Fault) (p q : Past) (es reads acts : List Entry) → AreBuiltRules rules.sets → Made p es q → IsJournal p → reverse es ≡ reads ++ acts → AreQuiet reads
-    → (i : Inside state now rules (Worked state rules.sets now force own) acts) → calls_in own ≡ 0 → scripts_in own ≡ 0 → NoneOfCopy own → (t : Target) → IsOneOf t (rotated_in state rules.sets i.between i.within.looked now force) → t.job ≡ None
-    → IsRotatedAmong state (rotated_in state rules.sets i.between i.within.looked now force) p q t
-run_rotated state force now rules own p q es reads acts built made journal joined quiet i no_call no_end no_copy t one by_rename = λ unattached. (
-  seen_members (other_paths state t.log targets) t.log t.naming t.count t.stand p q es made journal has.family has.next unattached aside_paths among,
-  rotated_whole (other_paths state t.log targets) t.log t.naming t.count t.stand p q es made journal has.family has.next unattached aside_paths among,
-)
-  where
-    w : Worked state rules.sets now force own i.between
-    w = i.within
+module _ (state : Path) (force : Bool) (now : Moment) (rules : Rules) (own : List Fault) (p q : Past) (es reads acts : List Entry) (built : AreBuiltRules rules.sets) (made : Made p es q) (journal : IsJournal p) (joined : reverse es ≡ reads ++ acts) (quiet : AreQuiet reads)
+    (i : Inside state now rules (Worked state rules.sets now force own) acts) (no_call : calls_in own ≡ 0) (no_end : scripts_in own ≡ 0) (no_copy : NoneOfCopy own) (t : Target) (one : IsOneOf t (rotated_in state rules.sets i.between i.within.looked now force)) where
+  abbrev w : Worked state rules.sets now force own i.between
+  w = i.within
 
-    l : Looked state rules.sets i.between
-    l = w.looked
+  abbrev l : Looked state rules.sets i.between
+  l = i.within.looked
 
-    decide : Rule → LogLook → Due
-    decide = decision l.remembered.table now force
+  abbrev pub decide : Rule → LogLook → Due
+  decide = decision i.within.looked.remembered.table now force
 
-    targets : List Target
-    targets = rotated_in state rules.sets i.between l now force
+  abbrev pub targets : List Target
+  targets = rotated_in state rules.sets i.between i.within.looked now force
 
-    named : HaveNames targets
-    named = targets_have_names rules l.sets l.of_looks l.looks decide built l.shown
+  named : HaveNames targets
+  named = targets_have_names rules l.sets l.of_looks l.looks decide built l.shown
 
-    has : HasNames t
-    has = names_one t targets named one
+  pub has : HasNames t
+  has = names_one t targets named one
 
-    free : IsFreeOf (reserved_by state) t
-    free = free_one (reserved_by state) t targets (targets_free rules.sets l.sets l.of_looks l.looks decide l.shown) one
+  free : IsFreeOf (reserved_by state) t
+  free = free_one (reserved_by state) t targets (targets_free rules.sets l.sets l.of_looks l.looks decide l.shown) one
 
-    none : w.acted.entries.of_plan ≡ []
-    none = worked_met_none state rules.sets now force own i.between w no_call no_end no_copy
+  pub met_none : w.acted.entries.of_plan ≡ []
+  met_none = worked_met_none state rules.sets now force own i.between w no_call no_end no_copy
 
-    work : List Entry
-    work = ((l.reads ++ l.looks) ++ w.acted.entries.entries.front) ++ w.acted.entries.entries.back
+  -- what stands between the begin and the end
+  abbrev pub work : List Entry
+  work = ((i.within.looked.reads ++ i.within.looked.looks) ++ i.within.acted.entries.entries.front) ++ i.within.acted.entries.entries.back
 
-    turned : AllTurned state rules (work ++ entry.Ends ∷ [])
-    turned = ended_whole state rules work (written_whole state rules ((l.reads ++ l.looks) ++ w.acted.entries.entries.front) w.acted.entries.entries.back (worked_whole state rules now force own i.between built w none) (all_of_state state rules.sets now force own i.between w))
+  abbrev pub turned : AllTurned state rules ((((i.within.looked.reads ++ i.within.looked.looks) ++ i.within.acted.entries.entries.front) ++ i.within.acted.entries.entries.back) ++ entry.Ends ∷ [])
+  turned = ended_whole state rules (((i.within.looked.reads ++ i.within.looked.looks) ++ i.within.acted.entries.entries.front) ++ i.within.acted.entries.entries.back)
+      (written_whole state rules ((i.within.looked.reads ++ i.within.looked.looks) ++ i.within.acted.entries.entries.front) i.within.acted.entries.entries.back (worked_whole state rules now force own i.between built i.within met_none) (all_of_state state rules.sets now force own i.between i.within))
 
-    whole : reverse es ≡ (reads ++ i.before) ++ (entry.Starts state now rules ∷ (work ++ entry.Ends ∷ []))
-    whole = joined ∙ (ap (λ xs. reads ++ xs) (i.entries ∙ ap (λ xs. i.before ++ (entry.Starts state now rules ∷ (xs ++ entry.Ends ∷ []))) (in_parts state rules.sets now force own i.between w)) ∙ sym (append_assoc reads i.before _))
+  pub whole_run : reverse es ≡ (reads ++ i.before) ++ (entry.Starts state now rules ∷ (work ++ entry.Ends ∷ []))
+  whole_run = joined ∙ (ap (λ xs. reads ++ xs) (i.entries ∙ ap (λ xs. i.before ++ (entry.Starts state now rules ∷ (xs ++ entry.Ends ∷ []))) (in_parts state rules.sets now force own i.between w)) ∙ sym (append_assoc reads i.before _))
 
-    aside_paths : AreOutside (other_paths state t.log targets) t.log t.naming
-    aside_paths = outside state t has.family targets named (λ x j. apart_of t x targets named (targets_dont_meet rules.sets l.sets l.of_looks l.looks decide l.shown) j one)
-        (free state (inl refl)) (free (state ++ codes ".tmp") (inr (inl refl)))
+  pub quiet_first : AreQuiet (reads ++ i.before)
+  quiet_first = quiet_both reads i.before quiet (sees_quiet (parent_of state) IsDir i.before i.directory)
 
-    among : RotatesAmong (other_paths state t.log targets) t.log t.naming t.count t.stand (reverse es)
-    among = subst (RotatesAmong (other_paths state t.log targets) t.log t.naming t.count t.stand) (sym whole)
-        (run_rotates state now rules (reads ++ i.before) (work ++ entry.Ends ∷ []) turned t (quiet_both reads i.before quiet (sees_quiet (parent_of state) IsDir i.before i.directory)) one by_rename)
+  pub aside_paths : AreOutside (other_paths state t.log targets) t.log t.naming
+  aside_paths = outside state t has.family targets named (λ x j. apart_of t x targets named (targets_dont_meet rules.sets l.sets l.of_looks l.looks decide l.shown) j one)
+      (free state (inl refl)) (free (state ++ codes ".tmp") (inr (inl refl)))
+
+  pub run_rotated : t.job ≡ None → IsRotatedAmong state targets p q t
+  run_rotated by_rename = λ unattached. (
+    seen_members (other_paths state t.log targets) t.log t.naming t.count t.stand p q es made journal has.family has.next unattached aside_paths among,
+    rotated_whole (other_paths state t.log targets) t.log t.naming t.count t.stand p q es made journal has.family has.next unattached aside_paths among,
+  )
+    where
+      among : RotatesAmong (other_paths state t.log targets) t.log t.naming t.count t.stand (reverse es)
+      among = subst (RotatesAmong (other_paths state t.log targets) t.log t.naming t.count t.stand) (sym whole_run)
+          (run_rotates state now rules (reads ++ i.before) (work ++ entry.Ends ∷ []) turned t quiet_first one by_rename)

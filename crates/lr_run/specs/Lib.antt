@@ -6,3 +6,4 @@ pub mod Rotated
 pub mod Runs
 pub mod Scripts
 pub mod State
+pub mod Turned

@@ -1,0 +1,5 @@
+use Rattle.lr_run.proofs.Turning.{run_turned}
+use Rattle.lr_run.proofs.laws.run_turns_copied.Goals as goal
+
+pub returns : goal.returns
+returns c = run_turned
