@@ -47,6 +47,7 @@ use Rattle.lr_run.specs.Dry.{IsSight, AreSights}
 use Rattle.lr_run.specs.Runs.{Inside, Looked, Worked, plan_in, logs_in, state_text}
 use Rattle.lr_run.proofs.Renewing.{behind_quiet, each_later, worked_may}
 use Rattle.lr_run.proofs.Rotating.{run_rotated}
+use Rattle.lr_run.proofs.Turning.{run_turned}
 use Rattle.lr_run.proofs.Seeing.{seen_so}
 use Rattle.lr_run.proofs.Shape.{sees_quiet, seen_quiet, looked_parts, in_parts, all_of_state}
 use Rattle.lr_fulfilled.specs.Acts.{is_act, AreActsOf}
@@ -213,6 +214,7 @@ module _ (state : Path) (force : Bool) (now : Moment) (rules : Rules) (own : Lis
     dirs_are = w.acted.dirs_are;
     acts = run_acts;
     rotated = λ t one by_rename. run_rotated state force now rules own p q es reads acts built made journal joined (sights_quiet reads sights) i nothing.no_call nothing.no_end nothing.no_copy t one by_rename;
+    turned = λ t one job is. run_turned state force now rules own p q es reads acts built made journal joined (sights_quiet reads sights) i nothing.no_call nothing.no_end nothing.no_copy t one job is;
     written = written;
     kept = λ f kept free x is. others_left x (kept_elsewhere state rules.sets l.sets l.of_looks l.looks decide f x l.shown kept free is);
     others = others_left;

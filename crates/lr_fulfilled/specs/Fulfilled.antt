@@ -1,5 +1,5 @@
 -- What a run makes of its plan, where nothing failed.
-use Rattle.std.specs.Prelude.{◌≡◌, ◌≢◌, Bool, List, ◌++◌, filter, None}
+use Rattle.std.specs.Prelude.{◌≡◌, ◌≢◌, Bool, List, ◌++◌, filter, Some, None}
 use Rattle.lr_rules.specs.declared.civil.Moment.{Moment}
 use Rattle.lr_rules.specs.declared.fault.Fault.{Fault}
 use Rattle.lr_rules.specs.declared.fault.Fault.TheVariants as fault
@@ -11,6 +11,7 @@ use Rattle.lr_host.specs.Counted.{calls_in, scripts_in}
 use Rattle.lr_host.specs.Lists.{IsIn}
 use Rattle.lr_host.specs.Quiet.{AttachedOnlySince}
 use Rattle.lr_host.specs.World.{Past}
+use Rattle.lr_copy.specs.declared.job.Job.{Job}
 use Rattle.lr_durable.specs.Renewing.{HasText}
 use Rattle.lr_acts.specs.Making.{all_of_sets}
 use Rattle.lr_looks.specs.Found.{FoundLog}
@@ -19,6 +20,7 @@ use Rattle.lr_plan.specs.Steps.{steps_of_plan, state_part, state_steps}
 use Rattle.lr_rotations.specs.Target.{Target, IsOneOf}
 use Rattle.lr_run.specs.Copied.{NoneOfCopy}
 use Rattle.lr_run.specs.Rotated.{rotated_in, IsRotatedAmong}
+use Rattle.lr_run.specs.Turned.{IsTurnedAmong}
 use Rattle.lr_run.specs.Runs.{Looked, logs_in, changed_in, plan_in, state_text}
 use Rattle.lr_writing.specs.Directories.{AreDirectoriesOf}
 use Rattle.lr_fulfilled.specs.Acts.{is_act, AreActsOf}
@@ -54,8 +56,10 @@ pub record IsFulfilled (state : Path) (rules : List Rule) (now : Moment) (force 
   pub dirs : List Path
   pub dirs_are : AreDirectoriesOf (changed_in (plan_in state rules ts l now force)) dirs
   pub acts : AreActsOf (steps_in state rules ts l now force dirs) (filter is_act all)
-  -- each log of the plan that isn't copied was rotated, file by file
+  -- each log of the plan that is renamed was rotated, file by file
   pub rotated : (t : Target) → IsOneOf t (rotated_in state rules ts l now force) → t.job ≡ None → IsRotatedAmong state (rotated_in state rules ts l now force) before after t
+  -- each that is copied was turned by its copy
+  pub turned : (t : Target) → IsOneOf t (rotated_in state rules ts l now force) → (job : Job) → t.job ≡ Some job → IsTurnedAmong state (rotated_in state rules ts l now force) before after t job
   -- the state tells of each of them, where no writer was attached to its path or to that of its part file
   pub written : AttachedOnlySince (λ x. (x ≢ state) × (x ≢ state_part state)) before after → HasText state (state_text state rules ts l now (logs_in (plan_in state rules ts l now force))) after
   -- each other log that is kept was left alone, with its members
