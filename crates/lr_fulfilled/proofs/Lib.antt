@@ -5,3 +5,4 @@ pub mod Fulfilled
 pub mod Left
 mod Logs
 pub mod Planned
+mod Truth

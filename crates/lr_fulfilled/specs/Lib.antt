@@ -1,3 +1,4 @@
 pub mod Acts
 pub mod Fulfilled
 pub mod Left
+pub mod Truth

@@ -32,6 +32,7 @@ ghost use Rattle.lr_seen.specs.Targets.{all_targets};
 ghost use Rattle.lr_fulfilled.specs.Acts.{is_act, AreActsOf};
 ghost use Rattle.lr_fulfilled.specs.Fulfilled.{NothingFailed, IsElsewhere, HasNone, IsFulfilled};
 ghost use Rattle.lr_fulfilled.specs.Left.{IsLeftAlone};
+ghost use Rattle.lr_fulfilled.specs.Truth.{LooksAreTrue};
 
 /// A run that came to its plan, behind looks, listings and reads, and whose own faults tell of nothing that failed,
 /// fulfilled it, whatever writers did meanwhile: its acts are those of the plan, each log of the plan was rotated, the state
@@ -67,4 +68,11 @@ pub fn others_are_left()
 pub fn kept_are_elsewhere()
     ensures { (state : Path) (rules : List Rule) (sets : List SetLooks) (faults : List Fault) (ts : List Entry) (decide : Rule → LogLook → Due) (f : FoundLog) (x : Path) → (s : ShowsLooks (reserved_by state) rules sets faults ts)
         → IsIn f s.kept → HasNone (all_targets decide rules sets) f.log.path → IsOwnName f.log.path f.log.naming x → IsElsewhere state (all_targets decide rules sets) x }
+{}
+
+/// The looks of a run that came to its plan are true of the disk, from its start to the end of the looks, whatever failed then.
+pub fn run_looks_are_true()
+    ensures { (state : Path) (force : Bool) (now : Moment) (rules : Rules) (own : List Fault) (p q : Past) (es reads acts : List Entry) → AreBuiltRules rules.sets
+        → Made p es q → IsJournal p → reverse es ≡ reads ++ acts → (i : Inside state now rules (Worked state rules.sets now force own) acts)
+        → LooksAreTrue state now rules i.between i.within.looked p q }
 {}

@@ -1,4 +1,4 @@
-mod All
+pub mod All
 mod Families
 mod Sought
 mod Words
