@@ -1,5 +1,5 @@
 -- A dry run, put together of its parts.
-use Rattle.std.proofs.Common.{◌≡◌, ℕ, Bool, true, false, List, [], ◌∷◌, ◌++◌, length, Option, Some, None, Result, Ok, Err, OnOk, OnErr, IfOk, refl, sym, ap, ◌∙◌, subst, arith, append_assoc}
+use Rattle.std.proofs.Common.{◌≡◌, ℕ, Bool, true, false, List, [], ◌∷◌, ◌++◌, length, Option, Some, None, Result, Ok, Err, OnOk, OnErr, IfOk, refl, sym, ap, ◌∙◌, subst, append_assoc}
 use Rattle.std.specs.Prelude.{nat_le}
 use Rattle.std.proofs.lemmas.Bool.{leb-true, leb-false}
 use Rattle.lr_rules.specs.declared.path.Path.{Path}
@@ -23,7 +23,7 @@ use Rattle.lr_host.proofs.Counts.{AreFree, adds_on, adds_free}
 use Rattle.lr_host.proofs.Each.{each_append}
 use Rattle.lr_host.proofs.Left.{left_as, left_first, left_then}
 use Rattle.lr_state.specs.Table.{Entry as Row}
-use Rattle.lr_looks.specs.Shown.{LooksAtAll, ShowsSomeLooks, at_words}
+use Rattle.lr_looks.specs.Shown.{LooksAtAll, ShowsSomeLooks}
 use Rattle.lr_plan.specs.declared.looks.Looks.{Looks}
 use Rattle.lr_plan.specs.declared.looks.SetLooks.{SetLooks}
 use Rattle.lr_plan.specs.declared.planned.Plan.{Plan}
@@ -106,16 +106,6 @@ pub planned_counted : {E : Type 0} (r : Result (Option Plan) E) (rules : List Ru
     → IfOk r (λ told. (own : List Fault) × (z ≡ y ++ own) × Follows rules sets kept table now force told own) → OnOk r (AddsFaults x z k l)
 planned_counted (Err e) rules sets kept table now force x y z k l a h = tt
 planned_counted (Ok told) rules sets kept table now force x y z k l a h = adds_on x y z k l l a (follows_free rules sets kept table now force told h.0 y z l h.2 h.1)
-
--- no look was made
-pub none_looked : {T E : Type 0} (r : Result T E) (state : Path) (rules : List Rule) (o : Option Journal) → OnErr r (Left (ShowsSomeLooks (reserved_by state) rules) o o)
-none_looked (Ok x) state rules o = tt
-none_looked (Err x) state rules o = left_first (ShowsSomeLooks (reserved_by state) rules) o (at_words (record { sights = []; few = omega arith; shown = refl }))
-
--- a first part of them
-pub some_looked : {T E : Type 0} (r : Result T E) (state : Path) (reserved : List Path) (rules : List Rule) {o n : Option Journal} → reserved ≡ reserved_by state → Left (ShowsSomeLooks reserved rules) o n → OnErr r (Left (ShowsSomeLooks (reserved_by state) rules) o n)
-some_looked (Ok x) state reserved rules e l = tt
-some_looked (Err x) state reserved rules e l = left_as l (λ ts h. subst (λ (ps : List Path). ShowsSomeLooks ps rules ts) e h)
 
 -- all of them
 pub all_looked : {T E : Type 0} (r : Result T E) (state : Path) (rules : List Rule) (looks : Looks) (a b : List Fault) {o n : Option Journal} → Left (LooksAtAll (reserved_by state) rules looks a b) o n → OnErr r (Left (ShowsSomeLooks (reserved_by state) rules) o n)

@@ -332,18 +332,21 @@ some_acted (Err u) state rules looks remembered now force ready x y m n r p h = 
   });
 })
 
--- nothing was looked at
-pub none_looked : {T E : Type 0} (r : Result T E) (state : Path) (rules : List Rule) (now : Moment) (force : Bool) (remembered : Remembered) (o : Option Journal) → OnErr r (Left (EndsBehindState state rules now force remembered) o o)
-none_looked (Ok x) state rules now force remembered o = tt
-none_looked (Err x) state rules now force remembered o = left_first (EndsBehindState state rules now force remembered) o (record {
-  some = λ sights reads known read. some_seen (runs.of_looks sights remembered known (record { front = reads; back = []; joined = refl; first = read; second = at_words (record { sights = []; few = omega arith; shown = refl }) }));
-})
+-- no look was made
+pub none_looked : {T E : Type 0} (r : Result T E) (state : Path) (rules : List Rule) (o : Option Journal) → OnErr r (Left (ShowsSomeLooks (reserved_by state) rules) o o)
+none_looked (Ok x) state rules o = tt
+none_looked (Err x) state rules o = left_first (ShowsSomeLooks (reserved_by state) rules) o (at_words (record { sights = []; few = omega arith; shown = refl }))
 
--- a first part of the looks was made
-pub some_looked : {T E : Type 0} (r : Result T E) (state : Path) (reserved : List Path) (rules : List Rule) (now : Moment) (force : Bool) (remembered : Remembered) {o n : Option Journal} → reserved ≡ reserved_by state → Left (ShowsSomeLooks reserved rules) o n → OnErr r (Left (EndsBehindState state rules now force remembered) o n)
-some_looked (Ok x) state reserved rules now force remembered e l = tt
-some_looked (Err x) state reserved rules now force remembered e l = left_as l (λ us h. record {
-  some = λ sights reads known read. some_seen (runs.of_looks sights remembered known (record { front = reads; back = us; joined = refl; first = read; second = subst (λ (ps : List Path). ShowsSomeLooks ps rules us) e h }));
+-- a first part of them
+pub some_looked : {T E : Type 0} (r : Result T E) (state : Path) (reserved : List Path) (rules : List Rule) {o n : Option Journal} → reserved ≡ reserved_by state → Left (ShowsSomeLooks reserved rules) o n → OnErr r (Left (ShowsSomeLooks (reserved_by state) rules) o n)
+some_looked (Ok x) state reserved rules e l = tt
+some_looked (Err x) state reserved rules e l = left_as l (λ ts h. subst (λ (ps : List Path). ShowsSomeLooks ps rules ts) e h)
+
+-- a first part of the looks was made, or none
+pub lacks_looks : {T E : Type 0} (r : Result T E) (state : Path) (rules : List Rule) (now : Moment) (force : Bool) (remembered : Remembered) {o n : Option Journal} → Left (ShowsSomeLooks (reserved_by state) rules) o n → OnErr r (Left (EndsBehindState state rules now force remembered) o n)
+lacks_looks (Ok x) state rules now force remembered l = tt
+lacks_looks (Err x) state rules now force remembered l = left_as l (λ us h. record {
+  some = λ sights reads known read. some_seen (runs.of_looks sights remembered known (record { front = reads; back = us; joined = refl; first = read; second = h }));
 })
 
 -- it ended behind the looks

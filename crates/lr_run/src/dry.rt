@@ -18,11 +18,10 @@ ghost use Rattle.lr_run.specs.Runs.{SomeSeen};
 use crate::answer::{Ran, RunStop};
 use crate::directory::{DirStop, dir_fault, look_for_dir};
 use crate::known::known_state;
-use crate::paths::reserved_paths;
+use crate::looking::look_at_logs;
 use crate::ready::{add_all, bring_up_to};
 use crate::work::add_too_big;
 use lr_host::Host;
-use lr_looks::look_all;
 use lr_plan::{Looks, Plan, Settings, plan};
 use lr_reading::part_path;
 use lr_rules::{Civil, Clock, Fault, Memory, Path, Rules};
@@ -140,8 +139,7 @@ fn look_and_plan<H: Host>(
     ensures counted { OnOk result (AddsFaults faults.old.items faults.new.items (H.counts host.old) (H.counts host.new)) }
     ensures counts { Onward (H.counts host.old) (H.counts host.new) }
 {
-    let reserved = reserved_paths(alloc, &settings.state)?;
-    let looks = look_all(alloc, host, rules, &reserved, faults)?;
+    let looks = look_at_logs(alloc, host, rules, &settings.state, faults)?;
     plan_dry(alloc, rules, settings, clock, &looks, table, faults)
 }
 

@@ -18,6 +18,7 @@ mod dry;
 mod known;
 mod laws;
 mod locked;
+mod looking;
 mod paths;
 mod ready;
 mod whole;

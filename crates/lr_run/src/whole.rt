@@ -88,6 +88,31 @@ fn make_run<H: Host>(
     }
 }
 
+// What a run begins with: the faults that were handed in, with room for two more.
+fn progress_from(alloc: Global, earlier: Vec<Fault>) -> Result<Progress, Memory>
+    ensures faults { IfOk result (λ progress. progress.faults.items ≡ earlier.items) }
+    ensures room { IfOk result (λ progress. vec_len progress.faults + 2 ≤ vec_capacity progress.faults) }
+{
+    let mut faults = earlier;
+    faults.reserve(2)?;
+    Ok(Progress {
+        marks: Vec::new(alloc),
+        faults,
+        buffer: Vec::new(alloc),
+    })
+}
+
+// What it came to.
+fn ran_of(reached: Option<Plan>, progress: Progress) -> Ran
+    ensures { result ≡ record { plan = reached; faults = progress.faults } }
+{
+    let Progress { faults, .. } = progress;
+    Ran {
+        plan: reached,
+        faults,
+    }
+}
+
 /// Makes a run that acts: looks at the state's directory, takes the lock, reads the state, looks at the logs that the rules
 /// ask for, carries out the plan that follows, writes the state, and gives the lock back.
 pub fn real_run<H: Host>(
@@ -113,14 +138,10 @@ pub fn real_run<H: Host>(
     let Ok(names) = names_of(alloc, &settings.state) else {
         return Err(RunStop::Memory);
     };
-    let mut progress = Progress {
-        marks: Vec::new(alloc),
-        faults: earlier,
-        buffer: Vec::new(alloc),
-    };
-    let Ok(()) = progress.faults.reserve(2) else {
+    let Ok(progress) = progress_from(alloc, earlier) else {
         return Err(RunStop::Memory);
     };
+    let mut progress = progress;
     let mut reached = None;
     match make_run(
         alloc,
@@ -132,13 +153,7 @@ pub fn real_run<H: Host>(
         &mut reached,
         &mut progress,
     ) {
-        Ok(()) => {
-            let Progress { faults, .. } = progress;
-            Ok(Ran {
-                plan: reached,
-                faults,
-            })
-        }
+        Ok(()) => Ok(ran_of(reached, progress)),
         Err(why) => Err(why),
     }
 }

@@ -15,11 +15,10 @@ ghost use Rattle.lr_run.specs.Internal.{WorkDone, LookedDone, KnownBefore, SeenB
 
 use crate::acting::carry_out;
 use crate::known::known_state;
-use crate::paths::reserved_paths;
+use crate::looking::look_at_logs;
 use crate::ready::make_ready;
 use lr_acts::Progress;
 use lr_host::Host;
-use lr_looks::look_all;
 use lr_plan::{Looks, Plan, Settings, plan};
 use lr_reading::{Remembered, part_path};
 use lr_rules::{Clock, Fault, Memory, Path, Rules, StateKind};
@@ -144,8 +143,7 @@ fn look_and_act<H: Host>(
     ensures counted { OnOk result (AddsFaults progress.old.faults.items progress.new.faults.items (H.counts host.old) (H.counts host.new)) }
     ensures counts { Onward (H.counts host.old) (H.counts host.new) }
 {
-    let reserved = reserved_paths(alloc, &settings.state)?;
-    let looks = look_all(alloc, host, rules, &reserved, &mut progress.faults)?;
+    let looks = look_at_logs(alloc, host, rules, &settings.state, &mut progress.faults)?;
     plan_and_act(
         alloc, host, rules, settings, clock, &looks, part, remembered, reached, progress,
     )

@@ -1,0 +1,36 @@
+// The looks at the logs.
+ghost use Rattle.std.specs.Prelude.{IfOk, OnErr};
+ghost use Rattle.lr_fields.specs.Built.{AreBuiltRules};
+ghost use Rattle.lr_host.specs.Counted.{AddsFaults};
+ghost use Rattle.lr_host.specs.Told.{Left, Onward};
+ghost use Rattle.lr_looks.specs.Shown.{LooksAtAll, ShowsSomeLooks};
+ghost use Rattle.lr_plan.specs.Planned.{CanPlanAll};
+ghost use Rattle.lr_seen.specs.Free.{reserved_by};
+
+use crate::paths::reserved_paths;
+use lr_host::Host;
+use lr_looks::look_all;
+use lr_plan::Looks;
+use lr_rules::{Fault, Memory, Path, Rules};
+use std::alloc::Global;
+
+/// Looks at the logs that the rules ask for, and at their families, but for those of which a name is one that a run with
+/// this state reserves for itself.
+pub fn look_at_logs<H: Host>(
+    alloc: Global,
+    host: &mut H,
+    rules: &Rules,
+    state: &Path,
+    faults: &mut Vec<Fault>,
+) -> Result<Looks, Memory>
+    requires { AreBuiltRules rules.now.sets }
+    ensures told { IfOk result (λ looks. Left (LooksAtAll (reserved_by state.now) rules.now.sets looks faults.old.items faults.new.items) (H.told host.old) (H.told host.new)) }
+    ensures some { OnErr result (Left (ShowsSomeLooks (reserved_by state.now) rules.now.sets) (H.told host.old) (H.told host.new)) }
+    ensures planned { IfOk result (λ looks. CanPlanAll rules.now.sets looks.sets) }
+    ensures counted { IfOk result (λ looks. AddsFaults faults.old.items faults.new.items (H.counts host.old) (H.counts host.new)) }
+    ensures counts { Onward (H.counts host.old) (H.counts host.new) }
+{
+    let reserved = reserved_paths(alloc, state)?;
+    let looks = look_all(alloc, host, rules, &reserved, faults)?;
+    Ok(looks)
+}
