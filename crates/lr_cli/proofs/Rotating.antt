@@ -15,6 +15,7 @@ use Rattle.lr_due.specs.declared.tz.Zone.TheVariants.{Utc, Rule, File}
 use Rattle.lr_plan.specs.declared.planned.Plan.{Plan}
 use Rattle.lr_run.specs.Copied.{NoneOfCopy}
 use Rattle.lr_run.proofs.Rotating.{run_rotated}
+use Rattle.lr_run.proofs.Turning.{run_turned}
 use Rattle.lr_reached.specs.Ending.{NoneEnds}
 use Rattle.lr_reached.proofs.Ends.{last_ends}
 use Rattle.lr_cli.specs.declared.outcome.Outcome.{Outcome}
@@ -67,6 +68,8 @@ plan_rotates request zone seconds report j k es made none journal p = record {
   plan = p;
   each = λ x one by_rename. run_rotated request.state request.force p.clock.now p.rules p.own (past j) (past k) es (p.of_clock ++ p.reads) p.acts (plan_built request zone seconds report (reverse es) p) made journal
       (plan_joined request zone seconds report (reverse es) p) (plan_quiet request zone seconds report (reverse es) p) p.run (own_calls p.meaning.faults p.own (sym (ap calls_in p.faults_are) ∙ none.no_call)) (own_ends p.meaning.faults p.own (sym (ap scripts_in p.faults_are) ∙ none.no_script)) (own_copies p.meaning.faults p.own (subst NoneOfCopy p.faults_are none.no_copy)) x one by_rename;
+  copied = λ x one job by_copy. run_turned request.state request.force p.clock.now p.rules p.own (past j) (past k) es (p.of_clock ++ p.reads) p.acts (plan_built request zone seconds report (reverse es) p) made journal
+      (plan_joined request zone seconds report (reverse es) p) (plan_quiet request zone seconds report (reverse es) p) p.run (own_calls p.meaning.faults p.own (sym (ap calls_in p.faults_are) ∙ none.no_call)) (own_ends p.meaning.faults p.own (sym (ap scripts_in p.faults_are) ∙ none.no_script)) (own_copies p.meaning.faults p.own (subst NoneOfCopy p.faults_are none.no_copy)) x one job by_copy;
 }
 
 from_entries : (here : Path) (words : List (List ℕ)) (request : Request) (zone : Zone) (seconds : ℤ) (plan : Option Plan) (report : Report) (j k : Journal) → AskFor here words request → request.debug ≡ false → Left (Answered here words zone seconds plan (Done report)) (Some j) (Some k) → StopNothing request.state report.faults → IsJournal (past j)

@@ -84,7 +84,8 @@ pub fn logrotate<H: Host, K: Sink>(
     ensures tried { (request : Request) (report : Report) → AskFor here.now words.now request → request.debug ≡ true → without_out result ≡ Outcome.Done report → Left (TellsOfTry request zone.now now report) (H.told host.old) (H.told host.new) }
 
     // Where none ends a run, and none tells of a call that failed, of a script that ended badly, or of a copy that broke off,
-    // each log that the plan renames was rotated, file by file, whatever else is told: of other logs that aren't there, say.
+    // each log that the plan renames was rotated, and the family of each that it copies was turned by the copy, file by file,
+    // whatever else is told: of other logs that aren't there, say.
     ensures rotated { (request : Request) (report : Report) (before after : Journal) → AskFor here.now words.now request → request.debug ≡ false → without_out result ≡ Outcome.Done report → StopNothing request.state report.faults
         → H.told host.old ≡ Some before → H.told host.new ≡ Some after → IsJournal (past before) → RotatesAll request zone.now now report before after }
 
