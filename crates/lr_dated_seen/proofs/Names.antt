@@ -1,7 +1,8 @@
 -- The names of dated members: they have no slash, and aren't empty.
-use Rattle.std.proofs.Common.{◌≡◌, inl, inr, ℕ, ℤ, ◌<◌, ◌≤◌, Bool, true, false, ◌&&◌, ◌||◌, refl, sym, ◌∙◌, ap, subst, arith, List, [], ◌∷◌, ◌++◌, length, Option, Some, None, eqb-true, true≢false}
+use Rattle.std.proofs.Common.{◌≡◌, ◌+◌, ◌-◌, min, take, cond, length-append, inl, inr, ℕ, ℤ, ◌<◌, ◌≤◌, Bool, true, false, ◌&&◌, ◌||◌, refl, sym, ◌∙◌, ap, subst, arith, List, [], ◌∷◌, ◌++◌, length, Option, Some, None, eqb-true, true≢false}
 use Rattle.std.specs.List.{list_any, list_all}
 use Rattle.std.proofs.lemmas.Bool.{and_parts, or_parts, or_from, not-true}
+use Rattle.std.proofs.lemmas.List.{length-take}
 use Rattle.std.proofs.lemmas.List.Elements.{All-head, All-tail}
 use Rattle.std.proofs.lemmas.List.Folds.{list_all-append}
 use Rattle.lr_rules.specs.declared.path.Path.{Path}
@@ -11,14 +12,16 @@ use Rattle.lr_rules.specs.declared.rule.Format.{Format}
 use Rattle.lr_rules.specs.declared.rule.Naming.{Naming}
 use Rattle.lr_rules.specs.declared.rule.Piece.{Piece}
 use Rattle.lr_rules.specs.declared.rule.Piece.TheVariants as piece
+use Rattle.lr_rules.specs.declared.rule.Rule.{Rule}
 use Rattle.lr_rules.specs.Dated.{IsDatedAt}
 use Rattle.lr_rules.specs.Limits.{is_plain_piece, are_first, is_epoch_alone, is_format, or_none}
-use Rattle.lr_rules.specs.Names.{AreDigits, IsFieldShape, IsStampShape, number_pieces, IsMiddleShape}
-use Rattle.lr_rules.specs.Path.{path_fault, parent_of, is_bad, is_slash, is_empty}
-use Rattle.lr_rules.proofs.PathLemmas.{parent_joined, plain_both}
+use Rattle.lr_rules.specs.Names.{AreDigits, IsFieldShape, IsStampShape, number_pieces, IsMiddleShape, naming_of, ext_of, base_of, ends_with}
+use Rattle.lr_rules.specs.Path.{path_fault, parent_of, last_of, is_bad, is_slash, is_empty}
+use Rattle.lr_rules.proofs.PathLemmas.{parent_joined, last_joined, plain_both}
 use Rattle.lr_stamps.proofs.StampShapes.{numbered_shape}
 use Rattle.lr_host.specs.Fits.{IsPart}
 use Rattle.lr_family.specs.Kin.{IsKin, is_barred}
+use Rattle.lr_dated_seen.specs.Family.{IsNoDated}
 
 -- ---- digits
 
@@ -107,6 +110,23 @@ middle_some : (f : Format) (w : List ℕ) → is_format f ≡ true → IsMiddleS
 middle_some f w good (inl h) = shape_some f.pieces w (pieces_some f good) h
 middle_some f w good (inr h) = shape_some (f.pieces ++ number_pieces) w (more_some f.pieces number_pieces (pieces_some f good)) h.1
 
+-- ---- lengths
+
+some_long : (xs : List ℕ) → is_empty xs ≡ false → 0 < length xs
+some_long [] h = absurd (cc h)
+some_long (x ∷ xs) h = omega arith
+
+-- a base and an extension together are as long as the log's name, or longer
+base_long : (ext name : List ℕ) → length name ≤ length (base_of ext name) + length ext
+base_long ext name = go (ends_with ext name)
+  where
+    cut : length (take (length name - length ext) name) ≡ min (length name - length ext) (length name)
+    cut = length-take (length name - length ext) name
+
+    go : (b : Bool) → length name ≤ length (cond b (take (length name - length ext) name) name) + length ext
+    go true = omega (arith, cut)
+    go false = omega arith
+
 -- ---- members
 
 unbarred : (xs : List ℕ) → list_any is_barred xs ≡ false → list_any is_slash xs ≡ false
@@ -134,3 +154,18 @@ module _ (log : Path) (n : Naming) (t : ℤ) (k : ℕ) (x : Path) (kin : IsKin l
   -- it stands in the family's directory
   pub stands_in : path_fault n.dir ≡ None → parent_of x ≡ n.dir
   stands_in path = ap parent_of at.named ∙ parent_joined n.dir (name_of n t k x at) path name_plain
+
+  -- the path has a longer last part than base and extension together
+  pub longer : length n.base + length n.ext < length (last_of x)
+  longer =
+      let last : length (last_of x) ≡ length (name_of n t k x at) = ap length (ap last_of at.named ∙ last_joined n.dir (name_of n t k x at) name_plain) in
+      let whole : length (name_of n t k x at) ≡ length (n.base ++ at.middle) + length n.ext = length-append (n.base ++ at.middle) n.ext in
+      let front : length (n.base ++ at.middle) ≡ length n.base + length at.middle = length-append n.base at.middle in
+      let some : 0 < length at.middle = some_long at.middle (middle_some at.format at.middle format shape) in
+      omega (arith, last, whole, front, some)
+
+pub log_apart : (rule : Rule) (log : Path) → or_none is_format rule.dated ≡ true → IsKin log (naming_of rule log) → IsNoDated (naming_of rule log) log
+log_apart rule log good kin t k at =
+    let long = longer log (naming_of rule log) t k log kin good at in
+    let short = base_long (ext_of rule.addextension rule.extension (last_of log)) (last_of log) in
+    omega (arith, long, short)

@@ -6,10 +6,12 @@
 //! function without a body; begin with `ShownDated` in `specs/Shown.antt`.
 #![tactic(auto)]
 
+mod family;
 mod rotation;
 mod showing;
 mod standing;
 
+pub use family::log_is_no_member;
 pub use rotation::{seen_rotation_fits, seen_rotation_is_one};
 pub use showing::{looks_show_members, stand_shows_members};
 pub use standing::{members_stand_so, next_serial_comes, shown_members_stand};
