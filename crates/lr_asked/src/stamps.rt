@@ -10,8 +10,8 @@ use lr_line::{Line, Trouble};
 use lr_rules::{Back, Clock, Format, Naming, Path, Text};
 use lr_values::format;
 
-// The format that the word writes, with serial numbers or without.
-fn format_by(line: Line, word: &[u8], back: Back, serial: bool) -> Result<Format, Trouble>
+/// The format that the word writes, with serial numbers or without.
+pub fn format_by(line: Line, word: &[u8], back: Back, serial: bool) -> Result<Format, Trouble>
     ensures format { IfOk result (λ format. is_format format ≡ true) }
     ensures serial { IfOk result (λ format. format.serial ≡ serial) }
 {

@@ -1,4 +1,7 @@
 // How long the choice among logs takes, beside one of a fifth as many.
+ghost use Rattle.std.specs.Prelude.{◌≡◌, None, All, IfOk};
+ghost use Rattle.lr_kept.specs.Chosen.{HasFormat, HaveFormats};
+
 use anyhow::{Result, anyhow};
 use lr_family::{Family, are_kin};
 use lr_kept::{Choice, choose};
@@ -55,7 +58,9 @@ fn log_path(alloc: Global, number: usize, scene: Scene) -> Result<Path> {
     path(alloc, name.as_bytes())
 }
 
-fn naming(alloc: Global, log: &Path) -> Result<Naming> {
+fn naming(alloc: Global, log: &Path) -> Result<Naming>
+    ensures { IfOk result (λ naming. naming.dated ≡ None) }
+{
     let dir = path(alloc, log.parent_bytes())?;
     let base = text(alloc, log.last())?;
     let ext = text(alloc, b"")?;
@@ -68,7 +73,9 @@ fn naming(alloc: Global, log: &Path) -> Result<Naming> {
     })
 }
 
-fn family(alloc: Global, number: usize, scene: Scene) -> Result<Family> {
+fn family(alloc: Global, number: usize, scene: Scene) -> Result<Family>
+    ensures { IfOk result HasFormat }
+{
     let log = log_path(alloc, number, scene)?;
     let naming = naming(alloc, &log)?;
     if are_kin(&log, &naming) {
@@ -78,7 +85,9 @@ fn family(alloc: Global, number: usize, scene: Scene) -> Result<Family> {
     }
 }
 
-fn families(alloc: Global, logs: usize, scene: Scene) -> Result<Vec<Family>> {
+fn families(alloc: Global, logs: usize, scene: Scene) -> Result<Vec<Family>>
+    ensures { IfOk result (λ families. All HasFormat families.items) }
+{
     let mut families = Vec::new(alloc);
     for number in 0..logs {
         families.push(family(alloc, number, scene)?)?;
@@ -87,7 +96,9 @@ fn families(alloc: Global, logs: usize, scene: Scene) -> Result<Vec<Family>> {
 }
 
 /// How many of the logs are kept.
-fn kept(alloc: Global, logs: &[&Family], wild: &[bool]) -> Result<usize> {
+fn kept(alloc: Global, logs: &[&Family], wild: &[bool]) -> Result<usize>
+    requires { HaveFormats logs.now }
+{
     if wild.len() != logs.len() {
         return Err(anyhow!("each log has one mark"));
     }
@@ -98,7 +109,9 @@ fn kept(alloc: Global, logs: &[&Family], wild: &[bool]) -> Result<usize> {
 }
 
 /// The shortest time, in nanoseconds, of a choice.
-fn choice_time(rt: &HostRuntime, logs: &[&Family], wild: &[bool]) -> Result<u128> {
+fn choice_time(rt: &HostRuntime, logs: &[&Family], wild: &[bool]) -> Result<u128>
+    requires { HaveFormats logs.now }
+{
     let mut shortest = u128::MAX;
     for _ in 0..ROUNDS {
         let start = Instant::now(rt)?;
@@ -115,7 +128,9 @@ fn measure_lent(
     wild: &[bool],
     scene: Scene,
     timed: bool,
-) -> Result<u128> {
+) -> Result<u128>
+    requires { HaveFormats logs.now }
+{
     let count = kept(rt.alloc(), logs, wild)?;
     let all = logs.len();
     let place = match scene {
@@ -131,7 +146,9 @@ fn measure_lent(
     }
 }
 
-fn measure_all(rt: &HostRuntime, families: &[Family], scene: Scene, timed: bool) -> Result<u128> {
+fn measure_all(rt: &HostRuntime, families: &[Family], scene: Scene, timed: bool) -> Result<u128>
+    requires { All HasFormat families.now }
+{
     let mut logs = Vec::new(rt.alloc());
     let mut wild = Vec::new(rt.alloc());
     for family in families {

@@ -7,9 +7,10 @@ use Rattle.lr_rules.specs.declared.path.Path.{Path}
 use Rattle.lr_rules.specs.declared.rule.Naming.{Naming}
 use Rattle.lr_rules.specs.Names.{Meet, IsName}
 use Rattle.lr_family.specs.declared.family.Family.{Family}
+use Rattle.lr_family.specs.Parts.{IsMember}
 use Rattle.lr_kept.specs.declared.choice.Choice.{Choice}
 use Rattle.lr_kept.specs.declared.choice.Choice.TheVariants.{Kept, Again, MemberOf, Reserved, Meets}
-use Rattle.lr_kept.specs.Chosen.{Both, HaveOnePath, IsMember, IsMemberOf, IsMatchedMember, HasReserved, MeetAt, IsNew, IsChoice, AreChosen}
+use Rattle.lr_kept.specs.Chosen.{Both, HaveOnePath, IsMemberOf, IsMatchedMember, HasReserved, MeetAt, IsNew, IsChoice, AreChosen}
 use Rattle.lr_kept.proofs.Fixed.{one_choice}
 use Rattle.lr_looks.specs.Choices.{names_of, is_wild, IsChoiceAmong}
 use Rattle.lr_looks.specs.Found.{FoundLog}

@@ -1,5 +1,5 @@
 -- Which matches of wildcards are passed over, pair by pair.
-use Rattle.std.proofs.Common.{◌≡◌, ◌≢◌, ◌∙◌, sym, ap, subst, refl, inl, inr, ⊎_elim, ◌⊎◌, ◌↔◌, ℕ, ◌<◌, ◌≤◌, ◌+◌, min, List, ◌∷◌, ◌++◌, length, set, length-set, Bool, true, Option, Some, slice_get, arith}
+use Rattle.std.proofs.Common.{◌≡◌, ◌≢◌, ◌∙◌, sym, ap, subst, refl, inl, inr, ⊎_elim, ◌⊎◌, ◌↔◌, ℕ, ◌<◌, ◌≤◌, ◌+◌, min, List, ◌∷◌, ◌++◌, length, set, length-set, Bool, true, Option, Some, None, slice_get, arith}
 use Rattle.std.specs.Prelude.{decimal}
 use Rattle.std.specs.Borrow.{Bor}
 use Rattle.std.proofs.lemmas.Bool.{cases_lt, cases_eq, cases_order}
@@ -7,14 +7,16 @@ use Rattle.std.proofs.lemmas.Option.{slice_get_within, slice_get-get_or}
 use Rattle.lr_rules.specs.declared.rule.Naming.{Naming}
 use Rattle.lr_rules.specs.declared.rule.Format.{Format}
 use Rattle.lr_rules.specs.declared.path.Path.{Path}
-use Rattle.lr_rules.specs.Names.{IsMiddleShape, IsOwnName, the_log, a_member}
+use Rattle.lr_rules.specs.Names.{IsMemberAt, IsMiddleShape, IsOwnName, the_log, a_member}
 use Rattle.lr_rules.proofs.Digits.{decimal_run}
+use Rattle.lr_stamps.proofs.StampShapes.{dated_shape}
 use Rattle.lr_family.specs.declared.family.Family.{Family}
+use Rattle.lr_family.specs.Parts.{IsMember}
 use Rattle.lr_kept.specs.declared.choice.Choice.{Choice}
 use Rattle.lr_kept.specs.declared.choice.Choice.TheVariants.{Kept, Again, MemberOf, Reserved, Meets}
 use Rattle.lr_kept.specs.declared.pair.Pair.{Pair}
 use Rattle.lr_kept.specs.Begun.{AreBegun}
-use Rattle.lr_kept.specs.Chosen.{IsNew, IsKeptAt, MeetAt, IsMember, IsMemberOf, IsWild, IsMatchedMember}
+use Rattle.lr_kept.specs.Chosen.{IsNew, IsKeptAt, MeetAt, IsMemberOf, IsWild, IsMatchedMember}
 use Rattle.lr_kept.specs.Members.{IsPassed, ArePassed, IsFirst, lowered, MayJoin, Joins}
 use Rattle.lr_kept.specs.Pairs.{pair_at, IsPair, HavePairs, IsAmong}
 use Rattle.lr_kept.proofs.Elements.{same_read, read_set_same, read_set_other, contains_read}
@@ -23,14 +25,18 @@ use Rattle.lr_kept.proofs.Pairing.{back_at}
 
 -- ---- a log meets its members
 
-member_name : (log : Path) (n : Naming) (x : Path) → IsMember n x → IsOwnName log n x
-member_name log n x m = a_member (n.base ++ (46 ∷ decimal (n.start + m.1.0)) ++ n.ext) (46 ∷ decimal (n.start + m.1.0), middle, refl) m.1.1.named
+numbered_name : (log : Path) (n : Naming) (place : ℕ) (x : Path) → n.dated ≡ None → IsMemberAt n place x → IsOwnName log n x
+numbered_name log n place x numbered m = a_member (n.base ++ (46 ∷ decimal (n.start + place)) ++ n.ext) (46 ∷ decimal (n.start + place), middle, refl) m.named
   where
-    bound : n.start + m.1.0 ≤ 4294967295
-    bound = m.1.1.bound
+    bound : n.start + place ≤ 4294967295
+    bound = m.bound
 
-    middle : IsMiddleShape n.dated (46 ∷ decimal (n.start + m.1.0))
-    middle = subst (λ (d : Option Format). IsMiddleShape d (46 ∷ decimal (n.start + m.1.0))) (sym m.0) (decimal (n.start + m.1.0), refl, decimal_run (n.start + m.1.0) (omega arith))
+    middle : IsMiddleShape n.dated (46 ∷ decimal (n.start + place))
+    middle = subst (λ (d : Option Format). IsMiddleShape d (46 ∷ decimal (n.start + place))) (sym numbered) (decimal (n.start + place), refl, decimal_run (n.start + place) (omega arith))
+
+member_name : (log : Path) (n : Naming) (x : Path) → IsMember n x → IsOwnName log n x
+member_name log n x (inl m) = numbered_name log n m.1.0 x m.0 m.1.1
+member_name log n x (inr m) = let h = dated_shape n m.0 m.1 x m.2 in a_member h.0 h.1 h.2
 
 member_meets : (logs : List (Bor Family)) (i k : ℕ) → IsMemberOf logs i k → MeetAt logs i k
 member_meets logs i k m = record {

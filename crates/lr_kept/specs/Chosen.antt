@@ -1,10 +1,11 @@
 -- Which of the logs that a run found it keeps, told over their list: it has them in order of definitions, then words, then bytes of the path.
-use Rattle.std.specs.Prelude.{◌≡◌, ◌≢◌, ◌<◌, ℕ, Bool, true, List, Some, None, length, slice_get}
+use Rattle.std.specs.Prelude.{◌≡◌, ◌≢◌, ◌<◌, ℕ, Bool, true, List, Some, All, length, slice_get}
 use Rattle.std.specs.Borrow.{Bor}
 use Rattle.lr_rules.specs.declared.path.Path.{Path}
-use Rattle.lr_rules.specs.declared.rule.Naming.{Naming}
-use Rattle.lr_rules.specs.Names.{IsMemberAt, Meet, IsName}
+use Rattle.lr_rules.specs.Limits.{is_format, or_none}
+use Rattle.lr_rules.specs.Names.{Meet, IsName}
 use Rattle.lr_family.specs.declared.family.Family.{Family}
+use Rattle.lr_family.specs.Parts.{IsMember}
 use Rattle.lr_kept.specs.declared.choice.Choice.{Choice}
 use Rattle.lr_kept.specs.declared.choice.Choice.TheVariants.{Kept, Again, MemberOf, Reserved, Meets}
 
@@ -36,9 +37,13 @@ pub record IsAgain (logs : List (Bor Family)) (k i : ℕ) : Type 0 where
 
 -- ---- members of another log's family
 
--- the path is that of a numbered member, at any place
-abbrev pub IsMember : Naming → Path → Type 0
-IsMember n x = (n.dated ≡ None) × ((place : ℕ) × IsMemberAt n place x)
+-- the log's format of dates, where it has one, meets its limits
+abbrev pub HasFormat : Family → Type 0
+HasFormat f = or_none is_format f.naming.dated ≡ true
+
+-- so does that of each of these
+abbrev pub HaveFormats : List (Bor Family) → Type 0
+HaveFormats logs = All (λ f. HasFormat f.now) logs
 
 -- the path at the second place is that of a member of the log at the first
 abbrev pub IsMemberOf : List (Bor Family) → ℕ → ℕ → Type 0

@@ -1,7 +1,7 @@
 // The choice among the logs that were found.
 ghost use Rattle.std.specs.Prelude.{◌≡◌, length, IfOk};
 ghost use Rattle.lr_kept.specs.Begun.{AreBegun};
-ghost use Rattle.lr_kept.specs.Chosen.{AreChosen};
+ghost use Rattle.lr_kept.specs.Chosen.{AreChosen, HaveFormats};
 ghost use Rattle.lr_kept.specs.Pairs.{AreRising, HavePairs};
 
 use crate::barred::bar;
@@ -28,6 +28,7 @@ fn choose_by(
     requires begun { AreBegun logs.now choices.old }
     requires pairs { HavePairs logs.now choices.old pairs.now }
     requires rising { AreRising pairs.now }
+    requires formats { HaveFormats logs.now }
     ensures { AreChosen logs.now wild.now reserved.now choices.new }
 {
     pass_members(logs, wild, pairs, choices);
@@ -59,7 +60,8 @@ pub fn choose(
     wild: &[bool],
     reserved: &[Path],
 ) -> Result<Vec<Choice>, Memory>
-    requires { length wild.now ≡ length logs.now }
+    requires wild { length wild.now ≡ length logs.now }
+    requires formats { HaveFormats logs.now }
     ensures { IfOk result (λ choices. AreChosen logs.now wild.now reserved.now choices.items) }
 {
     let mut choices = first_choices(alloc, logs)?;

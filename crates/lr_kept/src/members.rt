@@ -1,23 +1,22 @@
 // Which matches of wildcards are members of other logs.
-ghost use Rattle.std.specs.Prelude.{◌≡◌, ◌≢◌, ◌↔◌, ◌<◌, true, length, All};
+ghost use Rattle.std.specs.Prelude.{◌≡◌, ◌↔◌, ◌<◌, true, length};
+ghost use Rattle.lr_family.specs.Parts.{IsMember};
 ghost use Rattle.lr_kept.specs.Begun.{AreBegun};
-ghost use Rattle.lr_kept.specs.Chosen.{IsMember, IsMemberOf, IsWild};
+ghost use Rattle.lr_kept.specs.Chosen.{HasFormat, HaveFormats, IsMemberOf, IsWild};
 ghost use Rattle.lr_kept.specs.Members.{ArePassed, IsFirst, Joins, lowered};
 ghost use Rattle.lr_kept.specs.Pairs.{HavePairs};
 
 use crate::choice::Choice;
 use crate::pair::Pair;
-use lr_family::{Family, Place};
+use lr_family::Family;
 use lr_rules::Path;
 
 // Whether the path is that of a member of the log.
 fn has_member(log: &Family, path: &Path) -> bool
+    requires { HasFormat log.now }
     ensures { (result ≡ true) ↔ IsMember log.now.naming path.now }
 {
-    if log.naming().dated.is_some() {
-        return false;
-    }
-    matches!(log.place_of(path), Some(Place::Number(_)))
+    log.place_of(path).is_some()
 }
 
 // Whether a wildcard gave the path at this place, and it is that of a member of the log at the other.
@@ -25,6 +24,7 @@ fn is_matched(logs: &[&Family], wild: &[bool], place: usize, log: usize) -> bool
     requires place { place < length logs.now }
     requires log { log < length logs.now }
     requires wild { length wild.now ≡ length logs.now }
+    requires formats { HaveFormats logs.now }
     ensures { (result ≡ true) ↔ (IsWild wild.now place × IsMemberOf logs.now log place) }
 {
     wild[place] && has_member(logs[log], logs[place].log())
@@ -59,6 +59,7 @@ fn join(logs: &[&Family], wild: &[bool], place: usize, log: usize, choices: &mut
     requires log { log < length logs.now }
     requires wild { length wild.now ≡ length logs.now }
     requires many { length choices.old ≡ length logs.now }
+    requires formats { HaveFormats logs.now }
     ensures { Joins logs.now wild.now place log choices.old choices.new }
 {
     let are_first = is_first(choices, place) & is_first(choices, log);
@@ -73,6 +74,7 @@ pub fn pass_members(logs: &[&Family], wild: &[bool], pairs: &[Pair], choices: &m
     requires wild { length wild.now ≡ length logs.now }
     requires begun { AreBegun logs.now choices.old }
     requires pairs { HavePairs logs.now choices.old pairs.now }
+    requires formats { HaveFormats logs.now }
     ensures { ArePassed logs.now wild.now choices.new }
 {
     for pair in pairs {

@@ -1,19 +1,22 @@
 -- Choices, one log behind another.
-use Rattle.std.proofs.Common.{◌≡◌, ◌≤◌, ◌<◌, ◌+◌, ℕ, Bool, List, [], ◌∷◌, ◌++◌, length, map, take, get_or, refl, sym, ap, ◌∙◌, subst, arith, append_assoc}
+use Rattle.std.proofs.Common.{◌≡◌, ◌≤◌, ◌<◌, ◌+◌, ℕ, Bool, true, List, [], ◌∷◌, ◌++◌, length, map, take, get_or, refl, sym, ap, ◌∙◌, subst, arith, append_assoc}
 use Rattle.std.specs.List.{flat_map}
 use Rattle.std.specs.Borrow.{Bor}
 use Rattle.std.proofs.lemmas.Grind.{flat_map-append}
+use Rattle.std.proofs.lemmas.List.Elements.{All-cons, All-nil}
 use Rattle.std.proofs.lemmas.List.{append-nil, length-append, length-map, length-take-le, map-append, take_more}
 use Rattle.std.proofs.lemmas.Option.{slice_get-get_or, slice_get_within}
 use Rattle.lr_rules.specs.declared.fault.Fault.{Fault}
 use Rattle.lr_rules.specs.declared.path.Path.{Path}
+use Rattle.lr_rules.specs.declared.rule.Naming.{Naming}
+use Rattle.lr_rules.specs.Limits.{is_format, or_none}
 use Rattle.lr_family.specs.declared.family.Family.{Family}
 use Rattle.lr_kept.specs.declared.choice.Choice.{Choice}
 use Rattle.lr_kept.specs.declared.choice.Choice.TheVariants.{Kept, Again, MemberOf, Reserved, Meets}
-use Rattle.lr_kept.specs.Chosen.{IsChoice}
+use Rattle.lr_kept.specs.Chosen.{IsChoice, HasFormat, HaveFormats}
 use Rattle.lr_looks.specs.declared.found.Found.{Found}
 use Rattle.lr_looks.specs.Choices.{names_of, found_names, is_wild, choice_fault, choice_faults, where_kept, kept_of, IsChoiceAmong}
-use Rattle.lr_looks.specs.Found.{FoundLog, found_in, all_found_in}
+use Rattle.lr_looks.specs.Found.{FoundLog, found_in, all_found_in, HaveLogPaths}
 use Rattle.lr_looks.specs.Internal.{IsWithin, AreWithin}
 
 -- ---- choices name logs of the list
@@ -32,6 +35,16 @@ pub are_within : (reserved : List Path) (found : List Found) (choices : List Cho
 are_within reserved found choices c = λ k d lt.
     let many : length choices ≡ length found = as_many reserved found choices c in
     is_within c.logs (map is_wild (all_found_in found)) reserved choices k (length found) (get_or choices k d) (sym c.chosen.as_many ∙ many) (omega (arith, many)) (c.chosen.each k (get_or choices k d) (slice_get-get_or choices k d lt))
+
+-- ---- formats of dates
+
+pub have_formats : (bs : List (Bor Family)) (fs : List FoundLog) → map names_of bs ≡ map found_names fs → HaveLogPaths fs → HaveFormats bs
+have_formats [] fs e h = All-nil (λ (b : Bor Family). HasFormat b.now)
+have_formats (b ∷ bs) [] e h = absurd (cc e)
+have_formats (b ∷ bs) (f ∷ fs) e h =
+    let one : names_of b ≡ found_names f = cc e in
+    let rest : map names_of bs ≡ map found_names fs = cc e in
+    All-cons (λ (b : Bor Family). HasFormat b.now) b bs (subst (λ (p : Path × Naming). or_none is_format p.1.dated ≡ true) (sym one) h.0.format) (have_formats bs fs rest h.1)
 
 -- ---- one log more
 

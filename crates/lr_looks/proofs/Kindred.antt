@@ -91,6 +91,14 @@ addextension_fine r h = (and_parts (or_none is_extension r.addextension) _ (behi
 olddir_fine : (r : Rule) → meets_limits r ≡ true → or_none is_olddir r.olddir ≡ true
 olddir_fine r h = (and_parts (or_none is_olddir r.olddir) _ (and_parts (or_none is_extension r.addextension) _ (behind_extension r h)).1).0
 
+pub format_fine : (r : Rule) → meets_limits r ≡ true → or_none is_format r.dated ≡ true
+format_fine r h =
+    let a = (and_parts (or_none is_extension r.addextension) _ (behind_extension r h)).1 in
+    let b = (and_parts (or_none is_olddir r.olddir) _ a).1 in
+    let c = (and_parts (is_make r.createolddir) _ b).1 in
+    let d = (and_parts (is_make r.create) _ c).1 in
+    (and_parts (or_none is_address r.mail) _ d).1
+
 -- ---- the directory
 
 -- a part behind one slash

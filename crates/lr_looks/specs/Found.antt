@@ -1,6 +1,7 @@
 -- Logs that were found.
-use Rattle.std.specs.Prelude.{◌≡◌, ◌≤◌, List, [], ◌∷◌, length, map, None}
+use Rattle.std.specs.Prelude.{◌≡◌, ◌≤◌, true, List, [], ◌∷◌, length, map, None}
 use Rattle.lr_rules.specs.declared.path.Path.{Path}
+use Rattle.lr_rules.specs.Limits.{is_format, or_none}
 use Rattle.lr_rules.specs.Path.{path_fault, last_of}
 use Rattle.lr_host.specs.declared.thing.Seen.{Seen}
 use Rattle.lr_looks.specs.declared.found.Found.{Found}
@@ -30,12 +31,13 @@ pub record HasNumbers (f : FoundLog) : Type 0 where
   pub numbered : f.log.naming.dated ≡ None
   pub start : f.log.naming.start ≤ 999999
 
--- Its path is one, of 2,048 bytes at most, with a last part of 255 at most; so is the directory of its members.
+-- Its path is one, of 2,048 bytes at most, with a last part of 255 at most; so is the directory of its members, and their format of dates, where they have one, meets its limits.
 pub record HasLogPath (f : FoundLog) : Type 0 where
   pub path : path_fault f.log.path ≡ None
   pub dir : path_fault f.log.naming.dir ≡ None
   pub size : length f.log.path ≤ 2048
   pub last : length (last_of f.log.path) ≤ 255
+  pub format : or_none is_format f.log.naming.dated ≡ true
 
 -- P holds of each of these logs
 abbrev pub Hold : (FoundLog → Type 0) → List FoundLog → Type 0

@@ -2,7 +2,7 @@
 ghost use Rattle.std.specs.Prelude.{◌≡◌, ◌<◌, ◌++◌, OnOk, IfOk, length, map, slice_get, slice_index_or, Some, None, ◌∷◌, []};
 ghost use Rattle.lr_rules.specs.declared.fault.Fault.TheVariants as fault;
 ghost use Rattle.std.specs.List.{flat_map};
-ghost use Rattle.lr_looks.specs.Found.{found_in, all_found_in};
+ghost use Rattle.lr_looks.specs.Found.{found_in, all_found_in, HaveLogPaths};
 ghost use Rattle.lr_looks.specs.Choices.{names_of, found_names, is_wild, duplicate, overlap, barred, choice_fault, choice_faults, where_kept, kept_of, kind_fault, where_file, IsChoiceAmong, Keeps};
 ghost use Rattle.lr_looks.specs.Internal.{IsWithin, AreWithin};
 
@@ -37,6 +37,7 @@ fn wild_of(alloc: Global, found: &[Found]) -> Result<Vec<bool>, Memory>
 
 // The choices among logs.
 fn choices_among(alloc: Global, found: &[Found], reserved: &[Path]) -> Result<Vec<Choice>, Memory>
+    requires { HaveLogPaths (all_found_in found.now) }
     ensures { IfOk result (λ choices. IsChoiceAmong reserved.now (all_found_in found.now) choices.items) }
 {
     let families = families_of(alloc, found)?;
@@ -210,6 +211,7 @@ pub fn keep(
     reserved: &[Path],
     faults: &mut Vec<Fault>,
 ) -> Result<Vec<Found>, Memory>
+    requires { HaveLogPaths (all_found_in found.items) }
     ensures { IfOk result (λ left. Keeps reserved.now (all_found_in found.items) faults.old.items faults.new.items (all_found_in left.items)) }
 {
     let choices = choices_among(alloc, &found, reserved)?;

@@ -26,12 +26,13 @@ use Rattle.lr_host.specs.Opening.{IsJournal}
 use Rattle.lr_host.proofs.Lists.{in_to}
 use Rattle.lr_host.proofs.Made.{made_journal}
 use Rattle.lr_family.specs.declared.family.Family.{Family}
+use Rattle.lr_family.specs.Parts.{IsMember}
 use Rattle.lr_family.proofs.OnlyLooks.{looks_quiet}
 use Rattle.lr_glob.specs.Words.{Comes}
 use Rattle.lr_glob.proofs.Seeking.{wildcards_seek, literals_give}
 use Rattle.lr_kept.specs.declared.choice.Choice.{Choice}
 use Rattle.lr_kept.specs.declared.choice.Choice.TheVariants.{Kept}
-use Rattle.lr_kept.specs.Chosen.{IsMember, IsKept}
+use Rattle.lr_kept.specs.Chosen.{IsKept}
 use Rattle.lr_plan.specs.declared.looks.SetLooks.{SetLooks}
 use Rattle.lr_looks.specs.Asked.{Word, asked_by, AreTexts, CanAsk}
 use Rattle.lr_looks.specs.Choices.{names_of, found_names, is_wild, IsChoiceAmong}
@@ -126,7 +127,7 @@ no_member {reserved} found choices c k f at_f kept wild x first other numbered p
     other = it.0;
     at_one = one.1;
     at_other = it.1;
-    holds = subst (λ (p : Path × Naming). IsMember p.1 it.0.now.log) (sym one.2) (subst (λ (p : Path × Naming). IsMember first.log.log.naming p.0) (sym it.2) (numbered, (place, member)));
+    holds = subst (λ (p : Path × Naming). IsMember p.1 it.0.now.log) (sym one.2) (subst (λ (p : Path × Naming). IsMember first.log.log.naming p.0) (sym it.2) (inl (numbered, (place, member))));
   };
 })
   where

@@ -1,7 +1,7 @@
 use Rattle.std.proofs.Common.{◌≡◌, ◌∙◌, sym, ap, subst, ◌↔◌, ◌<◌, true, false, true≢false, length, get_or, Some, arith}
 use Rattle.std.proofs.lemmas.Option.{slice_get-get_or, get_or_from_slice_get}
 use Rattle.lr_rules.specs.declared.path.Path.{Path}
-use Rattle.lr_kept.specs.Chosen.{IsMember}
+use Rattle.lr_family.specs.Parts.{IsMember}
 use Rattle.lr_kept.proofs.Elements.{read_from}
 use Rattle.lr_kept.proofs.Joining.{matched_decided}
 use Rattle.lr_kept.proofs.members.is_matched.Goals as goal
