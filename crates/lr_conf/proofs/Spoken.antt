@@ -28,18 +28,18 @@ answered old new file p at None (Some k) s = s
 answered old new file p at (Some n) None s = s
 answered old new file p at (Some n) (Some k) s = s
 
-by_answer : (old new : Draft) (file : Path) (p : Past) (at : ℕ) (f : Option ℕ) (own : Option ConfKind) (r : Result (Option Include) LayerStop) → r ≡ answer_of f at own → f ≡ old.first
+by_answer : (old new : Draft) (file : Path) (p : Past) (at : ℕ) (own : Option ConfKind) (r : Result (Option Include) LayerStop) → r ≡ answer_of old.first at own
     → Spoke old new file p (at_line file kind.NoBrace old.first ++ own_faults file at own) [] → Speaks old new file p r
-by_answer old new file p at f own r e is s = subst (Speaks old new file p) (sym (e ∙ ap (λ o. answer_of o at own) is)) (answered old new file p at old.first own s)
+by_answer old new file p at own r e s = subst (Speaks old new file p) (sym e) (answered old new file p at old.first own s)
 
 asked : (old new : Draft) (file : Path) (p : Past) (first : Option ℕ) (i : Include) → Spoke old new file p (at_line file kind.NoBrace first ++ []) (i ∷ []) → Speaks old new file p (asking_answer first i)
 asked old new file p None i s = s
 asked old new file p (Some n) i s = s
 
-pub bad : (old new : Draft) (file : Path) (at : ℕ) (brace : Bool) (k : ConfKind) (f : Option ℕ) (r : Result (Option Include) LayerStop)
-    → r ≡ answer_of f at (Some k) → f ≡ old.first → Settled old new brace → Speaks old new file (stands at brace (says.Bad k)) r
-bad old new file at brace k f r e is s =
-    by_answer old new file (stands at brace (says.Bad k)) at f (Some k) r e is
+pub bad : (old new : Draft) (file : Path) (at : ℕ) (brace : Bool) (k : ConfKind) (r : Result (Option Include) LayerStop)
+    → r ≡ answer_of old.first at (Some k) → Settled old new brace → Speaks old new file (stands at brace (says.Bad k)) r
+bad old new file at brace k r e s =
+    by_answer old new file (stands at brace (says.Bad k)) at (Some k) r e
     (record {
       state = s.state;
       rules = s.rest.rules;
@@ -51,10 +51,10 @@ bad old new file at brace k f r e is s =
       taboo = s.rest.table.taboo;
     })
 
-pub quiet : (old new : Draft) (file : Path) (at : ℕ) (brace : Bool) (f : Option ℕ) (r : Result (Option Include) LayerStop)
-    → r ≡ answer_of f at None → f ≡ old.first → Settled old new brace → Speaks old new file (stands at brace says.Quiet) r
-quiet old new file at brace f r e is s =
-    by_answer old new file (stands at brace says.Quiet) at f None r e is
+pub quiet : (old new : Draft) (file : Path) (at : ℕ) (brace : Bool) (r : Result (Option Include) LayerStop)
+    → r ≡ answer_of old.first at None → Settled old new brace → Speaks old new file (stands at brace says.Quiet) r
+quiet old new file at brace r e s =
+    by_answer old new file (stands at brace says.Quiet) at None r e
     (record {
       state = s.state;
       rules = s.rest.rules;
@@ -66,10 +66,10 @@ quiet old new file at brace f r e is s =
       taboo = s.rest.table.taboo;
     })
 
-pub script : (old new : Draft) (file : Path) (at : ℕ) (brace : Bool) (phase : Phase) (text : List ℕ) (stray : Bool) (f : Option ℕ) (r : Result (Option Include) LayerStop)
-    → r ≡ answer_of f at None → f ≡ old.first → Settled old new brace → Speaks old new file (stands at brace (says.Script phase text stray)) r
-script old new file at brace phase text stray f r e is s =
-    by_answer old new file (stands at brace (says.Script phase text stray)) at f None r e is
+pub script : (old new : Draft) (file : Path) (at : ℕ) (brace : Bool) (phase : Phase) (text : List ℕ) (stray : Bool) (r : Result (Option Include) LayerStop)
+    → r ≡ answer_of old.first at None → Settled old new brace → Speaks old new file (stands at brace (says.Script phase text stray)) r
+script old new file at brace phase text stray r e s =
+    by_answer old new file (stands at brace (says.Script phase text stray)) at None r e
     (record {
       state = s.state;
       rules = s.rest.rules;
@@ -85,15 +85,15 @@ strays : (file : Path) (at : ℕ) (first : Option ℕ) → stray_at file first a
 strays file at None = refl
 strays file at (Some n) = refl
 
-pub close : (old new : Draft) (file : Path) (at : ℕ) (brace : Bool) (own : Option ConfKind) (f : Option ℕ) (r : Result (Option Include) LayerStop)
-    → r ≡ answer_of f at own → own ≡ stray_kind f → f ≡ old.first → Settled old new brace → Speaks old new file (stands at brace says.Close) r
-close old new file at brace own f r e k is s =
-    by_answer old new file (stands at brace says.Close) at f own r e is
+pub close : (old new : Draft) (file : Path) (at : ℕ) (brace : Bool) (own : Option ConfKind) (r : Result (Option Include) LayerStop)
+    → r ≡ answer_of old.first at own → own ≡ stray_kind old.first → Settled old new brace → Speaks old new file (stands at brace says.Close) r
+close old new file at brace own r e k s =
+    by_answer old new file (stands at brace says.Close) at own r e
     (record {
       state = s.state;
       rules = s.rest.rules;
       notices = s.rest.notices ∙ sym (append-nil old.notices.items);
-      faults_are = ap (λ o. at_line file kind.NoBrace old.first ++ o) (strays file at old.first ∙ ap (own_faults file at) (sym (k ∙ ap stray_kind is)));
+      faults_are = ap (λ o. at_line file kind.NoBrace old.first ++ o) (strays file at old.first ∙ ap (own_faults file at) (sym k));
       files = s.rest.table.files;
       built = s.rest.table.built;
       includes_are = refl;
@@ -117,10 +117,10 @@ include old new file at brace path f r e is s =
       taboo = s.rest.table.taboo;
     }))
 
-pub sets : (old new : Draft) (file : Path) (at : ℕ) (brace : Bool) (v : Set) (defaults : Fields) (f : Option ℕ) (r : Result (Option Include) LayerStop) → defaults ≡ with_set old.defaults v
-    → r ≡ answer_of f at None → f ≡ old.first → Settled (record old { defaults = defaults }) new brace → Speaks old new file (stands at brace (says.Sets v)) r
-sets old new file at brace v defaults f r d e is s =
-    by_answer old new file (stands at brace (says.Sets v)) at f None r e is
+pub sets : (old new : Draft) (file : Path) (at : ℕ) (brace : Bool) (v : Set) (defaults : Fields) (r : Result (Option Include) LayerStop) → defaults ≡ with_set old.defaults v
+    → r ≡ answer_of old.first at None → Settled (record old { defaults = defaults }) new brace → Speaks old new file (stands at brace (says.Sets v)) r
+sets old new file at brace v defaults r d e s =
+    by_answer old new file (stands at brace (says.Sets v)) at None r e
     (record {
       state = s.state ∙ ap (λ d. turned brace None (without_names (state_of (record old { defaults = d })))) d;
       rules = s.rest.rules;
@@ -132,10 +132,10 @@ sets old new file at brace v defaults f r d e is s =
       taboo = s.rest.table.taboo;
     })
 
-pub passed : (old mid new : Draft) (file : Path) (at : ℕ) (brace : Bool) (word : List ℕ) (f : Option ℕ) (r : Result (Option Include) LayerStop)
-    → Noticed old mid (record { file = file; line = at; word = Some word }) → r ≡ answer_of f at None → f ≡ mid.first → Settled mid new brace → Speaks old new file (stands at brace (says.Passed word)) r
-passed old mid new file at brace word f r n e is s =
-    by_answer old new file (stands at brace (says.Passed word)) at f None r e (is ∙ ap (λ t. t.first) n.state)
+pub passed : (old mid new : Draft) (file : Path) (at : ℕ) (brace : Bool) (word : List ℕ) (r : Result (Option Include) LayerStop)
+    → Noticed old mid (record { file = file; line = at; word = Some word }) → r ≡ answer_of mid.first at None → Settled mid new brace → Speaks old new file (stands at brace (says.Passed word)) r
+passed old mid new file at brace word r n e s =
+    by_answer old new file (stands at brace (says.Passed word)) at None r (e ∙ ap (λ t. answer_of t.first at None) n.state)
     (record {
       state = s.state ∙ ap (λ t. turned brace None (without_names t)) n.state;
       rules = s.rest.rules ∙ n.rules;
@@ -147,11 +147,11 @@ passed old mid new file at brace word f r n e is s =
       taboo = s.rest.table.taboo ∙ n.table.taboo;
     })
 
-pub owner : (old mid new : Draft) (file : Path) (at : ℕ) (brace : Bool) (v : Set) (defaults : Fields) (f : Option ℕ) (r : Result (Option Include) LayerStop)
+pub owner : (old mid new : Draft) (file : Path) (at : ℕ) (brace : Bool) (v : Set) (defaults : Fields) (r : Result (Option Include) LayerStop)
     → Noticed old mid (record { file = file; line = at; word = None }) → defaults ≡ with_set mid.defaults v
-    → r ≡ answer_of f at None → f ≡ mid.first → Settled (record mid { defaults = defaults }) new brace → Speaks old new file (stands at brace (says.OwnerPassed v)) r
-owner old mid new file at brace v defaults f r n d e is s =
-    by_answer old new file (stands at brace (says.OwnerPassed v)) at f None r e (is ∙ ap (λ t. t.first) n.state)
+    → r ≡ answer_of mid.first at None → Settled (record mid { defaults = defaults }) new brace → Speaks old new file (stands at brace (says.OwnerPassed v)) r
+owner old mid new file at brace v defaults r n d e s =
+    by_answer old new file (stands at brace (says.OwnerPassed v)) at None r (e ∙ ap (λ t. answer_of t.first at None) n.state)
     (record {
       state = s.state ∙ ap (λ d. turned brace None (without_names (state_of (record mid { defaults = d })))) d ∙ ap (λ t. turned brace None (without_names (record t { defaults = with_set t.defaults v }))) n.state;
       rules = s.rest.rules ∙ n.rules;
@@ -163,10 +163,10 @@ owner old mid new file at brace v defaults f r n d e is s =
       taboo = s.rest.table.taboo ∙ n.table.taboo;
     })
 
-pub taboo : (old mid new : Draft) (file : Path) (at : ℕ) (brace : Bool) (patterns : Bool) (items : TabooItems) (f : Option ℕ) (r : Result (Option Include) LayerStop)
-    → Banned old mid patterns items → r ≡ answer_of f at None → f ≡ mid.first → Settled mid new brace → Speaks old new file (stands at brace (says.Taboo patterns items)) r
-taboo old mid new file at brace patterns items f r n e is s =
-    by_answer old new file (stands at brace (says.Taboo patterns items)) at f None r e (is ∙ ap (λ t. t.first) n.state)
+pub taboo : (old mid new : Draft) (file : Path) (at : ℕ) (brace : Bool) (patterns : Bool) (items : TabooItems) (r : Result (Option Include) LayerStop)
+    → Banned old mid patterns items → r ≡ answer_of mid.first at None → Settled mid new brace → Speaks old new file (stands at brace (says.Taboo patterns items)) r
+taboo old mid new file at brace patterns items r n e s =
+    by_answer old new file (stands at brace (says.Taboo patterns items)) at None r (e ∙ ap (λ t. answer_of t.first at None) n.state)
     (record {
       state = s.state ∙ ap (λ t. turned brace None (without_names t)) n.state;
       rules = s.rest.rules ∙ n.rules;

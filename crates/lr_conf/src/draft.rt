@@ -14,7 +14,6 @@ use lr_lex::Item;
 use lr_match::Taboo;
 use lr_rules::{ConfKind, Memory, Notice, Phase, Rule, Text};
 use std::alloc::Global;
-use std::mem;
 
 /// What the lines of a configuration made so far: rules and notices, and what lines to come are read by.
 #[derive(Drop)]
@@ -39,15 +38,21 @@ pub struct Draft {
     pub(crate) taboo: Taboo,
 }
 
-// The fields that no line set, of the defaults and of a definition.
-fn both_fields(alloc: Global) -> Result<(Fields, Fields), Memory>
-    ensures { IfOk result (λ both. (both.0 ≡ default_fields) × (both.1 ≡ default_fields)) }
+// The taboo list, and the fields of the defaults and of a definition, before any line.
+fn first_parts(alloc: Global) -> Result<(Taboo, Fields, Fields), Memory>
+    ensures taboo { IfOk result (λ parts. parts.0 ≡ first_taboo) }
+    ensures fields { IfOk result (λ parts. (parts.1 ≡ default_fields) × (parts.2 ≡ default_fields)) }
 {
-    let defaults = default_fields(alloc)?;
+    let taboo = Taboo::first(alloc)?;
+    let Ok(defaults) = default_fields(alloc) else {
+        drop(taboo);
+        return Err(Memory);
+    };
     match default_fields(alloc) {
-        Ok(fields) => Ok((defaults, fields)),
+        Ok(fields) => Ok((taboo, defaults, fields)),
         Err(_) => {
             drop(defaults);
+            drop(taboo);
             Err(Memory)
         }
     }
@@ -62,8 +67,7 @@ impl Draft {
         ensures bans { IfOk result (λ draft. (lines : List Line) → banning_from draft lines ≡ banned built false first_taboo lines) }
     {
         let files = Files::new(alloc)?;
-        let taboo = Taboo::first(alloc)?;
-        let (defaults, fields) = both_fields(alloc)?;
+        let (taboo, defaults, fields) = first_parts(alloc)?;
         Ok(Draft {
             alloc,
             built,
@@ -99,7 +103,7 @@ impl Draft {
         ensures means { (f : Fault) (lines : List Line) → coming_from self.old (Spoiled f ∷ lines) ≡ (told (f ∷ []) and coming_from self.new lines) }
         ensures passes { (f : Fault) → PassesIn self.old self.new (Spoiled f) }
     {
-        if self.place == Place::Good {
+        if let Place::Good = self.place {
             self.place = Place::Dropped;
         }
     }
@@ -124,16 +128,5 @@ impl Draft {
         ensures passes { PassesIn self.old self.new Cut }
     {
         self.break_off();
-    }
-
-    /// Takes out the rules and the notices of all that was taken. The draft is lent, since it costs much to let go what is
-    /// left of one that is taken apart.
-    pub fn finish(&mut self) -> (Vec<Rule>, Vec<Notice>)
-        ensures rules { result.0.items ≡ (coming_from self.old []).rules }
-        ensures notices { result.1.items ≡ (coming_from self.old []).notices }
-    {
-        let rules = mem::replace(&mut self.rules, Vec::new(self.alloc));
-        let notices = mem::replace(&mut self.notices, Vec::new(self.alloc));
-        (rules, notices)
     }
 }

@@ -34,13 +34,28 @@ impl Draft {
         requires { 0 < length (files_of self.old) }
         ensures { Closes self.old self.new (file_of_draft self.old) result }
     {
-        self.rules.reserve(1)?;
-        let dated = format_of(self.alloc, &self.fields)?;
-        let file = self.files.top().copy(self.alloc)?;
-        let fresh = default_fields(self.alloc)?;
-        let rule = self.end_with(file, fresh, dated);
-        self.rules.push_reserved(rule);
-        Ok(None)
+        let Ok(()) = self.rules.reserve(1) else {
+            return Err(LayerStop::Memory);
+        };
+        let Ok(file) = self.files.top().copy(self.alloc) else {
+            return Err(LayerStop::Memory);
+        };
+        let Ok(fresh) = default_fields(self.alloc) else {
+            drop(file);
+            return Err(LayerStop::Memory);
+        };
+        match format_of(self.alloc, &self.fields) {
+            Ok(dated) => {
+                let rule = self.end_with(file, fresh, dated);
+                self.rules.push_reserved(rule);
+                Ok(None)
+            }
+            Err(_) => {
+                drop(fresh);
+                drop(file);
+                Err(LayerStop::Memory)
+            }
+        }
     }
 
     // A fault of a line in a definition, which drops it.
@@ -63,12 +78,20 @@ impl Draft {
         ensures { SaysInside self.old self.new (file_of_draft self.old) at (says.Script phase text stray) result }
     {
         match script_fault(self.built, self.scripts.as_slice(), phase, stray) {
-            Some(kind) => self.drop_for(at, kind),
-            None => {
-                self.scripts.push(phase)?;
-                set_field(&mut self.fields, Set::Script(phase, text));
-                Ok(None)
+            Some(kind) => {
+                drop(text);
+                self.drop_for(at, kind)
             }
+            None => match self.scripts.push(phase) {
+                Ok(()) => {
+                    set_field(&mut self.fields, Set::Script(phase, text));
+                    Ok(None)
+                }
+                Err(_) => {
+                    drop(text);
+                    Err(LayerStop::Memory)
+                }
+            },
         }
     }
 
@@ -77,7 +100,7 @@ impl Draft {
         requires { 0 < length (files_of self.old) }
         ensures { SaysInside self.old self.new (file_of_draft self.old) at (says.OwnerPassed set) result }
     {
-        self.notice(at, None)?;
+        let set = self.notice_owner(at, set)?;
         set_field(&mut self.fields, set);
         Ok(None)
     }

@@ -12,6 +12,7 @@ use lr_lex::Item;
 use lr_match::Taboo;
 use lr_rules::{ConfKind, Listed, Memory, Notice, Path, Rules};
 use std::alloc::Global;
+use std::mem;
 
 /// What the lines of a configuration made so far. Whichever lines come, each rule meets the limits of its values.
 #[derive(Drop)]
@@ -130,8 +131,10 @@ impl Layer {
         ensures rules { result.0.sets ≡ (coming self []).rules }
         ensures notices { result.1.items ≡ (coming self []).notices }
     {
+        // They are taken out of the draft, since it costs much to let go what is left of one that is taken apart.
         let mut draft = self.draft;
-        let (rules, notices) = draft.finish();
+        let rules = mem::replace(&mut draft.rules, Vec::new(draft.alloc));
+        let notices = mem::replace(&mut draft.notices, Vec::new(draft.alloc));
         drop(draft);
         (
             Rules {

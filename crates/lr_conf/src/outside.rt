@@ -1,41 +1,19 @@
 // Lines outside definitions.
-ghost use Rattle.std.specs.Prelude.{◌≡◌, ◌<◌, [], ◌++◌, Some, OnOk, OnErr, length};
+ghost use Rattle.std.specs.Prelude.{◌≡◌, ◌<◌, [], ◌++◌, Some, None, OnOk, OnErr, IfOk, length};
 ghost use Rattle.lr_conf.specs.declared.place.Place.TheVariants as place;
 ghost use Rattle.lr_forms.specs.declared.said.Said.TheVariants as says;
 ghost use Rattle.lr_conf.specs.Meaning.{stands, or_line};
-ghost use Rattle.lr_conf.specs.Internal.Draft.{Speaks, Noticed, Banned, SameRest, Aside, Unchanged, Settled, answer_of, asking_answer, file_of_draft, files_of, without_names, state_of};
+ghost use Rattle.lr_conf.specs.Internal.Draft.{Speaks, Noticed, Banned, SameRest, Aside, Unchanged, Settled, answer_of, file_of_draft, files_of, without_names, state_of};
 
 use crate::draft::Draft;
 use crate::place::Place;
 use crate::stop::{Include, LayerStop};
-use crate::taboo::change_taboo;
-use lr_fields::{Fields, copy_fields, set_field};
+use crate::taboo::change_list;
+use lr_fields::{copy_fields, set_field};
 use lr_forms::{Said, Set};
-use lr_rules::{ConfKind, Listed, Memory, Notice, Path, Phase, Text};
+use lr_rules::{ConfKind, Listed, Memory, Notice, Path, Text};
 use lr_words::TabooItems;
 use std::mem;
-
-/// The answer that tells NoBrace at the first line, if there is one, and the line's own fault.
-fn answer(first: Option<u32>, at: u32, own: Option<ConfKind>) -> Result<Option<Include>, LayerStop>
-    ensures { result ≡ answer_of first at own }
-{
-    match (first, own) {
-        (None, None) => Ok(None),
-        (None, Some(kind)) => Err(LayerStop::Conf(at, kind)),
-        (Some(first), None) => Err(LayerStop::Conf(first, ConfKind::NoBrace)),
-        (Some(first), Some(kind)) => Err(LayerStop::NoBraceAnd(first, at, kind)),
-    }
-}
-
-/// The answer that asks for a file, and tells NoBrace at the first line, if there is one.
-fn asking_answer(first: Option<u32>, include: Include) -> Result<Option<Include>, LayerStop>
-    ensures { result ≡ asking_answer first include }
-{
-    match first {
-        None => Ok(Some(include)),
-        Some(first) => Err(LayerStop::NoBraceThen(first, include)),
-    }
-}
 
 impl Draft {
     /// Gives the notice of a word that is passed over, or of words that name an owner.
@@ -44,13 +22,31 @@ impl Draft {
         ensures ok { OnOk result (Noticed self.old self.new (record { file = file_of_draft self.old; line = at; word = word })) }
         ensures err { OnErr result (Unchanged self.old self.new) }
     {
-        let file = self.files.top().copy(self.alloc)?;
-        self.notices.push(Notice {
-            file,
-            line: at,
-            word,
-        })?;
-        Ok(())
+        match self.files.top().copy(self.alloc) {
+            Ok(file) => {
+                self.notices.push(Notice {
+                    file,
+                    line: at,
+                    word,
+                })?;
+                Ok(())
+            }
+            Err(_) => {
+                drop(word);
+                Err(Memory)
+            }
+        }
+    }
+
+    /// The same for a field with words of an owner behind its value, which comes back where there is memory.
+    pub(crate) fn notice_owner(&mut self, at: u32, set: Set) -> Result<Set, Memory>
+        requires { 0 < length (files_of self.old) }
+        ensures same { IfOk result (λ back. back ≡ set) }
+        ensures ok { OnOk result (Noticed self.old self.new (record { file = file_of_draft self.old; line = at; word = None })) }
+        ensures err { OnErr result (Unchanged self.old self.new) }
+    {
+        self.notice(at, None)?;
+        Ok(set)
     }
 
     /// Lets go of pending names, and gives the line of the first.
@@ -63,14 +59,17 @@ impl Draft {
         self.first.take()
     }
 
-    // A definition begins with these fields, and without scripts.
-    fn begin(&mut self, fields: Fields)
-        ensures state { state_of self.new ≡ record (state_of self.old) { place = place.Good; fields = fields; scripts = [] } }
-        ensures rest { SameRest self.old self.new }
+    // A definition begins with the fields that lines outside set, and without scripts.
+    fn begin(&mut self) -> Result<(), Memory>
+        ensures state { OnOk result (state_of self.new ≡ record (state_of self.old) { place = place.Good; fields = self.old.defaults; scripts = [] }) }
+        ensures rest { OnOk result (SameRest self.old self.new) }
+        ensures err { OnErr result (Unchanged self.old self.new) }
     {
+        let fields = copy_fields(self.alloc, &self.defaults)?;
         self.scripts.clear();
         drop(mem::replace(&mut self.fields, fields));
         self.place = Place::Good;
+        Ok(())
     }
 
     // Adds names to those that are pending.
@@ -79,11 +78,16 @@ impl Draft {
         ensures rest { OnOk result (SameRest self.old self.new) }
         ensures err { OnErr result (Unchanged self.old self.new) }
     {
-        self.words.append(&mut names.into_vec())?;
-        if self.first.is_none() {
-            self.first = Some(at);
+        let added = self.words.append(&mut names.into_vec());
+        match added {
+            Ok(()) => {
+                if self.first.is_none() {
+                    self.first = Some(at);
+                }
+                Ok(())
+            }
+            Err(_) => Err(Memory),
         }
-        Ok(())
     }
 
     /// Names of logs.
@@ -96,21 +100,15 @@ impl Draft {
         requires { self.old.place ≡ place.Outside }
         ensures { Speaks self.old self.new (file_of_draft self.old) (stands at brace (says.Names names)) result }
     {
-        if !brace {
-            self.add_names(at, names)?;
-            return Ok(None);
+        let before = self.words.len();
+        let first = self.first;
+        self.add_names(at, names)?;
+        if brace && let Err(_) = self.begin() {
+            self.words.truncate(before);
+            self.first = first;
+            return Err(LayerStop::Memory);
         }
-        let fields = copy_fields(self.alloc, &self.defaults)?;
-        match self.add_names(at, names) {
-            Ok(()) => {
-                self.begin(fields);
-                Ok(None)
-            }
-            Err(_) => {
-                drop(fields);
-                Err(LayerStop::Memory)
-            }
-        }
+        Ok(None)
     }
 
     /// A brace alone: it opens a definition of the names that are pending.
@@ -119,15 +117,10 @@ impl Draft {
         ensures { Speaks self.old self.new (file_of_draft self.old) (stands at brace says.Open) result }
     {
         if self.first.is_none() {
-            if brace {
-                self.words.clear();
-                self.place = Place::Dropped;
-            }
-            return Err(LayerStop::Conf(at, ConfKind::Stray));
+            return self.aside(at, brace, ConfKind::Stray);
         }
         if brace {
-            let fields = copy_fields(self.alloc, &self.defaults)?;
-            self.begin(fields);
+            self.begin()?;
         }
         Ok(None)
     }
@@ -158,37 +151,23 @@ impl Draft {
         first
     }
 
-    // A directive that says nothing, or has this fault.
-    #[tactic(auto, using(crate::proofs::Spoken::bad))]
-    fn bad(&mut self, at: u32, brace: bool, kind: ConfKind) -> Result<Option<Include>, LayerStop>
-        requires { self.old.place ≡ place.Outside }
-        ensures { Speaks self.old self.new (file_of_draft self.old) (stands at brace (says.Bad kind)) result }
-    {
-        answer(self.leave_names(brace), at, Some(kind))
-    }
-
-    #[tactic(auto, using(crate::proofs::Spoken::quiet))]
-    fn quiet(&mut self, at: u32, brace: bool) -> Result<Option<Include>, LayerStop>
-        requires { self.old.place ≡ place.Outside }
-        ensures { Speaks self.old self.new (file_of_draft self.old) (stands at brace says.Quiet) result }
-    {
-        answer(self.leave_names(brace), at, None)
-    }
-
-    // A script, which stands in definitions alone: no line says one here.
-    #[tactic(auto, using(crate::proofs::Spoken::script))]
-    fn lone_script(
+    // Lets go of pending names, and tells them with the line's own fault, where it has one.
+    fn leave(
         &mut self,
         at: u32,
         brace: bool,
-        _phase: Phase,
-        _text: Text,
-        _stray: bool,
+        own: Option<ConfKind>,
     ) -> Result<Option<Include>, LayerStop>
         requires { self.old.place ≡ place.Outside }
-        ensures { Speaks self.old self.new (file_of_draft self.old) (stands at brace (says.Script _phase _text _stray)) result }
+        ensures answer { result ≡ answer_of self.old.first at own }
+        ensures settled { Settled self.old self.new brace }
     {
-        answer(self.leave_names(brace), at, None)
+        match (self.leave_names(brace), own) {
+            (None, None) => Ok(None),
+            (None, Some(kind)) => Err(LayerStop::Conf(at, kind)),
+            (Some(first), None) => Err(LayerStop::Conf(first, ConfKind::NoBrace)),
+            (Some(first), Some(kind)) => Err(LayerStop::NoBraceAnd(first, at, kind)),
+        }
     }
 
     /// A `}`, which is stray where no names are pending.
@@ -197,10 +176,11 @@ impl Draft {
         requires { self.old.place ≡ place.Outside }
         ensures { Speaks self.old self.new (file_of_draft self.old) (stands at brace says.Close) result }
     {
-        match self.leave_names(brace) {
-            None => answer(None, at, Some(ConfKind::Stray)),
-            Some(first) => answer(Some(first), at, None),
-        }
+        let own = match self.first {
+            None => Some(ConfKind::Stray),
+            Some(_) => None,
+        };
+        self.leave(at, brace, own)
     }
 
     /// A word that is passed over.
@@ -211,7 +191,7 @@ impl Draft {
         ensures { Speaks self.old self.new (file_of_draft self.old) (stands at brace (says.Passed word)) result }
     {
         self.notice(at, Some(word))?;
-        answer(self.leave_names(brace), at, None)
+        self.leave(at, brace, None)
     }
 
     /// A directive that sets a default.
@@ -221,7 +201,7 @@ impl Draft {
         ensures { Speaks self.old self.new (file_of_draft self.old) (stands at brace (says.Sets set)) result }
     {
         set_field(&mut self.defaults, set);
-        answer(self.leave_names(brace), at, None)
+        self.leave(at, brace, None)
     }
 
     /// One with words of an owner, which are passed over.
@@ -231,9 +211,9 @@ impl Draft {
         requires files { 0 < length (files_of self.old) }
         ensures { Speaks self.old self.new (file_of_draft self.old) (stands at brace (says.OwnerPassed set)) result }
     {
-        self.notice(at, None)?;
+        let set = self.notice_owner(at, set)?;
         set_field(&mut self.defaults, set);
-        answer(self.leave_names(brace), at, None)
+        self.leave(at, brace, None)
     }
 
     /// Another file.
@@ -242,14 +222,24 @@ impl Draft {
         requires { self.old.place ≡ place.Outside }
         ensures { Speaks self.old self.new (file_of_draft self.old) (stands at brace (says.Include path)) result }
     {
-        asking_answer(self.leave_names(brace), Include { path, line: at })
+        let include = Include { path, line: at };
+        match self.leave_names(brace) {
+            None => Ok(Some(include)),
+            Some(first) => Err(LayerStop::NoBraceThen(first, include)),
+        }
     }
 
+    // The taboo list is that behind a line with these items, which are patterns or endings.
     fn ban(&mut self, patterns: bool, items: TabooItems) -> Result<(), Memory>
         ensures ok { OnOk result (Banned self.old self.new patterns items) }
         ensures err { OnErr result (Unchanged self.old self.new) }
     {
-        change_taboo(self.alloc, &mut self.taboo, patterns, items)
+        let TabooItems { items, adding } = items;
+        if patterns {
+            change_list(self.alloc, &mut self.taboo.patterns, adding, items)
+        } else {
+            change_list(self.alloc, &mut self.taboo.extensions, adding, items)
+        }
     }
 
     /// A list of what is taboo.
@@ -265,7 +255,7 @@ impl Draft {
         ensures { Speaks self.old self.new (file_of_draft self.old) (stands at brace (says.Taboo patterns items)) result }
     {
         self.ban(patterns, items)?;
-        answer(self.leave_names(brace), at, None)
+        self.leave(at, brace, None)
     }
 
     /// A line outside definitions.
@@ -284,13 +274,14 @@ impl Draft {
             Said::Open => self.open(at, brace),
             Said::Unknown => self.aside(at, brace, ConfKind::Unknown),
             Said::BadNames(kind) => self.aside(at, brace, kind),
-            Said::Bad(kind) => self.bad(at, brace, kind),
-            Said::Quiet => self.quiet(at, brace),
+            Said::Bad(kind) => self.leave(at, brace, Some(kind)),
+            Said::Quiet => self.leave(at, brace, None),
             Said::Close => self.lone_close(at, brace),
             Said::Sets(set) => self.sets(at, brace, set),
             Said::OwnerPassed(set) => self.sets_owned(at, brace, set),
             Said::Passed(word) => self.pass_over(at, brace, word),
-            Said::Script { phase, text, stray } => self.lone_script(at, brace, phase, text, stray),
+            // A script stands in definitions alone: no line says one here.
+            Said::Script { text: _text, .. } => self.leave(at, brace, None),
             Said::Include(path) => self.include(at, brace, path),
             Said::Taboo { patterns, items } => self.taboos(at, brace, patterns, items),
         }

@@ -1,7 +1,7 @@
 // Where a line stands.
 
 /// Whether a definition is being read, and whether a fault dropped it.
-#[derive(Clone, Copy, PartialEq, Eq)]
+#[derive(Clone, Copy)]
 pub enum Place {
     Outside,
     Good,

@@ -1,6 +1,5 @@
 // What taking a line answers.
 use lr_rules::{ConfKind, Memory, Path};
-use std::alloc::{AllocError, AllocFailed};
 
 /// A line that asks for another file to be read in its place.
 #[derive(Drop)]
@@ -22,28 +21,6 @@ pub enum LayerStop {
     NoBraceThen(u32, Include),
     /// Want of memory, by which nothing is changed.
     Memory,
-}
-
-impl From<AllocError> for LayerStop {
-    ghost use Rattle.std.specs.Prelude.{◌≡◌};
-    ghost use Rattle.lr_conf.specs.declared.stop.LayerStop.TheVariants as stop;
-
-    ghost from_gives = { λ _ e. e ≡ stop.Memory };
-
-    fn from(_error: AllocError) -> LayerStop {
-        LayerStop::Memory
-    }
-}
-
-impl<T: Drop> From<AllocFailed<T>> for LayerStop {
-    ghost use Rattle.std.specs.Prelude.{◌≡◌};
-    ghost use Rattle.lr_conf.specs.declared.stop.LayerStop.TheVariants as stop;
-
-    ghost from_gives = { λ _ e. e ≡ stop.Memory };
-
-    fn from(_error: AllocFailed<T>) -> LayerStop {
-        LayerStop::Memory
-    }
 }
 
 impl From<Memory> for LayerStop {

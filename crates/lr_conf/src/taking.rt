@@ -29,6 +29,7 @@ impl Draft {
         ensures { Steps self.old self.new (file_of_draft self.old) (Read (file_of_draft self.old) item) result }
     {
         if closes(&item) {
+            drop(item);
             return self.close();
         }
         let at = line_of(&item);
@@ -40,7 +41,9 @@ impl Draft {
         requires { self.old.place ≡ place.Dropped }
         ensures { Steps self.old self.new (file_of_draft self.old) (Read (file_of_draft self.old) item) result }
     {
-        if closes(&item) {
+        let closes = closes(&item);
+        drop(item);
+        if closes {
             let _first = self.settle();
             self.place = Place::Outside;
         }
