@@ -1,5 +1,6 @@
 pub mod Called
 pub mod Clocked
+mod Fulfilling
 pub mod OutAside
 pub mod Reached
 pub mod Reading

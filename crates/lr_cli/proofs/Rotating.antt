@@ -51,15 +51,20 @@ nothing_stopped state zone faults us u none = ⊎_elim
     absurd (omega (arith, one, all, zero))))
     u.ends
 
-own_calls : (xs ys : List Fault) → calls_in (xs ++ ys) ≡ 0 → calls_in ys ≡ 0
+pub own_calls : (xs ys : List Fault) → calls_in (xs ++ ys) ≡ 0 → calls_in ys ≡ 0
 own_calls xs ys h = let all : calls_in (xs ++ ys) ≡ calls_in xs + calls_in ys = calls_on xs ys in omega (arith, h, all)
 
-own_ends : (xs ys : List Fault) → scripts_in (xs ++ ys) ≡ 0 → scripts_in ys ≡ 0
+pub own_ends : (xs ys : List Fault) → scripts_in (xs ++ ys) ≡ 0 → scripts_in ys ≡ 0
 own_ends xs ys h = let all : scripts_in (xs ++ ys) ≡ scripts_in xs + scripts_in ys = scripts_on xs ys in omega (arith, h, all)
 
-own_copies : (xs ys : List Fault) → NoneOfCopy (xs ++ ys) → NoneOfCopy ys
+pub own_copies : (xs ys : List Fault) → NoneOfCopy (xs ++ ys) → NoneOfCopy ys
 own_copies [] ys h = h
 own_copies (x ∷ xs) ys h = own_copies xs ys h.1
+
+-- and then the call came to its plan
+pub came_to_plan : (here : Path) (words : List (List ℕ)) (request : Request) (zone : Zone) (seconds : ℤ) (plan : Option Plan) (report : Report) (ts : List Entry) → AskFor here words request → request.debug ≡ false → Answered here words zone seconds plan (Done report) ts → StopNothing request.state report.faults
+    → ReachesPlan request zone seconds report ts
+came_to_plan here words request zone seconds plan report ts asks dry a none = ⊎_elim (λ p. p) (λ u. absurd (nothing_stopped request.state zone report.faults _ u none)) (call_reached request zone seconds report ts here words plan asks dry a)
 
 plan_rotates : (request : Request) (zone : Zone) (seconds : ℤ) (report : Report) (j k : Journal) (es : List Entry) → Made (past j) es (past k) → StopNothing request.state report.faults → IsJournal (past j) → ReachesPlan request zone seconds report (reverse es) → RotatesAll request zone seconds report j k
 plan_rotates request zone seconds report j k es made none journal p = record {
@@ -74,10 +79,8 @@ plan_rotates request zone seconds report j k es made none journal p = record {
 
 from_entries : (here : Path) (words : List (List ℕ)) (request : Request) (zone : Zone) (seconds : ℤ) (plan : Option Plan) (report : Report) (j k : Journal) → AskFor here words request → request.debug ≡ false → Left (Answered here words zone seconds plan (Done report)) (Some j) (Some k) → StopNothing request.state report.faults → IsJournal (past j)
     → RotatesAll request zone seconds report j k
-from_entries here words request zone seconds plan report j k asks dry (is_told {es = es} made a) none journal = ⊎_elim
-    (λ p. plan_rotates request zone seconds report j k es made none journal p)
-    (λ u. absurd (nothing_stopped request.state zone report.faults _ u none))
-    (call_reached request zone seconds report (reverse es) here words plan asks dry a)
+from_entries here words request zone seconds plan report j k asks dry (is_told {es = es} made a) none journal =
+    plan_rotates request zone seconds report j k es made none journal (came_to_plan here words request zone seconds plan report (reverse es) asks dry a none)
 
 -- that a call with these words left its answer
 pub answered_rotated : (here : Path) (words : List (List ℕ)) (request : Request) (zone : Zone) (seconds : ℤ) (plan : Option Plan) (outcome : Outcome) (report : Report) (o n : Option Journal) (j k : Journal) → AskFor here words request → request.debug ≡ false → Left (Answered here words zone seconds plan outcome) o n → outcome ≡ Done report

@@ -80,26 +80,44 @@ stop_quiet zone seconds (stop.Fault f) ts (refused text range e r h) = zone_quie
 stop_quiet zone seconds stop.Memory ts (zone_at_first none) = subst AreQuiet (sym none) tt
 stop_quiet zone seconds stop.Memory ts (at_file path z t) = file_quiet path ts t
 
+-- ---- what looks and reads come to
+
+module _ (P : Entry → Type 0) (look : (x : Path) (seen : Option Seen) → P (entry.Look x seen)) (reads : (x : Path) (place : ℕ) (piece : List ℕ) → P (entry.Reads x place piece)) where
+  only_reads_so : (x : Path) (ts : List Entry) → Each (IsReadOf x) ts → Each P ts
+  only_reads_so x [] each = tt
+  only_reads_so x (entry.Reads y from piece ∷ ts) each = (reads y from piece, only_reads_so x ts each.1)
+  only_reads_so x (_ ∷ ts) each = absurd each.0
+
+  then_so : (Q R : List Entry → Type 0) (ts : List Entry) → ((us : List Entry) → Q us → Each P us) → ((us : List Entry) → R us → Each P us) → Then Q R ts → Each P ts
+  then_so Q R ts f g t = subst (Each P) (sym t.joined) (each_append P t.front t.back (f t.front t.first) (g t.back t.second))
+
+  sees_so : (x : Path) (Q : Option Seen → Type 0) (ts : List Entry) → Sees x Q ts → Each P ts
+  sees_so x Q ts s = subst (Each P) (sym s.look) (look x s.seen, tt)
+
+  none_so : (ts : List Entry) → ts ≡ [] → Each P ts
+  none_so ts e = subst (Each P) (sym e) tt
+
+  pub zone_so : (z : Zone) (text : ZoneText) (ts : List Entry) → ShowsZone z text ts → Each P ts
+  zone_so Utc text ts h = none_so ts h.1
+  zone_so (Rule rule) text ts h = none_so ts h.1
+  zone_so (File path) text ts h = then_so _ _ ts (λ us s. sees_so path IsFile us s) (λ us g. only_reads_so path us (reads_only path 1048577 h.0 us g.1)) h.2
+
 -- ---- where there was no memory
 
 none_still : (ts : List Entry) → ts ≡ [] → AreStill ts
-none_still ts e = subst AreStill (sym e) tt
+none_still = none_so IsStill (λ x seen. tt) (λ x place piece. tt)
 
 then_both : {P Q : List Entry → Type 0} (ts : List Entry) → ((us : List Entry) → P us → AreStill us) → ((us : List Entry) → Q us → AreStill us) → Then P Q ts → AreStill ts
-then_both ts f g t = subst AreStill (sym t.joined) (each_append IsStill t.front t.back (f t.front t.first) (g t.back t.second))
+then_both ts f g t = then_so IsStill (λ x seen. tt) (λ x place piece. tt) _ _ ts f g t
 
 sees_still : (x : Path) (P : Option Seen → Type 0) (ts : List Entry) → Sees x P ts → AreStill ts
-sees_still x P ts s = subst AreStill (sym s.look) (tt, tt)
+sees_still = sees_so IsStill (λ x seen. tt) (λ x place piece. tt)
 
 only_reads_still : (x : Path) (ts : List Entry) → Each (IsReadOf x) ts → AreStill ts
-only_reads_still x [] each = tt
-only_reads_still x (entry.Reads y from piece ∷ ts) each = (tt, only_reads_still x ts each.1)
-only_reads_still x (_ ∷ ts) each = absurd each.0
+only_reads_still = only_reads_so IsStill (λ x seen. tt) (λ x place piece. tt)
 
 zone_still : (zone : Zone) (text : ZoneText) (ts : List Entry) → ShowsZone zone text ts → AreStill ts
-zone_still Utc text ts h = none_still ts h.1
-zone_still (Rule rule) text ts h = none_still ts h.1
-zone_still (File path) text ts h = then_both ts (λ us s. sees_still path IsFile us s) (λ us g. only_reads_still path us (reads_only path 1048577 h.0 us g.1)) h.2
+zone_still = zone_so IsStill (λ x seen. tt) (λ x place piece. tt)
 
 pub clock_still : (zone : Zone) (seconds : ℤ) (clock : Clock) (ts : List Entry) → ShowsClock zone seconds clock ts → AreStill ts
 clock_still zone seconds clock ts h = zone_still zone h.text ts h.shows
@@ -174,69 +192,50 @@ module _ (here : Path) (words : List (List ℕ)) (zone : Zone) (seconds : ℤ) w
   -- ---- a dry run
 
   module _ (P : Entry → Type 0) (look : (x : Path) (seen : Option Seen) → P (entry.Look x seen)) (list : (x : Path) (names : List (List ℕ)) → P (entry.List x names)) (reads : (x : Path) (place : ℕ) (piece : List ℕ) → P (entry.Reads x place piece)) where
-    only_reads_so : (x : Path) (ts : List Entry) → Each (IsReadOf x) ts → Each P ts
-    only_reads_so x [] each = tt
-    only_reads_so x (entry.Reads y from piece ∷ ts) each = (reads y from piece, only_reads_so x ts each.1)
-    only_reads_so x (_ ∷ ts) each = absurd each.0
-
-    then_so : (Q R : List Entry → Type 0) (ts : List Entry) → ((us : List Entry) → Q us → Each P us) → ((us : List Entry) → R us → Each P us) → Then Q R ts → Each P ts
-    then_so Q R ts f g t = subst (Each P) (sym t.joined) (each_append P t.front t.back (f t.front t.first) (g t.back t.second))
-
-    sees_so : (x : Path) (Q : Option Seen → Type 0) (ts : List Entry) → Sees x Q ts → Each P ts
-    sees_so x Q ts s = subst (Each P) (sym s.look) (look x s.seen, tt)
-
-    none_so : (ts : List Entry) → ts ≡ [] → Each P ts
-    none_so ts e = subst (Each P) (sym e) tt
-
-    zone_so : (z : Zone) (text : ZoneText) (ts : List Entry) → ShowsZone z text ts → Each P ts
-    zone_so Utc text ts h = none_so ts h.1
-    zone_so (Rule rule) text ts h = none_so ts h.1
-    zone_so (File path) text ts h = then_so _ _ ts (λ us s. sees_so path IsFile us s) (λ us g. only_reads_so path us (reads_only path 1048577 h.0 us g.1)) h.2
-
     whole_so : (path : Path) (bytes : List ℕ) (ts : List Entry) → Then (Sees path IsFile) (ReadsAll path 1048577 bytes) ts → Each P ts
-    whole_so path bytes ts t = then_so _ _ ts (λ us s. sees_so path IsFile us s) (λ us g. only_reads_so path us (reads_only path 1048577 bytes us g)) t
+    whole_so path bytes ts t = then_so P look reads _ _ ts (λ us s. sees_so P look reads path IsFile us s) (λ us g. only_reads_so P look reads path us (reads_only path 1048577 bytes us g)) t
 
     file_so : (path : Path) (ts : List Entry) → Then (Sees path IsFile) (Each (IsReadOf path)) ts → Each P ts
-    file_so path ts t = then_so _ _ ts (λ us s. sees_so path IsFile us s) (λ us g. only_reads_so path us g) t
+    file_so path ts t = then_so P look reads _ _ ts (λ us s. sees_so P look reads path IsFile us s) (λ us g. only_reads_so P look reads path us g) t
 
     text_so : (f : Fault) (ts : List Entry) → LacksText zone f ts → Each P ts
-    text_so f ts (not_file path z e s) = sees_so path _ ts s
+    text_so f ts (not_file path z e s) = sees_so P look reads path _ ts s
     text_so f ts (too_big path bytes z e n t) = whole_so path bytes ts t
-    text_so f ts (text_look_failed path z e none) = none_so ts none
+    text_so f ts (text_look_failed path z e none) = none_so P look reads ts none
     text_so f ts (text_read_failed path z e t) = file_so path ts t
 
     lost_clock_so : (f : Fault) (ts : List Entry) → LacksClock zone seconds f ts → Each P ts
-    lost_clock_so f ts (out_of_range out e none) = none_so ts none
+    lost_clock_so f ts (out_of_range out e none) = none_so P look reads ts none
     lost_clock_so f ts (no_text range h) = text_so f ts h
-    lost_clock_so f ts (refused text range e r h) = zone_so zone text ts h
+    lost_clock_so f ts (refused text range e r h) = zone_so P look reads zone text ts h
 
     lost_memory_so : (ts : List Entry) → LacksZoneMemory zone ts → Each P ts
-    lost_memory_so ts (zone_at_first none) = none_so ts none
+    lost_memory_so ts (zone_at_first none) = none_so P look reads ts none
     lost_memory_so ts (at_file path z t) = file_so path ts t
 
     confs_so : (confs : List Path) (m : Meaning) (ts : List Entry) → Reads confs m ts → Each P ts
     confs_so = all_so P look list (λ x from piece le. reads x from piece)
 
     answers_dry : (request : Request) (now : Moment) (plan : Option Plan) (outcome : Outcome) (ts : List Entry) → request.debug ≡ true → Answers request now plan outcome ts → Each P ts
-    answers_dry request now plan (Done report) ts dry h = then_so _ _ ts (λ us r. confs_so request.confs h.meaning us r)
+    answers_dry request now plan (Done report) ts dry h = then_so P look reads _ _ ts (λ us r. confs_so request.confs h.meaning us r)
         (λ us r. tries_so P look list reads request.state h.rules.sets now request.force plan h.own us (subst (λ (b : Bool). Leaves b request.state request.force now h.rules plan h.own us) dry r)) h.entries
-    answers_dry request now plan Held ts dry h = then_so _ _ ts (λ us r. confs_so request.confs h.1.meaning us r) (λ us r. absurd (subst (λ (b : Bool). Holds b request.state us) dry r)) h.1.entries
+    answers_dry request now plan Held ts dry h = then_so P look reads _ _ ts (λ us r. confs_so request.confs h.1.meaning us r) (λ us r. absurd (subst (λ (b : Bool). Holds b request.state us) dry r)) h.1.entries
     answers_dry request now plan BadWords ts dry h = absurd h
     answers_dry request now plan OutOfMemory ts dry h = go h.1
       where
         go : LacksMemory request now ts → Each P ts
-        go (at_first none) = none_so ts none
+        go (at_first none) = none_so P look reads ts none
         go (at_confs l) = lacking_so P look list (λ x from piece le. reads x from piece) request.confs ts l
-        go (at_run meaning rules same t) = then_so _ _ ts (λ us r. confs_so request.confs meaning us r)
+        go (at_run meaning rules same t) = then_so P look reads _ _ ts (λ us r. confs_so request.confs meaning us r)
             (λ us r. lacks_so P look list reads request.state rules.sets us (subst (λ (b : Bool). Lacks b request.state request.force now rules us) dry r)) t
 
     at_dry : (request : Request) (plan : Option Plan) (outcome : Outcome) (ts : List Entry) → request.debug ≡ true → AnswersAt request zone seconds plan outcome ts → Each P ts
     at_dry request plan outcome ts dry (no_clock f lost is l) = lost_clock_so f ts l
     at_dry request plan outcome ts dry (no_memory lost is l) = lost_memory_so ts l
-    at_dry request plan outcome ts dry (called clock t) = then_so _ _ ts (λ us h. zone_so zone h.text us h.shows) (λ us h. answers_dry request clock.now plan outcome us dry h) t
+    at_dry request plan outcome ts dry (called clock t) = then_so P look reads _ _ ts (λ us h. zone_so P look reads zone h.text us h.shows) (λ us h. answers_dry request clock.now plan outcome us dry h) t
 
     pub answered_dry : (request : Request) (plan : Option Plan) (outcome : Outcome) (ts : List Entry) → AskFor here words request → request.debug ≡ true → Answered here words zone seconds plan outcome ts → Each P ts
-    answered_dry request plan outcome ts asks dry (not_read lost is none) = none_so ts none
+    answered_dry request plan outcome ts asks dry (not_read lost is none) = none_so P look reads ts none
     answered_dry request plan outcome ts asks dry (read other asked h) = at_dry other plan outcome ts (ap (λ (r : Request). r.debug) (same_Some other request (sym asked ∙ asks)) ∙ dry) h
 
 pub left_dry : (here : Path) (words : List (List ℕ)) (zone : Zone) (seconds : ℤ) (request : Request) (plan : Option Plan) (outcome : Outcome) {o n : Option Journal} → AskFor here words request → request.debug ≡ true → Left (Answered here words zone seconds plan outcome) o n → Left AreSights o n

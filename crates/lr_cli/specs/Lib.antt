@@ -3,6 +3,7 @@ pub mod Asked
 pub mod Clock
 pub mod Copied
 pub mod Faults
+pub mod Fulfilled
 pub mod Printed
 pub mod Reached
 pub mod Rotated

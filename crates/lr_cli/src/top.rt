@@ -14,6 +14,7 @@ ghost use Rattle.lr_cli.specs.Asked.{AskFor, AskForNone};
 ghost use Rattle.lr_cli.specs.Clock.{IsClocked};
 ghost use Rattle.lr_cli.specs.Copied.{CopiesWhole};
 ghost use Rattle.lr_cli.specs.Faults.{HasFault, HasCounted, StopNothing};
+ghost use Rattle.lr_cli.specs.Fulfilled.{FailNothing, FulfillsPlan};
 ghost use Rattle.lr_cli.specs.Printed.{without_out};
 ghost use Rattle.lr_cli.specs.Reached.{TellsOfPlan, TellsOfTry};
 ghost use Rattle.lr_cli.specs.Rotated.{RotatesAll};
@@ -47,6 +48,12 @@ pub fn logrotate<H: Host, K: Sink>(
 ) -> Outcome
     // A journal that the host tells is one of a disk.
     requires { WhereTold (H.told host.old) IsJournal }
+
+    // Where its faults tell of nothing that failed, the call did its plan, and nothing else: its acts are the plan's, in order,
+    // each log that the plan renames was rotated, the state tells of all its logs, and all else was left alone. Faults of the
+    // configuration, of the looks and of the plan may stand there, and no others do.
+    ensures fulfilled { (request : Request) (report : Report) (before after : Journal) → AskFor here.now words.now request → request.debug ≡ false → without_out result ≡ Outcome.Done report → FailNothing request.state report.faults
+        → H.told host.old ≡ Some before → H.told host.new ≡ Some after → IsJournal (past before) → FulfillsPlan request zone.now now report before after }
 
     // A set that was safe in the journal before is safe in the journal after, where it is steady there: whatever failed, and
     // wherever the run stopped.

@@ -1,4 +1,4 @@
-use Rattle.std.proofs.Common.{[], None, inl, inr, refl, ap, sym, ◌∙◌, Err}
+use Rattle.std.proofs.Common.{[], None, inl, inr, refl, ap, ◌∙◌, Err}
 use Rattle.lr_host.proofs.Left.{left_first}
 use Rattle.lr_rotations.specs.AllTurns.{IsWholeRun}
 use Rattle.lr_rotations.proofs.Safety.{call_safe}
@@ -10,6 +10,7 @@ use Rattle.lr_cli.specs.Still.{WasShort, all_still}
 use Rattle.lr_cli.proofs.Clocked.{own_seconds}
 use Rattle.lr_cli.proofs.Copied.{answered_copies}
 use Rattle.lr_cli.proofs.Called.{nothing_called, answered, has_counted, has_clocked, not_counted, none_out, says_nothing, says_so}
+use Rattle.lr_cli.proofs.Fulfilling.{answered_fulfilled}
 use Rattle.lr_cli.proofs.Reached.{left_tells}
 use Rattle.lr_cli.proofs.Reading.{alone_run}
 use Rattle.lr_cli.proofs.Rotating.{answered_rotated}
@@ -82,6 +83,9 @@ returns-clause-reached g c = λ request report asks dry done. let s = returns-cl
 
 pub returns-clause-rotated : goal.returns-clause-rotated
 returns-clause-rotated g c = λ request report before after asks dry done all told_before told_after journal. let s = returns-clause-told g c in answered_rotated c.args.here.now c.args.words.now request c.args.zone.now c.args.now s.plan _ report _ _ before after asks dry s.shown done all told_before told_after journal
+
+pub returns-clause-fulfilled : goal.returns-clause-fulfilled
+returns-clause-fulfilled g c = λ request report before after asks dry done none told_before told_after journal. let s = returns-clause-told g c in answered_fulfilled c.args.here.now c.args.words.now request c.args.zone.now c.args.now s.plan _ report _ _ before after asks dry s.shown done none told_before told_after journal
 
 pub returns-clause-clock : goal.returns-clause-clock
 returns-clause-clock g c = λ report done. has_clocked c.args.zone.now _ c.args.now c.run_at-run.result _ report (own_seconds c.args.now c.ranges.now.sfits) c.finish.ensures.answer done c.run_at-run.ensures.clock
