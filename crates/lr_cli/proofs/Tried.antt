@@ -15,7 +15,6 @@ use Rattle.lr_due.specs.declared.tz.Zone.TheVariants.{File}
 use Rattle.lr_fields.specs.Built.{AreBuiltRules}
 use Rattle.lr_plan.specs.declared.planned.Plan.{Plan}
 use Rattle.lr_run.specs.Answers.{Leaves}
-use Rattle.lr_run.specs.Dry.{Tries}
 use Rattle.lr_reached.specs.Tried.{EndsTry, NoneEndsTry}
 use Rattle.lr_reached.proofs.Ends.{last_in}
 use Rattle.lr_reached.proofs.Tried.{none_try, try_both, last_tries, reached_try, ended_try}
