@@ -422,9 +422,6 @@ module _ (paths : List Path) (job : Job) (n : Naming) (c : Count) (stand : Stand
   alike_u zero i = ap (names (world u)) (sym to_is) ∙ (done.copied.named ∙ sym (put_here (put behind_old log thing.Nothing) (path_at n 0) (path_at n 0) (behind_old log) refl ∙ log_alike))
   alike_u (suc j) i = same ∙ (alike_a (suc j) i ∙ sym (put_other (put behind_old log thing.Nothing) (path_at n 0) (path_at n (suc j)) (behind_old log) differ ∙ put_other behind_old log (path_at n (suc j)) thing.Nothing (λ e. no_member (suc j) i (sym e))))
     where
-      x : Path
-      x = path_at n (suc j)
-
       differ : path_at n (suc j) ≡ path_at n 0 → ⊥
       differ e = let is : suc j ≡ 0 = path_same n (suc j) 0 i first e in omega (arith, is)
 

@@ -5,5 +5,7 @@
 #![tactic(auto)]
 
 mod laws;
+mod worked;
 
 pub use laws::copied_family_is_turned;
+pub use worked::unlinked_log_is_not_kept;
