@@ -13,34 +13,17 @@ use Rattle.lr_host.specs.Counted.{AreCounted}
 use Rattle.lr_plan.specs.Course.{Part, Nothing, StepFails}
 use Rattle.lr_host.proofs.Counts.{free_none, counted_on, counted_none, counted_free, counted_call, counted_script}
 use Rattle.lr_acts.specs.declared.progress.Progress.{Progress}
-use Rattle.lr_acts.specs.Adding.{Adds, AreCaused, HasRoom, Fills}
+use Rattle.lr_acts.specs.Adding.{Adds, HasRoom, Fills}
 use Rattle.lr_acts.specs.Making.{FaultCause, StepNames, WasMade, list_of}
 use Rattle.lr_acts.specs.Named.{KeepsNames}
-use Rattle.lr_acts.proofs.Naming.{was_wider, made_names, failed_names, nothing_names, same_names, names_of_more, names_on}
+use Rattle.lr_acts.proofs.Naming.{made_names, failed_names, nothing_names, same_names, names_of_more, names_on}
+use Rattle.lr_acts.proofs.Taking.{made_taken, failed_taken, nothing_taken, same_taken, taken_of_more, taken_on}
 
 pub onward_on : (a b c : Counts) → Onward a b → Onward b c → Onward a c
 onward_on a b c p q = ((omega (arith, p.0.0, q.0.0), omega (arith, p.0.1, q.0.1), omega (arith, p.0.2, q.0.2)), q.1 ∙ p.1)
 
 pub onward_same : (a : Counts) → Onward a a
 onward_same a = ((omega arith, omega arith, omega arith), refl)
-
-cause_wider : {P Q : List Entry → Type 0} {o m n l : Option Journal} (f : Fault) (a b c d : Counts) → Left P o m → Left Q n l → Onward a b → Onward c d → FaultCause f b c m n → FaultCause f a d o l
-cause_wider (fault.Call kind path) a b c d before behind p q h = omega (arith, p.0.0, q.0.0, h)
-cause_wider (fault.Script phase on end) a b c d before behind p q h = omega (arith, p.0.1, q.0.1, h)
-cause_wider (fault.Taken path) a b c d before behind p q h = was_wider path before h behind
-cause_wider fault.Out a b c d before behind p q h = absurd h
-cause_wider _ a b c d before behind p q h = tt
-
-caused_wider : {P Q : List Entry → Type 0} {o m n l : Option Journal} (fs : List Fault) (a b c d : Counts) → Left P o m → Left Q n l → Onward a b → Onward c d → AreCaused fs b c m n → AreCaused fs a d o l
-caused_wider [] a b c d before behind p q h = tt
-caused_wider (f ∷ fs) a b c d before behind p q h = (cause_wider f a b c d before behind p q h.0, caused_wider fs a b c d before behind p q h.1)
-
-caused_both : (fs gs : List Fault) (a b : Counts) (o n : Option Journal) → AreCaused fs a b o n → AreCaused gs a b o n → AreCaused (fs ++ gs) a b o n
-caused_both [] gs a b o n p q = q
-caused_both (f ∷ fs) gs a b o n p q = (p.0, caused_both fs gs a b o n p.1 q)
-
-here : (o : Option Journal) → Left (λ ts. ts ≡ []) o o
-here o = left_first (λ ts. ts ≡ []) o refl
 
 pub adds_as : {P Q : Part} {ss : List Step} {a b : Progress} {o n : Option Journal} {c d : Counts} → Adds P ss a b o n c d → ((ms : List Mark) (f : List Fault) (ts : List Entry) → P ms f ts → Q ms f ts) → Adds Q ss a b o n c d
 adds_as h f = record {
@@ -49,8 +32,8 @@ adds_as h f = record {
   marks_are = h.marks_are;
   faults_are = h.faults_are;
   entries = left_as h.entries (λ ts p. f h.marks h.faults ts p);
-  caused = h.caused;
   are_counted = h.are_counted;
+  taken = h.taken;
   names = h.names;
   onward = h.onward;
 }
@@ -63,8 +46,8 @@ adds_of_more xs rest all is h = record {
   marks_are = h.marks_are;
   faults_are = h.faults_are;
   entries = h.entries;
-  caused = h.caused;
   are_counted = h.are_counted;
+  taken = taken_of_more xs rest all is h.taken;
   names = names_of_more xs rest all is h.names;
   onward = h.onward;
 }
@@ -77,8 +60,8 @@ adds_on xs ys {x = x} {o = o} {n = n} {a = a} {b = b} {c = c} p q f = record {
   marks_are = q.marks_are ∙ (ap (λ ms. ms ++ q.marks) p.marks_are ∙ append_assoc x.marks.items p.marks q.marks);
   faults_are = q.faults_are ∙ (ap (λ fs. fs ++ q.faults) p.faults_are ∙ append_assoc x.faults.items p.faults q.faults);
   entries = left_then p.entries q.entries (λ ts us h k. f p.marks q.marks p.faults q.faults ts us h k);
-  caused = caused_both p.faults q.faults a c o n (caused_wider p.faults a a b c (here o) q.entries (onward_same a) q.onward p.caused) (caused_wider q.faults a b c c p.entries (here n) p.onward (onward_same c) q.caused);
   are_counted = counted_on p.faults q.faults a b c p.are_counted q.are_counted;
+  taken = taken_on xs ys p.faults q.faults p.entries q.entries p.taken q.taken;
   names = names_on xs ys p.names q.names;
   onward = onward_on a b c p.onward q.onward;
 }
@@ -91,8 +74,8 @@ adds_none {P} x o a p = record {
   marks_are = sym (append-nil x.marks.items);
   faults_are = sym (append-nil x.faults.items);
   entries = left_first (P [] []) o p;
-  caused = tt;
   are_counted = counted_none a;
+  taken = same_taken [] o;
   names = same_names [] o;
   onward = onward_same a;
 }
@@ -104,8 +87,8 @@ adds_nothing steps x y {a = a} {b = b} ms fs l onward = record {
   marks_are = ms;
   faults_are = fs;
   entries = left_as l (λ ts e. (refl, refl, e));
-  caused = tt;
   are_counted = counted_free [] a b free_none onward.0;
+  taken = nothing_taken steps l;
   names = nothing_names steps l;
   onward = onward;
 }
@@ -132,8 +115,8 @@ step_made step told x y {o = o} {n = n} {a = a} {b = b} e ms fs l named onward =
   marks_are = ms;
   faults_are = fs;
   entries = left_as l (λ ts w. (e, refl, w));
-  caused = tt;
   are_counted = counted_free [] a b free_none onward.0;
+  taken = made_taken step l;
   names = subst (λ (marks : List Mark). KeepsNames (step ∷ []) marks o n) (sym e) (made_names step told l named);
   onward = onward;
 }
@@ -146,8 +129,8 @@ step_failed step f x y {o = o} {n = n} {a = a} {b = b} ms fs l cause onward = re
   marks_are = ms;
   faults_are = fs;
   entries = left_as l (λ ts h. record { fault = f; told = refl; none = refl; failed = h });
-  caused = (cause, tt);
   are_counted = counted_one f a b o n cause onward.0;
+  taken = failed_taken step f a b l cause;
   names = failed_names step f l;
   onward = onward;
 }

@@ -5,4 +5,6 @@ mod Dirs
 mod Naming
 mod Parts
 mod Programs
+pub mod Taking
 mod Texts
+mod Unnaming

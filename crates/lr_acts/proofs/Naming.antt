@@ -19,14 +19,13 @@ use Rattle.lr_host.proofs.Looked.{nothing_no_file}
 use Rattle.lr_host.proofs.Made.{made_on}
 use Rattle.lr_host.proofs.More.{not_more, wrote_names}
 use Rattle.lr_host.proofs.Names.{put_cases, put_here}
-use Rattle.lr_copy.proofs.EachOfBytes.{each_all, each_broke}
 use Rattle.lr_plan.specs.declared.mark.Mark.{Mark}
 use Rattle.lr_plan.specs.declared.step.Step.{Step}
 use Rattle.lr_plan.specs.declared.step.Step.TheVariants as step
-use Rattle.lr_plan.specs.Appending.{Appended, no_more, piece_more, AppendBroke, at_piece, in_piece, piece_on}
-use Rattle.lr_plan.specs.Outcomes.{Succeeds, Fails, ProgramFailed, badly, not_run, maybe_run, DirFailed, at_make, at_look, no_dir, marks_of}
+use Rattle.lr_plan.specs.Outcomes.{Succeeds, Fails, marks_of}
 use Rattle.lr_acts.specs.Making.{StepNames}
 use Rattle.lr_acts.specs.Named.{IsNamed, WasNamed, untold, at_moment, TakesName, KeepName, CreatesAt, OneCreates, LastsBehind, TellCreated, KeepsNames}
+use Rattle.lr_acts.proofs.Unnaming.{unnames, OfUnnaming, each_none, each_made, each_failed}
 
 -- ---- one entry
 
@@ -88,10 +87,6 @@ file_made x mode (is_told {j = j} {k = k} {es = es} m h) = made_there x mode (pa
 
 -- ---- at a moment between
 
-pub was_now : {P : List Entry → Type 0} {o n : Option Journal} (x : Path) → Left P o n → IsNamed x n → WasNamed x o n
-was_now x not_told named = untold
-was_now x (is_told {k = k} m h) named = at_moment (past k) m named at_first
-
 pub was_wider : {P Q : List Entry → Type 0} {a b c d : Option Journal} (x : Path) → Left P a b → WasNamed x b c → Left Q c d → WasNamed x a d
 was_wider x not_told untold not_told = untold
 was_wider x (is_told {j = j} {k = k} {es = es} m h) (at_moment {k = l} {es = fs} {fs = gs} p made named rest) (is_told {k = z} {es = hs} m' h') =
@@ -99,61 +94,21 @@ was_wider x (is_told {j = j} {k = k} {es = es} m h) (at_moment {k = l} {es = fs}
 
 -- ---- one step
 
-one_keeps : (x : Path) {e : Entry} {ts : List Entry} → ts ≡ e ∷ [] → KeepsName x e → Each (KeepsName x) ts
-one_keeps x is k = subst (Each (KeepsName x)) (sym is) (k, tt)
+keeps_other : (x : Path) (e : Entry) → unnames e ≡ false → KeepsName x e
+keeps_other x (Renames from to) h = absurd (cc)
+keeps_other x (Unlinks y) h = absurd (cc)
+keeps_other x _ h = tt
 
-none_keeps : (x : Path) {ts : List Entry} → ts ≡ [] → Each (KeepsName x) ts
-none_keeps x is = subst (Each (KeepsName x)) (sym is) tt
-
-maybe_keeps : (x : Path) (e : Entry) {ts : List Entry} → (ts ≡ []) ⊎ (ts ≡ e ∷ []) → KeepsName x e → Each (KeepsName x) ts
-maybe_keeps x e m k = ⊎_elim (λ none. none_keeps x none) (λ one. one_keeps x one k) m
-
-appended_keeps : (x to : Path) (text : List ℕ) (ts : List Entry) → Appended to text ts → Each (KeepsName x) ts
-appended_keeps x to _ _ no_more = tt
-appended_keeps x to _ _ (piece_more piece text {ts = ts} a) = (tt, appended_keeps x to text ts a)
-
-append_broke_keeps : (x to : Path) (text : List ℕ) (ts : List Entry) → AppendBroke to text ts → Each (KeepsName x) ts
-append_broke_keeps x to _ _ (at_piece text) = tt
-append_broke_keeps x to _ _ (in_piece piece text) = (tt, tt)
-append_broke_keeps x to _ _ (piece_on piece text {ts = ts} a) = (tt, append_broke_keeps x to text ts a)
+keeps_own : (x : Path) (s : Step) → (TakesName x s → ⊥) → OfUnnaming (KeepsName x) s
+keeps_own x (step.Removes path) k = k
+keeps_own x (step.Renames from to) k = k
+keeps_own x _ k = tt
 
 succeeds_keep : (x : Path) (s : Step) (ts : List Entry) → (TakesName x s → ⊥) → Succeeds s ts → Each (KeepsName x) ts
-succeeds_keep x (step.Runs phase on command) ts k w = one_keeps x w tt
-succeeds_keep x (step.Removes path) ts k w = one_keeps x w k
-succeeds_keep x (step.MakesDir path mode) ts k w = ⊎_elim (λ made. one_keeps x made tt) (λ saw. one_keeps x saw.look tt) w
-succeeds_keep x (step.Renames from to) ts k w = one_keeps x w k
-succeeds_keep x (step.Creates path mode) ts k w = maybe_keeps x (Makes path mode) w tt
-succeeds_keep x (step.Takes path mode) ts k w = one_keeps x w tt
-succeeds_keep x (step.Copies from to limit) ts k w = each_all (KeepsName x) from to (λ k piece. tt) (λ piece. tt) limit w.0 ts w.1
-succeeds_keep x (step.Appends path text) ts k w = appended_keeps x path text ts w
-succeeds_keep x (step.SyncsFile path) ts k w = one_keeps x w tt
-succeeds_keep x (step.SyncsDir path) ts k w = one_keeps x w tt
-succeeds_keep x (step.Truncates path) ts k w = one_keeps x w tt
-succeeds_keep x (step.Rotated log) ts k w = none_keeps x w
-
-program_keeps : (x : Path) (phase : _) (on : List ℕ) (command : _) (f : Fault) (ts : List Entry) → ProgramFailed phase on command f ts → Each (KeepsName x) ts
-program_keeps x phase on command f ts (badly end ne is one) = one_keeps x one tt
-program_keeps x phase on command f ts (not_run is none) = none_keeps x none
-program_keeps x phase on command f ts (maybe_run end is one) = one_keeps x one tt
-
-dir_keeps : (x path : Path) (mode : Option ℕ) (f : Fault) (ts : List Entry) → DirFailed path mode f ts → Each (KeepsName x) ts
-dir_keeps x path mode f ts (at_make c) = maybe_keeps x (MakesDir path mode) c.1 tt
-dir_keeps x path mode f ts (at_look is none) = none_keeps x none
-dir_keeps x path mode f ts (no_dir is saw) = one_keeps x saw.look tt
+succeeds_keep x s ts k w = each_made (KeepsName x) (keeps_other x) s ts (keeps_own x s k) w
 
 fails_keep : (x : Path) (s : Step) (f : Fault) (ts : List Entry) → (TakesName x s → ⊥) → Fails s f ts → Each (KeepsName x) ts
-fails_keep x (step.Runs phase on command) f ts k h = program_keeps x phase on command f ts h
-fails_keep x (step.Removes path) f ts k h = maybe_keeps x (Unlinks path) h.1 k
-fails_keep x (step.MakesDir path mode) f ts k h = dir_keeps x path mode f ts h
-fails_keep x (step.Renames from to) f ts k h = maybe_keeps x (Renames from to) h.1 k
-fails_keep x (step.Creates path mode) f ts k h = maybe_keeps x (Makes path mode) h.1 tt
-fails_keep x (step.Takes path mode) f ts k h = ⊎_elim (λ c. maybe_keeps x (Makes path mode) c.1 tt) (λ taken. none_keeps x taken.1) h
-fails_keep x (step.Copies from to limit) f ts k h = each_broke (KeepsName x) from to (λ k piece. tt) (λ piece. tt) limit h.0 ts h.2
-fails_keep x (step.Appends path text) f ts k h = append_broke_keeps x path text ts h.1
-fails_keep x (step.SyncsFile path) f ts k h = maybe_keeps x (entry.SyncsFile path) h.1 tt
-fails_keep x (step.SyncsDir path) f ts k h = maybe_keeps x (entry.SyncsDir path) h.1 tt
-fails_keep x (step.Truncates path) f ts k h = maybe_keeps x (entry.Truncates path) h.1 tt
-fails_keep x (step.Rotated log) f ts k h = absurd h
+fails_keep x s f ts k h = each_failed (KeepsName x) (keeps_other x) s f ts (keeps_own x s k) h
 
 -- ---- steps
 
@@ -185,7 +140,7 @@ failed_names s f left = record {
 
 pub nothing_names : (steps : List Step) {o n : Option Journal} → Left (λ ts. ts ≡ []) o n → KeepsNames steps [] o n
 nothing_names steps left = record {
-  kept = λ x k was. left_keeps x left (λ ts is. none_keeps x is) was;
+  kept = λ x k was. left_keeps x left (λ ts is. each_none (KeepsName x) is) was;
   created = λ x last t. absurd t;
   planned = λ x t. absurd t;
 }

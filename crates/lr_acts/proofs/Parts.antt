@@ -41,8 +41,8 @@ adds_by h = record {
   marks_are = h.marks_are;
   faults_are = h.faults_are;
   entries = left_as h.entries (λ ts p. (refl, p));
-  caused = h.caused;
   are_counted = h.are_counted;
+  taken = h.taken;
   names = h.names;
   onward = h.onward;
 }

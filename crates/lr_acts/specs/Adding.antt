@@ -1,5 +1,5 @@
 -- What acts add to what came before, and the room for it.
-use Rattle.std.specs.Prelude.{◌≡◌, ◌+◌, ◌≤◌, ◌<◌, ℕ, List, [], ◌∷◌, ◌++◌, Option, vec_len}
+use Rattle.std.specs.Prelude.{◌≡◌, ◌+◌, ◌≤◌, ◌<◌, ℕ, List, ◌++◌, Option, vec_len}
 use Rattle.std.specs.Vec.{vec_capacity}
 use Rattle.lr_rules.specs.declared.fault.Fault.{Fault}
 use Rattle.lr_host.specs.declared.journal.Journal.{Journal}
@@ -9,23 +9,18 @@ use Rattle.lr_plan.specs.declared.step.Step.{Step}
 use Rattle.lr_host.specs.Counted.{AreCounted}
 use Rattle.lr_plan.specs.Course.{Part}
 use Rattle.lr_acts.specs.declared.progress.Progress.{Progress}
-use Rattle.lr_acts.specs.Making.{FaultCause}
 use Rattle.lr_acts.specs.Named.{KeepsNames}
+use Rattle.lr_acts.specs.Taken.{TakenOnly}
 
--- each of the faults has its cause
-abbrev pub AreCaused : List Fault → Counts → Counts → Option Journal → Option Journal → Type 0
-AreCaused [] before now told later = Unit {0}
-AreCaused (f ∷ fs) before now told later = FaultCause f before now told later × AreCaused fs before now told later
-
--- The marks and faults of this part of the acts, which has these steps, were added, each fault with its cause, and the part left its entries.
+-- The marks and faults of this part of the acts, which has these steps, were added, each fault with its cause: the counts tell of failed calls and of bad ends, and a path that is told as taken was named. The part left its entries.
 pub record Adds (P : Part) (steps : List Step) (before now : Progress) (told later : Option Journal) (counted counts : Counts) : Type 0 where
   pub marks : List Mark
   pub faults : List Fault
   pub marks_are : now.marks.items ≡ before.marks.items ++ marks
   pub faults_are : now.faults.items ≡ before.faults.items ++ faults
   pub entries : Left (P marks faults) told later
-  pub caused : AreCaused faults counted counts told later
   pub are_counted : AreCounted faults counted counts
+  pub taken : TakenOnly steps faults told later
   pub names : KeepsNames steps marks told later
   pub onward : Onward counted counts
 

@@ -1,3 +1,4 @@
 pub mod Adding
 pub mod Making
 pub mod Named
+pub mod Taken

@@ -1,18 +1,15 @@
 -- The causes of faults, over more calls.
 use Rattle.std.proofs.Common.{refl, ◌∙◌, arith, List, [], ◌∷◌, Option}
-use Rattle.lr_rules.specs.declared.path.Path.{Path}
 use Rattle.lr_rules.specs.declared.fault.Fault.{Fault}
 use Rattle.lr_rules.specs.declared.fault.Fault.TheVariants as fault
 use Rattle.lr_host.specs.declared.entry.Entry.{Entry}
 use Rattle.lr_host.specs.declared.journal.Journal.{Journal}
-use Rattle.lr_host.specs.World.{past}
-use Rattle.lr_host.specs.Told.{Left, not_told, is_told, at_first, Counts, NoneFell, Onward}
-use Rattle.lr_host.proofs.Made.{made_on}
+use Rattle.lr_host.specs.Told.{Left, Counts, NoneFell, Onward}
 use Rattle.lr_host.specs.Counted.{AreCounted}
 use Rattle.lr_host.proofs.Counts.{counted_free, counted_call, counted_script}
-use Rattle.lr_acts.specs.Adding.{AreCaused}
 use Rattle.lr_acts.specs.Making.{FaultCause}
-use Rattle.lr_acts.specs.Named.{IsNamed, WasNamed, untold, at_moment}
+use Rattle.lr_acts.proofs.Taking.{taken_later}
+use Rattle.lr_writing.specs.Writes.{AreCaused}
 
 pub onward_on : (a b c : Counts) → Onward a b → Onward b c → Onward a c
 onward_on a b c p q = ((omega (arith, p.0.0, q.0.0), omega (arith, p.0.1, q.0.1), omega (arith, p.0.2, q.0.2)), q.1 ∙ p.1)
@@ -20,18 +17,10 @@ onward_on a b c p q = ((omega (arith, p.0.0, q.0.0), omega (arith, p.0.1, q.0.1)
 pub onward_same : (a : Counts) → Onward a a
 onward_same a = ((omega arith, omega arith, omega arith), refl)
 
-pub was_now : {P : List Entry → Type 0} {o n : Option Journal} (x : Path) → Left P o n → IsNamed x n → WasNamed x o n
-was_now x not_told named = untold
-was_now x (is_told {k = k} m h) named = at_moment (past k) m named at_first
-
-was_later : {P : List Entry → Type 0} {a b c : Option Journal} (x : Path) → Left P a b → WasNamed x b c → WasNamed x a c
-was_later x not_told untold = untold
-was_later x (is_told {j = j} {k = k} {es = es} m h) (at_moment {k = l} {es = fs} {fs = gs} p made named rest) = at_moment p (made_on (past j) (past k) p es fs m made) named rest
-
 cause_later : {P : List Entry → Type 0} {o m : Option Journal} (n : Option Journal) (f : Fault) (a b c : Counts) → Left P o m → Onward a b → FaultCause f b c m n → FaultCause f a c o n
 cause_later n (fault.Call kind path) a b c before p h = omega (arith, p.0.0, h)
 cause_later n (fault.Script phase on end) a b c before p h = omega (arith, p.0.1, h)
-cause_later n (fault.Taken path) a b c before p h = was_later path before h
+cause_later n (fault.Taken path) a b c before p h = taken_later path before h
 cause_later n fault.Out a b c before p h = absurd h
 cause_later n _ a b c before p h = tt
 

@@ -17,6 +17,7 @@ use Rattle.lr_plan.specs.Outcomes.{Succeeds, Fails, marks_of}
 use Rattle.lr_host.proofs.Counts.{counted_free, free_none}
 use Rattle.lr_plan.proofs.Courses.{course_then}
 use Rattle.lr_acts.specs.Making.{FaultCause}
+use Rattle.lr_acts.proofs.Taking.{made_taken, failed_taken, same_taken, taken_of_more, taken_on}
 use Rattle.lr_writing.specs.Target.{Target}
 use Rattle.lr_writing.specs.Writes.{IsShort, Writes, ComesTo, AddsCourse, part_steps, name_steps}
 use Rattle.lr_writing.proofs.Buffers.{short_on}
@@ -41,14 +42,16 @@ comes_made x {n = n} unmarked l onward = record {
     p.1,
   ));
   caused = tt;
+  taken = made_taken x (left_as l (λ ts p. p.0));
   onward = onward;
   next = λ none rest can. can.1 n (left_as l (λ ts p. p.0));
 }
 
 pub comes_failed : (x : Step) (f : Fault) {o n : Option Journal} {a b : Counts} → Left (λ ts. Fails x f ts × Each IsShort ts) o n → FaultCause f a b o n → Onward a b → ComesTo (x ∷ []) (f ∷ []) o n a b
-comes_failed x f l cause onward = record {
+comes_failed x f {a = a} {b = b} l cause onward = record {
   entries = left_as l (λ ts p. (inl (record { fault = f; told = refl; none = refl; failed = p.0 }), p.1));
   caused = (cause, tt);
+  taken = failed_taken x f a b (left_as l (λ ts p. p.0)) cause;
   onward = onward;
   next = λ none rest can. absurd (cc);
 }
@@ -64,13 +67,14 @@ comes_not x f e g short l cause onward = comes_failed x f (left_as l (λ ts t. (
 -- ---- several
 
 pub comes_nothing : (o : Option Journal) (a : Counts) → ComesTo [] [] o o a a
-comes_nothing o a = record { entries = left_first (Writes [] []) o ((refl, refl, refl), tt); caused = tt; onward = onward_same a; next = λ none rest can. can }
+comes_nothing o a = record { entries = left_first (Writes [] []) o ((refl, refl, refl), tt); caused = tt; taken = same_taken [] o; onward = onward_same a; next = λ none rest can. can }
 
 -- the ones were made, and then the others
 pub comes_on : (xs ys : List Step) (fs : List Fault) {o m n : Option Journal} {a b c : Counts} → ComesTo xs [] o m a b → ComesTo ys fs m n b c → ComesTo (xs ++ ys) fs o n a c
 comes_on xs ys fs {o = o} {n = n} {a = a} {b = b} {c = c} p q = record {
   entries = left_then p.entries q.entries (λ ts us h k. (course_then xs ys [] [] [] fs ts us (refl, h.0) k.0, short_on ts us h.1 k.1));
   caused = caused_later n fs a b c p.entries p.onward q.caused;
+  taken = taken_on xs ys [] fs p.entries q.entries p.taken q.taken;
   onward = onward_on a b c p.onward q.onward;
   next = λ none rest can. q.next none rest (p.next refl (ys ++ rest) (subst (CanMake o) (append_assoc xs ys rest) can));
 }
@@ -91,6 +95,7 @@ pub comes_short : (xs ys : List Step) (f : Fault) {o n : Option Journal} {a b : 
 comes_short xs ys f p = record {
   entries = left_as p.entries (λ ts h. (course_short xs ys f [] ts h.0, h.1));
   caused = p.caused;
+  taken = taken_of_more xs ys (xs ++ ys) refl p.taken;
   onward = p.onward;
   next = λ none rest can. absurd (cc);
 }
@@ -108,8 +113,8 @@ adds_none steps before now {a = a} {b = b} same p = record {
   added = [];
   now_is = same ∙ sym (append-nil before);
   entries = p.entries;
-  caused = tt;
   are_counted = counted_free [] a b free_none p.onward.0;
+  taken = p.taken;
   onward = p.onward;
 }
 
@@ -118,8 +123,8 @@ adds_one steps f before now {o = o} {n = n} {a = a} {b = b} is p = record {
   added = f ∷ [];
   now_is = is;
   entries = p.entries;
-  caused = p.caused;
   are_counted = counted_one f a b o n p.caused.0 p.onward.0;
+  taken = p.taken;
   onward = p.onward;
 }
 

@@ -1,5 +1,5 @@
 -- Paths in order of bytes, each once.
-use Rattle.std.proofs.Common.{◌≡◌, ◌∙◌, ap, sym, subst, List, ℕ, Bor, Ordering, ◌↔◌, map}
+use Rattle.std.proofs.Common.{◌≡◌, ap, sym, subst, List, ℕ, Bor, Ordering, map}
 use Rattle.std.specs.Fn.{Called}
 use Rattle.std.specs.List.{dedup}
 use Rattle.std.specs.Str.{bytes_eq}

@@ -13,7 +13,8 @@ use Rattle.lr_plan.specs.Steps.{step_if}
 use Rattle.lr_host.specs.Counted.{AreCounted}
 use Rattle.lr_plan.specs.Course.{Course}
 use Rattle.lr_plan.specs.Internal.Asking.{CanMake}
-use Rattle.lr_acts.specs.Adding.{AreCaused}
+use Rattle.lr_acts.specs.Making.{FaultCause}
+use Rattle.lr_acts.specs.Taken.{TakenOnly}
 use Rattle.lr_writing.specs.declared.refused.Refused.{Refused}
 use Rattle.lr_writing.specs.declared.refused.Refused.TheVariants as refused
 
@@ -26,20 +27,26 @@ IsShort _ = Unit {0}
 abbrev pub Writes : List Step → List Fault → List Entry → Type 0
 Writes steps faults ts = Course steps [] faults ts × Each IsShort ts
 
+-- each of the faults has its cause
+abbrev pub AreCaused : List Fault → Counts → Counts → Option Journal → Option Journal → Type 0
+AreCaused [] before now told later = Unit {0}
+AreCaused (f ∷ fs) before now told later = FaultCause f before now told later × AreCaused fs before now told later
+
 -- The steps were made, up to one that failed; each fault has its cause, and where none failed what is to follow fits.
 pub record ComesTo (steps : List Step) (faults : List Fault) (told later : Option Journal) (counted counts : Counts) : Type 0 where
   pub entries : Left (Writes steps faults) told later
   pub caused : AreCaused faults counted counts told later
+  pub taken : TakenOnly steps faults told later
   pub onward : Onward counted counts
   pub next : faults ≡ [] → (rest : List Step) → CanMake told (steps ++ rest) → CanMake later rest
 
--- The steps were made, up to one that failed; its fault was added, with its cause, and the counts tell of it.
+-- The steps were made, up to one that failed; its fault was added, with its cause: the counts tell of a failed call, and a path that is told as taken was named.
 pub record AddsCourse (steps : List Step) (before now : List Fault) (told later : Option Journal) (counted counts : Counts) : Type 0 where
   pub added : List Fault
   pub now_is : now ≡ before ++ added
   pub entries : Left (Writes steps added) told later
-  pub caused : AreCaused added counted counts told later
   pub are_counted : AreCounted added counted counts
+  pub taken : TakenOnly steps added told later
   pub onward : Onward counted counts
 
 -- ---- faults by answers

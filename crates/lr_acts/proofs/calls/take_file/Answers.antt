@@ -1,6 +1,6 @@
 use Rattle.std.proofs.Common.{refl, inl, inr, rules}
 use Rattle.lr_host.proofs.Left.{left_as}
-use Rattle.lr_acts.proofs.Naming.{was_now}
+use Rattle.lr_acts.proofs.Taking.{taken_now}
 use Rattle.lr_acts.proofs.calls.take_file.Goals as goal
 
 pub returns-in-Ok-true-clause-told : goal.returns-in-Ok-true-clause-told
@@ -13,4 +13,4 @@ pub returns-in-Err-clause-told : goal.returns-in-Err-clause-told
 returns-in-Err-clause-told g c = left_as c.in-Err.ensures.told (λ ts t. inl (refl, t))
 
 pub returns-in-Ok-false-clause-cause : goal.returns-in-Ok-false-clause-cause
-returns-in-Ok-false-clause-cause g c = was_now c.args.path (rw c.in-Ok-false.field-0-test at c.in-Ok-false.ensures.told) (c.make_new.ensures.named (search rules))
+returns-in-Ok-false-clause-cause g c = taken_now c.args.path (rw c.in-Ok-false.field-0-test at c.in-Ok-false.ensures.told) (c.make_new.ensures.named (search rules))
