@@ -25,6 +25,7 @@ use Rattle.lr_host.proofs.Counts.{counted_on}
 use Rattle.lr_acts.specs.declared.progress.Progress.{Progress}
 use Rattle.lr_acts.specs.Adding.{Adds}
 use Rattle.lr_acts.specs.Making.{all_of_sets}
+use Rattle.lr_acts.proofs.Taking.{taken_on}
 use Rattle.lr_record.specs.After.{is_among, stamped}
 use Rattle.lr_writing.specs.Writes.{AddsCourse}
 use Rattle.lr_run.specs.declared.ready.Ready.{Ready}
@@ -81,6 +82,8 @@ acts_and_writes ready now x y z before o m n j k l is a s = record {
   entries = left_both a.entries (left_as s.entries (λ (ts : List Entry) w.
       subst (λ (ms : List Mark). Course (state_steps ready.writing.state ready.writing.stale ready.writing.dirs (text_of (map (stamped (rotated_logs ms) now) ready.table))) [] s.added ts) own w.0));
   are_counted = counted_on a.faults s.added j k l a.are_counted s.are_counted;
+  text = text_of (map (stamped (rotated_logs (drop before y.marks.items)) now) ready.table);
+  taken = taken_on (all_of_sets ready.steps) (state_steps ready.writing.state ready.writing.stale ready.writing.dirs (text_of (map (stamped (rotated_logs (drop before y.marks.items)) now) ready.table))) a.faults s.added a.entries s.entries a.taken s.taken;
 }
   where
     own : drop before y.marks.items ≡ a.marks

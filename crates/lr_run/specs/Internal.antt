@@ -1,5 +1,5 @@
 -- For proofs: the parts of a run, with what they add to the faults.
-use Rattle.std.specs.Prelude.{◌≡◌, ◌≤◌, ◌<◌, ◌+◌, Bool, true, false, List, [], ◌∷◌, ◌++◌, length, map, Option, Some, None, Ok, vec_len}
+use Rattle.std.specs.Prelude.{◌≡◌, ◌≤◌, ◌<◌, ◌+◌, ℕ, Bool, true, false, List, [], ◌∷◌, ◌++◌, length, map, Option, Some, None, Ok, vec_len}
 use Rattle.std.specs.Vec.{vec_capacity}
 use Rattle.lr_rules.specs.declared.path.Path.{Path}
 use Rattle.lr_rules.specs.declared.civil.Civil.{Civil}
@@ -33,6 +33,7 @@ use Rattle.lr_plan.specs.Steps.{steps_of_plan, state_steps}
 use Rattle.lr_acts.specs.declared.progress.Progress.{Progress}
 use Rattle.lr_acts.specs.Adding.{HasRoom}
 use Rattle.lr_acts.specs.Making.{all_of_sets}
+use Rattle.lr_acts.specs.Taken.{TakenOnly}
 use Rattle.lr_looks.specs.Found.{paths_of}
 use Rattle.lr_looks.specs.Shown.{ShowsLooks, LooksAtAll}
 use Rattle.lr_reading.specs.declared.remembered.Remembered.{Remembered}
@@ -96,6 +97,8 @@ pub record ActsAndWrites (ready : Ready) (now : Civil) (before later : Progress)
   pub faults_are : later.faults.items ≡ before.faults.items ++ (of_plan ++ of_state)
   pub entries : Left (Then (SetsDone ready.steps marks of_plan) (Course (state_steps ready.writing.state ready.writing.stale ready.writing.dirs (text_of (map (stamped (rotated_logs marks) now) ready.table))) [] of_state)) told then
   pub are_counted : AreCounted (of_plan ++ of_state) counted counts
+  pub text : List ℕ
+  pub taken : TakenOnly (all_of_sets ready.steps ++ state_steps ready.writing.state ready.writing.stale ready.writing.dirs text) (of_plan ++ of_state) told then
 
 -- ---- the parts of the work
 

@@ -6,4 +6,5 @@ pub mod Rotated
 pub mod Runs
 pub mod Scripts
 pub mod State
+pub mod Taken
 pub mod Turned

@@ -10,6 +10,7 @@ ghost use Rattle.lr_host.specs.Told.{Left, Then, Are, Can, NoneFell, Onward, Ros
 ghost use Rattle.lr_host.specs.World.{world};
 ghost use Rattle.lr_host.specs.Counted.{AddsFaults};
 ghost use Rattle.lr_fields.specs.Built.{AreBuiltRules};
+ghost use Rattle.lr_run.specs.Taken.{AddsTaken};
 ghost use Rattle.lr_run.specs.Internal.{WorksOn, Goes, SomeWork, Stopped};
 
 use crate::answer::RunStop;
@@ -40,6 +41,7 @@ fn work_to_end<H: Host>(
     ensures some { OnErr result (Left (Then (SomeWork settings.now.state rules.now.sets clock.entry.now.now settings.now.force) (Are (entry.Ends ∷ []))) (H.told host.old) (H.told host.new)) }
     ensures room { OnOk result (vec_len progress.new.faults + 1 ≤ vec_capacity progress.new.faults) }
     ensures counted { OnOk result (AddsFaults progress.old.faults.items progress.new.faults.items (H.counts host.old) (H.counts host.new)) }
+    ensures taken { OnOk result (AddsTaken settings.now.state reached.new progress.old.faults.items progress.new.faults.items (H.told host.old) (H.told host.new)) }
     ensures lock { (H.counts host.new).locked ≡ false }
     ensures counts { NoneFell (H.counts host.old) (H.counts host.new) }
 {
@@ -79,6 +81,7 @@ pub fn begin_to_end<H: Host>(
     ensures held { result ≡ Err RunStop.Held → Rose (H.counts host.old).held (H.counts host.new).held }
     ensures room { OnOk result (vec_len progress.new.faults + 1 ≤ vec_capacity progress.new.faults) }
     ensures counted { OnOk result (AddsFaults progress.old.faults.items progress.new.faults.items (H.counts host.old) (H.counts host.new)) }
+    ensures taken { OnOk result (AddsTaken settings.now.state reached.new progress.old.faults.items progress.new.faults.items (H.told host.old) (H.told host.new)) }
     ensures counts { Onward (H.counts host.old) (H.counts host.new) }
 {
     match host.begin(&settings.state, &clock.now, rules) {

@@ -10,6 +10,7 @@ ghost use Rattle.lr_host.specs.Counted.{AddsFaults};
 ghost use Rattle.lr_emptied.specs.Emptied.{EmptiesWhole};
 ghost use Rattle.lr_rotations.specs.AllTurns.{IsWholeRun};
 ghost use Rattle.lr_fields.specs.Built.{AreBuiltRules};
+ghost use Rattle.lr_run.specs.Taken.{AddsTaken};
 ghost use Rattle.lr_run.specs.Internal.{RunsOn, StopsSo, dir_fault_of};
 ghost use Rattle.lr_run.specs.Answers.{Answers};
 ghost use Rattle.lr_run.specs.Copied.{IsCopyBy};
@@ -72,6 +73,7 @@ fn make_run<H: Host>(
     ensures held { result ≡ Err RunStop.Held → Rose (H.counts host.old).held (H.counts host.new).held }
     ensures room { OnOk result (vec_len progress.new.faults + 1 ≤ vec_capacity progress.new.faults) }
     ensures counted { OnOk result (AddsFaults progress.old.faults.items progress.new.faults.items (H.counts host.old) (H.counts host.new)) }
+    ensures taken { OnOk result (AddsTaken settings.now.state reached.new progress.old.faults.items progress.new.faults.items (H.told host.old) (H.told host.new)) }
     ensures counts { Onward (H.counts host.old) (H.counts host.new) }
 {
     match look_for_dir(host, &names.dir) {
@@ -131,6 +133,7 @@ pub fn real_run<H: Host>(
     ensures told { Left (Answers settings.now.state false settings.now.force clock.entry.now.now rules.now earlier.items result) (H.told host.old) (H.told host.new) }
     ensures shape { Left IsWholeRun (H.told host.old) (H.told host.new) }
     ensures counted { IfOk result (λ ran. AddsFaults earlier.items ran.faults.items (H.counts host.old) (H.counts host.new)) }
+    ensures taken { IfOk result (λ ran. AddsTaken settings.now.state ran.plan earlier.items ran.faults.items (H.told host.old) (H.told host.new)) }
     ensures held { result ≡ Err RunStop.Held → Rose (H.counts host.old).held (H.counts host.new).held }
     ensures room { IfOk result (λ ran. vec_len ran.faults + 1 ≤ vec_capacity ran.faults) }
     ensures counts { Onward (H.counts host.old) (H.counts host.new) }

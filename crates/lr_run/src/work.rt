@@ -11,6 +11,7 @@ ghost use Rattle.lr_host.specs.Counted.{AddsFaults};
 ghost use Rattle.lr_plan.specs.Planned.{CanPlanAll, plan_of};
 ghost use Rattle.lr_reading.specs.Sights.{state_part};
 ghost use Rattle.lr_fields.specs.Built.{AreBuiltRules};
+ghost use Rattle.lr_run.specs.Taken.{AddsTaken};
 ghost use Rattle.lr_run.specs.Internal.{WorkDone, LookedDone, KnownBefore, SeenBefore, Carries, SomeWork, EndsBehindLooks, EndsBehindState};
 
 use crate::acting::carry_out;
@@ -69,6 +70,7 @@ fn act_by<H: Host>(
     ensures some { OnErr result (Left (EndsBehindLooks rules.now looks.now settings.now.state remembered clock.entry.now.now settings.now.force) (H.told host.old) (H.told host.new)) }
     ensures room { OnOk result (vec_len progress.new.faults + 1 ≤ vec_capacity progress.new.faults) }
     ensures counted { OnOk result (AddsFaults progress.old.faults.items progress.new.faults.items (H.counts host.old) (H.counts host.new)) }
+    ensures taken { OnOk result (AddsTaken settings.now.state reached.new progress.old.faults.items progress.new.faults.items (H.told host.old) (H.told host.new)) }
     ensures counts { Onward (H.counts host.old) (H.counts host.new) }
 {
     let plan = plan(alloc, rules, looks, &remembered.table, clock, settings)?;
@@ -113,6 +115,7 @@ fn plan_and_act<H: Host>(
     ensures some { OnErr result (Left (EndsBehindLooks rules.now looks.now settings.now.state remembered clock.entry.now.now settings.now.force) (H.told host.old) (H.told host.new)) }
     ensures room { OnOk result (vec_len progress.new.faults + 1 ≤ vec_capacity progress.new.faults) }
     ensures counted { OnOk result (AddsFaults progress.old.faults.items progress.new.faults.items (H.counts host.old) (H.counts host.new)) }
+    ensures taken { OnOk result (AddsTaken settings.now.state reached.new progress.old.faults.items progress.new.faults.items (H.told host.old) (H.told host.new)) }
     ensures counts { Onward (H.counts host.old) (H.counts host.new) }
 {
     let told = plan(alloc, rules, looks, &remembered.table, clock, settings)?;
@@ -141,6 +144,7 @@ fn look_and_act<H: Host>(
     ensures some { OnErr result (Left (EndsBehindState settings.now.state rules.now.sets clock.entry.now.now settings.now.force remembered) (H.told host.old) (H.told host.new)) }
     ensures room { OnOk result (vec_len progress.new.faults + 1 ≤ vec_capacity progress.new.faults) }
     ensures counted { OnOk result (AddsFaults progress.old.faults.items progress.new.faults.items (H.counts host.old) (H.counts host.new)) }
+    ensures taken { OnOk result (AddsTaken settings.now.state reached.new progress.old.faults.items progress.new.faults.items (H.told host.old) (H.told host.new)) }
     ensures counts { Onward (H.counts host.old) (H.counts host.new) }
 {
     let looks = look_at_logs(alloc, host, rules, &settings.state, &mut progress.faults)?;
@@ -178,6 +182,7 @@ pub fn work<H: Host>(
     ensures some { OnErr result (Left (SomeWork settings.now.state rules.now.sets clock.entry.now.now settings.now.force) (H.told host.old) (H.told host.new)) }
     ensures room { OnOk result (vec_len progress.new.faults + 1 ≤ vec_capacity progress.new.faults) }
     ensures counted { OnOk result (AddsFaults progress.old.faults.items progress.new.faults.items (H.counts host.old) (H.counts host.new)) }
+    ensures taken { OnOk result (AddsTaken settings.now.state reached.new progress.old.faults.items progress.new.faults.items (H.told host.old) (H.told host.new)) }
     ensures counts { Onward (H.counts host.old) (H.counts host.new) }
 {
     let part = part_path(alloc, &settings.state)?;

@@ -24,3 +24,9 @@ returns-else-settings-clause-told g c = asked_so c.args.settings.now.state c.arg
 
 pub returns-then-settings-clause-copied : goal.returns-then-settings-clause-copied
 returns-then-settings-clause-copied g c = dry_copied c.args.settings.now.state c.args.settings.now.force c.args.clock.now.now c.args.rules.now c.args.earlier.items c.dry_run.result c.dry_run.ensures.told
+
+pub returns-then-settings-clause-taken : goal.returns-then-settings-clause-taken
+returns-then-settings-clause-taken g c = λ e. absurd (let yes = c.if-settings.true in cc)
+
+pub returns-else-settings-clause-taken : goal.returns-else-settings-clause-taken
+returns-else-settings-clause-taken g c = λ e. c.real_run.ensures.taken

@@ -5,6 +5,7 @@ use Rattle.std.proofs.Common.{ap}
 use Rattle.std.specs.Prelude.{filter}
 use Rattle.lr_host.specs.Steps.{is_naming}
 use Rattle.lr_host.proofs.Left.{can_as, can_stay}
+use Rattle.lr_run.proofs.Taken.{adds_behind, none_adds}
 use Rattle.lr_run.proofs.locked.begin_to_end.Goals as goal
 
 pub work_to_end-requires-clause-disk : goal.work_to_end-requires-clause-disk
@@ -29,3 +30,9 @@ returns-in-Ok-false-clause-stopped g c = locked c.args.settings.now.state c.args
 
 pub returns-clause-told : goal.returns-clause-told
 returns-clause-told g c = goes_not c.args.settings.now.state c.args.settings.now.force c.args.clock.now.now c.args.rules.now c.args.reached.now c.args.name c.args.progress.now.faults.items c.add_not_begun.new.faults.items c.requires.none c.requires.name c.add_not_begun.ensures.faults c.in-Err.ensures.told
+
+pub returns-in-Ok-clause-taken : goal.returns-in-Ok-clause-taken
+returns-in-Ok-clause-taken g c = adds_behind c.args.settings.now.state c.work_to_end.new.reached c.args.progress.now.faults.items c.work_to_end.new.progress.faults.items c.in-Ok-true.ensures.told c.in-Ok.ensures.taken
+
+pub returns-clause-taken : goal.returns-clause-taken
+returns-clause-taken g c = none_adds c.args.settings.now.state c.args.reached.now c.args.progress.now.faults.items c.add_not_begun.new.faults.items _ _ _ c.requires.none c.add_not_begun.ensures.faults

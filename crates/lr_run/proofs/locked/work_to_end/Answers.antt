@@ -1,4 +1,5 @@
 use Rattle.lr_run.proofs.Ending.{end_there, work_ended, work_lacked, adds_wider}
+use Rattle.lr_run.proofs.Taken.{taken_to_end}
 use Rattle.lr_run.proofs.locked.work_to_end.Goals as goal
 
 pub end-requires : goal.end-requires
@@ -12,3 +13,6 @@ returns-clause-some g c = work_lacked c.work-done.result _ _ _ _ _ c.work-done.e
 
 pub returns-clause-counted : goal.returns-clause-counted
 returns-clause-counted g c = adds_wider c.work-done.result c.args.progress.now.faults.items c.work-done.new.progress.faults.items _ _ _ c.end.ensures.counts c.work-done.ensures.counted
+
+pub returns-clause-taken : goal.returns-clause-taken
+returns-clause-taken g c = taken_to_end c.work-done.result c.args.settings.now.state c.work-done.new.reached c.args.progress.now.faults.items c.work-done.new.progress.faults.items _ c.end.ensures.told c.work-done.ensures.taken

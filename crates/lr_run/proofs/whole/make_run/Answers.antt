@@ -4,6 +4,7 @@ use Rattle.lr_host.proofs.Left.{can_as}
 use Rattle.lr_placed.proofs.Lasting.{disk_on}
 use Rattle.lr_run.proofs.Ending.{adds_later, dir_counted}
 use Rattle.lr_run.proofs.Parts.{behind_dir, stopped_behind, no_dir}
+use Rattle.lr_run.proofs.Taken.{taken_behind, none_adds}
 use Rattle.lr_run.proofs.whole.make_run.Goals as goal
 
 pub begin_to_end-requires-clause-disk : goal.begin_to_end-requires-clause-disk
@@ -26,3 +27,9 @@ returns-in-Ok-clause-counted g c = adds_later c.begin_to_end.result c.args.progr
 
 pub returns-in-Err-clause-counted : goal.returns-in-Err-clause-counted
 returns-in-Err-clause-counted g c = dir_counted c.in-Err.why c.args.names.dir c.args.progress.now.faults.items c.add_dir_fault.new.faults.items _ _ c.add_dir_fault.ensures.faults (λ e. c.look_for_dir.ensures.cause (c.in-Err.is ∙ ap Err e)) c.in-Err.ensures.counts.0
+
+pub returns-in-Ok-clause-taken : goal.returns-in-Ok-clause-taken
+returns-in-Ok-clause-taken g c = taken_behind c.begin_to_end.result c.args.settings.now.state c.begin_to_end.new.reached c.args.progress.now.faults.items c.begin_to_end.new.progress.faults.items _ c.in-Ok.ensures.told c.begin_to_end.ensures.taken
+
+pub returns-in-Err-clause-taken : goal.returns-in-Err-clause-taken
+returns-in-Err-clause-taken g c = none_adds c.args.settings.now.state c.args.reached.now c.args.progress.now.faults.items c.add_dir_fault.new.faults.items _ _ _ c.requires.none c.add_dir_fault.ensures.faults

@@ -1,4 +1,5 @@
-use Rattle.std.proofs.Common.{[], false, Ok, Err, refl, sym, subst}
+use Rattle.std.proofs.Common.{List, [], false, Ok, Err, refl, sym, subst}
+use Rattle.lr_rules.specs.declared.fault.Fault.{Fault}
 use Rattle.lr_host.specs.Told.{Left}
 use Rattle.lr_host.proofs.Left.{left_as, left_first}
 use Rattle.lr_rotations.specs.AllTurns.{IsWholeRun}
@@ -11,6 +12,7 @@ use Rattle.lr_run.proofs.Emptying.{run_copied}
 use Rattle.lr_run.proofs.Parts.{ran_so, stopped_so}
 use Rattle.lr_run.proofs.Shape.{none_run, whole_run}
 use Rattle.lr_run.proofs.Renewing.{run_whole}
+use Rattle.lr_run.specs.Taken.{AddsTaken}
 use Rattle.lr_run.proofs.whole.real_run.Goals as goal
 
 pub returns-in_default-clause-told : goal.returns-in_default-clause-told
@@ -73,3 +75,7 @@ returns-in-Ok-make_run-clause-copied g c = run_copied c.args.settings.now.state 
 
 pub returns-in-Err-clause-copied : goal.returns-in-Err-clause-copied
 returns-in-Err-clause-copied g c = run_copied c.args.settings.now.state c.args.settings.now.force c.args.clock.now.now c.args.rules.now c.args.earlier.items (Err c.in-Err.why) c.requires.built (returns-in-Err-clause-told g c)
+
+pub returns-in-Ok-make_run-clause-taken : goal.returns-in-Ok-make_run-clause-taken
+returns-in-Ok-make_run-clause-taken g c = subst (λ (ran : Ran). AddsTaken c.args.settings.now.state ran.plan c.args.earlier.items ran.faults.items (g.H.Host.told c.args.host.now) (g.H.Host.told c.make_run.new.host)) (sym c.ran_of.ensures)
+    (subst (λ (fs : List Fault). AddsTaken c.args.settings.now.state c.make_run.new.reached fs c.make_run.new.progress.faults.items (g.H.Host.told c.args.host.now) (g.H.Host.told c.make_run.new.host)) c.in-Ok-progress_from.ensures.faults c.in-Ok-make_run.ensures.taken)
