@@ -14,6 +14,7 @@ ghost use Rattle.lr_state.specs.Table.{Entry as Row};
 ghost use Rattle.lr_copy.specs.declared.job.Job.{Job};
 ghost use Rattle.lr_copy.specs.Fits.{ArePaths};
 ghost use Rattle.lr_copy.specs.Stops.{EmptiesNone};
+ghost use Rattle.lr_plan.specs.Asked.{Asked};
 ghost use Rattle.lr_plan.specs.declared.looks.LogLook.{LogLook};
 ghost use Rattle.lr_plan.specs.declared.looks.SetLooks.{SetLooks};
 ghost use Rattle.lr_plan.specs.declared.mark.Mark.{Mark};
@@ -37,8 +38,8 @@ pub fn plan_steps_are_copies()
 /// The copies of a plan are those that its rules ask for, of logs that were seen; and a copy asks that its log is emptied
 /// only where the rule says `copytruncate`.
 pub fn plan_copies_by_rules()
-    ensures asked { (rules : List Rule) (sets : List SetLooks) (table : List Row) (now : Moment) (force : Bool) (job : Job)
-        → IsIn job (jobs_of (plan_of rules sets table now force).sets) → IsAskedFor rules sets job }
+    ensures asked { (rules : List Rule) (sets : List SetLooks) (table : List Row) (now : Moment) (asked : Asked) (job : Job)
+        → IsIn job (jobs_of (plan_of rules sets table now asked).sets) → IsAskedFor rules sets job }
     ensures way { (rule : Rule) (look : LogLook) (job : Job) → job_of rule look ≡ Some job → job.cut ≡ true → rule.way ≡ way.CopyTruncate }
 {}
 

@@ -113,11 +113,11 @@ height_hinders rule look path named h =
     let k = highest_has rule look path named h in
     high_by look.stand.there (is_too_high rule look) look.family.naming h.0 k.0 ∙ ap (λ (x : Path). fault.TooHigh x ∷ []) k.1
 
-pub plans_there : (rule : Rule) (look : LogLook) → hindrances rule look ≡ [] → log_plan rule look ∷ [] ≡ plans_of rule look
-plans_there rule look h = ap (λ (fs : List Fault). none_hinders fs (log_plan rule look ∷ [])) (sym h)
+pub plans_there : (mailer : Path) (rule : Rule) (look : LogLook) → hindrances rule look ≡ [] → log_plan mailer rule look ∷ [] ≡ plans_of mailer rule look
+plans_there mailer rule look h = ap (λ (fs : List Fault). none_hinders fs (log_plan mailer rule look ∷ [])) (sym h)
 
-pub plans_none : (rule : Rule) (look : LogLook) (f : Fault) → hindrances rule look ≡ f ∷ [] → plans_of rule look ≡ []
-plans_none rule look f h = ap (λ (fs : List Fault). none_hinders fs (log_plan rule look ∷ [])) h
+pub plans_none : (mailer : Path) (rule : Rule) (look : LogLook) (f : Fault) → hindrances rule look ≡ f ∷ [] → plans_of mailer rule look ≡ []
+plans_none mailer rule look f h = ap (λ (fs : List Fault). none_hinders fs (log_plan mailer rule look ∷ [])) h
 
 -- what keeps a rotation from being prepared is what hinders it
 pub stop_hinders : (rule : Rule) (look : LogLook) (r : Result Ready PrepareStop) (stop : PrepareStop) (f : Fault) → AreNamed look.family.naming look.stand.members → r ≡ Err stop → Ok f ≡ fault_of stop
@@ -158,14 +158,14 @@ decisions_step decide (r ∷ rules) (s ∷ sets) (suc at) rule set lt same e f =
     ap (λ xs. decisions_of (decide r) s.logs ++ xs) (decisions_step decide rules sets at rule set (omega arith) (omega (arith, same)) e f)
     ∙ sym (append_assoc (decisions_of (decide r) s.logs) (all_decisions decide (take at rules) (take at sets)) (decisions_of (decide rule) set.logs))
 
-plans_step : (decide : Rule → LogLook → Due) (rules : List Rule) (sets : List SetLooks) (at : ℕ) (rule : Rule) (set : SetLooks) → at < length rules → length sets ≡ length rules → rule ≡ get_or rules at rule → set ≡ get_or sets at set
-    → all_plans decide (take (suc at) rules) (take (suc at) sets) ≡ all_plans decide (take at rules) (take at sets) ++ set_plan rule (log_plans rule (decide rule) set.logs) ∷ []
-plans_step decide [] sets at rule set lt same e f = absurd (omega arith)
-plans_step decide (r ∷ rules) [] at rule set lt same e f = absurd (omega (arith, same))
-plans_step decide (r ∷ rules) (s ∷ sets) zero rule set lt same e f =
-    ap (λ (q : Rule). set_plan q (log_plans q (decide q) s.logs) ∷ []) (sym e) ∙ ap (λ (x : SetLooks). set_plan rule (log_plans rule (decide rule) x.logs) ∷ []) (sym f)
-plans_step decide (r ∷ rules) (s ∷ sets) (suc at) rule set lt same e f =
-    ap (λ xs. set_plan r (log_plans r (decide r) s.logs) ∷ xs) (plans_step decide rules sets at rule set (omega arith) (omega (arith, same)) e f)
+plans_step : (mailer : Path) (decide : Rule → LogLook → Due) (rules : List Rule) (sets : List SetLooks) (at : ℕ) (rule : Rule) (set : SetLooks) → at < length rules → length sets ≡ length rules → rule ≡ get_or rules at rule → set ≡ get_or sets at set
+    → all_plans mailer decide (take (suc at) rules) (take (suc at) sets) ≡ all_plans mailer decide (take at rules) (take at sets) ++ set_plan rule (log_plans mailer rule (decide rule) set.logs) ∷ []
+plans_step mailer decide [] sets at rule set lt same e f = absurd (omega arith)
+plans_step mailer decide (r ∷ rules) [] at rule set lt same e f = absurd (omega (arith, same))
+plans_step mailer decide (r ∷ rules) (s ∷ sets) zero rule set lt same e f =
+    ap (λ (q : Rule). set_plan q (log_plans mailer q (decide q) s.logs) ∷ []) (sym e) ∙ ap (λ (x : SetLooks). set_plan rule (log_plans mailer rule (decide rule) x.logs) ∷ []) (sym f)
+plans_step mailer decide (r ∷ rules) (s ∷ sets) (suc at) rule set lt same e f =
+    ap (λ xs. set_plan r (log_plans mailer r (decide r) s.logs) ∷ xs) (plans_step mailer decide rules sets at rule set (omega arith) (omega (arith, same)) e f)
 
 faults_step : (decide : Rule → LogLook → Due) (rules : List Rule) (sets : List SetLooks) (at : ℕ) (rule : Rule) (set : SetLooks) → at < length rules → length sets ≡ length rules → rule ≡ get_or rules at rule → set ≡ get_or sets at set
     → all_faults decide (take (suc at) rules) (take (suc at) sets) ≡ all_faults decide (take at rules) (take at sets) ++ log_faults rule (decide rule) set.logs
@@ -185,10 +185,10 @@ pub decisions_more : (decide : Rule → LogLook → Due) (rules : List Rule) (se
 decisions_more decide rules sets at rule set lt same e f =
     subst (λ k. all_decisions decide (take k rules) (take k sets) ≡ all_decisions decide (take at rules) (take at sets) ++ decisions_of (decide rule) set.logs) (next_is at) (decisions_step decide rules sets at rule set lt same e f)
 
-pub plans_more : (decide : Rule → LogLook → Due) (rules : List Rule) (sets : List SetLooks) (at : ℕ) (rule : Rule) (set : SetLooks) → at < length rules → length sets ≡ length rules → rule ≡ get_or rules at rule → set ≡ get_or sets at set
-    → all_plans decide (take (at + 1) rules) (take (at + 1) sets) ≡ all_plans decide (take at rules) (take at sets) ++ set_plan rule (log_plans rule (decide rule) set.logs) ∷ []
-plans_more decide rules sets at rule set lt same e f =
-    subst (λ k. all_plans decide (take k rules) (take k sets) ≡ all_plans decide (take at rules) (take at sets) ++ set_plan rule (log_plans rule (decide rule) set.logs) ∷ []) (next_is at) (plans_step decide rules sets at rule set lt same e f)
+pub plans_more : (mailer : Path) (decide : Rule → LogLook → Due) (rules : List Rule) (sets : List SetLooks) (at : ℕ) (rule : Rule) (set : SetLooks) → at < length rules → length sets ≡ length rules → rule ≡ get_or rules at rule → set ≡ get_or sets at set
+    → all_plans mailer decide (take (at + 1) rules) (take (at + 1) sets) ≡ all_plans mailer decide (take at rules) (take at sets) ++ set_plan rule (log_plans mailer rule (decide rule) set.logs) ∷ []
+plans_more mailer decide rules sets at rule set lt same e f =
+    subst (λ k. all_plans mailer decide (take k rules) (take k sets) ≡ all_plans mailer decide (take at rules) (take at sets) ++ set_plan rule (log_plans mailer rule (decide rule) set.logs) ∷ []) (next_is at) (plans_step mailer decide rules sets at rule set lt same e f)
 
 pub faults_more : (decide : Rule → LogLook → Due) (rules : List Rule) (sets : List SetLooks) (at : ℕ) (rule : Rule) (set : SetLooks) → at < length rules → length sets ≡ length rules → rule ≡ get_or rules at rule → set ≡ get_or sets at set
     → all_faults decide (take (at + 1) rules) (take (at + 1) sets) ≡ all_faults decide (take at rules) (take at sets) ++ log_faults rule (decide rule) set.logs

@@ -1,4 +1,5 @@
 pub mod Appending
+pub mod Asked
 pub mod Course
 pub mod Done
 pub mod Internal

@@ -1,5 +1,5 @@
--- The plan that the rules, what was seen of their logs, the table of the state, the moment of the run and `--force` make
--- together.
+-- The plan that the rules, what was seen of their logs, the table of the state, the moment of the run, `--force` and the
+-- program that mails files make together.
 use Rattle.std.specs.Prelude.{◌≡◌, ◌≤◌, ◌&&◌, Bool, true, false, not, List, [], ◌∷◌, ◌++◌, map, All, Option, Some, None, if◌then◌else◌}
 use Rattle.std.specs.List.{flat_map, list_any}
 use Rattle.std.specs.Str.{bytes_eq}
@@ -12,10 +12,10 @@ use Rattle.lr_rules.specs.declared.rule.Count.TheVariants as count
 use Rattle.lr_rules.specs.declared.rule.Make.{Make}
 use Rattle.lr_rules.specs.declared.rule.Make.TheVariants as make
 use Rattle.lr_rules.specs.declared.rule.Rule.{Rule}
-use Rattle.lr_rules.specs.declared.rule.Scripts.{Scripts}
 use Rattle.lr_rules.specs.declared.rule.Way.{Way}
 use Rattle.lr_rules.specs.declared.rule.Way.TheVariants as way
 use Rattle.lr_host.specs.declared.thing.Seen.{Seen}
+use Rattle.lr_scripts.specs.declared.removal.Removal.{Removal}
 use Rattle.lr_due.specs.declared.answer.Due.{Due}
 use Rattle.lr_due.specs.declared.answer.Due.TheVariants as due
 use Rattle.lr_due.specs.Due.{due_of}
@@ -23,11 +23,12 @@ use Rattle.lr_state.specs.Table.{Entry, moment_of}
 use Rattle.lr_family.specs.Parts.{part_of}
 use Rattle.lr_family.specs.Places.{AreNamed}
 use Rattle.lr_family.specs.Spots.{path_at}
-use Rattle.lr_commands.specs.Commands.{spaced, script, where_so}
+use Rattle.lr_commands.specs.Commands.{spaced, script, where_so, with_programs}
 use Rattle.lr_chain.specs.declared.ready.Ready.{Ready}
 use Rattle.lr_chain.specs.Ready.{IsCount, at_rest, with_members, is_highest, highest_path}
 use Rattle.lr_chain.specs.Rotation.{places_of}
 use Rattle.lr_copy.specs.declared.job.Job.{Job}
+use Rattle.lr_plan.specs.Asked.{Asked}
 use Rattle.lr_plan.specs.declared.looks.LogLook.{LogLook}
 use Rattle.lr_plan.specs.declared.looks.SetLooks.{SetLooks}
 use Rattle.lr_plan.specs.declared.planned.LogPlan.{LogPlan}
@@ -60,9 +61,17 @@ make_of make.No seen = make.No
 make_of (make.Yes None) seen = make.Yes seen.mode
 make_of (make.Yes (Some mode)) seen = make.Yes (Some mode)
 
--- its rotation, with all its paths
+-- its rotation, with all its paths, and each removal without the programs before it
 abbrev pub ready_for : Rule → LogLook → Ready
 ready_for rule look = with_members look.family.naming rule.count (places_of look.stand.members) (at_rest look.path look.family.naming (make_of rule.create look.seen))
+
+-- the rotation with these removals, the first ones and those at the end
+abbrev pub with_removals : List Removal → List Removal → Ready → Ready
+with_removals leftovers retire ready = record { leftovers = leftovers; dir = ready.dir; moves = ready.moves; log = ready.log; target = ready.target; make = ready.make; retire = retire }
+
+-- the rotation with the programs of its definition before each removal
+abbrev pub dressed : Rule → Path → Ready → Ready
+dressed rule mailer ready = with_removals (map (with_programs rule mailer ready.log) ready.leftovers) (map (with_programs rule mailer ready.log) ready.retire) ready
 
 -- the part file is among these
 abbrev pub has_part : List Path → Path → Bool
@@ -91,12 +100,12 @@ abbrev pub job_of : Rule → LogLook → Option Job
 job_of rule look = job_by rule.way look
 
 -- what is done with it: its own scripts where the definition doesn't share them, and the rotation, by rename or by copy
-abbrev pub log_plan : Rule → LogLook → LogPlan
-log_plan rule look = record {
+abbrev pub log_plan : Path → Rule → LogLook → LogPlan
+log_plan mailer rule look = record {
   pre = where_so (not rule.shared) (script rule.scripts.pre (look.path ∷ []));
   post = where_so (not rule.shared) (script rule.scripts.post (look.path ∷ path_at look.family.naming 0 ∷ []));
   first_mail = None;
-  ready = ready_for rule look;
+  ready = dressed rule mailer (ready_for rule look);
   job = job_of rule look;
 }
 
@@ -105,8 +114,8 @@ none_hinders [] plans = plans
 none_hinders (f ∷ fs) plans = []
 
 -- of a log that is due: its plan, or what hinders it
-abbrev pub plans_of : Rule → LogLook → List LogPlan
-plans_of rule look = none_hinders (hindrances rule look) (log_plan rule look ∷ [])
+abbrev pub plans_of : Path → Rule → LogLook → List LogPlan
+plans_of mailer rule look = none_hinders (hindrances rule look) (log_plan mailer rule look ∷ [])
 
 abbrev pub where_due : {A : Type 0} → Due → List A → List A
 where_due (due.Yes why) xs = xs
@@ -117,8 +126,8 @@ where_due (due.No why) xs = []
 abbrev pub decisions_of : (LogLook → Due) → List LogLook → List (Path × Due)
 decisions_of decide looks = map (λ look. (look.path, decide look)) looks
 
-abbrev pub log_plans : Rule → (LogLook → Due) → List LogLook → List LogPlan
-log_plans rule decide looks = flat_map (λ look. where_due (decide look) (plans_of rule look)) looks
+abbrev pub log_plans : Path → Rule → (LogLook → Due) → List LogLook → List LogPlan
+log_plans mailer rule decide looks = flat_map (λ look. where_due (decide look) (plans_of mailer rule look)) looks
 
 abbrev pub log_faults : Rule → (LogLook → Due) → List LogLook → List Fault
 log_faults rule decide looks = flat_map (λ look. where_due (decide look) (hindrances rule look)) looks
@@ -140,31 +149,32 @@ abbrev pub all_decisions : (Rule → LogLook → Due) → List Rule → List Set
 all_decisions decide (rule ∷ rules) (set ∷ sets) = decisions_of (decide rule) set.logs ++ all_decisions decide rules sets
 all_decisions decide _ _ = []
 
-abbrev pub all_plans : (Rule → LogLook → Due) → List Rule → List SetLooks → List SetPlan
-all_plans decide (rule ∷ rules) (set ∷ sets) = set_plan rule (log_plans rule (decide rule) set.logs) ∷ all_plans decide rules sets
-all_plans decide _ _ = []
+abbrev pub all_plans : Path → (Rule → LogLook → Due) → List Rule → List SetLooks → List SetPlan
+all_plans mailer decide (rule ∷ rules) (set ∷ sets) = set_plan rule (log_plans mailer rule (decide rule) set.logs) ∷ all_plans mailer decide rules sets
+all_plans mailer decide _ _ = []
 
 abbrev pub all_faults : (Rule → LogLook → Due) → List Rule → List SetLooks → List Fault
 all_faults decide (rule ∷ rules) (set ∷ sets) = log_faults rule (decide rule) set.logs ++ all_faults decide rules sets
 all_faults decide _ _ = []
 
 -- The plan: each log that was looked at whole, and whether it is due; what is done with those that are; what hinders some.
-abbrev pub plan_of : List Rule → List SetLooks → List Entry → Moment → Bool → Plan
-plan_of rules sets table now force = record {
-  decisions = all_decisions (decision table now force) rules sets;
-  sets = all_plans (decision table now force) rules sets;
-  faults = all_faults (decision table now force) rules sets;
+abbrev pub plan_of : List Rule → List SetLooks → List Entry → Moment → Asked → Plan
+plan_of rules sets table now asked = record {
+  decisions = all_decisions (decision table now asked.force) rules sets;
+  sets = all_plans asked.mailer (decision table now asked.force) rules sets;
+  faults = all_faults (decision table now asked.force) rules sets;
 }
 
 -- ---- what is asked of rules and looks
 
--- a rule runs no script
-pub record HasNoScripts (s : Scripts) : Type 0 where
-  pub first : s.first ≡ None
-  pub pre : s.pre ≡ None
-  pub post : s.post ≡ None
-  pub last : s.last ≡ None
-  pub preremove : s.preremove ≡ None
+-- a rule runs no program: it has no script, and mails nothing
+pub record RunsNothing (rule : Rule) : Type 0 where
+  pub first : rule.scripts.first ≡ None
+  pub pre : rule.scripts.pre ≡ None
+  pub post : rule.scripts.post ≡ None
+  pub last : rule.scripts.last ≡ None
+  pub preremove : rule.scripts.preremove ≡ None
+  pub mail : rule.mail ≡ None
 
 -- So far: the log of the look goes to numbered members, each of which has the path of its place.
 pub record CanPlan (rule : Rule) (look : LogLook) : Type 0 where
@@ -173,10 +183,9 @@ pub record CanPlan (rule : Rule) (look : LogLook) : Type 0 where
   pub start : look.family.naming.start ≤ 999999
   pub named : AreNamed look.family.naming look.stand.members
 
--- So far: a rule without a preremove and mail, and its looks.
+-- the count is one that a rule can have, and each of its looks can be planned for
 pub record CanPlanSet (rule : Rule) (looks : List LogLook) : Type 0 where
   pub count : IsCount rule.count
-  pub no_preremove : rule.scripts.preremove ≡ None
   pub each : All (CanPlan rule) looks
 
 -- So far: the same of all rules, of which each has its looks.

@@ -2,8 +2,9 @@
 ghost use Rattle.std.specs.Prelude.{◌≡◌, ◌≤◌, ◌++◌, ◌∷◌, [], OnOk, IfOk};
 ghost use Rattle.lr_rules.specs.declared.rule.Rule.{Rule};
 ghost use Rattle.lr_plan.specs.declared.looks.LogLook.{LogLook};
+ghost use Rattle.lr_plan.specs.Asked.{asking};
 ghost use Rattle.lr_plan.specs.Internal.Hindered.{fault_of};
-ghost use Rattle.lr_plan.specs.Planned.{decision, decisions_of, hindrances, plans_of, log_plans, log_faults, set_plan, where_due, all_decisions, all_plans, all_faults, plan_of, make_of, ready_for, job_of, log_plan, CanPlan, CanPlanSet, CanPlanAll};
+ghost use Rattle.lr_plan.specs.Planned.{decision, decisions_of, hindrances, plans_of, log_plans, log_faults, set_plan, where_due, all_decisions, all_plans, all_faults, plan_of, make_of, ready_for, dressed, job_of, log_plan, CanPlan, CanPlanSet, CanPlanAll};
 ghost use Rattle.lr_chain.specs.Ready.{IsCount};
 ghost use Rattle.lr_commands.specs.Commands.{spaced};
 
@@ -13,7 +14,7 @@ use crate::looks::{LogLook, Looks, SetLooks};
 use crate::planned::{LogPlan, Plan, SetPlan};
 use crate::settings::Settings;
 use lr_chain::{PrepareStop, Ready, prepare};
-use lr_commands::spaced;
+use lr_commands::{spaced, with_programs};
 use lr_copy::Job;
 use lr_due::{Due, due};
 use lr_host::Seen;
@@ -52,19 +53,52 @@ fn made_with(create: Make, seen: &Seen) -> Make
     }
 }
 
+// The rotation with the programs of its definition before each removal.
+fn with_all_programs(
+    alloc: Global,
+    rule: &Rule,
+    mailer: &Path,
+    ready: Ready,
+) -> Result<Ready, Memory>
+    ensures { IfOk result (λ full. full ≡ dressed rule.now mailer.now ready) }
+{
+    let Ready {
+        leftovers,
+        dir,
+        moves,
+        log,
+        target,
+        make,
+        retire,
+    } = ready;
+    let leftovers = with_programs(alloc, rule, mailer, &log, leftovers)?;
+    let retire = with_programs(alloc, rule, mailer, &log, retire)?;
+    Ok(Ready {
+        leftovers,
+        dir,
+        moves,
+        log,
+        target,
+        make,
+        retire,
+    })
+}
+
 // The plan of a log whose rotation is ready, and its copy, where it goes by one; with its own scripts.
 fn scripted(
     alloc: Global,
     rule: &Rule,
+    mailer: &Path,
     look: &LogLook,
     ready: Ready,
     job: Option<Job>,
 ) -> Result<LogPlan, Memory>
     requires ready { ready ≡ ready_for rule.now look.now }
     requires job { job ≡ job_of rule.now look.now }
-    ensures { IfOk result (λ plan. plan ≡ log_plan rule.now look.now) }
+    ensures { IfOk result (λ plan. plan ≡ log_plan mailer.now rule.now look.now) }
 {
     let (pre, post) = own_scripts(alloc, rule, &look.path, &ready.target)?;
+    let ready = with_all_programs(alloc, rule, mailer, ready)?;
     Ok(LogPlan {
         pre,
         post,
@@ -78,16 +112,17 @@ fn scripted(
 fn add_plan(
     alloc: Global,
     rule: &Rule,
+    mailer: &Path,
     look: &LogLook,
     ready: Ready,
     plans: &mut Vec<LogPlan>,
 ) -> Result<(), Memory>
     requires start { look.now.family.naming.start ≤ 999999 }
     requires ready { ready ≡ ready_for rule.now look.now }
-    ensures { OnOk result (plans.new.items ≡ plans.old.items ++ log_plan rule.now look.now ∷ []) }
+    ensures { OnOk result (plans.new.items ≡ plans.old.items ++ log_plan mailer.now rule.now look.now ∷ []) }
 {
     let job = job_of(alloc, rule, look, &ready.target)?;
-    plans.push(scripted(alloc, rule, look, ready, job)?)?;
+    plans.push(scripted(alloc, rule, mailer, look, ready, job)?)?;
     Ok(())
 }
 
@@ -95,18 +130,19 @@ fn add_plan(
 fn add_due(
     alloc: Global,
     rule: &Rule,
+    mailer: &Path,
     look: &LogLook,
     plans: &mut Vec<LogPlan>,
     faults: &mut Vec<Fault>,
 ) -> Result<(), Memory>
     requires count { IsCount rule.now.count }
     requires look { CanPlan rule.now look.now }
-    ensures plans { OnOk result (plans.new.items ≡ plans.old.items ++ plans_of rule.now look.now) }
+    ensures plans { OnOk result (plans.new.items ≡ plans.old.items ++ plans_of mailer.now rule.now look.now) }
     ensures faults { OnOk result (faults.new.items ≡ faults.old.items ++ hindrances rule.now look.now) }
 {
     let anew = made_with(rule.create, &look.seen);
     match prepare(alloc, &look.family, &look.stand, rule.count, anew) {
-        Ok(ready) => add_plan(alloc, rule, look, ready, plans),
+        Ok(ready) => add_plan(alloc, rule, mailer, look, ready, plans),
         Err(stop) => {
             faults.push(hindrance(stop)?)?;
             Ok(())
@@ -118,6 +154,7 @@ fn add_due(
 fn add_look(
     alloc: Global,
     rule: &Rule,
+    mailer: &Path,
     look: &LogLook,
     decided: Due,
     plans: &mut Vec<LogPlan>,
@@ -125,11 +162,11 @@ fn add_look(
 ) -> Result<(), Memory>
     requires count { IsCount rule.now.count }
     requires look { CanPlan rule.now look.now }
-    ensures plans { OnOk result (plans.new.items ≡ plans.old.items ++ where_due decided (plans_of rule.now look.now)) }
+    ensures plans { OnOk result (plans.new.items ≡ plans.old.items ++ where_due decided (plans_of mailer.now rule.now look.now)) }
     ensures faults { OnOk result (faults.new.items ≡ faults.old.items ++ where_due decided (hindrances rule.now look.now)) }
 {
     match decided {
-        Due::Yes(_) => add_due(alloc, rule, look, plans, faults),
+        Due::Yes(_) => add_due(alloc, rule, mailer, look, plans, faults),
         Due::No(_) => Ok(()),
     }
 }
@@ -157,6 +194,7 @@ fn add_decisions(
 fn plan_all(
     alloc: Global,
     rule: &Rule,
+    mailer: &Path,
     looks: &[LogLook],
     state: &State,
     now: &Moment,
@@ -164,13 +202,13 @@ fn plan_all(
     faults: &mut Vec<Fault>,
 ) -> Result<Vec<LogPlan>, Memory>
     requires { CanPlanSet rule.now looks.now }
-    ensures plans { IfOk result (λ plans. plans.items ≡ log_plans rule.now (decision state.now now.now force rule.now) looks.now) }
+    ensures plans { IfOk result (λ plans. plans.items ≡ log_plans mailer.now rule.now (decision state.now now.now force rule.now) looks.now) }
     ensures faults { OnOk result (faults.new.items ≡ faults.old.items ++ log_faults rule.now (decision state.now now.now force rule.now) looks.now) }
 {
     let mut plans = Vec::new(alloc);
     for look in looks {
         let decided = decide(rule, look, state, now, force);
-        add_look(alloc, rule, look, decided, &mut plans, faults)?;
+        add_look(alloc, rule, mailer, look, decided, &mut plans, faults)?;
     }
     Ok(plans)
 }
@@ -208,6 +246,7 @@ fn set_of(alloc: Global, rule: &Rule, logs: Vec<LogPlan>) -> Result<SetPlan, Mem
 fn plan_set(
     alloc: Global,
     rule: &Rule,
+    mailer: &Path,
     looks: &[LogLook],
     state: &State,
     now: &Moment,
@@ -215,10 +254,10 @@ fn plan_set(
     faults: &mut Vec<Fault>,
 ) -> Result<SetPlan, Memory>
     requires { CanPlanSet rule.now looks.now }
-    ensures set { IfOk result (λ set. set ≡ set_plan rule.now (log_plans rule.now (decision state.now now.now force rule.now) looks.now)) }
+    ensures set { IfOk result (λ set. set ≡ set_plan rule.now (log_plans mailer.now rule.now (decision state.now now.now force rule.now) looks.now)) }
     ensures faults { OnOk result (faults.new.items ≡ faults.old.items ++ log_faults rule.now (decision state.now now.now force rule.now) looks.now) }
 {
-    let logs = plan_all(alloc, rule, looks, state, now, force, faults)?;
+    let logs = plan_all(alloc, rule, mailer, looks, state, now, force, faults)?;
     set_of(alloc, rule, logs)
 }
 
@@ -234,6 +273,7 @@ struct Draft {
 fn add_set(
     alloc: Global,
     rule: &Rule,
+    mailer: &Path,
     looks: &[LogLook],
     state: &State,
     now: &Moment,
@@ -242,11 +282,20 @@ fn add_set(
 ) -> Result<(), Memory>
     requires { CanPlanSet rule.now looks.now }
     ensures decisions { OnOk result (draft.new.decisions.items ≡ draft.old.decisions.items ++ decisions_of (decision state.now now.now force rule.now) looks.now) }
-    ensures sets { OnOk result (draft.new.sets.items ≡ draft.old.sets.items ++ set_plan rule.now (log_plans rule.now (decision state.now now.now force rule.now) looks.now) ∷ []) }
+    ensures sets { OnOk result (draft.new.sets.items ≡ draft.old.sets.items ++ set_plan rule.now (log_plans mailer.now rule.now (decision state.now now.now force rule.now) looks.now) ∷ []) }
     ensures faults { OnOk result (draft.new.faults.items ≡ draft.old.faults.items ++ log_faults rule.now (decision state.now now.now force rule.now) looks.now) }
 {
     add_decisions(alloc, rule, looks, state, now, force, &mut draft.decisions)?;
-    let set = plan_set(alloc, rule, looks, state, now, force, &mut draft.faults)?;
+    let set = plan_set(
+        alloc,
+        rule,
+        mailer,
+        looks,
+        state,
+        now,
+        force,
+        &mut draft.faults,
+    )?;
     draft.sets.push(set)?;
     Ok(())
 }
@@ -255,6 +304,7 @@ fn add_set(
 fn plan_sets(
     alloc: Global,
     rules: &[Rule],
+    mailer: &Path,
     sets: &[SetLooks],
     state: &State,
     now: &Moment,
@@ -263,13 +313,14 @@ fn plan_sets(
 ) -> Result<(), Memory>
     requires { CanPlanAll rules.now sets.now }
     ensures decisions { OnOk result (draft.new.decisions.items ≡ draft.old.decisions.items ++ all_decisions (decision state.now now.now force) rules.now sets.now) }
-    ensures sets { OnOk result (draft.new.sets.items ≡ draft.old.sets.items ++ all_plans (decision state.now now.now force) rules.now sets.now) }
+    ensures sets { OnOk result (draft.new.sets.items ≡ draft.old.sets.items ++ all_plans mailer.now (decision state.now now.now force) rules.now sets.now) }
     ensures faults { OnOk result (draft.new.faults.items ≡ draft.old.faults.items ++ all_faults (decision state.now now.now force) rules.now sets.now) }
 {
     for at in 0..rules.len() {
         add_set(
             alloc,
             &rules[at],
+            mailer,
             sets[at].logs.as_slice(),
             state,
             now,
@@ -281,8 +332,7 @@ fn plan_sets(
 }
 
 /// The plan of a run: whether each log that was looked at whole is due, what is done with those that are, and what
-/// hinders some. So far of logs that are rotated by rename, with numbers, and of which no file has a preremove or is
-/// mailed.
+/// hinders some. So far of logs whose members are numbered, and of which no file is mailed but those that are removed.
 pub fn plan(
     alloc: Global,
     rules: &Rules,
@@ -292,7 +342,7 @@ pub fn plan(
     settings: &Settings,
 ) -> Result<Plan, Memory>
     requires { CanPlanAll rules.now.sets looks.now.sets }
-    ensures { IfOk result (λ plan. plan ≡ plan_of rules.now.sets looks.now.sets state.now clock.entry.now.now settings.now.force) }
+    ensures { IfOk result (λ plan. plan ≡ plan_of rules.now.sets looks.now.sets state.now clock.entry.now.now (asking settings.now.force settings.now.mailer)) }
 {
     let mut draft = Draft {
         decisions: Vec::new(alloc),
@@ -302,6 +352,7 @@ pub fn plan(
     plan_sets(
         alloc,
         rules.sets.as_slice(),
+        &settings.mailer,
         looks.sets.as_slice(),
         state,
         &clock.now,

@@ -40,4 +40,4 @@ small_count rule h =
 
 -- its logs can be planned for, where each look can
 pub can_plan_set : (rule : Rule) (looks : List LogLook) → IsBuiltRule rule → meets_limits rule ≡ true → All (CanPlan rule) looks → CanPlanSet rule looks
-can_plan_set rule looks b limits each = record { count = small_count rule limits; no_preremove = b.preremove; each = each }
+can_plan_set rule looks b limits each = record { count = small_count rule limits; each = each }

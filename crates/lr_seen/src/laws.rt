@@ -16,7 +16,7 @@ ghost use Rattle.lr_looks.specs.Found.{FoundLog};
 ghost use Rattle.lr_looks.specs.Shown.{ShowsLooks, ShowsSomeLooks};
 ghost use Rattle.lr_rotations.specs.Apart.{HaveNames};
 ghost use Rattle.lr_rotations.specs.Target.{Target, AreSeen, IsOneOf};
-ghost use Rattle.lr_weave.specs.Fitting.{DontMeet, ReadNoFiles};
+ghost use Rattle.lr_weave.specs.Fitting.{DontMeet, ReadOnlyRemoved};
 ghost use Rattle.lr_weave.specs.Planned.{HaveLogs, AreApart};
 ghost use Rattle.lr_fields.specs.Built.{AreBuiltRules};
 ghost use Rattle.lr_seen.specs.Free.{AreFreeOf};
@@ -59,10 +59,11 @@ pub fn kept_are_apart()
         → (s : ShowsLooks reserved rules sets faults ts) → IsIn f s.kept → IsOneOf t (all_targets decide rules sets) → t.log ≢ f.log.path → Meet t.log t.naming f.log.path f.log.naming → ⊥ }
 {}
 
-/// The plan has just them, each with its rotation ready; its programs read no file.
+/// The plan has just them, each with its rotation ready; of its programs a mail alone reads a file, the one that is removed
+/// next.
 pub fn plan_has_targets()
-    ensures logs { (reserved : List Path) (rules : List Rule) (sets : List SetLooks) (faults : List Fault) (ts : List Entry) (decide : Rule → LogLook → Due)
-        → AreBuiltRules rules → ShowsLooks reserved rules sets faults ts → HaveLogs (groups_of decide rules sets) (all_plans decide rules sets) }
-    ensures programs { (rules : List Rule) (sets : List SetLooks) (decide : Rule → LogLook → Due)
-        → AreBuiltRules rules → ReadNoFiles (all_plans decide rules sets) }
+    ensures logs { (reserved : List Path) (rules : List Rule) (sets : List SetLooks) (faults : List Fault) (ts : List Entry) (mailer : Path) (decide : Rule → LogLook → Due)
+        → AreBuiltRules rules → ShowsLooks reserved rules sets faults ts → HaveLogs (groups_of decide rules sets) (all_plans mailer decide rules sets) }
+    ensures programs { (rules : List Rule) (sets : List SetLooks) (mailer : Path) (decide : Rule → LogLook → Due)
+        → AreBuiltRules rules → ReadOnlyRemoved (all_plans mailer decide rules sets) }
 {}

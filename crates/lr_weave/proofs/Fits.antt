@@ -2,20 +2,20 @@
 use Rattle.std.proofs.Common.{◌≡◌, inl, inr, ⊎_elim, ℕ, ◌+◌, Bool, true, false, not, cond, refl, sym, ◌∙◌, ap, subst, Option, Some, None, List, [], ◌∷◌, ◌++◌, map, reverse, append_assoc, append-nil}
 use Rattle.std.specs.Prelude.{filter}
 use Rattle.std.proofs.lemmas.List.{reverse-reverse}
+use Rattle.std.proofs.lemmas.List.Concat.{flat_map-append}
 use Rattle.lr_rules.specs.declared.path.Path.{Path}
 use Rattle.lr_rules.specs.declared.fault.Fault.{Fault}
 use Rattle.lr_rules.specs.declared.fault.Phase.{Phase}
 use Rattle.lr_rules.specs.declared.fault.Phase.TheVariants as phase
 use Rattle.lr_rules.specs.declared.rule.Make.{Make}
 use Rattle.lr_rules.specs.declared.rule.Make.TheVariants as make
-use Rattle.lr_rules.specs.declared.rule.Naming.{Naming}
 use Rattle.lr_rules.specs.Names.{IsOwnName, the_log, IsName, Meet}
 use Rattle.lr_rules.specs.Path.{parent_of}
 use Rattle.lr_host.specs.declared.thing.Thing.TheVariants as thing
 use Rattle.lr_host.specs.declared.entry.Entry.{Entry}
 use Rattle.lr_host.specs.declared.entry.Entry.TheVariants as entry
 use Rattle.lr_host.specs.declared.journal.Journal.{Journal}
-use Rattle.lr_host.specs.World.{Past, ◌▸◌, past, world, put, names}
+use Rattle.lr_host.specs.World.{Past, ◌▸◌, past, world, put, Names, names}
 use Rattle.lr_host.specs.Fits.{MaybeFileAt}
 use Rattle.lr_host.specs.Told.{Each, Then, Made, at_first, by_writer, by_tool, Left, not_told, is_told, Can}
 use Rattle.lr_host.specs.Steps.{is_naming, CanAll}
@@ -24,6 +24,7 @@ use Rattle.lr_host.proofs.Names.{put_other}
 use Rattle.lr_host.proofs.Each.{filter_reverse, each_append, each_reverse, each_first}
 use Rattle.lr_host.proofs.Left.{left_first, left_then, can_as, still_step}
 use Rattle.lr_scripts.specs.declared.command.Command.{Command}
+use Rattle.lr_scripts.specs.declared.removal.Removal.{Removal}
 use Rattle.lr_scripts.specs.Programs.{runs}
 use Rattle.lr_family.specs.Spots.{path_at}
 use Rattle.lr_family.proofs.Numbers.{Every, every_all, every_filter}
@@ -31,10 +32,10 @@ use Rattle.lr_copy.specs.declared.job.Job.{Job}
 use Rattle.lr_copy.specs.Copying.{clearing}
 use Rattle.lr_chain.specs.declared.ready.Move.{Move}
 use Rattle.lr_chain.specs.declared.ready.Ready.{Ready}
-use Rattle.lr_chain.specs.Ready.{removal_at, move_step}
+use Rattle.lr_chain.specs.Ready.{move_step}
 use Rattle.lr_chain.specs.Rotation.{is_left, places_of, leftovers, kept, one_too_many, unlink_at, move_at}
 use Rattle.lr_rotations.specs.Apart.{HasNames}
-use Rattle.lr_rotations.specs.Calls.{CanCalls, transfer_calls, calls_of}
+use Rattle.lr_rotations.specs.Calls.{FitCalls, CanCalls, transfer_calls, calls_of}
 use Rattle.lr_rotations.specs.Members.{HasName}
 use Rattle.lr_rotations.specs.Target.{Target, unlinks, rotation_of, IsJob}
 use Rattle.lr_rotations.specs.Weave.{IsFirstOf}
@@ -53,14 +54,14 @@ use Rattle.lr_plan.specs.declared.step.Step.{Step}
 use Rattle.lr_plan.specs.declared.step.Step.TheVariants as step
 use Rattle.lr_plan.specs.Outcomes.{Succeeds}
 use Rattle.lr_plan.specs.Steps as steps
-use Rattle.lr_plan.specs.Steps.{program, removals, directory, move, step_if, copy, transfer, made_anew, steps_of_log}
+use Rattle.lr_plan.specs.Steps.{program, removal, removals, directory, move, step_if, copy, transfer, made_anew, steps_of_log}
 use Rattle.lr_plan.specs.Internal.Asking.{asks, CanMake, CanEach}
 use Rattle.lr_plan.specs.Course.{Course}
-use Rattle.lr_weave.specs.Fitting.{IsFit, AreFit, NoneMeets, DontMeet, ReadsNothing, AsksNothing, AskNothing}
+use Rattle.lr_weave.specs.Fitting.{IsFit, AreFit, NoneMeets, DontMeet, ReadsNothing, ReadsThis, ReadThemselves, ReadsRemoved, ReadRemoved}
 use Rattle.lr_weave.specs.Planned.{IsReadyFor, AreReadyFor}
 use Rattle.lr_weave.proofs.Lasting.{makes_later}
 use Rattle.lr_weave.proofs.Parting.{bytes_none, course_first}
-use Rattle.lr_weave.proofs.Planning.{Anything, back_of, calls_of_step, calls_by, log_is, log_asks, log_plain, program_none, program_asks, program_plain}
+use Rattle.lr_weave.proofs.Planning.{Anything, back_of, calls_of_step, calls_by, no_dir_is, log_is, log_asks, log_plain, program_none, program_asks, program_plain}
 
 -- ---- entries that change other paths
 
@@ -197,29 +198,50 @@ unchanged (x ∷ xs) fits left f = (fit_later x fits.0 left (λ ts p. subst (Eac
 
 -- ---- one list of steps
 
--- a step of a rotation, the making of a log in a directory that stands, or a program that reads no file
-abbrev pub IsBareStep : Option Journal → Step → Type 0
-IsBareStep o (step.Runs p on command) = command.input ≡ None
-IsBareStep o (step.Creates path mode) = Can o (entry.Makes path mode)
-IsBareStep o (step.MakesDir path mode) = ⊥
-IsBareStep o (step.Appends path text) = ⊥
-IsBareStep o _ = Unit {0}
+-- what a program reads: no file, or the one that the next call unlinks
+abbrev pub IsRead : Option Path → List Entry → Type 0
+IsRead None es = Unit {0}
+IsRead (Some file) [] = ⊥
+IsRead (Some file) (entry.Unlinks path ∷ es) = path ≡ file
+IsRead (Some file) (_ ∷ es) = ⊥
+
+-- A step of a rotation, the making of a log in a directory that stands, or a program that reads no file but the one that is unlinked next; these calls come behind it.
+abbrev pub IsBareStep : Option Journal → Step → List Entry → Type 0
+IsBareStep o (step.Runs p on command) es = IsRead command.input es
+IsBareStep o (step.Creates path mode) es = Can o (entry.Makes path mode)
+IsBareStep o (step.MakesDir path mode) es = ⊥
+IsBareStep o (step.Appends path text) es = ⊥
+IsBareStep o _ es = Unit {0}
 
 abbrev pub AreBareSteps : Option Journal → List Step → Type 0
 AreBareSteps o [] = Unit {0}
-AreBareSteps o (s ∷ ss) = IsBareStep o s × AreBareSteps o ss
+AreBareSteps o (s ∷ ss) = IsBareStep o s (calls_by ss) × AreBareSteps o ss
 
-bare_one : (s : Step) {P : List Entry → Type 0} {o m : Option Journal} → Left P o m → IsBareStep o s → IsBareStep m s
-bare_one (step.Creates path mode) left i = makes_later path mode left i
-bare_one (step.Runs p on command) left i = i
-bare_one (step.MakesDir path mode) left i = i
-bare_one (step.Appends path text) left i = i
-bare_one _ left i = tt
+bare_one : (s : Step) (es : List Entry) {P : List Entry → Type 0} {o m : Option Journal} → Left P o m → IsBareStep o s es → IsBareStep m s es
+bare_one (step.Creates path mode) es left i = makes_later path mode left i
+bare_one (step.Runs p on command) es left i = i
+bare_one (step.MakesDir path mode) es left i = i
+bare_one (step.Appends path text) es left i = i
+bare_one _ es left i = tt
 
 -- so they are later on
 bare_later : (ss : List Step) {P : List Entry → Type 0} {o m : Option Journal} → Left P o m → AreBareSteps o ss → AreBareSteps m ss
 bare_later [] left bare = tt
-bare_later (s ∷ ss) left bare = (bare_one s left bare.0, bare_later ss left bare.1)
+bare_later (s ∷ ss) left bare = (bare_one s (calls_by ss) left bare.0, bare_later ss left bare.1)
+
+-- and where more calls come behind them
+read_more : (input : Option Path) (xs es : List Entry) → IsRead input xs → IsRead input (xs ++ es)
+read_more None xs es i = tt
+read_more (Some file) [] es i = absurd i
+read_more (Some file) (entry.Unlinks path ∷ xs) es i = i
+read_more (Some file) (_ ∷ xs) es i = absurd i
+
+bare_more : (o : Option Journal) (s : Step) (xs es : List Entry) → IsBareStep o s xs → IsBareStep o s (xs ++ es)
+bare_more o (step.Runs p on command) xs es i = read_more command.input xs es i
+bare_more o (step.Creates path mode) xs es i = i
+bare_more o (step.MakesDir path mode) xs es i = i
+bare_more o (step.Appends path text) xs es i = i
+bare_more o _ xs es i = tt
 
 none_asked : (o : Option Journal) → CanAll o []
 none_asked None = record { can = tt }
@@ -233,9 +255,15 @@ makes_asked : (path : Path) (mode : Option ℕ) (o : Option Journal) → Can o (
 makes_asked path mode None c = record { can = tt }
 makes_asked path mode (Some j) c = record { can = (tt, c.can) }
 
-run_asked : (command : Command) (o : Option Journal) → command.input ≡ None → CanAll o (runs command (Rattle.lr_rules.specs.declared.fault.Ended.TheVariants.Exit (Rattle.std.specs.Prelude.pos 0)) ∷ [])
-run_asked command None e = record { can = tt }
-run_asked command (Some j) e = record { can = (tt, subst (MaybeFileAt (names (world (past j)))) (sym e) tt) }
+read_fits : (n : Names) (input : Option Path) (es : List Entry) → IsRead input es → FitCalls n es → MaybeFileAt n input
+read_fits n None es i fit = tt
+read_fits n (Some file) [] i fit = absurd i
+read_fits n (Some file) (entry.Unlinks path ∷ es) i fit = subst (λ (x : Path). MaybeFileAt n (Some x)) i fit.0
+read_fits n (Some file) (_ ∷ es) i fit = absurd i
+
+run_asked : (command : Command) (es : List Entry) (o : Option Journal) → IsRead command.input es → CanCalls o es → CanAll o (runs command (Rattle.lr_rules.specs.declared.fault.Ended.TheVariants.Exit (Rattle.std.specs.Prelude.pos 0)) ∷ [])
+run_asked command es None i c = record { can = tt }
+run_asked command es (Some j) i c = record { can = (tt, read_fits (names (world (past j))) command.input es i c.can) }
 
 one_asked : (e : Entry) (es : List Entry) (o : Option Journal) → CanCalls o (e ∷ es) → CanAll o (e ∷ [])
 one_asked e es None c = record { can = tt }
@@ -246,8 +274,8 @@ bytes_asked from to es None c = record { can = tt }
 bytes_asked from to es (Some j) c = record { can = ((tt, c.can.0), c.can.1.0) }
 
 -- it fits
-asked : (s : Step) (es : List Entry) (o : Option Journal) → IsBareStep o s → CanCalls o (calls_of_step s ++ es) → CanAll o (asks s)
-asked (step.Runs p on command) es o bare c = run_asked command o bare
+asked : (s : Step) (es : List Entry) (o : Option Journal) → IsBareStep o s es → CanCalls o (calls_of_step s ++ es) → CanAll o (asks s)
+asked (step.Runs p on command) es o bare c = run_asked command es o bare c
 asked (step.Removes path) es o bare c = one_asked (entry.Unlinks path) es o c
 asked (step.Renames from to) es o bare c = one_asked (entry.Renames from to) es o c
 asked (step.Creates path mode) es o bare c = makes_asked path mode o bare
@@ -260,7 +288,7 @@ asked (step.Rotated log) es o bare c = none_asked o
 asked _ es o bare c = absurd bare
 
 -- and where it was made, what follows fits
-behind : (s : Step) (es : List Entry) {o m : Option Journal} → IsBareStep o s → CanCalls o (calls_of_step s ++ es) → Left (Succeeds s) o m → CanCalls m es
+behind : (s : Step) (es : List Entry) {o m : Option Journal} → IsBareStep o s es → CanCalls o (calls_of_step s ++ es) → Left (Succeeds s) o m → CanCalls m es
 behind (step.Runs p on command) es bare c left = calls_still es c left (λ ts w. ap (filter is_naming) w)
 behind (step.Removes path) es bare c left = calls_made (entry.Unlinks path) es c left (λ ts w. w)
 behind (step.Renames from to) es bare c left = calls_made (entry.Renames from to) es c left (λ ts w. w)
@@ -282,11 +310,14 @@ AllSucceed (s ∷ ss) ts = Then (Succeeds s) (AllSucceed ss) ts
 pub make_then : (ss rest : List Step) (es : List Entry) {o : Option Journal} → AreBareSteps o ss → CanCalls o (calls_by ss ++ es) → ((m : Option Journal) → Left (AllSucceed ss) o m → CanCalls m es → CanMake m rest) → CanMake o (ss ++ rest)
 make_then [] rest es {o} bare can f = f o (left_first (AllSucceed []) o refl) can
 make_then (s ∷ ss) rest es {o} bare can f = (
-  asked s (calls_by ss ++ es) o bare.0 calls,
-  λ m left. make_then ss rest es (bare_later ss left bare.1) (behind s (calls_by ss ++ es) bare.0 calls left)
+  asked s (calls_by ss ++ es) o one calls,
+  λ m left. make_then ss rest es (bare_later ss left bare.1) (behind s (calls_by ss ++ es) one calls left)
       (λ k later c. f k (left_then left later (λ ts us p q. record { front = ts; back = us; joined = refl; first = p; second = q })) c),
 )
   where
+    one : IsBareStep o s (calls_by ss ++ es)
+    one = bare_more o s (calls_by ss) es bare.0
+
     calls : CanCalls o (calls_of_step s ++ (calls_by ss ++ es))
     calls = subst (CanCalls o) (append_assoc (calls_of_step s) (calls_by ss) es) can
 
@@ -297,19 +328,24 @@ can_make ss {o} bare can = subst (CanMake o) (append-nil ss) (make_then ss [] []
 
 bare_on : (o : Option Journal) (xs ys : List Step) → AreBareSteps o xs → AreBareSteps o ys → AreBareSteps o (xs ++ ys)
 bare_on o [] ys a b = b
-bare_on o (x ∷ xs) ys a b = (a.0, bare_on o xs ys a.1 b)
+bare_on o (x ∷ xs) ys a b = (subst (IsBareStep o x) (sym (flat_map-append calls_of_step xs ys)) (bare_more o x (calls_by xs) (calls_by ys) a.0), bare_on o xs ys a.1 b)
 
 pub program_bare : (o : Option Journal) (p : Phase) (c : Option Command) → ReadsNothing c → AreBareSteps o (program p c)
 program_bare o p None r = tt
-program_bare o p (Some command) r = (r, tt)
+program_bare o p (Some command) r = (subst (λ (input : Option Path). IsRead input []) (sym r) tt, tt)
 
 no_program_bare : (o : Option Journal) (p : Phase) (c : Option Command) → c ≡ None → AreBareSteps o (program p c)
 no_program_bare o p None e = tt
 no_program_bare o p (Some command) e = absurd (cc)
 
-removals_bare : (o : Option Journal) (n : Naming) (ks : List ℕ) → AreBareSteps o (removals (map (removal_at n) ks))
-removals_bare o n [] = tt
-removals_bare o n (k ∷ ks) = (tt, removals_bare o n ks)
+mail_bare : (o : Option Journal) (file : Path) (c : Option Command) → ReadsThis file c → AreBareSteps o (program phase.Mail c ++ step.Removes file ∷ [])
+mail_bare o file None r = (tt, tt)
+mail_bare o file (Some command) r = (subst (λ (input : Option Path). IsRead input (entry.Unlinks file ∷ [])) (sym r) refl, (tt, tt))
+
+removals_bare : (o : Option Journal) (rs : List Removal) → ReadThemselves rs → AreBareSteps o (removals rs)
+removals_bare o [] i = tt
+removals_bare o (r ∷ rs) i =
+    bare_on o (removal r) (removals rs) (bare_on o (program phase.Preremove r.preremove) (program phase.Mail r.mail ++ step.Removes r.path ∷ []) (program_bare o phase.Preremove r.preremove i.0) (mail_bare o r.path r.mail i.1)) (removals_bare o rs i.2)
 
 moves_bare : (o : Option Journal) (ms : List Move) → AreBareSteps o (map move ms)
 moves_bare o [] = tt
@@ -330,26 +366,25 @@ transfer_bare o log target make.No None c = (tt, (tt, tt))
 transfer_bare o log target (make.Yes mode) None c = (tt, (tt, (can_as c (λ n h. h), tt)))
 transfer_bare o log target m (Some job) c = bare_on o (copy job) (step.Rotated log ∷ []) (copy_bare o job job.stale job.cut) (tt, tt)
 
-pub front_bare : (o : Option Journal) (t : Target) (log : LogPlan) → Can o (entry.Makes t.log None) → IsReadyFor t log → AreBareSteps o (steps.rotation_of log)
-front_bare o t log c r =
-    subst (λ (x : Ready). AreBareSteps o (steps.rotation x log.job)) (sym r.ready_is)
-    (bare_on o (removals t.ready.leftovers) _ (subst (λ rs. AreBareSteps o (removals rs)) (sym r.ready.leftovers_are) (removals_bare o t.naming (leftovers t.count (places_of t.stand.members))))
-    (bare_on o (directory t.ready.dir) _ (dir_bare o t.ready.dir r.ready.no_dir)
-    (bare_on o (map move t.ready.moves) _ (moves_bare o t.ready.moves) (transfer_bare o t.ready.log t.ready.target t.ready.make log.job (subst (λ (x : Path). Can o (entry.Makes x None)) (sym r.ready.log_is) c)))))
+pub front_bare : (o : Option Journal) (t : Target) (log : LogPlan) → Can o (entry.Makes t.log None) → IsReadyFor t log → ReadsRemoved log → AreBareSteps o (steps.rotation_of log)
+front_bare o t log c r q =
+    bare_on o (removals log.ready.leftovers) _ (removals_bare o log.ready.leftovers q.leftovers)
+    (bare_on o (directory log.ready.dir) _ (dir_bare o log.ready.dir (no_dir_is t log r))
+    (bare_on o (map move log.ready.moves) _ (moves_bare o log.ready.moves)
+    (transfer_bare o log.ready.log log.ready.target log.ready.make log.job (subst (λ (x : Path). Can o (entry.Makes x None)) (sym (ap (λ (x : Ready). x.log) r.ready_is ∙ r.ready.log_is)) c))))
 
-pub back_bare : (o : Option Journal) (t : Target) (log : LogPlan) → IsReadyFor t log → log.first_mail ≡ None → AreBareSteps o (steps.retirement_of log)
-back_bare o t log r q = bare_on o (program phase.Mail log.first_mail) (removals log.ready.retire) (no_program_bare o phase.Mail log.first_mail q)
-    (subst (λ rs. AreBareSteps o (removals rs)) (sym (ap (λ (x : Ready). x.retire) r.ready_is ∙ r.ready.retire_is)) (removals_bare o t.naming (one_too_many t.count (places_of t.stand.members))))
+pub back_bare : (o : Option Journal) (t : Target) (log : LogPlan) → IsReadyFor t log → ReadsRemoved log → AreBareSteps o (steps.retirement_of log)
+back_bare o t log r q = bare_on o (program phase.Mail log.first_mail) (removals log.ready.retire) (no_program_bare o phase.Mail log.first_mail q.no_mail) (removals_bare o log.ready.retire q.retire)
 
-log_bare : (o : Option Journal) (t : Target) (log : LogPlan) → Can o (entry.Makes t.log None) → IsReadyFor t log → AsksNothing log → AreBareSteps o (steps_of_log log)
+log_bare : (o : Option Journal) (t : Target) (log : LogPlan) → Can o (entry.Makes t.log None) → IsReadyFor t log → ReadsRemoved log → AreBareSteps o (steps_of_log log)
 log_bare o t log c r q =
     bare_on o (program phase.Pre log.pre) _ (program_bare o phase.Pre log.pre q.pre)
-    (bare_on o (steps.rotation_of log) _ (front_bare o t log c r)
-    (bare_on o (program phase.Post log.post) (steps.retirement_of log) (program_bare o phase.Post log.post q.post) (back_bare o t log r q.no_mail)))
+    (bare_on o (steps.rotation_of log) _ (front_bare o t log c r q)
+    (bare_on o (program phase.Post log.post) (steps.retirement_of log) (program_bare o phase.Post log.post q.post) (back_bare o t log r q)))
 
 -- ---- the logs of one definition
 
-pub can_each : (o : Option Journal) (ts : List Target) (logs : List LogPlan) → AreReadyFor ts logs → AskNothing logs → AreFit o ts → DontMeet ts → CanEach o (map steps_of_log logs)
+pub can_each : (o : Option Journal) (ts : List Target) (logs : List LogPlan) → AreReadyFor ts logs → ReadRemoved logs → AreFit o ts → DontMeet ts → CanEach o (map steps_of_log logs)
 can_each o [] [] r q fits dont = tt
 can_each o [] (log ∷ logs) r q fits dont = absurd r
 can_each o (t ∷ ts) [] r q fits dont = absurd r

@@ -31,7 +31,7 @@ use Rattle.lr_rotations.specs.AllTurns.{AlsoDoes, IsOf, IsOfSome, IsOfOther}
 use Rattle.lr_rotations.proofs.Rotating.{two}
 use Rattle.lr_rotations.proofs.Weaving.{weave_on, weave_own, weave_others}
 use Rattle.lr_weave.specs.Parts.{change_of, changes_by, ArePlain, EachPlain, IsPlainSet, ArePlainSets, MakesOne, parts_of_set, parts_of_sets, AllOf, InOnePart, ArePlanned}
-use Rattle.lr_weave.specs.Planned.{IsReadyFor, AreReadyFor, HaveLogs, NoneHas, AreApart}
+use Rattle.lr_weave.specs.Planned.{bare_removal, bare, IsReadyFor, AreReadyFor, HaveLogs, NoneHas, AreApart}
 use Rattle.lr_weave.proofs.Parting.{none_has, of_other}
 
 -- ---- what the steps of one log ask for
@@ -125,13 +125,37 @@ transfer_is : (ready : Ready) (j : Option Job) → changes_by (transfer ready.lo
 transfer_is ready None = refl
 transfer_is ready (Some job) = copy_changes job job.stale job.cut
 
+-- the programs before them make no difference to what is removed
+bare_unlinks : (rs : List Removal) → unlinks rs ≡ unlinks (map bare_removal rs)
+bare_unlinks [] = refl
+bare_unlinks (r ∷ rs) = ap (λ es. entry.Unlinks r.path ∷ es) (bare_unlinks rs)
+
+-- nor to what is done first, and then to what is left
+front_as : (t : Target) (log : LogPlan) (f : Ready → Option Job → List Entry) → IsReadyFor t log → ((j : Option Job) → f log.ready j ≡ f (bare log.ready) j)
+    → unlinks log.ready.leftovers ++ (map move_step log.ready.moves ++ f log.ready log.job) ≡ unlinks t.ready.leftovers ++ (map move_step t.ready.moves ++ f t.ready t.job)
+front_as t log f r same =
+    ap (λ es. es ++ (map move_step log.ready.moves ++ f log.ready log.job)) (bare_unlinks log.ready.leftovers)
+    ∙ (ap (λ es. unlinks (map bare_removal log.ready.leftovers) ++ (map move_step log.ready.moves ++ es)) (same log.job)
+    ∙ (ap (λ (x : Ready). unlinks x.leftovers ++ (map move_step x.moves ++ f x log.job)) r.ready_is
+    ∙ ap (λ (j : Option Job). unlinks t.ready.leftovers ++ (map move_step t.ready.moves ++ f t.ready j)) r.job_is))
+
+back_as : (t : Target) (log : LogPlan) → IsReadyFor t log → unlinks log.ready.retire ≡ back_of t
+back_as t log r = bare_unlinks log.ready.retire ∙ ap (λ (x : Ready). unlinks x.retire) r.ready_is
+
+pub no_dir_is : (t : Target) (log : LogPlan) → IsReadyFor t log → log.ready.dir ≡ None
+no_dir_is t log r = ap (λ (x : Ready). x.dir) r.ready_is ∙ r.ready.no_dir
+
+bare_transfer : (ready : Ready) (j : Option Job) → transfer_of ready j ≡ transfer_of (bare ready) j
+bare_transfer ready None = refl
+bare_transfer ready (Some job) = refl
+
 pub front_is : (t : Target) (log : LogPlan) → IsReadyFor t log → changes_by (rotation log) ≡ front_of t
 front_is t log r =
-    ap (λ (x : Ready). changes_by (steps_of_rotation x log.job)) r.ready_is ∙ (ap (λ (j : Option Job). changes_by (steps_of_rotation t.ready j)) r.job_is
-    ∙ rotation_by change_of (λ p on c. refl) (λ x. refl) (λ x y. refl) (λ x mode. refl) (λ x. refl) t.ready t.job (transfer_of t.ready t.job) r.ready.no_dir (transfer_is t.ready t.job))
+    rotation_by change_of (λ p on c. refl) (λ x. refl) (λ x y. refl) (λ x mode. refl) (λ x. refl) log.ready log.job (transfer_of log.ready log.job) (no_dir_is t log r) (transfer_is log.ready log.job)
+    ∙ front_as t log transfer_of r (bare_transfer log.ready)
 
 pub back_is : (t : Target) (log : LogPlan) → IsReadyFor t log → changes_by (retirement log) ≡ back_of t
-back_is t log r = retirement_by change_of (λ p on c. refl) (λ x. refl) (λ x y. refl) (λ x mode. refl) (λ x. refl) log.first_mail log.ready.retire ∙ ap (λ (x : Ready). unlinks x.retire) r.ready_is
+back_is t log r = retirement_by change_of (λ p on c. refl) (λ x. refl) (λ x y. refl) (λ x mode. refl) (λ x. refl) log.first_mail log.ready.retire ∙ back_as t log r
 
 pub log_is : (t : Target) (log : LogPlan) → IsReadyFor t log → changes_by (steps_of_log log) ≡ rotation_of t
 log_is t log r = log_by change_of (λ p on c. refl) (λ x. refl) (λ x y. refl) (λ x mode. refl) (λ x. refl) log (front_of t) (back_of t) (front_is t log r) (back_is t log r) ∙ halves t
@@ -167,13 +191,17 @@ transfer_asks : (ready : Ready) (j : Option Job) → calls_by (transfer ready.lo
 transfer_asks ready None = refl
 transfer_asks ready (Some job) = copy_asks job job.stale job.cut
 
+bare_calls : (ready : Ready) (j : Option Job) → transfer_calls ready j ≡ transfer_calls (bare ready) j
+bare_calls ready None = refl
+bare_calls ready (Some job) = refl
+
 pub front_asks : (t : Target) (log : LogPlan) → IsReadyFor t log → calls_by (rotation log) ≡ front_calls t
 front_asks t log r =
-    ap (λ (x : Ready). calls_by (steps_of_rotation x log.job)) r.ready_is ∙ (ap (λ (j : Option Job). calls_by (steps_of_rotation t.ready j)) r.job_is
-    ∙ rotation_by calls_of_step (λ p on c. refl) (λ x. refl) (λ x y. refl) (λ x mode. refl) (λ x. refl) t.ready t.job (transfer_calls t.ready t.job) r.ready.no_dir (transfer_asks t.ready t.job))
+    rotation_by calls_of_step (λ p on c. refl) (λ x. refl) (λ x y. refl) (λ x mode. refl) (λ x. refl) log.ready log.job (transfer_calls log.ready log.job) (no_dir_is t log r) (transfer_asks log.ready log.job)
+    ∙ front_as t log transfer_calls r (bare_calls log.ready)
 
 pub back_asks : (t : Target) (log : LogPlan) → IsReadyFor t log → calls_by (retirement log) ≡ back_of t
-back_asks t log r = retirement_by calls_of_step (λ p on c. refl) (λ x. refl) (λ x y. refl) (λ x mode. refl) (λ x. refl) log.first_mail log.ready.retire ∙ ap (λ (x : Ready). unlinks x.retire) r.ready_is
+back_asks t log r = retirement_by calls_of_step (λ p on c. refl) (λ x. refl) (λ x y. refl) (λ x mode. refl) (λ x. refl) log.first_mail log.ready.retire ∙ back_as t log r
 
 pub log_asks : (t : Target) (log : LogPlan) → IsReadyFor t log → calls_by (steps_of_log log) ≡ calls_of t
 log_asks t log r = log_by calls_of_step (λ p on c. refl) (λ x. refl) (λ x y. refl) (λ x mode. refl) (λ x. refl) log (front_calls t) (back_of t) (front_asks t log r) (back_asks t log r) ∙ call_halves t
@@ -234,9 +262,11 @@ transfer_plain P t (Some job) h r shape is = plain_on P (transfer t.ready.log t.
 
 pub front_plain : (P : Entry → Type 0) (t : Target) (log : LogPlan) → OfMaking P t → IsReadyFor t log → ArePlain P (rotation log)
 front_plain P t log h r =
-    subst (λ (x : Ready). ArePlain P (steps_of_rotation x log.job)) (sym r.ready_is) (subst (λ (j : Option Job). ArePlain P (steps_of_rotation t.ready j)) (sym r.job_is)
-    (plain_on P (removals t.ready.leftovers) _ (removals_plain P t.ready.leftovers)
-    (plain_on P (directory t.ready.dir) _ (dir_plain P t.ready.dir r.ready.no_dir) (plain_on P (map move t.ready.moves) _ (moves_plain P t.ready.moves) (transfer_plain P t t.job h r.ready r.job refl)))))
+    plain_on P (removals log.ready.leftovers) _ (removals_plain P log.ready.leftovers)
+    (plain_on P (directory log.ready.dir) _ (dir_plain P log.ready.dir (no_dir_is t log r))
+    (plain_on P (map move log.ready.moves) _ (moves_plain P log.ready.moves)
+    (subst (λ (x : Ready). ArePlain P (transfer x.log x.target log.job ++ step.Rotated x.log ∷ made_anew x.make x.log log.job)) (sym r.ready_is)
+    (subst (λ (j : Option Job). ArePlain P (transfer t.ready.log t.ready.target j ++ step.Rotated t.ready.log ∷ made_anew t.ready.make t.ready.log j)) (sym r.job_is) (transfer_plain P t t.job h r.ready r.job refl)))))
 
 pub back_plain : (P : Entry → Type 0) (log : LogPlan) → ArePlain P (retirement log)
 back_plain P log = plain_on P (program phase.Mail log.first_mail) (removals log.ready.retire) (program_plain P phase.Mail log.first_mail) (removals_plain P log.ready.retire)

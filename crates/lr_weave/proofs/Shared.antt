@@ -19,7 +19,7 @@ use Rattle.lr_plan.specs.Internal.Asking.{CanMake}
 use Rattle.lr_rotations.specs.Calls.{CanCalls}
 use Rattle.lr_rotations.specs.Target.{Target, IsOneOf}
 use Rattle.lr_rotations.proofs.Alike.{Reads}
-use Rattle.lr_weave.specs.Fitting.{IsFit, AreFit, NoneMeets, DontMeet, AskNothing, ReadsNothing}
+use Rattle.lr_weave.specs.Fitting.{IsFit, AreFit, NoneMeets, DontMeet, ReadRemoved, ReadsNothing}
 use Rattle.lr_weave.specs.Parts.{changes_by, ArePlain}
 use Rattle.lr_weave.specs.Planned.{IsReadyFor, AreReadyFor}
 use Rattle.lr_weave.proofs.Parting.{went_changes, joined_changes}
@@ -82,31 +82,31 @@ fits_later o m t (x ∷ xs) n fits left f = (fit_later x fits.0 left (f x n.0), 
 
 -- ---- all rotations, and then the rest
 
-fronts_can : (rest : List Step) (o : Option Journal) (ts : List Target) (logs : List LogPlan) (gone : List Target) → AreReadyFor ts logs → AreFit o ts → DontMeet ts
+fronts_can : (rest : List Step) (o : Option Journal) (ts : List Target) (logs : List LogPlan) (gone : List Target) → AreReadyFor ts logs → ReadRemoved logs → AreFit o ts → DontMeet ts
     → ((d : Target) → IsOneOf d gone → (t : Target) → IsOneOf t ts → Meet d.log d.naming t.log t.naming → ⊥) → ((d : Target) → IsOneOf d gone → HasBack o d)
     → ((m : Option Journal) → ((x : Target) → IsOneOf x ts ⊎ IsOneOf x gone → HasBack m x) → CanMake m rest) → CanMake o (flat_map steps.rotation_of logs ++ rest)
-fronts_can rest o [] [] gone r fits dont apart done k = k o (λ x i. ⊎_elim (λ none. absurd none) (λ j. done x j) i)
-fronts_can rest o [] (log ∷ logs) gone r fits dont apart done k = absurd r
-fronts_can rest o (t ∷ ts) [] gone r fits dont apart done k = absurd r
-fronts_can rest o (t ∷ ts) (log ∷ logs) gone r fits dont apart done k =
+fronts_can rest o [] [] gone r q fits dont apart done k = k o (λ x i. ⊎_elim (λ none. absurd none) (λ j. done x j) i)
+fronts_can rest o [] (log ∷ logs) gone r q fits dont apart done k = absurd r
+fronts_can rest o (t ∷ ts) [] gone r q fits dont apart done k = absurd r
+fronts_can rest o (t ∷ ts) (log ∷ logs) gone r q fits dont apart done k =
     subst (CanMake o) (sym (append_assoc (steps.rotation_of log) (flat_map steps.rotation_of logs) rest))
-    (make_then (steps.rotation_of log) (flat_map steps.rotation_of logs ++ rest) (back_of t) (front_bare o t log fits.0.anew r.0)
+    (make_then (steps.rotation_of log) (flat_map steps.rotation_of logs ++ rest) (back_of t) (front_bare o t log fits.0.anew r.0 q.0)
     (subst (CanCalls o) (sym (ap (λ es. es ++ back_of t) (front_asks t log r.0) ∙ call_halves t)) fits.0.fits)
-    (λ m l can. fronts_can rest m ts logs (t ∷ gone) r.1
+    (λ m l can. fronts_can rest m ts logs (t ∷ gone) r.1 q.1
     (fits_later o m t ts dont.0 fits.1 l (λ x ne us w. subst (Each (Avoids (NamesOf x))) (sym (front_same t log us r.0 w)) (front_far o x t fits.0 ne))) dont.1
     (λ d j x i. ⊎_elim (λ is. subst (λ (z : Target). Meet z.log z.naming x.log x.naming → ⊥) is (turned_about x t (none_in t ts x dont.0 i))) (λ old. apart d old x (inr i)) j)
     (λ d j. ⊎_elim (λ is. subst (HasBack m) is (back_left o m t fits.0 can))
     (λ old. back_later d (done d old) l (λ us w. subst (Each (Avoids (NamesOf d))) (sym (front_same t log us r.0 w)) (front_far o d t fits.0 (apart d old t (inl refl))))) j)
-    (λ q h. k q (λ x i. h x (⊎_elim (λ a. ⊎_elim (λ is. inr (inl is)) (λ b. inl b) a) (λ j. inr (inr j)) i)))))
+    (λ n h. k n (λ x i. h x (⊎_elim (λ a. ⊎_elim (λ is. inr (inl is)) (λ b. inl b) a) (λ j. inr (inr j)) i)))))
 
-backs_can : (rest : List Step) (o : Option Journal) (ts : List Target) (logs : List LogPlan) → AreReadyFor ts logs → AskNothing logs → DontMeet ts → ((x : Target) → IsOneOf x ts → HasBack o x)
+backs_can : (rest : List Step) (o : Option Journal) (ts : List Target) (logs : List LogPlan) → AreReadyFor ts logs → ReadRemoved logs → DontMeet ts → ((x : Target) → IsOneOf x ts → HasBack o x)
     → ((m : Option Journal) → CanMake m rest) → CanMake o (flat_map steps.retirement_of logs ++ rest)
 backs_can rest o [] [] r q dont h k = k o
 backs_can rest o [] (log ∷ logs) r q dont h k = absurd r
 backs_can rest o (t ∷ ts) [] r q dont h k = absurd r
 backs_can rest o (t ∷ ts) (log ∷ logs) r q dont h k =
     subst (CanMake o) (sym (append_assoc (steps.retirement_of log) (flat_map steps.retirement_of logs) rest))
-    (can_on (steps.retirement_of log) (flat_map steps.retirement_of logs ++ rest) (can_make (steps.retirement_of log) (back_bare o t log r.0 q.0.no_mail) (subst (CanCalls o) (sym (back_asks t log r.0)) (h t (inl refl)).fits))
+    (can_on (steps.retirement_of log) (flat_map steps.retirement_of logs ++ rest) (can_make (steps.retirement_of log) (back_bare o t log r.0 q.0) (subst (CanCalls o) (sym (back_asks t log r.0)) (h t (inl refl)).fits))
     (λ m l. backs_can rest m ts logs r.1 q.1 dont.1
     (λ x i. back_later x (h x (inr i)) l (λ us w. subst (Each (Avoids (NamesOf x))) (sym (back_same t log us r.0 w)) ((h t (inl refl)).far_from x (none_in t ts x dont.0 i)))) k))
 
@@ -115,11 +115,11 @@ backs_can rest o (t ∷ ts) (log ∷ logs) r q dont h k =
 program_still : (p : _) (c : _) (us : List Entry) → AllSucceed (program p c) us → filter is_naming us ≡ []
 program_still p c us w = went_all (program p c) us (program_plain Anything p c) w ∙ program_none p c
 
-pub can_shared : (set : SetPlan) (ts : List Target) (o : Option Journal) → ReadsNothing set.first → ReadsNothing set.pre → ReadsNothing set.post → ReadsNothing set.last → AskNothing set.logs → AreReadyFor ts set.logs → AreFit o ts → DontMeet ts → CanMake o (shared_steps set)
+pub can_shared : (set : SetPlan) (ts : List Target) (o : Option Journal) → ReadsNothing set.first → ReadsNothing set.pre → ReadsNothing set.post → ReadsNothing set.last → ReadRemoved set.logs → AreReadyFor ts set.logs → AreFit o ts → DontMeet ts → CanMake o (shared_steps set)
 can_shared set ts o first pre post last q r fits dont =
     can_on (program phase.First set.first) _ (program_can phase.First set.first o first)
     (λ a la. can_on (program phase.Pre set.pre) _ (program_can phase.Pre set.pre a pre)
-    (λ b lb. fronts_can (program phase.Post set.post ++ (flat_map steps.retirement_of set.logs ++ program phase.Last set.last)) b ts set.logs [] r
+    (λ b lb. fronts_can (program phase.Post set.post ++ (flat_map steps.retirement_of set.logs ++ program phase.Last set.last)) b ts set.logs [] r q
     (unchanged ts (unchanged ts fits la (λ us w. program_still phase.First set.first us w)) lb (λ us w. program_still phase.Pre set.pre us w)) dont (λ d j t i. absurd j) (λ d j. absurd j)
     (λ c h. can_on (program phase.Post set.post) _ (program_can phase.Post set.post c post)
     (λ d ld. backs_can (program phase.Last set.last) d ts set.logs r q dont

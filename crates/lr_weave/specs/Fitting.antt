@@ -1,5 +1,6 @@
--- Logs whose rotations fit, and programs that ask for nothing.
+-- Logs whose rotations fit, and programs that read no file but the one that is removed next.
 use Rattle.std.specs.Prelude.{◌≡◌, List, [], ◌∷◌, Option, Some, None}
+use Rattle.lr_rules.specs.declared.path.Path.{Path}
 use Rattle.lr_rules.specs.Names.{Meet}
 use Rattle.lr_rules.specs.Path.{path_fault}
 use Rattle.lr_host.specs.declared.entry.Entry.TheVariants as entry
@@ -7,6 +8,7 @@ use Rattle.lr_host.specs.declared.journal.Journal.{Journal}
 use Rattle.lr_host.specs.Told.{Can}
 use Rattle.lr_host.specs.Lists.{IsIn}
 use Rattle.lr_scripts.specs.declared.command.Command.{Command}
+use Rattle.lr_scripts.specs.declared.removal.Removal.{Removal}
 use Rattle.lr_rotations.specs.Apart.{HasNames}
 use Rattle.lr_rotations.specs.Calls.{CanCalls, calls_of}
 use Rattle.lr_plan.specs.declared.planned.LogPlan.{LogPlan}
@@ -42,23 +44,35 @@ abbrev pub ReadsNothing : Option Command → Type 0
 ReadsNothing None = Unit {0}
 ReadsNothing (Some command) = command.input ≡ None
 
-pub record AsksNothing (log : LogPlan) : Type 0 where
+-- the program, where there is one, reads this file
+abbrev pub ReadsThis : Path → Option Command → Type 0
+ReadsThis file None = Unit {0}
+ReadsThis file (Some command) = command.input ≡ Some file
+
+-- of each removal: its preremove reads no file, and its mail reads the file that is removed
+abbrev pub ReadThemselves : List Removal → Type 0
+ReadThemselves [] = Unit {0}
+ReadThemselves (r ∷ rs) = ReadsNothing r.preremove × ReadsThis r.path r.mail × ReadThemselves rs
+
+pub record ReadsRemoved (log : LogPlan) : Type 0 where
   pub pre : ReadsNothing log.pre
   pub post : ReadsNothing log.post
   pub no_mail : log.first_mail ≡ None
+  pub leftovers : ReadThemselves log.ready.leftovers
+  pub retire : ReadThemselves log.ready.retire
 
-abbrev pub AskNothing : List LogPlan → Type 0
-AskNothing [] = Unit {0}
-AskNothing (log ∷ logs) = AsksNothing log × AskNothing logs
+abbrev pub ReadRemoved : List LogPlan → Type 0
+ReadRemoved [] = Unit {0}
+ReadRemoved (log ∷ logs) = ReadsRemoved log × ReadRemoved logs
 
--- None of the programs of the definition reads a file: it has scripts alone.
-pub record ReadsNoFile (set : SetPlan) : Type 0 where
+-- None of the programs of the definition reads a file but the mail of a removed one, which reads that.
+pub record SetReadsRemoved (set : SetPlan) : Type 0 where
   pub first : ReadsNothing set.first
   pub pre : ReadsNothing set.pre
   pub post : ReadsNothing set.post
   pub last : ReadsNothing set.last
-  pub logs : AskNothing set.logs
+  pub logs : ReadRemoved set.logs
 
-abbrev pub ReadNoFiles : List SetPlan → Type 0
-ReadNoFiles [] = Unit {0}
-ReadNoFiles (set ∷ sets) = ReadsNoFile set × ReadNoFiles sets
+abbrev pub ReadOnlyRemoved : List SetPlan → Type 0
+ReadOnlyRemoved [] = Unit {0}
+ReadOnlyRemoved (set ∷ sets) = SetReadsRemoved set × ReadOnlyRemoved sets

@@ -1,15 +1,25 @@
 -- Plans whose logs are those that were seen, each with its rotation ready.
-use Rattle.std.specs.Prelude.{◌≡◌, ◌≢◌, List, [], ◌∷◌}
+use Rattle.std.specs.Prelude.{◌≡◌, ◌≢◌, List, [], ◌∷◌, map, None}
 use Rattle.lr_rules.specs.declared.path.Path.{Path}
+use Rattle.lr_scripts.specs.declared.removal.Removal.{Removal}
+use Rattle.lr_chain.specs.declared.ready.Ready.{Ready}
+use Rattle.lr_plan.specs.Planned.{with_removals}
 use Rattle.lr_plan.specs.declared.planned.LogPlan.{LogPlan}
 use Rattle.lr_plan.specs.declared.planned.SetPlan.{SetPlan}
 use Rattle.lr_rotations.specs.Target.{Target, HasReady, HasJob}
 
--- The rotation of the log is ready, and its copy, where it is copied; and they are what the plan does with it.
+-- the unlink of a file alone, without the programs before it; and a rotation with such removals
+abbrev pub bare_removal : Removal → Removal
+bare_removal r = record { path = r.path; preremove = None; mail = None }
+
+abbrev pub bare : Ready → Ready
+bare ready = with_removals (map bare_removal ready.leftovers) (map bare_removal ready.retire) ready
+
+-- The rotation of the log is ready, and its copy, where it is copied; and they are what the plan does with it, besides the programs.
 pub record IsReadyFor (t : Target) (log : LogPlan) : Type 0 where
   pub ready : HasReady t
   pub job : HasJob t
-  pub ready_is : log.ready ≡ t.ready
+  pub ready_is : bare log.ready ≡ t.ready
   pub job_is : log.job ≡ t.job
 
 abbrev pub AreReadyFor : List Target → List LogPlan → Type 0

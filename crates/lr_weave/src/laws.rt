@@ -19,7 +19,7 @@ ghost use Rattle.lr_plan.specs.Internal.Cut.{SetsCut};
 ghost use Rattle.lr_rotations.specs.AllTurns.{AllTurns, AllTurned};
 ghost use Rattle.lr_rotations.specs.Apart.{HaveNames};
 ghost use Rattle.lr_rotations.specs.Target.{Target, AreSeen};
-ghost use Rattle.lr_weave.specs.Fitting.{AreFit, HaveLogPaths, ReadNoFiles, DontMeet};
+ghost use Rattle.lr_weave.specs.Fitting.{AreFit, HaveLogPaths, ReadOnlyRemoved, DontMeet};
 ghost use Rattle.lr_weave.specs.Parts.{ArePlanned};
 ghost use Rattle.lr_weave.specs.Planned.{HaveLogs, AreApart};
 
@@ -50,9 +50,9 @@ pub fn seen_is_fit()
 {}
 
 /// Where the rotation of each log fits by itself, and no two logs meet, the steps of all fit, wherever those before them
-/// ended: of definitions whose programs read no file, with scripts shared or single.
+/// ended: of definitions whose programs read no file but the one that is removed next, with scripts shared or single.
 pub fn ready_can_be_made()
-    ensures { (told : Option Journal) (groups : List (List Target)) (sets : List SetPlan) → HaveLogs groups sets → ReadNoFiles sets
+    ensures { (told : Option Journal) (groups : List (List Target)) (sets : List SetPlan) → HaveLogs groups sets → ReadOnlyRemoved sets
         → AreFit told (flat_map (λ ts. ts) groups) → DontMeet (flat_map (λ ts. ts) groups) → CanSets told (map steps_of_set sets) }
 {}
 

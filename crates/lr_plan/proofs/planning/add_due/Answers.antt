@@ -14,7 +14,7 @@ add_plan-requires-clause-ready c = ready_is c.args.rule.now c.args.look.now c.in
 pub returns-in-Ok-clause-plans : goal.returns-in-Ok-clause-plans
 returns-in-Ok-clause-plans c = where_ok c.add_plan.result c.add_plan.ensures
     (λ added. added ∙ ap (λ (xs : List LogPlan). c.args.plans.now.items ++ xs)
-    (plans_there c.args.rule.now c.args.look.now
+    (plans_there c.args.mailer.now c.args.rule.now c.args.look.now
     (ready_unhindered c.args.rule.now c.args.look.now c.prepare.result c.in-Ok.ready c.requires.look.named c.in-Ok.is c.prepare.ensures.no_dir c.prepare.ensures.too_high)))
 
 pub returns-in-Ok-clause-faults : goal.returns-in-Ok-clause-faults
@@ -25,7 +25,7 @@ returns-in-Ok-clause-faults c = where_ok c.add_plan.result c.add_plan.ensures
 pub returns-in_ok-push-in-Err-clause-plans : goal.returns-in_ok-push-in-Err-clause-plans
 returns-in_ok-push-in-Err-clause-plans c =
     sym (append-nil c.args.plans.now.items) ∙ ap (λ (xs : List LogPlan). c.args.plans.now.items ++ xs)
-    (sym (plans_none c.args.rule.now c.args.look.now c.in_ok-hindrance-in-Err.field-0
+    (sym (plans_none c.args.mailer.now c.args.rule.now c.args.look.now c.in_ok-hindrance-in-Err.field-0
     (stop_hinders c.args.rule.now c.args.look.now c.prepare.result c.in-Err.stop c.in_ok-hindrance-in-Err.field-0 c.requires.look.named c.in-Err.is (sym c.in_ok-hindrance-in-Err.was ∙ c.hindrance.ensures)
     c.prepare.ensures.no_dir c.prepare.ensures.too_high c.prepare.ensures.taken)))
 
