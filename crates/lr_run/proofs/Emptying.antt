@@ -1,5 +1,5 @@
 -- Each log that a run empties it copied whole just before, by a copy that one of its rules asks for.
-use Rattle.std.proofs.Common.{◌≡◌, ◌⊎◌, inl, inr, ⊎_elim, ℕ, ◌+◌, arith, Bool, true, false, List, [], ◌∷◌, ◌++◌, Option, Some, None, Result, Ok, Err, slice_get, refl, sym, ap, ◌∙◌, subst}
+use Rattle.std.proofs.Common.{◌≡◌, ◌⊎◌, inl, inr, ⊎_elim, ℕ, ◌+◌, arith, true, false, List, [], ◌∷◌, ◌++◌, Option, Some, None, Result, Ok, Err, slice_get, refl, sym, ap, ◌∙◌, subst}
 use Rattle.std.specs.Prelude.{Contains}
 use Rattle.std.specs.List.{flat_map}
 use Rattle.std.proofs.lemmas.List.{append-nil}
@@ -25,6 +25,7 @@ use Rattle.lr_kept.proofs.Elements.{same_read}
 use Rattle.lr_due.specs.declared.answer.Due.{Due}
 use Rattle.lr_copy.specs.declared.job.Job.{Job}
 use Rattle.lr_chain.specs.Rotation.{places_of}
+use Rattle.lr_plan.specs.Asked.{Asked}
 use Rattle.lr_plan.specs.declared.looks.LogLook.{LogLook}
 use Rattle.lr_plan.specs.declared.looks.SetLooks.{SetLooks}
 use Rattle.lr_plan.specs.declared.planned.LogPlan.{LogPlan}
@@ -142,9 +143,9 @@ seen_one rules looks t (u ∷ us) s (inl e) = subst (IsSeen rules looks) e s.0
 seen_one rules looks t (u ∷ us) s (inr i) = seen_one rules looks t us s.1 i
 
 -- a copy of a plan that empties its log is one that a rule asks for
-is_copy : {reserved : List Path} (rules : Rules) (sets : List SetLooks) (faults : List Fault) (ts : List Entry) (decide : Rule → LogLook → Due) → AreBuiltRules rules.sets → ShowsLooks reserved rules.sets sets faults ts
-    → (job : Job) → IsIn job (jobs_of (all_plans decide rules.sets sets)) → job.cut ≡ true → IsCopyBy rules.sets job
-is_copy rules sets faults ts decide built s job i cut = record {
+is_copy : {reserved : List Path} (rules : Rules) (sets : List SetLooks) (faults : List Fault) (ts : List Entry) (mailer : Path) (decide : Rule → LogLook → Due) → AreBuiltRules rules.sets → ShowsLooks reserved rules.sets sets faults ts
+    → (job : Job) → IsIn job (jobs_of (all_plans mailer decide rules.sets sets)) → job.cut ≡ true → IsCopyBy rules.sets job
+is_copy rules sets faults ts mailer decide built s job i cut = record {
   rule = r.rule;
   among = r.among;
   way_is = cut_way r.rule r.look job (r.job_is ∙ o.is) cut;
@@ -156,7 +157,7 @@ is_copy rules sets faults ts decide built s job i cut = record {
 }
   where
     o : IsOfTarget (all_targets decide rules.sets sets) job
-    o = of_groups (groups_of decide rules.sets sets) (all_plans decide rules.sets sets) job (plans_have_logs rules.sets sets faults ts decide built s) i
+    o = of_groups (groups_of decide rules.sets sets) (all_plans mailer decide rules.sets sets) job (plans_have_logs rules.sets sets faults ts mailer decide built s) i
 
     t : Target
     t = o.target
@@ -189,7 +190,7 @@ copied_as P Q f ts e = λ before log after is. let c = e before log after is in 
   is_named = c.is_named;
 }
 
-module _ (state : Path) (rules : Rules) (now : Moment) (force : Bool) (built : AreBuiltRules rules.sets) where
+module _ (state : Path) (rules : Rules) (now : Moment) (asked : Asked) (built : AreBuiltRules rules.sets) where
   abbrev P : Job → Type 0
   P = IsCopyBy rules.sets
 
@@ -198,27 +199,27 @@ module _ (state : Path) (rules : Rules) (now : Moment) (force : Bool) (built : A
 
   module _ (ts : List Entry) (l : Looked state rules.sets ts) where
     abbrev planned : Plan
-    planned = plan_in state rules.sets ts l now force
+    planned = plan_in state rules.sets ts l now asked
 
     abbrev Planned : Job → Type 0
     Planned = IsJobIn (jobs_of planned.sets)
 
     acts_copied : (acts : List Entry) → EmptiesCopied Planned acts → EmptiesCopied P ((l.reads ++ l.looks) ++ acts)
     acts_copied acts e = both_empty P (l.reads ++ l.looks) acts (quiet_none (l.reads ++ l.looks) (seen_quiet state rules.sets ts l))
-        (copied_as Planned P (λ job i cut. is_copy rules l.sets l.of_looks l.looks (decision l.remembered.table now force) built l.shown job i cut) acts e)
+        (copied_as Planned P (λ job i cut. is_copy rules l.sets l.of_looks l.looks asked.mailer (decision l.remembered.table now asked.force) built l.shown job i cut) acts e)
 
-  worked_copied : (own : List Fault) (ts : List Entry) → Worked state rules.sets now force own ts → EmptiesCopied P ts
-  worked_copied own ts w = same_empties P (((w.looked.reads ++ w.looked.looks) ++ w.acted.entries.entries.front) ++ w.acted.entries.entries.back) ts (in_parts state rules.sets now force own ts w)
+  worked_copied : (own : List Fault) (ts : List Entry) → Worked state rules.sets now asked own ts → EmptiesCopied P ts
+  worked_copied own ts w = same_empties P (((w.looked.reads ++ w.looked.looks) ++ w.acted.entries.entries.front) ++ w.acted.entries.entries.back) ts (in_parts state rules.sets now asked own ts w)
       (both_empty P ((w.looked.reads ++ w.looked.looks) ++ w.acted.entries.entries.front) w.acted.entries.entries.back
       (acts_copied ts w.looked w.acted.entries.entries.front (sets_copying (Planned ts w.looked) (steps_of_plan (planned ts w.looked)) (plan_copied (Planned ts w.looked) (planned ts w.looked).sets (λ job i. i)) w.acted.marks w.acted.entries.of_plan w.acted.entries.entries.front w.acted.entries.entries.first))
       (state_copying P state w.looked.remembered.stale w.acted.dirs _ [] w.acted.entries.of_state w.acted.entries.entries.back w.acted.entries.entries.second))
 
-  works_copied : (plan : Option Plan) (own : List Fault) (ts : List Entry) → Works state rules.sets now force plan own ts → EmptiesCopied P ts
+  works_copied : (plan : Option Plan) (own : List Fault) (ts : List Entry) → Works state rules.sets now asked plan own ts → EmptiesCopied P ts
   works_copied plan own ts (not_known sights f known lost is shown) = quiet_none ts (state_quiet state 65_536 sights ts shown)
   works_copied plan own ts (too_big l big lost is none) = quiet_none ts (subst AreQuiet (sym (l.joined ∙ (ap (λ xs. l.reads ++ (l.looks ++ xs)) none ∙ ap (λ xs. l.reads ++ xs) (append-nil l.looks)))) (seen_quiet state rules.sets ts l))
   works_copied plan own ts (worked w is) = worked_copied own ts w
 
-  broke_copied : (ts : List Entry) → BrokeOff state rules.sets now force ts → EmptiesCopied P ts
+  broke_copied : (ts : List Entry) → BrokeOff state rules.sets now asked ts → EmptiesCopied P ts
   broke_copied ts b = same_empties P ((b.looked.reads ++ b.looked.looks) ++ b.looked.acts) ts (looked_parts state rules.sets ts b.looked)
       (acts_copied ts b.looked b.looked.acts (sets_cut_copying (Planned ts b.looked) (steps_of_plan (planned ts b.looked)) (plan_copied (Planned ts b.looked) (planned ts b.looked).sets (λ job i. i)) b.marks b.of_acts b.looked.acts b.part))
 
@@ -229,7 +230,7 @@ module _ (state : Path) (rules : Rules) (now : Moment) (force : Bool) (built : A
       (both_empty P (entry.Starts state now rules ∷ []) (between ++ entry.Ends ∷ []) (none_empties P (entry.Starts state now rules ∷ []) (tt, tt))
       (both_empty P between (entry.Ends ∷ []) c (none_empties P (entry.Ends ∷ []) (tt, tt)))))
 
-  pub runs_copied : (plan : Option Plan) (own : List Fault) (ts : List Entry) → Runs state force now rules plan own ts → EmptiesCopied P ts
+  pub runs_copied : (plan : Option Plan) (own : List Fault) (ts : List Entry) → Runs state asked now rules plan own ts → EmptiesCopied P ts
   runs_copied plan own ts (no_directory lost e s) = quiet_none ts (sees_quiet (parent_of state) _ ts s)
   runs_copied plan own ts (not_seen lost e s) = quiet_none ts (subst AreQuiet (sym s) tt)
   runs_copied plan own ts (not_begun lost e t) = same_empties P (t.front ++ t.back) ts t.joined (both_empty P t.front t.back (quiet_none t.front (sees_quiet (parent_of state) IsDir t.front t.first)) (go t.second))
@@ -239,7 +240,7 @@ module _ (state : Path) (rules : Rules) (now : Moment) (force : Bool) (built : A
       go (inr one) = same_empties P (entry.Starts state now rules ∷ []) t.back one (none_empties P (entry.Starts state now rules ∷ []) (tt, tt))
   runs_copied plan own ts (runs.began i) = within i.before i.between ts i.entries (sees_quiet (parent_of state) IsDir i.before i.directory) (works_copied plan own i.between i.within)
 
-  pub answers_copied : (earlier : List Fault) (r : Result Ran RunStop) (ts : List Entry) → Answers state false force now rules earlier r ts → EmptiesCopied P ts
+  pub answers_copied : (earlier : List Fault) (r : Result Ran RunStop) (ts : List Entry) → Answers state false asked now rules earlier r ts → EmptiesCopied P ts
   answers_copied earlier (Ok ran) ts h = runs_copied ran.plan h.0 ts h.2
   answers_copied earlier (Err stop.Held) ts h = quiet_none ts (sees_quiet (parent_of state) IsDir ts h)
   answers_copied earlier (Err stop.Memory) ts (at_first e) = quiet_none ts (subst AreQuiet (sym e) tt)
@@ -251,5 +252,5 @@ module _ (state : Path) (rules : Rules) (now : Moment) (force : Bool) (built : A
 pub left_copied : (rules : List Rule) (R : List Entry → Type 0) {o n : Option Journal} → Left R o n → ((ts : List Entry) → R ts → EmptiesCopied (IsCopyBy rules) ts) → EmptiesWhole (IsCopyBy rules) o n
 left_copied rules R l f = empties_whole (IsCopyBy rules) (λ job copy. copy.paths) (left_as l f)
 
-pub run_copied : (state : Path) (force : Bool) (now : Moment) (rules : Rules) (earlier : List Fault) (r : Result Ran RunStop) {o n : Option Journal} → AreBuiltRules rules.sets → Left (Answers state false force now rules earlier r) o n → EmptiesWhole (IsCopyBy rules.sets) o n
-run_copied state force now rules earlier r built l = left_copied rules.sets (Answers state false force now rules earlier r) l (λ ts h. answers_copied state rules now force built earlier r ts h)
+pub run_copied : (state : Path) (asked : Asked) (now : Moment) (rules : Rules) (earlier : List Fault) (r : Result Ran RunStop) {o n : Option Journal} → AreBuiltRules rules.sets → Left (Answers state false asked now rules earlier r) o n → EmptiesWhole (IsCopyBy rules.sets) o n
+run_copied state asked now rules earlier r built l = left_copied rules.sets (Answers state false asked now rules earlier r) l (λ ts h. answers_copied state rules now asked built earlier r ts h)

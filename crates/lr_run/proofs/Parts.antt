@@ -17,6 +17,7 @@ use Rattle.lr_host.specs.declared.thing.Seen.{Seen}
 use Rattle.lr_host.specs.Looks.{Sees, IsDir, IsNoDir, IsNothing, IsNotDir}
 use Rattle.lr_host.specs.Told.{DidWhere, Left, Then, Are}
 use Rattle.lr_host.proofs.Left.{left_as, left_then}
+use Rattle.lr_plan.specs.Asked.{Asked}
 use Rattle.lr_plan.specs.declared.planned.Plan.{Plan}
 use Rattle.lr_run.specs.declared.answer.Ran.{Ran}
 use Rattle.lr_run.specs.declared.answer.RunStop.{RunStop}
@@ -31,22 +32,22 @@ use Rattle.lr_run.specs.Runs as runs
 pub began : (state : Path) (now : Moment) (rules : Rules) (b : Bool) {o n : Option Journal} → b ≡ true → Left (DidWhere {E = CallFault} (Ok b) (Starts state now rules)) o n → Left (Are (Starts state now rules ∷ [])) o n
 began state now rules b e l = left_as l (λ ts h. subst (λ (x : Bool). DidWhere {E = CallFault} (Ok x) (Starts state now rules) ts) e h)
 
-pub locked : (state : Path) (force : Bool) (now : Moment) (rules : Rules) (b : Bool) {o n : Option Journal} → b ≡ false → Left (DidWhere {E = CallFault} (Ok b) (Starts state now rules)) o n → Left (Stopped state force now rules stop.Held) o n
-locked state force now rules b e l = left_as l (λ ts h. subst (λ (x : Bool). DidWhere {E = CallFault} (Ok x) (Starts state now rules) ts) e h)
+pub locked : (state : Path) (asked : Asked) (now : Moment) (rules : Rules) (b : Bool) {o n : Option Journal} → b ≡ false → Left (DidWhere {E = CallFault} (Ok b) (Starts state now rules)) o n → Left (Stopped state asked now rules stop.Held) o n
+locked state asked now rules b e l = left_as l (λ ts h. subst (λ (x : Bool). DidWhere {E = CallFault} (Ok x) (Starts state now rules) ts) e h)
 
 -- ---- between the begin and the end
 
 begins : (state : Path) (now : Moment) (rules : Rules) (P : List Entry → Type 0) (ts us vs : List Entry) → ts ≡ Starts state now rules ∷ [] → P us → vs ≡ Ends ∷ [] → Begun state now rules P (ts ++ (us ++ vs))
 begins state now rules P ts us vs a p b = record { between = us; entries = ap (λ xs. xs ++ (us ++ vs)) a ∙ ap (λ xs. Starts state now rules ∷ (us ++ xs)) b; within = p }
 
-pub goes : (state : Path) (force : Bool) (now : Moment) (rules : Rules) (plan : Option Plan) (a b : List Fault) {o m n : Option Journal} → Left (Are (Starts state now rules ∷ [])) o m → Left (Then (WorksOn state rules.sets now force plan a b) (Are (Ends ∷ []))) m n → Left (Goes state force now rules plan a b) o n
-goes state force now rules plan a b l k = left_then l k (λ ts us p q. begun (subst (λ (xs : List Entry). Begun state now rules (WorksOn state rules.sets now force plan a b) (ts ++ xs)) (sym q.joined) (begins state now rules (WorksOn state rules.sets now force plan a b) ts q.front q.back p q.first q.second)))
+pub goes : (state : Path) (asked : Asked) (now : Moment) (rules : Rules) (plan : Option Plan) (a b : List Fault) {o m n : Option Journal} → Left (Are (Starts state now rules ∷ [])) o m → Left (Then (WorksOn state rules.sets now asked plan a b) (Are (Ends ∷ []))) m n → Left (Goes state asked now rules plan a b) o n
+goes state asked now rules plan a b l k = left_then l k (λ ts us p q. begun (subst (λ (xs : List Entry). Begun state now rules (WorksOn state rules.sets now asked plan a b) (ts ++ xs)) (sym q.joined) (begins state now rules (WorksOn state rules.sets now asked plan a b) ts q.front q.back p q.first q.second)))
 
-pub lacks : (state : Path) (force : Bool) (now : Moment) (rules : Rules) {o m n : Option Journal} → Left (Are (Starts state now rules ∷ [])) o m → Left (Then (SomeWork state rules.sets now force) (Are (Ends ∷ []))) m n → Left (Stopped state force now rules stop.Memory) o n
-lacks state force now rules l k = left_then l k (λ ts us p q. subst (λ (xs : List Entry). Begun state now rules (SomeWork state rules.sets now force) (ts ++ xs)) (sym q.joined) (begins state now rules (SomeWork state rules.sets now force) ts q.front q.back p q.first q.second))
+pub lacks : (state : Path) (asked : Asked) (now : Moment) (rules : Rules) {o m n : Option Journal} → Left (Are (Starts state now rules ∷ [])) o m → Left (Then (SomeWork state rules.sets now asked) (Are (Ends ∷ []))) m n → Left (Stopped state asked now rules stop.Memory) o n
+lacks state asked now rules l k = left_then l k (λ ts us p q. subst (λ (xs : List Entry). Begun state now rules (SomeWork state rules.sets now asked) (ts ++ xs)) (sym q.joined) (begins state now rules (SomeWork state rules.sets now asked) ts q.front q.back p q.first q.second))
 
-pub goes_not : (state : Path) (force : Bool) (now : Moment) (rules : Rules) (plan : Option Plan) (name : Path) (a b : List Fault) {o n : Option Journal} → plan ≡ None → name ≡ state → b ≡ a ++ fault.Call call.Begin name ∷ [] → Left (λ ts. (ts ≡ []) ⊎ (ts ≡ Starts state now rules ∷ [])) o n → Left (Goes state force now rules plan a b) o n
-goes_not state force now rules plan name a b none e f l = left_as l (λ ts h. not_begun none (f ∙ ap (λ (x : Path). a ++ fault.Call call.Begin x ∷ []) e) h)
+pub goes_not : (state : Path) (asked : Asked) (now : Moment) (rules : Rules) (plan : Option Plan) (name : Path) (a b : List Fault) {o n : Option Journal} → plan ≡ None → name ≡ state → b ≡ a ++ fault.Call call.Begin name ∷ [] → Left (λ ts. (ts ≡ []) ⊎ (ts ≡ Starts state now rules ∷ [])) o n → Left (Goes state asked now rules plan a b) o n
+goes_not state asked now rules plan name a b none e f l = left_as l (λ ts h. not_begun none (f ∙ ap (λ (x : Path). a ++ fault.Call call.Begin x ∷ []) e) h)
 
 -- ---- behind the look at the state's directory
 
@@ -56,25 +57,25 @@ inside state now rules P ts us s b = record { before = ts; between = b.between; 
 inside_as : (state : Path) (now : Moment) (rules : Rules) (P Q : List Entry → Type 0) (ts : List Entry) → (i : runs.Inside state now rules P ts) → Q i.between → runs.Inside state now rules Q ts
 inside_as state now rules P Q ts i q = record { before = i.before; between = i.between; entries = i.entries; directory = i.directory; within = q }
 
-runs_on : (state : Path) (force : Bool) (now : Moment) (rules : Rules) (plan : Option Plan) (a b : List Fault) (ts us : List Entry) → Sees (parent_of state) IsDir ts → Goes state force now rules plan a b us → RunsOn state force now rules plan a b (ts ++ us)
-runs_on state force now rules plan a b ts us s (begun g) = (g.within.0, g.within.1, runs.began (inside_as state now rules (WorksOn state rules.sets now force plan a b) (runs.Works state rules.sets now force plan g.within.0) (ts ++ us) (inside state now rules (WorksOn state rules.sets now force plan a b) ts us s g) g.within.2))
-runs_on state force now rules plan a b ts us s (not_begun none e m) = (fault.Call call.Begin state ∷ [], e, runs.not_begun none refl (record { front = ts; back = us; joined = refl; first = s; second = m }))
+runs_on : (state : Path) (asked : Asked) (now : Moment) (rules : Rules) (plan : Option Plan) (a b : List Fault) (ts us : List Entry) → Sees (parent_of state) IsDir ts → Goes state asked now rules plan a b us → RunsOn state asked now rules plan a b (ts ++ us)
+runs_on state asked now rules plan a b ts us s (begun g) = (g.within.0, g.within.1, runs.began (inside_as state now rules (WorksOn state rules.sets now asked plan a b) (runs.Works state rules.sets now asked plan g.within.0) (ts ++ us) (inside state now rules (WorksOn state rules.sets now asked plan a b) ts us s g) g.within.2))
+runs_on state asked now rules plan a b ts us s (not_begun none e m) = (fault.Call call.Begin state ∷ [], e, runs.not_begun none refl (record { front = ts; back = us; joined = refl; first = s; second = m }))
 
-pub behind_dir : (state : Path) (force : Bool) (now : Moment) (rules : Rules) (plan : Option Plan) (dir : Path) (a b : List Fault) {T E : Type 0} (r : Result T E) {o m : Option Journal} (n : Option Journal) → dir ≡ parent_of state → Left (Sees dir IsDir) o m → OnOk r (Left (Goes state force now rules plan a b) m n) → OnOk r (Left (RunsOn state force now rules plan a b) o n)
-behind_dir state force now rules plan dir a b (Ok x) n e l k = left_then l k (λ ts us p q. runs_on state force now rules plan a b ts us (subst (λ (x : Path). Sees x IsDir ts) e p) q)
-behind_dir state force now rules plan dir a b (Err x) n e l k = tt
+pub behind_dir : (state : Path) (asked : Asked) (now : Moment) (rules : Rules) (plan : Option Plan) (dir : Path) (a b : List Fault) {T E : Type 0} (r : Result T E) {o m : Option Journal} (n : Option Journal) → dir ≡ parent_of state → Left (Sees dir IsDir) o m → OnOk r (Left (Goes state asked now rules plan a b) m n) → OnOk r (Left (RunsOn state asked now rules plan a b) o n)
+behind_dir state asked now rules plan dir a b (Ok x) n e l k = left_then l k (λ ts us p q. runs_on state asked now rules plan a b ts us (subst (λ (x : Path). Sees x IsDir ts) e p) q)
+behind_dir state asked now rules plan dir a b (Err x) n e l k = tt
 
-lacked : (state : Path) (force : Bool) (now : Moment) (rules : Rules) (ts : List Entry) → (i : runs.Inside state now rules (SomeWork state rules.sets now force) ts) → SomeWork state rules.sets now force i.between → runs.LacksMemory state force now rules ts
-lacked state force now rules ts i (some_seen s) = runs.in_looks (inside_as state now rules (SomeWork state rules.sets now force) (runs.SomeSeen state rules.sets) ts i s)
-lacked state force now rules ts i (some_done b) = runs.in_acts (inside_as state now rules (SomeWork state rules.sets now force) (runs.BrokeOff state rules.sets now force) ts i b)
+lacked : (state : Path) (asked : Asked) (now : Moment) (rules : Rules) (ts : List Entry) → (i : runs.Inside state now rules (SomeWork state rules.sets now asked) ts) → SomeWork state rules.sets now asked i.between → runs.LacksMemory state asked now rules ts
+lacked state asked now rules ts i (some_seen s) = runs.in_looks (inside_as state now rules (SomeWork state rules.sets now asked) (runs.SomeSeen state rules.sets) ts i s)
+lacked state asked now rules ts i (some_done b) = runs.in_acts (inside_as state now rules (SomeWork state rules.sets now asked) (runs.BrokeOff state rules.sets now asked) ts i b)
 
-stops : (state : Path) (force : Bool) (now : Moment) (rules : Rules) (why : RunStop) (ts us : List Entry) → Sees (parent_of state) IsDir ts → Stopped state force now rules why us → StopsSo state force now rules why (ts ++ us)
-stops state force now rules stop.Held ts us s h = subst (Sees (parent_of state) IsDir) (sym (ap (λ xs. ts ++ xs) h ∙ append-nil ts)) s
-stops state force now rules stop.Memory ts us s h = let i = inside state now rules (SomeWork state rules.sets now force) ts us s h in lacked state force now rules (ts ++ us) i i.within
+stops : (state : Path) (asked : Asked) (now : Moment) (rules : Rules) (why : RunStop) (ts us : List Entry) → Sees (parent_of state) IsDir ts → Stopped state asked now rules why us → StopsSo state asked now rules why (ts ++ us)
+stops state asked now rules stop.Held ts us s h = subst (Sees (parent_of state) IsDir) (sym (ap (λ xs. ts ++ xs) h ∙ append-nil ts)) s
+stops state asked now rules stop.Memory ts us s h = let i = inside state now rules (SomeWork state rules.sets now asked) ts us s h in lacked state asked now rules (ts ++ us) i i.within
 
-pub stopped_behind : (state : Path) (force : Bool) (now : Moment) (rules : Rules) (dir : Path) {T : Type 0} (r : Result T RunStop) {o m : Option Journal} (n : Option Journal) → dir ≡ parent_of state → Left (Sees dir IsDir) o m → IfErr r (λ why. Left (Stopped state force now rules why) m n) → IfErr r (λ why. Left (StopsSo state force now rules why) o n)
-stopped_behind state force now rules dir (Ok x) n e l k = tt
-stopped_behind state force now rules dir (Err why) n e l k = left_then l k (λ ts us p q. stops state force now rules why ts us (subst (λ (x : Path). Sees x IsDir ts) e p) q)
+pub stopped_behind : (state : Path) (asked : Asked) (now : Moment) (rules : Rules) (dir : Path) {T : Type 0} (r : Result T RunStop) {o m : Option Journal} (n : Option Journal) → dir ≡ parent_of state → Left (Sees dir IsDir) o m → IfErr r (λ why. Left (Stopped state asked now rules why) m n) → IfErr r (λ why. Left (StopsSo state asked now rules why) o n)
+stopped_behind state asked now rules dir (Ok x) n e l k = tt
+stopped_behind state asked now rules dir (Err why) n e l k = left_then l k (λ ts us p q. stops state asked now rules why ts us (subst (λ (x : Path). Sees x IsDir ts) e p) q)
 
 -- the directory wasn't seen as one
 other_seen : (look : Option Seen) → IsNoDir look → IsNotDir look
@@ -84,16 +85,16 @@ other_seen (Some seen) h = h
 no_directory_at : (state x : Path) (P : Option Seen → Type 0) (ts : List Entry) → x ≡ parent_of state → ((look : Option Seen) → P look → IsNotDir look) → Sees x P ts → Sees (parent_of state) IsNotDir ts
 no_directory_at state x P ts e f h = subst (λ (y : Path). Sees y IsNotDir ts) e (record { seen = h.seen; is = f h.seen h.is; look = h.look })
 
-pub no_dir : (state : Path) (force : Bool) (now : Moment) (rules : Rules) (plan : Option Plan) (why : DirStop) (x : Path) (a b : List Fault) {o n : Option Journal} → plan ≡ None → x ≡ parent_of state → b ≡ a ++ dir_fault_of why x ∷ [] → Left (NotSeen x why) o n → Left (RunsOn state force now rules plan a b) o n
-no_dir state force now rules plan dir.Nothing x a b none e is l = left_as l (λ ts h. (fault.NoDir (parent_of state) ∷ [], is ∙ ap (λ (y : Path). a ++ fault.NoDir y ∷ []) e, runs.no_directory none refl (no_directory_at state x IsNothing ts e (λ look h. subst IsNotDir (sym h) tt) h)))
-no_dir state force now rules plan dir.NoDir x a b none e is l = left_as l (λ ts h. (fault.NoDir (parent_of state) ∷ [], is ∙ ap (λ (y : Path). a ++ fault.NoDir y ∷ []) e, runs.no_directory none refl (no_directory_at state x IsNoDir ts e other_seen h)))
-no_dir state force now rules plan dir.Call x a b none e is l = left_as l (λ ts h. (fault.Call call.Look (parent_of state) ∷ [], is ∙ ap (λ (y : Path). a ++ fault.Call call.Look y ∷ []) e, runs.not_seen none refl h))
+pub no_dir : (state : Path) (asked : Asked) (now : Moment) (rules : Rules) (plan : Option Plan) (why : DirStop) (x : Path) (a b : List Fault) {o n : Option Journal} → plan ≡ None → x ≡ parent_of state → b ≡ a ++ dir_fault_of why x ∷ [] → Left (NotSeen x why) o n → Left (RunsOn state asked now rules plan a b) o n
+no_dir state asked now rules plan dir.Nothing x a b none e is l = left_as l (λ ts h. (fault.NoDir (parent_of state) ∷ [], is ∙ ap (λ (y : Path). a ++ fault.NoDir y ∷ []) e, runs.no_directory none refl (no_directory_at state x IsNothing ts e (λ look h. subst IsNotDir (sym h) tt) h)))
+no_dir state asked now rules plan dir.NoDir x a b none e is l = left_as l (λ ts h. (fault.NoDir (parent_of state) ∷ [], is ∙ ap (λ (y : Path). a ++ fault.NoDir y ∷ []) e, runs.no_directory none refl (no_directory_at state x IsNoDir ts e other_seen h)))
+no_dir state asked now rules plan dir.Call x a b none e is l = left_as l (λ ts h. (fault.Call call.Look (parent_of state) ∷ [], is ∙ ap (λ (y : Path). a ++ fault.Call call.Look y ∷ []) e, runs.not_seen none refl h))
 
 -- ---- the whole run
 
-pub ran_so : (state : Path) (force : Bool) (now : Moment) (rules : Rules) (earlier first : List Fault) (ran : Ran) {o n : Option Journal} → first ≡ earlier → Left (RunsOn state force now rules ran.plan first ran.faults.items) o n → Left (Answers state false force now rules earlier (Ok ran)) o n
-ran_so state force now rules earlier first ran e l = left_as l (λ ts h. (h.0, h.1 ∙ ap (λ (fs : List Fault). fs ++ h.0) e, h.2))
+pub ran_so : (state : Path) (asked : Asked) (now : Moment) (rules : Rules) (earlier first : List Fault) (ran : Ran) {o n : Option Journal} → first ≡ earlier → Left (RunsOn state asked now rules ran.plan first ran.faults.items) o n → Left (Answers state false asked now rules earlier (Ok ran)) o n
+ran_so state asked now rules earlier first ran e l = left_as l (λ ts h. (h.0, h.1 ∙ ap (λ (fs : List Fault). fs ++ h.0) e, h.2))
 
-pub stopped_so : (state : Path) (force : Bool) (now : Moment) (rules : Rules) (earlier : List Fault) (why : RunStop) {o n : Option Journal} → Left (StopsSo state force now rules why) o n → Left (Answers state false force now rules earlier (Err why)) o n
-stopped_so state force now rules earlier stop.Held l = l
-stopped_so state force now rules earlier stop.Memory l = l
+pub stopped_so : (state : Path) (asked : Asked) (now : Moment) (rules : Rules) (earlier : List Fault) (why : RunStop) {o n : Option Journal} → Left (StopsSo state asked now rules why) o n → Left (Answers state false asked now rules earlier (Err why)) o n
+stopped_so state asked now rules earlier stop.Held l = l
+stopped_so state asked now rules earlier stop.Memory l = l

@@ -1,5 +1,5 @@
 -- Behind the acts of its plan a run can write its state.
-use Rattle.std.proofs.Common.{◌≡◌, ◌⊎◌, inl, inr, ⊎_elim, ℕ, Bool, List, [], ◌∷◌, ◌++◌, reverse, Option, refl, sym, ◌∙◌, ap, subst}
+use Rattle.std.proofs.Common.{◌≡◌, ◌⊎◌, inl, inr, ⊎_elim, ℕ, List, [], ◌∷◌, ◌++◌, reverse, Option, refl, sym, ◌∙◌, ap, subst}
 use Rattle.std.specs.List.{flat_map}
 use Rattle.lr_rules.specs.declared.civil.Moment.{Moment}
 use Rattle.lr_rules.specs.declared.fault.Fault.{Fault}
@@ -12,6 +12,7 @@ use Rattle.lr_host.specs.declared.journal.Journal.{Journal}
 use Rattle.lr_host.specs.Lists.{IsIn}
 use Rattle.lr_host.specs.Told.{Left, not_told, is_told}
 use Rattle.lr_host.proofs.Lists.{in_append, in_unmap}
+use Rattle.lr_plan.specs.Asked.{Asked}
 use Rattle.lr_plan.specs.declared.looks.Looks.{Looks}
 use Rattle.lr_plan.specs.declared.planned.LogPlan.{LogPlan}
 use Rattle.lr_plan.specs.declared.planned.SetPlan.{SetPlan}
@@ -83,19 +84,19 @@ dirs_of_logs groups sets dirs h a = λ dir i. let p = in_unmap parent_of dir (al
 none_reserved : AllAreFree
 none_reserved = λ reserved rules sets faults ts decide shown. targets_free rules sets faults ts decide shown
 
-state_fits : (state : Path) (rules : Rules) (looks : Looks) (remembered : Remembered) (now : Moment) (force : Bool) (ready : Ready) (x y : Progress) (text : List ℕ) (a b : List Fault) {middle told : Option Journal} (later : Option Journal)
-    → AreBuiltRules rules.sets → ReadyFor state now remembered looks.kept (PlanFor rules looks remembered now force) ready x y → KnownBefore state remembered middle → Left (LooksAtAll (reserved_by state) rules.sets looks a b) middle told
+state_fits : (state : Path) (rules : Rules) (looks : Looks) (remembered : Remembered) (now : Moment) (asked : Asked) (ready : Ready) (x y : Progress) (text : List ℕ) (a b : List Fault) {middle told : Option Journal} (later : Option Journal)
+    → AreBuiltRules rules.sets → ReadyFor state now remembered looks.kept (PlanFor rules looks remembered now asked) ready x y → KnownBefore state remembered middle → Left (LooksAtAll (reserved_by state) rules.sets looks a b) middle told
     → LeadsTo (SetsDone ready.steps) told later → CanMake later (state_steps ready.writing.state ready.writing.stale ready.writing.dirs text)
-state_fits state rules looks remembered now force ready x y text a b later built r known not_told l = make_at _ (make_none _) l.2
-state_fits state rules looks remembered now force ready x y text a b {middle = middle} {told = told} later built r known (is_told {es = es} m h) l =
+state_fits state rules looks remembered now asked ready x y text a b later built r known not_told l = make_at _ (make_none _) l.2
+state_fits state rules looks remembered now asked ready x y text a b {middle = middle} {told = told} later built r known (is_told {es = es} m h) l =
     subst (λ (w : writing.Target). CanMake later (state_steps w.state w.stale w.dirs text)) (sym r.is.writes.2)
     (writing_fits state remembered.stale r.is.writes.0 text later
-    (state_placed none_reserved state 65_536 remembered rules looks.sets (decision remembered.table now force) l.0 l.1 r.is.writes.0 known.before middle told later built
-    (dirs_of_logs (groups_of (decision remembered.table now force) rules.sets looks.sets) (PlanFor rules looks remembered now force).sets r.is.writes.0
-    (plans_have_logs rules.sets looks.sets h.own (reverse es) (decision remembered.table now force) built h.shown) r.is.writes.1)
+    (state_placed none_reserved state 65_536 remembered rules looks.sets asked.mailer (decision remembered.table now asked.force) l.0 l.1 r.is.writes.0 known.before middle told later built
+    (dirs_of_logs (groups_of (decision remembered.table now asked.force) rules.sets looks.sets) (PlanFor rules looks remembered now asked).sets r.is.writes.0
+    (plans_have_logs rules.sets looks.sets h.own (reverse es) asked.mailer (decision remembered.table now asked.force) built h.shown) r.is.writes.1)
     known.disk known.there known.read (is_told m (h.own, h.shown)) (subst (λ (ss : List SetSteps). Left (SetsDone ss l.0 l.1) told later) r.is.steps l.2)))
 
-pub fits_behind_acts : (state : Path) (rules : Rules) (looks : Looks) (remembered : Remembered) (now : Moment) (force : Bool) (ready : Ready) (x y : Progress) (text : List ℕ) (told later : Option Journal)
-    → AreBuiltRules rules.sets → ReadyFor state now remembered looks.kept (PlanFor rules looks remembered now force) ready x y → SeenBefore state rules looks remembered told
+pub fits_behind_acts : (state : Path) (rules : Rules) (looks : Looks) (remembered : Remembered) (now : Moment) (asked : Asked) (ready : Ready) (x y : Progress) (text : List ℕ) (told later : Option Journal)
+    → AreBuiltRules rules.sets → ReadyFor state now remembered looks.kept (PlanFor rules looks remembered now asked) ready x y → SeenBefore state rules looks remembered told
     → LeadsTo (SetsDone ready.steps) told later → CanMake later (state_steps ready.writing.state ready.writing.stale ready.writing.dirs text)
-fits_behind_acts state rules looks remembered now force ready x y text told later built r s l = state_fits state rules looks remembered now force ready x y text s.faults s.all_faults later built r s.known s.looked l
+fits_behind_acts state rules looks remembered now asked ready x y text told later built r s l = state_fits state rules looks remembered now asked ready x y text s.faults s.all_faults later built r s.known s.looked l

@@ -1,5 +1,5 @@
 -- The state stays whole over a run.
-use Rattle.std.proofs.Common.{◌≡◌, ◌⊎◌, inl, inr, ⊎_elim, ℕ, Bool, false, refl, sym, ◌∙◌, ap, subst, List, [], ◌∷◌, ◌++◌, map, reverse, append_assoc, Option, Some, Result, Ok, Err}
+use Rattle.std.proofs.Common.{◌≡◌, ◌⊎◌, inl, inr, ⊎_elim, ℕ, false, refl, sym, ◌∙◌, ap, subst, List, [], ◌∷◌, ◌++◌, map, reverse, append_assoc, Option, Some, Result, Ok, Err}
 use Rattle.std.specs.Prelude.{filter}
 use Rattle.std.specs.List.{flat_map}
 use Rattle.std.proofs.lemmas.List.{append-nil}
@@ -23,6 +23,7 @@ use Rattle.lr_durable.specs.Renewing.{IsAsideOf, IsWithin, MayRenew, left_alone,
 use Rattle.lr_durable.specs.StateWhole.{part_of, KeepsWhole}
 use Rattle.lr_durable.proofs.Whole.{whole_at}
 use Rattle.lr_due.specs.declared.answer.Due.{Due}
+use Rattle.lr_plan.specs.Asked.{Asked}
 use Rattle.lr_plan.specs.declared.looks.LogLook.{LogLook}
 use Rattle.lr_plan.specs.Appending.{Appended, no_more, piece_more}
 use Rattle.lr_plan.specs.Done.{rotated_logs}
@@ -168,20 +169,20 @@ behind_quiet state I J f xs ts q (renewed dirs text is r) = renewed dirs text (f
 around : (state x : Path) (now : Moment) (rules : Rules) (before between : List Entry) → Each (IsAsideOf x) before → Each (IsAsideOf x) between → Each (IsAsideOf x) (before ++ (entry.Starts state now rules ∷ (between ++ entry.Ends ∷ [])))
 around state x now rules before between a b = each_append (IsAsideOf x) before (entry.Starts state now rules ∷ (between ++ entry.Ends ∷ [])) a ((λ i. i), each_append (IsAsideOf x) between (entry.Ends ∷ []) b ((λ i. i), tt))
 
-module _ (state : Path) (rules : Rules) (now : Moment) (force : Bool) (built : AreBuiltRules rules.sets) where
+module _ (state : Path) (rules : Rules) (now : Moment) (asked : Asked) (built : AreBuiltRules rules.sets) where
   -- acts behind the looks
   module _ (ts : List Entry) (l : Looked state rules.sets ts) where
     abbrev decide : Rule → LogLook → Due
-    decide = decision l.remembered.table now force
+    decide = decision l.remembered.table now asked.force
 
     abbrev targets : List Target
     targets = all_targets decide rules.sets l.sets
 
-    logs : HaveLogs (groups_of decide rules.sets l.sets) (plan_in state rules.sets ts l now force).sets
-    logs = plans_have_logs rules.sets l.sets l.of_looks l.looks decide built l.shown
+    logs : HaveLogs (groups_of decide rules.sets l.sets) (plan_in state rules.sets ts l now asked).sets
+    logs = plans_have_logs rules.sets l.sets l.of_looks l.looks asked.mailer decide built l.shown
 
-    planned : ArePlanned targets (map steps_of_set (plan_in state rules.sets ts l now force).sets)
-    planned = ready_planned (groups_of decide rules.sets l.sets) (plan_in state rules.sets ts l now force).sets logs (targets_apart rules.sets l.sets l.of_looks l.looks decide l.shown)
+    planned : ArePlanned targets (map steps_of_set (plan_in state rules.sets ts l now asked).sets)
+    planned = ready_planned (groups_of decide rules.sets l.sets) (plan_in state rules.sets ts l now asked).sets logs (targets_apart rules.sets l.sets l.of_looks l.looks decide l.shown)
 
     have_names : HaveNames targets
     have_names = targets_have_names rules l.sets l.of_looks l.looks decide built l.shown
@@ -194,21 +195,21 @@ module _ (state : Path) (rules : Rules) (now : Moment) (force : Bool) (built : A
     behind_aside acts tools of_logs = each_append (IsAsideOf state) seen acts (calm_aside state seen (seen_quiet state rules.sets ts l))
         (of_changes (IsAsideOf state) acts (λ e i h. none_aside state e (none_changed e i h)) tools (each_as (IsOfSome targets) (IsAsideOf state) (filter is_change acts) (λ e i. some_aside state targets e have_names (targets_free rules.sets l.sets l.of_looks l.looks decide l.shown) i) of_logs))
 
-    behind_within : (dirs : List Path) → AreDirectoriesOf (changed_in (plan_in state rules.sets ts l now force)) dirs → (acts : List Entry) → Each IsTools acts → Each (IsOfSome targets) (filter is_change acts) → Each (IsWithin (part_of state) dirs) (seen ++ acts)
+    behind_within : (dirs : List Path) → AreDirectoriesOf (changed_in (plan_in state rules.sets ts l now asked)) dirs → (acts : List Entry) → Each IsTools acts → Each (IsOfSome targets) (filter is_change acts) → Each (IsWithin (part_of state) dirs) (seen ++ acts)
     behind_within dirs dirs_are acts tools of_logs = each_append (IsWithin (part_of state) dirs) seen acts (calm_within (part_of state) dirs seen (seen_quiet state rules.sets ts l))
-        (of_changes (IsWithin (part_of state) dirs) acts (λ e i h. none_within (part_of state) dirs e (none_changed e i h)) tools (each_as (IsOfSome targets) (IsWithin (part_of state) dirs) (filter is_change acts) (λ e i. groups_within (part_of state) dirs (groups_of decide rules.sets l.sets) (plan_in state rules.sets ts l now force).sets e dirs_are logs have_names i) of_logs))
+        (of_changes (IsWithin (part_of state) dirs) acts (λ e i h. none_within (part_of state) dirs e (none_changed e i h)) tools (each_as (IsOfSome targets) (IsWithin (part_of state) dirs) (filter is_change acts) (λ e i. groups_within (part_of state) dirs (groups_of decide rules.sets l.sets) (plan_in state rules.sets ts l now asked).sets e dirs_are logs have_names i) of_logs))
 
   -- a first part of the acts
-  broke_aside : (ts : List Entry) → Each IsTools ts → BrokeOff state rules.sets now force ts → Each (IsAsideOf state) ts
+  broke_aside : (ts : List Entry) → Each IsTools ts → BrokeOff state rules.sets now asked ts → Each (IsAsideOf state) ts
   broke_aside ts tools b = subst (Each (IsAsideOf state)) (sym parts)
       (behind_aside ts b.looked b.looked.acts (each_later IsTools (b.looked.reads ++ b.looked.looks) b.looked.acts (subst (Each IsTools) parts tools))
-      (cut_some (targets ts b.looked) (map steps_of_set (plan_in state rules.sets ts b.looked now force).sets) b.marks b.of_acts b.looked.acts (planned ts b.looked) b.part))
+      (cut_some (targets ts b.looked) (map steps_of_set (plan_in state rules.sets ts b.looked now asked).sets) b.marks b.of_acts b.looked.acts (planned ts b.looked) b.part))
     where
       parts : ts ≡ (b.looked.reads ++ b.looked.looks) ++ b.looked.acts
       parts = looked_parts state rules.sets ts b.looked
 
   -- all of the acts, and the writing of the state
-  module _ (own : List Fault) (ts : List Entry) (w : Worked state rules.sets now force own ts) (tools : Each IsTools ts) where
+  module _ (own : List Fault) (ts : List Entry) (w : Worked state rules.sets now asked own ts) (tools : Each IsTools ts) where
     abbrev l : Looked state rules.sets ts
     l = w.looked
 
@@ -216,10 +217,10 @@ module _ (state : Path) (rules : Rules) (now : Moment) (force : Bool) (built : A
     acts = w.acted.entries.entries.front
 
     of_logs : Each (IsOfSome (targets ts l)) (filter is_change acts)
-    of_logs = done_some (targets ts l) (map steps_of_set (plan_in state rules.sets ts l now force).sets) w.acted.marks w.acted.entries.of_plan acts (planned ts l) w.acted.entries.entries.first
+    of_logs = done_some (targets ts l) (map steps_of_set (plan_in state rules.sets ts l now asked).sets) w.acted.marks w.acted.entries.of_plan acts (planned ts l) w.acted.entries.entries.first
 
     in_three : ts ≡ (seen ts l ++ acts) ++ w.acted.entries.entries.back
-    in_three = in_parts state rules.sets now force own ts w
+    in_three = in_parts state rules.sets now asked own ts w
 
     tools_of : Each IsTools ((seen ts l ++ acts) ++ w.acted.entries.entries.back)
     tools_of = subst (Each IsTools) in_three tools
@@ -250,8 +251,8 @@ module _ (state : Path) (rules : Rules) (now : Moment) (force : Bool) (built : A
         in_order = ap (λ es. front ++ (es ++ entry.Ends ∷ [])) in_three ∙ (ap (λ es. front ++ es) (append_assoc (seen ts l ++ acts) w.acted.entries.entries.back (entry.Ends ∷ [])) ∙ sym (append_assoc front (seen ts l ++ acts) (w.acted.entries.entries.back ++ entry.Ends ∷ [])))
 
   -- the work, between what was before and the end
-  works_may : (plan : Option Plan) (own : List Fault) (before between : List Entry) → AreQuiet before → Each IsTools between → Works state rules.sets now force plan own between
-      → (IsText : List ℕ → Type 0) → ((text : List ℕ) → Tells state rules.sets now force text between → IsText text) → MayRenew state IsText (before ++ (entry.Starts state now rules ∷ (between ++ entry.Ends ∷ [])))
+  works_may : (plan : Option Plan) (own : List Fault) (before between : List Entry) → AreQuiet before → Each IsTools between → Works state rules.sets now asked plan own between
+      → (IsText : List ℕ → Type 0) → ((text : List ℕ) → Tells state rules.sets now asked text between → IsText text) → MayRenew state IsText (before ++ (entry.Starts state now rules ∷ (between ++ entry.Ends ∷ [])))
   works_may plan own before between q tools (not_known sights f known lost e shown) IsText tells = left_alone (around state state now rules before between (calm_aside state before q) (calm_aside state between (state_quiet state 65_536 sights between shown)))
   works_may plan own before between q tools (too_big l big lost e none) IsText tells = left_alone (around state state now rules before between (calm_aside state before q)
       (calm_aside state between (subst AreQuiet (sym (l.joined ∙ (ap (λ xs. l.reads ++ (l.looks ++ xs)) none ∙ ap (λ xs. l.reads ++ xs) (append-nil l.looks)))) (seen_quiet state rules.sets between l))))
@@ -265,9 +266,9 @@ module _ (state : Path) (rules : Rules) (now : Moment) (force : Bool) (built : A
   begun_tools before between ts e tools = each_first IsTools between (entry.Ends ∷ []) (each_later IsTools before (entry.Starts state now rules ∷ (between ++ entry.Ends ∷ [])) (subst (Each IsTools) e tools)).1
 
   abbrev IsTextOf : List Entry → List ℕ → Type 0
-  IsTextOf ts text = IsNewText state now force rules ts text
+  IsTextOf ts text = IsNewText state now asked rules ts text
 
-  pub runs_may : (plan : Option Plan) (own : List Fault) (ts : List Entry) → Each IsTools ts → Runs state force now rules plan own ts → MayRenew state (IsTextOf ts) ts
+  pub runs_may : (plan : Option Plan) (own : List Fault) (ts : List Entry) → Each IsTools ts → Runs state asked now rules plan own ts → MayRenew state (IsTextOf ts) ts
   runs_may plan own ts tools (no_directory lost e s) = quiet_alone state (IsTextOf ts) ts (sees_quiet (parent_of state) _ ts s)
   runs_may plan own ts tools (not_seen lost e s) = quiet_alone state (IsTextOf ts) ts (subst AreQuiet (sym s) tt)
   runs_may plan own ts tools (not_begun lost e t) = left_alone (go t.second)
@@ -279,7 +280,7 @@ module _ (state : Path) (rules : Rules) (now : Moment) (force : Bool) (built : A
       (works_may plan own i.before i.between (sees_quiet (parent_of state) IsDir i.before i.directory) (begun_tools i.before i.between ts i.entries tools) i.within (IsTextOf ts)
       (λ text t. record { before = i.before; between = i.between; entries = i.entries; directory = i.directory; within = t }))
 
-  pub answers_may : (earlier : List Fault) (r : Result Ran RunStop) (ts : List Entry) → Each IsTools ts → Answers state false force now rules earlier r ts → MayRenew state (IsTextOf ts) ts
+  pub answers_may : (earlier : List Fault) (r : Result Ran RunStop) (ts : List Entry) → Each IsTools ts → Answers state false asked now rules earlier r ts → MayRenew state (IsTextOf ts) ts
   answers_may earlier (Ok ran) ts tools h = runs_may ran.plan h.0 ts tools h.2
   answers_may earlier (Err stop.Held) ts tools h = quiet_alone state (IsTextOf ts) ts (sees_quiet (parent_of state) IsDir ts h)
   answers_may earlier (Err stop.Memory) ts tools (at_first e) = quiet_alone state (IsTextOf ts) ts (subst AreQuiet (sym e) tt)
@@ -297,5 +298,5 @@ left_whole state IsText P (is_told {j = j} {k = k} {es = es} m h) f = λ journal
   each = λ u since until. whole_at state (IsText (reverse es)) (past j) (past k) es m journal (f (reverse es) (each_reverse IsTools es (made_tools (past j) (past k) es m)) h) settled spare u since until;
 }
 
-pub run_whole : (state : Path) (force : Bool) (now : Moment) (rules : Rules) (earlier : List Fault) (r : Result Ran RunStop) {o n : Option Journal} → AreBuiltRules rules.sets → Left (Answers state false force now rules earlier r) o n → KeepsWhole state (IsNewText state now force rules) o n
-run_whole state force now rules earlier r built l = left_whole state (IsNewText state now force rules) (Answers state false force now rules earlier r) l (λ ts tools h. answers_may state rules now force built earlier r ts tools h)
+pub run_whole : (state : Path) (asked : Asked) (now : Moment) (rules : Rules) (earlier : List Fault) (r : Result Ran RunStop) {o n : Option Journal} → AreBuiltRules rules.sets → Left (Answers state false asked now rules earlier r) o n → KeepsWhole state (IsNewText state now asked rules) o n
+run_whole state asked now rules earlier r built l = left_whole state (IsNewText state now asked rules) (Answers state false asked now rules earlier r) l (λ ts tools h. answers_may state rules now asked built earlier r ts tools h)

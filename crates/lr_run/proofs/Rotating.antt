@@ -1,5 +1,5 @@
 -- A run of which no call failed, no program ended badly and no copy broke off rotates each log of its plan that isn't copied.
-use Rattle.std.proofs.Common.{◌≡◌, ◌≢◌, inl, inr, Bool, None, List, [], ◌∷◌, ◌++◌, reverse, refl, sym, ap, ◌∙◌, subst, append_assoc}
+use Rattle.std.proofs.Common.{◌≡◌, ◌≢◌, inl, inr, None, List, [], ◌∷◌, ◌++◌, reverse, refl, sym, ap, ◌∙◌, subst, append_assoc}
 use Rattle.std.specs.Prelude.{codes}
 use Rattle.lr_rules.specs.declared.civil.Moment.{Moment}
 use Rattle.lr_rules.specs.declared.fault.Fault.{Fault}
@@ -18,6 +18,7 @@ use Rattle.lr_host.specs.World.{Past}
 use Rattle.lr_host.proofs.Quiet.{quiet_both}
 use Rattle.lr_kept.proofs.Finding.{meet_back}
 use Rattle.lr_due.specs.declared.answer.Due.{Due}
+use Rattle.lr_plan.specs.Asked.{Asked}
 use Rattle.lr_plan.specs.declared.looks.LogLook.{LogLook}
 use Rattle.lr_host.specs.Counted.{calls_in, scripts_in}
 use Rattle.lr_plan.specs.Done.{PlanDone}
@@ -76,28 +77,28 @@ free_one reserved t (x ∷ xs) f (inl e) = subst (IsFreeOf reserved) e f.0
 free_one reserved t (x ∷ xs) f (inr i) = free_one reserved t xs f.1 i
 
 -- the rotations of a run whose acts met no fault
-abbrev worked_whole : (state : Path) (rules : Rules) (now : Moment) (force : Bool) (own : List Fault) (ts : List Entry) → AreBuiltRules rules.sets → (w : Worked state rules.sets now force own ts) → w.acted.entries.of_plan ≡ []
+abbrev worked_whole : (state : Path) (rules : Rules) (now : Moment) (asked : Asked) (own : List Fault) (ts : List Entry) → AreBuiltRules rules.sets → (w : Worked state rules.sets now asked own ts) → w.acted.entries.of_plan ≡ []
     → AllTurned state rules ((w.looked.reads ++ w.looked.looks) ++ w.acted.entries.entries.front)
-worked_whole state rules now force own ts built w none =
-    done_turned state rules (w.looked.reads ++ w.looked.looks) (rotated_in state rules.sets ts w.looked now force) _ w.acted.marks w.acted.entries.entries.front
-    (seen_quiet state rules.sets ts w.looked) (seen_later rules w.looked.reads w.looked.looks (rotated_in state rules.sets ts w.looked now force) (targets_seen rules w.looked.sets w.looked.of_looks w.looked.looks (decision w.looked.remembered.table now force) built w.looked.shown))
-    (ready_planned (groups_of (decision w.looked.remembered.table now force) rules.sets w.looked.sets) _ (plans_have_logs rules.sets w.looked.sets w.looked.of_looks w.looked.looks (decision w.looked.remembered.table now force) built w.looked.shown)
-    (targets_apart rules.sets w.looked.sets w.looked.of_looks w.looked.looks (decision w.looked.remembered.table now force) w.looked.shown))
-    (subst (λ (fs : List Fault). PlanDone (plan_in state rules.sets ts w.looked now force) w.acted.marks fs w.acted.entries.entries.front) none w.acted.entries.entries.first)
+worked_whole state rules now asked own ts built w none =
+    done_turned state rules (w.looked.reads ++ w.looked.looks) (rotated_in state rules.sets ts w.looked now asked) _ w.acted.marks w.acted.entries.entries.front
+    (seen_quiet state rules.sets ts w.looked) (seen_later rules w.looked.reads w.looked.looks (rotated_in state rules.sets ts w.looked now asked) (targets_seen rules w.looked.sets w.looked.of_looks w.looked.looks (decision w.looked.remembered.table now asked.force) built w.looked.shown))
+    (ready_planned (groups_of (decision w.looked.remembered.table now asked.force) rules.sets w.looked.sets) _ (plans_have_logs rules.sets w.looked.sets w.looked.of_looks w.looked.looks asked.mailer (decision w.looked.remembered.table now asked.force) built w.looked.shown)
+    (targets_apart rules.sets w.looked.sets w.looked.of_looks w.looked.looks (decision w.looked.remembered.table now asked.force) w.looked.shown))
+    (subst (λ (fs : List Fault). PlanDone (plan_in state rules.sets ts w.looked now asked) w.acted.marks fs w.acted.entries.entries.front) none w.acted.entries.entries.first)
 
-module _ (state : Path) (force : Bool) (now : Moment) (rules : Rules) (own : List Fault) (p q : Past) (es reads acts : List Entry) (built : AreBuiltRules rules.sets) (made : Made p es q) (journal : IsJournal p) (joined : reverse es ≡ reads ++ acts) (quiet : AreQuiet reads)
-    (i : Inside state now rules (Worked state rules.sets now force own) acts) (no_call : calls_in own ≡ 0) (no_end : scripts_in own ≡ 0) (no_copy : NoneOfCopy own) (t : Target) (one : IsOneOf t (rotated_in state rules.sets i.between i.within.looked now force)) where
-  abbrev w : Worked state rules.sets now force own i.between
+module _ (state : Path) (asked : Asked) (now : Moment) (rules : Rules) (own : List Fault) (p q : Past) (es reads acts : List Entry) (built : AreBuiltRules rules.sets) (made : Made p es q) (journal : IsJournal p) (joined : reverse es ≡ reads ++ acts) (quiet : AreQuiet reads)
+    (i : Inside state now rules (Worked state rules.sets now asked own) acts) (no_call : calls_in own ≡ 0) (no_end : scripts_in own ≡ 0) (no_copy : NoneOfCopy own) (t : Target) (one : IsOneOf t (rotated_in state rules.sets i.between i.within.looked now asked)) where
+  abbrev w : Worked state rules.sets now asked own i.between
   w = i.within
 
   abbrev l : Looked state rules.sets i.between
   l = i.within.looked
 
   abbrev pub decide : Rule → LogLook → Due
-  decide = decision i.within.looked.remembered.table now force
+  decide = decision i.within.looked.remembered.table now asked.force
 
   abbrev pub targets : List Target
-  targets = rotated_in state rules.sets i.between i.within.looked now force
+  targets = rotated_in state rules.sets i.between i.within.looked now asked
 
   named : HaveNames targets
   named = targets_have_names rules l.sets l.of_looks l.looks decide built l.shown
@@ -109,7 +110,7 @@ module _ (state : Path) (force : Bool) (now : Moment) (rules : Rules) (own : Lis
   free = free_one (reserved_by state) t targets (targets_free rules.sets l.sets l.of_looks l.looks decide l.shown) one
 
   pub met_none : w.acted.entries.of_plan ≡ []
-  met_none = worked_met_none state rules.sets now force own i.between w no_call no_end no_copy
+  met_none = worked_met_none state rules.sets now asked own i.between w no_call no_end no_copy
 
   -- what stands between the begin and the end
   abbrev pub work : List Entry
@@ -117,10 +118,10 @@ module _ (state : Path) (force : Bool) (now : Moment) (rules : Rules) (own : Lis
 
   abbrev pub turned : AllTurned state rules ((((i.within.looked.reads ++ i.within.looked.looks) ++ i.within.acted.entries.entries.front) ++ i.within.acted.entries.entries.back) ++ entry.Ends ∷ [])
   turned = ended_whole state rules (((i.within.looked.reads ++ i.within.looked.looks) ++ i.within.acted.entries.entries.front) ++ i.within.acted.entries.entries.back)
-      (written_whole state rules ((i.within.looked.reads ++ i.within.looked.looks) ++ i.within.acted.entries.entries.front) i.within.acted.entries.entries.back (worked_whole state rules now force own i.between built i.within met_none) (all_of_state state rules.sets now force own i.between i.within))
+      (written_whole state rules ((i.within.looked.reads ++ i.within.looked.looks) ++ i.within.acted.entries.entries.front) i.within.acted.entries.entries.back (worked_whole state rules now asked own i.between built i.within met_none) (all_of_state state rules.sets now asked own i.between i.within))
 
   pub whole_run : reverse es ≡ (reads ++ i.before) ++ (entry.Starts state now rules ∷ (work ++ entry.Ends ∷ []))
-  whole_run = joined ∙ (ap (λ xs. reads ++ xs) (i.entries ∙ ap (λ xs. i.before ++ (entry.Starts state now rules ∷ (xs ++ entry.Ends ∷ []))) (in_parts state rules.sets now force own i.between w)) ∙ sym (append_assoc reads i.before _))
+  whole_run = joined ∙ (ap (λ xs. reads ++ xs) (i.entries ∙ ap (λ xs. i.before ++ (entry.Starts state now rules ∷ (xs ++ entry.Ends ∷ []))) (in_parts state rules.sets now asked own i.between w)) ∙ sym (append_assoc reads i.before _))
 
   pub quiet_first : AreQuiet (reads ++ i.before)
   quiet_first = quiet_both reads i.before quiet (sees_quiet (parent_of state) IsDir i.before i.directory)

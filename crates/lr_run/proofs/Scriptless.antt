@@ -1,17 +1,19 @@
--- Without scripts a plan has no program, and so its acts want no memory.
-use Rattle.std.proofs.Common.{◌≡◌, inl, inr, ℕ, Bool, List, [], ◌∷◌, Option, None, sym, subst}
+-- Without scripts and mails a plan has no program, and so its acts want no memory.
+use Rattle.std.proofs.Common.{◌≡◌, inl, inr, ℕ, List, [], ◌∷◌, Option, None, sym, subst}
 use Rattle.lr_rules.specs.declared.civil.Moment.{Moment}
 use Rattle.lr_rules.specs.declared.fault.Phase.{Phase}
+use Rattle.lr_rules.specs.declared.fault.Phase.TheVariants as phase
 use Rattle.lr_rules.specs.declared.path.Path.{Path}
 use Rattle.lr_rules.specs.declared.rule.Rule.{Rule}
 use Rattle.lr_host.specs.declared.entry.Entry.{Entry}
-use Rattle.lr_commands.specs.Commands.{script}
+use Rattle.lr_commands.specs.Commands.{script, mail}
+use Rattle.lr_plan.specs.Asked.{Asked}
 use Rattle.lr_plan.specs.declared.step.Step.{Step}
 use Rattle.lr_plan.specs.Planned.{decision}
 use Rattle.lr_plan.specs.Steps.{program}
 use Rattle.lr_acts.specs.Making.{IsProgram, HasProgram}
 use Rattle.lr_run.specs.Runs.{BrokeOff}
-use Rattle.lr_run.specs.Scripts.{HaveNoScripts}
+use Rattle.lr_run.specs.Scripts.{RunNothing}
 use Rattle.lr_run.proofs.Simple.{EachStep, IsOfSteps, AreOfScripts, plan_so}
 
 abbrev IsNoProgram : Step → Type 0
@@ -28,6 +30,9 @@ IsNone text = text ≡ None
 none_runs : (p : Phase) (text : Option (List ℕ)) (args : List (List ℕ)) → IsNone text → EachStep IsNoProgram (program p (script text args))
 none_runs p text args e = subst (λ (t : Option (List ℕ)). EachStep IsNoProgram (program p (script t args))) (sym e) tt
 
+none_mails : (mailer : Path) (address : Option (List ℕ)) (log file : Path) → IsNone address → EachStep IsNoProgram (program phase.Mail (mail mailer address log file))
+none_mails mailer address log file e = subst (λ (t : Option (List ℕ)). EachStep IsNoProgram (program phase.Mail (mail mailer t log file))) (sym e) tt
+
 no_steps : IsOfSteps IsNoProgram IsNone
 no_steps = record {
   removes = λ path h. h;
@@ -40,12 +45,13 @@ no_steps = record {
   truncates = λ path h. h;
   rotated = λ log h. h;
   runs = none_runs;
+  mails = none_mails;
 }
 
-none_scripts : (rules : List Rule) → HaveNoScripts rules → AreOfScripts IsNone rules
+none_scripts : (rules : List Rule) → RunNothing rules → AreOfScripts IsNone rules
 none_scripts [] h = tt
-none_scripts (rule ∷ rules) h = (record { first = h.0.first; pre = h.0.pre; post = h.0.post; last = h.0.last }, none_scripts rules h.1)
+none_scripts (rule ∷ rules) h = (record { first = h.0.first; pre = h.0.pre; post = h.0.post; last = h.0.last; preremove = h.0.preremove; mail = h.0.mail }, none_scripts rules h.1)
 
--- so a run over rules without scripts doesn't break off amid its acts
-pub never_broke_off : (state : Path) (rules : List Rule) (now : Moment) (force : Bool) (ts : List Entry) → HaveNoScripts rules → BrokeOff state rules now force ts → ⊥
-never_broke_off state rules now force ts none b = no_program _ (plan_so IsNoProgram IsNone no_steps (decision b.looked.remembered.table now force) rules b.looked.sets (none_scripts rules none)) b.program
+-- so a run over rules that run no program doesn't break off amid its acts
+pub never_broke_off : (state : Path) (rules : List Rule) (now : Moment) (asked : Asked) (ts : List Entry) → RunNothing rules → BrokeOff state rules now asked ts → ⊥
+never_broke_off state rules now asked ts none b = no_program _ (plan_so IsNoProgram IsNone no_steps asked.mailer (decision b.looked.remembered.table now asked.force) rules b.looked.sets (none_scripts rules none)) b.program

@@ -1,5 +1,5 @@
 -- The entries of a run are those of one that looks first, and rotates then.
-use Rattle.std.proofs.Common.{◌≡◌, ◌⊎◌, inl, inr, Option, Bool, false, List, [], ◌∷◌, ◌++◌, Result, Ok, Err, refl, sym, ap, ◌∙◌, subst, append_assoc}
+use Rattle.std.proofs.Common.{◌≡◌, ◌⊎◌, inl, inr, Option, false, List, [], ◌∷◌, ◌++◌, Result, Ok, Err, refl, sym, ap, ◌∙◌, subst, append_assoc}
 use Rattle.std.specs.Prelude.{filter}
 use Rattle.std.proofs.lemmas.List.{append-nil}
 use Rattle.std.proofs.lemmas.List.Elements.{filter-append}
@@ -24,6 +24,7 @@ use Rattle.lr_host.proofs.Quiet.{quiet_both}
 use Rattle.lr_copy.specs.declared.job.Job.{Job}
 use Rattle.lr_chain.specs.Rotation.{places_of}
 use Rattle.lr_due.specs.declared.answer.Due.{Due}
+use Rattle.lr_plan.specs.Asked.{Asked}
 use Rattle.lr_plan.specs.declared.looks.LogLook.{LogLook}
 use Rattle.lr_plan.specs.Planned.{decision}
 use Rattle.lr_rotations.specs.AllTurns.{AllTurns, AllTurned, not_yet, started, IsWholeRun, IsOfSome, IsOfState, StandsBetween}
@@ -168,37 +169,37 @@ pub looked_parts : (state : Path) (rules : List Rule) (ts : List Entry) → (l :
 looked_parts state rules ts l = l.joined ∙ sym (append_assoc l.reads l.looks l.acts)
 
 -- all of a run that worked, in three parts
-pub in_parts : (state : Path) (rules : List Rule) (now : Moment) (force : Bool) (own : List Fault) (ts : List Entry) → (w : Worked state rules now force own ts) → ts ≡ ((w.looked.reads ++ w.looked.looks) ++ w.acted.entries.entries.front) ++ w.acted.entries.entries.back
-in_parts state rules now force own ts w =
+pub in_parts : (state : Path) (rules : List Rule) (now : Moment) (asked : Asked) (own : List Fault) (ts : List Entry) → (w : Worked state rules now asked own ts) → ts ≡ ((w.looked.reads ++ w.looked.looks) ++ w.acted.entries.entries.front) ++ w.acted.entries.entries.back
+in_parts state rules now asked own ts w =
     let l = w.looked in let e = w.acted.entries.entries in
     looked_parts state rules ts l ∙ (ap (λ xs. (l.reads ++ l.looks) ++ xs) e.joined ∙ sym (append_assoc (l.reads ++ l.looks) e.front e.back))
 
 -- the changes behind the rotations are the state's
-pub all_of_state : (state : Path) (rules : List Rule) (now : Moment) (force : Bool) (own : List Fault) (ts : List Entry) → (w : Worked state rules now force own ts) → Each (IsOfState state) (filter is_change w.acted.entries.entries.back)
-all_of_state state rules now force own ts w = changes_of_state state w.acted.entries.entries.back (state_writing state w.looked.remembered.stale w.acted.dirs _ w.acted.entries.of_state w.acted.entries.entries.back w.acted.entries.entries.second)
+pub all_of_state : (state : Path) (rules : List Rule) (now : Moment) (asked : Asked) (own : List Fault) (ts : List Entry) → (w : Worked state rules now asked own ts) → Each (IsOfState state) (filter is_change w.acted.entries.entries.back)
+all_of_state state rules now asked own ts w = changes_of_state state w.acted.entries.entries.back (state_writing state w.looked.remembered.stale w.acted.dirs _ w.acted.entries.of_state w.acted.entries.entries.back w.acted.entries.entries.second)
 
-worked_turn : (state : Path) (rules : Rules) (now : Moment) (force : Bool) (own : List Fault) (ts : List Entry) → AreBuiltRules rules.sets → Worked state rules.sets now force own ts → AllTurns state rules ts
-worked_turn state rules now force own ts built w = subst (AllTurns state rules) (sym (in_parts state rules.sets now force own ts w))
+worked_turn : (state : Path) (rules : Rules) (now : Moment) (asked : Asked) (own : List Fault) (ts : List Entry) → AreBuiltRules rules.sets → Worked state rules.sets now asked own ts → AllTurns state rules ts
+worked_turn state rules now asked own ts built w = subst (AllTurns state rules) (sym (in_parts state rules.sets now asked own ts w))
     (written state rules ((l.reads ++ l.looks) ++ w.acted.entries.entries.front) w.acted.entries.entries.back
     (done_turns state rules (l.reads ++ l.looks) (all_targets decide rules.sets l.sets) _ w.acted.marks w.acted.entries.of_plan w.acted.entries.entries.front
     (seen_quiet state rules.sets ts l) (seen_later rules l.reads l.looks (all_targets decide rules.sets l.sets) (targets_seen rules l.sets l.of_looks l.looks decide built l.shown))
-    (ready_planned (groups_of decide rules.sets l.sets) _ (plans_have_logs rules.sets l.sets l.of_looks l.looks decide built l.shown) (targets_apart rules.sets l.sets l.of_looks l.looks decide l.shown))
+    (ready_planned (groups_of decide rules.sets l.sets) _ (plans_have_logs rules.sets l.sets l.of_looks l.looks asked.mailer decide built l.shown) (targets_apart rules.sets l.sets l.of_looks l.looks decide l.shown))
     w.acted.entries.entries.first)
-    (all_of_state state rules.sets now force own ts w))
+    (all_of_state state rules.sets now asked own ts w))
   where
     l : Looked state rules.sets ts
     l = w.looked
 
     decide : Rule → LogLook → Due
-    decide = decision l.remembered.table now force
+    decide = decision l.remembered.table now asked.force
 
 quiet_turns : (state : Path) (rules : Rules) (ts : List Entry) → AreQuiet ts → AllTurns state rules ts
 quiet_turns state rules ts q = subst (AllTurns state rules) (append-nil ts) (no_turns state rules ts q)
 
-works_turn : (state : Path) (rules : Rules) (now : Moment) (force : Bool) (plan : Option Plan) (own : List Fault) (ts : List Entry) → AreBuiltRules rules.sets → Works state rules.sets now force plan own ts → AllTurns state rules ts
-works_turn state rules now force plan own ts built (not_known sights f known lost is shown) = quiet_turns state rules ts (state_quiet state 65_536 sights ts shown)
-works_turn state rules now force plan own ts built (too_big l big lost is none) = quiet_turns state rules ts (subst AreQuiet (sym (l.joined ∙ (ap (λ xs. l.reads ++ (l.looks ++ xs)) none ∙ ap (λ xs. l.reads ++ xs) (append-nil l.looks)))) (seen_quiet state rules.sets ts l))
-works_turn state rules now force plan own ts built (worked w is) = worked_turn state rules now force own ts built w
+works_turn : (state : Path) (rules : Rules) (now : Moment) (asked : Asked) (plan : Option Plan) (own : List Fault) (ts : List Entry) → AreBuiltRules rules.sets → Works state rules.sets now asked plan own ts → AllTurns state rules ts
+works_turn state rules now asked plan own ts built (not_known sights f known lost is shown) = quiet_turns state rules ts (state_quiet state 65_536 sights ts shown)
+works_turn state rules now asked plan own ts built (too_big l big lost is none) = quiet_turns state rules ts (subst AreQuiet (sym (l.joined ∙ (ap (λ xs. l.reads ++ (l.looks ++ xs)) none ∙ ap (λ xs. l.reads ++ xs) (append-nil l.looks)))) (seen_quiet state rules.sets ts l))
+works_turn state rules now asked plan own ts built (worked w is) = worked_turn state rules now asked own ts built w
 
 pub some_quiet : (state : Path) (rules : List Rule) (ts : List Entry) → SomeSeen state rules ts → AreQuiet ts
 some_quiet state rules ts (of_state sights shown) = state_quiet state 65_536 sights ts shown
@@ -206,34 +207,34 @@ some_quiet state rules ts (of_looks sights remembered known t) = subst AreQuiet 
 
 -- ---- the run
 
-runs_shape : (state : Path) (force : Bool) (now : Moment) (rules : Rules) (plan : Option Plan) (own : List Fault) (ts : List Entry) → AreBuiltRules rules.sets → Runs state force now rules plan own ts → IsWholeRun ts
-runs_shape state force now rules plan own ts built (no_directory lost e s) = quiet_run ts (sees_quiet (parent_of state) _ ts s)
-runs_shape state force now rules plan own ts built (not_seen lost e s) = none_run ts s
-runs_shape state force now rules plan own ts built (not_begun lost e t) = go t.second
+runs_shape : (state : Path) (asked : Asked) (now : Moment) (rules : Rules) (plan : Option Plan) (own : List Fault) (ts : List Entry) → AreBuiltRules rules.sets → Runs state asked now rules plan own ts → IsWholeRun ts
+runs_shape state asked now rules plan own ts built (no_directory lost e s) = quiet_run ts (sees_quiet (parent_of state) _ ts s)
+runs_shape state asked now rules plan own ts built (not_seen lost e s) = none_run ts s
+runs_shape state asked now rules plan own ts built (not_begun lost e t) = go t.second
   where
     go : (t.back ≡ []) ⊎ (t.back ≡ entry.Starts state now rules ∷ []) → IsWholeRun ts
     go (inl none) = quiet_run ts (subst AreQuiet (sym (t.joined ∙ (ap (λ es. t.front ++ es) none ∙ append-nil t.front))) (sees_quiet (parent_of state) IsDir t.front t.first))
     go (inr one) = begun_run state now rules t.front [] ts t.first (t.joined ∙ ap (λ es. t.front ++ es) one) (no_turns state rules [] tt)
-runs_shape state force now rules plan own ts built (runs.began i) = begun_run state now rules i.before (i.between ++ entry.Ends ∷ []) ts i.directory i.entries (ended state rules i.between (works_turn state rules now force plan own i.between built i.within))
+runs_shape state asked now rules plan own ts built (runs.began i) = begun_run state now rules i.before (i.between ++ entry.Ends ∷ []) ts i.directory i.entries (ended state rules i.between (works_turn state rules now asked plan own i.between built i.within))
 
 -- of acts that broke off
-broke_turn : (state : Path) (rules : Rules) (now : Moment) (force : Bool) (ts : List Entry) → AreBuiltRules rules.sets → BrokeOff state rules.sets now force ts → AllTurns state rules ts
-broke_turn state rules now force ts built b = subst (AllTurns state rules) (sym (looked_parts state rules.sets ts l))
+broke_turn : (state : Path) (rules : Rules) (now : Moment) (asked : Asked) (ts : List Entry) → AreBuiltRules rules.sets → BrokeOff state rules.sets now asked ts → AllTurns state rules ts
+broke_turn state rules now asked ts built b = subst (AllTurns state rules) (sym (looked_parts state rules.sets ts l))
     (cut_turns state rules (l.reads ++ l.looks) (all_targets decide rules.sets l.sets) _ b.marks b.of_acts l.acts
     (seen_quiet state rules.sets ts l) (seen_later rules l.reads l.looks (all_targets decide rules.sets l.sets) (targets_seen rules l.sets l.of_looks l.looks decide built l.shown))
-    (ready_planned (groups_of decide rules.sets l.sets) _ (plans_have_logs rules.sets l.sets l.of_looks l.looks decide built l.shown) (targets_apart rules.sets l.sets l.of_looks l.looks decide l.shown))
+    (ready_planned (groups_of decide rules.sets l.sets) _ (plans_have_logs rules.sets l.sets l.of_looks l.looks asked.mailer decide built l.shown) (targets_apart rules.sets l.sets l.of_looks l.looks decide l.shown))
     b.part)
   where
     l : Looked state rules.sets ts
     l = b.looked
 
     decide : Rule → LogLook → Due
-    decide = decision l.remembered.table now force
+    decide = decision l.remembered.table now asked.force
 
-pub whole_run : (state : Path) (force : Bool) (now : Moment) (rules : Rules) (earlier : List Fault) (r : Result Ran RunStop) (ts : List Entry) → AreBuiltRules rules.sets → Answers state false force now rules earlier r ts → IsWholeRun ts
-whole_run state force now rules earlier (Ok ran) ts built h = runs_shape state force now rules ran.plan h.0 ts built h.2
-whole_run state force now rules earlier (Err stop.Held) ts built h = quiet_run ts (sees_quiet (parent_of state) IsDir ts h)
-whole_run state force now rules earlier (Err stop.Memory) ts built (at_first e) = none_run ts e
-whole_run state force now rules earlier (Err stop.Memory) ts built (in_looks i) = begun_run state now rules i.before (i.between ++ entry.Ends ∷ []) ts i.directory i.entries
+pub whole_run : (state : Path) (asked : Asked) (now : Moment) (rules : Rules) (earlier : List Fault) (r : Result Ran RunStop) (ts : List Entry) → AreBuiltRules rules.sets → Answers state false asked now rules earlier r ts → IsWholeRun ts
+whole_run state asked now rules earlier (Ok ran) ts built h = runs_shape state asked now rules ran.plan h.0 ts built h.2
+whole_run state asked now rules earlier (Err stop.Held) ts built h = quiet_run ts (sees_quiet (parent_of state) IsDir ts h)
+whole_run state asked now rules earlier (Err stop.Memory) ts built (at_first e) = none_run ts e
+whole_run state asked now rules earlier (Err stop.Memory) ts built (in_looks i) = begun_run state now rules i.before (i.between ++ entry.Ends ∷ []) ts i.directory i.entries
     (ended state rules i.between (quiet_turns state rules i.between (some_quiet state rules.sets i.between i.within)))
-whole_run state force now rules earlier (Err stop.Memory) ts built (in_acts i) = begun_run state now rules i.before (i.between ++ entry.Ends ∷ []) ts i.directory i.entries (ended state rules i.between (broke_turn state rules now force i.between built i.within))
+whole_run state asked now rules earlier (Err stop.Memory) ts built (in_acts i) = begun_run state now rules i.before (i.between ++ entry.Ends ∷ []) ts i.directory i.entries (ended state rules i.between (broke_turn state rules now asked i.between built i.within))

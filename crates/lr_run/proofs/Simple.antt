@@ -18,15 +18,16 @@ use Rattle.lr_family.specs.Parts.{part_of}
 use Rattle.lr_family.specs.Spots.{path_at}
 use Rattle.lr_chain.specs.declared.ready.Move.{Move}
 use Rattle.lr_chain.specs.Ready.{removal_at}
-use Rattle.lr_commands.specs.Commands.{script, where_so}
+use Rattle.lr_chain.specs.Rotation.{places_of, leftovers, one_too_many}
+use Rattle.lr_commands.specs.Commands.{script, where_so, mail, with_programs}
 use Rattle.lr_plan.specs.declared.looks.LogLook.{LogLook}
 use Rattle.lr_plan.specs.declared.looks.SetLooks.{SetLooks}
 use Rattle.lr_plan.specs.declared.planned.LogPlan.{LogPlan}
 use Rattle.lr_plan.specs.declared.planned.SetPlan.{SetPlan}
 use Rattle.lr_plan.specs.declared.step.Step.{Step}
 use Rattle.lr_plan.specs.declared.step.Step.TheVariants.{Runs, Removes, Renames, Creates, Takes, Copies, SyncsFile, SyncsDir, Truncates, Rotated}
-use Rattle.lr_plan.specs.Planned.{copy_job, job_by, hindrances, ready_for, log_plan, none_hinders, plans_of, where_due, log_plans, set_plan, all_plans}
-use Rattle.lr_plan.specs.Steps.{program, removals, move, step_if, copy, transfer, anew, made_anew, rotation_of, retirement_of, steps_of_log, shared_steps, by_logs, steps_of_set}
+use Rattle.lr_plan.specs.Planned.{copy_job, job_by, hindrances, ready_for, dressed, log_plan, none_hinders, plans_of, where_due, log_plans, set_plan, all_plans}
+use Rattle.lr_plan.specs.Steps.{program, removal, removals, move, step_if, copy, transfer, anew, made_anew, rotation_of, retirement_of, steps_of_log, shared_steps, by_logs, steps_of_set}
 use Rattle.lr_acts.specs.Making.{all_of_each, all_of_set, all_of_sets}
 
 -- ---- what holds of each of some steps
@@ -43,9 +44,9 @@ pub step_split : (P : Step → Type 0) (xs ys : List Step) → EachStep P (xs ++
 step_split P [] ys h = (tt, h)
 step_split P (x ∷ xs) ys h = let r = step_split P xs ys h.1 in ((h.0, r.0), r.1)
 
--- ---- what holds of the steps of each plan, where Q holds of the texts of its scripts
+-- ---- what holds of the steps of each plan, where Q holds of the texts of its scripts and of its addresses
 
--- P holds of an unlink, a rename, the making of a log and a mark, of the steps of a copy, whose part file has the ending of one, and of the program of a script of which Q holds
+-- P holds of an unlink, a rename, the making of a log and a mark, of the steps of a copy, whose part file has the ending of one, and of the programs of a script and of an address of which Q holds
 pub record IsOfSteps (P : Step → Type 0) (Q : Option (List ℕ) → Type 0) : Type 0 where
   pub removes : (path : Path) → P (Removes path)
   pub renames : (from to : Path) → P (Renames from to)
@@ -57,13 +58,16 @@ pub record IsOfSteps (P : Step → Type 0) (Q : Option (List ℕ) → Type 0) : 
   pub truncates : (path : Path) → P (Truncates path)
   pub rotated : (log : Path) → P (Rotated log)
   pub runs : (p : Phase) (text : Option (List ℕ)) (args : List (List ℕ)) → Q text → EachStep P (program p (script text args))
+  pub mails : (mailer : Path) (address : Option (List ℕ)) (log file : Path) → Q address → EachStep P (program phase.Mail (mail mailer address log file))
 
--- Q holds of the scripts of the rule that a plan runs
+-- Q holds of the scripts of the rule, and of the address that it mails to
 pub record IsOfScripts (Q : Option (List ℕ) → Type 0) (rule : Rule) : Type 0 where
   pub first : Q rule.scripts.first
   pub pre : Q rule.scripts.pre
   pub post : Q rule.scripts.post
   pub last : Q rule.scripts.last
+  pub preremove : Q rule.scripts.preremove
+  pub mail : Q rule.mail
 
 abbrev pub AreOfScripts : (Option (List ℕ) → Type 0) → List Rule → Type 0
 AreOfScripts Q [] = Unit {0}
@@ -76,9 +80,17 @@ module _ (P : Step → Type 0) (Q : Option (List ℕ) → Type 0) (k : IsOfSteps
   where_runs true p text args q = k.runs p text args q
   where_runs false p text args q = tt
 
-  removals_so : (n : Naming) (places : List ℕ) → EachStep P (removals (map (removal_at n) places))
-  removals_so n [] = tt
-  removals_so n (p ∷ ps) = (k.removes _, removals_so n ps)
+  where_mails : (b : Bool) (mailer : Path) (address : Option (List ℕ)) (log file : Path) → Q address → EachStep P (program phase.Mail (where_so b (mail mailer address log file)))
+  where_mails true mailer address log file q = k.mails mailer address log file q
+  where_mails false mailer address log file q = tt
+
+  removals_so : (mailer : Path) (rule : Rule) (log : Path) (n : Naming) (places : List ℕ) → IsOfScripts Q rule → EachStep P (removals (map (with_programs rule mailer log) (map (removal_at n) places)))
+  removals_so mailer rule log n [] h = tt
+  removals_so mailer rule log n (p ∷ ps) h =
+      step_both P (removal (with_programs rule mailer log (removal_at n p))) _
+      (step_both P (program phase.Preremove (script rule.scripts.preremove (path_at n p ∷ []))) _ (k.runs phase.Preremove rule.scripts.preremove (path_at n p ∷ []) h.preremove)
+      (step_both P (program phase.Mail (where_so (not rule.mailfirst) (mail mailer rule.mail log (path_at n p)))) _ (where_mails (not rule.mailfirst) mailer rule.mail log (path_at n p) h.mail) (k.removes _, tt)))
+      (removals_so mailer rule log n ps h)
 
   moves_so : (ms : List Move) → EachStep P (map move ms)
   moves_so [] = tt
@@ -118,13 +130,13 @@ module _ (P : Step → Type 0) (Q : Option (List ℕ) → Type 0) (k : IsOfSteps
   AreLogsSo [] = Unit {0}
   AreLogsSo (log ∷ logs) = IsLogSo log × AreLogsSo logs
 
-  log_so : (rule : Rule) (look : LogLook) → IsOfScripts Q rule → IsLogSo (log_plan rule look)
-  log_so rule look h = record {
-    rotation = step_both P (removals (ready_for rule look).leftovers) _ (removals_so look.family.naming _)
+  log_so : (mailer : Path) (rule : Rule) (look : LogLook) → IsOfScripts Q rule → IsLogSo (log_plan mailer rule look)
+  log_so mailer rule look h = record {
+    rotation = step_both P (removals (dressed rule mailer (ready_for rule look)).leftovers) _ (removals_so mailer rule look.path look.family.naming (leftovers rule.count (places_of look.stand.members)) h)
         (step_both P (map move (ready_for rule look).moves) _ (moves_so (ready_for rule look).moves)
         (step_both P (transfer look.path (ready_for rule look).target (job_by rule.way look)) _ (transfer_so rule.way look look.path (ready_for rule look).target)
         (k.rotated _, made_so rule.way look (ready_for rule look).make look.path)));
-    retirement = removals_so look.family.naming _;
+    retirement = removals_so mailer rule look.path look.family.naming (one_too_many rule.count (places_of look.stand.members)) h;
     pre = where_runs (not rule.shared) phase.Pre rule.scripts.pre _ h.pre;
     post = where_runs (not rule.shared) phase.Post rule.scripts.post _ h.post;
   }
@@ -141,9 +153,10 @@ module _ (P : Step → Type 0) (Q : Option (List ℕ) → Type 0) (k : IsOfSteps
   due_so (due.Yes why) logs h = h
   due_so (due.No why) logs h = tt
 
-  logs_so : (rule : Rule) (decide : LogLook → Due) (looks : List LogLook) → IsOfScripts Q rule → AreLogsSo (log_plans rule decide looks)
-  logs_so rule decide [] h = tt
-  logs_so rule decide (l ∷ ls) h = logs_both (where_due (decide l) (plans_of rule l)) (log_plans rule decide ls) (due_so (decide l) (plans_of rule l) (free_so (hindrances rule l) (log_plan rule l) (log_so rule l h))) (logs_so rule decide ls h)
+  logs_so : (mailer : Path) (rule : Rule) (decide : LogLook → Due) (looks : List LogLook) → IsOfScripts Q rule → AreLogsSo (log_plans mailer rule decide looks)
+  logs_so mailer rule decide [] h = tt
+  logs_so mailer rule decide (l ∷ ls) h =
+      logs_both (where_due (decide l) (plans_of mailer rule l)) (log_plans mailer rule decide ls) (due_so (decide l) (plans_of mailer rule l) (free_so (hindrances rule l) (log_plan mailer rule l) (log_so mailer rule l h))) (logs_so mailer rule decide ls h)
 
   -- ---- one definition
 
@@ -192,12 +205,12 @@ module _ (P : Step → Type 0) (Q : Option (List ℕ) → Type 0) (k : IsOfSteps
 
   -- ---- all definitions
 
-  pub plan_so : (decide : Rule → LogLook → Due) (rules : List Rule) (sets : List SetLooks) → AreOfScripts Q rules → EachStep P (all_of_sets (map steps_of_set (all_plans decide rules sets)))
-  plan_so decide [] [] h = tt
-  plan_so decide [] (s ∷ ss) h = tt
-  plan_so decide (r ∷ rs) [] h = tt
-  plan_so decide (r ∷ rs) (s ∷ ss) h = step_both P (all_of_set (steps_of_set (set_plan r (log_plans r (decide r) s.logs)))) _
-      (set_so (set_plan r (log_plans r (decide r) s.logs)) (own_so r (log_plans r (decide r) s.logs) h.0) (logs_so r (decide r) s.logs h.0)) (plan_so decide rs ss h.1)
+  pub plan_so : (mailer : Path) (decide : Rule → LogLook → Due) (rules : List Rule) (sets : List SetLooks) → AreOfScripts Q rules → EachStep P (all_of_sets (map steps_of_set (all_plans mailer decide rules sets)))
+  plan_so mailer decide [] [] h = tt
+  plan_so mailer decide [] (s ∷ ss) h = tt
+  plan_so mailer decide (r ∷ rs) [] h = tt
+  plan_so mailer decide (r ∷ rs) (s ∷ ss) h = step_both P (all_of_set (steps_of_set (set_plan r (log_plans mailer r (decide r) s.logs)))) _
+      (set_so (set_plan r (log_plans mailer r (decide r) s.logs)) (own_so r (log_plans mailer r (decide r) s.logs) h.0) (logs_so mailer r (decide r) s.logs h.0)) (plan_so mailer decide rs ss h.1)
 
 -- ---- simple steps
 
@@ -221,13 +234,17 @@ AreSimple steps = EachStep IsSimple steps
 pub simple_split : (xs ys : List Step) → AreSimple (xs ++ ys) → AreSimple xs × AreSimple ys
 simple_split xs ys h = step_split IsSimple xs ys h
 
--- so are the programs of all scripts
+-- so are the programs of all scripts and addresses
 abbrev Any : Option (List ℕ) → Type 0
 Any text = Unit {0}
 
 program_simple : (p : Phase) (text : Option (List ℕ)) (args : List (List ℕ)) → Any text → AreSimple (program p (script text args))
 program_simple p None args q = tt
 program_simple p (Some text) args q = (tt, tt)
+
+mail_simple : (mailer : Path) (address : Option (List ℕ)) (log file : Path) → Any address → AreSimple (program phase.Mail (mail mailer address log file))
+mail_simple mailer None log file q = tt
+mail_simple mailer (Some address) log file q = (tt, tt)
 
 simple_steps : IsOfSteps IsSimple Any
 simple_steps = record {
@@ -241,11 +258,12 @@ simple_steps = record {
   truncates = λ path. tt;
   rotated = λ log. tt;
   runs = program_simple;
+  mails = mail_simple;
 }
 
 any_scripts : (rules : List Rule) → AreOfScripts Any rules
 any_scripts [] = tt
-any_scripts (rule ∷ rules) = (record { first = tt; pre = tt; post = tt; last = tt }, any_scripts rules)
+any_scripts (rule ∷ rules) = (record { first = tt; pre = tt; post = tt; last = tt; preremove = tt; mail = tt }, any_scripts rules)
 
-pub plan_simple : (decide : Rule → LogLook → Due) (rules : List Rule) (sets : List SetLooks) → AreSimple (all_of_sets (map steps_of_set (all_plans decide rules sets)))
-plan_simple decide rules sets = plan_so IsSimple Any simple_steps decide rules sets (any_scripts rules)
+pub plan_simple : (mailer : Path) (decide : Rule → LogLook → Due) (rules : List Rule) (sets : List SetLooks) → AreSimple (all_of_sets (map steps_of_set (all_plans mailer decide rules sets)))
+plan_simple mailer decide rules sets = plan_so IsSimple Any simple_steps mailer decide rules sets (any_scripts rules)

@@ -31,6 +31,7 @@ use Rattle.lr_looks.specs.Found.{FoundLog}
 use Rattle.lr_looks.specs.Asked.{Word}
 use Rattle.lr_looks.specs.Sights.{WordSight, missing, glob_fault, fault_of, faults_of}
 use Rattle.lr_looks.specs.Shown.{ShowsLooks, LooksAtAll}
+use Rattle.lr_plan.specs.Asked.{Asked}
 use Rattle.lr_plan.specs.declared.looks.LogLook.{LogLook}
 use Rattle.lr_plan.specs.declared.looks.Looks.{Looks}
 use Rattle.lr_plan.specs.declared.looks.SetLooks.{SetLooks}
@@ -170,24 +171,24 @@ plan_none decide (r ∷ rs) (s ∷ ss) = no_on (log_faults r (decide r) s.logs) 
 -- ---- from part to part
 
 -- the acts, behind the faults of the plan
-pub carried_taken : {T : Type 0} (r : Result T Memory) (state : Path) (rules : Rules) (looks : Looks) (remembered : Remembered) (now : Moment) (force : Bool) (plan : Option Plan) (ready : Ready) (x y z : Progress) (m n : Option Journal) (k l : Counts)
-    → plan ≡ Some (PlanFor rules looks remembered now force) → ReadyFor state now remembered looks.kept (PlanFor rules looks remembered now force) ready x y → OnOk r (ActsAndWrites ready now.civil y z m n k l)
+pub carried_taken : {T : Type 0} (r : Result T Memory) (state : Path) (rules : Rules) (looks : Looks) (remembered : Remembered) (now : Moment) (asked : Asked) (plan : Option Plan) (ready : Ready) (x y z : Progress) (m n : Option Journal) (k l : Counts)
+    → plan ≡ Some (PlanFor rules looks remembered now asked) → ReadyFor state now remembered looks.kept (PlanFor rules looks remembered now asked) ready x y → OnOk r (ActsAndWrites ready now.civil y z m n k l)
     → OnOk r (AddsTaken state plan x.faults.items z.faults.items m n)
-carried_taken (Err u) state rules looks remembered now force plan ready x y z m n k l is r h = tt
-carried_taken (Ok u) state rules looks remembered now force plan ready x y z m n k l is r h = record {
-  added = (PlanFor rules looks remembered now force).faults ++ (h.of_plan ++ h.of_state);
-  after_is = h.faults_are ∙ (ap (λ (fs : List Fault). fs ++ (h.of_plan ++ h.of_state)) r.is.faults ∙ append_assoc x.faults.items (PlanFor rules looks remembered now force).faults (h.of_plan ++ h.of_state));
+carried_taken (Err u) state rules looks remembered now asked plan ready x y z m n k l is r h = tt
+carried_taken (Ok u) state rules looks remembered now asked plan ready x y z m n k l is r h = record {
+  added = (PlanFor rules looks remembered now asked).faults ++ (h.of_plan ++ h.of_state);
+  after_is = h.faults_are ∙ (ap (λ (fs : List Fault). fs ++ (h.of_plan ++ h.of_state)) r.is.faults ∙ append_assoc x.faults.items (PlanFor rules looks remembered now asked).faults (h.of_plan ++ h.of_state));
   taken = λ p e. record {
     stale = remembered.stale;
     dirs = r.is.writes.0;
     text = h.text;
-    taken = λ path last i. ⊎_elim (λ a. absurd (plan_none (decision remembered.table now force) rules.sets looks.sets path a)) (λ b. h.taken.taken path (steps_are p e path last) b)
-        (in_append (fault.Taken path) (PlanFor rules looks remembered now force).faults (h.of_plan ++ h.of_state) i);
+    taken = λ path last i. ⊎_elim (λ a. absurd (plan_none (decision remembered.table now asked.force) rules.sets looks.sets path a)) (λ b. h.taken.taken path (steps_are p e path last) b)
+        (in_append (fault.Taken path) (PlanFor rules looks remembered now asked).faults (h.of_plan ++ h.of_state) i);
   };
 }
   where
-    same : (p : Plan) → plan ≡ Some p → PlanFor rules looks remembered now force ≡ p
-    same p e = let both : Some (PlanFor rules looks remembered now force) ≡ Some p = sym is ∙ e in cc
+    same : (p : Plan) → plan ≡ Some p → PlanFor rules looks remembered now asked ≡ p
+    same p e = let both : Some (PlanFor rules looks remembered now asked) ≡ Some p = sym is ∙ e in cc
 
     steps_are : (p : Plan) → plan ≡ Some p → (path : Path) → LastTaken path (all_of_sets (steps_of_plan p) ++ state_steps state remembered.stale r.is.writes.0 h.text) → LastTaken path (all_of_sets ready.steps ++ state_steps ready.writing.state ready.writing.stale ready.writing.dirs h.text)
     steps_are p e path last =

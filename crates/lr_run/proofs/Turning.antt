@@ -1,5 +1,5 @@
 -- A run of which no call failed, no program ended badly and no copy broke off copies each log of its plan that is to be copied, and turns its family.
-use Rattle.std.proofs.Common.{◌≡◌, inl, inr, Bool, Some, List, [], ◌∷◌, ◌++◌, reverse, refl, sym, ◌∙◌, subst}
+use Rattle.std.proofs.Common.{◌≡◌, inl, inr, Some, List, [], ◌∷◌, ◌++◌, reverse, refl, sym, ◌∙◌, subst}
 use Rattle.lr_rules.specs.declared.civil.Moment.{Moment}
 use Rattle.lr_rules.specs.declared.fault.Fault.{Fault}
 use Rattle.lr_rules.specs.declared.path.Path.{Path}
@@ -14,6 +14,7 @@ use Rattle.lr_host.specs.Counted.{calls_in, scripts_in}
 use Rattle.lr_family.specs.Spots.{path_at}
 use Rattle.lr_copy.specs.declared.job.Job.{Job}
 use Rattle.lr_copy.specs.Fits.{ArePaths}
+use Rattle.lr_plan.specs.Asked.{Asked}
 use Rattle.lr_plan.specs.Done.{PlanDone}
 use Rattle.lr_emptied.specs.Emptied.{EmptiesCopied}
 use Rattle.lr_emptied.proofs.Acts.{state_copying}
@@ -42,25 +43,25 @@ use Rattle.lr_run.specs.Runs.{Inside, Worked, plan_in}
 use Rattle.lr_run.specs.Turned.{IsTurnedAmong}
 use Rattle.lr_run.proofs.Rotating.{has, met_none, turned, whole_run, quiet_first, aside_paths, decide}
 
-pub run_turned : (state : Path) (force : Bool) (now : Moment) (rules : Rules) (own : List Fault) (p q : Past) (es reads acts : List Entry) → AreBuiltRules rules.sets → Made p es q → IsJournal p → reverse es ≡ reads ++ acts → AreQuiet reads
-    → (i : Inside state now rules (Worked state rules.sets now force own) acts) → calls_in own ≡ 0 → scripts_in own ≡ 0 → NoneOfCopy own → (t : Target) → IsOneOf t (rotated_in state rules.sets i.between i.within.looked now force) → (job : Job) → t.job ≡ Some job
-    → IsTurnedAmong state (rotated_in state rules.sets i.between i.within.looked now force) p q t job
-run_turned state force now rules own p q es reads acts built made journal joined quiet i no_call no_end no_copy t one job job_is = λ spared. (
+pub run_turned : (state : Path) (asked : Asked) (now : Moment) (rules : Rules) (own : List Fault) (p q : Past) (es reads acts : List Entry) → AreBuiltRules rules.sets → Made p es q → IsJournal p → reverse es ≡ reads ++ acts → AreQuiet reads
+    → (i : Inside state now rules (Worked state rules.sets now asked own) acts) → calls_in own ≡ 0 → scripts_in own ≡ 0 → NoneOfCopy own → (t : Target) → IsOneOf t (rotated_in state rules.sets i.between i.within.looked now asked) → (job : Job) → t.job ≡ Some job
+    → IsTurnedAmong state (rotated_in state rules.sets i.between i.within.looked now asked) p q t job
+run_turned state asked now rules own p q es reads acts built made journal joined quiet i no_call no_end no_copy t one job job_is = λ spared. (
   seen_stood others job t.naming t.count t.stand p q es made journal family to_is paths names.next spared outside among,
   turned_by_copy others job t.naming t.count t.stand p q es made journal family to_is paths names.next spared outside among,
 )
   where
     names : HasNames t
-    names = has state force now rules own p q es reads acts built made journal joined quiet i no_call no_end no_copy t one
+    names = has state asked now rules own p q es reads acts built made journal joined quiet i no_call no_end no_copy t one
 
     all : AllTurned state rules ((((i.within.looked.reads ++ i.within.looked.looks) ++ i.within.acted.entries.entries.front) ++ i.within.acted.entries.entries.back) ++ entry.Ends ∷ [])
-    all = turned state force now rules own p q es reads acts built made journal joined quiet i no_call no_end no_copy t one
+    all = turned state asked now rules own p q es reads acts built made journal joined quiet i no_call no_end no_copy t one
 
-    w : Worked state rules.sets now force own i.between
+    w : Worked state rules.sets now asked own i.between
     w = i.within
 
     others : List Path
-    others = other_paths state t.log (rotated_in state rules.sets i.between i.within.looked now force)
+    others = other_paths state t.log (rotated_in state rules.sets i.between i.within.looked now asked)
 
     is_job : IsJob t job
     is_job = names.job job job_is
@@ -79,15 +80,15 @@ run_turned state force now rules own p q es reads acts built made journal joined
 
     outside : AreOutside (job.part ∷ others) job.from t.naming
     outside x (inl is) = (λ e. paths.part_apart (is ∙ e), subst (IsNoMember t.naming) is no_member)
-    outside x (inr j) = let o = aside_paths state force now rules own p q es reads acts built made journal joined quiet i no_call no_end no_copy t one x j in (λ e. o.0 (e ∙ is_job.from_is), o.1)
+    outside x (inr j) = let o = aside_paths state asked now rules own p q es reads acts built made journal joined quiet i no_call no_end no_copy t one x j in (λ e. o.0 (e ∙ is_job.from_is), o.1)
 
-    done : PlanDone (plan_in state rules.sets i.between w.looked now force) w.acted.marks [] w.acted.entries.entries.front
-    done = subst (λ (fs : List Fault). PlanDone (plan_in state rules.sets i.between w.looked now force) w.acted.marks fs w.acted.entries.entries.front) (met_none state force now rules own p q es reads acts built made journal joined quiet i no_call no_end no_copy t one) w.acted.entries.entries.first
+    done : PlanDone (plan_in state rules.sets i.between w.looked now asked) w.acted.marks [] w.acted.entries.entries.front
+    done = subst (λ (fs : List Fault). PlanDone (plan_in state rules.sets i.between w.looked now asked) w.acted.marks fs w.acted.entries.entries.front) (met_none state asked now rules own p q es reads acts built made journal joined quiet i no_call no_end no_copy t one) w.acted.entries.entries.first
 
-    logs : HaveLogs (groups_of (decide state force now rules own p q es reads acts built made journal joined quiet i no_call no_end no_copy t one) rules.sets w.looked.sets) (plan_in state rules.sets i.between w.looked now force).sets
-    logs = plans_have_logs rules.sets w.looked.sets w.looked.of_looks w.looked.looks _ built w.looked.shown
+    logs : HaveLogs (groups_of (decide state asked now rules own p q es reads acts built made journal joined quiet i no_call no_end no_copy t one) rules.sets w.looked.sets) (plan_in state rules.sets i.between w.looked now asked).sets
+    logs = plans_have_logs rules.sets w.looked.sets w.looked.of_looks w.looked.looks asked.mailer _ built w.looked.shown
 
-    apart : AreApart (rotated_in state rules.sets i.between i.within.looked now force)
+    apart : AreApart (rotated_in state rules.sets i.between i.within.looked now asked)
     apart = targets_apart rules.sets w.looked.sets w.looked.of_looks w.looked.looks _ w.looked.shown
 
     stands : CopyStands job all.turns.acts
@@ -102,5 +103,5 @@ run_turned state force now rules own p q es reads acts built made journal joined
         (none_empties (IsSameFor job) (entry.Ends ∷ []) (tt, tt))
 
     among : CopiesAmong others job t.naming t.count t.stand (reverse es)
-    among = subst (CopiesAmong others job t.naming t.count t.stand) (sym (whole_run state force now rules own p q es reads acts built made journal joined quiet i no_call no_end no_copy t one))
-        (copies_among state now rules (reads ++ i.before) _ all t job (quiet_first state force now rules own p q es reads acts built made journal joined quiet i no_call no_end no_copy t one) one job_is names outside stands copies)
+    among = subst (CopiesAmong others job t.naming t.count t.stand) (sym (whole_run state asked now rules own p q es reads acts built made journal joined quiet i no_call no_end no_copy t one))
+        (copies_among state now rules (reads ++ i.before) _ all t job (quiet_first state asked now rules own p q es reads acts built made journal joined quiet i no_call no_end no_copy t one) one job_is names outside stands copies)

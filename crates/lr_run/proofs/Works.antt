@@ -30,6 +30,7 @@ use Rattle.lr_state.specs.Written.{text_of}
 use Rattle.lr_due.specs.declared.answer.Due.{Due}
 use Rattle.lr_due.specs.declared.answer.Due.TheVariants as due
 use Rattle.lr_chain.specs.Ready.{highest_path}
+use Rattle.lr_plan.specs.Asked.{Asked}
 use Rattle.lr_plan.specs.declared.looks.LogLook.{LogLook}
 use Rattle.lr_plan.specs.declared.looks.Looks.{Looks}
 use Rattle.lr_plan.specs.declared.looks.SetLooks.{SetLooks}
@@ -68,7 +69,7 @@ use Rattle.lr_seen.specs.Targets.{groups_of, all_targets}
 use Rattle.lr_seen.proofs.Apart.{targets_dont_meet}
 use Rattle.lr_seen.proofs.Built.{can_plan_set}
 use Rattle.lr_seen.proofs.Quiet.{whole_quiet}
-use Rattle.lr_seen.proofs.Ready.{plans_have_logs, plans_read_none}
+use Rattle.lr_seen.proofs.Ready.{plans_have_logs, plans_read_removed}
 use Rattle.lr_seen.proofs.Seen.{targets_seen, targets_have_names, targets_have_paths}
 use Rattle.lr_run.specs.declared.ready.Ready.{Ready}
 use Rattle.lr_run.specs.Internal.{WritesTo, ReadyFor, MayBeReady, ActsAndWrites, SomeActs, CarriesOn, Carries, LookedDone, WorkDone, SomeWork, some_seen, some_done, EndsBehindLooks, EndsBehindState}
@@ -158,10 +159,10 @@ sets_none : (sets : List SetSteps) → CanSets None sets
 sets_none [] = tt
 sets_none (s ∷ ss) = (set_none s, λ now l. sets_at ss (sets_none ss) l.2)
 
-pub fits_behind : (reserved : List Path) (rules : Rules) (looks : Looks) (a b : List Fault) (decide : Rule → LogLook → Due) {o n : Option Journal} → AreBuiltRules rules.sets → WhereTold o IsJournal → Left (LooksAtAll reserved rules.sets looks a b) o n → CanSets n (map steps_of_set (all_plans decide rules.sets looks.sets))
-fits_behind reserved rules looks a b decide built disk not_told = sets_none (map steps_of_set (all_plans decide rules.sets looks.sets))
-fits_behind reserved rules looks a b decide built disk (is_told {j = j} {k = k} {es = es} m h) =
-    can_sets (Some k) (groups_of decide rules.sets looks.sets) (all_plans decide rules.sets looks.sets) (plans_have_logs rules.sets looks.sets h.own (reverse es) decide built h.shown) (plans_read_none rules.sets looks.sets decide built)
+pub fits_behind : (reserved : List Path) (rules : Rules) (looks : Looks) (a b : List Fault) (mailer : Path) (decide : Rule → LogLook → Due) {o n : Option Journal} → AreBuiltRules rules.sets → WhereTold o IsJournal → Left (LooksAtAll reserved rules.sets looks a b) o n → CanSets n (map steps_of_set (all_plans mailer decide rules.sets looks.sets))
+fits_behind reserved rules looks a b mailer decide built disk not_told = sets_none (map steps_of_set (all_plans mailer decide rules.sets looks.sets))
+fits_behind reserved rules looks a b mailer decide built disk (is_told {j = j} {k = k} {es = es} m h) =
+    can_sets (Some k) (groups_of decide rules.sets looks.sets) (all_plans mailer decide rules.sets looks.sets) (plans_have_logs rules.sets looks.sets h.own (reverse es) mailer decide built h.shown) (plans_read_removed rules.sets looks.sets mailer decide built)
     (seen_fit rules (all_targets decide rules.sets looks.sets) (Some j) (Some k) (targets_have_names rules looks.sets h.own (reverse es) decide built h.shown)
     (targets_have_paths rules.sets looks.sets h.own (reverse es) decide h.shown) disk
     (is_told m (whole_quiet rules.sets looks.sets h.own (reverse es) h.shown, targets_seen rules looks.sets h.own (reverse es) decide built h.shown)))
@@ -169,16 +170,16 @@ fits_behind reserved rules looks a b decide built disk (is_told {j = j} {k = k} 
 
 -- ---- what is ready can be done
 
-pub steps_simple : (rules : List Rule) (sets : List SetLooks) (table : List Row) (now : Moment) (force : Bool) → AreSimple (all_of_sets (steps_of_plan (plan_of rules sets table now force)))
-steps_simple rules sets table now force = plan_simple (decision table now force) rules sets
+pub steps_simple : (rules : List Rule) (sets : List SetLooks) (table : List Row) (now : Moment) (asked : Asked) → AreSimple (all_of_sets (steps_of_plan (plan_of rules sets table now asked)))
+steps_simple rules sets table now asked = plan_simple asked.mailer (decision table now asked.force) rules sets
 
 -- the steps that are ready are those of the plan
-abbrev pub PlanFor : Rules → Looks → Remembered → Moment → Bool → Plan
-PlanFor rules looks remembered now force = plan_of rules.sets looks.sets remembered.table now force
+abbrev pub PlanFor : Rules → Looks → Remembered → Moment → Asked → Plan
+PlanFor rules looks remembered now asked = plan_of rules.sets looks.sets remembered.table now asked
 
-pub ready_fit : (reserved : List Path) (rules : Rules) (looks : Looks) (state : Path) (remembered : Remembered) (now : Moment) (force : Bool) (ready : Ready) (x y : Progress) (a b : List Fault) {o n : Option Journal} → AreBuiltRules rules.sets → WhereTold o IsJournal
-    → ReadyFor state now remembered looks.kept (PlanFor rules looks remembered now force) ready x y → Left (LooksAtAll reserved rules.sets looks a b) o n → CanSets n ready.steps
-ready_fit reserved rules looks state remembered now force ready x y a b {n = n} built disk r l = subst (CanSets n) (sym r.is.steps) (fits_behind reserved rules looks a b (decision remembered.table now force) built disk l)
+pub ready_fit : (reserved : List Path) (rules : Rules) (looks : Looks) (state : Path) (remembered : Remembered) (now : Moment) (asked : Asked) (ready : Ready) (x y : Progress) (a b : List Fault) {o n : Option Journal} → AreBuiltRules rules.sets → WhereTold o IsJournal
+    → ReadyFor state now remembered looks.kept (PlanFor rules looks remembered now asked) ready x y → Left (LooksAtAll reserved rules.sets looks a b) o n → CanSets n ready.steps
+ready_fit reserved rules looks state remembered now asked ready x y a b {n = n} built disk r l = subst (CanSets n) (sym r.is.steps) (fits_behind reserved rules looks a b asked.mailer (decision remembered.table now asked.force) built disk l)
 
 -- the text was small enough, and all was taken
 pub ready_of : (state : Path) (now : Moment) (remembered : Remembered) (kept logs : List Path) (plan for : Plan) (o : Option Ready) (ready : Ready) (x y : Progress) → kept ≡ logs → plan ≡ for → o ≡ Some ready → MayBeReady state now remembered kept plan o x y
@@ -199,15 +200,15 @@ writes_state : (state : Path) (stale : Bool) (plan : Plan) (written : Target) (t
 writes_state state stale plan written text new fs ts w e c =
     subst (λ (t : List ℕ). Course (state_steps state stale w.0 t) [] fs ts) e (subst (λ (x : Target). Course (state_steps x.state x.stale x.dirs text) [] fs ts) w.2 c)
 
-abbrev acted : (state : Path) (rules : Rules) (looks : Looks) (remembered : Remembered) (now : Moment) (force : Bool) (ready : Ready) (x y : Progress) (sights : StateSights) (reads ls us : List Entry) (of_looks : List Fault) (marks : List Mark) (of_plan of_state : List Fault)
-    → ReadyFor state now remembered looks.kept (PlanFor rules looks remembered now force) ready x y → IsKnown state sights (Ok remembered) → ShowsState state 65_536 sights reads
+abbrev acted : (state : Path) (rules : Rules) (looks : Looks) (remembered : Remembered) (now : Moment) (asked : Asked) (ready : Ready) (x y : Progress) (sights : StateSights) (reads ls us : List Entry) (of_looks : List Fault) (marks : List Mark) (of_plan of_state : List Fault)
+    → ReadyFor state now remembered looks.kept (PlanFor rules looks remembered now asked) ready x y → IsKnown state sights (Ok remembered) → ShowsState state 65_536 sights reads
     → (shown : ShowsLooks (reserved_by state) rules.sets looks.sets of_looks ls) → looks.kept ≡ paths_of shown.kept
     → Then (SetsDone ready.steps marks of_plan) (Course (state_steps ready.writing.state ready.writing.stale ready.writing.dirs (text_of (map (stamped (rotated_logs marks) now.civil) ready.table))) [] of_state) us
-    → Worked state rules.sets now force (of_looks ++ ((PlanFor rules looks remembered now force).faults ++ (of_plan ++ of_state))) (reads ++ (ls ++ us))
-acted state rules looks remembered now force ready x y sights reads ls us of_looks marks of_plan of_state r known read shown kept t = record {
+    → Worked state rules.sets now asked (of_looks ++ ((PlanFor rules looks remembered now asked).faults ++ (of_plan ++ of_state))) (reads ++ (ls ++ us))
+acted state rules looks remembered now asked ready x y sights reads ls us of_looks marks of_plan of_state r known read shown kept t = record {
   looked = record { sights = sights; remembered = remembered; known = known; sets = looks.sets; of_looks = of_looks; reads = reads; looks = ls; acts = us; joined = refl; read = read; shown = shown };
   acted = record {
-    small = subst (λ (ks : List Path). length (measured_text (logs_in (PlanFor rules looks remembered now force)) now.civil (after remembered.table [] ks now.civil)) ≤ 67_108_864) kept r.small;
+    small = subst (λ (ks : List Path). length (measured_text (logs_in (PlanFor rules looks remembered now asked)) now.civil (after remembered.table [] ks now.civil)) ≤ 67_108_864) kept r.small;
     dirs = r.is.writes.0;
     dirs_are = r.is.writes.1;
     marks = marks;
@@ -222,7 +223,7 @@ acted state rules looks remembered now force ready x y sights reads ls us of_loo
         back = t.back;
         joined = t.joined;
         first = subst (λ (ss : List SetSteps). SetsDone ss marks of_plan t.front) r.is.steps t.first;
-        second = writes_state state remembered.stale (PlanFor rules looks remembered now force) ready.writing (text_of (map (stamped (rotated_logs marks) now.civil) ready.table)) (text_of (after remembered.table (rotated_logs marks) (paths_of shown.kept) now.civil)) of_state t.back
+        second = writes_state state remembered.stale (PlanFor rules looks remembered now asked) ready.writing (text_of (map (stamped (rotated_logs marks) now.civil) ready.table)) (text_of (after remembered.table (rotated_logs marks) (paths_of shown.kept) now.civil)) of_state t.back
             r.is.writes
             (state_text_is now.civil (rotated_logs marks) looks.kept remembered.table ready.table r.is.table_is ∙ ap (λ (ks : List Path). text_of (after remembered.table (rotated_logs marks) ks now.civil)) kept)
             t.second;
@@ -231,41 +232,41 @@ acted state rules looks remembered now force ready x y sights reads ls us of_loo
   };
 }
 
-pub carried_out : {T : Type 0} (r : Result T Memory) (state : Path) (rules : Rules) (looks : Looks) (remembered : Remembered) (now : Moment) (force : Bool) (plan : Option Plan) (ready : Ready) (x y z : Progress) (m n : Option Journal) (k l : Counts)
-    → plan ≡ Some (PlanFor rules looks remembered now force) → ReadyFor state now remembered looks.kept (PlanFor rules looks remembered now force) ready x y → OnOk r (ActsAndWrites ready now.civil y z m n k l)
-    → OnOk r (Carries rules looks state remembered now force plan x.faults.items z.faults.items m n)
-carried_out (Ok u) state rules looks remembered now force plan ready x y z m n k l is r h = left_as h.entries (λ us t. record {
-  own = (PlanFor rules looks remembered now force).faults ++ (h.of_plan ++ h.of_state);
-  faults_are = h.faults_are ∙ (ap (λ (fs : List Fault). fs ++ (h.of_plan ++ h.of_state)) r.is.faults ∙ append_assoc x.faults.items (PlanFor rules looks remembered now force).faults (h.of_plan ++ h.of_state));
-  works = λ sights reads ls own known read shown kept. worked (acted state rules looks remembered now force ready x y sights reads ls us own h.marks h.of_plan h.of_state r known read shown kept t) is;
+pub carried_out : {T : Type 0} (r : Result T Memory) (state : Path) (rules : Rules) (looks : Looks) (remembered : Remembered) (now : Moment) (asked : Asked) (plan : Option Plan) (ready : Ready) (x y z : Progress) (m n : Option Journal) (k l : Counts)
+    → plan ≡ Some (PlanFor rules looks remembered now asked) → ReadyFor state now remembered looks.kept (PlanFor rules looks remembered now asked) ready x y → OnOk r (ActsAndWrites ready now.civil y z m n k l)
+    → OnOk r (Carries rules looks state remembered now asked plan x.faults.items z.faults.items m n)
+carried_out (Ok u) state rules looks remembered now asked plan ready x y z m n k l is r h = left_as h.entries (λ us t. record {
+  own = (PlanFor rules looks remembered now asked).faults ++ (h.of_plan ++ h.of_state);
+  faults_are = h.faults_are ∙ (ap (λ (fs : List Fault). fs ++ (h.of_plan ++ h.of_state)) r.is.faults ∙ append_assoc x.faults.items (PlanFor rules looks remembered now asked).faults (h.of_plan ++ h.of_state));
+  works = λ sights reads ls own known read shown kept. worked (acted state rules looks remembered now asked ready x y sights reads ls us own h.marks h.of_plan h.of_state r known read shown kept t) is;
 })
-carried_out (Err u) state rules looks remembered now force plan ready x y z m n k l is r h = tt
+carried_out (Err u) state rules looks remembered now asked plan ready x y z m n k l is r h = tt
 
-pub too_big_told : {T E : Type 0} (r : Result T E) (state : Path) (rules : Rules) (looks : Looks) (remembered : Remembered) (now : Moment) (force : Bool) (plan : Option Plan) (x y : Progress) (b : List Fault) (o : Option Journal)
-    → plan ≡ None → (67_108_864 < length (measured_text (logs_in (PlanFor rules looks remembered now force)) now.civil (after remembered.table [] looks.kept now.civil))) × (y ≡ x) → OnOk r (b ≡ y.faults.items ++ fault.State 0 kind.TooBig ∷ [])
-    → OnOk r (Carries rules looks state remembered now force plan x.faults.items b o o)
-too_big_told (Ok u) state rules looks remembered now force plan x y b o none big e = left_first (CarriesOn rules looks state remembered now force plan x.faults.items b) o (record {
+pub too_big_told : {T E : Type 0} (r : Result T E) (state : Path) (rules : Rules) (looks : Looks) (remembered : Remembered) (now : Moment) (asked : Asked) (plan : Option Plan) (x y : Progress) (b : List Fault) (o : Option Journal)
+    → plan ≡ None → (67_108_864 < length (measured_text (logs_in (PlanFor rules looks remembered now asked)) now.civil (after remembered.table [] looks.kept now.civil))) × (y ≡ x) → OnOk r (b ≡ y.faults.items ++ fault.State 0 kind.TooBig ∷ [])
+    → OnOk r (Carries rules looks state remembered now asked plan x.faults.items b o o)
+too_big_told (Ok u) state rules looks remembered now asked plan x y b o none big e = left_first (CarriesOn rules looks state remembered now asked plan x.faults.items b) o (record {
   own = fault.State 0 kind.TooBig ∷ [];
   faults_are = e ∙ ap (λ (p : Progress). p.faults.items ++ fault.State 0 kind.TooBig ∷ []) big.1;
   works = λ sights reads ls own known read shown kept. too_big (record { sights = sights; remembered = remembered; known = known; sets = looks.sets; of_looks = own; reads = reads; looks = ls; acts = []; joined = refl; read = read; shown = shown })
-      (subst (λ (ks : List Path). 67_108_864 < length (measured_text (logs_in (PlanFor rules looks remembered now force)) now.civil (after remembered.table [] ks now.civil))) kept big.0) none refl refl;
+      (subst (λ (ks : List Path). 67_108_864 < length (measured_text (logs_in (PlanFor rules looks remembered now asked)) now.civil (after remembered.table [] ks now.civil))) kept big.0) none refl refl;
 })
-too_big_told (Err u) state rules looks remembered now force plan x y b o none big e = tt
+too_big_told (Err u) state rules looks remembered now asked plan x y b o none big e = tt
 
-pub looked_done : {T E : Type 0} (r : Result T E) (state : Path) (rules : Rules) (looks : Looks) (remembered : Remembered) (now : Moment) (force : Bool) (plan : Option Plan) (a b c : List Fault) {o m : Option Journal} (n : Option Journal) → Left (LooksAtAll (reserved_by state) rules.sets looks a b) o m
-    → OnOk r (Carries rules looks state remembered now force plan b c m n) → OnOk r (LookedDone state rules.sets now force remembered plan a c o n)
-looked_done (Ok u) state rules looks remembered now force plan a b c n l h = left_then l h (λ ts us g q. record {
+pub looked_done : {T E : Type 0} (r : Result T E) (state : Path) (rules : Rules) (looks : Looks) (remembered : Remembered) (now : Moment) (asked : Asked) (plan : Option Plan) (a b c : List Fault) {o m : Option Journal} (n : Option Journal) → Left (LooksAtAll (reserved_by state) rules.sets looks a b) o m
+    → OnOk r (Carries rules looks state remembered now asked plan b c m n) → OnOk r (LookedDone state rules.sets now asked remembered plan a c o n)
+looked_done (Ok u) state rules looks remembered now asked plan a b c n l h = left_then l h (λ ts us g q. record {
   own = g.own ++ q.own;
   faults_are = q.faults_are ∙ (ap (λ (fs : List Fault). fs ++ q.own) g.faults_are ∙ append_assoc a g.own q.own);
   works = λ sights reads known shown. q.works sights reads ts g.own known shown g.shown g.kept_are;
 })
-looked_done (Err u) state rules looks remembered now force plan a b c n l h = tt
+looked_done (Err u) state rules looks remembered now asked plan a b c n l h = tt
 
-pub carried_counted : {T : Type 0} (r : Result T Memory) (state : Path) (rules : Rules) (looks : Looks) (remembered : Remembered) (now : Moment) (force : Bool) (ready : Ready) (x y z : Progress) (m n : Option Journal) (k l : Counts)
-    → ReadyFor state now remembered looks.kept (PlanFor rules looks remembered now force) ready x y → OnOk r (ActsAndWrites ready now.civil y z m n k l) → OnOk r (AddsFaults x.faults.items z.faults.items k l)
-carried_counted (Ok u) state rules looks remembered now force ready x y z m n k l r h =
-    adds_on x.faults.items y.faults.items z.faults.items k k l (adds_free x.faults.items y.faults.items (PlanFor rules looks remembered now force).faults k k r.is.faults (plan_free (decision remembered.table now force) rules.sets looks.sets) (none_fell k)) (record { added = h.of_plan ++ h.of_state; after_is = h.faults_are; are_counted = h.are_counted })
-carried_counted (Err u) state rules looks remembered now force ready x y z m n k l r h = tt
+pub carried_counted : {T : Type 0} (r : Result T Memory) (state : Path) (rules : Rules) (looks : Looks) (remembered : Remembered) (now : Moment) (asked : Asked) (ready : Ready) (x y z : Progress) (m n : Option Journal) (k l : Counts)
+    → ReadyFor state now remembered looks.kept (PlanFor rules looks remembered now asked) ready x y → OnOk r (ActsAndWrites ready now.civil y z m n k l) → OnOk r (AddsFaults x.faults.items z.faults.items k l)
+carried_counted (Ok u) state rules looks remembered now asked ready x y z m n k l r h =
+    adds_on x.faults.items y.faults.items z.faults.items k k l (adds_free x.faults.items y.faults.items (PlanFor rules looks remembered now asked).faults k k r.is.faults (plan_free (decision remembered.table now asked.force) rules.sets looks.sets) (none_fell k)) (record { added = h.of_plan ++ h.of_state; after_is = h.faults_are; are_counted = h.are_counted })
+carried_counted (Err u) state rules looks remembered now asked ready x y z m n k l r h = tt
 
 pub too_big_counted : {T E : Type 0} (r : Result T E) (a b : List Fault) (k : Counts) → OnOk r (b ≡ a ++ fault.State 0 kind.TooBig ∷ []) → OnOk r (AddsFaults a b k k)
 too_big_counted (Ok u) a b k e = adds_free a b (fault.State 0 kind.TooBig ∷ []) k k e (record { calls = refl; scripts = refl; no_out = ((λ h. h), tt) }) (none_fell k)
@@ -277,13 +278,13 @@ looked_counted (Err u) a b c k l m h g = tt
 
 -- ---- behind the reading
 
-pub known_done : {T E : Type 0} (r : Result T E) (state : Path) (rules : List Rule) (now : Moment) (force : Bool) (remembered : Remembered) (plan : Option Plan) (a b : List Fault) {o m : Option Journal} (n : Option Journal) → Left (ReadsState state 65_536 (Ok (Ok remembered))) o m
-    → OnOk r (LookedDone state rules now force remembered plan a b m n) → OnOk r (WorkDone state rules now force plan a b o n)
-known_done (Ok u) state rules now force remembered plan a b n l h = left_then l h (λ ts us p q. (q.own, q.faults_are, q.works p.sights ts p.known p.shown))
-known_done (Err u) state rules now force remembered plan a b n l h = tt
+pub known_done : {T E : Type 0} (r : Result T E) (state : Path) (rules : List Rule) (now : Moment) (asked : Asked) (remembered : Remembered) (plan : Option Plan) (a b : List Fault) {o m : Option Journal} (n : Option Journal) → Left (ReadsState state 65_536 (Ok (Ok remembered))) o m
+    → OnOk r (LookedDone state rules now asked remembered plan a b m n) → OnOk r (WorkDone state rules now asked plan a b o n)
+known_done (Ok u) state rules now asked remembered plan a b n l h = left_then l h (λ ts us p q. (q.own, q.faults_are, q.works p.sights ts p.known p.shown))
+known_done (Err u) state rules now asked remembered plan a b n l h = tt
 
-pub unknown_done : (state : Path) (rules : List Rule) (now : Moment) (force : Bool) (plan : Option Plan) (f : Fault) (a b : List Fault) {o n : Option Journal} → plan ≡ None → Left (ReadsState state 65_536 (Ok (Err f))) o n → b ≡ a ++ f ∷ [] → WorkDone state rules now force plan a b o n
-unknown_done state rules now force plan f a b none l e = left_as l (λ ts p. (f ∷ [], e, not_known p.sights f p.known none refl p.shown))
+pub unknown_done : (state : Path) (rules : List Rule) (now : Moment) (asked : Asked) (plan : Option Plan) (f : Fault) (a b : List Fault) {o n : Option Journal} → plan ≡ None → Left (ReadsState state 65_536 (Ok (Err f))) o n → b ≡ a ++ f ∷ [] → WorkDone state rules now asked plan a b o n
+unknown_done state rules now asked plan f a b none l e = left_as l (λ ts p. (f ∷ [], e, not_known p.sights f p.known none refl p.shown))
 
 abbrev pub none_sights : StateSights
 none_sights = record { state = Failed; part = Failed; reading = Broken [] }
@@ -305,9 +306,9 @@ reads_none state answer e = record { sights = none_sights; shown = none_shown st
 -- ---- where there was no memory
 
 -- nothing was done behind the looks
-pub none_acted : {T E : Type 0} (r : Result T E) (rules : Rules) (looks : Looks) (state : Path) (remembered : Remembered) (now : Moment) (force : Bool) (o : Option Journal) → OnErr r (Left (EndsBehindLooks rules looks state remembered now force) o o)
-none_acted (Ok x) rules looks state remembered now force o = tt
-none_acted (Err x) rules looks state remembered now force o = left_first (EndsBehindLooks rules looks state remembered now force) o (record {
+pub none_acted : {T E : Type 0} (r : Result T E) (rules : Rules) (looks : Looks) (state : Path) (remembered : Remembered) (now : Moment) (asked : Asked) (o : Option Journal) → OnErr r (Left (EndsBehindLooks rules looks state remembered now asked) o o)
+none_acted (Ok x) rules looks state remembered now asked o = tt
+none_acted (Err x) rules looks state remembered now asked o = left_first (EndsBehindLooks rules looks state remembered now asked) o (record {
   some = λ sights reads ls of_looks known read shown kept. some_seen (runs.of_looks sights remembered known (record {
     front = reads;
     back = ls ++ [];
@@ -318,13 +319,13 @@ none_acted (Err x) rules looks state remembered now force o = left_first (EndsBe
 })
 
 -- of the acts a first part was
-pub some_acted : {T E : Type 0} (r : Result T E) (state : Path) (rules : Rules) (looks : Looks) (remembered : Remembered) (now : Moment) (force : Bool) (ready : Ready) (x y : Progress) (m n : Option Journal)
-    → ReadyFor state now remembered looks.kept (PlanFor rules looks remembered now force) ready x y → OnErr r (HasProgram (all_of_sets ready.steps)) → OnErr r (Left (SomeActs ready.steps) m n) → OnErr r (Left (EndsBehindLooks rules looks state remembered now force) m n)
-some_acted (Ok u) state rules looks remembered now force ready x y m n r p h = tt
-some_acted (Err u) state rules looks remembered now force ready x y m n r p h = left_as h (λ us c. record {
+pub some_acted : {T E : Type 0} (r : Result T E) (state : Path) (rules : Rules) (looks : Looks) (remembered : Remembered) (now : Moment) (asked : Asked) (ready : Ready) (x y : Progress) (m n : Option Journal)
+    → ReadyFor state now remembered looks.kept (PlanFor rules looks remembered now asked) ready x y → OnErr r (HasProgram (all_of_sets ready.steps)) → OnErr r (Left (SomeActs ready.steps) m n) → OnErr r (Left (EndsBehindLooks rules looks state remembered now asked) m n)
+some_acted (Ok u) state rules looks remembered now asked ready x y m n r p h = tt
+some_acted (Err u) state rules looks remembered now asked ready x y m n r p h = left_as h (λ us c. record {
   some = λ sights reads ls of_looks known read shown kept. some_done (record {
     looked = record { sights = sights; remembered = remembered; known = known; sets = looks.sets; of_looks = of_looks; reads = reads; looks = ls; acts = us; joined = refl; read = read; shown = shown };
-    small = subst (λ (ks : List Path). length (measured_text (logs_in (PlanFor rules looks remembered now force)) now.civil (after remembered.table [] ks now.civil)) ≤ 67_108_864) kept r.small;
+    small = subst (λ (ks : List Path). length (measured_text (logs_in (PlanFor rules looks remembered now asked)) now.civil (after remembered.table [] ks now.civil)) ≤ 67_108_864) kept r.small;
     program = subst (λ (ss : List SetSteps). HasProgram (all_of_sets ss)) r.is.steps p;
     marks = c.marks;
     of_acts = c.faults;
@@ -343,30 +344,30 @@ some_looked (Ok x) state reserved rules e l = tt
 some_looked (Err x) state reserved rules e l = left_as l (λ ts h. subst (λ (ps : List Path). ShowsSomeLooks ps rules ts) e h)
 
 -- a first part of the looks was made, or none
-pub lacks_looks : {T E : Type 0} (r : Result T E) (state : Path) (rules : List Rule) (now : Moment) (force : Bool) (remembered : Remembered) {o n : Option Journal} → Left (ShowsSomeLooks (reserved_by state) rules) o n → OnErr r (Left (EndsBehindState state rules now force remembered) o n)
-lacks_looks (Ok x) state rules now force remembered l = tt
-lacks_looks (Err x) state rules now force remembered l = left_as l (λ us h. record {
+pub lacks_looks : {T E : Type 0} (r : Result T E) (state : Path) (rules : List Rule) (now : Moment) (asked : Asked) (remembered : Remembered) {o n : Option Journal} → Left (ShowsSomeLooks (reserved_by state) rules) o n → OnErr r (Left (EndsBehindState state rules now asked remembered) o n)
+lacks_looks (Ok x) state rules now asked remembered l = tt
+lacks_looks (Err x) state rules now asked remembered l = left_as l (λ us h. record {
   some = λ sights reads known read. some_seen (runs.of_looks sights remembered known (record { front = reads; back = us; joined = refl; first = read; second = h }));
 })
 
 -- it ended behind the looks
-pub behind_looks : {T E : Type 0} (r : Result T E) (state : Path) (rules : Rules) (looks : Looks) (remembered : Remembered) (now : Moment) (force : Bool) (a b : List Fault) {o m : Option Journal} (n : Option Journal) → Left (LooksAtAll (reserved_by state) rules.sets looks a b) o m
-    → OnErr r (Left (EndsBehindLooks rules looks state remembered now force) m n) → OnErr r (Left (EndsBehindState state rules.sets now force remembered) o n)
-behind_looks (Ok x) state rules looks remembered now force a b n l h = tt
-behind_looks (Err x) state rules looks remembered now force a b n l h = left_then l h (λ ts us g q. record { some = λ sights reads known read. q.some sights reads ts g.own known read g.shown g.kept_are })
+pub behind_looks : {T E : Type 0} (r : Result T E) (state : Path) (rules : Rules) (looks : Looks) (remembered : Remembered) (now : Moment) (asked : Asked) (a b : List Fault) {o m : Option Journal} (n : Option Journal) → Left (LooksAtAll (reserved_by state) rules.sets looks a b) o m
+    → OnErr r (Left (EndsBehindLooks rules looks state remembered now asked) m n) → OnErr r (Left (EndsBehindState state rules.sets now asked remembered) o n)
+behind_looks (Ok x) state rules looks remembered now asked a b n l h = tt
+behind_looks (Err x) state rules looks remembered now asked a b n l h = left_then l h (λ ts us g q. record { some = λ sights reads known read. q.some sights reads ts g.own known read g.shown g.kept_are })
 
 -- nothing was read of the state
-pub none_seen : {T E : Type 0} (r : Result T E) (state : Path) (rules : List Rule) (now : Moment) (force : Bool) (o : Option Journal) → OnErr r (Left (SomeWork state rules now force) o o)
-none_seen (Ok u) state rules now force o = tt
-none_seen (Err u) state rules now force o = left_first (SomeWork state rules now force) o (some_seen (runs.of_state none_sights (none_shown state)))
+pub none_seen : {T E : Type 0} (r : Result T E) (state : Path) (rules : List Rule) (now : Moment) (asked : Asked) (o : Option Journal) → OnErr r (Left (SomeWork state rules now asked) o o)
+none_seen (Ok u) state rules now asked o = tt
+none_seen (Err u) state rules now asked o = left_first (SomeWork state rules now asked) o (some_seen (runs.of_state none_sights (none_shown state)))
 
 -- a first part of it was read
-pub some_read : {T E : Type 0} (r : Result T E) (state : Path) (rules : List Rule) (now : Moment) (force : Bool) (m : Memory) {o n : Option Journal} → Left (ReadsState state 65_536 (Err m)) o n → OnErr r (Left (SomeWork state rules now force) o n)
-some_read (Ok u) state rules now force m l = tt
-some_read (Err u) state rules now force m l = left_as l (λ ts p. some_seen (runs.of_state p.sights p.shown))
+pub some_read : {T E : Type 0} (r : Result T E) (state : Path) (rules : List Rule) (now : Moment) (asked : Asked) (m : Memory) {o n : Option Journal} → Left (ReadsState state 65_536 (Err m)) o n → OnErr r (Left (SomeWork state rules now asked) o n)
+some_read (Ok u) state rules now asked m l = tt
+some_read (Err u) state rules now asked m l = left_as l (λ ts p. some_seen (runs.of_state p.sights p.shown))
 
 -- it ended behind the reading
-pub behind_state : {T E : Type 0} (r : Result T E) (state : Path) (rules : List Rule) (now : Moment) (force : Bool) (remembered : Remembered) {o m : Option Journal} (n : Option Journal) → Left (ReadsState state 65_536 (Ok (Ok remembered))) o m
-    → OnErr r (Left (EndsBehindState state rules now force remembered) m n) → OnErr r (Left (SomeWork state rules now force) o n)
-behind_state (Ok u) state rules now force remembered n l h = tt
-behind_state (Err u) state rules now force remembered n l h = left_then l h (λ ts us p q. q.some p.sights ts p.known p.shown)
+pub behind_state : {T E : Type 0} (r : Result T E) (state : Path) (rules : List Rule) (now : Moment) (asked : Asked) (remembered : Remembered) {o m : Option Journal} (n : Option Journal) → Left (ReadsState state 65_536 (Ok (Ok remembered))) o m
+    → OnErr r (Left (EndsBehindState state rules now asked remembered) m n) → OnErr r (Left (SomeWork state rules now asked) o n)
+behind_state (Ok u) state rules now asked remembered n l h = tt
+behind_state (Err u) state rules now asked remembered n l h = left_then l h (λ ts us p q. q.some p.sights ts p.known p.shown)

@@ -7,6 +7,7 @@ use Rattle.lr_rules.specs.declared.fault.Fault.{Fault}
 use Rattle.lr_rules.specs.Path.{parent_of}
 use Rattle.lr_host.specs.declared.entry.Entry.{Entry}
 use Rattle.lr_host.specs.Looks.{Sees, IsDir}
+use Rattle.lr_plan.specs.Asked.{Asked}
 use Rattle.lr_plan.specs.declared.planned.Plan.{Plan}
 use Rattle.lr_run.specs.declared.answer.Ran.{Ran}
 use Rattle.lr_run.specs.declared.answer.RunStop.{RunStop}
@@ -15,9 +16,9 @@ use Rattle.lr_run.specs.Dry.{Tries, LacksTry}
 use Rattle.lr_run.specs.Runs.{Runs, LacksMemory}
 
 -- a run that is dry, or isn't, that came to this plan and has these faults of its own
-abbrev pub Leaves : Bool → Path → Bool → Moment → Rules → Option Plan → List Fault → List Entry → Type 0
-Leaves true state force now rules plan own ts = Tries state rules.sets now force plan own ts
-Leaves false state force now rules plan own ts = Runs state force now rules plan own ts
+abbrev pub Leaves : Bool → Path → Asked → Moment → Rules → Option Plan → List Fault → List Entry → Type 0
+Leaves true state asked now rules plan own ts = Tries state rules.sets now asked plan own ts
+Leaves false state asked now rules plan own ts = Runs state asked now rules plan own ts
 
 -- Another held the lock: the state's directory was seen, and no more. A dry run asks for no lock.
 abbrev pub Holds : Bool → Path → List Entry → Type 0
@@ -25,12 +26,12 @@ Holds true state ts = ⊥
 Holds false state ts = Sees (parent_of state) IsDir ts
 
 -- there was no memory
-abbrev pub Lacks : Bool → Path → Bool → Moment → Rules → List Entry → Type 0
-Lacks true state force now rules ts = LacksTry state rules.sets ts
-Lacks false state force now rules ts = LacksMemory state force now rules ts
+abbrev pub Lacks : Bool → Path → Asked → Moment → Rules → List Entry → Type 0
+Lacks true state asked now rules ts = LacksTry state rules.sets ts
+Lacks false state asked now rules ts = LacksMemory state asked now rules ts
 
 -- What a run left, by its answer. The faults that were handed in stand before its own.
-abbrev pub Answers : Path → Bool → Bool → Moment → Rules → List Fault → Result Ran RunStop → List Entry → Type 0
-Answers state debug force now rules earlier (Ok ran) ts = (own : List Fault) × (ran.faults.items ≡ earlier ++ own) × Leaves debug state force now rules ran.plan own ts
-Answers state debug force now rules earlier (Err stop.Held) ts = Holds debug state ts
-Answers state debug force now rules earlier (Err stop.Memory) ts = Lacks debug state force now rules ts
+abbrev pub Answers : Path → Bool → Asked → Moment → Rules → List Fault → Result Ran RunStop → List Entry → Type 0
+Answers state debug asked now rules earlier (Ok ran) ts = (own : List Fault) × (ran.faults.items ≡ earlier ++ own) × Leaves debug state asked now rules ran.plan own ts
+Answers state debug asked now rules earlier (Err stop.Held) ts = Holds debug state ts
+Answers state debug asked now rules earlier (Err stop.Memory) ts = Lacks debug state asked now rules ts

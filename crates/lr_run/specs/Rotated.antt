@@ -1,5 +1,5 @@
 -- The logs that a run rotates, each by its plan.
-use Rattle.std.specs.Prelude.{Bool, List}
+use Rattle.std.specs.Prelude.{List}
 use Rattle.lr_rules.specs.declared.path.Path.{Path}
 use Rattle.lr_rules.specs.declared.civil.Moment.{Moment}
 use Rattle.lr_rules.specs.declared.rule.Rule.{Rule}
@@ -7,6 +7,7 @@ use Rattle.lr_host.specs.declared.entry.Entry.{Entry}
 use Rattle.lr_host.specs.World.{Past, world, names}
 use Rattle.lr_chain.specs.Rotation.{places_of}
 use Rattle.lr_state.specs.Table.{Entry as Row}
+use Rattle.lr_plan.specs.Asked.{Asked}
 use Rattle.lr_plan.specs.declared.looks.SetLooks.{SetLooks}
 use Rattle.lr_plan.specs.Planned.{decision}
 use Rattle.lr_rotations.specs.AllTurns.{other_paths}
@@ -17,12 +18,12 @@ use Rattle.lr_seen.specs.Targets.{all_targets}
 use Rattle.lr_run.specs.Runs.{Looked}
 
 -- those of the plan that follows from these looks and this table
-abbrev pub rotated_logs : List Rule → List Row → Moment → Bool → List SetLooks → List Target
-rotated_logs rules table now force sets = all_targets (decision table now force) rules sets
+abbrev pub rotated_logs : List Rule → List Row → Moment → Asked → List SetLooks → List Target
+rotated_logs rules table now asked sets = all_targets (decision table now asked.force) rules sets
 
 -- those of a run
-abbrev pub rotated_in : (state : Path) (rules : List Rule) (ts : List Entry) → Looked state rules ts → Moment → Bool → List Target
-rotated_in state rules ts l now force = rotated_logs rules l.remembered.table now force l.sets
+abbrev pub rotated_in : (state : Path) (rules : List Rule) (ts : List Entry) → Looked state rules ts → Moment → Asked → List Target
+rotated_in state rules ts l now asked = rotated_logs rules l.remembered.table now asked l.sets
 
 -- Between the two pasts the log was rotated whole: the members that were seen are those that stood, and each file is where the rotation takes it, by identity and with its bytes, while the tool's other changes were on the paths of the other logs and of the state. A writer attached no member.
 abbrev pub IsRotatedAmong : Path → List Target → Past → Past → Target → Type 0

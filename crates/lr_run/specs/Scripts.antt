@@ -1,9 +1,9 @@
--- Rules without scripts.
+-- Rules without programs.
 use Rattle.std.specs.Prelude.{List, [], ◌∷◌}
 use Rattle.lr_rules.specs.declared.rule.Rule.{Rule}
-use Rattle.lr_plan.specs.Planned.{HasNoScripts}
+use Rattle.lr_plan.specs.Planned.{RunsNothing}
 
--- none of the rules has a script
-abbrev pub HaveNoScripts : List Rule → Type 0
-HaveNoScripts [] = Unit {0}
-HaveNoScripts (rule ∷ rules) = HasNoScripts rule.scripts × HaveNoScripts rules
+-- none of the rules runs a program
+abbrev pub RunNothing : List Rule → Type 0
+RunNothing [] = Unit {0}
+RunNothing (rule ∷ rules) = RunsNothing rule × RunNothing rules

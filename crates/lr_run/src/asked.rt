@@ -9,6 +9,7 @@ ghost use Rattle.lr_host.specs.Counted.{AddsFaults};
 ghost use Rattle.lr_emptied.specs.Emptied.{EmptiesWhole};
 ghost use Rattle.lr_rotations.specs.AllTurns.{IsWholeRun};
 ghost use Rattle.lr_fields.specs.Built.{AreBuiltRules};
+ghost use Rattle.lr_plan.specs.Asked.{asking};
 ghost use Rattle.lr_run.specs.Answers.{Answers};
 ghost use Rattle.lr_run.specs.Copied.{IsCopyBy};
 ghost use Rattle.lr_run.specs.Dry.{AreSights};
@@ -41,9 +42,9 @@ pub fn run<H: Host>(
     requires built { AreBuiltRules rules.now.sets }
     requires disk { WhereTold (H.told host.old) IsJournal }
     ensures safe { KeepsSafe (H.told host.old) (H.told host.new) }
-    ensures state { KeepsWhole settings.now.state (IsNewText settings.now.state clock.entry.now.now settings.now.force rules.now) (H.told host.old) (H.told host.new) }
+    ensures state { KeepsWhole settings.now.state (IsNewText settings.now.state clock.entry.now.now (asking settings.now.force settings.now.mailer) rules.now) (H.told host.old) (H.told host.new) }
     ensures copied { EmptiesWhole (IsCopyBy rules.now.sets) (H.told host.old) (H.told host.new) }
-    ensures told { Left (Answers settings.now.state settings.now.debug settings.now.force clock.entry.now.now rules.now earlier.items result) (H.told host.old) (H.told host.new) }
+    ensures told { Left (Answers settings.now.state settings.now.debug (asking settings.now.force settings.now.mailer) clock.entry.now.now rules.now earlier.items result) (H.told host.old) (H.told host.new) }
     ensures shape { Left IsWholeRun (H.told host.old) (H.told host.new) }
     ensures counted { IfOk result (λ ran. AddsFaults earlier.items ran.faults.items (H.counts host.old) (H.counts host.new)) }
     ensures taken { settings.now.debug ≡ false → IfOk result (λ ran. AddsTaken settings.now.state ran.plan earlier.items ran.faults.items (H.told host.old) (H.told host.new)) }

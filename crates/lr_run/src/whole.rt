@@ -11,6 +11,7 @@ ghost use Rattle.lr_emptied.specs.Emptied.{EmptiesWhole};
 ghost use Rattle.lr_rotations.specs.AllTurns.{IsWholeRun};
 ghost use Rattle.lr_fields.specs.Built.{AreBuiltRules};
 ghost use Rattle.lr_run.specs.Taken.{AddsTaken};
+ghost use Rattle.lr_plan.specs.Asked.{asking};
 ghost use Rattle.lr_run.specs.Internal.{RunsOn, StopsSo, dir_fault_of};
 ghost use Rattle.lr_run.specs.Answers.{Answers};
 ghost use Rattle.lr_run.specs.Copied.{IsCopyBy};
@@ -68,8 +69,8 @@ fn make_run<H: Host>(
     requires dir { names.dir ≡ parent_of settings.now.state }
     requires state { names.state ≡ settings.now.state }
     requires room { vec_len progress.old.faults + 2 ≤ vec_capacity progress.old.faults }
-    ensures told { OnOk result (Left (RunsOn settings.now.state settings.now.force clock.entry.now.now rules.now reached.new progress.old.faults.items progress.new.faults.items) (H.told host.old) (H.told host.new)) }
-    ensures stopped { IfErr result (λ why. Left (StopsSo settings.now.state settings.now.force clock.entry.now.now rules.now why) (H.told host.old) (H.told host.new)) }
+    ensures told { OnOk result (Left (RunsOn settings.now.state (asking settings.now.force settings.now.mailer) clock.entry.now.now rules.now reached.new progress.old.faults.items progress.new.faults.items) (H.told host.old) (H.told host.new)) }
+    ensures stopped { IfErr result (λ why. Left (StopsSo settings.now.state (asking settings.now.force settings.now.mailer) clock.entry.now.now rules.now why) (H.told host.old) (H.told host.new)) }
     ensures held { result ≡ Err RunStop.Held → Rose (H.counts host.old).held (H.counts host.new).held }
     ensures room { OnOk result (vec_len progress.new.faults + 1 ≤ vec_capacity progress.new.faults) }
     ensures counted { OnOk result (AddsFaults progress.old.faults.items progress.new.faults.items (H.counts host.old) (H.counts host.new)) }
@@ -128,9 +129,9 @@ pub fn real_run<H: Host>(
     requires built { AreBuiltRules rules.now.sets }
     requires disk { WhereTold (H.told host.old) IsJournal }
     ensures safe { KeepsSafe (H.told host.old) (H.told host.new) }
-    ensures state { KeepsWhole settings.now.state (IsNewText settings.now.state clock.entry.now.now settings.now.force rules.now) (H.told host.old) (H.told host.new) }
+    ensures state { KeepsWhole settings.now.state (IsNewText settings.now.state clock.entry.now.now (asking settings.now.force settings.now.mailer) rules.now) (H.told host.old) (H.told host.new) }
     ensures copied { EmptiesWhole (IsCopyBy rules.now.sets) (H.told host.old) (H.told host.new) }
-    ensures told { Left (Answers settings.now.state false settings.now.force clock.entry.now.now rules.now earlier.items result) (H.told host.old) (H.told host.new) }
+    ensures told { Left (Answers settings.now.state false (asking settings.now.force settings.now.mailer) clock.entry.now.now rules.now earlier.items result) (H.told host.old) (H.told host.new) }
     ensures shape { Left IsWholeRun (H.told host.old) (H.told host.new) }
     ensures counted { IfOk result (λ ran. AddsFaults earlier.items ran.faults.items (H.counts host.old) (H.counts host.new)) }
     ensures taken { IfOk result (λ ran. AddsTaken settings.now.state ran.plan earlier.items ran.faults.items (H.told host.old) (H.told host.new)) }
