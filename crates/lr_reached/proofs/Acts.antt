@@ -64,5 +64,5 @@ none_folds state = record {
   both = λ fs gs ts us h g. none_both state fs gs h g;
 }
 
-pub acts_none : (state : Path) (rules : List Rule) (sets : List SetLooks) (decide : Rule → LogLook → Due) (ms : List Mark) (fs : List Fault) (ts : List Entry) → SetsDone (map steps_of_set (all_plans decide rules sets)) ms fs ts → NoneEnds state fs
-acts_none state rules sets decide ms fs ts h = acts_fold (λ gs us. NoneEnds state gs) (none_folds state) (map steps_of_set (all_plans decide rules sets)) ms fs ts (plan_simple decide rules sets) h
+pub acts_none : (state : Path) (rules : List Rule) (sets : List SetLooks) (mailer : Path) (decide : Rule → LogLook → Due) (ms : List Mark) (fs : List Fault) (ts : List Entry) → SetsDone (map steps_of_set (all_plans mailer decide rules sets)) ms fs ts → NoneEnds state fs
+acts_none state rules sets mailer decide ms fs ts h = acts_fold (λ gs us. NoneEnds state gs) (none_folds state) (map steps_of_set (all_plans mailer decide rules sets)) ms fs ts (plan_simple mailer decide rules sets) h

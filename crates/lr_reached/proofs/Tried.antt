@@ -17,6 +17,7 @@ use Rattle.lr_host.specs.Lists.{IsIn}
 use Rattle.lr_chain.specs.Ready.{highest_path}
 use Rattle.lr_state.specs.Table.{Entry as Row}
 use Rattle.lr_looks.specs.Found.{paths_of}
+use Rattle.lr_plan.specs.Asked.{Asked}
 use Rattle.lr_plan.specs.declared.looks.LogLook.{LogLook}
 use Rattle.lr_plan.specs.declared.looks.SetLooks.{SetLooks}
 use Rattle.lr_plan.specs.declared.planned.Plan.{Plan}
@@ -114,49 +115,49 @@ plan_try state decide (r ∷ rs) (s ∷ ss) = try_both state (log_faults r (deci
 abbrev IsNone : Option Plan → Type 0
 IsNone plan = plan ≡ None
 
-follows_try : (state : Path) (rules : List Rule) (sets : List SetLooks) (kept : List Path) (table : List Row) (now : Moment) (force : Bool) (plan : Option Plan) (own : List Fault) → Follows rules sets kept table now force plan own → (IsNone plan → ⊥) → NoneEndsTry state own
-follows_try state rules sets kept table now force (Some p) own f some = subst (NoneEndsTry state) (sym (f.2 ∙ ap (λ (q : Plan). q.faults) f.1)) (plan_try state (decision table now force) rules sets)
-follows_try state rules sets kept table now force None own f some = absurd (some refl)
+follows_try : (state : Path) (rules : List Rule) (sets : List SetLooks) (kept : List Path) (table : List Row) (now : Moment) (asked : Asked) (plan : Option Plan) (own : List Fault) → Follows rules sets kept table now asked plan own → (IsNone plan → ⊥) → NoneEndsTry state own
+follows_try state rules sets kept table now asked (Some p) own f some = subst (NoneEndsTry state) (sym (f.2 ∙ ap (λ (q : Plan). q.faults) f.1)) (plan_try state (decision table now asked.force) rules sets)
+follows_try state rules sets kept table now asked None own f some = absurd (some refl)
 
-plans_try : (state : Path) (rules : Rules) (table : List Row) (now : Moment) (force : Bool) (plan : Option Plan) (own : List Fault) (ts : List Entry) → AreBuiltRules rules.sets → Plans state rules.sets table now force plan own ts → (IsNone plan → ⊥) → NoneEndsTry state own
-plans_try state rules table now force plan own ts built p some = subst (NoneEndsTry state) (sym p.faults_are)
-    (try_both state p.of_looks p.of_plan (none_try state p.of_looks (looks_none state rules.sets p.sets p.of_looks ts p.shown built rules.limits)) (follows_try state rules.sets p.sets (paths_of p.shown.kept) table now force plan p.of_plan p.follows some))
+plans_try : (state : Path) (rules : Rules) (table : List Row) (now : Moment) (asked : Asked) (plan : Option Plan) (own : List Fault) (ts : List Entry) → AreBuiltRules rules.sets → Plans state rules.sets table now asked plan own ts → (IsNone plan → ⊥) → NoneEndsTry state own
+plans_try state rules table now asked plan own ts built p some = subst (NoneEndsTry state) (sym p.faults_are)
+    (try_both state p.of_looks p.of_plan (none_try state p.of_looks (looks_none state rules.sets p.sets p.of_looks ts p.shown built rules.limits)) (follows_try state rules.sets p.sets (paths_of p.shown.kept) table now asked plan p.of_plan p.follows some))
 
-pub reached_try : (state : Path) (now : Moment) (force : Bool) (rules : Rules) (plan : Option Plan) (own : List Fault) (ts : List Entry) → AreBuiltRules rules.sets → Tries state rules.sets now force plan own ts → (IsNone plan → ⊥) → NoneEndsTry state own
-reached_try state now force rules plan own ts built (unseen lost is none) some = absurd (some lost)
-reached_try state now force rules plan own ts built (not_directory lost is s) some = absurd (some lost)
-reached_try state now force rules plan own ts built (by_none t) some = plans_try state rules [] now force plan own t.back built t.second some
-reached_try state now force rules plan own ts built (by_state t) some = go t.second
+pub reached_try : (state : Path) (now : Moment) (asked : Asked) (rules : Rules) (plan : Option Plan) (own : List Fault) (ts : List Entry) → AreBuiltRules rules.sets → Tries state rules.sets now asked plan own ts → (IsNone plan → ⊥) → NoneEndsTry state own
+reached_try state now asked rules plan own ts built (unseen lost is none) some = absurd (some lost)
+reached_try state now asked rules plan own ts built (not_directory lost is s) some = absurd (some lost)
+reached_try state now asked rules plan own ts built (by_none t) some = plans_try state rules [] now asked plan own t.back built t.second some
+reached_try state now asked rules plan own ts built (by_state t) some = go t.second
   where
-    go : PlansBy state rules.sets now force plan own t.back → NoneEndsTry state own
+    go : PlansBy state rules.sets now asked plan own t.back → NoneEndsTry state own
     go (unknown sights f k lost is s) = absurd (some lost)
-    go (known sights remembered k u) = plans_try state rules remembered.table now force plan own u.back built u.second some
+    go (known sights remembered k u) = plans_try state rules remembered.table now asked plan own u.back built u.second some
 
 -- why it ended
-plans_why : (state : Path) (rules : List Rule) (table : List Row) (now : Moment) (force : Bool) (plan : Option Plan) (own : List Fault) (ts : List Entry) → Plans state rules table now force plan own ts → IsNone plan → SaysWhyTry state own
-plans_why state rules table now force plan own ts p none = record {
+plans_why : (state : Path) (rules : List Rule) (table : List Row) (now : Moment) (asked : Asked) (plan : Option Plan) (own : List Fault) (ts : List Entry) → Plans state rules table now asked plan own ts → IsNone plan → SaysWhyTry state own
+plans_why state rules table now asked plan own ts p none = record {
   before = p.of_looks;
   last = fault.State 0 kind.TooBig;
-  own_are = p.faults_are ∙ ap (λ fs. p.of_looks ++ fs) (subst (λ (q : Option Plan). Follows rules p.sets (paths_of p.shown.kept) table now force q p.of_plan) none p.follows).1;
+  own_are = p.faults_are ∙ ap (λ fs. p.of_looks ++ fs) (subst (λ (q : Option Plan). Follows rules p.sets (paths_of p.shown.kept) table now asked q p.of_plan) none p.follows).1;
   ends = inl tt;
 }
 
-pub ended_try : (state : Path) (now : Moment) (force : Bool) (rules : Rules) (plan : Option Plan) (own : List Fault) (ts : List Entry) → Tries state rules.sets now force plan own ts → IsNone plan → SaysWhyTry state own
-ended_try state now force rules plan own ts (unseen lost is none) h = record { before = []; last = fault.Call call.Look (parent_of state); own_are = is; ends = inr (inl (inl (parent_of state, inl refl, refl))) }
-ended_try state now force rules plan own ts (not_directory lost is s) h = record { before = []; last = fault.NoDir (parent_of state); own_are = is; ends = inr (inr refl) }
-ended_try state now force rules plan own ts (by_none t) h = plans_why state rules.sets [] now force plan own t.back t.second h
-ended_try state now force rules plan own ts (by_state t) h = go t.second
+pub ended_try : (state : Path) (now : Moment) (asked : Asked) (rules : Rules) (plan : Option Plan) (own : List Fault) (ts : List Entry) → Tries state rules.sets now asked plan own ts → IsNone plan → SaysWhyTry state own
+ended_try state now asked rules plan own ts (unseen lost is none) h = record { before = []; last = fault.Call call.Look (parent_of state); own_are = is; ends = inr (inl (inl (parent_of state, inl refl, refl))) }
+ended_try state now asked rules plan own ts (not_directory lost is s) h = record { before = []; last = fault.NoDir (parent_of state); own_are = is; ends = inr (inr refl) }
+ended_try state now asked rules plan own ts (by_none t) h = plans_why state rules.sets [] now asked plan own t.back t.second h
+ended_try state now asked rules plan own ts (by_state t) h = go t.second
   where
-    go : PlansBy state rules.sets now force plan own t.back → SaysWhyTry state own
+    go : PlansBy state rules.sets now asked plan own t.back → SaysWhyTry state own
     go (unknown sights f k lost is s) = record { before = []; last = f; own_are = is; ends = ⊎_elim (λ ends. run_try state f ends) (λ may. inr (inl may.0)) (state_why state 65_536 sights f t.back k s) }
-    go (known sights remembered k u) = plans_why state rules.sets remembered.table now force plan own u.back u.second h
+    go (known sights remembered k u) = plans_why state rules.sets remembered.table now asked plan own u.back u.second h
 
 -- ---- the law
 
-pub told_try : (state : Path) (now : Moment) (force : Bool) (rules : Rules) (plan : Option Plan) (own : List Fault) (ts : List Entry) → AreBuiltRules rules.sets → Tries state rules.sets now force plan own ts → ((f : Fault) → IsIn f own → MayEndTry state f → ⊥)
+pub told_try : (state : Path) (now : Moment) (asked : Asked) (rules : Rules) (plan : Option Plan) (own : List Fault) (ts : List Entry) → AreBuiltRules rules.sets → Tries state rules.sets now asked plan own ts → ((f : Fault) → IsIn f own → MayEndTry state f → ⊥)
     → (IsNone plan → ⊥) ↔ NoneEndsTry state own
-told_try state now force rules plan own ts built t plain = (
-  λ some. reached_try state now force rules plan own ts built t some,
-  λ none lost. (let w = ended_try state now force rules plan own ts t lost in
+told_try state now asked rules plan own ts built t plain = (
+  λ some. reached_try state now asked rules plan own ts built t some,
+  λ none lost. (let w = ended_try state now asked rules plan own ts t lost in
       ⊎_elim (λ ends. last_tries state w.before w.last (subst (NoneEndsTry state) w.own_are none) ends) (λ may. plain w.last (last_in w.before w.last own w.own_are) may) w.ends),
 )

@@ -6,7 +6,8 @@ use Rattle.lr_rules.specs.declared.fault.Fault.{Fault}
 use Rattle.lr_rules.specs.declared.rules.Rules.{Rules}
 use Rattle.lr_host.specs.declared.entry.Entry.{Entry}
 use Rattle.lr_run.specs.Runs.{Inside, Worked}
+use Rattle.lr_plan.specs.Asked.{Asked}
 
 -- The run began, and its work came to the plan and carried it out, whatever failed then.
-abbrev pub IsReached : Path → Bool → Moment → Rules → List Fault → List Entry → Type 0
-IsReached state force now rules own ts = Inside state now rules (Worked state rules.sets now force own) ts
+abbrev pub IsReached : Path → Asked → Moment → Rules → List Fault → List Entry → Type 0
+IsReached state asked now rules own ts = Inside state now rules (Worked state rules.sets now asked own) ts
