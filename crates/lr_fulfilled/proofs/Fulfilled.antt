@@ -25,6 +25,7 @@ use Rattle.lr_host.proofs.Made.{made_tools}
 use Rattle.lr_host.proofs.Quiet.{quiet_both, quiet_changes}
 use Rattle.lr_durable.specs.Renewing.{IsAsideOf, MayRenew, left_alone, renewed, HasText}
 use Rattle.lr_durable.proofs.Behind.{renewed_text}
+use Rattle.lr_plan.specs.Asked.{Asked}
 use Rattle.lr_plan.specs.declared.looks.LogLook.{LogLook}
 use Rattle.lr_plan.specs.Course.{Course}
 use Rattle.lr_plan.specs.Done.{ActsDone, rotated_logs}
@@ -84,24 +85,24 @@ behind_sights xs ys a = filter-append is_act xs ys ∙ ap (λ (zs : List Entry).
 
 -- ---- the run
 
-module _ (state : Path) (force : Bool) (now : Moment) (rules : Rules) (own : List Fault) (p q : Past) (es reads acts : List Entry) (built : AreBuiltRules rules.sets) (made : Made p es q) (journal : IsJournal p) (joined : reverse es ≡ reads ++ acts) (sights : AreSights reads) (i : Inside state now rules (Worked state rules.sets now force own) acts) (nothing : NothingFailed state own) where
-  abbrev w : Worked state rules.sets now force own i.between
+module _ (state : Path) (asked : Asked) (now : Moment) (rules : Rules) (own : List Fault) (p q : Past) (es reads acts : List Entry) (built : AreBuiltRules rules.sets) (made : Made p es q) (journal : IsJournal p) (joined : reverse es ≡ reads ++ acts) (sights : AreSights reads) (i : Inside state now rules (Worked state rules.sets now asked own) acts) (nothing : NothingFailed state own) where
+  abbrev w : Worked state rules.sets now asked own i.between
   w = i.within
 
   abbrev l : Looked state rules.sets i.between
   l = w.looked
 
   abbrev decide : Rule → LogLook → Due
-  decide = decision l.remembered.table now force
+  decide = decision l.remembered.table now asked.force
 
   abbrev targets : List Target
   targets = all_targets decide rules.sets l.sets
 
   none : w.acted.of_acts ≡ []
-  none = worked_met_nothing state rules.sets now force own i.between w nothing
+  none = worked_met_nothing state rules.sets now asked own i.between w nothing
 
-  done : ActsDone (plan_in state rules.sets i.between l now force) state l.remembered.stale (λ marks. w.acted.dirs) (state_text state rules.sets i.between l now) w.acted.marks [] l.acts
-  done = subst (λ (fs : List Fault). ActsDone (plan_in state rules.sets i.between l now force) state l.remembered.stale (λ marks. w.acted.dirs) (state_text state rules.sets i.between l now) w.acted.marks fs l.acts) none w.acted.entries
+  done : ActsDone (plan_in state rules.sets i.between l now asked) state l.remembered.stale (λ marks. w.acted.dirs) (state_text state rules.sets i.between l now) w.acted.marks [] l.acts
+  done = subst (λ (fs : List Fault). ActsDone (plan_in state rules.sets i.between l now asked) state l.remembered.stale (λ marks. w.acted.dirs) (state_text state rules.sets i.between l now) w.acted.marks fs l.acts) none w.acted.entries
 
   -- ---- its acts
 
@@ -120,9 +121,9 @@ module _ (state : Path) (force : Bool) (now : Moment) (rules : Rules) (own : Lis
       ∙ (append-nil (filter is_act i.between)
       ∙ (ap (filter is_act) (looked_parts state rules.sets i.between l) ∙ behind_sights (l.reads ++ l.looks) l.acts looks_see)))))
 
-  run_acts : AreActsOf (steps_in state rules.sets i.between l now force w.acted.dirs) (filter is_act (reverse es))
-  run_acts = subst (AreActsOf (steps_in state rules.sets i.between l now force w.acted.dirs)) (sym acts_of)
-      (acts_planned (plan_in state rules.sets i.between l now force) state l.remembered.stale (λ marks. w.acted.dirs) (state_text state rules.sets i.between l now) w.acted.marks l.acts done)
+  run_acts : AreActsOf (steps_in state rules.sets i.between l now asked w.acted.dirs) (filter is_act (reverse es))
+  run_acts = subst (AreActsOf (steps_in state rules.sets i.between l now asked w.acted.dirs)) (sym acts_of)
+      (acts_planned (plan_in state rules.sets i.between l now asked) state l.remembered.stale (λ marks. w.acted.dirs) (state_text state rules.sets i.between l now) w.acted.marks l.acts done)
 
   -- ---- what it changes
 
@@ -132,14 +133,14 @@ module _ (state : Path) (force : Bool) (now : Moment) (rules : Rules) (own : Lis
   named : HaveNames targets
   named = targets_have_names rules l.sets l.of_looks l.looks decide built l.shown
 
-  planned : ArePlanned targets (map steps_of_set (plan_in state rules.sets i.between l now force).sets)
-  planned = ready_planned (groups_of decide rules.sets l.sets) (plan_in state rules.sets i.between l now force).sets (plans_have_logs rules.sets l.sets l.of_looks l.looks decide built l.shown) (targets_apart rules.sets l.sets l.of_looks l.looks decide l.shown)
+  planned : ArePlanned targets (map steps_of_set (plan_in state rules.sets i.between l now asked).sets)
+  planned = ready_planned (groups_of decide rules.sets l.sets) (plan_in state rules.sets i.between l now asked).sets (plans_have_logs rules.sets l.sets l.of_looks l.looks asked.mailer decide built l.shown) (targets_apart rules.sets l.sets l.of_looks l.looks decide l.shown)
 
   front_changes : Each (IsOfRun state targets) (filter is_change w.acted.entries.entries.front)
-  front_changes = each_as (IsOfSome targets) (IsOfRun state targets) _ (λ e h. inl h) (done_some targets (map steps_of_set (plan_in state rules.sets i.between l now force).sets) w.acted.marks w.acted.entries.of_plan w.acted.entries.entries.front planned w.acted.entries.entries.first)
+  front_changes = each_as (IsOfSome targets) (IsOfRun state targets) _ (λ e h. inl h) (done_some targets (map steps_of_set (plan_in state rules.sets i.between l now asked).sets) w.acted.marks w.acted.entries.of_plan w.acted.entries.entries.front planned w.acted.entries.entries.first)
 
   back_changes : Each (IsOfRun state targets) (filter is_change w.acted.entries.entries.back)
-  back_changes = each_as (IsOfState state) (IsOfRun state targets) _ (λ e h. inr h) (all_of_state state rules.sets now force own i.between w)
+  back_changes = each_as (IsOfState state) (IsOfRun state targets) _ (λ e h. inr h) (all_of_state state rules.sets now asked own i.between w)
 
   changes : Each (IsOfRun state targets) (filter is_change (work ++ entry.Ends ∷ []))
   changes = subst (Each (IsOfRun state targets))
@@ -157,7 +158,7 @@ module _ (state : Path) (force : Bool) (now : Moment) (rules : Rules) (own : Lis
   whole = joined ∙ (ap (λ (xs : List Entry). reads ++ xs) i.entries ∙ sym (append_assoc reads i.before (entry.Starts state now rules ∷ (i.between ++ entry.Ends ∷ []))))
 
   worked_through : i.between ++ entry.Ends ∷ [] ≡ work ++ entry.Ends ∷ []
-  worked_through = ap (λ (xs : List Entry). xs ++ entry.Ends ∷ []) (in_parts state rules.sets now force own i.between w)
+  worked_through = ap (λ (xs : List Entry). xs ++ entry.Ends ∷ []) (in_parts state rules.sets now asked own i.between w)
 
   others_left : (x : Path) → IsElsewhere state targets x → IsLeftAlone p q x
   others_left x away = elsewhere_left state targets p q es (work ++ entry.Ends ∷ []) x made journal named away
@@ -177,7 +178,7 @@ module _ (state : Path) (force : Bool) (now : Moment) (rules : Rules) (own : Lis
   may_renew : MayRenew state (λ bytes. bytes ≡ text) (reverse es)
   may_renew = subst (MayRenew state (λ bytes. bytes ≡ text)) (sym whole)
       (behind_quiet state (λ bytes. bytes ≡ text) (λ bytes. bytes ≡ text) (λ bytes is. is) (reads ++ i.before) (entry.Starts state now rules ∷ (i.between ++ entry.Ends ∷ [])) front_quiet
-      (worked_may state rules now force built own i.between w between_tools (λ bytes. bytes ≡ text) refl (entry.Starts state now rules ∷ []) ((λ h. h), tt) ((λ x h. absurd h), tt)))
+      (worked_may state rules now asked built own i.between w between_tools (λ bytes. bytes ≡ text) refl (entry.Starts state now rules ∷ []) ((λ h. h), tt) ((λ x h. absurd h), tt)))
 
   wrote : IsNamed state w.acted.dirs text w.acted.entries.entries.back
   wrote = named_whole state l.remembered.stale w.acted.dirs text w.acted.entries.entries.back
@@ -187,16 +188,16 @@ module _ (state : Path) (force : Bool) (now : Moment) (rules : Rules) (own : Lis
   renames : IsIn (entry.Renames (state_part state) state) (reverse es)
   renames = subst (IsIn turn) (sym whole)
       (in_back turn (reads ++ i.before) _ (inr (in_front turn i.between (entry.Ends ∷ [])
-      (subst (IsIn turn) (sym (in_parts state rules.sets now force own i.between w))
+      (subst (IsIn turn) (sym (in_parts state rules.sets now asked own i.between w))
       (in_back turn ((l.reads ++ l.looks) ++ w.acted.entries.entries.front) w.acted.entries.entries.back
       (subst (IsIn turn) (sym wrote.ts_are) (in_back turn wrote.before _ (inl refl))))))))
     where
       turn : Entry
       turn = entry.Renames (state_part state) state
 
-  written : AttachedOnlySince (λ x. (x ≢ state) × (x ≢ state_part state)) p q → HasText state (state_text state rules.sets i.between l now (logs_in (plan_in state rules.sets i.between l now force))) q
+  written : AttachedOnlySince (λ x. (x ≢ state) × (x ≢ state_part state)) p q → HasText state (state_text state rules.sets i.between l now (logs_in (plan_in state rules.sets i.between l now asked))) q
   written only = subst (λ (logs : List Path). HasText state (state_text state rules.sets i.between l now logs) q)
-      (logs_planned (plan_in state rules.sets i.between l now force) state l.remembered.stale (λ marks. w.acted.dirs) (state_text state rules.sets i.between l now) w.acted.marks l.acts done) (go may_renew)
+      (logs_planned (plan_in state rules.sets i.between l now asked) state l.remembered.stale (λ marks. w.acted.dirs) (state_text state rules.sets i.between l now) w.acted.marks l.acts done) (go may_renew)
     where
       go : MayRenew state (λ bytes. bytes ≡ text) (reverse es) → HasText state text q
       go (left_alone a) = absurd (each_in (IsAsideOf state) (reverse es) (entry.Renames (state_part state) state) a renames (inr (inl refl)))
@@ -204,17 +205,17 @@ module _ (state : Path) (force : Bool) (now : Moment) (rules : Rules) (own : Lis
 
   -- ---- all of it
 
-  run_faults : own ≡ l.of_looks ++ (plan_in state rules.sets i.between l now force).faults
-  run_faults = w.acted.faults_are ∙ ap (λ (fs : List Fault). l.of_looks ++ fs) (ap (λ (fs : List Fault). (plan_in state rules.sets i.between l now force).faults ++ fs) none ∙ append-nil (plan_in state rules.sets i.between l now force).faults)
+  run_faults : own ≡ l.of_looks ++ (plan_in state rules.sets i.between l now asked).faults
+  run_faults = w.acted.faults_are ∙ ap (λ (fs : List Fault). l.of_looks ++ fs) (ap (λ (fs : List Fault). (plan_in state rules.sets i.between l now asked).faults ++ fs) none ∙ append-nil (plan_in state rules.sets i.between l now asked).faults)
 
-  pub fulfilled : IsFulfilled state rules.sets now force i.between l own (reverse es) p q
+  pub fulfilled : IsFulfilled state rules.sets now asked i.between l own (reverse es) p q
   fulfilled = record {
     faults = run_faults;
     dirs = w.acted.dirs;
     dirs_are = w.acted.dirs_are;
     acts = run_acts;
-    rotated = λ t one by_rename. run_rotated state force now rules own p q es reads acts built made journal joined (sights_quiet reads sights) i nothing.no_call nothing.no_end nothing.no_copy t one by_rename;
-    turned = λ t one job is. run_turned state force now rules own p q es reads acts built made journal joined (sights_quiet reads sights) i nothing.no_call nothing.no_end nothing.no_copy t one job is;
+    rotated = λ t one by_rename. run_rotated state asked now rules own p q es reads acts built made journal joined (sights_quiet reads sights) i nothing.no_call nothing.no_end nothing.no_copy t one by_rename;
+    turned = λ t one job is. run_turned state asked now rules own p q es reads acts built made journal joined (sights_quiet reads sights) i nothing.no_call nothing.no_end nothing.no_copy t one job is;
     written = written;
     kept = λ f kept free x is. others_left x (kept_elsewhere state rules.sets l.sets l.of_looks l.looks decide f x l.shown kept free is);
     others = others_left;

@@ -16,9 +16,10 @@ use Rattle.lr_reading.proofs.Quiet.{state_quiet}
 use Rattle.lr_rotations.proofs.OrMade.{made_behind}
 use Rattle.lr_run.specs.Runs.{Inside, Looked, Worked}
 use Rattle.lr_stood.proofs.All.{looks_true}
+use Rattle.lr_plan.specs.Asked.{Asked}
 use Rattle.lr_fulfilled.specs.Truth.{LooksAreTrue}
 
-module _ (state : Path) (force : Bool) (now : Moment) (rules : Rules) (own : List Fault) (p q : Past) (es reads acts : List Entry) (built : AreBuiltRules rules.sets) (made : Made p es q) (journal : IsJournal p) (joined : reverse es ≡ reads ++ acts) (i : Inside state now rules (Worked state rules.sets now force own) acts) where
+module _ (state : Path) (asked : Asked) (now : Moment) (rules : Rules) (own : List Fault) (p q : Past) (es reads acts : List Entry) (built : AreBuiltRules rules.sets) (made : Made p es q) (journal : IsJournal p) (joined : reverse es ≡ reads ++ acts) (i : Inside state now rules (Worked state rules.sets now asked own) acts) where
   abbrev l : Looked state rules.sets i.between
   l = i.within.looked
 

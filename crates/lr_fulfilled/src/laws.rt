@@ -18,6 +18,7 @@ ghost use Rattle.lr_host.specs.World.{Past};
 ghost use Rattle.lr_acts.specs.Making.{all_of_sets};
 ghost use Rattle.lr_looks.specs.Found.{FoundLog};
 ghost use Rattle.lr_looks.specs.Shown.{ShowsLooks};
+ghost use Rattle.lr_plan.specs.Asked.{Asked};
 ghost use Rattle.lr_plan.specs.declared.looks.LogLook.{LogLook};
 ghost use Rattle.lr_plan.specs.declared.looks.SetLooks.{SetLooks};
 ghost use Rattle.lr_plan.specs.declared.mark.Mark.{Mark};
@@ -38,9 +39,9 @@ ghost use Rattle.lr_fulfilled.specs.Truth.{LooksAreTrue};
 /// fulfilled it, whatever writers did meanwhile: its acts are those of the plan, each log of the plan was rotated, the state
 /// tells of them, and all else was left alone.
 pub fn run_is_fulfilled()
-    ensures { (state : Path) (force : Bool) (now : Moment) (rules : Rules) (own : List Fault) (p q : Past) (es reads acts : List Entry) → AreBuiltRules rules.sets
-        → Made p es q → IsJournal p → reverse es ≡ reads ++ acts → AreSights reads → (i : Inside state now rules (Worked state rules.sets now force own) acts) → NothingFailed state own
-        → IsFulfilled state rules.sets now force i.between i.within.looked own (reverse es) p q }
+    ensures { (state : Path) (asked : Asked) (now : Moment) (rules : Rules) (own : List Fault) (p q : Past) (es reads acts : List Entry) → AreBuiltRules rules.sets
+        → Made p es q → IsJournal p → reverse es ≡ reads ++ acts → AreSights reads → (i : Inside state now rules (Worked state rules.sets now asked own) acts) → NothingFailed state own
+        → IsFulfilled state rules.sets now asked i.between i.within.looked own (reverse es) p q }
 {}
 
 /// Acts of a plan without a fault, with the writing of the state behind them: they are those of all its steps, in order, and
@@ -54,7 +55,7 @@ pub fn acts_are_planned()
 
 /// Where a run tells of nothing that failed, its acts met no fault.
 pub fn run_meets_no_fault()
-    ensures { (state : Path) (rules : List Rule) (now : Moment) (force : Bool) (own : List Fault) (ts : List Entry) → (w : Worked state rules now force own ts) → NothingFailed state own → w.acted.of_acts ≡ [] }
+    ensures { (state : Path) (rules : List Rule) (now : Moment) (asked : Asked) (own : List Fault) (ts : List Entry) → (w : Worked state rules now asked own ts) → NothingFailed state own → w.acted.of_acts ≡ [] }
 {}
 
 /// A run leaves alone what is no path of its state and no name of a log that it rotates, however far it came, and whatever
@@ -72,7 +73,7 @@ pub fn kept_are_elsewhere()
 
 /// The looks of a run that came to its plan are true of the disk, from its start to the end of the looks, whatever failed then.
 pub fn run_looks_are_true()
-    ensures { (state : Path) (force : Bool) (now : Moment) (rules : Rules) (own : List Fault) (p q : Past) (es reads acts : List Entry) → AreBuiltRules rules.sets
-        → Made p es q → IsJournal p → reverse es ≡ reads ++ acts → (i : Inside state now rules (Worked state rules.sets now force own) acts)
+    ensures { (state : Path) (asked : Asked) (now : Moment) (rules : Rules) (own : List Fault) (p q : Past) (es reads acts : List Entry) → AreBuiltRules rules.sets
+        → Made p es q → IsJournal p → reverse es ≡ reads ++ acts → (i : Inside state now rules (Worked state rules.sets now asked own) acts)
         → LooksAreTrue state now rules i.between i.within.looked p q }
 {}
