@@ -1,8 +1,10 @@
 mod Ordered
 mod Spots
+mod Rising
 mod Peeled
 mod Called
 mod Members
+mod Days
 mod Parts
 mod Listings
 mod Families

@@ -15,6 +15,8 @@ use Rattle.lr_looks.specs.Found.{FoundLog, paths_of}
 use Rattle.lr_looks.specs.Sets.{HaveLooksFrom}
 use Rattle.lr_looks.specs.Shown.{ShowsLooks}
 use Rattle.lr_looks.specs.Sights.{faults_of, found_of}
+use Rattle.lr_looks.proofs.Holding.{kept_bounds}
+use Rattle.lr_seen.proofs.Built.{asks_all}
 use Rattle.lr_run.proofs.Called.{none_before, none_behind}
 use Rattle.lr_fixed.specs.Alike.{AreAlikeFrom, AreAlike}
 use Rattle.lr_fixed.proofs.Families.{families_one}
@@ -82,7 +84,7 @@ module _ (reserved : List Path) (rules : List Rule) (sets others : List SetLooks
 
   -- the looks at the families are the same, and so are their entries
   families : (h.entries.second.families.sights ≡ g.entries.second.families.sights) × (h.entries.back ≡ g.entries.back) × (vs ≡ ws)
-  families = families_one h.kept [] [] h.entries.second.listings g.entries.second.listings h.entries.second.families.sights g.entries.second.families.sights h.entries.back g.entries.back vs ws none_alike h.entries.second.families.had_memory g.entries.second.families.had_memory
+  families = families_one h.kept (kept_bounds rules h.found h.kept h.of_words h.of_kept (asks_all rules limits) (record { sights = h.entries.first.sights; found_are = h.entries.first.found_are }) h.keeps) [] [] h.entries.second.listings g.entries.second.listings h.entries.second.families.sights g.entries.second.families.sights h.entries.back g.entries.back vs ws none_alike h.entries.second.families.had_memory g.entries.second.families.had_memory
       (none_behind faults h.of_kept _ h.entries.second.families.faults_are c) (none_behind more g.of_kept _ g.entries.second.families.faults_are d) h.entries.second.families.shown
       (subst (λ logs. ShowFamilies [] logs g.entries.second.listings g.entries.second.families.sights g.entries.back) (sym kept_is.kept_are) g.entries.second.families.shown) words.rest_is
 

@@ -3,15 +3,13 @@ use Rattle.std.proofs.Common.{◌≡◌, ◌<◌, ◌+◌, ℕ, zero, suc, Bool,
 use Rattle.std.proofs.lemmas.Grind.{flat_map-append}
 use Rattle.std.proofs.lemmas.List.{append-nil, map-append}
 use Rattle.std.proofs.lemmas.List.Elements.{All-append, All-cons}
-use Rattle.lr_rules.specs.declared.rule.Rule.{Rule}
 use Rattle.lr_plan.specs.declared.looks.LogLook.{LogLook}
 use Rattle.lr_plan.specs.declared.looks.SetLooks.{SetLooks}
-use Rattle.lr_plan.specs.Planned.{CanPlan}
 use Rattle.lr_family.specs.declared.stand.Stand.{Stand}
 use Rattle.lr_rules.specs.declared.path.Path.{Path}
 use Rattle.lr_looks.specs.Families.{LookedLog, looked_at}
 use Rattle.lr_looks.specs.Found.{FoundLog}
-use Rattle.lr_looks.specs.Internal.{AreReady}
+use Rattle.lr_looks.specs.Internal.{Each}
 use Rattle.lr_looks.specs.Sets.{where_in, of_set, looked_in, HaveLooksFrom}
 
 differs : (j k : ℕ) → (j ≡ k → ⊥) → eqb j k ≡ false
@@ -64,7 +62,7 @@ grow k (suc at) logs x look (s ∷ ss) new d e lt n h =
     moved : (a b : ℕ) → a + suc b ≡ a + 1 + b
     moved a b = omega arith
 
--- ---- and each can stand in a plan
+-- ---- and what holds of each
 
 all_more : (P : LogLook → Type 0) (xs : List LogLook) (x : LogLook) → All P xs → P x → All P (xs ++ x ∷ [])
 all_more P xs x h p = All-append P xs (x ∷ []) h (All-cons P x [] p none)
@@ -72,10 +70,10 @@ all_more P xs x h p = All-append P xs (x ∷ []) h (All-cons P x [] p none)
     none : All P []
     none = search rules
 
-pub ready_grow : (at : ℕ) (look : LogLook) (sets : List SetLooks) (new d : SetLooks) → at < length sets → new.logs ≡ (get_or sets at d).logs ++ look ∷ [] → ((rule : Rule) → CanPlan rule look) → AreReady sets → AreReady (slice_set sets at new)
-ready_grow at look [] new d lt n p h = absurd (omega (arith, lt))
-ready_grow zero look (s ∷ ss) new d lt n p h = (λ rule. subst (All (CanPlan rule)) (sym n) (all_more (CanPlan rule) s.logs look (h.0 rule) (p rule)), h.1)
-ready_grow (suc at) look (s ∷ ss) new d lt n p h = (h.0, ready_grow at look ss new d (omega (arith, lt)) n p h.1)
+pub each_grow : (P : LogLook → Type 0) (at : ℕ) (look : LogLook) (sets : List SetLooks) (new d : SetLooks) → at < length sets → new.logs ≡ (get_or sets at d).logs ++ look ∷ [] → P look → Each P sets → Each P (slice_set sets at new)
+each_grow P at look [] new d lt n p h = absurd (omega (arith, lt))
+each_grow P zero look (s ∷ ss) new d lt n p h = (subst (All P) (sym n) (all_more P s.logs look h.0 p), h.1)
+each_grow P (suc at) look (s ∷ ss) new d lt n p h = (h.0, each_grow P at look ss new d (omega (arith, lt)) n p h.1)
 
 -- ---- definitions without logs
 
@@ -83,9 +81,9 @@ pub none_more : (k : ℕ) (sets : List SetLooks) (new : SetLooks) → new.logs �
 none_more k [] new e h = (ap (map (looked_in k)) e, tt)
 none_more k (s ∷ ss) new e h = (h.0, none_more (k + 1) ss new e h.1)
 
-pub none_ready : (sets : List SetLooks) (new : SetLooks) → new.logs ≡ [] → AreReady sets → AreReady (sets ++ new ∷ [])
-none_ready [] new e h = (λ rule. subst (All (CanPlan rule)) (sym e) (none rule), tt)
+pub each_none : (P : LogLook → Type 0) (sets : List SetLooks) (new : SetLooks) → new.logs ≡ [] → Each P sets → Each P (sets ++ new ∷ [])
+each_none P [] new e h = (subst (All P) (sym e) none, tt)
   where
-    none : (rule : Rule) → All (CanPlan rule) []
-    none rule = search rules
-none_ready (s ∷ ss) new e h = (h.0, none_ready ss new e h.1)
+    none : All P []
+    none = search rules
+each_none P (s ∷ ss) new e h = (h.0, each_none P ss new e h.1)

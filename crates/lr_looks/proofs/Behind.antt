@@ -1,9 +1,10 @@
 -- Looks at families, one behind another.
-use Rattle.std.proofs.Common.{◌≡◌, ◌≢◌, ◌+◌, ◌<◌, inl, inr, ℕ, suc, List, [], ◌∷◌, ◌++◌, length, take, get_or, Option, Some, Result, Ok, Err, OnErr, slice_get, refl, sym, ap, ◌∙◌, subst, arith, append_assoc}
+use Rattle.std.proofs.Common.{◌≡◌, ◌≢◌, ◌+◌, inl, inr, ℕ, suc, List, [], ◌∷◌, ◌++◌, length, take, get_or, Option, Some, None, Result, Ok, Err, OnErr, slice_get, refl, sym, ap, ◌∙◌, subst, arith, append_assoc}
 use Rattle.std.specs.Prelude.{◌≤◌, IfOk, IfErr, OnOk}
 use Rattle.std.proofs.lemmas.List.{append-nil, length-append, map-append, take-append-le}
 use Rattle.std.proofs.lemmas.Option.{get_or_from_slice_get}
 use Rattle.lr_rules.specs.declared.path.Path.{Path}
+use Rattle.lr_rules.specs.declared.rule.Format.{Format}
 use Rattle.lr_rules.specs.declared.rule.Naming.{Naming}
 use Rattle.lr_host.specs.declared.entry.Entry.{Entry}
 use Rattle.lr_host.specs.declared.journal.Journal.{Journal}
@@ -14,6 +15,9 @@ use Rattle.lr_family.specs.declared.stand.Stand.{Stand}
 use Rattle.lr_family.specs.declared.stand.StandStop.{StandStop}
 use Rattle.lr_family.specs.declared.stand.StandStop.TheVariants as stop
 use Rattle.lr_family.specs.Among.{ShowsIn, ShowsNoneIn}
+use Rattle.lr_family.specs.Places.{AreNamed}
+use Rattle.lr_days.specs.Among.{ShowsIn as ShowsDaysIn, ShowsNoneIn as ShowsNoDaysIn}
+use Rattle.lr_days.specs.Newest.{AreDated, AreNewestFirst}
 use Rattle.lr_kept.proofs.Elements.{same_read}
 use Rattle.lr_looks.proofs.Known.{read_last}
 use Rattle.lr_rules.specs.declared.fault.Fault.{Fault}
@@ -22,9 +26,9 @@ use Rattle.lr_family.specs.Stands.{IsFailedCall}
 use Rattle.lr_looks.specs.declared.found.Found.{Found}
 use Rattle.lr_host.specs.Counted.{AddsFaults}
 use Rattle.lr_host.proofs.Counts.{free_none, adds_free, adds_call}
-use Rattle.lr_looks.specs.Found.{FoundLog, found_in, all_found_in, HasNumbers, HaveNumbers}
-use Rattle.lr_looks.specs.Families.{ShowFamilies, HadMemory, AllHadMemory, stop_fault, family_fault, family_faults, LookedLog, looked_at, looked_by, looked_of, LookedAtFamilies, LookedAtSomeFamilies, FamilySight, Stood, Stopped, sight_of, ShowsMembersIn, ShowsFamily, behind_listing, with_listing, not_listed}
-use Rattle.lr_looks.specs.Internal.{TakesListing, before, taken, LacksListing, IsAt, NoListing, lacks, unadded, FamilyPart, AddsLooked, AddsFamily, AddsFamilies, LooksBySets, AreOf}
+use Rattle.lr_looks.specs.Found.{FoundLog, found_in, all_found_in, Hold}
+use Rattle.lr_looks.specs.Families.{ShowFamilies, HadMemory, AllHadMemory, stop_fault, family_fault, family_faults, LookedLog, looked_at, looked_by, looked_of, LookedAtFamilies, LookedAtSomeFamilies, FamilySight, Stood, Stopped, sight_of, ShowsBy, ShowsNoneBy, ShowsMembersIn, ShowsFamily, behind_listing, with_listing, not_listed}
+use Rattle.lr_looks.specs.Internal.{TakesListing, before, taken, LacksListing, IsAt, NoListing, lacks, unadded, FamilyPart, AddsLooked, AddsFamily, AddsFamilies, LooksBySets, AreNamedBy, HaveNames}
 use Rattle.lr_plan.specs.declared.looks.SetLooks.{SetLooks}
 use Rattle.lr_looks.specs.Sets.{HaveLooks}
 
@@ -41,10 +45,31 @@ behind known after n place x s ts us at (taken l new same is p shown) m =
     let one : l ≡ x = same_read (known ++ l ∷ []) (length known) l x (read_last known l) (subst (λ (k : ℕ). slice_get (known ++ l ∷ []) k ≡ Some x) p (subst (λ (ls : List Listing). slice_get ls place ≡ Some x) is at)) in
     with_listing l new same is (record { front = ts; back = us; joined = refl; first = shown; second = subst (λ (k : Listing). ShowsMembersIn n k s us) (sym one) m })
 
-pub family_told : (known after : List Listing) (n : Naming) (dir : Path) (place : ℕ) (x : Listing) (r : Result Stand StandStop) {o m p : Option Journal} → dir ≡ n.dir → slice_get after place ≡ Some x → Left (TakesListing known dir after place) o m
-    → IfOk r (λ stand. Left (ShowsIn n x.there x.parent x.names stand) m p) → IfErr r (λ why. Left (ShowsNoneIn n x.there x.names why) m p) → Left (ShowsFamily known n after (sight_of r)) o p
-family_told known after n dir place x (Ok stand) e at l told stopped = left_then l told (λ ts us h g. behind known after n place x (Stood stand) ts us at (subst (λ (d : Path). TakesListing known d after place ts) e h) g)
-family_told known after n dir place x (Err why) e at l told stopped = left_then l stopped (λ ts us h g. behind known after n place x (Stopped why) ts us at (subst (λ (d : Path). TakesListing known d after place ts) e h) (inr g))
+-- what was seen of a numbered family
+pub numbers_told : (n : Naming) (x : Listing) (r : Result Stand StandStop) {o p : Option Journal} → n.dated ≡ None → IfOk r (λ stand. Left (ShowsIn n x.there x.parent x.names stand) o p) → IfErr r (λ why. Left (ShowsNoneIn n x.there x.names why) o p)
+    → Left (ShowsMembersIn n x (sight_of r)) o p
+numbers_told n x (Ok stand) e told stopped = left_as told (λ ts h. subst (λ d. ShowsBy d n x stand ts) (sym e) h)
+numbers_told n x (Err why) e told stopped = left_as stopped (λ ts h. inr (subst (λ d. ShowsNoneBy d n x why ts) (sym e) h))
+
+-- of a dated one
+pub days_told : (n : Naming) (format : Format) (x : Listing) (r : Result Stand StandStop) {o p : Option Journal} → n.dated ≡ Some format → IfOk r (λ stand. Left (ShowsDaysIn n x.there x.parent x.names stand) o p) → IfErr r (λ why. Left (ShowsNoDaysIn n x.there x.names why) o p)
+    → Left (ShowsMembersIn n x (sight_of r)) o p
+days_told n format x (Ok stand) e told stopped = left_as told (λ ts h. subst (λ d. ShowsBy d n x stand ts) (sym e) h)
+days_told n format x (Err why) e told stopped = left_as stopped (λ ts h. inr (subst (λ d. ShowsNoneBy d n x why ts) (sym e) h))
+
+pub family_told : (known after : List Listing) (n : Naming) (dir : Path) (place : ℕ) (x : Listing) (s : FamilySight) {o m p : Option Journal} → dir ≡ n.dir → slice_get after place ≡ Some x → Left (TakesListing known dir after place) o m
+    → Left (ShowsMembersIn n x s) m p → Left (ShowsFamily known n after s) o p
+family_told known after n dir place x s e at l told = left_then l told (λ ts us h g. behind known after n place x s ts us at (subst (λ (d : Path). TakesListing known d after place ts) e h) g)
+
+-- ---- the names of members
+
+pub numbers_named : (n : Naming) (r : Result Stand StandStop) → n.dated ≡ None → IfOk r (λ stand. AreNamed n stand.members) → IfOk r (λ stand. HaveNames n stand.members)
+numbers_named n (Ok stand) e h = subst (λ d. AreNamedBy d n stand.members) (sym e) h
+numbers_named n (Err why) e h = tt
+
+pub days_named : (n : Naming) (format : Format) (r : Result Stand StandStop) → n.dated ≡ Some format → IfOk r (λ stand. AreDated n stand.members) → IfOk r (λ stand. AreNewestFirst stand.members) → IfOk r (λ stand. HaveNames n stand.members)
+days_named n format (Ok stand) e h newest = subst (λ d. AreNamedBy d n stand.members) (sym e) (h, newest)
+days_named n format (Err why) e h newest = tt
 
 pub family_lacks : (known after : List Listing) (n : Naming) (dir : Path) (why : StandStop) {o p : Option Journal} → dir ≡ n.dir → Left (LacksListing known dir why after) o p → Left (ShowsFamily known n after (Stopped why)) o p
 family_lacks known after n dir why e l = left_as l (λ ts h. go ts (subst (λ (d : Path). LacksListing known d why after ts) e h))
@@ -226,17 +251,10 @@ sets_all logs a b x y z e h s = record { looked = s.looked; entries = s.entries;
 
 -- ---- the next of a list
 
-pub next_numbers : (all done rest : List Found) (x : Found) → all ≡ done ++ x ∷ rest → HaveNumbers (all_found_in all) → HasNumbers (found_in x)
-next_numbers all done rest x e h = go done (subst (λ (fs : List Found). HaveNumbers (all_found_in fs)) e h)
+pub next_holds : (P : FoundLog → Type 0) (all done rest : List Found) (x : Found) → all ≡ done ++ x ∷ rest → Hold P (all_found_in all) → P (found_in x)
+next_holds P all done rest x e h = go done (subst (λ (fs : List Found). Hold P (all_found_in fs)) e h)
   where
-    go : (done : List Found) → HaveNumbers (all_found_in (done ++ x ∷ rest)) → HasNumbers (found_in x)
-    go [] h = h.0
-    go (y ∷ ys) h = go ys h.1
-
-pub next_of : (n : ℕ) (all done rest : List Found) (x : Found) → all ≡ done ++ x ∷ rest → AreOf n (all_found_in all) → x.set < n
-next_of n all done rest x e h = go done (subst (λ (fs : List Found). AreOf n (all_found_in fs)) e h)
-  where
-    go : (done : List Found) → AreOf n (all_found_in (done ++ x ∷ rest)) → x.set < n
+    go : (done : List Found) → Hold P (all_found_in (done ++ x ∷ rest)) → P (found_in x)
     go [] h = h.0
     go (y ∷ ys) h = go ys h.1
 

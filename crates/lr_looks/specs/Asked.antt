@@ -52,10 +52,16 @@ log_at w path = record {
 
 -- ---- what is asked of the rules
 
--- The rule is within its limits, and its members have numbers.
-pub record CanAsk (rule : Rule) : Type 0 where
-  pub limits : meets_limits rule ≡ true
-  pub dated : rule.dated ≡ None
+-- The rule is within its limits.
+abbrev pub CanAsk : Rule → Type 0
+CanAsk rule = meets_limits rule ≡ true
 
 abbrev pub CanAskAll : List Rule → Type 0
 CanAskAll rules = All CanAsk rules
+
+-- the members of its logs have numbers
+abbrev pub HasNumbers : Rule → Type 0
+HasNumbers rule = rule.dated ≡ None
+
+abbrev pub HaveNumbers : List Rule → Type 0
+HaveNumbers rules = All HasNumbers rules

@@ -26,10 +26,14 @@ all_found_in list = map found_in list
 abbrev pub paths_of : List FoundLog → List Path
 paths_of found = map (λ f. f.log.path) found
 
--- Its members have numbers, of which the first is at most 999,999.
-pub record HasNumbers (f : FoundLog) : Type 0 where
-  pub numbered : f.log.naming.dated ≡ None
+-- The first number of its members is at most 999,999, and their format of dates, where they have one, meets its limits.
+pub record HasBounds (f : FoundLog) : Type 0 where
   pub start : f.log.naming.start ≤ 999999
+  pub format : or_none is_format f.log.naming.dated ≡ true
+
+-- its members have numbers
+abbrev pub IsNumbered : FoundLog → Type 0
+IsNumbered f = f.log.naming.dated ≡ None
 
 -- Its path is one, of 2,048 bytes at most, with a last part of 255 at most; so is the directory of its members, and their format of dates, where they have one, meets its limits.
 pub record HasLogPath (f : FoundLog) : Type 0 where
@@ -44,8 +48,11 @@ abbrev pub Hold : (FoundLog → Type 0) → List FoundLog → Type 0
 Hold P [] = Unit {0}
 Hold P (f ∷ fs) = P f × Hold P fs
 
-abbrev pub HaveNumbers : List FoundLog → Type 0
-HaveNumbers found = Hold HasNumbers found
+abbrev pub HaveBounds : List FoundLog → Type 0
+HaveBounds found = Hold HasBounds found
+
+abbrev pub AreNumbered : List FoundLog → Type 0
+AreNumbered found = Hold IsNumbered found
 
 abbrev pub HaveLogPaths : List FoundLog → Type 0
 HaveLogPaths found = Hold HasLogPath found

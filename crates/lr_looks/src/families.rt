@@ -1,26 +1,45 @@
 // The looks at the families of logs.
-ghost use Rattle.std.specs.Prelude.{◌≡◌, ◌≢◌, ◌<◌, ◌++◌, ◌∷◌, [], All, List, None, OnOk, OnErr, IfOk, IfErr, Err, length};
+ghost use Rattle.std.specs.Prelude.{◌≡◌, ◌≢◌, ◌<◌, ◌++◌, ◌∷◌, [], true, OnOk, OnErr, IfOk, IfErr, Err, length};
 ghost use Rattle.lr_host.specs.declared.journal.Journal.{Journal};
+ghost use Rattle.lr_rules.specs.Limits.{is_format, or_none};
 ghost use Rattle.lr_host.specs.Told.{Left, Onward, Rose};
-ghost use Rattle.lr_family.specs.declared.listing.Listing.{Listing};
 ghost use Rattle.lr_family.specs.Stands.{IsFailedCall};
-ghost use Rattle.lr_family.specs.Places.{AreNamed};
 ghost use Rattle.lr_family.specs.declared.stand.StandStop.TheVariants as stop;
 ghost use Rattle.lr_host.specs.Counted.{AddsFaults};
-ghost use Rattle.lr_looks.specs.Families.{LookedLog, looked_at, looked_by, ShowsFamily, sight_of, stop_fault, LookedAtFamilies, LooksAtFamilies, LookedAtSomeFamilies};
-ghost use Rattle.lr_looks.specs.Found.{found_in, all_found_in, paths_of, HasNumbers, HaveNumbers};
-ghost use Rattle.lr_looks.specs.Internal.{AreListings, FamilyPart, AddsLooked, AddsFamily, AddsFamilies, LooksBySets, AreReady, AreOf};
+ghost use Rattle.lr_looks.specs.Families.{LookedLog, looked_at, looked_by, ShowsMembersIn, ShowsFamily, sight_of, stop_fault, LookedAtFamilies, LooksAtFamilies, LookedAtSomeFamilies};
+ghost use Rattle.lr_looks.specs.Found.{found_in, all_found_in, paths_of, HasBounds, HaveBounds, IsNumbered, AreNumbered};
+ghost use Rattle.lr_looks.specs.Internal.{AreListings, FamilyPart, AddsLooked, AddsFamily, AddsFamilies, LooksBySets, HaveNames, AreReady, GoToNumbers, AreOf};
 ghost use Rattle.lr_looks.specs.Sets.{HaveLooks};
 
 use crate::found::Found;
 use crate::listing::listing_at;
 use crate::listings::Listings;
 use indexmap::IndexMap;
-use lr_family::{Family, Stand, StandStop};
+use lr_family::{Family, Listing, Stand, StandStop};
 use lr_host::Host;
 use lr_plan::{LogLook, Looks, SetLooks};
 use lr_rules::{Fault, Listed, Memory, Path};
 use std::alloc::Global;
+
+// What stands of a family, numbered or dated, in a directory that was listed.
+fn stand_in<H: Host>(
+    alloc: Global,
+    host: &mut H,
+    family: &Family,
+    listing: &Listing,
+) -> Result<Stand, StandStop>
+    requires format { or_none is_format family.now.naming.dated ≡ true }
+    requires dir { listing.now.dir ≡ family.now.naming.dir }
+    ensures told { Left (ShowsMembersIn family.now.naming listing.now (sight_of result)) (H.told host.old) (H.told host.new) }
+    ensures named { IfOk result (λ stand. HaveNames family.now.naming stand.members) }
+    ensures cause { IfErr result (λ why. IsFailedCall why → Rose (H.counts host.old).faults (H.counts host.new).faults) }
+    ensures counts { Onward (H.counts host.old) (H.counts host.new) }
+{
+    match &family.naming().dated {
+        Some(_) => lr_days::stand_in(alloc, host, family, listing),
+        None => family.stand_in(alloc, host, listing),
+    }
+}
 
 // What stands of a family, whose directory is listed where it wasn't before.
 fn stand_at<H: Host>(
@@ -30,16 +49,16 @@ fn stand_at<H: Host>(
     family: &Family,
 ) -> Result<Stand, StandStop>
     requires known { AreListings listings.old }
-    requires numbered { family.now.naming.dated ≡ None }
+    requires format { or_none is_format family.now.naming.dated ≡ true }
     ensures told { result ≢ Err stop.Memory → Left (ShowsFamily listings.old.taken.items family.now.naming listings.new.taken.items (sight_of result)) (H.told host.old) (H.told host.new) }
     ensures part { Left (FamilyPart listings.old.taken.items family.now.naming (sight_of result)) (H.told host.old) (H.told host.new) }
     ensures known { result ≢ Err stop.Memory → AreListings listings.new }
-    ensures named { IfOk result (λ stand. AreNamed family.now.naming stand.members) }
+    ensures named { IfOk result (λ stand. HaveNames family.now.naming stand.members) }
     ensures cause { IfErr result (λ why. IsFailedCall why → Rose (H.counts host.old).faults (H.counts host.new).faults) }
     ensures counts { Onward (H.counts host.old) (H.counts host.new) }
 {
     match listing_at(alloc, host, listings, &family.naming().dir) {
-        Ok(place) => family.stand_in(alloc, host, &listings.taken[place]),
+        Ok(place) => stand_in(alloc, host, family, &listings.taken[place]),
         Err(why) => Err(why),
     }
 }
@@ -70,11 +89,12 @@ fn add_look(
     stand: Stand,
 ) -> Result<(), Memory>
     requires set { found.set < length sets.old.items }
-    requires numbers { HasNumbers (found_in found) }
-    requires named { AreNamed found.family.naming stand.members }
+    requires bounds { HasBounds (found_in found) }
+    requires named { HaveNames found.family.naming stand.members }
     ensures looked { OnOk result (AddsLooked (looked_at (found_in found) stand ∷ []) sets.old.items sets.new.items) }
     ensures many { OnOk result (length sets.new.items ≡ length sets.old.items) }
     ensures ready { OnOk result (AreReady sets.old.items → AreReady sets.new.items) }
+    ensures numbered { OnOk result (IsNumbered (found_in found) → GoToNumbers sets.old.items → GoToNumbers sets.new.items) }
 {
     let Found {
         set,
@@ -103,12 +123,13 @@ fn look_at_family<H: Host>(
 ) -> Result<(), Memory>
     requires known { AreListings listings.old }
     requires set { found.set < length sets.old.items }
-    requires numbers { HasNumbers (found_in found) }
+    requires bounds { HasBounds (found_in found) }
     ensures told { OnOk result (AddsFamily listings.old.taken.items listings.new.taken.items (found_in found) faults.old.items faults.new.items sets.old.items sets.new.items (H.told host.old) (H.told host.new)) }
     ensures some { OnErr result (Left (LookedAtSomeFamilies listings.old.taken.items (found_in found ∷ [])) (H.told host.old) (H.told host.new)) }
     ensures known { OnOk result (AreListings listings.new) }
     ensures many { OnOk result (length sets.new.items ≡ length sets.old.items) }
     ensures ready { OnOk result (AreReady sets.old.items → AreReady sets.new.items) }
+    ensures numbered { OnOk result (IsNumbered (found_in found) → GoToNumbers sets.old.items → GoToNumbers sets.new.items) }
     ensures counted { OnOk result (AddsFaults faults.old.items faults.new.items (H.counts host.old) (H.counts host.new)) }
     ensures counts { Onward (H.counts host.old) (H.counts host.new) }
 {
@@ -123,6 +144,7 @@ fn no_looks(alloc: Global, count: usize) -> Result<Vec<SetLooks>, Memory>
     ensures none { IfOk result (λ sets. HaveLooks [] sets.items) }
     ensures many { IfOk result (λ sets. length sets.items ≡ count) }
     ensures ready { IfOk result (λ sets. AreReady sets.items) }
+    ensures numbered { IfOk result (λ sets. GoToNumbers sets.items) }
 {
     let mut sets = Vec::new(alloc);
     for _at in 0..count {
@@ -142,11 +164,12 @@ fn look_at_each<H: Host>(
     faults: &mut Vec<Fault>,
 ) -> Result<(), Memory>
     requires sets { AreOf (length sets.old.items) (all_found_in found.items) }
-    requires numbers { HaveNumbers (all_found_in found.items) }
+    requires bounds { HaveBounds (all_found_in found.items) }
     ensures told { OnOk result (AddsFamilies (all_found_in found.items) faults.old.items faults.new.items sets.old.items sets.new.items (H.told host.old) (H.told host.new)) }
     ensures some { OnErr result (Left (LookedAtSomeFamilies [] (all_found_in found.items)) (H.told host.old) (H.told host.new)) }
     ensures many { OnOk result (length sets.new.items ≡ length sets.old.items) }
     ensures ready { OnOk result (AreReady sets.old.items → AreReady sets.new.items) }
+    ensures numbered { OnOk result (AreNumbered (all_found_in found.items) → GoToNumbers sets.old.items → GoToNumbers sets.new.items) }
     ensures counted { OnOk result (AddsFaults faults.old.items faults.new.items (H.counts host.old) (H.counts host.new)) }
     ensures counts { Onward (H.counts host.old) (H.counts host.new) }
 {
@@ -182,12 +205,13 @@ pub fn look_at_families<H: Host>(
     faults: &mut Vec<Fault>,
 ) -> Result<Looks, Memory>
     requires sets { AreOf count (all_found_in found.items) }
-    requires numbers { HaveNumbers (all_found_in found.items) }
+    requires bounds { HaveBounds (all_found_in found.items) }
     ensures told { IfOk result (λ looks. LooksBySets (all_found_in found.items) faults.old.items faults.new.items looks.sets (H.told host.old) (H.told host.new)) }
     ensures some { OnErr result (Left (LookedAtSomeFamilies [] (all_found_in found.items)) (H.told host.old) (H.told host.new)) }
     ensures kept { IfOk result (λ looks. looks.kept ≡ paths_of (all_found_in found.items)) }
     ensures many { IfOk result (λ looks. length looks.sets ≡ count) }
     ensures ready { IfOk result (λ looks. AreReady looks.sets) }
+    ensures numbered { IfOk result (λ looks. AreNumbered (all_found_in found.items) → GoToNumbers looks.sets) }
     ensures counted { IfOk result (λ looks. AddsFaults faults.old.items faults.new.items (H.counts host.old) (H.counts host.new)) }
     ensures counts { Onward (H.counts host.old) (H.counts host.new) }
 {

@@ -1,6 +1,7 @@
 -- Where a family's directory wasn't there, a look saw nothing at its path.
-use Rattle.std.proofs.Common.{◌≡◌, inl, inr, ⊎_elim, ℕ, zero, suc, Bool, false, List, [], ◌∷◌, Some, None, slice_get, refl, sym, ◌∙◌, subst}
+use Rattle.std.proofs.Common.{◌≡◌, inl, inr, ⊎_elim, ℕ, zero, suc, Bool, false, List, [], ◌∷◌, Option, Some, None, slice_get, refl, sym, ◌∙◌, subst}
 use Rattle.lr_rules.specs.declared.path.Path.{Path}
+use Rattle.lr_rules.specs.declared.rule.Format.{Format}
 use Rattle.lr_rules.specs.declared.rule.Naming.{Naming}
 use Rattle.lr_host.specs.declared.entry.Entry.{Entry}
 use Rattle.lr_host.specs.declared.entry.Entry.TheVariants as entry
@@ -10,7 +11,7 @@ use Rattle.lr_host.proofs.Lists.{in_front, in_back, in_append}
 use Rattle.lr_family.specs.declared.listing.Listing.{Listing}
 use Rattle.lr_family.specs.declared.stand.Stand.{Stand}
 use Rattle.lr_family.specs.Listed.{ShowsListing}
-use Rattle.lr_looks.specs.Families.{FamilySight, Stood, Stopped, ShowsFamily, behind_listing, with_listing, not_listed, ShowFamilies, LookedLog, looked_by, looked_of}
+use Rattle.lr_looks.specs.Families.{FamilySight, Stood, Stopped, ShowsBy, ShowsFamily, behind_listing, with_listing, not_listed, ShowFamilies, LookedLog, looked_by, looked_of}
 use Rattle.lr_looks.specs.Found.{FoundLog}
 
 -- a look saw nothing at the path
@@ -49,13 +50,18 @@ next_gone all known n after s ts in_all gone (not_listed why new same e h) = sub
 
 -- ---- families
 
+-- numbered or dated, its directory is there where that of the listing is
+as_listed : (d : Option Format) (n : Naming) (l : Listing) (stand : Stand) (ts : List Entry) → ShowsBy d n l stand ts → stand.there ≡ l.there
+as_listed None n l stand ts h = h.0
+as_listed (Some format) n l stand ts h = h.0
+
 -- a family, whether its directory was listed before or is listed now
 family_gone : (all : List Entry) (known : List Listing) (n : Naming) (after : List Listing) (stand : Stand) (s : FamilySight) (ts : List Entry) → s ≡ Stood stand → AreGone all known → AreGone all after → stand.there ≡ false → ShowsFamily known n after s ts → IsGone all n.dir
 family_gone all known n after stand s ts is gone next there f = go (subst (λ (x : FamilySight). ShowsFamily known n after x ts) is f)
   where
     go : ShowsFamily known n after (Stood stand) ts → IsGone all n.dir
-    go (behind_listing l was same m) = subst (IsGone all) was.same (gone l (in_list known was.place l was.there) (sym m.0 ∙ there))
-    go (with_listing l new e same t) = subst (IsGone all) e (next l (subst (IsIn l) (sym same) (in_back l known (l ∷ []) (inl refl))) (sym t.second.0 ∙ there))
+    go (behind_listing l was same m) = subst (IsGone all) was.same (gone l (in_list known was.place l was.there) (sym (as_listed n.dated n l stand ts m) ∙ there))
+    go (with_listing l new e same t) = subst (IsGone all) e (next l (subst (IsIn l) (sym same) (in_back l known (l ∷ []) (inl refl))) (sym (as_listed n.dated n l stand t.back t.second) ∙ there))
     go (not_listed why new same e h) = absurd (cc)
 
 gone_on : (all : List Entry) (known : List Listing) (fs : List FoundLog) (after : List Listing) (ss : List FamilySight) (ts : List Entry) → ((e : Entry) → IsIn e ts → IsIn e all) → AreGone all known → ShowFamilies known fs after ss ts

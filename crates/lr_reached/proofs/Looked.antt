@@ -1,10 +1,9 @@
 -- No fault of the looks is one that ends a run, and a directory that a plan lacks was missed by one of them.
 use Rattle.std.proofs.Common.{◌≡◌, inl, inr, ⊎_elim, ◌+◌, ℕ, Bool, true, false, cond, eqb, List, [], ◌∷◌, None, sym, subst}
-use Rattle.std.specs.List.{flat_map, list_all, AllByRecursion}
+use Rattle.std.specs.List.{flat_map, AllByRecursion}
 use Rattle.lr_rules.specs.declared.fault.Fault.{Fault}
 use Rattle.lr_rules.specs.declared.path.Path.{Path}
 use Rattle.lr_rules.specs.declared.rule.Rule.{Rule}
-use Rattle.lr_rules.specs.Limits.{meets_limits}
 use Rattle.lr_rules.specs.Path.{parent_of}
 use Rattle.lr_host.specs.declared.entry.Entry.{Entry}
 use Rattle.lr_host.specs.declared.entry.Entry.TheVariants as entry
@@ -18,10 +17,7 @@ use Rattle.lr_looks.specs.Families.{LookedLog, family_faults}
 use Rattle.lr_looks.specs.Found.{Hold}
 use Rattle.lr_looks.specs.Sets.{where_in, of_set, looked_in, HaveLooksFrom}
 use Rattle.lr_looks.specs.Shown.{ShowsLooks}
-use Rattle.lr_looks.proofs.Holding.{kept_numbers}
-use Rattle.lr_fields.specs.Built.{AreBuiltRules}
 use Rattle.lr_seen.specs.Free.{reserved_by}
-use Rattle.lr_seen.proofs.Built.{asks_all}
 use Rattle.lr_reached.specs.Ending.{NoneEnds}
 use Rattle.lr_reached.proofs.Ends.{none_both}
 use Rattle.lr_reached.proofs.Families.{families_none}
@@ -70,7 +66,6 @@ module _ (state : Path) (rules : List Rule) (sets : List SetLooks) (faults : Lis
   of_kept = subst (NoneEnds state) (sym s.keeps.faults_are) (none_both state s.of_words _ of_words
       (none_both state (choice_faults (reserved_by state) s.found s.found s.keeps.choices) (flat_map kind_fault (kept_of s.found s.keeps.choices)) (choices_none state (reserved_by state) s.found s.found s.keeps.choices) (kinds_none state (kept_of s.found s.keeps.choices) free)))
 
-  pub looks_none : AreBuiltRules rules → list_all meets_limits rules ≡ true → NoneEnds state faults
-  looks_none built limits = subst (NoneEnds state) (sym s.entries.second.families.faults_are) (none_both state s.of_kept (family_faults s.entries.second.families.sights) of_kept
-      (families_none state [] s.kept s.entries.second.listings s.entries.second.families.sights s.entries.back (subst (Hold (IsFreeLog (reserved_by state))) (sym s.keeps.left_are) (files_hold (IsFreeLog (reserved_by state)) (kept_of s.found s.keeps.choices) free))
-      (kept_numbers rules s.found s.kept s.of_words s.of_kept (asks_all rules built limits) (record { sights = s.entries.first.sights; found_are = s.entries.first.found_are }) s.keeps) s.entries.second.families.shown))
+  pub looks_none : NoneEnds state faults
+  looks_none = subst (NoneEnds state) (sym s.entries.second.families.faults_are) (none_both state s.of_kept (family_faults s.entries.second.families.sights) of_kept
+      (families_none state [] s.kept s.entries.second.listings s.entries.second.families.sights s.entries.back (subst (Hold (IsFreeLog (reserved_by state))) (sym s.keeps.left_are) (files_hold (IsFreeLog (reserved_by state)) (kept_of s.found s.keeps.choices) free)) s.entries.second.families.shown))

@@ -121,7 +121,7 @@ follows_try state rules sets kept table now asked None own f some = absurd (some
 
 plans_try : (state : Path) (rules : Rules) (table : List Row) (now : Moment) (asked : Asked) (plan : Option Plan) (own : List Fault) (ts : List Entry) → AreBuiltRules rules.sets → Plans state rules.sets table now asked plan own ts → (IsNone plan → ⊥) → NoneEndsTry state own
 plans_try state rules table now asked plan own ts built p some = subst (NoneEndsTry state) (sym p.faults_are)
-    (try_both state p.of_looks p.of_plan (none_try state p.of_looks (looks_none state rules.sets p.sets p.of_looks ts p.shown built rules.limits)) (follows_try state rules.sets p.sets (paths_of p.shown.kept) table now asked plan p.of_plan p.follows some))
+    (try_both state p.of_looks p.of_plan (none_try state p.of_looks (looks_none state rules.sets p.sets p.of_looks ts p.shown)) (follows_try state rules.sets p.sets (paths_of p.shown.kept) table now asked plan p.of_plan p.follows some))
 
 pub reached_try : (state : Path) (now : Moment) (asked : Asked) (rules : Rules) (plan : Option Plan) (own : List Fault) (ts : List Entry) → AreBuiltRules rules.sets → Tries state rules.sets now asked plan own ts → (IsNone plan → ⊥) → NoneEndsTry state own
 reached_try state now asked rules plan own ts built (unseen lost is none) some = absurd (some lost)

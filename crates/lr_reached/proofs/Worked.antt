@@ -34,7 +34,7 @@ use Rattle.lr_reached.proofs.Written.{written_none}
 -- where no look missed the state's directory
 worked_none : (state : Path) (rules : List Rule) (now : Moment) (asked : Asked) (own : List Fault) (ts : List Entry) → AreBuiltRules rules → list_all meets_limits rules ≡ true → (w : Worked state rules now asked own ts) → (IsGone w.looked.looks (parent_of state) → ⊥) → NoneEnds state own
 worked_none state rules now asked own ts built limits w stands = subst (NoneEnds state) (sym w.acted.faults_are)
-    (none_both state w.looked.of_looks _ (looks_none state rules w.looked.sets w.looked.of_looks w.looked.looks w.looked.shown built limits)
+    (none_both state w.looked.of_looks _ (looks_none state rules w.looked.sets w.looked.of_looks w.looked.looks w.looked.shown)
     (none_both state (plan_in state rules ts w.looked now asked).faults w.acted.of_acts
     (plan_none state (decision w.looked.remembered.table now asked.force) rules w.looked.sets (none_missed state rules w.looked.sets w.looked.of_looks w.looked.looks w.looked.shown stands))
     (subst (NoneEnds state) (sym w.acted.entries.faults_are) (none_both state w.acted.entries.of_plan w.acted.entries.of_state

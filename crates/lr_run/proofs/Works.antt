@@ -50,7 +50,7 @@ use Rattle.lr_acts.specs.declared.progress.Progress.{Progress}
 use Rattle.lr_acts.specs.Making.{HasProgram, all_of_sets}
 use Rattle.lr_looks.specs.Families.{ShowFamilies, LooksAtFamilies, LookedAtSomeFamilies}
 use Rattle.lr_looks.specs.Found.{FoundLog, paths_of}
-use Rattle.lr_looks.specs.Internal.{AreReady}
+use Rattle.lr_looks.specs.Internal.{AreReady, GoToNumbers}
 use Rattle.lr_looks.specs.Shown.{ShowsLooks, LooksAtAll, ShowsSomeLooks, at_words, at_families}
 use Rattle.lr_looks.proofs.Behind.{as_many_sights}
 use Rattle.lr_reading.specs.declared.remembered.Remembered.{Remembered}
@@ -79,13 +79,13 @@ use Rattle.lr_run.proofs.Simple.{AreSimple, plan_simple}
 
 -- ---- rules that are built can be planned for
 
-pub can_plan : (rules : List Rule) (sets : List SetLooks) → AreBuiltRules rules → list_all meets_limits rules ≡ true → AreReady sets → length sets ≡ length rules → CanPlanAll rules sets
-can_plan [] [] b limits r e = record {}
-can_plan [] (s ∷ ss) b limits r e = absurd (omega (arith, e))
-can_plan (x ∷ xs) [] b limits r e = absurd (omega (arith, e))
-can_plan (x ∷ xs) (s ∷ ss) b limits r e =
+pub can_plan : (rules : List Rule) (sets : List SetLooks) → AreBuiltRules rules → list_all meets_limits rules ≡ true → AreReady sets → GoToNumbers sets → length sets ≡ length rules → CanPlanAll rules sets
+can_plan [] [] b limits r n e = record {}
+can_plan [] (s ∷ ss) b limits r n e = absurd (omega (arith, e))
+can_plan (x ∷ xs) [] b limits r n e = absurd (omega (arith, e))
+can_plan (x ∷ xs) (s ∷ ss) b limits r n e =
     let both = and_parts (meets_limits x) (list_all meets_limits xs) limits in
-    (can_plan_set x s.logs (All-head IsBuiltRule x xs b) both.0 (r.0 x), can_plan xs ss (All-tail IsBuiltRule x xs b) both.1 r.1 (omega (arith, e)))
+    (can_plan_set x s.logs (All-head IsBuiltRule x xs b) both.0 r.0 n.0, can_plan xs ss (All-tail IsBuiltRule x xs b) both.1 r.1 n.1 (omega (arith, e)))
 
 -- ---- the faults of a plan
 

@@ -44,7 +44,6 @@ use Rattle.lr_sought.proofs.Stood.{stood_is_found}
 use Rattle.lr_rotations.specs.Target.{Gives}
 use Rattle.lr_rotations.proofs.Given.{Stretch, stretch, still_file}
 use Rattle.lr_fields.specs.Built.{IsBuiltRule, AreBuiltRules}
-use Rattle.lr_seen.proofs.Built.{can_ask}
 use Rattle.lr_seen.proofs.Coming.{IsFoundBy, found_word, IsAsked, was_asked}
 use Rattle.lr_seen.proofs.Elements.{in_list, map_at, unmap_at}
 use Rattle.lr_seen.proofs.Quiet.{looking_words}
@@ -163,8 +162,11 @@ module _ {reserved : List Path} (rules : Rules) (sets : List SetLooks) (faults :
   rule_in : (w : Word) → (a : IsAsked 0 rules.sets w) → IsIn w.rule rules.sets
   rule_in w a = in_list rules.sets a.place w.rule a.at
 
+  is_built : (w : Word) → IsAsked 0 rules.sets w → IsBuiltRule w.rule
+  is_built w a = All-contains IsBuiltRule rules.sets w.rule built (in_to w.rule rules.sets (rule_in w a))
+
   can : (w : Word) → IsAsked 0 rules.sets w → CanAsk w.rule
-  can w a = can_ask w.rule (All-contains IsBuiltRule rules.sets w.rule built (in_to w.rule rules.sets (rule_in w a))) (all_in meets_limits rules.sets w.rule rules.limits (rule_in w a))
+  can w a = all_in meets_limits rules.sets w.rule rules.limits (rule_in w a)
 
   full : (w : Word) → IsIn w (asked_by rules.sets) → is_wildcard w.text ≡ true → has_empty_part w.text ≡ false
   full w i wild =
@@ -228,4 +230,4 @@ module _ {reserved : List Path} (rules : Rules) (sets : List SetLooks) (faults :
 
           none : (at : ℕ) → IsMemberAt (naming_of w.word.rule x) at f.log.path → ⊥
           none place h = no_member s.found s.keeps.choices s.keeps.chosen k f at kept (ap (λ (g : FoundLog). g.log.wild) b.is ∙ wild) x first other
-              (ap (λ (n : Naming). n.dated) naming ∙ (can w.word a).dated) place (subst (λ (n : Naming). IsMemberAt n place f.log.path) (sym naming) h)
+              (ap (λ (n : Naming). n.dated) naming ∙ (is_built w.word a).dated) place (subst (λ (n : Naming). IsMemberAt n place f.log.path) (sym naming) h)

@@ -3,6 +3,7 @@ use Rattle.std.proofs.Common.{◌≡◌, inl, inr, ⊎_elim, ℕ, ◌+◌, Bool,
 use Rattle.std.specs.List.Sorted.{IsPermutation}
 use Rattle.std.proofs.lemmas.List.Sorted.{Contains-permutation, IsPermutation-sym}
 use Rattle.lr_rules.specs.declared.path.Path.{Path}
+use Rattle.lr_rules.specs.declared.rule.Format.{Format}
 use Rattle.lr_rules.specs.declared.rule.Naming.{Naming}
 use Rattle.lr_host.specs.declared.thing.Kind.{Kind}
 use Rattle.lr_host.specs.declared.thing.Kind.TheVariants as kind
@@ -21,8 +22,9 @@ use Rattle.lr_family.specs.Listed.{HasListed, ShowsListing}
 use Rattle.lr_family.specs.Named.{member_name}
 use Rattle.lr_family.specs.Parts.{part_if_file, part_seen, part_in, part_look, ShowsParts}
 use Rattle.lr_family.specs.Spots.{AreSpots}
+use Rattle.lr_days.specs.Among.{ShowsMembers as ShowsDays}
 use Rattle.lr_chain.specs.Rotation.{places_of}
-use Rattle.lr_looks.specs.Families.{FamilySight, Stood, Stopped, ShowsFamily, behind_listing, with_listing, not_listed, ShowFamilies, LookedLog, looked_by, looked_of}
+use Rattle.lr_looks.specs.Families.{FamilySight, Stood, Stopped, ShowsBy, ShowsFamily, behind_listing, with_listing, not_listed, ShowFamilies, LookedLog, looked_by, looked_of}
 use Rattle.lr_looks.specs.Found.{FoundLog}
 use Rattle.lr_rotations.specs.Shown.{Shown}
 use Rattle.lr_rotations.proofs.Shown.{stands_shown}
@@ -129,10 +131,10 @@ part_of_sight path x (Some seen) i = go seen.kind refl i
     go kind.Dir is none = absurd none
     go kind.Other is none = absurd none
 
-parts_shown : (all : List Entry) (n : Naming) (l : Listing) (stand : Stand) (ts : List Entry) → ((e : Entry) → IsIn e ts → IsIn e all) → ShowsIn n l.there l.parent l.names stand ts → SawFiles stand.parts all
-parts_shown all n l stand ts in_all h x i = go l.there h.2.second
+parts_among : (all : List Entry) (n : Naming) (l : Listing) (stand : Stand) (M : List Entry → Type 0) (ts : List Entry) → ((e : Entry) → IsIn e ts → IsIn e all) → Then M (ShowsParts n l.there l.names stand.parts) ts → SawFiles stand.parts all
+parts_among all n l stand M ts in_all h x i = go l.there h.second
   where
-    go : (b : Bool) → ShowsParts n b l.names stand.parts h.2.back → (seen : Seen) × (seen.kind ≡ kind.File) × IsIn (entry.Look x (Some seen)) all
+    go : (b : Bool) → ShowsParts n b l.names stand.parts h.back → (seen : Seen) × (seen.kind ≡ kind.File) × IsIn (entry.Look x (Some seen)) all
     go false none = absurd (subst (IsIn x) none.0 i)
     go true p =
         let g = in_flat part_in p.sights x (subst (IsIn x) p.parts_are i) in
@@ -140,15 +142,20 @@ parts_shown all n l stand ts in_all h x i = go l.there h.2.second
         let e : entry.Look g.0.path g.0.seen ≡ entry.Look x (Some s.1.0) = ap (λ (y : Path). entry.Look y g.0.seen) s.0 ∙ ap (entry.Look x) s.1.2 in (
           s.1.0,
           s.1.1,
-          in_all (entry.Look x (Some s.1.0)) (subst (IsIn (entry.Look x (Some s.1.0))) (sym h.2.joined) (in_back (entry.Look x (Some s.1.0)) h.2.front h.2.back
+          in_all (entry.Look x (Some s.1.0)) (subst (IsIn (entry.Look x (Some s.1.0))) (sym h.joined) (in_back (entry.Look x (Some s.1.0)) h.front h.back
               (subst (IsIn (entry.Look x (Some s.1.0))) (sym p.looks) (subst (λ (d : Entry). IsIn d (map part_look p.sights)) e (in_map part_look g.0 p.sights g.1))))),
         )
 
+-- of a numbered family and of a dated one alike
+parts_shown : (all : List Entry) (n : Naming) (l : Listing) (stand : Stand) (ts : List Entry) → ((e : Entry) → IsIn e ts → IsIn e all) → (d : Option Format) → ShowsBy d n l stand ts → SawFiles stand.parts all
+parts_shown all n l stand ts in_all None h = parts_among all n l stand (ShowsMembers n l.there l.names stand.members) ts in_all h.2
+parts_shown all n l stand ts in_all (Some format) h = parts_among all n l stand (ShowsDays n l.there l.names stand.members) ts in_all h.2
+
 -- ---- families
 
--- The members of such a family were seen where its directory is there, and its part files.
+-- The members of a numbered family were seen where its directory is there, and the part files of every one.
 abbrev pub WasShown : Naming → Stand → List Entry → Type 0
-WasShown n stand all = (stand.there ≡ true → Shown n (places_of stand.members) all) × SawFiles stand.parts all
+WasShown n stand all = (n.dated ≡ None → stand.there ≡ true → Shown n (places_of stand.members) all) × SawFiles stand.parts all
 
 -- a family, whether its directory was listed before or is listed now
 family_shown : (all : List Entry) (known : List Listing) (n : Naming) (after : List Listing) (stand : Stand) (s : FamilySight) (ts : List Entry) → s ≡ Stood stand → ((e : Entry) → IsIn e ts → IsIn e all) → AreTold all known → AreTold all after
@@ -160,10 +167,10 @@ family_shown all known n after stand s ts is in_all told next f = go (subst (λ 
     alone ls l told i k (inr none) b = absurd none
 
     go : ShowsFamily known n after (Stood stand) ts → WasShown n stand all
-    go (behind_listing l was same m) = ((λ there. members_shown all n l stand ts in_all (alone known l told (in_list known was.place l was.there)) was.same there m), parts_shown all n l stand ts in_all m)
+    go (behind_listing l was same m) = ((λ numbered there. members_shown all n l stand ts in_all (alone known l told (in_list known was.place l was.there)) was.same there (subst (λ d. ShowsBy d n l stand ts) numbered m)), parts_shown all n l stand ts in_all n.dated m)
     go (with_listing l new e same t) =
         let more = λ (x : Entry) (i : IsIn x t.back). in_all x (subst (IsIn x) (sym t.joined) (in_back x t.front t.back i)) in
-        ((λ there. members_shown all n l stand t.back more (alone after l next (subst (IsIn l) (sym same) (in_back l known (l ∷ []) (inl refl)))) e there t.second), parts_shown all n l stand t.back more t.second)
+        ((λ numbered there. members_shown all n l stand t.back more (alone after l next (subst (IsIn l) (sym same) (in_back l known (l ∷ []) (inl refl)))) e there (subst (λ d. ShowsBy d n l stand t.back) numbered t.second)), parts_shown all n l stand t.back more n.dated t.second)
     go (not_listed why new same e h) = absurd (cc)
 
 -- of each log that was looked at whole

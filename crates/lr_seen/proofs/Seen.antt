@@ -51,7 +51,6 @@ use Rattle.lr_fields.specs.Built.{IsBuiltRule, AreBuiltRules}
 use Rattle.lr_seen.specs.Targets.{all_targets}
 use Rattle.lr_seen.proofs.Elements.{in_list}
 use Rattle.lr_seen.proofs.Apart.{kept_at}
-use Rattle.lr_seen.proofs.Built.{can_ask}
 use Rattle.lr_seen.proofs.Coming.{Comes, comes_from, was_looked, in_kept, IsFrom, came_from}
 use Rattle.lr_seen.proofs.Gives.{all_in, gives_kept}
 use Rattle.lr_seen.proofs.Listed.{WasShown, all_shown}
@@ -60,10 +59,10 @@ use Rattle.lr_seen.proofs.Ready.{by_copy, by_rename, target_ready, target_job}
 -- ---- the family
 
 -- the log and the naming that its rule gives it are a family
-is_family : (rule : Rule) (f : FoundLog) → CanAsk rule → HasLogPath f → naming_of rule f.log.path ≡ f.log.naming → IsFamily f.log.path f.log.naming
-is_family rule f can fit is = subst (IsFamily f.log.path) is (record {
-  numbered = can.dated;
-  kin = kin_of rule f.log.path can.limits fit.path fit.size fit.last;
+is_family : (rule : Rule) (f : FoundLog) → rule.dated ≡ None → CanAsk rule → HasLogPath f → naming_of rule f.log.path ≡ f.log.naming → IsFamily f.log.path f.log.naming
+is_family rule f numbered can fit is = subst (IsFamily f.log.path) is (record {
+  numbered = numbered;
+  kin = kin_of rule f.log.path can fit.path fit.size fit.last;
   dir = subst (λ (m : Naming). path_fault m.dir ≡ None) (sym is) fit.dir;
 })
 
@@ -75,7 +74,7 @@ log_path (g ∷ gs) f h (inr i) = log_path gs f h.1 i
 -- a log that was looked at whole
 pub looked_family : {reserved : List Path} (rules : Rules) (sets : List SetLooks) (faults : List Fault) (ts : List Entry) (x : LookedLog) → AreBuiltRules rules.sets → (s : ShowsLooks reserved rules.sets sets faults ts) → IsIn x s.looked → IsFamily x.path x.naming
 looked_family rules sets faults ts x built s looked = subst (λ (p : Path). IsFamily p x.naming) o.path_is (subst (IsFamily o.found.log.path) o.naming_is
-    (is_family o.by_word.word.rule o.found can (log_path s.found o.found s.paths (in_kept s.found s.keeps.choices o.found came.1)) naming))
+    (is_family o.by_word.word.rule o.found b.dated can (log_path s.found o.found s.paths (in_kept s.found s.keeps.choices o.found came.1)) naming))
   where
     came : (o : IsFrom rules.sets s.entries.front s.found x) × IsIn o.found (kept_of s.found s.keeps.choices)
     came = came_from rules.sets sets faults ts s x looked
@@ -87,7 +86,10 @@ looked_family rules sets faults ts x built s looked = subst (λ (p : Path). IsFa
     among = in_list rules.sets x.set o.by_word.word.rule o.at
 
     can : CanAsk o.by_word.word.rule
-    can = can_ask o.by_word.word.rule (All-contains IsBuiltRule rules.sets o.by_word.word.rule built (in_to o.by_word.word.rule rules.sets among)) (all_in meets_limits rules.sets o.by_word.word.rule rules.limits among)
+    can = all_in meets_limits rules.sets o.by_word.word.rule rules.limits among
+
+    b : IsBuiltRule o.by_word.word.rule
+    b = All-contains IsBuiltRule rules.sets o.by_word.word.rule built (in_to o.by_word.word.rule rules.sets among)
 
     naming : naming_of o.by_word.word.rule o.found.log.path ≡ o.found.log.naming
     naming = ap (λ (g : FoundLog). naming_of o.by_word.word.rule g.log.path) o.by_word.is ∙ sym (ap (λ (g : FoundLog). g.log.naming) o.by_word.is)
@@ -162,7 +164,7 @@ target_seen rules sets faults ts t built s c = subst (IsSeen rules ts) (sym c.is
   };
   family = looked_family rules sets faults ts x built s looked;
   log_seen = sees_file x.path o.found.seen ts o.file (subst (λ (p : Path). IsIn (entry.Look p (Some o.found.seen)) ts) o.path_is look);
-  seen = shown.0 free.0;
+  seen = shown.0 (looked_family rules sets faults ts x built s looked).numbered free.0;
   low = not_high x.naming c.rule.count x.stand.members free.1;
   ready = target_ready c.rule c.look;
   job = λ job is. (target_job c.rule c.look job is, λ stale. let old = shown.1 job.part (stale_stands c.rule c.look job is stale) in sees_file job.part old.0 ts old.1 old.2);

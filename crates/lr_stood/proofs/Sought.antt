@@ -5,6 +5,7 @@ use Rattle.std.specs.List.Sorted.{IsPermutation}
 use Rattle.std.proofs.lemmas.List.Sorted.{Contains-permutation}
 use Rattle.std.proofs.lemmas.Slice.Eq.{bytes_eq-Decides}
 use Rattle.lr_rules.specs.declared.path.Path.{Path}
+use Rattle.lr_rules.specs.declared.rule.Format.{Format}
 use Rattle.lr_rules.specs.declared.rule.Naming.{Naming}
 use Rattle.lr_rules.specs.Path.{joined}
 use Rattle.lr_host.specs.declared.thing.Kind.{Kind}
@@ -13,13 +14,15 @@ use Rattle.lr_host.specs.declared.entry.Entry.{Entry}
 use Rattle.lr_host.specs.declared.entry.Entry.TheVariants as entry
 use Rattle.lr_host.specs.Lists.{IsIn}
 use Rattle.lr_host.specs.Looks.{IsFile}
+use Rattle.lr_host.specs.Told.{Then}
 use Rattle.lr_host.proofs.Lists.{in_from, in_map, in_front, in_back, in_append}
 use Rattle.lr_family.specs.declared.listing.Listing.{Listing}
 use Rattle.lr_family.specs.declared.stand.Stand.{Stand}
-use Rattle.lr_family.specs.Among.{ShowsMembers, ShowsIn}
+use Rattle.lr_family.specs.Among.{ShowsMembers}
+use Rattle.lr_days.specs.Among.{ShowsMembers as ShowsDays}
 use Rattle.lr_family.specs.Listed.{ShowsListing}
 use Rattle.lr_family.specs.Parts.{IsMembersPart, PartSight, part_if_file, part_seen, part_in, part_look, PartsAmong, ShowsParts}
-use Rattle.lr_looks.specs.Families.{FamilySight, Stood, Stopped, ShowsFamily, behind_listing, with_listing, not_listed, ShowFamilies, LookedLog, looked_by, looked_of}
+use Rattle.lr_looks.specs.Families.{FamilySight, Stood, Stopped, ShowsBy, ShowsFamily, behind_listing, with_listing, not_listed, ShowFamilies, LookedLog, looked_by, looked_of}
 use Rattle.lr_looks.specs.Found.{FoundLog}
 use Rattle.lr_seen.proofs.Elements.{in_list}
 
@@ -106,25 +109,32 @@ pub record IsMissing (n : Naming) (stand : Stand) (all : List Entry) : Type 0 wh
 abbrev pub WasSought : Naming → Stand → List Entry → Type 0
 WasSought n stand all = (stand.there ≡ true → WereSought n stand.parts all) × (stand.there ≡ false → IsMissing n stand all)
 
-sought_in : (all : List Entry) (n : Naming) (l : Listing) (stand : Stand) (ts : List Entry) → ((e : Entry) → IsIn e ts → IsIn e all) → TellsOf all l.there n.dir l.names → ShowsIn n l.there l.parent l.names stand ts → WasSought n stand all
-sought_in all n l stand ts in_all tells h = go l.there h.0 tells h.2.first h.2.second
+-- whatever was seen of its members, of which none stands where the directory isn't there
+sought_among : (all : List Entry) (n : Naming) (l : Listing) (stand : Stand) (M : Bool → List Entry → Type 0) (ts : List Entry) → ((us : List Entry) → M false us → stand.members ≡ []) → ((e : Entry) → IsIn e ts → IsIn e all) → TellsOf all l.there n.dir l.names → stand.there ≡ l.there
+    → Then (M l.there) (ShowsParts n l.there l.names stand.parts) ts → WasSought n stand all
+sought_among all n l stand M ts none in_all tells there h = go l.there there tells h.first h.second
   where
-    in_parts : (e : Entry) → IsIn e h.2.back → IsIn e all
-    in_parts e i = in_all e (subst (IsIn e) (sym h.2.joined) (in_back e h.2.front h.2.back i))
+    in_parts : (e : Entry) → IsIn e h.back → IsIn e all
+    in_parts e i = in_all e (subst (IsIn e) (sym h.joined) (in_back e h.front h.back i))
 
-    go : (b : Bool) → stand.there ≡ b → TellsOf all b n.dir l.names → ShowsMembers n b l.names stand.members h.2.front → ShowsParts n b l.names stand.parts h.2.back → WasSought n stand all
-    go true is t m p = ((λ yes. parts_sought all n l.names t.0 stand.parts h.2.back in_parts t.1 t.2 p), λ no. absurd (cc))
-    go false is t m p = ((λ yes. absurd (cc)), λ no. record { members = m.0; parts = p.0; look = t })
+    go : (b : Bool) → stand.there ≡ b → TellsOf all b n.dir l.names → M b h.front → ShowsParts n b l.names stand.parts h.back → WasSought n stand all
+    go true is t m p = ((λ yes. parts_sought all n l.names t.0 stand.parts h.back in_parts t.1 t.2 p), λ no. absurd (cc))
+    go false is t m p = ((λ yes. absurd (cc)), λ no. record { members = none h.front m; parts = p.0; look = t })
+
+-- of a numbered family and of a dated one alike
+sought_in : (all : List Entry) (n : Naming) (l : Listing) (stand : Stand) (ts : List Entry) → ((e : Entry) → IsIn e ts → IsIn e all) → TellsOf all l.there n.dir l.names → (d : Option Format) → ShowsBy d n l stand ts → WasSought n stand all
+sought_in all n l stand ts in_all tells None h = sought_among all n l stand (λ b. ShowsMembers n b l.names stand.members) ts (λ us m. m.0) in_all tells h.0 h.2
+sought_in all n l stand ts in_all tells (Some format) h = sought_among all n l stand (λ b. ShowsDays n b l.names stand.members) ts (λ us m. m.0) in_all tells h.0 h.2
 
 family_sought : (all : List Entry) (known : List Listing) (n : Naming) (after : List Listing) (stand : Stand) (s : FamilySight) (ts : List Entry) → s ≡ Stood stand → ((e : Entry) → IsIn e ts → IsIn e all) → AreTold all known → AreTold all after
     → ShowsFamily known n after s ts → WasSought n stand all
 family_sought all known n after stand s ts is in_all told next f = go (subst (λ (x : FamilySight). ShowsFamily known n after x ts) is f)
   where
     go : ShowsFamily known n after (Stood stand) ts → WasSought n stand all
-    go (behind_listing l was same m) = sought_in all n l stand ts in_all (subst (λ (x : Path). TellsOf all l.there x l.names) was.same (told l (in_list known was.place l was.there))) m
+    go (behind_listing l was same m) = sought_in all n l stand ts in_all (subst (λ (x : Path). TellsOf all l.there x l.names) was.same (told l (in_list known was.place l was.there))) n.dated m
     go (with_listing l new e same t) =
         sought_in all n l stand t.back (λ x i. in_all x (subst (IsIn x) (sym t.joined) (in_back x t.front t.back i)))
-        (subst (λ (x : Path). TellsOf all l.there x l.names) e (next l (subst (IsIn l) (sym same) (in_back l known (l ∷ []) (inl refl))))) t.second
+        (subst (λ (x : Path). TellsOf all l.there x l.names) e (next l (subst (IsIn l) (sym same) (in_back l known (l ∷ []) (inl refl))))) n.dated t.second
     go (not_listed why new same e h) = absurd (cc)
 
 families_sought : (all : List Entry) (known : List Listing) (fs : List FoundLog) (after : List Listing) (ss : List FamilySight) (ts : List Entry) → ((e : Entry) → IsIn e ts → IsIn e all) → AreTold all known → ShowFamilies known fs after ss ts

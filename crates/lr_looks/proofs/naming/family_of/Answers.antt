@@ -8,7 +8,7 @@ use Rattle.lr_looks.proofs.naming.family_of.Goals as goal
 pub of-requires : goal.of-requires
 of-requires c = record {
   kin = subst (λ (n : Naming). IsKin c.args.log n) (sym c.in_ok-naming.ensures.naming)
-      (kin_of c.args.rule.now c.args.log c.requires.rule.limits c.bytes-bytes.ensures.path c.requires.size c.requires.last);
+      (kin_of c.args.rule.now c.args.log c.requires.rule c.bytes-bytes.ensures.path c.requires.size c.requires.last);
 }
 
 pub returns-clause-dir : goal.returns-clause-dir

@@ -21,4 +21,4 @@ returns-clause-found c =
     refl c.in_ok-family.ensures.log c.in_ok-family.ensures.naming refl (c.is_wildcard.ensures ∙ ap is_wildcard c.bytes.ensures.bytes) refl))
 
 pub returns-clause-path : goal.returns-clause-path
-returns-clause-path c = let h = short_path c.args.at c.requires.short in record { path = c.in_ok-family.ensures.path; dir = c.in_ok-family.ensures.dir; size = h.0; last = h.1; format = format_fine c.args.rule.now c.requires.rule.limits }
+returns-clause-path c = let h = short_path c.args.at c.requires.short in record { path = c.in_ok-family.ensures.path; dir = c.in_ok-family.ensures.dir; size = h.0; last = h.1; format = format_fine c.args.rule.now c.requires.rule }

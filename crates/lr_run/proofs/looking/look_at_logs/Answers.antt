@@ -1,5 +1,5 @@
 use Rattle.std.proofs.Common.{◌∙◌}
-use Rattle.lr_seen.proofs.Built.{asks_all}
+use Rattle.lr_seen.proofs.Built.{asks_all, have_numbers}
 use Rattle.lr_run.proofs.Works.{can_plan, none_looked, some_looked}
 use Rattle.lr_run.proofs.looking.look_at_logs.Goals as goal
 
@@ -7,7 +7,7 @@ pub returns-in_err-reserved-clause-some : goal.returns-in_err-reserved-clause-so
 returns-in_err-reserved-clause-some g c = none_looked c.from_residual.result c.args.state.now c.args.rules.now.sets _
 
 pub look_all-requires : goal.look_all-requires
-look_all-requires g c = asks_all c.args.rules.now.sets c.requires c.args.rules.now.limits
+look_all-requires g c = asks_all c.args.rules.now.sets c.args.rules.now.limits
 
 pub returns-in_err-looks-clause-some : goal.returns-in_err-looks-clause-some
 returns-in_err-looks-clause-some g c = some_looked c.from_residual-in_err-looks.result c.args.state.now _ c.args.rules.now.sets (c.deref.ensures.value ∙ c.in_ok-reserved.ensures) c.in_err-looks.ensures.some
@@ -16,4 +16,4 @@ pub returns-clause-told : goal.returns-clause-told
 returns-clause-told g c = rw (c.deref.ensures.value ∙ c.in_ok-reserved.ensures) at c.in_ok-looks.ensures.told
 
 pub returns-clause-planned : goal.returns-clause-planned
-returns-clause-planned g c = can_plan c.args.rules.now.sets c.in_ok-looks.looks.sets c.requires c.args.rules.now.limits c.in_ok-looks.ensures.ready c.in_ok-looks.ensures.many
+returns-clause-planned g c = can_plan c.args.rules.now.sets c.in_ok-looks.looks.sets c.requires c.args.rules.now.limits c.in_ok-looks.ensures.ready (c.in_ok-looks.ensures.numbered (have_numbers c.args.rules.now.sets c.requires)) c.in_ok-looks.ensures.many
