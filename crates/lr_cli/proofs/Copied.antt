@@ -19,6 +19,7 @@ use Rattle.lr_emptied.proofs.Whole.{empties_whole}
 use Rattle.lr_fields.specs.Built.{AreBuiltRules}
 use Rattle.lr_include.specs.Stages.{Reads}
 use Rattle.lr_include.proofs.AllQuiet.{reads_quiet as confs_quiet, lacking_quiet}
+use Rattle.lr_plan.specs.Asked.{asking}
 use Rattle.lr_plan.specs.declared.planned.Plan.{Plan}
 use Rattle.lr_run.specs.Copied.{IsCopyBy}
 use Rattle.lr_run.proofs.Drying.{holds_quiet, leaves_copied, lacks_copied}
@@ -60,7 +61,7 @@ module _ (request : Request) (zone : Zone) (seconds : ℤ) where
   reports_copies : (clock : Clock) (plan : Option Plan) (ts : List Entry) (us front : List Entry) (notices : List _) (faults : List Fault) → ts ≡ front ++ us → ShowsClock zone seconds clock front → Reports request clock.now plan notices faults us → Copies ts
   reports_copies clock plan ts us front notices faults joined shown r =
       behind_copies clock r.meaning r.rules ts us r.entries.front r.entries.back front r.rules_are joined r.entries.joined shown r.entries.first
-      (leaves_copied request.debug request.state r.rules clock.now request.force (built_rules r.meaning r.rules r.entries.front r.rules_are r.entries.first) plan r.own r.entries.back r.entries.second)
+      (leaves_copied request.debug request.state r.rules clock.now (asking request.force request.mailer) (built_rules r.meaning r.rules r.entries.front r.rules_are r.entries.first) plan r.own r.entries.back r.entries.second)
 
   -- there was no memory
   lost_copies : (clock : Clock) (ts us front : List Entry) → ts ≡ front ++ us → ShowsClock zone seconds clock front → LacksMemory request clock.now us → Copies ts
@@ -68,7 +69,7 @@ module _ (request : Request) (zone : Zone) (seconds : ℤ) where
   lost_copies clock ts us front joined shown (at_confs l) = quiet_copies ts (subst AreQuiet (sym joined) (quiet_both front us (clock_quiet zone seconds clock front shown) (lacking_quiet request.confs us l)))
   lost_copies clock ts us front joined shown (at_run meaning rules same t) =
       behind_copies clock meaning rules ts us t.front t.back front same joined t.joined shown t.first
-      (lacks_copied request.debug request.state rules clock.now request.force (built_rules meaning rules t.front same t.first) t.back t.second)
+      (lacks_copied request.debug request.state rules clock.now (asking request.force request.mailer) (built_rules meaning rules t.front same t.first) t.back t.second)
 
   lock_quiet : (ts : List Entry) → FindsLock request ts → AreQuiet ts
   lock_quiet ts f = subst AreQuiet (sym f.entries.joined) (quiet_both f.entries.front f.entries.back (confs_quiet request.confs f.meaning f.entries.front f.entries.first) (holds_quiet request.debug request.state f.entries.back f.entries.second))

@@ -15,6 +15,7 @@ use Rattle.lr_host.proofs.Each.{each_append}
 use Rattle.lr_host.proofs.Lists.{in_back}
 use Rattle.lr_due.specs.declared.tz.Zone.{Zone}
 use Rattle.lr_include.proofs.AllQuiet.{all_so}
+use Rattle.lr_plan.specs.Asked.{asking}
 use Rattle.lr_plan.specs.declared.planned.Plan.{Plan}
 use Rattle.lr_plan.specs.Steps.{state_part}
 use Rattle.lr_run.specs.Copied.{NoneOfCopy}
@@ -56,8 +57,8 @@ plan_fulfils request zone seconds report j k es made none journal p = record {
   fulfilled = f;
 }
   where
-    f : IsFulfilled request.state p.rules.sets p.clock.now request.force p.run.between p.run.within.looked p.own (reverse es) (past j) (past k)
-    f = fulfilled request.state request.force p.clock.now p.rules p.own (past j) (past k) es (p.of_clock ++ p.reads) p.acts (plan_built request zone seconds report (reverse es) p) made journal
+    f : IsFulfilled request.state p.rules.sets p.clock.now (asking request.force request.mailer) p.run.between p.run.within.looked p.own (reverse es) (past j) (past k)
+    f = fulfilled request.state (asking request.force request.mailer) p.clock.now p.rules p.own (past j) (past k) es (p.of_clock ++ p.reads) p.acts (plan_built request zone seconds report (reverse es) p) made journal
         (plan_joined request zone seconds report (reverse es) p) (plan_sights request zone seconds report (reverse es) p) p.run (own_failed request.state report.faults p.meaning.faults p.own p.faults_are none)
 
 from_entries : (here : Path) (words : List (List ℕ)) (request : Request) (zone : Zone) (seconds : ℤ) (plan : Option Plan) (report : Report) (j k : Journal) → AskFor here words request → request.debug ≡ false → Left (Answered here words zone seconds plan (Done report)) (Some j) (Some k) → FailNothing request.state report.faults → IsJournal (past j)

@@ -24,6 +24,7 @@ use Rattle.lr_include.proofs.Allowed.{only_those}
 use Rattle.lr_due.specs.declared.tz.Zone.{Zone}
 use Rattle.lr_due.specs.declared.tz.Zone.TheVariants.{File}
 use Rattle.lr_fields.specs.Built.{AreBuiltRules}
+use Rattle.lr_plan.specs.Asked.{asking}
 use Rattle.lr_plan.specs.declared.planned.Plan.{Plan as RunPlan}
 use Rattle.lr_run.specs.Answers.{Leaves}
 use Rattle.lr_run.specs.Runs.{Runs}
@@ -128,13 +129,13 @@ module _ (request : Request) (zone : Zone) (seconds : ℤ) (report : Report) (ts
         faults_are = r.faults_are ∙ ap (λ fs. r.meaning.faults ++ fs) u.own_are ∙ sym (append_assoc r.meaning.faults u.before (u.last ∷ []));
         ends = ⊎_elim (λ ends. inl ends) (λ may. inr (inr may.1, λ s. may.2 (subst (SawState request.state) behind s))) u.ends;
       }))
-      (run_reached request.state request.force clock.now r.rules plan r.own r.entries.back runs)
+      (run_reached request.state (asking request.force request.mailer) clock.now r.rules plan r.own r.entries.back runs)
     where
       r : Reports request clock.now plan report.notices report.faults t.back
       r = t.second
 
-      runs : Runs request.state request.force clock.now r.rules plan r.own r.entries.back
-      runs = subst (λ (b : Bool). Leaves b request.state request.force clock.now r.rules plan r.own r.entries.back) dry r.entries.second
+      runs : Runs request.state (asking request.force request.mailer) clock.now r.rules plan r.own r.entries.back
+      runs = subst (λ (b : Bool). Leaves b request.state (asking request.force request.mailer) clock.now r.rules plan r.own r.entries.back) dry r.entries.second
 
       behind : behind_start ts ≡ behind_start r.entries.back
       behind = ap behind_start t.joined ∙ behind_quiet t.front t.back (clock_quiet zone seconds clock t.front t.first)
@@ -162,11 +163,11 @@ module _ (request : Request) (zone : Zone) (seconds : ℤ) (report : Report) (ts
 
   plan_saw : Plan → SawState request.state (behind_start ts)
   plan_saw p = subst (SawState request.state) (sym (ap behind_start (plan_joined p) ∙ behind_quiet (p.of_clock ++ p.reads) p.acts (plan_quiet p)))
-      (reached_saw request.state request.force p.clock.now p.rules p.own p.acts p.run)
+      (reached_saw request.state (asking request.force request.mailer) p.clock.now p.rules p.own p.acts p.run)
 
   plan_none : (q r : Past) → Made q (reverse ts) r → Plan → NoneEnds request.state report.faults
   plan_none q r made p = subst (NoneEnds request.state) (sym p.faults_are) (none_both request.state p.meaning.faults p.own (means_none request.state request.confs p.meaning p.reads p.read)
-      (reached_none request.state request.force p.clock.now p.rules p.own c.mid r p.acts (plan_built p) c.second p.run))
+      (reached_none request.state (asking request.force request.mailer) p.clock.now p.rules p.own c.mid r p.acts (plan_built p) c.second p.run))
     where
       c : Cut q r (reverse p.acts) (reverse (p.of_clock ++ p.reads))
       c = cut_at q r ts (p.of_clock ++ p.reads) p.acts (plan_joined p) made

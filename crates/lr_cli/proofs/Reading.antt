@@ -23,6 +23,7 @@ use Rattle.lr_include.specs.Stages.{Reads}
 use Rattle.lr_include.specs.Lacking.{LacksReading}
 use Rattle.lr_include.proofs.AllQuiet.{reads_quiet as confs_quiet, lacking_quiet}
 use Rattle.lr_rotations.specs.AllTurns.{IsWholeRun, not_yet}
+use Rattle.lr_plan.specs.Asked.{asking}
 use Rattle.lr_plan.specs.declared.planned.Plan.{Plan}
 use Rattle.lr_plan.specs.declared.settings.Settings.{Settings}
 use Rattle.lr_run.specs.Answers.{Leaves, Holds, Lacks}
@@ -39,24 +40,26 @@ use Rattle.lr_cli.specs.Settled.{AreSettingsOf}
 -- ---- what was left
 
 -- by the settings of a request, a run leaves what the request asks for
-leaves_by : (request : Request) (settings : Settings) (now : Moment) (rules : Rules) (plan : Option Plan) (own : List Fault) (ts : List Entry) → AreSettingsOf request settings → Leaves settings.debug settings.state settings.force now rules plan own ts → Leaves request.debug request.state request.force now rules plan own ts
+leaves_by : (request : Request) (settings : Settings) (now : Moment) (rules : Rules) (plan : Option Plan) (own : List Fault) (ts : List Entry) → AreSettingsOf request settings → Leaves settings.debug settings.state (asking settings.force settings.mailer) now rules plan own ts → Leaves request.debug request.state (asking request.force request.mailer) now rules plan own ts
 leaves_by request settings now rules plan own ts a h =
-    subst (λ (b : Bool). Leaves request.debug request.state b now rules plan own ts) a.force
-    (subst (λ (x : Path). Leaves request.debug x settings.force now rules plan own ts) a.state
-    (subst (λ (b : Bool). Leaves b settings.state settings.force now rules plan own ts) a.debug h))
+    subst (λ (b : Bool). Leaves request.debug request.state (asking b request.mailer) now rules plan own ts) a.force
+    (subst (λ (x : Path). Leaves request.debug request.state (asking settings.force x) now rules plan own ts) a.mailer
+    (subst (λ (x : Path). Leaves request.debug x (asking settings.force settings.mailer) now rules plan own ts) a.state
+    (subst (λ (b : Bool). Leaves b settings.state (asking settings.force settings.mailer) now rules plan own ts) a.debug h)))
 
 holds_by : (request : Request) (settings : Settings) (ts : List Entry) → AreSettingsOf request settings → Holds settings.debug settings.state ts → Holds request.debug request.state ts
 holds_by request settings ts a h = subst (λ (x : Path). Holds request.debug x ts) a.state (subst (λ (b : Bool). Holds b settings.state ts) a.debug h)
 
-lacks_by : (request : Request) (settings : Settings) (now : Moment) (rules : Rules) (ts : List Entry) → AreSettingsOf request settings → Lacks settings.debug settings.state settings.force now rules ts → Lacks request.debug request.state request.force now rules ts
+lacks_by : (request : Request) (settings : Settings) (now : Moment) (rules : Rules) (ts : List Entry) → AreSettingsOf request settings → Lacks settings.debug settings.state (asking settings.force settings.mailer) now rules ts → Lacks request.debug request.state (asking request.force request.mailer) now rules ts
 lacks_by request settings now rules ts a h =
-    subst (λ (b : Bool). Lacks request.debug request.state b now rules ts) a.force
-    (subst (λ (x : Path). Lacks request.debug x settings.force now rules ts) a.state
-    (subst (λ (b : Bool). Lacks b settings.state settings.force now rules ts) a.debug h))
+    subst (λ (b : Bool). Lacks request.debug request.state (asking b request.mailer) now rules ts) a.force
+    (subst (λ (x : Path). Lacks request.debug request.state (asking settings.force x) now rules ts) a.mailer
+    (subst (λ (x : Path). Lacks request.debug x (asking settings.force settings.mailer) now rules ts) a.state
+    (subst (λ (b : Bool). Lacks b settings.state (asking settings.force settings.mailer) now rules ts) a.debug h)))
 
 -- the report of a reading and of the run behind it
 pub reports : (request : Request) (settings : Settings) (now : Moment) (plan : Option Plan) (r : Reading) (earlier faults : List Fault) {o m n : Option Journal} → AreSettingsOf request settings → earlier ≡ r.faults
-    → Left (Reads request.confs (meaning_of r)) o m → Left (λ ts. (own : List Fault) × (faults ≡ earlier ++ own) × Leaves settings.debug settings.state settings.force now r.rules plan own ts) m n → Left (Reports request now plan r.notices faults) o n
+    → Left (Reads request.confs (meaning_of r)) o m → Left (λ ts. (own : List Fault) × (faults ≡ earlier ++ own) × Leaves settings.debug settings.state (asking settings.force settings.mailer) now r.rules plan own ts) m n → Left (Reports request now plan r.notices faults) o n
 reports request settings now plan r earlier faults at e a b = left_as (left_both a b) (λ ts t. record {
   meaning = meaning_of r;
   rules = r.rules;
@@ -77,13 +80,13 @@ pub lacks_at_confs : (request : Request) (now : Moment) (confs : List Path) {o n
 lacks_at_confs request now confs e l = left_as l (λ ts h. (refl, at_confs (subst (λ (ps : List Path). LacksReading ps ts) e h)))
 
 lacks_at_run : (request : Request) (settings : Settings) (now : Moment) (r : Reading) {o m n : Option Journal} → AreSettingsOf request settings
-    → Left (Reads request.confs (meaning_of r)) o m → Left (Lacks settings.debug settings.state settings.force now r.rules) m n → Left (LacksMemory request now) o n
+    → Left (Reads request.confs (meaning_of r)) o m → Left (Lacks settings.debug settings.state (asking settings.force settings.mailer) now r.rules) m n → Left (LacksMemory request now) o n
 lacks_at_run request settings now r at a b = left_as (left_both a b) (λ ts t.
     at_run (meaning_of r) r.rules refl (record { front = t.front; back = t.back; joined = t.joined; first = t.first; second = lacks_by request settings now r.rules t.back at t.second }))
 
 -- what a run that stopped left
 pub stopped : (request : Request) (settings : Settings) (now : Moment) (r : Reading) (earlier : List Fault) (s : RunStop) {o m n : Option Journal} → AreSettingsOf request settings
-    → Left (Reads request.confs (meaning_of r)) o m → Left (RunAnswers settings.state settings.debug settings.force now r.rules earlier (Err s)) m n → Left (Answers request now None (answer_of (Err s))) o n
+    → Left (Reads request.confs (meaning_of r)) o m → Left (RunAnswers settings.state settings.debug (asking settings.force settings.mailer) now r.rules earlier (Err s)) m n → Left (Answers request now None (answer_of (Err s))) o n
 stopped request settings now r earlier stop.Held at a b = left_as (finds_lock request settings r at a b) (λ ts h. (refl, h))
 stopped request settings now r earlier stop.Memory at a b = left_as (lacks_at_run request settings now r at a b) (λ ts h. (refl, h))
 

@@ -12,6 +12,7 @@ use Rattle.lr_host.specs.World.{past}
 use Rattle.lr_host.proofs.Counts.{calls_on, scripts_on}
 use Rattle.lr_due.specs.declared.tz.Zone.{Zone}
 use Rattle.lr_due.specs.declared.tz.Zone.TheVariants.{Utc, Rule, File}
+use Rattle.lr_plan.specs.Asked.{asking}
 use Rattle.lr_plan.specs.declared.planned.Plan.{Plan}
 use Rattle.lr_run.specs.Copied.{NoneOfCopy}
 use Rattle.lr_run.proofs.Rotating.{run_rotated}
@@ -71,9 +72,9 @@ plan_rotates request zone seconds report j k es made none journal p = record {
   entries = es;
   made = made;
   plan = p;
-  each = λ x one by_rename. run_rotated request.state request.force p.clock.now p.rules p.own (past j) (past k) es (p.of_clock ++ p.reads) p.acts (plan_built request zone seconds report (reverse es) p) made journal
+  each = λ x one by_rename. run_rotated request.state (asking request.force request.mailer) p.clock.now p.rules p.own (past j) (past k) es (p.of_clock ++ p.reads) p.acts (plan_built request zone seconds report (reverse es) p) made journal
       (plan_joined request zone seconds report (reverse es) p) (plan_quiet request zone seconds report (reverse es) p) p.run (own_calls p.meaning.faults p.own (sym (ap calls_in p.faults_are) ∙ none.no_call)) (own_ends p.meaning.faults p.own (sym (ap scripts_in p.faults_are) ∙ none.no_script)) (own_copies p.meaning.faults p.own (subst NoneOfCopy p.faults_are none.no_copy)) x one by_rename;
-  copied = λ x one job by_copy. run_turned request.state request.force p.clock.now p.rules p.own (past j) (past k) es (p.of_clock ++ p.reads) p.acts (plan_built request zone seconds report (reverse es) p) made journal
+  copied = λ x one job by_copy. run_turned request.state (asking request.force request.mailer) p.clock.now p.rules p.own (past j) (past k) es (p.of_clock ++ p.reads) p.acts (plan_built request zone seconds report (reverse es) p) made journal
       (plan_joined request zone seconds report (reverse es) p) (plan_quiet request zone seconds report (reverse es) p) p.run (own_calls p.meaning.faults p.own (sym (ap calls_in p.faults_are) ∙ none.no_call)) (own_ends p.meaning.faults p.own (sym (ap scripts_in p.faults_are) ∙ none.no_script)) (own_copies p.meaning.faults p.own (subst NoneOfCopy p.faults_are none.no_copy)) x one job by_copy;
 }
 

@@ -26,12 +26,13 @@ use Rattle.lr_due.specs.declared.zone.ZoneText.{ZoneText}
 use Rattle.lr_include.specs.Lacking.{LacksReading}
 use Rattle.lr_include.specs.Stages.{Reads}
 use Rattle.lr_include.proofs.AllQuiet.{all_so, lacking_so}
+use Rattle.lr_plan.specs.Asked.{asking}
 use Rattle.lr_plan.specs.declared.planned.Plan.{Plan}
 use Rattle.lr_run.specs.Answers.{Leaves, Holds, Lacks}
 use Rattle.lr_run.specs.Dry.{IsSight, AreSights}
 use Rattle.lr_run.specs.Runs.{Inside, SomeSeen, in_looks, in_acts}
 use Rattle.lr_run.specs.Runs.{LacksMemory as RunLacks, at_first as run_at_first}
-use Rattle.lr_run.specs.Scripts.{HaveNoScripts}
+use Rattle.lr_run.specs.Scripts.{RunNothing}
 use Rattle.lr_run.proofs.Drying.{tries_so, lacks_so}
 use Rattle.lr_run.proofs.Scriptless.{never_broke_off}
 use Rattle.lr_run.proofs.Seeing.{some_so}
@@ -146,7 +147,7 @@ same_Some a b e = cc
 module _ (here : Path) (words : List (List ℕ)) (zone : Zone) (seconds : ℤ) where
   -- behind the clock and the reading
   run_short : (request : Request) → AskFor here words request → (clock : Clock) (meaning : Meaning) (rules : Rules) (ts us reads acts : List Entry) (front : List Entry) → rules.sets ≡ meaning.rules → ts ≡ front ++ us → us ≡ reads ++ acts
-      → ShowsClock zone seconds clock front → Reads request.confs meaning reads → RunLacks request.state request.force clock.now rules acts → WasShort here words zone seconds ts
+      → ShowsClock zone seconds clock front → Reads request.confs meaning reads → RunLacks request.state (asking request.force request.mailer) clock.now rules acts → WasShort here words zone seconds ts
   run_short request asked clock meaning rules ts us reads acts front same joined parts shown of_confs (run_at_first none) =
       all_still (subst AreStill (sym joined) (each_append IsStill front us (clock_still zone seconds clock front shown) (subst AreStill (sym parts) (each_append IsStill reads acts (confs_still request.confs meaning reads of_confs) (none_still acts none)))))
   run_short request asked clock meaning rules ts us reads acts front same joined parts shown of_confs (in_looks i) =
@@ -158,16 +159,16 @@ module _ (here : Path) (words : List (List ℕ)) (zone : Zone) (seconds : ℤ) w
     meaning = meaning;
     rules = rules;
     rules_are = same;
-    some_script = λ none. never_broke_off request.state rules.sets clock.now request.force i.between (subst HaveNoScripts (sym same) none) i.within;
+    some_program = λ none. never_broke_off request.state rules.sets clock.now (asking request.force request.mailer) i.between (subst RunNothing (sym same) none) i.within;
     entries = record { front = front; back = us; joined = joined; first = shown; second = record { front = reads; back = acts; joined = parts; first = of_confs; second = i } };
   })
 
   -- so it is of a run that is dry, or isn't
   any_short : (request : Request) → AskFor here words request → (clock : Clock) (meaning : Meaning) (rules : Rules) (ts us reads acts : List Entry) (front : List Entry) → rules.sets ≡ meaning.rules → ts ≡ front ++ us → us ≡ reads ++ acts
-      → ShowsClock zone seconds clock front → Reads request.confs meaning reads → Lacks request.debug request.state request.force clock.now rules acts → WasShort here words zone seconds ts
+      → ShowsClock zone seconds clock front → Reads request.confs meaning reads → Lacks request.debug request.state (asking request.force request.mailer) clock.now rules acts → WasShort here words zone seconds ts
   any_short request asked clock meaning rules ts us reads acts front same joined parts shown of_confs l = go request.debug l
     where
-      go : (b : Bool) → Lacks b request.state request.force clock.now rules acts → WasShort here words zone seconds ts
+      go : (b : Bool) → Lacks b request.state (asking request.force request.mailer) clock.now rules acts → WasShort here words zone seconds ts
       go true l = all_still (subst AreStill (sym joined) (each_append IsStill front us (clock_still zone seconds clock front shown) (subst AreStill (sym parts) (each_append IsStill reads acts (confs_still request.confs meaning reads of_confs)
           (lacks_so IsStill (λ x seen. tt) (λ x names. tt) (λ x place piece. tt) request.state rules.sets acts l)))))
       go false l = run_short request asked clock meaning rules ts us reads acts front same joined parts shown of_confs l
@@ -218,7 +219,7 @@ module _ (here : Path) (words : List (List ℕ)) (zone : Zone) (seconds : ℤ) w
 
     answers_dry : (request : Request) (now : Moment) (plan : Option Plan) (outcome : Outcome) (ts : List Entry) → request.debug ≡ true → Answers request now plan outcome ts → Each P ts
     answers_dry request now plan (Done report) ts dry h = then_so P look reads _ _ ts (λ us r. confs_so request.confs h.meaning us r)
-        (λ us r. tries_so P look list reads request.state h.rules.sets now request.force plan h.own us (subst (λ (b : Bool). Leaves b request.state request.force now h.rules plan h.own us) dry r)) h.entries
+        (λ us r. tries_so P look list reads request.state h.rules.sets now (asking request.force request.mailer) plan h.own us (subst (λ (b : Bool). Leaves b request.state (asking request.force request.mailer) now h.rules plan h.own us) dry r)) h.entries
     answers_dry request now plan Held ts dry h = then_so P look reads _ _ ts (λ us r. confs_so request.confs h.1.meaning us r) (λ us r. absurd (subst (λ (b : Bool). Holds b request.state us) dry r)) h.1.entries
     answers_dry request now plan BadWords ts dry h = absurd h
     answers_dry request now plan OutOfMemory ts dry h = go h.1
@@ -227,7 +228,7 @@ module _ (here : Path) (words : List (List ℕ)) (zone : Zone) (seconds : ℤ) w
         go (at_first none) = none_so P look reads ts none
         go (at_confs l) = lacking_so P look list (λ x from piece le. reads x from piece) request.confs ts l
         go (at_run meaning rules same t) = then_so P look reads _ _ ts (λ us r. confs_so request.confs meaning us r)
-            (λ us r. lacks_so P look list reads request.state rules.sets us (subst (λ (b : Bool). Lacks b request.state request.force now rules us) dry r)) t
+            (λ us r. lacks_so P look list reads request.state rules.sets us (subst (λ (b : Bool). Lacks b request.state (asking request.force request.mailer) now rules us) dry r)) t
 
     at_dry : (request : Request) (plan : Option Plan) (outcome : Outcome) (ts : List Entry) → request.debug ≡ true → AnswersAt request zone seconds plan outcome ts → Each P ts
     at_dry request plan outcome ts dry (no_clock f lost is l) = lost_clock_so f ts l

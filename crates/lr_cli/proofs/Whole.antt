@@ -15,6 +15,7 @@ use Rattle.lr_conf.specs.Meaning.{Meaning}
 use Rattle.lr_due.specs.declared.tz.Zone.{Zone}
 use Rattle.lr_fields.specs.Built.{AreBuiltRules}
 use Rattle.lr_include.specs.Stages.{Reads}
+use Rattle.lr_plan.specs.Asked.{asking}
 use Rattle.lr_plan.specs.declared.planned.Plan.{Plan}
 use Rattle.lr_run.specs.State.{IsNewText as IsTextOfRun}
 use Rattle.lr_run.proofs.Drying.{leaves_may, lacks_may, holds_quiet}
@@ -38,13 +39,13 @@ module _ (request : Request) (zone : Zone) (seconds : ℤ) where
 
   -- behind the clock and the reading, as the run may
   behind_may : (clock : Clock) (meaning : Meaning) (rules : Rules) (ts us reads acts front : List Entry) → rules.sets ≡ meaning.rules → ts ≡ front ++ us → us ≡ reads ++ acts → ShowsClock zone seconds clock front → Reads request.confs meaning reads
-      → MayRenew request.state (λ text. IsTextOfRun request.state clock.now request.force rules acts text) acts → MayRenew request.state (Text ts) ts
+      → MayRenew request.state (λ text. IsTextOfRun request.state clock.now (asking request.force request.mailer) rules acts text) acts → MayRenew request.state (Text ts) ts
   behind_may clock meaning rules ts us reads acts front same joined parts shown of_confs may = subst (MayRenew request.state (Text ts)) (sym joined)
       (behind_quiet request.state (Text ts) (Text ts) (λ text is. is) front us (clock_quiet zone seconds clock front shown)
       (subst (MayRenew request.state (Text ts)) (sym parts)
-      (behind_quiet request.state (λ text. IsTextOfRun request.state clock.now request.force rules acts text) (Text ts) of_run reads acts (confs_quiet request.confs meaning reads of_confs) may)))
+      (behind_quiet request.state (λ text. IsTextOfRun request.state clock.now (asking request.force request.mailer) rules acts text) (Text ts) of_run reads acts (confs_quiet request.confs meaning reads of_confs) may)))
     where
-      of_run : (text : List ℕ) → IsTextOfRun request.state clock.now request.force rules acts text → Text ts text
+      of_run : (text : List ℕ) → IsTextOfRun request.state clock.now (asking request.force request.mailer) rules acts text → Text ts text
       of_run text is = record {
         clock = clock;
         meaning = meaning;
@@ -64,7 +65,7 @@ module _ (request : Request) (zone : Zone) (seconds : ℤ) where
   reports_may clock plan report ts tools t =
       let r = t.second in
       behind_may clock r.meaning r.rules ts t.back r.entries.front r.entries.back t.front r.rules_are t.joined r.entries.joined t.first r.entries.first
-      (leaves_may request.debug request.state request.force clock.now r.rules plan r.own r.entries.back (built_rules r.meaning r.rules r.entries.front r.rules_are r.entries.first)
+      (leaves_may request.debug request.state (asking request.force request.mailer) clock.now r.rules plan r.own r.entries.back (built_rules r.meaning r.rules r.entries.front r.rules_are r.entries.first)
       (tools_behind t.back r.entries.back r.entries.front r.entries.joined (tools_behind ts t.back t.front t.joined tools)) r.entries.second)
 
   -- there was no memory
@@ -73,7 +74,7 @@ module _ (request : Request) (zone : Zone) (seconds : ℤ) where
   lost_may clock ts us front joined shown tools (at_confs l) = quiet_alone request.state (Text ts) ts (subst AreQuiet (sym joined) (quiet_both front us (clock_quiet zone seconds clock front shown) (lacking_quiet request.confs us l)))
   lost_may clock ts us front joined shown tools (at_run meaning rules same t) =
       behind_may clock meaning rules ts us t.front t.back front same joined t.joined shown t.first
-      (lacks_may request.debug request.state request.force clock.now rules t.back (built_rules meaning rules t.front same t.first) (tools_behind us t.back t.front t.joined tools) t.second)
+      (lacks_may request.debug request.state (asking request.force request.mailer) clock.now rules t.back (built_rules meaning rules t.front same t.first) (tools_behind us t.back t.front t.joined tools) t.second)
 
   lock_quiet : (ts : List Entry) → FindsLock request ts → AreQuiet ts
   lock_quiet ts f = subst AreQuiet (sym f.entries.joined) (quiet_both f.entries.front f.entries.back (confs_quiet request.confs f.meaning f.entries.front f.entries.first) (holds_quiet request.debug request.state f.entries.back f.entries.second))

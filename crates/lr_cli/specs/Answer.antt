@@ -12,6 +12,7 @@ use Rattle.lr_conf.specs.Meaning.{Meaning}
 use Rattle.lr_include.specs.Stages.{Reads}
 use Rattle.lr_include.specs.Lacking.{LacksReading}
 use Rattle.lr_due.specs.declared.tz.Zone.{Zone}
+use Rattle.lr_plan.specs.Asked.{asking}
 use Rattle.lr_plan.specs.declared.planned.Plan.{Plan}
 use Rattle.lr_run.specs.Answers.{Leaves, Holds, Lacks}
 use Rattle.lr_command.specs.declared.request.Request.{Request}
@@ -29,7 +30,7 @@ pub record Reports (request : Request) (now : Moment) (plan : Option Plan) (noti
   pub rules_are : rules.sets ≡ meaning.rules
   pub notices_are : notices ≡ meaning.notices
   pub faults_are : faults ≡ meaning.faults ++ own
-  pub entries : Then (Reads request.confs meaning) (Leaves request.debug request.state request.force now rules plan own) ts
+  pub entries : Then (Reads request.confs meaning) (Leaves request.debug request.state (asking request.force request.mailer) now rules plan own) ts
 
 -- The configuration was read, and the state's directory was seen; the lock was another's.
 pub record FindsLock (request : Request) (ts : List Entry) : Type 0 where
@@ -40,7 +41,7 @@ pub record FindsLock (request : Request) (ts : List Entry) : Type 0 where
 pub data LacksMemory (request : Request) (now : Moment) (ts : List Entry) : Type 0 where
   at_first : ts ≡ [] → LacksMemory request now ts
   at_confs : LacksReading request.confs ts → LacksMemory request now ts
-  at_run : (meaning : Meaning) (rules : Rules) → rules.sets ≡ meaning.rules → Then (Reads request.confs meaning) (Lacks request.debug request.state request.force now rules) ts → LacksMemory request now ts
+  at_run : (meaning : Meaning) (rules : Rules) → rules.sets ≡ meaning.rules → Then (Reads request.confs meaning) (Lacks request.debug request.state (asking request.force request.mailer) now rules) ts → LacksMemory request now ts
 
 -- What a call left that was to run by this request at a moment that its clock shows, and came to this plan, which it did only where it has a report.
 abbrev pub Answers : Request → Moment → Option Plan → Outcome → List Entry → Type 0

@@ -9,13 +9,14 @@ use Rattle.lr_due.specs.declared.tz.Zone.{Zone}
 use Rattle.lr_rotations.specs.Target.{Target, IsOneOf}
 use Rattle.lr_run.specs.Rotated.{rotated_in, IsRotatedAmong}
 use Rattle.lr_run.specs.Turned.{IsTurnedAmong}
+use Rattle.lr_plan.specs.Asked.{asking}
 use Rattle.lr_cli.specs.declared.outcome.Report.{Report}
 use Rattle.lr_command.specs.declared.request.Request.{Request}
 use Rattle.lr_cli.specs.Reached.{ReachesPlan}
 
 -- the logs that the plan of the call rotates
 abbrev pub rotated_by : (request : Request) (zone : Zone) (seconds : ℤ) (report : Report) (ts : List Entry) → ReachesPlan request zone seconds report ts → List Target
-rotated_by request zone seconds report ts p = rotated_in request.state p.rules.sets p.run.between p.run.within.looked p.clock.now request.force
+rotated_by request zone seconds report ts p = rotated_in request.state p.rules.sets p.run.between p.run.within.looked p.clock.now (asking request.force request.mailer)
 
 -- The call came to its plan, and each log that this rotates by rename was rotated, and the family of each that it copies was turned by the copy, file by file.
 pub record RotatesAll (request : Request) (zone : Zone) (seconds : ℤ) (report : Report) (before after : Journal) : Type 0 where

@@ -9,6 +9,7 @@ use Rattle.lr_include.specs.Stages.{Reads}
 use Rattle.lr_due.specs.declared.tz.Zone.{Zone}
 use Rattle.lr_run.specs.State.{IsNewText as IsTextOfRun}
 use Rattle.lr_command.specs.declared.request.Request.{Request}
+use Rattle.lr_plan.specs.Asked.{asking}
 use Rattle.lr_cli.specs.Clock.{ShowsClock}
 
 -- The zone's clock was had, the configuration was read, and this is the text of the run that was made over its rules by this clock.
@@ -17,4 +18,4 @@ pub record IsNewText (request : Request) (zone : Zone) (seconds : ℤ) (ts : Lis
   pub meaning : Meaning
   pub rules : Rules
   pub rules_are : rules.sets ≡ meaning.rules
-  pub entries : Then (ShowsClock zone seconds clock) (Then (Reads request.confs meaning) (λ us. IsTextOfRun request.state clock.now request.force rules us text)) ts
+  pub entries : Then (ShowsClock zone seconds clock) (Then (Reads request.confs meaning) (λ us. IsTextOfRun request.state clock.now (asking request.force request.mailer) rules us text)) ts

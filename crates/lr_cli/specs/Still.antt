@@ -10,8 +10,9 @@ use Rattle.lr_conf.specs.Meaning.{Meaning}
 use Rattle.lr_include.specs.Stages.{Reads}
 use Rattle.lr_due.specs.declared.tz.Zone.{Zone}
 use Rattle.lr_run.specs.Runs.{Inside, BrokeOff}
-use Rattle.lr_run.specs.Scripts.{HaveNoScripts}
+use Rattle.lr_run.specs.Scripts.{RunNothing}
 use Rattle.lr_command.specs.declared.request.Request.{Request}
+use Rattle.lr_plan.specs.Asked.{asking}
 use Rattle.lr_cli.specs.Asked.{AskFor}
 use Rattle.lr_cli.specs.Clock.{ShowsClock}
 
@@ -27,7 +28,7 @@ IsStill _ = ⊥
 abbrev pub AreStill : List Entry → Type 0
 AreStill ts = Each IsStill ts
 
--- The configuration was read, and a run over its rules, of which not all are without scripts, broke off amid its acts.
+-- The configuration was read, and a run over its rules, of which not all run no program, broke off amid its acts.
 pub record BrokeOffAmidActs (here : Path) (words : List (List ℕ)) (zone : Zone) (seconds : ℤ) (ts : List Entry) : Type 0 where
   pub request : Request
   pub asked : AskFor here words request
@@ -35,10 +36,10 @@ pub record BrokeOffAmidActs (here : Path) (words : List (List ℕ)) (zone : Zone
   pub meaning : Meaning
   pub rules : Rules
   pub rules_are : rules.sets ≡ meaning.rules
-  pub some_script : HaveNoScripts meaning.rules → ⊥
-  pub entries : Then (ShowsClock zone seconds clock) (Then (Reads request.confs meaning) (Inside request.state clock.now rules (BrokeOff request.state rules.sets clock.now request.force))) ts
+  pub some_program : RunNothing meaning.rules → ⊥
+  pub entries : Then (ShowsClock zone seconds clock) (Then (Reads request.confs meaning) (Inside request.state clock.now rules (BrokeOff request.state rules.sets clock.now (asking request.force request.mailer)))) ts
 
--- Where there was no memory the call changed nothing and started no program; or it broke off amid the acts of a run, which it can only where a rule has a script.
+-- Where there was no memory the call changed nothing and started no program; or it broke off amid the acts of a run, which it can only where a rule has a script or mails.
 pub data WasShort (here : Path) (words : List (List ℕ)) (zone : Zone) (seconds : ℤ) (ts : List Entry) : Type 0 where
   all_still : AreStill ts → WasShort here words zone seconds ts
   broke_off : BrokeOffAmidActs here words zone seconds ts → WasShort here words zone seconds ts
