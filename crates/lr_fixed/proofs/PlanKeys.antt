@@ -34,7 +34,7 @@ use Rattle.lr_rotations.specs.Apart.{HasNames, HaveNames}
 use Rattle.lr_rotations.specs.Target.{Target}
 use Rattle.lr_rotations.proofs.Apart.{part_own}
 use Rattle.lr_weave.specs.Fitting.{NoneMeets, DontMeet}
-use Rattle.lr_weave.specs.Planned.{AreReadyFor, HaveLogs, NoneHas, AreApart}
+use Rattle.lr_weave.specs.Planned.{bare, AreReadyFor, HaveLogs, NoneHas, AreApart}
 use Rattle.lr_fields.specs.Built.{AreBuiltRules}
 use Rattle.lr_seen.specs.Free.{AreFreeOf}
 use Rattle.lr_seen.specs.Targets.{groups_of, all_targets}
@@ -168,15 +168,21 @@ sets_are (s ∷ ss) = joined (all_of_set (steps_of_set s)) (all_of_sets (map ste
 abbrev target_keys : Target → List Key
 target_keys t = log_keys t.ready t.job
 
+-- the programs before removals make no difference
+bare_keys : (ready : Ready) (j : Option Job) → log_keys ready j ≡ log_keys (bare ready) j
+bare_keys ready None = refl
+bare_keys ready (Some job) = refl
+
 -- each definition has its logs
 group_are : (ts : List Target) (logs : List LogPlan) → AreReadyFor ts logs → flat_map plan_keys logs ≡ flat_map target_keys ts
 group_are [] [] h = refl
 group_are [] (l ∷ ls) h = absurd h
 group_are (t ∷ ts) [] h = absurd h
 group_are (t ∷ ts) (l ∷ ls) h =
-    ap (λ (r : Ready). log_keys r l.job ++ flat_map plan_keys ls) h.0.ready_is
+    ap (λ (ks : List Key). ks ++ flat_map plan_keys ls) (bare_keys l.ready l.job)
+    ∙ (ap (λ (r : Ready). log_keys r l.job ++ flat_map plan_keys ls) h.0.ready_is
     ∙ (ap (λ (j : Option Job). log_keys t.ready j ++ flat_map plan_keys ls) h.0.job_is
-    ∙ ap (λ (ks : List Key). target_keys t ++ ks) (group_are ts ls h.1))
+    ∙ ap (λ (ks : List Key). target_keys t ++ ks) (group_are ts ls h.1)))
 
 groups_are : (groups : List (List Target)) (sets : List SetPlan) → HaveLogs groups sets → all_keys sets ≡ flat_map target_keys (flat_map (λ ts. ts) groups)
 groups_are [] [] h = refl
@@ -237,16 +243,16 @@ none_made : (reserved : List Path) (ts : List Target) (x : Path) → HaveNames t
 none_made reserved [] x h free r i = i
 none_made reserved (t ∷ ts) x h free r i = ⊎_elim (λ a. free.0 x r (inl (key_of t (Made x) h.0 a))) (λ b. none_made reserved ts x h.1 free.1 r b) (in_append (Made x) (target_keys t) (flat_map target_keys ts) i)
 
-module _ {reserved : List Path} (rules : Rules) (sets : List SetLooks) (faults : List Fault) (ts : List Entry) (decide : Rule → LogLook → Due) (built : AreBuiltRules rules.sets) (shown : ShowsLooks reserved rules.sets sets faults ts) where
-  keys_are : keys_of (all_of_sets (map steps_of_set (all_plans decide rules.sets sets))) ≡ flat_map target_keys (all_targets decide rules.sets sets)
-  keys_are = sets_are (all_plans decide rules.sets sets) ∙ groups_are (groups_of decide rules.sets sets) (all_plans decide rules.sets sets) (plans_have_logs rules.sets sets faults ts decide built shown)
+module _ {reserved : List Path} (rules : Rules) (sets : List SetLooks) (faults : List Fault) (ts : List Entry) (mailer : Path) (decide : Rule → LogLook → Due) (built : AreBuiltRules rules.sets) (shown : ShowsLooks reserved rules.sets sets faults ts) where
+  keys_are : keys_of (all_of_sets (map steps_of_set (all_plans mailer decide rules.sets sets))) ≡ flat_map target_keys (all_targets decide rules.sets sets)
+  keys_are = sets_are (all_plans mailer decide rules.sets sets) ∙ groups_are (groups_of decide rules.sets sets) (all_plans mailer decide rules.sets sets) (plans_have_logs rules.sets sets faults ts mailer decide built shown)
 
   names : HaveNames (all_targets decide rules.sets sets)
   names = targets_have_names rules sets faults ts decide built shown
 
-  pub plan_once : AreDistinct (keys_of (all_of_sets (map steps_of_set (all_plans decide rules.sets sets))))
+  pub plan_once : AreDistinct (keys_of (all_of_sets (map steps_of_set (all_plans mailer decide rules.sets sets))))
   plan_once = subst AreDistinct (sym keys_are) (targets_once (all_targets decide rules.sets sets) (targets_apart rules.sets sets faults ts decide shown) (targets_dont_meet rules.sets sets faults ts decide shown) names)
 
   -- it makes no file at a path that is reserved
-  pub none_reserved : (x : Path) → IsIn x reserved → IsIn (Made x) (keys_of (all_of_sets (map steps_of_set (all_plans decide rules.sets sets)))) → ⊥
+  pub none_reserved : (x : Path) → IsIn x reserved → IsIn (Made x) (keys_of (all_of_sets (map steps_of_set (all_plans mailer decide rules.sets sets)))) → ⊥
   none_reserved x r i = none_made reserved (all_targets decide rules.sets sets) x names (targets_free rules.sets sets faults ts decide shown) r (subst (IsIn (Made x)) keys_are i)

@@ -26,6 +26,7 @@ use Rattle.lr_due.specs.declared.tz.Zone.TheVariants.{Utc, Rule as RuleZone, Fil
 use Rattle.lr_due.specs.declared.zone.ZoneText.{ZoneText}
 use Rattle.lr_host.specs.Counted.{call_in, calls_in}
 use Rattle.lr_fields.specs.Built.{AreBuiltRules}
+use Rattle.lr_plan.specs.Asked.{Asked, asking}
 use Rattle.lr_plan.specs.declared.planned.Plan.{Plan}
 use Rattle.lr_run.specs.Answers.{Leaves}
 use Rattle.lr_run.specs.Runs.{Runs, no_directory, not_seen, not_begun, began}
@@ -46,11 +47,11 @@ use Rattle.lr_read_fixed.proofs.OneReading.{readings_one}
 -- ---- a run begins with a look
 
 -- where none of its calls failed, it begins with a look
-run_look : (state : Path) (force : Bool) (now : Moment) (rules : Rules) (plan : Option Plan) (own : List Fault) (ts : List Entry) → Runs state force now rules plan own ts → calls_in own ≡ 0 → (seen : Option Seen) × (rest : List Entry) × (ts ≡ entry.Look (parent_of state) seen ∷ rest)
-run_look state force now rules plan own ts (no_directory lost e s) z = (s.seen, [], s.look)
-run_look state force now rules plan own ts (not_seen lost e none) z = absurd (one_called own _ e refl z)
-run_look state force now rules plan own ts (not_begun lost e t) z = (t.first.seen, t.back, t.joined ∙ ap (λ vs. vs ++ t.back) t.first.look)
-run_look state force now rules plan own ts (began i) z = (i.directory.seen, entry.Starts state now rules ∷ (i.between ++ entry.Ends ∷ []), i.entries ∙ ap (λ vs. vs ++ (entry.Starts state now rules ∷ (i.between ++ entry.Ends ∷ []))) i.directory.look)
+run_look : (state : Path) (asked : Asked) (now : Moment) (rules : Rules) (plan : Option Plan) (own : List Fault) (ts : List Entry) → Runs state asked now rules plan own ts → calls_in own ≡ 0 → (seen : Option Seen) × (rest : List Entry) × (ts ≡ entry.Look (parent_of state) seen ∷ rest)
+run_look state asked now rules plan own ts (no_directory lost e s) z = (s.seen, [], s.look)
+run_look state asked now rules plan own ts (not_seen lost e none) z = absurd (one_called own _ e refl z)
+run_look state asked now rules plan own ts (not_begun lost e t) z = (t.first.seen, t.back, t.joined ∙ ap (λ vs. vs ++ t.back) t.first.look)
+run_look state asked now rules plan own ts (began i) z = (i.directory.seen, entry.Starts state now rules ∷ (i.between ++ entry.Ends ∷ []), i.entries ∙ ap (λ vs. vs ++ (entry.Starts state now rules ∷ (i.between ++ entry.Ends ∷ []))) i.directory.look)
 
 -- ---- records with the same parts
 
@@ -88,15 +89,15 @@ module _ (request : Request) (dry : request.debug ≡ false) (now other : Moment
   are_built = subst AreBuiltRules (sym p.rules_are) (built_means request.confs p.meaning p.entries.front p.entries.first)
 
   -- the one run, and the other, over the rules and the entries of the one
-  one_run : Runs request.state request.force now p.rules plan p.own p.entries.back
-  one_run = subst (λ (b : Bool). Leaves b request.state request.force now p.rules plan p.own p.entries.back) dry p.entries.second
+  one_run : Runs request.state (asking request.force request.mailer) now p.rules plan p.own p.entries.back
+  one_run = subst (λ (b : Bool). Leaves b request.state (asking request.force request.mailer) now p.rules plan p.own p.entries.back) dry p.entries.second
 
-  as_run : Runs request.state request.force other p.rules another q.own p.entries.back
-  as_run = subst (λ (r : Rules). Runs request.state request.force other r another q.own p.entries.back) (sym rules_is) (subst (λ vs. Runs request.state request.force other q.rules another q.own vs) (sym back_is)
-      (subst (λ (b : Bool). Leaves b request.state request.force other q.rules another q.own q.entries.back) dry q.entries.second))
+  as_run : Runs request.state (asking request.force request.mailer) other p.rules another q.own p.entries.back
+  as_run = subst (λ (r : Rules). Runs request.state (asking request.force request.mailer) other r another q.own p.entries.back) (sym rules_is) (subst (λ vs. Runs request.state (asking request.force request.mailer) other q.rules another q.own vs) (sym back_is)
+      (subst (λ (b : Bool). Leaves b request.state (asking request.force request.mailer) other q.rules another q.own q.entries.back) dry q.entries.second))
 
   own_is : p.own ≡ q.own
-  own_is = runs_at request.state request.force now other p.rules plan another p.own q.own p.entries.back are_built one_run as_run
+  own_is = runs_at request.state (asking request.force request.mailer) now other p.rules plan another p.own q.own p.entries.back are_built one_run as_run
       (none_behind faults p.meaning.faults p.own p.faults_are c) (none_behind more q.meaning.faults q.own q.faults_are d)
 
   told_one : (notices ≡ others) × (faults ≡ more)
@@ -109,7 +110,7 @@ module _ (request : Request) (dry : request.debug ≡ false) (now other : Moment
 
 reports_some : (request : Request) → request.debug ≡ false → (now : Moment) (plan : Option Plan) (notices : List Notice) (faults : List Fault) (ts : List Entry) → Reports request now plan notices faults ts → calls_in faults ≡ 0 → ts ≡ [] → ⊥
 reports_some request dry now plan notices faults ts p c none =
-    let l = run_look request.state request.force now p.rules plan p.own p.entries.back (subst (λ (b : Bool). Leaves b request.state request.force now p.rules plan p.own p.entries.back) dry p.entries.second) (none_behind faults p.meaning.faults p.own p.faults_are c) in
+    let l = run_look request.state (asking request.force request.mailer) now p.rules plan p.own p.entries.back (subst (λ (b : Bool). Leaves b request.state (asking request.force request.mailer) now p.rules plan p.own p.entries.back) dry p.entries.second) (none_behind faults p.meaning.faults p.own p.faults_are c) in
     let n : length ts ≡ 0 = ap (λ (l : List Entry). length l) none in
     let j : length ts ≡ length (p.entries.front ++ p.entries.back) = ap (λ (l : List Entry). length l) p.entries.joined in
     let m : length (p.entries.front ++ p.entries.back) ≡ length p.entries.front + length p.entries.back = length-append p.entries.front p.entries.back in

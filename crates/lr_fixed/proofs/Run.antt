@@ -11,6 +11,7 @@ use Rattle.lr_host.specs.declared.entry.Entry.TheVariants as entry
 use Rattle.lr_host.specs.Looks.{Sees, IsDir, IsNotDir}
 use Rattle.lr_host.specs.Counted.{calls_in}
 use Rattle.lr_fields.specs.Built.{AreBuiltRules}
+use Rattle.lr_plan.specs.Asked.{Asked}
 use Rattle.lr_plan.specs.declared.planned.Plan.{Plan}
 use Rattle.lr_run.specs.Runs.{Runs, no_directory, not_seen, not_begun, began}
 use Rattle.lr_fixed.proofs.Called.{one_called}
@@ -31,17 +32,17 @@ between_same path state now rules before others xs ys ts s t e f = append_cancel
     (one_look path path before others (entry.Starts state now rules ∷ (xs ++ entry.Ends ∷ [])) (entry.Starts state now rules ∷ (ys ++ entry.Ends ∷ [])) s t (sym e ∙ f)).rest_is)
 
 -- two runs that left the same entries, and of which no call failed, met the same faults
-pub runs_one : (state : Path) (force : Bool) (now : Moment) (rules : Rules) (plan another : Option Plan) (own more : List Fault) (ts : List Entry) → AreBuiltRules rules.sets → Runs state force now rules plan own ts → Runs state force now rules another more ts → calls_in own ≡ 0 → calls_in more ≡ 0 → own ≡ more
-runs_one state force now rules plan another own more ts built (not_seen lost e s) r c d = absurd (one_called own _ e refl c)
-runs_one state force now rules plan another own more ts built (not_begun lost e s) r c d = absurd (one_called own _ e refl c)
-runs_one state force now rules plan another own more ts built (no_directory lost e s) (not_seen gone f t) c d = absurd (one_called more _ f refl d)
-runs_one state force now rules plan another own more ts built (no_directory lost e s) (not_begun gone f t) c d = absurd (one_called more _ f refl d)
-runs_one state force now rules plan another own more ts built (no_directory lost e s) (no_directory gone f t) c d = e ∙ sym f
-runs_one state force now rules plan another own more ts built (no_directory lost e s) (began j) c d = absurd (alone_or_begun (parent_of state) state now rules (j.between ++ entry.Ends ∷ []) j.before ts s j.directory j.entries)
-runs_one state force now rules plan another own more ts built (began i) (not_seen gone f t) c d = absurd (one_called more _ f refl d)
-runs_one state force now rules plan another own more ts built (began i) (not_begun gone f t) c d = absurd (one_called more _ f refl d)
-runs_one state force now rules plan another own more ts built (began i) (no_directory gone f t) c d = absurd (alone_or_begun (parent_of state) state now rules (i.between ++ entry.Ends ∷ []) i.before ts t i.directory i.entries)
-runs_one state force now rules plan another own more ts built (began i) (began j) c d = works_one state rules.sets now force own more i.between j.between built
+pub runs_one : (state : Path) (asked : Asked) (now : Moment) (rules : Rules) (plan another : Option Plan) (own more : List Fault) (ts : List Entry) → AreBuiltRules rules.sets → Runs state asked now rules plan own ts → Runs state asked now rules another more ts → calls_in own ≡ 0 → calls_in more ≡ 0 → own ≡ more
+runs_one state asked now rules plan another own more ts built (not_seen lost e s) r c d = absurd (one_called own _ e refl c)
+runs_one state asked now rules plan another own more ts built (not_begun lost e s) r c d = absurd (one_called own _ e refl c)
+runs_one state asked now rules plan another own more ts built (no_directory lost e s) (not_seen gone f t) c d = absurd (one_called more _ f refl d)
+runs_one state asked now rules plan another own more ts built (no_directory lost e s) (not_begun gone f t) c d = absurd (one_called more _ f refl d)
+runs_one state asked now rules plan another own more ts built (no_directory lost e s) (no_directory gone f t) c d = e ∙ sym f
+runs_one state asked now rules plan another own more ts built (no_directory lost e s) (began j) c d = absurd (alone_or_begun (parent_of state) state now rules (j.between ++ entry.Ends ∷ []) j.before ts s j.directory j.entries)
+runs_one state asked now rules plan another own more ts built (began i) (not_seen gone f t) c d = absurd (one_called more _ f refl d)
+runs_one state asked now rules plan another own more ts built (began i) (not_begun gone f t) c d = absurd (one_called more _ f refl d)
+runs_one state asked now rules plan another own more ts built (began i) (no_directory gone f t) c d = absurd (alone_or_begun (parent_of state) state now rules (i.between ++ entry.Ends ∷ []) i.before ts t i.directory i.entries)
+runs_one state asked now rules plan another own more ts built (began i) (began j) c d = works_one state rules.sets now asked own more i.between j.between built
     (between_same (parent_of state) state now rules i.before j.before i.between j.between ts i.directory j.directory i.entries j.entries) c d rules.limits i.within j.within
 
 -- ---- at moments that may differ
@@ -54,17 +55,17 @@ started_same path state now other rules before others xs ys ts s t e f = start_s
     (one_look path path before others (entry.Starts state now rules ∷ xs) (entry.Starts state other rules ∷ ys) s t (sym e ∙ f)).rest_is)
 
 -- where such runs started, the start tells their moment, so it is one
-pub runs_at : (state : Path) (force : Bool) (now other : Moment) (rules : Rules) (plan another : Option Plan) (own more : List Fault) (ts : List Entry) → AreBuiltRules rules.sets → Runs state force now rules plan own ts → Runs state force other rules another more ts → calls_in own ≡ 0 → calls_in more ≡ 0 → own ≡ more
-runs_at state force now other rules plan another own more ts built (not_seen lost e s) r c d = absurd (one_called own _ e refl c)
-runs_at state force now other rules plan another own more ts built (not_begun lost e s) r c d = absurd (one_called own _ e refl c)
-runs_at state force now other rules plan another own more ts built (no_directory lost e s) (not_seen gone f t) c d = absurd (one_called more _ f refl d)
-runs_at state force now other rules plan another own more ts built (no_directory lost e s) (not_begun gone f t) c d = absurd (one_called more _ f refl d)
-runs_at state force now other rules plan another own more ts built (no_directory lost e s) (no_directory gone f t) c d = e ∙ sym f
-runs_at state force now other rules plan another own more ts built (no_directory lost e s) (began j) c d = absurd (alone_or_begun (parent_of state) state other rules (j.between ++ entry.Ends ∷ []) j.before ts s j.directory j.entries)
-runs_at state force now other rules plan another own more ts built (began i) (not_seen gone f t) c d = absurd (one_called more _ f refl d)
-runs_at state force now other rules plan another own more ts built (began i) (not_begun gone f t) c d = absurd (one_called more _ f refl d)
-runs_at state force now other rules plan another own more ts built (began i) (no_directory gone f t) c d = absurd (alone_or_begun (parent_of state) state now rules (i.between ++ entry.Ends ∷ []) i.before ts t i.directory i.entries)
-runs_at state force now other rules plan another own more ts built (began i) (began j) c d = runs_one state force now rules plan another own more ts built (began i) (subst (λ (m : Moment). Runs state force m rules another more ts) (sym same) (began j)) c d
+pub runs_at : (state : Path) (asked : Asked) (now other : Moment) (rules : Rules) (plan another : Option Plan) (own more : List Fault) (ts : List Entry) → AreBuiltRules rules.sets → Runs state asked now rules plan own ts → Runs state asked other rules another more ts → calls_in own ≡ 0 → calls_in more ≡ 0 → own ≡ more
+runs_at state asked now other rules plan another own more ts built (not_seen lost e s) r c d = absurd (one_called own _ e refl c)
+runs_at state asked now other rules plan another own more ts built (not_begun lost e s) r c d = absurd (one_called own _ e refl c)
+runs_at state asked now other rules plan another own more ts built (no_directory lost e s) (not_seen gone f t) c d = absurd (one_called more _ f refl d)
+runs_at state asked now other rules plan another own more ts built (no_directory lost e s) (not_begun gone f t) c d = absurd (one_called more _ f refl d)
+runs_at state asked now other rules plan another own more ts built (no_directory lost e s) (no_directory gone f t) c d = e ∙ sym f
+runs_at state asked now other rules plan another own more ts built (no_directory lost e s) (began j) c d = absurd (alone_or_begun (parent_of state) state other rules (j.between ++ entry.Ends ∷ []) j.before ts s j.directory j.entries)
+runs_at state asked now other rules plan another own more ts built (began i) (not_seen gone f t) c d = absurd (one_called more _ f refl d)
+runs_at state asked now other rules plan another own more ts built (began i) (not_begun gone f t) c d = absurd (one_called more _ f refl d)
+runs_at state asked now other rules plan another own more ts built (began i) (no_directory gone f t) c d = absurd (alone_or_begun (parent_of state) state now rules (i.between ++ entry.Ends ∷ []) i.before ts t i.directory i.entries)
+runs_at state asked now other rules plan another own more ts built (began i) (began j) c d = runs_one state asked now rules plan another own more ts built (began i) (subst (λ (m : Moment). Runs state asked m rules another more ts) (sym same) (began j)) c d
   where
     same : now ≡ other
     same = started_same (parent_of state) state now other rules i.before j.before (i.between ++ entry.Ends ∷ []) (j.between ++ entry.Ends ∷ []) ts i.directory j.directory i.entries j.entries
