@@ -6,40 +6,9 @@
 //! refused, and how is printed.
 #![tactic(auto)]
 
-mod answer;
 mod ask;
-mod built;
-mod chain;
-mod choosing;
-mod clock;
-mod command;
-mod copied;
-mod due;
-mod family;
-mod fault;
-mod glob;
-mod kinds;
-mod layer;
-mod lex;
-mod lines;
-mod meeting;
-mod moment;
-mod name;
-mod naming;
-mod path;
-mod plan;
-mod report;
-mod rule;
-mod setting;
-mod sheet;
-mod shown;
-mod stamps;
-mod state;
-mod streamed;
 mod table;
 mod tell;
-mod values;
-mod word;
 
 use anyhow::Result;
 use std::env;

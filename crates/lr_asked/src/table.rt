@@ -1,6 +1,6 @@
 // The lines of a table: notes, texts with a name, and calls.
-use crate::answer::Answer;
 use crate::ask::answer;
+use lr_ask_rules::Answer;
 use lr_line::{Line, Trouble, put_quoted, words_of};
 use std::alloc::{AllocError, Global};
 
