@@ -3,13 +3,12 @@ use Rattle.std.proofs.Common.{◌≡◌, ℕ, true, false, List, [], Option, Som
 use Rattle.std.specs.List.{AllByRecursion as Each}
 use Rattle.std.proofs.lemmas.List.Elements.{All-from_recursion}
 use Rattle.lr_rules.specs.declared.path.Path.{Path}
-use Rattle.lr_rules.specs.declared.fault.Phase.TheVariants as phase
 use Rattle.lr_rules.specs.declared.rule.Make.TheVariants as make
 use Rattle.lr_forms.specs.declared.built.Built.TheVariants as built
 use Rattle.lr_forms.specs.declared.set.Set.{Set}
 use Rattle.lr_forms.specs.declared.set.Set.TheVariants as set
 use Rattle.lr_fields.specs.Built.{IsBuiltRule, AreBuiltRules}
-use Rattle.lr_fields.specs.Fields.{fields_of, last_set, maxage_set, createolddir_set, mail_set, mailfirst_set, preremove_set, dated_set}
+use Rattle.lr_fields.specs.Fields.{fields_of, last_set, maxage_set, createolddir_set, mailfirst_set, dated_set}
 use Rattle.lr_fields.specs.Rules.{format_of, rule_of}
 use Rattle.lr_conf.specs.Meaning.{Line, meaning}
 use Rattle.lr_conf.proofs.Each.{Given}
@@ -25,11 +24,6 @@ createolddir_given (set.CreateOlddir make.No) ok = refl
 createolddir_given (set.CreateOlddir (make.Yes mode)) ok = let no = ok.0 in absurd (cc no)
 createolddir_given v ok = tt
 
-mail_given : (v : Set) → S v → Given (λ o. o ≡ None) (mail_set v)
-mail_given (set.Mail None) ok = refl
-mail_given (set.Mail (Some address)) ok = let no = ok.0 in absurd (cc no)
-mail_given v ok = tt
-
 mailfirst_given : (v : Set) → S v → Given (λ b. b ≡ false) (mailfirst_set v)
 mailfirst_given (set.MailFirst false) ok = refl
 mailfirst_given (set.MailFirst true) ok = let no = ok.0 in absurd (cc no)
@@ -40,10 +34,6 @@ dated_given (set.Dated false) ok = refl
 dated_given (set.Dated true) ok = let no = ok.0 in absurd (cc no)
 dated_given v ok = tt
 
-preremove_given : (v : Set) → S v → Given (λ o. o ≡ None) (preremove_set v)
-preremove_given (set.Script phase.Preremove text) ok = let no = ok.0 in absurd (cc no)
-preremove_given v ok = tt
-
 -- what has its default where no setting sets it
 unset : {A : Type 0} (sets : Set → Option A) (d : A) → ((v : Set) → S v → Given (λ x. x ≡ d) (sets v)) → (vs : List Set) → Each S vs → last_set sets d vs ≡ d
 unset sets d given vs ok = last_given S (λ x. x ≡ d) sets d refl given vs ok
@@ -52,9 +42,7 @@ rule_ok : (file : Path) (at : ℕ) (words : List (List ℕ)) (vs : List Set) →
 rule_ok file at words vs n ok = record {
   maxage = unset maxage_set None maxage_given vs ok;
   createolddir = unset createolddir_set make.No createolddir_given vs ok;
-  mail = unset mail_set None mail_given vs ok;
   mailfirst = unset mailfirst_set false mailfirst_given vs ok;
-  preremove = unset preremove_set None preremove_given vs ok;
   dated = ap (λ b. format_of (record (fields_of vs) { dated = b })) (unset dated_set false dated_given vs ok);
 }
 

@@ -57,7 +57,8 @@ script_ok earlier p text stray = by p (list_any (is_phase p) earlier) stray
   where
     by : (p : Phase) (twice stray : Bool) → OkSaid S N (script_says (cond twice (Some kind.ScriptTwice) (cond (so_far_no_script p) (Some kind.NotYet) (cond stray (Some kind.Stray) None))) p text)
     by p true stray = tt
-    by phase.Preremove false stray = tt
+    by phase.Preremove false true = tt
+    by phase.Preremove false false = (refl, refl)
     by phase.Mail false stray = tt
     by phase.First false true = tt
     by phase.First false false = (refl, refl)

@@ -7,9 +7,7 @@ use Rattle.lr_rules.specs.declared.rule.Rule.{Rule}
 pub record IsBuiltRule (r : Rule) : Type 0 where
   pub maxage : r.maxage ≡ None
   pub createolddir : r.createolddir ≡ make.No
-  pub mail : r.mail ≡ None
   pub mailfirst : r.mailfirst ≡ false
-  pub preremove : r.scripts.preremove ≡ None
   pub dated : r.dated ≡ None
 
 abbrev pub AreBuiltRules : List Rule → Type 0

@@ -11,8 +11,6 @@ use Rattle.lr_forms.specs.declared.built.Built.TheVariants as built
 -- ---- so far
 
 abbrev pub so_far_unbuilt : Directive → Bool
--- a script
-so_far_unbuilt is.Preremove = true
 -- fields of a definition
 so_far_unbuilt is.Createolddir = true
 so_far_unbuilt is.Dateext = true
@@ -20,7 +18,6 @@ so_far_unbuilt is.Dateformat = true
 so_far_unbuilt is.Datehourago = true
 so_far_unbuilt is.Dateserial = true
 so_far_unbuilt is.Dateyesterday = true
-so_far_unbuilt is.Mail = true
 so_far_unbuilt is.Mailfirst = true
 so_far_unbuilt is.Maxage = true
 so_far_unbuilt is.Renamecopy = true
@@ -29,7 +26,6 @@ so_far_unbuilt d = false
 
 -- a script of this phase; a mail has none
 abbrev pub so_far_no_script : Phase → Bool
-so_far_no_script phase.Preremove = true
 so_far_no_script phase.Mail = true
 so_far_no_script p = false
 

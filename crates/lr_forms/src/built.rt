@@ -22,10 +22,8 @@ fn so_far_unbuilt(directive: Directive) -> bool
         | Directive::Datehourago
         | Directive::Dateserial
         | Directive::Dateyesterday
-        | Directive::Mail
         | Directive::Mailfirst
         | Directive::Maxage
-        | Directive::Preremove
         | Directive::Renamecopy => true,
         _ => false,
     }
@@ -35,9 +33,9 @@ fn so_far_no_script(phase: Phase) -> bool
     ensures { result ≡ so_far_no_script phase }
 {
     match phase {
-        Phase::First | Phase::Pre | Phase::Post | Phase::Last => false,
+        Phase::First | Phase::Pre | Phase::Post | Phase::Last | Phase::Preremove => false,
         // A mail has no script.
-        Phase::Preremove | Phase::Mail => true,
+        Phase::Mail => true,
     }
 }
 
