@@ -1,11 +1,11 @@
 -- The numbers of members, and of what stands behind them, are low enough.
-use Rattle.std.proofs.Common.{◌≡◌, ℕ, ◌+◌, ◌-◌, ◌==◌, ◌<◌, ◌≤◌, Bool, true, false, List, [], ◌∷◌, length, get_or, map, reverse, refl, sym, ap, ◌∙◌, subst, arith, eqb-true, eq-eqb}
-use Rattle.std.specs.Prelude.{All, Any, nat_le, ◌↔◌}
+use Rattle.std.proofs.Common.{◌≡◌, ℕ, suc, ◌+◌, ◌-◌, ◌==◌, ◌<◌, ◌≤◌, Bool, true, false, not, ◌&&◌, ◌||◌, cond, Option, List, [], ◌∷◌, length, get_or, map, reverse, refl, sym, ap, ◌∙◌, subst, arith, eqb-true, eq-eqb}
+use Rattle.std.specs.Prelude.{ℤ, All, Any, filter, nat_le, ◌↔◌}
 use Rattle.std.specs.List.{list_any}
 use Rattle.std.proofs.lemmas.Bool.Decides.{nat_tests}
 use Rattle.std.proofs.lemmas.List.{reverse-append}
 use Rattle.std.proofs.lemmas.List.Elements.{All-nil, All-cons, All-head, All-tail, All-append, All-map, All-weaker}
-use Rattle.std.proofs.lemmas.List.Folds.{list_any_at, Any-from_list_any}
+use Rattle.std.proofs.lemmas.List.Folds.{list_any_at, Any-from_list_any, list_any-from_Any}
 use Rattle.lr_rules.specs.declared.path.Path.{Path}
 use Rattle.lr_rules.specs.declared.rule.Count.{Count}
 use Rattle.lr_rules.specs.declared.rule.Count.TheVariants as count
@@ -16,8 +16,8 @@ use Rattle.lr_family.specs.declared.stand.Member.{Member}
 use Rattle.lr_family.specs.declared.stand.Stand.{Stand}
 use Rattle.lr_family.specs.Places.{IsPlaceOf, AreNamed}
 use Rattle.lr_family.specs.Stands.{number_in}
-use Rattle.lr_chain.specs.Rotation.{places_of, is_left}
-use Rattle.lr_chain.specs.Ready.{HaveNames, HaveNext, IsCount, NoneTooHigh, HasTooHigh, IsTooHigh, is_highest, highest_path}
+use Rattle.lr_chain.specs.Rotation.{places_of, is_left, is_expired, goes, going}
+use Rattle.lr_chain.specs.Ready.{HaveNames, HaveNext, HaveNewNames, IsCount, NoneTooHigh, HasTooHigh, IsTooHigh, is_highest, highest_path}
 use Rattle.lr_chain.proofs.Highest.{path_is}
 
 -- the highest place that the count allows
@@ -66,6 +66,21 @@ have_next n c members start small named low = all_reverse (λ place. is_left c p
     (All-map (λ place. is_left c place ≡ false → n.start + (place + 1) ≤ 4294967295) (λ m. number_in m.place) members
     (λ k d lt. next_of n c (get_or members k d) start small (named k d lt) (λ e. none_at (is_highest n) members k d lt (low e))))
 
+-- so have the new places of those that go
+pub have_new_names : (n : Naming) (c : Count) (maxage : Option ℕ) (now : ℤ) (members : List Member) → n.start ≤ 999999 → IsCount c → AreNamed n members → NoneTooHigh n c members → HaveNewNames n (going c maxage now members)
+have_new_names n c maxage now members start small named low = all_reverse (λ place. n.start + (place + 1) ≤ 4294967295) (map (λ m. number_in m.place) (filter (goes c maxage now) members))
+    (All-map (λ place. n.start + (place + 1) ≤ 4294967295) (λ m. number_in m.place) (filter (goes c maxage now) members) (new_names members (λ k d lt. next_of n c (get_or members k d) start small (named k d lt) (λ e. none_at (is_highest n) members k d lt (low e)))))
+  where
+    new_names : (ms : List Member) → All (λ m. is_left c (number_in m.place) ≡ false → n.start + (number_in m.place + 1) ≤ 4294967295) ms → All (λ m. n.start + (number_in m.place + 1) ≤ 4294967295) (filter (goes c maxage now) ms)
+    new_names [] h = All-nil (λ m. n.start + (number_in m.place + 1) ≤ 4294967295)
+    new_names (m ∷ ms) h = go (is_left c (number_in m.place)) refl (is_left c (suc (number_in m.place)) || is_expired maxage now m) (new_names ms (All-tail (λ m. is_left c (number_in m.place) ≡ false → n.start + (number_in m.place + 1) ≤ 4294967295) m ms h))
+      where
+        go : (b : Bool) → is_left c (number_in m.place) ≡ b → (t : Bool) → All (λ m. n.start + (number_in m.place + 1) ≤ 4294967295) (filter (goes c maxage now) ms)
+            → All (λ m. n.start + (number_in m.place + 1) ≤ 4294967295) (cond (not b && t) (m ∷ filter (goes c maxage now) ms) (filter (goes c maxage now) ms))
+        go true e t r = r
+        go false e true r = All-cons (λ m. n.start + (number_in m.place + 1) ≤ 4294967295) m (filter (goes c maxage now) ms) (All-head (λ m. is_left c (number_in m.place) ≡ false → n.start + (number_in m.place + 1) ≤ 4294967295) m ms h e) r
+        go false e false r = r
+
 -- the told path is that of each member that stands highest
 pub too_high_is : (n : Naming) (stand : Stand) (c : Count) (members : List Member) (path told x : Path) → stand.there ≡ true → members ≡ stand.members → AreNamed n stand.members → HasTooHigh n c members path → told ≡ path
     → (told ≡ x) ↔ IsTooHigh n stand c x
@@ -86,3 +101,11 @@ none_too_high n stand c there named low e = go (list_any (is_highest n) stand.me
     go : (b : Bool) → list_any (is_highest n) stand.members ≡ b → list_any (is_highest n) stand.members ≡ false
     go true h = absurd (low (highest_path n) ((too_high_is n stand c stand.members (highest_path n) (highest_path n) (highest_path n) there refl named (e, h, refl) refl).0 refl))
     go false h = h
+
+-- where none stands highest, no path is told so
+pub not_too_high : (n : Naming) (stand : Stand) (c : Count) (members : List Member) (path : Path) → members ≡ stand.members → NoneTooHigh n c members → IsTooHigh n stand c path → ⊥
+not_too_high n stand c members path same none h =
+    let a = h.2 in
+    let some : list_any (is_highest n) members ≡ true = ap (list_any (is_highest n)) same ∙ list_any-from_Any (is_highest n) stand.members (a.0, a.1, a.2, a.3, eq-eqb (n.start + number_in a.1.place) 4294967295 a.4.0) in
+    let one = none h.1 in
+    cc

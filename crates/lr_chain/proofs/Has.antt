@@ -1,8 +1,9 @@
 -- Whether a list has a number.
-use Rattle.std.proofs.Common.{◌≡◌, ◌⊎◌, inl, inr, ℕ, ◌<◌, Bool, true, false, ◌&&◌, ◌||◌, ◌==◌, cond, List, [], ◌∷◌, refl, sym, ap, ◌∙◌, arith, eqb-true, eq-eqb}
+use Rattle.std.proofs.Common.{◌≡◌, ◌⊎◌, inl, inr, ℕ, ◌<◌, Bool, true, false, ◌&&◌, ◌||◌, ◌==◌, cond, List, [], ◌∷◌, reverse, refl, sym, ap, ◌∙◌, subst, arith, eqb-true, eq-eqb}
 use Rattle.std.specs.Prelude.{filter, Contains, nat_lt}
 use Rattle.std.specs.List.{list_any}
-use Rattle.std.proofs.lemmas.List.Folds.{list_any-from_Any}
+use Rattle.std.proofs.lemmas.List.{reverse-append}
+use Rattle.std.proofs.lemmas.List.Folds.{Any-from_list_any, list_any-from_Any, list_any-append}
 use Rattle.std.proofs.lemmas.Bool.Decides.{nat_tests}
 use Rattle.std.proofs.lemmas.Bool.{or_from}
 use Rattle.lr_family.proofs.Numbers.{Every}
@@ -53,8 +54,24 @@ has_filter f k (j ∷ ks) = by_passed (f j) refl (has_filter f k ks)
     by_passed true fj r = passed (j == k) fj refl r
     by_passed false fj r = left_out (j == k) fj refl r
 
+pub has_it : (k : ℕ) (ks : List ℕ) → Contains ks k → has k ks ≡ true
+has_it k ks c = list_any-from_Any (λ j. j == k) ks (c.0, k, c.1, c.2, eq-eqb k k refl)
+
 pub has_none : (k : ℕ) (ks : List ℕ) → has k ks ≡ false → Contains ks k → ⊥
-has_none k ks e c = let t : has k ks ≡ true = list_any-from_Any (λ j. j == k) ks (c.0, k, c.1, c.2, eq-eqb k k refl) in cc
+has_none k ks e c = let t : has k ks ≡ true = has_it k ks c in cc
+
+pub it_has : (k : ℕ) (ks : List ℕ) → has k ks ≡ true → Contains ks k
+it_has k ks e = let a = Any-from_list_any (λ j. j == k) ks e in subst (λ (j : ℕ). Contains ks j) (eqb-true a.1 k a.4) (a.0, a.2, a.3)
+
+pub has_reverse : (k : ℕ) (ks : List ℕ) → has k (reverse ks) ≡ has k ks
+has_reverse k [] = refl
+has_reverse k (j ∷ ks) = ap (has k) (reverse-append (j ∷ []) ks) ∙ (list_any-append (λ i. i == k) (reverse ks) (j ∷ []) ∙ (ap (λ b. b || ((j == k) || false)) (has_reverse k ks) ∙ turned (has k ks) (j == k)))
+  where
+    turned : (a b : Bool) → (a || (b || false)) ≡ (b || a)
+    turned true true = refl
+    turned true false = refl
+    turned false true = refl
+    turned false false = refl
 
 pub order : (a b : ℕ) → (a < b) ⊎ ((a ≡ b) ⊎ (b < a))
 order a b = go (nat_lt a b) refl (a == b) refl

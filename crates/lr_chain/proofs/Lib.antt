@@ -2,9 +2,11 @@ pub mod Bounds
 pub mod Chaining
 pub mod Falling
 pub mod Fitting
+pub mod Going
 pub mod Has
 pub mod Highest
-pub mod Lasting
+pub mod Kept
+pub mod Retired
 pub mod Retiring
 pub mod Steps
 pub mod Turned

@@ -16,16 +16,18 @@ use Rattle.lr_host.specs.Steps.{changes_of}
 use Rattle.lr_host.proofs.Names.{put_here, put_other}
 use Rattle.lr_family.specs.Kin.{IsKin}
 use Rattle.lr_family.specs.Spots.{path_at}
-use Rattle.lr_family.proofs.Numbers.{Every, Falls, every_as, every_both, every_filter, every_passes, falls_filter, among}
+use Rattle.lr_family.proofs.Numbers.{Every, Falls, every_as, every_both, every_filter, every_from, falls_filter, among}
 use Rattle.lr_family.proofs.Paths.{places_apart, log_apart}
-use Rattle.lr_chain.specs.Rotation.{is_left, leftovers, kept, unlink_at, move_at, leftover_steps, shift_steps, turn_steps, retire_steps, rotation}
-use Rattle.lr_chain.specs.Standing.{StandSo}
+use Rattle.lr_chain.specs.Rotation.{is_left, leftovers, kept, retired, unlink_at, move_at, leftover_steps, shift_steps, turn_steps, retire_steps, rotation}
+use Rattle.lr_chain.specs.Standing.{StandSo, AreGoing}
 use Rattle.lr_chain.specs.Turning.{turned, IsTurned}
 use Rattle.lr_chain.proofs.Bounds.{top_of}
-use Rattle.lr_chain.proofs.Has.{has, has_below, has_next, has_filter, has_none, order}
+use Rattle.lr_chain.proofs.Has.{has, has_below, has_next, has_filter, has_it, has_none, order}
+use Rattle.lr_chain.proofs.Kept.{kept_stay, kept_as}
+use Rattle.lr_chain.proofs.Retired.{every_retired, has_first, has_new}
 
 -- the names behind these entries, the first of them first
-abbrev run : Names → List Entry → Names
+abbrev pub run : Names → List Entry → Names
 run m [] = m
 run m (e ∷ es) = run (names_after m (changes_of (e ∷ []))) es
 
@@ -164,9 +166,13 @@ module _ (log : Path) (n : Naming) (kin : IsKin log n) (numbered : n.dated ≡ N
   kept_below (count.Keep t) k lt = kept_is t k lt
   kept_below count.Always k lt = refl
 
-  stays_below : (c : Count) (k : ℕ) → is_left c k ≡ false → IsNumber (k + 1) → k < top_of n c
+  pub stays_below : (c : Count) (k : ℕ) → is_left c k ≡ false → IsNumber (k + 1) → k < top_of n c
   stays_below (count.Keep t) k e i = below_count t k e
   stays_below count.Always k e i = omega (arith, i)
+
+  next_below : (c : Count) (k : ℕ) → is_left c (suc k) ≡ false → IsNumber (suc k) → k < top_of n c
+  next_below (count.Keep t) k e i = let lt = below_count t (suc k) e in omega (arith, lt)
+  next_below count.Always k e i = omega (arith, i)
 
   module _ (m : Names) (c : Count) (places : List ℕ) (small : IsNumber (top_of n c)) (falls : Falls places) (within : Every IsNumber places) (next : Every (λ k. is_left c k ≡ false → IsNumber (k + 1)) places) (s : StandSo log n places m) where
     abbrev dropped : Names
@@ -224,17 +230,11 @@ module _ (log : Path) (n : Naming) (kin : IsKin log n) (numbered : n.dated ≡ N
         lower : k < top_of n c → has k places ≡ false
         lower lt = unfiltered (is_left c k) (has k places) (kept_below c k lt) (sym (has_filter (λ j. not (is_left c j)) k places) ∙ none)
 
-    not_left : (b : Bool) → not b ≡ true → b ≡ false
-    not_left true e = absurd (cc)
-    not_left false e = refl
-
     kept_next : Every (λ k. IsNumber (k + 1)) (kept c places)
-    kept_next = every_both (λ k. not (is_left c k) ≡ true) (λ k. is_left c k ≡ false → IsNumber (k + 1)) (λ k. IsNumber (k + 1)) (kept c places) (λ k e f. f (not_left (is_left c k) e))
-        (every_passes (λ k. not (is_left c k)) places) (every_filter (λ k. is_left c k ≡ false → IsNumber (k + 1)) (λ k. not (is_left c k)) places next)
+    kept_next = kept_as (λ k. IsNumber (k + 1)) c places next
 
     kept_low : Every (λ k. k < top_of n c) (kept c places)
-    kept_low = every_both (λ k. not (is_left c k) ≡ true) (λ k. IsNumber (k + 1)) (λ k. k < top_of n c) (kept c places) (λ k e i. stays_below c k (not_left (is_left c k) e) i)
-        (every_passes (λ k. not (is_left c k)) places) kept_next
+    kept_low = every_both (λ k. is_left c k ≡ false) (λ k. IsNumber (k + 1)) (λ k. k < top_of n c) (kept c places) (λ k e i. stays_below c k e i) (kept_stay c places) kept_next
 
     is_shifted : Shifted (top_of n c) dropped shifted
     is_shifted = shifts dropped (top_of n c) (kept c places) small kept_low (falls_filter (λ k. not (is_left c k)) places falls) gaps
@@ -268,90 +268,65 @@ module _ (log : Path) (n : Naming) (kin : IsKin log n) (numbered : n.dated ≡ N
     renamed_above k i lt = renamed_member k i ∙ (is_shifted.above (suc k) i lt ∙ high (suc k) i (omega (arith, lt)))
 
   -- Behind the log's rename.
-  record Renamed (c : Count) (m r : Names) : Type 0 where
-    first : r (path_at n 0) ≡ m log
-    up : (k : ℕ) → IsNumber (suc k) → k < top_of n c → r (path_at n (suc k)) ≡ m (path_at n k)
-    above : (k : ℕ) → IsNumber (suc k) → top_of n c < suc k → r (path_at n (suc k)) ≡ thing.Nothing
-    log_gone : r log ≡ thing.Nothing
-    others : (x : Path) → x ≢ log → IsOther x → r x ≡ m x
+  pub record Renamed (c : Count) (m r : Names) : Type 0 where
+    pub first : r (path_at n 0) ≡ m log
+    pub up : (k : ℕ) → IsNumber (suc k) → k < top_of n c → r (path_at n (suc k)) ≡ m (path_at n k)
+    pub above : (k : ℕ) → IsNumber (suc k) → top_of n c < suc k → r (path_at n (suc k)) ≡ thing.Nothing
+    pub log_gone : r log ≡ thing.Nothing
+    pub others : (x : Path) → x ≢ log → IsOther x → r x ≡ m x
 
-  -- the count leaves room, or none
-  room : (t place : ℕ) (old : Thing) → place < t → old ≡ cond (nat_le t place) thing.Nothing old
-  room t place old lt = sym (ap (λ b. cond b thing.Nothing old) (kept_is t place lt))
-
-  no_room : (t place : ℕ) (old : Thing) → t ≤ place → thing.Nothing ≡ cond (nat_le t place) thing.Nothing old
-  no_room t place old le = sym (ap (λ b. cond b thing.Nothing old) (left_is t place le))
-
-  -- the member that is one too many goes
-  ended : (m r : Names) (c : Count) (places : List ℕ) → IsNumber (top_of n c) → StandSo log n places m → Renamed c m r → IsTurned log n c m (run r (retire_steps n c places))
-  ended m r count.Always places small s f = record { members = go; log_gone = f.log_gone; others = f.others }
-    where
-      go : (place : ℕ) → IsNumber place → r (path_at n place) ≡ turned count.Always (m log) (λ p. m (path_at n p)) place
-      go zero i = f.first
-      go (suc k) i = f.up k i (omega (arith, i))
-  ended m r (count.Keep zero) places small s f = record {
-    members = go;
-    log_gone = aside r 0 thing.Nothing log first log_other ∙ f.log_gone;
-    others = λ x ne o. aside r 0 thing.Nothing x first o ∙ f.others x ne o;
-  }
-    where
-      first : IsNumber 0
-      first = omega (arith, small)
-
-      go : (place : ℕ) → IsNumber place → put r (path_at n 0) thing.Nothing (path_at n place) ≡ turned (count.Keep zero) (m log) (λ p. m (path_at n p)) place
-      go zero i = here r 0 thing.Nothing ∙ no_room 0 0 (m log) (omega arith)
-      go (suc k) i = there r 0 (suc k) thing.Nothing first i (λ e. omega (arith, e)) ∙ (f.above k i (omega arith) ∙ no_room 0 (suc k) (m (path_at n k)) (omega arith))
-  ended m r (count.Keep (suc t)) places small s f = by_place (has t places) refl
-    where
-      number : IsNumber (suc t)
-      number = small
-
-      unlinked : (place : ℕ) → IsNumber place → put r (path_at n (suc t)) thing.Nothing (path_at n place) ≡ turned (count.Keep (suc t)) (m log) (λ p. m (path_at n p)) place
-      unlinked zero i = there r (suc t) 0 thing.Nothing number i (λ e. omega (arith, e)) ∙ (f.first ∙ room (suc t) 0 (m log) (omega arith))
-      unlinked (suc k) i = ⊎_elim below (λ rest. ⊎_elim same over rest) (order k t)
-        where
-          below : k < t → put r (path_at n (suc t)) thing.Nothing (path_at n (suc k)) ≡ turned (count.Keep (suc t)) (m log) (λ p. m (path_at n p)) (suc k)
-          below lt = there r (suc t) (suc k) thing.Nothing number i (λ e. omega (arith, e, lt)) ∙ (f.up k i (omega (arith, lt)) ∙ room (suc t) (suc k) (m (path_at n k)) (omega (arith, lt)))
-
-          same : k ≡ t → put r (path_at n (suc t)) thing.Nothing (path_at n (suc k)) ≡ turned (count.Keep (suc t)) (m log) (λ p. m (path_at n p)) (suc k)
-          same e = subst (λ (j : ℕ). put r (path_at n (suc t)) thing.Nothing (path_at n (suc j)) ≡ thing.Nothing) (sym e) (here r (suc t) thing.Nothing) ∙ no_room (suc t) (suc k) (m (path_at n k)) (omega (arith, e))
-
-          over : t < k → put r (path_at n (suc t)) thing.Nothing (path_at n (suc k)) ≡ turned (count.Keep (suc t)) (m log) (λ p. m (path_at n p)) (suc k)
-          over lt = there r (suc t) (suc k) thing.Nothing number i (λ e. omega (arith, e, lt)) ∙ (f.above k i (omega (arith, lt)) ∙ no_room (suc t) (suc k) (m (path_at n k)) (omega (arith, lt)))
-
-      as_it_was : has t places ≡ false → (place : ℕ) → IsNumber place → r (path_at n place) ≡ turned (count.Keep (suc t)) (m log) (λ p. m (path_at n p)) place
-      as_it_was none zero i = f.first ∙ room (suc t) 0 (m log) (omega arith)
-      as_it_was none (suc k) i = ⊎_elim below (λ rest. ⊎_elim same over rest) (order k t)
-        where
-          below : k < t → r (path_at n (suc k)) ≡ turned (count.Keep (suc t)) (m log) (λ p. m (path_at n p)) (suc k)
-          below lt = f.up k i (omega (arith, lt)) ∙ room (suc t) (suc k) (m (path_at n k)) (omega (arith, lt))
-
-          same : k ≡ t → r (path_at n (suc k)) ≡ turned (count.Keep (suc t)) (m log) (λ p. m (path_at n p)) (suc k)
-          same e = f.up k i (omega (arith, e)) ∙ (s.others k (omega (arith, i)) (λ h. has_none t places none (subst (Contains places) e h)) ∙ no_room (suc t) (suc k) (m (path_at n k)) (omega (arith, e)))
-
-          over : t < k → r (path_at n (suc k)) ≡ turned (count.Keep (suc t)) (m log) (λ p. m (path_at n p)) (suc k)
-          over lt = f.above k i (omega (arith, lt)) ∙ no_room (suc t) (suc k) (m (path_at n k)) (omega (arith, lt))
-
-      by_place : (b : Bool) → has t places ≡ b → IsTurned log n (count.Keep (suc t)) m (run r (map (unlink_at n) (cond b (suc t ∷ []) [])))
-      by_place true e = record {
-        members = unlinked;
-        log_gone = aside r (suc t) thing.Nothing log number log_other ∙ f.log_gone;
-        others = λ x ne o. aside r (suc t) thing.Nothing x number o ∙ f.others x ne o;
-      }
-      by_place false e = record { members = as_it_was e; log_gone = f.log_gone; others = f.others }
-
-  -- the whole
-  pub family_turned : (m : Names) (c : Count) (places : List ℕ) → IsNumber (top_of n c) → Falls places → Every IsNumber places → Every (λ k. is_left c k ≡ false → IsNumber (k + 1)) places → StandSo log n places m
-      → IsTurned log n c m (names_after m (changes_of (reverse (rotation n c log places))))
-  family_turned m c places small falls within next s = subst (IsTurned log n c m) (sym parts) (ended m (renamed m c places small falls within next s) c places small s (record {
+  pub renamed_so : (m : Names) (c : Count) (places : List ℕ) → IsNumber (top_of n c) → Falls places → Every IsNumber places → Every (λ k. is_left c k ≡ false → IsNumber (k + 1)) places → StandSo log n places m
+      → Renamed c m (run m (leftover_steps n c places ++ turn_steps n c log places))
+  renamed_so m c places small falls within next s = subst (Renamed c m) (sym parts) (record {
     first = renamed_first m c places small falls within next s;
     up = renamed_up m c places small falls within next s;
     above = renamed_above m c places small falls within next s;
     log_gone = renamed_log m c places small falls within next s;
     others = renamed_other m c places small falls within next s;
-  }))
+  })
     where
-      parts : names_after m (changes_of (reverse (rotation n c log places))) ≡ run (renamed m c places small falls within next s) (retire_steps n c places)
-      parts = run_is m (rotation n c log places) ∙ (run_both m (leftover_steps n c places) (turn_steps n c log places ++ retire_steps n c places)
-          ∙ (run_both (run m (leftover_steps n c places)) (turn_steps n c log places) (retire_steps n c places)
-          ∙ ap (λ (k : Names). run k (retire_steps n c places)) (run_both (run m (leftover_steps n c places)) (shift_steps n c places) (entry.Renames log (path_at n 0) ∷ []))))
+      parts : run m (leftover_steps n c places ++ turn_steps n c log places) ≡ renamed m c places small falls within next s
+      parts = run_both m (leftover_steps n c places) (turn_steps n c log places) ∙ run_both (run m (leftover_steps n c places)) (shift_steps n c places) (entry.Renames log (path_at n 0) ∷ [])
+
+  -- the new places of those that go have names
+  pub going_number : (c : Count) (places from : List ℕ) → Every (λ k. is_left c k ≡ false → IsNumber (k + 1)) places → AreGoing c places from → (k : ℕ) → Contains from k → IsNumber (k + 1)
+  going_number c places from next going k h = among k places (λ j. is_left c j ≡ false → IsNumber (j + 1)) (has_it k places (going.there k h)) next (going.moved k h)
+
+  pub retired_numbers : (c : Count) (places from : List ℕ) → IsNumber (top_of n c) → Every (λ k. is_left c k ≡ false → IsNumber (k + 1)) places → AreGoing c places from → Every IsNumber (retired c from)
+  retired_numbers c places from small next going =
+      every_retired IsNumber c from (every_from (λ k. IsNumber (suc k)) from (λ k h. (let i = going_number c places from next going k h in omega (arith, i)))) (λ e. omega (arith, small))
+
+  -- those that go, and the log where none is kept, are gone behind that
+  ended : (m r : Names) (c : Count) (places from : List ℕ) → IsNumber (top_of n c) → Every (λ k. is_left c k ≡ false → IsNumber (k + 1)) places → AreGoing c places from → StandSo log n places m → Renamed c m r
+      → IsTurned log n c from m (run r (retire_steps n c from))
+  ended m r c places from small next going s f = record {
+    members = members;
+    log_gone = drops_aside r (retired c from) log numbers log_other ∙ f.log_gone;
+    others = λ x ne o. drops_aside r (retired c from) x numbers o ∙ f.others x ne o;
+  }
+    where
+      numbers : Every IsNumber (retired c from)
+      numbers = retired_numbers c places from small next going
+
+      member : (k : ℕ) → IsNumber (suc k) → (goes left : Bool) → has k from ≡ goes → is_left c (suc k) ≡ left → cond goes thing.Nothing (r (path_at n (suc k))) ≡ cond (left || goes) thing.Nothing (m (path_at n k))
+      member k i true true e d = refl
+      member k i true false e d = refl
+      member k i false true e d = ⊎_elim (λ lt. f.up k i lt ∙ none lt) (λ rest. f.above k i (⊎_elim (λ same. omega (arith, same)) (λ over. omega (arith, over)) rest)) (order k (top_of n c))
+        where
+          -- the count leaves no room behind this place, so a member at it would go
+          none : k < top_of n c → m (path_at n k) ≡ thing.Nothing
+          none lt = s.others k (omega (arith, i)) (λ h. has_none k from e (going.full k h (kept_below c k lt) d))
+      member k i false false e d = f.up k i (next_below c k d i)
+
+      members : (place : ℕ) → IsNumber place → run r (retire_steps n c from) (path_at n place) ≡ turned c from (m log) (λ p. m (path_at n p)) place
+      members zero i = drops r (retired c from) 0 numbers i ∙ (ap (λ b. cond b thing.Nothing (r (path_at n 0))) (has_first c from) ∙ ap (λ t. cond (is_left c 0) thing.Nothing t) f.first)
+      members (suc k) i = drops r (retired c from) (suc k) numbers i ∙ (ap (λ b. cond b thing.Nothing (r (path_at n (suc k)))) (has_new c k from) ∙ member k i (has k from) (is_left c (suc k)) refl refl)
+
+  -- the whole
+  pub family_turned : (m : Names) (c : Count) (places from : List ℕ) → IsNumber (top_of n c) → Falls places → Every IsNumber places → Every (λ k. is_left c k ≡ false → IsNumber (k + 1)) places → AreGoing c places from → StandSo log n places m
+      → IsTurned log n c from m (names_after m (changes_of (reverse (rotation n c log places from))))
+  family_turned m c places from small falls within next going s =
+      subst (IsTurned log n c from m) (sym parts) (ended m (run m (leftover_steps n c places ++ turn_steps n c log places)) c places from small next going s (renamed_so m c places small falls within next s))
+    where
+      parts : names_after m (changes_of (reverse (rotation n c log places from))) ≡ run (run m (leftover_steps n c places ++ turn_steps n c log places)) (retire_steps n c from)
+      parts = run_is m (rotation n c log places from) ∙ (ap (run m) (sym (append_assoc (leftover_steps n c places) (turn_steps n c log places) (retire_steps n c from))) ∙ run_both m (leftover_steps n c places ++ turn_steps n c log places) (retire_steps n c from))

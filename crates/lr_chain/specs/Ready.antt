@@ -18,7 +18,7 @@ use Rattle.lr_scripts.specs.declared.removal.Removal.{Removal}
 use Rattle.lr_scripts.specs.Removals.{steps_of_removal}
 use Rattle.lr_chain.specs.declared.ready.Move.{Move}
 use Rattle.lr_chain.specs.declared.ready.Ready.{Ready}
-use Rattle.lr_chain.specs.Rotation.{places_of, is_left, leftovers, kept, one_too_many}
+use Rattle.lr_chain.specs.Rotation.{places_of, is_left, leftovers, kept, retired}
 
 -- the removal of the member at this place: its unlink alone
 abbrev pub removal_at : Naming → ℕ → Removal
@@ -31,27 +31,28 @@ move_from n place = record { from = path_at n place; to = path_at n (place + 1) 
 abbrev pub at_rest : Path → Naming → Make → Ready
 at_rest log n anew = record { leftovers = []; dir = None; moves = []; log = log; target = path_at n 0; make = anew; retire = [] }
 
--- with what is to be done with the members at these places
-abbrev pub with_members : Naming → Count → List ℕ → Ready → Ready
-with_members n c places ready = record {
+-- with what is to be done with the members at these places, of which those that come from the second go
+abbrev pub with_members : Naming → Count → List ℕ → List ℕ → Ready → Ready
+with_members n c places from ready = record {
   leftovers = map (removal_at n) (leftovers c places);
   dir = ready.dir;
   moves = map (move_from n) (kept c places);
   log = ready.log;
   target = ready.target;
   make = ready.make;
-  retire = map (removal_at n) (one_too_many c places);
+  retire = map (removal_at n) (retired c from);
 }
 
--- The rotation is ready: its parts are those of one rotation of the log, where these members stand, and the log is made anew so.
-pub record IsReady (log : Path) (n : Naming) (c : Count) (anew : Make) (members : List Member) (ready : Ready) : Type 0 where
+-- The rotation is ready: its parts are those of one rotation of the log, where these members stand and those that come from
+-- these places go, and the log is made anew so.
+pub record IsReady (log : Path) (n : Naming) (c : Count) (anew : Make) (members : List Member) (from : List ℕ) (ready : Ready) : Type 0 where
   pub leftovers_are : ready.leftovers ≡ map (removal_at n) (leftovers c (places_of members))
   pub no_dir : ready.dir ≡ None
   pub moves_are : ready.moves ≡ map (move_from n) (kept c (places_of members))
   pub log_is : ready.log ≡ log
   pub target_is : ready.target ≡ path_at n 0
   pub make_is : ready.make ≡ anew
-  pub retire_is : ready.retire ≡ map (removal_at n) (one_too_many c (places_of members))
+  pub retire_is : ready.retire ≡ map (removal_at n) (retired c from)
 
 -- a count that a rule can have
 abbrev pub IsCount : Count → Type 0
@@ -64,6 +65,10 @@ HaveNames n places = All (λ place. n.start + place ≤ 4294967295) places
 
 abbrev pub HaveNext : Naming → Count → List ℕ → Type 0
 HaveNext n c places = All (λ place. is_left c place ≡ false → n.start + (place + 1) ≤ 4294967295) places
+
+-- the members that come from these places have names behind the moves
+abbrev pub HaveNewNames : Naming → List ℕ → Type 0
+HaveNewNames n from = All (λ place. n.start + (place + 1) ≤ 4294967295) from
 
 -- the member has the highest number that there is
 abbrev pub is_highest : Naming → Member → Bool

@@ -1,5 +1,5 @@
 -- How the members of a rotation stand under the names of a disk, so that its steps fit.
-use Rattle.std.specs.Prelude.{◌≡◌, ◌+◌, ◌≤◌, ℕ, List, reverse, Contains}
+use Rattle.std.specs.Prelude.{◌≡◌, ◌+◌, ◌≤◌, ℕ, suc, true, false, List, reverse, Contains}
 use Rattle.std.specs.List.Sorted.{IsStrictlyIncreasing}
 use Rattle.lr_rules.specs.declared.path.Path.{Path}
 use Rattle.lr_rules.specs.declared.rule.Count.{Count}
@@ -9,7 +9,7 @@ use Rattle.lr_host.specs.World.{Names}
 use Rattle.lr_host.specs.Fits.{IsFileAt, IsDirectoryAt}
 use Rattle.lr_host.specs.Steps.{FitAll}
 use Rattle.lr_family.specs.Spots.{path_at}
-use Rattle.lr_chain.specs.Rotation.{rotation}
+use Rattle.lr_chain.specs.Rotation.{is_left, rotation}
 
 -- The log is a regular file, the family's directory a directory; the members at just these places, each below the one
 -- before it, are regular files, and nothing has the path of another member.
@@ -20,6 +20,14 @@ pub record StandSo (log : Path) (n : Naming) (places : List ℕ) (names : Names)
   pub members : (place : ℕ) → Contains places place → IsFileAt names (path_at n place)
   pub others : (place : ℕ) → n.start + place ≤ 4294967295 → (Contains places place → ⊥) → names (path_at n place) ≡ thing.Nothing
 
+-- Of the members at the first places, those at the second go behind the moves: each is moved, the lowest last, and each for
+-- which the count leaves no room at its new place is among them.
+pub record AreGoing (c : Count) (places from : List ℕ) : Type 0 where
+  pub falling : IsStrictlyIncreasing (reverse from)
+  pub there : (place : ℕ) → Contains from place → Contains places place
+  pub moved : (place : ℕ) → Contains from place → is_left c place ≡ false
+  pub full : (place : ℕ) → Contains places place → is_left c place ≡ false → is_left c (suc place) ≡ true → Contains from place
+
 -- wherever they stand so, the steps of the rotation fit one after another
-abbrev pub FitsWhereTheyStand : Path → Naming → Count → List ℕ → Type 0
-FitsWhereTheyStand log n c places = (names : Names) → StandSo log n places names → FitAll names (reverse (rotation n c log places))
+abbrev pub FitsWhereTheyStand : Path → Naming → Count → List ℕ → List ℕ → Type 0
+FitsWhereTheyStand log n c places from = (names : Names) → StandSo log n places names → FitAll names (reverse (rotation n c log places from))

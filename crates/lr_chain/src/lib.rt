@@ -4,13 +4,17 @@
 //! steps, in order. Begin with `prepare`:
 //!
 //! ```text
-//! let ready = prepare(alloc, &family, &stand, Count::Keep(7), Make::No)?;
+//! let ready = prepare(alloc, &family, &stand, Count::Keep(7), Some(30), now, Make::No)?;
 //! retire(alloc, &mut host, ready.leftovers.as_slice())?;
 //! turn(&mut host, &ready)?;                                     // /var/log/app.log is /var/log/app.log.1
 //! retire(alloc, &mut host, ready.retire.as_slice())?;
 //! ```
+//!
+//! `Some(30)` is logrotate(8)'s `maxage 30`, in days: of the members that stood before, each that was modified more than 30
+//! times 86,400 seconds before `now`, which is in seconds since 1970, is removed behind the turn. The log isn't.
 #![tactic(auto)]
 
+mod behind;
 mod chain;
 mod laws;
 mod place;
@@ -19,6 +23,7 @@ mod preparing;
 mod ready;
 mod retirement;
 
+pub use behind::is_expired;
 pub use chain::{ChainStop, shift, turn};
 pub use laws::{rotation_fits, rotation_turns, steps_of_ready};
 pub use preparing::prepare;

@@ -11,7 +11,8 @@ use lr_family::{Family, Member, Place};
 use lr_rules::{Count, Memory, Naming, Path};
 use std::alloc::Global;
 
-fn number_at(place: Place) -> u32
+/// The number of a place, counted from 0; a stamp has none.
+pub fn number_at(place: Place) -> u32
     ensures { result ≡ number_in place }
 {
     match place {

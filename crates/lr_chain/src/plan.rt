@@ -1,8 +1,7 @@
 // The parts of a rotation, made before the first of them is used.
-ghost use Rattle.std.specs.Prelude.{◌≡◌, ◌+◌, ◌==◌, ◌≤◌, ◌∷◌, ◌++◌, [], ℕ, map, All, true, None, OnOk, IfOk, MatchOption};
-ghost use Rattle.std.specs.List.{list_any};
-ghost use Rattle.lr_chain.specs.Rotation.{leftovers, kept, one_too_many};
-ghost use Rattle.lr_chain.specs.Ready.{removal_at, move_from, HaveNames, HaveNext, IsCount};
+ghost use Rattle.std.specs.Prelude.{◌≡◌, ◌+◌, ◌≤◌, ◌∷◌, ◌++◌, [], suc, map, None, OnOk, IfOk};
+ghost use Rattle.lr_chain.specs.Rotation.{leftovers, kept, retired};
+ghost use Rattle.lr_chain.specs.Ready.{removal_at, move_from, HaveNames, HaveNext, HaveNewNames};
 
 use crate::place::{has_no_room, path_there};
 use crate::ready::Move;
@@ -106,46 +105,33 @@ pub fn moves_of(
     Ok(moves)
 }
 
-fn has_place(places: &[u32], wanted: u32) -> bool
-    ensures { result ≡ list_any (λ place. place == wanted) places.now }
+// The removal of the member that comes from this place.
+fn removal_next(alloc: Global, family: &Family, place: u32) -> Result<Removal, Memory>
+    requires numbered { family.now.naming.dated ≡ None }
+    requires bound { family.now.naming.start + (place + 1) ≤ 4294967295 }
+    ensures { IfOk result (λ removal. removal ≡ removal_at family.now.naming (suc place)) }
 {
-    places.iter().any(|place| *place == wanted)
+    removal(alloc, family, place + 1)
 }
 
-// The place of the member that is one too many behind the moves.
-fn last_place(count: Count, places: &[u32]) -> Option<u32>
-    ensures { MatchOption result (one_too_many count places.now ≡ []) (λ place. one_too_many count places.now ≡ place ∷ []) }
-{
-    match count {
-        Count::Always => None,
-        Count::Keep(kept) => {
-            if kept == 0 {
-                return Some(0);
-            }
-            if has_place(places, kept - 1) {
-                Some(kept)
-            } else {
-                None
-            }
-        }
-    }
-}
-
-/// The removal of the member that is one too many behind the moves, where there is one.
-pub fn last_removal(
+/// The removals behind the moves, where the members that come from these places go.
+pub fn last_removals(
     alloc: Global,
     family: &Family,
     count: Count,
-    places: &[u32],
+    from: &[u32],
 ) -> Result<Vec<Removal>, Memory>
     requires numbered { family.now.naming.dated ≡ None }
     requires start { family.now.naming.start ≤ 999999 }
-    requires count { IsCount count }
-    ensures { IfOk result (λ removals. removals.items ≡ map (removal_at family.now.naming) (one_too_many count places.now)) }
+    requires next { HaveNewNames family.now.naming from.now }
+    ensures { IfOk result (λ removals. removals.items ≡ map (removal_at family.now.naming) (retired count from.now)) }
 {
     let mut removals = Vec::new(alloc);
-    if let Some(place) = last_place(count, places) {
-        removals.push(removal(alloc, family, place)?)?;
+    for place in from {
+        removals.push(removal_next(alloc, family, *place)?)?;
+    }
+    if has_no_room(count, 0) {
+        removals.push(removal(alloc, family, 0)?)?;
     }
     Ok(removals)
 }

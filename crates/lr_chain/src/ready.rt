@@ -23,7 +23,8 @@ pub struct Ready {
     pub target: Path,
     /// Whether the log is made anew, and with which mode (permission bits).
     pub make: Make,
-    /// What is removed at the end: the member that is then one too many, where there is one.
+    /// What is removed at the end, the highest place first: the member that is then one too many, and those that are too
+    /// old, under the names that the moves gave them; the log, at its target, where none is kept.
     pub retire: Listed<Removal>,
 }
 
