@@ -3,6 +3,7 @@ use Rattle.std.proofs.Common.{◌≡◌, ◌≢◌, ◌⊎◌, inl, inr, true, r
 use Rattle.std.specs.Prelude.{filter}
 use Rattle.std.proofs.lemmas.List.Elements.{filter-append}
 use Rattle.lr_rules.specs.declared.path.Path.{Path}
+use Rattle.lr_rules.specs.declared.civil.Moment.{Moment}
 use Rattle.lr_rules.specs.declared.rules.Rules.{Rules}
 use Rattle.lr_host.specs.declared.entry.Entry.{Entry}
 use Rattle.lr_host.specs.Lists.{IsIn}
@@ -68,7 +69,7 @@ own_first P us os a = subst (λ xs. Weave P xs (us ++ os)) (append-nil us) (weav
 
 -- ---- the run
 
-module _ (state : Path) (rules : Rules) (looks : List Entry) (x y : Target) (apart : x.log ≢ y.log) (quiet : AreQuiet looks) (seen : AreSeen rules looks (x ∷ y ∷ [])) where
+module _ (state : Path) (now : Moment) (rules : Rules) (looks : List Entry) (x y : Target) (apart : x.log ≢ y.log) (quiet : AreQuiet looks) (seen : AreSeen rules now.seconds looks (x ∷ y ∷ [])) where
   abbrev targets : List Target
   targets = x ∷ y ∷ []
 
@@ -119,7 +120,7 @@ module _ (state : Path) (rules : Rules) (looks : List Entry) (x y : Target) (apa
     each t (inr (inl is)) = subst SeenFrom is (record { made = vs; first = second; woven = by_second })
     each t (inr (inr none)) = absurd none
 
-    pub both_turn : AllTurns state rules (looks ++ acts)
+    pub both_turn : AllTurns state now rules (looks ++ acts)
     both_turn = record { looks = looks; acts = acts; joined = refl; quiet = quiet; targets = targets; seen = seen; all = all; each = each }
 
   -- where all steps were made
@@ -138,6 +139,6 @@ module _ (state : Path) (rules : Rules) (looks : List Entry) (x y : Target) (apa
     whole t (inr (inl is)) = subst IsWhole is (subst (λ steps. Weave (StandsBetween state y targets) steps (filter is_change (us ++ (vs ++ behind)))) (sym second) (by_second us vs behind first_whole second_whole of_state))
     whole t (inr (inr none)) = absurd none
 
-    pub both_turned : (t : AllTurned state rules (looks ++ (us ++ (vs ++ behind)))) × (t.turns.targets ≡ targets)
+    pub both_turned : (t : AllTurned state now rules (looks ++ (us ++ (vs ++ behind)))) × (t.turns.targets ≡ targets)
     unfolding both_turn
     both_turned = (record { turns = both_turn us vs behind first_whole second_whole of_state; whole = whole }, refl)

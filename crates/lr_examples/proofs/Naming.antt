@@ -16,7 +16,7 @@ use Rattle.lr_chain.specs.declared.ready.Move.{Move}
 use Rattle.lr_chain.specs.Ready.{move_from}
 use Rattle.lr_chain.specs.Rotation.{places_of, rotation}
 use Rattle.lr_rotations.specs.Target.{HasReady}
-use Rattle.lr_examples.specs.Logs.{a_log, a_first, a_second, a_third, a_count, a_naming, a_stand, a_ready, a_target, b_log, b_first, b_naming, b_target}
+use Rattle.lr_examples.specs.Logs.{a_log, a_first, a_second, a_third, a_count, a_naming, a_stand, a_from, a_ready, a_target, b_log, b_first, b_naming, b_target}
 use Rattle.lr_examples.specs.TwoLogs.{a_steps}
 
 -- ---- names and paths of members
@@ -92,7 +92,7 @@ b_family = record {
 by_paths : Path → Path → Path → List Entry
 by_paths first second third = Renames second third ∷ Renames first second ∷ Renames a_log first ∷ Unlinks third ∷ []
 
-pub a_rotation : rotation a_naming a_count a_log (places_of a_stand.members) ≡ a_steps
+pub a_rotation : rotation a_naming a_count a_log (places_of a_stand.members) a_from ≡ a_steps
 unfolding by_paths
 a_rotation =
     ap (λ (x : Path). by_paths x (path_at a_naming 1) (path_at a_naming 2)) first_path ∙ (ap (λ (x : Path). by_paths a_first x (path_at a_naming 2)) second_path ∙ ap (λ (x : Path). by_paths a_first a_second x) third_path)

@@ -20,6 +20,8 @@ use Rattle.lr_host.proofs.Lists.{in_from, in_to}
 use Rattle.lr_host.specs.Looks.{Sees, IsFile}
 use Rattle.lr_family.proofs.Unique.{joined_same}
 use Rattle.lr_chain.specs.Rotation.{places_of}
+use Rattle.lr_chain.specs.Standing.{AreGoing}
+use Rattle.lr_chain.proofs.Going.{going_are}
 use Rattle.lr_rotations.specs.Members.{IsNoMember, AreThere, HaveNext, NoMemberAttached}
 use Rattle.lr_rotations.specs.Rotated.{IsBeside, AreOutside, IsRotatedWhole, RotatesAmong}
 use Rattle.lr_rotations.specs.Weave.{Weave, none, own, other}
@@ -27,11 +29,11 @@ use Rattle.lr_rotations.proofs.Moments.{shown_in}
 use Rattle.lr_rotations.proofs.Others.{among_behind}
 use Rattle.lr_rotations.proofs.Paths.{path_other}
 use Rattle.lr_rotations.proofs.WholeRotated.{seen_members, rotated_whole}
-use Rattle.lr_examples.specs.Logs.{state, part, rules, a_log, a_first, a_second, a_third, a_count, a_naming, a_stand, a_listed, b_log, b_first, b_listed, file, directory, looks}
+use Rattle.lr_examples.specs.Logs.{state, part, rules, a_log, a_first, a_second, a_third, a_count, a_naming, a_stand, a_from, a_listed, b_log, b_first, b_listed, file, directory, looks}
 use Rattle.lr_examples.specs.OneLog.{paths, stood, begun, looked, renamed, over}
 use Rattle.lr_examples.specs.TwoLogs.{a_steps}
 use Rattle.lr_examples.proofs.Naming.{a_family, a_rotation}
-use Rattle.lr_examples.proofs.Seen.{a_seen, a_shown}
+use Rattle.lr_examples.proofs.Seen.{a_seen, a_falling, a_shown}
 
 differ : (x y : Path) → bytes_eq x y ≡ false → x ≡ y → ⊥
 differ x y e same = let t : bytes_eq x y ≡ true = (bytes_eq-Decides x y).1 same in cc
@@ -182,7 +184,11 @@ outside x (inr (inr (inr (inr never)))) = absurd never
 woven : Weave (IsBeside paths a_log) a_steps (filter is_disk_change moves)
 woven = own _ (other _ (inl (inr (inl refl))) (own _ (other _ (inl (inr (inr (inl refl)), inr (inr (inr (inl refl))))) (own _ (other _ (inl (inr (inl refl))) (own _ (other _ (inl (inr (inl refl), inl refl)) none)))))))
 
-pub rotates : (now : Moment) → RotatesAmong paths a_log a_naming a_count a_stand (reverse (left now))
+-- the second of the members goes: the count leaves no room at its new place
+a_going : AreGoing a_count (places_of a_stand.members) a_from
+a_going = going_are a_count None (pos 0) a_stand.members a_falling
+
+pub rotates : (now : Moment) → RotatesAmong paths a_log a_naming a_count a_from a_stand (reverse (left now))
 rotates now = record {
   front = entry.Look (codes "/s") (Some directory) ∷ entry.Starts state now rules ∷ looks;
   back = moves;
@@ -190,6 +196,7 @@ rotates now = record {
   still = refl;
   log_seen = among_behind (Sees a_log IsFile) (entry.Starts state now rules) (entry.Look (codes "/s") (Some directory) ∷ []) looks a_seen;
   seen = shown_in a_naming (places_of a_stand.members) looks (entry.Look (codes "/s") (Some directory) ∷ entry.Starts state now rules ∷ looks) (λ e h. inr (inr h)) a_shown;
+  going = a_going;
   changes = subst (λ steps. Weave (IsBeside paths a_log) steps (filter is_disk_change moves)) (sym a_rotation) woven;
 }
 
@@ -257,8 +264,8 @@ valid = record {
     one (suc (suc (suc (suc g)))) lt = absurd (omega arith)
 
 -- so the members that were seen stood, and the family is rotated
-pub rotated : (now : Moment) → AreThere a_naming (names (world begun)) (places_of a_stand.members) × IsRotatedWhole paths a_naming a_count a_log begun (over now)
+pub rotated : (now : Moment) → AreThere a_naming (names (world begun)) (places_of a_stand.members) × IsRotatedWhole paths a_naming a_count a_from a_log begun (over now)
 rotated now = (
-  seen_members paths a_log a_naming a_count a_stand begun (over now) (left now) (made now) valid a_family next (unattached now) outside (rotates now),
-  rotated_whole paths a_log a_naming a_count a_stand begun (over now) (left now) (made now) valid a_family next (unattached now) outside (rotates now),
+  seen_members paths a_log a_naming a_count a_from a_stand begun (over now) (left now) (made now) valid a_family next (unattached now) outside (rotates now),
+  rotated_whole paths a_log a_naming a_count a_from a_stand begun (over now) (left now) (made now) valid a_family next (unattached now) outside (rotates now),
 )

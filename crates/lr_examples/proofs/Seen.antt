@@ -1,5 +1,5 @@
 -- What the looks show of both logs.
-use Rattle.std.proofs.Common.{◌≡◌, ◌≢◌, inl, inr, ℕ, zero, suc, ◌+◌, refl, sym, ap, subst, arith, Some, None, List, [], ◌∷◌, get_or, Contains, codes}
+use Rattle.std.proofs.Common.{◌≡◌, ◌≢◌, inl, inr, ℕ, zero, suc, ◌+◌, refl, sym, ap, subst, arith, Some, None, List, [], ◌∷◌, get_or, Contains, codes, ℤ}
 use Rattle.std.specs.Prelude.{decimal}
 use Rattle.std.specs.List.Sorted.{IsStrictlyIncreasing}
 use Rattle.lr_rules.specs.declared.path.Path.{Path}
@@ -11,12 +11,14 @@ use Rattle.lr_host.proofs.Lists.{in_from, in_to}
 use Rattle.lr_host.specs.Looks.{Sees, IsFile}
 use Rattle.lr_host.specs.Quiet.{AreQuiet}
 use Rattle.lr_family.specs.Named.{member_name}
+use Rattle.lr_family.specs.declared.stand.Member.{Member}
 use Rattle.lr_family.specs.Spots.{path_at}
+use Rattle.lr_family.specs.Stands.{number_in}
 use Rattle.lr_family.proofs.Unique.{named_same}
 use Rattle.lr_chain.specs.Rotation.{places_of}
 use Rattle.lr_rotations.specs.Members.{HasName}
 use Rattle.lr_rotations.specs.Shown.{Shown}
-use Rattle.lr_rotations.specs.Target.{IsGiven, AreSeen}
+use Rattle.lr_rotations.specs.Target.{IsGiven, AreSights, AreSeen}
 use Rattle.lr_rotations.specs.Weave.{Among}
 use Rattle.lr_rotations.proofs.Given.{literal_gives}
 use Rattle.lr_examples.specs.Logs.{rule_of, rules, a_log, a_first, a_second, a_count, a_naming, a_stand, a_listed, a_target, b_log, b_count, b_naming, b_stand, b_listed, b_target, file, directory, looks}
@@ -36,7 +38,7 @@ a_seen = record {
   is = record { seen = Some file; is = refl; look = refl };
 }
 
-a_falling : IsStrictlyIncreasing (0 ∷ 1 ∷ [])
+pub a_falling : IsStrictlyIncreasing (0 ∷ 1 ∷ [])
 a_falling zero lt = omega arith
 a_falling (suc k) lt = absurd (omega arith)
 
@@ -45,12 +47,19 @@ a_named place (inl e) = subst (HasName a_naming) e (omega arith)
 a_named place (inr (inl e)) = subst (HasName a_naming) e (omega arith)
 a_named place (inr (inr none)) = absurd none
 
+-- both members were looked at
+first_look : IsIn (entry.Look (path_at a_naming 0) (Some file)) looks
+first_look = inr (inr (inr (inr (inl (ap (λ (x : Path). entry.Look x (Some file)) (sym first_path))))))
+
+second_look : IsIn (entry.Look (path_at a_naming 1) (Some file)) looks
+second_look = inr (inr (inr (inr (inr (inl (ap (λ (x : Path). entry.Look x (Some file)) (sym second_path)))))))
+
 abbrev IsSeenAt : ℕ → Type 0
 IsSeenAt place = (seen : Seen) × (seen.kind ≡ kind.File) × IsIn (entry.Look (path_at a_naming place) (Some seen)) looks
 
 a_file : (place : ℕ) → IsIn place a_places → IsSeenAt place
-a_file place (inl e) = subst IsSeenAt e (file, refl, inr (inr (inr (inr (inr (inl (ap (λ (x : Path). entry.Look x (Some file)) (sym second_path))))))))
-a_file place (inr (inl e)) = subst IsSeenAt e (file, refl, inr (inr (inr (inr (inl (ap (λ (x : Path). entry.Look x (Some file)) (sym first_path)))))))
+a_file place (inl e) = subst IsSeenAt e (file, refl, second_look)
+a_file place (inr (inl e)) = subst IsSeenAt e (file, refl, first_look)
 a_file place (inr (inr none)) = absurd none
 
 -- a member that is listed has one of the two places
@@ -70,6 +79,15 @@ a_shown = record {
   files = λ place c. a_file place (in_from place a_places c);
   others = λ place has out. inl (λ c. out (in_to place a_places (a_listed_at place has (in_from (member_name a_naming (1 + place)) a_listed c))));
 }
+
+-- a look saw what is known of the member
+abbrev IsSightOf : Member → Type 0
+IsSightOf m = IsIn (entry.Look (path_at a_naming (number_in m.place)) (Some m.seen)) looks
+
+a_sights : AreSights a_naming a_stand.members looks
+a_sights m (inl e) = subst IsSightOf e first_look
+a_sights m (inr (inl e)) = subst IsSightOf e second_look
+a_sights m (inr (inr none)) = absurd none
 
 a_given : IsGiven rules.sets looks a_log a_naming a_count None
 a_given = record { rule = rule_of 1 a_log a_count; word = a_log; among = (0, omega arith, refl); has = (0, omega arith, refl); given = record { before = []; part = []; after = looks; joined = refl; is = literal_gives rules.sets (rule_of 1 a_log a_count) a_log a_log [] refl refl }; naming_is = refl; count_is = refl; way_is = ((λ e. refl), (λ e. refl)) }
@@ -111,10 +129,11 @@ b_given = record { rule = rule_of 2 b_log b_count; word = b_log; among = (1, ome
 
 -- ---- both
 
-pub both_seen : AreSeen rules looks (a_target ∷ b_target ∷ [])
-both_seen = (
-  record { given = a_given; family = a_family; log_seen = a_seen; seen = a_shown; low = λ high. absurd (cc); ready = a_is_ready; job = λ job is. absurd (cc) },
-  (record { given = b_given; family = b_family; log_seen = b_seen; seen = b_shown; low = λ high. absurd (cc); ready = b_is_ready; job = λ job is. absurd (cc) }, tt),
+pub both_seen : (now : ℤ) → AreSeen rules now looks (a_target ∷ b_target ∷ [])
+unfolding a_given b_given
+both_seen now = (
+  record { given = a_given; family = a_family; log_seen = a_seen; seen = a_shown; sights = a_sights; from_is = refl; low = λ high. absurd (cc); ready = a_is_ready; job = λ job is. absurd (cc) },
+  (record { given = b_given; family = b_family; log_seen = b_seen; seen = b_shown; sights = λ m none. absurd none; from_is = refl; low = λ high. absurd (cc); ready = b_is_ready; job = λ job is. absurd (cc) }, tt),
 )
 
 pub looks_quiet : AreQuiet looks

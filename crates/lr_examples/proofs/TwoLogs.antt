@@ -11,14 +11,14 @@ use Rattle.lr_examples.proofs.Both.{FirstOfBoth, first_of_both, all_first, both_
 use Rattle.lr_examples.proofs.Seen.{both_seen, looks_quiet, logs_differ}
 
 -- a first part of the one log's steps, and then one of the other's
-turns : (us vs : List Entry) → IsFirstOf a_steps us → IsFirstOf b_steps vs → AllTurns state rules (looks ++ (us ++ (vs ++ Ends ∷ [])))
-turns us vs first second = both_turn state rules looks a_target b_target logs_differ looks_quiet both_seen us vs (Ends ∷ []) first second tt
+turns : (now : Moment) (us vs : List Entry) → IsFirstOf a_steps us → IsFirstOf b_steps vs → AllTurns state now rules (looks ++ (us ++ (vs ++ Ends ∷ [])))
+turns now us vs first second = both_turn state now rules looks a_target b_target logs_differ looks_quiet (both_seen now.seconds) us vs (Ends ∷ []) first second tt
 
-turned : (us vs made : List Entry) → made ≡ us ++ vs → IsFirstOf a_steps us → IsFirstOf b_steps vs → AllTurns state rules (looks ++ (made ++ Ends ∷ []))
-turned us vs made joined first second =
-    subst (λ ts. AllTurns state rules (looks ++ ts)) (sym (ap (λ ts. ts ++ Ends ∷ []) joined ∙ append_assoc us vs (Ends ∷ []))) (turns us vs first second)
+turned : (now : Moment) (us vs made : List Entry) → made ≡ us ++ vs → IsFirstOf a_steps us → IsFirstOf b_steps vs → AllTurns state now rules (looks ++ (made ++ Ends ∷ []))
+turned now us vs made joined first second =
+    subst (λ ts. AllTurns state now rules (looks ++ ts)) (sym (ap (λ ts. ts ++ Ends ∷ []) joined ∙ append_assoc us vs (Ends ∷ []))) (turns now us vs first second)
 
-run : (now : Moment) (made : List Entry) → AllTurns state rules (looks ++ (made ++ Ends ∷ [])) → IsWholeRun (two_logs_run now made)
+run : (now : Moment) (made : List Entry) → AllTurns state now rules (looks ++ (made ++ Ends ∷ [])) → IsWholeRun (two_logs_run now made)
 run now made t = record {
   front = Look (codes "/s") (Some directory) ∷ [];
   rest = Starts state now rules ∷ (looks ++ (made ++ Ends ∷ []));
@@ -28,16 +28,16 @@ run now made t = record {
 }
 
 pub any_part : (now : Moment) (made rest : List Entry) → steps ≡ made ++ rest → IsWholeRun (two_logs_run now made)
-any_part now made rest e = let r : FirstOfBoth a_steps b_steps made = first_of_both a_steps b_steps made rest e in run now made (turned r.front r.back made r.joined r.first r.second)
+any_part now made rest e = let r : FirstOfBoth a_steps b_steps made = first_of_both a_steps b_steps made rest e in run now made (turned now r.front r.back made r.joined r.first r.second)
 
 pub one_of_two : (now : Moment) (made rest : List Entry) → a_steps ≡ made ++ rest → IsWholeRun (two_logs_run now (made ++ b_steps))
-one_of_two now made rest e = run now (made ++ b_steps) (turned made b_steps (made ++ b_steps) refl (rest, e) (all_first b_steps))
+one_of_two now made rest e = run now (made ++ b_steps) (turned now made b_steps (made ++ b_steps) refl (rest, e) (all_first b_steps))
 
 pub failed : (now : Moment) → IsWholeRun (two_logs_run now (Renames a_second a_third ∷ b_steps))
 failed now = one_of_two now (Renames a_second a_third ∷ []) (Renames a_first a_second ∷ Renames a_log a_first ∷ Unlinks a_third ∷ []) refl
 
-pub alone : (t : AllTurned state rules (looks ++ (steps ++ Ends ∷ []))) × (t.turns.targets ≡ a_target ∷ b_target ∷ [])
-alone = both_turned state rules looks a_target b_target logs_differ looks_quiet both_seen a_steps b_steps (Ends ∷ []) refl refl tt
+pub alone : (now : Moment) → (t : AllTurned state now rules (looks ++ (steps ++ Ends ∷ []))) × (t.turns.targets ≡ a_target ∷ b_target ∷ [])
+alone now = both_turned state now rules looks a_target b_target logs_differ looks_quiet (both_seen now.seconds) a_steps b_steps (Ends ∷ []) refl refl tt
 
-pub saved : (t : AllTurned state rules (looks ++ (steps ++ (saves ++ Ends ∷ [])))) × (t.turns.targets ≡ a_target ∷ b_target ∷ [])
-saved = both_turned state rules looks a_target b_target logs_differ looks_quiet both_seen a_steps b_steps (saves ++ Ends ∷ []) refl refl (inr refl, (inr refl, ((inr refl, inl refl), tt)))
+pub saved : (now : Moment) → (t : AllTurned state now rules (looks ++ (steps ++ (saves ++ Ends ∷ [])))) × (t.turns.targets ≡ a_target ∷ b_target ∷ [])
+saved now = both_turned state now rules looks a_target b_target logs_differ looks_quiet (both_seen now.seconds) a_steps b_steps (saves ++ Ends ∷ []) refl refl (inr refl, (inr refl, ((inr refl, inl refl), tt)))

@@ -9,7 +9,7 @@ ghost use Rattle.lr_host.specs.Told.{Made};
 ghost use Rattle.lr_chain.specs.Rotation.{places_of};
 ghost use Rattle.lr_rotations.specs.Members.{IsFamily, AreThere, HaveNext, NoMemberAttached};
 ghost use Rattle.lr_rotations.specs.Rotated.{AreOutside, IsRotatedWhole, RotatesAmong};
-ghost use Rattle.lr_examples.specs.Logs.{state, part, a_log, a_first, a_second, a_third, a_naming, a_count, a_stand, b_log, b_first};
+ghost use Rattle.lr_examples.specs.Logs.{state, part, a_log, a_first, a_second, a_third, a_naming, a_count, a_stand, a_from, b_log, b_first};
 ghost use Rattle.lr_examples.specs.OneLog.{begun, over, paths};
 
 /// All that `family_is_rotated` asks for is so of a log with two members, between whose own renames stand the making of the
@@ -18,9 +18,9 @@ ghost use Rattle.lr_examples.specs.OneLog.{begun, over, paths};
 pub fn one_log_rotates()
     ensures asked { (now : Moment) → (es : List Entry) × Made begun es (over now) × IsJournal begun × IsFamily a_log a_naming
         × HaveNext a_naming a_count (places_of a_stand.members) × NoMemberAttached a_naming begun (over now)
-        × AreOutside paths a_log a_naming × RotatesAmong paths a_log a_naming a_count a_stand (reverse es) }
+        × AreOutside paths a_log a_naming × RotatesAmong paths a_log a_naming a_count a_from a_stand (reverse es) }
     ensures rotated { (now : Moment) → AreThere a_naming (names (world begun)) (places_of a_stand.members)
-        × IsRotatedWhole paths a_naming a_count a_log begun (over now) }
+        × IsRotatedWhole paths a_naming a_count a_from a_log begun (over now) }
     ensures named { (now : Moment) → let named = names (world (over now)) in
         (named a_first ≡ thing.File 0) × (named a_second ≡ thing.File 1) × (named a_third ≡ thing.Nothing)
         × (named a_log ≡ thing.File 5) × (named b_first ≡ thing.File 3) × (named b_log ≡ thing.Nothing)

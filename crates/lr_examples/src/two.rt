@@ -16,9 +16,9 @@ pub fn two_logs_turn()
 /// With all the steps made, both logs were rotated whole, each with the other's steps beside its own; so too where the state
 /// was written behind them.
 pub fn two_logs_are_rotated()
-    ensures alone { (t : AllTurned state rules (looks ++ (steps ++ Ends ∷ [])))
+    ensures alone { (now : Moment) → (t : AllTurned state now rules (looks ++ (steps ++ Ends ∷ [])))
         × (t.turns.targets ≡ a_target ∷ b_target ∷ []) }
-    ensures saved { (t : AllTurned state rules (looks ++ (steps ++ (saves ++ Ends ∷ []))))
+    ensures saved { (now : Moment) → (t : AllTurned state now rules (looks ++ (steps ++ (saves ++ Ends ∷ []))))
         × (t.turns.targets ≡ a_target ∷ b_target ∷ []) }
 {}
 

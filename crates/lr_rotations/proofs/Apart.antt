@@ -20,7 +20,7 @@ use Rattle.lr_family.specs.Spots.{path_at}
 use Rattle.lr_family.proofs.Numbers.{every_all, every_filter}
 use Rattle.lr_copy.specs.declared.job.Job.{Job}
 use Rattle.lr_copy.specs.Copying.{clearing}
-use Rattle.lr_chain.specs.Rotation.{places_of, is_left, leftovers, kept, one_too_many, leftover_steps, shift_steps, retire_steps}
+use Rattle.lr_chain.specs.Rotation.{places_of, is_left, leftovers, kept, retired, leftover_steps, shift_steps, retire_steps}
 use Rattle.lr_rotations.specs.AllTurns.{AlsoDoes, IsOf, part_paths, paths_of, paths_of_others, other_paths}
 use Rattle.lr_rotations.specs.Apart.{HasNames, HaveNames}
 use Rattle.lr_rotations.specs.Members.{IsFamily, HasName, IsNoMember}
@@ -96,7 +96,7 @@ own_paths t h = each_part P t
     (subst (Each P) (sym (shift_are t h.ready))
     (each_own t.log n (shift_steps n c ps) h.family (moves_of n (kept c ps) (every_filter (HasName n) (λ k. not (is_left c k)) ps (every_all (HasName n) ps h.named)) (kept_next n c ps h.next))))
     (transfer_own t h t.job refl)
-    (subst (Each P) (sym (retire_are t h.ready)) (each_own t.log n (retire_steps n c ps) h.family (unlinks_of n (one_too_many c ps) (retire_named n c ps h.next))))
+    (subst (Each P) (sym (retire_are t h.ready)) (each_own t.log n (retire_steps n c t.from) h.family (unlinks_of n (retired c t.from) (retire_named n c ps t.from h.next h.going))))
   where
     n : Naming
     n = t.naming

@@ -1,6 +1,7 @@
 -- The entries of a rotation, with changes on other paths between, rotate the family of the log.
-use Rattle.std.proofs.Common.{◌≡◌, ◌≢◌, ◌⊎◌, inl, inr, ⊎_elim, ℕ, zero, suc, ◌≤◌, not, cond, refl, sym, ◌∙◌, ap, subst, append_assoc, arith, List, [], ◌∷◌, ◌++◌, reverse}
+use Rattle.std.proofs.Common.{◌≡◌, ◌≢◌, ◌⊎◌, inl, inr, ⊎_elim, ℕ, zero, suc, ◌≤◌, ◌==◌, ◌||◌, not, cond, refl, sym, ◌∙◌, ap, subst, append_assoc, arith, List, [], ◌∷◌, ◌++◌, reverse}
 use Rattle.std.specs.Prelude.{filter}
+use Rattle.std.specs.List.{list_any}
 use Rattle.std.proofs.lemmas.List.{reverse-append, reverse-reverse}
 use Rattle.lr_rules.specs.declared.path.Path.{Path}
 use Rattle.lr_rules.specs.declared.rule.Count.{Count}
@@ -26,7 +27,8 @@ use Rattle.lr_laws.proofs.Disk.{leaves_now}
 use Rattle.lr_laws.proofs.Single.{single}
 use Rattle.lr_family.specs.Spots.{path_at}
 use Rattle.lr_family.proofs.Numbers.{Every, every_all, every_filter}
-use Rattle.lr_chain.specs.Rotation.{is_left, leftovers, kept, one_too_many, leftover_steps, shift_steps, retire_steps, rotation}
+use Rattle.lr_chain.specs.Rotation.{is_left, leftovers, kept, retired, leftover_steps, shift_steps, retire_steps, rotation}
+use Rattle.lr_chain.specs.Standing.{AreGoing}
 use Rattle.lr_chain.specs.Turning.{turned, IsTurned}
 use Rattle.lr_chain.proofs.Falling.{falls_all}
 use Rattle.lr_chain.proofs.Turned as chain
@@ -49,10 +51,10 @@ abbrev older : Naming → Count → List ℕ → List Entry
 older n c places = reverse (shift_steps n c places) ++ reverse (leftover_steps n c places)
 
 abbrev newer : Naming → Count → List ℕ → List Entry
-newer n c places = reverse (retire_steps n c places)
+newer n c from = reverse (retire_steps n c from)
 
-turned_round : (n : Naming) (c : Count) (log : Path) (places : List ℕ) → reverse (rotation n c log places) ≡ newer n c places ++ Renames log (path_at n 0) ∷ older n c places
-turned_round n c log places =
+turned_round : (n : Naming) (c : Count) (log : Path) (places from : List ℕ) → reverse (rotation n c log places from) ≡ newer n c from ++ Renames log (path_at n 0) ∷ older n c places
+turned_round n c log places from =
     reverse-append ls ((ss ++ r ∷ []) ++ ts)
     ∙ (ap (λ xs. xs ++ reverse ls) (reverse-append (ss ++ r ∷ []) ts ∙ ap (λ xs. reverse ts ++ xs) (reverse-append ss (r ∷ [])))
     ∙ append_assoc (reverse ts) (r ∷ reverse ss) (reverse ls))
@@ -67,7 +69,7 @@ turned_round n c log places =
     ss = shift_steps n c places
 
     ts : List Entry
-    ts = retire_steps n c places
+    ts = retire_steps n c from
 
 older_members : (n : Naming) (c : Count) (places : List ℕ) → Every (HasName n) places → HaveNext n c places → Each (IsOfMembers n) (older n c places)
 older_members n c places named next =
@@ -75,8 +77,8 @@ older_members n c places named next =
     (each_reverse (IsOfMembers n) (shift_steps n c places) (moves_of n (kept c places) (every_filter (HasName n) (λ k. not (is_left c k)) places named) (kept_next n c places next)))
     (each_reverse (IsOfMembers n) (leftover_steps n c places) (unlinks_of n (leftovers c places) (every_filter (HasName n) (is_left c) places named)))
 
-newer_members : (n : Naming) (c : Count) (places : List ℕ) → HaveNext n c places → Each (IsOfMembers n) (newer n c places)
-newer_members n c places next = each_reverse (IsOfMembers n) (retire_steps n c places) (unlinks_of n (one_too_many c places) (retire_named n c places next))
+newer_members : (n : Naming) (c : Count) (places from : List ℕ) → HaveNext n c places → AreGoing c places from → Each (IsOfMembers n) (newer n c from)
+newer_members n c places from next going = each_reverse (IsOfMembers n) (retire_steps n c from) (unlinks_of n (retired c from) (retire_named n c places from next going))
 
 -- a step of members is within the family, a rename or an unlink
 members_within : (log : Path) (n : Naming) (e : Entry) → IsOfMembers n e → IsWithin log n e
@@ -116,9 +118,9 @@ beside_on paths log _ (inl h) = absurd h
 beside_on paths log _ (inr h) = absurd h
 
 -- what a member names behind a rotation depends on members alone
-pub turned_as : (n : Naming) (c : Count) (t : Thing) (f g : ℕ → Thing) (k : ℕ) → HasName n k → ((j : ℕ) → HasName n j → f j ≡ g j) → turned c t f k ≡ turned c t g k
-turned_as n c t f g zero i same = refl
-turned_as n c t f g (suc k) i same = ap (λ v. cond (is_left c (suc k)) thing.Nothing v) (same k (lower i))
+pub turned_as : (n : Naming) (c : Count) (from : List ℕ) (t : Thing) (f g : ℕ → Thing) (k : ℕ) → HasName n k → ((j : ℕ) → HasName n j → f j ≡ g j) → turned c from t f k ≡ turned c from t g k
+turned_as n c from t f g zero i same = refl
+turned_as n c from t f g (suc k) i same = ap (λ v. cond (is_left c (suc k) || list_any (λ p. p == k) from) thing.Nothing v) (same k (lower i))
   where
     lower : HasName n (suc k) → HasName n k
     lower i = omega (arith, i)
@@ -128,8 +130,8 @@ stays_file p q x g h is = ⊎_elim (λ same. same ∙ is) (λ new. absurd (nothi
 
 -- ---- from a moment at which the members stand
 
-module _ (paths : List Path) (log : Path) (n : Naming) (c : Count) (places : List ℕ) (p q : Past) (es : List Entry) (family : IsFamily log n) (next : HaveNext n c places) (journal : IsJournal p) (stands : AreThere n (names (world p)) places)
-    (file : IsFileAt (names (world p)) log) (att : NoMemberAttached n p q) (out : AreOutside paths log n) (made : Made p es q) (woven : Weave (IsBeside paths log) (rotation n c log places) (filter is_disk_change (reverse es))) where
+module _ (paths : List Path) (log : Path) (n : Naming) (c : Count) (places from : List ℕ) (p q : Past) (es : List Entry) (family : IsFamily log n) (next : HaveNext n c places) (going : AreGoing c places from) (journal : IsJournal p) (stands : AreThere n (names (world p)) places)
+    (file : IsFileAt (names (world p)) log) (att : NoMemberAttached n p q) (out : AreOutside paths log n) (made : Made p es q) (woven : Weave (IsBeside paths log) (rotation n c log places from) (filter is_disk_change (reverse es))) where
   named : Every (HasName n) places
   named = every_all (HasName n) places stands.named
 
@@ -152,13 +154,13 @@ module _ (paths : List Path) (log : Path) (n : Naming) (c : Count) (places : Lis
   rename : Entry
   rename = Renames log (path_at n 0)
 
-  back_woven : Weave (IsBeside paths log) (newer n c places ++ Renames log (path_at n 0) ∷ older n c places) (filter is_disk_change es)
-  back_woven = subst (λ xs. Weave (IsBeside paths log) xs (filter is_disk_change es)) (turned_round n c log places)
-      (subst (Weave (IsBeside paths log) (reverse (rotation n c log places))) (ap reverse (filter_reverse is_disk_change es) ∙ reverse-reverse (filter is_disk_change es))
-      (weave_back (IsBeside paths log) (rotation n c log places) (filter is_disk_change (reverse es)) woven))
+  back_woven : Weave (IsBeside paths log) (newer n c from ++ Renames log (path_at n 0) ∷ older n c places) (filter is_disk_change es)
+  back_woven = subst (λ xs. Weave (IsBeside paths log) xs (filter is_disk_change es)) (turned_round n c log places from)
+      (subst (Weave (IsBeside paths log) (reverse (rotation n c log places from))) (ap reverse (filter_reverse is_disk_change es) ∙ reverse-reverse (filter is_disk_change es))
+      (weave_back (IsBeside paths log) (rotation n c log places from) (filter is_disk_change (reverse es)) woven))
 
-  at : SplitAt (IsBeside paths log) p q (older n c places) (Renames log (path_at n 0)) (newer n c places)
-  at = split (IsBeside paths log) p q es (older n c places) (Renames log (path_at n 0)) (newer n c places) made back_woven
+  at : SplitAt (IsBeside paths log) p q (older n c places) (Renames log (path_at n 0)) (newer n c from)
+  at = split (IsBeside paths log) p q es (older n c places) (Renames log (path_at n 0)) (newer n c from) made back_woven
 
   abbrev t : Past
   t = at.at
@@ -169,8 +171,8 @@ module _ (paths : List Path) (log : Path) (n : Naming) (c : Count) (places : Lis
   older_is : Each (IsOfMembers n) (older n c places)
   older_is = older_members n c places named next
 
-  newer_is : Each (IsOfMembers n) (newer n c places)
-  newer_is = newer_members n c places next
+  newer_is : Each (IsOfMembers n) (newer n c from)
+  newer_is = newer_members n c places from next going
 
   first : HasName n 0
   first = first_named n c places next
@@ -184,7 +186,7 @@ module _ (paths : List Path) (log : Path) (n : Naming) (c : Count) (places : Lis
   to_turn = spared_or_anew p t at.before log at.first (spare_by (older n c places) (filter is_disk_change at.before) at.old_woven older_is)
 
   from_turn : IsOrMade u q log
-  from_turn = spared_or_anew u q at.after log at.second (spare_by (newer n c places) (filter is_disk_change at.after) at.new_woven newer_is)
+  from_turn = spared_or_anew u q at.after log at.second (spare_by (newer n c from) (filter is_disk_change at.after) at.new_woven newer_is)
 
   was_log : names (world t) log ≡ thing.File file.0
   was_log = stays_file p t log file.0 to_turn file.1
@@ -220,33 +222,33 @@ module _ (paths : List Path) (log : Path) (n : Naming) (c : Count) (places : Lis
       both_put (path_at n 0) (path_at n k) (names (world t) log) (behind_old log) (put (names (world t)) log thing.Nothing) (put behind_old log thing.Nothing) log_alike
       (both_put log (path_at n k) thing.Nothing thing.Nothing (names (world t)) behind_old refl (old_alike k i))
 
-  all_alike : AreAlike n (names_after (names (world p)) (changes_of (reverse (rotation n c log places)))) (names (world q))
+  all_alike : AreAlike n (names_after (names (world p)) (changes_of (reverse (rotation n c log places from)))) (names (world q))
   all_alike = subst (λ (m : Names). AreAlike n m (names (world q))) parts
-      (members_walk n (log ∷ paths) (names_after (names (world p)) (changes_of (Renames log (path_at n 0) ∷ older n c places))) u q at.after (newer n c places) no_member_of at.second
+      (members_walk n (log ∷ paths) (names_after (names (world p)) (changes_of (Renames log (path_at n 0) ∷ older n c places))) u q at.after (newer n c from) no_member_of at.second
       (since_behind (IsNoMember n) p u q (Renames log (path_at n 0) ∷ at.before) at.after first_on at.second att) (on_all at.new_woven) newer_is renamed_alike)
     where
       first_on : Made p (Renames log (path_at n 0) ∷ at.before) u
       first_on = made_more p t (Renames log (path_at n 0)) at.before at.first tt at.fits
 
-      parts : names_after (names_after (names (world p)) (changes_of (Renames log (path_at n 0) ∷ older n c places))) (changes_of (newer n c places)) ≡ names_after (names (world p)) (changes_of (reverse (rotation n c log places)))
-      parts = sym (changes_split (names (world p)) (Renames log (path_at n 0) ∷ older n c places) (newer n c places)) ∙ ap (λ xs. names_after (names (world p)) (changes_of xs)) (sym (turned_round n c log places))
+      parts : names_after (names_after (names (world p)) (changes_of (Renames log (path_at n 0) ∷ older n c places))) (changes_of (newer n c from)) ≡ names_after (names (world p)) (changes_of (reverse (rotation n c log places from)))
+      parts = sym (changes_split (names (world p)) (Renames log (path_at n 0) ∷ older n c places) (newer n c from)) ∙ ap (λ xs. names_after (names (world p)) (changes_of xs)) (sym (turned_round n c log places from))
 
-  members_now : (k : ℕ) → HasName n k → names (world q) (path_at n k) ≡ turned c (thing.File file.0) (λ j. names (world p) (path_at n j)) k
-  members_now k i = all_alike k i ∙ (done.members k i ∙ ap (λ (t : Thing). turned c t (λ j. names (world p) (path_at n j)) k) file.1)
+  members_now : (k : ℕ) → HasName n k → names (world q) (path_at n k) ≡ turned c from (thing.File file.0) (λ j. names (world p) (path_at n j)) k
+  members_now k i = all_alike k i ∙ (done.members k i ∙ ap (λ (t : Thing). turned c from t (λ j. names (world p) (path_at n j)) k) file.1)
     where
-      done : IsTurned log n c (names (world p)) (names_after (names (world p)) (changes_of (reverse (rotation n c log places))))
-      done = chain.family_turned log n family.kin family.numbered (names (world p)) c places (top_named n c places next) (falls_all places stands.falling) named (next_named n c places next) (so_standing (names (world p)) log n places file stands)
+      done : IsTurned log n c from (names (world p)) (names_after (names (world p)) (changes_of (reverse (rotation n c log places from))))
+      done = chain.family_turned log n family.kin family.numbered (names (world p)) c places from (top_named n c places next) (falls_all places stands.falling) named (next_named n c places next) going (so_standing (names (world p)) log n places file stands)
 
   -- ---- all changes
 
   rename_within : IsWithin log n (Renames log (path_at n 0))
   rename_within = inr (0, first, refl)
 
-  steps_by : (P : Entry → Type 0) → ((e : Entry) → IsOfMembers n e → P e) → P (Renames log (path_at n 0)) → Each P (newer n c places ++ Renames log (path_at n 0) ∷ older n c places)
-  steps_by P f r = each_append P (newer n c places) (Renames log (path_at n 0) ∷ older n c places) (each_as (IsOfMembers n) P (newer n c places) f newer_is) (r, each_as (IsOfMembers n) P (older n c places) f older_is)
+  steps_by : (P : Entry → Type 0) → ((e : Entry) → IsOfMembers n e → P e) → P (Renames log (path_at n 0)) → Each P (newer n c from ++ Renames log (path_at n 0) ∷ older n c places)
+  steps_by P f r = each_append P (newer n c from) (Renames log (path_at n 0) ∷ older n c places) (each_as (IsOfMembers n) P (newer n c from) f newer_is) (r, each_as (IsOfMembers n) P (older n c places) f older_is)
 
   all_by : (P : Entry → Type 0) → ((e : Entry) → IsOfMembers n e → P e) → ((e : Entry) → MakesAt log e → P e) → P (Renames log (path_at n 0)) → Each (λ e. P e ⊎ IsOn paths e) (filter is_disk_change es)
-  all_by P f g r = weave_each (IsBeside paths log) (λ e. P e ⊎ IsOn paths e) (newer n c places ++ Renames log (path_at n 0) ∷ older n c places) (filter is_disk_change es) back_woven (steps_by (λ e. P e ⊎ IsOn paths e) (λ e h. inl (f e h)) (inl r)) (λ e h. ⊎_elim (λ on. inr on) (λ anew. inl (g e anew)) h)
+  all_by P f g r = weave_each (IsBeside paths log) (λ e. P e ⊎ IsOn paths e) (newer n c from ++ Renames log (path_at n 0) ∷ older n c places) (filter is_disk_change es) back_woven (steps_by (λ e. P e ⊎ IsOn paths e) (λ e h. inl (f e h)) (inl r)) (λ e h. ⊎_elim (λ on. inr on) (λ anew. inl (g e anew)) h)
 
   all_within : Each (λ e. IsWithin log n e ⊎ IsOn paths e) (filter is_disk_change es)
   all_within = all_by (IsWithin log n) (members_within log n) (anew_within log n) rename_within
@@ -255,7 +257,7 @@ module _ (paths : List Path) (log : Path) (n : Naming) (c : Count) (places : Lis
   all_turn = all_by IsTurnOrMake (members_turn n) (anew_turns log) tt
 
   all_spare : (x : Path) → x ≢ log → IsNoMember n x → (IsIn x paths → ⊥) → Each (Spares x) (filter is_disk_change es)
-  all_spare x l m o = weave_each (IsBeside paths log) (Spares x) (newer n c places ++ Renames log (path_at n 0) ∷ older n c places) (filter is_disk_change es) back_woven
+  all_spare x l m o = weave_each (IsBeside paths log) (Spares x) (newer n c from ++ Renames log (path_at n 0) ∷ older n c places) (filter is_disk_change es) back_woven
       (steps_by (Spares x) (λ e h. members_spare n x e m h) (l, m 0 first)) (λ e h. ⊎_elim (λ on. on_spares paths x e o on) (λ anew. anew_spares log x e l anew) h)
 
   others_now : (x : Path) → x ≢ log → IsNoMember n x → (IsIn x paths → ⊥) → IsOrMade p q x
@@ -276,7 +278,7 @@ module _ (paths : List Path) (log : Path) (n : Naming) (c : Count) (places : Lis
   until_turn = made_behind u q at.after at.second
 
   -- the family is rotated
-  pub rotated : IsRotated paths n c log p q
+  pub rotated : IsRotated paths n c from log p q
   rotated = record {
     turning = t;
     since = since_turn;

@@ -1,7 +1,6 @@
 -- What stands while a family is rotated, and that the steps fit one after another.
-use Rattle.std.proofs.Common.{◌≡◌, ◌≢◌, ◌⊎◌, inl, inr, ⊎_elim, ℕ, zero, suc, ◌+◌, ◌<◌, ◌≤◌, ◌==◌, Bool, true, false, not, cond, List, [], ◌∷◌, ◌++◌, map, reverse, refl, sym, ap, ◌∙◌, subst, append_assoc, arith, eqb-true, eq-eqb, nat_le, All}
+use Rattle.std.proofs.Common.{◌≡◌, ◌≢◌, ℕ, zero, suc, ◌+◌, ◌<◌, ◌≤◌, ◌==◌, Bool, true, false, not, cond, List, [], ◌∷◌, reverse, refl, sym, ap, ◌∙◌, subst, arith, eqb-true, eq-eqb}
 use Rattle.std.specs.Prelude.{Contains, filter}
-use Rattle.std.specs.List.{list_any}
 use Rattle.std.proofs.lemmas.Bool.Decides.{nat_tests}
 use Rattle.lr_rules.specs.declared.path.Path.{Path}
 use Rattle.lr_rules.specs.declared.rule.Count.{Count}
@@ -17,11 +16,13 @@ use Rattle.lr_host.specs.Steps.{changes_of, FitAll}
 use Rattle.lr_host.proofs.Names.{put_here, put_other}
 use Rattle.lr_family.specs.Spots.{path_at}
 use Rattle.lr_family.proofs.Numbers.{Every, every_as, every_from, every_all, every_filter, every_passes}
-use Rattle.lr_chain.specs.Standing.{StandSo}
-use Rattle.lr_chain.specs.Rotation.{is_left, leftovers, kept, one_too_many, rotation}
+use Rattle.lr_chain.specs.Standing.{StandSo, AreGoing}
+use Rattle.lr_chain.specs.Rotation.{is_left, leftovers, kept, retired, rotation}
 use Rattle.lr_chain.proofs.Bounds.{top_of}
 use Rattle.lr_chain.proofs.Falling.{falls_all}
 use Rattle.lr_chain.proofs.Fitting.{rotation_fits}
+use Rattle.lr_chain.proofs.Kept.{kept_stay, kept_as}
+use Rattle.lr_chain.proofs.Retired.{every_retired}
 use Rattle.lr_rotations.specs.Members.{IsFamily, HasName, AreThere, HaveNext}
 use Rattle.lr_rotations.proofs.Paths.{path_same, path_other}
 
@@ -126,18 +127,11 @@ module _ (log : Path) (n : Naming) (family : IsFamily log n) where
 
 -- ---- the places of a rotation
 
-pub not_true : (b : Bool) → not b ≡ true → b ≡ false
-not_true true h = absurd (cc)
-not_true false h = refl
-
 is_left_apart : (c : Count) (k l : ℕ) → is_left c k ≡ false → is_left c l ≡ true → k ≢ l
 is_left_apart c k l p q e = let same : is_left c k ≡ is_left c l = ap (is_left c) e in clash (is_left c k) (is_left c l) p q same
   where
     clash : (a b : Bool) → a ≡ false → b ≡ true → a ≡ b → ⊥
     clash a b p q e = cc
-
-pub kept_stay : (c : Count) (places : List ℕ) → Every (λ k. is_left c k ≡ false) (kept c places)
-kept_stay c places = every_as (λ k. not (is_left c k) ≡ true) (λ k. is_left c k ≡ false) (kept c places) (λ k h. not_true (is_left c k) h) (every_passes (λ k. not (is_left c k)) places)
 
 pub left_apart : (c : Count) (places : List ℕ) → Every (λ l. Every (λ k. k ≢ l) (kept c places)) (leftovers c places)
 left_apart c places =
@@ -148,27 +142,9 @@ left_apart c places =
 pub kept_below : (c k : ℕ) → is_left (count.Keep c) k ≡ false → k < c
 kept_below c k h = grind (arith, nat_tests)
 
--- each member that is moved comes to a place that has a name
-pub kept_next : (n : Naming) (c : Count) (places : List ℕ) → HaveNext n c places → Every (λ k. HasName n (k + 1)) (kept c places)
-kept_next n (count.Keep c) places h = every_as (λ k. is_left (count.Keep c) k ≡ false) (λ k. HasName n (k + 1)) (kept (count.Keep c) places) (λ k e. next k (kept_below c k e)) (kept_stay (count.Keep c) places)
-  where
-    next : (k : ℕ) → k < c → HasName n (k + 1)
-    next k lt = omega arith
-kept_next n count.Always places h = every_filter (λ k. HasName n (k + 1)) (λ k. not (is_left count.Always k)) places (every_all (λ k. HasName n (k + 1)) places h.1)
-
 pub first_named : (n : Naming) (c : Count) (places : List ℕ) → HaveNext n c places → HasName n 0
 first_named n (count.Keep c) places h = omega arith
 first_named n count.Always places h = h.0
-
--- so does the member that is one too many behind the moves
-pub retire_named : (n : Naming) (c : Count) (places : List ℕ) → HaveNext n c places → Every (HasName n) (one_too_many c places)
-retire_named n count.Always places h = tt
-retire_named n (count.Keep zero) places h = (h, tt)
-retire_named n (count.Keep (suc k)) places h = go (list_any (λ place. place == k) places)
-  where
-    go : (b : Bool) → Every (HasName n) (cond b (suc k ∷ []) [])
-    go true = (h, tt)
-    go false = tt
 
 -- a limit above all places
 abbrev pub above_all : ℕ
@@ -218,16 +194,23 @@ top_named n (count.Keep k) places h = h
 top_named n count.Always places h = let first : HasName n 0 = h.0 in omega (arith, first)
 
 -- so has the next place of each member that is moved
+pub next_at : (n : Naming) (c : Count) (places : List ℕ) → HaveNext n c places → (k : ℕ) → Contains places k → is_left c k ≡ false → HasName n (k + 1)
+next_at n (count.Keep m) places h k i stays = let lt : k < m = kept_below m k stays in omega (arith, lt, h)
+next_at n count.Always places h k i stays = subst (λ (j : ℕ). HasName n (j + 1)) i.2 (h.1 i.0 k i.1)
+
 pub next_named : (n : Naming) (c : Count) (places : List ℕ) → HaveNext n c places → Every (λ k. is_left c k ≡ false → HasName n (k + 1)) places
-next_named n c places h = every_from (λ k. is_left c k ≡ false → HasName n (k + 1)) places (λ k i stays. go c h k i stays)
-  where
-    go : (c : Count) → HaveNext n c places → (k : ℕ) → Contains places k → is_left c k ≡ false → HasName n (k + 1)
-    go (count.Keep m) h k i stays = let lt : k < m = kept_below m k stays in omega (arith, lt, h)
-    go count.Always h k i stays = subst (λ (j : ℕ). HasName n (j + 1)) i.2 (h.1 i.0 k i.1)
+next_named n c places h = every_from (λ k. is_left c k ≡ false → HasName n (k + 1)) places (next_at n c places h)
+
+pub kept_next : (n : Naming) (c : Count) (places : List ℕ) → HaveNext n c places → Every (λ k. HasName n (k + 1)) (kept c places)
+kept_next n c places h = kept_as (λ k. HasName n (k + 1)) c places (next_named n c places h)
+
+-- so has each place at which something goes behind the moves
+pub retire_named : (n : Naming) (c : Count) (places from : List ℕ) → HaveNext n c places → AreGoing c places from → Every (HasName n) (retired c from)
+retire_named n c places from h going = every_retired (HasName n) c from (every_from (λ k. HasName n (suc k)) from (λ k i. let next = next_at n c places h k (going.there k i) (going.moved k i) in omega (arith, next))) (λ e. first_named n c places h)
 
 pub so_standing : (m : Names) (log : Path) (n : Naming) (places : List ℕ) → IsFileAt m log → AreThere n m places → StandSo log n places m
 so_standing m log n places f t = record { falling = t.falling; log_file = f; dir = t.dir; members = t.files; others = t.others }
 
-pub fits : (m : Names) (log : Path) (n : Naming) (c : Count) (places : List ℕ) → IsFamily log n → IsFileAt m log → AreThere n m places → HaveNext n c places → FitAll m (reverse (rotation n c log places))
-fits m log n c places family f t next =
-    rotation_fits log n family.kin family.numbered family.dir m c places (top_named n c places next) (falls_all places t.falling) (every_all (HasName n) places t.named) (next_named n c places next) (so_standing m log n places f t)
+pub fits : (m : Names) (log : Path) (n : Naming) (c : Count) (places from : List ℕ) → IsFamily log n → IsFileAt m log → AreThere n m places → HaveNext n c places → AreGoing c places from → FitAll m (reverse (rotation n c log places from))
+fits m log n c places from family f t next going =
+    rotation_fits log n family.kin family.numbered family.dir m c places from (top_named n c places next) (falls_all places t.falling) (every_all (HasName n) places t.named) (next_named n c places next) going (so_standing m log n places f t)

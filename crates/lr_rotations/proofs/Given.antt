@@ -185,8 +185,9 @@ naming_same s v rules looks log n c job steady is g h same = sym (of_steady s v 
 pub no_copy : (s : LogSet) (v : Past) (rules : List Rule) (looks : List Entry) (log : Path) (n : Naming) (c : Count) (job : Option Job) → IsSteadyAt s v → rules_of v ≡ rules → (g : IsGiven rules looks log n c job) → RuleGives g.rule log → s.log ≡ log → job ≡ None
 no_copy s v rules looks log n c job steady is g h same = g.way_is.0 (of_steady s v rules looks log n c job steady is g h same).0
 
-pub counts : (v : Past) (rules : List Rule) (looks : List Entry) (log : Path) (n : Naming) (c : Count) (job : Option Job) → rules_of v ≡ rules → (g : IsGiven rules looks log n c job) → RuleGives g.rule log → SomeRule (rules_of v) log (λ r. r.count ≡ c)
-counts v rules looks log n c job is g h = subst (λ (rs : List Rule). SomeRule rs log (λ r. r.count ≡ c)) (sym is) (g.among.0, g.rule, g.among.1, g.among.2, (h, g.count_is))
+-- what the rule says of the log, some rule of the run does
+pub by_rule : (P : Rule → Type 0) (v : Past) (rules : List Rule) (looks : List Entry) (log : Path) (n : Naming) (c : Count) (job : Option Job) → rules_of v ≡ rules → (g : IsGiven rules looks log n c job) → RuleGives g.rule log → P g.rule → SomeRule (rules_of v) log P
+by_rule P v rules looks log n c job is g h so = subst (λ (rs : List Rule). SomeRule rs log P) (sym is) (g.among.0, g.rule, g.among.1, g.among.2, (h, so))
 
 -- ---- the numbers of places
 

@@ -52,7 +52,7 @@ same_walk s y k key p _ _ (by_tool {es = es} {q = q} {e = e} m i f) a none = go 
     go further true h a = apart_names s q e y i h a.0 (keyed s y k key) ∙ further a.1
     go further false h a = looked_names q e y i (no_disk_change e h) ∙ further a
 
-pub others_left : (s : LogSet) (u q : Past) (state : Path) (now : Moment) (rules : Rules) (tail : List Entry) (t : AllTurns state rules tail) → Made (u ▸ entry.Starts state now rules) (reverse tail) q
+pub others_left : (s : LogSet) (u q : Past) (state : Path) (now : Moment) (rules : Rules) (tail : List Entry) (t : AllTurns state now rules tail) → Made (u ▸ entry.Starts state now rules) (reverse tail) q
     → IsJournal (u ▸ entry.Starts state now rules) → IsSafe s (u ▸ entry.Starts state now rules) → IsSteady s q → ((x : Target) → IsOneOf x t.targets → x.log ≢ s.log) → (y : Path) (k : ℤ) → s.key y ≡ Some k → names (world q) y ≡ names (world u) y
 others_left s u q state now rules tail t m journal safe st ne y k key = same_walk s y k key (u ▸ entry.Starts state now rules) q (reverse tail) m apart (none_attached s q st)
   where

@@ -1,3 +1,4 @@
+pub mod Aged
 pub mod Alike
 pub mod Alone
 pub mod Apart

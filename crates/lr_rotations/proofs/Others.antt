@@ -1,5 +1,5 @@
 -- What stands between a log's own steps is on the paths of other logs and of the state.
-use Rattle.std.proofs.Common.{◌≡◌, ◌⊎◌, inl, inr, Bool, true, false, cond, bytes_eq, refl, sym, ◌∙◌, ap, subst, Option, Some, None, List, [], ◌∷◌, ◌++◌, append_assoc}
+use Rattle.std.proofs.Common.{◌≡◌, ◌⊎◌, inl, inr, Bool, true, false, cond, bytes_eq, refl, sym, ◌∙◌, ap, subst, Option, Some, None, List, [], ◌∷◌, ◌++◌, append_assoc, ℤ}
 use Rattle.std.specs.Prelude.{filter}
 use Rattle.std.specs.List.{flat_map}
 use Rattle.std.proofs.lemmas.Slice.Eq.{bytes_eq-Decides}
@@ -27,6 +27,7 @@ use Rattle.lr_rotations.specs.Weave.{Among, Weave}
 use Rattle.lr_rotations.proofs.Fed.{IsTurn}
 use Rattle.lr_rotations.proofs.Moments.{shown_in}
 use Rattle.lr_rotations.proofs.Rotating.{rotation_is, each_turn}
+use Rattle.lr_rotations.proofs.SeenFits.{seen_names}
 use Rattle.lr_rotations.proofs.Splitting.{weave_each}
 use Rattle.lr_rotations.proofs.Weaving.{weave_as, each_in}
 
@@ -170,13 +171,13 @@ among_behind P e xs ys a = record {
   is = a.is;
 }
 
-seen_one : (rules : Rules) (looks : List Entry) (ts : List Target) → AreSeen rules looks ts → (t : Target) → IsOneOf t ts → IsSeen rules looks t
-seen_one rules looks [] seen t i = absurd i
-seen_one rules looks (x ∷ xs) seen t (inl is) = subst (IsSeen rules looks) is seen.0
-seen_one rules looks (x ∷ xs) seen t (inr i) = seen_one rules looks xs seen.1 t i
+pub seen_one : (rules : Rules) (now : ℤ) (looks : List Entry) (ts : List Target) → AreSeen rules now looks ts → (t : Target) → IsOneOf t ts → IsSeen rules now looks t
+seen_one rules now looks [] seen t i = absurd i
+seen_one rules now looks (x ∷ xs) seen t (inl is) = subst (IsSeen rules now looks) is seen.0
+seen_one rules now looks (x ∷ xs) seen t (inr i) = seen_one rules now looks xs seen.1 t i
 
-pub run_rotates : (state : Path) (now : Moment) (rules : Rules) (reads tail : List Entry) (t : AllTurned state rules tail) (x : Target) → AreQuiet reads → IsOneOf x t.turns.targets → x.job ≡ None
-    → RotatesAmong (other_paths state x.log t.turns.targets) x.log x.naming x.count x.stand (reads ++ entry.Starts state now rules ∷ tail)
+pub run_rotates : (state : Path) (now : Moment) (rules : Rules) (reads tail : List Entry) (t : AllTurned state now rules tail) (x : Target) → AreQuiet reads → IsOneOf x t.turns.targets → x.job ≡ None
+    → RotatesAmong (other_paths state x.log t.turns.targets) x.log x.naming x.count x.from x.stand (reads ++ entry.Starts state now rules ∷ tail)
 run_rotates state now rules reads tail t x read i none = record {
   front = reads ++ starts ∷ t.turns.looks;
   back = t.turns.acts;
@@ -184,6 +185,7 @@ run_rotates state now rules reads tail t x read i none = record {
   still = still_both reads (starts ∷ t.turns.looks) (quiet_still reads read) (quiet_still t.turns.looks t.turns.quiet);
   log_seen = among_behind (Sees x.log IsFile) starts reads t.turns.looks seen.log_seen;
   seen = shown_in x.naming (places_of x.stand.members) t.turns.looks (reads ++ starts ∷ t.turns.looks) (λ e h. in_back e reads (starts ∷ t.turns.looks) (inr h)) seen.seen;
+  going = (seen_names rules now.seconds t.turns.looks x seen).going;
   changes = subst (λ (steps : List Entry). Weave (IsBeside paths x.log) steps (filter is_disk_change t.turns.acts)) (rotation_is x seen.ready none) (subst (Weave (IsBeside paths x.log) (rotation_of x)) (disk_changes paths x t.turns.acts on) on);
 }
   where
@@ -193,8 +195,8 @@ run_rotates state now rules reads tail t x read i none = record {
     paths : List Path
     paths = other_paths state x.log t.turns.targets
 
-    seen : IsSeen rules t.turns.looks x
-    seen = seen_one rules t.turns.looks t.turns.targets t.turns.seen x i
+    seen : IsSeen rules now.seconds t.turns.looks x
+    seen = seen_one rules now.seconds t.turns.looks t.turns.targets t.turns.seen x i
 
     on : Weave (IsBeside paths x.log) (rotation_of x) (filter is_change t.turns.acts)
     on = weave_as (StandsBetween state x t.turns.targets) (IsBeside paths x.log) (rotation_of x) (filter is_change t.turns.acts) (λ e h. between_beside state x t.turns.targets e none h) (t.whole x i)

@@ -1,10 +1,8 @@
 -- The steps of a rotation lie aside of each set that the log's doesn't meet.
-use Rattle.std.proofs.Common.{◌≡◌, inl, ℕ, zero, suc, ◌+◌, ◌==◌, Bool, true, false, not, cond, List, [], ◌∷◌, ◌++◌, map, refl, sym, subst, arith, None}
+use Rattle.std.proofs.Common.{◌≡◌, inl, ℕ, ◌+◌, false, not, List, [], ◌∷◌, ◌++◌, map, refl, sym, subst, arith, None}
 use Rattle.std.specs.Prelude.{decimal}
-use Rattle.std.specs.List.{list_any}
 use Rattle.lr_rules.specs.declared.path.Path.{Path}
 use Rattle.lr_rules.specs.declared.rule.Count.{Count}
-use Rattle.lr_rules.specs.declared.rule.Count.TheVariants as count
 use Rattle.lr_rules.specs.declared.rule.Naming.{Naming}
 use Rattle.lr_rules.specs.Names.{IsMiddleShape, IsMemberShape, IsOwnName, the_log, a_member, Meet}
 use Rattle.lr_rules.proofs.Digits.{decimal_run}
@@ -17,9 +15,10 @@ use Rattle.lr_laws.proofs.Outside.{apart_outside}
 use Rattle.lr_family.specs.Named.{member_name}
 use Rattle.lr_family.specs.Spots.{path_at}
 use Rattle.lr_family.proofs.Numbers.{Every, every_filter}
-use Rattle.lr_chain.specs.Rotation.{is_left, leftovers, kept, one_too_many, unlink_at, move_at, rotation}
+use Rattle.lr_chain.specs.Rotation.{is_left, leftovers, kept, retired, unlink_at, move_at, leftover_steps, shift_steps, turn_steps, retire_steps, rotation}
+use Rattle.lr_chain.specs.Standing.{AreGoing}
 use Rattle.lr_rotations.specs.Members.{HasName, HaveNext}
-use Rattle.lr_rotations.proofs.Fitting.{kept_next, first_named}
+use Rattle.lr_rotations.proofs.Fitting.{kept_next, first_named, retire_named}
 
 -- the name of a place has a member's shape
 pub place_shape : (n : Naming) (place : ℕ) → n.dated ≡ None → HasName n place → IsMemberShape n (member_name n (n.start + place))
@@ -50,21 +49,12 @@ module _ (s : LogSet) (log : Path) (n : Naming) (numbered : n.dated ≡ None) (a
   moves_aside [] i next = tt
   moves_aside (k ∷ ks) i next = ((place_out k i.0, place_out (k + 1) next.0), moves_aside ks i.1 next.1)
 
-  last_aside : (c : Count) (places : List ℕ) → HaveNext n c places → Each (IsAside s) (map (unlink_at n) (one_too_many c places))
-  last_aside count.Always places next = tt
-  last_aside (count.Keep zero) places next = (place_out 0 next, tt)
-  last_aside (count.Keep (suc k)) places next = go (list_any (λ place. place == k) places)
-    where
-      go : (b : Bool) → Each (IsAside s) (map (unlink_at n) (cond b (suc k ∷ []) []))
-      go true = (place_out (suc k) next, tt)
-      go false = tt
-
-  pub lies_aside : (c : Count) (places : List ℕ) → Every (HasName n) places → HaveNext n c places → Each (IsAside s) (rotation n c log places)
-  lies_aside c places named next =
-      each_append (IsAside s) (map (unlink_at n) (leftovers c places)) ((map (move_at n) (kept c places) ++ entry.Renames log (path_at n 0) ∷ []) ++ map (unlink_at n) (one_too_many c places))
+  pub lies_aside : (c : Count) (places from : List ℕ) → Every (HasName n) places → HaveNext n c places → AreGoing c places from → Each (IsAside s) (rotation n c log places from)
+  lies_aside c places from named next going =
+      each_append (IsAside s) (leftover_steps n c places) (turn_steps n c log places ++ retire_steps n c from)
       (unlinks_aside (leftovers c places) (every_filter (HasName n) (is_left c) places named))
-      (each_append (IsAside s) (map (move_at n) (kept c places) ++ entry.Renames log (path_at n 0) ∷ []) (map (unlink_at n) (one_too_many c places))
-      (each_append (IsAside s) (map (move_at n) (kept c places)) (entry.Renames log (path_at n 0) ∷ [])
+      (each_append (IsAside s) (turn_steps n c log places) (retire_steps n c from)
+      (each_append (IsAside s) (shift_steps n c places) (entry.Renames log (path_at n 0) ∷ [])
       (moves_aside (kept c places) (every_filter (HasName n) (λ k. not (is_left c k)) places named) (kept_next n c places next))
       ((log_out, place_out 0 (first_named n c places next)), tt))
-      (last_aside c places next))
+      (unlinks_aside (retired c from) (retire_named n c places from next going)))

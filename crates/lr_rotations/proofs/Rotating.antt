@@ -3,14 +3,14 @@ use Rattle.std.proofs.Common.{◌≡◌, ℕ, Bool, true, false, cond, refl, sym
 use Rattle.lr_rules.specs.declared.path.Path.{Path}
 use Rattle.lr_rules.specs.declared.rule.Naming.{Naming}
 use Rattle.lr_host.specs.declared.entry.Entry.{Entry}
-use Rattle.lr_host.specs.declared.entry.Entry.TheVariants.{Renames, Unlinks}
+use Rattle.lr_host.specs.declared.entry.Entry.TheVariants.{Reads, Renames, Unlinks}
 use Rattle.lr_host.specs.Told.{Each}
 use Rattle.lr_host.proofs.Each.{each_append, each_map}
 use Rattle.lr_family.specs.Spots.{path_at}
 use Rattle.lr_copy.specs.declared.job.Job.{Job}
 use Rattle.lr_copy.specs.Copying.{clearing}
 use Rattle.lr_chain.specs.Ready.{removal_at, move_from, move_step}
-use Rattle.lr_chain.specs.Rotation.{places_of, leftovers, kept, one_too_many, unlink_at, move_at, leftover_steps, shift_steps, retire_steps, rotation}
+use Rattle.lr_chain.specs.Rotation.{places_of, leftovers, kept, retired, unlink_at, move_at, leftover_steps, shift_steps, retire_steps, rotation}
 use Rattle.lr_rotations.specs.Calls.{transfer_calls, calls_of}
 use Rattle.lr_rotations.specs.Target.{Target, unlinks, transfer_of, rotation_of, HasReady}
 
@@ -30,33 +30,29 @@ left_are t r = ap unlinks r.leftovers_are ∙ unlinks_are t.naming (leftovers t.
 pub shift_are : (t : Target) → HasReady t → map move_step t.ready.moves ≡ shift_steps t.naming t.count (places_of t.stand.members)
 shift_are t r = ap (map move_step) r.moves_are ∙ moves_are t.naming (kept t.count (places_of t.stand.members))
 
-pub retire_are : (t : Target) → HasReady t → unlinks t.ready.retire ≡ retire_steps t.naming t.count (places_of t.stand.members)
-retire_are t r = ap unlinks r.retire_is ∙ unlinks_are t.naming (one_too_many t.count (places_of t.stand.members))
+pub retire_are : (t : Target) → HasReady t → unlinks t.ready.retire ≡ retire_steps t.naming t.count t.from
+retire_are t r = ap unlinks r.retire_is ∙ unlinks_are t.naming (retired t.count t.from)
 
 pub two : {xs ys xs' ys' : List Entry} → xs ≡ xs' → ys ≡ ys' → xs ++ ys ≡ xs' ++ ys'
 two {ys = ys} {xs' = xs'} a b = ap (λ x. x ++ ys) a ∙ ap (λ y. xs' ++ y) b
 
 -- with the log's own way left open
 pub calls_by_parts : (t : Target) → HasReady t → (j : Option Job) → t.job ≡ j
-    → calls_of t ≡ leftover_steps t.naming t.count (places_of t.stand.members) ++ (shift_steps t.naming t.count (places_of t.stand.members) ++ (transfer_calls t.ready j ++ retire_steps t.naming t.count (places_of t.stand.members)))
-calls_by_parts t r j is = two (left_are t r) (two (shift_are t r) (two (ap (transfer_calls t.ready) is) (retire_are t r)))
+    → calls_of t ≡ leftover_steps t.naming t.count (places_of t.stand.members)
+    ++ (shift_steps t.naming t.count (places_of t.stand.members) ++ (transfer_calls t.ready j ++ Reads (path_at t.naming 0) 0 [] ∷ retire_steps t.naming t.count t.from))
+calls_by_parts t r j is = two (left_are t r) (two (shift_are t r) (two (ap (transfer_calls t.ready) is) (two (ap (λ (x : Path). Reads x 0 [] ∷ []) r.target_is) (retire_are t r))))
 
 -- ---- by rename
 
-renamed : (t : Target) → HasReady t → transfer_of t.ready None ≡ Renames t.log (path_at t.naming 0) ∷ []
+pub renamed : (t : Target) → HasReady t → transfer_of t.ready None ≡ Renames t.log (path_at t.naming 0) ∷ []
 renamed t r = ap (λ (x : Path). Renames x t.ready.target ∷ []) r.log_is ∙ ap (λ (x : Path). Renames t.log x ∷ []) r.target_is
 
-joined_on : (t : Target) → shift_steps t.naming t.count (places_of t.stand.members) ++ (Renames t.log (path_at t.naming 0) ∷ [] ++ retire_steps t.naming t.count (places_of t.stand.members))
-    ≡ (shift_steps t.naming t.count (places_of t.stand.members) ++ Renames t.log (path_at t.naming 0) ∷ []) ++ retire_steps t.naming t.count (places_of t.stand.members)
-joined_on t = sym (append_assoc (shift_steps t.naming t.count (places_of t.stand.members)) (Renames t.log (path_at t.naming 0) ∷ []) (retire_steps t.naming t.count (places_of t.stand.members)))
-
 -- a log that isn't copied has the rotation of its places
-pub rotation_is : (t : Target) → HasReady t → t.job ≡ None → rotation_of t ≡ rotation t.naming t.count t.log (places_of t.stand.members)
-rotation_is t r none = two (left_are t r) (two (shift_are t r) (two (ap (transfer_of t.ready) none ∙ renamed t r) (retire_are t r)) ∙ joined_on t)
-
--- and its calls are just those
-pub calls_are : (t : Target) → HasReady t → t.job ≡ None → calls_of t ≡ rotation t.naming t.count t.log (places_of t.stand.members)
-calls_are t r none = two (left_are t r) (two (shift_are t r) (two (ap (transfer_calls t.ready) none ∙ renamed t r) (retire_are t r)) ∙ joined_on t)
+pub rotation_is : (t : Target) → HasReady t → t.job ≡ None → rotation_of t ≡ rotation t.naming t.count t.log (places_of t.stand.members) t.from
+rotation_is t r none =
+    two (left_are t r)
+    (two (shift_are t r) (two (ap (transfer_of t.ready) none ∙ renamed t r) (retire_are t r))
+    ∙ sym (append_assoc (shift_steps t.naming t.count (places_of t.stand.members)) (Renames t.log (path_at t.naming 0) ∷ []) (retire_steps t.naming t.count t.from)))
 
 -- ---- what holds of each
 

@@ -1,11 +1,12 @@
 -- Each set stays safe over a run that rotates its logs behind all its looks.
-use Rattle.std.proofs.Common.{◌≡◌, ◌≢◌, ◌⊎◌, inl, inr, ⊎_elim, ℕ, Bool, true, false, bytes_eq, refl, sym, ◌∙◌, ap, subst, Option, Some, None, List, [], ◌∷◌, ◌++◌, reverse, append-nil}
-use Rattle.std.specs.Prelude.{filter}
+use Rattle.std.proofs.Common.{◌≡◌, ◌≢◌, ◌⊎◌, inl, inr, ⊎_elim, ℕ, Bool, true, false, bytes_eq, refl, sym, ◌∙◌, ap, subst, Option, Some, None, List, [], ◌∷◌, ◌++◌, reverse, append-nil, ℤ}
+use Rattle.std.specs.Prelude.{filter, Contains}
 use Rattle.std.proofs.lemmas.List.{reverse-append, reverse-reverse}
 use Rattle.std.proofs.lemmas.Slice.Eq.{bytes_eq-Decides}
 use Rattle.lr_rules.specs.declared.path.Path.{Path}
 use Rattle.lr_rules.specs.declared.civil.Moment.{Moment}
 use Rattle.lr_rules.specs.declared.rule.Naming.{Naming}
+use Rattle.lr_rules.specs.declared.rule.Rule.{Rule}
 use Rattle.lr_rules.specs.declared.rules.Rules.{Rules}
 use Rattle.lr_rules.specs.Match.{RuleGives}
 use Rattle.lr_rules.specs.Names.{IsName, Meet}
@@ -17,6 +18,7 @@ use Rattle.lr_host.specs.Fits.{IsFileAt}
 use Rattle.lr_host.specs.Told.{Each, IsWriters, Made, at_first, by_writer, by_tool, Left, not_told, is_told}
 use Rattle.lr_host.specs.Steps.{is_change, FitAll}
 use Rattle.lr_host.specs.Opening.{IsJournal}
+use Rattle.lr_host.specs.Released.{ByAge}
 use Rattle.lr_host.specs.Quiet.{IsQuiet, AreQuiet}
 use Rattle.lr_host.specs.Sets.{LogSet, in_set}
 use Rattle.lr_host.specs.Runs.{rules_of, state_of, SomeRule, StoodAtStart, has_begun}
@@ -36,16 +38,17 @@ use Rattle.lr_laws.proofs.Walk.{walk, log_filter}
 use Rattle.lr_chain.specs.Rotation.{places_of, rotation}
 use Rattle.lr_rotations.specs.AllTurns.{IsStatePath, IsOfState, IsOf, IsOfSome, IsOfOther, StandsBetween, AllTurns, MayTurnAll, not_yet, started, IsWholeRun}
 use Rattle.lr_rotations.specs.Apart.{HasNames}
-use Rattle.lr_rotations.specs.Members.{IsFamily, AreThere, HaveNext}
+use Rattle.lr_rotations.specs.Members.{IsFamily, HasName, AreThere, HaveNext, MayGo}
 use Rattle.lr_rotations.specs.Rotated.{MakesAt}
 use Rattle.lr_rotations.specs.Shown.{Shown}
-use Rattle.lr_rotations.specs.Target.{Target, rotation_of, IsSeen, AreSeen, IsOneOf}
+use Rattle.lr_rotations.specs.Target.{Target, rotation_of, AreSights, IsSeen, AreSeen, IsOneOf}
 use Rattle.lr_rotations.specs.Weave.{Among, FirstWoven}
+use Rattle.lr_rotations.proofs.Aged.{looked_run, may_go}
 use Rattle.lr_rotations.proofs.Apart.{AllOwn, own_change}
 use Rattle.lr_rotations.proofs.Fitting.{fits}
-use Rattle.lr_rotations.proofs.Given.{gives, no_meet, naming_same, no_copy, counts}
+use Rattle.lr_rotations.proofs.Given.{gives, no_meet, naming_same, no_copy, by_rule}
 use Rattle.lr_rotations.proofs.Moments.{saw_file, shown_members}
-use Rattle.lr_rotations.proofs.Others.{IsFileChange, own_turns, also_made}
+use Rattle.lr_rotations.proofs.Others.{IsFileChange, own_turns, also_made, seen_one}
 use Rattle.lr_rotations.proofs.Over.{first_aside}
 use Rattle.lr_rotations.proofs.Rotating.{rotation_is}
 use Rattle.lr_rotations.proofs.SeenFits.{seen_names}
@@ -70,11 +73,12 @@ state_same p _ _ (by_tool {es = es} {q = q} {e = e} m i f) a = quiet_state q e a
 
 -- ---- a moment of a run behind its looks
 
-record Here (s : LogSet) (state : Path) (rules : Rules) (v : Past) : Type 0 where
+record Here (s : LogSet) (state : Path) (now : ℤ) (rules : Rules) (v : Past) : Type 0 where
   journal : IsJournal v
   safe : IsSafe s v
   steady : IsSteadyAt s v
   rules_are : rules_of v ≡ rules.sets
+  now_is : (world v).now ≡ now
   state_is : state_of v ≡ Some state
   not_begun : has_begun s v ≡ false
 
@@ -85,7 +89,7 @@ true_or_not false = inr refl
 no_name_out : (s : LogSet) (x : Path) → (IsName s.log s.naming x → ⊥) → in_set s x ≡ false
 no_name_out s x none = ⊎_elim (λ t. absurd (none (inl (in_set_own s x t)))) (λ f. f) (true_or_not (in_set s x))
 
-module _ (s : LogSet) (state : Path) (rules : Rules) (v : Past) (here : Here s state rules v) where
+module _ (s : LogSet) (state : Path) (now : ℤ) (rules : Rules) (v : Past) (here : Here s state now rules v) where
   state_out : (x : Path) → IsStatePath state x → in_set s x ≡ false
   state_out x (inl is) = no_name_out s x (λ n. here.steady.state state here.state_is (subst (IsName s.log s.naming) is n))
   state_out x (inr is) = no_name_out s x (λ n. here.steady.new_state state here.state_is (subst (IsName s.log s.naming) is n))
@@ -113,18 +117,18 @@ record Known (t : Target) (v : Past) : Type 0 where
   file : IsFileAt (names (world v)) t.log
   names_all : HasNames t
 
-module _ (s : LogSet) (state : Path) (rules : Rules) (u v : Past) (looks : List Entry) (quiet : AreQuiet looks) (m : Made u (reverse looks) v) (begun : (x : Path) → StoodAtStart x u → IsFileAt (names (world u)) x) (here : Here s state rules v) (none_at : NoneAttached s v) where
+module _ (s : LogSet) (state : Path) (now : ℤ) (rules : Rules) (u v : Past) (looks : List Entry) (quiet : AreQuiet looks) (m : Made u (reverse looks) v) (begun : (x : Path) → StoodAtStart x u → IsFileAt (names (world u)) x) (here : Here s state now rules v) (none_at : NoneAttached s v) where
   in_order : reverse (reverse looks) ≡ looks
   in_order = reverse-reverse looks
 
   quiet_in_order : AreQuiet (reverse (reverse looks))
   quiet_in_order = subst AreQuiet (sym in_order) quiet
 
-  known : (t : Target) → IsSeen rules looks t → Known t v
-  known t seen = record { file = saw_file u v (reverse looks) t.log m quiet_in_order (subst (Among (Sees t.log IsFile)) (sym in_order) seen.log_seen); names_all = seen_names rules looks t seen }
+  known : (t : Target) → IsSeen rules now looks t → Known t v
+  known t seen = record { file = saw_file u v (reverse looks) t.log m quiet_in_order (subst (Among (Sees t.log IsFile)) (sym in_order) seen.log_seen); names_all = seen_names rules now looks t seen }
 
   -- all that is done to another log is apart
-  other_apart : (t : Target) → IsSeen rules looks t → t.log ≢ s.log → (e : Entry) → IsOf t e → IsApart s e
+  other_apart : (t : Target) → IsSeen rules now looks t → t.log ≢ s.log → (e : Entry) → IsOf t e → IsApart s e
   other_apart t seen other e h = own_apart s t e meets_not (own_turns t e h) (own_change t e k.names_all h)
     where
       k : Known t v
@@ -133,21 +137,16 @@ module _ (s : LogSet) (state : Path) (rules : Rules) (u v : Past) (looks : List 
       meets_not : Meet s.log s.naming t.log t.naming → ⊥
       meets_not = no_meet s u v rules.sets looks t.log t.naming t.count t.job quiet m begun seen.family.numbered here.journal here.steady here.rules_are seen.given k.file other
 
-  others_apart : (ts : List Target) → AreSeen rules looks ts → (e : Entry) → IsOfOther s.log ts e → IsApart s e
+  others_apart : (ts : List Target) → AreSeen rules now looks ts → (e : Entry) → IsOfOther s.log ts e → IsApart s e
   others_apart [] seen e h = absurd h
   others_apart (t ∷ ts) seen e (inl h) = other_apart t seen.0 h.0 e h.1
   others_apart (t ∷ ts) seen e (inr h) = others_apart ts seen.1 e h
 
   -- where none of the logs is the set's
-  all_apart : (ts : List Target) → AreSeen rules looks ts → ((t : Target) → IsOneOf t ts → t.log ≢ s.log) → (e : Entry) → IsOfSome ts e → IsApart s e
+  all_apart : (ts : List Target) → AreSeen rules now looks ts → ((t : Target) → IsOneOf t ts → t.log ≢ s.log) → (e : Entry) → IsOfSome ts e → IsApart s e
   all_apart [] seen ne e h = absurd h
   all_apart (t ∷ ts) seen ne e (inl h) = other_apart t seen.0 (ne t (inl refl)) e h
   all_apart (t ∷ ts) seen ne e (inr h) = all_apart ts seen.1 (λ x i. ne x (inr i)) e h
-
-  seen_one : (ts : List Target) → AreSeen rules looks ts → (t : Target) → IsOneOf t ts → IsSeen rules looks t
-  seen_one [] seen t i = absurd i
-  seen_one (x ∷ xs) seen t (inl is) = subst (IsSeen rules looks) is seen.0
-  seen_one (x ∷ xs) seen t (inr i) = seen_one xs seen.1 t i
 
   find : (ts : List Target) → ((t : Target) × IsOneOf t ts × (t.log ≡ s.log)) ⊎ ((t : Target) → IsOneOf t ts → t.log ≢ s.log)
   find [] = inr (λ t i. absurd i)
@@ -158,11 +157,11 @@ module _ (s : LogSet) (state : Path) (rules : Rules) (u v : Past) (looks : List 
       none_of differ ne x (inr i) same = ne x i same
 
   -- the set's own log isn't copied
-  not_copied : (t : Target) → IsSeen rules looks t → t.log ≡ s.log → t.job ≡ None
+  not_copied : (t : Target) → IsSeen rules now looks t → t.log ≡ s.log → t.job ≡ None
   not_copied t seen same = no_copy s v rules.sets looks t.log t.naming t.count t.job here.steady here.rules_are seen.given (gives u v rules.sets looks t.log t.naming t.count t.job quiet m seen.given) (sym same)
 
   -- it is turned, with the steps of others between its own
-  own_safe : (t : Target) → IsSeen rules looks t → t.log ≡ s.log → (acts : List Entry) (q : Past) → FirstWoven (IsApartOrMakes s) (rotation_of t) (filter is_change acts) → Made v (reverse acts) q → NoneAttached s q → IsSafe s q
+  own_safe : (t : Target) → IsSeen rules now looks t → t.log ≡ s.log → (acts : List Entry) (q : Past) → FirstWoven (IsApartOrMakes s) (rotation_of t) (filter is_change acts) → Made v (reverse acts) q → NoneAttached s q → IsSafe s q
   own_safe t seen same acts q w mq none_q = (walk s v q rotates.limit (reverse acts) rotates.numbered mq
       (log_filter s (names (world v)) (reverse acts) (subst (LogFits s (names (world v))) (sym (filter_reverse is_change acts)) all.fits))
       (rotation_filter s rotates.limit v q (reverse acts) mq (subst (IsRotation s v rotates.limit) (sym (filter_reverse is_change acts)) all.rotation))
@@ -177,70 +176,83 @@ module _ (s : LogSet) (state : Path) (rules : Rules) (u v : Past) (looks : List 
       naming : s.naming ≡ t.naming
       naming = naming_same s v rules.sets looks t.log t.naming t.count t.job here.steady here.rules_are seen.given given (sym same)
 
+      family : IsFamily s.log s.naming
+      family = subst (λ (x : Path). IsFamily x s.naming) same (subst (λ (n : Naming). IsFamily t.log n) (sym naming) seen.family)
+
+      -- what its rule says of the set's log
+      some : (P : Rule → Type 0) → P seen.given.rule → SomeRule (rules_of v) s.log P
+      some P so = subst (λ (x : Path). SomeRule (rules_of v) x P) same (by_rule P v rules.sets looks t.log t.naming t.count t.job here.rules_are seen.given given so)
+
       places : List ℕ
       places = places_of t.stand.members
+
+      -- by the count or by the age
+      may : MayGo s v t.count t.from
+      may = subst (MayGo s v t.count) (sym seen.from_is)
+          (may_go s u v looks t.count now seen.given.rule t.stand.members family m quiet none_at here.now_is (λ g old. some (ByAge v g) old)
+          (λ place h. subst (λ (n : Naming). HasName n place) (sym naming) (seen.seen.named place (k.names_all.going.there place (subst (λ (ks : List ℕ). Contains ks place) (sym seen.from_is) h))))
+          (subst (λ (n : Naming). AreSights n t.stand.members looks) (sym naming) seen.sights))
 
       stands : AreThere t.naming (names (world v)) places
       stands =
           subst (λ (x : Naming). AreThere x (names (world v)) places) naming
-          (shown_members s u v (reverse looks) places (subst (λ (x : Path). IsFamily x s.naming) same (subst (λ (x : Naming). IsFamily t.log x) (sym naming) seen.family))
-          m quiet_in_order none_at
+          (shown_members s u v (reverse looks) places family m quiet_in_order none_at
           (subst (λ (x : Naming). Shown x places (reverse (reverse looks))) (sym naming) (subst (Shown t.naming places) (sym in_order) seen.seen)))
 
       -- it isn't copied
-      steps_are : rotation_of t ≡ rotation t.naming t.count t.log places
+      steps_are : rotation_of t ≡ rotation t.naming t.count t.log places t.from
       steps_are = rotation_is t seen.ready (not_copied t seen same)
 
-      rotates : Rotates (rotation t.naming t.count t.log places) s v
+      rotates : Rotates (rotation t.naming t.count t.log places t.from) s v
       rotates =
-          subst (λ (n : Naming). Rotates (rotation n t.count t.log places) s v) naming
-          (subst (λ (x : Path). Rotates (rotation s.naming t.count x places) s v) (sym same)
-          (is_one s v t.count places
-          (subst (λ (x : Path). IsFamily x s.naming) same (subst (λ (n : Naming). IsFamily t.log n) (sym naming) seen.family))
+          subst (λ (n : Naming). Rotates (rotation n t.count t.log places t.from) s v) naming
+          (subst (λ (x : Path). Rotates (rotation s.naming t.count x places t.from) s v) (sym same)
+          (is_one s v t.count places t.from family
           (subst (λ (x : Path). IsFileAt (names (world v)) x) same k.file)
           (subst (λ (n : Naming). AreThere n (names (world v)) places) (sym naming) stands)
           (subst (λ (n : Naming). HaveNext n t.count places) (sym naming) k.names_all.next)
+          k.names_all.going may
           here.not_begun here.safe
-          (subst (λ (x : Path). SomeRule (rules_of v) x (λ r. r.count ≡ t.count)) same (counts v rules.sets looks t.log t.naming t.count t.job here.rules_are seen.given given))))
+          (some (λ r. r.count ≡ t.count) seen.given.count_is)))
 
-      split : reverse (rotation t.naming t.count t.log places) ≡ reverse w.first.0 ++ reverse w.made
+      split : reverse (rotation t.naming t.count t.log places t.from) ≡ reverse w.first.0 ++ reverse w.made
       split = ap reverse (sym steps_are ∙ w.first.1) ∙ reverse-append w.made w.first.0
 
       all : IsWoven s v rotates.limit (reverse w.made) (reverse (filter is_change acts))
       all = woven s v rotates.limit (reverse w.made) (reverse (filter is_change acts)) (weave_back (IsApartOrMakes s) w.made (filter is_change acts) w.woven)
           (later_rotation s v rotates.limit (reverse w.first.0) (reverse w.made) (subst (IsRotation s v rotates.limit) split rotates.rotation))
-          (later_fit (names (world v)) (reverse w.first.0) (reverse w.made) (subst (FitAll (names (world v))) split (fits (names (world v)) t.log t.naming t.count places seen.family k.file stands k.names_all.next)))
+          (later_fit (names (world v)) (reverse w.first.0) (reverse w.made) (subst (FitAll (names (world v))) split (fits (names (world v)) t.log t.naming t.count places t.from seen.family k.file stands k.names_all.next k.names_all.going)))
 
   -- behind all acts
-  acts_safe : (ts : List Target) → AreSeen rules looks ts → (acts : List Entry) (q : Past) → Each (λ e. IsOfSome ts e ⊎ IsOfState state e) (filter is_change acts)
+  acts_safe : (ts : List Target) → AreSeen rules now looks ts → (acts : List Entry) (q : Past) → Each (λ e. IsOfSome ts e ⊎ IsOfState state e) (filter is_change acts)
       → ((t : Target) → IsOneOf t ts → FirstWoven (StandsBetween state t ts) (rotation_of t) (filter is_change acts)) → Made v (reverse acts) q → NoneAttached s q → IsSafe s q
   acts_safe ts seen acts q all each mq none_q = ⊎_elim own others (find ts)
     where
       own : ((t : Target) × IsOneOf t ts × (t.log ≡ s.log)) → IsSafe s q
-      own f = own_safe f.0 (seen_one ts seen f.0 f.1) f.2 acts q (record { made = (each f.0 f.1).made; first = (each f.0 f.1).first; woven = weave_as _ (IsApartOrMakes s) _ _ apart (each f.0 f.1).woven }) mq none_q
+      own f = own_safe f.0 (seen_one rules now looks ts seen f.0 f.1) f.2 acts q (record { made = (each f.0 f.1).made; first = (each f.0 f.1).first; woven = weave_as _ (IsApartOrMakes s) _ _ apart (each f.0 f.1).woven }) mq none_q
         where
           apart : (e : Entry) → StandsBetween state f.0 ts e → IsApartOrMakes s e
           apart e (inl o) = inl (others_apart ts seen e (subst (λ (x : Path). IsOfOther x ts e) f.2 o))
-          apart e (inr (inl o)) = inl (state_apart s state rules v here e o)
-          apart e (inr (inr also)) = inr (subst (λ (x : Path). MakesAt x e) f.2 (also_made f.0 e (not_copied f.0 (seen_one ts seen f.0 f.1) f.2) also))
+          apart e (inr (inl o)) = inl (state_apart s state now rules v here e o)
+          apart e (inr (inr also)) = inr (subst (λ (x : Path). MakesAt x e) f.2 (also_made f.0 e (not_copied f.0 (seen_one rules now looks ts seen f.0 f.1) f.2) also))
 
       others : ((t : Target) → IsOneOf t ts → t.log ≢ s.log) → IsSafe s q
       others ne = aside_walked s v q (reverse acts) here.journal here.safe mq
           (first_aside s (filter is_change acts) acts v q ([], sym (append-nil (filter is_change acts)))
-          (each_as (λ e. IsOfSome ts e ⊎ IsOfState state e) (IsAside s) (filter is_change acts) (λ e h. apart_aside s e (⊎_elim (λ o. all_apart ts seen ne e o) (λ o. state_apart s state rules v here e o) h)) all) mq) none_q
+          (each_as (λ e. IsOfSome ts e ⊎ IsOfState state e) (IsAside s) (filter is_change acts) (λ e h. apart_aside s e (⊎_elim (λ o. all_apart ts seen ne e o) (λ o. state_apart s state now rules v here e o) h)) all) mq) none_q
 
 -- ---- the whole run
 
 -- the moment behind the looks
-record Looked (s : LogSet) (state : Path) (rules : Rules) (b q : Past) (looks acts : List Entry) : Type 0 where
+record Looked (s : LogSet) (state : Path) (now : ℤ) (rules : Rules) (b q : Past) (looks acts : List Entry) : Type 0 where
   mid : Past
   first : Made b (reverse looks) mid
   second : Made mid (reverse acts) q
-  here : Here s state rules mid
+  here : Here s state now rules mid
   none : NoneAttached s mid
 
 looked : (s : LogSet) (u q : Past) (state : Path) (now : Moment) (rules : Rules) (tail looks acts : List Entry) → tail ≡ looks ++ acts → AreQuiet looks → Made (u ▸ entry.Starts state now rules) (reverse tail) q
-    → IsJournal (u ▸ entry.Starts state now rules) → IsSafe s (u ▸ entry.Starts state now rules) → IsSteady s q → Looked s state rules (u ▸ entry.Starts state now rules) q looks acts
+    → IsJournal (u ▸ entry.Starts state now rules) → IsSafe s (u ▸ entry.Starts state now rules) → IsSteady s q → Looked s state now.seconds rules (u ▸ entry.Starts state now rules) q looks acts
 looked s u q state now rules tail looks acts joined quiet m journal safe st = record { mid = k.mid; first = k.first; second = k.second; here = here; none = none_attached s k.mid steady_mid }
   where
     b : Past
@@ -258,29 +270,30 @@ looked s u q state now rules tail looks acts joined quiet m journal safe st = re
     still : IsStill s b k.mid
     still = made_still s b k.mid (reverse looks) k.first quiet_back
 
-    here : Here s state rules k.mid
+    here : Here s state now.seconds rules k.mid
     here = record {
       journal = made_journal b k.mid (reverse looks) k.first journal;
       safe = quiet_safe_on s b k.mid looks quiet journal safe k.first steady_mid;
       steady = steady_at s u k.mid (entry.Starts state now rules) (reverse looks) k.first steady_mid;
       rules_are = still.rules;
+      now_is = (looked_run b k.mid (reverse looks) k.first quiet_back).now;
       state_is = state_same b k.mid (reverse looks) k.first quiet_back;
       not_begun = still.begun refl;
     }
 
-tail_safe : (s : LogSet) (u q : Past) (state : Path) (now : Moment) (rules : Rules) (tail : List Entry) → AllTurns state rules tail → Made (u ▸ entry.Starts state now rules) (reverse tail) q
+tail_safe : (s : LogSet) (u q : Past) (state : Path) (now : Moment) (rules : Rules) (tail : List Entry) → AllTurns state now rules tail → Made (u ▸ entry.Starts state now rules) (reverse tail) q
     → IsJournal (u ▸ entry.Starts state now rules) → IsSafe s (u ▸ entry.Starts state now rules) → IsSteady s q → IsSafe s q
 tail_safe s u q state now rules tail t m journal safe st =
     let k = looked s u q state now rules tail t.looks t.acts t.joined t.quiet m journal safe st in
-    acts_safe s state rules (u ▸ entry.Starts state now rules) k.mid t.looks t.quiet k.first (λ x h. h) k.here k.none t.targets t.seen t.acts q t.all t.each k.second (none_attached s q st)
+    acts_safe s state now.seconds rules (u ▸ entry.Starts state now rules) k.mid t.looks t.quiet k.first (λ x h. h) k.here k.none t.targets t.seen t.acts q t.all t.each k.second (none_attached s q st)
 
 -- where none of the logs is the set's, each change lies apart of it
-pub acts_apart : (s : LogSet) (u q : Past) (state : Path) (now : Moment) (rules : Rules) (tail : List Entry) (t : AllTurns state rules tail) → Made (u ▸ entry.Starts state now rules) (reverse tail) q
+pub acts_apart : (s : LogSet) (u q : Past) (state : Path) (now : Moment) (rules : Rules) (tail : List Entry) (t : AllTurns state now rules tail) → Made (u ▸ entry.Starts state now rules) (reverse tail) q
     → IsJournal (u ▸ entry.Starts state now rules) → IsSafe s (u ▸ entry.Starts state now rules) → IsSteady s q → ((x : Target) → IsOneOf x t.targets → x.log ≢ s.log) → Each (IsApart s) (filter is_change t.acts)
 acts_apart s u q state now rules tail t m journal safe st ne =
     let k = looked s u q state now rules tail t.looks t.acts t.joined t.quiet m journal safe st in
     each_as (λ e. IsOfSome t.targets e ⊎ IsOfState state e) (IsApart s) (filter is_change t.acts)
-    (λ e h. ⊎_elim (λ o. all_apart s state rules (u ▸ entry.Starts state now rules) k.mid t.looks t.quiet k.first (λ x h. h) k.here k.none t.targets t.seen ne e o) (λ o. state_apart s state rules k.mid k.here e o) h) t.all
+    (λ e h. ⊎_elim (λ o. all_apart s state now.seconds rules (u ▸ entry.Starts state now rules) k.mid t.looks t.quiet k.first (λ x h. h) k.here k.none t.targets t.seen ne e o) (λ o. state_apart s state now.seconds rules k.mid k.here e o) h) t.all
 
 pub run_safe : (s : LogSet) (p q : Past) (es : List Entry) → IsJournal p → IsSafe s p → Made p es q → IsWholeRun (reverse es) → IsSteady s q → IsSafe s q
 run_safe s p q es journal safe m run st = go run.goes_on

@@ -1,5 +1,5 @@
 -- The calls of a rotation fit behind looks that showed the log and its members, whatever writers did.
-use Rattle.std.proofs.Common.{◌≡◌, ◌≢◌, ◌⊎◌, inl, inr, ⊎_elim, ℕ, ◌+◌, Bool, true, false, not, cond, ◌||◌, bytes_eq, refl, sym, ap, ◌∙◌, subst, List, [], ◌∷◌, ◌++◌, reverse, map, Option, Some, None, Contains, All}
+use Rattle.std.proofs.Common.{◌≡◌, ◌≢◌, ◌⊎◌, inl, inr, ⊎_elim, ℕ, ◌+◌, Bool, true, false, not, cond, ◌||◌, bytes_eq, refl, sym, ap, ◌∙◌, subst, List, [], ◌∷◌, ◌++◌, reverse, map, Option, Some, None, Contains, All, ℤ}
 use Rattle.std.proofs.lemmas.List.Elements.{All-weaker, All-contains_itself}
 use Rattle.std.proofs.lemmas.Slice.Eq.{bytes_eq-Decides}
 use Rattle.std.proofs.lemmas.Bool.{or_right}
@@ -32,7 +32,9 @@ use Rattle.lr_family.specs.Spots.{path_at}
 use Rattle.lr_family.proofs.Numbers.{Every, every_all, every_filter}
 use Rattle.lr_copy.specs.declared.job.Job.{Job}
 use Rattle.lr_copy.specs.Fits.{ArePaths, HasPlace, IsStale}
-use Rattle.lr_chain.specs.Rotation.{places_of, is_left, leftovers, kept, one_too_many, unlink_at, leftover_steps, shift_steps, retire_steps, rotation}
+use Rattle.lr_chain.specs.Rotation.{places_of, is_left, leftovers, kept, retired, unlink_at, leftover_steps, shift_steps, retire_steps, rotation}
+use Rattle.lr_chain.specs.Standing.{AreGoing}
+use Rattle.lr_chain.proofs.Going.{going_are}
 use Rattle.lr_chain.proofs.Steps.{each_rotation}
 use Rattle.lr_rotations.specs.Apart.{HasNames}
 use Rattle.lr_rotations.specs.Calls.{after_call, FitCalls, CanCalls, copy_calls, calls_of}
@@ -49,7 +51,7 @@ use Rattle.lr_rotations.proofs.Moments.{saw_one, saw_file}
 use Rattle.lr_rotations.proofs.OrMade.{Spares}
 use Rattle.lr_rotations.proofs.PartFile.{part_at, part_no_member, job_target, job_part, job_paths, job_no_dir}
 use Rattle.lr_rotations.proofs.Paths.{name_part, path_same, path_other}
-use Rattle.lr_rotations.proofs.Rotating.{calls_by_parts, calls_are}
+use Rattle.lr_rotations.proofs.Rotating.{calls_by_parts, renamed}
 
 -- ---- names in between: those of later at some paths, those of before at all others
 
@@ -100,17 +102,17 @@ between_more xs n n' more y = ⊎_elim (λ e. inl (sym e)) (λ e. ⊎_elim (λ s
 
 -- ---- the rotation
 
-pub rotation_at : (log : Path) (n : Naming) (c : Count) (places : List ℕ) (p q : Past) (es : List Entry) (seen : Seen) → IsFamily log n → HaveNext n c places → Made p es q → AreQuiet (reverse es)
-    → seen.kind ≡ kind.File → IsIn (entry.Look log (Some seen)) (reverse es) → Shown n places (reverse es) → FitAll (names (world q)) (reverse (rotation n c log places))
-rotation_at log n c places p q es seen family next m quiet k there w =
-    fit_more mid (names (world q)) (reverse (rotation n c log places)) (between_more paths (names (world p)) (names (world q)) (quiet_more IsAny p q (made_quiet IsAny p q es any m still)))
-    (fits mid log n c places family log_file (record {
+pub rotation_at : (log : Path) (n : Naming) (c : Count) (places from : List ℕ) (p q : Past) (es : List Entry) (seen : Seen) → IsFamily log n → HaveNext n c places → AreGoing c places from → Made p es q → AreQuiet (reverse es)
+    → seen.kind ≡ kind.File → IsIn (entry.Look log (Some seen)) (reverse es) → Shown n places (reverse es) → FitAll (names (world q)) (reverse (rotation n c log places from))
+rotation_at log n c places from p q es seen family next going m quiet k there w =
+    fit_more mid (names (world q)) (reverse (rotation n c log places from)) (between_more paths (names (world p)) (names (world q)) (quiet_more IsAny p q (made_quiet IsAny p q es any m still)))
+    (fits mid log n c places from family log_file (record {
       dir = dir;
       falling = w.falling;
       named = All-weaker (Contains places) (HasName n) w.named places (All-contains_itself places);
       files = λ place i. at_path (path_at n place) (inr (in_map (path_at n) place places (in_from place places i))) (let f = w.files place i in seen_now (path_at n place) f.0 f.1 f.2);
       others = λ place i out. between_out paths (names (world p)) (names (world q)) (path_at n place) (λ h. other place i out h) ∙ ⊎_elim (λ absent. unlisted place i absent) (λ gone. gone_before place gone) (w.others place i out);
-    }) next)
+    }) next going)
   where
     still : ChangeNothing es
     still = still_in_order es (quiet_still (reverse es) quiet)
@@ -175,17 +177,24 @@ spared n (e ∷ es) y a = spared (after_call n e) es y a.1 ∙ after_spared n e 
 
 -- ---- of a log that was seen
 
-pub seen_names : (rules : Rules) (looks : List Entry) (t : Target) → IsSeen rules looks t → HasNames t
-seen_names rules looks t seen = record { family = seen.family; named = named; next = have_next rules looks t.log t.naming t.count t.job t.stand.members seen.given named seen.low; ready = seen.ready; job = λ job is. (seen.job job is).0 }
+pub seen_names : (rules : Rules) (now : ℤ) (looks : List Entry) (t : Target) → IsSeen rules now looks t → HasNames t
+seen_names rules now looks t seen = record {
+  family = seen.family;
+  named = named;
+  next = have_next rules looks t.log t.naming t.count t.job t.stand.members seen.given named seen.low;
+  going = subst (AreGoing t.count (places_of t.stand.members)) (sym seen.from_is) (going_are t.count seen.given.rule.maxage now t.stand.members seen.seen.falling);
+  ready = seen.ready;
+  job = λ job is. (seen.job job is).0;
+}
   where
     named : All (HasName t.naming) (places_of t.stand.members)
     named = All-weaker (Contains (places_of t.stand.members)) (HasName t.naming) seen.seen.named (places_of t.stand.members) (All-contains_itself (places_of t.stand.members))
 
 -- the paths of its copy
-pub seen_paths : (rules : Rules) (looks : List Entry) (t : Target) (job : Job) → IsSeen rules looks t → t.job ≡ Some job → ArePaths job
-seen_paths rules looks t job seen is = job_paths seen.given.rule t job seen.given.naming_is seen.family (first_named t.naming t.count (places_of t.stand.members) (seen_names rules looks t seen).next) seen.ready (seen.job job is).0
+pub seen_paths : (rules : Rules) (now : ℤ) (looks : List Entry) (t : Target) (job : Job) → IsSeen rules now looks t → t.job ≡ Some job → ArePaths job
+seen_paths rules now looks t job seen is = job_paths seen.given.rule t job seen.given.naming_is seen.family (first_named t.naming t.count (places_of t.stand.members) (seen_names rules now looks t seen).next) seen.ready (seen.job job is).0
 
-module _ (rules : Rules) (t : Target) (p q : Past) (es : List Entry) (m : Made p es q) (quiet : AreQuiet (reverse es)) (seen : IsSeen rules (reverse es) t) where
+module _ (rules : Rules) (seconds : ℤ) (t : Target) (p q : Past) (es : List Entry) (m : Made p es q) (quiet : AreQuiet (reverse es)) (seen : IsSeen rules seconds (reverse es) t) where
   abbrev places : List ℕ
   places = places_of t.stand.members
 
@@ -193,40 +202,63 @@ module _ (rules : Rules) (t : Target) (p q : Past) (es : List Entry) (m : Made p
   now = names (world q)
 
   names_all : HasNames t
-  names_all = seen_names rules (reverse es) t seen
+  names_all = seen_names rules seconds (reverse es) t seen
+
+  abbrev L : List Entry
+  L = leftover_steps t.naming t.count places
+
+  abbrev S : List Entry
+  S = shift_steps t.naming t.count places
+
+  abbrev R : Entry
+  R = entry.Renames t.log (path_at t.naming 0)
+
+  -- what reads the file that was the log
+  abbrev M : Entry
+  M = entry.Reads (path_at t.naming 0) 0 []
+
+  abbrev U : List Entry
+  U = retire_steps t.naming t.count t.from
 
   -- the rotation of the places fits
-  by_places : FitCalls now (rotation t.naming t.count t.log places)
-  by_places = fit_calls now (rotation t.naming t.count t.log places) (each_rotation IsTurn (λ x. tt) (λ x y. tt) t.naming t.count t.log places)
-      (let saw = saw_one t.log (reverse es) seen.log_seen in rotation_at t.log t.naming t.count places p q es saw.0 seen.family names_all.next m quiet saw.1 saw.2 seen.seen)
+  by_places : FitCalls now (L ++ ((S ++ R ∷ []) ++ U))
+  by_places = fit_calls now (rotation t.naming t.count t.log places t.from) (each_rotation IsTurn (λ x. tt) (λ x y. tt) t.naming t.count t.log places t.from)
+      (let saw = saw_one t.log (reverse es) seen.log_seen in rotation_at t.log t.naming t.count places t.from p q es saw.0 seen.family names_all.next names_all.going m quiet saw.1 saw.2 seen.seen)
+
+  -- behind the leftovers, and behind the moves
+  abbrev left : Names
+  left = afters now L
+
+  abbrev shifted : Names
+  shifted = afters left S
+
+  first : HasName t.naming 0
+  first = first_named t.naming t.count places names_all.next
+
+  behind_left : FitCalls left ((S ++ R ∷ []) ++ U)
+  behind_left = fit_rest now L ((S ++ R ∷ []) ++ U) by_places
+
+  turn_fits : FitCalls left (S ++ R ∷ [])
+  turn_fits = fit_first left (S ++ R ∷ []) U behind_left
+
+  can_turn : CanCall shifted R
+  can_turn = (fit_rest left S (R ∷ []) turn_fits).0
+
+  behind_turn : FitCalls (after_call shifted R) U
+  behind_turn = subst (λ (n : Names). FitCalls n U) (afters_on left S (R ∷ [])) (fit_rest left (S ++ R ∷ []) U behind_left)
+
+  -- what brings the log to its final path may be another than its rename
+  by_parts : (es : List Entry) → FitCalls shifted (es ++ M ∷ U) → FitCalls now (L ++ (S ++ (es ++ M ∷ U)))
+  by_parts es fit = fit_both now L (S ++ (es ++ M ∷ U)) (fit_first now L ((S ++ R ∷ []) ++ U) by_places) (fit_both left S (es ++ M ∷ U) (fit_first left S (R ∷ []) turn_fits) fit)
+
+  by_rename : FitCalls shifted (R ∷ [] ++ M ∷ U)
+  by_rename = (can_turn, ((can_turn.0.0, put_here (put shifted t.log thing.Nothing) (path_at t.naming 0) (path_at t.naming 0) (shifted t.log) refl ∙ can_turn.0.1), behind_turn))
 
   -- ---- of a log that is copied
 
   module _ (job : Job) (is : t.job ≡ Some job) where
-    abbrev L : List Entry
-    L = leftover_steps t.naming t.count places
-
-    abbrev S : List Entry
-    S = shift_steps t.naming t.count places
-
-    abbrev R : Entry
-    R = entry.Renames t.log (path_at t.naming 0)
-
-    abbrev U : List Entry
-    U = retire_steps t.naming t.count places
-
-    -- behind the leftovers, and behind the moves
-    abbrev left : Names
-    left = afters now L
-
-    abbrev shifted : Names
-    shifted = afters left S
-
     shape : IsJob t job
     shape = (seen.job job is).0
-
-    first : HasName t.naming 0
-    first = first_named t.naming t.count places names_all.next
 
     to : job.to ≡ path_at t.naming 0
     to = job_target t job seen.ready shape
@@ -235,16 +267,7 @@ module _ (rules : Rules) (t : Target) (p q : Past) (es : List Entry) (m : Made p
     part = job_part t job seen.ready shape
 
     paths : ArePaths job
-    paths = seen_paths rules (reverse es) t job seen is
-
-    behind_left : FitCalls left ((S ++ R ∷ []) ++ U)
-    behind_left = fit_rest now L ((S ++ R ∷ []) ++ U) by_places
-
-    turn_fits : FitCalls left (S ++ R ∷ [])
-    turn_fits = fit_first left (S ++ R ∷ []) U behind_left
-
-    can_turn : CanCall shifted R
-    can_turn = (fit_rest left S (R ∷ []) turn_fits).0
+    paths = seen_paths rules seconds (reverse es) t job seen is
 
     place : HasPlace job shifted
     place = record {
@@ -298,23 +321,20 @@ module _ (rules : Rules) (t : Target) (p q : Past) (es : List Entry) (m : Made p
             let by_copy : afters shifted (copy_calls job) y ≡ shifted y = copied_other job paths no_dir shifted place y (λ is. part_no h.0 h.1 (sym is ∙ h.2)) other in
             subst (λ v. IsLike v (afters shifted (copy_calls job) y)) (sym by_rename) (subst (IsLike (shifted y)) (sym by_copy) (like_self (shifted y)))
 
-    behind_turn : FitCalls (after_call shifted R) U
-    behind_turn = subst (λ (n : Names). FitCalls n U) (afters_on left S (R ∷ [])) (fit_rest left (S ++ R ∷ []) U behind_left)
-
-    copy_by_places : FitCalls now (L ++ (S ++ (copy_calls job ++ U)))
-    copy_by_places =
-        fit_both now L (S ++ (copy_calls job ++ U)) (fit_first now L ((S ++ R ∷ []) ++ U) by_places)
-        (fit_both left S (copy_calls job ++ U) (fit_first left S (R ∷ []) turn_fits)
-        (fit_both shifted (copy_calls job) U (copy_fits job paths no_dir shifted place stale)
-        (fit_like OfMember (after_call shifted R) (afters shifted (copy_calls job)) U (reads_of (one_too_many t.count places) (retire_named t.naming t.count places names_all.next)) like behind_turn)))
+    by_copy : FitCalls shifted (copy_calls job ++ M ∷ U)
+    by_copy =
+        fit_both shifted (copy_calls job) (M ∷ U) (copy_fits job paths no_dir shifted place stale) (
+          (0, ap (afters shifted (copy_calls job)) (sym to) ∙ copied_to job paths no_dir shifted place),
+          fit_like OfMember (after_call shifted R) (afters shifted (copy_calls job)) U (reads_of (retired t.count t.from) (retire_named t.naming t.count places t.from names_all.next names_all.going)) like behind_turn,
+        )
 
   seen_fits : FitCalls now (calls_of t)
   seen_fits = go t.job refl
     where
       go : (j : Option Job) → t.job ≡ j → FitCalls now (calls_of t)
-      go None none = subst (FitCalls now) (sym (calls_are t seen.ready none)) by_places
-      go (Some job) is = subst (FitCalls now) (sym (calls_by_parts t seen.ready (Some job) is)) (copy_by_places job is)
+      go None none = subst (FitCalls now) (sym (calls_by_parts t seen.ready None none ∙ ap (λ es. L ++ (S ++ (es ++ M ∷ U))) (renamed t seen.ready))) (by_parts (R ∷ []) by_rename)
+      go (Some job) is = subst (FitCalls now) (sym (calls_by_parts t seen.ready (Some job) is)) (by_parts (copy_calls job) (by_copy job is))
 
-pub seen_can : (rules : Rules) (t : Target) (o m : Option Journal) → Left (λ ts. AreQuiet ts × IsSeen rules ts t) o m → CanCalls m (calls_of t)
-seen_can rules t o m not_told = record { can = tt }
-seen_can rules t o m (is_told {j = j} {k = k} {es = es} made h) = record { can = seen_fits rules t (past j) (past k) es made h.0 h.1 }
+pub seen_can : (rules : Rules) (seconds : ℤ) (t : Target) (o m : Option Journal) → Left (λ ts. AreQuiet ts × IsSeen rules seconds ts t) o m → CanCalls m (calls_of t)
+seen_can rules seconds t o m not_told = record { can = tt }
+seen_can rules seconds t o m (is_told {j = j} {k = k} {es = es} made h) = record { can = seen_fits rules seconds t (past j) (past k) es made h.0 h.1 }

@@ -32,8 +32,8 @@ use Rattle.lr_rotations.proofs.Never.{never_on, never_quiet}
 use Rattle.lr_rotations.proofs.OrMade.{IsOrMade, Spares, spared_or_made, or_made_on, made_drawn, made_behind, behind_on}
 use Rattle.lr_rotations.specs.Shown.{Shown}
 
-module _ (paths : List Path) (log : Path) (n : Naming) (c : Count) (stand : Stand) (p q : Past) (es : List Entry) (made : Made p es q) (journal : IsJournal p) (family : IsFamily log n) (next : HaveNext n c (places_of stand.members))
-    (att : NoMemberAttached n p q) (out : AreOutside paths log n) (over : RotatesAmong paths log n c stand (reverse es)) where
+module _ (paths : List Path) (log : Path) (n : Naming) (c : Count) (from : List ℕ) (stand : Stand) (p q : Past) (es : List Entry) (made : Made p es q) (journal : IsJournal p) (family : IsFamily log n) (next : HaveNext n c (places_of stand.members))
+    (att : NoMemberAttached n p q) (out : AreOutside paths log n) (over : RotatesAmong paths log n c from stand (reverse es)) where
   abbrev places : List ℕ
   places = places_of stand.members
 
@@ -87,14 +87,14 @@ module _ (paths : List Path) (log : Path) (n : Naming) (c : Count) (stand : Stan
   att_v : NoMemberAttached n v q
   att_v = since_behind (IsNoMember n) p v q (reverse front) (reverse back) cut.first cut.second att
 
-  woven : Weave (IsBeside paths log) (rotation n c log places) (filter is_disk_change (reverse (reverse back)))
-  woven = subst (λ es. Weave (IsBeside paths log) (rotation n c log places) (filter is_disk_change es)) (sym (reverse-reverse back)) over.changes
+  woven : Weave (IsBeside paths log) (rotation n c log places from) (filter is_disk_change (reverse (reverse back)))
+  woven = subst (λ es. Weave (IsBeside paths log) (rotation n c log places from) (filter is_disk_change es)) (sym (reverse-reverse back)) over.changes
 
-  later : IsRotated paths n c log v q
-  later = rotated paths log n c places v q (reverse back) family next journal_v stands file att_v out cut.second woven
+  later : IsRotated paths n c from log v q
+  later = rotated paths log n c places from v q (reverse back) family next over.going journal_v stands file att_v out cut.second woven
 
   turns : Each (λ e. IsTurnOrMake e ⊎ IsOn paths e) (filter is_disk_change es)
-  turns = subst (Each (λ e. IsTurnOrMake e ⊎ IsOn paths e)) (sym all) (all_turn paths log n c places v q (reverse back) family next journal_v stands file att_v out cut.second woven)
+  turns = subst (Each (λ e. IsTurnOrMake e ⊎ IsOn paths e)) (sym all) (all_turn paths log n c places from v q (reverse back) family next over.going journal_v stands file att_v out cut.second woven)
     where
       all : filter is_disk_change es ≡ filter is_disk_change (reverse back)
       all = ap (filter is_disk_change) backwards ∙ (filter-append is_disk_change (reverse back) (reverse front) ∙ (ap (λ xs. filter is_disk_change (reverse back) ++ xs) still ∙ append-nil (filter is_disk_change (reverse back))))
@@ -116,7 +116,7 @@ module _ (paths : List Path) (log : Path) (n : Naming) (c : Count) (stand : Stan
   never_own : (id : ℕ) → IsNeverAt paths id v q → IsNeverAt paths id p q
   never_own id never = never_on paths id p v q (never_quiet paths id p v (reverse front) cut.first still (never_first paths id v q never)) never
 
-  whole : IsRotated paths n c log p q
+  whole : IsRotated paths n c from log p q
   whole = record {
     turning = later.turning;
     since = behind_on p v later.turning (made_behind p v (reverse front) cut.first) later.since;
@@ -124,7 +124,7 @@ module _ (paths : List Path) (log : Path) (n : Naming) (c : Count) (stand : Stan
     file = later.file;
     was_log = later.was_log;
     at_first = log_first;
-    members = λ k i. later.members k i ∙ turned_as n c (thing.File later.file) (λ j. names (world v) (path_at n j)) (λ j. names (world p) (path_at n j)) k i (λ j h. quiet_members n p v j quiet h);
+    members = λ k i. later.members k i ∙ turned_as n c from (thing.File later.file) (λ j. names (world v) (path_at n j)) (λ j. names (world p) (path_at n j)) k i (λ j h. quiet_members n p v j quiet h);
     log_now = later.log_now;
     others = λ x l m o. or_made_on p v q x (made_drawn p v (reverse front) cut.first) (or_made x) (later.others x l m o);
     bytes = λ id never. fed_bytes paths id p q es journal made turns never;
@@ -132,6 +132,6 @@ module _ (paths : List Path) (log : Path) (n : Naming) (c : Count) (stand : Stan
   }
 
   -- and the family is rotated behind it
-  pub rotated_whole : IsRotatedWhole paths n c log p q
+  pub rotated_whole : IsRotatedWhole paths n c from log p q
   unfolding whole later
   rotated_whole = record { rotated = whole; first = v; still = quiet; until = later.since; log_stood = log_stood }

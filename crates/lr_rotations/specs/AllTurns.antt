@@ -78,25 +78,25 @@ abbrev pub other_paths : Path → Path → List Target → List Path
 other_paths state log targets = state ∷ (state ++ codes ".tmp") ∷ paths_of_others log targets
 
 -- All logs were looked at while nothing was changed. Of the changes behind that, each is of the rotation of one of the logs, or the state's; seen from each log, they are a first part of its own renames and unlinks, in order, with the changes of others between, and what its rotation does besides.
-pub record AllTurns (state : Path) (rules : Rules) (ts : List Entry) : Type 0 where
+pub record AllTurns (state : Path) (now : Moment) (rules : Rules) (ts : List Entry) : Type 0 where
   pub looks : List Entry
   pub acts : List Entry
   pub joined : ts ≡ looks ++ acts
   pub quiet : AreQuiet looks
   pub targets : List Target
-  pub seen : AreSeen rules looks targets
+  pub seen : AreSeen rules now.seconds looks targets
   pub all : Each (λ e. IsOfSome targets e ⊎ IsOfState state e) (filter is_change acts)
   pub each : (t : Target) → IsOneOf t targets → FirstWoven (StandsBetween state t targets) (rotation_of t) (filter is_change acts)
 
 -- Each log was rotated whole: its renames and unlinks stand in order, with the changes of others between, and what its rotation does besides.
-pub record AllTurned (state : Path) (rules : Rules) (ts : List Entry) : Type 0 where
-  pub turns : AllTurns state rules ts
+pub record AllTurned (state : Path) (now : Moment) (rules : Rules) (ts : List Entry) : Type 0 where
+  pub turns : AllTurns state now rules ts
   pub whole : (t : Target) → IsOneOf t turns.targets → Weave (StandsBetween state t turns.targets) (rotation_of t) (filter is_change turns.acts)
 
 -- What a run did behind what it read: nothing more, or it started, looked, and rotated.
 pub data MayTurnAll (ts : List Entry) : Type 0 where
   not_yet : ts ≡ [] → MayTurnAll ts
-  started : (state : Path) (now : Moment) (rules : Rules) (tail : List Entry) → ts ≡ entry.Starts state now rules ∷ tail → AllTurns state rules tail → MayTurnAll ts
+  started : (state : Path) (now : Moment) (rules : Rules) (tail : List Entry) → ts ≡ entry.Starts state now rules ∷ tail → AllTurns state now rules tail → MayTurnAll ts
 
 -- The entries of a run, in order, as far as it came.
 pub record IsWholeRun (ts : List Entry) : Type 0 where

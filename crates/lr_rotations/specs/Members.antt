@@ -1,5 +1,5 @@
 -- The members of a family that stand, by their places.
-use Rattle.std.specs.Prelude.{◌≡◌, ◌≢◌, ◌+◌, ◌≤◌, ℕ, List, reverse, All, Contains, None}
+use Rattle.std.specs.Prelude.{◌≡◌, ◌≢◌, ◌⊎◌, ◌+◌, ◌≤◌, ℕ, suc, true, List, reverse, All, Contains, None}
 use Rattle.std.specs.List.Sorted.{IsStrictlyIncreasing}
 use Rattle.lr_rules.specs.declared.path.Path.{Path}
 use Rattle.lr_rules.specs.declared.rule.Count.{Count}
@@ -7,11 +7,15 @@ use Rattle.lr_rules.specs.declared.rule.Count.TheVariants as count
 use Rattle.lr_rules.specs.declared.rule.Naming.{Naming}
 use Rattle.lr_rules.specs.Path.{path_fault}
 use Rattle.lr_host.specs.declared.thing.Thing.TheVariants as thing
-use Rattle.lr_host.specs.World.{Names, Past}
+use Rattle.lr_host.specs.World.{Names, Past, world, names}
 use Rattle.lr_host.specs.Fits.{IsFileAt, IsDirectoryAt}
 use Rattle.lr_host.specs.Quiet.{AttachedOnlySince}
+use Rattle.lr_host.specs.Released.{ByAge}
+use Rattle.lr_host.specs.Runs.{rules_of, SomeRule}
+use Rattle.lr_host.specs.Sets.{LogSet}
 use Rattle.lr_family.specs.Kin.{IsKin}
 use Rattle.lr_family.specs.Spots.{path_at}
+use Rattle.lr_chain.specs.Rotation.{is_left}
 
 -- The log and the naming are those of a numbered family, whose directory has a path.
 pub record IsFamily (log : Path) (n : Naming) : Type 0 where
@@ -43,3 +47,7 @@ pub record AreThere (n : Naming) (m : Names) (places : List ℕ) : Type 0 where
 abbrev pub HaveNext : Naming → Count → List ℕ → Type 0
 HaveNext n (count.Keep k) places = HasName n k
 HaveNext n count.Always places = HasName n 0 × All (λ place. HasName n (place + 1)) places
+
+-- The members at these places may go behind one move more: the count leaves no room for one at its new place, or a rule of the log lets its file go by its age.
+abbrev pub MayGo : LogSet → Past → Count → List ℕ → Type 0
+MayGo s p c from = (place : ℕ) → Contains from place → (is_left c (suc place) ≡ true) ⊎ ((g : ℕ) → names (world p) (path_at s.naming place) ≡ thing.File g → SomeRule (rules_of p) s.log (ByAge p g))

@@ -13,6 +13,7 @@ use Rattle.lr_host.specs.Quiet.{is_disk_change, Quiet, ChangeNothing}
 use Rattle.lr_family.specs.declared.stand.Stand.{Stand}
 use Rattle.lr_family.specs.Spots.{path_at}
 use Rattle.lr_chain.specs.Rotation.{places_of, rotation}
+use Rattle.lr_chain.specs.Standing.{AreGoing}
 use Rattle.lr_chain.specs.Turning.{turned}
 use Rattle.lr_rotations.specs.Members.{HasName, IsNoMember}
 use Rattle.lr_rotations.specs.Shown.{Shown}
@@ -66,7 +67,7 @@ pub data IsNeverAt (paths : List Path) (id : ℕ) (p : Past) : Past → Type 0 w
 -- ---- the family
 
 -- The family was rotated between the two pasts, while the tool's other changes were on these paths, or made the log anew.
-pub record IsRotated (paths : List Path) (n : Naming) (c : Count) (log : Path) (before after : Past) : Type 0 where
+pub record IsRotated (paths : List Path) (n : Naming) (c : Count) (from : List ℕ) (log : Path) (before after : Past) : Type 0 where
   -- just before the log was renamed
   pub turning : Past
   pub since : IsBehind before turning
@@ -76,7 +77,7 @@ pub record IsRotated (paths : List Path) (n : Naming) (c : Count) (log : Path) (
   -- it was the log's file from the beginning on, or a writer made it where there was no log
   pub at_first : (names (world before) log ≡ thing.File file) ⊎ ((names (world before) log ≡ thing.Nothing) × ((world before).drawn ≤ file))
   -- each member has its file, by identity
-  pub members : (place : ℕ) → HasName n place → names (world after) (path_at n place) ≡ turned c (thing.File file) (λ k. names (world before) (path_at n k)) place
+  pub members : (place : ℕ) → HasName n place → names (world after) (path_at n place) ≡ turned c from (thing.File file) (λ k. names (world before) (path_at n k)) place
   -- the log's path names nothing, or a file that was made since, by a writer or anew
   pub log_now : (names (world after) log ≡ thing.Nothing) ⊎ ((g : ℕ) × (names (world after) log ≡ thing.File g) × ((world turning).drawn ≤ g))
   -- each other path, but for these, names what it named, or a file that a writer made since
@@ -88,19 +89,20 @@ pub record IsRotated (paths : List Path) (n : Naming) (c : Count) (log : Path) (
   pub own : (id : ℕ) → (id ≡ file) ⊎ ((place : ℕ) × HasName n place × (names (world before) (path_at n place) ≡ thing.File id)) → IsNeverAt paths id before after
 
 -- And its file is the one that the log named before the first change: nothing was changed up to that moment.
-pub record IsRotatedWhole (paths : List Path) (n : Naming) (c : Count) (log : Path) (p q : Past) : Type 0 where
-  pub rotated : IsRotated paths n c log p q
+pub record IsRotatedWhole (paths : List Path) (n : Naming) (c : Count) (from : List ℕ) (log : Path) (p q : Past) : Type 0 where
+  pub rotated : IsRotated paths n c from log p q
   pub first : Past
   pub still : Quiet (IsNoMember n) p first
   pub until : IsBehind first rotated.turning
   pub log_stood : names (world first) log ≡ thing.File rotated.file
 
 -- The log was seen, a file, and its members, where nothing of the disk was changed; and then the changes are the rotation of the members that were seen, in order, with others on these paths between, and the making of the log anew.
-pub record RotatesAmong (paths : List Path) (log : Path) (n : Naming) (c : Count) (stand : Stand) (ts : List Entry) : Type 0 where
+pub record RotatesAmong (paths : List Path) (log : Path) (n : Naming) (c : Count) (from : List ℕ) (stand : Stand) (ts : List Entry) : Type 0 where
   pub front : List Entry
   pub back : List Entry
   pub joined : ts ≡ front ++ back
   pub still : ChangeNothing front
   pub log_seen : Among (Sees log IsFile) front
   pub seen : Shown n (places_of stand.members) front
-  pub changes : Weave (IsBeside paths log) (rotation n c log (places_of stand.members)) (filter is_disk_change back)
+  pub going : AreGoing c (places_of stand.members) from
+  pub changes : Weave (IsBeside paths log) (rotation n c log (places_of stand.members) from) (filter is_disk_change back)

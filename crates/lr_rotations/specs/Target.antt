@@ -1,5 +1,5 @@
 -- The logs that a run may rotate, and what it saw of each.
-use Rattle.std.specs.Prelude.{◌≡◌, ◌≢◌, ◌⊎◌, ◌↔◌, ◌+◌, ℕ, true, List, [], ◌∷◌, ◌++◌, map, reverse, Option, Some, None, Any, Contains}
+use Rattle.std.specs.Prelude.{◌≡◌, ◌≢◌, ◌⊎◌, ◌↔◌, ◌+◌, ℕ, ℤ, true, List, [], ◌∷◌, ◌++◌, map, reverse, Option, Some, None, Any, Contains}
 use Rattle.lr_rules.specs.declared.path.Path.{Path}
 use Rattle.lr_rules.specs.declared.rule.Count.{Count}
 use Rattle.lr_rules.specs.declared.rule.Count.TheVariants as count
@@ -11,8 +11,9 @@ use Rattle.lr_rules.specs.Match.{WordGives, is_wildcard}
 use Rattle.lr_rules.specs.Names.{IsMemberAt, naming_of}
 use Rattle.lr_rules.specs.Path.{path_fault}
 use Rattle.lr_host.specs.declared.entry.Entry.{Entry}
-use Rattle.lr_host.specs.declared.entry.Entry.TheVariants.{Renames, Unlinks}
+use Rattle.lr_host.specs.declared.entry.Entry.TheVariants.{Look, Renames, Unlinks}
 use Rattle.lr_host.specs.Fits.{IsFileAt}
+use Rattle.lr_host.specs.Lists.{IsIn}
 use Rattle.lr_host.specs.Looks.{Sees, IsFile}
 use Rattle.lr_host.specs.Opening.{IsJournal}
 use Rattle.lr_host.specs.Runs.{SomeRule}
@@ -21,13 +22,14 @@ use Rattle.lr_host.specs.World.{Past, world, names}
 use Rattle.lr_family.specs.declared.stand.Member.{Member}
 use Rattle.lr_family.specs.declared.stand.Stand.{Stand}
 use Rattle.lr_family.specs.Parts.{part_of}
+use Rattle.lr_family.specs.Spots.{path_at}
 use Rattle.lr_family.specs.Stands.{number_in}
 use Rattle.lr_scripts.specs.declared.removal.Removal.{Removal}
 use Rattle.lr_copy.specs.declared.job.Job.{Job}
 use Rattle.lr_copy.specs.Copying.{clearing}
 use Rattle.lr_chain.specs.declared.ready.Ready.{Ready}
 use Rattle.lr_chain.specs.Ready.{IsReady, move_step}
-use Rattle.lr_chain.specs.Rotation.{places_of}
+use Rattle.lr_chain.specs.Rotation.{places_of, going}
 use Rattle.lr_rotations.specs.Members.{IsFamily}
 use Rattle.lr_rotations.specs.Shown.{Shown}
 use Rattle.lr_rotations.specs.Weave.{Among}
@@ -54,12 +56,13 @@ pub record IsGiven (rules : List Rule) (looks : List Entry) (log : Path) (n : Na
 abbrev pub IsOneTooHigh : Naming → Count → List Member → Type 0
 IsOneTooHigh n c members = (c ≡ count.Always) × Any (λ m. n.start + number_in m.place ≡ 4294967295) members
 
--- A log that a run may rotate: its naming and count, what stood of its family, its rotation, which is ready, and the copy that stands in the place of the log's rename, if any.
+-- A log that a run may rotate: its naming and count, what stood of its family, the places from which members come that go, its rotation, which is ready, and the copy that stands in the place of the log's rename, if any.
 pub record Target : Type 0 where
   pub log : Path
   pub naming : Naming
   pub count : Count
   pub stand : Stand
+  pub from : List ℕ
   pub ready : Ready
   pub job : Option Job
 
@@ -78,7 +81,7 @@ rotation_of t = unlinks t.ready.leftovers ++ (map move_step t.ready.moves ++ (tr
 
 -- the rotation that is ready is that of the members that stood
 abbrev pub HasReady : Target → Type 0
-HasReady t = IsReady t.log t.naming t.count t.ready.make t.stand.members t.ready
+HasReady t = IsReady t.log t.naming t.count t.ready.make t.stand.members t.from t.ready
 
 -- The job copies the log, by a part file in the family's directory, to the final path.
 pub record IsJob (t : Target) (job : Job) : Type 0 where
@@ -95,19 +98,25 @@ HasJob t = (job : Job) → t.job ≡ Some job → IsJob t job
 abbrev pub IsJobOf : Target → List Entry → Type 0
 IsJobOf t looks = (job : Job) → t.job ≡ Some job → IsJob t job × (job.stale ≡ true → Among (Sees job.part IsFile) looks)
 
--- A word of a rule gives the log; it was seen as a file, and its members were, wherever these looks stand. Its rotation is that of the members that were seen, and so is its copy.
-pub record IsSeen (rules : Rules) (looks : List Entry) (t : Target) : Type 0 where
+-- the looks saw this of each of these members
+abbrev pub AreSights : Naming → List Member → List Entry → Type 0
+AreSights n members looks = (m : Member) → IsIn m members → IsIn (Look (path_at n (number_in m.place)) (Some m.seen)) looks
+
+-- A word of a rule gives the log; it was seen as a file, and its members were, wherever these looks stand. Its rotation is that of the members that were seen, of which those go that the rule's count and age let go at this moment, in seconds; and so is its copy.
+pub record IsSeen (rules : Rules) (now : ℤ) (looks : List Entry) (t : Target) : Type 0 where
   pub given : IsGiven rules.sets looks t.log t.naming t.count t.job
   pub family : IsFamily t.log t.naming
   pub log_seen : Among (Sees t.log IsFile) looks
   pub seen : Shown t.naming (places_of t.stand.members) looks
+  pub sights : AreSights t.naming t.stand.members looks
+  pub from_is : t.from ≡ going t.count given.rule.maxage now t.stand.members
   pub low : IsOneTooHigh t.naming t.count t.stand.members → ⊥
   pub ready : HasReady t
   pub job : IsJobOf t looks
 
-abbrev pub AreSeen : Rules → List Entry → List Target → Type 0
-AreSeen rules looks [] = Unit {0}
-AreSeen rules looks (t ∷ ts) = IsSeen rules looks t × AreSeen rules looks ts
+abbrev pub AreSeen : Rules → ℤ → List Entry → List Target → Type 0
+AreSeen rules now looks [] = Unit {0}
+AreSeen rules now looks (t ∷ ts) = IsSeen rules now looks t × AreSeen rules now looks ts
 
 abbrev pub IsOneOf : Target → List Target → Type 0
 IsOneOf t [] = ⊥

@@ -12,6 +12,7 @@ ghost use Rattle.lr_host.specs.Quiet.{is_disk_change};
 ghost use Rattle.lr_host.specs.Told.{Made, Left};
 ghost use Rattle.lr_family.specs.declared.stand.Stand.{Stand};
 ghost use Rattle.lr_chain.specs.Rotation.{places_of, rotation};
+ghost use Rattle.lr_chain.specs.Standing.{AreGoing};
 ghost use Rattle.lr_rotations.specs.Members.{IsFamily, AreThere, HaveNext, NoMemberAttached};
 ghost use Rattle.lr_rotations.specs.Rotated.{AreOutside, IsRotated, IsRotatedWhole, RotatesAmong};
 
@@ -19,18 +20,18 @@ ghost use Rattle.lr_rotations.specs.Rotated.{AreOutside, IsRotated, IsRotatedWho
 /// the family: the members that were seen are those that stood before, and each file is afterwards where the rotation takes
 /// it, by its identity and with its bytes, whatever writers did meanwhile.
 pub fn family_is_rotated()
-    ensures { (paths : List Path) (log : Path) (n : Naming) (c : Count) (stand : Stand) (p q : Past) (es : List Entry)
+    ensures { (paths : List Path) (log : Path) (n : Naming) (c : Count) (from : List ℕ) (stand : Stand) (p q : Past) (es : List Entry)
         → Made p es q → IsJournal p → IsFamily log n → HaveNext n c (places_of stand.members) → NoMemberAttached n p q
-        → AreOutside paths log n → RotatesAmong paths log n c stand (reverse es)
-        → AreThere n (names (world p)) (places_of stand.members) × IsRotatedWhole paths n c log p q }
+        → AreOutside paths log n → RotatesAmong paths log n c from stand (reverse es)
+        → AreThere n (names (world p)) (places_of stand.members) × IsRotatedWhole paths n c from log p q }
 {}
 
 /// The same of the entries of a rotation alone, as the removals of the leftovers, `turn` and `retire` leave them, where the
 /// members stand and the log is a file.
 pub fn steps_rotate_family()
-    ensures { (log : Path) (n : Naming) (c : Count) (places : List ℕ) (before after : Journal)
-        → Left (λ ts. filter is_disk_change ts ≡ rotation n c log places) (Some before) (Some after) → IsJournal (past before)
-        → IsFamily log n → HaveNext n c places → NoMemberAttached n (past before) (past after)
+    ensures { (log : Path) (n : Naming) (c : Count) (places from : List ℕ) (before after : Journal)
+        → Left (λ ts. filter is_disk_change ts ≡ rotation n c log places from) (Some before) (Some after) → IsJournal (past before)
+        → IsFamily log n → HaveNext n c places → AreGoing c places from → NoMemberAttached n (past before) (past after)
         → AreThere n (names (world (past before))) places → IsFileAt (names (world (past before))) log
-        → IsRotated [] n c log (past before) (past after) }
+        → IsRotated [] n c from log (past before) (past after) }
 {}

@@ -14,25 +14,28 @@ ghost use Rattle.lr_host.specs.Safe.{IsSafe};
 ghost use Rattle.lr_laws.specs.Rotation.{IsAside};
 ghost use Rattle.lr_laws.specs.Stays.{Rotates};
 ghost use Rattle.lr_chain.specs.Rotation.{rotation};
-ghost use Rattle.lr_rotations.specs.Members.{IsFamily, HasName, AreThere, HaveNext};
+ghost use Rattle.lr_chain.specs.Standing.{AreGoing};
+ghost use Rattle.lr_rotations.specs.Members.{IsFamily, HasName, AreThere, HaveNext, MayGo};
 
 /// Where these members stand, and the log is a file, the steps of a rotation fit one after another.
 pub fn rotation_fits()
-    ensures { (m : Names) (log : Path) (n : Naming) (c : Count) (places : List ℕ) → IsFamily log n → IsFileAt m log
-        → AreThere n m places → HaveNext n c places → FitAll m (reverse (rotation n c log places)) }
+    ensures { (m : Names) (log : Path) (n : Naming) (c : Count) (places from : List ℕ) → IsFamily log n → IsFileAt m log
+        → AreThere n m places → HaveNext n c places → AreGoing c places from → FitAll m (reverse (rotation n c log places from)) }
 {}
 
-/// In a run that has begun no rotation of the set, they are those of one rotation of it.
+/// In a run that has begun no rotation of the set, they are those of one rotation of it, where the rule lets those members go
+/// that go, by its count or by its age.
 pub fn rotation_is_one()
-    ensures { (s : LogSet) (p : Past) (c : Count) (places : List ℕ) → IsFamily s.log s.naming
+    ensures { (s : LogSet) (p : Past) (c : Count) (places from : List ℕ) → IsFamily s.log s.naming
         → IsFileAt (names (world p)) s.log → AreThere s.naming (names (world p)) places → HaveNext s.naming c places
+        → AreGoing c places from → MayGo s p c from
         → has_begun s p ≡ false → IsSafe s p → SomeRule (rules_of p) s.log (λ r. r.count ≡ c)
-        → Rotates (rotation s.naming c s.log places) s p }
+        → Rotates (rotation s.naming c s.log places from) s p }
 {}
 
 /// They lie aside of each set that the log's doesn't meet.
 pub fn rotation_is_aside()
-    ensures { (s : LogSet) (log : Path) (n : Naming) (c : Count) (places : List ℕ) → n.dated ≡ None
-        → (Meet s.log s.naming log n → ⊥) → All (HasName n) places → HaveNext n c places
-        → Each (IsAside s) (rotation n c log places) }
+    ensures { (s : LogSet) (log : Path) (n : Naming) (c : Count) (places from : List ℕ) → n.dated ≡ None
+        → (Meet s.log s.naming log n → ⊥) → All (HasName n) places → HaveNext n c places → AreGoing c places from
+        → Each (IsAside s) (rotation n c log places from) }
 {}

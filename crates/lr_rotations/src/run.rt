@@ -34,18 +34,18 @@ pub fn all_stay_safe()
 /// writers did meanwhile, also where the log is copied; and there are names for all its members, and for the part file of a
 /// copy, which is neither the log nor the final path.
 pub fn seen_can_be_rotated()
-    ensures fits { (rules : Rules) (t : Target) (before now : Option Journal) → Left (λ ts. AreQuiet ts × IsSeen rules ts t) before now
+    ensures fits { (rules : Rules) (moment : ℤ) (t : Target) (before now : Option Journal) → Left (λ ts. AreQuiet ts × IsSeen rules moment ts t) before now
         → CanCalls now (calls_of t) }
-    ensures names { (rules : Rules) (looks : List Entry) (t : Target) → IsSeen rules looks t → HasNames t }
-    ensures paths { (rules : Rules) (looks : List Entry) (t : Target) (job : Job) → IsSeen rules looks t → t.job ≡ Some job → ArePaths job }
+    ensures names { (rules : Rules) (moment : ℤ) (looks : List Entry) (t : Target) → IsSeen rules moment looks t → HasNames t }
+    ensures paths { (rules : Rules) (moment : ℤ) (looks : List Entry) (t : Target) (job : Job) → IsSeen rules moment looks t → t.job ≡ Some job → ArePaths job }
 {}
 
 /// Where each log was rotated whole, the entries are, for each of them that isn't copied, the looks at it and its rotation,
 /// with others between on the paths of other logs and of the state: `family_is_rotated` says what becomes of its files.
 pub fn whole_run_rotates()
-    ensures { (state : Path) (now : Moment) (rules : Rules) (reads tail : List Entry) (t : AllTurned state rules tail)
+    ensures { (state : Path) (now : Moment) (rules : Rules) (reads tail : List Entry) (t : AllTurned state now rules tail)
         (x : Target) → AreQuiet reads → IsOneOf x t.turns.targets → x.job ≡ None
-        → RotatesAmong (other_paths state x.log t.turns.targets) x.log x.naming x.count x.stand (reads ++ Starts state now rules ∷ tail) }
+        → RotatesAmong (other_paths state x.log t.turns.targets) x.log x.naming x.count x.from x.stand (reads ++ Starts state now rules ∷ tail) }
 {}
 
 /// Those paths lie outside of the log's family where no other log meets it, and the state's paths are no names of it.
@@ -60,7 +60,7 @@ pub fn others_are_outside()
 /// sets that are safe and steady.
 pub fn other_sets_are_left()
     ensures { (s : LogSet) (u q : Past) (state : Path) (now : Moment) (rules : Rules) (tail : List Entry)
-        (t : AllTurns state rules tail) → Made (u ▸ Starts state now rules) (reverse tail) q
+        (t : AllTurns state now rules tail) → Made (u ▸ Starts state now rules) (reverse tail) q
         → IsJournal (u ▸ Starts state now rules) → IsSafe s (u ▸ Starts state now rules) → IsSteady s q
         → ((x : Target) → IsOneOf x t.targets → x.log ≢ s.log)
         → (y : Path) (k : ℤ) → s.key y ≡ Some k → names (world q) y ≡ names (world u) y }
