@@ -4,6 +4,7 @@ use Rattle.std.specs.Prelude.{◌↔◌, OnOk, if◌then◌else◌}
 use Rattle.std.proofs.lemmas.List.{append-nil}
 use Rattle.std.proofs.lemmas.List.Folds.{list_any_at}
 use Rattle.lr_rules.specs.declared.path.Path.{Path}
+use Rattle.lr_rules.specs.declared.civil.Moment.{Moment}
 use Rattle.lr_rules.specs.declared.fault.Fault.{Fault}
 use Rattle.lr_rules.specs.declared.fault.Fault.TheVariants as fault
 use Rattle.lr_rules.specs.declared.rule.Count.{Count}
@@ -26,7 +27,7 @@ use Rattle.lr_chain.proofs.Highest.{path_is}
 use Rattle.lr_plan.specs.declared.looks.LogLook.{LogLook}
 use Rattle.lr_plan.specs.declared.looks.SetLooks.{SetLooks}
 use Rattle.lr_plan.specs.Internal.Hindered.{fault_of}
-use Rattle.lr_plan.specs.Planned.{keeps_all, is_too_high, hindrances, make_of, ready_for, log_plan, none_hinders, plans_of, decisions_of, log_plans, log_faults, set_plan, all_decisions, all_plans, all_faults, CanPlanSet, CanPlanAll}
+use Rattle.lr_plan.specs.Planned.{keeps_all, is_too_high, hindrances, make_of, going_from, ready_for, log_plan, none_hinders, plans_of, decisions_of, log_plans, log_faults, set_plan, all_decisions, all_plans, all_faults, CanPlanSet, CanPlanAll}
 
 -- where a call went well, what follows from what it ensures
 pub where_ok : {T E P Q : Type 0} (r : Result T E) → OnOk r P → (P → Q) → OnOk r Q
@@ -42,9 +43,9 @@ same_ready : (l l' : List Removal) (d d' : Option (Path × Option ℕ)) (m m' : 
     → l ≡ l' → d ≡ d' → m ≡ m' → g ≡ g' → t ≡ t' → k ≡ k' → r ≡ r' → made l d m g t k r ≡ made l' d' m' g' t' k' r'
 same_ready l l' d d' m m' g g' t t' k k' r r' a b c e f h i = cc
 
-pub ready_is : (rule : Rule) (look : LogLook) (ready : Ready) → look.family.log ≡ look.path → IsReady look.family.log look.family.naming rule.count (make_of rule.create look.seen) look.stand.members ready
-    → ready ≡ ready_for rule look
-ready_is rule look ready e i = same_ready ready.leftovers _ ready.dir _ ready.moves _ ready.log _ ready.target _ ready.make _ ready.retire _
+pub ready_is : (now : Moment) (rule : Rule) (look : LogLook) (ready : Ready) → look.family.log ≡ look.path → IsReady look.family.log look.family.naming rule.count (make_of rule.create look.seen) look.stand.members (going_from now rule look) ready
+    → ready ≡ ready_for now rule look
+ready_is now rule look ready e i = same_ready ready.leftovers _ ready.dir _ ready.moves _ ready.log _ ready.target _ ready.make _ ready.retire _
     i.leftovers_are i.no_dir i.moves_are (i.log_is ∙ e) i.target_is i.make_is i.retire_is
 
 -- nothing hinders
@@ -113,11 +114,11 @@ height_hinders rule look path named h =
     let k = highest_has rule look path named h in
     high_by look.stand.there (is_too_high rule look) look.family.naming h.0 k.0 ∙ ap (λ (x : Path). fault.TooHigh x ∷ []) k.1
 
-pub plans_there : (mailer : Path) (rule : Rule) (look : LogLook) → hindrances rule look ≡ [] → log_plan mailer rule look ∷ [] ≡ plans_of mailer rule look
-plans_there mailer rule look h = ap (λ (fs : List Fault). none_hinders fs (log_plan mailer rule look ∷ [])) (sym h)
+pub plans_there : (now : Moment) (mailer : Path) (rule : Rule) (look : LogLook) → hindrances rule look ≡ [] → log_plan now mailer rule look ∷ [] ≡ plans_of now mailer rule look
+plans_there now mailer rule look h = ap (λ (fs : List Fault). none_hinders fs (log_plan now mailer rule look ∷ [])) (sym h)
 
-pub plans_none : (mailer : Path) (rule : Rule) (look : LogLook) (f : Fault) → hindrances rule look ≡ f ∷ [] → plans_of mailer rule look ≡ []
-plans_none mailer rule look f h = ap (λ (fs : List Fault). none_hinders fs (log_plan mailer rule look ∷ [])) h
+pub plans_none : (now : Moment) (mailer : Path) (rule : Rule) (look : LogLook) (f : Fault) → hindrances rule look ≡ f ∷ [] → plans_of now mailer rule look ≡ []
+plans_none now mailer rule look f h = ap (λ (fs : List Fault). none_hinders fs (log_plan now mailer rule look ∷ [])) h
 
 -- what keeps a rotation from being prepared is what hinders it
 pub stop_hinders : (rule : Rule) (look : LogLook) (r : Result Ready PrepareStop) (stop : PrepareStop) (f : Fault) → AreNamed look.family.naming look.stand.members → r ≡ Err stop → Ok f ≡ fault_of stop
@@ -158,14 +159,14 @@ decisions_step decide (r ∷ rules) (s ∷ sets) (suc at) rule set lt same e f =
     ap (λ xs. decisions_of (decide r) s.logs ++ xs) (decisions_step decide rules sets at rule set (omega arith) (omega (arith, same)) e f)
     ∙ sym (append_assoc (decisions_of (decide r) s.logs) (all_decisions decide (take at rules) (take at sets)) (decisions_of (decide rule) set.logs))
 
-plans_step : (mailer : Path) (decide : Rule → LogLook → Due) (rules : List Rule) (sets : List SetLooks) (at : ℕ) (rule : Rule) (set : SetLooks) → at < length rules → length sets ≡ length rules → rule ≡ get_or rules at rule → set ≡ get_or sets at set
-    → all_plans mailer decide (take (suc at) rules) (take (suc at) sets) ≡ all_plans mailer decide (take at rules) (take at sets) ++ set_plan rule (log_plans mailer rule (decide rule) set.logs) ∷ []
-plans_step mailer decide [] sets at rule set lt same e f = absurd (omega arith)
-plans_step mailer decide (r ∷ rules) [] at rule set lt same e f = absurd (omega (arith, same))
-plans_step mailer decide (r ∷ rules) (s ∷ sets) zero rule set lt same e f =
-    ap (λ (q : Rule). set_plan q (log_plans mailer q (decide q) s.logs) ∷ []) (sym e) ∙ ap (λ (x : SetLooks). set_plan rule (log_plans mailer rule (decide rule) x.logs) ∷ []) (sym f)
-plans_step mailer decide (r ∷ rules) (s ∷ sets) (suc at) rule set lt same e f =
-    ap (λ xs. set_plan r (log_plans mailer r (decide r) s.logs) ∷ xs) (plans_step mailer decide rules sets at rule set (omega arith) (omega (arith, same)) e f)
+plans_step : (now : Moment) (mailer : Path) (decide : Rule → LogLook → Due) (rules : List Rule) (sets : List SetLooks) (at : ℕ) (rule : Rule) (set : SetLooks) → at < length rules → length sets ≡ length rules → rule ≡ get_or rules at rule → set ≡ get_or sets at set
+    → all_plans now mailer decide (take (suc at) rules) (take (suc at) sets) ≡ all_plans now mailer decide (take at rules) (take at sets) ++ set_plan rule (log_plans now mailer rule (decide rule) set.logs) ∷ []
+plans_step now mailer decide [] sets at rule set lt same e f = absurd (omega arith)
+plans_step now mailer decide (r ∷ rules) [] at rule set lt same e f = absurd (omega (arith, same))
+plans_step now mailer decide (r ∷ rules) (s ∷ sets) zero rule set lt same e f =
+    ap (λ (q : Rule). set_plan q (log_plans now mailer q (decide q) s.logs) ∷ []) (sym e) ∙ ap (λ (x : SetLooks). set_plan rule (log_plans now mailer rule (decide rule) x.logs) ∷ []) (sym f)
+plans_step now mailer decide (r ∷ rules) (s ∷ sets) (suc at) rule set lt same e f =
+    ap (λ xs. set_plan r (log_plans now mailer r (decide r) s.logs) ∷ xs) (plans_step now mailer decide rules sets at rule set (omega arith) (omega (arith, same)) e f)
 
 faults_step : (decide : Rule → LogLook → Due) (rules : List Rule) (sets : List SetLooks) (at : ℕ) (rule : Rule) (set : SetLooks) → at < length rules → length sets ≡ length rules → rule ≡ get_or rules at rule → set ≡ get_or sets at set
     → all_faults decide (take (suc at) rules) (take (suc at) sets) ≡ all_faults decide (take at rules) (take at sets) ++ log_faults rule (decide rule) set.logs
@@ -185,10 +186,10 @@ pub decisions_more : (decide : Rule → LogLook → Due) (rules : List Rule) (se
 decisions_more decide rules sets at rule set lt same e f =
     subst (λ k. all_decisions decide (take k rules) (take k sets) ≡ all_decisions decide (take at rules) (take at sets) ++ decisions_of (decide rule) set.logs) (next_is at) (decisions_step decide rules sets at rule set lt same e f)
 
-pub plans_more : (mailer : Path) (decide : Rule → LogLook → Due) (rules : List Rule) (sets : List SetLooks) (at : ℕ) (rule : Rule) (set : SetLooks) → at < length rules → length sets ≡ length rules → rule ≡ get_or rules at rule → set ≡ get_or sets at set
-    → all_plans mailer decide (take (at + 1) rules) (take (at + 1) sets) ≡ all_plans mailer decide (take at rules) (take at sets) ++ set_plan rule (log_plans mailer rule (decide rule) set.logs) ∷ []
-plans_more mailer decide rules sets at rule set lt same e f =
-    subst (λ k. all_plans mailer decide (take k rules) (take k sets) ≡ all_plans mailer decide (take at rules) (take at sets) ++ set_plan rule (log_plans mailer rule (decide rule) set.logs) ∷ []) (next_is at) (plans_step mailer decide rules sets at rule set lt same e f)
+pub plans_more : (now : Moment) (mailer : Path) (decide : Rule → LogLook → Due) (rules : List Rule) (sets : List SetLooks) (at : ℕ) (rule : Rule) (set : SetLooks) → at < length rules → length sets ≡ length rules → rule ≡ get_or rules at rule → set ≡ get_or sets at set
+    → all_plans now mailer decide (take (at + 1) rules) (take (at + 1) sets) ≡ all_plans now mailer decide (take at rules) (take at sets) ++ set_plan rule (log_plans now mailer rule (decide rule) set.logs) ∷ []
+plans_more now mailer decide rules sets at rule set lt same e f =
+    subst (λ k. all_plans now mailer decide (take k rules) (take k sets) ≡ all_plans now mailer decide (take at rules) (take at sets) ++ set_plan rule (log_plans now mailer rule (decide rule) set.logs) ∷ []) (next_is at) (plans_step now mailer decide rules sets at rule set lt same e f)
 
 pub faults_more : (decide : Rule → LogLook → Due) (rules : List Rule) (sets : List SetLooks) (at : ℕ) (rule : Rule) (set : SetLooks) → at < length rules → length sets ≡ length rules → rule ≡ get_or rules at rule → set ≡ get_or sets at set
     → all_faults decide (take (at + 1) rules) (take (at + 1) sets) ≡ all_faults decide (take at rules) (take at sets) ++ log_faults rule (decide rule) set.logs

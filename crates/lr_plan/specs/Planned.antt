@@ -1,6 +1,6 @@
 -- The plan that the rules, what was seen of their logs, the table of the state, the moment of the run, `--force` and the
 -- program that mails files make together.
-use Rattle.std.specs.Prelude.{◌≡◌, ◌≤◌, ◌&&◌, Bool, true, false, not, List, [], ◌∷◌, ◌++◌, map, All, Option, Some, None, if◌then◌else◌}
+use Rattle.std.specs.Prelude.{◌≡◌, ◌≤◌, ◌&&◌, ℕ, Bool, true, false, not, List, [], ◌∷◌, ◌++◌, map, All, Option, Some, None, if◌then◌else◌}
 use Rattle.std.specs.List.{flat_map, list_any}
 use Rattle.std.specs.Str.{bytes_eq}
 use Rattle.lr_rules.specs.declared.path.Path.{Path}
@@ -23,10 +23,10 @@ use Rattle.lr_state.specs.Table.{Entry, moment_of}
 use Rattle.lr_family.specs.Parts.{part_of}
 use Rattle.lr_family.specs.Places.{AreNamed}
 use Rattle.lr_family.specs.Spots.{path_at}
-use Rattle.lr_commands.specs.Commands.{spaced, script, where_so, with_programs}
+use Rattle.lr_commands.specs.Commands.{spaced, script, where_so, mail, with_programs}
 use Rattle.lr_chain.specs.declared.ready.Ready.{Ready}
 use Rattle.lr_chain.specs.Ready.{IsCount, at_rest, with_members, is_highest, highest_path}
-use Rattle.lr_chain.specs.Rotation.{places_of}
+use Rattle.lr_chain.specs.Rotation.{places_of, going}
 use Rattle.lr_copy.specs.declared.job.Job.{Job}
 use Rattle.lr_plan.specs.Asked.{Asked}
 use Rattle.lr_plan.specs.declared.looks.LogLook.{LogLook}
@@ -61,9 +61,13 @@ make_of make.No seen = make.No
 make_of (make.Yes None) seen = make.Yes seen.mode
 make_of (make.Yes (Some mode)) seen = make.Yes (Some mode)
 
+-- the places from which members come that go, by the rule's count and age, at this moment
+abbrev pub going_from : Moment → Rule → LogLook → List ℕ
+going_from now rule look = going rule.count rule.maxage now.seconds look.stand.members
+
 -- its rotation, with all its paths, and each removal without the programs before it
-abbrev pub ready_for : Rule → LogLook → Ready
-ready_for rule look = with_members look.family.naming rule.count (places_of look.stand.members) (at_rest look.path look.family.naming (make_of rule.create look.seen))
+abbrev pub ready_for : Moment → Rule → LogLook → Ready
+ready_for now rule look = with_members look.family.naming rule.count (places_of look.stand.members) (going_from now rule look) (at_rest look.path look.family.naming (make_of rule.create look.seen))
 
 -- the rotation with these removals, the first ones and those at the end
 abbrev pub with_removals : List Removal → List Removal → Ready → Ready
@@ -99,13 +103,13 @@ job_by way.CopyTruncate look = Some (copy_job look true)
 abbrev pub job_of : Rule → LogLook → Option Job
 job_of rule look = job_by rule.way look
 
--- what is done with it: its own scripts where the definition doesn't share them, and the rotation, by rename or by copy
-abbrev pub log_plan : Path → Rule → LogLook → LogPlan
-log_plan mailer rule look = record {
+-- what is done with it: its own scripts where the definition doesn't share them, the rotation, by rename or by copy, and with `mailfirst` the mail of the file that was the log
+abbrev pub log_plan : Moment → Path → Rule → LogLook → LogPlan
+log_plan now mailer rule look = record {
   pre = where_so (not rule.shared) (script rule.scripts.pre (look.path ∷ []));
   post = where_so (not rule.shared) (script rule.scripts.post (look.path ∷ path_at look.family.naming 0 ∷ []));
-  first_mail = None;
-  ready = dressed rule mailer (ready_for rule look);
+  first_mail = where_so rule.mailfirst (mail mailer rule.mail look.path (path_at look.family.naming 0));
+  ready = dressed rule mailer (ready_for now rule look);
   job = job_of rule look;
 }
 
@@ -114,8 +118,8 @@ none_hinders [] plans = plans
 none_hinders (f ∷ fs) plans = []
 
 -- of a log that is due: its plan, or what hinders it
-abbrev pub plans_of : Path → Rule → LogLook → List LogPlan
-plans_of mailer rule look = none_hinders (hindrances rule look) (log_plan mailer rule look ∷ [])
+abbrev pub plans_of : Moment → Path → Rule → LogLook → List LogPlan
+plans_of now mailer rule look = none_hinders (hindrances rule look) (log_plan now mailer rule look ∷ [])
 
 abbrev pub where_due : {A : Type 0} → Due → List A → List A
 where_due (due.Yes why) xs = xs
@@ -126,8 +130,8 @@ where_due (due.No why) xs = []
 abbrev pub decisions_of : (LogLook → Due) → List LogLook → List (Path × Due)
 decisions_of decide looks = map (λ look. (look.path, decide look)) looks
 
-abbrev pub log_plans : Path → Rule → (LogLook → Due) → List LogLook → List LogPlan
-log_plans mailer rule decide looks = flat_map (λ look. where_due (decide look) (plans_of mailer rule look)) looks
+abbrev pub log_plans : Moment → Path → Rule → (LogLook → Due) → List LogLook → List LogPlan
+log_plans now mailer rule decide looks = flat_map (λ look. where_due (decide look) (plans_of now mailer rule look)) looks
 
 abbrev pub log_faults : Rule → (LogLook → Due) → List LogLook → List Fault
 log_faults rule decide looks = flat_map (λ look. where_due (decide look) (hindrances rule look)) looks
@@ -149,9 +153,9 @@ abbrev pub all_decisions : (Rule → LogLook → Due) → List Rule → List Set
 all_decisions decide (rule ∷ rules) (set ∷ sets) = decisions_of (decide rule) set.logs ++ all_decisions decide rules sets
 all_decisions decide _ _ = []
 
-abbrev pub all_plans : Path → (Rule → LogLook → Due) → List Rule → List SetLooks → List SetPlan
-all_plans mailer decide (rule ∷ rules) (set ∷ sets) = set_plan rule (log_plans mailer rule (decide rule) set.logs) ∷ all_plans mailer decide rules sets
-all_plans mailer decide _ _ = []
+abbrev pub all_plans : Moment → Path → (Rule → LogLook → Due) → List Rule → List SetLooks → List SetPlan
+all_plans now mailer decide (rule ∷ rules) (set ∷ sets) = set_plan rule (log_plans now mailer rule (decide rule) set.logs) ∷ all_plans now mailer decide rules sets
+all_plans now mailer decide _ _ = []
 
 abbrev pub all_faults : (Rule → LogLook → Due) → List Rule → List SetLooks → List Fault
 all_faults decide (rule ∷ rules) (set ∷ sets) = log_faults rule (decide rule) set.logs ++ all_faults decide rules sets
@@ -161,7 +165,7 @@ all_faults decide _ _ = []
 abbrev pub plan_of : List Rule → List SetLooks → List Entry → Moment → Asked → Plan
 plan_of rules sets table now asked = record {
   decisions = all_decisions (decision table now asked.force) rules sets;
-  sets = all_plans asked.mailer (decision table now asked.force) rules sets;
+  sets = all_plans now asked.mailer (decision table now asked.force) rules sets;
   faults = all_faults (decision table now asked.force) rules sets;
 }
 

@@ -14,7 +14,7 @@ use crate::looks::{LogLook, Looks, SetLooks};
 use crate::planned::{LogPlan, Plan, SetPlan};
 use crate::settings::Settings;
 use lr_chain::{PrepareStop, Ready, prepare};
-use lr_commands::{spaced, with_programs};
+use lr_commands::{mail_of, spaced, with_programs};
 use lr_copy::Job;
 use lr_due::{Due, due};
 use lr_host::Seen;
@@ -89,20 +89,29 @@ fn scripted(
     alloc: Global,
     rule: &Rule,
     mailer: &Path,
+    now: &Moment,
     look: &LogLook,
     ready: Ready,
     job: Option<Job>,
 ) -> Result<LogPlan, Memory>
-    requires ready { ready ≡ ready_for rule.now look.now }
+    requires ready { ready ≡ ready_for now.now rule.now look.now }
     requires job { job ≡ job_of rule.now look.now }
-    ensures { IfOk result (λ plan. plan ≡ log_plan mailer.now rule.now look.now) }
+    ensures { IfOk result (λ plan. plan ≡ log_plan now.now mailer.now rule.now look.now) }
 {
     let (pre, post) = own_scripts(alloc, rule, &look.path, &ready.target)?;
+    let first_mail = mail_of(
+        alloc,
+        rule.mailfirst,
+        mailer,
+        &rule.mail,
+        &ready.log,
+        &ready.target,
+    )?;
     let ready = with_all_programs(alloc, rule, mailer, ready)?;
     Ok(LogPlan {
         pre,
         post,
-        first_mail: None,
+        first_mail,
         ready,
         job,
     })
@@ -113,16 +122,17 @@ fn add_plan(
     alloc: Global,
     rule: &Rule,
     mailer: &Path,
+    now: &Moment,
     look: &LogLook,
     ready: Ready,
     plans: &mut Vec<LogPlan>,
 ) -> Result<(), Memory>
     requires start { look.now.family.naming.start ≤ 999999 }
-    requires ready { ready ≡ ready_for rule.now look.now }
-    ensures { OnOk result (plans.new.items ≡ plans.old.items ++ log_plan mailer.now rule.now look.now ∷ []) }
+    requires ready { ready ≡ ready_for now.now rule.now look.now }
+    ensures { OnOk result (plans.new.items ≡ plans.old.items ++ log_plan now.now mailer.now rule.now look.now ∷ []) }
 {
     let job = job_of(alloc, rule, look, &ready.target)?;
-    plans.push(scripted(alloc, rule, mailer, look, ready, job)?)?;
+    plans.push(scripted(alloc, rule, mailer, now, look, ready, job)?)?;
     Ok(())
 }
 
@@ -131,18 +141,27 @@ fn add_due(
     alloc: Global,
     rule: &Rule,
     mailer: &Path,
+    now: &Moment,
     look: &LogLook,
     plans: &mut Vec<LogPlan>,
     faults: &mut Vec<Fault>,
 ) -> Result<(), Memory>
     requires count { IsCount rule.now.count }
     requires look { CanPlan rule.now look.now }
-    ensures plans { OnOk result (plans.new.items ≡ plans.old.items ++ plans_of mailer.now rule.now look.now) }
+    ensures plans { OnOk result (plans.new.items ≡ plans.old.items ++ plans_of now.now mailer.now rule.now look.now) }
     ensures faults { OnOk result (faults.new.items ≡ faults.old.items ++ hindrances rule.now look.now) }
 {
     let anew = made_with(rule.create, &look.seen);
-    match prepare(alloc, &look.family, &look.stand, rule.count, anew) {
-        Ok(ready) => add_plan(alloc, rule, mailer, look, ready, plans),
+    match prepare(
+        alloc,
+        &look.family,
+        &look.stand,
+        rule.count,
+        rule.maxage,
+        now.seconds,
+        anew,
+    ) {
+        Ok(ready) => add_plan(alloc, rule, mailer, now, look, ready, plans),
         Err(stop) => {
             faults.push(hindrance(stop)?)?;
             Ok(())
@@ -155,6 +174,7 @@ fn add_look(
     alloc: Global,
     rule: &Rule,
     mailer: &Path,
+    now: &Moment,
     look: &LogLook,
     decided: Due,
     plans: &mut Vec<LogPlan>,
@@ -162,11 +182,11 @@ fn add_look(
 ) -> Result<(), Memory>
     requires count { IsCount rule.now.count }
     requires look { CanPlan rule.now look.now }
-    ensures plans { OnOk result (plans.new.items ≡ plans.old.items ++ where_due decided (plans_of mailer.now rule.now look.now)) }
+    ensures plans { OnOk result (plans.new.items ≡ plans.old.items ++ where_due decided (plans_of now.now mailer.now rule.now look.now)) }
     ensures faults { OnOk result (faults.new.items ≡ faults.old.items ++ where_due decided (hindrances rule.now look.now)) }
 {
     match decided {
-        Due::Yes(_) => add_due(alloc, rule, mailer, look, plans, faults),
+        Due::Yes(_) => add_due(alloc, rule, mailer, now, look, plans, faults),
         Due::No(_) => Ok(()),
     }
 }
@@ -202,13 +222,13 @@ fn plan_all(
     faults: &mut Vec<Fault>,
 ) -> Result<Vec<LogPlan>, Memory>
     requires { CanPlanSet rule.now looks.now }
-    ensures plans { IfOk result (λ plans. plans.items ≡ log_plans mailer.now rule.now (decision state.now now.now force rule.now) looks.now) }
+    ensures plans { IfOk result (λ plans. plans.items ≡ log_plans now.now mailer.now rule.now (decision state.now now.now force rule.now) looks.now) }
     ensures faults { OnOk result (faults.new.items ≡ faults.old.items ++ log_faults rule.now (decision state.now now.now force rule.now) looks.now) }
 {
     let mut plans = Vec::new(alloc);
     for look in looks {
         let decided = decide(rule, look, state, now, force);
-        add_look(alloc, rule, mailer, look, decided, &mut plans, faults)?;
+        add_look(alloc, rule, mailer, now, look, decided, &mut plans, faults)?;
     }
     Ok(plans)
 }
@@ -254,7 +274,7 @@ fn plan_set(
     faults: &mut Vec<Fault>,
 ) -> Result<SetPlan, Memory>
     requires { CanPlanSet rule.now looks.now }
-    ensures set { IfOk result (λ set. set ≡ set_plan rule.now (log_plans mailer.now rule.now (decision state.now now.now force rule.now) looks.now)) }
+    ensures set { IfOk result (λ set. set ≡ set_plan rule.now (log_plans now.now mailer.now rule.now (decision state.now now.now force rule.now) looks.now)) }
     ensures faults { OnOk result (faults.new.items ≡ faults.old.items ++ log_faults rule.now (decision state.now now.now force rule.now) looks.now) }
 {
     let logs = plan_all(alloc, rule, mailer, looks, state, now, force, faults)?;
@@ -282,7 +302,7 @@ fn add_set(
 ) -> Result<(), Memory>
     requires { CanPlanSet rule.now looks.now }
     ensures decisions { OnOk result (draft.new.decisions.items ≡ draft.old.decisions.items ++ decisions_of (decision state.now now.now force rule.now) looks.now) }
-    ensures sets { OnOk result (draft.new.sets.items ≡ draft.old.sets.items ++ set_plan rule.now (log_plans mailer.now rule.now (decision state.now now.now force rule.now) looks.now) ∷ []) }
+    ensures sets { OnOk result (draft.new.sets.items ≡ draft.old.sets.items ++ set_plan rule.now (log_plans now.now mailer.now rule.now (decision state.now now.now force rule.now) looks.now) ∷ []) }
     ensures faults { OnOk result (draft.new.faults.items ≡ draft.old.faults.items ++ log_faults rule.now (decision state.now now.now force rule.now) looks.now) }
 {
     add_decisions(alloc, rule, looks, state, now, force, &mut draft.decisions)?;
@@ -313,7 +333,7 @@ fn plan_sets(
 ) -> Result<(), Memory>
     requires { CanPlanAll rules.now sets.now }
     ensures decisions { OnOk result (draft.new.decisions.items ≡ draft.old.decisions.items ++ all_decisions (decision state.now now.now force) rules.now sets.now) }
-    ensures sets { OnOk result (draft.new.sets.items ≡ draft.old.sets.items ++ all_plans mailer.now (decision state.now now.now force) rules.now sets.now) }
+    ensures sets { OnOk result (draft.new.sets.items ≡ draft.old.sets.items ++ all_plans now.now mailer.now (decision state.now now.now force) rules.now sets.now) }
     ensures faults { OnOk result (draft.new.faults.items ≡ draft.old.faults.items ++ all_faults (decision state.now now.now force) rules.now sets.now) }
 {
     for at in 0..rules.len() {
@@ -332,7 +352,7 @@ fn plan_sets(
 }
 
 /// The plan of a run: whether each log that was looked at whole is due, what is done with those that are, and what
-/// hinders some. So far of logs whose members are numbered, and of which no file is mailed but those that are removed.
+/// hinders some. So far of logs whose members are numbered.
 pub fn plan(
     alloc: Global,
     rules: &Rules,

@@ -1,6 +1,7 @@
 -- Where a target comes from: a look of the plan that nothing hinders, a log that was looked at whole, and a word of its rule that found it.
 use Rattle.std.proofs.Common.{◌≡◌, inl, inr, ⊎_elim, ℕ, zero, suc, ◌+◌, ◌-◌, Bool, true, false, cond, eqb, List, [], ◌∷◌, ◌++◌, length, map, Some, Ok, Err, slice_get, refl, sym, ap, ◌∙◌, subst, append_assoc, arith}
 use Rattle.std.specs.List.{flat_map}
+use Rattle.lr_rules.specs.declared.civil.Moment.{Moment}
 use Rattle.lr_rules.specs.declared.fault.Fault.{Fault}
 use Rattle.lr_rules.specs.declared.path.Path.{Path}
 use Rattle.lr_rules.specs.declared.rule.Rule.{Rule}
@@ -42,20 +43,20 @@ in_free [] u t (inr none) = absurd none
 in_free (f ∷ fs) u t h = absurd h
 
 -- The target is that of one of these looks, which nothing hinders.
-pub record IsOfLook (rule : Rule) (looks : List LogLook) (t : Target) : Type 0 where
+pub record IsOfLook (now : Moment) (rule : Rule) (looks : List LogLook) (t : Target) : Type 0 where
   pub look : LogLook
   pub among : IsIn look looks
   pub free : hindrances rule look ≡ []
-  pub is : t ≡ target_of rule look
+  pub is : t ≡ target_of now rule look
 
-pub of_look : (rule : Rule) (decide : LogLook → Due) (looks : List LogLook) (t : Target) → IsIn t (targets_of rule decide looks) → IsOfLook rule looks t
-of_look rule decide looks t i =
-    let r = in_flat (λ (look : LogLook). where_due (decide look) (where_free (hindrances rule look) (target_of rule look))) looks t i in
-    let f = in_free (hindrances rule r.0) (target_of rule r.0) t (in_due (decide r.0) (where_free (hindrances rule r.0) (target_of rule r.0)) t r.2) in
+pub of_look : (now : Moment) (rule : Rule) (decide : LogLook → Due) (looks : List LogLook) (t : Target) → IsIn t (targets_of now rule decide looks) → IsOfLook now rule looks t
+of_look now rule decide looks t i =
+    let r = in_flat (λ (look : LogLook). where_due (decide look) (where_free (hindrances rule look) (target_of now rule look))) looks t i in
+    let f = in_free (hindrances rule r.0) (target_of now rule r.0) t (in_due (decide r.0) (where_free (hindrances rule r.0) (target_of now rule r.0)) t r.2) in
     record { look = r.0; among = r.1; free = f.0; is = f.1 }
 
 -- The target is one of the definition at this place, of a log that nothing hinders.
-pub record Comes (rules : List Rule) (sets : List SetLooks) (t : Target) : Type 0 where
+pub record Comes (now : Moment) (rules : List Rule) (sets : List SetLooks) (t : Target) : Type 0 where
   pub place : ℕ
   pub rule : Rule
   pub set : SetLooks
@@ -64,18 +65,18 @@ pub record Comes (rules : List Rule) (sets : List SetLooks) (t : Target) : Type 
   pub at_set : slice_get sets place ≡ Some set
   pub among : IsIn look set.logs
   pub free : hindrances rule look ≡ []
-  pub is : t ≡ target_of rule look
+  pub is : t ≡ target_of now rule look
 
-pub comes_from : (decide : Rule → LogLook → Due) (rules : List Rule) (sets : List SetLooks) (t : Target) → IsIn t (all_targets decide rules sets) → Comes rules sets t
-comes_from decide [] [] t h = absurd h
-comes_from decide [] (set ∷ sets) t h = absurd h
-comes_from decide (rule ∷ rules) [] t h = absurd h
-comes_from decide (rule ∷ rules) (set ∷ sets) t h = ⊎_elim own (λ b. further (comes_from decide rules sets t b)) (in_append t (targets_of rule (decide rule) set.logs) (all_targets decide rules sets) h)
+pub comes_from : (now : Moment) (decide : Rule → LogLook → Due) (rules : List Rule) (sets : List SetLooks) (t : Target) → IsIn t (all_targets now decide rules sets) → Comes now rules sets t
+comes_from now decide [] [] t h = absurd h
+comes_from now decide [] (set ∷ sets) t h = absurd h
+comes_from now decide (rule ∷ rules) [] t h = absurd h
+comes_from now decide (rule ∷ rules) (set ∷ sets) t h = ⊎_elim own (λ b. further (comes_from now decide rules sets t b)) (in_append t (targets_of now rule (decide rule) set.logs) (all_targets now decide rules sets) h)
   where
-    own : IsIn t (targets_of rule (decide rule) set.logs) → Comes (rule ∷ rules) (set ∷ sets) t
-    own a = let o = of_look rule (decide rule) set.logs t a in record { place = 0; rule = rule; set = set; look = o.look; at_rule = refl; at_set = refl; among = o.among; free = o.free; is = o.is }
+    own : IsIn t (targets_of now rule (decide rule) set.logs) → Comes now (rule ∷ rules) (set ∷ sets) t
+    own a = let o = of_look now rule (decide rule) set.logs t a in record { place = 0; rule = rule; set = set; look = o.look; at_rule = refl; at_set = refl; among = o.among; free = o.free; is = o.is }
 
-    further : Comes rules sets t → Comes (rule ∷ rules) (set ∷ sets) t
+    further : Comes now rules sets t → Comes now (rule ∷ rules) (set ∷ sets) t
     further c = record { place = suc c.place; rule = c.rule; set = c.set; look = c.look; at_rule = c.at_rule; at_set = c.at_set; among = c.among; free = c.free; is = c.is }
 
 -- ---- a log that was looked at whole

@@ -13,20 +13,24 @@ use Rattle.lr_host.specs.declared.entry.Entry.TheVariants as entry
 use Rattle.lr_host.specs.Lists.{IsIn}
 use Rattle.lr_host.specs.Looks.{Sees, IsDir}
 use Rattle.lr_host.specs.Told.{Then}
-use Rattle.lr_host.proofs.Lists.{in_map, in_front, in_back, in_append}
+use Rattle.lr_host.proofs.Lists.{in_from, in_to, in_map, in_unmap, in_front, in_back, in_append}
 use Rattle.lr_family.specs.declared.listing.Listing.{Listing}
 use Rattle.lr_family.specs.declared.spot.Spot.{Spot}
+use Rattle.lr_family.specs.declared.stand.Member.{Member}
 use Rattle.lr_family.specs.declared.stand.Stand.{Stand}
 use Rattle.lr_family.specs.Among.{StandsAmong, ShowsMembers, ShowsIn}
 use Rattle.lr_family.specs.Listed.{HasListed, ShowsListing}
+use Rattle.lr_family.specs.Looks.{Sight, look_of, seen_at, member_of}
 use Rattle.lr_family.specs.Named.{member_name}
 use Rattle.lr_family.specs.Parts.{part_if_file, part_seen, part_in, part_look, ShowsParts}
-use Rattle.lr_family.specs.Spots.{AreSpots}
+use Rattle.lr_family.specs.Spots.{path_at, spot_at, AreSpots}
+use Rattle.lr_family.specs.Stands.{number_in}
 use Rattle.lr_days.specs.Among.{ShowsMembers as ShowsDays}
 use Rattle.lr_chain.specs.Rotation.{places_of}
 use Rattle.lr_looks.specs.Families.{FamilySight, Stood, Stopped, ShowsBy, ShowsFamily, behind_listing, with_listing, not_listed, ShowFamilies, LookedLog, looked_by, looked_of}
 use Rattle.lr_looks.specs.Found.{FoundLog}
 use Rattle.lr_rotations.specs.Shown.{Shown}
+use Rattle.lr_rotations.specs.Target.{AreSights}
 use Rattle.lr_rotations.proofs.Shown.{stands_shown}
 use Rattle.lr_seen.proofs.Elements.{in_list, in_flat}
 
@@ -95,13 +99,47 @@ spots_as n names listed spots same s = record {
   rising = s.rising;
 }
 
+-- a member that a look saw is the one of its place
+of_sight : (spot : Spot) (o : Option Seen) (m : Member) → IsIn m (seen_at spot o) → (spot.place ≡ number_in m.place) × (o ≡ Some m.seen)
+of_sight spot None m i = absurd i
+of_sight spot (Some seen) m (inl e) = (ap (λ (x : Member). number_in x.place) e, ap (λ (x : Member). Some x.seen) e)
+of_sight spot (Some seen) m (inr none) = absurd none
+
+-- what was seen of each member a look told
+sights_among : (n : Naming) (names : List (List ℕ)) (members : List Member) (us all : List Entry) → ((e : Entry) → IsIn e us → IsIn e all) → StandsAmong n names members us → AreSights n members all
+sights_among n names members us all in_all s m i = in_all (entry.Look (path_at n (number_in m.place)) (Some m.seen))
+    (subst (IsIn (entry.Look (path_at n (number_in m.place)) (Some m.seen))) (sym s.looks.looks)
+    (subst (λ (e : Entry). IsIn e (map look_of s.looks.sights)) look (in_map look_of g.0 s.looks.sights g.1)))
+  where
+    g : (g : Sight) × IsIn g s.looks.sights × IsIn m (member_of g)
+    g = in_flat member_of s.looks.sights m (subst (IsIn m) s.looks.members_are (in_from m s.shown (Contains-permutation members s.shown m (IsPermutation-sym s.shown members s.each) (in_to m members i))))
+
+    of : (g.0.spot.place ≡ number_in m.place) × (g.0.seen ≡ Some m.seen)
+    of = of_sight g.0.spot g.0.seen m g.2
+
+    spot : (k : ℕ) × IsIn k s.spots_are.places × (spot_at n k ≡ g.0.spot)
+    spot = in_unmap (spot_at n) g.0.spot s.spots_are.places (in_from g.0.spot (map (spot_at n) s.spots_are.places)
+        (Contains-permutation s.spots (map (spot_at n) s.spots_are.places) g.0.spot (IsPermutation-sym (map (spot_at n) s.spots_are.places) s.spots s.spots_are.each)
+        (in_to g.0.spot s.spots (subst (IsIn g.0.spot) s.looks.each (in_map (λ (x : Sight). x.spot) g.0 s.looks.sights g.1)))))
+
+    path : g.0.spot.path ≡ path_at n (number_in m.place)
+    path = ap (λ (x : Spot). x.path) (sym spot.2) ∙ ap (path_at n) (ap (λ (x : Spot). x.place) spot.2 ∙ of.0)
+
+    look : look_of g.0 ≡ entry.Look (path_at n (number_in m.place)) (Some m.seen)
+    look = ap (λ (x : Path). entry.Look x g.0.seen) path ∙ ap (entry.Look (path_at n (number_in m.place))) of.1
+
 -- looks at the members, behind a listing that was told anywhere among all entries
 members_shown : (all : List Entry) (n : Naming) (l : Listing) (stand : Stand) (ts : List Entry) → ((e : Entry) → IsIn e ts → IsIn e all) → AreTold all (l ∷ []) → l.dir ≡ n.dir → stand.there ≡ true
-    → ShowsIn n l.there l.parent l.names stand ts → Shown n (places_of stand.members) all
-members_shown all n l stand ts in_all told dir there h =
-    stands_shown n t.names stand.members h.2.front all (λ e i. in_all e (subst (IsIn e) (sym h.2.joined) (in_front e h.2.front h.2.back i))) (t.seen, t.is_dir, subst (λ (x : Path). IsIn (entry.Look x (Some t.seen)) all) dir t.look)
-    (subst (λ (x : Path). IsIn (entry.List x t.names) all) dir t.list) among
+    → ShowsIn n l.there l.parent l.names stand ts → Shown n (places_of stand.members) all × AreSights n stand.members all
+members_shown all n l stand ts in_all told dir there h = (
+  stands_shown n t.names stand.members h.2.front all more (t.seen, t.is_dir, subst (λ (x : Path). IsIn (entry.Look x (Some t.seen)) all) dir t.look)
+      (subst (λ (x : Path). IsIn (entry.List x t.names) all) dir t.list) among,
+  sights_among n l.names stand.members h.2.front all more s,
+)
   where
+    more : (e : Entry) → IsIn e h.2.front → IsIn e all
+    more e i = in_all e (subst (IsIn e) (sym h.2.joined) (in_front e h.2.front h.2.back i))
+
     listed : l.there ≡ true
     listed = sym h.0 ∙ there
 
@@ -153,9 +191,9 @@ parts_shown all n l stand ts in_all (Some format) h = parts_among all n l stand 
 
 -- ---- families
 
--- The members of a numbered family were seen where its directory is there, and the part files of every one.
+-- The members of a numbered family were seen where its directory is there, each by a look that tells what was seen of it, and the part files of every one.
 abbrev pub WasShown : Naming → Stand → List Entry → Type 0
-WasShown n stand all = (n.dated ≡ None → stand.there ≡ true → Shown n (places_of stand.members) all) × SawFiles stand.parts all
+WasShown n stand all = (n.dated ≡ None → stand.there ≡ true → Shown n (places_of stand.members) all × AreSights n stand.members all) × SawFiles stand.parts all
 
 -- a family, whether its directory was listed before or is listed now
 family_shown : (all : List Entry) (known : List Listing) (n : Naming) (after : List Listing) (stand : Stand) (s : FamilySight) (ts : List Entry) → s ≡ Stood stand → ((e : Entry) → IsIn e ts → IsIn e all) → AreTold all known → AreTold all after

@@ -1,9 +1,11 @@
 -- Each log that a plan rotates was seen, with its members.
 use Rattle.std.proofs.Common.{◌≡◌, ◌↔◌, inl, inr, ℕ, ◌+◌, ◌&&◌, ◌||◌, bytes_eq, Bool, true, false, cond, List, [], ◌∷◌, ◌++◌, Some, None, slice_get, refl, sym, ap, ◌∙◌, subst, arith, eq-eqb}
 use Rattle.std.specs.List.{list_any}
+use Rattle.std.specs.Prelude.{ℤ}
 use Rattle.std.proofs.lemmas.List.Elements.{All-contains}
 use Rattle.std.proofs.lemmas.List.Folds.{list_any_at}
 use Rattle.std.proofs.lemmas.Slice.Eq.{bytes_eq-Decides}
+use Rattle.lr_rules.specs.declared.civil.Moment.{Moment}
 use Rattle.lr_rules.specs.declared.fault.Fault.{Fault}
 use Rattle.lr_rules.specs.declared.fault.Fault.TheVariants as fault
 use Rattle.lr_rules.specs.declared.path.Path.{Path}
@@ -32,6 +34,7 @@ use Rattle.lr_kept.specs.declared.choice.Choice.TheVariants.{Kept}
 use Rattle.lr_kept.proofs.Elements.{same_read}
 use Rattle.lr_copy.specs.declared.job.Job.{Job}
 use Rattle.lr_chain.specs.Ready.{is_highest, highest_path}
+use Rattle.lr_chain.specs.Rotation.{places_of, going}
 use Rattle.lr_plan.specs.declared.looks.LogLook.{LogLook}
 use Rattle.lr_plan.specs.declared.looks.SetLooks.{SetLooks}
 use Rattle.lr_plan.specs.Planned.{job_of, keeps_all, is_too_high, hindrances}
@@ -44,7 +47,8 @@ use Rattle.lr_looks.specs.Shown.{ShowsLooks}
 use Rattle.lr_looks.proofs.Kindred.{kin_of}
 use Rattle.lr_rotations.specs.Apart.{HaveNames}
 use Rattle.lr_rotations.specs.Members.{IsFamily}
-use Rattle.lr_rotations.specs.Target.{Target, IsOneTooHigh, Gives, IsSeen, AreSeen}
+use Rattle.lr_rotations.specs.Target.{Target, IsOneTooHigh, Gives, AreSights, IsSeen, AreSeen}
+use Rattle.lr_rotations.specs.Shown.{Shown}
 use Rattle.lr_rotations.specs.Weave.{Among}
 use Rattle.lr_rotations.proofs.SeenFits.{seen_names}
 use Rattle.lr_fields.specs.Built.{IsBuiltRule, AreBuiltRules}
@@ -144,8 +148,8 @@ not_high n c members e h =
 
 -- ---- one log, and all
 
-target_seen : {reserved : List Path} (rules : Rules) (sets : List SetLooks) (faults : List Fault) (ts : List Entry) (t : Target) → AreBuiltRules rules.sets → (s : ShowsLooks reserved rules.sets sets faults ts) → Comes rules.sets sets t → IsSeen rules ts t
-target_seen rules sets faults ts t built s c = subst (IsSeen rules ts) (sym c.is) (record {
+target_seen : {reserved : List Path} (rules : Rules) (sets : List SetLooks) (faults : List Fault) (ts : List Entry) (now : Moment) (t : Target) → AreBuiltRules rules.sets → (s : ShowsLooks reserved rules.sets sets faults ts) → Comes now rules.sets sets t → IsSeen rules now.seconds ts t
+target_seen rules sets faults ts now t built s c = subst (IsSeen rules now.seconds ts) (sym c.is) (record {
   given = record {
     rule = o.by_word.word.rule;
     word = o.by_word.word.text;
@@ -164,10 +168,12 @@ target_seen rules sets faults ts t built s c = subst (IsSeen rules ts) (sym c.is
   };
   family = looked_family rules sets faults ts x built s looked;
   log_seen = sees_file x.path o.found.seen ts o.file (subst (λ (p : Path). IsIn (entry.Look p (Some o.found.seen)) ts) o.path_is look);
-  seen = shown.0 (looked_family rules sets faults ts x built s looked).numbered free.0;
+  seen = members.0;
+  sights = members.1;
+  from_is = ap (λ (r : Rule). going c.rule.count r.maxage now.seconds c.look.stand.members) same;
   low = not_high x.naming c.rule.count x.stand.members free.1;
-  ready = target_ready c.rule c.look;
-  job = λ job is. (target_job c.rule c.look job is, λ stale. let old = shown.1 job.part (stale_stands c.rule c.look job is stale) in sees_file job.part old.0 ts old.1 old.2);
+  ready = target_ready now c.rule c.look;
+  job = λ job is. (target_job now c.rule c.look job is, λ stale. let old = shown.1 job.part (stale_stands c.rule c.look job is stale) in sees_file job.part old.0 ts old.1 old.2);
 })
   where
     x : LookedLog
@@ -214,26 +220,29 @@ target_seen rules sets faults ts t built s c = subst (IsSeen rules ts) (sym c.is
     free : (c.look.stand.there ≡ true) × (is_too_high c.rule c.look ≡ false)
     free = is_free c.rule c.look c.free
 
-each_seen : (rules : Rules) (ts : List Entry) (us : List Target) → ((t : Target) → IsIn t us → IsSeen rules ts t) → AreSeen rules ts us
-each_seen rules ts [] h = tt
-each_seen rules ts (u ∷ us) h = (h u (inl refl), each_seen rules ts us (λ t i. h t (inr i)))
+    members : Shown x.naming (places_of x.stand.members) ts × AreSights x.naming x.stand.members ts
+    members = shown.0 (looked_family rules sets faults ts x built s looked).numbered free.0
 
-pub targets_seen : {reserved : List Path} (rules : Rules) (sets : List SetLooks) (faults : List Fault) (ts : List Entry) (decide : Rule → LogLook → Due) → AreBuiltRules rules.sets → ShowsLooks reserved rules.sets sets faults ts → AreSeen rules ts (all_targets decide rules.sets sets)
-targets_seen rules sets faults ts decide built s = each_seen rules ts (all_targets decide rules.sets sets) (λ t i. target_seen rules sets faults ts t built s (comes_from decide rules.sets sets t i))
+each_seen : (rules : Rules) (now : ℤ) (ts : List Entry) (us : List Target) → ((t : Target) → IsIn t us → IsSeen rules now ts t) → AreSeen rules now ts us
+each_seen rules now ts [] h = tt
+each_seen rules now ts (u ∷ us) h = (h u (inl refl), each_seen rules now ts us (λ t i. h t (inr i)))
 
-all_names : (rules : Rules) (ts : List Entry) (us : List Target) → AreSeen rules ts us → HaveNames us
-all_names rules ts [] h = tt
-all_names rules ts (u ∷ us) h = (seen_names rules ts u h.0, all_names rules ts us h.1)
+pub targets_seen : {reserved : List Path} (rules : Rules) (sets : List SetLooks) (faults : List Fault) (ts : List Entry) (now : Moment) (decide : Rule → LogLook → Due) → AreBuiltRules rules.sets → ShowsLooks reserved rules.sets sets faults ts → AreSeen rules now.seconds ts (all_targets now decide rules.sets sets)
+targets_seen rules sets faults ts now decide built s = each_seen rules now.seconds ts (all_targets now decide rules.sets sets) (λ t i. target_seen rules sets faults ts now t built s (comes_from now decide rules.sets sets t i))
 
-pub targets_have_names : {reserved : List Path} (rules : Rules) (sets : List SetLooks) (faults : List Fault) (ts : List Entry) (decide : Rule → LogLook → Due) → AreBuiltRules rules.sets → ShowsLooks reserved rules.sets sets faults ts → HaveNames (all_targets decide rules.sets sets)
-targets_have_names rules sets faults ts decide built s = all_names rules ts (all_targets decide rules.sets sets) (targets_seen rules sets faults ts decide built s)
+all_names : (rules : Rules) (now : ℤ) (ts : List Entry) (us : List Target) → AreSeen rules now ts us → HaveNames us
+all_names rules now ts [] h = tt
+all_names rules now ts (u ∷ us) h = (seen_names rules now ts u h.0, all_names rules now ts us h.1)
+
+pub targets_have_names : {reserved : List Path} (rules : Rules) (sets : List SetLooks) (faults : List Fault) (ts : List Entry) (now : Moment) (decide : Rule → LogLook → Due) → AreBuiltRules rules.sets → ShowsLooks reserved rules.sets sets faults ts → HaveNames (all_targets now decide rules.sets sets)
+targets_have_names rules sets faults ts now decide built s = all_names rules now.seconds ts (all_targets now decide rules.sets sets) (targets_seen rules sets faults ts now decide built s)
 
 -- each log of a plan has a path that is one
-pub targets_have_paths : {reserved : List Path} (rules : List Rule) (sets : List SetLooks) (faults : List Fault) (ts : List Entry) (decide : Rule → LogLook → Due) → ShowsLooks reserved rules sets faults ts → (t : Target) → IsIn t (all_targets decide rules sets) → path_fault t.log ≡ None
-targets_have_paths rules sets faults ts decide s t i = subst (λ (u : Target). path_fault u.log ≡ None) (sym c.is) (subst (λ (x : Path). path_fault x ≡ None) came.0.path_is (log_path s.found came.0.found s.paths (in_kept s.found s.keeps.choices came.0.found came.1)).path)
+pub targets_have_paths : {reserved : List Path} (rules : List Rule) (sets : List SetLooks) (faults : List Fault) (ts : List Entry) (now : Moment) (decide : Rule → LogLook → Due) → ShowsLooks reserved rules sets faults ts → (t : Target) → IsIn t (all_targets now decide rules sets) → path_fault t.log ≡ None
+targets_have_paths rules sets faults ts now decide s t i = subst (λ (u : Target). path_fault u.log ≡ None) (sym c.is) (subst (λ (x : Path). path_fault x ≡ None) came.0.path_is (log_path s.found came.0.found s.paths (in_kept s.found s.keeps.choices came.0.found came.1)).path)
   where
-    c : Comes rules sets t
-    c = comes_from decide rules sets t i
+    c : Comes now rules sets t
+    c = comes_from now decide rules sets t i
 
     x : LookedLog
     x = looked_in (0 + c.place) c.look

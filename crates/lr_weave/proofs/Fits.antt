@@ -1,9 +1,10 @@
 -- The steps of logs that don't meet fit, wherever those before them ended.
 use Rattle.std.proofs.Common.{◌≡◌, inl, inr, ⊎_elim, ℕ, ◌+◌, Bool, true, false, not, cond, refl, sym, ◌∙◌, ap, subst, Option, Some, None, List, [], ◌∷◌, ◌++◌, map, reverse, append_assoc, append-nil}
-use Rattle.std.specs.Prelude.{filter}
+use Rattle.std.specs.Prelude.{pos, filter}
 use Rattle.std.proofs.lemmas.List.{reverse-reverse}
 use Rattle.std.proofs.lemmas.List.Concat.{flat_map-append}
 use Rattle.lr_rules.specs.declared.path.Path.{Path}
+use Rattle.lr_rules.specs.declared.fault.Ended.TheVariants as ended
 use Rattle.lr_rules.specs.declared.fault.Fault.{Fault}
 use Rattle.lr_rules.specs.declared.fault.Phase.{Phase}
 use Rattle.lr_rules.specs.declared.fault.Phase.TheVariants as phase
@@ -33,7 +34,7 @@ use Rattle.lr_copy.specs.Copying.{clearing}
 use Rattle.lr_chain.specs.declared.ready.Move.{Move}
 use Rattle.lr_chain.specs.declared.ready.Ready.{Ready}
 use Rattle.lr_chain.specs.Ready.{move_step}
-use Rattle.lr_chain.specs.Rotation.{is_left, places_of, leftovers, kept, one_too_many, unlink_at, move_at}
+use Rattle.lr_chain.specs.Rotation.{is_left, places_of, leftovers, kept, unlink_at, move_at}
 use Rattle.lr_rotations.specs.Apart.{HasNames}
 use Rattle.lr_rotations.specs.Calls.{FitCalls, CanCalls, transfer_calls, calls_of}
 use Rattle.lr_rotations.specs.Members.{HasName}
@@ -42,12 +43,12 @@ use Rattle.lr_rotations.specs.Weave.{IsFirstOf}
 use Rattle.lr_rotations.proofs.Alike.{Reads, fit_like, more_like, calls_as, calls_made, calls_still}
 use Rattle.lr_rotations.proofs.Apart.{AllOwn, own_paths, part_own, to_own}
 use Rattle.lr_rotations.proofs.Fed.{IsTurn}
-use Rattle.lr_rotations.proofs.Fitting.{kept_next, first_named, retire_named}
+use Rattle.lr_rotations.proofs.Fitting.{kept_next, first_named}
 use Rattle.lr_rotations.proofs.Others.{rotation_turns}
 use Rattle.lr_rotations.proofs.Outside.{place_name}
 use Rattle.lr_rotations.proofs.PartFile.{part_parent, job_target, job_part}
 use Rattle.lr_rotations.proofs.Paths.{path_parent}
-use Rattle.lr_rotations.proofs.Rotating.{left_are, shift_are, retire_are}
+use Rattle.lr_rotations.proofs.Rotating.{left_are, shift_are}
 use Rattle.lr_plan.specs.declared.mark.Mark.{Mark}
 use Rattle.lr_plan.specs.declared.planned.LogPlan.{LogPlan}
 use Rattle.lr_plan.specs.declared.step.Step.{Step}
@@ -57,11 +58,11 @@ use Rattle.lr_plan.specs.Steps as steps
 use Rattle.lr_plan.specs.Steps.{program, removal, removals, directory, move, step_if, copy, transfer, made_anew, steps_of_log}
 use Rattle.lr_plan.specs.Internal.Asking.{asks, CanMake, CanEach}
 use Rattle.lr_plan.specs.Course.{Course}
-use Rattle.lr_weave.specs.Fitting.{IsFit, AreFit, NoneMeets, DontMeet, ReadsNothing, ReadsThis, ReadThemselves, ReadsRemoved, ReadRemoved}
+use Rattle.lr_weave.specs.Fitting.{IsFit, AreFit, NoneMeets, DontMeet, ReadsNothing, ReadsThis, ReadThemselves, ReadsOwn, ReadOwn}
 use Rattle.lr_weave.specs.Planned.{IsReadyFor, AreReadyFor}
 use Rattle.lr_weave.proofs.Lasting.{makes_later}
 use Rattle.lr_weave.proofs.Parting.{bytes_none, course_first}
-use Rattle.lr_weave.proofs.Planning.{Anything, back_of, calls_of_step, calls_by, no_dir_is, log_is, log_asks, log_plain, program_none, program_asks, program_plain}
+use Rattle.lr_weave.proofs.Planning.{Anything, front_of, back_of, back_calls, halves, calls_of_step, calls_by, no_dir_is, log_is, front_asks, call_halves, removals_ask, log_plain, program_none, program_asks, program_plain}
 
 -- ---- entries that change other paths
 
@@ -95,6 +96,10 @@ can_far X calls reads can (is_told {j = j} {k = k} {es = es} m h) f = record {
 }
 
 -- ---- the calls of a rotation
+
+pub each_end : (P : Entry → Type 0) (xs ys : List Entry) → Each P (xs ++ ys) → Each P ys
+each_end P [] ys a = a
+each_end P (x ∷ xs) ys a = each_end P xs ys a.1
 
 abbrev pub NamesOf : Target → Path → Type 0
 NamesOf t y = IsName t.log t.naming y
@@ -154,18 +159,25 @@ module _ (t : Target) (h : HasNames t) where
   places_named : Every (HasName t.naming) (places_of t.stand.members)
   places_named = every_all (HasName t.naming) (places_of t.stand.members) h.named
 
-  pub back_reads : Each (Reads (NamesOf t)) (back_of t)
-  back_reads = subst (Each (Reads (NamesOf t))) (sym (retire_are t h.ready)) (unlinks_read (one_too_many t.count (places_of t.stand.members)) (retire_named t.naming t.count (places_of t.stand.members) h.next))
+  removals_read : (rs : List Removal) → Each (AllOwn t.log t.naming) (unlinks rs) → Each (Reads (NamesOf t)) (unlinks rs)
+  removals_read [] own = tt
+  removals_read (r ∷ rs) own = (inl (own.0 r.path (inl refl)), removals_read rs own.1)
+
+  pub back_reads : Each (Reads (NamesOf t)) (back_calls t)
+  back_reads = (
+    subst (NamesOf t) (sym h.ready.target_is) (inl (own_place 0 first)),
+    removals_read t.ready.retire (each_end (AllOwn t.log t.naming) (front_of t) (back_of t) (subst (Each (AllOwn t.log t.naming)) (sym (halves t)) (own_paths t h))),
+  )
 
   -- they ask for what its names name alone
   pub calls_read : Each (Reads (NamesOf t)) (calls_of t)
   calls_read =
-      each_append (Reads (NamesOf t)) (unlinks t.ready.leftovers) (map move_step t.ready.moves ++ (transfer_calls t.ready t.job ++ back_of t))
+      each_append (Reads (NamesOf t)) (unlinks t.ready.leftovers) (map move_step t.ready.moves ++ (transfer_calls t.ready t.job ++ back_calls t))
       (subst (Each (Reads (NamesOf t))) (sym (left_are t h.ready)) (unlinks_read (leftovers t.count (places_of t.stand.members)) (every_filter (HasName t.naming) (is_left t.count) (places_of t.stand.members) places_named)))
-      (each_append (Reads (NamesOf t)) (map move_step t.ready.moves) (transfer_calls t.ready t.job ++ back_of t)
+      (each_append (Reads (NamesOf t)) (map move_step t.ready.moves) (transfer_calls t.ready t.job ++ back_calls t)
       (subst (Each (Reads (NamesOf t))) (sym (shift_are t h.ready))
       (moves_read (kept t.count (places_of t.stand.members)) (every_filter (HasName t.naming) (λ k. not (is_left t.count k)) (places_of t.stand.members) places_named) (kept_next t.naming t.count (places_of t.stand.members) h.next)))
-      (each_append (Reads (NamesOf t)) (transfer_calls t.ready t.job) (back_of t) (transfer_read t.job refl) back_reads))
+      (each_append (Reads (NamesOf t)) (transfer_calls t.ready t.job) (back_calls t) (transfer_read t.job refl) back_reads))
 
 -- what one rotation changes is no name of a set that it doesn't meet
 far : (x t : Target) (e : Entry) → (Meet x.log x.naming t.log t.naming → ⊥) → IsTurn e → AllOwn t.log t.naming e → Avoids (NamesOf x) e
@@ -261,7 +273,7 @@ read_fits n (Some file) [] i fit = absurd i
 read_fits n (Some file) (entry.Unlinks path ∷ es) i fit = subst (λ (x : Path). MaybeFileAt n (Some x)) i fit.0
 read_fits n (Some file) (_ ∷ es) i fit = absurd i
 
-run_asked : (command : Command) (es : List Entry) (o : Option Journal) → IsRead command.input es → CanCalls o es → CanAll o (runs command (Rattle.lr_rules.specs.declared.fault.Ended.TheVariants.Exit (Rattle.std.specs.Prelude.pos 0)) ∷ [])
+run_asked : (command : Command) (es : List Entry) (o : Option Journal) → IsRead command.input es → CanCalls o es → CanAll o (runs command (ended.Exit (pos 0)) ∷ [])
 run_asked command es None i c = record { can = tt }
 run_asked command es (Some j) i c = record { can = (tt, read_fits (names (world (past j))) command.input es i c.can) }
 
@@ -307,7 +319,7 @@ AllSucceed [] ts = ts ≡ []
 AllSucceed (s ∷ ss) ts = Then (Succeeds s) (AllSucceed ss) ts
 
 -- these steps can be made, and then others
-pub make_then : (ss rest : List Step) (es : List Entry) {o : Option Journal} → AreBareSteps o ss → CanCalls o (calls_by ss ++ es) → ((m : Option Journal) → Left (AllSucceed ss) o m → CanCalls m es → CanMake m rest) → CanMake o (ss ++ rest)
+make_then : (ss rest : List Step) (es : List Entry) {o : Option Journal} → AreBareSteps o ss → CanCalls o (calls_by ss ++ es) → ((m : Option Journal) → Left (AllSucceed ss) o m → CanCalls m es → CanMake m rest) → CanMake o (ss ++ rest)
 make_then [] rest es {o} bare can f = f o (left_first (AllSucceed []) o refl) can
 make_then (s ∷ ss) rest es {o} bare can f = (
   asked s (calls_by ss ++ es) o one calls,
@@ -321,7 +333,7 @@ make_then (s ∷ ss) rest es {o} bare can f = (
     calls : CanCalls o (calls_of_step s ++ (calls_by ss ++ es))
     calls = subst (CanCalls o) (append_assoc (calls_of_step s) (calls_by ss) es) can
 
-pub can_make : (ss : List Step) {o : Option Journal} → AreBareSteps o ss → CanCalls o (calls_by ss) → CanMake o ss
+can_make : (ss : List Step) {o : Option Journal} → AreBareSteps o ss → CanCalls o (calls_by ss) → CanMake o ss
 can_make ss {o} bare can = subst (CanMake o) (append-nil ss) (make_then ss [] [] bare (subst (CanCalls o) (sym (append-nil (calls_by ss))) can) (λ m left c. tt))
 
 -- ---- the steps of one log
@@ -330,13 +342,9 @@ bare_on : (o : Option Journal) (xs ys : List Step) → AreBareSteps o xs → Are
 bare_on o [] ys a b = b
 bare_on o (x ∷ xs) ys a b = (subst (IsBareStep o x) (sym (flat_map-append calls_of_step xs ys)) (bare_more o x (calls_by xs) (calls_by ys) a.0), bare_on o xs ys a.1 b)
 
-pub program_bare : (o : Option Journal) (p : Phase) (c : Option Command) → ReadsNothing c → AreBareSteps o (program p c)
+program_bare : (o : Option Journal) (p : Phase) (c : Option Command) → ReadsNothing c → AreBareSteps o (program p c)
 program_bare o p None r = tt
 program_bare o p (Some command) r = (subst (λ (input : Option Path). IsRead input []) (sym r) tt, tt)
-
-no_program_bare : (o : Option Journal) (p : Phase) (c : Option Command) → c ≡ None → AreBareSteps o (program p c)
-no_program_bare o p None e = tt
-no_program_bare o p (Some command) e = absurd (cc)
 
 mail_bare : (o : Option Journal) (file : Path) (c : Option Command) → ReadsThis file c → AreBareSteps o (program phase.Mail c ++ step.Removes file ∷ [])
 mail_bare o file None r = (tt, tt)
@@ -366,30 +374,50 @@ transfer_bare o log target make.No None c = (tt, (tt, tt))
 transfer_bare o log target (make.Yes mode) None c = (tt, (tt, (can_as c (λ n h. h), tt)))
 transfer_bare o log target m (Some job) c = bare_on o (copy job) (step.Rotated log ∷ []) (copy_bare o job job.stale job.cut) (tt, tt)
 
-pub front_bare : (o : Option Journal) (t : Target) (log : LogPlan) → Can o (entry.Makes t.log None) → IsReadyFor t log → ReadsRemoved log → AreBareSteps o (steps.rotation_of log)
+front_bare : (o : Option Journal) (t : Target) (log : LogPlan) → Can o (entry.Makes t.log None) → IsReadyFor t log → ReadsOwn log → AreBareSteps o (steps.rotation_of log)
 front_bare o t log c r q =
     bare_on o (removals log.ready.leftovers) _ (removals_bare o log.ready.leftovers q.leftovers)
     (bare_on o (directory log.ready.dir) _ (dir_bare o log.ready.dir (no_dir_is t log r))
     (bare_on o (map move log.ready.moves) _ (moves_bare o log.ready.moves)
     (transfer_bare o log.ready.log log.ready.target log.ready.make log.job (subst (λ (x : Path). Can o (entry.Makes x None)) (sym (ap (λ (x : Ready). x.log) r.ready_is ∙ r.ready.log_is)) c))))
 
-pub back_bare : (o : Option Journal) (t : Target) (log : LogPlan) → IsReadyFor t log → ReadsRemoved log → AreBareSteps o (steps.retirement_of log)
-back_bare o t log r q = bare_on o (program phase.Mail log.first_mail) (removals log.ready.retire) (no_program_bare o phase.Mail log.first_mail q.no_mail) (removals_bare o log.ready.retire q.retire)
+-- a program that reads a file, where that can be read
+reading_asked : (file : Path) (es : List Entry) (o : Option Journal) (command : Command) → command.input ≡ Some file → CanCalls o (entry.Reads file 0 [] ∷ es) → CanAll o (runs command (ended.Exit (pos 0)) ∷ [])
+reading_asked file es None command is c = record { can = tt }
+reading_asked file es (Some j) command is c = record { can = (tt, subst (MaybeFileAt (names (world (past j)))) (sym is) c.can.0) }
 
-log_bare : (o : Option Journal) (t : Target) (log : LogPlan) → Can o (entry.Makes t.log None) → IsReadyFor t log → ReadsRemoved log → AreBareSteps o (steps_of_log log)
-log_bare o t log c r q =
-    bare_on o (program phase.Pre log.pre) _ (program_bare o phase.Pre log.pre q.pre)
-    (bare_on o (steps.rotation_of log) _ (front_bare o t log c r q)
-    (bare_on o (program phase.Post log.post) (steps.retirement_of log) (program_bare o phase.Post log.post q.post) (back_bare o t log r q)))
+-- and then these steps, with it or without
+reading_then : (file : Path) (ss : List Step) (es : List Entry) (o : Option Journal) (p : Phase) (c : Option Command) → ReadsThis file c → CanCalls o (entry.Reads file 0 [] ∷ es) → ((m : Option Journal) → CanCalls m es → CanMake m ss) → CanMake o (program p c ++ ss)
+reading_then file ss es o p None r can f = f o (calls_as can (λ n fit. fit.1))
+reading_then file ss es o p (Some command) r can f = (reading_asked file es o command r can, λ m left. f m (calls_still es (calls_as can (λ n fit. fit.1)) left (λ ts w. ap (filter is_naming) w)))
+
+-- the mail of the first file and the removals, where the final path can be read
+pub back_can : (o : Option Journal) (t : Target) (log : LogPlan) → IsReadyFor t log → ReadsOwn log → CanCalls o (back_calls t) → CanMake o (steps.retirement_of log)
+back_can o t log r q can = reading_then t.ready.target (removals log.ready.retire) (back_of t) o phase.Mail log.first_mail (subst (λ (x : Path). ReadsThis x log.first_mail) (ap (λ (x : Ready). x.target) r.ready_is) q.first_mail) can
+    (λ m c. can_make (removals log.ready.retire) (removals_bare m log.ready.retire q.retire) (subst (CanCalls m) (sym (removals_ask t log r)) c))
+
+-- a program that reads no file, and then these steps
+program_then : (p : Phase) (c : Option Command) (rest : List Step) (es : List Entry) {o : Option Journal} → ReadsNothing c → CanCalls o es → ((m : Option Journal) → Left (AllSucceed (program p c)) o m → CanCalls m es → CanMake m rest) → CanMake o (program p c ++ rest)
+program_then p c rest es {o} r can f = make_then (program p c) rest es (program_bare o p c r) (subst (λ (xs : List Entry). CanCalls o (xs ++ es)) (sym (program_asks p c)) can) f
+
+-- the rotation, and then these steps
+pub front_then : (t : Target) (log : LogPlan) (rest : List Step) {o : Option Journal} → IsReadyFor t log → ReadsOwn log → Can o (entry.Makes t.log None) → CanCalls o (calls_of t) → ((m : Option Journal) → Left (AllSucceed (steps.rotation_of log)) o m → CanCalls m (back_calls t) → CanMake m rest) → CanMake o (steps.rotation_of log ++ rest)
+front_then t log rest {o} r q anew can f = make_then (steps.rotation_of log) rest (back_calls t) (front_bare o t log anew r q) (subst (CanCalls o) (sym (ap (λ es. es ++ back_calls t) (front_asks t log r) ∙ call_halves t)) can) f
+
+log_can : (o : Option Journal) (t : Target) (log : LogPlan) → IsFit o t → IsReadyFor t log → ReadsOwn log → CanMake o (steps_of_log log)
+log_can o t log fit r q =
+    program_then phase.Pre log.pre (steps.rotation_of log ++ (program phase.Post log.post ++ steps.retirement_of log)) (calls_of t) q.pre fit.fits
+    (λ a left c. front_then t log (program phase.Post log.post ++ steps.retirement_of log) r q (makes_later t.log None left fit.anew) c
+    (λ b later d. program_then phase.Post log.post (steps.retirement_of log) (back_calls t) q.post d (λ m last e. back_can m t log r q e)))
 
 -- ---- the logs of one definition
 
-pub can_each : (o : Option Journal) (ts : List Target) (logs : List LogPlan) → AreReadyFor ts logs → ReadRemoved logs → AreFit o ts → DontMeet ts → CanEach o (map steps_of_log logs)
+pub can_each : (o : Option Journal) (ts : List Target) (logs : List LogPlan) → AreReadyFor ts logs → ReadOwn logs → AreFit o ts → DontMeet ts → CanEach o (map steps_of_log logs)
 can_each o [] [] r q fits dont = tt
 can_each o [] (log ∷ logs) r q fits dont = absurd r
 can_each o (t ∷ ts) [] r q fits dont = absurd r
 can_each o (t ∷ ts) (log ∷ logs) r q fits dont = (
-  can_make (steps_of_log log) (log_bare o t log fits.0.anew r.0 q.0) (subst (CanCalls o) (sym (log_asks t log r.0)) fits.0.fits),
+  log_can o t log fits.0 r.0 q.0,
   λ m leads. can_each m ts logs r.1 q.1 (all_later t ts fits.0 dont.0 fits.1 leads.2
       (λ us c. subst (λ steps. IsFirstOf steps (filter is_naming us)) (log_is t log r.0) (course_first Anything (steps_of_log log) leads.0 leads.1 us (log_plain Anything t log (λ e also. tt) r.0) c).first)) dont.1,
 )

@@ -5,6 +5,7 @@ use Rattle.std.specs.Prelude.{filter}
 use Rattle.std.proofs.lemmas.List.Elements.{filter-append}
 use Rattle.std.proofs.lemmas.Grind.{flat_map-append}
 use Rattle.std.proofs.lemmas.Slice.Eq.{bytes_eq-Decides}
+use Rattle.lr_rules.specs.declared.civil.Moment.{Moment}
 use Rattle.lr_rules.specs.declared.path.Path.{Path}
 use Rattle.lr_rules.specs.declared.fault.Fault.{Fault}
 use Rattle.lr_host.specs.declared.entry.Entry.{Entry}
@@ -430,9 +431,9 @@ done_some targets sets t f ts planned d = changes_of_some targets sets ts planne
 pub cut_some : (targets : List Target) (sets : List SetSteps) (t : List Mark) (f : List Fault) (ts : List Entry) → ArePlanned targets sets → SetsCut sets t f ts → Each (IsOfSome targets) (filter is_change ts)
 cut_some targets sets t f ts planned c = changes_of_some targets sets ts planned (sets_cut_parts (MakesOne targets) sets t f ts planned.plain c)
 
-abbrev pub turns_by : (state : Path) (rules : Rules) (looks : List Entry) (targets : List Target) (sets : List SetSteps) (ts : List Entry) → AreQuiet looks → AreSeen rules looks targets → ArePlanned targets sets
-    → BegunParts (MakesOne targets) (parts_of_sets sets) ts → AllTurns state rules (looks ++ ts)
-turns_by state rules looks targets sets ts quiet seen planned f = record {
+abbrev pub turns_by : (state : Path) (now : Moment) (rules : Rules) (looks : List Entry) (targets : List Target) (sets : List SetSteps) (ts : List Entry) → AreQuiet looks → AreSeen rules now.seconds looks targets → ArePlanned targets sets
+    → BegunParts (MakesOne targets) (parts_of_sets sets) ts → AllTurns state now rules (looks ++ ts)
+turns_by state now rules looks targets sets ts quiet seen planned f = record {
   looks = looks;
   acts = ts;
   joined = refl;
@@ -451,10 +452,10 @@ turns_by state rules looks targets sets ts quiet seen planned f = record {
       };
 }
 
-abbrev pub done_turns : (state : Path) (rules : Rules) (looks : List Entry) (targets : List Target) (sets : List SetSteps) (t : List Mark) (f : List Fault) (ts : List Entry) → AreQuiet looks → AreSeen rules looks targets → ArePlanned targets sets
-    → SetsDone sets t f ts → AllTurns state rules (looks ++ ts)
-done_turns state rules looks targets sets t f ts quiet seen planned d = turns_by state rules looks targets sets ts quiet seen planned (sets_parts (MakesOne targets) sets t f ts planned.plain d)
+abbrev pub done_turns : (state : Path) (now : Moment) (rules : Rules) (looks : List Entry) (targets : List Target) (sets : List SetSteps) (t : List Mark) (f : List Fault) (ts : List Entry) → AreQuiet looks → AreSeen rules now.seconds looks targets → ArePlanned targets sets
+    → SetsDone sets t f ts → AllTurns state now rules (looks ++ ts)
+done_turns state now rules looks targets sets t f ts quiet seen planned d = turns_by state now rules looks targets sets ts quiet seen planned (sets_parts (MakesOne targets) sets t f ts planned.plain d)
 
-pub cut_turns : (state : Path) (rules : Rules) (looks : List Entry) (targets : List Target) (sets : List SetSteps) (t : List Mark) (f : List Fault) (ts : List Entry) → AreQuiet looks → AreSeen rules looks targets → ArePlanned targets sets
-    → SetsCut sets t f ts → AllTurns state rules (looks ++ ts)
-cut_turns state rules looks targets sets t f ts quiet seen planned c = turns_by state rules looks targets sets ts quiet seen planned (sets_cut_parts (MakesOne targets) sets t f ts planned.plain c)
+pub cut_turns : (state : Path) (now : Moment) (rules : Rules) (looks : List Entry) (targets : List Target) (sets : List SetSteps) (t : List Mark) (f : List Fault) (ts : List Entry) → AreQuiet looks → AreSeen rules now.seconds looks targets → ArePlanned targets sets
+    → SetsCut sets t f ts → AllTurns state now rules (looks ++ ts)
+cut_turns state now rules looks targets sets t f ts quiet seen planned c = turns_by state now rules looks targets sets ts quiet seen planned (sets_cut_parts (MakesOne targets) sets t f ts planned.plain c)

@@ -102,11 +102,11 @@ front_of t = unlinks t.ready.leftovers ++ (map move_step t.ready.moves ++ transf
 abbrev pub back_of : Target → List Entry
 back_of t = unlinks t.ready.retire
 
-pub halves_on : (t : Target) (es : List Entry) → (unlinks t.ready.leftovers ++ (map move_step t.ready.moves ++ es)) ++ back_of t ≡ unlinks t.ready.leftovers ++ (map move_step t.ready.moves ++ (es ++ back_of t))
-halves_on t es = append_assoc (unlinks t.ready.leftovers) (map move_step t.ready.moves ++ es) (back_of t) ∙ ap (λ xs. unlinks t.ready.leftovers ++ xs) (append_assoc (map move_step t.ready.moves) es (back_of t))
+halves_on : (t : Target) (es bs : List Entry) → (unlinks t.ready.leftovers ++ (map move_step t.ready.moves ++ es)) ++ bs ≡ unlinks t.ready.leftovers ++ (map move_step t.ready.moves ++ (es ++ bs))
+halves_on t es bs = append_assoc (unlinks t.ready.leftovers) (map move_step t.ready.moves ++ es) bs ∙ ap (λ xs. unlinks t.ready.leftovers ++ xs) (append_assoc (map move_step t.ready.moves) es bs)
 
 pub halves : (t : Target) → front_of t ++ back_of t ≡ rotation_of t
-halves t = halves_on t (transfer_of t.ready t.job)
+halves t = halves_on t (transfer_of t.ready t.job) (back_of t)
 
 on : (xs ys : List Step) → changes_by (xs ++ ys) ≡ changes_by xs ++ changes_by ys
 on xs ys = flat_map-append change_of xs ys
@@ -174,8 +174,12 @@ calls_by ss = flat_map calls_of_step ss
 abbrev pub front_calls : Target → List Entry
 front_calls t = unlinks t.ready.leftovers ++ (map move_step t.ready.moves ++ transfer_calls t.ready t.job)
 
-pub call_halves : (t : Target) → front_calls t ++ back_of t ≡ calls_of t
-call_halves t = halves_on t (transfer_calls t.ready t.job)
+-- the final path can be read, and then the removals
+abbrev pub back_calls : Target → List Entry
+back_calls t = entry.Reads t.ready.target 0 [] ∷ back_of t
+
+pub call_halves : (t : Target) → front_calls t ++ back_calls t ≡ calls_of t
+call_halves t = halves_on t (transfer_calls t.ready t.job) (back_calls t)
 
 pub program_asks : (p : Phase) (o : Option Command) → calls_by (program p o) ≡ []
 program_asks p o = program_by calls_of_step (λ p on c. refl) (λ x. refl) (λ x y. refl) (λ x mode. refl) (λ x. refl) p o
@@ -200,11 +204,8 @@ front_asks t log r =
     rotation_by calls_of_step (λ p on c. refl) (λ x. refl) (λ x y. refl) (λ x mode. refl) (λ x. refl) log.ready log.job (transfer_calls log.ready log.job) (no_dir_is t log r) (transfer_asks log.ready log.job)
     ∙ front_as t log transfer_calls r (bare_calls log.ready)
 
-pub back_asks : (t : Target) (log : LogPlan) → IsReadyFor t log → calls_by (retirement log) ≡ back_of t
-back_asks t log r = retirement_by calls_of_step (λ p on c. refl) (λ x. refl) (λ x y. refl) (λ x mode. refl) (λ x. refl) log.first_mail log.ready.retire ∙ back_as t log r
-
-pub log_asks : (t : Target) (log : LogPlan) → IsReadyFor t log → calls_by (steps_of_log log) ≡ calls_of t
-log_asks t log r = log_by calls_of_step (λ p on c. refl) (λ x. refl) (λ x y. refl) (λ x mode. refl) (λ x. refl) log (front_calls t) (back_of t) (front_asks t log r) (back_asks t log r) ∙ call_halves t
+pub removals_ask : (t : Target) (log : LogPlan) → IsReadyFor t log → calls_by (removals log.ready.retire) ≡ back_of t
+removals_ask t log r = removals_by calls_of_step (λ p on c. refl) (λ x. refl) (λ x y. refl) (λ x mode. refl) (λ x. refl) log.ready.retire ∙ back_as t log r
 
 -- ---- plain steps
 

@@ -16,11 +16,11 @@ use Rattle.lr_weave.specs.Parts.{parts_of_set}
 use Rattle.lr_weave.specs.Planned.{AreReadyFor, HaveLogs}
 use Rattle.lr_weave.proofs.Parting.{set_parts, all_parts}
 use Rattle.lr_weave.proofs.Planning.{Anything, anything, AllLogs, set_is, set_out}
-use Rattle.lr_weave.specs.Fitting.{SetReadsRemoved, ReadOnlyRemoved}
+use Rattle.lr_weave.specs.Fitting.{SetReadsOwn, ReadOnlyOwn}
 use Rattle.lr_weave.proofs.Shared.{can_shared}
 use Rattle.lr_weave.proofs.Fits.{Avoids, NamesOf, can_each, unchanged, program_changes, program_can, fit_later, rotation_far}
 
-can_set : (set : SetPlan) (ts : List Target) {o : Option Journal} → SetReadsRemoved set → AreReadyFor ts set.logs → AreFit o ts → DontMeet ts → CanSet o (steps_of_set set)
+can_set : (set : SetPlan) (ts : List Target) {o : Option Journal} → SetReadsOwn set → AreReadyFor ts set.logs → AreFit o ts → DontMeet ts → CanSet o (steps_of_set set)
 can_set set ts {o} q r fits dont = go set.shared set.logs
   where
     go : (shared : Bool) (logs : List LogPlan) → CanSet o (by_logs shared logs set)
@@ -71,7 +71,7 @@ set_later o m set g (x ∷ ys) r fits n later leads = (
   set_later o m set g ys r fits (behind_less g x ys n) later.1 leads,
 )
 
-pub can_sets : (o : Option Journal) (groups : List (List Target)) (sets : List SetPlan) → HaveLogs groups sets → ReadOnlyRemoved sets → AreFit o (flat_map (λ ts. ts) groups) → DontMeet (flat_map (λ ts. ts) groups) → CanSets o (map steps_of_set sets)
+pub can_sets : (o : Option Journal) (groups : List (List Target)) (sets : List SetPlan) → HaveLogs groups sets → ReadOnlyOwn sets → AreFit o (flat_map (λ ts. ts) groups) → DontMeet (flat_map (λ ts. ts) groups) → CanSets o (map steps_of_set sets)
 can_sets o [] [] h q fits dont = tt
 can_sets o [] (s ∷ sets) h q fits dont = absurd h
 can_sets o (g ∷ gs) [] h q fits dont = absurd h

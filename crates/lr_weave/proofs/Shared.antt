@@ -19,12 +19,12 @@ use Rattle.lr_plan.specs.Internal.Asking.{CanMake}
 use Rattle.lr_rotations.specs.Calls.{CanCalls}
 use Rattle.lr_rotations.specs.Target.{Target, IsOneOf}
 use Rattle.lr_rotations.proofs.Alike.{Reads}
-use Rattle.lr_weave.specs.Fitting.{IsFit, AreFit, NoneMeets, DontMeet, ReadRemoved, ReadsNothing}
+use Rattle.lr_weave.specs.Fitting.{IsFit, AreFit, NoneMeets, DontMeet, ReadOwn, ReadsNothing}
 use Rattle.lr_weave.specs.Parts.{changes_by, ArePlain}
 use Rattle.lr_weave.specs.Planned.{IsReadyFor, AreReadyFor}
 use Rattle.lr_weave.proofs.Parting.{went_changes, joined_changes}
-use Rattle.lr_weave.proofs.Planning.{Anything, front_of, back_of, front_is, back_is, front_asks, back_asks, halves, call_halves, front_plain, back_plain, program_none, program_plain}
-use Rattle.lr_weave.proofs.Fits.{Avoids, NamesOf, AllSucceed, can_far, make_then, can_make, back_reads, rotation_far, fit_later, front_bare, back_bare, program_can, unchanged}
+use Rattle.lr_weave.proofs.Planning.{Anything, front_of, back_of, back_calls, front_is, back_is, halves, front_plain, back_plain, program_none, program_plain}
+use Rattle.lr_weave.proofs.Fits.{Avoids, NamesOf, AllSucceed, each_end, can_far, front_then, back_can, back_reads, rotation_far, fit_later, program_can, unchanged}
 
 -- ---- one list behind another
 
@@ -38,20 +38,16 @@ went_all (s ∷ ss) ts plain w = joined_changes ts w.front w.back w.joined ∙ (
 
 -- ---- what is left of one log
 
-each_end : (P : Entry → Type 0) (xs ys : List Entry) → Each P (xs ++ ys) → Each P ys
-each_end P [] ys a = a
-each_end P (x ∷ xs) ys a = each_end P xs ys a.1
-
 record HasBack (told : Option Journal) (t : Target) : Type 0 where
-  reads : Each (Reads (NamesOf t)) (back_of t)
+  reads : Each (Reads (NamesOf t)) (back_calls t)
   far_from : (x : Target) → (Meet x.log x.naming t.log t.naming → ⊥) → Each (Avoids (NamesOf x)) (back_of t)
-  fits : CanCalls told (back_of t)
+  fits : CanCalls told (back_calls t)
 
 front_far : (o : Option Journal) (x t : Target) → IsFit o t → (Meet x.log x.naming t.log t.naming → ⊥) → Each (Avoids (NamesOf x)) (front_of t)
 front_far o x t fit apart = each_first (Avoids (NamesOf x)) (front_of t) (back_of t) (subst (Each (Avoids (NamesOf x))) (sym (halves t)) (rotation_far x t fit apart))
 
 -- behind its rotation
-back_left : (o m : Option Journal) (t : Target) → IsFit o t → CanCalls m (back_of t) → HasBack m t
+back_left : (o m : Option Journal) (t : Target) → IsFit o t → CanCalls m (back_calls t) → HasBack m t
 back_left o m t fit can = record {
   reads = back_reads t fit.names;
   far_from = λ x apart. each_end (Avoids (NamesOf x)) (front_of t) (back_of t) (subst (Each (Avoids (NamesOf x))) (sym (halves t)) (rotation_far x t fit apart));
@@ -59,7 +55,7 @@ back_left o m t fit can = record {
 }
 
 back_later : (x : Target) {P : List Entry → Type 0} {o m : Option Journal} → HasBack o x → Left P o m → ((ts : List Entry) → P ts → Each (Avoids (NamesOf x)) (filter is_naming ts)) → HasBack m x
-back_later x b left f = record { reads = b.reads; far_from = b.far_from; fits = can_far (NamesOf x) (back_of x) b.reads b.fits left f }
+back_later x b left f = record { reads = b.reads; far_from = b.far_from; fits = can_far (NamesOf x) (back_calls x) b.reads b.fits left f }
 
 turned_about : (x t : Target) → (Meet x.log x.naming t.log t.naming → ⊥) → Meet t.log t.naming x.log x.naming → ⊥
 turned_about x t f m = f (m.0, ⊎_elim (λ a. inr (a.1, a.0)) (λ b. inl (b.1, b.0)) m.1)
@@ -82,7 +78,7 @@ fits_later o m t (x ∷ xs) n fits left f = (fit_later x fits.0 left (f x n.0), 
 
 -- ---- all rotations, and then the rest
 
-fronts_can : (rest : List Step) (o : Option Journal) (ts : List Target) (logs : List LogPlan) (gone : List Target) → AreReadyFor ts logs → ReadRemoved logs → AreFit o ts → DontMeet ts
+fronts_can : (rest : List Step) (o : Option Journal) (ts : List Target) (logs : List LogPlan) (gone : List Target) → AreReadyFor ts logs → ReadOwn logs → AreFit o ts → DontMeet ts
     → ((d : Target) → IsOneOf d gone → (t : Target) → IsOneOf t ts → Meet d.log d.naming t.log t.naming → ⊥) → ((d : Target) → IsOneOf d gone → HasBack o d)
     → ((m : Option Journal) → ((x : Target) → IsOneOf x ts ⊎ IsOneOf x gone → HasBack m x) → CanMake m rest) → CanMake o (flat_map steps.rotation_of logs ++ rest)
 fronts_can rest o [] [] gone r q fits dont apart done k = k o (λ x i. ⊎_elim (λ none. absurd none) (λ j. done x j) i)
@@ -90,8 +86,7 @@ fronts_can rest o [] (log ∷ logs) gone r q fits dont apart done k = absurd r
 fronts_can rest o (t ∷ ts) [] gone r q fits dont apart done k = absurd r
 fronts_can rest o (t ∷ ts) (log ∷ logs) gone r q fits dont apart done k =
     subst (CanMake o) (sym (append_assoc (steps.rotation_of log) (flat_map steps.rotation_of logs) rest))
-    (make_then (steps.rotation_of log) (flat_map steps.rotation_of logs ++ rest) (back_of t) (front_bare o t log fits.0.anew r.0 q.0)
-    (subst (CanCalls o) (sym (ap (λ es. es ++ back_of t) (front_asks t log r.0) ∙ call_halves t)) fits.0.fits)
+    (front_then t log (flat_map steps.rotation_of logs ++ rest) r.0 q.0 fits.0.anew fits.0.fits
     (λ m l can. fronts_can rest m ts logs (t ∷ gone) r.1 q.1
     (fits_later o m t ts dont.0 fits.1 l (λ x ne us w. subst (Each (Avoids (NamesOf x))) (sym (front_same t log us r.0 w)) (front_far o x t fits.0 ne))) dont.1
     (λ d j x i. ⊎_elim (λ is. subst (λ (z : Target). Meet z.log z.naming x.log x.naming → ⊥) is (turned_about x t (none_in t ts x dont.0 i))) (λ old. apart d old x (inr i)) j)
@@ -99,14 +94,14 @@ fronts_can rest o (t ∷ ts) (log ∷ logs) gone r q fits dont apart done k =
     (λ old. back_later d (done d old) l (λ us w. subst (Each (Avoids (NamesOf d))) (sym (front_same t log us r.0 w)) (front_far o d t fits.0 (apart d old t (inl refl))))) j)
     (λ n h. k n (λ x i. h x (⊎_elim (λ a. ⊎_elim (λ is. inr (inl is)) (λ b. inl b) a) (λ j. inr (inr j)) i)))))
 
-backs_can : (rest : List Step) (o : Option Journal) (ts : List Target) (logs : List LogPlan) → AreReadyFor ts logs → ReadRemoved logs → DontMeet ts → ((x : Target) → IsOneOf x ts → HasBack o x)
+backs_can : (rest : List Step) (o : Option Journal) (ts : List Target) (logs : List LogPlan) → AreReadyFor ts logs → ReadOwn logs → DontMeet ts → ((x : Target) → IsOneOf x ts → HasBack o x)
     → ((m : Option Journal) → CanMake m rest) → CanMake o (flat_map steps.retirement_of logs ++ rest)
 backs_can rest o [] [] r q dont h k = k o
 backs_can rest o [] (log ∷ logs) r q dont h k = absurd r
 backs_can rest o (t ∷ ts) [] r q dont h k = absurd r
 backs_can rest o (t ∷ ts) (log ∷ logs) r q dont h k =
     subst (CanMake o) (sym (append_assoc (steps.retirement_of log) (flat_map steps.retirement_of logs) rest))
-    (can_on (steps.retirement_of log) (flat_map steps.retirement_of logs ++ rest) (can_make (steps.retirement_of log) (back_bare o t log r.0 q.0) (subst (CanCalls o) (sym (back_asks t log r.0)) (h t (inl refl)).fits))
+    (can_on (steps.retirement_of log) (flat_map steps.retirement_of logs ++ rest) (back_can o t log r.0 q.0 (h t (inl refl)).fits)
     (λ m l. backs_can rest m ts logs r.1 q.1 dont.1
     (λ x i. back_later x (h x (inr i)) l (λ us w. subst (Each (Avoids (NamesOf x))) (sym (back_same t log us r.0 w)) ((h t (inl refl)).far_from x (none_in t ts x dont.0 i)))) k))
 
@@ -115,7 +110,7 @@ backs_can rest o (t ∷ ts) (log ∷ logs) r q dont h k =
 program_still : (p : _) (c : _) (us : List Entry) → AllSucceed (program p c) us → filter is_naming us ≡ []
 program_still p c us w = went_all (program p c) us (program_plain Anything p c) w ∙ program_none p c
 
-pub can_shared : (set : SetPlan) (ts : List Target) (o : Option Journal) → ReadsNothing set.first → ReadsNothing set.pre → ReadsNothing set.post → ReadsNothing set.last → ReadRemoved set.logs → AreReadyFor ts set.logs → AreFit o ts → DontMeet ts → CanMake o (shared_steps set)
+pub can_shared : (set : SetPlan) (ts : List Target) (o : Option Journal) → ReadsNothing set.first → ReadsNothing set.pre → ReadsNothing set.post → ReadsNothing set.last → ReadOwn set.logs → AreReadyFor ts set.logs → AreFit o ts → DontMeet ts → CanMake o (shared_steps set)
 can_shared set ts o first pre post last q r fits dont =
     can_on (program phase.First set.first) _ (program_can phase.First set.first o first)
     (λ a la. can_on (program phase.Pre set.pre) _ (program_can phase.Pre set.pre a pre)

@@ -2,6 +2,7 @@
 use Rattle.std.proofs.Common.{inl, List, [], ◌++◌, map, sym, subst}
 use Rattle.std.specs.Prelude.{filter}
 use Rattle.lr_plan.specs.declared.mark.Mark.{Mark}
+use Rattle.lr_rules.specs.declared.civil.Moment.{Moment}
 use Rattle.lr_rules.specs.declared.path.Path.{Path}
 use Rattle.lr_rules.specs.declared.rules.Rules.{Rules}
 use Rattle.lr_host.specs.declared.entry.Entry.{Entry}
@@ -19,10 +20,10 @@ use Rattle.lr_weave.proofs.Parting.{only_as, made_between, sets_parts, weave_cha
 use Rattle.lr_rotations.proofs.Weaving.{weave_as}
 use Rattle.lr_weave.proofs.Whole.{done_whole, one_joined}
 
-abbrev pub done_turned : (state : Path) (rules : Rules) (looks : List Entry) (targets : List Target) (sets : List SetPlan) (t : List Mark) (ts : List Entry) → AreQuiet looks → AreSeen rules looks targets → ArePlanned targets (map steps_of_set sets)
-    → SetsDone (map steps_of_set sets) t [] ts → AllTurned state rules (looks ++ ts)
-done_turned state rules looks targets sets t ts quiet seen planned d = record {
-  turns = done_turns state rules looks targets (map steps_of_set sets) t [] ts quiet seen planned d;
+abbrev pub done_turned : (state : Path) (now : Moment) (rules : Rules) (looks : List Entry) (targets : List Target) (sets : List SetPlan) (t : List Mark) (ts : List Entry) → AreQuiet looks → AreSeen rules now.seconds looks targets → ArePlanned targets (map steps_of_set sets)
+    → SetsDone (map steps_of_set sets) t [] ts → AllTurned state now rules (looks ++ ts)
+done_turned state now rules looks targets sets t ts quiet seen planned d = record {
+  turns = done_turns state now rules looks targets (map steps_of_set sets) t [] ts quiet seen planned d;
   whole = λ x i. weave_change (StandsBetween state x targets) (rotation_of x) ts
       (weave_as (IsOfOther x.log targets) (StandsBetween state x targets) (rotation_of x) (filter is_naming ts) (λ e h. inl h)
       (subst (Weave (IsOfOther x.log targets) (rotation_of x)) (sym (done_whole (MakesOne targets) sets t ts planned.plain d)) (one_joined (IsOfOther x.log targets) (rotation_of x) (parts_of_sets (map steps_of_set sets)) (planned.each x i))))

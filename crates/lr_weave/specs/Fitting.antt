@@ -1,4 +1,4 @@
--- Logs whose rotations fit, and programs that read no file but the one that is removed next.
+-- Logs whose rotations fit, and programs that read no file but the one that is mailed.
 use Rattle.std.specs.Prelude.{◌≡◌, List, [], ◌∷◌, Option, Some, None}
 use Rattle.lr_rules.specs.declared.path.Path.{Path}
 use Rattle.lr_rules.specs.Names.{Meet}
@@ -54,25 +54,26 @@ abbrev pub ReadThemselves : List Removal → Type 0
 ReadThemselves [] = Unit {0}
 ReadThemselves (r ∷ rs) = ReadsNothing r.preremove × ReadsThis r.path r.mail × ReadThemselves rs
 
-pub record ReadsRemoved (log : LogPlan) : Type 0 where
+-- Of the programs of a log a mail alone reads a file: of a removal the file that is removed, and the mail of the first file the log's final path.
+pub record ReadsOwn (log : LogPlan) : Type 0 where
   pub pre : ReadsNothing log.pre
   pub post : ReadsNothing log.post
-  pub no_mail : log.first_mail ≡ None
+  pub first_mail : ReadsThis log.ready.target log.first_mail
   pub leftovers : ReadThemselves log.ready.leftovers
   pub retire : ReadThemselves log.ready.retire
 
-abbrev pub ReadRemoved : List LogPlan → Type 0
-ReadRemoved [] = Unit {0}
-ReadRemoved (log ∷ logs) = ReadsRemoved log × ReadRemoved logs
+abbrev pub ReadOwn : List LogPlan → Type 0
+ReadOwn [] = Unit {0}
+ReadOwn (log ∷ logs) = ReadsOwn log × ReadOwn logs
 
--- None of the programs of the definition reads a file but the mail of a removed one, which reads that.
-pub record SetReadsRemoved (set : SetPlan) : Type 0 where
+-- None of the programs of the definition reads a file but the mail of a removed one, which reads that, and the mail of the first file, which reads the log's final path.
+pub record SetReadsOwn (set : SetPlan) : Type 0 where
   pub first : ReadsNothing set.first
   pub pre : ReadsNothing set.pre
   pub post : ReadsNothing set.post
   pub last : ReadsNothing set.last
-  pub logs : ReadRemoved set.logs
+  pub logs : ReadOwn set.logs
 
-abbrev pub ReadOnlyRemoved : List SetPlan → Type 0
-ReadOnlyRemoved [] = Unit {0}
-ReadOnlyRemoved (set ∷ sets) = SetReadsRemoved set × ReadOnlyRemoved sets
+abbrev pub ReadOnlyOwn : List SetPlan → Type 0
+ReadOnlyOwn [] = Unit {0}
+ReadOnlyOwn (set ∷ sets) = SetReadsOwn set × ReadOnlyOwn sets

@@ -1,8 +1,8 @@
-use Rattle.lr_seen.proofs.Ready.{plans_have_logs, plans_read_removed}
+use Rattle.lr_seen.proofs.Ready.{plans_have_logs, plans_read_own}
 use Rattle.lr_seen.proofs.laws.plan_has_targets.Goals as goal
 
 pub returns-clause-logs : goal.returns-clause-logs
 returns-clause-logs c = λ reserved. plans_have_logs
 
 pub returns-clause-programs : goal.returns-clause-programs
-returns-clause-programs c = plans_read_removed
+returns-clause-programs c = plans_read_own
