@@ -45,13 +45,13 @@ use Rattle.lr_fixed.specs.Unplanned.{IsUnplannedWork, IsUnplanned}
 
 -- the work of a run, whatever failed: its targets are the logs of its plan
 abbrev worked_turn : (state : Path) (rules : Rules) (now : Moment) (asked : Asked) (own : List Fault) (ts : List Entry) → AreBuiltRules rules.sets → (w : Worked state rules.sets now asked own ts)
-    → AllTurns state rules (((w.looked.reads ++ w.looked.looks) ++ w.acted.entries.entries.front) ++ w.acted.entries.entries.back)
+    → AllTurns state now rules (((w.looked.reads ++ w.looked.looks) ++ w.acted.entries.entries.front) ++ w.acted.entries.entries.back)
 worked_turn state rules now asked own ts built w =
-    written state rules ((w.looked.reads ++ w.looked.looks) ++ w.acted.entries.entries.front) w.acted.entries.entries.back
-    (done_turns state rules (w.looked.reads ++ w.looked.looks) (rotated_in state rules.sets ts w.looked now asked) _ w.acted.marks w.acted.entries.of_plan w.acted.entries.entries.front
-    (seen_quiet state rules.sets ts w.looked) (seen_later rules w.looked.reads w.looked.looks (rotated_in state rules.sets ts w.looked now asked) (targets_seen rules w.looked.sets w.looked.of_looks w.looked.looks (decision w.looked.remembered.table now asked.force) built w.looked.shown))
-    (ready_planned (groups_of (decision w.looked.remembered.table now asked.force) rules.sets w.looked.sets) _ (plans_have_logs rules.sets w.looked.sets w.looked.of_looks w.looked.looks asked.mailer (decision w.looked.remembered.table now asked.force) built w.looked.shown)
-    (targets_apart rules.sets w.looked.sets w.looked.of_looks w.looked.looks (decision w.looked.remembered.table now asked.force) w.looked.shown))
+    written state now rules ((w.looked.reads ++ w.looked.looks) ++ w.acted.entries.entries.front) w.acted.entries.entries.back
+    (done_turns state now rules (w.looked.reads ++ w.looked.looks) (rotated_in state rules.sets ts w.looked now asked) _ w.acted.marks w.acted.entries.of_plan w.acted.entries.entries.front
+    (seen_quiet state rules.sets ts w.looked) (seen_later rules now w.looked.reads w.looked.looks (rotated_in state rules.sets ts w.looked now asked) (targets_seen rules w.looked.sets w.looked.of_looks w.looked.looks now (decision w.looked.remembered.table now asked.force) built w.looked.shown))
+    (ready_planned (groups_of now (decision w.looked.remembered.table now asked.force) rules.sets w.looked.sets) _ (plans_have_logs rules.sets w.looked.sets w.looked.of_looks w.looked.looks now asked.mailer (decision w.looked.remembered.table now asked.force) built w.looked.shown)
+    (targets_apart rules.sets w.looked.sets w.looked.of_looks w.looked.looks now (decision w.looked.remembered.table now asked.force) w.looked.shown))
     w.acted.entries.entries.first)
     (all_of_state state rules.sets now asked own ts w)
 
@@ -88,8 +88,8 @@ left_alone s state asked now rules own p q es reads acts built made journal join
     tail : List Entry
     tail = work ++ entry.Ends ∷ []
 
-    turns : AllTurns state rules tail
-    turns = ended state rules work (worked_turn state rules now asked own i.between built w)
+    turns : AllTurns state now rules tail
+    turns = ended state now rules work (worked_turn state rules now asked own i.between built w)
 
     whole : reverse es ≡ front ++ (starts ∷ tail)
     whole = joined ∙ (ap (λ xs. reads ++ xs) (i.entries ∙ ap (λ xs. i.before ++ (entry.Starts state now rules ∷ (xs ++ entry.Ends ∷ []))) (in_parts state rules.sets now asked own i.between w)) ∙ sym (append_assoc reads i.before _))

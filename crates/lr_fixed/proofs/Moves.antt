@@ -1,6 +1,7 @@
 -- The acts of a plan are unlinks, renames, makings of logs, the steps of copies and programs.
 use Rattle.std.proofs.Common.{◌≡◌, inl, inr, ℕ, Bool, true, false, bytes_eq, Option, List, [], ◌∷◌, map, refl, sym, ◌∙◌, subst}
 use Rattle.std.proofs.lemmas.Slice.Eq.{bytes_eq-Decides}
+use Rattle.lr_rules.specs.declared.civil.Moment.{Moment}
 use Rattle.lr_rules.specs.declared.path.Path.{Path}
 use Rattle.lr_rules.specs.Names.{the_log, IsOwnName}
 use Rattle.lr_rules.specs.declared.fault.Fault.{Fault}
@@ -105,8 +106,8 @@ sets_move : (sets : List SetSteps) (ms : List Mark) (fs : List Fault) (ts : List
 sets_move sets ms fs ts i h = acts_fold (λ fs ts. Each IsMove ts) moves_fold sets ms fs ts i h
 
 -- the acts of a plan
-pub plan_moves : (rules : List Rule) (sets : List SetLooks) (mailer : Path) (decide : Rule → LogLook → Due) (ms : List Mark) (fs : List Fault) (ts : List Entry) → SetsDone (map steps_of_set (all_plans mailer decide rules sets)) ms fs ts → Each IsMove ts
-plan_moves rules sets mailer decide ms fs ts h = sets_move (map steps_of_set (all_plans mailer decide rules sets)) ms fs ts (plan_simple mailer decide rules sets) h
+pub plan_moves : (rules : List Rule) (sets : List SetLooks) (now : Moment) (mailer : Path) (decide : Rule → LogLook → Due) (ms : List Mark) (fs : List Fault) (ts : List Entry) → SetsDone (map steps_of_set (all_plans now mailer decide rules sets)) ms fs ts → Each IsMove ts
+plan_moves rules sets now mailer decide ms fs ts h = sets_move (map steps_of_set (all_plans now mailer decide rules sets)) ms fs ts (plan_simple now mailer decide rules sets) h
 
 -- ---- what they aren't
 
@@ -134,10 +135,10 @@ no_make reserved ts part (entry.Makes x mode) names free i h = go (bytes_eq x pa
 no_make reserved ts part _ names free i h = refl
 
 -- the acts of the plan make no part file of the state
-pub acts_make_none : (state : Path) (rules : Rules) (sets : List SetLooks) (mailer : Path) (decide : Rule → LogLook → Due) (of_looks : List Fault) (looks : List Entry) (ms : List Mark) (fs : List Fault) (ts : List Entry) → AreBuiltRules rules.sets → ShowsLooks (reserved_by state) rules.sets sets of_looks looks
-    → SetsDone (map steps_of_set (all_plans mailer decide rules.sets sets)) ms fs ts → makes_in (state_part state) ts ≡ []
-acts_make_none state rules sets mailer decide of_looks looks ms fs ts built shown done =
-    none_pass (is_make (state_part state)) ts (each_as (MakesOnly (MakesOne (all_targets decide rules.sets sets))) (λ e. is_make (state_part state) e ≡ false) ts
-    (λ e h. no_make (reserved_by state) (all_targets decide rules.sets sets) (state_part state) e (targets_have_names rules sets of_looks looks decide built shown) (targets_free rules.sets sets of_looks looks decide shown) (inr (inl refl)) h)
-    (sets_parts (MakesOne (all_targets decide rules.sets sets)) (map steps_of_set (all_plans mailer decide rules.sets sets)) ms fs ts
-    (ready_planned (groups_of decide rules.sets sets) (all_plans mailer decide rules.sets sets) (plans_have_logs rules.sets sets of_looks looks mailer decide built shown) (targets_apart rules.sets sets of_looks looks decide shown)).plain done).only)
+pub acts_make_none : (state : Path) (rules : Rules) (sets : List SetLooks) (now : Moment) (mailer : Path) (decide : Rule → LogLook → Due) (of_looks : List Fault) (looks : List Entry) (ms : List Mark) (fs : List Fault) (ts : List Entry) → AreBuiltRules rules.sets → ShowsLooks (reserved_by state) rules.sets sets of_looks looks
+    → SetsDone (map steps_of_set (all_plans now mailer decide rules.sets sets)) ms fs ts → makes_in (state_part state) ts ≡ []
+acts_make_none state rules sets now mailer decide of_looks looks ms fs ts built shown done =
+    none_pass (is_make (state_part state)) ts (each_as (MakesOnly (MakesOne (all_targets now decide rules.sets sets))) (λ e. is_make (state_part state) e ≡ false) ts
+    (λ e h. no_make (reserved_by state) (all_targets now decide rules.sets sets) (state_part state) e (targets_have_names rules sets of_looks looks now decide built shown) (targets_free rules.sets sets of_looks looks now decide shown) (inr (inl refl)) h)
+    (sets_parts (MakesOne (all_targets now decide rules.sets sets)) (map steps_of_set (all_plans now mailer decide rules.sets sets)) ms fs ts
+    (ready_planned (groups_of now decide rules.sets sets) (all_plans now mailer decide rules.sets sets) (plans_have_logs rules.sets sets of_looks looks now mailer decide built shown) (targets_apart rules.sets sets of_looks looks now decide shown)).plain done).only)

@@ -2,6 +2,7 @@
 use Rattle.std.proofs.Common.{◌≡◌, ◌≢◌, inl, inr, ⊎_elim, ℕ, Bool, true, false, List, [], ◌∷◌, ◌++◌, map, Option, Some, None, refl, sym, ap, ◌∙◌, subst, append-nil}
 use Rattle.std.specs.List.{flat_map}
 use Rattle.std.proofs.lemmas.Grind.{flat_map-append}
+use Rattle.lr_rules.specs.declared.civil.Moment.{Moment}
 use Rattle.lr_rules.specs.declared.fault.Fault.{Fault}
 use Rattle.lr_rules.specs.declared.fault.Phase.{Phase}
 use Rattle.lr_rules.specs.declared.fault.Phase.TheVariants as phase
@@ -243,16 +244,16 @@ none_made : (reserved : List Path) (ts : List Target) (x : Path) → HaveNames t
 none_made reserved [] x h free r i = i
 none_made reserved (t ∷ ts) x h free r i = ⊎_elim (λ a. free.0 x r (inl (key_of t (Made x) h.0 a))) (λ b. none_made reserved ts x h.1 free.1 r b) (in_append (Made x) (target_keys t) (flat_map target_keys ts) i)
 
-module _ {reserved : List Path} (rules : Rules) (sets : List SetLooks) (faults : List Fault) (ts : List Entry) (mailer : Path) (decide : Rule → LogLook → Due) (built : AreBuiltRules rules.sets) (shown : ShowsLooks reserved rules.sets sets faults ts) where
-  keys_are : keys_of (all_of_sets (map steps_of_set (all_plans mailer decide rules.sets sets))) ≡ flat_map target_keys (all_targets decide rules.sets sets)
-  keys_are = sets_are (all_plans mailer decide rules.sets sets) ∙ groups_are (groups_of decide rules.sets sets) (all_plans mailer decide rules.sets sets) (plans_have_logs rules.sets sets faults ts mailer decide built shown)
+module _ {reserved : List Path} (rules : Rules) (sets : List SetLooks) (faults : List Fault) (ts : List Entry) (now : Moment) (mailer : Path) (decide : Rule → LogLook → Due) (built : AreBuiltRules rules.sets) (shown : ShowsLooks reserved rules.sets sets faults ts) where
+  keys_are : keys_of (all_of_sets (map steps_of_set (all_plans now mailer decide rules.sets sets))) ≡ flat_map target_keys (all_targets now decide rules.sets sets)
+  keys_are = sets_are (all_plans now mailer decide rules.sets sets) ∙ groups_are (groups_of now decide rules.sets sets) (all_plans now mailer decide rules.sets sets) (plans_have_logs rules.sets sets faults ts now mailer decide built shown)
 
-  names : HaveNames (all_targets decide rules.sets sets)
-  names = targets_have_names rules sets faults ts decide built shown
+  names : HaveNames (all_targets now decide rules.sets sets)
+  names = targets_have_names rules sets faults ts now decide built shown
 
-  pub plan_once : AreDistinct (keys_of (all_of_sets (map steps_of_set (all_plans mailer decide rules.sets sets))))
-  plan_once = subst AreDistinct (sym keys_are) (targets_once (all_targets decide rules.sets sets) (targets_apart rules.sets sets faults ts decide shown) (targets_dont_meet rules.sets sets faults ts decide shown) names)
+  pub plan_once : AreDistinct (keys_of (all_of_sets (map steps_of_set (all_plans now mailer decide rules.sets sets))))
+  plan_once = subst AreDistinct (sym keys_are) (targets_once (all_targets now decide rules.sets sets) (targets_apart rules.sets sets faults ts now decide shown) (targets_dont_meet rules.sets sets faults ts now decide shown) names)
 
   -- it makes no file at a path that is reserved
-  pub none_reserved : (x : Path) → IsIn x reserved → IsIn (Made x) (keys_of (all_of_sets (map steps_of_set (all_plans mailer decide rules.sets sets)))) → ⊥
-  none_reserved x r i = none_made reserved (all_targets decide rules.sets sets) x names (targets_free rules.sets sets faults ts decide shown) r (subst (IsIn (Made x)) keys_are i)
+  pub none_reserved : (x : Path) → IsIn x reserved → IsIn (Made x) (keys_of (all_of_sets (map steps_of_set (all_plans now mailer decide rules.sets sets)))) → ⊥
+  none_reserved x r i = none_made reserved (all_targets now decide rules.sets sets) x names (targets_free rules.sets sets faults ts now decide shown) r (subst (IsIn (Made x)) keys_are i)

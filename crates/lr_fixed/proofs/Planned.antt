@@ -14,8 +14,8 @@ use Rattle.lr_state.specs.Table.{Entry as Row, moment_of}
 use Rattle.lr_family.specs.Parts.{part_of}
 use Rattle.lr_family.specs.Spots.{path_at}
 use Rattle.lr_chain.specs.Ready.{at_rest, with_members, is_highest, highest_path}
-use Rattle.lr_chain.specs.Rotation.{places_of}
-use Rattle.lr_commands.specs.Commands.{script, where_so}
+use Rattle.lr_chain.specs.Rotation.{places_of, going}
+use Rattle.lr_commands.specs.Commands.{script, where_so, mail}
 use Rattle.lr_copy.specs.declared.job.Job.{Job}
 use Rattle.lr_plan.specs.Asked.{Asked}
 use Rattle.lr_plan.specs.declared.looks.LogLook.{LogLook}
@@ -31,12 +31,12 @@ abbrev hindered : Rule → LookedLog → List Fault
 hindered rule l = if l.stand.there then (if keeps_all rule.count && list_any (is_highest l.naming) l.stand.members then fault.TooHigh (highest_path l.naming) ∷ [] else []) else fault.NoDir l.naming.dir ∷ []
 
 -- what is done with it, by rename or by this copy
-abbrev plan_for : Path → Rule → LookedLog → Option Job → LogPlan
-plan_for mailer rule l job = record {
+abbrev plan_for : Moment → Path → Rule → LookedLog → Option Job → LogPlan
+plan_for now mailer rule l job = record {
   pre = where_so (not rule.shared) (script rule.scripts.pre (l.path ∷ []));
   post = where_so (not rule.shared) (script rule.scripts.post (l.path ∷ path_at l.naming 0 ∷ []));
-  first_mail = None;
-  ready = dressed rule mailer (with_members l.naming rule.count (places_of l.stand.members) (at_rest l.path l.naming (make_of rule.create l.seen)));
+  first_mail = where_so rule.mailfirst (mail mailer rule.mail l.path (path_at l.naming 0));
+  ready = dressed rule mailer (with_members l.naming rule.count (places_of l.stand.members) (going rule.count rule.maxage now.seconds l.stand.members) (at_rest l.path l.naming (make_of rule.create l.seen)));
   job = job;
 }
 
@@ -104,34 +104,34 @@ module _ (table : List Row) (now : Moment) (asked : Asked) where
   due_same set rule x y e = ap (due_at rule) e
 
   -- what hinders them is the same, so each is planned for or none is
-  plans_same : (rule : Rule) (x y : LogLook) → hindrances rule x ≡ hindrances rule y → log_plan asked.mailer rule x ≡ log_plan asked.mailer rule y → plans_of asked.mailer rule x ≡ plans_of asked.mailer rule y
-  plans_same rule x y h p = ap (λ fs. none_hinders fs (log_plan asked.mailer rule x ∷ [])) h ∙ ap (λ (l : LogPlan). none_hinders (hindrances rule y) (l ∷ [])) p
+  plans_same : (rule : Rule) (x y : LogLook) → hindrances rule x ≡ hindrances rule y → log_plan now asked.mailer rule x ≡ log_plan now asked.mailer rule y → plans_of now asked.mailer rule x ≡ plans_of now asked.mailer rule y
+  plans_same rule x y h p = ap (λ fs. none_hinders fs (log_plan now asked.mailer rule x ∷ [])) h ∙ ap (λ (l : LogPlan). none_hinders (hindrances rule y) (l ∷ [])) p
 
-  planned_same : (set : ℕ) (rule : Rule) (x y : LogLook) → looked_in set x ≡ looked_in set y → log_plan asked.mailer rule x ≡ log_plan asked.mailer rule y
-  planned_same set rule x y e = ap (λ (l : LookedLog). plan_for asked.mailer rule l (job_by rule.way x)) e ∙ ap (λ (j : Option Job). plan_for asked.mailer rule (looked_in set y) j) (job_same set rule.way x y e)
+  planned_same : (set : ℕ) (rule : Rule) (x y : LogLook) → looked_in set x ≡ looked_in set y → log_plan now asked.mailer rule x ≡ log_plan now asked.mailer rule y
+  planned_same set rule x y e = ap (λ (l : LookedLog). plan_for now asked.mailer rule l (job_by rule.way x)) e ∙ ap (λ (j : Option Job). plan_for now asked.mailer rule (looked_in set y) j) (job_same set rule.way x y e)
 
-  one_same : (set : ℕ) (rule : Rule) (x y : LogLook) → looked_in set x ≡ looked_in set y → where_due (decision table now asked.force rule x) (plans_of asked.mailer rule x) ≡ where_due (decision table now asked.force rule y) (plans_of asked.mailer rule y)
+  one_same : (set : ℕ) (rule : Rule) (x y : LogLook) → looked_in set x ≡ looked_in set y → where_due (decision table now asked.force rule x) (plans_of now asked.mailer rule x) ≡ where_due (decision table now asked.force rule y) (plans_of now asked.mailer rule y)
   one_same set rule x y e =
-      ap (λ (d : Due). where_due d (plans_of asked.mailer rule x)) (due_same set rule x y e)
+      ap (λ (d : Due). where_due d (plans_of now asked.mailer rule x)) (due_same set rule x y e)
       ∙ ap (λ ls. where_due (decision table now asked.force rule y) ls) (plans_same rule x y (ap (hindered rule) e) (planned_same set rule x y e))
 
-  logs_same : (set : ℕ) (rule : Rule) (xs ys : List LogLook) → map (looked_in set) xs ≡ map (looked_in set) ys → log_plans asked.mailer rule (decision table now asked.force rule) xs ≡ log_plans asked.mailer rule (decision table now asked.force rule) ys
+  logs_same : (set : ℕ) (rule : Rule) (xs ys : List LogLook) → map (looked_in set) xs ≡ map (looked_in set) ys → log_plans now asked.mailer rule (decision table now asked.force rule) xs ≡ log_plans now asked.mailer rule (decision table now asked.force rule) ys
   logs_same set rule [] [] e = refl
   logs_same set rule [] (y ∷ ys) e = absurd (cc)
   logs_same set rule (x ∷ xs) [] e = absurd (cc)
   logs_same set rule (x ∷ xs) (y ∷ ys) e =
-      ap (λ ls. ls ++ log_plans asked.mailer rule (decision table now asked.force rule) xs) (one_same set rule x y (first_looked set x y xs ys e))
-      ∙ ap (λ ls. where_due (decision table now asked.force rule y) (plans_of asked.mailer rule y) ++ ls) (logs_same set rule xs ys (others_looked set x y xs ys e))
+      ap (λ ls. ls ++ log_plans now asked.mailer rule (decision table now asked.force rule) xs) (one_same set rule x y (first_looked set x y xs ys e))
+      ∙ ap (λ ls. where_due (decision table now asked.force rule y) (plans_of now asked.mailer rule y) ++ ls) (logs_same set rule xs ys (others_looked set x y xs ys e))
 
-  all_plans_same : (set : ℕ) (rules : List Rule) (sets others : List SetLooks) → AreAlikeFrom set sets others → all_plans asked.mailer (decision table now asked.force) rules sets ≡ all_plans asked.mailer (decision table now asked.force) rules others
+  all_plans_same : (set : ℕ) (rules : List Rule) (sets others : List SetLooks) → AreAlikeFrom set sets others → all_plans now asked.mailer (decision table now asked.force) rules sets ≡ all_plans now asked.mailer (decision table now asked.force) rules others
   all_plans_same set rules [] [] a = refl
   all_plans_same set rules [] (y ∷ ys) a = absurd a
   all_plans_same set rules (x ∷ xs) [] a = absurd a
   all_plans_same set [] (x ∷ xs) (y ∷ ys) a = refl
   all_plans_same set (r ∷ rs) (x ∷ xs) (y ∷ ys) a =
-      ap (λ ls. set_plan r ls ∷ all_plans asked.mailer (decision table now asked.force) rs xs) (logs_same set r x.logs y.logs a.0)
-      ∙ ap (λ ps. set_plan r (log_plans asked.mailer r (decision table now asked.force r) y.logs) ∷ ps) (all_plans_same (set + 1) rs xs ys a.1)
+      ap (λ ls. set_plan r ls ∷ all_plans now asked.mailer (decision table now asked.force) rs xs) (logs_same set r x.logs y.logs a.0)
+      ∙ ap (λ ps. set_plan r (log_plans now asked.mailer r (decision table now asked.force r) y.logs) ∷ ps) (all_plans_same (set + 1) rs xs ys a.1)
 
   -- looks that are alike have the same plans of their definitions
-  pub plans_alike : (rules : List Rule) (sets others : List SetLooks) → AreAlike sets others → all_plans asked.mailer (decision table now asked.force) rules sets ≡ all_plans asked.mailer (decision table now asked.force) rules others
+  pub plans_alike : (rules : List Rule) (sets others : List SetLooks) → AreAlike sets others → all_plans now asked.mailer (decision table now asked.force) rules sets ≡ all_plans now asked.mailer (decision table now asked.force) rules others
   plans_alike rules sets others a = all_plans_same 0 rules sets others a

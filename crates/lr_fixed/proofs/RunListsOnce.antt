@@ -60,7 +60,7 @@ looked_once p q state rules ts dir m l none =
 -- the acts of the plan, and the writing of the state
 acts_none : (state : Path) (rules : List Rule) (now : Moment) (asked : Asked) (faults : List Fault) (ts : List Entry) → AreBuiltRules rules → (w : Worked state rules now asked faults ts) → AreNoListings w.looked.acts
 acts_none state rules now asked faults ts built w = none_both w.looked.acts
-    (λ us h. moves_list_none us (plan_moves rules w.looked.sets asked.mailer (decision w.looked.remembered.table now asked.force) w.acted.marks w.acted.entries.of_plan us h))
+    (λ us h. moves_list_none us (plan_moves rules w.looked.sets now asked.mailer (decision w.looked.remembered.table now asked.force) w.acted.marks w.acted.entries.of_plan us h))
     (λ us h. state_written_none state w.looked.remembered.stale w.acted.dirs _ w.acted.entries.of_state us h) w.acted.entries.entries
 
 works_once : (p q : Past) (state : Path) (rules : List Rule) (now : Moment) (asked : Asked) (plan : Option Plan) (faults : List Fault) (ts : List Entry) (dir : Path) → Made p (reverse ts) q → AreBuiltRules rules → Works state rules now asked plan faults ts → listings_of dir ts ≤ wildcards_of rules + 1

@@ -57,7 +57,7 @@ module _ (state : Path) (rules : List Rule) (now : Moment) (asked : Asked) (own 
   made_is =
       ap (makes_in (state_part state)) w.acted.entries.entries.joined
       ∙ (filter-append (is_make (state_part state)) w.acted.entries.entries.front w.acted.entries.entries.back
-      ∙ ap (λ es. es ++ makes_in (state_part state) w.acted.entries.entries.back) (acts_make_none state given w.looked.sets asked.mailer (decision w.looked.remembered.table now asked.force) w.looked.of_looks w.looked.looks w.acted.marks w.acted.entries.of_plan w.acted.entries.entries.front built w.looked.shown w.acted.entries.entries.first))
+      ∙ ap (λ es. es ++ makes_in (state_part state) w.acted.entries.entries.back) (acts_make_none state given w.looked.sets now asked.mailer (decision w.looked.remembered.table now asked.force) w.looked.of_looks w.looked.looks w.acted.marks w.acted.entries.of_plan w.acted.entries.entries.front built w.looked.shown w.acted.entries.entries.first))
 
   -- by them the faults of the writing are told
   written_told : w.acted.entries.of_state ≡ told_by (state_part state) (makes_in (state_part state) w.looked.acts)
@@ -78,7 +78,7 @@ module _ (state : Path) (rules : List Rule) (now : Moment) (asked : Asked) (own 
 
   -- nothing that the faults of the plan's acts deny was done
   agreed : Agree (shown w.looked.acts) w.acted.entries.of_plan w.acted.entries.entries.front
-  agreed = acts_agree state given w.looked.sets w.looked.of_looks w.looked.looks asked.mailer (decision w.looked.remembered.table now asked.force) built w.looked.shown w.acted.marks w.acted.entries.of_plan w.looked.acts w.acted.entries.entries.front w.acted.entries.entries.back
+  agreed = acts_agree state given w.looked.sets w.looked.of_looks w.looked.looks now asked.mailer (decision w.looked.remembered.table now asked.force) built w.looked.shown w.acted.marks w.acted.entries.of_plan w.looked.acts w.acted.entries.entries.front w.acted.entries.entries.back
       w.acted.entries.entries.joined w.acted.entries.entries.first (state_writing state w.looked.remembered.stale w.acted.dirs _ w.acted.entries.of_state w.acted.entries.entries.back w.acted.entries.entries.second)
 
 -- ---- one that knew its state, and one that didn't

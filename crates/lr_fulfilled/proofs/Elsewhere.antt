@@ -85,26 +85,26 @@ elsewhere_left state targets p q es ts x m j h away same a = left_alone p q es x
 
 -- ---- a run that looks first
 
-seen_have_names : (rules : Rules) (looks : List Entry) (ts : List Target) → AreSeen rules looks ts → HaveNames ts
-seen_have_names rules looks [] s = tt
-seen_have_names rules looks (t ∷ ts) s = (seen_names rules looks t s.0, seen_have_names rules looks ts s.1)
+seen_have_names : (rules : Rules) (now : Moment) (looks : List Entry) (ts : List Target) → AreSeen rules now.seconds looks ts → HaveNames ts
+seen_have_names rules now looks [] s = tt
+seen_have_names rules now looks (t ∷ ts) s = (seen_names rules now.seconds looks t s.0, seen_have_names rules now looks ts s.1)
 
 -- what stands before its changes changes nothing
 pub behind_start : (state : Path) (now : Moment) (rules : Rules) (reads tail : List Entry) → AreQuiet reads → filter is_disk_change (reads ++ entry.Starts state now rules ∷ tail) ≡ filter is_disk_change tail
 behind_start state now rules reads tail quiet = filter-append is_disk_change reads (entry.Starts state now rules ∷ tail) ∙ ap (λ (xs : List Entry). xs ++ filter is_disk_change tail) (quiet_still reads quiet)
 
-pub turns_leave : (state : Path) (now : Moment) (rules : Rules) (p q : Past) (es reads tail : List Entry) (x : Path) (t : AllTurns state rules tail) → Made p es q → IsJournal p → reverse es ≡ reads ++ entry.Starts state now rules ∷ tail → AreQuiet reads
+pub turns_leave : (state : Path) (now : Moment) (rules : Rules) (p q : Past) (es reads tail : List Entry) (x : Path) (t : AllTurns state now rules tail) → Made p es q → IsJournal p → reverse es ≡ reads ++ entry.Starts state now rules ∷ tail → AreQuiet reads
     → IsElsewhere state t.targets x → IsLeftAlone p q x
-turns_leave state now rules p q es reads tail x t m j joined quiet away = elsewhere_left state t.targets p q es tail x m j (seen_have_names rules t.looks t.targets t.seen) away
+turns_leave state now rules p q es reads tail x t m j joined quiet away = elsewhere_left state t.targets p q es tail x m j (seen_have_names rules now t.looks t.targets t.seen) away
     (ap (filter is_disk_change) joined ∙ behind_start state now rules reads tail quiet)
     (subst (Each (IsOfRun state t.targets)) (sym (ap (filter is_change) t.joined ∙ (filter-append is_change t.looks t.acts ∙ ap (λ (xs : List Entry). xs ++ filter is_change t.acts) (quiet_changes t.looks t.quiet)))) t.all)
 
 -- ---- a log that was kept
 
-pub kept_elsewhere : (state : Path) (rules : List Rule) (sets : List SetLooks) (faults : List Fault) (ts : List Entry) (decide : Rule → LogLook → Due) (f : FoundLog) (x : Path) → (s : ShowsLooks (reserved_by state) rules sets faults ts) → IsIn f s.kept
-    → HasNone (all_targets decide rules sets) f.log.path → IsOwnName f.log.path f.log.naming x → IsElsewhere state (all_targets decide rules sets) x
-kept_elsewhere state rules sets faults ts decide f x s kept none own = record {
+pub kept_elsewhere : (state : Path) (rules : List Rule) (sets : List SetLooks) (faults : List Fault) (ts : List Entry) (now : Moment) (decide : Rule → LogLook → Due) (f : FoundLog) (x : Path) → (s : ShowsLooks (reserved_by state) rules sets faults ts) → IsIn f s.kept
+    → HasNone (all_targets now decide rules sets) f.log.path → IsOwnName f.log.path f.log.naming x → IsElsewhere state (all_targets now decide rules sets) x
+kept_elsewhere state rules sets faults ts now decide f x s kept none own = record {
   no_state = λ same. kept_has_none rules sets faults ts s f kept state (inl refl) (inl (subst (IsOwnName f.log.path f.log.naming) same own));
   no_part = λ same. kept_has_none rules sets faults ts s f kept (state_part state) (inr (inl refl)) (inl (subst (IsOwnName f.log.path f.log.naming) same own));
-  no_name = λ t one named. kept_meets_none rules sets faults ts s f kept decide t one (none t one) (x, inl (named, inl own));
+  no_name = λ t one named. kept_meets_none rules sets faults ts s f kept now decide t one (none t one) (x, inl (named, inl own));
 }

@@ -96,7 +96,7 @@ module _ (state : Path) (asked : Asked) (now : Moment) (rules : Rules) (own : Li
   decide = decision l.remembered.table now asked.force
 
   abbrev targets : List Target
-  targets = all_targets decide rules.sets l.sets
+  targets = all_targets now decide rules.sets l.sets
 
   none : w.acted.of_acts ≡ []
   none = worked_met_nothing state rules.sets now asked own i.between w nothing
@@ -131,10 +131,10 @@ module _ (state : Path) (asked : Asked) (now : Moment) (rules : Rules) (own : Li
   work = ((l.reads ++ l.looks) ++ w.acted.entries.entries.front) ++ w.acted.entries.entries.back
 
   named : HaveNames targets
-  named = targets_have_names rules l.sets l.of_looks l.looks decide built l.shown
+  named = targets_have_names rules l.sets l.of_looks l.looks now decide built l.shown
 
   planned : ArePlanned targets (map steps_of_set (plan_in state rules.sets i.between l now asked).sets)
-  planned = ready_planned (groups_of decide rules.sets l.sets) (plan_in state rules.sets i.between l now asked).sets (plans_have_logs rules.sets l.sets l.of_looks l.looks asked.mailer decide built l.shown) (targets_apart rules.sets l.sets l.of_looks l.looks decide l.shown)
+  planned = ready_planned (groups_of now decide rules.sets l.sets) (plan_in state rules.sets i.between l now asked).sets (plans_have_logs rules.sets l.sets l.of_looks l.looks now asked.mailer decide built l.shown) (targets_apart rules.sets l.sets l.of_looks l.looks now decide l.shown)
 
   front_changes : Each (IsOfRun state targets) (filter is_change w.acted.entries.entries.front)
   front_changes = each_as (IsOfSome targets) (IsOfRun state targets) _ (λ e h. inl h) (done_some targets (map steps_of_set (plan_in state rules.sets i.between l now asked).sets) w.acted.marks w.acted.entries.of_plan w.acted.entries.entries.front planned w.acted.entries.entries.first)
@@ -217,6 +217,6 @@ module _ (state : Path) (asked : Asked) (now : Moment) (rules : Rules) (own : Li
     rotated = λ t one by_rename. run_rotated state asked now rules own p q es reads acts built made journal joined (sights_quiet reads sights) i nothing.no_call nothing.no_end nothing.no_copy t one by_rename;
     turned = λ t one job is. run_turned state asked now rules own p q es reads acts built made journal joined (sights_quiet reads sights) i nothing.no_call nothing.no_end nothing.no_copy t one job is;
     written = written;
-    kept = λ f kept free x is. others_left x (kept_elsewhere state rules.sets l.sets l.of_looks l.looks decide f x l.shown kept free is);
+    kept = λ f kept free x is. others_left x (kept_elsewhere state rules.sets l.sets l.of_looks l.looks now decide f x l.shown kept free is);
     others = others_left;
   }

@@ -61,14 +61,14 @@ pub fn run_meets_no_fault()
 /// A run leaves alone what is no path of its state and no name of a log that it rotates, however far it came, and whatever
 /// failed.
 pub fn others_are_left()
-    ensures { (state : Path) (now : Moment) (rules : Rules) (p q : Past) (es reads tail : List Entry) (x : Path) (t : AllTurns state rules tail) → Made p es q → IsJournal p → reverse es ≡ reads ++ Starts state now rules ∷ tail → AreQuiet reads
+    ensures { (state : Path) (now : Moment) (rules : Rules) (p q : Past) (es reads tail : List Entry) (x : Path) (t : AllTurns state now rules tail) → Made p es q → IsJournal p → reverse es ≡ reads ++ Starts state now rules ∷ tail → AreQuiet reads
         → IsElsewhere state t.targets x → IsLeftAlone p q x }
 {}
 
 /// Each name of a log that the looks kept, and that none of these has, is such a path.
 pub fn kept_are_elsewhere()
-    ensures { (state : Path) (rules : List Rule) (sets : List SetLooks) (faults : List Fault) (ts : List Entry) (decide : Rule → LogLook → Due) (f : FoundLog) (x : Path) → (s : ShowsLooks (reserved_by state) rules sets faults ts)
-        → IsIn f s.kept → HasNone (all_targets decide rules sets) f.log.path → IsOwnName f.log.path f.log.naming x → IsElsewhere state (all_targets decide rules sets) x }
+    ensures { (state : Path) (rules : List Rule) (sets : List SetLooks) (faults : List Fault) (ts : List Entry) (now : Moment) (decide : Rule → LogLook → Due) (f : FoundLog) (x : Path) → (s : ShowsLooks (reserved_by state) rules sets faults ts)
+        → IsIn f s.kept → HasNone (all_targets now decide rules sets) f.log.path → IsOwnName f.log.path f.log.naming x → IsElsewhere state (all_targets now decide rules sets) x }
 {}
 
 /// The looks of a run that came to its plan are true of the disk, from its start to the end of the looks, whatever failed then.

@@ -38,7 +38,7 @@ worked_none state rules now asked own ts built limits w stands = subst (NoneEnds
     (none_both state (plan_in state rules ts w.looked now asked).faults w.acted.of_acts
     (plan_none state (decision w.looked.remembered.table now asked.force) rules w.looked.sets (none_missed state rules w.looked.sets w.looked.of_looks w.looked.looks w.looked.shown stands))
     (subst (NoneEnds state) (sym w.acted.entries.faults_are) (none_both state w.acted.entries.of_plan w.acted.entries.of_state
-    (acts_none state rules w.looked.sets asked.mailer (decision w.looked.remembered.table now asked.force) w.acted.marks w.acted.entries.of_plan w.acted.entries.entries.front w.acted.entries.entries.first)
+    (acts_none state rules w.looked.sets now asked.mailer (decision w.looked.remembered.table now asked.force) w.acted.marks w.acted.entries.of_plan w.acted.entries.entries.front w.acted.entries.entries.first)
     (written_none state w.looked.remembered.stale w.acted.dirs _ w.acted.entries.of_state w.acted.entries.entries.back w.acted.entries.entries.second)))))
 
 -- none did, since it was seen before the run began

@@ -24,7 +24,7 @@ use Rattle.lr_family.proofs.Numbers.{every_all, every_filter}
 use Rattle.lr_copy.specs.declared.job.Job.{Job}
 use Rattle.lr_copy.specs.Copying.{clearing}
 use Rattle.lr_chain.specs.declared.ready.Ready.{Ready}
-use Rattle.lr_chain.specs.Rotation.{places_of, is_left, leftovers, kept, one_too_many, leftover_steps, shift_steps, retire_steps}
+use Rattle.lr_chain.specs.Rotation.{places_of, is_left, leftovers, kept, retired, leftover_steps, shift_steps, retire_steps}
 use Rattle.lr_plan.specs.declared.planned.LogPlan.{LogPlan}
 use Rattle.lr_plan.specs.declared.planned.SetPlan.{SetPlan}
 use Rattle.lr_rotations.specs.AllTurns.{AlsoDoes, IsOfSome}
@@ -152,7 +152,7 @@ on_family t h = each_part P t
     (subst (Each P) (sym (shift_are t h.ready))
     (each_member t.log n h.family (shift_steps n c ps) (moves_of n (kept c ps) (every_filter (HasName n) (λ k. not (is_left c k)) ps (every_all (HasName n) ps h.named)) (kept_next n c ps h.next))))
     (transfer_in t h t.job refl)
-    (subst (Each P) (sym (retire_are t h.ready)) (each_member t.log n h.family (retire_steps n c ps) (unlinks_of n (one_too_many c ps) (retire_named n c ps h.next))))
+    (subst (Each P) (sym (retire_are t h.ready)) (each_member t.log n h.family (retire_steps n c t.from) (unlinks_of n (retired c t.from) (retire_named n c ps t.from h.next h.going))))
   where
     n : Naming
     n = t.naming

@@ -110,8 +110,8 @@ record HasRule (rules : List Rule) (t : Target) : Type 0 where
   look : LogLook
   job_is : job_of rule look ≡ t.job
 
-has_rule : {reserved : List Path} (rules : List Rule) (sets : List SetLooks) (faults : List Fault) (ts : List Entry) (t : Target) → ShowsLooks reserved rules sets faults ts → Comes rules sets t → HasRule rules t
-has_rule rules sets faults ts t s c = subst (HasRule rules) (sym c.is) (record {
+has_rule : {reserved : List Path} (rules : List Rule) (sets : List SetLooks) (faults : List Fault) (ts : List Entry) (now : Moment) (t : Target) → ShowsLooks reserved rules sets faults ts → Comes now rules sets t → HasRule rules t
+has_rule rules sets faults ts now t s c = subst (HasRule rules) (sym c.is) (record {
   rule = c.rule;
   among = in_to c.rule rules (in_list rules c.place c.rule c.at_rule);
   naming_is = ap (λ (r : Rule). naming_of r x.path) same ∙ (ap (naming_of o.by_word.word.rule) (sym o.path_is) ∙ (naming ∙ o.naming_is));
@@ -137,39 +137,39 @@ has_rule rules sets faults ts t s c = subst (HasRule rules) (sym c.is) (record {
     naming : naming_of o.by_word.word.rule o.found.log.path ≡ o.found.log.naming
     naming = subst (λ (f : _). naming_of o.by_word.word.rule f.log.path ≡ f.log.naming) (sym o.by_word.is) refl
 
-seen_one : (rules : Rules) (looks : List Entry) (t : Target) (ts : List Target) → AreSeen rules looks ts → IsIn t ts → IsSeen rules looks t
-seen_one rules looks t [] s i = absurd i
-seen_one rules looks t (u ∷ us) s (inl e) = subst (IsSeen rules looks) e s.0
-seen_one rules looks t (u ∷ us) s (inr i) = seen_one rules looks t us s.1 i
+seen_one : (rules : Rules) (now : Moment) (looks : List Entry) (t : Target) (ts : List Target) → AreSeen rules now.seconds looks ts → IsIn t ts → IsSeen rules now.seconds looks t
+seen_one rules now looks t [] s i = absurd i
+seen_one rules now looks t (u ∷ us) s (inl e) = subst (IsSeen rules now.seconds looks) e s.0
+seen_one rules now looks t (u ∷ us) s (inr i) = seen_one rules now looks t us s.1 i
 
 -- a copy of a plan that empties its log is one that a rule asks for
-is_copy : {reserved : List Path} (rules : Rules) (sets : List SetLooks) (faults : List Fault) (ts : List Entry) (mailer : Path) (decide : Rule → LogLook → Due) → AreBuiltRules rules.sets → ShowsLooks reserved rules.sets sets faults ts
-    → (job : Job) → IsIn job (jobs_of (all_plans mailer decide rules.sets sets)) → job.cut ≡ true → IsCopyBy rules.sets job
-is_copy rules sets faults ts mailer decide built s job i cut = record {
+is_copy : {reserved : List Path} (rules : Rules) (sets : List SetLooks) (faults : List Fault) (ts : List Entry) (now : Moment) (mailer : Path) (decide : Rule → LogLook → Due) → AreBuiltRules rules.sets → ShowsLooks reserved rules.sets sets faults ts
+    → (job : Job) → IsIn job (jobs_of (all_plans now mailer decide rules.sets sets)) → job.cut ≡ true → IsCopyBy rules.sets job
+is_copy rules sets faults ts now mailer decide built s job i cut = record {
   rule = r.rule;
   among = r.among;
   way_is = cut_way r.rule r.look job (r.job_is ∙ o.is) cut;
   newest = subst (λ (log : Path). IsMemberAt (naming_of r.rule log) 0 job.to) (sym j.from_is) (subst (λ (n : Naming). IsMemberAt n 0 job.to) (sym r.naming_is)
       (subst (IsMemberAt t.naming 0) (sym (job_target t job h.ready j)) (path_member t.naming 0 (first_named t.naming t.count (places_of t.stand.members) h.next))));
   part_is = j.part_is;
-  paths = seen_paths rules ts t job seen o.is;
+  paths = seen_paths rules now.seconds ts t job seen o.is;
   cut = cut;
 }
   where
-    o : IsOfTarget (all_targets decide rules.sets sets) job
-    o = of_groups (groups_of decide rules.sets sets) (all_plans mailer decide rules.sets sets) job (plans_have_logs rules.sets sets faults ts mailer decide built s) i
+    o : IsOfTarget (all_targets now decide rules.sets sets) job
+    o = of_groups (groups_of now decide rules.sets sets) (all_plans now mailer decide rules.sets sets) job (plans_have_logs rules.sets sets faults ts now mailer decide built s) i
 
     t : Target
     t = o.target
 
     r : HasRule rules.sets t
-    r = has_rule rules.sets sets faults ts t s (comes_from decide rules.sets sets t o.one)
+    r = has_rule rules.sets sets faults ts now t s (comes_from now decide rules.sets sets t o.one)
 
-    seen : IsSeen rules ts t
-    seen = seen_one rules ts t (all_targets decide rules.sets sets) (targets_seen rules sets faults ts decide built s) o.one
+    seen : IsSeen rules now.seconds ts t
+    seen = seen_one rules now ts t (all_targets now decide rules.sets sets) (targets_seen rules sets faults ts now decide built s) o.one
 
     h : HasNames t
-    h = seen_names rules ts t seen
+    h = seen_names rules now.seconds ts t seen
 
     j : IsJob t job
     j = (seen.job job o.is).0
@@ -206,7 +206,7 @@ module _ (state : Path) (rules : Rules) (now : Moment) (asked : Asked) (built : 
 
     acts_copied : (acts : List Entry) → EmptiesCopied Planned acts → EmptiesCopied P ((l.reads ++ l.looks) ++ acts)
     acts_copied acts e = both_empty P (l.reads ++ l.looks) acts (quiet_none (l.reads ++ l.looks) (seen_quiet state rules.sets ts l))
-        (copied_as Planned P (λ job i cut. is_copy rules l.sets l.of_looks l.looks asked.mailer (decision l.remembered.table now asked.force) built l.shown job i cut) acts e)
+        (copied_as Planned P (λ job i cut. is_copy rules l.sets l.of_looks l.looks now asked.mailer (decision l.remembered.table now asked.force) built l.shown job i cut) acts e)
 
   worked_copied : (own : List Fault) (ts : List Entry) → Worked state rules.sets now asked own ts → EmptiesCopied P ts
   worked_copied own ts w = same_empties P (((w.looked.reads ++ w.looked.looks) ++ w.acted.entries.entries.front) ++ w.acted.entries.entries.back) ts (in_parts state rules.sets now asked own ts w)

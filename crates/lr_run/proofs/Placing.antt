@@ -82,7 +82,7 @@ dirs_of_logs groups sets dirs h a = λ dir i. let p = in_unmap parent_of dir (al
 -- ---- the writing fits
 
 none_reserved : AllAreFree
-none_reserved = λ reserved rules sets faults ts decide shown. targets_free rules sets faults ts decide shown
+none_reserved = λ reserved rules sets faults ts now decide shown. targets_free rules sets faults ts now decide shown
 
 state_fits : (state : Path) (rules : Rules) (looks : Looks) (remembered : Remembered) (now : Moment) (asked : Asked) (ready : Ready) (x y : Progress) (text : List ℕ) (a b : List Fault) {middle told : Option Journal} (later : Option Journal)
     → AreBuiltRules rules.sets → ReadyFor state now remembered looks.kept (PlanFor rules looks remembered now asked) ready x y → KnownBefore state remembered middle → Left (LooksAtAll (reserved_by state) rules.sets looks a b) middle told
@@ -91,9 +91,9 @@ state_fits state rules looks remembered now asked ready x y text a b later built
 state_fits state rules looks remembered now asked ready x y text a b {middle = middle} {told = told} later built r known (is_told {es = es} m h) l =
     subst (λ (w : writing.Target). CanMake later (state_steps w.state w.stale w.dirs text)) (sym r.is.writes.2)
     (writing_fits state remembered.stale r.is.writes.0 text later
-    (state_placed none_reserved state 65_536 remembered rules looks.sets asked.mailer (decision remembered.table now asked.force) l.0 l.1 r.is.writes.0 known.before middle told later built
-    (dirs_of_logs (groups_of (decision remembered.table now asked.force) rules.sets looks.sets) (PlanFor rules looks remembered now asked).sets r.is.writes.0
-    (plans_have_logs rules.sets looks.sets h.own (reverse es) asked.mailer (decision remembered.table now asked.force) built h.shown) r.is.writes.1)
+    (state_placed none_reserved state 65_536 remembered rules looks.sets now asked.mailer (decision remembered.table now asked.force) l.0 l.1 r.is.writes.0 known.before middle told later built
+    (dirs_of_logs (groups_of now (decision remembered.table now asked.force) rules.sets looks.sets) (PlanFor rules looks remembered now asked).sets r.is.writes.0
+    (plans_have_logs rules.sets looks.sets h.own (reverse es) now asked.mailer (decision remembered.table now asked.force) built h.shown) r.is.writes.1)
     known.disk known.there known.read (is_told m (h.own, h.shown)) (subst (λ (ss : List SetSteps). Left (SetsDone ss l.0 l.1) told later) r.is.steps l.2)))
 
 pub fits_behind_acts : (state : Path) (rules : Rules) (looks : Looks) (remembered : Remembered) (now : Moment) (asked : Asked) (ready : Ready) (x y : Progress) (text : List ℕ) (told later : Option Journal)

@@ -176,16 +176,16 @@ module _ (state : Path) (rules : Rules) (now : Moment) (asked : Asked) (built : 
     decide = decision l.remembered.table now asked.force
 
     abbrev targets : List Target
-    targets = all_targets decide rules.sets l.sets
+    targets = all_targets now decide rules.sets l.sets
 
-    logs : HaveLogs (groups_of decide rules.sets l.sets) (plan_in state rules.sets ts l now asked).sets
-    logs = plans_have_logs rules.sets l.sets l.of_looks l.looks asked.mailer decide built l.shown
+    logs : HaveLogs (groups_of now decide rules.sets l.sets) (plan_in state rules.sets ts l now asked).sets
+    logs = plans_have_logs rules.sets l.sets l.of_looks l.looks now asked.mailer decide built l.shown
 
     planned : ArePlanned targets (map steps_of_set (plan_in state rules.sets ts l now asked).sets)
-    planned = ready_planned (groups_of decide rules.sets l.sets) (plan_in state rules.sets ts l now asked).sets logs (targets_apart rules.sets l.sets l.of_looks l.looks decide l.shown)
+    planned = ready_planned (groups_of now decide rules.sets l.sets) (plan_in state rules.sets ts l now asked).sets logs (targets_apart rules.sets l.sets l.of_looks l.looks now decide l.shown)
 
     have_names : HaveNames targets
-    have_names = targets_have_names rules l.sets l.of_looks l.looks decide built l.shown
+    have_names = targets_have_names rules l.sets l.of_looks l.looks now decide built l.shown
 
     abbrev seen : List Entry
     seen = l.reads ++ l.looks
@@ -193,11 +193,11 @@ module _ (state : Path) (rules : Rules) (now : Moment) (asked : Asked) (built : 
     -- whose changes are of the logs
     behind_aside : (acts : List Entry) → Each IsTools acts → Each (IsOfSome targets) (filter is_change acts) → Each (IsAsideOf state) (seen ++ acts)
     behind_aside acts tools of_logs = each_append (IsAsideOf state) seen acts (calm_aside state seen (seen_quiet state rules.sets ts l))
-        (of_changes (IsAsideOf state) acts (λ e i h. none_aside state e (none_changed e i h)) tools (each_as (IsOfSome targets) (IsAsideOf state) (filter is_change acts) (λ e i. some_aside state targets e have_names (targets_free rules.sets l.sets l.of_looks l.looks decide l.shown) i) of_logs))
+        (of_changes (IsAsideOf state) acts (λ e i h. none_aside state e (none_changed e i h)) tools (each_as (IsOfSome targets) (IsAsideOf state) (filter is_change acts) (λ e i. some_aside state targets e have_names (targets_free rules.sets l.sets l.of_looks l.looks now decide l.shown) i) of_logs))
 
     behind_within : (dirs : List Path) → AreDirectoriesOf (changed_in (plan_in state rules.sets ts l now asked)) dirs → (acts : List Entry) → Each IsTools acts → Each (IsOfSome targets) (filter is_change acts) → Each (IsWithin (part_of state) dirs) (seen ++ acts)
     behind_within dirs dirs_are acts tools of_logs = each_append (IsWithin (part_of state) dirs) seen acts (calm_within (part_of state) dirs seen (seen_quiet state rules.sets ts l))
-        (of_changes (IsWithin (part_of state) dirs) acts (λ e i h. none_within (part_of state) dirs e (none_changed e i h)) tools (each_as (IsOfSome targets) (IsWithin (part_of state) dirs) (filter is_change acts) (λ e i. groups_within (part_of state) dirs (groups_of decide rules.sets l.sets) (plan_in state rules.sets ts l now asked).sets e dirs_are logs have_names i) of_logs))
+        (of_changes (IsWithin (part_of state) dirs) acts (λ e i h. none_within (part_of state) dirs e (none_changed e i h)) tools (each_as (IsOfSome targets) (IsWithin (part_of state) dirs) (filter is_change acts) (λ e i. groups_within (part_of state) dirs (groups_of now decide rules.sets l.sets) (plan_in state rules.sets ts l now asked).sets e dirs_are logs have_names i) of_logs))
 
   -- a first part of the acts
   broke_aside : (ts : List Entry) → Each IsTools ts → BrokeOff state rules.sets now asked ts → Each (IsAsideOf state) ts

@@ -78,12 +78,12 @@ free_one reserved t (x ∷ xs) f (inr i) = free_one reserved t xs f.1 i
 
 -- the rotations of a run whose acts met no fault
 abbrev worked_whole : (state : Path) (rules : Rules) (now : Moment) (asked : Asked) (own : List Fault) (ts : List Entry) → AreBuiltRules rules.sets → (w : Worked state rules.sets now asked own ts) → w.acted.entries.of_plan ≡ []
-    → AllTurned state rules ((w.looked.reads ++ w.looked.looks) ++ w.acted.entries.entries.front)
+    → AllTurned state now rules ((w.looked.reads ++ w.looked.looks) ++ w.acted.entries.entries.front)
 worked_whole state rules now asked own ts built w none =
-    done_turned state rules (w.looked.reads ++ w.looked.looks) (rotated_in state rules.sets ts w.looked now asked) _ w.acted.marks w.acted.entries.entries.front
-    (seen_quiet state rules.sets ts w.looked) (seen_later rules w.looked.reads w.looked.looks (rotated_in state rules.sets ts w.looked now asked) (targets_seen rules w.looked.sets w.looked.of_looks w.looked.looks (decision w.looked.remembered.table now asked.force) built w.looked.shown))
-    (ready_planned (groups_of (decision w.looked.remembered.table now asked.force) rules.sets w.looked.sets) _ (plans_have_logs rules.sets w.looked.sets w.looked.of_looks w.looked.looks asked.mailer (decision w.looked.remembered.table now asked.force) built w.looked.shown)
-    (targets_apart rules.sets w.looked.sets w.looked.of_looks w.looked.looks (decision w.looked.remembered.table now asked.force) w.looked.shown))
+    done_turned state now rules (w.looked.reads ++ w.looked.looks) (rotated_in state rules.sets ts w.looked now asked) _ w.acted.marks w.acted.entries.entries.front
+    (seen_quiet state rules.sets ts w.looked) (seen_later rules now w.looked.reads w.looked.looks (rotated_in state rules.sets ts w.looked now asked) (targets_seen rules w.looked.sets w.looked.of_looks w.looked.looks now (decision w.looked.remembered.table now asked.force) built w.looked.shown))
+    (ready_planned (groups_of now (decision w.looked.remembered.table now asked.force) rules.sets w.looked.sets) _ (plans_have_logs rules.sets w.looked.sets w.looked.of_looks w.looked.looks now asked.mailer (decision w.looked.remembered.table now asked.force) built w.looked.shown)
+    (targets_apart rules.sets w.looked.sets w.looked.of_looks w.looked.looks now (decision w.looked.remembered.table now asked.force) w.looked.shown))
     (subst (λ (fs : List Fault). PlanDone (plan_in state rules.sets ts w.looked now asked) w.acted.marks fs w.acted.entries.entries.front) none w.acted.entries.entries.first)
 
 module _ (state : Path) (asked : Asked) (now : Moment) (rules : Rules) (own : List Fault) (p q : Past) (es reads acts : List Entry) (built : AreBuiltRules rules.sets) (made : Made p es q) (journal : IsJournal p) (joined : reverse es ≡ reads ++ acts) (quiet : AreQuiet reads)
@@ -101,13 +101,13 @@ module _ (state : Path) (asked : Asked) (now : Moment) (rules : Rules) (own : Li
   targets = rotated_in state rules.sets i.between i.within.looked now asked
 
   named : HaveNames targets
-  named = targets_have_names rules l.sets l.of_looks l.looks decide built l.shown
+  named = targets_have_names rules l.sets l.of_looks l.looks now decide built l.shown
 
   pub has : HasNames t
   has = names_one t targets named one
 
   free : IsFreeOf (reserved_by state) t
-  free = free_one (reserved_by state) t targets (targets_free rules.sets l.sets l.of_looks l.looks decide l.shown) one
+  free = free_one (reserved_by state) t targets (targets_free rules.sets l.sets l.of_looks l.looks now decide l.shown) one
 
   pub met_none : w.acted.entries.of_plan ≡ []
   met_none = worked_met_none state rules.sets now asked own i.between w no_call no_end no_copy
@@ -116,9 +116,9 @@ module _ (state : Path) (asked : Asked) (now : Moment) (rules : Rules) (own : Li
   abbrev pub work : List Entry
   work = ((i.within.looked.reads ++ i.within.looked.looks) ++ i.within.acted.entries.entries.front) ++ i.within.acted.entries.entries.back
 
-  abbrev pub turned : AllTurned state rules ((((i.within.looked.reads ++ i.within.looked.looks) ++ i.within.acted.entries.entries.front) ++ i.within.acted.entries.entries.back) ++ entry.Ends ∷ [])
-  turned = ended_whole state rules (((i.within.looked.reads ++ i.within.looked.looks) ++ i.within.acted.entries.entries.front) ++ i.within.acted.entries.entries.back)
-      (written_whole state rules ((i.within.looked.reads ++ i.within.looked.looks) ++ i.within.acted.entries.entries.front) i.within.acted.entries.entries.back (worked_whole state rules now asked own i.between built i.within met_none) (all_of_state state rules.sets now asked own i.between i.within))
+  abbrev pub turned : AllTurned state now rules ((((i.within.looked.reads ++ i.within.looked.looks) ++ i.within.acted.entries.entries.front) ++ i.within.acted.entries.entries.back) ++ entry.Ends ∷ [])
+  turned = ended_whole state now rules (((i.within.looked.reads ++ i.within.looked.looks) ++ i.within.acted.entries.entries.front) ++ i.within.acted.entries.entries.back)
+      (written_whole state now rules ((i.within.looked.reads ++ i.within.looked.looks) ++ i.within.acted.entries.entries.front) i.within.acted.entries.entries.back (worked_whole state rules now asked own i.between built i.within met_none) (all_of_state state rules.sets now asked own i.between i.within))
 
   pub whole_run : reverse es ≡ (reads ++ i.before) ++ (entry.Starts state now rules ∷ (work ++ entry.Ends ∷ []))
   whole_run = joined ∙ (ap (λ xs. reads ++ xs) (i.entries ∙ ap (λ xs. i.before ++ (entry.Starts state now rules ∷ (xs ++ entry.Ends ∷ []))) (in_parts state rules.sets now asked own i.between w)) ∙ sym (append_assoc reads i.before _))
@@ -127,15 +127,15 @@ module _ (state : Path) (asked : Asked) (now : Moment) (rules : Rules) (own : Li
   quiet_first = quiet_both reads i.before quiet (sees_quiet (parent_of state) IsDir i.before i.directory)
 
   pub aside_paths : AreOutside (other_paths state t.log targets) t.log t.naming
-  aside_paths = outside state t has.family targets named (λ x j. apart_of t x targets named (targets_dont_meet rules.sets l.sets l.of_looks l.looks decide l.shown) j one)
+  aside_paths = outside state t has.family targets named (λ x j. apart_of t x targets named (targets_dont_meet rules.sets l.sets l.of_looks l.looks now decide l.shown) j one)
       (free state (inl refl)) (free (state ++ codes ".tmp") (inr (inl refl)))
 
   pub run_rotated : t.job ≡ None → IsRotatedAmong state targets p q t
   run_rotated by_rename = λ unattached. (
-    seen_members (other_paths state t.log targets) t.log t.naming t.count t.stand p q es made journal has.family has.next unattached aside_paths among,
-    rotated_whole (other_paths state t.log targets) t.log t.naming t.count t.stand p q es made journal has.family has.next unattached aside_paths among,
+    seen_members (other_paths state t.log targets) t.log t.naming t.count t.from t.stand p q es made journal has.family has.next unattached aside_paths among,
+    rotated_whole (other_paths state t.log targets) t.log t.naming t.count t.from t.stand p q es made journal has.family has.next unattached aside_paths among,
   )
     where
-      among : RotatesAmong (other_paths state t.log targets) t.log t.naming t.count t.stand (reverse es)
-      among = subst (RotatesAmong (other_paths state t.log targets) t.log t.naming t.count t.stand) (sym whole_run)
+      among : RotatesAmong (other_paths state t.log targets) t.log t.naming t.count t.from t.stand (reverse es)
+      among = subst (RotatesAmong (other_paths state t.log targets) t.log t.naming t.count t.from t.stand) (sym whole_run)
           (run_rotates state now rules (reads ++ i.before) (work ++ entry.Ends ∷ []) turned t quiet_first one by_rename)

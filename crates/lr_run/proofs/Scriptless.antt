@@ -54,4 +54,4 @@ none_scripts (rule ∷ rules) h = (record { first = h.0.first; pre = h.0.pre; po
 
 -- so a run over rules that run no program doesn't break off amid its acts
 pub never_broke_off : (state : Path) (rules : List Rule) (now : Moment) (asked : Asked) (ts : List Entry) → RunNothing rules → BrokeOff state rules now asked ts → ⊥
-never_broke_off state rules now asked ts none b = no_program _ (plan_so IsNoProgram IsNone no_steps asked.mailer (decision b.looked.remembered.table now asked.force) rules b.looked.sets (none_scripts rules none)) b.program
+never_broke_off state rules now asked ts none b = no_program _ (plan_so IsNoProgram IsNone no_steps now asked.mailer (decision b.looked.remembered.table now asked.force) rules b.looked.sets (none_scripts rules none)) b.program

@@ -1,5 +1,5 @@
 -- The entries of a run are those of one that looks first, and rotates then.
-use Rattle.std.proofs.Common.{◌≡◌, ◌⊎◌, inl, inr, Option, false, List, [], ◌∷◌, ◌++◌, Result, Ok, Err, refl, sym, ap, ◌∙◌, subst, append_assoc}
+use Rattle.std.proofs.Common.{◌≡◌, ◌⊎◌, inl, inr, Option, Some, false, List, [], ◌∷◌, ◌++◌, Result, Ok, Err, refl, sym, ap, ◌∙◌, subst, append_assoc}
 use Rattle.std.specs.Prelude.{filter}
 use Rattle.std.proofs.lemmas.List.{append-nil}
 use Rattle.std.proofs.lemmas.List.Elements.{filter-append}
@@ -21,6 +21,8 @@ use Rattle.lr_host.specs.Steps.{is_change}
 use Rattle.lr_host.specs.Told.{Each}
 use Rattle.lr_host.proofs.Each.{each_append, each_as}
 use Rattle.lr_host.proofs.Quiet.{quiet_both}
+use Rattle.lr_family.specs.Spots.{path_at}
+use Rattle.lr_family.specs.Stands.{number_in}
 use Rattle.lr_copy.specs.declared.job.Job.{Job}
 use Rattle.lr_chain.specs.Rotation.{places_of}
 use Rattle.lr_due.specs.declared.answer.Due.{Due}
@@ -55,8 +57,8 @@ use Rattle.lr_seen.proofs.Seen.{targets_seen}
 pub sees_quiet : (x : Path) (P : Option Seen → Type 0) (ts : List Entry) → Sees x P ts → AreQuiet ts
 sees_quiet x P ts s = subst AreQuiet (sym s.look) ((tt, refl), tt)
 
-no_turns : (state : Path) (rules : Rules) (looks : List Entry) → AreQuiet looks → AllTurns state rules (looks ++ [])
-no_turns state rules looks q = record { looks = looks; acts = []; joined = refl; quiet = q; targets = []; seen = tt; all = tt; each = λ t h. absurd h }
+no_turns : (state : Path) (now : Moment) (rules : Rules) (looks : List Entry) → AreQuiet looks → AllTurns state now rules (looks ++ [])
+no_turns state now rules looks q = record { looks = looks; acts = []; joined = refl; quiet = q; targets = []; seen = tt; all = tt; each = λ t h. absurd h }
 
 pub quiet_run : (ts : List Entry) → AreQuiet ts → IsWholeRun ts
 quiet_run ts q = record { front = ts; rest = []; joined = sym (append-nil ts); quiet = q; goes_on = not_yet refl }
@@ -64,7 +66,7 @@ quiet_run ts q = record { front = ts; rest = []; joined = sym (append-nil ts); q
 pub none_run : (ts : List Entry) → ts ≡ [] → IsWholeRun ts
 none_run ts e = quiet_run ts (subst AreQuiet (sym e) tt)
 
-begun_run : (state : Path) (now : Moment) (rules : Rules) (before tail ts : List Entry) → Sees (parent_of state) IsDir before → ts ≡ before ++ entry.Starts state now rules ∷ tail → AllTurns state rules tail → IsWholeRun ts
+begun_run : (state : Path) (now : Moment) (rules : Rules) (before tail ts : List Entry) → Sees (parent_of state) IsDir before → ts ≡ before ++ entry.Starts state now rules ∷ tail → AllTurns state now rules tail → IsWholeRun ts
 begun_run state now rules before tail ts s e t = record { front = before; rest = entry.Starts state now rules ∷ tail; joined = e; quiet = sees_quiet (parent_of state) IsDir before s; goes_on = started state now rules tail refl t }
 
 -- ---- the end of a run behind it
@@ -72,8 +74,8 @@ begun_run state now rules before tail ts s e t = record { front = before; rest =
 pub ended_changes : (acts : List Entry) → filter is_change (acts ++ entry.Ends ∷ []) ≡ filter is_change acts
 ended_changes acts = filter-append is_change acts (entry.Ends ∷ []) ∙ append-nil (filter is_change acts)
 
-abbrev pub ended : (state : Path) (rules : Rules) (ts : List Entry) → AllTurns state rules ts → AllTurns state rules (ts ++ entry.Ends ∷ [])
-ended state rules ts t = record {
+abbrev pub ended : (state : Path) (now : Moment) (rules : Rules) (ts : List Entry) → AllTurns state now rules ts → AllTurns state now rules (ts ++ entry.Ends ∷ [])
+ended state now rules ts t = record {
   looks = t.looks;
   acts = t.acts ++ entry.Ends ∷ [];
   joined = ap (λ es. es ++ entry.Ends ∷ []) t.joined ∙ append_assoc t.looks t.acts (entry.Ends ∷ []);
@@ -84,9 +86,9 @@ ended state rules ts t = record {
   each = λ x h. subst (FirstWoven (StandsBetween state x t.targets) (rotation_of x)) (sym (ended_changes t.acts)) (t.each x h);
 }
 
-abbrev pub ended_whole : (state : Path) (rules : Rules) (ts : List Entry) → AllTurned state rules ts → AllTurned state rules (ts ++ entry.Ends ∷ [])
-ended_whole state rules ts t = record {
-  turns = ended state rules ts t.turns;
+abbrev pub ended_whole : (state : Path) (now : Moment) (rules : Rules) (ts : List Entry) → AllTurned state now rules ts → AllTurned state now rules (ts ++ entry.Ends ∷ [])
+ended_whole state now rules ts t = record {
+  turns = ended state now rules ts t.turns;
   whole = λ x h. subst (Weave (StandsBetween state x t.turns.targets) (rotation_of x)) (sym (ended_changes t.turns.acts)) (t.whole x h);
 }
 
@@ -98,8 +100,8 @@ woven_behind P steps xs ys w a = subst (λ (zs : List Entry). Weave P zs (xs ++ 
 pub first_behind : (P : Entry → Type 0) (steps xs ys : List Entry) → FirstWoven P steps xs → Each P ys → FirstWoven P steps (xs ++ ys)
 first_behind P steps xs ys f a = record { made = f.made; first = f.first; woven = woven_behind P f.made xs ys f.woven a }
 
-abbrev pub written : (state : Path) (rules : Rules) (ts us : List Entry) → AllTurns state rules ts → Each (IsOfState state) (filter is_change us) → AllTurns state rules (ts ++ us)
-written state rules ts us t a = record {
+abbrev pub written : (state : Path) (now : Moment) (rules : Rules) (ts us : List Entry) → AllTurns state now rules ts → Each (IsOfState state) (filter is_change us) → AllTurns state now rules (ts ++ us)
+written state now rules ts us t a = record {
   looks = t.looks;
   acts = t.acts ++ us;
   joined = ap (λ es. es ++ us) t.joined ∙ append_assoc t.looks t.acts us;
@@ -112,9 +114,9 @@ written state rules ts us t a = record {
       (first_behind (StandsBetween state x t.targets) (rotation_of x) (filter is_change t.acts) (filter is_change us) (t.each x h) (each_as (IsOfState state) (StandsBetween state x t.targets) (filter is_change us) (λ e h. inr (inl h)) a));
 }
 
-abbrev pub written_whole : (state : Path) (rules : Rules) (ts us : List Entry) → AllTurned state rules ts → Each (IsOfState state) (filter is_change us) → AllTurned state rules (ts ++ us)
-written_whole state rules ts us t a = record {
-  turns = written state rules ts us t.turns a;
+abbrev pub written_whole : (state : Path) (now : Moment) (rules : Rules) (ts us : List Entry) → AllTurned state now rules ts → Each (IsOfState state) (filter is_change us) → AllTurned state now rules (ts ++ us)
+written_whole state now rules ts us t a = record {
+  turns = written state now rules ts us t.turns a;
   whole = λ x h. subst (Weave (StandsBetween state x t.turns.targets) (rotation_of x)) (sym (filter-append is_change t.turns.acts us))
       (woven_behind (StandsBetween state x t.turns.targets) (rotation_of x) (filter is_change t.turns.acts) (filter is_change us) (t.whole x h) (each_as (IsOfState state) (StandsBetween state x t.turns.targets) (filter is_change us) (λ e h. inr (inl h)) a));
 }
@@ -140,19 +142,22 @@ given_later xs looks g = record {
   way_is = g.way_is;
 }
 
-pub seen_later : (rules : Rules) (xs looks : List Entry) (ts : List Target) → AreSeen rules looks ts → AreSeen rules (xs ++ looks) ts
-seen_later rules xs looks [] s = tt
-seen_later rules xs looks (t ∷ ts) s = (
+pub seen_later : (rules : Rules) (now : Moment) (xs looks : List Entry) (ts : List Target) → AreSeen rules now.seconds looks ts → AreSeen rules now.seconds (xs ++ looks) ts
+unfolding given_later
+seen_later rules now xs looks [] s = tt
+seen_later rules now xs looks (t ∷ ts) s = (
   record {
     given = given_later xs looks s.0.given;
     family = s.0.family;
     log_seen = among_later (Sees t.log IsFile) xs looks s.0.log_seen;
     seen = shown_in t.naming (places_of t.stand.members) looks (xs ++ looks) (λ e i. in_behind e xs looks i) s.0.seen;
+    sights = λ m i. in_behind (entry.Look (path_at t.naming (number_in m.place)) (Some m.seen)) xs looks (s.0.sights m i);
+    from_is = s.0.from_is;
     low = s.0.low;
     ready = s.0.ready;
     job = job_later s.0.job;
   },
-  seen_later rules xs looks ts s.1,
+  seen_later rules now xs looks ts s.1,
 )
   where
     job_later : IsJobOf t looks → IsJobOf t (xs ++ looks)
@@ -178,12 +183,12 @@ in_parts state rules now asked own ts w =
 pub all_of_state : (state : Path) (rules : List Rule) (now : Moment) (asked : Asked) (own : List Fault) (ts : List Entry) → (w : Worked state rules now asked own ts) → Each (IsOfState state) (filter is_change w.acted.entries.entries.back)
 all_of_state state rules now asked own ts w = changes_of_state state w.acted.entries.entries.back (state_writing state w.looked.remembered.stale w.acted.dirs _ w.acted.entries.of_state w.acted.entries.entries.back w.acted.entries.entries.second)
 
-worked_turn : (state : Path) (rules : Rules) (now : Moment) (asked : Asked) (own : List Fault) (ts : List Entry) → AreBuiltRules rules.sets → Worked state rules.sets now asked own ts → AllTurns state rules ts
-worked_turn state rules now asked own ts built w = subst (AllTurns state rules) (sym (in_parts state rules.sets now asked own ts w))
-    (written state rules ((l.reads ++ l.looks) ++ w.acted.entries.entries.front) w.acted.entries.entries.back
-    (done_turns state rules (l.reads ++ l.looks) (all_targets decide rules.sets l.sets) _ w.acted.marks w.acted.entries.of_plan w.acted.entries.entries.front
-    (seen_quiet state rules.sets ts l) (seen_later rules l.reads l.looks (all_targets decide rules.sets l.sets) (targets_seen rules l.sets l.of_looks l.looks decide built l.shown))
-    (ready_planned (groups_of decide rules.sets l.sets) _ (plans_have_logs rules.sets l.sets l.of_looks l.looks asked.mailer decide built l.shown) (targets_apart rules.sets l.sets l.of_looks l.looks decide l.shown))
+worked_turn : (state : Path) (rules : Rules) (now : Moment) (asked : Asked) (own : List Fault) (ts : List Entry) → AreBuiltRules rules.sets → Worked state rules.sets now asked own ts → AllTurns state now rules ts
+worked_turn state rules now asked own ts built w = subst (AllTurns state now rules) (sym (in_parts state rules.sets now asked own ts w))
+    (written state now rules ((l.reads ++ l.looks) ++ w.acted.entries.entries.front) w.acted.entries.entries.back
+    (done_turns state now rules (l.reads ++ l.looks) (all_targets now decide rules.sets l.sets) _ w.acted.marks w.acted.entries.of_plan w.acted.entries.entries.front
+    (seen_quiet state rules.sets ts l) (seen_later rules now l.reads l.looks (all_targets now decide rules.sets l.sets) (targets_seen rules l.sets l.of_looks l.looks now decide built l.shown))
+    (ready_planned (groups_of now decide rules.sets l.sets) _ (plans_have_logs rules.sets l.sets l.of_looks l.looks now asked.mailer decide built l.shown) (targets_apart rules.sets l.sets l.of_looks l.looks now decide l.shown))
     w.acted.entries.entries.first)
     (all_of_state state rules.sets now asked own ts w))
   where
@@ -193,12 +198,12 @@ worked_turn state rules now asked own ts built w = subst (AllTurns state rules) 
     decide : Rule → LogLook → Due
     decide = decision l.remembered.table now asked.force
 
-quiet_turns : (state : Path) (rules : Rules) (ts : List Entry) → AreQuiet ts → AllTurns state rules ts
-quiet_turns state rules ts q = subst (AllTurns state rules) (append-nil ts) (no_turns state rules ts q)
+quiet_turns : (state : Path) (now : Moment) (rules : Rules) (ts : List Entry) → AreQuiet ts → AllTurns state now rules ts
+quiet_turns state now rules ts q = subst (AllTurns state now rules) (append-nil ts) (no_turns state now rules ts q)
 
-works_turn : (state : Path) (rules : Rules) (now : Moment) (asked : Asked) (plan : Option Plan) (own : List Fault) (ts : List Entry) → AreBuiltRules rules.sets → Works state rules.sets now asked plan own ts → AllTurns state rules ts
-works_turn state rules now asked plan own ts built (not_known sights f known lost is shown) = quiet_turns state rules ts (state_quiet state 65_536 sights ts shown)
-works_turn state rules now asked plan own ts built (too_big l big lost is none) = quiet_turns state rules ts (subst AreQuiet (sym (l.joined ∙ (ap (λ xs. l.reads ++ (l.looks ++ xs)) none ∙ ap (λ xs. l.reads ++ xs) (append-nil l.looks)))) (seen_quiet state rules.sets ts l))
+works_turn : (state : Path) (rules : Rules) (now : Moment) (asked : Asked) (plan : Option Plan) (own : List Fault) (ts : List Entry) → AreBuiltRules rules.sets → Works state rules.sets now asked plan own ts → AllTurns state now rules ts
+works_turn state rules now asked plan own ts built (not_known sights f known lost is shown) = quiet_turns state now rules ts (state_quiet state 65_536 sights ts shown)
+works_turn state rules now asked plan own ts built (too_big l big lost is none) = quiet_turns state now rules ts (subst AreQuiet (sym (l.joined ∙ (ap (λ xs. l.reads ++ (l.looks ++ xs)) none ∙ ap (λ xs. l.reads ++ xs) (append-nil l.looks)))) (seen_quiet state rules.sets ts l))
 works_turn state rules now asked plan own ts built (worked w is) = worked_turn state rules now asked own ts built w
 
 pub some_quiet : (state : Path) (rules : List Rule) (ts : List Entry) → SomeSeen state rules ts → AreQuiet ts
@@ -214,15 +219,15 @@ runs_shape state asked now rules plan own ts built (not_begun lost e t) = go t.s
   where
     go : (t.back ≡ []) ⊎ (t.back ≡ entry.Starts state now rules ∷ []) → IsWholeRun ts
     go (inl none) = quiet_run ts (subst AreQuiet (sym (t.joined ∙ (ap (λ es. t.front ++ es) none ∙ append-nil t.front))) (sees_quiet (parent_of state) IsDir t.front t.first))
-    go (inr one) = begun_run state now rules t.front [] ts t.first (t.joined ∙ ap (λ es. t.front ++ es) one) (no_turns state rules [] tt)
-runs_shape state asked now rules plan own ts built (runs.began i) = begun_run state now rules i.before (i.between ++ entry.Ends ∷ []) ts i.directory i.entries (ended state rules i.between (works_turn state rules now asked plan own i.between built i.within))
+    go (inr one) = begun_run state now rules t.front [] ts t.first (t.joined ∙ ap (λ es. t.front ++ es) one) (no_turns state now rules [] tt)
+runs_shape state asked now rules plan own ts built (runs.began i) = begun_run state now rules i.before (i.between ++ entry.Ends ∷ []) ts i.directory i.entries (ended state now rules i.between (works_turn state rules now asked plan own i.between built i.within))
 
 -- of acts that broke off
-broke_turn : (state : Path) (rules : Rules) (now : Moment) (asked : Asked) (ts : List Entry) → AreBuiltRules rules.sets → BrokeOff state rules.sets now asked ts → AllTurns state rules ts
-broke_turn state rules now asked ts built b = subst (AllTurns state rules) (sym (looked_parts state rules.sets ts l))
-    (cut_turns state rules (l.reads ++ l.looks) (all_targets decide rules.sets l.sets) _ b.marks b.of_acts l.acts
-    (seen_quiet state rules.sets ts l) (seen_later rules l.reads l.looks (all_targets decide rules.sets l.sets) (targets_seen rules l.sets l.of_looks l.looks decide built l.shown))
-    (ready_planned (groups_of decide rules.sets l.sets) _ (plans_have_logs rules.sets l.sets l.of_looks l.looks asked.mailer decide built l.shown) (targets_apart rules.sets l.sets l.of_looks l.looks decide l.shown))
+broke_turn : (state : Path) (rules : Rules) (now : Moment) (asked : Asked) (ts : List Entry) → AreBuiltRules rules.sets → BrokeOff state rules.sets now asked ts → AllTurns state now rules ts
+broke_turn state rules now asked ts built b = subst (AllTurns state now rules) (sym (looked_parts state rules.sets ts l))
+    (cut_turns state now rules (l.reads ++ l.looks) (all_targets now decide rules.sets l.sets) _ b.marks b.of_acts l.acts
+    (seen_quiet state rules.sets ts l) (seen_later rules now l.reads l.looks (all_targets now decide rules.sets l.sets) (targets_seen rules l.sets l.of_looks l.looks now decide built l.shown))
+    (ready_planned (groups_of now decide rules.sets l.sets) _ (plans_have_logs rules.sets l.sets l.of_looks l.looks now asked.mailer decide built l.shown) (targets_apart rules.sets l.sets l.of_looks l.looks now decide l.shown))
     b.part)
   where
     l : Looked state rules.sets ts
@@ -236,5 +241,5 @@ whole_run state asked now rules earlier (Ok ran) ts built h = runs_shape state a
 whole_run state asked now rules earlier (Err stop.Held) ts built h = quiet_run ts (sees_quiet (parent_of state) IsDir ts h)
 whole_run state asked now rules earlier (Err stop.Memory) ts built (at_first e) = none_run ts e
 whole_run state asked now rules earlier (Err stop.Memory) ts built (in_looks i) = begun_run state now rules i.before (i.between ++ entry.Ends ∷ []) ts i.directory i.entries
-    (ended state rules i.between (quiet_turns state rules i.between (some_quiet state rules.sets i.between i.within)))
-whole_run state asked now rules earlier (Err stop.Memory) ts built (in_acts i) = begun_run state now rules i.before (i.between ++ entry.Ends ∷ []) ts i.directory i.entries (ended state rules i.between (broke_turn state rules now asked i.between built i.within))
+    (ended state now rules i.between (quiet_turns state now rules i.between (some_quiet state rules.sets i.between i.within)))
+whole_run state asked now rules earlier (Err stop.Memory) ts built (in_acts i) = begun_run state now rules i.before (i.between ++ entry.Ends ∷ []) ts i.directory i.entries (ended state now rules i.between (broke_turn state rules now asked i.between built i.within))

@@ -1,6 +1,7 @@
 -- The steps of a plan: unlinks, renames, makings of logs, the steps of copies, programs and marks alone.
 use Rattle.std.proofs.Common.{ℕ, Bool, true, false, not, List, [], ◌∷◌, ◌++◌, map, Option, Some, None, refl}
 use Rattle.std.specs.List.{flat_map}
+use Rattle.lr_rules.specs.declared.civil.Moment.{Moment}
 use Rattle.lr_rules.specs.declared.fault.Fault.{Fault}
 use Rattle.lr_rules.specs.declared.fault.Phase.{Phase}
 use Rattle.lr_rules.specs.declared.fault.Phase.TheVariants as phase
@@ -18,7 +19,7 @@ use Rattle.lr_family.specs.Parts.{part_of}
 use Rattle.lr_family.specs.Spots.{path_at}
 use Rattle.lr_chain.specs.declared.ready.Move.{Move}
 use Rattle.lr_chain.specs.Ready.{removal_at}
-use Rattle.lr_chain.specs.Rotation.{places_of, leftovers, one_too_many}
+use Rattle.lr_chain.specs.Rotation.{places_of, leftovers, retired}
 use Rattle.lr_commands.specs.Commands.{script, where_so, mail, with_programs}
 use Rattle.lr_plan.specs.declared.looks.LogLook.{LogLook}
 use Rattle.lr_plan.specs.declared.looks.SetLooks.{SetLooks}
@@ -26,7 +27,7 @@ use Rattle.lr_plan.specs.declared.planned.LogPlan.{LogPlan}
 use Rattle.lr_plan.specs.declared.planned.SetPlan.{SetPlan}
 use Rattle.lr_plan.specs.declared.step.Step.{Step}
 use Rattle.lr_plan.specs.declared.step.Step.TheVariants.{Runs, Removes, Renames, Creates, Takes, Copies, SyncsFile, SyncsDir, Truncates, Rotated}
-use Rattle.lr_plan.specs.Planned.{copy_job, job_by, hindrances, ready_for, dressed, log_plan, none_hinders, plans_of, where_due, log_plans, set_plan, all_plans}
+use Rattle.lr_plan.specs.Planned.{copy_job, job_by, hindrances, going_from, ready_for, dressed, log_plan, none_hinders, plans_of, where_due, log_plans, set_plan, all_plans}
 use Rattle.lr_plan.specs.Steps.{program, removal, removals, move, step_if, copy, transfer, anew, made_anew, rotation_of, retirement_of, steps_of_log, shared_steps, by_logs, steps_of_set}
 use Rattle.lr_acts.specs.Making.{all_of_each, all_of_set, all_of_sets}
 
@@ -130,13 +131,15 @@ module _ (P : Step → Type 0) (Q : Option (List ℕ) → Type 0) (k : IsOfSteps
   AreLogsSo [] = Unit {0}
   AreLogsSo (log ∷ logs) = IsLogSo log × AreLogsSo logs
 
-  log_so : (mailer : Path) (rule : Rule) (look : LogLook) → IsOfScripts Q rule → IsLogSo (log_plan mailer rule look)
-  log_so mailer rule look h = record {
-    rotation = step_both P (removals (dressed rule mailer (ready_for rule look)).leftovers) _ (removals_so mailer rule look.path look.family.naming (leftovers rule.count (places_of look.stand.members)) h)
-        (step_both P (map move (ready_for rule look).moves) _ (moves_so (ready_for rule look).moves)
-        (step_both P (transfer look.path (ready_for rule look).target (job_by rule.way look)) _ (transfer_so rule.way look look.path (ready_for rule look).target)
-        (k.rotated _, made_so rule.way look (ready_for rule look).make look.path)));
-    retirement = removals_so mailer rule look.path look.family.naming (one_too_many rule.count (places_of look.stand.members)) h;
+  log_so : (now : Moment) (mailer : Path) (rule : Rule) (look : LogLook) → IsOfScripts Q rule → IsLogSo (log_plan now mailer rule look)
+  log_so now mailer rule look h = record {
+    rotation = step_both P (removals (dressed rule mailer (ready_for now rule look)).leftovers) _ (removals_so mailer rule look.path look.family.naming (leftovers rule.count (places_of look.stand.members)) h)
+        (step_both P (map move (ready_for now rule look).moves) _ (moves_so (ready_for now rule look).moves)
+        (step_both P (transfer look.path (ready_for now rule look).target (job_by rule.way look)) _ (transfer_so rule.way look look.path (ready_for now rule look).target)
+        (k.rotated _, made_so rule.way look (ready_for now rule look).make look.path)));
+    retirement = step_both P (program phase.Mail (where_so rule.mailfirst (mail mailer rule.mail look.path (path_at look.family.naming 0)))) _
+        (where_mails rule.mailfirst mailer rule.mail look.path (path_at look.family.naming 0) h.mail)
+        (removals_so mailer rule look.path look.family.naming (retired rule.count (going_from now rule look)) h);
     pre = where_runs (not rule.shared) phase.Pre rule.scripts.pre _ h.pre;
     post = where_runs (not rule.shared) phase.Post rule.scripts.post _ h.post;
   }
@@ -153,10 +156,10 @@ module _ (P : Step → Type 0) (Q : Option (List ℕ) → Type 0) (k : IsOfSteps
   due_so (due.Yes why) logs h = h
   due_so (due.No why) logs h = tt
 
-  logs_so : (mailer : Path) (rule : Rule) (decide : LogLook → Due) (looks : List LogLook) → IsOfScripts Q rule → AreLogsSo (log_plans mailer rule decide looks)
-  logs_so mailer rule decide [] h = tt
-  logs_so mailer rule decide (l ∷ ls) h =
-      logs_both (where_due (decide l) (plans_of mailer rule l)) (log_plans mailer rule decide ls) (due_so (decide l) (plans_of mailer rule l) (free_so (hindrances rule l) (log_plan mailer rule l) (log_so mailer rule l h))) (logs_so mailer rule decide ls h)
+  logs_so : (now : Moment) (mailer : Path) (rule : Rule) (decide : LogLook → Due) (looks : List LogLook) → IsOfScripts Q rule → AreLogsSo (log_plans now mailer rule decide looks)
+  logs_so now mailer rule decide [] h = tt
+  logs_so now mailer rule decide (l ∷ ls) h =
+      logs_both (where_due (decide l) (plans_of now mailer rule l)) (log_plans now mailer rule decide ls) (due_so (decide l) (plans_of now mailer rule l) (free_so (hindrances rule l) (log_plan now mailer rule l) (log_so now mailer rule l h))) (logs_so now mailer rule decide ls h)
 
   -- ---- one definition
 
@@ -205,12 +208,12 @@ module _ (P : Step → Type 0) (Q : Option (List ℕ) → Type 0) (k : IsOfSteps
 
   -- ---- all definitions
 
-  pub plan_so : (mailer : Path) (decide : Rule → LogLook → Due) (rules : List Rule) (sets : List SetLooks) → AreOfScripts Q rules → EachStep P (all_of_sets (map steps_of_set (all_plans mailer decide rules sets)))
-  plan_so mailer decide [] [] h = tt
-  plan_so mailer decide [] (s ∷ ss) h = tt
-  plan_so mailer decide (r ∷ rs) [] h = tt
-  plan_so mailer decide (r ∷ rs) (s ∷ ss) h = step_both P (all_of_set (steps_of_set (set_plan r (log_plans mailer r (decide r) s.logs)))) _
-      (set_so (set_plan r (log_plans mailer r (decide r) s.logs)) (own_so r (log_plans mailer r (decide r) s.logs) h.0) (logs_so mailer r (decide r) s.logs h.0)) (plan_so mailer decide rs ss h.1)
+  pub plan_so : (now : Moment) (mailer : Path) (decide : Rule → LogLook → Due) (rules : List Rule) (sets : List SetLooks) → AreOfScripts Q rules → EachStep P (all_of_sets (map steps_of_set (all_plans now mailer decide rules sets)))
+  plan_so now mailer decide [] [] h = tt
+  plan_so now mailer decide [] (s ∷ ss) h = tt
+  plan_so now mailer decide (r ∷ rs) [] h = tt
+  plan_so now mailer decide (r ∷ rs) (s ∷ ss) h = step_both P (all_of_set (steps_of_set (set_plan r (log_plans now mailer r (decide r) s.logs)))) _
+      (set_so (set_plan r (log_plans now mailer r (decide r) s.logs)) (own_so r (log_plans now mailer r (decide r) s.logs) h.0) (logs_so now mailer r (decide r) s.logs h.0)) (plan_so now mailer decide rs ss h.1)
 
 -- ---- simple steps
 
@@ -265,5 +268,5 @@ any_scripts : (rules : List Rule) → AreOfScripts Any rules
 any_scripts [] = tt
 any_scripts (rule ∷ rules) = (record { first = tt; pre = tt; post = tt; last = tt; preremove = tt; mail = tt }, any_scripts rules)
 
-pub plan_simple : (mailer : Path) (decide : Rule → LogLook → Due) (rules : List Rule) (sets : List SetLooks) → AreSimple (all_of_sets (map steps_of_set (all_plans mailer decide rules sets)))
-plan_simple mailer decide rules sets = plan_so IsSimple Any simple_steps mailer decide rules sets (any_scripts rules)
+pub plan_simple : (now : Moment) (mailer : Path) (decide : Rule → LogLook → Due) (rules : List Rule) (sets : List SetLooks) → AreSimple (all_of_sets (map steps_of_set (all_plans now mailer decide rules sets)))
+plan_simple now mailer decide rules sets = plan_so IsSimple Any simple_steps now mailer decide rules sets (any_scripts rules)

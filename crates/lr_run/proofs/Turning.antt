@@ -30,7 +30,8 @@ use Rattle.lr_rotations.proofs.SeenFits.{seen_paths}
 use Rattle.lr_chain.specs.Rotation.{places_of}
 use Rattle.lr_weave.specs.Planned.{HaveLogs, AreApart}
 use Rattle.lr_turned.specs.Turned.{CopiesAmong}
-use Rattle.lr_turned.proofs.Among.{CopyStands, IsSameFor, seen_one, copies_among}
+use Rattle.lr_rotations.proofs.Others.{seen_one}
+use Rattle.lr_turned.proofs.Among.{CopyStands, IsSameFor, copies_among}
 use Rattle.lr_turned.proofs.Stands.{stands_first, plan_stands, plan_empties}
 use Rattle.lr_turned.proofs.Turned.{seen_stood, turned_by_copy}
 use Rattle.lr_fields.specs.Built.{AreBuiltRules}
@@ -47,14 +48,14 @@ pub run_turned : (state : Path) (asked : Asked) (now : Moment) (rules : Rules) (
     → (i : Inside state now rules (Worked state rules.sets now asked own) acts) → calls_in own ≡ 0 → scripts_in own ≡ 0 → NoneOfCopy own → (t : Target) → IsOneOf t (rotated_in state rules.sets i.between i.within.looked now asked) → (job : Job) → t.job ≡ Some job
     → IsTurnedAmong state (rotated_in state rules.sets i.between i.within.looked now asked) p q t job
 run_turned state asked now rules own p q es reads acts built made journal joined quiet i no_call no_end no_copy t one job job_is = λ spared. (
-  seen_stood others job t.naming t.count t.stand p q es made journal family to_is paths names.next spared outside among,
-  turned_by_copy others job t.naming t.count t.stand p q es made journal family to_is paths names.next spared outside among,
+  seen_stood others job t.naming t.count t.from t.stand p q es made journal family to_is paths names.next spared outside among,
+  turned_by_copy others job t.naming t.count t.from t.stand p q es made journal family to_is paths names.next spared outside among,
 )
   where
     names : HasNames t
     names = has state asked now rules own p q es reads acts built made journal joined quiet i no_call no_end no_copy t one
 
-    all : AllTurned state rules ((((i.within.looked.reads ++ i.within.looked.looks) ++ i.within.acted.entries.entries.front) ++ i.within.acted.entries.entries.back) ++ entry.Ends ∷ [])
+    all : AllTurned state now rules ((((i.within.looked.reads ++ i.within.looked.looks) ++ i.within.acted.entries.entries.front) ++ i.within.acted.entries.entries.back) ++ entry.Ends ∷ [])
     all = turned state asked now rules own p q es reads acts built made journal joined quiet i no_call no_end no_copy t one
 
     w : Worked state rules.sets now asked own i.between
@@ -76,7 +77,7 @@ run_turned state asked now rules own p q es reads acts built made journal joined
     no_member = subst (IsNoMember t.naming) (sym (job_part t job names.ready is_job)) (part_no_member t.log t.naming names.family (first_named t.naming t.count (places_of t.stand.members) names.next))
 
     paths : ArePaths job
-    paths = seen_paths rules all.turns.looks t job (seen_one rules all.turns.looks all.turns.targets all.turns.seen t one) job_is
+    paths = seen_paths rules now.seconds all.turns.looks t job (seen_one rules now.seconds all.turns.looks all.turns.targets all.turns.seen t one) job_is
 
     outside : AreOutside (job.part ∷ others) job.from t.naming
     outside x (inl is) = (λ e. paths.part_apart (is ∙ e), subst (IsNoMember t.naming) is no_member)
@@ -85,11 +86,11 @@ run_turned state asked now rules own p q es reads acts built made journal joined
     done : PlanDone (plan_in state rules.sets i.between w.looked now asked) w.acted.marks [] w.acted.entries.entries.front
     done = subst (λ (fs : List Fault). PlanDone (plan_in state rules.sets i.between w.looked now asked) w.acted.marks fs w.acted.entries.entries.front) (met_none state asked now rules own p q es reads acts built made journal joined quiet i no_call no_end no_copy t one) w.acted.entries.entries.first
 
-    logs : HaveLogs (groups_of (decide state asked now rules own p q es reads acts built made journal joined quiet i no_call no_end no_copy t one) rules.sets w.looked.sets) (plan_in state rules.sets i.between w.looked now asked).sets
-    logs = plans_have_logs rules.sets w.looked.sets w.looked.of_looks w.looked.looks asked.mailer _ built w.looked.shown
+    logs : HaveLogs (groups_of now (decide state asked now rules own p q es reads acts built made journal joined quiet i no_call no_end no_copy t one) rules.sets w.looked.sets) (plan_in state rules.sets i.between w.looked now asked).sets
+    logs = plans_have_logs rules.sets w.looked.sets w.looked.of_looks w.looked.looks now asked.mailer _ built w.looked.shown
 
     apart : AreApart (rotated_in state rules.sets i.between i.within.looked now asked)
-    apart = targets_apart rules.sets w.looked.sets w.looked.of_looks w.looked.looks _ w.looked.shown
+    apart = targets_apart rules.sets w.looked.sets w.looked.of_looks w.looked.looks now _ w.looked.shown
 
     stands : CopyStands job all.turns.acts
     stands = stands_first job (w.acted.entries.entries.front ++ w.acted.entries.entries.back) (entry.Ends ∷ []) _ refl
@@ -102,6 +103,6 @@ run_turned state asked now rules own p q es reads acts built made journal joined
         (state_copying (IsSameFor job) state w.looked.remembered.stale _ _ [] w.acted.entries.of_state w.acted.entries.entries.back w.acted.entries.entries.second))
         (none_empties (IsSameFor job) (entry.Ends ∷ []) (tt, tt))
 
-    among : CopiesAmong others job t.naming t.count t.stand (reverse es)
-    among = subst (CopiesAmong others job t.naming t.count t.stand) (sym (whole_run state asked now rules own p q es reads acts built made journal joined quiet i no_call no_end no_copy t one))
+    among : CopiesAmong others job t.naming t.count t.from t.stand (reverse es)
+    among = subst (CopiesAmong others job t.naming t.count t.from t.stand) (sym (whole_run state asked now rules own p q es reads acts built made journal joined quiet i no_call no_end no_copy t one))
         (copies_among state now rules (reads ++ i.before) _ all t job (quiet_first state asked now rules own p q es reads acts built made journal joined quiet i no_call no_end no_copy t one) one job_is names outside stands copies)

@@ -69,7 +69,7 @@ use Rattle.lr_seen.specs.Targets.{groups_of, all_targets}
 use Rattle.lr_seen.proofs.Apart.{targets_dont_meet}
 use Rattle.lr_seen.proofs.Built.{can_plan_set}
 use Rattle.lr_seen.proofs.Quiet.{whole_quiet}
-use Rattle.lr_seen.proofs.Ready.{plans_have_logs, plans_read_removed}
+use Rattle.lr_seen.proofs.Ready.{plans_have_logs, plans_read_own}
 use Rattle.lr_seen.proofs.Seen.{targets_seen, targets_have_names, targets_have_paths}
 use Rattle.lr_run.specs.declared.ready.Ready.{Ready}
 use Rattle.lr_run.specs.Internal.{WritesTo, ReadyFor, MayBeReady, ActsAndWrites, SomeActs, CarriesOn, Carries, LookedDone, WorkDone, SomeWork, some_seen, some_done, EndsBehindLooks, EndsBehindState}
@@ -159,19 +159,19 @@ sets_none : (sets : List SetSteps) → CanSets None sets
 sets_none [] = tt
 sets_none (s ∷ ss) = (set_none s, λ now l. sets_at ss (sets_none ss) l.2)
 
-pub fits_behind : (reserved : List Path) (rules : Rules) (looks : Looks) (a b : List Fault) (mailer : Path) (decide : Rule → LogLook → Due) {o n : Option Journal} → AreBuiltRules rules.sets → WhereTold o IsJournal → Left (LooksAtAll reserved rules.sets looks a b) o n → CanSets n (map steps_of_set (all_plans mailer decide rules.sets looks.sets))
-fits_behind reserved rules looks a b mailer decide built disk not_told = sets_none (map steps_of_set (all_plans mailer decide rules.sets looks.sets))
-fits_behind reserved rules looks a b mailer decide built disk (is_told {j = j} {k = k} {es = es} m h) =
-    can_sets (Some k) (groups_of decide rules.sets looks.sets) (all_plans mailer decide rules.sets looks.sets) (plans_have_logs rules.sets looks.sets h.own (reverse es) mailer decide built h.shown) (plans_read_removed rules.sets looks.sets mailer decide built)
-    (seen_fit rules (all_targets decide rules.sets looks.sets) (Some j) (Some k) (targets_have_names rules looks.sets h.own (reverse es) decide built h.shown)
-    (targets_have_paths rules.sets looks.sets h.own (reverse es) decide h.shown) disk
-    (is_told m (whole_quiet rules.sets looks.sets h.own (reverse es) h.shown, targets_seen rules looks.sets h.own (reverse es) decide built h.shown)))
-    (targets_dont_meet rules.sets looks.sets h.own (reverse es) decide h.shown)
+pub fits_behind : (reserved : List Path) (rules : Rules) (looks : Looks) (a b : List Fault) (now : Moment) (mailer : Path) (decide : Rule → LogLook → Due) {o n : Option Journal} → AreBuiltRules rules.sets → WhereTold o IsJournal → Left (LooksAtAll reserved rules.sets looks a b) o n → CanSets n (map steps_of_set (all_plans now mailer decide rules.sets looks.sets))
+fits_behind reserved rules looks a b now mailer decide built disk not_told = sets_none (map steps_of_set (all_plans now mailer decide rules.sets looks.sets))
+fits_behind reserved rules looks a b now mailer decide built disk (is_told {j = j} {k = k} {es = es} m h) =
+    can_sets (Some k) (groups_of now decide rules.sets looks.sets) (all_plans now mailer decide rules.sets looks.sets) (plans_have_logs rules.sets looks.sets h.own (reverse es) now mailer decide built h.shown) (plans_read_own rules.sets looks.sets now mailer decide built)
+    (seen_fit rules now.seconds (all_targets now decide rules.sets looks.sets) (Some j) (Some k) (targets_have_names rules looks.sets h.own (reverse es) now decide built h.shown)
+    (targets_have_paths rules.sets looks.sets h.own (reverse es) now decide h.shown) disk
+    (is_told m (whole_quiet rules.sets looks.sets h.own (reverse es) h.shown, targets_seen rules looks.sets h.own (reverse es) now decide built h.shown)))
+    (targets_dont_meet rules.sets looks.sets h.own (reverse es) now decide h.shown)
 
 -- ---- what is ready can be done
 
 pub steps_simple : (rules : List Rule) (sets : List SetLooks) (table : List Row) (now : Moment) (asked : Asked) → AreSimple (all_of_sets (steps_of_plan (plan_of rules sets table now asked)))
-steps_simple rules sets table now asked = plan_simple asked.mailer (decision table now asked.force) rules sets
+steps_simple rules sets table now asked = plan_simple now asked.mailer (decision table now asked.force) rules sets
 
 -- the steps that are ready are those of the plan
 abbrev pub PlanFor : Rules → Looks → Remembered → Moment → Asked → Plan
@@ -179,7 +179,7 @@ PlanFor rules looks remembered now asked = plan_of rules.sets looks.sets remembe
 
 pub ready_fit : (reserved : List Path) (rules : Rules) (looks : Looks) (state : Path) (remembered : Remembered) (now : Moment) (asked : Asked) (ready : Ready) (x y : Progress) (a b : List Fault) {o n : Option Journal} → AreBuiltRules rules.sets → WhereTold o IsJournal
     → ReadyFor state now remembered looks.kept (PlanFor rules looks remembered now asked) ready x y → Left (LooksAtAll reserved rules.sets looks a b) o n → CanSets n ready.steps
-ready_fit reserved rules looks state remembered now asked ready x y a b {n = n} built disk r l = subst (CanSets n) (sym r.is.steps) (fits_behind reserved rules looks a b asked.mailer (decision remembered.table now asked.force) built disk l)
+ready_fit reserved rules looks state remembered now asked ready x y a b {n = n} built disk r l = subst (CanSets n) (sym r.is.steps) (fits_behind reserved rules looks a b now asked.mailer (decision remembered.table now asked.force) built disk l)
 
 -- the text was small enough, and all was taken
 pub ready_of : (state : Path) (now : Moment) (remembered : Remembered) (kept logs : List Path) (plan for : Plan) (o : Option Ready) (ready : Ready) (x y : Progress) → kept ≡ logs → plan ≡ for → o ≡ Some ready → MayBeReady state now remembered kept plan o x y

@@ -19,7 +19,7 @@ use Rattle.lr_run.specs.Runs.{Looked}
 
 -- those of the plan that follows from these looks and this table
 abbrev pub rotated_logs : List Rule → List Row → Moment → Asked → List SetLooks → List Target
-rotated_logs rules table now asked sets = all_targets (decision table now asked.force) rules sets
+rotated_logs rules table now asked sets = all_targets now (decision table now asked.force) rules sets
 
 -- those of a run
 abbrev pub rotated_in : (state : Path) (rules : List Rule) (ts : List Entry) → Looked state rules ts → Moment → Asked → List Target
@@ -28,4 +28,4 @@ rotated_in state rules ts l now asked = rotated_logs rules l.remembered.table no
 -- Between the two pasts the log was rotated whole: the members that were seen are those that stood, and each file is where the rotation takes it, by identity and with its bytes, while the tool's other changes were on the paths of the other logs and of the state. A writer attached no member.
 abbrev pub IsRotatedAmong : Path → List Target → Past → Past → Target → Type 0
 IsRotatedAmong state targets before after t =
-    NoMemberAttached t.naming before after → AreThere t.naming (names (world before)) (places_of t.stand.members) × IsRotatedWhole (other_paths state t.log targets) t.naming t.count t.log before after
+    NoMemberAttached t.naming before after → AreThere t.naming (names (world before)) (places_of t.stand.members) × IsRotatedWhole (other_paths state t.log targets) t.naming t.count t.from t.log before after

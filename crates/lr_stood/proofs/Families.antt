@@ -120,11 +120,11 @@ module _ (log : Path) (n : Naming) (stand : Stand) (p q : Past) (es : List Entry
       (s.others place i out))) (in_or_not (places_of stand.members) place)
     where
       s : Shown n (places_of stand.members) (reverse es)
-      s = shown.0 family.numbered there
+      s = (shown.0 family.numbered there).0
   member_stood place i file false there = absurd (no_directory (member_name n (n.start + place)) (name_part log n place family i) (sought.1 there).look file)
 
   member_came : (place : ℕ) → Contains (places_of stand.members) place → (b : Bool) → stand.there ≡ b → StoodOrCame (path_at n place) p q
-  member_came place c true there = let f = (shown.0 family.numbered there).files place c in came (path_at n place) f.0 f.1 f.2
+  member_came place c true there = let f = (shown.0 family.numbered there).0.files place c in came (path_at n place) f.0 f.1 f.2
   member_came place c false there = absurd (none (places_of stand.members) (ap (λ ms. places_of ms) (sought.1 there).members) c)
     where
       none : (ks : List ℕ) → ks ≡ [] → Contains ks place → ⊥

@@ -22,18 +22,19 @@ use Rattle.lr_copy.specs.declared.job.Job.{Job}
 use Rattle.lr_copy.specs.Copying.{Copies, clearing, cutting}
 use Rattle.lr_copy.proofs.EachOfBytes.{each_all, each_are, each_both}
 use Rattle.lr_copied.specs.Whole.{Named}
-use Rattle.lr_chain.specs.Rotation.{places_of, is_left, leftovers, kept, one_too_many, leftover_steps, shift_steps, retire_steps}
+use Rattle.lr_chain.specs.Rotation.{places_of, is_left, leftovers, kept, retired, leftover_steps, shift_steps, retire_steps}
 use Rattle.lr_durable.proofs.Lists.{each_last}
 use Rattle.lr_emptied.specs.Emptied.{CopiedLast, EmptiesCopied}
 use Rattle.lr_rotations.specs.AllTurns.{StandsBetween, other_paths, AllTurned}
 use Rattle.lr_rotations.specs.Apart.{HasNames}
 use Rattle.lr_rotations.specs.Members.{HasName, IsNoMember}
 use Rattle.lr_rotations.specs.Rotated.{IsBeside, AreOutside}
-use Rattle.lr_rotations.specs.Target.{Target, transfer_of, rotation_of, IsSeen, AreSeen, IsOneOf}
+use Rattle.lr_rotations.specs.Target.{Target, transfer_of, rotation_of, IsSeen, IsOneOf}
 use Rattle.lr_rotations.specs.Weave.{Among, Weave}
 use Rattle.lr_rotations.proofs.Fitting.{kept_next, first_named, retire_named}
 use Rattle.lr_rotations.proofs.Members.{IsOfMembers, unlinks_of, moves_of}
 use Rattle.lr_rotations.proofs.Moments.{shown_in}
+use Rattle.lr_rotations.proofs.Others.{seen_one}
 use Rattle.lr_rotations.proofs.PartFile.{job_target}
 use Rattle.lr_rotations.proofs.Rotating.{left_are, shift_are, retire_are, two}
 use Rattle.lr_rotations.proofs.Splitting.{weave_each}
@@ -56,11 +57,6 @@ pub record CopyStands (job : Job) (ts : List Entry) : Type 0 where
 abbrev pub IsSameFor : Job → Job → Type 0
 IsSameFor job other = other.from ≡ job.from → other ≡ job
 
-pub seen_one : (rules : Rules) (looks : List Entry) (ts : List Target) → AreSeen rules looks ts → (t : Target) → IsOneOf t ts → IsSeen rules looks t
-seen_one rules looks [] seen t i = absurd i
-seen_one rules looks (x ∷ xs) seen t (inl is) = subst (IsSeen rules looks) is seen.0
-seen_one rules looks (x ∷ xs) seen t (inr i) = seen_one rules looks xs seen.1 t i
-
 among_behind : (P : List Entry → Type 0) (e : Entry) (xs ys : List Entry) → Among P ys → Among P (xs ++ e ∷ ys)
 among_behind P e xs ys a = record {
   before = xs ++ e ∷ a.before;
@@ -76,7 +72,7 @@ members_change n (Renames from to) h = refl
 members_change n (Unlinks x) h = refl
 members_change n _ h = absurd h
 
-module _ (state : Path) (now : Moment) (rules : Rules) (reads tail : List Entry) (t : AllTurned state rules tail) (x : Target) (job : Job) (quiet : AreQuiet reads) (one : IsOneOf x t.turns.targets) (job_is : x.job ≡ Some job) (has : HasNames x)
+module _ (state : Path) (now : Moment) (rules : Rules) (reads tail : List Entry) (t : AllTurned state now rules tail) (x : Target) (job : Job) (quiet : AreQuiet reads) (one : IsOneOf x t.turns.targets) (job_is : x.job ≡ Some job) (has : HasNames x)
     (out : AreOutside (job.part ∷ other_paths state x.log t.turns.targets) job.from x.naming) (stands : CopyStands job t.turns.acts) (copies : EmptiesCopied (IsSameFor job) t.turns.acts) where
   abbrev n : Naming
   n = x.naming
@@ -97,8 +93,8 @@ module _ (state : Path) (now : Moment) (rules : Rules) (reads tail : List Entry)
   abbrev cut : Entry
   cut = Truncates job.from
 
-  seen : IsSeen rules t.turns.looks x
-  seen = seen_one rules t.turns.looks t.turns.targets t.turns.seen x one
+  seen : IsSeen rules now.seconds t.turns.looks x
+  seen = seen_one rules now.seconds t.turns.looks t.turns.targets t.turns.seen x one
 
   from_is : x.log ≡ job.from
   from_is = sym (seen.job job job_is).0.from_is
@@ -121,7 +117,7 @@ module _ (state : Path) (now : Moment) (rules : Rules) (reads tail : List Entry)
   ss = shift_steps n x.count places
 
   abbrev us : List Entry
-  us = retire_steps n x.count places
+  us = retire_steps n x.count x.from
 
   abbrev old : List Entry
   old = (ls ++ ss) ++ clearing job
@@ -138,7 +134,7 @@ module _ (state : Path) (now : Moment) (rules : Rules) (reads tail : List Entry)
       (moves_of n (kept x.count places) (every_filter (HasName n) (λ k. not (is_left x.count k)) places named_places) (kept_next n x.count places has.next))
 
   late_steps : Each (IsOfMembers n) us
-  late_steps = unlinks_of n (one_too_many x.count places) (retire_named n x.count places has.next)
+  late_steps = unlinks_of n (retired x.count x.from) (retire_named n x.count places x.from has.next has.going)
 
   -- none of them is the rename of the part file
   no_step : (e : Entry) → IsOfMembers n e → IsOther r e
@@ -306,7 +302,7 @@ module _ (state : Path) (now : Moment) (rules : Rules) (reads tail : List Entry)
   abbrev starts : Entry
   starts = entry.Starts state now rules
 
-  pub copies_among : CopiesAmong (other_paths state x.log t.turns.targets) job x.naming x.count x.stand (reads ++ entry.Starts state now rules ∷ tail)
+  pub copies_among : CopiesAmong (other_paths state x.log t.turns.targets) job x.naming x.count x.from x.stand (reads ++ entry.Starts state now rules ∷ tail)
   copies_among = record {
     front = reads ++ starts ∷ t.turns.looks;
     early = stands.before;
@@ -315,6 +311,7 @@ module _ (state : Path) (now : Moment) (rules : Rules) (reads tail : List Entry)
     joined = ap (λ ts. reads ++ starts ∷ ts) (t.turns.joined ∙ ap (λ zs. t.turns.looks ++ zs) stands.joined) ∙ sym (append_assoc reads (starts ∷ t.turns.looks) _);
     still = still_both reads (starts ∷ t.turns.looks) (quiet_still reads quiet) (quiet_still t.turns.looks t.turns.quiet);
     log_seen = among_behind (Sees job.from IsFile) starts reads t.turns.looks (subst (λ (y : Path). Among (Sees y IsFile) t.turns.looks) from_is seen.log_seen);
+    going = has.going;
     seen = shown_in x.naming places t.turns.looks (reads ++ starts ∷ t.turns.looks) (λ e h. in_back e reads (starts ∷ t.turns.looks) (inr h)) seen.seen;
     before_it = early_woven;
     count = stands.count;

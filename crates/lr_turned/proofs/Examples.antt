@@ -1,5 +1,5 @@
 -- A log that is unlinked behind its copy.
-use Rattle.std.proofs.Common.{◌≡◌, refl, List}
+use Rattle.std.proofs.Common.{◌≡◌, refl, ℕ, List}
 use Rattle.lr_rules.specs.declared.path.Path.{Path}
 use Rattle.lr_rules.specs.declared.rule.Count.{Count}
 use Rattle.lr_rules.specs.declared.rule.Naming.{Naming}
@@ -15,5 +15,5 @@ use Rattle.lr_turned.specs.Worked.{unlinked}
 pub unlinked_journal : IsJournal unlinked
 unlinked_journal = ((name_journal, refl), (0, refl))
 
-pub unlinked_lost : (paths : List Path) (n : Naming) (c : Count) → IsTurnedByCopy paths job n c (Opens found) unlinked → ⊥
-unlinked_lost paths n c t = let is : thing.Nothing ≡ thing.File t.whole.log = t.log_now in cc
+pub unlinked_lost : (paths : List Path) (n : Naming) (c : Count) (from : List ℕ) → IsTurnedByCopy paths job n c from (Opens found) unlinked → ⊥
+unlinked_lost paths n c from t = let is : thing.Nothing ≡ thing.File t.whole.log = t.log_now in cc

@@ -33,7 +33,7 @@ use Rattle.lr_copy.specs.declared.job.Job.{Job}
 use Rattle.lr_copy.specs.Copying.{cutting}
 use Rattle.lr_copy.specs.Fits.{ArePaths}
 use Rattle.lr_copied.specs.Whole.{IsWhole}
-use Rattle.lr_chain.specs.Rotation.{places_of, is_left, leftovers, kept, one_too_many, leftover_steps, shift_steps, retire_steps, rotation}
+use Rattle.lr_chain.specs.Rotation.{places_of, is_left, leftovers, kept, retired, leftover_steps, shift_steps, retire_steps, rotation}
 use Rattle.lr_chain.specs.Turning.{turned, IsTurned}
 use Rattle.lr_chain.proofs.Falling.{falls_all}
 use Rattle.lr_chain.proofs.Turned as chain
@@ -126,10 +126,10 @@ abbrev older : Naming → Count → List ℕ → List Entry
 older n c places = reverse (shift_steps n c places) ++ reverse (leftover_steps n c places)
 
 abbrev newer : Naming → Count → List ℕ → List Entry
-newer n c places = reverse (retire_steps n c places)
+newer n c from = reverse (retire_steps n c from)
 
-turned_round : (n : Naming) (c : Count) (log : Path) (places : List ℕ) → reverse (rotation n c log places) ≡ newer n c places ++ Renames log (path_at n 0) ∷ older n c places
-turned_round n c log places =
+turned_round : (n : Naming) (c : Count) (log : Path) (places from : List ℕ) → reverse (rotation n c log places from) ≡ newer n c from ++ Renames log (path_at n 0) ∷ older n c places
+turned_round n c log places from =
     reverse-append ls ((ss ++ r ∷ []) ++ ts)
     ∙ (ap (λ xs. xs ++ reverse ls) (reverse-append (ss ++ r ∷ []) ts ∙ ap (λ xs. reverse ts ++ xs) (reverse-append ss (r ∷ [])))
     ∙ append_assoc (reverse ts) (r ∷ reverse ss) (reverse ls))
@@ -144,12 +144,12 @@ turned_round n c log places =
     ss = shift_steps n c places
 
     ts : List Entry
-    ts = retire_steps n c places
+    ts = retire_steps n c from
 
 -- ---- the whole
 
-module _ (paths : List Path) (job : Job) (n : Naming) (c : Count) (stand : Stand) (p q : Past) (es : List Entry) (made : Made p es q) (journal : IsJournal p) (family : IsFamily job.from n) (to_is : job.to ≡ path_at n 0) (are : ArePaths job)
-    (next : HaveNext n c (places_of stand.members)) (spared : NoneOfSetAttached job n p q) (out : AreOutside (job.part ∷ paths) job.from n) (over : CopiesAmong paths job n c stand (reverse es)) where
+module _ (paths : List Path) (job : Job) (n : Naming) (c : Count) (from : List ℕ) (stand : Stand) (p q : Past) (es : List Entry) (made : Made p es q) (journal : IsJournal p) (family : IsFamily job.from n) (to_is : job.to ≡ path_at n 0) (are : ArePaths job)
+    (next : HaveNext n c (places_of stand.members)) (spared : NoneOfSetAttached job n p q) (out : AreOutside (job.part ∷ paths) job.from n) (over : CopiesAmong paths job n c from stand (reverse es)) where
   abbrev places : List ℕ
   places = places_of stand.members
 
@@ -257,14 +257,14 @@ module _ (paths : List Path) (job : Job) (n : Naming) (c : Count) (stand : Stand
       (unlinks_of n (leftovers c places) (every_filter (HasName n) (is_left c) places named_places))
       (moves_of n (kept c places) (every_filter (HasName n) (λ k. not (is_left c k)) places named_places) (kept_next n c places next))
 
-  late_steps : Each (IsOfMembers n) (retire_steps n c places)
-  late_steps = unlinks_of n (one_too_many c places) (retire_named n c places next)
+  late_steps : Each (IsOfMembers n) (retire_steps n c from)
+  late_steps = unlinks_of n (retired c from) (retire_named n c places from next over.going)
 
   older_is : Each (IsOfMembers n) (older n c places)
   older_is = subst (Each (IsOfMembers n)) (reverse-append (leftover_steps n c places) (shift_steps n c places)) (each_reverse (IsOfMembers n) (leftover_steps n c places ++ shift_steps n c places) early_steps)
 
-  newer_is : Each (IsOfMembers n) (newer n c places)
-  newer_is = each_reverse (IsOfMembers n) (retire_steps n c places) late_steps
+  newer_is : Each (IsOfMembers n) (newer n c from)
+  newer_is = each_reverse (IsOfMembers n) (retire_steps n c from) late_steps
 
   back_on : (steps ts : List Entry) → Weave (IsBeside (part ∷ paths) log) steps (filter is_disk_change ts) → Weave (IsOn all_paths) (reverse steps) (filter is_disk_change (reverse ts))
   back_on steps ts woven = weave_as (IsBeside (part ∷ paths) log) (IsOn all_paths) (reverse steps) (filter is_disk_change (reverse ts)) (beside_on (part ∷ paths) log)
@@ -273,8 +273,8 @@ module _ (paths : List Path) (job : Job) (n : Naming) (c : Count) (stand : Stand
   early_on : Weave (IsOn all_paths) (older n c places) (filter is_disk_change (reverse over.early))
   early_on = subst (λ xs. Weave (IsOn all_paths) xs (filter is_disk_change (reverse over.early))) (reverse-append (leftover_steps n c places) (shift_steps n c places)) (back_on (leftover_steps n c places ++ shift_steps n c places) over.early over.before_it)
 
-  late_on : Weave (IsOn all_paths) (newer n c places) (filter is_disk_change (reverse over.late))
-  late_on = back_on (retire_steps n c places) over.late over.behind_it
+  late_on : Weave (IsOn all_paths) (newer n c from) (filter is_disk_change (reverse over.late))
+  late_on = back_on (retire_steps n c from) over.late over.behind_it
 
   -- ---- all changes
 
@@ -283,7 +283,7 @@ module _ (paths : List Path) (job : Job) (n : Naming) (c : Count) (stand : Stand
     early_by = weave_each (IsBeside (part ∷ paths) log) P (leftover_steps n c places ++ shift_steps n c places) (filter is_disk_change over.early) over.before_it (each_as (IsOfMembers n) P (leftover_steps n c places ++ shift_steps n c places) own early_steps) beside
 
     late_by : Changes P over.late
-    late_by = weave_each (IsBeside (part ∷ paths) log) P (retire_steps n c places) (filter is_disk_change over.late) over.behind_it (each_as (IsOfMembers n) P (retire_steps n c places) own late_steps) beside
+    late_by = weave_each (IsBeside (part ∷ paths) log) P (retire_steps n c from) (filter is_disk_change over.late) over.behind_it (each_as (IsOfMembers n) P (retire_steps n c from) own late_steps) beside
 
     end_by : (job.cut ≡ true → P (Truncates log)) → Changes P (cutting job ++ over.late)
     end_by truncates = changes_both P (cutting job) over.late (cutting_changes P job truncates) late_by
@@ -435,8 +435,8 @@ module _ (paths : List Path) (job : Job) (n : Naming) (c : Count) (stand : Stand
   alike_w : AreAlike n behind_copy (names (world w))
   alike_w k i = emptied_names job u (path_at n k) ∙ alike_u k i
 
-  alike_q : AreAlike n (names_after behind_copy (changes_of (newer n c places))) (names (world q))
-  alike_q = members_walk n all_paths behind_copy w q (reverse over.late) (newer n c places) no_member_in m.to_last (no_attached w q m.only_last) late_on newer_is alike_w
+  alike_q : AreAlike n (names_after behind_copy (changes_of (newer n c from))) (names (world q))
+  alike_q = members_walk n all_paths behind_copy w q (reverse over.late) (newer n c from) no_member_in m.to_last (no_attached w q m.only_last) late_on newer_is alike_w
 
   stands_m0 : AreThere n m0 places
   stands_m0 = record {
@@ -447,15 +447,15 @@ module _ (paths : List Path) (job : Job) (n : Naming) (c : Count) (stand : Stand
     others = λ k i absent. sym (alike_v k i) ∙ stands.others k i absent;
   }
 
-  turned_now : IsTurned log n c m0 (names_after m0 (changes_of (reverse (rotation n c log places))))
-  turned_now = chain.family_turned log n family.kin family.numbered m0 c places (top_named n c places next) (falls_all places stands.falling) named_places (next_named n c places next) (so_standing m0 log n places (copy, log_m0) stands_m0)
+  turned_now : IsTurned log n c from m0 (names_after m0 (changes_of (reverse (rotation n c log places from))))
+  turned_now = chain.family_turned log n family.kin family.numbered m0 c places from (top_named n c places next) (falls_all places stands.falling) named_places (next_named n c places next) over.going (so_standing m0 log n places (copy, log_m0) stands_m0)
 
-  parts : names_after behind_copy (changes_of (newer n c places)) ≡ names_after m0 (changes_of (reverse (rotation n c log places)))
-  parts = sym (changes_split m0 (Renames log (path_at n 0) ∷ older n c places) (newer n c places)) ∙ ap (λ xs. names_after m0 (changes_of xs)) (sym (turned_round n c log places))
+  parts : names_after behind_copy (changes_of (newer n c from)) ≡ names_after m0 (changes_of (reverse (rotation n c log places from)))
+  parts = sym (changes_split m0 (Renames log (path_at n 0) ∷ older n c places) (newer n c from)) ∙ ap (λ xs. names_after m0 (changes_of xs)) (sym (turned_round n c log places from))
 
-  members_now : (k : ℕ) → HasName n k → names (world q) (path_at n k) ≡ turned c (thing.File copy) (λ j. names (world p) (path_at n j)) k
-  members_now k i = alike_q k i ∙ (ap (λ (names : Names). names (path_at n k)) parts ∙ (turned_now.members k i ∙ (ap (λ (t : Thing). turned c t (λ j. m0 (path_at n j)) k) log_m0
-      ∙ turned_as n c (thing.File copy) (λ j. m0 (path_at n j)) (λ j. names (world p) (path_at n j)) k i (λ j h. sym (alike_v j h) ∙ quiet_members n p v j quiet h))))
+  members_now : (k : ℕ) → HasName n k → names (world q) (path_at n k) ≡ turned c from (thing.File copy) (λ j. names (world p) (path_at n j)) k
+  members_now k i = alike_q k i ∙ (ap (λ (names : Names). names (path_at n k)) parts ∙ (turned_now.members k i ∙ (ap (λ (t : Thing). turned c from t (λ j. m0 (path_at n j)) k) log_m0
+      ∙ turned_as n c from (thing.File copy) (λ j. m0 (path_at n j)) (λ j. names (world p) (path_at n j)) k i (λ j h. sym (alike_v j h) ∙ quiet_members n p v j quiet h))))
 
   -- ---- others
 
@@ -515,7 +515,7 @@ module _ (paths : List Path) (job : Job) (n : Naming) (c : Count) (stand : Stand
 
   -- ---- the family is turned
 
-  pub turned_by_copy : IsTurnedByCopy paths job n c p q
+  pub turned_by_copy : IsTurnedByCopy paths job n c from p q
   unfolding whole
   turned_by_copy = record {
     first = v;

@@ -16,6 +16,7 @@ use Rattle.lr_copy.specs.declared.job.Job.{Job}
 use Rattle.lr_copy.specs.Copying.{cutting}
 use Rattle.lr_copied.specs.Whole.{Named, IsWhole}
 use Rattle.lr_chain.specs.Rotation.{places_of, leftover_steps, shift_steps, retire_steps}
+use Rattle.lr_chain.specs.Standing.{AreGoing}
 use Rattle.lr_chain.specs.Turning.{turned}
 use Rattle.lr_rotations.specs.Members.{HasName, IsNoMember}
 use Rattle.lr_rotations.specs.Rotated.{fed, IsBehind, IsBeside, IsNeverAt}
@@ -34,8 +35,8 @@ NoneOfSetAttached job n p q = AttachedOnlySince (IsFarFrom job n) p q
 abbrev pub emptied : Job → Past → Past
 emptied job p = cond job.cut (p ▸ Truncates job.from) p
 
--- The log was seen, a file, and its members, where nothing of the disk was changed. Of the changes then the first are the removals of leftovers and the moves of the members that were seen, in order; then stands the copy of the log, whole, by this job, with the truncation of the log where the job asks for that; and the last are the removals of the members that are too many. Between the first, and between the last, others on these paths and on the part file's stand, and the making of the log anew.
-pub record CopiesAmong (paths : List Path) (job : Job) (n : Naming) (c : Count) (stand : Stand) (ts : List Entry) : Type 0 where
+-- The log was seen, a file, and its members, where nothing of the disk was changed. Of the changes then the first are the removals of leftovers and the moves of the members that were seen, in order; then stands the copy of the log, whole, by this job, with the truncation of the log where the job asks for that; and the last are the removals of the members that go. Between the first, and between the last, others on these paths and on the part file's stand, and the making of the log anew.
+pub record CopiesAmong (paths : List Path) (job : Job) (n : Naming) (c : Count) (from : List ℕ) (stand : Stand) (ts : List Entry) : Type 0 where
   pub front : List Entry
   pub early : List Entry
   pub named : List Entry
@@ -44,13 +45,14 @@ pub record CopiesAmong (paths : List Path) (job : Job) (n : Naming) (c : Count) 
   pub still : ChangeNothing front
   pub log_seen : Among (Sees job.from IsFile) front
   pub seen : Shown n (places_of stand.members) front
+  pub going : AreGoing c (places_of stand.members) from
   pub before_it : Weave (IsBeside (job.part ∷ paths) job.from) (leftover_steps n c (places_of stand.members) ++ shift_steps n c (places_of stand.members)) (filter is_disk_change early)
   pub count : ℕ
   pub is_named : Named job count named
-  pub behind_it : Weave (IsBeside (job.part ∷ paths) job.from) (retire_steps n c (places_of stand.members)) (filter is_disk_change late)
+  pub behind_it : Weave (IsBeside (job.part ∷ paths) job.from) (retire_steps n c from) (filter is_disk_change late)
 
 -- The family was turned between the two pasts by a copy of the log, while the tool's other changes were on these paths.
-pub record IsTurnedByCopy (paths : List Path) (job : Job) (n : Naming) (c : Count) (before after : Past) : Type 0 where
+pub record IsTurnedByCopy (paths : List Path) (job : Job) (n : Naming) (c : Count) (from : List ℕ) (before after : Past) : Type 0 where
   -- as the first change came
   pub first : Past
   pub still : Quiet (IsNoMember n) before first
@@ -68,7 +70,7 @@ pub record IsTurnedByCopy (paths : List Path) (job : Job) (n : Naming) (c : Coun
   -- the copy's file was made since
   pub copy_made : (world before).drawn ≤ whole.copy
   -- each member has its file, by identity, the newest the copy's
-  pub members : (place : ℕ) → HasName n place → names (world after) (path_at n place) ≡ turned c (thing.File whole.copy) (λ k. names (world before) (path_at n k)) place
+  pub members : (place : ℕ) → HasName n place → names (world after) (path_at n place) ≡ turned c from (thing.File whole.copy) (λ k. names (world before) (path_at n k)) place
   -- each other path, but for these, names what it named, or a file that a writer made since
   pub others : (x : Path) → x ≢ job.from → x ≢ job.part → IsNoMember n x → (IsIn x paths → ⊥)
       → (names (world after) x ≡ names (world before) x) ⊎ ((names (world before) x ≡ thing.Nothing) × ((g : ℕ) × (names (world after) x ≡ thing.File g) × ((world before).drawn ≤ g)))

@@ -1,5 +1,5 @@
 // What a copy of a log makes of the log's family.
-ghost use Rattle.std.specs.Prelude.{◌≡◌, List, ◌∷◌, reverse};
+ghost use Rattle.std.specs.Prelude.{◌≡◌, ℕ, List, ◌∷◌, reverse};
 ghost use Rattle.lr_rules.specs.declared.path.Path.{Path};
 ghost use Rattle.lr_rules.specs.declared.rule.Count.{Count};
 ghost use Rattle.lr_rules.specs.declared.rule.Naming.{Naming};
@@ -21,8 +21,8 @@ ghost use Rattle.lr_turned.specs.Turned.{NoneOfSetAttached, CopiesAmong, IsTurne
 /// log had as it was last read; each member is where the rotation takes it, by its identity and with its bytes; and the log
 /// names its file still, whatever writers did meanwhile that attached no member and nothing at the part file's path.
 pub fn copied_family_is_turned()
-    ensures { (paths : List Path) (job : Job) (n : Naming) (c : Count) (stand : Stand) (p q : Past) (es : List Entry)
+    ensures { (paths : List Path) (job : Job) (n : Naming) (c : Count) (from : List ℕ) (stand : Stand) (p q : Past) (es : List Entry)
         → Made p es q → IsJournal p → IsFamily job.from n → job.to ≡ path_at n 0 → ArePaths job → HaveNext n c (places_of stand.members)
-        → NoneOfSetAttached job n p q → AreOutside (job.part ∷ paths) job.from n → CopiesAmong paths job n c stand (reverse es)
-        → AreThere n (names (world p)) (places_of stand.members) × IsTurnedByCopy paths job n c p q }
+        → NoneOfSetAttached job n p q → AreOutside (job.part ∷ paths) job.from n → CopiesAmong paths job n c from stand (reverse es)
+        → AreThere n (names (world p)) (places_of stand.members) × IsTurnedByCopy paths job n c from p q }
 {}

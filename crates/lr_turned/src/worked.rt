@@ -1,5 +1,5 @@
 // A log that is copied, worked through.
-ghost use Rattle.std.specs.Prelude.{List};
+ghost use Rattle.std.specs.Prelude.{ℕ, List};
 ghost use Rattle.lr_rules.specs.declared.path.Path.{Path};
 ghost use Rattle.lr_rules.specs.declared.rule.Count.{Count};
 ghost use Rattle.lr_rules.specs.declared.rule.Naming.{Naming};
@@ -14,5 +14,5 @@ ghost use Rattle.lr_turned.specs.Worked.{unlinked};
 /// whatever names and count.
 pub fn unlinked_log_is_not_kept()
     ensures journal { IsJournal unlinked }
-    ensures lost { (paths : List Path) (n : Naming) (c : Count) → IsTurnedByCopy paths job n c (Opens found) unlinked → ⊥ }
+    ensures lost { (paths : List Path) (n : Naming) (c : Count) (from : List ℕ) → IsTurnedByCopy paths job n c from (Opens found) unlinked → ⊥ }
 {}
