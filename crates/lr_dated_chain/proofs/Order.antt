@@ -1,5 +1,5 @@
 -- With the log among them, the members are in order.
-use Rattle.std.proofs.Common.{◌≡◌, ◌⊎◌, inl, inr, ⊎_elim, ℕ, ℤ, ◌<◌, ◌≤◌, ◌<ℤ◌, T, Bool, true, false, cond, List, [], ◌∷◌, map, Ordering, Less, Equal, Greater, refl, sym, ap, subst, arith}
+use Rattle.std.proofs.Common.{◌≡◌, ◌⊎◌, inl, inr, ⊎_elim, ℕ, ℤ, ◌<◌, ◌≤◌, ◌<ℤ◌, T, Bool, true, false, cond, List, [], ◌∷◌, map, Ordering, Less, Equal, Greater, refl, sym, ap, subst, arith, Option}
 use Rattle.std.specs.Prelude.{int_lt}
 use Rattle.std.specs.List.{AllByRecursion}
 use Rattle.std.specs.List.Sorted.{IsStrictlySortedBy}
@@ -58,14 +58,14 @@ sides n m t k is small above = go (int_cmp (stamp_key t k) (key_in m.place)) (in
 
 -- ---- the members alone
 
-below_all : (m : Member) (ms : List Member) → AllByRecursion (λ y. by_age m y ≡ Less) ms → AreBelow (key_of (ranked m)) (map ranked ms)
-below_all m [] a = tt
-below_all m (y ∷ ys) a = (subst (λ (u : ℤ). u <ℤ key_of (ranked m)) (sym (rank_key y.place)) (subst (λ (u : ℤ). key_in y.place <ℤ u) (sym (rank_key m.place)) (key_below (key_in m.place) (key_in y.place) a.0)), below_all m ys a.1)
+below_all : (maxage : Option ℕ) (now : ℤ) (m : Member) (ms : List Member) → AllByRecursion (λ y. by_age m y ≡ Less) ms → AreBelow (key_of (ranked maxage now m)) (map (ranked maxage now) ms)
+below_all maxage now m [] a = tt
+below_all maxage now m (y ∷ ys) a = (subst (λ (u : ℤ). u <ℤ key_of (ranked maxage now m)) (sym (rank_key y.place)) (subst (λ (u : ℤ). key_in y.place <ℤ u) (sym (rank_key m.place)) (key_below (key_in m.place) (key_in y.place) a.0)), below_all maxage now m ys a.1)
 
-pub members_fall : (ms : List Member) → AreNewestFirst ms → AreFalling (map ranked ms)
+pub members_fall : (maxage : Option ℕ) (now : ℤ) (ms : List Member) → AreNewestFirst ms → AreFalling (map (ranked maxage now) ms)
 unfolding IsStrictlySortedBy
-members_fall [] s = tt
-members_fall (m ∷ ms) s = (below_all m ms s.0, members_fall ms s.1)
+members_fall maxage now [] s = tt
+members_fall maxage now (m ∷ ms) s = (below_all maxage now m ms s.0, members_fall maxage now ms s.1)
 
 -- ---- with the log
 
@@ -103,15 +103,15 @@ with_falls one (m ∷ ms) f a = go (int_lt (key_of one) (key_of m)) refl (with_f
     go true e r = (below_with (key_of m) one ms (lt_true (key_of one) (key_of m) e) f.0, r)
     go false e r = ((low e, below_more (key_of one) (key_of m) ms (low e) f.0), f)
 
-apart_all : (n : Naming) (t : ℤ) (k : ℕ) (ms : List Member) → AreDated n ms → k ≤ 4294967295 → ((l : ℕ) → HasOne (IsStamp t l) ms → l < k) → AreApart (stamp_key t k) (map ranked ms)
-apart_all n t k [] d small above = tt
-apart_all n t k (m ∷ ms) d small above = (
+apart_all : (n : Naming) (maxage : Option ℕ) (now t : ℤ) (k : ℕ) (ms : List Member) → AreDated n ms → k ≤ 4294967295 → ((l : ℕ) → HasOne (IsStamp t l) ms → l < k) → AreApart (stamp_key t k) (map (ranked maxage now) ms)
+apart_all n maxage now t k [] d small above = tt
+apart_all n maxage now t k (m ∷ ms) d small above = (
   subst (λ (u : ℤ). (stamp_key t k <ℤ u) ⊎ (u <ℤ stamp_key t k)) (sym (rank_key m.place)) (sides n m t k (All-head (λ (m : Member). IsDayOf n m.place m.path) m ms d) small (λ l e. above l (inl e))),
-  apart_all n t k ms (All-tail (λ (m : Member). IsDayOf n m.place m.path) m ms d) small (λ l h. above l (inr h)),
+  apart_all n maxage now t k ms (All-tail (λ (m : Member). IsDayOf n m.place m.path) m ms d) small (λ l h. above l (inr h)),
 )
 
-pub all_fall : (n : Naming) (t : ℤ) (k : ℕ) (target : Path) (members : List Member) → AreNewestFirst members → IsNext members t k → AreDated n members → IsDatedAt n t k target → AreFalling (all_of t k target members)
-all_fall n t k target members sorted next d is = with_falls (renamed t k target) (map ranked members) (members_fall members sorted) (apart_all n t k members d (dated_small n t k target is) (λ l h. next.above l (any_in (IsStamp t l) members h)))
+pub all_fall : (n : Naming) (maxage : Option ℕ) (now t : ℤ) (k : ℕ) (target : Path) (members : List Member) → AreNewestFirst members → IsNext members t k → AreDated n members → IsDatedAt n t k target → AreFalling (all_of maxage now t k target members)
+all_fall n maxage now t k target members sorted next d is = with_falls (renamed t k target) (map (ranked maxage now) members) (members_fall maxage now members sorted) (apart_all n maxage now t k members d (dated_small n t k target is) (λ l h. next.above l (any_in (IsStamp t l) members h)))
 
 -- ---- each has the path of its stamp and serial number
 
@@ -119,9 +119,9 @@ ranked_dated : (n : Naming) (place : Place) (x : Path) → IsDayOf n place x →
 ranked_dated n (at.Stamp t k) x is = is
 ranked_dated n (at.Number p) x is = absurd is
 
-members_dated : (n : Naming) (ms : List Member) → AreDated n ms → AreDatedAt n (map ranked ms)
-members_dated n [] d = tt
-members_dated n (m ∷ ms) d = (ranked_dated n m.place m.path (All-head (λ (m : Member). IsDayOf n m.place m.path) m ms d), members_dated n ms (All-tail (λ (m : Member). IsDayOf n m.place m.path) m ms d))
+members_dated : (n : Naming) (maxage : Option ℕ) (now : ℤ) (ms : List Member) → AreDated n ms → AreDatedAt n (map (ranked maxage now) ms)
+members_dated n maxage now [] d = tt
+members_dated n maxage now (m ∷ ms) d = (ranked_dated n m.place m.path (All-head (λ (m : Member). IsDayOf n m.place m.path) m ms d), members_dated n maxage now ms (All-tail (λ (m : Member). IsDayOf n m.place m.path) m ms d))
 
 with_dated : (n : Naming) (one : Ranked) (ms : List Ranked) → IsDatedAt n one.seconds one.serial one.path → AreDatedAt n ms → AreDatedAt n (with_one one ms)
 with_dated n one [] is d = (is, tt)
@@ -131,5 +131,5 @@ with_dated n one (m ∷ ms) is d = go (int_lt (key_of one) (key_of m)) (with_dat
     go true r = (d.0, r)
     go false r = (is, d)
 
-pub all_dated : (n : Naming) (t : ℤ) (k : ℕ) (target : Path) (members : List Member) → AreDated n members → IsDatedAt n t k target → AreDatedAt n (all_of t k target members)
-all_dated n t k target members d is = with_dated n (renamed t k target) (map ranked members) is (members_dated n members d)
+pub all_dated : (n : Naming) (maxage : Option ℕ) (now t : ℤ) (k : ℕ) (target : Path) (members : List Member) → AreDated n members → IsDatedAt n t k target → AreDatedAt n (all_of maxage now t k target members)
+all_dated n maxage now t k target members d is = with_dated n (renamed t k target) (map (ranked maxage now) members) is (members_dated n maxage now members d)

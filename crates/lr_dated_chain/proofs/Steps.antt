@@ -1,5 +1,5 @@
 -- The entries of a ready rotation.
-use Rattle.std.proofs.Common.{◌≡◌, ℤ, List, [], ◌∷◌, ◌++◌, map, reverse, refl, sym, ap, ◌∙◌}
+use Rattle.std.proofs.Common.{◌≡◌, ℕ, ℤ, Option, List, [], ◌∷◌, ◌++◌, map, reverse, refl, sym, ap, ◌∙◌}
 use Rattle.std.proofs.lemmas.List.{map-append, reverse-append}
 use Rattle.lr_rules.specs.declared.path.Path.{Path}
 use Rattle.lr_rules.specs.declared.rule.Count.{Count}
@@ -21,10 +21,11 @@ unlinks : (xs : List Ranked) → removals_of (map removal_of xs) ≡ map unlink 
 unlinks [] = refl
 unlinks (x ∷ xs) = ap (λ es. Unlinks x.path ∷ es) (unlinks xs)
 
-pub steps_are : (log : Path) (n : Naming) (c : Count) (anew : Make) (seconds : ℤ) (members : List Member) (ready : Ready) → (r : IsDatedReady log n c anew seconds members ready) → steps_of ready ≡ dated_rotation c log ready.target (all_of seconds r.serial ready.target members)
-steps_are log n c anew seconds members ready r =
+pub steps_are : (log : Path) (n : Naming) (c : Count) (anew : Make) (maxage : Option ℕ) (now seconds : ℤ) (members : List Member) (ready : Ready) → (r : IsDatedReady log n c anew maxage now seconds members ready)
+    → steps_of ready ≡ dated_rotation c log ready.target (all_of maxage now seconds r.serial ready.target members)
+steps_are log n c anew maxage now seconds members ready r =
     ap (λ es. es ++ removals_of ready.retire) turn
-    ∙ ap (λ es. Renames log ready.target ∷ es) (ap removals_of r.retire_is ∙ (unlinks (reverse (gone c 0 (all_of seconds r.serial ready.target members))) ∙ map_reverse unlink (gone c 0 (all_of seconds r.serial ready.target members))))
+    ∙ ap (λ es. Renames log ready.target ∷ es) (ap removals_of r.retire_is ∙ (unlinks (reverse (gone c 0 (all_of maxage now seconds r.serial ready.target members))) ∙ map_reverse unlink (gone c 0 (all_of maxage now seconds r.serial ready.target members))))
   where
     turn : turn_of ready ≡ Renames log ready.target ∷ []
     turn = ap (λ ms. map move_step ms ++ Renames ready.log ready.target ∷ []) r.no_moves ∙ ap (λ x. Renames x ready.target ∷ []) r.log_is

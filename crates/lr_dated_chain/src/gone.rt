@@ -1,17 +1,28 @@
 // Which of the members go, once the log is one of them.
-ghost use Rattle.std.specs.Prelude.{◌≡◌, ◌≤◌, ◌<◌, ◌+◌, ◌^◌, [], ◌∷◌, ◌++◌, map, reverse, take, drop, length, int_lt, IfOk, OnOk, if◌then◌else◌};
+ghost use Rattle.std.specs.Prelude.{◌≡◌, ◌≤◌, ◌<◌, ◌+◌, ◌^◌, ◌||◌, ℕ, ℤ, Option, [], ◌∷◌, ◌++◌, map, reverse, take, drop, length, int_lt, IfOk, OnOk, if◌then◌else◌};
 ghost use Rattle.lr_rules.specs.declared.path.Path.{Path};
 ghost use Rattle.lr_rules.specs.Dated.{stamp_key};
 ghost use Rattle.lr_days.specs.Newest.{key_in};
+ghost use Rattle.lr_chain.specs.Rotation.{is_expired};
 ghost use Rattle.lr_dated.specs.Steps.{is_left, gone};
 ghost use Rattle.lr_dated_chain.specs.Ready.{ranked, renamed, all_of, removal_of, plain_removal};
 
 use crate::target::Target;
+use lr_chain::is_expired;
 use lr_days::key_of;
 use lr_family::{Member, Place};
 use lr_rules::{Count, Memory, Path};
 use lr_scripts::Removal;
 use std::alloc::Global;
+
+/// What is kept of a family at a moment: so many members, and none that was modified more than `maxage` days of 86,400
+/// seconds before `now`, which is in seconds since 1970.
+#[derive(Clone, Copy)]
+pub struct Kept {
+    pub count: Count,
+    pub maxage: Option<u32>,
+    pub now: i64,
+}
 
 // Whether the place is later than this moment and serial number.
 fn is_later(place: Place, seconds: i64, serial: u32) -> bool
@@ -23,7 +34,7 @@ fn is_later(place: Place, seconds: i64, serial: u32) -> bool
 // How many of the members, the newest first, are later than this moment and serial number, before the first that isn't.
 fn later_than(members: &[Member], target: &Target) -> usize
     ensures bound { result ≤ length members.now }
-    ensures place { all_of target.now.seconds target.now.serial target.now.path members.now ≡ map ranked (take result members.now) ++ renamed target.now.seconds target.now.serial target.now.path ∷ map ranked (drop result members.now) }
+    ensures place { (maxage : Option ℕ) (now : ℤ) → all_of maxage now target.now.seconds target.now.serial target.now.path members.now ≡ map (ranked maxage now) (take result members.now) ++ renamed target.now.seconds target.now.serial target.now.path ∷ map (ranked maxage now) (drop result members.now) }
 {
     let mut later = 0;
     for member in members {
@@ -44,17 +55,18 @@ fn has_no_room(count: Count, later: usize) -> bool
     }
 }
 
-// Adds the removal of what has this path, and so many later ones, where it goes.
-fn add_one(
-    alloc: Global,
-    into: &mut Vec<Removal>,
-    count: Count,
-    later: usize,
-    path: &Path,
-) -> Result<(), Memory>
-    ensures { OnOk result (into.new.items ≡ into.old.items ++ (if is_left count later then plain_removal path.now ∷ [] else [])) }
+// Whether the member goes, which so many later ones follow.
+fn goes(kept: Kept, later: usize, member: &Member) -> bool
+    ensures { result ≡ (is_left kept.count later || is_expired kept.maxage kept.now member.now) }
 {
-    if has_no_room(count, later) {
+    has_no_room(kept.count, later) || is_expired(kept.maxage, kept.now, member)
+}
+
+// Adds the removal of what has this path, where it goes.
+fn add_one(alloc: Global, into: &mut Vec<Removal>, goes: bool, path: &Path) -> Result<(), Memory>
+    ensures { OnOk result (into.new.items ≡ into.old.items ++ (if goes then plain_removal path.now ∷ [] else [])) }
+{
+    if goes {
         into.push(Removal {
             path: path.copy(alloc)?,
             preremove: None,
@@ -64,39 +76,44 @@ fn add_one(
     Ok(())
 }
 
-// The same of each of these members, of which the first has so many later ones.
+// Adds the removals of those of these members that go, of which the first has so many later ones.
 fn add_gone(
     alloc: Global,
     into: &mut Vec<Removal>,
-    count: Count,
+    kept: Kept,
     first: usize,
     members: &[Member],
 ) -> Result<(), Memory>
     requires { first + length members.now < 2 ^ 64 }
-    ensures { OnOk result (into.new.items ≡ into.old.items ++ map removal_of (gone count first (map ranked members.now))) }
+    ensures { OnOk result (into.new.items ≡ into.old.items ++ map removal_of (gone kept.count first (map (ranked kept.maxage kept.now) members.now))) }
 {
     let mut later = first;
     for member in members {
-        add_one(alloc, into, count, later, &member.path)?;
+        add_one(alloc, into, goes(kept, later, member), &member.path)?;
         later += 1;
     }
     Ok(())
 }
 
-/// The removals of those that go, the oldest first, once the log is one of the members.
+/// The removals of those that go, the oldest first, once the log is one of the members. Its age isn't tested.
 pub fn removals_of(
     alloc: Global,
-    count: Count,
+    kept: Kept,
     members: &[Member],
     target: &Target,
 ) -> Result<Vec<Removal>, Memory>
-    ensures { IfOk result (λ removals. removals.items ≡ map removal_of (reverse (gone count 0 (all_of target.now.seconds target.now.serial target.now.path members.now)))) }
+    ensures { IfOk result (λ removals. removals.items ≡ map removal_of (reverse (gone kept.count 0 (all_of kept.maxage kept.now target.now.seconds target.now.serial target.now.path members.now)))) }
 {
     let place = later_than(members, target);
     let mut removals = Vec::new(alloc);
-    add_gone(alloc, &mut removals, count, 0, &members[..place])?;
-    add_one(alloc, &mut removals, count, place, &target.path)?;
-    add_gone(alloc, &mut removals, count, place + 1, &members[place..])?;
+    add_gone(alloc, &mut removals, kept, 0, &members[..place])?;
+    add_one(
+        alloc,
+        &mut removals,
+        has_no_room(kept.count, place),
+        &target.path,
+    )?;
+    add_gone(alloc, &mut removals, kept, place + 1, &members[place..])?;
     removals.reverse();
     Ok(removals)
 }

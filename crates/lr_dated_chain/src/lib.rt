@@ -5,10 +5,13 @@
 //!
 //! ```text
 //! let stand = lr_days::stand(alloc, host, &family)?;
-//! let ready = prepare(alloc, &family, &stand, Count::Keep(7), Make::No, &clock)?;
+//! let ready = prepare(alloc, &family, &stand, Count::Keep(7), Some(30), Make::No, &clock)?;
 //! lr_chain::turn(host, &ready)?;                                // /var/log/app.log is /var/log/app.log-20240114
 //! lr_chain::retire(alloc, host, ready.retire.as_slice())?;
 //! ```
+//!
+//! `Some(30)` is logrotate(8)'s `maxage 30`: a member that was modified more than 30 times 86,400 seconds before the clock's
+//! moment is removed behind the turn.
 #![tactic(auto)]
 
 mod gone;

@@ -121,12 +121,12 @@ files_with n one (m ∷ ms) f fs = go (int_lt (key_of one) (key_of m)) (files_wi
     go false r = (f, fs)
 
 -- a member's file and the log's under its new name
-pub moved_files : (log : Path) (n : Naming) (m : Names) (members : List Member) (target : Path) (t : ℤ) (serial : ℕ) → IsDatedFamily log n → IsFileAt m log → AreDated n members → HasNone members target → All (IsThere m) members
-    → AreFiles (changed (Moves log target) m) (all_of t serial target members)
-moved_files log n m members target t serial family file named none files =
-    files_with (changed (Moves log target) m) (renamed t serial target) (map ranked members) (file.0, put_here (put m log thing.Nothing) target target (m log) refl ∙ file.1) (all members named none files)
+pub moved_files : (log : Path) (n : Naming) (m : Names) (members : List Member) (target : Path) (maxage : Option ℕ) (now t : ℤ) (serial : ℕ) → IsDatedFamily log n → IsFileAt m log → AreDated n members → HasNone members target → All (IsThere m) members
+    → AreFiles (changed (Moves log target) m) (all_of maxage now t serial target members)
+moved_files log n m members target maxage now t serial family file named none files =
+    files_with (changed (Moves log target) m) (renamed t serial target) (map (ranked maxage now) members) (file.0, put_here (put m log thing.Nothing) target target (m log) refl ∙ file.1) (all members named none files)
   where
-    all : (ms : List Member) → AreDated n ms → HasNone ms target → All (IsThere m) ms → AreFiles (changed (Moves log target) m) (map ranked ms)
+    all : (ms : List Member) → AreDated n ms → HasNone ms target → All (IsThere m) ms → AreFiles (changed (Moves log target) m) (map (ranked maxage now) ms)
     all [] d none files = tt
     all (y ∷ ys) d none files =
         let day = day_of n (y ∷ ys) y d (inl refl) in
@@ -144,21 +144,21 @@ outside_with x one (m ∷ ms) o = go (int_lt (key_of one) (key_of m)) (outside_w
     go true further o = let r = further o.1 in (r.0, (o.0, r.1))
     go false further o = o
 
-outside_members : (x : Path) (ms : List Member) → IsOutside x (map ranked ms) → HasNone ms x
-outside_members x [] o = tt
-outside_members x (m ∷ ms) o = (o.0, outside_members x ms o.1)
+outside_members : (maxage : Option ℕ) (now : ℤ) (x : Path) (ms : List Member) → IsOutside x (map (ranked maxage now) ms) → HasNone ms x
+outside_members maxage now x [] o = tt
+outside_members maxage now x (m ∷ ms) o = (o.0, outside_members maxage now x ms o.1)
 
-pub stand_so : (log : Path) (n : Naming) (m : Names) (members : List Member) (target : Path) (t : ℤ) (serial : ℕ) → IsDatedFamily log n → IsFileAt m log → AreDatedThere n m members → IsNext members t serial → IsDatedAt n t serial target
-    → StandSo n log target (all_of t serial target members) m
-stand_so log n m members target t serial family file here next is = record {
+pub stand_so : (log : Path) (n : Naming) (m : Names) (members : List Member) (target : Path) (maxage : Option ℕ) (now t : ℤ) (serial : ℕ) → IsDatedFamily log n → IsFileAt m log → AreDatedThere n m members → IsNext members t serial → IsDatedAt n t serial target
+    → StandSo n log target (all_of maxage now t serial target members) m
+stand_so log n m members target maxage now t serial family file here next is = record {
   log_file = file;
   free = here.others target t serial is none;
   dir = ap m (stands_in log n t serial target family.kin family.format is family.dir) ∙ here.dir;
-  falling = all_fall n t serial target members here.newest_first next here.named is;
-  named = all_dated n t serial target members here.named is;
-  files = moved_files log n m members target t serial family file here.named none here.files;
-  others = λ x u k at out. let o = outside_with x (renamed t serial target) (map ranked members) out in
-      moved_other m log target x (λ same. family.apart u k (subst (IsDatedAt n u k) same at)) o.0 ∙ here.others x u k at (outside_members x members o.1);
+  falling = all_fall n maxage now t serial target members here.newest_first next here.named is;
+  named = all_dated n maxage now t serial target members here.named is;
+  files = moved_files log n m members target maxage now t serial family file here.named none here.files;
+  others = λ x u k at out. let o = outside_with x (renamed t serial target) (map (ranked maxage now) members) out in
+      moved_other m log target x (λ same. family.apart u k (subst (IsDatedAt n u k) same at)) o.0 ∙ here.others x u k at (outside_members maxage now x members o.1);
 }
   where
     none : HasNone members target

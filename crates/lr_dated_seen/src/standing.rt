@@ -1,5 +1,5 @@
 // The members that were seen are those that stand.
-ghost use Rattle.std.specs.Prelude.{◌≡◌, ℕ, ℤ, true, List, reverse};
+ghost use Rattle.std.specs.Prelude.{◌≡◌, ℕ, ℤ, true, List, reverse, Option};
 ghost use Rattle.lr_rules.specs.declared.path.Path.{Path};
 ghost use Rattle.lr_rules.specs.declared.rule.Naming.{Naming};
 ghost use Rattle.lr_rules.specs.Limits.{is_format, or_none};
@@ -37,9 +37,10 @@ pub fn shown_members_stand()
 /// Where the log is a file and just these members stand, they stand as the rotation asks for that gives the log the serial
 /// number that comes next at a moment.
 pub fn members_stand_so()
-    ensures { (log : Path) (n : Naming) (m : Names) (members : List Member) (target : Path) (seconds : ℤ) (serial : ℕ)
-        → IsDatedFamily log n → IsFileAt m log → AreDatedThere n m members → IsNext members seconds serial
-        → IsDatedAt n seconds serial target → StandSo n log target (all_of seconds serial target members) m }
+    ensures { (log : Path) (n : Naming) (m : Names) (members : List Member) (target : Path) (maxage : Option ℕ)
+        (now seconds : ℤ) (serial : ℕ) → IsDatedFamily log n → IsFileAt m log → AreDatedThere n m members
+        → IsNext members seconds serial → IsDatedAt n seconds serial target
+        → StandSo n log target (all_of maxage now seconds serial target members) m }
 {}
 
 /// The serial number that comes next among them is the one that comes next on the disk.

@@ -6,5 +6,5 @@ use Rattle.lr_dated_chain.proofs.gone.add_gone.Given as goal
 abbrev pub invariant-loop-member : goal.invariant-loop-member
 invariant-loop-member l = record {
   later : l.later ≡ l.first + l.member-index;
-  removals : l.into.items ≡ l.initial.into.items ++ map removal_of (gone l.count l.first (map ranked (take l.member-index l.members)));
+  removals : l.into.items ≡ l.initial.into.items ++ map removal_of (gone l.kept.count l.first (map (ranked l.kept.maxage l.kept.now) (take l.member-index l.members)));
 }

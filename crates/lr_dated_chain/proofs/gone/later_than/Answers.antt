@@ -7,13 +7,13 @@ use Rattle.lr_dated_chain.proofs.Removed.{placed_here, placed_last}
 use Rattle.lr_dated_chain.proofs.gone.later_than.Goals as goal
 
 pub returns-then-not-is_later-clause-place : goal.returns-then-not-is_later-clause-place
-returns-then-not-is_later-clause-place c =
+returns-then-not-is_later-clause-place c = λ maxage now.
     let fits : FitsSigned w64 c.args.target.now.seconds = search rules in
     let no : c.is_later.result ≡ false = search rules in
-    subst (λ (i : ℕ). all_of c.args.target.now.seconds c.args.target.now.serial c.args.target.now.path c.args.members.now ≡ map ranked (take i c.args.members.now) ++ renamed c.args.target.now.seconds c.args.target.now.serial c.args.target.now.path ∷ map ranked (drop i c.args.members.now)) (sym c.loop-member.invariant.count)
-    (placed_here c.args.target.now.seconds c.args.target.now.serial c.args.target.now.path c.args.members.now c.loop-member.member-index c.member-item.result c.loop-member.invariant.all c.member-item.is c.loop-member-test.true (subst (λ (t : ℤ). int_lt (stamp_key t c.args.target.now.serial) (key_in c.member-item.result.place) ≡ false) (to_z-of_z w64 c.args.target.now.seconds fits) (sym c.is_later.ensures ∙ no)))
+    subst (λ (i : ℕ). all_of maxage now c.args.target.now.seconds c.args.target.now.serial c.args.target.now.path c.args.members.now ≡ map (ranked maxage now) (take i c.args.members.now) ++ renamed c.args.target.now.seconds c.args.target.now.serial c.args.target.now.path ∷ map (ranked maxage now) (drop i c.args.members.now)) (sym c.loop-member.invariant.count)
+    (placed_here maxage now c.args.target.now.seconds c.args.target.now.serial c.args.target.now.path c.args.members.now c.loop-member.member-index c.member-item.result c.loop-member.invariant.all c.member-item.is c.loop-member-test.true (subst (λ (t : ℤ). int_lt (stamp_key t c.args.target.now.serial) (key_in c.member-item.result.place) ≡ false) (to_z-of_z w64 c.args.target.now.seconds fits) (sym c.is_later.ensures ∙ no)))
 
 pub returns-clause-place : goal.returns-clause-place
-returns-clause-place c =
-    subst (λ (i : ℕ). all_of c.args.target.now.seconds c.args.target.now.serial c.args.target.now.path c.args.members.now ≡ map ranked (take i c.args.members.now) ++ renamed c.args.target.now.seconds c.args.target.now.serial c.args.target.now.path ∷ map ranked (drop i c.args.members.now)) (sym c.loop-member.invariant.count)
-    (placed_last c.args.target.now.seconds c.args.target.now.serial c.args.target.now.path c.args.members.now c.loop-member.member-index c.loop-member.invariant.all c.loop-member-test.false)
+returns-clause-place c = λ maxage now.
+    subst (λ (i : ℕ). all_of maxage now c.args.target.now.seconds c.args.target.now.serial c.args.target.now.path c.args.members.now ≡ map (ranked maxage now) (take i c.args.members.now) ++ renamed c.args.target.now.seconds c.args.target.now.serial c.args.target.now.path ∷ map (ranked maxage now) (drop i c.args.members.now)) (sym c.loop-member.invariant.count)
+    (placed_last maxage now c.args.target.now.seconds c.args.target.now.serial c.args.target.now.path c.args.members.now c.loop-member.member-index c.loop-member.invariant.all c.loop-member-test.false)
