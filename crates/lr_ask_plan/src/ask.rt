@@ -6,13 +6,15 @@ use lr_line::{Line, Trouble};
 #[derive(Clone, Copy)]
 enum Ask {
     Rotation,
+    Aged,
     Decided,
     Plan,
 }
 
 // Each call with its name, and how many words stand behind that, at least and at most.
-static ASKS: [(&str, Ask, usize, usize); 3] = [
+static ASKS: [(&str, Ask, usize, usize); 4] = [
     ("rotation", Ask::Rotation, 7, 99),
+    ("aged", Ask::Aged, 8, 99),
     ("decided", Ask::Decided, 1, 1),
     ("plan", Ask::Plan, 0, 9),
 ];
@@ -20,6 +22,7 @@ static ASKS: [(&str, Ask, usize, usize); 3] = [
 fn answer_of(ask: Ask, line: Line, out: &mut Answer) -> Result<(), Trouble> {
     match ask {
         Ask::Rotation => chain::rotation(line, out),
+        Ask::Aged => chain::aged(line, out),
         Ask::Decided => shown::decided(line, out),
         Ask::Plan => shown::shown(line, out),
     }

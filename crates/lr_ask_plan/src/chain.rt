@@ -1,5 +1,7 @@
 // Rotations that are made ready. Behind the words of a family stand the count, or `all`; `there`, or `gone` where the
-// directory isn't there; and the places that stand, the newest first.
+// directory isn't there; and the places that stand, the newest first. Where members may be too old, the days of their
+// greatest age stand behind the count, then the moment of the run, and behind each place that of its modification, in
+// seconds.
 ghost use Rattle.std.specs.Prelude.{◌≡◌, ◌↔◌, ◌≤◌, None, true, IfOk};
 ghost use Rattle.lr_family.specs.Places.{IsPlaceOf, AreNamed};
 ghost use Rattle.lr_chain.specs.Ready.{IsCount};
@@ -51,16 +53,16 @@ fn is_there(word: &[u8]) -> Result<bool, Trouble> {
     }
 }
 
-fn seen() -> Seen {
+fn seen(mtime: i64) -> Seen {
     Seen {
         kind: Kind::File,
         size: 1,
-        mtime: 0,
+        mtime,
         mode: None,
     }
 }
 
-fn member(line: Line, family: &Family, place: u32) -> Result<Member, Trouble>
+fn member(line: Line, family: &Family, place: u32, mtime: i64) -> Result<Member, Trouble>
     requires { family.now.naming.dated ≡ None }
     ensures { IfOk result (λ member. IsPlaceOf family.now.naming member.place member.path) }
 {
@@ -70,21 +72,22 @@ fn member(line: Line, family: &Family, place: u32) -> Result<Member, Trouble>
     Ok(Member {
         path,
         place: Place::Number(place),
-        seen: seen(),
+        seen: seen(mtime),
     })
 }
 
 fn add_member(
     line: Line,
     family: &Family,
-    word: &[u8],
+    place: u32,
+    mtime: i64,
     members: &mut Vec<Member>,
 ) -> Result<(), Trouble>
     requires numbered { family.now.naming.dated ≡ None }
     requires named { AreNamed family.now.naming members.old.items }
     ensures { AreNamed family.now.naming members.new.items }
 {
-    let member = member(line, family, small(word)?)?;
+    let member = member(line, family, place, mtime)?;
     members.push(member)?;
     Ok(())
 }
@@ -95,7 +98,23 @@ fn members(line: Line, family: &Family) -> Result<Listed<Member>, Trouble>
 {
     let mut members = Vec::new(line.alloc);
     for word in line.words.iter().skip(8) {
-        add_member(line, family, word, &mut members)?;
+        add_member(line, family, small(word)?, 0, &mut members)?;
+    }
+    Ok(Listed::from_vec(members))
+}
+
+// Each with the moment behind its place.
+fn aged_members(line: Line, family: &Family) -> Result<Listed<Member>, Trouble>
+    requires { family.now.naming.dated ≡ None }
+    ensures { IfOk result (λ members. AreNamed family.now.naming members) }
+{
+    let mut members = Vec::new(line.alloc);
+    for at in 9..line.words.len() {
+        if at % 2 == 1 {
+            let place = line.small(at)?;
+            let mtime = line.seconds(at + 1)?;
+            add_member(line, family, place, mtime, &mut members)?;
+        }
     }
     Ok(Listed::from_vec(members))
 }
@@ -149,15 +168,34 @@ fn put_prepared(made: &Result<Ready, PrepareStop>, out: &mut Answer) {
     }
 }
 
-fn put_prepared_of(line: Line, family: &Family, stand: &Stand, count: Count, out: &mut Answer)
+fn put_prepared_of(
+    line: Line,
+    family: &Family,
+    stand: &Stand,
+    count: Count,
+    maxage: Option<u32>,
+    now: i64,
+    out: &mut Answer,
+)
     requires numbered { family.now.naming.dated ≡ None }
     requires start { family.now.naming.start ≤ 999999 }
     requires count { IsCount count }
     requires named { AreNamed family.now.naming stand.now.members }
 {
-    let made = prepare(line.alloc, family, stand, count, Make::No);
+    let made = prepare(line.alloc, family, stand, count, maxage, now, Make::No);
     put_prepared(&made, out);
     drop(made)
+}
+
+fn stand_of(line: Line, there: bool, members: Listed<Member>) -> Stand
+    ensures { result.members ≡ members }
+{
+    Stand {
+        there,
+        parent: true,
+        members,
+        parts: Listed::new(line.alloc),
+    }
 }
 
 fn put_rotation(line: Line, family: &Family, out: &mut Answer) -> Result<(), Trouble>
@@ -167,25 +205,50 @@ fn put_rotation(line: Line, family: &Family, out: &mut Answer) -> Result<(), Tro
     let count = count(line.word(6)?)?;
     let there = is_there(line.word(7)?)?;
     let members = members(line, family)?;
-    let stand = Stand {
-        there,
-        parent: true,
-        members,
-        parts: Listed::new(line.alloc),
-    };
-    put_prepared_of(line, family, &stand, count, out);
+    let stand = stand_of(line, there, members);
+    put_prepared_of(line, family, &stand, count, None, 0, out);
     drop(stand);
     Ok(())
 }
 
+fn put_aged(line: Line, family: &Family, out: &mut Answer) -> Result<(), Trouble>
+    requires numbered { family.now.naming.dated ≡ None }
+    requires start { family.now.naming.start ≤ 999999 }
+{
+    let count = count(line.word(6)?)?;
+    let maxage = line.small(7)?;
+    let now = line.seconds(8)?;
+    let members = aged_members(line, family)?;
+    let stand = stand_of(line, true, members);
+    put_prepared_of(line, family, &stand, count, Some(maxage), now, out);
+    drop(stand);
+    Ok(())
+}
+
+// A family whose first number a rule can have.
+fn starting_family(line: Line) -> Result<Family, Trouble>
+    ensures { IfOk result (λ family. (family.naming.dated ≡ None) × (family.naming.start ≤ 999999)) }
+{
+    let family = family_of(line)?;
+    if family.naming().start > 999_999 {
+        drop(family);
+        return Err(Trouble::Odd("the first number is too high"));
+    }
+    Ok(family)
+}
+
 /// The steps of the rotation, each on a line, or why there is none.
 pub fn rotation(line: Line, out: &mut Answer) -> Result<(), Trouble> {
-    let family = family_of(line)?;
-    let put = if family.naming().start > 999_999 {
-        Err(Trouble::Odd("the first number is too high"))
-    } else {
-        put_rotation(line, &family, out)
-    };
+    let family = starting_family(line)?;
+    let put = put_rotation(line, &family, out);
+    drop(family);
+    put
+}
+
+/// Those of one where members may be too old.
+pub fn aged(line: Line, out: &mut Answer) -> Result<(), Trouble> {
+    let family = starting_family(line)?;
+    let put = put_aged(line, &family, out);
     drop(family);
     put
 }

@@ -28,6 +28,27 @@ fn count_of(word: &[u8]) -> Result<Count, Trouble>
     Ok(Count::Keep(most))
 }
 
+// The greatest age of a member, in days, and the moment that it is measured from, in seconds.
+#[derive(Clone, Copy)]
+struct Age {
+    maxage: Option<u32>,
+    now: i64,
+}
+
+// Any age, where no word is left.
+fn age_of(cursor: &mut Cursor) -> Result<Age, Trouble> {
+    if cursor.is_done() {
+        return Ok(Age {
+            maxage: None,
+            now: 0,
+        });
+    }
+    Ok(Age {
+        maxage: Some(cursor.small()?),
+        now: cursor.seconds()?,
+    })
+}
+
 fn add_move(
     into: &mut Vec<u8>,
     alloc: Global,
@@ -71,13 +92,19 @@ fn prepare_stop_text(alloc: Global, stop: &PrepareStop) -> Result<Vec<u8>, Troub
     }
 }
 
-fn prepared(alloc: Global, family: &Family, stand: &Stand, count: Count) -> Result<Vec<u8>, Trouble>
+fn prepared(
+    alloc: Global,
+    family: &Family,
+    stand: &Stand,
+    count: Count,
+    age: Age,
+) -> Result<Vec<u8>, Trouble>
     requires numbered { family.now.naming.dated ≡ None }
     requires start { family.now.naming.start ≤ 999999 }
     requires count { IsCount count }
     requires named { AreNamed family.now.naming stand.now.members }
 {
-    match prepare(alloc, family, stand, count, Make::No) {
+    match prepare(alloc, family, stand, count, age.maxage, age.now, Make::No) {
         Ok(ready) => ready_text(alloc, &ready),
         Err(stop) => prepare_stop_text(alloc, &stop),
     }
@@ -88,18 +115,19 @@ fn prepare_over(
     alloc: Global,
     family: &Family,
     count: Count,
+    age: Age,
 ) -> Result<Vec<u8>, Trouble>
     requires numbered { family.now.naming.dated ≡ None }
     requires start { family.now.naming.start ≤ 999999 }
     requires count { IsCount count }
 {
     match family.stand(alloc, host) {
-        Ok(stand) => prepared(alloc, family, &stand, count),
+        Ok(stand) => prepared(alloc, family, &stand, count, age),
         Err(stop) => stop_text(alloc, &stop),
     }
 }
 
-// With the count that is the next word.
+// With the count that is the next word, and the age behind it.
 fn prepare_counted(
     host: &mut MemHost,
     cursor: &mut Cursor,
@@ -109,11 +137,12 @@ fn prepare_counted(
     requires start { family.now.naming.start ≤ 999999 }
 {
     let count = count_of(cursor.word()?)?;
-    prepare_over(host, cursor.alloc, family, count)
+    let age = age_of(cursor)?;
+    prepare_over(host, cursor.alloc, family, count, age)
 }
 
-/// `prepare LOG DIRECTORY BASE EXTENSION FIRST COUNT`: what one rotation will do, in order, where COUNT members are kept,
-/// or `all`.
+/// `prepare LOG DIRECTORY BASE EXTENSION FIRST COUNT [DAYS NOW]`: what one rotation will do, in order, where COUNT members
+/// are kept, or `all`, and none that at the moment NOW is more than DAYS days old.
 pub fn prepare_rotation(host: &mut MemHost, cursor: &mut Cursor) -> Result<Vec<u8>, Trouble> {
     let family = family(cursor)?;
     prepare_counted(host, cursor, &family)
