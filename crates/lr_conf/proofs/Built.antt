@@ -1,5 +1,5 @@
 -- What no line can set so far has its default in each rule.
-use Rattle.std.proofs.Common.{◌≡◌, ℕ, true, false, List, [], Option, Some, None, refl, ap}
+use Rattle.std.proofs.Common.{◌≡◌, ℕ, true, false, List, [], Option, Some, refl, ap}
 use Rattle.std.specs.List.{AllByRecursion as Each}
 use Rattle.std.proofs.lemmas.List.Elements.{All-from_recursion}
 use Rattle.lr_rules.specs.declared.path.Path.{Path}
@@ -8,26 +8,17 @@ use Rattle.lr_forms.specs.declared.built.Built.TheVariants as built
 use Rattle.lr_forms.specs.declared.set.Set.{Set}
 use Rattle.lr_forms.specs.declared.set.Set.TheVariants as set
 use Rattle.lr_fields.specs.Built.{IsBuiltRule, AreBuiltRules}
-use Rattle.lr_fields.specs.Fields.{fields_of, last_set, maxage_set, createolddir_set, mailfirst_set, dated_set}
+use Rattle.lr_fields.specs.Fields.{fields_of, last_set, createolddir_set, dated_set}
 use Rattle.lr_fields.specs.Rules.{format_of, rule_of}
 use Rattle.lr_conf.specs.Meaning.{Line, meaning}
 use Rattle.lr_conf.proofs.Each.{Given}
 use Rattle.lr_conf.proofs.Plain.{S, N, walk}
 use Rattle.lr_conf.proofs.Walk.{each_rule, last_given}
 
-maxage_given : (v : Set) → S v → Given (λ o. o ≡ None) (maxage_set v)
-maxage_given (set.MaxAge n) ok = let no = ok.0 in absurd (cc no)
-maxage_given v ok = tt
-
 createolddir_given : (v : Set) → S v → Given (λ m. m ≡ make.No) (createolddir_set v)
 createolddir_given (set.CreateOlddir make.No) ok = refl
 createolddir_given (set.CreateOlddir (make.Yes mode)) ok = let no = ok.0 in absurd (cc no)
 createolddir_given v ok = tt
-
-mailfirst_given : (v : Set) → S v → Given (λ b. b ≡ false) (mailfirst_set v)
-mailfirst_given (set.MailFirst false) ok = refl
-mailfirst_given (set.MailFirst true) ok = let no = ok.0 in absurd (cc no)
-mailfirst_given v ok = tt
 
 dated_given : (v : Set) → S v → Given (λ b. b ≡ false) (dated_set v)
 dated_given (set.Dated false) ok = refl
@@ -40,9 +31,7 @@ unset sets d given vs ok = last_given S (λ x. x ≡ d) sets d refl given vs ok
 
 rule_ok : (file : Path) (at : ℕ) (words : List (List ℕ)) (vs : List Set) → N words → Each S vs → IsBuiltRule (rule_of file at words (fields_of vs))
 rule_ok file at words vs n ok = record {
-  maxage = unset maxage_set None maxage_given vs ok;
   createolddir = unset createolddir_set make.No createolddir_given vs ok;
-  mailfirst = unset mailfirst_set false mailfirst_given vs ok;
   dated = ap (λ b. format_of (record (fields_of vs) { dated = b })) (unset dated_set false dated_given vs ok);
 }
 

@@ -18,8 +18,6 @@ so_far_unbuilt is.Dateformat = true
 so_far_unbuilt is.Datehourago = true
 so_far_unbuilt is.Dateserial = true
 so_far_unbuilt is.Dateyesterday = true
-so_far_unbuilt is.Mailfirst = true
-so_far_unbuilt is.Maxage = true
 so_far_unbuilt is.Renamecopy = true
 -- all else is built
 so_far_unbuilt d = false

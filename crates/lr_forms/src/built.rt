@@ -22,8 +22,6 @@ fn so_far_unbuilt(directive: Directive) -> bool
         | Directive::Datehourago
         | Directive::Dateserial
         | Directive::Dateyesterday
-        | Directive::Mailfirst
-        | Directive::Maxage
         | Directive::Renamecopy => true,
         _ => false,
     }
