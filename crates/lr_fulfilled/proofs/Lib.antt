@@ -5,4 +5,4 @@ pub mod Fulfilled
 pub mod Left
 mod Logs
 pub mod Planned
-mod Truth
+pub mod Truth

@@ -1,43 +1,53 @@
 -- The looks of a run are true from its start to their end.
-use Rattle.std.proofs.Common.{◌≡◌, Bool, List, [], ◌∷◌, ◌++◌, reverse, append_assoc, append-nil, refl, sym, ◌∙◌, ap, subst}
+use Rattle.std.proofs.Common.{◌≡◌, List, [], ◌∷◌, ◌++◌, reverse, append_assoc, append-nil, refl, sym, ◌∙◌, ap, subst}
 use Rattle.std.proofs.lemmas.List.{reverse-append, reverse-reverse}
 use Rattle.lr_rules.specs.declared.civil.Moment.{Moment}
 use Rattle.lr_rules.specs.declared.fault.Fault.{Fault}
 use Rattle.lr_rules.specs.declared.path.Path.{Path}
 use Rattle.lr_rules.specs.declared.rules.Rules.{Rules}
-use Rattle.lr_fields.specs.Built.{AreBuiltRules}
 use Rattle.lr_host.specs.declared.entry.Entry.{Entry}
 use Rattle.lr_host.specs.declared.entry.Entry.TheVariants as entry
 use Rattle.lr_host.specs.Opening.{IsJournal}
+use Rattle.lr_host.specs.Fits.{Fits}
 use Rattle.lr_host.specs.Told.{Made}
-use Rattle.lr_host.specs.World.{Past, ◌▸◌}
+use Rattle.lr_host.specs.World.{Past, ◌▸◌, world}
 use Rattle.lr_host.proofs.Made.{Cut, cut, CutAt, cut_one, made_on, made_journal}
 use Rattle.lr_reading.proofs.Quiet.{state_quiet}
 use Rattle.lr_rotations.proofs.OrMade.{made_behind}
 use Rattle.lr_run.specs.Runs.{Inside, Looked, Worked}
+use Rattle.lr_stood.specs.True.{AreTrue}
 use Rattle.lr_stood.proofs.All.{looks_true}
 use Rattle.lr_plan.specs.Asked.{Asked}
 use Rattle.lr_fulfilled.specs.Truth.{LooksAreTrue}
 
-module _ (state : Path) (asked : Asked) (now : Moment) (rules : Rules) (own : List Fault) (p q : Past) (es reads acts : List Entry) (built : AreBuiltRules rules.sets) (made : Made p es q) (journal : IsJournal p) (joined : reverse es ≡ reads ++ acts) (i : Inside state now rules (Worked state rules.sets now asked own) acts) where
-  abbrev l : Looked state rules.sets i.between
+-- Two moments of a run: just before its start, and just behind its looks.
+pub record Looking (start : Entry) (p q : Past) (front seen later : List Entry) : Type 0 where
+  pub at : Past
+  pub looked : Past
+  pub since : Made p (reverse front) at
+  pub fits : Fits (world at) start
+  pub between : Made (at ▸ start) (reverse seen) looked
+  pub until : Made looked (reverse later) q
+
+module _ (state : Path) (asked : Asked) (now : Moment) (rules : Rules) (own : List Fault) (p q : Past) (es reads acts : List Entry) (made : Made p es q) (journal : IsJournal p) (joined : reverse es ≡ reads ++ acts) (i : Inside state now rules (Worked state rules.sets now asked own) acts) where
+  abbrev pub l : Looked state rules.sets i.between
   l = i.within.looked
 
-  abbrev start : Entry
+  abbrev pub start : Entry
   start = entry.Starts state now rules
 
   -- what comes before the start, and what behind it
-  abbrev front : List Entry
+  abbrev pub front : List Entry
   front = reads ++ i.before
 
   abbrev rest : List Entry
   rest = i.between ++ entry.Ends ∷ []
 
   -- the looks, with the reading of the state, and what comes behind them
-  abbrev seen : List Entry
+  abbrev pub seen : List Entry
   seen = l.reads ++ l.looks
 
-  abbrev later : List Entry
+  abbrev pub later : List Entry
   later = l.acts ++ entry.Ends ∷ []
 
   whole : reverse es ≡ front ++ (start ∷ rest)
@@ -52,9 +62,6 @@ module _ (state : Path) (asked : Asked) (now : Moment) (rules : Rules) (own : Li
   one : CutAt at_front.mid at_start.mid [] start []
   one = cut_one at_front.mid at_start.mid (start ∷ []) [] start refl at_start.first
 
-  abbrev began : Past
-  began = one.mid ▸ start
-
   behind_start : Made (one.mid ▸ start) (reverse rest) q
   behind_start = subst (λ (xs : List Entry). Made (one.mid ▸ start) xs q) (append-nil (reverse rest)) (made_on (one.mid ▸ start) at_start.mid q [] (reverse rest) one.second at_start.second)
 
@@ -67,12 +74,18 @@ module _ (state : Path) (asked : Asked) (now : Moment) (rules : Rules) (own : Li
   to_start : Made p (reverse front) one.mid
   to_start = made_on p at_front.mid one.mid (reverse front) [] at_front.first one.first
 
+  pub looking : Looking start p q front seen later
+  looking = record { at = one.mid; looked = at_looks.mid; since = to_start; fits = one.fits; between = at_looks.first; until = at_looks.second }
+
+  pub looks_stand : AreTrue rules.sets l.sets l.of_looks l.looks l.shown (looking.at ▸ start) looking.looked
+  looks_stand = looks_true rules l.sets l.of_looks l.reads l.looks (reverse seen) (looking.at ▸ start) looking.looked l.shown (made_journal p looking.at (reverse front) looking.since journal, looking.fits) looking.between (reverse-reverse seen) (state_quiet state 65_536 l.sights l.reads l.read)
+
   pub run_looks_true : LooksAreTrue state now rules i.between l p q
   run_looks_true = record {
-    at = one.mid;
-    looked = at_looks.mid;
-    since = made_behind p one.mid (reverse front) to_start;
-    between = made_behind (one.mid ▸ start) at_looks.mid (reverse seen) at_looks.first;
-    until = made_behind at_looks.mid q (reverse later) at_looks.second;
-    are_true = looks_true rules l.sets l.of_looks l.reads l.looks (reverse seen) (one.mid ▸ start) at_looks.mid built l.shown (made_journal p one.mid (reverse front) to_start journal, one.fits) at_looks.first (reverse-reverse seen) (state_quiet state 65_536 l.sights l.reads l.read);
+    at = looking.at;
+    looked = looking.looked;
+    since = made_behind p looking.at (reverse front) looking.since;
+    between = made_behind (looking.at ▸ start) looking.looked (reverse seen) looking.between;
+    until = made_behind looking.looked q (reverse later) looking.until;
+    are_true = looks_stand;
   }

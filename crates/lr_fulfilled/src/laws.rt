@@ -73,7 +73,7 @@ pub fn kept_are_elsewhere()
 
 /// The looks of a run that came to its plan are true of the disk, from its start to the end of the looks, whatever failed then.
 pub fn run_looks_are_true()
-    ensures { (state : Path) (asked : Asked) (now : Moment) (rules : Rules) (own : List Fault) (p q : Past) (es reads acts : List Entry) → AreBuiltRules rules.sets
+    ensures { (state : Path) (asked : Asked) (now : Moment) (rules : Rules) (own : List Fault) (p q : Past) (es reads acts : List Entry)
         → Made p es q → IsJournal p → reverse es ≡ reads ++ acts → (i : Inside state now rules (Worked state rules.sets now asked own) acts)
         → LooksAreTrue state now rules i.between i.within.looked p q }
 {}

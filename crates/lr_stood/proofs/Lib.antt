@@ -1,4 +1,5 @@
 pub mod All
 mod Families
+mod Members
 mod Sought
 mod Words

@@ -1,13 +1,14 @@
--- What the entries tell of each family that was looked at: its directory was seen to be missing; or it was listed, and each part file among its names was looked at.
-use Rattle.std.proofs.Common.{◌≡◌, ◌⊎◌, inl, inr, ⊎_elim, ℕ, Bool, true, false, bytes_eq, List, [], ◌∷◌, map, Option, Some, None, refl, sym, subst, Contains}
+-- What the entries tell of each family that was looked at: its directory was seen to be missing; or it was listed, and each member and each part file among its names was looked at.
+use Rattle.std.proofs.Common.{◌≡◌, ◌⊎◌, inl, inr, ⊎_elim, ℕ, Bool, true, false, bytes_eq, List, [], ◌∷◌, map, Option, Some, None, refl, sym, subst}
 use Rattle.std.specs.List.{flat_map}
 use Rattle.std.specs.List.Sorted.{IsPermutation}
+use Rattle.std.proofs.lemmas.List.Elements.{All-append, All-nil, All-cons, All-head, All-tail}
 use Rattle.std.proofs.lemmas.List.Sorted.{Contains-permutation}
 use Rattle.std.proofs.lemmas.Slice.Eq.{bytes_eq-Decides}
 use Rattle.lr_rules.specs.declared.path.Path.{Path}
 use Rattle.lr_rules.specs.declared.rule.Format.{Format}
 use Rattle.lr_rules.specs.declared.rule.Naming.{Naming}
-use Rattle.lr_rules.specs.Path.{joined}
+use Rattle.lr_rules.specs.Names.{IsMemberAt}
 use Rattle.lr_host.specs.declared.thing.Kind.{Kind}
 use Rattle.lr_host.specs.declared.thing.Seen.{Seen}
 use Rattle.lr_host.specs.declared.entry.Entry.{Entry}
@@ -17,45 +18,80 @@ use Rattle.lr_host.specs.Looks.{IsFile}
 use Rattle.lr_host.specs.Told.{Then}
 use Rattle.lr_host.proofs.Lists.{in_from, in_map, in_front, in_back, in_append}
 use Rattle.lr_family.specs.declared.listing.Listing.{Listing}
+use Rattle.lr_family.specs.declared.spot.Spot.{Spot}
+use Rattle.lr_family.specs.declared.stand.Member.{Member}
 use Rattle.lr_family.specs.declared.stand.Stand.{Stand}
-use Rattle.lr_family.specs.Among.{ShowsMembers}
-use Rattle.lr_days.specs.Among.{ShowsMembers as ShowsDays}
+use Rattle.lr_family.specs.Among.{StandsAmong, ShowsMembers}
 use Rattle.lr_family.specs.Listed.{ShowsListing}
+use Rattle.lr_family.specs.Looks.{Sight, seen_at, member_of}
 use Rattle.lr_family.specs.Parts.{IsMembersPart, PartSight, part_if_file, part_seen, part_in, part_look, PartsAmong, ShowsParts}
+use Rattle.lr_family.specs.Places.{IsPlaceOf, AreNamed}
+use Rattle.lr_family.specs.Spots.{HavePaths}
+use Rattle.lr_family.proofs.Placed.{spots_named, named_sorted}
+use Rattle.lr_days.specs.Among.{ShowsMembers as ShowsDays}
+use Rattle.lr_dated_seen.specs.Shown.{IsUnlisted, ShownDated}
+use Rattle.lr_dated_seen.proofs.Shows.{stand_shown}
 use Rattle.lr_looks.specs.Families.{FamilySight, Stood, Stopped, ShowsBy, ShowsFamily, behind_listing, with_listing, not_listed, ShowFamilies, LookedLog, looked_by, looked_of}
 use Rattle.lr_looks.specs.Found.{FoundLog}
 use Rattle.lr_seen.proofs.Elements.{in_list}
 
 -- ---- listings
 
--- the directory was listed with these names, in some order; or it was seen to be missing
-abbrev TellsOf : List Entry → Bool → Path → List (List ℕ) → Type 0
-TellsOf all true dir names = (listed : List (List ℕ)) × IsPermutation listed names × IsIn (entry.List dir listed) all
-TellsOf all false dir names = IsIn (entry.Look dir None) all
+-- The directory was listed with these names, or seen to be missing: the looks that show it are among all entries.
+pub record IsTold (all : List Entry) (dir : Path) (there parent : Bool) (names : List (List ℕ)) : Type 0 where
+  pub ts : List Entry
+  pub in_all : (e : Entry) → IsIn e ts → IsIn e all
+  pub shown : ShowsListing dir there parent names ts
 
 abbrev AreTold : List Entry → List Listing → Type 0
-AreTold all known = (l : Listing) → IsIn l known → TellsOf all l.there l.dir l.names
-
-told_now : (all ts : List Entry) (there parent : Bool) (dir : Path) (names : List (List ℕ)) → ((e : Entry) → IsIn e ts → IsIn e all) → ShowsListing dir there parent names ts → TellsOf all there dir names
-told_now all ts true parent dir names in_all h =
-    let l = h.1.second in
-    (l.listed, l.same, in_all (entry.List dir l.listed) (subst (IsIn (entry.List dir l.listed)) (sym h.1.joined) (in_back (entry.List dir l.listed) h.1.front h.1.back (subst (IsIn (entry.List dir l.listed)) (sym l.list) (inl refl)))))
-told_now all ts false parent dir names in_all h =
-    let s = h.1.first in
-    in_all (entry.Look dir None) (subst (IsIn (entry.Look dir None)) (sym h.1.joined) (in_front (entry.Look dir None) h.1.front h.1.back
-    (subst (λ (o : Option Seen). IsIn (entry.Look dir o) h.1.front) s.is (subst (IsIn (entry.Look dir s.seen)) (sym s.look) (inl refl)))))
+AreTold all known = (l : Listing) → IsIn l known → IsTold all l.dir l.there l.parent l.names
 
 -- those that are known behind a family were told, as those before it were
 told_next : (all : List Entry) (known : List Listing) (n : Naming) (after : List Listing) (s : FamilySight) (ts : List Entry) → ((e : Entry) → IsIn e ts → IsIn e all) → AreTold all known → ShowsFamily known n after s ts → AreTold all after
 told_next all known n after s ts in_all told (behind_listing l was same m) = subst (AreTold all) (sym same) told
 told_next all known n after s ts in_all told (with_listing l new e same t) = subst (AreTold all) (sym same) (λ k i. ⊎_elim
     (λ a. told k a)
-    (λ b. ⊎_elim (λ is. subst (λ (x : Listing). TellsOf all x.there x.dir x.names) is now) (λ none. absurd none) b)
+    (λ b. ⊎_elim (λ is. subst (λ (x : Listing). IsTold all x.dir x.there x.parent x.names) is now) (λ none. absurd none) b)
     (in_append k known (l ∷ []) i))
   where
-    now : TellsOf all l.there l.dir l.names
-    now = subst (λ (x : Path). TellsOf all l.there x l.names) (sym e) (told_now all t.front l.there l.parent n.dir l.names (λ x j. in_all x (subst (IsIn x) (sym t.joined) (in_front x t.front t.back j))) t.first)
+    now : IsTold all l.dir l.there l.parent l.names
+    now = subst (λ (x : Path). IsTold all x l.there l.parent l.names) (sym e) (record { ts = t.front; in_all = λ x j. in_all x (subst (IsIn x) (sym t.joined) (in_front x t.front t.back j)); shown = t.first })
 told_next all known n after s ts in_all told (not_listed why new same e h) = subst (AreTold all) (sym same) told
+
+-- the list, in whatever order
+list_told : (all : List Entry) (dir : Path) (parent : Bool) (names : List (List ℕ)) → IsTold all dir true parent names → (listed : List (List ℕ)) × IsPermutation listed names × IsIn (entry.List dir listed) all
+list_told all dir parent names t =
+    let h = t.shown.1 in
+    let l = h.second in
+    (l.listed, l.same, t.in_all (entry.List dir l.listed) (subst (IsIn (entry.List dir l.listed)) (sym h.joined) (in_back (entry.List dir l.listed) h.front h.back (subst (IsIn (entry.List dir l.listed)) (sym l.list) (inl refl)))))
+
+-- the look that saw nothing
+missing_told : (all : List Entry) (dir : Path) (parent : Bool) (names : List (List ℕ)) → IsTold all dir false parent names → IsIn (entry.Look dir None) all
+missing_told all dir parent names t =
+    let h = t.shown.1 in
+    let s = h.first in
+    t.in_all (entry.Look dir None) (subst (IsIn (entry.Look dir None)) (sym h.joined) (in_front (entry.Look dir None) h.front h.back
+    (subst (λ (o : Option Seen). IsIn (entry.Look dir o) h.front) s.is (subst (IsIn (entry.Look dir s.seen)) (sym s.look) (inl refl)))))
+
+-- ---- members
+
+-- those of a numbered family have the paths of their places, and those of a dated one were seen, and no other was
+abbrev pub AreMembers : Option Format → Naming → List Member → List Entry → Type 0
+AreMembers None n members all = AreNamed n members
+AreMembers (Some format) n members all = ShownDated n members all
+
+sights_named : (n : Naming) (gs : List Sight) → HavePaths n (map (λ (g : Sight). g.spot) gs) → AreNamed n (flat_map member_of gs)
+sights_named n [] h = All-nil (λ (m : Member). IsPlaceOf n m.place m.path)
+sights_named n (g ∷ gs) h = All-append (λ (m : Member). IsPlaceOf n m.place m.path) (seen_at g.spot g.seen) (flat_map member_of gs)
+    (one g.seen) (sights_named n gs (All-tail (λ (s : Spot). IsMemberAt n s.place s.path) g.spot (map (λ (g : Sight). g.spot) gs) h))
+  where
+    one : (o : Option Seen) → AreNamed n (seen_at g.spot o)
+    one None = All-nil (λ (m : Member). IsPlaceOf n m.place m.path)
+    one (Some seen) = All-cons (λ (m : Member). IsPlaceOf n m.place m.path) _ [] (All-head (λ (s : Spot). IsMemberAt n s.place s.path) g.spot (map (λ (g : Sight). g.spot) gs) h) (All-nil (λ (m : Member). IsPlaceOf n m.place m.path))
+
+members_named : (n : Naming) (names : List (List ℕ)) (members : List Member) (ts : List Entry) → StandsAmong n names members ts → AreNamed n members
+members_named n names members ts s = named_sorted n s.shown members s.each
+    (subst (AreNamed n) (sym s.looks.members_are) (sights_named n s.looks.sights (subst (HavePaths n) (sym s.looks.each) (spots_named n names s.spots s.spots_are))))
 
 -- ---- part files
 
@@ -78,16 +114,20 @@ file_part : (path : Path) (o : Option Seen) → IsFile o → IsIn path (part_see
 file_part path None f = absurd f
 file_part path (Some seen) f = subst (λ (k : Kind). IsIn path (part_if_file path k)) (sym f) (inl refl)
 
+-- a look at the path saw no file
+abbrev pub SawNoFile : Path → List Entry → Type 0
+SawNoFile x ts = (o : Option Seen) × (IsFile o → ⊥) × IsIn (entry.Look x o) ts
+
 -- The directory was listed; a part file of a member that isn't among these has no name there, or a look at it saw no file.
 pub record WereSought (n : Naming) (parts : List Path) (all : List Entry) : Type 0 where
   pub listed : List (List ℕ)
   pub list : IsIn (entry.List n.dir listed) all
-  pub others : (x : Path) → IsMembersPart n x → (IsIn x parts → ⊥) → ((name : List ℕ) → Contains listed name → x ≡ joined n.dir name → ⊥) ⊎ ((o : Option Seen) × (IsFile o → ⊥) × IsIn (entry.Look x o) all)
+  pub others : (x : Path) → IsMembersPart n x → (IsIn x parts → ⊥) → IsUnlisted n.dir listed x ⊎ SawNoFile x all
 
 parts_sought : (all : List Entry) (n : Naming) (names listed : List (List ℕ)) (parts : List Path) (ts : List Entry) → ((e : Entry) → IsIn e ts → IsIn e all) → IsPermutation listed names → IsIn (entry.List n.dir listed) all → PartsAmong n names parts ts → WereSought n parts all
 parts_sought all n names listed parts ts in_all same list p = record { listed = listed; list = list; others = others }
   where
-    others : (x : Path) → IsMembersPart n x → (IsIn x parts → ⊥) → ((name : List ℕ) → Contains listed name → x ≡ joined n.dir name → ⊥) ⊎ ((o : Option Seen) × (IsFile o → ⊥) × IsIn (entry.Look x o) all)
+    others : (x : Path) → IsMembersPart n x → (IsIn x parts → ⊥) → IsUnlisted n.dir listed x ⊎ SawNoFile x all
     others x part out = ⊎_elim
         (λ s. inr (
           s.0.seen,
@@ -105,36 +145,51 @@ pub record IsMissing (n : Naming) (stand : Stand) (all : List Entry) : Type 0 wh
   pub parts : stand.parts ≡ []
   pub look : IsIn (entry.Look n.dir None) all
 
--- by whether it is there
-abbrev pub WasSought : Naming → Stand → List Entry → Type 0
-WasSought n stand all = (stand.there ≡ true → WereSought n stand.parts all) × (stand.there ≡ false → IsMissing n stand all)
+-- It was listed, and the members and their part files are those that were seen.
+pub record AreThose (d : Option Format) (n : Naming) (stand : Stand) (all : List Entry) : Type 0 where
+  pub members : AreMembers d n stand.members all
+  pub parts : WereSought n stand.parts all
 
--- whatever was seen of its members, of which none stands where the directory isn't there
-sought_among : (all : List Entry) (n : Naming) (l : Listing) (stand : Stand) (M : Bool → List Entry → Type 0) (ts : List Entry) → ((us : List Entry) → M false us → stand.members ≡ []) → ((e : Entry) → IsIn e ts → IsIn e all) → TellsOf all l.there n.dir l.names → stand.there ≡ l.there
-    → Then (M l.there) (ShowsParts n l.there l.names stand.parts) ts → WasSought n stand all
-sought_among all n l stand M ts none in_all tells there h = go l.there there tells h.first h.second
+-- by whether it is there
+abbrev BySight : Option Format → Naming → Stand → List Entry → Type 0
+BySight d n stand all = (stand.there ≡ true → AreThose d n stand all) × (stand.there ≡ false → IsMissing n stand all)
+
+abbrev pub WasSought : Naming → Stand → List Entry → Type 0
+WasSought n stand all = BySight n.dated n stand all
+
+-- whatever the looks at members show, of which none stands where the directory isn't there
+sought_among : (all : List Entry) (n : Naming) (l : Listing) (stand : Stand) (d : Option Format) (M : Bool → List Entry → Type 0) (ts : List Entry) → ((us : List Entry) → M false us → stand.members ≡ [])
+    → ((us : List Entry) → ((e : Entry) → IsIn e us → IsIn e all) → IsTold all n.dir true l.parent l.names → M true us → AreMembers d n stand.members all)
+    → ((e : Entry) → IsIn e ts → IsIn e all) → IsTold all n.dir l.there l.parent l.names → stand.there ≡ l.there → Then (M l.there) (ShowsParts n l.there l.names stand.parts) ts → BySight d n stand all
+sought_among all n l stand d M ts none some in_all told there h = go l.there there told h.first h.second
   where
+    in_members : (e : Entry) → IsIn e h.front → IsIn e all
+    in_members e i = in_all e (subst (IsIn e) (sym h.joined) (in_front e h.front h.back i))
+
     in_parts : (e : Entry) → IsIn e h.back → IsIn e all
     in_parts e i = in_all e (subst (IsIn e) (sym h.joined) (in_back e h.front h.back i))
 
-    go : (b : Bool) → stand.there ≡ b → TellsOf all b n.dir l.names → M b h.front → ShowsParts n b l.names stand.parts h.back → WasSought n stand all
-    go true is t m p = ((λ yes. parts_sought all n l.names t.0 stand.parts h.back in_parts t.1 t.2 p), λ no. absurd (cc))
-    go false is t m p = ((λ yes. absurd (cc)), λ no. record { members = none h.front m; parts = p.0; look = t })
+    go : (b : Bool) → stand.there ≡ b → IsTold all n.dir b l.parent l.names → M b h.front → ShowsParts n b l.names stand.parts h.back → BySight d n stand all
+    go true is t m p =
+        let list = list_told all n.dir l.parent l.names t in
+        ((λ yes. record { members = some h.front in_members t m; parts = parts_sought all n l.names list.0 stand.parts h.back in_parts list.1 list.2 p }), λ no. absurd (cc))
+    go false is t m p = ((λ yes. absurd (cc)), λ no. record { members = none h.front m; parts = p.0; look = missing_told all n.dir l.parent l.names t })
 
--- of a numbered family and of a dated one alike
-sought_in : (all : List Entry) (n : Naming) (l : Listing) (stand : Stand) (ts : List Entry) → ((e : Entry) → IsIn e ts → IsIn e all) → TellsOf all l.there n.dir l.names → (d : Option Format) → ShowsBy d n l stand ts → WasSought n stand all
-sought_in all n l stand ts in_all tells None h = sought_among all n l stand (λ b. ShowsMembers n b l.names stand.members) ts (λ us m. m.0) in_all tells h.0 h.2
-sought_in all n l stand ts in_all tells (Some format) h = sought_among all n l stand (λ b. ShowsDays n b l.names stand.members) ts (λ us m. m.0) in_all tells h.0 h.2
+-- of a numbered family and of a dated one
+sought_in : (all : List Entry) (n : Naming) (l : Listing) (stand : Stand) (ts : List Entry) → ((e : Entry) → IsIn e ts → IsIn e all) → IsTold all n.dir l.there l.parent l.names → (d : Option Format) → ShowsBy d n l stand ts → BySight d n stand all
+sought_in all n l stand ts in_all told None h = sought_among all n l stand None (λ b. ShowsMembers n b l.names stand.members) ts (λ us m. m.0) (λ us in_us t m. members_named n l.names stand.members us m) in_all told h.0 h.2
+sought_in all n l stand ts in_all told (Some format) h = sought_among all n l stand (Some format) (λ b. ShowsDays n b l.names stand.members) ts (λ us m. m.0)
+    (λ us in_us t m. stand_shown n l.parent l.names stand.members t.ts us all t.in_all in_us t.shown m) in_all told h.0 h.2
 
 family_sought : (all : List Entry) (known : List Listing) (n : Naming) (after : List Listing) (stand : Stand) (s : FamilySight) (ts : List Entry) → s ≡ Stood stand → ((e : Entry) → IsIn e ts → IsIn e all) → AreTold all known → AreTold all after
     → ShowsFamily known n after s ts → WasSought n stand all
 family_sought all known n after stand s ts is in_all told next f = go (subst (λ (x : FamilySight). ShowsFamily known n after x ts) is f)
   where
     go : ShowsFamily known n after (Stood stand) ts → WasSought n stand all
-    go (behind_listing l was same m) = sought_in all n l stand ts in_all (subst (λ (x : Path). TellsOf all l.there x l.names) was.same (told l (in_list known was.place l was.there))) n.dated m
+    go (behind_listing l was same m) = sought_in all n l stand ts in_all (subst (λ (x : Path). IsTold all x l.there l.parent l.names) was.same (told l (in_list known was.place l was.there))) n.dated m
     go (with_listing l new e same t) =
         sought_in all n l stand t.back (λ x i. in_all x (subst (IsIn x) (sym t.joined) (in_back x t.front t.back i)))
-        (subst (λ (x : Path). TellsOf all l.there x l.names) e (next l (subst (IsIn l) (sym same) (in_back l known (l ∷ []) (inl refl))))) n.dated t.second
+        (subst (λ (x : Path). IsTold all x l.there l.parent l.names) e (next l (subst (IsIn l) (sym same) (in_back l known (l ∷ []) (inl refl))))) n.dated t.second
     go (not_listed why new same e h) = absurd (cc)
 
 families_sought : (all : List Entry) (known : List Listing) (fs : List FoundLog) (after : List Listing) (ss : List FamilySight) (ts : List Entry) → ((e : Entry) → IsIn e ts → IsIn e all) → AreTold all known → ShowFamilies known fs after ss ts

@@ -1,5 +1,5 @@
 -- Looks that are true of the disk: what stood at the first moment is among what they saw, and nothing else is but what came up to the second.
-use Rattle.std.specs.Prelude.{◌≡◌, ◌≢◌, ℕ, false, List, [], ◌∷◌, Some, None, Ok, slice_get, Contains}
+use Rattle.std.specs.Prelude.{◌≡◌, ◌≢◌, ℕ, false, List, [], ◌∷◌, Some, None, Ok, slice_get}
 use Rattle.lr_rules.specs.declared.fault.Fault.{Fault}
 use Rattle.lr_rules.specs.declared.path.Path.{Path}
 use Rattle.lr_rules.specs.declared.rule.Naming.{Naming}
@@ -12,17 +12,15 @@ use Rattle.lr_host.specs.declared.thing.Thing.TheVariants as thing
 use Rattle.lr_host.specs.Fits.{IsFileAt}
 use Rattle.lr_host.specs.Lists.{IsIn}
 use Rattle.lr_host.specs.World.{Past, world, names}
+use Rattle.lr_family.specs.declared.stand.Member.{Member}
 use Rattle.lr_family.specs.declared.stand.Stand.{Stand}
-use Rattle.lr_family.specs.Parts.{IsMembersPart}
-use Rattle.lr_family.specs.Spots.{path_at}
+use Rattle.lr_family.specs.Parts.{IsMember, IsMembersPart}
 use Rattle.lr_glob.specs.declared.found.Found.{Found as Match}
 use Rattle.lr_sought.specs.Finds.{FindsFile, StoodOrCame}
-use Rattle.lr_chain.specs.Rotation.{places_of}
 use Rattle.lr_plan.specs.declared.looks.SetLooks.{SetLooks}
 use Rattle.lr_looks.specs.Asked.{Word, asked_by}
 use Rattle.lr_looks.specs.Families.{LookedLog}
 use Rattle.lr_looks.specs.Shown.{ShowsLooks}
-use Rattle.lr_rotations.specs.Members.{HasName}
 
 -- What a word came to.
 pub record IsTrueWord (w : Word) (matches : List Match) (before behind : Past) : Type 0 where
@@ -33,13 +31,17 @@ pub record IsTrueWord (w : Word) (matches : List Match) (before behind : Past) :
   -- each file among them stood, or a writer was attached to its path since
   pub came : (m : Match) → IsIn m matches → m.seen.kind ≡ kind.File → StoodOrCame m.path before behind
 
--- What stands of a family with numbers.
+-- One of the members has the path.
+abbrev pub HasMember : List Member → Path → Type 0
+HasMember members x = (m : Member) × IsIn m members × (m.path ≡ x)
+
+-- What stands of a family.
 pub record IsTrueFamily (n : Naming) (stand : Stand) (before behind : Past) : Type 0 where
-  -- each member that stood, and each part file of a member
-  pub members : (place : ℕ) → HasName n place → IsFileAt (names (world before)) (path_at n place) → Contains (places_of stand.members) place
+  -- each member that stood, numbered or dated, and each part file of a member
+  pub members : (x : Path) → IsMember n x → IsFileAt (names (world before)) x → HasMember stand.members x
   pub parts : (x : Path) → IsMembersPart n x → IsFileAt (names (world before)) x → IsIn x stand.parts
   -- each of them stood, or a writer was attached to its path since
-  pub member_came : (place : ℕ) → HasName n place → Contains (places_of stand.members) place → StoodOrCame (path_at n place) before behind
+  pub member_came : (m : Member) → IsIn m stand.members → StoodOrCame m.path before behind
   pub part_came : (x : Path) → IsIn x stand.parts → StoodOrCame x before behind
 
 -- So are the looks of a run: at each word that no fault passed over, and at the family of each log that none did.

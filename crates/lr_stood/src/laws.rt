@@ -3,7 +3,6 @@ ghost use Rattle.std.specs.Prelude.{◌≡◌, List, ◌++◌, reverse};
 ghost use Rattle.lr_rules.specs.declared.fault.Fault.{Fault};
 ghost use Rattle.lr_rules.specs.declared.path.Path.{Path};
 ghost use Rattle.lr_rules.specs.declared.rules.Rules.{Rules};
-ghost use Rattle.lr_fields.specs.Built.{AreBuiltRules};
 ghost use Rattle.lr_host.specs.declared.entry.Entry.{Entry};
 ghost use Rattle.lr_host.specs.Opening.{IsJournal};
 ghost use Rattle.lr_host.specs.Quiet.{AreQuiet};
@@ -13,12 +12,12 @@ ghost use Rattle.lr_plan.specs.declared.looks.SetLooks.{SetLooks};
 ghost use Rattle.lr_looks.specs.Shown.{ShowsLooks};
 ghost use Rattle.lr_stood.specs.True.{AreTrue};
 
-/// The looks of a run over rules that a configuration gives today, behind entries that change nothing, are true between the
-/// moment before those and the one behind the looks, whatever writers did meanwhile: each regular file that a word gives and
-/// that stood was found, unless a fault passed the word over; so was each member of a log that is kept, and each part file of
-/// a member; and nothing else but what a writer was attached to meanwhile.
+/// The looks of a run, behind entries that change nothing, are true between the moment before those and the one behind the
+/// looks, whatever writers did meanwhile: each regular file that a word gives and that stood was found, unless a fault passed
+/// the word over; so was each member, numbered or dated, of a log that is kept, and each part file of a member; and nothing
+/// else but what a writer was attached to meanwhile.
 pub fn looks_are_true()
-    ensures { (reserved : List Path) (rules : Rules) (sets : List SetLooks) (faults : List Fault) (front ts es : List Entry) (p q : Past) → AreBuiltRules rules.sets
+    ensures { (reserved : List Path) (rules : Rules) (sets : List SetLooks) (faults : List Fault) (front ts es : List Entry) (p q : Past)
         → (s : ShowsLooks reserved rules.sets sets faults ts) → IsJournal p → Made p es q → reverse es ≡ front ++ ts → AreQuiet front
         → AreTrue rules.sets sets faults ts s p q }
 {}
