@@ -1,12 +1,13 @@
 pub mod Called
 pub mod Clocked
+mod Copied
 mod Fulfilling
 pub mod OutAside
 pub mod Reached
 pub mod Reading
 pub mod Rotating
+pub mod Smooth
 pub mod Still
 mod Tried
-pub mod Zoned
 mod Whole
-mod Copied
+pub mod Zoned

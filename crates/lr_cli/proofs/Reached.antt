@@ -1,5 +1,5 @@
 -- Whether a call came to its plan: what its entries show of that, and what its report tells.
-use Rattle.std.proofs.Common.{◌≡◌, ◌⊎◌, inl, inr, ⊎_elim, ℕ, Bool, false, List, [], ◌∷◌, ◌++◌, Option, reverse, sym, ap, ◌∙◌, subst, append_assoc}
+use Rattle.std.proofs.Common.{◌≡◌, ◌⊎◌, inl, inr, ⊎_elim, ℕ, Bool, false, List, [], ◌∷◌, ◌++◌, Option, Some, reverse, sym, ap, ◌∙◌, subst, append_assoc}
 use Rattle.std.specs.Prelude.{ℤ}
 use Rattle.std.specs.List.{AllByRecursion as Every}
 use Rattle.std.proofs.lemmas.List.Elements.{recursion_from_All}
@@ -28,10 +28,11 @@ use Rattle.lr_plan.specs.Asked.{asking}
 use Rattle.lr_plan.specs.declared.planned.Plan.{Plan as RunPlan}
 use Rattle.lr_run.specs.Answers.{Leaves}
 use Rattle.lr_run.specs.Runs.{Runs}
+use Rattle.lr_run.proofs.Taken.{IsOfNew, NoneOfNew}
 use Rattle.lr_reached.specs.Ending.{EndsRun, NoneEnds}
 use Rattle.lr_reached.specs.Looked.{behind_start, SawState}
 use Rattle.lr_reached.proofs.Ends.{none_both, last_ends, last_in}
-use Rattle.lr_reached.proofs.Reached.{unseen, run_reached, reached_saw, reached_none, in_order}
+use Rattle.lr_reached.proofs.Reached.{unseen, came_to, reached_saw, reached_none, in_order}
 use Rattle.lr_reached.proofs.Standing.{cut_at}
 use Rattle.lr_reached.proofs.Start.{behind_quiet, none_behind}
 use Rattle.lr_cli.specs.declared.clock.ClockStop.TheVariants as stop
@@ -41,6 +42,7 @@ use Rattle.lr_cli.specs.declared.outcome.Report.{Report}
 use Rattle.lr_command.specs.declared.request.Request.{Request}
 use Rattle.lr_cli.specs.Answer.{Reports, AnswersAt, no_clock, no_memory, called, Answered, not_read, read}
 use Rattle.lr_cli.specs.Clock.{ShowsClock, LacksClock, out_of_range, no_text, refused}
+use Rattle.lr_cli.specs.Fulfilled.{plan_by}
 use Rattle.lr_cli.specs.Reached.{ReachesPlan, IsOfZone, MayEndCall, TellsOfPlan}
 use Rattle.lr_cli.specs.Asked.{AskFor}
 use Rattle.lr_cli.specs.Zone.{LacksText, not_file, too_big, look_failed as text_look_failed, read_failed as text_read_failed}
@@ -50,7 +52,17 @@ use Rattle.lr_cli.proofs.Still.{clock_quiet, stop_quiet, same_Some}
 pub built_means : (confs : List Path) (m : Meaning) (ts : List Entry) → Reads confs m ts → AreBuiltRules m.rules
 built_means confs m ts r = subst (λ (x : Meaning). AreBuiltRules x.rules) (sym r.means) (all_built (at_visits (begun confs) r.visits).lines)
 
--- what it tells ends no run
+-- what it tells is of no new file
+no_new : (f : Fault) → IsConfOrCall f → IsOfNew f → ⊥
+no_new (fault.Taken path) k n = k
+no_new (fault.TooLong path) k n = k
+no_new _ k n = n
+
+pub conf_no_new : (fs : List Fault) → Every IsConfOrCall fs → NoneOfNew fs
+conf_no_new [] h f n i = i
+conf_no_new (g ∷ fs) h f n i = ⊎_elim (λ same. no_new g h.0 (subst IsOfNew (sym same) n)) (λ later. conf_no_new fs h.1 f n later) i
+
+-- it ends no run
 conf_none : (state : Path) (fs : List Fault) → Every IsConfOrCall fs → NoneEnds state fs
 conf_none state [] h = tt
 conf_none state (fault.Conf file line kind ∷ fs) h = ((λ e. e), conf_none state fs h.1)
@@ -58,6 +70,10 @@ conf_none state (fault.Call call.Look path ∷ fs) h = ((λ e. e), conf_none sta
 conf_none state (fault.Call call.List path ∷ fs) h = ((λ e. e), conf_none state fs h.1)
 conf_none state (fault.Call call.Read path ∷ fs) h = ((λ e. e), conf_none state fs h.1)
 conf_none state (_ ∷ fs) h = absurd h.0
+
+-- and none of it is of a new file
+pub means_no_new : (confs : List Path) (m : Meaning) (ts : List Entry) → Reads confs m ts → NoneOfNew m.faults
+means_no_new confs m ts r = subst (λ (x : Meaning). NoneOfNew x.faults) (sym r.means) (conf_no_new (visits_mean confs r.visits).faults (recursion_from_All IsConfOrCall (visits_mean confs r.visits).faults (only_those confs r.visits)))
 
 pub means_none : (state : Path) (confs : List Path) (m : Meaning) (ts : List Entry) → Reads confs m ts → NoneEnds state m.faults
 means_none state confs m ts r = subst (λ (x : Meaning). NoneEnds state x.faults) (sym r.means) (conf_none state (visits_mean confs r.visits).faults (recursion_from_All IsConfOrCall (visits_mean confs r.visits).faults (only_those confs r.visits)))
@@ -104,32 +120,39 @@ module _ (request : Request) (zone : Zone) (seconds : ℤ) (report : Report) (ts
   abbrev Plan : Type 0
   Plan = ReachesPlan request zone seconds report ts
 
+  -- the plan that follows from what the entries show is the one that the run came to
+  abbrev pub ComesTo : Option RunPlan → Type 0
+  ComesTo plan = (p : Plan) × (plan ≡ Some (plan_by request zone seconds report ts p))
+
   -- behind the clock
-  reports_reached : (plan : Option RunPlan) → request.debug ≡ false → (clock : Clock) → Then (ShowsClock zone seconds clock) (Reports request clock.now plan report.notices report.faults) ts → Plan ⊎ Unreached request.state zone report.faults (behind_start ts)
+  reports_reached : (plan : Option RunPlan) → request.debug ≡ false → (clock : Clock) → Then (ShowsClock zone seconds clock) (Reports request clock.now plan report.notices report.faults) ts → ComesTo plan ⊎ Unreached request.state zone report.faults (behind_start ts)
   reports_reached plan dry clock t = ⊎_elim
-      (λ i. inl (record {
-        clock = clock;
-        meaning = r.meaning;
-        rules = r.rules;
-        rules_are = r.rules_are;
-        notices_are = r.notices_are;
-        own = r.own;
-        faults_are = r.faults_are;
-        of_clock = t.front;
-        reads = r.entries.front;
-        acts = r.entries.back;
-        joined = t.joined ∙ ap (λ xs. t.front ++ xs) r.entries.joined;
-        shown = t.first;
-        read = r.entries.first;
-        run = i;
-      }))
+      (λ i. inl (
+        record {
+          clock = clock;
+          meaning = r.meaning;
+          rules = r.rules;
+          rules_are = r.rules_are;
+          notices_are = r.notices_are;
+          own = r.own;
+          faults_are = r.faults_are;
+          of_clock = t.front;
+          reads = r.entries.front;
+          acts = r.entries.back;
+          joined = t.joined ∙ ap (λ xs. t.front ++ xs) r.entries.joined;
+          shown = t.first;
+          read = r.entries.first;
+          run = i.0;
+        },
+        i.1,
+      ))
       (λ u. inr (record {
         before = r.meaning.faults ++ u.before;
         last = u.last;
         faults_are = r.faults_are ∙ ap (λ fs. r.meaning.faults ++ fs) u.own_are ∙ sym (append_assoc r.meaning.faults u.before (u.last ∷ []));
         ends = ⊎_elim (λ ends. inl ends) (λ may. inr (inr may.1, λ s. may.2 (subst (SawState request.state) behind s))) u.ends;
       }))
-      (run_reached request.state (asking request.force request.mailer) clock.now r.rules plan r.own r.entries.back runs)
+      (came_to request.state (asking request.force request.mailer) clock.now r.rules plan r.own r.entries.back runs)
     where
       r : Reports request clock.now plan report.notices report.faults t.back
       r = t.second
@@ -141,15 +164,18 @@ module _ (request : Request) (zone : Zone) (seconds : ℤ) (report : Report) (ts
       behind = ap behind_start t.joined ∙ behind_quiet t.front t.back (clock_quiet zone seconds clock t.front t.first)
           ∙ ap behind_start r.entries.joined ∙ behind_quiet r.entries.front r.entries.back (confs_quiet request.confs r.meaning r.entries.front r.entries.first)
 
-  at_reached : (plan : Option RunPlan) → request.debug ≡ false → AnswersAt request zone seconds plan (Done report) ts → Plan ⊎ Unreached request.state zone report.faults (behind_start ts)
+  at_reached : (plan : Option RunPlan) → request.debug ≡ false → AnswersAt request zone seconds plan (Done report) ts → ComesTo plan ⊎ Unreached request.state zone report.faults (behind_start ts)
   at_reached plan dry (no_clock f lost e l) = inr (clock_unreached request.state zone seconds f report ts e l)
   at_reached plan dry (no_memory lost e l) = absurd (cc)
   at_reached plan dry (called clock t) = reports_reached plan dry clock t
 
+  pub call_came : (here : Path) (words : List (List ℕ)) (plan : Option RunPlan) → AskFor here words request → request.debug ≡ false → Answered here words zone seconds plan (Done report) ts → ComesTo plan ⊎ Unreached request.state zone report.faults (behind_start ts)
+  call_came here words plan asks dry (not_read lost (inl e) none) = absurd (cc)
+  call_came here words plan asks dry (not_read lost (inr e) none) = absurd (cc)
+  call_came here words plan asks dry (read other asked a) = at_reached plan dry (subst (λ (r : Request). AnswersAt r zone seconds plan (Done report) ts) (same_Some other request (sym asked ∙ asks)) a)
+
   pub call_reached : (here : Path) (words : List (List ℕ)) (plan : Option RunPlan) → AskFor here words request → request.debug ≡ false → Answered here words zone seconds plan (Done report) ts → Plan ⊎ Unreached request.state zone report.faults (behind_start ts)
-  call_reached here words plan asks dry (not_read lost (inl e) none) = absurd (cc)
-  call_reached here words plan asks dry (not_read lost (inr e) none) = absurd (cc)
-  call_reached here words plan asks dry (read other asked a) = at_reached plan dry (subst (λ (r : Request). AnswersAt r zone seconds plan (Done report) ts) (same_Some other request (sym asked ∙ asks)) a)
+  call_reached here words plan asks dry a = ⊎_elim (λ p. inl p.0) (λ u. inr u) (call_came here words plan asks dry a)
 
   -- what comes before the run starts none
   pub plan_quiet : (p : Plan) → AreQuiet (p.of_clock ++ p.reads)

@@ -43,12 +43,12 @@ may_call : (state : Path) (zone : Zone) (f : Fault) → MayEndCall state zone f 
 may_call state zone f h = ⊎_elim (λ z. zone_call zone f z) (λ s. ⊎_elim (λ l. is_call f _ l.2 refl) (λ e. is_call f _ e refl) s) h
 
 -- where nothing was stopped, there is no such last fault
-nothing_stopped : (state : Path) (zone : Zone) (faults : List Fault) (us : List Entry) → Unreached state zone faults us → StopNothing state faults → ⊥
-nothing_stopped state zone faults us u none = ⊎_elim
-    (λ ends. last_ends state u.before u.last (subst (NoneEnds state) u.faults_are none.none_ends) ends)
+pub nothing_stopped : (state : Path) (zone : Zone) (faults : List Fault) (us : List Entry) → Unreached state zone faults us → NoneEnds state faults → calls_in faults ≡ 0 → ⊥
+nothing_stopped state zone faults us u none_ends no_call = ⊎_elim
+    (λ ends. last_ends state u.before u.last (subst (NoneEnds state) u.faults_are none_ends) ends)
     (λ may. (let one : call_in u.last ≡ 1 = may_call state zone u.last may.0 in
     let all : calls_in (u.before ++ u.last ∷ []) ≡ calls_in u.before + calls_in (u.last ∷ []) = calls_on u.before (u.last ∷ []) in
-    let zero : calls_in (u.before ++ u.last ∷ []) ≡ 0 = sym (ap calls_in u.faults_are) ∙ none.no_call in
+    let zero : calls_in (u.before ++ u.last ∷ []) ≡ 0 = sym (ap calls_in u.faults_are) ∙ no_call in
     absurd (omega (arith, one, all, zero))))
     u.ends
 
@@ -65,7 +65,7 @@ own_copies (x ∷ xs) ys h = own_copies xs ys h.1
 -- and then the call came to its plan
 pub came_to_plan : (here : Path) (words : List (List ℕ)) (request : Request) (zone : Zone) (seconds : ℤ) (plan : Option Plan) (report : Report) (ts : List Entry) → AskFor here words request → request.debug ≡ false → Answered here words zone seconds plan (Done report) ts → StopNothing request.state report.faults
     → ReachesPlan request zone seconds report ts
-came_to_plan here words request zone seconds plan report ts asks dry a none = ⊎_elim (λ p. p) (λ u. absurd (nothing_stopped request.state zone report.faults _ u none)) (call_reached request zone seconds report ts here words plan asks dry a)
+came_to_plan here words request zone seconds plan report ts asks dry a none = ⊎_elim (λ p. p) (λ u. absurd (nothing_stopped request.state zone report.faults _ u none.none_ends none.no_call)) (call_reached request zone seconds report ts here words plan asks dry a)
 
 plan_rotates : (request : Request) (zone : Zone) (seconds : ℤ) (report : Report) (j k : Journal) (es : List Entry) → Made (past j) es (past k) → StopNothing request.state report.faults → IsJournal (past j) → ReachesPlan request zone seconds report (reverse es) → RotatesAll request zone seconds report j k
 plan_rotates request zone seconds report j k es made none journal p = record {

@@ -9,6 +9,7 @@ pub mod Reached
 pub mod Rotated
 pub mod Says
 pub mod Settled
+pub mod Smooth
 pub mod State
 pub mod Status
 pub mod Still

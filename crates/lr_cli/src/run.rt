@@ -1,5 +1,5 @@
 // One run over the configuration of some paths.
-ghost use Rattle.std.specs.Prelude.{◌≡◌, ◌≤◌, ◌+◌, [], None, true, Err, IfOk, vec_len, vec_capacity};
+ghost use Rattle.std.specs.Prelude.{◌≡◌, ◌≤◌, ◌+◌, [], None, true, false, Err, IfOk, vec_len, vec_capacity};
 ghost use Rattle.lr_host.specs.Opening.{IsJournal};
 ghost use Rattle.lr_host.specs.Told.{Left, Onward, Rose, WhereTold};
 ghost use Rattle.lr_host.specs.Counted.{AreCounted};
@@ -9,6 +9,7 @@ ghost use Rattle.lr_cli.specs.Answer.{Answers, AnswersAt};
 ghost use Rattle.lr_cli.specs.Clock.{IsClocked};
 ghost use Rattle.lr_cli.specs.Faults.{answer_of, clock_answer, plan_told};
 ghost use Rattle.lr_cli.specs.Settled.{AreSettingsOf};
+ghost use Rattle.lr_cli.specs.Smooth.{TellsTaken};
 
 use crate::clock::{ClockStop, clock_in};
 use crate::settings::settings_of;
@@ -35,6 +36,7 @@ pub fn run_confs<H: Host>(
     requires disk { WhereTold (H.told host.old) IsJournal }
     ensures told { Left (Answers request.now clock.entry.now.now (plan_told result) (answer_of result)) (H.told host.old) (H.told host.new) }
     ensures shape { Left IsWholeRun (H.told host.old) (H.told host.new) }
+    ensures taken { request.now.debug ≡ false → IfOk result (λ told. TellsTaken request.now.state told.plan told.faults.items (H.told host.old) (H.told host.new)) }
     ensures counted { IfOk result (λ told. AreCounted told.faults.items (H.counts host.old) (H.counts host.new)) }
     ensures room { IfOk result (λ told. vec_len told.faults + 1 ≤ vec_capacity told.faults) }
     ensures held { result ≡ Err RunStop.Held → Rose (H.counts host.old).held (H.counts host.new).held }
@@ -69,6 +71,7 @@ pub fn run_by<H: Host>(
     requires fits { can_be_state request.now.state ≡ true }
     ensures told { Left (Answers request.now clock.entry.now.now (plan_told result) (answer_of result)) (H.told host.old) (H.told host.new) }
     ensures shape { Left IsWholeRun (H.told host.old) (H.told host.new) }
+    ensures taken { request.now.debug ≡ false → IfOk result (λ told. TellsTaken request.now.state told.plan told.faults.items (H.told host.old) (H.told host.new)) }
     ensures counted { IfOk result (λ told. AreCounted told.faults.items (H.counts host.old) (H.counts host.new)) }
     ensures room { IfOk result (λ told. vec_len told.faults + 1 ≤ vec_capacity told.faults) }
     ensures held { result ≡ Err RunStop.Held → Rose (H.counts host.old).held (H.counts host.new).held }
@@ -115,6 +118,7 @@ pub fn run_at<H: Host>(
     ensures told { Left (AnswersAt request.now zone.now seconds (plan_told result) (answer_of result)) (H.told host.old) (H.told host.new) }
     ensures clock { IfOk result (λ told. IsClocked zone.now seconds told.notices told.faults.items) }
     ensures shape { Left IsWholeRun (H.told host.old) (H.told host.new) }
+    ensures taken { request.now.debug ≡ false → IfOk result (λ told. TellsTaken request.now.state told.plan told.faults.items (H.told host.old) (H.told host.new)) }
     ensures counted { IfOk result (λ told. AreCounted told.faults.items (H.counts host.old) (H.counts host.new)) }
     ensures room { IfOk result (λ told. vec_len told.faults + 1 ≤ vec_capacity told.faults) }
     ensures held { result ≡ Err RunStop.Held → Rose (H.counts host.old).held (H.counts host.new).held }

@@ -8,6 +8,8 @@ ghost use Rattle.lr_host.specs.Told.{Left, NoneFell, Rose, WhereTold};
 ghost use Rattle.lr_durable.specs.StateWhole.{KeepsWhole};
 ghost use Rattle.lr_host.specs.Safe.{KeepsSafe};
 ghost use Rattle.lr_run.specs.Dry.{AreSights};
+ghost use Rattle.lr_reached.specs.Ending.{NoneEnds};
+ghost use Rattle.lr_spared.specs.Smooth.{NoneRose};
 ghost use Rattle.lr_command.specs.declared.request.Request.{Request};
 ghost use Rattle.lr_cli.specs.declared.outcome.Report.{Report};
 ghost use Rattle.lr_cli.specs.Asked.{AskFor, AskForNone};
@@ -19,6 +21,7 @@ ghost use Rattle.lr_cli.specs.Printed.{without_out};
 ghost use Rattle.lr_cli.specs.Reached.{TellsOfPlan, TellsOfTry};
 ghost use Rattle.lr_cli.specs.Rotated.{RotatesAll};
 ghost use Rattle.lr_cli.specs.Says.{Says};
+ghost use Rattle.lr_cli.specs.Smooth.{IsSmoothCall};
 ghost use Rattle.lr_cli.specs.State.{IsNewText};
 ghost use Rattle.lr_cli.specs.Still.{WasShort};
 
@@ -55,6 +58,11 @@ pub fn logrotate<H: Host, K: Sink>(
     ensures fulfilled { (request : Request) (report : Report) (before after : Journal) → AskFor here.now words.now request → request.debug ≡ false → without_out result ≡ Outcome.Done report → FailNothing request.state report.faults
         → H.told host.old ≡ Some before → H.told host.new ≡ Some after → IsJournal (past before) → FulfillsPlan request zone.now now report before after }
 
+    // Where none of its faults ends a run, neither count of failures rose, and nothing was in its way, so that writers spared the
+    // files that it writes first, its faults tell of nothing that failed; so it did its plan.
+    ensures smooth { (request : Request) (report : Report) (before after : Journal) → AskFor here.now words.now request → request.debug ≡ false → without_out result ≡ Outcome.Done report → NoneEnds request.state report.faults → NoneRose (H.counts host.old) (H.counts host.new)
+        → H.told host.old ≡ Some before → H.told host.new ≡ Some after → IsJournal (past before) → IsSmoothCall request zone.now now report before after → FailNothing request.state report.faults }
+
     // A set that was safe in the journal before is safe in the journal after, where it is steady there: whatever failed, and
     // wherever the run stopped.
     ensures safe { KeepsSafe (H.told host.old) (H.told host.new) }
@@ -78,7 +86,7 @@ pub fn logrotate<H: Host, K: Sink>(
     ensures dry { (request : Request) → AskFor here.now words.now request → request.debug ≡ true → Left AreSights (H.told host.old) (H.told host.new) }
 
     // For want of memory nothing was changed and no program was started; or a run broke off amid its acts, where a program
-    // found none, which only comes where one of the rules has a script.
+    // found none, which only comes where one of the rules has a script or mails.
     ensures still { result ≡ Outcome.OutOfMemory → Left (WasShort here.now words.now zone.now now) (H.told host.old) (H.told host.new) }
 
     // Whether a call that isn't a dry run came to its plan, so that logs were looked at, decided and rotated by it, its report
@@ -90,7 +98,7 @@ pub fn logrotate<H: Host, K: Sink>(
     // Of a dry run the report tells it too, where no fault may be one of the zone or the state and of a log as well.
     ensures tried { (request : Request) (report : Report) → AskFor here.now words.now request → request.debug ≡ true → without_out result ≡ Outcome.Done report → Left (TellsOfTry request zone.now now report) (H.told host.old) (H.told host.new) }
 
-    // Where none ends a run, and none tells of a call that failed, of a script that ended badly, or of a copy that broke off,
+    // Where none ends a run, and none tells of a call that failed, of a program that ended badly, or of a copy that broke off,
     // each log that the plan renames was rotated, and the family of each that it copies was turned by the copy, file by file,
     // whatever else is told: of other logs that aren't there, say.
     ensures rotated { (request : Request) (report : Report) (before after : Journal) → AskFor here.now words.now request → request.debug ≡ false → without_out result ≡ Outcome.Done report → StopNothing request.state report.faults

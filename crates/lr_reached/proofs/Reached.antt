@@ -1,5 +1,5 @@
 -- A run reached its plan exactly where it saw its state and none of its faults ends a run.
-use Rattle.std.proofs.Common.{◌≡◌, ◌⊎◌, inl, inr, ⊎_elim, Bool, List, [], ◌∷◌, ◌++◌, Option, reverse, refl, sym, ap, ◌∙◌, subst}
+use Rattle.std.proofs.Common.{◌≡◌, ◌⊎◌, inl, inr, ⊎_elim, Bool, List, [], ◌∷◌, ◌++◌, Option, Some, reverse, refl, sym, ap, ◌∙◌, subst}
 use Rattle.std.specs.Prelude.{◌↔◌}
 use Rattle.std.proofs.lemmas.List.{reverse-reverse}
 use Rattle.lr_rules.specs.declared.civil.Moment.{Moment}
@@ -22,7 +22,7 @@ use Rattle.lr_plan.specs.Asked.{Asked}
 use Rattle.lr_plan.specs.Outcomes.{Maybe}
 use Rattle.lr_plan.specs.declared.planned.Plan.{Plan}
 use Rattle.lr_fields.specs.Built.{AreBuiltRules}
-use Rattle.lr_run.specs.Runs.{Inside, Worked, Works, not_known, too_big, worked, Runs, no_directory, not_seen, not_begun, began}
+use Rattle.lr_run.specs.Runs.{Inside, Worked, Works, not_known, too_big, worked, Runs, no_directory, not_seen, not_begun, began, plan_in}
 use Rattle.lr_reached.specs.Ending.{EndsRun, NoneEnds, MayEnd, SaysWhy}
 use Rattle.lr_reached.specs.Looked.{behind_start, SawState}
 use Rattle.lr_reached.specs.Reached.{IsReached}
@@ -58,10 +58,10 @@ before_end state us s = record { part = (s.part.0, look (in_append (entry.Look _
     read (inr (inl e)) = absurd (cc)
     read (inr (inr none)) = absurd none
 
-works_reached : (state : Path) (rules : List Rule) (now : Moment) (asked : Asked) (plan : Option Plan) (own : List Fault) (ts : List Entry) → Works state rules now asked plan own ts → Worked state rules now asked own ts ⊎ Unreached state own (ts ++ entry.Ends ∷ [])
+works_reached : (state : Path) (rules : List Rule) (now : Moment) (asked : Asked) (plan : Option Plan) (own : List Fault) (ts : List Entry) → Works state rules now asked plan own ts → ((w : Worked state rules now asked own ts) × (plan ≡ Some (plan_in state rules ts w.looked now asked))) ⊎ Unreached state own (ts ++ entry.Ends ∷ [])
 works_reached state rules now asked plan own ts (not_known sights f k lost is s) = inr (record { before = []; last = f; own_are = is; ends = ⊎_elim (λ ends. inl ends) (λ may. inr (refl, may.0, λ saw. may.1 (before_end state ts saw))) (state_why state 65_536 sights f ts k s) })
 works_reached state rules now asked plan own ts (too_big l big lost is nothing) = inr (record { before = l.of_looks; last = fault.State 0 kind.TooBig; own_are = is; ends = inl tt })
-works_reached state rules now asked plan own ts (worked w is) = inl w
+works_reached state rules now asked plan own ts (worked w is) = inl (w, is)
 
 -- one that worked saw the state
 worked_saw : (state : Path) (rules : List Rule) (now : Moment) (asked : Asked) (own : List Fault) (ts : List Entry) → Worked state rules now asked own ts → SawState state ts
@@ -79,14 +79,19 @@ not_begun_behind : (state : Path) (now : Moment) (rules : Rules) (ts : List Entr
 not_begun_behind state now rules ts (inl e) = ap behind_start e
 not_begun_behind state now rules ts (inr e) = ap behind_start e
 
-pub run_reached : (state : Path) (asked : Asked) (now : Moment) (rules : Rules) (plan : Option Plan) (own : List Fault) (ts : List Entry) → Runs state asked now rules plan own ts → IsReached state asked now rules own ts ⊎ Unreached state own (behind_start ts)
-run_reached state asked now rules plan own ts (no_directory lost is s) = inr (record { before = []; last = fault.NoDir (parent_of state); own_are = is; ends = inl refl })
-run_reached state asked now rules plan own ts (not_seen lost is none) = inr (record { before = []; last = fault.Call call.Look (parent_of state); own_are = is; ends = inr (refl, inl (parent_of state, inl refl, refl), λ saw. unseen state (behind_start ts) (ap behind_start none) saw) })
-run_reached state asked now rules plan own ts (not_begun lost is t) = inr (record { before = []; last = fault.Call call.Begin state; own_are = is; ends = inl tt })
-run_reached state asked now rules plan own ts (began i) = ⊎_elim
-    (λ w. inl (record { before = i.before; between = i.between; entries = i.entries; directory = i.directory; within = w }))
+-- It reached its plan, which is the one that it came to; or its last fault is why it didn't.
+pub came_to : (state : Path) (asked : Asked) (now : Moment) (rules : Rules) (plan : Option Plan) (own : List Fault) (ts : List Entry) → Runs state asked now rules plan own ts
+    → ((i : IsReached state asked now rules own ts) × (plan ≡ Some (plan_in state rules.sets i.between i.within.looked now asked))) ⊎ Unreached state own (behind_start ts)
+came_to state asked now rules plan own ts (no_directory lost is s) = inr (record { before = []; last = fault.NoDir (parent_of state); own_are = is; ends = inl refl })
+came_to state asked now rules plan own ts (not_seen lost is none) = inr (record { before = []; last = fault.Call call.Look (parent_of state); own_are = is; ends = inr (refl, inl (parent_of state, inl refl, refl), λ saw. unseen state (behind_start ts) (ap behind_start none) saw) })
+came_to state asked now rules plan own ts (not_begun lost is t) = inr (record { before = []; last = fault.Call call.Begin state; own_are = is; ends = inl tt })
+came_to state asked now rules plan own ts (began i) = ⊎_elim
+    (λ w. inl (record { before = i.before; between = i.between; entries = i.entries; directory = i.directory; within = w.0 }, w.1))
     (λ u. inr (subst (Unreached state own) (sym (begun_behind state now rules _ ts i)) u))
     (works_reached state rules.sets now asked plan own i.between i.within)
+
+pub run_reached : (state : Path) (asked : Asked) (now : Moment) (rules : Rules) (plan : Option Plan) (own : List Fault) (ts : List Entry) → Runs state asked now rules plan own ts → IsReached state asked now rules own ts ⊎ Unreached state own (behind_start ts)
+run_reached state asked now rules plan own ts r = ⊎_elim (λ i. inl i.0) (λ u. inr u) (came_to state asked now rules plan own ts r)
 
 pub reached_saw : (state : Path) (asked : Asked) (now : Moment) (rules : Rules) (own : List Fault) (ts : List Entry) → IsReached state asked now rules own ts → SawState state (behind_start ts)
 reached_saw state asked now rules own ts i = subst (SawState state) (sym (begun_behind state now rules _ ts i))

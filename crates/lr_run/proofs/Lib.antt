@@ -12,7 +12,7 @@ pub mod Called
 pub mod Shape
 mod Parts
 mod Ending
-mod Taken
+pub mod Taken
 pub mod Rotating
 pub mod Turning
 mod Covering

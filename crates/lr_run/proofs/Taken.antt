@@ -51,118 +51,125 @@ use Rattle.lr_run.specs.Internal.{ReadyFor, ActsAndWrites}
 use Rattle.lr_run.specs.Taken.{AddsTaken}
 use Rattle.lr_run.proofs.Works.{PlanFor}
 
--- ---- faults none of which tells of a taken path
+-- ---- faults that tell of no new file
 
-abbrev pub NoTaken : List Fault → Type 0
-NoTaken fs = (x : Path) → IsIn (fault.Taken x) fs → ⊥
+-- a fault of the acts alone: the path was taken that a new file needs, or the file is too long to be copied into one
+abbrev pub IsOfNew : Fault → Type 0
+IsOfNew (fault.Taken path) = Unit {0}
+IsOfNew (fault.TooLong path) = Unit {0}
+IsOfNew _ = ⊥
 
-no_more : NoTaken []
-no_more x i = i
+-- none of the faults is one
+abbrev pub NoneOfNew : List Fault → Type 0
+NoneOfNew fs = (f : Fault) → IsOfNew f → IsIn f fs → ⊥
 
-no_on : (xs ys : List Fault) → NoTaken xs → NoTaken ys → NoTaken (xs ++ ys)
-no_on xs ys p q x i = ⊎_elim (p x) (q x) (in_append (fault.Taken x) xs ys i)
+no_more : NoneOfNew []
+no_more f k i = i
 
-no_one : (f : Fault) → ((x : Path) → f ≡ fault.Taken x → ⊥) → NoTaken (f ∷ [])
-no_one f differs x i = ⊎_elim (differs x) (λ none. none) i
+no_on : (xs ys : List Fault) → NoneOfNew xs → NoneOfNew ys → NoneOfNew (xs ++ ys)
+no_on xs ys p q f k i = ⊎_elim (p f k) (q f k) (in_append f xs ys i)
+
+no_one : (f : Fault) → (IsOfNew f → ⊥) → NoneOfNew (f ∷ [])
+no_one f other g k i = ⊎_elim (λ same. other (subst IsOfNew (sym same) k)) (λ none. none) i
 
 -- of the looks
-missing_none : (w : Word) → NoTaken (missing w)
+missing_none : (w : Word) → NoneOfNew (missing w)
 missing_none w = go w.rule.missingok
   where
-    go : (b : Bool) → NoTaken (cond b [] (fault.Missing w.text ∷ []))
+    go : (b : Bool) → NoneOfNew (cond b [] (fault.Missing w.text ∷ []))
     go true = no_more
-    go false = no_one (fault.Missing w.text) (λ x is. cc)
+    go false = no_one (fault.Missing w.text) (λ h. h)
 
-glob_none : (w : Word) (why : GlobStop) → NoTaken (glob_fault w why)
-glob_none w (glob.Call kind path) = no_one (fault.Call kind path) (λ x is. cc)
-glob_none w glob.LongName = no_one (fault.LongName w.text) (λ x is. cc)
-glob_none w glob.TooMany = no_one (fault.TooMany w.text) (λ x is. cc)
+glob_none : (w : Word) (why : GlobStop) → NoneOfNew (glob_fault w why)
+glob_none w (glob.Call kind path) = no_one (fault.Call kind path) (λ h. h)
+glob_none w glob.LongName = no_one (fault.LongName w.text) (λ h. h)
+glob_none w glob.TooMany = no_one (fault.TooMany w.text) (λ h. h)
 glob_none w glob.Memory = no_more
 
-word_none : (w : Word) (s : WordSight) → NoTaken (fault_of w s)
+word_none : (w : Word) (s : WordSight) → NoneOfNew (fault_of w s)
 word_none w (Ok []) = missing_none w
 word_none w (Ok (m ∷ ms)) = no_more
 word_none w (Err why) = glob_none w why
 
-words_none : (ws : List Word) (ss : List WordSight) → NoTaken (faults_of ws ss)
+words_none : (ws : List Word) (ss : List WordSight) → NoneOfNew (faults_of ws ss)
 words_none [] ss = no_more
 words_none (w ∷ ws) [] = no_more
 words_none (w ∷ ws) (s ∷ ss) = no_on (fault_of w s) (faults_of ws ss) (word_none w s) (words_none ws ss)
 
-duplicate_none : (f : FoundLog) (o : Option FoundLog) → NoTaken (duplicate f o)
+duplicate_none : (f : FoundLog) (o : Option FoundLog) → NoneOfNew (duplicate f o)
 duplicate_none f None = no_more
 duplicate_none f (Some first) = go first.log.ignore
   where
-    go : (b : Bool) → NoTaken (cond b [] (fault.Duplicate f.log.path ∷ []))
+    go : (b : Bool) → NoneOfNew (cond b [] (fault.Duplicate f.log.path ∷ []))
     go true = no_more
-    go false = no_one (fault.Duplicate f.log.path) (λ x is. cc)
+    go false = no_one (fault.Duplicate f.log.path) (λ h. h)
 
-overlap_none : (f : FoundLog) (o : Option FoundLog) → NoTaken (overlap f o)
+overlap_none : (f : FoundLog) (o : Option FoundLog) → NoneOfNew (overlap f o)
 overlap_none f None = no_more
-overlap_none f (Some other) = no_one (fault.Overlap f.log.path other.log.path) (λ x is. cc)
+overlap_none f (Some other) = no_one (fault.Overlap f.log.path other.log.path) (λ h. h)
 
-barred_none : (f : FoundLog) (o : Option Path) → NoTaken (barred f o)
+barred_none : (f : FoundLog) (o : Option Path) → NoneOfNew (barred f o)
 barred_none f None = no_more
-barred_none f (Some path) = no_one (fault.Overlap f.log.path path) (λ x is. cc)
+barred_none f (Some path) = no_one (fault.Overlap f.log.path path) (λ h. h)
 
-choice_none : (reserved : List Path) (all : List FoundLog) (f : FoundLog) (c : Choice) → NoTaken (choice_fault reserved all f c)
+choice_none : (reserved : List Path) (all : List FoundLog) (f : FoundLog) (c : Choice) → NoneOfNew (choice_fault reserved all f c)
 choice_none reserved all f Kept = no_more
 choice_none reserved all f (Again i) = duplicate_none f (slice_get all i)
 choice_none reserved all f (MemberOf i) = no_more
 choice_none reserved all f (Reserved i) = barred_none f (slice_get reserved i)
 choice_none reserved all f (Meets i) = overlap_none f (slice_get all i)
 
-choices_none : (reserved : List Path) (all fs : List FoundLog) (cs : List Choice) → NoTaken (choice_faults reserved all fs cs)
+choices_none : (reserved : List Path) (all fs : List FoundLog) (cs : List Choice) → NoneOfNew (choice_faults reserved all fs cs)
 choices_none reserved all [] cs = no_more
 choices_none reserved all (f ∷ fs) [] = no_more
 choices_none reserved all (f ∷ fs) (c ∷ cs) = no_on (choice_fault reserved all f c) (choice_faults reserved all fs cs) (choice_none reserved all f c) (choices_none reserved all fs cs)
 
-kinds_none : (fs : List FoundLog) → NoTaken (flat_map kind_fault fs)
+kinds_none : (fs : List FoundLog) → NoneOfNew (flat_map kind_fault fs)
 kinds_none [] = no_more
 kinds_none (f ∷ fs) = no_on (kind_fault f) (flat_map kind_fault fs) (go (is_file f.seen.kind)) (kinds_none fs)
   where
-    go : (b : Bool) → NoTaken (cond b [] (fault.NotFile f.log.path ∷ []))
+    go : (b : Bool) → NoneOfNew (cond b [] (fault.NotFile f.log.path ∷ []))
     go true = no_more
-    go false = no_one (fault.NotFile f.log.path) (λ x is. cc)
+    go false = no_one (fault.NotFile f.log.path) (λ h. h)
 
-stop_none : (why : StandStop) → NoTaken (stop_fault why)
-stop_none (halt.Call kind path) = no_one (fault.Call kind path) (λ x is. cc)
-stop_none (halt.NotFile path) = no_one (fault.NotFile path) (λ x is. cc)
+stop_none : (why : StandStop) → NoneOfNew (stop_fault why)
+stop_none (halt.Call kind path) = no_one (fault.Call kind path) (λ h. h)
+stop_none (halt.NotFile path) = no_one (fault.NotFile path) (λ h. h)
 stop_none halt.Memory = no_more
 
-families_none : (ss : List FamilySight) → NoTaken (family_faults ss)
+families_none : (ss : List FamilySight) → NoneOfNew (family_faults ss)
 families_none [] = no_more
 families_none (Stood s ∷ ss) = families_none ss
 families_none (Stopped why ∷ ss) = no_on (stop_fault why) (family_faults ss) (stop_none why) (families_none ss)
 
-pub looks_none : (reserved : List Path) (rules : List Rule) (sets : List SetLooks) (own : List Fault) (ts : List Entry) → ShowsLooks reserved rules sets own ts → NoTaken own
+pub looks_none : (reserved : List Path) (rules : List Rule) (sets : List SetLooks) (own : List Fault) (ts : List Entry) → ShowsLooks reserved rules sets own ts → NoneOfNew own
 looks_none reserved rules sets own ts h =
     let words = h.entries.first in
     let families = h.entries.second.families in
-    subst NoTaken (sym families.faults_are) (no_on h.of_kept (family_faults families.sights)
-    (subst NoTaken (sym h.keeps.faults_are) (no_on h.of_words (choice_faults reserved h.found h.found h.keeps.choices ++ flat_map kind_fault (kept_of h.found h.keeps.choices))
-    (subst NoTaken (sym words.faults_are) (words_none _ words.sights))
+    subst NoneOfNew (sym families.faults_are) (no_on h.of_kept (family_faults families.sights)
+    (subst NoneOfNew (sym h.keeps.faults_are) (no_on h.of_words (choice_faults reserved h.found h.found h.keeps.choices ++ flat_map kind_fault (kept_of h.found h.keeps.choices))
+    (subst NoneOfNew (sym words.faults_are) (words_none _ words.sights))
     (no_on (choice_faults reserved h.found h.found h.keeps.choices) (flat_map kind_fault (kept_of h.found h.keeps.choices)) (choices_none reserved h.found h.found h.keeps.choices) (kinds_none (kept_of h.found h.keeps.choices)))))
     (families_none families.sights))
 
 -- of a plan
-hindered_none : (rule : Rule) (look : LogLook) → NoTaken (hindrances rule look)
+hindered_none : (rule : Rule) (look : LogLook) → NoneOfNew (hindrances rule look)
 hindered_none rule look = go look.stand.there (is_too_high rule look)
   where
-    go : (a b : Bool) → NoTaken (cond a (cond b (fault.TooHigh (highest_path look.family.naming) ∷ []) []) (fault.NoDir look.family.naming.dir ∷ []))
-    go true true = no_one (fault.TooHigh (highest_path look.family.naming)) (λ x is. cc)
+    go : (a b : Bool) → NoneOfNew (cond a (cond b (fault.TooHigh (highest_path look.family.naming) ∷ []) []) (fault.NoDir look.family.naming.dir ∷ []))
+    go true true = no_one (fault.TooHigh (highest_path look.family.naming)) (λ h. h)
     go true false = no_more
-    go false b = no_one (fault.NoDir look.family.naming.dir) (λ x is. cc)
+    go false b = no_one (fault.NoDir look.family.naming.dir) (λ h. h)
 
-due_none : (d : Due) (fs : List Fault) → NoTaken fs → NoTaken (where_due d fs)
+due_none : (d : Due) (fs : List Fault) → NoneOfNew fs → NoneOfNew (where_due d fs)
 due_none (due.Yes why) fs h = h
 due_none (due.No why) fs h = no_more
 
-logs_none : (rule : Rule) (decide : LogLook → Due) (looks : List LogLook) → NoTaken (log_faults rule decide looks)
+logs_none : (rule : Rule) (decide : LogLook → Due) (looks : List LogLook) → NoneOfNew (log_faults rule decide looks)
 logs_none rule decide [] = no_more
 logs_none rule decide (l ∷ ls) = no_on (where_due (decide l) (hindrances rule l)) (log_faults rule decide ls) (due_none (decide l) (hindrances rule l) (hindered_none rule l)) (logs_none rule decide ls)
 
-pub plan_none : (decide : Rule → LogLook → Due) (rules : List Rule) (sets : List SetLooks) → NoTaken (all_faults decide rules sets)
+pub plan_none : (decide : Rule → LogLook → Due) (rules : List Rule) (sets : List SetLooks) → NoneOfNew (all_faults decide rules sets)
 plan_none decide [] [] = no_more
 plan_none decide [] (s ∷ ss) = no_more
 plan_none decide (r ∷ rs) [] = no_more
@@ -182,7 +189,7 @@ carried_taken (Ok u) state rules looks remembered now asked plan ready x y z m n
     stale = remembered.stale;
     dirs = r.is.writes.0;
     text = h.text;
-    taken = λ path last i. ⊎_elim (λ a. absurd (plan_none (decision remembered.table now asked.force) rules.sets looks.sets path a)) (λ b. h.taken.taken path (steps_are p e path last) b)
+    taken = λ path last i. ⊎_elim (λ a. absurd (plan_none (decision remembered.table now asked.force) rules.sets looks.sets (fault.Taken path) tt a)) (λ b. h.taken.taken path (steps_are p e path last) b)
         (in_append (fault.Taken path) (PlanFor rules looks remembered now asked).faults (h.of_plan ++ h.of_state) i);
   };
 }
@@ -218,7 +225,7 @@ looked_adds state reserved rules looks plan a b c k l (is_told {es = es} m h) f 
     stale = (t.taken p e).stale;
     dirs = (t.taken p e).dirs;
     text = (t.taken p e).text;
-    taken = λ path last i. ⊎_elim (λ own. absurd (looks_none reserved rules looks.sets h.own _ h.shown path own)) (λ rest. taken_later {P = LooksAtAll reserved rules looks a b} path (is_told m h) ((t.taken p e).taken path last rest)) (in_append (fault.Taken path) h.own t.added i);
+    taken = λ path last i. ⊎_elim (λ own. absurd (looks_none reserved rules looks.sets h.own _ h.shown (fault.Taken path) tt own)) (λ rest. taken_later {P = LooksAtAll reserved rules looks a b} path (is_told m h) ((t.taken p e).taken path last rest)) (in_append (fault.Taken path) h.own t.added i);
   };
 }
 

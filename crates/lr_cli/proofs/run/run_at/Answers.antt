@@ -6,6 +6,7 @@ use Rattle.lr_cli.specs.Faults.{answer_of, plan_told}
 use Rattle.lr_cli.proofs.Clocked.{own_seconds}
 use Rattle.lr_cli.proofs.Called.{at_none, at_stop, stop_shape, stop_clocked, at_clock, clock_shape, clock_clocked}
 use Rattle.lr_cli.proofs.Reading.{alone_run}
+use Rattle.lr_cli.proofs.Smooth.{clock_taken, none_told}
 use Rattle.lr_cli.proofs.run.run_at.Goals as goal
 
 pub returns-in_default-clause-told : goal.returns-in_default-clause-told
@@ -34,3 +35,9 @@ returns-in-Err-clause-clock g c = stop_clocked c.args.zone.now _ c.args.seconds 
 
 pub returns-in-Err-clause-shape : goal.returns-in-Err-clause-shape
 returns-in-Err-clause-shape g c = stop_shape c.args.zone.now _ c.in-Err.stop c.in-Err.ensures.stopped
+
+pub returns-in-Ok-clock_in-clause-taken : goal.returns-in-Ok-clock_in-clause-taken
+returns-in-Ok-clock_in-clause-taken g c = clock_taken c.args.request.now c.run_by.result _ c.in-Ok-clock_in.ensures.told c.run_by.ensures.taken
+
+pub returns-in-Err-clause-taken : goal.returns-in-Err-clause-taken
+returns-in-Err-clause-taken g c = none_told c.args.request.now c.without_clock.result _ _ c.without_clock.ensures.plan

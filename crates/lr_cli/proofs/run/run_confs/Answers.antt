@@ -1,5 +1,6 @@
 use Rattle.lr_placed.proofs.Lasting.{disk_on}
 use Rattle.lr_cli.proofs.Reading.{reports, stopped, lacks_at_confs, reading_counted, both_counted, confs_shape, lacking_shape}
+use Rattle.lr_cli.proofs.Smooth.{confs_taken}
 use Rattle.lr_cli.proofs.run.run_confs.Goals as goal
 
 pub returns-in_default-clause-told : goal.returns-in_default-clause-told
@@ -30,3 +31,6 @@ returns-clause-told g c = stopped c.args.request.now c.args.settings.now c.args.
 
 pub returns-clause-shape : goal.returns-clause-shape
 returns-clause-shape g c = confs_shape c.as_slice.result.now _ c.in-Ok.ensures.told c.run.ensures.shape
+
+pub returns-in-Ok-run-clause-taken : goal.returns-in-Ok-run-clause-taken
+returns-in-Ok-run-clause-taken g c = confs_taken c.args.request.now c.args.settings.now c.in-Ok-run.ran.plan c.into_vec.result.items c.in-Ok.reading.faults c.in-Ok-run.ran.faults.items c.requires.settled c.into_vec.ensures c.in-Ok.ensures.only c.in-Ok.ensures.told c.in-Ok-run.ensures.taken

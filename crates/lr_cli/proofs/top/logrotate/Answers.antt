@@ -14,6 +14,7 @@ use Rattle.lr_cli.proofs.Fulfilling.{answered_fulfilled}
 use Rattle.lr_cli.proofs.Reached.{left_tells}
 use Rattle.lr_cli.proofs.Reading.{alone_run}
 use Rattle.lr_cli.proofs.Rotating.{answered_rotated}
+use Rattle.lr_cli.proofs.Smooth.{answered_smooth, has_taken, taken_of}
 use Rattle.lr_cli.proofs.Still.{left_short, left_dry}
 use Rattle.lr_cli.proofs.Tried.{left_tries}
 use Rattle.lr_cli.proofs.Whole.{answered_whole}
@@ -104,3 +105,11 @@ returns-clause-dry g c = λ request asks dry. let s = returns-clause-told g c in
 
 pub returns-clause-tried : goal.returns-clause-tried
 returns-clause-tried g c = λ request report asks dry done. let s = returns-clause-told g c in left_tries c.args.here.now c.args.words.now request c.args.zone.now c.args.now s.plan _ report asks dry done s.shown
+
+pub returns-clause-smooth : goal.returns-clause-smooth
+returns-clause-smooth g c = λ request report before after asks dry done none_ends none_rose told_before told_after journal smooth.
+    answered_smooth c.args.here.now c.args.words.now request c.args.zone.now c.args.now (plan_told c.run_at-run.result) _ report _ _ before after _ _ asks dry
+    (answered c.args.here.now c.args.words.now c.args.zone.now _ c.args.now c.in-Ok.request (plan_told c.run_at-run.result) _ (answer_of c.run_at-run.result) _ _ (own_seconds c.args.now c.ranges.now.sfits) c.finish.ensures.answer c.in-Ok.ensures.request c.run_at-run.ensures.told)
+    done none_ends (returns-clause-counted g c) none_rose
+    (has_taken request.state c.run_at-run.result _ report _ _ c.finish.ensures.answer done (taken_of c.args.here.now c.args.words.now c.in-Ok.request request c.run_at-run.result _ _ c.in-Ok.ensures.request asks c.run_at-run.ensures.taken dry))
+    told_before told_after journal smooth

@@ -1,0 +1,24 @@
+-- Calls in which nothing was in the way.
+use Rattle.std.specs.Prelude.{◌≡◌, ℤ, List, reverse, Option, Some}
+use Rattle.lr_rules.specs.declared.fault.Fault.{Fault}
+use Rattle.lr_rules.specs.declared.path.Path.{Path}
+use Rattle.lr_host.specs.declared.entry.Entry.{Entry}
+use Rattle.lr_host.specs.declared.journal.Journal.{Journal}
+use Rattle.lr_host.specs.Told.{Made}
+use Rattle.lr_host.specs.World.{past}
+use Rattle.lr_due.specs.declared.tz.Zone.{Zone}
+use Rattle.lr_plan.specs.declared.planned.Plan.{Plan}
+use Rattle.lr_run.specs.Taken.{TakenBy}
+use Rattle.lr_spared.specs.Smooth.{IsSmooth}
+use Rattle.lr_command.specs.declared.request.Request.{Request}
+use Rattle.lr_cli.specs.declared.outcome.Report.{Report}
+use Rattle.lr_cli.specs.Reached.{ReachesPlan}
+
+-- where it came to a plan, each path that is told as taken was named, as the steps of the plan have it
+abbrev pub TellsTaken : Path → Option Plan → List Fault → Option Journal → Option Journal → Type 0
+TellsTaken state plan faults told later = (p : Plan) → plan ≡ Some p → TakenBy state p faults told later
+
+-- Nothing was in the way of the call: of its state, and of the logs that its looks kept, as its entries show them.
+abbrev pub IsSmoothCall : Request → Zone → ℤ → Report → Journal → Journal → Type 0
+IsSmoothCall request zone seconds report before after =
+    (es : List Entry) → Made (past before) es (past after) → (p : ReachesPlan request zone seconds report (reverse es)) → IsSmooth request.state p.run.within.looked.shown.kept (past before) (past after)

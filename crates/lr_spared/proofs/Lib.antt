@@ -1,0 +1,10 @@
+pub mod Clearing
+pub mod Courses
+pub mod Long
+pub mod Naming
+pub mod Once
+pub mod Smooth
+pub mod Stale
+pub mod Steps
+pub mod Taken
+pub mod Writing

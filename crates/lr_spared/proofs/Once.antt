@@ -1,0 +1,340 @@
+-- The part file of a copy is needed by one step of a plan, and behind that step none gives it a name or unlinks it.
+use Rattle.std.proofs.Common.{◌≡◌, ◌⊎◌, inl, inr, ⊎_elim, ◌+◌, ℕ, Bool, true, false, refl, sym, ap, ◌∙◌, subst, List, [], ◌∷◌, ◌++◌, map, Option, Some, None}
+use Rattle.std.specs.List.{flat_map, AllByRecursion}
+use Rattle.lr_rules.specs.declared.path.Path.{Path}
+use Rattle.lr_rules.specs.declared.fault.Phase.{Phase}
+use Rattle.lr_rules.specs.declared.fault.Phase.TheVariants as phase
+use Rattle.lr_rules.specs.declared.rule.Make.{Make}
+use Rattle.lr_rules.specs.declared.rule.Make.TheVariants as make
+use Rattle.lr_rules.specs.declared.rule.Naming.{Naming}
+use Rattle.lr_rules.specs.Names.{IsOwnName, the_log, Meet}
+use Rattle.lr_family.specs.Spots.{path_at}
+use Rattle.lr_family.proofs.Numbers.{Every, every_all, every_filter}
+use Rattle.lr_scripts.specs.declared.command.Command.{Command}
+use Rattle.lr_scripts.specs.declared.removal.Removal.{Removal}
+use Rattle.lr_chain.specs.declared.ready.Move.{Move}
+use Rattle.lr_chain.specs.declared.ready.Ready.{Ready}
+use Rattle.lr_chain.specs.Ready.{removal_at, move_from}
+use Rattle.lr_chain.specs.Rotation.{places_of, is_left, leftovers, kept, retired}
+use Rattle.lr_copy.specs.declared.job.Job.{Job}
+use Rattle.lr_plan.specs.declared.planned.LogPlan.{LogPlan}
+use Rattle.lr_plan.specs.declared.planned.SetPlan.{SetPlan}
+use Rattle.lr_plan.specs.declared.step.Step.{Step}
+use Rattle.lr_plan.specs.declared.step.Step.TheVariants as step
+use Rattle.lr_plan.specs.Steps.{on_of, program, removal, removals, directory, move, step_if, copy, transfer, made_anew, rotation_of, retirement_of, steps_of_log, shared_steps, by_logs, steps_of_set}
+use Rattle.lr_acts.specs.Making.{all_of_each, all_of_set, all_of_sets}
+use Rattle.lr_rotations.specs.Apart.{HasNames, HaveNames}
+use Rattle.lr_rotations.specs.Members.{HasName, IsNoMember}
+use Rattle.lr_rotations.specs.Target.{Target, IsOneOf}
+use Rattle.lr_rotations.proofs.Apart.{part_own}
+use Rattle.lr_rotations.proofs.Fitting.{kept_next, first_named, retire_named}
+use Rattle.lr_rotations.proofs.Outside.{place_name}
+use Rattle.lr_rotations.proofs.PartFile.{part_no_member, job_target, job_part}
+use Rattle.lr_weave.specs.Fitting.{NoneMeets, DontMeet}
+use Rattle.lr_weave.specs.Planned.{bare_removal, IsReadyFor, AreReadyFor, HaveLogs}
+use Rattle.lr_spared.proofs.Courses.{set_so, all_set}
+use Rattle.lr_spared.proofs.Steps.{NoneTouches, OnceNamed, none_on, none_once, once_first, once_later}
+
+-- ---- one log
+
+-- neither its rotation touches the path nor its retirement; its rotation names it once
+abbrev pub IsAside : Path → LogPlan → Type 0
+IsAside x l = NoneTouches x (rotation_of l) × NoneTouches x (retirement_of l)
+
+abbrev IsOnce : Path → LogPlan → Type 0
+IsOnce x l = OnceNamed x (rotation_of l) × NoneTouches x (retirement_of l)
+
+module _ (x : Path) where
+  runs_none : (p : Phase) (about : List ℕ) (c : Command) → NoneTouches x (step.Runs p about c ∷ [])
+  runs_none p about c = (λ h. h, λ h. h, tt)
+
+  program_none : (p : Phase) (o : Option Command) → NoneTouches x (program p o)
+  program_none p None = tt
+  program_none p (Some command) = runs_none p (on_of p command) command
+
+  removals_none : (n : Naming) → IsNoMember n x → (rs : List Removal) (ks : List ℕ) → map bare_removal rs ≡ map (removal_at n) ks → Every (HasName n) ks → NoneTouches x (removals rs)
+  removals_none n out [] ks same h = tt
+  removals_none n out (r ∷ rs) [] same h = absurd (cc)
+  removals_none n out (r ∷ rs) (k ∷ ks) same h = none_on x (removal r) (removals rs)
+      (none_on x (program phase.Preremove r.preremove) _ (program_none phase.Preremove r.preremove) (none_on x (program phase.Mail r.mail) _ (program_none phase.Mail r.mail) ((λ h. h), (λ gone. out k h.0 (sym gone ∙ path)), tt)))
+      (removals_none n out rs ks tails h.1)
+    where
+      heads : bare_removal r ≡ removal_at n k
+      heads = cc
+
+      tails : map bare_removal rs ≡ map (removal_at n) ks
+      tails = cc
+
+      path : r.path ≡ path_at n k
+      path = ap (λ (s : Removal). s.path) heads
+
+  directory_none : (d : Option (Path × Option ℕ)) → d ≡ None → NoneTouches x (directory d)
+  directory_none None e = tt
+  directory_none (Some d) e = absurd (cc)
+
+  moves_none : (n : Naming) → IsNoMember n x → (ms : List Move) (ks : List ℕ) → ms ≡ map (move_from n) ks → Every (λ k. HasName n (k + 1)) ks → NoneTouches x (map move ms)
+  moves_none n out ms ks same h = subst (λ (zs : List Move). NoneTouches x (map move zs)) (sym same) (go ks h)
+    where
+      go : (ks : List ℕ) → Every (λ k. HasName n (k + 1)) ks → NoneTouches x (map move (map (move_from n) ks))
+      go [] h = tt
+      go (k ∷ ks) h = ((λ to. out (k + 1) h.0 (sym to)), (λ h. h), go ks h.1)
+
+  -- a copy behind the making of its part file
+  abbrev behind : Job → List Step
+  behind job = step.Copies job.from job.part job.limit ∷ step.SyncsFile job.part ∷ step.Renames job.part job.to ∷ step.SyncsDir job.dir ∷ step_if job.cut (step.Truncates job.from)
+
+  behind_none : (job : Job) → (job.to ≡ x → ⊥) → NoneTouches x (behind job)
+  behind_none job to = (λ h. h, λ h. h, (λ h. h, λ h. h, (to, λ h. h, (λ h. h, λ h. h, cut job.cut))))
+    where
+      cut : (b : Bool) → NoneTouches x (step_if b (step.Truncates job.from))
+      cut true = (λ h. h, λ h. h, tt)
+      cut false = tt
+
+  copy_none : (job : Job) → (job.part ≡ x → ⊥) → (job.to ≡ x → ⊥) → NoneTouches x (copy job)
+  copy_none job part to = go job.stale
+    where
+      go : (b : Bool) → NoneTouches x (step_if b (step.Removes job.part) ++ (step.Takes job.part job.mode ∷ behind job))
+      go true = (λ h. h, part, (part, λ h. h, behind_none job to))
+      go false = (part, λ h. h, behind_none job to)
+
+  copy_once : (job : Job) → (job.to ≡ x → ⊥) → OnceNamed x (copy job)
+  copy_once job to = go job.stale
+    where
+      taken : OnceNamed x (step.Takes job.part job.mode ∷ behind job)
+      taken = (λ named. behind_none job to, none_once x (behind job) (behind_none job to))
+
+      go : (b : Bool) → OnceNamed x (step_if b (step.Removes job.part) ++ (step.Takes job.part job.mode ∷ behind job))
+      go true = (λ named. absurd named, taken)
+      go false = taken
+
+  anew_none : (m : Make) (log : Path) (job : Option Job) → (log ≡ x → ⊥) → NoneTouches x (made_anew m log job)
+  anew_none make.No log None other = tt
+  anew_none (make.Yes mode) log None other = (other, λ h. h, tt)
+  anew_none m log (Some job) other = tt
+
+  -- what a log does, by its target
+  module _ (t : Target) (l : LogPlan) (h : HasNames t) (r : IsReadyFor t l) where
+    abbrev n : Naming
+    n = t.naming
+
+    abbrev ps : List ℕ
+    ps = places_of t.stand.members
+
+    log_is : l.ready.log ≡ t.log
+    log_is = ap (λ (y : Ready). y.log) r.ready_is ∙ h.ready.log_is
+
+    target_is : l.ready.target ≡ path_at n 0
+    target_is = ap (λ (y : Ready). y.target) r.ready_is ∙ h.ready.target_is
+
+    first : HasName n 0
+    first = first_named n t.count ps h.next
+
+    -- of what is no member's
+    module _ (out : IsNoMember n x) where
+      leftovers_none : NoneTouches x (removals l.ready.leftovers)
+      leftovers_none = removals_none n out l.ready.leftovers (leftovers t.count ps) (ap (λ (y : Ready). y.leftovers) r.ready_is ∙ h.ready.leftovers_are) (every_filter (HasName n) (is_left t.count) ps (every_all (HasName n) ps h.named))
+
+      dir_none : NoneTouches x (directory l.ready.dir)
+      dir_none = directory_none l.ready.dir (ap (λ (y : Ready). y.dir) r.ready_is ∙ h.ready.no_dir)
+
+      chain_none : NoneTouches x (map move l.ready.moves)
+      chain_none = moves_none n out l.ready.moves (kept t.count ps) (ap (λ (y : Ready). y.moves) r.ready_is ∙ h.ready.moves_are) (kept_next n t.count ps h.next)
+
+      retire_none : NoneTouches x (retirement_of l)
+      retire_none = none_on x (program phase.Mail l.first_mail) (removals l.ready.retire) (program_none phase.Mail l.first_mail)
+          (removals_none n out l.ready.retire (retired t.count t.from) (ap (λ (y : Ready). y.retire) r.ready_is ∙ h.ready.retire_is) (retire_named n t.count ps t.from h.next h.going))
+
+      -- around the way of the log to its final path
+      abbrev way : List Step
+      way = transfer l.ready.log l.ready.target l.job
+
+      abbrev last : List Step
+      last = step.Rotated l.ready.log ∷ made_anew l.ready.make l.ready.log l.job
+
+      around_none : NoneTouches x way → NoneTouches x last → NoneTouches x (rotation_of l)
+      around_none a b = none_on x (removals l.ready.leftovers) _ leftovers_none (none_on x (directory l.ready.dir) _ dir_none (none_on x (map move l.ready.moves) _ chain_none (none_on x way last a b)))
+
+      around_once : OnceNamed x way → NoneTouches x last → OnceNamed x (rotation_of l)
+      around_once a b = once_later x (removals l.ready.leftovers) _ leftovers_none (once_later x (directory l.ready.dir) _ dir_none (once_later x (map move l.ready.moves) _ chain_none (once_first x way last a b)))
+
+    no_member : (IsOwnName t.log n x → ⊥) → IsNoMember n x
+    no_member other place i is = other (subst (IsOwnName t.log n) (sym is) (place_name t.log n place h.family.numbered i))
+
+    -- the path is no name of the log
+    pub log_aside : (IsOwnName t.log n x → ⊥) → IsAside x l
+    log_aside other = (around_none (no_member other) (by l.job refl) ((λ h. h), (λ h. h), anew_none l.ready.make l.ready.log l.job (λ same. other (the_log (sym same ∙ log_is)))), retire_none (no_member other))
+      where
+        to_other : (to : Path) → to ≡ path_at n 0 → to ≡ x → ⊥
+        to_other to is same = no_member other 0 first (sym same ∙ is)
+
+        by : (j : Option Job) → l.job ≡ j → NoneTouches x (transfer l.ready.log l.ready.target j)
+        by None e = (to_other l.ready.target target_is, λ h. h, tt)
+        by (Some job) e = let is : t.job ≡ Some job = sym r.job_is ∙ e in
+            copy_none job (λ same. other (subst (IsOwnName t.log n) same (part_own t h job is))) (to_other job.to (job_target t job h.ready (h.job job is)))
+
+    -- the path is that of the part file of its copy
+    log_once : (job : Job) → t.job ≡ Some job → job.part ≡ x → IsOnce x l
+    log_once job is same = (around_once out (by l.job (r.job_is ∙ is)) (last_none l.job (r.job_is ∙ is)), retire_none out)
+      where
+        out : IsNoMember n x
+        out = subst (IsNoMember n) (sym (job_part t job h.ready (h.job job is)) ∙ same) (part_no_member t.log n h.family first)
+
+        by : (j : Option Job) → j ≡ Some job → OnceNamed x (transfer l.ready.log l.ready.target j)
+        by None e = absurd (cc)
+        by (Some other) e = let one : other ≡ job = cc in
+            subst (λ (k : Job). OnceNamed x (copy k)) (sym one) (copy_once job (λ to. out 0 first (sym to ∙ job_target t job h.ready (h.job job is))))
+
+        last_none : (j : Option Job) → j ≡ Some job → NoneTouches x (step.Rotated l.ready.log ∷ made_anew l.ready.make l.ready.log j)
+        last_none None e = absurd (cc)
+        last_none (Some other) e = ((λ h. h), (λ h. h), tt)
+
+-- ---- the logs of a plan
+
+abbrev pub AreAside : Path → List LogPlan → Type 0
+AreAside x ls = AllByRecursion (IsAside x) ls
+
+-- one of them at most names it once, and the others are aside
+abbrev pub OneAtMost : Path → List LogPlan → Type 0
+OneAtMost x [] = Unit {0}
+OneAtMost x (l ∷ ls) = (IsOnce x l × AreAside x ls) ⊎ (IsAside x l × OneAtMost x ls)
+
+pub name_of : (t : Target) (ts : List Target) → HaveNames ts → IsOneOf t ts → HasNames t
+name_of t [] h i = absurd i
+name_of t (u ∷ ts) h (inl same) = subst HasNames same h.0
+name_of t (u ∷ ts) h (inr i) = name_of t ts h.1 i
+
+meets_none : (t u : Target) (ts : List Target) → NoneMeets t ts → IsOneOf u ts → Meet u.log u.naming t.log t.naming → ⊥
+meets_none t u [] n i = absurd i
+meets_none t u (v ∷ ts) n (inl same) = subst (λ (w : Target). Meet w.log w.naming t.log t.naming → ⊥) same n.0
+meets_none t u (v ∷ ts) n (inr i) = meets_none t u ts n.1 i
+
+module _ (x : Path) where
+  pub logs_aside : (ts : List Target) (ls : List LogPlan) → AreReadyFor ts ls → HaveNames ts → ((t : Target) → IsOneOf t ts → IsOwnName t.log t.naming x → ⊥) → AreAside x ls
+  logs_aside [] [] r h other = tt
+  logs_aside [] (l ∷ ls) r h other = absurd r
+  logs_aside (t ∷ ts) [] r h other = absurd r
+  logs_aside (t ∷ ts) (l ∷ ls) r h other = (log_aside x t l h.0 r.0 (other t (inl refl)), logs_aside ts ls r.1 h.1 (λ u i. other u (inr i)))
+
+  pub logs_at_most : (ts : List Target) (ls : List LogPlan) → AreReadyFor ts ls → HaveNames ts → DontMeet ts → (t : Target) → IsOneOf t ts → (job : Job) → t.job ≡ Some job → job.part ≡ x → OneAtMost x ls
+  logs_at_most [] ls r h d t i job is same = absurd i
+  logs_at_most (u ∷ ts) [] r h d t i job is same = absurd r
+  logs_at_most (u ∷ ts) (l ∷ ls) r h d t (inl e) job is same = inl (
+    log_once x u l h.0 r.0 job (ap (λ (v : Target). v.job) e ∙ is) same,
+    logs_aside ts ls r.1 h.1 (λ v i own. meets_none u v ts d.0 i (x, inl (own, inl own_u))),
+  )
+    where
+      own_u : IsOwnName u.log u.naming x
+      own_u = subst (IsOwnName u.log u.naming) same (part_own u h.0 job (ap (λ (v : Target). v.job) e ∙ is))
+  logs_at_most (u ∷ ts) (l ∷ ls) r h d t (inr i) job is same = inr (
+    log_aside x u l h.0 r.0 (λ own. meets_none u t ts d.0 i (x, inl (subst (IsOwnName t.log t.naming) same (part_own t (name_of t ts h.1 i) job is), inl own))),
+    logs_at_most ts ls r.1 h.1 d.1 t i job is same,
+  )
+
+  -- ---- their definitions
+
+  aside_split : (xs ys : List LogPlan) → AreAside x (xs ++ ys) → AreAside x xs × AreAside x ys
+  aside_split [] ys a = (tt, a)
+  aside_split (l ∷ xs) ys a = let r = aside_split xs ys a.1 in ((a.0, r.0), r.1)
+
+  most_split : (xs ys : List LogPlan) → OneAtMost x (xs ++ ys) → (OneAtMost x xs × AreAside x ys) ⊎ (AreAside x xs × OneAtMost x ys)
+  most_split [] ys m = inr (tt, m)
+  most_split (l ∷ xs) ys (inl one) = let r = aside_split xs ys one.1 in inl (inl (one.0, r.0), r.1)
+  most_split (l ∷ xs) ys (inr later) = ⊎_elim (λ a. inl (inr (later.0, a.0), a.1)) (λ b. inr ((later.0, b.0), b.1)) (most_split xs ys later.1)
+
+  set_aside : (set : SetPlan) → AreAside x set.logs → NoneTouches x (all_of_set (steps_of_set set))
+  set_aside set a = all_set (NoneTouches x) tt (none_on x) (runs_none x) (steps_of_set set) (set_so (NoneTouches x) tt (none_on x) (runs_none x) set a)
+
+  abbrev logs_in : List SetPlan → List LogPlan
+  logs_in sets = flat_map (λ (set : SetPlan). set.logs) sets
+
+  pub sets_aside : (sets : List SetPlan) → AreAside x (flat_map (λ (set : SetPlan). set.logs) sets) → NoneTouches x (all_of_sets (map steps_of_set sets))
+  sets_aside [] a = tt
+  sets_aside (set ∷ sets) a = let r = aside_split set.logs (logs_in sets) a in none_on x (all_of_set (steps_of_set set)) (all_of_sets (map steps_of_set sets)) (set_aside set r.0) (sets_aside sets r.1)
+
+  rotations_aside : (ls : List LogPlan) → AreAside x ls → NoneTouches x (flat_map rotation_of ls)
+  rotations_aside [] a = tt
+  rotations_aside (l ∷ ls) a = none_on x (rotation_of l) (flat_map rotation_of ls) a.0.0 (rotations_aside ls a.1)
+
+  rotations_once : (ls : List LogPlan) → OneAtMost x ls → OnceNamed x (flat_map rotation_of ls)
+  rotations_once [] m = tt
+  rotations_once (l ∷ ls) (inl one) = once_first x (rotation_of l) (flat_map rotation_of ls) one.0.0 (rotations_aside ls one.1)
+  rotations_once (l ∷ ls) (inr later) = once_later x (rotation_of l) (flat_map rotation_of ls) later.0.0 (rotations_once ls later.1)
+
+  retirements_aside : (ls : List LogPlan) → AreAside x ls → NoneTouches x (flat_map retirement_of ls)
+  retirements_aside [] a = tt
+  retirements_aside (l ∷ ls) a = none_on x (retirement_of l) (flat_map retirement_of ls) a.0.1 (retirements_aside ls a.1)
+
+  retirements_none : (ls : List LogPlan) → OneAtMost x ls → NoneTouches x (flat_map retirement_of ls)
+  retirements_none [] m = tt
+  retirements_none (l ∷ ls) (inl one) = none_on x (retirement_of l) (flat_map retirement_of ls) one.0.1 (retirements_aside ls one.1)
+  retirements_none (l ∷ ls) (inr later) = none_on x (retirement_of l) (flat_map retirement_of ls) later.0.1 (retirements_none ls later.1)
+
+  behind_rotation : (l : LogPlan) → NoneTouches x (retirement_of l) → NoneTouches x (program phase.Post l.post ++ retirement_of l)
+  behind_rotation l a = none_on x (program phase.Post l.post) (retirement_of l) (program_none x phase.Post l.post) a
+
+  logs_none : (ls : List LogPlan) → AreAside x ls → NoneTouches x (all_of_each (map steps_of_log ls))
+  logs_none [] a = tt
+  logs_none (l ∷ ls) a = none_on x (steps_of_log l) (all_of_each (map steps_of_log ls))
+      (none_on x (program phase.Pre l.pre) _ (program_none x phase.Pre l.pre) (none_on x (rotation_of l) _ a.0.0 (behind_rotation l a.0.1))) (logs_none ls a.1)
+
+  logs_once : (ls : List LogPlan) → OneAtMost x ls → OnceNamed x (all_of_each (map steps_of_log ls))
+  logs_once [] m = tt
+  logs_once (l ∷ ls) (inl one) = once_first x (steps_of_log l) (all_of_each (map steps_of_log ls))
+      (once_later x (program phase.Pre l.pre) _ (program_none x phase.Pre l.pre) (once_first x (rotation_of l) _ one.0.0 (behind_rotation l one.0.1))) (logs_none ls one.1)
+  logs_once (l ∷ ls) (inr later) = once_later x (steps_of_log l) (all_of_each (map steps_of_log ls))
+      (none_on x (program phase.Pre l.pre) _ (program_none x phase.Pre l.pre) (none_on x (rotation_of l) _ later.0.0 (behind_rotation l later.0.1))) (logs_once ls later.1)
+
+  shared_once : (set : SetPlan) → OneAtMost x set.logs → OnceNamed x (shared_steps set)
+  shared_once set m =
+      once_later x (program phase.First set.first) _ (program_none x phase.First set.first)
+      (once_later x (program phase.Pre set.pre) _ (program_none x phase.Pre set.pre)
+      (once_first x (flat_map rotation_of set.logs) _ (rotations_once set.logs m)
+      (none_on x (program phase.Post set.post) _ (program_none x phase.Post set.post)
+      (none_on x (flat_map retirement_of set.logs) (program phase.Last set.last) (retirements_none set.logs m) (program_none x phase.Last set.last)))))
+
+  set_once : (set : SetPlan) → OneAtMost x set.logs → OnceNamed x (all_of_set (steps_of_set set))
+  set_once set m = go set.shared set.logs
+    where
+      go : (shared : Bool) (logs : List LogPlan) → OnceNamed x (all_of_set (by_logs shared logs set))
+      go shared [] = tt
+      go true (l ∷ ls) = once_first x (shared_steps set) [] (shared_once set m) tt
+      go false (l ∷ ls) = once_later x (program phase.First set.first) _ (program_none x phase.First set.first) (once_first x (all_of_each (map steps_of_log set.logs)) (program phase.Last set.last) (logs_once set.logs m) (program_none x phase.Last set.last))
+
+  pub sets_once : (sets : List SetPlan) → OneAtMost x (flat_map (λ (set : SetPlan). set.logs) sets) → OnceNamed x (all_of_sets (map steps_of_set sets))
+  sets_once [] m = tt
+  sets_once (set ∷ sets) m = ⊎_elim
+      (λ a. once_first x (all_of_set (steps_of_set set)) (all_of_sets (map steps_of_set sets)) (set_once set a.0) (sets_aside sets a.1))
+      (λ b. once_later x (all_of_set (steps_of_set set)) (all_of_sets (map steps_of_set sets)) (set_aside set b.0) (sets_once sets b.1))
+      (most_split set.logs (logs_in sets) m)
+
+-- ---- the logs and their targets
+
+ready_on : (ts us : List Target) (xs ys : List LogPlan) → AreReadyFor ts xs → AreReadyFor us ys → AreReadyFor (ts ++ us) (xs ++ ys)
+ready_on [] us [] ys a b = b
+ready_on [] us (x ∷ xs) ys a b = absurd a
+ready_on (t ∷ ts) us [] ys a b = absurd a
+ready_on (t ∷ ts) us (x ∷ xs) ys a b = (a.0, ready_on ts us xs ys a.1 b)
+
+pub all_ready : (groups : List (List Target)) (sets : List SetPlan) → HaveLogs groups sets → AreReadyFor (flat_map (λ ts. ts) groups) (flat_map (λ (set : SetPlan). set.logs) sets)
+all_ready [] [] h = tt
+all_ready [] (set ∷ sets) h = absurd h
+all_ready (ts ∷ groups) [] h = absurd h
+all_ready (ts ∷ groups) (set ∷ sets) h = ready_on ts (flat_map (λ us. us) groups) set.logs (flat_map (λ (s : SetPlan). s.logs) sets) h.0 (all_ready groups sets h.1)
+
+-- what follows for each log from its target, definition by definition
+pub each_ready : (G : LogPlan → Type 0) (ts : List Target) (sets : List SetPlan) → AreReadyFor ts (flat_map (λ (set : SetPlan). set.logs) sets) → ((t : Target) (l : LogPlan) → IsOneOf t ts → IsReadyFor t l → G l) → AllByRecursion (λ (set : SetPlan). AllByRecursion G set.logs) sets
+each_ready G ts sets r g = by_set sets (by_log ts (flat_map (λ (set : SetPlan). set.logs) sets) r g)
+  where
+    by_log : (ts : List Target) (ls : List LogPlan) → AreReadyFor ts ls → ((t : Target) (l : LogPlan) → IsOneOf t ts → IsReadyFor t l → G l) → AllByRecursion G ls
+    by_log [] [] r g = tt
+    by_log [] (l ∷ ls) r g = absurd r
+    by_log (t ∷ ts) [] r g = absurd r
+    by_log (t ∷ ts) (l ∷ ls) r g = (g t l (inl refl) r.0, by_log ts ls r.1 (λ u k i. g u k (inr i)))
+
+    split : (xs ys : List LogPlan) → AllByRecursion G (xs ++ ys) → AllByRecursion G xs × AllByRecursion G ys
+    split [] ys a = (tt, a)
+    split (l ∷ xs) ys a = let r = split xs ys a.1 in ((a.0, r.0), r.1)
+
+    by_set : (sets : List SetPlan) → AllByRecursion G (flat_map (λ (set : SetPlan). set.logs) sets) → AllByRecursion (λ (set : SetPlan). AllByRecursion G set.logs) sets
+    by_set [] a = tt
+    by_set (set ∷ sets) a = let r = split set.logs (flat_map (λ (s : SetPlan). s.logs) sets) a in (r.0, by_set sets r.1)

@@ -1,0 +1,133 @@
+-- An old part file that stands as the run begins is seen.
+use Rattle.std.proofs.Common.{◌≡◌, ◌⊎◌, inl, inr, ⊎_elim, ◌+◌, ℕ, Bool, true, false, bytes_eq, refl, sym, ap, ◌∙◌, subst, List, [], ◌∷◌, Some, None, Result, Ok, Err}
+use Rattle.std.specs.Prelude.{◌||◌}
+use Rattle.std.specs.List.{list_any}
+use Rattle.std.proofs.lemmas.Slice.Eq.{bytes_eq-Decides}
+use Rattle.lr_rules.specs.declared.civil.Moment.{Moment}
+use Rattle.lr_rules.specs.declared.path.Path.{Path}
+use Rattle.lr_rules.specs.declared.fault.Fault.{Fault}
+use Rattle.lr_rules.specs.declared.rule.Naming.{Naming}
+use Rattle.lr_rules.specs.declared.rule.Rule.{Rule}
+use Rattle.lr_host.specs.declared.entry.Entry.{Entry}
+use Rattle.lr_host.specs.declared.entry.Entry.TheVariants as entry
+use Rattle.lr_host.specs.declared.thing.Kind.{Kind}
+use Rattle.lr_host.specs.declared.thing.Kind.TheVariants as kind
+use Rattle.lr_host.specs.Fits.{IsFileAt}
+use Rattle.lr_host.specs.Lists.{IsIn}
+use Rattle.lr_host.specs.World.{Past, world, names}
+use Rattle.lr_host.proofs.Lists.{in_back}
+use Rattle.lr_family.specs.Parts.{part_of, IsMembersPart}
+use Rattle.lr_family.specs.Spots.{path_at}
+use Rattle.lr_copy.specs.declared.job.Job.{Job}
+use Rattle.lr_plan.specs.declared.looks.SetLooks.{SetLooks}
+use Rattle.lr_plan.specs.Planned.{copy_job}
+use Rattle.lr_looks.specs.Families.{LookedLog}
+use Rattle.lr_looks.specs.Found.{FoundLog}
+use Rattle.lr_looks.specs.Sets.{looked_in}
+use Rattle.lr_looks.specs.Shown.{ShowsLooks}
+use Rattle.lr_reading.specs.declared.look.LookStop.{LookStop}
+use Rattle.lr_reading.specs.declared.remembered.Remembered.{Remembered}
+use Rattle.lr_reading.specs.Answers.{IsKnown, IsKnownBy, IsKnownBehind, IsKnownOf, known_of, text_of}
+use Rattle.lr_reading.specs.Pieces.{Reading}
+use Rattle.lr_reading.specs.Sights.{Sight, Failed, Nothing, Saw, StateSights, found, found_kind, look_of, behind_state, entries_of}
+use Rattle.lr_plan.specs.Steps.{state_part}
+use Rattle.lr_rotations.specs.Apart.{HasNames}
+use Rattle.lr_rotations.specs.Target.{Target}
+use Rattle.lr_rotations.proofs.Fitting.{first_named}
+use Rattle.lr_rotations.proofs.PartFile.{job_part}
+use Rattle.lr_chain.specs.Rotation.{places_of}
+use Rattle.lr_seen.proofs.Coming.{Comes, was_looked, in_looked}
+use Rattle.lr_seen.proofs.Ready.{by_copy}
+use Rattle.lr_stood.specs.True.{IsTrueFamily, AreTrue}
+use Rattle.lr_spared.specs.Smooth.{IsPartOfOne}
+
+-- ---- the part file of a copy
+
+in_has : (x : Path) (xs : List Path) → IsIn x xs → list_any (bytes_eq x) xs ≡ true
+in_has x [] i = absurd i
+in_has x (y ∷ ys) (inl same) = ap (λ (b : Bool). b || list_any (bytes_eq x) ys) ((bytes_eq-Decides x y).1 (sym same))
+in_has x (y ∷ ys) (inr i) = go (bytes_eq x y) (in_has x ys i)
+  where
+    go : (b : Bool) → list_any (bytes_eq x) ys ≡ true → (b || list_any (bytes_eq x) ys) ≡ true
+    go true e = refl
+    go false e = e
+
+-- it is that of a member
+part_is_members : (t : Target) (job : Job) → HasNames t → t.job ≡ Some job → IsMembersPart t.naming job.part
+part_is_members t job h is = subst (IsMembersPart t.naming) (sym (job_part t job h.ready (h.job job is)))
+    (path_at t.naming 0, inl (h.family.numbered, (0, record { bound = first_named t.naming t.count (places_of t.stand.members) h.next; named = refl })), refl)
+
+-- the log is one of those that are kept
+pub record IsKeptAs (logs : List FoundLog) (t : Target) : Type 0 where
+  pub found : FoundLog
+  pub among : IsIn found logs
+  pub path : found.log.path ≡ t.log
+  pub naming : found.log.naming ≡ t.naming
+
+module _ {reserved : List Path} {now : Moment} (rules : List Rule) (sets : List SetLooks) (faults : List Fault) (ts : List Entry) (s : ShowsLooks reserved rules sets faults ts) (t : Target) (c : Comes now rules sets t) where
+  looked : IsIn (looked_in (0 + c.place) c.look) s.looked
+  looked = was_looked 0 c.place s.looked sets c.set c.look s.by_sets c.at_set c.among
+
+  pub kept_as : IsKeptAs s.kept t
+  kept_as =
+      let g = in_looked s.kept s.entries.second.families.sights (looked_in (0 + c.place) c.look) (subst (IsIn (looked_in (0 + c.place) c.look)) s.entries.second.families.looked_are looked) in
+      record {
+        found = g.0;
+        among = g.1;
+        path = ap (λ (y : LookedLog). y.path) (sym g.2.1) ∙ ap (λ (u : Target). u.log) (sym c.is);
+        naming = ap (λ (y : LookedLog). y.naming) (sym g.2.1) ∙ ap (λ (u : Target). u.naming) (sym c.is);
+      }
+
+  -- its copy is the one that the look asks for
+  copied : (job : Job) → t.job ≡ Some job → (cut : Bool) × (copy_job c.look cut ≡ job)
+  copied job is = by_copy c.rule.way c.look job (sym (ap (λ (u : Target). u.job) c.is) ∙ is)
+
+  pub job_limit : (job : Job) → t.job ≡ Some job → job.limit ≡ 1_099_511_627_776
+  job_limit job is = ap (λ (k : Job). k.limit) (sym (copied job is).1)
+
+  pub part_of_one : HasNames t → (job : Job) → t.job ≡ Some job → IsPartOfOne s.kept job.part
+  part_of_one h job is = record { found = kept_as.found; among = kept_as.among; part = subst (λ (n : Naming). IsMembersPart n job.part) (sym kept_as.naming) (part_is_members t job h is) }
+
+  pub part_seen : (p q : Past) → AreTrue rules sets faults ts s p q → HasNames t → (job : Job) → t.job ≡ Some job → IsFileAt (names (world p)) job.part → job.stale ≡ true
+  part_seen p q a h job is file = subst (λ (k : Job). k.stale ≡ true) by.1 (in_has (part_of (path_at c.look.family.naming 0)) c.look.stand.parts
+      (f.parts (part_of (path_at c.look.family.naming 0))
+      (subst (IsMembersPart c.look.family.naming) part (subst (λ (n : Naming). IsMembersPart n job.part) (ap (λ (u : Target). u.naming) c.is) (part_is_members t job h is)))
+      (subst (IsFileAt (names (world p))) part file)))
+    where
+      by : (cut : Bool) × (copy_job c.look cut ≡ job)
+      by = copied job is
+
+      f : IsTrueFamily c.look.family.naming c.look.stand p q
+      f = a.families (looked_in (0 + c.place) c.look) looked
+
+      part : job.part ≡ part_of (path_at c.look.family.naming 0)
+      part = ap (λ (k : Job). k.part) (sym by.1)
+
+-- ---- the part file of the state
+
+-- where its table is known, an old part file was seen, or none
+module _ (state : Path) (r : Remembered) where
+  by_text : (stale : Bool) (text : Result (List ℕ) Fault) → IsKnownBy stale text (Ok r) → r.stale ≡ stale
+  by_text stale (Err why) known = absurd (cc)
+  by_text stale (Ok text) known = go known.0 known.2
+    where
+      go : (said : _) → Ok r ≡ known_of stale said → r.stale ≡ stale
+      go (Ok table) e = let same : r ≡ record { table = table; stale = stale } = cc in ap (λ (x : Remembered). x.stale) same
+      go (Err bad) e = absurd (cc)
+
+  by_kind : (k : Kind) (there : Bool) (reading : Reading) → IsKnownBehind state there (found_kind k) reading (Ok r) → r.stale ≡ true
+  by_kind kind.File there reading known = by_text true (text_of state there reading) known
+  by_kind kind.Dir there reading known = absurd (cc)
+  by_kind kind.Other there reading known = absurd (cc)
+
+  by_part : (there : Bool) (part : Sight) (reading : Reading) → IsKnownBehind state there (found part) reading (Ok r) → (r.stale ≡ true) ⊎ IsIn (entry.Look (state_part state) None) (behind_state state (Ok there) part reading)
+  by_part there Failed reading known = absurd (cc)
+  by_part there Nothing reading known = inr (inl refl)
+  by_part there (Saw seen) reading known = inl (by_kind seen.kind there reading known)
+
+  pub part_known : (s : StateSights) → IsKnown state s (Ok r) → (r.stale ≡ true) ⊎ IsIn (entry.Look (state_part state) None) (entries_of state s)
+  part_known s known = ⊎_elim (λ seen. inl seen) (λ none. inr (in_back (entry.Look (state_part state) None) (look_of state s.state) _ none)) (by (found s.state) known)
+    where
+      by : (f : Result Bool LookStop) → IsKnownOf state f (found s.part) s.reading (Ok r) → (r.stale ≡ true) ⊎ IsIn (entry.Look (state_part state) None) (behind_state state f s.part s.reading)
+      by (Ok there) k = by_part there s.part s.reading k
+      by (Err why) k = absurd (cc)

@@ -1,0 +1,36 @@
+-- Calls in which nothing is in the way of a run.
+use Rattle.std.specs.Prelude.{◌≡◌, ◌≤◌, ◌⊎◌, ℕ, List, length}
+use Rattle.lr_rules.specs.declared.path.Path.{Path}
+use Rattle.lr_host.specs.declared.thing.Thing.TheVariants as thing
+use Rattle.lr_host.specs.Fits.{IsFileAt}
+use Rattle.lr_host.specs.Lists.{IsIn}
+use Rattle.lr_host.specs.Quiet.{AttachedOnlySince}
+use Rattle.lr_host.specs.Told.{Counts, Rose}
+use Rattle.lr_host.specs.World.{Past, world, names}
+use Rattle.lr_family.specs.Parts.{IsMembersPart}
+use Rattle.lr_looks.specs.Found.{FoundLog}
+use Rattle.lr_plan.specs.Steps.{state_part}
+use Rattle.lr_rotations.specs.Rotated.{IsBehind}
+
+-- neither the count of failed calls rose nor that of bad ends; at its greatest value a count counts as risen
+abbrev pub NoneRose : Counts → Counts → Type 0
+NoneRose before now = (Rose before.faults now.faults → ⊥) × (Rose before.bad_ends now.bad_ends → ⊥)
+
+-- the path is that of the part file of a member of one of these logs
+pub record IsPartOfOne (logs : List FoundLog) (x : Path) : Type 0 where
+  pub found : FoundLog
+  pub among : IsIn found logs
+  pub part : IsMembersPart found.log.naming x
+
+-- the path is that of a file that gets its name by a rename once it is whole: of a new state, or of such a part file
+abbrev pub IsWrittenFirst : Path → List FoundLog → Path → Type 0
+IsWrittenFirst state logs x = (x ≡ state_part state) ⊎ IsPartOfOne logs x
+
+-- Between the two pasts nothing is in the way of a run with this state that keeps these logs.
+pub record IsSmooth (state : Path) (logs : List FoundLog) (before after : Past) : Type 0 where
+  -- no writer was attached to such a path
+  pub spared : AttachedOnlySince (λ x. IsWrittenFirst state logs x → ⊥) before after
+  -- at first nothing stood at the path of a part file, or a regular file did
+  pub free : (x : Path) → IsPartOfOne logs x → (names (world before) x ≡ thing.Nothing) ⊎ IsFileAt (names (world before)) x
+  -- no file was ever a log of these with more than 2^40 bytes
+  pub short : (f : FoundLog) → IsIn f logs → (m : Past) → IsBehind before m → IsBehind m after → (g : ℕ) → names (world m) f.log.path ≡ thing.File g → length ((world m).files g).bytes ≤ 1_099_511_627_776
