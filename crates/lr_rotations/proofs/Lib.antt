@@ -1,7 +1,9 @@
 pub mod Aged
 pub mod Alike
 pub mod Alone
+pub mod AnyFamily
 pub mod Apart
+pub mod BehindLooks
 pub mod CopyFits
 pub mod Drawn
 pub mod FamilyRotated

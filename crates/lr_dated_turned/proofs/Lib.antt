@@ -1,0 +1,4 @@
+pub mod Alone
+pub mod FamilyRotated
+pub mod Members
+pub mod WholeRotated
