@@ -18,7 +18,7 @@ fn put_copy(line: Line, rules: &Rules, out: &mut Answer) -> Result<(), Trouble> 
     Ok(())
 }
 
-/// The faults of the text, then a copy of its rules, with what no line can set so far.
+/// The faults of the text, then a copy of its rules, with start, way and create of each.
 pub fn copied(line: Line, out: &mut Answer) -> Result<(), Trouble> {
     let (rules, _) = read_texts(line, Built::SoFar, out)?;
     put_copy(line, &rules, out)

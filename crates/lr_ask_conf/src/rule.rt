@@ -30,7 +30,7 @@ pub fn put_words(rule: &Rule, out: &mut Answer) {
     put_all(rule.words.as_slice(), out)
 }
 
-// Its words, and what lines can set of it so far.
+// Its words, count and flags.
 fn put_front(rule: &Rule, out: &mut Answer) {
     put_words(rule, out);
     put_count(rule.count, out);
@@ -95,7 +95,7 @@ fn make_name(make: Make) -> &'static str {
     }
 }
 
-/// The rule with what no line can set so far.
+/// The rule with its criterion, start, way and create.
 pub fn put_whole(rule: &Rule, out: &mut Answer) {
     put_front(rule, out);
     put_criterion(rule.criterion, out);
