@@ -13,7 +13,7 @@ use Rattle.lr_host.specs.Told.{Counts, Left, Rose}
 use Rattle.lr_host.proofs.Left.{left_as, left_first, left_both, left_then}
 use Rattle.lr_due.specs.declared.tz.Zone.{Zone}
 use Rattle.lr_host.specs.Counted.{AreCounted}
-use Rattle.lr_rotations.specs.AllTurns.{IsWholeRun}
+use Rattle.lr_targets.specs.AllTurns.{IsWholeRun}
 use Rattle.lr_plan.specs.declared.planned.Plan.{Plan}
 use Rattle.lr_report.specs.Lines.{lines}
 use Rattle.lr_report.specs.Puts.{Took, TookPart}

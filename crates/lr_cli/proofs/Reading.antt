@@ -22,7 +22,7 @@ use Rattle.lr_include.specs.Readers.{meaning_of, IsConfOrCall}
 use Rattle.lr_include.specs.Stages.{Reads}
 use Rattle.lr_include.specs.Lacking.{LacksReading}
 use Rattle.lr_include.proofs.AllQuiet.{reads_quiet as confs_quiet, lacking_quiet}
-use Rattle.lr_rotations.specs.AllTurns.{IsWholeRun, not_yet}
+use Rattle.lr_targets.specs.AllTurns.{IsWholeRun, not_yet}
 use Rattle.lr_plan.specs.Asked.{asking}
 use Rattle.lr_plan.specs.declared.planned.Plan.{Plan}
 use Rattle.lr_plan.specs.declared.settings.Settings.{Settings}

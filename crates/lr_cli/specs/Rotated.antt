@@ -6,7 +6,7 @@ use Rattle.lr_host.specs.World.{past}
 use Rattle.lr_host.specs.Told.{Made}
 use Rattle.lr_copy.specs.declared.job.Job.{Job}
 use Rattle.lr_due.specs.declared.tz.Zone.{Zone}
-use Rattle.lr_rotations.specs.Target.{Target, IsOneOf}
+use Rattle.lr_targets.specs.Target.{Target, IsOneOf}
 use Rattle.lr_run.specs.Rotated.{rotated_in, IsRotatedAmong}
 use Rattle.lr_run.specs.Turned.{IsTurnedAmong}
 use Rattle.lr_plan.specs.Asked.{asking}

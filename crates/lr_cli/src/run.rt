@@ -3,7 +3,7 @@ ghost use Rattle.std.specs.Prelude.{◌≡◌, ◌≤◌, ◌+◌, [], None, tru
 ghost use Rattle.lr_host.specs.Opening.{IsJournal};
 ghost use Rattle.lr_host.specs.Told.{Left, Onward, Rose, WhereTold};
 ghost use Rattle.lr_host.specs.Counted.{AreCounted};
-ghost use Rattle.lr_rotations.specs.AllTurns.{IsWholeRun};
+ghost use Rattle.lr_targets.specs.AllTurns.{IsWholeRun};
 ghost use Rattle.lr_command.specs.Words.{can_be_state};
 ghost use Rattle.lr_cli.specs.Answer.{Answers, AnswersAt};
 ghost use Rattle.lr_cli.specs.Clock.{IsClocked};

@@ -11,10 +11,10 @@ use Rattle.lr_host.specs.Quiet.{AreQuiet}
 use Rattle.lr_host.specs.Steps.{is_change}
 use Rattle.lr_host.specs.Told.{Each}
 use Rattle.lr_host.proofs.Each.{each_append, each_first, each_as, all_pass}
-use Rattle.lr_rotations.specs.AllTurns.{IsOfState, IsOfSome, StandsBetween, AllTurns, AllTurned}
-use Rattle.lr_rotations.specs.Target.{Target, rotation_of, AreSeen, IsOneOf}
+use Rattle.lr_targets.specs.AllTurns.{IsOfState, IsOfSome, StandsBetween, AllTurns, AllTurned}
+use Rattle.lr_targets.specs.Target.{Target, rotation_of, AreSeen, IsOneOf}
 use Rattle.lr_rotations.specs.Weave.{Weave, IsFirstOf, FirstWoven}
-use Rattle.lr_rotations.proofs.Rotating.{each_turn}
+use Rattle.lr_targets.proofs.Rotating.{each_turn}
 use Rattle.lr_rotations.proofs.Weaving.{weave_on, weave_own, weave_others}
 
 -- ---- first parts

@@ -15,7 +15,7 @@ use Rattle.lr_rotations.specs.Members.{IsFamily}
 use Rattle.lr_chain.specs.declared.ready.Move.{Move}
 use Rattle.lr_chain.specs.Ready.{move_from}
 use Rattle.lr_chain.specs.Rotation.{places_of, rotation}
-use Rattle.lr_rotations.specs.Target.{HasReady}
+use Rattle.lr_targets.specs.Target.{HasReady}
 use Rattle.lr_examples.specs.Logs.{a_log, a_first, a_second, a_third, a_count, a_naming, a_stand, a_from, a_ready, a_target, b_log, b_first, b_naming, b_target}
 use Rattle.lr_examples.specs.TwoLogs.{a_steps}
 

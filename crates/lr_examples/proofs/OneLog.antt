@@ -26,7 +26,7 @@ use Rattle.lr_rotations.specs.Members.{IsNoMember, AreThere, HaveNext, NoMemberA
 use Rattle.lr_rotations.specs.Rotated.{IsBeside, AreOutside, IsRotatedWhole, RotatesAmong}
 use Rattle.lr_rotations.specs.Weave.{Weave, none, own, other}
 use Rattle.lr_rotations.proofs.Moments.{shown_in}
-use Rattle.lr_rotations.proofs.Others.{among_behind}
+use Rattle.lr_targets.proofs.Others.{among_behind}
 use Rattle.lr_rotations.proofs.Paths.{path_other}
 use Rattle.lr_rotations.proofs.WholeRotated.{seen_members, rotated_whole}
 use Rattle.lr_examples.specs.Logs.{state, part, rules, a_log, a_first, a_second, a_third, a_count, a_naming, a_stand, a_from, a_listed, b_log, b_first, b_listed, file, directory, looks}

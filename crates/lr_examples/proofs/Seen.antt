@@ -17,10 +17,10 @@ use Rattle.lr_family.specs.Stands.{number_in}
 use Rattle.lr_family.proofs.Unique.{named_same}
 use Rattle.lr_chain.specs.Rotation.{places_of}
 use Rattle.lr_rotations.specs.Members.{HasName}
-use Rattle.lr_rotations.specs.Shown.{Shown}
-use Rattle.lr_rotations.specs.Target.{IsGiven, AreSights, AreSeen}
+use Rattle.lr_rotations.specs.Shown.{Shown, SawMembers}
+use Rattle.lr_targets.specs.Target.{IsGiven, AreSeen}
 use Rattle.lr_rotations.specs.Weave.{Among}
-use Rattle.lr_rotations.proofs.Given.{literal_gives}
+use Rattle.lr_targets.proofs.Given.{literal_gives}
 use Rattle.lr_examples.specs.Logs.{rule_of, rules, a_log, a_first, a_second, a_count, a_naming, a_stand, a_listed, a_target, b_log, b_count, b_naming, b_stand, b_listed, b_target, file, directory, looks}
 use Rattle.lr_examples.proofs.Naming.{first_name, second_name, first_path, second_path, a_unnumbered, b_unnumbered, a_family, b_family, a_is_ready, b_is_ready}
 
@@ -84,7 +84,7 @@ a_shown = record {
 abbrev IsSightOf : Member → Type 0
 IsSightOf m = IsIn (entry.Look (path_at a_naming (number_in m.place)) (Some m.seen)) looks
 
-a_sights : AreSights a_naming a_stand.members looks
+a_sights : SawMembers a_naming a_stand.members looks
 a_sights m (inl e) = subst IsSightOf e first_look
 a_sights m (inr (inl e)) = subst IsSightOf e second_look
 a_sights m (inr (inr none)) = absurd none

@@ -19,7 +19,7 @@ use Rattle.lr_family.specs.declared.place.Place.TheVariants as at
 use Rattle.lr_family.specs.declared.stand.Member.{Member}
 use Rattle.lr_family.specs.declared.stand.Stand.{Stand}
 use Rattle.lr_chain.specs.declared.ready.Ready.{Ready}
-use Rattle.lr_rotations.specs.Target.{Target}
+use Rattle.lr_targets.specs.Target.{Target}
 
 -- ---- paths
 

@@ -26,9 +26,9 @@ use Rattle.lr_plan.specs.Asked.{Asked}
 use Rattle.lr_plan.specs.Outcomes.{Maybe}
 use Rattle.lr_plan.specs.Planned.{decision}
 use Rattle.lr_reading.proofs.Quiet.{state_quiet}
-use Rattle.lr_rotations.specs.AllTurns.{AllTurns}
-use Rattle.lr_rotations.specs.Target.{Target, IsOneOf}
-use Rattle.lr_rotations.proofs.LeftAlone.{others_left}
+use Rattle.lr_targets.specs.AllTurns.{AllTurns}
+use Rattle.lr_targets.specs.Target.{Target, IsOneOf}
+use Rattle.lr_targets.proofs.LeftAlone.{others_left}
 use Rattle.lr_rotations.proofs.Still.{quiet_safe_on}
 use Rattle.lr_weave.proofs.Parting.{done_turns}
 use Rattle.lr_weave.proofs.Planning.{ready_planned}

@@ -32,9 +32,9 @@ use Rattle.lr_fields.specs.Built.{AreBuiltRules}
 use Rattle.lr_run.proofs.Simple.{IsSimple, AreSimple, plan_simple}
 use Rattle.lr_run.proofs.Stating.{none_leaves, one_leaves, maybe_leaves, take_fails}
 use Rattle.lr_fixed.proofs.CountedListings.{IsNoListing, AreNoListings}
-use Rattle.lr_rotations.specs.Apart.{HaveNames}
-use Rattle.lr_rotations.specs.Target.{Target}
-use Rattle.lr_rotations.proofs.Apart.{part_own}
+use Rattle.lr_targets.specs.Apart.{HaveNames}
+use Rattle.lr_targets.specs.Target.{Target}
+use Rattle.lr_targets.proofs.Apart.{part_own}
 use Rattle.lr_weave.specs.Parts.{MakesOnly, MakesOne}
 use Rattle.lr_weave.proofs.Parting.{sets_parts}
 use Rattle.lr_weave.proofs.Planning.{ready_planned}

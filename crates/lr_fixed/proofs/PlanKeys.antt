@@ -31,9 +31,9 @@ use Rattle.lr_plan.specs.Planned.{all_plans}
 use Rattle.lr_plan.specs.Steps.{program, removal, removals, directory, move, step_if, transfer, anew, made_anew, rotation, rotation_of, retirement_of, steps_of_log, shared_steps, by_logs, steps_of_set}
 use Rattle.lr_acts.specs.Making.{all_of_each, all_of_set, all_of_sets}
 use Rattle.lr_looks.specs.Shown.{ShowsLooks}
-use Rattle.lr_rotations.specs.Apart.{HasNames, HaveNames}
-use Rattle.lr_rotations.specs.Target.{Target}
-use Rattle.lr_rotations.proofs.Apart.{part_own}
+use Rattle.lr_targets.specs.Apart.{HasNames, HaveNames}
+use Rattle.lr_targets.specs.Target.{Target}
+use Rattle.lr_targets.proofs.Apart.{part_own}
 use Rattle.lr_weave.specs.Fitting.{NoneMeets, DontMeet}
 use Rattle.lr_weave.specs.Planned.{bare, AreReadyFor, HaveLogs, NoneHas, AreApart}
 use Rattle.lr_fields.specs.Built.{AreBuiltRules}

@@ -20,7 +20,7 @@ ghost use Rattle.lr_plan.specs.declared.planned.Plan.{Plan};
 ghost use Rattle.lr_host.specs.Counted.{calls_in};
 ghost use Rattle.lr_looks.specs.Shown.{ShowsLooks};
 ghost use Rattle.lr_fields.specs.Built.{AreBuiltRules};
-ghost use Rattle.lr_rotations.specs.Target.{Target, IsOneOf};
+ghost use Rattle.lr_targets.specs.Target.{Target, IsOneOf};
 ghost use Rattle.lr_run.specs.Rotated.{rotated_in};
 ghost use Rattle.lr_run.specs.Runs.{Inside, Worked, Runs};
 ghost use Rattle.lr_cli.specs.declared.outcome.Outcome.TheVariants.{Done};

@@ -26,11 +26,11 @@ use Rattle.lr_looks.specs.Shown.{ShowsLooks}
 use Rattle.lr_plan.specs.declared.looks.LogLook.{LogLook}
 use Rattle.lr_plan.specs.declared.looks.SetLooks.{SetLooks}
 use Rattle.lr_plan.specs.Steps.{state_part}
-use Rattle.lr_rotations.specs.AllTurns.{IsStatePath, IsOfState, IsOfSome, AllTurns}
-use Rattle.lr_rotations.specs.Apart.{HaveNames}
-use Rattle.lr_rotations.specs.Target.{Target, IsOneOf, AreSeen}
-use Rattle.lr_rotations.proofs.Apart.{own_change}
-use Rattle.lr_rotations.proofs.SeenFits.{seen_names}
+use Rattle.lr_targets.specs.AllTurns.{IsStatePath, IsOfState, IsOfSome, AllTurns}
+use Rattle.lr_targets.specs.Apart.{HaveNames}
+use Rattle.lr_targets.specs.Target.{Target, IsOneOf, AreSeen}
+use Rattle.lr_targets.proofs.Apart.{own_change}
+use Rattle.lr_targets.proofs.SeenFits.{seen_names}
 use Rattle.lr_seen.specs.Free.{reserved_by}
 use Rattle.lr_seen.specs.Targets.{all_targets}
 use Rattle.lr_seen.proofs.Kept.{kept_has_none, kept_meets_none}

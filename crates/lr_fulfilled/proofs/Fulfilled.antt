@@ -31,9 +31,9 @@ use Rattle.lr_plan.specs.Course.{Course}
 use Rattle.lr_plan.specs.Done.{ActsDone, rotated_logs}
 use Rattle.lr_plan.specs.Planned.{decision}
 use Rattle.lr_plan.specs.Steps.{state_part, state_steps, steps_of_set}
-use Rattle.lr_rotations.specs.AllTurns.{IsOfSome, IsOfState}
-use Rattle.lr_rotations.specs.Apart.{HaveNames}
-use Rattle.lr_rotations.specs.Target.{Target}
+use Rattle.lr_targets.specs.AllTurns.{IsOfSome, IsOfState}
+use Rattle.lr_targets.specs.Apart.{HaveNames}
+use Rattle.lr_targets.specs.Target.{Target}
 use Rattle.lr_rotations.proofs.Weaving.{each_in}
 use Rattle.lr_weave.specs.Parts.{ArePlanned}
 use Rattle.lr_weave.proofs.Parting.{done_some}

@@ -18,7 +18,7 @@ use Rattle.lr_looks.specs.Found.{FoundLog}
 use Rattle.lr_plan.specs.Asked.{Asked}
 use Rattle.lr_plan.specs.declared.step.Step.{Step}
 use Rattle.lr_plan.specs.Steps.{steps_of_plan, state_part, state_steps}
-use Rattle.lr_rotations.specs.Target.{Target, IsOneOf}
+use Rattle.lr_targets.specs.Target.{Target, IsOneOf}
 use Rattle.lr_run.specs.Copied.{NoneOfCopy}
 use Rattle.lr_run.specs.Rotated.{rotated_in, IsRotatedAmong}
 use Rattle.lr_run.specs.Turned.{IsTurnedAmong}

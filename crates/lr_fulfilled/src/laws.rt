@@ -25,7 +25,7 @@ ghost use Rattle.lr_plan.specs.declared.mark.Mark.{Mark};
 ghost use Rattle.lr_plan.specs.declared.planned.Plan.{Plan};
 ghost use Rattle.lr_plan.specs.Done.{ActsDone, rotated_logs};
 ghost use Rattle.lr_plan.specs.Steps.{steps_of_plan, state_steps};
-ghost use Rattle.lr_rotations.specs.AllTurns.{AllTurns};
+ghost use Rattle.lr_targets.specs.AllTurns.{AllTurns};
 ghost use Rattle.lr_run.specs.Dry.{AreSights};
 ghost use Rattle.lr_run.specs.Runs.{Inside, Worked, logs_in};
 ghost use Rattle.lr_seen.specs.Free.{reserved_by};

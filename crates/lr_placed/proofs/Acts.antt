@@ -19,11 +19,11 @@ use Rattle.lr_laws.specs.Follow.{changed_paths}
 use Rattle.lr_plan.specs.declared.mark.Mark.{Mark}
 use Rattle.lr_plan.specs.declared.step.SetSteps.{SetSteps}
 use Rattle.lr_plan.specs.Done.{SetsDone}
-use Rattle.lr_rotations.specs.AllTurns.{IsOfSome}
-use Rattle.lr_rotations.specs.Apart.{HaveNames}
-use Rattle.lr_rotations.specs.Target.{Target}
-use Rattle.lr_rotations.proofs.Apart.{own_change}
-use Rattle.lr_rotations.proofs.Others.{IsFileChange, own_turns}
+use Rattle.lr_targets.specs.AllTurns.{IsOfSome}
+use Rattle.lr_targets.specs.Apart.{HaveNames}
+use Rattle.lr_targets.specs.Target.{Target}
+use Rattle.lr_targets.proofs.Apart.{own_change}
+use Rattle.lr_targets.proofs.Others.{IsFileChange, own_turns}
 use Rattle.lr_weave.specs.Parts.{ArePlanned}
 use Rattle.lr_weave.proofs.Parting.{done_some}
 use Rattle.lr_seen.specs.Free.{AreFreeOf}

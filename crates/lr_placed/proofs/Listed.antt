@@ -11,12 +11,12 @@ use Rattle.lr_host.specs.Fits.{IsDirectoryAt}
 use Rattle.lr_host.specs.World.{world, names}
 use Rattle.lr_host.proofs.Looked.{seen_file}
 use Rattle.lr_weave.proofs.Seen.{log_dir}
-use Rattle.lr_rotations.specs.Apart.{HasNames}
-use Rattle.lr_rotations.specs.Target.{Target, IsSeen, AreSeen, IsOneOf}
+use Rattle.lr_targets.specs.Apart.{HasNames}
+use Rattle.lr_targets.specs.Target.{Target, IsSeen, AreSeen, IsOneOf}
 use Rattle.lr_rotations.proofs.Fitting.{first_named}
 use Rattle.lr_rotations.proofs.Moments.{SawFile, saw_one}
 use Rattle.lr_rotations.proofs.Paths.{path_parent}
-use Rattle.lr_rotations.proofs.SeenFits.{seen_names}
+use Rattle.lr_targets.proofs.SeenFits.{seen_names}
 use Rattle.lr_chain.specs.Rotation.{places_of}
 use Rattle.lr_placed.specs.Dirs.{IsDirOfLog}
 use Rattle.lr_placed.proofs.Lasting.{Says}

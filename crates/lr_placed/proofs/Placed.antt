@@ -26,7 +26,7 @@ use Rattle.lr_looks.specs.Shown.{ShowsLooks}
 use Rattle.lr_reading.specs.declared.remembered.Remembered.{Remembered}
 use Rattle.lr_reading.specs.Answers.{ReadsState}
 use Rattle.lr_reading.proofs.Quiet.{state_quiet}
-use Rattle.lr_rotations.specs.Target.{Target, IsOneOf}
+use Rattle.lr_targets.specs.Target.{Target, IsOneOf}
 use Rattle.lr_weave.specs.Parts.{ArePlanned}
 use Rattle.lr_weave.proofs.Planning.{ready_planned}
 use Rattle.lr_fields.specs.Built.{AreBuiltRules}

@@ -4,7 +4,7 @@ use Rattle.lr_rules.specs.declared.path.Path.{Path}
 use Rattle.lr_rules.specs.Path.{parent_of}
 use Rattle.lr_family.specs.Spots.{path_at}
 use Rattle.lr_host.specs.Lists.{IsIn}
-use Rattle.lr_rotations.specs.Target.{Target, IsOneOf}
+use Rattle.lr_targets.specs.Target.{Target, IsOneOf}
 
 -- the directory of the log, or that of its newest member
 abbrev pub IsDirOfLog : Target → Path → Type 0

@@ -28,7 +28,7 @@ use Rattle.lr_family.specs.Spots.{path_at}
 use Rattle.lr_family.specs.Stands.{number_in}
 use Rattle.lr_chain.specs.Rotation.{is_left, is_expired, goes, going}
 use Rattle.lr_rotations.specs.Members.{IsFamily, HasName, MayGo}
-use Rattle.lr_rotations.specs.Target.{AreSights}
+use Rattle.lr_rotations.specs.Shown.{SawMembers}
 use Rattle.lr_rotations.proofs.Turning.{numbered, key_at}
 
 -- ---- the run
@@ -88,7 +88,7 @@ in_filter p x (y ∷ ys) h = go (p y) refl (in_filter p x ys) h
     go false e further rest = let r = further rest in (inr r.0, r.1)
 
 pub may_go : (s : LogSet) (u v : Past) (looks : List Entry) (c : Count) (now : ℤ) (rule : Rule) (members : List Member) → IsFamily s.log s.naming → Made u (reverse looks) v → AreQuiet looks → NoneAttached s v → (world v).now ≡ now
-    → ((g : ℕ) → ByAge v g rule → SomeRule (rules_of v) s.log (ByAge v g)) → ((place : ℕ) → Contains (going c rule.maxage now members) place → HasName s.naming place) → AreSights s.naming members looks → MayGo s v c (going c rule.maxage now members)
+    → ((g : ℕ) → ByAge v g rule → SomeRule (rules_of v) s.log (ByAge v g)) → ((place : ℕ) → Contains (going c rule.maxage now members) place → HasName s.naming place) → SawMembers s.naming members looks → MayGo s v c (going c rule.maxage now members)
 may_go s u v looks c now rule members family m quiet none is_now given named sights place h =
     ⊎_elim (λ full. inl (ap (λ k. is_left c (suc k)) at ∙ full)) (λ old. inr (λ g is. given g (aged old g is))) (or_cases (is_left c (suc (number_in one.place))) (is_expired rule.maxage now one) parts.1)
   where

@@ -1,5 +1,5 @@
--- The calls of a rotation, and when calls fit one after another.
-use Rattle.std.specs.Prelude.{List, [], ◌∷◌, ◌++◌, map, Option, Some, None}
+-- When calls fit one after another, and the calls of a copy.
+use Rattle.std.specs.Prelude.{List, [], ◌∷◌, ◌++◌, Option}
 use Rattle.lr_host.specs.declared.thing.Thing.TheVariants as thing
 use Rattle.lr_host.specs.declared.entry.Entry.{Entry}
 use Rattle.lr_host.specs.declared.entry.Entry.TheVariants.{Reads, Renames, Makes, MakesDir, Appends, Unlinks, SyncsFile, SyncsDir}
@@ -8,9 +8,6 @@ use Rattle.lr_host.specs.World.{Names, put, world, names}
 use Rattle.lr_host.specs.Told.{CanCall, WhereTold}
 use Rattle.lr_copy.specs.declared.job.Job.{Job}
 use Rattle.lr_copy.specs.Copying.{clearing, cutting}
-use Rattle.lr_chain.specs.declared.ready.Ready.{Ready}
-use Rattle.lr_chain.specs.Ready.{move_step}
-use Rattle.lr_rotations.specs.Target.{Target, unlinks}
 
 -- ---- calls that fit
 
@@ -31,17 +28,6 @@ FitCalls n (e ∷ es) = CanCall n e × FitCalls (after_call n e) es
 pub record CanCalls (told : Option Journal) (calls : List Entry) : Type 0 where
   pub can : WhereTold told (λ p. FitCalls (names (world p)) calls)
 
--- ---- the calls of a rotation, as they are asked for; what a call will give or take makes no difference
-
--- of a copy
+-- the calls of a copy, as they are asked for; what a call will give or take makes no difference
 abbrev pub copy_calls : Job → List Entry
 copy_calls job = clearing job ++ (Makes job.part job.mode ∷ Reads job.from 0 [] ∷ Appends job.part [] ∷ SyncsFile job.part ∷ Renames job.part job.to ∷ SyncsDir job.dir ∷ cutting job)
-
--- of what brings the log to its final path
-abbrev pub transfer_calls : Ready → Option Job → List Entry
-transfer_calls ready None = Renames ready.log ready.target ∷ []
-transfer_calls ready (Some job) = copy_calls job
-
--- All of them, but for the making of the log anew, which may be left out. The final path is a file behind the transfer: the mail of the first file can read it.
-abbrev pub calls_of : Target → List Entry
-calls_of t = unlinks t.ready.leftovers ++ (map move_step t.ready.moves ++ (transfer_calls t.ready t.job ++ Reads t.ready.target 0 [] ∷ unlinks t.ready.retire))

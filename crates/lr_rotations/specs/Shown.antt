@@ -7,8 +7,10 @@ use Rattle.lr_host.specs.declared.entry.Entry.TheVariants as entry
 use Rattle.lr_host.specs.declared.thing.Kind.TheVariants as kind
 use Rattle.lr_host.specs.declared.thing.Seen.{Seen}
 use Rattle.lr_host.specs.Lists.{IsIn}
+use Rattle.lr_family.specs.declared.stand.Member.{Member}
 use Rattle.lr_family.specs.Named.{member_name}
 use Rattle.lr_family.specs.Spots.{path_at}
+use Rattle.lr_family.specs.Stands.{number_in}
 use Rattle.lr_rotations.specs.Members.{HasName}
 
 -- Looks among these entries, in any order, show that the members at these places stand, each a regular file, the highest first, and that no other does: the directory was listed, and each other member isn't in the list, or a look at it saw nothing.
@@ -20,3 +22,7 @@ pub record Shown (n : Naming) (places : List ℕ) (ts : List Entry) : Type 0 whe
   pub named : (place : ℕ) → Contains places place → HasName n place
   pub files : (place : ℕ) → Contains places place → (seen : Seen) × (seen.kind ≡ kind.File) × IsIn (entry.Look (path_at n place) (Some seen)) ts
   pub others : (place : ℕ) → HasName n place → (Contains places place → ⊥) → (Contains names (member_name n (n.start + place)) → ⊥) ⊎ IsIn (entry.Look (path_at n place) None) ts
+
+-- the looks saw this of each of these members
+abbrev pub SawMembers : Naming → List Member → List Entry → Type 0
+SawMembers n members looks = (m : Member) → IsIn m members → IsIn (entry.Look (path_at n (number_in m.place)) (Some m.seen)) looks

@@ -27,16 +27,16 @@ use Rattle.lr_chain.specs.declared.ready.Ready.{Ready}
 use Rattle.lr_chain.specs.Rotation.{places_of, is_left, leftovers, kept, retired, leftover_steps, shift_steps, retire_steps}
 use Rattle.lr_plan.specs.declared.planned.LogPlan.{LogPlan}
 use Rattle.lr_plan.specs.declared.planned.SetPlan.{SetPlan}
-use Rattle.lr_rotations.specs.AllTurns.{AlsoDoes, IsOfSome}
-use Rattle.lr_rotations.specs.Apart.{HasNames, HaveNames}
+use Rattle.lr_targets.specs.AllTurns.{AlsoDoes, IsOfSome}
+use Rattle.lr_targets.specs.Apart.{HasNames, HaveNames}
 use Rattle.lr_rotations.specs.Members.{IsFamily, HasName}
-use Rattle.lr_rotations.specs.Target.{Target, transfer_of, rotation_of, IsOneOf}
-use Rattle.lr_rotations.proofs.Apart.{own_change}
+use Rattle.lr_targets.specs.Target.{Target, transfer_of, rotation_of, IsOneOf}
+use Rattle.lr_targets.proofs.Apart.{own_change}
 use Rattle.lr_rotations.proofs.Fitting.{kept_next, first_named, retire_named}
 use Rattle.lr_rotations.proofs.Members.{IsOfMembers, unlinks_of, moves_of}
-use Rattle.lr_rotations.proofs.PartFile.{part_parent, job_target, job_part}
+use Rattle.lr_targets.proofs.PartFile.{part_parent, job_target, job_part}
 use Rattle.lr_rotations.proofs.Paths.{path_parent}
-use Rattle.lr_rotations.proofs.Rotating.{left_are, shift_are, retire_are, each_part}
+use Rattle.lr_targets.proofs.Rotating.{left_are, shift_are, retire_are, each_part}
 use Rattle.lr_rotations.proofs.Weaving.{each_in}
 use Rattle.lr_weave.specs.Planned.{AreReadyFor, HaveLogs}
 use Rattle.lr_seen.specs.Free.{reserved_by, AreFreeOf}

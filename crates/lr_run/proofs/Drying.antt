@@ -31,7 +31,7 @@ use Rattle.lr_plan.specs.declared.planned.Plan.{Plan}
 use Rattle.lr_plan.specs.Planned.{decision, plan_of}
 use Rattle.lr_reading.specs.declared.remembered.Remembered.{Remembered}
 use Rattle.lr_reading.specs.Answers.{ReadsState}
-use Rattle.lr_rotations.specs.AllTurns.{IsWholeRun}
+use Rattle.lr_targets.specs.AllTurns.{IsWholeRun}
 use Rattle.lr_durable.specs.Renewing.{MayRenew}
 use Rattle.lr_durable.specs.StateWhole.{KeepsWhole}
 use Rattle.lr_emptied.specs.Emptied.{EmptiesCopied, EmptiesWhole}

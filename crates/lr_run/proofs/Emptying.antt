@@ -44,12 +44,12 @@ use Rattle.lr_looks.specs.Families.{LookedLog}
 use Rattle.lr_looks.specs.Choices.{kept_of}
 use Rattle.lr_looks.specs.Sets.{looked_in}
 use Rattle.lr_looks.specs.Shown.{ShowsLooks}
-use Rattle.lr_rotations.specs.Apart.{HasNames}
-use Rattle.lr_rotations.specs.Target.{Target, IsJob, IsSeen, AreSeen}
+use Rattle.lr_targets.specs.Apart.{HasNames}
+use Rattle.lr_targets.specs.Target.{Target, IsJob, IsSeen, AreSeen}
 use Rattle.lr_rotations.proofs.Fitting.{first_named}
-use Rattle.lr_rotations.proofs.PartFile.{job_target}
+use Rattle.lr_targets.proofs.PartFile.{job_target}
 use Rattle.lr_rotations.proofs.Paths.{path_member}
-use Rattle.lr_rotations.proofs.SeenFits.{seen_names, seen_paths}
+use Rattle.lr_targets.proofs.SeenFits.{seen_names, seen_paths}
 use Rattle.lr_weave.specs.Planned.{AreReadyFor, HaveLogs}
 use Rattle.lr_fields.specs.Built.{AreBuiltRules}
 use Rattle.lr_seen.specs.Targets.{groups_of, all_targets}

@@ -24,7 +24,7 @@ use Rattle.lr_plan.specs.Steps.{state_steps}
 use Rattle.lr_acts.specs.declared.progress.Progress.{Progress}
 use Rattle.lr_looks.specs.Shown.{LooksAtAll}
 use Rattle.lr_reading.specs.declared.remembered.Remembered.{Remembered}
-use Rattle.lr_rotations.specs.Target.{Target, IsOneOf}
+use Rattle.lr_targets.specs.Target.{Target, IsOneOf}
 use Rattle.lr_weave.specs.Planned.{AreReadyFor, HaveLogs}
 use Rattle.lr_writing.specs.Directories.{AreDirectoriesOf}
 use Rattle.lr_writing.specs.Target as writing

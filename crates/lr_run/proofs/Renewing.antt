@@ -30,9 +30,9 @@ use Rattle.lr_plan.specs.Done.{rotated_logs}
 use Rattle.lr_plan.specs.Outcomes.{Maybe}
 use Rattle.lr_plan.specs.Planned.{decision}
 use Rattle.lr_plan.specs.Steps.{steps_of_set}
-use Rattle.lr_rotations.specs.AllTurns.{IsOfSome}
-use Rattle.lr_rotations.specs.Apart.{HaveNames}
-use Rattle.lr_rotations.specs.Target.{Target}
+use Rattle.lr_targets.specs.AllTurns.{IsOfSome}
+use Rattle.lr_targets.specs.Apart.{HaveNames}
+use Rattle.lr_targets.specs.Target.{Target}
 use Rattle.lr_weave.specs.Parts.{ArePlanned}
 use Rattle.lr_weave.specs.Planned.{HaveLogs}
 use Rattle.lr_weave.proofs.Parting.{done_some, cut_some}

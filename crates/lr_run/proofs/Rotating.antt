@@ -23,13 +23,13 @@ use Rattle.lr_plan.specs.declared.looks.LogLook.{LogLook}
 use Rattle.lr_host.specs.Counted.{calls_in, scripts_in}
 use Rattle.lr_plan.specs.Done.{PlanDone}
 use Rattle.lr_plan.specs.Planned.{decision}
-use Rattle.lr_rotations.specs.AllTurns.{AllTurned, other_paths}
-use Rattle.lr_rotations.specs.Apart.{HasNames, HaveNames}
+use Rattle.lr_targets.specs.AllTurns.{AllTurned, other_paths}
+use Rattle.lr_targets.specs.Apart.{HasNames, HaveNames}
 use Rattle.lr_rotations.specs.Rotated.{AreOutside, RotatesAmong}
-use Rattle.lr_rotations.specs.Target.{Target, IsOneOf}
-use Rattle.lr_rotations.proofs.Apart.{outside}
+use Rattle.lr_targets.specs.Target.{Target, IsOneOf}
+use Rattle.lr_targets.proofs.Apart.{outside}
 use Rattle.lr_rotations.proofs.WholeRotated.{seen_members, rotated_whole}
-use Rattle.lr_rotations.proofs.Others.{run_rotates}
+use Rattle.lr_targets.proofs.Others.{run_rotates}
 use Rattle.lr_weave.specs.Fitting.{NoneMeets, DontMeet}
 use Rattle.lr_weave.proofs.Planning.{ready_planned}
 use Rattle.lr_weave.proofs.Turned.{done_turned}

@@ -19,18 +19,18 @@ use Rattle.lr_plan.specs.Done.{PlanDone}
 use Rattle.lr_emptied.specs.Emptied.{EmptiesCopied}
 use Rattle.lr_emptied.proofs.Acts.{state_copying}
 use Rattle.lr_emptied.proofs.Entries.{none_empties, both_empty}
-use Rattle.lr_rotations.specs.AllTurns.{AllTurned, other_paths}
-use Rattle.lr_rotations.specs.Apart.{HasNames}
+use Rattle.lr_targets.specs.AllTurns.{AllTurned, other_paths}
+use Rattle.lr_targets.specs.Apart.{HasNames}
 use Rattle.lr_rotations.specs.Members.{IsFamily, IsNoMember}
 use Rattle.lr_rotations.specs.Rotated.{AreOutside}
-use Rattle.lr_rotations.specs.Target.{Target, IsJob, IsOneOf}
+use Rattle.lr_targets.specs.Target.{Target, IsJob, IsOneOf}
 use Rattle.lr_rotations.proofs.Fitting.{first_named}
-use Rattle.lr_rotations.proofs.PartFile.{job_target, job_part, part_no_member}
-use Rattle.lr_rotations.proofs.SeenFits.{seen_paths}
+use Rattle.lr_targets.proofs.PartFile.{job_target, job_part, part_no_member}
+use Rattle.lr_targets.proofs.SeenFits.{seen_paths}
 use Rattle.lr_chain.specs.Rotation.{places_of}
 use Rattle.lr_weave.specs.Planned.{HaveLogs, AreApart}
 use Rattle.lr_turned.specs.Turned.{CopiesAmong}
-use Rattle.lr_rotations.proofs.Others.{seen_one}
+use Rattle.lr_targets.proofs.Others.{seen_one}
 use Rattle.lr_turned.proofs.Among.{CopyStands, IsSameFor, copies_among}
 use Rattle.lr_turned.proofs.Stands.{stands_first, plan_stands, plan_empties}
 use Rattle.lr_turned.proofs.Turned.{seen_stood, turned_by_copy}

@@ -10,10 +10,10 @@ use Rattle.lr_state.specs.Table.{Entry as Row}
 use Rattle.lr_plan.specs.Asked.{Asked}
 use Rattle.lr_plan.specs.declared.looks.SetLooks.{SetLooks}
 use Rattle.lr_plan.specs.Planned.{decision}
-use Rattle.lr_rotations.specs.AllTurns.{other_paths}
+use Rattle.lr_targets.specs.AllTurns.{other_paths}
 use Rattle.lr_rotations.specs.Members.{AreThere, NoMemberAttached}
 use Rattle.lr_rotations.specs.Rotated.{IsRotatedWhole}
-use Rattle.lr_rotations.specs.Target.{Target}
+use Rattle.lr_targets.specs.Target.{Target}
 use Rattle.lr_seen.specs.Targets.{all_targets}
 use Rattle.lr_run.specs.Runs.{Looked}
 

@@ -7,7 +7,7 @@ ghost use Rattle.lr_durable.specs.StateWhole.{KeepsWhole};
 ghost use Rattle.lr_host.specs.Safe.{KeepsSafe};
 ghost use Rattle.lr_host.specs.Counted.{AddsFaults};
 ghost use Rattle.lr_emptied.specs.Emptied.{EmptiesWhole};
-ghost use Rattle.lr_rotations.specs.AllTurns.{IsWholeRun};
+ghost use Rattle.lr_targets.specs.AllTurns.{IsWholeRun};
 ghost use Rattle.lr_fields.specs.Built.{AreBuiltRules};
 ghost use Rattle.lr_plan.specs.Asked.{asking};
 ghost use Rattle.lr_run.specs.Answers.{Answers};

@@ -11,7 +11,7 @@ ghost use Rattle.lr_host.specs.Quiet.{AreQuiet};
 ghost use Rattle.lr_host.specs.Told.{Made};
 ghost use Rattle.lr_host.specs.Counted.{calls_in, scripts_in};
 ghost use Rattle.lr_copy.specs.declared.job.Job.{Job};
-ghost use Rattle.lr_rotations.specs.Target.{Target, IsOneOf};
+ghost use Rattle.lr_targets.specs.Target.{Target, IsOneOf};
 ghost use Rattle.lr_fields.specs.Built.{AreBuiltRules};
 ghost use Rattle.lr_plan.specs.Asked.{Asked};
 ghost use Rattle.lr_run.specs.Copied.{NoneOfCopy};

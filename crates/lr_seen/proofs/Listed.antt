@@ -29,8 +29,7 @@ use Rattle.lr_days.specs.Among.{ShowsMembers as ShowsDays}
 use Rattle.lr_chain.specs.Rotation.{places_of}
 use Rattle.lr_looks.specs.Families.{FamilySight, Stood, Stopped, ShowsBy, ShowsFamily, behind_listing, with_listing, not_listed, ShowFamilies, LookedLog, looked_by, looked_of}
 use Rattle.lr_looks.specs.Found.{FoundLog}
-use Rattle.lr_rotations.specs.Shown.{Shown}
-use Rattle.lr_rotations.specs.Target.{AreSights}
+use Rattle.lr_rotations.specs.Shown.{Shown, SawMembers}
 use Rattle.lr_rotations.proofs.Shown.{stands_shown}
 use Rattle.lr_seen.proofs.Elements.{in_list, in_flat}
 
@@ -106,7 +105,7 @@ of_sight spot (Some seen) m (inl e) = (ap (λ (x : Member). number_in x.place) e
 of_sight spot (Some seen) m (inr none) = absurd none
 
 -- what was seen of each member a look told
-sights_among : (n : Naming) (names : List (List ℕ)) (members : List Member) (us all : List Entry) → ((e : Entry) → IsIn e us → IsIn e all) → StandsAmong n names members us → AreSights n members all
+sights_among : (n : Naming) (names : List (List ℕ)) (members : List Member) (us all : List Entry) → ((e : Entry) → IsIn e us → IsIn e all) → StandsAmong n names members us → SawMembers n members all
 sights_among n names members us all in_all s m i = in_all (entry.Look (path_at n (number_in m.place)) (Some m.seen))
     (subst (IsIn (entry.Look (path_at n (number_in m.place)) (Some m.seen))) (sym s.looks.looks)
     (subst (λ (e : Entry). IsIn e (map look_of s.looks.sights)) look (in_map look_of g.0 s.looks.sights g.1)))
@@ -130,7 +129,7 @@ sights_among n names members us all in_all s m i = in_all (entry.Look (path_at n
 
 -- looks at the members, behind a listing that was told anywhere among all entries
 members_shown : (all : List Entry) (n : Naming) (l : Listing) (stand : Stand) (ts : List Entry) → ((e : Entry) → IsIn e ts → IsIn e all) → AreTold all (l ∷ []) → l.dir ≡ n.dir → stand.there ≡ true
-    → ShowsIn n l.there l.parent l.names stand ts → Shown n (places_of stand.members) all × AreSights n stand.members all
+    → ShowsIn n l.there l.parent l.names stand ts → Shown n (places_of stand.members) all × SawMembers n stand.members all
 members_shown all n l stand ts in_all told dir there h = (
   stands_shown n t.names stand.members h.2.front all more (t.seen, t.is_dir, subst (λ (x : Path). IsIn (entry.Look x (Some t.seen)) all) dir t.look)
       (subst (λ (x : Path). IsIn (entry.List x t.names) all) dir t.list) among,
@@ -193,7 +192,7 @@ parts_shown all n l stand ts in_all (Some format) h = parts_among all n l stand 
 
 -- The members of a numbered family were seen where its directory is there, each by a look that tells what was seen of it, and the part files of every one.
 abbrev pub WasShown : Naming → Stand → List Entry → Type 0
-WasShown n stand all = (n.dated ≡ None → stand.there ≡ true → Shown n (places_of stand.members) all × AreSights n stand.members all) × SawFiles stand.parts all
+WasShown n stand all = (n.dated ≡ None → stand.there ≡ true → Shown n (places_of stand.members) all × SawMembers n stand.members all) × SawFiles stand.parts all
 
 -- a family, whether its directory was listed before or is listed now
 family_shown : (all : List Entry) (known : List Listing) (n : Naming) (after : List Listing) (stand : Stand) (s : FamilySight) (ts : List Entry) → s ≡ Stood stand → ((e : Entry) → IsIn e ts → IsIn e all) → AreTold all known → AreTold all after

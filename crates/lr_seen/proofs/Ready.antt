@@ -23,7 +23,7 @@ use Rattle.lr_plan.specs.declared.planned.LogPlan.{LogPlan}
 use Rattle.lr_commands.specs.Commands.{spaced, script, where_so, mail, with_programs}
 use Rattle.lr_plan.specs.Planned.{copy_job, job_by, going_from, ready_for, with_removals, dressed, hindrances, log_plan, none_hinders, plans_of, where_due, log_plans, all_plans}
 use Rattle.lr_looks.specs.Shown.{ShowsLooks}
-use Rattle.lr_rotations.specs.Target.{Target, HasReady, IsJob, HasJob}
+use Rattle.lr_targets.specs.Target.{Target, HasReady, IsJob, HasJob}
 use Rattle.lr_weave.specs.Fitting.{ReadsNothing, ReadsThis, ReadThemselves, ReadsOwn, ReadOwn, ReadOnlyOwn}
 use Rattle.lr_weave.specs.Planned.{bare_removal, bare, IsReadyFor, AreReadyFor, HaveLogs}
 use Rattle.lr_fields.specs.Built.{AreBuiltRules}

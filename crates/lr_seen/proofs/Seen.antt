@@ -45,12 +45,12 @@ use Rattle.lr_looks.specs.Found.{FoundLog, HasLogPath, HaveLogPaths}
 use Rattle.lr_looks.specs.Sets.{looked_in}
 use Rattle.lr_looks.specs.Shown.{ShowsLooks}
 use Rattle.lr_looks.proofs.Kindred.{kin_of}
-use Rattle.lr_rotations.specs.Apart.{HaveNames}
+use Rattle.lr_targets.specs.Apart.{HaveNames}
 use Rattle.lr_rotations.specs.Members.{IsFamily}
-use Rattle.lr_rotations.specs.Target.{Target, IsOneTooHigh, Gives, AreSights, IsSeen, AreSeen}
-use Rattle.lr_rotations.specs.Shown.{Shown}
+use Rattle.lr_targets.specs.Target.{Target, IsOneTooHigh, Gives, IsSeen, AreSeen}
+use Rattle.lr_rotations.specs.Shown.{SawMembers, Shown}
 use Rattle.lr_rotations.specs.Weave.{Among}
-use Rattle.lr_rotations.proofs.SeenFits.{seen_names}
+use Rattle.lr_targets.proofs.SeenFits.{seen_names}
 use Rattle.lr_fields.specs.Built.{IsBuiltRule, AreBuiltRules}
 use Rattle.lr_seen.specs.Targets.{all_targets}
 use Rattle.lr_seen.proofs.Elements.{in_list}
@@ -220,7 +220,7 @@ target_seen rules sets faults ts now t built s c = subst (IsSeen rules now.secon
     free : (c.look.stand.there ≡ true) × (is_too_high c.rule c.look ≡ false)
     free = is_free c.rule c.look c.free
 
-    members : Shown x.naming (places_of x.stand.members) ts × AreSights x.naming x.stand.members ts
+    members : Shown x.naming (places_of x.stand.members) ts × SawMembers x.naming x.stand.members ts
     members = shown.0 (looked_family rules sets faults ts x built s looked).numbered free.0
 
 each_seen : (rules : Rules) (now : ℤ) (ts : List Entry) (us : List Target) → ((t : Target) → IsIn t us → IsSeen rules now ts t) → AreSeen rules now ts us

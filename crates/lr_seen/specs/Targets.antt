@@ -8,7 +8,7 @@ use Rattle.lr_due.specs.declared.answer.Due.{Due}
 use Rattle.lr_plan.specs.declared.looks.LogLook.{LogLook}
 use Rattle.lr_plan.specs.declared.looks.SetLooks.{SetLooks}
 use Rattle.lr_plan.specs.Planned.{going_from, ready_for, job_of, hindrances, where_due}
-use Rattle.lr_rotations.specs.Target.{Target}
+use Rattle.lr_targets.specs.Target.{Target}
 
 -- a log with the count of its rule, the places from which members come that go at this moment, its rotation, and its copy where the rule asks for one
 abbrev pub target_of : Moment → Rule → LogLook → Target

@@ -23,13 +23,13 @@ use Rattle.lr_plan.specs.declared.step.Step.{Step}
 use Rattle.lr_plan.specs.declared.step.Step.TheVariants as step
 use Rattle.lr_plan.specs.Steps.{on_of, program, removal, removals, directory, move, step_if, copy, transfer, made_anew, rotation_of, retirement_of, steps_of_log, shared_steps, by_logs, steps_of_set}
 use Rattle.lr_acts.specs.Making.{all_of_each, all_of_set, all_of_sets}
-use Rattle.lr_rotations.specs.Apart.{HasNames, HaveNames}
+use Rattle.lr_targets.specs.Apart.{HasNames, HaveNames}
 use Rattle.lr_rotations.specs.Members.{HasName, IsNoMember}
-use Rattle.lr_rotations.specs.Target.{Target, IsOneOf}
-use Rattle.lr_rotations.proofs.Apart.{part_own}
+use Rattle.lr_targets.specs.Target.{Target, IsOneOf}
+use Rattle.lr_targets.proofs.Apart.{part_own}
 use Rattle.lr_rotations.proofs.Fitting.{kept_next, first_named, retire_named}
 use Rattle.lr_rotations.proofs.Outside.{place_name}
-use Rattle.lr_rotations.proofs.PartFile.{part_no_member, job_target, job_part}
+use Rattle.lr_targets.proofs.PartFile.{part_no_member, job_target, job_part}
 use Rattle.lr_weave.specs.Fitting.{NoneMeets, DontMeet}
 use Rattle.lr_weave.specs.Planned.{bare_removal, IsReadyFor, AreReadyFor, HaveLogs}
 use Rattle.lr_spared.proofs.Courses.{set_so, all_set}

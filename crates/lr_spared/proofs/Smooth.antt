@@ -47,9 +47,9 @@ use Rattle.lr_acts.specs.Making.{all_of_sets}
 use Rattle.lr_acts.specs.Taken.{OneTakes}
 use Rattle.lr_looks.specs.Found.{FoundLog}
 use Rattle.lr_reading.specs.Sights.{entries_of}
-use Rattle.lr_rotations.specs.Apart.{HasNames, HaveNames}
-use Rattle.lr_rotations.specs.Target.{Target, IsOneOf}
-use Rattle.lr_rotations.proofs.Apart.{part_own}
+use Rattle.lr_targets.specs.Apart.{HasNames, HaveNames}
+use Rattle.lr_targets.specs.Target.{Target, IsOneOf}
+use Rattle.lr_targets.proofs.Apart.{part_own}
 use Rattle.lr_rotations.proofs.OrMade.{made_behind}
 use Rattle.lr_weave.specs.Fitting.{DontMeet}
 use Rattle.lr_weave.specs.Planned.{AreReadyFor}

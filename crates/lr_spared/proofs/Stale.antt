@@ -31,10 +31,10 @@ use Rattle.lr_reading.specs.Answers.{IsKnown, IsKnownBy, IsKnownBehind, IsKnownO
 use Rattle.lr_reading.specs.Pieces.{Reading}
 use Rattle.lr_reading.specs.Sights.{Sight, Failed, Nothing, Saw, StateSights, found, found_kind, look_of, behind_state, entries_of}
 use Rattle.lr_plan.specs.Steps.{state_part}
-use Rattle.lr_rotations.specs.Apart.{HasNames}
-use Rattle.lr_rotations.specs.Target.{Target}
+use Rattle.lr_targets.specs.Apart.{HasNames}
+use Rattle.lr_targets.specs.Target.{Target}
 use Rattle.lr_rotations.proofs.Fitting.{first_named}
-use Rattle.lr_rotations.proofs.PartFile.{job_part}
+use Rattle.lr_targets.proofs.PartFile.{job_part}
 use Rattle.lr_chain.specs.Rotation.{places_of}
 use Rattle.lr_seen.proofs.Coming.{Comes, was_looked, in_looked}
 use Rattle.lr_seen.proofs.Ready.{by_copy}

@@ -25,18 +25,18 @@ use Rattle.lr_copied.specs.Whole.{Named}
 use Rattle.lr_chain.specs.Rotation.{places_of, is_left, leftovers, kept, retired, leftover_steps, shift_steps, retire_steps}
 use Rattle.lr_durable.proofs.Lists.{each_last}
 use Rattle.lr_emptied.specs.Emptied.{CopiedLast, EmptiesCopied}
-use Rattle.lr_rotations.specs.AllTurns.{StandsBetween, other_paths, AllTurned}
-use Rattle.lr_rotations.specs.Apart.{HasNames}
+use Rattle.lr_targets.specs.AllTurns.{StandsBetween, other_paths, AllTurned}
+use Rattle.lr_targets.specs.Apart.{HasNames}
 use Rattle.lr_rotations.specs.Members.{HasName, IsNoMember}
 use Rattle.lr_rotations.specs.Rotated.{IsBeside, AreOutside}
-use Rattle.lr_rotations.specs.Target.{Target, transfer_of, rotation_of, IsSeen, IsOneOf}
+use Rattle.lr_targets.specs.Target.{Target, transfer_of, rotation_of, IsSeen, IsOneOf}
 use Rattle.lr_rotations.specs.Weave.{Among, Weave}
 use Rattle.lr_rotations.proofs.Fitting.{kept_next, first_named, retire_named}
 use Rattle.lr_rotations.proofs.Members.{IsOfMembers, unlinks_of, moves_of}
 use Rattle.lr_rotations.proofs.Moments.{shown_in}
-use Rattle.lr_rotations.proofs.Others.{seen_one}
-use Rattle.lr_rotations.proofs.PartFile.{job_target}
-use Rattle.lr_rotations.proofs.Rotating.{left_are, shift_are, retire_are, two}
+use Rattle.lr_targets.proofs.Others.{seen_one}
+use Rattle.lr_targets.proofs.PartFile.{job_target}
+use Rattle.lr_targets.proofs.Rotating.{left_are, shift_are, retire_are, two}
 use Rattle.lr_rotations.proofs.Splitting.{weave_each}
 use Rattle.lr_rotations.proofs.Weaving.{weave_as}
 use Rattle.lr_turned.specs.Turned.{CopiesAmong}

@@ -10,11 +10,11 @@ use Rattle.lr_host.specs.Quiet.{is_disk_change}
 use Rattle.lr_host.proofs.Lists.{in_front, in_back}
 use Rattle.lr_laws.specs.Follow.{changed_paths}
 use Rattle.lr_copy.specs.declared.job.Job.{Job}
-use Rattle.lr_rotations.specs.AllTurns.{IsStatePath, IsOfState, IsPartFile, AlsoDoes, IsOf, IsOfOther, StandsBetween, part_paths, paths_of, paths_of_others, other_paths}
+use Rattle.lr_targets.specs.AllTurns.{IsStatePath, IsOfState, IsPartFile, AlsoDoes, IsOf, IsOfOther, StandsBetween, part_paths, paths_of, paths_of_others, other_paths}
 use Rattle.lr_rotations.specs.Rotated.{IsOn, IsBeside}
-use Rattle.lr_rotations.specs.Target.{Target, rotation_of}
+use Rattle.lr_targets.specs.Target.{Target, rotation_of}
 use Rattle.lr_rotations.proofs.Fed.{IsTurn}
-use Rattle.lr_rotations.proofs.Others.{rotation_turns}
+use Rattle.lr_targets.proofs.Others.{rotation_turns}
 use Rattle.lr_rotations.proofs.Weaving.{each_in}
 
 on_more : (xs ys : List Path) (e : Entry) → ((x : Path) → IsIn x xs → IsIn x ys) → IsOn xs e → IsOn ys e

@@ -24,7 +24,7 @@ use Rattle.lr_emptied.specs.Steps.{named_steps}
 use Rattle.lr_emptied.proofs.Acts.{sets_copying}
 use Rattle.lr_emptied.proofs.Made.{AllMade, made_split, named_made}
 use Rattle.lr_emptied.proofs.Steps.{plan_copied}
-use Rattle.lr_rotations.specs.Target.{Target, IsJob, IsOneOf}
+use Rattle.lr_targets.specs.Target.{Target, IsJob, IsOneOf}
 use Rattle.lr_weave.specs.Planned.{AreReadyFor, HaveLogs, NoneHas, AreApart}
 use Rattle.lr_turned.proofs.Among.{CopyStands, IsSameFor}
 

@@ -35,20 +35,21 @@ use Rattle.lr_chain.specs.declared.ready.Move.{Move}
 use Rattle.lr_chain.specs.declared.ready.Ready.{Ready}
 use Rattle.lr_chain.specs.Ready.{move_step}
 use Rattle.lr_chain.specs.Rotation.{is_left, places_of, leftovers, kept, unlink_at, move_at}
-use Rattle.lr_rotations.specs.Apart.{HasNames}
-use Rattle.lr_rotations.specs.Calls.{FitCalls, CanCalls, transfer_calls, calls_of}
+use Rattle.lr_targets.specs.Apart.{HasNames}
+use Rattle.lr_rotations.specs.Calls.{FitCalls, CanCalls}
+use Rattle.lr_targets.specs.Calls.{transfer_calls, calls_of}
 use Rattle.lr_rotations.specs.Members.{HasName}
-use Rattle.lr_rotations.specs.Target.{Target, unlinks, rotation_of, IsJob}
+use Rattle.lr_targets.specs.Target.{Target, unlinks, rotation_of, IsJob}
 use Rattle.lr_rotations.specs.Weave.{IsFirstOf}
 use Rattle.lr_rotations.proofs.Alike.{Reads, fit_like, more_like, calls_as, calls_made, calls_still}
-use Rattle.lr_rotations.proofs.Apart.{AllOwn, own_paths, part_own, to_own}
+use Rattle.lr_targets.proofs.Apart.{AllOwn, own_paths, part_own, to_own}
 use Rattle.lr_rotations.proofs.Fed.{IsTurn}
 use Rattle.lr_rotations.proofs.Fitting.{kept_next, first_named}
-use Rattle.lr_rotations.proofs.Others.{rotation_turns}
+use Rattle.lr_targets.proofs.Others.{rotation_turns}
 use Rattle.lr_rotations.proofs.Outside.{place_name}
-use Rattle.lr_rotations.proofs.PartFile.{part_parent, job_target, job_part}
+use Rattle.lr_targets.proofs.PartFile.{part_parent, job_target, job_part}
 use Rattle.lr_rotations.proofs.Paths.{path_parent}
-use Rattle.lr_rotations.proofs.Rotating.{left_are, shift_are}
+use Rattle.lr_targets.proofs.Rotating.{left_are, shift_are}
 use Rattle.lr_plan.specs.declared.mark.Mark.{Mark}
 use Rattle.lr_plan.specs.declared.planned.LogPlan.{LogPlan}
 use Rattle.lr_plan.specs.declared.step.Step.{Step}

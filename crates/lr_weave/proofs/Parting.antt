@@ -30,8 +30,8 @@ use Rattle.lr_plan.specs.Done.{EachDone, LogsDone, is_rotated, if_rotated, SetDo
 use Rattle.lr_rotations.specs.Weave.{Weave, none, own, other, FirstWoven}
 use Rattle.lr_weave.specs.Parts.{change_of, changes_by, IsPlain, ArePlain, EachPlain, IsPlainSet, ArePlainSets, MakesOnly, MakesOne, parts_of_set, parts_of_sets, FirstParts, AllOf, ArePlanned}
 use Rattle.lr_weave.specs.Planned.{NoneHas, AreApart}
-use Rattle.lr_rotations.specs.Target.{Target, rotation_of, AreSeen, IsOneOf}
-use Rattle.lr_rotations.specs.AllTurns.{AlsoDoes, IsOf, IsOfSome, IsOfOther, IsOfState, StandsBetween, AllTurns}
+use Rattle.lr_targets.specs.Target.{Target, rotation_of, AreSeen, IsOneOf}
+use Rattle.lr_targets.specs.AllTurns.{AlsoDoes, IsOf, IsOfSome, IsOfOther, IsOfState, StandsBetween, AllTurns}
 use Rattle.lr_rotations.proofs.Weaving.{weave_as, weave_on, weave_others}
 use Rattle.lr_rules.specs.declared.rules.Rules.{Rules}
 

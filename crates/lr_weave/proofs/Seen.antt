@@ -17,10 +17,10 @@ use Rattle.lr_host.proofs.More.{directory_more}
 use Rattle.lr_host.proofs.Quiet.{IsAny, since_any, moment, quiet_more, quiet_still, still_in_order}
 use Rattle.lr_host.proofs.Left.{left_as}
 use Rattle.lr_laws.proofs.StandsIn.{stands_in}
-use Rattle.lr_rotations.specs.Apart.{HaveNames}
-use Rattle.lr_rotations.specs.Target.{Target, IsSeen, AreSeen}
+use Rattle.lr_targets.specs.Apart.{HaveNames}
+use Rattle.lr_targets.specs.Target.{Target, IsSeen, AreSeen}
 use Rattle.lr_rotations.proofs.Moments.{SawFile, saw_one}
-use Rattle.lr_rotations.proofs.SeenFits.{seen_can}
+use Rattle.lr_targets.proofs.SeenFits.{seen_can}
 use Rattle.lr_weave.specs.Fitting.{AreFit, HaveLogPaths}
 
 pub quiet_disk : (p q : Past) → Quiet IsAny p q → IsJournal p → IsJournal q

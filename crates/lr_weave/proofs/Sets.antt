@@ -10,7 +10,7 @@ use Rattle.lr_plan.specs.declared.planned.SetPlan.{SetPlan}
 use Rattle.lr_plan.specs.Steps.{by_logs, steps_of_set}
 use Rattle.lr_plan.specs.Internal.Asking.{LeadsTo, CanSet, CanSets}
 use Rattle.lr_plan.specs.Done.{SetDone}
-use Rattle.lr_rotations.specs.Target.{Target}
+use Rattle.lr_targets.specs.Target.{Target}
 use Rattle.lr_weave.specs.Fitting.{AreFit, NoneMeets, DontMeet}
 use Rattle.lr_weave.specs.Parts.{parts_of_set}
 use Rattle.lr_weave.specs.Planned.{AreReadyFor, HaveLogs}

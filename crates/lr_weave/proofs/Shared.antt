@@ -17,7 +17,7 @@ use Rattle.lr_plan.specs.Steps.{program, removals, shared_steps}
 use Rattle.lr_plan.specs.Steps as steps
 use Rattle.lr_plan.specs.Internal.Asking.{CanMake}
 use Rattle.lr_rotations.specs.Calls.{CanCalls}
-use Rattle.lr_rotations.specs.Target.{Target, IsOneOf}
+use Rattle.lr_targets.specs.Target.{Target, IsOneOf}
 use Rattle.lr_rotations.proofs.Alike.{Reads}
 use Rattle.lr_weave.specs.Fitting.{IsFit, AreFit, NoneMeets, DontMeet, ReadOwn, ReadsNothing}
 use Rattle.lr_weave.specs.Parts.{changes_by, ArePlain}

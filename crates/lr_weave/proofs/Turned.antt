@@ -11,9 +11,9 @@ use Rattle.lr_host.specs.Quiet.{AreQuiet}
 use Rattle.lr_plan.specs.declared.planned.SetPlan.{SetPlan}
 use Rattle.lr_plan.specs.Steps.{steps_of_set}
 use Rattle.lr_plan.specs.Done.{SetsDone}
-use Rattle.lr_rotations.specs.Target.{Target, rotation_of, AreSeen}
-use Rattle.lr_rotations.specs.AllTurns.{IsOfOther, StandsBetween}
-use Rattle.lr_rotations.specs.AllTurns.{AllTurned}
+use Rattle.lr_targets.specs.Target.{Target, rotation_of, AreSeen}
+use Rattle.lr_targets.specs.AllTurns.{IsOfOther, StandsBetween}
+use Rattle.lr_targets.specs.AllTurns.{AllTurned}
 use Rattle.lr_weave.specs.Parts.{MakesOne, ArePlanned, parts_of_sets}
 use Rattle.lr_rotations.specs.Weave.{Weave}
 use Rattle.lr_weave.proofs.Parting.{only_as, made_between, sets_parts, weave_change, done_turns}

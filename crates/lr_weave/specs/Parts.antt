@@ -11,8 +11,8 @@ use Rattle.lr_plan.specs.declared.step.Step.TheVariants.{MakesDir, Creates, Take
 use Rattle.lr_plan.specs.declared.step.SetSteps.{SetSteps}
 use Rattle.lr_plan.specs.Internal.Asking.{asks}
 use Rattle.lr_rotations.specs.Weave.{Weave}
-use Rattle.lr_rotations.specs.Target.{Target, rotation_of, IsOneOf}
-use Rattle.lr_rotations.specs.AllTurns.{AlsoDoes, IsOfSome, IsOfOther}
+use Rattle.lr_targets.specs.Target.{Target, rotation_of, IsOneOf}
+use Rattle.lr_targets.specs.AllTurns.{AlsoDoes, IsOfSome, IsOfOther}
 use Rattle.lr_weave.specs.Planned.{AreApart}
 
 -- the change by which a step takes or gives names, if any; the making of a log isn't one, since it is left out where the log is there

@@ -6,7 +6,7 @@ use Rattle.lr_chain.specs.declared.ready.Ready.{Ready}
 use Rattle.lr_plan.specs.Planned.{with_removals}
 use Rattle.lr_plan.specs.declared.planned.LogPlan.{LogPlan}
 use Rattle.lr_plan.specs.declared.planned.SetPlan.{SetPlan}
-use Rattle.lr_rotations.specs.Target.{Target, HasReady, HasJob}
+use Rattle.lr_targets.specs.Target.{Target, HasReady, HasJob}
 
 -- the unlink of a file alone, without the programs before it; and a rotation with such removals
 abbrev pub bare_removal : Removal → Removal

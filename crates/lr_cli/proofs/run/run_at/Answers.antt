@@ -1,7 +1,7 @@
 use Rattle.lr_placed.proofs.Lasting.{disk_on}
 use Rattle.std.proofs.Common.{[]}
 use Rattle.lr_host.proofs.Left.{left_first}
-use Rattle.lr_rotations.specs.AllTurns.{IsWholeRun}
+use Rattle.lr_targets.specs.AllTurns.{IsWholeRun}
 use Rattle.lr_cli.specs.Faults.{answer_of, plan_told}
 use Rattle.lr_cli.proofs.Clocked.{own_seconds}
 use Rattle.lr_cli.proofs.Called.{at_none, at_stop, stop_shape, stop_clocked, at_clock, clock_shape, clock_clocked}

@@ -1,6 +1,6 @@
 use Rattle.std.proofs.Common.{[]}
 use Rattle.lr_host.proofs.Left.{left_first}
-use Rattle.lr_rotations.specs.AllTurns.{IsWholeRun}
+use Rattle.lr_targets.specs.AllTurns.{IsWholeRun}
 use Rattle.lr_cli.proofs.Called.{by_first}
 use Rattle.lr_cli.proofs.Reading.{alone_run}
 use Rattle.lr_cli.proofs.run.run_by.Goals as goal

@@ -1,7 +1,7 @@
 use Rattle.std.proofs.Common.{[], None, inl, inr, refl, ap, ◌∙◌, Err}
 use Rattle.lr_host.proofs.Left.{left_first}
-use Rattle.lr_rotations.specs.AllTurns.{IsWholeRun}
-use Rattle.lr_rotations.proofs.Safety.{call_safe}
+use Rattle.lr_targets.specs.AllTurns.{IsWholeRun}
+use Rattle.lr_targets.proofs.Safety.{call_safe}
 use Rattle.lr_run.specs.Dry.{AreSights}
 use Rattle.lr_cli.specs.declared.outcome.Outcome.TheVariants.{BadWords, OutOfMemory}
 use Rattle.lr_cli.specs.Faults.{answer_of, plan_told}

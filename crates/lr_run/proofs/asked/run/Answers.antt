@@ -1,6 +1,6 @@
 use Rattle.std.proofs.Common.{true, false}
 use Rattle.lr_host.proofs.Left.{left_as}
-use Rattle.lr_rotations.proofs.Safety.{call_safe}
+use Rattle.lr_targets.proofs.Safety.{call_safe}
 use Rattle.lr_plan.specs.Asked.{asking}
 use Rattle.lr_run.proofs.Drying.{asked_so, answers_sights, dry_shape, dry_whole, dry_copied}
 use Rattle.lr_run.proofs.asked.run.Goals as goal

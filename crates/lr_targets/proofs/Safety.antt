@@ -36,22 +36,22 @@ use Rattle.lr_laws.proofs.Outside.{in_set_own, apart_outside}
 use Rattle.lr_laws.proofs.Stated.{quiet_safe}
 use Rattle.lr_laws.proofs.Walk.{walk, log_filter}
 use Rattle.lr_chain.specs.Rotation.{places_of, rotation}
-use Rattle.lr_rotations.specs.AllTurns.{IsStatePath, IsOfState, IsOf, IsOfSome, IsOfOther, StandsBetween, AllTurns, MayTurnAll, not_yet, started, IsWholeRun}
-use Rattle.lr_rotations.specs.Apart.{HasNames}
+use Rattle.lr_targets.specs.AllTurns.{IsStatePath, IsOfState, IsOf, IsOfSome, IsOfOther, StandsBetween, AllTurns, MayTurnAll, not_yet, started, IsWholeRun}
+use Rattle.lr_targets.specs.Apart.{HasNames}
 use Rattle.lr_rotations.specs.Members.{IsFamily, HasName, AreThere, HaveNext, MayGo}
 use Rattle.lr_rotations.specs.Rotated.{MakesAt}
-use Rattle.lr_rotations.specs.Shown.{Shown}
-use Rattle.lr_rotations.specs.Target.{Target, rotation_of, AreSights, IsSeen, AreSeen, IsOneOf}
+use Rattle.lr_rotations.specs.Shown.{Shown, SawMembers}
+use Rattle.lr_targets.specs.Target.{Target, rotation_of, IsSeen, AreSeen, IsOneOf}
 use Rattle.lr_rotations.specs.Weave.{Among, FirstWoven}
 use Rattle.lr_rotations.proofs.Aged.{looked_run, may_go}
-use Rattle.lr_rotations.proofs.Apart.{AllOwn, own_change}
+use Rattle.lr_targets.proofs.Apart.{AllOwn, own_change}
 use Rattle.lr_rotations.proofs.Fitting.{fits}
-use Rattle.lr_rotations.proofs.Given.{gives, no_meet, naming_same, no_copy, by_rule}
+use Rattle.lr_targets.proofs.Given.{gives, no_meet, naming_same, no_copy, by_rule}
 use Rattle.lr_rotations.proofs.Moments.{saw_file, shown_members}
-use Rattle.lr_rotations.proofs.Others.{IsFileChange, own_turns, also_made, seen_one}
+use Rattle.lr_targets.proofs.Others.{IsFileChange, own_turns, also_made, seen_one}
 use Rattle.lr_rotations.proofs.Over.{first_aside}
-use Rattle.lr_rotations.proofs.Rotating.{rotation_is}
-use Rattle.lr_rotations.proofs.SeenFits.{seen_names}
+use Rattle.lr_targets.proofs.Rotating.{rotation_is}
+use Rattle.lr_targets.proofs.SeenFits.{seen_names}
 use Rattle.lr_rotations.proofs.Still.{IsStill, quiet_safe_on, made_still}
 use Rattle.lr_rotations.proofs.Turning.{is_one}
 use Rattle.lr_rotations.proofs.Weaving.{weave_as, weave_back, IsApart, IsApartOrMakes, apart_aside, IsWoven, woven}
@@ -191,7 +191,7 @@ module _ (s : LogSet) (state : Path) (now : ℤ) (rules : Rules) (u v : Past) (l
       may = subst (MayGo s v t.count) (sym seen.from_is)
           (may_go s u v looks t.count now seen.given.rule t.stand.members family m quiet none_at here.now_is (λ g old. some (ByAge v g) old)
           (λ place h. subst (λ (n : Naming). HasName n place) (sym naming) (seen.seen.named place (k.names_all.going.there place (subst (λ (ks : List ℕ). Contains ks place) (sym seen.from_is) h))))
-          (subst (λ (n : Naming). AreSights n t.stand.members looks) (sym naming) seen.sights))
+          (subst (λ (n : Naming). SawMembers n t.stand.members looks) (sym naming) seen.sights))
 
       stands : AreThere t.naming (names (world v)) places
       stands =

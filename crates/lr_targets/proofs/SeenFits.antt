@@ -36,22 +36,23 @@ use Rattle.lr_chain.specs.Rotation.{places_of, is_left, leftovers, kept, retired
 use Rattle.lr_chain.specs.Standing.{AreGoing}
 use Rattle.lr_chain.proofs.Going.{going_are}
 use Rattle.lr_chain.proofs.Steps.{each_rotation}
-use Rattle.lr_rotations.specs.Apart.{HasNames}
-use Rattle.lr_rotations.specs.Calls.{after_call, FitCalls, CanCalls, copy_calls, calls_of}
+use Rattle.lr_targets.specs.Apart.{HasNames}
+use Rattle.lr_rotations.specs.Calls.{after_call, FitCalls, CanCalls, copy_calls}
+use Rattle.lr_targets.specs.Calls.{calls_of}
 use Rattle.lr_rotations.specs.Members.{IsFamily, HasName, IsNoMember, HaveNext}
 use Rattle.lr_rotations.specs.Shown.{Shown}
-use Rattle.lr_rotations.specs.Target.{Target, IsJob, IsSeen}
+use Rattle.lr_targets.specs.Target.{Target, IsJob, IsSeen}
 use Rattle.lr_rotations.proofs.Alike.{IsLike, like_self, AreLike, Reads, fit_like, afters, fit_first, fit_rest, fit_both, afters_on, fit_calls}
 use Rattle.lr_rotations.proofs.CopyFits.{copy_fits, copied_to, copied_other}
 use Rattle.lr_rotations.proofs.Fed.{IsTurn}
 use Rattle.lr_rotations.proofs.Fitting.{fits, kept_next, first_named, retire_named}
-use Rattle.lr_rotations.proofs.Given.{have_next}
+use Rattle.lr_targets.proofs.Given.{have_next}
 use Rattle.lr_rotations.proofs.Members.{IsOfMembers, unlinks_of, moves_of, members_spare}
 use Rattle.lr_rotations.proofs.Moments.{saw_one, saw_file}
 use Rattle.lr_rotations.proofs.OrMade.{Spares}
-use Rattle.lr_rotations.proofs.PartFile.{part_at, part_no_member, job_target, job_part, job_paths, job_no_dir}
+use Rattle.lr_targets.proofs.PartFile.{part_at, part_no_member, job_target, job_part, job_paths, job_no_dir}
 use Rattle.lr_rotations.proofs.Paths.{name_part, path_same, path_other}
-use Rattle.lr_rotations.proofs.Rotating.{calls_by_parts, renamed}
+use Rattle.lr_targets.proofs.Rotating.{calls_by_parts, renamed}
 
 -- ---- names in between: those of later at some paths, those of before at all others
 

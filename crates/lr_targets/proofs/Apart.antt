@@ -21,16 +21,16 @@ use Rattle.lr_family.proofs.Numbers.{every_all, every_filter}
 use Rattle.lr_copy.specs.declared.job.Job.{Job}
 use Rattle.lr_copy.specs.Copying.{clearing}
 use Rattle.lr_chain.specs.Rotation.{places_of, is_left, leftovers, kept, retired, leftover_steps, shift_steps, retire_steps}
-use Rattle.lr_rotations.specs.AllTurns.{AlsoDoes, IsOf, part_paths, paths_of, paths_of_others, other_paths}
-use Rattle.lr_rotations.specs.Apart.{HasNames, HaveNames}
+use Rattle.lr_targets.specs.AllTurns.{AlsoDoes, IsOf, part_paths, paths_of, paths_of_others, other_paths}
+use Rattle.lr_targets.specs.Apart.{HasNames, HaveNames}
 use Rattle.lr_rotations.specs.Members.{IsFamily, HasName, IsNoMember}
 use Rattle.lr_rotations.specs.Rotated.{AreOutside}
-use Rattle.lr_rotations.specs.Target.{Target, transfer_of, rotation_of, IsOneOf}
+use Rattle.lr_targets.specs.Target.{Target, transfer_of, rotation_of, IsOneOf}
 use Rattle.lr_rotations.proofs.Fitting.{kept_next, first_named, retire_named}
 use Rattle.lr_rotations.proofs.Members.{IsOfMembers, unlinks_of, moves_of}
 use Rattle.lr_rotations.proofs.Outside.{place_shape, place_name}
-use Rattle.lr_rotations.proofs.PartFile.{part_at, part_joined, job_target, job_part}
-use Rattle.lr_rotations.proofs.Rotating.{left_are, shift_are, retire_are, each_part}
+use Rattle.lr_targets.proofs.PartFile.{part_at, part_joined, job_target, job_part}
+use Rattle.lr_targets.proofs.Rotating.{left_are, shift_are, retire_are, each_part}
 use Rattle.lr_rotations.proofs.Weaving.{each_in}
 
 -- ---- the paths of a rotation are own names

@@ -1,5 +1,5 @@
-use Rattle.lr_rotations.proofs.SeenFits.{seen_can, seen_names, seen_paths}
-use Rattle.lr_rotations.proofs.run.seen_can_be_rotated.Goals as goal
+use Rattle.lr_targets.proofs.SeenFits.{seen_can, seen_names, seen_paths}
+use Rattle.lr_targets.proofs.run.seen_can_be_rotated.Goals as goal
 
 pub returns-clause-fits : goal.returns-clause-fits
 returns-clause-fits c = seen_can

@@ -20,14 +20,14 @@ use Rattle.lr_host.proofs.Quiet.{disk_of_changes, quiet_still, still_both}
 use Rattle.lr_laws.specs.Follow.{changed_paths}
 use Rattle.lr_copy.specs.declared.job.Job.{Job}
 use Rattle.lr_chain.specs.Rotation.{places_of}
-use Rattle.lr_rotations.specs.AllTurns.{IsStatePath, IsOfState, IsPartFile, AlsoDoes, IsOf, IsOfOther, StandsBetween, part_paths, paths_of, paths_of_others, other_paths, AllTurned}
+use Rattle.lr_targets.specs.AllTurns.{IsStatePath, IsOfState, IsPartFile, AlsoDoes, IsOf, IsOfOther, StandsBetween, part_paths, paths_of, paths_of_others, other_paths, AllTurned}
 use Rattle.lr_rotations.specs.Rotated.{IsOn, MakesAt, IsBeside, RotatesAmong}
-use Rattle.lr_rotations.specs.Target.{Target, rotation_of, IsSeen, AreSeen, IsOneOf}
+use Rattle.lr_targets.specs.Target.{Target, rotation_of, IsSeen, AreSeen, IsOneOf}
 use Rattle.lr_rotations.specs.Weave.{Among, Weave}
 use Rattle.lr_rotations.proofs.Fed.{IsTurn}
 use Rattle.lr_rotations.proofs.Moments.{shown_in}
-use Rattle.lr_rotations.proofs.Rotating.{rotation_is, each_turn}
-use Rattle.lr_rotations.proofs.SeenFits.{seen_names}
+use Rattle.lr_targets.proofs.Rotating.{rotation_is, each_turn}
+use Rattle.lr_targets.proofs.SeenFits.{seen_names}
 use Rattle.lr_rotations.proofs.Splitting.{weave_each}
 use Rattle.lr_rotations.proofs.Weaving.{weave_as, each_in}
 

@@ -11,9 +11,8 @@ use Rattle.lr_rules.specs.Match.{WordGives, is_wildcard}
 use Rattle.lr_rules.specs.Names.{IsMemberAt, naming_of}
 use Rattle.lr_rules.specs.Path.{path_fault}
 use Rattle.lr_host.specs.declared.entry.Entry.{Entry}
-use Rattle.lr_host.specs.declared.entry.Entry.TheVariants.{Look, Renames, Unlinks}
+use Rattle.lr_host.specs.declared.entry.Entry.TheVariants.{Renames, Unlinks}
 use Rattle.lr_host.specs.Fits.{IsFileAt}
-use Rattle.lr_host.specs.Lists.{IsIn}
 use Rattle.lr_host.specs.Looks.{Sees, IsFile}
 use Rattle.lr_host.specs.Opening.{IsJournal}
 use Rattle.lr_host.specs.Runs.{SomeRule}
@@ -22,7 +21,6 @@ use Rattle.lr_host.specs.World.{Past, world, names}
 use Rattle.lr_family.specs.declared.stand.Member.{Member}
 use Rattle.lr_family.specs.declared.stand.Stand.{Stand}
 use Rattle.lr_family.specs.Parts.{part_of}
-use Rattle.lr_family.specs.Spots.{path_at}
 use Rattle.lr_family.specs.Stands.{number_in}
 use Rattle.lr_scripts.specs.declared.removal.Removal.{Removal}
 use Rattle.lr_copy.specs.declared.job.Job.{Job}
@@ -31,7 +29,7 @@ use Rattle.lr_chain.specs.declared.ready.Ready.{Ready}
 use Rattle.lr_chain.specs.Ready.{IsReady, move_step}
 use Rattle.lr_chain.specs.Rotation.{places_of, going}
 use Rattle.lr_rotations.specs.Members.{IsFamily}
-use Rattle.lr_rotations.specs.Shown.{Shown}
+use Rattle.lr_rotations.specs.Shown.{Shown, SawMembers}
 use Rattle.lr_rotations.specs.Weave.{Among}
 
 -- What looks and listings tell of a log where they are true: this word of one of the rules gives it. Where the word is a wildcard that gives another log too, which named a file before and of which it is a member, it is none by the naming of a rule that gives that log.
@@ -98,17 +96,13 @@ HasJob t = (job : Job) → t.job ≡ Some job → IsJob t job
 abbrev pub IsJobOf : Target → List Entry → Type 0
 IsJobOf t looks = (job : Job) → t.job ≡ Some job → IsJob t job × (job.stale ≡ true → Among (Sees job.part IsFile) looks)
 
--- the looks saw this of each of these members
-abbrev pub AreSights : Naming → List Member → List Entry → Type 0
-AreSights n members looks = (m : Member) → IsIn m members → IsIn (Look (path_at n (number_in m.place)) (Some m.seen)) looks
-
 -- A word of a rule gives the log; it was seen as a file, and its members were, wherever these looks stand. Its rotation is that of the members that were seen, of which those go that the rule's count and age let go at this moment, in seconds; and so is its copy.
 pub record IsSeen (rules : Rules) (now : ℤ) (looks : List Entry) (t : Target) : Type 0 where
   pub given : IsGiven rules.sets looks t.log t.naming t.count t.job
   pub family : IsFamily t.log t.naming
   pub log_seen : Among (Sees t.log IsFile) looks
   pub seen : Shown t.naming (places_of t.stand.members) looks
-  pub sights : AreSights t.naming t.stand.members looks
+  pub sights : SawMembers t.naming t.stand.members looks
   pub from_is : t.from ≡ going t.count given.rule.maxage now t.stand.members
   pub low : IsOneTooHigh t.naming t.count t.stand.members → ⊥
   pub ready : HasReady t

@@ -38,7 +38,7 @@ use Rattle.lr_family.specs.Stands.{number_in}
 use Rattle.lr_copy.specs.declared.job.Job.{Job}
 use Rattle.lr_chain.specs.Rotation.{places_of}
 use Rattle.lr_rotations.specs.Members.{HasName, HaveNext}
-use Rattle.lr_rotations.specs.Target.{Gives, IsGiven, IsOneTooHigh}
+use Rattle.lr_targets.specs.Target.{Gives, IsGiven, IsOneTooHigh}
 use Rattle.lr_rotations.specs.Weave.{Among}
 
 -- what holds of all holds of each of them

@@ -21,9 +21,9 @@ use Rattle.lr_host.proofs.Names.{put_other}
 use Rattle.lr_host.proofs.Quiet.{looked_names, no_disk_change, quiet_changes}
 use Rattle.lr_host.proofs.Steady.{none_attached}
 use Rattle.lr_laws.proofs.Writing.{attached_before, wrote_member}
-use Rattle.lr_rotations.specs.AllTurns.{AllTurns}
-use Rattle.lr_rotations.specs.Target.{Target, IsOneOf}
-use Rattle.lr_rotations.proofs.Safety.{acts_apart}
+use Rattle.lr_targets.specs.AllTurns.{AllTurns}
+use Rattle.lr_targets.specs.Target.{Target, IsOneOf}
+use Rattle.lr_targets.proofs.Safety.{acts_apart}
 use Rattle.lr_rotations.proofs.Weaving.{IsApart, keyed}
 
 clash : (b : Bool) → b ≡ true → b ≡ false → ⊥

@@ -12,7 +12,7 @@ use Rattle.lr_host.specs.Steps.{is_change}
 use Rattle.lr_host.specs.Told.{Each}
 use Rattle.lr_laws.specs.Follow.{changed_paths}
 use Rattle.lr_copy.specs.declared.job.Job.{Job}
-use Rattle.lr_rotations.specs.Target.{Target, rotation_of, AreSeen, IsOneOf}
+use Rattle.lr_targets.specs.Target.{Target, rotation_of, AreSeen, IsOneOf}
 use Rattle.lr_rotations.specs.Weave.{Weave, FirstWoven}
 
 -- the path is the state's, or that of its part file

@@ -3,7 +3,7 @@ use Rattle.std.specs.Prelude.{List, [], ◌∷◌, All}
 use Rattle.lr_chain.specs.Rotation.{places_of}
 use Rattle.lr_chain.specs.Standing.{AreGoing}
 use Rattle.lr_rotations.specs.Members.{IsFamily, HasName, HaveNext}
-use Rattle.lr_rotations.specs.Target.{Target, HasReady, HasJob}
+use Rattle.lr_targets.specs.Target.{Target, HasReady, HasJob}
 
 -- Each member that was seen has a name, and each place that one comes to; those that go are among them. The rotation that is ready is theirs, and so is the copy.
 pub record HasNames (t : Target) : Type 0 where

@@ -6,7 +6,7 @@ use Rattle.lr_rules.specs.declared.civil.Moment.{Moment}
 use Rattle.lr_rules.specs.declared.rules.Rules.{Rules}
 use Rattle.lr_host.specs.declared.entry.Entry.{Entry}
 use Rattle.lr_host.specs.Quiet.{AreQuiet}
-use Rattle.lr_rotations.specs.AllTurns.{AllTurns, not_yet, IsWholeRun}
+use Rattle.lr_targets.specs.AllTurns.{AllTurns, not_yet, IsWholeRun}
 
 -- looks alone
 pub looks_turn : (state : Path) (now : Moment) (rules : Rules) (ts : List Entry) → AreQuiet ts → AllTurns state now rules ts

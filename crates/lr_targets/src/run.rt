@@ -16,12 +16,13 @@ ghost use Rattle.lr_host.specs.Steady.{IsSteady};
 ghost use Rattle.lr_host.specs.Told.{Made, Left};
 ghost use Rattle.lr_copy.specs.declared.job.Job.{Job};
 ghost use Rattle.lr_copy.specs.Fits.{ArePaths};
-ghost use Rattle.lr_rotations.specs.AllTurns.{other_paths, AllTurns, AllTurned, IsWholeRun};
-ghost use Rattle.lr_rotations.specs.Apart.{HasNames, HaveNames};
-ghost use Rattle.lr_rotations.specs.Calls.{CanCalls, calls_of};
+ghost use Rattle.lr_targets.specs.AllTurns.{other_paths, AllTurns, AllTurned, IsWholeRun};
+ghost use Rattle.lr_targets.specs.Apart.{HasNames, HaveNames};
+ghost use Rattle.lr_rotations.specs.Calls.{CanCalls};
+ghost use Rattle.lr_targets.specs.Calls.{calls_of};
 ghost use Rattle.lr_rotations.specs.Members.{IsFamily};
 ghost use Rattle.lr_rotations.specs.Rotated.{AreOutside, RotatesAmong};
-ghost use Rattle.lr_rotations.specs.Target.{Target, IsSeen, IsOneOf};
+ghost use Rattle.lr_targets.specs.Target.{Target, IsSeen, IsOneOf};
 
 /// Over calls that leave the entries of such a run, as far as it came, each set stays safe: the set of a log that was
 /// rotated, or of any other, numbered or dated, whatever other logs' steps and the state's entries stand between, with

@@ -1,0 +1,4 @@
+pub mod AllTurns
+pub mod Apart
+pub mod Calls
+pub mod Target
