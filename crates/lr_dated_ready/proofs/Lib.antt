@@ -1,0 +1,4 @@
+pub mod Hindering
+pub mod Prepared
+pub mod Serials
+pub mod Whole
