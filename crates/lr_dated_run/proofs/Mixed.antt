@@ -1,0 +1,129 @@
+-- In a run with logs of both kinds, what is done to other logs is beside a set, and outside of a family.
+use Rattle.std.proofs.Common.{◌≡◌, ◌≢◌, inl, inr, ⊎_elim, Bool, true, false, cond, bytes_eq, refl, sym, subst, Option, Some, None, List, [], ◌∷◌, ◌++◌}
+use Rattle.std.specs.Prelude.{codes}
+use Rattle.std.specs.List.{flat_map}
+use Rattle.std.proofs.lemmas.List.Elements.{All-cons, All-nil}
+use Rattle.std.proofs.lemmas.Slice.Eq.{bytes_eq-Decides}
+use Rattle.lr_rules.specs.declared.path.Path.{Path}
+use Rattle.lr_rules.specs.declared.rule.Naming.{Naming}
+use Rattle.lr_rules.specs.Names.{IsOwnName, the_log, IsName, Meet}
+use Rattle.lr_host.specs.declared.entry.Entry.{Entry}
+use Rattle.lr_host.specs.declared.entry.Entry.TheVariants as entry
+use Rattle.lr_host.specs.Lists.{IsIn}
+use Rattle.lr_host.specs.Sets.{LogSet, in_set}
+use Rattle.lr_host.proofs.Lists.{in_append}
+use Rattle.lr_laws.specs.Follow.{changed_paths}
+use Rattle.lr_laws.proofs.Outside.{no_name_elsewhere, apart_outside}
+use Rattle.lr_copy.specs.declared.job.Job.{Job}
+use Rattle.lr_targets.specs.AllTurns.{IsStatePath, IsOfState, IsOf, IsOfOther, StandsBetween, part_paths, paths_of, paths_of_others, other_paths}
+use Rattle.lr_rotations.specs.Members.{IsFamily, IsNoMember}
+use Rattle.lr_rotations.specs.Rotated.{AreOutside, MakesAt}
+use Rattle.lr_targets.specs.Target.{Target, rotation_of, IsOneOf}
+use Rattle.lr_targets.proofs.Apart.{own_change}
+use Rattle.lr_targets.proofs.Others.{IsFileChange, own_turns, also_made}
+use Rattle.lr_rotations.proofs.Outside.{place_name}
+use Rattle.lr_dated_seen.specs.Family.{IsNoDated}
+use Rattle.lr_dated_turned.specs.Rotated.{AreDatedOutside}
+use Rattle.lr_dated_run.specs.Beside.{LiesBeside, IsBesideSet}
+use Rattle.lr_dated_run.specs.Own.{ChangesOwn, HasAnyNames, HaveAnyNames}
+use Rattle.lr_dated_run.proofs.Own.{dated_own, dated_change}
+
+-- all that is done to a log, numbered or dated, is on own names
+any_change : (t : Target) (e : Entry) → HasAnyNames t → IsOf t e → ChangesOwn t.log t.naming e
+any_change t e (inl h) i = own_change t e h i
+any_change t e (inr h) i = dated_change t e h i
+
+-- ---- beside a set
+
+own_beside : (s : LogSet) (log : Path) (n : Naming) (e : Entry) → (Meet s.log s.naming log n → ⊥) → IsFileChange e → ChangesOwn log n e → LiesBeside s e
+own_beside s log n (entry.Renames from to) not c own = ((apart_outside s log n from not (inl (own from (inl refl))), apart_outside s log n to not (inl (own to (inr (inl refl))))), tt)
+own_beside s log n (entry.Unlinks x) not c own = (apart_outside s log n x not (inl (own x (inl refl))), tt)
+own_beside s log n (entry.Makes x mode) not c own = (apart_outside s log n x not (inl (own x (inl refl))), tt)
+own_beside s log n (entry.Appends x bytes) not c own = (apart_outside s log n x not (inl (own x (inl refl))), tt)
+own_beside s log n (entry.Truncates x) not c own = (apart_outside s log n x not (inl (own x (inl refl))), tt)
+own_beside s log n _ not c own = absurd c
+
+pub any_beside : (s : LogSet) (t : Target) (e : Entry) → HasAnyNames t → (Meet s.log s.naming t.log t.naming → ⊥) → IsOf t e → LiesBeside s e
+any_beside s t e h not i = own_beside s t.log t.naming e not (own_turns t e i) (any_change t e h i)
+
+no_name_out : (s : LogSet) (x : Path) → (IsName s.log s.naming x → ⊥) → in_set s x ≡ false
+no_name_out s x none = no_name_elsewhere s (entry.Unlinks x) (All-cons (λ y. IsName s.log s.naming y → ⊥) x [] none (All-nil (λ y. IsName s.log s.naming y → ⊥)))
+
+module _ (s : LogSet) (state : Path) (no_state : IsName s.log s.naming state → ⊥) (no_part : IsName s.log s.naming (state ++ codes ".tmp") → ⊥) where
+  state_out : (x : Path) → IsStatePath state x → in_set s x ≡ false
+  state_out x (inl is) = no_name_out s x (λ h. no_state (subst (IsName s.log s.naming) is h))
+  state_out x (inr is) = no_name_out s x (λ h. no_part (subst (IsName s.log s.naming) is h))
+
+  state_beside : (e : Entry) → IsOfState state e → LiesBeside s e
+  state_beside (entry.Renames from to) h = ((state_out from h.0, state_out to h.1), tt)
+  state_beside (entry.Makes x mode) h = (state_out x h, tt)
+  state_beside (entry.Appends x bytes) h = (state_out x h, tt)
+  state_beside (entry.Unlinks x) h = (state_out x h, tt)
+  state_beside _ h = absurd h
+
+  others_beside : (ts : List Target) → HaveAnyNames ts → ((x : Target) → IsOneOf x ts → x.log ≢ s.log → Meet s.log s.naming x.log x.naming → ⊥) → (e : Entry) → IsOfOther s.log ts e → LiesBeside s e
+  others_beside [] h apart e i = absurd i
+  others_beside (t ∷ ts) h apart e (inl i) = any_beside s t e h.0 (apart t (inl refl) i.0) i.1
+  others_beside (t ∷ ts) h apart e (inr i) = others_beside ts h.1 (λ x j. apart x (inr j)) e i
+
+  pub between_beside : (t : Target) (ts : List Target) (e : Entry) → t.log ≡ s.log → t.job ≡ None → HaveAnyNames ts → ((x : Target) → IsOneOf x ts → x.log ≢ s.log → Meet s.log s.naming x.log x.naming → ⊥) → StandsBetween state t ts e → IsBesideSet s e
+  between_beside t ts e same none h apart (inl o) = inl (others_beside ts h apart e (subst (λ (x : Path). IsOfOther x ts e) same o))
+  between_beside t ts e same none h apart (inr (inl o)) = inl (state_beside e o)
+  between_beside t ts e same none h apart (inr (inr also)) = inr (subst (λ (x : Path). MakesAt x e) same (also_made t e none also))
+
+-- ---- outside of a family
+
+in_flat : (log : Path) (n : Naming) (es : List Entry) (x : Path) → ((e : Entry) → IsIn e es → ChangesOwn log n e) → IsIn x (flat_map changed_paths es) → IsOwnName log n x
+in_flat log n [] x own i = absurd i
+in_flat log n (e ∷ es) x own i = ⊎_elim (λ j. own e (inl refl) x j) (λ j. in_flat log n es x (λ d k. own d (inr k)) j) (in_append x (changed_paths e) (flat_map changed_paths es) i)
+
+-- all paths of a rotation are own names
+in_own : (t : Target) → HasAnyNames t → (x : Path) → IsIn x (paths_of t) → IsOwnName t.log t.naming x
+in_own t h x (inl is) = the_log (sym is)
+in_own t h x (inr i) = ⊎_elim (part t.job refl) (in_flat t.log t.naming (rotation_of t) x (λ e j. any_change t e h (inl j))) (in_append x (part_paths t.job) (flat_map changed_paths (rotation_of t)) i)
+  where
+    -- the part file is one that the rotation makes
+    part : (j : Option Job) → t.job ≡ j → IsIn x (part_paths j) → IsOwnName t.log t.naming x
+    part None is k = absurd k
+    part (Some job) is (inl same) = any_change t (entry.Makes job.part None) h (inr (inr (job, is, refl))) x (inl same)
+    part (Some job) is (inr none) = absurd none
+
+module _ (log : Path) (n : Naming) where
+  numbered_out : IsFamily log n → (x : Path) → (IsOwnName log n x → ⊥) → (x ≢ log) × IsNoMember n x
+  numbered_out family x none = ((λ is. none (the_log is)), λ k i is. none (subst (IsOwnName log n) (sym is) (place_name log n k family.numbered i)))
+
+  dated_out : (x : Path) → (IsOwnName log n x → ⊥) → (x ≢ log) × IsNoDated n x
+  dated_out x none = ((λ is. none (the_log is)), λ t k at. none (dated_own log n t k x at))
+
+  no_own : (t : Target) → HasAnyNames t → (Meet t.log t.naming log n → ⊥) → (x : Path) → IsIn x (paths_of t) → IsOwnName log n x → ⊥
+  no_own t h apart x i own = apart (x, inl (in_own t h x i, inl own))
+
+  pub numbered_outside : (t : Target) → IsFamily log n → HasAnyNames t → (Meet t.log t.naming log n → ⊥) → AreOutside (paths_of t) log n
+  numbered_outside t family h apart x i = numbered_out family x (no_own t h apart x i)
+
+  pub dated_outside : (t : Target) → HasAnyNames t → (Meet t.log t.naming log n → ⊥) → AreDatedOutside (paths_of t) log n
+  dated_outside t h apart x i = dated_out x (no_own t h apart x i)
+
+  -- of all other logs, and of the state
+  others_no_own : (ts : List Target) → HaveAnyNames ts → ((x : Target) → IsOneOf x ts → x.log ≢ log → Meet x.log x.naming log n → ⊥) → (y : Path) → IsIn y (paths_of_others log ts) → IsOwnName log n y → ⊥
+  others_no_own [] h apart y i own = i
+  others_no_own (x ∷ xs) h apart y i own = go (λ i. others_no_own xs h.1 (λ z j. apart z (inr j)) y i own) (bytes_eq x.log log) refl i
+    where
+      differ : bytes_eq x.log log ≡ false → x.log ≢ log
+      differ e same = let yes : bytes_eq x.log log ≡ true = (bytes_eq-Decides x.log log).1 same in cc
+
+      go : (IsIn y (paths_of_others log xs) → ⊥) → (b : Bool) → bytes_eq x.log log ≡ b → IsIn y (cond b (paths_of_others log xs) (paths_of x ++ paths_of_others log xs)) → ⊥
+      go further true e i = further i
+      go further false e i = ⊎_elim (λ j. no_own x h.0 (apart x (inl refl) (differ e)) y j own) further (in_append y (paths_of x) (paths_of_others log xs) i)
+
+  module _ (state : Path) (ts : List Target) (h : HaveAnyNames ts) (apart : (x : Target) → IsOneOf x ts → x.log ≢ log → Meet x.log x.naming log n → ⊥) (no_state : IsName log n state → ⊥) (no_part : IsName log n (state ++ codes ".tmp") → ⊥) where
+    none_own : (x : Path) → IsIn x (other_paths state log ts) → IsOwnName log n x → ⊥
+    none_own x (inl is) own = no_state (inl (subst (IsOwnName log n) (sym is) own))
+    none_own x (inr (inl is)) own = no_part (inl (subst (IsOwnName log n) (sym is) own))
+    none_own x (inr (inr i)) own = others_no_own ts h apart x i own
+
+    pub all_outside : IsFamily log n → AreOutside (other_paths state log ts) log n
+    all_outside family x i = numbered_out family x (none_own x i)
+
+    pub all_dated_outside : AreDatedOutside (other_paths state log ts) log n
+    all_dated_outside x i = dated_out x (none_own x i)

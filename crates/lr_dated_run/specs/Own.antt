@@ -1,0 +1,47 @@
+-- Dated logs among all logs of a run, and the names that their rotations change.
+use Rattle.std.specs.Prelude.{◌≡◌, ◌⊎◌, ℕ, ℤ, List, [], ◌∷◌, Option}
+use Rattle.lr_rules.specs.declared.path.Path.{Path}
+use Rattle.lr_rules.specs.declared.rule.Naming.{Naming}
+use Rattle.lr_rules.specs.Names.{IsOwnName}
+use Rattle.lr_host.specs.declared.entry.Entry.{Entry}
+use Rattle.lr_host.specs.Lists.{IsIn}
+use Rattle.lr_laws.specs.Follow.{changed_paths}
+use Rattle.lr_family.specs.Parts.{part_of, IsDated}
+use Rattle.lr_days.specs.Newest.{AreDated}
+use Rattle.lr_dated.specs.Steps.{Ranked}
+use Rattle.lr_dated_chain.specs.Ready.{all_of, IsDatedReady}
+use Rattle.lr_targets.specs.Apart.{HasNames}
+use Rattle.lr_targets.specs.Target.{Target, HasJob}
+
+-- the path is the log, a dated member, or the part file of one
+abbrev pub IsDatedName : Path → Naming → Path → Type 0
+IsDatedName log n x = (x ≡ log) ⊎ (IsDated n x ⊎ ((member : Path) × IsDated n member × (x ≡ part_of member)))
+
+-- each path that the entry changes is such a one
+abbrev pub ChangesDated : Path → Naming → Entry → Type 0
+ChangesDated log n e = (x : Path) → IsIn x (changed_paths e) → IsDatedName log n x
+
+-- each path that the entry changes is a name of the log's family
+abbrev pub ChangesOwn : Path → Naming → Entry → Type 0
+ChangesOwn log n e = (x : Path) → IsIn x (changed_paths e) → IsOwnName log n x
+
+-- Each member that was seen is a dated one. The rotation that is ready is theirs, to the stamp of some moment, and so is the copy.
+pub record HasDatedNames (t : Target) : Type 0 where
+  pub members : AreDated t.naming t.stand.members
+  pub maxage : Option ℕ
+  pub now : ℤ
+  pub seconds : ℤ
+  pub ready : IsDatedReady t.log t.naming t.count t.ready.make maxage now seconds t.stand.members t.ready
+  pub job : HasJob t
+
+-- its members, the newest first, once the log has its dated name
+abbrev pub all_members : (t : Target) → HasDatedNames t → List Ranked
+all_members t h = all_of h.maxage h.now h.seconds h.ready.serial t.ready.target t.stand.members
+
+-- the members have numbers, or dates
+abbrev pub HasAnyNames : Target → Type 0
+HasAnyNames t = HasNames t ⊎ HasDatedNames t
+
+abbrev pub HaveAnyNames : List Target → Type 0
+HaveAnyNames [] = Unit {0}
+HaveAnyNames (t ∷ ts) = HasAnyNames t × HaveAnyNames ts
