@@ -17,7 +17,8 @@ fn answered_above(line: Line, out: &mut Answer) -> Result<bool, Trouble> {
     Ok(
         lr_ask_due::answered(line, out)?
             || lr_ask_report::answered(line, out)?
-            || lr_ask_plan::answered(line, out)?,
+            || lr_ask_plan::answered(line, out)?
+            || lr_ask_dated::answered(line, out)?,
     )
 }
 
