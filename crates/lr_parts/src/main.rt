@@ -8,20 +8,8 @@
 //! Behind `-refused` stand files of rows that can't be read or played: each has to be refused.
 #![tactic(auto)]
 
-mod answer;
 mod ask;
-mod conf;
-mod copying;
-mod cut_case;
-mod family;
-mod globbing;
-mod host_calls;
-mod looks;
-mod programs;
 mod puts;
-mod rotation;
-mod standing;
-mod tests_of;
 
 use anyhow::{Result, anyhow};
 use ask::make_ask;

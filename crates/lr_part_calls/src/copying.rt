@@ -5,12 +5,10 @@ ghost use Rattle.lr_host.specs.World.{world, past, names};
 ghost use Rattle.lr_host.specs.Fits.{IsFileAt};
 ghost use Rattle.lr_copy.specs.Fits.{ArePaths, CanCopy};
 
-use crate::answer::{failed_call, number, said_path};
-use crate::host_calls::{is_free, mode};
-use crate::tests_of::{dir_at, file_at};
 use lr_copy::{CopyStop, Job, copy_out};
 use lr_line::Trouble;
 use lr_memhost::MemHost;
+use lr_part_answers::{dir_at, failed_call, file_at, is_free, mode, number, said_path};
 use lr_row::Cursor;
 use lr_rules::Path;
 use std::alloc::{AllocError, Global};

@@ -1,13 +1,11 @@
 // Calls of the host that change something, and a cut of the machine.
-ghost use Rattle.std.specs.Prelude.{◌≡◌, ◌≢◌, true, Ok, OnOk};
-ghost use Rattle.lr_host.specs.declared.thing.Thing.TheVariants as thing;
-ghost use Rattle.lr_host.specs.World.{world, past, names};
+ghost use Rattle.std.specs.Prelude.{◌≡◌, true, Ok};
+ghost use Rattle.lr_host.specs.World.{world, past};
 
-use crate::answer::{done, number, said, yes};
-use crate::tests_of::{dir_at, file_at, place_at};
-use lr_host::{CallFault, Host, Thing};
+use lr_host::{CallFault, Host};
 use lr_line::Trouble;
 use lr_memhost::{CutFault, MemHost};
+use lr_part_answers::{dir_at, done, file_at, is_free, mode, number, place_at, said, yes};
 use lr_row::Cursor;
 use lr_rules::{Civil, Listed, Moment, Path, Rules};
 use std::alloc::Global;
@@ -17,18 +15,6 @@ pub fn rename(host: &mut MemHost, cursor: &mut Cursor) -> Result<Vec<u8>, Troubl
     let from = cursor.path()?;
     let to = cursor.path()?;
     rename_to(host, cursor.alloc, &from, &to)
-}
-
-/// Trouble unless a rename can give a file the path.
-pub fn is_free(host: &MemHost, path: &Path) -> Result<(), Trouble>
-    ensures directory { OnOk result (names (world (past host.now.journal)) path.now ≢ thing.Directory) }
-    ensures other { OnOk result (names (world (past host.now.journal)) path.now ≢ thing.Other) }
-{
-    match host.thing(path) {
-        Thing::Nothing => Ok(()),
-        Thing::File(_) => Ok(()),
-        _ => Err(Trouble::Odd("no file can get the path")),
-    }
 }
 
 /// Renames the file, where that may be done.
@@ -45,15 +31,6 @@ pub fn rename_to(
         return Err(Trouble::Odd("the file has the path"));
     }
     done(alloc, host.rename(from, to))
-}
-
-/// `[mode O]`.
-pub fn mode(cursor: &mut Cursor) -> Result<Option<u32>, Trouble> {
-    if cursor.takes(b"mode") {
-        Ok(Some(cursor.octal()?))
-    } else {
-        Ok(None)
-    }
 }
 
 /// `make PATH [mode O]`.

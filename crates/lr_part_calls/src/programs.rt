@@ -3,11 +3,9 @@ ghost use Rattle.std.specs.Prelude.{◌≡◌, None, Some, IfOk, IfSome, OnOk};
 ghost use Rattle.lr_host.specs.Steps.{CanAll};
 ghost use Rattle.lr_scripts.specs.Removals.{steps_of_removal};
 
-use crate::answer::{ended, said};
-use crate::looks::args;
-use crate::tests_of::file_at;
 use lr_line::Trouble;
 use lr_memhost::MemHost;
+use lr_part_answers::{args, ended, file_at, named, said};
 use lr_row::Cursor;
 use lr_rules::{Ended, Listed, Path, Phase, Text};
 use lr_scripts::{Bad, Command, Removal, remove, run_phase};
@@ -23,12 +21,10 @@ static PHASES: [(&[u8], Phase); 6] = [
 ];
 
 fn phase_of(word: &[u8]) -> Result<Phase, Trouble> {
-    for (text, phase) in &PHASES {
-        if *text == word {
-            return Ok(*phase);
-        }
+    match named(&PHASES, word) {
+        Some(phase) => Ok(phase),
+        None => Err(Trouble::Odd("no such phase")),
     }
-    Err(Trouble::Odd("no such phase"))
 }
 
 fn script_text(alloc: Global, phase: Phase, end: Ended) -> Result<Vec<u8>, Trouble> {

@@ -1,9 +1,8 @@
 // Calls of the host that change nothing.
-use crate::answer::{add, ended, number, said};
-use crate::tests_of::{dir_at, file_at};
 use lr_host::{CallFault, Host, Kind, ListFault, RunFault, Seen};
 use lr_line::{Trouble, put_quoted};
 use lr_memhost::MemHost;
+use lr_part_answers::{add, args, dir_at, ended, file_at, number, said};
 use lr_row::Cursor;
 use lr_rules::{Ended, Path, Text};
 use std::alloc::{AllocError, Global};
@@ -120,16 +119,6 @@ pub fn run(host: &mut MemHost, cursor: &mut Cursor) -> Result<Vec<u8>, Trouble> 
         Err(RunFault::Failed) => said(cursor.alloc, "failed"),
         Err(RunFault::Memory) => Err(Trouble::Memory),
     }
-}
-
-/// The words that are left, as texts.
-pub fn args(cursor: &mut Cursor) -> Result<Vec<Text>, Trouble> {
-    let alloc = cursor.alloc;
-    let mut texts = Vec::new(alloc);
-    for word in cursor.rest() {
-        texts.push(Text::new(alloc, word.as_slice())?)?;
-    }
-    Ok(texts)
 }
 
 /// `unsynced`: how many name changes may be undone by a cut.

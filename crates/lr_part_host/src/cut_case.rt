@@ -1,10 +1,9 @@
 // The cuts of the table of cases, each of a file that is made for it.
-use crate::answer::add;
 use crate::host_calls::{cut_to, rename_to};
-use crate::tests_of::{dir_at, file_at, place_at};
 use lr_host::{Host, Thing};
 use lr_line::Trouble;
 use lr_memhost::MemHost;
+use lr_part_answers::{add, dir_at, file_at, place_at};
 use lr_row::Cursor;
 use lr_rules::Path;
 use lr_tables::{CutCase, cut_cases};

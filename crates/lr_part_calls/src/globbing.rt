@@ -1,9 +1,9 @@
 // Which paths a word gives.
-use crate::answer::{failed_call, said};
 use lr_glob::{Found, GlobStop, expand};
 use lr_host::Kind;
 use lr_line::Trouble;
 use lr_memhost::MemHost;
+use lr_part_answers::{failed_call, said};
 use lr_row::Cursor;
 use lr_rules::Text;
 use std::alloc::{AllocError, Global};

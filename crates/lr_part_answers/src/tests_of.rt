@@ -1,6 +1,7 @@
 // What a call asks for, tested: trouble where it doesn't hold.
-ghost use Rattle.std.specs.Prelude.{OnOk};
+ghost use Rattle.std.specs.Prelude.{◌≢◌, OnOk};
 ghost use Rattle.lr_rules.specs.Path.{parent_of};
+ghost use Rattle.lr_host.specs.declared.thing.Thing.TheVariants as thing;
 ghost use Rattle.lr_host.specs.World.{world, past, names};
 ghost use Rattle.lr_host.specs.Fits.{IsFileAt, IsDirectoryAt};
 
@@ -35,4 +36,16 @@ pub fn place_at(alloc: Global, host: &MemHost, path: &Path) -> Result<(), Troubl
     ensures { OnOk result (IsDirectoryAt (names (world (past host.now.journal))) (parent_of path.now)) }
 {
     dir_at(host, &path.parent(alloc)?)
+}
+
+/// Trouble unless a rename can give a file the path.
+pub fn is_free(host: &MemHost, path: &Path) -> Result<(), Trouble>
+    ensures directory { OnOk result (names (world (past host.now.journal)) path.now ≢ thing.Directory) }
+    ensures other { OnOk result (names (world (past host.now.journal)) path.now ≢ thing.Other) }
+{
+    match host.thing(path) {
+        Thing::Nothing => Ok(()),
+        Thing::File(_) => Ok(()),
+        _ => Err(Trouble::Odd("no file can get the path")),
+    }
 }

@@ -1,11 +1,11 @@
 // Which members of a family stand, and which of their part files.
 ghost use Rattle.std.specs.Prelude.{◌≡◌, None};
 
-use crate::answer::{add, failed_call, said, said_path};
 use crate::family::family;
 use lr_family::{Family, Member, Place, Stand, StandStop};
 use lr_line::Trouble;
 use lr_memhost::MemHost;
+use lr_part_answers::{add, failed_call, said, said_path};
 use lr_row::Cursor;
 use lr_rules::Path;
 use std::alloc::{AllocError, Global};

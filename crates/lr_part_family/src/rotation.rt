@@ -3,13 +3,13 @@ ghost use Rattle.std.specs.Prelude.{◌≡◌, ◌≤◌, None, IfOk};
 ghost use Rattle.lr_family.specs.Places.{AreNamed};
 ghost use Rattle.lr_chain.specs.Ready.{IsCount};
 
-use crate::answer::{add, add_path, said_path};
 use crate::family::family;
 use crate::standing::stop_text;
 use lr_chain::{Move, PrepareStop, Ready, prepare};
 use lr_family::{Family, Stand};
 use lr_line::{Trouble, small};
 use lr_memhost::MemHost;
+use lr_part_answers::{add, add_path, said_path};
 use lr_row::Cursor;
 use lr_rules::{Count, Make, Path};
 use lr_scripts::Removal;

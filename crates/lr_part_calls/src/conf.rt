@@ -1,8 +1,8 @@
 // What a configuration gives.
-use crate::answer::add;
 use lr_include::{Reading, read_all};
 use lr_line::Trouble;
 use lr_memhost::{MemHost, MemSink};
+use lr_part_answers::add;
 use lr_report::put_lines;
 use lr_row::Cursor;
 use lr_rules::{Count, Path, Rule};
