@@ -1,7 +1,8 @@
 // Which members of a family stand, and which of their part files.
-ghost use Rattle.std.specs.Prelude.{◌≡◌, None};
+ghost use Rattle.std.specs.Prelude.{◌≡◌, true, None, IsSome};
+ghost use Rattle.lr_rules.specs.Limits.{is_format, or_none};
 
-use crate::family::family;
+use crate::family::{dated_family, family};
 use lr_family::{Family, Member, Place, Stand, StandStop};
 use lr_line::Trouble;
 use lr_memhost::MemHost;
@@ -14,7 +15,7 @@ fn add_member(into: &mut Vec<u8>, alloc: Global, member: &Member) -> Result<(), 
     let path = member.path.as_str();
     let line = match member.place {
         Place::Number(place) => format!(in alloc; "{path} at place {place}")?,
-        _ => format!(in alloc; "{path} at no place")?,
+        Place::Stamp(seconds, serial) => format!(in alloc; "{path} at {seconds} {serial}")?,
     };
     add(into, line.as_str())
 }
@@ -81,4 +82,21 @@ fn stand_of(host: &mut MemHost, alloc: Global, family: &Family) -> Result<Vec<u8
 pub fn stand(host: &mut MemHost, cursor: &mut Cursor) -> Result<Vec<u8>, Trouble> {
     let family = family(cursor)?;
     stand_of(host, cursor.alloc, &family)
+}
+
+fn days_of(host: &mut MemHost, alloc: Global, family: &Family) -> Result<Vec<u8>, Trouble>
+    requires dated { IsSome family.now.naming.dated }
+    requires format { or_none is_format family.now.naming.dated ≡ true }
+{
+    match lr_days::stand(alloc, host, family) {
+        Ok(stand) => stand_text(alloc, &stand),
+        Err(stop) => stop_text(alloc, &stop),
+    }
+}
+
+/// `days LOG DIRECTORY BASE EXTENSION FORMAT plain|serial`: the dated members that stand, the newest first, and then their
+/// part files, a line for each.
+pub fn days(host: &mut MemHost, cursor: &mut Cursor) -> Result<Vec<u8>, Trouble> {
+    let family = dated_family(cursor)?;
+    days_of(host, cursor.alloc, &family)
 }
