@@ -123,16 +123,30 @@ stood_before x p _ es (by_writer {q = q} {e = e} m i f) a s = stood_before x p q
 stood_before x p _ _ (by_tool {es = es} {q = q} {e = e} m i f) a s = stood_before x p q es m a.1 (quiet_stood x q e a.0 s)
 
 -- what the journal of a disk begins with is one
-journal_before : (p q : Past) (es : List Entry) → Made p es q → IsJournal q → IsJournal p
+pub journal_before : (p q : Past) (es : List Entry) → Made p es q → IsJournal q → IsJournal p
 journal_before p _ _ at_first j = j
 journal_before p _ es (by_writer {q = q} m i f) j = journal_before p q es m j.0
 journal_before p _ _ (by_tool {es = es} {q = q} m i f) j = journal_before p q es m j.0
 
--- a set of another log, that is steady where the log names a file, doesn't meet the log's
-pub no_meet : (s : LogSet) (u v : Past) (rules : List Rule) (looks : List Entry) (log : Path) (n : Naming) (c : Count) (job : Option Job) → AreQuiet looks → Made u (reverse looks) v → ((x : Path) → StoodAtStart x u → IsFileAt (names (world u)) x) → n.dated ≡ None
-    → IsJournal v → IsSteadyAt s v → rules_of v ≡ rules → IsGiven rules looks log n c job → IsFileAt (names (world v)) log → log ≢ s.log → Meet s.log s.naming log n → ⊥
-no_meet s u v rules looks log n c job quiet m begun numbered journal steady is g file other meet =
-    none.4.1 member.0 (subst (λ (k : Naming). IsMemberAt k member.0 log) (sym (named none.1 (none.0, none.2, none.3) none.4.0)) member.1)
+-- What is so where a set meets another log that names a file: the log is a member of the set, and its word a wildcard that gives the set's log too, by the rule's naming, which is that of each rule that gives it.
+pub record IsMet (s : LogSet) (u : Past) (rules : List Rule) (rule : Rule) (word : List ℕ) (log : Path) : Type 0 where
+  pub member : s.key log ≡ None → ⊥
+  pub wild : is_wildcard word ≡ true
+  pub gives : WordGives word s.log
+  pub stood : IsFileAt (names (world u)) s.log
+  pub named : (r : Rule) → Contains rules r → RuleGives r s.log → naming_of r s.log ≡ s.naming
+  pub naming : naming_of rule s.log ≡ s.naming
+
+pub met : (s : LogSet) (u v : Past) (rules : List Rule) (looks : List Entry) (log : Path) (n : Naming) (c : Count) (job : Option Job) → AreQuiet looks → Made u (reverse looks) v → ((x : Path) → StoodAtStart x u → IsFileAt (names (world u)) x)
+    → IsSteadyAt s v → rules_of v ≡ rules → (g : IsGiven rules looks log n c job) → IsFileAt (names (world v)) log → log ≢ s.log → Meet s.log s.naming log n → IsMet s u rules g.rule g.word log
+met s u v rules looks log n c job quiet m begun steady is g file other meet = record {
+  member = over.member;
+  wild = wild.0;
+  gives = wild.1;
+  stood = begun s.log (stood_before s.log u v (reverse looks) m (each_reverse IsQuiet looks quiet) over.log_stood);
+  named = named;
+  naming = named g.rule g.among (g.has.0, g.word, g.has.1, g.has.2, wild.1);
+}
   where
     t : Stretch u (Gives rules g.rule g.word log)
     t = stretch u v looks (Gives rules g.rule g.word log) quiet m g.given
@@ -156,18 +170,28 @@ no_meet s u v rules looks log n c job quiet m begun numbered journal steady is g
     named r among gives_it = (all_in (λ (q : Rule). RuleGives q s.log → (q.way ≡ Rename) × (naming_of q s.log ≡ s.naming)) rules r
         (subst (All (λ (q : Rule). RuleGives q s.log → (q.way ≡ Rename) × (naming_of q s.log ≡ s.naming))) is steady.rules) among gives_it).1
 
-    naming : naming_of g.rule s.log ≡ s.naming
-    naming = named g.rule g.among (g.has.0, g.word, g.has.1, g.has.2, wild.1)
+-- the rule names the members of both logs alike: by numbers, or by the same dates
+pub met_dated : (s : LogSet) (u : Past) (rules : List Rule) (looks : List Entry) (log : Path) (n : Naming) (c : Count) (job : Option Job) → (g : IsGiven rules looks log n c job) → IsMet s u rules g.rule g.word log → s.naming.dated ≡ n.dated
+met_dated s u rules looks log n c job g h = sym (ap (λ (k : Naming). k.dated) h.naming) ∙ ap (λ (k : Naming). k.dated) g.naming_is
+
+-- a set of another log, that is steady where the log names a file, doesn't meet the log's
+pub no_meet : (s : LogSet) (u v : Past) (rules : List Rule) (looks : List Entry) (log : Path) (n : Naming) (c : Count) (job : Option Job) → AreQuiet looks → Made u (reverse looks) v → ((x : Path) → StoodAtStart x u → IsFileAt (names (world u)) x) → n.dated ≡ None
+    → IsJournal v → IsSteadyAt s v → rules_of v ≡ rules → IsGiven rules looks log n c job → IsFileAt (names (world v)) log → log ≢ s.log → Meet s.log s.naming log n → ⊥
+no_meet s u v rules looks log n c job quiet m begun numbered journal steady is g file other meet =
+    none.4.1 member.0 (subst (λ (k : Naming). IsMemberAt k member.0 log) (sym (h.named none.1 (none.0, none.2, none.3) none.4.0)) member.1)
+  where
+    h : IsMet s u rules g.rule g.word log
+    h = met s u v rules looks log n c job quiet m begun steady is g file other meet
+
+    t : Stretch u (Gives rules g.rule g.word log)
+    t = stretch u v looks (Gives rules g.rule g.word log) quiet m g.given
 
     member : (place : ℕ) × IsMemberAt s.naming place log
-    member = place_in s log (sym (ap (λ (k : Naming). k.dated) naming) ∙ (ap (λ (k : Naming). k.dated) g.naming_is ∙ numbered)) over.member
-
-    stood : IsFileAt (names (world t.from)) s.log
-    stood = still_file u t.from t.before s.log t.quiet t.ahead (begun s.log (stood_before s.log u v (reverse looks) m (each_reverse IsQuiet looks quiet) over.log_stood))
+    member = place_in s log (met_dated s u rules looks log n c job g h ∙ numbered) h.member
 
     none : SomeRule rules s.log (λ r. (at : ℕ) → IsMemberAt (naming_of r s.log) at log → ⊥)
-    none = t.is.alone t.from t.to (reverse t.part) t.made (made_journal u t.from (reverse t.before) t.ahead (journal_before u v (reverse looks) m journal)) (sym (reverse-reverse t.part)) wild.0 s.log member.0 (λ e. other (sym e)) s.log_path wild.1 stood
-        (subst (λ (k : Naming). IsMemberAt k member.0 log) (sym naming) member.1)
+    none = t.is.alone t.from t.to (reverse t.part) t.made (made_journal u t.from (reverse t.before) t.ahead (journal_before u v (reverse looks) m journal)) (sym (reverse-reverse t.part)) h.wild s.log member.0 (λ e. other (sym e)) s.log_path h.gives
+        (still_file u t.from t.before s.log t.quiet t.ahead h.stood) (subst (λ (k : Naming). IsMemberAt k member.0 log) (sym h.naming) member.1)
 
 -- where the set is steady, the rule that gives its log rotates it by rename and gives it the set's naming
 of_steady : (s : LogSet) (v : Past) (rules : List Rule) (looks : List Entry) (log : Path) (n : Naming) (c : Count) (job : Option Job) → IsSteadyAt s v → rules_of v ≡ rules → (g : IsGiven rules looks log n c job) → RuleGives g.rule log → s.log ≡ log

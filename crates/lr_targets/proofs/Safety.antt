@@ -73,14 +73,14 @@ state_same p _ _ (by_tool {es = es} {q = q} {e = e} m i f) a = quiet_state q e a
 
 -- ---- a moment of a run behind its looks
 
-record Here (s : LogSet) (state : Path) (now : ℤ) (rules : Rules) (v : Past) : Type 0 where
-  journal : IsJournal v
-  safe : IsSafe s v
-  steady : IsSteadyAt s v
-  rules_are : rules_of v ≡ rules.sets
-  now_is : (world v).now ≡ now
-  state_is : state_of v ≡ Some state
-  not_begun : has_begun s v ≡ false
+pub record Here (s : LogSet) (state : Path) (now : ℤ) (rules : Rules) (v : Past) : Type 0 where
+  pub journal : IsJournal v
+  pub safe : IsSafe s v
+  pub steady : IsSteadyAt s v
+  pub rules_are : rules_of v ≡ rules.sets
+  pub now_is : (world v).now ≡ now
+  pub state_is : state_of v ≡ Some state
+  pub not_begun : has_begun s v ≡ false
 
 true_or_not : (b : Bool) → (b ≡ true) ⊎ (b ≡ false)
 true_or_not true = inl refl
@@ -94,7 +94,7 @@ module _ (s : LogSet) (state : Path) (now : ℤ) (rules : Rules) (v : Past) (her
   state_out x (inl is) = no_name_out s x (λ n. here.steady.state state here.state_is (subst (IsName s.log s.naming) is n))
   state_out x (inr is) = no_name_out s x (λ n. here.steady.new_state state here.state_is (subst (IsName s.log s.naming) is n))
 
-  state_apart : (e : Entry) → IsOfState state e → IsApart s e
+  pub state_apart : (e : Entry) → IsOfState state e → IsApart s e
   state_apart (entry.Renames from to) h = (state_out from h.0, state_out to h.1)
   state_apart (entry.Makes x mode) h = state_out x h
   state_apart (entry.Appends x bytes) h = state_out x h
@@ -110,6 +110,15 @@ own_apart s t (entry.Makes x mode) not c own = apart_outside s t.log t.naming x 
 own_apart s t (entry.Appends x bytes) not c own = apart_outside s t.log t.naming x not (inl (own x (inl refl)))
 own_apart s t (entry.Truncates x) not c own = apart_outside s t.log t.naming x not (inl (own x (inl refl)))
 own_apart s t _ not c own = absurd c
+
+-- the set's log is among these, or it isn't
+pub find : (s : LogSet) (ts : List Target) → ((t : Target) × IsOneOf t ts × (t.log ≡ s.log)) ⊎ ((t : Target) → IsOneOf t ts → t.log ≢ s.log)
+find s [] = inr (λ t i. absurd i)
+find s (t ∷ ts) = ⊎_elim (λ same. inl (t, inl refl, (bytes_eq-Decides t.log s.log).0 same)) (λ differ. ⊎_elim (λ f. inl (f.0, inr f.1, f.2)) (λ ne. inr (none_of differ ne)) (find s ts)) (true_or_not (bytes_eq t.log s.log))
+  where
+    none_of : bytes_eq t.log s.log ≡ false → ((x : Target) → IsOneOf x ts → x.log ≢ s.log) → (x : Target) → IsOneOf x (t ∷ ts) → x.log ≢ s.log
+    none_of differ ne x (inl is) same = let e : bytes_eq t.log s.log ≡ true = (bytes_eq-Decides t.log s.log).1 (ap (λ (y : Target). y.log) is ∙ same) in cc
+    none_of differ ne x (inr i) same = ne x i same
 
 -- ---- what the looks tell of one log
 
@@ -148,20 +157,12 @@ module _ (s : LogSet) (state : Path) (now : ℤ) (rules : Rules) (u v : Past) (l
   all_apart (t ∷ ts) seen ne e (inl h) = other_apart t seen.0 (ne t (inl refl)) e h
   all_apart (t ∷ ts) seen ne e (inr h) = all_apart ts seen.1 (λ x i. ne x (inr i)) e h
 
-  find : (ts : List Target) → ((t : Target) × IsOneOf t ts × (t.log ≡ s.log)) ⊎ ((t : Target) → IsOneOf t ts → t.log ≢ s.log)
-  find [] = inr (λ t i. absurd i)
-  find (t ∷ ts) = ⊎_elim (λ same. inl (t, inl refl, (bytes_eq-Decides t.log s.log).0 same)) (λ differ. ⊎_elim (λ f. inl (f.0, inr f.1, f.2)) (λ ne. inr (none_of differ ne)) (find ts)) (true_or_not (bytes_eq t.log s.log))
-    where
-      none_of : bytes_eq t.log s.log ≡ false → ((x : Target) → IsOneOf x ts → x.log ≢ s.log) → (x : Target) → IsOneOf x (t ∷ ts) → x.log ≢ s.log
-      none_of differ ne x (inl is) same = let e : bytes_eq t.log s.log ≡ true = (bytes_eq-Decides t.log s.log).1 (ap (λ (y : Target). y.log) is ∙ same) in cc
-      none_of differ ne x (inr i) same = ne x i same
-
   -- the set's own log isn't copied
   not_copied : (t : Target) → IsSeen rules now looks t → t.log ≡ s.log → t.job ≡ None
   not_copied t seen same = no_copy s v rules.sets looks t.log t.naming t.count t.job here.steady here.rules_are seen.given (gives u v rules.sets looks t.log t.naming t.count t.job quiet m seen.given) (sym same)
 
   -- it is turned, with the steps of others between its own
-  own_safe : (t : Target) → IsSeen rules now looks t → t.log ≡ s.log → (acts : List Entry) (q : Past) → FirstWoven (IsApartOrMakes s) (rotation_of t) (filter is_change acts) → Made v (reverse acts) q → NoneAttached s q → IsSafe s q
+  pub own_safe : (t : Target) → IsSeen rules now looks t → t.log ≡ s.log → (acts : List Entry) (q : Past) → FirstWoven (IsApartOrMakes s) (rotation_of t) (filter is_change acts) → Made v (reverse acts) q → NoneAttached s q → IsSafe s q
   own_safe t seen same acts q w mq none_q = (walk s v q rotates.limit (reverse acts) rotates.numbered mq
       (log_filter s (names (world v)) (reverse acts) (subst (LogFits s (names (world v))) (sym (filter_reverse is_change acts)) all.fits))
       (rotation_filter s rotates.limit v q (reverse acts) mq (subst (IsRotation s v rotates.limit) (sym (filter_reverse is_change acts)) all.rotation))
@@ -226,7 +227,7 @@ module _ (s : LogSet) (state : Path) (now : ℤ) (rules : Rules) (u v : Past) (l
   -- behind all acts
   acts_safe : (ts : List Target) → AreSeen rules now looks ts → (acts : List Entry) (q : Past) → Each (λ e. IsOfSome ts e ⊎ IsOfState state e) (filter is_change acts)
       → ((t : Target) → IsOneOf t ts → FirstWoven (StandsBetween state t ts) (rotation_of t) (filter is_change acts)) → Made v (reverse acts) q → NoneAttached s q → IsSafe s q
-  acts_safe ts seen acts q all each mq none_q = ⊎_elim own others (find ts)
+  acts_safe ts seen acts q all each mq none_q = ⊎_elim own others (find s ts)
     where
       own : ((t : Target) × IsOneOf t ts × (t.log ≡ s.log)) → IsSafe s q
       own f = own_safe f.0 (seen_one rules now looks ts seen f.0 f.1) f.2 acts q (record { made = (each f.0 f.1).made; first = (each f.0 f.1).first; woven = weave_as _ (IsApartOrMakes s) _ _ apart (each f.0 f.1).woven }) mq none_q
@@ -244,14 +245,14 @@ module _ (s : LogSet) (state : Path) (now : ℤ) (rules : Rules) (u v : Past) (l
 -- ---- the whole run
 
 -- the moment behind the looks
-record Looked (s : LogSet) (state : Path) (now : ℤ) (rules : Rules) (b q : Past) (looks acts : List Entry) : Type 0 where
-  mid : Past
-  first : Made b (reverse looks) mid
-  second : Made mid (reverse acts) q
-  here : Here s state now rules mid
-  none : NoneAttached s mid
+pub record Looked (s : LogSet) (state : Path) (now : ℤ) (rules : Rules) (b q : Past) (looks acts : List Entry) : Type 0 where
+  pub mid : Past
+  pub first : Made b (reverse looks) mid
+  pub second : Made mid (reverse acts) q
+  pub here : Here s state now rules mid
+  pub none : NoneAttached s mid
 
-looked : (s : LogSet) (u q : Past) (state : Path) (now : Moment) (rules : Rules) (tail looks acts : List Entry) → tail ≡ looks ++ acts → AreQuiet looks → Made (u ▸ entry.Starts state now rules) (reverse tail) q
+pub looked : (s : LogSet) (u q : Past) (state : Path) (now : Moment) (rules : Rules) (tail looks acts : List Entry) → tail ≡ looks ++ acts → AreQuiet looks → Made (u ▸ entry.Starts state now rules) (reverse tail) q
     → IsJournal (u ▸ entry.Starts state now rules) → IsSafe s (u ▸ entry.Starts state now rules) → IsSteady s q → Looked s state now.seconds rules (u ▸ entry.Starts state now rules) q looks acts
 looked s u q state now rules tail looks acts joined quiet m journal safe st = record { mid = k.mid; first = k.first; second = k.second; here = here; none = none_attached s k.mid steady_mid }
   where
@@ -295,44 +296,57 @@ acts_apart s u q state now rules tail t m journal safe st ne =
     each_as (λ e. IsOfSome t.targets e ⊎ IsOfState state e) (IsApart s) (filter is_change t.acts)
     (λ e h. ⊎_elim (λ o. all_apart s state now.seconds rules (u ▸ entry.Starts state now rules) k.mid t.looks t.quiet k.first (λ x h. h) k.here k.none t.targets t.seen ne e o) (λ o. state_apart s state now.seconds rules k.mid k.here e o) h) t.all
 
+-- the moment as the run begins, behind what was read
+pub record Begun (s : LogSet) (p q : Past) (front tail : List Entry) (state : Path) (now : Moment) (rules : Rules) : Type 0 where
+  pub at : Past
+  pub ahead : Made p (reverse front) at
+  pub behind : Made (at ▸ entry.Starts state now rules) (reverse tail) q
+  pub journal : IsJournal (at ▸ entry.Starts state now rules)
+  pub safe : IsSafe s (at ▸ entry.Starts state now rules)
+
+pub begun : (s : LogSet) (p q : Past) (es front tail : List Entry) (state : Path) (now : Moment) (rules : Rules) → reverse es ≡ front ++ entry.Starts state now rules ∷ tail → AreQuiet front → IsJournal p → IsSafe s p → Made p es q → IsSteady s q → Begun s p q front tail state now rules
+begun s p q es front tail state now rules joined quiet journal safe m st = record {
+  at = a.mid;
+  ahead = ahead;
+  behind = behind_start;
+  journal = (journal_at, a.fits);
+  safe = quiet_safe s a.mid start (journal_at, a.fits) (quiet_safe_on s p a.mid front quiet journal safe ahead (steady_before s (a.mid ▸ start) q (reverse tail) behind_start st).0) (tt, refl);
+}
+  where
+    start : Entry
+    start = entry.Starts state now rules
+
+    k : Cut p q (reverse (start ∷ tail)) (reverse front)
+    k = cut p q es (reverse (start ∷ tail)) (reverse front) (sym (reverse-reverse es) ∙ (ap reverse joined ∙ reverse-append front (start ∷ tail))) m
+
+    c : Cut k.mid q (reverse tail) (start ∷ [])
+    c = cut k.mid q (reverse (start ∷ tail)) (reverse tail) (start ∷ []) (reverse-append (start ∷ []) tail) k.second
+
+    a : CutAt k.mid c.mid [] start []
+    a = cut_one k.mid c.mid (start ∷ []) [] start refl c.first
+
+    ahead : Made p (reverse front) a.mid
+    ahead = made_on p k.mid a.mid (reverse front) [] k.first a.first
+
+    behind_start : Made (a.mid ▸ start) (reverse tail) q
+    behind_start = subst (λ (ts : List Entry). Made (a.mid ▸ start) ts q) (append-nil (reverse tail)) (made_on (a.mid ▸ start) c.mid q [] (reverse tail) a.second c.second)
+
+    journal_at : IsJournal a.mid
+    journal_at = made_journal p a.mid (reverse front) ahead journal
+
+-- where it didn't begin
+pub unbegun_safe : (s : LogSet) (p q : Past) (es front rest : List Entry) → reverse es ≡ front ++ rest → rest ≡ [] → AreQuiet front → IsJournal p → IsSafe s p → Made p es q → IsSteady s q → IsSafe s q
+unbegun_safe s p q es front rest joined none quiet journal safe m st = quiet_safe_on s p q front quiet journal safe
+    (subst (λ (ts : List Entry). Made p ts q) (sym (reverse-reverse es) ∙ ap reverse (joined ∙ (ap (λ (xs : List Entry). front ++ xs) none ∙ append-nil front))) m) st
+
 pub run_safe : (s : LogSet) (p q : Past) (es : List Entry) → IsJournal p → IsSafe s p → Made p es q → IsWholeRun (reverse es) → IsSteady s q → IsSafe s q
 run_safe s p q es journal safe m run st = go run.goes_on
   where
-    k : Cut p q (reverse run.rest) (reverse run.front)
-    k = cut p q es (reverse run.rest) (reverse run.front) (sym (reverse-reverse es) ∙ (ap reverse run.joined ∙ reverse-append run.front run.rest)) m
-
-    journal_mid : IsJournal k.mid
-    journal_mid = made_journal p k.mid (reverse run.front) k.first journal
-
-    safe_mid : IsSafe s k.mid
-    safe_mid = quiet_safe_on s p k.mid run.front run.quiet journal safe k.first (steady_before s k.mid q (reverse run.rest) k.second st)
-
     go : MayTurnAll run.rest → IsSafe s q
-    go (not_yet none) = quiet_safe_on s k.mid q [] tt journal_mid safe_mid (subst (λ (ts : List Entry). Made k.mid (reverse ts) q) none k.second) st
+    go (not_yet none) = unbegun_safe s p q es run.front run.rest run.joined none run.quiet journal safe m st
     go (started state now rules tail is tail_is) =
-        tail_safe s a.mid q state now rules tail tail_is behind_start (journal_u, a.fits) (quiet_safe s a.mid (entry.Starts state now rules) (journal_u, a.fits) safe_u (tt, refl)) st
-      where
-        behind : reverse run.rest ≡ reverse tail ++ entry.Starts state now rules ∷ []
-        behind = ap reverse is ∙ reverse-append (entry.Starts state now rules ∷ []) tail
-
-        c : Cut k.mid q (reverse tail) (entry.Starts state now rules ∷ [])
-        c = cut k.mid q (reverse run.rest) (reverse tail) (entry.Starts state now rules ∷ []) behind k.second
-
-        a : CutAt k.mid c.mid [] (entry.Starts state now rules) []
-        a = cut_one k.mid c.mid (entry.Starts state now rules ∷ []) [] (entry.Starts state now rules) refl c.first
-
-        behind_start : Made (a.mid ▸ entry.Starts state now rules) (reverse tail) q
-        behind_start = subst (λ (ts : List Entry). Made (a.mid ▸ entry.Starts state now rules) ts q) (append-nil (reverse tail))
-            (made_on (a.mid ▸ entry.Starts state now rules) c.mid q [] (reverse tail) a.second c.second)
-
-        steady_u : IsSteady s a.mid
-        steady_u = (steady_before s (a.mid ▸ entry.Starts state now rules) q (reverse tail) behind_start st).0
-
-        journal_u : IsJournal a.mid
-        journal_u = made_journal k.mid a.mid [] a.first journal_mid
-
-        safe_u : IsSafe s a.mid
-        safe_u = quiet_safe_on s k.mid a.mid [] tt journal_mid safe_mid a.first steady_u
+        let b = begun s p q es run.front tail state now rules (run.joined ∙ ap (λ (xs : List Entry). run.front ++ xs) is) run.quiet journal safe m st in
+        tail_safe s b.at q state now rules tail tail_is b.behind b.journal b.safe st
 
 pub call_safe : (o n : Option Journal) → Left IsWholeRun o n → KeepsSafe o n
 call_safe o n not_told = tt
