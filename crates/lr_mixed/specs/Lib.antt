@@ -1,0 +1,2 @@
+pub mod AllTurns
+pub mod Seen

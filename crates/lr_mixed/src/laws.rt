@@ -1,0 +1,26 @@
+// A run with logs of both kinds that looks at all of them first, and rotates them then.
+ghost use Rattle.std.specs.Prelude.{List, Option};
+ghost use Rattle.lr_rules.specs.declared.clock.Clock.{Clock};
+ghost use Rattle.lr_rules.specs.declared.rules.Rules.{Rules};
+ghost use Rattle.lr_host.specs.declared.entry.Entry.{Entry};
+ghost use Rattle.lr_host.specs.declared.journal.Journal.{Journal};
+ghost use Rattle.lr_host.specs.Told.{Left};
+ghost use Rattle.lr_dated.specs.Forward.{IsForwardFor};
+ghost use Rattle.lr_dated.specs.Stays.{KeepsSafeWhere};
+ghost use Rattle.lr_targets.specs.Target.{Target};
+ghost use Rattle.lr_dated_run.specs.Own.{HasAnyNames};
+ghost use Rattle.lr_mixed.specs.AllTurns.{IsWholeRunBy};
+ghost use Rattle.lr_mixed.specs.Seen.{IsLogSeen};
+
+/// Over calls that leave the entries of such a run, as far as it came, each set stays safe of which no member's moment has
+/// gone ahead of the clock's: the set of a log that was rotated, or of any other, numbered or dated, whatever other logs'
+/// steps and the state's entries stand between, with writers' entries in a journal where the set is steady. Of a numbered set
+/// nothing is asked. It is not where the rule of its log asks for a copy.
+pub fn all_logs_stay_safe()
+    ensures { (clock : Clock) (before after : Option Journal) → Left (IsWholeRunBy clock) before after → KeepsSafeWhere (IsForwardFor clock) before after }
+{}
+
+/// A log that such a run saw has names for all its members, numbers or dates.
+pub fn seen_names()
+    ensures { (rules : Rules) (clock : Clock) (looks : List Entry) (t : Target) → IsLogSeen rules clock looks t → HasAnyNames t }
+{}

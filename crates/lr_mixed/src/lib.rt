@@ -1,0 +1,9 @@
+//! What a run does to all its logs, be the names of their members numbers or dates: each set stays safe.
+//!
+//! A law is the contract of a function without a body; begin with `all_logs_stay_safe`, whose words are in
+//! `specs/AllTurns.antt`.
+#![tactic(auto)]
+
+mod laws;
+
+pub use laws::{all_logs_stay_safe, seen_names};
