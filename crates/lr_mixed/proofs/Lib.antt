@@ -1,3 +1,4 @@
 pub mod Meeting
 pub mod Safety
 pub mod Seen
+pub mod Shapes

@@ -1,15 +1,18 @@
 // A run with logs of both kinds that looks at all of them first, and rotates them then.
 ghost use Rattle.std.specs.Prelude.{List, Option};
 ghost use Rattle.lr_rules.specs.declared.clock.Clock.{Clock};
+ghost use Rattle.lr_rules.specs.declared.path.Path.{Path};
 ghost use Rattle.lr_rules.specs.declared.rules.Rules.{Rules};
 ghost use Rattle.lr_host.specs.declared.entry.Entry.{Entry};
 ghost use Rattle.lr_host.specs.declared.journal.Journal.{Journal};
+ghost use Rattle.lr_host.specs.Quiet.{AreQuiet};
 ghost use Rattle.lr_host.specs.Told.{Left};
 ghost use Rattle.lr_dated.specs.Forward.{IsForwardFor};
 ghost use Rattle.lr_dated.specs.Stays.{KeepsSafeWhere};
+ghost use Rattle.lr_targets.specs.AllTurns.{AllTurns};
 ghost use Rattle.lr_targets.specs.Target.{Target};
 ghost use Rattle.lr_dated_run.specs.Own.{HasAnyNames};
-ghost use Rattle.lr_mixed.specs.AllTurns.{IsWholeRunBy};
+ghost use Rattle.lr_mixed.specs.AllTurns.{AllTurnsBy, IsWholeRunBy};
 ghost use Rattle.lr_mixed.specs.Seen.{IsLogSeen};
 
 /// Over calls that leave the entries of such a run, as far as it came, each set stays safe of which no member's moment has
@@ -23,4 +26,11 @@ pub fn all_logs_stay_safe()
 /// A log that such a run saw has names for all its members, numbers or dates.
 pub fn seen_names()
     ensures { (rules : Rules) (clock : Clock) (looks : List Entry) (t : Target) → IsLogSeen rules clock looks t → HasAnyNames t }
+{}
+
+/// A run with numbered logs alone is such a run, by each clock that tells its moment; and so is one that changes nothing.
+pub fn numbered_runs_are_such()
+    ensures numbered { (state : Path) (clock : Clock) (rules : Rules) (ts : List Entry) → AllTurns state clock.now rules ts → AllTurnsBy state clock rules ts }
+    ensures looks { (state : Path) (clock : Clock) (rules : Rules) (ts : List Entry) → AreQuiet ts → AllTurnsBy state clock rules ts }
+    ensures quiet { (clock : Clock) (ts : List Entry) → AreQuiet ts → IsWholeRunBy clock ts }
 {}
