@@ -55,6 +55,16 @@ reads_of : (n : Naming) (ms : List Ranked) → AreDatedAt n ms → Each (Reads (
 reads_of n [] h = tt
 reads_of n (m ∷ ms) h = ((m.seconds, m.serial, h.0), reads_of n ms h.1)
 
+-- the paths of a copy
+pub copy_paths : (rule : Rule) (job : Job) (log : Path) (n : Naming) (target : Path) (t : ℤ) (serial : ℕ) (looks : List Entry) → naming_of rule log ≡ n → IsDatedJob log target n looks job → IsDatedFamily log n → IsDatedAt n t serial target → ArePaths job
+copy_paths rule job log n target t serial looks naming_is j family is = record {
+  part_apart = λ e. part_no_log log n t serial target family is rule naming_is (sym j.part_is ∙ (e ∙ j.from_is));
+  to_apart = λ e. family.apart t serial (subst (IsDatedAt n t serial) (sym j.to_is ∙ (e ∙ j.from_is)) is);
+  part_not_to = λ e. part_no_dated log n t serial target family is t serial (subst (IsDatedAt n t serial) (sym (sym j.part_is ∙ (e ∙ j.to_is))) is);
+  dir_is = j.dir_is ∙ sym (ap parent_of j.to_is ∙ stands_in log n t serial target family.kin family.format is family.dir);
+  part_in = ap parent_of j.part_is ∙ (part_parent log n t serial target family is ∙ sym j.dir_is);
+}
+
 module _ (log : Path) (n : Naming) (c : Count) (maxage : Option ℕ) (members : List Member) (target : Path) (now t : ℤ) (serial : ℕ) (p q : Past) (es : List Entry) (family : IsDatedFamily log n) (made : Made p es q) (still : ChangeNothing es) (saw : SawFile log (reverse es)) (shown : ShownDated n members (reverse es))
     (next : IsNext members t serial) (is : IsDatedAt n t serial target) where
   abbrev all : List Ranked
@@ -86,13 +96,7 @@ module _ (log : Path) (n : Naming) (c : Count) (maxage : Option ℕ) (members : 
 
   module _ (rule : Rule) (job : Job) (naming_is : naming_of rule log ≡ n) (j : IsDatedJob log target n (reverse es) job) where
     paths : ArePaths job
-    paths = record {
-      part_apart = λ e. part_no_log log n t serial target family is rule naming_is (sym j.part_is ∙ (e ∙ j.from_is));
-      to_apart = λ e. can_turn.4 (sym j.from_is ∙ (sym e ∙ j.to_is));
-      part_not_to = λ e. part_no_dated log n t serial target family is t serial (subst (IsDatedAt n t serial) (sym (sym j.part_is ∙ (e ∙ j.to_is))) is);
-      dir_is = j.dir_is ∙ sym (ap parent_of j.to_is ∙ stands_in log n t serial target family.kin family.format is family.dir);
-      part_in = ap parent_of j.part_is ∙ (part_parent log n t serial target family is ∙ sym j.dir_is);
-    }
+    paths = copy_paths rule job log n target t serial (reverse es) naming_is j family is
 
     place : HasPlace job here
     place = record {

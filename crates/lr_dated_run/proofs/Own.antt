@@ -111,7 +111,7 @@ unlinks_are [] = refl
 unlinks_are (x ∷ xs) = ap (λ es. unlink x ∷ es) (unlinks_are xs)
 
 module _ (t : Target) (h : HasDatedNames t) where
-  retire_are : unlinks t.ready.retire ≡ reverse (map unlink (gone t.count 0 (all_members t h)))
+  pub retire_are : unlinks t.ready.retire ≡ reverse (map unlink (gone t.count 0 (all_members t h)))
   retire_are = ap unlinks h.ready.retire_is ∙ (unlinks_are (reverse (gone t.count 0 (all_members t h))) ∙ map_reverse unlink (gone t.count 0 (all_members t h)))
 
   -- a log that isn't copied has the rotation of its dated members

@@ -1,3 +1,4 @@
+pub mod Calls
 pub mod Meeting
 pub mod Safety
 pub mod Seen

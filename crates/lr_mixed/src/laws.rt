@@ -1,5 +1,5 @@
 // A run with logs of both kinds that looks at all of them first, and rotates them then.
-ghost use Rattle.std.specs.Prelude.{List, Option};
+ghost use Rattle.std.specs.Prelude.{◌≡◌, List, Option, Some};
 ghost use Rattle.lr_rules.specs.declared.clock.Clock.{Clock};
 ghost use Rattle.lr_rules.specs.declared.path.Path.{Path};
 ghost use Rattle.lr_rules.specs.declared.rules.Rules.{Rules};
@@ -7,9 +7,13 @@ ghost use Rattle.lr_host.specs.declared.entry.Entry.{Entry};
 ghost use Rattle.lr_host.specs.declared.journal.Journal.{Journal};
 ghost use Rattle.lr_host.specs.Quiet.{AreQuiet};
 ghost use Rattle.lr_host.specs.Told.{Left};
+ghost use Rattle.lr_copy.specs.declared.job.Job.{Job};
+ghost use Rattle.lr_copy.specs.Fits.{ArePaths};
 ghost use Rattle.lr_dated.specs.Forward.{IsForwardFor};
 ghost use Rattle.lr_dated.specs.Stays.{KeepsSafeWhere};
+ghost use Rattle.lr_rotations.specs.Calls.{CanCalls};
 ghost use Rattle.lr_targets.specs.AllTurns.{AllTurns};
+ghost use Rattle.lr_targets.specs.Calls.{calls_of};
 ghost use Rattle.lr_targets.specs.Target.{Target};
 ghost use Rattle.lr_dated_run.specs.Own.{HasAnyNames};
 ghost use Rattle.lr_mixed.specs.AllTurns.{AllTurnsBy, IsWholeRunBy};
@@ -21,6 +25,14 @@ ghost use Rattle.lr_mixed.specs.Seen.{IsLogSeen};
 /// nothing is asked. It is not where the rule of its log asks for a copy.
 pub fn all_logs_stay_safe()
     ensures { (clock : Clock) (before after : Option Journal) → Left (IsWholeRunBy clock) before after → KeepsSafeWhere (IsForwardFor clock) before after }
+{}
+
+/// Behind looks that saw a log and its family the calls of its rotation fit by themselves, one after another, whatever
+/// writers did meanwhile, also where the log is copied; the part file of a copy is neither the log nor the final path.
+pub fn seen_log_can_be_rotated()
+    ensures fits { (rules : Rules) (clock : Clock) (t : Target) (before now : Option Journal) → Left (λ ts. AreQuiet ts × IsLogSeen rules clock ts t) before now
+        → CanCalls now (calls_of t) }
+    ensures paths { (rules : Rules) (clock : Clock) (looks : List Entry) (t : Target) (job : Job) → IsLogSeen rules clock looks t → t.job ≡ Some job → ArePaths job }
 {}
 
 /// A log that such a run saw has names for all its members, numbers or dates.

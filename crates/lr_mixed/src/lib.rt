@@ -6,4 +6,4 @@
 
 mod laws;
 
-pub use laws::{all_logs_stay_safe, numbered_runs_are_such, seen_names};
+pub use laws::{all_logs_stay_safe, numbered_runs_are_such, seen_log_can_be_rotated, seen_names};

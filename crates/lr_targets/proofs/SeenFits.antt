@@ -329,7 +329,7 @@ module _ (rules : Rules) (seconds : ℤ) (t : Target) (p q : Past) (es : List En
           fit_like OfMember (after_call shifted R) (afters shifted (copy_calls job)) U (reads_of (retired t.count t.from) (retire_named t.naming t.count places t.from names_all.next names_all.going)) like behind_turn,
         )
 
-  seen_fits : FitCalls now (calls_of t)
+  pub seen_fits : FitCalls now (calls_of t)
   seen_fits = go t.job refl
     where
       go : (j : Option Job) → t.job ≡ j → FitCalls now (calls_of t)
