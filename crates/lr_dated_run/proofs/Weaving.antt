@@ -18,7 +18,7 @@ use Rattle.lr_dated_run.specs.Beside.{MakesNoDir, IsBesideSet}
 
 -- ---- entries beside the set
 
-apart_of : (s : LogSet) (e : Entry) → IsAside s e → MakesNoDir s e → IsApart s e
+pub apart_of : (s : LogSet) (e : Entry) → IsAside s e → MakesNoDir s e → IsApart s e
 apart_of s (MakesDir x mode) out no_dir = no_dir
 apart_of s (Renames from to) out no_dir = out
 apart_of s (Unlinks x) out no_dir = out

@@ -3,3 +3,4 @@ pub mod Meeting
 pub mod Safety
 pub mod Seen
 pub mod Shapes
+pub mod Whole

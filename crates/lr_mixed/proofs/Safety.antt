@@ -1,5 +1,5 @@
 -- Each set stays safe over a run that rotates its logs, numbered and dated, behind all its looks.
-use Rattle.std.proofs.Common.{◌≡◌, ◌≢◌, ◌⊎◌, inl, inr, ⊎_elim, ℕ, false, refl, sym, ◌∙◌, ap, subst, Option, Some, None, List, [], ◌∷◌, ◌++◌, reverse, append-nil}
+use Rattle.std.proofs.Common.{◌≡◌, ◌≢◌, ◌⊎◌, inl, inr, ⊎_elim, ℕ, false, refl, sym, ◌∙◌, ap, subst, ℤ, Option, Some, None, List, [], ◌∷◌, ◌++◌, reverse, append-nil}
 use Rattle.std.specs.Prelude.{filter}
 use Rattle.std.proofs.lemmas.List.{reverse-reverse}
 use Rattle.lr_rules.specs.declared.clock.Clock.{Clock}
@@ -39,11 +39,12 @@ use Rattle.lr_dated_chain.specs.Ready.{all_of}
 use Rattle.lr_rotations.specs.Weave.{Among, FirstWoven}
 use Rattle.lr_rotations.proofs.Moments.{saw_one, saw_file}
 use Rattle.lr_rotations.proofs.Over.{first_aside}
-use Rattle.lr_rotations.proofs.Weaving.{weave_as, IsApartOrMakes, apart_aside}
+use Rattle.lr_rotations.proofs.Weaving.{weave_as, IsApart, IsApartOrMakes, apart_aside}
 use Rattle.lr_targets.specs.AllTurns.{IsOfState, IsOfSome, StandsBetween}
 use Rattle.lr_targets.specs.Target.{Target, rotation_of, IsOneOf}
 use Rattle.lr_targets.proofs.Given.{gives, naming_same, no_copy, by_rule}
-use Rattle.lr_targets.proofs.Safety.{Here, state_apart, find, own_safe, looked as looked_at, begun, unbegun_safe}
+use Rattle.lr_targets.proofs.LeftAlone.{apart_left}
+use Rattle.lr_targets.proofs.Safety.{Here, state_apart, find, own_safe, Looked, looked as looked_at, begun, unbegun_safe}
 use Rattle.lr_dated_seen.specs.Family.{IsDatedFamily}
 use Rattle.lr_dated_seen.specs.Shown.{SawFile, ShownDated}
 use Rattle.lr_dated_run.specs.Beside.{LiesBeside, IsBesideSet}
@@ -51,7 +52,7 @@ use Rattle.lr_dated_run.specs.Own.{HasDatedNames, all_members}
 use Rattle.lr_dated_run.proofs.Mixed.{any_beside, between_beside}
 use Rattle.lr_dated_run.proofs.Own.{rotation_is}
 use Rattle.lr_dated_run.proofs.Safe.{beside_safe}
-use Rattle.lr_dated_run.proofs.Weaving.{beside_apart}
+use Rattle.lr_dated_run.proofs.Weaving.{apart_of, beside_apart}
 use Rattle.lr_mixed.specs.AllTurns.{AllTurnsBy, MayTurnAllBy, not_yet, started, IsWholeRunBy}
 use Rattle.lr_mixed.specs.Seen.{IsDatedSeen, IsLogSeen, AreLogsSeen}
 use Rattle.lr_mixed.proofs.Meeting.{meets_not}
@@ -182,3 +183,22 @@ run_safe clock s p q es forward journal safe m run st = go run.goes_on
 pub all_safe : (clock : Clock) (o n : Option Journal) → Left (IsWholeRunBy clock) o n → KeepsSafeWhere (IsForwardFor clock) o n
 all_safe clock o n not_told = tt
 all_safe clock o n (is_told {j = j} {k = k} {es = es} m run) = λ s forward journal safe st. run_safe clock s (past j) (past k) es forward journal safe m run st
+
+-- ---- sets of other logs
+
+-- where none of the logs is the set's, each change lies apart of it
+acts_apart : (clock : Clock) (s : LogSet) (u q : Past) (state : Path) (rules : Rules) (tail : List Entry) (t : AllTurnsBy state clock rules tail) → Made (u ▸ entry.Starts state clock.now rules) (reverse tail) q
+    → IsJournal (u ▸ entry.Starts state clock.now rules) → IsSafe s (u ▸ entry.Starts state clock.now rules) → IsSteady s q → ((x : Target) → IsOneOf x t.targets → x.log ≢ s.log) → Each (IsApart s) (filter is_change t.acts)
+acts_apart clock s u q state rules tail t m journal safe st ne = each_as (λ e. IsOfSome t.targets e ⊎ IsOfState state e) (IsApart s) (filter is_change t.acts) apart t.all
+  where
+    k : Looked s state clock.now.seconds rules (u ▸ entry.Starts state clock.now rules) q t.looks t.acts
+    k = looked_at s u q state clock.now rules tail t.looks t.acts t.joined t.quiet m journal safe st
+
+    apart : (e : Entry) → IsOfSome t.targets e ⊎ IsOfState state e → IsApart s e
+    apart e (inl o) = let b = some_beside clock s state rules (u ▸ entry.Starts state clock.now rules) k.mid t.looks t.quiet k.first (λ x h. h) k.here k.none t.targets t.seen ne e o in apart_of s e b.0 b.1
+    apart e (inr o) = state_apart s state clock.now.seconds rules k.mid k.here e o
+
+pub others_are_left : (clock : Clock) (s : LogSet) (u q : Past) (state : Path) (rules : Rules) (tail : List Entry) (t : AllTurnsBy state clock rules tail) → Made (u ▸ entry.Starts state clock.now rules) (reverse tail) q
+    → IsJournal (u ▸ entry.Starts state clock.now rules) → IsSafe s (u ▸ entry.Starts state clock.now rules) → IsSteady s q → ((x : Target) → IsOneOf x t.targets → x.log ≢ s.log) → (y : Path) (k : ℤ) → s.key y ≡ Some k → names (world q) y ≡ names (world u) y
+others_are_left clock s u q state rules tail t m journal safe st ne y k key =
+    apart_left s (u ▸ entry.Starts state clock.now rules) q tail t.looks t.acts t.joined t.quiet (acts_apart clock s u q state rules tail t m journal safe st ne) m (none_attached s q st) y k key

@@ -1,2 +1,3 @@
 pub mod AllTurns
+pub mod Rotated
 pub mod Seen

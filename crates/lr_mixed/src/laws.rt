@@ -1,22 +1,33 @@
 // A run with logs of both kinds that looks at all of them first, and rotates them then.
-ghost use Rattle.std.specs.Prelude.{◌≡◌, List, Option, Some};
+ghost use Rattle.std.specs.Prelude.{◌≡◌, ◌≢◌, ℤ, List, ◌∷◌, ◌++◌, reverse, Option, Some, None};
 ghost use Rattle.lr_rules.specs.declared.clock.Clock.{Clock};
 ghost use Rattle.lr_rules.specs.declared.path.Path.{Path};
+ghost use Rattle.lr_rules.specs.declared.rule.Format.{Format};
 ghost use Rattle.lr_rules.specs.declared.rules.Rules.{Rules};
 ghost use Rattle.lr_host.specs.declared.entry.Entry.{Entry};
+ghost use Rattle.lr_host.specs.declared.entry.Entry.TheVariants.{Starts};
 ghost use Rattle.lr_host.specs.declared.journal.Journal.{Journal};
+ghost use Rattle.lr_host.specs.Opening.{IsJournal};
 ghost use Rattle.lr_host.specs.Quiet.{AreQuiet};
-ghost use Rattle.lr_host.specs.Told.{Left};
+ghost use Rattle.lr_host.specs.Safe.{IsSafe};
+ghost use Rattle.lr_host.specs.Sets.{LogSet};
+ghost use Rattle.lr_host.specs.Steady.{IsSteady};
+ghost use Rattle.lr_host.specs.Told.{Made, Left};
+ghost use Rattle.lr_host.specs.World.{Past, ◌▸◌, world, names};
 ghost use Rattle.lr_copy.specs.declared.job.Job.{Job};
 ghost use Rattle.lr_copy.specs.Fits.{ArePaths};
 ghost use Rattle.lr_dated.specs.Forward.{IsForwardFor};
 ghost use Rattle.lr_dated.specs.Stays.{KeepsSafeWhere};
+ghost use Rattle.lr_dated_ready.specs.Ready.{dated_target};
 ghost use Rattle.lr_rotations.specs.Calls.{CanCalls};
-ghost use Rattle.lr_targets.specs.AllTurns.{AllTurns};
+ghost use Rattle.lr_rotations.specs.Rotated.{RotatesAmong};
+ghost use Rattle.lr_targets.specs.AllTurns.{other_paths, AllTurns};
 ghost use Rattle.lr_targets.specs.Calls.{calls_of};
-ghost use Rattle.lr_targets.specs.Target.{Target};
+ghost use Rattle.lr_targets.specs.Target.{Target, IsOneOf};
+ghost use Rattle.lr_dated_turned.specs.Rotated.{DatedRotatesAmong};
 ghost use Rattle.lr_dated_run.specs.Own.{HasAnyNames};
-ghost use Rattle.lr_mixed.specs.AllTurns.{AllTurnsBy, IsWholeRunBy};
+ghost use Rattle.lr_mixed.specs.AllTurns.{AllTurnsBy, AllTurnedBy, IsWholeRunBy};
+ghost use Rattle.lr_mixed.specs.Rotated.{all_by};
 ghost use Rattle.lr_mixed.specs.Seen.{IsLogSeen};
 
 /// Over calls that leave the entries of such a run, as far as it came, each set stays safe of which no member's moment has
@@ -33,6 +44,30 @@ pub fn seen_log_can_be_rotated()
     ensures fits { (rules : Rules) (clock : Clock) (t : Target) (before now : Option Journal) → Left (λ ts. AreQuiet ts × IsLogSeen rules clock ts t) before now
         → CanCalls now (calls_of t) }
     ensures paths { (rules : Rules) (clock : Clock) (looks : List Entry) (t : Target) (job : Job) → IsLogSeen rules clock looks t → t.job ≡ Some job → ArePaths job }
+{}
+
+/// Where each log was rotated whole, the entries are, for each of them that isn't copied, the looks at it and its rotation,
+/// with others between on the paths of other logs and of the state: `family_is_rotated` and `dated_family_is_rotated` say
+/// what becomes of its files. A dated log goes to the clock's stamp, and those go that a rule's count and age let go.
+pub fn whole_run_rotates_all()
+    ensures numbered { (state : Path) (clock : Clock) (rules : Rules) (reads tail : List Entry) (t : AllTurnedBy state clock rules tail)
+        (x : Target) → AreQuiet reads → IsOneOf x t.turns.targets → x.job ≡ None → x.naming.dated ≡ None
+        → RotatesAmong (other_paths state x.log t.turns.targets) x.log x.naming x.count x.from x.stand (reads ++ Starts state clock.now rules ∷ tail) }
+    ensures dated { (state : Path) (clock : Clock) (rules : Rules) (reads tail : List Entry) (t : AllTurnedBy state clock rules tail)
+        (x : Target) → AreQuiet reads → IsOneOf x t.turns.targets → x.job ≡ None → (l : IsLogSeen rules clock t.turns.looks x)
+        (format : Format) → x.naming.dated ≡ Some format
+        → DatedRotatesAmong (other_paths state x.log t.turns.targets) x.log x.naming x.count (dated_target x.naming clock x.stand.members)
+        (all_by x.naming l.given.rule.maxage clock x.stand.members) x.stand.members (reads ++ Starts state clock.now rules ∷ tail) }
+{}
+
+/// Each member of a set whose log the run doesn't rotate, numbered or dated, names what it named as the run began, however
+/// far it came: of sets that are safe and steady.
+pub fn sets_of_others_are_left()
+    ensures { (clock : Clock) (s : LogSet) (u q : Past) (state : Path) (rules : Rules) (tail : List Entry)
+        (t : AllTurnsBy state clock rules tail) → Made (u ▸ Starts state clock.now rules) (reverse tail) q
+        → IsJournal (u ▸ Starts state clock.now rules) → IsSafe s (u ▸ Starts state clock.now rules) → IsSteady s q
+        → ((x : Target) → IsOneOf x t.targets → x.log ≢ s.log)
+        → (y : Path) (k : ℤ) → s.key y ≡ Some k → names (world q) y ≡ names (world u) y }
 {}
 
 /// A log that such a run saw has names for all its members, numbers or dates.

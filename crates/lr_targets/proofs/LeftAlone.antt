@@ -18,6 +18,7 @@ use Rattle.lr_host.specs.Steps.{is_change}
 use Rattle.lr_host.specs.Told.{Each, IsTools, Made, at_first, by_writer, by_tool}
 use Rattle.lr_host.proofs.Each.{each_reverse, filter_reverse}
 use Rattle.lr_host.proofs.Names.{put_other}
+use Rattle.lr_host.specs.Quiet.{AreQuiet}
 use Rattle.lr_host.proofs.Quiet.{looked_names, no_disk_change, quiet_changes}
 use Rattle.lr_host.proofs.Steady.{none_attached}
 use Rattle.lr_laws.proofs.Writing.{attached_before, wrote_member}
@@ -52,12 +53,17 @@ same_walk s y k key p _ _ (by_tool {es = es} {q = q} {e = e} m i f) a none = go 
     go further true h a = apart_names s q e y i h a.0 (keyed s y k key) ∙ further a.1
     go further false h a = looked_names q e y i (no_disk_change e h) ∙ further a
 
-pub others_left : (s : LogSet) (u q : Past) (state : Path) (now : Moment) (rules : Rules) (tail : List Entry) (t : AllTurns state now rules tail) → Made (u ▸ entry.Starts state now rules) (reverse tail) q
-    → IsJournal (u ▸ entry.Starts state now rules) → IsSafe s (u ▸ entry.Starts state now rules) → IsSteady s q → ((x : Target) → IsOneOf x t.targets → x.log ≢ s.log) → (y : Path) (k : ℤ) → s.key y ≡ Some k → names (world q) y ≡ names (world u) y
-others_left s u q state now rules tail t m journal safe st ne y k key = same_walk s y k key (u ▸ entry.Starts state now rules) q (reverse tail) m apart (none_attached s q st)
+-- where the changes behind looks lie apart
+pub apart_left : (s : LogSet) (p q : Past) (tail looks acts : List Entry) → tail ≡ looks ++ acts → AreQuiet looks → Each (IsApart s) (filter is_change acts) → Made p (reverse tail) q → NoneAttached s q → (y : Path) (k : ℤ) → s.key y ≡ Some k → names (world q) y ≡ names (world p) y
+apart_left s p q tail looks acts joined quiet out m none y k key = same_walk s y k key p q (reverse tail) m apart none
   where
-    changes : filter is_change tail ≡ filter is_change t.acts
-    changes = ap (filter is_change) t.joined ∙ (filter-append is_change t.looks t.acts ∙ ap (λ xs. xs ++ filter is_change t.acts) (quiet_changes t.looks t.quiet))
+    changes : filter is_change tail ≡ filter is_change acts
+    changes = ap (filter is_change) joined ∙ (filter-append is_change looks acts ∙ ap (λ xs. xs ++ filter is_change acts) (quiet_changes looks quiet))
 
     apart : Each (IsApart s) (filter is_change (reverse tail))
-    apart = subst (Each (IsApart s)) (sym (filter_reverse is_change tail)) (each_reverse (IsApart s) (filter is_change tail) (subst (Each (IsApart s)) (sym changes) (acts_apart s u q state now rules tail t m journal safe st ne)))
+    apart = subst (Each (IsApart s)) (sym (filter_reverse is_change tail)) (each_reverse (IsApart s) (filter is_change tail) (subst (Each (IsApart s)) (sym changes) out))
+
+pub others_left : (s : LogSet) (u q : Past) (state : Path) (now : Moment) (rules : Rules) (tail : List Entry) (t : AllTurns state now rules tail) → Made (u ▸ entry.Starts state now rules) (reverse tail) q
+    → IsJournal (u ▸ entry.Starts state now rules) → IsSafe s (u ▸ entry.Starts state now rules) → IsSteady s q → ((x : Target) → IsOneOf x t.targets → x.log ≢ s.log) → (y : Path) (k : ℤ) → s.key y ≡ Some k → names (world q) y ≡ names (world u) y
+others_left s u q state now rules tail t m journal safe st ne y k key =
+    apart_left s (u ▸ entry.Starts state now rules) q tail t.looks t.acts t.joined t.quiet (acts_apart s u q state now rules tail t m journal safe st ne) m (none_attached s q st) y k key

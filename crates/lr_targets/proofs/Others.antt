@@ -176,27 +176,34 @@ seen_one rules now looks [] seen t i = absurd i
 seen_one rules now looks (x ∷ xs) seen t (inl is) = subst (IsSeen rules now looks) is seen.0
 seen_one rules now looks (x ∷ xs) seen t (inr i) = seen_one rules now looks xs seen.1 t i
 
-pub run_rotates : (state : Path) (now : Moment) (rules : Rules) (reads tail : List Entry) (t : AllTurned state now rules tail) (x : Target) → AreQuiet reads → IsOneOf x t.turns.targets → x.job ≡ None
-    → RotatesAmong (other_paths state x.log t.turns.targets) x.log x.naming x.count x.from x.stand (reads ++ entry.Starts state now rules ∷ tail)
-run_rotates state now rules reads tail t x read i none = record {
-  front = reads ++ starts ∷ t.turns.looks;
-  back = t.turns.acts;
-  joined = ap (λ ts. reads ++ starts ∷ ts) t.turns.joined ∙ sym (append_assoc reads (starts ∷ t.turns.looks) t.turns.acts);
-  still = still_both reads (starts ∷ t.turns.looks) (quiet_still reads read) (quiet_still t.turns.looks t.turns.quiet);
-  log_seen = among_behind (Sees x.log IsFile) starts reads t.turns.looks seen.log_seen;
-  seen = shown_in x.naming (places_of x.stand.members) t.turns.looks (reads ++ starts ∷ t.turns.looks) (λ e h. in_back e reads (starts ∷ t.turns.looks) (inr h)) seen.seen;
-  going = (seen_names rules now.seconds t.turns.looks x seen).going;
-  changes = subst (λ (steps : List Entry). Weave (IsBeside paths x.log) steps (filter is_disk_change t.turns.acts)) (rotation_is x seen.ready none) (subst (Weave (IsBeside paths x.log) (rotation_of x)) (disk_changes paths x t.turns.acts on) on);
+-- the changes of the disk are its rotation, with others on their paths between
+pub rotates_beside : (state : Path) (x : Target) (ts : List Target) (acts : List Entry) → x.job ≡ None → Weave (StandsBetween state x ts) (rotation_of x) (filter is_change acts) → Weave (IsBeside (other_paths state x.log ts) x.log) (rotation_of x) (filter is_disk_change acts)
+rotates_beside state x ts acts none w = subst (Weave (IsBeside paths x.log) (rotation_of x)) (disk_changes paths x acts on) on
+  where
+    paths : List Path
+    paths = other_paths state x.log ts
+
+    on : Weave (IsBeside paths x.log) (rotation_of x) (filter is_change acts)
+    on = weave_as (StandsBetween state x ts) (IsBeside paths x.log) (rotation_of x) (filter is_change acts) (λ e h. between_beside state x ts e none h) w
+
+-- one log of a run
+pub one_rotates : (state : Path) (now : Moment) (rules : Rules) (reads tail looks acts : List Entry) (ts : List Target) (x : Target) → tail ≡ looks ++ acts → AreQuiet reads → AreQuiet looks → IsSeen rules now.seconds looks x
+    → Weave (StandsBetween state x ts) (rotation_of x) (filter is_change acts) → x.job ≡ None → RotatesAmong (other_paths state x.log ts) x.log x.naming x.count x.from x.stand (reads ++ entry.Starts state now rules ∷ tail)
+one_rotates state now rules reads tail looks acts ts x joined read quiet seen w none = record {
+  front = reads ++ starts ∷ looks;
+  back = acts;
+  joined = ap (λ ts. reads ++ starts ∷ ts) joined ∙ sym (append_assoc reads (starts ∷ looks) acts);
+  still = still_both reads (starts ∷ looks) (quiet_still reads read) (quiet_still looks quiet);
+  log_seen = among_behind (Sees x.log IsFile) starts reads looks seen.log_seen;
+  seen = shown_in x.naming (places_of x.stand.members) looks (reads ++ starts ∷ looks) (λ e h. in_back e reads (starts ∷ looks) (inr h)) seen.seen;
+  going = (seen_names rules now.seconds looks x seen).going;
+  changes = subst (λ (steps : List Entry). Weave (IsBeside (other_paths state x.log ts) x.log) steps (filter is_disk_change acts)) (rotation_is x seen.ready none) (rotates_beside state x ts acts none w);
 }
   where
     starts : Entry
     starts = entry.Starts state now rules
 
-    paths : List Path
-    paths = other_paths state x.log t.turns.targets
-
-    seen : IsSeen rules now.seconds t.turns.looks x
-    seen = seen_one rules now.seconds t.turns.looks t.turns.targets t.turns.seen x i
-
-    on : Weave (IsBeside paths x.log) (rotation_of x) (filter is_change t.turns.acts)
-    on = weave_as (StandsBetween state x t.turns.targets) (IsBeside paths x.log) (rotation_of x) (filter is_change t.turns.acts) (λ e h. between_beside state x t.turns.targets e none h) (t.whole x i)
+pub run_rotates : (state : Path) (now : Moment) (rules : Rules) (reads tail : List Entry) (t : AllTurned state now rules tail) (x : Target) → AreQuiet reads → IsOneOf x t.turns.targets → x.job ≡ None
+    → RotatesAmong (other_paths state x.log t.turns.targets) x.log x.naming x.count x.from x.stand (reads ++ entry.Starts state now rules ∷ tail)
+run_rotates state now rules reads tail t x read i none =
+    one_rotates state now rules reads tail t.turns.looks t.turns.acts t.turns.targets x t.turns.joined read t.turns.quiet (seen_one rules now.seconds t.turns.looks t.turns.targets t.turns.seen x i) (t.whole x i) none
