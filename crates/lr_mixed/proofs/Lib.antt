@@ -1,5 +1,4 @@
 pub mod Calls
-pub mod Meeting
 pub mod Safety
 pub mod Seen
 pub mod Shapes

@@ -42,7 +42,7 @@ use Rattle.lr_rotations.proofs.Over.{first_aside}
 use Rattle.lr_rotations.proofs.Weaving.{weave_as, IsApart, IsApartOrMakes, apart_aside}
 use Rattle.lr_targets.specs.AllTurns.{IsOfState, IsOfSome, StandsBetween}
 use Rattle.lr_targets.specs.Target.{Target, rotation_of, IsOneOf}
-use Rattle.lr_targets.proofs.Given.{gives, naming_same, no_copy, by_rule}
+use Rattle.lr_targets.proofs.Given.{gives, no_meet, naming_same, no_copy, by_rule}
 use Rattle.lr_targets.proofs.LeftAlone.{apart_left}
 use Rattle.lr_targets.proofs.Safety.{Here, state_apart, find, own_safe, Looked, looked as looked_at, begun, unbegun_safe}
 use Rattle.lr_dated_seen.specs.Family.{IsDatedFamily}
@@ -55,7 +55,6 @@ use Rattle.lr_dated_run.proofs.Safe.{beside_safe}
 use Rattle.lr_dated_run.proofs.Weaving.{apart_of, beside_apart}
 use Rattle.lr_mixed.specs.AllTurns.{AllTurnsBy, MayTurnAllBy, not_yet, started, IsWholeRunBy}
 use Rattle.lr_mixed.specs.Seen.{IsDatedSeen, IsLogSeen, AreLogsSeen}
-use Rattle.lr_mixed.proofs.Meeting.{meets_not}
 use Rattle.lr_mixed.proofs.Seen.{numbered_seen, dated_seen, dated_names, any_names, have_names, log_among}
 
 -- ---- behind the looks
@@ -68,7 +67,7 @@ module _ (clock : Clock) (s : LogSet) (state : Path) (rules : Rules) (u v : Past
   file_of t l = saw_file u v (reverse looks) t.log m (subst AreQuiet (sym in_order) quiet) (subst (Among (Sees t.log IsFile)) (sym in_order) l.log_seen)
 
   no_meeting : (t : Target) → IsLogSeen rules clock looks t → t.log ≢ s.log → Meet s.log s.naming t.log t.naming → ⊥
-  no_meeting t l other meet = meets_not s clock rules u v looks quiet m begun_u here.journal here.steady here.rules_are t l (file_of t l) other meet
+  no_meeting t l other meet = no_meet s u v rules.sets looks t.log t.naming t.count t.job quiet m begun_u here.journal here.steady here.rules_are l.given (file_of t l) other meet
 
   -- what is done to other logs lies beside
   some_beside : (ts : List Target) → AreLogsSeen rules clock looks ts → ((t : Target) → IsOneOf t ts → t.log ≢ s.log) → (e : Entry) → IsOfSome ts e → LiesBeside s e

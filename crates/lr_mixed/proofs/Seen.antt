@@ -1,8 +1,7 @@
 -- What the looks tell of one log, by its kind.
-use Rattle.std.proofs.Common.{◌≡◌, inl, inr, ℕ, refl, sym, ◌∙◌, ap, subst, List, [], ◌∷◌, append-nil, Option, Some, None}
+use Rattle.std.proofs.Common.{◌≡◌, inl, inr, ℕ, refl, sym, subst, List, [], ◌∷◌, Option, Some, None}
 use Rattle.lr_rules.specs.declared.clock.Clock.{Clock}
 use Rattle.lr_rules.specs.declared.rule.Format.{Format}
-use Rattle.lr_rules.specs.declared.rule.Naming.{Naming}
 use Rattle.lr_rules.specs.declared.rules.Rules.{Rules}
 use Rattle.lr_stamps.specs.Dated.{clock_seconds}
 use Rattle.lr_host.specs.declared.entry.Entry.{Entry}
@@ -12,7 +11,7 @@ use Rattle.lr_dated_ready.proofs.Whole.{ready_back}
 use Rattle.lr_targets.specs.Target.{Target, IsSeen, AreSeen, IsOneOf}
 use Rattle.lr_targets.proofs.SeenFits.{seen_names}
 use Rattle.lr_dated_run.specs.Own.{HasDatedNames, HasAnyNames, HaveAnyNames}
-use Rattle.lr_mixed.specs.Seen.{IsNoDatedMatch, IsNumberedSeen, IsDatedSeen, IsSeenBy, IsLogSeen, AreLogsSeen}
+use Rattle.lr_mixed.specs.Seen.{IsNumberedSeen, IsDatedSeen, IsSeenBy, IsLogSeen, AreLogsSeen}
 
 module _ (rules : Rules) (clock : Clock) (looks : List Entry) where
   -- a numbered log was seen as a run with numbered logs alone sees it
@@ -58,17 +57,9 @@ module _ (rules : Rules) (clock : Clock) (looks : List Entry) where
 
   -- ---- a run with numbered logs alone
 
-  -- a numbered log is no dated member of one that its word gives
-  no_dated : (t : Target) (seen : IsSeen rules clock.now.seconds looks t) → IsNoDatedMatch rules.sets seen.given.rule seen.given.word t.log looks
-  no_dated t seen = record { alone = λ p q es m journal is wild x seconds serial other valid gives file at. absurd (clash t.naming.dated seen.family.numbered (sym (ap (λ (n : Naming). n.dated) seen.given.naming_is) ∙ at.dated)) }
-    where
-      clash : {format : Format} (d : Option Format) → d ≡ None → d ≡ Some format → ⊥
-      clash d a b = cc
-
   of_numbered : (t : Target) → IsSeen rules clock.now.seconds looks t → IsLogSeen rules clock looks t
   of_numbered t seen = record {
     given = seen.given;
-    no_match = record { before = []; part = looks; after = []; joined = sym (append-nil looks); is = no_dated t seen };
     log_seen = seen.log_seen;
     shows = subst (λ (d : Option Format). IsSeenBy d seen.given.rule.maxage clock looks t) (sym seen.family.numbered)
         (record { family = seen.family; seen = seen.seen; sights = seen.sights; from_is = seen.from_is; low = seen.low; ready = seen.ready });

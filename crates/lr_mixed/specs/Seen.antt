@@ -1,22 +1,11 @@
 -- What a run saw of a log that it may rotate, be the members' names numbers or dates.
-use Rattle.std.specs.Prelude.{◌≡◌, ◌≢◌, ℕ, ℤ, true, List, [], ◌∷◌, reverse, Option, Some, None}
+use Rattle.std.specs.Prelude.{◌≡◌, ℕ, ℤ, List, [], ◌∷◌, Option, Some, None}
 use Rattle.lr_rules.specs.declared.clock.Clock.{Clock}
-use Rattle.lr_rules.specs.declared.path.Path.{Path}
 use Rattle.lr_rules.specs.declared.rule.Format.{Format}
-use Rattle.lr_rules.specs.declared.rule.Rule.{Rule}
 use Rattle.lr_rules.specs.declared.rules.Rules.{Rules}
-use Rattle.lr_rules.specs.Dated.{IsDatedAt}
-use Rattle.lr_rules.specs.Match.{WordGives, is_wildcard}
-use Rattle.lr_rules.specs.Names.{naming_of}
-use Rattle.lr_rules.specs.Path.{path_fault}
 use Rattle.lr_stamps.specs.Dated.{clock_seconds}
 use Rattle.lr_host.specs.declared.entry.Entry.{Entry}
-use Rattle.lr_host.specs.Fits.{IsFileAt}
 use Rattle.lr_host.specs.Looks.{Sees, IsFile}
-use Rattle.lr_host.specs.Opening.{IsJournal}
-use Rattle.lr_host.specs.Runs.{SomeRule}
-use Rattle.lr_host.specs.Told.{Made}
-use Rattle.lr_host.specs.World.{Past, world, names}
 use Rattle.lr_chain.specs.Rotation.{places_of, going}
 use Rattle.lr_dated_ready.specs.Hindrances.{dated_hindrances}
 use Rattle.lr_dated_ready.specs.Ready.{dated_ready}
@@ -24,14 +13,8 @@ use Rattle.lr_rotations.specs.Members.{IsFamily}
 use Rattle.lr_rotations.specs.Shown.{Shown, SawMembers}
 use Rattle.lr_rotations.specs.Weave.{Among}
 use Rattle.lr_targets.specs.Target.{IsGiven, IsOneTooHigh, Target, HasReady, IsJobOf}
-use Rattle.lr_dated_seen.specs.Family.{IsNoDated, IsDatedFamily}
+use Rattle.lr_dated_seen.specs.Family.{IsDatedFamily}
 use Rattle.lr_dated_seen.specs.Shown.{ShownDated}
-
--- What looks and listings tell of a log where they are true, besides that a word gives it (`Gives`): where the word is a wildcard that gives another log too, which named a file before and of which it is a dated member, it is none by the naming of a rule that gives that log.
-pub record IsNoDatedMatch (rules : List Rule) (rule : Rule) (word : List ℕ) (log : Path) (ts : List Entry) : Type 0 where
-  pub alone : (p q : Past) (es : List Entry) → Made p es q → IsJournal p → ts ≡ reverse es → is_wildcard word ≡ true
-      → (x : Path) (seconds : ℤ) (serial : ℕ) → x ≢ log → path_fault x ≡ None → WordGives word x → IsFileAt (names (world p)) x → IsDatedAt (naming_of rule x) seconds serial log
-      → SomeRule rules x (λ r. IsNoDated (naming_of r x) log)
 
 -- Of a log with numbers: its members were seen, and those go that the count and this age let go at this moment, in seconds. None is at the highest number and would have to move. The rotation is that of those members.
 pub record IsNumberedSeen (maxage : Option ℕ) (now : ℤ) (looks : List Entry) (t : Target) : Type 0 where
@@ -54,10 +37,9 @@ abbrev pub IsSeenBy : Option Format → Option ℕ → Clock → List Entry → 
 IsSeenBy None maxage clock looks t = IsNumberedSeen maxage clock.now.seconds looks t
 IsSeenBy (Some format) maxage clock looks t = IsDatedSeen maxage clock looks t
 
--- A word of a rule gives the log, which is no dated member of another log that the word gives; it was seen as a file, and its members were, wherever these looks stand. Its rotation is that of the members that were seen, by the rule's count and age and by the clock; and so is its copy.
+-- A word of a rule gives the log; it was seen as a file, and its members were, wherever these looks stand. Its rotation is that of the members that were seen, by the rule's count and age and by the clock; and so is its copy.
 pub record IsLogSeen (rules : Rules) (clock : Clock) (looks : List Entry) (t : Target) : Type 0 where
   pub given : IsGiven rules.sets looks t.log t.naming t.count t.job
-  pub no_match : Among (IsNoDatedMatch rules.sets given.rule given.word t.log) looks
   pub log_seen : Among (Sees t.log IsFile) looks
   pub shows : IsSeenBy t.naming.dated given.rule.maxage clock looks t
   pub job : IsJobOf t looks

@@ -5,7 +5,6 @@ use Rattle.std.specs.Borrow.{Bor}
 use Rattle.std.specs.List.{list_all}
 use Rattle.std.proofs.lemmas.Bool.{and_parts}
 use Rattle.std.proofs.lemmas.List.{reverse-reverse}
-use Rattle.std.proofs.lemmas.List.Elements.{All-contains}
 use Rattle.std.proofs.lemmas.Slice.Eq.{bytes_eq-Decides}
 use Rattle.lr_rules.specs.declared.fault.Fault.{Fault}
 use Rattle.lr_rules.specs.declared.path.Path.{Path}
@@ -13,7 +12,7 @@ use Rattle.lr_rules.specs.declared.rule.Naming.{Naming}
 use Rattle.lr_rules.specs.declared.rules.Rules.{Rules}
 use Rattle.lr_rules.specs.Limits.{meets_limits, is_log_word, is_pattern_word, is_literal_word, is_path_text}
 use Rattle.lr_rules.specs.Match.{WordGives, is_wildcard}
-use Rattle.lr_rules.specs.Names.{IsMemberAt, naming_of}
+use Rattle.lr_rules.specs.Names.{naming_of}
 use Rattle.lr_rules.specs.Path.{path_fault, has_empty_part, is_absolute, has_bad_byte, has_dot_part}
 use Rattle.lr_host.specs.declared.entry.Entry.{Entry}
 use Rattle.lr_host.specs.Fits.{IsFileAt}
@@ -43,7 +42,6 @@ use Rattle.lr_sought.specs.Finds.{FindsFile}
 use Rattle.lr_sought.proofs.Stood.{stood_is_found}
 use Rattle.lr_targets.specs.Target.{Gives}
 use Rattle.lr_targets.proofs.Given.{Stretch, stretch, still_file}
-use Rattle.lr_fields.specs.Built.{IsBuiltRule, AreBuiltRules}
 use Rattle.lr_seen.proofs.Coming.{IsFoundBy, found_word, IsAsked, was_asked}
 use Rattle.lr_seen.proofs.Elements.{in_list, map_at, unmap_at}
 use Rattle.lr_seen.proofs.Quiet.{looking_words}
@@ -116,8 +114,8 @@ some_same : {A : Type 0} (o : _) (a b : A) → o ≡ Some a → o ≡ Some b →
 some_same o a b e f = cc
 
 no_member : {reserved : List Path} (found : List FoundLog) (choices : List Choice) (c : IsChoiceAmong reserved found choices) (k : ℕ) (f : FoundLog) → slice_get found k ≡ Some f → slice_get choices k ≡ Some Kept → f.log.wild ≡ true
-    → (x : Path) (first : First found x) → x ≢ f.log.path → first.log.log.naming.dated ≡ None → (place : ℕ) → IsMemberAt first.log.log.naming place f.log.path → ⊥
-no_member {reserved} found choices c k f at_f kept wild x first other numbered place member = is_kept.no_member first.place (record {
+    → (x : Path) (first : First found x) → x ≢ f.log.path → IsMember first.log.log.naming f.log.path → ⊥
+no_member {reserved} found choices c k f at_f kept wild x first other member = is_kept.no_member first.place (record {
   matched = map_at is_wild found k f at_f ∙ ap (λ b. Some b) wild;
   other = λ same. other (sym first.path ∙ ap (λ (g : FoundLog). g.log.path) (some_same (slice_get found k) first.log f (subst (λ n. slice_get found n ≡ Some first.log) same first.at) at_f));
   new = λ j lt both. (let g = named j both.one both.at_one in first.new j g.0 lt g.1 (ap (λ (p : Path × Naming). p.0) g.2 ∙ (both.holds ∙ (same_log first.place first.log first.at both.other both.at_other ∙ first.path))));
@@ -126,7 +124,7 @@ no_member {reserved} found choices c k f at_f kept wild x first other numbered p
     other = it.0;
     at_one = one.1;
     at_other = it.1;
-    holds = subst (λ (p : Path × Naming). IsMember p.1 it.0.now.log) (sym one.2) (subst (λ (p : Path × Naming). IsMember first.log.log.naming p.0) (sym it.2) (inl (numbered, (place, member))));
+    holds = subst (λ (p : Path × Naming). IsMember p.1 it.0.now.log) (sym one.2) (subst (λ (p : Path × Naming). IsMember first.log.log.naming p.0) (sym it.2) member);
   };
 })
   where
@@ -151,7 +149,7 @@ no_member {reserved} found choices c k f at_f kept wild x first other numbered p
 
 -- ---- what the looks tell
 
-module _ {reserved : List Path} (rules : Rules) (sets : List SetLooks) (faults : List Fault) (ts : List Entry) (built : AreBuiltRules rules.sets) (s : ShowsLooks reserved rules.sets sets faults ts) where
+module _ {reserved : List Path} (rules : Rules) (sets : List SetLooks) (faults : List Fault) (ts : List Entry) (s : ShowsLooks reserved rules.sets sets faults ts) where
   quiet : AreQuiet s.entries.front
   quiet = looks_quiet s.entries.front (looking_words 0 (asked_by rules.sets) s.entries.first.sights s.entries.front s.entries.first.shown)
 
@@ -161,9 +159,6 @@ module _ {reserved : List Path} (rules : Rules) (sets : List SetLooks) (faults :
 
   rule_in : (w : Word) → (a : IsAsked 0 rules.sets w) → IsIn w.rule rules.sets
   rule_in w a = in_list rules.sets a.place w.rule a.at
-
-  is_built : (w : Word) → IsAsked 0 rules.sets w → IsBuiltRule w.rule
-  is_built w a = All-contains IsBuiltRule rules.sets w.rule built (in_to w.rule rules.sets (rule_in w a))
 
   can : (w : Word) → IsAsked 0 rules.sets w → CanAsk w.rule
   can w a = all_in meets_limits rules.sets w.rule rules.limits (rule_in w a)
@@ -186,48 +181,48 @@ module _ {reserved : List Path} (rules : Rules) (sets : List SetLooks) (faults :
       by false plain = literals_give b.word.text b.room b.matches t.part plain t.is b.one b.has
 
   -- a log that is kept
-  pub gives_kept : (k : ℕ) (f : FoundLog) → slice_get s.found k ≡ Some f → slice_get s.keeps.choices k ≡ Some Kept → (b : IsFoundBy (asked_by rules.sets) s.entries.front s.found f)
-      → Gives rules.sets b.word.rule b.word.text f.log.path s.entries.front
-  gives_kept k f at kept b = record { gives = λ p q es m e. word_given p q es m e f b; alone = alone }
-    where
-      path : f.log.path ≡ b.one.path
-      path = ap (λ (g : FoundLog). g.log.path) b.is
+  module _ (k : ℕ) (f : FoundLog) (at : slice_get s.found k ≡ Some f) (kept : slice_get s.keeps.choices k ≡ Some Kept) (b : IsFoundBy (asked_by rules.sets) s.entries.front s.found f) where
+    -- it is no member, by numbers or dates, of another that its wildcard gives and that named a file, by the naming of a rule that gives that one
+    kept_alone : (p q : Past) (es : List Entry) → Made p es q → IsJournal p → s.entries.front ≡ reverse es → is_wildcard b.word.text ≡ true
+        → (x : Path) → x ≢ f.log.path → path_fault x ≡ None → WordGives b.word.text x → IsFileAt (names (world p)) x
+        → SomeRule rules.sets x (λ r. IsMember (naming_of r x) f.log.path → ⊥)
+    kept_alone p q es m journal e wild x other valid gives file = (c.0, w.word.rule, c.1, c.2, ((d.0, w.word.text, d.1, d.2, subst (WordGives w.word.text) first.path (word_given p q es m e first.log w)), none))
+      where
+        t : Stretch p (Comes b.word.text b.room (Ok b.matches))
+        t = stretch p q s.entries.front (Comes b.word.text b.room (Ok b.matches)) quiet (subst (λ xs. Made p xs q) (sym (reverse-reverse es) ∙ ap reverse (sym e)) m) b.shown
 
-      alone : (p q : Past) (es : List Entry) → Made p es q → IsJournal p → s.entries.front ≡ reverse es → is_wildcard b.word.text ≡ true
-          → (x : Path) (place : ℕ) → x ≢ f.log.path → path_fault x ≡ None → WordGives b.word.text x → IsFileAt (names (world p)) x → IsMemberAt (naming_of b.word.rule x) place f.log.path
-          → SomeRule rules.sets x (λ r. (at : ℕ) → IsMemberAt (naming_of r x) at f.log.path → ⊥)
-      alone p q es m journal e wild x place other valid gives file member = (c.0, w.word.rule, c.1, c.2, ((d.0, w.word.text, d.1, d.2, subst (WordGives w.word.text) first.path (word_given p q es m e first.log w)), none))
-        where
-          t : Stretch p (Comes b.word.text b.room (Ok b.matches))
-          t = stretch p q s.entries.front (Comes b.word.text b.room (Ok b.matches)) quiet (subst (λ xs. Made p xs q) (sym (reverse-reverse es) ∙ ap reverse (sym e)) m) b.shown
+        shown : Comes b.word.text b.room (Ok b.matches) (reverse (reverse t.part))
+        shown = subst (Comes b.word.text b.room (Ok b.matches)) (sym (reverse-reverse t.part)) t.is
 
-          shown : Comes b.word.text b.room (Ok b.matches) (reverse (reverse t.part))
-          shown = subst (Comes b.word.text b.room (Ok b.matches)) (sym (reverse-reverse t.part)) t.is
+        -- the other log was found too
+        too : FindsFile x b.matches
+        too = stood_is_found t.from t.to (reverse t.part) b.word.text b.room b.matches (text_in (asked_by rules.sets) b.word s.texts b.among) (made_journal p t.from (reverse t.before) t.ahead journal) t.made shown
+            x valid (still_file p t.from t.before x t.quiet t.ahead file) gives
 
-          -- the other log was found too
-          too : FindsFile x b.matches
-          too = stood_is_found t.from t.to (reverse t.part) b.word.text b.room b.matches (text_in (asked_by rules.sets) b.word s.texts b.among) (made_journal p t.from (reverse t.before) t.ahead journal) t.made shown
-              x valid (still_file p t.from t.before x t.quiet t.ahead file) gives
+        first : First s.found x
+        first = first_found s.found (found_at b.word too.0) x (b.others too.0 too.1) too.2
 
-          first : First s.found x
-          first = first_found s.found (found_at b.word too.0) x (b.others too.0 too.1) too.2
+        -- by this word first
+        w : IsFoundBy (asked_by rules.sets) s.entries.front s.found first.log
+        w = found_word rules.sets sets faults ts s first.log (in_list s.found first.place first.log first.at)
 
-          -- by this word first
-          w : IsFoundBy (asked_by rules.sets) s.entries.front s.found first.log
-          w = found_word rules.sets sets faults ts s first.log (in_list s.found first.place first.log first.at)
+        a : IsAsked 0 rules.sets w.word
+        a = asked w.word w.among
 
-          a : IsAsked 0 rules.sets w.word
-          a = asked w.word w.among
+        c : Contains rules.sets w.word.rule
+        c = in_to w.word.rule rules.sets (rule_in w.word a)
 
-          c : Contains rules.sets w.word.rule
-          c = in_to w.word.rule rules.sets (rule_in w.word a)
+        d : Contains w.word.rule.words w.word.text
+        d = in_to w.word.text w.word.rule.words a.has
 
-          d : Contains w.word.rule.words w.word.text
-          d = in_to w.word.text w.word.rule.words a.has
+        naming : first.log.log.naming ≡ naming_of w.word.rule x
+        naming = ap (λ (g : FoundLog). g.log.naming) w.is ∙ ap (naming_of w.word.rule) (sym (ap (λ (g : FoundLog). g.log.path) w.is) ∙ first.path)
 
-          naming : first.log.log.naming ≡ naming_of w.word.rule x
-          naming = ap (λ (g : FoundLog). g.log.naming) w.is ∙ ap (naming_of w.word.rule) (sym (ap (λ (g : FoundLog). g.log.path) w.is) ∙ first.path)
+        none : IsMember (naming_of w.word.rule x) f.log.path → ⊥
+        none h = no_member s.found s.keeps.choices s.keeps.chosen k f at kept (ap (λ (g : FoundLog). g.log.wild) b.is ∙ wild) x first other (subst (λ (n : Naming). IsMember n f.log.path) (sym naming) h)
 
-          none : (at : ℕ) → IsMemberAt (naming_of w.word.rule x) at f.log.path → ⊥
-          none place h = no_member s.found s.keeps.choices s.keeps.chosen k f at kept (ap (λ (g : FoundLog). g.log.wild) b.is ∙ wild) x first other
-              (ap (λ (n : Naming). n.dated) naming ∙ (is_built w.word a).dated) place (subst (λ (n : Naming). IsMemberAt n place f.log.path) (sym naming) h)
+    pub gives_kept : Gives rules.sets b.word.rule b.word.text f.log.path s.entries.front
+    gives_kept = record {
+      gives = λ p q es m e. word_given p q es m e f b;
+      alone = λ p q es m journal e wild x other valid gives file member. kept_alone p q es m journal e wild x other valid gives file;
+    }

@@ -160,7 +160,7 @@ target_seen rules sets faults ts now t built s c = subst (IsSeen rules now.secon
       part = s.entries.front;
       after = s.entries.back;
       joined = s.entries.joined;
-      is = subst (λ (p : Path). Gives rules.sets o.by_word.word.rule o.by_word.word.text p s.entries.front) o.path_is (gives_kept rules sets faults ts built s at.0 o.found at.1 at.2 o.by_word);
+      is = subst (λ (p : Path). Gives rules.sets o.by_word.word.rule o.by_word.word.text p s.entries.front) o.path_is (gives_kept rules sets faults ts s at.0 o.found at.1 at.2 o.by_word);
     };
     naming_is = ap (naming_of o.by_word.word.rule) (sym o.path_is) ∙ (naming ∙ o.naming_is);
     count_is = ap (λ (r : Rule). r.count) (sym same);

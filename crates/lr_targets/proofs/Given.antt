@@ -22,7 +22,7 @@ use Rattle.lr_host.specs.declared.entry.Entry.TheVariants as entry
 use Rattle.lr_host.specs.World.{Past, ◌▸◌, world, names}
 use Rattle.lr_host.specs.Fits.{IsFileAt}
 use Rattle.lr_host.specs.Quiet.{IsQuiet, AreQuiet}
-use Rattle.lr_host.specs.Sets.{LogSet, IsKeyBy, order_of}
+use Rattle.lr_host.specs.Sets.{LogSet, Order, Numbered, Dated, order, IsKeyBy, order_of}
 use Rattle.lr_host.specs.Runs.{rules_of, SomeRule, StoodAtStart}
 use Rattle.lr_host.specs.Steady.{IsSteadyAt, IsPassedOver}
 use Rattle.lr_host.specs.Told.{Each, IsWriters, Made, at_first, by_writer, by_tool}
@@ -34,6 +34,7 @@ use Rattle.lr_host.proofs.More.{file_more}
 use Rattle.lr_host.proofs.Quiet.{IsAny, quiet_more, made_quiet, since_any, quiet_still, still_reverse}
 use Rattle.lr_host.proofs.Lists.{in_from, in_to, in_unmap, from_reverse}
 use Rattle.lr_family.specs.declared.stand.Member.{Member}
+use Rattle.lr_family.specs.Parts.{IsDated, IsMember}
 use Rattle.lr_family.specs.Stands.{number_in}
 use Rattle.lr_copy.specs.declared.job.Job.{Job}
 use Rattle.lr_chain.specs.Rotation.{places_of}
@@ -98,15 +99,33 @@ gives u v rules looks log n c job quiet m g =
 -- ---- a log that the run passes over
 
 -- a member of a numbered set has a place
-place_in : (s : LogSet) (x : Path) → s.naming.dated ≡ None → (s.key x ≡ None → ⊥) → (place : ℕ) × IsMemberAt s.naming place x
+place_in : (s : LogSet) (x : Path) → order s ≡ Numbered → (s.key x ≡ None → ⊥) → (place : ℕ) × IsMemberAt s.naming place x
 place_in s x numbered some = go (s.key x) refl
   where
-    keys : IsKeyBy (order_of None) s.naming s.key
-    keys = subst (λ (d : Option Format). IsKeyBy (order_of d) s.naming s.key) numbered s.keys
+    keys : IsKeyBy Numbered s.naming s.key
+    keys = subst (λ (o : Order). IsKeyBy o s.naming s.key) numbered s.keys
 
     go : (o : Option ℤ) → s.key x ≡ o → (place : ℕ) × IsMemberAt s.naming place x
     go None e = absurd (some e)
     go (Some k) e = let h = (keys x k).0 e in (h.0, h.2)
+
+-- and one of a dated set a stamp
+stamp_in : (s : LogSet) (x : Path) → order s ≡ Dated → (s.key x ≡ None → ⊥) → IsDated s.naming x
+stamp_in s x dated some = go (s.key x) refl
+  where
+    keys : IsKeyBy Dated s.naming s.key
+    keys = subst (λ (o : Order). IsKeyBy o s.naming s.key) dated s.keys
+
+    go : (o : Option ℤ) → s.key x ≡ o → IsDated s.naming x
+    go None e = absurd (some e)
+    go (Some k) e = let h = (keys x k).0 e in (h.0, h.1, h.3)
+
+member_in : (s : LogSet) (x : Path) → (s.key x ≡ None → ⊥) → IsMember s.naming x
+member_in s x some = go s.naming.dated refl
+  where
+    go : (d : Option Format) → s.naming.dated ≡ d → IsMember s.naming x
+    go None is = inl (is, place_in s x (ap order_of is) some)
+    go (Some format) is = inr (stamp_in s x (ap order_of is) some)
 
 -- what stood as the run began stood before its looks
 quiet_stood : (x : Path) (p : Past) (e : Entry) → IsQuiet e → StoodAtStart x (p ▸ e) → StoodAtStart x p
@@ -123,30 +142,16 @@ stood_before x p _ es (by_writer {q = q} {e = e} m i f) a s = stood_before x p q
 stood_before x p _ _ (by_tool {es = es} {q = q} {e = e} m i f) a s = stood_before x p q es m a.1 (quiet_stood x q e a.0 s)
 
 -- what the journal of a disk begins with is one
-pub journal_before : (p q : Past) (es : List Entry) → Made p es q → IsJournal q → IsJournal p
+journal_before : (p q : Past) (es : List Entry) → Made p es q → IsJournal q → IsJournal p
 journal_before p _ _ at_first j = j
 journal_before p _ es (by_writer {q = q} m i f) j = journal_before p q es m j.0
 journal_before p _ _ (by_tool {es = es} {q = q} m i f) j = journal_before p q es m j.0
 
--- What is so where a set meets another log that names a file: the log is a member of the set, and its word a wildcard that gives the set's log too, by the rule's naming, which is that of each rule that gives it.
-pub record IsMet (s : LogSet) (u : Past) (rules : List Rule) (rule : Rule) (word : List ℕ) (log : Path) : Type 0 where
-  pub member : s.key log ≡ None → ⊥
-  pub wild : is_wildcard word ≡ true
-  pub gives : WordGives word s.log
-  pub stood : IsFileAt (names (world u)) s.log
-  pub named : (r : Rule) → Contains rules r → RuleGives r s.log → naming_of r s.log ≡ s.naming
-  pub naming : naming_of rule s.log ≡ s.naming
-
-pub met : (s : LogSet) (u v : Past) (rules : List Rule) (looks : List Entry) (log : Path) (n : Naming) (c : Count) (job : Option Job) → AreQuiet looks → Made u (reverse looks) v → ((x : Path) → StoodAtStart x u → IsFileAt (names (world u)) x)
-    → IsSteadyAt s v → rules_of v ≡ rules → (g : IsGiven rules looks log n c job) → IsFileAt (names (world v)) log → log ≢ s.log → Meet s.log s.naming log n → IsMet s u rules g.rule g.word log
-met s u v rules looks log n c job quiet m begun steady is g file other meet = record {
-  member = over.member;
-  wild = wild.0;
-  gives = wild.1;
-  stood = begun s.log (stood_before s.log u v (reverse looks) m (each_reverse IsQuiet looks quiet) over.log_stood);
-  named = named;
-  naming = named g.rule g.among (g.has.0, g.word, g.has.1, g.has.2, wild.1);
-}
+-- a set of another log, that is steady where the log names a file, doesn't meet the log's
+pub no_meet : (s : LogSet) (u v : Past) (rules : List Rule) (looks : List Entry) (log : Path) (n : Naming) (c : Count) (job : Option Job) → AreQuiet looks → Made u (reverse looks) v → ((x : Path) → StoodAtStart x u → IsFileAt (names (world u)) x)
+    → IsJournal v → IsSteadyAt s v → rules_of v ≡ rules → IsGiven rules looks log n c job → IsFileAt (names (world v)) log → log ≢ s.log → Meet s.log s.naming log n → ⊥
+no_meet s u v rules looks log n c job quiet m begun journal steady is g file other meet =
+    none.4.1 (subst (λ (k : Naming). IsMember k log) (sym (named none.1 (none.0, none.2, none.3) none.4.0)) member)
   where
     t : Stretch u (Gives rules g.rule g.word log)
     t = stretch u v looks (Gives rules g.rule g.word log) quiet m g.given
@@ -170,28 +175,18 @@ met s u v rules looks log n c job quiet m begun steady is g file other meet = re
     named r among gives_it = (all_in (λ (q : Rule). RuleGives q s.log → (q.way ≡ Rename) × (naming_of q s.log ≡ s.naming)) rules r
         (subst (All (λ (q : Rule). RuleGives q s.log → (q.way ≡ Rename) × (naming_of q s.log ≡ s.naming))) is steady.rules) among gives_it).1
 
--- the rule names the members of both logs alike: by numbers, or by the same dates
-pub met_dated : (s : LogSet) (u : Past) (rules : List Rule) (looks : List Entry) (log : Path) (n : Naming) (c : Count) (job : Option Job) → (g : IsGiven rules looks log n c job) → IsMet s u rules g.rule g.word log → s.naming.dated ≡ n.dated
-met_dated s u rules looks log n c job g h = sym (ap (λ (k : Naming). k.dated) h.naming) ∙ ap (λ (k : Naming). k.dated) g.naming_is
+    naming : naming_of g.rule s.log ≡ s.naming
+    naming = named g.rule g.among (g.has.0, g.word, g.has.1, g.has.2, wild.1)
 
--- a set of another log, that is steady where the log names a file, doesn't meet the log's
-pub no_meet : (s : LogSet) (u v : Past) (rules : List Rule) (looks : List Entry) (log : Path) (n : Naming) (c : Count) (job : Option Job) → AreQuiet looks → Made u (reverse looks) v → ((x : Path) → StoodAtStart x u → IsFileAt (names (world u)) x) → n.dated ≡ None
-    → IsJournal v → IsSteadyAt s v → rules_of v ≡ rules → IsGiven rules looks log n c job → IsFileAt (names (world v)) log → log ≢ s.log → Meet s.log s.naming log n → ⊥
-no_meet s u v rules looks log n c job quiet m begun numbered journal steady is g file other meet =
-    none.4.1 member.0 (subst (λ (k : Naming). IsMemberAt k member.0 log) (sym (h.named none.1 (none.0, none.2, none.3) none.4.0)) member.1)
-  where
-    h : IsMet s u rules g.rule g.word log
-    h = met s u v rules looks log n c job quiet m begun steady is g file other meet
+    member : IsMember s.naming log
+    member = member_in s log over.member
 
-    t : Stretch u (Gives rules g.rule g.word log)
-    t = stretch u v looks (Gives rules g.rule g.word log) quiet m g.given
+    stood : IsFileAt (names (world t.from)) s.log
+    stood = still_file u t.from t.before s.log t.quiet t.ahead (begun s.log (stood_before s.log u v (reverse looks) m (each_reverse IsQuiet looks quiet) over.log_stood))
 
-    member : (place : ℕ) × IsMemberAt s.naming place log
-    member = place_in s log (met_dated s u rules looks log n c job g h ∙ numbered) h.member
-
-    none : SomeRule rules s.log (λ r. (at : ℕ) → IsMemberAt (naming_of r s.log) at log → ⊥)
-    none = t.is.alone t.from t.to (reverse t.part) t.made (made_journal u t.from (reverse t.before) t.ahead (journal_before u v (reverse looks) m journal)) (sym (reverse-reverse t.part)) h.wild s.log member.0 (λ e. other (sym e)) s.log_path h.gives
-        (still_file u t.from t.before s.log t.quiet t.ahead h.stood) (subst (λ (k : Naming). IsMemberAt k member.0 log) (sym h.naming) member.1)
+    none : SomeRule rules s.log (λ r. IsMember (naming_of r s.log) log → ⊥)
+    none = t.is.alone t.from t.to (reverse t.part) t.made (made_journal u t.from (reverse t.before) t.ahead (journal_before u v (reverse looks) m journal)) (sym (reverse-reverse t.part)) wild.0 s.log (λ e. other (sym e)) s.log_path wild.1 stood
+        (subst (λ (k : Naming). IsMember k log) (sym naming) member)
 
 -- where the set is steady, the rule that gives its log rotates it by rename and gives it the set's naming
 of_steady : (s : LogSet) (v : Past) (rules : List Rule) (looks : List Entry) (log : Path) (n : Naming) (c : Count) (job : Option Job) → IsSteadyAt s v → rules_of v ≡ rules → (g : IsGiven rules looks log n c job) → RuleGives g.rule log → s.log ≡ log

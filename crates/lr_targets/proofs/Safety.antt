@@ -144,7 +144,7 @@ module _ (s : LogSet) (state : Path) (now : ℤ) (rules : Rules) (u v : Past) (l
       k = known t seen
 
       meets_not : Meet s.log s.naming t.log t.naming → ⊥
-      meets_not = no_meet s u v rules.sets looks t.log t.naming t.count t.job quiet m begun seen.family.numbered here.journal here.steady here.rules_are seen.given k.file other
+      meets_not = no_meet s u v rules.sets looks t.log t.naming t.count t.job quiet m begun here.journal here.steady here.rules_are seen.given k.file other
 
   others_apart : (ts : List Target) → AreSeen rules now looks ts → (e : Entry) → IsOfOther s.log ts e → IsApart s e
   others_apart [] seen e h = absurd h

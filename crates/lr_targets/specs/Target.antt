@@ -8,7 +8,7 @@ use Rattle.lr_rules.specs.declared.rule.Rule.{Rule}
 use Rattle.lr_rules.specs.declared.rule.Way.TheVariants.{Rename}
 use Rattle.lr_rules.specs.declared.rules.Rules.{Rules}
 use Rattle.lr_rules.specs.Match.{WordGives, is_wildcard}
-use Rattle.lr_rules.specs.Names.{IsMemberAt, naming_of}
+use Rattle.lr_rules.specs.Names.{naming_of}
 use Rattle.lr_rules.specs.Path.{path_fault}
 use Rattle.lr_host.specs.declared.entry.Entry.{Entry}
 use Rattle.lr_host.specs.declared.entry.Entry.TheVariants.{Renames, Unlinks}
@@ -20,7 +20,7 @@ use Rattle.lr_host.specs.Told.{Made}
 use Rattle.lr_host.specs.World.{Past, world, names}
 use Rattle.lr_family.specs.declared.stand.Member.{Member}
 use Rattle.lr_family.specs.declared.stand.Stand.{Stand}
-use Rattle.lr_family.specs.Parts.{part_of}
+use Rattle.lr_family.specs.Parts.{part_of, IsMember}
 use Rattle.lr_family.specs.Stands.{number_in}
 use Rattle.lr_scripts.specs.declared.removal.Removal.{Removal}
 use Rattle.lr_copy.specs.declared.job.Job.{Job}
@@ -32,12 +32,12 @@ use Rattle.lr_rotations.specs.Members.{IsFamily}
 use Rattle.lr_rotations.specs.Shown.{Shown, SawMembers}
 use Rattle.lr_rotations.specs.Weave.{Among}
 
--- What looks and listings tell of a log where they are true: this word of one of the rules gives it. Where the word is a wildcard that gives another log too, which named a file before and of which it is a member, it is none by the naming of a rule that gives that log.
+-- What looks and listings tell of a log where they are true: this word of one of the rules gives it. Where the word is a wildcard that gives another log too, which named a file before and of which it is a member, by numbers or dates, it is none by the naming of a rule that gives that log.
 pub record Gives (rules : List Rule) (rule : Rule) (word : List ℕ) (log : Path) (ts : List Entry) : Type 0 where
   pub gives : (p q : Past) (es : List Entry) → Made p es q → ts ≡ reverse es → WordGives word log
   pub alone : (p q : Past) (es : List Entry) → Made p es q → IsJournal p → ts ≡ reverse es → is_wildcard word ≡ true
-      → (x : Path) (place : ℕ) → x ≢ log → path_fault x ≡ None → WordGives word x → IsFileAt (names (world p)) x → IsMemberAt (naming_of rule x) place log
-      → SomeRule rules x (λ r. (at : ℕ) → IsMemberAt (naming_of r x) at log → ⊥)
+      → (x : Path) → x ≢ log → path_fault x ≡ None → WordGives word x → IsFileAt (names (world p)) x → IsMember (naming_of rule x) log
+      → SomeRule rules x (λ r. IsMember (naming_of r x) log → ⊥)
 
 -- One of the rules has a word that gives this log, as some of these looks tell. The rule gives the log this naming and this count; it has the log copied where there is a job, and renamed where there is none.
 pub record IsGiven (rules : List Rule) (looks : List Entry) (log : Path) (n : Naming) (c : Count) (job : Option Job) : Type 0 where
