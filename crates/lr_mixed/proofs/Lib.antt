@@ -1,4 +1,5 @@
 pub mod Calls
+pub mod Example
 pub mod Safety
 pub mod Seen
 pub mod Shapes

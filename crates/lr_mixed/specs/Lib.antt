@@ -1,3 +1,4 @@
 pub mod AllTurns
+pub mod Example
 pub mod Rotated
 pub mod Seen

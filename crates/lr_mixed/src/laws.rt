@@ -1,5 +1,5 @@
 // A run with logs of both kinds that looks at all of them first, and rotates them then.
-ghost use Rattle.std.specs.Prelude.{◌≡◌, ◌≢◌, ℤ, List, ◌∷◌, ◌++◌, reverse, Option, Some, None};
+ghost use Rattle.std.specs.Prelude.{◌≡◌, ◌≢◌, ℤ, List, [], ◌∷◌, ◌++◌, reverse, Option, Some, None};
 ghost use Rattle.lr_rules.specs.declared.clock.Clock.{Clock};
 ghost use Rattle.lr_rules.specs.declared.path.Path.{Path};
 ghost use Rattle.lr_rules.specs.declared.rule.Format.{Format};
@@ -27,6 +27,7 @@ ghost use Rattle.lr_targets.specs.Target.{Target, IsOneOf};
 ghost use Rattle.lr_dated_turned.specs.Rotated.{DatedRotatesAmong};
 ghost use Rattle.lr_dated_run.specs.Own.{HasAnyNames};
 ghost use Rattle.lr_mixed.specs.AllTurns.{AllTurnsBy, AllTurnedBy, IsWholeRunBy};
+ghost use Rattle.lr_mixed.specs.Example.{rule, looks, turn};
 ghost use Rattle.lr_mixed.specs.Rotated.{all_by};
 ghost use Rattle.lr_mixed.specs.Seen.{IsLogSeen};
 
@@ -80,4 +81,10 @@ pub fn numbered_runs_are_such()
     ensures numbered { (state : Path) (clock : Clock) (rules : Rules) (ts : List Entry) → AllTurns state clock.now rules ts → AllTurnsBy state clock rules ts }
     ensures looks { (state : Path) (clock : Clock) (rules : Rules) (ts : List Entry) → AreQuiet ts → AllTurnsBy state clock rules ts }
     ensures quiet { (clock : Clock) (ts : List Entry) → AreQuiet ts → IsWholeRunBy clock ts }
+{}
+
+/// A worked example: a run that looked at a log with dates, of which no member stands, and renamed it to the clock's stamp,
+/// whatever the clock.
+pub fn dated_log_turns()
+    ensures { (rules : Rules) × (rules.sets ≡ rule ∷ []) × ((state : Path) (clock : Clock) → AllTurnsBy state clock rules (looks ++ turn clock ∷ [])) }
 {}
