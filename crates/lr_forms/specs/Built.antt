@@ -11,13 +11,7 @@ use Rattle.lr_forms.specs.declared.built.Built.TheVariants as built
 -- ---- so far
 
 abbrev pub so_far_unbuilt : Directive → Bool
--- fields of a definition
 so_far_unbuilt is.Createolddir = true
-so_far_unbuilt is.Dateext = true
-so_far_unbuilt is.Dateformat = true
-so_far_unbuilt is.Datehourago = true
-so_far_unbuilt is.Dateserial = true
-so_far_unbuilt is.Dateyesterday = true
 so_far_unbuilt is.Renamecopy = true
 -- all else is built
 so_far_unbuilt d = false

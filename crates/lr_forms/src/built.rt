@@ -16,13 +16,7 @@ fn so_far_unbuilt(directive: Directive) -> bool
     ensures { result ≡ so_far_unbuilt directive }
 {
     match directive {
-        Directive::Createolddir
-        | Directive::Dateext
-        | Directive::Dateformat
-        | Directive::Datehourago
-        | Directive::Dateserial
-        | Directive::Dateyesterday
-        | Directive::Renamecopy => true,
+        Directive::Createolddir | Directive::Renamecopy => true,
         _ => false,
     }
 }
