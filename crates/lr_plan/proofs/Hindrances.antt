@@ -1,10 +1,10 @@
 -- What is planned of one log, and of all.
-use Rattle.std.proofs.Common.{◌≡◌, ◌≢◌, ◌<◌, ◌+◌, ◌&&◌, ℕ, zero, suc, Bool, true, false, List, [], ◌∷◌, ◌++◌, length, take, get_or, Option, Result, Ok, Err, refl, sym, ap, ◌∙◌, subst, arith, eq-eqb, append_assoc}
-use Rattle.std.specs.Prelude.{◌↔◌, OnOk, if◌then◌else◌}
+use Rattle.std.proofs.Common.{◌≡◌, ◌≢◌, ◌<◌, ◌+◌, ◌&&◌, ℕ, zero, suc, Bool, true, false, List, [], ◌∷◌, ◌++◌, length, take, get_or, None, Result, Ok, Err, refl, sym, ap, ◌∙◌, subst, arith, eq-eqb, append_assoc}
+use Rattle.std.specs.Prelude.{◌↔◌, ◌≤◌, OnOk, IfOk, IfErr, if◌then◌else◌}
 use Rattle.std.proofs.lemmas.List.{append-nil}
 use Rattle.std.proofs.lemmas.List.Folds.{list_any_at}
 use Rattle.lr_rules.specs.declared.path.Path.{Path}
-use Rattle.lr_rules.specs.declared.civil.Moment.{Moment}
+use Rattle.lr_rules.specs.declared.clock.Clock.{Clock}
 use Rattle.lr_rules.specs.declared.fault.Fault.{Fault}
 use Rattle.lr_rules.specs.declared.fault.Fault.TheVariants as fault
 use Rattle.lr_rules.specs.declared.rule.Count.{Count}
@@ -16,18 +16,18 @@ use Rattle.lr_due.specs.declared.answer.Due.{Due}
 use Rattle.lr_family.specs.declared.stand.Member.{Member}
 use Rattle.lr_family.specs.Places.{IsPlaceOf, AreNamed}
 use Rattle.lr_family.specs.Stands.{number_in}
-use Rattle.lr_scripts.specs.declared.removal.Removal.{Removal}
-use Rattle.lr_chain.specs.declared.ready.Move.{Move}
 use Rattle.lr_chain.specs.declared.ready.Ready.{Ready}
 use Rattle.lr_chain.specs.declared.ready.PrepareStop.{PrepareStop}
 use Rattle.lr_chain.specs.declared.ready.PrepareStop.TheVariants as prepare
 use Rattle.lr_chain.specs.Ready.{IsReady, IsMissing, IsTooHigh, is_highest, highest_path}
 use Rattle.lr_chain.proofs.Bounds.{none_too_high}
 use Rattle.lr_chain.proofs.Highest.{path_is}
+use Rattle.lr_dated_ready.specs.Hindrances.{IsHindered}
 use Rattle.lr_plan.specs.declared.looks.LogLook.{LogLook}
 use Rattle.lr_plan.specs.declared.looks.SetLooks.{SetLooks}
 use Rattle.lr_plan.specs.Internal.Hindered.{fault_of}
-use Rattle.lr_plan.specs.Planned.{keeps_all, is_too_high, hindrances, make_of, going_from, ready_for, log_plan, none_hinders, plans_of, decisions_of, log_plans, log_faults, set_plan, all_decisions, all_plans, all_faults, CanPlanSet, CanPlanAll}
+use Rattle.lr_plan.proofs.Short.{target_short}
+use Rattle.lr_plan.specs.Planned.{keeps_all, is_too_high, numbered_hindrances, hindrances_by, hindrances, ready_for, plan_with, none_hinders, plans_of, decisions_of, log_plans, log_faults, set_plan, all_decisions, all_plans, all_faults, CanPlanSet, CanPlanAll}
 
 -- where a call went well, what follows from what it ensures
 pub where_ok : {T E P Q : Type 0} (r : Result T E) → OnOk r P → (P → Q) → OnOk r Q
@@ -36,17 +36,9 @@ where_ok (Err e) p f = tt
 
 -- ---- one log
 
-abbrev made : List Removal → Option (Path × Option ℕ) → List Move → Path → Path → Make → List Removal → Ready
-made l d m g t k r = record { leftovers = l; dir = d; moves = m; log = g; target = t; make = k; retire = r }
-
-same_ready : (l l' : List Removal) (d d' : Option (Path × Option ℕ)) (m m' : List Move) (g g' t t' : Path) (k k' : Make) (r r' : List Removal)
-    → l ≡ l' → d ≡ d' → m ≡ m' → g ≡ g' → t ≡ t' → k ≡ k' → r ≡ r' → made l d m g t k r ≡ made l' d' m' g' t' k' r'
-same_ready l l' d d' m m' g g' t t' k k' r r' a b c e f h i = cc
-
-pub ready_is : (now : Moment) (rule : Rule) (look : LogLook) (ready : Ready) → look.family.log ≡ look.path → IsReady look.family.log look.family.naming rule.count (make_of rule.create look.seen) look.stand.members (going_from now rule look) ready
-    → ready ≡ ready_for now rule look
-ready_is now rule look ready e i = same_ready ready.leftovers _ ready.dir _ ready.moves _ ready.log _ ready.target _ ready.make _ ready.retire _
-    i.leftovers_are i.no_dir i.moves_are (i.log_is ∙ e) i.target_is i.make_is i.retire_is
+-- its hindrances are those of its numbers
+pub hindrances_are : (clock : Clock) (rule : Rule) (look : LogLook) → look.family.naming.dated ≡ None → numbered_hindrances rule look ≡ hindrances clock rule look
+hindrances_are clock rule look numbered = ap (λ d. hindrances_by d clock rule look) (sym numbered)
 
 -- nothing hinders
 abbrev by_high : Bool → Naming → List Fault
@@ -73,8 +65,8 @@ there_is true h = refl
 there_is false h = absurd (h refl)
 
 -- where no path is told, nothing hinders
-pub nothing_hinders : (rule : Rule) (look : LogLook) → AreNamed look.family.naming look.stand.members → ((path : Path) → IsMissing look.family.naming look.stand path → ⊥) → ((path : Path) → IsTooHigh look.family.naming look.stand rule.count path → ⊥)
-    → hindrances rule look ≡ []
+nothing_hinders : (rule : Rule) (look : LogLook) → AreNamed look.family.naming look.stand.members → ((path : Path) → IsMissing look.family.naming look.stand path → ⊥) → ((path : Path) → IsTooHigh look.family.naming look.stand rule.count path → ⊥)
+    → numbered_hindrances rule look ≡ []
 nothing_hinders rule look named dir low =
     let there = there_is look.stand.there (λ e. dir look.family.naming.dir (e, refl)) in
     none_by look.stand.there (is_too_high rule look) look.family.naming (λ e. dir look.family.naming.dir (e, refl))
@@ -83,7 +75,7 @@ nothing_hinders rule look named dir low =
 -- where a rotation is ready, nothing hinders it
 pub ready_unhindered : (rule : Rule) (look : LogLook) (r : Result Ready PrepareStop) (ready : Ready) → AreNamed look.family.naming look.stand.members → r ≡ Ok ready
     → (r ≢ Err prepare.Memory → (path : Path) → (r ≡ Err (prepare.NoDir path)) ↔ IsMissing look.family.naming look.stand path)
-    → (r ≢ Err prepare.Memory → (path : Path) → (r ≡ Err (prepare.TooHigh path)) ↔ IsTooHigh look.family.naming look.stand rule.count path) → hindrances rule look ≡ []
+    → (r ≢ Err prepare.Memory → (path : Path) → (r ≡ Err (prepare.TooHigh path)) ↔ IsTooHigh look.family.naming look.stand rule.count path) → numbered_hindrances rule look ≡ []
 ready_unhindered rule look r ready named e dir high = nothing_hinders rule look named
     (λ path m. let f : r ≡ Err (prepare.NoDir path) = (dir (λ m. cc) path).1 m in absurd (cc))
     (λ path m. let f : r ≡ Err (prepare.TooHigh path) = (high (λ m. cc) path).1 m in absurd (cc))
@@ -97,7 +89,7 @@ high_by true true n e f = refl
 high_by true false n e f = absurd (cc)
 high_by false high n e f = absurd (cc)
 
-pub dir_hinders : (rule : Rule) (look : LogLook) (path : Path) → IsMissing look.family.naming look.stand path → hindrances rule look ≡ fault.NoDir path ∷ []
+dir_hinders : (rule : Rule) (look : LogLook) (path : Path) → IsMissing look.family.naming look.stand path → numbered_hindrances rule look ≡ fault.NoDir path ∷ []
 dir_hinders rule look path m = missing_by look.stand.there (is_too_high rule look) look.family.naming m.0 ∙ ap (λ (x : Path). fault.NoDir x ∷ []) (sym m.1)
 
 highest_has : (rule : Rule) (look : LogLook) (path : Path) → AreNamed look.family.naming look.stand.members → IsTooHigh look.family.naming look.stand rule.count path
@@ -108,29 +100,57 @@ highest_has rule look path named h =
     let own = subst (λ (m : Member). IsPlaceOf look.family.naming m.place m.path) a.3 (named a.0 a.1 a.2) in
     (high_some rule.count _ h.1 (list_any_at (is_highest look.family.naming) look.stand.members a.0 a.1 a.2 (ap (is_highest look.family.naming) a.3 ∙ top)), sym (path_is look.family.naming a.1 own top) ∙ a.4.1)
 
-pub height_hinders : (rule : Rule) (look : LogLook) (path : Path) → AreNamed look.family.naming look.stand.members → IsTooHigh look.family.naming look.stand rule.count path
-    → hindrances rule look ≡ fault.TooHigh path ∷ []
+height_hinders : (rule : Rule) (look : LogLook) (path : Path) → AreNamed look.family.naming look.stand.members → IsTooHigh look.family.naming look.stand rule.count path
+    → numbered_hindrances rule look ≡ fault.TooHigh path ∷ []
 height_hinders rule look path named h =
     let k = highest_has rule look path named h in
     high_by look.stand.there (is_too_high rule look) look.family.naming h.0 k.0 ∙ ap (λ (x : Path). fault.TooHigh x ∷ []) k.1
 
-pub plans_there : (now : Moment) (mailer : Path) (rule : Rule) (look : LogLook) → hindrances rule look ≡ [] → log_plan now mailer rule look ∷ [] ≡ plans_of now mailer rule look
-plans_there now mailer rule look h = ap (λ (fs : List Fault). none_hinders fs (log_plan now mailer rule look ∷ [])) (sym h)
-
-pub plans_none : (now : Moment) (mailer : Path) (rule : Rule) (look : LogLook) (f : Fault) → hindrances rule look ≡ f ∷ [] → plans_of now mailer rule look ≡ []
-plans_none now mailer rule look f h = ap (λ (fs : List Fault). none_hinders fs (log_plan now mailer rule look ∷ [])) h
-
 -- what keeps a rotation from being prepared is what hinders it
-pub stop_hinders : (rule : Rule) (look : LogLook) (r : Result Ready PrepareStop) (stop : PrepareStop) (f : Fault) → AreNamed look.family.naming look.stand.members → r ≡ Err stop → Ok f ≡ fault_of stop
+pub stop_hinders : (rule : Rule) (look : LogLook) (r : Result Ready PrepareStop) (stop : PrepareStop) → AreNamed look.family.naming look.stand.members → r ≡ Err stop
     → (r ≢ Err prepare.Memory → (path : Path) → (r ≡ Err (prepare.NoDir path)) ↔ IsMissing look.family.naming look.stand path)
     → (r ≢ Err prepare.Memory → (path : Path) → (r ≡ Err (prepare.TooHigh path)) ↔ IsTooHigh look.family.naming look.stand rule.count path)
-    → ((path : Path) → r ≢ Err (prepare.Taken path)) → hindrances rule look ≡ f ∷ []
-stop_hinders rule look r (prepare.Taken path) f named e is dir high taken = absurd (taken path e)
-stop_hinders rule look r (prepare.NoDir path) f named e is dir high taken =
-    dir_hinders rule look path ((dir (λ m. cc) path).0 e) ∙ (let same : f ≡ fault.NoDir path = cc in ap (λ (x : Fault). x ∷ []) (sym same))
-stop_hinders rule look r (prepare.TooHigh path) f named e is dir high taken =
-    height_hinders rule look path named ((high (λ m. cc) path).0 e) ∙ (let same : f ≡ fault.TooHigh path = cc in ap (λ (x : Fault). x ∷ []) (sym same))
-stop_hinders rule look r prepare.Memory f named e is dir high taken = absurd (cc)
+    → ((path : Path) → r ≢ Err (prepare.Taken path)) → IsHindered (numbered_hindrances rule look) stop
+stop_hinders rule look r (prepare.Taken path) named e dir high taken = absurd (taken path e)
+stop_hinders rule look r (prepare.NoDir path) named e dir high taken = dir_hinders rule look path ((dir (λ m. cc) path).0 e)
+stop_hinders rule look r (prepare.TooHigh path) named e dir high taken = height_hinders rule look path named ((high (λ m. cc) path).0 e)
+stop_hinders rule look r prepare.Memory named e dir high taken = tt
+
+-- where a rotation is ready, nothing hinders it
+pub ok_free : (clock : Clock) (rule : Rule) (look : LogLook) (r : Result Ready PrepareStop) → look.family.naming.dated ≡ None → AreNamed look.family.naming look.stand.members
+    → (r ≢ Err prepare.Memory → (path : Path) → (r ≡ Err (prepare.NoDir path)) ↔ IsMissing look.family.naming look.stand path)
+    → (r ≢ Err prepare.Memory → (path : Path) → (r ≡ Err (prepare.TooHigh path)) ↔ IsTooHigh look.family.naming look.stand rule.count path) → OnOk r (hindrances clock rule look ≡ [])
+ok_free clock rule look (Err stop) numbered named dir high = tt
+ok_free clock rule look (Ok ready) numbered named dir high = sym (hindrances_are clock rule look numbered) ∙ ready_unhindered rule look (Ok ready) ready named refl dir high
+
+pub err_hindered : (clock : Clock) (rule : Rule) (look : LogLook) (r : Result Ready PrepareStop) → look.family.naming.dated ≡ None → AreNamed look.family.naming look.stand.members
+    → (r ≢ Err prepare.Memory → (path : Path) → (r ≡ Err (prepare.NoDir path)) ↔ IsMissing look.family.naming look.stand path)
+    → (r ≢ Err prepare.Memory → (path : Path) → (r ≡ Err (prepare.TooHigh path)) ↔ IsTooHigh look.family.naming look.stand rule.count path)
+    → ((path : Path) → r ≢ Err (prepare.Taken path)) → IfErr r (IsHindered (hindrances clock rule look))
+err_hindered clock rule look (Ok ready) numbered named dir high taken = tt
+err_hindered clock rule look (Err stop) numbered named dir high taken = subst (λ (fs : List Fault). IsHindered fs stop) (hindrances_are clock rule look numbered) (stop_hinders rule look (Err stop) stop named refl dir high taken)
+
+-- and the log's new path is short
+pub ok_short : (look : LogLook) (count : Count) (anew : Make) (r : Result Ready PrepareStop) (from : List ℕ) → look.family.naming.start ≤ 999999
+    → IfOk r (IsReady look.family.log look.family.naming count anew look.stand.members from) → IfOk r (λ ready. length ready.target ≤ 4081)
+ok_short look count anew (Err stop) from low i = tt
+ok_short look count anew (Ok ready) from low i = subst (λ (x : Path). length x ≤ 4081) (sym i.target_is) (target_short look.family.log look.family.naming look.family.kin low)
+
+-- ---- the plan of one log
+
+pub plans_there : (clock : Clock) (mailer : Path) (rule : Rule) (look : LogLook) (ready : Ready) → ready ≡ ready_for clock rule look → hindrances clock rule look ≡ [] → plan_with mailer rule look ready ∷ [] ≡ plans_of clock mailer rule look
+plans_there clock mailer rule look ready is h =
+    ap (λ (r : Ready). plan_with mailer rule look r ∷ []) is ∙ ap (λ (fs : List Fault). none_hinders fs (plan_with mailer rule look (ready_for clock rule look) ∷ [])) (sym h)
+
+pub plans_none : (clock : Clock) (mailer : Path) (rule : Rule) (look : LogLook) (f : Fault) → hindrances clock rule look ≡ f ∷ [] → plans_of clock mailer rule look ≡ []
+plans_none clock mailer rule look f h = ap (λ (fs : List Fault). none_hinders fs (plan_with mailer rule look (ready_for clock rule look) ∷ [])) h
+
+-- the fault that is told is what hinders
+pub fault_hinders : (faults : List Fault) (stop : PrepareStop) (f : Fault) → IsHindered faults stop → Ok f ≡ fault_of stop → faults ≡ f ∷ []
+fault_hinders faults (prepare.Taken path) f h is = h ∙ (let same : f ≡ fault.Taken path = cc in ap (λ (x : Fault). x ∷ []) (sym same))
+fault_hinders faults (prepare.NoDir path) f h is = h ∙ (let same : f ≡ fault.NoDir path = cc in ap (λ (x : Fault). x ∷ []) (sym same))
+fault_hinders faults (prepare.TooHigh path) f h is = h ∙ (let same : f ≡ fault.TooHigh path = cc in ap (λ (x : Fault). x ∷ []) (sym same))
+fault_hinders faults prepare.Memory f h is = absurd (cc)
 
 -- ---- all definitions
 
@@ -159,24 +179,24 @@ decisions_step decide (r ∷ rules) (s ∷ sets) (suc at) rule set lt same e f =
     ap (λ xs. decisions_of (decide r) s.logs ++ xs) (decisions_step decide rules sets at rule set (omega arith) (omega (arith, same)) e f)
     ∙ sym (append_assoc (decisions_of (decide r) s.logs) (all_decisions decide (take at rules) (take at sets)) (decisions_of (decide rule) set.logs))
 
-plans_step : (now : Moment) (mailer : Path) (decide : Rule → LogLook → Due) (rules : List Rule) (sets : List SetLooks) (at : ℕ) (rule : Rule) (set : SetLooks) → at < length rules → length sets ≡ length rules → rule ≡ get_or rules at rule → set ≡ get_or sets at set
-    → all_plans now mailer decide (take (suc at) rules) (take (suc at) sets) ≡ all_plans now mailer decide (take at rules) (take at sets) ++ set_plan rule (log_plans now mailer rule (decide rule) set.logs) ∷ []
-plans_step now mailer decide [] sets at rule set lt same e f = absurd (omega arith)
-plans_step now mailer decide (r ∷ rules) [] at rule set lt same e f = absurd (omega (arith, same))
-plans_step now mailer decide (r ∷ rules) (s ∷ sets) zero rule set lt same e f =
-    ap (λ (q : Rule). set_plan q (log_plans now mailer q (decide q) s.logs) ∷ []) (sym e) ∙ ap (λ (x : SetLooks). set_plan rule (log_plans now mailer rule (decide rule) x.logs) ∷ []) (sym f)
-plans_step now mailer decide (r ∷ rules) (s ∷ sets) (suc at) rule set lt same e f =
-    ap (λ xs. set_plan r (log_plans now mailer r (decide r) s.logs) ∷ xs) (plans_step now mailer decide rules sets at rule set (omega arith) (omega (arith, same)) e f)
+plans_step : (clock : Clock) (mailer : Path) (decide : Rule → LogLook → Due) (rules : List Rule) (sets : List SetLooks) (at : ℕ) (rule : Rule) (set : SetLooks) → at < length rules → length sets ≡ length rules → rule ≡ get_or rules at rule → set ≡ get_or sets at set
+    → all_plans clock mailer decide (take (suc at) rules) (take (suc at) sets) ≡ all_plans clock mailer decide (take at rules) (take at sets) ++ set_plan rule (log_plans clock mailer rule (decide rule) set.logs) ∷ []
+plans_step clock mailer decide [] sets at rule set lt same e f = absurd (omega arith)
+plans_step clock mailer decide (r ∷ rules) [] at rule set lt same e f = absurd (omega (arith, same))
+plans_step clock mailer decide (r ∷ rules) (s ∷ sets) zero rule set lt same e f =
+    ap (λ (q : Rule). set_plan q (log_plans clock mailer q (decide q) s.logs) ∷ []) (sym e) ∙ ap (λ (x : SetLooks). set_plan rule (log_plans clock mailer rule (decide rule) x.logs) ∷ []) (sym f)
+plans_step clock mailer decide (r ∷ rules) (s ∷ sets) (suc at) rule set lt same e f =
+    ap (λ xs. set_plan r (log_plans clock mailer r (decide r) s.logs) ∷ xs) (plans_step clock mailer decide rules sets at rule set (omega arith) (omega (arith, same)) e f)
 
-faults_step : (decide : Rule → LogLook → Due) (rules : List Rule) (sets : List SetLooks) (at : ℕ) (rule : Rule) (set : SetLooks) → at < length rules → length sets ≡ length rules → rule ≡ get_or rules at rule → set ≡ get_or sets at set
-    → all_faults decide (take (suc at) rules) (take (suc at) sets) ≡ all_faults decide (take at rules) (take at sets) ++ log_faults rule (decide rule) set.logs
-faults_step decide [] sets at rule set lt same e f = absurd (omega arith)
-faults_step decide (r ∷ rules) [] at rule set lt same e f = absurd (omega (arith, same))
-faults_step decide (r ∷ rules) (s ∷ sets) zero rule set lt same e f =
-    append-nil (log_faults r (decide r) s.logs) ∙ (ap (λ (q : Rule). log_faults q (decide q) s.logs) (sym e) ∙ ap (λ (x : SetLooks). log_faults rule (decide rule) x.logs) (sym f))
-faults_step decide (r ∷ rules) (s ∷ sets) (suc at) rule set lt same e f =
-    ap (λ xs. log_faults r (decide r) s.logs ++ xs) (faults_step decide rules sets at rule set (omega arith) (omega (arith, same)) e f)
-    ∙ sym (append_assoc (log_faults r (decide r) s.logs) (all_faults decide (take at rules) (take at sets)) (log_faults rule (decide rule) set.logs))
+faults_step : (clock : Clock) (decide : Rule → LogLook → Due) (rules : List Rule) (sets : List SetLooks) (at : ℕ) (rule : Rule) (set : SetLooks) → at < length rules → length sets ≡ length rules → rule ≡ get_or rules at rule → set ≡ get_or sets at set
+    → all_faults clock decide (take (suc at) rules) (take (suc at) sets) ≡ all_faults clock decide (take at rules) (take at sets) ++ log_faults clock rule (decide rule) set.logs
+faults_step clock decide [] sets at rule set lt same e f = absurd (omega arith)
+faults_step clock decide (r ∷ rules) [] at rule set lt same e f = absurd (omega (arith, same))
+faults_step clock decide (r ∷ rules) (s ∷ sets) zero rule set lt same e f =
+    append-nil (log_faults clock r (decide r) s.logs) ∙ (ap (λ (q : Rule). log_faults clock q (decide q) s.logs) (sym e) ∙ ap (λ (x : SetLooks). log_faults clock rule (decide rule) x.logs) (sym f))
+faults_step clock decide (r ∷ rules) (s ∷ sets) (suc at) rule set lt same e f =
+    ap (λ xs. log_faults clock r (decide r) s.logs ++ xs) (faults_step clock decide rules sets at rule set (omega arith) (omega (arith, same)) e f)
+    ∙ sym (append_assoc (log_faults clock r (decide r) s.logs) (all_faults clock decide (take at rules) (take at sets)) (log_faults clock rule (decide rule) set.logs))
 
 next_is : (at : ℕ) → suc at ≡ at + 1
 next_is at = omega arith
@@ -186,15 +206,15 @@ pub decisions_more : (decide : Rule → LogLook → Due) (rules : List Rule) (se
 decisions_more decide rules sets at rule set lt same e f =
     subst (λ k. all_decisions decide (take k rules) (take k sets) ≡ all_decisions decide (take at rules) (take at sets) ++ decisions_of (decide rule) set.logs) (next_is at) (decisions_step decide rules sets at rule set lt same e f)
 
-pub plans_more : (now : Moment) (mailer : Path) (decide : Rule → LogLook → Due) (rules : List Rule) (sets : List SetLooks) (at : ℕ) (rule : Rule) (set : SetLooks) → at < length rules → length sets ≡ length rules → rule ≡ get_or rules at rule → set ≡ get_or sets at set
-    → all_plans now mailer decide (take (at + 1) rules) (take (at + 1) sets) ≡ all_plans now mailer decide (take at rules) (take at sets) ++ set_plan rule (log_plans now mailer rule (decide rule) set.logs) ∷ []
-plans_more now mailer decide rules sets at rule set lt same e f =
-    subst (λ k. all_plans now mailer decide (take k rules) (take k sets) ≡ all_plans now mailer decide (take at rules) (take at sets) ++ set_plan rule (log_plans now mailer rule (decide rule) set.logs) ∷ []) (next_is at) (plans_step now mailer decide rules sets at rule set lt same e f)
+pub plans_more : (clock : Clock) (mailer : Path) (decide : Rule → LogLook → Due) (rules : List Rule) (sets : List SetLooks) (at : ℕ) (rule : Rule) (set : SetLooks) → at < length rules → length sets ≡ length rules → rule ≡ get_or rules at rule → set ≡ get_or sets at set
+    → all_plans clock mailer decide (take (at + 1) rules) (take (at + 1) sets) ≡ all_plans clock mailer decide (take at rules) (take at sets) ++ set_plan rule (log_plans clock mailer rule (decide rule) set.logs) ∷ []
+plans_more clock mailer decide rules sets at rule set lt same e f =
+    subst (λ k. all_plans clock mailer decide (take k rules) (take k sets) ≡ all_plans clock mailer decide (take at rules) (take at sets) ++ set_plan rule (log_plans clock mailer rule (decide rule) set.logs) ∷ []) (next_is at) (plans_step clock mailer decide rules sets at rule set lt same e f)
 
-pub faults_more : (decide : Rule → LogLook → Due) (rules : List Rule) (sets : List SetLooks) (at : ℕ) (rule : Rule) (set : SetLooks) → at < length rules → length sets ≡ length rules → rule ≡ get_or rules at rule → set ≡ get_or sets at set
-    → all_faults decide (take (at + 1) rules) (take (at + 1) sets) ≡ all_faults decide (take at rules) (take at sets) ++ log_faults rule (decide rule) set.logs
-faults_more decide rules sets at rule set lt same e f =
-    subst (λ k. all_faults decide (take k rules) (take k sets) ≡ all_faults decide (take at rules) (take at sets) ++ log_faults rule (decide rule) set.logs) (next_is at) (faults_step decide rules sets at rule set lt same e f)
+pub faults_more : (clock : Clock) (decide : Rule → LogLook → Due) (rules : List Rule) (sets : List SetLooks) (at : ℕ) (rule : Rule) (set : SetLooks) → at < length rules → length sets ≡ length rules → rule ≡ get_or rules at rule → set ≡ get_or sets at set
+    → all_faults clock decide (take (at + 1) rules) (take (at + 1) sets) ≡ all_faults clock decide (take at rules) (take at sets) ++ log_faults clock rule (decide rule) set.logs
+faults_more clock decide rules sets at rule set lt same e f =
+    subst (λ k. all_faults clock decide (take k rules) (take k sets) ≡ all_faults clock decide (take at rules) (take at sets) ++ log_faults clock rule (decide rule) set.logs) (next_is at) (faults_step clock decide rules sets at rule set lt same e f)
 
 -- what was there, and so much more
 pub grown : {A : Type 0} (start now next more before after : List A) → now ≡ start ++ before → next ≡ now ++ more → after ≡ before ++ more → next ≡ start ++ after

@@ -1,33 +1,41 @@
--- The plan that the rules, what was seen of their logs, the table of the state, the moment of the run, `--force` and the
+-- The plan that the rules, what was seen of their logs, the table of the state, the clock of the run, `--force` and the
 -- program that mails files make together.
 use Rattle.std.specs.Prelude.{◌≡◌, ◌≤◌, ◌&&◌, ℕ, Bool, true, false, not, List, [], ◌∷◌, ◌++◌, map, All, Option, Some, None, if◌then◌else◌}
 use Rattle.std.specs.List.{flat_map, list_any}
 use Rattle.std.specs.Str.{bytes_eq}
 use Rattle.lr_rules.specs.declared.path.Path.{Path}
 use Rattle.lr_rules.specs.declared.civil.Moment.{Moment}
+use Rattle.lr_rules.specs.declared.clock.Clock.{Clock}
 use Rattle.lr_rules.specs.declared.fault.Fault.{Fault}
 use Rattle.lr_rules.specs.declared.fault.Fault.TheVariants as fault
 use Rattle.lr_rules.specs.declared.rule.Count.{Count}
 use Rattle.lr_rules.specs.declared.rule.Count.TheVariants as count
+use Rattle.lr_rules.specs.declared.rule.Format.{Format}
 use Rattle.lr_rules.specs.declared.rule.Make.{Make}
 use Rattle.lr_rules.specs.declared.rule.Make.TheVariants as make
+use Rattle.lr_rules.specs.declared.rule.Naming.{Naming}
 use Rattle.lr_rules.specs.declared.rule.Rule.{Rule}
 use Rattle.lr_rules.specs.declared.rule.Way.{Way}
 use Rattle.lr_rules.specs.declared.rule.Way.TheVariants as way
+use Rattle.lr_rules.specs.Limits.{is_format}
+use Rattle.lr_stamps.specs.Dated.{clock_seconds}
 use Rattle.lr_host.specs.declared.thing.Seen.{Seen}
 use Rattle.lr_scripts.specs.declared.removal.Removal.{Removal}
 use Rattle.lr_due.specs.declared.answer.Due.{Due}
 use Rattle.lr_due.specs.declared.answer.Due.TheVariants as due
 use Rattle.lr_due.specs.Due.{due_of}
 use Rattle.lr_state.specs.Table.{Entry, moment_of}
+use Rattle.lr_family.specs.declared.stand.Member.{Member}
 use Rattle.lr_family.specs.Parts.{part_of}
 use Rattle.lr_family.specs.Places.{AreNamed}
-use Rattle.lr_family.specs.Spots.{path_at}
+use Rattle.lr_days.specs.Newest.{AreDated, AreNewestFirst}
 use Rattle.lr_commands.specs.Commands.{spaced, script, where_so, mail, with_programs}
 use Rattle.lr_chain.specs.declared.ready.Ready.{Ready}
 use Rattle.lr_chain.specs.Ready.{IsCount, at_rest, with_members, is_highest, highest_path}
 use Rattle.lr_chain.specs.Rotation.{places_of, going}
 use Rattle.lr_copy.specs.declared.job.Job.{Job}
+use Rattle.lr_dated_ready.specs.Hindrances.{dated_hindrances}
+use Rattle.lr_dated_ready.specs.Ready.{dated_ready}
 use Rattle.lr_plan.specs.Asked.{Asked}
 use Rattle.lr_plan.specs.declared.looks.LogLook.{LogLook}
 use Rattle.lr_plan.specs.declared.looks.SetLooks.{SetLooks}
@@ -50,10 +58,18 @@ keeps_all (count.Keep n) = false
 abbrev pub is_too_high : Rule → LogLook → Bool
 is_too_high rule look = keeps_all rule.count && list_any (is_highest look.family.naming) look.stand.members
 
--- what keeps the log from being rotated: its family's directory isn't there, or a member's number would have to become too high
-abbrev pub hindrances : Rule → LogLook → List Fault
-hindrances rule look =
+-- what keeps the log from being rotated to numbers: its family's directory isn't there, or a member's number would have to become too high
+abbrev pub numbered_hindrances : Rule → LogLook → List Fault
+numbered_hindrances rule look =
     if look.stand.there then (if is_too_high rule look then fault.TooHigh (highest_path look.family.naming) ∷ [] else []) else fault.NoDir look.family.naming.dir ∷ []
+
+-- what keeps it from being rotated, by the format of the dates, where there is one: to the clock's stamp
+abbrev pub hindrances_by : Option Format → Clock → Rule → LogLook → List Fault
+hindrances_by None clock rule look = numbered_hindrances rule look
+hindrances_by (Some format) clock rule look = dated_hindrances look.family.naming look.stand (clock_seconds look.family.naming.dated clock)
+
+abbrev pub hindrances : Clock → Rule → LogLook → List Fault
+hindrances clock rule look = hindrances_by look.family.naming.dated clock rule look
 
 -- where the log is made anew, with which mode: the one that the rule gives, else the one that was seen
 abbrev pub make_of : Make → Seen → Make
@@ -61,13 +77,22 @@ make_of make.No seen = make.No
 make_of (make.Yes None) seen = make.Yes seen.mode
 make_of (make.Yes (Some mode)) seen = make.Yes (Some mode)
 
--- the places from which members come that go, by the rule's count and age, at this moment
-abbrev pub going_from : Moment → Rule → LogLook → List ℕ
-going_from now rule look = going rule.count rule.maxage now.seconds look.stand.members
+-- the places from which members come that go, by the rule's count and age, at this moment; members with dates don't move
+abbrev pub going_by : Option Format → Moment → Rule → LogLook → List ℕ
+going_by None now rule look = going rule.count rule.maxage now.seconds look.stand.members
+going_by (Some format) now rule look = []
 
--- its rotation, with all its paths, and each removal without the programs before it
-abbrev pub ready_for : Moment → Rule → LogLook → Ready
-ready_for now rule look = with_members look.family.naming rule.count (places_of look.stand.members) (going_from now rule look) (at_rest look.path look.family.naming (make_of rule.create look.seen))
+abbrev pub going_from : Moment → Rule → LogLook → List ℕ
+going_from now rule look = going_by look.family.naming.dated now rule look
+
+-- its rotation, with all its paths, and each removal without the programs before it: to the first of the numbered places, or to the clock's stamp
+abbrev pub ready_by : Option Format → Clock → Rule → LogLook → Ready
+ready_by None clock rule look =
+    with_members look.family.naming rule.count (places_of look.stand.members) (going_by None clock.now rule look) (at_rest look.path look.family.naming (make_of rule.create look.seen))
+ready_by (Some format) clock rule look = dated_ready look.path look.family.naming rule.count rule.maxage clock (make_of rule.create look.seen) look.stand.members
+
+abbrev pub ready_for : Clock → Rule → LogLook → Ready
+ready_for clock rule look = ready_by look.family.naming.dated clock rule look
 
 -- the rotation with these removals, the first ones and those at the end
 abbrev pub with_removals : List Removal → List Removal → Ready → Ready
@@ -81,45 +106,45 @@ dressed rule mailer ready = with_removals (map (with_programs rule mailer ready.
 abbrev pub has_part : List Path → Path → Bool
 has_part parts part = list_any (bytes_eq part) parts
 
--- The copy of the log to its final path, by the part file beside that: an old one that was seen goes before, and the new one has the log's mode, as that was seen. It takes 2^40 bytes at most.
-abbrev pub copy_job : LogLook → Bool → Job
-copy_job look cut = record {
+-- The copy of the log to this final path, by the part file beside that: an old one that was seen goes before, and the new one has the log's mode, as that was seen. It takes 2^40 bytes at most.
+abbrev pub copy_job : LogLook → Path → Bool → Job
+copy_job look target cut = record {
   from = look.path;
-  part = part_of (path_at look.family.naming 0);
-  to = path_at look.family.naming 0;
+  part = part_of target;
+  to = target;
   dir = look.family.naming.dir;
-  stale = has_part look.stand.parts (part_of (path_at look.family.naming 0));
+  stale = has_part look.stand.parts (part_of target);
   mode = look.seen.mode;
   cut = cut;
   limit = 1099511627776;
 }
 
 -- the copy in place of the log's rename, where the rule's way is one; the log is emptied behind it, or stays as it is
-abbrev pub job_by : Way → LogLook → Option Job
-job_by way.Rename look = None
-job_by way.Copy look = Some (copy_job look false)
-job_by way.CopyTruncate look = Some (copy_job look true)
+abbrev pub job_by : Way → LogLook → Path → Option Job
+job_by way.Rename look target = None
+job_by way.Copy look target = Some (copy_job look target false)
+job_by way.CopyTruncate look target = Some (copy_job look target true)
 
-abbrev pub job_of : Rule → LogLook → Option Job
-job_of rule look = job_by rule.way look
-
--- what is done with it: its own scripts where the definition doesn't share them, the rotation, by rename or by copy, and with `mailfirst` the mail of the file that was the log
-abbrev pub log_plan : Moment → Path → Rule → LogLook → LogPlan
-log_plan now mailer rule look = record {
+-- what is done with it: its own scripts where the definition doesn't share them, this rotation, by rename or by copy, and with `mailfirst` the mail of the file that was the log
+abbrev pub plan_with : Path → Rule → LogLook → Ready → LogPlan
+plan_with mailer rule look ready = record {
   pre = where_so (not rule.shared) (script rule.scripts.pre (look.path ∷ []));
-  post = where_so (not rule.shared) (script rule.scripts.post (look.path ∷ path_at look.family.naming 0 ∷ []));
-  first_mail = where_so rule.mailfirst (mail mailer rule.mail look.path (path_at look.family.naming 0));
-  ready = dressed rule mailer (ready_for now rule look);
-  job = job_of rule look;
+  post = where_so (not rule.shared) (script rule.scripts.post (look.path ∷ ready.target ∷ []));
+  first_mail = where_so rule.mailfirst (mail mailer rule.mail look.path ready.target);
+  ready = dressed rule mailer ready;
+  job = job_by rule.way look ready.target;
 }
+
+abbrev pub log_plan : Clock → Path → Rule → LogLook → LogPlan
+log_plan clock mailer rule look = plan_with mailer rule look (ready_for clock rule look)
 
 abbrev pub none_hinders : List Fault → List LogPlan → List LogPlan
 none_hinders [] plans = plans
 none_hinders (f ∷ fs) plans = []
 
 -- of a log that is due: its plan, or what hinders it
-abbrev pub plans_of : Moment → Path → Rule → LogLook → List LogPlan
-plans_of now mailer rule look = none_hinders (hindrances rule look) (log_plan now mailer rule look ∷ [])
+abbrev pub plans_of : Clock → Path → Rule → LogLook → List LogPlan
+plans_of clock mailer rule look = none_hinders (hindrances clock rule look) (log_plan clock mailer rule look ∷ [])
 
 abbrev pub where_due : {A : Type 0} → Due → List A → List A
 where_due (due.Yes why) xs = xs
@@ -130,11 +155,11 @@ where_due (due.No why) xs = []
 abbrev pub decisions_of : (LogLook → Due) → List LogLook → List (Path × Due)
 decisions_of decide looks = map (λ look. (look.path, decide look)) looks
 
-abbrev pub log_plans : Moment → Path → Rule → (LogLook → Due) → List LogLook → List LogPlan
-log_plans now mailer rule decide looks = flat_map (λ look. where_due (decide look) (plans_of now mailer rule look)) looks
+abbrev pub log_plans : Clock → Path → Rule → (LogLook → Due) → List LogLook → List LogPlan
+log_plans clock mailer rule decide looks = flat_map (λ look. where_due (decide look) (plans_of clock mailer rule look)) looks
 
-abbrev pub log_faults : Rule → (LogLook → Due) → List LogLook → List Fault
-log_faults rule decide looks = flat_map (λ look. where_due (decide look) (hindrances rule look)) looks
+abbrev pub log_faults : Clock → Rule → (LogLook → Due) → List LogLook → List Fault
+log_faults clock rule decide looks = flat_map (λ look. where_due (decide look) (hindrances clock rule look)) looks
 
 -- its scripts, of which those of the rotations are its own where they are shared, and its logs that are due
 abbrev pub set_plan : Rule → List LogPlan → SetPlan
@@ -153,20 +178,20 @@ abbrev pub all_decisions : (Rule → LogLook → Due) → List Rule → List Set
 all_decisions decide (rule ∷ rules) (set ∷ sets) = decisions_of (decide rule) set.logs ++ all_decisions decide rules sets
 all_decisions decide _ _ = []
 
-abbrev pub all_plans : Moment → Path → (Rule → LogLook → Due) → List Rule → List SetLooks → List SetPlan
-all_plans now mailer decide (rule ∷ rules) (set ∷ sets) = set_plan rule (log_plans now mailer rule (decide rule) set.logs) ∷ all_plans now mailer decide rules sets
-all_plans now mailer decide _ _ = []
+abbrev pub all_plans : Clock → Path → (Rule → LogLook → Due) → List Rule → List SetLooks → List SetPlan
+all_plans clock mailer decide (rule ∷ rules) (set ∷ sets) = set_plan rule (log_plans clock mailer rule (decide rule) set.logs) ∷ all_plans clock mailer decide rules sets
+all_plans clock mailer decide _ _ = []
 
-abbrev pub all_faults : (Rule → LogLook → Due) → List Rule → List SetLooks → List Fault
-all_faults decide (rule ∷ rules) (set ∷ sets) = log_faults rule (decide rule) set.logs ++ all_faults decide rules sets
-all_faults decide _ _ = []
+abbrev pub all_faults : Clock → (Rule → LogLook → Due) → List Rule → List SetLooks → List Fault
+all_faults clock decide (rule ∷ rules) (set ∷ sets) = log_faults clock rule (decide rule) set.logs ++ all_faults clock decide rules sets
+all_faults clock decide _ _ = []
 
 -- The plan: each log that was looked at whole, and whether it is due; what is done with those that are; what hinders some.
-abbrev pub plan_of : List Rule → List SetLooks → List Entry → Moment → Asked → Plan
-plan_of rules sets table now asked = record {
-  decisions = all_decisions (decision table now asked.force) rules sets;
-  sets = all_plans now asked.mailer (decision table now asked.force) rules sets;
-  faults = all_faults (decision table now asked.force) rules sets;
+abbrev pub plan_of : List Rule → List SetLooks → List Entry → Clock → Asked → Plan
+plan_of rules sets table clock asked = record {
+  decisions = all_decisions (decision table clock.now asked.force) rules sets;
+  sets = all_plans clock asked.mailer (decision table clock.now asked.force) rules sets;
+  faults = all_faults clock (decision table clock.now asked.force) rules sets;
 }
 
 -- ---- what is asked of rules and looks
@@ -180,19 +205,23 @@ pub record RunsNothing (rule : Rule) : Type 0 where
   pub preremove : rule.scripts.preremove ≡ None
   pub mail : rule.mail ≡ None
 
--- So far: the log of the look goes to numbered members, each of which has the path of its place.
-pub record CanPlan (rule : Rule) (look : LogLook) : Type 0 where
+-- each member has the path of its place; dated ones stand in order, the newest first, and the format of the dates meets its limits
+abbrev pub AreMembersBy : Option Format → Naming → List Member → Type 0
+AreMembersBy None n members = AreNamed n members
+AreMembersBy (Some format) n members = (is_format format ≡ true) × AreDated n members × AreNewestFirst members
+
+-- The look is one at the log, and its members are those of the log's naming, numbered or dated.
+pub record CanPlan (look : LogLook) : Type 0 where
   pub log : look.family.log ≡ look.path
-  pub numbered : look.family.naming.dated ≡ None
   pub start : look.family.naming.start ≤ 999999
-  pub named : AreNamed look.family.naming look.stand.members
+  pub members : AreMembersBy look.family.naming.dated look.family.naming look.stand.members
 
 -- the count is one that a rule can have, and each of its looks can be planned for
 pub record CanPlanSet (rule : Rule) (looks : List LogLook) : Type 0 where
   pub count : IsCount rule.count
-  pub each : All (CanPlan rule) looks
+  pub each : All CanPlan looks
 
--- So far: the same of all rules, of which each has its looks.
+-- the same of all rules, of which each has its looks
 abbrev pub CanPlanAll : List Rule → List SetLooks → Type 0
 CanPlanAll [] [] = Unit {0}
 CanPlanAll (rule ∷ rules) (set ∷ sets) = CanPlanSet rule set.logs × CanPlanAll rules sets

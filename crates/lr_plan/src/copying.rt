@@ -1,7 +1,6 @@
 // The copy that stands in the place of a log's rename.
-ghost use Rattle.std.specs.Prelude.{◌≡◌, ◌≤◌, IfOk};
-ghost use Rattle.lr_family.specs.Spots.{path_at};
-ghost use Rattle.lr_plan.specs.Planned.{has_part, copy_job, job_of};
+ghost use Rattle.std.specs.Prelude.{◌≡◌, ◌≤◌, IfOk, length};
+ghost use Rattle.lr_plan.specs.Planned.{has_part, copy_job, job_by};
 
 use crate::looks::LogLook;
 use lr_copy::{Job, part_path};
@@ -30,9 +29,8 @@ fn job_paths(alloc: Global, look: &LogLook, target: &Path) -> Result<(Path, Path
 
 // The copy of the log to this final path.
 fn copy_job(alloc: Global, look: &LogLook, target: &Path, cut: bool) -> Result<Job, Memory>
-    requires start { look.now.family.naming.start ≤ 999999 }
-    requires target { target.now ≡ path_at look.now.family.naming 0 }
-    ensures { IfOk result (λ job. job ≡ copy_job look.now cut) }
+    requires { length target.now ≤ 4081 }
+    ensures { IfOk result (λ job. job ≡ copy_job look.now target.now cut) }
 {
     let part = part_path(alloc, target)?;
     let (from, to, dir) = job_paths(alloc, look, target)?;
@@ -56,9 +54,8 @@ pub fn job_of(
     look: &LogLook,
     target: &Path,
 ) -> Result<Option<Job>, Memory>
-    requires start { look.now.family.naming.start ≤ 999999 }
-    requires target { target.now ≡ path_at look.now.family.naming 0 }
-    ensures { IfOk result (λ job. job ≡ job_of rule.now look.now) }
+    requires { length target.now ≤ 4081 }
+    ensures { IfOk result (λ job. job ≡ job_by rule.now.way look.now target.now) }
 {
     let cut = match rule.way {
         Way::Rename => return Ok(None),

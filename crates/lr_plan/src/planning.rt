@@ -1,12 +1,13 @@
 // What makes the plan.
-ghost use Rattle.std.specs.Prelude.{◌≡◌, ◌≤◌, ◌++◌, ◌∷◌, [], OnOk, IfOk};
+ghost use Rattle.std.specs.Prelude.{◌≡◌, ◌≤◌, ◌++◌, ◌∷◌, [], None, length, IsSome, OnOk, IfOk, IfErr};
 ghost use Rattle.lr_rules.specs.declared.rule.Rule.{Rule};
 ghost use Rattle.lr_plan.specs.declared.looks.LogLook.{LogLook};
 ghost use Rattle.lr_plan.specs.Asked.{asking};
 ghost use Rattle.lr_plan.specs.Internal.Hindered.{fault_of};
-ghost use Rattle.lr_plan.specs.Planned.{decision, decisions_of, hindrances, plans_of, log_plans, log_faults, set_plan, where_due, all_decisions, all_plans, all_faults, plan_of, make_of, ready_for, dressed, job_of, log_plan, CanPlan, CanPlanSet, CanPlanAll};
+ghost use Rattle.lr_plan.specs.Planned.{decision, decisions_of, hindrances, plans_of, log_plans, log_faults, set_plan, where_due, all_decisions, all_plans, all_faults, plan_of, make_of, ready_for, dressed, job_by, plan_with, CanPlan, CanPlanSet, CanPlanAll};
 ghost use Rattle.lr_chain.specs.Ready.{IsCount};
 ghost use Rattle.lr_commands.specs.Commands.{spaced};
+ghost use Rattle.lr_dated_ready.specs.Hindrances.{IsHindered};
 
 use crate::commands::{outer_scripts, own_scripts, shared_scripts};
 use crate::copying::job_of;
@@ -16,6 +17,7 @@ use crate::settings::Settings;
 use lr_chain::{PrepareStop, Ready, prepare};
 use lr_commands::{mail_of, spaced, with_programs};
 use lr_copy::Job;
+use lr_dated_ready::prepare_dated;
 use lr_due::{Due, due};
 use lr_host::Seen;
 use lr_rules::{Clock, Fault, Listed, Make, Memory, Moment, Path, Rule, Rules};
@@ -89,14 +91,12 @@ fn scripted(
     alloc: Global,
     rule: &Rule,
     mailer: &Path,
-    now: &Moment,
     look: &LogLook,
     ready: Ready,
     job: Option<Job>,
 ) -> Result<LogPlan, Memory>
-    requires ready { ready ≡ ready_for now.now rule.now look.now }
-    requires job { job ≡ job_of rule.now look.now }
-    ensures { IfOk result (λ plan. plan ≡ log_plan now.now mailer.now rule.now look.now) }
+    requires job { job ≡ job_by rule.now.way look.now ready.target }
+    ensures { IfOk result (λ plan. plan ≡ plan_with mailer.now rule.now look.now ready) }
 {
     let (pre, post) = own_scripts(alloc, rule, &look.path, &ready.target)?;
     let first_mail = mail_of(
@@ -104,7 +104,7 @@ fn scripted(
         rule.mailfirst,
         mailer,
         &rule.mail,
-        &ready.log,
+        &look.path,
         &ready.target,
     )?;
     let ready = with_all_programs(alloc, rule, mailer, ready)?;
@@ -122,18 +122,87 @@ fn add_plan(
     alloc: Global,
     rule: &Rule,
     mailer: &Path,
-    now: &Moment,
     look: &LogLook,
     ready: Ready,
     plans: &mut Vec<LogPlan>,
 ) -> Result<(), Memory>
-    requires start { look.now.family.naming.start ≤ 999999 }
-    requires ready { ready ≡ ready_for now.now rule.now look.now }
-    ensures { OnOk result (plans.new.items ≡ plans.old.items ++ log_plan now.now mailer.now rule.now look.now ∷ []) }
+    requires short { length ready.target ≤ 4081 }
+    ensures { OnOk result (plans.new.items ≡ plans.old.items ++ plan_with mailer.now rule.now look.now ready ∷ []) }
 {
     let job = job_of(alloc, rule, look, &ready.target)?;
-    plans.push(scripted(alloc, rule, mailer, now, look, ready, job)?)?;
+    plans.push(scripted(alloc, rule, mailer, look, ready, job)?)?;
     Ok(())
+}
+
+// Makes the rotation of a log ready that has dates.
+fn dated_ready(
+    alloc: Global,
+    rule: &Rule,
+    clock: &Clock,
+    look: &LogLook,
+    anew: Make,
+) -> Result<Ready, PrepareStop>
+    requires dated { IsSome look.now.family.naming.dated }
+    requires look { CanPlan look.now }
+    requires anew { anew ≡ make_of rule.now.create look.now.seen }
+    ensures ready { IfOk result (λ ready. ready ≡ ready_for clock.entry.now rule.now look.now) }
+    ensures short { IfOk result (λ ready. length ready.target ≤ 4081) }
+    ensures free { OnOk result (hindrances clock.entry.now rule.now look.now ≡ []) }
+    ensures hindered { IfErr result (IsHindered (hindrances clock.entry.now rule.now look.now)) }
+{
+    let family = &look.family;
+    let stand = &look.stand;
+    prepare_dated(alloc, family, stand, rule.count, rule.maxage, anew, clock)
+}
+
+// Makes the rotation of a log ready that has numbers.
+fn numbered_ready(
+    alloc: Global,
+    rule: &Rule,
+    clock: &Clock,
+    look: &LogLook,
+    anew: Make,
+) -> Result<Ready, PrepareStop>
+    requires numbered { look.now.family.naming.dated ≡ None }
+    requires count { IsCount rule.now.count }
+    requires look { CanPlan look.now }
+    requires anew { anew ≡ make_of rule.now.create look.now.seen }
+    ensures ready { IfOk result (λ ready. ready ≡ ready_for clock.entry.now rule.now look.now) }
+    ensures short { IfOk result (λ ready. length ready.target ≤ 4081) }
+    ensures free { OnOk result (hindrances clock.entry.now rule.now look.now ≡ []) }
+    ensures hindered { IfErr result (IsHindered (hindrances clock.entry.now rule.now look.now)) }
+{
+    prepare(
+        alloc,
+        &look.family,
+        &look.stand,
+        rule.count,
+        rule.maxage,
+        clock.now.seconds,
+        anew,
+    )
+}
+
+// Makes the rotation of a log ready.
+fn make_ready(
+    alloc: Global,
+    rule: &Rule,
+    clock: &Clock,
+    look: &LogLook,
+) -> Result<Ready, PrepareStop>
+    requires count { IsCount rule.now.count }
+    requires look { CanPlan look.now }
+    ensures ready { IfOk result (λ ready. ready ≡ ready_for clock.entry.now rule.now look.now) }
+    ensures short { IfOk result (λ ready. length ready.target ≤ 4081) }
+    ensures free { OnOk result (hindrances clock.entry.now rule.now look.now ≡ []) }
+    ensures hindered { IfErr result (IsHindered (hindrances clock.entry.now rule.now look.now)) }
+{
+    let anew = made_with(rule.create, &look.seen);
+    if look.family.naming().dated.is_some() {
+        dated_ready(alloc, rule, clock, look, anew)
+    } else {
+        numbered_ready(alloc, rule, clock, look, anew)
+    }
 }
 
 // Adds the plan of a log that is due, or what hinders it.
@@ -141,27 +210,18 @@ fn add_due(
     alloc: Global,
     rule: &Rule,
     mailer: &Path,
-    now: &Moment,
+    clock: &Clock,
     look: &LogLook,
     plans: &mut Vec<LogPlan>,
     faults: &mut Vec<Fault>,
 ) -> Result<(), Memory>
     requires count { IsCount rule.now.count }
-    requires look { CanPlan rule.now look.now }
-    ensures plans { OnOk result (plans.new.items ≡ plans.old.items ++ plans_of now.now mailer.now rule.now look.now) }
-    ensures faults { OnOk result (faults.new.items ≡ faults.old.items ++ hindrances rule.now look.now) }
+    requires look { CanPlan look.now }
+    ensures plans { OnOk result (plans.new.items ≡ plans.old.items ++ plans_of clock.entry.now mailer.now rule.now look.now) }
+    ensures faults { OnOk result (faults.new.items ≡ faults.old.items ++ hindrances clock.entry.now rule.now look.now) }
 {
-    let anew = made_with(rule.create, &look.seen);
-    match prepare(
-        alloc,
-        &look.family,
-        &look.stand,
-        rule.count,
-        rule.maxage,
-        now.seconds,
-        anew,
-    ) {
-        Ok(ready) => add_plan(alloc, rule, mailer, now, look, ready, plans),
+    match make_ready(alloc, rule, clock, look) {
+        Ok(ready) => add_plan(alloc, rule, mailer, look, ready, plans),
         Err(stop) => {
             faults.push(hindrance(stop)?)?;
             Ok(())
@@ -174,19 +234,19 @@ fn add_look(
     alloc: Global,
     rule: &Rule,
     mailer: &Path,
-    now: &Moment,
+    clock: &Clock,
     look: &LogLook,
     decided: Due,
     plans: &mut Vec<LogPlan>,
     faults: &mut Vec<Fault>,
 ) -> Result<(), Memory>
     requires count { IsCount rule.now.count }
-    requires look { CanPlan rule.now look.now }
-    ensures plans { OnOk result (plans.new.items ≡ plans.old.items ++ where_due decided (plans_of now.now mailer.now rule.now look.now)) }
-    ensures faults { OnOk result (faults.new.items ≡ faults.old.items ++ where_due decided (hindrances rule.now look.now)) }
+    requires look { CanPlan look.now }
+    ensures plans { OnOk result (plans.new.items ≡ plans.old.items ++ where_due decided (plans_of clock.entry.now mailer.now rule.now look.now)) }
+    ensures faults { OnOk result (faults.new.items ≡ faults.old.items ++ where_due decided (hindrances clock.entry.now rule.now look.now)) }
 {
     match decided {
-        Due::Yes(_) => add_due(alloc, rule, mailer, now, look, plans, faults),
+        Due::Yes(_) => add_due(alloc, rule, mailer, clock, look, plans, faults),
         Due::No(_) => Ok(()),
     }
 }
@@ -197,15 +257,15 @@ fn add_decisions(
     rule: &Rule,
     looks: &[LogLook],
     state: &State,
-    now: &Moment,
+    clock: &Clock,
     force: bool,
     decisions: &mut Vec<(Path, Due)>,
 ) -> Result<(), Memory>
-    ensures { OnOk result (decisions.new.items ≡ decisions.old.items ++ decisions_of (decision state.now now.now force rule.now) looks.now) }
+    ensures { OnOk result (decisions.new.items ≡ decisions.old.items ++ decisions_of (decision state.now clock.entry.now.now force rule.now) looks.now) }
 {
     for look in looks {
         let path = look.path.copy(alloc)?;
-        decisions.push((path, decide(rule, look, state, now, force)))?;
+        decisions.push((path, decide(rule, look, state, &clock.now, force)))?;
     }
     Ok(())
 }
@@ -217,18 +277,20 @@ fn plan_all(
     mailer: &Path,
     looks: &[LogLook],
     state: &State,
-    now: &Moment,
+    clock: &Clock,
     force: bool,
     faults: &mut Vec<Fault>,
 ) -> Result<Vec<LogPlan>, Memory>
     requires { CanPlanSet rule.now looks.now }
-    ensures plans { IfOk result (λ plans. plans.items ≡ log_plans now.now mailer.now rule.now (decision state.now now.now force rule.now) looks.now) }
-    ensures faults { OnOk result (faults.new.items ≡ faults.old.items ++ log_faults rule.now (decision state.now now.now force rule.now) looks.now) }
+    ensures plans { IfOk result (λ plans. plans.items ≡ log_plans clock.entry.now mailer.now rule.now (decision state.now clock.entry.now.now force rule.now) looks.now) }
+    ensures faults { OnOk result (faults.new.items ≡ faults.old.items ++ log_faults clock.entry.now rule.now (decision state.now clock.entry.now.now force rule.now) looks.now) }
 {
     let mut plans = Vec::new(alloc);
     for look in looks {
-        let decided = decide(rule, look, state, now, force);
-        add_look(alloc, rule, mailer, now, look, decided, &mut plans, faults)?;
+        let decided = decide(rule, look, state, &clock.now, force);
+        add_look(
+            alloc, rule, mailer, clock, look, decided, &mut plans, faults,
+        )?;
     }
     Ok(plans)
 }
@@ -269,15 +331,15 @@ fn plan_set(
     mailer: &Path,
     looks: &[LogLook],
     state: &State,
-    now: &Moment,
+    clock: &Clock,
     force: bool,
     faults: &mut Vec<Fault>,
 ) -> Result<SetPlan, Memory>
     requires { CanPlanSet rule.now looks.now }
-    ensures set { IfOk result (λ set. set ≡ set_plan rule.now (log_plans now.now mailer.now rule.now (decision state.now now.now force rule.now) looks.now)) }
-    ensures faults { OnOk result (faults.new.items ≡ faults.old.items ++ log_faults rule.now (decision state.now now.now force rule.now) looks.now) }
+    ensures set { IfOk result (λ set. set ≡ set_plan rule.now (log_plans clock.entry.now mailer.now rule.now (decision state.now clock.entry.now.now force rule.now) looks.now)) }
+    ensures faults { OnOk result (faults.new.items ≡ faults.old.items ++ log_faults clock.entry.now rule.now (decision state.now clock.entry.now.now force rule.now) looks.now) }
 {
-    let logs = plan_all(alloc, rule, mailer, looks, state, now, force, faults)?;
+    let logs = plan_all(alloc, rule, mailer, looks, state, clock, force, faults)?;
     set_of(alloc, rule, logs)
 }
 
@@ -296,23 +358,31 @@ fn add_set(
     mailer: &Path,
     looks: &[LogLook],
     state: &State,
-    now: &Moment,
+    clock: &Clock,
     force: bool,
     draft: &mut Draft,
 ) -> Result<(), Memory>
     requires { CanPlanSet rule.now looks.now }
-    ensures decisions { OnOk result (draft.new.decisions.items ≡ draft.old.decisions.items ++ decisions_of (decision state.now now.now force rule.now) looks.now) }
-    ensures sets { OnOk result (draft.new.sets.items ≡ draft.old.sets.items ++ set_plan rule.now (log_plans now.now mailer.now rule.now (decision state.now now.now force rule.now) looks.now) ∷ []) }
-    ensures faults { OnOk result (draft.new.faults.items ≡ draft.old.faults.items ++ log_faults rule.now (decision state.now now.now force rule.now) looks.now) }
+    ensures decisions { OnOk result (draft.new.decisions.items ≡ draft.old.decisions.items ++ decisions_of (decision state.now clock.entry.now.now force rule.now) looks.now) }
+    ensures sets { OnOk result (draft.new.sets.items ≡ draft.old.sets.items ++ set_plan rule.now (log_plans clock.entry.now mailer.now rule.now (decision state.now clock.entry.now.now force rule.now) looks.now) ∷ []) }
+    ensures faults { OnOk result (draft.new.faults.items ≡ draft.old.faults.items ++ log_faults clock.entry.now rule.now (decision state.now clock.entry.now.now force rule.now) looks.now) }
 {
-    add_decisions(alloc, rule, looks, state, now, force, &mut draft.decisions)?;
+    add_decisions(
+        alloc,
+        rule,
+        looks,
+        state,
+        clock,
+        force,
+        &mut draft.decisions,
+    )?;
     let set = plan_set(
         alloc,
         rule,
         mailer,
         looks,
         state,
-        now,
+        clock,
         force,
         &mut draft.faults,
     )?;
@@ -327,14 +397,14 @@ fn plan_sets(
     mailer: &Path,
     sets: &[SetLooks],
     state: &State,
-    now: &Moment,
+    clock: &Clock,
     force: bool,
     draft: &mut Draft,
 ) -> Result<(), Memory>
     requires { CanPlanAll rules.now sets.now }
-    ensures decisions { OnOk result (draft.new.decisions.items ≡ draft.old.decisions.items ++ all_decisions (decision state.now now.now force) rules.now sets.now) }
-    ensures sets { OnOk result (draft.new.sets.items ≡ draft.old.sets.items ++ all_plans now.now mailer.now (decision state.now now.now force) rules.now sets.now) }
-    ensures faults { OnOk result (draft.new.faults.items ≡ draft.old.faults.items ++ all_faults (decision state.now now.now force) rules.now sets.now) }
+    ensures decisions { OnOk result (draft.new.decisions.items ≡ draft.old.decisions.items ++ all_decisions (decision state.now clock.entry.now.now force) rules.now sets.now) }
+    ensures sets { OnOk result (draft.new.sets.items ≡ draft.old.sets.items ++ all_plans clock.entry.now mailer.now (decision state.now clock.entry.now.now force) rules.now sets.now) }
+    ensures faults { OnOk result (draft.new.faults.items ≡ draft.old.faults.items ++ all_faults clock.entry.now (decision state.now clock.entry.now.now force) rules.now sets.now) }
 {
     for at in 0..rules.len() {
         add_set(
@@ -343,7 +413,7 @@ fn plan_sets(
             mailer,
             sets[at].logs.as_slice(),
             state,
-            now,
+            clock,
             force,
             draft,
         )?;
@@ -352,7 +422,7 @@ fn plan_sets(
 }
 
 /// The plan of a run: whether each log that was looked at whole is due, what is done with those that are, and what
-/// hinders some. So far of logs whose members are numbered.
+/// hinders some. A log with numbered members goes to the first number, one with dated members to the clock's stamp.
 pub fn plan(
     alloc: Global,
     rules: &Rules,
@@ -362,7 +432,7 @@ pub fn plan(
     settings: &Settings,
 ) -> Result<Plan, Memory>
     requires { CanPlanAll rules.now.sets looks.now.sets }
-    ensures { IfOk result (λ plan. plan ≡ plan_of rules.now.sets looks.now.sets state.now clock.entry.now.now (asking settings.now.force settings.now.mailer)) }
+    ensures { IfOk result (λ plan. plan ≡ plan_of rules.now.sets looks.now.sets state.now clock.entry.now (asking settings.now.force settings.now.mailer)) }
 {
     let mut draft = Draft {
         decisions: Vec::new(alloc),
@@ -375,7 +445,7 @@ pub fn plan(
         &settings.mailer,
         looks.sets.as_slice(),
         state,
-        &clock.now,
+        clock,
         settings.force,
         &mut draft,
     )?;

@@ -4,6 +4,6 @@ use Rattle.lr_plan.proofs.planning.plan_all.Given as goal
 
 abbrev pub invariant-loop-look : goal.invariant-loop-look
 invariant-loop-look l = record {
-  plans : l.plans.items ≡ log_plans l.now l.mailer l.rule (decision l.state l.now l.force l.rule) (take l.look-index l.looks);
-  faults : l.faults.items ≡ l.initial.faults.items ++ log_faults l.rule (decision l.state l.now l.force l.rule) (take l.look-index l.looks);
+  plans : l.plans.items ≡ log_plans l.clock l.mailer l.rule (decision l.state l.clock.now l.force l.rule) (take l.look-index l.looks);
+  faults : l.faults.items ≡ l.initial.faults.items ++ log_faults l.clock l.rule (decision l.state l.clock.now l.force l.rule) (take l.look-index l.looks);
 }
