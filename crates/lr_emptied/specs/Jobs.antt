@@ -1,6 +1,7 @@
 -- The copies of a plan, and the rules that ask for them.
 use Rattle.std.specs.Prelude.{◌≡◌, ◌⊎◌, List, [], ◌∷◌, Option, Some, None}
 use Rattle.std.specs.List.{flat_map}
+use Rattle.lr_rules.specs.declared.clock.Clock.{Clock}
 use Rattle.lr_rules.specs.declared.rule.Rule.{Rule}
 use Rattle.lr_host.specs.Lists.{IsIn}
 use Rattle.lr_copy.specs.declared.job.Job.{Job}
@@ -8,7 +9,7 @@ use Rattle.lr_plan.specs.declared.looks.LogLook.{LogLook}
 use Rattle.lr_plan.specs.declared.looks.SetLooks.{SetLooks}
 use Rattle.lr_plan.specs.declared.planned.LogPlan.{LogPlan}
 use Rattle.lr_plan.specs.declared.planned.SetPlan.{SetPlan}
-use Rattle.lr_plan.specs.Planned.{job_of}
+use Rattle.lr_plan.specs.Planned.{job_by, ready_for}
 
 -- one, or none
 abbrev pub job_in : Option Job → List Job
@@ -23,13 +24,13 @@ jobs_in logs = flat_map (λ log. job_in log.job) logs
 abbrev pub jobs_of : List SetPlan → List Job
 jobs_of sets = flat_map (λ set. jobs_in set.logs) sets
 
--- the rule asks for this copy, of a log that was seen
-pub record AsksFor (rule : Rule) (looks : List LogLook) (job : Job) : Type 0 where
+-- the rule asks for this copy, of a log that was seen, to the path that the log gets by this clock
+pub record AsksFor (clock : Clock) (rule : Rule) (looks : List LogLook) (job : Job) : Type 0 where
   pub look : LogLook
   pub seen : IsIn look looks
-  pub job_is : job_of rule look ≡ Some job
+  pub job_is : job_by rule.way look (ready_for clock rule look).target ≡ Some job
 
 -- one of the rules does, each of the logs of its own definition
-abbrev pub IsAskedFor : List Rule → List SetLooks → Job → Type 0
-IsAskedFor (rule ∷ rules) (set ∷ sets) job = AsksFor rule set.logs job ⊎ IsAskedFor rules sets job
-IsAskedFor _ _ job = ⊥
+abbrev pub IsAskedFor : Clock → List Rule → List SetLooks → Job → Type 0
+IsAskedFor clock (rule ∷ rules) (set ∷ sets) job = AsksFor clock rule set.logs job ⊎ IsAskedFor clock rules sets job
+IsAskedFor clock _ _ job = ⊥

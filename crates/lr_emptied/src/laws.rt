@@ -1,6 +1,6 @@
 // Logs that a run empties.
 ghost use Rattle.std.specs.Prelude.{◌≡◌, true, Bool, List, Option, Some, ◌++◌, map, ℕ};
-ghost use Rattle.lr_rules.specs.declared.civil.Moment.{Moment};
+ghost use Rattle.lr_rules.specs.declared.clock.Clock.{Clock};
 ghost use Rattle.lr_rules.specs.declared.fault.Fault.{Fault};
 ghost use Rattle.lr_rules.specs.declared.path.Path.{Path};
 ghost use Rattle.lr_rules.specs.declared.rule.Rule.{Rule};
@@ -24,7 +24,7 @@ ghost use Rattle.lr_plan.specs.declared.step.SetSteps.{SetSteps};
 ghost use Rattle.lr_plan.specs.Course.{Course};
 ghost use Rattle.lr_plan.specs.Done.{SetsDone, ActsDone};
 ghost use Rattle.lr_plan.specs.Internal.Cut.{SetsCut};
-ghost use Rattle.lr_plan.specs.Planned.{job_of, plan_of};
+ghost use Rattle.lr_plan.specs.Planned.{job_by, plan_of};
 ghost use Rattle.lr_plan.specs.Steps.{steps_of_set, steps_of_plan, state_steps};
 ghost use Rattle.lr_emptied.specs.Emptied.{IsJobIn, EmptiesCopied, EmptiesWhole};
 ghost use Rattle.lr_emptied.specs.Jobs.{jobs_of, IsAskedFor};
@@ -38,9 +38,9 @@ pub fn plan_steps_are_copies()
 /// The copies of a plan are those that its rules ask for, of logs that were seen; and a copy asks that its log is emptied
 /// only where the rule says `copytruncate`.
 pub fn plan_copies_by_rules()
-    ensures asked { (rules : List Rule) (sets : List SetLooks) (table : List Row) (now : Moment) (asked : Asked) (job : Job)
-        → IsIn job (jobs_of (plan_of rules sets table now asked).sets) → IsAskedFor rules sets job }
-    ensures way { (rule : Rule) (look : LogLook) (job : Job) → job_of rule look ≡ Some job → job.cut ≡ true → rule.way ≡ way.CopyTruncate }
+    ensures asked { (rules : List Rule) (sets : List SetLooks) (table : List Row) (clock : Clock) (asked : Asked) (job : Job)
+        → IsIn job (jobs_of (plan_of rules sets table clock asked).sets) → IsAskedFor clock rules sets job }
+    ensures way { (rule : Rule) (look : LogLook) (target : Path) (job : Job) → job_by rule.way look target ≡ Some job → job.cut ≡ true → rule.way ≡ way.CopyTruncate }
 {}
 
 /// Where each log that steps empty they copy just before, so it is in the entries that they leave: whatever failed, also a

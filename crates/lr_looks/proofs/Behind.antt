@@ -1,5 +1,5 @@
 -- Looks at families, one behind another.
-use Rattle.std.proofs.Common.{◌≡◌, ◌≢◌, ◌+◌, inl, inr, ℕ, suc, List, [], ◌∷◌, ◌++◌, length, take, get_or, Option, Some, None, Result, Ok, Err, OnErr, slice_get, refl, sym, ap, ◌∙◌, subst, arith, append_assoc}
+use Rattle.std.proofs.Common.{◌≡◌, ◌≢◌, ◌+◌, inl, inr, ℕ, suc, true, List, [], ◌∷◌, ◌++◌, length, take, get_or, Option, Some, None, Result, Ok, Err, OnErr, slice_get, refl, sym, ap, ◌∙◌, subst, arith, append_assoc}
 use Rattle.std.specs.Prelude.{◌≤◌, IfOk, IfErr, OnOk}
 use Rattle.std.proofs.lemmas.List.{append-nil, length-append, map-append, take-append-le}
 use Rattle.std.proofs.lemmas.Option.{get_or_from_slice_get}
@@ -21,6 +21,7 @@ use Rattle.lr_days.specs.Newest.{AreDated, AreNewestFirst}
 use Rattle.lr_kept.proofs.Elements.{same_read}
 use Rattle.lr_looks.proofs.Known.{read_last}
 use Rattle.lr_rules.specs.declared.fault.Fault.{Fault}
+use Rattle.lr_rules.specs.Limits.{is_format, or_none}
 use Rattle.lr_host.specs.Told.{Counts, NoneFell, Rose}
 use Rattle.lr_family.specs.Stands.{IsFailedCall}
 use Rattle.lr_looks.specs.declared.found.Found.{Found}
@@ -28,8 +29,9 @@ use Rattle.lr_host.specs.Counted.{AddsFaults}
 use Rattle.lr_host.proofs.Counts.{free_none, adds_free, adds_call}
 use Rattle.lr_looks.specs.Found.{FoundLog, found_in, all_found_in, Hold}
 use Rattle.lr_looks.specs.Families.{ShowFamilies, HadMemory, AllHadMemory, stop_fault, family_fault, family_faults, LookedLog, looked_at, looked_by, looked_of, LookedAtFamilies, LookedAtSomeFamilies, FamilySight, Stood, Stopped, sight_of, ShowsBy, ShowsNoneBy, ShowsMembersIn, ShowsFamily, behind_listing, with_listing, not_listed}
-use Rattle.lr_looks.specs.Internal.{TakesListing, before, taken, LacksListing, IsAt, NoListing, lacks, unadded, FamilyPart, AddsLooked, AddsFamily, AddsFamilies, LooksBySets, AreNamedBy, HaveNames}
+use Rattle.lr_looks.specs.Internal.{TakesListing, before, taken, LacksListing, IsAt, NoListing, lacks, unadded, FamilyPart, AddsLooked, AddsFamily, AddsFamilies, LooksBySets}
 use Rattle.lr_plan.specs.declared.looks.SetLooks.{SetLooks}
+use Rattle.lr_plan.specs.Planned.{AreMembersBy}
 use Rattle.lr_looks.specs.Sets.{HaveLooks}
 
 -- the listing at the place is the one that was read
@@ -63,13 +65,15 @@ family_told known after n dir place x s e at l told = left_then l told (λ ts us
 
 -- ---- the names of members
 
-pub numbers_named : (n : Naming) (r : Result Stand StandStop) → n.dated ≡ None → IfOk r (λ stand. AreNamed n stand.members) → IfOk r (λ stand. HaveNames n stand.members)
-numbers_named n (Ok stand) e h = subst (λ d. AreNamedBy d n stand.members) (sym e) h
+-- those of a numbered family have the paths of their places
+pub numbers_named : (n : Naming) (r : Result Stand StandStop) → n.dated ≡ None → IfOk r (λ stand. AreNamed n stand.members) → IfOk r (λ stand. AreMembersBy n.dated n stand.members)
+numbers_named n (Ok stand) e h = subst (λ d. AreMembersBy d n stand.members) (sym e) h
 numbers_named n (Err why) e h = tt
 
-pub days_named : (n : Naming) (format : Format) (r : Result Stand StandStop) → n.dated ≡ Some format → IfOk r (λ stand. AreDated n stand.members) → IfOk r (λ stand. AreNewestFirst stand.members) → IfOk r (λ stand. HaveNames n stand.members)
-days_named n format (Ok stand) e h newest = subst (λ d. AreNamedBy d n stand.members) (sym e) (h, newest)
-days_named n format (Err why) e h newest = tt
+-- those of a dated one have the paths of their stamps, the newest first, and its format meets the limits
+pub days_named : (n : Naming) (format : Format) (r : Result Stand StandStop) → n.dated ≡ Some format → or_none is_format n.dated ≡ true → IfOk r (λ stand. AreDated n stand.members) → IfOk r (λ stand. AreNewestFirst stand.members) → IfOk r (λ stand. AreMembersBy n.dated n stand.members)
+days_named n format (Ok stand) e limits h newest = subst (λ d. AreMembersBy d n stand.members) (sym e) (subst (λ d. or_none is_format d ≡ true) e limits, h, newest)
+days_named n format (Err why) e limits h newest = tt
 
 pub family_lacks : (known after : List Listing) (n : Naming) (dir : Path) (why : StandStop) {o p : Option Journal} → dir ≡ n.dir → Left (LacksListing known dir why after) o p → Left (ShowsFamily known n after (Stopped why)) o p
 family_lacks known after n dir why e l = left_as l (λ ts h. go ts (subst (λ (d : Path). LacksListing known d why after ts) e h))

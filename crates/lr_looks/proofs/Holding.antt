@@ -8,9 +8,9 @@ use Rattle.lr_rules.specs.declared.fault.Fault.{Fault}
 use Rattle.lr_kept.specs.declared.choice.Choice.{Choice}
 use Rattle.lr_kept.specs.declared.choice.Choice.TheVariants.{Kept, Again, MemberOf, Reserved, Meets}
 use Rattle.lr_glob.specs.declared.found.Found.{Found as Match}
-use Rattle.lr_looks.specs.Asked.{Word, word_of, words_of, words_from, asked_by, CanAsk, CanAskAll, HasNumbers as CountsUp, HaveNumbers}
+use Rattle.lr_looks.specs.Asked.{Word, word_of, words_of, words_from, asked_by, CanAsk, CanAskAll}
 use Rattle.lr_looks.specs.Choices.{kept_of, where_file, is_file, Keeps}
-use Rattle.lr_looks.specs.Found.{FoundLog, HasBounds, HaveBounds, IsNumbered, AreNumbered, Hold}
+use Rattle.lr_looks.specs.Found.{FoundLog, HasBounds, HaveBounds, Hold}
 use Rattle.lr_looks.specs.Internal.{AreOf}
 use Rattle.lr_looks.proofs.Kindred.{start_fine, format_fine}
 use Rattle.lr_looks.specs.Sights.{WordSight, found_at, found_of, AreFoundOf}
@@ -69,10 +69,6 @@ bounds_from k [] can = tt
 bounds_from k (rule ∷ rules) can = of_both HasBounds (words_of k rule) (words_from (k + 1) rules)
     (of_words HasBounds k rule rule.words (λ word m. record { start = start_fine rule (All-head CanAsk rule rules can); format = format_fine rule (All-head CanAsk rule rules can) })) (bounds_from (k + 1) rules (All-tail CanAsk rule rules can))
 
-numbers_from : (k : ℕ) (rules : List Rule) → HaveNumbers rules → HoldsOf IsNumbered (words_from k rules)
-numbers_from k [] h = tt
-numbers_from k (rule ∷ rules) h = of_both IsNumbered (words_of k rule) (words_from (k + 1) rules) (of_words IsNumbered k rule rule.words (λ word m. All-head CountsUp rule rules h)) (numbers_from (k + 1) rules (All-tail CountsUp rule rules h))
-
 within_from : (k n : ℕ) (rules : List Rule) → k + length rules ≤ n → HoldsOf (λ f. f.log.set < n) (words_from k rules)
 within_from k n [] le = tt
 within_from k n (rule ∷ rules) le = of_both (λ f. f.log.set < n) (words_of k rule) (words_from (k + 1) rules) (of_words (λ f. f.log.set < n) k rule rule.words (λ word m. omega (arith, le))) (within_from (k + 1) n rules (omega (arith, le)))
@@ -84,9 +80,6 @@ kept_is P words found kept c d h l k = subst (Hold P) (sym k.left_are) (files_ho
 
 pub kept_bounds : {reserved : List Path} (rules : List Rule) (found kept : List FoundLog) (c d : List Fault) → CanAskAll rules → AreFoundOf (asked_by rules) found → Keeps reserved found c d kept → HaveBounds kept
 kept_bounds rules found kept c d can l k = kept_is HasBounds (asked_by rules) found kept c d (bounds_from 0 rules can) l k
-
-pub kept_numbers : {reserved : List Path} (rules : List Rule) (found kept : List FoundLog) (c d : List Fault) → HaveNumbers rules → AreFoundOf (asked_by rules) found → Keeps reserved found c d kept → AreNumbered kept
-kept_numbers rules found kept c d h l k = kept_is IsNumbered (asked_by rules) found kept c d (numbers_from 0 rules h) l k
 
 pub kept_within : {reserved : List Path} (rules : List Rule) (n : ℕ) (found kept : List FoundLog) (c d : List Fault) → length rules ≡ n → AreFoundOf (asked_by rules) found → Keeps reserved found c d kept → AreOf n kept
 kept_within rules n found kept c d many l k = kept_is (λ f. f.log.set < n) (asked_by rules) found kept c d (within_from 0 n rules (omega (arith, many))) l k

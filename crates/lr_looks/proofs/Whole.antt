@@ -15,11 +15,11 @@ use Rattle.lr_host.specs.Counted.{AddsFaults}
 use Rattle.lr_host.proofs.Counts.{AreFree, free_none, free_on, adds_on, adds_free}
 use Rattle.lr_kept.specs.declared.choice.Choice.{Choice}
 use Rattle.lr_kept.specs.declared.choice.Choice.TheVariants.{Kept, Again, MemberOf, Reserved, Meets}
-use Rattle.lr_looks.specs.Asked.{Word, asked_by, AreTexts, HaveNumbers}
+use Rattle.lr_looks.specs.Asked.{Word, asked_by, AreTexts}
 use Rattle.lr_looks.specs.Choices.{duplicate, overlap, barred, choice_fault, choice_faults, is_file, kept_of, kind_fault, Keeps}
 use Rattle.lr_looks.specs.Families.{LookedLog, family_faults, LooksAtFamilies, LookedAtSomeFamilies}
-use Rattle.lr_looks.specs.Found.{FoundLog, paths_of, HaveLogPaths, AreNumbered}
-use Rattle.lr_looks.specs.Internal.{LooksBySets, GoToNumbers}
+use Rattle.lr_looks.specs.Found.{FoundLog, paths_of, HaveLogPaths}
+use Rattle.lr_looks.specs.Internal.{LooksBySets}
 use Rattle.lr_looks.specs.Shown.{LooksAtAll, ShowsSomeLooks, at_words, at_families}
 use Rattle.lr_looks.specs.Sights.{faults_of, ShowWords, LookedAt, LookedAtSome}
 use Rattle.lr_looks.proofs.Looking.{shown_many}
@@ -72,10 +72,6 @@ all_ok (Err x) reserved rules found kept a b c d count n texts fit l k s paths m
 pub all_many : {E : Type 0} (r : Result Looks E) (rules : List Rule) (count : ℕ) → IfOk r (λ looks. length looks.sets ≡ count) → count ≡ length rules → IfOk r (λ looks. length looks.sets ≡ length rules)
 all_many (Ok looks) rules count many is = many ∙ is
 all_many (Err x) rules count many is = tt
-
-pub all_numbered : {E : Type 0} (r : Result Looks E) (rules : List Rule) (kept : List FoundLog) → (HaveNumbers rules → AreNumbered kept) → IfOk r (λ looks. AreNumbered kept → GoToNumbers looks.sets) → IfOk r (λ looks. HaveNumbers rules → GoToNumbers looks.sets)
-all_numbered (Ok looks) rules kept n h = λ a. h (n a)
-all_numbered (Err x) rules kept n h = tt
 
 -- ---- the faults of what is kept, and the counts
 

@@ -1,5 +1,5 @@
 -- The words of rules, and the logs that they give.
-use Rattle.std.specs.Prelude.{◌≡◌, ◌+◌, ℕ, Bool, true, List, [], ◌∷◌, ◌++◌, map, All, None, IsUtf8}
+use Rattle.std.specs.Prelude.{◌≡◌, ◌+◌, ℕ, Bool, true, List, [], ◌∷◌, ◌++◌, map, All, IsUtf8}
 use Rattle.lr_rules.specs.declared.path.Path.{Path}
 use Rattle.lr_rules.specs.declared.rule.Naming.{Naming}
 use Rattle.lr_rules.specs.declared.rule.Rule.{Rule}
@@ -58,10 +58,3 @@ CanAsk rule = meets_limits rule ≡ true
 
 abbrev pub CanAskAll : List Rule → Type 0
 CanAskAll rules = All CanAsk rules
-
--- the members of its logs have numbers
-abbrev pub HasNumbers : Rule → Type 0
-HasNumbers rule = rule.dated ≡ None
-
-abbrev pub HaveNumbers : List Rule → Type 0
-HaveNumbers rules = All HasNumbers rules

@@ -31,10 +31,6 @@ pub record HasBounds (f : FoundLog) : Type 0 where
   pub start : f.log.naming.start ≤ 999999
   pub format : or_none is_format f.log.naming.dated ≡ true
 
--- its members have numbers
-abbrev pub IsNumbered : FoundLog → Type 0
-IsNumbered f = f.log.naming.dated ≡ None
-
 -- Its path is one, of 2,048 bytes at most, with a last part of 255 at most; so is the directory of its members, and their format of dates, where they have one, meets its limits.
 pub record HasLogPath (f : FoundLog) : Type 0 where
   pub path : path_fault f.log.path ≡ None
@@ -50,9 +46,6 @@ Hold P (f ∷ fs) = P f × Hold P fs
 
 abbrev pub HaveBounds : List FoundLog → Type 0
 HaveBounds found = Hold HasBounds found
-
-abbrev pub AreNumbered : List FoundLog → Type 0
-AreNumbered found = Hold IsNumbered found
 
 abbrev pub HaveLogPaths : List FoundLog → Type 0
 HaveLogPaths found = Hold HasLogPath found

@@ -1,23 +1,20 @@
 -- For proofs: logs that are found, choices that name logs of the list, the map of listings, and logs that are added to their definitions.
-use Rattle.std.specs.Prelude.{◌≡◌, ◌≤◌, ◌<◌, ℕ, List, [], ◌∷◌, ◌++◌, All, Option, Some, None, length, slice_get}
+use Rattle.std.specs.Prelude.{◌≡◌, ◌<◌, ℕ, List, [], ◌∷◌, ◌++◌, All, Option, Some, None, length, slice_get}
 use Rattle.lr_kept.specs.declared.choice.Choice.{Choice}
 use Rattle.lr_kept.specs.declared.choice.Choice.TheVariants.{Kept, Again, MemberOf, Reserved, Meets}
 use Rattle.lr_rules.specs.declared.path.Path.{Path}
 use Rattle.lr_rules.specs.declared.rule.Naming.{Naming}
 use Rattle.lr_rules.specs.declared.fault.Fault.{Fault}
-use Rattle.lr_rules.specs.declared.rule.Format.{Format}
 use Rattle.lr_host.specs.declared.entry.Entry.{Entry}
 use Rattle.lr_host.specs.declared.journal.Journal.{Journal}
 use Rattle.lr_host.specs.Told.{Left}
 use Rattle.lr_plan.specs.declared.looks.LogLook.{LogLook}
 use Rattle.lr_plan.specs.declared.looks.SetLooks.{SetLooks}
 use Rattle.lr_family.specs.declared.listing.Listing.{Listing}
-use Rattle.lr_family.specs.declared.stand.Member.{Member}
 use Rattle.lr_family.specs.declared.stand.StandStop.{StandStop}
 use Rattle.lr_family.specs.declared.stand.StandStop.TheVariants as stop
+use Rattle.lr_plan.specs.Planned.{CanPlan}
 use Rattle.lr_family.specs.Listed.{ShowsListing, NotListed}
-use Rattle.lr_family.specs.Places.{AreNamed}
-use Rattle.lr_days.specs.Newest.{AreDated, AreNewestFirst}
 use Rattle.lr_kept.specs.Begun.{place_in}
 use Rattle.lr_looks.specs.declared.listings.Listings.{Listings}
 use Rattle.lr_looks.specs.Families.{WasNotListed, FamilySight, ShowsFamily, LookedLog, LookedAtFamilies, LooksAtFamilies}
@@ -115,26 +112,5 @@ abbrev pub Each : (LogLook → Type 0) → List SetLooks → Type 0
 Each P [] = Unit {0}
 Each P (set ∷ sets) = All P set.logs × Each P sets
 
--- each member has the path of its place; dated ones stand in order, the newest first
-abbrev pub AreNamedBy : Option Format → Naming → List Member → Type 0
-AreNamedBy None n members = AreNamed n members
-AreNamedBy (Some format) n members = AreDated n members × AreNewestFirst members
-
-abbrev pub HaveNames : Naming → List Member → Type 0
-HaveNames n members = AreNamedBy n.dated n members
-
--- The look is at the log of its family, whose members have names.
-pub record IsReady (look : LogLook) : Type 0 where
-  pub log : look.family.log ≡ look.path
-  pub start : look.family.naming.start ≤ 999999
-  pub named : HaveNames look.family.naming look.stand.members
-
 abbrev pub AreReady : List SetLooks → Type 0
-AreReady sets = Each IsReady sets
-
--- its members have numbers
-abbrev pub GoesToNumbers : LogLook → Type 0
-GoesToNumbers look = look.family.naming.dated ≡ None
-
-abbrev pub GoToNumbers : List SetLooks → Type 0
-GoToNumbers sets = Each GoesToNumbers sets
+AreReady sets = Each CanPlan sets

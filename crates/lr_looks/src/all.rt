@@ -1,9 +1,9 @@
 // All looks of a run.
 ghost use Rattle.std.specs.Prelude.{◌≡◌, OnErr, IfOk, length};
 ghost use Rattle.lr_host.specs.Told.{Left, Onward};
-ghost use Rattle.lr_looks.specs.Asked.{CanAskAll, HaveNumbers};
+ghost use Rattle.lr_looks.specs.Asked.{CanAskAll};
 ghost use Rattle.lr_host.specs.Counted.{AddsFaults};
-ghost use Rattle.lr_looks.specs.Internal.{AreReady, GoToNumbers};
+ghost use Rattle.lr_looks.specs.Internal.{AreReady};
 ghost use Rattle.lr_looks.specs.Shown.{LooksAtAll, ShowsSomeLooks};
 
 use crate::families::look_at_families;
@@ -29,7 +29,6 @@ pub fn look_all<H: Host>(
     ensures some { OnErr result (Left (ShowsSomeLooks reserved.now rules.now.sets) (H.told host.old) (H.told host.new)) }
     ensures many { IfOk result (λ looks. length looks.sets ≡ length rules.now.sets) }
     ensures ready { IfOk result (λ looks. AreReady looks.sets) }
-    ensures numbered { IfOk result (λ looks. HaveNumbers rules.now.sets → GoToNumbers looks.sets) }
     ensures counted { IfOk result (λ looks. AddsFaults faults.old.items faults.new.items (H.counts host.old) (H.counts host.new)) }
     ensures counts { Onward (H.counts host.old) (H.counts host.new) }
 {

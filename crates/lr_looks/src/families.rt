@@ -7,8 +7,9 @@ ghost use Rattle.lr_family.specs.Stands.{IsFailedCall};
 ghost use Rattle.lr_family.specs.declared.stand.StandStop.TheVariants as stop;
 ghost use Rattle.lr_host.specs.Counted.{AddsFaults};
 ghost use Rattle.lr_looks.specs.Families.{LookedLog, looked_at, looked_by, ShowsMembersIn, ShowsFamily, sight_of, stop_fault, LookedAtFamilies, LooksAtFamilies, LookedAtSomeFamilies};
-ghost use Rattle.lr_looks.specs.Found.{found_in, all_found_in, paths_of, HasBounds, HaveBounds, IsNumbered, AreNumbered};
-ghost use Rattle.lr_looks.specs.Internal.{AreListings, FamilyPart, AddsLooked, AddsFamily, AddsFamilies, LooksBySets, HaveNames, AreReady, GoToNumbers, AreOf};
+ghost use Rattle.lr_plan.specs.Planned.{AreMembersBy};
+ghost use Rattle.lr_looks.specs.Found.{found_in, all_found_in, paths_of, HasBounds, HaveBounds};
+ghost use Rattle.lr_looks.specs.Internal.{AreListings, FamilyPart, AddsLooked, AddsFamily, AddsFamilies, LooksBySets, AreReady, AreOf};
 ghost use Rattle.lr_looks.specs.Sets.{HaveLooks};
 
 use crate::found::Found;
@@ -31,7 +32,7 @@ fn stand_in<H: Host>(
     requires format { or_none is_format family.now.naming.dated ≡ true }
     requires dir { listing.now.dir ≡ family.now.naming.dir }
     ensures told { Left (ShowsMembersIn family.now.naming listing.now (sight_of result)) (H.told host.old) (H.told host.new) }
-    ensures named { IfOk result (λ stand. HaveNames family.now.naming stand.members) }
+    ensures named { IfOk result (λ stand. AreMembersBy family.now.naming.dated family.now.naming stand.members) }
     ensures cause { IfErr result (λ why. IsFailedCall why → Rose (H.counts host.old).faults (H.counts host.new).faults) }
     ensures counts { Onward (H.counts host.old) (H.counts host.new) }
 {
@@ -53,7 +54,7 @@ fn stand_at<H: Host>(
     ensures told { result ≢ Err stop.Memory → Left (ShowsFamily listings.old.taken.items family.now.naming listings.new.taken.items (sight_of result)) (H.told host.old) (H.told host.new) }
     ensures part { Left (FamilyPart listings.old.taken.items family.now.naming (sight_of result)) (H.told host.old) (H.told host.new) }
     ensures known { result ≢ Err stop.Memory → AreListings listings.new }
-    ensures named { IfOk result (λ stand. HaveNames family.now.naming stand.members) }
+    ensures named { IfOk result (λ stand. AreMembersBy family.now.naming.dated family.now.naming stand.members) }
     ensures cause { IfErr result (λ why. IsFailedCall why → Rose (H.counts host.old).faults (H.counts host.new).faults) }
     ensures counts { Onward (H.counts host.old) (H.counts host.new) }
 {
@@ -90,11 +91,10 @@ fn add_look(
 ) -> Result<(), Memory>
     requires set { found.set < length sets.old.items }
     requires bounds { HasBounds (found_in found) }
-    requires named { HaveNames found.family.naming stand.members }
+    requires named { AreMembersBy found.family.naming.dated found.family.naming stand.members }
     ensures looked { OnOk result (AddsLooked (looked_at (found_in found) stand ∷ []) sets.old.items sets.new.items) }
     ensures many { OnOk result (length sets.new.items ≡ length sets.old.items) }
     ensures ready { OnOk result (AreReady sets.old.items → AreReady sets.new.items) }
-    ensures numbered { OnOk result (IsNumbered (found_in found) → GoToNumbers sets.old.items → GoToNumbers sets.new.items) }
 {
     let Found {
         set,
@@ -129,7 +129,6 @@ fn look_at_family<H: Host>(
     ensures known { OnOk result (AreListings listings.new) }
     ensures many { OnOk result (length sets.new.items ≡ length sets.old.items) }
     ensures ready { OnOk result (AreReady sets.old.items → AreReady sets.new.items) }
-    ensures numbered { OnOk result (IsNumbered (found_in found) → GoToNumbers sets.old.items → GoToNumbers sets.new.items) }
     ensures counted { OnOk result (AddsFaults faults.old.items faults.new.items (H.counts host.old) (H.counts host.new)) }
     ensures counts { Onward (H.counts host.old) (H.counts host.new) }
 {
@@ -144,7 +143,6 @@ fn no_looks(alloc: Global, count: usize) -> Result<Vec<SetLooks>, Memory>
     ensures none { IfOk result (λ sets. HaveLooks [] sets.items) }
     ensures many { IfOk result (λ sets. length sets.items ≡ count) }
     ensures ready { IfOk result (λ sets. AreReady sets.items) }
-    ensures numbered { IfOk result (λ sets. GoToNumbers sets.items) }
 {
     let mut sets = Vec::new(alloc);
     for _at in 0..count {
@@ -169,7 +167,6 @@ fn look_at_each<H: Host>(
     ensures some { OnErr result (Left (LookedAtSomeFamilies [] (all_found_in found.items)) (H.told host.old) (H.told host.new)) }
     ensures many { OnOk result (length sets.new.items ≡ length sets.old.items) }
     ensures ready { OnOk result (AreReady sets.old.items → AreReady sets.new.items) }
-    ensures numbered { OnOk result (AreNumbered (all_found_in found.items) → GoToNumbers sets.old.items → GoToNumbers sets.new.items) }
     ensures counted { OnOk result (AddsFaults faults.old.items faults.new.items (H.counts host.old) (H.counts host.new)) }
     ensures counts { Onward (H.counts host.old) (H.counts host.new) }
 {
@@ -211,7 +208,6 @@ pub fn look_at_families<H: Host>(
     ensures kept { IfOk result (λ looks. looks.kept ≡ paths_of (all_found_in found.items)) }
     ensures many { IfOk result (λ looks. length looks.sets ≡ count) }
     ensures ready { IfOk result (λ looks. AreReady looks.sets) }
-    ensures numbered { IfOk result (λ looks. AreNumbered (all_found_in found.items) → GoToNumbers looks.sets) }
     ensures counted { IfOk result (λ looks. AddsFaults faults.old.items faults.new.items (H.counts host.old) (H.counts host.new)) }
     ensures counts { Onward (H.counts host.old) (H.counts host.new) }
 {

@@ -1,7 +1,7 @@
 use Rattle.std.proofs.Common.{sym}
 use Rattle.lr_looks.specs.Found.{all_found_in}
-use Rattle.lr_looks.proofs.Holding.{kept_bounds, kept_numbers, kept_within}
-use Rattle.lr_looks.proofs.Whole.{all_ok, all_many, all_numbered, all_counted, all_at_words, all_at_kept, all_at_families}
+use Rattle.lr_looks.proofs.Holding.{kept_bounds, kept_within}
+use Rattle.lr_looks.proofs.Whole.{all_ok, all_many, all_counted, all_at_words, all_at_kept, all_at_families}
 use Rattle.lr_looks.proofs.all.look_all.Goals as goal
 
 pub look_at_families-requires-clause-sets : goal.look_at_families-requires-clause-sets
@@ -30,6 +30,3 @@ returns-in_err-kept-clause-some g c = all_at_kept c.from_residual-in_err-kept.re
 
 pub returns-clause-many : goal.returns-clause-many
 returns-clause-many g c = all_many c.look_at_families.result c.args.rules.now.sets c.len.result c.look_at_families.ensures.many c.len.ensures
-
-pub returns-clause-numbered : goal.returns-clause-numbered
-returns-clause-numbered g c = all_numbered c.look_at_families.result c.args.rules.now.sets (all_found_in c.in_ok-kept.kept.items) (λ n. kept_numbers c.args.rules.now.sets (all_found_in c.in_ok-found.found.items) (all_found_in c.in_ok-kept.kept.items) _ _ n c.in_ok-found.ensures.found c.in_ok-kept.ensures) c.look_at_families.ensures.numbered

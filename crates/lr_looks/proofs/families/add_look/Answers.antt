@@ -1,8 +1,8 @@
 use Rattle.std.proofs.Common.{◌++◌, ◌∷◌, [], ap, ◌∙◌, sym}
 use Rattle.lr_plan.specs.declared.looks.SetLooks.{SetLooks}
+use Rattle.lr_plan.specs.Planned.{CanPlan}
 use Rattle.lr_looks.specs.Families.{looked_at}
 use Rattle.lr_looks.specs.Found.{found_in}
-use Rattle.lr_looks.specs.Internal.{IsReady, GoesToNumbers}
 use Rattle.lr_looks.proofs.Adding.{grow, each_grow, same_look}
 use Rattle.lr_looks.proofs.families.add_look.Goals as goal
 
@@ -12,10 +12,6 @@ returns-clause-looked c = λ logs h. grow 0 c.args.found.set logs (looked_at (fo
     (c.in_ok-push.ensures.pushed ∙ ap (λ (s : SetLooks). s.logs ++ record { path = c.in_ok-path.path; seen = c.args.found.seen; family = c.args.found.family; stand = c.args.stand } ∷ []) c.index_mut.ensures.value) h
 
 pub returns-clause-ready : goal.returns-clause-ready
-returns-clause-ready c = each_grow IsReady c.args.found.set (record { path = c.in_ok-path.path; seen = c.args.found.seen; family = c.args.found.family; stand = c.args.stand }) c.args.sets.now.items (record { logs = c.push.new.self }) c.index_mut.result.now c.requires.set
+returns-clause-ready c = each_grow CanPlan c.args.found.set (record { path = c.in_ok-path.path; seen = c.args.found.seen; family = c.args.found.family; stand = c.args.stand }) c.args.sets.now.items (record { logs = c.push.new.self }) c.index_mut.result.now c.requires.set
     (c.in_ok-push.ensures.pushed ∙ ap (λ (s : SetLooks). s.logs ++ record { path = c.in_ok-path.path; seen = c.args.found.seen; family = c.args.found.family; stand = c.args.stand } ∷ []) c.index_mut.ensures.value)
-    (record { log = sym (c.in_ok-path.ensures ∙ c.log.ensures); start = c.requires.bounds.start; named = c.requires.named })
-
-pub returns-clause-numbered : goal.returns-clause-numbered
-returns-clause-numbered c = λ n. each_grow GoesToNumbers c.args.found.set (record { path = c.in_ok-path.path; seen = c.args.found.seen; family = c.args.found.family; stand = c.args.stand }) c.args.sets.now.items (record { logs = c.push.new.self }) c.index_mut.result.now c.requires.set
-    (c.in_ok-push.ensures.pushed ∙ ap (λ (s : SetLooks). s.logs ++ record { path = c.in_ok-path.path; seen = c.args.found.seen; family = c.args.found.family; stand = c.args.stand } ∷ []) c.index_mut.ensures.value) n
+    (record { log = sym (c.in_ok-path.ensures ∙ c.log.ensures); start = c.requires.bounds.start; members = c.requires.named })

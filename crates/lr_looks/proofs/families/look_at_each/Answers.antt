@@ -2,7 +2,7 @@ use Rattle.std.proofs.Common.{◌≡◌, ◌<◌, ◌++◌, ◌∷◌, [], List,
 use Rattle.std.specs.Vec.Iter.{into_iter_items}
 use Rattle.std.proofs.lemmas.List.{append-nil, nil_from_length}
 use Rattle.lr_looks.specs.declared.found.Found.{Found}
-use Rattle.lr_looks.specs.Found.{HasBounds, IsNumbered}
+use Rattle.lr_looks.specs.Found.{HasBounds}
 use Rattle.lr_looks.proofs.Known.{places_none}
 use Rattle.lr_host.proofs.Counts.{adds_none, adds_on}
 use Rattle.lr_looks.proofs.Behind.{families_none, families_more, families_part, families_all, next_holds}
@@ -25,7 +25,6 @@ loop-item-init g c = record {
   told = families_none c.args.faults.now.items c.args.sets.now.items c.new-2.result.items c.new-2.ensures.items;
   many = refl;
   ready = λ r. r;
-  numbered = λ n r. r;
   counted = adds_none c.args.faults.now.items _;
   counts = search rules;
 }
@@ -41,8 +40,6 @@ loop-item-preserved g c =
           c.args.sets.now.items c.loop-item.sets.items c.look_at_family.new.sets.items c.loop-item.invariant.told c.in_ok-look_at_family.ensures.told;
       many = c.in_ok-look_at_family.ensures.many ∙ c.loop-item.invariant.many;
       ready = λ r. c.in_ok-look_at_family.ensures.ready (c.loop-item.invariant.ready r);
-      numbered = λ n r. c.in_ok-look_at_family.ensures.numbered (next_holds IsNumbered c.args.found.items c.loop-item.invariant.done _ c.in-Some.item
-          (sym c.into_iter-item-iterator.ensures.into_iter_gives.0 ∙ (c.loop-item.invariant.seam ∙ ap (λ (ls : List Found). c.loop-item.invariant.done ++ ls) c.in-Some.ensures.steps.0)) n) (c.loop-item.invariant.numbered n r);
       counted = adds_on c.args.faults.now.items c.loop-item.faults.items c.look_at_family.new.faults.items _ _ _ c.loop-item.invariant.counted c.in_ok-look_at_family.ensures.counted;
       counts = search rules;
     }

@@ -3,8 +3,7 @@ use Rattle.std.specs.Vec.Iter.{into_iter_items, into_iter_len}
 use Rattle.lr_host.specs.Told.{Onward}
 use Rattle.lr_looks.specs.declared.found.Found.{Found}
 use Rattle.lr_host.specs.Counted.{AddsFaults}
-use Rattle.lr_looks.specs.Found.{all_found_in, AreNumbered}
-use Rattle.lr_looks.specs.Internal.{AreListings, AreReady, GoToNumbers}
+use Rattle.lr_looks.specs.Internal.{AreListings, AreReady}
 use Rattle.lr_looks.proofs.Behind.{SoFar}
 use Rattle.lr_looks.proofs.families.look_at_each.Given as goal
 
@@ -17,7 +16,6 @@ invariant-loop-item g l = record {
   told : SoFar done l.listings.taken.items l.initial.faults.items l.faults.items l.initial.sets.items l.sets.items (g.H.Host.told l.initial.host) (g.H.Host.told l.host);
   many : length l.sets.items ≡ length l.initial.sets.items;
   ready : AreReady l.initial.sets.items → AreReady l.sets.items;
-  numbered : AreNumbered (all_found_in l.fn.found.items) → GoToNumbers l.initial.sets.items → GoToNumbers l.sets.items;
   counted : AddsFaults l.initial.faults.items l.faults.items (g.H.Host.counts l.initial.host) (g.H.Host.counts l.host);
   counts : Onward (g.H.Host.counts l.initial.host) (g.H.Host.counts l.host);
 }

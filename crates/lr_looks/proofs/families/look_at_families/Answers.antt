@@ -1,6 +1,6 @@
 use Rattle.std.proofs.Common.{sym, ap, ◌∙◌, subst, length}
 use Rattle.lr_looks.specs.Found.{all_found_in}
-use Rattle.lr_looks.specs.Internal.{AreOf, AreReady, GoToNumbers}
+use Rattle.lr_looks.specs.Internal.{AreOf, AreReady}
 use Rattle.lr_looks.proofs.Behind.{sets_all, no_families}
 use Rattle.lr_looks.proofs.families.look_at_families.Goals as goal
 
@@ -15,9 +15,6 @@ returns-clause-many g c = ap length c.from_vec.ensures ∙ (c.in_ok-look_at_each
 
 pub returns-clause-ready : goal.returns-clause-ready
 returns-clause-ready g c = subst AreReady (sym c.from_vec.ensures) (c.in_ok-look_at_each.ensures.ready c.in_ok-sets.ensures.ready)
-
-pub returns-clause-numbered : goal.returns-clause-numbered
-returns-clause-numbered g c = λ n. subst GoToNumbers (sym c.from_vec.ensures) (c.in_ok-look_at_each.ensures.numbered n c.in_ok-sets.ensures.numbered)
 
 pub returns-in_err-kept-clause-some : goal.returns-in_err-kept-clause-some
 returns-in_err-kept-clause-some g c = no_families c.from_residual.result (all_found_in c.args.found.items) _

@@ -1,7 +1,7 @@
 use Rattle.std.proofs.Common.{◌≡◌, [], length}
-use Rattle.lr_looks.specs.Internal.{AreReady, GoToNumbers}
+use Rattle.lr_looks.specs.Internal.{AreReady}
 use Rattle.lr_looks.specs.Sets.{HaveLooks}
 use Rattle.lr_looks.proofs.families.no_looks.Given as goal
 
 abbrev pub invariant-loop-at : goal.invariant-loop-at
-invariant-loop-at l = record { none : HaveLooks [] l.sets.items; many : length l.sets.items ≡ l._at; ready : AreReady l.sets.items; numbered : GoToNumbers l.sets.items }
+invariant-loop-at l = record { none : HaveLooks [] l.sets.items; many : length l.sets.items ≡ l._at; ready : AreReady l.sets.items }
