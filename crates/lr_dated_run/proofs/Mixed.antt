@@ -29,7 +29,7 @@ use Rattle.lr_dated_run.specs.Own.{ChangesOwn, HasAnyNames, HaveAnyNames}
 use Rattle.lr_dated_run.proofs.Own.{dated_own, dated_change}
 
 -- all that is done to a log, numbered or dated, is on own names
-any_change : (t : Target) (e : Entry) → HasAnyNames t → IsOf t e → ChangesOwn t.log t.naming e
+pub any_change : (t : Target) (e : Entry) → HasAnyNames t → IsOf t e → ChangesOwn t.log t.naming e
 any_change t e (inl h) i = own_change t e h i
 any_change t e (inr h) i = dated_change t e h i
 

@@ -3,7 +3,7 @@ use Rattle.std.proofs.Common.{◌≡◌, ◌≢◌, ◌⊎◌, inl, inr, true, r
 use Rattle.std.specs.Prelude.{filter}
 use Rattle.std.proofs.lemmas.List.Elements.{filter-append}
 use Rattle.lr_rules.specs.declared.path.Path.{Path}
-use Rattle.lr_rules.specs.declared.civil.Moment.{Moment}
+use Rattle.lr_rules.specs.declared.clock.Clock.{Clock}
 use Rattle.lr_rules.specs.declared.rules.Rules.{Rules}
 use Rattle.lr_host.specs.declared.entry.Entry.{Entry}
 use Rattle.lr_host.specs.Lists.{IsIn}
@@ -11,11 +11,13 @@ use Rattle.lr_host.specs.Quiet.{AreQuiet}
 use Rattle.lr_host.specs.Steps.{is_change}
 use Rattle.lr_host.specs.Told.{Each}
 use Rattle.lr_host.proofs.Each.{each_append, each_first, each_as, all_pass}
-use Rattle.lr_targets.specs.AllTurns.{IsOfState, IsOfSome, StandsBetween, AllTurns, AllTurned}
-use Rattle.lr_targets.specs.Target.{Target, rotation_of, AreSeen, IsOneOf}
+use Rattle.lr_targets.specs.AllTurns.{IsOfState, IsOfSome, StandsBetween}
+use Rattle.lr_targets.specs.Target.{Target, rotation_of, IsOneOf}
 use Rattle.lr_rotations.specs.Weave.{Weave, IsFirstOf, FirstWoven}
 use Rattle.lr_targets.proofs.Rotating.{each_turn}
 use Rattle.lr_rotations.proofs.Weaving.{weave_on, weave_own, weave_others}
+use Rattle.lr_mixed.specs.AllTurns.{AllTurnsBy, AllTurnedBy}
+use Rattle.lr_mixed.specs.Seen.{AreLogsSeen}
 
 -- ---- first parts
 
@@ -69,7 +71,7 @@ own_first P us os a = subst (λ xs. Weave P xs (us ++ os)) (append-nil us) (weav
 
 -- ---- the run
 
-module _ (state : Path) (now : Moment) (rules : Rules) (looks : List Entry) (x y : Target) (apart : x.log ≢ y.log) (quiet : AreQuiet looks) (seen : AreSeen rules now.seconds looks (x ∷ y ∷ [])) where
+module _ (state : Path) (clock : Clock) (rules : Rules) (looks : List Entry) (x y : Target) (apart : x.log ≢ y.log) (quiet : AreQuiet looks) (seen : AreLogsSeen rules clock looks (x ∷ y ∷ [])) where
   abbrev targets : List Target
   targets = x ∷ y ∷ []
 
@@ -120,7 +122,7 @@ module _ (state : Path) (now : Moment) (rules : Rules) (looks : List Entry) (x y
     each t (inr (inl is)) = subst SeenFrom is (record { made = vs; first = second; woven = by_second })
     each t (inr (inr none)) = absurd none
 
-    pub both_turn : AllTurns state now rules (looks ++ acts)
+    pub both_turn : AllTurnsBy state clock rules (looks ++ acts)
     both_turn = record { looks = looks; acts = acts; joined = refl; quiet = quiet; targets = targets; seen = seen; all = all; each = each }
 
   -- where all steps were made
@@ -139,6 +141,6 @@ module _ (state : Path) (now : Moment) (rules : Rules) (looks : List Entry) (x y
     whole t (inr (inl is)) = subst IsWhole is (subst (λ steps. Weave (StandsBetween state y targets) steps (filter is_change (us ++ (vs ++ behind)))) (sym second) (by_second us vs behind first_whole second_whole of_state))
     whole t (inr (inr none)) = absurd none
 
-    pub both_turned : (t : AllTurned state now rules (looks ++ (us ++ (vs ++ behind)))) × (t.turns.targets ≡ targets)
+    pub both_turned : (t : AllTurnedBy state clock rules (looks ++ (us ++ (vs ++ behind)))) × (t.turns.targets ≡ targets)
     unfolding both_turn
     both_turned = (record { turns = both_turn us vs behind first_whole second_whole of_state; whole = whole }, refl)

@@ -1,7 +1,8 @@
 -- What the looks show of both logs.
-use Rattle.std.proofs.Common.{◌≡◌, ◌≢◌, inl, inr, ℕ, zero, suc, ◌+◌, refl, sym, ap, subst, arith, Some, None, List, [], ◌∷◌, get_or, Contains, codes, ℤ}
+use Rattle.std.proofs.Common.{◌≡◌, ◌≢◌, inl, inr, ℕ, zero, suc, ◌+◌, refl, sym, ap, subst, arith, Some, None, List, [], ◌∷◌, get_or, Contains, codes}
 use Rattle.std.specs.Prelude.{decimal}
 use Rattle.std.specs.List.Sorted.{IsStrictlyIncreasing}
+use Rattle.lr_rules.specs.declared.clock.Clock.{Clock}
 use Rattle.lr_rules.specs.declared.path.Path.{Path}
 use Rattle.lr_host.specs.declared.thing.Kind.TheVariants as kind
 use Rattle.lr_host.specs.declared.thing.Seen.{Seen}
@@ -18,9 +19,10 @@ use Rattle.lr_family.proofs.Unique.{named_same}
 use Rattle.lr_chain.specs.Rotation.{places_of}
 use Rattle.lr_rotations.specs.Members.{HasName}
 use Rattle.lr_rotations.specs.Shown.{Shown, SawMembers}
-use Rattle.lr_targets.specs.Target.{IsGiven, AreSeen}
+use Rattle.lr_targets.specs.Target.{IsGiven}
 use Rattle.lr_rotations.specs.Weave.{Among}
 use Rattle.lr_targets.proofs.Given.{literal_gives}
+use Rattle.lr_mixed.specs.Seen.{AreLogsSeen}
 use Rattle.lr_examples.specs.Logs.{rule_of, rules, a_log, a_first, a_second, a_count, a_naming, a_stand, a_listed, a_target, b_log, b_count, b_naming, b_stand, b_listed, b_target, file, directory, looks}
 use Rattle.lr_examples.proofs.Naming.{first_name, second_name, first_path, second_path, a_unnumbered, b_unnumbered, a_family, b_family, a_is_ready, b_is_ready}
 
@@ -129,11 +131,11 @@ b_given = record { rule = rule_of 2 b_log b_count; word = b_log; among = (1, ome
 
 -- ---- both
 
-pub both_seen : (now : ℤ) → AreSeen rules now looks (a_target ∷ b_target ∷ [])
+pub both_seen : (clock : Clock) → AreLogsSeen rules clock looks (a_target ∷ b_target ∷ [])
 unfolding a_given b_given
-both_seen now = (
-  record { given = a_given; family = a_family; log_seen = a_seen; seen = a_shown; sights = a_sights; from_is = refl; low = λ high. absurd (cc); ready = a_is_ready; job = λ job is. absurd (cc) },
-  (record { given = b_given; family = b_family; log_seen = b_seen; seen = b_shown; sights = λ m none. absurd none; from_is = refl; low = λ high. absurd (cc); ready = b_is_ready; job = λ job is. absurd (cc) }, tt),
+both_seen clock = (
+  record { given = a_given; log_seen = a_seen; shows = record { family = a_family; seen = a_shown; sights = a_sights; from_is = refl; low = λ high. absurd (cc); ready = a_is_ready }; job = λ job is. absurd (cc) },
+  (record { given = b_given; log_seen = b_seen; shows = record { family = b_family; seen = b_shown; sights = λ m none. absurd none; from_is = refl; low = λ high. absurd (cc); ready = b_is_ready }; job = λ job is. absurd (cc) }, tt),
 )
 
 pub looks_quiet : AreQuiet looks

@@ -1,6 +1,6 @@
 -- A run over two logs: its steps, and its entries as far as it made them.
 use Rattle.std.specs.Prelude.{List, [], ◌∷◌, ◌++◌, Some, None, codes}
-use Rattle.lr_rules.specs.declared.civil.Moment.{Moment}
+use Rattle.lr_rules.specs.declared.clock.Clock.{Clock}
 use Rattle.lr_host.specs.declared.entry.Entry.{Entry}
 use Rattle.lr_host.specs.declared.entry.Entry.TheVariants.{Starts, Ends, Look, Renames, Makes, Appends, Unlinks, SyncsFile, SyncsDir}
 use Rattle.lr_examples.specs.Logs.{state, part, a_log, a_first, a_second, a_third, b_log, b_first, rules, directory, looks}
@@ -16,9 +16,9 @@ b_steps = Renames b_log b_first ∷ []
 abbrev pub steps : List Entry
 steps = a_steps ++ b_steps
 
--- a run that made these steps
-abbrev pub two_logs_run : Moment → List Entry → List Entry
-two_logs_run now made = Look (codes "/s") (Some directory) ∷ Starts state now rules ∷ (looks ++ (made ++ Ends ∷ []))
+-- a run that made these steps, at the moment of this clock
+abbrev pub two_logs_run : Clock → List Entry → List Entry
+two_logs_run clock made = Look (codes "/s") (Some directory) ∷ Starts state clock.now rules ∷ (looks ++ (made ++ Ends ∷ []))
 
 -- the state is written beside itself, and put in its place
 abbrev pub saves : List Entry

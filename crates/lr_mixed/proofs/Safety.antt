@@ -131,7 +131,7 @@ module _ (clock : Clock) (s : LogSet) (state : Path) (rules : Rules) (u v : Past
   either_safe t l same acts q forward w mq none_q = go t.naming.dated refl
     where
       go : (d : Option Format) → t.naming.dated ≡ d → IsSafe s q
-      go None is = own_safe s state clock.now.seconds rules u v looks quiet m begun_u here none_at t (numbered_seen rules clock looks t l is) same acts q (woven_as t acts w) mq none_q
+      go None is = own_safe s state clock.now.seconds rules u v looks quiet m here none_at t (numbered_seen rules clock looks t l is) same acts q (woven_as t acts w) mq none_q
       go (Some format) is = dated_safe t l format is same acts q forward w mq none_q
 
   acts_safe : (ts : List Target) → AreLogsSeen rules clock looks ts → (acts : List Entry) (q : Past) → IsForwardFor clock s v → Each (λ e. IsOfSome ts e ⊎ IsOfState state e) (filter is_change acts)

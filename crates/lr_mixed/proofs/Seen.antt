@@ -8,13 +8,13 @@ use Rattle.lr_host.specs.declared.entry.Entry.{Entry}
 use Rattle.lr_chain.specs.declared.ready.Ready.{Ready}
 use Rattle.lr_dated_chain.specs.Ready.{IsDatedReady}
 use Rattle.lr_dated_ready.proofs.Whole.{ready_back}
-use Rattle.lr_targets.specs.Target.{Target, IsSeen, AreSeen, IsOneOf}
+use Rattle.lr_targets.specs.Target.{Target, IsSeen, IsOneOf}
 use Rattle.lr_targets.proofs.SeenFits.{seen_names}
 use Rattle.lr_dated_run.specs.Own.{HasDatedNames, HasAnyNames, HaveAnyNames}
 use Rattle.lr_mixed.specs.Seen.{IsNumberedSeen, IsDatedSeen, IsSeenBy, IsLogSeen, AreLogsSeen}
 
 module _ (rules : Rules) (clock : Clock) (looks : List Entry) where
-  -- a numbered log was seen as a run with numbered logs alone sees it
+  -- what is known of a numbered log, in one
   pub numbered_seen : (t : Target) → IsLogSeen rules clock looks t → t.naming.dated ≡ None → IsSeen rules clock.now.seconds looks t
   numbered_seen t l none = record { given = l.given; family = n.family; log_seen = l.log_seen; seen = n.seen; sights = n.sights; from_is = n.from_is; low = n.low; ready = n.ready; job = l.job }
     where
@@ -54,18 +54,3 @@ module _ (rules : Rules) (clock : Clock) (looks : List Entry) where
   log_among [] seen t i = absurd i
   log_among (x ∷ xs) seen t (inl is) = subst (IsLogSeen rules clock looks) is seen.0
   log_among (x ∷ xs) seen t (inr i) = log_among xs seen.1 t i
-
-  -- ---- a run with numbered logs alone
-
-  of_numbered : (t : Target) → IsSeen rules clock.now.seconds looks t → IsLogSeen rules clock looks t
-  of_numbered t seen = record {
-    given = seen.given;
-    log_seen = seen.log_seen;
-    shows = subst (λ (d : Option Format). IsSeenBy d seen.given.rule.maxage clock looks t) (sym seen.family.numbered)
-        (record { family = seen.family; seen = seen.seen; sights = seen.sights; from_is = seen.from_is; low = seen.low; ready = seen.ready });
-    job = seen.job;
-  }
-
-  pub of_all_numbered : (ts : List Target) → AreSeen rules clock.now.seconds looks ts → AreLogsSeen rules clock looks ts
-  of_all_numbered [] seen = tt
-  of_all_numbered (t ∷ ts) seen = (of_numbered t seen.0, of_all_numbered ts seen.1)

@@ -1,13 +1,11 @@
--- How a caller comes to the shape of a run.
+-- How a caller comes to the shape of a run that changed nothing.
 use Rattle.std.proofs.Common.{refl, sym, List, [], append-nil}
 use Rattle.lr_rules.specs.declared.clock.Clock.{Clock}
 use Rattle.lr_rules.specs.declared.path.Path.{Path}
 use Rattle.lr_rules.specs.declared.rules.Rules.{Rules}
 use Rattle.lr_host.specs.declared.entry.Entry.{Entry}
 use Rattle.lr_host.specs.Quiet.{AreQuiet}
-use Rattle.lr_targets.specs.AllTurns.{AllTurns}
 use Rattle.lr_mixed.specs.AllTurns.{AllTurnsBy, not_yet, IsWholeRunBy}
-use Rattle.lr_mixed.proofs.Seen.{of_all_numbered}
 
 -- looks alone
 pub looks_turn_by : (state : Path) (clock : Clock) (rules : Rules) (ts : List Entry) → AreQuiet ts → AllTurnsBy state clock rules ts
@@ -15,7 +13,3 @@ looks_turn_by state clock rules ts quiet = record { looks = ts; acts = []; joine
 
 pub quiet_run_by : (clock : Clock) (ts : List Entry) → AreQuiet ts → IsWholeRunBy clock ts
 quiet_run_by clock ts quiet = record { front = ts; rest = []; joined = sym (append-nil ts); quiet = quiet; goes_on = not_yet refl }
-
--- numbered logs alone
-pub numbered_turn : (state : Path) (clock : Clock) (rules : Rules) (ts : List Entry) → AllTurns state clock.now rules ts → AllTurnsBy state clock rules ts
-numbered_turn state clock rules ts t = record { looks = t.looks; acts = t.acts; joined = t.joined; quiet = t.quiet; targets = t.targets; seen = of_all_numbered rules clock t.looks t.targets t.seen; all = t.all; each = t.each }

@@ -36,7 +36,7 @@ use Rattle.lr_mixed.specs.Seen.{IsDatedSeen, IsLogSeen}
 use Rattle.lr_mixed.proofs.Seen.{numbered_seen, dated_seen, dated_names, log_among}
 
 -- what some entries show, more entries do
-shown_more : (n : Naming) (members : List Member) (ts us : List Entry) → ((e : Entry) → IsIn e ts → IsIn e us) → ShownDated n members ts → ShownDated n members us
+pub shown_more : (n : Naming) (members : List Member) (ts us : List Entry) → ((e : Entry) → IsIn e ts → IsIn e us) → ShownDated n members ts → ShownDated n members us
 shown_more n members ts us more s = record {
   dir = (s.dir.0, s.dir.1, more _ s.dir.2);
   names = s.names;

@@ -21,7 +21,7 @@ ghost use Rattle.lr_dated.specs.Stays.{KeepsSafeWhere};
 ghost use Rattle.lr_dated_ready.specs.Ready.{dated_target};
 ghost use Rattle.lr_rotations.specs.Calls.{CanCalls};
 ghost use Rattle.lr_rotations.specs.Rotated.{RotatesAmong};
-ghost use Rattle.lr_targets.specs.AllTurns.{other_paths, AllTurns};
+ghost use Rattle.lr_targets.specs.AllTurns.{other_paths};
 ghost use Rattle.lr_targets.specs.Calls.{calls_of};
 ghost use Rattle.lr_targets.specs.Target.{Target, IsOneOf};
 ghost use Rattle.lr_dated_turned.specs.Rotated.{DatedRotatesAmong};
@@ -76,9 +76,8 @@ pub fn seen_names()
     ensures { (rules : Rules) (clock : Clock) (looks : List Entry) (t : Target) → IsLogSeen rules clock looks t → HasAnyNames t }
 {}
 
-/// A run with numbered logs alone is such a run, by each clock that tells its moment; and so is one that changes nothing.
-pub fn numbered_runs_are_such()
-    ensures numbered { (state : Path) (clock : Clock) (rules : Rules) (ts : List Entry) → AllTurns state clock.now rules ts → AllTurnsBy state clock rules ts }
+/// A run that changes nothing is such a run.
+pub fn quiet_runs_are_such()
     ensures looks { (state : Path) (clock : Clock) (rules : Rules) (ts : List Entry) → AreQuiet ts → AllTurnsBy state clock rules ts }
     ensures quiet { (clock : Clock) (ts : List Entry) → AreQuiet ts → IsWholeRunBy clock ts }
 {}

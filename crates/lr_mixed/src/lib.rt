@@ -7,6 +7,6 @@
 mod laws;
 
 pub use laws::{
-    all_logs_stay_safe, dated_log_turns, numbered_runs_are_such, seen_log_can_be_rotated,
-    seen_names, sets_of_others_are_left, whole_run_rotates_all,
+    all_logs_stay_safe, dated_log_turns, quiet_runs_are_such, seen_log_can_be_rotated, seen_names,
+    sets_of_others_are_left, whole_run_rotates_all,
 };

@@ -1,19 +1,15 @@
--- Where logs don't meet, what the one's rotation changes lies outside of the other's family.
-use Rattle.std.proofs.Common.{◌≡◌, ◌≢◌, inl, inr, ⊎_elim, ℕ, ◌+◌, Bool, true, false, not, cond, bytes_eq, refl, sym, ◌∙◌, subst, Option, Some, None, List, [], ◌∷◌, ◌++◌}
-use Rattle.std.specs.Prelude.{codes}
-use Rattle.std.specs.List.{flat_map}
-use Rattle.std.proofs.lemmas.Slice.Eq.{bytes_eq-Decides}
+-- What a log's rotation changes are names of its own family.
+use Rattle.std.proofs.Common.{◌≡◌, inl, inr, ℕ, ◌+◌, Bool, true, false, not, cond, refl, sym, ◌∙◌, subst, Option, Some, None, List, [], ◌∷◌}
 use Rattle.lr_rules.specs.declared.path.Path.{Path}
 use Rattle.lr_rules.specs.declared.rule.Count.{Count}
 use Rattle.lr_rules.specs.declared.rule.Naming.{Naming}
-use Rattle.lr_rules.specs.Names.{IsOwnName, the_log, a_part, IsName, Meet}
+use Rattle.lr_rules.specs.Names.{IsOwnName, the_log, a_part}
 use Rattle.lr_host.specs.declared.entry.Entry.{Entry}
 use Rattle.lr_host.specs.declared.entry.Entry.TheVariants as entry
 use Rattle.lr_host.specs.declared.entry.Entry.TheVariants.{Renames, Unlinks}
 use Rattle.lr_host.specs.Lists.{IsIn}
 use Rattle.lr_host.specs.Told.{Each}
 use Rattle.lr_host.proofs.Each.{each_append}
-use Rattle.lr_host.proofs.Lists.{in_append}
 use Rattle.lr_laws.specs.Follow.{changed_paths}
 use Rattle.lr_family.specs.Named.{member_name}
 use Rattle.lr_family.specs.Spots.{path_at}
@@ -21,11 +17,10 @@ use Rattle.lr_family.proofs.Numbers.{every_all, every_filter}
 use Rattle.lr_copy.specs.declared.job.Job.{Job}
 use Rattle.lr_copy.specs.Copying.{clearing}
 use Rattle.lr_chain.specs.Rotation.{places_of, is_left, leftovers, kept, retired, leftover_steps, shift_steps, retire_steps}
-use Rattle.lr_targets.specs.AllTurns.{AlsoDoes, IsOf, part_paths, paths_of, paths_of_others, other_paths}
-use Rattle.lr_targets.specs.Apart.{HasNames, HaveNames}
-use Rattle.lr_rotations.specs.Members.{IsFamily, HasName, IsNoMember}
-use Rattle.lr_rotations.specs.Rotated.{AreOutside}
-use Rattle.lr_targets.specs.Target.{Target, transfer_of, rotation_of, IsOneOf}
+use Rattle.lr_targets.specs.AllTurns.{AlsoDoes, IsOf}
+use Rattle.lr_targets.specs.Apart.{HasNames}
+use Rattle.lr_rotations.specs.Members.{IsFamily, HasName}
+use Rattle.lr_targets.specs.Target.{Target, transfer_of, rotation_of}
 use Rattle.lr_rotations.proofs.Fitting.{kept_next, first_named, retire_named}
 use Rattle.lr_rotations.proofs.Members.{IsOfMembers, unlinks_of, moves_of}
 use Rattle.lr_rotations.proofs.Outside.{place_shape, place_name}
@@ -66,7 +61,7 @@ part_own_name log n family first = a_part (member_name n (n.start + 0)) (place_s
 pub part_own : (t : Target) → HasNames t → (job : Job) → t.job ≡ Some job → IsOwnName t.log t.naming job.part
 part_own t h job is = subst (IsOwnName t.log t.naming) (sym (job_part t job h.ready (h.job job is))) (part_own_name t.log t.naming h.family (first_named t.naming t.count (places_of t.stand.members) h.next))
 
-pub to_own : (t : Target) → HasNames t → (job : Job) → t.job ≡ Some job → IsOwnName t.log t.naming job.to
+to_own : (t : Target) → HasNames t → (job : Job) → t.job ≡ Some job → IsOwnName t.log t.naming job.to
 to_own t h job is = member_own t.log t.naming h.family job.to 0 (first_named t.naming t.count (places_of t.stand.members) h.next) (job_target t job h.ready (h.job job is))
 
 transfer_own : (t : Target) → HasNames t → (j : Option Job) → t.job ≡ j → Each (AllOwn t.log t.naming) (transfer_of t.ready j)
@@ -126,40 +121,3 @@ also_own t _ h none x i = absurd none
 pub own_change : (t : Target) (e : Entry) → HasNames t → IsOf t e → AllOwn t.log t.naming e
 own_change t e h (inl i) = each_in (AllOwn t.log t.naming) (rotation_of t) e (own_paths t h) i
 own_change t e h (inr also) = also_own t e h also
-
-in_flat : (log : Path) (n : Naming) (es : List Entry) (x : Path) → Each (AllOwn log n) es → IsIn x (flat_map changed_paths es) → IsOwnName log n x
-in_flat log n [] x a i = absurd i
-in_flat log n (e ∷ es) x a i = ⊎_elim (λ h. a.0 x h) (λ h. in_flat log n es x a.1 h) (in_append x (changed_paths e) (flat_map changed_paths es) i)
-
-in_parts : (t : Target) → HasNames t → (j : Option Job) → t.job ≡ j → (x : Path) → IsIn x (part_paths j) → IsOwnName t.log t.naming x
-in_parts t h None is x i = absurd i
-in_parts t h (Some job) is x (inl same) = subst (IsOwnName t.log t.naming) same (part_own t h job is)
-in_parts t h (Some job) is x (inr none) = absurd none
-
--- all paths of a rotation are own names
-in_own : (t : Target) → HasNames t → (x : Path) → IsIn x (paths_of t) → IsOwnName t.log t.naming x
-in_own t h x (inl is) = the_log (sym is)
-in_own t h x (inr i) = ⊎_elim (λ j. in_parts t h t.job refl x j) (λ j. in_flat t.log t.naming (rotation_of t) x (own_paths t h) j) (in_append x (part_paths t.job) (flat_map changed_paths (rotation_of t)) i)
-
--- ---- outside of a family
-
-module _ (state : Path) (t : Target) (family : IsFamily t.log t.naming) where
-  -- what is no name of the family is outside
-  no_name_outside : (x : Path) → (IsOwnName t.log t.naming x → ⊥) → (x ≢ t.log) × IsNoMember t.naming x
-  no_name_outside x none = ((λ is. none (the_log is)), λ k i is. none (member_own t.log t.naming family x k i is))
-
-  others_out : (ts : List Target) → HaveNames ts → ((x : Target) → IsOneOf x ts → x.log ≢ t.log → Meet x.log x.naming t.log t.naming → ⊥) → (y : Path) → IsIn y (paths_of_others t.log ts) → IsOwnName t.log t.naming y → ⊥
-  others_out [] h apart y i own = i
-  others_out (x ∷ xs) h apart y i own = go (λ i. others_out xs h.1 (λ z j. apart z (inr j)) y i own) (bytes_eq x.log t.log) refl i
-    where
-      differ : bytes_eq x.log t.log ≡ false → x.log ≢ t.log
-      differ e same = let yes : bytes_eq x.log t.log ≡ true = (bytes_eq-Decides x.log t.log).1 same in cc
-
-      go : (IsIn y (paths_of_others t.log xs) → ⊥) → (b : Bool) → bytes_eq x.log t.log ≡ b → IsIn y (cond b (paths_of_others t.log xs) (paths_of x ++ paths_of_others t.log xs)) → ⊥
-      go further true e i = further i
-      go further false e i = ⊎_elim (λ j. apart x (inl refl) (differ e) (y, inl (in_own x h.0 y j, inl own))) further (in_append y (paths_of x) (paths_of_others t.log xs) i)
-
-  pub outside : (ts : List Target) → HaveNames ts → ((x : Target) → IsOneOf x ts → x.log ≢ t.log → Meet x.log x.naming t.log t.naming → ⊥) → (IsName t.log t.naming state → ⊥) → (IsName t.log t.naming (state ++ codes ".tmp") → ⊥) → AreOutside (other_paths state t.log ts) t.log t.naming
-  outside ts h apart no_state no_part x (inl is) = no_name_outside x (λ own. no_state (inl (subst (IsOwnName t.log t.naming) (sym is) own)))
-  outside ts h apart no_state no_part x (inr (inl is)) = no_name_outside x (λ own. no_part (inl (subst (IsOwnName t.log t.naming) (sym is) own)))
-  outside ts h apart no_state no_part x (inr (inr i)) = no_name_outside x (λ own. others_out ts h apart x i own)

@@ -1,30 +1,22 @@
--- Sets of other logs are left as they were.
-use Rattle.std.proofs.Common.{◌≡◌, ◌≢◌, Bool, true, false, cond, refl, sym, ◌∙◌, ap, subst, List, ◌∷◌, ◌++◌, reverse, ℤ, Some}
+-- A set is left as it was where all changes lie apart of it.
+use Rattle.std.proofs.Common.{◌≡◌, Bool, true, false, cond, refl, sym, ◌∙◌, ap, subst, List, ◌∷◌, ◌++◌, reverse, ℤ, Some}
 use Rattle.std.specs.Prelude.{filter}
 use Rattle.std.proofs.lemmas.List.Elements.{filter-append}
 use Rattle.lr_rules.specs.declared.path.Path.{Path}
-use Rattle.lr_rules.specs.declared.civil.Moment.{Moment}
-use Rattle.lr_rules.specs.declared.rules.Rules.{Rules}
 use Rattle.lr_host.specs.declared.thing.Thing.TheVariants as thing
 use Rattle.lr_host.specs.declared.entry.Entry.{Entry}
 use Rattle.lr_host.specs.declared.entry.Entry.TheVariants as entry
 use Rattle.lr_host.specs.declared.entry.Entry.TheVariants.{Renames, Unlinks}
 use Rattle.lr_host.specs.World.{Past, ◌▸◌, world, names, put}
-use Rattle.lr_host.specs.Opening.{IsJournal}
-use Rattle.lr_host.specs.Safe.{IsSafe}
 use Rattle.lr_host.specs.Sets.{LogSet, in_set}
-use Rattle.lr_host.specs.Steady.{IsSteady, NoneAttached}
+use Rattle.lr_host.specs.Steady.{NoneAttached}
 use Rattle.lr_host.specs.Steps.{is_change}
 use Rattle.lr_host.specs.Told.{Each, IsTools, Made, at_first, by_writer, by_tool}
 use Rattle.lr_host.proofs.Each.{each_reverse, filter_reverse}
 use Rattle.lr_host.proofs.Names.{put_other}
 use Rattle.lr_host.specs.Quiet.{AreQuiet}
 use Rattle.lr_host.proofs.Quiet.{looked_names, no_disk_change, quiet_changes}
-use Rattle.lr_host.proofs.Steady.{none_attached}
 use Rattle.lr_laws.proofs.Writing.{attached_before, wrote_member}
-use Rattle.lr_targets.specs.AllTurns.{AllTurns}
-use Rattle.lr_targets.specs.Target.{Target, IsOneOf}
-use Rattle.lr_targets.proofs.Safety.{acts_apart}
 use Rattle.lr_rotations.proofs.Weaving.{IsApart, keyed}
 
 clash : (b : Bool) → b ≡ true → b ≡ false → ⊥
@@ -62,8 +54,3 @@ apart_left s p q tail looks acts joined quiet out m none y k key = same_walk s y
 
     apart : Each (IsApart s) (filter is_change (reverse tail))
     apart = subst (Each (IsApart s)) (sym (filter_reverse is_change tail)) (each_reverse (IsApart s) (filter is_change tail) (subst (Each (IsApart s)) (sym changes) out))
-
-pub others_left : (s : LogSet) (u q : Past) (state : Path) (now : Moment) (rules : Rules) (tail : List Entry) (t : AllTurns state now rules tail) → Made (u ▸ entry.Starts state now rules) (reverse tail) q
-    → IsJournal (u ▸ entry.Starts state now rules) → IsSafe s (u ▸ entry.Starts state now rules) → IsSteady s q → ((x : Target) → IsOneOf x t.targets → x.log ≢ s.log) → (y : Path) (k : ℤ) → s.key y ≡ Some k → names (world q) y ≡ names (world u) y
-others_left s u q state now rules tail t m journal safe st ne y k key =
-    apart_left s (u ▸ entry.Starts state now rules) q tail t.looks t.acts t.joined t.quiet (acts_apart s u q state now rules tail t m journal safe st ne) m (none_attached s q st) y k key

@@ -6,4 +6,3 @@ pub mod PartFile
 pub mod Rotating
 pub mod Safety
 pub mod SeenFits
-pub mod Shapes

@@ -1,5 +1,5 @@
 -- What stands between a log's own steps is on the paths of other logs and of the state.
-use Rattle.std.proofs.Common.{◌≡◌, ◌⊎◌, inl, inr, Bool, true, false, cond, bytes_eq, refl, sym, ◌∙◌, ap, subst, Option, Some, None, List, [], ◌∷◌, ◌++◌, append_assoc, ℤ}
+use Rattle.std.proofs.Common.{◌≡◌, ◌⊎◌, inl, inr, Bool, true, false, cond, bytes_eq, refl, sym, ◌∙◌, ap, subst, Option, Some, None, List, [], ◌∷◌, ◌++◌, append_assoc}
 use Rattle.std.specs.Prelude.{filter}
 use Rattle.std.specs.List.{flat_map}
 use Rattle.std.proofs.lemmas.Slice.Eq.{bytes_eq-Decides}
@@ -20,9 +20,9 @@ use Rattle.lr_host.proofs.Quiet.{disk_of_changes, quiet_still, still_both}
 use Rattle.lr_laws.specs.Follow.{changed_paths}
 use Rattle.lr_copy.specs.declared.job.Job.{Job}
 use Rattle.lr_chain.specs.Rotation.{places_of}
-use Rattle.lr_targets.specs.AllTurns.{IsStatePath, IsOfState, IsPartFile, AlsoDoes, IsOf, IsOfOther, StandsBetween, part_paths, paths_of, paths_of_others, other_paths, AllTurned}
+use Rattle.lr_targets.specs.AllTurns.{IsStatePath, IsOfState, IsPartFile, AlsoDoes, IsOf, IsOfOther, StandsBetween, part_paths, paths_of, paths_of_others, other_paths}
 use Rattle.lr_rotations.specs.Rotated.{IsOn, MakesAt, IsBeside, RotatesAmong}
-use Rattle.lr_targets.specs.Target.{Target, rotation_of, IsSeen, AreSeen, IsOneOf}
+use Rattle.lr_targets.specs.Target.{Target, rotation_of, IsSeen}
 use Rattle.lr_rotations.specs.Weave.{Among, Weave}
 use Rattle.lr_rotations.proofs.Fed.{IsTurn}
 use Rattle.lr_rotations.proofs.Moments.{shown_in}
@@ -159,7 +159,7 @@ disk_changes : (paths : List Path) (x : Target) (acts : List Entry) → Weave (I
 disk_changes paths x acts w = sym (all_pass is_disk_change (filter is_change acts) (weave_each (IsBeside paths x.log) (λ e. is_disk_change e ≡ true) (rotation_of x) (filter is_change acts) w
     (each_turn (λ e. is_disk_change e ≡ true) (λ x. refl) (λ x y. refl) x) (λ e h. beside_changes paths x.log e h))) ∙ disk_of_changes acts
 
--- ---- a whole run
+-- ---- one log of a run
 
 -- what stands among some stands among more
 pub among_behind : (P : List Entry → Type 0) (e : Entry) (xs ys : List Entry) → Among P ys → Among P (xs ++ e ∷ ys)
@@ -171,11 +171,6 @@ among_behind P e xs ys a = record {
   is = a.is;
 }
 
-pub seen_one : (rules : Rules) (now : ℤ) (looks : List Entry) (ts : List Target) → AreSeen rules now looks ts → (t : Target) → IsOneOf t ts → IsSeen rules now looks t
-seen_one rules now looks [] seen t i = absurd i
-seen_one rules now looks (x ∷ xs) seen t (inl is) = subst (IsSeen rules now looks) is seen.0
-seen_one rules now looks (x ∷ xs) seen t (inr i) = seen_one rules now looks xs seen.1 t i
-
 -- the changes of the disk are its rotation, with others on their paths between
 pub rotates_beside : (state : Path) (x : Target) (ts : List Target) (acts : List Entry) → x.job ≡ None → Weave (StandsBetween state x ts) (rotation_of x) (filter is_change acts) → Weave (IsBeside (other_paths state x.log ts) x.log) (rotation_of x) (filter is_disk_change acts)
 rotates_beside state x ts acts none w = subst (Weave (IsBeside paths x.log) (rotation_of x)) (disk_changes paths x acts on) on
@@ -186,7 +181,7 @@ rotates_beside state x ts acts none w = subst (Weave (IsBeside paths x.log) (rot
     on : Weave (IsBeside paths x.log) (rotation_of x) (filter is_change acts)
     on = weave_as (StandsBetween state x ts) (IsBeside paths x.log) (rotation_of x) (filter is_change acts) (λ e h. between_beside state x ts e none h) w
 
--- one log of a run
+-- where its rotation is whole
 pub one_rotates : (state : Path) (now : Moment) (rules : Rules) (reads tail looks acts : List Entry) (ts : List Target) (x : Target) → tail ≡ looks ++ acts → AreQuiet reads → AreQuiet looks → IsSeen rules now.seconds looks x
     → Weave (StandsBetween state x ts) (rotation_of x) (filter is_change acts) → x.job ≡ None → RotatesAmong (other_paths state x.log ts) x.log x.naming x.count x.from x.stand (reads ++ entry.Starts state now rules ∷ tail)
 one_rotates state now rules reads tail looks acts ts x joined read quiet seen w none = record {
@@ -202,8 +197,3 @@ one_rotates state now rules reads tail looks acts ts x joined read quiet seen w 
   where
     starts : Entry
     starts = entry.Starts state now rules
-
-pub run_rotates : (state : Path) (now : Moment) (rules : Rules) (reads tail : List Entry) (t : AllTurned state now rules tail) (x : Target) → AreQuiet reads → IsOneOf x t.turns.targets → x.job ≡ None
-    → RotatesAmong (other_paths state x.log t.turns.targets) x.log x.naming x.count x.from x.stand (reads ++ entry.Starts state now rules ∷ tail)
-run_rotates state now rules reads tail t x read i none =
-    one_rotates state now rules reads tail t.turns.looks t.turns.acts t.turns.targets x t.turns.joined read t.turns.quiet (seen_one rules now.seconds t.turns.looks t.turns.targets t.turns.seen x i) (t.whole x i) none

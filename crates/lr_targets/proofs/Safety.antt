@@ -1,4 +1,4 @@
--- Each set stays safe over a run that rotates its logs behind all its looks.
+-- The set of a numbered log stays safe where a run rotates the log behind all its looks.
 use Rattle.std.proofs.Common.{◌≡◌, ◌≢◌, ◌⊎◌, inl, inr, ⊎_elim, ℕ, Bool, true, false, bytes_eq, refl, sym, ◌∙◌, ap, subst, Option, Some, None, List, [], ◌∷◌, ◌++◌, reverse, append-nil, ℤ}
 use Rattle.std.specs.Prelude.{filter, Contains}
 use Rattle.std.proofs.lemmas.List.{reverse-append, reverse-reverse}
@@ -9,7 +9,7 @@ use Rattle.lr_rules.specs.declared.rule.Naming.{Naming}
 use Rattle.lr_rules.specs.declared.rule.Rule.{Rule}
 use Rattle.lr_rules.specs.declared.rules.Rules.{Rules}
 use Rattle.lr_rules.specs.Match.{RuleGives}
-use Rattle.lr_rules.specs.Names.{IsName, Meet}
+use Rattle.lr_rules.specs.Names.{IsName}
 use Rattle.lr_host.specs.declared.entry.Entry.{Entry}
 use Rattle.lr_host.specs.declared.entry.Entry.TheVariants as entry
 use Rattle.lr_host.specs.declared.journal.Journal.{Journal}
@@ -21,40 +21,36 @@ use Rattle.lr_host.specs.Opening.{IsJournal}
 use Rattle.lr_host.specs.Released.{ByAge}
 use Rattle.lr_host.specs.Quiet.{IsQuiet, AreQuiet}
 use Rattle.lr_host.specs.Sets.{LogSet, in_set}
-use Rattle.lr_host.specs.Runs.{rules_of, state_of, SomeRule, StoodAtStart, has_begun}
+use Rattle.lr_host.specs.Runs.{rules_of, state_of, SomeRule, has_begun}
 use Rattle.lr_host.specs.Safe.{IsSafe, KeepsSafe}
 use Rattle.lr_host.specs.Steady.{IsSteady, IsSteadyAt, NoneAttached}
 use Rattle.lr_host.specs.Looks.{Sees, IsFile}
-use Rattle.lr_host.proofs.Each.{filter_reverse, each_reverse, each_as}
+use Rattle.lr_host.proofs.Each.{filter_reverse, each_reverse}
 use Rattle.lr_host.proofs.Left.{later_fit}
 use Rattle.lr_host.proofs.Made.{Cut, cut, CutAt, cut_one, made_journal, made_on}
 use Rattle.lr_host.proofs.Steady.{steady_before, steady_at, none_attached}
-use Rattle.lr_laws.specs.Rotation.{IsAside, IsRotation, LogFits}
+use Rattle.lr_laws.specs.Rotation.{IsRotation, LogFits}
 use Rattle.lr_laws.specs.Stays.{Rotates}
-use Rattle.lr_laws.proofs.Calls.{aside_walked, rotation_filter, later_rotation}
-use Rattle.lr_laws.proofs.Outside.{in_set_own, apart_outside}
+use Rattle.lr_laws.proofs.Calls.{rotation_filter, later_rotation}
+use Rattle.lr_laws.proofs.Outside.{in_set_own}
 use Rattle.lr_laws.proofs.Stated.{quiet_safe}
 use Rattle.lr_laws.proofs.Walk.{walk, log_filter}
 use Rattle.lr_chain.specs.Rotation.{places_of, rotation}
-use Rattle.lr_targets.specs.AllTurns.{IsStatePath, IsOfState, IsOf, IsOfSome, IsOfOther, StandsBetween, AllTurns, MayTurnAll, not_yet, started, IsWholeRun}
+use Rattle.lr_targets.specs.AllTurns.{IsStatePath, IsOfState}
 use Rattle.lr_targets.specs.Apart.{HasNames}
 use Rattle.lr_rotations.specs.Members.{IsFamily, HasName, AreThere, HaveNext, MayGo}
-use Rattle.lr_rotations.specs.Rotated.{MakesAt}
 use Rattle.lr_rotations.specs.Shown.{Shown, SawMembers}
-use Rattle.lr_targets.specs.Target.{Target, rotation_of, IsSeen, AreSeen, IsOneOf}
+use Rattle.lr_targets.specs.Target.{Target, rotation_of, IsSeen, IsOneOf}
 use Rattle.lr_rotations.specs.Weave.{Among, FirstWoven}
 use Rattle.lr_rotations.proofs.Aged.{looked_run, may_go}
-use Rattle.lr_targets.proofs.Apart.{AllOwn, own_change}
 use Rattle.lr_rotations.proofs.Fitting.{fits}
-use Rattle.lr_targets.proofs.Given.{gives, no_meet, naming_same, no_copy, by_rule}
+use Rattle.lr_targets.proofs.Given.{gives, naming_same, no_copy, by_rule}
 use Rattle.lr_rotations.proofs.Moments.{saw_file, shown_members}
-use Rattle.lr_targets.proofs.Others.{IsFileChange, own_turns, also_made, seen_one}
-use Rattle.lr_rotations.proofs.Over.{first_aside}
 use Rattle.lr_targets.proofs.Rotating.{rotation_is}
 use Rattle.lr_targets.proofs.SeenFits.{seen_names}
 use Rattle.lr_rotations.proofs.Still.{IsStill, quiet_safe_on, made_still}
 use Rattle.lr_rotations.proofs.Turning.{is_one}
-use Rattle.lr_rotations.proofs.Weaving.{weave_as, weave_back, IsApart, IsApartOrMakes, apart_aside, IsWoven, woven}
+use Rattle.lr_rotations.proofs.Weaving.{weave_back, IsApart, IsApartOrMakes, IsWoven, woven}
 
 -- ---- the state's path
 
@@ -101,15 +97,7 @@ module _ (s : LogSet) (state : Path) (now : ℤ) (rules : Rules) (v : Past) (her
   state_apart (entry.Unlinks x) h = state_out x h
   state_apart _ h = absurd h
 
--- ---- what is done to a log whose names the set doesn't meet
-
-own_apart : (s : LogSet) (t : Target) (e : Entry) → (Meet s.log s.naming t.log t.naming → ⊥) → IsFileChange e → AllOwn t.log t.naming e → IsApart s e
-own_apart s t (entry.Renames from to) not c own = (apart_outside s t.log t.naming from not (inl (own from (inl refl))), apart_outside s t.log t.naming to not (inl (own to (inr (inl refl)))))
-own_apart s t (entry.Unlinks x) not c own = apart_outside s t.log t.naming x not (inl (own x (inl refl)))
-own_apart s t (entry.Makes x mode) not c own = apart_outside s t.log t.naming x not (inl (own x (inl refl)))
-own_apart s t (entry.Appends x bytes) not c own = apart_outside s t.log t.naming x not (inl (own x (inl refl)))
-own_apart s t (entry.Truncates x) not c own = apart_outside s t.log t.naming x not (inl (own x (inl refl)))
-own_apart s t _ not c own = absurd c
+-- ---- the set's own log
 
 -- the set's log is among these, or it isn't
 pub find : (s : LogSet) (ts : List Target) → ((t : Target) × IsOneOf t ts × (t.log ≡ s.log)) ⊎ ((t : Target) → IsOneOf t ts → t.log ≢ s.log)
@@ -120,13 +108,12 @@ find s (t ∷ ts) = ⊎_elim (λ same. inl (t, inl refl, (bytes_eq-Decides t.log
     none_of differ ne x (inl is) same = let e : bytes_eq t.log s.log ≡ true = (bytes_eq-Decides t.log s.log).1 (ap (λ (y : Target). y.log) is ∙ same) in cc
     none_of differ ne x (inr i) same = ne x i same
 
--- ---- what the looks tell of one log
-
+-- what the looks tell of one log
 record Known (t : Target) (v : Past) : Type 0 where
   file : IsFileAt (names (world v)) t.log
   names_all : HasNames t
 
-module _ (s : LogSet) (state : Path) (now : ℤ) (rules : Rules) (u v : Past) (looks : List Entry) (quiet : AreQuiet looks) (m : Made u (reverse looks) v) (begun : (x : Path) → StoodAtStart x u → IsFileAt (names (world u)) x) (here : Here s state now rules v) (none_at : NoneAttached s v) where
+module _ (s : LogSet) (state : Path) (now : ℤ) (rules : Rules) (u v : Past) (looks : List Entry) (quiet : AreQuiet looks) (m : Made u (reverse looks) v) (here : Here s state now rules v) (none_at : NoneAttached s v) where
   in_order : reverse (reverse looks) ≡ looks
   in_order = reverse-reverse looks
 
@@ -135,27 +122,6 @@ module _ (s : LogSet) (state : Path) (now : ℤ) (rules : Rules) (u v : Past) (l
 
   known : (t : Target) → IsSeen rules now looks t → Known t v
   known t seen = record { file = saw_file u v (reverse looks) t.log m quiet_in_order (subst (Among (Sees t.log IsFile)) (sym in_order) seen.log_seen); names_all = seen_names rules now looks t seen }
-
-  -- all that is done to another log is apart
-  other_apart : (t : Target) → IsSeen rules now looks t → t.log ≢ s.log → (e : Entry) → IsOf t e → IsApart s e
-  other_apart t seen other e h = own_apart s t e meets_not (own_turns t e h) (own_change t e k.names_all h)
-    where
-      k : Known t v
-      k = known t seen
-
-      meets_not : Meet s.log s.naming t.log t.naming → ⊥
-      meets_not = no_meet s u v rules.sets looks t.log t.naming t.count t.job quiet m begun here.journal here.steady here.rules_are seen.given k.file other
-
-  others_apart : (ts : List Target) → AreSeen rules now looks ts → (e : Entry) → IsOfOther s.log ts e → IsApart s e
-  others_apart [] seen e h = absurd h
-  others_apart (t ∷ ts) seen e (inl h) = other_apart t seen.0 h.0 e h.1
-  others_apart (t ∷ ts) seen e (inr h) = others_apart ts seen.1 e h
-
-  -- where none of the logs is the set's
-  all_apart : (ts : List Target) → AreSeen rules now looks ts → ((t : Target) → IsOneOf t ts → t.log ≢ s.log) → (e : Entry) → IsOfSome ts e → IsApart s e
-  all_apart [] seen ne e h = absurd h
-  all_apart (t ∷ ts) seen ne e (inl h) = other_apart t seen.0 (ne t (inl refl)) e h
-  all_apart (t ∷ ts) seen ne e (inr h) = all_apart ts seen.1 (λ x i. ne x (inr i)) e h
 
   -- the set's own log isn't copied
   not_copied : (t : Target) → IsSeen rules now looks t → t.log ≡ s.log → t.job ≡ None
@@ -224,24 +190,6 @@ module _ (s : LogSet) (state : Path) (now : ℤ) (rules : Rules) (u v : Past) (l
           (later_rotation s v rotates.limit (reverse w.first.0) (reverse w.made) (subst (IsRotation s v rotates.limit) split rotates.rotation))
           (later_fit (names (world v)) (reverse w.first.0) (reverse w.made) (subst (FitAll (names (world v))) split (fits (names (world v)) t.log t.naming t.count places t.from seen.family k.file stands k.names_all.next k.names_all.going)))
 
-  -- behind all acts
-  acts_safe : (ts : List Target) → AreSeen rules now looks ts → (acts : List Entry) (q : Past) → Each (λ e. IsOfSome ts e ⊎ IsOfState state e) (filter is_change acts)
-      → ((t : Target) → IsOneOf t ts → FirstWoven (StandsBetween state t ts) (rotation_of t) (filter is_change acts)) → Made v (reverse acts) q → NoneAttached s q → IsSafe s q
-  acts_safe ts seen acts q all each mq none_q = ⊎_elim own others (find s ts)
-    where
-      own : ((t : Target) × IsOneOf t ts × (t.log ≡ s.log)) → IsSafe s q
-      own f = own_safe f.0 (seen_one rules now looks ts seen f.0 f.1) f.2 acts q (record { made = (each f.0 f.1).made; first = (each f.0 f.1).first; woven = weave_as _ (IsApartOrMakes s) _ _ apart (each f.0 f.1).woven }) mq none_q
-        where
-          apart : (e : Entry) → StandsBetween state f.0 ts e → IsApartOrMakes s e
-          apart e (inl o) = inl (others_apart ts seen e (subst (λ (x : Path). IsOfOther x ts e) f.2 o))
-          apart e (inr (inl o)) = inl (state_apart s state now rules v here e o)
-          apart e (inr (inr also)) = inr (subst (λ (x : Path). MakesAt x e) f.2 (also_made f.0 e (not_copied f.0 (seen_one rules now looks ts seen f.0 f.1) f.2) also))
-
-      others : ((t : Target) → IsOneOf t ts → t.log ≢ s.log) → IsSafe s q
-      others ne = aside_walked s v q (reverse acts) here.journal here.safe mq
-          (first_aside s (filter is_change acts) acts v q ([], sym (append-nil (filter is_change acts)))
-          (each_as (λ e. IsOfSome ts e ⊎ IsOfState state e) (IsAside s) (filter is_change acts) (λ e h. apart_aside s e (⊎_elim (λ o. all_apart ts seen ne e o) (λ o. state_apart s state now rules v here e o) h)) all) mq) none_q
-
 -- ---- the whole run
 
 -- the moment behind the looks
@@ -281,20 +229,6 @@ looked s u q state now rules tail looks acts joined quiet m journal safe st = re
       state_is = state_same b k.mid (reverse looks) k.first quiet_back;
       not_begun = still.begun refl;
     }
-
-tail_safe : (s : LogSet) (u q : Past) (state : Path) (now : Moment) (rules : Rules) (tail : List Entry) → AllTurns state now rules tail → Made (u ▸ entry.Starts state now rules) (reverse tail) q
-    → IsJournal (u ▸ entry.Starts state now rules) → IsSafe s (u ▸ entry.Starts state now rules) → IsSteady s q → IsSafe s q
-tail_safe s u q state now rules tail t m journal safe st =
-    let k = looked s u q state now rules tail t.looks t.acts t.joined t.quiet m journal safe st in
-    acts_safe s state now.seconds rules (u ▸ entry.Starts state now rules) k.mid t.looks t.quiet k.first (λ x h. h) k.here k.none t.targets t.seen t.acts q t.all t.each k.second (none_attached s q st)
-
--- where none of the logs is the set's, each change lies apart of it
-pub acts_apart : (s : LogSet) (u q : Past) (state : Path) (now : Moment) (rules : Rules) (tail : List Entry) (t : AllTurns state now rules tail) → Made (u ▸ entry.Starts state now rules) (reverse tail) q
-    → IsJournal (u ▸ entry.Starts state now rules) → IsSafe s (u ▸ entry.Starts state now rules) → IsSteady s q → ((x : Target) → IsOneOf x t.targets → x.log ≢ s.log) → Each (IsApart s) (filter is_change t.acts)
-acts_apart s u q state now rules tail t m journal safe st ne =
-    let k = looked s u q state now rules tail t.looks t.acts t.joined t.quiet m journal safe st in
-    each_as (λ e. IsOfSome t.targets e ⊎ IsOfState state e) (IsApart s) (filter is_change t.acts)
-    (λ e h. ⊎_elim (λ o. all_apart s state now.seconds rules (u ▸ entry.Starts state now rules) k.mid t.looks t.quiet k.first (λ x h. h) k.here k.none t.targets t.seen ne e o) (λ o. state_apart s state now.seconds rules k.mid k.here e o) h) t.all
 
 -- the moment as the run begins, behind what was read
 pub record Begun (s : LogSet) (p q : Past) (front tail : List Entry) (state : Path) (now : Moment) (rules : Rules) : Type 0 where
@@ -339,15 +273,8 @@ pub unbegun_safe : (s : LogSet) (p q : Past) (es front rest : List Entry) → re
 unbegun_safe s p q es front rest joined none quiet journal safe m st = quiet_safe_on s p q front quiet journal safe
     (subst (λ (ts : List Entry). Made p ts q) (sym (reverse-reverse es) ∙ ap reverse (joined ∙ (ap (λ (xs : List Entry). front ++ xs) none ∙ append-nil front))) m) st
 
-pub run_safe : (s : LogSet) (p q : Past) (es : List Entry) → IsJournal p → IsSafe s p → Made p es q → IsWholeRun (reverse es) → IsSteady s q → IsSafe s q
-run_safe s p q es journal safe m run st = go run.goes_on
-  where
-    go : MayTurnAll run.rest → IsSafe s q
-    go (not_yet none) = unbegun_safe s p q es run.front run.rest run.joined none run.quiet journal safe m st
-    go (started state now rules tail is tail_is) =
-        let b = begun s p q es run.front tail state now rules (run.joined ∙ ap (λ (xs : List Entry). run.front ++ xs) is) run.quiet journal safe m st in
-        tail_safe s b.at q state now rules tail tail_is b.behind b.journal b.safe st
-
-pub call_safe : (o n : Option Journal) → Left IsWholeRun o n → KeepsSafe o n
-call_safe o n not_told = tt
-call_safe o n (is_told {j = j} {k = k} {es = es} m run) = λ s journal safe st. run_safe s (past j) (past k) es journal safe m run st
+-- a call that only looked keeps each set safe
+pub quiet_call_safe : (o n : Option Journal) → Left AreQuiet o n → KeepsSafe o n
+quiet_call_safe o n not_told = tt
+quiet_call_safe o n (is_told {j = j} {k = k} {es = es} m quiet) = λ s journal safe st.
+    quiet_safe_on s (past j) (past k) (reverse es) quiet journal safe (subst (λ (ts : List Entry). Made (past j) ts (past k)) (sym (reverse-reverse es)) m) st

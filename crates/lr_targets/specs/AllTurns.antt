@@ -1,19 +1,13 @@
--- The entries of a run that looks at all its logs first, and rotates them then.
-use Rattle.std.specs.Prelude.{◌≡◌, ◌≢◌, ◌⊎◌, List, [], ◌∷◌, ◌++◌, filter, codes, cond, bytes_eq, Option, Some, None}
+-- What a run does to its logs: the entries of each rotation, of the others, and of the state.
+use Rattle.std.specs.Prelude.{◌≡◌, ◌≢◌, ◌⊎◌, List, [], ◌∷◌, ◌++◌, codes, cond, bytes_eq, Option, Some, None}
 use Rattle.std.specs.List.{flat_map}
 use Rattle.lr_rules.specs.declared.path.Path.{Path}
-use Rattle.lr_rules.specs.declared.civil.Moment.{Moment}
-use Rattle.lr_rules.specs.declared.rules.Rules.{Rules}
 use Rattle.lr_host.specs.declared.entry.Entry.{Entry}
 use Rattle.lr_host.specs.declared.entry.Entry.TheVariants as entry
 use Rattle.lr_host.specs.Lists.{IsIn}
-use Rattle.lr_host.specs.Quiet.{AreQuiet}
-use Rattle.lr_host.specs.Steps.{is_change}
-use Rattle.lr_host.specs.Told.{Each}
 use Rattle.lr_laws.specs.Follow.{changed_paths}
 use Rattle.lr_copy.specs.declared.job.Job.{Job}
-use Rattle.lr_targets.specs.Target.{Target, rotation_of, AreSeen, IsOneOf}
-use Rattle.lr_rotations.specs.Weave.{Weave, FirstWoven}
+use Rattle.lr_targets.specs.Target.{Target, rotation_of}
 
 -- the path is the state's, or that of its part file
 abbrev pub IsStatePath : Path → Path → Type 0
@@ -76,32 +70,3 @@ paths_of_others log (t ∷ ts) = cond (bytes_eq t.log log) (paths_of_others log 
 
 abbrev pub other_paths : Path → Path → List Target → List Path
 other_paths state log targets = state ∷ (state ++ codes ".tmp") ∷ paths_of_others log targets
-
--- All logs were looked at while nothing was changed. Of the changes behind that, each is of the rotation of one of the logs, or the state's; seen from each log, they are a first part of its own renames and unlinks, in order, with the changes of others between, and what its rotation does besides.
-pub record AllTurns (state : Path) (now : Moment) (rules : Rules) (ts : List Entry) : Type 0 where
-  pub looks : List Entry
-  pub acts : List Entry
-  pub joined : ts ≡ looks ++ acts
-  pub quiet : AreQuiet looks
-  pub targets : List Target
-  pub seen : AreSeen rules now.seconds looks targets
-  pub all : Each (λ e. IsOfSome targets e ⊎ IsOfState state e) (filter is_change acts)
-  pub each : (t : Target) → IsOneOf t targets → FirstWoven (StandsBetween state t targets) (rotation_of t) (filter is_change acts)
-
--- Each log was rotated whole: its renames and unlinks stand in order, with the changes of others between, and what its rotation does besides.
-pub record AllTurned (state : Path) (now : Moment) (rules : Rules) (ts : List Entry) : Type 0 where
-  pub turns : AllTurns state now rules ts
-  pub whole : (t : Target) → IsOneOf t turns.targets → Weave (StandsBetween state t turns.targets) (rotation_of t) (filter is_change turns.acts)
-
--- What a run did behind what it read: nothing more, or it started, looked, and rotated.
-pub data MayTurnAll (ts : List Entry) : Type 0 where
-  not_yet : ts ≡ [] → MayTurnAll ts
-  started : (state : Path) (now : Moment) (rules : Rules) (tail : List Entry) → ts ≡ entry.Starts state now rules ∷ tail → AllTurns state now rules tail → MayTurnAll ts
-
--- The entries of a run, in order, as far as it came.
-pub record IsWholeRun (ts : List Entry) : Type 0 where
-  pub front : List Entry
-  pub rest : List Entry
-  pub joined : ts ≡ front ++ rest
-  pub quiet : AreQuiet front
-  pub goes_on : MayTurnAll rest

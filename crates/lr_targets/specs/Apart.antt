@@ -1,5 +1,5 @@
--- Logs whose rotations have names for all their members.
-use Rattle.std.specs.Prelude.{List, [], ◌∷◌, All}
+-- A log whose rotation has names for all its members, which are numbered.
+use Rattle.std.specs.Prelude.{All}
 use Rattle.lr_chain.specs.Rotation.{places_of}
 use Rattle.lr_chain.specs.Standing.{AreGoing}
 use Rattle.lr_rotations.specs.Members.{IsFamily, HasName, HaveNext}
@@ -13,7 +13,3 @@ pub record HasNames (t : Target) : Type 0 where
   pub going : AreGoing t.count (places_of t.stand.members) t.from
   pub ready : HasReady t
   pub job : HasJob t
-
-abbrev pub HaveNames : List Target → Type 0
-HaveNames [] = Unit {0}
-HaveNames (t ∷ ts) = HasNames t × HaveNames ts

@@ -96,7 +96,7 @@ HasJob t = (job : Job) → t.job ≡ Some job → IsJob t job
 abbrev pub IsJobOf : Target → List Entry → Type 0
 IsJobOf t looks = (job : Job) → t.job ≡ Some job → IsJob t job × (job.stale ≡ true → Among (Sees job.part IsFile) looks)
 
--- A word of a rule gives the log; it was seen as a file, and its members were, wherever these looks stand. Its rotation is that of the members that were seen, of which those go that the rule's count and age let go at this moment, in seconds; and so is its copy.
+-- Of a log with numbers: a word of a rule gives the log; it was seen as a file, and its members were, wherever these looks stand. Its rotation is that of the members that were seen, of which those go that the rule's count and age let go at this moment, in seconds; and so is its copy.
 pub record IsSeen (rules : Rules) (now : ℤ) (looks : List Entry) (t : Target) : Type 0 where
   pub given : IsGiven rules.sets looks t.log t.naming t.count t.job
   pub family : IsFamily t.log t.naming
@@ -107,10 +107,6 @@ pub record IsSeen (rules : Rules) (now : ℤ) (looks : List Entry) (t : Target) 
   pub low : IsOneTooHigh t.naming t.count t.stand.members → ⊥
   pub ready : HasReady t
   pub job : IsJobOf t looks
-
-abbrev pub AreSeen : Rules → ℤ → List Entry → List Target → Type 0
-AreSeen rules now looks [] = Unit {0}
-AreSeen rules now looks (t ∷ ts) = IsSeen rules now looks t × AreSeen rules now looks ts
 
 abbrev pub IsOneOf : Target → List Target → Type 0
 IsOneOf t [] = ⊥

@@ -1,11 +1,9 @@
-//! What a run that looks at its logs first, and rotates them then, does to all of them: each set stays safe, and each log that is
-//! rotated whole is rotated as `lr_rotations` says it of one.
+//! The logs that a run may rotate, each with its rotation (`Target`), what a run does to them, and what is so of a log with
+//! numbers that it saw. `lr_mixed` says of runs, with numbers and dates alike, what becomes of sets and files.
 //!
-//! A law is the contract of a function without a body; begin with `all_stay_safe`, whose words are in `specs/AllTurns.antt`.
+//! A law is the contract of a function without a body: `seen_can_be_rotated`, whose words are in `specs/Target.antt`.
 #![tactic(auto)]
 
 mod run;
 
-pub use run::{
-    all_stay_safe, other_sets_are_left, others_are_outside, seen_can_be_rotated, whole_run_rotates,
-};
+pub use run::seen_can_be_rotated;
