@@ -1,14 +1,15 @@
 -- A run that rotates a log by copy: its copy stands whole amid the steps of its rotation, and nothing else empties the log.
-use Rattle.std.proofs.Common.{◌≡◌, inl, inr, ⊎_elim, ℕ, Bool, true, false, not, cond, refl, sym, ◌∙◌, ap, subst, append_assoc, Some, List, [], ◌∷◌, ◌++◌}
+use Rattle.std.proofs.Common.{◌≡◌, inl, inr, ⊎_elim, ℕ, Bool, true, false, not, cond, refl, sym, ◌∙◌, ap, subst, append_assoc, Some, None, List, [], ◌∷◌, ◌++◌}
 use Rattle.std.specs.Prelude.{filter}
 use Rattle.std.proofs.lemmas.List.Elements.{filter-append}
+use Rattle.lr_rules.specs.declared.clock.Clock.{Clock}
 use Rattle.lr_rules.specs.declared.path.Path.{Path}
-use Rattle.lr_rules.specs.declared.civil.Moment.{Moment}
 use Rattle.lr_rules.specs.declared.rule.Naming.{Naming}
 use Rattle.lr_rules.specs.declared.rules.Rules.{Rules}
 use Rattle.lr_host.specs.declared.entry.Entry.{Entry}
 use Rattle.lr_host.specs.declared.entry.Entry.TheVariants as entry
 use Rattle.lr_host.specs.declared.entry.Entry.TheVariants.{Renames, Makes, Appends, Truncates, Unlinks, SyncsFile, SyncsDir}
+use Rattle.lr_host.specs.Lists.{IsIn}
 use Rattle.lr_host.specs.Looks.{Sees, IsFile}
 use Rattle.lr_host.specs.Quiet.{is_disk_change, AreQuiet}
 use Rattle.lr_host.specs.Steps.{is_change}
@@ -16,7 +17,6 @@ use Rattle.lr_host.specs.Told.{Each, Are}
 use Rattle.lr_host.proofs.Each.{each_append, each_as, each_first, all_pass}
 use Rattle.lr_host.proofs.Lists.{in_back}
 use Rattle.lr_host.proofs.Quiet.{disk_of_changes, quiet_still, still_both}
-use Rattle.lr_family.specs.Spots.{path_at}
 use Rattle.lr_family.proofs.Numbers.{Every, every_all, every_filter}
 use Rattle.lr_copy.specs.declared.job.Job.{Job}
 use Rattle.lr_copy.specs.Copying.{Copies, clearing, cutting}
@@ -25,20 +25,22 @@ use Rattle.lr_copied.specs.Whole.{Named}
 use Rattle.lr_chain.specs.Rotation.{places_of, is_left, leftovers, kept, retired, leftover_steps, shift_steps, retire_steps}
 use Rattle.lr_durable.proofs.Lists.{each_last}
 use Rattle.lr_emptied.specs.Emptied.{CopiedLast, EmptiesCopied}
-use Rattle.lr_targets.specs.AllTurns.{StandsBetween, other_paths, AllTurned}
+use Rattle.lr_targets.specs.AllTurns.{StandsBetween, other_paths}
 use Rattle.lr_targets.specs.Apart.{HasNames}
-use Rattle.lr_rotations.specs.Members.{HasName, IsNoMember}
+use Rattle.lr_rotations.specs.Members.{HasName}
 use Rattle.lr_rotations.specs.Rotated.{IsBeside, AreOutside}
 use Rattle.lr_targets.specs.Target.{Target, transfer_of, rotation_of, IsSeen, IsOneOf}
 use Rattle.lr_rotations.specs.Weave.{Among, Weave}
 use Rattle.lr_rotations.proofs.Fitting.{kept_next, first_named, retire_named}
-use Rattle.lr_rotations.proofs.Members.{IsOfMembers, unlinks_of, moves_of}
+use Rattle.lr_rotations.proofs.Members.{IsOfThese, IsOfMembers, IsMember, members_these, unlinks_of, moves_of}
 use Rattle.lr_rotations.proofs.Moments.{shown_in}
-use Rattle.lr_targets.proofs.Others.{seen_one}
 use Rattle.lr_targets.proofs.PartFile.{job_target}
 use Rattle.lr_targets.proofs.Rotating.{left_are, shift_are, retire_are, two}
+use Rattle.lr_targets.proofs.SeenFits.{seen_names}
 use Rattle.lr_rotations.proofs.Splitting.{weave_each}
 use Rattle.lr_rotations.proofs.Weaving.{weave_as}
+use Rattle.lr_mixed.specs.AllTurns.{AllTurnedBy}
+use Rattle.lr_mixed.proofs.Seen.{numbered_seen, log_among}
 use Rattle.lr_turned.specs.Turned.{CopiesAmong}
 use Rattle.lr_turned.proofs.Beside.{IsBesideOrCut, between_beside, beside_changes}
 use Rattle.lr_turned.proofs.Changes.{CopyParts, copy_parts}
@@ -66,22 +68,18 @@ among_behind P e xs ys a = record {
   is = a.is;
 }
 
--- an unlink or a rename of members changes the disk
-members_change : (n : Naming) (e : Entry) → IsOfMembers n e → is_disk_change e ≡ true
-members_change n (Renames from to) h = refl
-members_change n (Unlinks x) h = refl
-members_change n _ h = absurd h
+-- a rename or an unlink of certain paths changes the disk
+these_change : (Own : Path → Type 0) (e : Entry) → IsOfThese Own e → is_disk_change e ≡ true
+these_change Own (Renames from to) h = refl
+these_change Own (Unlinks x) h = refl
+these_change Own _ h = absurd h
 
-module _ (state : Path) (now : Moment) (rules : Rules) (reads tail : List Entry) (t : AllTurned state now rules tail) (x : Target) (job : Job) (quiet : AreQuiet reads) (one : IsOneOf x t.turns.targets) (job_is : x.job ≡ Some job) (has : HasNames x)
-    (out : AreOutside (job.part ∷ other_paths state x.log t.turns.targets) job.from x.naming) (stands : CopyStands job t.turns.acts) (copies : EmptiesCopied (IsSameFor job) t.turns.acts) where
-  abbrev n : Naming
-  n = x.naming
-
-  abbrev places : List ℕ
-  places = places_of x.stand.members
-
+-- The copy of a log stands whole among the acts of a run that rotated it whole, with steps on certain paths before and behind the copy, those of its members: the first steps are then all before the copy, with changes of others between, the last all behind it, and nothing but the copy empties the log.
+module _ (state : Path) (x : Target) (targets : List Target) (acts : List Entry) (job : Job) (Own : Path → Type 0) (first last : List Entry) (job_is : x.job ≡ Some job) (from_is : x.log ≡ job.from)
+    (whole : Weave (StandsBetween state x targets) (rotation_of x) (filter is_change acts)) (steps_are : rotation_of x ≡ (first ++ clearing job) ++ (Renames job.part job.to ∷ last)) (first_own : Each (IsOfThese Own) first) (last_own : Each (IsOfThese Own) last)
+    (own_to : Own job.to) (out : (y : Path) → IsIn y (job.part ∷ other_paths state x.log targets) → Own y → ⊥) (stands : CopyStands job acts) (copies : EmptiesCopied (IsSameFor job) acts) where
   abbrev paths : List Path
-  paths = job.part ∷ other_paths state x.log t.turns.targets
+  paths = job.part ∷ other_paths state x.log targets
 
   -- the rename to the final path, and the truncation
   abbrev r : Entry
@@ -93,62 +91,25 @@ module _ (state : Path) (now : Moment) (rules : Rules) (reads tail : List Entry)
   abbrev cut : Entry
   cut = Truncates job.from
 
-  seen : IsSeen rules now.seconds t.turns.looks x
-  seen = seen_one rules now.seconds t.turns.looks t.turns.targets t.turns.seen x one
-
-  from_is : x.log ≡ job.from
-  from_is = sym (seen.job job job_is).0.from_is
-
-  first : HasName n 0
-  first = first_named n x.count places has.next
-
-  to_is : job.to ≡ path_at n 0
-  to_is = job_target x job seen.ready (seen.job job job_is).0
-
-  no_part : IsNoMember n job.part
-  no_part = (out job.part (inl refl)).1
-
-  -- ---- the steps
-
-  abbrev ls : List Entry
-  ls = leftover_steps n x.count places
-
-  abbrev ss : List Entry
-  ss = shift_steps n x.count places
-
-  abbrev us : List Entry
-  us = retire_steps n x.count x.from
+  no_part : Own job.part → ⊥
+  no_part = out job.part (inl refl)
 
   abbrev old : List Entry
-  old = (ls ++ ss) ++ clearing job
+  old = first ++ clearing job
 
-  rotation_is : rotation_of x ≡ old ++ (r ∷ us)
-  rotation_is = two (left_are x seen.ready) (two (shift_are x seen.ready) (two (ap (transfer_of x.ready) job_is) (retire_are x seen.ready)))
-      ∙ (ap (λ zs. ls ++ (ss ++ zs)) (append_assoc (clearing job) (r ∷ []) us) ∙ (sym (append_assoc ls ss (clearing job ++ (r ∷ us))) ∙ sym (append_assoc (ls ++ ss) (clearing job) (r ∷ us))))
-
-  named_places : Every (HasName n) places
-  named_places = every_all (HasName n) places has.named
-
-  early_steps : Each (IsOfMembers n) (ls ++ ss)
-  early_steps = each_append (IsOfMembers n) ls ss (unlinks_of n (leftovers x.count places) (every_filter (HasName n) (is_left x.count) places named_places))
-      (moves_of n (kept x.count places) (every_filter (HasName n) (λ k. not (is_left x.count k)) places named_places) (kept_next n x.count places has.next))
-
-  late_steps : Each (IsOfMembers n) us
-  late_steps = unlinks_of n (retired x.count x.from) (retire_named n x.count places x.from has.next has.going)
-
-  -- none of them is the rename of the part file
-  no_step : (e : Entry) → IsOfMembers n e → IsOther r e
-  no_step e h same = let i : IsOfMembers n r = subst (IsOfMembers n) same h in no_part i.0 i.1 i.2
+  -- none of the steps is the rename of the part file
+  no_step : (e : Entry) → IsOfThese Own e → IsOther r e
+  no_step e h same = let i : IsOfThese Own r = subst (IsOfThese Own) same h in no_part i.0
 
   old_other : Each (IsOther r) old
-  old_other = each_append (IsOther r) (ls ++ ss) (clearing job) (each_as (IsOfMembers n) (IsOther r) (ls ++ ss) no_step early_steps) (go job.stale)
+  old_other = each_append (IsOther r) first (clearing job) (each_as (IsOfThese Own) (IsOther r) first no_step first_own) (go job.stale)
     where
       go : (b : Bool) → Each (IsOther r) (cond b (Unlinks job.part ∷ []) [])
       go true = (λ e. cc, tt)
       go false = tt
 
-  us_other : Each (IsOther r) us
-  us_other = each_as (IsOfMembers n) (IsOther r) us no_step late_steps
+  last_other : Each (IsOther r) last
+  last_other = each_as (IsOfThese Own) (IsOther r) last no_step last_own
 
   -- ---- the entries
 
@@ -172,28 +133,28 @@ module _ (state : Path) (now : Moment) (rules : Rules) (reads tail : List Entry)
   abbrev back : List Entry
   back = s ∷ (cutting job ++ stands.after)
 
-  acts_are : t.turns.acts ≡ front ++ (r ∷ back)
+  acts_are : acts ≡ front ++ (r ∷ back)
   acts_are = stands.joined ∙ at_rename stands.before parts.filling stands.named (cutting job ++ stands.after) parts.ts_are
 
   abbrev Q : Entry → Type 0
   Q = IsBesideOrCut paths job.from
 
   no_beside : Q r → ⊥
-  no_beside (inl (inl on)) = (out job.to on.1).1 0 first to_is
+  no_beside (inl (inl on)) = out job.to on.1 own_to
   no_beside (inl (inr anew)) = absurd anew
   no_beside (inr same) = cc
 
-  cut_in_two : Weave Q old (filter is_change front) × Weave Q us (filter is_change back)
-  cut_in_two = weave_at Q r old us (filter is_change front) (filter is_change back) no_beside old_other us_other
-      (subst (Weave Q (old ++ (r ∷ us))) (ap (filter is_change) acts_are ∙ filter-append is_change front (r ∷ back)) (subst (λ os. Weave Q os (filter is_change t.turns.acts)) rotation_is
-      (weave_as (StandsBetween state x t.turns.targets) Q (rotation_of x) (filter is_change t.turns.acts) (λ e h. between_beside state x t.turns.targets job e job_is from_is h) (t.whole x one))))
+  cut_in_two : Weave Q old (filter is_change front) × Weave Q last (filter is_change back)
+  cut_in_two = weave_at Q r old last (filter is_change front) (filter is_change back) no_beside old_other last_other
+      (subst (Weave Q (old ++ (r ∷ last))) (ap (filter is_change) acts_are ∙ filter-append is_change front (r ∷ back)) (subst (λ os. Weave Q os (filter is_change acts)) steps_are
+      (weave_as (StandsBetween state x targets) Q (rotation_of x) (filter is_change acts) (λ e h. between_beside state x targets job e job_is from_is h) whole)))
 
   -- the rename stands once
   front_other : Each (IsOther r) front
   front_other = other_unfiltered r is_change front refl (weave_each Q (IsOther r) old (filter is_change front) cut_in_two.0 old_other (λ e h same. no_beside (subst Q same h)))
 
   back_other : Each (IsOther r) back
-  back_other = other_unfiltered r is_change back refl (weave_each Q (IsOther r) us (filter is_change back) cut_in_two.1 us_other (λ e h same. no_beside (subst Q same h)))
+  back_other = other_unfiltered r is_change back refl (weave_each Q (IsOther r) last (filter is_change back) cut_in_two.1 last_other (λ e h same. no_beside (subst Q same h)))
 
   -- ---- nothing else empties the log
 
@@ -222,10 +183,10 @@ module _ (state : Path) (now : Moment) (rules : Rules) (reads tail : List Entry)
           (each_last (IsOther r) (ahead ++ (clearing job ++ (Makes job.part job.mode ∷ filling))) (r ∷ (s ∷ [])) (subst (Each (IsOther r)) prefix others)).0 refl
 
   after_uncut : Each (IsOther cut) stands.after
-  after_uncut = all_other cut stands.after (λ fs bs is. other fs bs is (this_copy (stands.before ++ (stands.named ++ (cutting job ++ fs))) (copies (stands.before ++ (stands.named ++ (cutting job ++ fs))) job.from bs (whole fs bs is))))
+  after_uncut = all_other cut stands.after (λ fs bs is. other fs bs is (this_copy (stands.before ++ (stands.named ++ (cutting job ++ fs))) (copies (stands.before ++ (stands.named ++ (cutting job ++ fs))) job.from bs (all_joined fs bs is))))
     where
-      whole : (fs bs : List Entry) → stands.after ≡ fs ++ (cut ∷ bs) → t.turns.acts ≡ (stands.before ++ (stands.named ++ (cutting job ++ fs))) ++ (cut ∷ bs)
-      whole fs bs is = stands.joined ∙ (ap (λ zs. stands.before ++ (stands.named ++ (cutting job ++ zs))) is
+      all_joined : (fs bs : List Entry) → stands.after ≡ fs ++ (cut ∷ bs) → acts ≡ (stands.before ++ (stands.named ++ (cutting job ++ fs))) ++ (cut ∷ bs)
+      all_joined fs bs is = stands.joined ∙ (ap (λ zs. stands.before ++ (stands.named ++ (cutting job ++ zs))) is
           ∙ (ap (λ zs. stands.before ++ (stands.named ++ zs)) (sym (append_assoc (cutting job) fs (cut ∷ bs)))
           ∙ (ap (λ zs. stands.before ++ zs) (sym (append_assoc stands.named (cutting job ++ fs) (cut ∷ bs))) ∙ sym (append_assoc stands.before (stands.named ++ (cutting job ++ fs)) (cut ∷ bs)))))
 
@@ -247,30 +208,30 @@ module _ (state : Path) (now : Moment) (rules : Rules) (reads tail : List Entry)
   -- ---- what is woven before the copy, and behind it
 
   -- the changes of the disk are all there are
-  disk_woven : (steps ts : List Entry) → Each (IsOfMembers n) steps → Weave (IsBeside paths job.from) steps (filter is_change ts) → Weave (IsBeside paths job.from) steps (filter is_disk_change ts)
+  disk_woven : (steps ts : List Entry) → Each (IsOfThese Own) steps → Weave (IsBeside paths job.from) steps (filter is_change ts) → Weave (IsBeside paths job.from) steps (filter is_disk_change ts)
   disk_woven steps ts own w = subst (Weave (IsBeside paths job.from) steps) (sym (all_pass is_disk_change (filter is_change ts)
-      (weave_each (IsBeside paths job.from) (λ e. is_disk_change e ≡ true) steps (filter is_change ts) w (each_as (IsOfMembers n) (λ e. is_disk_change e ≡ true) steps (members_change n) own) (beside_changes paths job.from)))
+      (weave_each (IsBeside paths job.from) (λ e. is_disk_change e ≡ true) steps (filter is_change ts) w (each_as (IsOfThese Own) (λ e. is_disk_change e ≡ true) steps (these_change Own) own) (beside_changes paths job.from)))
       ∙ disk_of_changes ts) w
 
-  abbrev NoMembers : Entry → Type 0
-  NoMembers e = IsOfMembers n e → ⊥
+  abbrev NoneOfThese : Entry → Type 0
+  NoneOfThese e = IsOfThese Own e → ⊥
 
-  filled_apart : Each NoMembers filled
-  filled_apart = each_append NoMembers (clearing job) (Makes job.part job.mode ∷ parts.filling) (go job.stale) (
+  filled_apart : Each NoneOfThese filled
+  filled_apart = each_append NoneOfThese (clearing job) (Makes job.part job.mode ∷ parts.filling) (go job.stale) (
     (λ h. absurd h),
-    each_both NoMembers (Copies job stands.count) (Are (SyncsFile job.part ∷ [])) parts.filling
-        (λ us c. each_all NoMembers job.from job.part (λ k piece. λ h. absurd h) (λ piece. λ h. absurd h) job.limit stands.count us c)
-        (λ us is. each_are NoMembers (SyncsFile job.part ∷ []) us ((λ h. absurd h), tt) is) parts.fills,
+    each_both NoneOfThese (Copies job stands.count) (Are (SyncsFile job.part ∷ [])) parts.filling
+        (λ us c. each_all NoneOfThese job.from job.part (λ k piece. λ h. absurd h) (λ piece. λ h. absurd h) job.limit stands.count us c)
+        (λ us is. each_are NoneOfThese (SyncsFile job.part ∷ []) us ((λ h. absurd h), tt) is) parts.fills,
   )
     where
-      go : (b : Bool) → Each NoMembers (cond b (Unlinks job.part ∷ []) [])
-      go true = ((λ h. no_part h.0 h.1 h.2), tt)
+      go : (b : Bool) → Each NoneOfThese (cond b (Unlinks job.part ∷ []) [])
+      go true = (no_part, tt)
       go false = tt
 
-  cutting_apart : Each NoMembers (filter is_change (cutting job))
-  cutting_apart = each_filter NoMembers is_change (cutting job) (go job.cut)
+  cutting_apart : Each NoneOfThese (filter is_change (cutting job))
+  cutting_apart = each_filter NoneOfThese is_change (cutting job) (go job.cut)
     where
-      go : (b : Bool) → Each NoMembers (cond b (cut ∷ []) [])
+      go : (b : Bool) → Each NoneOfThese (cond b (cut ∷ []) [])
       go true = ((λ h. absurd h), tt)
       go false = tt
 
@@ -284,37 +245,93 @@ module _ (state : Path) (now : Moment) (rules : Rules) (reads tail : List Entry)
   uncut_beside : (e : Entry) → Q e → IsOther cut e → IsBeside paths job.from e
   uncut_beside e h other = ⊎_elim (λ beside. beside) (λ is. absurd (other is)) h
 
-  early_woven : Weave (IsBeside paths job.from) (ls ++ ss) (filter is_disk_change stands.before)
-  early_woven = disk_woven (ls ++ ss) stands.before early_steps
-      (weave_less Q (IsBeside paths job.from) (IsOther cut) (ls ++ ss) (filter is_change stands.before) uncut_beside
-      (weave_front Q (IsOfMembers n) (ls ++ ss) (filter is_change stands.before) (filter is_change filled)
-      (subst (Weave Q (ls ++ ss)) (filter-append is_change stands.before filled) (weave_drop Q old (filter is_change front) (ls ++ ss) (clearing job) refl cut_in_two.0 clearing_beside)) early_steps (each_filter NoMembers is_change filled filled_apart))
+  -- the steps before the copy, among the changes before it
+  pub early_woven : Weave (IsBeside paths job.from) first (filter is_disk_change stands.before)
+  early_woven = disk_woven first stands.before first_own
+      (weave_less Q (IsBeside paths job.from) (IsOther cut) first (filter is_change stands.before) uncut_beside
+      (weave_front Q (IsOfThese Own) first (filter is_change stands.before) (filter is_change filled)
+      (subst (Weave Q first) (filter-append is_change stands.before filled) (weave_drop Q old (filter is_change front) first (clearing job) refl cut_in_two.0 clearing_beside)) first_own (each_filter NoneOfThese is_change filled filled_apart))
       (each_filter (IsOther cut) is_change stands.before before_uncut))
 
-  late_woven : Weave (IsBeside paths job.from) us (filter is_disk_change stands.after)
-  late_woven = disk_woven us stands.after late_steps
-      (weave_less Q (IsBeside paths job.from) (IsOther cut) us (filter is_change stands.after) uncut_beside
-      (weave_behind Q (IsOfMembers n) us (filter is_change (cutting job)) (filter is_change stands.after) (subst (Weave Q us) (filter-append is_change (cutting job) stands.after) cut_in_two.1) late_steps cutting_apart)
+  -- and those behind it, among the changes behind it
+  pub late_woven : Weave (IsBeside paths job.from) last (filter is_disk_change stands.after)
+  late_woven = disk_woven last stands.after last_own
+      (weave_less Q (IsBeside paths job.from) (IsOther cut) last (filter is_change stands.after) uncut_beside
+      (weave_behind Q (IsOfThese Own) last (filter is_change (cutting job)) (filter is_change stands.after) (subst (Weave Q last) (filter-append is_change (cutting job) stands.after) cut_in_two.1) last_own cutting_apart)
       (each_filter (IsOther cut) is_change stands.after after_uncut))
+
+-- ---- a log with numbers
+
+-- The run rotated each log whole, and this one it copied, one entry behind another, emptying it behind that copy alone.
+module _ (state : Path) (clock : Clock) (rules : Rules) (reads tail : List Entry) (t : AllTurnedBy state clock rules tail) (x : Target) (job : Job) (quiet : AreQuiet reads) (one : IsOneOf x t.turns.targets) (job_is : x.job ≡ Some job) (none : x.naming.dated ≡ None)
+    (outside : AreOutside (job.part ∷ other_paths state x.log t.turns.targets) job.from x.naming) (copy_stands : CopyStands job t.turns.acts) (empties : EmptiesCopied (IsSameFor job) t.turns.acts) where
+  abbrev n : Naming
+  n = x.naming
+
+  abbrev places : List ℕ
+  places = places_of x.stand.members
+
+  seen : IsSeen rules clock.now.seconds t.turns.looks x
+  seen = numbered_seen rules clock t.turns.looks x (log_among rules clock t.turns.looks t.turns.targets t.turns.seen x one) none
+
+  has : HasNames x
+  has = seen_names rules clock.now.seconds t.turns.looks x seen
+
+  from_log : x.log ≡ job.from
+  from_log = sym (seen.job job job_is).0.from_is
+
+  -- ---- the steps
+
+  abbrev ls : List Entry
+  ls = leftover_steps n x.count places
+
+  abbrev ss : List Entry
+  ss = shift_steps n x.count places
+
+  abbrev us : List Entry
+  us = retire_steps n x.count x.from
+
+  rotation_is : rotation_of x ≡ ((ls ++ ss) ++ clearing job) ++ (Renames job.part job.to ∷ us)
+  rotation_is = two (left_are x seen.ready) (two (shift_are x seen.ready) (two (ap (transfer_of x.ready) job_is) (retire_are x seen.ready)))
+      ∙ (ap (λ zs. ls ++ (ss ++ zs)) (append_assoc (clearing job) (Renames job.part job.to ∷ []) us)
+      ∙ (sym (append_assoc ls ss (clearing job ++ (Renames job.part job.to ∷ us))) ∙ sym (append_assoc (ls ++ ss) (clearing job) (Renames job.part job.to ∷ us))))
+
+  named_places : Every (HasName n) places
+  named_places = every_all (HasName n) places has.named
+
+  early_steps : Each (IsOfThese (IsMember n)) (ls ++ ss)
+  early_steps = each_as (IsOfMembers n) (IsOfThese (IsMember n)) (ls ++ ss) (members_these n)
+      (each_append (IsOfMembers n) ls ss (unlinks_of n (leftovers x.count places) (every_filter (HasName n) (is_left x.count) places named_places))
+      (moves_of n (kept x.count places) (every_filter (HasName n) (λ k. not (is_left x.count k)) places named_places) (kept_next n x.count places has.next)))
+
+  late_steps : Each (IsOfThese (IsMember n)) us
+  late_steps = each_as (IsOfMembers n) (IsOfThese (IsMember n)) us (members_these n) (unlinks_of n (retired x.count x.from) (retire_named n x.count places x.from has.next has.going))
+
+  to_member : IsMember n job.to
+  to_member = (0, first_named n x.count places has.next, job_target x job seen.ready (seen.job job job_is).0)
+
+  no_member : (y : Path) → IsIn y (job.part ∷ other_paths state x.log t.turns.targets) → IsMember n y → ⊥
+  no_member y i member = (outside y i).1 member.0 member.1 member.2
 
   -- ---- the whole
 
   abbrev starts : Entry
-  starts = entry.Starts state now rules
+  starts = entry.Starts state clock.now rules
 
-  pub copies_among : CopiesAmong (other_paths state x.log t.turns.targets) job x.naming x.count x.from x.stand (reads ++ entry.Starts state now rules ∷ tail)
+  -- so its copy stands amid its rotation
+  pub copies_among : CopiesAmong (other_paths state x.log t.turns.targets) job x.naming x.count x.from x.stand (reads ++ entry.Starts state clock.now rules ∷ tail)
   copies_among = record {
     front = reads ++ starts ∷ t.turns.looks;
-    early = stands.before;
-    named = stands.named;
-    late = stands.after;
-    joined = ap (λ ts. reads ++ starts ∷ ts) (t.turns.joined ∙ ap (λ zs. t.turns.looks ++ zs) stands.joined) ∙ sym (append_assoc reads (starts ∷ t.turns.looks) _);
+    early = copy_stands.before;
+    named = copy_stands.named;
+    late = copy_stands.after;
+    joined = ap (λ ts. reads ++ starts ∷ ts) (t.turns.joined ∙ ap (λ zs. t.turns.looks ++ zs) copy_stands.joined) ∙ sym (append_assoc reads (starts ∷ t.turns.looks) _);
     still = still_both reads (starts ∷ t.turns.looks) (quiet_still reads quiet) (quiet_still t.turns.looks t.turns.quiet);
-    log_seen = among_behind (Sees job.from IsFile) starts reads t.turns.looks (subst (λ (y : Path). Among (Sees y IsFile) t.turns.looks) from_is seen.log_seen);
+    log_seen = among_behind (Sees job.from IsFile) starts reads t.turns.looks (subst (λ (y : Path). Among (Sees y IsFile) t.turns.looks) from_log seen.log_seen);
     going = has.going;
     seen = shown_in x.naming places t.turns.looks (reads ++ starts ∷ t.turns.looks) (λ e h. in_back e reads (starts ∷ t.turns.looks) (inr h)) seen.seen;
-    before_it = early_woven;
-    count = stands.count;
-    is_named = stands.is_named;
-    behind_it = late_woven;
+    before_it = early_woven state x t.turns.targets t.turns.acts job (IsMember n) (ls ++ ss) us job_is from_log (t.whole x one) rotation_is early_steps late_steps to_member no_member copy_stands empties;
+    count = copy_stands.count;
+    is_named = copy_stands.is_named;
+    behind_it = late_woven state x t.turns.targets t.turns.acts job (IsMember n) (ls ++ ss) us job_is from_log (t.whole x one) rotation_is early_steps late_steps to_member no_member copy_stands empties;
   }

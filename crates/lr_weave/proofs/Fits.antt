@@ -1,5 +1,5 @@
 -- The steps of logs that don't meet fit, wherever those before them ended.
-use Rattle.std.proofs.Common.{◌≡◌, inl, inr, ⊎_elim, ℕ, ◌+◌, Bool, true, false, not, cond, refl, sym, ◌∙◌, ap, subst, Option, Some, None, List, [], ◌∷◌, ◌++◌, map, reverse, append_assoc, append-nil}
+use Rattle.std.proofs.Common.{◌≡◌, ◌⊎◌, inl, inr, ⊎_elim, ℕ, Bool, true, false, cond, bytes_eq, refl, sym, ◌∙◌, ap, subst, Option, Some, None, List, [], ◌∷◌, ◌++◌, map, reverse, append_assoc, append-nil}
 use Rattle.std.specs.Prelude.{pos, filter}
 use Rattle.std.proofs.lemmas.List.{reverse-reverse}
 use Rattle.std.proofs.lemmas.List.Concat.{flat_map-append}
@@ -10,46 +10,39 @@ use Rattle.lr_rules.specs.declared.fault.Phase.{Phase}
 use Rattle.lr_rules.specs.declared.fault.Phase.TheVariants as phase
 use Rattle.lr_rules.specs.declared.rule.Make.{Make}
 use Rattle.lr_rules.specs.declared.rule.Make.TheVariants as make
-use Rattle.lr_rules.specs.Names.{IsOwnName, the_log, IsName, Meet}
+use Rattle.lr_rules.specs.Names.{IsOwnName, the_log, Meet}
 use Rattle.lr_rules.specs.Path.{parent_of}
 use Rattle.lr_host.specs.declared.thing.Thing.TheVariants as thing
 use Rattle.lr_host.specs.declared.entry.Entry.{Entry}
 use Rattle.lr_host.specs.declared.entry.Entry.TheVariants as entry
 use Rattle.lr_host.specs.declared.journal.Journal.{Journal}
 use Rattle.lr_host.specs.World.{Past, ◌▸◌, past, world, put, Names, names}
-use Rattle.lr_host.specs.Fits.{MaybeFileAt}
-use Rattle.lr_host.specs.Told.{Each, Then, Made, at_first, by_writer, by_tool, Left, not_told, is_told, Can}
+use Rattle.lr_host.specs.Fits.{MaybeFileAt, IsDirectoryAt}
+use Rattle.lr_host.specs.Told.{Each, Then, Made, at_first, by_writer, by_tool, Left, not_told, is_told, CanCall, Can}
 use Rattle.lr_host.specs.Steps.{is_naming, CanAll}
 use Rattle.lr_host.proofs.More.{IsMoreAt, more_at_on, wrote_names}
 use Rattle.lr_host.proofs.Names.{put_other}
 use Rattle.lr_host.proofs.Each.{filter_reverse, each_append, each_reverse, each_first}
 use Rattle.lr_host.proofs.Left.{left_first, left_then, can_as, still_step}
+use Rattle.lr_host.proofs.Looked.{file_no_dir}
 use Rattle.lr_scripts.specs.declared.command.Command.{Command}
 use Rattle.lr_scripts.specs.declared.removal.Removal.{Removal}
 use Rattle.lr_scripts.specs.Programs.{runs}
-use Rattle.lr_family.specs.Spots.{path_at}
-use Rattle.lr_family.proofs.Numbers.{Every, every_all, every_filter}
 use Rattle.lr_copy.specs.declared.job.Job.{Job}
 use Rattle.lr_copy.specs.Copying.{clearing}
 use Rattle.lr_chain.specs.declared.ready.Move.{Move}
 use Rattle.lr_chain.specs.declared.ready.Ready.{Ready}
 use Rattle.lr_chain.specs.Ready.{move_step}
-use Rattle.lr_chain.specs.Rotation.{is_left, places_of, leftovers, kept, unlink_at, move_at}
-use Rattle.lr_targets.specs.Apart.{HasNames}
-use Rattle.lr_rotations.specs.Calls.{FitCalls, CanCalls}
+use Rattle.lr_rotations.specs.Calls.{after_call, FitCalls, CanCalls}
 use Rattle.lr_targets.specs.Calls.{transfer_calls, calls_of}
-use Rattle.lr_rotations.specs.Members.{HasName}
-use Rattle.lr_targets.specs.Target.{Target, unlinks, rotation_of, IsJob}
+use Rattle.lr_targets.specs.Target.{Target, unlinks, transfer_of, rotation_of, IsJob, HasJob}
+use Rattle.lr_dated_run.specs.Own.{ChangesOwn, HasAnyNames}
+use Rattle.lr_dated_run.proofs.Own.{dated_change}
 use Rattle.lr_rotations.specs.Weave.{IsFirstOf}
-use Rattle.lr_rotations.proofs.Alike.{Reads, fit_like, more_like, calls_as, calls_made, calls_still}
-use Rattle.lr_targets.proofs.Apart.{AllOwn, own_paths, part_own, to_own}
+use Rattle.lr_rotations.proofs.Alike.{IsLike, AreLike, Reads, fit_like, more_like, calls_as, calls_made, calls_still}
+use Rattle.lr_targets.proofs.Apart.{own_paths}
 use Rattle.lr_rotations.proofs.Fed.{IsTurn}
-use Rattle.lr_rotations.proofs.Fitting.{kept_next, first_named}
 use Rattle.lr_targets.proofs.Others.{rotation_turns}
-use Rattle.lr_rotations.proofs.Outside.{place_name}
-use Rattle.lr_targets.proofs.PartFile.{part_parent, job_target, job_part}
-use Rattle.lr_rotations.proofs.Paths.{path_parent}
-use Rattle.lr_targets.proofs.Rotating.{left_are, shift_are}
 use Rattle.lr_plan.specs.declared.mark.Mark.{Mark}
 use Rattle.lr_plan.specs.declared.planned.LogPlan.{LogPlan}
 use Rattle.lr_plan.specs.declared.step.Step.{Step}
@@ -61,9 +54,9 @@ use Rattle.lr_plan.specs.Internal.Asking.{asks, CanMake, CanEach}
 use Rattle.lr_plan.specs.Course.{Course}
 use Rattle.lr_weave.specs.Fitting.{IsFit, AreFit, NoneMeets, DontMeet, ReadsNothing, ReadsThis, ReadThemselves, ReadsOwn, ReadOwn}
 use Rattle.lr_weave.specs.Planned.{IsReadyFor, AreReadyFor}
-use Rattle.lr_weave.proofs.Lasting.{makes_later}
+use Rattle.lr_weave.proofs.Lasting.{dir_walk, makes_later}
 use Rattle.lr_weave.proofs.Parting.{bytes_none, course_first}
-use Rattle.lr_weave.proofs.Planning.{Anything, front_of, back_of, back_calls, halves, calls_of_step, calls_by, no_dir_is, log_is, front_asks, call_halves, removals_ask, log_plain, program_none, program_asks, program_plain}
+use Rattle.lr_weave.proofs.Planning.{Anything, each_every, back_of, back_calls, calls_of_step, calls_by, no_dir_is, log_is, front_asks, call_halves, removals_ask, log_plain, program_none, program_asks, program_plain}
 
 -- ---- entries that change other paths
 
@@ -87,116 +80,183 @@ more_made X p _ _ (by_tool {es = es} {q = q} {e = e} m t f) a y i = go (λ b. mo
     go further true h a = more_at_on (names (world p)) (names (world q)) (names (world (q ▸ e))) y (further a.1) (inl (avoided X q e y a.0 i))
     go further false h a = more_at_on (names (world p)) (names (world q)) (names (world (q ▸ e))) y (further a) (still_step q e t f h y)
 
+-- ---- what a call asks of the paths that it names
+
+-- It is a call of a rotation, and the paths that it names as files have X. Of directories nothing is said, since each stands whatever is called.
+abbrev pub Asks : (Path → Type 0) → Entry → Type 0
+Asks X (entry.Reads x from piece) = X x
+Asks X (entry.Renames from to) = X from × X to
+Asks X (entry.Makes x mode) = Unit {0}
+Asks X (entry.Appends x piece) = X x
+Asks X (entry.Truncates x) = X x
+Asks X (entry.Unlinks x) = X x
+Asks X (entry.SyncsFile x) = X x
+Asks X (entry.SyncsDir x) = Unit {0}
+Asks X _ = ⊥
+
+-- the path has X, or is a directory
+abbrev OrDirectory : (Path → Type 0) → Names → Path → Type 0
+OrDirectory X n y = X y ⊎ IsDirectoryAt n y
+
+-- a directory behind such a call was one before it
+dir_first : (X : Path → Type 0) (n : Names) (e : Entry) (d : Path) → Asks X e → CanCall n e → IsDirectoryAt (after_call n e) d → IsDirectoryAt n d
+dir_first X n (entry.Renames from to) d a can h = go (bytes_eq to d) (bytes_eq from d) h
+  where
+    go : (b c : Bool) → cond b (n from) (cond c thing.Nothing (n d)) ≡ thing.Directory → n d ≡ thing.Directory
+    go true c e = absurd (file_no_dir (n from) can.0.0 can.0.1 e)
+    go false true e = absurd (cc)
+    go false false e = e
+dir_first X n (entry.Makes x mode) d a can h = go (bytes_eq x d) h
+  where
+    go : (b : Bool) → cond b (thing.File 0) (n d) ≡ thing.Directory → n d ≡ thing.Directory
+    go true e = absurd (cc)
+    go false e = e
+dir_first X n (entry.Unlinks x) d a can h = go (bytes_eq x d) h
+  where
+    go : (b : Bool) → cond b thing.Nothing (n d) ≡ thing.Directory → n d ≡ thing.Directory
+    go true e = absurd (cc)
+    go false e = e
+dir_first X n (entry.Reads x from piece) d a can h = h
+dir_first X n (entry.Appends x piece) d a can h = h
+dir_first X n (entry.Truncates x) d a can h = h
+dir_first X n (entry.SyncsFile x) d a can h = h
+dir_first X n (entry.SyncsDir x) d a can h = h
+dir_first X n _ d a can h = absurd a
+
+-- a call that fits depends on such paths and directories alone
+call_reads : (X : Path → Type 0) (m n : Names) (e : Entry) → ((d : Path) → IsDirectoryAt n d → IsDirectoryAt m d) → Asks X e → CanCall n e → Reads (OrDirectory X m) e
+call_reads X m n (entry.Reads x from piece) f a can = inl a
+call_reads X m n (entry.Renames from to) f a can = (inl a.0, inl a.1, inr (f (parent_of to) can.3))
+call_reads X m n (entry.Makes x mode) f a can = inr (f (parent_of x) can)
+call_reads X m n (entry.Appends x piece) f a can = inl a
+call_reads X m n (entry.Truncates x) f a can = inl a
+call_reads X m n (entry.Unlinks x) f a can = inl a
+call_reads X m n (entry.SyncsFile x) f a can = inl a
+call_reads X m n (entry.SyncsDir x) f a can = inr (f x can)
+call_reads X m n _ f a can = absurd a
+
+-- so do calls that fit one after another
+calls_read : (X : Path → Type 0) (m n : Names) (es : List Entry) → ((d : Path) → IsDirectoryAt n d → IsDirectoryAt m d) → Each (Asks X) es → FitCalls n es → Each (Reads (OrDirectory X m)) es
+calls_read X m n [] f a fit = tt
+calls_read X m n (e ∷ es) f a fit = (call_reads X m n e f a.0 fit.0, calls_read X m (after_call n e) es (λ d h. f d (dir_first X n e d a.0 fit.0 h)) a.1 fit.1)
+
 -- what fits goes on fitting over calls that leave its paths alone
-pub can_far : (X : Path → Type 0) (calls : List Entry) {P : List Entry → Type 0} {o m : Option Journal} → Each (Reads X) calls → CanCalls o calls → Left P o m → ((ts : List Entry) → P ts → Each (Avoids X) (filter is_naming ts)) → CanCalls m calls
-can_far X calls reads can not_told f = record { can = tt }
-can_far X calls reads can (is_told {j = j} {k = k} {es = es} m h) f = record {
-  can = fit_like X (names (world (past j))) (names (world (past k))) calls reads
-      (λ y i. more_like (names (world (past j))) (names (world (past k))) y
-      (more_made X (past j) (past k) es m (subst (Each (Avoids X)) (ap (filter is_naming) (reverse-reverse es)) (subst (Each (Avoids X)) (sym (filter_reverse is_naming (reverse es))) (each_reverse (Avoids X) (filter is_naming (reverse es)) (f (reverse es) h)))) y i)) can.can;
-}
+pub can_far : (X : Path → Type 0) (calls : List Entry) {P : List Entry → Type 0} {o m : Option Journal} → Each (Asks X) calls → CanCalls o calls → Left P o m → ((ts : List Entry) → P ts → Each (Avoids X) (filter is_naming ts)) → CanCalls m calls
+can_far X calls ask can not_told f = record { can = tt }
+can_far X calls ask can (is_told {j = j} {k = k} {es = es} m h) f = record { can = fit_like (OrDirectory X here) here there calls (calls_read X here here calls (λ d is. is) ask can.can) like can.can }
+  where
+    here : Names
+    here = names (world (past j))
+
+    there : Names
+    there = names (world (past k))
+
+    avoids : Each (Avoids X) (filter is_naming es)
+    avoids = subst (Each (Avoids X)) (ap (filter is_naming) (reverse-reverse es)) (subst (Each (Avoids X)) (sym (filter_reverse is_naming (reverse es))) (each_reverse (Avoids X) (filter is_naming (reverse es)) (f (reverse es) h)))
+
+    like : AreLike (OrDirectory X here) here there
+    like y (inl i) = more_like here there y (more_made X (past j) (past k) es m avoids y i)
+    like y (inr dir) = subst (λ t. IsLike t (there y)) (sym dir) (dir_walk (past j) (past k) es y m dir)
 
 -- ---- the calls of a rotation
 
+-- what holds of each of both lists holds of each of the second
 pub each_end : (P : Entry → Type 0) (xs ys : List Entry) → Each P (xs ++ ys) → Each P ys
 each_end P [] ys a = a
 each_end P (x ∷ xs) ys a = each_end P xs ys a.1
 
-abbrev pub NamesOf : Target → Path → Type 0
-NamesOf t y = IsName t.log t.naming y
-
-module _ (t : Target) (h : HasNames t) where
-  own_place : (place : ℕ) → HasName t.naming place → IsOwnName t.log t.naming (path_at t.naming place)
-  own_place place i = place_name t.log t.naming place h.family.numbered i
-
-  parent_name : (place : ℕ) → HasName t.naming place → NamesOf t (parent_of (path_at t.naming place))
-  parent_name place i = inr (path_parent t.log t.naming place h.family i)
-
-  unlinks_read : (ks : List ℕ) → Every (HasName t.naming) ks → Each (Reads (NamesOf t)) (map (unlink_at t.naming) ks)
-  unlinks_read [] i = tt
-  unlinks_read (k ∷ ks) i = (inl (own_place k i.0), unlinks_read ks i.1)
-
-  moves_read : (ks : List ℕ) → Every (HasName t.naming) ks → Every (λ k. HasName t.naming (k + 1)) ks → Each (Reads (NamesOf t)) (map (move_at t.naming) ks)
-  moves_read [] i next = tt
-  moves_read (k ∷ ks) i next = ((inl (own_place k i.0), inl (own_place (k + 1) next.0), parent_name (k + 1) next.0), moves_read ks i.1 next.1)
-
-  first : HasName t.naming 0
-  first = first_named t.naming t.count (places_of t.stand.members) h.next
-
-  transfer_read : (j : Option Job) → t.job ≡ j → Each (Reads (NamesOf t)) (transfer_calls t.ready j)
-  transfer_read None is = ((inl (the_log h.ready.log_is), subst (NamesOf t) (sym h.ready.target_is) (inl (own_place 0 first)), subst (λ (x : Path). NamesOf t (parent_of x)) (sym h.ready.target_is) (parent_name 0 first)), tt)
-  transfer_read (Some job) is =
-      each_append (Reads (NamesOf t)) (clearing job) (behind job.cut) (cleared job.stale) (part_dir, (log, (part, (part, ((part, to, to_dir), (inr shape.dir_is, emptied job.cut))))))
-    where
-      shape : IsJob t job
-      shape = h.job job is
-
-      log : NamesOf t job.from
-      log = inl (the_log shape.from_is)
-
-      part : NamesOf t job.part
-      part = inl (part_own t h job is)
-
-      to : NamesOf t job.to
-      to = inl (to_own t h job is)
-
-      part_dir : NamesOf t (parent_of job.part)
-      part_dir = inr (ap parent_of (job_part t job h.ready shape) ∙ part_parent t.log t.naming h.family first)
-
-      to_dir : NamesOf t (parent_of job.to)
-      to_dir = subst (λ (x : Path). NamesOf t (parent_of x)) (sym (job_target t job h.ready shape)) (parent_name 0 first)
-
-      cleared : (b : Bool) → Each (Reads (NamesOf t)) (cond b (entry.Unlinks job.part ∷ []) [])
-      cleared true = (part, tt)
-      cleared false = tt
-
-      behind : Bool → List Entry
-      behind c = entry.Makes job.part job.mode ∷ entry.Reads job.from 0 [] ∷ entry.Appends job.part [] ∷ entry.SyncsFile job.part ∷ entry.Renames job.part job.to ∷ entry.SyncsDir job.dir ∷ cond c (entry.Truncates job.from ∷ []) []
-
-      emptied : (c : Bool) → Each (Reads (NamesOf t)) (cond c (entry.Truncates job.from ∷ []) [])
-      emptied true = (log, tt)
-      emptied false = tt
-
-  places_named : Every (HasName t.naming) (places_of t.stand.members)
-  places_named = every_all (HasName t.naming) (places_of t.stand.members) h.named
-
-  removals_read : (rs : List Removal) → Each (AllOwn t.log t.naming) (unlinks rs) → Each (Reads (NamesOf t)) (unlinks rs)
-  removals_read [] own = tt
-  removals_read (r ∷ rs) own = (inl (own.0 r.path (inl refl)), removals_read rs own.1)
-
-  pub back_reads : Each (Reads (NamesOf t)) (back_calls t)
-  back_reads = (
-    subst (NamesOf t) (sym h.ready.target_is) (inl (own_place 0 first)),
-    removals_read t.ready.retire (each_end (AllOwn t.log t.naming) (front_of t) (back_of t) (subst (Each (AllOwn t.log t.naming)) (sym (halves t)) (own_paths t h))),
-  )
-
-  -- they ask for what its names name alone
-  pub calls_read : Each (Reads (NamesOf t)) (calls_of t)
-  calls_read =
-      each_append (Reads (NamesOf t)) (unlinks t.ready.leftovers) (map move_step t.ready.moves ++ (transfer_calls t.ready t.job ++ back_calls t))
-      (subst (Each (Reads (NamesOf t))) (sym (left_are t h.ready)) (unlinks_read (leftovers t.count (places_of t.stand.members)) (every_filter (HasName t.naming) (is_left t.count) (places_of t.stand.members) places_named)))
-      (each_append (Reads (NamesOf t)) (map move_step t.ready.moves) (transfer_calls t.ready t.job ++ back_calls t)
-      (subst (Each (Reads (NamesOf t))) (sym (shift_are t h.ready))
-      (moves_read (kept t.count (places_of t.stand.members)) (every_filter (HasName t.naming) (λ k. not (is_left t.count k)) (places_of t.stand.members) places_named) (kept_next t.naming t.count (places_of t.stand.members) h.next)))
-      (each_append (Reads (NamesOf t)) (transfer_calls t.ready t.job) (back_calls t) (transfer_read t.job refl) back_reads))
-
--- what one rotation changes is no name of a set that it doesn't meet
-far : (x t : Target) (e : Entry) → (Meet x.log x.naming t.log t.naming → ⊥) → IsTurn e → AllOwn t.log t.naming e → Avoids (NamesOf x) e
-far x t (entry.Renames from to) apart turn own = (λ i. apart (from, inr (i, own from (inl refl))), λ i. apart (to, inr (i, own to (inr (inl refl)))))
-far x t (entry.Unlinks y) apart turn own = λ i. apart (y, inr (i, own y (inl refl)))
-far x t _ apart turn own = absurd turn
-
+-- of what two conditions hold a third holds
 each_two : (P Q R : Entry → Type 0) (es : List Entry) → ((e : Entry) → P e → Q e → R e) → Each P es → Each Q es → Each R es
 each_two P Q R [] f a b = tt
 each_two P Q R (e ∷ es) f a b = (f e a.0 b.0, each_two P Q R es f a.1 b.1)
 
+-- the names of the log's family
+abbrev pub NamesOf : Target → Path → Type 0
+NamesOf t y = IsOwnName t.log t.naming y
+
+-- what the rotation changes are own names
+own_changes : (t : Target) → HasAnyNames t → Each (ChangesOwn t.log t.naming) (rotation_of t)
+own_changes t (inl h) = own_paths t h
+own_changes t (inr h) = each_every (ChangesOwn t.log t.naming) (rotation_of t) (λ e i. dated_change t e h (inl i))
+
+-- the copy goes by a part file to the final path
+job_of : (t : Target) → HasAnyNames t → HasJob t
+job_of t (inl h) = h.job
+job_of t (inr h) = h.job
+
+-- so a rename or an unlink of the rotation asks of those alone
+turn_asks : (t : Target) (e : Entry) → IsTurn e → ChangesOwn t.log t.naming e → Asks (NamesOf t) e
+turn_asks t (entry.Renames from to) turn own = (own from (inl refl), own to (inr (inl refl)))
+turn_asks t (entry.Unlinks x) turn own = own x (inl refl)
+turn_asks t _ turn own = absurd turn
+
+module _ (t : Target) (h : HasAnyNames t) where
+  -- all its renames and unlinks
+  turns_ask : Each (Asks (NamesOf t)) (rotation_of t)
+  turns_ask = each_two IsTurn (ChangesOwn t.log t.naming) (Asks (NamesOf t)) (rotation_of t) (λ e turn own. turn_asks t e turn own) (rotation_turns t) (own_changes t h)
+
+  -- those behind the leftovers' removals
+  behind_leftovers : Each (Asks (NamesOf t)) (map move_step t.ready.moves ++ (transfer_of t.ready t.job ++ back_of t))
+  behind_leftovers = each_end (Asks (NamesOf t)) (unlinks t.ready.leftovers) (map move_step t.ready.moves ++ (transfer_of t.ready t.job ++ back_of t)) turns_ask
+
+  -- and those behind the moves
+  behind_moves : Each (Asks (NamesOf t)) (transfer_of t.ready t.job ++ back_of t)
+  behind_moves = each_end (Asks (NamesOf t)) (map move_step t.ready.moves) (transfer_of t.ready t.job ++ back_of t) behind_leftovers
+
+  -- the calls of the transfer too; and the final path is one of the names
+  transfer_asks : (j : Option Job) → t.job ≡ j → Each (Asks (NamesOf t)) (transfer_of t.ready j) → Each (Asks (NamesOf t)) (transfer_calls t.ready j) × NamesOf t t.ready.target
+  transfer_asks None is a = (a, a.0.1)
+  transfer_asks (Some job) is a = (
+    each_append (Asks (NamesOf t)) (clearing job) (made job.cut) (each_first (Asks (NamesOf t)) (clearing job) (entry.Renames job.part job.to ∷ []) a) (tt, (log, (moved.0, (moved.0, (moved, (tt, emptied job.cut)))))),
+    subst (NamesOf t) shape.to_is moved.1,
+  )
+    where
+      shape : IsJob t job
+      shape = job_of t h job is
+
+      log : NamesOf t job.from
+      log = the_log shape.from_is
+
+      moved : NamesOf t job.part × NamesOf t job.to
+      moved = (each_end (Asks (NamesOf t)) (clearing job) (entry.Renames job.part job.to ∷ []) a).0
+
+      made : Bool → List Entry
+      made c = entry.Makes job.part job.mode ∷ entry.Reads job.from 0 [] ∷ entry.Appends job.part [] ∷ entry.SyncsFile job.part ∷ entry.Renames job.part job.to ∷ entry.SyncsDir job.dir ∷ cond c (entry.Truncates job.from ∷ []) []
+
+      emptied : (c : Bool) → Each (Asks (NamesOf t)) (cond c (entry.Truncates job.from ∷ []) [])
+      emptied true = (log, tt)
+      emptied false = tt
+
+  -- by the job that there is, if any
+  transferred : Each (Asks (NamesOf t)) (transfer_calls t.ready t.job) × NamesOf t t.ready.target
+  transferred = transfer_asks t.job refl (each_first (Asks (NamesOf t)) (transfer_of t.ready t.job) (back_of t) behind_moves)
+
+  -- so do the read of the final path and the removals behind it
+  pub back_asks : Each (Asks (NamesOf t)) (back_calls t)
+  back_asks = (transferred.1, each_end (Asks (NamesOf t)) (transfer_of t.ready t.job) (back_of t) behind_moves)
+
+  -- so do all calls of the rotation
+  calls_ask : Each (Asks (NamesOf t)) (calls_of t)
+  calls_ask =
+      each_append (Asks (NamesOf t)) (unlinks t.ready.leftovers) (map move_step t.ready.moves ++ (transfer_calls t.ready t.job ++ back_calls t))
+      (each_first (Asks (NamesOf t)) (unlinks t.ready.leftovers) (map move_step t.ready.moves ++ (transfer_of t.ready t.job ++ back_of t)) turns_ask)
+      (each_append (Asks (NamesOf t)) (map move_step t.ready.moves) (transfer_calls t.ready t.job ++ back_calls t)
+      (each_first (Asks (NamesOf t)) (map move_step t.ready.moves) (transfer_of t.ready t.job ++ back_of t) behind_leftovers)
+      (each_append (Asks (NamesOf t)) (transfer_calls t.ready t.job) (back_calls t) transferred.0 back_asks))
+
+-- what one rotation changes is no name of a set that it doesn't meet
+far : (x t : Target) (e : Entry) → (Meet x.log x.naming t.log t.naming → ⊥) → IsTurn e → ChangesOwn t.log t.naming e → Avoids (NamesOf x) e
+far x t (entry.Renames from to) apart turn own = (λ i. apart (from, inl (i, inl (own from (inl refl)))), λ i. apart (to, inl (i, inl (own to (inr (inl refl))))))
+far x t (entry.Unlinks y) apart turn own = λ i. apart (y, inl (i, inl (own y (inl refl))))
+far x t _ apart turn own = absurd turn
+
 pub rotation_far : {o : Option Journal} (x t : Target) → IsFit o t → (Meet x.log x.naming t.log t.naming → ⊥) → Each (Avoids (NamesOf x)) (rotation_of t)
-rotation_far x t fit apart = each_two IsTurn (AllOwn t.log t.naming) (Avoids (NamesOf x)) (rotation_of t) (λ e turn own. far x t e apart turn own) (rotation_turns t) (own_paths t fit.names)
+rotation_far x t fit apart = each_two IsTurn (ChangesOwn t.log t.naming) (Avoids (NamesOf x)) (rotation_of t) (λ e turn own. far x t e apart turn own) (rotation_turns t) (own_changes t fit.names)
 
 -- ---- what goes on fitting
 
 pub fit_later : (x : Target) {P : List Entry → Type 0} {o m : Option Journal} → IsFit o x → Left P o m → ((ts : List Entry) → P ts → Each (Avoids (NamesOf x)) (filter is_naming ts)) → IsFit m x
-fit_later x fit left f = record { names = fit.names; fits = can_far (NamesOf x) (calls_of x) (calls_read x fit.names) fit.fits left f; anew = makes_later x.log None left fit.anew }
+fit_later x fit left f = record { names = fit.names; fits = can_far (NamesOf x) (calls_of x) (calls_ask x fit.names) fit.fits left f; anew = makes_later x.log None left fit.anew }
 
 begun_far : {o : Option Journal} (x t : Target) (ts : List Entry) → IsFit o t → (Meet x.log x.naming t.log t.naming → ⊥) → IsFirstOf (rotation_of t) (filter is_naming ts) → Each (Avoids (NamesOf x)) (filter is_naming ts)
 begun_far x t ts fit apart first = each_first (Avoids (NamesOf x)) (filter is_naming ts) first.0 (subst (Each (Avoids (NamesOf x))) first.1 (rotation_far x t fit apart))

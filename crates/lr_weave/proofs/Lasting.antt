@@ -24,7 +24,8 @@ dir_named q (entry.Unlinks x) d f i h = put_other (names (world q)) x d thing.No
 dir_named q (entry.MakesDir x mode) d f i h = put_other (names (world q)) x d thing.Directory (λ same. nothing_no_dir (names (world q) x) f.1 (ap (names (world q)) (sym same) ∙ h)) ∙ h
 dir_named q _ d f i h = absurd (cc)
 
-dir_walk : (p q : Past) (es : List Entry) (d : Path) → Made p es q → IsDirectoryAt (names (world p)) d → IsDirectoryAt (names (world q)) d
+-- a directory stays one
+pub dir_walk : (p q : Past) (es : List Entry) (d : Path) → Made p es q → IsDirectoryAt (names (world p)) d → IsDirectoryAt (names (world q)) d
 dir_walk p _ _ d at_first h = h
 dir_walk p _ es d (by_writer {q = q} {e = e} m i f) h = directory_more (names (world q)) (names (world (q ▸ e))) d (λ y. wrote_names q e y i) (dir_walk p q es d m h)
 dir_walk p _ _ d (by_tool {es = es} {q = q} {e = e} m i f) h = go (is_naming e) refl (dir_walk p q es d m h)

@@ -5,7 +5,7 @@ use Rattle.std.specs.Prelude.{filter}
 use Rattle.std.proofs.lemmas.List.Elements.{filter-append}
 use Rattle.std.proofs.lemmas.Grind.{flat_map-append}
 use Rattle.std.proofs.lemmas.Slice.Eq.{bytes_eq-Decides}
-use Rattle.lr_rules.specs.declared.civil.Moment.{Moment}
+use Rattle.lr_rules.specs.declared.clock.Clock.{Clock}
 use Rattle.lr_rules.specs.declared.path.Path.{Path}
 use Rattle.lr_rules.specs.declared.fault.Fault.{Fault}
 use Rattle.lr_host.specs.declared.entry.Entry.{Entry}
@@ -30,8 +30,10 @@ use Rattle.lr_plan.specs.Done.{EachDone, LogsDone, is_rotated, if_rotated, SetDo
 use Rattle.lr_rotations.specs.Weave.{Weave, none, own, other, FirstWoven}
 use Rattle.lr_weave.specs.Parts.{change_of, changes_by, IsPlain, ArePlain, EachPlain, IsPlainSet, ArePlainSets, MakesOnly, MakesOne, parts_of_set, parts_of_sets, FirstParts, AllOf, ArePlanned}
 use Rattle.lr_weave.specs.Planned.{NoneHas, AreApart}
-use Rattle.lr_targets.specs.Target.{Target, rotation_of, AreSeen, IsOneOf}
-use Rattle.lr_targets.specs.AllTurns.{AlsoDoes, IsOf, IsOfSome, IsOfOther, IsOfState, StandsBetween, AllTurns}
+use Rattle.lr_targets.specs.Target.{Target, rotation_of, IsOneOf}
+use Rattle.lr_targets.specs.AllTurns.{AlsoDoes, IsOf, IsOfSome, IsOfOther, IsOfState, StandsBetween}
+use Rattle.lr_mixed.specs.AllTurns.{AllTurnsBy}
+use Rattle.lr_mixed.specs.Seen.{AreLogsSeen}
 use Rattle.lr_rotations.proofs.Weaving.{weave_as, weave_on, weave_others}
 use Rattle.lr_rules.specs.declared.rules.Rules.{Rules}
 
@@ -431,9 +433,9 @@ done_some targets sets t f ts planned d = changes_of_some targets sets ts planne
 pub cut_some : (targets : List Target) (sets : List SetSteps) (t : List Mark) (f : List Fault) (ts : List Entry) → ArePlanned targets sets → SetsCut sets t f ts → Each (IsOfSome targets) (filter is_change ts)
 cut_some targets sets t f ts planned c = changes_of_some targets sets ts planned (sets_cut_parts (MakesOne targets) sets t f ts planned.plain c)
 
-abbrev pub turns_by : (state : Path) (now : Moment) (rules : Rules) (looks : List Entry) (targets : List Target) (sets : List SetSteps) (ts : List Entry) → AreQuiet looks → AreSeen rules now.seconds looks targets → ArePlanned targets sets
-    → BegunParts (MakesOne targets) (parts_of_sets sets) ts → AllTurns state now rules (looks ++ ts)
-turns_by state now rules looks targets sets ts quiet seen planned f = record {
+abbrev pub turns_by : (state : Path) (clock : Clock) (rules : Rules) (looks : List Entry) (targets : List Target) (sets : List SetSteps) (ts : List Entry) → AreQuiet looks → AreLogsSeen rules clock looks targets → ArePlanned targets sets
+    → BegunParts (MakesOne targets) (parts_of_sets sets) ts → AllTurnsBy state clock rules (looks ++ ts)
+turns_by state clock rules looks targets sets ts quiet seen planned f = record {
   looks = looks;
   acts = ts;
   joined = refl;
@@ -452,10 +454,10 @@ turns_by state now rules looks targets sets ts quiet seen planned f = record {
       };
 }
 
-abbrev pub done_turns : (state : Path) (now : Moment) (rules : Rules) (looks : List Entry) (targets : List Target) (sets : List SetSteps) (t : List Mark) (f : List Fault) (ts : List Entry) → AreQuiet looks → AreSeen rules now.seconds looks targets → ArePlanned targets sets
-    → SetsDone sets t f ts → AllTurns state now rules (looks ++ ts)
-done_turns state now rules looks targets sets t f ts quiet seen planned d = turns_by state now rules looks targets sets ts quiet seen planned (sets_parts (MakesOne targets) sets t f ts planned.plain d)
+abbrev pub done_turns : (state : Path) (clock : Clock) (rules : Rules) (looks : List Entry) (targets : List Target) (sets : List SetSteps) (t : List Mark) (f : List Fault) (ts : List Entry) → AreQuiet looks → AreLogsSeen rules clock looks targets → ArePlanned targets sets
+    → SetsDone sets t f ts → AllTurnsBy state clock rules (looks ++ ts)
+done_turns state clock rules looks targets sets t f ts quiet seen planned d = turns_by state clock rules looks targets sets ts quiet seen planned (sets_parts (MakesOne targets) sets t f ts planned.plain d)
 
-pub cut_turns : (state : Path) (now : Moment) (rules : Rules) (looks : List Entry) (targets : List Target) (sets : List SetSteps) (t : List Mark) (f : List Fault) (ts : List Entry) → AreQuiet looks → AreSeen rules now.seconds looks targets → ArePlanned targets sets
-    → SetsCut sets t f ts → AllTurns state now rules (looks ++ ts)
-cut_turns state now rules looks targets sets t f ts quiet seen planned c = turns_by state now rules looks targets sets ts quiet seen planned (sets_cut_parts (MakesOne targets) sets t f ts planned.plain c)
+pub cut_turns : (state : Path) (clock : Clock) (rules : Rules) (looks : List Entry) (targets : List Target) (sets : List SetSteps) (t : List Mark) (f : List Fault) (ts : List Entry) → AreQuiet looks → AreLogsSeen rules clock looks targets → ArePlanned targets sets
+    → SetsCut sets t f ts → AllTurnsBy state clock rules (looks ++ ts)
+cut_turns state clock rules looks targets sets t f ts quiet seen planned c = turns_by state clock rules looks targets sets ts quiet seen planned (sets_cut_parts (MakesOne targets) sets t f ts planned.plain c)

@@ -26,12 +26,12 @@ use Rattle.lr_plan.specs.Internal.Asking.{asks}
 use Rattle.lr_plan.specs.Steps.{on_of, program, removal, removals, directory, move, step_if, transfer, made_anew, rotation as steps_of_rotation, retirement as steps_of_retirement, rotation_of as rotation, retirement_of as retirement, steps_of_log, shared_steps, by_logs, steps_of_set}
 use Rattle.lr_targets.specs.Calls.{transfer_calls, calls_of}
 use Rattle.lr_rotations.specs.Weave.{Weave}
-use Rattle.lr_targets.specs.Target.{Target, unlinks, transfer_of, rotation_of, HasReady, IsJob, HasJob, IsOneOf}
+use Rattle.lr_targets.specs.Target.{Target, unlinks, transfer_of, rotation_of, IsJob, HasJob, IsOneOf}
 use Rattle.lr_targets.specs.AllTurns.{AlsoDoes, IsOf, IsOfSome, IsOfOther}
 use Rattle.lr_targets.proofs.Rotating.{two}
 use Rattle.lr_rotations.proofs.Weaving.{weave_on, weave_own, weave_others}
 use Rattle.lr_weave.specs.Parts.{change_of, changes_by, ArePlain, EachPlain, IsPlainSet, ArePlainSets, MakesOne, parts_of_set, parts_of_sets, AllOf, InOnePart, ArePlanned}
-use Rattle.lr_weave.specs.Planned.{bare_removal, bare, IsReadyFor, AreReadyFor, HaveLogs, NoneHas, AreApart}
+use Rattle.lr_weave.specs.Planned.{bare_removal, bare, IsAtLog, IsReadyFor, AreReadyFor, HaveLogs, NoneHas, AreApart}
 use Rattle.lr_weave.proofs.Parting.{none_has, of_other}
 
 -- ---- what the steps of one log ask for
@@ -253,7 +253,7 @@ copy_plain P t job b c h shape is = plain_on P (step_if b (step.Removes job.part
     emptied true = (h (entry.Truncates job.from) ((job, is), shape.from_is), tt)
     emptied false = tt
 
-transfer_plain : (P : Entry → Type 0) (t : Target) (j : Option Job) → OfMaking P t → HasReady t → HasJob t → t.job ≡ j → ArePlain P (transfer t.ready.log t.ready.target j ++ step.Rotated t.ready.log ∷ made_anew t.ready.make t.ready.log j)
+transfer_plain : (P : Entry → Type 0) (t : Target) (j : Option Job) → OfMaking P t → IsAtLog t → HasJob t → t.job ≡ j → ArePlain P (transfer t.ready.log t.ready.target j ++ step.Rotated t.ready.log ∷ made_anew t.ready.make t.ready.log j)
 transfer_plain P t None h r shape is = (tt, (tt, anew t.ready.make))
   where
     anew : (m : Make) → ArePlain P (made_anew m t.ready.log None)
@@ -515,7 +515,7 @@ sets_plain P (g ∷ gs) (s ∷ sets) m h = let k = makings_split P g (all_target
 
 -- ---- P of the others
 
-each_every : (P : Entry → Type 0) (es : List Entry) → ((e : Entry) → IsIn e es → P e) → Each P es
+pub each_every : (P : Entry → Type 0) (es : List Entry) → ((e : Entry) → IsIn e es → P e) → Each P es
 each_every P [] f = tt
 each_every P (x ∷ xs) f = (f x (inl refl), each_every P xs (λ e i. f e (inr i)))
 

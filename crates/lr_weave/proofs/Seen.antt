@@ -1,7 +1,7 @@
 -- The rotations of logs that were seen fit.
 use Rattle.std.proofs.Common.{◌≡◌, inl, inr, refl, Option, Some, None, List, [], ◌∷◌, reverse}
-use Rattle.std.specs.Prelude.{ℤ}
 use Rattle.lr_rules.specs.Path.{path_fault, parent_of}
+use Rattle.lr_rules.specs.declared.clock.Clock.{Clock}
 use Rattle.lr_rules.specs.declared.rules.Rules.{Rules}
 use Rattle.lr_rules.proofs.PathLemmas.{joined_parts}
 use Rattle.lr_host.specs.declared.journal.Journal.{Journal}
@@ -17,10 +17,11 @@ use Rattle.lr_host.proofs.More.{directory_more}
 use Rattle.lr_host.proofs.Quiet.{IsAny, since_any, moment, quiet_more, quiet_still, still_in_order}
 use Rattle.lr_host.proofs.Left.{left_as}
 use Rattle.lr_laws.proofs.StandsIn.{stands_in}
-use Rattle.lr_targets.specs.Apart.{HaveNames}
-use Rattle.lr_targets.specs.Target.{Target, IsSeen, AreSeen}
+use Rattle.lr_targets.specs.Target.{Target}
+use Rattle.lr_dated_run.specs.Own.{HaveAnyNames}
+use Rattle.lr_mixed.specs.Seen.{IsLogSeen, AreLogsSeen}
+use Rattle.lr_mixed.proofs.Calls.{log_can}
 use Rattle.lr_rotations.proofs.Moments.{SawFile, saw_one}
-use Rattle.lr_targets.proofs.SeenFits.{seen_can}
 use Rattle.lr_weave.specs.Fitting.{AreFit, HaveLogPaths}
 
 pub quiet_disk : (p q : Past) → Quiet IsAny p q → IsJournal p → IsJournal q
@@ -33,18 +34,18 @@ pub log_dir : (t : Target) (w : Past) → path_fault t.log ≡ None → IsJourna
 log_dir t w valid j file = stands_in w t.log j (joined_parts t.log valid) (λ none. nothing_no_file (names (world w) t.log) file.0 none file.1)
 
 -- the log was seen in its directory, so it can be made anew
-seen_makes : (rules : Rules) (now : ℤ) (t : Target) (o m : Option Journal) → path_fault t.log ≡ None → WhereTold o IsJournal → Left (λ us. AreQuiet us × IsSeen rules now us t) o m → Can m (entry.Makes t.log None)
-seen_makes rules now t o m valid disk not_told = record { can = tt }
-seen_makes rules now t o m valid disk (is_told {j = j} {k = k} {es = es} made h) = record {
+seen_makes : (rules : Rules) (clock : Clock) (t : Target) (o m : Option Journal) → path_fault t.log ≡ None → WhereTold o IsJournal → Left (λ us. AreQuiet us × IsLogSeen rules clock us t) o m → Can m (entry.Makes t.log None)
+seen_makes rules clock t o m valid disk not_told = record { can = tt }
+seen_makes rules clock t o m valid disk (is_told {j = j} {k = k} {es = es} made h) = record {
   can = let saw : SawFile t.log (reverse es) = saw_one t.log (reverse es) h.1.log_seen in
       let at = moment IsAny (past j) (past k) (entry.Look t.log (Some saw.0)) es (since_any (past j) (past k) es made) made (still_in_order es (quiet_still (reverse es) h.0)) (from_reverse (entry.Look t.log (Some saw.0)) es saw.2) in
       directory_more (names (world at.at)) (names (world (past k))) (parent_of t.log) (quiet_more IsAny at.at (past k) at.until)
       (log_dir t at.at valid (quiet_disk (past j) at.at at.since disk) (seen_file (world at.at) (names (world at.at) t.log) saw.0 at.fits saw.1));
 }
 
-pub seen_fit : (rules : Rules) (now : ℤ) (ts : List Target) (o m : Option Journal) → HaveNames ts → HaveLogPaths ts → WhereTold o IsJournal → Left (λ us. AreQuiet us × AreSeen rules now us ts) o m → AreFit m ts
-seen_fit rules now [] o m h paths disk left = tt
-seen_fit rules now (t ∷ ts) o m h paths disk left = (
-  record { names = h.0; fits = seen_can rules now t o m (left_as left (λ us s. (s.0, s.1.0))); anew = seen_makes rules now t o m (paths t (inl refl)) disk (left_as left (λ us s. (s.0, s.1.0))) },
-  seen_fit rules now ts o m h.1 (λ u i. paths u (inr i)) disk (left_as left (λ us s. (s.0, s.1.1))),
+pub seen_fit : (rules : Rules) (clock : Clock) (ts : List Target) (o m : Option Journal) → HaveAnyNames ts → HaveLogPaths ts → WhereTold o IsJournal → Left (λ us. AreQuiet us × AreLogsSeen rules clock us ts) o m → AreFit m ts
+seen_fit rules clock [] o m h paths disk left = tt
+seen_fit rules clock (t ∷ ts) o m h paths disk left = (
+  record { names = h.0; fits = log_can rules clock t o m (left_as left (λ us s. (s.0, s.1.0))); anew = seen_makes rules clock t o m (paths t (inl refl)) disk (left_as left (λ us s. (s.0, s.1.0))) },
+  seen_fit rules clock ts o m h.1 (λ u i. paths u (inr i)) disk (left_as left (λ us s. (s.0, s.1.1))),
 )

@@ -13,18 +13,17 @@ use Rattle.lr_host.proofs.Left.{left_first, left_then}
 use Rattle.lr_plan.specs.declared.planned.LogPlan.{LogPlan}
 use Rattle.lr_plan.specs.declared.planned.SetPlan.{SetPlan}
 use Rattle.lr_plan.specs.declared.step.Step.{Step}
-use Rattle.lr_plan.specs.Steps.{program, removals, shared_steps}
+use Rattle.lr_plan.specs.Steps.{program, shared_steps}
 use Rattle.lr_plan.specs.Steps as steps
 use Rattle.lr_plan.specs.Internal.Asking.{CanMake}
 use Rattle.lr_rotations.specs.Calls.{CanCalls}
 use Rattle.lr_targets.specs.Target.{Target, IsOneOf}
-use Rattle.lr_rotations.proofs.Alike.{Reads}
 use Rattle.lr_weave.specs.Fitting.{IsFit, AreFit, NoneMeets, DontMeet, ReadOwn, ReadsNothing}
 use Rattle.lr_weave.specs.Parts.{changes_by, ArePlain}
 use Rattle.lr_weave.specs.Planned.{IsReadyFor, AreReadyFor}
 use Rattle.lr_weave.proofs.Parting.{went_changes, joined_changes}
 use Rattle.lr_weave.proofs.Planning.{Anything, front_of, back_of, back_calls, front_is, back_is, halves, front_plain, back_plain, program_none, program_plain}
-use Rattle.lr_weave.proofs.Fits.{Avoids, NamesOf, AllSucceed, each_end, can_far, front_then, back_can, back_reads, rotation_far, fit_later, program_can, unchanged}
+use Rattle.lr_weave.proofs.Fits.{Avoids, NamesOf, AllSucceed, Asks, each_end, can_far, front_then, back_can, back_asks, rotation_far, fit_later, program_can, unchanged}
 
 -- ---- one list behind another
 
@@ -39,7 +38,7 @@ went_all (s ∷ ss) ts plain w = joined_changes ts w.front w.back w.joined ∙ (
 -- ---- what is left of one log
 
 record HasBack (told : Option Journal) (t : Target) : Type 0 where
-  reads : Each (Reads (NamesOf t)) (back_calls t)
+  asks : Each (Asks (NamesOf t)) (back_calls t)
   far_from : (x : Target) → (Meet x.log x.naming t.log t.naming → ⊥) → Each (Avoids (NamesOf x)) (back_of t)
   fits : CanCalls told (back_calls t)
 
@@ -49,13 +48,13 @@ front_far o x t fit apart = each_first (Avoids (NamesOf x)) (front_of t) (back_o
 -- behind its rotation
 back_left : (o m : Option Journal) (t : Target) → IsFit o t → CanCalls m (back_calls t) → HasBack m t
 back_left o m t fit can = record {
-  reads = back_reads t fit.names;
+  asks = back_asks t fit.names;
   far_from = λ x apart. each_end (Avoids (NamesOf x)) (front_of t) (back_of t) (subst (Each (Avoids (NamesOf x))) (sym (halves t)) (rotation_far x t fit apart));
   fits = can;
 }
 
 back_later : (x : Target) {P : List Entry → Type 0} {o m : Option Journal} → HasBack o x → Left P o m → ((ts : List Entry) → P ts → Each (Avoids (NamesOf x)) (filter is_naming ts)) → HasBack m x
-back_later x b left f = record { reads = b.reads; far_from = b.far_from; fits = can_far (NamesOf x) (back_calls x) b.reads b.fits left f }
+back_later x b left f = record { asks = b.asks; far_from = b.far_from; fits = can_far (NamesOf x) (back_calls x) b.asks b.fits left f }
 
 turned_about : (x t : Target) → (Meet x.log x.naming t.log t.naming → ⊥) → Meet t.log t.naming x.log x.naming → ⊥
 turned_about x t f m = f (m.0, ⊎_elim (λ a. inr (a.1, a.0)) (λ b. inl (b.1, b.0)) m.1)

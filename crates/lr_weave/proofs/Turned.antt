@@ -2,7 +2,7 @@
 use Rattle.std.proofs.Common.{inl, List, [], ◌++◌, map, sym, subst}
 use Rattle.std.specs.Prelude.{filter}
 use Rattle.lr_plan.specs.declared.mark.Mark.{Mark}
-use Rattle.lr_rules.specs.declared.civil.Moment.{Moment}
+use Rattle.lr_rules.specs.declared.clock.Clock.{Clock}
 use Rattle.lr_rules.specs.declared.path.Path.{Path}
 use Rattle.lr_rules.specs.declared.rules.Rules.{Rules}
 use Rattle.lr_host.specs.declared.entry.Entry.{Entry}
@@ -11,19 +11,20 @@ use Rattle.lr_host.specs.Quiet.{AreQuiet}
 use Rattle.lr_plan.specs.declared.planned.SetPlan.{SetPlan}
 use Rattle.lr_plan.specs.Steps.{steps_of_set}
 use Rattle.lr_plan.specs.Done.{SetsDone}
-use Rattle.lr_targets.specs.Target.{Target, rotation_of, AreSeen}
+use Rattle.lr_targets.specs.Target.{Target, rotation_of}
 use Rattle.lr_targets.specs.AllTurns.{IsOfOther, StandsBetween}
-use Rattle.lr_targets.specs.AllTurns.{AllTurned}
+use Rattle.lr_mixed.specs.AllTurns.{AllTurnedBy}
+use Rattle.lr_mixed.specs.Seen.{AreLogsSeen}
 use Rattle.lr_weave.specs.Parts.{MakesOne, ArePlanned, parts_of_sets}
 use Rattle.lr_rotations.specs.Weave.{Weave}
 use Rattle.lr_weave.proofs.Parting.{only_as, made_between, sets_parts, weave_change, done_turns}
 use Rattle.lr_rotations.proofs.Weaving.{weave_as}
 use Rattle.lr_weave.proofs.Whole.{done_whole, one_joined}
 
-abbrev pub done_turned : (state : Path) (now : Moment) (rules : Rules) (looks : List Entry) (targets : List Target) (sets : List SetPlan) (t : List Mark) (ts : List Entry) → AreQuiet looks → AreSeen rules now.seconds looks targets → ArePlanned targets (map steps_of_set sets)
-    → SetsDone (map steps_of_set sets) t [] ts → AllTurned state now rules (looks ++ ts)
-done_turned state now rules looks targets sets t ts quiet seen planned d = record {
-  turns = done_turns state now rules looks targets (map steps_of_set sets) t [] ts quiet seen planned d;
+abbrev pub done_turned : (state : Path) (clock : Clock) (rules : Rules) (looks : List Entry) (targets : List Target) (sets : List SetPlan) (t : List Mark) (ts : List Entry) → AreQuiet looks → AreLogsSeen rules clock looks targets → ArePlanned targets (map steps_of_set sets)
+    → SetsDone (map steps_of_set sets) t [] ts → AllTurnedBy state clock rules (looks ++ ts)
+done_turned state clock rules looks targets sets t ts quiet seen planned d = record {
+  turns = done_turns state clock rules looks targets (map steps_of_set sets) t [] ts quiet seen planned d;
   whole = λ x i. weave_change (StandsBetween state x targets) (rotation_of x) ts
       (weave_as (IsOfOther x.log targets) (StandsBetween state x targets) (rotation_of x) (filter is_naming ts) (λ e h. inl h)
       (subst (Weave (IsOfOther x.log targets) (rotation_of x)) (sym (done_whole (MakesOne targets) sets t ts planned.plain d)) (one_joined (IsOfOther x.log targets) (rotation_of x) (parts_of_sets (map steps_of_set sets)) (planned.each x i))))

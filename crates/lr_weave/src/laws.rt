@@ -1,7 +1,7 @@
 // What the acts of a plan leave.
-ghost use Rattle.std.specs.Prelude.{ℤ, List, Option, [], ◌++◌, map};
+ghost use Rattle.std.specs.Prelude.{List, Option, [], ◌++◌, map};
 ghost use Rattle.std.specs.List.{flat_map};
-ghost use Rattle.lr_rules.specs.declared.civil.Moment.{Moment};
+ghost use Rattle.lr_rules.specs.declared.clock.Clock.{Clock};
 ghost use Rattle.lr_rules.specs.declared.path.Path.{Path};
 ghost use Rattle.lr_rules.specs.declared.fault.Fault.{Fault};
 ghost use Rattle.lr_rules.specs.declared.rules.Rules.{Rules};
@@ -17,9 +17,10 @@ ghost use Rattle.lr_plan.specs.Steps.{steps_of_set};
 ghost use Rattle.lr_plan.specs.Done.{SetsDone};
 ghost use Rattle.lr_plan.specs.Internal.Asking.{CanSets};
 ghost use Rattle.lr_plan.specs.Internal.Cut.{SetsCut};
-ghost use Rattle.lr_targets.specs.AllTurns.{AllTurns, AllTurned};
-ghost use Rattle.lr_targets.specs.Apart.{HaveNames};
-ghost use Rattle.lr_targets.specs.Target.{Target, AreSeen};
+ghost use Rattle.lr_targets.specs.Target.{Target};
+ghost use Rattle.lr_dated_run.specs.Own.{HaveAnyNames};
+ghost use Rattle.lr_mixed.specs.AllTurns.{AllTurnsBy, AllTurnedBy};
+ghost use Rattle.lr_mixed.specs.Seen.{AreLogsSeen};
 ghost use Rattle.lr_weave.specs.Fitting.{AreFit, HaveLogPaths, ReadOnlyOwn, DontMeet};
 ghost use Rattle.lr_weave.specs.Parts.{ArePlanned};
 ghost use Rattle.lr_weave.specs.Planned.{HaveLogs, AreApart};
@@ -33,21 +34,21 @@ pub fn ready_is_planned()
 
 /// Behind looks that saw its logs, the acts of a planned plan leave the entries of a run that rotates them, whatever failed.
 pub fn acts_turn_all()
-    ensures { (state : Path) (now : Moment) (rules : Rules) (looks : List Entry) (targets : List Target) (sets : List SetSteps) (marks : List Mark) (faults : List Fault) (ts : List Entry)
-        → AreQuiet looks → AreSeen rules now.seconds looks targets → ArePlanned targets sets → SetsDone sets marks faults ts → AllTurns state now rules (looks ++ ts) }
+    ensures { (state : Path) (clock : Clock) (rules : Rules) (looks : List Entry) (targets : List Target) (sets : List SetSteps) (marks : List Mark) (faults : List Fault) (ts : List Entry)
+        → AreQuiet looks → AreLogsSeen rules clock looks targets → ArePlanned targets sets → SetsDone sets marks faults ts → AllTurnsBy state clock rules (looks ++ ts) }
 {}
 
 /// So they do as far as they came where there was no memory to run a program.
 pub fn cut_acts_turn_all()
-    ensures { (state : Path) (now : Moment) (rules : Rules) (looks : List Entry) (targets : List Target) (sets : List SetSteps) (marks : List Mark) (faults : List Fault) (ts : List Entry)
-        → AreQuiet looks → AreSeen rules now.seconds looks targets → ArePlanned targets sets → SetsCut sets marks faults ts → AllTurns state now rules (looks ++ ts) }
+    ensures { (state : Path) (clock : Clock) (rules : Rules) (looks : List Entry) (targets : List Target) (sets : List SetSteps) (marks : List Mark) (faults : List Fault) (ts : List Entry)
+        → AreQuiet looks → AreLogsSeen rules clock looks targets → ArePlanned targets sets → SetsCut sets marks faults ts → AllTurnsBy state clock rules (looks ++ ts) }
 {}
 
 /// Behind looks that saw the logs, the rotation of each fits by itself, whatever writers did meanwhile, and on a disk the log
 /// can be made anew, since what stood there stood in a directory.
 pub fn seen_is_fit()
-    ensures { (rules : Rules) (moment : ℤ) (targets : List Target) (before now : Option Journal) → HaveNames targets → HaveLogPaths targets → WhereTold before IsJournal
-        → Left (λ ts. AreQuiet ts × AreSeen rules moment ts targets) before now → AreFit now targets }
+    ensures { (rules : Rules) (clock : Clock) (targets : List Target) (before now : Option Journal) → HaveAnyNames targets → HaveLogPaths targets → WhereTold before IsJournal
+        → Left (λ ts. AreQuiet ts × AreLogsSeen rules clock ts targets) before now → AreFit now targets }
 {}
 
 /// Where the rotation of each log fits by itself, and no two logs meet, the steps of all fit, wherever those before them
@@ -60,7 +61,7 @@ pub fn ready_can_be_made()
 
 /// Acts without a fault rotate each log of the plan whole.
 pub fn whole_acts_turn_all()
-    ensures { (state : Path) (now : Moment) (rules : Rules) (looks : List Entry) (targets : List Target) (sets : List SetPlan) (marks : List Mark) (ts : List Entry)
-        → AreQuiet looks → AreSeen rules now.seconds looks targets → ArePlanned targets (map steps_of_set sets) → SetsDone (map steps_of_set sets) marks [] ts
-        → AllTurned state now rules (looks ++ ts) }
+    ensures { (state : Path) (clock : Clock) (rules : Rules) (looks : List Entry) (targets : List Target) (sets : List SetPlan) (marks : List Mark) (ts : List Entry)
+        → AreQuiet looks → AreLogsSeen rules clock looks targets → ArePlanned targets (map steps_of_set sets) → SetsDone (map steps_of_set sets) marks [] ts
+        → AllTurnedBy state clock rules (looks ++ ts) }
 {}
