@@ -1,6 +1,6 @@
 -- Behind the acts of a plan the state has its place.
 use Rattle.std.proofs.Common.{◌≡◌, ◌⊎◌, inl, inr, ⊎_elim, ℕ, Bool, true, false, refl, sym, subst, List, [], ◌∷◌, map, reverse, Option, Some, None, Ok}
-use Rattle.lr_rules.specs.declared.civil.Moment.{Moment}
+use Rattle.lr_rules.specs.declared.clock.Clock.{Clock}
 use Rattle.lr_rules.specs.declared.fault.Fault.{Fault}
 use Rattle.lr_rules.specs.declared.path.Path.{Path}
 use Rattle.lr_rules.specs.declared.rule.Rule.{Rule}
@@ -29,7 +29,6 @@ use Rattle.lr_reading.proofs.Quiet.{state_quiet}
 use Rattle.lr_targets.specs.Target.{Target, IsOneOf}
 use Rattle.lr_weave.specs.Parts.{ArePlanned}
 use Rattle.lr_weave.proofs.Planning.{ready_planned}
-use Rattle.lr_fields.specs.Built.{AreBuiltRules}
 use Rattle.lr_seen.specs.Free.{reserved_by, AreFreeOf}
 use Rattle.lr_seen.specs.Targets.{groups_of, all_targets}
 use Rattle.lr_seen.proofs.Apart.{targets_apart}
@@ -71,21 +70,21 @@ untold (is_told m p) e = absurd (cc)
 
 -- the law that no log of a plan has a reserved name
 abbrev pub AllAreFree : Type 0
-AllAreFree = (reserved : List Path) (rules : List Rule) (sets : List SetLooks) (faults : List Fault) (ts : List Entry) (now : Moment) (decide : Rule → LogLook → Due) → ShowsLooks reserved rules sets faults ts → AreFreeOf reserved (all_targets now decide rules sets)
+AllAreFree = (reserved : List Path) (rules : List Rule) (sets : List SetLooks) (faults : List Fault) (ts : List Entry) (clock : Clock) (decide : Rule → LogLook → Due) → ShowsLooks reserved rules sets faults ts → AreFreeOf reserved (all_targets clock decide rules sets)
 
 -- behind a reading and looks that left entries
-placed : AllAreFree → (state : Path) (size : ℕ) (r : Remembered) (rules : Rules) (sets : List SetLooks) (now : Moment) (mailer : Path) (decide : Rule → LogLook → Due) (marks : List Mark) (faults : List Fault) (dirs : List Path) (before read looked acted : Option Journal) (us : List Entry)
-    → AreBuiltRules rules.sets → AreDirsOfLogs (all_targets now decide rules.sets sets) dirs → WhereTold before IsJournal → Can before (entry.List (parent_of state) [])
+placed : AllAreFree → (state : Path) (size : ℕ) (r : Remembered) (rules : Rules) (sets : List SetLooks) (clock : Clock) (mailer : Path) (decide : Rule → LogLook → Due) (marks : List Mark) (faults : List Fault) (dirs : List Path) (before read looked acted : Option Journal) (us : List Entry)
+    → AreDirsOfLogs (all_targets clock decide rules.sets sets) dirs → WhereTold before IsJournal → Can before (entry.List (parent_of state) [])
     → Left (ReadsState state size (Ok (Ok r))) before read → Left (LooksCameTo (reserved_by state) rules.sets sets) read looked → LooksCameTo (reserved_by state) rules.sets sets us
-    → Left (SetsDone (map steps_of_set (all_plans now mailer decide rules.sets sets)) marks faults) looked acted → CanBegin acted state r.stale dirs
-placed free state size r rules sets now mailer decide marks faults dirs before read looked acted us built of_logs disk there reading looks shown acts = record {
+    → Left (SetsDone (map steps_of_set (all_plans clock mailer decide rules.sets sets)) marks faults) looked acted → CanBegin acted state r.stale dirs
+placed free state size r rules sets clock mailer decide marks faults dirs before read looked acted us of_logs disk there reading looks shown acts = record {
   place = has_place state dirs acted
       (on (IsFree state) (free_stays state) (free_kept reserved state (inl refl)) (said (IsFree state) (free_stays state) disk reading quiet (reading_says_free state size r)))
       (on (λ n. IsDirectoryAt n (parent_of state)) (dir_stays (parent_of state)) (dir_kept reserved (parent_of state)) (lasts_quiet (λ n. IsDirectoryAt n (parent_of state)) (dir_stays (parent_of state)) reading quiet there.can))
       (λ dir i. let o = of_logs dir i in
       over_acts (λ n. IsDirectoryAt n dir) (dir_stays dir) (dir_kept reserved dir)
       (said (λ n. IsDirectoryAt n dir) (dir_stays dir) (disk_on reading disk) looks quiet_looks
-      (λ ts s. says_dir rules now ts targets o.0 dir (targets_seen rules sets s.0 ts now decide built s.1) o.1 (targets_have_paths rules.sets sets s.0 ts now decide s.1 o.0 (is_in o.0 targets o.1)) o.2)));
+      (λ ts s. says_dir rules clock ts targets o.0 dir (targets_seen rules sets s.0 ts clock decide s.1) o.1 (targets_have_paths rules.sets sets s.0 ts clock decide s.1 o.0 (is_in o.0 targets o.1)) o.2)));
   part = is_there (state_part state) r.stale acted (λ stale.
       on (λ n. IsFileAt n (state_part state)) (file_stays (state_part state)) (file_kept reserved (state_part state) (inr (inl refl)))
       (said (λ n. IsFileAt n (state_part state)) (file_stays (state_part state)) disk reading quiet (reading_says_part state size r stale)));
@@ -100,7 +99,7 @@ placed free state size r rules sets now mailer decide marks faults dirs before r
     reserved = reserved_by state
 
     targets : List Target
-    targets = all_targets now decide rules.sets sets
+    targets = all_targets clock decide rules.sets sets
 
     quiet : (ts : List Entry) → ReadsState state size (Ok (Ok r)) ts → AreQuiet ts
     quiet ts s = state_quiet state size s.sights ts s.shown
@@ -108,20 +107,20 @@ placed free state size r rules sets now mailer decide marks faults dirs before r
     quiet_looks : (ts : List Entry) → LooksCameTo (reserved_by state) rules.sets sets ts → AreQuiet ts
     quiet_looks ts s = whole_quiet rules.sets sets s.0 ts s.1
 
-    planned : ArePlanned targets (map steps_of_set (all_plans now mailer decide rules.sets sets))
-    planned = ready_planned (groups_of now decide rules.sets sets) (all_plans now mailer decide rules.sets sets) (plans_have_logs rules.sets sets shown.0 us now mailer decide built shown.1) (targets_apart rules.sets sets shown.0 us now decide shown.1)
+    planned : ArePlanned targets (map steps_of_set (all_plans clock mailer decide rules.sets sets))
+    planned = ready_planned (groups_of clock decide rules.sets sets) (all_plans clock mailer decide rules.sets sets) (plans_have_logs rules.sets sets shown.0 us clock mailer decide shown.1) (targets_apart rules.sets sets shown.0 us clock decide shown.1)
 
     over_acts : (Q : Names → Type 0) → Stays Q → IsKeptBy (Spares reserved) Q → Holds Q looked → Holds Q acted
     over_acts Q stays kept h = lasts Q (Spares reserved) stays kept acts (λ ts d.
-        acts_spare reserved targets (map steps_of_set (all_plans now mailer decide rules.sets sets)) marks faults ts (targets_have_names rules sets shown.0 us now decide built shown.1) (free reserved rules.sets sets shown.0 us now decide shown.1) planned d) h
+        acts_spare reserved targets (map steps_of_set (all_plans clock mailer decide rules.sets sets)) marks faults ts (targets_have_names rules sets shown.0 us clock decide shown.1) (free reserved rules.sets sets shown.0 us clock decide shown.1) planned d) h
 
     on : (Q : Names → Type 0) → Stays Q → IsKeptBy (Spares reserved) Q → Holds Q read → Holds Q acted
     on Q stays kept h = over_acts Q stays kept (lasts_quiet Q stays looks quiet_looks h)
 
-pub state_placed : AllAreFree → (state : Path) (size : ℕ) (remembered : Remembered) (rules : Rules) (sets : List SetLooks) (now : Moment) (mailer : Path) (decide : Rule → LogLook → Due) (marks : List Mark) (faults : List Fault) (dirs : List Path) (before read looked acted : Option Journal)
-    → AreBuiltRules rules.sets → AreDirsOfLogs (all_targets now decide rules.sets sets) dirs → WhereTold before IsJournal → Can before (entry.List (parent_of state) [])
+pub state_placed : AllAreFree → (state : Path) (size : ℕ) (remembered : Remembered) (rules : Rules) (sets : List SetLooks) (clock : Clock) (mailer : Path) (decide : Rule → LogLook → Due) (marks : List Mark) (faults : List Fault) (dirs : List Path) (before read looked acted : Option Journal)
+    → AreDirsOfLogs (all_targets clock decide rules.sets sets) dirs → WhereTold before IsJournal → Can before (entry.List (parent_of state) [])
     → Left (ReadsState state size (Ok (Ok remembered))) before read → Left (LooksCameTo (reserved_by state) rules.sets sets) read looked
-    → Left (SetsDone (map steps_of_set (all_plans now mailer decide rules.sets sets)) marks faults) looked acted → CanBegin acted state remembered.stale dirs
-state_placed free state size r rules sets now mailer decide marks faults dirs before read looked acted built of_logs disk there reading looks acts =
+    → Left (SetsDone (map steps_of_set (all_plans clock mailer decide rules.sets sets)) marks faults) looked acted → CanBegin acted state remembered.stale dirs
+state_placed free state size r rules sets clock mailer decide marks faults dirs before read looked acted of_logs disk there reading looks acts =
     ⊎_elim (λ none. subst (λ told. CanBegin told state r.stale dirs) (sym (untold acts none)) (record { place = tt; part = tt }))
-    (λ s. placed free state size r rules sets now mailer decide marks faults dirs before read looked acted s.0 built of_logs disk there reading looks s.1 acts) (shown_or_none looks)
+    (λ s. placed free state size r rules sets clock mailer decide marks faults dirs before read looked acted s.0 of_logs disk there reading looks s.1 acts) (shown_or_none looks)

@@ -1,6 +1,6 @@
 // Where a state can be written.
 ghost use Rattle.std.specs.Prelude.{ℕ, List, [], map, Option, Ok};
-ghost use Rattle.lr_rules.specs.declared.civil.Moment.{Moment};
+ghost use Rattle.lr_rules.specs.declared.clock.Clock.{Clock};
 ghost use Rattle.lr_rules.specs.declared.fault.Fault.{Fault};
 ghost use Rattle.lr_rules.specs.declared.path.Path.{Path};
 ghost use Rattle.lr_rules.specs.declared.rule.Rule.{Rule};
@@ -19,7 +19,6 @@ ghost use Rattle.lr_plan.specs.Planned.{all_plans};
 ghost use Rattle.lr_plan.specs.Steps.{steps_of_set};
 ghost use Rattle.lr_reading.specs.declared.remembered.Remembered.{Remembered};
 ghost use Rattle.lr_reading.specs.Answers.{ReadsState};
-ghost use Rattle.lr_fields.specs.Built.{AreBuiltRules};
 ghost use Rattle.lr_seen.specs.Free.{reserved_by};
 ghost use Rattle.lr_seen.specs.Targets.{all_targets};
 ghost use Rattle.lr_writing.specs.Fits.{CanBegin};
@@ -32,11 +31,11 @@ use lr_seen::targets_are_free;
 /// of its part file are as the reading saw them, since no log of the plan has such a name, and its directory stands, as do
 /// those of the logs and of their members, on a disk. The state was read, the logs were looked at and the acts were made, one behind another.
 pub fn state_has_its_place()
-    ensures { (state : Path) (size : ℕ) (remembered : Remembered) (rules : Rules) (sets : List SetLooks) (now : Moment) (mailer : Path) (decide : Rule → LogLook → Due) (marks : List Mark) (faults : List Fault) (dirs : List Path)
+    ensures { (state : Path) (size : ℕ) (remembered : Remembered) (rules : Rules) (sets : List SetLooks) (clock : Clock) (mailer : Path) (decide : Rule → LogLook → Due) (marks : List Mark) (faults : List Fault) (dirs : List Path)
         (before read looked acted : Option Journal)
-        → AreBuiltRules rules.sets → AreDirsOfLogs (all_targets now decide rules.sets sets) dirs → WhereTold before IsJournal → Can before (entry.List (parent_of state) [])
+        → AreDirsOfLogs (all_targets clock decide rules.sets sets) dirs → WhereTold before IsJournal → Can before (entry.List (parent_of state) [])
         → Left (ReadsState state size (Ok (Ok remembered))) before read → Left (LooksCameTo (reserved_by state) rules.sets sets) read looked
-        → Left (SetsDone (map steps_of_set (all_plans now mailer decide rules.sets sets)) marks faults) looked acted → CanBegin acted state remembered.stale dirs }
+        → Left (SetsDone (map steps_of_set (all_plans clock mailer decide rules.sets sets)) marks faults) looked acted → CanBegin acted state remembered.stale dirs }
 {
     targets_are_free();
 }

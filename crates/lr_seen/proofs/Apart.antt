@@ -2,7 +2,7 @@
 use Rattle.std.proofs.Common.{◌≡◌, ◌≢◌, ⊎_elim, ℕ, suc, ◌+◌, ◌<◌, ◌≤◌, Bool, true, false, cond, eqb, List, [], ◌∷◌, map, Some, slice_get, refl, sym, ap, ◌∙◌, subst, arith}
 use Rattle.std.specs.Borrow.{Bor}
 use Rattle.std.specs.List.{flat_map, AllByRecursion}
-use Rattle.lr_rules.specs.declared.civil.Moment.{Moment}
+use Rattle.lr_rules.specs.declared.clock.Clock.{Clock}
 use Rattle.lr_rules.specs.declared.fault.Fault.{Fault}
 use Rattle.lr_rules.specs.declared.path.Path.{Path}
 use Rattle.lr_rules.specs.declared.rule.Naming.{Naming}
@@ -44,7 +44,7 @@ off_back p n q m h = (λ e. h.0 (sym e), h.2, h.1)
 abbrev pub OffFound : FoundLog → FoundLog → Type 0
 OffFound f g = Off f.log.path f.log.naming g.log.path g.log.naming
 
-abbrev OffLooked : LookedLog → LookedLog → Type 0
+abbrev pub OffLooked : LookedLog → LookedLog → Type 0
 OffLooked x y = Off x.path x.naming y.path y.naming
 
 abbrev OffTarget : Target → Target → Type 0
@@ -125,7 +125,7 @@ files_pairs fs p = pairs_flat OffFound OffFound where_file fs (λ f. alone f (is
 
 -- ---- the logs that were looked at whole
 
-looked_pairs : (fs : List FoundLog) (ss : List FamilySight) → Pairs OffFound fs → Pairs OffLooked (looked_of fs ss)
+pub looked_pairs : (fs : List FoundLog) (ss : List FamilySight) → Pairs OffFound fs → Pairs OffLooked (looked_of fs ss)
 looked_pairs [] [] p = tt
 looked_pairs [] (s ∷ ss) p = tt
 looked_pairs (f ∷ fs) [] p = tt
@@ -151,19 +151,19 @@ one_alone (due.Yes why) [] t = (tt, tt)
 one_alone (due.Yes why) (f ∷ fs) t = tt
 one_alone (due.No why) fs t = tt
 
-targets_pairs : (now : Moment) (k : ℕ) (rule : Rule) (decide : LogLook → Due) (looks : List LogLook) (logs : List LookedLog) → map (looked_in k) looks ≡ of_set k logs → Pairs OffLooked logs → Pairs OffTarget (targets_of now rule decide looks)
-targets_pairs now k rule decide looks logs same p =
-    pairs_flat (λ (a b : LogLook). OffLooked (looked_in k a) (looked_in k b)) OffTarget from_look looks (λ look. one_alone (decide look) (hindrances rule look) (target_of now rule look)) cross
+targets_pairs : (clock : Clock) (k : ℕ) (rule : Rule) (decide : LogLook → Due) (looks : List LogLook) (logs : List LookedLog) → map (looked_in k) looks ≡ of_set k logs → Pairs OffLooked logs → Pairs OffTarget (targets_of clock rule decide looks)
+targets_pairs clock k rule decide looks logs same p =
+    pairs_flat (λ (a b : LogLook). OffLooked (looked_in k a) (looked_in k b)) OffTarget from_look looks (λ look. one_alone (decide look) (hindrances clock rule look) (target_of clock rule look)) cross
     (pairs_unmap OffLooked (looked_in k) looks (subst (Pairs OffLooked) (sym same) (set_pairs k logs p)))
   where
     from_look : LogLook → List Target
-    from_look look = where_due (decide look) (where_free (hindrances rule look) (target_of now rule look))
+    from_look look = where_due (decide look) (where_free (hindrances clock rule look) (target_of clock rule look))
 
-    is_target : (look : LogLook) (t : Target) → IsIn t (from_look look) → t ≡ target_of now rule look
-    is_target look t i = (in_free (hindrances rule look) (target_of now rule look) t (in_due (decide look) (where_free (hindrances rule look) (target_of now rule look)) t i)).1
+    is_target : (look : LogLook) (t : Target) → IsIn t (from_look look) → t ≡ target_of clock rule look
+    is_target look t i = (in_free (hindrances clock rule look) (target_of clock rule look) t (in_due (decide look) (where_free (hindrances clock rule look) (target_of clock rule look)) t i)).1
 
     cross : (a b : LogLook) (t u : Target) → OffLooked (looked_in k a) (looked_in k b) → IsIn t (from_look a) → IsIn u (from_look b) → OffTarget t u
-    cross a b t u h i j = subst (λ (x : Target). OffTarget x u) (sym (is_target a t i)) (subst (λ (x : Target). OffTarget (target_of now rule a) x) (sym (is_target b u j)) h)
+    cross a b t u h i j = subst (λ (x : Target). OffTarget x u) (sym (is_target a t i)) (subst (λ (x : Target). OffTarget (target_of clock rule a) x) (sym (is_target b u j)) h)
 
 -- ---- the targets of all
 
@@ -182,8 +182,8 @@ record IsOf (logs : List LookedLog) (k : ℕ) (t : Target) : Type 0 where
   path : x.path ≡ t.log
   naming : x.naming ≡ t.naming
 
-is_of : (now : Moment) (logs : List LookedLog) (k : ℕ) (rules : List Rule) (sets : List SetLooks) (t : Target) → HaveLooksFrom k logs sets → Comes now rules sets t → IsOf logs k t
-is_of now logs k rules sets t h c = record {
+is_of : (clock : Clock) (logs : List LookedLog) (k : ℕ) (rules : List Rule) (sets : List SetLooks) (t : Target) → HaveLooksFrom k logs sets → Comes clock rules sets t → IsOf logs k t
+is_of clock logs k rules sets t h c = record {
   x = looked_in (k + c.place) c.look;
   among = was_looked k c.place logs sets c.set c.look h c.at_set c.among;
   late = omega arith;
@@ -201,22 +201,22 @@ off_of logs k t u p a at b =
     same_names : (p p' : Path) (n n' : Naming) (q q' : Path) (m m' : Naming) → p ≡ p' → n ≡ n' → q ≡ q' → m ≡ m' → Off p n q m → Off p' n' q' m'
     same_names p p' n n' q q' m m' e f g i h = subst (λ x. Off x n' q' m') e (subst (λ x. Off p x q' m') f (subst (λ x. Off p n x m') g (subst (λ x. Off p n q x) i h)))
 
-all_pairs : (now : Moment) (decide : Rule → LogLook → Due) (logs : List LookedLog) (k : ℕ) (rules : List Rule) (sets : List SetLooks) → Pairs OffLooked logs → HaveLooksFrom k logs sets → Pairs OffTarget (all_targets now decide rules sets)
-all_pairs now decide logs k [] [] p h = tt
-all_pairs now decide logs k [] (set ∷ sets) p h = tt
-all_pairs now decide logs k (rule ∷ rules) [] p h = tt
-all_pairs now decide logs k (rule ∷ rules) (set ∷ sets) p h =
-    pairs_both OffTarget (targets_of now rule (decide rule) set.logs) (all_targets now decide rules sets)
-    (targets_pairs now k rule (decide rule) set.logs logs h.0 p)
-    (all_pairs now decide logs (k + 1) rules sets p h.1)
+all_pairs : (clock : Clock) (decide : Rule → LogLook → Due) (logs : List LookedLog) (k : ℕ) (rules : List Rule) (sets : List SetLooks) → Pairs OffLooked logs → HaveLooksFrom k logs sets → Pairs OffTarget (all_targets clock decide rules sets)
+all_pairs clock decide logs k [] [] p h = tt
+all_pairs clock decide logs k [] (set ∷ sets) p h = tt
+all_pairs clock decide logs k (rule ∷ rules) [] p h = tt
+all_pairs clock decide logs k (rule ∷ rules) (set ∷ sets) p h =
+    pairs_both OffTarget (targets_of clock rule (decide rule) set.logs) (all_targets clock decide rules sets)
+    (targets_pairs clock k rule (decide rule) set.logs logs h.0 p)
+    (all_pairs clock decide logs (k + 1) rules sets p h.1)
     cross
   where
     plus_none : (n : ℕ) → n + 0 ≡ n
     plus_none n = omega arith
 
-    own : (t : Target) → IsIn t (targets_of now rule (decide rule) set.logs) → (a : IsOf logs k t) × (a.x.set ≡ k)
+    own : (t : Target) → IsIn t (targets_of clock rule (decide rule) set.logs) → (a : IsOf logs k t) × (a.x.set ≡ k)
     own t i =
-        let o = of_look now rule (decide rule) set.logs t i in (
+        let o = of_look clock rule (decide rule) set.logs t i in (
           record {
             x = looked_in (k + 0) o.look;
             among = was_looked k 0 logs (set ∷ sets) set o.look h refl o.among;
@@ -227,8 +227,8 @@ all_pairs now decide logs k (rule ∷ rules) (set ∷ sets) p h =
           plus_none k,
         )
 
-    cross : (t u : Target) → IsIn t (targets_of now rule (decide rule) set.logs) → IsIn u (all_targets now decide rules sets) → OffTarget t u
-    cross t u i j = let a = own t i in off_of logs k t u p a.0 a.1 (is_of now logs (k + 1) rules sets u h.1 (comes_from now decide rules sets u j))
+    cross : (t u : Target) → IsIn t (targets_of clock rule (decide rule) set.logs) → IsIn u (all_targets clock decide rules sets) → OffTarget t u
+    cross t u i j = let a = own t i in off_of logs k t u p a.0 a.1 (is_of clock logs (k + 1) rules sets u h.1 (comes_from clock decide rules sets u j))
 
 -- the logs that are kept are apart
 pub kept_off : {reserved : List Path} (rules : List Rule) (sets : List SetLooks) (faults : List Fault) (ts : List Entry) (s : ShowsLooks reserved rules sets faults ts) → Pairs OffFound s.kept
@@ -254,8 +254,8 @@ dont_meet : (ts : List Target) → Pairs OffTarget ts → DontMeet ts
 dont_meet [] p = tt
 dont_meet (t ∷ ts) p = (none_meets t ts p.0, dont_meet ts p.1)
 
-pub targets_apart : {reserved : List Path} (rules : List Rule) (sets : List SetLooks) (faults : List Fault) (ts : List Entry) (now : Moment) (decide : Rule → LogLook → Due) → ShowsLooks reserved rules sets faults ts → AreApart (all_targets now decide rules sets)
-targets_apart rules sets faults ts now decide s = are_apart (all_targets now decide rules sets) (all_pairs now decide s.looked 0 rules sets (looks_pairs rules sets faults ts s) s.by_sets)
+pub targets_apart : {reserved : List Path} (rules : List Rule) (sets : List SetLooks) (faults : List Fault) (ts : List Entry) (clock : Clock) (decide : Rule → LogLook → Due) → ShowsLooks reserved rules sets faults ts → AreApart (all_targets clock decide rules sets)
+targets_apart rules sets faults ts clock decide s = are_apart (all_targets clock decide rules sets) (all_pairs clock decide s.looked 0 rules sets (looks_pairs rules sets faults ts s) s.by_sets)
 
-pub targets_dont_meet : {reserved : List Path} (rules : List Rule) (sets : List SetLooks) (faults : List Fault) (ts : List Entry) (now : Moment) (decide : Rule → LogLook → Due) → ShowsLooks reserved rules sets faults ts → DontMeet (all_targets now decide rules sets)
-targets_dont_meet rules sets faults ts now decide s = dont_meet (all_targets now decide rules sets) (all_pairs now decide s.looked 0 rules sets (looks_pairs rules sets faults ts s) s.by_sets)
+pub targets_dont_meet : {reserved : List Path} (rules : List Rule) (sets : List SetLooks) (faults : List Fault) (ts : List Entry) (clock : Clock) (decide : Rule → LogLook → Due) → ShowsLooks reserved rules sets faults ts → DontMeet (all_targets clock decide rules sets)
+targets_dont_meet rules sets faults ts clock decide s = dont_meet (all_targets clock decide rules sets) (all_pairs clock decide s.looked 0 rules sets (looks_pairs rules sets faults ts s) s.by_sets)

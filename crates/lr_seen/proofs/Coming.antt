@@ -1,7 +1,7 @@
 -- Where a target comes from: a look of the plan that nothing hinders, a log that was looked at whole, and a word of its rule that found it.
 use Rattle.std.proofs.Common.{◌≡◌, inl, inr, ⊎_elim, ℕ, zero, suc, ◌+◌, ◌-◌, Bool, true, false, cond, eqb, List, [], ◌∷◌, ◌++◌, length, map, Some, Ok, Err, slice_get, refl, sym, ap, ◌∙◌, subst, append_assoc, arith}
 use Rattle.std.specs.List.{flat_map}
-use Rattle.lr_rules.specs.declared.civil.Moment.{Moment}
+use Rattle.lr_rules.specs.declared.clock.Clock.{Clock}
 use Rattle.lr_rules.specs.declared.fault.Fault.{Fault}
 use Rattle.lr_rules.specs.declared.path.Path.{Path}
 use Rattle.lr_rules.specs.declared.rule.Rule.{Rule}
@@ -43,20 +43,20 @@ in_free [] u t (inr none) = absurd none
 in_free (f ∷ fs) u t h = absurd h
 
 -- The target is that of one of these looks, which nothing hinders.
-pub record IsOfLook (now : Moment) (rule : Rule) (looks : List LogLook) (t : Target) : Type 0 where
+pub record IsOfLook (clock : Clock) (rule : Rule) (looks : List LogLook) (t : Target) : Type 0 where
   pub look : LogLook
   pub among : IsIn look looks
-  pub free : hindrances rule look ≡ []
-  pub is : t ≡ target_of now rule look
+  pub free : hindrances clock rule look ≡ []
+  pub is : t ≡ target_of clock rule look
 
-pub of_look : (now : Moment) (rule : Rule) (decide : LogLook → Due) (looks : List LogLook) (t : Target) → IsIn t (targets_of now rule decide looks) → IsOfLook now rule looks t
-of_look now rule decide looks t i =
-    let r = in_flat (λ (look : LogLook). where_due (decide look) (where_free (hindrances rule look) (target_of now rule look))) looks t i in
-    let f = in_free (hindrances rule r.0) (target_of now rule r.0) t (in_due (decide r.0) (where_free (hindrances rule r.0) (target_of now rule r.0)) t r.2) in
+pub of_look : (clock : Clock) (rule : Rule) (decide : LogLook → Due) (looks : List LogLook) (t : Target) → IsIn t (targets_of clock rule decide looks) → IsOfLook clock rule looks t
+of_look clock rule decide looks t i =
+    let r = in_flat (λ (look : LogLook). where_due (decide look) (where_free (hindrances clock rule look) (target_of clock rule look))) looks t i in
+    let f = in_free (hindrances clock rule r.0) (target_of clock rule r.0) t (in_due (decide r.0) (where_free (hindrances clock rule r.0) (target_of clock rule r.0)) t r.2) in
     record { look = r.0; among = r.1; free = f.0; is = f.1 }
 
 -- The target is one of the definition at this place, of a log that nothing hinders.
-pub record Comes (now : Moment) (rules : List Rule) (sets : List SetLooks) (t : Target) : Type 0 where
+pub record Comes (clock : Clock) (rules : List Rule) (sets : List SetLooks) (t : Target) : Type 0 where
   pub place : ℕ
   pub rule : Rule
   pub set : SetLooks
@@ -64,19 +64,19 @@ pub record Comes (now : Moment) (rules : List Rule) (sets : List SetLooks) (t : 
   pub at_rule : slice_get rules place ≡ Some rule
   pub at_set : slice_get sets place ≡ Some set
   pub among : IsIn look set.logs
-  pub free : hindrances rule look ≡ []
-  pub is : t ≡ target_of now rule look
+  pub free : hindrances clock rule look ≡ []
+  pub is : t ≡ target_of clock rule look
 
-pub comes_from : (now : Moment) (decide : Rule → LogLook → Due) (rules : List Rule) (sets : List SetLooks) (t : Target) → IsIn t (all_targets now decide rules sets) → Comes now rules sets t
-comes_from now decide [] [] t h = absurd h
-comes_from now decide [] (set ∷ sets) t h = absurd h
-comes_from now decide (rule ∷ rules) [] t h = absurd h
-comes_from now decide (rule ∷ rules) (set ∷ sets) t h = ⊎_elim own (λ b. further (comes_from now decide rules sets t b)) (in_append t (targets_of now rule (decide rule) set.logs) (all_targets now decide rules sets) h)
+pub comes_from : (clock : Clock) (decide : Rule → LogLook → Due) (rules : List Rule) (sets : List SetLooks) (t : Target) → IsIn t (all_targets clock decide rules sets) → Comes clock rules sets t
+comes_from clock decide [] [] t h = absurd h
+comes_from clock decide [] (set ∷ sets) t h = absurd h
+comes_from clock decide (rule ∷ rules) [] t h = absurd h
+comes_from clock decide (rule ∷ rules) (set ∷ sets) t h = ⊎_elim own (λ b. further (comes_from clock decide rules sets t b)) (in_append t (targets_of clock rule (decide rule) set.logs) (all_targets clock decide rules sets) h)
   where
-    own : IsIn t (targets_of now rule (decide rule) set.logs) → Comes now (rule ∷ rules) (set ∷ sets) t
-    own a = let o = of_look now rule (decide rule) set.logs t a in record { place = 0; rule = rule; set = set; look = o.look; at_rule = refl; at_set = refl; among = o.among; free = o.free; is = o.is }
+    own : IsIn t (targets_of clock rule (decide rule) set.logs) → Comes clock (rule ∷ rules) (set ∷ sets) t
+    own a = let o = of_look clock rule (decide rule) set.logs t a in record { place = 0; rule = rule; set = set; look = o.look; at_rule = refl; at_set = refl; among = o.among; free = o.free; is = o.is }
 
-    further : Comes now rules sets t → Comes now (rule ∷ rules) (set ∷ sets) t
+    further : Comes clock rules sets t → Comes clock (rule ∷ rules) (set ∷ sets) t
     further c = record { place = suc c.place; rule = c.rule; set = c.set; look = c.look; at_rule = c.at_rule; at_set = c.at_set; among = c.among; free = c.free; is = c.is }
 
 -- ---- a log that was looked at whole

@@ -2,7 +2,7 @@
 use Rattle.std.proofs.Common.{◌≡◌, inl, inr, ℕ, suc, ◌+◌, List, [], ◌∷◌, Some, slice_get, sym, ap, ◌∙◌, subst}
 use Rattle.std.specs.Borrow.{Bor}
 use Rattle.std.specs.List.{AllByRecursion}
-use Rattle.lr_rules.specs.declared.civil.Moment.{Moment}
+use Rattle.lr_rules.specs.declared.clock.Clock.{Clock}
 use Rattle.lr_rules.specs.declared.fault.Fault.{Fault}
 use Rattle.lr_rules.specs.declared.path.Path.{Path}
 use Rattle.lr_rules.specs.declared.rule.Naming.{Naming}
@@ -46,8 +46,8 @@ kept_free reserved found choices c = kept_each (HasNone reserved) found choices 
     let p = place_in reserved path i in
     (c.chosen.each k Kept kept).free p.0 (record { log = b.0; path = path; at_log = b.1; at_path = p.1; named = subst (Names path) (sym b.2) named }))
 
-target_free : {reserved : List Path} (rules : List Rule) (sets : List SetLooks) (faults : List Fault) (ts : List Entry) (now : Moment) (t : Target) → (s : ShowsLooks reserved rules sets faults ts) → Comes now rules sets t → IsFreeOf reserved t
-target_free {reserved} rules sets faults ts now t s c = subst (IsFreeOf reserved) (sym c.is) (λ path i named.
+target_free : {reserved : List Path} (rules : List Rule) (sets : List SetLooks) (faults : List Fault) (ts : List Entry) (clock : Clock) (t : Target) → (s : ShowsLooks reserved rules sets faults ts) → Comes clock rules sets t → IsFreeOf reserved t
+target_free {reserved} rules sets faults ts clock t s c = subst (IsFreeOf reserved) (sym c.is) (λ path i named.
     in_each (HasNone reserved) (kept_of s.found s.keeps.choices) f.0 (kept_free reserved s.found s.keeps.choices s.keeps.chosen) kept path i
     (subst (Names path) (ap (λ (y : LookedLog). (y.path, y.naming)) f.2.1) named))
   where
@@ -60,5 +60,5 @@ target_free {reserved} rules sets faults ts now t s c = subst (IsFreeOf reserved
     kept : IsIn f.0 (kept_of s.found s.keeps.choices)
     kept = (in_files (kept_of s.found s.keeps.choices) f.0 (subst (IsIn f.0) s.keeps.left_are f.1)).0
 
-pub targets_free : {reserved : List Path} (rules : List Rule) (sets : List SetLooks) (faults : List Fault) (ts : List Entry) (now : Moment) (decide : Rule → LogLook → Due) → ShowsLooks reserved rules sets faults ts → AreFreeOf reserved (all_targets now decide rules sets)
-targets_free {reserved} rules sets faults ts now decide s = each_in (IsFreeOf reserved) (all_targets now decide rules sets) (λ t i. target_free rules sets faults ts now t s (comes_from now decide rules sets t i))
+pub targets_free : {reserved : List Path} (rules : List Rule) (sets : List SetLooks) (faults : List Fault) (ts : List Entry) (clock : Clock) (decide : Rule → LogLook → Due) → ShowsLooks reserved rules sets faults ts → AreFreeOf reserved (all_targets clock decide rules sets)
+targets_free {reserved} rules sets faults ts clock decide s = each_in (IsFreeOf reserved) (all_targets clock decide rules sets) (λ t i. target_free rules sets faults ts clock t s (comes_from clock decide rules sets t i))

@@ -1,6 +1,6 @@
 -- A log that the looks kept: none of its names is reserved, and it meets no other log of the plan.
 use Rattle.std.proofs.Common.{◌≡◌, ◌≢◌, inl, inr, ⊎_elim, ◌+◌, List, [], ◌∷◌, sym, ap, ◌∙◌, subst}
-use Rattle.lr_rules.specs.declared.civil.Moment.{Moment}
+use Rattle.lr_rules.specs.declared.clock.Clock.{Clock}
 use Rattle.lr_rules.specs.declared.fault.Fault.{Fault}
 use Rattle.lr_rules.specs.declared.path.Path.{Path}
 use Rattle.lr_rules.specs.declared.rule.Naming.{Naming}
@@ -34,8 +34,8 @@ module _ {reserved : List Path} (rules : List Rule) (sets : List SetLooks) (faul
     path : found.log.path ≡ t.log
     naming : found.log.naming ≡ t.naming
 
-  kept_as : (now : Moment) (t : Target) → Comes now rules sets t → IsKeptAs t
-  kept_as now t c =
+  kept_as : (clock : Clock) (t : Target) → Comes clock rules sets t → IsKeptAs t
+  kept_as clock t c =
       let x = looked_in (0 + c.place) c.look in
       let g = in_looked s.kept s.entries.second.families.sights x (subst (IsIn x) s.entries.second.families.looked_are (was_looked 0 c.place s.looked sets c.set c.look s.by_sets c.at_set c.among)) in
       record {
@@ -50,8 +50,8 @@ module _ {reserved : List Path} (rules : List Rule) (sets : List SetLooks) (faul
   one_in t (u ∷ us) (inl e) = inl e
   one_in t (u ∷ us) (inr i) = inr (one_in t us i)
 
-  pub kept_meets_none : (now : Moment) (decide : Rule → LogLook → Due) (t : Target) → IsOneOf t (all_targets now decide rules sets) → t.log ≢ f.log.path → Meet t.log t.naming f.log.path f.log.naming → ⊥
-  kept_meets_none now decide t i ne m = go (kept_as now t (comes_from now decide rules sets t (one_in t (all_targets now decide rules sets) i)))
+  pub kept_meets_none : (clock : Clock) (decide : Rule → LogLook → Due) (t : Target) → IsOneOf t (all_targets clock decide rules sets) → t.log ≢ f.log.path → Meet t.log t.naming f.log.path f.log.naming → ⊥
+  kept_meets_none clock decide t i ne m = go (kept_as clock t (comes_from clock decide rules sets t (one_in t (all_targets clock decide rules sets) i)))
     where
       go : IsKeptAs t → ⊥
       go k = ⊎_elim (λ same. ne (sym k.path ∙ ap (λ (g : FoundLog). g.log.path) same)) (λ off. ⊎_elim (λ (a : OffFound k.found f). a.1 met) (λ (b : OffFound f k.found). b.2 met) off)

@@ -25,10 +25,12 @@ use Rattle.lr_family.specs.Named.{member_name}
 use Rattle.lr_family.specs.Parts.{part_if_file, part_seen, part_in, part_look, ShowsParts}
 use Rattle.lr_family.specs.Spots.{path_at, spot_at, AreSpots}
 use Rattle.lr_family.specs.Stands.{number_in}
-use Rattle.lr_days.specs.Among.{ShowsMembers as ShowsDays}
+use Rattle.lr_days.specs.Among.{ShowsMembers as ShowsDays, ShowsIn as ShowsDaysIn}
 use Rattle.lr_chain.specs.Rotation.{places_of}
 use Rattle.lr_looks.specs.Families.{FamilySight, Stood, Stopped, ShowsBy, ShowsFamily, behind_listing, with_listing, not_listed, ShowFamilies, LookedLog, looked_by, looked_of}
 use Rattle.lr_looks.specs.Found.{FoundLog}
+use Rattle.lr_dated_seen.specs.Shown.{ShownDated}
+use Rattle.lr_dated_seen.proofs.Shows.{members_shown as looks_shown}
 use Rattle.lr_rotations.specs.Shown.{Shown, SawMembers}
 use Rattle.lr_rotations.proofs.Shown.{stands_shown}
 use Rattle.lr_seen.proofs.Elements.{in_list, in_flat}
@@ -151,6 +153,22 @@ members_shown all n l stand ts in_all told dir there h = (
     among : StandsAmong n t.names stand.members h.2.front
     among = record { spots = s.spots; spots_are = spots_as n l.names t.names s.spots t.same s.spots_are; shown = s.shown; each = s.each; newest_first = s.newest_first; looks = s.looks }
 
+-- looks at dated members, behind such a listing
+days_shown : (all : List Entry) (n : Naming) (l : Listing) (stand : Stand) (ts : List Entry) → ((e : Entry) → IsIn e ts → IsIn e all) → AreTold all (l ∷ []) → l.dir ≡ n.dir → stand.there ≡ true
+    → ShowsDaysIn n l.there l.parent l.names stand ts → ShownDated n stand.members all
+days_shown all n l stand ts in_all told dir there h =
+    looks_shown n t.names l.names stand.members h.2.front all (t.seen, t.is_dir, subst (λ (x : Path). IsIn (entry.Look x (Some t.seen)) all) dir t.look) t.same
+    (subst (λ (x : Path). IsIn (entry.List x t.names) all) dir t.list) more (subst (λ b. ShowsDays n b l.names stand.members h.2.front) listed h.2.first)
+  where
+    more : (e : Entry) → IsIn e h.2.front → IsIn e all
+    more e i = in_all e (subst (IsIn e) (sym h.2.joined) (in_front e h.2.front h.2.back i))
+
+    listed : l.there ≡ true
+    listed = sym h.0 ∙ there
+
+    t : IsTold all l
+    t = told l (inl refl) listed
+
 -- ---- part files
 
 -- of each of these paths a look saw a regular file
@@ -190,9 +208,19 @@ parts_shown all n l stand ts in_all (Some format) h = parts_among all n l stand 
 
 -- ---- families
 
--- The members of a numbered family were seen where its directory is there, each by a look that tells what was seen of it, and the part files of every one.
+-- The members of a family were seen: numbered ones each by a look that tells what was seen of it, dated ones the newest first.
+abbrev pub ShownBy : Option Format → Naming → Stand → List Entry → Type 0
+ShownBy None n stand all = Shown n (places_of stand.members) all × SawMembers n stand.members all
+ShownBy (Some format) n stand all = ShownDated n stand.members all
+
+-- So they were where its directory is there, and the part files of every one.
 abbrev pub WasShown : Naming → Stand → List Entry → Type 0
-WasShown n stand all = (n.dated ≡ None → stand.there ≡ true → Shown n (places_of stand.members) all × SawMembers n stand.members all) × SawFiles stand.parts all
+WasShown n stand all = (stand.there ≡ true → ShownBy n.dated n stand all) × SawFiles stand.parts all
+
+shown_by : (all : List Entry) (n : Naming) (l : Listing) (stand : Stand) (ts : List Entry) → ((e : Entry) → IsIn e ts → IsIn e all) → AreTold all (l ∷ []) → l.dir ≡ n.dir → stand.there ≡ true
+    → (d : Option Format) → ShowsBy d n l stand ts → ShownBy d n stand all
+shown_by all n l stand ts in_all told dir there None h = members_shown all n l stand ts in_all told dir there h
+shown_by all n l stand ts in_all told dir there (Some format) h = days_shown all n l stand ts in_all told dir there h
 
 -- a family, whether its directory was listed before or is listed now
 family_shown : (all : List Entry) (known : List Listing) (n : Naming) (after : List Listing) (stand : Stand) (s : FamilySight) (ts : List Entry) → s ≡ Stood stand → ((e : Entry) → IsIn e ts → IsIn e all) → AreTold all known → AreTold all after
@@ -204,10 +232,10 @@ family_shown all known n after stand s ts is in_all told next f = go (subst (λ 
     alone ls l told i k (inr none) b = absurd none
 
     go : ShowsFamily known n after (Stood stand) ts → WasShown n stand all
-    go (behind_listing l was same m) = ((λ numbered there. members_shown all n l stand ts in_all (alone known l told (in_list known was.place l was.there)) was.same there (subst (λ d. ShowsBy d n l stand ts) numbered m)), parts_shown all n l stand ts in_all n.dated m)
+    go (behind_listing l was same m) = ((λ there. shown_by all n l stand ts in_all (alone known l told (in_list known was.place l was.there)) was.same there n.dated m), parts_shown all n l stand ts in_all n.dated m)
     go (with_listing l new e same t) =
         let more = λ (x : Entry) (i : IsIn x t.back). in_all x (subst (IsIn x) (sym t.joined) (in_back x t.front t.back i)) in
-        ((λ numbered there. members_shown all n l stand t.back more (alone after l next (subst (IsIn l) (sym same) (in_back l known (l ∷ []) (inl refl)))) e there (subst (λ d. ShowsBy d n l stand t.back) numbered t.second)), parts_shown all n l stand t.back more n.dated t.second)
+        ((λ there. shown_by all n l stand t.back more (alone after l next (subst (IsIn l) (sym same) (in_back l known (l ∷ []) (inl refl)))) e there n.dated t.second), parts_shown all n l stand t.back more n.dated t.second)
     go (not_listed why new same e h) = absurd (cc)
 
 -- of each log that was looked at whole

@@ -1,8 +1,9 @@
 -- The plan has the logs of the targets, each ready, and programs that read no file but the one that is mailed.
 use Rattle.std.proofs.Common.{◌≡◌, ◌↔◌, ℕ, Bool, true, false, not, List, [], ◌∷◌, ◌++◌, Option, Some, None, refl, ap, ◌∙◌, subst, map}
-use Rattle.lr_rules.specs.declared.civil.Moment.{Moment}
+use Rattle.lr_rules.specs.declared.clock.Clock.{Clock}
 use Rattle.lr_rules.specs.declared.fault.Fault.{Fault}
 use Rattle.lr_rules.specs.declared.path.Path.{Path}
+use Rattle.lr_rules.specs.declared.rule.Format.{Format}
 use Rattle.lr_rules.specs.declared.rule.Naming.{Naming}
 use Rattle.lr_rules.specs.declared.rule.Rule.{Rule}
 use Rattle.lr_rules.specs.declared.rule.Way.{Way}
@@ -14,20 +15,20 @@ use Rattle.lr_scripts.specs.declared.removal.Removal.{Removal}
 use Rattle.lr_chain.specs.declared.ready.Ready.{Ready}
 use Rattle.lr_chain.specs.Ready.{removal_at}
 use Rattle.lr_chain.specs.Rotation.{places_of, leftovers, retired}
-use Rattle.lr_family.specs.Spots.{path_at}
 use Rattle.lr_copy.specs.declared.job.Job.{Job}
 use Rattle.lr_host.specs.declared.entry.Entry.{Entry}
 use Rattle.lr_plan.specs.declared.looks.LogLook.{LogLook}
 use Rattle.lr_plan.specs.declared.looks.SetLooks.{SetLooks}
 use Rattle.lr_plan.specs.declared.planned.LogPlan.{LogPlan}
 use Rattle.lr_commands.specs.Commands.{spaced, script, where_so, mail, with_programs}
-use Rattle.lr_plan.specs.Planned.{copy_job, job_by, going_from, ready_for, with_removals, dressed, hindrances, log_plan, none_hinders, plans_of, where_due, log_plans, all_plans}
+use Rattle.lr_plan.specs.Planned.{copy_job, job_by, going_by, ready_by, ready_for, with_removals, dressed, hindrances, plan_with, log_plan, none_hinders, plans_of, where_due, log_plans, all_plans}
 use Rattle.lr_looks.specs.Shown.{ShowsLooks}
-use Rattle.lr_targets.specs.Target.{Target, HasReady, IsJob, HasJob}
+use Rattle.lr_dated.specs.Steps.{Ranked}
+use Rattle.lr_dated_chain.specs.Ready.{removal_of}
+use Rattle.lr_targets.specs.Target.{Target, IsJob, HasJob}
 use Rattle.lr_weave.specs.Fitting.{ReadsNothing, ReadsThis, ReadThemselves, ReadsOwn, ReadOwn, ReadOnlyOwn}
-use Rattle.lr_weave.specs.Planned.{bare_removal, bare, IsReadyFor, AreReadyFor, HaveLogs}
-use Rattle.lr_fields.specs.Built.{AreBuiltRules}
-use Rattle.lr_seen.specs.Targets.{target_of, where_free, targets_of, groups_of}
+use Rattle.lr_weave.specs.Planned.{bare_removal, bare, IsAtLog, IsReadyFor, AreReadyFor, HaveLogs}
+use Rattle.lr_seen.specs.Targets.{target_by, target_of, where_free, targets_of, groups_of}
 
 -- ---- programs
 
@@ -44,90 +45,111 @@ reads_mail false mailer address log file = tt
 reads_mail true mailer None log file = tt
 reads_mail true mailer (Some address) log file = refl
 
-read_themselves : (mailer : Path) (rule : Rule) (log : Path) (n : Naming) (places : List ℕ) → ReadThemselves (map (with_programs rule mailer log) (map (removal_at n) places))
-read_themselves mailer rule log n [] = tt
-read_themselves mailer rule log n (k ∷ ks) = (reads_script rule.scripts.preremove (path_at n k ∷ []), reads_mail (not rule.mailfirst) mailer rule.mail log (path_at n k), read_themselves mailer rule log n ks)
+read_themselves : (mailer : Path) (rule : Rule) (log : Path) (rs : List Removal) → ReadThemselves (map (with_programs rule mailer log) rs)
+read_themselves mailer rule log [] = tt
+read_themselves mailer rule log (r ∷ rs) = (reads_script rule.scripts.preremove (r.path ∷ []), reads_mail (not rule.mailfirst) mailer rule.mail log r.path, read_themselves mailer rule log rs)
 
-asks : (now : Moment) (mailer : Path) (rule : Rule) (look : LogLook) → ReadsOwn (log_plan now mailer rule look)
-asks now mailer rule look = record {
+asks : (mailer : Path) (rule : Rule) (look : LogLook) (ready : Ready) → ReadsOwn (plan_with mailer rule look ready)
+asks mailer rule look ready = record {
   pre = reads_where (not rule.shared) (script rule.scripts.pre (look.path ∷ [])) (reads_script rule.scripts.pre (look.path ∷ []));
-  post = reads_where (not rule.shared) (script rule.scripts.post (look.path ∷ path_at look.family.naming 0 ∷ [])) (reads_script rule.scripts.post (look.path ∷ path_at look.family.naming 0 ∷ []));
-  first_mail = reads_mail rule.mailfirst mailer rule.mail look.path (path_at look.family.naming 0);
-  leftovers = read_themselves mailer rule look.path look.family.naming (leftovers rule.count (places_of look.stand.members));
-  retire = read_themselves mailer rule look.path look.family.naming (retired rule.count (going_from now rule look));
+  post = reads_where (not rule.shared) (script rule.scripts.post (look.path ∷ ready.target ∷ [])) (reads_script rule.scripts.post (look.path ∷ ready.target ∷ []));
+  first_mail = reads_mail rule.mailfirst mailer rule.mail look.path ready.target;
+  leftovers = read_themselves mailer rule ready.log ready.leftovers;
+  retire = read_themselves mailer rule ready.log ready.retire;
 }
 
 ask_both : (xs ys : List LogPlan) → ReadOwn xs → ReadOwn ys → ReadOwn (xs ++ ys)
 ask_both [] ys a b = b
 ask_both (x ∷ xs) ys a b = (a.0, ask_both xs ys a.1 b)
 
-ask_free : (now : Moment) (fs : List Fault) (mailer : Path) (rule : Rule) (look : LogLook) → ReadOwn (none_hinders fs (log_plan now mailer rule look ∷ []))
-ask_free now [] mailer rule look = (asks now mailer rule look, tt)
-ask_free now (f ∷ fs) mailer rule look = tt
+ask_free : (clock : Clock) (fs : List Fault) (mailer : Path) (rule : Rule) (look : LogLook) → ReadOwn (none_hinders fs (log_plan clock mailer rule look ∷ []))
+ask_free clock [] mailer rule look = (asks mailer rule look (ready_for clock rule look), tt)
+ask_free clock (f ∷ fs) mailer rule look = tt
 
 ask_where : (d : Due) (xs : List LogPlan) → ReadOwn xs → ReadOwn (where_due d xs)
 ask_where (due.Yes why) xs h = h
 ask_where (due.No why) xs h = tt
 
-ask_logs : (now : Moment) (mailer : Path) (rule : Rule) (decide : LogLook → Due) (looks : List LogLook) → ReadOwn (log_plans now mailer rule decide looks)
-ask_logs now mailer rule decide [] = tt
-ask_logs now mailer rule decide (look ∷ looks) =
-    ask_both (where_due (decide look) (plans_of now mailer rule look)) (log_plans now mailer rule decide looks) (ask_where (decide look) (plans_of now mailer rule look) (ask_free now (hindrances rule look) mailer rule look)) (ask_logs now mailer rule decide looks)
+ask_logs : (clock : Clock) (mailer : Path) (rule : Rule) (decide : LogLook → Due) (looks : List LogLook) → ReadOwn (log_plans clock mailer rule decide looks)
+ask_logs clock mailer rule decide [] = tt
+ask_logs clock mailer rule decide (look ∷ looks) =
+    ask_both (where_due (decide look) (plans_of clock mailer rule look)) (log_plans clock mailer rule decide looks) (ask_where (decide look) (plans_of clock mailer rule look) (ask_free clock (hindrances clock rule look) mailer rule look)) (ask_logs clock mailer rule decide looks)
 
-read_own : (now : Moment) (mailer : Path) (rules : List Rule) (sets : List SetLooks) (decide : Rule → LogLook → Due) → ReadOnlyOwn (all_plans now mailer decide rules sets)
-read_own now mailer [] [] decide = tt
-read_own now mailer [] (set ∷ sets) decide = tt
-read_own now mailer (rule ∷ rules) [] decide = tt
-read_own now mailer (rule ∷ rules) (set ∷ sets) decide = (
+read_own : (clock : Clock) (mailer : Path) (rules : List Rule) (sets : List SetLooks) (decide : Rule → LogLook → Due) → ReadOnlyOwn (all_plans clock mailer decide rules sets)
+read_own clock mailer [] [] decide = tt
+read_own clock mailer [] (set ∷ sets) decide = tt
+read_own clock mailer (rule ∷ rules) [] decide = tt
+read_own clock mailer (rule ∷ rules) (set ∷ sets) decide = (
   record {
     first = reads_script rule.scripts.first (spaced rule.words ∷ []);
     pre = reads_where rule.shared (script rule.scripts.pre (spaced rule.words ∷ [])) (reads_script rule.scripts.pre (spaced rule.words ∷ []));
     post = reads_where rule.shared (script rule.scripts.post (spaced rule.words ∷ [])) (reads_script rule.scripts.post (spaced rule.words ∷ []));
     last = reads_script rule.scripts.last (spaced rule.words ∷ []);
-    logs = ask_logs now mailer rule (decide rule) set.logs;
+    logs = ask_logs clock mailer rule (decide rule) set.logs;
   },
-  read_own now mailer rules sets decide,
+  read_own clock mailer rules sets decide,
 )
 
-pub plans_read_own : (rules : List Rule) (sets : List SetLooks) (now : Moment) (mailer : Path) (decide : Rule → LogLook → Due) → AreBuiltRules rules → ReadOnlyOwn (all_plans now mailer decide rules sets)
-plans_read_own rules sets now mailer decide built = read_own now mailer rules sets decide
+pub plans_read_own : (rules : List Rule) (sets : List SetLooks) (clock : Clock) (mailer : Path) (decide : Rule → LogLook → Due) → ReadOnlyOwn (all_plans clock mailer decide rules sets)
+plans_read_own rules sets clock mailer decide = read_own clock mailer rules sets decide
 
 -- ---- rotations
 
--- the rotation is that of the members that stood
-pub target_ready : (now : Moment) (rule : Rule) (look : LogLook) → HasReady (target_of now rule look)
-target_ready now rule look = record { leftovers_are = refl; no_dir = refl; moves_are = refl; log_is = refl; target_is = refl; make_is = refl; retire_is = refl }
-
 -- where the log is copied, it is copied so
-pub by_copy : (w : Way) (look : LogLook) (job : Job) → job_by w look ≡ Some job → (cut : Bool) × (copy_job look cut ≡ job)
-by_copy way.Rename look job is = absurd (cc)
-by_copy way.Copy look job is = (false, cc)
-by_copy way.CopyTruncate look job is = (true, cc)
+pub by_copy : (w : Way) (look : LogLook) (target : Path) (job : Job) → job_by w look target ≡ Some job → (cut : Bool) × (copy_job look target cut ≡ job)
+by_copy way.Rename look target job is = absurd (cc)
+by_copy way.Copy look target job is = (false, cc)
+by_copy way.CopyTruncate look target job is = (true, cc)
 
-pub target_job : (now : Moment) (rule : Rule) (look : LogLook) → HasJob (target_of now rule look)
-target_job now rule look job is = let by = by_copy rule.way look job is in subst (IsJob (target_of now rule look)) by.1 (record { from_is = refl; to_is = refl; part_is = refl; dir_is = refl })
+pub target_job : (clock : Clock) (rule : Rule) (look : LogLook) → HasJob (target_of clock rule look)
+target_job clock rule look job is =
+    let by = by_copy rule.way look (ready_for clock rule look).target job is in subst (IsJob (target_of clock rule look)) by.1 (record { from_is = refl; to_is = refl; part_is = refl; dir_is = refl })
 
 -- by rename exactly where there is no copy
-pub by_rename : (w : Way) (look : LogLook) → (w ≡ way.Rename) ↔ (job_by w look ≡ None)
-by_rename way.Rename look = ((λ e. refl), (λ e. refl))
-by_rename way.Copy look = ((λ e. absurd (cc)), (λ e. absurd (cc)))
-by_rename way.CopyTruncate look = ((λ e. absurd (cc)), (λ e. absurd (cc)))
+pub by_rename : (w : Way) (look : LogLook) (target : Path) → (w ≡ way.Rename) ↔ (job_by w look target ≡ None)
+by_rename way.Rename look target = ((λ e. refl), (λ e. refl))
+by_rename way.Copy look target = ((λ e. absurd (cc)), (λ e. absurd (cc)))
+by_rename way.CopyTruncate look target = ((λ e. absurd (cc)), (λ e. absurd (cc)))
 
 -- without their programs the removals are those of the rotation
-bare_are : (mailer : Path) (rule : Rule) (log : Path) (n : Naming) (places : List ℕ) → map bare_removal (map (with_programs rule mailer log) (map (removal_at n) places)) ≡ map (removal_at n) places
-bare_are mailer rule log n [] = refl
-bare_are mailer rule log n (k ∷ ks) = ap (λ rs. removal_at n k ∷ rs) (bare_are mailer rule log n ks)
+bare_are : (mailer : Path) (rule : Rule) (log : Path) (rs : List Removal) → map bare_removal (map (with_programs rule mailer log) rs) ≡ map bare_removal rs
+bare_are mailer rule log [] = refl
+bare_are mailer rule log (r ∷ rs) = ap (λ xs. bare_removal r ∷ xs) (bare_are mailer rule log rs)
 
-ready_bare : (now : Moment) (mailer : Path) (rule : Rule) (look : LogLook) → bare (dressed rule mailer (ready_for now rule look)) ≡ ready_for now rule look
-ready_bare now mailer rule look =
-    ap (λ (rs : List Removal). with_removals rs (map bare_removal (map (with_programs rule mailer look.path) ready.retire)) ready) (bare_are mailer rule look.path look.family.naming (leftovers rule.count (places_of look.stand.members)))
-    ∙ ap (λ (rs : List Removal). with_removals ready.leftovers rs ready) (bare_are mailer rule look.path look.family.naming (retired rule.count (going_from now rule look)))
-  where
-    ready : Ready
-    ready = ready_for now rule look
+-- the removals of a rotation that is ready have no programs: of numbered members, and of dated ones
+bare_numbers : (n : Naming) (places : List ℕ) → map bare_removal (map (removal_at n) places) ≡ map (removal_at n) places
+bare_numbers n [] = refl
+bare_numbers n (k ∷ ks) = ap (λ rs. removal_at n k ∷ rs) (bare_numbers n ks)
 
-ready_log : (now : Moment) (mailer : Path) (rule : Rule) (look : LogLook) → IsReadyFor (target_of now rule look) (log_plan now mailer rule look)
-ready_log now mailer rule look = record { ready = target_ready now rule look; job = target_job now rule look; ready_is = ready_bare now mailer rule look; job_is = refl }
+bare_days : (ms : List Ranked) → map bare_removal (map removal_of ms) ≡ map removal_of ms
+bare_days [] = refl
+bare_days (m ∷ ms) = ap (λ rs. removal_of m ∷ rs) (bare_days ms)
+
+bare_leftovers : (d : Option Format) (clock : Clock) (rule : Rule) (look : LogLook) → map bare_removal (ready_by d clock rule look).leftovers ≡ (ready_by d clock rule look).leftovers
+bare_leftovers None clock rule look = bare_numbers look.family.naming (leftovers rule.count (places_of look.stand.members))
+bare_leftovers (Some format) clock rule look = refl
+
+bare_retired : (d : Option Format) (clock : Clock) (rule : Rule) (look : LogLook) → map bare_removal (ready_by d clock rule look).retire ≡ (ready_by d clock rule look).retire
+bare_retired None clock rule look = bare_numbers look.family.naming (retired rule.count (going_by None clock.now rule look))
+bare_retired (Some format) clock rule look = bare_days _
+
+ready_bare : (mailer : Path) (rule : Rule) (ready : Ready) → map bare_removal ready.leftovers ≡ ready.leftovers → map bare_removal ready.retire ≡ ready.retire → bare (dressed rule mailer ready) ≡ ready
+ready_bare mailer rule ready first last =
+    ap (λ (rs : List Removal). with_removals rs (map bare_removal (map (with_programs rule mailer ready.log) ready.retire)) ready) (bare_are mailer rule ready.log ready.leftovers ∙ first)
+    ∙ ap (λ (rs : List Removal). with_removals ready.leftovers rs ready) (bare_are mailer rule ready.log ready.retire ∙ last)
+
+-- the rotation makes no directory, and begins at the log
+at_log : (d : Option Format) (clock : Clock) (rule : Rule) (look : LogLook) → IsAtLog (target_by d clock rule look)
+at_log None clock rule look = record { no_dir = refl; log_is = refl }
+at_log (Some format) clock rule look = record { no_dir = refl; log_is = refl }
+
+ready_log : (clock : Clock) (mailer : Path) (rule : Rule) (look : LogLook) → IsReadyFor (target_of clock rule look) (log_plan clock mailer rule look)
+ready_log clock mailer rule look = record {
+  ready = at_log look.family.naming.dated clock rule look;
+  job = target_job clock rule look;
+  ready_is = ready_bare mailer rule (ready_for clock rule look) (bare_leftovers look.family.naming.dated clock rule look) (bare_retired look.family.naming.dated clock rule look);
+  job_is = refl;
+}
 
 ready_both : (ts us : List Target) (xs ys : List LogPlan) → AreReadyFor ts xs → AreReadyFor us ys → AreReadyFor (ts ++ us) (xs ++ ys)
 ready_both [] us [] ys a b = b
@@ -135,26 +157,26 @@ ready_both [] us (x ∷ xs) ys a b = absurd a
 ready_both (t ∷ ts) us [] ys a b = absurd a
 ready_both (t ∷ ts) us (x ∷ xs) ys a b = (a.0, ready_both ts us xs ys a.1 b)
 
-ready_free : (now : Moment) (fs : List Fault) (mailer : Path) (rule : Rule) (look : LogLook) → AreReadyFor (where_free fs (target_of now rule look)) (none_hinders fs (log_plan now mailer rule look ∷ []))
-ready_free now [] mailer rule look = (ready_log now mailer rule look, tt)
-ready_free now (f ∷ fs) mailer rule look = tt
+ready_free : (clock : Clock) (fs : List Fault) (mailer : Path) (rule : Rule) (look : LogLook) → AreReadyFor (where_free fs (target_of clock rule look)) (none_hinders fs (log_plan clock mailer rule look ∷ []))
+ready_free clock [] mailer rule look = (ready_log clock mailer rule look, tt)
+ready_free clock (f ∷ fs) mailer rule look = tt
 
 ready_where : (d : Due) (ts : List Target) (xs : List LogPlan) → AreReadyFor ts xs → AreReadyFor (where_due d ts) (where_due d xs)
 ready_where (due.Yes why) ts xs h = h
 ready_where (due.No why) ts xs h = tt
 
-ready_logs : (now : Moment) (mailer : Path) (rule : Rule) (decide : LogLook → Due) (looks : List LogLook) → AreReadyFor (targets_of now rule decide looks) (log_plans now mailer rule decide looks)
-ready_logs now mailer rule decide [] = tt
-ready_logs now mailer rule decide (look ∷ looks) =
-    ready_both (where_due (decide look) (where_free (hindrances rule look) (target_of now rule look))) (targets_of now rule decide looks) (where_due (decide look) (plans_of now mailer rule look)) (log_plans now mailer rule decide looks)
-    (ready_where (decide look) (where_free (hindrances rule look) (target_of now rule look)) (plans_of now mailer rule look) (ready_free now (hindrances rule look) mailer rule look))
-    (ready_logs now mailer rule decide looks)
+ready_logs : (clock : Clock) (mailer : Path) (rule : Rule) (decide : LogLook → Due) (looks : List LogLook) → AreReadyFor (targets_of clock rule decide looks) (log_plans clock mailer rule decide looks)
+ready_logs clock mailer rule decide [] = tt
+ready_logs clock mailer rule decide (look ∷ looks) =
+    ready_both (where_due (decide look) (where_free (hindrances clock rule look) (target_of clock rule look))) (targets_of clock rule decide looks) (where_due (decide look) (plans_of clock mailer rule look)) (log_plans clock mailer rule decide looks)
+    (ready_where (decide look) (where_free (hindrances clock rule look) (target_of clock rule look)) (plans_of clock mailer rule look) (ready_free clock (hindrances clock rule look) mailer rule look))
+    (ready_logs clock mailer rule decide looks)
 
-have_logs : (now : Moment) (mailer : Path) (rules : List Rule) (sets : List SetLooks) (decide : Rule → LogLook → Due) → HaveLogs (groups_of now decide rules sets) (all_plans now mailer decide rules sets)
-have_logs now mailer [] [] decide = tt
-have_logs now mailer [] (set ∷ sets) decide = tt
-have_logs now mailer (rule ∷ rules) [] decide = tt
-have_logs now mailer (rule ∷ rules) (set ∷ sets) decide = (ready_logs now mailer rule (decide rule) set.logs, have_logs now mailer rules sets decide)
+have_logs : (clock : Clock) (mailer : Path) (rules : List Rule) (sets : List SetLooks) (decide : Rule → LogLook → Due) → HaveLogs (groups_of clock decide rules sets) (all_plans clock mailer decide rules sets)
+have_logs clock mailer [] [] decide = tt
+have_logs clock mailer [] (set ∷ sets) decide = tt
+have_logs clock mailer (rule ∷ rules) [] decide = tt
+have_logs clock mailer (rule ∷ rules) (set ∷ sets) decide = (ready_logs clock mailer rule (decide rule) set.logs, have_logs clock mailer rules sets decide)
 
-pub plans_have_logs : {reserved : List Path} (rules : List Rule) (sets : List SetLooks) (faults : List Fault) (ts : List Entry) (now : Moment) (mailer : Path) (decide : Rule → LogLook → Due) → AreBuiltRules rules → ShowsLooks reserved rules sets faults ts → HaveLogs (groups_of now decide rules sets) (all_plans now mailer decide rules sets)
-plans_have_logs rules sets faults ts now mailer decide built shown = have_logs now mailer rules sets decide
+pub plans_have_logs : {reserved : List Path} (rules : List Rule) (sets : List SetLooks) (faults : List Fault) (ts : List Entry) (clock : Clock) (mailer : Path) (decide : Rule → LogLook → Due) → ShowsLooks reserved rules sets faults ts → HaveLogs (groups_of clock decide rules sets) (all_plans clock mailer decide rules sets)
+plans_have_logs rules sets faults ts clock mailer decide shown = have_logs clock mailer rules sets decide

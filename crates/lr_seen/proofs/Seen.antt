@@ -1,21 +1,21 @@
 -- Each log that a plan rotates was seen, with its members.
-use Rattle.std.proofs.Common.{◌≡◌, ◌↔◌, inl, inr, ℕ, ◌+◌, ◌&&◌, ◌||◌, bytes_eq, Bool, true, false, cond, List, [], ◌∷◌, ◌++◌, Some, None, slice_get, refl, sym, ap, ◌∙◌, subst, arith, eq-eqb}
+use Rattle.std.proofs.Common.{◌≡◌, ◌↔◌, inl, inr, ℕ, ◌+◌, ◌&&◌, ◌||◌, bytes_eq, Bool, true, false, cond, List, [], ◌∷◌, ◌++◌, Option, Some, None, slice_get, refl, sym, ap, ◌∙◌, subst, arith, eq-eqb}
 use Rattle.std.specs.List.{list_any}
-use Rattle.std.specs.Prelude.{ℤ}
-use Rattle.std.proofs.lemmas.List.Elements.{All-contains}
+use Rattle.std.specs.Prelude.{ℤ, IsSome}
 use Rattle.std.proofs.lemmas.List.Folds.{list_any_at}
 use Rattle.std.proofs.lemmas.Slice.Eq.{bytes_eq-Decides}
-use Rattle.lr_rules.specs.declared.civil.Moment.{Moment}
+use Rattle.lr_rules.specs.declared.clock.Clock.{Clock}
 use Rattle.lr_rules.specs.declared.fault.Fault.{Fault}
 use Rattle.lr_rules.specs.declared.fault.Fault.TheVariants as fault
 use Rattle.lr_rules.specs.declared.path.Path.{Path}
 use Rattle.lr_rules.specs.declared.rule.Count.{Count}
+use Rattle.lr_rules.specs.declared.rule.Format.{Format}
 use Rattle.lr_rules.specs.declared.rule.Naming.{Naming}
 use Rattle.lr_rules.specs.declared.rule.Rule.{Rule}
 use Rattle.lr_rules.specs.declared.rule.Way.TheVariants.{Rename}
 use Rattle.lr_rules.specs.declared.rules.Rules.{Rules}
 use Rattle.lr_rules.specs.Names.{naming_of}
-use Rattle.lr_rules.specs.Limits.{meets_limits}
+use Rattle.lr_rules.specs.Limits.{is_format, or_none, meets_limits}
 use Rattle.lr_rules.specs.Path.{path_fault}
 use Rattle.lr_due.specs.declared.answer.Due.{Due}
 use Rattle.lr_host.specs.declared.entry.Entry.{Entry}
@@ -26,18 +26,18 @@ use Rattle.lr_host.specs.Lists.{IsIn}
 use Rattle.lr_host.specs.Looks.{Sees, IsFile}
 use Rattle.lr_host.proofs.Lists.{in_to, in_front, in_back}
 use Rattle.lr_family.specs.declared.stand.Member.{Member}
+use Rattle.lr_family.specs.declared.stand.Stand.{Stand}
+use Rattle.lr_family.specs.Kin.{IsKin}
 use Rattle.lr_family.specs.Parts.{part_of}
-use Rattle.lr_family.specs.Spots.{path_at}
 use Rattle.lr_family.specs.Stands.{number_in}
 use Rattle.lr_glob.proofs.Seeking.{found_were_seen}
 use Rattle.lr_kept.specs.declared.choice.Choice.TheVariants.{Kept}
 use Rattle.lr_kept.proofs.Elements.{same_read}
 use Rattle.lr_copy.specs.declared.job.Job.{Job}
 use Rattle.lr_chain.specs.Ready.{is_highest, highest_path}
-use Rattle.lr_chain.specs.Rotation.{places_of, going}
 use Rattle.lr_plan.specs.declared.looks.LogLook.{LogLook}
 use Rattle.lr_plan.specs.declared.looks.SetLooks.{SetLooks}
-use Rattle.lr_plan.specs.Planned.{job_of, keeps_all, is_too_high, hindrances}
+use Rattle.lr_plan.specs.Planned.{keeps_all, is_too_high, numbered_hindrances, hindrances_by, ready_for}
 use Rattle.lr_looks.specs.Asked.{CanAsk}
 use Rattle.lr_looks.specs.Families.{LookedLog}
 use Rattle.lr_looks.specs.Choices.{kept_of}
@@ -45,24 +45,26 @@ use Rattle.lr_looks.specs.Found.{FoundLog, HasLogPath, HaveLogPaths}
 use Rattle.lr_looks.specs.Sets.{looked_in}
 use Rattle.lr_looks.specs.Shown.{ShowsLooks}
 use Rattle.lr_looks.proofs.Kindred.{kin_of}
-use Rattle.lr_targets.specs.Apart.{HaveNames}
 use Rattle.lr_rotations.specs.Members.{IsFamily}
-use Rattle.lr_targets.specs.Target.{Target, IsOneTooHigh, Gives, IsSeen, AreSeen}
-use Rattle.lr_rotations.specs.Shown.{SawMembers, Shown}
+use Rattle.lr_targets.specs.Target.{Target, IsOneTooHigh, Gives}
 use Rattle.lr_rotations.specs.Weave.{Among}
-use Rattle.lr_targets.proofs.SeenFits.{seen_names}
-use Rattle.lr_fields.specs.Built.{IsBuiltRule, AreBuiltRules}
-use Rattle.lr_seen.specs.Targets.{all_targets}
+use Rattle.lr_dated_ready.specs.Hindrances.{dated_hindrances}
+use Rattle.lr_dated_seen.specs.Family.{IsDatedFamily}
+use Rattle.lr_dated_seen.proofs.Names.{log_apart}
+use Rattle.lr_dated_run.specs.Own.{HaveAnyNames}
+use Rattle.lr_mixed.specs.Seen.{IsSeenBy, IsLogSeen, AreLogsSeen}
+use Rattle.lr_mixed.proofs.Seen.{have_names}
+use Rattle.lr_seen.specs.Targets.{target_by, target_of, all_targets}
 use Rattle.lr_seen.proofs.Elements.{in_list}
 use Rattle.lr_seen.proofs.Apart.{kept_at}
 use Rattle.lr_seen.proofs.Coming.{Comes, comes_from, was_looked, in_kept, IsFrom, came_from}
 use Rattle.lr_seen.proofs.Gives.{all_in, gives_kept}
-use Rattle.lr_seen.proofs.Listed.{WasShown, all_shown}
-use Rattle.lr_seen.proofs.Ready.{by_copy, by_rename, target_ready, target_job}
+use Rattle.lr_seen.proofs.Listed.{ShownBy, WasShown, all_shown}
+use Rattle.lr_seen.proofs.Ready.{by_copy, by_rename, target_job}
 
 -- ---- the family
 
--- the log and the naming that its rule gives it are a family
+-- the log and the naming that its rule gives it are a family, numbered or dated
 is_family : (rule : Rule) (f : FoundLog) → rule.dated ≡ None → CanAsk rule → HasLogPath f → naming_of rule f.log.path ≡ f.log.naming → IsFamily f.log.path f.log.naming
 is_family rule f numbered can fit is = subst (IsFamily f.log.path) is (record {
   numbered = numbered;
@@ -70,33 +72,55 @@ is_family rule f numbered can fit is = subst (IsFamily f.log.path) is (record {
   dir = subst (λ (m : Naming). path_fault m.dir ≡ None) (sym is) fit.dir;
 })
 
+is_dated_family : (rule : Rule) (f : FoundLog) → IsSome rule.dated → CanAsk rule → HasLogPath f → naming_of rule f.log.path ≡ f.log.naming → IsDatedFamily f.log.path f.log.naming
+is_dated_family rule f some can fit is = subst (IsDatedFamily f.log.path) is (record {
+  dated = some;
+  format = format;
+  kin = kin;
+  dir = subst (λ (m : Naming). path_fault m.dir ≡ None) (sym is) fit.dir;
+  apart = log_apart rule f.log.path format kin;
+})
+  where
+    format : or_none is_format rule.dated ≡ true
+    format = subst (λ (m : Naming). or_none is_format m.dated ≡ true) (sym is) fit.format
+
+    kin : IsKin f.log.path (naming_of rule f.log.path)
+    kin = kin_of rule f.log.path can fit.path fit.size fit.last
+
 log_path : (found : List FoundLog) (f : FoundLog) → HaveLogPaths found → IsIn f found → HasLogPath f
 log_path [] f h i = absurd i
 log_path (g ∷ gs) f h (inl e) = subst HasLogPath e h.0
 log_path (g ∷ gs) f h (inr i) = log_path gs f h.1 i
 
 -- a log that was looked at whole
-pub looked_family : {reserved : List Path} (rules : Rules) (sets : List SetLooks) (faults : List Fault) (ts : List Entry) (x : LookedLog) → AreBuiltRules rules.sets → (s : ShowsLooks reserved rules.sets sets faults ts) → IsIn x s.looked → IsFamily x.path x.naming
-looked_family rules sets faults ts x built s looked = subst (λ (p : Path). IsFamily p x.naming) o.path_is (subst (IsFamily o.found.log.path) o.naming_is
-    (is_family o.by_word.word.rule o.found b.dated can (log_path s.found o.found s.paths (in_kept s.found s.keeps.choices o.found came.1)) naming))
-  where
-    came : (o : IsFrom rules.sets s.entries.front s.found x) × IsIn o.found (kept_of s.found s.keeps.choices)
-    came = came_from rules.sets sets faults ts s x looked
+module _ {reserved : List Path} (rules : Rules) (sets : List SetLooks) (faults : List Fault) (ts : List Entry) (x : LookedLog) (s : ShowsLooks reserved rules.sets sets faults ts) (looked : IsIn x s.looked) where
+  abbrev came_so : (o : IsFrom rules.sets s.entries.front s.found x) × IsIn o.found (kept_of s.found s.keeps.choices)
+  came_so = came_from rules.sets sets faults ts s x looked
 
-    o : IsFrom rules.sets s.entries.front s.found x
-    o = came.0
+  abbrev of : IsFrom rules.sets s.entries.front s.found x
+  of = came_so.0
 
-    among : IsIn o.by_word.word.rule rules.sets
-    among = in_list rules.sets x.set o.by_word.word.rule o.at
+  of_rule : IsIn of.by_word.word.rule rules.sets
+  of_rule = in_list rules.sets x.set of.by_word.word.rule of.at
 
-    can : CanAsk o.by_word.word.rule
-    can = all_in meets_limits rules.sets o.by_word.word.rule rules.limits among
+  can : CanAsk of.by_word.word.rule
+  can = all_in meets_limits rules.sets of.by_word.word.rule rules.limits of_rule
 
-    b : IsBuiltRule o.by_word.word.rule
-    b = All-contains IsBuiltRule rules.sets o.by_word.word.rule built (in_to o.by_word.word.rule rules.sets among)
+  by_rule : naming_of of.by_word.word.rule of.found.log.path ≡ of.found.log.naming
+  by_rule = ap (λ (g : FoundLog). naming_of of.by_word.word.rule g.log.path) of.by_word.is ∙ sym (ap (λ (g : FoundLog). g.log.naming) of.by_word.is)
 
-    naming : naming_of o.by_word.word.rule o.found.log.path ≡ o.found.log.naming
-    naming = ap (λ (g : FoundLog). naming_of o.by_word.word.rule g.log.path) o.by_word.is ∙ sym (ap (λ (g : FoundLog). g.log.naming) o.by_word.is)
+  fits : HasLogPath of.found
+  fits = log_path s.found of.found s.paths (in_kept s.found s.keeps.choices of.found came_so.1)
+
+  rule_dated : x.naming.dated ≡ of.by_word.word.rule.dated
+  rule_dated = ap (λ (n : Naming). n.dated) (sym of.naming_is ∙ sym by_rule)
+
+  looked_family : x.naming.dated ≡ None → IsFamily x.path x.naming
+  looked_family numbered = subst (λ (p : Path). IsFamily p x.naming) of.path_is (subst (IsFamily of.found.log.path) of.naming_is (is_family of.by_word.word.rule of.found (sym rule_dated ∙ numbered) can fits by_rule))
+
+  looked_dated_family : IsSome x.naming.dated → IsDatedFamily x.path x.naming
+  looked_dated_family some =
+      subst (λ (p : Path). IsDatedFamily p x.naming) of.path_is (subst (IsDatedFamily of.found.log.path) of.naming_is (is_dated_family of.by_word.word.rule of.found (subst IsSome rule_dated some) can fits by_rule))
 
 -- ---- the look at the log
 
@@ -121,9 +145,9 @@ has_in x (y ∷ ys) h = go (λ k. has_in x ys k) (bytes_eq x y) refl h
     go further false e h = inr (further h)
 
 -- one that goes before the copy stood
-stale_stands : (rule : Rule) (look : LogLook) (job : Job) → job_of rule look ≡ Some job → job.stale ≡ true → IsIn job.part look.stand.parts
-stale_stands rule look job is stale = let by = by_copy rule.way look job is in
-    subst (λ (j : Job). IsIn j.part look.stand.parts) by.1 (has_in (part_of (path_at look.family.naming 0)) look.stand.parts (ap (λ (j : Job). j.stale) by.1 ∙ stale))
+stale_stands : (clock : Clock) (rule : Rule) (look : LogLook) (job : Job) → (target_of clock rule look).job ≡ Some job → job.stale ≡ true → IsIn job.part look.stand.parts
+stale_stands clock rule look job is stale = let by = by_copy rule.way look (ready_for clock rule look).target job is in
+    subst (λ (j : Job). IsIn j.part look.stand.parts) by.1 (has_in (part_of (ready_for clock rule look).target) look.stand.parts (ap (λ (j : Job). j.stale) by.1 ∙ stale))
 
 -- ---- nothing hinders
 
@@ -133,8 +157,15 @@ free_means true false a b e = (refl, refl)
 free_means false high a b e = absurd (cc)
 
 -- the directory is there, and no member has to move beyond the highest number
-is_free : (rule : Rule) (look : LogLook) → hindrances rule look ≡ [] → (look.stand.there ≡ true) × (is_too_high rule look ≡ false)
+is_free : (rule : Rule) (look : LogLook) → numbered_hindrances rule look ≡ [] → (look.stand.there ≡ true) × (is_too_high rule look ≡ false)
 is_free rule look e = free_means look.stand.there (is_too_high rule look) (fault.TooHigh (highest_path look.family.naming)) (fault.NoDir look.family.naming.dir) e
+
+is_there : (there : Bool) (fs : List Fault) (f : Fault) → cond there fs (f ∷ []) ≡ [] → there ≡ true
+is_there true fs f e = refl
+is_there false fs f e = absurd (cc)
+
+dated_free : (n : Naming) (stand : Stand) (seconds : ℤ) → dated_hindrances n stand seconds ≡ [] → stand.there ≡ true
+dated_free n stand seconds e = is_there stand.there _ (fault.NoDir n.dir) e
 
 not_high : (n : Naming) (c : Count) (members : List Member) → (keeps_all c && list_any (is_highest n) members) ≡ false → IsOneTooHigh n c members → ⊥
 not_high n c members e h =
@@ -148,12 +179,34 @@ not_high n c members e h =
 
 -- ---- one log, and all
 
-target_seen : {reserved : List Path} (rules : Rules) (sets : List SetLooks) (faults : List Fault) (ts : List Entry) (now : Moment) (t : Target) → AreBuiltRules rules.sets → (s : ShowsLooks reserved rules.sets sets faults ts) → Comes now rules.sets sets t → IsSeen rules now.seconds ts t
-target_seen rules sets faults ts now t built s c = subst (IsSeen rules now.seconds ts) (sym c.is) (record {
+-- its members were seen, and its rotation is theirs
+shows_by : {reserved : List Path} (rules : Rules) (sets : List SetLooks) (faults : List Fault) (ts : List Entry) (clock : Clock) (rule : Rule) (look : LogLook) (k : ℕ) (s : ShowsLooks reserved rules.sets sets faults ts) → IsIn (looked_in k look) s.looked
+    → (look.stand.there ≡ true → ShownBy look.family.naming.dated look.family.naming look.stand ts) → (d : Option Format) → look.family.naming.dated ≡ d → hindrances_by d clock rule look ≡ [] → IsSeenBy d rule.maxage clock ts (target_by d clock rule look)
+shows_by rules sets faults ts clock rule look k s looked shown None e free =
+    let f = is_free rule look free in
+    let members : ShownBy None look.family.naming look.stand ts = subst (λ d. ShownBy d look.family.naming look.stand ts) e (shown f.0) in
+    record {
+      family = looked_family rules sets faults ts (looked_in k look) s looked e;
+      seen = members.0;
+      sights = members.1;
+      from_is = refl;
+      low = not_high look.family.naming rule.count look.stand.members f.1;
+      ready = record { leftovers_are = refl; no_dir = refl; moves_are = refl; log_is = refl; target_is = refl; make_is = refl; retire_is = refl };
+    }
+shows_by rules sets faults ts clock rule look k s looked shown (Some format) e free =
+    record {
+      family = looked_dated_family rules sets faults ts (looked_in k look) s looked (subst IsSome (sym e) refl);
+      seen = subst (λ d. ShownBy d look.family.naming look.stand ts) e (shown (dated_free look.family.naming look.stand _ free));
+      free = free;
+      ready = refl;
+    }
+
+target_seen : {reserved : List Path} (rules : Rules) (sets : List SetLooks) (faults : List Fault) (ts : List Entry) (clock : Clock) (t : Target) → (s : ShowsLooks reserved rules.sets sets faults ts) → Comes clock rules.sets sets t → IsLogSeen rules clock ts t
+target_seen rules sets faults ts clock t s c = subst (IsLogSeen rules clock ts) (sym c.is) (record {
   given = record {
     rule = o.by_word.word.rule;
     word = o.by_word.word.text;
-    among = in_to o.by_word.word.rule rules.sets among;
+    among = in_to o.by_word.word.rule rules.sets (of_rule rules sets faults ts x s looked);
     has = in_to o.by_word.word.text o.by_word.word.rule.words o.has;
     given = record {
       before = [];
@@ -162,18 +215,13 @@ target_seen rules sets faults ts now t built s c = subst (IsSeen rules now.secon
       joined = s.entries.joined;
       is = subst (λ (p : Path). Gives rules.sets o.by_word.word.rule o.by_word.word.text p s.entries.front) o.path_is (gives_kept rules sets faults ts s at.0 o.found at.1 at.2 o.by_word);
     };
-    naming_is = ap (naming_of o.by_word.word.rule) (sym o.path_is) ∙ (naming ∙ o.naming_is);
+    naming_is = ap (naming_of o.by_word.word.rule) (sym o.path_is) ∙ (by_rule rules sets faults ts x s looked ∙ o.naming_is);
     count_is = ap (λ (r : Rule). r.count) (sym same);
-    way_is = subst (λ (r : Rule). (r.way ≡ Rename) ↔ (job_of c.rule c.look ≡ None)) same (by_rename c.rule.way c.look);
+    way_is = subst (λ (r : Rule). (r.way ≡ Rename) ↔ ((target_of clock c.rule c.look).job ≡ None)) same (by_rename c.rule.way c.look (ready_for clock c.rule c.look).target);
   };
-  family = looked_family rules sets faults ts x built s looked;
   log_seen = sees_file x.path o.found.seen ts o.file (subst (λ (p : Path). IsIn (entry.Look p (Some o.found.seen)) ts) o.path_is look);
-  seen = members.0;
-  sights = members.1;
-  from_is = ap (λ (r : Rule). going c.rule.count r.maxage now.seconds c.look.stand.members) same;
-  low = not_high x.naming c.rule.count x.stand.members free.1;
-  ready = target_ready now c.rule c.look;
-  job = λ job is. (target_job now c.rule c.look job is, λ stale. let old = shown.1 job.part (stale_stands c.rule c.look job is stale) in sees_file job.part old.0 ts old.1 old.2);
+  shows = subst (λ (r : Rule). IsSeenBy c.look.family.naming.dated r.maxage clock ts (target_of clock c.rule c.look)) same (shows_by rules sets faults ts clock c.rule c.look (0 + c.place) s looked shown.0 c.look.family.naming.dated refl c.free);
+  job = λ job is. (target_job clock c.rule c.look job is, λ stale. let old = shown.1 job.part (stale_stands clock c.rule c.look job is stale) in sees_file job.part old.0 ts old.1 old.2);
 })
   where
     x : LookedLog
@@ -182,15 +230,12 @@ target_seen rules sets faults ts now t built s c = subst (IsSeen rules now.secon
     looked : IsIn x s.looked
     looked = was_looked 0 c.place s.looked sets c.set c.look s.by_sets c.at_set c.among
 
-    came : (o : IsFrom rules.sets s.entries.front s.found x) × IsIn o.found (kept_of s.found s.keeps.choices)
-    came = came_from rules.sets sets faults ts s x looked
-
     o : IsFrom rules.sets s.entries.front s.found x
-    o = came.0
+    o = of rules sets faults ts x s looked
 
     -- the log stands at this place among those that were found, and is kept
     at : (k : ℕ) × (slice_get s.found k ≡ Some o.found) × (slice_get s.keeps.choices k ≡ Some Kept)
-    at = kept_at s.found s.keeps.choices o.found came.1
+    at = kept_at s.found s.keeps.choices o.found (came_so rules sets faults ts x s looked).1
 
     shown : WasShown x.naming x.stand ts
     shown = all_shown ts s.kept s.entries.second.listings s.entries.second.families.sights s.entries.back (λ e i. subst (IsIn e) (sym s.entries.joined) (in_back e s.entries.front s.entries.back i)) s.entries.second.families.shown
@@ -202,12 +247,6 @@ target_seen rules sets faults ts now t built s c = subst (IsSeen rules now.secon
     same : c.rule ≡ o.by_word.word.rule
     same = same_read rules.sets c.place c.rule o.by_word.word.rule c.at_rule (subst (λ (n : ℕ). slice_get rules.sets n ≡ Some o.by_word.word.rule) (none_more c.place) o.at)
 
-    among : IsIn o.by_word.word.rule rules.sets
-    among = in_list rules.sets x.set o.by_word.word.rule o.at
-
-    naming : naming_of o.by_word.word.rule o.found.log.path ≡ o.found.log.naming
-    naming = ap (λ (g : FoundLog). naming_of o.by_word.word.rule g.log.path) o.by_word.is ∙ sym (ap (λ (g : FoundLog). g.log.naming) o.by_word.is)
-
     -- a look of its word saw it
     look : IsIn (entry.Look o.found.log.path (Some o.found.seen)) ts
     look =
@@ -217,32 +256,22 @@ target_seen rules sets faults ts now t built s c = subst (IsSeen rules now.secon
         (subst (IsIn e) (sym b.shown.joined) (in_back e b.shown.before (b.shown.part ++ b.shown.after) (in_front e b.shown.part b.shown.after
         (subst (λ (g : FoundLog). IsIn (entry.Look g.log.path (Some g.seen)) b.shown.part) (sym b.is) (found_were_seen b.word.text b.room b.matches b.shown.part b.shown.is b.one b.has))))))
 
-    free : (c.look.stand.there ≡ true) × (is_too_high c.rule c.look ≡ false)
-    free = is_free c.rule c.look c.free
+each_seen : (rules : Rules) (clock : Clock) (ts : List Entry) (us : List Target) → ((t : Target) → IsIn t us → IsLogSeen rules clock ts t) → AreLogsSeen rules clock ts us
+each_seen rules clock ts [] h = tt
+each_seen rules clock ts (u ∷ us) h = (h u (inl refl), each_seen rules clock ts us (λ t i. h t (inr i)))
 
-    members : Shown x.naming (places_of x.stand.members) ts × SawMembers x.naming x.stand.members ts
-    members = shown.0 (looked_family rules sets faults ts x built s looked).numbered free.0
+pub targets_seen : {reserved : List Path} (rules : Rules) (sets : List SetLooks) (faults : List Fault) (ts : List Entry) (clock : Clock) (decide : Rule → LogLook → Due) → ShowsLooks reserved rules.sets sets faults ts → AreLogsSeen rules clock ts (all_targets clock decide rules.sets sets)
+targets_seen rules sets faults ts clock decide s = each_seen rules clock ts (all_targets clock decide rules.sets sets) (λ t i. target_seen rules sets faults ts clock t s (comes_from clock decide rules.sets sets t i))
 
-each_seen : (rules : Rules) (now : ℤ) (ts : List Entry) (us : List Target) → ((t : Target) → IsIn t us → IsSeen rules now ts t) → AreSeen rules now ts us
-each_seen rules now ts [] h = tt
-each_seen rules now ts (u ∷ us) h = (h u (inl refl), each_seen rules now ts us (λ t i. h t (inr i)))
-
-pub targets_seen : {reserved : List Path} (rules : Rules) (sets : List SetLooks) (faults : List Fault) (ts : List Entry) (now : Moment) (decide : Rule → LogLook → Due) → AreBuiltRules rules.sets → ShowsLooks reserved rules.sets sets faults ts → AreSeen rules now.seconds ts (all_targets now decide rules.sets sets)
-targets_seen rules sets faults ts now decide built s = each_seen rules now.seconds ts (all_targets now decide rules.sets sets) (λ t i. target_seen rules sets faults ts now t built s (comes_from now decide rules.sets sets t i))
-
-all_names : (rules : Rules) (now : ℤ) (ts : List Entry) (us : List Target) → AreSeen rules now ts us → HaveNames us
-all_names rules now ts [] h = tt
-all_names rules now ts (u ∷ us) h = (seen_names rules now ts u h.0, all_names rules now ts us h.1)
-
-pub targets_have_names : {reserved : List Path} (rules : Rules) (sets : List SetLooks) (faults : List Fault) (ts : List Entry) (now : Moment) (decide : Rule → LogLook → Due) → AreBuiltRules rules.sets → ShowsLooks reserved rules.sets sets faults ts → HaveNames (all_targets now decide rules.sets sets)
-targets_have_names rules sets faults ts now decide built s = all_names rules now.seconds ts (all_targets now decide rules.sets sets) (targets_seen rules sets faults ts now decide built s)
+pub targets_have_names : {reserved : List Path} (rules : Rules) (sets : List SetLooks) (faults : List Fault) (ts : List Entry) (clock : Clock) (decide : Rule → LogLook → Due) → ShowsLooks reserved rules.sets sets faults ts → HaveAnyNames (all_targets clock decide rules.sets sets)
+targets_have_names rules sets faults ts clock decide s = have_names rules clock ts (all_targets clock decide rules.sets sets) (targets_seen rules sets faults ts clock decide s)
 
 -- each log of a plan has a path that is one
-pub targets_have_paths : {reserved : List Path} (rules : List Rule) (sets : List SetLooks) (faults : List Fault) (ts : List Entry) (now : Moment) (decide : Rule → LogLook → Due) → ShowsLooks reserved rules sets faults ts → (t : Target) → IsIn t (all_targets now decide rules sets) → path_fault t.log ≡ None
-targets_have_paths rules sets faults ts now decide s t i = subst (λ (u : Target). path_fault u.log ≡ None) (sym c.is) (subst (λ (x : Path). path_fault x ≡ None) came.0.path_is (log_path s.found came.0.found s.paths (in_kept s.found s.keeps.choices came.0.found came.1)).path)
+pub targets_have_paths : {reserved : List Path} (rules : List Rule) (sets : List SetLooks) (faults : List Fault) (ts : List Entry) (clock : Clock) (decide : Rule → LogLook → Due) → ShowsLooks reserved rules sets faults ts → (t : Target) → IsIn t (all_targets clock decide rules sets) → path_fault t.log ≡ None
+targets_have_paths rules sets faults ts clock decide s t i = subst (λ (u : Target). path_fault u.log ≡ None) (sym c.is) (subst (λ (x : Path). path_fault x ≡ None) came.0.path_is (log_path s.found came.0.found s.paths (in_kept s.found s.keeps.choices came.0.found came.1)).path)
   where
-    c : Comes now rules sets t
-    c = comes_from now decide rules sets t i
+    c : Comes clock rules sets t
+    c = comes_from clock decide rules sets t i
 
     x : LookedLog
     x = looked_in (0 + c.place) c.look

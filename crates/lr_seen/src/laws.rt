@@ -1,6 +1,6 @@
 // What looks show of the logs of a plan.
 ghost use Rattle.std.specs.Prelude.{◌≢◌, List};
-ghost use Rattle.lr_rules.specs.declared.civil.Moment.{Moment};
+ghost use Rattle.lr_rules.specs.declared.clock.Clock.{Clock};
 ghost use Rattle.lr_rules.specs.declared.fault.Fault.{Fault};
 ghost use Rattle.lr_rules.specs.declared.path.Path.{Path};
 ghost use Rattle.lr_rules.specs.declared.rule.Rule.{Rule};
@@ -15,11 +15,11 @@ ghost use Rattle.lr_plan.specs.declared.looks.SetLooks.{SetLooks};
 ghost use Rattle.lr_plan.specs.Planned.{all_plans};
 ghost use Rattle.lr_looks.specs.Found.{FoundLog};
 ghost use Rattle.lr_looks.specs.Shown.{ShowsLooks, ShowsSomeLooks};
-ghost use Rattle.lr_targets.specs.Apart.{HaveNames};
-ghost use Rattle.lr_targets.specs.Target.{Target, AreSeen, IsOneOf};
+ghost use Rattle.lr_targets.specs.Target.{Target, IsOneOf};
+ghost use Rattle.lr_dated_run.specs.Own.{HaveAnyNames};
+ghost use Rattle.lr_mixed.specs.Seen.{AreLogsSeen};
 ghost use Rattle.lr_weave.specs.Fitting.{DontMeet, ReadOnlyOwn};
 ghost use Rattle.lr_weave.specs.Planned.{HaveLogs, AreApart};
-ghost use Rattle.lr_fields.specs.Built.{AreBuiltRules};
 ghost use Rattle.lr_seen.specs.Free.{AreFreeOf};
 ghost use Rattle.lr_seen.specs.Targets.{groups_of, all_targets};
 
@@ -30,41 +30,41 @@ pub fn looks_are_quiet()
 {}
 
 /// Each log that a plan rotates was seen as a file, and its members were: a word of its rule gives it, and there are names
-/// for all its members. At this moment the members go that the rule lets go.
+/// for all its members. At the clock's moment the members go that the rule lets go.
 pub fn looks_see_targets()
-    ensures seen { (reserved : List Path) (rules : Rules) (sets : List SetLooks) (faults : List Fault) (ts : List Entry) (now : Moment) (decide : Rule → LogLook → Due)
-        → AreBuiltRules rules.sets → ShowsLooks reserved rules.sets sets faults ts → AreSeen rules now.seconds ts (all_targets now decide rules.sets sets) }
-    ensures names { (reserved : List Path) (rules : Rules) (sets : List SetLooks) (faults : List Fault) (ts : List Entry) (now : Moment) (decide : Rule → LogLook → Due)
-        → AreBuiltRules rules.sets → ShowsLooks reserved rules.sets sets faults ts → HaveNames (all_targets now decide rules.sets sets) }
+    ensures seen { (reserved : List Path) (rules : Rules) (sets : List SetLooks) (faults : List Fault) (ts : List Entry) (clock : Clock) (decide : Rule → LogLook → Due)
+        → ShowsLooks reserved rules.sets sets faults ts → AreLogsSeen rules clock ts (all_targets clock decide rules.sets sets) }
+    ensures names { (reserved : List Path) (rules : Rules) (sets : List SetLooks) (faults : List Fault) (ts : List Entry) (clock : Clock) (decide : Rule → LogLook → Due)
+        → ShowsLooks reserved rules.sets sets faults ts → HaveAnyNames (all_targets clock decide rules.sets sets) }
 {}
 
 /// No log stands twice among them, and no two of them meet.
 pub fn targets_are_apart()
-    ensures apart { (reserved : List Path) (rules : List Rule) (sets : List SetLooks) (faults : List Fault) (ts : List Entry) (now : Moment) (decide : Rule → LogLook → Due)
-        → ShowsLooks reserved rules sets faults ts → AreApart (all_targets now decide rules sets) }
-    ensures meet { (reserved : List Path) (rules : List Rule) (sets : List SetLooks) (faults : List Fault) (ts : List Entry) (now : Moment) (decide : Rule → LogLook → Due)
-        → ShowsLooks reserved rules sets faults ts → DontMeet (all_targets now decide rules sets) }
+    ensures apart { (reserved : List Path) (rules : List Rule) (sets : List SetLooks) (faults : List Fault) (ts : List Entry) (clock : Clock) (decide : Rule → LogLook → Due)
+        → ShowsLooks reserved rules sets faults ts → AreApart (all_targets clock decide rules sets) }
+    ensures meet { (reserved : List Path) (rules : List Rule) (sets : List SetLooks) (faults : List Fault) (ts : List Entry) (clock : Clock) (decide : Rule → LogLook → Due)
+        → ShowsLooks reserved rules sets faults ts → DontMeet (all_targets clock decide rules sets) }
 {}
 
 /// None of them has a name that the run reserves for itself.
 pub fn targets_are_free()
-    ensures { (reserved : List Path) (rules : List Rule) (sets : List SetLooks) (faults : List Fault) (ts : List Entry) (now : Moment) (decide : Rule → LogLook → Due)
-        → ShowsLooks reserved rules sets faults ts → AreFreeOf reserved (all_targets now decide rules sets) }
+    ensures { (reserved : List Path) (rules : List Rule) (sets : List SetLooks) (faults : List Fault) (ts : List Entry) (clock : Clock) (decide : Rule → LogLook → Due)
+        → ShowsLooks reserved rules sets faults ts → AreFreeOf reserved (all_targets clock decide rules sets) }
 {}
 
 /// A log that the looks kept has no reserved name, and meets no other log that the plan rotates.
 pub fn kept_are_apart()
     ensures free { (reserved : List Path) (rules : List Rule) (sets : List SetLooks) (faults : List Fault) (ts : List Entry) (f : FoundLog) (path : Path)
         → (s : ShowsLooks reserved rules sets faults ts) → IsIn f s.kept → IsIn path reserved → IsName f.log.path f.log.naming path → ⊥ }
-    ensures meet { (reserved : List Path) (rules : List Rule) (sets : List SetLooks) (faults : List Fault) (ts : List Entry) (now : Moment) (decide : Rule → LogLook → Due) (f : FoundLog) (t : Target)
-        → (s : ShowsLooks reserved rules sets faults ts) → IsIn f s.kept → IsOneOf t (all_targets now decide rules sets) → t.log ≢ f.log.path → Meet t.log t.naming f.log.path f.log.naming → ⊥ }
+    ensures meet { (reserved : List Path) (rules : List Rule) (sets : List SetLooks) (faults : List Fault) (ts : List Entry) (clock : Clock) (decide : Rule → LogLook → Due) (f : FoundLog) (t : Target)
+        → (s : ShowsLooks reserved rules sets faults ts) → IsIn f s.kept → IsOneOf t (all_targets clock decide rules sets) → t.log ≢ f.log.path → Meet t.log t.naming f.log.path f.log.naming → ⊥ }
 {}
 
 /// The plan has just them, each with its rotation ready; of its programs a mail alone reads a file, the one that is removed
 /// next, or with `mailfirst` the log's at its final path.
 pub fn plan_has_targets()
-    ensures logs { (reserved : List Path) (rules : List Rule) (sets : List SetLooks) (faults : List Fault) (ts : List Entry) (now : Moment) (mailer : Path) (decide : Rule → LogLook → Due)
-        → AreBuiltRules rules → ShowsLooks reserved rules sets faults ts → HaveLogs (groups_of now decide rules sets) (all_plans now mailer decide rules sets) }
-    ensures programs { (rules : List Rule) (sets : List SetLooks) (now : Moment) (mailer : Path) (decide : Rule → LogLook → Due)
-        → AreBuiltRules rules → ReadOnlyOwn (all_plans now mailer decide rules sets) }
+    ensures logs { (reserved : List Path) (rules : List Rule) (sets : List SetLooks) (faults : List Fault) (ts : List Entry) (clock : Clock) (mailer : Path) (decide : Rule → LogLook → Due)
+        → ShowsLooks reserved rules sets faults ts → HaveLogs (groups_of clock decide rules sets) (all_plans clock mailer decide rules sets) }
+    ensures programs { (rules : List Rule) (sets : List SetLooks) (clock : Clock) (mailer : Path) (decide : Rule → LogLook → Due)
+        → ReadOnlyOwn (all_plans clock mailer decide rules sets) }
 {}

@@ -104,7 +104,7 @@ module _ (log : Path) (n : Naming) (stand : Stand) (p q : Past) (es : List Entry
   -- ---- members
 
   seen : stand.there ≡ true → WereSeen n stand.members (reverse es)
-  seen there = members_seen n stand.members (reverse es) n.dated refl (λ numbered. (shown.0 numbered there).0) (sought.0 there).members
+  seen there = members_seen n stand (reverse es) n.dated refl (shown.0 there) (sought.0 there).members
 
   member_stood : (x : Path) → IsMember n x → IsFileAt (names (world p)) x → (b : Bool) → stand.there ≡ b → HasMember stand.members x
   member_stood x member file true there = ⊎_elim (λ h. h) (λ none. absurd (⊎_elim

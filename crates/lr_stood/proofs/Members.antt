@@ -18,6 +18,7 @@ use Rattle.lr_host.proofs.Lists.{in_from, in_to, in_map, in_unmap, in_reverse, f
 use Rattle.lr_family.specs.declared.place.Place.{Place}
 use Rattle.lr_family.specs.declared.place.Place.TheVariants as at
 use Rattle.lr_family.specs.declared.stand.Member.{Member}
+use Rattle.lr_family.specs.declared.stand.Stand.{Stand}
 use Rattle.lr_family.specs.Kin.{IsKin}
 use Rattle.lr_family.specs.Named.{member_name}
 use Rattle.lr_family.specs.Parts.{part_of, IsMember, IsMembersPart}
@@ -31,7 +32,8 @@ use Rattle.lr_dated_seen.specs.Shown.{SawFile, WasSeen, HasNone, IsUnlisted, Sho
 use Rattle.lr_dated_seen.proofs.Names.{name_of, name_part as dated_part}
 use Rattle.lr_dated_seen.proofs.Picking.{not_none}
 use Rattle.lr_rotations.specs.Shown.{Shown}
-use Rattle.lr_stood.proofs.Sought.{AreMembers}
+use Rattle.lr_seen.proofs.Listed.{ShownBy}
+use Rattle.lr_stood.proofs.Sought.{HavePlaces}
 
 -- ---- a log and its family
 
@@ -115,6 +117,7 @@ module _ (n : Naming) (members : List Member) (all : List Entry) where
       others x (inl (undated, numbered)) none = absurd (not_both n.dated format undated dated)
       others x (inr (seconds, serial, is)) none = s.others x seconds serial is none
 
-  pub members_seen : (d : Option Format) → n.dated ≡ d → (n.dated ≡ None → Shown n (places_of members) all) → AreMembers d n members all → WereSeen n members all
-  members_seen None numbered shown named = numbered_seen numbered (shown numbered) named
-  members_seen (Some format) dated shown s = dated_seen format dated s
+-- those of a family, numbered or dated
+pub members_seen : (n : Naming) (stand : Stand) (all : List Entry) (d : Option Format) → n.dated ≡ d → ShownBy d n stand all → HavePlaces d n stand.members → WereSeen n stand.members all
+members_seen n stand all None numbered shown named = numbered_seen n stand.members all numbered shown.0 named
+members_seen n stand all (Some format) dated shown named = dated_seen n stand.members all format dated shown

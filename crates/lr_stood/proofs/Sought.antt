@@ -29,8 +29,7 @@ use Rattle.lr_family.specs.Places.{IsPlaceOf, AreNamed}
 use Rattle.lr_family.specs.Spots.{HavePaths}
 use Rattle.lr_family.proofs.Placed.{spots_named, named_sorted}
 use Rattle.lr_days.specs.Among.{ShowsMembers as ShowsDays}
-use Rattle.lr_dated_seen.specs.Shown.{IsUnlisted, ShownDated}
-use Rattle.lr_dated_seen.proofs.Shows.{stand_shown}
+use Rattle.lr_dated_seen.specs.Shown.{IsUnlisted}
 use Rattle.lr_looks.specs.Families.{FamilySight, Stood, Stopped, ShowsBy, ShowsFamily, behind_listing, with_listing, not_listed, ShowFamilies, LookedLog, looked_by, looked_of}
 use Rattle.lr_looks.specs.Found.{FoundLog}
 use Rattle.lr_seen.proofs.Elements.{in_list}
@@ -75,10 +74,10 @@ missing_told all dir parent names t =
 
 -- ---- members
 
--- those of a numbered family have the paths of their places, and those of a dated one were seen, and no other was
-abbrev pub AreMembers : Option Format → Naming → List Member → List Entry → Type 0
-AreMembers None n members all = AreNamed n members
-AreMembers (Some format) n members all = ShownDated n members all
+-- those of a numbered family have the paths of their places
+abbrev pub HavePlaces : Option Format → Naming → List Member → Type 0
+HavePlaces None n members = AreNamed n members
+HavePlaces (Some format) n members = Unit {0}
 
 sights_named : (n : Naming) (gs : List Sight) → HavePaths n (map (λ (g : Sight). g.spot) gs) → AreNamed n (flat_map member_of gs)
 sights_named n [] h = All-nil (λ (m : Member). IsPlaceOf n m.place m.path)
@@ -145,9 +144,9 @@ pub record IsMissing (n : Naming) (stand : Stand) (all : List Entry) : Type 0 wh
   pub parts : stand.parts ≡ []
   pub look : IsIn (entry.Look n.dir None) all
 
--- It was listed, and the members and their part files are those that were seen.
+-- It was listed, the members have the paths of their places where those are numbers, and their part files are those that were seen.
 pub record AreThose (d : Option Format) (n : Naming) (stand : Stand) (all : List Entry) : Type 0 where
-  pub members : AreMembers d n stand.members all
+  pub members : HavePlaces d n stand.members
   pub parts : WereSought n stand.parts all
 
 -- by whether it is there
@@ -159,27 +158,23 @@ WasSought n stand all = BySight n.dated n stand all
 
 -- whatever the looks at members show, of which none stands where the directory isn't there
 sought_among : (all : List Entry) (n : Naming) (l : Listing) (stand : Stand) (d : Option Format) (M : Bool → List Entry → Type 0) (ts : List Entry) → ((us : List Entry) → M false us → stand.members ≡ [])
-    → ((us : List Entry) → ((e : Entry) → IsIn e us → IsIn e all) → IsTold all n.dir true l.parent l.names → M true us → AreMembers d n stand.members all)
+    → ((us : List Entry) → M true us → HavePlaces d n stand.members)
     → ((e : Entry) → IsIn e ts → IsIn e all) → IsTold all n.dir l.there l.parent l.names → stand.there ≡ l.there → Then (M l.there) (ShowsParts n l.there l.names stand.parts) ts → BySight d n stand all
 sought_among all n l stand d M ts none some in_all told there h = go l.there there told h.first h.second
   where
-    in_members : (e : Entry) → IsIn e h.front → IsIn e all
-    in_members e i = in_all e (subst (IsIn e) (sym h.joined) (in_front e h.front h.back i))
-
     in_parts : (e : Entry) → IsIn e h.back → IsIn e all
     in_parts e i = in_all e (subst (IsIn e) (sym h.joined) (in_back e h.front h.back i))
 
     go : (b : Bool) → stand.there ≡ b → IsTold all n.dir b l.parent l.names → M b h.front → ShowsParts n b l.names stand.parts h.back → BySight d n stand all
     go true is t m p =
         let list = list_told all n.dir l.parent l.names t in
-        ((λ yes. record { members = some h.front in_members t m; parts = parts_sought all n l.names list.0 stand.parts h.back in_parts list.1 list.2 p }), λ no. absurd (cc))
+        ((λ yes. record { members = some h.front m; parts = parts_sought all n l.names list.0 stand.parts h.back in_parts list.1 list.2 p }), λ no. absurd (cc))
     go false is t m p = ((λ yes. absurd (cc)), λ no. record { members = none h.front m; parts = p.0; look = missing_told all n.dir l.parent l.names t })
 
 -- of a numbered family and of a dated one
 sought_in : (all : List Entry) (n : Naming) (l : Listing) (stand : Stand) (ts : List Entry) → ((e : Entry) → IsIn e ts → IsIn e all) → IsTold all n.dir l.there l.parent l.names → (d : Option Format) → ShowsBy d n l stand ts → BySight d n stand all
-sought_in all n l stand ts in_all told None h = sought_among all n l stand None (λ b. ShowsMembers n b l.names stand.members) ts (λ us m. m.0) (λ us in_us t m. members_named n l.names stand.members us m) in_all told h.0 h.2
-sought_in all n l stand ts in_all told (Some format) h = sought_among all n l stand (Some format) (λ b. ShowsDays n b l.names stand.members) ts (λ us m. m.0)
-    (λ us in_us t m. stand_shown n l.parent l.names stand.members t.ts us all t.in_all in_us t.shown m) in_all told h.0 h.2
+sought_in all n l stand ts in_all told None h = sought_among all n l stand None (λ b. ShowsMembers n b l.names stand.members) ts (λ us m. m.0) (λ us m. members_named n l.names stand.members us m) in_all told h.0 h.2
+sought_in all n l stand ts in_all told (Some format) h = sought_among all n l stand (Some format) (λ b. ShowsDays n b l.names stand.members) ts (λ us m. m.0) (λ us m. tt) in_all told h.0 h.2
 
 family_sought : (all : List Entry) (known : List Listing) (n : Naming) (after : List Listing) (stand : Stand) (s : FamilySight) (ts : List Entry) → s ≡ Stood stand → ((e : Entry) → IsIn e ts → IsIn e all) → AreTold all known → AreTold all after
     → ShowsFamily known n after s ts → WasSought n stand all

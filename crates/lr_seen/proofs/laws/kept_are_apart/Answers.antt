@@ -5,4 +5,4 @@ pub returns-clause-free : goal.returns-clause-free
 returns-clause-free c = λ reserved rules sets faults ts f path s kept i named. kept_has_none rules sets faults ts s f kept path i named
 
 pub returns-clause-meet : goal.returns-clause-meet
-returns-clause-meet c = λ reserved rules sets faults ts now decide f t s kept i ne m. kept_meets_none rules sets faults ts s f kept now decide t i ne m
+returns-clause-meet c = λ reserved rules sets faults ts clock decide f t s kept i ne m. kept_meets_none rules sets faults ts s f kept clock decide t i ne m
