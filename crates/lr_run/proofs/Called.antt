@@ -1,6 +1,6 @@
 -- The acts of a plan fail by calls, by programs that end badly, and by copies that break off, alone.
 use Rattle.std.proofs.Common.{◌≡◌, ◌⊎◌, inl, inr, ◌+◌, ℕ, List, [], ◌∷◌, ◌++◌, Option, refl, sym, ap, ◌∙◌, subst, arith}
-use Rattle.lr_rules.specs.declared.civil.Moment.{Moment}
+use Rattle.lr_rules.specs.declared.clock.Clock.{Clock}
 use Rattle.lr_rules.specs.declared.fault.CallKind.TheVariants as call
 use Rattle.lr_rules.specs.declared.fault.Fault.{Fault}
 use Rattle.lr_rules.specs.declared.fault.Fault.TheVariants as fault
@@ -124,15 +124,15 @@ stopped_folds = record {
 }
 
 -- the acts of the plan, of which no call failed, no program ended badly and no copy broke off, met no fault
-acts_met_none : (rules : List Rule) (sets : List SetLooks) (table : List Row) (now : Moment) (asked : Asked) (ms : List Mark) (fs : List Fault) (ts : List Entry) → PlanDone (plan_of rules sets table now asked) ms fs ts → calls_in fs ≡ 0 → scripts_in fs ≡ 0 → NoneOfCopy fs → fs ≡ []
-acts_met_none rules sets table now asked ms fs ts h y z n =
-    none_stopped fs (acts_fold (λ gs us. AreStops gs) stopped_folds (steps_of_plan (plan_of rules sets table now asked)) ms fs ts (steps_simple rules sets table now asked) h) y z n
+acts_met_none : (rules : List Rule) (sets : List SetLooks) (table : List Row) (clock : Clock) (asked : Asked) (ms : List Mark) (fs : List Fault) (ts : List Entry) → PlanDone (plan_of rules sets table clock asked) ms fs ts → calls_in fs ≡ 0 → scripts_in fs ≡ 0 → NoneOfCopy fs → fs ≡ []
+acts_met_none rules sets table clock asked ms fs ts h y z n =
+    none_stopped fs (acts_fold (λ gs us. AreStops gs) stopped_folds (steps_of_plan (plan_of rules sets table clock asked)) ms fs ts (steps_simple rules sets table clock asked) h) y z n
 
 -- so did those of a run that tells none of these
-pub worked_met_none : (state : Path) (rules : List Rule) (now : Moment) (asked : Asked) (own : List Fault) (ts : List Entry) → (w : Worked state rules now asked own ts) → calls_in own ≡ 0 → scripts_in own ≡ 0 → NoneOfCopy own → w.acted.entries.of_plan ≡ []
-worked_met_none state rules now asked own ts w y z n =
-    acts_met_none rules w.looked.sets w.looked.remembered.table now asked w.acted.marks w.acted.entries.of_plan w.acted.entries.entries.front w.acted.entries.entries.first
-    (none_before w.acted.of_acts w.acted.entries.of_plan w.acted.entries.of_state w.acted.entries.faults_are (none_behind _ (plan_in state rules ts w.looked now asked).faults w.acted.of_acts refl (none_behind own w.looked.of_looks _ w.acted.faults_are y)))
-    (no_end_before w.acted.of_acts w.acted.entries.of_plan w.acted.entries.of_state w.acted.entries.faults_are (no_end_behind _ (plan_in state rules ts w.looked now asked).faults w.acted.of_acts refl (no_end_behind own w.looked.of_looks _ w.acted.faults_are z)))
+pub worked_met_none : (state : Path) (rules : List Rule) (clock : Clock) (asked : Asked) (own : List Fault) (ts : List Entry) → (w : Worked state rules clock asked own ts) → calls_in own ≡ 0 → scripts_in own ≡ 0 → NoneOfCopy own → w.acted.entries.of_plan ≡ []
+worked_met_none state rules clock asked own ts w y z n =
+    acts_met_none rules w.looked.sets w.looked.remembered.table clock asked w.acted.marks w.acted.entries.of_plan w.acted.entries.entries.front w.acted.entries.entries.first
+    (none_before w.acted.of_acts w.acted.entries.of_plan w.acted.entries.of_state w.acted.entries.faults_are (none_behind _ (plan_in state rules ts w.looked clock asked).faults w.acted.of_acts refl (none_behind own w.looked.of_looks _ w.acted.faults_are y)))
+    (no_end_before w.acted.of_acts w.acted.entries.of_plan w.acted.entries.of_state w.acted.entries.faults_are (no_end_behind _ (plan_in state rules ts w.looked clock asked).faults w.acted.of_acts refl (no_end_behind own w.looked.of_looks _ w.acted.faults_are z)))
     (none_copied_before w.acted.entries.of_plan w.acted.entries.of_state (subst NoneOfCopy w.acted.entries.faults_are
-    (none_copied_behind (plan_in state rules ts w.looked now asked).faults w.acted.of_acts (none_copied_behind w.looked.of_looks _ (subst NoneOfCopy w.acted.faults_are n)))))
+    (none_copied_behind (plan_in state rules ts w.looked clock asked).faults w.acted.of_acts (none_copied_behind w.looked.of_looks _ (subst NoneOfCopy w.acted.faults_are n)))))

@@ -3,14 +3,17 @@ use Rattle.std.proofs.Common.{◌≡◌, ◌⊎◌, inl, inr, ⊎_elim, ℕ, ◌
 use Rattle.std.specs.Prelude.{Contains}
 use Rattle.std.specs.List.{flat_map}
 use Rattle.std.proofs.lemmas.List.{append-nil}
-use Rattle.lr_rules.specs.declared.civil.Moment.{Moment}
+use Rattle.lr_rules.specs.declared.clock.Clock.{Clock}
 use Rattle.lr_rules.specs.declared.fault.Fault.{Fault}
 use Rattle.lr_rules.specs.declared.path.Path.{Path}
+use Rattle.lr_rules.specs.declared.rule.Format.{Format}
 use Rattle.lr_rules.specs.declared.rule.Naming.{Naming}
 use Rattle.lr_rules.specs.declared.rule.Rule.{Rule}
 use Rattle.lr_rules.specs.declared.rules.Rules.{Rules}
+use Rattle.lr_rules.specs.Dated.{IsDatedAt}
 use Rattle.lr_rules.specs.Names.{IsMemberAt, naming_of}
 use Rattle.lr_rules.specs.Path.{parent_of}
+use Rattle.lr_stamps.specs.Dated.{clock_seconds}
 use Rattle.lr_host.specs.declared.entry.Entry.{Entry}
 use Rattle.lr_host.specs.declared.entry.Entry.TheVariants as entry
 use Rattle.lr_host.specs.declared.journal.Journal.{Journal}
@@ -31,7 +34,7 @@ use Rattle.lr_plan.specs.declared.looks.SetLooks.{SetLooks}
 use Rattle.lr_plan.specs.declared.planned.LogPlan.{LogPlan}
 use Rattle.lr_plan.specs.declared.planned.Plan.{Plan}
 use Rattle.lr_plan.specs.declared.planned.SetPlan.{SetPlan}
-use Rattle.lr_plan.specs.Planned.{job_of, decision, all_plans}
+use Rattle.lr_plan.specs.Planned.{job_by, decision, all_plans}
 use Rattle.lr_plan.specs.Steps.{steps_of_plan}
 use Rattle.lr_emptied.specs.Emptied.{IsJobIn, EmptiesCopied, EmptiesWhole}
 use Rattle.lr_emptied.specs.Jobs.{job_in, jobs_in, jobs_of}
@@ -44,14 +47,15 @@ use Rattle.lr_looks.specs.Families.{LookedLog}
 use Rattle.lr_looks.specs.Choices.{kept_of}
 use Rattle.lr_looks.specs.Sets.{looked_in}
 use Rattle.lr_looks.specs.Shown.{ShowsLooks}
-use Rattle.lr_targets.specs.Apart.{HasNames}
-use Rattle.lr_targets.specs.Target.{Target, IsJob, IsSeen, AreSeen}
+use Rattle.lr_targets.specs.Target.{Target, IsJob}
 use Rattle.lr_rotations.proofs.Fitting.{first_named}
 use Rattle.lr_targets.proofs.PartFile.{job_target}
 use Rattle.lr_rotations.proofs.Paths.{path_member}
-use Rattle.lr_targets.proofs.SeenFits.{seen_names, seen_paths}
+use Rattle.lr_targets.proofs.SeenFits.{seen_names}
+use Rattle.lr_mixed.specs.Seen.{IsLogSeen, AreLogsSeen}
+use Rattle.lr_mixed.proofs.Calls.{log_paths}
+use Rattle.lr_mixed.proofs.Seen.{numbered_seen, dated_seen, ready_of}
 use Rattle.lr_weave.specs.Planned.{AreReadyFor, HaveLogs}
-use Rattle.lr_fields.specs.Built.{AreBuiltRules}
 use Rattle.lr_seen.specs.Targets.{groups_of, all_targets}
 use Rattle.lr_seen.proofs.Coming.{Comes, comes_from, was_looked, IsFrom, came_from}
 use Rattle.lr_seen.proofs.Elements.{in_list}
@@ -61,7 +65,7 @@ use Rattle.lr_run.specs.declared.answer.Ran.{Ran}
 use Rattle.lr_run.specs.declared.answer.RunStop.{RunStop}
 use Rattle.lr_run.specs.declared.answer.RunStop.TheVariants as stop
 use Rattle.lr_run.specs.Answers.{Answers}
-use Rattle.lr_run.specs.Copied.{IsCopyBy}
+use Rattle.lr_run.specs.Copied.{IsNewestBy, IsNewest, IsCopyBy}
 use Rattle.lr_run.specs.Runs as runs
 use Rattle.lr_run.specs.Runs.{Looked, plan_in, Worked, Works, not_known, too_big, worked, Runs, no_directory, not_seen, not_begun, BrokeOff, at_first, in_looks, in_acts}
 use Rattle.lr_run.proofs.Shape.{sees_quiet, some_quiet, seen_quiet, looked_parts, in_parts}
@@ -102,16 +106,16 @@ of_groups (ts ∷ groups) (s ∷ ss) job h i = ⊎_elim (λ a. here (of_logs ts 
 
 -- ---- the rule of a log
 
--- One of the rules names the log's members, and says by which copy.
+-- One of the rules names the log's members, and says by which copy to its path.
 record HasRule (rules : List Rule) (t : Target) : Type 0 where
   rule : Rule
   among : Contains rules rule
   naming_is : naming_of rule t.log ≡ t.naming
   look : LogLook
-  job_is : job_of rule look ≡ t.job
+  job_is : job_by rule.way look t.ready.target ≡ t.job
 
-has_rule : {reserved : List Path} (rules : List Rule) (sets : List SetLooks) (faults : List Fault) (ts : List Entry) (now : Moment) (t : Target) → ShowsLooks reserved rules sets faults ts → Comes now rules sets t → HasRule rules t
-has_rule rules sets faults ts now t s c = subst (HasRule rules) (sym c.is) (record {
+has_rule : {reserved : List Path} (rules : List Rule) (sets : List SetLooks) (faults : List Fault) (ts : List Entry) (clock : Clock) (t : Target) → ShowsLooks reserved rules sets faults ts → Comes clock rules sets t → HasRule rules t
+has_rule rules sets faults ts clock t s c = subst (HasRule rules) (sym c.is) (record {
   rule = c.rule;
   among = in_to c.rule rules (in_list rules c.place c.rule c.at_rule);
   naming_is = ap (λ (r : Rule). naming_of r x.path) same ∙ (ap (naming_of o.by_word.word.rule) (sym o.path_is) ∙ (naming ∙ o.naming_is));
@@ -137,42 +141,45 @@ has_rule rules sets faults ts now t s c = subst (HasRule rules) (sym c.is) (reco
     naming : naming_of o.by_word.word.rule o.found.log.path ≡ o.found.log.naming
     naming = subst (λ (f : _). naming_of o.by_word.word.rule f.log.path ≡ f.log.naming) (sym o.by_word.is) refl
 
-seen_one : (rules : Rules) (now : Moment) (looks : List Entry) (t : Target) (ts : List Target) → AreSeen rules now.seconds looks ts → IsIn t ts → IsSeen rules now.seconds looks t
-seen_one rules now looks t [] s i = absurd i
-seen_one rules now looks t (u ∷ us) s (inl e) = subst (IsSeen rules now.seconds looks) e s.0
-seen_one rules now looks t (u ∷ us) s (inr i) = seen_one rules now looks t us s.1 i
+seen_one : (rules : Rules) (clock : Clock) (looks : List Entry) (t : Target) (ts : List Target) → AreLogsSeen rules clock looks ts → IsIn t ts → IsLogSeen rules clock looks t
+seen_one rules clock looks t [] s i = absurd i
+seen_one rules clock looks t (u ∷ us) s (inl e) = subst (IsLogSeen rules clock looks) e s.0
+seen_one rules clock looks t (u ∷ us) s (inr i) = seen_one rules clock looks t us s.1 i
 
 -- a copy of a plan that empties its log is one that a rule asks for
-is_copy : {reserved : List Path} (rules : Rules) (sets : List SetLooks) (faults : List Fault) (ts : List Entry) (now : Moment) (mailer : Path) (decide : Rule → LogLook → Due) → AreBuiltRules rules.sets → ShowsLooks reserved rules.sets sets faults ts
-    → (job : Job) → IsIn job (jobs_of (all_plans now mailer decide rules.sets sets)) → job.cut ≡ true → IsCopyBy rules.sets job
-is_copy rules sets faults ts now mailer decide built s job i cut = record {
+is_copy : {reserved : List Path} (rules : Rules) (sets : List SetLooks) (faults : List Fault) (ts : List Entry) (clock : Clock) (mailer : Path) (decide : Rule → LogLook → Due) → ShowsLooks reserved rules.sets sets faults ts
+    → (job : Job) → IsIn job (jobs_of (all_plans clock mailer decide rules.sets sets)) → job.cut ≡ true → IsCopyBy rules.sets clock job
+is_copy rules sets faults ts clock mailer decide s job i cut = record {
   rule = r.rule;
   among = r.among;
-  way_is = cut_way r.rule r.look job (r.job_is ∙ o.is) cut;
-  newest = subst (λ (log : Path). IsMemberAt (naming_of r.rule log) 0 job.to) (sym j.from_is) (subst (λ (n : Naming). IsMemberAt n 0 job.to) (sym r.naming_is)
-      (subst (IsMemberAt t.naming 0) (sym (job_target t job h.ready j)) (path_member t.naming 0 (first_named t.naming t.count (places_of t.stand.members) h.next))));
+  way_is = cut_way r.rule r.look t.ready.target job (r.job_is ∙ o.is) cut;
+  newest = subst (λ (log : Path). IsNewest (naming_of r.rule log) clock job.to) (sym j.from_is) (subst (λ (n : Naming). IsNewest n clock job.to) (sym r.naming_is) (newest t.naming.dated refl));
   part_is = j.part_is;
-  paths = seen_paths rules now.seconds ts t job seen o.is;
+  paths = log_paths rules clock ts t seen job o.is;
   cut = cut;
 }
   where
-    o : IsOfTarget (all_targets now decide rules.sets sets) job
-    o = of_groups (groups_of now decide rules.sets sets) (all_plans now mailer decide rules.sets sets) job (plans_have_logs rules.sets sets faults ts now mailer decide built s) i
+    o : IsOfTarget (all_targets clock decide rules.sets sets) job
+    o = of_groups (groups_of clock decide rules.sets sets) (all_plans clock mailer decide rules.sets sets) job (plans_have_logs rules.sets sets faults ts clock mailer decide s) i
 
     t : Target
     t = o.target
 
     r : HasRule rules.sets t
-    r = has_rule rules.sets sets faults ts now t s (comes_from now decide rules.sets sets t o.one)
+    r = has_rule rules.sets sets faults ts clock t s (comes_from clock decide rules.sets sets t o.one)
 
-    seen : IsSeen rules now.seconds ts t
-    seen = seen_one rules now ts t (all_targets now decide rules.sets sets) (targets_seen rules sets faults ts now decide built s) o.one
-
-    h : HasNames t
-    h = seen_names rules now.seconds ts t seen
+    seen : IsLogSeen rules clock ts t
+    seen = seen_one rules clock ts t (all_targets clock decide rules.sets sets) (targets_seen rules sets faults ts clock decide s) o.one
 
     j : IsJob t job
     j = (seen.job job o.is).0
+
+    -- the copy goes where the log would go
+    newest : (d : Option Format) → t.naming.dated ≡ d → IsNewestBy d t.naming clock job.to
+    newest None is = let h = seen_names rules clock.now.seconds ts t (numbered_seen rules clock ts t seen is) in
+        subst (IsMemberAt t.naming 0) (sym (job_target t job h.ready j)) (path_member t.naming 0 (first_named t.naming t.count (places_of t.stand.members) h.next))
+    newest (Some format) is = let d = ready_of rules clock ts t seen.given.rule.maxage (dated_seen rules clock ts t format seen is) in
+        (d.serial, subst (IsDatedAt t.naming (clock_seconds t.naming.dated clock) d.serial) (sym j.to_is) d.target_is)
 
 -- ---- what a run leaves
 
@@ -190,57 +197,57 @@ copied_as P Q f ts e = λ before log after is. let c = e before log after is in 
   is_named = c.is_named;
 }
 
-module _ (state : Path) (rules : Rules) (now : Moment) (asked : Asked) (built : AreBuiltRules rules.sets) where
+module _ (state : Path) (rules : Rules) (clock : Clock) (asked : Asked) where
   abbrev P : Job → Type 0
-  P = IsCopyBy rules.sets
+  P = IsCopyBy rules.sets clock
 
   quiet_none : (ts : List Entry) → AreQuiet ts → EmptiesCopied P ts
   quiet_none ts q = quiet_empties P ts q
 
   module _ (ts : List Entry) (l : Looked state rules.sets ts) where
     abbrev planned : Plan
-    planned = plan_in state rules.sets ts l now asked
+    planned = plan_in state rules.sets ts l clock asked
 
     abbrev Planned : Job → Type 0
     Planned = IsJobIn (jobs_of planned.sets)
 
     acts_copied : (acts : List Entry) → EmptiesCopied Planned acts → EmptiesCopied P ((l.reads ++ l.looks) ++ acts)
     acts_copied acts e = both_empty P (l.reads ++ l.looks) acts (quiet_none (l.reads ++ l.looks) (seen_quiet state rules.sets ts l))
-        (copied_as Planned P (λ job i cut. is_copy rules l.sets l.of_looks l.looks now asked.mailer (decision l.remembered.table now asked.force) built l.shown job i cut) acts e)
+        (copied_as Planned P (λ job i cut. is_copy rules l.sets l.of_looks l.looks clock asked.mailer (decision l.remembered.table clock.now asked.force) l.shown job i cut) acts e)
 
-  worked_copied : (own : List Fault) (ts : List Entry) → Worked state rules.sets now asked own ts → EmptiesCopied P ts
-  worked_copied own ts w = same_empties P (((w.looked.reads ++ w.looked.looks) ++ w.acted.entries.entries.front) ++ w.acted.entries.entries.back) ts (in_parts state rules.sets now asked own ts w)
+  worked_copied : (own : List Fault) (ts : List Entry) → Worked state rules.sets clock asked own ts → EmptiesCopied P ts
+  worked_copied own ts w = same_empties P (((w.looked.reads ++ w.looked.looks) ++ w.acted.entries.entries.front) ++ w.acted.entries.entries.back) ts (in_parts state rules.sets clock asked own ts w)
       (both_empty P ((w.looked.reads ++ w.looked.looks) ++ w.acted.entries.entries.front) w.acted.entries.entries.back
       (acts_copied ts w.looked w.acted.entries.entries.front (sets_copying (Planned ts w.looked) (steps_of_plan (planned ts w.looked)) (plan_copied (Planned ts w.looked) (planned ts w.looked).sets (λ job i. i)) w.acted.marks w.acted.entries.of_plan w.acted.entries.entries.front w.acted.entries.entries.first))
       (state_copying P state w.looked.remembered.stale w.acted.dirs _ [] w.acted.entries.of_state w.acted.entries.entries.back w.acted.entries.entries.second))
 
-  works_copied : (plan : Option Plan) (own : List Fault) (ts : List Entry) → Works state rules.sets now asked plan own ts → EmptiesCopied P ts
+  works_copied : (plan : Option Plan) (own : List Fault) (ts : List Entry) → Works state rules.sets clock asked plan own ts → EmptiesCopied P ts
   works_copied plan own ts (not_known sights f known lost is shown) = quiet_none ts (state_quiet state 65_536 sights ts shown)
   works_copied plan own ts (too_big l big lost is none) = quiet_none ts (subst AreQuiet (sym (l.joined ∙ (ap (λ xs. l.reads ++ (l.looks ++ xs)) none ∙ ap (λ xs. l.reads ++ xs) (append-nil l.looks)))) (seen_quiet state rules.sets ts l))
   works_copied plan own ts (worked w is) = worked_copied own ts w
 
-  broke_copied : (ts : List Entry) → BrokeOff state rules.sets now asked ts → EmptiesCopied P ts
+  broke_copied : (ts : List Entry) → BrokeOff state rules.sets clock asked ts → EmptiesCopied P ts
   broke_copied ts b = same_empties P ((b.looked.reads ++ b.looked.looks) ++ b.looked.acts) ts (looked_parts state rules.sets ts b.looked)
       (acts_copied ts b.looked b.looked.acts (sets_cut_copying (Planned ts b.looked) (steps_of_plan (planned ts b.looked)) (plan_copied (Planned ts b.looked) (planned ts b.looked).sets (λ job i. i)) b.marks b.of_acts b.looked.acts b.part))
 
   -- between the begin and the end
-  within : (before between ts : List Entry) → ts ≡ before ++ (entry.Starts state now rules ∷ (between ++ entry.Ends ∷ [])) → AreQuiet before → EmptiesCopied P between → EmptiesCopied P ts
-  within before between ts e q c = same_empties P (before ++ (entry.Starts state now rules ∷ (between ++ entry.Ends ∷ []))) ts e
-      (both_empty P before (entry.Starts state now rules ∷ (between ++ entry.Ends ∷ [])) (quiet_none before q)
-      (both_empty P (entry.Starts state now rules ∷ []) (between ++ entry.Ends ∷ []) (none_empties P (entry.Starts state now rules ∷ []) (tt, tt))
+  within : (before between ts : List Entry) → ts ≡ before ++ (entry.Starts state clock.now rules ∷ (between ++ entry.Ends ∷ [])) → AreQuiet before → EmptiesCopied P between → EmptiesCopied P ts
+  within before between ts e q c = same_empties P (before ++ (entry.Starts state clock.now rules ∷ (between ++ entry.Ends ∷ []))) ts e
+      (both_empty P before (entry.Starts state clock.now rules ∷ (between ++ entry.Ends ∷ [])) (quiet_none before q)
+      (both_empty P (entry.Starts state clock.now rules ∷ []) (between ++ entry.Ends ∷ []) (none_empties P (entry.Starts state clock.now rules ∷ []) (tt, tt))
       (both_empty P between (entry.Ends ∷ []) c (none_empties P (entry.Ends ∷ []) (tt, tt)))))
 
-  pub runs_copied : (plan : Option Plan) (own : List Fault) (ts : List Entry) → Runs state asked now rules plan own ts → EmptiesCopied P ts
+  pub runs_copied : (plan : Option Plan) (own : List Fault) (ts : List Entry) → Runs state asked clock rules plan own ts → EmptiesCopied P ts
   runs_copied plan own ts (no_directory lost e s) = quiet_none ts (sees_quiet (parent_of state) _ ts s)
   runs_copied plan own ts (not_seen lost e s) = quiet_none ts (subst AreQuiet (sym s) tt)
   runs_copied plan own ts (not_begun lost e t) = same_empties P (t.front ++ t.back) ts t.joined (both_empty P t.front t.back (quiet_none t.front (sees_quiet (parent_of state) IsDir t.front t.first)) (go t.second))
     where
-      go : (t.back ≡ []) ⊎ (t.back ≡ entry.Starts state now rules ∷ []) → EmptiesCopied P t.back
+      go : (t.back ≡ []) ⊎ (t.back ≡ entry.Starts state clock.now rules ∷ []) → EmptiesCopied P t.back
       go (inl none) = same_empties P [] t.back none (none_empties P [] tt)
-      go (inr one) = same_empties P (entry.Starts state now rules ∷ []) t.back one (none_empties P (entry.Starts state now rules ∷ []) (tt, tt))
+      go (inr one) = same_empties P (entry.Starts state clock.now rules ∷ []) t.back one (none_empties P (entry.Starts state clock.now rules ∷ []) (tt, tt))
   runs_copied plan own ts (runs.began i) = within i.before i.between ts i.entries (sees_quiet (parent_of state) IsDir i.before i.directory) (works_copied plan own i.between i.within)
 
-  pub answers_copied : (earlier : List Fault) (r : Result Ran RunStop) (ts : List Entry) → Answers state false asked now rules earlier r ts → EmptiesCopied P ts
+  pub answers_copied : (earlier : List Fault) (r : Result Ran RunStop) (ts : List Entry) → Answers state false asked clock rules earlier r ts → EmptiesCopied P ts
   answers_copied earlier (Ok ran) ts h = runs_copied ran.plan h.0 ts h.2
   answers_copied earlier (Err stop.Held) ts h = quiet_none ts (sees_quiet (parent_of state) IsDir ts h)
   answers_copied earlier (Err stop.Memory) ts (at_first e) = quiet_none ts (subst AreQuiet (sym e) tt)
@@ -249,8 +256,8 @@ module _ (state : Path) (rules : Rules) (now : Moment) (asked : Asked) (built : 
 
 -- ---- a call
 
-pub left_copied : (rules : List Rule) (R : List Entry → Type 0) {o n : Option Journal} → Left R o n → ((ts : List Entry) → R ts → EmptiesCopied (IsCopyBy rules) ts) → EmptiesWhole (IsCopyBy rules) o n
-left_copied rules R l f = empties_whole (IsCopyBy rules) (λ job copy. copy.paths) (left_as l f)
+pub left_copied : (rules : List Rule) (clock : Clock) (R : List Entry → Type 0) {o n : Option Journal} → Left R o n → ((ts : List Entry) → R ts → EmptiesCopied (IsCopyBy rules clock) ts) → EmptiesWhole (IsCopyBy rules clock) o n
+left_copied rules clock R l f = empties_whole (IsCopyBy rules clock) (λ job copy. copy.paths) (left_as l f)
 
-pub run_copied : (state : Path) (asked : Asked) (now : Moment) (rules : Rules) (earlier : List Fault) (r : Result Ran RunStop) {o n : Option Journal} → AreBuiltRules rules.sets → Left (Answers state false asked now rules earlier r) o n → EmptiesWhole (IsCopyBy rules.sets) o n
-run_copied state asked now rules earlier r built l = left_copied rules.sets (Answers state false asked now rules earlier r) l (λ ts h. answers_copied state rules now asked built earlier r ts h)
+pub run_copied : (state : Path) (asked : Asked) (clock : Clock) (rules : Rules) (earlier : List Fault) (r : Result Ran RunStop) {o n : Option Journal} → Left (Answers state false asked clock rules earlier r) o n → EmptiesWhole (IsCopyBy rules.sets clock) o n
+run_copied state asked clock rules earlier r l = left_copied rules.sets clock (Answers state false asked clock rules earlier r) l (λ ts h. answers_copied state rules clock asked earlier r ts h)

@@ -1,7 +1,7 @@
 -- The work of a run, and its end.
 use Rattle.std.proofs.Common.{◌≡◌, ◌≤◌, List, [], ◌∷◌, ◌++◌, Option, Result, Ok, Err, OnOk, OnErr, refl, subst, sym, ap, ◌∙◌, arith}
 use Rattle.std.proofs.lemmas.List.{append-nil}
-use Rattle.lr_rules.specs.declared.civil.Moment.{Moment}
+use Rattle.lr_rules.specs.declared.clock.Clock.{Clock}
 use Rattle.lr_rules.specs.declared.fault.CallKind.TheVariants as call
 use Rattle.lr_rules.specs.declared.fault.Fault.{Fault}
 use Rattle.lr_rules.specs.declared.fault.Fault.TheVariants as fault
@@ -38,31 +38,31 @@ seen_work = seen_so IsWork (λ x seen. tt) (λ x names. tt) (λ x place piece. t
 some_work : (state : Path) (rules : List Rule) (ts : List Entry) → SomeSeen state rules ts → AreWork ts
 some_work = some_so IsWork (λ x seen. tt) (λ x names. tt) (λ x place piece. tt)
 
-worked_work : (state : Path) (rules : List Rule) (now : Moment) (asked : Asked) (own : List Fault) (ts : List Entry) → (w : Worked state rules now asked own ts) → AreWork ts
-worked_work state rules now asked own ts w = subst AreWork (sym (in_parts state rules now asked own ts w)) (each_append IsWork ((w.looked.reads ++ w.looked.looks) ++ w.acted.entries.entries.front) w.acted.entries.entries.back
+worked_work : (state : Path) (rules : List Rule) (clock : Clock) (asked : Asked) (own : List Fault) (ts : List Entry) → (w : Worked state rules clock asked own ts) → AreWork ts
+worked_work state rules clock asked own ts w = subst AreWork (sym (in_parts state rules clock asked own ts w)) (each_append IsWork ((w.looked.reads ++ w.looked.looks) ++ w.acted.entries.entries.front) w.acted.entries.entries.back
     (each_append IsWork (w.looked.reads ++ w.looked.looks) w.acted.entries.entries.front (seen_work state rules ts w.looked)
-    (sets_work (steps_of_plan (plan_in state rules ts w.looked now asked)) w.acted.marks w.acted.entries.of_plan w.acted.entries.entries.front (steps_simple rules w.looked.sets w.looked.remembered.table now asked) w.acted.entries.entries.first))
+    (sets_work (steps_of_plan (plan_in state rules ts w.looked clock asked)) w.acted.marks w.acted.entries.of_plan w.acted.entries.entries.front (steps_simple rules w.looked.sets w.looked.remembered.table clock asked) w.acted.entries.entries.first))
     (writing_work state w.acted.entries.entries.back (state_writing state w.looked.remembered.stale w.acted.dirs _ w.acted.entries.of_state w.acted.entries.entries.back w.acted.entries.entries.second)))
 
-works_work : (state : Path) (rules : List Rule) (now : Moment) (asked : Asked) (plan : Option Plan) (own : List Fault) (ts : List Entry) → Works state rules now asked plan own ts → AreWork ts
-works_work state rules now asked plan own ts (not_known sights f known lost is shown) = state_work state sights ts shown
-works_work state rules now asked plan own ts (too_big l big lost is none) = subst AreWork (sym (l.joined ∙ (ap (λ xs. l.reads ++ (l.looks ++ xs)) none ∙ ap (λ xs. l.reads ++ xs) (append-nil l.looks)))) (seen_work state rules ts l)
-works_work state rules now asked plan own ts (worked w is) = worked_work state rules now asked own ts w
+works_work : (state : Path) (rules : List Rule) (clock : Clock) (asked : Asked) (plan : Option Plan) (own : List Fault) (ts : List Entry) → Works state rules clock asked plan own ts → AreWork ts
+works_work state rules clock asked plan own ts (not_known sights f known lost is shown) = state_work state sights ts shown
+works_work state rules clock asked plan own ts (too_big l big lost is none) = subst AreWork (sym (l.joined ∙ (ap (λ xs. l.reads ++ (l.looks ++ xs)) none ∙ ap (λ xs. l.reads ++ xs) (append-nil l.looks)))) (seen_work state rules ts l)
+works_work state rules clock asked plan own ts (worked w is) = worked_work state rules clock asked own ts w
 
 -- those of a first part of the work
-broke_work : (state : Path) (rules : List Rule) (now : Moment) (asked : Asked) (ts : List Entry) → BrokeOff state rules now asked ts → AreWork ts
-broke_work state rules now asked ts b = subst AreWork (sym (looked_parts state rules ts b.looked)) (each_append IsWork (b.looked.reads ++ b.looked.looks) b.looked.acts (seen_work state rules ts b.looked)
-    (cut_sets_work (steps_of_plan (plan_in state rules ts b.looked now asked)) b.marks b.of_acts b.looked.acts (steps_simple rules b.looked.sets b.looked.remembered.table now asked) b.part))
+broke_work : (state : Path) (rules : List Rule) (clock : Clock) (asked : Asked) (ts : List Entry) → BrokeOff state rules clock asked ts → AreWork ts
+broke_work state rules clock asked ts b = subst AreWork (sym (looked_parts state rules ts b.looked)) (each_append IsWork (b.looked.reads ++ b.looked.looks) b.looked.acts (seen_work state rules ts b.looked)
+    (cut_sets_work (steps_of_plan (plan_in state rules ts b.looked clock asked)) b.marks b.of_acts b.looked.acts (steps_simple rules b.looked.sets b.looked.remembered.table clock asked) b.part))
 
-lacking_work : (state : Path) (rules : List Rule) (now : Moment) (asked : Asked) (ts : List Entry) → SomeWork state rules now asked ts → AreWork ts
-lacking_work state rules now asked ts (some_seen s) = some_work state rules ts s
-lacking_work state rules now asked ts (some_done b) = broke_work state rules now asked ts b
+lacking_work : (state : Path) (rules : List Rule) (clock : Clock) (asked : Asked) (ts : List Entry) → SomeWork state rules clock asked ts → AreWork ts
+lacking_work state rules clock asked ts (some_seen s) = some_work state rules ts s
+lacking_work state rules clock asked ts (some_done b) = broke_work state rules clock asked ts b
 
 -- the run is on where the work ends
-pub end_there : {T E : Type 0} (r : Result T E) (state : Path) (rules : List Rule) (now : Moment) (asked : Asked) (plan : Option Plan) (a b : List Fault) (o n : Option Journal) → OnOk r (Left (WorksOn state rules now asked plan a b) o n) → OnErr r (Left (SomeWork state rules now asked) o n)
+pub end_there : {T E : Type 0} (r : Result T E) (state : Path) (rules : List Rule) (clock : Clock) (asked : Asked) (plan : Option Plan) (a b : List Fault) (o n : Option Journal) → OnOk r (Left (WorksOn state rules clock asked plan a b) o n) → OnErr r (Left (SomeWork state rules clock asked) o n)
     → WhereTold o IsOn → WhereTold n IsOn
-end_there (Ok x) state rules now asked plan a b o n l s on = goes_on l (λ ts h. works_work state rules now asked plan h.0 ts h.2) on
-end_there (Err x) state rules now asked plan a b o n l s on = goes_on s (λ ts h. lacking_work state rules now asked ts h) on
+end_there (Ok x) state rules clock asked plan a b o n l s on = goes_on l (λ ts h. works_work state rules clock asked plan h.0 ts h.2) on
+end_there (Err x) state rules clock asked plan a b o n l s on = goes_on s (λ ts h. lacking_work state rules clock asked ts h) on
 
 pub work_ended : {T E : Type 0} (r : Result T E) (P Q : List Entry → Type 0) (o m n : Option Journal) → OnOk r (Left P o m) → Left Q m n → OnOk r (Left (Then P Q) o n)
 work_ended (Ok x) P Q o m n l k = left_both l k

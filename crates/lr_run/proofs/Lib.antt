@@ -12,6 +12,7 @@ pub mod Called
 pub mod Shape
 mod Parts
 mod Ending
+pub mod Hindered
 pub mod Taken
 pub mod Rotating
 pub mod Turning

@@ -3,7 +3,7 @@ use Rattle.std.proofs.Common.{◌≡◌, ◌⊎◌, inl, inr, ⊎_elim, ℕ, fal
 use Rattle.std.specs.Prelude.{filter}
 use Rattle.std.specs.List.{flat_map}
 use Rattle.std.proofs.lemmas.List.{append-nil}
-use Rattle.lr_rules.specs.declared.civil.Moment.{Moment}
+use Rattle.lr_rules.specs.declared.clock.Clock.{Clock}
 use Rattle.lr_rules.specs.declared.fault.Fault.{Fault}
 use Rattle.lr_rules.specs.declared.path.Path.{Path}
 use Rattle.lr_rules.specs.declared.rule.Rule.{Rule}
@@ -31,18 +31,18 @@ use Rattle.lr_plan.specs.Outcomes.{Maybe}
 use Rattle.lr_plan.specs.Planned.{decision}
 use Rattle.lr_plan.specs.Steps.{steps_of_set}
 use Rattle.lr_targets.specs.AllTurns.{IsOfSome}
-use Rattle.lr_targets.specs.Apart.{HaveNames}
-use Rattle.lr_targets.specs.Target.{Target}
+use Rattle.lr_dated_run.specs.Own.{HaveAnyNames}
+use Rattle.lr_targets.specs.Target.{Target, IsOneOf}
+use Rattle.lr_mixed.proofs.Seen.{log_among}
 use Rattle.lr_weave.specs.Parts.{ArePlanned}
 use Rattle.lr_weave.specs.Planned.{HaveLogs}
 use Rattle.lr_weave.proofs.Parting.{done_some, cut_some}
 use Rattle.lr_weave.proofs.Planning.{ready_planned}
-use Rattle.lr_fields.specs.Built.{AreBuiltRules}
 use Rattle.lr_seen.specs.Targets.{groups_of, all_targets}
 use Rattle.lr_seen.proofs.Apart.{targets_apart}
 use Rattle.lr_seen.proofs.Free.{targets_free}
 use Rattle.lr_seen.proofs.Ready.{plans_have_logs}
-use Rattle.lr_seen.proofs.Seen.{targets_have_names}
+use Rattle.lr_seen.proofs.Seen.{targets_seen, targets_have_names}
 use Rattle.lr_reading.proofs.Quiet.{state_quiet}
 use Rattle.lr_writing.specs.Directories.{AreDirectoriesOf}
 use Rattle.lr_writing.specs.Named.{Spares, NamedLast, not_named, named}
@@ -55,7 +55,7 @@ use Rattle.lr_run.specs.Runs as runs
 use Rattle.lr_run.specs.Answers.{Answers}
 use Rattle.lr_run.specs.Runs.{Inside, Looked, Worked, Works, not_known, too_big, worked, Runs, no_directory, not_seen, not_begun, BrokeOff, at_first, in_looks, in_acts, changed_in, plan_in, state_text}
 use Rattle.lr_run.specs.State.{Tells, IsNewText}
-use Rattle.lr_run.proofs.Covering.{none_changed, none_aside, none_within, of_changes, some_aside, groups_within}
+use Rattle.lr_run.proofs.Covering.{none_changed, none_aside, none_within, of_changes, IsPlaced, log_placed, some_aside, groups_within}
 use Rattle.lr_run.proofs.Shape.{sees_quiet, some_quiet, seen_quiet, looked_parts, in_parts}
 
 -- ---- what the writing leaves
@@ -166,26 +166,29 @@ behind_quiet state I J f xs ts q (renewed dirs text is r) = renewed dirs text (f
 })
 
 -- around what leaves the state alone
-around : (state x : Path) (now : Moment) (rules : Rules) (before between : List Entry) → Each (IsAsideOf x) before → Each (IsAsideOf x) between → Each (IsAsideOf x) (before ++ (entry.Starts state now rules ∷ (between ++ entry.Ends ∷ [])))
-around state x now rules before between a b = each_append (IsAsideOf x) before (entry.Starts state now rules ∷ (between ++ entry.Ends ∷ [])) a ((λ i. i), each_append (IsAsideOf x) between (entry.Ends ∷ []) b ((λ i. i), tt))
+around : (state x : Path) (clock : Clock) (rules : Rules) (before between : List Entry) → Each (IsAsideOf x) before → Each (IsAsideOf x) between → Each (IsAsideOf x) (before ++ (entry.Starts state clock.now rules ∷ (between ++ entry.Ends ∷ [])))
+around state x clock rules before between a b = each_append (IsAsideOf x) before (entry.Starts state clock.now rules ∷ (between ++ entry.Ends ∷ [])) a ((λ i. i), each_append (IsAsideOf x) between (entry.Ends ∷ []) b ((λ i. i), tt))
 
-module _ (state : Path) (rules : Rules) (now : Moment) (asked : Asked) (built : AreBuiltRules rules.sets) where
+module _ (state : Path) (rules : Rules) (clock : Clock) (asked : Asked) where
   -- acts behind the looks
   module _ (ts : List Entry) (l : Looked state rules.sets ts) where
     abbrev decide : Rule → LogLook → Due
-    decide = decision l.remembered.table now asked.force
+    decide = decision l.remembered.table clock.now asked.force
 
     abbrev targets : List Target
-    targets = all_targets now decide rules.sets l.sets
+    targets = all_targets clock decide rules.sets l.sets
 
-    logs : HaveLogs (groups_of now decide rules.sets l.sets) (plan_in state rules.sets ts l now asked).sets
-    logs = plans_have_logs rules.sets l.sets l.of_looks l.looks now asked.mailer decide built l.shown
+    logs : HaveLogs (groups_of clock decide rules.sets l.sets) (plan_in state rules.sets ts l clock asked).sets
+    logs = plans_have_logs rules.sets l.sets l.of_looks l.looks clock asked.mailer decide l.shown
 
-    planned : ArePlanned targets (map steps_of_set (plan_in state rules.sets ts l now asked).sets)
-    planned = ready_planned (groups_of now decide rules.sets l.sets) (plan_in state rules.sets ts l now asked).sets logs (targets_apart rules.sets l.sets l.of_looks l.looks now decide l.shown)
+    planned : ArePlanned targets (map steps_of_set (plan_in state rules.sets ts l clock asked).sets)
+    planned = ready_planned (groups_of clock decide rules.sets l.sets) (plan_in state rules.sets ts l clock asked).sets logs (targets_apart rules.sets l.sets l.of_looks l.looks clock decide l.shown)
 
-    have_names : HaveNames targets
-    have_names = targets_have_names rules l.sets l.of_looks l.looks now decide built l.shown
+    have_names : HaveAnyNames targets
+    have_names = targets_have_names rules l.sets l.of_looks l.looks clock decide l.shown
+
+    placed : (t : Target) → IsOneOf t targets → IsPlaced t
+    placed t i = log_placed rules clock l.looks t (log_among rules clock l.looks targets (targets_seen rules l.sets l.of_looks l.looks clock decide l.shown) t i)
 
     abbrev seen : List Entry
     seen = l.reads ++ l.looks
@@ -193,23 +196,23 @@ module _ (state : Path) (rules : Rules) (now : Moment) (asked : Asked) (built : 
     -- whose changes are of the logs
     behind_aside : (acts : List Entry) → Each IsTools acts → Each (IsOfSome targets) (filter is_change acts) → Each (IsAsideOf state) (seen ++ acts)
     behind_aside acts tools of_logs = each_append (IsAsideOf state) seen acts (calm_aside state seen (seen_quiet state rules.sets ts l))
-        (of_changes (IsAsideOf state) acts (λ e i h. none_aside state e (none_changed e i h)) tools (each_as (IsOfSome targets) (IsAsideOf state) (filter is_change acts) (λ e i. some_aside state targets e have_names (targets_free rules.sets l.sets l.of_looks l.looks now decide l.shown) i) of_logs))
+        (of_changes (IsAsideOf state) acts (λ e i h. none_aside state e (none_changed e i h)) tools (each_as (IsOfSome targets) (IsAsideOf state) (filter is_change acts) (λ e i. some_aside state targets e have_names (targets_free rules.sets l.sets l.of_looks l.looks clock decide l.shown) i) of_logs))
 
-    behind_within : (dirs : List Path) → AreDirectoriesOf (changed_in (plan_in state rules.sets ts l now asked)) dirs → (acts : List Entry) → Each IsTools acts → Each (IsOfSome targets) (filter is_change acts) → Each (IsWithin (part_of state) dirs) (seen ++ acts)
+    behind_within : (dirs : List Path) → AreDirectoriesOf (changed_in (plan_in state rules.sets ts l clock asked)) dirs → (acts : List Entry) → Each IsTools acts → Each (IsOfSome targets) (filter is_change acts) → Each (IsWithin (part_of state) dirs) (seen ++ acts)
     behind_within dirs dirs_are acts tools of_logs = each_append (IsWithin (part_of state) dirs) seen acts (calm_within (part_of state) dirs seen (seen_quiet state rules.sets ts l))
-        (of_changes (IsWithin (part_of state) dirs) acts (λ e i h. none_within (part_of state) dirs e (none_changed e i h)) tools (each_as (IsOfSome targets) (IsWithin (part_of state) dirs) (filter is_change acts) (λ e i. groups_within (part_of state) dirs (groups_of now decide rules.sets l.sets) (plan_in state rules.sets ts l now asked).sets e dirs_are logs have_names i) of_logs))
+        (of_changes (IsWithin (part_of state) dirs) acts (λ e i h. none_within (part_of state) dirs e (none_changed e i h)) tools (each_as (IsOfSome targets) (IsWithin (part_of state) dirs) (filter is_change acts) (λ e i. groups_within (part_of state) dirs (groups_of clock decide rules.sets l.sets) (plan_in state rules.sets ts l clock asked).sets e dirs_are logs placed i) of_logs))
 
   -- a first part of the acts
-  broke_aside : (ts : List Entry) → Each IsTools ts → BrokeOff state rules.sets now asked ts → Each (IsAsideOf state) ts
+  broke_aside : (ts : List Entry) → Each IsTools ts → BrokeOff state rules.sets clock asked ts → Each (IsAsideOf state) ts
   broke_aside ts tools b = subst (Each (IsAsideOf state)) (sym parts)
       (behind_aside ts b.looked b.looked.acts (each_later IsTools (b.looked.reads ++ b.looked.looks) b.looked.acts (subst (Each IsTools) parts tools))
-      (cut_some (targets ts b.looked) (map steps_of_set (plan_in state rules.sets ts b.looked now asked).sets) b.marks b.of_acts b.looked.acts (planned ts b.looked) b.part))
+      (cut_some (targets ts b.looked) (map steps_of_set (plan_in state rules.sets ts b.looked clock asked).sets) b.marks b.of_acts b.looked.acts (planned ts b.looked) b.part))
     where
       parts : ts ≡ (b.looked.reads ++ b.looked.looks) ++ b.looked.acts
       parts = looked_parts state rules.sets ts b.looked
 
   -- all of the acts, and the writing of the state
-  module _ (own : List Fault) (ts : List Entry) (w : Worked state rules.sets now asked own ts) (tools : Each IsTools ts) where
+  module _ (own : List Fault) (ts : List Entry) (w : Worked state rules.sets clock asked own ts) (tools : Each IsTools ts) where
     abbrev l : Looked state rules.sets ts
     l = w.looked
 
@@ -217,10 +220,10 @@ module _ (state : Path) (rules : Rules) (now : Moment) (asked : Asked) (built : 
     acts = w.acted.entries.entries.front
 
     of_logs : Each (IsOfSome (targets ts l)) (filter is_change acts)
-    of_logs = done_some (targets ts l) (map steps_of_set (plan_in state rules.sets ts l now asked).sets) w.acted.marks w.acted.entries.of_plan acts (planned ts l) w.acted.entries.entries.first
+    of_logs = done_some (targets ts l) (map steps_of_set (plan_in state rules.sets ts l clock asked).sets) w.acted.marks w.acted.entries.of_plan acts (planned ts l) w.acted.entries.entries.first
 
     in_three : ts ≡ (seen ts l ++ acts) ++ w.acted.entries.entries.back
-    in_three = in_parts state rules.sets now asked own ts w
+    in_three = in_parts state rules.sets clock asked own ts w
 
     tools_of : Each IsTools ((seen ts l ++ acts) ++ w.acted.entries.entries.back)
     tools_of = subst (Each IsTools) in_three tools
@@ -238,7 +241,7 @@ module _ (state : Path) (rules : Rules) (now : Moment) (asked : Asked) (built : 
     acts_within = behind_within ts l w.acted.dirs w.acted.dirs_are acts acts_tools of_logs
 
     abbrev text : List ℕ
-    text = state_text state rules.sets ts l now (rotated_logs w.acted.marks)
+    text = state_text state rules.sets ts l clock (rotated_logs w.acted.marks)
 
     -- behind more that leaves the state alone, and before its end
     pub worked_may : (IsText : List ℕ → Type 0) → IsText text → (front : List Entry) → Each (IsAsideOf state) front → Each (IsWithin (part_of state) w.acted.dirs) front → MayRenew state IsText (front ++ (ts ++ entry.Ends ∷ []))
@@ -251,41 +254,41 @@ module _ (state : Path) (rules : Rules) (now : Moment) (asked : Asked) (built : 
         in_order = ap (λ es. front ++ (es ++ entry.Ends ∷ [])) in_three ∙ (ap (λ es. front ++ es) (append_assoc (seen ts l ++ acts) w.acted.entries.entries.back (entry.Ends ∷ [])) ∙ sym (append_assoc front (seen ts l ++ acts) (w.acted.entries.entries.back ++ entry.Ends ∷ [])))
 
   -- the work, between what was before and the end
-  works_may : (plan : Option Plan) (own : List Fault) (before between : List Entry) → AreQuiet before → Each IsTools between → Works state rules.sets now asked plan own between
-      → (IsText : List ℕ → Type 0) → ((text : List ℕ) → Tells state rules.sets now asked text between → IsText text) → MayRenew state IsText (before ++ (entry.Starts state now rules ∷ (between ++ entry.Ends ∷ [])))
-  works_may plan own before between q tools (not_known sights f known lost e shown) IsText tells = left_alone (around state state now rules before between (calm_aside state before q) (calm_aside state between (state_quiet state 65_536 sights between shown)))
-  works_may plan own before between q tools (too_big l big lost e none) IsText tells = left_alone (around state state now rules before between (calm_aside state before q)
+  works_may : (plan : Option Plan) (own : List Fault) (before between : List Entry) → AreQuiet before → Each IsTools between → Works state rules.sets clock asked plan own between
+      → (IsText : List ℕ → Type 0) → ((text : List ℕ) → Tells state rules.sets clock asked text between → IsText text) → MayRenew state IsText (before ++ (entry.Starts state clock.now rules ∷ (between ++ entry.Ends ∷ [])))
+  works_may plan own before between q tools (not_known sights f known lost e shown) IsText tells = left_alone (around state state clock rules before between (calm_aside state before q) (calm_aside state between (state_quiet state 65_536 sights between shown)))
+  works_may plan own before between q tools (too_big l big lost e none) IsText tells = left_alone (around state state clock rules before between (calm_aside state before q)
       (calm_aside state between (subst AreQuiet (sym (l.joined ∙ (ap (λ xs. l.reads ++ (l.looks ++ xs)) none ∙ ap (λ xs. l.reads ++ xs) (append-nil l.looks)))) (seen_quiet state rules.sets between l))))
-  works_may plan own before between q tools (worked w is) IsText tells = subst (MayRenew state IsText) (append_assoc before (entry.Starts state now rules ∷ []) (between ++ entry.Ends ∷ []))
-      (worked_may own between w tools IsText (tells _ (record { own = own; worked = w; text_is = refl })) (before ++ entry.Starts state now rules ∷ [])
-      (each_append (IsAsideOf state) before (entry.Starts state now rules ∷ []) (calm_aside state before q) ((λ i. i), tt))
-      (each_append (IsWithin (part_of state) w.acted.dirs) before (entry.Starts state now rules ∷ []) (calm_within (part_of state) w.acted.dirs before q) ((λ x i. absurd i), tt)))
+  works_may plan own before between q tools (worked w is) IsText tells = subst (MayRenew state IsText) (append_assoc before (entry.Starts state clock.now rules ∷ []) (between ++ entry.Ends ∷ []))
+      (worked_may own between w tools IsText (tells _ (record { own = own; worked = w; text_is = refl })) (before ++ entry.Starts state clock.now rules ∷ [])
+      (each_append (IsAsideOf state) before (entry.Starts state clock.now rules ∷ []) (calm_aside state before q) ((λ i. i), tt))
+      (each_append (IsWithin (part_of state) w.acted.dirs) before (entry.Starts state clock.now rules ∷ []) (calm_within (part_of state) w.acted.dirs before q) ((λ x i. absurd i), tt)))
 
   -- what a run leaves
-  begun_tools : (before between ts : List Entry) → ts ≡ before ++ (entry.Starts state now rules ∷ (between ++ entry.Ends ∷ [])) → Each IsTools ts → Each IsTools between
-  begun_tools before between ts e tools = each_first IsTools between (entry.Ends ∷ []) (each_later IsTools before (entry.Starts state now rules ∷ (between ++ entry.Ends ∷ [])) (subst (Each IsTools) e tools)).1
+  begun_tools : (before between ts : List Entry) → ts ≡ before ++ (entry.Starts state clock.now rules ∷ (between ++ entry.Ends ∷ [])) → Each IsTools ts → Each IsTools between
+  begun_tools before between ts e tools = each_first IsTools between (entry.Ends ∷ []) (each_later IsTools before (entry.Starts state clock.now rules ∷ (between ++ entry.Ends ∷ [])) (subst (Each IsTools) e tools)).1
 
   abbrev IsTextOf : List Entry → List ℕ → Type 0
-  IsTextOf ts text = IsNewText state now asked rules ts text
+  IsTextOf ts text = IsNewText state clock asked rules ts text
 
-  pub runs_may : (plan : Option Plan) (own : List Fault) (ts : List Entry) → Each IsTools ts → Runs state asked now rules plan own ts → MayRenew state (IsTextOf ts) ts
+  pub runs_may : (plan : Option Plan) (own : List Fault) (ts : List Entry) → Each IsTools ts → Runs state asked clock rules plan own ts → MayRenew state (IsTextOf ts) ts
   runs_may plan own ts tools (no_directory lost e s) = quiet_alone state (IsTextOf ts) ts (sees_quiet (parent_of state) _ ts s)
   runs_may plan own ts tools (not_seen lost e s) = quiet_alone state (IsTextOf ts) ts (subst AreQuiet (sym s) tt)
   runs_may plan own ts tools (not_begun lost e t) = left_alone (go t.second)
     where
-      go : (t.back ≡ []) ⊎ (t.back ≡ entry.Starts state now rules ∷ []) → Each (IsAsideOf state) ts
+      go : (t.back ≡ []) ⊎ (t.back ≡ entry.Starts state clock.now rules ∷ []) → Each (IsAsideOf state) ts
       go (inl none) = calm_aside state ts (subst AreQuiet (sym (t.joined ∙ (ap (λ es. t.front ++ es) none ∙ append-nil t.front))) (sees_quiet (parent_of state) IsDir t.front t.first))
-      go (inr one) = subst (Each (IsAsideOf state)) (sym (t.joined ∙ ap (λ es. t.front ++ es) one)) (each_append (IsAsideOf state) t.front (entry.Starts state now rules ∷ []) (calm_aside state t.front (sees_quiet (parent_of state) IsDir t.front t.first)) ((λ i. i), tt))
+      go (inr one) = subst (Each (IsAsideOf state)) (sym (t.joined ∙ ap (λ es. t.front ++ es) one)) (each_append (IsAsideOf state) t.front (entry.Starts state clock.now rules ∷ []) (calm_aside state t.front (sees_quiet (parent_of state) IsDir t.front t.first)) ((λ i. i), tt))
   runs_may plan own ts tools (runs.began i) = subst (MayRenew state (IsTextOf ts)) (sym i.entries)
       (works_may plan own i.before i.between (sees_quiet (parent_of state) IsDir i.before i.directory) (begun_tools i.before i.between ts i.entries tools) i.within (IsTextOf ts)
       (λ text t. record { before = i.before; between = i.between; entries = i.entries; directory = i.directory; within = t }))
 
-  pub answers_may : (earlier : List Fault) (r : Result Ran RunStop) (ts : List Entry) → Each IsTools ts → Answers state false asked now rules earlier r ts → MayRenew state (IsTextOf ts) ts
+  pub answers_may : (earlier : List Fault) (r : Result Ran RunStop) (ts : List Entry) → Each IsTools ts → Answers state false asked clock rules earlier r ts → MayRenew state (IsTextOf ts) ts
   answers_may earlier (Ok ran) ts tools h = runs_may ran.plan h.0 ts tools h.2
   answers_may earlier (Err stop.Held) ts tools h = quiet_alone state (IsTextOf ts) ts (sees_quiet (parent_of state) IsDir ts h)
   answers_may earlier (Err stop.Memory) ts tools (at_first e) = quiet_alone state (IsTextOf ts) ts (subst AreQuiet (sym e) tt)
-  answers_may earlier (Err stop.Memory) ts tools (in_looks i) = subst (MayRenew state (IsTextOf ts)) (sym i.entries) (left_alone (around state state now rules i.before i.between (calm_aside state i.before (sees_quiet (parent_of state) IsDir i.before i.directory)) (calm_aside state i.between (some_quiet state rules.sets i.between i.within))))
-  answers_may earlier (Err stop.Memory) ts tools (in_acts i) = subst (MayRenew state (IsTextOf ts)) (sym i.entries) (left_alone (around state state now rules i.before i.between (calm_aside state i.before (sees_quiet (parent_of state) IsDir i.before i.directory)) (broke_aside i.between (begun_tools i.before i.between ts i.entries tools) i.within)))
+  answers_may earlier (Err stop.Memory) ts tools (in_looks i) = subst (MayRenew state (IsTextOf ts)) (sym i.entries) (left_alone (around state state clock rules i.before i.between (calm_aside state i.before (sees_quiet (parent_of state) IsDir i.before i.directory)) (calm_aside state i.between (some_quiet state rules.sets i.between i.within))))
+  answers_may earlier (Err stop.Memory) ts tools (in_acts i) = subst (MayRenew state (IsTextOf ts)) (sym i.entries) (left_alone (around state state clock rules i.before i.between (calm_aside state i.before (sees_quiet (parent_of state) IsDir i.before i.directory)) (broke_aside i.between (begun_tools i.before i.between ts i.entries tools) i.within)))
 
 -- ---- a call
 
@@ -298,5 +301,5 @@ left_whole state IsText P (is_told {j = j} {k = k} {es = es} m h) f = λ journal
   each = λ u since until. whole_at state (IsText (reverse es)) (past j) (past k) es m journal (f (reverse es) (each_reverse IsTools es (made_tools (past j) (past k) es m)) h) settled spare u since until;
 }
 
-pub run_whole : (state : Path) (asked : Asked) (now : Moment) (rules : Rules) (earlier : List Fault) (r : Result Ran RunStop) {o n : Option Journal} → AreBuiltRules rules.sets → Left (Answers state false asked now rules earlier r) o n → KeepsWhole state (IsNewText state now asked rules) o n
-run_whole state asked now rules earlier r built l = left_whole state (IsNewText state now asked rules) (Answers state false asked now rules earlier r) l (λ ts tools h. answers_may state rules now asked built earlier r ts tools h)
+pub run_whole : (state : Path) (asked : Asked) (clock : Clock) (rules : Rules) (earlier : List Fault) (r : Result Ran RunStop) {o n : Option Journal} → Left (Answers state false asked clock rules earlier r) o n → KeepsWhole state (IsNewText state clock asked rules) o n
+run_whole state asked clock rules earlier r l = left_whole state (IsNewText state clock asked rules) (Answers state false asked clock rules earlier r) l (λ ts tools h. answers_may state rules clock asked earlier r ts tools h)

@@ -1,6 +1,6 @@
 -- Without scripts and mails a plan has no program, and so its acts want no memory.
 use Rattle.std.proofs.Common.{◌≡◌, inl, inr, ℕ, List, [], ◌∷◌, Option, None, sym, subst}
-use Rattle.lr_rules.specs.declared.civil.Moment.{Moment}
+use Rattle.lr_rules.specs.declared.clock.Clock.{Clock}
 use Rattle.lr_rules.specs.declared.fault.Phase.{Phase}
 use Rattle.lr_rules.specs.declared.fault.Phase.TheVariants as phase
 use Rattle.lr_rules.specs.declared.path.Path.{Path}
@@ -53,5 +53,5 @@ none_scripts [] h = tt
 none_scripts (rule ∷ rules) h = (record { first = h.0.first; pre = h.0.pre; post = h.0.post; last = h.0.last; preremove = h.0.preremove; mail = h.0.mail }, none_scripts rules h.1)
 
 -- so a run over rules that run no program doesn't break off amid its acts
-pub never_broke_off : (state : Path) (rules : List Rule) (now : Moment) (asked : Asked) (ts : List Entry) → RunNothing rules → BrokeOff state rules now asked ts → ⊥
-never_broke_off state rules now asked ts none b = no_program _ (plan_so IsNoProgram IsNone no_steps now asked.mailer (decision b.looked.remembered.table now asked.force) rules b.looked.sets (none_scripts rules none)) b.program
+pub never_broke_off : (state : Path) (rules : List Rule) (clock : Clock) (asked : Asked) (ts : List Entry) → RunNothing rules → BrokeOff state rules clock asked ts → ⊥
+never_broke_off state rules clock asked ts none b = no_program _ (plan_so IsNoProgram IsNone no_steps clock asked.mailer (decision b.looked.remembered.table clock.now asked.force) rules b.looked.sets (none_scripts rules none)) b.program

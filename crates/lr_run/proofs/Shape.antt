@@ -1,12 +1,13 @@
 -- The entries of a run are those of one that looks first, and rotates then.
-use Rattle.std.proofs.Common.{◌≡◌, ◌⊎◌, inl, inr, Option, Some, false, List, [], ◌∷◌, ◌++◌, Result, Ok, Err, refl, sym, ap, ◌∙◌, subst, append_assoc}
+use Rattle.std.proofs.Common.{◌≡◌, ◌⊎◌, inl, inr, ⊎_elim, ℕ, Option, Some, None, false, List, [], ◌∷◌, ◌++◌, Result, Ok, Err, refl, sym, ap, ◌∙◌, subst, append_assoc}
 use Rattle.std.specs.Prelude.{filter}
 use Rattle.std.proofs.lemmas.List.{append-nil}
-use Rattle.std.proofs.lemmas.List.Elements.{filter-append}
-use Rattle.lr_rules.specs.declared.civil.Moment.{Moment}
+use Rattle.std.proofs.lemmas.List.Elements.{All-weaker, filter-append}
+use Rattle.lr_rules.specs.declared.clock.Clock.{Clock}
 use Rattle.lr_rules.specs.declared.fault.Fault.{Fault}
 use Rattle.lr_rules.specs.declared.path.Path.{Path}
 use Rattle.lr_rules.specs.declared.rule.Count.{Count}
+use Rattle.lr_rules.specs.declared.rule.Format.{Format}
 use Rattle.lr_rules.specs.declared.rule.Naming.{Naming}
 use Rattle.lr_rules.specs.declared.rule.Rule.{Rule}
 use Rattle.lr_rules.specs.declared.rules.Rules.{Rules}
@@ -21,6 +22,7 @@ use Rattle.lr_host.specs.Steps.{is_change}
 use Rattle.lr_host.specs.Told.{Each}
 use Rattle.lr_host.proofs.Each.{each_append, each_as}
 use Rattle.lr_host.proofs.Quiet.{quiet_both}
+use Rattle.lr_family.specs.declared.stand.Member.{Member}
 use Rattle.lr_family.specs.Spots.{path_at}
 use Rattle.lr_family.specs.Stands.{number_in}
 use Rattle.lr_copy.specs.declared.job.Job.{Job}
@@ -29,16 +31,19 @@ use Rattle.lr_due.specs.declared.answer.Due.{Due}
 use Rattle.lr_plan.specs.Asked.{Asked}
 use Rattle.lr_plan.specs.declared.looks.LogLook.{LogLook}
 use Rattle.lr_plan.specs.Planned.{decision}
-use Rattle.lr_targets.specs.AllTurns.{AllTurns, AllTurned, not_yet, started, IsWholeRun, IsOfSome, IsOfState, StandsBetween}
+use Rattle.lr_targets.specs.AllTurns.{IsOfSome, IsOfState, StandsBetween}
 use Rattle.lr_reading.proofs.Quiet.{state_quiet}
-use Rattle.lr_targets.specs.Target.{Target, rotation_of, IsGiven, IsJobOf, AreSeen}
+use Rattle.lr_targets.specs.Target.{Target, rotation_of, IsGiven, IsJobOf}
 use Rattle.lr_rotations.specs.Weave.{Weave, FirstWoven, Among}
 use Rattle.lr_rotations.proofs.Moments.{shown_in}
 use Rattle.lr_rotations.proofs.Weaving.{weave_on, weave_others}
+use Rattle.lr_dated_seen.specs.Shown.{WasSeen, ShownDated}
+use Rattle.lr_mixed.specs.AllTurns.{AllTurnsBy, AllTurnedBy, not_yet, started, IsWholeRunBy}
+use Rattle.lr_mixed.specs.Seen.{IsSeenBy, AreLogsSeen}
 use Rattle.lr_weave.proofs.Parting.{done_turns, cut_turns}
 use Rattle.lr_weave.proofs.Planning.{ready_planned}
-use Rattle.lr_fields.specs.Built.{AreBuiltRules}
 use Rattle.lr_seen.specs.Targets.{groups_of, all_targets}
+use Rattle.lr_mixed.proofs.Whole.{shown_more}
 use Rattle.lr_run.specs.declared.answer.Ran.{Ran}
 use Rattle.lr_run.specs.declared.answer.RunStop.{RunStop}
 use Rattle.lr_plan.specs.declared.planned.Plan.{Plan}
@@ -57,25 +62,25 @@ use Rattle.lr_seen.proofs.Seen.{targets_seen}
 pub sees_quiet : (x : Path) (P : Option Seen → Type 0) (ts : List Entry) → Sees x P ts → AreQuiet ts
 sees_quiet x P ts s = subst AreQuiet (sym s.look) ((tt, refl), tt)
 
-no_turns : (state : Path) (now : Moment) (rules : Rules) (looks : List Entry) → AreQuiet looks → AllTurns state now rules (looks ++ [])
-no_turns state now rules looks q = record { looks = looks; acts = []; joined = refl; quiet = q; targets = []; seen = tt; all = tt; each = λ t h. absurd h }
+no_turns : (state : Path) (clock : Clock) (rules : Rules) (looks : List Entry) → AreQuiet looks → AllTurnsBy state clock rules (looks ++ [])
+no_turns state clock rules looks q = record { looks = looks; acts = []; joined = refl; quiet = q; targets = []; seen = tt; all = tt; each = λ t h. absurd h }
 
-pub quiet_run : (ts : List Entry) → AreQuiet ts → IsWholeRun ts
-quiet_run ts q = record { front = ts; rest = []; joined = sym (append-nil ts); quiet = q; goes_on = not_yet refl }
+pub quiet_run : (clock : Clock) (ts : List Entry) → AreQuiet ts → IsWholeRunBy clock ts
+quiet_run clock ts q = record { front = ts; rest = []; joined = sym (append-nil ts); quiet = q; goes_on = not_yet refl }
 
-pub none_run : (ts : List Entry) → ts ≡ [] → IsWholeRun ts
-none_run ts e = quiet_run ts (subst AreQuiet (sym e) tt)
+pub none_run : (clock : Clock) (ts : List Entry) → ts ≡ [] → IsWholeRunBy clock ts
+none_run clock ts e = quiet_run clock ts (subst AreQuiet (sym e) tt)
 
-begun_run : (state : Path) (now : Moment) (rules : Rules) (before tail ts : List Entry) → Sees (parent_of state) IsDir before → ts ≡ before ++ entry.Starts state now rules ∷ tail → AllTurns state now rules tail → IsWholeRun ts
-begun_run state now rules before tail ts s e t = record { front = before; rest = entry.Starts state now rules ∷ tail; joined = e; quiet = sees_quiet (parent_of state) IsDir before s; goes_on = started state now rules tail refl t }
+begun_run : (state : Path) (clock : Clock) (rules : Rules) (before tail ts : List Entry) → Sees (parent_of state) IsDir before → ts ≡ before ++ entry.Starts state clock.now rules ∷ tail → AllTurnsBy state clock rules tail → IsWholeRunBy clock ts
+begun_run state clock rules before tail ts s e t = record { front = before; rest = entry.Starts state clock.now rules ∷ tail; joined = e; quiet = sees_quiet (parent_of state) IsDir before s; goes_on = started state rules tail refl t }
 
 -- ---- the end of a run behind it
 
 pub ended_changes : (acts : List Entry) → filter is_change (acts ++ entry.Ends ∷ []) ≡ filter is_change acts
 ended_changes acts = filter-append is_change acts (entry.Ends ∷ []) ∙ append-nil (filter is_change acts)
 
-abbrev pub ended : (state : Path) (now : Moment) (rules : Rules) (ts : List Entry) → AllTurns state now rules ts → AllTurns state now rules (ts ++ entry.Ends ∷ [])
-ended state now rules ts t = record {
+abbrev pub ended : (state : Path) (clock : Clock) (rules : Rules) (ts : List Entry) → AllTurnsBy state clock rules ts → AllTurnsBy state clock rules (ts ++ entry.Ends ∷ [])
+ended state clock rules ts t = record {
   looks = t.looks;
   acts = t.acts ++ entry.Ends ∷ [];
   joined = ap (λ es. es ++ entry.Ends ∷ []) t.joined ∙ append_assoc t.looks t.acts (entry.Ends ∷ []);
@@ -86,9 +91,9 @@ ended state now rules ts t = record {
   each = λ x h. subst (FirstWoven (StandsBetween state x t.targets) (rotation_of x)) (sym (ended_changes t.acts)) (t.each x h);
 }
 
-abbrev pub ended_whole : (state : Path) (now : Moment) (rules : Rules) (ts : List Entry) → AllTurned state now rules ts → AllTurned state now rules (ts ++ entry.Ends ∷ [])
-ended_whole state now rules ts t = record {
-  turns = ended state now rules ts t.turns;
+abbrev pub ended_whole : (state : Path) (clock : Clock) (rules : Rules) (ts : List Entry) → AllTurnedBy state clock rules ts → AllTurnedBy state clock rules (ts ++ entry.Ends ∷ [])
+ended_whole state clock rules ts t = record {
+  turns = ended state clock rules ts t.turns;
   whole = λ x h. subst (Weave (StandsBetween state x t.turns.targets) (rotation_of x)) (sym (ended_changes t.turns.acts)) (t.whole x h);
 }
 
@@ -100,8 +105,8 @@ woven_behind P steps xs ys w a = subst (λ (zs : List Entry). Weave P zs (xs ++ 
 pub first_behind : (P : Entry → Type 0) (steps xs ys : List Entry) → FirstWoven P steps xs → Each P ys → FirstWoven P steps (xs ++ ys)
 first_behind P steps xs ys f a = record { made = f.made; first = f.first; woven = woven_behind P f.made xs ys f.woven a }
 
-abbrev pub written : (state : Path) (now : Moment) (rules : Rules) (ts us : List Entry) → AllTurns state now rules ts → Each (IsOfState state) (filter is_change us) → AllTurns state now rules (ts ++ us)
-written state now rules ts us t a = record {
+abbrev pub written : (state : Path) (clock : Clock) (rules : Rules) (ts us : List Entry) → AllTurnsBy state clock rules ts → Each (IsOfState state) (filter is_change us) → AllTurnsBy state clock rules (ts ++ us)
+written state clock rules ts us t a = record {
   looks = t.looks;
   acts = t.acts ++ us;
   joined = ap (λ es. es ++ us) t.joined ∙ append_assoc t.looks t.acts us;
@@ -114,9 +119,9 @@ written state now rules ts us t a = record {
       (first_behind (StandsBetween state x t.targets) (rotation_of x) (filter is_change t.acts) (filter is_change us) (t.each x h) (each_as (IsOfState state) (StandsBetween state x t.targets) (filter is_change us) (λ e h. inr (inl h)) a));
 }
 
-abbrev pub written_whole : (state : Path) (now : Moment) (rules : Rules) (ts us : List Entry) → AllTurned state now rules ts → Each (IsOfState state) (filter is_change us) → AllTurned state now rules (ts ++ us)
-written_whole state now rules ts us t a = record {
-  turns = written state now rules ts us t.turns a;
+abbrev pub written_whole : (state : Path) (clock : Clock) (rules : Rules) (ts us : List Entry) → AllTurnedBy state clock rules ts → Each (IsOfState state) (filter is_change us) → AllTurnedBy state clock rules (ts ++ us)
+written_whole state clock rules ts us t a = record {
+  turns = written state clock rules ts us t.turns a;
   whole = λ x h. subst (Weave (StandsBetween state x t.turns.targets) (rotation_of x)) (sym (filter-append is_change t.turns.acts us))
       (woven_behind (StandsBetween state x t.turns.targets) (rotation_of x) (filter is_change t.turns.acts) (filter is_change us) (t.whole x h) (each_as (IsOfState state) (StandsBetween state x t.turns.targets) (filter is_change us) (λ e h. inr (inl h)) a));
 }
@@ -142,22 +147,34 @@ given_later xs looks g = record {
   way_is = g.way_is;
 }
 
-pub seen_later : (rules : Rules) (now : Moment) (xs looks : List Entry) (ts : List Target) → AreSeen rules now.seconds looks ts → AreSeen rules now.seconds (xs ++ looks) ts
+-- so they do of a log, by its kind
+shows_later : (maxage : Option ℕ) (clock : Clock) (xs looks : List Entry) (t : Target) (d : Option Format) → IsSeenBy d maxage clock looks t → IsSeenBy d maxage clock (xs ++ looks) t
+shows_later maxage clock xs looks t None s = record {
+  family = s.family;
+  seen = shown_in t.naming (places_of t.stand.members) looks (xs ++ looks) (λ e i. in_behind e xs looks i) s.seen;
+  sights = λ m i. in_behind (entry.Look (path_at t.naming (number_in m.place)) (Some m.seen)) xs looks (s.sights m i);
+  from_is = s.from_is;
+  low = s.low;
+  ready = s.ready;
+}
+shows_later maxage clock xs looks t (Some format) s = record {
+  family = s.family;
+  seen = shown_more t.naming t.stand.members looks (xs ++ looks) (λ e i. in_behind e xs looks i) s.seen;
+  free = s.free;
+  ready = s.ready;
+}
+
+pub seen_later : (rules : Rules) (clock : Clock) (xs looks : List Entry) (ts : List Target) → AreLogsSeen rules clock looks ts → AreLogsSeen rules clock (xs ++ looks) ts
 unfolding given_later
-seen_later rules now xs looks [] s = tt
-seen_later rules now xs looks (t ∷ ts) s = (
+seen_later rules clock xs looks [] s = tt
+seen_later rules clock xs looks (t ∷ ts) s = (
   record {
     given = given_later xs looks s.0.given;
-    family = s.0.family;
     log_seen = among_later (Sees t.log IsFile) xs looks s.0.log_seen;
-    seen = shown_in t.naming (places_of t.stand.members) looks (xs ++ looks) (λ e i. in_behind e xs looks i) s.0.seen;
-    sights = λ m i. in_behind (entry.Look (path_at t.naming (number_in m.place)) (Some m.seen)) xs looks (s.0.sights m i);
-    from_is = s.0.from_is;
-    low = s.0.low;
-    ready = s.0.ready;
+    shows = shows_later s.0.given.rule.maxage clock xs looks t t.naming.dated s.0.shows;
     job = job_later s.0.job;
   },
-  seen_later rules now xs looks ts s.1,
+  seen_later rules clock xs looks ts s.1,
 )
   where
     job_later : IsJobOf t looks → IsJobOf t (xs ++ looks)
@@ -174,37 +191,37 @@ pub looked_parts : (state : Path) (rules : List Rule) (ts : List Entry) → (l :
 looked_parts state rules ts l = l.joined ∙ sym (append_assoc l.reads l.looks l.acts)
 
 -- all of a run that worked, in three parts
-pub in_parts : (state : Path) (rules : List Rule) (now : Moment) (asked : Asked) (own : List Fault) (ts : List Entry) → (w : Worked state rules now asked own ts) → ts ≡ ((w.looked.reads ++ w.looked.looks) ++ w.acted.entries.entries.front) ++ w.acted.entries.entries.back
-in_parts state rules now asked own ts w =
+pub in_parts : (state : Path) (rules : List Rule) (clock : Clock) (asked : Asked) (own : List Fault) (ts : List Entry) → (w : Worked state rules clock asked own ts) → ts ≡ ((w.looked.reads ++ w.looked.looks) ++ w.acted.entries.entries.front) ++ w.acted.entries.entries.back
+in_parts state rules clock asked own ts w =
     let l = w.looked in let e = w.acted.entries.entries in
     looked_parts state rules ts l ∙ (ap (λ xs. (l.reads ++ l.looks) ++ xs) e.joined ∙ sym (append_assoc (l.reads ++ l.looks) e.front e.back))
 
 -- the changes behind the rotations are the state's
-pub all_of_state : (state : Path) (rules : List Rule) (now : Moment) (asked : Asked) (own : List Fault) (ts : List Entry) → (w : Worked state rules now asked own ts) → Each (IsOfState state) (filter is_change w.acted.entries.entries.back)
-all_of_state state rules now asked own ts w = changes_of_state state w.acted.entries.entries.back (state_writing state w.looked.remembered.stale w.acted.dirs _ w.acted.entries.of_state w.acted.entries.entries.back w.acted.entries.entries.second)
+pub all_of_state : (state : Path) (rules : List Rule) (clock : Clock) (asked : Asked) (own : List Fault) (ts : List Entry) → (w : Worked state rules clock asked own ts) → Each (IsOfState state) (filter is_change w.acted.entries.entries.back)
+all_of_state state rules clock asked own ts w = changes_of_state state w.acted.entries.entries.back (state_writing state w.looked.remembered.stale w.acted.dirs _ w.acted.entries.of_state w.acted.entries.entries.back w.acted.entries.entries.second)
 
-worked_turn : (state : Path) (rules : Rules) (now : Moment) (asked : Asked) (own : List Fault) (ts : List Entry) → AreBuiltRules rules.sets → Worked state rules.sets now asked own ts → AllTurns state now rules ts
-worked_turn state rules now asked own ts built w = subst (AllTurns state now rules) (sym (in_parts state rules.sets now asked own ts w))
-    (written state now rules ((l.reads ++ l.looks) ++ w.acted.entries.entries.front) w.acted.entries.entries.back
-    (done_turns state now rules (l.reads ++ l.looks) (all_targets now decide rules.sets l.sets) _ w.acted.marks w.acted.entries.of_plan w.acted.entries.entries.front
-    (seen_quiet state rules.sets ts l) (seen_later rules now l.reads l.looks (all_targets now decide rules.sets l.sets) (targets_seen rules l.sets l.of_looks l.looks now decide built l.shown))
-    (ready_planned (groups_of now decide rules.sets l.sets) _ (plans_have_logs rules.sets l.sets l.of_looks l.looks now asked.mailer decide built l.shown) (targets_apart rules.sets l.sets l.of_looks l.looks now decide l.shown))
+worked_turn : (state : Path) (rules : Rules) (clock : Clock) (asked : Asked) (own : List Fault) (ts : List Entry) → Worked state rules.sets clock asked own ts → AllTurnsBy state clock rules ts
+worked_turn state rules clock asked own ts w = subst (AllTurnsBy state clock rules) (sym (in_parts state rules.sets clock asked own ts w))
+    (written state clock rules ((l.reads ++ l.looks) ++ w.acted.entries.entries.front) w.acted.entries.entries.back
+    (done_turns state clock rules (l.reads ++ l.looks) (all_targets clock decide rules.sets l.sets) _ w.acted.marks w.acted.entries.of_plan w.acted.entries.entries.front
+    (seen_quiet state rules.sets ts l) (seen_later rules clock l.reads l.looks (all_targets clock decide rules.sets l.sets) (targets_seen rules l.sets l.of_looks l.looks clock decide l.shown))
+    (ready_planned (groups_of clock decide rules.sets l.sets) _ (plans_have_logs rules.sets l.sets l.of_looks l.looks clock asked.mailer decide l.shown) (targets_apart rules.sets l.sets l.of_looks l.looks clock decide l.shown))
     w.acted.entries.entries.first)
-    (all_of_state state rules.sets now asked own ts w))
+    (all_of_state state rules.sets clock asked own ts w))
   where
     l : Looked state rules.sets ts
     l = w.looked
 
     decide : Rule → LogLook → Due
-    decide = decision l.remembered.table now asked.force
+    decide = decision l.remembered.table clock.now asked.force
 
-quiet_turns : (state : Path) (now : Moment) (rules : Rules) (ts : List Entry) → AreQuiet ts → AllTurns state now rules ts
-quiet_turns state now rules ts q = subst (AllTurns state now rules) (append-nil ts) (no_turns state now rules ts q)
+quiet_turns : (state : Path) (clock : Clock) (rules : Rules) (ts : List Entry) → AreQuiet ts → AllTurnsBy state clock rules ts
+quiet_turns state clock rules ts q = subst (AllTurnsBy state clock rules) (append-nil ts) (no_turns state clock rules ts q)
 
-works_turn : (state : Path) (rules : Rules) (now : Moment) (asked : Asked) (plan : Option Plan) (own : List Fault) (ts : List Entry) → AreBuiltRules rules.sets → Works state rules.sets now asked plan own ts → AllTurns state now rules ts
-works_turn state rules now asked plan own ts built (not_known sights f known lost is shown) = quiet_turns state now rules ts (state_quiet state 65_536 sights ts shown)
-works_turn state rules now asked plan own ts built (too_big l big lost is none) = quiet_turns state now rules ts (subst AreQuiet (sym (l.joined ∙ (ap (λ xs. l.reads ++ (l.looks ++ xs)) none ∙ ap (λ xs. l.reads ++ xs) (append-nil l.looks)))) (seen_quiet state rules.sets ts l))
-works_turn state rules now asked plan own ts built (worked w is) = worked_turn state rules now asked own ts built w
+works_turn : (state : Path) (rules : Rules) (clock : Clock) (asked : Asked) (plan : Option Plan) (own : List Fault) (ts : List Entry) → Works state rules.sets clock asked plan own ts → AllTurnsBy state clock rules ts
+works_turn state rules clock asked plan own ts (not_known sights f known lost is shown) = quiet_turns state clock rules ts (state_quiet state 65_536 sights ts shown)
+works_turn state rules clock asked plan own ts (too_big l big lost is none) = quiet_turns state clock rules ts (subst AreQuiet (sym (l.joined ∙ (ap (λ xs. l.reads ++ (l.looks ++ xs)) none ∙ ap (λ xs. l.reads ++ xs) (append-nil l.looks)))) (seen_quiet state rules.sets ts l))
+works_turn state rules clock asked plan own ts (worked w is) = worked_turn state rules clock asked own ts w
 
 pub some_quiet : (state : Path) (rules : List Rule) (ts : List Entry) → SomeSeen state rules ts → AreQuiet ts
 some_quiet state rules ts (of_state sights shown) = state_quiet state 65_536 sights ts shown
@@ -212,34 +229,34 @@ some_quiet state rules ts (of_looks sights remembered known t) = subst AreQuiet 
 
 -- ---- the run
 
-runs_shape : (state : Path) (asked : Asked) (now : Moment) (rules : Rules) (plan : Option Plan) (own : List Fault) (ts : List Entry) → AreBuiltRules rules.sets → Runs state asked now rules plan own ts → IsWholeRun ts
-runs_shape state asked now rules plan own ts built (no_directory lost e s) = quiet_run ts (sees_quiet (parent_of state) _ ts s)
-runs_shape state asked now rules plan own ts built (not_seen lost e s) = none_run ts s
-runs_shape state asked now rules plan own ts built (not_begun lost e t) = go t.second
+runs_shape : (state : Path) (asked : Asked) (clock : Clock) (rules : Rules) (plan : Option Plan) (own : List Fault) (ts : List Entry) → Runs state asked clock rules plan own ts → IsWholeRunBy clock ts
+runs_shape state asked clock rules plan own ts (no_directory lost e s) = quiet_run clock ts (sees_quiet (parent_of state) _ ts s)
+runs_shape state asked clock rules plan own ts (not_seen lost e s) = none_run clock ts s
+runs_shape state asked clock rules plan own ts (not_begun lost e t) = go t.second
   where
-    go : (t.back ≡ []) ⊎ (t.back ≡ entry.Starts state now rules ∷ []) → IsWholeRun ts
-    go (inl none) = quiet_run ts (subst AreQuiet (sym (t.joined ∙ (ap (λ es. t.front ++ es) none ∙ append-nil t.front))) (sees_quiet (parent_of state) IsDir t.front t.first))
-    go (inr one) = begun_run state now rules t.front [] ts t.first (t.joined ∙ ap (λ es. t.front ++ es) one) (no_turns state now rules [] tt)
-runs_shape state asked now rules plan own ts built (runs.began i) = begun_run state now rules i.before (i.between ++ entry.Ends ∷ []) ts i.directory i.entries (ended state now rules i.between (works_turn state rules now asked plan own i.between built i.within))
+    go : (t.back ≡ []) ⊎ (t.back ≡ entry.Starts state clock.now rules ∷ []) → IsWholeRunBy clock ts
+    go (inl none) = quiet_run clock ts (subst AreQuiet (sym (t.joined ∙ (ap (λ es. t.front ++ es) none ∙ append-nil t.front))) (sees_quiet (parent_of state) IsDir t.front t.first))
+    go (inr one) = begun_run state clock rules t.front [] ts t.first (t.joined ∙ ap (λ es. t.front ++ es) one) (no_turns state clock rules [] tt)
+runs_shape state asked clock rules plan own ts (runs.began i) = begun_run state clock rules i.before (i.between ++ entry.Ends ∷ []) ts i.directory i.entries (ended state clock rules i.between (works_turn state rules clock asked plan own i.between i.within))
 
 -- of acts that broke off
-broke_turn : (state : Path) (rules : Rules) (now : Moment) (asked : Asked) (ts : List Entry) → AreBuiltRules rules.sets → BrokeOff state rules.sets now asked ts → AllTurns state now rules ts
-broke_turn state rules now asked ts built b = subst (AllTurns state now rules) (sym (looked_parts state rules.sets ts l))
-    (cut_turns state now rules (l.reads ++ l.looks) (all_targets now decide rules.sets l.sets) _ b.marks b.of_acts l.acts
-    (seen_quiet state rules.sets ts l) (seen_later rules now l.reads l.looks (all_targets now decide rules.sets l.sets) (targets_seen rules l.sets l.of_looks l.looks now decide built l.shown))
-    (ready_planned (groups_of now decide rules.sets l.sets) _ (plans_have_logs rules.sets l.sets l.of_looks l.looks now asked.mailer decide built l.shown) (targets_apart rules.sets l.sets l.of_looks l.looks now decide l.shown))
+broke_turn : (state : Path) (rules : Rules) (clock : Clock) (asked : Asked) (ts : List Entry) → BrokeOff state rules.sets clock asked ts → AllTurnsBy state clock rules ts
+broke_turn state rules clock asked ts b = subst (AllTurnsBy state clock rules) (sym (looked_parts state rules.sets ts l))
+    (cut_turns state clock rules (l.reads ++ l.looks) (all_targets clock decide rules.sets l.sets) _ b.marks b.of_acts l.acts
+    (seen_quiet state rules.sets ts l) (seen_later rules clock l.reads l.looks (all_targets clock decide rules.sets l.sets) (targets_seen rules l.sets l.of_looks l.looks clock decide l.shown))
+    (ready_planned (groups_of clock decide rules.sets l.sets) _ (plans_have_logs rules.sets l.sets l.of_looks l.looks clock asked.mailer decide l.shown) (targets_apart rules.sets l.sets l.of_looks l.looks clock decide l.shown))
     b.part)
   where
     l : Looked state rules.sets ts
     l = b.looked
 
     decide : Rule → LogLook → Due
-    decide = decision l.remembered.table now asked.force
+    decide = decision l.remembered.table clock.now asked.force
 
-pub whole_run : (state : Path) (asked : Asked) (now : Moment) (rules : Rules) (earlier : List Fault) (r : Result Ran RunStop) (ts : List Entry) → AreBuiltRules rules.sets → Answers state false asked now rules earlier r ts → IsWholeRun ts
-whole_run state asked now rules earlier (Ok ran) ts built h = runs_shape state asked now rules ran.plan h.0 ts built h.2
-whole_run state asked now rules earlier (Err stop.Held) ts built h = quiet_run ts (sees_quiet (parent_of state) IsDir ts h)
-whole_run state asked now rules earlier (Err stop.Memory) ts built (at_first e) = none_run ts e
-whole_run state asked now rules earlier (Err stop.Memory) ts built (in_looks i) = begun_run state now rules i.before (i.between ++ entry.Ends ∷ []) ts i.directory i.entries
-    (ended state now rules i.between (quiet_turns state now rules i.between (some_quiet state rules.sets i.between i.within)))
-whole_run state asked now rules earlier (Err stop.Memory) ts built (in_acts i) = begun_run state now rules i.before (i.between ++ entry.Ends ∷ []) ts i.directory i.entries (ended state now rules i.between (broke_turn state rules now asked i.between built i.within))
+pub whole_run : (state : Path) (asked : Asked) (clock : Clock) (rules : Rules) (earlier : List Fault) (r : Result Ran RunStop) (ts : List Entry) → Answers state false asked clock rules earlier r ts → IsWholeRunBy clock ts
+whole_run state asked clock rules earlier (Ok ran) ts h = runs_shape state asked clock rules ran.plan h.0 ts h.2
+whole_run state asked clock rules earlier (Err stop.Held) ts h = quiet_run clock ts (sees_quiet (parent_of state) IsDir ts h)
+whole_run state asked clock rules earlier (Err stop.Memory) ts (at_first e) = none_run clock ts e
+whole_run state asked clock rules earlier (Err stop.Memory) ts (in_looks i) = begun_run state clock rules i.before (i.between ++ entry.Ends ∷ []) ts i.directory i.entries
+    (ended state clock rules i.between (quiet_turns state clock rules i.between (some_quiet state rules.sets i.between i.within)))
+whole_run state asked clock rules earlier (Err stop.Memory) ts (in_acts i) = begun_run state clock rules i.before (i.between ++ entry.Ends ∷ []) ts i.directory i.entries (ended state clock rules i.between (broke_turn state rules clock asked i.between i.within))

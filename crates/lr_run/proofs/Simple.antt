@@ -1,14 +1,14 @@
 -- The steps of a plan: unlinks, renames, makings of logs, the steps of copies, programs and marks alone.
-use Rattle.std.proofs.Common.{ℕ, Bool, true, false, not, List, [], ◌∷◌, ◌++◌, map, Option, Some, None, refl}
+use Rattle.std.proofs.Common.{◌≡◌, ℕ, Bool, true, false, not, List, [], ◌∷◌, ◌++◌, map, Option, Some, None, refl, sym, subst}
 use Rattle.std.specs.List.{flat_map}
-use Rattle.lr_rules.specs.declared.civil.Moment.{Moment}
+use Rattle.lr_rules.specs.declared.clock.Clock.{Clock}
 use Rattle.lr_rules.specs.declared.fault.Fault.{Fault}
 use Rattle.lr_rules.specs.declared.fault.Phase.{Phase}
 use Rattle.lr_rules.specs.declared.fault.Phase.TheVariants as phase
 use Rattle.lr_rules.specs.declared.path.Path.{Path}
 use Rattle.lr_rules.specs.declared.rule.Make.{Make}
 use Rattle.lr_rules.specs.declared.rule.Make.TheVariants as make
-use Rattle.lr_rules.specs.declared.rule.Naming.{Naming}
+use Rattle.lr_rules.specs.declared.rule.Format.{Format}
 use Rattle.lr_rules.specs.declared.rule.Rule.{Rule}
 use Rattle.lr_rules.specs.declared.rule.Way.{Way}
 use Rattle.lr_rules.specs.declared.rule.Way.TheVariants as way
@@ -16,10 +16,9 @@ use Rattle.lr_rules.specs.Match.{part_end, EndsWith}
 use Rattle.lr_due.specs.declared.answer.Due.{Due}
 use Rattle.lr_due.specs.declared.answer.Due.TheVariants as due
 use Rattle.lr_family.specs.Parts.{part_of}
-use Rattle.lr_family.specs.Spots.{path_at}
 use Rattle.lr_chain.specs.declared.ready.Move.{Move}
-use Rattle.lr_chain.specs.Ready.{removal_at}
-use Rattle.lr_chain.specs.Rotation.{places_of, leftovers, retired}
+use Rattle.lr_chain.specs.declared.ready.Ready.{Ready}
+use Rattle.lr_scripts.specs.declared.removal.Removal.{Removal}
 use Rattle.lr_commands.specs.Commands.{script, where_so, mail, with_programs}
 use Rattle.lr_plan.specs.declared.looks.LogLook.{LogLook}
 use Rattle.lr_plan.specs.declared.looks.SetLooks.{SetLooks}
@@ -27,8 +26,8 @@ use Rattle.lr_plan.specs.declared.planned.LogPlan.{LogPlan}
 use Rattle.lr_plan.specs.declared.planned.SetPlan.{SetPlan}
 use Rattle.lr_plan.specs.declared.step.Step.{Step}
 use Rattle.lr_plan.specs.declared.step.Step.TheVariants.{Runs, Removes, Renames, Creates, Takes, Copies, SyncsFile, SyncsDir, Truncates, Rotated}
-use Rattle.lr_plan.specs.Planned.{copy_job, job_by, hindrances, going_from, ready_for, dressed, log_plan, none_hinders, plans_of, where_due, log_plans, set_plan, all_plans}
-use Rattle.lr_plan.specs.Steps.{program, removal, removals, move, step_if, copy, transfer, anew, made_anew, rotation_of, retirement_of, steps_of_log, shared_steps, by_logs, steps_of_set}
+use Rattle.lr_plan.specs.Planned.{copy_job, job_by, hindrances, ready_by, ready_for, plan_with, log_plan, none_hinders, plans_of, where_due, log_plans, set_plan, all_plans}
+use Rattle.lr_plan.specs.Steps.{program, removal, removals, directory, move, step_if, copy, transfer, anew, made_anew, rotation_of, retirement_of, steps_of_log, shared_steps, by_logs, steps_of_set}
 use Rattle.lr_acts.specs.Making.{all_of_each, all_of_set, all_of_sets}
 
 -- ---- what holds of each of some steps
@@ -85,13 +84,13 @@ module _ (P : Step → Type 0) (Q : Option (List ℕ) → Type 0) (k : IsOfSteps
   where_mails true mailer address log file q = k.mails mailer address log file q
   where_mails false mailer address log file q = tt
 
-  removals_so : (mailer : Path) (rule : Rule) (log : Path) (n : Naming) (places : List ℕ) → IsOfScripts Q rule → EachStep P (removals (map (with_programs rule mailer log) (map (removal_at n) places)))
-  removals_so mailer rule log n [] h = tt
-  removals_so mailer rule log n (p ∷ ps) h =
-      step_both P (removal (with_programs rule mailer log (removal_at n p))) _
-      (step_both P (program phase.Preremove (script rule.scripts.preremove (path_at n p ∷ []))) _ (k.runs phase.Preremove rule.scripts.preremove (path_at n p ∷ []) h.preremove)
-      (step_both P (program phase.Mail (where_so (not rule.mailfirst) (mail mailer rule.mail log (path_at n p)))) _ (where_mails (not rule.mailfirst) mailer rule.mail log (path_at n p) h.mail) (k.removes _, tt)))
-      (removals_so mailer rule log n ps h)
+  removals_so : (mailer : Path) (rule : Rule) (log : Path) (rs : List Removal) → IsOfScripts Q rule → EachStep P (removals (map (with_programs rule mailer log) rs))
+  removals_so mailer rule log [] h = tt
+  removals_so mailer rule log (r ∷ rs) h =
+      step_both P (removal (with_programs rule mailer log r)) _
+      (step_both P (program phase.Preremove (script rule.scripts.preremove (r.path ∷ []))) _ (k.runs phase.Preremove rule.scripts.preremove (r.path ∷ []) h.preremove)
+      (step_both P (program phase.Mail (where_so (not rule.mailfirst) (mail mailer rule.mail log r.path))) _ (where_mails (not rule.mailfirst) mailer rule.mail log r.path h.mail) (k.removes _, tt)))
+      (removals_so mailer rule log rs h)
 
   moves_so : (ms : List Move) → EachStep P (map move ms)
   moves_so [] = tt
@@ -105,20 +104,20 @@ module _ (P : Step → Type 0) (Q : Option (List ℕ) → Type 0) (k : IsOfSteps
   step_where true s p = (p, tt)
   step_where false s p = tt
 
-  copy_so : (look : LogLook) (cut : Bool) → EachStep P (copy (copy_job look cut))
-  copy_so look cut = step_both P (step_if (copy_job look cut).stale (Removes (copy_job look cut).part)) _ (step_where (copy_job look cut).stale _ (k.removes _))
-      (k.takes (path_at look.family.naming 0) _, (k.copies _ _ _, (k.syncs_file _, (k.renames _ _, (k.syncs_dir _, step_where cut _ (k.truncates _))))))
+  copy_so : (look : LogLook) (target : Path) (cut : Bool) → EachStep P (copy (copy_job look target cut))
+  copy_so look target cut = step_both P (step_if (copy_job look target cut).stale (Removes (copy_job look target cut).part)) _ (step_where (copy_job look target cut).stale _ (k.removes _))
+      (k.takes target _, (k.copies _ _ _, (k.syncs_file _, (k.renames _ _, (k.syncs_dir _, step_where cut _ (k.truncates _))))))
 
   -- by rename or by copy
-  transfer_so : (w : Way) (look : LogLook) (log target : Path) → EachStep P (transfer log target (job_by w look))
+  transfer_so : (w : Way) (look : LogLook) (log target : Path) → EachStep P (transfer log target (job_by w look target))
   transfer_so way.Rename look log target = (k.renames log target, tt)
-  transfer_so way.Copy look log target = copy_so look false
-  transfer_so way.CopyTruncate look log target = copy_so look true
+  transfer_so way.Copy look log target = copy_so look target false
+  transfer_so way.CopyTruncate look log target = copy_so look target true
 
-  made_so : (w : Way) (look : LogLook) (m : Make) (log : Path) → EachStep P (made_anew m log (job_by w look))
-  made_so way.Rename look m log = anew_so m log
-  made_so way.Copy look m log = tt
-  made_so way.CopyTruncate look m log = tt
+  made_so : (w : Way) (look : LogLook) (target : Path) (m : Make) (log : Path) → EachStep P (made_anew m log (job_by w look target))
+  made_so way.Rename look target m log = anew_so m log
+  made_so way.Copy look target m log = tt
+  made_so way.CopyTruncate look target m log = tt
 
   -- of each log: its rotation, its retirement, and its programs
   record IsLogSo (log : LogPlan) : Type 0 where
@@ -131,18 +130,27 @@ module _ (P : Step → Type 0) (Q : Option (List ℕ) → Type 0) (k : IsOfSteps
   AreLogsSo [] = Unit {0}
   AreLogsSo (log ∷ logs) = IsLogSo log × AreLogsSo logs
 
-  log_so : (now : Moment) (mailer : Path) (rule : Rule) (look : LogLook) → IsOfScripts Q rule → IsLogSo (log_plan now mailer rule look)
-  log_so now mailer rule look h = record {
-    rotation = step_both P (removals (dressed rule mailer (ready_for now rule look)).leftovers) _ (removals_so mailer rule look.path look.family.naming (leftovers rule.count (places_of look.stand.members)) h)
-        (step_both P (map move (ready_for now rule look).moves) _ (moves_so (ready_for now rule look).moves)
-        (step_both P (transfer look.path (ready_for now rule look).target (job_by rule.way look)) _ (transfer_so rule.way look look.path (ready_for now rule look).target)
-        (k.rotated _, made_so rule.way look (ready_for now rule look).make look.path)));
-    retirement = step_both P (program phase.Mail (where_so rule.mailfirst (mail mailer rule.mail look.path (path_at look.family.naming 0)))) _
-        (where_mails rule.mailfirst mailer rule.mail look.path (path_at look.family.naming 0) h.mail)
-        (removals_so mailer rule look.path look.family.naming (retired rule.count (going_from now rule look)) h);
+  -- by a rotation in a directory that is there
+  with_so : (mailer : Path) (rule : Rule) (look : LogLook) (ready : Ready) → ready.dir ≡ None → IsOfScripts Q rule → IsLogSo (plan_with mailer rule look ready)
+  with_so mailer rule look ready no_dir h = record {
+    rotation = step_both P (removals (map (with_programs rule mailer ready.log) ready.leftovers)) _ (removals_so mailer rule ready.log ready.leftovers h)
+        (step_both P (directory ready.dir) _ (subst (λ d. EachStep P (directory d)) (sym no_dir) tt)
+        (step_both P (map move ready.moves) _ (moves_so ready.moves)
+        (step_both P (transfer ready.log ready.target (job_by rule.way look ready.target)) _ (transfer_so rule.way look ready.log ready.target)
+        (k.rotated _, made_so rule.way look ready.target ready.make ready.log))));
+    retirement = step_both P (program phase.Mail (where_so rule.mailfirst (mail mailer rule.mail look.path ready.target))) _
+        (where_mails rule.mailfirst mailer rule.mail look.path ready.target h.mail)
+        (removals_so mailer rule ready.log ready.retire h);
     pre = where_runs (not rule.shared) phase.Pre rule.scripts.pre _ h.pre;
     post = where_runs (not rule.shared) phase.Post rule.scripts.post _ h.post;
   }
+
+  log_so : (clock : Clock) (mailer : Path) (rule : Rule) (look : LogLook) → IsOfScripts Q rule → IsLogSo (log_plan clock mailer rule look)
+  log_so clock mailer rule look h = with_so mailer rule look (ready_for clock rule look) (no_dir look.family.naming.dated) h
+    where
+      no_dir : (d : Option Format) → (ready_by d clock rule look).dir ≡ None
+      no_dir None = refl
+      no_dir (Some format) = refl
 
   logs_both : (xs ys : List LogPlan) → AreLogsSo xs → AreLogsSo ys → AreLogsSo (xs ++ ys)
   logs_both [] ys h g = g
@@ -156,10 +164,10 @@ module _ (P : Step → Type 0) (Q : Option (List ℕ) → Type 0) (k : IsOfSteps
   due_so (due.Yes why) logs h = h
   due_so (due.No why) logs h = tt
 
-  logs_so : (now : Moment) (mailer : Path) (rule : Rule) (decide : LogLook → Due) (looks : List LogLook) → IsOfScripts Q rule → AreLogsSo (log_plans now mailer rule decide looks)
-  logs_so now mailer rule decide [] h = tt
-  logs_so now mailer rule decide (l ∷ ls) h =
-      logs_both (where_due (decide l) (plans_of now mailer rule l)) (log_plans now mailer rule decide ls) (due_so (decide l) (plans_of now mailer rule l) (free_so (hindrances rule l) (log_plan now mailer rule l) (log_so now mailer rule l h))) (logs_so now mailer rule decide ls h)
+  logs_so : (clock : Clock) (mailer : Path) (rule : Rule) (decide : LogLook → Due) (looks : List LogLook) → IsOfScripts Q rule → AreLogsSo (log_plans clock mailer rule decide looks)
+  logs_so clock mailer rule decide [] h = tt
+  logs_so clock mailer rule decide (l ∷ ls) h =
+      logs_both (where_due (decide l) (plans_of clock mailer rule l)) (log_plans clock mailer rule decide ls) (due_so (decide l) (plans_of clock mailer rule l) (free_so (hindrances clock rule l) (log_plan clock mailer rule l) (log_so clock mailer rule l h))) (logs_so clock mailer rule decide ls h)
 
   -- ---- one definition
 
@@ -208,12 +216,12 @@ module _ (P : Step → Type 0) (Q : Option (List ℕ) → Type 0) (k : IsOfSteps
 
   -- ---- all definitions
 
-  pub plan_so : (now : Moment) (mailer : Path) (decide : Rule → LogLook → Due) (rules : List Rule) (sets : List SetLooks) → AreOfScripts Q rules → EachStep P (all_of_sets (map steps_of_set (all_plans now mailer decide rules sets)))
-  plan_so now mailer decide [] [] h = tt
-  plan_so now mailer decide [] (s ∷ ss) h = tt
-  plan_so now mailer decide (r ∷ rs) [] h = tt
-  plan_so now mailer decide (r ∷ rs) (s ∷ ss) h = step_both P (all_of_set (steps_of_set (set_plan r (log_plans now mailer r (decide r) s.logs)))) _
-      (set_so (set_plan r (log_plans now mailer r (decide r) s.logs)) (own_so r (log_plans now mailer r (decide r) s.logs) h.0) (logs_so now mailer r (decide r) s.logs h.0)) (plan_so now mailer decide rs ss h.1)
+  pub plan_so : (clock : Clock) (mailer : Path) (decide : Rule → LogLook → Due) (rules : List Rule) (sets : List SetLooks) → AreOfScripts Q rules → EachStep P (all_of_sets (map steps_of_set (all_plans clock mailer decide rules sets)))
+  plan_so clock mailer decide [] [] h = tt
+  plan_so clock mailer decide [] (s ∷ ss) h = tt
+  plan_so clock mailer decide (r ∷ rs) [] h = tt
+  plan_so clock mailer decide (r ∷ rs) (s ∷ ss) h = step_both P (all_of_set (steps_of_set (set_plan r (log_plans clock mailer r (decide r) s.logs)))) _
+      (set_so (set_plan r (log_plans clock mailer r (decide r) s.logs)) (own_so r (log_plans clock mailer r (decide r) s.logs) h.0) (logs_so clock mailer r (decide r) s.logs h.0)) (plan_so clock mailer decide rs ss h.1)
 
 -- ---- simple steps
 
@@ -268,5 +276,5 @@ any_scripts : (rules : List Rule) → AreOfScripts Any rules
 any_scripts [] = tt
 any_scripts (rule ∷ rules) = (record { first = tt; pre = tt; post = tt; last = tt; preremove = tt; mail = tt }, any_scripts rules)
 
-pub plan_simple : (now : Moment) (mailer : Path) (decide : Rule → LogLook → Due) (rules : List Rule) (sets : List SetLooks) → AreSimple (all_of_sets (map steps_of_set (all_plans now mailer decide rules sets)))
-plan_simple now mailer decide rules sets = plan_so IsSimple Any simple_steps now mailer decide rules sets (any_scripts rules)
+pub plan_simple : (clock : Clock) (mailer : Path) (decide : Rule → LogLook → Due) (rules : List Rule) (sets : List SetLooks) → AreSimple (all_of_sets (map steps_of_set (all_plans clock mailer decide rules sets)))
+plan_simple clock mailer decide rules sets = plan_so IsSimple Any simple_steps clock mailer decide rules sets (any_scripts rules)

@@ -1,20 +1,23 @@
 -- The faults of a run by which a path was taken that a new file needs.
-use Rattle.std.proofs.Common.{◌≡◌, ⊎_elim, Bool, true, false, cond, List, [], ◌∷◌, ◌++◌, Option, Some, None, Result, Ok, Err, OnOk, sym, ap, ◌∙◌, subst, append_assoc}
-use Rattle.std.specs.Prelude.{slice_get}
+use Rattle.std.proofs.Common.{◌≡◌, ⊎_elim, ℕ, Bool, true, false, cond, List, [], ◌∷◌, ◌++◌, map, reverse, Option, Some, None, Result, Ok, Err, OnOk, refl, sym, ap, ◌∙◌, subst, append_assoc}
+use Rattle.std.specs.Prelude.{slice_get, ℤ}
 use Rattle.std.specs.List.{flat_map}
 use Rattle.lr_rules.specs.declared.path.Path.{Path}
-use Rattle.lr_rules.specs.declared.civil.Moment.{Moment}
+use Rattle.lr_rules.specs.declared.clock.Clock.{Clock}
 use Rattle.lr_rules.specs.declared.fault.Fault.{Fault}
 use Rattle.lr_rules.specs.declared.fault.Fault.TheVariants as fault
 use Rattle.lr_rules.specs.declared.memory.Memory.{Memory}
+use Rattle.lr_rules.specs.declared.rule.Format.{Format}
+use Rattle.lr_rules.specs.declared.rule.Naming.{Naming}
 use Rattle.lr_rules.specs.declared.rule.Rule.{Rule}
 use Rattle.lr_rules.specs.declared.rules.Rules.{Rules}
+use Rattle.lr_stamps.specs.Dated.{clock_seconds}
 use Rattle.lr_host.specs.declared.entry.Entry.{Entry}
 use Rattle.lr_host.specs.declared.entry.Entry.TheVariants.{Ends}
 use Rattle.lr_host.specs.declared.journal.Journal.{Journal}
 use Rattle.lr_host.specs.Counted.{AddsFaults}
 use Rattle.lr_host.specs.Lists.{IsIn}
-use Rattle.lr_host.specs.Told.{Are, Counts, Each, Left, not_told, is_told}
+use Rattle.lr_host.specs.Told.{Are, Counts, Each, Left, Then, not_told, is_told}
 use Rattle.lr_host.proofs.Left.{left_as}
 use Rattle.lr_host.proofs.Lists.{in_append}
 use Rattle.lr_due.specs.declared.answer.Due.{Due}
@@ -37,23 +40,33 @@ use Rattle.lr_plan.specs.declared.looks.Looks.{Looks}
 use Rattle.lr_plan.specs.declared.looks.SetLooks.{SetLooks}
 use Rattle.lr_plan.specs.declared.planned.Plan.{Plan}
 use Rattle.lr_plan.specs.declared.step.SetSteps.{SetSteps}
-use Rattle.lr_plan.specs.Planned.{decision, hindrances, is_too_high, where_due, log_faults, all_faults}
+use Rattle.lr_plan.specs.Planned.{decision, numbered_hindrances, hindrances_by, hindrances, is_too_high, where_due, log_faults, all_faults}
 use Rattle.lr_plan.specs.Steps.{steps_of_plan, state_steps}
+use Rattle.lr_plan.specs.Course.{Course}
+use Rattle.lr_plan.specs.Done.{SetsDone, rotated_logs}
+use Rattle.lr_family.specs.declared.stand.Member.{Member}
+use Rattle.lr_family.specs.declared.stand.Stand.{Stand}
 use Rattle.lr_chain.specs.Ready.{highest_path}
+use Rattle.lr_dated_chain.specs.Next.{has_serials}
+use Rattle.lr_dated_ready.specs.Hindrances.{is_stamp, fault_at, too_high, taken, dated_hindrances}
+use Rattle.lr_record.specs.After.{stamped}
+use Rattle.lr_state.specs.Written.{text_of}
+use Rattle.lr_seen.specs.Free.{reserved_by}
 use Rattle.lr_acts.specs.declared.progress.Progress.{Progress}
 use Rattle.lr_acts.specs.Making.{all_of_sets}
-use Rattle.lr_acts.specs.Taken.{Spares, no_journal, LastTaken}
+use Rattle.lr_acts.specs.Taken.{Spares, WasTaken, no_journal, LastTaken}
 use Rattle.lr_acts.proofs.Taking.{taken_later, taken_before}
 use Rattle.lr_reading.specs.declared.remembered.Remembered.{Remembered}
 use Rattle.lr_writing.specs.Target.{Target}
 use Rattle.lr_run.specs.declared.ready.Ready.{Ready}
-use Rattle.lr_run.specs.Internal.{ReadyFor, ActsAndWrites}
+use Rattle.lr_run.specs.Internal.{ReadyFor, ActsAndWrites, SeenBefore}
 use Rattle.lr_run.specs.Taken.{AddsTaken}
+use Rattle.lr_run.proofs.Hindered.{plan_taken}
 use Rattle.lr_run.proofs.Works.{PlanFor}
 
 -- ---- faults that tell of no new file
 
--- a fault of the acts alone: the path was taken that a new file needs, or the file is too long to be copied into one
+-- no look tells such a fault: the path was taken that a new file needs, or the file is too long to be copied into one
 abbrev pub IsOfNew : Fault → Type 0
 IsOfNew (fault.Taken path) = Unit {0}
 IsOfNew (fault.TooLong path) = Unit {0}
@@ -152,50 +165,106 @@ looks_none reserved rules sets own ts h =
     (no_on (choice_faults reserved h.found h.found h.keeps.choices) (flat_map kind_fault (kept_of h.found h.keeps.choices)) (choices_none reserved h.found h.found h.keeps.choices) (kinds_none (kept_of h.found h.keeps.choices)))))
     (families_none families.sights))
 
--- of a plan
-hindered_none : (rule : Rule) (look : LogLook) → NoneOfNew (hindrances rule look)
-hindered_none rule look = go look.stand.there (is_too_high rule look)
+-- of a plan: none tells of a file that is too long
+abbrev IsLong : Fault → Type 0
+IsLong (fault.TooLong path) = Unit {0}
+IsLong _ = ⊥
+
+abbrev NoneLong : List Fault → Type 0
+NoneLong fs = (f : Fault) → IsLong f → IsIn f fs → ⊥
+
+none_long : NoneLong []
+none_long f k i = i
+
+long_on : (xs ys : List Fault) → NoneLong xs → NoneLong ys → NoneLong (xs ++ ys)
+long_on xs ys p q f k i = ⊎_elim (p f k) (q f k) (in_append f xs ys i)
+
+one_long : (f : Fault) → (IsLong f → ⊥) → NoneLong (f ∷ [])
+one_long f other g k i = ⊎_elim (λ same. other (subst IsLong (sym same) k)) (λ none. none) i
+
+numbered_long : (rule : Rule) (look : LogLook) → NoneLong (numbered_hindrances rule look)
+numbered_long rule look = go look.stand.there (is_too_high rule look)
   where
-    go : (a b : Bool) → NoneOfNew (cond a (cond b (fault.TooHigh (highest_path look.family.naming) ∷ []) []) (fault.NoDir look.family.naming.dir ∷ []))
-    go true true = no_one (fault.TooHigh (highest_path look.family.naming)) (λ h. h)
-    go true false = no_more
-    go false b = no_one (fault.NoDir look.family.naming.dir) (λ h. h)
+    go : (a b : Bool) → NoneLong (cond a (cond b (fault.TooHigh (highest_path look.family.naming) ∷ []) []) (fault.NoDir look.family.naming.dir ∷ []))
+    go true true = one_long (fault.TooHigh (highest_path look.family.naming)) (λ h. h)
+    go true false = none_long
+    go false b = one_long (fault.NoDir look.family.naming.dir) (λ h. h)
 
-due_none : (d : Due) (fs : List Fault) → NoneOfNew fs → NoneOfNew (where_due d fs)
-due_none (due.Yes why) fs h = h
-due_none (due.No why) fs h = no_more
+at_long : (why : Path → Fault) → ((path : Path) → IsLong (why path) → ⊥) → (seconds : ℤ) (serial : ℕ) (ms : List Member) → NoneLong (fault_at why seconds serial ms)
+at_long why other seconds serial [] = none_long
+at_long why other seconds serial (m ∷ ms) = go (is_stamp seconds serial m.place) (at_long why other seconds serial ms)
+  where
+    go : (b : Bool) → NoneLong (fault_at why seconds serial ms) → NoneLong (cond b (why m.path ∷ []) (fault_at why seconds serial ms))
+    go true rest = one_long (why m.path) (other m.path)
+    go false rest = rest
 
-logs_none : (rule : Rule) (decide : LogLook → Due) (looks : List LogLook) → NoneOfNew (log_faults rule decide looks)
-logs_none rule decide [] = no_more
-logs_none rule decide (l ∷ ls) = no_on (where_due (decide l) (hindrances rule l)) (log_faults rule decide ls) (due_none (decide l) (hindrances rule l) (hindered_none rule l)) (logs_none rule decide ls)
+dated_long : (n : Naming) (stand : Stand) (seconds : ℤ) → NoneLong (dated_hindrances n stand seconds)
+dated_long n stand seconds = go stand.there (has_serials n.dated)
+  where
+    go : (a b : Bool) → NoneLong (cond a (cond b (fault_at too_high seconds 4294967295 stand.members) (fault_at taken seconds 0 stand.members)) (fault.NoDir n.dir ∷ []))
+    go true true = at_long too_high (λ path h. h) seconds 4294967295 stand.members
+    go true false = at_long taken (λ path h. h) seconds 0 stand.members
+    go false b = one_long (fault.NoDir n.dir) (λ h. h)
 
-pub plan_none : (decide : Rule → LogLook → Due) (rules : List Rule) (sets : List SetLooks) → NoneOfNew (all_faults decide rules sets)
-plan_none decide [] [] = no_more
-plan_none decide [] (s ∷ ss) = no_more
-plan_none decide (r ∷ rs) [] = no_more
-plan_none decide (r ∷ rs) (s ∷ ss) = no_on (log_faults r (decide r) s.logs) (all_faults decide rs ss) (logs_none r (decide r) s.logs) (plan_none decide rs ss)
+hindered_long : (clock : Clock) (rule : Rule) (look : LogLook) → NoneLong (hindrances clock rule look)
+hindered_long clock rule look = go look.family.naming.dated
+  where
+    go : (d : Option Format) → NoneLong (hindrances_by d clock rule look)
+    go None = numbered_long rule look
+    go (Some format) = dated_long look.family.naming look.stand (clock_seconds look.family.naming.dated clock)
+
+due_long : (d : Due) (fs : List Fault) → NoneLong fs → NoneLong (where_due d fs)
+due_long (due.Yes why) fs h = h
+due_long (due.No why) fs h = none_long
+
+logs_long : (clock : Clock) (rule : Rule) (decide : LogLook → Due) (looks : List LogLook) → NoneLong (log_faults clock rule decide looks)
+logs_long clock rule decide [] = none_long
+logs_long clock rule decide (l ∷ ls) = long_on (where_due (decide l) (hindrances clock rule l)) (log_faults clock rule decide ls) (due_long (decide l) (hindrances clock rule l) (hindered_long clock rule l)) (logs_long clock rule decide ls)
+
+all_long : (clock : Clock) (decide : Rule → LogLook → Due) (rules : List Rule) (sets : List SetLooks) → NoneLong (all_faults clock decide rules sets)
+all_long clock decide [] [] = none_long
+all_long clock decide [] (s ∷ ss) = none_long
+all_long clock decide (r ∷ rs) [] = none_long
+all_long clock decide (r ∷ rs) (s ∷ ss) = long_on (log_faults clock r (decide r) s.logs) (all_faults clock decide rs ss) (logs_long clock r (decide r) s.logs) (all_long clock decide rs ss)
+
+pub plan_none_long : (clock : Clock) (decide : Rule → LogLook → Due) (rules : List Rule) (sets : List SetLooks) (path : Path) → IsIn (fault.TooLong path) (all_faults clock decide rules sets) → ⊥
+plan_none_long clock decide rules sets path i = all_long clock decide rules sets (fault.TooLong path) tt i
 
 -- ---- from part to part
 
+-- of the faults of the plan: behind the looks a member had the path, and no act unlinked it
+hindered_taken : (state : Path) (rules : Rules) (looks : Looks) (remembered : Remembered) (clock : Clock) (asked : Asked) (ready : Ready) (x y z : Progress) (a b : List Fault) {o m n : Option Journal} (k l : Counts) → ReadyFor state clock.now remembered looks.kept (PlanFor rules looks remembered clock asked) ready x y
+    → Left (LooksAtAll (reserved_by state) rules.sets looks a b) o m → ActsAndWrites ready clock.now.civil y z m n k l → (path : Path) → IsIn (fault.Taken path) (PlanFor rules looks remembered clock asked).faults → WasTaken path m n
+hindered_taken state rules looks remembered clock asked ready x y z a b k l r not_told h path i = untold h.entries
+  where
+    untold : {P : List Entry → Type 0} {n : Option Journal} → Left P None n → WasTaken path None n
+    untold not_told = no_journal
+hindered_taken state rules looks remembered clock asked ready x y z a b {n = n} k l r (is_told {j = i} {k = j} {es = es} made g) h path told =
+    plan_taken state rules looks.sets g.own (reverse es) clock asked.mailer (decision remembered.table clock.now asked.force) ready.writing.stale ready.writing.dirs _ h.marks h.of_plan h.of_state i j es made refl g.shown acts path told
+  where
+    acts : Left (Then (SetsDone (steps_of_plan (PlanFor rules looks remembered clock asked)) h.marks h.of_plan) (Course (state_steps state ready.writing.stale ready.writing.dirs (text_of (map (stamped (rotated_logs h.marks) clock.now.civil) ready.table))) [] h.of_state)) (Some j) n
+    acts = subst (λ (x : Path). Left (Then (SetsDone (steps_of_plan (PlanFor rules looks remembered clock asked)) h.marks h.of_plan) (Course (state_steps x ready.writing.stale ready.writing.dirs (text_of (map (stamped (rotated_logs h.marks) clock.now.civil) ready.table))) [] h.of_state)) (Some j) n) (ap (λ (w : Target). w.state) r.is.writes.2)
+        (subst (λ (ss : List SetSteps). Left (Then (SetsDone ss h.marks h.of_plan) (Course (state_steps ready.writing.state ready.writing.stale ready.writing.dirs (text_of (map (stamped (rotated_logs h.marks) clock.now.civil) ready.table))) [] h.of_state)) (Some j) n) r.is.steps h.entries)
+
 -- the acts, behind the faults of the plan
-pub carried_taken : {T : Type 0} (r : Result T Memory) (state : Path) (rules : Rules) (looks : Looks) (remembered : Remembered) (now : Moment) (asked : Asked) (plan : Option Plan) (ready : Ready) (x y z : Progress) (m n : Option Journal) (k l : Counts)
-    → plan ≡ Some (PlanFor rules looks remembered now asked) → ReadyFor state now remembered looks.kept (PlanFor rules looks remembered now asked) ready x y → OnOk r (ActsAndWrites ready now.civil y z m n k l)
+pub carried_taken : {T : Type 0} (r : Result T Memory) (state : Path) (rules : Rules) (looks : Looks) (remembered : Remembered) (clock : Clock) (asked : Asked) (plan : Option Plan) (ready : Ready) (x y z : Progress) (m n : Option Journal) (k l : Counts)
+    → plan ≡ Some (PlanFor rules looks remembered clock asked) → ReadyFor state clock.now remembered looks.kept (PlanFor rules looks remembered clock asked) ready x y → SeenBefore state rules looks remembered m → OnOk r (ActsAndWrites ready clock.now.civil y z m n k l)
     → OnOk r (AddsTaken state plan x.faults.items z.faults.items m n)
-carried_taken (Err u) state rules looks remembered now asked plan ready x y z m n k l is r h = tt
-carried_taken (Ok u) state rules looks remembered now asked plan ready x y z m n k l is r h = record {
-  added = (PlanFor rules looks remembered now asked).faults ++ (h.of_plan ++ h.of_state);
-  after_is = h.faults_are ∙ (ap (λ (fs : List Fault). fs ++ (h.of_plan ++ h.of_state)) r.is.faults ∙ append_assoc x.faults.items (PlanFor rules looks remembered now asked).faults (h.of_plan ++ h.of_state));
+carried_taken (Err u) state rules looks remembered clock asked plan ready x y z m n k l is r seen h = tt
+carried_taken (Ok u) state rules looks remembered clock asked plan ready x y z m n k l is r seen h = record {
+  added = (PlanFor rules looks remembered clock asked).faults ++ (h.of_plan ++ h.of_state);
+  after_is = h.faults_are ∙ (ap (λ (fs : List Fault). fs ++ (h.of_plan ++ h.of_state)) r.is.faults ∙ append_assoc x.faults.items (PlanFor rules looks remembered clock asked).faults (h.of_plan ++ h.of_state));
   taken = λ p e. record {
     stale = remembered.stale;
     dirs = r.is.writes.0;
     text = h.text;
-    taken = λ path last i. ⊎_elim (λ a. absurd (plan_none (decision remembered.table now asked.force) rules.sets looks.sets (fault.Taken path) tt a)) (λ b. h.taken.taken path (steps_are p e path last) b)
-        (in_append (fault.Taken path) (PlanFor rules looks remembered now asked).faults (h.of_plan ++ h.of_state) i);
+    taken = λ path last i. ⊎_elim (λ a. hindered_taken state rules looks remembered clock asked ready x y z seen.faults seen.all_faults k l r seen.looked h path a) (λ b. h.taken.taken path (steps_are p e path last) b)
+        (in_append (fault.Taken path) (PlanFor rules looks remembered clock asked).faults (h.of_plan ++ h.of_state) i);
   };
 }
   where
-    same : (p : Plan) → plan ≡ Some p → PlanFor rules looks remembered now asked ≡ p
-    same p e = let both : Some (PlanFor rules looks remembered now asked) ≡ Some p = sym is ∙ e in cc
+    same : (p : Plan) → plan ≡ Some p → PlanFor rules looks remembered clock asked ≡ p
+    same p e = let both : Some (PlanFor rules looks remembered clock asked) ≡ Some p = sym is ∙ e in cc
 
     steps_are : (p : Plan) → plan ≡ Some p → (path : Path) → LastTaken path (all_of_sets (steps_of_plan p) ++ state_steps state remembered.stale r.is.writes.0 h.text) → LastTaken path (all_of_sets ready.steps ++ state_steps ready.writing.state ready.writing.stale ready.writing.dirs h.text)
     steps_are p e path last =

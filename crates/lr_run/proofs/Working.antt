@@ -2,7 +2,7 @@
 use Rattle.std.proofs.Common.{◌≡◌, ◌⊎◌, inl, inr, ℕ, true, List, [], ◌∷◌, reverse, Option, refl, sym, ap, ◌∙◌, subst}
 use Rattle.std.proofs.lemmas.List.{reverse-reverse}
 use Rattle.lr_rules.specs.declared.path.Path.{Path}
-use Rattle.lr_rules.specs.declared.civil.Moment.{Moment}
+use Rattle.lr_rules.specs.declared.clock.Clock.{Clock}
 use Rattle.lr_rules.specs.declared.rules.Rules.{Rules}
 use Rattle.lr_rules.specs.declared.fault.Fault.{Fault}
 use Rattle.lr_rules.specs.declared.fault.Phase.{Phase}
@@ -141,14 +141,14 @@ pub goes_on : {P : List Entry → Type 0} {o n : Option Journal} → Left P o n 
 goes_on not_told f r = tt
 goes_on (is_told {j = j} {k = k} {es = es} m h) f r = made_on (past j) (past k) es m (each_in_order IsWork es (f (reverse es) h)) r
 
-started : (p q : Past) (state : Path) (now : Moment) (rules : Rules) (es : List Entry) → es ≡ entry.Starts state now rules ∷ [] → Made p es q → IsOn q
-started p _ state now rules _ e at_first = absurd (cc)
-started p _ state now rules es e (by_writer {q = q} {e = d} m i f) = writes_on q d i (started p q state now rules es e m)
-started p _ state now rules _ e (by_tool {es = es} {q = q} {e = d} m i f) = subst (λ (x : Entry). IsOn (q ▸ x)) (sym same) refl
+started : (p q : Past) (state : Path) (clock : Clock) (rules : Rules) (es : List Entry) → es ≡ entry.Starts state clock.now rules ∷ [] → Made p es q → IsOn q
+started p _ state clock rules _ e at_first = absurd (cc)
+started p _ state clock rules es e (by_writer {q = q} {e = d} m i f) = writes_on q d i (started p q state clock rules es e m)
+started p _ state clock rules _ e (by_tool {es = es} {q = q} {e = d} m i f) = subst (λ (x : Entry). IsOn (q ▸ x)) (sym same) refl
   where
-    same : d ≡ entry.Starts state now rules
+    same : d ≡ entry.Starts state clock.now rules
     same = cc
 
-pub is_on : (state : Path) (now : Moment) (rules : Rules) {o n : Option Journal} → Left (Are (entry.Starts state now rules ∷ [])) o n → WhereTold n IsOn
-is_on state now rules not_told = tt
-is_on state now rules (is_told {j = j} {k = k} {es = es} m h) = started (past j) (past k) state now rules es (sym (reverse-reverse es) ∙ ap reverse h) m
+pub is_on : (state : Path) (clock : Clock) (rules : Rules) {o n : Option Journal} → Left (Are (entry.Starts state clock.now rules ∷ [])) o n → WhereTold n IsOn
+is_on state clock rules not_told = tt
+is_on state clock rules (is_told {j = j} {k = k} {es = es} m h) = started (past j) (past k) state clock rules es (sym (reverse-reverse es) ∙ ap reverse h) m

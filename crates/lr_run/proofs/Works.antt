@@ -1,22 +1,23 @@
 -- The work of a run, put together of its parts.
 use Rattle.std.proofs.Common.{◌≡◌, ◌≤◌, ◌<◌, ℕ, Bool, true, false, cond, List, [], ◌∷◌, ◌++◌, length, take, map, reverse, Option, Some, None, Result, Ok, Err, OnErr, refl, sym, ap, ◌∙◌, subst, arith, append_assoc, rules}
-use Rattle.std.specs.Prelude.{OnOk}
+use Rattle.std.specs.Prelude.{OnOk, ℤ}
 use Rattle.std.specs.Result.{IsErr}
 use Rattle.std.proofs.lemmas.Result.{IfOk-from_err}
 use Rattle.std.specs.List.{list_all}
 use Rattle.std.proofs.lemmas.Bool.{and_parts}
 use Rattle.std.proofs.lemmas.List.{append-nil}
-use Rattle.std.proofs.lemmas.List.Elements.{All-head, All-tail}
 use Rattle.std.proofs.Math.Seq.{take-length}
 use Rattle.lr_rules.specs.Limits.{meets_limits}
 use Rattle.lr_rules.specs.declared.path.Path.{Path}
 use Rattle.lr_rules.specs.declared.civil.Civil.{Civil}
-use Rattle.lr_rules.specs.declared.civil.Moment.{Moment}
+use Rattle.lr_rules.specs.declared.clock.Clock.{Clock}
 use Rattle.lr_rules.specs.declared.fault.CallKind.{CallKind}
 use Rattle.lr_rules.specs.declared.fault.Fault.{Fault}
 use Rattle.lr_rules.specs.declared.fault.Fault.TheVariants as fault
 use Rattle.lr_rules.specs.declared.fault.StateKind.TheVariants as kind
 use Rattle.lr_rules.specs.declared.memory.Memory.{Memory}
+use Rattle.lr_rules.specs.declared.rule.Format.{Format}
+use Rattle.lr_rules.specs.declared.rule.Naming.{Naming}
 use Rattle.lr_rules.specs.declared.rule.Rule.{Rule}
 use Rattle.lr_rules.specs.declared.rules.Rules.{Rules}
 use Rattle.lr_host.specs.declared.entry.Entry.{Entry}
@@ -25,11 +26,16 @@ use Rattle.lr_host.specs.Opening.{IsJournal}
 use Rattle.lr_host.specs.Told.{Counts, NoneFell, Rose, Left, Then, not_told, is_told, WhereTold}
 use Rattle.lr_host.specs.Steps.{CanAll}
 use Rattle.lr_host.proofs.Left.{left_as, left_first, left_then}
+use Rattle.lr_stamps.specs.Dated.{clock_seconds}
 use Rattle.lr_state.specs.Table.{Entry as Row}
 use Rattle.lr_state.specs.Written.{text_of}
 use Rattle.lr_due.specs.declared.answer.Due.{Due}
 use Rattle.lr_due.specs.declared.answer.Due.TheVariants as due
+use Rattle.lr_family.specs.declared.stand.Member.{Member}
+use Rattle.lr_family.specs.declared.stand.Stand.{Stand}
 use Rattle.lr_chain.specs.Ready.{highest_path}
+use Rattle.lr_dated_chain.specs.Next.{has_serials}
+use Rattle.lr_dated_ready.specs.Hindrances.{is_stamp, fault_at, too_high, taken, dated_hindrances}
 use Rattle.lr_plan.specs.Asked.{Asked}
 use Rattle.lr_plan.specs.declared.looks.LogLook.{LogLook}
 use Rattle.lr_plan.specs.declared.looks.Looks.{Looks}
@@ -43,14 +49,14 @@ use Rattle.lr_plan.specs.Course.{Course}
 use Rattle.lr_plan.specs.Done.{SetsDone, rotated_logs}
 use Rattle.lr_plan.specs.Internal.Cut.{SetsCut}
 use Rattle.lr_plan.specs.Internal.Asking.{asks, CanMake, CanEach, CanSet, CanSets}
-use Rattle.lr_plan.specs.Planned.{decision, hindrances, is_too_high, where_due, log_faults, all_plans, all_faults, plan_of, CanPlanAll}
+use Rattle.lr_plan.specs.Planned.{decision, numbered_hindrances, hindrances_by, hindrances, is_too_high, where_due, log_faults, all_plans, all_faults, plan_of, CanPlanAll}
 use Rattle.lr_plan.specs.Steps.{steps_of_set, steps_of_plan, state_steps}
 use Rattle.lr_host.proofs.Counts.{AreFree, free_none, free_on, adds_on, adds_free, adds_call}
 use Rattle.lr_acts.specs.declared.progress.Progress.{Progress}
 use Rattle.lr_acts.specs.Making.{HasProgram, all_of_sets}
 use Rattle.lr_looks.specs.Families.{ShowFamilies, LooksAtFamilies, LookedAtSomeFamilies}
 use Rattle.lr_looks.specs.Found.{FoundLog, paths_of}
-use Rattle.lr_looks.specs.Internal.{AreReady, GoToNumbers}
+use Rattle.lr_looks.specs.Internal.{AreReady}
 use Rattle.lr_looks.specs.Shown.{ShowsLooks, LooksAtAll, ShowsSomeLooks, at_words, at_families}
 use Rattle.lr_looks.proofs.Behind.{as_many_sights}
 use Rattle.lr_reading.specs.declared.remembered.Remembered.{Remembered}
@@ -63,7 +69,6 @@ use Rattle.lr_record.proofs.After.{stamps}
 use Rattle.lr_weave.proofs.Seen.{seen_fit}
 use Rattle.lr_weave.proofs.Sets.{can_sets}
 use Rattle.lr_writing.specs.Target.{Target}
-use Rattle.lr_fields.specs.Built.{IsBuiltRule, AreBuiltRules}
 use Rattle.lr_seen.specs.Free.{reserved_by}
 use Rattle.lr_seen.specs.Targets.{groups_of, all_targets}
 use Rattle.lr_seen.proofs.Apart.{targets_dont_meet}
@@ -77,39 +82,73 @@ use Rattle.lr_run.specs.Runs as runs
 use Rattle.lr_run.specs.Runs.{logs_in, Looked, Worked, worked, too_big, not_known}
 use Rattle.lr_run.proofs.Simple.{AreSimple, plan_simple}
 
--- ---- rules that are built can be planned for
+-- ---- rules within their limits can be planned for
 
-pub can_plan : (rules : List Rule) (sets : List SetLooks) → AreBuiltRules rules → list_all meets_limits rules ≡ true → AreReady sets → GoToNumbers sets → length sets ≡ length rules → CanPlanAll rules sets
-can_plan [] [] b limits r n e = record {}
-can_plan [] (s ∷ ss) b limits r n e = absurd (omega (arith, e))
-can_plan (x ∷ xs) [] b limits r n e = absurd (omega (arith, e))
-can_plan (x ∷ xs) (s ∷ ss) b limits r n e =
+pub can_plan : (rules : List Rule) (sets : List SetLooks) → list_all meets_limits rules ≡ true → AreReady sets → length sets ≡ length rules → CanPlanAll rules sets
+can_plan [] [] limits r e = record {}
+can_plan [] (s ∷ ss) limits r e = absurd (omega (arith, e))
+can_plan (x ∷ xs) [] limits r e = absurd (omega (arith, e))
+can_plan (x ∷ xs) (s ∷ ss) limits r e =
     let both = and_parts (meets_limits x) (list_all meets_limits xs) limits in
-    (can_plan_set x s.logs (All-head IsBuiltRule x xs b) both.0 r.0 n.0, can_plan xs ss (All-tail IsBuiltRule x xs b) both.1 r.1 n.1 (omega (arith, e)))
+    (can_plan_set x s.logs both.0 r.0, can_plan xs ss both.1 r.1 (omega (arith, e)))
 
 -- ---- the faults of a plan
 
-hindered_free : (rule : Rule) (look : LogLook) → AreFree (hindrances rule look)
-hindered_free rule look = go look.stand.there (is_too_high rule look)
+no_dir_free : (dir : Path) → AreFree (fault.NoDir dir ∷ [])
+no_dir_free dir = record { calls = refl; scripts = refl; no_out = ((λ h. h), tt) }
+
+high_free : (path : Path) → AreFree (fault.TooHigh path ∷ [])
+high_free path = record { calls = refl; scripts = refl; no_out = ((λ h. h), tt) }
+
+taken_free : (path : Path) → AreFree (fault.Taken path ∷ [])
+taken_free path = record { calls = refl; scripts = refl; no_out = ((λ h. h), tt) }
+
+-- of a log with numbers
+numbered_free : (rule : Rule) (look : LogLook) → AreFree (numbered_hindrances rule look)
+numbered_free rule look = go look.stand.there (is_too_high rule look)
   where
     go : (a b : Bool) → AreFree (cond a (cond b (fault.TooHigh (highest_path look.family.naming) ∷ []) []) (fault.NoDir look.family.naming.dir ∷ []))
-    go true true = record { calls = refl; scripts = refl; no_out = ((λ h. h), tt) }
+    go true true = high_free (highest_path look.family.naming)
     go true false = free_none
-    go false b = record { calls = refl; scripts = refl; no_out = ((λ h. h), tt) }
+    go false b = no_dir_free look.family.naming.dir
+
+-- of a log with dates
+at_free : (why : Path → Fault) → ((path : Path) → AreFree (why path ∷ [])) → (seconds : ℤ) (serial : ℕ) (ms : List Member) → AreFree (fault_at why seconds serial ms)
+at_free why one seconds serial [] = free_none
+at_free why one seconds serial (m ∷ ms) = go (is_stamp seconds serial m.place) (at_free why one seconds serial ms)
+  where
+    go : (b : Bool) → AreFree (fault_at why seconds serial ms) → AreFree (cond b (why m.path ∷ []) (fault_at why seconds serial ms))
+    go true rest = one m.path
+    go false rest = rest
+
+dated_free : (n : Naming) (stand : Stand) (seconds : ℤ) → AreFree (dated_hindrances n stand seconds)
+dated_free n stand seconds = go stand.there (has_serials n.dated)
+  where
+    go : (a b : Bool) → AreFree (cond a (cond b (fault_at too_high seconds 4294967295 stand.members) (fault_at taken seconds 0 stand.members)) (fault.NoDir n.dir ∷ []))
+    go true true = at_free too_high high_free seconds 4294967295 stand.members
+    go true false = at_free taken taken_free seconds 0 stand.members
+    go false b = no_dir_free n.dir
+
+hindered_free : (clock : Clock) (rule : Rule) (look : LogLook) → AreFree (hindrances clock rule look)
+hindered_free clock rule look = go look.family.naming.dated
+  where
+    go : (d : Option Format) → AreFree (hindrances_by d clock rule look)
+    go None = numbered_free rule look
+    go (Some format) = dated_free look.family.naming look.stand (clock_seconds look.family.naming.dated clock)
 
 due_free : (d : Due) (fs : List Fault) → AreFree fs → AreFree (where_due d fs)
 due_free (due.Yes why) fs h = h
 due_free (due.No why) fs h = free_none
 
-logs_free : (rule : Rule) (decide : LogLook → Due) (looks : List LogLook) → AreFree (log_faults rule decide looks)
-logs_free rule decide [] = free_none
-logs_free rule decide (l ∷ ls) = free_on (where_due (decide l) (hindrances rule l)) (log_faults rule decide ls) (due_free (decide l) (hindrances rule l) (hindered_free rule l)) (logs_free rule decide ls)
+logs_free : (clock : Clock) (rule : Rule) (decide : LogLook → Due) (looks : List LogLook) → AreFree (log_faults clock rule decide looks)
+logs_free clock rule decide [] = free_none
+logs_free clock rule decide (l ∷ ls) = free_on (where_due (decide l) (hindrances clock rule l)) (log_faults clock rule decide ls) (due_free (decide l) (hindrances clock rule l) (hindered_free clock rule l)) (logs_free clock rule decide ls)
 
-pub plan_free : (decide : Rule → LogLook → Due) (rules : List Rule) (sets : List SetLooks) → AreFree (all_faults decide rules sets)
-plan_free decide [] [] = free_none
-plan_free decide [] (s ∷ ss) = free_none
-plan_free decide (r ∷ rs) [] = free_none
-plan_free decide (r ∷ rs) (s ∷ ss) = free_on (log_faults r (decide r) s.logs) (all_faults decide rs ss) (logs_free r (decide r) s.logs) (plan_free decide rs ss)
+pub plan_free : (clock : Clock) (decide : Rule → LogLook → Due) (rules : List Rule) (sets : List SetLooks) → AreFree (all_faults clock decide rules sets)
+plan_free clock decide [] [] = free_none
+plan_free clock decide [] (s ∷ ss) = free_none
+plan_free clock decide (r ∷ rs) [] = free_none
+plan_free clock decide (r ∷ rs) (s ∷ ss) = free_on (log_faults clock r (decide r) s.logs) (all_faults clock decide rs ss) (logs_free clock r (decide r) s.logs) (plan_free clock decide rs ss)
 
 pub none_fell : (k : Counts) → NoneFell k k
 none_fell k = (omega arith, omega arith, omega arith)
@@ -159,37 +198,37 @@ sets_none : (sets : List SetSteps) → CanSets None sets
 sets_none [] = tt
 sets_none (s ∷ ss) = (set_none s, λ now l. sets_at ss (sets_none ss) l.2)
 
-pub fits_behind : (reserved : List Path) (rules : Rules) (looks : Looks) (a b : List Fault) (now : Moment) (mailer : Path) (decide : Rule → LogLook → Due) {o n : Option Journal} → AreBuiltRules rules.sets → WhereTold o IsJournal → Left (LooksAtAll reserved rules.sets looks a b) o n → CanSets n (map steps_of_set (all_plans now mailer decide rules.sets looks.sets))
-fits_behind reserved rules looks a b now mailer decide built disk not_told = sets_none (map steps_of_set (all_plans now mailer decide rules.sets looks.sets))
-fits_behind reserved rules looks a b now mailer decide built disk (is_told {j = j} {k = k} {es = es} m h) =
-    can_sets (Some k) (groups_of now decide rules.sets looks.sets) (all_plans now mailer decide rules.sets looks.sets) (plans_have_logs rules.sets looks.sets h.own (reverse es) now mailer decide built h.shown) (plans_read_own rules.sets looks.sets now mailer decide built)
-    (seen_fit rules now.seconds (all_targets now decide rules.sets looks.sets) (Some j) (Some k) (targets_have_names rules looks.sets h.own (reverse es) now decide built h.shown)
-    (targets_have_paths rules.sets looks.sets h.own (reverse es) now decide h.shown) disk
-    (is_told m (whole_quiet rules.sets looks.sets h.own (reverse es) h.shown, targets_seen rules looks.sets h.own (reverse es) now decide built h.shown)))
-    (targets_dont_meet rules.sets looks.sets h.own (reverse es) now decide h.shown)
+pub fits_behind : (reserved : List Path) (rules : Rules) (looks : Looks) (a b : List Fault) (clock : Clock) (mailer : Path) (decide : Rule → LogLook → Due) {o n : Option Journal} → WhereTold o IsJournal → Left (LooksAtAll reserved rules.sets looks a b) o n → CanSets n (map steps_of_set (all_plans clock mailer decide rules.sets looks.sets))
+fits_behind reserved rules looks a b clock mailer decide disk not_told = sets_none (map steps_of_set (all_plans clock mailer decide rules.sets looks.sets))
+fits_behind reserved rules looks a b clock mailer decide disk (is_told {j = j} {k = k} {es = es} m h) =
+    can_sets (Some k) (groups_of clock decide rules.sets looks.sets) (all_plans clock mailer decide rules.sets looks.sets) (plans_have_logs rules.sets looks.sets h.own (reverse es) clock mailer decide h.shown) (plans_read_own rules.sets looks.sets clock mailer decide)
+    (seen_fit rules clock (all_targets clock decide rules.sets looks.sets) (Some j) (Some k) (targets_have_names rules looks.sets h.own (reverse es) clock decide h.shown)
+    (targets_have_paths rules.sets looks.sets h.own (reverse es) clock decide h.shown) disk
+    (is_told m (whole_quiet rules.sets looks.sets h.own (reverse es) h.shown, targets_seen rules looks.sets h.own (reverse es) clock decide h.shown)))
+    (targets_dont_meet rules.sets looks.sets h.own (reverse es) clock decide h.shown)
 
 -- ---- what is ready can be done
 
-pub steps_simple : (rules : List Rule) (sets : List SetLooks) (table : List Row) (now : Moment) (asked : Asked) → AreSimple (all_of_sets (steps_of_plan (plan_of rules sets table now asked)))
-steps_simple rules sets table now asked = plan_simple now asked.mailer (decision table now asked.force) rules sets
+pub steps_simple : (rules : List Rule) (sets : List SetLooks) (table : List Row) (clock : Clock) (asked : Asked) → AreSimple (all_of_sets (steps_of_plan (plan_of rules sets table clock asked)))
+steps_simple rules sets table clock asked = plan_simple clock asked.mailer (decision table clock.now asked.force) rules sets
 
 -- the steps that are ready are those of the plan
-abbrev pub PlanFor : Rules → Looks → Remembered → Moment → Asked → Plan
-PlanFor rules looks remembered now asked = plan_of rules.sets looks.sets remembered.table now asked
+abbrev pub PlanFor : Rules → Looks → Remembered → Clock → Asked → Plan
+PlanFor rules looks remembered clock asked = plan_of rules.sets looks.sets remembered.table clock asked
 
-pub ready_fit : (reserved : List Path) (rules : Rules) (looks : Looks) (state : Path) (remembered : Remembered) (now : Moment) (asked : Asked) (ready : Ready) (x y : Progress) (a b : List Fault) {o n : Option Journal} → AreBuiltRules rules.sets → WhereTold o IsJournal
-    → ReadyFor state now remembered looks.kept (PlanFor rules looks remembered now asked) ready x y → Left (LooksAtAll reserved rules.sets looks a b) o n → CanSets n ready.steps
-ready_fit reserved rules looks state remembered now asked ready x y a b {n = n} built disk r l = subst (CanSets n) (sym r.is.steps) (fits_behind reserved rules looks a b now asked.mailer (decision remembered.table now asked.force) built disk l)
+pub ready_fit : (reserved : List Path) (rules : Rules) (looks : Looks) (state : Path) (remembered : Remembered) (clock : Clock) (asked : Asked) (ready : Ready) (x y : Progress) (a b : List Fault) {o n : Option Journal} → WhereTold o IsJournal
+    → ReadyFor state clock.now remembered looks.kept (PlanFor rules looks remembered clock asked) ready x y → Left (LooksAtAll reserved rules.sets looks a b) o n → CanSets n ready.steps
+ready_fit reserved rules looks state remembered clock asked ready x y a b {n = n} disk r l = subst (CanSets n) (sym r.is.steps) (fits_behind reserved rules looks a b clock asked.mailer (decision remembered.table clock.now asked.force) disk l)
 
 -- the text was small enough, and all was taken
-pub ready_of : (state : Path) (now : Moment) (remembered : Remembered) (kept logs : List Path) (plan for : Plan) (o : Option Ready) (ready : Ready) (x y : Progress) → kept ≡ logs → plan ≡ for → o ≡ Some ready → MayBeReady state now remembered kept plan o x y
-    → ReadyFor state now remembered logs for ready x y
-ready_of state now remembered kept logs plan for o ready x y k e is h = subst (λ (ls : List Path). ReadyFor state now remembered ls for ready x y) k (subst (λ (p : Plan). ReadyFor state now remembered kept p ready x y) e (subst (λ (m : Option Ready). MayBeReady state now remembered kept plan m x y) is h))
+pub ready_of : (state : Path) (clock : Clock) (remembered : Remembered) (kept logs : List Path) (plan for : Plan) (o : Option Ready) (ready : Ready) (x y : Progress) → kept ≡ logs → plan ≡ for → o ≡ Some ready → MayBeReady state clock.now remembered kept plan o x y
+    → ReadyFor state clock.now remembered logs for ready x y
+ready_of state clock remembered kept logs plan for o ready x y k e is h = subst (λ (ls : List Path). ReadyFor state clock.now remembered ls for ready x y) k (subst (λ (p : Plan). ReadyFor state clock.now remembered kept p ready x y) e (subst (λ (m : Option Ready). MayBeReady state clock.now remembered kept plan m x y) is h))
 
 -- it wasn't
-pub not_ready : (state : Path) (now : Moment) (remembered : Remembered) (kept logs : List Path) (plan for : Plan) (o : Option Ready) (x y : Progress) → kept ≡ logs → plan ≡ for → o ≡ None → MayBeReady state now remembered kept plan o x y
-    → (67_108_864 < length (measured_text (logs_in for) now.civil (after remembered.table [] logs now.civil))) × (y ≡ x)
-not_ready state now remembered kept logs plan for o x y k e is h = subst (λ (ls : List Path). MayBeReady state now remembered ls for None x y) k (subst (λ (p : Plan). MayBeReady state now remembered kept p None x y) e (subst (λ (m : Option Ready). MayBeReady state now remembered kept plan m x y) is h))
+pub not_ready : (state : Path) (clock : Clock) (remembered : Remembered) (kept logs : List Path) (plan for : Plan) (o : Option Ready) (x y : Progress) → kept ≡ logs → plan ≡ for → o ≡ None → MayBeReady state clock.now remembered kept plan o x y
+    → (67_108_864 < length (measured_text (logs_in for) clock.now.civil (after remembered.table [] logs clock.now.civil))) × (y ≡ x)
+not_ready state clock remembered kept logs plan for o x y k e is h = subst (λ (ls : List Path). MayBeReady state clock.now remembered ls for None x y) k (subst (λ (p : Plan). MayBeReady state clock.now remembered kept p None x y) e (subst (λ (m : Option Ready). MayBeReady state clock.now remembered kept plan m x y) is h))
 
 -- ---- the work
 
@@ -200,15 +239,15 @@ writes_state : (state : Path) (stale : Bool) (plan : Plan) (written : Target) (t
 writes_state state stale plan written text new fs ts w e c =
     subst (λ (t : List ℕ). Course (state_steps state stale w.0 t) [] fs ts) e (subst (λ (x : Target). Course (state_steps x.state x.stale x.dirs text) [] fs ts) w.2 c)
 
-abbrev acted : (state : Path) (rules : Rules) (looks : Looks) (remembered : Remembered) (now : Moment) (asked : Asked) (ready : Ready) (x y : Progress) (sights : StateSights) (reads ls us : List Entry) (of_looks : List Fault) (marks : List Mark) (of_plan of_state : List Fault)
-    → ReadyFor state now remembered looks.kept (PlanFor rules looks remembered now asked) ready x y → IsKnown state sights (Ok remembered) → ShowsState state 65_536 sights reads
+abbrev acted : (state : Path) (rules : Rules) (looks : Looks) (remembered : Remembered) (clock : Clock) (asked : Asked) (ready : Ready) (x y : Progress) (sights : StateSights) (reads ls us : List Entry) (of_looks : List Fault) (marks : List Mark) (of_plan of_state : List Fault)
+    → ReadyFor state clock.now remembered looks.kept (PlanFor rules looks remembered clock asked) ready x y → IsKnown state sights (Ok remembered) → ShowsState state 65_536 sights reads
     → (shown : ShowsLooks (reserved_by state) rules.sets looks.sets of_looks ls) → looks.kept ≡ paths_of shown.kept
-    → Then (SetsDone ready.steps marks of_plan) (Course (state_steps ready.writing.state ready.writing.stale ready.writing.dirs (text_of (map (stamped (rotated_logs marks) now.civil) ready.table))) [] of_state) us
-    → Worked state rules.sets now asked (of_looks ++ ((PlanFor rules looks remembered now asked).faults ++ (of_plan ++ of_state))) (reads ++ (ls ++ us))
-acted state rules looks remembered now asked ready x y sights reads ls us of_looks marks of_plan of_state r known read shown kept t = record {
+    → Then (SetsDone ready.steps marks of_plan) (Course (state_steps ready.writing.state ready.writing.stale ready.writing.dirs (text_of (map (stamped (rotated_logs marks) clock.now.civil) ready.table))) [] of_state) us
+    → Worked state rules.sets clock asked (of_looks ++ ((PlanFor rules looks remembered clock asked).faults ++ (of_plan ++ of_state))) (reads ++ (ls ++ us))
+acted state rules looks remembered clock asked ready x y sights reads ls us of_looks marks of_plan of_state r known read shown kept t = record {
   looked = record { sights = sights; remembered = remembered; known = known; sets = looks.sets; of_looks = of_looks; reads = reads; looks = ls; acts = us; joined = refl; read = read; shown = shown };
   acted = record {
-    small = subst (λ (ks : List Path). length (measured_text (logs_in (PlanFor rules looks remembered now asked)) now.civil (after remembered.table [] ks now.civil)) ≤ 67_108_864) kept r.small;
+    small = subst (λ (ks : List Path). length (measured_text (logs_in (PlanFor rules looks remembered clock asked)) clock.now.civil (after remembered.table [] ks clock.now.civil)) ≤ 67_108_864) kept r.small;
     dirs = r.is.writes.0;
     dirs_are = r.is.writes.1;
     marks = marks;
@@ -223,50 +262,50 @@ acted state rules looks remembered now asked ready x y sights reads ls us of_loo
         back = t.back;
         joined = t.joined;
         first = subst (λ (ss : List SetSteps). SetsDone ss marks of_plan t.front) r.is.steps t.first;
-        second = writes_state state remembered.stale (PlanFor rules looks remembered now asked) ready.writing (text_of (map (stamped (rotated_logs marks) now.civil) ready.table)) (text_of (after remembered.table (rotated_logs marks) (paths_of shown.kept) now.civil)) of_state t.back
+        second = writes_state state remembered.stale (PlanFor rules looks remembered clock asked) ready.writing (text_of (map (stamped (rotated_logs marks) clock.now.civil) ready.table)) (text_of (after remembered.table (rotated_logs marks) (paths_of shown.kept) clock.now.civil)) of_state t.back
             r.is.writes
-            (state_text_is now.civil (rotated_logs marks) looks.kept remembered.table ready.table r.is.table_is ∙ ap (λ (ks : List Path). text_of (after remembered.table (rotated_logs marks) ks now.civil)) kept)
+            (state_text_is clock.now.civil (rotated_logs marks) looks.kept remembered.table ready.table r.is.table_is ∙ ap (λ (ks : List Path). text_of (after remembered.table (rotated_logs marks) ks clock.now.civil)) kept)
             t.second;
       };
     };
   };
 }
 
-pub carried_out : {T : Type 0} (r : Result T Memory) (state : Path) (rules : Rules) (looks : Looks) (remembered : Remembered) (now : Moment) (asked : Asked) (plan : Option Plan) (ready : Ready) (x y z : Progress) (m n : Option Journal) (k l : Counts)
-    → plan ≡ Some (PlanFor rules looks remembered now asked) → ReadyFor state now remembered looks.kept (PlanFor rules looks remembered now asked) ready x y → OnOk r (ActsAndWrites ready now.civil y z m n k l)
-    → OnOk r (Carries rules looks state remembered now asked plan x.faults.items z.faults.items m n)
-carried_out (Ok u) state rules looks remembered now asked plan ready x y z m n k l is r h = left_as h.entries (λ us t. record {
-  own = (PlanFor rules looks remembered now asked).faults ++ (h.of_plan ++ h.of_state);
-  faults_are = h.faults_are ∙ (ap (λ (fs : List Fault). fs ++ (h.of_plan ++ h.of_state)) r.is.faults ∙ append_assoc x.faults.items (PlanFor rules looks remembered now asked).faults (h.of_plan ++ h.of_state));
-  works = λ sights reads ls own known read shown kept. worked (acted state rules looks remembered now asked ready x y sights reads ls us own h.marks h.of_plan h.of_state r known read shown kept t) is;
+pub carried_out : {T : Type 0} (r : Result T Memory) (state : Path) (rules : Rules) (looks : Looks) (remembered : Remembered) (clock : Clock) (asked : Asked) (plan : Option Plan) (ready : Ready) (x y z : Progress) (m n : Option Journal) (k l : Counts)
+    → plan ≡ Some (PlanFor rules looks remembered clock asked) → ReadyFor state clock.now remembered looks.kept (PlanFor rules looks remembered clock asked) ready x y → OnOk r (ActsAndWrites ready clock.now.civil y z m n k l)
+    → OnOk r (Carries rules looks state remembered clock asked plan x.faults.items z.faults.items m n)
+carried_out (Ok u) state rules looks remembered clock asked plan ready x y z m n k l is r h = left_as h.entries (λ us t. record {
+  own = (PlanFor rules looks remembered clock asked).faults ++ (h.of_plan ++ h.of_state);
+  faults_are = h.faults_are ∙ (ap (λ (fs : List Fault). fs ++ (h.of_plan ++ h.of_state)) r.is.faults ∙ append_assoc x.faults.items (PlanFor rules looks remembered clock asked).faults (h.of_plan ++ h.of_state));
+  works = λ sights reads ls own known read shown kept. worked (acted state rules looks remembered clock asked ready x y sights reads ls us own h.marks h.of_plan h.of_state r known read shown kept t) is;
 })
-carried_out (Err u) state rules looks remembered now asked plan ready x y z m n k l is r h = tt
+carried_out (Err u) state rules looks remembered clock asked plan ready x y z m n k l is r h = tt
 
-pub too_big_told : {T E : Type 0} (r : Result T E) (state : Path) (rules : Rules) (looks : Looks) (remembered : Remembered) (now : Moment) (asked : Asked) (plan : Option Plan) (x y : Progress) (b : List Fault) (o : Option Journal)
-    → plan ≡ None → (67_108_864 < length (measured_text (logs_in (PlanFor rules looks remembered now asked)) now.civil (after remembered.table [] looks.kept now.civil))) × (y ≡ x) → OnOk r (b ≡ y.faults.items ++ fault.State 0 kind.TooBig ∷ [])
-    → OnOk r (Carries rules looks state remembered now asked plan x.faults.items b o o)
-too_big_told (Ok u) state rules looks remembered now asked plan x y b o none big e = left_first (CarriesOn rules looks state remembered now asked plan x.faults.items b) o (record {
+pub too_big_told : {T E : Type 0} (r : Result T E) (state : Path) (rules : Rules) (looks : Looks) (remembered : Remembered) (clock : Clock) (asked : Asked) (plan : Option Plan) (x y : Progress) (b : List Fault) (o : Option Journal)
+    → plan ≡ None → (67_108_864 < length (measured_text (logs_in (PlanFor rules looks remembered clock asked)) clock.now.civil (after remembered.table [] looks.kept clock.now.civil))) × (y ≡ x) → OnOk r (b ≡ y.faults.items ++ fault.State 0 kind.TooBig ∷ [])
+    → OnOk r (Carries rules looks state remembered clock asked plan x.faults.items b o o)
+too_big_told (Ok u) state rules looks remembered clock asked plan x y b o none big e = left_first (CarriesOn rules looks state remembered clock asked plan x.faults.items b) o (record {
   own = fault.State 0 kind.TooBig ∷ [];
   faults_are = e ∙ ap (λ (p : Progress). p.faults.items ++ fault.State 0 kind.TooBig ∷ []) big.1;
   works = λ sights reads ls own known read shown kept. too_big (record { sights = sights; remembered = remembered; known = known; sets = looks.sets; of_looks = own; reads = reads; looks = ls; acts = []; joined = refl; read = read; shown = shown })
-      (subst (λ (ks : List Path). 67_108_864 < length (measured_text (logs_in (PlanFor rules looks remembered now asked)) now.civil (after remembered.table [] ks now.civil))) kept big.0) none refl refl;
+      (subst (λ (ks : List Path). 67_108_864 < length (measured_text (logs_in (PlanFor rules looks remembered clock asked)) clock.now.civil (after remembered.table [] ks clock.now.civil))) kept big.0) none refl refl;
 })
-too_big_told (Err u) state rules looks remembered now asked plan x y b o none big e = tt
+too_big_told (Err u) state rules looks remembered clock asked plan x y b o none big e = tt
 
-pub looked_done : {T E : Type 0} (r : Result T E) (state : Path) (rules : Rules) (looks : Looks) (remembered : Remembered) (now : Moment) (asked : Asked) (plan : Option Plan) (a b c : List Fault) {o m : Option Journal} (n : Option Journal) → Left (LooksAtAll (reserved_by state) rules.sets looks a b) o m
-    → OnOk r (Carries rules looks state remembered now asked plan b c m n) → OnOk r (LookedDone state rules.sets now asked remembered plan a c o n)
-looked_done (Ok u) state rules looks remembered now asked plan a b c n l h = left_then l h (λ ts us g q. record {
+pub looked_done : {T E : Type 0} (r : Result T E) (state : Path) (rules : Rules) (looks : Looks) (remembered : Remembered) (clock : Clock) (asked : Asked) (plan : Option Plan) (a b c : List Fault) {o m : Option Journal} (n : Option Journal) → Left (LooksAtAll (reserved_by state) rules.sets looks a b) o m
+    → OnOk r (Carries rules looks state remembered clock asked plan b c m n) → OnOk r (LookedDone state rules.sets clock asked remembered plan a c o n)
+looked_done (Ok u) state rules looks remembered clock asked plan a b c n l h = left_then l h (λ ts us g q. record {
   own = g.own ++ q.own;
   faults_are = q.faults_are ∙ (ap (λ (fs : List Fault). fs ++ q.own) g.faults_are ∙ append_assoc a g.own q.own);
   works = λ sights reads known shown. q.works sights reads ts g.own known shown g.shown g.kept_are;
 })
-looked_done (Err u) state rules looks remembered now asked plan a b c n l h = tt
+looked_done (Err u) state rules looks remembered clock asked plan a b c n l h = tt
 
-pub carried_counted : {T : Type 0} (r : Result T Memory) (state : Path) (rules : Rules) (looks : Looks) (remembered : Remembered) (now : Moment) (asked : Asked) (ready : Ready) (x y z : Progress) (m n : Option Journal) (k l : Counts)
-    → ReadyFor state now remembered looks.kept (PlanFor rules looks remembered now asked) ready x y → OnOk r (ActsAndWrites ready now.civil y z m n k l) → OnOk r (AddsFaults x.faults.items z.faults.items k l)
-carried_counted (Ok u) state rules looks remembered now asked ready x y z m n k l r h =
-    adds_on x.faults.items y.faults.items z.faults.items k k l (adds_free x.faults.items y.faults.items (PlanFor rules looks remembered now asked).faults k k r.is.faults (plan_free (decision remembered.table now asked.force) rules.sets looks.sets) (none_fell k)) (record { added = h.of_plan ++ h.of_state; after_is = h.faults_are; are_counted = h.are_counted })
-carried_counted (Err u) state rules looks remembered now asked ready x y z m n k l r h = tt
+pub carried_counted : {T : Type 0} (r : Result T Memory) (state : Path) (rules : Rules) (looks : Looks) (remembered : Remembered) (clock : Clock) (asked : Asked) (ready : Ready) (x y z : Progress) (m n : Option Journal) (k l : Counts)
+    → ReadyFor state clock.now remembered looks.kept (PlanFor rules looks remembered clock asked) ready x y → OnOk r (ActsAndWrites ready clock.now.civil y z m n k l) → OnOk r (AddsFaults x.faults.items z.faults.items k l)
+carried_counted (Ok u) state rules looks remembered clock asked ready x y z m n k l r h =
+    adds_on x.faults.items y.faults.items z.faults.items k k l (adds_free x.faults.items y.faults.items (PlanFor rules looks remembered clock asked).faults k k r.is.faults (plan_free clock (decision remembered.table clock.now asked.force) rules.sets looks.sets) (none_fell k)) (record { added = h.of_plan ++ h.of_state; after_is = h.faults_are; are_counted = h.are_counted })
+carried_counted (Err u) state rules looks remembered clock asked ready x y z m n k l r h = tt
 
 pub too_big_counted : {T E : Type 0} (r : Result T E) (a b : List Fault) (k : Counts) → OnOk r (b ≡ a ++ fault.State 0 kind.TooBig ∷ []) → OnOk r (AddsFaults a b k k)
 too_big_counted (Ok u) a b k e = adds_free a b (fault.State 0 kind.TooBig ∷ []) k k e (record { calls = refl; scripts = refl; no_out = ((λ h. h), tt) }) (none_fell k)
@@ -278,13 +317,13 @@ looked_counted (Err u) a b c k l m h g = tt
 
 -- ---- behind the reading
 
-pub known_done : {T E : Type 0} (r : Result T E) (state : Path) (rules : List Rule) (now : Moment) (asked : Asked) (remembered : Remembered) (plan : Option Plan) (a b : List Fault) {o m : Option Journal} (n : Option Journal) → Left (ReadsState state 65_536 (Ok (Ok remembered))) o m
-    → OnOk r (LookedDone state rules now asked remembered plan a b m n) → OnOk r (WorkDone state rules now asked plan a b o n)
-known_done (Ok u) state rules now asked remembered plan a b n l h = left_then l h (λ ts us p q. (q.own, q.faults_are, q.works p.sights ts p.known p.shown))
-known_done (Err u) state rules now asked remembered plan a b n l h = tt
+pub known_done : {T E : Type 0} (r : Result T E) (state : Path) (rules : List Rule) (clock : Clock) (asked : Asked) (remembered : Remembered) (plan : Option Plan) (a b : List Fault) {o m : Option Journal} (n : Option Journal) → Left (ReadsState state 65_536 (Ok (Ok remembered))) o m
+    → OnOk r (LookedDone state rules clock asked remembered plan a b m n) → OnOk r (WorkDone state rules clock asked plan a b o n)
+known_done (Ok u) state rules clock asked remembered plan a b n l h = left_then l h (λ ts us p q. (q.own, q.faults_are, q.works p.sights ts p.known p.shown))
+known_done (Err u) state rules clock asked remembered plan a b n l h = tt
 
-pub unknown_done : (state : Path) (rules : List Rule) (now : Moment) (asked : Asked) (plan : Option Plan) (f : Fault) (a b : List Fault) {o n : Option Journal} → plan ≡ None → Left (ReadsState state 65_536 (Ok (Err f))) o n → b ≡ a ++ f ∷ [] → WorkDone state rules now asked plan a b o n
-unknown_done state rules now asked plan f a b none l e = left_as l (λ ts p. (f ∷ [], e, not_known p.sights f p.known none refl p.shown))
+pub unknown_done : (state : Path) (rules : List Rule) (clock : Clock) (asked : Asked) (plan : Option Plan) (f : Fault) (a b : List Fault) {o n : Option Journal} → plan ≡ None → Left (ReadsState state 65_536 (Ok (Err f))) o n → b ≡ a ++ f ∷ [] → WorkDone state rules clock asked plan a b o n
+unknown_done state rules clock asked plan f a b none l e = left_as l (λ ts p. (f ∷ [], e, not_known p.sights f p.known none refl p.shown))
 
 abbrev pub none_sights : StateSights
 none_sights = record { state = Failed; part = Failed; reading = Broken [] }
@@ -306,9 +345,9 @@ reads_none state answer e = record { sights = none_sights; shown = none_shown st
 -- ---- where there was no memory
 
 -- nothing was done behind the looks
-pub none_acted : {T E : Type 0} (r : Result T E) (rules : Rules) (looks : Looks) (state : Path) (remembered : Remembered) (now : Moment) (asked : Asked) (o : Option Journal) → OnErr r (Left (EndsBehindLooks rules looks state remembered now asked) o o)
-none_acted (Ok x) rules looks state remembered now asked o = tt
-none_acted (Err x) rules looks state remembered now asked o = left_first (EndsBehindLooks rules looks state remembered now asked) o (record {
+pub none_acted : {T E : Type 0} (r : Result T E) (rules : Rules) (looks : Looks) (state : Path) (remembered : Remembered) (clock : Clock) (asked : Asked) (o : Option Journal) → OnErr r (Left (EndsBehindLooks rules looks state remembered clock asked) o o)
+none_acted (Ok x) rules looks state remembered clock asked o = tt
+none_acted (Err x) rules looks state remembered clock asked o = left_first (EndsBehindLooks rules looks state remembered clock asked) o (record {
   some = λ sights reads ls of_looks known read shown kept. some_seen (runs.of_looks sights remembered known (record {
     front = reads;
     back = ls ++ [];
@@ -319,13 +358,13 @@ none_acted (Err x) rules looks state remembered now asked o = left_first (EndsBe
 })
 
 -- of the acts a first part was
-pub some_acted : {T E : Type 0} (r : Result T E) (state : Path) (rules : Rules) (looks : Looks) (remembered : Remembered) (now : Moment) (asked : Asked) (ready : Ready) (x y : Progress) (m n : Option Journal)
-    → ReadyFor state now remembered looks.kept (PlanFor rules looks remembered now asked) ready x y → OnErr r (HasProgram (all_of_sets ready.steps)) → OnErr r (Left (SomeActs ready.steps) m n) → OnErr r (Left (EndsBehindLooks rules looks state remembered now asked) m n)
-some_acted (Ok u) state rules looks remembered now asked ready x y m n r p h = tt
-some_acted (Err u) state rules looks remembered now asked ready x y m n r p h = left_as h (λ us c. record {
+pub some_acted : {T E : Type 0} (r : Result T E) (state : Path) (rules : Rules) (looks : Looks) (remembered : Remembered) (clock : Clock) (asked : Asked) (ready : Ready) (x y : Progress) (m n : Option Journal)
+    → ReadyFor state clock.now remembered looks.kept (PlanFor rules looks remembered clock asked) ready x y → OnErr r (HasProgram (all_of_sets ready.steps)) → OnErr r (Left (SomeActs ready.steps) m n) → OnErr r (Left (EndsBehindLooks rules looks state remembered clock asked) m n)
+some_acted (Ok u) state rules looks remembered clock asked ready x y m n r p h = tt
+some_acted (Err u) state rules looks remembered clock asked ready x y m n r p h = left_as h (λ us c. record {
   some = λ sights reads ls of_looks known read shown kept. some_done (record {
     looked = record { sights = sights; remembered = remembered; known = known; sets = looks.sets; of_looks = of_looks; reads = reads; looks = ls; acts = us; joined = refl; read = read; shown = shown };
-    small = subst (λ (ks : List Path). length (measured_text (logs_in (PlanFor rules looks remembered now asked)) now.civil (after remembered.table [] ks now.civil)) ≤ 67_108_864) kept r.small;
+    small = subst (λ (ks : List Path). length (measured_text (logs_in (PlanFor rules looks remembered clock asked)) clock.now.civil (after remembered.table [] ks clock.now.civil)) ≤ 67_108_864) kept r.small;
     program = subst (λ (ss : List SetSteps). HasProgram (all_of_sets ss)) r.is.steps p;
     marks = c.marks;
     of_acts = c.faults;
@@ -344,30 +383,30 @@ some_looked (Ok x) state reserved rules e l = tt
 some_looked (Err x) state reserved rules e l = left_as l (λ ts h. subst (λ (ps : List Path). ShowsSomeLooks ps rules ts) e h)
 
 -- a first part of the looks was made, or none
-pub lacks_looks : {T E : Type 0} (r : Result T E) (state : Path) (rules : List Rule) (now : Moment) (asked : Asked) (remembered : Remembered) {o n : Option Journal} → Left (ShowsSomeLooks (reserved_by state) rules) o n → OnErr r (Left (EndsBehindState state rules now asked remembered) o n)
-lacks_looks (Ok x) state rules now asked remembered l = tt
-lacks_looks (Err x) state rules now asked remembered l = left_as l (λ us h. record {
+pub lacks_looks : {T E : Type 0} (r : Result T E) (state : Path) (rules : List Rule) (clock : Clock) (asked : Asked) (remembered : Remembered) {o n : Option Journal} → Left (ShowsSomeLooks (reserved_by state) rules) o n → OnErr r (Left (EndsBehindState state rules clock asked remembered) o n)
+lacks_looks (Ok x) state rules clock asked remembered l = tt
+lacks_looks (Err x) state rules clock asked remembered l = left_as l (λ us h. record {
   some = λ sights reads known read. some_seen (runs.of_looks sights remembered known (record { front = reads; back = us; joined = refl; first = read; second = h }));
 })
 
 -- it ended behind the looks
-pub behind_looks : {T E : Type 0} (r : Result T E) (state : Path) (rules : Rules) (looks : Looks) (remembered : Remembered) (now : Moment) (asked : Asked) (a b : List Fault) {o m : Option Journal} (n : Option Journal) → Left (LooksAtAll (reserved_by state) rules.sets looks a b) o m
-    → OnErr r (Left (EndsBehindLooks rules looks state remembered now asked) m n) → OnErr r (Left (EndsBehindState state rules.sets now asked remembered) o n)
-behind_looks (Ok x) state rules looks remembered now asked a b n l h = tt
-behind_looks (Err x) state rules looks remembered now asked a b n l h = left_then l h (λ ts us g q. record { some = λ sights reads known read. q.some sights reads ts g.own known read g.shown g.kept_are })
+pub behind_looks : {T E : Type 0} (r : Result T E) (state : Path) (rules : Rules) (looks : Looks) (remembered : Remembered) (clock : Clock) (asked : Asked) (a b : List Fault) {o m : Option Journal} (n : Option Journal) → Left (LooksAtAll (reserved_by state) rules.sets looks a b) o m
+    → OnErr r (Left (EndsBehindLooks rules looks state remembered clock asked) m n) → OnErr r (Left (EndsBehindState state rules.sets clock asked remembered) o n)
+behind_looks (Ok x) state rules looks remembered clock asked a b n l h = tt
+behind_looks (Err x) state rules looks remembered clock asked a b n l h = left_then l h (λ ts us g q. record { some = λ sights reads known read. q.some sights reads ts g.own known read g.shown g.kept_are })
 
 -- nothing was read of the state
-pub none_seen : {T E : Type 0} (r : Result T E) (state : Path) (rules : List Rule) (now : Moment) (asked : Asked) (o : Option Journal) → OnErr r (Left (SomeWork state rules now asked) o o)
-none_seen (Ok u) state rules now asked o = tt
-none_seen (Err u) state rules now asked o = left_first (SomeWork state rules now asked) o (some_seen (runs.of_state none_sights (none_shown state)))
+pub none_seen : {T E : Type 0} (r : Result T E) (state : Path) (rules : List Rule) (clock : Clock) (asked : Asked) (o : Option Journal) → OnErr r (Left (SomeWork state rules clock asked) o o)
+none_seen (Ok u) state rules clock asked o = tt
+none_seen (Err u) state rules clock asked o = left_first (SomeWork state rules clock asked) o (some_seen (runs.of_state none_sights (none_shown state)))
 
 -- a first part of it was read
-pub some_read : {T E : Type 0} (r : Result T E) (state : Path) (rules : List Rule) (now : Moment) (asked : Asked) (m : Memory) {o n : Option Journal} → Left (ReadsState state 65_536 (Err m)) o n → OnErr r (Left (SomeWork state rules now asked) o n)
-some_read (Ok u) state rules now asked m l = tt
-some_read (Err u) state rules now asked m l = left_as l (λ ts p. some_seen (runs.of_state p.sights p.shown))
+pub some_read : {T E : Type 0} (r : Result T E) (state : Path) (rules : List Rule) (clock : Clock) (asked : Asked) (m : Memory) {o n : Option Journal} → Left (ReadsState state 65_536 (Err m)) o n → OnErr r (Left (SomeWork state rules clock asked) o n)
+some_read (Ok u) state rules clock asked m l = tt
+some_read (Err u) state rules clock asked m l = left_as l (λ ts p. some_seen (runs.of_state p.sights p.shown))
 
 -- it ended behind the reading
-pub behind_state : {T E : Type 0} (r : Result T E) (state : Path) (rules : List Rule) (now : Moment) (asked : Asked) (remembered : Remembered) {o m : Option Journal} (n : Option Journal) → Left (ReadsState state 65_536 (Ok (Ok remembered))) o m
-    → OnErr r (Left (EndsBehindState state rules now asked remembered) m n) → OnErr r (Left (SomeWork state rules now asked) o n)
-behind_state (Ok u) state rules now asked remembered n l h = tt
-behind_state (Err u) state rules now asked remembered n l h = left_then l h (λ ts us p q. q.some p.sights ts p.known p.shown)
+pub behind_state : {T E : Type 0} (r : Result T E) (state : Path) (rules : List Rule) (clock : Clock) (asked : Asked) (remembered : Remembered) {o m : Option Journal} (n : Option Journal) → Left (ReadsState state 65_536 (Ok (Ok remembered))) o m
+    → OnErr r (Left (EndsBehindState state rules clock asked remembered) m n) → OnErr r (Left (SomeWork state rules clock asked) o n)
+behind_state (Ok u) state rules clock asked remembered n l h = tt
+behind_state (Err u) state rules clock asked remembered n l h = left_then l h (λ ts us p q. q.some p.sights ts p.known p.shown)

@@ -4,6 +4,7 @@ use Rattle.std.specs.Vec.{vec_capacity}
 use Rattle.lr_rules.specs.declared.path.Path.{Path}
 use Rattle.lr_rules.specs.declared.civil.Civil.{Civil}
 use Rattle.lr_rules.specs.declared.civil.Moment.{Moment}
+use Rattle.lr_rules.specs.declared.clock.Clock.{Clock}
 use Rattle.lr_rules.specs.declared.rule.Rule.{Rule}
 use Rattle.lr_rules.specs.declared.rules.Rules.{Rules}
 use Rattle.lr_rules.specs.Path.{parent_of}
@@ -119,30 +120,30 @@ pub record SeenBefore (state : Path) (rules : Rules) (looks : Looks) (remembered
   pub looked : Left (LooksAtAll (reserved_by state) rules.sets looks faults all_faults) middle told
 
 -- What follows from the looks was done, whatever of them is shown before: it came to this plan, and its faults were added.
-pub record CarriesOn (rules : Rules) (looks : Looks) (state : Path) (remembered : Remembered) (now : Moment) (asked : Asked) (plan : Option Plan) (faults all_faults : List Fault) (ts : List Entry) : Type 0 where
+pub record CarriesOn (rules : Rules) (looks : Looks) (state : Path) (remembered : Remembered) (clock : Clock) (asked : Asked) (plan : Option Plan) (faults all_faults : List Fault) (ts : List Entry) : Type 0 where
   pub own : List Fault
   pub faults_are : all_faults ≡ faults ++ own
   pub works : (sights : StateSights) (reads ls : List Entry) (of_looks : List Fault) → IsKnown state sights (Ok remembered) → ShowsState state 65_536 sights reads
-      → (shown : ShowsLooks (reserved_by state) rules.sets looks.sets of_looks ls) → looks.kept ≡ paths_of shown.kept → Works state rules.sets now asked plan (of_looks ++ own) (reads ++ (ls ++ ts))
+      → (shown : ShowsLooks (reserved_by state) rules.sets looks.sets of_looks ls) → looks.kept ≡ paths_of shown.kept → Works state rules.sets clock asked plan (of_looks ++ own) (reads ++ (ls ++ ts))
 
-abbrev pub Carries : Rules → Looks → Path → Remembered → Moment → Asked → Option Plan → List Fault → List Fault → Option Journal → Option Journal → Type 0
-Carries rules looks state remembered now asked plan faults all_faults told later = Left (CarriesOn rules looks state remembered now asked plan faults all_faults) told later
+abbrev pub Carries : Rules → Looks → Path → Remembered → Clock → Asked → Option Plan → List Fault → List Fault → Option Journal → Option Journal → Type 0
+Carries rules looks state remembered clock asked plan faults all_faults told later = Left (CarriesOn rules looks state remembered clock asked plan faults all_faults) told later
 
 -- What was done behind a reading by which this is known; its faults were added.
-pub record BehindState (state : Path) (rules : List Rule) (now : Moment) (asked : Asked) (remembered : Remembered) (plan : Option Plan) (faults all_faults : List Fault) (ts : List Entry) : Type 0 where
+pub record BehindState (state : Path) (rules : List Rule) (clock : Clock) (asked : Asked) (remembered : Remembered) (plan : Option Plan) (faults all_faults : List Fault) (ts : List Entry) : Type 0 where
   pub own : List Fault
   pub faults_are : all_faults ≡ faults ++ own
-  pub works : (sights : StateSights) (reads : List Entry) → IsKnown state sights (Ok remembered) → ShowsState state 65_536 sights reads → Works state rules now asked plan own (reads ++ ts)
+  pub works : (sights : StateSights) (reads : List Entry) → IsKnown state sights (Ok remembered) → ShowsState state 65_536 sights reads → Works state rules clock asked plan own (reads ++ ts)
 
-abbrev pub LookedDone : Path → List Rule → Moment → Asked → Remembered → Option Plan → List Fault → List Fault → Option Journal → Option Journal → Type 0
-LookedDone state rules now asked remembered plan faults all_faults told later = Left (BehindState state rules now asked remembered plan faults all_faults) told later
+abbrev pub LookedDone : Path → List Rule → Clock → Asked → Remembered → Option Plan → List Fault → List Fault → Option Journal → Option Journal → Type 0
+LookedDone state rules clock asked remembered plan faults all_faults told later = Left (BehindState state rules clock asked remembered plan faults all_faults) told later
 
 -- The work was done; its faults were added.
-abbrev pub WorksOn : Path → List Rule → Moment → Asked → Option Plan → List Fault → List Fault → List Entry → Type 0
-WorksOn state rules now asked plan faults all_faults ts = (own : List Fault) × (all_faults ≡ faults ++ own) × Works state rules now asked plan own ts
+abbrev pub WorksOn : Path → List Rule → Clock → Asked → Option Plan → List Fault → List Fault → List Entry → Type 0
+WorksOn state rules clock asked plan faults all_faults ts = (own : List Fault) × (all_faults ≡ faults ++ own) × Works state rules clock asked plan own ts
 
-abbrev pub WorkDone : Path → List Rule → Moment → Asked → Option Plan → List Fault → List Fault → Option Journal → Option Journal → Type 0
-WorkDone state rules now asked plan faults all_faults told later = Left (WorksOn state rules now asked plan faults all_faults) told later
+abbrev pub WorkDone : Path → List Rule → Clock → Asked → Option Plan → List Fault → List Fault → Option Journal → Option Journal → Type 0
+WorkDone state rules clock asked plan faults all_faults told later = Left (WorksOn state rules clock asked plan faults all_faults) told later
 
 -- ---- the same where there was no memory
 
@@ -153,58 +154,58 @@ pub record SomeActs (steps : List SetSteps) (ts : List Entry) : Type 0 where
   pub part : SetsCut steps marks faults ts
 
 -- A first part of the work: of what is seen, or of the acts.
-pub data SomeWork (state : Path) (rules : List Rule) (now : Moment) (asked : Asked) (ts : List Entry) : Type 0 where
-  some_seen : SomeSeen state rules ts → SomeWork state rules now asked ts
-  some_done : BrokeOff state rules now asked ts → SomeWork state rules now asked ts
+pub data SomeWork (state : Path) (rules : List Rule) (clock : Clock) (asked : Asked) (ts : List Entry) : Type 0 where
+  some_seen : SomeSeen state rules ts → SomeWork state rules clock asked ts
+  some_done : BrokeOff state rules clock asked ts → SomeWork state rules clock asked ts
 
 -- It ends so behind these looks, whatever of them is shown before.
-pub record EndsBehindLooks (rules : Rules) (looks : Looks) (state : Path) (remembered : Remembered) (now : Moment) (asked : Asked) (ts : List Entry) : Type 0 where
+pub record EndsBehindLooks (rules : Rules) (looks : Looks) (state : Path) (remembered : Remembered) (clock : Clock) (asked : Asked) (ts : List Entry) : Type 0 where
   pub some : (sights : StateSights) (reads ls : List Entry) (of_looks : List Fault) → IsKnown state sights (Ok remembered) → ShowsState state 65_536 sights reads
-      → (shown : ShowsLooks (reserved_by state) rules.sets looks.sets of_looks ls) → looks.kept ≡ paths_of shown.kept → SomeWork state rules.sets now asked (reads ++ (ls ++ ts))
+      → (shown : ShowsLooks (reserved_by state) rules.sets looks.sets of_looks ls) → looks.kept ≡ paths_of shown.kept → SomeWork state rules.sets clock asked (reads ++ (ls ++ ts))
 
 -- It ends so behind a reading by which this is known.
-pub record EndsBehindState (state : Path) (rules : List Rule) (now : Moment) (asked : Asked) (remembered : Remembered) (ts : List Entry) : Type 0 where
-  pub some : (sights : StateSights) (reads : List Entry) → IsKnown state sights (Ok remembered) → ShowsState state 65_536 sights reads → SomeWork state rules now asked (reads ++ ts)
+pub record EndsBehindState (state : Path) (rules : List Rule) (clock : Clock) (asked : Asked) (remembered : Remembered) (ts : List Entry) : Type 0 where
+  pub some : (sights : StateSights) (reads : List Entry) → IsKnown state sights (Ok remembered) → ShowsState state 65_536 sights reads → SomeWork state rules clock asked (reads ++ ts)
 
 -- ---- around the work
 
 -- The run began and ended, and of the entries between the two this holds.
-pub record Begun (state : Path) (now : Moment) (rules : Rules) (P : List Entry → Type 0) (ts : List Entry) : Type 0 where
+pub record Begun (state : Path) (clock : Clock) (rules : Rules) (P : List Entry → Type 0) (ts : List Entry) : Type 0 where
   pub between : List Entry
-  pub entries : ts ≡ Starts state now rules ∷ (between ++ Ends ∷ [])
+  pub entries : ts ≡ Starts state clock.now rules ∷ (between ++ Ends ∷ [])
   pub within : P between
 
 -- what was left from the begin on: the work, or the begin failed
-pub data Goes (state : Path) (asked : Asked) (now : Moment) (rules : Rules) (plan : Option Plan) (faults all_faults : List Fault) (ts : List Entry) : Type 0 where
-  begun : Begun state now rules (WorksOn state rules.sets now asked plan faults all_faults) ts → Goes state asked now rules plan faults all_faults ts
-  not_begun : plan ≡ None → all_faults ≡ faults ++ fault.Call call.Begin state ∷ [] → Maybe (Starts state now rules) ts → Goes state asked now rules plan faults all_faults ts
+pub data Goes (state : Path) (asked : Asked) (clock : Clock) (rules : Rules) (plan : Option Plan) (faults all_faults : List Fault) (ts : List Entry) : Type 0 where
+  begun : Begun state clock rules (WorksOn state rules.sets clock asked plan faults all_faults) ts → Goes state asked clock rules plan faults all_faults ts
+  not_begun : plan ≡ None → all_faults ≡ faults ++ fault.Call call.Begin state ∷ [] → Maybe (Starts state clock.now rules) ts → Goes state asked clock rules plan faults all_faults ts
 
-abbrev pub Stopped : Path → Asked → Moment → Rules → RunStop → List Entry → Type 0
-Stopped state asked now rules stop.Held ts = ts ≡ []
-Stopped state asked now rules stop.Memory ts = Begun state now rules (SomeWork state rules.sets now asked) ts
+abbrev pub Stopped : Path → Asked → Clock → Rules → RunStop → List Entry → Type 0
+Stopped state asked clock rules stop.Held ts = ts ≡ []
+Stopped state asked clock rules stop.Memory ts = Begun state clock rules (SomeWork state rules.sets clock asked) ts
 
 -- what a run left: its faults were added; or it stopped
-abbrev pub RunsOn : Path → Asked → Moment → Rules → Option Plan → List Fault → List Fault → List Entry → Type 0
-RunsOn state asked now rules plan faults all_faults ts = (own : List Fault) × (all_faults ≡ faults ++ own) × Runs state asked now rules plan own ts
+abbrev pub RunsOn : Path → Asked → Clock → Rules → Option Plan → List Fault → List Fault → List Entry → Type 0
+RunsOn state asked clock rules plan faults all_faults ts = (own : List Fault) × (all_faults ≡ faults ++ own) × Runs state asked clock rules plan own ts
 
 -- a run that stopped: the lock is another's, or there was no memory
-abbrev pub StopsSo : Path → Asked → Moment → Rules → RunStop → List Entry → Type 0
-StopsSo state asked now rules stop.Held ts = Sees (parent_of state) IsDir ts
-StopsSo state asked now rules stop.Memory ts = LacksMemory state asked now rules ts
+abbrev pub StopsSo : Path → Asked → Clock → Rules → RunStop → List Entry → Type 0
+StopsSo state asked clock rules stop.Held ts = Sees (parent_of state) IsDir ts
+StopsSo state asked clock rules stop.Memory ts = LacksMemory state asked clock rules ts
 
 -- ---- a dry run
 
 -- The logs were looked at, and it was planned by this table; the faults were added.
-abbrev pub PlansOn : Path → List Rule → List Row → Moment → Asked → Option Plan → List Fault → List Fault → List Entry → Type 0
-PlansOn state rules table now asked plan faults all_faults ts = (own : List Fault) × (all_faults ≡ faults ++ own) × Plans state rules table now asked plan own ts
+abbrev pub PlansOn : Path → List Rule → List Row → Clock → Asked → Option Plan → List Fault → List Fault → List Entry → Type 0
+PlansOn state rules table clock asked plan faults all_faults ts = (own : List Fault) × (all_faults ≡ faults ++ own) × Plans state rules table clock asked plan own ts
 
 -- The state was read besides.
-abbrev pub PlansByOn : Path → List Rule → Moment → Asked → Option Plan → List Fault → List Fault → List Entry → Type 0
-PlansByOn state rules now asked plan faults all_faults ts = (own : List Fault) × (all_faults ≡ faults ++ own) × PlansBy state rules now asked plan own ts
+abbrev pub PlansByOn : Path → List Rule → Clock → Asked → Option Plan → List Fault → List Fault → List Entry → Type 0
+PlansByOn state rules clock asked plan faults all_faults ts = (own : List Fault) × (all_faults ≡ faults ++ own) × PlansBy state rules clock asked plan own ts
 
 -- The whole dry run was made.
-abbrev pub TriesOn : Path → List Rule → Moment → Asked → Option Plan → List Fault → List Fault → List Entry → Type 0
-TriesOn state rules now asked plan faults all_faults ts = (own : List Fault) × (all_faults ≡ faults ++ own) × Tries state rules now asked plan own ts
+abbrev pub TriesOn : Path → List Rule → Clock → Asked → Option Plan → List Fault → List Fault → List Entry → Type 0
+TriesOn state rules clock asked plan faults all_faults ts = (own : List Fault) × (all_faults ≡ faults ++ own) × Tries state rules clock asked plan own ts
 
 -- the plan, where it is small enough, and else none
 abbrev pub plan_if : Bool → Plan → Option Plan

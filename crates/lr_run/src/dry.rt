@@ -1,7 +1,7 @@
 // A dry run: it looks, and plans, and leaves all as it is.
 ghost use Rattle.std.specs.Prelude.{◌≡◌, ◌≢◌, ◌+◌, ◌≤◌, ◌++◌, ◌∷◌, [], List, true, Err, IfOk, OnOk, OnErr, length, nat_le, vec_len};
 ghost use Rattle.std.specs.Vec.{vec_capacity};
-ghost use Rattle.lr_rules.specs.declared.civil.Moment.{Moment};
+ghost use Rattle.lr_rules.specs.declared.clock.Clock.{Clock};
 ghost use Rattle.lr_rules.specs.declared.fault.Fault.{Fault};
 ghost use Rattle.lr_rules.specs.Path.{parent_of};
 ghost use Rattle.lr_host.specs.Counted.{AddsFaults};
@@ -46,7 +46,7 @@ fn is_small(
     plan: &Plan,
     now: &Civil,
 ) -> Result<bool, Memory>
-    ensures { (at : Moment) → at.civil ≡ now.now → IfOk result (λ b. b ≡ nat_le (length (measured_by plan.now table kept.now at)) 67_108_864) }
+    ensures { (at : Clock) → at.now.civil ≡ now.now → IfOk result (λ b. b ≡ nat_le (length (measured_by plan.now table kept.now at)) 67_108_864) }
 {
     let mut table = table;
     bring_up_to(alloc, &mut table, kept, plan, now)
@@ -96,8 +96,8 @@ fn measure(
     faults: &mut Vec<Fault>,
 ) -> Result<Option<Plan>, Memory>
     requires rules { CanPlanAll rules.now.sets looks.now.sets }
-    requires told { told ≡ plan_of rules.now.sets looks.now.sets table clock.now.now (asking settings.now.force settings.now.mailer) }
-    ensures follows { IfOk result (λ plan. (own : List Fault) × (faults.new.items ≡ faults.old.items ++ own) × Follows rules.now.sets looks.now.sets looks.now.kept table clock.entry.now.now (asking settings.now.force settings.now.mailer) plan own) }
+    requires told { told ≡ plan_of rules.now.sets looks.now.sets table clock.now (asking settings.now.force settings.now.mailer) }
+    ensures follows { IfOk result (λ plan. (own : List Fault) × (faults.new.items ≡ faults.old.items ++ own) × Follows rules.now.sets looks.now.sets looks.now.kept table clock.entry.now (asking settings.now.force settings.now.mailer) plan own) }
     ensures room { OnOk result (vec_len faults.new + 1 ≤ vec_capacity faults.new) }
 {
     let same = plan(alloc, rules, looks, &table, clock, settings)?;
@@ -116,7 +116,7 @@ fn plan_dry(
     faults: &mut Vec<Fault>,
 ) -> Result<Option<Plan>, Memory>
     requires { CanPlanAll rules.now.sets looks.now.sets }
-    ensures follows { IfOk result (λ plan. (own : List Fault) × (faults.new.items ≡ faults.old.items ++ own) × Follows rules.now.sets looks.now.sets looks.now.kept table clock.entry.now.now (asking settings.now.force settings.now.mailer) plan own) }
+    ensures follows { IfOk result (λ plan. (own : List Fault) × (faults.new.items ≡ faults.old.items ++ own) × Follows rules.now.sets looks.now.sets looks.now.kept table clock.entry.now (asking settings.now.force settings.now.mailer) plan own) }
     ensures room { OnOk result (vec_len faults.new + 1 ≤ vec_capacity faults.new) }
 {
     let told = plan(alloc, rules, looks, &table, clock, settings)?;
@@ -134,7 +134,7 @@ fn look_and_plan<H: Host>(
     faults: &mut Vec<Fault>,
 ) -> Result<Option<Plan>, Memory>
     requires built { AreBuiltRules rules.now.sets }
-    ensures told { IfOk result (λ plan. Left (PlansOn settings.now.state rules.now.sets table clock.entry.now.now (asking settings.now.force settings.now.mailer) plan faults.old.items faults.new.items) (H.told host.old) (H.told host.new)) }
+    ensures told { IfOk result (λ plan. Left (PlansOn settings.now.state rules.now.sets table clock.entry.now (asking settings.now.force settings.now.mailer) plan faults.old.items faults.new.items) (H.told host.old) (H.told host.new)) }
     ensures some { OnErr result (Left (ShowsSomeLooks (reserved_by settings.now.state) rules.now.sets) (H.told host.old) (H.told host.new)) }
     ensures room { OnOk result (vec_len faults.new + 1 ≤ vec_capacity faults.new) }
     ensures counted { OnOk result (AddsFaults faults.old.items faults.new.items (H.counts host.old) (H.counts host.new)) }
@@ -155,7 +155,7 @@ fn read_and_plan<H: Host>(
 ) -> Result<Option<Plan>, Memory>
     requires built { AreBuiltRules rules.now.sets }
     requires room { vec_len faults.old + 2 ≤ vec_capacity faults.old }
-    ensures told { IfOk result (λ plan. Left (PlansByOn settings.now.state rules.now.sets clock.entry.now.now (asking settings.now.force settings.now.mailer) plan faults.old.items faults.new.items) (H.told host.old) (H.told host.new)) }
+    ensures told { IfOk result (λ plan. Left (PlansByOn settings.now.state rules.now.sets clock.entry.now (asking settings.now.force settings.now.mailer) plan faults.old.items faults.new.items) (H.told host.old) (H.told host.new)) }
     ensures some { OnErr result (Left (SomeSeen settings.now.state rules.now.sets) (H.told host.old) (H.told host.new)) }
     ensures room { OnOk result (vec_len faults.new + 1 ≤ vec_capacity faults.new) }
     ensures counted { OnOk result (AddsFaults faults.old.items faults.new.items (H.counts host.old) (H.counts host.new)) }
@@ -194,7 +194,7 @@ fn try_run<H: Host>(
     requires built { AreBuiltRules rules.now.sets }
     requires dir { dir ≡ parent_of settings.now.state }
     requires room { vec_len faults.old + 2 ≤ vec_capacity faults.old }
-    ensures told { IfOk result (λ plan. Left (TriesOn settings.now.state rules.now.sets clock.entry.now.now (asking settings.now.force settings.now.mailer) plan faults.old.items faults.new.items) (H.told host.old) (H.told host.new)) }
+    ensures told { IfOk result (λ plan. Left (TriesOn settings.now.state rules.now.sets clock.entry.now (asking settings.now.force settings.now.mailer) plan faults.old.items faults.new.items) (H.told host.old) (H.told host.new)) }
     ensures some { OnErr result (Left (LacksTry settings.now.state rules.now.sets) (H.told host.old) (H.told host.new)) }
     ensures room { OnOk result (vec_len faults.new + 1 ≤ vec_capacity faults.new) }
     ensures counted { OnOk result (AddsFaults faults.old.items faults.new.items (H.counts host.old) (H.counts host.new)) }
@@ -227,7 +227,7 @@ pub fn dry_run<H: Host>(
     host: &mut H,
 ) -> Result<Ran, RunStop>
     requires built { AreBuiltRules rules.now.sets }
-    ensures told { Left (Answers settings.now.state true (asking settings.now.force settings.now.mailer) clock.entry.now.now rules.now earlier.items result) (H.told host.old) (H.told host.new) }
+    ensures told { Left (Answers settings.now.state true (asking settings.now.force settings.now.mailer) clock.entry.now rules.now earlier.items result) (H.told host.old) (H.told host.new) }
     ensures counted { IfOk result (λ ran. AddsFaults earlier.items ran.faults.items (H.counts host.old) (H.counts host.new)) }
     ensures held { result ≢ Err RunStop.Held }
     ensures room { IfOk result (λ ran. vec_len ran.faults + 1 ≤ vec_capacity ran.faults) }

@@ -1,6 +1,5 @@
 // The looks at the logs.
 ghost use Rattle.std.specs.Prelude.{IfOk, OnErr};
-ghost use Rattle.lr_fields.specs.Built.{AreBuiltRules};
 ghost use Rattle.lr_host.specs.Counted.{AddsFaults};
 ghost use Rattle.lr_host.specs.Told.{Left, Onward};
 ghost use Rattle.lr_looks.specs.Shown.{LooksAtAll, ShowsSomeLooks};
@@ -23,7 +22,6 @@ pub fn look_at_logs<H: Host>(
     state: &Path,
     faults: &mut Vec<Fault>,
 ) -> Result<Looks, Memory>
-    requires { AreBuiltRules rules.now.sets }
     ensures told { IfOk result (λ looks. Left (LooksAtAll (reserved_by state.now) rules.now.sets looks faults.old.items faults.new.items) (H.told host.old) (H.told host.new)) }
     ensures some { OnErr result (Left (ShowsSomeLooks (reserved_by state.now) rules.now.sets) (H.told host.old) (H.told host.new)) }
     ensures planned { IfOk result (λ looks. CanPlanAll rules.now.sets looks.sets) }

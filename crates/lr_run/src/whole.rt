@@ -5,10 +5,11 @@ ghost use Rattle.lr_rules.specs.Path.{parent_of};
 ghost use Rattle.lr_host.specs.Opening.{IsJournal};
 ghost use Rattle.lr_host.specs.Told.{Left, Onward, Rose, WhereTold};
 ghost use Rattle.lr_durable.specs.StateWhole.{KeepsWhole};
-ghost use Rattle.lr_host.specs.Safe.{KeepsSafe};
 ghost use Rattle.lr_host.specs.Counted.{AddsFaults};
 ghost use Rattle.lr_emptied.specs.Emptied.{EmptiesWhole};
-ghost use Rattle.lr_targets.specs.AllTurns.{IsWholeRun};
+ghost use Rattle.lr_dated.specs.Forward.{IsForwardFor};
+ghost use Rattle.lr_dated.specs.Stays.{KeepsSafeWhere};
+ghost use Rattle.lr_mixed.specs.AllTurns.{IsWholeRunBy};
 ghost use Rattle.lr_fields.specs.Built.{AreBuiltRules};
 ghost use Rattle.lr_run.specs.Taken.{AddsTaken};
 ghost use Rattle.lr_plan.specs.Asked.{asking};
@@ -69,8 +70,8 @@ fn make_run<H: Host>(
     requires dir { names.dir ≡ parent_of settings.now.state }
     requires state { names.state ≡ settings.now.state }
     requires room { vec_len progress.old.faults + 2 ≤ vec_capacity progress.old.faults }
-    ensures told { OnOk result (Left (RunsOn settings.now.state (asking settings.now.force settings.now.mailer) clock.entry.now.now rules.now reached.new progress.old.faults.items progress.new.faults.items) (H.told host.old) (H.told host.new)) }
-    ensures stopped { IfErr result (λ why. Left (StopsSo settings.now.state (asking settings.now.force settings.now.mailer) clock.entry.now.now rules.now why) (H.told host.old) (H.told host.new)) }
+    ensures told { OnOk result (Left (RunsOn settings.now.state (asking settings.now.force settings.now.mailer) clock.entry.now rules.now reached.new progress.old.faults.items progress.new.faults.items) (H.told host.old) (H.told host.new)) }
+    ensures stopped { IfErr result (λ why. Left (StopsSo settings.now.state (asking settings.now.force settings.now.mailer) clock.entry.now rules.now why) (H.told host.old) (H.told host.new)) }
     ensures held { result ≡ Err RunStop.Held → Rose (H.counts host.old).held (H.counts host.new).held }
     ensures room { OnOk result (vec_len progress.new.faults + 1 ≤ vec_capacity progress.new.faults) }
     ensures counted { OnOk result (AddsFaults progress.old.faults.items progress.new.faults.items (H.counts host.old) (H.counts host.new)) }
@@ -128,11 +129,11 @@ pub fn real_run<H: Host>(
 ) -> Result<Ran, RunStop>
     requires built { AreBuiltRules rules.now.sets }
     requires disk { WhereTold (H.told host.old) IsJournal }
-    ensures safe { KeepsSafe (H.told host.old) (H.told host.new) }
-    ensures state { KeepsWhole settings.now.state (IsNewText settings.now.state clock.entry.now.now (asking settings.now.force settings.now.mailer) rules.now) (H.told host.old) (H.told host.new) }
-    ensures copied { EmptiesWhole (IsCopyBy rules.now.sets) (H.told host.old) (H.told host.new) }
-    ensures told { Left (Answers settings.now.state false (asking settings.now.force settings.now.mailer) clock.entry.now.now rules.now earlier.items result) (H.told host.old) (H.told host.new) }
-    ensures shape { Left IsWholeRun (H.told host.old) (H.told host.new) }
+    ensures safe { KeepsSafeWhere (IsForwardFor clock.entry.now) (H.told host.old) (H.told host.new) }
+    ensures state { KeepsWhole settings.now.state (IsNewText settings.now.state clock.entry.now (asking settings.now.force settings.now.mailer) rules.now) (H.told host.old) (H.told host.new) }
+    ensures copied { EmptiesWhole (IsCopyBy rules.now.sets clock.entry.now) (H.told host.old) (H.told host.new) }
+    ensures told { Left (Answers settings.now.state false (asking settings.now.force settings.now.mailer) clock.entry.now rules.now earlier.items result) (H.told host.old) (H.told host.new) }
+    ensures shape { Left (IsWholeRunBy clock.entry.now) (H.told host.old) (H.told host.new) }
     ensures counted { IfOk result (λ ran. AddsFaults earlier.items ran.faults.items (H.counts host.old) (H.counts host.new)) }
     ensures taken { IfOk result (λ ran. AddsTaken settings.now.state ran.plan earlier.items ran.faults.items (H.told host.old) (H.told host.new)) }
     ensures held { result ≡ Err RunStop.Held → Rose (H.counts host.old).held (H.counts host.new).held }

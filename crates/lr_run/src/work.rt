@@ -64,11 +64,11 @@ fn act_by<H: Host>(
     requires built { AreBuiltRules rules.now.sets }
     requires none { reached.old ≡ None }
     requires rules { CanPlanAll rules.now.sets looks.now.sets }
-    requires told { told ≡ plan_of rules.now.sets looks.now.sets remembered.table clock.now.now (asking settings.now.force settings.now.mailer) }
+    requires told { told ≡ plan_of rules.now.sets looks.now.sets remembered.table clock.now (asking settings.now.force settings.now.mailer) }
     requires part { part ≡ state_part settings.now.state }
     requires seen { SeenBefore settings.now.state rules.now looks.now remembered (H.told host.old) }
-    ensures told { OnOk result (Carries rules.now looks.now settings.now.state remembered clock.entry.now.now (asking settings.now.force settings.now.mailer) reached.new progress.old.faults.items progress.new.faults.items (H.told host.old) (H.told host.new)) }
-    ensures some { OnErr result (Left (EndsBehindLooks rules.now looks.now settings.now.state remembered clock.entry.now.now (asking settings.now.force settings.now.mailer)) (H.told host.old) (H.told host.new)) }
+    ensures told { OnOk result (Carries rules.now looks.now settings.now.state remembered clock.entry.now (asking settings.now.force settings.now.mailer) reached.new progress.old.faults.items progress.new.faults.items (H.told host.old) (H.told host.new)) }
+    ensures some { OnErr result (Left (EndsBehindLooks rules.now looks.now settings.now.state remembered clock.entry.now (asking settings.now.force settings.now.mailer)) (H.told host.old) (H.told host.new)) }
     ensures room { OnOk result (vec_len progress.new.faults + 1 ≤ vec_capacity progress.new.faults) }
     ensures counted { OnOk result (AddsFaults progress.old.faults.items progress.new.faults.items (H.counts host.old) (H.counts host.new)) }
     ensures taken { OnOk result (AddsTaken settings.now.state reached.new progress.old.faults.items progress.new.faults.items (H.told host.old) (H.told host.new)) }
@@ -112,8 +112,8 @@ fn plan_and_act<H: Host>(
     requires rules { CanPlanAll rules.now.sets looks.now.sets }
     requires part { part ≡ state_part settings.now.state }
     requires seen { SeenBefore settings.now.state rules.now looks.now remembered (H.told host.old) }
-    ensures told { OnOk result (Carries rules.now looks.now settings.now.state remembered clock.entry.now.now (asking settings.now.force settings.now.mailer) reached.new progress.old.faults.items progress.new.faults.items (H.told host.old) (H.told host.new)) }
-    ensures some { OnErr result (Left (EndsBehindLooks rules.now looks.now settings.now.state remembered clock.entry.now.now (asking settings.now.force settings.now.mailer)) (H.told host.old) (H.told host.new)) }
+    ensures told { OnOk result (Carries rules.now looks.now settings.now.state remembered clock.entry.now (asking settings.now.force settings.now.mailer) reached.new progress.old.faults.items progress.new.faults.items (H.told host.old) (H.told host.new)) }
+    ensures some { OnErr result (Left (EndsBehindLooks rules.now looks.now settings.now.state remembered clock.entry.now (asking settings.now.force settings.now.mailer)) (H.told host.old) (H.told host.new)) }
     ensures room { OnOk result (vec_len progress.new.faults + 1 ≤ vec_capacity progress.new.faults) }
     ensures counted { OnOk result (AddsFaults progress.old.faults.items progress.new.faults.items (H.counts host.old) (H.counts host.new)) }
     ensures taken { OnOk result (AddsTaken settings.now.state reached.new progress.old.faults.items progress.new.faults.items (H.told host.old) (H.told host.new)) }
@@ -141,8 +141,8 @@ fn look_and_act<H: Host>(
     requires none { reached.old ≡ None }
     requires part { part ≡ state_part settings.now.state }
     requires known { KnownBefore settings.now.state remembered (H.told host.old) }
-    ensures told { OnOk result (LookedDone settings.now.state rules.now.sets clock.entry.now.now (asking settings.now.force settings.now.mailer) remembered reached.new progress.old.faults.items progress.new.faults.items (H.told host.old) (H.told host.new)) }
-    ensures some { OnErr result (Left (EndsBehindState settings.now.state rules.now.sets clock.entry.now.now (asking settings.now.force settings.now.mailer) remembered) (H.told host.old) (H.told host.new)) }
+    ensures told { OnOk result (LookedDone settings.now.state rules.now.sets clock.entry.now (asking settings.now.force settings.now.mailer) remembered reached.new progress.old.faults.items progress.new.faults.items (H.told host.old) (H.told host.new)) }
+    ensures some { OnErr result (Left (EndsBehindState settings.now.state rules.now.sets clock.entry.now (asking settings.now.force settings.now.mailer) remembered) (H.told host.old) (H.told host.new)) }
     ensures room { OnOk result (vec_len progress.new.faults + 1 ≤ vec_capacity progress.new.faults) }
     ensures counted { OnOk result (AddsFaults progress.old.faults.items progress.new.faults.items (H.counts host.old) (H.counts host.new)) }
     ensures taken { OnOk result (AddsTaken settings.now.state reached.new progress.old.faults.items progress.new.faults.items (H.told host.old) (H.told host.new)) }
@@ -179,8 +179,8 @@ pub fn work<H: Host>(
     requires disk { WhereTold (H.told host.old) IsJournal }
     requires dir { Can (H.told host.old) (entry.List (parent_of settings.now.state) []) }
     requires room { vec_len progress.old.faults + 2 ≤ vec_capacity progress.old.faults }
-    ensures told { OnOk result (WorkDone settings.now.state rules.now.sets clock.entry.now.now (asking settings.now.force settings.now.mailer) reached.new progress.old.faults.items progress.new.faults.items (H.told host.old) (H.told host.new)) }
-    ensures some { OnErr result (Left (SomeWork settings.now.state rules.now.sets clock.entry.now.now (asking settings.now.force settings.now.mailer)) (H.told host.old) (H.told host.new)) }
+    ensures told { OnOk result (WorkDone settings.now.state rules.now.sets clock.entry.now (asking settings.now.force settings.now.mailer) reached.new progress.old.faults.items progress.new.faults.items (H.told host.old) (H.told host.new)) }
+    ensures some { OnErr result (Left (SomeWork settings.now.state rules.now.sets clock.entry.now (asking settings.now.force settings.now.mailer)) (H.told host.old) (H.told host.new)) }
     ensures room { OnOk result (vec_len progress.new.faults + 1 ≤ vec_capacity progress.new.faults) }
     ensures counted { OnOk result (AddsFaults progress.old.faults.items progress.new.faults.items (H.counts host.old) (H.counts host.new)) }
     ensures taken { OnOk result (AddsTaken settings.now.state reached.new progress.old.faults.items progress.new.faults.items (H.told host.old) (H.told host.new)) }

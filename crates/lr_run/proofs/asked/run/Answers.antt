@@ -1,30 +1,30 @@
 use Rattle.std.proofs.Common.{true, false}
 use Rattle.lr_host.proofs.Left.{left_as}
-use Rattle.lr_targets.proofs.Safety.{call_safe}
+use Rattle.lr_mixed.proofs.Safety.{all_safe}
 use Rattle.lr_plan.specs.Asked.{asking}
 use Rattle.lr_run.proofs.Drying.{asked_so, answers_sights, dry_shape, dry_whole, dry_copied}
 use Rattle.lr_run.proofs.asked.run.Goals as goal
 
 pub returns-then-settings-clause-shape : goal.returns-then-settings-clause-shape
-returns-then-settings-clause-shape g c = left_as c.dry_run.ensures.told (dry_shape c.args.settings.now.state (asking c.args.settings.now.force c.args.settings.now.mailer) c.args.clock.now.now c.args.rules.now c.args.earlier.items c.dry_run.result)
+returns-then-settings-clause-shape g c = left_as c.dry_run.ensures.told (dry_shape c.args.settings.now.state (asking c.args.settings.now.force c.args.settings.now.mailer) c.args.clock.now c.args.rules.now c.args.earlier.items c.dry_run.result)
 
 pub returns-then-settings-clause-safe : goal.returns-then-settings-clause-safe
-returns-then-settings-clause-safe g c = call_safe _ _ (returns-then-settings-clause-shape g c)
+returns-then-settings-clause-safe g c = all_safe c.args.clock.now _ _ (returns-then-settings-clause-shape g c)
 
 pub returns-then-settings-clause-state : goal.returns-then-settings-clause-state
-returns-then-settings-clause-state g c = dry_whole c.args.settings.now.state (asking c.args.settings.now.force c.args.settings.now.mailer) c.args.clock.now.now c.args.rules.now c.args.earlier.items c.dry_run.result c.dry_run.ensures.told
+returns-then-settings-clause-state g c = dry_whole c.args.settings.now.state (asking c.args.settings.now.force c.args.settings.now.mailer) c.args.clock.now c.args.rules.now c.args.earlier.items c.dry_run.result c.dry_run.ensures.told
 
 pub returns-then-settings-clause-told : goal.returns-then-settings-clause-told
-returns-then-settings-clause-told g c = asked_so c.args.settings.now.state c.args.settings.now.debug true (asking c.args.settings.now.force c.args.settings.now.mailer) c.args.clock.now.now c.args.rules.now c.args.earlier.items c.dry_run.result _ _ c.if-settings.true c.dry_run.ensures.told
+returns-then-settings-clause-told g c = asked_so c.args.settings.now.state c.args.settings.now.debug true (asking c.args.settings.now.force c.args.settings.now.mailer) c.args.clock.now c.args.rules.now c.args.earlier.items c.dry_run.result _ _ c.if-settings.true c.dry_run.ensures.told
 
 pub returns-then-settings-clause-dry : goal.returns-then-settings-clause-dry
-returns-then-settings-clause-dry g c = λ e. left_as c.dry_run.ensures.told (answers_sights c.args.settings.now.state (asking c.args.settings.now.force c.args.settings.now.mailer) c.args.clock.now.now c.args.rules.now c.args.earlier.items c.dry_run.result)
+returns-then-settings-clause-dry g c = λ e. left_as c.dry_run.ensures.told (answers_sights c.args.settings.now.state (asking c.args.settings.now.force c.args.settings.now.mailer) c.args.clock.now c.args.rules.now c.args.earlier.items c.dry_run.result)
 
 pub returns-else-settings-clause-told : goal.returns-else-settings-clause-told
-returns-else-settings-clause-told g c = asked_so c.args.settings.now.state c.args.settings.now.debug false (asking c.args.settings.now.force c.args.settings.now.mailer) c.args.clock.now.now c.args.rules.now c.args.earlier.items c.real_run.result _ _ c.if-settings.false c.real_run.ensures.told
+returns-else-settings-clause-told g c = asked_so c.args.settings.now.state c.args.settings.now.debug false (asking c.args.settings.now.force c.args.settings.now.mailer) c.args.clock.now c.args.rules.now c.args.earlier.items c.real_run.result _ _ c.if-settings.false c.real_run.ensures.told
 
 pub returns-then-settings-clause-copied : goal.returns-then-settings-clause-copied
-returns-then-settings-clause-copied g c = dry_copied c.args.settings.now.state (asking c.args.settings.now.force c.args.settings.now.mailer) c.args.clock.now.now c.args.rules.now c.args.earlier.items c.dry_run.result c.dry_run.ensures.told
+returns-then-settings-clause-copied g c = dry_copied c.args.settings.now.state (asking c.args.settings.now.force c.args.settings.now.mailer) c.args.clock.now c.args.rules.now c.args.earlier.items c.dry_run.result c.dry_run.ensures.told
 
 pub returns-then-settings-clause-taken : goal.returns-then-settings-clause-taken
 returns-then-settings-clause-taken g c = λ e. absurd (let yes = c.if-settings.true in cc)

@@ -12,7 +12,7 @@ pub returns-in_err-remembered-clause-some : goal.returns-in_err-remembered-claus
 returns-in_err-remembered-clause-some g c = some_read c.from_residual-in_err-remembered.result c.args.settings.now.state c.args.rules.now.sets _ c.in_err-remembered.ensures.told
 
 pub returns-in-Ok-clause-told : goal.returns-in-Ok-clause-told
-returns-in-Ok-clause-told g c = planned_by c.look_and_plan.result c.args.settings.now.state c.args.rules.now.sets c.in-Ok.remembered c.args.clock.now.now (asking c.args.settings.now.force c.args.settings.now.mailer) c.args.faults.now.items c.look_and_plan.new.faults.items _ (rw c.in-Ok.is at c.in_ok-remembered.ensures.told) c.look_and_plan.ensures.told
+returns-in-Ok-clause-told g c = planned_by c.look_and_plan.result c.args.settings.now.state c.args.rules.now.sets c.in-Ok.remembered c.args.clock.now (asking c.args.settings.now.force c.args.settings.now.mailer) c.args.faults.now.items c.look_and_plan.new.faults.items _ (rw c.in-Ok.is at c.in_ok-remembered.ensures.told) c.look_and_plan.ensures.told
 
 pub returns-in-Ok-clause-some : goal.returns-in-Ok-clause-some
 returns-in-Ok-clause-some g c = some_planned c.look_and_plan.result c.args.settings.now.state c.args.rules.now.sets c.in-Ok.remembered _ (rw c.in-Ok.is at c.in_ok-remembered.ensures.told) c.look_and_plan.ensures.some
@@ -21,7 +21,7 @@ pub returns-in-Ok-clause-counted : goal.returns-in-Ok-clause-counted
 returns-in-Ok-clause-counted g c = adds_later c.look_and_plan.result c.args.faults.now.items c.look_and_plan.new.faults.items _ _ _ c.in_ok-remembered.ensures.counts.0 c.look_and_plan.ensures.counted
 
 pub returns-clause-told : goal.returns-clause-told
-returns-clause-told g c = not_planned c.args.settings.now.state c.args.rules.now.sets c.args.clock.now.now (asking c.args.settings.now.force c.args.settings.now.mailer) c.in-Err.fault c.args.faults.now.items c.add_fault.new.faults.items (rw c.in-Err.is at c.in_ok-remembered.ensures.told) c.add_fault.ensures.faults
+returns-clause-told g c = not_planned c.args.settings.now.state c.args.rules.now.sets c.args.clock.now (asking c.args.settings.now.force c.args.settings.now.mailer) c.in-Err.fault c.args.faults.now.items c.add_fault.new.faults.items (rw c.in-Err.is at c.in_ok-remembered.ensures.told) c.add_fault.ensures.faults
 
 pub returns-clause-counted : goal.returns-clause-counted
 returns-clause-counted g c = unknown_counted c.args.settings.now.state c.in-Err.fault c.args.faults.now.items c.add_fault.new.faults.items _ _ c.add_fault.ensures.faults (c.in_ok-remembered.ensures.only c.in-Err.fault (ap Ok c.in-Err.is)) (λ kind path is. c.in_ok-remembered.ensures.counted kind path (ap Ok (c.in-Err.is ∙ ap Err is))) c.in_ok-remembered.ensures.counts.0

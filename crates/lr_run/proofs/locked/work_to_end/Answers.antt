@@ -4,7 +4,7 @@ use Rattle.lr_run.proofs.Taken.{taken_to_end}
 use Rattle.lr_run.proofs.locked.work_to_end.Goals as goal
 
 pub end-requires : goal.end-requires
-end-requires g c = end_there c.work-done.result c.args.settings.now.state c.args.rules.now.sets c.args.clock.now.now (asking c.args.settings.now.force c.args.settings.now.mailer) c.work-done.new.reached c.args.progress.now.faults.items c.work-done.new.progress.faults.items _ _ c.work-done.ensures.told c.work-done.ensures.some c.requires.on
+end-requires g c = end_there c.work-done.result c.args.settings.now.state c.args.rules.now.sets c.args.clock.now (asking c.args.settings.now.force c.args.settings.now.mailer) c.work-done.new.reached c.args.progress.now.faults.items c.work-done.new.progress.faults.items _ _ c.work-done.ensures.told c.work-done.ensures.some c.requires.on
 
 pub returns-clause-told : goal.returns-clause-told
 returns-clause-told g c = work_ended c.work-done.result _ _ _ _ _ c.work-done.ensures.told c.end.ensures.told

@@ -1,5 +1,5 @@
 use Rattle.std.proofs.Common.{◌∙◌}
-use Rattle.lr_seen.proofs.Built.{asks_all, have_numbers}
+use Rattle.lr_seen.proofs.Built.{asks_all}
 use Rattle.lr_run.proofs.Works.{can_plan, none_looked, some_looked}
 use Rattle.lr_run.proofs.looking.look_at_logs.Goals as goal
 
@@ -16,4 +16,4 @@ pub returns-clause-told : goal.returns-clause-told
 returns-clause-told g c = rw (c.deref.ensures.value ∙ c.in_ok-reserved.ensures) at c.in_ok-looks.ensures.told
 
 pub returns-clause-planned : goal.returns-clause-planned
-returns-clause-planned g c = can_plan c.args.rules.now.sets c.in_ok-looks.looks.sets c.requires c.args.rules.now.limits c.in_ok-looks.ensures.ready (c.in_ok-looks.ensures.numbered (have_numbers c.args.rules.now.sets c.requires)) c.in_ok-looks.ensures.many
+returns-clause-planned g c = can_plan c.args.rules.now.sets c.in_ok-looks.looks.sets c.args.rules.now.limits c.in_ok-looks.ensures.ready c.in_ok-looks.ensures.many

@@ -15,13 +15,13 @@ pub begin_to_end-requires-clause-there : goal.begin_to_end-requires-clause-there
 begin_to_end-requires-clause-there g c = can_as c.in-Ok.ensures.there (λ n h. subst (IsDirectoryAt n) c.requires.dir h)
 
 pub returns-in-Ok-clause-told : goal.returns-in-Ok-clause-told
-returns-in-Ok-clause-told g c = behind_dir c.args.settings.now.state (asking c.args.settings.now.force c.args.settings.now.mailer) c.args.clock.now.now c.args.rules.now c.begin_to_end.new.reached c.args.names.dir c.args.progress.now.faults.items c.begin_to_end.new.progress.faults.items c.begin_to_end.result _ c.requires.dir c.in-Ok.ensures.told c.begin_to_end.ensures.told
+returns-in-Ok-clause-told g c = behind_dir c.args.settings.now.state (asking c.args.settings.now.force c.args.settings.now.mailer) c.args.clock.now c.args.rules.now c.begin_to_end.new.reached c.args.names.dir c.args.progress.now.faults.items c.begin_to_end.new.progress.faults.items c.begin_to_end.result _ c.requires.dir c.in-Ok.ensures.told c.begin_to_end.ensures.told
 
 pub returns-in-Ok-clause-stopped : goal.returns-in-Ok-clause-stopped
-returns-in-Ok-clause-stopped g c = stopped_behind c.args.settings.now.state (asking c.args.settings.now.force c.args.settings.now.mailer) c.args.clock.now.now c.args.rules.now c.args.names.dir c.begin_to_end.result _ c.requires.dir c.in-Ok.ensures.told c.begin_to_end.ensures.stopped
+returns-in-Ok-clause-stopped g c = stopped_behind c.args.settings.now.state (asking c.args.settings.now.force c.args.settings.now.mailer) c.args.clock.now c.args.rules.now c.args.names.dir c.begin_to_end.result _ c.requires.dir c.in-Ok.ensures.told c.begin_to_end.ensures.stopped
 
 pub returns-in-Err-clause-told : goal.returns-in-Err-clause-told
-returns-in-Err-clause-told g c = no_dir c.args.settings.now.state (asking c.args.settings.now.force c.args.settings.now.mailer) c.args.clock.now.now c.args.rules.now c.args.reached.now c.in-Err.why c.args.names.dir c.args.progress.now.faults.items c.add_dir_fault.new.faults.items c.requires.none c.requires.dir c.add_dir_fault.ensures.faults c.in-Err.ensures.stopped
+returns-in-Err-clause-told g c = no_dir c.args.settings.now.state (asking c.args.settings.now.force c.args.settings.now.mailer) c.args.clock.now c.args.rules.now c.args.reached.now c.in-Err.why c.args.names.dir c.args.progress.now.faults.items c.add_dir_fault.new.faults.items c.requires.none c.requires.dir c.add_dir_fault.ensures.faults c.in-Err.ensures.stopped
 
 pub returns-in-Ok-clause-counted : goal.returns-in-Ok-clause-counted
 returns-in-Ok-clause-counted g c = adds_later c.begin_to_end.result c.args.progress.now.faults.items c.begin_to_end.new.progress.faults.items _ _ _ c.in-Ok.ensures.counts.0 c.begin_to_end.ensures.counted

@@ -10,49 +10,49 @@ use Rattle.lr_run.proofs.work.act_by.Goals as goal
 
 pub carry_out-requires-clause-fits : goal.carry_out-requires-clause-fits
 carry_out-requires-clause-fits g c =
-    let r = ready_of c.args.settings.now.state c.args.clock.now.now c.args.remembered _ _ c.in_ok-plan.plan _ c.in_ok-ready.field-0 c.in-Some.ready c.args.progress.now c.make_ready.new.progress c.as_slice-kept.ensures c.in_ok-plan.ensures c.in-Some.is c.in_ok-ready.ensures in
-    ready_fit _ c.args.rules.now c.args.looks.now c.args.settings.now.state c.args.remembered c.args.clock.now.now (asking c.args.settings.now.force c.args.settings.now.mailer) c.in-Some.ready c.args.progress.now c.make_ready.new.progress _ _ c.requires.built (disk_on c.requires.seen.known.read c.requires.seen.known.disk) r c.requires.seen.looked
+    let r = ready_of c.args.settings.now.state c.args.clock.now c.args.remembered _ _ c.in_ok-plan.plan _ c.in_ok-ready.field-0 c.in-Some.ready c.args.progress.now c.make_ready.new.progress c.as_slice-kept.ensures c.in_ok-plan.ensures c.in-Some.is c.in_ok-ready.ensures in
+    ready_fit _ c.args.rules.now c.args.looks.now c.args.settings.now.state c.args.remembered c.args.clock.now (asking c.args.settings.now.force c.args.settings.now.mailer) c.in-Some.ready c.args.progress.now c.make_ready.new.progress _ _ (disk_on c.requires.seen.known.read c.requires.seen.known.disk) r c.requires.seen.looked
 
 pub carry_out-requires-clause-fits_state : goal.carry_out-requires-clause-fits_state
 carry_out-requires-clause-fits_state g c =
-    let r = ready_of c.args.settings.now.state c.args.clock.now.now c.args.remembered _ _ c.in_ok-plan.plan _ c.in_ok-ready.field-0 c.in-Some.ready c.args.progress.now c.make_ready.new.progress c.as_slice-kept.ensures c.in_ok-plan.ensures c.in-Some.is c.in_ok-ready.ensures in
-    λ later text l. fits_behind_acts c.args.settings.now.state c.args.rules.now c.args.looks.now c.args.remembered c.args.clock.now.now (asking c.args.settings.now.force c.args.settings.now.mailer) c.in-Some.ready c.args.progress.now c.make_ready.new.progress text _ later c.requires.built r c.requires.seen l
+    let r = ready_of c.args.settings.now.state c.args.clock.now c.args.remembered _ _ c.in_ok-plan.plan _ c.in_ok-ready.field-0 c.in-Some.ready c.args.progress.now c.make_ready.new.progress c.as_slice-kept.ensures c.in_ok-plan.ensures c.in-Some.is c.in_ok-ready.ensures in
+    λ later text l. fits_behind_acts c.args.settings.now.state c.args.rules.now c.args.looks.now c.args.remembered c.args.clock.now (asking c.args.settings.now.force c.args.settings.now.mailer) c.in-Some.ready c.args.progress.now c.make_ready.new.progress text _ later r c.requires.seen l
 
 pub returns-in-Some-clause-told : goal.returns-in-Some-clause-told
 returns-in-Some-clause-told g c =
-    let r = ready_of c.args.settings.now.state c.args.clock.now.now c.args.remembered _ _ c.in_ok-plan.plan _ c.in_ok-ready.field-0 c.in-Some.ready c.args.progress.now c.make_ready.new.progress c.as_slice-kept.ensures c.in_ok-plan.ensures c.in-Some.is c.in_ok-ready.ensures in
-    carried_out c.carry_out.result c.args.settings.now.state c.args.rules.now c.args.looks.now c.args.remembered c.args.clock.now.now (asking c.args.settings.now.force c.args.settings.now.mailer) c.reach.new.reached c.in-Some.ready c.args.progress.now c.make_ready.new.progress c.carry_out.new.progress _ _ _ _ (c.reach.ensures ∙ ap Some c.requires.told) r c.carry_out.ensures.told
+    let r = ready_of c.args.settings.now.state c.args.clock.now c.args.remembered _ _ c.in_ok-plan.plan _ c.in_ok-ready.field-0 c.in-Some.ready c.args.progress.now c.make_ready.new.progress c.as_slice-kept.ensures c.in_ok-plan.ensures c.in-Some.is c.in_ok-ready.ensures in
+    carried_out c.carry_out.result c.args.settings.now.state c.args.rules.now c.args.looks.now c.args.remembered c.args.clock.now (asking c.args.settings.now.force c.args.settings.now.mailer) c.reach.new.reached c.in-Some.ready c.args.progress.now c.make_ready.new.progress c.carry_out.new.progress _ _ _ _ (c.reach.ensures ∙ ap Some c.requires.told) r c.carry_out.ensures.told
 
 pub returns-in-Some-clause-some : goal.returns-in-Some-clause-some
 returns-in-Some-clause-some g c =
-    let r = ready_of c.args.settings.now.state c.args.clock.now.now c.args.remembered _ _ c.in_ok-plan.plan _ c.in_ok-ready.field-0 c.in-Some.ready c.args.progress.now c.make_ready.new.progress c.as_slice-kept.ensures c.in_ok-plan.ensures c.in-Some.is c.in_ok-ready.ensures in
-    some_acted c.carry_out.result c.args.settings.now.state c.args.rules.now c.args.looks.now c.args.remembered c.args.clock.now.now (asking c.args.settings.now.force c.args.settings.now.mailer) c.in-Some.ready c.args.progress.now c.make_ready.new.progress _ _ r c.carry_out.ensures.memory c.carry_out.ensures.some
+    let r = ready_of c.args.settings.now.state c.args.clock.now c.args.remembered _ _ c.in_ok-plan.plan _ c.in_ok-ready.field-0 c.in-Some.ready c.args.progress.now c.make_ready.new.progress c.as_slice-kept.ensures c.in_ok-plan.ensures c.in-Some.is c.in_ok-ready.ensures in
+    some_acted c.carry_out.result c.args.settings.now.state c.args.rules.now c.args.looks.now c.args.remembered c.args.clock.now (asking c.args.settings.now.force c.args.settings.now.mailer) c.in-Some.ready c.args.progress.now c.make_ready.new.progress _ _ r c.carry_out.ensures.memory c.carry_out.ensures.some
 
 pub returns-in-Some-clause-counted : goal.returns-in-Some-clause-counted
 returns-in-Some-clause-counted g c =
-    let r = ready_of c.args.settings.now.state c.args.clock.now.now c.args.remembered _ _ c.in_ok-plan.plan _ c.in_ok-ready.field-0 c.in-Some.ready c.args.progress.now c.make_ready.new.progress c.as_slice-kept.ensures c.in_ok-plan.ensures c.in-Some.is c.in_ok-ready.ensures in
-    carried_counted c.carry_out.result c.args.settings.now.state c.args.rules.now c.args.looks.now c.args.remembered c.args.clock.now.now (asking c.args.settings.now.force c.args.settings.now.mailer) c.in-Some.ready c.args.progress.now c.make_ready.new.progress c.carry_out.new.progress _ _ _ _ r c.carry_out.ensures.told
+    let r = ready_of c.args.settings.now.state c.args.clock.now c.args.remembered _ _ c.in_ok-plan.plan _ c.in_ok-ready.field-0 c.in-Some.ready c.args.progress.now c.make_ready.new.progress c.as_slice-kept.ensures c.in_ok-plan.ensures c.in-Some.is c.in_ok-ready.ensures in
+    carried_counted c.carry_out.result c.args.settings.now.state c.args.rules.now c.args.looks.now c.args.remembered c.args.clock.now (asking c.args.settings.now.force c.args.settings.now.mailer) c.in-Some.ready c.args.progress.now c.make_ready.new.progress c.carry_out.new.progress _ _ _ _ r c.carry_out.ensures.told
 
 pub returns-in-None-clause-told : goal.returns-in-None-clause-told
 returns-in-None-clause-told g c =
-    too_big_told c.add_too_big.result c.args.settings.now.state c.args.rules.now c.args.looks.now c.args.remembered c.args.clock.now.now (asking c.args.settings.now.force c.args.settings.now.mailer) c.args.reached.now c.args.progress.now c.make_ready.new.progress c.add_too_big.new.faults.items _ c.requires.none
-    (not_ready c.args.settings.now.state c.args.clock.now.now c.args.remembered _ _ c.in_ok-plan.plan _ c.in_ok-ready.field-0 c.args.progress.now c.make_ready.new.progress c.as_slice-kept.ensures c.in_ok-plan.ensures c.in-None.is c.in_ok-ready.ensures) c.add_too_big.ensures.faults
+    too_big_told c.add_too_big.result c.args.settings.now.state c.args.rules.now c.args.looks.now c.args.remembered c.args.clock.now (asking c.args.settings.now.force c.args.settings.now.mailer) c.args.reached.now c.args.progress.now c.make_ready.new.progress c.add_too_big.new.faults.items _ c.requires.none
+    (not_ready c.args.settings.now.state c.args.clock.now c.args.remembered _ _ c.in_ok-plan.plan _ c.in_ok-ready.field-0 c.args.progress.now c.make_ready.new.progress c.as_slice-kept.ensures c.in_ok-plan.ensures c.in-None.is c.in_ok-ready.ensures) c.add_too_big.ensures.faults
 
 pub returns-in_err-plan-clause-some : goal.returns-in_err-plan-clause-some
-returns-in_err-plan-clause-some g c = none_acted c.from_residual.result c.args.rules.now c.args.looks.now c.args.settings.now.state c.args.remembered c.args.clock.now.now (asking c.args.settings.now.force c.args.settings.now.mailer) _
+returns-in_err-plan-clause-some g c = none_acted c.from_residual.result c.args.rules.now c.args.looks.now c.args.settings.now.state c.args.remembered c.args.clock.now (asking c.args.settings.now.force c.args.settings.now.mailer) _
 
 pub returns-in_err-ready-clause-some : goal.returns-in_err-ready-clause-some
-returns-in_err-ready-clause-some g c = none_acted c.from_residual-in_err-ready.result c.args.rules.now c.args.looks.now c.args.settings.now.state c.args.remembered c.args.clock.now.now (asking c.args.settings.now.force c.args.settings.now.mailer) _
+returns-in_err-ready-clause-some g c = none_acted c.from_residual-in_err-ready.result c.args.rules.now c.args.looks.now c.args.settings.now.state c.args.remembered c.args.clock.now (asking c.args.settings.now.force c.args.settings.now.mailer) _
 
 pub returns-in-None-clause-some : goal.returns-in-None-clause-some
-returns-in-None-clause-some g c = none_acted c.add_too_big.result c.args.rules.now c.args.looks.now c.args.settings.now.state c.args.remembered c.args.clock.now.now (asking c.args.settings.now.force c.args.settings.now.mailer) _
+returns-in-None-clause-some g c = none_acted c.add_too_big.result c.args.rules.now c.args.looks.now c.args.settings.now.state c.args.remembered c.args.clock.now (asking c.args.settings.now.force c.args.settings.now.mailer) _
 
 pub returns-in-Some-clause-taken : goal.returns-in-Some-clause-taken
 returns-in-Some-clause-taken g c =
-    let r = ready_of c.args.settings.now.state c.args.clock.now.now c.args.remembered _ _ c.in_ok-plan.plan _ c.in_ok-ready.field-0 c.in-Some.ready c.args.progress.now c.make_ready.new.progress c.as_slice-kept.ensures c.in_ok-plan.ensures c.in-Some.is c.in_ok-ready.ensures in
-    carried_taken c.carry_out.result c.args.settings.now.state c.args.rules.now c.args.looks.now c.args.remembered c.args.clock.now.now (asking c.args.settings.now.force c.args.settings.now.mailer) c.reach.new.reached c.in-Some.ready c.args.progress.now c.make_ready.new.progress c.carry_out.new.progress _ _ _ _ (c.reach.ensures ∙ ap Some c.requires.told) r c.carry_out.ensures.told
+    let r = ready_of c.args.settings.now.state c.args.clock.now c.args.remembered _ _ c.in_ok-plan.plan _ c.in_ok-ready.field-0 c.in-Some.ready c.args.progress.now c.make_ready.new.progress c.as_slice-kept.ensures c.in_ok-plan.ensures c.in-Some.is c.in_ok-ready.ensures in
+    carried_taken c.carry_out.result c.args.settings.now.state c.args.rules.now c.args.looks.now c.args.remembered c.args.clock.now (asking c.args.settings.now.force c.args.settings.now.mailer) c.reach.new.reached c.in-Some.ready c.args.progress.now c.make_ready.new.progress c.carry_out.new.progress _ _ _ _ (c.reach.ensures ∙ ap Some c.requires.told) r c.requires.seen c.carry_out.ensures.told
 
 pub returns-in-None-clause-taken : goal.returns-in-None-clause-taken
 returns-in-None-clause-taken g c =
     too_big_taken c.add_too_big.result c.args.settings.now.state c.args.reached.now c.args.progress.now c.make_ready.new.progress c.add_too_big.new.faults.items (fault.State 0 kind.TooBig ∷ []) _ c.requires.none
-    (not_ready c.args.settings.now.state c.args.clock.now.now c.args.remembered _ _ c.in_ok-plan.plan _ c.in_ok-ready.field-0 c.args.progress.now c.make_ready.new.progress c.as_slice-kept.ensures c.in_ok-plan.ensures c.in-None.is c.in_ok-ready.ensures).1 c.add_too_big.ensures.faults
+    (not_ready c.args.settings.now.state c.args.clock.now c.args.remembered _ _ c.in_ok-plan.plan _ c.in_ok-ready.field-0 c.args.progress.now c.make_ready.new.progress c.as_slice-kept.ensures c.in_ok-plan.ensures c.in-None.is c.in_ok-ready.ensures).1 c.add_too_big.ensures.faults

@@ -5,22 +5,22 @@ use Rattle.lr_run.proofs.Taken.{taken_behind, none_adds}
 use Rattle.lr_run.proofs.work.work.Goals as goal
 
 pub returns-in_err-part-clause-some : goal.returns-in_err-part-clause-some
-returns-in_err-part-clause-some g c = none_seen c.from_residual.result c.args.settings.now.state c.args.rules.now.sets c.args.clock.now.now (asking c.args.settings.now.force c.args.settings.now.mailer) _
+returns-in_err-part-clause-some g c = none_seen c.from_residual.result c.args.settings.now.state c.args.rules.now.sets c.args.clock.now (asking c.args.settings.now.force c.args.settings.now.mailer) _
 
 pub returns-in_err-remembered-clause-some : goal.returns-in_err-remembered-clause-some
-returns-in_err-remembered-clause-some g c = some_read c.from_residual-in_err-remembered.result c.args.settings.now.state c.args.rules.now.sets c.args.clock.now.now (asking c.args.settings.now.force c.args.settings.now.mailer) _ c.in_err-remembered.ensures.told
+returns-in_err-remembered-clause-some g c = some_read c.from_residual-in_err-remembered.result c.args.settings.now.state c.args.rules.now.sets c.args.clock.now (asking c.args.settings.now.force c.args.settings.now.mailer) _ c.in_err-remembered.ensures.told
 
 pub look_and_act-requires-clause-known : goal.look_and_act-requires-clause-known
 look_and_act-requires-clause-known g c = record { before = _; disk = c.requires.disk; there = c.requires.dir; read = rw c.in-Ok.is at c.in_ok-remembered.ensures.told }
 
 pub returns-in-Ok-clause-told : goal.returns-in-Ok-clause-told
-returns-in-Ok-clause-told g c = known_done c.look_and_act.result c.args.settings.now.state c.args.rules.now.sets c.args.clock.now.now (asking c.args.settings.now.force c.args.settings.now.mailer) c.in-Ok.remembered c.look_and_act.new.reached c.args.progress.now.faults.items c.look_and_act.new.progress.faults.items _ (rw c.in-Ok.is at c.in_ok-remembered.ensures.told) c.look_and_act.ensures.told
+returns-in-Ok-clause-told g c = known_done c.look_and_act.result c.args.settings.now.state c.args.rules.now.sets c.args.clock.now (asking c.args.settings.now.force c.args.settings.now.mailer) c.in-Ok.remembered c.look_and_act.new.reached c.args.progress.now.faults.items c.look_and_act.new.progress.faults.items _ (rw c.in-Ok.is at c.in_ok-remembered.ensures.told) c.look_and_act.ensures.told
 
 pub returns-in-Ok-clause-some : goal.returns-in-Ok-clause-some
-returns-in-Ok-clause-some g c = behind_state c.look_and_act.result c.args.settings.now.state c.args.rules.now.sets c.args.clock.now.now (asking c.args.settings.now.force c.args.settings.now.mailer) c.in-Ok.remembered _ (rw c.in-Ok.is at c.in_ok-remembered.ensures.told) c.look_and_act.ensures.some
+returns-in-Ok-clause-some g c = behind_state c.look_and_act.result c.args.settings.now.state c.args.rules.now.sets c.args.clock.now (asking c.args.settings.now.force c.args.settings.now.mailer) c.in-Ok.remembered _ (rw c.in-Ok.is at c.in_ok-remembered.ensures.told) c.look_and_act.ensures.some
 
 pub returns-in-Err-clause-told : goal.returns-in-Err-clause-told
-returns-in-Err-clause-told g c = unknown_done c.args.settings.now.state c.args.rules.now.sets c.args.clock.now.now (asking c.args.settings.now.force c.args.settings.now.mailer) c.args.reached.now c.in-Err.fault c.args.progress.now.faults.items c.add_unknown.new.faults.items c.requires.none (rw c.in-Err.is at c.in_ok-remembered.ensures.told) c.add_unknown.ensures.faults
+returns-in-Err-clause-told g c = unknown_done c.args.settings.now.state c.args.rules.now.sets c.args.clock.now (asking c.args.settings.now.force c.args.settings.now.mailer) c.args.reached.now c.in-Err.fault c.args.progress.now.faults.items c.add_unknown.new.faults.items c.requires.none (rw c.in-Err.is at c.in_ok-remembered.ensures.told) c.add_unknown.ensures.faults
 
 pub returns-in-Err-clause-counted : goal.returns-in-Err-clause-counted
 returns-in-Err-clause-counted g c = unknown_counted c.args.settings.now.state c.in-Err.fault c.args.progress.now.faults.items c.add_unknown.new.faults.items _ _ c.add_unknown.ensures.faults (c.in_ok-remembered.ensures.only c.in-Err.fault (ap Ok c.in-Err.is)) (λ kind path is. c.in_ok-remembered.ensures.counted kind path (ap Ok (c.in-Err.is ∙ ap Err is))) c.in_ok-remembered.ensures.counts.0

@@ -1,0 +1,333 @@
+-- A log with dates that can't be rotated since a member has the name that it would get: the member was seen, and the acts spare it.
+use Rattle.std.proofs.Common.{◌≡◌, ◌≢◌, inl, inr, ⊎_elim, ℕ, suc, ◌+◌, Bool, true, false, cond, Option, Some, None, List, [], ◌∷◌, ◌++◌, map, reverse, slice_get, refl, sym, ap, ◌∙◌, subst}
+use Rattle.std.specs.Prelude.{ℤ, filter, codes}
+use Rattle.std.proofs.lemmas.List.Elements.{All-contains}
+use Rattle.lr_rules.specs.declared.clock.Clock.{Clock}
+use Rattle.lr_rules.specs.declared.fault.Fault.{Fault}
+use Rattle.lr_rules.specs.declared.fault.Fault.TheVariants as fault
+use Rattle.lr_rules.specs.declared.path.Path.{Path}
+use Rattle.lr_rules.specs.declared.rule.Format.{Format}
+use Rattle.lr_rules.specs.declared.rule.Naming.{Naming}
+use Rattle.lr_rules.specs.declared.rule.Rule.{Rule}
+use Rattle.lr_rules.specs.declared.rules.Rules.{Rules}
+use Rattle.lr_rules.specs.Names.{IsOwnName}
+use Rattle.lr_stamps.specs.Dated.{clock_seconds}
+use Rattle.lr_host.specs.declared.entry.Entry.{Entry}
+use Rattle.lr_host.specs.declared.entry.Entry.TheVariants as entry
+use Rattle.lr_host.specs.declared.thing.Thing.TheVariants as thing
+use Rattle.lr_host.specs.declared.journal.Journal.{Journal}
+use Rattle.lr_host.specs.Lists.{IsIn}
+use Rattle.lr_host.specs.Quiet.{AreQuiet}
+use Rattle.lr_host.specs.Steps.{is_change}
+use Rattle.lr_host.specs.Told.{Each, Made, Left, Then}
+use Rattle.lr_host.specs.World.{Past, past, world, names}
+use Rattle.lr_host.proofs.Each.{each_append}
+use Rattle.lr_host.proofs.Left.{left_as, left_first}
+use Rattle.lr_host.proofs.Lists.{in_append, in_back, in_to}
+use Rattle.lr_host.proofs.Quiet.{quiet_still, still_in_order}
+use Rattle.lr_due.specs.declared.answer.Due.{Due}
+use Rattle.lr_due.specs.declared.answer.Due.TheVariants as due
+use Rattle.lr_family.specs.declared.place.Place.{Place}
+use Rattle.lr_family.specs.declared.place.Place.TheVariants as at
+use Rattle.lr_family.specs.declared.stand.Member.{Member}
+use Rattle.lr_family.specs.declared.stand.Stand.{Stand}
+use Rattle.lr_family.specs.Parts.{IsDated}
+use Rattle.lr_days.specs.Newest.{IsDayOf}
+use Rattle.lr_chain.specs.Ready.{highest_path}
+use Rattle.lr_dated_chain.specs.Next.{has_serials}
+use Rattle.lr_dated_ready.specs.Hindrances.{is_stamp, fault_at, too_high, taken, dated_hindrances}
+use Rattle.lr_plan.specs.declared.looks.LogLook.{LogLook}
+use Rattle.lr_plan.specs.declared.looks.SetLooks.{SetLooks}
+use Rattle.lr_plan.specs.declared.mark.Mark.{Mark}
+use Rattle.lr_plan.specs.Course.{Course}
+use Rattle.lr_plan.specs.Done.{SetsDone}
+use Rattle.lr_plan.specs.Planned.{numbered_hindrances, hindrances_by, hindrances, is_too_high, where_due, log_faults, all_faults, all_plans}
+use Rattle.lr_plan.specs.Steps.{steps_of_set, state_steps}
+use Rattle.lr_acts.specs.Named.{IsNamed}
+use Rattle.lr_acts.specs.Taken.{Spares, WasTaken}
+use Rattle.lr_acts.proofs.Taking.{taken_now, taken_before}
+use Rattle.lr_looks.specs.Families.{FamilySight, Stood, Stopped, LookedLog, looked_at, looked_of}
+use Rattle.lr_looks.specs.Found.{FoundLog}
+use Rattle.lr_looks.specs.Sets.{looked_in}
+use Rattle.lr_looks.specs.Shown.{ShowsLooks}
+use Rattle.lr_targets.specs.AllTurns.{IsOf, IsOfSome, IsOfState}
+use Rattle.lr_targets.specs.Target.{Target, IsOneOf}
+use Rattle.lr_targets.proofs.Apart.{own_change}
+use Rattle.lr_dated_seen.specs.Shown.{WasSeen, ShownDated}
+use Rattle.lr_dated_seen.proofs.Rotating.{file_stands}
+use Rattle.lr_dated_run.specs.Own.{HasAnyNames, HaveAnyNames}
+use Rattle.lr_dated_run.proofs.Own.{dated_own, dated_change}
+use Rattle.lr_weave.proofs.Parting.{done_some}
+use Rattle.lr_weave.proofs.Planning.{ready_planned}
+use Rattle.lr_seen.specs.Free.{reserved_by}
+use Rattle.lr_seen.specs.Targets.{groups_of, all_targets}
+use Rattle.lr_seen.proofs.Apart.{Off, OffFound, OffLooked, kept_off, looked_pairs, targets_apart}
+use Rattle.lr_seen.proofs.Coming.{Comes, comes_from, was_looked, in_looked}
+use Rattle.lr_seen.proofs.Elements.{Pairs, in_flat, in_each, each_in, pairs_two}
+use Rattle.lr_seen.proofs.Kept.{kept_has_none}
+use Rattle.lr_seen.proofs.Listed.{ShownBy, WasShown, all_shown}
+use Rattle.lr_seen.proofs.Quiet.{whole_quiet}
+use Rattle.lr_seen.proofs.Ready.{plans_have_logs}
+use Rattle.lr_seen.proofs.Seen.{targets_have_names}
+use Rattle.lr_run.proofs.Stating.{state_writing, changes_of_state}
+
+-- ---- the member that has the name
+
+-- the fault of a path that is taken is no other
+no_high : (x y : Path) → fault.TooHigh x ≡ fault.Taken y → ⊥
+no_high x y e = cc
+
+no_dir : (x y : Path) → fault.NoDir x ≡ fault.Taken y → ⊥
+no_dir x y e = cc
+
+same_path : (x y : Path) → fault.Taken x ≡ fault.Taken y → x ≡ y
+same_path x y e = cc
+
+-- the name that a log with dates would get is this member's
+record IsBarred (n : Naming) (stand : Stand) (path : Path) : Type 0 where
+  there : stand.there ≡ true
+  member : Member
+  among : IsIn member stand.members
+  path_is : member.path ≡ path
+
+in_high : (path : Path) (seconds : ℤ) (serial : ℕ) (ms : List Member) → IsIn (fault.Taken path) (fault_at too_high seconds serial ms) → ⊥
+in_high path seconds serial [] i = i
+in_high path seconds serial (m ∷ ms) i = go (is_stamp seconds serial m.place) (λ k. in_high path seconds serial ms k) i
+  where
+    go : (b : Bool) → (IsIn (fault.Taken path) (fault_at too_high seconds serial ms) → ⊥) → IsIn (fault.Taken path) (cond b (fault.TooHigh m.path ∷ []) (fault_at too_high seconds serial ms)) → ⊥
+    go true further (inl e) = no_high m.path path e
+    go true further (inr none) = none
+    go false further i = further i
+
+in_taken : (path : Path) (seconds : ℤ) (serial : ℕ) (ms : List Member) → IsIn (fault.Taken path) (fault_at taken seconds serial ms) → (m : Member) × IsIn m ms × (m.path ≡ path)
+in_taken path seconds serial [] i = absurd i
+in_taken path seconds serial (m ∷ ms) i = go (is_stamp seconds serial m.place) (λ k. in_taken path seconds serial ms k) i
+  where
+    go : (b : Bool) → (IsIn (fault.Taken path) (fault_at taken seconds serial ms) → (x : Member) × IsIn x ms × (x.path ≡ path)) → IsIn (fault.Taken path) (cond b (fault.Taken m.path ∷ []) (fault_at taken seconds serial ms)) → (x : Member) × IsIn x (m ∷ ms) × (x.path ≡ path)
+    go true further (inl e) = (m, inl refl, same_path m.path path e)
+    go true further (inr none) = absurd none
+    go false further i = let r = further i in (r.0, inr r.1, r.2)
+
+in_dated : (n : Naming) (stand : Stand) (seconds : ℤ) (path : Path) → IsIn (fault.Taken path) (dated_hindrances n stand seconds) → IsBarred n stand path
+in_dated n stand seconds path i = go stand.there refl (has_serials n.dated) i
+  where
+    go : (a : Bool) → stand.there ≡ a → (b : Bool) → IsIn (fault.Taken path) (cond a (cond b (fault_at too_high seconds 4294967295 stand.members) (fault_at taken seconds 0 stand.members)) (fault.NoDir n.dir ∷ [])) → IsBarred n stand path
+    go true is true i = absurd (in_high path seconds 4294967295 stand.members i)
+    go true is false i = let r = in_taken path seconds 0 stand.members i in record { there = is; member = r.0; among = r.1; path_is = r.2 }
+    go false is b (inl e) = absurd (no_dir n.dir path e)
+    go false is b (inr none) = absurd none
+
+in_numbered : (rule : Rule) (look : LogLook) (path : Path) → IsIn (fault.Taken path) (numbered_hindrances rule look) → ⊥
+in_numbered rule look path i = go look.stand.there (is_too_high rule look) i
+  where
+    go : (a b : Bool) → IsIn (fault.Taken path) (cond a (cond b (fault.TooHigh (highest_path look.family.naming) ∷ []) []) (fault.NoDir look.family.naming.dir ∷ [])) → ⊥
+    go true true (inl e) = no_high (highest_path look.family.naming) path e
+    go true true (inr none) = none
+    go true false none = none
+    go false b (inl e) = no_dir look.family.naming.dir path e
+    go false b (inr none) = none
+
+-- the log is one with dates
+is_dated : (clock : Clock) (rule : Rule) (look : LogLook) (path : Path) → IsIn (fault.Taken path) (hindrances clock rule look) → (format : Format) × (look.family.naming.dated ≡ Some format)
+is_dated clock rule look path i = go look.family.naming.dated refl i
+  where
+    go : (d : Option Format) → look.family.naming.dated ≡ d → IsIn (fault.Taken path) (hindrances_by d clock rule look) → (format : Format) × (look.family.naming.dated ≡ Some format)
+    go None is i = absurd (in_numbered rule look path i)
+    go (Some format) is i = (format, is)
+
+-- what hinders a log with dates is what its family and the clock say
+dated_hinders : (clock : Clock) (rule : Rule) (look : LogLook) (format : Format) → look.family.naming.dated ≡ Some format → hindrances clock rule look ≡ dated_hindrances look.family.naming look.stand (clock_seconds look.family.naming.dated clock)
+dated_hinders clock rule look format is = ap (λ (d : Option Format). hindrances_by d clock rule look) is
+
+-- ---- which log it is
+
+-- The fault is that of one of the looks.
+record IsHindered (clock : Clock) (rules : List Rule) (sets : List SetLooks) (path : Path) : Type 0 where
+  place : ℕ
+  rule : Rule
+  set : SetLooks
+  look : LogLook
+  at_set : slice_get sets place ≡ Some set
+  among : IsIn look set.logs
+  fault_in : IsIn (fault.Taken path) (hindrances clock rule look)
+
+in_due : (d : Due) (fs : List Fault) (f : Fault) → IsIn f (where_due d fs) → IsIn f fs
+in_due (due.Yes why) fs f i = i
+in_due (due.No why) fs f i = absurd i
+
+hindered_by : (clock : Clock) (decide : Rule → LogLook → Due) (rules : List Rule) (sets : List SetLooks) (path : Path) → IsIn (fault.Taken path) (all_faults clock decide rules sets) → IsHindered clock rules sets path
+hindered_by clock decide [] [] path i = absurd i
+hindered_by clock decide [] (set ∷ sets) path i = absurd i
+hindered_by clock decide (rule ∷ rules) [] path i = absurd i
+hindered_by clock decide (rule ∷ rules) (set ∷ sets) path i = ⊎_elim own (λ b. further (hindered_by clock decide rules sets path b)) (in_append (fault.Taken path) (log_faults clock rule (decide rule) set.logs) (all_faults clock decide rules sets) i)
+  where
+    own : IsIn (fault.Taken path) (log_faults clock rule (decide rule) set.logs) → IsHindered clock (rule ∷ rules) (set ∷ sets) path
+    own a =
+        let r = in_flat (λ (look : LogLook). where_due (decide rule look) (hindrances clock rule look)) set.logs (fault.Taken path) a in
+        record { place = 0; rule = rule; set = set; look = r.0; at_set = refl; among = r.1; fault_in = in_due (decide rule r.0) (hindrances clock rule r.0) (fault.Taken path) r.2 }
+
+    further : IsHindered clock rules sets path → IsHindered clock (rule ∷ rules) (set ∷ sets) path
+    further h = record { place = suc h.place; rule = h.rule; set = h.set; look = h.look; at_set = h.at_set; among = h.among; fault_in = h.fault_in }
+
+-- ---- logs that were looked at whole are one, or apart
+
+-- ---- what the acts spare
+
+-- an entry that changes nothing unlinks nothing
+calm_spares : (path : Path) (e : Entry) → is_change e ≡ false → Spares path e
+calm_spares path (entry.Unlinks x) h = absurd (cc)
+calm_spares path _ h = tt
+
+all_spare : (path : Path) (R : Entry → Type 0) → ((e : Entry) → R e → Spares path e) → (ts : List Entry) → Each R (filter is_change ts) → Each (Spares path) ts
+all_spare path R spare [] a = tt
+all_spare path R spare (e ∷ ts) a = go (is_change e) refl (λ b. all_spare path R spare ts b) a
+  where
+    go : (b : Bool) → is_change e ≡ b → (Each R (filter is_change ts) → Each (Spares path) ts) → Each R (cond b (e ∷ filter is_change ts) (filter is_change ts)) → Spares path e × Each (Spares path) ts
+    go true h rest a = (spare e a.0, rest a.1)
+    go false h rest a = (calm_spares path e h, rest a)
+
+-- an unlink of the path is on own names of the log that is rotated
+unlinks_own : (t : Target) (path : Path) (e : Entry) → HasAnyNames t → (IsOwnName t.log t.naming path → ⊥) → IsOf t e → Spares path e
+unlinks_own t path (entry.Unlinks x) (inl h) none i = λ same. none (own_change t (entry.Unlinks x) h i path (inl same))
+unlinks_own t path (entry.Unlinks x) (inr h) none i = λ same. none (dated_change t (entry.Unlinks x) h i path (inl same))
+unlinks_own t path _ h none i = tt
+
+some_spare : (path : Path) (ts : List Target) → HaveAnyNames ts → ((t : Target) → IsOneOf t ts → IsOwnName t.log t.naming path → ⊥) → (e : Entry) → IsOfSome ts e → Spares path e
+some_spare path [] h none e i = absurd i
+some_spare path (t ∷ ts) h none e (inl i) = unlinks_own t path e h.0 (none t (inl refl)) i
+some_spare path (t ∷ ts) h none e (inr i) = some_spare path ts h.1 (λ u j. none u (inr j)) e i
+
+state_spares : (state path : Path) → path ≢ state → path ≢ state ++ codes ".tmp" → (e : Entry) → IsOfState state e → Spares path e
+state_spares state path other part (entry.Unlinks x) (inl is) = λ same. other (sym same ∙ is)
+state_spares state path other part (entry.Unlinks x) (inr is) = λ same. part (sym same ∙ is)
+state_spares state path other part _ h = tt
+
+-- ---- the member
+
+module _ (state : Path) (rules : Rules) (sets : List SetLooks) (faults : List Fault) (looks : List Entry) (clock : Clock) (decide : Rule → LogLook → Due) (s : ShowsLooks (reserved_by state) rules.sets sets faults looks) (path : Path) (h : IsHindered clock rules.sets sets path) where
+  format : (f : Format) × (h.look.family.naming.dated ≡ Some f)
+  format = is_dated clock h.rule h.look path h.fault_in
+
+  abbrev n : Naming
+  n = h.look.family.naming
+
+  abbrev x : LookedLog
+  x = looked_in (0 + h.place) h.look
+
+  fault_of_stand : IsIn (fault.Taken path) (dated_hindrances n h.look.stand (clock_seconds n.dated clock))
+  fault_of_stand = subst (IsIn (fault.Taken path)) (dated_hinders clock h.rule h.look format.0 format.1) h.fault_in
+
+  barred : IsBarred n h.look.stand path
+  barred = in_dated n h.look.stand (clock_seconds n.dated clock) path fault_of_stand
+
+  looked : IsIn x s.looked
+  looked = was_looked 0 h.place s.looked sets h.set h.look s.by_sets h.at_set h.among
+
+  in_sights : IsIn x (looked_of s.kept s.entries.second.families.sights)
+  in_sights = subst (IsIn x) s.entries.second.families.looked_are looked
+
+  shown : ShownDated n h.look.stand.members looks
+  shown =
+      let w : WasShown n h.look.stand looks = all_shown looks s.kept s.entries.second.listings s.entries.second.families.sights s.entries.back (λ e i. subst (IsIn e) (sym s.entries.joined) (in_back e s.entries.front s.entries.back i)) s.entries.second.families.shown x in_sights in
+      subst (λ (d : Option Format). ShownBy d n h.look.stand looks) format.1 (w.0 barred.there)
+
+  -- it was seen, a file
+  member_seen : (m : Member) × (m.path ≡ path) × WasSeen looks m
+  member_seen = (barred.member, barred.path_is, All-contains (WasSeen looks) h.look.stand.members barred.member shown.files (in_to barred.member h.look.stand.members barred.among))
+
+  -- its path is that of a dated member of the log, which was kept
+  at_place : (place : Place) (y : Path) → IsDayOf n place y → IsDated n y
+  at_place (at.Stamp seconds serial) y d = (seconds, serial, d)
+  at_place (at.Number place) y d = absurd d
+
+  day : IsDated n path
+  day = subst (IsDated n) barred.path_is (at_place barred.member.place barred.member.path (All-contains (λ m. IsDayOf n m.place m.path) h.look.stand.members barred.member shown.named (in_to barred.member h.look.stand.members barred.among)))
+
+  own : IsOwnName h.look.path n path
+  own = dated_own h.look.path n day.0 day.1 path day.2
+
+  kept : (f : FoundLog) × IsIn f s.kept × ((stand : Stand) × (x ≡ looked_at f stand))
+  kept = in_looked s.kept s.entries.second.families.sights x in_sights
+
+  day_kept : IsDated kept.0.log.naming path
+  day_kept = subst (λ (y : LookedLog). IsDated y.naming path) kept.2.1 day
+
+  own_kept : IsOwnName kept.0.log.path kept.0.log.naming path
+  own_kept = dated_own kept.0.log.path kept.0.log.naming day_kept.0 day_kept.1 path day_kept.2
+
+  no_reserved : (y : Path) → IsIn y (reserved_by state) → path ≢ y
+  no_reserved y i same = kept_has_none rules.sets sets faults looks s kept.0 kept.1 y i (inl (subst (IsOwnName kept.0.log.path kept.0.log.naming) same own_kept))
+
+  -- it is no name of a log that is rotated
+  no_name : (t : Target) → IsOneOf t (all_targets clock decide rules.sets sets) → IsOwnName t.log t.naming path → ⊥
+  no_name t one mine = ⊎_elim same (λ off. ⊎_elim (λ (a : OffLooked y x). a.1 (path, inl (mine_of, inl own))) (λ (b : OffLooked x y). b.1 (path, inl (own, inl mine_of))) off)
+      (pairs_two OffLooked (looked_of s.kept s.entries.second.families.sights) (looked_pairs s.kept s.entries.second.families.sights (kept_off rules.sets sets faults looks s)) y x in_y in_sights)
+    where
+      in_list : (us : List Target) → IsOneOf t us → IsIn t us
+      in_list [] i = i
+      in_list (u ∷ us) (inl e) = inl e
+      in_list (u ∷ us) (inr i) = inr (in_list us i)
+
+      c : Comes clock rules.sets sets t
+      c = comes_from clock decide rules.sets sets t (in_list (all_targets clock decide rules.sets sets) one)
+
+      y : LookedLog
+      y = looked_in (0 + c.place) c.look
+
+      in_y : IsIn y (looked_of s.kept s.entries.second.families.sights)
+      in_y = subst (IsIn y) s.entries.second.families.looked_are (was_looked 0 c.place s.looked sets c.set c.look s.by_sets c.at_set c.among)
+
+      mine_of : IsOwnName y.path y.naming path
+      mine_of = subst (λ (u : Target). IsOwnName u.log u.naming path) c.is mine
+
+      -- nothing hinders a log that is rotated
+      same : y ≡ x → ⊥
+      same is =
+          let dated : c.look.family.naming.dated ≡ Some format.0 = ap (λ (z : LookedLog). z.naming.dated) is ∙ format.1 in
+          let moved : IsIn (fault.Taken path) (dated_hindrances c.look.family.naming c.look.stand (clock_seconds c.look.family.naming.dated clock)) = subst (λ (z : LookedLog). IsIn (fault.Taken path) (dated_hindrances z.naming z.stand (clock_seconds z.naming.dated clock))) (sym is) fault_of_stand in
+          let none : IsIn (fault.Taken path) [] = subst (IsIn (fault.Taken path)) (sym (dated_hinders clock c.rule c.look format.0 dated) ∙ c.free) moved in none
+
+  -- so the acts spare it
+  acts_spare : (mailer : Path) (stale : Bool) (dirs : List Path) (text : List ℕ) (marks : List Mark) (of_plan of_state : List Fault) (ts : List Entry)
+      → Then (SetsDone (map steps_of_set (all_plans clock mailer decide rules.sets sets)) marks of_plan) (Course (state_steps state stale dirs text) [] of_state) ts → Each (Spares path) ts
+  acts_spare mailer stale dirs text marks of_plan of_state ts a = subst (Each (Spares path)) (sym a.joined) (each_append (Spares path) a.front a.back
+      (all_spare path (IsOfSome targets) (some_spare path targets (targets_have_names rules sets faults looks clock decide s) no_name) a.front
+      (done_some targets (map steps_of_set (all_plans clock mailer decide rules.sets sets)) marks of_plan a.front
+      (ready_planned (groups_of clock decide rules.sets sets) (all_plans clock mailer decide rules.sets sets) (plans_have_logs rules.sets sets faults looks clock mailer decide s) (targets_apart rules.sets sets faults looks clock decide s)) a.first))
+      (all_spare path (IsOfState state) (state_spares state path (no_reserved state (inl refl)) (no_reserved (state ++ codes ".tmp") (inr (inl refl)))) a.back
+      (changes_of_state state a.back (state_writing state stale dirs text of_state a.back a.second))))
+    where
+      targets : List Target
+      targets = all_targets clock decide rules.sets sets
+
+-- what the plan tells as taken is a dated member of a log that was kept, and no path that the run reserves for itself
+pub taken_member : (state : Path) (rules : Rules) (sets : List SetLooks) (faults : List Fault) (looks : List Entry) (clock : Clock) (decide : Rule → LogLook → Due) → (s : ShowsLooks (reserved_by state) rules.sets sets faults looks)
+    → (path : Path) → IsIn (fault.Taken path) (all_faults clock decide rules.sets sets) → ((f : FoundLog) × IsIn f s.kept × IsDated f.log.naming path) × ((y : Path) → IsIn y (reserved_by state) → path ≢ y)
+taken_member state rules sets faults looks clock decide s path i =
+    let h = hindered_by clock decide rules.sets sets path i in
+    let f = kept state rules sets faults looks clock decide s path h in
+    ((f.0, f.1, day_kept state rules sets faults looks clock decide s path h), no_reserved state rules sets faults looks clock decide s path h)
+
+-- ---- behind the looks
+
+file_named : (m : Past) (x : Path) (id : ℕ) → names (world m) x ≡ thing.File id → names (world m) x ≢ thing.Nothing
+file_named m x id is none = let clash : thing.File id ≡ thing.Nothing = sym is ∙ none in cc
+
+-- what the plan tells as taken was named behind the looks, and no act unlinked it
+pub plan_taken : (state : Path) (rules : Rules) (sets : List SetLooks) (faults : List Fault) (looks : List Entry) (clock : Clock) (mailer : Path) (decide : Rule → LogLook → Due) (stale : Bool) (dirs : List Path) (text : List ℕ) (marks : List Mark) (of_plan of_state : List Fault) (j k : Journal) (es : List Entry) {n : Option Journal}
+    → Made (past j) es (past k) → looks ≡ reverse es → ShowsLooks (reserved_by state) rules.sets sets faults looks
+    → Left (Then (SetsDone (map steps_of_set (all_plans clock mailer decide rules.sets sets)) marks of_plan) (Course (state_steps state stale dirs text) [] of_state)) (Some k) n
+    → (path : Path) → IsIn (fault.Taken path) (all_faults clock decide rules.sets sets) → WasTaken path (Some k) n
+plan_taken state rules sets faults looks clock mailer decide stale dirs text marks of_plan of_state j k es made is s acts path i =
+    taken_before path (taken_now path (left_first (λ ts. ts ≡ []) (Some k) refl) named) (left_as acts (λ ts a. acts_spare state rules sets faults looks clock decide s path h mailer stale dirs text marks of_plan of_state ts a))
+  where
+    h : IsHindered clock rules.sets sets path
+    h = hindered_by clock decide rules.sets sets path i
+
+    seen : (m : Member) × (m.path ≡ path) × WasSeen looks m
+    seen = member_seen state rules sets faults looks clock decide s path h
+
+    named : IsNamed path (Some k)
+    named =
+        let file = file_stands (past j) (past k) es made (still_in_order es (quiet_still (reverse es) (subst AreQuiet is (whole_quiet rules.sets sets faults looks s)))) seen.0.path (seen.0.seen, seen.2.0, subst (IsIn (entry.Look seen.0.path (Some seen.0.seen))) is seen.2.1) in
+        subst (λ (x : Path). IsNamed x (Some k)) seen.1 (file_named (past k) seen.0.path file.0 file.1)
