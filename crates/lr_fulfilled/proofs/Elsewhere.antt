@@ -3,7 +3,7 @@ use Rattle.std.proofs.Common.{◌≡◌, ◌≢◌, ◌⊎◌, inl, inr, ⊎_eli
 use Rattle.std.specs.Prelude.{filter}
 use Rattle.std.proofs.lemmas.List.{reverse-reverse}
 use Rattle.std.proofs.lemmas.List.Elements.{filter-append}
-use Rattle.lr_rules.specs.declared.civil.Moment.{Moment}
+use Rattle.lr_rules.specs.declared.clock.Clock.{Clock}
 use Rattle.lr_rules.specs.declared.fault.Fault.{Fault}
 use Rattle.lr_rules.specs.declared.path.Path.{Path}
 use Rattle.lr_rules.specs.declared.rule.Rule.{Rule}
@@ -26,11 +26,13 @@ use Rattle.lr_looks.specs.Shown.{ShowsLooks}
 use Rattle.lr_plan.specs.declared.looks.LogLook.{LogLook}
 use Rattle.lr_plan.specs.declared.looks.SetLooks.{SetLooks}
 use Rattle.lr_plan.specs.Steps.{state_part}
-use Rattle.lr_targets.specs.AllTurns.{IsStatePath, IsOfState, IsOfSome, AllTurns}
-use Rattle.lr_targets.specs.Apart.{HaveNames}
-use Rattle.lr_targets.specs.Target.{Target, IsOneOf, AreSeen}
+use Rattle.lr_targets.specs.AllTurns.{IsStatePath, IsOf, IsOfState, IsOfSome}
+use Rattle.lr_targets.specs.Target.{Target, IsOneOf}
 use Rattle.lr_targets.proofs.Apart.{own_change}
-use Rattle.lr_targets.proofs.SeenFits.{seen_names}
+use Rattle.lr_dated_run.specs.Own.{ChangesOwn, HasAnyNames, HaveAnyNames}
+use Rattle.lr_dated_run.proofs.Own.{dated_change}
+use Rattle.lr_mixed.specs.AllTurns.{AllTurnsBy}
+use Rattle.lr_mixed.proofs.Seen.{have_names}
 use Rattle.lr_seen.specs.Free.{reserved_by}
 use Rattle.lr_seen.specs.Targets.{all_targets}
 use Rattle.lr_seen.proofs.Kept.{kept_has_none, kept_meets_none}
@@ -40,9 +42,14 @@ use Rattle.lr_fulfilled.proofs.Left.{left_alone}
 
 -- ---- one change
 
-some_aside : (x : Path) (ts : List Target) (e : Entry) → HaveNames ts → ((t : Target) → IsOneOf t ts → IsOwnName t.log t.naming x → ⊥) → IsOfSome ts e → IsAsideOf x e
+-- a change of a log's rotation is on names of its family, be they numbers or dates
+own_names : (t : Target) (e : Entry) → HasAnyNames t → IsOf t e → ChangesOwn t.log t.naming e
+own_names t e (inl h) i = own_change t e h i
+own_names t e (inr h) i = dated_change t e h i
+
+some_aside : (x : Path) (ts : List Target) (e : Entry) → HaveAnyNames ts → ((t : Target) → IsOneOf t ts → IsOwnName t.log t.naming x → ⊥) → IsOfSome ts e → IsAsideOf x e
 some_aside x [] e h none i = absurd i
-some_aside x (t ∷ ts) e h none (inl i) = λ at. none t (inl refl) (own_change t e h.0 i x at)
+some_aside x (t ∷ ts) e h none (inl i) = λ at. none t (inl refl) (own_names t e h.0 i x at)
 some_aside x (t ∷ ts) e h none (inr i) = some_aside x ts e h.1 (λ u j. none u (inr j)) i
 
 no_state_path : (state x y : Path) → x ≢ state → x ≢ state_part state → IsStatePath state y → y ≡ x → ⊥
@@ -60,7 +67,7 @@ state_aside state x _ a b h = absurd h
 abbrev pub IsOfRun : Path → List Target → Entry → Type 0
 IsOfRun state targets e = IsOfSome targets e ⊎ IsOfState state e
 
-one_aside : (state x : Path) (targets : List Target) (e : Entry) → HaveNames targets → IsElsewhere state targets x → IsOfRun state targets e → IsAsideOf x e
+one_aside : (state x : Path) (targets : List Target) (e : Entry) → HaveAnyNames targets → IsElsewhere state targets x → IsOfRun state targets e → IsAsideOf x e
 one_aside state x targets e h away (inl i) = some_aside x targets e h away.no_name i
 one_aside state x targets e h away (inr i) = state_aside state x e away.no_state away.no_part i
 
@@ -75,7 +82,7 @@ each_passed P f (e ∷ es) a = go (f e) (each_passed P f es a.1)
     go false rest = rest
 
 -- entries whose changes are of the state and of these logs leave all else alone
-pub elsewhere_left : (state : Path) (targets : List Target) (p q : Past) (es ts : List Entry) (x : Path) → Made p es q → IsJournal p → HaveNames targets → IsElsewhere state targets x → filter is_disk_change (reverse es) ≡ filter is_disk_change ts → Each (IsOfRun state targets) (filter is_change ts) → IsLeftAlone p q x
+pub elsewhere_left : (state : Path) (targets : List Target) (p q : Past) (es ts : List Entry) (x : Path) → Made p es q → IsJournal p → HaveAnyNames targets → IsElsewhere state targets x → filter is_disk_change (reverse es) ≡ filter is_disk_change ts → Each (IsOfRun state targets) (filter is_change ts) → IsLeftAlone p q x
 elsewhere_left state targets p q es ts x m j h away same a = left_alone p q es x m j
     (subst (Each (IsAsideOf x)) (sym (filter_reverse is_disk_change (reverse es)) ∙ ap (filter is_disk_change) (reverse-reverse es)) (each_reverse (IsAsideOf x) (filter is_disk_change (reverse es)) in_order))
   where
@@ -85,26 +92,22 @@ elsewhere_left state targets p q es ts x m j h away same a = left_alone p q es x
 
 -- ---- a run that looks first
 
-seen_have_names : (rules : Rules) (now : Moment) (looks : List Entry) (ts : List Target) → AreSeen rules now.seconds looks ts → HaveNames ts
-seen_have_names rules now looks [] s = tt
-seen_have_names rules now looks (t ∷ ts) s = (seen_names rules now.seconds looks t s.0, seen_have_names rules now looks ts s.1)
-
 -- what stands before its changes changes nothing
-pub behind_start : (state : Path) (now : Moment) (rules : Rules) (reads tail : List Entry) → AreQuiet reads → filter is_disk_change (reads ++ entry.Starts state now rules ∷ tail) ≡ filter is_disk_change tail
-behind_start state now rules reads tail quiet = filter-append is_disk_change reads (entry.Starts state now rules ∷ tail) ∙ ap (λ (xs : List Entry). xs ++ filter is_disk_change tail) (quiet_still reads quiet)
+pub behind_start : (state : Path) (clock : Clock) (rules : Rules) (reads tail : List Entry) → AreQuiet reads → filter is_disk_change (reads ++ entry.Starts state clock.now rules ∷ tail) ≡ filter is_disk_change tail
+behind_start state clock rules reads tail quiet = filter-append is_disk_change reads (entry.Starts state clock.now rules ∷ tail) ∙ ap (λ (xs : List Entry). xs ++ filter is_disk_change tail) (quiet_still reads quiet)
 
-pub turns_leave : (state : Path) (now : Moment) (rules : Rules) (p q : Past) (es reads tail : List Entry) (x : Path) (t : AllTurns state now rules tail) → Made p es q → IsJournal p → reverse es ≡ reads ++ entry.Starts state now rules ∷ tail → AreQuiet reads
+pub turns_leave : (state : Path) (clock : Clock) (rules : Rules) (p q : Past) (es reads tail : List Entry) (x : Path) (t : AllTurnsBy state clock rules tail) → Made p es q → IsJournal p → reverse es ≡ reads ++ entry.Starts state clock.now rules ∷ tail → AreQuiet reads
     → IsElsewhere state t.targets x → IsLeftAlone p q x
-turns_leave state now rules p q es reads tail x t m j joined quiet away = elsewhere_left state t.targets p q es tail x m j (seen_have_names rules now t.looks t.targets t.seen) away
-    (ap (filter is_disk_change) joined ∙ behind_start state now rules reads tail quiet)
+turns_leave state clock rules p q es reads tail x t m j joined quiet away = elsewhere_left state t.targets p q es tail x m j (have_names rules clock t.looks t.targets t.seen) away
+    (ap (filter is_disk_change) joined ∙ behind_start state clock rules reads tail quiet)
     (subst (Each (IsOfRun state t.targets)) (sym (ap (filter is_change) t.joined ∙ (filter-append is_change t.looks t.acts ∙ ap (λ (xs : List Entry). xs ++ filter is_change t.acts) (quiet_changes t.looks t.quiet)))) t.all)
 
 -- ---- a log that was kept
 
-pub kept_elsewhere : (state : Path) (rules : List Rule) (sets : List SetLooks) (faults : List Fault) (ts : List Entry) (now : Moment) (decide : Rule → LogLook → Due) (f : FoundLog) (x : Path) → (s : ShowsLooks (reserved_by state) rules sets faults ts) → IsIn f s.kept
-    → HasNone (all_targets now decide rules sets) f.log.path → IsOwnName f.log.path f.log.naming x → IsElsewhere state (all_targets now decide rules sets) x
-kept_elsewhere state rules sets faults ts now decide f x s kept none own = record {
+pub kept_elsewhere : (state : Path) (rules : List Rule) (sets : List SetLooks) (faults : List Fault) (ts : List Entry) (clock : Clock) (decide : Rule → LogLook → Due) (f : FoundLog) (x : Path) → (s : ShowsLooks (reserved_by state) rules sets faults ts) → IsIn f s.kept
+    → HasNone (all_targets clock decide rules sets) f.log.path → IsOwnName f.log.path f.log.naming x → IsElsewhere state (all_targets clock decide rules sets) x
+kept_elsewhere state rules sets faults ts clock decide f x s kept none own = record {
   no_state = λ same. kept_has_none rules sets faults ts s f kept state (inl refl) (inl (subst (IsOwnName f.log.path f.log.naming) same own));
   no_part = λ same. kept_has_none rules sets faults ts s f kept (state_part state) (inr (inl refl)) (inl (subst (IsOwnName f.log.path f.log.naming) same own));
-  no_name = λ t one named. kept_meets_none rules sets faults ts s f kept now decide t one (none t one) (x, inl (named, inl own));
+  no_name = λ t one named. kept_meets_none rules sets faults ts s f kept clock decide t one (none t one) (x, inl (named, inl own));
 }

@@ -1,6 +1,6 @@
 -- Where a run tells of nothing that failed, its acts met no fault.
 use Rattle.std.proofs.Common.{◌≡◌, ◌⊎◌, inl, inr, ⊎_elim, ◌+◌, ℕ, Bool, true, false, refl, sym, ◌∙◌, ap, subst, arith, List, [], ◌∷◌, ◌++◌, map, Option, Some}
-use Rattle.lr_rules.specs.declared.civil.Moment.{Moment}
+use Rattle.lr_rules.specs.declared.clock.Clock.{Clock}
 use Rattle.lr_rules.specs.declared.fault.CallKind.TheVariants as call
 use Rattle.lr_rules.specs.declared.fault.Fault.{Fault}
 use Rattle.lr_rules.specs.declared.fault.Fault.TheVariants as fault
@@ -89,18 +89,18 @@ course_none part (s ∷ ss) ms fs ts tell (inr g) no_call free = course_none par
 
 -- ---- all acts
 
-pub worked_met_nothing : (state : Path) (rules : List Rule) (now : Moment) (asked : Asked) (own : List Fault) (ts : List Entry) → (w : Worked state rules now asked own ts) → NothingFailed state own → w.acted.of_acts ≡ []
-worked_met_nothing state rules now asked own ts w n = a.faults_are ∙ (ap (λ fs. fs ++ a.of_state) (worked_met_none state rules now asked own ts w n.no_call n.no_end n.no_copy) ∙ wrote)
+pub worked_met_nothing : (state : Path) (rules : List Rule) (clock : Clock) (asked : Asked) (own : List Fault) (ts : List Entry) → (w : Worked state rules clock asked own ts) → NothingFailed state own → w.acted.of_acts ≡ []
+worked_met_nothing state rules clock asked own ts w n = a.faults_are ∙ (ap (λ fs. fs ++ a.of_state) (worked_met_none state rules clock asked own ts w n.no_call n.no_end n.no_copy) ∙ wrote)
   where
-    a : ActsDone (plan_in state rules ts w.looked now asked) state w.looked.remembered.stale (λ made. w.acted.dirs) (state_text state rules ts w.looked now) w.acted.marks w.acted.of_acts w.looked.acts
+    a : ActsDone (plan_in state rules ts w.looked clock asked) state w.looked.remembered.stale (λ made. w.acted.dirs) (state_text state rules ts w.looked clock) w.acted.marks w.acted.of_acts w.looked.acts
     a = w.acted.entries
 
     acts_called : calls_in w.acted.of_acts ≡ 0
-    acts_called = none_behind _ (plan_in state rules ts w.looked now asked).faults w.acted.of_acts refl (none_behind own w.looked.of_looks _ w.acted.faults_are n.no_call)
+    acts_called = none_behind _ (plan_in state rules ts w.looked clock asked).faults w.acted.of_acts refl (none_behind own w.looked.of_looks _ w.acted.faults_are n.no_call)
 
     in_own : IsIn (fault.Taken (state_part state)) a.of_state → IsIn (fault.Taken (state_part state)) own
     in_own i = subst (IsIn (fault.Taken (state_part state))) (sym w.acted.faults_are)
-        (in_back _ w.looked.of_looks _ (in_back _ (plan_in state rules ts w.looked now asked).faults w.acted.of_acts (subst (IsIn (fault.Taken (state_part state))) (sym a.faults_are) (in_back _ a.of_plan a.of_state i))))
+        (in_back _ w.looked.of_looks _ (in_back _ (plan_in state rules ts w.looked clock asked).faults w.acted.of_acts (subst (IsIn (fault.Taken (state_part state))) (sym a.faults_are) (in_back _ a.of_plan a.of_state i))))
 
     wrote : a.of_state ≡ []
     wrote = course_none (state_part state) _ [] a.of_state a.entries.back (state_tells state w.looked.remembered.stale w.acted.dirs _) a.entries.second (none_behind w.acted.of_acts a.of_plan a.of_state a.faults_are acts_called) (λ i. n.not_taken (in_own i))

@@ -1,15 +1,14 @@
 -- A run of which nothing failed fulfils its plan.
-use Rattle.std.proofs.Common.{◌≡◌, ◌≢◌, inl, inr, ℕ, Bool, false, refl, sym, ◌∙◌, ap, subst, List, [], ◌∷◌, ◌++◌, map, reverse, append_assoc, append-nil}
+use Rattle.std.proofs.Common.{◌≡◌, ◌≢◌, inl, inr, ℕ, false, refl, sym, ◌∙◌, ap, subst, List, [], ◌∷◌, ◌++◌, map, reverse, append_assoc, append-nil}
 use Rattle.std.specs.Prelude.{filter}
 use Rattle.std.proofs.lemmas.List.Elements.{filter-append}
-use Rattle.lr_rules.specs.declared.civil.Moment.{Moment}
+use Rattle.lr_rules.specs.declared.clock.Clock.{Clock}
 use Rattle.lr_rules.specs.declared.fault.Fault.{Fault}
 use Rattle.lr_rules.specs.declared.path.Path.{Path}
 use Rattle.lr_rules.specs.declared.rule.Rule.{Rule}
 use Rattle.lr_rules.specs.declared.rules.Rules.{Rules}
 use Rattle.lr_rules.specs.Path.{parent_of}
 use Rattle.lr_due.specs.declared.answer.Due.{Due}
-use Rattle.lr_fields.specs.Built.{AreBuiltRules}
 use Rattle.lr_host.specs.declared.entry.Entry.{Entry}
 use Rattle.lr_host.specs.declared.entry.Entry.TheVariants as entry
 use Rattle.lr_host.specs.Lists.{IsIn}
@@ -32,8 +31,8 @@ use Rattle.lr_plan.specs.Done.{ActsDone, rotated_logs}
 use Rattle.lr_plan.specs.Planned.{decision}
 use Rattle.lr_plan.specs.Steps.{state_part, state_steps, steps_of_set}
 use Rattle.lr_targets.specs.AllTurns.{IsOfSome, IsOfState}
-use Rattle.lr_targets.specs.Apart.{HaveNames}
 use Rattle.lr_targets.specs.Target.{Target}
+use Rattle.lr_dated_run.specs.Own.{HaveAnyNames}
 use Rattle.lr_rotations.proofs.Weaving.{each_in}
 use Rattle.lr_weave.specs.Parts.{ArePlanned}
 use Rattle.lr_weave.proofs.Parting.{done_some}
@@ -47,8 +46,8 @@ use Rattle.lr_writing.proofs.Named.{named_whole}
 use Rattle.lr_run.specs.Dry.{IsSight, AreSights}
 use Rattle.lr_run.specs.Runs.{Inside, Looked, Worked, plan_in, logs_in, state_text}
 use Rattle.lr_run.proofs.Renewing.{behind_quiet, each_later, worked_may}
-use Rattle.lr_run.proofs.Rotating.{run_rotated}
-use Rattle.lr_run.proofs.Turning.{run_turned}
+use Rattle.lr_run.proofs.Rotating.{run_rotated, run_dated_rotated}
+use Rattle.lr_run.proofs.Turning.{run_turned, run_dated_turned}
 use Rattle.lr_run.proofs.Seeing.{seen_so}
 use Rattle.lr_run.proofs.Shape.{sees_quiet, seen_quiet, looked_parts, in_parts, all_of_state}
 use Rattle.lr_fulfilled.specs.Acts.{is_act, AreActsOf}
@@ -85,24 +84,24 @@ behind_sights xs ys a = filter-append is_act xs ys ∙ ap (λ (zs : List Entry).
 
 -- ---- the run
 
-module _ (state : Path) (asked : Asked) (now : Moment) (rules : Rules) (own : List Fault) (p q : Past) (es reads acts : List Entry) (built : AreBuiltRules rules.sets) (made : Made p es q) (journal : IsJournal p) (joined : reverse es ≡ reads ++ acts) (sights : AreSights reads) (i : Inside state now rules (Worked state rules.sets now asked own) acts) (nothing : NothingFailed state own) where
-  abbrev w : Worked state rules.sets now asked own i.between
+module _ (state : Path) (asked : Asked) (clock : Clock) (rules : Rules) (own : List Fault) (p q : Past) (es reads acts : List Entry) (made : Made p es q) (journal : IsJournal p) (joined : reverse es ≡ reads ++ acts) (sights : AreSights reads) (i : Inside state clock rules (Worked state rules.sets clock asked own) acts) (nothing : NothingFailed state own) where
+  abbrev w : Worked state rules.sets clock asked own i.between
   w = i.within
 
   abbrev l : Looked state rules.sets i.between
   l = w.looked
 
   abbrev decide : Rule → LogLook → Due
-  decide = decision l.remembered.table now asked.force
+  decide = decision l.remembered.table clock.now asked.force
 
   abbrev targets : List Target
-  targets = all_targets now decide rules.sets l.sets
+  targets = all_targets clock decide rules.sets l.sets
 
   none : w.acted.of_acts ≡ []
-  none = worked_met_nothing state rules.sets now asked own i.between w nothing
+  none = worked_met_nothing state rules.sets clock asked own i.between w nothing
 
-  done : ActsDone (plan_in state rules.sets i.between l now asked) state l.remembered.stale (λ marks. w.acted.dirs) (state_text state rules.sets i.between l now) w.acted.marks [] l.acts
-  done = subst (λ (fs : List Fault). ActsDone (plan_in state rules.sets i.between l now asked) state l.remembered.stale (λ marks. w.acted.dirs) (state_text state rules.sets i.between l now) w.acted.marks fs l.acts) none w.acted.entries
+  done : ActsDone (plan_in state rules.sets i.between l clock asked) state l.remembered.stale (λ marks. w.acted.dirs) (state_text state rules.sets i.between l clock) w.acted.marks [] l.acts
+  done = subst (λ (fs : List Fault). ActsDone (plan_in state rules.sets i.between l clock asked) state l.remembered.stale (λ marks. w.acted.dirs) (state_text state rules.sets i.between l clock) w.acted.marks fs l.acts) none w.acted.entries
 
   -- ---- its acts
 
@@ -121,26 +120,26 @@ module _ (state : Path) (asked : Asked) (now : Moment) (rules : Rules) (own : Li
       ∙ (append-nil (filter is_act i.between)
       ∙ (ap (filter is_act) (looked_parts state rules.sets i.between l) ∙ behind_sights (l.reads ++ l.looks) l.acts looks_see)))))
 
-  run_acts : AreActsOf (steps_in state rules.sets i.between l now asked w.acted.dirs) (filter is_act (reverse es))
-  run_acts = subst (AreActsOf (steps_in state rules.sets i.between l now asked w.acted.dirs)) (sym acts_of)
-      (acts_planned (plan_in state rules.sets i.between l now asked) state l.remembered.stale (λ marks. w.acted.dirs) (state_text state rules.sets i.between l now) w.acted.marks l.acts done)
+  run_acts : AreActsOf (steps_in state rules.sets i.between l clock asked w.acted.dirs) (filter is_act (reverse es))
+  run_acts = subst (AreActsOf (steps_in state rules.sets i.between l clock asked w.acted.dirs)) (sym acts_of)
+      (acts_planned (plan_in state rules.sets i.between l clock asked) state l.remembered.stale (λ marks. w.acted.dirs) (state_text state rules.sets i.between l clock) w.acted.marks l.acts done)
 
   -- ---- what it changes
 
   abbrev work : List Entry
   work = ((l.reads ++ l.looks) ++ w.acted.entries.entries.front) ++ w.acted.entries.entries.back
 
-  named : HaveNames targets
-  named = targets_have_names rules l.sets l.of_looks l.looks now decide built l.shown
+  named : HaveAnyNames targets
+  named = targets_have_names rules l.sets l.of_looks l.looks clock decide l.shown
 
-  planned : ArePlanned targets (map steps_of_set (plan_in state rules.sets i.between l now asked).sets)
-  planned = ready_planned (groups_of now decide rules.sets l.sets) (plan_in state rules.sets i.between l now asked).sets (plans_have_logs rules.sets l.sets l.of_looks l.looks now asked.mailer decide built l.shown) (targets_apart rules.sets l.sets l.of_looks l.looks now decide l.shown)
+  planned : ArePlanned targets (map steps_of_set (plan_in state rules.sets i.between l clock asked).sets)
+  planned = ready_planned (groups_of clock decide rules.sets l.sets) (plan_in state rules.sets i.between l clock asked).sets (plans_have_logs rules.sets l.sets l.of_looks l.looks clock asked.mailer decide l.shown) (targets_apart rules.sets l.sets l.of_looks l.looks clock decide l.shown)
 
   front_changes : Each (IsOfRun state targets) (filter is_change w.acted.entries.entries.front)
-  front_changes = each_as (IsOfSome targets) (IsOfRun state targets) _ (λ e h. inl h) (done_some targets (map steps_of_set (plan_in state rules.sets i.between l now asked).sets) w.acted.marks w.acted.entries.of_plan w.acted.entries.entries.front planned w.acted.entries.entries.first)
+  front_changes = each_as (IsOfSome targets) (IsOfRun state targets) _ (λ e h. inl h) (done_some targets (map steps_of_set (plan_in state rules.sets i.between l clock asked).sets) w.acted.marks w.acted.entries.of_plan w.acted.entries.entries.front planned w.acted.entries.entries.first)
 
   back_changes : Each (IsOfRun state targets) (filter is_change w.acted.entries.entries.back)
-  back_changes = each_as (IsOfState state) (IsOfRun state targets) _ (λ e h. inr h) (all_of_state state rules.sets now asked own i.between w)
+  back_changes = each_as (IsOfState state) (IsOfRun state targets) _ (λ e h. inr h) (all_of_state state rules.sets clock asked own i.between w)
 
   changes : Each (IsOfRun state targets) (filter is_change (work ++ entry.Ends ∷ []))
   changes = subst (Each (IsOfRun state targets))
@@ -154,15 +153,15 @@ module _ (state : Path) (asked : Asked) (now : Moment) (rules : Rules) (own : Li
   front_quiet = quiet_both reads i.before (sights_quiet reads sights) (sees_quiet (parent_of state) IsDir i.before i.directory)
 
   -- all its entries, around its work
-  whole : reverse es ≡ (reads ++ i.before) ++ (entry.Starts state now rules ∷ (i.between ++ entry.Ends ∷ []))
-  whole = joined ∙ (ap (λ (xs : List Entry). reads ++ xs) i.entries ∙ sym (append_assoc reads i.before (entry.Starts state now rules ∷ (i.between ++ entry.Ends ∷ []))))
+  whole : reverse es ≡ (reads ++ i.before) ++ (entry.Starts state clock.now rules ∷ (i.between ++ entry.Ends ∷ []))
+  whole = joined ∙ (ap (λ (xs : List Entry). reads ++ xs) i.entries ∙ sym (append_assoc reads i.before (entry.Starts state clock.now rules ∷ (i.between ++ entry.Ends ∷ []))))
 
   worked_through : i.between ++ entry.Ends ∷ [] ≡ work ++ entry.Ends ∷ []
-  worked_through = ap (λ (xs : List Entry). xs ++ entry.Ends ∷ []) (in_parts state rules.sets now asked own i.between w)
+  worked_through = ap (λ (xs : List Entry). xs ++ entry.Ends ∷ []) (in_parts state rules.sets clock asked own i.between w)
 
   others_left : (x : Path) → IsElsewhere state targets x → IsLeftAlone p q x
   others_left x away = elsewhere_left state targets p q es (work ++ entry.Ends ∷ []) x made journal named away
-      (ap (filter is_disk_change) whole ∙ (behind_start state now rules (reads ++ i.before) (i.between ++ entry.Ends ∷ []) front_quiet ∙ ap (filter is_disk_change) worked_through)) changes
+      (ap (filter is_disk_change) whole ∙ (behind_start state clock rules (reads ++ i.before) (i.between ++ entry.Ends ∷ []) front_quiet ∙ ap (filter is_disk_change) worked_through)) changes
 
   -- ---- its state
 
@@ -170,15 +169,15 @@ module _ (state : Path) (asked : Asked) (now : Moment) (rules : Rules) (own : Li
   tools = each_reverse IsTools es (made_tools p q es made)
 
   between_tools : Each IsTools i.between
-  between_tools = each_first IsTools i.between (entry.Ends ∷ []) (each_later IsTools (reads ++ i.before) (entry.Starts state now rules ∷ (i.between ++ entry.Ends ∷ [])) (subst (Each IsTools) whole tools)).1
+  between_tools = each_first IsTools i.between (entry.Ends ∷ []) (each_later IsTools (reads ++ i.before) (entry.Starts state clock.now rules ∷ (i.between ++ entry.Ends ∷ [])) (subst (Each IsTools) whole tools)).1
 
   abbrev text : List ℕ
-  text = state_text state rules.sets i.between l now (rotated_logs w.acted.marks)
+  text = state_text state rules.sets i.between l clock (rotated_logs w.acted.marks)
 
   may_renew : MayRenew state (λ bytes. bytes ≡ text) (reverse es)
   may_renew = subst (MayRenew state (λ bytes. bytes ≡ text)) (sym whole)
-      (behind_quiet state (λ bytes. bytes ≡ text) (λ bytes. bytes ≡ text) (λ bytes is. is) (reads ++ i.before) (entry.Starts state now rules ∷ (i.between ++ entry.Ends ∷ [])) front_quiet
-      (worked_may state rules now asked built own i.between w between_tools (λ bytes. bytes ≡ text) refl (entry.Starts state now rules ∷ []) ((λ h. h), tt) ((λ x h. absurd h), tt)))
+      (behind_quiet state (λ bytes. bytes ≡ text) (λ bytes. bytes ≡ text) (λ bytes is. is) (reads ++ i.before) (entry.Starts state clock.now rules ∷ (i.between ++ entry.Ends ∷ [])) front_quiet
+      (worked_may state rules clock asked own i.between w between_tools (λ bytes. bytes ≡ text) refl (entry.Starts state clock.now rules ∷ []) ((λ h. h), tt) ((λ x h. absurd h), tt)))
 
   wrote : IsNamed state w.acted.dirs text w.acted.entries.entries.back
   wrote = named_whole state l.remembered.stale w.acted.dirs text w.acted.entries.entries.back
@@ -188,16 +187,16 @@ module _ (state : Path) (asked : Asked) (now : Moment) (rules : Rules) (own : Li
   renames : IsIn (entry.Renames (state_part state) state) (reverse es)
   renames = subst (IsIn turn) (sym whole)
       (in_back turn (reads ++ i.before) _ (inr (in_front turn i.between (entry.Ends ∷ [])
-      (subst (IsIn turn) (sym (in_parts state rules.sets now asked own i.between w))
+      (subst (IsIn turn) (sym (in_parts state rules.sets clock asked own i.between w))
       (in_back turn ((l.reads ++ l.looks) ++ w.acted.entries.entries.front) w.acted.entries.entries.back
       (subst (IsIn turn) (sym wrote.ts_are) (in_back turn wrote.before _ (inl refl))))))))
     where
       turn : Entry
       turn = entry.Renames (state_part state) state
 
-  written : AttachedOnlySince (λ x. (x ≢ state) × (x ≢ state_part state)) p q → HasText state (state_text state rules.sets i.between l now (logs_in (plan_in state rules.sets i.between l now asked))) q
-  written only = subst (λ (logs : List Path). HasText state (state_text state rules.sets i.between l now logs) q)
-      (logs_planned (plan_in state rules.sets i.between l now asked) state l.remembered.stale (λ marks. w.acted.dirs) (state_text state rules.sets i.between l now) w.acted.marks l.acts done) (go may_renew)
+  written : AttachedOnlySince (λ x. (x ≢ state) × (x ≢ state_part state)) p q → HasText state (state_text state rules.sets i.between l clock (logs_in (plan_in state rules.sets i.between l clock asked))) q
+  written only = subst (λ (logs : List Path). HasText state (state_text state rules.sets i.between l clock logs) q)
+      (logs_planned (plan_in state rules.sets i.between l clock asked) state l.remembered.stale (λ marks. w.acted.dirs) (state_text state rules.sets i.between l clock) w.acted.marks l.acts done) (go may_renew)
     where
       go : MayRenew state (λ bytes. bytes ≡ text) (reverse es) → HasText state text q
       go (left_alone a) = absurd (each_in (IsAsideOf state) (reverse es) (entry.Renames (state_part state) state) a renames (inr (inl refl)))
@@ -205,18 +204,20 @@ module _ (state : Path) (asked : Asked) (now : Moment) (rules : Rules) (own : Li
 
   -- ---- all of it
 
-  run_faults : own ≡ l.of_looks ++ (plan_in state rules.sets i.between l now asked).faults
-  run_faults = w.acted.faults_are ∙ ap (λ (fs : List Fault). l.of_looks ++ fs) (ap (λ (fs : List Fault). (plan_in state rules.sets i.between l now asked).faults ++ fs) none ∙ append-nil (plan_in state rules.sets i.between l now asked).faults)
+  run_faults : own ≡ l.of_looks ++ (plan_in state rules.sets i.between l clock asked).faults
+  run_faults = w.acted.faults_are ∙ ap (λ (fs : List Fault). l.of_looks ++ fs) (ap (λ (fs : List Fault). (plan_in state rules.sets i.between l clock asked).faults ++ fs) none ∙ append-nil (plan_in state rules.sets i.between l clock asked).faults)
 
-  pub fulfilled : IsFulfilled state rules.sets now asked i.between l own (reverse es) p q
+  pub fulfilled : IsFulfilled state rules.sets clock asked i.between l own (reverse es) p q
   fulfilled = record {
     faults = run_faults;
     dirs = w.acted.dirs;
     dirs_are = w.acted.dirs_are;
     acts = run_acts;
-    rotated = λ t one by_rename. run_rotated state asked now rules own p q es reads acts built made journal joined (sights_quiet reads sights) i nothing.no_call nothing.no_end nothing.no_copy t one by_rename;
-    turned = λ t one job is. run_turned state asked now rules own p q es reads acts built made journal joined (sights_quiet reads sights) i nothing.no_call nothing.no_end nothing.no_copy t one job is;
+    rotated = λ t one by_rename numbered. run_rotated state asked clock rules own p q es reads acts made journal joined (sights_quiet reads sights) i nothing.no_call nothing.no_end nothing.no_copy t one by_rename numbered;
+    dated_rotated = λ t one by_rename dated. run_dated_rotated state asked clock rules own p q es reads acts made journal joined (sights_quiet reads sights) i nothing.no_call nothing.no_end nothing.no_copy t one by_rename dated;
+    turned = λ t one job is numbered. run_turned state asked clock rules own p q es reads acts made journal joined (sights_quiet reads sights) i nothing.no_call nothing.no_end nothing.no_copy t one job is numbered;
+    dated_turned = λ t one job is dated. run_dated_turned state asked clock rules own p q es reads acts made journal joined (sights_quiet reads sights) i nothing.no_call nothing.no_end nothing.no_copy t one job is dated;
     written = written;
-    kept = λ f kept free x is. others_left x (kept_elsewhere state rules.sets l.sets l.of_looks l.looks now decide f x l.shown kept free is);
+    kept = λ f kept free x is. others_left x (kept_elsewhere state rules.sets l.sets l.of_looks l.looks clock decide f x l.shown kept free is);
     others = others_left;
   }

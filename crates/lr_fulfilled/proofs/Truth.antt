@@ -1,7 +1,7 @@
 -- The looks of a run are true from its start to their end.
 use Rattle.std.proofs.Common.{◌≡◌, List, [], ◌∷◌, ◌++◌, reverse, append_assoc, append-nil, refl, sym, ◌∙◌, ap, subst}
 use Rattle.std.proofs.lemmas.List.{reverse-append, reverse-reverse}
-use Rattle.lr_rules.specs.declared.civil.Moment.{Moment}
+use Rattle.lr_rules.specs.declared.clock.Clock.{Clock}
 use Rattle.lr_rules.specs.declared.fault.Fault.{Fault}
 use Rattle.lr_rules.specs.declared.path.Path.{Path}
 use Rattle.lr_rules.specs.declared.rules.Rules.{Rules}
@@ -29,12 +29,12 @@ pub record Looking (start : Entry) (p q : Past) (front seen later : List Entry) 
   pub between : Made (at ▸ start) (reverse seen) looked
   pub until : Made looked (reverse later) q
 
-module _ (state : Path) (asked : Asked) (now : Moment) (rules : Rules) (own : List Fault) (p q : Past) (es reads acts : List Entry) (made : Made p es q) (journal : IsJournal p) (joined : reverse es ≡ reads ++ acts) (i : Inside state now rules (Worked state rules.sets now asked own) acts) where
+module _ (state : Path) (asked : Asked) (clock : Clock) (rules : Rules) (own : List Fault) (p q : Past) (es reads acts : List Entry) (made : Made p es q) (journal : IsJournal p) (joined : reverse es ≡ reads ++ acts) (i : Inside state clock rules (Worked state rules.sets clock asked own) acts) where
   abbrev pub l : Looked state rules.sets i.between
   l = i.within.looked
 
   abbrev pub start : Entry
-  start = entry.Starts state now rules
+  start = entry.Starts state clock.now rules
 
   -- what comes before the start, and what behind it
   abbrev pub front : List Entry
@@ -80,7 +80,7 @@ module _ (state : Path) (asked : Asked) (now : Moment) (rules : Rules) (own : Li
   pub looks_stand : AreTrue rules.sets l.sets l.of_looks l.looks l.shown (looking.at ▸ start) looking.looked
   looks_stand = looks_true rules l.sets l.of_looks l.reads l.looks (reverse seen) (looking.at ▸ start) looking.looked l.shown (made_journal p looking.at (reverse front) looking.since journal, looking.fits) looking.between (reverse-reverse seen) (state_quiet state 65_536 l.sights l.reads l.read)
 
-  pub run_looks_true : LooksAreTrue state now rules i.between l p q
+  pub run_looks_true : LooksAreTrue state clock rules i.between l p q
   run_looks_true = record {
     at = looking.at;
     looked = looking.looked;

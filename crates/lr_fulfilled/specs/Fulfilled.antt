@@ -1,6 +1,6 @@
 -- What a run makes of its plan, where nothing failed.
-use Rattle.std.specs.Prelude.{◌≡◌, ◌≢◌, Bool, List, ◌++◌, filter, Some, None}
-use Rattle.lr_rules.specs.declared.civil.Moment.{Moment}
+use Rattle.std.specs.Prelude.{◌≡◌, ◌≢◌, List, ◌++◌, filter, Some, None, IsSome}
+use Rattle.lr_rules.specs.declared.clock.Clock.{Clock}
 use Rattle.lr_rules.specs.declared.fault.Fault.{Fault}
 use Rattle.lr_rules.specs.declared.fault.Fault.TheVariants as fault
 use Rattle.lr_rules.specs.declared.path.Path.{Path}
@@ -20,8 +20,8 @@ use Rattle.lr_plan.specs.declared.step.Step.{Step}
 use Rattle.lr_plan.specs.Steps.{steps_of_plan, state_part, state_steps}
 use Rattle.lr_targets.specs.Target.{Target, IsOneOf}
 use Rattle.lr_run.specs.Copied.{NoneOfCopy}
-use Rattle.lr_run.specs.Rotated.{rotated_in, IsRotatedAmong}
-use Rattle.lr_run.specs.Turned.{IsTurnedAmong}
+use Rattle.lr_run.specs.Rotated.{rotated_in, IsRotatedAmong, IsDatedRotatedAmong}
+use Rattle.lr_run.specs.Turned.{IsTurnedAmong, IsDatedTurnedAmong}
 use Rattle.lr_run.specs.Runs.{Looked, logs_in, changed_in, plan_in, state_text}
 use Rattle.lr_writing.specs.Directories.{AreDirectoriesOf}
 use Rattle.lr_fulfilled.specs.Acts.{is_act, AreActsOf}
@@ -35,9 +35,9 @@ pub record NothingFailed (state : Path) (faults : List Fault) : Type 0 where
   pub not_taken : IsIn (fault.Taken (state_part state)) faults → ⊥
 
 -- the steps of the plan that follows from these looks, and then those of the writing of the state, with each log of the plan as rotated
-abbrev pub steps_in : (state : Path) (rules : List Rule) (ts : List Entry) → Looked state rules ts → Moment → Asked → List Path → List Step
-steps_in state rules ts l now asked dirs =
-    all_of_sets (steps_of_plan (plan_in state rules ts l now asked)) ++ state_steps state l.remembered.stale dirs (state_text state rules ts l now (logs_in (plan_in state rules ts l now asked)))
+abbrev pub steps_in : (state : Path) (rules : List Rule) (ts : List Entry) → Looked state rules ts → Clock → Asked → List Path → List Step
+steps_in state rules ts l clock asked dirs =
+    all_of_sets (steps_of_plan (plan_in state rules ts l clock asked)) ++ state_steps state l.remembered.stale dirs (state_text state rules ts l clock (logs_in (plan_in state rules ts l clock asked)))
 
 -- The path is none of the state's, and no name of these logs.
 pub record IsElsewhere (state : Path) (targets : List Target) (x : Path) : Type 0 where
@@ -50,20 +50,22 @@ abbrev pub HasNone : List Target → Path → Type 0
 HasNone targets log = (t : Target) → IsOneOf t targets → t.log ≢ log
 
 -- Of a run that came to its plan by these looks, with these faults of its own, and of all entries between the two pasts: what it planned was done, and nothing else.
-pub record IsFulfilled (state : Path) (rules : List Rule) (now : Moment) (asked : Asked) (ts : List Entry) (l : Looked state rules ts) (own : List Fault) (all : List Entry) (before after : Past) : Type 0 where
+pub record IsFulfilled (state : Path) (rules : List Rule) (clock : Clock) (asked : Asked) (ts : List Entry) (l : Looked state rules ts) (own : List Fault) (all : List Entry) (before after : Past) : Type 0 where
   -- its faults are those of the looks and of the plan, and no other
-  pub faults : own ≡ l.of_looks ++ (plan_in state rules ts l now asked).faults
+  pub faults : own ≡ l.of_looks ++ (plan_in state rules ts l clock asked).faults
   -- the acts, in order, are those of the plan's steps and then those of the state's writing, before which these directories are synced
   pub dirs : List Path
-  pub dirs_are : AreDirectoriesOf (changed_in (plan_in state rules ts l now asked)) dirs
-  pub acts : AreActsOf (steps_in state rules ts l now asked dirs) (filter is_act all)
-  -- each log of the plan that is renamed was rotated, file by file
-  pub rotated : (t : Target) → IsOneOf t (rotated_in state rules ts l now asked) → t.job ≡ None → IsRotatedAmong state (rotated_in state rules ts l now asked) before after t
+  pub dirs_are : AreDirectoriesOf (changed_in (plan_in state rules ts l clock asked)) dirs
+  pub acts : AreActsOf (steps_in state rules ts l clock asked dirs) (filter is_act all)
+  -- each log of the plan that is renamed was rotated, file by file: of numbered members, and of dated ones
+  pub rotated : (t : Target) → IsOneOf t (rotated_in state rules ts l clock asked) → t.job ≡ None → t.naming.dated ≡ None → IsRotatedAmong state (rotated_in state rules ts l clock asked) before after t
+  pub dated_rotated : (t : Target) → IsOneOf t (rotated_in state rules ts l clock asked) → t.job ≡ None → IsSome t.naming.dated → IsDatedRotatedAmong state rules (rotated_in state rules ts l clock asked) clock before after t
   -- each that is copied was turned by its copy
-  pub turned : (t : Target) → IsOneOf t (rotated_in state rules ts l now asked) → (job : Job) → t.job ≡ Some job → IsTurnedAmong state (rotated_in state rules ts l now asked) before after t job
+  pub turned : (t : Target) → IsOneOf t (rotated_in state rules ts l clock asked) → (job : Job) → t.job ≡ Some job → t.naming.dated ≡ None → IsTurnedAmong state (rotated_in state rules ts l clock asked) before after t job
+  pub dated_turned : (t : Target) → IsOneOf t (rotated_in state rules ts l clock asked) → (job : Job) → t.job ≡ Some job → IsSome t.naming.dated → IsDatedTurnedAmong state rules (rotated_in state rules ts l clock asked) clock before after t job
   -- the state tells of each of them, where no writer was attached to its path or to that of its part file
-  pub written : AttachedOnlySince (λ x. (x ≢ state) × (x ≢ state_part state)) before after → HasText state (state_text state rules ts l now (logs_in (plan_in state rules ts l now asked))) after
+  pub written : AttachedOnlySince (λ x. (x ≢ state) × (x ≢ state_part state)) before after → HasText state (state_text state rules ts l clock (logs_in (plan_in state rules ts l clock asked))) after
   -- each other log that is kept was left alone, with its members
-  pub kept : (f : FoundLog) → IsIn f l.shown.kept → HasNone (rotated_in state rules ts l now asked) f.log.path → (x : Path) → IsOwnName f.log.path f.log.naming x → IsLeftAlone before after x
+  pub kept : (f : FoundLog) → IsIn f l.shown.kept → HasNone (rotated_in state rules ts l clock asked) f.log.path → (x : Path) → IsOwnName f.log.path f.log.naming x → IsLeftAlone before after x
   -- and so was all else
-  pub others : (x : Path) → IsElsewhere state (rotated_in state rules ts l now asked) x → IsLeftAlone before after x
+  pub others : (x : Path) → IsElsewhere state (rotated_in state rules ts l clock asked) x → IsLeftAlone before after x

@@ -1,13 +1,12 @@
 // What a run of which nothing failed makes of its plan.
 ghost use Rattle.std.specs.Prelude.{◌≡◌, ℕ, Bool, List, [], ◌∷◌, ◌++◌, filter, reverse};
-ghost use Rattle.lr_rules.specs.declared.civil.Moment.{Moment};
+ghost use Rattle.lr_rules.specs.declared.clock.Clock.{Clock};
 ghost use Rattle.lr_rules.specs.declared.fault.Fault.{Fault};
 ghost use Rattle.lr_rules.specs.declared.path.Path.{Path};
 ghost use Rattle.lr_rules.specs.declared.rule.Rule.{Rule};
 ghost use Rattle.lr_rules.specs.declared.rules.Rules.{Rules};
 ghost use Rattle.lr_rules.specs.Names.{IsOwnName};
 ghost use Rattle.lr_due.specs.declared.answer.Due.{Due};
-ghost use Rattle.lr_fields.specs.Built.{AreBuiltRules};
 ghost use Rattle.lr_host.specs.declared.entry.Entry.{Entry};
 ghost use Rattle.lr_host.specs.declared.entry.Entry.TheVariants.{Starts};
 ghost use Rattle.lr_host.specs.Lists.{IsIn};
@@ -25,7 +24,7 @@ ghost use Rattle.lr_plan.specs.declared.mark.Mark.{Mark};
 ghost use Rattle.lr_plan.specs.declared.planned.Plan.{Plan};
 ghost use Rattle.lr_plan.specs.Done.{ActsDone, rotated_logs};
 ghost use Rattle.lr_plan.specs.Steps.{steps_of_plan, state_steps};
-ghost use Rattle.lr_targets.specs.AllTurns.{AllTurns};
+ghost use Rattle.lr_mixed.specs.AllTurns.{AllTurnsBy};
 ghost use Rattle.lr_run.specs.Dry.{AreSights};
 ghost use Rattle.lr_run.specs.Runs.{Inside, Worked, logs_in};
 ghost use Rattle.lr_seen.specs.Free.{reserved_by};
@@ -39,9 +38,9 @@ ghost use Rattle.lr_fulfilled.specs.Truth.{LooksAreTrue};
 /// fulfilled it, whatever writers did meanwhile: its acts are those of the plan, each log of the plan was rotated, the state
 /// tells of them, and all else was left alone.
 pub fn run_is_fulfilled()
-    ensures { (state : Path) (asked : Asked) (now : Moment) (rules : Rules) (own : List Fault) (p q : Past) (es reads acts : List Entry) → AreBuiltRules rules.sets
-        → Made p es q → IsJournal p → reverse es ≡ reads ++ acts → AreSights reads → (i : Inside state now rules (Worked state rules.sets now asked own) acts) → NothingFailed state own
-        → IsFulfilled state rules.sets now asked i.between i.within.looked own (reverse es) p q }
+    ensures { (state : Path) (asked : Asked) (clock : Clock) (rules : Rules) (own : List Fault) (p q : Past) (es reads acts : List Entry)
+        → Made p es q → IsJournal p → reverse es ≡ reads ++ acts → AreSights reads → (i : Inside state clock rules (Worked state rules.sets clock asked own) acts) → NothingFailed state own
+        → IsFulfilled state rules.sets clock asked i.between i.within.looked own (reverse es) p q }
 {}
 
 /// Acts of a plan without a fault, with the writing of the state behind them: they are those of all its steps, in order, and
@@ -55,25 +54,25 @@ pub fn acts_are_planned()
 
 /// Where a run tells of nothing that failed, its acts met no fault.
 pub fn run_meets_no_fault()
-    ensures { (state : Path) (rules : List Rule) (now : Moment) (asked : Asked) (own : List Fault) (ts : List Entry) → (w : Worked state rules now asked own ts) → NothingFailed state own → w.acted.of_acts ≡ [] }
+    ensures { (state : Path) (rules : List Rule) (clock : Clock) (asked : Asked) (own : List Fault) (ts : List Entry) → (w : Worked state rules clock asked own ts) → NothingFailed state own → w.acted.of_acts ≡ [] }
 {}
 
 /// A run leaves alone what is no path of its state and no name of a log that it rotates, however far it came, and whatever
 /// failed.
 pub fn others_are_left()
-    ensures { (state : Path) (now : Moment) (rules : Rules) (p q : Past) (es reads tail : List Entry) (x : Path) (t : AllTurns state now rules tail) → Made p es q → IsJournal p → reverse es ≡ reads ++ Starts state now rules ∷ tail → AreQuiet reads
+    ensures { (state : Path) (clock : Clock) (rules : Rules) (p q : Past) (es reads tail : List Entry) (x : Path) (t : AllTurnsBy state clock rules tail) → Made p es q → IsJournal p → reverse es ≡ reads ++ Starts state clock.now rules ∷ tail → AreQuiet reads
         → IsElsewhere state t.targets x → IsLeftAlone p q x }
 {}
 
 /// Each name of a log that the looks kept, and that none of these has, is such a path.
 pub fn kept_are_elsewhere()
-    ensures { (state : Path) (rules : List Rule) (sets : List SetLooks) (faults : List Fault) (ts : List Entry) (now : Moment) (decide : Rule → LogLook → Due) (f : FoundLog) (x : Path) → (s : ShowsLooks (reserved_by state) rules sets faults ts)
-        → IsIn f s.kept → HasNone (all_targets now decide rules sets) f.log.path → IsOwnName f.log.path f.log.naming x → IsElsewhere state (all_targets now decide rules sets) x }
+    ensures { (state : Path) (rules : List Rule) (sets : List SetLooks) (faults : List Fault) (ts : List Entry) (clock : Clock) (decide : Rule → LogLook → Due) (f : FoundLog) (x : Path) → (s : ShowsLooks (reserved_by state) rules sets faults ts)
+        → IsIn f s.kept → HasNone (all_targets clock decide rules sets) f.log.path → IsOwnName f.log.path f.log.naming x → IsElsewhere state (all_targets clock decide rules sets) x }
 {}
 
 /// The looks of a run that came to its plan are true of the disk, from its start to the end of the looks, whatever failed then.
 pub fn run_looks_are_true()
-    ensures { (state : Path) (asked : Asked) (now : Moment) (rules : Rules) (own : List Fault) (p q : Past) (es reads acts : List Entry)
-        → Made p es q → IsJournal p → reverse es ≡ reads ++ acts → (i : Inside state now rules (Worked state rules.sets now asked own) acts)
-        → LooksAreTrue state now rules i.between i.within.looked p q }
+    ensures { (state : Path) (asked : Asked) (clock : Clock) (rules : Rules) (own : List Fault) (p q : Past) (es reads acts : List Entry)
+        → Made p es q → IsJournal p → reverse es ≡ reads ++ acts → (i : Inside state clock rules (Worked state rules.sets clock asked own) acts)
+        → LooksAreTrue state clock rules i.between i.within.looked p q }
 {}

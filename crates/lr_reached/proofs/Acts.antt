@@ -1,6 +1,6 @@
 -- What the acts of a plan are told of ends no run.
 use Rattle.std.proofs.Common.{◌≡◌, inl, inr, ℕ, Option, List, [], ◌∷◌, map}
-use Rattle.lr_rules.specs.declared.civil.Moment.{Moment}
+use Rattle.lr_rules.specs.declared.clock.Clock.{Clock}
 use Rattle.lr_rules.specs.declared.fault.CallKind.TheVariants as call
 use Rattle.lr_rules.specs.declared.fault.Fault.{Fault}
 use Rattle.lr_rules.specs.declared.fault.Fault.TheVariants as fault
@@ -65,5 +65,5 @@ none_folds state = record {
   both = λ fs gs ts us h g. none_both state fs gs h g;
 }
 
-pub acts_none : (state : Path) (rules : List Rule) (sets : List SetLooks) (now : Moment) (mailer : Path) (decide : Rule → LogLook → Due) (ms : List Mark) (fs : List Fault) (ts : List Entry) → SetsDone (map steps_of_set (all_plans now mailer decide rules sets)) ms fs ts → NoneEnds state fs
-acts_none state rules sets now mailer decide ms fs ts h = acts_fold (λ gs us. NoneEnds state gs) (none_folds state) (map steps_of_set (all_plans now mailer decide rules sets)) ms fs ts (plan_simple now mailer decide rules sets) h
+pub acts_none : (state : Path) (rules : List Rule) (sets : List SetLooks) (clock : Clock) (mailer : Path) (decide : Rule → LogLook → Due) (ms : List Mark) (fs : List Fault) (ts : List Entry) → SetsDone (map steps_of_set (all_plans clock mailer decide rules sets)) ms fs ts → NoneEnds state fs
+acts_none state rules sets clock mailer decide ms fs ts h = acts_fold (λ gs us. NoneEnds state gs) (none_folds state) (map steps_of_set (all_plans clock mailer decide rules sets)) ms fs ts (plan_simple clock mailer decide rules sets) h

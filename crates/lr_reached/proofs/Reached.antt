@@ -1,8 +1,8 @@
 -- A run reached its plan exactly where it saw its state and none of its faults ends a run.
-use Rattle.std.proofs.Common.{◌≡◌, ◌⊎◌, inl, inr, ⊎_elim, Bool, List, [], ◌∷◌, ◌++◌, Option, Some, reverse, refl, sym, ap, ◌∙◌, subst}
+use Rattle.std.proofs.Common.{◌≡◌, ◌⊎◌, inl, inr, ⊎_elim, List, [], ◌∷◌, ◌++◌, Option, Some, reverse, refl, sym, ap, ◌∙◌, subst}
 use Rattle.std.specs.Prelude.{◌↔◌}
 use Rattle.std.proofs.lemmas.List.{reverse-reverse}
-use Rattle.lr_rules.specs.declared.civil.Moment.{Moment}
+use Rattle.lr_rules.specs.declared.clock.Clock.{Clock}
 use Rattle.lr_rules.specs.declared.fault.CallKind.TheVariants as call
 use Rattle.lr_rules.specs.declared.fault.Fault.{Fault}
 use Rattle.lr_rules.specs.declared.fault.Fault.TheVariants as fault
@@ -58,47 +58,47 @@ before_end state us s = record { part = (s.part.0, look (in_append (entry.Look _
     read (inr (inl e)) = absurd (cc)
     read (inr (inr none)) = absurd none
 
-works_reached : (state : Path) (rules : List Rule) (now : Moment) (asked : Asked) (plan : Option Plan) (own : List Fault) (ts : List Entry) → Works state rules now asked plan own ts → ((w : Worked state rules now asked own ts) × (plan ≡ Some (plan_in state rules ts w.looked now asked))) ⊎ Unreached state own (ts ++ entry.Ends ∷ [])
-works_reached state rules now asked plan own ts (not_known sights f k lost is s) = inr (record { before = []; last = f; own_are = is; ends = ⊎_elim (λ ends. inl ends) (λ may. inr (refl, may.0, λ saw. may.1 (before_end state ts saw))) (state_why state 65_536 sights f ts k s) })
-works_reached state rules now asked plan own ts (too_big l big lost is nothing) = inr (record { before = l.of_looks; last = fault.State 0 kind.TooBig; own_are = is; ends = inl tt })
-works_reached state rules now asked plan own ts (worked w is) = inl (w, is)
+works_reached : (state : Path) (rules : List Rule) (clock : Clock) (asked : Asked) (plan : Option Plan) (own : List Fault) (ts : List Entry) → Works state rules clock asked plan own ts → ((w : Worked state rules clock asked own ts) × (plan ≡ Some (plan_in state rules ts w.looked clock asked))) ⊎ Unreached state own (ts ++ entry.Ends ∷ [])
+works_reached state rules clock asked plan own ts (not_known sights f k lost is s) = inr (record { before = []; last = f; own_are = is; ends = ⊎_elim (λ ends. inl ends) (λ may. inr (refl, may.0, λ saw. may.1 (before_end state ts saw))) (state_why state 65_536 sights f ts k s) })
+works_reached state rules clock asked plan own ts (too_big l big lost is nothing) = inr (record { before = l.of_looks; last = fault.State 0 kind.TooBig; own_are = is; ends = inl tt })
+works_reached state rules clock asked plan own ts (worked w is) = inl (w, is)
 
 -- one that worked saw the state
-worked_saw : (state : Path) (rules : List Rule) (now : Moment) (asked : Asked) (own : List Fault) (ts : List Entry) → Worked state rules now asked own ts → SawState state ts
-worked_saw state rules now asked own ts w = subst (SawState state) (sym w.looked.joined)
+worked_saw : (state : Path) (rules : List Rule) (clock : Clock) (asked : Asked) (own : List Fault) (ts : List Entry) → Worked state rules clock asked own ts → SawState state ts
+worked_saw state rules clock asked own ts w = subst (SawState state) (sym w.looked.joined)
     (saw_in state w.looked.reads _ (λ e i. in_front e w.looked.reads _ i) (state_saw state 65_536 w.looked.sights w.looked.remembered w.looked.reads w.looked.known w.looked.read))
 
 -- ---- the run
 
 -- behind its start stand its work and its end
-begun_behind : (state : Path) (now : Moment) (rules : Rules) (P : List Entry → Type 0) (ts : List Entry) → (i : Inside state now rules P ts) → behind_start ts ≡ i.between ++ entry.Ends ∷ []
-begun_behind state now rules P ts i = ap behind_start i.entries ∙ behind_quiet i.before (entry.Starts state now rules ∷ (i.between ++ entry.Ends ∷ [])) (sees_quiet (parent_of state) i.before i.directory)
+begun_behind : (state : Path) (clock : Clock) (rules : Rules) (P : List Entry → Type 0) (ts : List Entry) → (i : Inside state clock rules P ts) → behind_start ts ≡ i.between ++ entry.Ends ∷ []
+begun_behind state clock rules P ts i = ap behind_start i.entries ∙ behind_quiet i.before (entry.Starts state clock.now rules ∷ (i.between ++ entry.Ends ∷ [])) (sees_quiet (parent_of state) i.before i.directory)
 
 -- none where the begin failed, with its entry or without
-not_begun_behind : (state : Path) (now : Moment) (rules : Rules) (ts : List Entry) → Maybe (entry.Starts state now rules) ts → behind_start ts ≡ []
-not_begun_behind state now rules ts (inl e) = ap behind_start e
-not_begun_behind state now rules ts (inr e) = ap behind_start e
+not_begun_behind : (state : Path) (clock : Clock) (rules : Rules) (ts : List Entry) → Maybe (entry.Starts state clock.now rules) ts → behind_start ts ≡ []
+not_begun_behind state clock rules ts (inl e) = ap behind_start e
+not_begun_behind state clock rules ts (inr e) = ap behind_start e
 
 -- It reached its plan, which is the one that it came to; or its last fault is why it didn't.
-pub came_to : (state : Path) (asked : Asked) (now : Moment) (rules : Rules) (plan : Option Plan) (own : List Fault) (ts : List Entry) → Runs state asked now rules plan own ts
-    → ((i : IsReached state asked now rules own ts) × (plan ≡ Some (plan_in state rules.sets i.between i.within.looked now asked))) ⊎ Unreached state own (behind_start ts)
-came_to state asked now rules plan own ts (no_directory lost is s) = inr (record { before = []; last = fault.NoDir (parent_of state); own_are = is; ends = inl refl })
-came_to state asked now rules plan own ts (not_seen lost is none) = inr (record { before = []; last = fault.Call call.Look (parent_of state); own_are = is; ends = inr (refl, inl (parent_of state, inl refl, refl), λ saw. unseen state (behind_start ts) (ap behind_start none) saw) })
-came_to state asked now rules plan own ts (not_begun lost is t) = inr (record { before = []; last = fault.Call call.Begin state; own_are = is; ends = inl tt })
-came_to state asked now rules plan own ts (began i) = ⊎_elim
+pub came_to : (state : Path) (asked : Asked) (clock : Clock) (rules : Rules) (plan : Option Plan) (own : List Fault) (ts : List Entry) → Runs state asked clock rules plan own ts
+    → ((i : IsReached state asked clock rules own ts) × (plan ≡ Some (plan_in state rules.sets i.between i.within.looked clock asked))) ⊎ Unreached state own (behind_start ts)
+came_to state asked clock rules plan own ts (no_directory lost is s) = inr (record { before = []; last = fault.NoDir (parent_of state); own_are = is; ends = inl refl })
+came_to state asked clock rules plan own ts (not_seen lost is none) = inr (record { before = []; last = fault.Call call.Look (parent_of state); own_are = is; ends = inr (refl, inl (parent_of state, inl refl, refl), λ saw. unseen state (behind_start ts) (ap behind_start none) saw) })
+came_to state asked clock rules plan own ts (not_begun lost is t) = inr (record { before = []; last = fault.Call call.Begin state; own_are = is; ends = inl tt })
+came_to state asked clock rules plan own ts (began i) = ⊎_elim
     (λ w. inl (record { before = i.before; between = i.between; entries = i.entries; directory = i.directory; within = w.0 }, w.1))
-    (λ u. inr (subst (Unreached state own) (sym (begun_behind state now rules _ ts i)) u))
-    (works_reached state rules.sets now asked plan own i.between i.within)
+    (λ u. inr (subst (Unreached state own) (sym (begun_behind state clock rules _ ts i)) u))
+    (works_reached state rules.sets clock asked plan own i.between i.within)
 
-pub run_reached : (state : Path) (asked : Asked) (now : Moment) (rules : Rules) (plan : Option Plan) (own : List Fault) (ts : List Entry) → Runs state asked now rules plan own ts → IsReached state asked now rules own ts ⊎ Unreached state own (behind_start ts)
-run_reached state asked now rules plan own ts r = ⊎_elim (λ i. inl i.0) (λ u. inr u) (came_to state asked now rules plan own ts r)
+pub run_reached : (state : Path) (asked : Asked) (clock : Clock) (rules : Rules) (plan : Option Plan) (own : List Fault) (ts : List Entry) → Runs state asked clock rules plan own ts → IsReached state asked clock rules own ts ⊎ Unreached state own (behind_start ts)
+run_reached state asked clock rules plan own ts r = ⊎_elim (λ i. inl i.0) (λ u. inr u) (came_to state asked clock rules plan own ts r)
 
-pub reached_saw : (state : Path) (asked : Asked) (now : Moment) (rules : Rules) (own : List Fault) (ts : List Entry) → IsReached state asked now rules own ts → SawState state (behind_start ts)
-reached_saw state asked now rules own ts i = subst (SawState state) (sym (begun_behind state now rules _ ts i))
-    (saw_in state i.between (i.between ++ entry.Ends ∷ []) (λ e j. in_front e i.between (entry.Ends ∷ []) j) (worked_saw state rules.sets now asked own i.between i.within))
+pub reached_saw : (state : Path) (asked : Asked) (clock : Clock) (rules : Rules) (own : List Fault) (ts : List Entry) → IsReached state asked clock rules own ts → SawState state (behind_start ts)
+reached_saw state asked clock rules own ts i = subst (SawState state) (sym (begun_behind state clock rules _ ts i))
+    (saw_in state i.between (i.between ++ entry.Ends ∷ []) (λ e j. in_front e i.between (entry.Ends ∷ []) j) (worked_saw state rules.sets clock asked own i.between i.within))
 
-pub reached_none : (state : Path) (asked : Asked) (now : Moment) (rules : Rules) (own : List Fault) (p q : Past) (ts : List Entry) → AreBuiltRules rules.sets → Made p (reverse ts) q → IsReached state asked now rules own ts → NoneEnds state own
-reached_none state asked now rules own p q ts built made i = none_ends state now rules asked own p q ts i.before i.between built i.entries i.directory made i.within
+pub reached_none : (state : Path) (asked : Asked) (clock : Clock) (rules : Rules) (own : List Fault) (p q : Past) (ts : List Entry) → AreBuiltRules rules.sets → Made p (reverse ts) q → IsReached state asked clock rules own ts → NoneEnds state own
+reached_none state asked clock rules own p q ts built made i = none_ends state clock rules asked own p q ts i.before i.between built i.entries i.directory made i.within
 
 -- ---- the law
 
@@ -110,19 +110,19 @@ in_order p q es made = subst (λ us. Made p us q) (sym (reverse-reverse es)) mad
 ends_not : (state : Path) (own : List Fault) (us : List Entry) → (u : Unreached state own us) → NoneEnds state own → EndsRun state u.last → ⊥
 ends_not state own us u none ends = last_ends state u.before u.last (subst (NoneEnds state) u.own_are none) ends
 
-pub reached : (state : Path) (asked : Asked) (now : Moment) (rules : Rules) (plan : Option Plan) (own : List Fault) (p q : Past) (es : List Entry) → AreBuiltRules rules.sets → Made p es q → Runs state asked now rules plan own (reverse es)
-    → IsReached state asked now rules own (reverse es) ↔ (SawState state (behind_start (reverse es)) × NoneEnds state own)
-reached state asked now rules plan own p q es built made r = (
-  λ i. (reached_saw state asked now rules own (reverse es) i, reached_none state asked now rules own p q (reverse es) built (in_order p q es made) i),
-  λ b. ⊎_elim (λ i. i) (λ u. absurd (⊎_elim (λ ends. ends_not state own _ u b.1 ends) (λ may. may.2 b.0) u.ends)) (run_reached state asked now rules plan own (reverse es) r),
+pub reached : (state : Path) (asked : Asked) (clock : Clock) (rules : Rules) (plan : Option Plan) (own : List Fault) (p q : Past) (es : List Entry) → AreBuiltRules rules.sets → Made p es q → Runs state asked clock rules plan own (reverse es)
+    → IsReached state asked clock rules own (reverse es) ↔ (SawState state (behind_start (reverse es)) × NoneEnds state own)
+reached state asked clock rules plan own p q es built made r = (
+  λ i. (reached_saw state asked clock rules own (reverse es) i, reached_none state asked clock rules own p q (reverse es) built (in_order p q es made) i),
+  λ b. ⊎_elim (λ i. i) (λ u. absurd (⊎_elim (λ ends. ends_not state own _ u b.1 ends) (λ may. may.2 b.0) u.ends)) (run_reached state asked clock rules plan own (reverse es) r),
 )
 
-pub told : (state : Path) (asked : Asked) (now : Moment) (rules : Rules) (plan : Option Plan) (own : List Fault) (p q : Past) (es : List Entry) → AreBuiltRules rules.sets → Made p es q → Runs state asked now rules plan own (reverse es) → ((f : Fault) → IsIn f own → MayEnd state f → ⊥)
-    → IsReached state asked now rules own (reverse es) ↔ NoneEnds state own
-told state asked now rules plan own p q es built made r plain = (
-  λ i. reached_none state asked now rules own p q (reverse es) built (in_order p q es made) i,
-  λ none. ⊎_elim (λ i. i) (λ u. absurd (⊎_elim (λ ends. ends_not state own _ u none ends) (λ may. plain u.last (last_in u.before u.last own u.own_are) may.1) u.ends)) (run_reached state asked now rules plan own (reverse es) r),
+pub told : (state : Path) (asked : Asked) (clock : Clock) (rules : Rules) (plan : Option Plan) (own : List Fault) (p q : Past) (es : List Entry) → AreBuiltRules rules.sets → Made p es q → Runs state asked clock rules plan own (reverse es) → ((f : Fault) → IsIn f own → MayEnd state f → ⊥)
+    → IsReached state asked clock rules own (reverse es) ↔ NoneEnds state own
+told state asked clock rules plan own p q es built made r plain = (
+  λ i. reached_none state asked clock rules own p q (reverse es) built (in_order p q es made) i,
+  λ none. ⊎_elim (λ i. i) (λ u. absurd (⊎_elim (λ ends. ends_not state own _ u none ends) (λ may. plain u.last (last_in u.before u.last own u.own_are) may.1) u.ends)) (run_reached state asked clock rules plan own (reverse es) r),
 )
 
-pub ended : (state : Path) (asked : Asked) (now : Moment) (rules : Rules) (plan : Option Plan) (own : List Fault) (ts : List Entry) → Runs state asked now rules plan own ts → (IsReached state asked now rules own ts → ⊥) → SaysWhy state own
-ended state asked now rules plan own ts r h = ⊎_elim (λ i. absurd (h i)) (λ u. record { before = u.before; last = u.last; own_are = u.own_are; ends = ⊎_elim (λ ends. inl ends) (λ may. inr (may.0, may.1)) u.ends }) (run_reached state asked now rules plan own ts r)
+pub ended : (state : Path) (asked : Asked) (clock : Clock) (rules : Rules) (plan : Option Plan) (own : List Fault) (ts : List Entry) → Runs state asked clock rules plan own ts → (IsReached state asked clock rules own ts → ⊥) → SaysWhy state own
+ended state asked clock rules plan own ts r h = ⊎_elim (λ i. absurd (h i)) (λ u. record { before = u.before; last = u.last; own_are = u.own_are; ends = ⊎_elim (λ ends. inl ends) (λ may. inr (may.0, may.1)) u.ends }) (run_reached state asked clock rules plan own ts r)

@@ -1,7 +1,7 @@
 -- A dry run came to its plan exactly where none of its faults ends such a run.
-use Rattle.std.proofs.Common.{◌≡◌, ◌⊎◌, inl, inr, ⊎_elim, Bool, true, false, cond, List, [], ◌∷◌, ◌++◌, Option, Some, None, refl, sym, ap, ◌∙◌, subst}
+use Rattle.std.proofs.Common.{◌≡◌, ◌⊎◌, inl, inr, ⊎_elim, List, [], ◌∷◌, ◌++◌, Option, Some, None, refl, sym, ap, ◌∙◌, subst}
 use Rattle.std.specs.Prelude.{◌↔◌}
-use Rattle.lr_rules.specs.declared.civil.Moment.{Moment}
+use Rattle.lr_rules.specs.declared.clock.Clock.{Clock}
 use Rattle.lr_rules.specs.declared.fault.CallKind.TheVariants as call
 use Rattle.lr_rules.specs.declared.fault.Fault.{Fault}
 use Rattle.lr_rules.specs.declared.fault.Fault.TheVariants as fault
@@ -14,14 +14,13 @@ use Rattle.lr_due.specs.declared.answer.Due.{Due}
 use Rattle.lr_due.specs.declared.answer.Due.TheVariants as due
 use Rattle.lr_host.specs.declared.entry.Entry.{Entry}
 use Rattle.lr_host.specs.Lists.{IsIn}
-use Rattle.lr_chain.specs.Ready.{highest_path}
 use Rattle.lr_state.specs.Table.{Entry as Row}
 use Rattle.lr_looks.specs.Found.{paths_of}
 use Rattle.lr_plan.specs.Asked.{Asked}
 use Rattle.lr_plan.specs.declared.looks.LogLook.{LogLook}
 use Rattle.lr_plan.specs.declared.looks.SetLooks.{SetLooks}
 use Rattle.lr_plan.specs.declared.planned.Plan.{Plan}
-use Rattle.lr_plan.specs.Planned.{is_too_high, hindrances, where_due, log_faults, all_faults, decision}
+use Rattle.lr_plan.specs.Planned.{hindrances, where_due, log_faults, all_faults, decision}
 use Rattle.lr_fields.specs.Built.{AreBuiltRules}
 use Rattle.lr_run.specs.Dry.{Follows, Plans, PlansBy, unknown, known, Tries, unseen, not_directory, by_none, by_state}
 use Rattle.lr_reached.specs.Ending.{EndsRun, NoneEnds}
@@ -29,6 +28,7 @@ use Rattle.lr_reached.specs.Tried.{EndsTry, NoneEndsTry, MayEndTry, SaysWhyTry}
 use Rattle.lr_reached.proofs.Ends.{last_in}
 use Rattle.lr_reached.proofs.Known.{state_why}
 use Rattle.lr_reached.proofs.Looked.{looks_none}
+use Rattle.lr_reached.proofs.Planned.{hindered_by}
 
 -- ---- faults
 
@@ -87,27 +87,22 @@ last_tries state (x ∷ xs) f a e = last_tries state xs f a.1 e
 
 -- ---- those of a plan
 
-hindered_try : (state : Path) (rule : Rule) (look : LogLook) → NoneEndsTry state (hindrances rule look)
-hindered_try state rule look = go look.stand.there (is_too_high rule look)
-  where
-    go : (a b : Bool) → NoneEndsTry state (cond a (cond b (fault.TooHigh (highest_path look.family.naming) ∷ []) []) (fault.NoDir look.family.naming.dir ∷ []))
-    go true true = ((λ e. e), tt)
-    go true false = tt
-    go false b = ((λ e. e), tt)
+hindered_try : (state : Path) (clock : Clock) (rule : Rule) (look : LogLook) → NoneEndsTry state (hindrances clock rule look)
+hindered_try state clock rule look = hindered_by (NoneEndsTry state) clock rule look tt (λ path. ((λ e. e), tt)) (λ path. ((λ e. e), tt)) (λ there. ((λ e. e), tt))
 
 due_try : (state : Path) (d : Due) (fs : List Fault) → NoneEndsTry state fs → NoneEndsTry state (where_due d fs)
 due_try state (due.Yes why) fs h = h
 due_try state (due.No why) fs h = tt
 
-logs_try : (state : Path) (rule : Rule) (decide : LogLook → Due) (looks : List LogLook) → NoneEndsTry state (log_faults rule decide looks)
-logs_try state rule decide [] = tt
-logs_try state rule decide (l ∷ ls) = try_both state (where_due (decide l) (hindrances rule l)) (log_faults rule decide ls) (due_try state (decide l) (hindrances rule l) (hindered_try state rule l)) (logs_try state rule decide ls)
+logs_try : (state : Path) (clock : Clock) (rule : Rule) (decide : LogLook → Due) (looks : List LogLook) → NoneEndsTry state (log_faults clock rule decide looks)
+logs_try state clock rule decide [] = tt
+logs_try state clock rule decide (l ∷ ls) = try_both state (where_due (decide l) (hindrances clock rule l)) (log_faults clock rule decide ls) (due_try state (decide l) (hindrances clock rule l) (hindered_try state clock rule l)) (logs_try state clock rule decide ls)
 
-plan_try : (state : Path) (decide : Rule → LogLook → Due) (rules : List Rule) (sets : List SetLooks) → NoneEndsTry state (all_faults decide rules sets)
-plan_try state decide [] [] = tt
-plan_try state decide [] (s ∷ ss) = tt
-plan_try state decide (r ∷ rs) [] = tt
-plan_try state decide (r ∷ rs) (s ∷ ss) = try_both state (log_faults r (decide r) s.logs) (all_faults decide rs ss) (logs_try state r (decide r) s.logs) (plan_try state decide rs ss)
+plan_try : (state : Path) (clock : Clock) (decide : Rule → LogLook → Due) (rules : List Rule) (sets : List SetLooks) → NoneEndsTry state (all_faults clock decide rules sets)
+plan_try state clock decide [] [] = tt
+plan_try state clock decide [] (s ∷ ss) = tt
+plan_try state clock decide (r ∷ rs) [] = tt
+plan_try state clock decide (r ∷ rs) (s ∷ ss) = try_both state (log_faults clock r (decide r) s.logs) (all_faults clock decide rs ss) (logs_try state clock r (decide r) s.logs) (plan_try state clock decide rs ss)
 
 -- ---- the run
 
@@ -115,49 +110,49 @@ plan_try state decide (r ∷ rs) (s ∷ ss) = try_both state (log_faults r (deci
 abbrev IsNone : Option Plan → Type 0
 IsNone plan = plan ≡ None
 
-follows_try : (state : Path) (rules : List Rule) (sets : List SetLooks) (kept : List Path) (table : List Row) (now : Moment) (asked : Asked) (plan : Option Plan) (own : List Fault) → Follows rules sets kept table now asked plan own → (IsNone plan → ⊥) → NoneEndsTry state own
-follows_try state rules sets kept table now asked (Some p) own f some = subst (NoneEndsTry state) (sym (f.2 ∙ ap (λ (q : Plan). q.faults) f.1)) (plan_try state (decision table now asked.force) rules sets)
-follows_try state rules sets kept table now asked None own f some = absurd (some refl)
+follows_try : (state : Path) (rules : List Rule) (sets : List SetLooks) (kept : List Path) (table : List Row) (clock : Clock) (asked : Asked) (plan : Option Plan) (own : List Fault) → Follows rules sets kept table clock asked plan own → (IsNone plan → ⊥) → NoneEndsTry state own
+follows_try state rules sets kept table clock asked (Some p) own f some = subst (NoneEndsTry state) (sym (f.2 ∙ ap (λ (q : Plan). q.faults) f.1)) (plan_try state clock (decision table clock.now asked.force) rules sets)
+follows_try state rules sets kept table clock asked None own f some = absurd (some refl)
 
-plans_try : (state : Path) (rules : Rules) (table : List Row) (now : Moment) (asked : Asked) (plan : Option Plan) (own : List Fault) (ts : List Entry) → AreBuiltRules rules.sets → Plans state rules.sets table now asked plan own ts → (IsNone plan → ⊥) → NoneEndsTry state own
-plans_try state rules table now asked plan own ts built p some = subst (NoneEndsTry state) (sym p.faults_are)
-    (try_both state p.of_looks p.of_plan (none_try state p.of_looks (looks_none state rules.sets p.sets p.of_looks ts p.shown)) (follows_try state rules.sets p.sets (paths_of p.shown.kept) table now asked plan p.of_plan p.follows some))
+plans_try : (state : Path) (rules : Rules) (table : List Row) (clock : Clock) (asked : Asked) (plan : Option Plan) (own : List Fault) (ts : List Entry) → AreBuiltRules rules.sets → Plans state rules.sets table clock asked plan own ts → (IsNone plan → ⊥) → NoneEndsTry state own
+plans_try state rules table clock asked plan own ts built p some = subst (NoneEndsTry state) (sym p.faults_are)
+    (try_both state p.of_looks p.of_plan (none_try state p.of_looks (looks_none state rules.sets p.sets p.of_looks ts p.shown)) (follows_try state rules.sets p.sets (paths_of p.shown.kept) table clock asked plan p.of_plan p.follows some))
 
-pub reached_try : (state : Path) (now : Moment) (asked : Asked) (rules : Rules) (plan : Option Plan) (own : List Fault) (ts : List Entry) → AreBuiltRules rules.sets → Tries state rules.sets now asked plan own ts → (IsNone plan → ⊥) → NoneEndsTry state own
-reached_try state now asked rules plan own ts built (unseen lost is none) some = absurd (some lost)
-reached_try state now asked rules plan own ts built (not_directory lost is s) some = absurd (some lost)
-reached_try state now asked rules plan own ts built (by_none t) some = plans_try state rules [] now asked plan own t.back built t.second some
-reached_try state now asked rules plan own ts built (by_state t) some = go t.second
+pub reached_try : (state : Path) (clock : Clock) (asked : Asked) (rules : Rules) (plan : Option Plan) (own : List Fault) (ts : List Entry) → AreBuiltRules rules.sets → Tries state rules.sets clock asked plan own ts → (IsNone plan → ⊥) → NoneEndsTry state own
+reached_try state clock asked rules plan own ts built (unseen lost is none) some = absurd (some lost)
+reached_try state clock asked rules plan own ts built (not_directory lost is s) some = absurd (some lost)
+reached_try state clock asked rules plan own ts built (by_none t) some = plans_try state rules [] clock asked plan own t.back built t.second some
+reached_try state clock asked rules plan own ts built (by_state t) some = go t.second
   where
-    go : PlansBy state rules.sets now asked plan own t.back → NoneEndsTry state own
+    go : PlansBy state rules.sets clock asked plan own t.back → NoneEndsTry state own
     go (unknown sights f k lost is s) = absurd (some lost)
-    go (known sights remembered k u) = plans_try state rules remembered.table now asked plan own u.back built u.second some
+    go (known sights remembered k u) = plans_try state rules remembered.table clock asked plan own u.back built u.second some
 
 -- why it ended
-plans_why : (state : Path) (rules : List Rule) (table : List Row) (now : Moment) (asked : Asked) (plan : Option Plan) (own : List Fault) (ts : List Entry) → Plans state rules table now asked plan own ts → IsNone plan → SaysWhyTry state own
-plans_why state rules table now asked plan own ts p none = record {
+plans_why : (state : Path) (rules : List Rule) (table : List Row) (clock : Clock) (asked : Asked) (plan : Option Plan) (own : List Fault) (ts : List Entry) → Plans state rules table clock asked plan own ts → IsNone plan → SaysWhyTry state own
+plans_why state rules table clock asked plan own ts p none = record {
   before = p.of_looks;
   last = fault.State 0 kind.TooBig;
-  own_are = p.faults_are ∙ ap (λ fs. p.of_looks ++ fs) (subst (λ (q : Option Plan). Follows rules p.sets (paths_of p.shown.kept) table now asked q p.of_plan) none p.follows).1;
+  own_are = p.faults_are ∙ ap (λ fs. p.of_looks ++ fs) (subst (λ (q : Option Plan). Follows rules p.sets (paths_of p.shown.kept) table clock asked q p.of_plan) none p.follows).1;
   ends = inl tt;
 }
 
-pub ended_try : (state : Path) (now : Moment) (asked : Asked) (rules : Rules) (plan : Option Plan) (own : List Fault) (ts : List Entry) → Tries state rules.sets now asked plan own ts → IsNone plan → SaysWhyTry state own
-ended_try state now asked rules plan own ts (unseen lost is none) h = record { before = []; last = fault.Call call.Look (parent_of state); own_are = is; ends = inr (inl (inl (parent_of state, inl refl, refl))) }
-ended_try state now asked rules plan own ts (not_directory lost is s) h = record { before = []; last = fault.NoDir (parent_of state); own_are = is; ends = inr (inr refl) }
-ended_try state now asked rules plan own ts (by_none t) h = plans_why state rules.sets [] now asked plan own t.back t.second h
-ended_try state now asked rules plan own ts (by_state t) h = go t.second
+pub ended_try : (state : Path) (clock : Clock) (asked : Asked) (rules : Rules) (plan : Option Plan) (own : List Fault) (ts : List Entry) → Tries state rules.sets clock asked plan own ts → IsNone plan → SaysWhyTry state own
+ended_try state clock asked rules plan own ts (unseen lost is none) h = record { before = []; last = fault.Call call.Look (parent_of state); own_are = is; ends = inr (inl (inl (parent_of state, inl refl, refl))) }
+ended_try state clock asked rules plan own ts (not_directory lost is s) h = record { before = []; last = fault.NoDir (parent_of state); own_are = is; ends = inr (inr refl) }
+ended_try state clock asked rules plan own ts (by_none t) h = plans_why state rules.sets [] clock asked plan own t.back t.second h
+ended_try state clock asked rules plan own ts (by_state t) h = go t.second
   where
-    go : PlansBy state rules.sets now asked plan own t.back → SaysWhyTry state own
+    go : PlansBy state rules.sets clock asked plan own t.back → SaysWhyTry state own
     go (unknown sights f k lost is s) = record { before = []; last = f; own_are = is; ends = ⊎_elim (λ ends. run_try state f ends) (λ may. inr (inl may.0)) (state_why state 65_536 sights f t.back k s) }
-    go (known sights remembered k u) = plans_why state rules.sets remembered.table now asked plan own u.back u.second h
+    go (known sights remembered k u) = plans_why state rules.sets remembered.table clock asked plan own u.back u.second h
 
 -- ---- the law
 
-pub told_try : (state : Path) (now : Moment) (asked : Asked) (rules : Rules) (plan : Option Plan) (own : List Fault) (ts : List Entry) → AreBuiltRules rules.sets → Tries state rules.sets now asked plan own ts → ((f : Fault) → IsIn f own → MayEndTry state f → ⊥)
+pub told_try : (state : Path) (clock : Clock) (asked : Asked) (rules : Rules) (plan : Option Plan) (own : List Fault) (ts : List Entry) → AreBuiltRules rules.sets → Tries state rules.sets clock asked plan own ts → ((f : Fault) → IsIn f own → MayEndTry state f → ⊥)
     → (IsNone plan → ⊥) ↔ NoneEndsTry state own
-told_try state now asked rules plan own ts built t plain = (
-  λ some. reached_try state now asked rules plan own ts built t some,
-  λ none lost. (let w = ended_try state now asked rules plan own ts t lost in
+told_try state clock asked rules plan own ts built t plain = (
+  λ some. reached_try state clock asked rules plan own ts built t some,
+  λ none lost. (let w = ended_try state clock asked rules plan own ts t lost in
       ⊎_elim (λ ends. last_tries state w.before w.last (subst (NoneEndsTry state) w.own_are none) ends) (λ may. plain w.last (last_in w.before w.last own w.own_are) may) w.ends),
 )

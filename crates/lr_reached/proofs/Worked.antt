@@ -1,7 +1,7 @@
 -- No fault of a run that came to its plan is one that ends a run.
-use Rattle.std.proofs.Common.{◌≡◌, inr, Bool, true, List, [], ◌∷◌, ◌++◌, None, reverse, sym, ap, ◌∙◌, subst, append_assoc}
+use Rattle.std.proofs.Common.{◌≡◌, inr, true, List, [], ◌∷◌, ◌++◌, None, reverse, sym, ap, ◌∙◌, subst, append_assoc}
 use Rattle.std.specs.List.{list_all}
-use Rattle.lr_rules.specs.declared.civil.Moment.{Moment}
+use Rattle.lr_rules.specs.declared.clock.Clock.{Clock}
 use Rattle.lr_rules.specs.declared.fault.Fault.{Fault}
 use Rattle.lr_rules.specs.declared.path.Path.{Path}
 use Rattle.lr_rules.specs.declared.rule.Rule.{Rule}
@@ -32,23 +32,23 @@ use Rattle.lr_reached.proofs.Standing.{still_there}
 use Rattle.lr_reached.proofs.Written.{written_none}
 
 -- where no look missed the state's directory
-worked_none : (state : Path) (rules : List Rule) (now : Moment) (asked : Asked) (own : List Fault) (ts : List Entry) → AreBuiltRules rules → list_all meets_limits rules ≡ true → (w : Worked state rules now asked own ts) → (IsGone w.looked.looks (parent_of state) → ⊥) → NoneEnds state own
-worked_none state rules now asked own ts built limits w stands = subst (NoneEnds state) (sym w.acted.faults_are)
+worked_none : (state : Path) (rules : List Rule) (clock : Clock) (asked : Asked) (own : List Fault) (ts : List Entry) → AreBuiltRules rules → list_all meets_limits rules ≡ true → (w : Worked state rules clock asked own ts) → (IsGone w.looked.looks (parent_of state) → ⊥) → NoneEnds state own
+worked_none state rules clock asked own ts built limits w stands = subst (NoneEnds state) (sym w.acted.faults_are)
     (none_both state w.looked.of_looks _ (looks_none state rules w.looked.sets w.looked.of_looks w.looked.looks w.looked.shown)
-    (none_both state (plan_in state rules ts w.looked now asked).faults w.acted.of_acts
-    (plan_none state (decision w.looked.remembered.table now asked.force) rules w.looked.sets (none_missed state rules w.looked.sets w.looked.of_looks w.looked.looks w.looked.shown stands))
+    (none_both state (plan_in state rules ts w.looked clock asked).faults w.acted.of_acts
+    (plan_none state clock (decision w.looked.remembered.table clock.now asked.force) rules w.looked.sets (none_missed state rules w.looked.sets w.looked.of_looks w.looked.looks w.looked.shown stands))
     (subst (NoneEnds state) (sym w.acted.entries.faults_are) (none_both state w.acted.entries.of_plan w.acted.entries.of_state
-    (acts_none state rules w.looked.sets now asked.mailer (decision w.looked.remembered.table now asked.force) w.acted.marks w.acted.entries.of_plan w.acted.entries.entries.front w.acted.entries.entries.first)
+    (acts_none state rules w.looked.sets clock asked.mailer (decision w.looked.remembered.table clock.now asked.force) w.acted.marks w.acted.entries.of_plan w.acted.entries.entries.front w.acted.entries.entries.first)
     (written_none state w.looked.remembered.stale w.acted.dirs _ w.acted.entries.of_state w.acted.entries.entries.back w.acted.entries.entries.second)))))
 
 -- none did, since it was seen before the run began
-stands : (state : Path) (now : Moment) (rules : Rules) (asked : Asked) (own : List Fault) (p q : Past) (ts before between : List Entry) → ts ≡ before ++ (entry.Starts state now rules ∷ (between ++ entry.Ends ∷ [])) → Sees (parent_of state) IsDir before → Made p (reverse ts) q
-    → (w : Worked state rules.sets now asked own between) → IsGone w.looked.looks (parent_of state) → ⊥
-stands state now rules asked own p q ts before between entries directory made w gone = still_there p q (parent_of state) ts before still (w.looked.acts ++ entry.Ends ∷ []) parts made directory quiet
+stands : (state : Path) (clock : Clock) (rules : Rules) (asked : Asked) (own : List Fault) (p q : Past) (ts before between : List Entry) → ts ≡ before ++ (entry.Starts state clock.now rules ∷ (between ++ entry.Ends ∷ [])) → Sees (parent_of state) IsDir before → Made p (reverse ts) q
+    → (w : Worked state rules.sets clock asked own between) → IsGone w.looked.looks (parent_of state) → ⊥
+stands state clock rules asked own p q ts before between entries directory made w gone = still_there p q (parent_of state) ts before still (w.looked.acts ++ entry.Ends ∷ []) parts made directory quiet
     (inr (in_back (entry.Look (parent_of state) None) w.looked.reads w.looked.looks gone))
   where
     still : List Entry
-    still = entry.Starts state now rules ∷ (w.looked.reads ++ w.looked.looks)
+    still = entry.Starts state clock.now rules ∷ (w.looked.reads ++ w.looked.looks)
 
     joined : between ++ entry.Ends ∷ [] ≡ (w.looked.reads ++ w.looked.looks) ++ (w.looked.acts ++ entry.Ends ∷ [])
     joined =
@@ -56,11 +56,11 @@ stands state now rules asked own p q ts before between entries directory made w 
         ∙ append_assoc (w.looked.reads ++ w.looked.looks) w.looked.acts (entry.Ends ∷ [])
 
     parts : ts ≡ before ++ (still ++ (w.looked.acts ++ entry.Ends ∷ []))
-    parts = entries ∙ ap (λ es. before ++ (entry.Starts state now rules ∷ es)) joined
+    parts = entries ∙ ap (λ es. before ++ (entry.Starts state clock.now rules ∷ es)) joined
 
     quiet : ChangeNothing still
     quiet = quiet_still (w.looked.reads ++ w.looked.looks) (quiet_both w.looked.reads w.looked.looks (state_quiet state 65_536 w.looked.sights w.looked.reads w.looked.read) (whole_quiet rules.sets w.looked.sets w.looked.of_looks w.looked.looks w.looked.shown))
 
-pub none_ends : (state : Path) (now : Moment) (rules : Rules) (asked : Asked) (own : List Fault) (p q : Past) (ts before between : List Entry) → AreBuiltRules rules.sets → ts ≡ before ++ (entry.Starts state now rules ∷ (between ++ entry.Ends ∷ []))
-    → Sees (parent_of state) IsDir before → Made p (reverse ts) q → Worked state rules.sets now asked own between → NoneEnds state own
-none_ends state now rules asked own p q ts before between built entries directory made w = worked_none state rules.sets now asked own between built rules.limits w (stands state now rules asked own p q ts before between entries directory made w)
+pub none_ends : (state : Path) (clock : Clock) (rules : Rules) (asked : Asked) (own : List Fault) (p q : Past) (ts before between : List Entry) → AreBuiltRules rules.sets → ts ≡ before ++ (entry.Starts state clock.now rules ∷ (between ++ entry.Ends ∷ []))
+    → Sees (parent_of state) IsDir before → Made p (reverse ts) q → Worked state rules.sets clock asked own between → NoneEnds state own
+none_ends state clock rules asked own p q ts before between built entries directory made w = worked_none state rules.sets clock asked own between built rules.limits w (stands state clock rules asked own p q ts before between entries directory made w)

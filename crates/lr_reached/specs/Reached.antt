@@ -1,7 +1,7 @@
 -- Runs that reached their plan.
-use Rattle.std.specs.Prelude.{Bool, List}
+use Rattle.std.specs.Prelude.{List}
 use Rattle.lr_rules.specs.declared.path.Path.{Path}
-use Rattle.lr_rules.specs.declared.civil.Moment.{Moment}
+use Rattle.lr_rules.specs.declared.clock.Clock.{Clock}
 use Rattle.lr_rules.specs.declared.fault.Fault.{Fault}
 use Rattle.lr_rules.specs.declared.rules.Rules.{Rules}
 use Rattle.lr_host.specs.declared.entry.Entry.{Entry}
@@ -9,5 +9,5 @@ use Rattle.lr_run.specs.Runs.{Inside, Worked}
 use Rattle.lr_plan.specs.Asked.{Asked}
 
 -- The run began, and its work came to the plan and carried it out, whatever failed then.
-abbrev pub IsReached : Path → Asked → Moment → Rules → List Fault → List Entry → Type 0
-IsReached state asked now rules own ts = Inside state now rules (Worked state rules.sets now asked own) ts
+abbrev pub IsReached : Path → Asked → Clock → Rules → List Fault → List Entry → Type 0
+IsReached state asked clock rules own ts = Inside state clock rules (Worked state rules.sets clock asked own) ts

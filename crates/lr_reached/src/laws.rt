@@ -1,6 +1,6 @@
 // By what it is known whether a run reached its plan.
 ghost use Rattle.std.specs.Prelude.{◌≡◌, ◌↔◌, reverse, Bool, List, Option, None};
-ghost use Rattle.lr_rules.specs.declared.civil.Moment.{Moment};
+ghost use Rattle.lr_rules.specs.declared.clock.Clock.{Clock};
 ghost use Rattle.lr_rules.specs.declared.fault.Fault.{Fault};
 ghost use Rattle.lr_rules.specs.declared.path.Path.{Path};
 ghost use Rattle.lr_rules.specs.declared.rules.Rules.{Rules};
@@ -23,20 +23,20 @@ ghost use Rattle.lr_reached.specs.Tried.{NoneEndsTry, MayEndTry, SaysWhyTry};
 /// read of it, they alone tell. Where it didn't reach its plan, the last of them says why: it is one that ends a run, or
 /// the one fault is such a look or read.
 pub fn plan_is_reached()
-    ensures reached { (state : Path) (asked : Asked) (now : Moment) (rules : Rules) (plan : Option Plan) (own : List Fault) (p q : Past) (es : List Entry) → AreBuiltRules rules.sets → Made p es q → Runs state asked now rules plan own (reverse es)
-        → IsReached state asked now rules own (reverse es) ↔ (SawState state (behind_start (reverse es)) × NoneEnds state own) }
-    ensures told { (state : Path) (asked : Asked) (now : Moment) (rules : Rules) (plan : Option Plan) (own : List Fault) (p q : Past) (es : List Entry) → AreBuiltRules rules.sets → Made p es q → Runs state asked now rules plan own (reverse es)
-        → ((f : Fault) → IsIn f own → MayEnd state f → ⊥) → IsReached state asked now rules own (reverse es) ↔ NoneEnds state own }
-    ensures ended { (state : Path) (asked : Asked) (now : Moment) (rules : Rules) (plan : Option Plan) (own : List Fault) (ts : List Entry) → Runs state asked now rules plan own ts
-        → (IsReached state asked now rules own ts → ⊥) → SaysWhy state own }
+    ensures reached { (state : Path) (asked : Asked) (clock : Clock) (rules : Rules) (plan : Option Plan) (own : List Fault) (p q : Past) (es : List Entry) → AreBuiltRules rules.sets → Made p es q → Runs state asked clock rules plan own (reverse es)
+        → IsReached state asked clock rules own (reverse es) ↔ (SawState state (behind_start (reverse es)) × NoneEnds state own) }
+    ensures told { (state : Path) (asked : Asked) (clock : Clock) (rules : Rules) (plan : Option Plan) (own : List Fault) (p q : Past) (es : List Entry) → AreBuiltRules rules.sets → Made p es q → Runs state asked clock rules plan own (reverse es)
+        → ((f : Fault) → IsIn f own → MayEnd state f → ⊥) → IsReached state asked clock rules own (reverse es) ↔ NoneEnds state own }
+    ensures ended { (state : Path) (asked : Asked) (clock : Clock) (rules : Rules) (plan : Option Plan) (own : List Fault) (ts : List Entry) → Runs state asked clock rules plan own ts
+        → (IsReached state asked clock rules own ts → ⊥) → SaysWhy state own }
 {}
 
 /// A dry run came to its plan exactly where none of its own faults is one that ends such a run, unless one of them is a
 /// failed look or read of the state, or says that the state's directory isn't there, which may be said of a log's family
 /// too. Where it didn't come to its plan, the last of its faults says why.
 pub fn try_is_reached()
-    ensures told { (state : Path) (now : Moment) (asked : Asked) (rules : Rules) (plan : Option Plan) (own : List Fault) (ts : List Entry) → AreBuiltRules rules.sets → Tries state rules.sets now asked plan own ts
+    ensures told { (state : Path) (clock : Clock) (asked : Asked) (rules : Rules) (plan : Option Plan) (own : List Fault) (ts : List Entry) → AreBuiltRules rules.sets → Tries state rules.sets clock asked plan own ts
         → ((f : Fault) → IsIn f own → MayEndTry state f → ⊥) → (plan ≡ None → ⊥) ↔ NoneEndsTry state own }
-    ensures ended { (state : Path) (now : Moment) (asked : Asked) (rules : Rules) (plan : Option Plan) (own : List Fault) (ts : List Entry) → Tries state rules.sets now asked plan own ts
+    ensures ended { (state : Path) (clock : Clock) (asked : Asked) (rules : Rules) (plan : Option Plan) (own : List Fault) (ts : List Entry) → Tries state rules.sets clock asked plan own ts
         → plan ≡ None → SaysWhyTry state own }
 {}

@@ -1,6 +1,7 @@
 pub mod Clearing
 pub mod Courses
 pub mod Long
+pub mod Members
 pub mod Naming
 pub mod Once
 pub mod Smooth

@@ -1,5 +1,5 @@
 -- The part file of a copy is needed by one step of a plan, and behind that step none gives it a name or unlinks it.
-use Rattle.std.proofs.Common.{◌≡◌, ◌⊎◌, inl, inr, ⊎_elim, ◌+◌, ℕ, Bool, true, false, refl, sym, ap, ◌∙◌, subst, List, [], ◌∷◌, ◌++◌, map, Option, Some, None}
+use Rattle.std.proofs.Common.{◌≡◌, ◌⊎◌, inl, inr, ⊎_elim, ℕ, Bool, true, false, refl, sym, ap, ◌∙◌, subst, List, [], ◌∷◌, ◌++◌, map, Option, Some, None}
 use Rattle.std.specs.List.{flat_map, AllByRecursion}
 use Rattle.lr_rules.specs.declared.path.Path.{Path}
 use Rattle.lr_rules.specs.declared.fault.Phase.{Phase}
@@ -8,14 +8,11 @@ use Rattle.lr_rules.specs.declared.rule.Make.{Make}
 use Rattle.lr_rules.specs.declared.rule.Make.TheVariants as make
 use Rattle.lr_rules.specs.declared.rule.Naming.{Naming}
 use Rattle.lr_rules.specs.Names.{IsOwnName, the_log, Meet}
-use Rattle.lr_family.specs.Spots.{path_at}
-use Rattle.lr_family.proofs.Numbers.{Every, every_all, every_filter}
+use Rattle.lr_family.specs.Parts.{IsMember}
 use Rattle.lr_scripts.specs.declared.command.Command.{Command}
 use Rattle.lr_scripts.specs.declared.removal.Removal.{Removal}
 use Rattle.lr_chain.specs.declared.ready.Move.{Move}
 use Rattle.lr_chain.specs.declared.ready.Ready.{Ready}
-use Rattle.lr_chain.specs.Ready.{removal_at, move_from}
-use Rattle.lr_chain.specs.Rotation.{places_of, is_left, leftovers, kept, retired}
 use Rattle.lr_copy.specs.declared.job.Job.{Job}
 use Rattle.lr_plan.specs.declared.planned.LogPlan.{LogPlan}
 use Rattle.lr_plan.specs.declared.planned.SetPlan.{SetPlan}
@@ -23,16 +20,11 @@ use Rattle.lr_plan.specs.declared.step.Step.{Step}
 use Rattle.lr_plan.specs.declared.step.Step.TheVariants as step
 use Rattle.lr_plan.specs.Steps.{on_of, program, removal, removals, directory, move, step_if, copy, transfer, made_anew, rotation_of, retirement_of, steps_of_log, shared_steps, by_logs, steps_of_set}
 use Rattle.lr_acts.specs.Making.{all_of_each, all_of_set, all_of_sets}
-use Rattle.lr_targets.specs.Apart.{HasNames, HaveNames}
-use Rattle.lr_rotations.specs.Members.{HasName, IsNoMember}
 use Rattle.lr_targets.specs.Target.{Target, IsOneOf}
-use Rattle.lr_targets.proofs.Apart.{part_own}
-use Rattle.lr_rotations.proofs.Fitting.{kept_next, first_named, retire_named}
-use Rattle.lr_rotations.proofs.Outside.{place_name}
-use Rattle.lr_targets.proofs.PartFile.{part_no_member, job_target, job_part}
 use Rattle.lr_weave.specs.Fitting.{NoneMeets, DontMeet}
 use Rattle.lr_weave.specs.Planned.{bare_removal, IsReadyFor, AreReadyFor, HaveLogs}
 use Rattle.lr_spared.proofs.Courses.{set_so, all_set}
+use Rattle.lr_spared.proofs.Members.{AreOfMembers, GiveMembers, HasMembers, HaveMembers, member_own, job_to, job_part, part_own}
 use Rattle.lr_spared.proofs.Steps.{NoneTouches, OnceNamed, none_on, none_once, once_first, once_later}
 
 -- ---- one log
@@ -52,32 +44,19 @@ module _ (x : Path) where
   program_none p None = tt
   program_none p (Some command) = runs_none p (on_of p command) command
 
-  removals_none : (n : Naming) → IsNoMember n x → (rs : List Removal) (ks : List ℕ) → map bare_removal rs ≡ map (removal_at n) ks → Every (HasName n) ks → NoneTouches x (removals rs)
-  removals_none n out [] ks same h = tt
-  removals_none n out (r ∷ rs) [] same h = absurd (cc)
-  removals_none n out (r ∷ rs) (k ∷ ks) same h = none_on x (removal r) (removals rs)
-      (none_on x (program phase.Preremove r.preremove) _ (program_none phase.Preremove r.preremove) (none_on x (program phase.Mail r.mail) _ (program_none phase.Mail r.mail) ((λ h. h), (λ gone. out k h.0 (sym gone ∙ path)), tt)))
-      (removals_none n out rs ks tails h.1)
-    where
-      heads : bare_removal r ≡ removal_at n k
-      heads = cc
-
-      tails : map bare_removal rs ≡ map (removal_at n) ks
-      tails = cc
-
-      path : r.path ≡ path_at n k
-      path = ap (λ (s : Removal). s.path) heads
+  removals_none : (n : Naming) → (IsMember n x → ⊥) → (rs : List Removal) → AreOfMembers n (map bare_removal rs) → NoneTouches x (removals rs)
+  removals_none n out [] h = tt
+  removals_none n out (r ∷ rs) h = none_on x (removal r) (removals rs)
+      (none_on x (program phase.Preremove r.preremove) _ (program_none phase.Preremove r.preremove) (none_on x (program phase.Mail r.mail) _ (program_none phase.Mail r.mail) ((λ h. h), (λ gone. out (subst (IsMember n) gone h.0)), tt)))
+      (removals_none n out rs h.1)
 
   directory_none : (d : Option (Path × Option ℕ)) → d ≡ None → NoneTouches x (directory d)
   directory_none None e = tt
   directory_none (Some d) e = absurd (cc)
 
-  moves_none : (n : Naming) → IsNoMember n x → (ms : List Move) (ks : List ℕ) → ms ≡ map (move_from n) ks → Every (λ k. HasName n (k + 1)) ks → NoneTouches x (map move ms)
-  moves_none n out ms ks same h = subst (λ (zs : List Move). NoneTouches x (map move zs)) (sym same) (go ks h)
-    where
-      go : (ks : List ℕ) → Every (λ k. HasName n (k + 1)) ks → NoneTouches x (map move (map (move_from n) ks))
-      go [] h = tt
-      go (k ∷ ks) h = ((λ to. out (k + 1) h.0 (sym to)), (λ h. h), go ks h.1)
+  moves_none : (n : Naming) → (IsMember n x → ⊥) → (ms : List Move) → GiveMembers n ms → NoneTouches x (map move ms)
+  moves_none n out [] h = tt
+  moves_none n out (m ∷ ms) h = ((λ to. out (subst (IsMember n) to h.0)), (λ h. h), moves_none n out ms h.1)
 
   -- a copy behind the making of its part file
   abbrev behind : Job → List Step
@@ -113,36 +92,34 @@ module _ (x : Path) where
   anew_none m log (Some job) other = tt
 
   -- what a log does, by its target
-  module _ (t : Target) (l : LogPlan) (h : HasNames t) (r : IsReadyFor t l) where
+  module _ (t : Target) (l : LogPlan) (h : HasMembers t) (r : IsReadyFor t l) where
     abbrev n : Naming
     n = t.naming
 
-    abbrev ps : List ℕ
-    ps = places_of t.stand.members
-
     log_is : l.ready.log ≡ t.log
-    log_is = ap (λ (y : Ready). y.log) r.ready_is ∙ h.ready.log_is
+    log_is = ap (λ (y : Ready). y.log) r.ready_is ∙ r.ready.log_is
 
-    target_is : l.ready.target ≡ path_at n 0
-    target_is = ap (λ (y : Ready). y.target) r.ready_is ∙ h.ready.target_is
-
-    first : HasName n 0
-    first = first_named n t.count ps h.next
+    target_is : l.ready.target ≡ t.ready.target
+    target_is = ap (λ (y : Ready). y.target) r.ready_is
 
     -- of what is no member's
-    module _ (out : IsNoMember n x) where
+    module _ (out : IsMember n x → ⊥) where
       leftovers_none : NoneTouches x (removals l.ready.leftovers)
-      leftovers_none = removals_none n out l.ready.leftovers (leftovers t.count ps) (ap (λ (y : Ready). y.leftovers) r.ready_is ∙ h.ready.leftovers_are) (every_filter (HasName n) (is_left t.count) ps (every_all (HasName n) ps h.named))
+      leftovers_none = removals_none n out l.ready.leftovers (subst (AreOfMembers n) (sym (ap (λ (y : Ready). y.leftovers) r.ready_is)) h.leftovers)
 
       dir_none : NoneTouches x (directory l.ready.dir)
-      dir_none = directory_none l.ready.dir (ap (λ (y : Ready). y.dir) r.ready_is ∙ h.ready.no_dir)
+      dir_none = directory_none l.ready.dir (ap (λ (y : Ready). y.dir) r.ready_is ∙ r.ready.no_dir)
 
       chain_none : NoneTouches x (map move l.ready.moves)
-      chain_none = moves_none n out l.ready.moves (kept t.count ps) (ap (λ (y : Ready). y.moves) r.ready_is ∙ h.ready.moves_are) (kept_next n t.count ps h.next)
+      chain_none = moves_none n out l.ready.moves (subst (GiveMembers n) (sym (ap (λ (y : Ready). y.moves) r.ready_is)) h.moves)
 
       retire_none : NoneTouches x (retirement_of l)
       retire_none = none_on x (program phase.Mail l.first_mail) (removals l.ready.retire) (program_none phase.Mail l.first_mail)
-          (removals_none n out l.ready.retire (retired t.count t.from) (ap (λ (y : Ready). y.retire) r.ready_is ∙ h.ready.retire_is) (retire_named n t.count ps t.from h.next h.going))
+          (removals_none n out l.ready.retire (subst (AreOfMembers n) (sym (ap (λ (y : Ready). y.retire) r.ready_is)) h.retire))
+
+      -- what the log comes to is another path
+      to_other : (to : Path) → to ≡ t.ready.target → to ≡ x → ⊥
+      to_other to is same = out (subst (IsMember n) (sym is ∙ same) h.target)
 
       -- around the way of the log to its final path
       abbrev way : List Step
@@ -157,32 +134,29 @@ module _ (x : Path) where
       around_once : OnceNamed x way → NoneTouches x last → OnceNamed x (rotation_of l)
       around_once a b = once_later x (removals l.ready.leftovers) _ leftovers_none (once_later x (directory l.ready.dir) _ dir_none (once_later x (map move l.ready.moves) _ chain_none (once_first x way last a b)))
 
-    no_member : (IsOwnName t.log n x → ⊥) → IsNoMember n x
-    no_member other place i is = other (subst (IsOwnName t.log n) (sym is) (place_name t.log n place h.family.numbered i))
+    no_member : (IsOwnName t.log n x → ⊥) → IsMember n x → ⊥
+    no_member other m = other (member_own t.log n x m)
 
     -- the path is no name of the log
     pub log_aside : (IsOwnName t.log n x → ⊥) → IsAside x l
     log_aside other = (around_none (no_member other) (by l.job refl) ((λ h. h), (λ h. h), anew_none l.ready.make l.ready.log l.job (λ same. other (the_log (sym same ∙ log_is)))), retire_none (no_member other))
       where
-        to_other : (to : Path) → to ≡ path_at n 0 → to ≡ x → ⊥
-        to_other to is same = no_member other 0 first (sym same ∙ is)
-
         by : (j : Option Job) → l.job ≡ j → NoneTouches x (transfer l.ready.log l.ready.target j)
-        by None e = (to_other l.ready.target target_is, λ h. h, tt)
+        by None e = (to_other (no_member other) l.ready.target target_is, λ h. h, tt)
         by (Some job) e = let is : t.job ≡ Some job = sym r.job_is ∙ e in
-            copy_none job (λ same. other (subst (IsOwnName t.log n) same (part_own t h job is))) (to_other job.to (job_target t job h.ready (h.job job is)))
+            copy_none job (λ same. other (subst (IsOwnName t.log n) same (part_own t h job is))) (to_other (no_member other) job.to (job_to t h job is))
 
     -- the path is that of the part file of its copy
     log_once : (job : Job) → t.job ≡ Some job → job.part ≡ x → IsOnce x l
     log_once job is same = (around_once out (by l.job (r.job_is ∙ is)) (last_none l.job (r.job_is ∙ is)), retire_none out)
       where
-        out : IsNoMember n x
-        out = subst (IsNoMember n) (sym (job_part t job h.ready (h.job job is)) ∙ same) (part_no_member t.log n h.family first)
+        out : IsMember n x → ⊥
+        out m = h.apart (subst (IsMember n) (sym same ∙ job_part t h job is) m)
 
         by : (j : Option Job) → j ≡ Some job → OnceNamed x (transfer l.ready.log l.ready.target j)
         by None e = absurd (cc)
         by (Some other) e = let one : other ≡ job = cc in
-            subst (λ (k : Job). OnceNamed x (copy k)) (sym one) (copy_once job (λ to. out 0 first (sym to ∙ job_target t job h.ready (h.job job is))))
+            subst (λ (k : Job). OnceNamed x (copy k)) (sym one) (copy_once job (to_other out job.to (job_to t h job is)))
 
         last_none : (j : Option Job) → j ≡ Some job → NoneTouches x (step.Rotated l.ready.log ∷ made_anew l.ready.make l.ready.log j)
         last_none None e = absurd (cc)
@@ -198,36 +172,31 @@ abbrev pub OneAtMost : Path → List LogPlan → Type 0
 OneAtMost x [] = Unit {0}
 OneAtMost x (l ∷ ls) = (IsOnce x l × AreAside x ls) ⊎ (IsAside x l × OneAtMost x ls)
 
-pub name_of : (t : Target) (ts : List Target) → HaveNames ts → IsOneOf t ts → HasNames t
-name_of t [] h i = absurd i
-name_of t (u ∷ ts) h (inl same) = subst HasNames same h.0
-name_of t (u ∷ ts) h (inr i) = name_of t ts h.1 i
-
 meets_none : (t u : Target) (ts : List Target) → NoneMeets t ts → IsOneOf u ts → Meet u.log u.naming t.log t.naming → ⊥
 meets_none t u [] n i = absurd i
 meets_none t u (v ∷ ts) n (inl same) = subst (λ (w : Target). Meet w.log w.naming t.log t.naming → ⊥) same n.0
 meets_none t u (v ∷ ts) n (inr i) = meets_none t u ts n.1 i
 
 module _ (x : Path) where
-  pub logs_aside : (ts : List Target) (ls : List LogPlan) → AreReadyFor ts ls → HaveNames ts → ((t : Target) → IsOneOf t ts → IsOwnName t.log t.naming x → ⊥) → AreAside x ls
+  pub logs_aside : (ts : List Target) (ls : List LogPlan) → AreReadyFor ts ls → HaveMembers ts → ((t : Target) → IsOneOf t ts → IsOwnName t.log t.naming x → ⊥) → AreAside x ls
   logs_aside [] [] r h other = tt
   logs_aside [] (l ∷ ls) r h other = absurd r
   logs_aside (t ∷ ts) [] r h other = absurd r
-  logs_aside (t ∷ ts) (l ∷ ls) r h other = (log_aside x t l h.0 r.0 (other t (inl refl)), logs_aside ts ls r.1 h.1 (λ u i. other u (inr i)))
+  logs_aside (t ∷ ts) (l ∷ ls) r h other = (log_aside x t l (h t (inl refl)) r.0 (other t (inl refl)), logs_aside ts ls r.1 (λ u i. h u (inr i)) (λ u i. other u (inr i)))
 
-  pub logs_at_most : (ts : List Target) (ls : List LogPlan) → AreReadyFor ts ls → HaveNames ts → DontMeet ts → (t : Target) → IsOneOf t ts → (job : Job) → t.job ≡ Some job → job.part ≡ x → OneAtMost x ls
+  pub logs_at_most : (ts : List Target) (ls : List LogPlan) → AreReadyFor ts ls → HaveMembers ts → DontMeet ts → (t : Target) → IsOneOf t ts → (job : Job) → t.job ≡ Some job → job.part ≡ x → OneAtMost x ls
   logs_at_most [] ls r h d t i job is same = absurd i
   logs_at_most (u ∷ ts) [] r h d t i job is same = absurd r
   logs_at_most (u ∷ ts) (l ∷ ls) r h d t (inl e) job is same = inl (
-    log_once x u l h.0 r.0 job (ap (λ (v : Target). v.job) e ∙ is) same,
-    logs_aside ts ls r.1 h.1 (λ v i own. meets_none u v ts d.0 i (x, inl (own, inl own_u))),
+    log_once x u l (h u (inl refl)) r.0 job (ap (λ (v : Target). v.job) e ∙ is) same,
+    logs_aside ts ls r.1 (λ v i. h v (inr i)) (λ v i own. meets_none u v ts d.0 i (x, inl (own, inl own_u))),
   )
     where
       own_u : IsOwnName u.log u.naming x
-      own_u = subst (IsOwnName u.log u.naming) same (part_own u h.0 job (ap (λ (v : Target). v.job) e ∙ is))
+      own_u = subst (IsOwnName u.log u.naming) same (part_own u (h u (inl refl)) job (ap (λ (v : Target). v.job) e ∙ is))
   logs_at_most (u ∷ ts) (l ∷ ls) r h d t (inr i) job is same = inr (
-    log_aside x u l h.0 r.0 (λ own. meets_none u t ts d.0 i (x, inl (subst (IsOwnName t.log t.naming) same (part_own t (name_of t ts h.1 i) job is), inl own))),
-    logs_at_most ts ls r.1 h.1 d.1 t i job is same,
+    log_aside x u l (h u (inl refl)) r.0 (λ own. meets_none u t ts d.0 i (x, inl (subst (IsOwnName t.log t.naming) same (part_own t (h t (inr i)) job is), inl own))),
+    logs_at_most ts ls r.1 (λ v j. h v (inr j)) d.1 t i job is same,
   )
 
   -- ---- their definitions

@@ -2,17 +2,17 @@
 use Rattle.std.proofs.Common.{◌≡◌, ◌≢◌, ◌⊎◌, inl, inr, ⊎_elim, ◌≤◌, ℕ, suc, zero, Bool, true, false, bytes_eq, refl, sym, ◌∙◌, ap, subst, arith, List, [], ◌∷◌, ◌++◌, reverse, append_assoc, length, Some, None}
 use Rattle.std.specs.List.{flat_map}
 use Rattle.std.proofs.lemmas.Slice.Eq.{bytes_eq-Decides}
-use Rattle.lr_rules.specs.declared.civil.Moment.{Moment}
+use Rattle.lr_rules.specs.declared.clock.Clock.{Clock}
 use Rattle.lr_rules.specs.declared.fault.Fault.{Fault}
 use Rattle.lr_rules.specs.declared.fault.Fault.TheVariants as fault
 use Rattle.lr_rules.specs.declared.fault.Phase.{Phase}
 use Rattle.lr_rules.specs.declared.path.Path.{Path}
 use Rattle.lr_rules.specs.declared.rule.Rule.{Rule}
 use Rattle.lr_rules.specs.declared.rules.Rules.{Rules}
+use Rattle.lr_rules.specs.Match.{part_end, EndsWith}
 use Rattle.lr_rules.specs.Names.{IsOwnName}
 use Rattle.lr_rules.specs.Path.{parent_of}
 use Rattle.lr_due.specs.declared.answer.Due.{Due}
-use Rattle.lr_fields.specs.Built.{AreBuiltRules}
 use Rattle.lr_host.specs.declared.entry.Entry.{Entry}
 use Rattle.lr_host.specs.declared.entry.Entry.TheVariants as entry
 use Rattle.lr_host.specs.declared.journal.Journal.{Journal}
@@ -47,10 +47,10 @@ use Rattle.lr_acts.specs.Making.{all_of_sets}
 use Rattle.lr_acts.specs.Taken.{OneTakes}
 use Rattle.lr_looks.specs.Found.{FoundLog}
 use Rattle.lr_reading.specs.Sights.{entries_of}
-use Rattle.lr_targets.specs.Apart.{HasNames, HaveNames}
 use Rattle.lr_targets.specs.Target.{Target, IsOneOf}
-use Rattle.lr_targets.proofs.Apart.{part_own}
 use Rattle.lr_rotations.proofs.OrMade.{made_behind}
+use Rattle.lr_mixed.specs.Seen.{AreLogsSeen}
+use Rattle.lr_mixed.proofs.Seen.{log_among}
 use Rattle.lr_weave.specs.Fitting.{DontMeet}
 use Rattle.lr_weave.specs.Planned.{AreReadyFor}
 use Rattle.lr_seen.specs.Free.{reserved_by, IsFreeOf}
@@ -60,21 +60,23 @@ use Rattle.lr_seen.proofs.Coming.{Comes, comes_from}
 use Rattle.lr_seen.proofs.Elements.{each_in, in_each}
 use Rattle.lr_seen.proofs.Free.{targets_free}
 use Rattle.lr_seen.proofs.Ready.{plans_have_logs}
-use Rattle.lr_seen.proofs.Seen.{targets_have_names}
+use Rattle.lr_seen.proofs.Seen.{targets_seen}
 use Rattle.lr_stood.specs.True.{AreTrue}
 use Rattle.lr_run.specs.Copied.{IsOfCopy}
 use Rattle.lr_run.specs.Runs.{Inside, Looked, Worked, plan_in, state_text}
 use Rattle.lr_run.specs.Taken.{TakenBy}
+use Rattle.lr_run.proofs.Hindered.{taken_member}
 use Rattle.lr_run.proofs.Shape.{sees_quiet, seen_quiet, looked_parts}
-use Rattle.lr_run.proofs.Taken.{IsOfNew, looks_none, plan_none}
+use Rattle.lr_run.proofs.Taken.{IsOfNew, looks_none, plan_none_long}
 use Rattle.lr_fulfilled.specs.Fulfilled.{NothingFailed}
 use Rattle.lr_fulfilled.proofs.Truth.{Looking, looking, looks_stand}
 use Rattle.lr_spared.specs.Smooth.{NoneRose, IsPartOfOne, IsWrittenFirst, IsSmooth}
 use Rattle.lr_spared.proofs.Clearing.{ClearsFirst, clears_on, clears_log, course_clears}
 use Rattle.lr_spared.proofs.Courses.{OfLog, sets_done, either, sets_so, all_sets}
 use Rattle.lr_spared.proofs.Long.{FitCopies, fit_on, fit_log, ReadsOver, over_in, over_back, course_over, never_over}
+use Rattle.lr_spared.proofs.Members.{HaveMembers, seen_members, part_own}
 use Rattle.lr_spared.proofs.Naming.{Avoids, Spared}
-use Rattle.lr_spared.proofs.Once.{all_ready, each_ready, logs_aside, logs_at_most, name_of, sets_aside, sets_once}
+use Rattle.lr_spared.proofs.Once.{all_ready, each_ready, logs_aside, logs_at_most, sets_aside, sets_once}
 use Rattle.lr_spared.proofs.Stale.{IsKeptAs, kept_as, job_limit, part_of_one, part_seen, part_known}
 use Rattle.lr_spared.proofs.Steps.{OnceNamed, once_first, once_last, once_later, one_split, Tells, course_tells, sets_tell, tells_on}
 use Rattle.lr_spared.proofs.Taken.{never_taken}
@@ -111,25 +113,25 @@ one_in t (u ∷ ts) (inr i) = inr (one_in t ts i)
 
 -- ---- the run
 
-module _ (state : Path) (asked : Asked) (now : Moment) (rules : Rules) (own : List Fault) (j k : Journal) (es reads acts : List Entry) (built : AreBuiltRules rules.sets) (made : Made (past j) es (past k)) (journal : IsJournal (past j)) (joined : reverse es ≡ reads ++ acts) (quiet : AreQuiet reads)
-    (i : Inside state now rules (Worked state rules.sets now asked own) acts) (smooth : IsSmooth state i.within.looked.shown.kept (past j) (past k)) where
+module _ (state : Path) (asked : Asked) (clock : Clock) (rules : Rules) (own : List Fault) (j k : Journal) (es reads acts : List Entry) (made : Made (past j) es (past k)) (journal : IsJournal (past j)) (joined : reverse es ≡ reads ++ acts) (quiet : AreQuiet reads)
+    (i : Inside state clock rules (Worked state rules.sets clock asked own) acts) (smooth : IsSmooth state i.within.looked.shown.kept (past j) (past k)) where
   abbrev p : Past
   p = past j
 
   abbrev q : Past
   q = past k
 
-  abbrev w : Worked state rules.sets now asked own i.between
+  abbrev w : Worked state rules.sets clock asked own i.between
   w = i.within
 
   abbrev l : Looked state rules.sets i.between
   l = w.looked
 
   abbrev plan : Plan
-  plan = plan_in state rules.sets i.between l now asked
+  plan = plan_in state rules.sets i.between l clock asked
 
   abbrev start : Entry
-  start = entry.Starts state now rules
+  start = entry.Starts state clock.now rules
 
   abbrev front : List Entry
   front = reads ++ i.before
@@ -141,33 +143,33 @@ module _ (state : Path) (asked : Asked) (now : Moment) (rules : Rules) (own : Li
   later = l.acts ++ entry.Ends ∷ []
 
   abbrev decide : Rule → LogLook → Due
-  decide = decision l.remembered.table now asked.force
+  decide = decision l.remembered.table clock.now asked.force
 
   abbrev targets : List Target
-  targets = all_targets now decide rules.sets l.sets
+  targets = all_targets clock decide rules.sets l.sets
 
   abbrev text : List ℕ
-  text = state_text state rules.sets i.between l now (rotated_logs w.acted.marks)
+  text = state_text state rules.sets i.between l clock (rotated_logs w.acted.marks)
 
   -- ---- its logs
 
-  named : HaveNames targets
-  named = targets_have_names rules l.sets l.of_looks l.looks now decide built l.shown
+  logs_seen : AreLogsSeen rules clock l.looks targets
+  logs_seen = targets_seen rules l.sets l.of_looks l.looks clock decide l.shown
+
+  members : HaveMembers targets
+  members t one = seen_members rules clock l.looks t (log_among rules clock l.looks targets logs_seen t one)
 
   apart : DontMeet targets
-  apart = targets_dont_meet rules.sets l.sets l.of_looks l.looks now decide l.shown
+  apart = targets_dont_meet rules.sets l.sets l.of_looks l.looks clock decide l.shown
 
   ready : AreReadyFor targets (flat_map (λ (set : SetPlan). set.logs) plan.sets)
-  ready = all_ready (groups_of now decide rules.sets l.sets) plan.sets (plans_have_logs rules.sets l.sets l.of_looks l.looks now asked.mailer decide built l.shown)
+  ready = all_ready (groups_of clock decide rules.sets l.sets) plan.sets (plans_have_logs rules.sets l.sets l.of_looks l.looks clock asked.mailer decide l.shown)
 
-  comes : (t : Target) → IsOneOf t targets → Comes now rules.sets l.sets t
-  comes t one = comes_from now decide rules.sets l.sets t (one_in t targets one)
+  comes : (t : Target) → IsOneOf t targets → Comes clock rules.sets l.sets t
+  comes t one = comes_from clock decide rules.sets l.sets t (one_in t targets one)
 
   free : (t : Target) → IsOneOf t targets → IsFreeOf (reserved_by state) t
-  free t one = in_each (IsFreeOf (reserved_by state)) targets t (targets_free rules.sets l.sets l.of_looks l.looks now decide l.shown) (one_in t targets one)
-
-  names_of : (t : Target) → IsOneOf t targets → HasNames t
-  names_of t one = name_of t targets named one
+  free t one = in_each (IsFreeOf (reserved_by state)) targets t (targets_free rules.sets l.sets l.of_looks l.looks clock decide l.shown) (one_in t targets one)
 
   no_state : (t : Target) → IsOneOf t targets → (x : Path) → IsOwnName t.log t.naming x → state ≡ x → ⊥
   no_state t one x mine same = free t one x (inl same) (inl mine)
@@ -178,10 +180,10 @@ module _ (state : Path) (asked : Asked) (now : Moment) (rules : Rules) (own : Li
   -- ---- its moments
 
   abbrev at : Looking start p q front seen later
-  at = looking state asked now rules own p q es reads acts made journal joined i
+  at = looking state asked clock rules own p q es reads acts made journal joined i
 
   are_true : AreTrue rules.sets l.sets l.of_looks l.looks l.shown (at.at ▸ start) at.looked
-  are_true = looks_stand state asked now rules own p q es reads acts made journal joined i
+  are_true = looks_stand state asked clock rules own p q es reads acts made journal joined i
 
   front_quiet : AreQuiet front
   front_quiet = quiet_both reads i.before quiet (sees_quiet (parent_of state) IsDir i.before i.directory)
@@ -204,7 +206,7 @@ module _ (state : Path) (asked : Asked) (now : Moment) (rules : Rules) (own : Li
   -- ---- old part files
 
   seen_stale : (t : Target) → IsOneOf t targets → (job : Job) → t.job ≡ Some job → IsFileAt (names (world p)) job.part → job.stale ≡ true
-  seen_stale t one job is file = part_seen rules.sets l.sets l.of_looks l.looks l.shown t (comes t one) (at.at ▸ start) at.looked are_true (names_of t one) job is (file_stands job.part file)
+  seen_stale t one job is file = part_seen rules.sets l.sets l.of_looks l.looks l.shown t (comes t one) (at.at ▸ start) at.looked are_true (members t one) job is (file_stands job.part file)
 
   state_spared : Spared (state_part state) p q
   state_spared = since_as (λ y. IsWrittenFirst state l.shown.kept y → ⊥) (λ y. y ≢ state_part state) p q (λ y none same. none (inl same)) smooth.spared
@@ -237,14 +239,17 @@ module _ (state : Path) (asked : Asked) (now : Moment) (rules : Rules) (own : Li
 
   -- ---- its acts
 
-  abbrev a : ActsDone plan state l.remembered.stale (λ made. w.acted.dirs) (state_text state rules.sets i.between l now) w.acted.marks w.acted.of_acts l.acts
+  abbrev a : ActsDone plan state l.remembered.stale (λ made. w.acted.dirs) (state_text state rules.sets i.between l clock) w.acted.marks w.acted.of_acts l.acts
   a = w.acted.entries
 
-  -- faults of new files are those of the acts
-  of_acts : (f : Fault) → IsOfNew f → IsIn f own → IsIn f w.acted.of_acts
-  of_acts f new h = ⊎_elim (λ b. absurd (looks_none (reserved_by state) rules.sets l.sets l.of_looks l.looks l.shown f new b))
-      (λ b. ⊎_elim (λ c. absurd (plan_none decide rules.sets l.sets f new c)) (λ c. c) (in_append f plan.faults w.acted.of_acts b))
+  -- faults of new files are those of the plan and the acts
+  of_plan_or_acts : (f : Fault) → IsOfNew f → IsIn f own → IsIn f plan.faults ⊎ IsIn f w.acted.of_acts
+  of_plan_or_acts f new h = ⊎_elim (λ b. absurd (looks_none (reserved_by state) rules.sets l.sets l.of_looks l.looks l.shown f new b)) (λ b. in_append f plan.faults w.acted.of_acts b)
       (in_append f l.of_looks (plan.faults ++ w.acted.of_acts) (subst (IsIn f) w.acted.faults_are h))
+
+  -- those of the acts are faults of the run
+  in_own : (f : Fault) → IsIn f w.acted.of_acts → IsIn f own
+  in_own f h = subst (IsIn f) (sym w.acted.faults_are) (in_back f l.of_looks (plan.faults ++ w.acted.of_acts) (in_back f plan.faults w.acted.of_acts h))
 
   tells : (x : Path) → Tells x (all_of_sets (steps_of_plan plan) ++ state_steps state l.remembered.stale w.acted.dirs text) w.acted.of_acts l.acts
   tells x = tells_on x (all_of_sets (steps_of_plan plan)) (state_steps state l.remembered.stale w.acted.dirs text) w.acted.of_acts a.of_plan a.of_state l.acts a.entries.front a.entries.back a.faults_are a.entries.joined
@@ -293,39 +298,48 @@ module _ (state : Path) (asked : Asked) (now : Moment) (rules : Rules) (own : Li
   module _ (taken : TakenBy state plan own (Some j) (Some k)) where
     -- nothing stood there, or what stood was unlinked; and the path is named once
     not_so : (x : Path) → Spared x p q → ((stale : Bool) (dirs : List Path) (bytes : List ℕ) → OnceNamed x (all_of_sets (steps_of_plan plan) ++ state_steps state stale dirs bytes))
-        → (names (world p) x ≡ thing.Nothing) ⊎ IsIn (entry.Unlinks x) l.acts → IsIn (fault.Taken x) own → ⊥
+        → (names (world p) x ≡ thing.Nothing) ⊎ IsIn (entry.Unlinks x) l.acts → IsIn (fault.Taken x) w.acted.of_acts → ⊥
     not_so x spared once at_first h = never_taken x j k es made spared
-        (all_avoid x ((tells x).once (once l.remembered.stale w.acted.dirs text) (of_acts (fault.Taken x) tt h)))
+        (all_avoid x ((tells x).once (once l.remembered.stale w.acted.dirs text) h))
         (⊎_elim (λ nothing. inl nothing) (λ gone. inr (in_all (entry.Unlinks x) gone)) at_first)
-        (taken.taken x (once_last x _ (once taken.stale taken.dirs taken.text)) h)
+        (taken.taken x (once_last x _ (once taken.stale taken.dirs taken.text)) (in_own (fault.Taken x) h))
 
-    state_not : IsIn (fault.Taken (state_part state)) own → ⊥
+    state_not : IsIn (fault.Taken (state_part state)) w.acted.of_acts → ⊥
     state_not h = not_so (state_part state) state_spared
         (λ stale dirs bytes. once_later (state_part state) (all_of_sets (steps_of_plan plan)) (state_steps state stale dirs bytes)
-        (sets_aside (state_part state) plan.sets (logs_aside (state_part state) targets _ ready named (λ t one mine. no_part t one (state_part state) mine refl))) (state_once state stale dirs bytes))
+        (sets_aside (state_part state) plan.sets (logs_aside (state_part state) targets _ ready members (λ t one mine. no_part t one (state_part state) mine refl))) (state_once state stale dirs bytes))
         (⊎_elim (λ nothing. inl nothing) (λ stale. inr (cleared (state_part state)
-        (λ t one job is same. absurd (no_part t one (state_part state) (subst (IsOwnName t.log t.naming) same (part_own t (names_of t one) job is)) refl)) (λ same. stale) (of_acts (fault.Taken (state_part state)) tt h)))
+        (λ t one job is same. absurd (no_part t one (state_part state) (subst (IsOwnName t.log t.naming) same (part_own t (members t one) job is)) refl)) (λ same. stale) h))
         state_stale) h
 
-    part_not : (x : Path) → IsPartOf x → IsIn (fault.Taken x) own → ⊥
+    part_not : (x : Path) → IsPartOf x → IsIn (fault.Taken x) w.acted.of_acts → ⊥
     part_not x o h = not_so x spared
         (λ stale dirs bytes. once_first x (all_of_sets (steps_of_plan plan)) (state_steps state stale dirs bytes)
-        (sets_once x plan.sets (logs_at_most x targets _ ready named apart o.target o.one o.job o.is o.part))
+        (sets_once x plan.sets (logs_at_most x targets _ ready members apart o.target o.one o.job o.is o.part))
         (state_none state stale dirs bytes x (no_state o.target o.one x mine) (no_part o.target o.one x mine)))
-        (⊎_elim (λ nothing. inl nothing) (λ file. inr (cleared x (λ t one job is same. seen_stale t one job is (subst (IsFileAt (names (world p))) (sym same) file)) (λ same. absurd (no_part o.target o.one x mine same)) (of_acts (fault.Taken x) tt h)))
+        (⊎_elim (λ nothing. inl nothing) (λ file. inr (cleared x (λ t one job is same. seen_stale t one job is (subst (IsFileAt (names (world p))) (sym same) file)) (λ same. absurd (no_part o.target o.one x mine same)) h))
         (smooth.free x part)) h
       where
         mine : IsOwnName o.target.log o.target.naming x
-        mine = subst (IsOwnName o.target.log o.target.naming) o.part (part_own o.target (names_of o.target o.one) o.job o.is)
+        mine = subst (IsOwnName o.target.log o.target.naming) o.part (part_own o.target (members o.target o.one) o.job o.is)
 
         part : IsPartOfOne l.shown.kept x
-        part = subst (IsPartOfOne l.shown.kept) o.part (part_of_one rules.sets l.sets l.of_looks l.looks l.shown o.target (comes o.target o.one) (names_of o.target o.one) o.job o.is)
+        part = subst (IsPartOfOne l.shown.kept) o.part (part_of_one rules.sets l.sets l.of_looks l.looks l.shown o.target (comes o.target o.one) (members o.target o.one) o.job o.is)
 
         spared : Spared x p q
         spared = since_as (λ y. IsWrittenFirst state l.shown.kept y → ⊥) (λ y. y ≢ x) p q (λ y none same. none (inr (subst (IsPartOfOne l.shown.kept) (sym same) part))) smooth.spared
 
-    not_taken : (x : Path) → IsIn (fault.Taken x) own → ⊥
-    not_taken x h = ⊎_elim (λ same. state_not (subst (λ (y : Path). IsIn (fault.Taken y) own) (sym same) h)) (λ o. part_not x o h) (needed x ((tells x).planned (of_acts (fault.Taken x) tt h)))
+    -- by the acts
+    acts_take_none : (x : Path) → IsIn (fault.Taken x) w.acted.of_acts → ⊥
+    acts_take_none x h = ⊎_elim (λ same. state_not (subst (λ (y : Path). IsIn (fault.Taken y) w.acted.of_acts) (sym same) h)) (λ o. part_not x o h) (needed x ((tells x).planned h))
+
+    -- what the plan tells so is a dated member of a log that is kept
+    no_part_taken : (x : Path) → EndsWith x part_end → IsIn (fault.Taken x) own → ⊥
+    no_part_taken x end h = ⊎_elim (λ b. let f = (taken_member state rules l.sets l.of_looks l.looks clock decide l.shown x b).0 in smooth.told_apart f.0 f.1 x f.2 end) (λ b. acts_take_none x b) (of_plan_or_acts (fault.Taken x) tt h)
+
+    -- and no path that the run reserves for itself
+    state_not_taken : IsIn (fault.Taken (state_part state)) own → ⊥
+    state_not_taken h = ⊎_elim (λ b. (taken_member state rules l.sets l.of_looks l.looks clock decide l.shown (state_part state) b).1 (state_part state) (inr (inl refl)) refl) (λ b. acts_take_none (state_part state) b) (of_plan_or_acts (fault.Taken (state_part state)) tt h)
 
   -- ---- no file was too long
 
@@ -334,7 +348,7 @@ module _ (state : Path) (asked : Asked) (now : Moment) (rules : Rules) (own : Li
   IsLimited from limit = (limit ≡ 1_099_511_627_776) × ((f : FoundLog) × IsIn f l.shown.kept × (f.log.path ≡ from))
 
   limited : (t : Target) (one : IsOneOf t targets) (job : Job) → t.job ≡ Some job → IsLimited job.from job.limit
-  limited t one job is = (job_limit rules.sets l.sets l.of_looks l.looks l.shown t (comes t one) job is, (f.found, f.among, f.path ∙ sym ((names_of t one).job job is).from_is))
+  limited t one job is = (job_limit rules.sets l.sets l.of_looks l.looks l.shown t (comes t one) job is, (f.found, f.among, f.path ∙ sym ((members t one).job job is).from_is))
     where
       f : IsKeptAs l.shown.kept t
       f = kept_as rules.sets l.sets l.of_looks l.looks l.shown t (comes t one)
@@ -354,16 +368,16 @@ module _ (state : Path) (asked : Asked) (now : Moment) (rules : Rules) (own : Li
       (λ limit c m old new first second g is. subst (λ (n : ℕ). length ((world m).files g).bytes ≤ n) (sym c.0) (smooth.short c.1.0 c.1.1 m (made_behind p m old first) (made_behind m q new second) g (subst (λ (y : Path). names (world m) y ≡ thing.File g) (sym c.1.2) is)))
     where
       r : ReadsOver IsLimited x l.acts
-      r = read_over x (of_acts (fault.TooLong x) tt h)
+      r = read_over x (⊎_elim (λ b. absurd (plan_none_long clock decide rules.sets l.sets x b)) (λ b. b) (of_plan_or_acts (fault.TooLong x) tt h))
 
   -- ---- nothing failed
 
   pub nothing_fails : TakenBy state plan own (Some j) (Some k) → calls_in own ≡ 0 → scripts_in own ≡ 0 → NothingFailed state own
-  nothing_fails taken no_call no_end = record { no_call = no_call; no_end = no_end; no_copy = each_in (λ f. IsOfCopy f → ⊥) own no_copy; not_taken = not_taken taken (state_part state) }
+  nothing_fails taken no_call no_end = record { no_call = no_call; no_end = no_end; no_copy = each_in (λ f. IsOfCopy f → ⊥) own no_copy; not_taken = state_not_taken taken }
     where
       no_copy : (f : Fault) → IsIn f own → IsOfCopy f → ⊥
       no_copy (fault.TooLong x) h c = not_long x h
-      no_copy (fault.Taken x) h c = not_taken taken x h
+      no_copy (fault.Taken x) h c = no_part_taken taken x c h
       no_copy _ h c = c
 
   pub smooth_fails_nothing : TakenBy state plan own (Some j) (Some k) → (counted counts : Counts) → AreCounted own counted counts → NoneRose counted counts → NothingFailed state own

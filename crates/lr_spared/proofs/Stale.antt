@@ -3,7 +3,7 @@ use Rattle.std.proofs.Common.{◌≡◌, ◌⊎◌, inl, inr, ⊎_elim, ◌+◌,
 use Rattle.std.specs.Prelude.{◌||◌}
 use Rattle.std.specs.List.{list_any}
 use Rattle.std.proofs.lemmas.Slice.Eq.{bytes_eq-Decides}
-use Rattle.lr_rules.specs.declared.civil.Moment.{Moment}
+use Rattle.lr_rules.specs.declared.clock.Clock.{Clock}
 use Rattle.lr_rules.specs.declared.path.Path.{Path}
 use Rattle.lr_rules.specs.declared.fault.Fault.{Fault}
 use Rattle.lr_rules.specs.declared.rule.Naming.{Naming}
@@ -17,10 +17,9 @@ use Rattle.lr_host.specs.Lists.{IsIn}
 use Rattle.lr_host.specs.World.{Past, world, names}
 use Rattle.lr_host.proofs.Lists.{in_back}
 use Rattle.lr_family.specs.Parts.{part_of, IsMembersPart}
-use Rattle.lr_family.specs.Spots.{path_at}
 use Rattle.lr_copy.specs.declared.job.Job.{Job}
 use Rattle.lr_plan.specs.declared.looks.SetLooks.{SetLooks}
-use Rattle.lr_plan.specs.Planned.{copy_job}
+use Rattle.lr_plan.specs.Planned.{copy_job, ready_for}
 use Rattle.lr_looks.specs.Families.{LookedLog}
 use Rattle.lr_looks.specs.Found.{FoundLog}
 use Rattle.lr_looks.specs.Sets.{looked_in}
@@ -31,15 +30,12 @@ use Rattle.lr_reading.specs.Answers.{IsKnown, IsKnownBy, IsKnownBehind, IsKnownO
 use Rattle.lr_reading.specs.Pieces.{Reading}
 use Rattle.lr_reading.specs.Sights.{Sight, Failed, Nothing, Saw, StateSights, found, found_kind, look_of, behind_state, entries_of}
 use Rattle.lr_plan.specs.Steps.{state_part}
-use Rattle.lr_targets.specs.Apart.{HasNames}
 use Rattle.lr_targets.specs.Target.{Target}
-use Rattle.lr_rotations.proofs.Fitting.{first_named}
-use Rattle.lr_targets.proofs.PartFile.{job_part}
-use Rattle.lr_chain.specs.Rotation.{places_of}
 use Rattle.lr_seen.proofs.Coming.{Comes, was_looked, in_looked}
 use Rattle.lr_seen.proofs.Ready.{by_copy}
 use Rattle.lr_stood.specs.True.{IsTrueFamily, AreTrue}
 use Rattle.lr_spared.specs.Smooth.{IsPartOfOne}
+use Rattle.lr_spared.proofs.Members.{HasMembers, part_is_members}
 
 -- ---- the part file of a copy
 
@@ -52,11 +48,6 @@ in_has x (y ∷ ys) (inr i) = go (bytes_eq x y) (in_has x ys i)
     go true e = refl
     go false e = e
 
--- it is that of a member
-part_is_members : (t : Target) (job : Job) → HasNames t → t.job ≡ Some job → IsMembersPart t.naming job.part
-part_is_members t job h is = subst (IsMembersPart t.naming) (sym (job_part t job h.ready (h.job job is)))
-    (path_at t.naming 0, inl (h.family.numbered, (0, record { bound = first_named t.naming t.count (places_of t.stand.members) h.next; named = refl })), refl)
-
 -- the log is one of those that are kept
 pub record IsKeptAs (logs : List FoundLog) (t : Target) : Type 0 where
   pub found : FoundLog
@@ -64,7 +55,7 @@ pub record IsKeptAs (logs : List FoundLog) (t : Target) : Type 0 where
   pub path : found.log.path ≡ t.log
   pub naming : found.log.naming ≡ t.naming
 
-module _ {reserved : List Path} {now : Moment} (rules : List Rule) (sets : List SetLooks) (faults : List Fault) (ts : List Entry) (s : ShowsLooks reserved rules sets faults ts) (t : Target) (c : Comes now rules sets t) where
+module _ {reserved : List Path} {clock : Clock} (rules : List Rule) (sets : List SetLooks) (faults : List Fault) (ts : List Entry) (s : ShowsLooks reserved rules sets faults ts) (t : Target) (c : Comes clock rules sets t) where
   looked : IsIn (looked_in (0 + c.place) c.look) s.looked
   looked = was_looked 0 c.place s.looked sets c.set c.look s.by_sets c.at_set c.among
 
@@ -79,28 +70,31 @@ module _ {reserved : List Path} {now : Moment} (rules : List Rule) (sets : List 
       }
 
   -- its copy is the one that the look asks for
-  copied : (job : Job) → t.job ≡ Some job → (cut : Bool) × (copy_job c.look cut ≡ job)
-  copied job is = by_copy c.rule.way c.look job (sym (ap (λ (u : Target). u.job) c.is) ∙ is)
+  copied : (job : Job) → t.job ≡ Some job → (cut : Bool) × (copy_job c.look (ready_for clock c.rule c.look).target cut ≡ job)
+  copied job is = by_copy c.rule.way c.look (ready_for clock c.rule c.look).target job (sym (ap (λ (u : Target). u.job) c.is) ∙ is)
 
   pub job_limit : (job : Job) → t.job ≡ Some job → job.limit ≡ 1_099_511_627_776
   job_limit job is = ap (λ (k : Job). k.limit) (sym (copied job is).1)
 
-  pub part_of_one : HasNames t → (job : Job) → t.job ≡ Some job → IsPartOfOne s.kept job.part
-  part_of_one h job is = record { found = kept_as.found; among = kept_as.among; part = subst (λ (n : Naming). IsMembersPart n job.part) (sym kept_as.naming) (part_is_members t job h is) }
+  pub part_of_one : HasMembers t → (job : Job) → t.job ≡ Some job → IsPartOfOne s.kept job.part
+  part_of_one h job is = record { found = kept_as.found; among = kept_as.among; part = subst (λ (n : Naming). IsMembersPart n job.part) (sym kept_as.naming) (part_is_members t h job is) }
 
-  pub part_seen : (p q : Past) → AreTrue rules sets faults ts s p q → HasNames t → (job : Job) → t.job ≡ Some job → IsFileAt (names (world p)) job.part → job.stale ≡ true
-  part_seen p q a h job is file = subst (λ (k : Job). k.stale ≡ true) by.1 (in_has (part_of (path_at c.look.family.naming 0)) c.look.stand.parts
-      (f.parts (part_of (path_at c.look.family.naming 0))
-      (subst (IsMembersPart c.look.family.naming) part (subst (λ (n : Naming). IsMembersPart n job.part) (ap (λ (u : Target). u.naming) c.is) (part_is_members t job h is)))
+  pub part_seen : (p q : Past) → AreTrue rules sets faults ts s p q → HasMembers t → (job : Job) → t.job ≡ Some job → IsFileAt (names (world p)) job.part → job.stale ≡ true
+  part_seen p q a h job is file = subst (λ (k : Job). k.stale ≡ true) by.1 (in_has (part_of to) c.look.stand.parts
+      (f.parts (part_of to)
+      (subst (IsMembersPart c.look.family.naming) part (subst (λ (n : Naming). IsMembersPart n job.part) (ap (λ (u : Target). u.naming) c.is) (part_is_members t h job is)))
       (subst (IsFileAt (names (world p))) part file)))
     where
-      by : (cut : Bool) × (copy_job c.look cut ≡ job)
+      to : Path
+      to = (ready_for clock c.rule c.look).target
+
+      by : (cut : Bool) × (copy_job c.look (ready_for clock c.rule c.look).target cut ≡ job)
       by = copied job is
 
       f : IsTrueFamily c.look.family.naming c.look.stand p q
       f = a.families (looked_in (0 + c.place) c.look) looked
 
-      part : job.part ≡ part_of (path_at c.look.family.naming 0)
+      part : job.part ≡ part_of to
       part = ap (λ (k : Job). k.part) (sym by.1)
 
 -- ---- the part file of the state

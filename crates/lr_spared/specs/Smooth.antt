@@ -1,13 +1,14 @@
 -- Calls in which nothing is in the way of a run.
 use Rattle.std.specs.Prelude.{◌≡◌, ◌≤◌, ◌⊎◌, ℕ, List, length}
 use Rattle.lr_rules.specs.declared.path.Path.{Path}
+use Rattle.lr_rules.specs.Match.{part_end, EndsWith}
 use Rattle.lr_host.specs.declared.thing.Thing.TheVariants as thing
 use Rattle.lr_host.specs.Fits.{IsFileAt}
 use Rattle.lr_host.specs.Lists.{IsIn}
 use Rattle.lr_host.specs.Quiet.{AttachedOnlySince}
 use Rattle.lr_host.specs.Told.{Counts, Rose}
 use Rattle.lr_host.specs.World.{Past, world, names}
-use Rattle.lr_family.specs.Parts.{IsMembersPart}
+use Rattle.lr_family.specs.Parts.{IsDated, IsMembersPart}
 use Rattle.lr_looks.specs.Found.{FoundLog}
 use Rattle.lr_plan.specs.Steps.{state_part}
 use Rattle.lr_rotations.specs.Rotated.{IsBehind}
@@ -32,5 +33,7 @@ pub record IsSmooth (state : Path) (logs : List FoundLog) (before after : Past) 
   pub spared : AttachedOnlySince (λ x. IsWrittenFirst state logs x → ⊥) before after
   -- at first nothing stood at the path of a part file, or a regular file did
   pub free : (x : Path) → IsPartOfOne logs x → (names (world before) x ≡ thing.Nothing) ⊎ IsFileAt (names (world before)) x
+  -- no dated member of these has a name that ends as a part file's does, so that one that is taken isn't told in the words of a copy that broke off
+  pub told_apart : (f : FoundLog) → IsIn f logs → (x : Path) → IsDated f.log.naming x → EndsWith x part_end → ⊥
   -- no file was ever a log of these with more than 2^40 bytes
   pub short : (f : FoundLog) → IsIn f logs → (m : Past) → IsBehind before m → IsBehind m after → (g : ℕ) → names (world m) f.log.path ≡ thing.File g → length ((world m).files g).bytes ≤ 1_099_511_627_776
