@@ -1,7 +1,6 @@
 -- The answers of a call of the program.
 use Rattle.std.proofs.Common.{◌≡◌, ◌⊎◌, inl, inr, ℕ, List, [], ◌∷◌, ◌++◌, Option, Some, None, Result, Ok, Err, IfOk, OnOk, OnErr, refl, sym, ap, ◌∙◌, subst}
 use Rattle.std.specs.Prelude.{ℤ, Contains}
-use Rattle.lr_rules.specs.declared.civil.Moment.{Moment}
 use Rattle.lr_rules.specs.declared.clock.Clock.{Clock}
 use Rattle.lr_rules.specs.declared.path.Path.{Path}
 use Rattle.lr_rules.specs.declared.fault.Fault.{Fault}
@@ -9,11 +8,15 @@ use Rattle.lr_rules.specs.declared.fault.Fault.TheVariants as fault
 use Rattle.lr_rules.specs.declared.fault.Notice.{Notice}
 use Rattle.lr_host.specs.declared.journal.Journal.{Journal}
 use Rattle.lr_host.specs.declared.sink.SinkFault.{SinkFault}
+use Rattle.lr_host.specs.Quiet.{AreQuiet}
+use Rattle.lr_host.specs.Safe.{KeepsSafe}
 use Rattle.lr_host.specs.Told.{Counts, Left, Rose}
 use Rattle.lr_host.proofs.Left.{left_as, left_first, left_both, left_then}
 use Rattle.lr_due.specs.declared.tz.Zone.{Zone}
 use Rattle.lr_host.specs.Counted.{AreCounted}
-use Rattle.lr_targets.specs.AllTurns.{IsWholeRun}
+use Rattle.lr_targets.proofs.Safety.{quiet_call_safe}
+use Rattle.lr_mixed.specs.AllTurns.{IsWholeRunBy}
+use Rattle.lr_mixed.proofs.Safety.{all_safe}
 use Rattle.lr_plan.specs.declared.planned.Plan.{Plan}
 use Rattle.lr_report.specs.Lines.{lines}
 use Rattle.lr_report.specs.Puts.{Took, TookPart}
@@ -32,11 +35,12 @@ use Rattle.lr_cli.specs.Answer.{at_first as lacks_first, Answers, AnswersAt, no_
 use Rattle.lr_cli.specs.Clock.{ShowsClock, ClockStopped, HasClock, IsClockFault, IsClocked, with_clock, without_clock}
 use Rattle.lr_cli.specs.Faults.{answer_of, clock_answer, HasCounted, HasFault}
 use Rattle.lr_cli.specs.Asked.{AskFor, planned_text}
+use Rattle.lr_cli.specs.Safe.{HadClock, KeepsSafeByClock, no_clock as safe_without, by_clock, TurnsByClock, only_looked, ran}
 use Rattle.lr_cli.specs.Printed.{text_of, without_out, printed_of}
 use Rattle.lr_cli.specs.Says.{asked_text, Prints, Says}
 use Rattle.lr_cli.proofs.OutAside.{report_with}
 use Rattle.lr_cli.specs.Zone.{at_first}
-use Rattle.lr_cli.proofs.Reading.{no_out_among, run_behind, alone_run}
+use Rattle.lr_cli.proofs.Reading.{no_out_among, run_behind}
 use Rattle.lr_cli.proofs.Still.{clock_quiet, stop_quiet}
 
 -- ---- a run where there is no clock
@@ -52,8 +56,8 @@ pub at_stop : (request : Request) (zone : Zone) (s seconds : ℤ) (why : ClockSt
 at_stop request zone s seconds why plan outcome {o = o} {n = n} same none is l =
     subst (λ (a : Outcome). Left (AnswersAt request zone seconds plan a) o n) (sym is) (subst (λ (p : Option Plan). Left (AnswersAt request zone seconds p (clock_answer why)) o n) (sym none) (stopped_at request zone seconds why (subst (λ (z : ℤ). Left (ClockStopped zone z why) o n) same l)))
 
-pub stop_shape : (zone : Zone) (seconds : ℤ) (why : ClockStop) {o n : Option Journal} → Left (ClockStopped zone seconds why) o n → Left IsWholeRun o n
-stop_shape zone seconds why l = left_as l (λ ts h. alone_run ts (stop_quiet zone seconds why ts h))
+pub stop_shape : (zone : Zone) (s seconds : ℤ) (why : ClockStop) {o n : Option Journal} → Left (ClockStopped zone s why) o n → TurnsByClock zone seconds o n
+stop_shape zone s seconds why l = only_looked (left_as l (λ ts h. stop_quiet zone s why ts h))
 
 -- the one fault that is told
 abbrev notices_in : Outcome → List Notice
@@ -75,20 +79,35 @@ stop_clocked zone s seconds (Err w) c why Y same e is h = tt
 
 -- ---- a run at a clock
 
-pub by_first : (request : Request) (now : Moment) (o : Option Journal) → Left (Answers request now None OutOfMemory) o o
-by_first request now o = left_first (Answers request now None OutOfMemory) o (refl, lacks_first refl)
+pub by_first : (request : Request) (clock : Clock) (o : Option Journal) → Left (Answers request clock None OutOfMemory) o o
+by_first request clock o = left_first (Answers request clock None OutOfMemory) o (refl, lacks_first refl)
 
-pub at_clock : (request : Request) (zone : Zone) (s seconds : ℤ) (clock : Clock) (plan : Option Plan) (outcome : Outcome) {o m n : Option Journal} → s ≡ seconds → Left (ShowsClock zone s clock) o m → Left (Answers request clock.now plan outcome) m n → Left (AnswersAt request zone seconds plan outcome) o n
+pub at_clock : (request : Request) (zone : Zone) (s seconds : ℤ) (clock : Clock) (plan : Option Plan) (outcome : Outcome) {o m n : Option Journal} → s ≡ seconds → Left (ShowsClock zone s clock) o m → Left (Answers request clock plan outcome) m n → Left (AnswersAt request zone seconds plan outcome) o n
 at_clock request zone s seconds clock plan outcome {o = o} {m = m} same a b = left_as (left_both (subst (λ (z : ℤ). Left (ShowsClock zone z clock) o m) same a) b) (λ ts t. called clock t)
 
-pub clock_shape : (zone : Zone) (seconds : ℤ) (clock : Clock) {o m n : Option Journal} → Left (ShowsClock zone seconds clock) o m → Left IsWholeRun m n → Left IsWholeRun o n
-clock_shape zone seconds clock a b = left_then a b (λ xs ys p q. run_behind xs ys (clock_quiet zone seconds clock xs p) q)
+pub clock_shape : (zone : Zone) (s seconds : ℤ) (clock : Clock) {o m n : Option Journal} → s ≡ seconds → Left (ShowsClock zone s clock) o m → Left (IsWholeRunBy clock) m n → TurnsByClock zone seconds o n
+clock_shape zone s seconds clock same a b = ran clock
+    (left_then a b (λ xs ys p q. record { front = xs; back = ys; joined = refl; first = subst (λ (z : ℤ). ShowsClock zone z clock xs) same p; second = tt }))
+    (left_then a b (λ xs ys p q. run_behind clock xs ys (clock_quiet zone s clock xs p) q))
 
 pub clock_clocked : (zone : Zone) (s seconds : ℤ) (clock : Clock) (r : Result Told RunStop) → s ≡ seconds → HasClock zone s clock → IfOk r (λ told. IsClocked zone seconds told.notices told.faults.items)
 clock_clocked zone s seconds clock (Ok told) same h = with_clock clock (subst (λ (z : ℤ). HasClock zone z clock) same h)
 clock_clocked zone s seconds clock (Err w) same h = tt
 
 -- ---- the call
+
+-- a call that changed nothing keeps each set safe
+quiet_keeps : {o n : Option Journal} → Left AreQuiet o n → KeepsSafe o n
+quiet_keeps {o = o} {n = n} l = quiet_call_safe o n l
+
+-- so does one that called nothing
+pub safe_alone : (zone : Zone) (seconds : ℤ) (o : Option Journal) → KeepsSafeByClock zone seconds o o
+safe_alone zone seconds o = safe_without (quiet_keeps (left_first AreQuiet o tt))
+
+-- one by a clock keeps those safe that aren't ahead of it; one without only looked, and keeps each
+pub turns_safe : (zone : Zone) (s seconds : ℤ) {o n : Option Journal} → s ≡ seconds → TurnsByClock zone s o n → KeepsSafeByClock zone seconds o n
+turns_safe zone s seconds same (only_looked l) = safe_without (quiet_keeps l)
+turns_safe zone s seconds {o = o} {n = n} same (ran clock had run) = by_clock clock (subst (λ (z : ℤ). HadClock zone z clock o n) same had) (all_safe clock o n run)
 
 -- a call that called nothing
 pub nothing_called : (here : Path) (words : List (List ℕ)) (zone : Zone) (seconds : ℤ) (a o : Outcome) (j : Option Journal) → a ≡ o → (o ≡ BadWords) ⊎ (o ≡ OutOfMemory) → Left (Answered here words zone seconds None a) j j

@@ -1,5 +1,5 @@
 -- Each log that a call empties was copied just before, by a copy that a rule of its configuration asks for.
-use Rattle.std.proofs.Common.{◌≡◌, ℕ, List, [], ◌++◌, Option, refl, sym, ◌∙◌, subst}
+use Rattle.std.proofs.Common.{◌≡◌, ℕ, List, ◌++◌, Option, Some, reverse, sym, ◌∙◌, subst}
 use Rattle.std.specs.Prelude.{ℤ}
 use Rattle.lr_rules.specs.declared.clock.Clock.{Clock}
 use Rattle.lr_rules.specs.declared.fault.Fault.{Fault}
@@ -16,7 +16,6 @@ use Rattle.lr_due.specs.declared.tz.Zone.{Zone}
 use Rattle.lr_emptied.specs.Emptied.{EmptiesCopied}
 use Rattle.lr_emptied.proofs.Entries.{quiet_empties, both_empty, same_empties}
 use Rattle.lr_emptied.proofs.Whole.{empties_whole}
-use Rattle.lr_fields.specs.Built.{AreBuiltRules}
 use Rattle.lr_include.specs.Stages.{Reads}
 use Rattle.lr_include.proofs.AllQuiet.{reads_quiet as confs_quiet, lacking_quiet}
 use Rattle.lr_plan.specs.Asked.{asking}
@@ -30,52 +29,45 @@ use Rattle.lr_command.specs.declared.request.Request.{Request}
 use Rattle.lr_cli.specs.Answer.{Reports, FindsLock, LacksMemory, at_first, at_confs, at_run, Answers, AnswersAt, no_clock, no_memory, called, Answered, not_read, read}
 use Rattle.lr_cli.specs.Asked.{AskFor}
 use Rattle.lr_cli.specs.Clock.{ShowsClock}
-use Rattle.lr_cli.specs.Copied.{ReadsRules, none_read, were_read, CopiesWhole}
-use Rattle.lr_cli.proofs.Reached.{built_means}
+use Rattle.lr_cli.specs.Copied.{ReadsRules, CopiesWhole, none_read, by_rules}
 use Rattle.lr_cli.proofs.Still.{clock_quiet, stop_quiet, same_Some}
 
 module _ (request : Request) (zone : Zone) (seconds : ℤ) where
-  -- of these entries
-  record Copies (ts : List Entry) : Type 0 where
-    rules : List Rule
-    read : ReadsRules request zone seconds rules ts
-    copied : EmptiesCopied (IsCopyBy rules) ts
+  -- None of these entries empties a log; or the configuration was read, and each log that they empty was copied just before, by a copy that one of its rules asks for.
+  data Copies (ts : List Entry) : Type 0 where
+    none_copied : EmptiesCopied (λ job. ⊥) ts → Copies ts
+    copied_by : (clock : Clock) (rules : List Rule) → ReadsRules request zone seconds clock rules ts → EmptiesCopied (IsCopyBy rules clock) ts → Copies ts
 
   quiet_copies : (ts : List Entry) → AreQuiet ts → Copies ts
-  quiet_copies ts q = record { rules = []; read = none_read refl; copied = quiet_empties (IsCopyBy []) ts q }
-
-  built_rules : (meaning : Meaning) (rules : Rules) (reads : List Entry) → rules.sets ≡ meaning.rules → Reads request.confs meaning reads → AreBuiltRules rules.sets
-  built_rules meaning rules reads same of_confs = subst AreBuiltRules (sym same) (built_means request.confs meaning reads of_confs)
+  quiet_copies ts q = none_copied (quiet_empties (λ job. ⊥) ts q)
 
   -- behind the clock and the reading, as the run does
   behind_copies : (clock : Clock) (meaning : Meaning) (rules : Rules) (ts us reads acts front : List Entry) → rules.sets ≡ meaning.rules → ts ≡ front ++ us → us ≡ reads ++ acts → ShowsClock zone seconds clock front → Reads request.confs meaning reads
-      → EmptiesCopied (IsCopyBy rules.sets) acts → Copies ts
-  behind_copies clock meaning rules ts us reads acts front same joined parts shown of_confs e = record {
-    rules = rules.sets;
-    read = were_read clock meaning same (record { front = front; back = us; joined = joined; first = shown; second = record { front = reads; back = acts; joined = parts; first = of_confs; second = tt } });
-    copied = same_empties (IsCopyBy rules.sets) (front ++ us) ts joined (both_empty (IsCopyBy rules.sets) front us (quiet_empties (IsCopyBy rules.sets) front (clock_quiet zone seconds clock front shown))
-        (same_empties (IsCopyBy rules.sets) (reads ++ acts) us parts (both_empty (IsCopyBy rules.sets) reads acts (quiet_empties (IsCopyBy rules.sets) reads (confs_quiet request.confs meaning reads of_confs)) e)));
-  }
+      → EmptiesCopied (IsCopyBy rules.sets clock) acts → Copies ts
+  behind_copies clock meaning rules ts us reads acts front same joined parts shown of_confs e = copied_by clock rules.sets
+      (record { meaning = meaning; rules_are = same; entries = record { front = front; back = us; joined = joined; first = shown; second = record { front = reads; back = acts; joined = parts; first = of_confs; second = tt } } })
+      (same_empties (IsCopyBy rules.sets clock) (front ++ us) ts joined (both_empty (IsCopyBy rules.sets clock) front us (quiet_empties (IsCopyBy rules.sets clock) front (clock_quiet zone seconds clock front shown))
+      (same_empties (IsCopyBy rules.sets clock) (reads ++ acts) us parts (both_empty (IsCopyBy rules.sets clock) reads acts (quiet_empties (IsCopyBy rules.sets clock) reads (confs_quiet request.confs meaning reads of_confs)) e))))
 
   -- a run was made
-  reports_copies : (clock : Clock) (plan : Option Plan) (ts : List Entry) (us front : List Entry) (notices : List _) (faults : List Fault) → ts ≡ front ++ us → ShowsClock zone seconds clock front → Reports request clock.now plan notices faults us → Copies ts
+  reports_copies : (clock : Clock) (plan : Option Plan) (ts : List Entry) (us front : List Entry) (notices : List _) (faults : List Fault) → ts ≡ front ++ us → ShowsClock zone seconds clock front → Reports request clock plan notices faults us → Copies ts
   reports_copies clock plan ts us front notices faults joined shown r =
       behind_copies clock r.meaning r.rules ts us r.entries.front r.entries.back front r.rules_are joined r.entries.joined shown r.entries.first
-      (leaves_copied request.debug request.state r.rules clock.now (asking request.force request.mailer) (built_rules r.meaning r.rules r.entries.front r.rules_are r.entries.first) plan r.own r.entries.back r.entries.second)
+      (leaves_copied request.debug request.state r.rules clock (asking request.force request.mailer) plan r.own r.entries.back r.entries.second)
 
   -- there was no memory
-  lost_copies : (clock : Clock) (ts us front : List Entry) → ts ≡ front ++ us → ShowsClock zone seconds clock front → LacksMemory request clock.now us → Copies ts
+  lost_copies : (clock : Clock) (ts us front : List Entry) → ts ≡ front ++ us → ShowsClock zone seconds clock front → LacksMemory request clock us → Copies ts
   lost_copies clock ts us front joined shown (at_first none) = quiet_copies ts (subst AreQuiet (sym joined) (quiet_both front us (clock_quiet zone seconds clock front shown) (subst AreQuiet (sym none) tt)))
   lost_copies clock ts us front joined shown (at_confs l) = quiet_copies ts (subst AreQuiet (sym joined) (quiet_both front us (clock_quiet zone seconds clock front shown) (lacking_quiet request.confs us l)))
   lost_copies clock ts us front joined shown (at_run meaning rules same t) =
       behind_copies clock meaning rules ts us t.front t.back front same joined t.joined shown t.first
-      (lacks_copied request.debug request.state rules clock.now (asking request.force request.mailer) (built_rules meaning rules t.front same t.first) t.back t.second)
+      (lacks_copied request.debug request.state rules clock (asking request.force request.mailer) t.back t.second)
 
   lock_quiet : (ts : List Entry) → FindsLock request ts → AreQuiet ts
   lock_quiet ts f = subst AreQuiet (sym f.entries.joined) (quiet_both f.entries.front f.entries.back (confs_quiet request.confs f.meaning f.entries.front f.entries.first) (holds_quiet request.debug request.state f.entries.back f.entries.second))
 
   -- behind the clock, whatever the answer
-  called_copies : (clock : Clock) (plan : Option Plan) (outcome : Outcome) (ts : List Entry) → Then (ShowsClock zone seconds clock) (Answers request clock.now plan outcome) ts → Copies ts
+  called_copies : (clock : Clock) (plan : Option Plan) (outcome : Outcome) (ts : List Entry) → Then (ShowsClock zone seconds clock) (Answers request clock plan outcome) ts → Copies ts
   called_copies clock plan (Done report) ts t = reports_copies clock plan ts t.back t.front report.notices report.faults t.joined t.first t.second
   called_copies clock plan Held ts t = quiet_copies ts (subst AreQuiet (sym t.joined) (quiet_both t.front t.back (clock_quiet zone seconds clock t.front t.first) (lock_quiet t.back t.second.1)))
   called_copies clock plan OutOfMemory ts t = lost_copies clock ts t.back t.front t.joined t.first t.second.1
@@ -92,9 +84,9 @@ module _ (request : Request) (zone : Zone) (seconds : ℤ) where
 
   -- that a call with these words left its answer
   pub answered_copies : (here : Path) (words : List (List ℕ)) (plan : Option Plan) (outcome : Outcome) {o n : Option Journal} → AskFor here words request → Left (Answered here words zone seconds plan outcome) o n → CopiesWhole request zone seconds o n
-  answered_copies here words plan outcome asks not_told = record { rules = []; read = not_told; whole = tt }
-  answered_copies here words plan outcome asks (is_told {j = j} {k = k} {es = es} made a) = let c = told_copies here words plan outcome _ asks a in record {
-    rules = c.rules;
-    read = is_told made c.read;
-    whole = empties_whole (IsCopyBy c.rules) (λ job copy. copy.paths) (is_told {j = j} {k = k} {es = es} made c.copied);
-  }
+  answered_copies here words plan outcome asks not_told = none_read tt
+  answered_copies here words plan outcome asks (is_told {j = j} {k = k} {es = es} made a) = go (told_copies here words plan outcome (reverse es) asks a)
+    where
+      go : Copies (reverse es) → CopiesWhole request zone seconds (Some j) (Some k)
+      go (none_copied e) = none_read (empties_whole (λ job. ⊥) (λ job no. absurd no) (is_told {j = j} {k = k} {es = es} made e))
+      go (copied_by clock rules means e) = by_rules clock rules (is_told {j = j} {k = k} {es = es} made means) (empties_whole (IsCopyBy rules clock) (λ job copy. copy.paths) (is_told {j = j} {k = k} {es = es} made e))

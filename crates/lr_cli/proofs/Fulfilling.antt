@@ -30,7 +30,7 @@ use Rattle.lr_cli.specs.Answer.{Answered}
 use Rattle.lr_cli.specs.Asked.{AskFor}
 use Rattle.lr_cli.specs.Fulfilled.{FailNothing, FulfillsPlan}
 use Rattle.lr_cli.specs.Reached.{ReachesPlan}
-use Rattle.lr_cli.proofs.Reached.{plan_joined, plan_built}
+use Rattle.lr_cli.proofs.Reached.{plan_joined}
 use Rattle.lr_cli.proofs.Rotating.{own_calls, own_ends, own_copies, came_to_plan}
 use Rattle.lr_cli.proofs.Still.{zone_so}
 
@@ -57,8 +57,8 @@ plan_fulfils request zone seconds report j k es made none journal p = record {
   fulfilled = f;
 }
   where
-    f : IsFulfilled request.state p.rules.sets p.clock.now (asking request.force request.mailer) p.run.between p.run.within.looked p.own (reverse es) (past j) (past k)
-    f = fulfilled request.state (asking request.force request.mailer) p.clock.now p.rules p.own (past j) (past k) es (p.of_clock ++ p.reads) p.acts (plan_built request zone seconds report (reverse es) p) made journal
+    f : IsFulfilled request.state p.rules.sets p.clock (asking request.force request.mailer) p.run.between p.run.within.looked p.own (reverse es) (past j) (past k)
+    f = fulfilled request.state (asking request.force request.mailer) p.clock p.rules p.own (past j) (past k) es (p.of_clock ++ p.reads) p.acts made journal
         (plan_joined request zone seconds report (reverse es) p) (plan_sights request zone seconds report (reverse es) p) p.run (own_failed request.state report.faults p.meaning.faults p.own p.faults_are none)
 
 from_entries : (here : Path) (words : List (List ℕ)) (request : Request) (zone : Zone) (seconds : ℤ) (plan : Option Plan) (report : Report) (j k : Journal) → AskFor here words request → request.debug ≡ false → Left (Answered here words zone seconds plan (Done report)) (Some j) (Some k) → FailNothing request.state report.faults → IsJournal (past j)

@@ -125,7 +125,7 @@ module _ (request : Request) (zone : Zone) (seconds : ℤ) (report : Report) (ts
   ComesTo plan = (p : Plan) × (plan ≡ Some (plan_by request zone seconds report ts p))
 
   -- behind the clock
-  reports_reached : (plan : Option RunPlan) → request.debug ≡ false → (clock : Clock) → Then (ShowsClock zone seconds clock) (Reports request clock.now plan report.notices report.faults) ts → ComesTo plan ⊎ Unreached request.state zone report.faults (behind_start ts)
+  reports_reached : (plan : Option RunPlan) → request.debug ≡ false → (clock : Clock) → Then (ShowsClock zone seconds clock) (Reports request clock plan report.notices report.faults) ts → ComesTo plan ⊎ Unreached request.state zone report.faults (behind_start ts)
   reports_reached plan dry clock t = ⊎_elim
       (λ i. inl (
         record {
@@ -152,13 +152,13 @@ module _ (request : Request) (zone : Zone) (seconds : ℤ) (report : Report) (ts
         faults_are = r.faults_are ∙ ap (λ fs. r.meaning.faults ++ fs) u.own_are ∙ sym (append_assoc r.meaning.faults u.before (u.last ∷ []));
         ends = ⊎_elim (λ ends. inl ends) (λ may. inr (inr may.1, λ s. may.2 (subst (SawState request.state) behind s))) u.ends;
       }))
-      (came_to request.state (asking request.force request.mailer) clock.now r.rules plan r.own r.entries.back runs)
+      (came_to request.state (asking request.force request.mailer) clock r.rules plan r.own r.entries.back runs)
     where
-      r : Reports request clock.now plan report.notices report.faults t.back
+      r : Reports request clock plan report.notices report.faults t.back
       r = t.second
 
-      runs : Runs request.state (asking request.force request.mailer) clock.now r.rules plan r.own r.entries.back
-      runs = subst (λ (b : Bool). Leaves b request.state (asking request.force request.mailer) clock.now r.rules plan r.own r.entries.back) dry r.entries.second
+      runs : Runs request.state (asking request.force request.mailer) clock r.rules plan r.own r.entries.back
+      runs = subst (λ (b : Bool). Leaves b request.state (asking request.force request.mailer) clock r.rules plan r.own r.entries.back) dry r.entries.second
 
       behind : behind_start ts ≡ behind_start r.entries.back
       behind = ap behind_start t.joined ∙ behind_quiet t.front t.back (clock_quiet zone seconds clock t.front t.first)
@@ -184,16 +184,16 @@ module _ (request : Request) (zone : Zone) (seconds : ℤ) (report : Report) (ts
   pub plan_joined : (p : Plan) → ts ≡ (p.of_clock ++ p.reads) ++ p.acts
   plan_joined p = p.joined ∙ sym (append_assoc p.of_clock p.reads p.acts)
 
-  pub plan_built : (p : Plan) → AreBuiltRules p.rules.sets
+  plan_built : (p : Plan) → AreBuiltRules p.rules.sets
   plan_built p = subst AreBuiltRules (sym p.rules_are) (built_means request.confs p.meaning p.reads p.read)
 
   plan_saw : Plan → SawState request.state (behind_start ts)
   plan_saw p = subst (SawState request.state) (sym (ap behind_start (plan_joined p) ∙ behind_quiet (p.of_clock ++ p.reads) p.acts (plan_quiet p)))
-      (reached_saw request.state (asking request.force request.mailer) p.clock.now p.rules p.own p.acts p.run)
+      (reached_saw request.state (asking request.force request.mailer) p.clock p.rules p.own p.acts p.run)
 
   plan_none : (q r : Past) → Made q (reverse ts) r → Plan → NoneEnds request.state report.faults
   plan_none q r made p = subst (NoneEnds request.state) (sym p.faults_are) (none_both request.state p.meaning.faults p.own (means_none request.state request.confs p.meaning p.reads p.read)
-      (reached_none request.state (asking request.force request.mailer) p.clock.now p.rules p.own c.mid r p.acts (plan_built p) c.second p.run))
+      (reached_none request.state (asking request.force request.mailer) p.clock p.rules p.own c.mid r p.acts (plan_built p) c.second p.run))
     where
       c : Cut q r (reverse p.acts) (reverse (p.of_clock ++ p.reads))
       c = cut_at q r ts (p.of_clock ++ p.reads) p.acts (plan_joined p) made

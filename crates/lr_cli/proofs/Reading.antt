@@ -1,9 +1,9 @@
 -- What the reading of a configuration and the run behind it leave together.
-use Rattle.std.proofs.Common.{◌≡◌, ◌≤◌, ◌+◌, ⊎_elim, Bool, List, [], ◌∷◌, ◌++◌, Option, None, All, Contains, Err, refl, sym, ap, ◌∙◌, subst, append-nil, append_assoc, arith}
+use Rattle.std.proofs.Common.{◌≡◌, ◌≤◌, ◌+◌, ⊎_elim, Bool, List, [], ◌∷◌, ◌++◌, Option, None, All, Contains, Err, refl, sym, ap, ◌∙◌, subst, append_assoc, arith}
 use Rattle.std.specs.List.{AllByRecursion as Every}
 use Rattle.std.proofs.lemmas.List.Elements.{recursion_from_All, Contains-append_cases}
 use Rattle.lr_rules.specs.declared.path.Path.{Path}
-use Rattle.lr_rules.specs.declared.civil.Moment.{Moment}
+use Rattle.lr_rules.specs.declared.clock.Clock.{Clock}
 use Rattle.lr_rules.specs.declared.fault.CallKind.TheVariants as call
 use Rattle.lr_rules.specs.declared.fault.Fault.{Fault}
 use Rattle.lr_rules.specs.declared.fault.Fault.TheVariants as fault
@@ -22,7 +22,8 @@ use Rattle.lr_include.specs.Readers.{meaning_of, IsConfOrCall}
 use Rattle.lr_include.specs.Stages.{Reads}
 use Rattle.lr_include.specs.Lacking.{LacksReading}
 use Rattle.lr_include.proofs.AllQuiet.{reads_quiet as confs_quiet, lacking_quiet}
-use Rattle.lr_targets.specs.AllTurns.{IsWholeRun, not_yet}
+use Rattle.lr_mixed.specs.AllTurns.{IsWholeRunBy}
+use Rattle.lr_mixed.proofs.Shapes.{quiet_run_by}
 use Rattle.lr_plan.specs.Asked.{asking}
 use Rattle.lr_plan.specs.declared.planned.Plan.{Plan}
 use Rattle.lr_plan.specs.declared.settings.Settings.{Settings}
@@ -40,34 +41,34 @@ use Rattle.lr_cli.specs.Settled.{AreSettingsOf}
 -- ---- what was left
 
 -- by the settings of a request, a run leaves what the request asks for
-leaves_by : (request : Request) (settings : Settings) (now : Moment) (rules : Rules) (plan : Option Plan) (own : List Fault) (ts : List Entry) → AreSettingsOf request settings → Leaves settings.debug settings.state (asking settings.force settings.mailer) now rules plan own ts → Leaves request.debug request.state (asking request.force request.mailer) now rules plan own ts
-leaves_by request settings now rules plan own ts a h =
-    subst (λ (b : Bool). Leaves request.debug request.state (asking b request.mailer) now rules plan own ts) a.force
-    (subst (λ (x : Path). Leaves request.debug request.state (asking settings.force x) now rules plan own ts) a.mailer
-    (subst (λ (x : Path). Leaves request.debug x (asking settings.force settings.mailer) now rules plan own ts) a.state
-    (subst (λ (b : Bool). Leaves b settings.state (asking settings.force settings.mailer) now rules plan own ts) a.debug h)))
+leaves_by : (request : Request) (settings : Settings) (clock : Clock) (rules : Rules) (plan : Option Plan) (own : List Fault) (ts : List Entry) → AreSettingsOf request settings → Leaves settings.debug settings.state (asking settings.force settings.mailer) clock rules plan own ts → Leaves request.debug request.state (asking request.force request.mailer) clock rules plan own ts
+leaves_by request settings clock rules plan own ts a h =
+    subst (λ (b : Bool). Leaves request.debug request.state (asking b request.mailer) clock rules plan own ts) a.force
+    (subst (λ (x : Path). Leaves request.debug request.state (asking settings.force x) clock rules plan own ts) a.mailer
+    (subst (λ (x : Path). Leaves request.debug x (asking settings.force settings.mailer) clock rules plan own ts) a.state
+    (subst (λ (b : Bool). Leaves b settings.state (asking settings.force settings.mailer) clock rules plan own ts) a.debug h)))
 
 holds_by : (request : Request) (settings : Settings) (ts : List Entry) → AreSettingsOf request settings → Holds settings.debug settings.state ts → Holds request.debug request.state ts
 holds_by request settings ts a h = subst (λ (x : Path). Holds request.debug x ts) a.state (subst (λ (b : Bool). Holds b settings.state ts) a.debug h)
 
-lacks_by : (request : Request) (settings : Settings) (now : Moment) (rules : Rules) (ts : List Entry) → AreSettingsOf request settings → Lacks settings.debug settings.state (asking settings.force settings.mailer) now rules ts → Lacks request.debug request.state (asking request.force request.mailer) now rules ts
-lacks_by request settings now rules ts a h =
-    subst (λ (b : Bool). Lacks request.debug request.state (asking b request.mailer) now rules ts) a.force
-    (subst (λ (x : Path). Lacks request.debug request.state (asking settings.force x) now rules ts) a.mailer
-    (subst (λ (x : Path). Lacks request.debug x (asking settings.force settings.mailer) now rules ts) a.state
-    (subst (λ (b : Bool). Lacks b settings.state (asking settings.force settings.mailer) now rules ts) a.debug h)))
+lacks_by : (request : Request) (settings : Settings) (clock : Clock) (rules : Rules) (ts : List Entry) → AreSettingsOf request settings → Lacks settings.debug settings.state (asking settings.force settings.mailer) clock rules ts → Lacks request.debug request.state (asking request.force request.mailer) clock rules ts
+lacks_by request settings clock rules ts a h =
+    subst (λ (b : Bool). Lacks request.debug request.state (asking b request.mailer) clock rules ts) a.force
+    (subst (λ (x : Path). Lacks request.debug request.state (asking settings.force x) clock rules ts) a.mailer
+    (subst (λ (x : Path). Lacks request.debug x (asking settings.force settings.mailer) clock rules ts) a.state
+    (subst (λ (b : Bool). Lacks b settings.state (asking settings.force settings.mailer) clock rules ts) a.debug h)))
 
 -- the report of a reading and of the run behind it
-pub reports : (request : Request) (settings : Settings) (now : Moment) (plan : Option Plan) (r : Reading) (earlier faults : List Fault) {o m n : Option Journal} → AreSettingsOf request settings → earlier ≡ r.faults
-    → Left (Reads request.confs (meaning_of r)) o m → Left (λ ts. (own : List Fault) × (faults ≡ earlier ++ own) × Leaves settings.debug settings.state (asking settings.force settings.mailer) now r.rules plan own ts) m n → Left (Reports request now plan r.notices faults) o n
-reports request settings now plan r earlier faults at e a b = left_as (left_both a b) (λ ts t. record {
+pub reports : (request : Request) (settings : Settings) (clock : Clock) (plan : Option Plan) (r : Reading) (earlier faults : List Fault) {o m n : Option Journal} → AreSettingsOf request settings → earlier ≡ r.faults
+    → Left (Reads request.confs (meaning_of r)) o m → Left (λ ts. (own : List Fault) × (faults ≡ earlier ++ own) × Leaves settings.debug settings.state (asking settings.force settings.mailer) clock r.rules plan own ts) m n → Left (Reports request clock plan r.notices faults) o n
+reports request settings clock plan r earlier faults at e a b = left_as (left_both a b) (λ ts t. record {
   meaning = meaning_of r;
   rules = r.rules;
   own = t.second.0;
   rules_are = refl;
   notices_are = refl;
   faults_are = t.second.1 ∙ ap (λ fs. fs ++ t.second.0) e;
-  entries = record { front = t.front; back = t.back; joined = t.joined; first = t.first; second = leaves_by request settings now r.rules plan t.second.0 t.back at t.second.2 };
+  entries = record { front = t.front; back = t.back; joined = t.joined; first = t.first; second = leaves_by request settings clock r.rules plan t.second.0 t.back at t.second.2 };
 })
 
 finds_lock : (request : Request) (settings : Settings) (r : Reading) {o m n : Option Journal} → AreSettingsOf request settings → Left (Reads request.confs (meaning_of r)) o m → Left (Holds settings.debug settings.state) m n → Left (FindsLock request) o n
@@ -76,19 +77,19 @@ finds_lock request settings r at a b = left_as (left_both a b) (λ ts t. record 
   entries = record { front = t.front; back = t.back; joined = t.joined; first = t.first; second = holds_by request settings t.back at t.second };
 })
 
-pub lacks_at_confs : (request : Request) (now : Moment) (confs : List Path) {o n : Option Journal} → confs ≡ request.confs → Left (LacksReading confs) o n → Left (Answers request now None OutOfMemory) o n
-lacks_at_confs request now confs e l = left_as l (λ ts h. (refl, at_confs (subst (λ (ps : List Path). LacksReading ps ts) e h)))
+pub lacks_at_confs : (request : Request) (clock : Clock) (confs : List Path) {o n : Option Journal} → confs ≡ request.confs → Left (LacksReading confs) o n → Left (Answers request clock None OutOfMemory) o n
+lacks_at_confs request clock confs e l = left_as l (λ ts h. (refl, at_confs (subst (λ (ps : List Path). LacksReading ps ts) e h)))
 
-lacks_at_run : (request : Request) (settings : Settings) (now : Moment) (r : Reading) {o m n : Option Journal} → AreSettingsOf request settings
-    → Left (Reads request.confs (meaning_of r)) o m → Left (Lacks settings.debug settings.state (asking settings.force settings.mailer) now r.rules) m n → Left (LacksMemory request now) o n
-lacks_at_run request settings now r at a b = left_as (left_both a b) (λ ts t.
-    at_run (meaning_of r) r.rules refl (record { front = t.front; back = t.back; joined = t.joined; first = t.first; second = lacks_by request settings now r.rules t.back at t.second }))
+lacks_at_run : (request : Request) (settings : Settings) (clock : Clock) (r : Reading) {o m n : Option Journal} → AreSettingsOf request settings
+    → Left (Reads request.confs (meaning_of r)) o m → Left (Lacks settings.debug settings.state (asking settings.force settings.mailer) clock r.rules) m n → Left (LacksMemory request clock) o n
+lacks_at_run request settings clock r at a b = left_as (left_both a b) (λ ts t.
+    at_run (meaning_of r) r.rules refl (record { front = t.front; back = t.back; joined = t.joined; first = t.first; second = lacks_by request settings clock r.rules t.back at t.second }))
 
 -- what a run that stopped left
-pub stopped : (request : Request) (settings : Settings) (now : Moment) (r : Reading) (earlier : List Fault) (s : RunStop) {o m n : Option Journal} → AreSettingsOf request settings
-    → Left (Reads request.confs (meaning_of r)) o m → Left (RunAnswers settings.state settings.debug (asking settings.force settings.mailer) now r.rules earlier (Err s)) m n → Left (Answers request now None (answer_of (Err s))) o n
-stopped request settings now r earlier stop.Held at a b = left_as (finds_lock request settings r at a b) (λ ts h. (refl, h))
-stopped request settings now r earlier stop.Memory at a b = left_as (lacks_at_run request settings now r at a b) (λ ts h. (refl, h))
+pub stopped : (request : Request) (settings : Settings) (clock : Clock) (r : Reading) (earlier : List Fault) (s : RunStop) {o m n : Option Journal} → AreSettingsOf request settings
+    → Left (Reads request.confs (meaning_of r)) o m → Left (RunAnswers settings.state settings.debug (asking settings.force settings.mailer) clock r.rules earlier (Err s)) m n → Left (Answers request clock None (answer_of (Err s))) o n
+stopped request settings clock r earlier stop.Held at a b = left_as (finds_lock request settings r at a b) (λ ts h. (refl, h))
+stopped request settings clock r earlier stop.Memory at a b = left_as (lacks_at_run request settings clock r at a b) (λ ts h. (refl, h))
 
 -- ---- the faults, and the counts
 
@@ -128,8 +129,8 @@ no_out_among (f ∷ fs) h c = ⊎_elim (λ (a : Contains (f ∷ []) fault.Out). 
 -- ---- the shape of the whole
 
 -- quiet entries before a run are some of it
-pub run_behind : (xs ys : List Entry) → AreQuiet xs → IsWholeRun ys → IsWholeRun (xs ++ ys)
-run_behind xs ys q r = record {
+pub run_behind : (clock : Clock) (xs ys : List Entry) → AreQuiet xs → IsWholeRunBy clock ys → IsWholeRunBy clock (xs ++ ys)
+run_behind clock xs ys q r = record {
   front = xs ++ r.front;
   rest = r.rest;
   joined = ap (λ us. xs ++ us) r.joined ∙ sym (append_assoc xs r.front r.rest);
@@ -137,11 +138,8 @@ run_behind xs ys q r = record {
   goes_on = r.goes_on;
 }
 
-pub confs_shape : (confs : List Path) (m : Meaning) {o k n : Option Journal} → Left (Reads confs m) o k → Left IsWholeRun k n → Left IsWholeRun o n
-confs_shape confs m a b = left_then a b (λ xs ys p q. run_behind xs ys (confs_quiet confs m xs p) q)
+pub confs_shape : (clock : Clock) (confs : List Path) (m : Meaning) {o k n : Option Journal} → Left (Reads confs m) o k → Left (IsWholeRunBy clock) k n → Left (IsWholeRunBy clock) o n
+confs_shape clock confs m a b = left_then a b (λ xs ys p q. run_behind clock xs ys (confs_quiet confs m xs p) q)
 
-pub alone_run : (ts : List Entry) → AreQuiet ts → IsWholeRun ts
-alone_run ts q = record { front = ts; rest = []; joined = sym (append-nil ts); quiet = q; goes_on = not_yet refl }
-
-pub lacking_shape : (confs : List Path) {o n : Option Journal} → Left (LacksReading confs) o n → Left IsWholeRun o n
-lacking_shape confs l = left_as l (λ ts h. alone_run ts (lacking_quiet confs ts h))
+pub lacking_shape : (clock : Clock) (confs : List Path) {o n : Option Journal} → Left (LacksReading confs) o n → Left (IsWholeRunBy clock) o n
+lacking_shape clock confs l = left_as l (λ ts h. quiet_run_by clock ts (lacking_quiet confs ts h))

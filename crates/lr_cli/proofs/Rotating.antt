@@ -7,6 +7,7 @@ use Rattle.lr_host.specs.declared.entry.Entry.{Entry}
 use Rattle.lr_host.specs.declared.journal.Journal.{Journal}
 use Rattle.lr_host.specs.Counted.{call_in, calls_in, scripts_in}
 use Rattle.lr_host.specs.Opening.{IsJournal}
+use Rattle.lr_host.specs.Quiet.{AreQuiet}
 use Rattle.lr_host.specs.Told.{Left, is_told, Made}
 use Rattle.lr_host.specs.World.{past}
 use Rattle.lr_host.proofs.Counts.{calls_on, scripts_on}
@@ -15,8 +16,8 @@ use Rattle.lr_due.specs.declared.tz.Zone.TheVariants.{Utc, Rule, File}
 use Rattle.lr_plan.specs.Asked.{asking}
 use Rattle.lr_plan.specs.declared.planned.Plan.{Plan}
 use Rattle.lr_run.specs.Copied.{NoneOfCopy}
-use Rattle.lr_run.proofs.Rotating.{run_rotated}
-use Rattle.lr_run.proofs.Turning.{run_turned}
+use Rattle.lr_run.proofs.Rotating.{run_rotated, run_dated_rotated}
+use Rattle.lr_run.proofs.Turning.{run_turned, run_dated_turned}
 use Rattle.lr_reached.specs.Ending.{NoneEnds}
 use Rattle.lr_reached.proofs.Ends.{last_ends}
 use Rattle.lr_cli.specs.declared.outcome.Outcome.{Outcome}
@@ -28,7 +29,7 @@ use Rattle.lr_cli.specs.Asked.{AskFor}
 use Rattle.lr_cli.specs.Faults.{StopNothing}
 use Rattle.lr_cli.specs.Reached.{ReachesPlan, IsOfZone, MayEndCall}
 use Rattle.lr_cli.specs.Rotated.{RotatesAll}
-use Rattle.lr_cli.proofs.Reached.{Unreached, call_reached, plan_quiet, plan_joined, plan_built}
+use Rattle.lr_cli.proofs.Reached.{Unreached, call_reached, plan_quiet, plan_joined}
 
 -- a fault that may end a call is a failed call
 is_call : (f g : Fault) → f ≡ g → call_in g ≡ 1 → call_in f ≡ 1
@@ -72,11 +73,26 @@ plan_rotates request zone seconds report j k es made none journal p = record {
   entries = es;
   made = made;
   plan = p;
-  each = λ x one by_rename. run_rotated request.state (asking request.force request.mailer) p.clock.now p.rules p.own (past j) (past k) es (p.of_clock ++ p.reads) p.acts (plan_built request zone seconds report (reverse es) p) made journal
-      (plan_joined request zone seconds report (reverse es) p) (plan_quiet request zone seconds report (reverse es) p) p.run (own_calls p.meaning.faults p.own (sym (ap calls_in p.faults_are) ∙ none.no_call)) (own_ends p.meaning.faults p.own (sym (ap scripts_in p.faults_are) ∙ none.no_script)) (own_copies p.meaning.faults p.own (subst NoneOfCopy p.faults_are none.no_copy)) x one by_rename;
-  copied = λ x one job by_copy. run_turned request.state (asking request.force request.mailer) p.clock.now p.rules p.own (past j) (past k) es (p.of_clock ++ p.reads) p.acts (plan_built request zone seconds report (reverse es) p) made journal
-      (plan_joined request zone seconds report (reverse es) p) (plan_quiet request zone seconds report (reverse es) p) p.run (own_calls p.meaning.faults p.own (sym (ap calls_in p.faults_are) ∙ none.no_call)) (own_ends p.meaning.faults p.own (sym (ap scripts_in p.faults_are) ∙ none.no_script)) (own_copies p.meaning.faults p.own (subst NoneOfCopy p.faults_are none.no_copy)) x one job by_copy;
+  each = λ x one by_rename numbers. run_rotated request.state (asking request.force request.mailer) p.clock p.rules p.own (past j) (past k) es (p.of_clock ++ p.reads) p.acts made journal joined quiet p.run calls ends copies x one by_rename numbers;
+  each_dated = λ x one by_rename dates. run_dated_rotated request.state (asking request.force request.mailer) p.clock p.rules p.own (past j) (past k) es (p.of_clock ++ p.reads) p.acts made journal joined quiet p.run calls ends copies x one by_rename dates;
+  copied = λ x one job by_copy numbers. run_turned request.state (asking request.force request.mailer) p.clock p.rules p.own (past j) (past k) es (p.of_clock ++ p.reads) p.acts made journal joined quiet p.run calls ends copies x one job by_copy numbers;
+  copied_dated = λ x one job by_copy dates. run_dated_turned request.state (asking request.force request.mailer) p.clock p.rules p.own (past j) (past k) es (p.of_clock ++ p.reads) p.acts made journal joined quiet p.run calls ends copies x one job by_copy dates;
 }
+  where
+    joined : reverse es ≡ (p.of_clock ++ p.reads) ++ p.acts
+    joined = plan_joined request zone seconds report (reverse es) p
+
+    quiet : AreQuiet (p.of_clock ++ p.reads)
+    quiet = plan_quiet request zone seconds report (reverse es) p
+
+    calls : calls_in p.own ≡ 0
+    calls = own_calls p.meaning.faults p.own (sym (ap calls_in p.faults_are) ∙ none.no_call)
+
+    ends : scripts_in p.own ≡ 0
+    ends = own_ends p.meaning.faults p.own (sym (ap scripts_in p.faults_are) ∙ none.no_script)
+
+    copies : NoneOfCopy p.own
+    copies = own_copies p.meaning.faults p.own (subst NoneOfCopy p.faults_are none.no_copy)
 
 from_entries : (here : Path) (words : List (List ℕ)) (request : Request) (zone : Zone) (seconds : ℤ) (plan : Option Plan) (report : Report) (j k : Journal) → AskFor here words request → request.debug ≡ false → Left (Answered here words zone seconds plan (Done report)) (Some j) (Some k) → StopNothing request.state report.faults → IsJournal (past j)
     → RotatesAll request zone seconds report j k

@@ -41,7 +41,7 @@ use Rattle.lr_cli.specs.Fulfilled.{FailNothing, plan_by}
 use Rattle.lr_cli.specs.Reached.{ReachesPlan}
 use Rattle.lr_cli.specs.Settled.{AreSettingsOf}
 use Rattle.lr_cli.specs.Smooth.{TellsTaken, IsSmoothCall}
-use Rattle.lr_cli.proofs.Reached.{conf_no_new, means_no_new, plan_built, plan_joined, plan_quiet, call_came}
+use Rattle.lr_cli.proofs.Reached.{conf_no_new, means_no_new, plan_joined, plan_quiet, call_came}
 use Rattle.lr_cli.proofs.Still.{same_Some}
 use Rattle.lr_cli.proofs.Rotating.{nothing_stopped, own_calls, own_ends}
 
@@ -107,7 +107,7 @@ module _ (request : Request) (zone : Zone) (seconds : ℤ) (report : Report) (pl
       t = taken (plan_by request zone seconds report (reverse es) p) is
 
       own : NothingFailed request.state p.own
-      own = nothing_fails request.state (asking request.force request.mailer) p.clock.now p.rules p.own j k es (p.of_clock ++ p.reads) p.acts (plan_built request zone seconds report (reverse es) p) made journal
+      own = nothing_fails request.state (asking request.force request.mailer) p.clock p.rules p.own j k es (p.of_clock ++ p.reads) p.acts made journal
           (plan_joined request zone seconds report (reverse es) p) (plan_quiet request zone seconds report (reverse es) p) p.run (smooth es made p)
           (record { stale = t.stale; dirs = t.dirs; text = t.text; taken = λ path last i. t.taken path last (subst (IsIn (fault.Taken path)) (sym p.faults_are) (in_back (fault.Taken path) p.meaning.faults p.own i)) })
           (own_calls p.meaning.faults p.own (sym (ap calls_in p.faults_are) ∙ no_call)) (own_ends p.meaning.faults p.own (sym (ap scripts_in p.faults_are) ∙ no_end))

@@ -2,7 +2,6 @@
 use Rattle.std.proofs.Common.{◌≡◌, ℕ, Bool, true, false, List, [], ◌∷◌, ◌++◌, Option, Some, refl, sym, ap, ◌∙◌, subst}
 use Rattle.std.specs.Prelude.{ℤ}
 use Rattle.lr_rules.specs.declared.path.Path.{Path}
-use Rattle.lr_rules.specs.declared.civil.Moment.{Moment}
 use Rattle.lr_rules.specs.declared.clock.Clock.{Clock}
 use Rattle.lr_rules.specs.declared.fault.Fault.{Fault}
 use Rattle.lr_rules.specs.declared.rules.Rules.{Rules}
@@ -134,8 +133,8 @@ lacking_still : (confs : List Path) (ts : List Entry) → LacksReading confs ts 
 lacking_still = lacking_so IsStill (λ x seen. tt) (λ x names. tt) (λ x from piece le. tt)
 
 -- a run that broke off while it looked
-looks_still : (state : Path) (now : Moment) (rules : Rules) (ts : List Entry) → Inside state now rules (SomeSeen state rules.sets) ts → AreStill ts
-looks_still state now rules ts i = subst AreStill (sym i.entries) (each_append IsStill i.before (entry.Starts state now rules ∷ (i.between ++ entry.Ends ∷ [])) (sees_still (parent_of state) IsDir i.before i.directory)
+looks_still : (state : Path) (clock : Clock) (rules : Rules) (ts : List Entry) → Inside state clock rules (SomeSeen state rules.sets) ts → AreStill ts
+looks_still state clock rules ts i = subst AreStill (sym i.entries) (each_append IsStill i.before (entry.Starts state clock.now rules ∷ (i.between ++ entry.Ends ∷ [])) (sees_still (parent_of state) IsDir i.before i.directory)
     (tt, each_append IsStill i.between (entry.Ends ∷ []) (some_so IsStill (λ x seen. tt) (λ x names. tt) (λ x place piece. tt) state rules.sets i.between i.within) (tt, tt)))
 
 -- ---- a call
@@ -147,11 +146,11 @@ same_Some a b e = cc
 module _ (here : Path) (words : List (List ℕ)) (zone : Zone) (seconds : ℤ) where
   -- behind the clock and the reading
   run_short : (request : Request) → AskFor here words request → (clock : Clock) (meaning : Meaning) (rules : Rules) (ts us reads acts : List Entry) (front : List Entry) → rules.sets ≡ meaning.rules → ts ≡ front ++ us → us ≡ reads ++ acts
-      → ShowsClock zone seconds clock front → Reads request.confs meaning reads → RunLacks request.state (asking request.force request.mailer) clock.now rules acts → WasShort here words zone seconds ts
+      → ShowsClock zone seconds clock front → Reads request.confs meaning reads → RunLacks request.state (asking request.force request.mailer) clock rules acts → WasShort here words zone seconds ts
   run_short request asked clock meaning rules ts us reads acts front same joined parts shown of_confs (run_at_first none) =
       all_still (subst AreStill (sym joined) (each_append IsStill front us (clock_still zone seconds clock front shown) (subst AreStill (sym parts) (each_append IsStill reads acts (confs_still request.confs meaning reads of_confs) (none_still acts none)))))
   run_short request asked clock meaning rules ts us reads acts front same joined parts shown of_confs (in_looks i) =
-      all_still (subst AreStill (sym joined) (each_append IsStill front us (clock_still zone seconds clock front shown) (subst AreStill (sym parts) (each_append IsStill reads acts (confs_still request.confs meaning reads of_confs) (looks_still request.state clock.now rules acts i)))))
+      all_still (subst AreStill (sym joined) (each_append IsStill front us (clock_still zone seconds clock front shown) (subst AreStill (sym parts) (each_append IsStill reads acts (confs_still request.confs meaning reads of_confs) (looks_still request.state clock rules acts i)))))
   run_short request asked clock meaning rules ts us reads acts front same joined parts shown of_confs (in_acts i) = broke_off (record {
     request = request;
     asked = asked;
@@ -159,21 +158,21 @@ module _ (here : Path) (words : List (List ℕ)) (zone : Zone) (seconds : ℤ) w
     meaning = meaning;
     rules = rules;
     rules_are = same;
-    some_program = λ none. never_broke_off request.state rules.sets clock.now (asking request.force request.mailer) i.between (subst RunNothing (sym same) none) i.within;
+    some_program = λ none. never_broke_off request.state rules.sets clock (asking request.force request.mailer) i.between (subst RunNothing (sym same) none) i.within;
     entries = record { front = front; back = us; joined = joined; first = shown; second = record { front = reads; back = acts; joined = parts; first = of_confs; second = i } };
   })
 
   -- so it is of a run that is dry, or isn't
   any_short : (request : Request) → AskFor here words request → (clock : Clock) (meaning : Meaning) (rules : Rules) (ts us reads acts : List Entry) (front : List Entry) → rules.sets ≡ meaning.rules → ts ≡ front ++ us → us ≡ reads ++ acts
-      → ShowsClock zone seconds clock front → Reads request.confs meaning reads → Lacks request.debug request.state (asking request.force request.mailer) clock.now rules acts → WasShort here words zone seconds ts
+      → ShowsClock zone seconds clock front → Reads request.confs meaning reads → Lacks request.debug request.state (asking request.force request.mailer) clock rules acts → WasShort here words zone seconds ts
   any_short request asked clock meaning rules ts us reads acts front same joined parts shown of_confs l = go request.debug l
     where
-      go : (b : Bool) → Lacks b request.state (asking request.force request.mailer) clock.now rules acts → WasShort here words zone seconds ts
+      go : (b : Bool) → Lacks b request.state (asking request.force request.mailer) clock rules acts → WasShort here words zone seconds ts
       go true l = all_still (subst AreStill (sym joined) (each_append IsStill front us (clock_still zone seconds clock front shown) (subst AreStill (sym parts) (each_append IsStill reads acts (confs_still request.confs meaning reads of_confs)
           (lacks_so IsStill (λ x seen. tt) (λ x names. tt) (λ x place piece. tt) request.state rules.sets acts l)))))
       go false l = run_short request asked clock meaning rules ts us reads acts front same joined parts shown of_confs l
 
-  lacks_short : (request : Request) → AskFor here words request → (clock : Clock) (ts us front : List Entry) → ts ≡ front ++ us → ShowsClock zone seconds clock front → LacksMemory request clock.now us → WasShort here words zone seconds ts
+  lacks_short : (request : Request) → AskFor here words request → (clock : Clock) (ts us front : List Entry) → ts ≡ front ++ us → ShowsClock zone seconds clock front → LacksMemory request clock us → WasShort here words zone seconds ts
   lacks_short request asked clock ts us front joined shown (at_first none) = all_still (subst AreStill (sym joined) (each_append IsStill front us (clock_still zone seconds clock front shown) (none_still us none)))
   lacks_short request asked clock ts us front joined shown (at_confs l) = all_still (subst AreStill (sym joined) (each_append IsStill front us (clock_still zone seconds clock front shown) (lacking_still request.confs us l)))
   lacks_short request asked clock ts us front joined shown (at_run meaning rules same t) = any_short request asked clock meaning rules ts us t.front t.back front same joined t.joined shown t.first t.second
@@ -217,23 +216,23 @@ module _ (here : Path) (words : List (List ℕ)) (zone : Zone) (seconds : ℤ) w
     confs_so : (confs : List Path) (m : Meaning) (ts : List Entry) → Reads confs m ts → Each P ts
     confs_so = all_so P look list (λ x from piece le. reads x from piece)
 
-    answers_dry : (request : Request) (now : Moment) (plan : Option Plan) (outcome : Outcome) (ts : List Entry) → request.debug ≡ true → Answers request now plan outcome ts → Each P ts
-    answers_dry request now plan (Done report) ts dry h = then_so P look reads _ _ ts (λ us r. confs_so request.confs h.meaning us r)
-        (λ us r. tries_so P look list reads request.state h.rules.sets now (asking request.force request.mailer) plan h.own us (subst (λ (b : Bool). Leaves b request.state (asking request.force request.mailer) now h.rules plan h.own us) dry r)) h.entries
-    answers_dry request now plan Held ts dry h = then_so P look reads _ _ ts (λ us r. confs_so request.confs h.1.meaning us r) (λ us r. absurd (subst (λ (b : Bool). Holds b request.state us) dry r)) h.1.entries
-    answers_dry request now plan BadWords ts dry h = absurd h
-    answers_dry request now plan OutOfMemory ts dry h = go h.1
+    answers_dry : (request : Request) (clock : Clock) (plan : Option Plan) (outcome : Outcome) (ts : List Entry) → request.debug ≡ true → Answers request clock plan outcome ts → Each P ts
+    answers_dry request clock plan (Done report) ts dry h = then_so P look reads _ _ ts (λ us r. confs_so request.confs h.meaning us r)
+        (λ us r. tries_so P look list reads request.state h.rules.sets clock (asking request.force request.mailer) plan h.own us (subst (λ (b : Bool). Leaves b request.state (asking request.force request.mailer) clock h.rules plan h.own us) dry r)) h.entries
+    answers_dry request clock plan Held ts dry h = then_so P look reads _ _ ts (λ us r. confs_so request.confs h.1.meaning us r) (λ us r. absurd (subst (λ (b : Bool). Holds b request.state us) dry r)) h.1.entries
+    answers_dry request clock plan BadWords ts dry h = absurd h
+    answers_dry request clock plan OutOfMemory ts dry h = go h.1
       where
-        go : LacksMemory request now ts → Each P ts
+        go : LacksMemory request clock ts → Each P ts
         go (at_first none) = none_so P look reads ts none
         go (at_confs l) = lacking_so P look list (λ x from piece le. reads x from piece) request.confs ts l
         go (at_run meaning rules same t) = then_so P look reads _ _ ts (λ us r. confs_so request.confs meaning us r)
-            (λ us r. lacks_so P look list reads request.state rules.sets us (subst (λ (b : Bool). Lacks b request.state (asking request.force request.mailer) now rules us) dry r)) t
+            (λ us r. lacks_so P look list reads request.state rules.sets us (subst (λ (b : Bool). Lacks b request.state (asking request.force request.mailer) clock rules us) dry r)) t
 
     at_dry : (request : Request) (plan : Option Plan) (outcome : Outcome) (ts : List Entry) → request.debug ≡ true → AnswersAt request zone seconds plan outcome ts → Each P ts
     at_dry request plan outcome ts dry (no_clock f lost is l) = lost_clock_so f ts l
     at_dry request plan outcome ts dry (no_memory lost is l) = lost_memory_so ts l
-    at_dry request plan outcome ts dry (called clock t) = then_so P look reads _ _ ts (λ us h. zone_so P look reads zone h.text us h.shows) (λ us h. answers_dry request clock.now plan outcome us dry h) t
+    at_dry request plan outcome ts dry (called clock t) = then_so P look reads _ _ ts (λ us h. zone_so P look reads zone h.text us h.shows) (λ us h. answers_dry request clock plan outcome us dry h) t
 
     pub answered_dry : (request : Request) (plan : Option Plan) (outcome : Outcome) (ts : List Entry) → AskFor here words request → request.debug ≡ true → Answered here words zone seconds plan outcome ts → Each P ts
     answered_dry request plan outcome ts asks dry (not_read lost is none) = none_so P look reads ts none

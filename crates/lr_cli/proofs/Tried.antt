@@ -66,7 +66,7 @@ module _ (request : Request) (zone : Zone) (seconds : ℤ) (report : Report) (ts
   Why = SaysWhyDry request.state zone report.faults
 
   -- behind the clock
-  reports_tried : (plan : Option Plan) → request.debug ≡ true → (clock : Clock) → Then (ShowsClock zone seconds clock) (Reports request clock.now plan report.notices report.faults) ts → Came ⊎ Why
+  reports_tried : (plan : Option Plan) → request.debug ≡ true → (clock : Clock) → Then (ShowsClock zone seconds clock) (Reports request clock plan report.notices report.faults) ts → Came ⊎ Why
   reports_tried (Some p) dry clock t =
       let r = t.second in
       inl (record {
@@ -88,13 +88,13 @@ module _ (request : Request) (zone : Zone) (seconds : ℤ) (report : Report) (ts
             back = r.entries.back;
             joined = r.entries.joined;
             first = r.entries.first;
-            second = subst (λ (b : Bool). Leaves b request.state (asking request.force request.mailer) clock.now r.rules (Some p) r.own r.entries.back) dry r.entries.second;
+            second = subst (λ (b : Bool). Leaves b request.state (asking request.force request.mailer) clock r.rules (Some p) r.own r.entries.back) dry r.entries.second;
           };
         };
       })
   reports_tried None dry clock t =
       let r = t.second in
-      let w = ended_try request.state clock.now (asking request.force request.mailer) r.rules None r.own r.entries.back (subst (λ (b : Bool). Leaves b request.state (asking request.force request.mailer) clock.now r.rules None r.own r.entries.back) dry r.entries.second) refl in
+      let w = ended_try request.state clock (asking request.force request.mailer) r.rules None r.own r.entries.back (subst (λ (b : Bool). Leaves b request.state (asking request.force request.mailer) clock r.rules None r.own r.entries.back) dry r.entries.second) refl in
       inr (record {
         before = r.meaning.faults ++ w.before;
         last = w.last;
@@ -118,7 +118,7 @@ module _ (request : Request) (zone : Zone) (seconds : ℤ) (report : Report) (ts
   plan_none p =
       let e = p.entries.second in
       subst (NoneEndsTry request.state) (sym p.faults_are) (try_both request.state p.meaning.faults p.own (none_try request.state p.meaning.faults (means_none request.state request.confs p.meaning e.front e.first))
-      (reached_try request.state p.clock.now (asking request.force request.mailer) p.rules (Some p.plan) p.own e.back (subst AreBuiltRules (sym p.rules_are) (built_means request.confs p.meaning e.front e.first)) e.second (λ h. cc)))
+      (reached_try request.state p.clock (asking request.force request.mailer) p.rules (Some p.plan) p.own e.back (subst AreBuiltRules (sym p.rules_are) (built_means request.confs p.meaning e.front e.first)) e.second (λ h. cc)))
 
   tells : Came ⊎ Why → TellsOfTry request zone seconds report ts
   tells a = record {

@@ -13,7 +13,6 @@ use Rattle.lr_durable.specs.Renewing.{MayRenew}
 use Rattle.lr_durable.specs.StateWhole.{KeepsWhole}
 use Rattle.lr_conf.specs.Meaning.{Meaning}
 use Rattle.lr_due.specs.declared.tz.Zone.{Zone}
-use Rattle.lr_fields.specs.Built.{AreBuiltRules}
 use Rattle.lr_include.specs.Stages.{Reads}
 use Rattle.lr_plan.specs.Asked.{asking}
 use Rattle.lr_plan.specs.declared.planned.Plan.{Plan}
@@ -29,7 +28,6 @@ use Rattle.lr_cli.specs.Answer.{Reports, FindsLock, LacksMemory, at_first, at_co
 use Rattle.lr_cli.specs.Clock.{ShowsClock}
 use Rattle.lr_cli.specs.State.{IsNewText}
 use Rattle.lr_cli.specs.Asked.{AskFor}
-use Rattle.lr_cli.proofs.Reached.{built_means}
 use Rattle.lr_include.proofs.AllQuiet.{reads_quiet as confs_quiet, lacking_quiet}
 use Rattle.lr_cli.proofs.Still.{clock_quiet, stop_quiet, same_Some}
 
@@ -39,13 +37,13 @@ module _ (request : Request) (zone : Zone) (seconds : ℤ) where
 
   -- behind the clock and the reading, as the run may
   behind_may : (clock : Clock) (meaning : Meaning) (rules : Rules) (ts us reads acts front : List Entry) → rules.sets ≡ meaning.rules → ts ≡ front ++ us → us ≡ reads ++ acts → ShowsClock zone seconds clock front → Reads request.confs meaning reads
-      → MayRenew request.state (λ text. IsTextOfRun request.state clock.now (asking request.force request.mailer) rules acts text) acts → MayRenew request.state (Text ts) ts
+      → MayRenew request.state (λ text. IsTextOfRun request.state clock (asking request.force request.mailer) rules acts text) acts → MayRenew request.state (Text ts) ts
   behind_may clock meaning rules ts us reads acts front same joined parts shown of_confs may = subst (MayRenew request.state (Text ts)) (sym joined)
       (behind_quiet request.state (Text ts) (Text ts) (λ text is. is) front us (clock_quiet zone seconds clock front shown)
       (subst (MayRenew request.state (Text ts)) (sym parts)
-      (behind_quiet request.state (λ text. IsTextOfRun request.state clock.now (asking request.force request.mailer) rules acts text) (Text ts) of_run reads acts (confs_quiet request.confs meaning reads of_confs) may)))
+      (behind_quiet request.state (λ text. IsTextOfRun request.state clock (asking request.force request.mailer) rules acts text) (Text ts) of_run reads acts (confs_quiet request.confs meaning reads of_confs) may)))
     where
-      of_run : (text : List ℕ) → IsTextOfRun request.state clock.now (asking request.force request.mailer) rules acts text → Text ts text
+      of_run : (text : List ℕ) → IsTextOfRun request.state clock (asking request.force request.mailer) rules acts text → Text ts text
       of_run text is = record {
         clock = clock;
         meaning = meaning;
@@ -57,30 +55,27 @@ module _ (request : Request) (zone : Zone) (seconds : ℤ) where
   tools_behind : (ts us front : List Entry) → ts ≡ front ++ us → Each IsTools ts → Each IsTools us
   tools_behind ts us front joined tools = each_later IsTools front us (subst (Each IsTools) joined tools)
 
-  built_rules : (meaning : Meaning) (rules : Rules) (reads : List Entry) → rules.sets ≡ meaning.rules → Reads request.confs meaning reads → AreBuiltRules rules.sets
-  built_rules meaning rules reads same of_confs = subst AreBuiltRules (sym same) (built_means request.confs meaning reads of_confs)
-
   -- behind the clock, a run was made
-  reports_may : (clock : Clock) (plan : Option Plan) (report : Report) (ts : List Entry) → Each IsTools ts → Then (ShowsClock zone seconds clock) (Reports request clock.now plan report.notices report.faults) ts → MayRenew request.state (Text ts) ts
+  reports_may : (clock : Clock) (plan : Option Plan) (report : Report) (ts : List Entry) → Each IsTools ts → Then (ShowsClock zone seconds clock) (Reports request clock plan report.notices report.faults) ts → MayRenew request.state (Text ts) ts
   reports_may clock plan report ts tools t =
       let r = t.second in
       behind_may clock r.meaning r.rules ts t.back r.entries.front r.entries.back t.front r.rules_are t.joined r.entries.joined t.first r.entries.first
-      (leaves_may request.debug request.state (asking request.force request.mailer) clock.now r.rules plan r.own r.entries.back (built_rules r.meaning r.rules r.entries.front r.rules_are r.entries.first)
+      (leaves_may request.debug request.state (asking request.force request.mailer) clock r.rules plan r.own r.entries.back
       (tools_behind t.back r.entries.back r.entries.front r.entries.joined (tools_behind ts t.back t.front t.joined tools)) r.entries.second)
 
   -- there was no memory
-  lost_may : (clock : Clock) (ts us front : List Entry) → ts ≡ front ++ us → ShowsClock zone seconds clock front → Each IsTools us → LacksMemory request clock.now us → MayRenew request.state (Text ts) ts
+  lost_may : (clock : Clock) (ts us front : List Entry) → ts ≡ front ++ us → ShowsClock zone seconds clock front → Each IsTools us → LacksMemory request clock us → MayRenew request.state (Text ts) ts
   lost_may clock ts us front joined shown tools (at_first none) = quiet_alone request.state (Text ts) ts (subst AreQuiet (sym joined) (quiet_both front us (clock_quiet zone seconds clock front shown) (subst AreQuiet (sym none) tt)))
   lost_may clock ts us front joined shown tools (at_confs l) = quiet_alone request.state (Text ts) ts (subst AreQuiet (sym joined) (quiet_both front us (clock_quiet zone seconds clock front shown) (lacking_quiet request.confs us l)))
   lost_may clock ts us front joined shown tools (at_run meaning rules same t) =
       behind_may clock meaning rules ts us t.front t.back front same joined t.joined shown t.first
-      (lacks_may request.debug request.state (asking request.force request.mailer) clock.now rules t.back (built_rules meaning rules t.front same t.first) (tools_behind us t.back t.front t.joined tools) t.second)
+      (lacks_may request.debug request.state (asking request.force request.mailer) clock rules t.back (tools_behind us t.back t.front t.joined tools) t.second)
 
   lock_quiet : (ts : List Entry) → FindsLock request ts → AreQuiet ts
   lock_quiet ts f = subst AreQuiet (sym f.entries.joined) (quiet_both f.entries.front f.entries.back (confs_quiet request.confs f.meaning f.entries.front f.entries.first) (holds_quiet request.debug request.state f.entries.back f.entries.second))
 
   -- behind the clock, whatever the answer
-  called_may : (clock : Clock) (plan : Option Plan) (outcome : Outcome) (ts : List Entry) → Each IsTools ts → Then (ShowsClock zone seconds clock) (Answers request clock.now plan outcome) ts → MayRenew request.state (Text ts) ts
+  called_may : (clock : Clock) (plan : Option Plan) (outcome : Outcome) (ts : List Entry) → Each IsTools ts → Then (ShowsClock zone seconds clock) (Answers request clock plan outcome) ts → MayRenew request.state (Text ts) ts
   called_may clock plan (Done report) ts tools t = reports_may clock plan report ts tools t
   called_may clock plan Held ts tools t = quiet_alone request.state (Text ts) ts (subst AreQuiet (sym t.joined) (quiet_both t.front t.back (clock_quiet zone seconds clock t.front t.first) (lock_quiet t.back t.second.1)))
   called_may clock plan OutOfMemory ts tools t = lost_may clock ts t.back t.front t.joined t.first (tools_behind ts t.back t.front t.joined tools) t.second.1

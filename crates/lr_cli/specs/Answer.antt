@@ -1,7 +1,6 @@
 -- What a call of the program leaves, by its answer.
 use Rattle.std.specs.Prelude.{◌≡◌, ◌⊎◌, ℕ, ℤ, List, [], ◌∷◌, ◌++◌, Option, None}
 use Rattle.lr_rules.specs.declared.path.Path.{Path}
-use Rattle.lr_rules.specs.declared.civil.Moment.{Moment}
 use Rattle.lr_rules.specs.declared.clock.Clock.{Clock}
 use Rattle.lr_rules.specs.declared.fault.Fault.{Fault}
 use Rattle.lr_rules.specs.declared.fault.Notice.{Notice}
@@ -23,14 +22,14 @@ use Rattle.lr_cli.specs.Clock.{ShowsClock, LacksClock}
 use Rattle.lr_cli.specs.Zone.{LacksZoneMemory}
 
 -- The configuration was read, and a run was made over its rules, a dry one or one that acts, which came to this plan. The report has the notices of the configuration, and its faults before those of the run.
-pub record Reports (request : Request) (now : Moment) (plan : Option Plan) (notices : List Notice) (faults : List Fault) (ts : List Entry) : Type 0 where
+pub record Reports (request : Request) (clock : Clock) (plan : Option Plan) (notices : List Notice) (faults : List Fault) (ts : List Entry) : Type 0 where
   pub meaning : Meaning
   pub rules : Rules
   pub own : List Fault
   pub rules_are : rules.sets ≡ meaning.rules
   pub notices_are : notices ≡ meaning.notices
   pub faults_are : faults ≡ meaning.faults ++ own
-  pub entries : Then (Reads request.confs meaning) (Leaves request.debug request.state (asking request.force request.mailer) now rules plan own) ts
+  pub entries : Then (Reads request.confs meaning) (Leaves request.debug request.state (asking request.force request.mailer) clock rules plan own) ts
 
 -- The configuration was read, and the state's directory was seen; the lock was another's.
 pub record FindsLock (request : Request) (ts : List Entry) : Type 0 where
@@ -38,23 +37,23 @@ pub record FindsLock (request : Request) (ts : List Entry) : Type 0 where
   pub entries : Then (Reads request.confs meaning) (Holds request.debug request.state) ts
 
 -- Where there was no memory: before the first call, for the configuration's texts or its rules, or in the run, behind a first part of what it sees, or for a program, amid its acts.
-pub data LacksMemory (request : Request) (now : Moment) (ts : List Entry) : Type 0 where
-  at_first : ts ≡ [] → LacksMemory request now ts
-  at_confs : LacksReading request.confs ts → LacksMemory request now ts
-  at_run : (meaning : Meaning) (rules : Rules) → rules.sets ≡ meaning.rules → Then (Reads request.confs meaning) (Lacks request.debug request.state (asking request.force request.mailer) now rules) ts → LacksMemory request now ts
+pub data LacksMemory (request : Request) (clock : Clock) (ts : List Entry) : Type 0 where
+  at_first : ts ≡ [] → LacksMemory request clock ts
+  at_confs : LacksReading request.confs ts → LacksMemory request clock ts
+  at_run : (meaning : Meaning) (rules : Rules) → rules.sets ≡ meaning.rules → Then (Reads request.confs meaning) (Lacks request.debug request.state (asking request.force request.mailer) clock rules) ts → LacksMemory request clock ts
 
--- What a call left that was to run by this request at a moment that its clock shows, and came to this plan, which it did only where it has a report.
-abbrev pub Answers : Request → Moment → Option Plan → Outcome → List Entry → Type 0
-Answers request now plan (Done report) ts = Reports request now plan report.notices report.faults ts
-Answers request now plan Held ts = (plan ≡ None) × FindsLock request ts
-Answers request now plan OutOfMemory ts = (plan ≡ None) × LacksMemory request now ts
-Answers request now plan BadWords ts = ⊥
+-- What a call left that was to run by this request and this clock, and came to this plan, which it did only where it has a report.
+abbrev pub Answers : Request → Clock → Option Plan → Outcome → List Entry → Type 0
+Answers request clock plan (Done report) ts = Reports request clock plan report.notices report.faults ts
+Answers request clock plan Held ts = (plan ≡ None) × FindsLock request ts
+Answers request clock plan OutOfMemory ts = (plan ≡ None) × LacksMemory request clock ts
+Answers request clock plan BadWords ts = ⊥
 
 -- The same in a zone at these seconds: where there is no clock, its fault is the one that is told, and no more is called; and nothing is changed where there was no memory for it.
 pub data AnswersAt (request : Request) (zone : Zone) (seconds : ℤ) (plan : Option Plan) (outcome : Outcome) (ts : List Entry) : Type 0 where
   no_clock : (f : Fault) → plan ≡ None → outcome ≡ Done (record { notices = []; faults = f ∷ [] }) → LacksClock zone seconds f ts → AnswersAt request zone seconds plan outcome ts
   no_memory : plan ≡ None → outcome ≡ OutOfMemory → LacksZoneMemory zone ts → AnswersAt request zone seconds plan outcome ts
-  called : (clock : Clock) → Then (ShowsClock zone seconds clock) (Answers request clock.now plan outcome) ts → AnswersAt request zone seconds plan outcome ts
+  called : (clock : Clock) → Then (ShowsClock zone seconds clock) (Answers request clock plan outcome) ts → AnswersAt request zone seconds plan outcome ts
 
 -- What a call of the program left that came to this plan: where the words ask for nothing, nothing, and so where there was no memory for what they ask for.
 pub data Answered (here : Path) (words : List (List ℕ)) (zone : Zone) (seconds : ℤ) (plan : Option Plan) (outcome : Outcome) (ts : List Entry) : Type 0 where

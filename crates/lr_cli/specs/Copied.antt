@@ -1,5 +1,5 @@
 -- The logs that a call empties: each was copied just before, by a rule of the configuration that was read.
-use Rattle.std.specs.Prelude.{◌≡◌, ℤ, List, [], Option}
+use Rattle.std.specs.Prelude.{◌≡◌, ℤ, List, Option}
 use Rattle.lr_rules.specs.declared.clock.Clock.{Clock}
 use Rattle.lr_rules.specs.declared.rule.Rule.{Rule}
 use Rattle.lr_host.specs.declared.entry.Entry.{Entry}
@@ -17,13 +17,13 @@ use Rattle.lr_cli.specs.Clock.{ShowsClock}
 abbrev pub Whatever : List Entry → Type 0
 Whatever ts = Unit {0}
 
--- These are the rules of the configuration that was read, behind a clock in the zone; or it wasn't read whole, and there are none.
-pub data ReadsRules (request : Request) (zone : Zone) (seconds : ℤ) (rules : List Rule) (ts : List Entry) : Type 0 where
-  none_read : rules ≡ [] → ReadsRules request zone seconds rules ts
-  were_read : (clock : Clock) (meaning : Meaning) → rules ≡ meaning.rules → Then (ShowsClock zone seconds clock) (Then (Reads request.confs meaning) Whatever) ts → ReadsRules request zone seconds rules ts
+-- These are the rules of the configuration that was read, behind this clock in the zone.
+pub record ReadsRules (request : Request) (zone : Zone) (seconds : ℤ) (clock : Clock) (rules : List Rule) (ts : List Entry) : Type 0 where
+  pub meaning : Meaning
+  pub rules_are : rules ≡ meaning.rules
+  pub entries : Then (ShowsClock zone seconds clock) (Then (Reads request.confs meaning) Whatever) ts
 
--- Each log that the call emptied was copied just before, by a copy that one of these rules asks for. Without rules none was emptied.
-pub record CopiesWhole (request : Request) (zone : Zone) (seconds : ℤ) (told later : Option Journal) : Type 0 where
-  pub rules : List Rule
-  pub read : Left (ReadsRules request zone seconds rules) told later
-  pub whole : EmptiesWhole (IsCopyBy rules) told later
+-- Each log that the call emptied was copied just before, by a copy that one of these rules asks for, to the name that the clock gives. Where the configuration wasn't read whole, none was emptied.
+pub data CopiesWhole (request : Request) (zone : Zone) (seconds : ℤ) (told later : Option Journal) : Type 0 where
+  none_read : EmptiesWhole (λ job. ⊥) told later → CopiesWhole request zone seconds told later
+  by_rules : (clock : Clock) (rules : List Rule) → Left (ReadsRules request zone seconds clock rules) told later → EmptiesWhole (IsCopyBy rules clock) told later → CopiesWhole request zone seconds told later

@@ -26,7 +26,7 @@ pub record FailNothing (state : Path) (faults : List Fault) : Type 0 where
 
 -- the plan that the call came to
 abbrev pub plan_by : (request : Request) (zone : Zone) (seconds : ℤ) (report : Report) (ts : List Entry) → ReachesPlan request zone seconds report ts → Plan
-plan_by request zone seconds report ts p = plan_in request.state p.rules.sets p.run.between p.run.within.looked p.clock.now (asking request.force request.mailer)
+plan_by request zone seconds report ts p = plan_in request.state p.rules.sets p.run.between p.run.within.looked p.clock (asking request.force request.mailer)
 
 -- The call came to its plan, and did it, and nothing else.
 pub record FulfillsPlan (request : Request) (zone : Zone) (seconds : ℤ) (report : Report) (before after : Journal) : Type 0 where
@@ -37,4 +37,4 @@ pub record FulfillsPlan (request : Request) (zone : Zone) (seconds : ℤ) (repor
   -- the faults are those of the configuration, of the looks and of the plan, in this order, and no other
   pub faults : report.faults ≡ plan.meaning.faults ++ (plan.run.within.looked.of_looks ++ (plan_by request zone seconds report (reverse entries) plan).faults)
   -- its acts, what became of each log of the plan and of the state, and that all else was left alone
-  pub fulfilled : IsFulfilled request.state plan.rules.sets plan.clock.now (asking request.force request.mailer) plan.run.between plan.run.within.looked plan.own (reverse entries) (past before) (past after)
+  pub fulfilled : IsFulfilled request.state plan.rules.sets plan.clock (asking request.force request.mailer) plan.run.between plan.run.within.looked plan.own (reverse entries) (past before) (past after)

@@ -7,6 +7,7 @@ pub mod Fulfilled
 pub mod Printed
 pub mod Reached
 pub mod Rotated
+pub mod Safe
 pub mod Says
 pub mod Settled
 pub mod Smooth

@@ -39,7 +39,7 @@ pub record ReachesPlan (request : Request) (zone : Zone) (seconds : ℤ) (report
   pub joined : ts ≡ of_clock ++ (reads ++ acts)
   pub shown : ShowsClock zone seconds clock of_clock
   pub read : Reads request.confs meaning reads
-  pub run : IsReached request.state (asking request.force request.mailer) clock.now rules own acts
+  pub run : IsReached request.state (asking request.force request.mailer) clock rules own acts
 
 -- a look at the zone's file failed, or a read of it
 abbrev pub IsOfZone : Zone → Fault → Type 0
@@ -75,7 +75,7 @@ pub record TriesPlan (request : Request) (zone : Zone) (seconds : ℤ) (report :
   pub own : List Fault
   pub faults_are : report.faults ≡ meaning.faults ++ own
   pub plan : Plan
-  pub entries : Then (ShowsClock zone seconds clock) (Then (Reads request.confs meaning) (Tries request.state rules.sets clock.now (asking request.force request.mailer) (Some plan) own)) ts
+  pub entries : Then (ShowsClock zone seconds clock) (Then (Reads request.confs meaning) (Tries request.state rules.sets clock (asking request.force request.mailer) (Some plan) own)) ts
 
 -- A look or a read failed of the zone's file or of a path of the state, or the state's directory isn't there. Each may be told of a configuration or a log too, and then ended nothing.
 abbrev pub MayEndDry : Path → Zone → Fault → Type 0

@@ -3,7 +3,8 @@ ghost use Rattle.std.specs.Prelude.{◌≡◌, ◌≤◌, ◌+◌, [], None, tru
 ghost use Rattle.lr_host.specs.Opening.{IsJournal};
 ghost use Rattle.lr_host.specs.Told.{Left, Onward, Rose, WhereTold};
 ghost use Rattle.lr_host.specs.Counted.{AreCounted};
-ghost use Rattle.lr_targets.specs.AllTurns.{IsWholeRun};
+ghost use Rattle.lr_mixed.specs.AllTurns.{IsWholeRunBy};
+ghost use Rattle.lr_cli.specs.Safe.{TurnsByClock};
 ghost use Rattle.lr_command.specs.Words.{can_be_state};
 ghost use Rattle.lr_cli.specs.Answer.{Answers, AnswersAt};
 ghost use Rattle.lr_cli.specs.Clock.{IsClocked};
@@ -34,8 +35,8 @@ pub fn run_confs<H: Host>(
 ) -> Result<Told, RunStop>
     requires settled { AreSettingsOf request.now settings.now }
     requires disk { WhereTold (H.told host.old) IsJournal }
-    ensures told { Left (Answers request.now clock.entry.now.now (plan_told result) (answer_of result)) (H.told host.old) (H.told host.new) }
-    ensures shape { Left IsWholeRun (H.told host.old) (H.told host.new) }
+    ensures told { Left (Answers request.now clock.entry.now (plan_told result) (answer_of result)) (H.told host.old) (H.told host.new) }
+    ensures shape { Left (IsWholeRunBy clock.entry.now) (H.told host.old) (H.told host.new) }
     ensures taken { request.now.debug ≡ false → IfOk result (λ told. TellsTaken request.now.state told.plan told.faults.items (H.told host.old) (H.told host.new)) }
     ensures counted { IfOk result (λ told. AreCounted told.faults.items (H.counts host.old) (H.counts host.new)) }
     ensures room { IfOk result (λ told. vec_len told.faults + 1 ≤ vec_capacity told.faults) }
@@ -69,8 +70,8 @@ pub fn run_by<H: Host>(
 ) -> Result<Told, RunStop>
     requires disk { WhereTold (H.told host.old) IsJournal }
     requires fits { can_be_state request.now.state ≡ true }
-    ensures told { Left (Answers request.now clock.entry.now.now (plan_told result) (answer_of result)) (H.told host.old) (H.told host.new) }
-    ensures shape { Left IsWholeRun (H.told host.old) (H.told host.new) }
+    ensures told { Left (Answers request.now clock.entry.now (plan_told result) (answer_of result)) (H.told host.old) (H.told host.new) }
+    ensures shape { Left (IsWholeRunBy clock.entry.now) (H.told host.old) (H.told host.new) }
     ensures taken { request.now.debug ≡ false → IfOk result (λ told. TellsTaken request.now.state told.plan told.faults.items (H.told host.old) (H.told host.new)) }
     ensures counted { IfOk result (λ told. AreCounted told.faults.items (H.counts host.old) (H.counts host.new)) }
     ensures room { IfOk result (λ told. vec_len told.faults + 1 ≤ vec_capacity told.faults) }
@@ -117,7 +118,7 @@ pub fn run_at<H: Host>(
     requires fits { can_be_state request.now.state ≡ true }
     ensures told { Left (AnswersAt request.now zone.now seconds (plan_told result) (answer_of result)) (H.told host.old) (H.told host.new) }
     ensures clock { IfOk result (λ told. IsClocked zone.now seconds told.notices told.faults.items) }
-    ensures shape { Left IsWholeRun (H.told host.old) (H.told host.new) }
+    ensures shape { TurnsByClock zone.now seconds (H.told host.old) (H.told host.new) }
     ensures taken { request.now.debug ≡ false → IfOk result (λ told. TellsTaken request.now.state told.plan told.faults.items (H.told host.old) (H.told host.new)) }
     ensures counted { IfOk result (λ told. AreCounted told.faults.items (H.counts host.old) (H.counts host.new)) }
     ensures room { IfOk result (λ told. vec_len told.faults + 1 ≤ vec_capacity told.faults) }

@@ -6,7 +6,6 @@ ghost use Rattle.lr_host.specs.Opening.{IsJournal};
 ghost use Rattle.lr_host.specs.World.{past};
 ghost use Rattle.lr_host.specs.Told.{Left, NoneFell, Rose, WhereTold};
 ghost use Rattle.lr_durable.specs.StateWhole.{KeepsWhole};
-ghost use Rattle.lr_host.specs.Safe.{KeepsSafe};
 ghost use Rattle.lr_run.specs.Dry.{AreSights};
 ghost use Rattle.lr_reached.specs.Ending.{NoneEnds};
 ghost use Rattle.lr_spared.specs.Smooth.{NoneRose};
@@ -20,6 +19,7 @@ ghost use Rattle.lr_cli.specs.Fulfilled.{FailNothing, FulfillsPlan};
 ghost use Rattle.lr_cli.specs.Printed.{without_out};
 ghost use Rattle.lr_cli.specs.Reached.{TellsOfPlan, TellsOfTry};
 ghost use Rattle.lr_cli.specs.Rotated.{RotatesAll};
+ghost use Rattle.lr_cli.specs.Safe.{KeepsSafeByClock};
 ghost use Rattle.lr_cli.specs.Says.{Says};
 ghost use Rattle.lr_cli.specs.Smooth.{IsSmoothCall};
 ghost use Rattle.lr_cli.specs.State.{IsNewText};
@@ -63,9 +63,9 @@ pub fn logrotate<H: Host, K: Sink>(
     ensures smooth { (request : Request) (report : Report) (before after : Journal) → AskFor here.now words.now request → request.debug ≡ false → without_out result ≡ Outcome.Done report → NoneEnds request.state report.faults → NoneRose (H.counts host.old) (H.counts host.new)
         → H.told host.old ≡ Some before → H.told host.new ≡ Some after → IsJournal (past before) → IsSmoothCall request zone.now now report before after → FailNothing request.state report.faults }
 
-    // A set that was safe in the journal before is safe in the journal after, where it is steady there: whatever failed, and
-    // wherever the run stopped.
-    ensures safe { KeepsSafe (H.told host.old) (H.told host.new) }
+    // A set that was safe in the journal before is safe in the journal after, where it is steady there, and none of its stamps
+    // had gone ahead of the call's clock: whatever failed, and wherever the run stopped. Of a numbered set the clock asks nothing.
+    ensures safe { KeepsSafeByClock zone.now now (H.told host.old) (H.told host.new) }
 
     // The state file that the words ask for is the old one or the new one, whole, at each moment of the call and after each cut
     // that the machine may make then; and where it is the new one, all changes of names that the run made before are applied.

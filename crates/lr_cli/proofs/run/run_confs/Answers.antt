@@ -4,10 +4,10 @@ use Rattle.lr_cli.proofs.Smooth.{confs_taken}
 use Rattle.lr_cli.proofs.run.run_confs.Goals as goal
 
 pub returns-in_default-clause-told : goal.returns-in_default-clause-told
-returns-in_default-clause-told g c = lacks_at_confs c.args.request.now c.args.clock.now.now c.as_slice.result.now c.as_slice.ensures c.in_default.ensures.lacking
+returns-in_default-clause-told g c = lacks_at_confs c.args.request.now c.args.clock.now c.as_slice.result.now c.as_slice.ensures c.in_default.ensures.lacking
 
 pub returns-in_default-clause-shape : goal.returns-in_default-clause-shape
-returns-in_default-clause-shape g c = lacking_shape c.as_slice.result.now c.in_default.ensures.lacking
+returns-in_default-clause-shape g c = lacking_shape c.args.clock.now c.as_slice.result.now c.in_default.ensures.lacking
 
 pub run-requires-clause-built : goal.run-requires-clause-built
 run-requires-clause-built g c = c.in-Ok.ensures.built
@@ -16,21 +16,21 @@ pub run-requires-clause-disk : goal.run-requires-clause-disk
 run-requires-clause-disk g c = disk_on c.in-Ok.ensures.told c.requires.disk
 
 pub returns-in-Ok-run-clause-told : goal.returns-in-Ok-run-clause-told
-returns-in-Ok-run-clause-told g c = reports c.args.request.now c.args.settings.now c.args.clock.now.now c.in-Ok-run.ran.plan c.in-Ok.reading c.into_vec.result.items c.in-Ok-run.ran.faults.items c.requires.settled c.into_vec.ensures
+returns-in-Ok-run-clause-told g c = reports c.args.request.now c.args.settings.now c.args.clock.now c.in-Ok-run.ran.plan c.in-Ok.reading c.into_vec.result.items c.in-Ok-run.ran.faults.items c.requires.settled c.into_vec.ensures
     (rw c.as_slice.ensures at c.in-Ok.ensures.told) c.in-Ok-run.ensures.told
 
 pub returns-in-Ok-run-clause-shape : goal.returns-in-Ok-run-clause-shape
-returns-in-Ok-run-clause-shape g c = confs_shape c.as_slice.result.now _ c.in-Ok.ensures.told c.run.ensures.shape
+returns-in-Ok-run-clause-shape g c = confs_shape c.args.clock.now c.as_slice.result.now _ c.in-Ok.ensures.told c.run.ensures.shape
 
 pub returns-in-Ok-run-clause-counted : goal.returns-in-Ok-run-clause-counted
 returns-in-Ok-run-clause-counted g c = both_counted c.into_vec.result.items c.in-Ok.reading.faults c.in-Ok-run.ran.faults.items _ _ _ c.into_vec.ensures
     (reading_counted c.in-Ok.reading.faults _ _ c.in-Ok.ensures.only c.in-Ok.ensures.counted c.read_all.ensures.counts.0) c.in-Ok-run.ensures.counted
 
 pub returns-clause-told : goal.returns-clause-told
-returns-clause-told g c = stopped c.args.request.now c.args.settings.now c.args.clock.now.now c.in-Ok.reading c.into_vec.result.items c.in-Err.stop c.requires.settled (rw c.as_slice.ensures at c.in-Ok.ensures.told) c.in-Err.ensures.told
+returns-clause-told g c = stopped c.args.request.now c.args.settings.now c.args.clock.now c.in-Ok.reading c.into_vec.result.items c.in-Err.stop c.requires.settled (rw c.as_slice.ensures at c.in-Ok.ensures.told) c.in-Err.ensures.told
 
 pub returns-clause-shape : goal.returns-clause-shape
-returns-clause-shape g c = confs_shape c.as_slice.result.now _ c.in-Ok.ensures.told c.run.ensures.shape
+returns-clause-shape g c = confs_shape c.args.clock.now c.as_slice.result.now _ c.in-Ok.ensures.told c.run.ensures.shape
 
 pub returns-in-Ok-run-clause-taken : goal.returns-in-Ok-run-clause-taken
 returns-in-Ok-run-clause-taken g c = confs_taken c.args.request.now c.args.settings.now c.in-Ok-run.ran.plan c.into_vec.result.items c.in-Ok.reading.faults c.in-Ok-run.ran.faults.items c.requires.settled c.into_vec.ensures c.in-Ok.ensures.only c.in-Ok.ensures.told c.in-Ok-run.ensures.taken

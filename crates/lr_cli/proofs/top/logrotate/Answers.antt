@@ -1,7 +1,5 @@
-use Rattle.std.proofs.Common.{[], None, inl, inr, refl, ap, ◌∙◌, Err}
+use Rattle.std.proofs.Common.{None, inl, inr, refl, ap, ◌∙◌, Err}
 use Rattle.lr_host.proofs.Left.{left_first}
-use Rattle.lr_targets.specs.AllTurns.{IsWholeRun}
-use Rattle.lr_targets.proofs.Safety.{call_safe}
 use Rattle.lr_run.specs.Dry.{AreSights}
 use Rattle.lr_cli.specs.declared.outcome.Outcome.TheVariants.{BadWords, OutOfMemory}
 use Rattle.lr_cli.specs.Faults.{answer_of, plan_told}
@@ -9,10 +7,9 @@ use Rattle.lr_cli.specs.Printed.{without_out}
 use Rattle.lr_cli.specs.Still.{WasShort, all_still}
 use Rattle.lr_cli.proofs.Clocked.{own_seconds}
 use Rattle.lr_cli.proofs.Copied.{answered_copies}
-use Rattle.lr_cli.proofs.Called.{nothing_called, answered, has_counted, has_clocked, not_counted, none_out, says_nothing, says_so}
+use Rattle.lr_cli.proofs.Called.{nothing_called, answered, has_counted, has_clocked, not_counted, none_out, says_nothing, says_so, safe_alone, turns_safe}
 use Rattle.lr_cli.proofs.Fulfilling.{answered_fulfilled}
 use Rattle.lr_cli.proofs.Reached.{left_tells}
-use Rattle.lr_cli.proofs.Reading.{alone_run}
 use Rattle.lr_cli.proofs.Rotating.{answered_rotated}
 use Rattle.lr_cli.proofs.Smooth.{answered_smooth, has_taken, taken_of}
 use Rattle.lr_cli.proofs.Still.{left_short, left_dry}
@@ -21,7 +18,7 @@ use Rattle.lr_cli.proofs.Whole.{answered_whole}
 use Rattle.lr_cli.proofs.top.logrotate.Goals as goal
 
 pub returns-in-Err-Refused-clause-safe : goal.returns-in-Err-Refused-clause-safe
-returns-in-Err-Refused-clause-safe g c = call_safe _ _ (left_first IsWholeRun _ (alone_run [] tt))
+returns-in-Err-Refused-clause-safe g c = safe_alone c.args.zone.now c.args.now _
 
 pub returns-in-Err-Refused-clause-told : goal.returns-in-Err-Refused-clause-told
 returns-in-Err-Refused-clause-told g c = says_nothing c.args.here.now c.args.words.now c.args.zone.now c.args.now _ BadWords _ _ _ _ _ c.printed.ensures.same (inl refl) tt (ap without_out c.printed.ensures.same) refl c.printed.ensures.printed c.printed.ensures.whole
@@ -42,7 +39,7 @@ pub returns-in-Err-Refused-clause-dry : goal.returns-in-Err-Refused-clause-dry
 returns-in-Err-Refused-clause-dry g c = λ request asks dry. left_first AreSights _ tt
 
 pub returns-in-Err-Memory-clause-safe : goal.returns-in-Err-Memory-clause-safe
-returns-in-Err-Memory-clause-safe g c = call_safe _ _ (left_first IsWholeRun _ (alone_run [] tt))
+returns-in-Err-Memory-clause-safe g c = safe_alone c.args.zone.now c.args.now _
 
 pub returns-in-Err-Memory-clause-told : goal.returns-in-Err-Memory-clause-told
 returns-in-Err-Memory-clause-told g c = says_nothing c.args.here.now c.args.words.now c.args.zone.now c.args.now _ OutOfMemory _ _ _ _ _ c.printed-in-Err-Memory.ensures.same (inr refl) tt (ap without_out c.printed-in-Err-Memory.ensures.same) refl c.printed-in-Err-Memory.ensures.printed c.printed-in-Err-Memory.ensures.whole
@@ -69,7 +66,7 @@ pub finish-requires-clause-no_out : goal.finish-requires-clause-no_out
 finish-requires-clause-no_out g c = none_out c.run_at-run.result _ _ c.run_at-run.ensures.counted
 
 pub returns-clause-safe : goal.returns-clause-safe
-returns-clause-safe g c = call_safe _ _ c.run_at-run.ensures.shape
+returns-clause-safe g c = turns_safe c.args.zone.now _ c.args.now (own_seconds c.args.now c.ranges.now.sfits) c.run_at-run.ensures.shape
 
 pub returns-clause-told : goal.returns-clause-told
 returns-clause-told g c = says_so c.args.here.now c.args.words.now c.args.zone.now c.args.now c.in-Ok.request (plan_told c.run_at-run.result) _ _ _ _ _ _ _ c.in-Ok.ensures.request
