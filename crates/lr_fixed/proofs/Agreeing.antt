@@ -1,6 +1,6 @@
 -- What the faults of a plan's acts deny was done neither by them nor by the writing of the state.
 use Rattle.std.proofs.Common.{◌≡◌, inl, inr, ⊎_elim, List, [], ◌∷◌, ◌++◌, map, refl, sym, subst}
-use Rattle.lr_rules.specs.declared.civil.Moment.{Moment}
+use Rattle.lr_rules.specs.declared.clock.Clock.{Clock}
 use Rattle.lr_rules.specs.declared.fault.Fault.{Fault}
 use Rattle.lr_rules.specs.declared.path.Path.{Path}
 use Rattle.lr_rules.specs.declared.rule.Rule.{Rule}
@@ -19,7 +19,6 @@ use Rattle.lr_plan.specs.Planned.{all_plans}
 use Rattle.lr_plan.specs.Steps.{steps_of_set}
 use Rattle.lr_acts.specs.Making.{all_of_sets}
 use Rattle.lr_looks.specs.Shown.{ShowsLooks}
-use Rattle.lr_fields.specs.Built.{AreBuiltRules}
 use Rattle.lr_seen.specs.Free.{reserved_by}
 use Rattle.lr_run.proofs.Simple.{plan_simple}
 use Rattle.lr_run.proofs.Stating.{IsWriting}
@@ -45,19 +44,19 @@ state_keys state (e ∷ es) a k i = ⊎_elim (λ x. write_key state e k a.0 x) (
 
 -- ---- the acts of the plan
 
-module _ (state : Path) (rules : Rules) (sets : List SetLooks) (of_looks : List Fault) (looks : List Entry) (now : Moment) (mailer : Path) (decide : Rule → LogLook → Due) (built : AreBuiltRules rules.sets) (seen : ShowsLooks (reserved_by state) rules.sets sets of_looks looks) where
+module _ (state : Path) (rules : Rules) (sets : List SetLooks) (of_looks : List Fault) (looks : List Entry) (clock : Clock) (mailer : Path) (decide : Rule → LogLook → Due) (seen : ShowsLooks (reserved_by state) rules.sets sets of_looks looks) where
   abbrev PlanDoes : List Key
-  PlanDoes = keys_of (all_of_sets (map steps_of_set (all_plans now mailer decide rules.sets sets)))
+  PlanDoes = keys_of (all_of_sets (map steps_of_set (all_plans clock mailer decide rules.sets sets)))
 
   -- they make no file at such a path
   not_reserved : (k : Key) → IsIn k PlanDoes → IsReserved state k → ⊥
-  not_reserved k i r = none_reserved rules sets of_looks looks now mailer decide built seen r.0 r.1 (subst (λ (x : Key). IsIn x PlanDoes) r.2 i)
+  not_reserved k i r = none_reserved rules sets of_looks looks clock mailer decide seen r.0 r.1 (subst (λ (x : Key). IsIn x PlanDoes) r.2 i)
 
-  pub acts_agree : (ms : List Mark) (fs : List Fault) (acts front back : List Entry) → acts ≡ front ++ back → SetsDone (map steps_of_set (all_plans now mailer decide rules.sets sets)) ms fs front → Each (IsWriting state) back → Agree (shown acts) fs front
+  pub acts_agree : (ms : List Mark) (fs : List Fault) (acts front back : List Entry) → acts ≡ front ++ back → SetsDone (map steps_of_set (all_plans clock mailer decide rules.sets sets)) ms fs front → Each (IsWriting state) back → Agree (shown acts) fs front
   acts_agree ms fs acts front back e done written = record {
     not = λ k i j. ⊎_elim (λ a. keep.apart k i a) (λ b. not_reserved k (keep.told k i) (state_keys state back written k b)) (in_append k (shown front) (shown back) (subst (IsIn k) (shown_joined acts front back e) j));
     has = λ k i. subst (IsIn k) (sym (shown_joined acts front back e)) (in_front k (shown front) (shown back) i);
   }
     where
       keep : Keep PlanDoes fs front
-      keep = sets_keep (map steps_of_set (all_plans now mailer decide rules.sets sets)) ms fs front (plan_simple now mailer decide rules.sets sets) (plan_once rules sets of_looks looks now mailer decide built seen) done
+      keep = sets_keep (map steps_of_set (all_plans clock mailer decide rules.sets sets)) ms fs front (plan_simple clock mailer decide rules.sets sets) (plan_once rules sets of_looks looks clock mailer decide seen) done

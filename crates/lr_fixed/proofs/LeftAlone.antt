@@ -1,7 +1,7 @@
 -- A run leaves each set alone whose log it doesn't rotate, and one that didn't come to its plan leaves all sets alone.
-use Rattle.std.proofs.Common.{◌≡◌, ◌≢◌, inl, inr, Bool, ℤ, Option, Some, None, List, [], ◌∷◌, ◌++◌, reverse, refl, sym, ap, ◌∙◌, subst, append_assoc, append-nil}
+use Rattle.std.proofs.Common.{◌≡◌, ◌≢◌, inl, inr, ℤ, Option, Some, None, List, [], ◌∷◌, ◌++◌, reverse, refl, sym, ap, ◌∙◌, subst, append_assoc, append-nil}
 use Rattle.std.proofs.lemmas.List.{reverse-append, reverse-reverse}
-use Rattle.lr_rules.specs.declared.civil.Moment.{Moment}
+use Rattle.lr_rules.specs.declared.clock.Clock.{Clock}
 use Rattle.lr_rules.specs.declared.fault.Fault.{Fault}
 use Rattle.lr_rules.specs.declared.path.Path.{Path}
 use Rattle.lr_rules.specs.declared.rule.Rule.{Rule}
@@ -26,10 +26,10 @@ use Rattle.lr_plan.specs.Asked.{Asked}
 use Rattle.lr_plan.specs.Outcomes.{Maybe}
 use Rattle.lr_plan.specs.Planned.{decision}
 use Rattle.lr_reading.proofs.Quiet.{state_quiet}
-use Rattle.lr_targets.specs.AllTurns.{AllTurns}
 use Rattle.lr_targets.specs.Target.{Target, IsOneOf}
-use Rattle.lr_targets.proofs.LeftAlone.{others_left}
 use Rattle.lr_rotations.proofs.Still.{quiet_safe_on}
+use Rattle.lr_mixed.specs.AllTurns.{AllTurnsBy}
+use Rattle.lr_mixed.proofs.Safety.{others_are_left}
 use Rattle.lr_weave.proofs.Parting.{done_turns}
 use Rattle.lr_weave.proofs.Planning.{ready_planned}
 use Rattle.lr_fields.specs.Built.{AreBuiltRules}
@@ -44,16 +44,16 @@ use Rattle.lr_run.proofs.Shape.{all_of_state, ended, in_parts, seen_later, seen_
 use Rattle.lr_fixed.specs.Unplanned.{IsUnplannedWork, IsUnplanned}
 
 -- the work of a run, whatever failed: its targets are the logs of its plan
-abbrev worked_turn : (state : Path) (rules : Rules) (now : Moment) (asked : Asked) (own : List Fault) (ts : List Entry) → AreBuiltRules rules.sets → (w : Worked state rules.sets now asked own ts)
-    → AllTurns state now rules (((w.looked.reads ++ w.looked.looks) ++ w.acted.entries.entries.front) ++ w.acted.entries.entries.back)
-worked_turn state rules now asked own ts built w =
-    written state now rules ((w.looked.reads ++ w.looked.looks) ++ w.acted.entries.entries.front) w.acted.entries.entries.back
-    (done_turns state now rules (w.looked.reads ++ w.looked.looks) (rotated_in state rules.sets ts w.looked now asked) _ w.acted.marks w.acted.entries.of_plan w.acted.entries.entries.front
-    (seen_quiet state rules.sets ts w.looked) (seen_later rules now w.looked.reads w.looked.looks (rotated_in state rules.sets ts w.looked now asked) (targets_seen rules w.looked.sets w.looked.of_looks w.looked.looks now (decision w.looked.remembered.table now asked.force) built w.looked.shown))
-    (ready_planned (groups_of now (decision w.looked.remembered.table now asked.force) rules.sets w.looked.sets) _ (plans_have_logs rules.sets w.looked.sets w.looked.of_looks w.looked.looks now asked.mailer (decision w.looked.remembered.table now asked.force) built w.looked.shown)
-    (targets_apart rules.sets w.looked.sets w.looked.of_looks w.looked.looks now (decision w.looked.remembered.table now asked.force) w.looked.shown))
+abbrev worked_turn : (state : Path) (rules : Rules) (clock : Clock) (asked : Asked) (own : List Fault) (ts : List Entry) → (w : Worked state rules.sets clock asked own ts)
+    → AllTurnsBy state clock rules (((w.looked.reads ++ w.looked.looks) ++ w.acted.entries.entries.front) ++ w.acted.entries.entries.back)
+worked_turn state rules clock asked own ts w =
+    written state clock rules ((w.looked.reads ++ w.looked.looks) ++ w.acted.entries.entries.front) w.acted.entries.entries.back
+    (done_turns state clock rules (w.looked.reads ++ w.looked.looks) (rotated_in state rules.sets ts w.looked clock asked) _ w.acted.marks w.acted.entries.of_plan w.acted.entries.entries.front
+    (seen_quiet state rules.sets ts w.looked) (seen_later rules clock w.looked.reads w.looked.looks (rotated_in state rules.sets ts w.looked clock asked) (targets_seen rules w.looked.sets w.looked.of_looks w.looked.looks clock (decision w.looked.remembered.table clock.now asked.force) w.looked.shown))
+    (ready_planned (groups_of clock (decision w.looked.remembered.table clock.now asked.force) rules.sets w.looked.sets) _ (plans_have_logs rules.sets w.looked.sets w.looked.of_looks w.looked.looks clock asked.mailer (decision w.looked.remembered.table clock.now asked.force) w.looked.shown)
+    (targets_apart rules.sets w.looked.sets w.looked.of_looks w.looked.looks clock (decision w.looked.remembered.table clock.now asked.force) w.looked.shown))
     w.acted.entries.entries.first)
-    (all_of_state state rules.sets now asked own ts w)
+    (all_of_state state rules.sets clock asked own ts w)
 
 -- what has a key isn't without one
 some_none : (o : Option ℤ) (k : ℤ) → o ≡ Some k → o ≡ None → ⊥
@@ -66,17 +66,17 @@ still_member s p u ts still made steady y k key = quiet_same (IsKeyless s) p u y
     calm : Quiet (IsKeyless s) p u
     calm = made_quiet (IsKeyless s) p u (reverse ts) (since_of (IsKeyless s) p u (reverse ts) made (none_attached s u steady)) made (still_reverse ts still)
 
-pub left_alone : (s : LogSet) (state : Path) (asked : Asked) (now : Moment) (rules : Rules) (own : List Fault) (p q : Past) (es reads acts : List Entry) → AreBuiltRules rules.sets → Made p es q → IsJournal p → reverse es ≡ reads ++ acts → AreQuiet reads
-    → (i : Inside state now rules (Worked state rules.sets now asked own) acts) → IsSafe s p → IsSteady s q → ((t : Target) → IsOneOf t (rotated_in state rules.sets i.between i.within.looked now asked) → t.log ≢ s.log)
+pub left_alone : (s : LogSet) (state : Path) (asked : Asked) (clock : Clock) (rules : Rules) (own : List Fault) (p q : Past) (es reads acts : List Entry) → AreBuiltRules rules.sets → Made p es q → IsJournal p → reverse es ≡ reads ++ acts → AreQuiet reads
+    → (i : Inside state clock rules (Worked state rules.sets clock asked own) acts) → IsSafe s p → IsSteady s q → ((t : Target) → IsOneOf t (rotated_in state rules.sets i.between i.within.looked clock asked) → t.log ≢ s.log)
     → (y : Path) (k : ℤ) → s.key y ≡ Some k → names (world q) y ≡ names (world p) y
-left_alone s state asked now rules own p q es reads acts built made journal joined quiet i safe steady apart y k key =
-    others_left s a.mid q state now rules tail turns behind_start (journal_u, a.fits) (quiet_safe s a.mid starts (journal_u, a.fits) safe_u (tt, refl)) steady apart y k key
+left_alone s state asked clock rules own p q es reads acts built made journal joined quiet i safe steady apart y k key =
+    others_are_left clock s a.mid q state rules tail turns behind_start (journal_u, a.fits) (quiet_safe s a.mid starts (journal_u, a.fits) safe_u (tt, refl)) steady apart y k key
     ∙ still_member s p a.mid front (quiet_still front quiet_front) made_u steady_u y k key
   where
     starts : Entry
-    starts = entry.Starts state now rules
+    starts = entry.Starts state clock.now rules
 
-    w : Worked state rules.sets now asked own i.between
+    w : Worked state rules.sets clock asked own i.between
     w = i.within
 
     work : List Entry
@@ -88,11 +88,11 @@ left_alone s state asked now rules own p q es reads acts built made journal join
     tail : List Entry
     tail = work ++ entry.Ends ∷ []
 
-    turns : AllTurns state now rules tail
-    turns = ended state now rules work (worked_turn state rules now asked own i.between built w)
+    turns : AllTurnsBy state clock rules tail
+    turns = ended state clock rules work (worked_turn state rules clock asked own i.between w)
 
     whole : reverse es ≡ front ++ (starts ∷ tail)
-    whole = joined ∙ (ap (λ xs. reads ++ xs) (i.entries ∙ ap (λ xs. i.before ++ (entry.Starts state now rules ∷ (xs ++ entry.Ends ∷ []))) (in_parts state rules.sets now asked own i.between w)) ∙ sym (append_assoc reads i.before _))
+    whole = joined ∙ (ap (λ xs. reads ++ xs) (i.entries ∙ ap (λ xs. i.before ++ (entry.Starts state clock.now rules ∷ (xs ++ entry.Ends ∷ []))) (in_parts state rules.sets clock asked own i.between w)) ∙ sym (append_assoc reads i.before _))
 
     quiet_front : AreQuiet front
     quiet_front = quiet_both reads i.before quiet (sees_quiet (parent_of state) i.before i.directory)
@@ -123,28 +123,28 @@ left_alone s state asked now rules own p q es reads acts built made journal join
 
 -- ---- a run that didn't come to its plan
 
-work_quiet : (state : Path) (rules : List Rule) (now : Moment) (asked : Asked) (plan : Option Plan) (own : List Fault) (ts : List Entry) → (w : Works state rules now asked plan own ts) → IsUnplannedWork state rules now asked plan own ts w → AreQuiet ts
-work_quiet state rules now asked plan own ts (not_known sights f known lost is shown) u = state_quiet state 65_536 sights ts shown
-work_quiet state rules now asked plan own ts (too_big l big lost is none) u =
+work_quiet : (state : Path) (rules : List Rule) (clock : Clock) (asked : Asked) (plan : Option Plan) (own : List Fault) (ts : List Entry) → (w : Works state rules clock asked plan own ts) → IsUnplannedWork state rules clock asked plan own ts w → AreQuiet ts
+work_quiet state rules clock asked plan own ts (not_known sights f known lost is shown) u = state_quiet state 65_536 sights ts shown
+work_quiet state rules clock asked plan own ts (too_big l big lost is none) u =
     subst AreQuiet (sym (l.joined ∙ ap (λ xs. l.reads ++ xs) (ap (λ xs. l.looks ++ xs) none ∙ append-nil l.looks))) (seen_quiet state rules ts l)
-work_quiet state rules now asked plan own ts (worked w is) u = absurd u
+work_quiet state rules clock asked plan own ts (worked w is) u = absurd u
 
-maybe_still : (state : Path) (now : Moment) (rules : Rules) (ts : List Entry) → Maybe (entry.Starts state now rules) ts → ChangeNothing ts
-maybe_still state now rules ts (inl e) = subst ChangeNothing (sym e) refl
-maybe_still state now rules ts (inr e) = subst ChangeNothing (sym e) refl
+maybe_still : (state : Path) (clock : Clock) (rules : Rules) (ts : List Entry) → Maybe (entry.Starts state clock.now rules) ts → ChangeNothing ts
+maybe_still state clock rules ts (inl e) = subst ChangeNothing (sym e) refl
+maybe_still state clock rules ts (inr e) = subst ChangeNothing (sym e) refl
 
 sees_still : (x : Path) (P : Option Seen → Type 0) (ts : List Entry) → Sees x P ts → ChangeNothing ts
 sees_still x P ts s = quiet_still ts (sees_quiet x ts s)
 
-run_still : (state : Path) (asked : Asked) (now : Moment) (rules : Rules) (plan : Option Plan) (own : List Fault) (ts : List Entry) → (r : Runs state asked now rules plan own ts) → IsUnplanned state asked now rules plan own ts r → ChangeNothing ts
-run_still state asked now rules plan own ts (no_directory lost is s) u = sees_still (parent_of state) IsNotDir ts s
-run_still state asked now rules plan own ts (not_seen lost is e) u = subst ChangeNothing (sym e) refl
-run_still state asked now rules plan own ts (not_begun lost is t) u = then_still (Sees (parent_of state) IsDir) (Maybe (entry.Starts state now rules)) ts (sees_still (parent_of state) IsDir) (maybe_still state now rules) t
-run_still state asked now rules plan own ts (began i) u =
-    subst ChangeNothing (sym i.entries) (still_both i.before (entry.Starts state now rules ∷ (i.between ++ entry.Ends ∷ [])) (sees_still (parent_of state) IsDir i.before i.directory)
-    (still_both i.between (entry.Ends ∷ []) (quiet_still i.between (work_quiet state rules.sets now asked plan own i.between i.within u)) refl))
+run_still : (state : Path) (asked : Asked) (clock : Clock) (rules : Rules) (plan : Option Plan) (own : List Fault) (ts : List Entry) → (r : Runs state asked clock rules plan own ts) → IsUnplanned state asked clock rules plan own ts r → ChangeNothing ts
+run_still state asked clock rules plan own ts (no_directory lost is s) u = sees_still (parent_of state) IsNotDir ts s
+run_still state asked clock rules plan own ts (not_seen lost is e) u = subst ChangeNothing (sym e) refl
+run_still state asked clock rules plan own ts (not_begun lost is t) u = then_still (Sees (parent_of state) IsDir) (Maybe (entry.Starts state clock.now rules)) ts (sees_still (parent_of state) IsDir) (maybe_still state clock rules) t
+run_still state asked clock rules plan own ts (began i) u =
+    subst ChangeNothing (sym i.entries) (still_both i.before (entry.Starts state clock.now rules ∷ (i.between ++ entry.Ends ∷ [])) (sees_still (parent_of state) IsDir i.before i.directory)
+    (still_both i.between (entry.Ends ∷ []) (quiet_still i.between (work_quiet state rules.sets clock asked plan own i.between i.within u)) refl))
 
-pub all_left : (s : LogSet) (state : Path) (asked : Asked) (now : Moment) (rules : Rules) (plan : Option Plan) (own : List Fault) (p q : Past) (es reads acts : List Entry) → Made p es q → reverse es ≡ reads ++ acts → AreQuiet reads
-    → (r : Runs state asked now rules plan own acts) → IsUnplanned state asked now rules plan own acts r → IsSteady s q → (y : Path) (k : ℤ) → s.key y ≡ Some k → names (world q) y ≡ names (world p) y
-all_left s state asked now rules plan own p q es reads acts made joined quiet r u steady y k key =
-    still_member s p q (reads ++ acts) (still_both reads acts (quiet_still reads quiet) (run_still state asked now rules plan own acts r u)) (subst (λ (xs : List Entry). Made p xs q) (sym (reverse-reverse es) ∙ ap reverse joined) made) steady y k key
+pub all_left : (s : LogSet) (state : Path) (asked : Asked) (clock : Clock) (rules : Rules) (plan : Option Plan) (own : List Fault) (p q : Past) (es reads acts : List Entry) → Made p es q → reverse es ≡ reads ++ acts → AreQuiet reads
+    → (r : Runs state asked clock rules plan own acts) → IsUnplanned state asked clock rules plan own acts r → IsSteady s q → (y : Path) (k : ℤ) → s.key y ≡ Some k → names (world q) y ≡ names (world p) y
+all_left s state asked clock rules plan own p q es reads acts made joined quiet r u steady y k key =
+    still_member s p q (reads ++ acts) (still_both reads acts (quiet_still reads quiet) (run_still state asked clock rules plan own acts r u)) (subst (λ (xs : List Entry). Made p xs q) (sym (reverse-reverse es) ∙ ap reverse joined) made) steady y k key

@@ -12,11 +12,14 @@ mod LiteralPaths
 mod Words
 mod Kept
 mod Whole
+mod Zones
+mod Clocks
 mod Planned
 mod StateRead
 mod LookedOne
 mod Writing
 mod Keys
+mod Own
 mod PlanKeys
 mod Programs
 mod CountedListings

@@ -1,8 +1,8 @@
 -- Two runs that left the same entries read one table, looked at the same logs, and planned the same.
-use Rattle.std.proofs.Common.{◌≡◌, Bool, true, List, [], ◌++◌, Ok, Err, sym, ap, ◌∙◌}
+use Rattle.std.proofs.Common.{◌≡◌, true, List, [], ◌++◌, Ok, Err, sym, ap, ◌∙◌}
 use Rattle.std.specs.List.{list_all}
 use Rattle.lr_rules.specs.Limits.{meets_limits}
-use Rattle.lr_rules.specs.declared.civil.Moment.{Moment}
+use Rattle.lr_rules.specs.declared.clock.Clock.{Clock}
 use Rattle.lr_rules.specs.declared.path.Path.{Path}
 use Rattle.lr_rules.specs.declared.rule.Rule.{Rule}
 use Rattle.lr_host.specs.declared.entry.Entry.{Entry}
@@ -25,7 +25,7 @@ abbrev table_of : Known → List Row
 table_of (Ok remembered) = remembered.table
 table_of (Err f) = []
 
-module _ (state : Path) (rules : List Rule) (now : Moment) (asked : Asked) (ts us : List Entry) (v : Looked state rules ts) (w : Looked state rules us) (e : ts ≡ us) (c : calls_in v.of_looks ≡ 0) (d : calls_in w.of_looks ≡ 0) (limits : list_all meets_limits rules ≡ true) where
+module _ (state : Path) (rules : List Rule) (clock : Clock) (asked : Asked) (ts us : List Entry) (v : Looked state rules ts) (w : Looked state rules us) (e : ts ≡ us) (c : calls_in v.of_looks ≡ 0) (d : calls_in w.of_looks ≡ 0) (limits : list_all meets_limits rules ≡ true) where
   -- the state was read the same
   reading : OneState (Ok v.remembered) (Ok w.remembered) (v.looks ++ v.acts) (w.looks ++ w.acts)
   reading = state_one state 65_536 v.sights w.sights (Ok v.remembered) (Ok w.remembered) v.reads w.reads (v.looks ++ v.acts) (w.looks ++ w.acts) v.read w.read v.known w.known tt tt (sym v.joined ∙ (e ∙ w.joined))
@@ -46,20 +46,20 @@ module _ (state : Path) (rules : List Rule) (now : Moment) (asked : Asked) (ts u
   kept_are = kept_paths (reserved_by state) rules v.sets w.sets v.of_looks w.of_looks v.looks w.looks v.acts w.acts v.shown w.shown reading.rest_is c d limits
 
   -- the faults of the plans
-  pub plans_are : (plan_in state rules ts v now asked).faults ≡ (plan_in state rules us w now asked).faults
-  plans_are = ap (λ (t : List Row). (plan_of rules v.sets t now asked).faults) table_is ∙ faults_alike w.remembered.table now asked rules v.sets w.sets looks_are.2
+  pub plans_are : (plan_in state rules ts v clock asked).faults ≡ (plan_in state rules us w clock asked).faults
+  plans_are = ap (λ (t : List Row). (plan_of rules v.sets t clock asked).faults) table_is ∙ faults_alike w.remembered.table clock asked rules v.sets w.sets looks_are.2
 
   -- and what they do of each definition
-  pub sets_are : (plan_in state rules ts v now asked).sets ≡ (plan_in state rules us w now asked).sets
-  sets_are = ap (λ (t : List Row). (plan_of rules v.sets t now asked).sets) table_is ∙ plans_alike w.remembered.table now asked rules v.sets w.sets looks_are.2
+  pub sets_are : (plan_in state rules ts v clock asked).sets ≡ (plan_in state rules us w clock asked).sets
+  sets_are = ap (λ (t : List Row). (plan_of rules v.sets t clock asked).sets) table_is ∙ plans_alike w.remembered.table clock asked rules v.sets w.sets looks_are.2
 
   -- the logs that they rotate
-  logs_are : logs_in (plan_in state rules ts v now asked) ≡ logs_in (plan_in state rules us w now asked)
+  logs_are : logs_in (plan_in state rules ts v clock asked) ≡ logs_in (plan_in state rules us w clock asked)
   logs_are = ap all_logs_of sets_are
 
   -- the text that is measured
-  pub measured_is : measured_in state rules ts v now asked ≡ measured_in state rules us w now asked
+  pub measured_is : measured_in state rules ts v clock asked ≡ measured_in state rules us w clock asked
   measured_is =
-      ap (λ ls. measured_text ls now.civil (after v.remembered.table [] (kept_in state rules ts v) now.civil)) logs_are
-      ∙ (ap (λ (t : List Row). measured_text (logs_in (plan_in state rules us w now asked)) now.civil (after t [] (kept_in state rules ts v) now.civil)) table_is
-      ∙ ap (λ ks. measured_text (logs_in (plan_in state rules us w now asked)) now.civil (after w.remembered.table [] ks now.civil)) kept_are)
+      ap (λ ls. measured_text ls clock.now.civil (after v.remembered.table [] (kept_in state rules ts v) clock.now.civil)) logs_are
+      ∙ (ap (λ (t : List Row). measured_text (logs_in (plan_in state rules us w clock asked)) clock.now.civil (after t [] (kept_in state rules ts v) clock.now.civil)) table_is
+      ∙ ap (λ ks. measured_text (logs_in (plan_in state rules us w clock asked)) clock.now.civil (after w.remembered.table [] ks clock.now.civil)) kept_are)

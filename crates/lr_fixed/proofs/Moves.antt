@@ -1,7 +1,7 @@
 -- The acts of a plan are unlinks, renames, makings of logs, the steps of copies and programs.
 use Rattle.std.proofs.Common.{◌≡◌, inl, inr, ℕ, Bool, true, false, bytes_eq, Option, List, [], ◌∷◌, map, refl, sym, ◌∙◌, subst}
 use Rattle.std.proofs.lemmas.Slice.Eq.{bytes_eq-Decides}
-use Rattle.lr_rules.specs.declared.civil.Moment.{Moment}
+use Rattle.lr_rules.specs.declared.clock.Clock.{Clock}
 use Rattle.lr_rules.specs.declared.path.Path.{Path}
 use Rattle.lr_rules.specs.Names.{the_log, IsOwnName}
 use Rattle.lr_rules.specs.declared.fault.Fault.{Fault}
@@ -28,13 +28,11 @@ use Rattle.lr_plan.specs.Planned.{all_plans}
 use Rattle.lr_plan.specs.Steps.{steps_of_set}
 use Rattle.lr_acts.specs.Making.{all_of_sets}
 use Rattle.lr_run.proofs.Folded.{Folds, acts_fold}
-use Rattle.lr_fields.specs.Built.{AreBuiltRules}
 use Rattle.lr_run.proofs.Simple.{IsSimple, AreSimple, plan_simple}
 use Rattle.lr_run.proofs.Stating.{none_leaves, one_leaves, maybe_leaves, take_fails}
 use Rattle.lr_fixed.proofs.CountedListings.{IsNoListing, AreNoListings}
-use Rattle.lr_targets.specs.Apart.{HaveNames}
 use Rattle.lr_targets.specs.Target.{Target}
-use Rattle.lr_targets.proofs.Apart.{part_own}
+use Rattle.lr_dated_run.specs.Own.{HaveAnyNames}
 use Rattle.lr_weave.specs.Parts.{MakesOnly, MakesOne}
 use Rattle.lr_weave.proofs.Parting.{sets_parts}
 use Rattle.lr_weave.proofs.Planning.{ready_planned}
@@ -46,6 +44,7 @@ use Rattle.lr_seen.proofs.Free.{targets_free}
 use Rattle.lr_seen.proofs.Ready.{plans_have_logs}
 use Rattle.lr_seen.proofs.Seen.{targets_have_names}
 use Rattle.lr_plan.specs.Steps.{state_part}
+use Rattle.lr_fixed.proofs.Own.{part_own}
 use Rattle.lr_fixed.proofs.Writing.{is_make, makes_in}
 
 -- an unlink, a rename, the making, filling or emptying of a file, a read of one, a sync, or a program
@@ -106,8 +105,8 @@ sets_move : (sets : List SetSteps) (ms : List Mark) (fs : List Fault) (ts : List
 sets_move sets ms fs ts i h = acts_fold (λ fs ts. Each IsMove ts) moves_fold sets ms fs ts i h
 
 -- the acts of a plan
-pub plan_moves : (rules : List Rule) (sets : List SetLooks) (now : Moment) (mailer : Path) (decide : Rule → LogLook → Due) (ms : List Mark) (fs : List Fault) (ts : List Entry) → SetsDone (map steps_of_set (all_plans now mailer decide rules sets)) ms fs ts → Each IsMove ts
-plan_moves rules sets now mailer decide ms fs ts h = sets_move (map steps_of_set (all_plans now mailer decide rules sets)) ms fs ts (plan_simple now mailer decide rules sets) h
+pub plan_moves : (rules : List Rule) (sets : List SetLooks) (clock : Clock) (mailer : Path) (decide : Rule → LogLook → Due) (ms : List Mark) (fs : List Fault) (ts : List Entry) → SetsDone (map steps_of_set (all_plans clock mailer decide rules sets)) ms fs ts → Each IsMove ts
+plan_moves rules sets clock mailer decide ms fs ts h = sets_move (map steps_of_set (all_plans clock mailer decide rules sets)) ms fs ts (plan_simple clock mailer decide rules sets) h
 
 -- ---- what they aren't
 
@@ -120,13 +119,13 @@ pub moves_list_none : (ts : List Entry) → Each IsMove ts → AreNoListings ts
 moves_list_none ts m = each_as IsMove IsNoListing ts no_listing m
 
 -- what they make is no file that the run reserves for itself
-not_reserved : (reserved : List Path) (ts : List Target) (x part : Path) (mode : Option ℕ) → HaveNames ts → AreFreeOf reserved ts → IsIn part reserved → MakesOne ts (entry.Makes x mode) → x ≡ part → ⊥
+not_reserved : (reserved : List Path) (ts : List Target) (x part : Path) (mode : Option ℕ) → HaveAnyNames ts → AreFreeOf reserved ts → IsIn part reserved → MakesOne ts (entry.Makes x mode) → x ≡ part → ⊥
 not_reserved reserved [] x part mode names free i h e = h
 not_reserved reserved (t ∷ ts) x part mode names free i (inl (inl is)) e = free.0 part i (inl (the_log (sym e ∙ is)))
 not_reserved reserved (t ∷ ts) x part mode names free i (inl (inr p)) e = free.0 part i (inl (subst (IsOwnName t.log t.naming) (sym p.2 ∙ e) (part_own t names.0 p.0 p.1)))
 not_reserved reserved (t ∷ ts) x part mode names free i (inr h) e = not_reserved reserved ts x part mode names.1 free.1 i h e
 
-no_make : (reserved : List Path) (ts : List Target) (part : Path) (e : Entry) → HaveNames ts → AreFreeOf reserved ts → IsIn part reserved → MakesOnly (MakesOne ts) e → is_make part e ≡ false
+no_make : (reserved : List Path) (ts : List Target) (part : Path) (e : Entry) → HaveAnyNames ts → AreFreeOf reserved ts → IsIn part reserved → MakesOnly (MakesOne ts) e → is_make part e ≡ false
 no_make reserved ts part (entry.Makes x mode) names free i h = go (bytes_eq x part) refl
   where
     go : (b : Bool) → bytes_eq x part ≡ b → b ≡ false
@@ -135,10 +134,10 @@ no_make reserved ts part (entry.Makes x mode) names free i h = go (bytes_eq x pa
 no_make reserved ts part _ names free i h = refl
 
 -- the acts of the plan make no part file of the state
-pub acts_make_none : (state : Path) (rules : Rules) (sets : List SetLooks) (now : Moment) (mailer : Path) (decide : Rule → LogLook → Due) (of_looks : List Fault) (looks : List Entry) (ms : List Mark) (fs : List Fault) (ts : List Entry) → AreBuiltRules rules.sets → ShowsLooks (reserved_by state) rules.sets sets of_looks looks
-    → SetsDone (map steps_of_set (all_plans now mailer decide rules.sets sets)) ms fs ts → makes_in (state_part state) ts ≡ []
-acts_make_none state rules sets now mailer decide of_looks looks ms fs ts built shown done =
-    none_pass (is_make (state_part state)) ts (each_as (MakesOnly (MakesOne (all_targets now decide rules.sets sets))) (λ e. is_make (state_part state) e ≡ false) ts
-    (λ e h. no_make (reserved_by state) (all_targets now decide rules.sets sets) (state_part state) e (targets_have_names rules sets of_looks looks now decide built shown) (targets_free rules.sets sets of_looks looks now decide shown) (inr (inl refl)) h)
-    (sets_parts (MakesOne (all_targets now decide rules.sets sets)) (map steps_of_set (all_plans now mailer decide rules.sets sets)) ms fs ts
-    (ready_planned (groups_of now decide rules.sets sets) (all_plans now mailer decide rules.sets sets) (plans_have_logs rules.sets sets of_looks looks now mailer decide built shown) (targets_apart rules.sets sets of_looks looks now decide shown)).plain done).only)
+pub acts_make_none : (state : Path) (rules : Rules) (sets : List SetLooks) (clock : Clock) (mailer : Path) (decide : Rule → LogLook → Due) (of_looks : List Fault) (looks : List Entry) (ms : List Mark) (fs : List Fault) (ts : List Entry) → ShowsLooks (reserved_by state) rules.sets sets of_looks looks
+    → SetsDone (map steps_of_set (all_plans clock mailer decide rules.sets sets)) ms fs ts → makes_in (state_part state) ts ≡ []
+acts_make_none state rules sets clock mailer decide of_looks looks ms fs ts shown done =
+    none_pass (is_make (state_part state)) ts (each_as (MakesOnly (MakesOne (all_targets clock decide rules.sets sets))) (λ e. is_make (state_part state) e ≡ false) ts
+    (λ e h. no_make (reserved_by state) (all_targets clock decide rules.sets sets) (state_part state) e (targets_have_names rules sets of_looks looks clock decide shown) (targets_free rules.sets sets of_looks looks clock decide shown) (inr (inl refl)) h)
+    (sets_parts (MakesOne (all_targets clock decide rules.sets sets)) (map steps_of_set (all_plans clock mailer decide rules.sets sets)) ms fs ts
+    (ready_planned (groups_of clock decide rules.sets sets) (all_plans clock mailer decide rules.sets sets) (plans_have_logs rules.sets sets of_looks looks clock mailer decide shown) (targets_apart rules.sets sets of_looks looks clock decide shown)).plain done).only)

@@ -1,11 +1,10 @@
 -- Two reports that were told of the same entries are one.
-use Rattle.std.proofs.Common.{◌≡◌, ◌<◌, ◌≤◌, ◌+◌, inl, inr, ℕ, ℤ, Bool, true, false, List, [], ◌∷◌, ◌++◌, Option, None, Some, length, refl, sym, ap, ◌∙◌, subst, codes, arith, append-nil, append_assoc, length-append}
+use Rattle.std.proofs.Common.{◌≡◌, ◌<◌, ◌≤◌, ◌+◌, inl, inr, ℕ, ℤ, Bool, true, false, List, [], ◌∷◌, ◌++◌, Option, None, Some, length, refl, sym, ap, ◌∙◌, subst, arith, append-nil, append_assoc, length-append}
 use Rattle.std.proofs.Math.Bool.{Bool-set}
 use Rattle.std.proofs.lemmas.Option.{same_Some}
 use Rattle.std.specs.List.{list_all}
 use Rattle.lr_rules.specs.Limits.{meets_limits}
 use Rattle.lr_rules.specs.Path.{parent_of}
-use Rattle.lr_rules.specs.declared.civil.Moment.{Moment}
 use Rattle.lr_rules.specs.declared.clock.Clock.{Clock}
 use Rattle.lr_rules.specs.declared.fault.Fault.{Fault}
 use Rattle.lr_rules.specs.declared.fault.Notice.{Notice}
@@ -24,6 +23,8 @@ use Rattle.lr_conf.specs.Meaning.{Meaning}
 use Rattle.lr_due.specs.declared.tz.Zone.{Zone}
 use Rattle.lr_due.specs.declared.tz.Zone.TheVariants.{Utc, Rule as RuleZone, File}
 use Rattle.lr_due.specs.declared.zone.ZoneText.{ZoneText}
+use Rattle.lr_due.specs.declared.zone.ZoneText.TheVariants.{Bytes}
+use Rattle.lr_due.specs.Zone.{IsClockIn}
 use Rattle.lr_host.specs.Counted.{call_in, calls_in}
 use Rattle.lr_fields.specs.Built.{AreBuiltRules}
 use Rattle.lr_plan.specs.Asked.{Asked, asking}
@@ -40,18 +41,19 @@ use Rattle.lr_cli.specs.Zone.{IsNotFile, ShowsZone, GivesBytes, LacksText, not_f
 use Rattle.lr_run.proofs.Called.{none_before, none_behind}
 use Rattle.lr_fixed.proofs.Called.{one_called, one_uncalled, no_call}
 use Rattle.lr_fixed.proofs.Peeled.{front_same, then_same, joined_same, one_look}
-use Rattle.lr_fixed.proofs.Run.{runs_at}
+use Rattle.lr_fixed.proofs.Clocks.{one_clock}
+use Rattle.lr_fixed.proofs.Run.{runs_one}
 use Rattle.lr_cli.proofs.Reached.{built_means}
 use Rattle.lr_read_fixed.proofs.OneReading.{readings_one}
 
 -- ---- a run begins with a look
 
 -- where none of its calls failed, it begins with a look
-run_look : (state : Path) (asked : Asked) (now : Moment) (rules : Rules) (plan : Option Plan) (own : List Fault) (ts : List Entry) → Runs state asked now rules plan own ts → calls_in own ≡ 0 → (seen : Option Seen) × (rest : List Entry) × (ts ≡ entry.Look (parent_of state) seen ∷ rest)
-run_look state asked now rules plan own ts (no_directory lost e s) z = (s.seen, [], s.look)
-run_look state asked now rules plan own ts (not_seen lost e none) z = absurd (one_called own _ e refl z)
-run_look state asked now rules plan own ts (not_begun lost e t) z = (t.first.seen, t.back, t.joined ∙ ap (λ vs. vs ++ t.back) t.first.look)
-run_look state asked now rules plan own ts (began i) z = (i.directory.seen, entry.Starts state now rules ∷ (i.between ++ entry.Ends ∷ []), i.entries ∙ ap (λ vs. vs ++ (entry.Starts state now rules ∷ (i.between ++ entry.Ends ∷ []))) i.directory.look)
+run_look : (state : Path) (asked : Asked) (clock : Clock) (rules : Rules) (plan : Option Plan) (own : List Fault) (ts : List Entry) → Runs state asked clock rules plan own ts → calls_in own ≡ 0 → (seen : Option Seen) × (rest : List Entry) × (ts ≡ entry.Look (parent_of state) seen ∷ rest)
+run_look state asked clock rules plan own ts (no_directory lost e s) z = (s.seen, [], s.look)
+run_look state asked clock rules plan own ts (not_seen lost e none) z = absurd (one_called own _ e refl z)
+run_look state asked clock rules plan own ts (not_begun lost e t) z = (t.first.seen, t.back, t.joined ∙ ap (λ vs. vs ++ t.back) t.first.look)
+run_look state asked clock rules plan own ts (began i) z = (i.directory.seen, entry.Starts state clock.now rules ∷ (i.between ++ entry.Ends ∷ []), i.entries ∙ ap (λ vs. vs ++ (entry.Starts state clock.now rules ∷ (i.between ++ entry.Ends ∷ []))) i.directory.look)
 
 -- ---- records with the same parts
 
@@ -67,13 +69,13 @@ rules_same a b e = go a.sets b.sets a.limits b.limits e
 -- ---- a reading and the run behind it
 
 -- where a report tells no failed call, the reading tells none
-read_none : (request : Request) (now : Moment) (plan : Option Plan) (notices : List Notice) (faults : List Fault) (ts : List Entry) (p : Reports request now plan notices faults ts) → calls_in faults ≡ 0 → calls_in p.meaning.faults ≡ 0
-read_none request now plan notices faults ts p c = none_before faults p.meaning.faults p.own p.faults_are c
+read_none : (request : Request) (clock : Clock) (plan : Option Plan) (notices : List Notice) (faults : List Fault) (ts : List Entry) (p : Reports request clock plan notices faults ts) → calls_in faults ≡ 0 → calls_in p.meaning.faults ≡ 0
+read_none request clock plan notices faults ts p c = none_before faults p.meaning.faults p.own p.faults_are c
 
-module _ (request : Request) (dry : request.debug ≡ false) (now other : Moment) (plan another : Option Plan) (notices others : List Notice) (faults more : List Fault) (ts us : List Entry) (same : ts ≡ us) (p : Reports request now plan notices faults ts) (q : Reports request other another others more us) (c : calls_in faults ≡ 0) (d : calls_in more ≡ 0) where
+module _ (request : Request) (dry : request.debug ≡ false) (clock : Clock) (plan another : Option Plan) (notices others : List Notice) (faults more : List Fault) (ts us : List Entry) (same : ts ≡ us) (p : Reports request clock plan notices faults ts) (q : Reports request clock another others more us) (c : calls_in faults ≡ 0) (d : calls_in more ≡ 0) where
   both_read : (p.meaning ≡ q.meaning) × (p.entries.front ≡ q.entries.front) × (p.entries.back ≡ q.entries.back)
   both_read = readings_one request.confs p.meaning q.meaning p.entries.front q.entries.front p.entries.back q.entries.back p.entries.first q.entries.first
-      (read_none request now plan notices faults ts p c) (read_none request other another others more us q d)
+      (read_none request clock plan notices faults ts p c) (read_none request clock another others more us q d)
       (sym p.entries.joined ∙ (same ∙ q.entries.joined))
 
   back_is : p.entries.back ≡ q.entries.back
@@ -89,15 +91,15 @@ module _ (request : Request) (dry : request.debug ≡ false) (now other : Moment
   are_built = subst AreBuiltRules (sym p.rules_are) (built_means request.confs p.meaning p.entries.front p.entries.first)
 
   -- the one run, and the other, over the rules and the entries of the one
-  one_run : Runs request.state (asking request.force request.mailer) now p.rules plan p.own p.entries.back
-  one_run = subst (λ (b : Bool). Leaves b request.state (asking request.force request.mailer) now p.rules plan p.own p.entries.back) dry p.entries.second
+  one_run : Runs request.state (asking request.force request.mailer) clock p.rules plan p.own p.entries.back
+  one_run = subst (λ (b : Bool). Leaves b request.state (asking request.force request.mailer) clock p.rules plan p.own p.entries.back) dry p.entries.second
 
-  as_run : Runs request.state (asking request.force request.mailer) other p.rules another q.own p.entries.back
-  as_run = subst (λ (r : Rules). Runs request.state (asking request.force request.mailer) other r another q.own p.entries.back) (sym rules_is) (subst (λ vs. Runs request.state (asking request.force request.mailer) other q.rules another q.own vs) (sym back_is)
-      (subst (λ (b : Bool). Leaves b request.state (asking request.force request.mailer) other q.rules another q.own q.entries.back) dry q.entries.second))
+  as_run : Runs request.state (asking request.force request.mailer) clock p.rules another q.own p.entries.back
+  as_run = subst (λ (r : Rules). Runs request.state (asking request.force request.mailer) clock r another q.own p.entries.back) (sym rules_is) (subst (λ vs. Runs request.state (asking request.force request.mailer) clock q.rules another q.own vs) (sym back_is)
+      (subst (λ (b : Bool). Leaves b request.state (asking request.force request.mailer) clock q.rules another q.own q.entries.back) dry q.entries.second))
 
   own_is : p.own ≡ q.own
-  own_is = runs_at request.state (asking request.force request.mailer) now other p.rules plan another p.own q.own p.entries.back are_built one_run as_run
+  own_is = runs_one request.state (asking request.force request.mailer) clock p.rules plan another p.own q.own p.entries.back are_built one_run as_run
       (none_behind faults p.meaning.faults p.own p.faults_are c) (none_behind more q.meaning.faults q.own q.faults_are d)
 
   told_one : (notices ≡ others) × (faults ≡ more)
@@ -108,9 +110,9 @@ module _ (request : Request) (dry : request.debug ≡ false) (now other : Moment
 
 -- ---- a report has entries
 
-reports_some : (request : Request) → request.debug ≡ false → (now : Moment) (plan : Option Plan) (notices : List Notice) (faults : List Fault) (ts : List Entry) → Reports request now plan notices faults ts → calls_in faults ≡ 0 → ts ≡ [] → ⊥
-reports_some request dry now plan notices faults ts p c none =
-    let l = run_look request.state (asking request.force request.mailer) now p.rules plan p.own p.entries.back (subst (λ (b : Bool). Leaves b request.state (asking request.force request.mailer) now p.rules plan p.own p.entries.back) dry p.entries.second) (none_behind faults p.meaning.faults p.own p.faults_are c) in
+reports_some : (request : Request) → request.debug ≡ false → (clock : Clock) (plan : Option Plan) (notices : List Notice) (faults : List Fault) (ts : List Entry) → Reports request clock plan notices faults ts → calls_in faults ≡ 0 → ts ≡ [] → ⊥
+reports_some request dry clock plan notices faults ts p c none =
+    let l = run_look request.state (asking request.force request.mailer) clock p.rules plan p.own p.entries.back (subst (λ (b : Bool). Leaves b request.state (asking request.force request.mailer) clock p.rules plan p.own p.entries.back) dry p.entries.second) (none_behind faults p.meaning.faults p.own p.faults_are c) in
     let n : length ts ≡ 0 = ap (λ (l : List Entry). length l) none in
     let j : length ts ≡ length (p.entries.front ++ p.entries.back) = ap (λ (l : List Entry). length l) p.entries.joined in
     let m : length (p.entries.front ++ p.entries.back) ≡ length p.entries.front + length p.entries.back = length-append p.entries.front p.entries.back in
@@ -152,11 +154,18 @@ one_file path other bytes more ts us vs ws t u e =
 all_of : (path : Path) (bytes : List ℕ) (ts : List Entry) → Then (Sees path IsFile) (GivesBytes path bytes) ts → Then (Sees path IsFile) (ReadsAll path 1048577 bytes) ts
 all_of path bytes ts t = record { front = t.front; back = t.back; joined = t.joined; first = t.first; second = t.second.1 }
 
--- of two zones that are one the entries are the same, and what comes behind them
-zone_one : (zone : Zone) (a b : ZoneText) (ts us vs ws : List Entry) → ShowsZone zone a ts → ShowsZone zone b us → ts ++ vs ≡ us ++ ws → (ts ≡ us) × (vs ≡ ws)
-zone_one Utc a b ts us vs ws h g e = (h.1 ∙ sym g.1, front_same ts us [] [] vs ws h.1 g.1 e)
-zone_one (RuleZone rule) a b ts us vs ws h g e = (h.1 ∙ sym g.1, front_same ts us [] [] vs ws h.1 g.1 e)
-zone_one (File path) a b ts us vs ws h g e = let o = one_file path path h.0 g.0 ts us vs ws (all_of path h.0 ts h.2) (all_of path g.0 us g.2) e in (o.files_are, o.rest_is)
+-- of two zones that are one the texts are the same, the entries, and what comes behind them
+record OneZone (a b : ZoneText) (ts us vs ws : List Entry) : Type 0 where
+  text_is : a ≡ b
+  looks_are : ts ≡ us
+  rest_is : vs ≡ ws
+
+zone_one : (zone : Zone) (a b : ZoneText) (ts us vs ws : List Entry) → ShowsZone zone a ts → ShowsZone zone b us → ts ++ vs ≡ us ++ ws → OneZone a b ts us vs ws
+zone_one Utc a b ts us vs ws h g e = record { text_is = h.0 ∙ sym g.0; looks_are = h.1 ∙ sym g.1; rest_is = front_same ts us [] [] vs ws h.1 g.1 e }
+zone_one (RuleZone rule) a b ts us vs ws h g e = record { text_is = h.0 ∙ sym g.0; looks_are = h.1 ∙ sym g.1; rest_is = front_same ts us [] [] vs ws h.1 g.1 e }
+zone_one (File path) a b ts us vs ws h g e =
+    let o = one_file path path h.0 g.0 ts us vs ws (all_of path h.0 ts h.2) (all_of path g.0 us g.2) e in
+    record { text_is = h.1 ∙ (ap Bytes o.bytes_are ∙ sym g.1); looks_are = o.files_are; rest_is = o.rest_is }
 
 too_long : (path other : Path) (bytes more : List ℕ) (ts us vs ws : List Entry) → 1048576 < length bytes → Then (Sees path IsFile) (ReadsAll path 1048577 bytes) ts → Then (Sees other IsFile) (GivesBytes other more) us → ts ++ vs ≡ us ++ ws → ⊥
 too_long path other bytes more ts us vs ws big t u e =
@@ -175,12 +184,12 @@ text_or_not zone f text ts us vs ws (look_failed path z e none) n h same = no_ca
 text_or_not zone f text ts us vs ws (read_failed path z e t) n h same = no_call f _ e refl n
 
 -- where there is no clock, no report comes behind
-clocked_or_not : (request : Request) → request.debug ≡ false → (zone : Zone) (seconds : ℤ) (clock : Clock) (plan : Option Plan) (notices : List Notice) (faults : List Fault) (f : Fault) (ts : List Entry) → Then (ShowsClock zone seconds clock) (Reports request clock.now plan notices faults) ts → calls_in faults ≡ 0
+clocked_or_not : (request : Request) → request.debug ≡ false → (zone : Zone) (seconds : ℤ) (clock : Clock) (plan : Option Plan) (notices : List Notice) (faults : List Fault) (f : Fault) (ts : List Entry) → Then (ShowsClock zone seconds clock) (Reports request clock plan notices faults) ts → calls_in faults ≡ 0
     → LacksClock zone seconds f ts → call_in f ≡ 0 → ⊥
 clocked_or_not request dry zone seconds clock plan notices faults f ts t c (out_of_range out e none) n = out t.first.in_range
 clocked_or_not request dry zone seconds clock plan notices faults f ts t c (no_text range l) n = text_or_not zone f t.first.text ts t.front [] t.back l n t.first.shows (append-nil ts ∙ t.joined)
 clocked_or_not request dry zone seconds clock plan notices faults f ts t c (refused text range e r s) n =
-    reports_some request dry clock.now plan notices faults t.back t.second c (sym (zone_one zone text t.first.text ts t.front [] t.back s t.first.shows (append-nil ts ∙ t.joined)).1)
+    reports_some request dry clock plan notices faults t.back t.second c (sym (zone_one zone text t.first.text ts t.front [] t.back s t.first.shows (append-nil ts ∙ t.joined)).rest_is)
 
 text_one : (zone : Zone) (f g : Fault) (ts : List Entry) → LacksText zone f ts → LacksText zone g ts → call_in f ≡ 0 → call_in g ≡ 0 → f ≡ g
 text_one zone f g ts (look_failed path z e none) m c d = absurd (no_call f _ e refl c)
@@ -220,12 +229,17 @@ alone_faults a f e = ap (λ (r : Report). r.faults) (report_same a (alone f) e)
 both_same : (a b : Report) → a ≡ b → (a.notices ≡ b.notices) × (a.faults ≡ b.faults)
 both_same a b e = (ap (λ (r : Report). r.notices) e, ap (λ (r : Report). r.faults) e)
 
-both_clocked : (request : Request) → request.debug ≡ false → (zone : Zone) (seconds : ℤ) (clock other : Clock) (plan another : Option Plan) (one two : Report) (ts : List Entry) → Then (ShowsClock zone seconds clock) (Reports request clock.now plan one.notices one.faults) ts
-    → Then (ShowsClock zone seconds other) (Reports request other.now another two.notices two.faults) ts → calls_in one.faults ≡ 0 → calls_in two.faults ≡ 0 → (one.notices ≡ two.notices) × (one.faults ≡ two.faults)
-both_clocked request dry zone seconds clock other plan another one two ts t u c d = told_one request dry clock.now other.now plan another one.notices two.notices one.faults two.faults t.back u.back same.1 t.second u.second c d
+both_clocked : (request : Request) → request.debug ≡ false → (zone : Zone) (seconds : ℤ) (clock other : Clock) (plan another : Option Plan) (one two : Report) (ts : List Entry) → Then (ShowsClock zone seconds clock) (Reports request clock plan one.notices one.faults) ts
+    → Then (ShowsClock zone seconds other) (Reports request other another two.notices two.faults) ts → calls_in one.faults ≡ 0 → calls_in two.faults ≡ 0 → (one.notices ≡ two.notices) × (one.faults ≡ two.faults)
+both_clocked request dry zone seconds clock other plan another one two ts t u c d =
+    told_one request dry clock plan another one.notices two.notices one.faults two.faults t.back u.back same.rest_is t.second (subst (λ (k : Clock). Reports request k another two.notices two.faults u.back) (sym clock_is) u.second) c d
   where
-    same : (t.front ≡ u.front) × (t.back ≡ u.back)
+    same : OneZone t.first.text u.first.text t.front u.front t.back u.back
     same = zone_one zone t.first.text u.first.text t.front u.front t.back u.back t.first.shows u.first.shows (sym t.joined ∙ u.joined)
+
+    -- the zone's text has one clock at these seconds
+    clock_is : clock ≡ other
+    clock_is = one_clock t.first.text seconds clock other t.first.clock_is (subst (λ (x : ZoneText). IsClockIn x seconds other) (sym same.text_is) u.first.clock_is)
 
 at_one : (request : Request) → request.debug ≡ false → (zone : Zone) (seconds : ℤ) (plan another : Option Plan) (one other : Report) (ts : List Entry) → AnswersAt request zone seconds plan (Done one) ts → AnswersAt request zone seconds another (Done other) ts → calls_in one.faults ≡ 0 → calls_in other.faults ≡ 0
     → (one.notices ≡ other.notices) × (one.faults ≡ other.faults)

@@ -1,7 +1,7 @@
 -- Two runs that left the same entries met the same faults.
-use Rattle.std.proofs.Common.{◌≡◌, Bool, Option, List, [], ◌∷◌, ◌++◌, length, refl, sym, ap, ◌∙◌, subst, arith}
+use Rattle.std.proofs.Common.{◌≡◌, Option, List, [], ◌∷◌, ◌++◌, length, refl, sym, ap, ◌∙◌, arith}
 use Rattle.std.proofs.lemmas.List.{append_cancel_right, append-nil}
-use Rattle.lr_rules.specs.declared.civil.Moment.{Moment}
+use Rattle.lr_rules.specs.declared.clock.Clock.{Clock}
 use Rattle.lr_rules.specs.declared.fault.Fault.{Fault}
 use Rattle.lr_rules.specs.declared.path.Path.{Path}
 use Rattle.lr_rules.specs.declared.rules.Rules.{Rules}
@@ -15,57 +15,32 @@ use Rattle.lr_plan.specs.Asked.{Asked}
 use Rattle.lr_plan.specs.declared.planned.Plan.{Plan}
 use Rattle.lr_run.specs.Runs.{Runs, no_directory, not_seen, not_begun, began}
 use Rattle.lr_fixed.proofs.Called.{one_called}
-use Rattle.lr_fixed.proofs.Peeled.{first_same, one_look, others_same}
+use Rattle.lr_fixed.proofs.Peeled.{one_look, others_same}
 use Rattle.lr_fixed.proofs.Works.{works_one}
 
 -- a look alone isn't a look with a start behind it
-alone_or_begun : (path : Path) (state : Path) (now : Moment) (rules : Rules) (rest before ts : List Entry) → Sees path IsNotDir ts → Sees path IsDir before → ts ≡ before ++ (entry.Starts state now rules ∷ rest) → ⊥
-alone_or_begun path state now rules rest before ts s b e = ends (one_look path path ts before [] (entry.Starts state now rules ∷ rest) s b (append-nil ts ∙ e)).rest_is
+alone_or_begun : (path : Path) (state : Path) (clock : Clock) (rules : Rules) (rest before ts : List Entry) → Sees path IsNotDir ts → Sees path IsDir before → ts ≡ before ++ (entry.Starts state clock.now rules ∷ rest) → ⊥
+alone_or_begun path state clock rules rest before ts s b e = ends (one_look path path ts before [] (entry.Starts state clock.now rules ∷ rest) s b (append-nil ts ∙ e)).rest_is
   where
-    ends : [] ≡ entry.Starts state now rules ∷ rest → ⊥
+    ends : [] ≡ entry.Starts state clock.now rules ∷ rest → ⊥
     ends q = let n = ap (λ (l : List Entry). length l) q in omega (arith, n)
 
 -- what lies between the starts and the ends of the same entries is the same
-between_same : (path : Path) (state : Path) (now : Moment) (rules : Rules) (before others xs ys ts : List Entry) → Sees path IsDir before → Sees path IsDir others
-    → ts ≡ before ++ (entry.Starts state now rules ∷ (xs ++ entry.Ends ∷ [])) → ts ≡ others ++ (entry.Starts state now rules ∷ (ys ++ entry.Ends ∷ [])) → xs ≡ ys
-between_same path state now rules before others xs ys ts s t e f = append_cancel_right xs ys (entry.Ends ∷ []) (others_same _ _ (xs ++ entry.Ends ∷ []) (ys ++ entry.Ends ∷ [])
-    (one_look path path before others (entry.Starts state now rules ∷ (xs ++ entry.Ends ∷ [])) (entry.Starts state now rules ∷ (ys ++ entry.Ends ∷ [])) s t (sym e ∙ f)).rest_is)
+between_same : (path : Path) (state : Path) (clock : Clock) (rules : Rules) (before others xs ys ts : List Entry) → Sees path IsDir before → Sees path IsDir others
+    → ts ≡ before ++ (entry.Starts state clock.now rules ∷ (xs ++ entry.Ends ∷ [])) → ts ≡ others ++ (entry.Starts state clock.now rules ∷ (ys ++ entry.Ends ∷ [])) → xs ≡ ys
+between_same path state clock rules before others xs ys ts s t e f = append_cancel_right xs ys (entry.Ends ∷ []) (others_same _ _ (xs ++ entry.Ends ∷ []) (ys ++ entry.Ends ∷ [])
+    (one_look path path before others (entry.Starts state clock.now rules ∷ (xs ++ entry.Ends ∷ [])) (entry.Starts state clock.now rules ∷ (ys ++ entry.Ends ∷ [])) s t (sym e ∙ f)).rest_is)
 
 -- two runs that left the same entries, and of which no call failed, met the same faults
-pub runs_one : (state : Path) (asked : Asked) (now : Moment) (rules : Rules) (plan another : Option Plan) (own more : List Fault) (ts : List Entry) → AreBuiltRules rules.sets → Runs state asked now rules plan own ts → Runs state asked now rules another more ts → calls_in own ≡ 0 → calls_in more ≡ 0 → own ≡ more
-runs_one state asked now rules plan another own more ts built (not_seen lost e s) r c d = absurd (one_called own _ e refl c)
-runs_one state asked now rules plan another own more ts built (not_begun lost e s) r c d = absurd (one_called own _ e refl c)
-runs_one state asked now rules plan another own more ts built (no_directory lost e s) (not_seen gone f t) c d = absurd (one_called more _ f refl d)
-runs_one state asked now rules plan another own more ts built (no_directory lost e s) (not_begun gone f t) c d = absurd (one_called more _ f refl d)
-runs_one state asked now rules plan another own more ts built (no_directory lost e s) (no_directory gone f t) c d = e ∙ sym f
-runs_one state asked now rules plan another own more ts built (no_directory lost e s) (began j) c d = absurd (alone_or_begun (parent_of state) state now rules (j.between ++ entry.Ends ∷ []) j.before ts s j.directory j.entries)
-runs_one state asked now rules plan another own more ts built (began i) (not_seen gone f t) c d = absurd (one_called more _ f refl d)
-runs_one state asked now rules plan another own more ts built (began i) (not_begun gone f t) c d = absurd (one_called more _ f refl d)
-runs_one state asked now rules plan another own more ts built (began i) (no_directory gone f t) c d = absurd (alone_or_begun (parent_of state) state now rules (i.between ++ entry.Ends ∷ []) i.before ts t i.directory i.entries)
-runs_one state asked now rules plan another own more ts built (began i) (began j) c d = works_one state rules.sets now asked own more i.between j.between built
-    (between_same (parent_of state) state now rules i.before j.before i.between j.between ts i.directory j.directory i.entries j.entries) c d rules.limits i.within j.within
-
--- ---- at moments that may differ
-
-start_same : (state : Path) (rules : Rules) (now other : Moment) → entry.Starts state now rules ≡ entry.Starts state other rules → now ≡ other
-start_same state rules now other e = cc
-
-started_same : (path : Path) (state : Path) (now other : Moment) (rules : Rules) (before others xs ys ts : List Entry) → Sees path IsDir before → Sees path IsDir others → ts ≡ before ++ (entry.Starts state now rules ∷ xs) → ts ≡ others ++ (entry.Starts state other rules ∷ ys) → now ≡ other
-started_same path state now other rules before others xs ys ts s t e f = start_same state rules now other (first_same (entry.Starts state now rules) (entry.Starts state other rules) xs ys
-    (one_look path path before others (entry.Starts state now rules ∷ xs) (entry.Starts state other rules ∷ ys) s t (sym e ∙ f)).rest_is)
-
--- where such runs started, the start tells their moment, so it is one
-pub runs_at : (state : Path) (asked : Asked) (now other : Moment) (rules : Rules) (plan another : Option Plan) (own more : List Fault) (ts : List Entry) → AreBuiltRules rules.sets → Runs state asked now rules plan own ts → Runs state asked other rules another more ts → calls_in own ≡ 0 → calls_in more ≡ 0 → own ≡ more
-runs_at state asked now other rules plan another own more ts built (not_seen lost e s) r c d = absurd (one_called own _ e refl c)
-runs_at state asked now other rules plan another own more ts built (not_begun lost e s) r c d = absurd (one_called own _ e refl c)
-runs_at state asked now other rules plan another own more ts built (no_directory lost e s) (not_seen gone f t) c d = absurd (one_called more _ f refl d)
-runs_at state asked now other rules plan another own more ts built (no_directory lost e s) (not_begun gone f t) c d = absurd (one_called more _ f refl d)
-runs_at state asked now other rules plan another own more ts built (no_directory lost e s) (no_directory gone f t) c d = e ∙ sym f
-runs_at state asked now other rules plan another own more ts built (no_directory lost e s) (began j) c d = absurd (alone_or_begun (parent_of state) state other rules (j.between ++ entry.Ends ∷ []) j.before ts s j.directory j.entries)
-runs_at state asked now other rules plan another own more ts built (began i) (not_seen gone f t) c d = absurd (one_called more _ f refl d)
-runs_at state asked now other rules plan another own more ts built (began i) (not_begun gone f t) c d = absurd (one_called more _ f refl d)
-runs_at state asked now other rules plan another own more ts built (began i) (no_directory gone f t) c d = absurd (alone_or_begun (parent_of state) state now rules (i.between ++ entry.Ends ∷ []) i.before ts t i.directory i.entries)
-runs_at state asked now other rules plan another own more ts built (began i) (began j) c d = runs_one state asked now rules plan another own more ts built (began i) (subst (λ (m : Moment). Runs state asked m rules another more ts) (sym same) (began j)) c d
-  where
-    same : now ≡ other
-    same = started_same (parent_of state) state now other rules i.before j.before (i.between ++ entry.Ends ∷ []) (j.between ++ entry.Ends ∷ []) ts i.directory j.directory i.entries j.entries
+pub runs_one : (state : Path) (asked : Asked) (clock : Clock) (rules : Rules) (plan another : Option Plan) (own more : List Fault) (ts : List Entry) → AreBuiltRules rules.sets → Runs state asked clock rules plan own ts → Runs state asked clock rules another more ts → calls_in own ≡ 0 → calls_in more ≡ 0 → own ≡ more
+runs_one state asked clock rules plan another own more ts built (not_seen lost e s) r c d = absurd (one_called own _ e refl c)
+runs_one state asked clock rules plan another own more ts built (not_begun lost e s) r c d = absurd (one_called own _ e refl c)
+runs_one state asked clock rules plan another own more ts built (no_directory lost e s) (not_seen gone f t) c d = absurd (one_called more _ f refl d)
+runs_one state asked clock rules plan another own more ts built (no_directory lost e s) (not_begun gone f t) c d = absurd (one_called more _ f refl d)
+runs_one state asked clock rules plan another own more ts built (no_directory lost e s) (no_directory gone f t) c d = e ∙ sym f
+runs_one state asked clock rules plan another own more ts built (no_directory lost e s) (began j) c d = absurd (alone_or_begun (parent_of state) state clock rules (j.between ++ entry.Ends ∷ []) j.before ts s j.directory j.entries)
+runs_one state asked clock rules plan another own more ts built (began i) (not_seen gone f t) c d = absurd (one_called more _ f refl d)
+runs_one state asked clock rules plan another own more ts built (began i) (not_begun gone f t) c d = absurd (one_called more _ f refl d)
+runs_one state asked clock rules plan another own more ts built (began i) (no_directory gone f t) c d = absurd (alone_or_begun (parent_of state) state clock rules (i.between ++ entry.Ends ∷ []) i.before ts t i.directory i.entries)
+runs_one state asked clock rules plan another own more ts built (began i) (began j) c d = works_one state rules.sets clock asked own more i.between j.between
+    (between_same (parent_of state) state clock rules i.before j.before i.between j.between ts i.directory j.directory i.entries j.entries) c d rules.limits i.within j.within

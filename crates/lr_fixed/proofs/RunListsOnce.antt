@@ -1,7 +1,7 @@
 -- A run lists a directory once, and once for each wildcard.
-use Rattle.std.proofs.Common.{◌≤◌, ◌+◌, inl, inr, ℕ, Bool, Option, List, [], ◌∷◌, ◌++◌, reverse, refl, sym, subst, arith}
+use Rattle.std.proofs.Common.{◌≤◌, ◌+◌, inl, inr, ℕ, Option, List, [], ◌∷◌, ◌++◌, reverse, refl, sym, subst, arith}
 use Rattle.std.proofs.lemmas.List.{reverse-reverse}
-use Rattle.lr_rules.specs.declared.civil.Moment.{Moment}
+use Rattle.lr_rules.specs.declared.clock.Clock.{Clock}
 use Rattle.lr_rules.specs.declared.fault.Fault.{Fault}
 use Rattle.lr_rules.specs.declared.path.Path.{Path}
 use Rattle.lr_rules.specs.declared.rule.Rule.{Rule}
@@ -58,37 +58,37 @@ looked_once p q state rules ts dir m l none =
     omega (arith, j, k, a, b, e)
 
 -- the acts of the plan, and the writing of the state
-acts_none : (state : Path) (rules : List Rule) (now : Moment) (asked : Asked) (faults : List Fault) (ts : List Entry) → AreBuiltRules rules → (w : Worked state rules now asked faults ts) → AreNoListings w.looked.acts
-acts_none state rules now asked faults ts built w = none_both w.looked.acts
-    (λ us h. moves_list_none us (plan_moves rules w.looked.sets now asked.mailer (decision w.looked.remembered.table now asked.force) w.acted.marks w.acted.entries.of_plan us h))
+acts_none : (state : Path) (rules : List Rule) (clock : Clock) (asked : Asked) (faults : List Fault) (ts : List Entry) → (w : Worked state rules clock asked faults ts) → AreNoListings w.looked.acts
+acts_none state rules clock asked faults ts w = none_both w.looked.acts
+    (λ us h. moves_list_none us (plan_moves rules w.looked.sets clock asked.mailer (decision w.looked.remembered.table clock.now asked.force) w.acted.marks w.acted.entries.of_plan us h))
     (λ us h. state_written_none state w.looked.remembered.stale w.acted.dirs _ w.acted.entries.of_state us h) w.acted.entries.entries
 
-works_once : (p q : Past) (state : Path) (rules : List Rule) (now : Moment) (asked : Asked) (plan : Option Plan) (faults : List Fault) (ts : List Entry) (dir : Path) → Made p (reverse ts) q → AreBuiltRules rules → Works state rules now asked plan faults ts → listings_of dir ts ≤ wildcards_of rules + 1
-works_once p q state rules now asked plan faults ts dir m built (not_known sights f known lost is shown) = none_once (wildcards_of rules) dir ts (state_read_none state 65_536 sights ts shown)
-works_once p q state rules now asked plan faults ts dir m built (too_big l big lost is none) = looked_once p q state rules ts dir m l (none_empty l.acts none)
-works_once p q state rules now asked plan faults ts dir m built (worked w is) = looked_once p q state rules ts dir m w.looked (acts_none state rules now asked faults ts built w)
+works_once : (p q : Past) (state : Path) (rules : List Rule) (clock : Clock) (asked : Asked) (plan : Option Plan) (faults : List Fault) (ts : List Entry) (dir : Path) → Made p (reverse ts) q → Works state rules clock asked plan faults ts → listings_of dir ts ≤ wildcards_of rules + 1
+works_once p q state rules clock asked plan faults ts dir m (not_known sights f known lost is shown) = none_once (wildcards_of rules) dir ts (state_read_none state 65_536 sights ts shown)
+works_once p q state rules clock asked plan faults ts dir m (too_big l big lost is none) = looked_once p q state rules ts dir m l (none_empty l.acts none)
+works_once p q state rules clock asked plan faults ts dir m (worked w is) = looked_once p q state rules ts dir m w.looked (acts_none state rules clock asked faults ts w)
 
 -- between the begin and the end of a run
-inside_once : (p q : Past) (state : Path) (asked : Asked) (now : Moment) (rules : Rules) (plan : Option Plan) (faults : List Fault) (ts : List Entry) (dir : Path) → Made p (reverse ts) q → AreBuiltRules rules.sets → Inside state now rules (Works state rules.sets now asked plan faults) ts → listings_of dir ts ≤ wildcards_of rules.sets + 1
-inside_once p q state asked now rules plan faults ts dir m built i =
-    let c : Cut p q (reverse (entry.Starts state now rules ∷ (i.between ++ entry.Ends ∷ []))) (reverse i.before) = cut_at p q ts i.before (entry.Starts state now rules ∷ (i.between ++ entry.Ends ∷ [])) i.entries m in
-    let d : Cut c.mid q (reverse (i.between ++ entry.Ends ∷ [])) (reverse (entry.Starts state now rules ∷ [])) = cut_at c.mid q (entry.Starts state now rules ∷ (i.between ++ entry.Ends ∷ [])) (entry.Starts state now rules ∷ []) (i.between ++ entry.Ends ∷ []) refl c.second in
+inside_once : (p q : Past) (state : Path) (asked : Asked) (clock : Clock) (rules : Rules) (plan : Option Plan) (faults : List Fault) (ts : List Entry) (dir : Path) → Made p (reverse ts) q → Inside state clock rules (Works state rules.sets clock asked plan faults) ts → listings_of dir ts ≤ wildcards_of rules.sets + 1
+inside_once p q state asked clock rules plan faults ts dir m i =
+    let c : Cut p q (reverse (entry.Starts state clock.now rules ∷ (i.between ++ entry.Ends ∷ []))) (reverse i.before) = cut_at p q ts i.before (entry.Starts state clock.now rules ∷ (i.between ++ entry.Ends ∷ [])) i.entries m in
+    let d : Cut c.mid q (reverse (i.between ++ entry.Ends ∷ [])) (reverse (entry.Starts state clock.now rules ∷ [])) = cut_at c.mid q (entry.Starts state clock.now rules ∷ (i.between ++ entry.Ends ∷ [])) (entry.Starts state clock.now rules ∷ []) (i.between ++ entry.Ends ∷ []) refl c.second in
     let e : Cut d.mid q (reverse (entry.Ends ∷ [])) (reverse i.between) = cut_at d.mid q (i.between ++ entry.Ends ∷ []) i.between (entry.Ends ∷ []) refl d.second in
-    let j = count_joined dir ts i.before (entry.Starts state now rules ∷ (i.between ++ entry.Ends ∷ [])) i.entries in
+    let j = count_joined dir ts i.before (entry.Starts state clock.now rules ∷ (i.between ++ entry.Ends ∷ [])) i.entries in
     let a = count_none dir i.before (sees_none (parent_of state) IsDir i.before i.directory) in
     let k = count_joined dir (i.between ++ entry.Ends ∷ []) i.between (entry.Ends ∷ []) refl in
-    let b = works_once d.mid e.mid state rules.sets now asked plan faults i.between dir e.first built i.within in
+    let b = works_once d.mid e.mid state rules.sets clock asked plan faults i.between dir e.first i.within in
     omega (arith, j, a, k, b)
 
-maybe_starts : (state : Path) (now : Moment) (rules : Rules) (ts : List Entry) → Maybe (entry.Starts state now rules) ts → AreNoListings ts
-maybe_starts state now rules ts (inl e) = none_empty ts e
-maybe_starts state now rules ts (inr e) = subst AreNoListings (sym e) (tt, tt)
+maybe_starts : (state : Path) (clock : Clock) (rules : Rules) (ts : List Entry) → Maybe (entry.Starts state clock.now rules) ts → AreNoListings ts
+maybe_starts state clock rules ts (inl e) = none_empty ts e
+maybe_starts state clock rules ts (inr e) = subst AreNoListings (sym e) (tt, tt)
 
-run_once_on : (p q : Past) (state : Path) (asked : Asked) (now : Moment) (rules : Rules) (plan : Option Plan) (own : List Fault) (ts : List Entry) → AreBuiltRules rules.sets → Made p (reverse ts) q → Runs state asked now rules plan own ts → (dir : Path) → listings_of dir ts ≤ wildcards_of rules.sets + 1
-run_once_on p q state asked now rules plan own ts built m (no_directory lost is s) dir = none_once (wildcards_of rules.sets) dir ts (sees_none (parent_of state) IsNotDir ts s)
-run_once_on p q state asked now rules plan own ts built m (not_seen lost is e) dir = none_once (wildcards_of rules.sets) dir ts (none_empty ts e)
-run_once_on p q state asked now rules plan own ts built m (not_begun lost is t) dir = none_once (wildcards_of rules.sets) dir ts (none_both ts (sees_none (parent_of state) IsDir) (maybe_starts state now rules) t)
-run_once_on p q state asked now rules plan own ts built m (began i) dir = inside_once p q state asked now rules plan own ts dir m built i
+run_once_on : (p q : Past) (state : Path) (asked : Asked) (clock : Clock) (rules : Rules) (plan : Option Plan) (own : List Fault) (ts : List Entry) → Made p (reverse ts) q → Runs state asked clock rules plan own ts → (dir : Path) → listings_of dir ts ≤ wildcards_of rules.sets + 1
+run_once_on p q state asked clock rules plan own ts m (no_directory lost is s) dir = none_once (wildcards_of rules.sets) dir ts (sees_none (parent_of state) IsNotDir ts s)
+run_once_on p q state asked clock rules plan own ts m (not_seen lost is e) dir = none_once (wildcards_of rules.sets) dir ts (none_empty ts e)
+run_once_on p q state asked clock rules plan own ts m (not_begun lost is t) dir = none_once (wildcards_of rules.sets) dir ts (none_both ts (sees_none (parent_of state) IsDir) (maybe_starts state clock rules) t)
+run_once_on p q state asked clock rules plan own ts m (began i) dir = inside_once p q state asked clock rules plan own ts dir m i
 
-pub run_once : (state : Path) (asked : Asked) (now : Moment) (rules : Rules) (plan : Option Plan) (own : List Fault) (p q : Past) (es : List Entry) → AreBuiltRules rules.sets → Made p es q → Runs state asked now rules plan own (reverse es) → (dir : Path) → listings_of dir (reverse es) ≤ wildcards_of rules.sets + 1
-run_once state asked now rules plan own p q es built m r dir = run_once_on p q state asked now rules plan own (reverse es) built (subst (λ us. Made p us q) (sym (reverse-reverse es)) m) r dir
+pub run_once : (state : Path) (asked : Asked) (clock : Clock) (rules : Rules) (plan : Option Plan) (own : List Fault) (p q : Past) (es : List Entry) → AreBuiltRules rules.sets → Made p es q → Runs state asked clock rules plan own (reverse es) → (dir : Path) → listings_of dir (reverse es) ≤ wildcards_of rules.sets + 1
+run_once state asked clock rules plan own p q es built m r dir = run_once_on p q state asked clock rules plan own (reverse es) (subst (λ us. Made p us q) (sym (reverse-reverse es)) m) r dir

@@ -2,7 +2,7 @@
 // leaves alone.
 ghost use Rattle.std.specs.Prelude.{◌≡◌, ◌≢◌, ◌≤◌, ◌+◌, ◌++◌, reverse, Bool, false, List, Option, Some, None, ℕ, ℤ};
 ghost use Rattle.lr_rules.specs.declared.path.Path.{Path};
-ghost use Rattle.lr_rules.specs.declared.civil.Moment.{Moment};
+ghost use Rattle.lr_rules.specs.declared.clock.Clock.{Clock};
 ghost use Rattle.lr_rules.specs.declared.rules.Rules.{Rules};
 ghost use Rattle.lr_rules.specs.declared.fault.Fault.{Fault};
 ghost use Rattle.lr_host.specs.declared.entry.Entry.{Entry};
@@ -46,8 +46,8 @@ pub fn looks_are_fixed()
 /// failed in either, their own faults are the same. A program that ended badly is told by its entry, and a part file whose
 /// name is taken, or a log that is too long to be copied, by what the entries lack.
 pub fn faults_are_fixed()
-    ensures { (state : Path) (asked : Asked) (now : Moment) (rules : Rules) (plan other : Option Plan) (own more : List Fault) (ts : List Entry) → AreBuiltRules rules.sets
-        → Runs state asked now rules plan own ts → Runs state asked now rules other more ts → calls_in own ≡ 0 → calls_in more ≡ 0 → own ≡ more }
+    ensures { (state : Path) (asked : Asked) (clock : Clock) (rules : Rules) (plan other : Option Plan) (own more : List Fault) (ts : List Entry) → AreBuiltRules rules.sets
+        → Runs state asked clock rules plan own ts → Runs state asked clock rules other more ts → calls_in own ≡ 0 → calls_in more ≡ 0 → own ≡ more }
 {}
 
 /// Entries fix the report of a call that isn't a dry run: where the same entries are shown as those of two reports, and no failed call is told
@@ -61,19 +61,19 @@ pub fn reports_are_fixed()
 /// In one run a directory is listed no more often than there are wildcards among the words of its rules, and once more,
 /// however many logs are in it: once for the families of all logs, and at most once for each wildcard.
 pub fn directories_are_listed_once()
-    ensures { (state : Path) (asked : Asked) (now : Moment) (rules : Rules) (plan : Option Plan) (own : List Fault) (p q : Past) (es : List Entry) → AreBuiltRules rules.sets
-        → Made p es q → Runs state asked now rules plan own (reverse es) → (dir : Path) → listings_of dir (reverse es) ≤ wildcards_of rules.sets + 1 }
+    ensures { (state : Path) (asked : Asked) (clock : Clock) (rules : Rules) (plan : Option Plan) (own : List Fault) (p q : Past) (es : List Entry) → AreBuiltRules rules.sets
+        → Made p es q → Runs state asked clock rules plan own (reverse es) → (dir : Path) → listings_of dir (reverse es) ≤ wildcards_of rules.sets + 1 }
 {}
 
 /// A run that came to its plan leaves each set alone whose log it doesn't rotate, whatever failed: each member names what
 /// it named before. It holds of sets that are safe before and steady. A run that didn't leaves all steady sets alone.
 pub fn others_are_left()
-    ensures planned { (s : LogSet) (state : Path) (asked : Asked) (now : Moment) (rules : Rules) (own : List Fault) (p q : Past) (es reads acts : List Entry) → AreBuiltRules rules.sets
-        → Made p es q → IsJournal p → reverse es ≡ reads ++ acts → AreQuiet reads → (i : Inside state now rules (Worked state rules.sets now asked own) acts)
+    ensures planned { (s : LogSet) (state : Path) (asked : Asked) (clock : Clock) (rules : Rules) (own : List Fault) (p q : Past) (es reads acts : List Entry) → AreBuiltRules rules.sets
+        → Made p es q → IsJournal p → reverse es ≡ reads ++ acts → AreQuiet reads → (i : Inside state clock rules (Worked state rules.sets clock asked own) acts)
         → IsSafe s p → IsSteady s q
-        → ((t : Target) → IsOneOf t (rotated_in state rules.sets i.between i.within.looked now asked) → t.log ≢ s.log)
+        → ((t : Target) → IsOneOf t (rotated_in state rules.sets i.between i.within.looked clock asked) → t.log ≢ s.log)
         → (y : Path) (k : ℤ) → s.key y ≡ Some k → names (world q) y ≡ names (world p) y }
-    ensures unplanned { (s : LogSet) (state : Path) (asked : Asked) (now : Moment) (rules : Rules) (plan : Option Plan) (own : List Fault) (p q : Past) (es reads acts : List Entry)
-        → Made p es q → reverse es ≡ reads ++ acts → AreQuiet reads → (r : Runs state asked now rules plan own acts) → IsUnplanned state asked now rules plan own acts r
+    ensures unplanned { (s : LogSet) (state : Path) (asked : Asked) (clock : Clock) (rules : Rules) (plan : Option Plan) (own : List Fault) (p q : Past) (es reads acts : List Entry)
+        → Made p es q → reverse es ≡ reads ++ acts → AreQuiet reads → (r : Runs state asked clock rules plan own acts) → IsUnplanned state asked clock rules plan own acts r
         → IsSteady s q → (y : Path) (k : ℤ) → s.key y ≡ Some k → names (world q) y ≡ names (world p) y }
 {}
