@@ -33,6 +33,14 @@ lay_members() {
     printf '%s {\nrotate -1\n}\n' "$logs/app.log" >"$conf"
 }
 
+# One log, with so many members that have dates, one of each day from 1970 on.
+lay_days() {
+    rm -rf "$logs"
+    mkdir "$logs"
+    (cd "$logs" && touch app.log && seq -f '1970-01-01 + %.0f days' 0 $(($1 - 1)) | date -u -f - +app.log-%Y%m%d | xargs touch)
+    printf '%s {\nrotate -1\ndateext\n}\n' "$logs/app.log" >"$conf"
+}
+
 # One log that isn't due, and a state of so many other entries, of today.
 lay_entries() {
     today=$(date -u +%Y-%-m-%-d-%-H:%-M:%-S)
