@@ -16,14 +16,12 @@ use Rattle.lr_host.specs.World.{Past, past}
 use Rattle.lr_host.proofs.Made.{Cut}
 use Rattle.lr_host.proofs.Quiet.{quiet_both}
 use Rattle.lr_conf.specs.Meaning.{Meaning}
-use Rattle.lr_conf.proofs.Built.{all_built}
 use Rattle.lr_include.specs.Readers.{IsConfOrCall}
-use Rattle.lr_include.specs.Stages.{visits_mean, begun, at_visits, Reads}
+use Rattle.lr_include.specs.Stages.{visits_mean, Reads}
 use Rattle.lr_include.proofs.AllQuiet.{reads_quiet as confs_quiet}
 use Rattle.lr_include.proofs.Allowed.{only_those}
 use Rattle.lr_due.specs.declared.tz.Zone.{Zone}
 use Rattle.lr_due.specs.declared.tz.Zone.TheVariants.{File}
-use Rattle.lr_fields.specs.Built.{AreBuiltRules}
 use Rattle.lr_plan.specs.Asked.{asking}
 use Rattle.lr_plan.specs.declared.planned.Plan.{Plan as RunPlan}
 use Rattle.lr_run.specs.Answers.{Leaves}
@@ -47,10 +45,6 @@ use Rattle.lr_cli.specs.Reached.{ReachesPlan, IsOfZone, MayEndCall, TellsOfPlan}
 use Rattle.lr_cli.specs.Asked.{AskFor}
 use Rattle.lr_cli.specs.Zone.{LacksText, not_file, too_big, look_failed as text_look_failed, read_failed as text_read_failed}
 use Rattle.lr_cli.proofs.Still.{clock_quiet, stop_quiet, same_Some}
-
--- the rules that a configuration gives are such as a run takes
-pub built_means : (confs : List Path) (m : Meaning) (ts : List Entry) → Reads confs m ts → AreBuiltRules m.rules
-built_means confs m ts r = subst (λ (x : Meaning). AreBuiltRules x.rules) (sym r.means) (all_built (at_visits (begun confs) r.visits).lines)
 
 -- what it tells is of no new file
 no_new : (f : Fault) → IsConfOrCall f → IsOfNew f → ⊥
@@ -184,16 +178,13 @@ module _ (request : Request) (zone : Zone) (seconds : ℤ) (report : Report) (ts
   pub plan_joined : (p : Plan) → ts ≡ (p.of_clock ++ p.reads) ++ p.acts
   plan_joined p = p.joined ∙ sym (append_assoc p.of_clock p.reads p.acts)
 
-  plan_built : (p : Plan) → AreBuiltRules p.rules.sets
-  plan_built p = subst AreBuiltRules (sym p.rules_are) (built_means request.confs p.meaning p.reads p.read)
-
   plan_saw : Plan → SawState request.state (behind_start ts)
   plan_saw p = subst (SawState request.state) (sym (ap behind_start (plan_joined p) ∙ behind_quiet (p.of_clock ++ p.reads) p.acts (plan_quiet p)))
       (reached_saw request.state (asking request.force request.mailer) p.clock p.rules p.own p.acts p.run)
 
   plan_none : (q r : Past) → Made q (reverse ts) r → Plan → NoneEnds request.state report.faults
   plan_none q r made p = subst (NoneEnds request.state) (sym p.faults_are) (none_both request.state p.meaning.faults p.own (means_none request.state request.confs p.meaning p.reads p.read)
-      (reached_none request.state (asking request.force request.mailer) p.clock p.rules p.own c.mid r p.acts (plan_built p) c.second p.run))
+      (reached_none request.state (asking request.force request.mailer) p.clock p.rules p.own c.mid r p.acts c.second p.run))
     where
       c : Cut q r (reverse p.acts) (reverse (p.of_clock ++ p.reads))
       c = cut_at q r ts (p.of_clock ++ p.reads) p.acts (plan_joined p) made

@@ -12,7 +12,6 @@ use Rattle.lr_host.specs.Told.{Left, Then}
 use Rattle.lr_host.proofs.Left.{left_as}
 use Rattle.lr_due.specs.declared.tz.Zone.{Zone}
 use Rattle.lr_due.specs.declared.tz.Zone.TheVariants.{File}
-use Rattle.lr_fields.specs.Built.{AreBuiltRules}
 use Rattle.lr_plan.specs.Asked.{asking}
 use Rattle.lr_plan.specs.declared.planned.Plan.{Plan}
 use Rattle.lr_run.specs.Answers.{Leaves}
@@ -28,7 +27,7 @@ use Rattle.lr_cli.specs.Asked.{AskFor}
 use Rattle.lr_cli.specs.Clock.{ShowsClock, LacksClock, out_of_range, no_text, refused}
 use Rattle.lr_cli.specs.Reached.{IsOfZone, TriesPlan, MayEndDry, SaysWhyDry, TellsOfTry}
 use Rattle.lr_cli.specs.Zone.{LacksText, not_file, too_big, look_failed as text_look_failed, read_failed as text_read_failed}
-use Rattle.lr_cli.proofs.Reached.{built_means, means_none}
+use Rattle.lr_cli.proofs.Reached.{means_none}
 use Rattle.lr_cli.proofs.Still.{same_Some}
 
 -- ---- without a clock
@@ -118,7 +117,7 @@ module _ (request : Request) (zone : Zone) (seconds : ℤ) (report : Report) (ts
   plan_none p =
       let e = p.entries.second in
       subst (NoneEndsTry request.state) (sym p.faults_are) (try_both request.state p.meaning.faults p.own (none_try request.state p.meaning.faults (means_none request.state request.confs p.meaning e.front e.first))
-      (reached_try request.state p.clock (asking request.force request.mailer) p.rules (Some p.plan) p.own e.back (subst AreBuiltRules (sym p.rules_are) (built_means request.confs p.meaning e.front e.first)) e.second (λ h. cc)))
+      (reached_try request.state p.clock (asking request.force request.mailer) p.rules (Some p.plan) p.own e.back e.second (λ h. cc)))
 
   tells : Came ⊎ Why → TellsOfTry request zone seconds report ts
   tells a = record {

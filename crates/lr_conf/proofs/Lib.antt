@@ -5,5 +5,4 @@ pub mod Took
 pub mod Each
 pub mod Walk
 pub mod Plain
-pub mod Built
 pub mod Limits

@@ -34,11 +34,11 @@ use Rattle.lr_conf.proofs.Walk.{OkSaid, Walk, each_rule, last_given}
 -- ---- lines
 
 -- a line sets this so far, within its limit
-abbrev pub S : Set → Type 0
+abbrev S : Set → Type 0
 S v = (is_so_far v ≡ true) × (set_meets v ≡ true)
 
 -- a word at least, and each within its limits
-abbrev pub N : List (List ℕ) → Type 0
+abbrev N : List (List ℕ) → Type 0
 N ws = (ws ≢ []) × Each IsRuleWord ws
 
 each_word : (ws : List (List ℕ)) → list_all is_log_word ws ≡ true → Each IsRuleWord ws
@@ -94,7 +94,7 @@ rule_ok file at words vs n ok = record {
 }
 
 -- what holds of each rule where it follows from what lines set so far
-pub walk : (R : Rule → Type 0) → ((file : Path) (at : ℕ) (words : List (List ℕ)) (vs : List Set) → N words → Each S vs → R (rule_of file at words (fields_of vs))) → Walk built.SoFar S N R
+walk : (R : Rule → Type 0) → ((file : Path) (at : ℕ) (words : List (List ℕ)) (vs : List Set) → N words → Each S vs → R (rule_of file at words (fields_of vs))) → Walk built.SoFar S N R
 walk R rule = record {
   line = λ inside i. line_ok (said built.SoFar inside i) (said_so_far inside i) (said_fine built.SoFar inside i);
   script = script_ok;

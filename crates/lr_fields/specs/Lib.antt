@@ -2,4 +2,3 @@ pub mod Fields
 pub mod Setting
 pub mod Rules
 pub mod Scripts
-pub mod Built

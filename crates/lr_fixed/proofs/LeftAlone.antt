@@ -32,7 +32,6 @@ use Rattle.lr_mixed.specs.AllTurns.{AllTurnsBy}
 use Rattle.lr_mixed.proofs.Safety.{others_are_left}
 use Rattle.lr_weave.proofs.Parting.{done_turns}
 use Rattle.lr_weave.proofs.Planning.{ready_planned}
-use Rattle.lr_fields.specs.Built.{AreBuiltRules}
 use Rattle.lr_seen.specs.Targets.{groups_of}
 use Rattle.lr_seen.proofs.Apart.{targets_apart}
 use Rattle.lr_seen.proofs.Ready.{plans_have_logs}
@@ -66,10 +65,10 @@ still_member s p u ts still made steady y k key = quiet_same (IsKeyless s) p u y
     calm : Quiet (IsKeyless s) p u
     calm = made_quiet (IsKeyless s) p u (reverse ts) (since_of (IsKeyless s) p u (reverse ts) made (none_attached s u steady)) made (still_reverse ts still)
 
-pub left_alone : (s : LogSet) (state : Path) (asked : Asked) (clock : Clock) (rules : Rules) (own : List Fault) (p q : Past) (es reads acts : List Entry) → AreBuiltRules rules.sets → Made p es q → IsJournal p → reverse es ≡ reads ++ acts → AreQuiet reads
+pub left_alone : (s : LogSet) (state : Path) (asked : Asked) (clock : Clock) (rules : Rules) (own : List Fault) (p q : Past) (es reads acts : List Entry) → Made p es q → IsJournal p → reverse es ≡ reads ++ acts → AreQuiet reads
     → (i : Inside state clock rules (Worked state rules.sets clock asked own) acts) → IsSafe s p → IsSteady s q → ((t : Target) → IsOneOf t (rotated_in state rules.sets i.between i.within.looked clock asked) → t.log ≢ s.log)
     → (y : Path) (k : ℤ) → s.key y ≡ Some k → names (world q) y ≡ names (world p) y
-left_alone s state asked clock rules own p q es reads acts built made journal joined quiet i safe steady apart y k key =
+left_alone s state asked clock rules own p q es reads acts made journal joined quiet i safe steady apart y k key =
     others_are_left clock s a.mid q state rules tail turns behind_start (journal_u, a.fits) (quiet_safe s a.mid starts (journal_u, a.fits) safe_u (tt, refl)) steady apart y k key
     ∙ still_member s p a.mid front (quiet_still front quiet_front) made_u steady_u y k key
   where

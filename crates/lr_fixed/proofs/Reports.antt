@@ -26,7 +26,6 @@ use Rattle.lr_due.specs.declared.zone.ZoneText.{ZoneText}
 use Rattle.lr_due.specs.declared.zone.ZoneText.TheVariants.{Bytes}
 use Rattle.lr_due.specs.Zone.{IsClockIn}
 use Rattle.lr_host.specs.Counted.{call_in, calls_in}
-use Rattle.lr_fields.specs.Built.{AreBuiltRules}
 use Rattle.lr_plan.specs.Asked.{Asked, asking}
 use Rattle.lr_plan.specs.declared.planned.Plan.{Plan}
 use Rattle.lr_run.specs.Answers.{Leaves}
@@ -43,7 +42,6 @@ use Rattle.lr_fixed.proofs.Called.{one_called, one_uncalled, no_call}
 use Rattle.lr_fixed.proofs.Peeled.{front_same, then_same, joined_same, one_look}
 use Rattle.lr_fixed.proofs.Clocks.{one_clock}
 use Rattle.lr_fixed.proofs.Run.{runs_one}
-use Rattle.lr_cli.proofs.Reached.{built_means}
 use Rattle.lr_read_fixed.proofs.OneReading.{readings_one}
 
 -- ---- a run begins with a look
@@ -87,9 +85,6 @@ module _ (request : Request) (dry : request.debug ≡ false) (clock : Clock) (pl
   rules_is : p.rules ≡ q.rules
   rules_is = rules_same p.rules q.rules (p.rules_are ∙ (ap (λ (m : Meaning). m.rules) meaning_is ∙ sym q.rules_are))
 
-  are_built : AreBuiltRules p.rules.sets
-  are_built = subst AreBuiltRules (sym p.rules_are) (built_means request.confs p.meaning p.entries.front p.entries.first)
-
   -- the one run, and the other, over the rules and the entries of the one
   one_run : Runs request.state (asking request.force request.mailer) clock p.rules plan p.own p.entries.back
   one_run = subst (λ (b : Bool). Leaves b request.state (asking request.force request.mailer) clock p.rules plan p.own p.entries.back) dry p.entries.second
@@ -99,7 +94,7 @@ module _ (request : Request) (dry : request.debug ≡ false) (clock : Clock) (pl
       (subst (λ (b : Bool). Leaves b request.state (asking request.force request.mailer) clock q.rules another q.own q.entries.back) dry q.entries.second))
 
   own_is : p.own ≡ q.own
-  own_is = runs_one request.state (asking request.force request.mailer) clock p.rules plan another p.own q.own p.entries.back are_built one_run as_run
+  own_is = runs_one request.state (asking request.force request.mailer) clock p.rules plan another p.own q.own p.entries.back one_run as_run
       (none_behind faults p.meaning.faults p.own p.faults_are c) (none_behind more q.meaning.faults q.own q.faults_are d)
 
   told_one : (notices ≡ others) × (faults ≡ more)

@@ -10,7 +10,6 @@ use Rattle.lr_host.specs.declared.entry.Entry.{Entry}
 use Rattle.lr_host.specs.declared.entry.Entry.TheVariants as entry
 use Rattle.lr_host.specs.Looks.{Sees, IsDir, IsNotDir}
 use Rattle.lr_host.specs.Counted.{calls_in}
-use Rattle.lr_fields.specs.Built.{AreBuiltRules}
 use Rattle.lr_plan.specs.Asked.{Asked}
 use Rattle.lr_plan.specs.declared.planned.Plan.{Plan}
 use Rattle.lr_run.specs.Runs.{Runs, no_directory, not_seen, not_begun, began}
@@ -32,15 +31,15 @@ between_same path state clock rules before others xs ys ts s t e f = append_canc
     (one_look path path before others (entry.Starts state clock.now rules ∷ (xs ++ entry.Ends ∷ [])) (entry.Starts state clock.now rules ∷ (ys ++ entry.Ends ∷ [])) s t (sym e ∙ f)).rest_is)
 
 -- two runs that left the same entries, and of which no call failed, met the same faults
-pub runs_one : (state : Path) (asked : Asked) (clock : Clock) (rules : Rules) (plan another : Option Plan) (own more : List Fault) (ts : List Entry) → AreBuiltRules rules.sets → Runs state asked clock rules plan own ts → Runs state asked clock rules another more ts → calls_in own ≡ 0 → calls_in more ≡ 0 → own ≡ more
-runs_one state asked clock rules plan another own more ts built (not_seen lost e s) r c d = absurd (one_called own _ e refl c)
-runs_one state asked clock rules plan another own more ts built (not_begun lost e s) r c d = absurd (one_called own _ e refl c)
-runs_one state asked clock rules plan another own more ts built (no_directory lost e s) (not_seen gone f t) c d = absurd (one_called more _ f refl d)
-runs_one state asked clock rules plan another own more ts built (no_directory lost e s) (not_begun gone f t) c d = absurd (one_called more _ f refl d)
-runs_one state asked clock rules plan another own more ts built (no_directory lost e s) (no_directory gone f t) c d = e ∙ sym f
-runs_one state asked clock rules plan another own more ts built (no_directory lost e s) (began j) c d = absurd (alone_or_begun (parent_of state) state clock rules (j.between ++ entry.Ends ∷ []) j.before ts s j.directory j.entries)
-runs_one state asked clock rules plan another own more ts built (began i) (not_seen gone f t) c d = absurd (one_called more _ f refl d)
-runs_one state asked clock rules plan another own more ts built (began i) (not_begun gone f t) c d = absurd (one_called more _ f refl d)
-runs_one state asked clock rules plan another own more ts built (began i) (no_directory gone f t) c d = absurd (alone_or_begun (parent_of state) state clock rules (i.between ++ entry.Ends ∷ []) i.before ts t i.directory i.entries)
-runs_one state asked clock rules plan another own more ts built (began i) (began j) c d = works_one state rules.sets clock asked own more i.between j.between
+pub runs_one : (state : Path) (asked : Asked) (clock : Clock) (rules : Rules) (plan another : Option Plan) (own more : List Fault) (ts : List Entry) → Runs state asked clock rules plan own ts → Runs state asked clock rules another more ts → calls_in own ≡ 0 → calls_in more ≡ 0 → own ≡ more
+runs_one state asked clock rules plan another own more ts (not_seen lost e s) r c d = absurd (one_called own _ e refl c)
+runs_one state asked clock rules plan another own more ts (not_begun lost e s) r c d = absurd (one_called own _ e refl c)
+runs_one state asked clock rules plan another own more ts (no_directory lost e s) (not_seen gone f t) c d = absurd (one_called more _ f refl d)
+runs_one state asked clock rules plan another own more ts (no_directory lost e s) (not_begun gone f t) c d = absurd (one_called more _ f refl d)
+runs_one state asked clock rules plan another own more ts (no_directory lost e s) (no_directory gone f t) c d = e ∙ sym f
+runs_one state asked clock rules plan another own more ts (no_directory lost e s) (began j) c d = absurd (alone_or_begun (parent_of state) state clock rules (j.between ++ entry.Ends ∷ []) j.before ts s j.directory j.entries)
+runs_one state asked clock rules plan another own more ts (began i) (not_seen gone f t) c d = absurd (one_called more _ f refl d)
+runs_one state asked clock rules plan another own more ts (began i) (not_begun gone f t) c d = absurd (one_called more _ f refl d)
+runs_one state asked clock rules plan another own more ts (began i) (no_directory gone f t) c d = absurd (alone_or_begun (parent_of state) state clock rules (i.between ++ entry.Ends ∷ []) i.before ts t i.directory i.entries)
+runs_one state asked clock rules plan another own more ts (began i) (began j) c d = works_one state rules.sets clock asked own more i.between j.between
     (between_same (parent_of state) state clock rules i.before j.before i.between j.between ts i.directory j.directory i.entries j.entries) c d rules.limits i.within j.within

@@ -18,7 +18,6 @@ use Rattle.lr_plan.specs.declared.looks.SetLooks.{SetLooks}
 use Rattle.lr_plan.specs.Outcomes.{Maybe}
 use Rattle.lr_plan.specs.Planned.{decision}
 use Rattle.lr_looks.specs.Shown.{ShowsLooks}
-use Rattle.lr_fields.specs.Built.{AreBuiltRules}
 use Rattle.lr_seen.specs.Free.{reserved_by}
 use Rattle.lr_plan.specs.declared.planned.Plan.{Plan}
 use Rattle.lr_run.specs.Runs.{Looked, Worked, Works, not_known, too_big, worked, Inside, Runs, no_directory, not_seen, not_begun, began}
@@ -90,5 +89,5 @@ run_once_on p q state asked clock rules plan own ts m (not_seen lost is e) dir =
 run_once_on p q state asked clock rules plan own ts m (not_begun lost is t) dir = none_once (wildcards_of rules.sets) dir ts (none_both ts (sees_none (parent_of state) IsDir) (maybe_starts state clock rules) t)
 run_once_on p q state asked clock rules plan own ts m (began i) dir = inside_once p q state asked clock rules plan own ts dir m i
 
-pub run_once : (state : Path) (asked : Asked) (clock : Clock) (rules : Rules) (plan : Option Plan) (own : List Fault) (p q : Past) (es : List Entry) → AreBuiltRules rules.sets → Made p es q → Runs state asked clock rules plan own (reverse es) → (dir : Path) → listings_of dir (reverse es) ≤ wildcards_of rules.sets + 1
-run_once state asked clock rules plan own p q es built m r dir = run_once_on p q state asked clock rules plan own (reverse es) (subst (λ us. Made p us q) (sym (reverse-reverse es)) m) r dir
+pub run_once : (state : Path) (asked : Asked) (clock : Clock) (rules : Rules) (plan : Option Plan) (own : List Fault) (p q : Past) (es : List Entry) → Made p es q → Runs state asked clock rules plan own (reverse es) → (dir : Path) → listings_of dir (reverse es) ≤ wildcards_of rules.sets + 1
+run_once state asked clock rules plan own p q es m r dir = run_once_on p q state asked clock rules plan own (reverse es) (subst (λ us. Made p us q) (sym (reverse-reverse es)) m) r dir

@@ -19,7 +19,6 @@ ghost use Rattle.lr_plan.specs.declared.looks.SetLooks.{SetLooks};
 ghost use Rattle.lr_plan.specs.declared.planned.Plan.{Plan};
 ghost use Rattle.lr_host.specs.Counted.{calls_in};
 ghost use Rattle.lr_looks.specs.Shown.{ShowsLooks};
-ghost use Rattle.lr_fields.specs.Built.{AreBuiltRules};
 ghost use Rattle.lr_targets.specs.Target.{Target, IsOneOf};
 ghost use Rattle.lr_run.specs.Rotated.{rotated_in};
 ghost use Rattle.lr_run.specs.Runs.{Inside, Worked, Runs};
@@ -46,7 +45,7 @@ pub fn looks_are_fixed()
 /// failed in either, their own faults are the same. A program that ended badly is told by its entry, and a part file whose
 /// name is taken, or a log that is too long to be copied, by what the entries lack.
 pub fn faults_are_fixed()
-    ensures { (state : Path) (asked : Asked) (clock : Clock) (rules : Rules) (plan other : Option Plan) (own more : List Fault) (ts : List Entry) → AreBuiltRules rules.sets
+    ensures { (state : Path) (asked : Asked) (clock : Clock) (rules : Rules) (plan other : Option Plan) (own more : List Fault) (ts : List Entry)
         → Runs state asked clock rules plan own ts → Runs state asked clock rules other more ts → calls_in own ≡ 0 → calls_in more ≡ 0 → own ≡ more }
 {}
 
@@ -61,14 +60,14 @@ pub fn reports_are_fixed()
 /// In one run a directory is listed no more often than there are wildcards among the words of its rules, and once more,
 /// however many logs are in it: once for the families of all logs, and at most once for each wildcard.
 pub fn directories_are_listed_once()
-    ensures { (state : Path) (asked : Asked) (clock : Clock) (rules : Rules) (plan : Option Plan) (own : List Fault) (p q : Past) (es : List Entry) → AreBuiltRules rules.sets
+    ensures { (state : Path) (asked : Asked) (clock : Clock) (rules : Rules) (plan : Option Plan) (own : List Fault) (p q : Past) (es : List Entry)
         → Made p es q → Runs state asked clock rules plan own (reverse es) → (dir : Path) → listings_of dir (reverse es) ≤ wildcards_of rules.sets + 1 }
 {}
 
 /// A run that came to its plan leaves each set alone whose log it doesn't rotate, whatever failed: each member names what
 /// it named before. It holds of sets that are safe before and steady. A run that didn't leaves all steady sets alone.
 pub fn others_are_left()
-    ensures planned { (s : LogSet) (state : Path) (asked : Asked) (clock : Clock) (rules : Rules) (own : List Fault) (p q : Past) (es reads acts : List Entry) → AreBuiltRules rules.sets
+    ensures planned { (s : LogSet) (state : Path) (asked : Asked) (clock : Clock) (rules : Rules) (own : List Fault) (p q : Past) (es reads acts : List Entry)
         → Made p es q → IsJournal p → reverse es ≡ reads ++ acts → AreQuiet reads → (i : Inside state clock rules (Worked state rules.sets clock asked own) acts)
         → IsSafe s p → IsSteady s q
         → ((t : Target) → IsOneOf t (rotated_in state rules.sets i.between i.within.looked clock asked) → t.log ≢ s.log)

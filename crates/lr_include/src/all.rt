@@ -2,7 +2,6 @@
 ghost use Rattle.std.specs.Prelude.{◌≡◌, [], false, All, Contains, reverse, Ok, IfOk, OnOk, OnErr};
 ghost use Rattle.lr_forms.specs.declared.built.Built.TheVariants as built;
 ghost use Rattle.lr_conf.specs.Meaning.{meaning};
-ghost use Rattle.lr_fields.specs.Built.{AreBuiltRules};
 ghost use Rattle.lr_conf.specs.Plain.{IsPlainRule};
 ghost use Rattle.lr_rules.specs.declared.fault.CallKind.{CallKind};
 ghost use Rattle.lr_rules.specs.declared.path.Path.{Path};
@@ -123,7 +122,6 @@ pub fn read_all<H: Host>(alloc: Global, host: &mut H, paths: &[Path]) -> Result<
     ensures cause { IfOk result (λ r. (kind : CallKind) (path : Path) → Contains r.faults (fault.Call kind path) → Rose (H.counts host.old).faults (H.counts host.new).faults) }
     ensures only { IfOk result (λ r. All IsConfOrCall r.faults) }
     ensures plain { IfOk result (λ r. All IsPlainRule r.rules.sets) }
-    ensures built { IfOk result (λ r. AreBuiltRules r.rules.sets) }
     ensures counts { Onward (H.counts host.old) (H.counts host.new) }
 {
     let mut course = Course::begin(alloc, paths)?;

@@ -21,7 +21,6 @@ use Rattle.lr_host.proofs.Quiet.{sees_quiet}
 use Rattle.lr_plan.specs.Asked.{Asked}
 use Rattle.lr_plan.specs.Outcomes.{Maybe}
 use Rattle.lr_plan.specs.declared.planned.Plan.{Plan}
-use Rattle.lr_fields.specs.Built.{AreBuiltRules}
 use Rattle.lr_run.specs.Runs.{Inside, Worked, Works, not_known, too_big, worked, Runs, no_directory, not_seen, not_begun, began, plan_in}
 use Rattle.lr_reached.specs.Ending.{EndsRun, NoneEnds, MayEnd, SaysWhy}
 use Rattle.lr_reached.specs.Looked.{behind_start, SawState}
@@ -97,8 +96,8 @@ pub reached_saw : (state : Path) (asked : Asked) (clock : Clock) (rules : Rules)
 reached_saw state asked clock rules own ts i = subst (SawState state) (sym (begun_behind state clock rules _ ts i))
     (saw_in state i.between (i.between ++ entry.Ends ∷ []) (λ e j. in_front e i.between (entry.Ends ∷ []) j) (worked_saw state rules.sets clock asked own i.between i.within))
 
-pub reached_none : (state : Path) (asked : Asked) (clock : Clock) (rules : Rules) (own : List Fault) (p q : Past) (ts : List Entry) → AreBuiltRules rules.sets → Made p (reverse ts) q → IsReached state asked clock rules own ts → NoneEnds state own
-reached_none state asked clock rules own p q ts built made i = none_ends state clock rules asked own p q ts i.before i.between built i.entries i.directory made i.within
+pub reached_none : (state : Path) (asked : Asked) (clock : Clock) (rules : Rules) (own : List Fault) (p q : Past) (ts : List Entry) → Made p (reverse ts) q → IsReached state asked clock rules own ts → NoneEnds state own
+reached_none state asked clock rules own p q ts made i = none_ends state clock rules asked own p q ts i.before i.between i.entries i.directory made i.within
 
 -- ---- the law
 
@@ -110,17 +109,17 @@ in_order p q es made = subst (λ us. Made p us q) (sym (reverse-reverse es)) mad
 ends_not : (state : Path) (own : List Fault) (us : List Entry) → (u : Unreached state own us) → NoneEnds state own → EndsRun state u.last → ⊥
 ends_not state own us u none ends = last_ends state u.before u.last (subst (NoneEnds state) u.own_are none) ends
 
-pub reached : (state : Path) (asked : Asked) (clock : Clock) (rules : Rules) (plan : Option Plan) (own : List Fault) (p q : Past) (es : List Entry) → AreBuiltRules rules.sets → Made p es q → Runs state asked clock rules plan own (reverse es)
+pub reached : (state : Path) (asked : Asked) (clock : Clock) (rules : Rules) (plan : Option Plan) (own : List Fault) (p q : Past) (es : List Entry) → Made p es q → Runs state asked clock rules plan own (reverse es)
     → IsReached state asked clock rules own (reverse es) ↔ (SawState state (behind_start (reverse es)) × NoneEnds state own)
-reached state asked clock rules plan own p q es built made r = (
-  λ i. (reached_saw state asked clock rules own (reverse es) i, reached_none state asked clock rules own p q (reverse es) built (in_order p q es made) i),
+reached state asked clock rules plan own p q es made r = (
+  λ i. (reached_saw state asked clock rules own (reverse es) i, reached_none state asked clock rules own p q (reverse es) (in_order p q es made) i),
   λ b. ⊎_elim (λ i. i) (λ u. absurd (⊎_elim (λ ends. ends_not state own _ u b.1 ends) (λ may. may.2 b.0) u.ends)) (run_reached state asked clock rules plan own (reverse es) r),
 )
 
-pub told : (state : Path) (asked : Asked) (clock : Clock) (rules : Rules) (plan : Option Plan) (own : List Fault) (p q : Past) (es : List Entry) → AreBuiltRules rules.sets → Made p es q → Runs state asked clock rules plan own (reverse es) → ((f : Fault) → IsIn f own → MayEnd state f → ⊥)
+pub told : (state : Path) (asked : Asked) (clock : Clock) (rules : Rules) (plan : Option Plan) (own : List Fault) (p q : Past) (es : List Entry) → Made p es q → Runs state asked clock rules plan own (reverse es) → ((f : Fault) → IsIn f own → MayEnd state f → ⊥)
     → IsReached state asked clock rules own (reverse es) ↔ NoneEnds state own
-told state asked clock rules plan own p q es built made r plain = (
-  λ i. reached_none state asked clock rules own p q (reverse es) built (in_order p q es made) i,
+told state asked clock rules plan own p q es made r plain = (
+  λ i. reached_none state asked clock rules own p q (reverse es) (in_order p q es made) i,
   λ none. ⊎_elim (λ i. i) (λ u. absurd (⊎_elim (λ ends. ends_not state own _ u none ends) (λ may. plain u.last (last_in u.before u.last own u.own_are) may.1) u.ends)) (run_reached state asked clock rules plan own (reverse es) r),
 )
 

@@ -21,7 +21,6 @@ use Rattle.lr_plan.specs.declared.looks.LogLook.{LogLook}
 use Rattle.lr_plan.specs.declared.looks.SetLooks.{SetLooks}
 use Rattle.lr_plan.specs.declared.planned.Plan.{Plan}
 use Rattle.lr_plan.specs.Planned.{hindrances, where_due, log_faults, all_faults, decision}
-use Rattle.lr_fields.specs.Built.{AreBuiltRules}
 use Rattle.lr_run.specs.Dry.{Follows, Plans, PlansBy, unknown, known, Tries, unseen, not_directory, by_none, by_state}
 use Rattle.lr_reached.specs.Ending.{EndsRun, NoneEnds}
 use Rattle.lr_reached.specs.Tried.{EndsTry, NoneEndsTry, MayEndTry, SaysWhyTry}
@@ -114,19 +113,19 @@ follows_try : (state : Path) (rules : List Rule) (sets : List SetLooks) (kept : 
 follows_try state rules sets kept table clock asked (Some p) own f some = subst (NoneEndsTry state) (sym (f.2 ∙ ap (λ (q : Plan). q.faults) f.1)) (plan_try state clock (decision table clock.now asked.force) rules sets)
 follows_try state rules sets kept table clock asked None own f some = absurd (some refl)
 
-plans_try : (state : Path) (rules : Rules) (table : List Row) (clock : Clock) (asked : Asked) (plan : Option Plan) (own : List Fault) (ts : List Entry) → AreBuiltRules rules.sets → Plans state rules.sets table clock asked plan own ts → (IsNone plan → ⊥) → NoneEndsTry state own
-plans_try state rules table clock asked plan own ts built p some = subst (NoneEndsTry state) (sym p.faults_are)
+plans_try : (state : Path) (rules : Rules) (table : List Row) (clock : Clock) (asked : Asked) (plan : Option Plan) (own : List Fault) (ts : List Entry) → Plans state rules.sets table clock asked plan own ts → (IsNone plan → ⊥) → NoneEndsTry state own
+plans_try state rules table clock asked plan own ts p some = subst (NoneEndsTry state) (sym p.faults_are)
     (try_both state p.of_looks p.of_plan (none_try state p.of_looks (looks_none state rules.sets p.sets p.of_looks ts p.shown)) (follows_try state rules.sets p.sets (paths_of p.shown.kept) table clock asked plan p.of_plan p.follows some))
 
-pub reached_try : (state : Path) (clock : Clock) (asked : Asked) (rules : Rules) (plan : Option Plan) (own : List Fault) (ts : List Entry) → AreBuiltRules rules.sets → Tries state rules.sets clock asked plan own ts → (IsNone plan → ⊥) → NoneEndsTry state own
-reached_try state clock asked rules plan own ts built (unseen lost is none) some = absurd (some lost)
-reached_try state clock asked rules plan own ts built (not_directory lost is s) some = absurd (some lost)
-reached_try state clock asked rules plan own ts built (by_none t) some = plans_try state rules [] clock asked plan own t.back built t.second some
-reached_try state clock asked rules plan own ts built (by_state t) some = go t.second
+pub reached_try : (state : Path) (clock : Clock) (asked : Asked) (rules : Rules) (plan : Option Plan) (own : List Fault) (ts : List Entry) → Tries state rules.sets clock asked plan own ts → (IsNone plan → ⊥) → NoneEndsTry state own
+reached_try state clock asked rules plan own ts (unseen lost is none) some = absurd (some lost)
+reached_try state clock asked rules plan own ts (not_directory lost is s) some = absurd (some lost)
+reached_try state clock asked rules plan own ts (by_none t) some = plans_try state rules [] clock asked plan own t.back t.second some
+reached_try state clock asked rules plan own ts (by_state t) some = go t.second
   where
     go : PlansBy state rules.sets clock asked plan own t.back → NoneEndsTry state own
     go (unknown sights f k lost is s) = absurd (some lost)
-    go (known sights remembered k u) = plans_try state rules remembered.table clock asked plan own u.back built u.second some
+    go (known sights remembered k u) = plans_try state rules remembered.table clock asked plan own u.back u.second some
 
 -- why it ended
 plans_why : (state : Path) (rules : List Rule) (table : List Row) (clock : Clock) (asked : Asked) (plan : Option Plan) (own : List Fault) (ts : List Entry) → Plans state rules table clock asked plan own ts → IsNone plan → SaysWhyTry state own
@@ -149,10 +148,10 @@ ended_try state clock asked rules plan own ts (by_state t) h = go t.second
 
 -- ---- the law
 
-pub told_try : (state : Path) (clock : Clock) (asked : Asked) (rules : Rules) (plan : Option Plan) (own : List Fault) (ts : List Entry) → AreBuiltRules rules.sets → Tries state rules.sets clock asked plan own ts → ((f : Fault) → IsIn f own → MayEndTry state f → ⊥)
+pub told_try : (state : Path) (clock : Clock) (asked : Asked) (rules : Rules) (plan : Option Plan) (own : List Fault) (ts : List Entry) → Tries state rules.sets clock asked plan own ts → ((f : Fault) → IsIn f own → MayEndTry state f → ⊥)
     → (IsNone plan → ⊥) ↔ NoneEndsTry state own
-told_try state clock asked rules plan own ts built t plain = (
-  λ some. reached_try state clock asked rules plan own ts built t some,
+told_try state clock asked rules plan own ts t plain = (
+  λ some. reached_try state clock asked rules plan own ts t some,
   λ none lost. (let w = ended_try state clock asked rules plan own ts t lost in
       ⊎_elim (λ ends. last_tries state w.before w.last (subst (NoneEndsTry state) w.own_are none) ends) (λ may. plain w.last (last_in w.before w.last own w.own_are) may) w.ends),
 )

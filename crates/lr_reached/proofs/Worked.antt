@@ -19,7 +19,6 @@ use Rattle.lr_host.proofs.Quiet.{quiet_still, quiet_both}
 use Rattle.lr_plan.specs.Asked.{Asked}
 use Rattle.lr_plan.specs.Planned.{decision}
 use Rattle.lr_reading.proofs.Quiet.{state_quiet}
-use Rattle.lr_fields.specs.Built.{AreBuiltRules}
 use Rattle.lr_seen.proofs.Quiet.{whole_quiet}
 use Rattle.lr_run.specs.Runs.{Worked, plan_in}
 use Rattle.lr_reached.specs.Ending.{NoneEnds}
@@ -32,8 +31,8 @@ use Rattle.lr_reached.proofs.Standing.{still_there}
 use Rattle.lr_reached.proofs.Written.{written_none}
 
 -- where no look missed the state's directory
-worked_none : (state : Path) (rules : List Rule) (clock : Clock) (asked : Asked) (own : List Fault) (ts : List Entry) → AreBuiltRules rules → list_all meets_limits rules ≡ true → (w : Worked state rules clock asked own ts) → (IsGone w.looked.looks (parent_of state) → ⊥) → NoneEnds state own
-worked_none state rules clock asked own ts built limits w stands = subst (NoneEnds state) (sym w.acted.faults_are)
+worked_none : (state : Path) (rules : List Rule) (clock : Clock) (asked : Asked) (own : List Fault) (ts : List Entry) → list_all meets_limits rules ≡ true → (w : Worked state rules clock asked own ts) → (IsGone w.looked.looks (parent_of state) → ⊥) → NoneEnds state own
+worked_none state rules clock asked own ts limits w stands = subst (NoneEnds state) (sym w.acted.faults_are)
     (none_both state w.looked.of_looks _ (looks_none state rules w.looked.sets w.looked.of_looks w.looked.looks w.looked.shown)
     (none_both state (plan_in state rules ts w.looked clock asked).faults w.acted.of_acts
     (plan_none state clock (decision w.looked.remembered.table clock.now asked.force) rules w.looked.sets (none_missed state rules w.looked.sets w.looked.of_looks w.looked.looks w.looked.shown stands))
@@ -61,6 +60,6 @@ stands state clock rules asked own p q ts before between entries directory made 
     quiet : ChangeNothing still
     quiet = quiet_still (w.looked.reads ++ w.looked.looks) (quiet_both w.looked.reads w.looked.looks (state_quiet state 65_536 w.looked.sights w.looked.reads w.looked.read) (whole_quiet rules.sets w.looked.sets w.looked.of_looks w.looked.looks w.looked.shown))
 
-pub none_ends : (state : Path) (clock : Clock) (rules : Rules) (asked : Asked) (own : List Fault) (p q : Past) (ts before between : List Entry) → AreBuiltRules rules.sets → ts ≡ before ++ (entry.Starts state clock.now rules ∷ (between ++ entry.Ends ∷ []))
+pub none_ends : (state : Path) (clock : Clock) (rules : Rules) (asked : Asked) (own : List Fault) (p q : Past) (ts before between : List Entry) → ts ≡ before ++ (entry.Starts state clock.now rules ∷ (between ++ entry.Ends ∷ []))
     → Sees (parent_of state) IsDir before → Made p (reverse ts) q → Worked state rules.sets clock asked own between → NoneEnds state own
-none_ends state clock rules asked own p q ts before between built entries directory made w = worked_none state rules.sets clock asked own between built rules.limits w (stands state clock rules asked own p q ts before between entries directory made w)
+none_ends state clock rules asked own p q ts before between entries directory made w = worked_none state rules.sets clock asked own between rules.limits w (stands state clock rules asked own p q ts before between entries directory made w)

@@ -9,7 +9,6 @@ ghost use Rattle.lr_emptied.specs.Emptied.{EmptiesWhole};
 ghost use Rattle.lr_dated.specs.Forward.{IsForwardFor};
 ghost use Rattle.lr_dated.specs.Stays.{KeepsSafeWhere};
 ghost use Rattle.lr_mixed.specs.AllTurns.{IsWholeRunBy};
-ghost use Rattle.lr_fields.specs.Built.{AreBuiltRules};
 ghost use Rattle.lr_plan.specs.Asked.{asking};
 ghost use Rattle.lr_run.specs.Answers.{Answers};
 ghost use Rattle.lr_run.specs.Copied.{IsCopyBy};
@@ -40,7 +39,6 @@ pub fn run<H: Host>(
     earlier: Vec<Fault>,
     host: &mut H,
 ) -> Result<Ran, RunStop>
-    requires built { AreBuiltRules rules.now.sets }
     requires disk { WhereTold (H.told host.old) IsJournal }
     ensures safe { KeepsSafeWhere (IsForwardFor clock.entry.now) (H.told host.old) (H.told host.new) }
     ensures state { KeepsWhole settings.now.state (IsNewText settings.now.state clock.entry.now (asking settings.now.force settings.now.mailer) rules.now) (H.told host.old) (H.told host.new) }

@@ -6,7 +6,6 @@ ghost use Rattle.lr_rules.specs.declared.fault.Fault.{Fault};
 ghost use Rattle.lr_rules.specs.Path.{parent_of};
 ghost use Rattle.lr_host.specs.Counted.{AddsFaults};
 ghost use Rattle.lr_host.specs.Told.{Left, Onward};
-ghost use Rattle.lr_fields.specs.Built.{AreBuiltRules};
 ghost use Rattle.lr_looks.specs.Shown.{ShowsSomeLooks};
 ghost use Rattle.lr_plan.specs.Asked.{asking};
 ghost use Rattle.lr_plan.specs.Planned.{CanPlanAll, plan_of};
@@ -133,7 +132,6 @@ fn look_and_plan<H: Host>(
     table: State,
     faults: &mut Vec<Fault>,
 ) -> Result<Option<Plan>, Memory>
-    requires built { AreBuiltRules rules.now.sets }
     ensures told { IfOk result (λ plan. Left (PlansOn settings.now.state rules.now.sets table clock.entry.now (asking settings.now.force settings.now.mailer) plan faults.old.items faults.new.items) (H.told host.old) (H.told host.new)) }
     ensures some { OnErr result (Left (ShowsSomeLooks (reserved_by settings.now.state) rules.now.sets) (H.told host.old) (H.told host.new)) }
     ensures room { OnOk result (vec_len faults.new + 1 ≤ vec_capacity faults.new) }
@@ -153,7 +151,6 @@ fn read_and_plan<H: Host>(
     clock: &Clock,
     faults: &mut Vec<Fault>,
 ) -> Result<Option<Plan>, Memory>
-    requires built { AreBuiltRules rules.now.sets }
     requires room { vec_len faults.old + 2 ≤ vec_capacity faults.old }
     ensures told { IfOk result (λ plan. Left (PlansByOn settings.now.state rules.now.sets clock.entry.now (asking settings.now.force settings.now.mailer) plan faults.old.items faults.new.items) (H.told host.old) (H.told host.new)) }
     ensures some { OnErr result (Left (SomeSeen settings.now.state rules.now.sets) (H.told host.old) (H.told host.new)) }
@@ -191,7 +188,6 @@ fn try_run<H: Host>(
     dir: Path,
     faults: &mut Vec<Fault>,
 ) -> Result<Option<Plan>, Memory>
-    requires built { AreBuiltRules rules.now.sets }
     requires dir { dir ≡ parent_of settings.now.state }
     requires room { vec_len faults.old + 2 ≤ vec_capacity faults.old }
     ensures told { IfOk result (λ plan. Left (TriesOn settings.now.state rules.now.sets clock.entry.now (asking settings.now.force settings.now.mailer) plan faults.old.items faults.new.items) (H.told host.old) (H.told host.new)) }
@@ -226,7 +222,6 @@ pub fn dry_run<H: Host>(
     earlier: Vec<Fault>,
     host: &mut H,
 ) -> Result<Ran, RunStop>
-    requires built { AreBuiltRules rules.now.sets }
     ensures told { Left (Answers settings.now.state true (asking settings.now.force settings.now.mailer) clock.entry.now rules.now earlier.items result) (H.told host.old) (H.told host.new) }
     ensures counted { IfOk result (λ ran. AddsFaults earlier.items ran.faults.items (H.counts host.old) (H.counts host.new)) }
     ensures held { result ≢ Err RunStop.Held }

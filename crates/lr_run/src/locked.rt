@@ -9,7 +9,6 @@ ghost use Rattle.lr_host.specs.Opening.{IsJournal};
 ghost use Rattle.lr_host.specs.Told.{Left, Then, Are, Can, NoneFell, Onward, Rose, WhereTold};
 ghost use Rattle.lr_host.specs.World.{world};
 ghost use Rattle.lr_host.specs.Counted.{AddsFaults};
-ghost use Rattle.lr_fields.specs.Built.{AreBuiltRules};
 ghost use Rattle.lr_run.specs.Taken.{AddsTaken};
 ghost use Rattle.lr_plan.specs.Asked.{asking};
 ghost use Rattle.lr_run.specs.Internal.{WorksOn, Goes, SomeWork, Stopped};
@@ -32,7 +31,6 @@ fn work_to_end<H: Host>(
     reached: &mut Option<Plan>,
     progress: &mut Progress,
 ) -> Result<(), Memory>
-    requires built { AreBuiltRules rules.now.sets }
     requires none { reached.old ≡ None }
     requires disk { WhereTold (H.told host.old) IsJournal }
     requires dir { Can (H.told host.old) (entry.List (parent_of settings.now.state) []) }
@@ -71,7 +69,6 @@ pub fn begin_to_end<H: Host>(
     reached: &mut Option<Plan>,
     progress: &mut Progress,
 ) -> Result<(), RunStop>
-    requires built { AreBuiltRules rules.now.sets }
     requires none { reached.old ≡ None }
     requires disk { WhereTold (H.told host.old) IsJournal }
     requires there { Can (H.told host.old) (entry.Starts settings.now.state clock.now.now rules.now) }

@@ -10,7 +10,6 @@ ghost use Rattle.lr_emptied.specs.Emptied.{EmptiesWhole};
 ghost use Rattle.lr_dated.specs.Forward.{IsForwardFor};
 ghost use Rattle.lr_dated.specs.Stays.{KeepsSafeWhere};
 ghost use Rattle.lr_mixed.specs.AllTurns.{IsWholeRunBy};
-ghost use Rattle.lr_fields.specs.Built.{AreBuiltRules};
 ghost use Rattle.lr_run.specs.Taken.{AddsTaken};
 ghost use Rattle.lr_plan.specs.Asked.{asking};
 ghost use Rattle.lr_run.specs.Internal.{RunsOn, StopsSo, dir_fault_of};
@@ -64,7 +63,6 @@ fn make_run<H: Host>(
     reached: &mut Option<Plan>,
     progress: &mut Progress,
 ) -> Result<(), RunStop>
-    requires built { AreBuiltRules rules.now.sets }
     requires none { reached.old ≡ None }
     requires disk { WhereTold (H.told host.old) IsJournal }
     requires dir { names.dir ≡ parent_of settings.now.state }
@@ -127,7 +125,6 @@ pub fn real_run<H: Host>(
     earlier: Vec<Fault>,
     host: &mut H,
 ) -> Result<Ran, RunStop>
-    requires built { AreBuiltRules rules.now.sets }
     requires disk { WhereTold (H.told host.old) IsJournal }
     ensures safe { KeepsSafeWhere (IsForwardFor clock.entry.now) (H.told host.old) (H.told host.new) }
     ensures state { KeepsWhole settings.now.state (IsNewText settings.now.state clock.entry.now (asking settings.now.force settings.now.mailer) rules.now) (H.told host.old) (H.told host.new) }

@@ -11,7 +11,6 @@ ghost use Rattle.lr_host.specs.Counted.{AddsFaults};
 ghost use Rattle.lr_plan.specs.Asked.{asking};
 ghost use Rattle.lr_plan.specs.Planned.{CanPlanAll, plan_of};
 ghost use Rattle.lr_reading.specs.Sights.{state_part};
-ghost use Rattle.lr_fields.specs.Built.{AreBuiltRules};
 ghost use Rattle.lr_run.specs.Taken.{AddsTaken};
 ghost use Rattle.lr_run.specs.Internal.{WorkDone, LookedDone, KnownBefore, SeenBefore, Carries, SomeWork, EndsBehindLooks, EndsBehindState};
 
@@ -61,7 +60,6 @@ fn act_by<H: Host>(
     reached: &mut Option<Plan>,
     progress: &mut Progress,
 ) -> Result<(), Memory>
-    requires built { AreBuiltRules rules.now.sets }
     requires none { reached.old ≡ None }
     requires rules { CanPlanAll rules.now.sets looks.now.sets }
     requires told { told ≡ plan_of rules.now.sets looks.now.sets remembered.table clock.now (asking settings.now.force settings.now.mailer) }
@@ -107,7 +105,6 @@ fn plan_and_act<H: Host>(
     reached: &mut Option<Plan>,
     progress: &mut Progress,
 ) -> Result<(), Memory>
-    requires built { AreBuiltRules rules.now.sets }
     requires none { reached.old ≡ None }
     requires rules { CanPlanAll rules.now.sets looks.now.sets }
     requires part { part ≡ state_part settings.now.state }
@@ -137,7 +134,6 @@ fn look_and_act<H: Host>(
     reached: &mut Option<Plan>,
     progress: &mut Progress,
 ) -> Result<(), Memory>
-    requires built { AreBuiltRules rules.now.sets }
     requires none { reached.old ≡ None }
     requires part { part ≡ state_part settings.now.state }
     requires known { KnownBefore settings.now.state remembered (H.told host.old) }
@@ -174,7 +170,6 @@ pub fn work<H: Host>(
     reached: &mut Option<Plan>,
     progress: &mut Progress,
 ) -> Result<(), Memory>
-    requires built { AreBuiltRules rules.now.sets }
     requires none { reached.old ≡ None }
     requires disk { WhereTold (H.told host.old) IsJournal }
     requires dir { Can (H.told host.old) (entry.List (parent_of settings.now.state) []) }

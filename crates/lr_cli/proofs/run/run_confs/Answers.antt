@@ -9,11 +9,8 @@ returns-in_default-clause-told g c = lacks_at_confs c.args.request.now c.args.cl
 pub returns-in_default-clause-shape : goal.returns-in_default-clause-shape
 returns-in_default-clause-shape g c = lacking_shape c.args.clock.now c.as_slice.result.now c.in_default.ensures.lacking
 
-pub run-requires-clause-built : goal.run-requires-clause-built
-run-requires-clause-built g c = c.in-Ok.ensures.built
-
-pub run-requires-clause-disk : goal.run-requires-clause-disk
-run-requires-clause-disk g c = disk_on c.in-Ok.ensures.told c.requires.disk
+pub run-requires : goal.run-requires
+run-requires g c = record { disk = disk_on c.in-Ok.ensures.told c.requires.disk }
 
 pub returns-in-Ok-run-clause-told : goal.returns-in-Ok-run-clause-told
 returns-in-Ok-run-clause-told g c = reports c.args.request.now c.args.settings.now c.args.clock.now c.in-Ok-run.ran.plan c.in-Ok.reading c.into_vec.result.items c.in-Ok-run.ran.faults.items c.requires.settled c.into_vec.ensures

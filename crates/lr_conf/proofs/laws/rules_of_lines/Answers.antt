@@ -1,6 +1,5 @@
 use Rattle.lr_conf.proofs.Limits.{limits}
 use Rattle.lr_conf.proofs.Plain.{all_plain}
-use Rattle.lr_conf.proofs.Built.{all_built}
 use Rattle.lr_conf.proofs.laws.rules_of_lines.Goals as goal
 
 pub returns-clause-limits : goal.returns-clause-limits
@@ -8,6 +7,3 @@ returns-clause-limits c built lines = limits built lines
 
 pub returns-clause-plain : goal.returns-clause-plain
 returns-clause-plain c lines = all_plain lines
-
-pub returns-clause-built : goal.returns-clause-built
-returns-clause-built c lines = all_built lines

@@ -1,10 +1,8 @@
 use Rattle.std.proofs.Common.{sym, subst}
 use Rattle.std.specs.Prelude.{All}
 use Rattle.lr_conf.specs.Meaning.{Meaning}
-use Rattle.lr_fields.specs.Built.{AreBuiltRules}
 use Rattle.lr_conf.specs.Plain.{IsPlainRule}
 use Rattle.lr_conf.proofs.Plain.{all_plain}
-use Rattle.lr_conf.proofs.Built.{all_built}
 use Rattle.lr_include.specs.Stages.{begun}
 use Rattle.lr_include.proofs.Stages.{reads_all, all_mean, no_todo}
 use Rattle.lr_include.specs.Readers.{IsConfOrCall}
@@ -22,11 +20,6 @@ pub returns-clause-plain : goal.returns-clause-plain
 returns-clause-plain g c =
     let went = c.in_ok-ran.ensures.told (begun c.args.paths.now) c.in_ok-course.ensures in
     subst (λ (m : Meaning). All IsPlainRule m.rules) (sym (c.finish-reading.ensures went.stage went.stands)) (all_plain went.stage.lines)
-
-pub returns-clause-built : goal.returns-clause-built
-returns-clause-built g c =
-    let went = c.in_ok-ran.ensures.told (begun c.args.paths.now) c.in_ok-course.ensures in
-    subst (λ (m : Meaning). AreBuiltRules m.rules) (sym (c.finish-reading.ensures went.stage went.stands)) (all_built went.stage.lines)
 
 pub returns-clause-only : goal.returns-clause-only
 returns-clause-only g c =
