@@ -28,9 +28,8 @@ use Rattle.lr_plan.specs.declared.looks.SetLooks.{SetLooks}
 use Rattle.lr_plan.specs.Steps.{state_part}
 use Rattle.lr_targets.specs.AllTurns.{IsStatePath, IsOf, IsOfState, IsOfSome}
 use Rattle.lr_targets.specs.Target.{Target, IsOneOf}
-use Rattle.lr_targets.proofs.Apart.{own_change}
-use Rattle.lr_dated_run.specs.Own.{ChangesOwn, HasAnyNames, HaveAnyNames}
-use Rattle.lr_dated_run.proofs.Own.{dated_change}
+use Rattle.lr_dated_run.specs.Own.{HaveAnyNames}
+use Rattle.lr_dated_run.proofs.Mixed.{any_change}
 use Rattle.lr_mixed.specs.AllTurns.{AllTurnsBy}
 use Rattle.lr_mixed.proofs.Seen.{have_names}
 use Rattle.lr_seen.specs.Free.{reserved_by}
@@ -42,14 +41,9 @@ use Rattle.lr_fulfilled.proofs.Left.{left_alone}
 
 -- ---- one change
 
--- a change of a log's rotation is on names of its family, be they numbers or dates
-own_names : (t : Target) (e : Entry) → HasAnyNames t → IsOf t e → ChangesOwn t.log t.naming e
-own_names t e (inl h) i = own_change t e h i
-own_names t e (inr h) i = dated_change t e h i
-
 some_aside : (x : Path) (ts : List Target) (e : Entry) → HaveAnyNames ts → ((t : Target) → IsOneOf t ts → IsOwnName t.log t.naming x → ⊥) → IsOfSome ts e → IsAsideOf x e
 some_aside x [] e h none i = absurd i
-some_aside x (t ∷ ts) e h none (inl i) = λ at. none t (inl refl) (own_names t e h.0 i x at)
+some_aside x (t ∷ ts) e h none (inl i) = λ at. none t (inl refl) (any_change t e h.0 i x at)
 some_aside x (t ∷ ts) e h none (inr i) = some_aside x ts e h.1 (λ u j. none u (inr j)) i
 
 no_state_path : (state x y : Path) → x ≢ state → x ≢ state_part state → IsStatePath state y → y ≡ x → ⊥

@@ -52,7 +52,8 @@ use Rattle.lr_run.specs.State.{IsNewText}
 use Rattle.lr_run.proofs.Emptying.{left_copied, runs_copied, answers_copied}
 use Rattle.lr_run.proofs.Renewing.{left_whole, quiet_alone, runs_may, answers_may}
 use Rattle.lr_run.proofs.Seeing.{state_so, looks_so, some_so}
-use Rattle.lr_run.proofs.Shape.{quiet_run, sees_quiet}
+use Rattle.lr_mixed.proofs.Shapes.{quiet_run_by}
+use Rattle.lr_run.proofs.Shape.{sees_quiet}
 use Rattle.lr_run.proofs.Works.{plan_free, none_fell, some_of_whole, none_sights, none_shown}
 
 -- ---- the plan
@@ -200,7 +201,7 @@ answers_quiet = answers_so IsQuiet (λ x seen. (tt, refl)) (λ x names. (tt, ref
 
 -- so a dry run has the shape of one
 pub dry_shape : (state : Path) (asked : Asked) (clock : Clock) (rules : Rules) (earlier : List Fault) (r : Result Ran RunStop) (ts : List Entry) → Answers state true asked clock rules earlier r ts → IsWholeRunBy clock ts
-dry_shape state asked clock rules earlier r ts h = quiet_run clock ts (answers_quiet state asked clock rules earlier r ts h)
+dry_shape state asked clock rules earlier r ts h = quiet_run_by clock ts (answers_quiet state asked clock rules earlier r ts h)
 
 -- and leaves the state as it is
 pub dry_whole : (state : Path) (asked : Asked) (clock : Clock) (rules : Rules) (earlier : List Fault) (r : Result Ran RunStop) {o n : Option Journal} → Left (Answers state true asked clock rules earlier r) o n → KeepsWhole state (IsNewText state clock asked rules) o n

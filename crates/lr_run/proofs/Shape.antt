@@ -38,11 +38,12 @@ use Rattle.lr_rotations.specs.Weave.{Weave, FirstWoven, Among}
 use Rattle.lr_rotations.proofs.Moments.{shown_in}
 use Rattle.lr_rotations.proofs.Weaving.{weave_on, weave_others}
 use Rattle.lr_dated_seen.specs.Shown.{WasSeen, ShownDated}
-use Rattle.lr_mixed.specs.AllTurns.{AllTurnsBy, AllTurnedBy, not_yet, started, IsWholeRunBy}
+use Rattle.lr_mixed.specs.AllTurns.{AllTurnsBy, AllTurnedBy, started, IsWholeRunBy}
 use Rattle.lr_mixed.specs.Seen.{IsSeenBy, AreLogsSeen}
 use Rattle.lr_weave.proofs.Parting.{done_turns, cut_turns}
 use Rattle.lr_weave.proofs.Planning.{ready_planned}
 use Rattle.lr_seen.specs.Targets.{groups_of, all_targets}
+use Rattle.lr_mixed.proofs.Shapes.{quiet_run_by}
 use Rattle.lr_mixed.proofs.Whole.{shown_more}
 use Rattle.lr_run.specs.declared.answer.Ran.{Ran}
 use Rattle.lr_run.specs.declared.answer.RunStop.{RunStop}
@@ -65,11 +66,8 @@ sees_quiet x P ts s = subst AreQuiet (sym s.look) ((tt, refl), tt)
 no_turns : (state : Path) (clock : Clock) (rules : Rules) (looks : List Entry) → AreQuiet looks → AllTurnsBy state clock rules (looks ++ [])
 no_turns state clock rules looks q = record { looks = looks; acts = []; joined = refl; quiet = q; targets = []; seen = tt; all = tt; each = λ t h. absurd h }
 
-pub quiet_run : (clock : Clock) (ts : List Entry) → AreQuiet ts → IsWholeRunBy clock ts
-quiet_run clock ts q = record { front = ts; rest = []; joined = sym (append-nil ts); quiet = q; goes_on = not_yet refl }
-
 pub none_run : (clock : Clock) (ts : List Entry) → ts ≡ [] → IsWholeRunBy clock ts
-none_run clock ts e = quiet_run clock ts (subst AreQuiet (sym e) tt)
+none_run clock ts e = quiet_run_by clock ts (subst AreQuiet (sym e) tt)
 
 begun_run : (state : Path) (clock : Clock) (rules : Rules) (before tail ts : List Entry) → Sees (parent_of state) IsDir before → ts ≡ before ++ entry.Starts state clock.now rules ∷ tail → AllTurnsBy state clock rules tail → IsWholeRunBy clock ts
 begun_run state clock rules before tail ts s e t = record { front = before; rest = entry.Starts state clock.now rules ∷ tail; joined = e; quiet = sees_quiet (parent_of state) IsDir before s; goes_on = started state rules tail refl t }
@@ -230,12 +228,12 @@ some_quiet state rules ts (of_looks sights remembered known t) = subst AreQuiet 
 -- ---- the run
 
 runs_shape : (state : Path) (asked : Asked) (clock : Clock) (rules : Rules) (plan : Option Plan) (own : List Fault) (ts : List Entry) → Runs state asked clock rules plan own ts → IsWholeRunBy clock ts
-runs_shape state asked clock rules plan own ts (no_directory lost e s) = quiet_run clock ts (sees_quiet (parent_of state) _ ts s)
+runs_shape state asked clock rules plan own ts (no_directory lost e s) = quiet_run_by clock ts (sees_quiet (parent_of state) _ ts s)
 runs_shape state asked clock rules plan own ts (not_seen lost e s) = none_run clock ts s
 runs_shape state asked clock rules plan own ts (not_begun lost e t) = go t.second
   where
     go : (t.back ≡ []) ⊎ (t.back ≡ entry.Starts state clock.now rules ∷ []) → IsWholeRunBy clock ts
-    go (inl none) = quiet_run clock ts (subst AreQuiet (sym (t.joined ∙ (ap (λ es. t.front ++ es) none ∙ append-nil t.front))) (sees_quiet (parent_of state) IsDir t.front t.first))
+    go (inl none) = quiet_run_by clock ts (subst AreQuiet (sym (t.joined ∙ (ap (λ es. t.front ++ es) none ∙ append-nil t.front))) (sees_quiet (parent_of state) IsDir t.front t.first))
     go (inr one) = begun_run state clock rules t.front [] ts t.first (t.joined ∙ ap (λ es. t.front ++ es) one) (no_turns state clock rules [] tt)
 runs_shape state asked clock rules plan own ts (runs.began i) = begun_run state clock rules i.before (i.between ++ entry.Ends ∷ []) ts i.directory i.entries (ended state clock rules i.between (works_turn state rules clock asked plan own i.between i.within))
 
@@ -255,7 +253,7 @@ broke_turn state rules clock asked ts b = subst (AllTurnsBy state clock rules) (
 
 pub whole_run : (state : Path) (asked : Asked) (clock : Clock) (rules : Rules) (earlier : List Fault) (r : Result Ran RunStop) (ts : List Entry) → Answers state false asked clock rules earlier r ts → IsWholeRunBy clock ts
 whole_run state asked clock rules earlier (Ok ran) ts h = runs_shape state asked clock rules ran.plan h.0 ts h.2
-whole_run state asked clock rules earlier (Err stop.Held) ts h = quiet_run clock ts (sees_quiet (parent_of state) IsDir ts h)
+whole_run state asked clock rules earlier (Err stop.Held) ts h = quiet_run_by clock ts (sees_quiet (parent_of state) IsDir ts h)
 whole_run state asked clock rules earlier (Err stop.Memory) ts (at_first e) = none_run clock ts e
 whole_run state asked clock rules earlier (Err stop.Memory) ts (in_looks i) = begun_run state clock rules i.before (i.between ++ entry.Ends ∷ []) ts i.directory i.entries
     (ended state clock rules i.between (quiet_turns state clock rules i.between (some_quiet state rules.sets i.between i.within)))
