@@ -103,6 +103,7 @@ pub fn make_directory<H: Host>(
     let Ok(look) = host.look(&path, true) else {
         return Err(Stop::Fault(Fault::Call(CallKind::Look, path)));
     };
+    // What had the path when the make found it named is still there, so this doesn't come.
     let Some(seen) = look else {
         return Err(Stop::Fault(Fault::NotFile(path)));
     };

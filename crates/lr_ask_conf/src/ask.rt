@@ -1,5 +1,5 @@
 // The calls that a line may make here.
-use crate::{built, copied, layer, lines, naming};
+use crate::{copied, fields, layer, lines, naming};
 use lr_ask_rules::{Answer, ask_of};
 use lr_line::{Line, Trouble};
 
@@ -7,7 +7,7 @@ use lr_line::{Line, Trouble};
 enum Ask {
     OneLine,
     Layer,
-    LayerOfAll,
+    Fields,
     Copied,
     Named,
 }
@@ -16,7 +16,7 @@ enum Ask {
 static ASKS: [(&str, Ask, usize, usize); 5] = [
     ("line", Ask::OneLine, 2, 2),
     ("layer", Ask::Layer, 1, 2),
-    ("layer-of-all", Ask::LayerOfAll, 1, 2),
+    ("fields", Ask::Fields, 1, 2),
     ("copied", Ask::Copied, 1, 1),
     ("named", Ask::Named, 2, 2),
 ];
@@ -25,7 +25,7 @@ fn answer_of(ask: Ask, line: Line, out: &mut Answer) -> Result<(), Trouble> {
     match ask {
         Ask::OneLine => lines::one_line(line, out),
         Ask::Layer => layer::layer(line, out),
-        Ask::LayerOfAll => built::layer_of_all(line, out),
+        Ask::Fields => fields::fields(line, out),
         Ask::Copied => copied::copied(line, out),
         Ask::Named => naming::named(line, out),
     }

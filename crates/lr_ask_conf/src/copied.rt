@@ -2,7 +2,6 @@
 use crate::layer::read_texts;
 use crate::rule::put_whole;
 use lr_ask_rules::Answer;
-use lr_forms::Built;
 use lr_line::{Line, Trouble};
 use lr_rules::{Rule, Rules};
 
@@ -20,6 +19,6 @@ fn put_copy(line: Line, rules: &Rules, out: &mut Answer) -> Result<(), Trouble> 
 
 /// The faults of the text, then a copy of its rules, with start, way and create of each.
 pub fn copied(line: Line, out: &mut Answer) -> Result<(), Trouble> {
-    let (rules, _) = read_texts(line, Built::SoFar, out)?;
+    let (rules, _) = read_texts(line, out)?;
     put_copy(line, &rules, out)
 }

@@ -6,7 +6,6 @@ use crate::rule::{put_conf_fault, put_notices, put_rules};
 use lr_ask_rules::Answer;
 use lr_ask_words::{put_lex_fault, short_text};
 use lr_conf::{Layer, LayerStop};
-use lr_forms::Built;
 use lr_lex::{Item, LexFault, LexKind, Lexer};
 use lr_line::{Line, Trouble};
 use lr_rules::{ConfKind, Notice, Path, Rules};
@@ -113,12 +112,8 @@ fn read_both(line: Line, layer: &mut Layer, out: &mut Answer) -> Result<(), Trou
 }
 
 /// The faults of the texts that stand behind the call's name, one or two; the rules and notices of their lines.
-pub fn read_texts(
-    line: Line,
-    built: Built,
-    out: &mut Answer,
-) -> Result<(Rules, Vec<Notice>), Trouble> {
-    let mut layer = Layer::new(line.alloc, built)?;
+pub fn read_texts(line: Line, out: &mut Answer) -> Result<(Rules, Vec<Notice>), Trouble> {
+    let mut layer = Layer::new(line.alloc)?;
     match read_both(line, &mut layer, out) {
         Ok(()) => Ok(layer.finish()),
         Err(trouble) => {
@@ -135,7 +130,7 @@ fn put_both(rules: &Rules, notices: &[Notice], out: &mut Answer) {
 
 /// The faults of the files, then their notices, then their rules.
 pub fn layer(line: Line, out: &mut Answer) -> Result<(), Trouble> {
-    let (rules, notices) = read_texts(line, Built::SoFar, out)?;
+    let (rules, notices) = read_texts(line, out)?;
     put_both(&rules, &notices, out);
     Ok(())
 }

@@ -5,8 +5,8 @@
 #![tactic(auto)]
 
 mod ask;
-mod built;
 mod copied;
+mod fields;
 mod layer;
 mod lines;
 mod naming;

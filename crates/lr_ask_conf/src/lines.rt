@@ -1,7 +1,7 @@
 // What one line of a configuration says by itself.
 use lr_ask_rules::{Answer, conf_kind_name, known, put_all};
 use lr_ask_words::{put_pieces, put_taboo, short_text};
-use lr_forms::{Built, Said, Set, say};
+use lr_forms::{Said, Set, say};
 use lr_lex::{Item, Lexer};
 use lr_line::{Line, Trouble};
 use lr_rules::{Back, ConfKind, Count, Criterion, Make, Phase, Piece, Text, Way};
@@ -175,14 +175,9 @@ fn put_said(said: &Said, out: &mut Answer) {
     }
 }
 
-// ---- where the line stands, and what counts as built
+// ---- where the line stands
 
-static PLACES: [(&str, (bool, Built)); 4] = [
-    ("out", (false, Built::All)),
-    ("in", (true, Built::All)),
-    ("out-so-far", (false, Built::SoFar)),
-    ("in-so-far", (true, Built::SoFar)),
-];
+static PLACES: [(&str, bool); 2] = [("out", false), ("in", true)];
 
 fn item_of(line: Line) -> Result<Item, Trouble> {
     let text = short_text(line, 2)?;
@@ -196,9 +191,9 @@ fn item_of(line: Line) -> Result<Item, Trouble> {
 
 /// What the first line of the text says, in this place.
 pub fn one_line(line: Line, out: &mut Answer) -> Result<(), Trouble> {
-    let (inside, built) = known(&PLACES, line.word(1)?, "no such place")?;
+    let inside = known(&PLACES, line.word(1)?, "no such place")?;
     let item = item_of(line)?;
-    let said = say(line.alloc, item, inside, built)?;
+    let said = say(line.alloc, item, inside)?;
     put_said(&said, out);
     drop(said);
     Ok(())

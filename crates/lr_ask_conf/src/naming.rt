@@ -1,7 +1,6 @@
 // How rules name the members of a log.
 use crate::layer::read_texts;
 use lr_ask_rules::Answer;
-use lr_forms::Built;
 use lr_line::{Line, Trouble};
 use lr_naming::naming_of;
 use lr_rules::{Naming, Path, Rule, Rules};
@@ -36,7 +35,7 @@ fn put_each(line: Line, rules: &Rules, log: &Path, out: &mut Answer) -> Result<(
 }
 
 fn put_all_named(line: Line, log: &Path, out: &mut Answer) -> Result<(), Trouble> {
-    let (rules, _) = read_texts(line, Built::All, out)?;
+    let (rules, _) = read_texts(line, out)?;
     put_each(line, &rules, log, out)
 }
 

@@ -153,8 +153,8 @@ module _ (log : Path) (n : Naming) (kin : IsKin log n) (numbered : n.dated ≡ N
         (files_put m l thing.Nothing ls is.0 is.1 (every_as (λ k. k < l) (λ k. k ≡ l → ⊥) ls (λ k lt e. omega (arith, lt, e)) falls.0) stand.1),
   )
 
-  free_so : (m : Names) (places : List ℕ) → StandSo log n places m → Free m
-  free_so m places s = record { free = λ k i. go k i (in_or_not places k); log_file = s.log_file; dir = s.dir }
+  free_so : (m : Names) (places : List ℕ) → IsDirectoryAt m n.dir → StandSo log n places m → Free m
+  free_so m places dir s = record { free = λ k i. go k i (in_or_not places k); log_file = s.log_file; dir = dir }
     where
       go : (k : ℕ) → IsNumber k → Contains places k ⊎ (Contains places k → ⊥) → IsFree m (path_at n k)
       go k i (inl c) = let f = s.members k c in file_plain (m (path_at n k)) f.0 f.1
@@ -162,13 +162,13 @@ module _ (log : Path) (n : Naming) (kin : IsKin log n) (numbered : n.dated ≡ N
 
   -- the whole rotation fits
   pub rotation_fits : (m : Names) (c : Count) (places from : List ℕ) → IsNumber (top_of n c) → Falls places → Every IsNumber places → Every (λ k. is_left c k ≡ false → IsNumber (k + 1)) places
-      → AreGoing c places from → StandSo log n places m → FitAll m (reverse (rotation n c log places from))
-  rotation_fits m c places from small falls within next going s =
+      → AreGoing c places from → IsDirectoryAt m n.dir → StandSo log n places m → FitAll m (reverse (rotation n c log places from))
+  rotation_fits m c places from small falls within next going dir s =
       subst (λ (xs : List Entry). FitAll m xs) (append-nil (reverse (rotation n c log places from)))
       (fit_behind m [] (rotation n c log places from) tt
       (subst (λ (es : List Entry). FitOn m es) (append_assoc (leftover_steps n c places) (turn_steps n c log places) (retire_steps n c from))
       (fit_both m (leftover_steps n c places ++ turn_steps n c log places) (retire_steps n c from)
-      (turn_fits m c places (omega (arith, small)) falls within (kept_as (λ k. IsNumber (k + 1)) c places next) (free_so m places s) (every_from (λ k. IsFileAt m (path_at n k)) places s.members))
+      (turn_fits m c places (omega (arith, small)) falls within (kept_as (λ k. IsNumber (k + 1)) c places next) (free_so m places dir s) (every_from (λ k. IsFileAt m (path_at n k)) places s.members))
       (retire_fits behind (retired c from) (retired_numbers log n kin numbered c places from small next going) (retired_falls c from (falls_all from going.falling)) stand))))
     where
       behind : Names

@@ -1,5 +1,5 @@
 -- What makes a rotation ready, what keeps it from being prepared, and the steps of a ready one.
-use Rattle.std.specs.Prelude.{◌≡◌, ◌≤◌, ◌+◌, ◌==◌, ℕ, Bool, true, false, List, [], ◌∷◌, ◌++◌, map, All, Any, None}
+use Rattle.std.specs.Prelude.{◌≡◌, ◌≤◌, ◌+◌, ◌==◌, ℕ, Bool, true, false, List, [], ◌∷◌, ◌++◌, map, All, Any, Option, None}
 use Rattle.std.specs.List.{flat_map, list_any}
 use Rattle.lr_rules.specs.declared.path.Path.{Path}
 use Rattle.lr_rules.specs.declared.rule.Count.{Count}
@@ -30,6 +30,10 @@ move_from n place = record { from = path_at n place; to = path_at n (place + 1) 
 -- the log's way alone, and whether it is made anew behind that
 abbrev pub at_rest : Path → Naming → Make → Ready
 at_rest log n anew = record { leftovers = []; dir = None; moves = []; log = log; target = path_at n 0; make = anew; retire = [] }
+
+-- the same rotation, by which this directory is made, or none
+abbrev pub with_dir : Option (Path × Option ℕ) → Ready → Ready
+with_dir dir ready = record { leftovers = ready.leftovers; dir = dir; moves = ready.moves; log = ready.log; target = ready.target; make = ready.make; retire = ready.retire }
 
 -- with what is to be done with the members at these places, of which those that come from the second go
 abbrev pub with_members : Naming → Count → List ℕ → List ℕ → Ready → Ready

@@ -11,12 +11,11 @@ use Rattle.lr_host.specs.Steps.{FitAll}
 use Rattle.lr_family.specs.Spots.{path_at}
 use Rattle.lr_chain.specs.Rotation.{is_left, rotation}
 
--- The log is a regular file, the family's directory a directory; the members at just these places, each below the one
--- before it, are regular files, and nothing has the path of another member.
+-- The log is a regular file; the members at just these places, each below the one before it, are regular files, and nothing
+-- has the path of another member.
 pub record StandSo (log : Path) (n : Naming) (places : List ℕ) (names : Names) : Type 0 where
   pub falling : IsStrictlyIncreasing (reverse places)
   pub log_file : IsFileAt names log
-  pub dir : IsDirectoryAt names n.dir
   pub members : (place : ℕ) → Contains places place → IsFileAt names (path_at n place)
   pub others : (place : ℕ) → n.start + place ≤ 4294967295 → (Contains places place → ⊥) → names (path_at n place) ≡ thing.Nothing
 
@@ -28,6 +27,6 @@ pub record AreGoing (c : Count) (places from : List ℕ) : Type 0 where
   pub moved : (place : ℕ) → Contains from place → is_left c place ≡ false
   pub full : (place : ℕ) → Contains places place → is_left c place ≡ false → is_left c (suc place) ≡ true → Contains from place
 
--- wherever they stand so, the steps of the rotation fit one after another
+-- wherever they stand so, in a directory that is there, the steps of the rotation fit one after another
 abbrev pub FitsWhereTheyStand : Path → Naming → Count → List ℕ → List ℕ → Type 0
-FitsWhereTheyStand log n c places from = (names : Names) → StandSo log n places names → FitAll names (reverse (rotation n c log places from))
+FitsWhereTheyStand log n c places from = (names : Names) → IsDirectoryAt names n.dir → StandSo log n places names → FitAll names (reverse (rotation n c log places from))

@@ -14,7 +14,7 @@ use lr_rules::{CallKind, Path};
 pub enum ChainStop<'a> {
     /// The call failed; the path is the one that it would take the name from.
     Call(CallKind, &'a Path),
-    /// Another kind of thing has the path. No case so far.
+    /// Another kind of thing has the path. It doesn't come, since no directory is made here.
     NotFile(&'a Path),
 }
 

@@ -6,7 +6,6 @@ use Rattle.lr_rules.specs.declared.fault.Fault.TheVariants as fault
 use Rattle.lr_rules.specs.declared.path.Path.{Path}
 use Rattle.lr_host.specs.declared.entry.Entry.{Entry}
 use Rattle.lr_host.specs.declared.journal.Journal.{Journal}
-use Rattle.lr_host.specs.Counted.{calls_in, scripts_in}
 use Rattle.lr_host.specs.Lists.{IsIn}
 use Rattle.lr_host.specs.Opening.{IsJournal}
 use Rattle.lr_host.specs.Told.{Left, is_told, Made}
@@ -18,7 +17,8 @@ use Rattle.lr_include.proofs.AllQuiet.{all_so}
 use Rattle.lr_plan.specs.Asked.{asking}
 use Rattle.lr_plan.specs.declared.planned.Plan.{Plan}
 use Rattle.lr_plan.specs.Steps.{state_part}
-use Rattle.lr_run.specs.Copied.{NoneOfCopy}
+use Rattle.lr_run.specs.Met.{IsNoOther}
+use Rattle.lr_run.specs.Runs.{dirs_in}
 use Rattle.lr_run.specs.Dry.{IsSight, AreSights}
 use Rattle.lr_fulfilled.specs.Fulfilled.{NothingFailed, IsFulfilled}
 use Rattle.lr_fulfilled.proofs.Fulfilled.{fulfilled}
@@ -28,10 +28,10 @@ use Rattle.lr_cli.specs.declared.outcome.Outcome.TheVariants.{Done}
 use Rattle.lr_cli.specs.declared.outcome.Report.{Report}
 use Rattle.lr_cli.specs.Answer.{Answered}
 use Rattle.lr_cli.specs.Asked.{AskFor}
-use Rattle.lr_cli.specs.Fulfilled.{FailNothing, FulfillsPlan}
+use Rattle.lr_cli.specs.Fulfilled.{FailNothing, MakesDirs, FulfillsPlan, plan_by}
 use Rattle.lr_cli.specs.Reached.{ReachesPlan}
 use Rattle.lr_cli.proofs.Reached.{plan_joined}
-use Rattle.lr_cli.proofs.Rotating.{own_calls, own_ends, own_copies, came_to_plan}
+use Rattle.lr_cli.proofs.Rotating.{own_met, came_to_plan}
 use Rattle.lr_cli.proofs.Still.{zone_so}
 
 -- what comes before the run are looks, listings and reads
@@ -40,16 +40,14 @@ plan_sights request zone seconds report ts p = each_append IsSight p.of_clock p.
     (all_so IsSight (λ x seen. tt) (λ x names. tt) (λ x from piece le. tt) request.confs p.meaning p.reads p.read)
 
 -- of the run's own faults too
-own_failed : (state : Path) (all xs own : List Fault) → all ≡ xs ++ own → FailNothing state all → NothingFailed state own
-own_failed state all xs own e n = record {
-  no_call = own_calls xs own (sym (ap calls_in e) ∙ n.stop_nothing.no_call);
-  no_end = own_ends xs own (sym (ap scripts_in e) ∙ n.stop_nothing.no_script);
-  no_copy = own_copies xs own (subst NoneOfCopy e n.stop_nothing.no_copy);
+own_failed : (state : Path) (all xs own : List Fault) (dirs : List Path) → all ≡ xs ++ own → FailNothing state all → IsNoOther dirs all → NothingFailed state dirs own
+own_failed state all xs own dirs e n clear = record {
+  met = own_met state all xs own dirs e n.stop_nothing clear;
   not_taken = λ i. n.not_taken (subst (IsIn (fault.Taken (state_part state))) (sym e) (in_back _ xs own i));
 }
 
-plan_fulfils : (request : Request) (zone : Zone) (seconds : ℤ) (report : Report) (j k : Journal) (es : List Entry) → Made (past j) es (past k) → FailNothing request.state report.faults → IsJournal (past j) → ReachesPlan request zone seconds report (reverse es) → FulfillsPlan request zone seconds report j k
-plan_fulfils request zone seconds report j k es made none journal p = record {
+pub plan_fulfils : (request : Request) (zone : Zone) (seconds : ℤ) (report : Report) (j k : Journal) (es : List Entry) → Made (past j) es (past k) → IsJournal (past j) → (p : ReachesPlan request zone seconds report (reverse es)) → NothingFailed request.state (dirs_in (plan_by request zone seconds report (reverse es) p)) p.own → FulfillsPlan request zone seconds report j k
+plan_fulfils request zone seconds report j k es made journal p none = record {
   entries = es;
   made = made;
   plan = p;
@@ -59,18 +57,19 @@ plan_fulfils request zone seconds report j k es made none journal p = record {
   where
     f : IsFulfilled request.state p.rules.sets p.clock (asking request.force request.mailer) p.run.between p.run.within.looked p.own (reverse es) (past j) (past k)
     f = fulfilled request.state (asking request.force request.mailer) p.clock p.rules p.own (past j) (past k) es (p.of_clock ++ p.reads) p.acts made journal
-        (plan_joined request zone seconds report (reverse es) p) (plan_sights request zone seconds report (reverse es) p) p.run (own_failed request.state report.faults p.meaning.faults p.own p.faults_are none)
+        (plan_joined request zone seconds report (reverse es) p) (plan_sights request zone seconds report (reverse es) p) p.run none
 
 from_entries : (here : Path) (words : List (List ℕ)) (request : Request) (zone : Zone) (seconds : ℤ) (plan : Option Plan) (report : Report) (j k : Journal) → AskFor here words request → request.debug ≡ false → Left (Answered here words zone seconds plan (Done report)) (Some j) (Some k) → FailNothing request.state report.faults → IsJournal (past j)
-    → FulfillsPlan request zone seconds report j k
-from_entries here words request zone seconds plan report j k asks dry (is_told {es = es} made a) none journal =
-    plan_fulfils request zone seconds report j k es made none journal (came_to_plan here words request zone seconds plan report (reverse es) asks dry a none.stop_nothing)
+    → MakesDirs request zone seconds report j k → FulfillsPlan request zone seconds report j k
+from_entries here words request zone seconds plan report j k asks dry (is_told {es = es} made a) none journal makes =
+    let p = came_to_plan here words request zone seconds plan report (reverse es) asks dry a none.stop_nothing in
+    plan_fulfils request zone seconds report j k es made journal p (own_failed request.state report.faults p.meaning.faults p.own (dirs_in (plan_by request zone seconds report (reverse es) p)) p.faults_are none (makes es made p))
 
 -- that a call with these words left its answer
 pub answered_fulfilled : (here : Path) (words : List (List ℕ)) (request : Request) (zone : Zone) (seconds : ℤ) (plan : Option Plan) (outcome : Outcome) (report : Report) (o n : Option Journal) (j k : Journal) → AskFor here words request → request.debug ≡ false → Left (Answered here words zone seconds plan outcome) o n → outcome ≡ Done report
-    → FailNothing request.state report.faults → o ≡ Some j → n ≡ Some k → IsJournal (past j) → FulfillsPlan request zone seconds report j k
-answered_fulfilled here words request zone seconds plan outcome report o n j k asks dry left done none told_j told_k journal =
+    → FailNothing request.state report.faults → o ≡ Some j → n ≡ Some k → IsJournal (past j) → MakesDirs request zone seconds report j k → FulfillsPlan request zone seconds report j k
+answered_fulfilled here words request zone seconds plan outcome report o n j k asks dry left done none told_j told_k journal makes =
     from_entries here words request zone seconds plan report j k asks dry
     (subst (λ (m : Option Journal). Left (Answered here words zone seconds plan (Done report)) (Some j) m) told_k
     (subst (λ (m : Option Journal). Left (Answered here words zone seconds plan (Done report)) m n) told_j
-    (subst (λ (r : Outcome). Left (Answered here words zone seconds plan r) o n) done left))) none journal
+    (subst (λ (r : Outcome). Left (Answered here words zone seconds plan r) o n) done left))) none journal makes

@@ -2,20 +2,25 @@
 use Rattle.std.proofs.Common.{◌≡◌, ◌+◌, arith, ℕ, false, List, [], ◌∷◌, ◌++◌, Option, Some, ⊎_elim, reverse, refl, sym, ap, ◌∙◌, subst}
 use Rattle.std.specs.Prelude.{ℤ}
 use Rattle.lr_rules.specs.declared.fault.Fault.{Fault}
+use Rattle.lr_rules.specs.declared.fault.Fault.TheVariants as fault
 use Rattle.lr_rules.specs.declared.path.Path.{Path}
 use Rattle.lr_host.specs.declared.entry.Entry.{Entry}
 use Rattle.lr_host.specs.declared.journal.Journal.{Journal}
 use Rattle.lr_host.specs.Counted.{call_in, calls_in, scripts_in}
+use Rattle.lr_host.specs.Lists.{IsIn}
 use Rattle.lr_host.specs.Opening.{IsJournal}
 use Rattle.lr_host.specs.Quiet.{AreQuiet}
 use Rattle.lr_host.specs.Told.{Left, is_told, Made}
 use Rattle.lr_host.specs.World.{past}
 use Rattle.lr_host.proofs.Counts.{calls_on, scripts_on}
+use Rattle.lr_host.proofs.Lists.{in_back}
 use Rattle.lr_due.specs.declared.tz.Zone.{Zone}
 use Rattle.lr_due.specs.declared.tz.Zone.TheVariants.{Utc, Rule, File}
 use Rattle.lr_plan.specs.Asked.{asking}
 use Rattle.lr_plan.specs.declared.planned.Plan.{Plan}
 use Rattle.lr_run.specs.Copied.{NoneOfCopy}
+use Rattle.lr_run.specs.Met.{IsNoOther, MetNothing}
+use Rattle.lr_run.specs.Runs.{dirs_in}
 use Rattle.lr_run.proofs.Rotating.{run_rotated, run_dated_rotated}
 use Rattle.lr_run.proofs.Turning.{run_turned, run_dated_turned}
 use Rattle.lr_reached.specs.Ending.{NoneEnds}
@@ -27,6 +32,7 @@ use Rattle.lr_command.specs.declared.request.Request.{Request}
 use Rattle.lr_cli.specs.Answer.{Answered}
 use Rattle.lr_cli.specs.Asked.{AskFor}
 use Rattle.lr_cli.specs.Faults.{StopNothing}
+use Rattle.lr_cli.specs.Fulfilled.{MakesDirs, plan_by}
 use Rattle.lr_cli.specs.Reached.{ReachesPlan, IsOfZone, MayEndCall}
 use Rattle.lr_cli.specs.Rotated.{RotatesAll}
 use Rattle.lr_cli.proofs.Reached.{Unreached, call_reached, plan_quiet, plan_joined}
@@ -63,20 +69,29 @@ pub own_copies : (xs ys : List Fault) → NoneOfCopy (xs ++ ys) → NoneOfCopy y
 own_copies [] ys h = h
 own_copies (x ∷ xs) ys h = own_copies xs ys h.1
 
+-- so the run's own faults tell of nothing that was met
+pub own_met : (state : Path) (all xs own : List Fault) (dirs : List Path) → all ≡ xs ++ own → StopNothing state all → IsNoOther dirs all → MetNothing dirs own
+own_met state all xs own dirs e none clear = record {
+  no_call = own_calls xs own (sym (ap calls_in e) ∙ none.no_call);
+  no_end = own_ends xs own (sym (ap scripts_in e) ∙ none.no_script);
+  no_copy = own_copies xs own (subst NoneOfCopy e none.no_copy);
+  no_other = λ dir i j. clear dir i (subst (IsIn (fault.NotFile dir)) (sym e) (in_back (fault.NotFile dir) xs own j));
+}
+
 -- and then the call came to its plan
 pub came_to_plan : (here : Path) (words : List (List ℕ)) (request : Request) (zone : Zone) (seconds : ℤ) (plan : Option Plan) (report : Report) (ts : List Entry) → AskFor here words request → request.debug ≡ false → Answered here words zone seconds plan (Done report) ts → StopNothing request.state report.faults
     → ReachesPlan request zone seconds report ts
 came_to_plan here words request zone seconds plan report ts asks dry a none = ⊎_elim (λ p. p) (λ u. absurd (nothing_stopped request.state zone report.faults _ u none.none_ends none.no_call)) (call_reached request zone seconds report ts here words plan asks dry a)
 
-plan_rotates : (request : Request) (zone : Zone) (seconds : ℤ) (report : Report) (j k : Journal) (es : List Entry) → Made (past j) es (past k) → StopNothing request.state report.faults → IsJournal (past j) → ReachesPlan request zone seconds report (reverse es) → RotatesAll request zone seconds report j k
-plan_rotates request zone seconds report j k es made none journal p = record {
+plan_rotates : (request : Request) (zone : Zone) (seconds : ℤ) (report : Report) (j k : Journal) (es : List Entry) → Made (past j) es (past k) → StopNothing request.state report.faults → IsJournal (past j) → (p : ReachesPlan request zone seconds report (reverse es)) → IsNoOther (dirs_in (plan_by request zone seconds report (reverse es) p)) report.faults → RotatesAll request zone seconds report j k
+plan_rotates request zone seconds report j k es made none journal p clear = record {
   entries = es;
   made = made;
   plan = p;
-  each = λ x one by_rename numbers. run_rotated request.state (asking request.force request.mailer) p.clock p.rules p.own (past j) (past k) es (p.of_clock ++ p.reads) p.acts made journal joined quiet p.run calls ends copies x one by_rename numbers;
-  each_dated = λ x one by_rename dates. run_dated_rotated request.state (asking request.force request.mailer) p.clock p.rules p.own (past j) (past k) es (p.of_clock ++ p.reads) p.acts made journal joined quiet p.run calls ends copies x one by_rename dates;
-  copied = λ x one job by_copy numbers. run_turned request.state (asking request.force request.mailer) p.clock p.rules p.own (past j) (past k) es (p.of_clock ++ p.reads) p.acts made journal joined quiet p.run calls ends copies x one job by_copy numbers;
-  copied_dated = λ x one job by_copy dates. run_dated_turned request.state (asking request.force request.mailer) p.clock p.rules p.own (past j) (past k) es (p.of_clock ++ p.reads) p.acts made journal joined quiet p.run calls ends copies x one job by_copy dates;
+  each = λ x one by_rename numbers. run_rotated request.state (asking request.force request.mailer) p.clock p.rules p.own (past j) (past k) es (p.of_clock ++ p.reads) p.acts made journal joined quiet p.run met x one by_rename numbers;
+  each_dated = λ x one by_rename dates. run_dated_rotated request.state (asking request.force request.mailer) p.clock p.rules p.own (past j) (past k) es (p.of_clock ++ p.reads) p.acts made journal joined quiet p.run met x one by_rename dates;
+  copied = λ x one job by_copy numbers. run_turned request.state (asking request.force request.mailer) p.clock p.rules p.own (past j) (past k) es (p.of_clock ++ p.reads) p.acts made journal joined quiet p.run met x one job by_copy numbers;
+  copied_dated = λ x one job by_copy dates. run_dated_turned request.state (asking request.force request.mailer) p.clock p.rules p.own (past j) (past k) es (p.of_clock ++ p.reads) p.acts made journal joined quiet p.run met x one job by_copy dates;
 }
   where
     joined : reverse es ≡ (p.of_clock ++ p.reads) ++ p.acts
@@ -85,25 +100,19 @@ plan_rotates request zone seconds report j k es made none journal p = record {
     quiet : AreQuiet (p.of_clock ++ p.reads)
     quiet = plan_quiet request zone seconds report (reverse es) p
 
-    calls : calls_in p.own ≡ 0
-    calls = own_calls p.meaning.faults p.own (sym (ap calls_in p.faults_are) ∙ none.no_call)
-
-    ends : scripts_in p.own ≡ 0
-    ends = own_ends p.meaning.faults p.own (sym (ap scripts_in p.faults_are) ∙ none.no_script)
-
-    copies : NoneOfCopy p.own
-    copies = own_copies p.meaning.faults p.own (subst NoneOfCopy p.faults_are none.no_copy)
+    met : MetNothing (dirs_in (plan_by request zone seconds report (reverse es) p)) p.own
+    met = own_met request.state report.faults p.meaning.faults p.own (dirs_in (plan_by request zone seconds report (reverse es) p)) p.faults_are none clear
 
 from_entries : (here : Path) (words : List (List ℕ)) (request : Request) (zone : Zone) (seconds : ℤ) (plan : Option Plan) (report : Report) (j k : Journal) → AskFor here words request → request.debug ≡ false → Left (Answered here words zone seconds plan (Done report)) (Some j) (Some k) → StopNothing request.state report.faults → IsJournal (past j)
-    → RotatesAll request zone seconds report j k
-from_entries here words request zone seconds plan report j k asks dry (is_told {es = es} made a) none journal =
-    plan_rotates request zone seconds report j k es made none journal (came_to_plan here words request zone seconds plan report (reverse es) asks dry a none)
+    → MakesDirs request zone seconds report j k → RotatesAll request zone seconds report j k
+from_entries here words request zone seconds plan report j k asks dry (is_told {es = es} made a) none journal makes =
+    let p = came_to_plan here words request zone seconds plan report (reverse es) asks dry a none in plan_rotates request zone seconds report j k es made none journal p (makes es made p)
 
 -- that a call with these words left its answer
 pub answered_rotated : (here : Path) (words : List (List ℕ)) (request : Request) (zone : Zone) (seconds : ℤ) (plan : Option Plan) (outcome : Outcome) (report : Report) (o n : Option Journal) (j k : Journal) → AskFor here words request → request.debug ≡ false → Left (Answered here words zone seconds plan outcome) o n → outcome ≡ Done report
-    → StopNothing request.state report.faults → o ≡ Some j → n ≡ Some k → IsJournal (past j) → RotatesAll request zone seconds report j k
-answered_rotated here words request zone seconds plan outcome report o n j k asks dry left done none told_j told_k journal =
+    → StopNothing request.state report.faults → o ≡ Some j → n ≡ Some k → IsJournal (past j) → MakesDirs request zone seconds report j k → RotatesAll request zone seconds report j k
+answered_rotated here words request zone seconds plan outcome report o n j k asks dry left done none told_j told_k journal makes =
     from_entries here words request zone seconds plan report j k asks dry
     (subst (λ (m : Option Journal). Left (Answered here words zone seconds plan (Done report)) (Some j) m) told_k
     (subst (λ (m : Option Journal). Left (Answered here words zone seconds plan (Done report)) m n) told_j
-    (subst (λ (r : Outcome). Left (Answered here words zone seconds plan r) o n) done left))) none journal
+    (subst (λ (r : Outcome). Left (Answered here words zone seconds plan r) o n) done left))) none journal makes

@@ -1,4 +1,4 @@
--- From what a call is told to have left: where nothing was in its way and no count of failures rose, nothing failed.
+-- From what a call is told to have left: where nothing was in its way and no count of failures rose, nothing failed, and it did its plan.
 use Rattle.std.proofs.Common.{◌≡◌, ◌⊎◌, ⊎_elim, ℕ, false, List, ◌++◌, All, Option, Some, None, Result, Ok, Err, IfOk, reverse, sym, ap, ◌∙◌, subst}
 use Rattle.std.specs.Prelude.{ℤ}
 use Rattle.std.proofs.lemmas.List.Elements.{recursion_from_All}
@@ -22,6 +22,7 @@ use Rattle.lr_plan.specs.declared.settings.Settings.{Settings}
 use Rattle.lr_plan.specs.Steps.{state_part}
 use Rattle.lr_run.specs.declared.answer.RunStop.{RunStop}
 use Rattle.lr_run.specs.Copied.{IsOfCopy}
+use Rattle.lr_run.specs.Runs.{dirs_in}
 use Rattle.lr_run.specs.Taken.{TakenBy, AddsTaken}
 use Rattle.lr_run.proofs.Taken.{IsOfNew, adds_behind}
 use Rattle.lr_reached.specs.Ending.{NoneEnds}
@@ -37,10 +38,11 @@ use Rattle.lr_cli.specs.declared.told.Told.{Told}
 use Rattle.lr_cli.specs.Answer.{Answered}
 use Rattle.lr_cli.specs.Asked.{AskFor}
 use Rattle.lr_cli.specs.Faults.{answer_of, plan_told, HasCounted}
-use Rattle.lr_cli.specs.Fulfilled.{FailNothing, plan_by}
+use Rattle.lr_cli.specs.Fulfilled.{plan_by}
 use Rattle.lr_cli.specs.Reached.{ReachesPlan}
 use Rattle.lr_cli.specs.Settled.{AreSettingsOf}
-use Rattle.lr_cli.specs.Smooth.{TellsTaken, IsSmoothCall}
+use Rattle.lr_cli.specs.Smooth.{TellsTaken, IsDone, IsSmoothCall}
+use Rattle.lr_cli.proofs.Fulfilling.{plan_fulfils}
 use Rattle.lr_cli.proofs.Reached.{conf_no_new, means_no_new, plan_joined, plan_quiet, call_came}
 use Rattle.lr_cli.proofs.Still.{same_Some}
 use Rattle.lr_cli.proofs.Rotating.{nothing_stopped, own_calls, own_ends}
@@ -94,10 +96,13 @@ taken_of here words other request r o n asked asks t = subst (λ (q : Request). 
 
 module _ (request : Request) (zone : Zone) (seconds : ℤ) (report : Report) (plan : Option Plan) (j k : Journal) (es : List Entry) (made : Made (past j) es (past k)) (journal : IsJournal (past j)) (none_ends : NoneEnds request.state report.faults) (no_call : calls_in report.faults ≡ 0) (no_end : scripts_in report.faults ≡ 0)
     (taken : TellsTaken request.state plan report.faults (Some j) (Some k)) (smooth : IsSmoothCall request zone seconds report j k) where
-  plan_fails_nothing : (p : ReachesPlan request zone seconds report (reverse es)) → plan ≡ Some (plan_by request zone seconds report (reverse es) p) → FailNothing request.state report.faults
+  plan_fails_nothing : (p : ReachesPlan request zone seconds report (reverse es)) → plan ≡ Some (plan_by request zone seconds report (reverse es) p) → IsDone request zone seconds report j k
   plan_fails_nothing p is = record {
-    stop_nothing = record { none_ends = none_ends; no_call = no_call; no_script = no_end; no_copy = each_in (λ f. IsOfCopy f → ⊥) report.faults (λ f i c. no_copy f i c) };
-    not_taken = λ i. ⊎_elim (λ a. means_no_new request.confs p.meaning p.reads p.read (fault.Taken (state_part request.state)) tt a) (λ b. own.not_taken b) (split (fault.Taken (state_part request.state)) i);
+    none = record {
+      stop_nothing = record { none_ends = none_ends; no_call = no_call; no_script = no_end; no_copy = each_in (λ f. IsOfCopy f → ⊥) report.faults (λ f i c. no_copy f i c) };
+      not_taken = λ i. ⊎_elim (λ a. means_no_new request.confs p.meaning p.reads p.read (fault.Taken (state_part request.state)) tt a) (λ b. own.not_taken b) (split (fault.Taken (state_part request.state)) i);
+    };
+    plan = plan_fulfils request zone seconds report j k es made journal p own;
   }
     where
       split : (f : Fault) → IsIn f report.faults → IsIn f p.meaning.faults ⊎ IsIn f p.own
@@ -106,7 +111,7 @@ module _ (request : Request) (zone : Zone) (seconds : ℤ) (report : Report) (pl
       t : TakenBy request.state (plan_by request zone seconds report (reverse es) p) report.faults (Some j) (Some k)
       t = taken (plan_by request zone seconds report (reverse es) p) is
 
-      own : NothingFailed request.state p.own
+      own : NothingFailed request.state (dirs_in (plan_by request zone seconds report (reverse es) p)) p.own
       own = nothing_fails request.state (asking request.force request.mailer) p.clock p.rules p.own j k es (p.of_clock ++ p.reads) p.acts made journal
           (plan_joined request zone seconds report (reverse es) p) (plan_quiet request zone seconds report (reverse es) p) p.run (smooth es made p)
           (record { stale = t.stale; dirs = t.dirs; text = t.text; taken = λ path last i. t.taken path last (subst (IsIn (fault.Taken path)) (sym p.faults_are) (in_back (fault.Taken path) p.meaning.faults p.own i)) })
@@ -119,13 +124,13 @@ module _ (request : Request) (zone : Zone) (seconds : ℤ) (report : Report) (pl
       is_new _ c = absurd c
 
       no_copy : (f : Fault) → IsIn f report.faults → IsOfCopy f → ⊥
-      no_copy f i c = ⊎_elim (λ a. means_no_new request.confs p.meaning p.reads p.read f (is_new f c) a) (λ b. in_each (λ g. IsOfCopy g → ⊥) p.own f own.no_copy b c) (split f i)
+      no_copy f i c = ⊎_elim (λ a. means_no_new request.confs p.meaning p.reads p.read f (is_new f c) a) (λ b. in_each (λ g. IsOfCopy g → ⊥) p.own f own.met.no_copy b c) (split f i)
 
-  fails_nothing : (here : Path) (words : List (List ℕ)) → AskFor here words request → request.debug ≡ false → Answered here words zone seconds plan (Done report) (reverse es) → FailNothing request.state report.faults
+  fails_nothing : (here : Path) (words : List (List ℕ)) → AskFor here words request → request.debug ≡ false → Answered here words zone seconds plan (Done report) (reverse es) → IsDone request zone seconds report j k
   fails_nothing here words asks dry a = ⊎_elim (λ came. plan_fails_nothing came.0 came.1) (λ u. absurd (nothing_stopped request.state zone report.faults _ u none_ends no_call)) (call_came request zone seconds report (reverse es) here words plan asks dry a)
 
 from_entries : (here : Path) (words : List (List ℕ)) (request : Request) (zone : Zone) (seconds : ℤ) (plan : Option Plan) (report : Report) (j k : Journal) → AskFor here words request → request.debug ≡ false → Left (Answered here words zone seconds plan (Done report)) (Some j) (Some k) → IsJournal (past j)
-    → NoneEnds request.state report.faults → calls_in report.faults ≡ 0 → scripts_in report.faults ≡ 0 → TellsTaken request.state plan report.faults (Some j) (Some k) → IsSmoothCall request zone seconds report j k → FailNothing request.state report.faults
+    → NoneEnds request.state report.faults → calls_in report.faults ≡ 0 → scripts_in report.faults ≡ 0 → TellsTaken request.state plan report.faults (Some j) (Some k) → IsSmoothCall request zone seconds report j k → IsDone request zone seconds report j k
 from_entries here words request zone seconds plan report j k asks dry (is_told {es = es} made a) journal none_ends no_call no_end taken smooth =
     fails_nothing request zone seconds report plan j k es made journal none_ends no_call no_end taken smooth here words asks dry a
 
@@ -134,7 +139,7 @@ counted_so outcome report counted counts done h = subst (λ (o : Outcome). HasCo
 
 -- that a call with these words left its answer
 pub answered_smooth : (here : Path) (words : List (List ℕ)) (request : Request) (zone : Zone) (seconds : ℤ) (plan : Option Plan) (outcome : Outcome) (report : Report) (o n : Option Journal) (j k : Journal) (counted counts : Counts) → AskFor here words request → request.debug ≡ false → Left (Answered here words zone seconds plan outcome) o n → outcome ≡ Done report
-    → NoneEnds request.state report.faults → HasCounted outcome counted counts → NoneRose counted counts → TellsTaken request.state plan report.faults o n → o ≡ Some j → n ≡ Some k → IsJournal (past j) → IsSmoothCall request zone seconds report j k → FailNothing request.state report.faults
+    → NoneEnds request.state report.faults → HasCounted outcome counted counts → NoneRose counted counts → TellsTaken request.state plan report.faults o n → o ≡ Some j → n ≡ Some k → IsJournal (past j) → IsSmoothCall request zone seconds report j k → IsDone request zone seconds report j k
 answered_smooth here words request zone seconds plan outcome report o n j k counted counts asks dry left done none_ends are none taken told_j told_k journal smooth =
     from_entries here words request zone seconds plan report j k asks dry
     (subst (λ (m : Option Journal). Left (Answered here words zone seconds plan (Done report)) (Some j) m) told_k

@@ -7,7 +7,7 @@ use Rattle.lr_rules.specs.declared.rules.Rules.{Rules}
 use Rattle.lr_host.specs.declared.entry.Entry.{Entry}
 use Rattle.lr_host.specs.declared.journal.Journal.{Journal}
 use Rattle.lr_host.specs.Quiet.{AreQuiet}
-use Rattle.lr_host.specs.Told.{Each, IsTools, Left, Then}
+use Rattle.lr_host.specs.Told.{Left, Then}
 use Rattle.lr_host.proofs.Quiet.{quiet_both}
 use Rattle.lr_durable.specs.Renewing.{MayRenew}
 use Rattle.lr_durable.specs.StateWhole.{KeepsWhole}
@@ -18,7 +18,8 @@ use Rattle.lr_plan.specs.Asked.{asking}
 use Rattle.lr_plan.specs.declared.planned.Plan.{Plan}
 use Rattle.lr_run.specs.State.{IsNewText as IsTextOfRun}
 use Rattle.lr_run.proofs.Drying.{leaves_may, lacks_may, holds_quiet}
-use Rattle.lr_run.proofs.Renewing.{each_later, quiet_alone, behind_quiet, left_whole}
+use Rattle.lr_run.proofs.Made.{AreMade, made_later}
+use Rattle.lr_run.proofs.Renewing.{quiet_alone, behind_quiet, left_whole}
 use Rattle.lr_cli.specs.declared.clock.ClockStop.TheVariants as stop
 use Rattle.lr_cli.specs.declared.outcome.Outcome.{Outcome}
 use Rattle.lr_cli.specs.declared.outcome.Outcome.TheVariants.{Done, BadWords, Held, OutOfMemory}
@@ -52,44 +53,44 @@ module _ (request : Request) (zone : Zone) (seconds : ℤ) where
         entries = record { front = front; back = us; joined = joined; first = shown; second = record { front = reads; back = acts; joined = parts; first = of_confs; second = is } };
       }
 
-  tools_behind : (ts us front : List Entry) → ts ≡ front ++ us → Each IsTools ts → Each IsTools us
-  tools_behind ts us front joined tools = each_later IsTools front us (subst (Each IsTools) joined tools)
+  made_behind : (ts us front : List Entry) → ts ≡ front ++ us → AreMade ts → AreMade us
+  made_behind ts us front joined made = made_later front us (subst AreMade joined made)
 
   -- behind the clock, a run was made
-  reports_may : (clock : Clock) (plan : Option Plan) (report : Report) (ts : List Entry) → Each IsTools ts → Then (ShowsClock zone seconds clock) (Reports request clock plan report.notices report.faults) ts → MayRenew request.state (Text ts) ts
-  reports_may clock plan report ts tools t =
+  reports_may : (clock : Clock) (plan : Option Plan) (report : Report) (ts : List Entry) → AreMade ts → Then (ShowsClock zone seconds clock) (Reports request clock plan report.notices report.faults) ts → MayRenew request.state (Text ts) ts
+  reports_may clock plan report ts made t =
       let r = t.second in
       behind_may clock r.meaning r.rules ts t.back r.entries.front r.entries.back t.front r.rules_are t.joined r.entries.joined t.first r.entries.first
       (leaves_may request.debug request.state (asking request.force request.mailer) clock r.rules plan r.own r.entries.back
-      (tools_behind t.back r.entries.back r.entries.front r.entries.joined (tools_behind ts t.back t.front t.joined tools)) r.entries.second)
+      (made_behind t.back r.entries.back r.entries.front r.entries.joined (made_behind ts t.back t.front t.joined made)) r.entries.second)
 
   -- there was no memory
-  lost_may : (clock : Clock) (ts us front : List Entry) → ts ≡ front ++ us → ShowsClock zone seconds clock front → Each IsTools us → LacksMemory request clock us → MayRenew request.state (Text ts) ts
-  lost_may clock ts us front joined shown tools (at_first none) = quiet_alone request.state (Text ts) ts (subst AreQuiet (sym joined) (quiet_both front us (clock_quiet zone seconds clock front shown) (subst AreQuiet (sym none) tt)))
-  lost_may clock ts us front joined shown tools (at_confs l) = quiet_alone request.state (Text ts) ts (subst AreQuiet (sym joined) (quiet_both front us (clock_quiet zone seconds clock front shown) (lacking_quiet request.confs us l)))
-  lost_may clock ts us front joined shown tools (at_run meaning rules same t) =
+  lost_may : (clock : Clock) (ts us front : List Entry) → ts ≡ front ++ us → ShowsClock zone seconds clock front → AreMade us → LacksMemory request clock us → MayRenew request.state (Text ts) ts
+  lost_may clock ts us front joined shown made (at_first none) = quiet_alone request.state (Text ts) ts (subst AreQuiet (sym joined) (quiet_both front us (clock_quiet zone seconds clock front shown) (subst AreQuiet (sym none) tt)))
+  lost_may clock ts us front joined shown made (at_confs l) = quiet_alone request.state (Text ts) ts (subst AreQuiet (sym joined) (quiet_both front us (clock_quiet zone seconds clock front shown) (lacking_quiet request.confs us l)))
+  lost_may clock ts us front joined shown made (at_run meaning rules same t) =
       behind_may clock meaning rules ts us t.front t.back front same joined t.joined shown t.first
-      (lacks_may request.debug request.state (asking request.force request.mailer) clock rules t.back (tools_behind us t.back t.front t.joined tools) t.second)
+      (lacks_may request.debug request.state (asking request.force request.mailer) clock rules t.back (made_behind us t.back t.front t.joined made) t.second)
 
   lock_quiet : (ts : List Entry) → FindsLock request ts → AreQuiet ts
   lock_quiet ts f = subst AreQuiet (sym f.entries.joined) (quiet_both f.entries.front f.entries.back (confs_quiet request.confs f.meaning f.entries.front f.entries.first) (holds_quiet request.debug request.state f.entries.back f.entries.second))
 
   -- behind the clock, whatever the answer
-  called_may : (clock : Clock) (plan : Option Plan) (outcome : Outcome) (ts : List Entry) → Each IsTools ts → Then (ShowsClock zone seconds clock) (Answers request clock plan outcome) ts → MayRenew request.state (Text ts) ts
-  called_may clock plan (Done report) ts tools t = reports_may clock plan report ts tools t
-  called_may clock plan Held ts tools t = quiet_alone request.state (Text ts) ts (subst AreQuiet (sym t.joined) (quiet_both t.front t.back (clock_quiet zone seconds clock t.front t.first) (lock_quiet t.back t.second.1)))
-  called_may clock plan OutOfMemory ts tools t = lost_may clock ts t.back t.front t.joined t.first (tools_behind ts t.back t.front t.joined tools) t.second.1
-  called_may clock plan BadWords ts tools t = absurd t.second
+  called_may : (clock : Clock) (plan : Option Plan) (outcome : Outcome) (ts : List Entry) → AreMade ts → Then (ShowsClock zone seconds clock) (Answers request clock plan outcome) ts → MayRenew request.state (Text ts) ts
+  called_may clock plan (Done report) ts made t = reports_may clock plan report ts made t
+  called_may clock plan Held ts made t = quiet_alone request.state (Text ts) ts (subst AreQuiet (sym t.joined) (quiet_both t.front t.back (clock_quiet zone seconds clock t.front t.first) (lock_quiet t.back t.second.1)))
+  called_may clock plan OutOfMemory ts made t = lost_may clock ts t.back t.front t.joined t.first (made_behind ts t.back t.front t.joined made) t.second.1
+  called_may clock plan BadWords ts made t = absurd t.second
 
-  at_may : (plan : Option Plan) (outcome : Outcome) (ts : List Entry) → Each IsTools ts → AnswersAt request zone seconds plan outcome ts → MayRenew request.state (Text ts) ts
-  at_may plan outcome ts tools (no_clock f lost e l) = quiet_alone request.state (Text ts) ts (stop_quiet zone seconds (stop.Fault f) ts l)
-  at_may plan outcome ts tools (no_memory lost e l) = quiet_alone request.state (Text ts) ts (stop_quiet zone seconds stop.Memory ts l)
-  at_may plan outcome ts tools (called clock t) = called_may clock plan outcome ts tools t
+  at_may : (plan : Option Plan) (outcome : Outcome) (ts : List Entry) → AreMade ts → AnswersAt request zone seconds plan outcome ts → MayRenew request.state (Text ts) ts
+  at_may plan outcome ts made (no_clock f lost e l) = quiet_alone request.state (Text ts) ts (stop_quiet zone seconds (stop.Fault f) ts l)
+  at_may plan outcome ts made (no_memory lost e l) = quiet_alone request.state (Text ts) ts (stop_quiet zone seconds stop.Memory ts l)
+  at_may plan outcome ts made (called clock t) = called_may clock plan outcome ts made t
 
-  answered_may : (here : Path) (words : List (List ℕ)) (plan : Option Plan) (outcome : Outcome) (ts : List Entry) → AskFor here words request → Each IsTools ts → Answered here words zone seconds plan outcome ts → MayRenew request.state (Text ts) ts
-  answered_may here words plan outcome ts asks tools (not_read lost o none) = quiet_alone request.state (Text ts) ts (subst AreQuiet (sym none) tt)
-  answered_may here words plan outcome ts asks tools (read other asked a) = at_may plan outcome ts tools (subst (λ (r : Request). AnswersAt r zone seconds plan outcome ts) (same_Some other request (sym asked ∙ asks)) a)
+  answered_may : (here : Path) (words : List (List ℕ)) (plan : Option Plan) (outcome : Outcome) (ts : List Entry) → AskFor here words request → AreMade ts → Answered here words zone seconds plan outcome ts → MayRenew request.state (Text ts) ts
+  answered_may here words plan outcome ts asks made (not_read lost o none) = quiet_alone request.state (Text ts) ts (subst AreQuiet (sym none) tt)
+  answered_may here words plan outcome ts asks made (read other asked a) = at_may plan outcome ts made (subst (λ (r : Request). AnswersAt r zone seconds plan outcome ts) (same_Some other request (sym asked ∙ asks)) a)
 
   -- that a call with these words left its answer
   pub answered_whole : (here : Path) (words : List (List ℕ)) (plan : Option Plan) (outcome : Outcome) {o n : Option Journal} → AskFor here words request → Left (Answered here words zone seconds plan outcome) o n → KeepsWhole request.state Text o n
-  answered_whole here words plan outcome asks l = left_whole request.state Text (Answered here words zone seconds plan outcome) l (λ ts tools h. answered_may here words plan outcome ts asks tools h)
+  answered_whole here words plan outcome asks l = left_whole request.state Text (Answered here words zone seconds plan outcome) l (λ ts made h. answered_may here words plan outcome ts asks made h)

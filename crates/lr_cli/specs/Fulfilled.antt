@@ -12,7 +12,8 @@ use Rattle.lr_due.specs.declared.tz.Zone.{Zone}
 use Rattle.lr_plan.specs.Asked.{asking}
 use Rattle.lr_plan.specs.declared.planned.Plan.{Plan}
 use Rattle.lr_plan.specs.Steps.{state_part}
-use Rattle.lr_run.specs.Runs.{plan_in}
+use Rattle.lr_run.specs.Met.{IsNoOther}
+use Rattle.lr_run.specs.Runs.{plan_in, dirs_in}
 use Rattle.lr_fulfilled.specs.Fulfilled.{IsFulfilled}
 use Rattle.lr_cli.specs.declared.outcome.Report.{Report}
 use Rattle.lr_command.specs.declared.request.Request.{Request}
@@ -27,6 +28,11 @@ pub record FailNothing (state : Path) (faults : List Fault) : Type 0 where
 -- the plan that the call came to
 abbrev pub plan_by : (request : Request) (zone : Zone) (seconds : ℤ) (report : Report) (ts : List Entry) → ReachesPlan request zone seconds report ts → Plan
 plan_by request zone seconds report ts p = plan_in request.state p.rules.sets p.run.between p.run.within.looked p.clock (asking request.force request.mailer)
+
+-- None of the faults tells that another kind of thing stood at the path of a directory that the plan was to make, however the call's entries show that plan.
+abbrev pub MakesDirs : Request → Zone → ℤ → Report → Journal → Journal → Type 0
+MakesDirs request zone seconds report before after =
+    (es : List Entry) → Made (past before) es (past after) → (p : ReachesPlan request zone seconds report (reverse es)) → IsNoOther (dirs_in (plan_by request zone seconds report (reverse es) p)) report.faults
 
 -- The call came to its plan, and did it, and nothing else.
 pub record FulfillsPlan (request : Request) (zone : Zone) (seconds : ℤ) (report : Report) (before after : Journal) : Type 0 where

@@ -25,6 +25,6 @@ pub record RotatesAll (request : Request) (zone : Zone) (seconds : ℤ) (report 
   pub made : Made (past before) entries (past after)
   pub plan : ReachesPlan request zone seconds report (reverse entries)
   pub each : (t : Target) → IsOneOf t (rotated_by request zone seconds report (reverse entries) plan) → t.job ≡ None → t.naming.dated ≡ None → IsRotatedAmong request.state (rotated_by request zone seconds report (reverse entries) plan) (past before) (past after) t
-  pub each_dated : (t : Target) → IsOneOf t (rotated_by request zone seconds report (reverse entries) plan) → t.job ≡ None → IsSome t.naming.dated → IsDatedRotatedAmong request.state plan.rules.sets (rotated_by request zone seconds report (reverse entries) plan) plan.clock (past before) (past after) t
+  pub each_dated : (t : Target) → IsOneOf t (rotated_by request zone seconds report (reverse entries) plan) → t.job ≡ None → IsSome t.naming.dated → IsDatedRotatedAmong request.state (rotated_by request zone seconds report (reverse entries) plan) plan.clock (past before) (past after) t
   pub copied : (t : Target) → IsOneOf t (rotated_by request zone seconds report (reverse entries) plan) → (job : Job) → t.job ≡ Some job → t.naming.dated ≡ None → IsTurnedAmong request.state (rotated_by request zone seconds report (reverse entries) plan) (past before) (past after) t job
-  pub copied_dated : (t : Target) → IsOneOf t (rotated_by request zone seconds report (reverse entries) plan) → (job : Job) → t.job ≡ Some job → IsSome t.naming.dated → IsDatedTurnedAmong request.state plan.rules.sets (rotated_by request zone seconds report (reverse entries) plan) plan.clock (past before) (past after) t job
+  pub copied_dated : (t : Target) → IsOneOf t (rotated_by request zone seconds report (reverse entries) plan) → (job : Job) → t.job ≡ Some job → IsSome t.naming.dated → IsDatedTurnedAmong request.state (rotated_by request zone seconds report (reverse entries) plan) plan.clock (past before) (past after) t job

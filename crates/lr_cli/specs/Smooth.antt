@@ -12,11 +12,17 @@ use Rattle.lr_run.specs.Taken.{TakenBy}
 use Rattle.lr_spared.specs.Smooth.{IsSmooth}
 use Rattle.lr_command.specs.declared.request.Request.{Request}
 use Rattle.lr_cli.specs.declared.outcome.Report.{Report}
+use Rattle.lr_cli.specs.Fulfilled.{FailNothing, FulfillsPlan}
 use Rattle.lr_cli.specs.Reached.{ReachesPlan}
 
 -- where it came to a plan, each path that is told as taken was named, as the steps of the plan have it
 abbrev pub TellsTaken : Path → Option Plan → List Fault → Option Journal → Option Journal → Type 0
 TellsTaken state plan faults told later = (p : Plan) → plan ≡ Some p → TakenBy state p faults told later
+
+-- What a call is in whose way nothing was: its faults tell of nothing that failed, and it did its plan.
+pub record IsDone (request : Request) (zone : Zone) (seconds : ℤ) (report : Report) (before after : Journal) : Type 0 where
+  pub none : FailNothing request.state report.faults
+  pub plan : FulfillsPlan request zone seconds report before after
 
 -- Nothing was in the way of the call: of its state, and of the logs that its looks kept, as its entries show them.
 abbrev pub IsSmoothCall : Request → Zone → ℤ → Report → Journal → Journal → Type 0

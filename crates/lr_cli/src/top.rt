@@ -15,13 +15,13 @@ ghost use Rattle.lr_cli.specs.Asked.{AskFor, AskForNone};
 ghost use Rattle.lr_cli.specs.Clock.{IsClocked};
 ghost use Rattle.lr_cli.specs.Copied.{CopiesWhole};
 ghost use Rattle.lr_cli.specs.Faults.{HasFault, HasCounted, StopNothing};
-ghost use Rattle.lr_cli.specs.Fulfilled.{FailNothing, FulfillsPlan};
+ghost use Rattle.lr_cli.specs.Fulfilled.{FailNothing, MakesDirs, FulfillsPlan};
 ghost use Rattle.lr_cli.specs.Printed.{without_out};
 ghost use Rattle.lr_cli.specs.Reached.{TellsOfPlan, TellsOfTry};
 ghost use Rattle.lr_cli.specs.Rotated.{RotatesAll};
 ghost use Rattle.lr_cli.specs.Safe.{KeepsSafeByClock};
 ghost use Rattle.lr_cli.specs.Says.{Says};
-ghost use Rattle.lr_cli.specs.Smooth.{IsSmoothCall};
+ghost use Rattle.lr_cli.specs.Smooth.{IsDone, IsSmoothCall};
 ghost use Rattle.lr_cli.specs.State.{IsNewText};
 ghost use Rattle.lr_cli.specs.Still.{WasShort};
 
@@ -52,16 +52,17 @@ pub fn logrotate<H: Host, K: Sink>(
     // A journal that the host tells is one of a disk.
     requires { WhereTold (H.told host.old) IsJournal }
 
-    // Where its faults tell of nothing that failed, the call did its plan, and nothing else: its acts are the plan's, in order,
-    // each of its logs was rotated, or its family turned by a copy of it, file by file, the state tells of all of them, and all
-    // else was left alone. Faults of the configuration, of the looks and of the plan may stand there, and no others do.
+    // Where its faults tell of nothing that failed, and of nothing that stood where the plan was to make a directory, the call
+    // did its plan, and nothing else: its acts are the plan's, in order, each of its logs was rotated, or its family turned by a
+    // copy of it, file by file, the state tells of all of them, and all else was left alone. Faults of the configuration, of the
+    // looks and of the plan may stand there, and no others do.
     ensures fulfilled { (request : Request) (report : Report) (before after : Journal) → AskFor here.now words.now request → request.debug ≡ false → without_out result ≡ Outcome.Done report → FailNothing request.state report.faults
-        → H.told host.old ≡ Some before → H.told host.new ≡ Some after → IsJournal (past before) → FulfillsPlan request zone.now now report before after }
+        → H.told host.old ≡ Some before → H.told host.new ≡ Some after → IsJournal (past before) → MakesDirs request zone.now now report before after → FulfillsPlan request zone.now now report before after }
 
     // Where none of its faults ends a run, neither count of failures rose, and nothing was in its way, so that writers spared the
-    // files that it writes first, its faults tell of nothing that failed; so it did its plan.
+    // files that it writes first and the directories of the logs, its faults tell of nothing that failed, and it did its plan.
     ensures smooth { (request : Request) (report : Report) (before after : Journal) → AskFor here.now words.now request → request.debug ≡ false → without_out result ≡ Outcome.Done report → NoneEnds request.state report.faults → NoneRose (H.counts host.old) (H.counts host.new)
-        → H.told host.old ≡ Some before → H.told host.new ≡ Some after → IsJournal (past before) → IsSmoothCall request zone.now now report before after → FailNothing request.state report.faults }
+        → H.told host.old ≡ Some before → H.told host.new ≡ Some after → IsJournal (past before) → IsSmoothCall request zone.now now report before after → IsDone request zone.now now report before after }
 
     // A set that was safe in the journal before is safe in the journal after, where it is steady there, and none of its stamps
     // had gone ahead of the call's clock: whatever failed, and wherever the run stopped. Of a numbered set the clock asks nothing.
@@ -98,11 +99,11 @@ pub fn logrotate<H: Host, K: Sink>(
     // Of a dry run the report tells it too, where no fault may be one of the zone or the state and of a log as well.
     ensures tried { (request : Request) (report : Report) → AskFor here.now words.now request → request.debug ≡ true → without_out result ≡ Outcome.Done report → Left (TellsOfTry request zone.now now report) (H.told host.old) (H.told host.new) }
 
-    // Where none ends a run, and none tells of a call that failed, of a program that ended badly, or of a copy that broke off,
-    // each log that the plan renames was rotated, and the family of each that it copies was turned by the copy, file by file,
-    // whatever else is told: of other logs that aren't there, say.
+    // Where none ends a run, and none tells of a call that failed, of a program that ended badly, of a copy that broke off, or
+    // of what stood where the plan was to make a directory, each log that the plan renames was rotated, and the family of each
+    // that it copies was turned by the copy, file by file, whatever else is told: of other logs that aren't there, say.
     ensures rotated { (request : Request) (report : Report) (before after : Journal) → AskFor here.now words.now request → request.debug ≡ false → without_out result ≡ Outcome.Done report → StopNothing request.state report.faults
-        → H.told host.old ≡ Some before → H.told host.new ≡ Some after → IsJournal (past before) → RotatesAll request zone.now now report before after }
+        → H.told host.old ≡ Some before → H.told host.new ≡ Some after → IsJournal (past before) → MakesDirs request zone.now now report before after → RotatesAll request zone.now now report before after }
 
     // `Out` comes only where a put failed.
     ensures out { HasFault result fault.Out → Rose (K.faults out.old) (K.faults out.new) }

@@ -12,7 +12,6 @@ use Rattle.lr_conf.specs.declared.place.Place.TheVariants.{Outside, Good, Droppe
 use Rattle.lr_forms.specs.declared.set.Set.{Set}
 use Rattle.lr_forms.specs.declared.said.Said.{Said}
 use Rattle.lr_forms.specs.declared.said.Said.TheVariants as says
-use Rattle.lr_forms.specs.declared.built.Built.{Built}
 use Rattle.lr_forms.specs.declared.set.Set.TheVariants as set
 use Rattle.lr_rules.specs.declared.fault.ConfKind.{ConfKind}
 use Rattle.lr_rules.specs.declared.fault.Phase.{Phase}
@@ -101,247 +100,247 @@ st place d ws first f ps = record { place = place; defaults = d; words = ws; fir
 abbrev behind : List Past → Fields → List Phase → State
 behind out f ps = st Outside (fields_of (settings out)) (words_pending out) (first_pending out) f ps
 
-abbrev pub OutsideLaw : Built → List Line → Type 0
-OutsideLaw b es = (out : List Past) (f : Fields) (ps : List Phase) → run b (behind out f ps) es ≡ meaning b false out es
+abbrev pub OutsideLaw : List Line → Type 0
+OutsideLaw es = (out : List Past) (f : Fields) (ps : List Phase) → run (behind out f ps) es ≡ meaning false out es
 
 -- the meaning of a definition from its lines on that stand behind these
-abbrev rest_of : Built → List Line → ℕ → List (List ℕ) → List Set → List Line → Meaning
-rest_of b earlier at ws vs es =
+abbrev rest_of : List Line → ℕ → List (List ℕ) → List Set → List Line → Meaning
+rest_of earlier at ws vs es =
     record {
       rules = [];
-      notices = filter_map notice_in (through drops (body_of b earlier (before ends es)));
-      faults = filter_map fault_in (through drops (body_of b earlier (before ends es)));
+      notices = filter_map notice_in (through drops (body_of earlier (before ends es)));
+      faults = filter_map fault_in (through drops (body_of earlier (before ends es)));
     }
-    and (cond (list_any drops (body_of b earlier (before ends es))) (told (filter_map broken_fault (behind_first drops (body_of b earlier (before ends es))))) (of_end at ws (fields_of (vs ++ filter_map set_in (body_of b earlier (before ends es)))) (find ends es)))
+    and (cond (list_any drops (body_of earlier (before ends es))) (told (filter_map broken_fault (behind_first drops (body_of earlier (before ends es))))) (of_end at ws (fields_of (vs ++ filter_map set_in (body_of earlier (before ends es)))) (find ends es)))
 
-abbrev pub GoodLaw : Built → List Line → Type 0
-GoodLaw b es = (out : List Past) (vs : List Set) (at : ℕ) (ws : List (List ℕ)) (earlier : List Line)
-    → run b (st Good (fields_of (settings out)) ws (Some at) (fields_of vs) (scripts_in b earlier)) es ≡ (rest_of b earlier at ws vs es and meaning b true out es)
+abbrev pub GoodLaw : List Line → Type 0
+GoodLaw es = (out : List Past) (vs : List Set) (at : ℕ) (ws : List (List ℕ)) (earlier : List Line)
+    → run (st Good (fields_of (settings out)) ws (Some at) (fields_of vs) (scripts_in earlier)) es ≡ (rest_of earlier at ws vs es and meaning true out es)
 
-abbrev pub DroppedLaw : Built → List Line → Type 0
-DroppedLaw b es = (out : List Past) (ws : List (List ℕ)) (first : Option ℕ) (f : Fields) (ps : List Phase) → run b (st Dropped (fields_of (settings out)) ws first f ps) es ≡ (of_spoilt (before ends es) and meaning b true out es)
+abbrev pub DroppedLaw : List Line → Type 0
+DroppedLaw es = (out : List Past) (ws : List (List ℕ)) (first : Option ℕ) (f : Fields) (ps : List Phase) → run (st Dropped (fields_of (settings out)) ws first f ps) es ≡ (of_spoilt (before ends es) and meaning true out es)
 
-pub record Laws (b : Built) (es : List Line) : Type 0 where
-  pub out : OutsideLaw b es
-  pub good : GoodLaw b es
-  pub drop : DroppedLaw b es
+pub record Laws (es : List Line) : Type 0 where
+  pub out : OutsideLaw es
+  pub good : GoodLaw es
+  pub drop : DroppedLaw es
 
 -- outside, behind one more line
-next : (b : Built) (es : List Line) (out : List Past) (p : Past) (d : Fields) (ws : List (List ℕ)) (first : Option ℕ) (f : Fields) (ps : List Phase) → OutsideLaw b es
+next : (es : List Line) (out : List Past) (p : Past) (d : Fields) (ws : List (List ℕ)) (first : Option ℕ) (f : Fields) (ps : List Phase) → OutsideLaw es
     → with_option (set_past p) (fields_of (settings out)) ≡ d
     → cond (settles p) [] (words_pending out ++ words_in (names_past p)) ≡ ws
     → cond (settles p) None (first_with (first_pending out) (names_past p)) ≡ first
-    → run b (st Outside d ws first f ps) es ≡ meaning b false (out ++ p ∷ []) es
-next b es out p d ws first f ps law de we fe =
-    ap (λ x. run b (st Outside x ws first f ps) es) (sym de ∙ sym (defaults-push out p))
-    ∙ ap (λ x. run b (st Outside (fields_of (settings (out ++ p ∷ []))) x first f ps) es) (sym we ∙ sym (words-push out p))
-    ∙ ap (λ x. run b (st Outside (fields_of (settings (out ++ p ∷ []))) (words_pending (out ++ p ∷ [])) x f ps) es) (sym fe ∙ sym (first-push out p))
+    → run (st Outside d ws first f ps) es ≡ meaning false (out ++ p ∷ []) es
+next es out p d ws first f ps law de we fe =
+    ap (λ x. run (st Outside x ws first f ps) es) (sym de ∙ sym (defaults-push out p))
+    ∙ ap (λ x. run (st Outside (fields_of (settings (out ++ p ∷ []))) x first f ps) es) (sym we ∙ sym (words-push out p))
+    ∙ ap (λ x. run (st Outside (fields_of (settings (out ++ p ∷ []))) (words_pending (out ++ p ∷ [])) x f ps) es) (sym fe ∙ sym (first-push out p))
     ∙ law (out ++ p ∷ []) f ps
 
 -- in a definition that this line drops
-next_dropped : (b : Built) (es : List Line) (out : List Past) (p : Past) (d : Fields) (f : Fields) (ps : List Phase) → DroppedLaw b es
+next_dropped : (es : List Line) (out : List Past) (p : Past) (d : Fields) (f : Fields) (ps : List Phase) → DroppedLaw es
     → with_option (set_past p) (fields_of (settings out)) ≡ d
-    → run b (st Dropped d [] None f ps) es ≡ (of_spoilt (before ends es) and meaning b true (out ++ p ∷ []) es)
-next_dropped b es out p d f ps law de =
-    ap (λ x. run b (st Dropped x [] None f ps) es) (sym de ∙ sym (defaults-push out p)) ∙ law (out ++ p ∷ []) [] None f ps
+    → run (st Dropped d [] None f ps) es ≡ (of_spoilt (before ends es) and meaning true (out ++ p ∷ []) es)
+next_dropped es out p d f ps law de =
+    ap (λ x. run (st Dropped x [] None f ps) es) (sym de ∙ sym (defaults-push out p)) ∙ law (out ++ p ∷ []) [] None f ps
 
 -- in a definition that this line opens
-next_good : (b : Built) (es : List Line) (out : List Past) (p : Past) (d : Fields) (ws : List (List ℕ)) (at : ℕ) → GoodLaw b es
+next_good : (es : List Line) (out : List Past) (p : Past) (d : Fields) (ws : List (List ℕ)) (at : ℕ) → GoodLaw es
     → with_option (set_past p) (fields_of (settings out)) ≡ d
-    → run b (st Good d ws (Some at) d []) es ≡ (of_definition b at ws (settings (out ++ p ∷ [])) es and meaning b true (out ++ p ∷ []) es)
-next_good b es out p d ws at law de =
-    ap (λ x. run b (st Good x ws (Some at) x []) es) (sym de ∙ sym (defaults-push out p)) ∙ law (out ++ p ∷ []) (settings (out ++ p ∷ [])) at ws []
+    → run (st Good d ws (Some at) d []) es ≡ (of_definition at ws (settings (out ++ p ∷ [])) es and meaning true (out ++ p ∷ []) es)
+next_good es out p d ws at law de =
+    ap (λ x. run (st Good x ws (Some at) x []) es) (sym de ∙ sym (defaults-push out p)) ∙ law (out ++ p ∷ []) (settings (out ++ p ∷ [])) at ws []
 
 -- ---- outside definitions
 
 -- what follows a line
-abbrev follows : Built → List Past → Past → List Line → Meaning
-follows b out p es = of_opening b out p es and meaning b (opens p) (out ++ p ∷ []) es
+abbrev follows : List Past → Past → List Line → Meaning
+follows out p es = of_opening out p es and meaning (opens p) (out ++ p ∷ []) es
 
 -- a line that leaves pending names, without a brace
-stays : (b : Built) (p : Past) (es : List Line) → Laws b es → (out : List Past) (f : Fields) (ps : List Phase) → settles p ≡ false → names_past p ≡ None → set_past p ≡ None
-    → run b (behind out f ps) es ≡ meaning b false (out ++ p ∷ []) es
-stays b p es l out f ps no_end no_names no_set =
-    next b es out p (fields_of (settings out)) (words_pending out) (first_pending out) f ps l.out
+stays : (p : Past) (es : List Line) → Laws es → (out : List Past) (f : Fields) (ps : List Phase) → settles p ≡ false → names_past p ≡ None → set_past p ≡ None
+    → run (behind out f ps) es ≡ meaning false (out ++ p ∷ []) es
+stays p es l out f ps no_end no_names no_set =
+    next es out p (fields_of (settings out)) (words_pending out) (first_pending out) f ps l.out
     (ap (λ o. with_option o (fields_of (settings out))) no_set)
     (ap (λ b. cond b [] (words_pending out ++ words_in (names_past p))) no_end ∙ ap (λ o. words_pending out ++ words_in o) no_names ∙ append-nil (words_pending out))
     (ap (λ b. cond b None (first_with (first_pending out) (names_past p))) no_end ∙ ap (first_with (first_pending out)) no_names ∙ first_none (first_pending out))
 
 -- a line that ends with no brace
-plain-law : (b : Built) (at : ℕ) (v : Said) (es : List Line) → Laws b es → (out : List Past) (f : Fields) (ps : List Phase)
-    → run b (outside (behind out f ps) (stands at false v)) es ≡ meaning b false (out ++ stands at false v ∷ []) es
-plain-law b at (says.Sets v) es l out f ps = next b es out (stands at false (says.Sets v)) _ [] None f ps l.out refl refl refl
-plain-law b at says.Quiet es l out f ps = next b es out (stands at false says.Quiet) _ [] None f ps l.out refl refl refl
-plain-law b at (says.OwnerPassed v) es l out f ps = next b es out (stands at false (says.OwnerPassed v)) _ [] None f ps l.out refl refl refl
-plain-law b at (says.Script phase text stray) es l out f ps = next b es out (stands at false (says.Script phase text stray)) _ [] None f ps l.out refl refl refl
-plain-law b at (says.Include path) es l out f ps = next b es out (stands at false (says.Include path)) _ [] None f ps l.out refl refl refl
-plain-law b at (says.Taboo patterns items) es l out f ps = next b es out (stands at false (says.Taboo patterns items)) _ [] None f ps l.out refl refl refl
-plain-law b at (says.Passed word) es l out f ps = next b es out (stands at false (says.Passed word)) _ [] None f ps l.out refl refl refl
-plain-law b at (says.Names ws) es l out f ps =
-    next b es out (stands at false (says.Names ws)) _ _ _ f ps l.out refl refl (first_some (first_pending out) at ws)
-plain-law b at says.Open es l out f ps = stays b (stands at false says.Open) es l out f ps refl refl refl
-plain-law b at says.Close es l out f ps = next b es out (stands at false says.Close) _ [] None f ps l.out refl refl refl
-plain-law b at says.Unknown es l out f ps = stays b (stands at false says.Unknown) es l out f ps refl refl refl
-plain-law b at (says.Bad k) es l out f ps = next b es out (stands at false (says.Bad k)) _ [] None f ps l.out refl refl refl
-plain-law b at (says.BadNames k) es l out f ps = stays b (stands at false (says.BadNames k)) es l out f ps refl refl refl
+plain-law : (at : ℕ) (v : Said) (es : List Line) → Laws es → (out : List Past) (f : Fields) (ps : List Phase)
+    → run (outside (behind out f ps) (stands at false v)) es ≡ meaning false (out ++ stands at false v ∷ []) es
+plain-law at (says.Sets v) es l out f ps = next es out (stands at false (says.Sets v)) _ [] None f ps l.out refl refl refl
+plain-law at says.Quiet es l out f ps = next es out (stands at false says.Quiet) _ [] None f ps l.out refl refl refl
+plain-law at (says.OwnerPassed v) es l out f ps = next es out (stands at false (says.OwnerPassed v)) _ [] None f ps l.out refl refl refl
+plain-law at (says.Script phase text stray) es l out f ps = next es out (stands at false (says.Script phase text stray)) _ [] None f ps l.out refl refl refl
+plain-law at (says.Include path) es l out f ps = next es out (stands at false (says.Include path)) _ [] None f ps l.out refl refl refl
+plain-law at (says.Taboo patterns items) es l out f ps = next es out (stands at false (says.Taboo patterns items)) _ [] None f ps l.out refl refl refl
+plain-law at (says.Passed word) es l out f ps = next es out (stands at false (says.Passed word)) _ [] None f ps l.out refl refl refl
+plain-law at (says.Names ws) es l out f ps =
+    next es out (stands at false (says.Names ws)) _ _ _ f ps l.out refl refl (first_some (first_pending out) at ws)
+plain-law at says.Open es l out f ps = stays (stands at false says.Open) es l out f ps refl refl refl
+plain-law at says.Close es l out f ps = next es out (stands at false says.Close) _ [] None f ps l.out refl refl refl
+plain-law at says.Unknown es l out f ps = stays (stands at false says.Unknown) es l out f ps refl refl refl
+plain-law at (says.Bad k) es l out f ps = next es out (stands at false (says.Bad k)) _ [] None f ps l.out refl refl refl
+plain-law at (says.BadNames k) es l out f ps = stays (stands at false (says.BadNames k)) es l out f ps refl refl refl
 
 -- a line that ends with a brace
-brace-law : (b : Built) (at : ℕ) (v : Said) (es : List Line) → Laws b es → (out : List Past) (f : Fields) (ps : List Phase)
-    → run b (outside (behind out f ps) (stands at true v)) es ≡ follows b out (stands at true v) es
-brace-law b at (says.Sets v) es l out f ps = next_dropped b es out (stands at true (says.Sets v)) _ f ps l.drop refl
-brace-law b at says.Quiet es l out f ps = next_dropped b es out (stands at true says.Quiet) _ f ps l.drop refl
-brace-law b at (says.OwnerPassed v) es l out f ps = next_dropped b es out (stands at true (says.OwnerPassed v)) _ f ps l.drop refl
-brace-law b at (says.Script phase text stray) es l out f ps = next_dropped b es out (stands at true (says.Script phase text stray)) _ f ps l.drop refl
-brace-law b at (says.Include path) es l out f ps = next_dropped b es out (stands at true (says.Include path)) _ f ps l.drop refl
-brace-law b at (says.Taboo patterns items) es l out f ps = next_dropped b es out (stands at true (says.Taboo patterns items)) _ f ps l.drop refl
-brace-law b at (says.Passed word) es l out f ps = next_dropped b es out (stands at true (says.Passed word)) _ f ps l.drop refl
-brace-law b at (says.Names ws) es l out f ps = next_good b es out (stands at true (says.Names ws)) _ _ _ l.good refl
-brace-law b at says.Open es l out f ps = by (first_pending out)
+brace-law : (at : ℕ) (v : Said) (es : List Line) → Laws es → (out : List Past) (f : Fields) (ps : List Phase)
+    → run (outside (behind out f ps) (stands at true v)) es ≡ follows out (stands at true v) es
+brace-law at (says.Sets v) es l out f ps = next_dropped es out (stands at true (says.Sets v)) _ f ps l.drop refl
+brace-law at says.Quiet es l out f ps = next_dropped es out (stands at true says.Quiet) _ f ps l.drop refl
+brace-law at (says.OwnerPassed v) es l out f ps = next_dropped es out (stands at true (says.OwnerPassed v)) _ f ps l.drop refl
+brace-law at (says.Script phase text stray) es l out f ps = next_dropped es out (stands at true (says.Script phase text stray)) _ f ps l.drop refl
+brace-law at (says.Include path) es l out f ps = next_dropped es out (stands at true (says.Include path)) _ f ps l.drop refl
+brace-law at (says.Taboo patterns items) es l out f ps = next_dropped es out (stands at true (says.Taboo patterns items)) _ f ps l.drop refl
+brace-law at (says.Passed word) es l out f ps = next_dropped es out (stands at true (says.Passed word)) _ f ps l.drop refl
+brace-law at (says.Names ws) es l out f ps = next_good es out (stands at true (says.Names ws)) _ _ _ l.good refl
+brace-law at says.Open es l out f ps = by (first_pending out)
   where
-    by : (o : Option ℕ) → run b (turned true o (st Outside (fields_of (settings out)) (words_pending out) o f ps)) es
-        ≡ (of_body b o (words_pending out) (settings (out ++ stands at true says.Open ∷ [])) es and meaning b true (out ++ stands at true says.Open ∷ []) es)
-    by None = next_dropped b es out (stands at true says.Open) _ f ps l.drop refl
-    by (Some n) = next_good b es out (stands at true says.Open) _ (words_pending out) n l.good refl
-brace-law b at says.Close es l out f ps = next_dropped b es out (stands at true says.Close) _ f ps l.drop refl
-brace-law b at says.Unknown es l out f ps = next_dropped b es out (stands at true says.Unknown) _ f ps l.drop refl
-brace-law b at (says.Bad k) es l out f ps = next_dropped b es out (stands at true (says.Bad k)) _ f ps l.drop refl
-brace-law b at (says.BadNames k) es l out f ps = next_dropped b es out (stands at true (says.BadNames k)) _ f ps l.drop refl
+    by : (o : Option ℕ) → run (turned true o (st Outside (fields_of (settings out)) (words_pending out) o f ps)) es
+        ≡ (of_body o (words_pending out) (settings (out ++ stands at true says.Open ∷ [])) es and meaning true (out ++ stands at true says.Open ∷ []) es)
+    by None = next_dropped es out (stands at true says.Open) _ f ps l.drop refl
+    by (Some n) = next_good es out (stands at true says.Open) _ (words_pending out) n l.good refl
+brace-law at says.Close es l out f ps = next_dropped es out (stands at true says.Close) _ f ps l.drop refl
+brace-law at says.Unknown es l out f ps = next_dropped es out (stands at true says.Unknown) _ f ps l.drop refl
+brace-law at (says.Bad k) es l out f ps = next_dropped es out (stands at true (says.Bad k)) _ f ps l.drop refl
+brace-law at (says.BadNames k) es l out f ps = next_dropped es out (stands at true (says.BadNames k)) _ f ps l.drop refl
 
-step-law : (b : Built) (p : Past) (es : List Line) → Laws b es → (out : List Past) (f : Fields) (ps : List Phase) → run b (outside (behind out f ps) p) es ≡ follows b out p es
-step-law b (stands at false v) es l out f ps = plain-law b at v es l out f ps
-step-law b (stands at true v) es l out f ps = brace-law b at v es l out f ps
-step-law b (spoiled e) es l out f ps = stays b (spoiled e) es l out f ps refl refl refl
-step-law b file_ends es l out f ps = next b es out file_ends _ [] None f ps l.out refl refl refl
-step-law b breaks_off es l out f ps = next b es out breaks_off _ [] None f ps l.out refl refl refl
+step-law : (p : Past) (es : List Line) → Laws es → (out : List Past) (f : Fields) (ps : List Phase) → run (outside (behind out f ps) p) es ≡ follows out p es
+step-law (stands at false v) es l out f ps = plain-law at v es l out f ps
+step-law (stands at true v) es l out f ps = brace-law at v es l out f ps
+step-law (spoiled e) es l out f ps = stays (spoiled e) es l out f ps refl refl refl
+step-law file_ends es l out f ps = next es out file_ends _ [] None f ps l.out refl refl refl
+step-law breaks_off es l out f ps = next es out breaks_off _ [] None f ps l.out refl refl refl
 
-outside-law : (b : Built) (e : Line) (es : List Line) → Laws b es → OutsideLaw b (e ∷ es)
-outside-law b e es l out f ps = ap (λ m. of_line (file_of e) (first_pending out) (past b e) and m) (step-law b (past b e) es l out f ps)
+outside-law : (e : Line) (es : List Line) → Laws es → OutsideLaw (e ∷ es)
+outside-law e es l out f ps = ap (λ m. of_line (file_of e) (first_pending out) (past e) and m) (step-law (past e) es l out f ps)
 
 -- ---- dropped definitions
 
-dropped-law : (b : Built) (e : Line) (es : List Line) → Laws b es → DroppedLaw b (e ∷ es)
-dropped-law b (Read file (item.Close line)) es l out ws first f ps = next b es out (stands line false says.Close) _ [] None f ps l.out refl refl refl
-dropped-law b (Read file (item.Line words names brace stray line)) es l out ws first f ps = l.drop out ws first f ps
-dropped-law b (Read file (item.Script word text brace stray line)) es l out ws first f ps = l.drop out ws first f ps
-dropped-law b (Spoiled e) es l out ws first f ps = ap (λ m. told (e ∷ []) and m) (l.drop out ws first f ps)
-dropped-law b (End file) es l out ws first f ps = next b es out file_ends _ [] None f ps l.out refl refl refl
-dropped-law b Cut es l out ws first f ps = next b es out breaks_off _ [] None f ps l.out refl refl refl
+dropped-law : (e : Line) (es : List Line) → Laws es → DroppedLaw (e ∷ es)
+dropped-law (Read file (item.Close line)) es l out ws first f ps = next es out (stands line false says.Close) _ [] None f ps l.out refl refl refl
+dropped-law (Read file (item.Line words names brace stray line)) es l out ws first f ps = l.drop out ws first f ps
+dropped-law (Read file (item.Script word text brace stray line)) es l out ws first f ps = l.drop out ws first f ps
+dropped-law (Spoiled e) es l out ws first f ps = ap (λ m. told (e ∷ []) and m) (l.drop out ws first f ps)
+dropped-law (End file) es l out ws first f ps = next es out file_ends _ [] None f ps l.out refl refl refl
+dropped-law Cut es l out ws first f ps = next es out breaks_off _ [] None f ps l.out refl refl refl
 
 -- ---- definitions that no line dropped so far
 
 -- the lines of a body whose reading told a fault
-broken-one : (b : Built) (earlier : List Line) (e : Line) → broken_fault (within b earlier e) ≡ spoilt_fault e
-broken-one b earlier (Read file i) = refl
-broken-one b earlier (Spoiled f) = refl
-broken-one b earlier (End file) = refl
-broken-one b earlier Cut = refl
+broken-one : (earlier : List Line) (e : Line) → broken_fault (within earlier e) ≡ spoilt_fault e
+broken-one earlier (Read file i) = refl
+broken-one earlier (Spoiled f) = refl
+broken-one earlier (End file) = refl
+broken-one earlier Cut = refl
 
-broken-are : (b : Built) (earlier es : List Line) → filter_map broken_fault (body_of b earlier es) ≡ filter_map spoilt_fault es
-broken-are b earlier [] = refl
-broken-are b earlier (e ∷ es) =
-    ap (λ o. cons_option o (filter_map broken_fault (body_of b (earlier ++ e ∷ []) es))) (broken-one b earlier e)
-    ∙ ap (cons_option (spoilt_fault e)) (broken-are b (earlier ++ e ∷ []) es)
+broken-are : (earlier es : List Line) → filter_map broken_fault (body_of earlier es) ≡ filter_map spoilt_fault es
+broken-are earlier [] = refl
+broken-are earlier (e ∷ es) =
+    ap (λ o. cons_option o (filter_map broken_fault (body_of (earlier ++ e ∷ []) es))) (broken-one earlier e)
+    ∙ ap (cons_option (spoilt_fault e)) (broken-are (earlier ++ e ∷ []) es)
 
 -- the scripts with one more line
 abbrev with_phase : Option Phase → List Phase → List Phase
 with_phase None ps = ps
 with_phase (Some p) ps = ps ++ p ∷ []
 
-scripts-push : (b : Built) (earlier : List Line) (e : Line) → scripts_in b (earlier ++ e ∷ []) ≡ with_phase (script_in b e) (scripts_in b earlier)
-scripts-push b earlier e = filter_map-append (script_in b) earlier (e ∷ []) ∙ by (script_in b e)
+scripts-push : (earlier : List Line) (e : Line) → scripts_in (earlier ++ e ∷ []) ≡ with_phase (script_in e) (scripts_in earlier)
+scripts-push earlier e = filter_map-append (script_in) earlier (e ∷ []) ∙ by (script_in e)
   where
-    by : (o : Option Phase) → scripts_in b earlier ++ cons_option o [] ≡ with_phase o (scripts_in b earlier)
-    by None = append-nil (scripts_in b earlier)
+    by : (o : Option Phase) → scripts_in earlier ++ cons_option o [] ≡ with_phase o (scripts_in earlier)
+    by None = append-nil (scripts_in earlier)
     by (Some p) = refl
 
 -- the meaning of a definition from a line on that says v
-abbrev from_line : Built → List Line → Path → ℕ → Said → ℕ → List (List ℕ) → List Set → List Line → Meaning
-from_line b more file line v at ws vs es =
+abbrev from_line : List Line → Path → ℕ → Said → ℕ → List (List ℕ) → List Set → List Line → Meaning
+from_line more file line v at ws vs es =
     record {
       rules = [];
-      notices = cons_option (notice_of file line v) (filter_map notice_in (cond (is_bad v) [] (through drops (body_of b more (before ends es)))));
-      faults = cons_option (fault_of file line v) (filter_map fault_in (cond (is_bad v) [] (through drops (body_of b more (before ends es)))));
+      notices = cons_option (notice_of file line v) (filter_map notice_in (cond (is_bad v) [] (through drops (body_of more (before ends es)))));
+      faults = cons_option (fault_of file line v) (filter_map fault_in (cond (is_bad v) [] (through drops (body_of more (before ends es)))));
     }
-    and (cond (is_bad v || list_any drops (body_of b more (before ends es)))
-    (told (filter_map broken_fault (cond (is_bad v) (body_of b more (before ends es)) (behind_first drops (body_of b more (before ends es))))))
-    (of_end at ws (fields_of (vs ++ cons_option (set_of v) (filter_map set_in (body_of b more (before ends es))))) (find ends es)))
+    and (cond (is_bad v || list_any drops (body_of more (before ends es)))
+    (told (filter_map broken_fault (cond (is_bad v) (body_of more (before ends es)) (behind_first drops (body_of more (before ends es))))))
+    (of_end at ws (fields_of (vs ++ cons_option (set_of v) (filter_map set_in (body_of more (before ends es))))) (find ends es)))
 
 -- the same, with the fields told
-abbrev ended : Built → List Line → ℕ → List (List ℕ) → List Line → Fields → Meaning
-ended b more at ws es f =
+abbrev ended : List Line → ℕ → List (List ℕ) → List Line → Fields → Meaning
+ended more at ws es f =
     record {
       rules = [];
-      notices = filter_map notice_in (through drops (body_of b more (before ends es)));
-      faults = filter_map fault_in (through drops (body_of b more (before ends es)));
+      notices = filter_map notice_in (through drops (body_of more (before ends es)));
+      faults = filter_map fault_in (through drops (body_of more (before ends es)));
     }
-    and (cond (list_any drops (body_of b more (before ends es))) (told (filter_map broken_fault (behind_first drops (body_of b more (before ends es))))) (of_end at ws f (find ends es)))
+    and (cond (list_any drops (body_of more (before ends es))) (told (filter_map broken_fault (behind_first drops (body_of more (before ends es))))) (of_end at ws f (find ends es)))
 
 abbrev good_state : List Past → List Set → ℕ → List (List ℕ) → List Phase → State
 good_state out vs at ws ps = st Good (fields_of (settings out)) ws (Some at) (fields_of vs) ps
 
 -- behind a line that says nothing here
-plain_on : (b : Built) (es : List Line) → Laws b es → (out : List Past) (vs : List Set) (at : ℕ) (ws : List (List ℕ)) (more : List Line) (ps : List Phase) → scripts_in b more ≡ ps
-    → run b (good_state out vs at ws ps) es ≡ (rest_of b more at ws vs es and meaning b true out es)
-plain_on b es l out vs at ws more ps is = ap (λ x. run b (good_state out vs at ws x) es) (sym is) ∙ l.good out vs at ws more
+plain_on : (es : List Line) → Laws es → (out : List Past) (vs : List Set) (at : ℕ) (ws : List (List ℕ)) (more : List Line) (ps : List Phase) → scripts_in more ≡ ps
+    → run (good_state out vs at ws ps) es ≡ (rest_of more at ws vs es and meaning true out es)
+plain_on es l out vs at ws more ps is = ap (λ x. run (good_state out vs at ws x) es) (sym is) ∙ l.good out vs at ws more
 
 -- behind one that sets a field
-set_on : (b : Built) (es : List Line) → Laws b es → (out : List Past) (vs : List Set) (at : ℕ) (ws : List (List ℕ)) (v : Set) (more : List Line) (ps : List Phase) → scripts_in b more ≡ ps
-    → run b (st Good (fields_of (settings out)) ws (Some at) (with_set (fields_of vs) v) ps) es
-    ≡ (ended b more at ws es (fields_of (vs ++ v ∷ filter_map set_in (body_of b more (before ends es)))) and meaning b true out es)
-set_on b es l out vs at ws v more ps is =
-    ap (λ x. run b (st Good (fields_of (settings out)) ws (Some at) x ps) es) (sym (fields-push vs v))
-    ∙ plain_on b es l out (vs ++ v ∷ []) at ws more ps is
-    ∙ ap (λ x. ended b more at ws es (fields_of x) and meaning b true out es) (append_assoc vs (v ∷ []) (filter_map set_in (body_of b more (before ends es))))
+set_on : (es : List Line) → Laws es → (out : List Past) (vs : List Set) (at : ℕ) (ws : List (List ℕ)) (v : Set) (more : List Line) (ps : List Phase) → scripts_in more ≡ ps
+    → run (st Good (fields_of (settings out)) ws (Some at) (with_set (fields_of vs) v) ps) es
+    ≡ (ended more at ws es (fields_of (vs ++ v ∷ filter_map set_in (body_of more (before ends es)))) and meaning true out es)
+set_on es l out vs at ws v more ps is =
+    ap (λ x. run (st Good (fields_of (settings out)) ws (Some at) x ps) es) (sym (fields-push vs v))
+    ∙ plain_on es l out (vs ++ v ∷ []) at ws more ps is
+    ∙ ap (λ x. ended more at ws es (fields_of x) and meaning true out es) (append_assoc vs (v ∷ []) (filter_map set_in (body_of more (before ends es))))
 
 -- behind one that drops the definition
-drop_on : (b : Built) (es : List Line) → Laws b es → (out : List Past) (vs : List Set) (at : ℕ) (ws : List (List ℕ)) (more : List Line) (ps : List Phase)
-    → run b (st Dropped (fields_of (settings out)) ws (Some at) (fields_of vs) ps) es
-    ≡ (told (filter_map broken_fault (body_of b more (before ends es))) and meaning b true out es)
-drop_on b es l out vs at ws more ps =
-    l.drop out ws (Some at) (fields_of vs) ps ∙ ap (λ fs. told fs and meaning b true out es) (sym (broken-are b more (before ends es)))
+drop_on : (es : List Line) → Laws es → (out : List Past) (vs : List Set) (at : ℕ) (ws : List (List ℕ)) (more : List Line) (ps : List Phase)
+    → run (st Dropped (fields_of (settings out)) ws (Some at) (fields_of vs) ps) es
+    ≡ (told (filter_map broken_fault (body_of more (before ends es))) and meaning true out es)
+drop_on es l out vs at ws more ps =
+    l.drop out ws (Some at) (fields_of vs) ps ∙ ap (λ fs. told fs and meaning true out es) (sym (broken-are more (before ends es)))
 
-inside-law : (b : Built) (file : Path) (line : ℕ) (v : Said) (es : List Line) → Laws b es → (out : List Past) (vs : List Set) (at : ℕ) (ws : List (List ℕ)) (ps : List Phase) (more : List Line)
-    → scripts_in b more ≡ with_phase (script_of v) ps
-    → (said_inside file line (said_behind b ps v) and run b (with_said b (good_state out vs at ws ps) v) es) ≡ (from_line b more file line (said_behind b ps v) at ws vs es and meaning b true out es)
-inside-law b file line (says.Sets v) es l out vs at ws ps more is = set_on b es l out vs at ws v more ps is
-inside-law b file line says.Quiet es l out vs at ws ps more is = plain_on b es l out vs at ws more ps is
-inside-law b file line (says.OwnerPassed v) es l out vs at ws ps more is =
-    ap (λ m. record { rules = []; notices = record { file = file; line = line; word = None } ∷ []; faults = [] } and m) (set_on b es l out vs at ws v more ps is)
-inside-law b file line (says.Script p text stray) es l out vs at ws ps more is = by (script_fault b ps p stray)
+inside-law : (file : Path) (line : ℕ) (v : Said) (es : List Line) → Laws es → (out : List Past) (vs : List Set) (at : ℕ) (ws : List (List ℕ)) (ps : List Phase) (more : List Line)
+    → scripts_in more ≡ with_phase (script_of v) ps
+    → (said_inside file line (said_behind ps v) and run (with_said (good_state out vs at ws ps) v) es) ≡ (from_line more file line (said_behind ps v) at ws vs es and meaning true out es)
+inside-law file line (says.Sets v) es l out vs at ws ps more is = set_on es l out vs at ws v more ps is
+inside-law file line says.Quiet es l out vs at ws ps more is = plain_on es l out vs at ws more ps is
+inside-law file line (says.OwnerPassed v) es l out vs at ws ps more is =
+    ap (λ m. record { rules = []; notices = record { file = file; line = line; word = None } ∷ []; faults = [] } and m) (set_on es l out vs at ws v more ps is)
+inside-law file line (says.Script p text stray) es l out vs at ws ps more is = by (script_fault ps p stray)
   where
-    by : (o : Option ConfKind) → (said_inside file line (script_says o p text) and run b (scripted (good_state out vs at ws ps) p text o) es) ≡ (from_line b more file line (script_says o p text) at ws vs es and meaning b true out es)
-    by None = set_on b es l out vs at ws (set.Script p text) more (ps ++ p ∷ []) is
-    by (Some k) = ap (λ m. told (conf file k line ∷ []) and m) (drop_on b es l out vs at ws more ps)
-inside-law b file line (says.Include path) es l out vs at ws ps more is = plain_on b es l out vs at ws more ps is
-inside-law b file line (says.Taboo patterns items) es l out vs at ws ps more is = plain_on b es l out vs at ws more ps is
-inside-law b file line (says.Passed word) es l out vs at ws ps more is =
-    ap (λ m. record { rules = []; notices = record { file = file; line = line; word = Some word } ∷ []; faults = [] } and m) (plain_on b es l out vs at ws more ps is)
-inside-law b file line (says.Names names) es l out vs at ws ps more is = plain_on b es l out vs at ws more ps is
-inside-law b file line says.Open es l out vs at ws ps more is = plain_on b es l out vs at ws more ps is
-inside-law b file line says.Close es l out vs at ws ps more is = plain_on b es l out vs at ws more ps is
-inside-law b file line says.Unknown es l out vs at ws ps more is = ap (λ m. told (conf file kind.Unknown line ∷ []) and m) (plain_on b es l out vs at ws more ps is)
-inside-law b file line (says.Bad k) es l out vs at ws ps more is = ap (λ m. told (conf file k line ∷ []) and m) (drop_on b es l out vs at ws more ps)
-inside-law b file line (says.BadNames k) es l out vs at ws ps more is = plain_on b es l out vs at ws more ps is
+    by : (o : Option ConfKind) → (said_inside file line (script_says o p text) and run (scripted (good_state out vs at ws ps) p text o) es) ≡ (from_line more file line (script_says o p text) at ws vs es and meaning true out es)
+    by None = set_on es l out vs at ws (set.Script p text) more (ps ++ p ∷ []) is
+    by (Some k) = ap (λ m. told (conf file k line ∷ []) and m) (drop_on es l out vs at ws more ps)
+inside-law file line (says.Include path) es l out vs at ws ps more is = plain_on es l out vs at ws more ps is
+inside-law file line (says.Taboo patterns items) es l out vs at ws ps more is = plain_on es l out vs at ws more ps is
+inside-law file line (says.Passed word) es l out vs at ws ps more is =
+    ap (λ m. record { rules = []; notices = record { file = file; line = line; word = Some word } ∷ []; faults = [] } and m) (plain_on es l out vs at ws more ps is)
+inside-law file line (says.Names names) es l out vs at ws ps more is = plain_on es l out vs at ws more ps is
+inside-law file line says.Open es l out vs at ws ps more is = plain_on es l out vs at ws more ps is
+inside-law file line says.Close es l out vs at ws ps more is = plain_on es l out vs at ws more ps is
+inside-law file line says.Unknown es l out vs at ws ps more is = ap (λ m. told (conf file kind.Unknown line ∷ []) and m) (plain_on es l out vs at ws more ps is)
+inside-law file line (says.Bad k) es l out vs at ws ps more is = ap (λ m. told (conf file k line ∷ []) and m) (drop_on es l out vs at ws more ps)
+inside-law file line (says.BadNames k) es l out vs at ws ps more is = plain_on es l out vs at ws more ps is
 
-good-law : (b : Built) (e : Line) (es : List Line) → Laws b es → GoodLaw b (e ∷ es)
-good-law b (Read file (item.Close line)) es l out vs at ws earlier =
-    ap (λ m. record { rules = rule_of file at ws (fields_of vs) ∷ []; notices = []; faults = [] } and m) (next b es out (stands line false says.Close) _ [] None default_fields (scripts_in b earlier) l.out refl refl refl)
-    ∙ ap (λ s. record { rules = rule_of file at ws (fields_of s) ∷ []; notices = []; faults = [] } and meaning b false (out ++ stands line false says.Close ∷ []) es) (sym (append-nil vs))
-good-law b (Read file (item.Line words names brace stray line)) es l out vs at ws earlier =
+good-law : (e : Line) (es : List Line) → Laws es → GoodLaw (e ∷ es)
+good-law (Read file (item.Close line)) es l out vs at ws earlier =
+    ap (λ m. record { rules = rule_of file at ws (fields_of vs) ∷ []; notices = []; faults = [] } and m) (next es out (stands line false says.Close) _ [] None default_fields (scripts_in earlier) l.out refl refl refl)
+    ∙ ap (λ s. record { rules = rule_of file at ws (fields_of s) ∷ []; notices = []; faults = [] } and meaning false (out ++ stands line false says.Close ∷ []) es) (sym (append-nil vs))
+good-law (Read file (item.Line words names brace stray line)) es l out vs at ws earlier =
     let i = item.Line words names brace stray line in
-    inside-law b file line (said b true i) es l out vs at ws (scripts_in b earlier) (earlier ++ Read file i ∷ []) (scripts-push b earlier (Read file i))
-good-law b (Read file (item.Script word text brace stray line)) es l out vs at ws earlier =
+    inside-law file line (said true i) es l out vs at ws (scripts_in earlier) (earlier ++ Read file i ∷ []) (scripts-push earlier (Read file i))
+good-law (Read file (item.Script word text brace stray line)) es l out vs at ws earlier =
     let i = item.Script word text brace stray line in
-    inside-law b file line (said b true i) es l out vs at ws (scripts_in b earlier) (earlier ++ Read file i ∷ []) (scripts-push b earlier (Read file i))
-good-law b (Spoiled e) es l out vs at ws earlier = ap (λ m. told (e ∷ []) and m) (drop_on b es l out vs at ws (earlier ++ Spoiled e ∷ []) (scripts_in b earlier))
-good-law b (End file) es l out vs at ws earlier =
-    ap (λ m. told (conf file kind.NoBrace at ∷ []) and m) (next b es out file_ends _ [] None (fields_of vs) (scripts_in b earlier) l.out refl refl refl)
-good-law b Cut es l out vs at ws earlier = next b es out breaks_off _ [] None (fields_of vs) (scripts_in b earlier) l.out refl refl refl
+    inside-law file line (said true i) es l out vs at ws (scripts_in earlier) (earlier ++ Read file i ∷ []) (scripts-push earlier (Read file i))
+good-law (Spoiled e) es l out vs at ws earlier = ap (λ m. told (e ∷ []) and m) (drop_on es l out vs at ws (earlier ++ Spoiled e ∷ []) (scripts_in earlier))
+good-law (End file) es l out vs at ws earlier =
+    ap (λ m. told (conf file kind.NoBrace at ∷ []) and m) (next es out file_ends _ [] None (fields_of vs) (scripts_in earlier) l.out refl refl refl)
+good-law Cut es l out vs at ws earlier = next es out breaks_off _ [] None (fields_of vs) (scripts_in earlier) l.out refl refl refl
 
-pub laws : (b : Built) (es : List Line) → Laws b es
-laws b [] = record { out = λ out f ps. refl; good = λ out vs at ws earlier. refl; drop = λ out ws first f ps. refl }
-laws b (e ∷ es) = record { out = outside-law b e es (laws b es); good = good-law b e es (laws b es); drop = dropped-law b e es (laws b es) }
+pub laws : (es : List Line) → Laws es
+laws [] = record { out = λ out f ps. refl; good = λ out vs at ws earlier. refl; drop = λ out ws first f ps. refl }
+laws (e ∷ es) = record { out = outside-law e es (laws es); good = good-law e es (laws es); drop = dropped-law e es (laws es) }
 
 -- what a layer that took no line gives
-pub from_start : (b : Built) (lines : List Line) → run b (st Outside default_fields [] None default_fields []) lines ≡ meaning b false [] lines
-from_start b lines = (laws b lines).out [] default_fields []
+pub from_start : (lines : List Line) → run (st Outside default_fields [] None default_fields []) lines ≡ meaning false [] lines
+from_start lines = (laws lines).out [] default_fields []

@@ -17,7 +17,6 @@ use Rattle.lr_rules.specs.declared.rule.Make.TheVariants as make
 use Rattle.lr_rules.specs.declared.rule.Piece.{Piece}
 use Rattle.lr_rules.specs.declared.rule.Rule.{Rule}
 use Rattle.lr_rules.specs.Limits.{is_log_word, is_criterion, is_count, is_small, is_size, is_extension, is_olddir, is_make, is_address, is_format, or_none, meets_limits}
-use Rattle.lr_forms.specs.declared.built.Built.{Built}
 use Rattle.lr_forms.specs.declared.set.Set.{Set}
 use Rattle.lr_forms.specs.declared.set.Set.TheVariants as set
 use Rattle.lr_forms.specs.declared.said.Said.{Said}
@@ -52,8 +51,8 @@ line_ok (says.OwnerPassed v) h = h
 line_ok (says.Names ws) h = h
 line_ok v h = tt
 
-script_ok : (b : Built) (earlier : List Phase) (p : Phase) (text : List ℕ) (stray : Bool) → OkSaid S N (script_says (script_fault b earlier p stray) p text)
-script_ok b earlier p text stray = by (script_fault b earlier p stray)
+script_ok : (earlier : List Phase) (p : Phase) (text : List ℕ) (stray : Bool) → OkSaid S N (script_says (script_fault earlier p stray) p text)
+script_ok earlier p text stray = by (script_fault earlier p stray)
   where
     by : (o : Option ConfKind) → OkSaid S N (script_says o p text)
     by None = refl
@@ -205,15 +204,15 @@ rule_ok file at words vs n ok =
     (format_ok (last_set dated_set false vs) (last_set criterion_set (criterion.Size 1048576) vs) (last_set pieces_set None vs) (last_set back_set back.Now vs) (last_set serial_set false vs)
     (last_given S (λ o. or_none are_format o ≡ true) pieces_set None refl pieces_given vs ok)))))))))))))))
 
-walk : (b : Built) → Walk b S N (λ r. meets_limits r ≡ true)
-walk b = record { line = λ inside i. line_ok (said b inside i) (said_fine b inside i); script = script_ok b; more = more_ok; rule = rule_ok }
+walk : Walk S N (λ r. meets_limits r ≡ true)
+walk = record { line = λ inside i. line_ok (said inside i) (said_fine inside i); script = script_ok; more = more_ok; rule = rule_ok }
 
 all_true : (rs : List Rule) → Each (λ r. meets_limits r ≡ true) rs → list_all meets_limits rs ≡ true
 all_true [] a = refl
 all_true (r ∷ rs) a = and_true (meets_limits r) (list_all meets_limits rs) a.0 (all_true rs a.1)
 
-pub limits : (b : Built) (lines : List Line) → list_all meets_limits (meaning b false [] lines).rules ≡ true
-limits b lines = all_true (meaning b false [] lines).rules (each_rule (walk b) lines)
+pub limits : (lines : List Line) → list_all meets_limits (meaning false [] lines).rules ≡ true
+limits lines = all_true (meaning false [] lines).rules (each_rule walk lines)
 
 -- ---- drafts
 
@@ -224,8 +223,8 @@ Limited d = (lines : List Line) → list_all meets_limits (coming_from d lines).
 abbrev all_meet : Meaning → Bool
 all_meet m = list_all meets_limits m.rules
 
-pub from_new : (d : Draft) (b : Built) → ((lines : List Line) → coming_from d lines ≡ meaning b false [] lines) → Limited d
-from_new d b e lines = ap all_meet (e lines) ∙ limits b lines
+pub from_new : (d : Draft) → ((lines : List Line) → coming_from d lines ≡ meaning false [] lines) → Limited d
+from_new d e lines = ap all_meet (e lines) ∙ limits lines
 
 pub from_same : (old new : Draft) → ((lines : List Line) → coming_from new lines ≡ coming_from old lines) → Limited old → Limited new
 from_same old new e h lines = ap all_meet (e lines) ∙ h lines

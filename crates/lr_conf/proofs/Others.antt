@@ -5,7 +5,6 @@ use Rattle.lr_rules.specs.declared.path.Path.{Path}
 use Rattle.lr_rules.specs.declared.fault.ConfKind.{ConfKind}
 use Rattle.lr_rules.specs.declared.fault.Fault.{Fault}
 use Rattle.lr_rules.specs.declared.fault.Phase.{Phase}
-use Rattle.lr_forms.specs.declared.built.Built.{Built}
 use Rattle.lr_forms.specs.declared.said.Said.{Said}
 use Rattle.lr_forms.specs.declared.said.Said.TheVariants as says
 use Rattle.lr_forms.specs.Says.{closes, said}
@@ -25,9 +24,9 @@ use Rattle.lr_conf.specs.Internal.Draft.{State, spoken, turned, outside, scripte
 
 -- ---- where the next line stands
 
-abbrev inside_next : Built → Place → Line → Bool
-inside_next b Outside e = opens (past b e)
-inside_next b p e = not (ends e)
+abbrev inside_next : Place → Line → Bool
+inside_next Outside e = opens (past e)
+inside_next p e = not (ends e)
 
 abbrev st : Place → Fields → List (List ℕ) → Option ℕ → Fields → List Phase → State
 st place d ws first f ps = record { place = place; defaults = d; words = ws; first = first; fields = f; scripts = ps }
@@ -58,34 +57,34 @@ outside_place s (spoiled f) is = ap is_inside is
 outside_place s file_ends is = ap is_inside is
 outside_place s breaks_off is = ap is_inside is
 
-said_place : (b : Built) (s : State) (v : Said) → s.place ≡ Good → is_inside (with_said b s v).place ≡ true
-said_place b s (says.Sets v) is = ap is_inside is
-said_place b s says.Quiet is = ap is_inside is
-said_place b s (says.OwnerPassed v) is = ap is_inside is
-said_place b s (says.Script p text stray) is = by (script_fault b s.scripts p stray)
+said_place : (s : State) (v : Said) → s.place ≡ Good → is_inside (with_said s v).place ≡ true
+said_place s (says.Sets v) is = ap is_inside is
+said_place s says.Quiet is = ap is_inside is
+said_place s (says.OwnerPassed v) is = ap is_inside is
+said_place s (says.Script p text stray) is = by (script_fault s.scripts p stray)
   where
     by : (o : Option ConfKind) → is_inside (scripted s p text o).place ≡ true
     by None = ap is_inside is
     by (Some k) = refl
-said_place b s (says.Include path) is = ap is_inside is
-said_place b s (says.Taboo patterns items) is = ap is_inside is
-said_place b s (says.Passed word) is = ap is_inside is
-said_place b s (says.Names ws) is = ap is_inside is
-said_place b s says.Open is = ap is_inside is
-said_place b s says.Close is = ap is_inside is
-said_place b s says.Unknown is = ap is_inside is
-said_place b s (says.Bad k) is = refl
-said_place b s (says.BadNames k) is = ap is_inside is
+said_place s (says.Include path) is = ap is_inside is
+said_place s (says.Taboo patterns items) is = ap is_inside is
+said_place s (says.Passed word) is = ap is_inside is
+said_place s (says.Names ws) is = ap is_inside is
+said_place s says.Open is = ap is_inside is
+said_place s says.Close is = ap is_inside is
+said_place s says.Unknown is = ap is_inside is
+said_place s (says.Bad k) is = refl
+said_place s (says.BadNames k) is = ap is_inside is
 
-good_place : (b : Built) (s : State) (e : Line) → s.place ≡ Good → is_inside (good b s e).place ≡ not (ends e)
-good_place b s (Read file i) is = by (closes i)
+good_place : (s : State) (e : Line) → s.place ≡ Good → is_inside (good s e).place ≡ not (ends e)
+good_place s (Read file i) is = by (closes i)
   where
-    by : (c : Bool) → is_inside (cond c (record s { place = Outside; words = []; first = None; fields = default_fields }) (with_said b s (said b true i))).place ≡ not c
+    by : (c : Bool) → is_inside (cond c (record s { place = Outside; words = []; first = None; fields = default_fields }) (with_said s (said true i))).place ≡ not c
     by true = refl
-    by false = said_place b s (said b true i) is
-good_place b s (Spoiled f) is = refl
-good_place b s (End file) is = refl
-good_place b s Cut is = refl
+    by false = said_place s (said true i) is
+good_place s (Spoiled f) is = refl
+good_place s (End file) is = refl
+good_place s Cut is = refl
 
 dropped_place : (s : State) (e : Line) → s.place ≡ Dropped → is_inside (dropped s e).place ≡ not (ends e)
 dropped_place s e is = by (ends e)
@@ -94,10 +93,10 @@ dropped_place s e is = by (ends e)
     by true = refl
     by false = ap is_inside is
 
-next_place : (b : Built) (p : Place) (s : State) (e : Line) → s.place ≡ p → is_inside (step b p s e).place ≡ inside_next b p e
-next_place b Outside s e is = outside_place s (past b e) is
-next_place b Good s e is = good_place b s e is
-next_place b Dropped s e is = dropped_place s e is
+next_place : (p : Place) (s : State) (e : Line) → s.place ≡ p → is_inside (step p s e).place ≡ inside_next p e
+next_place Outside s e is = outside_place s (past e) is
+next_place Good s e is = good_place s e is
+next_place Dropped s e is = dropped_place s e is
 
 -- ---- one line
 
@@ -105,46 +104,43 @@ cons_is : {A : Type 0} (o : Option A) (xs : List A) → cons_option o xs ≡ lis
 cons_is None xs = refl
 cons_is (Some x) xs = refl
 
-asked_one : (b : Built) (p : Place) (e : Line) (es : List Line) → asked b (is_inside p) (e ∷ es) ≡ list_of (asks_at b p e) ++ asked b (inside_next b p e) es
-asked_one b Outside e es = cons_is (asks (past b e)) (asked b (opens (past b e)) es)
-asked_one b Good e es = refl
-asked_one b Dropped e es = refl
+asked_one : (p : Place) (e : Line) (es : List Line) → asked (is_inside p) (e ∷ es) ≡ list_of (asks_at p e) ++ asked (inside_next p e) es
+asked_one Outside e es = cons_is (asks (past e)) (asked (opens (past e)) es)
+asked_one Good e es = refl
+asked_one Dropped e es = refl
 
 after_cons : (t : Taboo) (o : Option (Bool × TabooItems)) (cs : List (Bool × TabooItems)) → after_bans t (cons_option o cs) ≡ after_bans (after_bans t (list_of o)) cs
 after_cons t None cs = refl
 after_cons t (Some c) cs = refl
 
-banned_one : (b : Built) (p : Place) (t : Taboo) (e : Line) (es : List Line) → banned b (is_inside p) t (e ∷ es) ≡ banned b (inside_next b p e) (after_bans t (list_of (bans_at b p e))) es
-banned_one b Outside t e es = after_cons t (bans (past b e)) (filter_map bans (outsiders b (opens (past b e)) es))
-banned_one b Good t e es = refl
-banned_one b Dropped t e es = refl
+banned_one : (p : Place) (t : Taboo) (e : Line) (es : List Line) → banned (is_inside p) t (e ∷ es) ≡ banned (inside_next p e) (after_bans t (list_of (bans_at p e))) es
+banned_one Outside t e es = after_cons t (bans (past e)) (filter_map bans (outsiders (opens (past e)) es))
+banned_one Good t e es = refl
+banned_one Dropped t e es = refl
 
 -- where it stands, as the draft has it
-behind : (old new : Draft) (e : Line) (faults : List Fault) (includes : List Include) → Stepped old new e faults includes → inside_next old.built old.place e ≡ is_inside new.place
-behind old new e faults includes s = sym (ap (λ t. is_inside t.place) s.state ∙ next_place old.built old.place (state_of old) e refl)
+behind : (old new : Draft) (e : Line) (faults : List Fault) (includes : List Include) → Stepped old new e faults includes → inside_next old.place e ≡ is_inside new.place
+behind old new e faults includes s = sym (ap (λ t. is_inside t.place) s.state ∙ next_place old.place (state_of old) e refl)
 
 asks_step : (old new : Draft) (e : Line) (faults : List Fault) (includes : List Include) → Stepped old new e faults includes → (lines : List Line) → asking_from old (e ∷ lines) ≡ includes ++ asking_from new lines
 asks_step old new e faults includes s lines =
-    asked_one old.built old.place e lines
-    ∙ ap (λ is. is ++ asked old.built (inside_next old.built old.place e) lines) s.includes_are
-    ∙ ap (λ c. includes ++ asked old.built c lines) (behind old new e faults includes s)
-    ∙ ap (λ b. includes ++ asked b (is_inside new.place) lines) (sym s.built)
+    asked_one old.place e lines
+    ∙ ap (λ is. is ++ asked (inside_next old.place e) lines) s.includes_are
+    ∙ ap (λ c. includes ++ asked c lines) (behind old new e faults includes s)
 
 bans_step : (old new : Draft) (e : Line) (faults : List Fault) (includes : List Include) → Stepped old new e faults includes → (lines : List Line) → banning_from old (e ∷ lines) ≡ banning_from new lines
 bans_step old new e faults includes s lines =
-    banned_one old.built old.place old.taboo e lines
-    ∙ ap (λ t. banned old.built (inside_next old.built old.place e) t lines) (sym s.taboo)
-    ∙ ap (λ c. banned old.built c new.taboo lines) (behind old new e faults includes s)
-    ∙ ap (λ b. banned b (is_inside new.place) new.taboo lines) (sym s.built)
+    banned_one old.place old.taboo e lines
+    ∙ ap (λ t. banned (inside_next old.place e) t lines) (sym s.taboo)
+    ∙ ap (λ c. banned c new.taboo lines) (behind old new e faults includes s)
 
 asks_same : (old new : Draft) → Unchanged old new → (lines : List Line) → asking_from new lines ≡ asking_from old lines
-asks_same old new u lines = ap (λ t. asked new.built (is_inside t.place) lines) u.state ∙ ap (λ b. asked b (is_inside old.place) lines) u.table.built
+asks_same old new u lines = ap (λ t. asked (is_inside t.place) lines) u.state
 
 bans_same : (old new : Draft) → Unchanged old new → (lines : List Line) → banning_from new lines ≡ banning_from old lines
 bans_same old new u lines =
-    ap (λ t. banned new.built (is_inside t.place) new.taboo lines) u.state
-    ∙ ap (λ b. banned b (is_inside old.place) new.taboo lines) u.table.built
-    ∙ ap (λ t. banned old.built (is_inside old.place) t lines) u.table.taboo
+    ap (λ t. banned (is_inside t.place) new.taboo lines) u.state
+    ∙ ap (λ t. banned (is_inside old.place) t lines) u.table.taboo
 
 -- ---- answers
 

@@ -46,7 +46,6 @@ bad old new file at brace k r e s =
       notices = s.rest.notices ∙ sym (append-nil old.notices.items);
       faults_are = refl;
       files = s.rest.table.files;
-      built = s.rest.table.built;
       includes_are = refl;
       taboo = s.rest.table.taboo;
     })
@@ -61,7 +60,6 @@ quiet old new file at brace r e s =
       notices = s.rest.notices ∙ sym (append-nil old.notices.items);
       faults_are = refl;
       files = s.rest.table.files;
-      built = s.rest.table.built;
       includes_are = refl;
       taboo = s.rest.table.taboo;
     })
@@ -76,7 +74,6 @@ script old new file at brace phase text stray r e s =
       notices = s.rest.notices ∙ sym (append-nil old.notices.items);
       faults_are = refl;
       files = s.rest.table.files;
-      built = s.rest.table.built;
       includes_are = refl;
       taboo = s.rest.table.taboo;
     })
@@ -95,7 +92,6 @@ close old new file at brace own r e k s =
       notices = s.rest.notices ∙ sym (append-nil old.notices.items);
       faults_are = ap (λ o. at_line file kind.NoBrace old.first ++ o) (strays file at old.first ∙ ap (own_faults file at) (sym k));
       files = s.rest.table.files;
-      built = s.rest.table.built;
       includes_are = refl;
       taboo = s.rest.table.taboo;
     })
@@ -112,7 +108,6 @@ include old new file at brace path f r e is s =
       notices = s.rest.notices ∙ sym (append-nil old.notices.items);
       faults_are = refl;
       files = s.rest.table.files;
-      built = s.rest.table.built;
       includes_are = refl;
       taboo = s.rest.table.taboo;
     }))
@@ -127,7 +122,6 @@ sets old new file at brace v defaults r d e s =
       notices = s.rest.notices ∙ sym (append-nil old.notices.items);
       faults_are = refl;
       files = s.rest.table.files;
-      built = s.rest.table.built;
       includes_are = refl;
       taboo = s.rest.table.taboo;
     })
@@ -142,7 +136,6 @@ passed old mid new file at brace word r n e s =
       notices = s.rest.notices ∙ n.notices;
       faults_are = refl;
       files = s.rest.table.files ∙ n.table.files;
-      built = s.rest.table.built ∙ n.table.built;
       includes_are = refl;
       taboo = s.rest.table.taboo ∙ n.table.taboo;
     })
@@ -158,7 +151,6 @@ owner old mid new file at brace v defaults r n d e s =
       notices = s.rest.notices ∙ n.notices;
       faults_are = refl;
       files = s.rest.table.files ∙ n.table.files;
-      built = s.rest.table.built ∙ n.table.built;
       includes_are = refl;
       taboo = s.rest.table.taboo ∙ n.table.taboo;
     })
@@ -173,7 +165,6 @@ taboo old mid new file at brace patterns items r n e s =
       notices = s.rest.notices ∙ n.notices ∙ sym (append-nil old.notices.items);
       faults_are = refl;
       files = s.rest.table.files ∙ n.files;
-      built = s.rest.table.built ∙ n.built;
       includes_are = refl;
       taboo = s.rest.table.taboo ∙ n.taboo;
     })

@@ -27,16 +27,14 @@ joined old new was is faults g m r n f =
 
 pub took_step : (old new : Draft) (e : Line) (faults : List Fault) (includes : List Include) → Stepped old new e faults includes → (lines : List Line) → coming_from old (e ∷ lines) ≡ (told faults and coming_from new lines)
 took_step old new e faults includes s lines =
-    ap (λ b. kept old.rules.items old.notices.items and (gives old.built old.place (state_of old) e and run b (step old.built old.place (state_of old) e) lines)) (sym s.built)
-    ∙ ap (λ t. kept old.rules.items old.notices.items and (gives old.built old.place (state_of old) e and run new.built t lines)) (sym s.state)
-    ∙ joined old.rules.items new.rules.items old.notices.items new.notices.items faults (gives old.built old.place (state_of old) e) (run new.built (state_of new) lines) s.rules s.notices s.faults_are
+    ap (λ t. kept old.rules.items old.notices.items and (gives old.place (state_of old) e and run t lines)) (sym s.state)
+    ∙ joined old.rules.items new.rules.items old.notices.items new.notices.items faults (gives old.place (state_of old) e) (run (state_of new) lines) s.rules s.notices s.faults_are
 
 took_same : (old new : Draft) → Unchanged old new → (lines : List Line) → coming_from new lines ≡ coming_from old lines
 took_same old new u lines =
-    ap (λ rules. kept rules new.notices.items and run new.built (state_of new) lines) u.rules
-    ∙ ap (λ notices. kept old.rules.items notices and run new.built (state_of new) lines) u.notices
-    ∙ ap (λ b. kept old.rules.items old.notices.items and run b (state_of new) lines) u.table.built
-    ∙ ap (λ t. kept old.rules.items old.notices.items and run old.built t lines) u.state
+    ap (λ rules. kept rules new.notices.items and run (state_of new) lines) u.rules
+    ∙ ap (λ notices. kept old.rules.items notices and run (state_of new) lines) u.notices
+    ∙ ap (λ t. kept old.rules.items old.notices.items and run t lines) u.state
 
 pub took_in : (old new : Draft) (file : Path) (e : Line) (r : Result (Option Include) LayerStop) → Steps old new file e r → TookIn old new file e r
 took_in old new file e (Ok i) s = took_step old new e _ _ s

@@ -5,7 +5,6 @@ use Rattle.lr_lex.specs.declared.item.Item.{Item}
 use Rattle.lr_rules.specs.declared.path.Path.{Path}
 use Rattle.lr_rules.specs.declared.fault.Phase.{Phase}
 use Rattle.lr_rules.specs.declared.rule.Rule.{Rule}
-use Rattle.lr_forms.specs.declared.built.Built.{Built}
 use Rattle.lr_forms.specs.declared.set.Set.{Set}
 use Rattle.lr_forms.specs.declared.said.Said.{Said}
 use Rattle.lr_forms.specs.declared.said.Said.TheVariants as says
@@ -24,9 +23,9 @@ OkSaid S N (says.Names ws) = N ws
 OkSaid S N s = Unit {0}
 
 -- so is what each line says, and then a rule is such
-pub record Walk (b : Built) (S : Set → Type 0) (N : List (List ℕ) → Type 0) (R : Rule → Type 0) : Type 0 where
-  pub line : (inside : Bool) (i : Item) → OkSaid S N (said b inside i)
-  pub script : (earlier : List Phase) (p : Phase) (text : List ℕ) (stray : Bool) → OkSaid S N (script_says (script_fault b earlier p stray) p text)
+pub record Walk (S : Set → Type 0) (N : List (List ℕ) → Type 0) (R : Rule → Type 0) : Type 0 where
+  pub line : (inside : Bool) (i : Item) → OkSaid S N (said inside i)
+  pub script : (earlier : List Phase) (p : Phase) (text : List ℕ) (stray : Bool) → OkSaid S N (script_says (script_fault earlier p stray) p text)
   pub more : (xs ys : List (List ℕ)) → N xs → N ys → N (xs ++ ys)
   pub rule : (file : Path) (at : ℕ) (words : List (List ℕ)) (vs : List Set) → N words → Each S vs → R (rule_of file at words (fields_of vs))
 
@@ -36,7 +35,7 @@ abbrev OkPast : (Set → Type 0) → (List (List ℕ) → Type 0) → Past → T
 OkPast S N (stands at brace v) = OkSaid S N v
 OkPast S N p = Unit {0}
 
-past_ok : {b : Built} {S : Set → Type 0} {N : List (List ℕ) → Type 0} {R : Rule → Type 0} (w : Walk b S N R) (e : Line) → OkPast S N (past b e)
+past_ok : {S : Set → Type 0} {N : List (List ℕ) → Type 0} {R : Rule → Type 0} (w : Walk S N R) (e : Line) → OkPast S N (past e)
 past_ok w (Read file i) = w.line false i
 past_ok w (Spoiled f) = tt
 past_ok w (End file) = tt
@@ -53,19 +52,19 @@ set_past_ok S N (spoiled f) ok = tt
 set_past_ok S N file_ends ok = tt
 set_past_ok S N breaks_off ok = tt
 
-behind_ok : {b : Built} {S : Set → Type 0} {N : List (List ℕ) → Type 0} {R : Rule → Type 0} (w : Walk b S N R) (earlier : List Phase) (v : Said) → OkSaid S N v → OkSaid S N (said_behind b earlier v)
+behind_ok : {S : Set → Type 0} {N : List (List ℕ) → Type 0} {R : Rule → Type 0} (w : Walk S N R) (earlier : List Phase) (v : Said) → OkSaid S N v → OkSaid S N (said_behind earlier v)
 behind_ok w earlier (says.Script p text stray) ok = w.script earlier p text stray
 behind_ok w earlier v ok = ok
 
-set_in_ok : {b : Built} {S : Set → Type 0} {N : List (List ℕ) → Type 0} {R : Rule → Type 0} (w : Walk b S N R) (earlier : List Line) (e : Line) → Given S (set_in (within b earlier e))
-set_in_ok {b} {S} {N} w earlier (Read file i) = set_ok S N (said_behind b (scripts_in b earlier) (said b true i)) (behind_ok w (scripts_in b earlier) (said b true i) (w.line true i))
+set_in_ok : {S : Set → Type 0} {N : List (List ℕ) → Type 0} {R : Rule → Type 0} (w : Walk S N R) (earlier : List Line) (e : Line) → Given S (set_in (within earlier e))
+set_in_ok {S} {N} w earlier (Read file i) = set_ok S N (said_behind (scripts_in earlier) (said true i)) (behind_ok w (scripts_in earlier) (said true i) (w.line true i))
 set_in_ok w earlier (Spoiled f) = tt
 set_in_ok w earlier (End file) = tt
 set_in_ok w earlier Cut = tt
 
-body_ok : {b : Built} {S : Set → Type 0} {N : List (List ℕ) → Type 0} {R : Rule → Type 0} (w : Walk b S N R) (earlier es : List Line) → Each S (filter_map set_in (body_of b earlier es))
+body_ok : {S : Set → Type 0} {N : List (List ℕ) → Type 0} {R : Rule → Type 0} (w : Walk S N R) (earlier es : List Line) → Each S (filter_map set_in (body_of earlier es))
 body_ok w earlier [] = tt
-body_ok {b} {S} w earlier (e ∷ es) = one_more S (set_in (within b earlier e)) (filter_map set_in (body_of b (earlier ++ e ∷ []) es)) (set_in_ok w earlier e) (body_ok w (earlier ++ e ∷ []) es)
+body_ok {S} w earlier (e ∷ es) = one_more S (set_in (within earlier e)) (filter_map set_in (body_of (earlier ++ e ∷ []) es)) (set_in_ok w earlier e) (body_ok w (earlier ++ e ∷ []) es)
 
 -- ---- names
 
@@ -90,9 +89,9 @@ abbrev Opened : (List (List ℕ) → Type 0) → Option ℕ → List (List ℕ) 
 Opened N None ws = Unit {0}
 Opened N (Some at) ws = N ws
 
-joined_ok : {b : Built} {S : Set → Type 0} {N : List (List ℕ) → Type 0} {R : Rule → Type 0} (w : Walk b S N R) (ns : List (ℕ × List (List ℕ))) → Each (OkNames N) ns → HasWords N (first_line ns) (flat_map (λ n. n.1) ns)
+joined_ok : {S : Set → Type 0} {N : List (List ℕ) → Type 0} {R : Rule → Type 0} (w : Walk S N R) (ns : List (ℕ × List (List ℕ))) → Each (OkNames N) ns → HasWords N (first_line ns) (flat_map (λ n. n.1) ns)
 joined_ok w [] ok = refl
-joined_ok {b} {S} {N} w (n ∷ ns) ok = by (first_line ns) (flat_map (λ m. m.1) ns) (joined_ok w ns ok.1)
+joined_ok {S} {N} w (n ∷ ns) ok = by (first_line ns) (flat_map (λ m. m.1) ns) (joined_ok w ns ok.1)
   where
     nil : (xs : List (List ℕ)) → xs ++ [] ≡ xs
     nil [] = refl
@@ -102,8 +101,8 @@ joined_ok {b} {S} {N} w (n ∷ ns) ok = by (first_line ns) (flat_map (λ m. m.1)
     by None ws none = subst (λ rest. N (n.1 ++ rest)) (sym none) (subst N (sym (nil n.1)) ok.0)
     by (Some at) ws some = w.more n.1 ws ok.0 some
 
-opened_ok : {b : Built} {S : Set → Type 0} {N : List (List ℕ) → Type 0} {R : Rule → Type 0} (w : Walk b S N R) (first : Option ℕ) (words : List (List ℕ)) (p : Past) → HasWords N first words → OkPast S N p → Opened N (opened first p) (words_with words p)
-opened_ok {b} {S} {N} w None words (stands at brace (says.Names ws)) h ok = subst (λ front. N (front ++ ws)) (sym h) ok
+opened_ok : {S : Set → Type 0} {N : List (List ℕ) → Type 0} {R : Rule → Type 0} (w : Walk S N R) (first : Option ℕ) (words : List (List ℕ)) (p : Past) → HasWords N first words → OkPast S N p → Opened N (opened first p) (words_with words p)
+opened_ok {S} {N} w None words (stands at brace (says.Names ws)) h ok = subst (λ front. N (front ++ ws)) (sym h) ok
 opened_ok w (Some n) words (stands at brace (says.Names ws)) h ok = w.more words ws h ok
 opened_ok w None words (stands at brace says.Open) h ok = tt
 opened_ok w (Some n) words (stands at brace says.Open) h ok = h
@@ -114,7 +113,7 @@ opened_ok w first words p h ok = tt
 abbrev Rules : (Rule → Type 0) → Meaning → Type 0
 Rules R m = Each R m.rules
 
-end_ok : {b : Built} {S : Set → Type 0} {N : List (List ℕ) → Type 0} {R : Rule → Type 0} (w : Walk b S N R) (at : ℕ) (words : List (List ℕ)) (vs : List Set) (o : Option Line) → N words → Each S vs → Rules R (of_end at words (fields_of vs) o)
+end_ok : {S : Set → Type 0} {N : List (List ℕ) → Type 0} {R : Rule → Type 0} (w : Walk S N R) (at : ℕ) (words : List (List ℕ)) (vs : List Set) (o : Option Line) → N words → Each S vs → Rules R (of_end at words (fields_of vs) o)
 end_ok w at words vs None n ok = tt
 end_ok w at words vs (Some (Read file i)) n ok = (w.rule file at words vs n ok, tt)
 end_ok w at words vs (Some (Spoiled e)) n ok = tt
@@ -125,35 +124,35 @@ either : (R : Rule → Type 0) (c : Bool) (m n : Meaning) → Rules R m → Rule
 either R true m n x y = x
 either R false m n x y = y
 
-body_means_ok : {b : Built} {S : Set → Type 0} {N : List (List ℕ) → Type 0} {R : Rule → Type 0} (w : Walk b S N R) (o : Option ℕ) (words : List (List ℕ)) (vs : List Set) (es : List Line) → Opened N o words → Each S vs → Rules R (of_body b o words vs es)
+body_means_ok : {S : Set → Type 0} {N : List (List ℕ) → Type 0} {R : Rule → Type 0} (w : Walk S N R) (o : Option ℕ) (words : List (List ℕ)) (vs : List Set) (es : List Line) → Opened N o words → Each S vs → Rules R (of_body o words vs es)
 body_means_ok w None words vs es n ok = tt
-body_means_ok {b} {S} {N} {R} w (Some at) words vs es n ok =
-    let body = body_of b [] (before ends es) in
+body_means_ok {S} {N} {R} w (Some at) words vs es n ok =
+    let body = body_of [] (before ends es) in
     let all = vs ++ filter_map set_in body in
     either R (list_any drops body) (told (filter_map broken_fault (behind drops body))) (of_end at words (fields_of all) (find ends es)) tt
     (end_ok w at words all (find ends es) n (append S vs (filter_map set_in body) ok (body_ok w [] (before ends es))))
 
-opening_ok : {b : Built} {S : Set → Type 0} {N : List (List ℕ) → Type 0} {R : Rule → Type 0} (w : Walk b S N R) (out : List Past) (p : Past) (es : List Line) → Each (OkPast S N) out → OkPast S N p → Rules R (of_opening b out p es)
-opening_ok {b} {S} {N} {R} w out p es ok here =
-    either R (opens p) (of_body b (opened (first_pending out) p) (words_with (words_pending out) p) (settings (out ++ p ∷ [])) es) nothing
+opening_ok : {S : Set → Type 0} {N : List (List ℕ) → Type 0} {R : Rule → Type 0} (w : Walk S N R) (out : List Past) (p : Past) (es : List Line) → Each (OkPast S N) out → OkPast S N p → Rules R (of_opening out p es)
+opening_ok {S} {N} {R} w out p es ok here =
+    either R (opens p) (of_body (opened (first_pending out) p) (words_with (words_pending out) p) (settings (out ++ p ∷ [])) es) nothing
     (body_means_ok w (opened (first_pending out) p) (words_with (words_pending out) p) (settings (out ++ p ∷ [])) es
     (opened_ok w (first_pending out) (words_pending out) p (joined_ok w (pending out) (pending_ok S N out ok)) here)
     (mapped (OkPast S N) S set_past (set_past_ok S N) (out ++ p ∷ []) (append (OkPast S N) out (p ∷ []) ok (here, tt))))
     tt
 
-meaning_ok : {b : Built} {S : Set → Type 0} {N : List (List ℕ) → Type 0} {R : Rule → Type 0} (w : Walk b S N R) (es : List Line) (inside : Bool) (out : List Past) → Each (OkPast S N) out → Rules R (meaning b inside out es)
+meaning_ok : {S : Set → Type 0} {N : List (List ℕ) → Type 0} {R : Rule → Type 0} (w : Walk S N R) (es : List Line) (inside : Bool) (out : List Past) → Each (OkPast S N) out → Rules R (meaning inside out es)
 meaning_ok w [] true out ok = tt
 meaning_ok w [] false out ok = tt
-meaning_ok {b} {S} {N} {R} w (e ∷ es) true out ok =
-    either R (ends e) (meaning b false (out ++ past b e ∷ []) es) (meaning b true out es)
-    (meaning_ok w es false (out ++ past b e ∷ []) (append (OkPast S N) out (past b e ∷ []) ok (past_ok w e, tt)))
+meaning_ok {S} {N} {R} w (e ∷ es) true out ok =
+    either R (ends e) (meaning false (out ++ past e ∷ []) es) (meaning true out es)
+    (meaning_ok w es false (out ++ past e ∷ []) (append (OkPast S N) out (past e ∷ []) ok (past_ok w e, tt)))
     (meaning_ok w es true out ok)
-meaning_ok {b} {S} {N} {R} w (e ∷ es) false out ok =
-    append R (of_opening b out (past b e) es).rules (meaning b (opens (past b e)) (out ++ past b e ∷ []) es).rules
-    (opening_ok w out (past b e) es ok (past_ok w e))
-    (meaning_ok w es (opens (past b e)) (out ++ past b e ∷ []) (append (OkPast S N) out (past b e ∷ []) ok (past_ok w e, tt)))
+meaning_ok {S} {N} {R} w (e ∷ es) false out ok =
+    append R (of_opening out (past e) es).rules (meaning (opens (past e)) (out ++ past e ∷ []) es).rules
+    (opening_ok w out (past e) es ok (past_ok w e))
+    (meaning_ok w es (opens (past e)) (out ++ past e ∷ []) (append (OkPast S N) out (past e ∷ []) ok (past_ok w e, tt)))
 
-pub each_rule : {b : Built} {S : Set → Type 0} {N : List (List ℕ) → Type 0} {R : Rule → Type 0} (w : Walk b S N R) (lines : List Line) → Each R (meaning b false [] lines).rules
+pub each_rule : {S : Set → Type 0} {N : List (List ℕ) → Type 0} {R : Rule → Type 0} (w : Walk S N R) (lines : List Line) → Each R (meaning false [] lines).rules
 each_rule w lines = meaning_ok w lines false [] tt
 
 -- ---- fields

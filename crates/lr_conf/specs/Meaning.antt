@@ -19,7 +19,6 @@ use Rattle.lr_forms.specs.declared.said.Said.TheVariants as says
 use Rattle.lr_words.specs.declared.taboo.TabooItems.{TabooItems}
 use Rattle.lr_match.specs.declared.taboo.Taboo.{Taboo}
 use Rattle.lr_match.specs.Taboos.{taboo_after}
-use Rattle.lr_forms.specs.declared.built.Built.{Built}
 use Rattle.lr_forms.specs.Says.{line_of, has_brace, closes, said}
 use Rattle.lr_fields.specs.Fields.{fields_of}
 use Rattle.lr_fields.specs.Rules.{rule_of}
@@ -139,11 +138,11 @@ opened first (stands at brace says.Open) = first
 opened first p = None
 
 -- how a line is read outside definitions
-abbrev pub past : Built → Line → Past
-past b (Read file i) = stands (line_of i) (has_brace i) (said b false i)
-past b (Spoiled f) = spoiled f
-past b (End file) = file_ends
-past b Cut = breaks_off
+abbrev pub past : Line → Past
+past (Read file i) = stands (line_of i) (has_brace i) (said false i)
+past (Spoiled f) = spoiled f
+past (End file) = file_ends
+past Cut = breaks_off
 
 -- ---- notices and faults
 
@@ -208,34 +207,34 @@ abbrev pub script_of : Said → Option Phase
 script_of (says.Script phase text stray) = Some phase
 script_of s = None
 
-abbrev pub script_in : Built → Line → Option Phase
-script_in b (Read file i) = script_of (said b true i)
-script_in b e = None
+abbrev pub script_in : Line → Option Phase
+script_in (Read file i) = script_of (said true i)
+script_in e = None
 
 -- the scripts that stand among the lines of a definition
-abbrev pub scripts_in : Built → List Line → List Phase
-scripts_in b lines = filter_map (script_in b) lines
+abbrev pub scripts_in : List Line → List Phase
+scripts_in lines = filter_map (script_in) lines
 
 abbrev pub script_says : Option ConfKind → Phase → List ℕ → Said
 script_says None p text = says.Sets (set.Script p text)
 script_says (Some k) p text = says.Bad k
 
 -- what a line of a definition says where these scripts stand before it
-abbrev pub said_behind : Built → List Phase → Said → Said
-said_behind b earlier (says.Script p text stray) = script_says (script_fault b earlier p stray) p text
-said_behind b earlier s = s
+abbrev pub said_behind : List Phase → Said → Said
+said_behind earlier (says.Script p text stray) = script_says (script_fault earlier p stray) p text
+said_behind earlier s = s
 
 -- how a line is read in a definition, behind those of its lines that stand before it
-abbrev pub within : Built → List Line → Line → Within
-within b earlier (Read file i) = states file (line_of i) (said_behind b (scripts_in b earlier) (said b true i))
-within b earlier (Spoiled f) = broken f
-within b earlier (End file) = left_open
-within b earlier Cut = left_open
+abbrev pub within : List Line → Line → Within
+within earlier (Read file i) = states file (line_of i) (said_behind (scripts_in earlier) (said true i))
+within earlier (Spoiled f) = broken f
+within earlier (End file) = left_open
+within earlier Cut = left_open
 
 -- the lines of a definition, each as it is read behind those before it
-abbrev pub body_of : Built → List Line → List Line → List Within
-body_of b earlier [] = []
-body_of b earlier (e ∷ es) = within b earlier e ∷ body_of b (earlier ++ e ∷ []) es
+abbrev pub body_of : List Line → List Line → List Within
+body_of earlier [] = []
+body_of earlier (e ∷ es) = within earlier e ∷ body_of (earlier ++ e ∷ []) es
 
 abbrev pub is_bad : Said → Bool
 is_bad (says.Bad k) = true
@@ -304,9 +303,9 @@ of_spoilt es = told (filter_map spoilt_fault es)
 
 -- A definition whose first name stands at this line: its words, what was set before its lines, and its lines with what
 -- follows. Behind the line that drops it only spoilt lines are told.
-abbrev pub of_definition : Built → ℕ → List (List ℕ) → List Set → List Line → Meaning
-of_definition b at words before_it es =
-    let body = body_of b [] (before ends es) in
+abbrev pub of_definition : ℕ → List (List ℕ) → List Set → List Line → Meaning
+of_definition at words before_it es =
+    let body = body_of [] (before ends es) in
     record {
       rules = [];
       notices = filter_map notice_in (through drops body);
@@ -315,36 +314,36 @@ of_definition b at words before_it es =
     and (if list_any drops body then told (filter_map broken_fault (behind drops body)) else of_end at words (fields_of (before_it ++ filter_map set_in body)) (find ends es))
 
 -- one that a fault of its first line drops says nothing, its spoilt lines aside
-abbrev pub of_body : Built → Option ℕ → List (List ℕ) → List Set → List Line → Meaning
-of_body b None words before_it es = of_spoilt (before ends es)
-of_body b (Some at) words before_it es = of_definition b at words before_it es
+abbrev pub of_body : Option ℕ → List (List ℕ) → List Set → List Line → Meaning
+of_body None words before_it es = of_spoilt (before ends es)
+of_body (Some at) words before_it es = of_definition at words before_it es
 
 -- what begins at a line that opens a definition
-abbrev pub of_opening : Built → List Past → Past → List Line → Meaning
-of_opening b out p es =
-    if opens p then of_body b (opened (first_pending out) p) (words_with (words_pending out) p) (settings (out ++ p ∷ [])) es
+abbrev pub of_opening : List Past → Past → List Line → Meaning
+of_opening out p es =
+    if opens p then of_body (opened (first_pending out) p) (words_with (words_pending out) p) (settings (out ++ p ∷ [])) es
     else nothing
 
 -- a line outside definitions, for itself
 abbrev pub of_line : Path → Option ℕ → Past → Meaning
 of_line file first p = record { rules = []; notices = list_of (notice_past file p); faults = line_faults file first p }
 
--- What lines mean: by what is built, in a definition or not, the lines before them that stand outside definitions, and
+-- What lines mean: in a definition or not, the lines before them that stand outside definitions, and
 -- the lines. Those of an included file stand in the place of the line that asks for it.
-abbrev pub meaning : Built → Bool → List Past → List Line → Meaning
-meaning b inside out [] = nothing
-meaning b true out (e ∷ es) = if ends e then meaning b false (out ++ past b e ∷ []) es else meaning b true out es
-meaning b false out (e ∷ es) =
-    of_line (file_of e) (first_pending out) (past b e)
-    and (of_opening b out (past b e) es and meaning b (opens (past b e)) (out ++ past b e ∷ []) es)
+abbrev pub meaning : Bool → List Past → List Line → Meaning
+meaning inside out [] = nothing
+meaning true out (e ∷ es) = if ends e then meaning false (out ++ past e ∷ []) es else meaning true out es
+meaning false out (e ∷ es) =
+    of_line (file_of e) (first_pending out) (past e)
+    and (of_opening out (past e) es and meaning (opens (past e)) (out ++ past e ∷ []) es)
 
 -- ---- other files
 
 -- the lines that stand outside definitions, as they are read there
-abbrev pub outsiders : Built → Bool → List Line → List Past
-outsiders b inside [] = []
-outsiders b true (e ∷ es) = outsiders b (not (ends e)) es
-outsiders b false (e ∷ es) = past b e ∷ outsiders b (opens (past b e)) es
+abbrev pub outsiders : Bool → List Line → List Past
+outsiders inside [] = []
+outsiders true (e ∷ es) = outsiders (not (ends e)) es
+outsiders false (e ∷ es) = past e ∷ outsiders (opens (past e)) es
 
 -- the file that a line asks for
 abbrev pub asks : Past → Option Include
@@ -352,8 +351,8 @@ asks (stands at brace (says.Include path)) = Some (record { path = path; line = 
 asks p = None
 
 -- the files that lines ask for, in order
-abbrev pub asked : Built → Bool → List Line → List Include
-asked b inside lines = filter_map asks (outsiders b inside lines)
+abbrev pub asked : Bool → List Line → List Include
+asked inside lines = filter_map asks (outsiders inside lines)
 
 -- what a line makes taboo: items, and whether they are patterns
 abbrev pub bans : Past → Option (Bool × TabooItems)
@@ -366,5 +365,5 @@ after_bans taboo [] = taboo
 after_bans taboo (c ∷ cs) = after_bans (taboo_after taboo c.1.items c.0 c.1.adding) cs
 
 -- the taboo list behind lines, where it is this one before them
-abbrev pub banned : Built → Bool → Taboo → List Line → Taboo
-banned b inside taboo lines = after_bans taboo (filter_map bans (outsiders b inside lines))
+abbrev pub banned : Bool → Taboo → List Line → Taboo
+banned inside taboo lines = after_bans taboo (filter_map bans (outsiders inside lines))

@@ -9,7 +9,6 @@ ghost use Rattle.lr_conf.specs.Internal.Draft.{coming_from, asking_from, banning
 use crate::place::Place;
 use crate::stop::{Include, LayerStop};
 use lr_fields::{Fields, Files, default_fields};
-use lr_forms::Built;
 use lr_lex::Item;
 use lr_match::Taboo;
 use lr_rules::{ConfKind, Memory, Notice, Phase, Rule, Text};
@@ -19,8 +18,6 @@ use std::alloc::Global;
 #[derive(Drop)]
 pub struct Draft {
     pub(crate) alloc: Global,
-    /// What isn't built is told as NotYet.
-    pub(crate) built: Built,
     pub(crate) files: Files,
     pub(crate) place: Place,
     /// The fields that lines outside definitions set.
@@ -60,17 +57,16 @@ fn first_parts(alloc: Global) -> Result<(Taboo, Fields, Fields), Memory>
 
 impl Draft {
     /// A draft of no line, with room for 8 entered files.
-    pub fn new(alloc: Global, built: Built) -> Result<Draft, Memory>
+    pub fn new(alloc: Global) -> Result<Draft, Memory>
         ensures files { IfOk result (λ draft. files_of draft ≡ []) }
-        ensures means { IfOk result (λ draft. (lines : List Line) → coming_from draft lines ≡ meaning built false [] lines) }
-        ensures asks { IfOk result (λ draft. (lines : List Line) → asking_from draft lines ≡ asked built false lines) }
-        ensures bans { IfOk result (λ draft. (lines : List Line) → banning_from draft lines ≡ banned built false first_taboo lines) }
+        ensures means { IfOk result (λ draft. (lines : List Line) → coming_from draft lines ≡ meaning false [] lines) }
+        ensures asks { IfOk result (λ draft. (lines : List Line) → asking_from draft lines ≡ asked false lines) }
+        ensures bans { IfOk result (λ draft. (lines : List Line) → banning_from draft lines ≡ banned false first_taboo lines) }
     {
         let files = Files::new(alloc)?;
         let (taboo, defaults, fields) = first_parts(alloc)?;
         Ok(Draft {
             alloc,
-            built,
             files,
             place: Place::Outside,
             defaults,

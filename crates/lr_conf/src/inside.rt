@@ -77,7 +77,7 @@ impl Draft {
         requires { self.old.place ≡ place.Good }
         ensures { SaysInside self.old self.new (file_of_draft self.old) at (says.Script phase text stray) result }
     {
-        match script_fault(self.built, self.scripts.as_slice(), phase, stray) {
+        match script_fault(self.scripts.as_slice(), phase, stray) {
             Some(kind) => {
                 drop(text);
                 self.drop_for(at, kind)

@@ -7,7 +7,6 @@ ghost use Rattle.lr_conf.specs.Internal.Draft.{coming_from};
 
 use crate::draft::Draft;
 use crate::stop::{Include, LayerStop};
-use lr_forms::Built;
 use lr_lex::Item;
 use lr_match::Taboo;
 use lr_rules::{ConfKind, Listed, Memory, Notice, Path, Rules};
@@ -28,15 +27,15 @@ impl Layer {
     ghost use Rattle.lr_conf.specs.Meaning.{Read, Spoiled, End, Cut, meaning, asked, banned, told, conf, ◌and◌};
     ghost use Rattle.lr_conf.specs.Fold.{coming, asking, banning, Took, Asks, Bans, Alike, Passes, file_of_layer, entered};
 
-    /// A layer that took no line, with room for 8 entered files. A line with something that isn't built is told as NotYet.
-    pub fn new(alloc: Global, built: Built) -> Result<Layer, Memory>
+    /// A layer that took no line, with room for 8 entered files.
+    pub fn new(alloc: Global) -> Result<Layer, Memory>
         ensures files { IfOk result (λ layer. entered layer ≡ []) }
-        ensures means { IfOk result (λ layer. (lines : List Line) → coming layer lines ≡ meaning built false [] lines) }
-        ensures asks { IfOk result (λ layer. (lines : List Line) → asking layer lines ≡ asked built false lines) }
-        ensures bans { IfOk result (λ layer. (lines : List Line) → banning layer lines ≡ banned built false first_taboo lines) }
+        ensures means { IfOk result (λ layer. (lines : List Line) → coming layer lines ≡ meaning false [] lines) }
+        ensures asks { IfOk result (λ layer. (lines : List Line) → asking layer lines ≡ asked false lines) }
+        ensures bans { IfOk result (λ layer. (lines : List Line) → banning layer lines ≡ banned false first_taboo lines) }
     {
         Ok(Layer {
-            draft: Draft::new(alloc, built)?,
+            draft: Draft::new(alloc)?,
         })
     }
 

@@ -12,7 +12,7 @@
 //! line says by itself is `lr_forms::say`.
 //!
 //! ```text
-//! let mut layer = Layer::new(alloc, Built::SoFar)?;
+//! let mut layer = Layer::new(alloc)?;
 //! layer.enter(file);
 //! // each item of a `lr_lex::Lexer`
 //! layer.take(item)?;

@@ -19,7 +19,7 @@ impl Draft {
     {
         let at = line_of(&item);
         let brace = has_brace(&item);
-        let said = say(self.alloc, item, false, self.built)?;
+        let said = say(self.alloc, item, false)?;
         self.outside(at, brace, said)
     }
 
@@ -33,7 +33,7 @@ impl Draft {
             return self.close();
         }
         let at = line_of(&item);
-        let said = say(self.alloc, item, true, self.built)?;
+        let said = say(self.alloc, item, true)?;
         self.inside(at, said)
     }
 

@@ -62,8 +62,8 @@ keyed_by n (m ∷ ms) h = ((m.seconds, m.serial, refl, h.0), keyed_by n ms h.1)
 
 -- ---- they fit
 
-pub fits : (n : Naming) (c : Count) (log target : Path) (all : List Ranked) (m : Names) → or_none is_format n.dated ≡ true → StandSo n log target all m → FitAll m (reverse (dated_rotation c log target all))
-fits n c log target all m good st = subst (FitAll m) (sym (steps_are c log target all)) (removals_fit (HasStamp n) m c (Renames log target ∷ []) (one_stamp n good) (tt, turn) all 0 st.falling (keyed_by n all st.named) st.files)
+pub fits : (n : Naming) (c : Count) (log target : Path) (all : List Ranked) (m : Names) → or_none is_format n.dated ≡ true → IsDirectoryAt m (parent_of target) → StandSo n log target all m → FitAll m (reverse (dated_rotation c log target all))
+fits n c log target all m good dir st = subst (FitAll m) (sym (steps_are c log target all)) (removals_fit (HasStamp n) m c (Renames log target ∷ []) (one_stamp n good) (tt, turn) all 0 st.falling (keyed_by n all st.named) st.files)
   where
     no_dir : (t : Thing) → t ≡ thing.Nothing → t ≡ thing.Directory → ⊥
     no_dir t a b = cc
@@ -72,7 +72,7 @@ fits n c log target all m good st = subst (FitAll m) (sym (steps_are c log targe
     no_other t a b = cc
 
     turn : IsFileAt m log × (m target ≢ thing.Directory) × (m target ≢ thing.Other) × IsDirectoryAt m (parent_of target) × (log ≢ target)
-    turn = (st.log_file, no_dir (m target) st.free, no_other (m target) st.free, st.dir, log_apart m log target st.log_file st.free)
+    turn = (st.log_file, no_dir (m target) st.free, no_other (m target) st.free, dir, log_apart m log target st.log_file st.free)
 
 -- ---- they turn the family
 

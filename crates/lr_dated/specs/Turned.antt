@@ -4,12 +4,11 @@ use Rattle.lr_rules.specs.declared.path.Path.{Path}
 use Rattle.lr_rules.specs.declared.rule.Count.{Count}
 use Rattle.lr_rules.specs.declared.rule.Naming.{Naming}
 use Rattle.lr_rules.specs.Dated.{IsDatedAt}
-use Rattle.lr_rules.specs.Path.{parent_of}
 use Rattle.lr_host.specs.declared.thing.Thing.TheVariants as thing
 use Rattle.lr_host.specs.Lists.{IsNotIn}
 use Rattle.lr_host.specs.World.{Names, Moves, changed, Past}
 use Rattle.lr_host.specs.Sets.{LogSet}
-use Rattle.lr_host.specs.Fits.{IsFileAt, IsDirectoryAt}
+use Rattle.lr_host.specs.Fits.{IsFileAt}
 use Rattle.lr_laws.specs.Rotation.{IsPastAge}
 use Rattle.lr_dated.specs.Steps.{Ranked, is_left, AreFalling, AreDatedAt}
 
@@ -22,11 +21,10 @@ AreFiles n (m ∷ ms) = IsFileAt n m.path × AreFiles n ms
 abbrev pub IsOutside : Path → List Ranked → Type 0
 IsOutside x all = IsNotIn x (map (λ m. m.path) all)
 
--- The log is a regular file, and the directory of the target is there; nothing has the target's path, and once the log has it, just these members name something, the newest first, and each a file.
+-- The log is a regular file; nothing has the target's path, and once the log has it, just these members name something, the newest first, and each a file.
 pub record StandSo (n : Naming) (log target : Path) (all : List Ranked) (m : Names) : Type 0 where
   pub log_file : IsFileAt m log
   pub free : m target ≡ thing.Nothing
-  pub dir : IsDirectoryAt m (parent_of target)
   pub falling : AreFalling all
   pub named : AreDatedAt n all
   pub files : AreFiles (changed (Moves log target) m) all

@@ -6,6 +6,8 @@ ghost use Rattle.lr_rules.specs.declared.rule.Naming.{Naming};
 ghost use Rattle.lr_rules.specs.Limits.{is_format, or_none};
 ghost use Rattle.lr_rules.specs.Names.{Meet};
 ghost use Rattle.lr_rules.specs.Dated.{stamp_key, IsDatedAt};
+ghost use Rattle.lr_rules.specs.Path.{parent_of};
+ghost use Rattle.lr_host.specs.Fits.{IsDirectoryAt};
 ghost use Rattle.lr_host.specs.Told.{Each};
 ghost use Rattle.lr_host.specs.World.{Names, Moves, changed, Past, world, names, names_after};
 ghost use Rattle.lr_host.specs.Steps.{changes_of, FitAll};
@@ -17,10 +19,11 @@ ghost use Rattle.lr_dated.specs.Stays.{RotatesDated};
 ghost use Rattle.lr_dated.specs.Steps.{Ranked, dated_rotation, AreDatedAt};
 ghost use Rattle.lr_dated.specs.Turned.{StandSo, AreOld, IsDatedTurned};
 
-/// Wherever the log and just these members stand so, the steps of the rotation fit one after another.
+/// Wherever the log and just these members stand so, and the target's directory is there, the steps of the rotation fit one
+/// after another.
 pub fn dated_rotation_fits()
     ensures { (n : Naming) (c : Count) (log target : Path) (all : List Ranked) (m : Names) → or_none is_format n.dated ≡ true
-        → StandSo n log target all m → FitAll m (reverse (dated_rotation c log target all)) }
+        → IsDirectoryAt m (parent_of target) → StandSo n log target all m → FitAll m (reverse (dated_rotation c log target all)) }
 {}
 
 /// They turn the family.

@@ -5,7 +5,9 @@ use Rattle.lr_rules.specs.declared.rule.Count.{Count}
 use Rattle.lr_rules.specs.declared.rule.Make.{Make}
 use Rattle.lr_rules.specs.declared.rule.Naming.{Naming}
 use Rattle.lr_rules.specs.Dated.{IsDatedAt}
+use Rattle.lr_rules.specs.Path.{parent_of}
 use Rattle.lr_host.specs.declared.entry.Entry.{Entry}
+use Rattle.lr_host.specs.Fits.{IsDirectoryAt}
 use Rattle.lr_host.specs.World.{Names, names_after}
 use Rattle.lr_host.specs.Steps.{changes_of, FitAll}
 use Rattle.lr_family.specs.declared.place.Place.{Place}
@@ -68,9 +70,9 @@ pub record IsDatedReady (log : Path) (n : Naming) (c : Count) (anew : Make) (max
 abbrev pub steps_of : Ready → List Entry
 steps_of ready = turn_of ready ++ removals_of ready.retire
 
--- wherever the log and these members stand so, the steps of the rotation fit one after another
+-- wherever the log and these members stand so, and the target's directory is there, the steps of the rotation fit one after another
 abbrev pub FitsWhereTheyStand : Path → Naming → Count → Path → List Ranked → Type 0
-FitsWhereTheyStand log n c target all = (m : Names) → StandSo n log target all m → FitAll m (reverse (dated_rotation c log target all))
+FitsWhereTheyStand log n c target all = (m : Names) → IsDirectoryAt m (parent_of target) → StandSo n log target all m → FitAll m (reverse (dated_rotation c log target all))
 
 -- and turn the family
 abbrev pub TurnsWhereTheyStand : Path → Naming → Count → Path → List Ranked → Type 0

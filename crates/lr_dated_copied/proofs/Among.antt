@@ -1,7 +1,6 @@
 -- A run that copies a log to a dated name: its copy stands whole before the unlinks of the members that go, and nothing else empties the log.
-use Rattle.std.proofs.Common.{◌≡◌, inl, inr, ⊎_elim, ℕ, ℤ, sym, ◌∙◌, ap, subst, append_assoc, Some, List, [], ◌∷◌, ◌++◌, map, reverse}
+use Rattle.std.proofs.Common.{◌≡◌, inr, ℕ, ℤ, sym, ◌∙◌, ap, subst, append_assoc, Option, Some, List, [], ◌∷◌, ◌++◌, map, reverse}
 use Rattle.std.specs.Prelude.{filter}
-use Rattle.std.proofs.lemmas.List.Elements.{All-weaker}
 use Rattle.lr_rules.specs.declared.clock.Clock.{Clock}
 use Rattle.lr_rules.specs.declared.path.Path.{Path}
 use Rattle.lr_rules.specs.declared.rule.Format.{Format}
@@ -33,9 +32,9 @@ use Rattle.lr_rotations.specs.Rotated.{IsBeside}
 use Rattle.lr_rotations.proofs.Members.{IsOfThese}
 use Rattle.lr_rotations.proofs.Moments.{saw_one}
 use Rattle.lr_rotations.proofs.Splitting.{weave_each}
-use Rattle.lr_targets.specs.AllTurns.{other_paths}
+use Rattle.lr_targets.specs.AllTurns.{paths_beside}
 use Rattle.lr_targets.specs.Target.{Target, unlinks, transfer_of, rotation_of, IsJob, IsOneOf}
-use Rattle.lr_dated_seen.specs.Shown.{SawFile, WasSeen, ShownDated}
+use Rattle.lr_dated_seen.specs.Shown.{SawFile}
 use Rattle.lr_dated_turned.specs.Rotated.{AreDatedOutside}
 use Rattle.lr_dated_turned.proofs.Members.{IsDated, gone_these}
 use Rattle.lr_dated_run.specs.Own.{HasDatedNames, all_members}
@@ -50,12 +49,12 @@ use Rattle.lr_dated_copied.specs.Turned.{DatedCopiesAmong}
 
 -- The run rotated each log whole, and this dated one it copied, one entry behind another, emptying it behind that copy alone.
 module _ (state : Path) (clock : Clock) (rules : Rules) (reads tail : List Entry) (t : AllTurnedBy state clock rules tail) (x : Target) (job : Job) (quiet : AreQuiet reads) (one : IsOneOf x t.turns.targets) (job_is : x.job ≡ Some job)
-    (l : IsLogSeen rules clock t.turns.looks x) (format : Format) (dated : x.naming.dated ≡ Some format) (outside : AreDatedOutside (job.part ∷ other_paths state x.log t.turns.targets) job.from x.naming) (stands : CopyStands job t.turns.acts) (empties : EmptiesCopied (IsSameFor job) t.turns.acts) where
+    (l : IsLogSeen rules clock t.turns.looks x) (format : Format) (dated : x.naming.dated ≡ Some format) (outside : AreDatedOutside (job.part ∷ paths_beside state x t.turns.targets) job.from x.naming) (stands : CopyStands job t.turns.acts) (empties : EmptiesCopied (IsSameFor job) t.turns.acts) where
   abbrev n : Naming
   n = x.naming
 
   abbrev paths : List Path
-  paths = other_paths state x.log t.turns.targets
+  paths = paths_beside state x t.turns.targets
 
   abbrev seconds : ℤ
   seconds = clock_seconds n.dated clock
@@ -64,7 +63,7 @@ module _ (state : Path) (clock : Clock) (rules : Rules) (reads tail : List Entry
   members = x.stand.members
 
   abbrev all : List Ranked
-  all = all_by n l.given.rule.maxage clock members
+  all = all_by n x.maxage clock members
 
   d : IsDatedSeen l.given.rule.maxage clock t.turns.looks x
   d = dated_seen rules clock t.turns.looks x format l dated
@@ -87,7 +86,7 @@ module _ (state : Path) (clock : Clock) (rules : Rules) (reads tail : List Entry
   All serial to = all_of l.given.rule.maxage clock.now.seconds seconds serial to members
 
   all_are : all_members x h ≡ all
-  all_are = ap (λ k. All k x.ready.target) ((next_is members seconds h.ready.serial).0 h.ready.next) ∙ ap (λ (to : Path). All (next_serial members seconds) to) target
+  all_are = ap (λ k. All k x.ready.target) ((next_is members seconds h.ready.serial).0 h.ready.next) ∙ (ap (λ (to : Path). All (next_serial members seconds) to) target ∙ ap (λ (maxage : Option ℕ). all_by n maxage clock members) l.maxage_is)
 
   named : AreDatedAt n all
   named = subst (AreDatedAt n) all_are (all_dated n h.maxage h.now h.seconds h.ready.serial x.ready.target members h.members h.ready.target_is)
@@ -131,7 +130,7 @@ module _ (state : Path) (clock : Clock) (rules : Rules) (reads tail : List Entry
   saw = saw_one x.log t.turns.looks l.log_seen
 
   -- so its copy stands before the unlinks of the members that go
-  pub dated_copies_among : DatedCopiesAmong (other_paths state x.log t.turns.targets) job x.naming x.count (dated_target x.naming clock x.stand.members) (all_by x.naming l.given.rule.maxage clock x.stand.members) x.stand.members (reads ++ entry.Starts state clock.now rules ∷ tail)
+  pub dated_copies_among : DatedCopiesAmong (paths_beside state x t.turns.targets) job x.naming x.count (dated_target x.naming clock x.stand.members) (all_by x.naming x.maxage clock x.stand.members) x.stand.members (reads ++ entry.Starts state clock.now rules ∷ tail)
   dated_copies_among = record {
     front = front;
     early = stands.before;

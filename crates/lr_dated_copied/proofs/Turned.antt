@@ -199,13 +199,13 @@ module _ (paths : List Path) (job : Job) (n : Naming) (c : Count) (maxage : Opti
 
   -- the members that were seen stood as the run began
   pub seen_members : AreDatedThere n (names (world p)) members
-  seen_members = stood_before log n members p v (reverse front) family none_v b.first b.still shown
+  seen_members = stood_before log n members p v (reverse front) family journal none_v b.first b.still shown
 
   seen_log : IsFileAt (names (world v)) log
   seen_log = file_stands p v (reverse front) b.first b.still log (subst (SawFile log) (sym (reverse-reverse front)) over.log_seen)
 
   stands : StandSo n log target (all_of maxage now seconds serial target members) (names (world v))
-  stands = stand_so log n (names (world v)) members target maxage now seconds serial family seen_log (stand_behind log n members p v (reverse front) family none_v b.first b.still shown) next is
+  stands = stand_so log n (names (world v)) members target maxage now seconds serial family seen_log (stand_behind log n members p v (reverse front) family journal none_v b.first b.still shown) next is
 
   -- ---- paths
 

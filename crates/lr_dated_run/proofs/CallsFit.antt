@@ -1,23 +1,30 @@
 -- The calls of a dated rotation fit behind looks that showed the log and its members, whatever writers did.
-use Rattle.std.proofs.Common.{◌≡◌, ◌≢◌, ℕ, suc, ℤ, Bool, true, false, cond, ◌||◌, bytes_eq, refl, sym, ◌∙◌, ap, subst, List, [], ◌∷◌, ◌++◌, map, reverse, Option}
+use Rattle.std.proofs.Common.{◌≡◌, ◌≢◌, ℕ, suc, ℤ, Bool, true, false, cond, ◌||◌, bytes_eq, refl, sym, ◌∙◌, ap, subst, List, [], ◌∷◌, ◌++◌, map, reverse, Option, Some, None}
+use Rattle.std.specs.Prelude.{All}
+use Rattle.std.proofs.lemmas.List.Elements.{All-nil}
 use Rattle.std.proofs.lemmas.Slice.Eq.{bytes_eq-Decides}
 use Rattle.lr_rules.specs.declared.path.Path.{Path}
 use Rattle.lr_rules.specs.declared.rule.Count.{Count}
 use Rattle.lr_rules.specs.declared.rule.Naming.{Naming}
 use Rattle.lr_rules.specs.declared.rule.Rule.{Rule}
 use Rattle.lr_rules.specs.Dated.{IsDatedAt}
-use Rattle.lr_rules.specs.Names.{naming_of}
+use Rattle.lr_rules.specs.Names.{IsOwnName, the_log, a_member, naming_of}
 use Rattle.lr_rules.specs.Path.{parent_of}
+use Rattle.lr_stamps.proofs.StampShapes.{dated_shape}
 use Rattle.lr_host.specs.declared.thing.Thing.TheVariants as thing
 use Rattle.lr_host.specs.declared.entry.Entry.{Entry}
 use Rattle.lr_host.specs.declared.entry.Entry.TheVariants as entry
 use Rattle.lr_host.specs.Fits.{IsFileAt, IsDirectoryAt}
+use Rattle.lr_host.specs.Lists.{IsIn}
+use Rattle.lr_host.specs.Opening.{IsJournal}
 use Rattle.lr_host.specs.Quiet.{ChangeNothing}
+use Rattle.lr_host.specs.Steps.{FitAll}
 use Rattle.lr_host.specs.Told.{CanCall, Each, Made}
 use Rattle.lr_host.specs.World.{Names, put, Past, world, names}
 use Rattle.lr_host.proofs.Each.{each_reverse}
 use Rattle.lr_host.proofs.Names.{put_here, put_other}
 use Rattle.lr_family.specs.declared.stand.Member.{Member}
+use Rattle.lr_days.specs.Newest.{AreDated}
 use Rattle.lr_copy.specs.declared.job.Job.{Job}
 use Rattle.lr_copy.specs.Fits.{ArePaths, HasPlace, IsStale}
 use Rattle.lr_dated.specs.Steps.{Ranked, is_left, gone, unlink, dated_rotation, AreDatedAt}
@@ -25,13 +32,16 @@ use Rattle.lr_dated_chain.specs.Next.{IsNext}
 use Rattle.lr_dated_chain.specs.Ready.{all_of}
 use Rattle.lr_dated_chain.proofs.Order.{all_dated}
 use Rattle.lr_rotations.specs.Calls.{after_call, FitCalls, copy_calls}
+use Rattle.lr_rotations.specs.Shown.{SawDir}
 use Rattle.lr_rotations.proofs.Alike.{IsLike, like_self, AreLike, Reads, fit_like, afters, fit_both, fit_calls}
 use Rattle.lr_rotations.proofs.CopyFits.{copy_fits, copied_to, copied_other}
 use Rattle.lr_rotations.proofs.Fed.{IsTurn}
+use Rattle.lr_targets.specs.Target.{IsMissingDir, IsDirSeenBy}
 use Rattle.lr_dated_seen.specs.Family.{IsDatedFamily}
 use Rattle.lr_dated_seen.specs.Shown.{SawFile, ShownDated}
+use Rattle.lr_dated_seen.specs.There.{IsThere}
 use Rattle.lr_dated_seen.proofs.Names.{stands_in}
-use Rattle.lr_dated_seen.proofs.Rotating.{file_stands, fits_behind}
+use Rattle.lr_dated_seen.proofs.Rotating.{HasRoom, file_stands, dir_stands, missing_free, fits_at, fits_behind}
 use Rattle.lr_dated_run.specs.Calls.{removal_calls, renamed_calls, copied_calls, IsDatedJob}
 use Rattle.lr_dated_run.proofs.PartFile.{part_parent, part_no_dated, part_no_log, part_no_dir}
 
@@ -65,13 +75,13 @@ copy_paths rule job log n target t serial looks naming_is j family is = record {
   part_in = ap parent_of j.part_is ∙ (part_parent log n t serial target family is ∙ sym j.dir_is);
 }
 
-module _ (log : Path) (n : Naming) (c : Count) (maxage : Option ℕ) (members : List Member) (target : Path) (now t : ℤ) (serial : ℕ) (p q : Past) (es : List Entry) (family : IsDatedFamily log n) (made : Made p es q) (still : ChangeNothing es) (saw : SawFile log (reverse es)) (shown : ShownDated n members (reverse es))
-    (next : IsNext members t serial) (is : IsDatedAt n t serial target) where
+-- ---- over any names
+
+-- where its steps fit
+module _ (log : Path) (n : Naming) (c : Count) (maxage : Option ℕ) (members : List Member) (target : Path) (now t : ℤ) (serial : ℕ) (here : Names) (family : IsDatedFamily log n) (named : AreDated n members) (is : IsDatedAt n t serial target)
+    (fit : FitAll here (reverse (dated_rotation c log target (all_of maxage now t serial target members)))) where
   abbrev all : List Ranked
   all = all_of maxage now t serial target members
-
-  abbrev here : Names
-  here = names (world q)
 
   abbrev R : Entry
   R = entry.Renames log target
@@ -80,8 +90,7 @@ module _ (log : Path) (n : Naming) (c : Count) (maxage : Option ℕ) (members : 
   U = removal_calls c all
 
   by_steps : FitCalls here (R ∷ U)
-  by_steps = fit_calls here (dated_rotation c log target all) (tt, each_reverse IsTurn (map unlink (gone c 0 all)) (unlinks_turn (gone c 0 all)))
-      (fits_behind log n c maxage members target now t serial p q es family made still saw shown next is)
+  by_steps = fit_calls here (dated_rotation c log target all) (tt, each_reverse IsTurn (map unlink (gone c 0 all)) (unlinks_turn (gone c 0 all))) fit
 
   can_turn : CanCall here R
   can_turn = by_steps.0
@@ -89,14 +98,14 @@ module _ (log : Path) (n : Naming) (c : Count) (maxage : Option ℕ) (members : 
   moved_target : after_call here R target ≡ thing.File can_turn.0.0
   moved_target = put_here (put here log thing.Nothing) target target (here log) refl ∙ can_turn.0.1
 
-  pub renames_fit : FitCalls (names (world q)) (renamed_calls c log target (all_of maxage now t serial target members))
-  renames_fit = (can_turn, ((can_turn.0.0, moved_target), by_steps.1))
+  by_rename : FitCalls here (R ∷ entry.Reads target 0 [] ∷ U)
+  by_rename = (can_turn, ((can_turn.0.0, moved_target), by_steps.1))
 
   -- ---- of a log that is copied
 
-  module _ (rule : Rule) (job : Job) (naming_is : naming_of rule log ≡ n) (j : IsDatedJob log target n (reverse es) job) where
+  module _ (rule : Rule) (job : Job) (looks : List Entry) (naming_is : naming_of rule log ≡ n) (j : IsDatedJob log target n looks job) (stale : IsStale job here) where
     paths : ArePaths job
-    paths = copy_paths rule job log n target t serial (reverse es) naming_is j family is
+    paths = copy_paths rule job log n target t serial looks naming_is j family is
 
     place : HasPlace job here
     place = record {
@@ -108,9 +117,6 @@ module _ (log : Path) (n : Naming) (c : Count) (maxage : Option ℕ) (members : 
 
     no_dir : job.part ≢ job.dir
     no_dir e = part_no_dir log n t serial target family is (sym j.part_is ∙ (e ∙ j.dir_is))
-
-    stale : IsStale job here
-    stale old = file_stands p q es made still job.part (j.stale_seen old)
 
     part_no : (y : Path) → IsOfMember n y → y ≢ job.part
     part_no y h e = part_no_dated log n t serial target family is h.0 h.1 (subst (IsDatedAt n h.0 h.1) (e ∙ j.part_is) h.2)
@@ -133,7 +139,7 @@ module _ (log : Path) (n : Naming) (c : Count) (maxage : Option ℕ) (members : 
             subst (λ v. IsLike v (afters here (copy_calls job) y)) (sym by_rename) (subst (IsLike (here y)) (sym by_copy) (like_self (here y)))
 
     reads : Each (Reads (IsOfMember n)) U
-    reads = each_reverse (Reads (IsOfMember n)) (map unlink (gone c 0 all)) (reads_of n (gone c 0 all) (dated_gone n c 0 all (all_dated n maxage now t serial target members shown.named is)))
+    reads = each_reverse (Reads (IsOfMember n)) (map unlink (gone c 0 all)) (reads_of n (gone c 0 all) (dated_gone n c 0 all (all_dated n maxage now t serial target members named is)))
 
     by_copy : FitCalls here (copy_calls job ++ entry.Reads target 0 [] ∷ U)
     by_copy = fit_both here (copy_calls job) (entry.Reads target 0 [] ∷ U) (copy_fits job paths no_dir here place stale) (
@@ -141,6 +147,70 @@ module _ (log : Path) (n : Naming) (c : Count) (maxage : Option ℕ) (members : 
       fit_like (IsOfMember n) (after_call here R) (afters here (copy_calls job)) U reads like by_steps.1,
     )
 
-pub copies_fit : (rule : Rule) (job : Job) (log : Path) (n : Naming) (c : Count) (maxage : Option ℕ) (members : List Member) (target : Path) (now t : ℤ) (serial : ℕ) (p q : Past) (es : List Entry) → naming_of rule log ≡ n → IsDatedJob log target n (reverse es) job → IsDatedFamily log n → Made p es q → ChangeNothing es
-    → SawFile log (reverse es) → ShownDated n members (reverse es) → IsNext members t serial → IsDatedAt n t serial target → FitCalls (names (world q)) (copied_calls c job target (all_of maxage now t serial target members))
-copies_fit rule job log n c maxage members target now t serial p q es naming_is j family made still saw shown next is = by_copy log n c maxage members target now t serial p q es family made still saw shown next is rule job naming_is j
+-- ---- behind the looks
+
+module _ (log : Path) (n : Naming) (c : Count) (maxage : Option ℕ) (members : List Member) (target : Path) (now t : ℤ) (serial : ℕ) (p q : Past) (es : List Entry) (family : IsDatedFamily log n) (journal : IsJournal p) (made : Made p es q) (still : ChangeNothing es) (saw : SawFile log (reverse es))
+    (shown : ShownDated n members (reverse es)) (next : IsNext members t serial) (is : IsDatedAt n t serial target) where
+  -- the steps fit where the directory was seen
+  fit_there : SawDir n.dir (reverse es) → FitAll (names (world q)) (reverse (dated_rotation c log target (all_of maxage now t serial target members)))
+  fit_there dir = fits_behind log n c maxage members target now t serial p q es family made still saw dir shown next is
+
+  -- an old part file that was seen is there
+  stale_there : (job : Job) → IsDatedJob log target n (reverse es) job → IsStale job (names (world q))
+  stale_there job j old = file_stands p q es made still job.part (j.stale_seen old)
+
+  -- ---- where it was missing, and is made
+
+  module _ (job : Option Job) (dir : Path) (missing : IsMissingDir log n members job (reverse es) dir) where
+    abbrev here : Names
+    here = put (names (world q)) dir thing.Directory
+
+    -- each other name of the family is as it was
+    same_there : (x : Path) → IsOwnName log n x → put (names (world q)) dir thing.Directory x ≡ names (world q) x
+    same_there x own = put_other (names (world q)) dir x thing.Directory (λ e. missing.apart (subst (IsOwnName log n) e own))
+
+    target_own : IsOwnName log n target
+    target_own = let h = dated_shape n t serial target is in a_member h.0 h.1 h.2
+
+    file : IsFileAt here log
+    file = let f = file_stands p q es made still log saw in (f.0, same_there log (the_log refl) ∙ f.1)
+
+    -- nothing stood where the directory was missing
+    room : HasRoom here target
+    room =
+        let free : HasRoom (names (world q)) target = missing_free p q es made still log n family target t serial is journal (subst (λ (d : Path). IsIn (entry.Look d None) (reverse es)) missing.dir_is missing.gone) in
+        ((λ e. free.0 (sym (same_there target target_own) ∙ e)), (λ e. free.1 (sym (same_there target target_own) ∙ e)))
+
+    fit_made : FitAll here (reverse (dated_rotation c log target (all_of maxage now t serial target members)))
+    fit_made = fits_at log n c maxage members target now t serial here family shown.newest_first shown.named next is file room (put_here (names (world q)) dir n.dir thing.Directory (sym missing.dir_is))
+        (subst (All (IsThere here)) (sym missing.no_members) (All-nil (IsThere here)))
+
+    can_make : (mode : Option ℕ) → CanCall (names (world q)) (entry.MakesDir dir mode)
+    can_make mode = dir_stands p q es made still (parent_of dir) missing.parent
+
+    not_stale : (j : Job) → job ≡ Some j → IsStale j here
+    not_stale j is old = absurd (clash j.stale old (missing.not_stale j is))
+      where
+        clash : (b : Bool) → b ≡ true → b ≡ false → ⊥
+        clash b x y = cc
+
+pub renames_fit : (dir : Option (Path × Option ℕ)) (log : Path) (n : Naming) (c : Count) (maxage : Option ℕ) (members : List Member) (target : Path) (now t : ℤ) (serial : ℕ) (p q : Past) (es : List Entry) → IsDatedFamily log n → IsJournal p → Made p es q → ChangeNothing es → SawFile log (reverse es)
+    → IsDirSeenBy dir log n members None (reverse es) → ShownDated n members (reverse es) → IsNext members t serial → IsDatedAt n t serial target → FitCalls (names (world q)) (renamed_calls dir c log target (all_of maxage now t serial target members))
+renames_fit None log n c maxage members target now t serial p q es family journal made still saw dir shown next is =
+    by_rename log n c maxage members target now t serial (names (world q)) family shown.named is (fit_there log n c maxage members target now t serial p q es family journal made still saw shown next is dir)
+renames_fit (Some (dir, mode)) log n c maxage members target now t serial p q es family journal made still saw missing shown next is = (
+  can_make log n c maxage members target now t serial p q es family journal made still saw shown next is None dir missing mode,
+  by_rename log n c maxage members target now t serial (put (names (world q)) dir thing.Directory) family shown.named is (fit_made log n c maxage members target now t serial p q es family journal made still saw shown next is None dir missing),
+)
+
+pub copies_fit : (rule : Rule) (dir : Option (Path × Option ℕ)) (job : Job) (log : Path) (n : Naming) (c : Count) (maxage : Option ℕ) (members : List Member) (target : Path) (now t : ℤ) (serial : ℕ) (p q : Past) (es : List Entry) → naming_of rule log ≡ n → IsDatedJob log target n (reverse es) job → IsDatedFamily log n → IsJournal p
+    → Made p es q → ChangeNothing es → SawFile log (reverse es) → IsDirSeenBy dir log n members (Some job) (reverse es) → ShownDated n members (reverse es) → IsNext members t serial → IsDatedAt n t serial target
+    → FitCalls (names (world q)) (copied_calls dir c job target (all_of maxage now t serial target members))
+copies_fit rule None job log n c maxage members target now t serial p q es naming_is j family journal made still saw dir shown next is =
+    by_copy log n c maxage members target now t serial (names (world q)) family shown.named is (fit_there log n c maxage members target now t serial p q es family journal made still saw shown next is dir) rule job (reverse es) naming_is j
+    (stale_there log n c maxage members target now t serial p q es family journal made still saw shown next is job j)
+copies_fit rule (Some (dir, mode)) job log n c maxage members target now t serial p q es naming_is j family journal made still saw missing shown next is = (
+  can_make log n c maxage members target now t serial p q es family journal made still saw shown next is (Some job) dir missing mode,
+  by_copy log n c maxage members target now t serial (put (names (world q)) dir thing.Directory) family shown.named is (fit_made log n c maxage members target now t serial p q es family journal made still saw shown next is (Some job) dir missing) rule job (reverse es) naming_is j
+      (not_stale log n c maxage members target now t serial p q es family journal made still saw shown next is (Some job) dir missing job refl),
+)

@@ -1,5 +1,5 @@
 -- In a run with logs of both kinds, what is done to other logs is beside a set, and outside of a family.
-use Rattle.std.proofs.Common.{◌≡◌, ◌≢◌, inl, inr, ⊎_elim, Bool, true, false, cond, bytes_eq, refl, sym, subst, Option, Some, None, List, [], ◌∷◌, ◌++◌}
+use Rattle.std.proofs.Common.{◌≡◌, ◌≢◌, inl, inr, ⊎_elim, ℕ, Bool, true, false, cond, bytes_eq, refl, sym, ◌∙◌, subst, Option, Some, None, List, [], ◌∷◌, ◌++◌}
 use Rattle.std.specs.Prelude.{codes}
 use Rattle.std.specs.List.{flat_map}
 use Rattle.std.proofs.lemmas.List.Elements.{All-cons, All-nil}
@@ -13,38 +13,64 @@ use Rattle.lr_host.specs.Lists.{IsIn}
 use Rattle.lr_host.specs.Sets.{LogSet, in_set}
 use Rattle.lr_host.proofs.Lists.{in_append}
 use Rattle.lr_laws.specs.Follow.{changed_paths}
-use Rattle.lr_laws.proofs.Outside.{no_name_elsewhere, apart_outside}
+use Rattle.lr_laws.proofs.Outside.{in_set_own, no_name_elsewhere, apart_outside}
 use Rattle.lr_copy.specs.declared.job.Job.{Job}
-use Rattle.lr_targets.specs.AllTurns.{IsStatePath, IsOfState, IsOf, IsOfOther, StandsBetween, part_paths, paths_of, paths_of_others, other_paths}
+use Rattle.lr_targets.specs.AllTurns.{IsStatePath, IsOfState, IsItsDir, AlsoDoes, IsOf, IsOfOther, StandsBetween, part_paths, dir_paths, paths_of, paths_of_others, other_paths}
 use Rattle.lr_rotations.specs.Members.{IsFamily, IsNoMember}
-use Rattle.lr_rotations.specs.Rotated.{AreOutside, MakesAt}
-use Rattle.lr_targets.specs.Target.{Target, rotation_of, IsOneOf}
+use Rattle.lr_rotations.specs.Rotated.{AreOutside}
+use Rattle.lr_targets.specs.Target.{Target, HasDir, rotation_of, IsOneOf}
 use Rattle.lr_targets.proofs.Apart.{own_change}
-use Rattle.lr_targets.proofs.Others.{IsFileChange, own_turns, also_made}
+use Rattle.lr_targets.proofs.Others.{IsFileChange, own_turns}
 use Rattle.lr_rotations.proofs.Outside.{place_name}
 use Rattle.lr_dated_seen.specs.Family.{IsNoDated}
 use Rattle.lr_dated_turned.specs.Rotated.{AreDatedOutside}
 use Rattle.lr_dated_run.specs.Beside.{LiesBeside, IsBesideSet}
-use Rattle.lr_dated_run.specs.Own.{ChangesOwn, HasAnyNames, HaveAnyNames}
+use Rattle.lr_dated_run.specs.Own.{ChangesNames, HasAnyNames, HaveAnyNames}
 use Rattle.lr_dated_run.proofs.Own.{dated_own, dated_change}
 
--- all that is done to a log, numbered or dated, is on own names
-pub any_change : (t : Target) (e : Entry) → HasAnyNames t → IsOf t e → ChangesOwn t.log t.naming e
+-- all that is done to a log, numbered or dated, is on names of its set
+pub any_change : (t : Target) (e : Entry) → HasAnyNames t → IsOf t e → ChangesNames t.log t.naming e
 any_change t e (inl h) i = own_change t e h i
 any_change t e (inr h) i = dated_change t e h i
 
 -- ---- beside a set
 
-own_beside : (s : LogSet) (log : Path) (n : Naming) (e : Entry) → (Meet s.log s.naming log n → ⊥) → IsFileChange e → ChangesOwn log n e → LiesBeside s e
-own_beside s log n (entry.Renames from to) not c own = ((apart_outside s log n from not (inl (own from (inl refl))), apart_outside s log n to not (inl (own to (inr (inl refl))))), tt)
-own_beside s log n (entry.Unlinks x) not c own = (apart_outside s log n x not (inl (own x (inl refl))), tt)
-own_beside s log n (entry.Makes x mode) not c own = (apart_outside s log n x not (inl (own x (inl refl))), tt)
-own_beside s log n (entry.Appends x bytes) not c own = (apart_outside s log n x not (inl (own x (inl refl))), tt)
-own_beside s log n (entry.Truncates x) not c own = (apart_outside s log n x not (inl (own x (inl refl))), tt)
-own_beside s log n _ not c own = absurd c
+-- a change at paths outside of the set lies beside it
+out_beside : (s : LogSet) (e : Entry) → IsFileChange e → ((x : Path) → IsIn x (changed_paths e) → in_set s x ≡ false) → LiesBeside s e
+out_beside s (entry.Renames from to) c out = ((out from (inl refl), out to (inr (inl refl))), tt)
+out_beside s (entry.Unlinks x) c out = (out x (inl refl), tt)
+out_beside s (entry.Makes x mode) c out = (out x (inl refl), tt)
+out_beside s (entry.Appends x bytes) c out = (out x (inl refl), tt)
+out_beside s (entry.Truncates x) c out = (out x (inl refl), tt)
+out_beside s (entry.MakesDir x mode) c out = (tt, out x (inl refl))
+out_beside s _ c out = absurd c
 
 pub any_beside : (s : LogSet) (t : Target) (e : Entry) → HasAnyNames t → (Meet s.log s.naming t.log t.naming → ⊥) → IsOf t e → LiesBeside s e
-any_beside s t e h not i = own_beside s t.log t.naming e not (own_turns t e i) (any_change t e h i)
+any_beside s t e h not i = out_beside s e (own_turns t e i) (λ x j. apart_outside s t.log t.naming x not (any_change t e h i x j))
+
+-- what is none of the set's own names lies outside of it
+no_own_out : (s : LogSet) (x : Path) → (IsOwnName s.log s.naming x → ⊥) → in_set s x ≡ false
+no_own_out s x none = go (in_set s x) refl
+  where
+    go : (b : Bool) → in_set s x ≡ b → in_set s x ≡ false
+    go true e = absurd (none (in_set_own s x e))
+    go false e = e
+
+-- such is the directory of the set's own log
+own_dir_out : (s : LogSet) (t : Target) (x : Path) → t.log ≡ s.log → t.naming ≡ s.naming → HasDir t → IsItsDir t x → in_set s x ≡ false
+own_dir_out s t x log_is naming_is h d = no_own_out s x (λ own. (h x d.0 d.1).1 (subst (λ (l : Path). IsOwnName l t.naming x) (sym log_is) (subst (λ (n : Naming). IsOwnName s.log n x) (sym naming_is) own)))
+
+no_job : (j : Option Job) (job : Job) → j ≡ Some job → j ≡ None → ⊥
+no_job j job a b = cc
+
+-- where the log isn't copied, its directory may be made, and it is made anew, and nothing more
+also_beside : (s : LogSet) (t : Target) (e : Entry) → t.log ≡ s.log → t.naming ≡ s.naming → HasDir t → t.job ≡ None → AlsoDoes t e → IsBesideSet s e
+also_beside s t (entry.MakesDir x mode) log_is naming_is h none d = inl (tt, own_dir_out s t x log_is naming_is h d)
+also_beside s t (entry.Makes x mode) log_is naming_is h none (inl is) = inr (is ∙ log_is)
+also_beside s t (entry.Makes x mode) log_is naming_is h none (inr p) = absurd (no_job t.job p.0 p.1 none)
+also_beside s t (entry.Appends x bytes) log_is naming_is h none p = absurd (no_job t.job p.0 p.1 none)
+also_beside s t (entry.Truncates x) log_is naming_is h none p = absurd (no_job t.job p.0.0 p.0.1 none)
+also_beside s t _ log_is naming_is h none p = absurd p
 
 no_name_out : (s : LogSet) (x : Path) → (IsName s.log s.naming x → ⊥) → in_set s x ≡ false
 no_name_out s x none = no_name_elsewhere s (entry.Unlinks x) (All-cons (λ y. IsName s.log s.naming y → ⊥) x [] none (All-nil (λ y. IsName s.log s.naming y → ⊥)))
@@ -66,24 +92,33 @@ module _ (s : LogSet) (state : Path) (no_state : IsName s.log s.naming state →
   others_beside (t ∷ ts) h apart e (inl i) = any_beside s t e h.0 (apart t (inl refl) i.0) i.1
   others_beside (t ∷ ts) h apart e (inr i) = others_beside ts h.1 (λ x j. apart x (inr j)) e i
 
-  pub between_beside : (t : Target) (ts : List Target) (e : Entry) → t.log ≡ s.log → t.job ≡ None → HaveAnyNames ts → ((x : Target) → IsOneOf x ts → x.log ≢ s.log → Meet s.log s.naming x.log x.naming → ⊥) → StandsBetween state t ts e → IsBesideSet s e
-  between_beside t ts e same none h apart (inl o) = inl (others_beside ts h apart e (subst (λ (x : Path). IsOfOther x ts e) same o))
-  between_beside t ts e same none h apart (inr (inl o)) = inl (state_beside e o)
-  between_beside t ts e same none h apart (inr (inr also)) = inr (subst (λ (x : Path). MakesAt x e) same (also_made t e none also))
+  pub between_beside : (t : Target) (ts : List Target) (e : Entry) → t.log ≡ s.log → t.naming ≡ s.naming → HasDir t → t.job ≡ None → HaveAnyNames ts → ((x : Target) → IsOneOf x ts → x.log ≢ s.log → Meet s.log s.naming x.log x.naming → ⊥) → StandsBetween state t ts e → IsBesideSet s e
+  between_beside t ts e same naming_is dir none h apart (inl o) = inl (others_beside ts h apart e (subst (λ (x : Path). IsOfOther x ts e) same o))
+  between_beside t ts e same naming_is dir none h apart (inr (inl o)) = inl (state_beside e o)
+  between_beside t ts e same naming_is dir none h apart (inr (inr also)) = also_beside s t e same naming_is dir none also
 
 -- ---- outside of a family
 
-in_flat : (log : Path) (n : Naming) (es : List Entry) (x : Path) → ((e : Entry) → IsIn e es → ChangesOwn log n e) → IsIn x (flat_map changed_paths es) → IsOwnName log n x
+in_flat : (log : Path) (n : Naming) (es : List Entry) (x : Path) → ((e : Entry) → IsIn e es → ChangesNames log n e) → IsIn x (flat_map changed_paths es) → IsName log n x
 in_flat log n [] x own i = absurd i
 in_flat log n (e ∷ es) x own i = ⊎_elim (λ j. own e (inl refl) x j) (λ j. in_flat log n es x (λ d k. own d (inr k)) j) (in_append x (changed_paths e) (flat_map changed_paths es) i)
 
--- all paths of a rotation are own names
-in_own : (t : Target) → HasAnyNames t → (x : Path) → IsIn x (paths_of t) → IsOwnName t.log t.naming x
-in_own t h x (inl is) = the_log (sym is)
-in_own t h x (inr i) = ⊎_elim (part t.job refl) (in_flat t.log t.naming (rotation_of t) x (λ e j. any_change t e h (inl j))) (in_append x (part_paths t.job) (flat_map changed_paths (rotation_of t)) i)
+-- all paths of a rotation are names of its set
+in_names : (t : Target) → HasAnyNames t → (x : Path) → IsIn x (paths_of t) → IsName t.log t.naming x
+in_names t h x (inl is) = inl (the_log (sym is))
+in_names t h x (inr i) = ⊎_elim (part t.job refl) behind (in_append x (part_paths t.job) (dir_paths t.ready.dir ++ flat_map changed_paths (rotation_of t)) i)
   where
+    -- the directory is one that the rotation makes
+    dir : (o : Option (Path × Option ℕ)) → t.ready.dir ≡ o → IsIn x (dir_paths o) → IsName t.log t.naming x
+    dir None is k = absurd k
+    dir (Some (y, mode)) is (inl same) = any_change t (entry.MakesDir y mode) h (inr (mode, is)) x (inl same)
+    dir (Some (y, mode)) is (inr none) = absurd none
+
+    behind : IsIn x (dir_paths t.ready.dir ++ flat_map changed_paths (rotation_of t)) → IsName t.log t.naming x
+    behind k = ⊎_elim (dir t.ready.dir refl) (in_flat t.log t.naming (rotation_of t) x (λ e j. any_change t e h (inl j))) (in_append x (dir_paths t.ready.dir) (flat_map changed_paths (rotation_of t)) k)
+
     -- the part file is one that the rotation makes
-    part : (j : Option Job) → t.job ≡ j → IsIn x (part_paths j) → IsOwnName t.log t.naming x
+    part : (j : Option Job) → t.job ≡ j → IsIn x (part_paths j) → IsName t.log t.naming x
     part None is k = absurd k
     part (Some job) is (inl same) = any_change t (entry.Makes job.part None) h (inr (inr (job, is, refl))) x (inl same)
     part (Some job) is (inr none) = absurd none
@@ -96,7 +131,7 @@ module _ (log : Path) (n : Naming) where
   dated_out x none = ((λ is. none (the_log is)), λ t k at. none (dated_own log n t k x at))
 
   no_own : (t : Target) → HasAnyNames t → (Meet t.log t.naming log n → ⊥) → (x : Path) → IsIn x (paths_of t) → IsOwnName log n x → ⊥
-  no_own t h apart x i own = apart (x, inl (in_own t h x i, inl own))
+  no_own t h apart x i own = apart (x, inr (in_names t h x i, own))
 
   pub numbered_outside : (t : Target) → IsFamily log n → HasAnyNames t → (Meet t.log t.naming log n → ⊥) → AreOutside (paths_of t) log n
   numbered_outside t family h apart x i = numbered_out family x (no_own t h apart x i)

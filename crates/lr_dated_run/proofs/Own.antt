@@ -1,5 +1,5 @@
--- What a dated log's rotation changes are names of its own family.
-use Rattle.std.proofs.Common.{◌≡◌, inl, inr, ℕ, ℤ, Bool, true, false, cond, refl, sym, ◌∙◌, ap, subst, List, [], ◌∷◌, ◌++◌, map, reverse, Option, Some, None}
+-- What a dated log's rotation changes are names of its own family, the directory that it makes among them.
+use Rattle.std.proofs.Common.{◌≡◌, ◌⊎◌, inl, inr, ⊎_elim, ℕ, ℤ, Bool, true, false, cond, refl, sym, ◌∙◌, ap, subst, List, [], ◌∷◌, ◌++◌, map, reverse, Option, Some, None}
 use Rattle.lr_rules.specs.declared.path.Path.{Path}
 use Rattle.lr_rules.specs.declared.rule.Count.{Count}
 use Rattle.lr_rules.specs.declared.rule.Naming.{Naming}
@@ -17,18 +17,19 @@ use Rattle.lr_family.specs.Parts.{part_of}
 use Rattle.lr_days.specs.Newest.{AreDated}
 use Rattle.lr_copy.specs.declared.job.Job.{Job}
 use Rattle.lr_copy.specs.Copying.{clearing}
-use Rattle.lr_chain.specs.Ready.{move_step}
+use Rattle.lr_chain.specs.Ready.{with_dir, move_step}
 use Rattle.lr_dated.specs.Steps.{Ranked, gone, unlink, dated_rotation, AreDatedAt}
 use Rattle.lr_dated_chain.specs.Ready.{all_of, removal_of, IsDatedReady}
 use Rattle.lr_dated_chain.proofs.Order.{all_dated}
 use Rattle.lr_dated_chain.proofs.Steps.{map_reverse}
-use Rattle.lr_targets.specs.AllTurns.{AlsoDoes, IsOf}
-use Rattle.lr_targets.specs.Target.{Target, unlinks, transfer_of, rotation_of}
+use Rattle.lr_targets.specs.AllTurns.{IsPartFile, AlsoDoes, IsOf}
+use Rattle.lr_targets.specs.Target.{Target, HasDir, IsDirSeen, unlinks, transfer_of, rotation_of}
 use Rattle.lr_targets.proofs.Rotating.{each_part}
+use Rattle.lr_targets.proofs.SeenFits.{has_dir}
 use Rattle.lr_rotations.proofs.Weaving.{each_in}
 use Rattle.lr_dated_seen.specs.Shown.{ShownDated}
 use Rattle.lr_dated_run.specs.Calls.{IsDatedJob}
-use Rattle.lr_dated_run.specs.Own.{IsDatedName, ChangesDated, ChangesOwn, HasDatedNames, all_members}
+use Rattle.lr_dated_run.specs.Own.{IsDatedName, ChangesDated, ChangesOwn, ChangesNames, MakesItsDir, HasDatedNames, all_members}
 use Rattle.lr_dated_run.proofs.CallsFit.{dated_gone}
 use Rattle.lr_dated_run.proofs.PartFile.{part_joined}
 
@@ -44,7 +45,7 @@ named_own log n x (inl is) = the_log is
 named_own log n x (inr (inl m)) = dated_own log n m.0 m.1 x m.2
 named_own log n x (inr (inr (member, m, is))) = let h = dated_shape n m.0 m.1 member m.2 in a_part h.0 h.1 (is ∙ part_joined n.dir h.0 member h.2)
 
-changes_own : (log : Path) (n : Naming) (e : Entry) → ChangesDated log n e → ChangesOwn log n e
+pub changes_own : (log : Path) (n : Naming) (e : Entry) → ChangesDated log n e → ChangesOwn log n e
 changes_own log n e h x i = named_own log n x (h x i)
 
 dated_named : (log : Path) (n : Naming) (t : ℤ) (k : ℕ) (x : Path) → IsDatedAt n t k x → IsDatedName log n x
@@ -61,9 +62,13 @@ module _ (log : Path) (n : Naming) where
   rename_own from to a b x (inr (inl is)) = subst (IsDatedName log n) is b
   rename_own from to a b x (inr (inr none)) = absurd none
 
+  -- what changes one path
+  one_own : (y : Path) → IsDatedName log n y → (x : Path) → IsIn x (y ∷ []) → IsDatedName log n x
+  one_own y a x (inl is) = subst (IsDatedName log n) is a
+  one_own y a x (inr none) = absurd none
+
   unlink_own : (y : Path) → IsDatedName log n y → ChangesDated log n (Unlinks y)
-  unlink_own y a x (inl is) = subst (IsDatedName log n) is a
-  unlink_own y a x (inr none) = absurd none
+  unlink_own y a = one_own y a
 
   unlinks_own : (ms : List Ranked) → AreDatedAt n ms → Each (ChangesDated log n) (map unlink ms)
   unlinks_own [] h = tt
@@ -93,14 +98,15 @@ copy_own log n job target t serial looks e j is i = changes_own log n e
     (moved_own log n job (subst (IsDatedName log n) (sym j.part_is) (part_named log n t serial target is)) (subst (IsDatedName log n) (sym j.to_is) (dated_named log n t serial target is))) i)
 
 -- what the looks tell of a dated log
-pub seen_dated : (t : Target) (maxage : Option ℕ) (now seconds : ℤ) (looks : List Entry) → ShownDated t.naming t.stand.members looks → IsDatedReady t.log t.naming t.count t.ready.make maxage now seconds t.stand.members t.ready
-    → ((job : Job) → t.job ≡ Some job → IsDatedJob t.log t.ready.target t.naming looks job) → HasDatedNames t
-seen_dated t maxage now seconds looks shown ready is_job = record {
+pub seen_dated : (t : Target) (maxage : Option ℕ) (now seconds : ℤ) (looks : List Entry) → ShownDated t.naming t.stand.members looks → IsDatedReady t.log t.naming t.count t.ready.make maxage now seconds t.stand.members (with_dir None t.ready)
+    → IsDirSeen t looks → ((job : Job) → t.job ≡ Some job → IsDatedJob t.log t.ready.target t.naming looks job) → HasDatedNames t
+seen_dated t maxage now seconds looks shown ready dir is_job = record {
   members = shown.named;
   maxage = maxage;
   now = now;
   seconds = seconds;
   ready = ready;
+  dir = has_dir t looks dir;
   job = λ job is. let j = is_job job is in record { from_is = j.from_is; to_is = j.to_is; part_is = j.part_is ∙ ap part_of (sym j.to_is); dir_is = j.dir_is };
 }
 
@@ -138,24 +144,31 @@ module _ (t : Target) (h : HasDatedNames t) where
   transfer_own None is = (rename_own t.log t.naming t.ready.log t.ready.target (inl h.ready.log_is) target_own, tt)
   transfer_own (Some job) is = moved_own t.log t.naming job (job_part_own job is) (to_own job is)
 
-  turns_own : Each Own (rotation_of t)
+  pub turns_own : Each Own (rotation_of t)
   turns_own = each_part Own t (subst (λ rs. Each Own (unlinks rs)) (sym h.ready.no_leftovers) tt) (subst (λ ms. Each Own (map move_step ms)) (sym h.ready.no_moves) tt) (transfer_own t.job refl)
       (subst (Each Own) (sym retire_are) (gone_own t.log t.naming t.count (all_members t h) (all_dated t.naming h.maxage h.now h.seconds h.ready.serial t.ready.target t.stand.members h.members h.ready.target_is)))
 
-  also_own : (e : Entry) → AlsoDoes t e → Own e
-  also_own (entry.Makes y mode) (inl is) x (inl same) = inl (sym same ∙ is)
-  also_own (entry.Makes y mode) (inl is) x (inr none) = absurd none
-  also_own (entry.Makes y mode) (inr p) x (inl same) = subst (IsDatedName t.log t.naming) (sym p.2 ∙ same) (job_part_own p.0 p.1)
-  also_own (entry.Makes y mode) (inr p) x (inr none) = absurd none
-  also_own (entry.Appends y bytes) p x (inl same) = subst (IsDatedName t.log t.naming) (sym p.2 ∙ same) (job_part_own p.0 p.1)
-  also_own (entry.Appends y bytes) p x (inr none) = absurd none
-  also_own (entry.Truncates y) p x (inl same) = inl (sym same ∙ p.1)
-  also_own (entry.Truncates y) p x (inr none) = absurd none
-  also_own _ none x i = absurd none
+  -- the part file of its copy
+  part_own : (y : Path) → IsPartFile t y → IsDatedName t.log t.naming y
+  part_own y p = subst (IsDatedName t.log t.naming) (sym p.2) (job_part_own p.0 p.1)
 
-pub dated_turns : (t : Target) (e : Entry) → HasDatedNames t → IsOf t e → ChangesDated t.log t.naming e
-dated_turns t e h (inl i) = each_in (ChangesDated t.log t.naming) (rotation_of t) e (turns_own t h) i
+  also_own : (e : Entry) → AlsoDoes t e → Own e ⊎ MakesItsDir t e
+  also_own (entry.MakesDir y mode) d = inr d
+  also_own (entry.Makes y mode) (inl is) = inl (one_own t.log t.naming y (inl is))
+  also_own (entry.Makes y mode) (inr p) = inl (one_own t.log t.naming y (part_own y p))
+  also_own (entry.Appends y bytes) p = inl (one_own t.log t.naming y (part_own y p))
+  also_own (entry.Truncates y) p = inl (one_own t.log t.naming y (inl p.1))
+  also_own _ none = absurd none
+
+pub dated_turns : (t : Target) (e : Entry) → HasDatedNames t → IsOf t e → ChangesDated t.log t.naming e ⊎ MakesItsDir t e
+dated_turns t e h (inl i) = inl (each_in (ChangesDated t.log t.naming) (rotation_of t) e (turns_own t h) i)
 dated_turns t e h (inr also) = also_own t h e also
 
-pub dated_change : (t : Target) (e : Entry) → HasDatedNames t → IsOf t e → ChangesOwn t.log t.naming e
-dated_change t e h i = changes_own t.log t.naming e (dated_turns t e h i)
+-- the directory is a name of the set
+its_dir : (t : Target) (e : Entry) → HasDir t → MakesItsDir t e → ChangesNames t.log t.naming e
+its_dir t (entry.MakesDir y mode) h d x (inl same) = inr (sym same ∙ (h y d.0 d.1).0)
+its_dir t (entry.MakesDir y mode) h d x (inr none) = absurd none
+its_dir t _ h none x i = absurd none
+
+pub dated_change : (t : Target) (e : Entry) → HasDatedNames t → IsOf t e → ChangesNames t.log t.naming e
+dated_change t e h i = ⊎_elim (λ own x j. inl (changes_own t.log t.naming e own x j)) (λ d. its_dir t e h.dir d) (dated_turns t e h i)

@@ -1,5 +1,5 @@
 -- The set of a dated log stays safe over its rotation, with others between its steps.
-use Rattle.std.proofs.Common.{◌≡◌, ◌⊎◌, inl, ℕ, ℤ, Bool, true, false, cond, ◌||◌, bytes_eq, refl, sym, ◌∙◌, ap, subst, List, [], ◌∷◌, ◌++◌, reverse, Option}
+use Rattle.std.proofs.Common.{◌≡◌, ◌⊎◌, inl, ℕ, ℤ, Bool, true, false, cond, ◌||◌, bytes_eq, refl, sym, ◌∙◌, ap, subst, List, [], ◌∷◌, ◌++◌, map, reverse, Option}
 use Rattle.std.specs.Prelude.{filter}
 use Rattle.std.proofs.lemmas.List.{reverse-append, reverse-reverse}
 use Rattle.lr_rules.specs.declared.clock.Clock.{Clock}
@@ -9,17 +9,18 @@ use Rattle.lr_rules.specs.Dated.{IsDatedAt}
 use Rattle.lr_stamps.specs.Dated.{clock_seconds}
 use Rattle.lr_host.specs.declared.entry.Entry.{Entry}
 use Rattle.lr_host.specs.declared.entry.Entry.TheVariants as entry
+use Rattle.lr_host.specs.Fits.{IsFileAt}
 use Rattle.lr_host.specs.Opening.{IsJournal}
 use Rattle.lr_host.specs.Quiet.{IsQuiet, AreQuiet}
 use Rattle.lr_host.specs.Runs.{rules_of, SomeRule, has_begun}
 use Rattle.lr_host.specs.Safe.{IsSafe}
 use Rattle.lr_host.specs.Sets.{LogSet}
 use Rattle.lr_host.specs.Steady.{NoneAttached}
-use Rattle.lr_host.specs.Steps.{changes_of, is_change, FitAll}
-use Rattle.lr_host.specs.Told.{Made, at_first, by_writer, by_tool}
-use Rattle.lr_host.specs.World.{Past, Change, world, names, names_after}
+use Rattle.lr_host.specs.Steps.{changes_of, is_change}
+use Rattle.lr_host.specs.Told.{Each, Made, at_first, by_writer, by_tool}
+use Rattle.lr_host.specs.World.{Names, Past, Change, world, names, names_after}
 use Rattle.lr_host.proofs.Each.{filter_reverse, each_reverse}
-use Rattle.lr_host.proofs.Left.{changes_filter, later_fit}
+use Rattle.lr_host.proofs.Left.{changes_filter}
 use Rattle.lr_host.proofs.Quiet.{quiet_still}
 use Rattle.lr_laws.specs.Rotation.{IsAside, LogFits}
 use Rattle.lr_laws.proofs.Calls.{passed_aside}
@@ -29,15 +30,17 @@ use Rattle.lr_family.specs.declared.stand.Member.{Member}
 use Rattle.lr_dated.specs.Forward.{IsForwardFor}
 use Rattle.lr_dated.specs.Rotation.{has_turned, IsDatedStep, IsDatedRotation}
 use Rattle.lr_dated.specs.Stays.{RotatesDated}
-use Rattle.lr_dated.specs.Steps.{dated_rotation}
+use Rattle.lr_dated.specs.Steps.{Ranked, gone, unlink, dated_rotation}
 use Rattle.lr_dated.proofs.Walk.{dated_walked}
+use Rattle.lr_dated.proofs.Whole.{steps_are}
 use Rattle.lr_dated_chain.specs.Next.{IsNext}
 use Rattle.lr_dated_chain.specs.Ready.{all_of}
 use Rattle.lr_rotations.specs.Weave.{FirstWoven}
+use Rattle.lr_rotations.proofs.LogFitting.{IsNoRename, log_fits_on, log_fits_first}
 use Rattle.lr_rotations.proofs.Weaving.{weave_as, weave_back, IsApartOrMakes}
 use Rattle.lr_dated_seen.specs.Family.{IsDatedFamily}
 use Rattle.lr_dated_seen.specs.Shown.{SawFile, ShownDated}
-use Rattle.lr_dated_seen.proofs.Rotating.{fits_behind, one_behind}
+use Rattle.lr_dated_seen.proofs.Rotating.{file_stands, one_behind}
 use Rattle.lr_dated_run.specs.Beside.{IsBesideSet}
 use Rattle.lr_dated_run.proofs.Weaving.{beside_apart, IsDatedWoven, dated_woven}
 
@@ -76,6 +79,17 @@ later_rotation : (s : LogSet) (p : Past) (newest : ℤ) (new es : List Entry) �
 later_rotation s p newest [] es r = r
 later_rotation s p newest (e ∷ new) es r = later_rotation s p newest new es r.0
 
+-- ---- the log stands where it is renamed
+
+unlinks_no_rename : (s : LogSet) (ms : List Ranked) → Each (IsNoRename s) (map unlink ms)
+unlinks_no_rename s [] = tt
+unlinks_no_rename s (m ∷ ms) = ((λ to is. cc), unlinks_no_rename s ms)
+
+-- that comes first, whether its directory is there or is made
+dated_log_fits : (s : LogSet) (n : Names) (c : Count) (target : Path) (all : List Ranked) → IsFileAt n s.log → LogFits s n (reverse (dated_rotation c s.log target all))
+dated_log_fits s n c target all file =
+    subst (LogFits s n) (sym (steps_are c s.log target all)) (log_fits_on s n (map unlink (gone c 0 all)) (entry.Renames s.log target ∷ []) (unlinks_no_rename s (gone c 0 all)) (tt, λ to is. file))
+
 -- ---- the set stays safe
 
 -- no writer is attached to a member where none is later
@@ -85,10 +99,10 @@ none_before s p _ es (by_writer {q = q} {e = e} m i f) none = none_before s p q 
 none_before s p _ _ (by_tool {es = es} {q = q} {e = e} m i f) none = none_before s p q es m (attached_before s q e none)
 
 pub dated_own_safe : (clock : Clock) (s : LogSet) (c : Count) (maxage : Option ℕ) (members : List Member) (target : Path) (serial : ℕ) (u v q : Past) (looks acts : List Entry) → IsDatedFamily s.log s.naming → Made u (reverse looks) v → AreQuiet looks → SawFile s.log looks → ShownDated s.naming members looks
-    → IsJournal v → IsSafe s v → NoneAttached s q → has_begun s v ≡ false → IsForwardFor clock s v → (world v).now ≡ clock.now.seconds → SomeRule (rules_of v) s.log (λ r. (r.count ≡ c) × (r.maxage ≡ maxage))
+    → IsJournal u → IsJournal v → IsSafe s v → NoneAttached s q → has_begun s v ≡ false → IsForwardFor clock s v → (world v).now ≡ clock.now.seconds → SomeRule (rules_of v) s.log (λ r. (r.count ≡ c) × (r.maxage ≡ maxage))
     → IsNext members (clock_seconds s.naming.dated clock) serial → IsDatedAt s.naming (clock_seconds s.naming.dated clock) serial target
     → FirstWoven (IsApartOrMakes s) (dated_rotation c s.log target (all_of maxage clock.now.seconds (clock_seconds s.naming.dated clock) serial target members)) (filter is_change acts) → Made v (reverse acts) q → IsSafe s q
-dated_own_safe clock s c maxage members target serial u v q looks acts family m quiet saw shown journal safe none_q not_begun forward now_is rule next is w mq =
+dated_own_safe clock s c maxage members target serial u v q looks acts family m quiet saw shown opened journal safe none_q not_begun forward now_is rule next is w mq =
     dated_walked s v q rotates.newest (reverse acts) rotates.dated journal safe not_begun rotates.forward mq
     (log_filter s (names (world v)) (reverse acts) (subst (LogFits s (names (world v))) (sym (filter_reverse is_change acts)) all.fits))
     (rotation_filter s rotates.newest v q (reverse acts) mq (subst (IsDatedRotation s v rotates.newest) (sym (filter_reverse is_change acts)) all.rotation)) none_q
@@ -106,22 +120,22 @@ dated_own_safe clock s c maxage members target serial u v q looks acts family m 
     shown_back = subst (ShownDated s.naming members) (sym in_order) shown
 
     rotates : RotatesDated (dated_rotation c s.log target (all_of maxage clock.now.seconds (clock_seconds s.naming.dated clock) serial target members)) s v
-    rotates = one_behind clock s c maxage members target serial u v (reverse looks) family (none_before s v q (reverse acts) mq none_q) m quiet_back saw_back shown_back next is not_begun forward now_is rule
+    rotates = one_behind clock s c maxage members target serial u v (reverse looks) family opened (none_before s v q (reverse acts) mq none_q) m quiet_back saw_back shown_back next is not_begun forward now_is rule
 
     split : reverse (dated_rotation c s.log target (all_of maxage clock.now.seconds (clock_seconds s.naming.dated clock) serial target members)) ≡ reverse w.first.0 ++ reverse w.made
     split = ap reverse w.first.1 ∙ reverse-append w.made w.first.0
 
-    fit : FitAll (names (world v)) (reverse w.first.0 ++ reverse w.made)
-    fit = subst (FitAll (names (world v))) split (fits_behind s.log s.naming c maxage members target clock.now.seconds (clock_seconds s.naming.dated clock) serial u v (reverse looks) family m (quiet_still (reverse looks) quiet_back) saw_back shown_back next is)
+    fit : LogFits s (names (world v)) (reverse w.first.0 ++ reverse w.made)
+    fit = subst (LogFits s (names (world v))) split (dated_log_fits s (names (world v)) c target _ (file_stands u v (reverse looks) m (quiet_still (reverse looks) quiet_back) s.log saw_back))
 
     all : IsDatedWoven s v rotates.newest (reverse w.made) (reverse (filter is_change acts))
     all = dated_woven s v rotates.newest (reverse w.made) (reverse (filter is_change acts)) (weave_back (IsApartOrMakes s) w.made (filter is_change acts) w.woven)
-        (later_rotation s v rotates.newest (reverse w.first.0) (reverse w.made) (subst (IsDatedRotation s v rotates.newest) split rotates.rotation)) (later_fit (names (world v)) (reverse w.first.0) (reverse w.made) fit)
+        (later_rotation s v rotates.newest (reverse w.first.0) (reverse w.made) (subst (IsDatedRotation s v rotates.newest) split rotates.rotation)) (log_fits_first s (names (world v)) (reverse w.first.0) (reverse w.made) fit)
 
 pub beside_safe : (clock : Clock) (s : LogSet) (c : Count) (maxage : Option ℕ) (members : List Member) (target : Path) (serial : ℕ) (u v q : Past) (looks acts : List Entry) → IsDatedFamily s.log s.naming → Made u (reverse looks) v → AreQuiet looks → SawFile s.log looks → ShownDated s.naming members looks
-    → IsJournal v → IsSafe s v → NoneAttached s q → has_begun s v ≡ false → IsForwardFor clock s v → (world v).now ≡ clock.now.seconds → SomeRule (rules_of v) s.log (λ r. (r.count ≡ c) × (r.maxage ≡ maxage))
+    → IsJournal u → IsJournal v → IsSafe s v → NoneAttached s q → has_begun s v ≡ false → IsForwardFor clock s v → (world v).now ≡ clock.now.seconds → SomeRule (rules_of v) s.log (λ r. (r.count ≡ c) × (r.maxage ≡ maxage))
     → IsNext members (clock_seconds s.naming.dated clock) serial → IsDatedAt s.naming (clock_seconds s.naming.dated clock) serial target
     → FirstWoven (IsBesideSet s) (dated_rotation c s.log target (all_of maxage clock.now.seconds (clock_seconds s.naming.dated clock) serial target members)) (filter is_change acts) → Made v (reverse acts) q → IsSafe s q
-beside_safe clock s c maxage members target serial u v q looks acts family m quiet saw shown journal safe none_q not_begun forward now_is rule next is w mq =
-    dated_own_safe clock s c maxage members target serial u v q looks acts family m quiet saw shown journal safe none_q not_begun forward now_is rule next is
+beside_safe clock s c maxage members target serial u v q looks acts family m quiet saw shown opened journal safe none_q not_begun forward now_is rule next is w mq =
+    dated_own_safe clock s c maxage members target serial u v q looks acts family m quiet saw shown opened journal safe none_q not_begun forward now_is rule next is
     (record { made = w.made; first = w.first; woven = weave_as (IsBesideSet s) (IsApartOrMakes s) w.made (filter is_change acts) (λ e h. beside_apart s e h) w.woven }) mq

@@ -6,14 +6,14 @@ use Rattle.lr_host.specs.declared.entry.Entry.{Entry}
 use Rattle.lr_host.specs.declared.entry.Entry.TheVariants as entry
 use Rattle.lr_host.specs.declared.entry.Entry.TheVariants.{Renames, Unlinks, Makes, MakesDir}
 use Rattle.lr_host.specs.World.{Names, put, names_after, Past, world, names}
-use Rattle.lr_host.specs.Steps.{changes_of, FitAll}
+use Rattle.lr_host.specs.Steps.{changes_of}
 use Rattle.lr_host.specs.Sets.{LogSet, in_set, AreLaterMembers}
 use Rattle.lr_laws.specs.Rotation.{IsAside, LogFits}
 use Rattle.lr_dated.specs.Rotation.{has_turned, IsDatedStep, IsDatedRotation}
 use Rattle.lr_dated.proofs.Aside.{aside_turned}
 use Rattle.lr_rotations.specs.Rotated.{MakesAt}
 use Rattle.lr_rotations.specs.Weave.{Weave, none, own, other}
-use Rattle.lr_rotations.proofs.Weaving.{both_put, keyed, logged, log_there, IsApart, IsApartOrMakes, apart_aside, apart_alike}
+use Rattle.lr_rotations.proofs.Weaving.{both_put, keyed, logged, IsApart, IsApartOrMakes, apart_aside, apart_alike}
 use Rattle.lr_dated_run.specs.Beside.{MakesNoDir, IsBesideSet}
 
 -- ---- entries beside the set
@@ -105,7 +105,7 @@ apart_more s p newest os es e out k = record {
   alike = λ y i. k.alike y i ∙ apart_alike s (names (world p)) es e out y i;
 }
 
-pub dated_woven : (s : LogSet) (p : Past) (newest : ℤ) (os es : List Entry) → Weave (IsApartOrMakes s) os es → IsDatedRotation s p newest os → FitAll (names (world p)) os → IsDatedWoven s p newest os es
+pub dated_woven : (s : LogSet) (p : Past) (newest : ℤ) (os es : List Entry) → Weave (IsApartOrMakes s) os es → IsDatedRotation s p newest os → LogFits s (names (world p)) os → IsDatedWoven s p newest os es
 dated_woven s p newest _ _ none rot fit = record { rotation = tt; fits = tt; turned = refl; alike = λ y i. refl }
 dated_woven s p newest _ _ (own {steps = os} {all = es} e w) rot fit = more (dated_woven s p newest os es w rot.0 fit.0)
   where
@@ -119,7 +119,7 @@ dated_woven s p newest _ _ (own {steps = os} {all = es} e w) rot fit = more (dat
     more : IsDatedWoven s p newest os es → IsDatedWoven s p newest (e ∷ os) (e ∷ es)
     more k = record {
       rotation = (k.rotation, step k rot.1);
-      fits = (k.fits, λ to is. let f = log_there s (names_after n (changes_of os)) e to is fit.1 in (f.0, sym (k.alike s.log (logged s)) ∙ f.1));
+      fits = (k.fits, λ to is. let f = fit.1 to is in (f.0, sym (k.alike s.log (logged s)) ∙ f.1));
       turned = own_turned s os es e k.turned;
       alike = own_alike s p newest n (has_turned s os) os es e rot.1 k.alike;
     }

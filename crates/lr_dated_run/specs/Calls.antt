@@ -1,5 +1,5 @@
 -- The calls of a dated rotation, as they are asked for.
-use Rattle.std.specs.Prelude.{◌≡◌, true, List, [], ◌∷◌, ◌++◌, map, reverse}
+use Rattle.std.specs.Prelude.{◌≡◌, ℕ, Option, true, List, [], ◌∷◌, ◌++◌, map, reverse}
 use Rattle.lr_rules.specs.declared.path.Path.{Path}
 use Rattle.lr_rules.specs.declared.rule.Count.{Count}
 use Rattle.lr_rules.specs.declared.rule.Naming.{Naming}
@@ -9,19 +9,20 @@ use Rattle.lr_family.specs.Parts.{part_of}
 use Rattle.lr_copy.specs.declared.job.Job.{Job}
 use Rattle.lr_dated.specs.Steps.{Ranked, gone, unlink}
 use Rattle.lr_rotations.specs.Calls.{copy_calls}
+use Rattle.lr_targets.specs.Calls.{dir_calls}
 use Rattle.lr_dated_seen.specs.Shown.{SawFile}
 
 -- the unlinks of those that go, the oldest first
 abbrev pub removal_calls : Count → List Ranked → List Entry
 removal_calls c all = reverse (map unlink (gone c 0 all))
 
--- The log goes to its dated name, which is a file then: the mail of the first file can read it; and then those go that are too many or too old.
-abbrev pub renamed_calls : Count → Path → Path → List Ranked → List Entry
-renamed_calls c log target all = Renames log target ∷ Reads target 0 [] ∷ removal_calls c all
+-- The directory is made, where it is to be; the log goes to its dated name, which is a file then: the mail of the first file can read it; and then those go that are too many or too old.
+abbrev pub renamed_calls : Option (Path × Option ℕ) → Count → Path → Path → List Ranked → List Entry
+renamed_calls dir c log target all = dir_calls dir ++ (Renames log target ∷ Reads target 0 [] ∷ removal_calls c all)
 
 -- The same of a log that is copied.
-abbrev pub copied_calls : Count → Job → Path → List Ranked → List Entry
-copied_calls c job target all = copy_calls job ++ Reads target 0 [] ∷ removal_calls c all
+abbrev pub copied_calls : Option (Path × Option ℕ) → Count → Job → Path → List Ranked → List Entry
+copied_calls dir c job target all = dir_calls dir ++ (copy_calls job ++ Reads target 0 [] ∷ removal_calls c all)
 
 -- The job copies the log, by a part file in the family's directory, to its dated name; and where an old part file goes, these looks saw one.
 pub record IsDatedJob (log target : Path) (n : Naming) (looks : List Entry) (job : Job) : Type 0 where

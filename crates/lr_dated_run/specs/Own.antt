@@ -1,17 +1,20 @@
 -- Dated logs among all logs of a run, and the names that their rotations change.
-use Rattle.std.specs.Prelude.{◌≡◌, ◌⊎◌, ℕ, ℤ, List, [], ◌∷◌, Option}
+use Rattle.std.specs.Prelude.{◌≡◌, ◌⊎◌, ℕ, ℤ, List, [], ◌∷◌, Option, None}
 use Rattle.lr_rules.specs.declared.path.Path.{Path}
 use Rattle.lr_rules.specs.declared.rule.Naming.{Naming}
-use Rattle.lr_rules.specs.Names.{IsOwnName}
+use Rattle.lr_rules.specs.Names.{IsOwnName, IsName}
 use Rattle.lr_host.specs.declared.entry.Entry.{Entry}
+use Rattle.lr_host.specs.declared.entry.Entry.TheVariants.{MakesDir}
 use Rattle.lr_host.specs.Lists.{IsIn}
 use Rattle.lr_laws.specs.Follow.{changed_paths}
 use Rattle.lr_family.specs.Parts.{part_of, IsDated}
 use Rattle.lr_days.specs.Newest.{AreDated}
+use Rattle.lr_chain.specs.Ready.{with_dir}
 use Rattle.lr_dated.specs.Steps.{Ranked}
 use Rattle.lr_dated_chain.specs.Ready.{all_of, IsDatedReady}
+use Rattle.lr_targets.specs.AllTurns.{IsItsDir}
 use Rattle.lr_targets.specs.Apart.{HasNames}
-use Rattle.lr_targets.specs.Target.{Target, HasJob}
+use Rattle.lr_targets.specs.Target.{Target, HasDir, HasJob}
 
 -- the path is the log, a dated member, or the part file of one
 abbrev pub IsDatedName : Path → Naming → Path → Type 0
@@ -25,13 +28,23 @@ ChangesDated log n e = (x : Path) → IsIn x (changed_paths e) → IsDatedName l
 abbrev pub ChangesOwn : Path → Naming → Entry → Type 0
 ChangesOwn log n e = (x : Path) → IsIn x (changed_paths e) → IsOwnName log n x
 
--- Each member that was seen is a dated one. The rotation that is ready is theirs, to the stamp of some moment, and so is the copy.
+-- each path that the entry changes is one of the set's, which may be the directory of the family
+abbrev pub ChangesNames : Path → Naming → Entry → Type 0
+ChangesNames log n e = (x : Path) → IsIn x (changed_paths e) → IsName log n x
+
+-- the entry makes the directory that the rotation makes
+abbrev pub MakesItsDir : Target → Entry → Type 0
+MakesItsDir t (MakesDir x mode) = IsItsDir t x
+MakesItsDir t _ = ⊥
+
+-- Each member that was seen is a dated one. The rotation that is ready is theirs, to the stamp of some moment, and so are the directory and the copy.
 pub record HasDatedNames (t : Target) : Type 0 where
   pub members : AreDated t.naming t.stand.members
   pub maxage : Option ℕ
   pub now : ℤ
   pub seconds : ℤ
-  pub ready : IsDatedReady t.log t.naming t.count t.ready.make maxage now seconds t.stand.members t.ready
+  pub ready : IsDatedReady t.log t.naming t.count t.ready.make maxage now seconds t.stand.members (with_dir None t.ready)
+  pub dir : HasDir t
   pub job : HasJob t
 
 -- its members, the newest first, once the log has its dated name

@@ -11,6 +11,7 @@ ghost use Rattle.lr_host.specs.Lists.{IsIn};
 ghost use Rattle.lr_host.specs.Sets.{LogSet};
 ghost use Rattle.lr_family.specs.declared.stand.Member.{Member};
 ghost use Rattle.lr_days.specs.Newest.{AreDated};
+ghost use Rattle.lr_chain.specs.Ready.{with_dir};
 ghost use Rattle.lr_copy.specs.declared.job.Job.{Job};
 ghost use Rattle.lr_copy.specs.Copying.{clearing};
 ghost use Rattle.lr_dated.specs.Steps.{dated_rotation};
@@ -18,25 +19,25 @@ ghost use Rattle.lr_dated_chain.specs.Ready.{all_of, IsDatedReady};
 ghost use Rattle.lr_targets.specs.AllTurns.{IsOf, StandsBetween, paths_of, other_paths};
 ghost use Rattle.lr_rotations.specs.Members.{IsFamily};
 ghost use Rattle.lr_rotations.specs.Rotated.{AreOutside};
-ghost use Rattle.lr_targets.specs.Target.{Target, rotation_of, IsOneOf};
+ghost use Rattle.lr_targets.specs.Target.{Target, HasDir, IsDirSeen, rotation_of, IsOneOf};
 ghost use Rattle.lr_dated_seen.specs.Shown.{ShownDated};
 ghost use Rattle.lr_dated_turned.specs.Rotated.{AreDatedOutside};
 ghost use Rattle.lr_dated_run.specs.Beside.{LiesBeside, IsBesideSet};
 ghost use Rattle.lr_dated_run.specs.Calls.{IsDatedJob};
-ghost use Rattle.lr_dated_run.specs.Own.{ChangesDated, ChangesOwn, HasDatedNames, all_members, HasAnyNames, HaveAnyNames};
+ghost use Rattle.lr_dated_run.specs.Own.{ChangesDated, ChangesOwn, ChangesNames, MakesItsDir, HasDatedNames, all_members, HasAnyNames, HaveAnyNames};
 
 /// Looks that showed the members of a dated log, and a rotation of theirs that is ready, with a copy over a part file of its
 /// own where the log is copied, are all that the laws below ask of the log.
 pub fn seen_names_are_dated()
     ensures { (t : Target) (maxage : Option ℕ) (now seconds : ℤ) (looks : List Entry) → ShownDated t.naming t.stand.members looks
-        → IsDatedReady t.log t.naming t.count t.ready.make maxage now seconds t.stand.members t.ready
+        → IsDatedReady t.log t.naming t.count t.ready.make maxage now seconds t.stand.members (with_dir None t.ready) → IsDirSeen t looks
         → ((job : Job) → t.job ≡ Some job → IsDatedJob t.log t.ready.target t.naming looks job) → HasDatedNames t }
 {}
 
 /// Each change of a dated log's rotation is on names of its own family alone: of its renames and unlinks, of those of its
 /// copy, and of all that is done to it, with the making of the log anew, and the part file and the truncation of a copy. It
-/// is on the log, dated members and the part files of such. Where the log isn't copied, its renames and unlinks are the
-/// rotation to its dated name.
+/// is on the log, dated members and the part files of such, or makes the family's directory. Where the log isn't copied, its
+/// renames and unlinks are the rotation to its dated name.
 pub fn dated_changes_are_own()
     ensures rename { (log : Path) (n : Naming) (c : Count) (maxage : Option ℕ) (members : List Member) (target : Path)
         (now seconds : ℤ) (serial : ℕ) (e : Entry) → AreDated n members → IsDatedAt n seconds serial target
@@ -44,8 +45,8 @@ pub fn dated_changes_are_own()
     ensures copy { (log : Path) (n : Naming) (job : Job) (target : Path) (seconds : ℤ) (serial : ℕ) (looks : List Entry) (e : Entry)
         → IsDatedJob log target n looks job → IsDatedAt n seconds serial target
         → IsIn e (clearing job ++ Renames job.part job.to ∷ []) → ChangesOwn log n e }
-    ensures all { (t : Target) (e : Entry) → HasDatedNames t → IsOf t e → ChangesOwn t.log t.naming e }
-    ensures on { (t : Target) (e : Entry) → HasDatedNames t → IsOf t e → ChangesDated t.log t.naming e }
+    ensures all { (t : Target) (e : Entry) → HasDatedNames t → IsOf t e → ChangesNames t.log t.naming e }
+    ensures on { (t : Target) (e : Entry) → HasDatedNames t → IsOf t e → ChangesDated t.log t.naming e ⊎ MakesItsDir t e }
     ensures steps { (t : Target) (h : HasDatedNames t) → t.job ≡ None
         → rotation_of t ≡ dated_rotation t.count t.log t.ready.target (all_members t h) }
 {}
@@ -55,7 +56,7 @@ pub fn dated_changes_are_own()
 /// logs meets the set, and the state's paths are no names of it.
 pub fn dated_rotation_is_apart()
     ensures one { (s : LogSet) (t : Target) (e : Entry) → HasAnyNames t → (Meet s.log s.naming t.log t.naming → ⊥) → IsOf t e → LiesBeside s e }
-    ensures between { (s : LogSet) (state : Path) (t : Target) (ts : List Target) (e : Entry) → t.log ≡ s.log → t.job ≡ None → HaveAnyNames ts
+    ensures between { (s : LogSet) (state : Path) (t : Target) (ts : List Target) (e : Entry) → t.log ≡ s.log → t.naming ≡ s.naming → HasDir t → t.job ≡ None → HaveAnyNames ts
         → ((x : Target) → IsOneOf x ts → x.log ≢ s.log → Meet s.log s.naming x.log x.naming → ⊥)
         → (IsName s.log s.naming state → ⊥) → (IsName s.log s.naming (state ++ codes ".tmp") → ⊥)
         → StandsBetween state t ts e → IsBesideSet s e }

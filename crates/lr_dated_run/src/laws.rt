@@ -1,5 +1,5 @@
 // One dated log of a run: its set stays safe, and the calls of its rotation fit.
-ghost use Rattle.std.specs.Prelude.{◌≡◌, ℕ, ℤ, false, List, reverse, filter, Option};
+ghost use Rattle.std.specs.Prelude.{◌≡◌, ℕ, ℤ, false, List, reverse, filter, Option, Some, None};
 ghost use Rattle.lr_rules.specs.declared.clock.Clock.{Clock};
 ghost use Rattle.lr_rules.specs.declared.path.Path.{Path};
 ghost use Rattle.lr_rules.specs.declared.rule.Count.{Count};
@@ -26,6 +26,7 @@ ghost use Rattle.lr_dated_chain.specs.Next.{IsNext};
 ghost use Rattle.lr_dated_chain.specs.Ready.{all_of};
 ghost use Rattle.lr_rotations.specs.Calls.{FitCalls};
 ghost use Rattle.lr_rotations.specs.Weave.{FirstWoven};
+ghost use Rattle.lr_targets.specs.Target.{IsDirSeenBy};
 ghost use Rattle.lr_dated_seen.specs.Family.{IsDatedFamily};
 ghost use Rattle.lr_dated_seen.specs.Shown.{SawFile, ShownDated};
 ghost use Rattle.lr_dated_run.specs.Beside.{IsBesideSet};
@@ -38,7 +39,7 @@ ghost use Rattle.lr_dated_run.specs.Calls.{renamed_calls, copied_calls, IsDatedJ
 pub fn dated_log_stays_safe()
     ensures { (clock : Clock) (s : LogSet) (c : Count) (maxage : Option ℕ) (members : List Member) (target : Path) (serial : ℕ)
         (u v q : Past) (looks acts : List Entry) → IsDatedFamily s.log s.naming → Made u (reverse looks) v → AreQuiet looks
-        → SawFile s.log looks → ShownDated s.naming members looks → IsJournal v → IsSafe s v → NoneAttached s q
+        → SawFile s.log looks → ShownDated s.naming members looks → IsJournal u → IsJournal v → IsSafe s v → NoneAttached s q
         → has_begun s v ≡ false → IsForwardFor clock s v → (world v).now ≡ clock.now.seconds
         → SomeRule (rules_of v) s.log (λ r. (r.count ≡ c) × (r.maxage ≡ maxage))
         → IsNext members (clock_seconds s.naming.dated clock) serial
@@ -47,17 +48,18 @@ pub fn dated_log_stays_safe()
         → Made v (reverse acts) q → IsSafe s q }
 {}
 
-/// Behind looks that saw the log and its members the calls of its rotation fit by themselves, one after another, whatever
-/// writers did meanwhile: by a rename, and by a copy, of which an old part file that goes was seen.
+/// In a journal, behind looks that saw the log and its members, the calls of its rotation fit by themselves, one after
+/// another, whatever writers did meanwhile: by a rename, and by a copy, of which an old part file that goes was seen; with the
+/// directory, where that was missing and is made.
 pub fn dated_calls_fit()
-    ensures rename { (log : Path) (n : Naming) (c : Count) (maxage : Option ℕ) (members : List Member) (target : Path)
-        (now seconds : ℤ) (serial : ℕ) (p q : Past) (es : List Entry) → IsDatedFamily log n → Made p es q → ChangeNothing es
-        → SawFile log (reverse es) → ShownDated n members (reverse es) → IsNext members seconds serial
+    ensures rename { (dir : Option (Path × Option ℕ)) (log : Path) (n : Naming) (c : Count) (maxage : Option ℕ) (members : List Member) (target : Path)
+        (now seconds : ℤ) (serial : ℕ) (p q : Past) (es : List Entry) → IsDatedFamily log n → IsJournal p → Made p es q → ChangeNothing es
+        → SawFile log (reverse es) → IsDirSeenBy dir log n members None (reverse es) → ShownDated n members (reverse es) → IsNext members seconds serial
         → IsDatedAt n seconds serial target
-        → FitCalls (names (world q)) (renamed_calls c log target (all_of maxage now seconds serial target members)) }
-    ensures copy { (rule : Rule) (job : Job) (log : Path) (n : Naming) (c : Count) (maxage : Option ℕ) (members : List Member) (target : Path)
+        → FitCalls (names (world q)) (renamed_calls dir c log target (all_of maxage now seconds serial target members)) }
+    ensures copy { (rule : Rule) (dir : Option (Path × Option ℕ)) (job : Job) (log : Path) (n : Naming) (c : Count) (maxage : Option ℕ) (members : List Member) (target : Path)
         (now seconds : ℤ) (serial : ℕ) (p q : Past) (es : List Entry) → naming_of rule log ≡ n → IsDatedJob log target n (reverse es) job
-        → IsDatedFamily log n → Made p es q → ChangeNothing es → SawFile log (reverse es) → ShownDated n members (reverse es)
+        → IsDatedFamily log n → IsJournal p → Made p es q → ChangeNothing es → SawFile log (reverse es) → IsDirSeenBy dir log n members (Some job) (reverse es) → ShownDated n members (reverse es)
         → IsNext members seconds serial → IsDatedAt n seconds serial target
-        → FitCalls (names (world q)) (copied_calls c job target (all_of maxage now seconds serial target members)) }
+        → FitCalls (names (world q)) (copied_calls dir c job target (all_of maxage now seconds serial target members)) }
 {}

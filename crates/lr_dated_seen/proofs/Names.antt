@@ -1,4 +1,4 @@
--- The names of dated members: they have no slash, and aren't empty.
+-- The names of dated members: they have no slash, and aren't empty. Each stands in the family's directory.
 use Rattle.std.proofs.Common.{◌≡◌, ◌+◌, ◌-◌, min, take, cond, length-append, inl, inr, ℕ, ℤ, ◌<◌, ◌≤◌, Bool, true, false, ◌&&◌, ◌||◌, refl, sym, ◌∙◌, ap, subst, arith, List, [], ◌∷◌, ◌++◌, length, Option, Some, None, eqb-true, true≢false}
 use Rattle.std.specs.List.{list_any, list_all}
 use Rattle.std.proofs.lemmas.Bool.{and_parts, or_parts, or_from, not-true}
@@ -16,10 +16,16 @@ use Rattle.lr_rules.specs.declared.rule.Rule.{Rule}
 use Rattle.lr_rules.specs.Dated.{IsDatedAt}
 use Rattle.lr_rules.specs.Limits.{is_plain_piece, are_first, is_epoch_alone, is_format, or_none}
 use Rattle.lr_rules.specs.Names.{AreDigits, IsFieldShape, IsStampShape, number_pieces, IsMiddleShape, naming_of, ext_of, base_of, ends_with}
-use Rattle.lr_rules.specs.Path.{path_fault, parent_of, last_of, is_bad, is_slash, is_empty}
+use Rattle.lr_rules.specs.Path.{path_fault, joined, parent_of, last_of, is_bad, is_slash, is_empty}
 use Rattle.lr_rules.proofs.PathLemmas.{parent_joined, last_joined, plain_both}
 use Rattle.lr_stamps.proofs.StampShapes.{numbered_shape}
+use Rattle.lr_host.specs.declared.thing.Thing.TheVariants as thing
 use Rattle.lr_host.specs.Fits.{IsPart}
+use Rattle.lr_host.specs.Opening.{IsJournal}
+use Rattle.lr_host.specs.World.{Past, world, names}
+use Rattle.lr_host.proofs.Looked.{is_nothing, nothing_no_dir}
+use Rattle.lr_laws.specs.Rooted.{IsParted}
+use Rattle.lr_laws.proofs.StandsIn.{stands_in as stands}
 use Rattle.lr_family.specs.Kin.{IsKin, is_barred}
 use Rattle.lr_dated_seen.specs.Family.{IsNoDated}
 
@@ -154,6 +160,14 @@ module _ (log : Path) (n : Naming) (t : ℤ) (k : ℕ) (x : Path) (kin : IsKin l
   -- it stands in the family's directory
   pub stands_in : path_fault n.dir ≡ None → parent_of x ≡ n.dir
   stands_in path = ap parent_of at.named ∙ parent_joined n.dir (name_of n t k x at) path name_plain
+
+  -- which together with its last part is its path
+  parted : path_fault n.dir ≡ None → IsParted x
+  parted path = subst IsParted (sym at.named) (ap (λ (d : Path). joined d (last_of (joined n.dir (name_of n t k x at)))) (parent_joined n.dir (name_of n t k x at) path name_plain) ∙ ap (joined n.dir) (last_joined n.dir (name_of n t k x at) name_plain))
+
+  -- where nothing is at the directory's path, nothing is at the member's
+  pub none_without : path_fault n.dir ≡ None → (p : Past) → IsJournal p → names (world p) n.dir ≡ thing.Nothing → names (world p) x ≡ thing.Nothing
+  none_without path p journal none = is_nothing (names (world p) x) (λ some. nothing_no_dir (names (world p) n.dir) none (ap (names (world p)) (sym (stands_in path)) ∙ stands p x journal (parted path) some))
 
   -- the path has a longer last part than base and extension together
   pub longer : length n.base + length n.ext < length (last_of x)

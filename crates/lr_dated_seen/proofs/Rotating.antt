@@ -1,5 +1,5 @@
 -- The rotation of a dated family, behind looks that saw its log and its members.
-use Rattle.std.proofs.Common.{◌≡◌, ◌≢◌, inl, ⊎_elim, ℕ, ℤ, Bool, true, false, cond, refl, sym, ◌∙◌, ap, subst, List, [], ◌∷◌, map, reverse, Option, Some, None}
+use Rattle.std.proofs.Common.{◌≡◌, ◌≢◌, inl, ℕ, ℤ, Bool, true, false, cond, refl, sym, ◌∙◌, ap, subst, List, [], ◌∷◌, map, reverse, Option, Some, None}
 use Rattle.std.specs.Prelude.{All, int_lt}
 use Rattle.std.proofs.lemmas.List.Elements.{All-head, All-tail, All-weaker}
 use Rattle.lr_rules.specs.declared.clock.Clock.{Clock}
@@ -7,7 +7,6 @@ use Rattle.lr_rules.specs.declared.path.Path.{Path}
 use Rattle.lr_rules.specs.declared.rule.Count.{Count}
 use Rattle.lr_rules.specs.declared.rule.Naming.{Naming}
 use Rattle.lr_rules.specs.Dated.{stamp_key, IsDatedAt}
-use Rattle.lr_rules.specs.Path.{parent_of}
 use Rattle.lr_stamps.specs.Dated.{clock_seconds}
 use Rattle.lr_host.specs.declared.entry.Entry.{Entry}
 use Rattle.lr_host.specs.declared.entry.Entry.TheVariants as entry
@@ -17,7 +16,8 @@ use Rattle.lr_host.specs.declared.thing.Thing.{Thing}
 use Rattle.lr_host.specs.declared.thing.Thing.TheVariants as thing
 use Rattle.lr_host.specs.Fits.{IsFileAt, IsDirectoryAt}
 use Rattle.lr_host.specs.Lists.{IsIn}
-use Rattle.lr_host.specs.Quiet.{ChangeNothing, AreQuiet}
+use Rattle.lr_host.specs.Opening.{IsJournal}
+use Rattle.lr_host.specs.Quiet.{ChangeNothing, AreQuiet, Quiet}
 use Rattle.lr_host.specs.Released.{ByAge}
 use Rattle.lr_host.specs.Runs.{rules_of, SomeRule, has_begun}
 use Rattle.lr_host.specs.Sets.{LogSet, Dated, order}
@@ -26,13 +26,13 @@ use Rattle.lr_host.specs.Steps.{FitAll}
 use Rattle.lr_host.specs.Told.{Made}
 use Rattle.lr_host.specs.World.{Names, Moves, changed, Past, world, names}
 use Rattle.lr_host.proofs.Lists.{from_reverse}
-use Rattle.lr_host.proofs.Looked.{seen_file, seen_dir, seen_none, is_nothing}
-use Rattle.lr_host.proofs.More.{file_more, directory_more, not_more}
+use Rattle.lr_host.proofs.Looked.{seen_file, seen_dir, seen_none, is_nothing, nothing_no_dir}
+use Rattle.lr_host.proofs.More.{file_more, directory_more, dir_before, not_more}
 use Rattle.lr_host.proofs.Quiet.{IsAny, Moment, since_any, quiet_more, quiet_still, moment}
 use Rattle.lr_laws.specs.Rotation.{IsPastAge}
 use Rattle.lr_laws.proofs.Moves.{some_rule}
 use Rattle.lr_family.specs.declared.stand.Member.{Member}
-use Rattle.lr_days.specs.Newest.{IsDayOf, AreDated}
+use Rattle.lr_days.specs.Newest.{IsDayOf, AreDated, AreNewestFirst}
 use Rattle.lr_dated.specs.Forward.{IsForwardFor}
 use Rattle.lr_dated.specs.Stays.{RotatesDated}
 use Rattle.lr_dated.specs.Steps.{Ranked, key_of, dated_rotation}
@@ -44,13 +44,22 @@ use Rattle.lr_chain.specs.Rotation.{is_expired}
 use Rattle.lr_dated_chain.specs.Next.{IsNext}
 use Rattle.lr_dated_chain.specs.Ready.{ranked, renamed, with_one, all_of}
 use Rattle.lr_dated_chain.proofs.Order.{dated_small, all_fall, all_dated}
+use Rattle.lr_rotations.specs.Shown.{SawDir}
 use Rattle.lr_rotations.proofs.Aged.{goes_by_age}
+use Rattle.lr_rotations.proofs.Moments.{quiet_journal}
 use Rattle.lr_dated_seen.specs.Family.{IsNoDated, IsDatedFamily}
-use Rattle.lr_dated_seen.specs.Shown.{SawFile, SawDir, WasSeen, HasNone, IsUnlisted, ShownDated}
+use Rattle.lr_dated_seen.specs.Shown.{SawFile, WasSeen, HasNone, IsUnseen, unlisted, gone, no_dir, ShownDated}
 use Rattle.lr_dated_seen.specs.There.{IsThere, AreDatedThere}
-use Rattle.lr_dated_seen.proofs.Names.{name_of, name_part, stands_in}
+use Rattle.lr_dated_seen.proofs.Names.{name_of, name_part, stands_in, none_without}
 use Rattle.lr_dated_seen.proofs.Picking.{day_of, next_free}
 use Rattle.lr_dated_seen.proofs.Stood.{is_dated, set_stands, moved_files, stand_so, next_serial}
+
+nothing_no_other : (t : Thing) → t ≡ thing.Nothing → t ≡ thing.Other → ⊥
+nothing_no_other t a b = cc
+
+-- a file can come to the path
+abbrev pub HasRoom : Names → Path → Type 0
+HasRoom m x = (m x ≢ thing.Directory) × (m x ≢ thing.Other)
 
 -- ---- what was seen is there still, whatever writers did
 
@@ -66,7 +75,7 @@ module _ (p q : Past) (es : List Entry) (made : Made p es q) (still : ChangeNoth
   pub file_stands : (x : Path) → SawFile x (reverse es) → IsFileAt (names (world q)) x
   file_stands x saw = file_seen x saw.0 saw.1 saw.2
 
-  dir_stands : (x : Path) → SawDir x (reverse es) → IsDirectoryAt (names (world q)) x
+  pub dir_stands : (x : Path) → SawDir x (reverse es) → IsDirectoryAt (names (world q)) x
   dir_stands x saw =
       let t = moment_of (entry.Look x (Some saw.0)) saw.2 in
       directory_more (names (world t.at)) (names (world q)) x (quiet_more IsAny t.at q t.until) (seen_dir (world t.at) (names (world t.at) x) saw.0 t.fits saw.1)
@@ -74,61 +83,51 @@ module _ (p q : Past) (es : List Entry) (made : Made p es q) (still : ChangeNoth
   members_stand : (members : List Member) → All (WasSeen (reverse es)) members → All (IsThere (names (world q))) members
   members_stand members h = All-weaker (WasSeen (reverse es)) (IsThere (names (world q))) (λ m seen. file_seen m.path m.seen seen.0 seen.1) members h
 
-  -- a dated path that was seen to name nothing names nothing but a file
-  module _ (log : Path) (n : Naming) (members : List Member) (family : IsDatedFamily log n) (s : ShownDated n members (reverse es)) (x : Path) (t : ℤ) (k : ℕ) (is : IsDatedAt n t k x) (none : HasNone members x) where
-    was_free : (at : Past) × (names (world at) x ≡ thing.Nothing) × ((thing_is : Thing) → ((g : ℕ) → thing.File g ≡ thing_is → ⊥) → names (world at) x ≢ thing_is → names (world q) x ≢ thing_is)
-    was_free = ⊎_elim unlisted gone (s.others x t k is none)
-      where
-        unlisted : IsUnlisted n.dir s.names x → (at : Past) × (names (world at) x ≡ thing.Nothing) × ((thing_is : Thing) → ((g : ℕ) → thing.File g ≡ thing_is → ⊥) → names (world at) x ≢ thing_is → names (world q) x ≢ thing_is)
-        unlisted absent =
-            let a = moment_of (entry.List n.dir s.names) s.list in (
-              a.at,
-              is_nothing (names (world a.at) x) (λ some. absent (name_of n t k x is) ((a.fits.1.all (name_of n t k x is)).1 (name_part log n t k x family.kin family.format is, subst (λ (y : Path). names (world a.at) y ≢ thing.Nothing) is.named some)) is.named),
-              λ v no_file other. not_more (names (world a.at)) (names (world q)) x v (quiet_more IsAny a.at q a.until) no_file other,
-            )
+  -- what named nothing names nothing but a file
+  still_free : (x : Path) (a : Past) → Quiet IsAny a q → names (world a) x ≡ thing.Nothing → HasRoom (names (world q)) x
+  still_free x a until free = (
+    not_more (names (world a)) (names (world q)) x thing.Directory (quiet_more IsAny a q until) (λ g e. cc) (λ e. nothing_no_dir (names (world a) x) free e),
+    not_more (names (world a)) (names (world q)) x thing.Other (quiet_more IsAny a q until) (λ g e. cc) (λ e. nothing_no_other (names (world a) x) free e),
+  )
 
-        gone : IsIn (entry.Look x None) (reverse es) → (at : Past) × (names (world at) x ≡ thing.Nothing) × ((thing_is : Thing) → ((g : ℕ) → thing.File g ≡ thing_is → ⊥) → names (world at) x ≢ thing_is → names (world q) x ≢ thing_is)
-        gone h =
-            let a = moment_of (entry.Look x None) h in
-            (a.at, seen_none (world a.at) (names (world a.at) x) a.fits, λ v no_file other. not_more (names (world a.at)) (names (world q)) x v (quiet_more IsAny a.at q a.until) no_file other)
+  module _ (log : Path) (n : Naming) (family : IsDatedFamily log n) (x : Path) (t : ℤ) (k : ℕ) (is : IsDatedAt n t k x) where
+    -- so it is of a dated path that was seen to name nothing
+    unseen_free : SawDir n.dir (reverse es) → IsUnseen n.dir x (reverse es) → HasRoom (names (world q)) x
+    unseen_free saw (unlisted listed list absent) =
+        let a = moment_of (entry.List n.dir listed) list in
+        still_free x a.at a.until
+        (is_nothing (names (world a.at) x) (λ some. absent (name_of n t k x is) ((a.fits.1.all (name_of n t k x is)).1 (name_part log n t k x family.kin family.format is, subst (λ (y : Path). names (world a.at) y ≢ thing.Nothing) is.named some)) is.named))
+    unseen_free saw (gone h) = let a = moment_of (entry.Look x None) h in still_free x a.at a.until (seen_none (world a.at) (names (world a.at) x) a.fits)
+    unseen_free saw (no_dir h) =
+        let a = moment_of (entry.Look n.dir None) h in
+        absurd (nothing_no_dir (names (world a.at) n.dir) (seen_none (world a.at) (names (world a.at) n.dir) a.fits) (dir_before (names (world a.at)) (names (world q)) n.dir (quiet_more IsAny a.at q a.until) (dir_stands n.dir saw)))
 
-    no_dir : names (world q) x ≢ thing.Directory
-    no_dir = was_free.2 thing.Directory (λ g e. cc) (λ e. clash (names (world was_free.0) x) was_free.1 e)
-      where
-        clash : (v : Thing) → v ≡ thing.Nothing → v ≡ thing.Directory → ⊥
-        clash v a b = cc
-
-    no_other : names (world q) x ≢ thing.Other
-    no_other = was_free.2 thing.Other (λ g e. cc) (λ e. clash (names (world was_free.0) x) was_free.1 e)
-      where
-        clash : (v : Thing) → v ≡ thing.Nothing → v ≡ thing.Other → ⊥
-        clash v a b = cc
+    -- and of one in a directory that wasn't there
+    pub missing_free : IsJournal p → IsIn (entry.Look n.dir None) (reverse es) → HasRoom (names (world q)) x
+    missing_free journal h =
+        let a = moment_of (entry.Look n.dir None) h in
+        still_free x a.at a.until (none_without log n t k x family.kin family.format is family.dir a.at (quiet_journal IsAny p a.at a.since journal) (seen_none (world a.at) (names (world a.at) n.dir) a.fits))
 
 -- ---- the steps fit
 
-pub fits_behind : (log : Path) (n : Naming) (c : Count) (maxage : Option ℕ) (members : List Member) (target : Path) (now t : ℤ) (serial : ℕ) (p q : Past) (es : List Entry) → IsDatedFamily log n → Made p es q → ChangeNothing es → SawFile log (reverse es) → ShownDated n members (reverse es)
-    → IsNext members t serial → IsDatedAt n t serial target → FitAll (names (world q)) (reverse (dated_rotation c log target (all_of maxage now t serial target members)))
-fits_behind log n c maxage members target now t serial p q es family made still saw s next is = subst (FitAll (names (world q))) (sym (steps_are c log target all))
-    (removals_fit (HasStamp n) (names (world q)) c (entry.Renames log target ∷ []) (one_stamp n family.format) (tt, turn) all 0 (all_fall n maxage now t serial target members s.newest_first next s.named is) (keyed_by n all (all_dated n maxage now t serial target members s.named is))
-    (moved_files log n (names (world q)) members target maxage now t serial family file s.named none (members_stand p q es made still members s.files)))
+-- wherever the log and the members are files, and their directory is there
+pub fits_at : (log : Path) (n : Naming) (c : Count) (maxage : Option ℕ) (members : List Member) (target : Path) (now t : ℤ) (serial : ℕ) (m : Names) → IsDatedFamily log n → AreNewestFirst members → AreDated n members → IsNext members t serial → IsDatedAt n t serial target → IsFileAt m log → HasRoom m target → IsDirectoryAt m n.dir
+    → All (IsThere m) members → FitAll m (reverse (dated_rotation c log target (all_of maxage now t serial target members)))
+fits_at log n c maxage members target now t serial m family newest_first named next is file room dir there = subst (FitAll m) (sym (steps_are c log target all))
+    (removals_fit (HasStamp n) m c (entry.Renames log target ∷ []) (one_stamp n family.format)
+    (tt, (file, room.0, room.1, ap m (stands_in log n t serial target family.kin family.format is family.dir) ∙ dir, λ same. family.apart t serial (subst (IsDatedAt n t serial) (sym same) is))) all 0
+    (all_fall n maxage now t serial target members newest_first next named is) (keyed_by n all (all_dated n maxage now t serial target members named is))
+    (moved_files log n m members target maxage now t serial family file named (next_free n family.format members named t serial next target is) there))
   where
     all : List Ranked
     all = all_of maxage now t serial target members
 
-    file : IsFileAt (names (world q)) log
-    file = file_stands p q es made still log saw
-
-    none : HasNone members target
-    none = next_free n family.format members s.named t serial next target is
-
-    turn : IsFileAt (names (world q)) log × (names (world q) target ≢ thing.Directory) × (names (world q) target ≢ thing.Other) × IsDirectoryAt (names (world q)) (parent_of target) × (log ≢ target)
-    turn = (
-      file,
-      no_dir p q es made still log n members family s target t serial is none,
-      no_other p q es made still log n members family s target t serial is none,
-      ap (names (world q)) (stands_in log n t serial target family.kin family.format is family.dir) ∙ dir_stands p q es made still n.dir s.dir,
-      λ same. family.apart t serial (subst (IsDatedAt n t serial) (sym same) is),
-    )
+pub fits_behind : (log : Path) (n : Naming) (c : Count) (maxage : Option ℕ) (members : List Member) (target : Path) (now t : ℤ) (serial : ℕ) (p q : Past) (es : List Entry) → IsDatedFamily log n → Made p es q → ChangeNothing es → SawFile log (reverse es) → SawDir n.dir (reverse es) → ShownDated n members (reverse es)
+    → IsNext members t serial → IsDatedAt n t serial target → FitAll (names (world q)) (reverse (dated_rotation c log target (all_of maxage now t serial target members)))
+fits_behind log n c maxage members target now t serial p q es family made still saw dir s next is =
+    fits_at log n c maxage members target now t serial (names (world q)) family s.newest_first s.named next is (file_stands p q es made still log saw)
+    (unseen_free p q es made still log n family target t serial is dir (s.others target t serial is (next_free n family.format members s.named t serial next target is)))
+    (dir_stands p q es made still n.dir dir) (members_stand p q es made still members s.files)
 
 -- ---- they are one rotation
 
@@ -160,10 +159,10 @@ old_with s p n t serial target (m ∷ ms) h = go (int_lt (key_of (renamed t seri
     go true r = (h.0, r)
     go false r = ((λ e. absurd (cc e)), h)
 
-pub one_behind : (clock : Clock) (s : LogSet) (c : Count) (maxage : Option ℕ) (members : List Member) (target : Path) (serial : ℕ) (p q : Past) (es : List Entry) → IsDatedFamily s.log s.naming → NoneAttached s q → Made p es q → AreQuiet es → SawFile s.log (reverse es) → ShownDated s.naming members (reverse es)
+pub one_behind : (clock : Clock) (s : LogSet) (c : Count) (maxage : Option ℕ) (members : List Member) (target : Path) (serial : ℕ) (p q : Past) (es : List Entry) → IsDatedFamily s.log s.naming → IsJournal p → NoneAttached s q → Made p es q → AreQuiet es → SawFile s.log (reverse es) → ShownDated s.naming members (reverse es)
     → IsNext members (clock_seconds s.naming.dated clock) serial → IsDatedAt s.naming (clock_seconds s.naming.dated clock) serial target → has_begun s q ≡ false → IsForwardFor clock s q → (world q).now ≡ clock.now.seconds → SomeRule (rules_of q) s.log (λ r. (r.count ≡ c) × (r.maxage ≡ maxage))
     → RotatesDated (dated_rotation c s.log target (all_of maxage clock.now.seconds (clock_seconds s.naming.dated clock) serial target members)) s q
-one_behind clock s c maxage members target serial p q es family attached made quiet saw shown next is nb forward now_is rule =
+one_behind clock s c maxage members target serial p q es family journal attached made quiet saw shown next is nb forward now_is rule =
     is_one s q c target (all_of maxage clock.now.seconds t serial target members) t serial dated nb is
     (moment_forward s q t serial dated (forward dated) (next_serial s.naming (names (world q)) members t serial family.format there next) (dated_small s.naming t serial target is))
     (stand_so s.log s.naming (names (world q)) members target maxage clock.now.seconds t serial family (file_stands p q es made still s.log saw) there next is)
@@ -181,7 +180,7 @@ one_behind clock s c maxage members target serial p q es family attached made qu
     still = quiet_still es quiet
 
     there : AreDatedThere s.naming (names (world q)) members
-    there = set_stands s members p q es family attached made still shown
+    there = set_stands s members p q es family journal attached made still shown
 
     none : HasNone members target
     none = next_free s.naming family.format members shown.named t serial next target is

@@ -14,7 +14,7 @@ use Rattle.lr_host.specs.declared.thing.Seen.{Seen}
 use Rattle.lr_host.specs.Lists.{IsIn}
 use Rattle.lr_host.specs.Looks.{Sees, IsDir, IsFileOrGone}
 use Rattle.lr_host.specs.Told.{Then}
-use Rattle.lr_host.proofs.Lists.{in_from, in_to, in_map, in_unmap, in_front, in_back}
+use Rattle.lr_host.proofs.Lists.{in_from, in_to, in_map, in_unmap, in_back}
 use Rattle.lr_family.specs.declared.stand.Member.{Member}
 use Rattle.lr_family.specs.Listed.{HasListed, ShowsListing}
 use Rattle.lr_days.specs.declared.day.Day.{Day}
@@ -24,7 +24,7 @@ use Rattle.lr_days.specs.Looks.{Glance, look_of, seen_at, member_of, AreFilesOrG
 use Rattle.lr_days.specs.Newest.{AreDated}
 use Rattle.lr_days.proofs.Glances.{seen_are_dated}
 use Rattle.lr_days.proofs.Whole.{dated_sorted}
-use Rattle.lr_dated_seen.specs.Shown.{SawDir, WasSeen, HasNone, IsUnlisted, ShownDated}
+use Rattle.lr_dated_seen.specs.Shown.{WasSeen, HasNone, IsUnlisted, IsUnseen, unlisted, gone, ShownDated}
 use Rattle.lr_dated_seen.proofs.Picking.{not_none}
 
 -- ---- looks, one by one
@@ -71,56 +71,42 @@ member_at g seen (h ∷ hs) (inr i) e = let r = member_at g seen hs i e in (r.0,
 
 -- ---- all together
 
-module _ (n : Naming) (listed names : List (List ℕ)) (members : List Member) (ts all : List Entry) (dir : SawDir n.dir all) (same : IsPermutation listed names) (list : IsIn (entry.List n.dir listed) all) (more : (e : Entry) → IsIn e ts → IsIn e all) (s : StandsAmong n names members ts) where
+module _ (n : Naming) (listed names : List (List ℕ)) (members : List Member) (ts all : List Entry) (same : IsPermutation listed names) (list : IsIn (entry.List n.dir listed) all) (more : (e : Entry) → IsIn e ts → IsIn e all) (s : StandsAmong n names members ts) where
   looked : (g : Glance) → IsIn g s.looks.glances → IsIn (look_of g) all
   looked g i = more (look_of g) (subst (IsIn (look_of g)) (sym s.looks.looks) (in_map look_of g s.looks.glances i))
 
   dated : AreDated n members
   dated = dated_sorted n s.shown members s.each (seen_are_dated n s.days s.shown s.days_are.has.stamps (record { glances = s.looks.glances; each = s.looks.each; members_are = s.looks.members_are }))
 
-  others : (x : Path) (t : ℤ) (k : ℕ) → IsDatedAt n t k x → HasNone members x → IsUnlisted n.dir listed x ⊎ IsIn (entry.Look x None) all
-  others x t k is none = ⊎_elim (λ h. inr (gone h.0 h.1 h.2 h.0.seen refl)) (λ never. inl (unlisted never)) (at_or_none x s.looks.glances)
+  others : (x : Path) (t : ℤ) (k : ℕ) → IsDatedAt n t k x → HasNone members x → IsUnseen n.dir x all
+  others x t k is none = ⊎_elim (λ h. gone (saw_none h.0 h.1 h.2 h.0.seen refl)) (λ never. unlisted listed list (never_listed never)) (at_or_none x s.looks.glances)
     where
-      gone : (g : Glance) → IsIn g s.looks.glances → g.day.path ≡ x → (o : Option Seen) → g.seen ≡ o → IsIn (entry.Look x None) all
-      gone g i at None e = subst (λ (y : Path). IsIn (entry.Look y None) all) at (subst (λ (o : Option Seen). IsIn (entry.Look g.day.path o) all) e (looked g i))
-      gone g i at (Some seen) e =
+      saw_none : (g : Glance) → IsIn g s.looks.glances → g.day.path ≡ x → (o : Option Seen) → g.seen ≡ o → IsIn (entry.Look x None) all
+      saw_none g i at None e = subst (λ (y : Path). IsIn (entry.Look y None) all) at (subst (λ (o : Option Seen). IsIn (entry.Look g.day.path o) all) e (looked g i))
+      saw_none g i at (Some seen) e =
           let m = member_at g seen s.looks.glances i e in
           absurd (not_none x m.0 members none (in_from m.0 members (Contains-permutation s.shown members m.0 s.each (in_to m.0 s.shown (subst (IsIn m.0) (sym s.looks.members_are) m.1)))) (m.2 ∙ at))
 
-      unlisted : ((g : Glance) → IsIn g s.looks.glances → g.day.path ≡ x → ⊥) → IsUnlisted n.dir listed x
-      unlisted never name c named =
+      never_listed : ((g : Glance) → IsIn g s.looks.glances → g.day.path ≡ x → ⊥) → IsUnlisted n.dir listed x
+      never_listed never name c named =
           let a : IsAmong s.days x = (s.days_are.has.all x).1 (record { member = (t, k, is); name = name; listed = Contains-permutation listed names name same c; named = named }) in
           let g = in_unmap (λ (h : Glance). h.day) a.0 s.looks.glances (subst (IsIn a.0) (sym s.looks.each) (in_from a.0 s.days a.1)) in
           never g.0 g.1 (ap (λ (d : Day). d.path) g.2 ∙ a.2)
 
   among_shown : ShownDated n members all
   among_shown = record {
-    dir = dir;
-    names = listed;
-    list = list;
     newest_first = s.newest_first;
     named = dated;
     files = All-permutation (WasSeen all) s.shown members s.each (subst (All (WasSeen all)) (sym s.looks.members_are) (seen_all all s.looks.glances s.looks.files looked));
     others = others;
   }
 
-pub members_shown : (n : Naming) (listed names : List (List ℕ)) (members : List Member) (ts all : List Entry) → SawDir n.dir all → IsPermutation listed names → IsIn (entry.List n.dir listed) all → ((e : Entry) → IsIn e ts → IsIn e all) → ShowsMembers n true names members ts → ShownDated n members all
-members_shown n listed names members ts all dir same list more s = among_shown n listed names members ts all dir same list more s
-
-dir_seen : (x : Path) (ts : List Entry) → Sees x IsDir ts → SawDir x ts
-dir_seen x ts s = go s.seen s.is s.look
-  where
-    go : (o : Option Seen) → IsDir o → ts ≡ entry.Look x o ∷ [] → SawDir x ts
-    go None d e = absurd d
-    go (Some seen) d e = (seen, d, subst (IsIn (entry.Look x (Some seen))) (sym e) (inl refl))
+pub members_shown : (n : Naming) (listed names : List (List ℕ)) (members : List Member) (ts all : List Entry) → IsPermutation listed names → IsIn (entry.List n.dir listed) all → ((e : Entry) → IsIn e ts → IsIn e all) → ShowsMembers n true names members ts → ShownDated n members all
+members_shown n listed names members ts all same list more s = among_shown n listed names members ts all same list more s
 
 pub stand_shown : (n : Naming) (parent : Bool) (names : List (List ℕ)) (members : List Member) (us ts all : List Entry) → ((e : Entry) → IsIn e us → IsIn e all) → ((e : Entry) → IsIn e ts → IsIn e all) → ShowsListing n.dir true parent names us → ShowsMembers n true names members ts → ShownDated n members all
-stand_shown n parent names members us ts all before behind h s = members_shown n t.second.listed names members ts all
-    (d.0, d.1, before _ (subst (IsIn (entry.Look n.dir (Some d.0))) (sym t.joined) (in_front _ t.front t.back d.2))) t.second.same
+stand_shown n parent names members us ts all before behind h s = members_shown n t.second.listed names members ts all t.second.same
     (before _ (subst (IsIn (entry.List n.dir t.second.listed)) (sym t.joined) (in_back _ t.front t.back (subst (IsIn (entry.List n.dir t.second.listed)) (sym t.second.list) (inl refl))))) behind s
   where
     t : Then (Sees n.dir IsDir) (HasListed n.dir names) us
     t = h.1
-
-    d : SawDir n.dir t.front
-    d = dir_seen n.dir t.front t.first

@@ -1,5 +1,5 @@
 -- The members that were seen stand, and no other does; so the log and they stand as its rotation asks for.
-use Rattle.std.proofs.Common.{◌≡◌, ◌≢◌, ◌⊎◌, inl, inr, ⊎_elim, ℕ, ℤ, ◌<◌, Bool, true, false, cond, refl, sym, ◌∙◌, ap, subst, List, [], ◌∷◌, map, reverse, Option, Some, None}
+use Rattle.std.proofs.Common.{◌≡◌, ◌≢◌, ◌⊎◌, inl, inr, ⊎_elim, ℕ, ℤ, ◌<◌, Bool, true, false, cond, refl, sym, ◌∙◌, subst, List, [], ◌∷◌, map, reverse, Option, Some, None}
 use Rattle.std.specs.Prelude.{All, int_lt, IsSome}
 use Rattle.std.proofs.lemmas.List.Elements.{All-head, All-tail, All-cons, All-nil}
 use Rattle.lr_rules.specs.declared.path.Path.{Path}
@@ -10,8 +10,9 @@ use Rattle.lr_rules.specs.Limits.{is_format, or_none}
 use Rattle.lr_host.specs.declared.entry.Entry.{Entry}
 use Rattle.lr_host.specs.declared.entry.Entry.TheVariants as entry
 use Rattle.lr_host.specs.declared.thing.Thing.TheVariants as thing
-use Rattle.lr_host.specs.Fits.{IsFileAt, IsDirectoryAt}
+use Rattle.lr_host.specs.Fits.{IsFileAt}
 use Rattle.lr_host.specs.Lists.{IsIn}
+use Rattle.lr_host.specs.Opening.{IsJournal}
 use Rattle.lr_host.specs.Quiet.{ChangeNothing, Quiet}
 use Rattle.lr_host.specs.Sets.{LogSet, Dated, order, order_of}
 use Rattle.lr_host.specs.Steady.{NoneAttached, IsKeyless}
@@ -19,9 +20,8 @@ use Rattle.lr_host.specs.Told.{Made}
 use Rattle.lr_host.specs.World.{Names, put, Moves, changed, Past, world, names}
 use Rattle.lr_host.proofs.Lists.{from_reverse}
 use Rattle.lr_host.proofs.Looked.{seen_file, seen_none, is_nothing, nothing_no_file}
-use Rattle.lr_host.proofs.More.{directory_more, dir_before}
 use Rattle.lr_host.proofs.Names.{put_here}
-use Rattle.lr_host.proofs.Quiet.{moment, since_as, since_of, quiet_more, quiet_same}
+use Rattle.lr_host.proofs.Quiet.{moment, since_as, since_of, quiet_same}
 use Rattle.lr_family.specs.declared.stand.Member.{Member}
 use Rattle.lr_days.specs.Newest.{IsDayOf, AreDated}
 use Rattle.lr_dated.specs.Forward.{IsNextSerial}
@@ -32,10 +32,11 @@ use Rattle.lr_dated_chain.specs.Next.{IsNext}
 use Rattle.lr_dated_chain.specs.Ready.{ranked, renamed, with_one, all_of}
 use Rattle.lr_dated_chain.proofs.Newest.{one_in, IsStamp}
 use Rattle.lr_dated_chain.proofs.Order.{all_fall, all_dated}
+use Rattle.lr_rotations.proofs.Moments.{quiet_journal}
 use Rattle.lr_dated_seen.specs.Family.{IsNoDated, IsDatedFamily}
-use Rattle.lr_dated_seen.specs.Shown.{WasSeen, HasNone, IsUnlisted, ShownDated}
+use Rattle.lr_dated_seen.specs.Shown.{WasSeen, HasNone, IsUnseen, unlisted, gone, no_dir, ShownDated}
 use Rattle.lr_dated_seen.specs.There.{NoDatedAttached, IsThere, AreDatedThere}
-use Rattle.lr_dated_seen.proofs.Names.{name_of, name_part, stands_in}
+use Rattle.lr_dated_seen.proofs.Names.{name_of, name_part, none_without}
 use Rattle.lr_dated_seen.proofs.Picking.{has_or_none, day_of, lower, next_free, stamped, there_at}
 
 -- ---- what was seen
@@ -48,15 +49,13 @@ IsAlike n a r = (x : Path) (t : ℤ) (k : ℕ) → IsDatedAt n t k x → names (
 quiet_days : (n : Naming) (p q : Past) → Quiet (IsNoDated n) p q → IsAlike n p q
 quiet_days n p q quiet x t k is = quiet_same (IsNoDated n) p q x quiet (λ none. none t k is)
 
-found : (log : Path) (n : Naming) (members : List Member) (p q r : Past) (es : List Entry) → IsDatedFamily log n → NoDatedAttached n p q → Made p es q → ChangeNothing es → ShownDated n members (reverse es)
-    → ((a : Past) → Quiet (IsNoDated n) p a → Quiet (IsNoDated n) a q → IsAlike n a r)
-    → ((a : Past) → Quiet (IsNoDated n) p a → Quiet (IsNoDated n) a q → IsDirectoryAt (names (world a)) n.dir → IsDirectoryAt (names (world r)) n.dir) → AreDatedThere n (names (world r)) members
-found log n members p q r es family none made still s same dir = record {
-  dir = let t = moment (IsNoDated n) p q (entry.List n.dir s.names) es none made still (from_reverse _ es s.list) in dir t.at t.since t.until t.fits.0;
+found : (log : Path) (n : Naming) (members : List Member) (p q r : Past) (es : List Entry) → IsDatedFamily log n → IsJournal p → NoDatedAttached n p q → Made p es q → ChangeNothing es → ShownDated n members (reverse es)
+    → ((a : Past) → Quiet (IsNoDated n) p a → Quiet (IsNoDated n) a q → IsAlike n a r) → AreDatedThere n (names (world r)) members
+found log n members p q r es family journal none made still s same = record {
   newest_first = s.newest_first;
   named = s.named;
   files = all_there members s.named s.files;
-  others = λ x t k is out. ⊎_elim (λ absent. unlisted x t k is absent) (λ h. gone x t k is h) (s.others x t k is out);
+  others = λ x t k is out. unseen x t k is (s.others x t k is out);
 }
   where
     there : (m : Member) (t : ℤ) (k : ℕ) → IsDatedAt n t k m.path → WasSeen (reverse es) m → IsThere (names (world r)) m
@@ -71,26 +70,26 @@ found log n members p q r es family none made still s same dir = record {
         let y = day_of n (m ∷ ms) m d (inl refl) in
         All-cons (IsThere (names (world r))) m ms (there m y.0 y.1 y.3 (All-head (WasSeen (reverse es)) m ms h)) (all_there ms (All-tail (λ (m : Member). IsDayOf n m.place m.path) m ms d) (All-tail (WasSeen (reverse es)) m ms h))
 
-    gone : (x : Path) (t : ℤ) (k : ℕ) → IsDatedAt n t k x → IsIn (entry.Look x None) (reverse es) → names (world r) x ≡ thing.Nothing
-    gone x t k is h =
+    unseen : (x : Path) (t : ℤ) (k : ℕ) → IsDatedAt n t k x → IsUnseen n.dir x (reverse es) → names (world r) x ≡ thing.Nothing
+    unseen x t k is (gone h) =
         let a = moment (IsNoDated n) p q (entry.Look x None) es none made still (from_reverse _ es h) in
         same a.at a.since a.until x t k is ∙ seen_none (world a.at) (names (world a.at) x) a.fits
-
-    unlisted : (x : Path) (t : ℤ) (k : ℕ) → IsDatedAt n t k x → IsUnlisted n.dir s.names x → names (world r) x ≡ thing.Nothing
-    unlisted x t k is absent =
-        let a = moment (IsNoDated n) p q (entry.List n.dir s.names) es none made still (from_reverse _ es s.list) in
+    unseen x t k is (no_dir h) =
+        let a = moment (IsNoDated n) p q (entry.Look n.dir None) es none made still (from_reverse _ es h) in
+        same a.at a.since a.until x t k is
+        ∙ none_without log n t k x family.kin family.format is family.dir a.at (quiet_journal (IsNoDated n) p a.at a.since journal) (seen_none (world a.at) (names (world a.at) n.dir) a.fits)
+    unseen x t k is (unlisted listed list absent) =
+        let a = moment (IsNoDated n) p q (entry.List n.dir listed) es none made still (from_reverse _ es list) in
         same a.at a.since a.until x t k is
         ∙ is_nothing (names (world a.at) x) (λ some. absent (name_of n t k x is) ((a.fits.1.all (name_of n t k x is)).1 (name_part log n t k x family.kin family.format is, subst (λ (y : Path). names (world a.at) y ≢ thing.Nothing) is.named some)) is.named)
 
 -- they stood before these entries
-pub stood_before : (log : Path) (n : Naming) (members : List Member) (p q : Past) (es : List Entry) → IsDatedFamily log n → NoDatedAttached n p q → Made p es q → ChangeNothing es → ShownDated n members (reverse es) → AreDatedThere n (names (world p)) members
-stood_before log n members p q es family none made still s = found log n members p q p es family none made still s
-    (λ a since until x t k is. sym (quiet_days n p a since x t k is)) (λ a since until d. dir_before (names (world p)) (names (world a)) n.dir (quiet_more (IsNoDated n) p a since) d)
+pub stood_before : (log : Path) (n : Naming) (members : List Member) (p q : Past) (es : List Entry) → IsDatedFamily log n → IsJournal p → NoDatedAttached n p q → Made p es q → ChangeNothing es → ShownDated n members (reverse es) → AreDatedThere n (names (world p)) members
+stood_before log n members p q es family journal none made still s = found log n members p q p es family journal none made still s (λ a since until x t k is. sym (quiet_days n p a since x t k is))
 
 -- and stand behind them
-pub stand_behind : (log : Path) (n : Naming) (members : List Member) (p q : Past) (es : List Entry) → IsDatedFamily log n → NoDatedAttached n p q → Made p es q → ChangeNothing es → ShownDated n members (reverse es) → AreDatedThere n (names (world q)) members
-stand_behind log n members p q es family none made still s = found log n members p q q es family none made still s
-    (λ a since until x t k is. quiet_days n a q until x t k is) (λ a since until d. directory_more (names (world a)) (names (world q)) n.dir (quiet_more (IsNoDated n) a q until) d)
+pub stand_behind : (log : Path) (n : Naming) (members : List Member) (p q : Past) (es : List Entry) → IsDatedFamily log n → IsJournal p → NoDatedAttached n p q → Made p es q → ChangeNothing es → ShownDated n members (reverse es) → AreDatedThere n (names (world q)) members
+stand_behind log n members p q es family journal none made still s = found log n members p q q es family journal none made still s (λ a since until x t k is. quiet_days n a q until x t k is)
 
 -- ---- of a set
 
@@ -101,8 +100,8 @@ order_dated (Some f) h = refl
 pub is_dated : (s : LogSet) → IsDatedFamily s.log s.naming → order s ≡ Dated
 is_dated s family = order_dated s.naming.dated family.dated
 
-pub set_stands : (s : LogSet) (members : List Member) (p q : Past) (es : List Entry) → IsDatedFamily s.log s.naming → NoneAttached s q → Made p es q → ChangeNothing es → ShownDated s.naming members (reverse es) → AreDatedThere s.naming (names (world q)) members
-set_stands s members p q es family none made still = stand_behind s.log s.naming members p q es family (since_as (IsKeyless s) (IsNoDated s.naming) p q no_member (since_of (IsKeyless s) p q es made none)) made still
+pub set_stands : (s : LogSet) (members : List Member) (p q : Past) (es : List Entry) → IsDatedFamily s.log s.naming → IsJournal p → NoneAttached s q → Made p es q → ChangeNothing es → ShownDated s.naming members (reverse es) → AreDatedThere s.naming (names (world q)) members
+set_stands s members p q es family journal none made still = stand_behind s.log s.naming members p q es family journal (since_as (IsKeyless s) (IsNoDated s.naming) p q no_member (since_of (IsKeyless s) p q es made none)) made still
   where
     clash : (o : Option ℤ) (k : ℤ) → o ≡ Some k → o ≡ None → ⊥
     clash o k a b = cc
@@ -153,7 +152,6 @@ pub stand_so : (log : Path) (n : Naming) (m : Names) (members : List Member) (ta
 stand_so log n m members target maxage now t serial family file here next is = record {
   log_file = file;
   free = here.others target t serial is none;
-  dir = ap m (stands_in log n t serial target family.kin family.format is family.dir) ∙ here.dir;
   falling = all_fall n maxage now t serial target members here.newest_first next here.named is;
   named = all_dated n maxage now t serial target members here.named is;
   files = moved_files log n m members target maxage now t serial family file here.named none here.files;

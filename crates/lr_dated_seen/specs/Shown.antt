@@ -1,5 +1,5 @@
 -- What looks show of the members of a dated family, wherever they stand among others.
-use Rattle.std.specs.Prelude.{◌≡◌, ◌⊎◌, ℕ, ℤ, List, map, All, Contains, Some, None}
+use Rattle.std.specs.Prelude.{◌≡◌, ℕ, ℤ, List, map, All, Contains, Some, None}
 use Rattle.lr_rules.specs.declared.path.Path.{Path}
 use Rattle.lr_rules.specs.declared.rule.Naming.{Naming}
 use Rattle.lr_rules.specs.Dated.{IsDatedAt}
@@ -16,10 +16,6 @@ use Rattle.lr_days.specs.Newest.{AreDated, AreNewestFirst}
 abbrev pub SawFile : Path → List Entry → Type 0
 SawFile x ts = (seen : Seen) × (seen.kind ≡ kind.File) × IsIn (entry.Look x (Some seen)) ts
 
--- a look at the path saw a directory
-abbrev pub SawDir : Path → List Entry → Type 0
-SawDir x ts = (seen : Seen) × (seen.kind ≡ kind.Dir) × IsIn (entry.Look x (Some seen)) ts
-
 -- a look saw the member as it says, a regular file
 abbrev pub WasSeen : List Entry → Member → Type 0
 WasSeen ts m = (m.seen.kind ≡ kind.File) × IsIn (entry.Look m.path (Some m.seen)) ts
@@ -32,12 +28,15 @@ HasNone members x = IsNotIn x (map (λ m. m.path) members)
 abbrev pub IsUnlisted : Path → List (List ℕ) → Path → Type 0
 IsUnlisted dir names x = (name : List ℕ) → Contains names name → x ≡ joined dir name → ⊥
 
--- Looks among these entries, in any order, show that these dated members stand, each a regular file, the newest first, and that no other does: the directory was listed, and each other member isn't in the list, or a look at it saw nothing.
+-- The looks show that nothing has the path, of a member in this directory: that was listed, and the path isn't in the list; or a look at the path saw nothing; or one at the directory did.
+pub data IsUnseen (dir x : Path) (ts : List Entry) : Type 0 where
+  unlisted : (names : List (List ℕ)) → IsIn (entry.List dir names) ts → IsUnlisted dir names x → IsUnseen dir x ts
+  gone : IsIn (entry.Look x None) ts → IsUnseen dir x ts
+  no_dir : IsIn (entry.Look dir None) ts → IsUnseen dir x ts
+
+-- Looks among these entries, in any order, show that these dated members stand, each a regular file, the newest first, and that no other does.
 pub record ShownDated (n : Naming) (members : List Member) (ts : List Entry) : Type 0 where
-  pub dir : SawDir n.dir ts
-  pub names : List (List ℕ)
-  pub list : IsIn (entry.List n.dir names) ts
   pub newest_first : AreNewestFirst members
   pub named : AreDated n members
   pub files : All (WasSeen ts) members
-  pub others : (x : Path) (seconds : ℤ) (serial : ℕ) → IsDatedAt n seconds serial x → HasNone members x → IsUnlisted n.dir names x ⊎ IsIn (entry.Look x None) ts
+  pub others : (x : Path) (seconds : ℤ) (serial : ℕ) → IsDatedAt n seconds serial x → HasNone members x → IsUnseen n.dir x ts

@@ -5,7 +5,7 @@ use Rattle.lr_rules.specs.declared.rule.Naming.{Naming}
 use Rattle.lr_rules.specs.Dated.{IsDatedAt}
 use Rattle.lr_host.specs.declared.thing.Thing.TheVariants as thing
 use Rattle.lr_host.specs.World.{Names, Past}
-use Rattle.lr_host.specs.Fits.{IsFileAt, IsDirectoryAt}
+use Rattle.lr_host.specs.Fits.{IsFileAt}
 use Rattle.lr_host.specs.Quiet.{AttachedOnlySince}
 use Rattle.lr_family.specs.declared.stand.Member.{Member}
 use Rattle.lr_days.specs.Newest.{AreDated, AreNewestFirst}
@@ -20,9 +20,8 @@ NoDatedAttached n p q = AttachedOnlySince (IsNoDated n) p q
 abbrev pub IsThere : Names → Member → Type 0
 IsThere m member = IsFileAt m member.path
 
--- Under these names just these members of the dated family stand, the newest first, each a regular file; no other member's path names anything, and their directory is there.
+-- Under these names just these members of the dated family stand, the newest first, each a regular file; no other member's path names anything.
 pub record AreDatedThere (n : Naming) (m : Names) (members : List Member) : Type 0 where
-  pub dir : IsDirectoryAt m n.dir
   pub newest_first : AreNewestFirst members
   pub named : AreDated n members
   pub files : All (IsThere m) members

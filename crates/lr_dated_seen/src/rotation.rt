@@ -8,6 +8,7 @@ ghost use Rattle.lr_rules.specs.Dated.{IsDatedAt};
 ghost use Rattle.lr_stamps.specs.Dated.{clock_seconds};
 ghost use Rattle.lr_host.specs.declared.entry.Entry.{Entry};
 ghost use Rattle.lr_host.specs.World.{Past, world, names};
+ghost use Rattle.lr_host.specs.Opening.{IsJournal};
 ghost use Rattle.lr_host.specs.Told.{Made};
 ghost use Rattle.lr_host.specs.Quiet.{ChangeNothing, AreQuiet};
 ghost use Rattle.lr_host.specs.Runs.{rules_of, SomeRule, has_begun};
@@ -21,6 +22,7 @@ ghost use Rattle.lr_dated.specs.Steps.{dated_rotation};
 ghost use Rattle.lr_dated_chain.specs.Next.{IsNext};
 ghost use Rattle.lr_dated_chain.specs.Ready.{all_of};
 ghost use Rattle.lr_dated_seen.specs.Family.{IsDatedFamily};
+ghost use Rattle.lr_rotations.specs.Shown.{SawDir};
 ghost use Rattle.lr_dated_seen.specs.Shown.{SawFile, ShownDated};
 
 /// Behind looks of a run that saw the log and its members, where the run has begun no rotation of the set, the rotation to
@@ -29,7 +31,7 @@ ghost use Rattle.lr_dated_seen.specs.Shown.{SawFile, ShownDated};
 /// age, before the run's moment, which is the clock's.
 pub fn seen_rotation_is_one()
     ensures { (clock : Clock) (s : LogSet) (c : Count) (maxage : Option ℕ) (members : List Member) (target : Path) (serial : ℕ)
-        (p q : Past) (es : List Entry) → IsDatedFamily s.log s.naming → NoneAttached s q → Made p es q → AreQuiet es
+        (p q : Past) (es : List Entry) → IsDatedFamily s.log s.naming → IsJournal p → NoneAttached s q → Made p es q → AreQuiet es
         → SawFile s.log (reverse es) → ShownDated s.naming members (reverse es)
         → IsNext members (clock_seconds s.naming.dated clock) serial
         → IsDatedAt s.naming (clock_seconds s.naming.dated clock) serial target
@@ -38,10 +40,10 @@ pub fn seen_rotation_is_one()
         → RotatesDated (dated_rotation c s.log target (all_of maxage clock.now.seconds (clock_seconds s.naming.dated clock) serial target members)) s q }
 {}
 
-/// Its steps fit one after another, whatever writers did meanwhile.
+/// Where the directory was seen, its steps fit one after another, whatever writers did meanwhile.
 pub fn seen_rotation_fits()
     ensures { (log : Path) (n : Naming) (c : Count) (maxage : Option ℕ) (members : List Member) (target : Path) (now seconds : ℤ)
         (serial : ℕ) (p q : Past) (es : List Entry) → IsDatedFamily log n → Made p es q → ChangeNothing es → SawFile log (reverse es)
-        → ShownDated n members (reverse es) → IsNext members seconds serial → IsDatedAt n seconds serial target
+        → SawDir n.dir (reverse es) → ShownDated n members (reverse es) → IsNext members seconds serial → IsDatedAt n seconds serial target
         → FitAll (names (world q)) (reverse (dated_rotation c log target (all_of maxage now seconds serial target members))) }
 {}

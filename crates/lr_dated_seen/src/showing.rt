@@ -8,12 +8,12 @@ ghost use Rattle.lr_host.specs.Lists.{IsIn};
 ghost use Rattle.lr_family.specs.declared.stand.Member.{Member};
 ghost use Rattle.lr_family.specs.Listed.{ShowsListing};
 ghost use Rattle.lr_days.specs.Among.{ShowsMembers};
-ghost use Rattle.lr_dated_seen.specs.Shown.{SawDir, ShownDated};
+ghost use Rattle.lr_dated_seen.specs.Shown.{ShownDated};
 
-/// Where the directory was seen and listed anywhere among all entries, the looks at the members among its names, which
+/// Where the directory was listed anywhere among all entries, the looks at the members among its names, which
 /// stand anywhere too, show those members.
 pub fn looks_show_members()
-    ensures { (n : Naming) (listed names : List (List ℕ)) (members : List Member) (ts all : List Entry) → SawDir n.dir all
+    ensures { (n : Naming) (listed names : List (List ℕ)) (members : List Member) (ts all : List Entry)
         → IsPermutation listed names → IsIn (entry.List n.dir listed) all → ((e : Entry) → IsIn e ts → IsIn e all)
         → ShowsMembers n true names members ts → ShownDated n members all }
 {}

@@ -7,6 +7,7 @@ ghost use Rattle.lr_rules.specs.Dated.{IsDatedAt};
 ghost use Rattle.lr_host.specs.declared.entry.Entry.{Entry};
 ghost use Rattle.lr_host.specs.World.{Names, Past, world, names};
 ghost use Rattle.lr_host.specs.Fits.{IsFileAt};
+ghost use Rattle.lr_host.specs.Opening.{IsJournal};
 ghost use Rattle.lr_host.specs.Told.{Made};
 ghost use Rattle.lr_host.specs.Quiet.{ChangeNothing};
 ghost use Rattle.lr_host.specs.Sets.{LogSet};
@@ -20,17 +21,17 @@ ghost use Rattle.lr_dated_seen.specs.Family.{IsDatedFamily};
 ghost use Rattle.lr_dated_seen.specs.Shown.{ShownDated};
 ghost use Rattle.lr_dated_seen.specs.There.{NoDatedAttached, AreDatedThere};
 
-/// Where the tool changed nothing and no writer was attached to a member, the members that were seen are just those that
+/// In a journal, where the tool changed nothing and no writer was attached to a member, the members that were seen are just those that
 /// stood before these entries and that stand behind them; so it is for a set.
 pub fn shown_members_stand()
     ensures before { (log : Path) (n : Naming) (members : List Member) (p q : Past) (es : List Entry) → IsDatedFamily log n
-        → NoDatedAttached n p q → Made p es q → ChangeNothing es → ShownDated n members (reverse es)
+        → IsJournal p → NoDatedAttached n p q → Made p es q → ChangeNothing es → ShownDated n members (reverse es)
         → AreDatedThere n (names (world p)) members }
     ensures behind { (log : Path) (n : Naming) (members : List Member) (p q : Past) (es : List Entry) → IsDatedFamily log n
-        → NoDatedAttached n p q → Made p es q → ChangeNothing es → ShownDated n members (reverse es)
+        → IsJournal p → NoDatedAttached n p q → Made p es q → ChangeNothing es → ShownDated n members (reverse es)
         → AreDatedThere n (names (world q)) members }
     ensures set { (s : LogSet) (members : List Member) (p q : Past) (es : List Entry) → IsDatedFamily s.log s.naming
-        → NoneAttached s q → Made p es q → ChangeNothing es → ShownDated s.naming members (reverse es)
+        → IsJournal p → NoneAttached s q → Made p es q → ChangeNothing es → ShownDated s.naming members (reverse es)
         → AreDatedThere s.naming (names (world q)) members }
 {}
 

@@ -58,13 +58,13 @@ module _ (paths : List Path) (log : Path) (n : Naming) (c : Count) (maxage : Opt
 
   -- the members that were seen stood as the run began
   pub seen_members : AreDatedThere n (names (world p)) members
-  seen_members = stood_before log n members p v (reverse front) family b.attached_first b.first b.still shown
+  seen_members = stood_before log n members p v (reverse front) family journal b.attached_first b.first b.still shown
 
   file : IsFileAt (names (world v)) log
   file = file_stands p v (reverse front) b.first b.still log (subst (SawFile log) (sym (reverse-reverse front)) over.log_seen)
 
   stands : StandSo n log target (all_of maxage now seconds serial target members) (names (world v))
-  stands = stand_so log n (names (world v)) members target maxage now seconds serial family file (stand_behind log n members p v (reverse front) family b.attached_first b.first b.still shown) next is
+  stands = stand_so log n (names (world v)) members target maxage now seconds serial family file (stand_behind log n members p v (reverse front) family journal b.attached_first b.first b.still shown) next is
 
   woven : Weave (IsBeside paths log) (dated_rotation c log target (all_of maxage now seconds serial target members)) (filter is_disk_change (reverse (reverse back)))
   woven = subst (λ es. Weave (IsBeside paths log) (dated_rotation c log target all) (filter is_disk_change es)) (sym (reverse-reverse back)) over.changes

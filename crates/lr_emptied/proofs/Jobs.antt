@@ -15,14 +15,14 @@ use Rattle.lr_copy.specs.declared.job.Job.{Job}
 use Rattle.lr_plan.specs.declared.looks.LogLook.{LogLook}
 use Rattle.lr_plan.specs.declared.looks.SetLooks.{SetLooks}
 use Rattle.lr_plan.specs.declared.planned.LogPlan.{LogPlan}
-use Rattle.lr_plan.specs.Planned.{job_by, ready_for, log_plan, none_hinders, hindrances, plans_of, where_due, log_plans, all_plans}
+use Rattle.lr_plan.specs.Planned.{job_by, standing, ready_for, log_plan, none_hinders, hindrances, plans_of, where_due, log_plans, all_plans}
 use Rattle.lr_emptied.specs.Jobs.{job_in, jobs_in, jobs_of, AsksFor, IsAskedFor}
 
 -- of one log
-by_look : (clock : Clock) (mailer : Path) (rule : Rule) (look : LogLook) (job : Job) (d : Due) (fs : List Fault) → IsIn job (jobs_in (where_due d (none_hinders fs (log_plan clock mailer rule look ∷ [])))) → job_by rule.way look (ready_for clock rule look).target ≡ Some job
+by_look : (clock : Clock) (mailer : Path) (rule : Rule) (look : LogLook) (job : Job) (d : Due) (fs : List Fault) → IsIn job (jobs_in (where_due d (none_hinders fs (log_plan clock mailer rule look ∷ [])))) → job_by rule.way (standing rule look) (ready_for clock rule look).target ≡ Some job
 by_look clock mailer rule look job (due.No why) fs i = absurd i
 by_look clock mailer rule look job (due.Yes why) (f ∷ fs) i = absurd i
-by_look clock mailer rule look job (due.Yes why) [] i = go (job_by rule.way look (ready_for clock rule look).target) i
+by_look clock mailer rule look job (due.Yes why) [] i = go (job_by rule.way (standing rule look) (ready_for clock rule look).target) i
   where
     go : (o : Option Job) → IsIn job (job_in o ++ []) → o ≡ Some job
     go None i = absurd i

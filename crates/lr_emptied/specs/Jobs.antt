@@ -9,7 +9,7 @@ use Rattle.lr_plan.specs.declared.looks.LogLook.{LogLook}
 use Rattle.lr_plan.specs.declared.looks.SetLooks.{SetLooks}
 use Rattle.lr_plan.specs.declared.planned.LogPlan.{LogPlan}
 use Rattle.lr_plan.specs.declared.planned.SetPlan.{SetPlan}
-use Rattle.lr_plan.specs.Planned.{job_by, ready_for}
+use Rattle.lr_plan.specs.Planned.{job_by, standing, ready_for}
 
 -- one, or none
 abbrev pub job_in : Option Job → List Job
@@ -28,7 +28,7 @@ jobs_of sets = flat_map (λ set. jobs_in set.logs) sets
 pub record AsksFor (clock : Clock) (rule : Rule) (looks : List LogLook) (job : Job) : Type 0 where
   pub look : LogLook
   pub seen : IsIn look looks
-  pub job_is : job_by rule.way look (ready_for clock rule look).target ≡ Some job
+  pub job_is : job_by rule.way (standing rule look) (ready_for clock rule look).target ≡ Some job
 
 -- one of the rules does, each of the logs of its own definition
 abbrev pub IsAskedFor : Clock → List Rule → List SetLooks → Job → Type 0

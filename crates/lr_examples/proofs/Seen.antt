@@ -18,7 +18,7 @@ use Rattle.lr_family.specs.Stands.{number_in}
 use Rattle.lr_family.proofs.Unique.{named_same}
 use Rattle.lr_chain.specs.Rotation.{places_of}
 use Rattle.lr_rotations.specs.Members.{HasName}
-use Rattle.lr_rotations.specs.Shown.{Shown, SawMembers}
+use Rattle.lr_rotations.specs.Shown.{SawDir, unlisted, Shown, SawMembers}
 use Rattle.lr_targets.specs.Target.{IsGiven}
 use Rattle.lr_rotations.specs.Weave.{Among}
 use Rattle.lr_targets.proofs.Given.{literal_gives}
@@ -73,14 +73,15 @@ a_listed_at place has (inr (inr (inr none))) = absurd none
 
 pub a_shown : Shown a_naming (places_of a_stand.members) looks
 a_shown = record {
-  dir = (directory, refl, inr (inr (inl refl)));
-  names = a_listed;
-  list = inr (inr (inr (inl refl)));
   falling = a_falling;
   named = λ place c. a_named place (in_from place a_places c);
   files = λ place c. a_file place (in_from place a_places c);
-  others = λ place has out. inl (λ c. out (in_to place a_places (a_listed_at place has (in_from (member_name a_naming (1 + place)) a_listed c))));
+  others = λ place has out. unlisted a_listed (inr (inr (inr (inl refl)))) (λ c. out (in_to place a_places (a_listed_at place has (in_from (member_name a_naming (1 + place)) a_listed c))));
 }
+
+-- the directory was seen
+a_dir : SawDir (codes "/v") looks
+a_dir = (directory, refl, inr (inr (inl refl)))
 
 -- a look saw what is known of the member
 abbrev IsSightOf : Member → Type 0
@@ -117,14 +118,14 @@ b_unlisted place (inr none) = none
 
 b_shown : Shown b_naming (places_of b_stand.members) looks
 b_shown = record {
-  dir = (directory, refl, inr (inr (inr (inr (inr (inr (inl refl)))))));
-  names = b_listed;
-  list = inr (inr (inr (inr (inr (inr (inr (inl refl)))))));
   falling = none_rises;
   named = λ place c. absurd (no_place place c);
   files = λ place c. absurd (no_place place c);
-  others = λ place has out. inl (λ c. b_unlisted place (in_from (member_name b_naming (1 + place)) b_listed c));
+  others = λ place has out. unlisted b_listed (inr (inr (inr (inr (inr (inr (inr (inl refl)))))))) (λ c. b_unlisted place (in_from (member_name b_naming (1 + place)) b_listed c));
 }
+
+b_dir : SawDir (codes "/w") looks
+b_dir = (directory, refl, inr (inr (inr (inr (inr (inr (inl refl)))))))
 
 b_given : IsGiven rules.sets looks b_log b_naming b_count None
 b_given = record { rule = rule_of 2 b_log b_count; word = b_log; among = (1, omega arith, refl); has = (0, omega arith, refl); given = record { before = []; part = []; after = looks; joined = refl; is = literal_gives rules.sets (rule_of 2 b_log b_count) b_log b_log [] refl refl }; naming_is = refl; count_is = refl; way_is = ((λ e. refl), (λ e. refl)) }
@@ -134,8 +135,8 @@ b_given = record { rule = rule_of 2 b_log b_count; word = b_log; among = (1, ome
 pub both_seen : (clock : Clock) → AreLogsSeen rules clock looks (a_target ∷ b_target ∷ [])
 unfolding a_given b_given
 both_seen clock = (
-  record { given = a_given; log_seen = a_seen; shows = record { family = a_family; seen = a_shown; sights = a_sights; from_is = refl; low = λ high. absurd (cc); ready = a_is_ready }; job = λ job is. absurd (cc) },
-  (record { given = b_given; log_seen = b_seen; shows = record { family = b_family; seen = b_shown; sights = λ m none. absurd none; from_is = refl; low = λ high. absurd (cc); ready = b_is_ready }; job = λ job is. absurd (cc) }, tt),
+  record { given = a_given; log_seen = a_seen; shows = record { family = a_family; seen = a_shown; sights = a_sights; from_is = refl; low = λ high. absurd (cc); ready = a_is_ready }; maxage_is = refl; dir = a_dir; job = λ job is. absurd (cc) },
+  (record { given = b_given; log_seen = b_seen; shows = record { family = b_family; seen = b_shown; sights = λ m none. absurd none; from_is = refl; low = λ high. absurd (cc); ready = b_is_ready }; maxage_is = refl; dir = b_dir; job = λ job is. absurd (cc) }, tt),
 )
 
 pub looks_quiet : AreQuiet looks

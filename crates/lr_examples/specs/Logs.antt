@@ -141,10 +141,10 @@ abbrev pub b_ready : Ready
 b_ready = record { leftovers = []; dir = None; moves = []; log = b_log; target = b_first; make = No; retire = [] }
 
 abbrev pub a_target : Target
-a_target = record { log = a_log; naming = a_naming; count = a_count; stand = a_stand; from = a_from; ready = a_ready; job = None }
+a_target = record { log = a_log; naming = a_naming; count = a_count; maxage = None; stand = a_stand; from = a_from; ready = a_ready; job = None }
 
 abbrev pub b_target : Target
-b_target = record { log = b_log; naming = b_naming; count = b_count; stand = b_stand; from = []; ready = b_ready; job = None }
+b_target = record { log = b_log; naming = b_naming; count = b_count; maxage = None; stand = b_stand; from = []; ready = b_ready; job = None }
 
 -- ---- the looks
 

@@ -5,8 +5,6 @@ use Rattle.lr_rules.specs.declared.fault.ConfKind.{ConfKind}
 use Rattle.lr_rules.specs.declared.fault.ConfKind.TheVariants as kind
 use Rattle.lr_rules.specs.declared.fault.Phase.{Phase}
 use Rattle.lr_rules.specs.declared.fault.Phase.TheVariants as phase
-use Rattle.lr_forms.specs.declared.built.Built.{Built}
-use Rattle.lr_forms.specs.Built.{script_is_unbuilt}
 
 abbrev pub is_phase : Phase → Phase → Bool
 is_phase phase.First phase.First = true
@@ -18,9 +16,8 @@ is_phase phase.Mail phase.Mail = true
 is_phase p q = false
 
 -- the first fault of a script that applies, where these stand before it in its definition
-abbrev pub script_fault : Built → List Phase → Phase → Bool → Option ConfKind
-script_fault b earlier p stray =
+abbrev pub script_fault : List Phase → Phase → Bool → Option ConfKind
+script_fault earlier p stray =
     if list_any (is_phase p) earlier then Some kind.ScriptTwice
-    else if script_is_unbuilt b p then Some kind.NotYet
     else if stray then Some kind.Stray
     else None

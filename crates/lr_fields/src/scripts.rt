@@ -3,7 +3,6 @@ ghost use Rattle.std.specs.Prelude.{◌≡◌};
 ghost use Rattle.std.specs.List.{list_any};
 ghost use Rattle.lr_fields.specs.Scripts.{is_phase, script_fault};
 
-use lr_forms::{Built, script_is_unbuilt};
 use lr_rules::{ConfKind, Phase};
 
 // Whether one of the scripts is of this phase.
@@ -28,13 +27,11 @@ fn is_phase(a: Phase, b: Phase) -> bool
 }
 
 /// The fault of a script in a definition where these stand before it; a second of a kind is ScriptTwice.
-pub fn script_fault(built: Built, scripts: &[Phase], phase: Phase, stray: bool) -> Option<ConfKind>
-    ensures { result ≡ script_fault built scripts.now phase stray }
+pub fn script_fault(scripts: &[Phase], phase: Phase, stray: bool) -> Option<ConfKind>
+    ensures { result ≡ script_fault scripts.now phase stray }
 {
     if has_script(scripts, phase) {
         Some(ConfKind::ScriptTwice)
-    } else if script_is_unbuilt(built, phase) {
-        Some(ConfKind::NotYet)
     } else if stray {
         Some(ConfKind::Stray)
     } else {

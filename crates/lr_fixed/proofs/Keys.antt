@@ -22,10 +22,10 @@ use Rattle.lr_copy.proofs.EachOfBytes.{each_all, each_broke}
 use Rattle.lr_plan.specs.declared.mark.Mark.{Mark}
 use Rattle.lr_plan.specs.declared.step.SetSteps.{SetSteps}
 use Rattle.lr_plan.specs.declared.step.Step.{Step}
-use Rattle.lr_plan.specs.declared.step.Step.TheVariants.{Runs, Removes, Renames, Creates, Takes, Copies, SyncsFile, SyncsDir, Truncates, Rotated}
+use Rattle.lr_plan.specs.declared.step.Step.TheVariants.{Runs, Removes, MakesDir, Renames, Creates, Takes, Copies, SyncsFile, SyncsDir, Truncates, Rotated}
 use Rattle.lr_plan.specs.Course.{Course}
 use Rattle.lr_plan.specs.Done.{EachDone, LogsDone, SetDone, broke_off, went_on, SetsDone, is_rotated}
-use Rattle.lr_plan.specs.Outcomes.{Maybe, bytes_fault, Succeeds, Fails, ProgramFailed, badly, not_run, maybe_run}
+use Rattle.lr_plan.specs.Outcomes.{Maybe, bytes_fault, Succeeds, Fails, ProgramFailed, badly, not_run, maybe_run, DirFailed, at_make, at_look, no_dir}
 use Rattle.lr_acts.specs.Making.{all_of_each, all_of_set, all_of_sets}
 use Rattle.lr_run.proofs.Simple.{IsSimple, AreSimple, simple_split}
 
@@ -213,9 +213,15 @@ maybe_left : (ks : List Key) (e : Entry) (ts : List Entry) → ShowsOnly ks e �
 maybe_left ks e ts o (inl none) = empty_left ks ts none
 maybe_left ks e ts o (inr one) = one_left ks e ts o one
 
+-- a directory that is made, or is there, shows none of these
+dir_left : (path : Path) (mode : Option ℕ) (ts : List Entry) → Succeeds (MakesDir path mode) ts → (k : Key) → IsIn k (shown ts) → IsIn k []
+dir_left path mode ts (inl one) = one_left [] (entry.MakesDir path mode) ts (λ k x. x) one
+dir_left path mode ts (inr saw) = one_left [] (entry.Look path saw.seen) ts (λ k x. x) saw.look
+
 made_keep : (s : Step) (ts : List Entry) → IsSimple s → Succeeds s ts → Keep (keys s) [] ts
 made_keep (Runs p on c) ts i h = left_keep [] ts (one_left [] (runs c (ended.Exit (pos 0))) ts (λ k x. x) h)
 made_keep (Removes path) ts i h = left_keep [] ts (one_left [] (entry.Unlinks path) ts (λ k x. x) h)
+made_keep (MakesDir path mode) ts i h = left_keep [] ts (dir_left path mode ts h)
 made_keep (Renames from to) ts i h = left_keep [] ts (one_left [] (entry.Renames from to) ts (λ k x. x) h)
 made_keep (Creates path mode) ts i h = left_keep (Made path ∷ []) ts (maybe_left (Made path ∷ []) (entry.Makes path mode) ts (λ k x. x) h)
 made_keep (Takes path mode) ts i h = left_keep (Made path ∷ []) ts (one_left (Made path ∷ []) (entry.Makes path mode) ts (λ k x. x) h)
@@ -235,6 +241,11 @@ program_keep p on c f ts (badly end bad e o) = plain [] f (fault.Script p on end
 program_keep p on c f ts (not_run e o) = plain [] f (fault.Call call.Run c.program) ts e refl (empty_left [] ts o)
 program_keep p on c f ts (maybe_run end e o) = plain [] f (fault.Call call.Run c.program) ts e refl (one_left [] (runs c end) ts (λ k x. x) o)
 
+dir_keep : (path : Path) (mode : Option ℕ) (f : Fault) (ts : List Entry) → DirFailed path mode f ts → Keep [] (f ∷ []) ts
+dir_keep path mode f ts (at_make h) = plain [] f (fault.Call call.MakeDir path) ts h.0 refl (maybe_left [] (entry.MakesDir path mode) ts (λ k x. x) h.1)
+dir_keep path mode f ts (at_look e o) = plain [] f (fault.Call call.Look path) ts e refl (empty_left [] ts o)
+dir_keep path mode f ts (no_dir e saw) = plain [] f (fault.NotFile path) ts e refl (one_left [] (entry.Look path saw.seen) ts (λ k x. x) saw.look)
+
 take_keep : (path : Path) (mode : Option ℕ) (f : Fault) (ts : List Entry) → Fails (Takes path mode) f ts → Keep (Made path ∷ []) (f ∷ []) ts
 take_keep path mode f ts (inl h) = plain (Made path ∷ []) f (fault.Call call.Make path) ts h.0 refl (maybe_left (Made path ∷ []) (entry.Makes path mode) ts (λ k x. x) h.1)
 take_keep path mode f ts (inr h) = none_shown (Made path ∷ []) (f ∷ []) ts (ap shown h.1) (λ k i. subst (λ (x : Fault). IsIn k (denied (x ∷ []))) h.0 i)
@@ -242,6 +253,7 @@ take_keep path mode f ts (inr h) = none_shown (Made path ∷ []) (f ∷ []) ts (
 failed_keep : (s : Step) (f : Fault) (ts : List Entry) → IsSimple s → Fails s f ts → Keep (keys s) (f ∷ []) ts
 failed_keep (Runs p on c) f ts i h = program_keep p on c f ts h
 failed_keep (Removes path) f ts i h = plain [] f (fault.Call call.Unlink path) ts h.0 refl (maybe_left [] (entry.Unlinks path) ts (λ k x. x) h.1)
+failed_keep (MakesDir path mode) f ts i h = dir_keep path mode f ts h
 failed_keep (Renames from to) f ts i h = plain [] f (fault.Call call.Rename from) ts h.0 refl (maybe_left [] (entry.Renames from to) ts (λ k x. x) h.1)
 failed_keep (Creates path mode) f ts i h = plain (Made path ∷ []) f (fault.Call call.Make path) ts h.0 refl (maybe_left (Made path ∷ []) (entry.Makes path mode) ts (λ k x. x) h.1)
 failed_keep (Takes path mode) f ts i h = take_keep path mode f ts h

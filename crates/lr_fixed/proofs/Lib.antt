@@ -21,7 +21,7 @@ mod Writing
 mod Keys
 mod Own
 mod PlanKeys
-mod Programs
+mod Ends
 mod CountedListings
 mod Moves
 mod StateListsNone

@@ -1,4 +1,4 @@
--- The acts of a plan are unlinks, renames, makings of logs, the steps of copies and programs.
+-- The acts of a plan are unlinks, renames, makings of logs and of directories, with looks at these, the steps of copies and programs.
 use Rattle.std.proofs.Common.{◌≡◌, inl, inr, ℕ, Bool, true, false, bytes_eq, Option, List, [], ◌∷◌, map, refl, sym, ◌∙◌, subst}
 use Rattle.std.proofs.lemmas.Slice.Eq.{bytes_eq-Decides}
 use Rattle.lr_rules.specs.declared.clock.Clock.{Clock}
@@ -21,8 +21,8 @@ use Rattle.lr_plan.specs.declared.looks.SetLooks.{SetLooks}
 use Rattle.lr_plan.specs.declared.mark.Mark.{Mark}
 use Rattle.lr_plan.specs.declared.step.SetSteps.{SetSteps}
 use Rattle.lr_plan.specs.declared.step.Step.{Step}
-use Rattle.lr_plan.specs.declared.step.Step.TheVariants.{Runs, Removes, Renames, Creates, Takes, Copies, SyncsFile, SyncsDir, Truncates, Rotated}
-use Rattle.lr_plan.specs.Outcomes.{Succeeds, Fails, ProgramFailed, badly, not_run, maybe_run}
+use Rattle.lr_plan.specs.declared.step.Step.TheVariants.{Runs, Removes, MakesDir, Renames, Creates, Takes, Copies, SyncsFile, SyncsDir, Truncates, Rotated}
+use Rattle.lr_plan.specs.Outcomes.{Succeeds, Fails, ProgramFailed, badly, not_run, maybe_run, DirFailed, at_make, at_look, no_dir}
 use Rattle.lr_plan.specs.Done.{SetsDone}
 use Rattle.lr_plan.specs.Planned.{all_plans}
 use Rattle.lr_plan.specs.Steps.{steps_of_set}
@@ -47,10 +47,12 @@ use Rattle.lr_plan.specs.Steps.{state_part}
 use Rattle.lr_fixed.proofs.Own.{part_own}
 use Rattle.lr_fixed.proofs.Writing.{is_make, makes_in}
 
--- an unlink, a rename, the making, filling or emptying of a file, a read of one, a sync, or a program
+-- an unlink, a rename, the making of a directory, a look, the making, filling or emptying of a file, a read of one, a sync, or a program
 abbrev pub IsMove : Entry → Type 0
 IsMove (entry.Unlinks path) = Unit {0}
 IsMove (entry.Renames from to) = Unit {0}
+IsMove (entry.MakesDir path mode) = Unit {0}
+IsMove (entry.Look path seen) = Unit {0}
 IsMove (entry.Makes path mode) = Unit {0}
 IsMove (entry.Reads path place piece) = Unit {0}
 IsMove (entry.Appends path piece) = Unit {0}
@@ -62,9 +64,15 @@ IsMove _ = ⊥
 
 -- ---- one step
 
+-- a directory is made, or one is there
+dir_made_moves : (path : Path) (mode : Option ℕ) (ts : List Entry) → Succeeds (MakesDir path mode) ts → Each IsMove ts
+dir_made_moves path mode ts (inl one) = one_leaves IsMove (entry.MakesDir path mode) ts tt one
+dir_made_moves path mode ts (inr saw) = one_leaves IsMove (entry.Look path saw.seen) ts tt saw.look
+
 made_moves : (s : Step) (ts : List Entry) → IsSimple s → Succeeds s ts → Each IsMove ts
 made_moves (Runs p on command) ts i h = one_leaves IsMove _ ts tt h
 made_moves (Removes path) ts i h = one_leaves IsMove (entry.Unlinks path) ts tt h
+made_moves (MakesDir path mode) ts i h = dir_made_moves path mode ts h
 made_moves (Renames from to) ts i h = one_leaves IsMove (entry.Renames from to) ts tt h
 made_moves (Creates path mode) ts i h = maybe_leaves IsMove (entry.Makes path mode) ts tt h
 made_moves (Takes path mode) ts i h = one_leaves IsMove (entry.Makes path mode) ts tt h
@@ -80,9 +88,15 @@ program_moves p on c f ts (badly end bad e o) = one_leaves IsMove _ ts tt o
 program_moves p on c f ts (not_run e o) = none_leaves IsMove ts o
 program_moves p on c f ts (maybe_run end e o) = one_leaves IsMove _ ts tt o
 
+dir_failed_moves : (path : Path) (mode : Option ℕ) (f : Fault) (ts : List Entry) → DirFailed path mode f ts → Each IsMove ts
+dir_failed_moves path mode f ts (at_make h) = maybe_leaves IsMove (entry.MakesDir path mode) ts tt h.1
+dir_failed_moves path mode f ts (at_look e o) = none_leaves IsMove ts o
+dir_failed_moves path mode f ts (no_dir e saw) = one_leaves IsMove (entry.Look path saw.seen) ts tt saw.look
+
 failed_moves : (s : Step) (f : Fault) (ts : List Entry) → IsSimple s → Fails s f ts → Each IsMove ts
 failed_moves (Runs p on command) f ts i h = program_moves p on command f ts h
 failed_moves (Removes path) f ts i h = maybe_leaves IsMove (entry.Unlinks path) ts tt h.1
+failed_moves (MakesDir path mode) f ts i h = dir_failed_moves path mode f ts h
 failed_moves (Renames from to) f ts i h = maybe_leaves IsMove (entry.Renames from to) ts tt h.1
 failed_moves (Creates path mode) f ts i h = maybe_leaves IsMove (entry.Makes path mode) ts tt h.1
 failed_moves (Takes path mode) f ts i h = take_fails IsMove path mode f ts tt h
@@ -93,7 +107,7 @@ failed_moves (Truncates path) f ts i h = maybe_leaves IsMove (entry.Truncates pa
 failed_moves (Rotated log) f ts i h = absurd h
 failed_moves _ f ts i h = absurd i
 
-moves_fold : Folds (λ fs ts. Each IsMove ts)
+moves_fold : Folds IsSimple (λ fs ts. Each IsMove ts)
 moves_fold = record {
   none = tt;
   made = made_moves;
@@ -102,7 +116,7 @@ moves_fold = record {
 }
 
 sets_move : (sets : List SetSteps) (ms : List Mark) (fs : List Fault) (ts : List Entry) → AreSimple (all_of_sets sets) → SetsDone sets ms fs ts → Each IsMove ts
-sets_move sets ms fs ts i h = acts_fold (λ fs ts. Each IsMove ts) moves_fold sets ms fs ts i h
+sets_move sets ms fs ts i h = acts_fold IsSimple (λ fs ts. Each IsMove ts) moves_fold sets ms fs ts i h
 
 -- the acts of a plan
 pub plan_moves : (rules : List Rule) (sets : List SetLooks) (clock : Clock) (mailer : Path) (decide : Rule → LogLook → Due) (ms : List Mark) (fs : List Fault) (ts : List Entry) → SetsDone (map steps_of_set (all_plans clock mailer decide rules sets)) ms fs ts → Each IsMove ts

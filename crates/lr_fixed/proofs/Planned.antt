@@ -11,17 +11,23 @@ use Rattle.lr_rules.specs.declared.rule.Way.{Way}
 use Rattle.lr_rules.specs.declared.rule.Way.TheVariants as way
 use Rattle.lr_due.specs.declared.answer.Due.{Due}
 use Rattle.lr_state.specs.Table.{Entry as Row}
+use Rattle.lr_family.specs.declared.stand.Stand.{Stand}
 use Rattle.lr_chain.specs.declared.ready.Ready.{Ready}
+use Rattle.lr_chain.specs.Ready.{with_dir}
 use Rattle.lr_plan.specs.Asked.{Asked}
 use Rattle.lr_plan.specs.declared.looks.LogLook.{LogLook}
 use Rattle.lr_plan.specs.declared.looks.SetLooks.{SetLooks}
 use Rattle.lr_plan.specs.declared.planned.LogPlan.{LogPlan}
-use Rattle.lr_plan.specs.Planned.{decision, hindrances_by, hindrances, ready_by, ready_for, job_by, plan_with, log_plan, none_hinders, plans_of, where_due, log_plans, log_faults, set_plan, all_plans, all_faults}
+use Rattle.lr_plan.specs.Planned.{decision, dir_of, stand_for, standing, hindrances_by, hindrances, ready_by, ready_for, job_by, plan_with, log_plan, none_hinders, plans_of, where_due, log_plans, log_faults, set_plan, all_plans, all_faults}
 use Rattle.lr_looks.specs.Families.{LookedLog}
 use Rattle.lr_looks.specs.Sets.{looked_in}
 use Rattle.lr_fixed.specs.Alike.{AreAlikeFrom, AreAlike}
 
 -- ---- one log
+
+-- the log, as if this had been seen of its family
+abbrev looked_with : Stand → LookedLog → LookedLog
+looked_with stand l = record { set = l.set; path = l.path; naming = l.naming; seen = l.seen; stand = stand }
 
 -- two looks that saw the same of a log
 module _ (set : ℕ) (x y : LogLook) (e : looked_in set x ≡ looked_in set y) where
@@ -41,21 +47,15 @@ module _ (set : ℕ) (x y : LogLook) (e : looked_in set x ≡ looked_in set y) w
   due_same : (table : List Row) (now : Moment) (force : Bool) (rule : Rule) → decision table now force rule x ≡ decision table now force rule y
   due_same table now force rule = rw (path_is, seen_is) refl
 
-  -- the same hinders it
+  -- the same hinders it, as it stands
   hindered_by : (o : Option Format) (clock : Clock) (rule : Rule) → hindrances_by o clock rule x ≡ hindrances_by o clock rule y
   hindered_by None clock rule = rw (naming_is, stand_is) refl
   hindered_by (Some format) clock rule = rw (naming_is, stand_is) refl
 
-  hindered_same : (clock : Clock) (rule : Rule) → hindrances clock rule x ≡ hindrances clock rule y
-  hindered_same clock rule = ap (λ (n : Naming). hindrances_by n.dated clock rule x) naming_is ∙ hindered_by y.family.naming.dated clock rule
-
-  -- its rotation is the same
+  -- its rotation is the same, without a directory that it makes
   rotated_by : (o : Option Format) (clock : Clock) (rule : Rule) → ready_by o clock rule x ≡ ready_by o clock rule y
   rotated_by None clock rule = rw (path_is, naming_is, seen_is, stand_is) refl
   rotated_by (Some format) clock rule = rw (path_is, naming_is, seen_is, stand_is) refl
-
-  rotated_same : (clock : Clock) (rule : Rule) → ready_for clock rule x ≡ ready_for clock rule y
-  rotated_same clock rule = ap (λ (n : Naming). ready_by n.dated clock rule x) naming_is ∙ rotated_by y.family.naming.dated clock rule
 
   -- and its copy
   job_same : (w : Way) (target : Path) → job_by w x target ≡ job_by w y target
@@ -67,8 +67,29 @@ module _ (set : ℕ) (x y : LogLook) (e : looked_in set x ≡ looked_in set y) w
   done_same : (mailer : Path) (rule : Rule) (ready : Ready) → plan_with mailer rule x ready ≡ plan_with mailer rule y ready
   done_same mailer rule ready = rw (job_same rule.way ready.target, path_is) refl
 
+  -- the rotation makes the same directory
+  dir_same : (rule : Rule) → dir_of rule x ≡ dir_of rule y
+  dir_same rule = rw (path_is, naming_is, stand_is) refl
+
+  standing_same : (rule : Rule) → stand_for rule x ≡ stand_for rule y
+  standing_same rule = rw (path_is, naming_is, stand_is) refl
+
+-- two looks that saw the same of a log, as their rotations go by it
+module _ (set : ℕ) (x y : LogLook) (e : looked_in set x ≡ looked_in set y) where
+  looks_same : (rule : Rule) → looked_in set (standing rule x) ≡ looked_in set (standing rule y)
+  looks_same rule = ap (looked_with (stand_for rule x)) e ∙ ap (λ (s : Stand). looked_with s (looked_in set y)) (standing_same set x y e rule)
+
+  hindered_same : (clock : Clock) (rule : Rule) → hindrances clock rule x ≡ hindrances clock rule y
+  hindered_same clock rule = ap (λ (n : Naming). hindrances_by n.dated clock rule (standing rule x)) (naming_is set x y e) ∙ hindered_by set (standing rule x) (standing rule y) (looks_same rule) y.family.naming.dated clock rule
+
+  rotated_same : (clock : Clock) (rule : Rule) → ready_for clock rule x ≡ ready_for clock rule y
+  rotated_same clock rule =
+      ap (λ (n : Naming). with_dir (dir_of rule x) (ready_by n.dated clock rule (standing rule x))) (naming_is set x y e)
+      ∙ (ap (with_dir (dir_of rule x)) (rotated_by set (standing rule x) (standing rule y) (looks_same rule) y.family.naming.dated clock rule)
+      ∙ ap (λ (d : Option (Path × Option ℕ)). with_dir d (ready_by y.family.naming.dated clock rule (standing rule y))) (dir_same set x y e rule))
+
   planned_same : (clock : Clock) (mailer : Path) (rule : Rule) → log_plan clock mailer rule x ≡ log_plan clock mailer rule y
-  planned_same clock mailer rule = ap (plan_with mailer rule x) (rotated_same clock rule) ∙ done_same mailer rule (ready_for clock rule y)
+  planned_same clock mailer rule = ap (plan_with mailer rule (standing rule x)) (rotated_same clock rule) ∙ done_same set (standing rule x) (standing rule y) (looks_same rule) mailer rule (ready_for clock rule y)
 
   plans_same : (clock : Clock) (mailer : Path) (rule : Rule) → plans_of clock mailer rule x ≡ plans_of clock mailer rule y
   plans_same clock mailer rule =
@@ -76,7 +97,7 @@ module _ (set : ℕ) (x y : LogLook) (e : looked_in set x ≡ looked_in set y) w
       ∙ ap (λ (l : LogPlan). none_hinders (hindrances clock rule y) (l ∷ [])) (planned_same clock mailer rule)
 
   where_same : {A : Type 0} (table : List Row) (now : Moment) (force : Bool) (rule : Rule) (xs ys : List A) → xs ≡ ys → where_due (decision table now force rule x) xs ≡ where_due (decision table now force rule y) ys
-  where_same table now force rule xs ys h = ap (λ (d : Due). where_due d xs) (due_same table now force rule) ∙ ap (where_due (decision table now force rule y)) h
+  where_same table now force rule xs ys h = ap (λ (d : Due). where_due d xs) (due_same set x y e table now force rule) ∙ ap (where_due (decision table now force rule y)) h
 
 -- ---- the logs of a definition
 

@@ -1,4 +1,4 @@
--- Neither the reading of the state nor its writing lists a directory, and its writing runs no program.
+-- Neither the reading of the state nor its writing lists a directory, and its writing runs no program, makes no directory and looks at nothing.
 use Rattle.std.proofs.Common.{◌≡◌, ℕ, Bool, false, List, [], refl}
 use Rattle.lr_rules.specs.declared.fault.Fault.{Fault}
 use Rattle.lr_rules.specs.declared.path.Path.{Path}
@@ -11,7 +11,7 @@ use Rattle.lr_reading.specs.Sights.{StateSights, ShowsState}
 use Rattle.lr_run.proofs.Seeing.{state_so}
 use Rattle.lr_run.proofs.Stating.{IsWrite, IsWriting, state_writing}
 use Rattle.lr_fixed.proofs.CountedListings.{IsNoListing, AreNoListings}
-use Rattle.lr_fixed.proofs.Programs.{is_run, programs_in}
+use Rattle.lr_fixed.proofs.Ends.{shows_end, ends_in}
 
 pub state_read_none : (state : Path) (size : ℕ) (s : StateSights) (ts : List Entry) → ShowsState state size s ts → AreNoListings ts
 state_read_none = state_so IsNoListing (λ x seen. tt) (λ x place piece. tt)
@@ -20,12 +20,14 @@ no_listing : (e : Entry) → IsWrite e → IsNoListing e
 no_listing (entry.List dir names) i = absurd i
 no_listing _ i = tt
 
-no_run : (e : Entry) → IsWrite e → is_run e ≡ false
-no_run (entry.Runs program args input end) i = absurd i
-no_run _ i = refl
+no_end : (e : Entry) → IsWrite e → shows_end e ≡ false
+no_end (entry.Runs program args input end) i = absurd i
+no_end (entry.MakesDir path mode) i = absurd i
+no_end (entry.Look path seen) i = absurd i
+no_end _ i = refl
 
 pub state_written_none : (state : Path) (stale : Bool) (dirs : List Path) (text : List ℕ) (fs : List Fault) (ts : List Entry) → Course (state_steps state stale dirs text) [] fs ts → AreNoListings ts
 state_written_none state stale dirs text fs ts h = each_as (IsWriting state) IsNoListing ts (λ e i. no_listing e i.0) (state_writing state stale dirs text fs ts h)
 
-pub state_runs_none : (state : Path) (stale : Bool) (dirs : List Path) (text : List ℕ) (fs : List Fault) (ts : List Entry) → Course (state_steps state stale dirs text) [] fs ts → programs_in ts ≡ []
-state_runs_none state stale dirs text fs ts h = none_pass is_run ts (each_as (IsWriting state) (λ e. is_run e ≡ false) ts (λ e i. no_run e i.0) (state_writing state stale dirs text fs ts h))
+pub state_ends_none : (state : Path) (stale : Bool) (dirs : List Path) (text : List ℕ) (fs : List Fault) (ts : List Entry) → Course (state_steps state stale dirs text) [] fs ts → ends_in ts ≡ []
+state_ends_none state stale dirs text fs ts h = none_pass shows_end ts (each_as (IsWriting state) (λ e. shows_end e ≡ false) ts (λ e i. no_end e i.0) (state_writing state stale dirs text fs ts h))

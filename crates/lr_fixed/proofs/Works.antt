@@ -32,8 +32,8 @@ use Rattle.lr_fixed.proofs.Called.{one_uncalled}
 use Rattle.lr_fixed.proofs.Keys.{shown, Agree}
 use Rattle.lr_fixed.proofs.LookedOne.{looks_are, acts_are, plans_are, sets_are, measured_is}
 use Rattle.lr_fixed.proofs.Moves.{acts_make_none}
-use Rattle.lr_fixed.proofs.Programs.{is_run, programs_in, sets_fixed}
-use Rattle.lr_fixed.proofs.StateListsNone.{state_runs_none}
+use Rattle.lr_fixed.proofs.Ends.{shows_end, ends_in, sets_fixed}
+use Rattle.lr_fixed.proofs.StateListsNone.{state_ends_none}
 use Rattle.lr_fixed.proofs.StateRead.{state_one}
 use Rattle.lr_fixed.proofs.Writing.{is_make, makes_in, told_by, state_told}
 
@@ -68,12 +68,12 @@ module _ (state : Path) (rules : List Rule) (clock : Clock) (asked : Asked) (own
   no_call_acted : calls_in w.acted.entries.of_plan ≡ 0
   no_call_acted = none_before w.acted.of_acts w.acted.entries.of_plan w.acted.entries.of_state w.acted.entries.faults_are (none_behind _ (plan_in state rules ts w.looked clock asked).faults w.acted.of_acts refl no_call)
 
-  -- the programs that were run are those of the plan
-  run_is : programs_in w.looked.acts ≡ programs_in w.acted.entries.entries.front ++ []
-  run_is =
-      ap programs_in w.acted.entries.entries.joined
-      ∙ (filter-append is_run w.acted.entries.entries.front w.acted.entries.entries.back
-      ∙ ap (λ es. programs_in w.acted.entries.entries.front ++ es) (state_runs_none state w.looked.remembered.stale w.acted.dirs _ w.acted.entries.of_state w.acted.entries.entries.back w.acted.entries.entries.second))
+  -- the ends that are shown are those of the plan's steps
+  ends_are : ends_in w.looked.acts ≡ ends_in w.acted.entries.entries.front ++ []
+  ends_are =
+      ap ends_in w.acted.entries.entries.joined
+      ∙ (filter-append shows_end w.acted.entries.entries.front w.acted.entries.entries.back
+      ∙ ap (λ es. ends_in w.acted.entries.entries.front ++ es) (state_ends_none state w.looked.remembered.stale w.acted.dirs _ w.acted.entries.of_state w.acted.entries.entries.back w.acted.entries.entries.second))
 
   -- nothing that the faults of the plan's acts deny was done
   agreed : Agree (shown w.looked.acts) w.acted.entries.of_plan w.acted.entries.entries.front
@@ -139,7 +139,7 @@ module _ (state : Path) (rules : List Rule) (clock : Clock) (asked : Asked) (own
       of_plan = (sets_fixed (shown v.looked.acts) steps (steps_simple rules w.looked.sets w.looked.remembered.table clock asked) v.acted.marks w.acted.marks v.acted.entries.of_plan w.acted.entries.of_plan v.acted.entries.entries.front w.acted.entries.entries.front [] [] done w.acted.entries.entries.first
           (no_call_acted state rules clock asked own ts limits v c) (no_call_acted state rules clock asked more us limits w d)
           (agreed state rules clock asked own ts limits v c) (subst (λ (es : List Entry). Agree (shown es) w.acted.entries.of_plan w.acted.entries.entries.front) (sym acts) (agreed state rules clock asked more us limits w d))
-          (sym (run_is state rules clock asked own ts limits v c) ∙ (ap programs_in acts ∙ run_is state rules clock asked more us limits w d))).faults_are
+          (sym (ends_are state rules clock asked own ts limits v c) ∙ (ap ends_in acts ∙ ends_are state rules clock asked more us limits w d))).faults_are
 
       of_state : v.acted.entries.of_state ≡ w.acted.entries.of_state
       of_state = written_told state rules clock asked own ts limits v c ∙ (ap (λ es. told_by (state_part state) (makes_in (state_part state) es)) acts ∙ sym (written_told state rules clock asked more us limits w d))

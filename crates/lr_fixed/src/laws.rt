@@ -42,8 +42,9 @@ pub fn looks_are_fixed()
 {}
 
 /// Entries fix the faults of a run: where the same entries are shown as those of two runs over the same rules, and no call
-/// failed in either, their own faults are the same. A program that ended badly is told by its entry, and a part file whose
-/// name is taken, or a log that is too long to be copied, by what the entries lack.
+/// failed in either, their own faults are the same. A program that ended badly is told by its entry, something else at the
+/// path of a directory to be made by the look that saw it, and a part file whose name is taken, or a log that is too long
+/// to be copied, by what the entries lack.
 pub fn faults_are_fixed()
     ensures { (state : Path) (asked : Asked) (clock : Clock) (rules : Rules) (plan other : Option Plan) (own more : List Fault) (ts : List Entry)
         → Runs state asked clock rules plan own ts → Runs state asked clock rules other more ts → calls_in own ≡ 0 → calls_in more ≡ 0 → own ≡ more }

@@ -25,7 +25,6 @@ use Rattle.lr_words.specs.Names.{log_name_value, include_value}
 use Rattle.lr_words.specs.Words.{extension_value, address_value, olddir_value}
 use Rattle.lr_words.proofs.Limits.{extension_meets, address_meets, olddir_meets}
 use Rattle.lr_words.proofs.LogNames.{log_name_meets}
-use Rattle.lr_forms.specs.declared.built.Built.{Built}
 use Rattle.lr_forms.specs.declared.form.Form.{Form}
 use Rattle.lr_forms.specs.declared.form.Form.TheVariants as form
 use Rattle.lr_forms.specs.declared.form.Value.{Value}
@@ -34,7 +33,7 @@ use Rattle.lr_forms.specs.declared.set.Set.{Set}
 use Rattle.lr_forms.specs.declared.set.Set.TheVariants as set
 use Rattle.lr_forms.specs.declared.said.Said.{Said}
 use Rattle.lr_forms.specs.declared.said.Said.TheVariants as says
-use Rattle.lr_forms.specs.Built.{is_unbuilt}
+use Rattle.lr_forms.specs.Unbuilt.{is_unbuilt}
 use Rattle.lr_forms.specs.Forms.{form_of}
 use Rattle.lr_forms.specs.Values.{setting, value_of, sets_or_bad, one_says, day_of, day_says, mode_of, making, made, make_says, included, include_says, barred}
 use Rattle.lr_forms.specs.Says.{directive_of, checks, first_fault, means, or_bad, by_directive, texts, words_say, log_names, name_faults, named, names_say, nested, phase_named, script_in, said}
@@ -172,20 +171,20 @@ or_bad_fine : (o : Option ConfKind) (s : Said) → Fine s → Fine (or_bad o s)
 or_bad_fine None s h = h
 or_bad_fine (Some k) s h = refl
 
-directive_fine : (built : Built) (inside brace stray : Bool) (word : List ℕ) (vs : List (List ℕ)) (o : Option Directive) → Fine (by_directive built inside brace stray word vs o)
-directive_fine built inside brace stray word vs None = refl
-directive_fine built inside brace stray word vs (Some d) =
-    or_bad_fine (first_fault (checks inside brace stray (is_unbuilt built d) (form_of d) vs)) (means (form_of d) word vs) (means_fine (form_of d) word vs (form_fine d))
+directive_fine : (inside brace stray : Bool) (word : List ℕ) (vs : List (List ℕ)) (o : Option Directive) → Fine (by_directive inside brace stray word vs o)
+directive_fine inside brace stray word vs None = refl
+directive_fine inside brace stray word vs (Some d) =
+    or_bad_fine (first_fault (checks inside brace stray (is_unbuilt d) (form_of d) vs)) (means (form_of d) word vs) (means_fine (form_of d) word vs (form_fine d))
 
 either : (b : Bool) (s t : Said) → Fine s → Fine t → Fine (cond b s t)
 either true s t h k = h
 either false s t h k = k
 
-words_fine : (built : Built) (inside brace stray : Bool) (ws : List Word) → Fine (words_say built inside brace stray ws)
-words_fine built inside brace stray [] = either inside (says.Bad kind.NestedBrace) says.Open refl refl
-words_fine built inside brace stray (w ∷ ws) =
-    either (inside && brace) (says.Bad kind.NestedBrace) (by_directive built inside brace stray w.text (texts ws) (directive_of w.text)) refl
-    (directive_fine built inside brace stray w.text (texts ws) (directive_of w.text))
+words_fine : (inside brace stray : Bool) (ws : List Word) → Fine (words_say inside brace stray ws)
+words_fine inside brace stray [] = either inside (says.Bad kind.NestedBrace) says.Open refl refl
+words_fine inside brace stray (w ∷ ws) =
+    either (inside && brace) (says.Bad kind.NestedBrace) (by_directive inside brace stray w.text (texts ws) (directive_of w.text)) refl
+    (directive_fine inside brace stray w.text (texts ws) (directive_of w.text))
 
 log_names_meet : (ws : List Word) → list_all is_log_word (log_names ws) ≡ true
 log_names_meet [] = refl
@@ -209,11 +208,11 @@ script_fine : (inside : Bool) (text : List ℕ) (stray : Bool) (o : Option Phase
 script_fine inside text stray None = refl
 script_fine inside text stray (Some p) = either inside (says.Script p text stray) (says.Bad kind.OutsideSet) refl refl
 
-pub said_fine : (built : Built) (inside : Bool) (i : Item) → said_meets (said built inside i) ≡ true
-said_fine built inside (item.Close line) = refl
-said_fine built inside (item.Script word text brace stray line) =
+pub said_fine : (inside : Bool) (i : Item) → said_meets (said inside i) ≡ true
+said_fine inside (item.Close line) = refl
+said_fine inside (item.Script word text brace stray line) =
     either (inside && brace) (says.Bad kind.NestedBrace) (script_in inside text stray (phase_named (directive_of word.text))) refl
     (script_fine inside text stray (phase_named (directive_of word.text)))
-said_fine built inside (item.Line ws false brace stray line) = words_fine built inside brace stray ws
-said_fine built inside (item.Line ws true brace stray line) =
+said_fine inside (item.Line ws false brace stray line) = words_fine inside brace stray ws
+said_fine inside (item.Line ws true brace stray line) =
     either inside (nested brace kind.Stray) (names_say stray ws) refl (names_fine stray ws)

@@ -85,5 +85,5 @@ form_of is.Datehourago = Plain (set.Back back.HourAgo)
 form_of is.Dateserial = Plain (set.Serial true)
 form_of is.Nodateserial = Plain (set.Serial false)
 form_of is.Norenamecopy = Quiet
--- of which no form is read yet
+-- not built: no form of it is read
 form_of is.Renamecopy = Later

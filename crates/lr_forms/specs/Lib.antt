@@ -1,4 +1,4 @@
-pub mod Built
+pub mod Unbuilt
 pub mod Forms
 pub mod Values
 pub mod Says

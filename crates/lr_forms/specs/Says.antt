@@ -15,12 +15,11 @@ use Rattle.lr_tables.specs.Directives.{directive_table}
 use Rattle.lr_words.specs.declared.taboo.TabooItems.{TabooItems}
 use Rattle.lr_words.specs.Lists.{taboo_value}
 use Rattle.lr_words.specs.Names.{log_name_value}
-use Rattle.lr_forms.specs.declared.built.Built.{Built}
 use Rattle.lr_forms.specs.declared.form.Form.{Form}
 use Rattle.lr_forms.specs.declared.form.Form.TheVariants as form
 use Rattle.lr_forms.specs.declared.said.Said.{Said}
 use Rattle.lr_forms.specs.declared.said.Said.TheVariants as says
-use Rattle.lr_forms.specs.Built.{is_unbuilt}
+use Rattle.lr_forms.specs.Unbuilt.{is_unbuilt}
 use Rattle.lr_forms.specs.Forms.{form_of}
 use Rattle.lr_forms.specs.Values.{one_says, day_says, make_says, include_says, taboo_says}
 
@@ -121,19 +120,19 @@ abbrev pub or_bad : Option ConfKind → Said → Said
 or_bad None s = s
 or_bad (Some k) s = says.Bad k
 
-abbrev pub by_directive : Built → Bool → Bool → Bool → List ℕ → List (List ℕ) → Option Directive → Said
-by_directive built inside brace stray word vs None = says.Unknown
-by_directive built inside brace stray word vs (Some d) = or_bad (first_fault (checks inside brace stray (is_unbuilt built d) (form_of d) vs)) (means (form_of d) word vs)
+abbrev pub by_directive : Bool → Bool → Bool → List ℕ → List (List ℕ) → Option Directive → Said
+by_directive inside brace stray word vs None = says.Unknown
+by_directive inside brace stray word vs (Some d) = or_bad (first_fault (checks inside brace stray (is_unbuilt d) (form_of d) vs)) (means (form_of d) word vs)
 
 abbrev pub texts : List Word → List (List ℕ)
 texts ws = map (λ w. w.text) ws
 
 -- a line whose first sign begins no name
-abbrev pub words_say : Built → Bool → Bool → Bool → List Word → Said
-words_say built inside brace stray [] = if inside then says.Bad kind.NestedBrace else says.Open
-words_say built inside brace stray (w ∷ ws) =
+abbrev pub words_say : Bool → Bool → Bool → List Word → Said
+words_say inside brace stray [] = if inside then says.Bad kind.NestedBrace else says.Open
+words_say inside brace stray (w ∷ ws) =
     if inside && brace then says.Bad kind.NestedBrace
-    else by_directive built inside brace stray w.text (texts ws) (directive_of w.text)
+    else by_directive inside brace stray w.text (texts ws) (directive_of w.text)
 
 -- ---- lines of names
 
@@ -187,10 +186,10 @@ script_says inside brace stray word text =
     else script_in inside text stray (phase_named (directive_of word))
 
 -- what a line says
-abbrev pub said : Built → Bool → Item → Said
-said built inside (item.Close line) = says.Close
-said built inside (item.Script word text brace stray line) = script_says inside brace stray word.text text
-said built inside (item.Line ws names brace stray line) =
-    if not names then words_say built inside brace stray ws
+abbrev pub said : Bool → Item → Said
+said inside (item.Close line) = says.Close
+said inside (item.Script word text brace stray line) = script_says inside brace stray word.text text
+said inside (item.Line ws names brace stray line) =
+    if not names then words_say inside brace stray ws
     else if inside then nested brace kind.Stray
     else names_say stray ws

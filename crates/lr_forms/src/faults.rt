@@ -1,13 +1,13 @@
 // Faults of a line that begins with a directive.
 ghost use Rattle.std.specs.Prelude.{◌≡◌, IfOk};
 ghost use Rattle.lr_words.specs.Lists.{taboo_value};
-ghost use Rattle.lr_forms.specs.Built.{is_unbuilt};
+ghost use Rattle.lr_forms.specs.Unbuilt.{is_unbuilt};
 ghost use Rattle.lr_forms.specs.Forms.{form_of};
 ghost use Rattle.lr_forms.specs.Says.{texts, is_passed, is_script, is_outside, lists_nothing, lacks_value, has_more, checks, first_fault};
 
-use crate::built::{Built, is_unbuilt};
 use crate::form::{Form, form_of};
 use crate::taboo::texts_of;
+use crate::unbuilt::is_unbuilt;
 use lr_lex::Word;
 use lr_rules::{ConfKind, Memory};
 use lr_tables::Directive;
@@ -108,16 +108,15 @@ fn first_fault(
 /// The first fault of the line, those of its value aside.
 pub(crate) fn fault_of(
     alloc: Global,
-    built: Built,
     inside: bool,
     brace: bool,
     stray: bool,
     directive: Directive,
     values: &[Word],
 ) -> Result<Option<ConfKind>, Memory>
-    ensures { IfOk result (λ fault. fault ≡ first_fault (checks inside brace stray (is_unbuilt built directive) (form_of directive) (texts values.now))) }
+    ensures { IfOk result (λ fault. fault ≡ first_fault (checks inside brace stray (is_unbuilt directive) (form_of directive) (texts values.now))) }
 {
     let form = form_of(directive);
-    let unbuilt = is_unbuilt(built, directive);
+    let unbuilt = is_unbuilt(directive);
     first_fault(alloc, inside, brace, stray, unbuilt, &form, values)
 }

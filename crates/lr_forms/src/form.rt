@@ -46,7 +46,7 @@ pub enum Form {
     Include,
     /// A list, outside definitions alone: of patterns, or else of endings.
     Taboo { patterns: bool },
-    /// No form of it is read yet.
+    /// It isn't built, and no form of it is read.
     Later,
 }
 

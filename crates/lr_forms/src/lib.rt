@@ -2,17 +2,15 @@
 //!
 //! The contract: [`say`] gives exactly what the line says, inside a definition of logs or outside: the first fault that
 //! applies to it, in the order of `lr_rules::ConfKind`, else what it sets, names, includes or passes over. What is set
-//! meets the limits of `lr_rules`. [`Built`] tells which directives count as built; a line with another is NotYet. What
-//! depends on the lines before it, as names without a brace and a script that stands twice, is for `lr_conf`. Begin with
-//! [`say`]:
+//! meets the limits of `lr_rules`. A line with a directive that isn't built is NotYet. What depends on the lines before
+//! it, as names without a brace and a script that stands twice, is for `lr_conf`. Begin with [`say`]:
 //!
 //! ```text
 //! // each item of a `lr_lex::Lexer`
-//! let said = say(alloc, item, inside, Built::SoFar)?;
+//! let said = say(alloc, item, inside)?;
 //! ```
 #![tactic(auto)]
 
-mod built;
 mod faults;
 mod form;
 mod laws;
@@ -24,9 +22,9 @@ mod said;
 mod script;
 mod set;
 mod taboo;
+mod unbuilt;
 mod value;
 
-pub use built::{Built, script_is_unbuilt};
 pub use laws::lines_meet_limits;
 pub use reading::say;
 pub use said::{Said, closes, has_brace, line_of};

@@ -2,7 +2,6 @@
 ghost use Rattle.std.specs.Prelude.{◌≡◌, ◌∷◌, [], IfOk, MatchOption};
 ghost use Rattle.lr_forms.specs.Says.{directive_of, means, by_directive, texts, words_say, nested, said};
 
-use crate::built::Built;
 use crate::faults::fault_of;
 use crate::form::{Form, form_of};
 use crate::make::make_says;
@@ -46,19 +45,18 @@ fn split_first(words: Vec<Word>) -> Option<(Word, Vec<Word>)>
 
 fn directive_says(
     alloc: Global,
-    built: Built,
     inside: bool,
     brace: bool,
     stray: bool,
     word: Text,
     values: &[Word],
 ) -> Result<Said, Memory>
-    ensures { IfOk result (λ s. s ≡ by_directive built inside brace stray word (texts values.now) (directive_of word)) }
+    ensures { IfOk result (λ s. s ≡ by_directive inside brace stray word (texts values.now) (directive_of word)) }
 {
     let Some(directive) = directive_of(word.bytes()) else {
         return Ok(Said::Unknown);
     };
-    match fault_of(alloc, built, inside, brace, stray, directive, values)? {
+    match fault_of(alloc, inside, brace, stray, directive, values)? {
         Some(kind) => Ok(Said::Bad(kind)),
         None => means(alloc, form_of(directive), word, values),
     }
@@ -67,13 +65,12 @@ fn directive_says(
 /// What a line says whose first sign begins no name.
 fn words_say(
     alloc: Global,
-    built: Built,
     words: Listed<Word>,
     inside: bool,
     brace: bool,
     stray: bool,
 ) -> Result<Said, Memory>
-    ensures { IfOk result (λ s. s ≡ words_say built inside brace stray words) }
+    ensures { IfOk result (λ s. s ≡ words_say inside brace stray words) }
 {
     let Some((word, values)) = split_first(words.into_vec()) else {
         return Ok(if inside {
@@ -85,15 +82,7 @@ fn words_say(
     if inside && brace {
         return Ok(Said::Bad(ConfKind::NestedBrace));
     }
-    directive_says(
-        alloc,
-        built,
-        inside,
-        brace,
-        stray,
-        word.text,
-        values.as_slice(),
-    )
+    directive_says(alloc, inside, brace, stray, word.text, values.as_slice())
 }
 
 /// The fault of a line that may stand in no definition, where it stands in one.
@@ -104,8 +93,8 @@ fn nested(brace: bool, kind: ConfKind) -> Said
 }
 
 /// What a line says, inside a definition or outside. The first fault that applies is the line's.
-pub fn say(alloc: Global, item: Item, inside: bool, built: Built) -> Result<Said, Memory>
-    ensures { IfOk result (λ s. s ≡ said built inside item) }
+pub fn say(alloc: Global, item: Item, inside: bool) -> Result<Said, Memory>
+    ensures { IfOk result (λ s. s ≡ said inside item) }
 {
     match item {
         Item::Close { .. } => Ok(Said::Close),
@@ -124,7 +113,7 @@ pub fn say(alloc: Global, item: Item, inside: bool, built: Built) -> Result<Said
             ..
         } => {
             if !names {
-                words_say(alloc, built, words, inside, brace, stray)
+                words_say(alloc, words, inside, brace, stray)
             } else if inside {
                 Ok(nested(brace, ConfKind::Stray))
             } else {

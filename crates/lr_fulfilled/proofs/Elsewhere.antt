@@ -1,5 +1,5 @@
 -- The changes of a run are names of the logs that it rotates, and of its state; all else is left alone.
-use Rattle.std.proofs.Common.{◌≡◌, ◌≢◌, ◌⊎◌, inl, inr, ⊎_elim, Bool, true, false, cond, refl, sym, ◌∙◌, ap, subst, List, [], ◌∷◌, ◌++◌, reverse}
+use Rattle.std.proofs.Common.{◌≡◌, ◌≢◌, ◌⊎◌, inl, inr, ⊎_elim, Bool, true, false, cond, refl, sym, ◌∙◌, ap, subst, ℕ, Option, Some, None, List, [], ◌∷◌, ◌++◌, reverse}
 use Rattle.std.specs.Prelude.{filter}
 use Rattle.std.proofs.lemmas.List.{reverse-reverse}
 use Rattle.std.proofs.lemmas.List.Elements.{filter-append}
@@ -25,26 +25,28 @@ use Rattle.lr_looks.specs.Found.{FoundLog}
 use Rattle.lr_looks.specs.Shown.{ShowsLooks}
 use Rattle.lr_plan.specs.declared.looks.LogLook.{LogLook}
 use Rattle.lr_plan.specs.declared.looks.SetLooks.{SetLooks}
+use Rattle.lr_plan.specs.Planned.{makes_dir, mode_of}
 use Rattle.lr_plan.specs.Steps.{state_part}
-use Rattle.lr_targets.specs.AllTurns.{IsStatePath, IsOf, IsOfState, IsOfSome}
+use Rattle.lr_targets.specs.AllTurns.{IsStatePath, IsItsDir, IsOfState, IsOfSome}
 use Rattle.lr_targets.specs.Target.{Target, IsOneOf}
 use Rattle.lr_dated_run.specs.Own.{HaveAnyNames}
-use Rattle.lr_dated_run.proofs.Mixed.{any_change}
 use Rattle.lr_mixed.specs.AllTurns.{AllTurnsBy}
 use Rattle.lr_mixed.proofs.Seen.{have_names}
 use Rattle.lr_seen.specs.Free.{reserved_by}
 use Rattle.lr_seen.specs.Targets.{all_targets}
 use Rattle.lr_seen.proofs.Kept.{kept_has_none, kept_meets_none}
+use Rattle.lr_seen.proofs.Coming.{Comes, comes_from}
+use Rattle.lr_run.proofs.Owned.{own_or_dir}
 use Rattle.lr_fulfilled.specs.Fulfilled.{IsElsewhere, HasNone}
 use Rattle.lr_fulfilled.specs.Left.{IsLeftAlone}
 use Rattle.lr_fulfilled.proofs.Left.{left_alone}
 
 -- ---- one change
 
-some_aside : (x : Path) (ts : List Target) (e : Entry) → HaveAnyNames ts → ((t : Target) → IsOneOf t ts → IsOwnName t.log t.naming x → ⊥) → IsOfSome ts e → IsAsideOf x e
-some_aside x [] e h none i = absurd i
-some_aside x (t ∷ ts) e h none (inl i) = λ at. none t (inl refl) (any_change t e h.0 i x at)
-some_aside x (t ∷ ts) e h none (inr i) = some_aside x ts e h.1 (λ u j. none u (inr j)) i
+some_aside : (x : Path) (ts : List Target) (e : Entry) → HaveAnyNames ts → ((t : Target) → IsOneOf t ts → IsOwnName t.log t.naming x → ⊥) → ((t : Target) → IsOneOf t ts → IsItsDir t x → ⊥) → IsOfSome ts e → IsAsideOf x e
+some_aside x [] e h none no_dir i = absurd i
+some_aside x (t ∷ ts) e h none no_dir (inl i) = λ at. ⊎_elim (none t (inl refl)) (no_dir t (inl refl)) (own_or_dir t h.0 e i x at)
+some_aside x (t ∷ ts) e h none no_dir (inr i) = some_aside x ts e h.1 (λ u j. none u (inr j)) (λ u j. no_dir u (inr j)) i
 
 no_state_path : (state x y : Path) → x ≢ state → x ≢ state_part state → IsStatePath state y → y ≡ x → ⊥
 no_state_path state x y a b (inl is) same = a (sym same ∙ is)
@@ -62,7 +64,7 @@ abbrev pub IsOfRun : Path → List Target → Entry → Type 0
 IsOfRun state targets e = IsOfSome targets e ⊎ IsOfState state e
 
 one_aside : (state x : Path) (targets : List Target) (e : Entry) → HaveAnyNames targets → IsElsewhere state targets x → IsOfRun state targets e → IsAsideOf x e
-one_aside state x targets e h away (inl i) = some_aside x targets e h away.no_name i
+one_aside state x targets e h away (inl i) = some_aside x targets e h away.no_name away.no_dir i
 one_aside state x targets e h away (inr i) = state_aside state x e away.no_state away.no_part i
 
 -- ---- all changes
@@ -98,10 +100,27 @@ turns_leave state clock rules p q es reads tail x t m j joined quiet away = else
 
 -- ---- a log that was kept
 
+-- the directory that a rotation makes is that of the family
+its_dir : (rules : List Rule) (sets : List SetLooks) (clock : Clock) (decide : Rule → LogLook → Due) (t : Target) (x : Path) → IsIn t (all_targets clock decide rules sets) → IsItsDir t x → x ≡ t.naming.dir
+its_dir rules sets clock decide t x i h = subst (λ (u : Target). IsItsDir u x → x ≡ u.naming.dir) (sym c.is) (λ d. go (makes_dir c.rule c.look) d.0 d.1) h
+  where
+    c : Comes clock rules sets t
+    c = comes_from clock decide rules sets t i
+
+    go : (makes : Bool) (mode : Option ℕ) → cond {A = Option (Path × Option ℕ)} makes (Some (c.look.family.naming.dir, mode_of c.rule.createolddir)) None ≡ Some (x, mode) → x ≡ c.look.family.naming.dir
+    go true mode e = let same : (c.look.family.naming.dir, mode_of c.rule.createolddir) ≡ (x, mode) = cc in sym (ap (λ (d : Path × Option ℕ). d.0) same)
+    go false mode e = let clash : None ≡ Some (x, mode) = e in cc
+
+one_in : (t : Target) (ts : List Target) → IsOneOf t ts → IsIn t ts
+one_in t [] i = i
+one_in t (u ∷ us) (inl is) = inl is
+one_in t (u ∷ us) (inr i) = inr (one_in t us i)
+
 pub kept_elsewhere : (state : Path) (rules : List Rule) (sets : List SetLooks) (faults : List Fault) (ts : List Entry) (clock : Clock) (decide : Rule → LogLook → Due) (f : FoundLog) (x : Path) → (s : ShowsLooks (reserved_by state) rules sets faults ts) → IsIn f s.kept
     → HasNone (all_targets clock decide rules sets) f.log.path → IsOwnName f.log.path f.log.naming x → IsElsewhere state (all_targets clock decide rules sets) x
 kept_elsewhere state rules sets faults ts clock decide f x s kept none own = record {
   no_state = λ same. kept_has_none rules sets faults ts s f kept state (inl refl) (inl (subst (IsOwnName f.log.path f.log.naming) same own));
   no_part = λ same. kept_has_none rules sets faults ts s f kept (state_part state) (inr (inl refl)) (inl (subst (IsOwnName f.log.path f.log.naming) same own));
   no_name = λ t one named. kept_meets_none rules sets faults ts s f kept clock decide t one (none t one) (x, inl (named, inl own));
+  no_dir = λ t one dir. kept_meets_none rules sets faults ts s f kept clock decide t one (none t one) (x, inr (inr (its_dir rules sets clock decide t x (one_in t (all_targets clock decide rules sets) one) dir), own));
 }

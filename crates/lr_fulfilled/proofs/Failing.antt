@@ -19,7 +19,7 @@ use Rattle.lr_plan.specs.Course.{Course}
 use Rattle.lr_plan.specs.Done.{ActsDone}
 use Rattle.lr_plan.specs.Outcomes.{Fails}
 use Rattle.lr_plan.specs.Steps.{state_part, step_if, state_steps}
-use Rattle.lr_run.specs.Runs.{Worked, plan_in, state_text}
+use Rattle.lr_run.specs.Runs.{Worked, plan_in, dirs_in, state_text}
 use Rattle.lr_run.proofs.Called.{none_behind, worked_met_none}
 use Rattle.lr_fulfilled.specs.Fulfilled.{NothingFailed}
 
@@ -89,14 +89,14 @@ course_none part (s ∷ ss) ms fs ts tell (inr g) no_call free = course_none par
 
 -- ---- all acts
 
-pub worked_met_nothing : (state : Path) (rules : List Rule) (clock : Clock) (asked : Asked) (own : List Fault) (ts : List Entry) → (w : Worked state rules clock asked own ts) → NothingFailed state own → w.acted.of_acts ≡ []
-worked_met_nothing state rules clock asked own ts w n = a.faults_are ∙ (ap (λ fs. fs ++ a.of_state) (worked_met_none state rules clock asked own ts w n.no_call n.no_end n.no_copy) ∙ wrote)
+pub worked_met_nothing : (state : Path) (rules : List Rule) (clock : Clock) (asked : Asked) (own : List Fault) (ts : List Entry) → (w : Worked state rules clock asked own ts) → NothingFailed state (dirs_in (plan_in state rules ts w.looked clock asked)) own → w.acted.of_acts ≡ []
+worked_met_nothing state rules clock asked own ts w n = a.faults_are ∙ (ap (λ fs. fs ++ a.of_state) (worked_met_none state rules clock asked own ts w n.met) ∙ wrote)
   where
     a : ActsDone (plan_in state rules ts w.looked clock asked) state w.looked.remembered.stale (λ made. w.acted.dirs) (state_text state rules ts w.looked clock) w.acted.marks w.acted.of_acts w.looked.acts
     a = w.acted.entries
 
     acts_called : calls_in w.acted.of_acts ≡ 0
-    acts_called = none_behind _ (plan_in state rules ts w.looked clock asked).faults w.acted.of_acts refl (none_behind own w.looked.of_looks _ w.acted.faults_are n.no_call)
+    acts_called = none_behind _ (plan_in state rules ts w.looked clock asked).faults w.acted.of_acts refl (none_behind own w.looked.of_looks _ w.acted.faults_are n.met.no_call)
 
     in_own : IsIn (fault.Taken (state_part state)) a.of_state → IsIn (fault.Taken (state_part state)) own
     in_own i = subst (IsIn (fault.Taken (state_part state))) (sym w.acted.faults_are)

@@ -16,11 +16,10 @@ use Rattle.lr_host.specs.Looks.{IsDir}
 use Rattle.lr_host.specs.Opening.{IsJournal}
 use Rattle.lr_host.specs.Quiet.{is_disk_change, IsQuiet, AreQuiet, AttachedOnlySince}
 use Rattle.lr_host.specs.Steps.{is_change}
-use Rattle.lr_host.specs.Told.{Each, IsTools, Made}
+use Rattle.lr_host.specs.Told.{Each, Made}
 use Rattle.lr_host.specs.World.{Past}
 use Rattle.lr_host.proofs.Lists.{in_front, in_back}
-use Rattle.lr_host.proofs.Each.{each_append, each_as, each_first, each_reverse, none_pass}
-use Rattle.lr_host.proofs.Made.{made_tools}
+use Rattle.lr_host.proofs.Each.{each_append, each_as, none_pass}
 use Rattle.lr_host.proofs.Quiet.{quiet_both, quiet_changes}
 use Rattle.lr_durable.specs.Renewing.{IsAsideOf, MayRenew, left_alone, renewed, HasText}
 use Rattle.lr_durable.proofs.Behind.{renewed_text}
@@ -44,8 +43,9 @@ use Rattle.lr_seen.proofs.Seen.{targets_have_names}
 use Rattle.lr_writing.specs.Named.{IsNamed}
 use Rattle.lr_writing.proofs.Named.{named_whole}
 use Rattle.lr_run.specs.Dry.{IsSight, AreSights}
-use Rattle.lr_run.specs.Runs.{Inside, Looked, Worked, plan_in, logs_in, state_text}
-use Rattle.lr_run.proofs.Renewing.{behind_quiet, each_later, worked_may}
+use Rattle.lr_run.specs.Runs.{Inside, Looked, Worked, plan_in, logs_in, dirs_in, state_text}
+use Rattle.lr_run.proofs.Made.{are_made}
+use Rattle.lr_run.proofs.Renewing.{behind_quiet, between_made, worked_may}
 use Rattle.lr_run.proofs.Rotating.{run_rotated, run_dated_rotated}
 use Rattle.lr_run.proofs.Turning.{run_turned, run_dated_turned}
 use Rattle.lr_run.proofs.Seeing.{seen_so}
@@ -55,8 +55,11 @@ use Rattle.lr_fulfilled.specs.Fulfilled.{NothingFailed, steps_in, IsElsewhere, I
 use Rattle.lr_fulfilled.specs.Left.{IsLeftAlone}
 use Rattle.lr_fulfilled.proofs.Acts.{none_of}
 use Rattle.lr_fulfilled.proofs.Elsewhere.{IsOfRun, elsewhere_left, kept_elsewhere, behind_start}
+use Rattle.lr_writing.specs.Directories.{AreDirectoriesOf}
+use Rattle.lr_synced.specs.Synced.{all_changed_of}
+use Rattle.lr_synced.proofs.Laws.{all_synced}
 use Rattle.lr_fulfilled.proofs.Failing.{worked_met_nothing}
-use Rattle.lr_fulfilled.proofs.Planned.{logs_planned, acts_planned}
+use Rattle.lr_fulfilled.proofs.Planned.{dirs_planned, logs_planned, acts_planned}
 
 -- ---- looks, listings and reads
 
@@ -84,7 +87,7 @@ behind_sights xs ys a = filter-append is_act xs ys ∙ ap (λ (zs : List Entry).
 
 -- ---- the run
 
-module _ (state : Path) (asked : Asked) (clock : Clock) (rules : Rules) (own : List Fault) (p q : Past) (es reads acts : List Entry) (made : Made p es q) (journal : IsJournal p) (joined : reverse es ≡ reads ++ acts) (sights : AreSights reads) (i : Inside state clock rules (Worked state rules.sets clock asked own) acts) (nothing : NothingFailed state own) where
+module _ (state : Path) (asked : Asked) (clock : Clock) (rules : Rules) (own : List Fault) (p q : Past) (es reads acts : List Entry) (made : Made p es q) (journal : IsJournal p) (joined : reverse es ≡ reads ++ acts) (sights : AreSights reads) (i : Inside state clock rules (Worked state rules.sets clock asked own) acts) (nothing : NothingFailed state (dirs_in (plan_in state rules.sets i.between i.within.looked clock asked)) own) where
   abbrev w : Worked state rules.sets clock asked own i.between
   w = i.within
 
@@ -165,19 +168,13 @@ module _ (state : Path) (asked : Asked) (clock : Clock) (rules : Rules) (own : L
 
   -- ---- its state
 
-  tools : Each IsTools (reverse es)
-  tools = each_reverse IsTools es (made_tools p q es made)
-
-  between_tools : Each IsTools i.between
-  between_tools = each_first IsTools i.between (entry.Ends ∷ []) (each_later IsTools (reads ++ i.before) (entry.Starts state clock.now rules ∷ (i.between ++ entry.Ends ∷ [])) (subst (Each IsTools) whole tools)).1
-
   abbrev text : List ℕ
   text = state_text state rules.sets i.between l clock (rotated_logs w.acted.marks)
 
   may_renew : MayRenew state (λ bytes. bytes ≡ text) (reverse es)
   may_renew = subst (MayRenew state (λ bytes. bytes ≡ text)) (sym whole)
       (behind_quiet state (λ bytes. bytes ≡ text) (λ bytes. bytes ≡ text) (λ bytes is. is) (reads ++ i.before) (entry.Starts state clock.now rules ∷ (i.between ++ entry.Ends ∷ [])) front_quiet
-      (worked_may state rules clock asked own i.between w between_tools (λ bytes. bytes ≡ text) refl (entry.Starts state clock.now rules ∷ []) ((λ h. h), tt) ((λ x h. absurd h), tt)))
+      (worked_may state rules clock asked own i.between w (between_made state rules clock asked (reads ++ i.before) i.between (reverse es) whole (are_made p q es made journal)) (λ bytes. bytes ≡ text) refl (entry.Starts state clock.now rules ∷ []) ((λ h. h), tt) ((λ x h. absurd h), tt)))
 
   wrote : IsNamed state w.acted.dirs text w.acted.entries.entries.back
   wrote = named_whole state l.remembered.stale w.acted.dirs text w.acted.entries.entries.back
@@ -202,6 +199,10 @@ module _ (state : Path) (asked : Asked) (clock : Clock) (rules : Rules) (own : L
       go (left_alone a) = absurd (each_in (IsAsideOf state) (reverse es) (entry.Renames (state_part state) state) a renames (inr (inl refl)))
       go (renewed dirs bytes is r) = subst (λ (bs : List ℕ). HasText state bs q) is (renewed_text state dirs bytes p q es made journal r only)
 
+  dirs_synced : AreDirectoriesOf (all_changed_of (plan_in state rules.sets i.between l clock asked).sets ++ dirs_in (plan_in state rules.sets i.between l clock asked)) w.acted.dirs
+  dirs_synced = all_synced (plan_in state rules.sets i.between l clock asked).sets w.acted.marks w.acted.dirs w.acted.dirs_are
+      (λ dir j. subst (IsIn dir) (sym (dirs_planned (plan_in state rules.sets i.between l clock asked) state l.remembered.stale (λ marks. w.acted.dirs) (state_text state rules.sets i.between l clock) w.acted.marks l.acts done)) j)
+
   -- ---- all of it
 
   run_faults : own ≡ l.of_looks ++ (plan_in state rules.sets i.between l clock asked).faults
@@ -211,12 +212,12 @@ module _ (state : Path) (asked : Asked) (clock : Clock) (rules : Rules) (own : L
   fulfilled = record {
     faults = run_faults;
     dirs = w.acted.dirs;
-    dirs_are = w.acted.dirs_are;
+    dirs_are = dirs_synced;
     acts = run_acts;
-    rotated = λ t one by_rename numbered. run_rotated state asked clock rules own p q es reads acts made journal joined (sights_quiet reads sights) i nothing.no_call nothing.no_end nothing.no_copy t one by_rename numbered;
-    dated_rotated = λ t one by_rename dated. run_dated_rotated state asked clock rules own p q es reads acts made journal joined (sights_quiet reads sights) i nothing.no_call nothing.no_end nothing.no_copy t one by_rename dated;
-    turned = λ t one job is numbered. run_turned state asked clock rules own p q es reads acts made journal joined (sights_quiet reads sights) i nothing.no_call nothing.no_end nothing.no_copy t one job is numbered;
-    dated_turned = λ t one job is dated. run_dated_turned state asked clock rules own p q es reads acts made journal joined (sights_quiet reads sights) i nothing.no_call nothing.no_end nothing.no_copy t one job is dated;
+    rotated = λ t one by_rename numbered. run_rotated state asked clock rules own p q es reads acts made journal joined (sights_quiet reads sights) i nothing.met t one by_rename numbered;
+    dated_rotated = λ t one by_rename dated. run_dated_rotated state asked clock rules own p q es reads acts made journal joined (sights_quiet reads sights) i nothing.met t one by_rename dated;
+    turned = λ t one job is numbered. run_turned state asked clock rules own p q es reads acts made journal joined (sights_quiet reads sights) i nothing.met t one job is numbered;
+    dated_turned = λ t one job is dated. run_dated_turned state asked clock rules own p q es reads acts made journal joined (sights_quiet reads sights) i nothing.met t one job is dated;
     written = written;
     kept = λ f kept free x is. others_left x (kept_elsewhere state rules.sets l.sets l.of_looks l.looks clock decide f x l.shown kept free is);
     others = others_left;

@@ -9,6 +9,8 @@ use Rattle.lr_plan.specs.declared.mark.Mark.{Mark}
 use Rattle.lr_plan.specs.declared.planned.Plan.{Plan}
 use Rattle.lr_plan.specs.Done.{ActsDone, rotated_logs}
 use Rattle.lr_plan.specs.Steps.{steps_of_plan, state_steps}
+use Rattle.lr_synced.specs.Synced.{made_in, all_to_make_of}
+use Rattle.lr_synced.proofs.Telling.{plan_dirs}
 use Rattle.lr_run.specs.Runs.{logs_in}
 use Rattle.lr_fulfilled.specs.Acts.{is_act, AreActsOf}
 use Rattle.lr_fulfilled.proofs.Acts.{acts_both, Went, none_of, course_went, sets_went}
@@ -23,6 +25,10 @@ module _ (plan : Plan) (state : Path) (stale : Bool) (dirs : List Mark → List 
 
   pub logs_planned : rotated_logs marks ≡ logs_in plan
   logs_planned = ap rotated_logs went.marks_are ∙ plan_logs plan
+
+  -- each directory that was to be made was
+  pub dirs_planned : made_in marks ≡ all_to_make_of plan.sets
+  dirs_planned = ap made_in went.marks_are ∙ plan_dirs plan.sets
 
   wrote : AreActsOf (state_steps state stale (dirs marks) (text (rotated_logs marks))) (filter is_act d.entries.back)
   wrote = (course_went (state_steps state stale (dirs marks) (text (rotated_logs marks))) [] d.of_state d.entries.back parts.1 d.entries.second).acts

@@ -7,7 +7,6 @@ use Rattle.lr_rules.specs.declared.path.Path.{Path}
 use Rattle.lr_rules.specs.declared.rule.Rule.{Rule}
 use Rattle.lr_rules.specs.Names.{IsOwnName}
 use Rattle.lr_host.specs.declared.entry.Entry.{Entry}
-use Rattle.lr_host.specs.Counted.{calls_in, scripts_in}
 use Rattle.lr_host.specs.Lists.{IsIn}
 use Rattle.lr_host.specs.Quiet.{AttachedOnlySince}
 use Rattle.lr_host.specs.World.{Past}
@@ -18,20 +17,20 @@ use Rattle.lr_looks.specs.Found.{FoundLog}
 use Rattle.lr_plan.specs.Asked.{Asked}
 use Rattle.lr_plan.specs.declared.step.Step.{Step}
 use Rattle.lr_plan.specs.Steps.{steps_of_plan, state_part, state_steps}
+use Rattle.lr_targets.specs.AllTurns.{IsItsDir}
 use Rattle.lr_targets.specs.Target.{Target, IsOneOf}
-use Rattle.lr_run.specs.Copied.{NoneOfCopy}
+use Rattle.lr_run.specs.Met.{MetNothing}
 use Rattle.lr_run.specs.Rotated.{rotated_in, IsRotatedAmong, IsDatedRotatedAmong}
 use Rattle.lr_run.specs.Turned.{IsTurnedAmong, IsDatedTurnedAmong}
-use Rattle.lr_run.specs.Runs.{Looked, logs_in, changed_in, plan_in, state_text}
+use Rattle.lr_run.specs.Runs.{Looked, logs_in, dirs_in, plan_in, state_text}
 use Rattle.lr_writing.specs.Directories.{AreDirectoriesOf}
+use Rattle.lr_synced.specs.Synced.{all_changed_of}
 use Rattle.lr_fulfilled.specs.Acts.{is_act, AreActsOf}
 use Rattle.lr_fulfilled.specs.Left.{IsLeftAlone}
 
--- Nothing failed of what a run did, by its own faults: none tells of a call that failed, of a program that ended badly or of a copy that broke off, and none that the path of the file was named to which a new state is first written. So each tells of what the looks saw, or of what the plan couldn't rotate.
-pub record NothingFailed (state : Path) (faults : List Fault) : Type 0 where
-  pub no_call : calls_in faults ≡ 0
-  pub no_end : scripts_in faults ≡ 0
-  pub no_copy : NoneOfCopy faults
+-- Nothing failed of what a run did whose plan makes these directories, by its own faults: none tells of a call that failed, of a program that ended badly, of a copy that broke off or of a directory that couldn't be made, and none that the path of the file was named to which a new state is first written. So each tells of what the looks saw, or of what the plan couldn't rotate.
+pub record NothingFailed (state : Path) (dirs : List Path) (faults : List Fault) : Type 0 where
+  pub met : MetNothing dirs faults
   pub not_taken : IsIn (fault.Taken (state_part state)) faults → ⊥
 
 -- the steps of the plan that follows from these looks, and then those of the writing of the state, with each log of the plan as rotated
@@ -39,11 +38,12 @@ abbrev pub steps_in : (state : Path) (rules : List Rule) (ts : List Entry) → L
 steps_in state rules ts l clock asked dirs =
     all_of_sets (steps_of_plan (plan_in state rules ts l clock asked)) ++ state_steps state l.remembered.stale dirs (state_text state rules ts l clock (logs_in (plan_in state rules ts l clock asked)))
 
--- The path is none of the state's, and no name of these logs.
+-- The path is none of the state's, no name of these logs, and no directory that their rotations make.
 pub record IsElsewhere (state : Path) (targets : List Target) (x : Path) : Type 0 where
   pub no_state : x ≢ state
   pub no_part : x ≢ state_part state
   pub no_name : (t : Target) → IsOneOf t targets → IsOwnName t.log t.naming x → ⊥
+  pub no_dir : (t : Target) → IsOneOf t targets → IsItsDir t x → ⊥
 
 -- none of these has the log
 abbrev pub HasNone : List Target → Path → Type 0
@@ -53,16 +53,16 @@ HasNone targets log = (t : Target) → IsOneOf t targets → t.log ≢ log
 pub record IsFulfilled (state : Path) (rules : List Rule) (clock : Clock) (asked : Asked) (ts : List Entry) (l : Looked state rules ts) (own : List Fault) (all : List Entry) (before after : Past) : Type 0 where
   -- its faults are those of the looks and of the plan, and no other
   pub faults : own ≡ l.of_looks ++ (plan_in state rules ts l clock asked).faults
-  -- the acts, in order, are those of the plan's steps and then those of the state's writing, before which these directories are synced
+  -- the acts, in order, are those of the plan's steps and then those of the state's writing, before which the directories are synced of all paths that the plan changes or makes
   pub dirs : List Path
-  pub dirs_are : AreDirectoriesOf (changed_in (plan_in state rules ts l clock asked)) dirs
+  pub dirs_are : AreDirectoriesOf (all_changed_of (plan_in state rules ts l clock asked).sets ++ dirs_in (plan_in state rules ts l clock asked)) dirs
   pub acts : AreActsOf (steps_in state rules ts l clock asked dirs) (filter is_act all)
   -- each log of the plan that is renamed was rotated, file by file: of numbered members, and of dated ones
   pub rotated : (t : Target) → IsOneOf t (rotated_in state rules ts l clock asked) → t.job ≡ None → t.naming.dated ≡ None → IsRotatedAmong state (rotated_in state rules ts l clock asked) before after t
-  pub dated_rotated : (t : Target) → IsOneOf t (rotated_in state rules ts l clock asked) → t.job ≡ None → IsSome t.naming.dated → IsDatedRotatedAmong state rules (rotated_in state rules ts l clock asked) clock before after t
+  pub dated_rotated : (t : Target) → IsOneOf t (rotated_in state rules ts l clock asked) → t.job ≡ None → IsSome t.naming.dated → IsDatedRotatedAmong state (rotated_in state rules ts l clock asked) clock before after t
   -- each that is copied was turned by its copy
   pub turned : (t : Target) → IsOneOf t (rotated_in state rules ts l clock asked) → (job : Job) → t.job ≡ Some job → t.naming.dated ≡ None → IsTurnedAmong state (rotated_in state rules ts l clock asked) before after t job
-  pub dated_turned : (t : Target) → IsOneOf t (rotated_in state rules ts l clock asked) → (job : Job) → t.job ≡ Some job → IsSome t.naming.dated → IsDatedTurnedAmong state rules (rotated_in state rules ts l clock asked) clock before after t job
+  pub dated_turned : (t : Target) → IsOneOf t (rotated_in state rules ts l clock asked) → (job : Job) → t.job ≡ Some job → IsSome t.naming.dated → IsDatedTurnedAmong state (rotated_in state rules ts l clock asked) clock before after t job
   -- the state tells of each of them, where no writer was attached to its path or to that of its part file
   pub written : AttachedOnlySince (λ x. (x ≢ state) × (x ≢ state_part state)) before after → HasText state (state_text state rules ts l clock (logs_in (plan_in state rules ts l clock asked))) after
   -- each other log that is kept was left alone, with its members

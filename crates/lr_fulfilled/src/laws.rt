@@ -26,7 +26,7 @@ ghost use Rattle.lr_plan.specs.Done.{ActsDone, rotated_logs};
 ghost use Rattle.lr_plan.specs.Steps.{steps_of_plan, state_steps};
 ghost use Rattle.lr_mixed.specs.AllTurns.{AllTurnsBy};
 ghost use Rattle.lr_run.specs.Dry.{AreSights};
-ghost use Rattle.lr_run.specs.Runs.{Inside, Worked, logs_in};
+ghost use Rattle.lr_run.specs.Runs.{Inside, Worked, logs_in, dirs_in, plan_in};
 ghost use Rattle.lr_seen.specs.Free.{reserved_by};
 ghost use Rattle.lr_seen.specs.Targets.{all_targets};
 ghost use Rattle.lr_fulfilled.specs.Acts.{is_act, AreActsOf};
@@ -39,7 +39,8 @@ ghost use Rattle.lr_fulfilled.specs.Truth.{LooksAreTrue};
 /// tells of them, and all else was left alone.
 pub fn run_is_fulfilled()
     ensures { (state : Path) (asked : Asked) (clock : Clock) (rules : Rules) (own : List Fault) (p q : Past) (es reads acts : List Entry)
-        → Made p es q → IsJournal p → reverse es ≡ reads ++ acts → AreSights reads → (i : Inside state clock rules (Worked state rules.sets clock asked own) acts) → NothingFailed state own
+        → Made p es q → IsJournal p → reverse es ≡ reads ++ acts → AreSights reads → (i : Inside state clock rules (Worked state rules.sets clock asked own) acts)
+        → NothingFailed state (dirs_in (plan_in state rules.sets i.between i.within.looked clock asked)) own
         → IsFulfilled state rules.sets clock asked i.between i.within.looked own (reverse es) p q }
 {}
 
@@ -54,11 +55,11 @@ pub fn acts_are_planned()
 
 /// Where a run tells of nothing that failed, its acts met no fault.
 pub fn run_meets_no_fault()
-    ensures { (state : Path) (rules : List Rule) (clock : Clock) (asked : Asked) (own : List Fault) (ts : List Entry) → (w : Worked state rules clock asked own ts) → NothingFailed state own → w.acted.of_acts ≡ [] }
+    ensures { (state : Path) (rules : List Rule) (clock : Clock) (asked : Asked) (own : List Fault) (ts : List Entry) → (w : Worked state rules clock asked own ts) → NothingFailed state (dirs_in (plan_in state rules ts w.looked clock asked)) own → w.acted.of_acts ≡ [] }
 {}
 
-/// A run leaves alone what is no path of its state and no name of a log that it rotates, however far it came, and whatever
-/// failed.
+/// A run leaves alone what is no path of its state, no name of a log that it rotates and no directory that it makes for one,
+/// however far it came, and whatever failed.
 pub fn others_are_left()
     ensures { (state : Path) (clock : Clock) (rules : Rules) (p q : Past) (es reads tail : List Entry) (x : Path) (t : AllTurnsBy state clock rules tail) → Made p es q → IsJournal p → reverse es ≡ reads ++ Starts state clock.now rules ∷ tail → AreQuiet reads
         → IsElsewhere state t.targets x → IsLeftAlone p q x }

@@ -16,7 +16,6 @@ use Rattle.lr_fields.specs.declared.fields.Fields.{Fields}
 use Rattle.lr_forms.specs.declared.set.Set.{Set}
 use Rattle.lr_forms.specs.declared.said.Said.{Said}
 use Rattle.lr_forms.specs.declared.said.Said.TheVariants as says
-use Rattle.lr_forms.specs.declared.built.Built.TheVariants as built
 use Rattle.lr_fields.specs.Fields.{fields_of, last_or}
 use Rattle.lr_conf.specs.declared.stop.Include.{Include}
 use Rattle.lr_conf.specs.Meaning.{Line, Read, Spoiled, End, Cut, Past, stands, spoiled, Meaning, nothing, file_of, first_pending, words_pending, words_with, settings, opened, opens, past, before, through, behind, ends, Within, states, broken, left_open, within, body_of, drops, set_in, fault_of, fault_in, broken_fault, spoilt_fault, told, at_line, left_names, stray_at, own_fault, line_faults, of_end, of_body, of_opening, meaning}
@@ -58,7 +57,7 @@ abbrev pub IsFinePast : Bool → Past → Type 0
 IsFinePast calls (spoiled f) = (IsAllowed calls) f
 IsFinePast calls p = Unit {0}
 
-past_fine : (calls : Bool) (e : Line) → (IsFine calls) e → (IsFinePast calls) (past built.SoFar e)
+past_fine : (calls : Bool) (e : Line) → (IsFine calls) e → (IsFinePast calls) (past e)
 past_fine calls (Read file i) ok = tt
 past_fine calls (Spoiled f) ok = ok
 past_fine calls (End file) ok = tt
@@ -79,13 +78,13 @@ abbrev pub IsFineWithin : Bool → Within → Type 0
 IsFineWithin calls (broken f) = (IsAllowed calls) f
 IsFineWithin calls w = Unit {0}
 
-within_fine : (calls : Bool) (earlier : List Line) (e : Line) → (IsFine calls) e → (IsFineWithin calls) (within built.SoFar earlier e)
+within_fine : (calls : Bool) (earlier : List Line) (e : Line) → (IsFine calls) e → (IsFineWithin calls) (within earlier e)
 within_fine calls earlier (Read file i) ok = tt
 within_fine calls earlier (Spoiled f) ok = ok
 within_fine calls earlier (End file) ok = tt
 within_fine calls earlier Cut ok = tt
 
-lines_fine : (calls : Bool) (earlier es : List Line) → Each (IsFine calls) es → Each (IsFineWithin calls) (body_of built.SoFar earlier es)
+lines_fine : (calls : Bool) (earlier es : List Line) → Each (IsFine calls) es → Each (IsFineWithin calls) (body_of earlier es)
 lines_fine calls earlier [] ok = tt
 lines_fine calls earlier (e ∷ es) ok = ((within_fine calls) earlier e ok.0, (lines_fine calls) (earlier ++ e ∷ []) es ok.1)
 
@@ -138,10 +137,10 @@ end_fine calls at words f (Some (Spoiled e)) = tt
 end_fine calls at words f (Some (End file)) = (tt, tt)
 end_fine calls at words f (Some Cut) = tt
 
-body_fine : (calls : Bool) (o : Option ℕ) (words : List (List ℕ)) (vs : List Set) (es : List Line) → Each (IsFine calls) es → Faults calls (of_body built.SoFar o words vs es)
+body_fine : (calls : Bool) (o : Option ℕ) (words : List (List ℕ)) (vs : List Set) (es : List Line) → Each (IsFine calls) es → Faults calls (of_body o words vs es)
 body_fine calls None words vs es ok = mapped (IsFine calls) (IsAllowed calls) spoilt_fault (spoilt_fine calls) (before ends es) (front (IsFine calls) ends es ok)
 body_fine calls (Some at) words vs es ok =
-    let body = body_of built.SoFar [] (before ends es) in
+    let body = body_of [] (before ends es) in
     let fine : Each (IsFineWithin calls) body = (lines_fine calls) [] (before ends es) (front (IsFine calls) ends es ok) in
     let f = fields_of (vs ++ filter_map set_in body) in
     let rest = told (filter_map broken_fault (behind drops body)) in
@@ -150,22 +149,22 @@ body_fine calls (Some at) words vs es ok =
     ((either calls) (list_any drops body) rest (of_end at words f (find ends es))
     (mapped (IsFineWithin calls) (IsAllowed calls) broken_fault (broken_fine calls) (behind drops body) (behind_each (IsFineWithin calls) drops body fine)) ((end_fine calls) at words f (find ends es)))
 
-opening_fine : (calls : Bool) (out : List Past) (p : Past) (es : List Line) → Each (IsFine calls) es → Faults calls (of_opening built.SoFar out p es)
+opening_fine : (calls : Bool) (out : List Past) (p : Past) (es : List Line) → Each (IsFine calls) es → Faults calls (of_opening out p es)
 opening_fine calls out p es ok =
-    (either calls) (opens p) (of_body built.SoFar (opened (first_pending out) p) (words_with (words_pending out) p) (settings (out ++ p ∷ [])) es) nothing
+    (either calls) (opens p) (of_body (opened (first_pending out) p) (words_with (words_pending out) p) (settings (out ++ p ∷ [])) es) nothing
     ((body_fine calls) (opened (first_pending out) p) (words_with (words_pending out) p) (settings (out ++ p ∷ [])) es ok) tt
 
-pub meaning_fine : (calls : Bool) (es : List Line) (inside : Bool) (out : List Past) → Each (IsFine calls) es → Faults calls (meaning built.SoFar inside out es)
+pub meaning_fine : (calls : Bool) (es : List Line) (inside : Bool) (out : List Past) → Each (IsFine calls) es → Faults calls (meaning inside out es)
 meaning_fine calls [] true out ok = tt
 meaning_fine calls [] false out ok = tt
 meaning_fine calls (e ∷ es) true out ok =
-    let p = past built.SoFar e in
-    (either calls) (ends e) (meaning built.SoFar false (out ++ p ∷ []) es) (meaning built.SoFar true out es) ((meaning_fine calls) es false (out ++ p ∷ []) ok.1) ((meaning_fine calls) es true out ok.1)
+    let p = past e in
+    (either calls) (ends e) (meaning false (out ++ p ∷ []) es) (meaning true out es) ((meaning_fine calls) es false (out ++ p ∷ []) ok.1) ((meaning_fine calls) es true out ok.1)
 meaning_fine calls (e ∷ es) false out ok =
-    let p = past built.SoFar e in
-    append (IsAllowed calls) (line_faults (file_of e) (first_pending out) p) ((of_opening built.SoFar out p es).faults ++ (meaning built.SoFar (opens p) (out ++ p ∷ []) es).faults)
+    let p = past e in
+    append (IsAllowed calls) (line_faults (file_of e) (first_pending out) p) ((of_opening out p es).faults ++ (meaning (opens p) (out ++ p ∷ []) es).faults)
     ((line_fine calls) (file_of e) (first_pending out) p ((past_fine calls) e ok.0))
-    (append (IsAllowed calls) (of_opening built.SoFar out p es).faults (meaning built.SoFar (opens p) (out ++ p ∷ []) es).faults
+    (append (IsAllowed calls) (of_opening out p es).faults (meaning (opens p) (out ++ p ∷ []) es).faults
     ((opening_fine calls) out p es ok.1) ((meaning_fine calls) es (opens p) (out ++ p ∷ []) ok.1))
 
 -- ---- stages

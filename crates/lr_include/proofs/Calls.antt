@@ -11,7 +11,6 @@ use Rattle.lr_rules.specs.declared.fault.Fault.{Fault}
 use Rattle.lr_rules.specs.declared.fault.Fault.TheVariants as fault
 use Rattle.lr_rules.specs.Path.{path_fault, joined}
 use Rattle.lr_lex.specs.Items.{Told}
-use Rattle.lr_forms.specs.declared.built.Built.TheVariants as built
 use Rattle.lr_forms.specs.declared.said.Said.{Said}
 use Rattle.lr_forms.specs.declared.said.Said.TheVariants as says
 use Rattle.lr_forms.specs.declared.set.Set.{Set}
@@ -83,19 +82,19 @@ abbrev calls_within : Within → ℕ
 calls_within (broken f) = call_in f
 calls_within w = 0
 
-past_calls : (e : Line) → calls_past (past built.SoFar e) ≡ calls_line e
+past_calls : (e : Line) → calls_past (past e) ≡ calls_line e
 past_calls (Read file i) = refl
 past_calls (Spoiled f) = refl
 past_calls (End file) = refl
 past_calls Cut = refl
 
-within_calls : (earlier : List Line) (e : Line) → calls_within (within built.SoFar earlier e) ≡ calls_line e
+within_calls : (earlier : List Line) (e : Line) → calls_within (within earlier e) ≡ calls_line e
 within_calls earlier (Read file i) = refl
 within_calls earlier (Spoiled f) = refl
 within_calls earlier (End file) = refl
 within_calls earlier Cut = refl
 
-body_total : (earlier es : List Line) → total calls_within (body_of built.SoFar earlier es) ≡ total calls_line es
+body_total : (earlier es : List Line) → total calls_within (body_of earlier es) ≡ total calls_line es
 body_total earlier [] = refl
 body_total earlier (e ∷ es) = let a = within_calls earlier e in let more = body_total (earlier ++ e ∷ []) es in omega (arith, a, more)
 
@@ -137,9 +136,9 @@ own_calls file first (stands at brace (says.BadNames k)) = refl
 own_calls file first (spoiled f) = omega arith
 own_calls file first p = refl
 
-line_calls : (file : Path) (first : Option ℕ) (e : Line) → calls_in (line_faults file first (past built.SoFar e)) ≡ calls_line e
+line_calls : (file : Path) (first : Option ℕ) (e : Line) → calls_in (line_faults file first (past e)) ≡ calls_line e
 line_calls file first e =
-    let p = past built.SoFar e in
+    let p = past e in
     let a = calls_both (at_line file kind.NoBrace (left_names first p)) (own_fault file first p) in
     let b = at_calls file kind.NoBrace (left_names first p) in
     let c = own_calls file first p in
@@ -181,10 +180,10 @@ closed_calls : (at : ℕ) (words : List (List ℕ)) (f : Fields) (o : Option Lin
 closed_calls at words f o body true e = mapped_calls calls_within broken_fault broken_calls (behind drops body)
 closed_calls at words f o body false e = end_calls at words f o ∙ sym (ap (total calls_within) (none_behind drops body e))
 
-body_calls : (o : Option ℕ) (words : List (List ℕ)) (vs : List Set) (es : List Line) → calls_in (of_body built.SoFar o words vs es).faults ≡ total calls_line (before ends es)
+body_calls : (o : Option ℕ) (words : List (List ℕ)) (vs : List Set) (es : List Line) → calls_in (of_body o words vs es).faults ≡ total calls_line (before ends es)
 body_calls None words vs es = mapped_calls calls_line spoilt_fault spoilt_calls (before ends es)
 body_calls (Some at) words vs es =
-    let body = body_of built.SoFar [] (before ends es) in
+    let body = body_of [] (before ends es) in
     let f = fields_of (vs ++ filter_map set_in body) in
     let a = calls_both (filter_map fault_in (through drops body)) (cond (list_any drops body) (rest_of body) (of_end at words f (find ends es))).faults in
     let b = mapped_calls calls_within fault_in in_calls (through drops body) in
@@ -203,29 +202,29 @@ ends_none Cut h = refl
 
 -- Of lines outside definitions all are told; in one, those up to its end are told where it begins.
 abbrev Outside : List Past → List Line → Type 0
-Outside out es = calls_in (meaning built.SoFar false out es).faults ≡ total calls_line es
+Outside out es = calls_in (meaning false out es).faults ≡ total calls_line es
 
 abbrev Inside : List Past → List Line → Type 0
-Inside out es = total calls_line (before ends es) + calls_in (meaning built.SoFar true out es).faults ≡ total calls_line es
+Inside out es = total calls_line (before ends es) + calls_in (meaning true out es).faults ≡ total calls_line es
 
 opened_calls : (p : Past) (es : List Line) (out : List Past) → Outside (out ++ p ∷ []) es → Inside (out ++ p ∷ []) es → (b : Bool)
-    → calls_in (cond b (of_body built.SoFar (opened (first_pending out) p) (words_with (words_pending out) p) (settings (out ++ p ∷ [])) es) nothing).faults + calls_in (meaning built.SoFar b (out ++ p ∷ []) es).faults ≡ total calls_line es
+    → calls_in (cond b (of_body (opened (first_pending out) p) (words_with (words_pending out) p) (settings (out ++ p ∷ [])) es) nothing).faults + calls_in (meaning b (out ++ p ∷ []) es).faults ≡ total calls_line es
 opened_calls p es out f g true = let k = body_calls (opened (first_pending out) p) (words_with (words_pending out) p) (settings (out ++ p ∷ [])) es in omega (arith, k, g)
 opened_calls p es out f g false = omega (arith, f)
 
-outside_on : (e : Line) (es : List Line) (out : List Past) → Outside (out ++ past built.SoFar e ∷ []) es → Inside (out ++ past built.SoFar e ∷ []) es → Outside out (e ∷ es)
+outside_on : (e : Line) (es : List Line) (out : List Past) → Outside (out ++ past e ∷ []) es → Inside (out ++ past e ∷ []) es → Outside out (e ∷ es)
 outside_on e es out f g =
-    let p = past built.SoFar e in
-    let a = calls_both (line_faults (file_of e) (first_pending out) p) ((of_opening built.SoFar out p es).faults ++ (meaning built.SoFar (opens p) (out ++ p ∷ []) es).faults) in
-    let b = calls_both (of_opening built.SoFar out p es).faults (meaning built.SoFar (opens p) (out ++ p ∷ []) es).faults in
+    let p = past e in
+    let a = calls_both (line_faults (file_of e) (first_pending out) p) ((of_opening out p es).faults ++ (meaning (opens p) (out ++ p ∷ []) es).faults) in
+    let b = calls_both (of_opening out p es).faults (meaning (opens p) (out ++ p ∷ []) es).faults in
     let c = line_calls (file_of e) (first_pending out) e in
     let d = opened_calls p es out f g (opens p) in
     omega (arith, a, b, c, d)
 
-inside_on : (e : Line) (es : List Line) (out : List Past) → Outside (out ++ past built.SoFar e ∷ []) es → Inside out es → Inside out (e ∷ es)
+inside_on : (e : Line) (es : List Line) (out : List Past) → Outside (out ++ past e ∷ []) es → Inside out es → Inside out (e ∷ es)
 inside_on e es out f g = by (ends e) refl
   where
-    by : (b : Bool) → ends e ≡ b → total calls_line (cond b [] (e ∷ before ends es)) + calls_in (cond b (meaning built.SoFar false (out ++ past built.SoFar e ∷ []) es) (meaning built.SoFar true out es)).faults ≡ calls_line e + total calls_line es
+    by : (b : Bool) → ends e ≡ b → total calls_line (cond b [] (e ∷ before ends es)) + calls_in (cond b (meaning false (out ++ past e ∷ []) es) (meaning true out es)).faults ≡ calls_line e + total calls_line es
     by true h = let z = ends_none e h in omega (arith, z, f)
     by false h = omega (arith, g)
 
@@ -233,10 +232,10 @@ sides : (es : List Line) (out : List Past) → Outside out es × Inside out es
 sides [] out = (refl, refl)
 sides (e ∷ es) out =
     let here = sides es out in
-    let later = sides es (out ++ past built.SoFar e ∷ []) in
+    let later = sides es (out ++ past e ∷ []) in
     (outside_on e es out later.0 later.1, inside_on e es out later.0 here.1)
 
-meaning_calls : (es : List Line) → calls_in (meaning built.SoFar false [] es).faults ≡ total calls_line es
+meaning_calls : (es : List Line) → calls_in (meaning false [] es).faults ≡ total calls_line es
 meaning_calls es = (sides es []).0
 
 -- ---- stages

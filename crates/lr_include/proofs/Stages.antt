@@ -9,7 +9,6 @@ use Rattle.lr_rules.specs.declared.fault.ConfKind.{ConfKind}
 use Rattle.lr_rules.specs.declared.fault.Fault.{Fault}
 use Rattle.lr_rules.specs.declared.fault.Notice.{Notice}
 use Rattle.lr_rules.specs.declared.rule.Rule.{Rule}
-use Rattle.lr_forms.specs.declared.built.Built.TheVariants as built
 use Rattle.lr_match.specs.declared.taboo.Taboo.{Taboo}
 use Rattle.lr_match.specs.Taboos.{Bars, first_taboo}
 use Rattle.lr_conf.specs.declared.layer.Layer.{Layer}
@@ -58,21 +57,21 @@ one_line old new before after faults includes lines inside e same files_are is k
         ap (λ (fs : List Fault). told fs and coming new more) is
         ∙ (ap (λ (fs : List Fault). record { rules = (coming new more).rules; notices = (coming new more).notices; faults = fs }) (append_assoc before faults (coming new more).faults)
         ∙ (ap (λ (m : Meaning). told before and m) (sym (same.0 more))
-        ∙ (k.means (e ∷ more) ∙ ap (meaning built.SoFar false []) (sym (append_assoc lines (e ∷ []) more)))));
+        ∙ (k.means (e ∷ more) ∙ ap (meaning false []) (sym (append_assoc lines (e ∷ []) more)))));
     asks = λ more.
-        ap (asked built.SoFar false) (append_assoc lines (e ∷ []) more)
+        ap (asked false) (append_assoc lines (e ∷ []) more)
         ∙ (k.asks (e ∷ more)
-        ∙ (ap (λ (is : List Include). asked built.SoFar false lines ++ is) (same.1 more)
-        ∙ (sym (append_assoc (asked built.SoFar false lines) includes (asking new more))
+        ∙ (ap (λ (is : List Include). asked false lines ++ is) (same.1 more)
+        ∙ (sym (append_assoc (asked false lines) includes (asking new more))
         ∙ ap (λ (is : List Include). is ++ asking new more) (sym one))));
-    bans = λ more. ap (banned built.SoFar false first_taboo) (append_assoc lines (e ∷ []) more) ∙ (k.bans (e ∷ more) ∙ same.2 more);
+    bans = λ more. ap (banned false first_taboo) (append_assoc lines (e ∷ []) more) ∙ (k.bans (e ∷ more) ∙ same.2 more);
     files = files_are ∙ k.files;
   },
-  ap (drop (length (asked built.SoFar false lines))) one ∙ drop-append_seam (asked built.SoFar false lines) includes,
+  ap (drop (length (asked false lines))) one ∙ drop-append_seam (asked false lines) includes,
 )
   where
-    one : asked built.SoFar false (lines ++ e ∷ []) ≡ asked built.SoFar false lines ++ includes
-    one = k.asks (e ∷ []) ∙ ap (λ (is : List Include). asked built.SoFar false lines ++ is) (same.1 [] ∙ append-nil includes)
+    one : asked false (lines ++ e ∷ []) ≡ asked false lines ++ includes
+    one = k.asks (e ∷ []) ∙ ap (λ (is : List Include). asked false lines ++ is) (same.1 [] ∙ append-nil includes)
 
 -- a line that tells nothing
 quiet_line : (old new : Layer) (e : Line) → ((more : List Line) → coming old (e ∷ more) ≡ coming new more) → ((more : List Line) → asking old (e ∷ more) ≡ asking new more) → ((more : List Line) → banning old (e ∷ more) ≡ banning new more) → SameLines old new [] [] e
@@ -89,7 +88,7 @@ pub alike_layer : (old new : Layer) (faults : List Fault) (lines : List Line) (i
     → entered new ≡ files → Knows old faults lines inside → Knows new faults lines files
 alike_layer old new faults lines inside files c a b is k = record {
   means = λ more. ap (λ (m : Meaning). told faults and m) (c more) ∙ k.means more;
-  asks = λ more. k.asks more ∙ ap (λ (is : List Include). asked built.SoFar false lines ++ is) (sym (a more));
+  asks = λ more. k.asks more ∙ ap (λ (is : List Include). asked false lines ++ is) (sym (a more));
   bans = λ more. k.bans more ∙ sym (b more);
   files = is;
 }
@@ -422,10 +421,10 @@ settled_end s e = ap (settled_from s) e
 pub all_read : (paths : List Path) (s : Stage) {o n : Option Journal} {i j : ℕ} → (w : WentOn (begun paths) s o n i j) → s.todo ≡ [] → at_visits (begun paths) w.visits ≡ record s { todo = [] }
 all_read paths s w none = ap (at_visits (begun paths)) (sym (append-nil w.visits)) ∙ (w.leads [] ∙ settled_end s none)
 
-pub all_mean : (paths : List Path) (m : Meaning) (s : Stage) {o n : Option Journal} {i j : ℕ} → (w : WentOn (begun paths) s o n i j) → s.todo ≡ [] → m ≡ meaning built.SoFar false [] s.lines → m ≡ visits_mean paths w.visits
-all_mean paths m s w none is = is ∙ sym (ap (λ (x : Stage). meaning built.SoFar false [] x.lines) (all_read paths s w none))
+pub all_mean : (paths : List Path) (m : Meaning) (s : Stage) {o n : Option Journal} {i j : ℕ} → (w : WentOn (begun paths) s o n i j) → s.todo ≡ [] → m ≡ meaning false [] s.lines → m ≡ visits_mean paths w.visits
+all_mean paths m s w none is = is ∙ sym (ap (λ (x : Stage). meaning false [] x.lines) (all_read paths s w none))
 
-pub reads_all : (paths : List Path) (m : Meaning) (s : Stage) {o n : Option Journal} {i j : ℕ} → (w : WentOn (begun paths) s o n i j) → s.todo ≡ [] → m ≡ meaning built.SoFar false [] s.lines → Left (Reads paths m) o n
+pub reads_all : (paths : List Path) (m : Meaning) (s : Stage) {o n : Option Journal} {i j : ℕ} → (w : WentOn (begun paths) s o n i j) → s.todo ≡ [] → m ≡ meaning false [] s.lines → Left (Reads paths m) o n
 reads_all paths m s w none is = left_as w.shown (λ ts h. record {
   visits = w.visits;
   shown = subst (λ (vs : List (Option Visit)). ShowsVisits (begun paths) vs ts) (append-nil w.visits) (subst (λ (es : List Entry). ShowsVisits (begun paths) (w.visits ++ []) es) (append-nil ts) (h [] [] refl));

@@ -3,7 +3,6 @@ use Rattle.std.specs.Prelude.{ℕ}
 use Rattle.std.specs.Prelude.{◌≡◌, false, List, [], ◌∷◌, ◌++◌, map, reverse, Option, Result, Ok, Err}
 use Rattle.lr_rules.specs.declared.path.Path.{Path}
 use Rattle.lr_rules.specs.declared.fault.Fault.{Fault}
-use Rattle.lr_forms.specs.declared.built.Built.TheVariants as built
 use Rattle.lr_match.specs.Taboos.{first_taboo}
 use Rattle.lr_conf.specs.declared.layer.Layer.{Layer}
 use Rattle.lr_conf.specs.declared.stop.Include.{Include}
@@ -24,9 +23,9 @@ use Rattle.lr_include.specs.Stages.{Stage, ask_of, lines_now, open_behind, asks_
 
 -- The layer took these lines, with these faults, and these files are entered.
 pub record Knows (layer : Layer) (faults : List Fault) (lines : List Line) (inside : List Path) : Type 0 where
-  pub means : (more : List Line) → (told faults and coming layer more) ≡ meaning built.SoFar false [] (lines ++ more)
-  pub asks : (more : List Line) → asked built.SoFar false (lines ++ more) ≡ asked built.SoFar false lines ++ asking layer more
-  pub bans : (more : List Line) → banned built.SoFar false first_taboo (lines ++ more) ≡ banning layer more
+  pub means : (more : List Line) → (told faults and coming layer more) ≡ meaning false [] (lines ++ more)
+  pub asks : (more : List Line) → asked false (lines ++ more) ≡ asked false lines ++ asking layer more
+  pub bans : (more : List Line) → banned false first_taboo (lines ++ more) ≡ banning layer more
   pub files : entered layer ≡ inside
 
 -- The course stands at this stage.

@@ -9,7 +9,6 @@ use Rattle.lr_rules.specs.declared.fault.Fault.{Fault}
 use Rattle.lr_rules.specs.declared.fault.Fault.TheVariants as fault
 use Rattle.lr_rules.specs.Path.{path_fault, joined, last_of}
 use Rattle.lr_lex.specs.Items.{Told}
-use Rattle.lr_forms.specs.declared.built.Built.TheVariants as built
 use Rattle.lr_fields.specs.Fields.{last_or}
 use Rattle.lr_match.specs.Taboos.{Bars, first_taboo}
 use Rattle.lr_conf.specs.declared.stop.Include.{Include}
@@ -59,7 +58,7 @@ open_behind inside p = take (length inside - 1) inside
 
 -- the files for which the line asks behind these lines
 abbrev pub asked_at : List Line → Line → List Include
-asked_at lines e = drop (length (asked built.SoFar false lines)) (asked built.SoFar false (lines ++ e ∷ []))
+asked_at lines e = drop (length (asked false lines)) (asked false (lines ++ e ∷ []))
 
 abbrev pub ask_of : Path → Include → Task
 ask_of file i = task.Ask (record { file = file; line = i.line; path = i.path })
@@ -183,7 +182,7 @@ after_name s a v todo = record s { todo = todo }
 
 -- The taboo list as it is then bars the last part of the path.
 abbrev pub IsBarred : List Line → Path → Type 0
-IsBarred lines path = Bars (banned built.SoFar false first_taboo lines) (last_of path)
+IsBarred lines path = Bars (banned false first_taboo lines) (last_of path)
 
 -- Behind the next visit; none is made of a name that is barred.
 abbrev pub visited_by : Stage → List Task → Option Visit → Stage
@@ -224,7 +223,7 @@ begun paths = record { lines = []; inside = []; files = 4096; bytes = 16777216; 
 
 -- What the configuration of these paths means, as these visits have it.
 abbrev pub visits_mean : List Path → List (Option Visit) → Meaning
-visits_mean paths visits = meaning built.SoFar false [] (at_visits (begun paths) visits).lines
+visits_mean paths visits = meaning false [] (at_visits (begun paths) visits).lines
 
 -- The entries show visits by which all was read that was asked for, and this is what they mean.
 pub record Reads (paths : List Path) (m : Meaning) (ts : List Entry) : Type 0 where

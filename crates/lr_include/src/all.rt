@@ -1,6 +1,5 @@
 // Reading the configuration that paths give.
 ghost use Rattle.std.specs.Prelude.{◌≡◌, [], false, All, Contains, reverse, Ok, IfOk, OnOk, OnErr};
-ghost use Rattle.lr_forms.specs.declared.built.Built.TheVariants as built;
 ghost use Rattle.lr_conf.specs.Meaning.{meaning};
 ghost use Rattle.lr_conf.specs.Plain.{IsPlainRule};
 ghost use Rattle.lr_rules.specs.declared.fault.CallKind.{CallKind};
@@ -17,7 +16,6 @@ use crate::course::Course;
 use crate::reading::Reading;
 use crate::task::{Ask, Task};
 use lr_conf::Layer;
-use lr_forms::Built;
 use lr_host::Host;
 use lr_rules::{Listed, Memory, Path};
 use std::alloc::Global;
@@ -85,7 +83,7 @@ impl Course {
         ensures { IfOk result (λ c. StandsAt c (begun paths.now)) }
     {
         let todo = asks_of(alloc, paths)?;
-        let layer = Layer::new(alloc, Built::SoFar)?;
+        let layer = Layer::new(alloc)?;
         Ok(Course {
             alloc,
             layer,
@@ -97,7 +95,7 @@ impl Course {
     }
 
     fn finish(self) -> Reading
-        ensures { (s : Stage) → StandsAt self s → meaning_of result ≡ meaning built.SoFar false [] s.lines }
+        ensures { (s : Stage) → StandsAt self s → meaning_of result ≡ meaning false [] s.lines }
     {
         let Course { layer, faults, .. } = self;
         let (rules, notices) = layer.finish();

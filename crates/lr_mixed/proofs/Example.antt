@@ -21,7 +21,7 @@ use Rattle.lr_targets.specs.AllTurns.{StandsBetween}
 use Rattle.lr_targets.specs.Target.{IsGiven, Target, rotation_of, IsOneOf}
 use Rattle.lr_targets.proofs.Given.{literal_gives}
 use Rattle.lr_dated_seen.specs.Family.{IsDatedFamily}
-use Rattle.lr_dated_seen.specs.Shown.{ShownDated}
+use Rattle.lr_dated_seen.specs.Shown.{unlisted, ShownDated}
 use Rattle.lr_dated_seen.proofs.Names.{log_apart}
 use Rattle.lr_mixed.specs.AllTurns.{AllTurnsBy}
 use Rattle.lr_mixed.specs.Example.{log, format, rule, naming, file, directory, stand, target, looks, turn}
@@ -70,13 +70,10 @@ none_sorted = tt
 
 shown : ShownDated naming stand.members looks
 shown = record {
-  dir = (directory, refl, inr (inl refl));
-  names = [];
-  list = inr (inr (inl refl));
   newest_first = none_sorted;
   named = λ k d lt. absurd (omega arith);
   files = λ k d lt. absurd (omega arith);
-  others = λ x seconds serial is free. inl (λ name c. absurd (in_from name [] c));
+  others = λ x seconds serial is free. unlisted [] (inr (inr (inl refl))) (λ name c. absurd (in_from name [] c));
 }
 
 given : IsGiven rules.sets looks log naming (Keep 1) None
@@ -87,7 +84,7 @@ log_seen = record { before = []; part = entry.Look log (Some file) ∷ []; after
 
 seen : (clock : Clock) → IsLogSeen rules clock looks (target clock)
 unfolding given
-seen clock = record { given = given; log_seen = log_seen; shows = record { family = family; seen = shown; free = refl; ready = refl }; job = λ job is. absurd (cc) }
+seen clock = record { given = given; log_seen = log_seen; shows = record { family = family; seen = shown; free = refl; ready = refl }; maxage_is = refl; dir = (directory, refl, inr (inl refl)); job = λ job is. absurd (cc) }
 
 turns : (state : Path) (clock : Clock) → AllTurnsBy state clock rules (looks ++ turn clock ∷ [])
 turns state clock = record {

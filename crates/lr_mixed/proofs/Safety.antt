@@ -42,8 +42,9 @@ use Rattle.lr_rotations.proofs.Over.{first_aside}
 use Rattle.lr_rotations.proofs.Weaving.{weave_as, IsApart, IsApartOrMakes, apart_aside}
 use Rattle.lr_targets.specs.AllTurns.{IsOfState, IsOfSome, StandsBetween}
 use Rattle.lr_targets.specs.Target.{Target, rotation_of, IsOneOf}
-use Rattle.lr_targets.proofs.Given.{gives, no_meet, naming_same, no_copy, by_rule}
+use Rattle.lr_targets.proofs.Given.{journal_before, gives, no_meet, naming_same, no_copy, by_rule}
 use Rattle.lr_targets.proofs.LeftAlone.{apart_left}
+use Rattle.lr_targets.proofs.SeenFits.{has_dir}
 use Rattle.lr_targets.proofs.Safety.{Here, state_apart, find, own_safe, Looked, looked as looked_at, begun, unbegun_safe}
 use Rattle.lr_dated_seen.specs.Family.{IsDatedFamily}
 use Rattle.lr_dated_seen.specs.Shown.{SawFile, ShownDated}
@@ -75,12 +76,16 @@ module _ (clock : Clock) (s : LogSet) (state : Path) (rules : Rules) (u v : Past
   some_beside (t ∷ ts) seen ne e (inl h) = any_beside s t e (any_names rules clock looks t seen.0) (no_meeting t seen.0 (ne t (inl refl))) h
   some_beside (t ∷ ts) seen ne e (inr h) = some_beside ts seen.1 (λ x i. ne x (inr i)) e h
 
-  between : (t : Target) (ts : List Target) → AreLogsSeen rules clock looks ts → t.log ≡ s.log → t.job ≡ None → (e : Entry) → StandsBetween state t ts e → IsBesideSet s e
-  between t ts seen same none e h = between_beside s state (here.steady.state state here.state_is) (here.steady.new_state state here.state_is) t ts e same none (have_names rules clock looks ts seen)
-      (λ x i. no_meeting x (log_among rules clock looks ts seen x i)) h
-
   given_of : (t : Target) (l : IsLogSeen rules clock looks t) → RuleGives l.given.rule t.log
   given_of t l = gives u v rules.sets looks t.log t.naming t.count t.job quiet m l.given
+
+  -- the set's own log has its naming
+  own_naming : (t : Target) → IsLogSeen rules clock looks t → t.log ≡ s.log → s.naming ≡ t.naming
+  own_naming t l same = naming_same s v rules.sets looks t.log t.naming t.count t.job here.steady here.rules_are l.given (given_of t l) (sym same)
+
+  between : (t : Target) (ts : List Target) → IsLogSeen rules clock looks t → AreLogsSeen rules clock looks ts → t.log ≡ s.log → t.job ≡ None → (e : Entry) → StandsBetween state t ts e → IsBesideSet s e
+  between t ts l seen same none e h = between_beside s state (here.steady.state state here.state_is) (here.steady.new_state state here.state_is) t ts e same (sym (own_naming t l same)) (has_dir t looks l.dir) none (have_names rules clock looks ts seen)
+      (λ x i. no_meeting x (log_among rules clock looks ts seen x i)) h
 
   -- the set's own log isn't copied
   not_copied : (t : Target) → IsLogSeen rules clock looks t → t.log ≡ s.log → t.job ≡ None
@@ -99,7 +104,7 @@ module _ (clock : Clock) (s : LogSet) (state : Path) (rules : Rules) (u v : Past
     maxage = l.given.rule.maxage
 
     naming : s.naming ≡ t.naming
-    naming = naming_same s v rules.sets looks t.log t.naming t.count t.job here.steady here.rules_are l.given (given_of t l) (sym same)
+    naming = own_naming t l same
 
     family : IsDatedFamily s.log s.naming
     family = subst (λ (x : Path). IsDatedFamily x s.naming) same (subst (λ (n : Naming). IsDatedFamily t.log n) (sym naming) d.family)
@@ -116,7 +121,7 @@ module _ (clock : Clock) (s : LogSet) (state : Path) (rules : Rules) (u v : Past
     dated_safe acts q forward w mq none_q =
         beside_safe clock s t.count maxage t.stand.members t.ready.target h.ready.serial u v q looks acts family m quiet
         (subst (λ (x : Path). SawFile x looks) same (saw_one t.log looks l.log_seen)) (subst (λ (n : Naming). ShownDated n t.stand.members looks) (sym naming) d.seen)
-        here.journal here.safe none_q here.not_begun forward here.now_is rule
+        (journal_before u v (reverse looks) m here.journal) here.journal here.safe none_q here.not_begun forward here.now_is rule
         (subst (λ (n : Naming). IsNext t.stand.members (clock_seconds n.dated clock) h.ready.serial) (sym naming) h.ready.next)
         (subst (λ (n : Naming). IsDatedAt n (clock_seconds n.dated clock) h.ready.serial t.ready.target) (sym naming) h.ready.target_is)
         (subst (λ (es : List Entry). FirstWoven (IsBesideSet s) es (filter is_change acts)) (steps (not_copied t l same)) w) mq
@@ -142,7 +147,7 @@ module _ (clock : Clock) (s : LogSet) (state : Path) (rules : Rules) (u v : Past
       own f =
           let l = log_among rules clock looks ts seen f.0 f.1 in
           let w = each f.0 f.1 in
-          either_safe f.0 l f.2 acts q forward (record { made = w.made; first = w.first; woven = weave_as (StandsBetween state f.0 ts) (IsBesideSet s) w.made (filter is_change acts) (between f.0 ts seen f.2 (not_copied f.0 l f.2)) w.woven }) mq none_q
+          either_safe f.0 l f.2 acts q forward (record { made = w.made; first = w.first; woven = weave_as (StandsBetween state f.0 ts) (IsBesideSet s) w.made (filter is_change acts) (between f.0 ts l seen f.2 (not_copied f.0 l f.2)) w.woven }) mq none_q
 
       aside : ((t : Target) → IsOneOf t ts → t.log ≢ s.log) → (e : Entry) → IsOfSome ts e ⊎ IsOfState state e → IsAside s e
       aside ne e (inl o) = (some_beside ts seen ne e o).0

@@ -6,17 +6,18 @@ use Rattle.lr_rules.specs.declared.rules.Rules.{Rules}
 use Rattle.lr_stamps.specs.Dated.{clock_seconds}
 use Rattle.lr_host.specs.declared.entry.Entry.{Entry}
 use Rattle.lr_chain.specs.declared.ready.Ready.{Ready}
+use Rattle.lr_chain.specs.Ready.{with_dir}
 use Rattle.lr_dated_chain.specs.Ready.{IsDatedReady}
 use Rattle.lr_dated_ready.proofs.Whole.{ready_back}
 use Rattle.lr_targets.specs.Target.{Target, IsSeen, IsOneOf}
-use Rattle.lr_targets.proofs.SeenFits.{seen_names}
+use Rattle.lr_targets.proofs.SeenFits.{has_dir, seen_names}
 use Rattle.lr_dated_run.specs.Own.{HasDatedNames, HasAnyNames, HaveAnyNames}
 use Rattle.lr_mixed.specs.Seen.{IsNumberedSeen, IsDatedSeen, IsSeenBy, IsLogSeen, AreLogsSeen}
 
 module _ (rules : Rules) (clock : Clock) (looks : List Entry) where
   -- what is known of a numbered log, in one
   pub numbered_seen : (t : Target) → IsLogSeen rules clock looks t → t.naming.dated ≡ None → IsSeen rules clock.now.seconds looks t
-  numbered_seen t l none = record { given = l.given; family = n.family; log_seen = l.log_seen; seen = n.seen; sights = n.sights; from_is = n.from_is; low = n.low; ready = n.ready; job = l.job }
+  numbered_seen t l none = record { given = l.given; family = n.family; log_seen = l.log_seen; seen = n.seen; sights = n.sights; from_is = n.from_is; low = n.low; ready = n.ready; dir = l.dir; job = l.job }
     where
       n : IsNumberedSeen l.given.rule.maxage clock.now.seconds looks t
       n = subst (λ (d : Option Format). IsSeenBy d l.given.rule.maxage clock looks t) none l.shows
@@ -25,7 +26,7 @@ module _ (rules : Rules) (clock : Clock) (looks : List Entry) where
   dated_seen t format l is = subst (λ (d : Option Format). IsSeenBy d l.given.rule.maxage clock looks t) is l.shows
 
   -- the rotation of a dated log is ready
-  pub ready_of : (t : Target) (maxage : Option ℕ) → IsDatedSeen maxage clock looks t → IsDatedReady t.log t.naming t.count t.ready.make maxage clock.now.seconds (clock_seconds t.naming.dated clock) t.stand.members t.ready
+  pub ready_of : (t : Target) (maxage : Option ℕ) → IsDatedSeen maxage clock looks t → IsDatedReady t.log t.naming t.count t.ready.make maxage clock.now.seconds (clock_seconds t.naming.dated clock) t.stand.members (with_dir None t.ready)
   ready_of t maxage d = subst (λ (r : Ready). IsDatedReady t.log t.naming t.count t.ready.make maxage clock.now.seconds (clock_seconds t.naming.dated clock) t.stand.members r) (sym d.ready)
       (ready_back t.log t.naming t.count t.ready.make maxage clock t.stand d.family.dated d.family.format d.seen.named d.free)
 
@@ -36,6 +37,7 @@ module _ (rules : Rules) (clock : Clock) (looks : List Entry) where
     now = clock.now.seconds;
     seconds = clock_seconds t.naming.dated clock;
     ready = ready_of t l.given.rule.maxage (dated_seen t format l is);
+    dir = has_dir t looks l.dir;
     job = λ job is_job. (l.job job is_job).0;
   }
 

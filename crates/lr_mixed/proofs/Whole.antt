@@ -1,5 +1,5 @@
 -- A log that a run rotates whole, with the changes of other logs and of the state between its steps.
-use Rattle.std.proofs.Common.{◌≡◌, inl, inr, ⊎_elim, ℕ, ℤ, sym, ◌∙◌, ap, subst, List, ◌∷◌, ◌++◌, append_assoc, Some, None}
+use Rattle.std.proofs.Common.{◌≡◌, inr, ℕ, ℤ, sym, ◌∙◌, ap, subst, List, ◌∷◌, ◌++◌, append_assoc, Option, Some, None}
 use Rattle.std.specs.Prelude.{filter}
 use Rattle.std.proofs.lemmas.List.Elements.{All-weaker}
 use Rattle.lr_rules.specs.declared.clock.Clock.{Clock}
@@ -23,10 +23,10 @@ use Rattle.lr_dated_ready.proofs.Serials.{next_is}
 use Rattle.lr_rotations.specs.Rotated.{IsBeside, RotatesAmong}
 use Rattle.lr_rotations.specs.Weave.{Weave}
 use Rattle.lr_rotations.proofs.Moments.{saw_one}
-use Rattle.lr_targets.specs.AllTurns.{other_paths}
+use Rattle.lr_targets.specs.AllTurns.{paths_beside}
 use Rattle.lr_targets.specs.Target.{Target, rotation_of, IsOneOf}
 use Rattle.lr_targets.proofs.Others.{rotates_beside, one_rotates}
-use Rattle.lr_dated_seen.specs.Shown.{SawFile, WasSeen, ShownDated}
+use Rattle.lr_dated_seen.specs.Shown.{SawFile, WasSeen, IsUnseen, unlisted, gone, no_dir, ShownDated}
 use Rattle.lr_dated_turned.specs.Rotated.{DatedRotatesAmong}
 use Rattle.lr_dated_run.specs.Own.{HasDatedNames}
 use Rattle.lr_dated_run.proofs.Own.{rotation_is}
@@ -36,20 +36,22 @@ use Rattle.lr_mixed.specs.Seen.{IsDatedSeen, IsLogSeen}
 use Rattle.lr_mixed.proofs.Seen.{numbered_seen, dated_seen, dated_names, log_among}
 
 -- what some entries show, more entries do
+unseen_more : (dir x : Path) (ts us : List Entry) → ((e : Entry) → IsIn e ts → IsIn e us) → IsUnseen dir x ts → IsUnseen dir x us
+unseen_more dir x ts us more (unlisted names i out) = unlisted names (more (entry.List dir names) i) out
+unseen_more dir x ts us more (gone i) = gone (more (entry.Look x None) i)
+unseen_more dir x ts us more (no_dir i) = no_dir (more (entry.Look dir None) i)
+
 pub shown_more : (n : Naming) (members : List Member) (ts us : List Entry) → ((e : Entry) → IsIn e ts → IsIn e us) → ShownDated n members ts → ShownDated n members us
 shown_more n members ts us more s = record {
-  dir = (s.dir.0, s.dir.1, more _ s.dir.2);
-  names = s.names;
-  list = more _ s.list;
   newest_first = s.newest_first;
   named = s.named;
   files = All-weaker (WasSeen ts) (WasSeen us) (λ m seen. (seen.0, more _ seen.1)) members s.files;
-  others = λ x seconds serial is none. ⊎_elim (λ absent. inl absent) (λ h. inr (more _ h)) (s.others x seconds serial is none);
+  others = λ x seconds serial is none. unseen_more n.dir x ts us more (s.others x seconds serial is none);
 }
 
 module _ (state : Path) (clock : Clock) (rules : Rules) (reads tail : List Entry) (t : AllTurnedBy state clock rules tail) (x : Target) (read : AreQuiet reads) (i : IsOneOf x t.turns.targets) (none : x.job ≡ None) where
   abbrev paths : List Path
-  paths = other_paths state x.log t.turns.targets
+  paths = paths_beside state x t.turns.targets
 
   abbrev starts : Entry
   starts = entry.Starts state clock.now rules
@@ -57,7 +59,10 @@ module _ (state : Path) (clock : Clock) (rules : Rules) (reads tail : List Entry
   pub numbered_rotates : x.naming.dated ≡ None → RotatesAmong paths x.log x.naming x.count x.from x.stand (reads ++ starts ∷ tail)
   numbered_rotates is = one_rotates state clock.now rules reads tail t.turns.looks t.turns.acts t.turns.targets x t.turns.joined read t.turns.quiet (numbered_seen rules clock t.turns.looks x (log_among rules clock t.turns.looks t.turns.targets t.turns.seen x i) is) (t.whole x i) none
 
-  module _ (l : IsLogSeen rules clock t.turns.looks x) (format : Format) (is : x.naming.dated ≡ Some format) where
+  module _ (format : Format) (is : x.naming.dated ≡ Some format) where
+    l : IsLogSeen rules clock t.turns.looks x
+    l = log_among rules clock t.turns.looks t.turns.targets t.turns.seen x i
+
     d : IsDatedSeen l.given.rule.maxage clock t.turns.looks x
     d = dated_seen rules clock t.turns.looks x format l is
 
@@ -87,8 +92,8 @@ module _ (state : Path) (clock : Clock) (rules : Rules) (reads tail : List Entry
     saw : SawFile x.log t.turns.looks
     saw = saw_one x.log t.turns.looks l.log_seen
 
-    pub dated_rotates : DatedRotatesAmong paths x.log x.naming x.count (dated_target x.naming clock x.stand.members) (all_by x.naming l.given.rule.maxage clock x.stand.members) x.stand.members (reads ++ starts ∷ tail)
-    dated_rotates = record {
+    by_age : DatedRotatesAmong paths x.log x.naming x.count (dated_target x.naming clock x.stand.members) (all_by x.naming l.given.rule.maxage clock x.stand.members) x.stand.members (reads ++ starts ∷ tail)
+    by_age = record {
       front = front;
       back = t.turns.acts;
       joined = ap (λ ts. reads ++ starts ∷ ts) t.turns.joined ∙ sym (append_assoc reads (starts ∷ t.turns.looks) t.turns.acts);
@@ -97,3 +102,6 @@ module _ (state : Path) (clock : Clock) (rules : Rules) (reads tail : List Entry
       seen = shown_more x.naming x.stand.members t.turns.looks front more d.seen;
       changes = subst (λ (steps : List Entry). Weave (IsBeside paths x.log) steps (filter is_disk_change t.turns.acts)) steps (rotates_beside state x t.turns.targets t.turns.acts none (t.whole x i));
     }
+
+    pub dated_rotates : DatedRotatesAmong paths x.log x.naming x.count (dated_target x.naming clock x.stand.members) (all_by x.naming x.maxage clock x.stand.members) x.stand.members (reads ++ starts ∷ tail)
+    dated_rotates = subst (λ (age : Option ℕ). DatedRotatesAmong paths x.log x.naming x.count (dated_target x.naming clock x.stand.members) (all_by x.naming age clock x.stand.members) x.stand.members (reads ++ starts ∷ tail)) l.maxage_is by_age

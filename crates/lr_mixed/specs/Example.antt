@@ -70,7 +70,7 @@ stand = record { there = true; parent = true; members = []; parts = [] }
 
 -- the log and its rotation, by a clock
 abbrev pub target : Clock → Target
-target clock = record { log = log; naming = naming; count = Keep 1; stand = stand; from = []; ready = dated_ready log naming (Keep 1) None clock No []; job = None }
+target clock = record { log = log; naming = naming; count = Keep 1; maxage = None; stand = stand; from = []; ready = dated_ready log naming (Keep 1) None clock No []; job = None }
 
 -- the looks, and the rename to the clock's stamp
 abbrev pub looks : List Entry

@@ -6,13 +6,14 @@ use Rattle.lr_rules.specs.declared.rules.Rules.{Rules}
 use Rattle.lr_stamps.specs.Dated.{clock_seconds}
 use Rattle.lr_host.specs.declared.entry.Entry.{Entry}
 use Rattle.lr_host.specs.Looks.{Sees, IsFile}
+use Rattle.lr_chain.specs.Ready.{with_dir}
 use Rattle.lr_chain.specs.Rotation.{places_of, going}
 use Rattle.lr_dated_ready.specs.Hindrances.{dated_hindrances}
 use Rattle.lr_dated_ready.specs.Ready.{dated_ready}
 use Rattle.lr_rotations.specs.Members.{IsFamily}
 use Rattle.lr_rotations.specs.Shown.{Shown, SawMembers}
 use Rattle.lr_rotations.specs.Weave.{Among}
-use Rattle.lr_targets.specs.Target.{IsGiven, IsOneTooHigh, Target, HasReady, IsJobOf}
+use Rattle.lr_targets.specs.Target.{IsGiven, IsOneTooHigh, Target, HasReady, IsDirSeen, IsJobOf}
 use Rattle.lr_dated_seen.specs.Family.{IsDatedFamily}
 use Rattle.lr_dated_seen.specs.Shown.{ShownDated}
 
@@ -30,18 +31,20 @@ pub record IsDatedSeen (maxage : Option ℕ) (clock : Clock) (looks : List Entry
   pub family : IsDatedFamily t.log t.naming
   pub seen : ShownDated t.naming t.stand.members looks
   pub free : dated_hindrances t.naming t.stand (clock_seconds t.naming.dated clock) ≡ []
-  pub ready : t.ready ≡ dated_ready t.log t.naming t.count maxage clock t.ready.make t.stand.members
+  pub ready : with_dir None t.ready ≡ dated_ready t.log t.naming t.count maxage clock t.ready.make t.stand.members
 
 -- by the format of the dates, where there is one
 abbrev pub IsSeenBy : Option Format → Option ℕ → Clock → List Entry → Target → Type 0
 IsSeenBy None maxage clock looks t = IsNumberedSeen maxage clock.now.seconds looks t
 IsSeenBy (Some format) maxage clock looks t = IsDatedSeen maxage clock looks t
 
--- A word of a rule gives the log; it was seen as a file, and its members were, wherever these looks stand. Its rotation is that of the members that were seen, by the rule's count and age and by the clock; and so is its copy.
+-- A word of a rule gives the log; it was seen as a file, and its members were, wherever these looks stand. Its rotation is that of the members that were seen, by the rule's count and age and by the clock; and so is its copy. The family's directory was seen, or its rotation makes it.
 pub record IsLogSeen (rules : Rules) (clock : Clock) (looks : List Entry) (t : Target) : Type 0 where
   pub given : IsGiven rules.sets looks t.log t.naming t.count t.job
   pub log_seen : Among (Sees t.log IsFile) looks
   pub shows : IsSeenBy t.naming.dated given.rule.maxage clock looks t
+  pub maxage_is : given.rule.maxage ≡ t.maxage
+  pub dir : IsDirSeen t looks
   pub job : IsJobOf t looks
 
 abbrev pub AreLogsSeen : Rules → Clock → List Entry → List Target → Type 0

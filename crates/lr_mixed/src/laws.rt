@@ -12,7 +12,7 @@ ghost use Rattle.lr_host.specs.Quiet.{AreQuiet};
 ghost use Rattle.lr_host.specs.Safe.{IsSafe};
 ghost use Rattle.lr_host.specs.Sets.{LogSet};
 ghost use Rattle.lr_host.specs.Steady.{IsSteady};
-ghost use Rattle.lr_host.specs.Told.{Made, Left};
+ghost use Rattle.lr_host.specs.Told.{Made, Left, WhereTold};
 ghost use Rattle.lr_host.specs.World.{Past, ◌▸◌, world, names};
 ghost use Rattle.lr_copy.specs.declared.job.Job.{Job};
 ghost use Rattle.lr_copy.specs.Fits.{ArePaths};
@@ -21,7 +21,7 @@ ghost use Rattle.lr_dated.specs.Stays.{KeepsSafeWhere};
 ghost use Rattle.lr_dated_ready.specs.Ready.{dated_target};
 ghost use Rattle.lr_rotations.specs.Calls.{CanCalls};
 ghost use Rattle.lr_rotations.specs.Rotated.{RotatesAmong};
-ghost use Rattle.lr_targets.specs.AllTurns.{other_paths};
+ghost use Rattle.lr_targets.specs.AllTurns.{paths_beside};
 ghost use Rattle.lr_targets.specs.Calls.{calls_of};
 ghost use Rattle.lr_targets.specs.Target.{Target, IsOneOf};
 ghost use Rattle.lr_dated_turned.specs.Rotated.{DatedRotatesAmong};
@@ -39,26 +39,27 @@ pub fn all_logs_stay_safe()
     ensures { (clock : Clock) (before after : Option Journal) → Left (IsWholeRunBy clock) before after → KeepsSafeWhere (IsForwardFor clock) before after }
 {}
 
-/// Behind looks that saw a log and its family the calls of its rotation fit by themselves, one after another, whatever
-/// writers did meanwhile, also where the log is copied; the part file of a copy is neither the log nor the final path.
+/// In a journal, behind looks that saw a log and its family, the calls of its rotation fit by themselves, one after another,
+/// whatever writers did meanwhile, also where the log is copied, and where the family's directory was missing and is made; the part file of a copy is neither the log nor the final path.
 pub fn seen_log_can_be_rotated()
-    ensures fits { (rules : Rules) (clock : Clock) (t : Target) (before now : Option Journal) → Left (λ ts. AreQuiet ts × IsLogSeen rules clock ts t) before now
+    ensures fits { (rules : Rules) (clock : Clock) (t : Target) (before now : Option Journal) → WhereTold before IsJournal
+        → Left (λ ts. AreQuiet ts × IsLogSeen rules clock ts t) before now
         → CanCalls now (calls_of t) }
     ensures paths { (rules : Rules) (clock : Clock) (looks : List Entry) (t : Target) (job : Job) → IsLogSeen rules clock looks t → t.job ≡ Some job → ArePaths job }
 {}
 
 /// Where each log was rotated whole, the entries are, for each of them that isn't copied, the looks at it and its rotation,
-/// with others between on the paths of other logs and of the state: `family_is_rotated` and `dated_family_is_rotated` say
-/// what becomes of its files. A dated log goes to the clock's stamp, and those go that a rule's count and age let go.
+/// with others between on the paths of other logs and of the state, and the making of the log's own directory: `family_is_rotated` and `dated_family_is_rotated` say
+/// what becomes of its files. A dated log goes to the clock's stamp, and those go that the count and the age of its rule let go.
 pub fn whole_run_rotates_all()
     ensures numbered { (state : Path) (clock : Clock) (rules : Rules) (reads tail : List Entry) (t : AllTurnedBy state clock rules tail)
         (x : Target) → AreQuiet reads → IsOneOf x t.turns.targets → x.job ≡ None → x.naming.dated ≡ None
-        → RotatesAmong (other_paths state x.log t.turns.targets) x.log x.naming x.count x.from x.stand (reads ++ Starts state clock.now rules ∷ tail) }
+        → RotatesAmong (paths_beside state x t.turns.targets) x.log x.naming x.count x.from x.stand (reads ++ Starts state clock.now rules ∷ tail) }
     ensures dated { (state : Path) (clock : Clock) (rules : Rules) (reads tail : List Entry) (t : AllTurnedBy state clock rules tail)
-        (x : Target) → AreQuiet reads → IsOneOf x t.turns.targets → x.job ≡ None → (l : IsLogSeen rules clock t.turns.looks x)
-        (format : Format) → x.naming.dated ≡ Some format
-        → DatedRotatesAmong (other_paths state x.log t.turns.targets) x.log x.naming x.count (dated_target x.naming clock x.stand.members)
-        (all_by x.naming l.given.rule.maxage clock x.stand.members) x.stand.members (reads ++ Starts state clock.now rules ∷ tail) }
+        (x : Target) → AreQuiet reads → IsOneOf x t.turns.targets → x.job ≡ None
+        → (format : Format) → x.naming.dated ≡ Some format
+        → DatedRotatesAmong (paths_beside state x t.turns.targets) x.log x.naming x.count (dated_target x.naming clock x.stand.members)
+        (all_by x.naming x.maxage clock x.stand.members) x.stand.members (reads ++ Starts state clock.now rules ∷ tail) }
 {}
 
 /// Each member of a set whose log the run doesn't rotate, numbered or dated, names what it named as the run began, however

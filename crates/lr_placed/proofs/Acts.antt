@@ -1,11 +1,11 @@
--- What the acts of a plan change: no name that the run reserves for itself, and no directory.
+-- What the acts of a plan change: no name that the run reserves for itself, and no directory that stands.
 use Rattle.std.proofs.Common.{◌≡◌, ◌≢◌, inl, inr, refl, sym, ◌∙◌, ap, List, [], ◌∷◌}
 use Rattle.std.specs.Prelude.{filter}
 use Rattle.lr_rules.specs.declared.fault.Fault.{Fault}
 use Rattle.lr_rules.specs.declared.path.Path.{Path}
 use Rattle.lr_host.specs.declared.thing.Thing.TheVariants as thing
 use Rattle.lr_host.specs.declared.entry.Entry.{Entry}
-use Rattle.lr_host.specs.declared.entry.Entry.TheVariants.{Renames, Makes, Appends, Truncates, Unlinks}
+use Rattle.lr_host.specs.declared.entry.Entry.TheVariants.{Renames, Makes, MakesDir, Appends, Truncates, Unlinks}
 use Rattle.lr_host.specs.Fits.{Fits, IsFileAt, IsDirectoryAt}
 use Rattle.lr_host.specs.Lists.{IsIn}
 use Rattle.lr_host.specs.Steps.{is_change}
@@ -19,17 +19,17 @@ use Rattle.lr_laws.specs.Follow.{changed_paths}
 use Rattle.lr_plan.specs.declared.mark.Mark.{Mark}
 use Rattle.lr_plan.specs.declared.step.SetSteps.{SetSteps}
 use Rattle.lr_plan.specs.Done.{SetsDone}
-use Rattle.lr_targets.specs.AllTurns.{IsOf, IsOfSome}
+use Rattle.lr_targets.specs.AllTurns.{IsOfSome}
 use Rattle.lr_targets.specs.Target.{Target}
 use Rattle.lr_targets.proofs.Others.{IsFileChange, own_turns}
-use Rattle.lr_dated_run.specs.Own.{ChangesOwn, HasAnyNames, HaveAnyNames}
+use Rattle.lr_dated_run.specs.Own.{HaveAnyNames}
 use Rattle.lr_dated_run.proofs.Mixed.{any_change}
 use Rattle.lr_weave.specs.Parts.{ArePlanned}
 use Rattle.lr_weave.proofs.Parting.{done_some}
 use Rattle.lr_seen.specs.Free.{AreFreeOf}
 use Rattle.lr_placed.proofs.Lasting.{Stays, IsKeptBy}
 
--- a rename, an unlink, or the making, filling or emptying of a file, at other paths than these
+-- a rename, an unlink, the making, filling or emptying of a file, or the making of a directory, at other paths than these
 abbrev pub Spares : List Path → Entry → Type 0
 Spares reserved e = IsFileChange e × ((x : Path) → IsIn x (changed_paths e) → IsIn x reserved → ⊥)
 
@@ -37,7 +37,7 @@ some_spares : (reserved : List Path) (ts : List Target) (e : Entry) → HaveAnyN
 some_spares reserved [] e h free i = absurd i
 some_spares reserved (t ∷ ts) e h free (inl i) = (
   own_turns t e i,
-  λ x changed r. free.0 x r (inl (any_change t e h.0 i x changed)),
+  λ x changed r. free.0 x r (any_change t e h.0 i x changed),
 )
 some_spares reserved (t ∷ ts) e h free (inr i) = some_spares reserved ts e h.1 free.1 i
 
@@ -55,6 +55,7 @@ same_name q (Renames from to) y t out =
     put_other (put (names (world q)) from thing.Nothing) to y (names (world q) from) (λ is. out (inr (inl (sym is)))) ∙ put_other (names (world q)) from y thing.Nothing (λ is. out (inl (sym is)))
 same_name q (Unlinks x) y t out = put_other (names (world q)) x y thing.Nothing (λ is. out (inl (sym is)))
 same_name q (Makes x mode) y t out = put_other (names (world q)) x y (thing.File (world q).drawn) (λ is. out (inl (sym is)))
+same_name q (MakesDir x mode) y t out = put_other (names (world q)) x y thing.Directory (λ is. out (inl (sym is)))
 same_name q (Appends x bytes) y t out = refl
 same_name q (Truncates x) y t out = refl
 same_name q _ y t out = absurd t
@@ -67,6 +68,8 @@ no_directory w (Unlinks x) y t f d (inl is) = file_no_dir (names w x) f.0 f.1 (a
 no_directory w (Unlinks x) y t f d (inr none) = none
 no_directory w (Makes x mode) y t f d (inl is) = nothing_no_dir (names w x) f.1 (ap (names w) is ∙ d)
 no_directory w (Makes x mode) y t f d (inr none) = none
+no_directory w (MakesDir x mode) y t f d (inl is) = nothing_no_dir (names w x) f.1 (ap (names w) is ∙ d)
+no_directory w (MakesDir x mode) y t f d (inr none) = none
 no_directory w (Appends x bytes) y t f d (inl is) = file_no_dir (names w x) f.0 f.1 (ap (names w) is ∙ d)
 no_directory w (Appends x bytes) y t f d (inr none) = none
 no_directory w (Truncates x) y t f d (inl is) = file_no_dir (names w x) f.0 f.1 (ap (names w) is ∙ d)

@@ -1,4 +1,5 @@
 mod Acts
+mod Dirs
 pub mod Lasting
 mod Listed
 pub mod Placed

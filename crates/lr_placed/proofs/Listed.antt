@@ -1,5 +1,5 @@
--- The directories of a log that was seen stand.
-use Rattle.std.proofs.Common.{◌≡◌, ⊎_elim, sym, ap, ◌∙◌, refl, subst, List, Option, Some, None}
+-- The directories of a log that was seen stand, or are to be made.
+use Rattle.std.proofs.Common.{◌≡◌, ◌⊎◌, inl, inr, sym, ap, ◌∙◌, refl, subst, ℕ, List, Option, Some, None}
 use Rattle.lr_rules.specs.declared.clock.Clock.{Clock}
 use Rattle.lr_rules.specs.declared.path.Path.{Path}
 use Rattle.lr_rules.specs.declared.rule.Format.{Format}
@@ -8,42 +8,65 @@ use Rattle.lr_rules.specs.Path.{path_fault, parent_of}
 use Rattle.lr_host.specs.declared.entry.Entry.{Entry}
 use Rattle.lr_host.specs.declared.entry.Entry.TheVariants as entry
 use Rattle.lr_host.specs.Fits.{IsDirectoryAt}
+use Rattle.lr_host.specs.Lists.{IsIn}
 use Rattle.lr_host.specs.World.{world, names}
-use Rattle.lr_host.proofs.Looked.{seen_file}
+use Rattle.lr_host.proofs.Looked.{seen_file, seen_dir}
+use Rattle.lr_plan.specs.declared.mark.Mark.{Mark}
+use Rattle.lr_plan.specs.declared.mark.Mark.TheVariants as mark
 use Rattle.lr_weave.proofs.Seen.{log_dir}
+use Rattle.lr_targets.specs.AllTurns.{IsItsDir}
 use Rattle.lr_targets.specs.Apart.{HasNames}
-use Rattle.lr_targets.specs.Target.{Target, IsSeen, IsOneOf}
+use Rattle.lr_rotations.specs.Shown.{SawDir}
+use Rattle.lr_targets.specs.Target.{Target, IsMissingDir, IsDirSeenBy, IsSeen}
 use Rattle.lr_rotations.proofs.Fitting.{first_named}
 use Rattle.lr_rotations.proofs.Moments.{SawFile, saw_one}
 use Rattle.lr_rotations.proofs.Paths.{path_parent}
 use Rattle.lr_targets.proofs.SeenFits.{seen_names}
 use Rattle.lr_dated_seen.proofs.Names.{stands_in}
 use Rattle.lr_chain.specs.Rotation.{places_of}
-use Rattle.lr_mixed.specs.Seen.{IsLogSeen, AreLogsSeen}
-use Rattle.lr_mixed.proofs.Seen.{numbered_seen, dated_seen, ready_of, log_among}
-use Rattle.lr_placed.specs.Dirs.{IsDirOfLog}
+use Rattle.lr_mixed.specs.Seen.{IsLogSeen}
+use Rattle.lr_mixed.proofs.Seen.{numbered_seen, dated_seen, ready_of}
+use Rattle.lr_placed.proofs.Dirs.{IsDirOfLog}
 use Rattle.lr_placed.proofs.Lasting.{Says}
 
--- the directory of the members was listed, and in it stands the path that the log gets
-listed_numbers : (rules : Rules) (clock : Clock) (looks : List Entry) (t : Target) → IsSeen rules clock.now.seconds looks t → Says (λ n. IsDirectoryAt n (parent_of t.ready.target)) looks
-listed_numbers rules clock looks t seen =
-    let h : HasNames t = seen_names rules clock.now.seconds looks t seen in
-    let is = ap parent_of seen.ready.target_is ∙ path_parent t.log t.naming 0 h.family (first_named t.naming t.count (places_of t.stand.members) h.next) in
-    subst (λ (d : Path). Says (λ n. IsDirectoryAt n d) looks) (sym is) (record { entry = entry.List t.naming.dir seen.seen.names; among = seen.seen.list; so = λ w j f. f.0 })
+-- the directory was seen
+says_seen : (dir : Path) (looks : List Entry) → SawDir dir looks → Says (λ n. IsDirectoryAt n dir) looks
+says_seen dir looks saw = record { entry = entry.Look dir (Some saw.0); among = saw.2; so = λ w j f. seen_dir (world w) (names (world w) dir) saw.0 f saw.1 }
 
-listed_days : (rules : Rules) (clock : Clock) (looks : List Entry) (t : Target) (format : Format) → IsLogSeen rules clock looks t → t.naming.dated ≡ Some format → Says (λ n. IsDirectoryAt n (parent_of t.ready.target)) looks
-listed_days rules clock looks t format l dated =
+-- ---- the directory of the members
+
+-- in it stands the path that the log gets
+numbers_dir : (rules : Rules) (clock : Clock) (looks : List Entry) (t : Target) → IsSeen rules clock.now.seconds looks t → parent_of t.ready.target ≡ t.naming.dir
+numbers_dir rules clock looks t seen =
+    let h : HasNames t = seen_names rules clock.now.seconds looks t seen in
+    ap parent_of seen.ready.target_is ∙ path_parent t.log t.naming 0 h.family (first_named t.naming t.count (places_of t.stand.members) h.next)
+
+days_dir : (rules : Rules) (clock : Clock) (looks : List Entry) (t : Target) (format : Format) → IsLogSeen rules clock looks t → t.naming.dated ≡ Some format → parent_of t.ready.target ≡ t.naming.dir
+days_dir rules clock looks t format l dated =
     let d = dated_seen rules clock looks t format l dated in
     let r = ready_of rules clock looks t l.given.rule.maxage d in
-    let is = stands_in t.log t.naming _ r.serial t.ready.target d.family.kin d.family.format r.target_is d.family.dir in
-    subst (λ (x : Path). Says (λ n. IsDirectoryAt n x) looks) (sym is) (record { entry = entry.List t.naming.dir d.seen.names; among = d.seen.list; so = λ w j f. f.0 })
+    stands_in t.log t.naming _ r.serial t.ready.target d.family.kin d.family.format r.target_is d.family.dir
 
-says_listed : (rules : Rules) (clock : Clock) (looks : List Entry) (t : Target) → IsLogSeen rules clock looks t → Says (λ n. IsDirectoryAt n (parent_of t.ready.target)) looks
-says_listed rules clock looks t l = go t.naming.dated refl
+target_dir : (rules : Rules) (clock : Clock) (looks : List Entry) (t : Target) → IsLogSeen rules clock looks t → parent_of t.ready.target ≡ t.naming.dir
+target_dir rules clock looks t l = go t.naming.dated refl
   where
-    go : (d : Option Format) → t.naming.dated ≡ d → Says (λ n. IsDirectoryAt n (parent_of t.ready.target)) looks
-    go None is = listed_numbers rules clock looks t (numbered_seen rules clock looks t l is)
-    go (Some format) is = listed_days rules clock looks t format l is
+    go : (d : Option Format) → t.naming.dated ≡ d → parent_of t.ready.target ≡ t.naming.dir
+    go None is = numbers_dir rules clock looks t (numbered_seen rules clock looks t l is)
+    go (Some format) is = days_dir rules clock looks t format l is
+
+-- where the rotation doesn't make it, it was seen
+says_listed : (rules : Rules) (clock : Clock) (looks : List Entry) (t : Target) → t.ready.dir ≡ None → IsLogSeen rules clock looks t → Says (λ n. IsDirectoryAt n (parent_of t.ready.target)) looks
+says_listed rules clock looks t none l = subst (λ (d : Path). Says (λ n. IsDirectoryAt n d) looks) (sym (target_dir rules clock looks t l))
+    (says_seen t.naming.dir looks (subst (λ (d : Option (Path × Option ℕ)). IsDirSeenBy d t.log t.naming t.stand.members t.job looks) none l.dir))
+
+-- where it makes it, it was missing, and its own directory was seen
+was_missing : (rules : Rules) (clock : Clock) (looks : List Entry) (t : Target) (made : Path) → IsItsDir t made → IsLogSeen rules clock looks t → IsMissingDir t.log t.naming t.stand.members t.job looks made
+was_missing rules clock looks t made its l = subst (λ (d : Option (Path × Option ℕ)). IsDirSeenBy d t.log t.naming t.stand.members t.job looks) its.1 l.dir
+
+says_parent : (rules : Rules) (clock : Clock) (looks : List Entry) (t : Target) (made : Path) → IsItsDir t made → IsLogSeen rules clock looks t → Says (λ n. IsDirectoryAt n (parent_of made)) looks
+says_parent rules clock looks t made its l = says_seen (parent_of made) looks (was_missing rules clock looks t made its l).parent
+
+-- ---- each directory of a log
 
 -- that of the log has a file
 says_own : (rules : Rules) (clock : Clock) (looks : List Entry) (t : Target) → path_fault t.log ≡ None → IsLogSeen rules clock looks t → Says (λ n. IsDirectoryAt n (parent_of t.log)) looks
@@ -52,8 +75,13 @@ says_own rules clock looks t valid seen = record { entry = entry.Look t.log (Som
     saw : SawFile t.log looks
     saw = saw_one t.log looks seen.log_seen
 
--- so one of the looks says that it stands
-pub says_dir : (rules : Rules) (clock : Clock) (looks : List Entry) (ts : List Target) (t : Target) (dir : Path) → AreLogsSeen rules clock looks ts → IsOneOf t ts → path_fault t.log ≡ None → IsDirOfLog t dir → Says (λ n. IsDirectoryAt n dir) looks
-says_dir rules clock looks ts t dir seen i valid of = ⊎_elim
-    (λ is. subst (λ (d : Path). Says (λ n. IsDirectoryAt n d) looks) (sym is) (says_own rules clock looks t valid (log_among rules clock looks ts seen t i)))
-    (λ is. subst (λ (d : Path). Says (λ n. IsDirectoryAt n d) looks) (sym is) (says_listed rules clock looks t (log_among rules clock looks ts seen t i))) of
+-- so one of the looks says that it stands, or a mark tells that it was made
+pub says_dir : (rules : Rules) (clock : Clock) (shown : List Entry) (t : Target) (marks : List Mark) (dir : Path) → path_fault t.log ≡ None → IsLogSeen rules clock shown t → IsDirOfLog t marks dir
+    → IsIn (mark.Directory dir) marks ⊎ ((looks : List Entry) → IsLogSeen rules clock looks t → Says (λ n. IsDirectoryAt n dir) looks)
+says_dir rules clock shown t marks dir valid seen (inl is) = inr (λ looks l. subst (λ (d : Path). Says (λ n. IsDirectoryAt n d) looks) (sym is) (says_own rules clock looks t valid l))
+says_dir rules clock shown t marks dir valid seen (inr (inl of)) = go t.ready.dir refl
+  where
+    go : (d : Option (Path × Option ℕ)) → t.ready.dir ≡ d → IsIn (mark.Directory dir) marks ⊎ ((looks : List Entry) → IsLogSeen rules clock looks t → Says (λ n. IsDirectoryAt n dir) looks)
+    go None none = inr (λ looks l. subst (λ (d : Path). Says (λ n. IsDirectoryAt n d) looks) (sym of.0) (says_listed rules clock looks t none l))
+    go (Some (made, mode)) its = inl (of.1 (mode, subst (λ (d : Path). t.ready.dir ≡ Some (d, mode)) ((was_missing rules clock shown t made (mode, its) seen).dir_is ∙ (sym (target_dir rules clock shown t seen) ∙ sym of.0)) its))
+says_dir rules clock shown t marks dir valid seen (inr (inr of)) = inr (λ looks l. subst (λ (d : Path). Says (λ n. IsDirectoryAt n d) looks) (sym of.2) (says_parent rules clock looks t of.0 of.1 l))

@@ -27,7 +27,11 @@ use Rattle.lr_reading.specs.declared.remembered.Remembered.{Remembered}
 use Rattle.lr_reading.specs.Answers.{ReadsState}
 use Rattle.lr_reading.proofs.Quiet.{state_quiet}
 use Rattle.lr_targets.specs.Target.{Target, IsOneOf}
+use Rattle.lr_mixed.specs.Seen.{IsLogSeen}
+use Rattle.lr_mixed.proofs.Seen.{log_among}
 use Rattle.lr_weave.specs.Parts.{ArePlanned}
+use Rattle.lr_weave.specs.Planned.{HaveLogs}
+use Rattle.lr_weave.proofs.Marked.{marked_stands}
 use Rattle.lr_weave.proofs.Planning.{ready_planned}
 use Rattle.lr_seen.specs.Free.{reserved_by, AreFreeOf}
 use Rattle.lr_seen.specs.Targets.{groups_of, all_targets}
@@ -36,9 +40,10 @@ use Rattle.lr_seen.proofs.Quiet.{whole_quiet}
 use Rattle.lr_seen.proofs.Ready.{plans_have_logs}
 use Rattle.lr_seen.proofs.Seen.{targets_seen, targets_have_names, targets_have_paths}
 use Rattle.lr_writing.specs.Fits.{AreDirectories, HasPlace, IsThere, CanBegin}
-use Rattle.lr_placed.specs.Dirs.{AreDirsOfLogs}
+use Rattle.lr_synced.specs.Synced.{AreSynced}
 use Rattle.lr_placed.specs.Looked.{LooksCameTo}
 use Rattle.lr_placed.proofs.Acts.{Spares, acts_spare, IsFree, free_stays, free_kept, dir_stays, dir_kept, file_stays, file_kept}
+use Rattle.lr_placed.proofs.Dirs.{IsDirOfLog, AreDirsOfLogs, dirs_of_logs}
 use Rattle.lr_placed.proofs.Lasting.{Stays, Holds, IsKeptBy, disk_on, lasts, lasts_quiet, said}
 use Rattle.lr_placed.proofs.Listed.{says_dir}
 use Rattle.lr_placed.proofs.Reading.{reading_says_free, reading_says_part}
@@ -74,17 +79,14 @@ AllAreFree = (reserved : List Path) (rules : List Rule) (sets : List SetLooks) (
 
 -- behind a reading and looks that left entries
 placed : AllAreFree → (state : Path) (size : ℕ) (r : Remembered) (rules : Rules) (sets : List SetLooks) (clock : Clock) (mailer : Path) (decide : Rule → LogLook → Due) (marks : List Mark) (faults : List Fault) (dirs : List Path) (before read looked acted : Option Journal) (us : List Entry)
-    → AreDirsOfLogs (all_targets clock decide rules.sets sets) dirs → WhereTold before IsJournal → Can before (entry.List (parent_of state) [])
+    → AreSynced (all_plans clock mailer decide rules.sets sets) marks dirs → WhereTold before IsJournal → Can before (entry.List (parent_of state) [])
     → Left (ReadsState state size (Ok (Ok r))) before read → Left (LooksCameTo (reserved_by state) rules.sets sets) read looked → LooksCameTo (reserved_by state) rules.sets sets us
     → Left (SetsDone (map steps_of_set (all_plans clock mailer decide rules.sets sets)) marks faults) looked acted → CanBegin acted state r.stale dirs
-placed free state size r rules sets clock mailer decide marks faults dirs before read looked acted us of_logs disk there reading looks shown acts = record {
+placed free state size r rules sets clock mailer decide marks faults dirs before read looked acted us synced disk there reading looks shown acts = record {
   place = has_place state dirs acted
       (on (IsFree state) (free_stays state) (free_kept reserved state (inl refl)) (said (IsFree state) (free_stays state) disk reading quiet (reading_says_free state size r)))
       (on (λ n. IsDirectoryAt n (parent_of state)) (dir_stays (parent_of state)) (dir_kept reserved (parent_of state)) (lasts_quiet (λ n. IsDirectoryAt n (parent_of state)) (dir_stays (parent_of state)) reading quiet there.can))
-      (λ dir i. let o = of_logs dir i in
-      over_acts (λ n. IsDirectoryAt n dir) (dir_stays dir) (dir_kept reserved dir)
-      (said (λ n. IsDirectoryAt n dir) (dir_stays dir) (disk_on reading disk) looks quiet_looks
-      (λ ts s. says_dir rules clock ts targets o.0 dir (targets_seen rules sets s.0 ts clock decide s.1) o.1 (targets_have_paths rules.sets sets s.0 ts clock decide s.1 o.0 (is_in o.0 targets o.1)) o.2)));
+      (λ dir i. let o = of_logs dir i in stands dir o.0 o.1 o.2);
   part = is_there (state_part state) r.stale acted (λ stale.
       on (λ n. IsFileAt n (state_part state)) (file_stays (state_part state)) (file_kept reserved (state_part state) (inr (inl refl)))
       (said (λ n. IsFileAt n (state_part state)) (file_stays (state_part state)) disk reading quiet (reading_says_part state size r stale)));
@@ -107,20 +109,36 @@ placed free state size r rules sets clock mailer decide marks faults dirs before
     quiet_looks : (ts : List Entry) → LooksCameTo (reserved_by state) rules.sets sets ts → AreQuiet ts
     quiet_looks ts s = whole_quiet rules.sets sets s.0 ts s.1
 
+    plans_are_of : HaveLogs (groups_of clock decide rules.sets sets) (all_plans clock mailer decide rules.sets sets)
+    plans_are_of = plans_have_logs rules.sets sets shown.0 us clock mailer decide shown.1
+
+    of_logs : AreDirsOfLogs targets marks dirs
+    of_logs = dirs_of_logs (groups_of clock decide rules.sets sets) (all_plans clock mailer decide rules.sets sets) marks dirs plans_are_of synced
+
+    seen : (t : Target) → IsOneOf t targets → (ts : List Entry) → LooksCameTo (reserved_by state) rules.sets sets ts → IsLogSeen rules clock ts t
+    seen t i ts s = log_among rules clock ts targets (targets_seen rules sets s.0 ts clock decide s.1) t i
+
     planned : ArePlanned targets (map steps_of_set (all_plans clock mailer decide rules.sets sets))
-    planned = ready_planned (groups_of clock decide rules.sets sets) (all_plans clock mailer decide rules.sets sets) (plans_have_logs rules.sets sets shown.0 us clock mailer decide shown.1) (targets_apart rules.sets sets shown.0 us clock decide shown.1)
+    planned = ready_planned (groups_of clock decide rules.sets sets) (all_plans clock mailer decide rules.sets sets) plans_are_of (targets_apart rules.sets sets shown.0 us clock decide shown.1)
 
     over_acts : (Q : Names → Type 0) → Stays Q → IsKeptBy (Spares reserved) Q → Holds Q looked → Holds Q acted
     over_acts Q stays kept h = lasts Q (Spares reserved) stays kept acts (λ ts d.
         acts_spare reserved targets (map steps_of_set (all_plans clock mailer decide rules.sets sets)) marks faults ts (targets_have_names rules sets shown.0 us clock decide shown.1) (free reserved rules.sets sets shown.0 us clock decide shown.1) planned d) h
 
+    -- a directory that was seen, or of which a mark tells
+    stands : (dir : Path) (t : Target) → IsOneOf t targets → IsDirOfLog t marks dir → Holds (λ n. IsDirectoryAt n dir) acted
+    stands dir t i of = ⊎_elim
+        (λ made. marked_stands (map steps_of_set (all_plans clock mailer decide rules.sets sets)) marks faults dir looked acted made acts)
+        (λ says. over_acts (λ n. IsDirectoryAt n dir) (dir_stays dir) (dir_kept reserved dir) (said (λ n. IsDirectoryAt n dir) (dir_stays dir) (disk_on reading disk) looks quiet_looks (λ ts s. says ts (seen t i ts s))))
+        (says_dir rules clock us t marks dir (targets_have_paths rules.sets sets shown.0 us clock decide shown.1 t (is_in t targets i)) (seen t i us shown) of)
+
     on : (Q : Names → Type 0) → Stays Q → IsKeptBy (Spares reserved) Q → Holds Q read → Holds Q acted
     on Q stays kept h = over_acts Q stays kept (lasts_quiet Q stays looks quiet_looks h)
 
 pub state_placed : AllAreFree → (state : Path) (size : ℕ) (remembered : Remembered) (rules : Rules) (sets : List SetLooks) (clock : Clock) (mailer : Path) (decide : Rule → LogLook → Due) (marks : List Mark) (faults : List Fault) (dirs : List Path) (before read looked acted : Option Journal)
-    → AreDirsOfLogs (all_targets clock decide rules.sets sets) dirs → WhereTold before IsJournal → Can before (entry.List (parent_of state) [])
+    → AreSynced (all_plans clock mailer decide rules.sets sets) marks dirs → WhereTold before IsJournal → Can before (entry.List (parent_of state) [])
     → Left (ReadsState state size (Ok (Ok remembered))) before read → Left (LooksCameTo (reserved_by state) rules.sets sets) read looked
     → Left (SetsDone (map steps_of_set (all_plans clock mailer decide rules.sets sets)) marks faults) looked acted → CanBegin acted state remembered.stale dirs
-state_placed free state size r rules sets clock mailer decide marks faults dirs before read looked acted of_logs disk there reading looks acts =
+state_placed free state size r rules sets clock mailer decide marks faults dirs before read looked acted synced disk there reading looks acts =
     ⊎_elim (λ none. subst (λ told. CanBegin told state r.stale dirs) (sym (untold acts none)) (record { place = tt; part = tt }))
-    (λ s. placed free state size r rules sets clock mailer decide marks faults dirs before read looked acted s.0 of_logs disk there reading looks s.1 acts) (shown_or_none looks)
+    (λ s. placed free state size r rules sets clock mailer decide marks faults dirs before read looked acted s.0 synced disk there reading looks s.1 acts) (shown_or_none looks)

@@ -1,2 +1,1 @@
-pub mod Dirs
 pub mod Looked

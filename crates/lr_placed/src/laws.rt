@@ -20,20 +20,20 @@ ghost use Rattle.lr_plan.specs.Steps.{steps_of_set};
 ghost use Rattle.lr_reading.specs.declared.remembered.Remembered.{Remembered};
 ghost use Rattle.lr_reading.specs.Answers.{ReadsState};
 ghost use Rattle.lr_seen.specs.Free.{reserved_by};
-ghost use Rattle.lr_seen.specs.Targets.{all_targets};
 ghost use Rattle.lr_writing.specs.Fits.{CanBegin};
-ghost use Rattle.lr_placed.specs.Dirs.{AreDirsOfLogs};
+ghost use Rattle.lr_synced.specs.Synced.{AreSynced};
 ghost use Rattle.lr_placed.specs.Looked.{LooksCameTo};
 
 use lr_seen::targets_are_free;
 
 /// Behind the acts of a plan the state can be written, whatever failed in them and whatever writers did: its path and that
 /// of its part file are as the reading saw them, since no log of the plan has such a name, and its directory stands, as do
-/// those of the logs and of their members, on a disk. The state was read, the logs were looked at and the acts were made, one behind another.
+/// those that are synced, on a disk: the looks saw each of them or a file in it, or a mark of the acts tells that it was
+/// made. The state was read, the logs were looked at and the acts were made, one behind another.
 pub fn state_has_its_place()
     ensures { (state : Path) (size : ℕ) (remembered : Remembered) (rules : Rules) (sets : List SetLooks) (clock : Clock) (mailer : Path) (decide : Rule → LogLook → Due) (marks : List Mark) (faults : List Fault) (dirs : List Path)
         (before read looked acted : Option Journal)
-        → AreDirsOfLogs (all_targets clock decide rules.sets sets) dirs → WhereTold before IsJournal → Can before (entry.List (parent_of state) [])
+        → AreSynced (all_plans clock mailer decide rules.sets sets) marks dirs → WhereTold before IsJournal → Can before (entry.List (parent_of state) [])
         → Left (ReadsState state size (Ok (Ok remembered))) before read → Left (LooksCameTo (reserved_by state) rules.sets sets) read looked
         → Left (SetsDone (map steps_of_set (all_plans clock mailer decide rules.sets sets)) marks faults) looked acted → CanBegin acted state remembered.stale dirs }
 {

@@ -19,7 +19,7 @@ use Rattle.lr_family.specs.Stands.{number_in}
 use Rattle.lr_chain.specs.declared.ready.Ready.{Ready}
 use Rattle.lr_chain.specs.declared.ready.PrepareStop.{PrepareStop}
 use Rattle.lr_chain.specs.declared.ready.PrepareStop.TheVariants as prepare
-use Rattle.lr_chain.specs.Ready.{IsReady, IsMissing, IsTooHigh, is_highest, highest_path}
+use Rattle.lr_chain.specs.Ready.{IsReady, IsMissing, IsTooHigh, is_highest, highest_path, with_dir}
 use Rattle.lr_chain.proofs.Bounds.{none_too_high}
 use Rattle.lr_chain.proofs.Highest.{path_is}
 use Rattle.lr_dated_ready.specs.Hindrances.{IsHindered}
@@ -27,7 +27,7 @@ use Rattle.lr_plan.specs.declared.looks.LogLook.{LogLook}
 use Rattle.lr_plan.specs.declared.looks.SetLooks.{SetLooks}
 use Rattle.lr_plan.specs.Internal.Hindered.{fault_of}
 use Rattle.lr_plan.proofs.Short.{target_short}
-use Rattle.lr_plan.specs.Planned.{keeps_all, is_too_high, numbered_hindrances, hindrances_by, hindrances, ready_for, plan_with, none_hinders, plans_of, decisions_of, log_plans, log_faults, set_plan, all_decisions, all_plans, all_faults, CanPlanSet, CanPlanAll}
+use Rattle.lr_plan.specs.Planned.{keeps_all, is_too_high, numbered_hindrances, hindrances_by, hindrances, dir_of, standing, ready_for, plan_with, log_plan, none_hinders, plans_of, decisions_of, log_plans, log_faults, set_plan, all_decisions, all_plans, all_faults, CanPlanSet, CanPlanAll}
 
 -- where a call went well, what follows from what it ensures
 pub where_ok : {T E P Q : Type 0} (r : Result T E) → OnOk r P → (P → Q) → OnOk r Q
@@ -37,7 +37,7 @@ where_ok (Err e) p f = tt
 -- ---- one log
 
 -- its hindrances are those of its numbers
-pub hindrances_are : (clock : Clock) (rule : Rule) (look : LogLook) → look.family.naming.dated ≡ None → numbered_hindrances rule look ≡ hindrances clock rule look
+pub hindrances_are : (clock : Clock) (rule : Rule) (look : LogLook) → look.family.naming.dated ≡ None → numbered_hindrances rule look ≡ hindrances_by look.family.naming.dated clock rule look
 hindrances_are clock rule look numbered = ap (λ d. hindrances_by d clock rule look) (sym numbered)
 
 -- nothing hinders
@@ -119,14 +119,14 @@ stop_hinders rule look r prepare.Memory named e dir high taken = tt
 -- where a rotation is ready, nothing hinders it
 pub ok_free : (clock : Clock) (rule : Rule) (look : LogLook) (r : Result Ready PrepareStop) → look.family.naming.dated ≡ None → AreNamed look.family.naming look.stand.members
     → (r ≢ Err prepare.Memory → (path : Path) → (r ≡ Err (prepare.NoDir path)) ↔ IsMissing look.family.naming look.stand path)
-    → (r ≢ Err prepare.Memory → (path : Path) → (r ≡ Err (prepare.TooHigh path)) ↔ IsTooHigh look.family.naming look.stand rule.count path) → OnOk r (hindrances clock rule look ≡ [])
+    → (r ≢ Err prepare.Memory → (path : Path) → (r ≡ Err (prepare.TooHigh path)) ↔ IsTooHigh look.family.naming look.stand rule.count path) → OnOk r (hindrances_by look.family.naming.dated clock rule look ≡ [])
 ok_free clock rule look (Err stop) numbered named dir high = tt
 ok_free clock rule look (Ok ready) numbered named dir high = sym (hindrances_are clock rule look numbered) ∙ ready_unhindered rule look (Ok ready) ready named refl dir high
 
 pub err_hindered : (clock : Clock) (rule : Rule) (look : LogLook) (r : Result Ready PrepareStop) → look.family.naming.dated ≡ None → AreNamed look.family.naming look.stand.members
     → (r ≢ Err prepare.Memory → (path : Path) → (r ≡ Err (prepare.NoDir path)) ↔ IsMissing look.family.naming look.stand path)
     → (r ≢ Err prepare.Memory → (path : Path) → (r ≡ Err (prepare.TooHigh path)) ↔ IsTooHigh look.family.naming look.stand rule.count path)
-    → ((path : Path) → r ≢ Err (prepare.Taken path)) → IfErr r (IsHindered (hindrances clock rule look))
+    → ((path : Path) → r ≢ Err (prepare.Taken path)) → IfErr r (IsHindered (hindrances_by look.family.naming.dated clock rule look))
 err_hindered clock rule look (Ok ready) numbered named dir high taken = tt
 err_hindered clock rule look (Err stop) numbered named dir high taken = subst (λ (fs : List Fault). IsHindered fs stop) (hindrances_are clock rule look numbered) (stop_hinders rule look (Err stop) stop named refl dir high taken)
 
@@ -138,12 +138,13 @@ ok_short look count anew (Ok ready) from low i = subst (λ (x : Path). length x 
 
 -- ---- the plan of one log
 
-pub plans_there : (clock : Clock) (mailer : Path) (rule : Rule) (look : LogLook) (ready : Ready) → ready ≡ ready_for clock rule look → hindrances clock rule look ≡ [] → plan_with mailer rule look ready ∷ [] ≡ plans_of clock mailer rule look
+pub plans_there : (clock : Clock) (mailer : Path) (rule : Rule) (look : LogLook) (ready : Ready) → with_dir (dir_of rule look) ready ≡ ready_for clock rule look → hindrances clock rule look ≡ []
+    → plan_with mailer rule (standing rule look) (with_dir (dir_of rule look) ready) ∷ [] ≡ plans_of clock mailer rule look
 plans_there clock mailer rule look ready is h =
-    ap (λ (r : Ready). plan_with mailer rule look r ∷ []) is ∙ ap (λ (fs : List Fault). none_hinders fs (plan_with mailer rule look (ready_for clock rule look) ∷ [])) (sym h)
+    ap (λ (r : Ready). plan_with mailer rule (standing rule look) r ∷ []) is ∙ ap (λ (fs : List Fault). none_hinders fs (log_plan clock mailer rule look ∷ [])) (sym h)
 
 pub plans_none : (clock : Clock) (mailer : Path) (rule : Rule) (look : LogLook) (f : Fault) → hindrances clock rule look ≡ f ∷ [] → plans_of clock mailer rule look ≡ []
-plans_none clock mailer rule look f h = ap (λ (fs : List Fault). none_hinders fs (plan_with mailer rule look (ready_for clock rule look) ∷ [])) h
+plans_none clock mailer rule look f h = ap (λ (fs : List Fault). none_hinders fs (log_plan clock mailer rule look ∷ [])) h
 
 -- the fault that is told is what hinders
 pub fault_hinders : (faults : List Fault) (stop : PrepareStop) (f : Fault) → IsHindered faults stop → Ok f ≡ fault_of stop → faults ≡ f ∷ []

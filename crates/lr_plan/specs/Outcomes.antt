@@ -9,7 +9,7 @@ use Rattle.lr_rules.specs.declared.fault.Fault.TheVariants as fault
 use Rattle.lr_rules.specs.declared.fault.Phase.{Phase}
 use Rattle.lr_host.specs.declared.entry.Entry.{Entry}
 use Rattle.lr_host.specs.declared.entry.Entry.TheVariants as entry
-use Rattle.lr_host.specs.Looks.{Sees, IsDir, IsNotDir}
+use Rattle.lr_host.specs.Looks.{Sees, IsDir, IsNoDir}
 use Rattle.lr_scripts.specs.declared.command.Command.{Command}
 use Rattle.lr_scripts.specs.Programs.{runs}
 use Rattle.lr_copy.specs.declared.job.BytesStop.{BytesStop}
@@ -60,11 +60,11 @@ pub data ProgramFailed (phase : Phase) (on : List ℕ) (command : Command) (f : 
   not_run : f ≡ fault.Call call.Run command.program → ts ≡ [] → ProgramFailed phase on command f ts
   maybe_run : (end : Ended) → f ≡ fault.Call call.Run command.program → One (runs command end) ts → ProgramFailed phase on command f ts
 
--- a directory couldn't be made, or the path is named and isn't one
+-- a directory couldn't be made, or something else has the path
 pub data DirFailed (path : Path) (mode : Option ℕ) (f : Fault) (ts : List Entry) : Type 0 where
   at_make : CallFailed (fault.Call call.MakeDir path) f (entry.MakesDir path mode) ts → DirFailed path mode f ts
   at_look : f ≡ fault.Call call.Look path → ts ≡ [] → DirFailed path mode f ts
-  no_dir : f ≡ fault.NotFile path → Sees path IsNotDir ts → DirFailed path mode f ts
+  no_dir : f ≡ fault.NotFile path → Sees path IsNoDir ts → DirFailed path mode f ts
 
 -- what is told of a copy of bytes that broke off
 abbrev pub bytes_fault : Path → Path → BytesStop → Fault

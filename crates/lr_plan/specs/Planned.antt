@@ -26,12 +26,13 @@ use Rattle.lr_due.specs.declared.answer.Due.TheVariants as due
 use Rattle.lr_due.specs.Due.{due_of}
 use Rattle.lr_state.specs.Table.{Entry, moment_of}
 use Rattle.lr_family.specs.declared.stand.Member.{Member}
+use Rattle.lr_family.specs.declared.stand.Stand.{Stand}
 use Rattle.lr_family.specs.Parts.{part_of}
 use Rattle.lr_family.specs.Places.{AreNamed}
 use Rattle.lr_days.specs.Newest.{AreDated, AreNewestFirst}
 use Rattle.lr_commands.specs.Commands.{spaced, script, where_so, mail, with_programs}
 use Rattle.lr_chain.specs.declared.ready.Ready.{Ready}
-use Rattle.lr_chain.specs.Ready.{IsCount, at_rest, with_members, is_highest, highest_path}
+use Rattle.lr_chain.specs.Ready.{IsCount, at_rest, with_dir, with_members, is_highest, highest_path}
 use Rattle.lr_chain.specs.Rotation.{places_of, going}
 use Rattle.lr_copy.specs.declared.job.Job.{Job}
 use Rattle.lr_dated_ready.specs.Hindrances.{dated_hindrances}
@@ -48,6 +49,44 @@ use Rattle.lr_plan.specs.declared.planned.Plan.{Plan}
 -- whether the log is due, by the moment that the table has for it
 abbrev pub decision : List Entry → Moment → Bool → Rule → LogLook → Due
 decision table now force rule look = due_of rule look.seen.size look.seen.mtime (moment_of table look.path) now force
+
+-- ---- the family's directory
+
+-- a directory is made where the rule says so
+abbrev pub is_made : Make → Bool
+is_made make.No = false
+is_made (make.Yes mode) = true
+
+-- with this mode, where the rule gives one
+abbrev pub mode_of : Make → Option ℕ
+mode_of make.No = None
+mode_of (make.Yes mode) = mode
+
+-- The rotation makes the family's directory: the rule says so, and where the directory would stand there was nothing, in a directory that was there. The log's own path isn't made a directory.
+abbrev pub makes_dir : Rule → LogLook → Bool
+makes_dir rule look = is_made rule.createolddir && (not look.stand.there && (look.stand.parent && not (bytes_eq look.family.naming.dir look.path)))
+
+-- the directory that the rotation makes, if any, and the mode that the rule gives it
+abbrev pub dir_of : Rule → LogLook → Option (Path × Option ℕ)
+dir_of rule look = if makes_dir rule look then Some (look.family.naming.dir, mode_of rule.createolddir) else None
+
+-- what stands of a family whose directory was just made: no member, and no part file
+abbrev pub empty_stand : Stand
+empty_stand = record { there = true; parent = true; members = []; parts = [] }
+
+-- what stands of the log's family once its directory is made, where the rotation makes it; else what was seen
+abbrev pub stand_for : Rule → LogLook → Stand
+stand_for rule look = if makes_dir rule look then empty_stand else look.stand
+
+-- the look, as if this had been seen of the family
+abbrev pub with_stand : Stand → LogLook → LogLook
+with_stand stand look = record { path = look.path; seen = look.seen; family = look.family; stand = stand }
+
+-- the look that the rotation goes by: a directory that it makes is there, and empty
+abbrev pub standing : Rule → LogLook → LogLook
+standing rule look = with_stand (stand_for rule look) look
+
+-- ---- what hinders, and what is made ready
 
 -- all members are kept
 abbrev pub keeps_all : Count → Bool
@@ -68,8 +107,9 @@ abbrev pub hindrances_by : Option Format → Clock → Rule → LogLook → List
 hindrances_by None clock rule look = numbered_hindrances rule look
 hindrances_by (Some format) clock rule look = dated_hindrances look.family.naming look.stand (clock_seconds look.family.naming.dated clock)
 
+-- a directory that the rotation makes doesn't hinder it
 abbrev pub hindrances : Clock → Rule → LogLook → List Fault
-hindrances clock rule look = hindrances_by look.family.naming.dated clock rule look
+hindrances clock rule look = hindrances_by look.family.naming.dated clock rule (standing rule look)
 
 -- where the log is made anew, with which mode: the one that the rule gives, else the one that was seen
 abbrev pub make_of : Make → Seen → Make
@@ -83,7 +123,7 @@ going_by None now rule look = going rule.count rule.maxage now.seconds look.stan
 going_by (Some format) now rule look = []
 
 abbrev pub going_from : Moment → Rule → LogLook → List ℕ
-going_from now rule look = going_by look.family.naming.dated now rule look
+going_from now rule look = going_by look.family.naming.dated now rule (standing rule look)
 
 -- its rotation, with all its paths, and each removal without the programs before it: to the first of the numbered places, or to the clock's stamp
 abbrev pub ready_by : Option Format → Clock → Rule → LogLook → Ready
@@ -91,8 +131,9 @@ ready_by None clock rule look =
     with_members look.family.naming rule.count (places_of look.stand.members) (going_by None clock.now rule look) (at_rest look.path look.family.naming (make_of rule.create look.seen))
 ready_by (Some format) clock rule look = dated_ready look.path look.family.naming rule.count rule.maxage clock (make_of rule.create look.seen) look.stand.members
 
+-- with the directory that it makes
 abbrev pub ready_for : Clock → Rule → LogLook → Ready
-ready_for clock rule look = ready_by look.family.naming.dated clock rule look
+ready_for clock rule look = with_dir (dir_of rule look) (ready_by look.family.naming.dated clock rule (standing rule look))
 
 -- the rotation with these removals, the first ones and those at the end
 abbrev pub with_removals : List Removal → List Removal → Ready → Ready
@@ -136,7 +177,7 @@ plan_with mailer rule look ready = record {
 }
 
 abbrev pub log_plan : Clock → Path → Rule → LogLook → LogPlan
-log_plan clock mailer rule look = plan_with mailer rule look (ready_for clock rule look)
+log_plan clock mailer rule look = plan_with mailer rule (standing rule look) (ready_for clock rule look)
 
 abbrev pub none_hinders : List Fault → List LogPlan → List LogPlan
 none_hinders [] plans = plans

@@ -1,9 +1,10 @@
 // The copy that stands in the place of a log's rename.
 ghost use Rattle.std.specs.Prelude.{◌≡◌, ◌≤◌, IfOk, length};
-ghost use Rattle.lr_plan.specs.Planned.{has_part, copy_job, job_by};
+ghost use Rattle.lr_plan.specs.Planned.{has_part, copy_job, job_by, with_stand};
 
 use crate::looks::LogLook;
 use lr_copy::{Job, part_path};
+use lr_family::Stand;
 use lr_rules::{Memory, Path, Rule, Way};
 use std::alloc::Global;
 
@@ -27,14 +28,20 @@ fn job_paths(alloc: Global, look: &LogLook, target: &Path) -> Result<(Path, Path
     Ok((from, to, dir))
 }
 
-// The copy of the log to this final path.
-fn copy_job(alloc: Global, look: &LogLook, target: &Path, cut: bool) -> Result<Job, Memory>
+// The copy of the log to this final path, where this stands of its family.
+fn copy_job(
+    alloc: Global,
+    look: &LogLook,
+    stand: &Stand,
+    target: &Path,
+    cut: bool,
+) -> Result<Job, Memory>
     requires { length target.now ≤ 4081 }
-    ensures { IfOk result (λ job. job ≡ copy_job look.now target.now cut) }
+    ensures { IfOk result (λ job. job ≡ copy_job (with_stand stand.now look.now) target.now cut) }
 {
     let part = part_path(alloc, target)?;
     let (from, to, dir) = job_paths(alloc, look, target)?;
-    let stale = has_part(look.stand.parts.as_slice(), &part);
+    let stale = has_part(stand.parts.as_slice(), &part);
     Ok(Job {
         from,
         part,
@@ -47,21 +54,23 @@ fn copy_job(alloc: Global, look: &LogLook, target: &Path, cut: bool) -> Result<J
     })
 }
 
-/// The copy by which the log gets to this final path, where its rule's way isn't a rename.
+/// The copy by which the log gets to this final path, where its rule's way isn't a rename, and where this stands of its
+/// family as the rotation begins.
 pub fn job_of(
     alloc: Global,
     rule: &Rule,
     look: &LogLook,
+    stand: &Stand,
     target: &Path,
 ) -> Result<Option<Job>, Memory>
     requires { length target.now ≤ 4081 }
-    ensures { IfOk result (λ job. job ≡ job_by rule.now.way look.now target.now) }
+    ensures { IfOk result (λ job. job ≡ job_by rule.now.way (with_stand stand.now look.now) target.now) }
 {
     let cut = match rule.way {
         Way::Rename => return Ok(None),
         Way::Copy => false,
         Way::CopyTruncate => true,
     };
-    let job = copy_job(alloc, look, target, cut)?;
+    let job = copy_job(alloc, look, stand, target, cut)?;
     Ok(Some(job))
 }

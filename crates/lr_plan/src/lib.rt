@@ -15,6 +15,7 @@
 
 mod commands;
 mod copying;
+mod directory;
 mod looks;
 mod mark;
 mod planned;

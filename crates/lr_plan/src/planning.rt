@@ -4,13 +4,14 @@ ghost use Rattle.lr_rules.specs.declared.rule.Rule.{Rule};
 ghost use Rattle.lr_plan.specs.declared.looks.LogLook.{LogLook};
 ghost use Rattle.lr_plan.specs.Asked.{asking};
 ghost use Rattle.lr_plan.specs.Internal.Hindered.{fault_of};
-ghost use Rattle.lr_plan.specs.Planned.{decision, decisions_of, hindrances, plans_of, log_plans, log_faults, set_plan, where_due, all_decisions, all_plans, all_faults, plan_of, make_of, ready_for, dressed, job_by, plan_with, CanPlan, CanPlanSet, CanPlanAll};
-ghost use Rattle.lr_chain.specs.Ready.{IsCount};
+ghost use Rattle.lr_plan.specs.Planned.{decision, decisions_of, hindrances, plans_of, log_plans, log_faults, set_plan, where_due, all_decisions, all_plans, all_faults, plan_of, make_of, dir_of, stand_for, with_stand, standing, hindrances_by, ready_by, dressed, job_by, plan_with, CanPlan, CanPlanSet, CanPlanAll};
+ghost use Rattle.lr_chain.specs.Ready.{IsCount, with_dir};
 ghost use Rattle.lr_commands.specs.Commands.{spaced};
 ghost use Rattle.lr_dated_ready.specs.Hindrances.{IsHindered};
 
 use crate::commands::{outer_scripts, own_scripts, shared_scripts};
 use crate::copying::job_of;
+use crate::directory::{empty_stand, made_dir, makes_dir};
 use crate::looks::{LogLook, Looks, SetLooks};
 use crate::planned::{LogPlan, Plan, SetPlan};
 use crate::settings::Settings;
@@ -19,6 +20,7 @@ use lr_commands::{mail_of, spaced, with_programs};
 use lr_copy::Job;
 use lr_dated_ready::prepare_dated;
 use lr_due::{Due, due};
+use lr_family::Stand;
 use lr_host::Seen;
 use lr_rules::{Clock, Fault, Listed, Make, Memory, Moment, Path, Rule, Rules};
 use lr_state::State;
@@ -86,6 +88,15 @@ fn with_all_programs(
     })
 }
 
+// The rotation with the directory that it makes, if any.
+fn with_made_dir(alloc: Global, rule: &Rule, look: &LogLook, ready: Ready) -> Result<Ready, Memory>
+    ensures { IfOk result (λ made. made ≡ with_dir (dir_of rule.now look.now) ready) }
+{
+    let mut ready = ready;
+    ready.dir = made_dir(alloc, rule, look)?;
+    Ok(ready)
+}
+
 // The plan of a log whose rotation is ready, and its copy, where it goes by one; with its own scripts.
 fn scripted(
     alloc: Global,
@@ -95,8 +106,8 @@ fn scripted(
     ready: Ready,
     job: Option<Job>,
 ) -> Result<LogPlan, Memory>
-    requires job { job ≡ job_by rule.now.way look.now ready.target }
-    ensures { IfOk result (λ plan. plan ≡ plan_with mailer.now rule.now look.now ready) }
+    requires job { job ≡ job_by rule.now.way (standing rule.now look.now) ready.target }
+    ensures { IfOk result (λ plan. plan ≡ plan_with mailer.now rule.now (standing rule.now look.now) ready) }
 {
     let (pre, post) = own_scripts(alloc, rule, &look.path, &ready.target)?;
     let first_mail = mail_of(
@@ -117,65 +128,69 @@ fn scripted(
     })
 }
 
-// Adds the plan of a log whose rotation is ready.
+// Adds the plan of a log whose rotation is ready, but for the directory that it makes; this stands of its family then.
 fn add_plan(
     alloc: Global,
     rule: &Rule,
     mailer: &Path,
     look: &LogLook,
+    stand: &Stand,
     ready: Ready,
     plans: &mut Vec<LogPlan>,
 ) -> Result<(), Memory>
+    requires stand { stand.now ≡ stand_for rule.now look.now }
     requires short { length ready.target ≤ 4081 }
-    ensures { OnOk result (plans.new.items ≡ plans.old.items ++ plan_with mailer.now rule.now look.now ready ∷ []) }
+    ensures { OnOk result (plans.new.items ≡ plans.old.items ++ plan_with mailer.now rule.now (standing rule.now look.now) (with_dir (dir_of rule.now look.now) ready) ∷ []) }
 {
-    let job = job_of(alloc, rule, look, &ready.target)?;
+    let job = job_of(alloc, rule, look, stand, &ready.target)?;
+    let ready = with_made_dir(alloc, rule, look, ready)?;
     plans.push(scripted(alloc, rule, mailer, look, ready, job)?)?;
     Ok(())
 }
 
-// Makes the rotation of a log ready that has dates.
+// Makes the rotation of a log ready that has dates, where this stands of its family.
 fn dated_ready(
     alloc: Global,
     rule: &Rule,
     clock: &Clock,
     look: &LogLook,
+    stand: &Stand,
     anew: Make,
 ) -> Result<Ready, PrepareStop>
     requires dated { IsSome look.now.family.naming.dated }
-    requires look { CanPlan look.now }
+    requires look { CanPlan (with_stand stand.now look.now) }
     requires anew { anew ≡ make_of rule.now.create look.now.seen }
-    ensures ready { IfOk result (λ ready. ready ≡ ready_for clock.entry.now rule.now look.now) }
+    ensures ready { IfOk result (λ ready. ready ≡ ready_by look.now.family.naming.dated clock.entry.now rule.now (with_stand stand.now look.now)) }
     ensures short { IfOk result (λ ready. length ready.target ≤ 4081) }
-    ensures free { OnOk result (hindrances clock.entry.now rule.now look.now ≡ []) }
-    ensures hindered { IfErr result (IsHindered (hindrances clock.entry.now rule.now look.now)) }
+    ensures free { OnOk result (hindrances_by look.now.family.naming.dated clock.entry.now rule.now (with_stand stand.now look.now) ≡ []) }
+    ensures hindered { IfErr result (IsHindered (hindrances_by look.now.family.naming.dated clock.entry.now rule.now (with_stand stand.now look.now))) }
 {
     let family = &look.family;
-    let stand = &look.stand;
     prepare_dated(alloc, family, stand, rule.count, rule.maxage, anew, clock)
 }
 
-// Makes the rotation of a log ready that has numbers.
+// Makes the rotation of a log ready that has numbers, where this stands of its family.
 fn numbered_ready(
     alloc: Global,
     rule: &Rule,
     clock: &Clock,
     look: &LogLook,
+    stand: &Stand,
     anew: Make,
 ) -> Result<Ready, PrepareStop>
     requires numbered { look.now.family.naming.dated ≡ None }
     requires count { IsCount rule.now.count }
-    requires look { CanPlan look.now }
+    requires look { CanPlan (with_stand stand.now look.now) }
     requires anew { anew ≡ make_of rule.now.create look.now.seen }
-    ensures ready { IfOk result (λ ready. ready ≡ ready_for clock.entry.now rule.now look.now) }
+    ensures ready { IfOk result (λ ready. ready ≡ ready_by look.now.family.naming.dated clock.entry.now rule.now (with_stand stand.now look.now)) }
     ensures short { IfOk result (λ ready. length ready.target ≤ 4081) }
-    ensures free { OnOk result (hindrances clock.entry.now rule.now look.now ≡ []) }
-    ensures hindered { IfErr result (IsHindered (hindrances clock.entry.now rule.now look.now)) }
+    ensures free { OnOk result (hindrances_by look.now.family.naming.dated clock.entry.now rule.now (with_stand stand.now look.now) ≡ []) }
+    ensures hindered { IfErr result (IsHindered (hindrances_by look.now.family.naming.dated clock.entry.now rule.now (with_stand stand.now look.now))) }
 {
     prepare(
         alloc,
         &look.family,
-        &look.stand,
+        stand,
         rule.count,
         rule.maxage,
         clock.now.seconds,
@@ -183,25 +198,52 @@ fn numbered_ready(
     )
 }
 
-// Makes the rotation of a log ready.
+// Makes the rotation of a log ready, where this stands of its family.
 fn make_ready(
     alloc: Global,
     rule: &Rule,
     clock: &Clock,
     look: &LogLook,
+    stand: &Stand,
 ) -> Result<Ready, PrepareStop>
     requires count { IsCount rule.now.count }
-    requires look { CanPlan look.now }
-    ensures ready { IfOk result (λ ready. ready ≡ ready_for clock.entry.now rule.now look.now) }
+    requires look { CanPlan (with_stand stand.now look.now) }
+    ensures ready { IfOk result (λ ready. ready ≡ ready_by look.now.family.naming.dated clock.entry.now rule.now (with_stand stand.now look.now)) }
     ensures short { IfOk result (λ ready. length ready.target ≤ 4081) }
-    ensures free { OnOk result (hindrances clock.entry.now rule.now look.now ≡ []) }
-    ensures hindered { IfErr result (IsHindered (hindrances clock.entry.now rule.now look.now)) }
+    ensures free { OnOk result (hindrances_by look.now.family.naming.dated clock.entry.now rule.now (with_stand stand.now look.now) ≡ []) }
+    ensures hindered { IfErr result (IsHindered (hindrances_by look.now.family.naming.dated clock.entry.now rule.now (with_stand stand.now look.now))) }
 {
     let anew = made_with(rule.create, &look.seen);
     if look.family.naming().dated.is_some() {
-        dated_ready(alloc, rule, clock, look, anew)
+        dated_ready(alloc, rule, clock, look, stand, anew)
     } else {
-        numbered_ready(alloc, rule, clock, look, anew)
+        numbered_ready(alloc, rule, clock, look, stand, anew)
+    }
+}
+
+// Adds the plan of a log that is due, or what hinders it, where this stands of its family as its rotation begins.
+fn add_standing(
+    alloc: Global,
+    rule: &Rule,
+    mailer: &Path,
+    clock: &Clock,
+    look: &LogLook,
+    stand: &Stand,
+    plans: &mut Vec<LogPlan>,
+    faults: &mut Vec<Fault>,
+) -> Result<(), Memory>
+    requires count { IsCount rule.now.count }
+    requires look { CanPlan look.now }
+    requires stand { stand.now ≡ stand_for rule.now look.now }
+    ensures plans { OnOk result (plans.new.items ≡ plans.old.items ++ plans_of clock.entry.now mailer.now rule.now look.now) }
+    ensures faults { OnOk result (faults.new.items ≡ faults.old.items ++ hindrances clock.entry.now rule.now look.now) }
+{
+    match make_ready(alloc, rule, clock, look, stand) {
+        Ok(ready) => add_plan(alloc, rule, mailer, look, stand, ready, plans),
+        Err(stop) => {
+            faults.push(hindrance(stop)?)?;
+            Ok(())
+        }
     }
 }
 
@@ -220,12 +262,11 @@ fn add_due(
     ensures plans { OnOk result (plans.new.items ≡ plans.old.items ++ plans_of clock.entry.now mailer.now rule.now look.now) }
     ensures faults { OnOk result (faults.new.items ≡ faults.old.items ++ hindrances clock.entry.now rule.now look.now) }
 {
-    match make_ready(alloc, rule, clock, look) {
-        Ok(ready) => add_plan(alloc, rule, mailer, look, ready, plans),
-        Err(stop) => {
-            faults.push(hindrance(stop)?)?;
-            Ok(())
-        }
+    if makes_dir(rule, look) {
+        let stand = empty_stand(alloc);
+        add_standing(alloc, rule, mailer, clock, look, &stand, plans, faults)
+    } else {
+        add_standing(alloc, rule, mailer, clock, look, &look.stand, plans, faults)
     }
 }
 
@@ -423,6 +464,11 @@ fn plan_sets(
 
 /// The plan of a run: whether each log that was looked at whole is due, what is done with those that are, and what
 /// hinders some. A log with numbered members goes to the first number, one with dated members to the clock's stamp.
+///
+/// A rotation makes the directory of its log's family, with the mode that `createolddir` gives, where the rule has that and
+/// nothing stood at the directory's path, in a directory that was there; it is planned as if the new one were there, and
+/// empty. Else a missing directory hinders the rotation: `NoDir` tells its path, also where the directory around it is
+/// missing too.
 pub fn plan(
     alloc: Global,
     rules: &Rules,

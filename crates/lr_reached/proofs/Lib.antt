@@ -5,6 +5,7 @@ mod Gone
 mod Kept
 mod Known
 mod Looked
+mod Plainly
 mod Planned
 pub mod Reached
 pub mod Standing

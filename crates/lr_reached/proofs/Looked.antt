@@ -1,5 +1,6 @@
 -- No fault of the looks is one that ends a run, and a directory that a plan lacks was missed by one of them.
-use Rattle.std.proofs.Common.{◌≡◌, inl, inr, ⊎_elim, ◌+◌, ℕ, Bool, true, false, cond, eqb, List, [], ◌∷◌, None, sym, subst}
+use Rattle.std.proofs.Common.{◌≡◌, inl, inr, ⊎_elim, ◌+◌, ℕ, Bool, true, false, cond, eqb, List, [], ◌∷◌, ◌++◌, None, refl, sym, ap, ◌∙◌, subst}
+use Rattle.std.specs.Prelude.{codes}
 use Rattle.std.specs.List.{flat_map, AllByRecursion}
 use Rattle.lr_rules.specs.declared.fault.Fault.{Fault}
 use Rattle.lr_rules.specs.declared.path.Path.{Path}
@@ -13,12 +14,16 @@ use Rattle.lr_plan.specs.declared.looks.LogLook.{LogLook}
 use Rattle.lr_plan.specs.declared.looks.SetLooks.{SetLooks}
 use Rattle.lr_looks.specs.Asked.{asked_by}
 use Rattle.lr_looks.specs.Choices.{choice_faults, kind_fault, kept_of}
-use Rattle.lr_looks.specs.Families.{LookedLog, family_faults}
-use Rattle.lr_looks.specs.Found.{Hold}
+use Rattle.lr_looks.specs.Families.{LookedLog, looked_at, family_faults}
+use Rattle.lr_looks.specs.Found.{FoundLog, Hold}
 use Rattle.lr_looks.specs.Sets.{where_in, of_set, looked_in, HaveLooksFrom}
 use Rattle.lr_looks.specs.Shown.{ShowsLooks}
 use Rattle.lr_seen.specs.Free.{reserved_by}
+use Rattle.lr_seen.proofs.Coming.{in_looked}
+use Rattle.lr_seen.proofs.Free.{HasNone}
+use Rattle.lr_seen.proofs.Kept.{kept_has_none}
 use Rattle.lr_reached.specs.Ending.{NoneEnds}
+use Rattle.lr_reached.proofs.Acts.{AreAside}
 use Rattle.lr_reached.proofs.Ends.{none_both}
 use Rattle.lr_reached.proofs.Families.{families_none}
 use Rattle.lr_reached.proofs.Gone.{IsGone, all_gone}
@@ -55,6 +60,22 @@ module _ (state : Path) (rules : List Rule) (sets : List SetLooks) (faults : Lis
 
   pub none_missed : (IsGone ts (parent_of state) → ⊥) → NoneMissed state sets
   none_missed stands set look at i there is = stands (subst (IsGone ts) is (missed_gone set look at i there))
+
+  -- the directories of the families are aside of the state
+  pub all_aside : AreAside state sets
+  all_aside set look at i = ((λ e. none state (inl refl) (inr (name e))), (λ e. none (state ++ codes ".tmp") (inr (inl refl)) (inr (name e))))
+    where
+      w : (n : ℕ) × IsIn (looked_in n look) s.looked
+      w = was_looked 0 s.looked sets set look s.by_sets at i
+
+      f : (f : FoundLog) × IsIn f s.kept × ((stand : _) × (looked_in w.0 look ≡ looked_at f stand))
+      f = in_looked s.kept s.entries.second.families.sights (looked_in w.0 look) (subst (IsIn (looked_in w.0 look)) s.entries.second.families.looked_are w.1)
+
+      none : HasNone (reserved_by state) f.0
+      none = kept_has_none rules sets faults ts s f.0 f.1
+
+      name : {path : Path} → look.family.naming.dir ≡ path → path ≡ f.0.log.naming.dir
+      name e = sym e ∙ ap (λ (x : LookedLog). x.naming.dir) f.2.1
 
   free : AllByRecursion (IsFreeLog (reserved_by state)) (kept_of s.found s.keeps.choices)
   free = kept_free (reserved_by state) s.found s.keeps.choices s.keeps.chosen

@@ -25,7 +25,7 @@ use Rattle.lr_reached.specs.Ending.{NoneEnds}
 use Rattle.lr_reached.proofs.Acts.{acts_none}
 use Rattle.lr_reached.proofs.Ends.{none_both}
 use Rattle.lr_reached.proofs.Gone.{IsGone}
-use Rattle.lr_reached.proofs.Looked.{none_missed, looks_none}
+use Rattle.lr_reached.proofs.Looked.{none_missed, all_aside, looks_none}
 use Rattle.lr_reached.proofs.Planned.{plan_none}
 use Rattle.lr_reached.proofs.Standing.{still_there}
 use Rattle.lr_reached.proofs.Written.{written_none}
@@ -37,7 +37,8 @@ worked_none state rules clock asked own ts limits w stands = subst (NoneEnds sta
     (none_both state (plan_in state rules ts w.looked clock asked).faults w.acted.of_acts
     (plan_none state clock (decision w.looked.remembered.table clock.now asked.force) rules w.looked.sets (none_missed state rules w.looked.sets w.looked.of_looks w.looked.looks w.looked.shown stands))
     (subst (NoneEnds state) (sym w.acted.entries.faults_are) (none_both state w.acted.entries.of_plan w.acted.entries.of_state
-    (acts_none state rules w.looked.sets clock asked.mailer (decision w.looked.remembered.table clock.now asked.force) w.acted.marks w.acted.entries.of_plan w.acted.entries.entries.front w.acted.entries.entries.first)
+    (acts_none state rules w.looked.sets clock asked.mailer (decision w.looked.remembered.table clock.now asked.force) w.acted.marks w.acted.entries.of_plan w.acted.entries.entries.front
+    (all_aside state rules w.looked.sets w.looked.of_looks w.looked.looks w.looked.shown) w.acted.entries.entries.first)
     (written_none state w.looked.remembered.stale w.acted.dirs _ w.acted.entries.of_state w.acted.entries.entries.back w.acted.entries.entries.second)))))
 
 -- none did, since it was seen before the run began

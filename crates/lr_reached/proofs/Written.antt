@@ -1,23 +1,16 @@
 -- What the writing of the state is told of ends no run.
-use Rattle.std.proofs.Common.{inl, inr, ℕ, Bool, true, false, List, [], ◌∷◌, ◌++◌, map, Some, Option, sym, subst}
-use Rattle.lr_rules.specs.declared.fault.CallKind.TheVariants as call
+use Rattle.std.proofs.Common.{inl, inr, ℕ, Bool, true, false, List, [], ◌∷◌, ◌++◌, map, Some, sym, subst}
 use Rattle.lr_rules.specs.declared.fault.Fault.{Fault}
-use Rattle.lr_rules.specs.declared.fault.Fault.TheVariants as fault
 use Rattle.lr_rules.specs.declared.path.Path.{Path}
 use Rattle.lr_rules.specs.Path.{parent_of}
 use Rattle.lr_host.specs.declared.entry.Entry.{Entry}
 use Rattle.lr_plan.specs.declared.mark.Mark.{Mark}
 use Rattle.lr_plan.specs.declared.step.Step.{Step}
-use Rattle.lr_plan.specs.declared.step.Step.TheVariants.{Removes, Renames, Takes, Appends, SyncsFile, SyncsDir}
+use Rattle.lr_plan.specs.declared.step.Step.TheVariants.{Removes, SyncsDir}
 use Rattle.lr_plan.specs.Course.{Course}
-use Rattle.lr_plan.specs.Outcomes.{Fails}
 use Rattle.lr_plan.specs.Steps.{state_part, state_steps, step_if}
 use Rattle.lr_reached.specs.Ending.{NoneEnds}
-use Rattle.lr_reached.proofs.Ends.{is_none}
-
--- however the step fails, that ends no run
-abbrev FailsPlainly : Path → Step → Type 0
-FailsPlainly state s = (f : Fault) (ts : List Entry) → Fails s f ts → NoneEnds state (f ∷ [])
+use Rattle.lr_reached.proofs.Plainly.{FailsPlainly, removes, renames, takes, appends, syncs_file, syncs_dir}
 
 abbrev FailPlainly : Path → List Step → Type 0
 FailPlainly state [] = Unit {0}
@@ -31,25 +24,6 @@ course_none : (state : Path) (steps : List Step) (ms : List Mark) (fs : List Fau
 course_none state [] ms fs ts a h = subst (NoneEnds state) (sym h.1) tt
 course_none state (s ∷ ss) ms fs ts a (inl h) = subst (NoneEnds state) (sym h.told) (a.0 h.fault ts h.failed)
 course_none state (s ∷ ss) ms fs ts a (inr h) = course_none state ss h.later fs h.entries.back a.1 h.entries.second
-
-removes : (state x : Path) → FailsPlainly state (Removes x)
-removes state x f ts h = is_none state f (fault.Call call.Unlink x) h.0 (λ e. e)
-
-takes : (state x : Path) (mode : Option ℕ) → FailsPlainly state (Takes x mode)
-takes state x mode f ts (inl h) = is_none state f (fault.Call call.Make x) h.0 (λ e. e)
-takes state x mode f ts (inr h) = is_none state f (fault.Taken x) h.0 (λ e. e)
-
-appends : (state x : Path) (text : List ℕ) → FailsPlainly state (Appends x text)
-appends state x text f ts h = is_none state f (fault.Call call.Append x) h.0 (λ e. e)
-
-syncs_file : (state x : Path) → FailsPlainly state (SyncsFile x)
-syncs_file state x f ts h = is_none state f (fault.Call call.Sync x) h.0 (λ e. e)
-
-syncs_dir : (state x : Path) → FailsPlainly state (SyncsDir x)
-syncs_dir state x f ts h = is_none state f (fault.Call call.Sync x) h.0 (λ e. e)
-
-renames : (state from to : Path) → FailsPlainly state (Renames from to)
-renames state from to f ts h = is_none state f (fault.Call call.Rename from) h.0 (λ e. e)
 
 all_synced : (state : Path) (dirs : List Path) → FailPlainly state (map SyncsDir dirs)
 all_synced state [] = tt

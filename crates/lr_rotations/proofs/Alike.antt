@@ -126,7 +126,7 @@ can_like X n n' (entry.Runs program args input ended) r l can = maybe input r ca
     maybe (Some x) r f = like_file n n' x (l x r) f
 can_like X n n' _ r l can = can
 
-after_like : (X : Path → Type 0) (n n' : Names) (e : Entry) → Reads X e → AreLike X n n' → AreLike X (after_call n e) (after_call n' e)
+pub after_like : (X : Path → Type 0) (n n' : Names) (e : Entry) → Reads X e → AreLike X n n' → AreLike X (after_call n e) (after_call n' e)
 after_like X n n' (entry.Renames from to) r l = λ y i.
     put_like (put n from thing.Nothing) (put n' from thing.Nothing) to (n from) (n' from) y (l from r.0) (put_like n n' from thing.Nothing thing.Nothing y (like_self thing.Nothing) (l y i))
 after_like X n n' (entry.Unlinks x) r l = λ y i. put_like n n' x thing.Nothing thing.Nothing y (like_self thing.Nothing) (l y i)

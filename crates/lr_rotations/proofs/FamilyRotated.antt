@@ -37,13 +37,13 @@ use Rattle.lr_rotations.proofs.Weaving.{weave_back}
 -- ---- the rotation, the newest step first
 
 -- what comes before the log's rename, and what behind it
-abbrev older : Naming → Count → List ℕ → List Entry
+abbrev pub older : Naming → Count → List ℕ → List Entry
 older n c places = reverse (shift_steps n c places) ++ reverse (leftover_steps n c places)
 
-abbrev newer : Naming → Count → List ℕ → List Entry
+abbrev pub newer : Naming → Count → List ℕ → List Entry
 newer n c from = reverse (retire_steps n c from)
 
-turned_round : (n : Naming) (c : Count) (log : Path) (places from : List ℕ) → reverse (rotation n c log places from) ≡ newer n c from ++ Renames log (path_at n 0) ∷ older n c places
+pub turned_round : (n : Naming) (c : Count) (log : Path) (places from : List ℕ) → reverse (rotation n c log places from) ≡ newer n c from ++ Renames log (path_at n 0) ∷ older n c places
 turned_round n c log places from =
     reverse-append ls ((ss ++ r ∷ []) ++ ts)
     ∙ (ap (λ xs. xs ++ reverse ls) (reverse-append (ss ++ r ∷ []) ts ∙ ap (λ xs. reverse ts ++ xs) (reverse-append ss (r ∷ [])))
@@ -61,13 +61,13 @@ turned_round n c log places from =
     ts : List Entry
     ts = retire_steps n c from
 
-older_members : (n : Naming) (c : Count) (places : List ℕ) → Every (HasName n) places → HaveNext n c places → Each (IsOfMembers n) (older n c places)
+pub older_members : (n : Naming) (c : Count) (places : List ℕ) → Every (HasName n) places → HaveNext n c places → Each (IsOfMembers n) (older n c places)
 older_members n c places named next =
     each_append (IsOfMembers n) (reverse (shift_steps n c places)) (reverse (leftover_steps n c places))
     (each_reverse (IsOfMembers n) (shift_steps n c places) (moves_of n (kept c places) (every_filter (HasName n) (λ k. not (is_left c k)) places named) (kept_next n c places next)))
     (each_reverse (IsOfMembers n) (leftover_steps n c places) (unlinks_of n (leftovers c places) (every_filter (HasName n) (is_left c) places named)))
 
-newer_members : (n : Naming) (c : Count) (places from : List ℕ) → HaveNext n c places → AreGoing c places from → Each (IsOfMembers n) (newer n c from)
+pub newer_members : (n : Naming) (c : Count) (places from : List ℕ) → HaveNext n c places → AreGoing c places from → Each (IsOfMembers n) (newer n c from)
 newer_members n c places from next going = each_reverse (IsOfMembers n) (retire_steps n c from) (unlinks_of n (retired c from) (retire_named n c places from next going))
 
 -- what a member names behind a rotation depends on members alone

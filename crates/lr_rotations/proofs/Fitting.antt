@@ -32,14 +32,9 @@ after_one m done (entry.Unlinks x) = refl
 after_one m done (entry.MakesDir x mode) = refl
 after_one m done _ = refl
 
--- the file of a name that names one
-pub there_or_not : (t : Thing) (g : ℕ) → t ≡ thing.File g → t ≡ thing.Directory → ⊥
-there_or_not t g a b = cc
-
 -- What stands between two steps: these leftovers and these members are still to be taken, and up to the limit no other place names anything.
 pub record Before (log : Path) (n : Naming) (m : Names) (limit : ℕ) (ls ks : List ℕ) : Type 0 where
   pub log_file : IsFileAt m log
-  pub dir : IsDirectoryAt m n.dir
   pub left_files : Every (λ k. IsFileAt m (path_at n k)) ls
   pub kept_files : Every (λ k. IsFileAt m (path_at n k)) ks
   pub gap : (j : ℕ) → HasName n j → j ≤ limit → Every (λ k. k ≢ j) ls → Every (λ k. k ≢ j) ks → m (path_at n j) ≡ thing.Nothing
@@ -58,22 +53,11 @@ module _ (log : Path) (n : Naming) (family : IsFamily log n) where
   log_put : (m : Names) (j : ℕ) (t : Thing) → HasName n j → IsFileAt m log → IsFileAt (put m (path_at n j) t) log
   log_put m j t i f = (f.0, put_other m (path_at n j) log t (path_other log n j family i) ∙ f.1)
 
-  -- a path that names a file or nothing is not the directory's
-  dir_put : (m : Names) (x : Path) (t : Thing) → (m x ≡ thing.Directory → ⊥) → IsDirectoryAt m n.dir → IsDirectoryAt (put m x t) n.dir
-  dir_put m x t other d = put_other m x n.dir t (λ e. other (ap m (sym e) ∙ d)) ∙ d
-
-  file_no_dir : (m : Names) (x : Path) → IsFileAt m x → m x ≡ thing.Directory → ⊥
-  file_no_dir m x f d = there_or_not (m x) f.0 f.1 d
-
-  nothing_no : (t : Thing) → t ≡ thing.Nothing → (t ≢ thing.Directory) × (t ≢ thing.Other)
-  nothing_no t e = ((λ d. cc), (λ d. cc))
-
   -- a leftover goes
   pub unlinked : (m : Names) (limit l : ℕ) (ls ks : List ℕ) → HasName n l → Every (HasName n) ls → Every (HasName n) ks → Every (λ k. k ≢ l) ls → Every (λ k. k ≢ l) ks → Before log n m limit (l ∷ ls) ks
       → Before log n (put m (path_at n l) thing.Nothing) limit ls ks
   unlinked m limit l ls ks il ils iks nls nks b = record {
     log_file = log_put m l thing.Nothing il b.log_file;
-    dir = dir_put m (path_at n l) thing.Nothing (file_no_dir m (path_at n l) b.left_files.0) b.dir;
     left_files = files_put m l thing.Nothing ls il ils nls b.left_files.1;
     kept_files = files_put m l thing.Nothing ks il iks nks b.kept_files;
     gap = λ j ij le ol ok. at j ij le ol ok (l == j) refl;
@@ -90,7 +74,6 @@ module _ (log : Path) (n : Naming) (family : IsFamily log n) where
       → Before log n (put (put m (path_at n k) thing.Nothing) (path_at n (k + 1)) (m (path_at n k))) k [] ks
   moved m limit k ks ik next iks falls lt b = record {
     log_file = log_put gone (k + 1) (m (path_at n k)) next (log_put m k thing.Nothing ik b.log_file);
-    dir = dir_put gone (path_at n (k + 1)) (m (path_at n k)) target_no_dir (dir_put m (path_at n k) thing.Nothing (file_no_dir m (path_at n k) b.kept_files.0) b.dir);
     left_files = tt;
     kept_files = files_put gone (k + 1) (m (path_at n k)) ks next iks (every_as (λ j. j < k) (λ j. j ≢ k + 1) ks (λ j lt e. omega (arith, lt, e)) falls)
         (files_put m k thing.Nothing ks ik iks (every_as (λ j. j < k) (λ j. j ≢ k) ks (λ j lt e. omega (arith, lt, e)) falls) b.kept_files.1);
@@ -99,15 +82,6 @@ module _ (log : Path) (n : Naming) (family : IsFamily log n) where
     where
       gone : Names
       gone = put m (path_at n k) thing.Nothing
-
-      free : m (path_at n (k + 1)) ≡ thing.Nothing
-      free = b.gap (k + 1) next (omega arith) tt ((λ e. omega (arith, e)), every_as (λ j. j < k) (λ j. j ≢ k + 1) ks (λ j lt e. omega (arith, lt, e)) falls)
-
-      target_free : gone (path_at n (k + 1)) ≡ thing.Nothing
-      target_free = put_other m (path_at n k) (path_at n (k + 1)) thing.Nothing (other_place (k + 1) k next ik (λ e. omega (arith, e))) ∙ free
-
-      target_no_dir : gone (path_at n (k + 1)) ≡ thing.Directory → ⊥
-      target_no_dir d = (nothing_no (gone (path_at n (k + 1))) target_free).0 d
 
       at : (j : ℕ) → HasName n j → j ≤ k → Every (λ i. i ≢ j) ks → (b : Bool) → (k == j) ≡ b → put gone (path_at n (k + 1)) (m (path_at n k)) (path_at n j) ≡ thing.Nothing
       at j ij le ok true e =
@@ -160,7 +134,6 @@ all_below n ks h = every_as (HasName n) (λ k. k < above_all) ks below h
 pub at_start : (log : Path) (n : Naming) (m : Names) (c : Count) (places : List ℕ) → IsFileAt m log → AreThere n m places → Before log n m above_all (leftovers c places) (kept c places)
 at_start log n m c places f t = record {
   log_file = f;
-  dir = t.dir;
   left_files = every_filter (λ k. IsFileAt m (path_at n k)) (is_left c) places files;
   kept_files = every_filter (λ k. IsFileAt m (path_at n k)) (λ k. not (is_left c k)) places files;
   gap = λ j i le ol ok. t.others j i (λ in_places. none j ol ok in_places);
@@ -209,8 +182,8 @@ pub retire_named : (n : Naming) (c : Count) (places from : List ℕ) → HaveNex
 retire_named n c places from h going = every_retired (HasName n) c from (every_from (λ k. HasName n (suc k)) from (λ k i. let next = next_at n c places h k (going.there k i) (going.moved k i) in omega (arith, next))) (λ e. first_named n c places h)
 
 pub so_standing : (m : Names) (log : Path) (n : Naming) (places : List ℕ) → IsFileAt m log → AreThere n m places → StandSo log n places m
-so_standing m log n places f t = record { falling = t.falling; log_file = f; dir = t.dir; members = t.files; others = t.others }
+so_standing m log n places f t = record { falling = t.falling; log_file = f; members = t.files; others = t.others }
 
-pub fits : (m : Names) (log : Path) (n : Naming) (c : Count) (places from : List ℕ) → IsFamily log n → IsFileAt m log → AreThere n m places → HaveNext n c places → AreGoing c places from → FitAll m (reverse (rotation n c log places from))
-fits m log n c places from family f t next going =
-    rotation_fits log n family.kin family.numbered family.dir m c places from (top_named n c places next) (falls_all places t.falling) (every_all (HasName n) places t.named) (next_named n c places next) going (so_standing m log n places f t)
+pub fits : (m : Names) (log : Path) (n : Naming) (c : Count) (places from : List ℕ) → IsFamily log n → IsFileAt m log → IsDirectoryAt m n.dir → AreThere n m places → HaveNext n c places → AreGoing c places from → FitAll m (reverse (rotation n c log places from))
+fits m log n c places from family f dir t next going =
+    rotation_fits log n family.kin family.numbered family.dir m c places from (top_named n c places next) (falls_all places t.falling) (every_all (HasName n) places t.named) (next_named n c places next) going dir (so_standing m log n places f t)

@@ -8,6 +8,7 @@ pub mod Drawn
 pub mod FamilyRotated
 pub mod Fed
 pub mod Fitting
+pub mod LogFitting
 pub mod Members
 pub mod Moments
 pub mod Never

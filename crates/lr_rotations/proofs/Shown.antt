@@ -1,5 +1,5 @@
 -- What the looks at members tell of their places, whatever the disk is.
-use Rattle.std.proofs.Common.{◌≡◌, ◌⊎◌, inl, inr, ℕ, ◌+◌, ◌<◌, ◌≤◌, get_or, Bool, true, false, eqb, List, [], ◌∷◌, ◌++◌, length, map, Option, Some, None, refl, sym, ap, ◌∙◌, subst, arith, Contains, eqb-true, eq-eqb}
+use Rattle.std.proofs.Common.{◌≡◌, ◌⊎◌, inl, inr, ℕ, ◌<◌, ◌≤◌, get_or, Bool, true, false, eqb, List, [], ◌∷◌, ◌++◌, length, map, Option, Some, None, refl, sym, ap, ◌∙◌, subst, arith, Contains, eqb-true, eq-eqb}
 use Rattle.std.proofs.lemmas.List.{length-map, get_or-map, reverse-reverse}
 use Rattle.std.specs.List.{flat_map, IsDistinct, AllByRecursion}
 use Rattle.std.specs.List.Sorted.{IsStrictlyIncreasing, IsNonDecreasing, IsNonDecreasingBy}
@@ -16,7 +16,6 @@ use Rattle.lr_host.specs.declared.entry.Entry.{Entry}
 use Rattle.lr_host.specs.declared.entry.Entry.TheVariants as entry
 use Rattle.lr_family.specs.declared.spot.Spot.{Spot}
 use Rattle.lr_family.specs.declared.stand.Member.{Member}
-use Rattle.lr_family.specs.Named.{member_name}
 use Rattle.lr_family.specs.Spots.{path_at, spot_at}
 use Rattle.lr_host.specs.Looks.{IsFileOrGone}
 use Rattle.lr_host.specs.Lists.{IsIn}
@@ -27,7 +26,7 @@ use Rattle.lr_family.specs.Stands.{number_in}
 use Rattle.lr_family.proofs.Numbers.{in_or_not}
 use Rattle.lr_chain.specs.Rotation.{places_of}
 use Rattle.lr_rotations.specs.Members.{HasName}
-use Rattle.lr_rotations.specs.Shown.{Shown}
+use Rattle.lr_rotations.specs.Shown.{Shown, IsUnseen, unlisted, gone}
 
 -- ---- no place twice
 
@@ -125,13 +124,10 @@ file_of g (f ∷ fs) a (inr h) = file_of g fs (All-tail (λ (x : Sight). IsFileO
 file_seen : (o : Option Seen) (seen : Seen) → o ≡ Some seen → IsFileOrGone o → seen.kind ≡ kind.File
 file_seen o seen e h = subst IsFileOrGone e h
 
--- Looks at the members among the names of a listing, where that and a look at the directory stand among all entries.
-pub stands_shown : (n : Naming) (names : List (List ℕ)) (members : List Member) (us ts : List Entry) → ((e : Entry) → IsIn e us → IsIn e ts) → ((seen : Seen) × (seen.kind ≡ kind.Dir) × IsIn (entry.Look n.dir (Some seen)) ts) → IsIn (entry.List n.dir names) ts → StandsAmong n names members us
+-- Looks at the members among the names of a listing, where that stands among all entries.
+pub stands_shown : (n : Naming) (names : List (List ℕ)) (members : List Member) (us ts : List Entry) → ((e : Entry) → IsIn e us → IsIn e ts) → IsIn (entry.List n.dir names) ts → StandsAmong n names members us
     → Shown n (places_of members) ts
-stands_shown n names members us ts in_ts dir list s = record {
-  dir = dir;
-  names = names;
-  list = list;
+stands_shown n names members us ts in_ts list s = record {
   falling = subst IsStrictlyIncreasing (sym (reverse-reverse numbers)) rising;
   named = λ place c. let f = found place c in ((s.spots_are.all place).0 (spotted f.0 f.1 place f.2)).0;
   files = λ place c. let f = found place c in
@@ -195,9 +191,8 @@ stands_shown n names members us ts in_ts dir list s = record {
         (in_to place (map (λ (m : Member). number_in m.place) s.shown) (subst (λ (ms : List Member). IsIn place (map (λ (m : Member). number_in m.place) ms)) (sym k.members_are)
         (subst (λ (j : ℕ). IsIn j (map (λ (m : Member). number_in m.place) (flat_map member_of k.sights))) e (seen_in g seen k.sights h q)))))))
 
-    absent : (place : ℕ) → HasName n place → (Contains (places_of members) place → ⊥) → Contains s.spots_are.places place ⊎ (Contains s.spots_are.places place → ⊥)
-        → (Contains names (member_name n (n.start + place)) → ⊥) ⊎ IsIn (entry.Look (path_at n place) None) ts
-    absent place i out (inr unlisted) = inl (λ c. unlisted ((s.spots_are.all place).1 (i, c)))
+    absent : (place : ℕ) → HasName n place → (Contains (places_of members) place → ⊥) → Contains s.spots_are.places place ⊎ (Contains s.spots_are.places place → ⊥) → IsUnseen n place ts
+    absent place i out (inr none) = unlisted names list (λ c. none ((s.spots_are.all place).1 (i, c)))
     absent place i out (inl listed) = by g.0.seen refl
       where
         g : (g : Sight) × IsIn g k.sights × (g.spot ≡ spot_at n place)
@@ -206,6 +201,6 @@ stands_shown n names members us ts in_ts dir list s = record {
         at_place : g.0.spot.place ≡ place
         at_place = ap (λ (x : Spot). x.place) g.2
 
-        by : (o : Option Seen) → g.0.seen ≡ o → (Contains names (member_name n (n.start + place)) → ⊥) ⊎ IsIn (entry.Look (path_at n place) None) ts
-        by None q = inr (look_in g.0 g.1 place at_place None q)
+        by : (o : Option Seen) → g.0.seen ≡ o → IsUnseen n place ts
+        by None q = gone (look_in g.0 g.1 place at_place None q)
         by (Some seen) q = absurd (out (place_in g.0 seen place g.1 at_place q))

@@ -13,7 +13,7 @@ use Rattle.lr_host.specs.World.{Names, put, names_after, Past, world, names}
 use Rattle.lr_host.specs.Fits.{IsFileAt}
 use Rattle.lr_host.specs.Lists.{IsIn}
 use Rattle.lr_host.specs.Told.{CanCall, Each}
-use Rattle.lr_host.specs.Steps.{changes_of, FitAll}
+use Rattle.lr_host.specs.Steps.{changes_of}
 use Rattle.lr_host.specs.Sets.{LogSet, in_set}
 use Rattle.lr_host.proofs.Names.{put_other}
 use Rattle.lr_laws.specs.Rotation.{IsAside, IsStep, limit_by, limit_after, IsRotation, LogFits}
@@ -165,7 +165,7 @@ anew_more : (s : LogSet) (p : Past) (limit : ℕ) (os es : List Entry) (e : Entr
 anew_more s p limit os es (Makes x mode) is k = record { rotation = (k.rotation, inr is); fits = (k.fits, λ to renames. absurd (cc)); limits = k.limits; alike = k.alike }
 anew_more s p limit os es _ is k = absurd is
 
-pub woven : (s : LogSet) (p : Past) (limit : ℕ) (os es : List Entry) → Weave (IsApartOrMakes s) os es → IsRotation s p limit os → FitAll (names (world p)) os → IsWoven s p limit os es
+pub woven : (s : LogSet) (p : Past) (limit : ℕ) (os es : List Entry) → Weave (IsApartOrMakes s) os es → IsRotation s p limit os → LogFits s (names (world p)) os → IsWoven s p limit os es
 woven s p limit _ _ none rot fit = record { rotation = tt; fits = tt; limits = refl; alike = λ y i. refl }
 woven s p limit _ _ (own {steps = os} {all = es} e w) rot fit = more (woven s p limit os es w rot.0 fit.0)
   where
@@ -179,7 +179,7 @@ woven s p limit _ _ (own {steps = os} {all = es} e w) rot fit = more (woven s p 
     more : IsWoven s p limit os es → IsWoven s p limit (e ∷ os) (e ∷ es)
     more k = record {
       rotation = (k.rotation, step k rot.1);
-      fits = (k.fits, λ to is. let f = log_there s (names_after n (changes_of os)) e to is fit.1 in (f.0, sym (k.alike s.log (logged s)) ∙ f.1));
+      fits = (k.fits, λ to is. let f = fit.1 to is in (f.0, sym (k.alike s.log (logged s)) ∙ f.1));
       limits = own_limit s limit os es e k.limits;
       alike = own_alike s p (limit_after s limit os) n os es e rot.1 k.alike;
     }

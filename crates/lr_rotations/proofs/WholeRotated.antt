@@ -52,7 +52,7 @@ module _ (paths : List Path) (log : Path) (n : Naming) (c : Count) (from : List 
 
   -- the members that were seen stood as the run began
   pub seen_members : AreThere n (names (world p)) places
-  seen_members = members_before log n places p v (reverse front) family b.attached_first b.first b.still shown
+  seen_members = members_before log n places p v (reverse front) family journal b.attached_first b.first b.still shown
 
   saw : SawFile log front
   saw = saw_one log front over.log_seen
@@ -64,7 +64,7 @@ module _ (paths : List Path) (log : Path) (n : Naming) (c : Count) (from : List 
   file = file_more (names (world look.at)) (names (world v)) log (quiet_more (IsNoMember n) look.at v look.until) (seen_file (world look.at) (names (world look.at) log) saw.0 look.fits saw.1)
 
   stands : AreThere n (names (world v)) places
-  stands = members_behind log n places p v (reverse front) family b.attached_first b.first b.still shown
+  stands = members_behind log n places p v (reverse front) family journal b.attached_first b.first b.still shown
 
   woven : Weave (IsBeside paths log) (rotation n c log places from) (filter is_disk_change (reverse (reverse back)))
   woven = subst (λ es. Weave (IsBeside paths log) (rotation n c log places from) (filter is_disk_change es)) (sym (reverse-reverse back)) over.changes

@@ -8,7 +8,7 @@ use Rattle.lr_rules.specs.declared.rule.Naming.{Naming}
 use Rattle.lr_rules.specs.Path.{path_fault}
 use Rattle.lr_host.specs.declared.thing.Thing.TheVariants as thing
 use Rattle.lr_host.specs.World.{Names, Past, world, names}
-use Rattle.lr_host.specs.Fits.{IsFileAt, IsDirectoryAt}
+use Rattle.lr_host.specs.Fits.{IsFileAt}
 use Rattle.lr_host.specs.Quiet.{AttachedOnlySince}
 use Rattle.lr_host.specs.Released.{ByAge}
 use Rattle.lr_host.specs.Runs.{rules_of, SomeRule}
@@ -35,9 +35,8 @@ IsNoMember n x = (place : ℕ) → HasName n place → x ≢ path_at n place
 abbrev pub NoMemberAttached : Naming → Past → Past → Type 0
 NoMemberAttached n p q = AttachedOnlySince (IsNoMember n) p q
 
--- Under these names the members at these places stand, the highest first, each a regular file; no other member's path names anything, and their directory is there.
+-- Under these names the members at these places stand, the highest first, each a regular file; no other member's path names anything.
 pub record AreThere (n : Naming) (m : Names) (places : List ℕ) : Type 0 where
-  pub dir : IsDirectoryAt m n.dir
   pub falling : IsStrictlyIncreasing (reverse places)
   pub named : All (HasName n) places
   pub files : (place : ℕ) → Contains places place → IsFileAt m (path_at n place)

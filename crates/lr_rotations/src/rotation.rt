@@ -5,7 +5,7 @@ ghost use Rattle.lr_rules.specs.declared.rule.Count.{Count};
 ghost use Rattle.lr_rules.specs.declared.rule.Naming.{Naming};
 ghost use Rattle.lr_rules.specs.Names.{Meet};
 ghost use Rattle.lr_host.specs.World.{Names, Past, world, names};
-ghost use Rattle.lr_host.specs.Fits.{IsFileAt};
+ghost use Rattle.lr_host.specs.Fits.{IsFileAt, IsDirectoryAt};
 ghost use Rattle.lr_host.specs.Told.{Each};
 ghost use Rattle.lr_host.specs.Steps.{FitAll};
 ghost use Rattle.lr_host.specs.Sets.{LogSet};
@@ -17,10 +17,11 @@ ghost use Rattle.lr_chain.specs.Rotation.{rotation};
 ghost use Rattle.lr_chain.specs.Standing.{AreGoing};
 ghost use Rattle.lr_rotations.specs.Members.{IsFamily, HasName, AreThere, HaveNext, MayGo};
 
-/// Where these members stand, and the log is a file, the steps of a rotation fit one after another.
+/// Where these members stand in a directory that is there, and the log is a file, the steps of a rotation fit one after
+/// another.
 pub fn rotation_fits()
     ensures { (m : Names) (log : Path) (n : Naming) (c : Count) (places from : List ℕ) → IsFamily log n → IsFileAt m log
-        → AreThere n m places → HaveNext n c places → AreGoing c places from → FitAll m (reverse (rotation n c log places from)) }
+        → IsDirectoryAt m n.dir → AreThere n m places → HaveNext n c places → AreGoing c places from → FitAll m (reverse (rotation n c log places from)) }
 {}
 
 /// In a run that has begun no rotation of the set, they are those of one rotation of it, where the rule lets those members go

@@ -19,6 +19,7 @@ use Rattle.lr_plan.specs.declared.step.SetSteps.{SetSteps}
 use Rattle.lr_plan.specs.declared.step.Step.{Step}
 use Rattle.lr_plan.specs.Course.{Course}
 use Rattle.lr_plan.specs.Done.{SetsDone, rotated_logs}
+use Rattle.lr_plan.specs.Internal.Asking.{CanMake}
 use Rattle.lr_plan.specs.Internal.Cut.{SetsCut}
 use Rattle.lr_plan.specs.Steps.{state_steps}
 use Rattle.lr_host.proofs.Counts.{counted_on}
@@ -29,7 +30,7 @@ use Rattle.lr_acts.proofs.Taking.{taken_on}
 use Rattle.lr_record.specs.After.{is_among, stamped}
 use Rattle.lr_writing.specs.Writes.{AddsCourse}
 use Rattle.lr_run.specs.declared.ready.Ready.{Ready}
-use Rattle.lr_run.specs.Internal.{ActsAndWrites, SomeActs}
+use Rattle.lr_run.specs.Internal.{AreBehind, CanWrite, ActsAndWrites, SomeActs}
 
 -- ---- marks one behind another
 
@@ -71,23 +72,39 @@ marks_behind at marks = let l : length (drop at marks) ≡ length marks - at = l
 
 -- ---- the acts, and then the state
 
-pub acts_and_writes : (ready : Ready) (now : Civil) (x y z : Progress) (before : ℕ) (o m n : Option Journal) (j k l : Counts) → before ≡ length x.marks.items → Adds (SetsDone ready.steps) (all_of_sets ready.steps) x y o m j k
-    → AddsCourse (state_steps ready.writing.state ready.writing.stale ready.writing.dirs (text_of (map (stamped (rotated_logs (drop before y.marks.items)) now) ready.table))) y.faults.items z.faults.items m n k l
-    → ActsAndWrites ready now x z o n j l
-acts_and_writes ready now x y z before o m n j k l is a s = record {
-  marks = a.marks;
-  of_plan = a.faults;
-  of_state = s.added;
-  faults_are = s.now_is ∙ (ap (λ (fs : List Fault). fs ++ s.added) a.faults_are ∙ append_assoc x.faults.items a.faults s.added);
-  entries = left_both a.entries (left_as s.entries (λ (ts : List Entry) w.
-      subst (λ (ms : List Mark). Course (state_steps ready.writing.state ready.writing.stale ready.writing.dirs (text_of (map (stamped (rotated_logs ms) now) ready.table))) [] s.added ts) own w.0));
-  are_counted = counted_on a.faults s.added j k l a.are_counted s.are_counted;
-  text = text_of (map (stamped (rotated_logs (drop before y.marks.items)) now) ready.table);
-  taken = taken_on (all_of_sets ready.steps) (state_steps ready.writing.state ready.writing.stale ready.writing.dirs (text_of (map (stamped (rotated_logs (drop before y.marks.items)) now) ready.table))) a.faults s.added a.entries s.entries a.taken s.taken;
-}
-  where
-    own : drop before y.marks.items ≡ a.marks
-    own = ap (drop before) a.marks_are ∙ (ap (λ (i : ℕ). drop i (x.marks.items ++ a.marks)) is ∙ drop-append_seam x.marks.items a.marks)
+-- what is synced behind the marks from there on
+pub behind_of : (ready : Ready) (before : ℕ) (marks items : List Mark) (dirs : List Path) → marks ≡ items → AreBehind ready (take (length marks - before) (drop before marks)) dirs → AreBehind ready (drop before items) dirs
+behind_of ready before marks items dirs is behind = subst (λ (ms : List Mark). AreBehind ready (drop before ms) dirs) is (subst (λ (ms : List Mark). AreBehind ready ms dirs) (marks_behind before marks) behind)
+
+abbrev Text : Ready → Civil → Progress → ℕ → List ℕ
+Text ready now y before = text_of (map (stamped (rotated_logs (drop before y.marks.items)) now) ready.table)
+
+module _ (ready : Ready) (x y : Progress) (before : ℕ) (dirs : List Path) (o m : Option Journal) (j k : Counts) (is : before ≡ length x.marks.items) (a : Adds (SetsDone ready.steps) (all_of_sets ready.steps) x y o m j k)
+    (behind : AreBehind ready (drop before y.marks.items) dirs) where
+  own : drop before y.marks.items ≡ a.marks
+  own = ap (drop before) a.marks_are ∙ (ap (λ (i : ℕ). drop i (x.marks.items ++ a.marks)) is ∙ drop-append_seam x.marks.items a.marks)
+
+  dirs_are : AreBehind ready a.marks dirs
+  dirs_are = subst (λ (ms : List Mark). AreBehind ready ms dirs) own behind
+
+  -- the state can be written behind the acts
+  pub can_write : CanWrite ready o → (text : List ℕ) → CanMake m (state_steps ready.writing.state ready.writing.stale dirs text)
+  can_write can text = can m a.marks a.faults dirs text dirs_are a.entries
+
+  pub acts_and_writes : (now : Civil) (z : Progress) (n : Option Journal) (l : Counts) → AddsCourse (state_steps ready.writing.state ready.writing.stale dirs (Text ready now y before)) y.faults.items z.faults.items m n k l → ActsAndWrites ready now x z o n j l
+  acts_and_writes now z n l s = record {
+    marks = a.marks;
+    dirs = dirs;
+    dirs_are = dirs_are;
+    of_plan = a.faults;
+    of_state = s.added;
+    faults_are = s.now_is ∙ (ap (λ (fs : List Fault). fs ++ s.added) a.faults_are ∙ append_assoc x.faults.items a.faults s.added);
+    entries = left_both a.entries (left_as s.entries (λ (ts : List Entry) w.
+        subst (λ (ms : List Mark). Course (state_steps ready.writing.state ready.writing.stale dirs (text_of (map (stamped (rotated_logs ms) now) ready.table))) [] s.added ts) own w.0));
+    are_counted = counted_on a.faults s.added j k l a.are_counted s.are_counted;
+    text = Text ready now y before;
+    taken = taken_on (all_of_sets ready.steps) (state_steps ready.writing.state ready.writing.stale dirs (Text ready now y before)) a.faults s.added a.entries s.entries a.taken s.taken;
+  }
 
 -- ---- a first part of the acts
 

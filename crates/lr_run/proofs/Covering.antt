@@ -1,7 +1,6 @@
--- What the acts of a plan change: no name of the state, and names in the directories alone that are synced.
-use Rattle.std.proofs.Common.{◌≡◌, ◌⊎◌, inl, inr, ⊎_elim, ℕ, Bool, true, false, not, cond, refl, sym, ◌∙◌, ap, subst, Option, Some, None, List, [], ◌∷◌, ◌++◌}
+-- What the acts of a plan change: no name of the state, and of names those of a log, those in its family's directory, and that directory where it is made.
+use Rattle.std.proofs.Common.{◌≡◌, ◌⊎◌, inl, inr, ⊎_elim, ℕ, Bool, true, false, not, cond, refl, sym, ◌∙◌, ap, subst, Option, Some, None, List, [], ◌∷◌, map}
 use Rattle.std.specs.Prelude.{filter}
-use Rattle.std.specs.List.{flat_map}
 use Rattle.lr_rules.specs.declared.clock.Clock.{Clock}
 use Rattle.lr_rules.specs.declared.path.Path.{Path}
 use Rattle.lr_rules.specs.declared.rule.Count.{Count}
@@ -18,22 +17,20 @@ use Rattle.lr_host.specs.Quiet.{is_disk_change}
 use Rattle.lr_host.specs.Steps.{is_change}
 use Rattle.lr_host.specs.Told.{Each, IsTools}
 use Rattle.lr_host.proofs.Each.{each_append}
-use Rattle.lr_host.proofs.Lists.{in_front, in_back}
 use Rattle.lr_host.proofs.Quiet.{no_disk_change}
 use Rattle.lr_laws.specs.Follow.{changed_paths}
 use Rattle.lr_durable.specs.Renewing.{IsAsideOf, IsWithin}
 use Rattle.lr_durable.specs.StateWhole.{renamed_paths}
 use Rattle.lr_family.proofs.Numbers.{every_all, every_filter}
+use Rattle.lr_family.specs.declared.stand.Member.{Member}
 use Rattle.lr_copy.specs.declared.job.Job.{Job}
 use Rattle.lr_copy.specs.Copying.{clearing}
-use Rattle.lr_chain.specs.declared.ready.Ready.{Ready}
+use Rattle.lr_chain.specs.Ready.{removal_at}
 use Rattle.lr_chain.specs.Rotation.{places_of, is_left, leftovers, kept, retired, leftover_steps, shift_steps, retire_steps}
-use Rattle.lr_plan.specs.declared.planned.LogPlan.{LogPlan}
-use Rattle.lr_plan.specs.declared.planned.SetPlan.{SetPlan}
-use Rattle.lr_targets.specs.AllTurns.{AlsoDoes, IsOf, IsOfSome}
+use Rattle.lr_targets.specs.AllTurns.{IsItsDir, AlsoDoes, IsOf, IsOfSome}
 use Rattle.lr_targets.specs.Apart.{HasNames}
 use Rattle.lr_rotations.specs.Members.{IsFamily, HasName}
-use Rattle.lr_targets.specs.Target.{Target, transfer_of, rotation_of, IsOneOf}
+use Rattle.lr_targets.specs.Target.{Target, transfer_of, rotation_of}
 use Rattle.lr_rotations.proofs.Fitting.{kept_next, first_named, retire_named}
 use Rattle.lr_rotations.proofs.Members.{IsOfMembers, unlinks_of, moves_of}
 use Rattle.lr_targets.proofs.PartFile.{part_parent, job_target, job_part}
@@ -43,16 +40,13 @@ use Rattle.lr_rotations.proofs.Weaving.{each_in}
 use Rattle.lr_targets.proofs.SeenFits.{seen_names}
 use Rattle.lr_dated_seen.specs.Family.{IsDatedFamily}
 use Rattle.lr_dated_seen.proofs.Names.{stands_in}
-use Rattle.lr_dated_run.specs.Own.{IsDatedName, ChangesOwn, HasDatedNames, HasAnyNames, HaveAnyNames}
+use Rattle.lr_dated_run.specs.Own.{IsDatedName, MakesItsDir, HasDatedNames, HaveAnyNames}
 use Rattle.lr_dated_run.proofs.Own.{dated_turns}
 use Rattle.lr_dated_run.proofs.Mixed.{any_change}
 use Rattle.lr_dated_run.proofs.PartFile.{part_parent as dated_part_parent}
 use Rattle.lr_mixed.specs.Seen.{IsLogSeen}
 use Rattle.lr_mixed.proofs.Seen.{numbered_seen, dated_seen, ready_of, dated_names}
-use Rattle.lr_weave.specs.Planned.{AreReadyFor, HaveLogs}
 use Rattle.lr_seen.specs.Free.{reserved_by, AreFreeOf}
-use Rattle.lr_writing.specs.Directories.{AreDirectoriesOf}
-use Rattle.lr_run.specs.Runs.{changed_of, all_changed_of}
 
 -- ---- entries that change nothing
 
@@ -99,6 +93,15 @@ of_changes R (e ∷ ts) calm tools a = go (is_change e) refl (λ a. of_changes R
 -- each path whose name the entry changes is the log's, or stands in the family's directory
 abbrev IsOnFamily : Path → Naming → Entry → Type 0
 IsOnFamily log n e = (x : Path) → IsIn x (renamed_paths e) → (x ≡ log) ⊎ (parent_of x ≡ n.dir)
+
+-- each is the directory that the rotation makes, or such a one
+abbrev pub IsOnTarget : Target → Entry → Type 0
+IsOnTarget t e = (x : Path) → IsIn x (renamed_paths e) → IsItsDir t x ⊎ ((x ≡ t.log) ⊎ (parent_of x ≡ t.naming.dir))
+
+-- where the entry makes that directory
+makes_on : (t : Target) (y : Path) (mode : Option ℕ) → IsItsDir t y → IsOnTarget t (entry.MakesDir y mode)
+makes_on t y mode d x (inl same) = inl (subst (IsItsDir t) same d)
+makes_on t y mode d x (inr none) = absurd none
 
 of_members : (log : Path) (n : Naming) → IsFamily log n → (e : Entry) → IsOfMembers n e → IsOnFamily log n e
 of_members log n family (Renames from to) h x (inl is) = inr (ap parent_of (sym is ∙ h.2) ∙ path_parent log n h.0 family h.1)
@@ -148,10 +151,11 @@ module _ (t : Target) (h : HasNames t) where
       moved x (inr (inr none)) = absurd none
 
   -- what is done besides
-  also_in : (e : Entry) → AlsoDoes t e → IsOnFamily t.log t.naming e
-  also_in (entry.Makes y mode) (inl is) x (inl same) = inl (sym same ∙ is)
+  also_in : (e : Entry) → AlsoDoes t e → IsOnTarget t e
+  also_in (entry.MakesDir y mode) d x i = makes_on t y mode d x i
+  also_in (entry.Makes y mode) (inl is) x (inl same) = inr (inl (sym same ∙ is))
   also_in (entry.Makes y mode) (inl is) x (inr none) = absurd none
-  also_in (entry.Makes y mode) (inr p) x (inl same) = inr (ap parent_of (sym same ∙ p.2) ∙ part_in p.0 p.1)
+  also_in (entry.Makes y mode) (inr p) x (inl same) = inr (inr (ap parent_of (sym same ∙ p.2) ∙ part_in p.0 p.1))
   also_in (entry.Makes y mode) (inr p) x (inr none) = absurd none
   also_in (entry.Appends y bytes) p x i = absurd i
   also_in (entry.Truncates y) p x i = absurd i
@@ -179,20 +183,25 @@ turns_on_family t h = each_part P t
 
 -- ---- the same of a log with dates
 
-dated_on : (t : Target) → HasDatedNames t → IsDatedFamily t.log t.naming → (e : Entry) → IsOf t e → IsOnFamily t.log t.naming e
-dated_on t h family e i x j = go (dated_turns t e h i x (renamed_changed e x j))
+makes_its_on : (t : Target) (e : Entry) → MakesItsDir t e → IsOnTarget t e
+makes_its_on t (entry.MakesDir y mode) d x i = makes_on t y mode d x i
+makes_its_on t _ none x i = absurd none
+
+dated_on : (t : Target) → HasDatedNames t → IsDatedFamily t.log t.naming → (e : Entry) → IsOf t e → IsOnTarget t e
+dated_on t h family e i = ⊎_elim (λ changes x j. inr (go x (changes x (renamed_changed e x j)))) (λ makes. makes_its_on t e makes) (dated_turns t e h i)
   where
-    go : IsDatedName t.log t.naming x → (x ≡ t.log) ⊎ (parent_of x ≡ t.naming.dir)
-    go (inl is) = inl is
-    go (inr (inl m)) = inr (stands_in t.log t.naming m.0 m.1 x family.kin family.format m.2 family.dir)
-    go (inr (inr p)) = inr (ap parent_of p.2 ∙ dated_part_parent t.log t.naming p.1.0 p.1.1 p.0 family p.1.2)
+    go : (x : Path) → IsDatedName t.log t.naming x → (x ≡ t.log) ⊎ (parent_of x ≡ t.naming.dir)
+    go x (inl is) = inl is
+    go x (inr (inl m)) = inr (stands_in t.log t.naming m.0 m.1 x family.kin family.format m.2 family.dir)
+    go x (inr (inr p)) = inr (ap parent_of p.2 ∙ dated_part_parent t.log t.naming p.1.0 p.1.1 p.0 family p.1.2)
 
--- ---- their directories
+-- ---- where they stand
 
--- All that is done to the log changes names in its directory or in its family's, and the path that it gets stands in that.
+-- All that is done to the log changes names in its directory or in its family's, or makes that; the path that it gets stands in it; and where it is made, no leftover goes before.
 pub record IsPlaced (t : Target) : Type 0 where
-  on : (e : Entry) → IsOf t e → IsOnFamily t.log t.naming e
-  target : parent_of t.ready.target ≡ t.naming.dir
+  pub on : (e : Entry) → IsOf t e → IsOnTarget t e
+  pub target : parent_of t.ready.target ≡ t.naming.dir
+  pub no_leftovers : t.stand.members ≡ [] → t.ready.leftovers ≡ []
 
 -- so it is where the log was seen, be its names numbers or dates
 pub log_placed : (rules : Rules) (clock : Clock) (looks : List Entry) (t : Target) → IsLogSeen rules clock looks t → IsPlaced t
@@ -200,52 +209,23 @@ log_placed rules clock looks t l = go t.naming.dated refl
   where
     go : (d : Option Format) → t.naming.dated ≡ d → IsPlaced t
     go None is = let h = seen_names rules clock.now.seconds looks t (numbered_seen rules clock looks t l is) in
-        record { on = λ e i. ⊎_elim (λ j. each_in (IsOnFamily t.log t.naming) (rotation_of t) e (turns_on_family t h) j) (λ also. also_in t h e also) i; target = target_in t h }
+        record {
+          on = λ e i. ⊎_elim (λ j x k. inr (each_in (IsOnFamily t.log t.naming) (rotation_of t) e (turns_on_family t h) j x k)) (λ also. also_in t h e also) i;
+          target = target_in t h;
+          no_leftovers = λ none. h.ready.leftovers_are ∙ ap (λ (ms : List Member). map (removal_at t.naming) (leftovers t.count (places_of ms))) none;
+        }
     go (Some format) is =
         let d = dated_seen rules clock looks t format l is in
         let r = ready_of rules clock looks t l.given.rule.maxage d in
-        record { on = dated_on t (dated_names rules clock looks t format l is) d.family; target = stands_in t.log t.naming (clock_seconds t.naming.dated clock) r.serial t.ready.target d.family.kin d.family.format r.target_is d.family.dir }
+        record {
+          on = dated_on t (dated_names rules clock looks t format l is) d.family;
+          target = stands_in t.log t.naming (clock_seconds t.naming.dated clock) r.serial t.ready.target d.family.kin d.family.format r.target_is d.family.dir;
+          no_leftovers = λ none. r.no_leftovers;
+        }
 
--- the log's path and the one that it gets are among these
-abbrev IsCovered : List Path → Target → Type 0
-IsCovered paths t = IsIn t.log paths × IsIn t.ready.target paths
-
-covered_log : (t : Target) (ts : List Target) (logs : List LogPlan) → AreReadyFor ts logs → IsOneOf t ts → IsCovered (changed_of logs) t
-covered_log t [] logs r i = absurd i
-covered_log t (u ∷ us) [] r i = absurd r
-covered_log t (u ∷ us) (l ∷ ls) r (inl e) = (inl (ap (λ (x : Ready). x.log) r.0.ready_is ∙ (r.0.ready.log_is ∙ ap (λ (v : Target). v.log) e)), inr (inl (ap (λ (x : Ready). x.target) r.0.ready_is ∙ ap (λ (v : Target). v.ready.target) e)))
-covered_log t (u ∷ us) (l ∷ ls) r (inr i) = let c = covered_log t us ls r.1 i in (inr (inr c.0), inr (inr c.1))
-
-one_of_two : (t : Target) (xs ys : List Target) → IsOneOf t (xs ++ ys) → IsOneOf t xs ⊎ IsOneOf t ys
-one_of_two t [] ys i = inr i
-one_of_two t (x ∷ xs) ys (inl e) = inl (inl e)
-one_of_two t (x ∷ xs) ys (inr i) = ⊎_elim (λ a. inl (inr a)) (λ b. inr b) (one_of_two t xs ys i)
-
-covered : (t : Target) (groups : List (List Target)) (sets : List SetPlan) → HaveLogs groups sets → IsOneOf t (flat_map (λ ts. ts) groups) → IsCovered (all_changed_of sets) t
-covered t [] sets h i = absurd i
-covered t (ts ∷ groups) [] h i = absurd h
-covered t (ts ∷ groups) (s ∷ ss) h i = ⊎_elim
-    (λ a. let c = covered_log t ts s.logs h.0 a in (in_front t.log (changed_of s.logs) (all_changed_of ss) c.0, in_front t.ready.target (changed_of s.logs) (all_changed_of ss) c.1))
-    (λ b. let c = covered t groups ss h.1 b in (in_back t.log (changed_of s.logs) (all_changed_of ss) c.0, in_back t.ready.target (changed_of s.logs) (all_changed_of ss) c.1))
-    (one_of_two t ts (flat_map (λ ts. ts) groups) i)
-
-within_family : (part : Path) (paths dirs : List Path) (t : Target) (e : Entry) → AreDirectoriesOf paths dirs → IsPlaced t → IsCovered paths t → IsOnFamily t.log t.naming e → IsWithin part dirs e
-within_family part paths dirs t e a placed c f x i = inr (⊎_elim
-    (λ is. subst (λ (y : Path). IsIn (parent_of y) dirs) (sym is) (a.all t.log c.0))
-    (λ in_dir. subst (λ (d : Path). IsIn d dirs) (placed.target ∙ sym in_dir) (a.all t.ready.target c.1))
-    (f x i))
-
--- ---- a change of the acts
-
-some_within : (part : Path) (paths dirs : List Path) (ts : List Target) (e : Entry) → AreDirectoriesOf paths dirs → ((t : Target) → IsOneOf t ts → IsPlaced t) → ((t : Target) → IsOneOf t ts → IsCovered paths t) → IsOfSome ts e → IsWithin part dirs e
-some_within part paths dirs [] e a placed c i = absurd i
-some_within part paths dirs (t ∷ ts) e a placed c (inl i) = within_family part paths dirs t e a (placed t (inl refl)) (c t (inl refl)) ((placed t (inl refl)).on e i)
-some_within part paths dirs (t ∷ ts) e a placed c (inr i) = some_within part paths dirs ts e a (λ u j. placed u (inr j)) (λ u j. c u (inr j)) i
+-- ---- a change of the acts and the state
 
 pub some_aside : (state : Path) (ts : List Target) (e : Entry) → HaveAnyNames ts → AreFreeOf (reserved_by state) ts → IsOfSome ts e → IsAsideOf state e
 some_aside state [] e h free i = absurd i
-some_aside state (t ∷ ts) e h free (inl i) = λ changed. free.0 state (inl refl) (inl (any_change t e h.0 i state changed))
+some_aside state (t ∷ ts) e h free (inl i) = λ changed. free.0 state (inl refl) (any_change t e h.0 i state changed)
 some_aside state (t ∷ ts) e h free (inr i) = some_aside state ts e h.1 free.1 i
-
-pub groups_within : (part : Path) (dirs : List Path) (groups : List (List Target)) (sets : List SetPlan) (e : Entry) → AreDirectoriesOf (all_changed_of sets) dirs → HaveLogs groups sets → ((t : Target) → IsOneOf t (flat_map (λ ts. ts) groups) → IsPlaced t) → IsOfSome (flat_map (λ ts. ts) groups) e → IsWithin part dirs e
-groups_within part dirs groups sets e a h placed i = some_within part (all_changed_of sets) dirs (flat_map (λ ts. ts) groups) e a placed (λ t j. covered t groups sets h j) i

@@ -18,7 +18,7 @@ use Rattle.lr_host.specs.declared.thing.Seen.{Seen}
 use Rattle.lr_host.specs.Counted.{AddsFaults}
 use Rattle.lr_host.specs.Looks.{Sees, IsDir, IsNoDir, IsNothing}
 use Rattle.lr_host.specs.Quiet.{AreQuiet, IsQuiet}
-use Rattle.lr_host.specs.Told.{Counts, Each, IsTools, Left, Then}
+use Rattle.lr_host.specs.Told.{Counts, Each, Left, Then}
 use Rattle.lr_host.proofs.Counts.{AreFree, adds_on, adds_free}
 use Rattle.lr_host.proofs.Each.{each_append}
 use Rattle.lr_host.proofs.Left.{left_as, left_first, left_then}
@@ -50,6 +50,7 @@ use Rattle.lr_run.specs.Internal.{NotSeen, dir_fault_of, PlansOn, PlansByOn, Tri
 use Rattle.lr_run.specs.Runs.{SomeSeen, of_state, of_looks}
 use Rattle.lr_run.specs.State.{IsNewText}
 use Rattle.lr_run.proofs.Emptying.{left_copied, runs_copied, answers_copied}
+use Rattle.lr_run.proofs.Made.{AreMade}
 use Rattle.lr_run.proofs.Renewing.{left_whole, quiet_alone, runs_may, answers_may}
 use Rattle.lr_run.proofs.Seeing.{state_so, looks_so, some_so}
 use Rattle.lr_mixed.proofs.Shapes.{quiet_run_by}
@@ -206,7 +207,7 @@ dry_shape state asked clock rules earlier r ts h = quiet_run_by clock ts (answer
 -- and leaves the state as it is
 pub dry_whole : (state : Path) (asked : Asked) (clock : Clock) (rules : Rules) (earlier : List Fault) (r : Result Ran RunStop) {o n : Option Journal} → Left (Answers state true asked clock rules earlier r) o n → KeepsWhole state (IsNewText state clock asked rules) o n
 dry_whole state asked clock rules earlier r l = left_whole state (IsNewText state clock asked rules) (Answers state true asked clock rules earlier r) l
-    (λ ts tools h. quiet_alone state (IsNewText state clock asked rules ts) ts (answers_quiet state asked clock rules earlier r ts h))
+    (λ ts made h. quiet_alone state (IsNewText state clock asked rules ts) ts (answers_quiet state asked clock rules earlier r ts h))
 
 -- it empties nothing
 pub dry_copied : (state : Path) (asked : Asked) (clock : Clock) (rules : Rules) (earlier : List Fault) (r : Result Ran RunStop) {o n : Option Journal} → Left (Answers state true asked clock rules earlier r) o n → EmptiesWhole (IsCopyBy rules.sets clock) o n
@@ -219,13 +220,13 @@ tried_so state asked clock rules earlier first ran e l = left_as l (λ ts h. (h.
 
 -- ---- a run that is dry, or isn't
 
-pub leaves_may : (debug : Bool) (state : Path) (asked : Asked) (clock : Clock) (rules : Rules) (plan : Option Plan) (own : List Fault) (ts : List Entry) → Each IsTools ts → Leaves debug state asked clock rules plan own ts → MayRenew state (IsNewText state clock asked rules ts) ts
-leaves_may true state asked clock rules plan own ts tools h = quiet_alone state (IsNewText state clock asked rules ts) ts (tries_so IsQuiet (λ x seen. (tt, refl)) (λ x names. (tt, refl)) (λ x place piece. (tt, refl)) state rules.sets clock asked plan own ts h)
-leaves_may false state asked clock rules plan own ts tools h = runs_may state rules clock asked plan own ts tools h
+pub leaves_may : (debug : Bool) (state : Path) (asked : Asked) (clock : Clock) (rules : Rules) (plan : Option Plan) (own : List Fault) (ts : List Entry) → AreMade ts → Leaves debug state asked clock rules plan own ts → MayRenew state (IsNewText state clock asked rules ts) ts
+leaves_may true state asked clock rules plan own ts made h = quiet_alone state (IsNewText state clock asked rules ts) ts (tries_so IsQuiet (λ x seen. (tt, refl)) (λ x names. (tt, refl)) (λ x place piece. (tt, refl)) state rules.sets clock asked plan own ts h)
+leaves_may false state asked clock rules plan own ts made h = runs_may state rules clock asked plan own ts made h
 
-pub lacks_may : (debug : Bool) (state : Path) (asked : Asked) (clock : Clock) (rules : Rules) (ts : List Entry) → Each IsTools ts → Lacks debug state asked clock rules ts → MayRenew state (IsNewText state clock asked rules ts) ts
-lacks_may true state asked clock rules ts tools h = quiet_alone state (IsNewText state clock asked rules ts) ts (lacks_so IsQuiet (λ x seen. (tt, refl)) (λ x names. (tt, refl)) (λ x place piece. (tt, refl)) state rules.sets ts h)
-lacks_may false state asked clock rules ts tools h = answers_may state rules clock asked [] (Err stop.Memory) ts tools h
+pub lacks_may : (debug : Bool) (state : Path) (asked : Asked) (clock : Clock) (rules : Rules) (ts : List Entry) → AreMade ts → Lacks debug state asked clock rules ts → MayRenew state (IsNewText state clock asked rules ts) ts
+lacks_may true state asked clock rules ts made h = quiet_alone state (IsNewText state clock asked rules ts) ts (lacks_so IsQuiet (λ x seen. (tt, refl)) (λ x names. (tt, refl)) (λ x place piece. (tt, refl)) state rules.sets ts h)
+lacks_may false state asked clock rules ts made h = answers_may state rules clock asked [] (Err stop.Memory) ts made h
 
 -- each log that it empties it copied just before
 pub leaves_copied : (debug : Bool) (state : Path) (rules : Rules) (clock : Clock) (asked : Asked) → (plan : Option Plan) (own : List Fault) (ts : List Entry) → Leaves debug state asked clock rules plan own ts → EmptiesCopied (IsCopyBy rules.sets clock) ts

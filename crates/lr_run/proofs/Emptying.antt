@@ -34,7 +34,7 @@ use Rattle.lr_plan.specs.declared.looks.SetLooks.{SetLooks}
 use Rattle.lr_plan.specs.declared.planned.LogPlan.{LogPlan}
 use Rattle.lr_plan.specs.declared.planned.Plan.{Plan}
 use Rattle.lr_plan.specs.declared.planned.SetPlan.{SetPlan}
-use Rattle.lr_plan.specs.Planned.{job_by, decision, all_plans}
+use Rattle.lr_plan.specs.Planned.{standing, job_by, decision, all_plans}
 use Rattle.lr_plan.specs.Steps.{steps_of_plan}
 use Rattle.lr_emptied.specs.Emptied.{IsJobIn, EmptiesCopied, EmptiesWhole}
 use Rattle.lr_emptied.specs.Jobs.{job_in, jobs_in, jobs_of}
@@ -119,7 +119,7 @@ has_rule rules sets faults ts clock t s c = subst (HasRule rules) (sym c.is) (re
   rule = c.rule;
   among = in_to c.rule rules (in_list rules c.place c.rule c.at_rule);
   naming_is = ap (λ (r : Rule). naming_of r x.path) same ∙ (ap (naming_of o.by_word.word.rule) (sym o.path_is) ∙ (naming ∙ o.naming_is));
-  look = c.look;
+  look = standing c.rule c.look;
   job_is = refl;
 })
   where

@@ -1,5 +1,7 @@
 -- A log with dates that can't be rotated since a member has the name that it would get: the member was seen, and the acts spare it.
-use Rattle.std.proofs.Common.{◌≡◌, ◌≢◌, inl, inr, ⊎_elim, ℕ, suc, ◌+◌, Bool, true, false, cond, Option, Some, None, List, [], ◌∷◌, ◌++◌, map, reverse, slice_get, refl, sym, ap, ◌∙◌, subst}
+use Rattle.std.proofs.Common.{◌≡◌, ◌≢◌, inl, inr, ⊎_elim, ℕ, suc, ◌+◌, Bool, true, false, cond, not, ◌&&◌, Option, Some, None, List, [], ◌∷◌, ◌++◌, map, reverse, slice_get, refl, sym, ap, ◌∙◌, subst}
+use Rattle.std.specs.Str.{bytes_eq}
+use Rattle.std.proofs.lemmas.Bool.{and_left, and_right}
 use Rattle.std.specs.Prelude.{ℤ, filter, codes}
 use Rattle.std.proofs.lemmas.List.Elements.{All-contains}
 use Rattle.lr_rules.specs.declared.clock.Clock.{Clock}
@@ -41,34 +43,34 @@ use Rattle.lr_plan.specs.declared.looks.SetLooks.{SetLooks}
 use Rattle.lr_plan.specs.declared.mark.Mark.{Mark}
 use Rattle.lr_plan.specs.Course.{Course}
 use Rattle.lr_plan.specs.Done.{SetsDone}
-use Rattle.lr_plan.specs.Planned.{numbered_hindrances, hindrances_by, hindrances, is_too_high, where_due, log_faults, all_faults, all_plans}
+use Rattle.lr_plan.specs.Planned.{is_made, makes_dir, empty_stand, stand_for, standing, numbered_hindrances, hindrances_by, hindrances, is_too_high, where_due, log_faults, all_faults, all_plans}
 use Rattle.lr_plan.specs.Steps.{steps_of_set, state_steps}
 use Rattle.lr_acts.specs.Named.{IsNamed}
 use Rattle.lr_acts.specs.Taken.{Spares, WasTaken}
 use Rattle.lr_acts.proofs.Taking.{taken_now, taken_before}
-use Rattle.lr_looks.specs.Families.{FamilySight, Stood, Stopped, LookedLog, looked_at, looked_of}
+use Rattle.lr_looks.specs.Families.{LookedLog, looked_at, looked_of}
 use Rattle.lr_looks.specs.Found.{FoundLog}
 use Rattle.lr_looks.specs.Sets.{looked_in}
 use Rattle.lr_looks.specs.Shown.{ShowsLooks}
 use Rattle.lr_targets.specs.AllTurns.{IsOf, IsOfSome, IsOfState}
 use Rattle.lr_targets.specs.Target.{Target, IsOneOf}
-use Rattle.lr_targets.proofs.Apart.{own_change}
 use Rattle.lr_dated_seen.specs.Shown.{WasSeen, ShownDated}
 use Rattle.lr_dated_seen.proofs.Rotating.{file_stands}
 use Rattle.lr_dated_run.specs.Own.{HasAnyNames, HaveAnyNames}
-use Rattle.lr_dated_run.proofs.Own.{dated_own, dated_change}
+use Rattle.lr_dated_run.proofs.Own.{dated_own}
 use Rattle.lr_weave.proofs.Parting.{done_some}
 use Rattle.lr_weave.proofs.Planning.{ready_planned}
 use Rattle.lr_seen.specs.Free.{reserved_by}
 use Rattle.lr_seen.specs.Targets.{groups_of, all_targets}
-use Rattle.lr_seen.proofs.Apart.{Off, OffFound, OffLooked, kept_off, looked_pairs, targets_apart}
+use Rattle.lr_seen.proofs.Apart.{OffLooked, kept_off, looked_pairs, targets_apart}
 use Rattle.lr_seen.proofs.Coming.{Comes, comes_from, was_looked, in_looked}
-use Rattle.lr_seen.proofs.Elements.{Pairs, in_flat, in_each, each_in, pairs_two}
+use Rattle.lr_seen.proofs.Elements.{in_flat, pairs_two}
 use Rattle.lr_seen.proofs.Kept.{kept_has_none}
 use Rattle.lr_seen.proofs.Listed.{ShownBy, WasShown, all_shown}
 use Rattle.lr_seen.proofs.Quiet.{whole_quiet}
 use Rattle.lr_seen.proofs.Ready.{plans_have_logs}
 use Rattle.lr_seen.proofs.Seen.{targets_have_names}
+use Rattle.lr_run.proofs.Owned.{unlinked_own}
 use Rattle.lr_run.proofs.Stating.{state_writing, changes_of_state}
 
 -- ---- the member that has the name
@@ -131,13 +133,23 @@ in_numbered rule look path i = go look.stand.there (is_too_high rule look) i
 is_dated : (clock : Clock) (rule : Rule) (look : LogLook) (path : Path) → IsIn (fault.Taken path) (hindrances clock rule look) → (format : Format) × (look.family.naming.dated ≡ Some format)
 is_dated clock rule look path i = go look.family.naming.dated refl i
   where
-    go : (d : Option Format) → look.family.naming.dated ≡ d → IsIn (fault.Taken path) (hindrances_by d clock rule look) → (format : Format) × (look.family.naming.dated ≡ Some format)
-    go None is i = absurd (in_numbered rule look path i)
+    go : (d : Option Format) → look.family.naming.dated ≡ d → IsIn (fault.Taken path) (hindrances_by d clock rule (standing rule look)) → (format : Format) × (look.family.naming.dated ≡ Some format)
+    go None is i = absurd (in_numbered rule (standing rule look) path i)
     go (Some format) is i = (format, is)
 
 -- what hinders a log with dates is what its family and the clock say
-dated_hinders : (clock : Clock) (rule : Rule) (look : LogLook) (format : Format) → look.family.naming.dated ≡ Some format → hindrances clock rule look ≡ dated_hindrances look.family.naming look.stand (clock_seconds look.family.naming.dated clock)
-dated_hinders clock rule look format is = ap (λ (d : Option Format). hindrances_by d clock rule look) is
+dated_hinders : (clock : Clock) (rule : Rule) (look : LogLook) (format : Format) → look.family.naming.dated ≡ Some format → hindrances clock rule look ≡ dated_hindrances look.family.naming (stand_for rule look) (clock_seconds look.family.naming.dated clock)
+dated_hinders clock rule look format is = ap (λ (d : Option Format). hindrances_by d clock rule (standing rule look)) is
+
+-- a directory that is there isn't made
+pub stands_as_seen : (rule : Rule) (look : LogLook) → look.stand.there ≡ true → stand_for rule look ≡ look.stand
+stands_as_seen rule look there = ap (λ (b : Bool). cond b empty_stand look.stand)
+    (and_right (is_made rule.createolddir) (not look.stand.there && (look.stand.parent && not (bytes_eq look.family.naming.dir look.path))) (and_left (not look.stand.there) (look.stand.parent && not (bytes_eq look.family.naming.dir look.path)) (ap not there)))
+
+-- nothing is taken in one that was just made
+barred_as_seen : (makes : Bool) (n : Naming) (stand : Stand) (path : Path) → IsBarred n (cond makes empty_stand stand) path → IsBarred n stand path
+barred_as_seen true n stand path b = absurd b.among
+barred_as_seen false n stand path b = b
 
 -- ---- which log it is
 
@@ -188,8 +200,7 @@ all_spare path R spare (e ∷ ts) a = go (is_change e) refl (λ b. all_spare pat
 
 -- an unlink of the path is on own names of the log that is rotated
 unlinks_own : (t : Target) (path : Path) (e : Entry) → HasAnyNames t → (IsOwnName t.log t.naming path → ⊥) → IsOf t e → Spares path e
-unlinks_own t path (entry.Unlinks x) (inl h) none i = λ same. none (own_change t (entry.Unlinks x) h i path (inl same))
-unlinks_own t path (entry.Unlinks x) (inr h) none i = λ same. none (dated_change t (entry.Unlinks x) h i path (inl same))
+unlinks_own t path (entry.Unlinks x) h none i = λ same. none (subst (IsOwnName t.log t.naming) same (unlinked_own t h x i))
 unlinks_own t path _ h none i = tt
 
 some_spare : (path : Path) (ts : List Target) → HaveAnyNames ts → ((t : Target) → IsOneOf t ts → IsOwnName t.log t.naming path → ⊥) → (e : Entry) → IsOfSome ts e → Spares path e
@@ -214,11 +225,14 @@ module _ (state : Path) (rules : Rules) (sets : List SetLooks) (faults : List Fa
   abbrev x : LookedLog
   x = looked_in (0 + h.place) h.look
 
-  fault_of_stand : IsIn (fault.Taken path) (dated_hindrances n h.look.stand (clock_seconds n.dated clock))
-  fault_of_stand = subst (IsIn (fault.Taken path)) (dated_hinders clock h.rule h.look format.0 format.1) h.fault_in
+  fault_of_standing : IsIn (fault.Taken path) (dated_hindrances n (stand_for h.rule h.look) (clock_seconds n.dated clock))
+  fault_of_standing = subst (IsIn (fault.Taken path)) (dated_hinders clock h.rule h.look format.0 format.1) h.fault_in
 
   barred : IsBarred n h.look.stand path
-  barred = in_dated n h.look.stand (clock_seconds n.dated clock) path fault_of_stand
+  barred = barred_as_seen (makes_dir h.rule h.look) n h.look.stand path (in_dated n (stand_for h.rule h.look) (clock_seconds n.dated clock) path fault_of_standing)
+
+  fault_of_stand : IsIn (fault.Taken path) (dated_hindrances n h.look.stand (clock_seconds n.dated clock))
+  fault_of_stand = subst (λ (stand : Stand). IsIn (fault.Taken path) (dated_hindrances n stand (clock_seconds n.dated clock))) (stands_as_seen h.rule h.look barred.there) fault_of_standing
 
   looked : IsIn x s.looked
   looked = was_looked 0 h.place s.looked sets h.set h.look s.by_sets h.at_set h.among
@@ -229,7 +243,7 @@ module _ (state : Path) (rules : Rules) (sets : List SetLooks) (faults : List Fa
   shown : ShownDated n h.look.stand.members looks
   shown =
       let w : WasShown n h.look.stand looks = all_shown looks s.kept s.entries.second.listings s.entries.second.families.sights s.entries.back (λ e i. subst (IsIn e) (sym s.entries.joined) (in_back e s.entries.front s.entries.back i)) s.entries.second.families.shown x in_sights in
-      subst (λ (d : Option Format). ShownBy d n h.look.stand looks) format.1 (w.0 barred.there)
+      subst (λ (d : Option Format). ShownBy d n h.look.stand looks) format.1 (w.0 barred.there).1
 
   -- it was seen, a file
   member_seen : (m : Member) × (m.path ≡ path) × WasSeen looks m
@@ -285,7 +299,9 @@ module _ (state : Path) (rules : Rules) (sets : List SetLooks) (faults : List Fa
       same is =
           let dated : c.look.family.naming.dated ≡ Some format.0 = ap (λ (z : LookedLog). z.naming.dated) is ∙ format.1 in
           let moved : IsIn (fault.Taken path) (dated_hindrances c.look.family.naming c.look.stand (clock_seconds c.look.family.naming.dated clock)) = subst (λ (z : LookedLog). IsIn (fault.Taken path) (dated_hindrances z.naming z.stand (clock_seconds z.naming.dated clock))) (sym is) fault_of_stand in
-          let none : IsIn (fault.Taken path) [] = subst (IsIn (fault.Taken path)) (sym (dated_hinders clock c.rule c.look format.0 dated) ∙ c.free) moved in none
+          let there = (in_dated c.look.family.naming c.look.stand (clock_seconds c.look.family.naming.dated clock) path moved).there in
+          let standing_so = subst (λ (stand : Stand). IsIn (fault.Taken path) (dated_hindrances c.look.family.naming stand (clock_seconds c.look.family.naming.dated clock))) (sym (stands_as_seen c.rule c.look there)) moved in
+          let none : IsIn (fault.Taken path) [] = subst (IsIn (fault.Taken path)) (sym (dated_hinders clock c.rule c.look format.0 dated) ∙ c.free) standing_so in none
 
   -- so the acts spare it
   acts_spare : (mailer : Path) (stale : Bool) (dirs : List Path) (text : List ℕ) (marks : List Mark) (of_plan of_state : List Fault) (ts : List Entry)

@@ -16,7 +16,10 @@ pub mod Hindered
 pub mod Taken
 pub mod Rotating
 pub mod Turning
+pub mod Owned
 mod Covering
+pub mod Made
+mod Guarding
 pub mod Renewing
 pub mod Emptying
 pub mod Drying

@@ -1,5 +1,5 @@
 -- The state stays whole over a run.
-use Rattle.std.proofs.Common.{◌≡◌, ◌⊎◌, inl, inr, ⊎_elim, ℕ, false, refl, sym, ◌∙◌, ap, subst, List, [], ◌∷◌, ◌++◌, map, reverse, append_assoc, Option, Some, Result, Ok, Err}
+use Rattle.std.proofs.Common.{◌≡◌, ◌⊎◌, inl, inr, ⊎_elim, ℕ, false, refl, sym, ◌∙◌, ap, subst, List, [], ◌∷◌, ◌++◌, map, reverse, append_assoc, Option, Some, None, Result, Ok, Err}
 use Rattle.std.specs.Prelude.{filter}
 use Rattle.std.specs.List.{flat_map}
 use Rattle.std.proofs.lemmas.List.{append-nil}
@@ -8,7 +8,7 @@ use Rattle.lr_rules.specs.declared.fault.Fault.{Fault}
 use Rattle.lr_rules.specs.declared.path.Path.{Path}
 use Rattle.lr_rules.specs.declared.rule.Rule.{Rule}
 use Rattle.lr_rules.specs.declared.rules.Rules.{Rules}
-use Rattle.lr_rules.specs.Path.{parent_of}
+use Rattle.lr_rules.specs.Path.{path_fault, parent_of}
 use Rattle.lr_host.specs.declared.entry.Entry.{Entry}
 use Rattle.lr_host.specs.declared.entry.Entry.TheVariants as entry
 use Rattle.lr_host.specs.declared.journal.Journal.{Journal}
@@ -17,8 +17,7 @@ use Rattle.lr_host.specs.Quiet.{IsQuiet, AreQuiet, is_disk_change}
 use Rattle.lr_host.specs.Steps.{is_change}
 use Rattle.lr_host.specs.Told.{Each, IsTools, Left, not_told, is_told}
 use Rattle.lr_host.specs.World.{past}
-use Rattle.lr_host.proofs.Each.{each_append, each_as, each_first, each_reverse}
-use Rattle.lr_host.proofs.Made.{made_tools}
+use Rattle.lr_host.proofs.Each.{each_append, each_as, each_first}
 use Rattle.lr_durable.specs.Renewing.{IsAsideOf, IsWithin, MayRenew, left_alone, renewed}
 use Rattle.lr_durable.specs.StateWhole.{part_of, KeepsWhole}
 use Rattle.lr_durable.proofs.Whole.{whole_at}
@@ -26,14 +25,14 @@ use Rattle.lr_due.specs.declared.answer.Due.{Due}
 use Rattle.lr_plan.specs.Asked.{Asked}
 use Rattle.lr_plan.specs.declared.looks.LogLook.{LogLook}
 use Rattle.lr_plan.specs.Appending.{Appended, no_more, piece_more}
-use Rattle.lr_plan.specs.Done.{rotated_logs}
+use Rattle.lr_plan.specs.declared.mark.Mark.{Mark}
+use Rattle.lr_plan.specs.Done.{SetsDone, rotated_logs}
 use Rattle.lr_plan.specs.Outcomes.{Maybe}
 use Rattle.lr_plan.specs.Planned.{decision}
 use Rattle.lr_plan.specs.Steps.{steps_of_set}
 use Rattle.lr_targets.specs.AllTurns.{IsOfSome}
 use Rattle.lr_dated_run.specs.Own.{HaveAnyNames}
 use Rattle.lr_targets.specs.Target.{Target, IsOneOf}
-use Rattle.lr_mixed.proofs.Seen.{log_among}
 use Rattle.lr_weave.specs.Parts.{ArePlanned}
 use Rattle.lr_weave.specs.Planned.{HaveLogs}
 use Rattle.lr_weave.proofs.Parting.{done_some, cut_some}
@@ -42,9 +41,10 @@ use Rattle.lr_seen.specs.Targets.{groups_of, all_targets}
 use Rattle.lr_seen.proofs.Apart.{targets_apart}
 use Rattle.lr_seen.proofs.Free.{targets_free}
 use Rattle.lr_seen.proofs.Ready.{plans_have_logs}
-use Rattle.lr_seen.proofs.Seen.{targets_seen, targets_have_names}
+use Rattle.lr_seen.proofs.Quiet.{whole_quiet}
+use Rattle.lr_seen.proofs.Seen.{targets_seen, targets_have_names, targets_have_paths}
 use Rattle.lr_reading.proofs.Quiet.{state_quiet}
-use Rattle.lr_writing.specs.Directories.{AreDirectoriesOf}
+use Rattle.lr_synced.specs.Synced.{AreSynced}
 use Rattle.lr_writing.specs.Named.{Spares, NamedLast, not_named, named}
 use Rattle.lr_writing.proofs.Named.{named_last}
 use Rattle.lr_plan.specs.declared.planned.Plan.{Plan}
@@ -53,9 +53,11 @@ use Rattle.lr_run.specs.declared.answer.RunStop.{RunStop}
 use Rattle.lr_run.specs.declared.answer.RunStop.TheVariants as stop
 use Rattle.lr_run.specs.Runs as runs
 use Rattle.lr_run.specs.Answers.{Answers}
-use Rattle.lr_run.specs.Runs.{Inside, Looked, Worked, Works, not_known, too_big, worked, Runs, no_directory, not_seen, not_begun, BrokeOff, at_first, in_looks, in_acts, changed_in, plan_in, state_text}
+use Rattle.lr_run.specs.Runs.{Inside, Looked, Worked, Works, not_known, too_big, worked, Runs, no_directory, not_seen, not_begun, BrokeOff, at_first, in_looks, in_acts, plan_in, state_text}
 use Rattle.lr_run.specs.State.{Tells, IsNewText}
-use Rattle.lr_run.proofs.Covering.{none_changed, none_aside, none_within, of_changes, IsPlaced, log_placed, some_aside, groups_within}
+use Rattle.lr_run.proofs.Covering.{none_changed, none_aside, none_within, of_changes, some_aside}
+use Rattle.lr_run.proofs.Guarding.{one_in, changes_within}
+use Rattle.lr_run.proofs.Made.{AreMade, are_made, made_by_tools, made_first, made_later, DontClash, dont_clash}
 use Rattle.lr_run.proofs.Shape.{sees_quiet, some_quiet, seen_quiet, looked_parts, in_parts}
 
 -- ---- what the writing leaves
@@ -187,8 +189,12 @@ module _ (state : Path) (rules : Rules) (clock : Clock) (asked : Asked) where
     have_names : HaveAnyNames targets
     have_names = targets_have_names rules l.sets l.of_looks l.looks clock decide l.shown
 
-    placed : (t : Target) → IsOneOf t targets → IsPlaced t
-    placed t i = log_placed rules clock l.looks t (log_among rules clock l.looks targets (targets_seen rules l.sets l.of_looks l.looks clock decide l.shown) t i)
+    valid : (t : Target) → IsOneOf t targets → path_fault t.log ≡ None
+    valid t i = targets_have_paths rules.sets l.sets l.of_looks l.looks clock decide l.shown t (one_in t targets i)
+
+    -- the looks were made on a disk, so what one of them tells of a directory none denies
+    looks_agree : AreMade ts → DontClash l.looks
+    looks_agree made = dont_clash l.looks (made_first l.looks l.acts (made_later l.reads (l.looks ++ l.acts) (subst AreMade l.joined made))) (whole_quiet rules.sets l.sets l.of_looks l.looks l.shown)
 
     abbrev seen : List Entry
     seen = l.reads ++ l.looks
@@ -198,21 +204,23 @@ module _ (state : Path) (rules : Rules) (clock : Clock) (asked : Asked) where
     behind_aside acts tools of_logs = each_append (IsAsideOf state) seen acts (calm_aside state seen (seen_quiet state rules.sets ts l))
         (of_changes (IsAsideOf state) acts (λ e i h. none_aside state e (none_changed e i h)) tools (each_as (IsOfSome targets) (IsAsideOf state) (filter is_change acts) (λ e i. some_aside state targets e have_names (targets_free rules.sets l.sets l.of_looks l.looks clock decide l.shown) i) of_logs))
 
-    behind_within : (dirs : List Path) → AreDirectoriesOf (changed_in (plan_in state rules.sets ts l clock asked)) dirs → (acts : List Entry) → Each IsTools acts → Each (IsOfSome targets) (filter is_change acts) → Each (IsWithin (part_of state) dirs) (seen ++ acts)
-    behind_within dirs dirs_are acts tools of_logs = each_append (IsWithin (part_of state) dirs) seen acts (calm_within (part_of state) dirs seen (seen_quiet state rules.sets ts l))
-        (of_changes (IsWithin (part_of state) dirs) acts (λ e i h. none_within (part_of state) dirs e (none_changed e i h)) tools (each_as (IsOfSome targets) (IsWithin (part_of state) dirs) (filter is_change acts) (λ e i. groups_within (part_of state) dirs (groups_of clock decide rules.sets l.sets) (plan_in state rules.sets ts l clock asked).sets e dirs_are logs placed i) of_logs))
+    behind_within : (dirs : List Path) (marks : List Mark) (faults : List Fault) (acts : List Entry) → AreMade ts → Each IsTools acts → AreSynced (plan_in state rules.sets ts l clock asked).sets marks dirs → SetsDone (map steps_of_set (plan_in state rules.sets ts l clock asked).sets) marks faults acts
+        → Each (IsWithin (part_of state) dirs) (seen ++ acts)
+    behind_within dirs marks faults acts made tools synced done = each_append (IsWithin (part_of state) dirs) seen acts (calm_within (part_of state) dirs seen (seen_quiet state rules.sets ts l))
+        (of_changes (IsWithin (part_of state) dirs) acts (λ e i h. none_within (part_of state) dirs e (none_changed e i h)) tools
+        (changes_within (plan_in state rules.sets ts l clock asked).sets rules clock l.looks (groups_of clock decide rules.sets l.sets) logs (targets_seen rules l.sets l.of_looks l.looks clock decide l.shown) valid (looks_agree made) (part_of state) dirs marks faults acts synced done))
 
   -- a first part of the acts
-  broke_aside : (ts : List Entry) → Each IsTools ts → BrokeOff state rules.sets clock asked ts → Each (IsAsideOf state) ts
-  broke_aside ts tools b = subst (Each (IsAsideOf state)) (sym parts)
-      (behind_aside ts b.looked b.looked.acts (each_later IsTools (b.looked.reads ++ b.looked.looks) b.looked.acts (subst (Each IsTools) parts tools))
+  broke_aside : (ts : List Entry) → AreMade ts → BrokeOff state rules.sets clock asked ts → Each (IsAsideOf state) ts
+  broke_aside ts made b = subst (Each (IsAsideOf state)) (sym parts)
+      (behind_aside ts b.looked b.looked.acts (each_later IsTools (b.looked.reads ++ b.looked.looks) b.looked.acts (subst (Each IsTools) parts (made_by_tools ts made)))
       (cut_some (targets ts b.looked) (map steps_of_set (plan_in state rules.sets ts b.looked clock asked).sets) b.marks b.of_acts b.looked.acts (planned ts b.looked) b.part))
     where
       parts : ts ≡ (b.looked.reads ++ b.looked.looks) ++ b.looked.acts
       parts = looked_parts state rules.sets ts b.looked
 
   -- all of the acts, and the writing of the state
-  module _ (own : List Fault) (ts : List Entry) (w : Worked state rules.sets clock asked own ts) (tools : Each IsTools ts) where
+  module _ (own : List Fault) (ts : List Entry) (w : Worked state rules.sets clock asked own ts) (made : AreMade ts) where
     abbrev l : Looked state rules.sets ts
     l = w.looked
 
@@ -226,7 +234,7 @@ module _ (state : Path) (rules : Rules) (clock : Clock) (asked : Asked) where
     in_three = in_parts state rules.sets clock asked own ts w
 
     tools_of : Each IsTools ((seen ts l ++ acts) ++ w.acted.entries.entries.back)
-    tools_of = subst (Each IsTools) in_three tools
+    tools_of = subst (Each IsTools) in_three (made_by_tools ts made)
 
     acts_tools : Each IsTools acts
     acts_tools = each_later IsTools (seen ts l) acts (each_first IsTools (seen ts l ++ acts) w.acted.entries.entries.back tools_of)
@@ -238,7 +246,7 @@ module _ (state : Path) (rules : Rules) (clock : Clock) (asked : Asked) where
     acts_aside = behind_aside ts l acts acts_tools of_logs
 
     acts_within : Each (IsWithin (part_of state) w.acted.dirs) (seen ts l ++ acts)
-    acts_within = behind_within ts l w.acted.dirs w.acted.dirs_are acts acts_tools of_logs
+    acts_within = behind_within ts l w.acted.dirs w.acted.marks w.acted.entries.of_plan acts made acts_tools w.acted.dirs_are w.acted.entries.entries.first
 
     abbrev text : List ℕ
     text = state_text state rules.sets ts l clock (rotated_logs w.acted.marks)
@@ -254,52 +262,52 @@ module _ (state : Path) (rules : Rules) (clock : Clock) (asked : Asked) where
         in_order = ap (λ es. front ++ (es ++ entry.Ends ∷ [])) in_three ∙ (ap (λ es. front ++ es) (append_assoc (seen ts l ++ acts) w.acted.entries.entries.back (entry.Ends ∷ [])) ∙ sym (append_assoc front (seen ts l ++ acts) (w.acted.entries.entries.back ++ entry.Ends ∷ [])))
 
   -- the work, between what was before and the end
-  works_may : (plan : Option Plan) (own : List Fault) (before between : List Entry) → AreQuiet before → Each IsTools between → Works state rules.sets clock asked plan own between
+  works_may : (plan : Option Plan) (own : List Fault) (before between : List Entry) → AreQuiet before → AreMade between → Works state rules.sets clock asked plan own between
       → (IsText : List ℕ → Type 0) → ((text : List ℕ) → Tells state rules.sets clock asked text between → IsText text) → MayRenew state IsText (before ++ (entry.Starts state clock.now rules ∷ (between ++ entry.Ends ∷ [])))
-  works_may plan own before between q tools (not_known sights f known lost e shown) IsText tells = left_alone (around state state clock rules before between (calm_aside state before q) (calm_aside state between (state_quiet state 65_536 sights between shown)))
-  works_may plan own before between q tools (too_big l big lost e none) IsText tells = left_alone (around state state clock rules before between (calm_aside state before q)
+  works_may plan own before between q made (not_known sights f known lost e shown) IsText tells = left_alone (around state state clock rules before between (calm_aside state before q) (calm_aside state between (state_quiet state 65_536 sights between shown)))
+  works_may plan own before between q made (too_big l big lost e none) IsText tells = left_alone (around state state clock rules before between (calm_aside state before q)
       (calm_aside state between (subst AreQuiet (sym (l.joined ∙ (ap (λ xs. l.reads ++ (l.looks ++ xs)) none ∙ ap (λ xs. l.reads ++ xs) (append-nil l.looks)))) (seen_quiet state rules.sets between l))))
-  works_may plan own before between q tools (worked w is) IsText tells = subst (MayRenew state IsText) (append_assoc before (entry.Starts state clock.now rules ∷ []) (between ++ entry.Ends ∷ []))
-      (worked_may own between w tools IsText (tells _ (record { own = own; worked = w; text_is = refl })) (before ++ entry.Starts state clock.now rules ∷ [])
+  works_may plan own before between q made (worked w is) IsText tells = subst (MayRenew state IsText) (append_assoc before (entry.Starts state clock.now rules ∷ []) (between ++ entry.Ends ∷ []))
+      (worked_may own between w made IsText (tells _ (record { own = own; worked = w; text_is = refl })) (before ++ entry.Starts state clock.now rules ∷ [])
       (each_append (IsAsideOf state) before (entry.Starts state clock.now rules ∷ []) (calm_aside state before q) ((λ i. i), tt))
       (each_append (IsWithin (part_of state) w.acted.dirs) before (entry.Starts state clock.now rules ∷ []) (calm_within (part_of state) w.acted.dirs before q) ((λ x i. absurd i), tt)))
 
   -- what a run leaves
-  begun_tools : (before between ts : List Entry) → ts ≡ before ++ (entry.Starts state clock.now rules ∷ (between ++ entry.Ends ∷ [])) → Each IsTools ts → Each IsTools between
-  begun_tools before between ts e tools = each_first IsTools between (entry.Ends ∷ []) (each_later IsTools before (entry.Starts state clock.now rules ∷ (between ++ entry.Ends ∷ [])) (subst (Each IsTools) e tools)).1
+  pub between_made : (before between ts : List Entry) → ts ≡ before ++ (entry.Starts state clock.now rules ∷ (between ++ entry.Ends ∷ [])) → AreMade ts → AreMade between
+  between_made before between ts e made = made_first between (entry.Ends ∷ []) (made_later (entry.Starts state clock.now rules ∷ []) (between ++ entry.Ends ∷ []) (made_later before (entry.Starts state clock.now rules ∷ (between ++ entry.Ends ∷ [])) (subst AreMade e made)))
 
   abbrev IsTextOf : List Entry → List ℕ → Type 0
   IsTextOf ts text = IsNewText state clock asked rules ts text
 
-  pub runs_may : (plan : Option Plan) (own : List Fault) (ts : List Entry) → Each IsTools ts → Runs state asked clock rules plan own ts → MayRenew state (IsTextOf ts) ts
-  runs_may plan own ts tools (no_directory lost e s) = quiet_alone state (IsTextOf ts) ts (sees_quiet (parent_of state) _ ts s)
-  runs_may plan own ts tools (not_seen lost e s) = quiet_alone state (IsTextOf ts) ts (subst AreQuiet (sym s) tt)
-  runs_may plan own ts tools (not_begun lost e t) = left_alone (go t.second)
+  pub runs_may : (plan : Option Plan) (own : List Fault) (ts : List Entry) → AreMade ts → Runs state asked clock rules plan own ts → MayRenew state (IsTextOf ts) ts
+  runs_may plan own ts made (no_directory lost e s) = quiet_alone state (IsTextOf ts) ts (sees_quiet (parent_of state) _ ts s)
+  runs_may plan own ts made (not_seen lost e s) = quiet_alone state (IsTextOf ts) ts (subst AreQuiet (sym s) tt)
+  runs_may plan own ts made (not_begun lost e t) = left_alone (go t.second)
     where
       go : (t.back ≡ []) ⊎ (t.back ≡ entry.Starts state clock.now rules ∷ []) → Each (IsAsideOf state) ts
       go (inl none) = calm_aside state ts (subst AreQuiet (sym (t.joined ∙ (ap (λ es. t.front ++ es) none ∙ append-nil t.front))) (sees_quiet (parent_of state) IsDir t.front t.first))
       go (inr one) = subst (Each (IsAsideOf state)) (sym (t.joined ∙ ap (λ es. t.front ++ es) one)) (each_append (IsAsideOf state) t.front (entry.Starts state clock.now rules ∷ []) (calm_aside state t.front (sees_quiet (parent_of state) IsDir t.front t.first)) ((λ i. i), tt))
-  runs_may plan own ts tools (runs.began i) = subst (MayRenew state (IsTextOf ts)) (sym i.entries)
-      (works_may plan own i.before i.between (sees_quiet (parent_of state) IsDir i.before i.directory) (begun_tools i.before i.between ts i.entries tools) i.within (IsTextOf ts)
+  runs_may plan own ts made (runs.began i) = subst (MayRenew state (IsTextOf ts)) (sym i.entries)
+      (works_may plan own i.before i.between (sees_quiet (parent_of state) IsDir i.before i.directory) (between_made i.before i.between ts i.entries made) i.within (IsTextOf ts)
       (λ text t. record { before = i.before; between = i.between; entries = i.entries; directory = i.directory; within = t }))
 
-  pub answers_may : (earlier : List Fault) (r : Result Ran RunStop) (ts : List Entry) → Each IsTools ts → Answers state false asked clock rules earlier r ts → MayRenew state (IsTextOf ts) ts
-  answers_may earlier (Ok ran) ts tools h = runs_may ran.plan h.0 ts tools h.2
-  answers_may earlier (Err stop.Held) ts tools h = quiet_alone state (IsTextOf ts) ts (sees_quiet (parent_of state) IsDir ts h)
-  answers_may earlier (Err stop.Memory) ts tools (at_first e) = quiet_alone state (IsTextOf ts) ts (subst AreQuiet (sym e) tt)
-  answers_may earlier (Err stop.Memory) ts tools (in_looks i) = subst (MayRenew state (IsTextOf ts)) (sym i.entries) (left_alone (around state state clock rules i.before i.between (calm_aside state i.before (sees_quiet (parent_of state) IsDir i.before i.directory)) (calm_aside state i.between (some_quiet state rules.sets i.between i.within))))
-  answers_may earlier (Err stop.Memory) ts tools (in_acts i) = subst (MayRenew state (IsTextOf ts)) (sym i.entries) (left_alone (around state state clock rules i.before i.between (calm_aside state i.before (sees_quiet (parent_of state) IsDir i.before i.directory)) (broke_aside i.between (begun_tools i.before i.between ts i.entries tools) i.within)))
+  pub answers_may : (earlier : List Fault) (r : Result Ran RunStop) (ts : List Entry) → AreMade ts → Answers state false asked clock rules earlier r ts → MayRenew state (IsTextOf ts) ts
+  answers_may earlier (Ok ran) ts made h = runs_may ran.plan h.0 ts made h.2
+  answers_may earlier (Err stop.Held) ts made h = quiet_alone state (IsTextOf ts) ts (sees_quiet (parent_of state) IsDir ts h)
+  answers_may earlier (Err stop.Memory) ts made (at_first e) = quiet_alone state (IsTextOf ts) ts (subst AreQuiet (sym e) tt)
+  answers_may earlier (Err stop.Memory) ts made (in_looks i) = subst (MayRenew state (IsTextOf ts)) (sym i.entries) (left_alone (around state state clock rules i.before i.between (calm_aside state i.before (sees_quiet (parent_of state) IsDir i.before i.directory)) (calm_aside state i.between (some_quiet state rules.sets i.between i.within))))
+  answers_may earlier (Err stop.Memory) ts made (in_acts i) = subst (MayRenew state (IsTextOf ts)) (sym i.entries) (left_alone (around state state clock rules i.before i.between (calm_aside state i.before (sees_quiet (parent_of state) IsDir i.before i.directory)) (broke_aside i.between (between_made i.before i.between ts i.entries made) i.within)))
 
 -- ---- a call
 
 -- calls that leave the state alone, or renew it
-pub left_whole : (state : Path) (IsText : List Entry → List ℕ → Type 0) (P : List Entry → Type 0) {o n : Option Journal} → Left P o n → ((ts : List Entry) → Each IsTools ts → P ts → MayRenew state (IsText ts) ts) → KeepsWhole state IsText o n
+pub left_whole : (state : Path) (IsText : List Entry → List ℕ → Type 0) (P : List Entry → Type 0) {o n : Option Journal} → Left P o n → ((ts : List Entry) → AreMade ts → P ts → MayRenew state (IsText ts) ts) → KeepsWhole state IsText o n
 left_whole state IsText P not_told f = tt
 left_whole state IsText P (is_told {j = j} {k = k} {es = es} m h) f = λ journal settled spare. record {
   entries = es;
   made = m;
-  each = λ u since until. whole_at state (IsText (reverse es)) (past j) (past k) es m journal (f (reverse es) (each_reverse IsTools es (made_tools (past j) (past k) es m)) h) settled spare u since until;
+  each = λ u since until. whole_at state (IsText (reverse es)) (past j) (past k) es m journal (f (reverse es) (are_made (past j) (past k) es m journal) h) settled spare u since until;
 }
 
 pub run_whole : (state : Path) (asked : Asked) (clock : Clock) (rules : Rules) (earlier : List Fault) (r : Result Ran RunStop) {o n : Option Journal} → Left (Answers state false asked clock rules earlier r) o n → KeepsWhole state (IsNewText state clock asked rules) o n
-run_whole state asked clock rules earlier r l = left_whole state (IsNewText state clock asked rules) (Answers state false asked clock rules earlier r) l (λ ts tools h. answers_may state rules clock asked earlier r ts tools h)
+run_whole state asked clock rules earlier r l = left_whole state (IsNewText state clock asked rules) (Answers state false asked clock rules earlier r) l (λ ts made h. answers_may state rules clock asked earlier r ts made h)

@@ -38,6 +38,7 @@ no_steps = record {
   removes = λ path h. h;
   renames = λ from to h. h;
   creates = λ path mode h. h;
+  makes_dir = λ path mode h. h;
   takes = λ path mode h. h;
   copies = λ from to limit h. h;
   syncs_file = λ path h. h;

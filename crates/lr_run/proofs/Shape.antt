@@ -1,8 +1,8 @@
 -- The entries of a run are those of one that looks first, and rotates then.
-use Rattle.std.proofs.Common.{◌≡◌, ◌⊎◌, inl, inr, ⊎_elim, ℕ, Option, Some, None, false, List, [], ◌∷◌, ◌++◌, Result, Ok, Err, refl, sym, ap, ◌∙◌, subst, append_assoc}
+use Rattle.std.proofs.Common.{◌≡◌, ◌⊎◌, inl, inr, ℕ, Option, Some, None, false, List, [], ◌∷◌, ◌++◌, Result, Ok, Err, refl, sym, ap, ◌∙◌, subst, append_assoc}
 use Rattle.std.specs.Prelude.{filter}
 use Rattle.std.proofs.lemmas.List.{append-nil}
-use Rattle.std.proofs.lemmas.List.Elements.{All-weaker, filter-append}
+use Rattle.std.proofs.lemmas.List.Elements.{filter-append}
 use Rattle.lr_rules.specs.declared.clock.Clock.{Clock}
 use Rattle.lr_rules.specs.declared.fault.Fault.{Fault}
 use Rattle.lr_rules.specs.declared.path.Path.{Path}
@@ -33,11 +33,10 @@ use Rattle.lr_plan.specs.declared.looks.LogLook.{LogLook}
 use Rattle.lr_plan.specs.Planned.{decision}
 use Rattle.lr_targets.specs.AllTurns.{IsOfSome, IsOfState, StandsBetween}
 use Rattle.lr_reading.proofs.Quiet.{state_quiet}
-use Rattle.lr_targets.specs.Target.{Target, rotation_of, IsGiven, IsJobOf}
+use Rattle.lr_targets.specs.Target.{Target, rotation_of, IsGiven, IsDirSeenBy, IsJobOf}
 use Rattle.lr_rotations.specs.Weave.{Weave, FirstWoven, Among}
 use Rattle.lr_rotations.proofs.Moments.{shown_in}
 use Rattle.lr_rotations.proofs.Weaving.{weave_on, weave_others}
-use Rattle.lr_dated_seen.specs.Shown.{WasSeen, ShownDated}
 use Rattle.lr_mixed.specs.AllTurns.{AllTurnsBy, AllTurnedBy, started, IsWholeRunBy}
 use Rattle.lr_mixed.specs.Seen.{IsSeenBy, AreLogsSeen}
 use Rattle.lr_weave.proofs.Parting.{done_turns, cut_turns}
@@ -162,6 +161,18 @@ shows_later maxage clock xs looks t (Some format) s = record {
   ready = s.ready;
 }
 
+-- the directory was seen, or was missing
+dir_later : (log : Path) (n : Naming) (members : List Member) (job : Option Job) (xs looks : List Entry) (d : Option (Path × Option ℕ)) → IsDirSeenBy d log n members job looks → IsDirSeenBy d log n members job (xs ++ looks)
+dir_later log n members job xs looks None s = (s.0, s.1, in_behind _ xs looks s.2)
+dir_later log n members job xs looks (Some (dir, mode)) s = record {
+  dir_is = s.dir_is;
+  apart = s.apart;
+  gone = in_behind _ xs looks s.gone;
+  parent = (s.parent.0, s.parent.1, in_behind _ xs looks s.parent.2);
+  no_members = s.no_members;
+  not_stale = s.not_stale;
+}
+
 pub seen_later : (rules : Rules) (clock : Clock) (xs looks : List Entry) (ts : List Target) → AreLogsSeen rules clock looks ts → AreLogsSeen rules clock (xs ++ looks) ts
 unfolding given_later
 seen_later rules clock xs looks [] s = tt
@@ -170,6 +181,8 @@ seen_later rules clock xs looks (t ∷ ts) s = (
     given = given_later xs looks s.0.given;
     log_seen = among_later (Sees t.log IsFile) xs looks s.0.log_seen;
     shows = shows_later s.0.given.rule.maxage clock xs looks t t.naming.dated s.0.shows;
+    maxage_is = s.0.maxage_is;
+    dir = dir_later t.log t.naming t.stand.members t.job xs looks t.ready.dir s.0.dir;
     job = job_later s.0.job;
   },
   seen_later rules clock xs looks ts s.1,

@@ -1,5 +1,5 @@
 -- The steps of a plan: unlinks, renames, makings of logs, the steps of copies, programs and marks alone.
-use Rattle.std.proofs.Common.{◌≡◌, ℕ, Bool, true, false, not, List, [], ◌∷◌, ◌++◌, map, Option, Some, None, refl, sym, subst}
+use Rattle.std.proofs.Common.{ℕ, Bool, true, false, not, List, [], ◌∷◌, ◌++◌, map, Option, Some, None, refl}
 use Rattle.std.specs.List.{flat_map}
 use Rattle.lr_rules.specs.declared.clock.Clock.{Clock}
 use Rattle.lr_rules.specs.declared.fault.Fault.{Fault}
@@ -8,7 +8,6 @@ use Rattle.lr_rules.specs.declared.fault.Phase.TheVariants as phase
 use Rattle.lr_rules.specs.declared.path.Path.{Path}
 use Rattle.lr_rules.specs.declared.rule.Make.{Make}
 use Rattle.lr_rules.specs.declared.rule.Make.TheVariants as make
-use Rattle.lr_rules.specs.declared.rule.Format.{Format}
 use Rattle.lr_rules.specs.declared.rule.Rule.{Rule}
 use Rattle.lr_rules.specs.declared.rule.Way.{Way}
 use Rattle.lr_rules.specs.declared.rule.Way.TheVariants as way
@@ -25,8 +24,8 @@ use Rattle.lr_plan.specs.declared.looks.SetLooks.{SetLooks}
 use Rattle.lr_plan.specs.declared.planned.LogPlan.{LogPlan}
 use Rattle.lr_plan.specs.declared.planned.SetPlan.{SetPlan}
 use Rattle.lr_plan.specs.declared.step.Step.{Step}
-use Rattle.lr_plan.specs.declared.step.Step.TheVariants.{Runs, Removes, Renames, Creates, Takes, Copies, SyncsFile, SyncsDir, Truncates, Rotated}
-use Rattle.lr_plan.specs.Planned.{copy_job, job_by, hindrances, ready_by, ready_for, plan_with, log_plan, none_hinders, plans_of, where_due, log_plans, set_plan, all_plans}
+use Rattle.lr_plan.specs.declared.step.Step.TheVariants.{Runs, Removes, MakesDir, Renames, Creates, Takes, Copies, SyncsFile, SyncsDir, Truncates, Rotated}
+use Rattle.lr_plan.specs.Planned.{copy_job, job_by, hindrances, standing, ready_for, plan_with, log_plan, none_hinders, plans_of, where_due, log_plans, set_plan, all_plans}
 use Rattle.lr_plan.specs.Steps.{program, removal, removals, directory, move, step_if, copy, transfer, anew, made_anew, rotation_of, retirement_of, steps_of_log, shared_steps, by_logs, steps_of_set}
 use Rattle.lr_acts.specs.Making.{all_of_each, all_of_set, all_of_sets}
 
@@ -46,11 +45,12 @@ step_split P (x ∷ xs) ys h = let r = step_split P xs ys h.1 in ((h.0, r.0), r.
 
 -- ---- what holds of the steps of each plan, where Q holds of the texts of its scripts and of its addresses
 
--- P holds of an unlink, a rename, the making of a log and a mark, of the steps of a copy, whose part file has the ending of one, and of the programs of a script and of an address of which Q holds
+-- P holds of an unlink, a rename, the making of a log or of a directory and a mark, of the steps of a copy, whose part file has the ending of one, and of the programs of a script and of an address of which Q holds
 pub record IsOfSteps (P : Step → Type 0) (Q : Option (List ℕ) → Type 0) : Type 0 where
   pub removes : (path : Path) → P (Removes path)
   pub renames : (from to : Path) → P (Renames from to)
   pub creates : (path : Path) (mode : Option ℕ) → P (Creates path mode)
+  pub makes_dir : (path : Path) (mode : Option ℕ) → P (MakesDir path mode)
   pub takes : (path : Path) (mode : Option ℕ) → P (Takes (part_of path) mode)
   pub copies : (from to : Path) (limit : ℕ) → P (Copies from to limit)
   pub syncs_file : (path : Path) → P (SyncsFile path)
@@ -96,6 +96,10 @@ module _ (P : Step → Type 0) (Q : Option (List ℕ) → Type 0) (k : IsOfSteps
   moves_so [] = tt
   moves_so (m ∷ ms) = (k.renames _ _, moves_so ms)
 
+  directory_so : (dir : Option (Path × Option ℕ)) → EachStep P (directory dir)
+  directory_so None = tt
+  directory_so (Some (path, mode)) = (k.makes_dir path mode, tt)
+
   anew_so : (m : Make) (log : Path) → EachStep P (anew m log)
   anew_so make.No log = tt
   anew_so (make.Yes mode) log = (k.creates log mode, tt)
@@ -130,11 +134,11 @@ module _ (P : Step → Type 0) (Q : Option (List ℕ) → Type 0) (k : IsOfSteps
   AreLogsSo [] = Unit {0}
   AreLogsSo (log ∷ logs) = IsLogSo log × AreLogsSo logs
 
-  -- by a rotation in a directory that is there
-  with_so : (mailer : Path) (rule : Rule) (look : LogLook) (ready : Ready) → ready.dir ≡ None → IsOfScripts Q rule → IsLogSo (plan_with mailer rule look ready)
-  with_so mailer rule look ready no_dir h = record {
+  -- by a rotation
+  with_so : (mailer : Path) (rule : Rule) (look : LogLook) (ready : Ready) → IsOfScripts Q rule → IsLogSo (plan_with mailer rule look ready)
+  with_so mailer rule look ready h = record {
     rotation = step_both P (removals (map (with_programs rule mailer ready.log) ready.leftovers)) _ (removals_so mailer rule ready.log ready.leftovers h)
-        (step_both P (directory ready.dir) _ (subst (λ d. EachStep P (directory d)) (sym no_dir) tt)
+        (step_both P (directory ready.dir) _ (directory_so ready.dir)
         (step_both P (map move ready.moves) _ (moves_so ready.moves)
         (step_both P (transfer ready.log ready.target (job_by rule.way look ready.target)) _ (transfer_so rule.way look ready.log ready.target)
         (k.rotated _, made_so rule.way look ready.target ready.make ready.log))));
@@ -146,11 +150,7 @@ module _ (P : Step → Type 0) (Q : Option (List ℕ) → Type 0) (k : IsOfSteps
   }
 
   log_so : (clock : Clock) (mailer : Path) (rule : Rule) (look : LogLook) → IsOfScripts Q rule → IsLogSo (log_plan clock mailer rule look)
-  log_so clock mailer rule look h = with_so mailer rule look (ready_for clock rule look) (no_dir look.family.naming.dated) h
-    where
-      no_dir : (d : Option Format) → (ready_by d clock rule look).dir ≡ None
-      no_dir None = refl
-      no_dir (Some format) = refl
+  log_so clock mailer rule look h = with_so mailer rule (standing rule look) (ready_for clock rule look) h
 
   logs_both : (xs ys : List LogPlan) → AreLogsSo xs → AreLogsSo ys → AreLogsSo (xs ++ ys)
   logs_both [] ys h g = g
@@ -231,6 +231,7 @@ IsSimple (Runs phase on command) = Unit {0}
 IsSimple (Removes path) = Unit {0}
 IsSimple (Renames from to) = Unit {0}
 IsSimple (Creates path mode) = Unit {0}
+IsSimple (MakesDir path mode) = Unit {0}
 IsSimple (Takes path mode) = EndsWith path part_end
 IsSimple (Copies from to limit) = Unit {0}
 IsSimple (SyncsFile path) = Unit {0}
@@ -262,6 +263,7 @@ simple_steps = record {
   removes = λ path. tt;
   renames = λ from to. tt;
   creates = λ path mode. tt;
+  makes_dir = λ path mode. tt;
   takes = λ path mode. (path, refl);
   copies = λ from to limit. tt;
   syncs_file = λ path. tt;

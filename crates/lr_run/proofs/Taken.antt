@@ -40,7 +40,7 @@ use Rattle.lr_plan.specs.declared.looks.Looks.{Looks}
 use Rattle.lr_plan.specs.declared.looks.SetLooks.{SetLooks}
 use Rattle.lr_plan.specs.declared.planned.Plan.{Plan}
 use Rattle.lr_plan.specs.declared.step.SetSteps.{SetSteps}
-use Rattle.lr_plan.specs.Planned.{decision, numbered_hindrances, hindrances_by, hindrances, is_too_high, where_due, log_faults, all_faults}
+use Rattle.lr_plan.specs.Planned.{decision, stand_for, standing, numbered_hindrances, hindrances_by, hindrances, is_too_high, where_due, log_faults, all_faults}
 use Rattle.lr_plan.specs.Steps.{steps_of_plan, state_steps}
 use Rattle.lr_plan.specs.Course.{Course}
 use Rattle.lr_plan.specs.Done.{SetsDone, rotated_logs}
@@ -209,9 +209,9 @@ dated_long n stand seconds = go stand.there (has_serials n.dated)
 hindered_long : (clock : Clock) (rule : Rule) (look : LogLook) → NoneLong (hindrances clock rule look)
 hindered_long clock rule look = go look.family.naming.dated
   where
-    go : (d : Option Format) → NoneLong (hindrances_by d clock rule look)
-    go None = numbered_long rule look
-    go (Some format) = dated_long look.family.naming look.stand (clock_seconds look.family.naming.dated clock)
+    go : (d : Option Format) → NoneLong (hindrances_by d clock rule (standing rule look))
+    go None = numbered_long rule (standing rule look)
+    go (Some format) = dated_long look.family.naming (stand_for rule look) (clock_seconds look.family.naming.dated clock)
 
 due_long : (d : Due) (fs : List Fault) → NoneLong fs → NoneLong (where_due d fs)
 due_long (due.Yes why) fs h = h
@@ -240,11 +240,11 @@ hindered_taken state rules looks remembered clock asked ready x y z a b k l r no
     untold : {P : List Entry → Type 0} {n : Option Journal} → Left P None n → WasTaken path None n
     untold not_told = no_journal
 hindered_taken state rules looks remembered clock asked ready x y z a b {n = n} k l r (is_told {j = i} {k = j} {es = es} made g) h path told =
-    plan_taken state rules looks.sets g.own (reverse es) clock asked.mailer (decision remembered.table clock.now asked.force) ready.writing.stale ready.writing.dirs _ h.marks h.of_plan h.of_state i j es made refl g.shown acts path told
+    plan_taken state rules looks.sets g.own (reverse es) clock asked.mailer (decision remembered.table clock.now asked.force) ready.writing.stale h.dirs _ h.marks h.of_plan h.of_state i j es made refl g.shown acts path told
   where
-    acts : Left (Then (SetsDone (steps_of_plan (PlanFor rules looks remembered clock asked)) h.marks h.of_plan) (Course (state_steps state ready.writing.stale ready.writing.dirs (text_of (map (stamped (rotated_logs h.marks) clock.now.civil) ready.table))) [] h.of_state)) (Some j) n
-    acts = subst (λ (x : Path). Left (Then (SetsDone (steps_of_plan (PlanFor rules looks remembered clock asked)) h.marks h.of_plan) (Course (state_steps x ready.writing.stale ready.writing.dirs (text_of (map (stamped (rotated_logs h.marks) clock.now.civil) ready.table))) [] h.of_state)) (Some j) n) (ap (λ (w : Target). w.state) r.is.writes.2)
-        (subst (λ (ss : List SetSteps). Left (Then (SetsDone ss h.marks h.of_plan) (Course (state_steps ready.writing.state ready.writing.stale ready.writing.dirs (text_of (map (stamped (rotated_logs h.marks) clock.now.civil) ready.table))) [] h.of_state)) (Some j) n) r.is.steps h.entries)
+    acts : Left (Then (SetsDone (steps_of_plan (PlanFor rules looks remembered clock asked)) h.marks h.of_plan) (Course (state_steps state ready.writing.stale h.dirs (text_of (map (stamped (rotated_logs h.marks) clock.now.civil) ready.table))) [] h.of_state)) (Some j) n
+    acts = subst (λ (x : Path). Left (Then (SetsDone (steps_of_plan (PlanFor rules looks remembered clock asked)) h.marks h.of_plan) (Course (state_steps x ready.writing.stale h.dirs (text_of (map (stamped (rotated_logs h.marks) clock.now.civil) ready.table))) [] h.of_state)) (Some j) n) (ap (λ (w : Target). w.state) r.is.writes)
+        (subst (λ (ss : List SetSteps). Left (Then (SetsDone ss h.marks h.of_plan) (Course (state_steps ready.writing.state ready.writing.stale h.dirs (text_of (map (stamped (rotated_logs h.marks) clock.now.civil) ready.table))) [] h.of_state)) (Some j) n) r.is.steps h.entries)
 
 -- the acts, behind the faults of the plan
 pub carried_taken : {T : Type 0} (r : Result T Memory) (state : Path) (rules : Rules) (looks : Looks) (remembered : Remembered) (clock : Clock) (asked : Asked) (plan : Option Plan) (ready : Ready) (x y z : Progress) (m n : Option Journal) (k l : Counts)
@@ -256,7 +256,7 @@ carried_taken (Ok u) state rules looks remembered clock asked plan ready x y z m
   after_is = h.faults_are ∙ (ap (λ (fs : List Fault). fs ++ (h.of_plan ++ h.of_state)) r.is.faults ∙ append_assoc x.faults.items (PlanFor rules looks remembered clock asked).faults (h.of_plan ++ h.of_state));
   taken = λ p e. record {
     stale = remembered.stale;
-    dirs = r.is.writes.0;
+    dirs = h.dirs;
     text = h.text;
     taken = λ path last i. ⊎_elim (λ a. hindered_taken state rules looks remembered clock asked ready x y z seen.faults seen.all_faults k l r seen.looked h path a) (λ b. h.taken.taken path (steps_are p e path last) b)
         (in_append (fault.Taken path) (PlanFor rules looks remembered clock asked).faults (h.of_plan ++ h.of_state) i);
@@ -266,10 +266,10 @@ carried_taken (Ok u) state rules looks remembered clock asked plan ready x y z m
     same : (p : Plan) → plan ≡ Some p → PlanFor rules looks remembered clock asked ≡ p
     same p e = let both : Some (PlanFor rules looks remembered clock asked) ≡ Some p = sym is ∙ e in cc
 
-    steps_are : (p : Plan) → plan ≡ Some p → (path : Path) → LastTaken path (all_of_sets (steps_of_plan p) ++ state_steps state remembered.stale r.is.writes.0 h.text) → LastTaken path (all_of_sets ready.steps ++ state_steps ready.writing.state ready.writing.stale ready.writing.dirs h.text)
+    steps_are : (p : Plan) → plan ≡ Some p → (path : Path) → LastTaken path (all_of_sets (steps_of_plan p) ++ state_steps state remembered.stale h.dirs h.text) → LastTaken path (all_of_sets ready.steps ++ state_steps ready.writing.state ready.writing.stale h.dirs h.text)
     steps_are p e path last =
-        subst (λ (w : Target). LastTaken path (all_of_sets ready.steps ++ state_steps w.state w.stale w.dirs h.text)) (sym r.is.writes.2)
-        (subst (λ (ss : List SetSteps). LastTaken path (all_of_sets ss ++ state_steps state remembered.stale r.is.writes.0 h.text)) (sym (r.is.steps ∙ ap steps_of_plan (same p e))) last)
+        subst (λ (w : Target). LastTaken path (all_of_sets ready.steps ++ state_steps w.state w.stale h.dirs h.text)) (sym r.is.writes)
+        (subst (λ (ss : List SetSteps). LastTaken path (all_of_sets ss ++ state_steps state remembered.stale h.dirs h.text)) (sym (r.is.steps ∙ ap steps_of_plan (same p e))) last)
 
 -- it came to no plan
 pub none_adds : (state : Path) (plan : Option Plan) (a b added : List Fault) (o n : Option Journal) → plan ≡ None → b ≡ a ++ added → AddsTaken state plan a b o n

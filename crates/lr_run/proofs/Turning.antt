@@ -14,7 +14,6 @@ use Rattle.lr_host.specs.Opening.{IsJournal}
 use Rattle.lr_host.specs.Quiet.{AreQuiet}
 use Rattle.lr_host.specs.Told.{Made}
 use Rattle.lr_host.specs.World.{Past}
-use Rattle.lr_host.specs.Counted.{calls_in, scripts_in}
 use Rattle.lr_family.specs.Parts.{part_of}
 use Rattle.lr_family.specs.Spots.{path_at}
 use Rattle.lr_copy.specs.declared.job.Job.{Job}
@@ -24,7 +23,7 @@ use Rattle.lr_plan.specs.Done.{PlanDone}
 use Rattle.lr_emptied.specs.Emptied.{EmptiesCopied}
 use Rattle.lr_emptied.proofs.Acts.{state_copying}
 use Rattle.lr_emptied.proofs.Entries.{none_empties, both_empty}
-use Rattle.lr_targets.specs.AllTurns.{other_paths}
+use Rattle.lr_targets.specs.AllTurns.{paths_beside}
 use Rattle.lr_targets.specs.Apart.{HasNames}
 use Rattle.lr_rotations.specs.Members.{IsFamily, IsNoMember}
 use Rattle.lr_rotations.specs.Rotated.{AreOutside}
@@ -53,25 +52,25 @@ use Rattle.lr_dated_copied.proofs.Turned.{seen_members, turned_by_copy as dated_
 use Rattle.lr_seen.specs.Targets.{groups_of}
 use Rattle.lr_seen.proofs.Apart.{targets_apart}
 use Rattle.lr_seen.proofs.Ready.{plans_have_logs}
-use Rattle.lr_run.specs.Copied.{NoneOfCopy}
+use Rattle.lr_run.specs.Met.{MetNothing}
 use Rattle.lr_run.specs.Rotated.{rotated_in}
-use Rattle.lr_run.specs.Runs.{Inside, Worked, plan_in}
+use Rattle.lr_run.specs.Runs.{Inside, Worked, plan_in, dirs_in}
 use Rattle.lr_run.specs.Turned.{IsTurnedAmong, IsDatedTurnedAmong}
 use Rattle.lr_run.proofs.Rotating as rotating
 
 module _ (state : Path) (asked : Asked) (clock : Clock) (rules : Rules) (own : List Fault) (p q : Past) (es reads acts : List Entry) (made : Made p es q) (journal : IsJournal p) (joined : reverse es ≡ reads ++ acts) (quiet : AreQuiet reads)
-    (i : Inside state clock rules (Worked state rules.sets clock asked own) acts) (no_call : calls_in own ≡ 0) (no_end : scripts_in own ≡ 0) (no_copy : NoneOfCopy own) (t : Target) (one : IsOneOf t (rotated_in state rules.sets i.between i.within.looked clock asked)) (job : Job) (job_is : t.job ≡ Some job) where
+    (i : Inside state clock rules (Worked state rules.sets clock asked own) acts) (met : MetNothing (dirs_in (plan_in state rules.sets i.between i.within.looked clock asked)) own) (t : Target) (one : IsOneOf t (rotated_in state rules.sets i.between i.within.looked clock asked)) (job : Job) (job_is : t.job ≡ Some job) where
   abbrev all : AllTurnedBy state clock rules ((((i.within.looked.reads ++ i.within.looked.looks) ++ i.within.acted.entries.entries.front) ++ i.within.acted.entries.entries.back) ++ entry.Ends ∷ [])
-  all = rotating.turned state asked clock rules own p q es reads acts made journal joined quiet i no_call no_end no_copy t one
+  all = rotating.turned state asked clock rules own p q es reads acts made journal joined quiet i met t one
 
   abbrev seen : IsLogSeen rules clock all.turns.looks t
-  seen = rotating.seen state asked clock rules own p q es reads acts made journal joined quiet i no_call no_end no_copy t one
+  seen = rotating.seen state asked clock rules own p q es reads acts made journal joined quiet i met t one
 
   abbrev w : Worked state rules.sets clock asked own i.between
   w = i.within
 
   abbrev others : List Path
-  others = other_paths state t.log (rotated_in state rules.sets i.between i.within.looked clock asked)
+  others = paths_beside state t (rotated_in state rules.sets i.between i.within.looked clock asked)
 
   is_job : IsJob t job
   is_job = (seen.job job job_is).0
@@ -80,9 +79,9 @@ module _ (state : Path) (asked : Asked) (clock : Clock) (rules : Rules) (own : L
   paths = log_paths rules clock all.turns.looks t seen job job_is
 
   done : PlanDone (plan_in state rules.sets i.between w.looked clock asked) w.acted.marks [] w.acted.entries.entries.front
-  done = subst (λ (fs : List Fault). PlanDone (plan_in state rules.sets i.between w.looked clock asked) w.acted.marks fs w.acted.entries.entries.front) (rotating.met_none state asked clock rules own p q es reads acts made journal joined quiet i no_call no_end no_copy t one) w.acted.entries.entries.first
+  done = subst (λ (fs : List Fault). PlanDone (plan_in state rules.sets i.between w.looked clock asked) w.acted.marks fs w.acted.entries.entries.front) (rotating.met_none state asked clock rules own p q es reads acts made journal joined quiet i met t one) w.acted.entries.entries.first
 
-  logs : HaveLogs (groups_of clock (rotating.decide state asked clock rules own p q es reads acts made journal joined quiet i no_call no_end no_copy t one) rules.sets w.looked.sets) (plan_in state rules.sets i.between w.looked clock asked).sets
+  logs : HaveLogs (groups_of clock (rotating.decide state asked clock rules own p q es reads acts made journal joined quiet i met t one) rules.sets w.looked.sets) (plan_in state rules.sets i.between w.looked clock asked).sets
   logs = plans_have_logs rules.sets w.looked.sets w.looked.of_looks w.looked.looks clock asked.mailer _ w.looked.shown
 
   apart : AreApart (rotated_in state rules.sets i.between i.within.looked clock asked)
@@ -103,7 +102,7 @@ module _ (state : Path) (asked : Asked) (clock : Clock) (rules : Rules) (own : L
 
   module _ (numbered : t.naming.dated ≡ None) where
     has : HasNames t
-    has = rotating.has state asked clock rules own p q es reads acts made journal joined quiet i no_call no_end no_copy t one numbered
+    has = rotating.has state asked clock rules own p q es reads acts made journal joined quiet i met t one numbered
 
     family : IsFamily job.from t.naming
     family = subst (λ (y : Path). IsFamily y t.naming) (sym is_job.from_is) has.family
@@ -116,11 +115,11 @@ module _ (state : Path) (asked : Asked) (clock : Clock) (rules : Rules) (own : L
 
     outside : AreOutside (job.part ∷ others) job.from t.naming
     outside x (inl is) = (λ e. paths.part_apart (is ∙ e), subst (IsNoMember t.naming) is no_member)
-    outside x (inr j) = let o = rotating.aside_paths state asked clock rules own p q es reads acts made journal joined quiet i no_call no_end no_copy t one numbered x j in (λ e. o.0 (e ∙ is_job.from_is), o.1)
+    outside x (inr j) = let o = rotating.aside_paths state asked clock rules own p q es reads acts made journal joined quiet i met t one numbered x j in (λ e. o.0 (e ∙ is_job.from_is), o.1)
 
     among : CopiesAmong others job t.naming t.count t.from t.stand (reverse es)
-    among = subst (CopiesAmong others job t.naming t.count t.from t.stand) (sym (rotating.whole_run state asked clock rules own p q es reads acts made journal joined quiet i no_call no_end no_copy t one))
-        (copies_among state clock rules (reads ++ i.before) _ all t job (rotating.quiet_first state asked clock rules own p q es reads acts made journal joined quiet i no_call no_end no_copy t one) one job_is numbered outside stands copies)
+    among = subst (CopiesAmong others job t.naming t.count t.from t.stand) (sym (rotating.whole_run state asked clock rules own p q es reads acts made journal joined quiet i met t one))
+        (copies_among state clock rules (reads ++ i.before) _ all t job (rotating.quiet_first state asked clock rules own p q es reads acts made journal joined quiet i met t one) one job_is numbered outside stands copies)
 
     pub run_turned : IsTurnedAmong state (rotated_in state rules.sets i.between i.within.looked clock asked) p q t job
     run_turned = λ spared. (
@@ -131,9 +130,6 @@ module _ (state : Path) (asked : Asked) (clock : Clock) (rules : Rules) (own : L
   -- ---- a log with dates
 
   module _ (format : Format) (is : t.naming.dated ≡ Some format) where
-    abbrev maxage : Option ℕ
-    maxage = seen.given.rule.maxage
-
     abbrev stamp : ℤ
     stamp = clock_seconds t.naming.dated clock
 
@@ -163,27 +159,21 @@ module _ (state : Path) (asked : Asked) (clock : Clock) (rules : Rules) (own : L
 
     dated_outside : AreDatedOutside (job.part ∷ others) job.from t.naming
     dated_outside x (inl same) = (λ e. paths.part_apart (same ∙ e), subst (IsNoDated t.naming) same no_dated)
-    dated_outside x (inr j) = let o = rotating.dated_aside_paths state asked clock rules own p q es reads acts made journal joined quiet i no_call no_end no_copy t one x j in (λ e. o.0 (e ∙ is_job.from_is), o.1)
+    dated_outside x (inr j) = let o = rotating.dated_aside_paths state asked clock rules own p q es reads acts made journal joined quiet i met t one x j in (λ e. o.0 (e ∙ is_job.from_is), o.1)
 
-    dated_among : DatedCopiesAmong others job t.naming t.count target (all_by t.naming maxage clock t.stand.members) t.stand.members (reverse es)
-    dated_among = subst (DatedCopiesAmong others job t.naming t.count target (all_by t.naming maxage clock t.stand.members) t.stand.members) (sym (rotating.whole_run state asked clock rules own p q es reads acts made journal joined quiet i no_call no_end no_copy t one))
-        (dated_copies_among state clock rules (reads ++ i.before) _ all t job (rotating.quiet_first state asked clock rules own p q es reads acts made journal joined quiet i no_call no_end no_copy t one) one job_is seen format is dated_outside stands copies)
+    dated_among : DatedCopiesAmong others job t.naming t.count target (all_by t.naming t.maxage clock t.stand.members) t.stand.members (reverse es)
+    dated_among = subst (DatedCopiesAmong others job t.naming t.count target (all_by t.naming t.maxage clock t.stand.members) t.stand.members) (sym (rotating.whole_run state asked clock rules own p q es reads acts made journal joined quiet i met t one))
+        (dated_copies_among state clock rules (reads ++ i.before) _ all t job (rotating.quiet_first state asked clock rules own p q es reads acts made journal joined quiet i met t one) one job_is seen format is dated_outside stands copies)
 
-    dated_turned : IsDatedTurnedAmong state rules.sets (rotated_in state rules.sets i.between i.within.looked clock asked) clock p q t job
-    dated_turned = record {
-      rule = seen.given.rule;
-      among = seen.given.among;
-      naming_is = seen.given.naming_is;
-      count_is = seen.given.count_is;
-      turned = λ spared. (
-        seen_members others job t.naming t.count maxage clock.now.seconds stamp serial target t.stand.members p q es made journal dated_family next at stamped_to paths spared dated_outside dated_among,
-        dated_turned_by_copy others job t.naming t.count maxage clock.now.seconds stamp serial target t.stand.members p q es made journal dated_family next at stamped_to paths spared dated_outside dated_among,
-      );
-    }
+    dated_turned : IsDatedTurnedAmong state (rotated_in state rules.sets i.between i.within.looked clock asked) clock p q t job
+    dated_turned = λ spared. (
+      seen_members others job t.naming t.count t.maxage clock.now.seconds stamp serial target t.stand.members p q es made journal dated_family next at stamped_to paths spared dated_outside dated_among,
+      dated_turned_by_copy others job t.naming t.count t.maxage clock.now.seconds stamp serial target t.stand.members p q es made journal dated_family next at stamped_to paths spared dated_outside dated_among,
+    )
 
-  pub run_dated_turned : IsSome t.naming.dated → IsDatedTurnedAmong state rules.sets (rotated_in state rules.sets i.between i.within.looked clock asked) clock p q t job
+  pub run_dated_turned : IsSome t.naming.dated → IsDatedTurnedAmong state (rotated_in state rules.sets i.between i.within.looked clock asked) clock p q t job
   run_dated_turned dated = go t.naming.dated refl dated
     where
-      go : (d : Option Format) → t.naming.dated ≡ d → IsSome d → IsDatedTurnedAmong state rules.sets (rotated_in state rules.sets i.between i.within.looked clock asked) clock p q t job
+      go : (d : Option Format) → t.naming.dated ≡ d → IsSome d → IsDatedTurnedAmong state (rotated_in state rules.sets i.between i.within.looked clock asked) clock p q t job
       go None is some = absurd (rotating.no_format some)
       go (Some format) is some = dated_turned format is

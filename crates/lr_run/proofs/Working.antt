@@ -1,5 +1,5 @@
 -- Between its begin and its end a run leaves looks, listings, reads, changes, syncs and programs alone, so it goes on.
-use Rattle.std.proofs.Common.{◌≡◌, ◌⊎◌, inl, inr, ℕ, true, List, [], ◌∷◌, reverse, Option, refl, sym, ap, ◌∙◌, subst}
+use Rattle.std.proofs.Common.{◌≡◌, ◌⊎◌, inl, inr, ⊎_elim, ℕ, true, List, [], ◌∷◌, reverse, Option, refl, sym, ap, ◌∙◌, subst}
 use Rattle.std.proofs.lemmas.List.{reverse-reverse}
 use Rattle.lr_rules.specs.declared.path.Path.{Path}
 use Rattle.lr_rules.specs.declared.clock.Clock.{Clock}
@@ -17,8 +17,8 @@ use Rattle.lr_scripts.specs.declared.command.Command.{Command}
 use Rattle.lr_plan.specs.declared.mark.Mark.{Mark}
 use Rattle.lr_plan.specs.declared.step.SetSteps.{SetSteps}
 use Rattle.lr_plan.specs.declared.step.Step.{Step}
-use Rattle.lr_plan.specs.declared.step.Step.TheVariants.{Runs, Removes, Renames, Creates, Takes, Copies, SyncsFile, SyncsDir, Truncates, Rotated}
-use Rattle.lr_plan.specs.Outcomes.{Succeeds, Fails, ProgramFailed, badly, not_run, maybe_run}
+use Rattle.lr_plan.specs.declared.step.Step.TheVariants.{Runs, Removes, MakesDir, Renames, Creates, Takes, Copies, SyncsFile, SyncsDir, Truncates, Rotated}
+use Rattle.lr_plan.specs.Outcomes.{Succeeds, Fails, ProgramFailed, badly, not_run, maybe_run, DirFailed, at_make, at_look, no_dir}
 use Rattle.lr_plan.specs.Done.{SetsDone}
 use Rattle.lr_plan.specs.Internal.Cut.{SetsCut}
 use Rattle.lr_acts.specs.Making.{all_of_sets}
@@ -57,6 +57,7 @@ made_work : (s : Step) (ts : List Entry) → IsSimple s → Succeeds s ts → Ar
 made_work (Runs p on command) ts i h = are_work ts _ h (tt, tt)
 made_work (Removes path) ts i h = are_work ts _ h (tt, tt)
 made_work (Renames from to) ts i h = are_work ts _ h (tt, tt)
+made_work (MakesDir path mode) ts i h = ⊎_elim (λ one. are_work ts _ one (tt, tt)) (λ saw. are_work ts _ saw.look (tt, tt)) h
 made_work (Creates path mode) ts i h = maybe_work (entry.Makes path mode) ts tt h
 made_work (Takes path mode) ts i h = are_work ts _ h (tt, tt)
 made_work (Copies from to limit) ts i h = each_all IsWork from to (λ k piece. tt) (λ piece. tt) limit h.0 ts h.1
@@ -75,10 +76,16 @@ take_work : (path : Path) (mode : Option ℕ) (f : Fault) (ts : List Entry) → 
 take_work path mode f ts (inl h) = maybe_work (entry.Makes path mode) ts tt h.1
 take_work path mode f ts (inr h) = are_work ts [] h.1 tt
 
+dir_work : (path : Path) (mode : Option ℕ) (f : Fault) (ts : List Entry) → DirFailed path mode f ts → AreWork ts
+dir_work path mode f ts (at_make h) = maybe_work (entry.MakesDir path mode) ts tt h.1
+dir_work path mode f ts (at_look e o) = are_work ts [] o tt
+dir_work path mode f ts (no_dir e saw) = are_work ts _ saw.look (tt, tt)
+
 failed_work : (s : Step) (f : Fault) (ts : List Entry) → IsSimple s → Fails s f ts → AreWork ts
 failed_work (Runs p on command) f ts i h = program_work p on command f ts h
 failed_work (Removes path) f ts i h = maybe_work (entry.Unlinks path) ts tt h.1
 failed_work (Renames from to) f ts i h = maybe_work (entry.Renames from to) ts tt h.1
+failed_work (MakesDir path mode) f ts i h = dir_work path mode f ts h
 failed_work (Creates path mode) f ts i h = maybe_work (entry.Makes path mode) ts tt h.1
 failed_work (Takes path mode) f ts i h = take_work path mode f ts h
 failed_work (Copies from to limit) f ts i h = each_broke IsWork from to (λ k piece. tt) (λ piece. tt) limit h.0 ts h.2
@@ -91,7 +98,7 @@ failed_work _ f ts i h = absurd i
 -- ---- all of them
 
 -- the acts leave work alone
-work_folds : Folds (λ fs ts. AreWork ts)
+work_folds : Folds IsSimple (λ fs ts. AreWork ts)
 work_folds = record {
   none = tt;
   made = made_work;
@@ -100,10 +107,10 @@ work_folds = record {
 }
 
 pub sets_work : (sets : List SetSteps) (ms : List Mark) (fs : List Fault) (ts : List Entry) → AreSimple (all_of_sets sets) → SetsDone sets ms fs ts → AreWork ts
-sets_work sets ms fs ts i h = acts_fold (λ fs ts. AreWork ts) work_folds sets ms fs ts i h
+sets_work sets ms fs ts i h = acts_fold IsSimple (λ fs ts. AreWork ts) work_folds sets ms fs ts i h
 
 pub cut_sets_work : (sets : List SetSteps) (ms : List Mark) (fs : List Fault) (ts : List Entry) → AreSimple (all_of_sets sets) → SetsCut sets ms fs ts → AreWork ts
-cut_sets_work sets ms fs ts i c = cut_acts_fold (λ fs ts. AreWork ts) work_folds sets ms fs ts i c
+cut_sets_work sets ms fs ts i c = cut_acts_fold IsSimple (λ fs ts. AreWork ts) work_folds sets ms fs ts i c
 
 -- ---- the run goes on
 

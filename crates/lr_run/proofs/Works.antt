@@ -49,7 +49,7 @@ use Rattle.lr_plan.specs.Course.{Course}
 use Rattle.lr_plan.specs.Done.{SetsDone, rotated_logs}
 use Rattle.lr_plan.specs.Internal.Cut.{SetsCut}
 use Rattle.lr_plan.specs.Internal.Asking.{asks, CanMake, CanEach, CanSet, CanSets}
-use Rattle.lr_plan.specs.Planned.{decision, numbered_hindrances, hindrances_by, hindrances, is_too_high, where_due, log_faults, all_plans, all_faults, plan_of, CanPlanAll}
+use Rattle.lr_plan.specs.Planned.{decision, stand_for, standing, numbered_hindrances, hindrances_by, hindrances, is_too_high, where_due, log_faults, all_plans, all_faults, plan_of, CanPlanAll}
 use Rattle.lr_plan.specs.Steps.{steps_of_set, steps_of_plan, state_steps}
 use Rattle.lr_host.proofs.Counts.{AreFree, free_none, free_on, adds_on, adds_free, adds_call}
 use Rattle.lr_acts.specs.declared.progress.Progress.{Progress}
@@ -77,7 +77,7 @@ use Rattle.lr_seen.proofs.Quiet.{whole_quiet}
 use Rattle.lr_seen.proofs.Ready.{plans_have_logs, plans_read_own}
 use Rattle.lr_seen.proofs.Seen.{targets_seen, targets_have_names, targets_have_paths}
 use Rattle.lr_run.specs.declared.ready.Ready.{Ready}
-use Rattle.lr_run.specs.Internal.{WritesTo, ReadyFor, MayBeReady, ActsAndWrites, SomeActs, CarriesOn, Carries, LookedDone, WorkDone, SomeWork, some_seen, some_done, EndsBehindLooks, EndsBehindState}
+use Rattle.lr_run.specs.Internal.{AreBehind, ReadyFor, MayBeReady, ActsAndWrites, SomeActs, CarriesOn, Carries, LookedDone, WorkDone, SomeWork, some_seen, some_done, EndsBehindLooks, EndsBehindState}
 use Rattle.lr_run.specs.Runs as runs
 use Rattle.lr_run.specs.Runs.{logs_in, Looked, Worked, worked, too_big, not_known}
 use Rattle.lr_run.proofs.Simple.{AreSimple, plan_simple}
@@ -132,9 +132,9 @@ dated_free n stand seconds = go stand.there (has_serials n.dated)
 hindered_free : (clock : Clock) (rule : Rule) (look : LogLook) → AreFree (hindrances clock rule look)
 hindered_free clock rule look = go look.family.naming.dated
   where
-    go : (d : Option Format) → AreFree (hindrances_by d clock rule look)
-    go None = numbered_free rule look
-    go (Some format) = dated_free look.family.naming look.stand (clock_seconds look.family.naming.dated clock)
+    go : (d : Option Format) → AreFree (hindrances_by d clock rule (standing rule look))
+    go None = numbered_free rule (standing rule look)
+    go (Some format) = dated_free look.family.naming (stand_for rule look) (clock_seconds look.family.naming.dated clock)
 
 due_free : (d : Due) (fs : List Fault) → AreFree fs → AreFree (where_due d fs)
 due_free (due.Yes why) fs h = h
@@ -235,22 +235,22 @@ not_ready state clock remembered kept logs plan for o x y k e is h = subst (λ (
 state_text_is : (now : Civil) (rotated kept : List Path) (table was : List Row) → was ≡ after table [] kept now → text_of (map (stamped rotated now) was) ≡ text_of (after table rotated kept now)
 state_text_is now rotated kept table was e = ap (λ (t : List Row). text_of (map (stamped rotated now) t)) e ∙ ap text_of (sym (stamps table rotated kept now))
 
-writes_state : (state : Path) (stale : Bool) (plan : Plan) (written : Target) (text new : List ℕ) (fs : List Fault) (ts : List Entry) → (w : WritesTo state stale plan written) → text ≡ new → Course (state_steps written.state written.stale written.dirs text) [] fs ts → Course (state_steps state stale w.0 new) [] fs ts
-writes_state state stale plan written text new fs ts w e c =
-    subst (λ (t : List ℕ). Course (state_steps state stale w.0 t) [] fs ts) e (subst (λ (x : Target). Course (state_steps x.state x.stale x.dirs text) [] fs ts) w.2 c)
+writes_state : (state : Path) (stale : Bool) (dirs : List Path) (written : Target) (text new : List ℕ) (fs : List Fault) (ts : List Entry) → written ≡ record { state = state; stale = stale } → text ≡ new → Course (state_steps written.state written.stale dirs text) [] fs ts → Course (state_steps state stale dirs new) [] fs ts
+writes_state state stale dirs written text new fs ts is e c =
+    subst (λ (t : List ℕ). Course (state_steps state stale dirs t) [] fs ts) e (subst (λ (x : Target). Course (state_steps x.state x.stale dirs text) [] fs ts) is c)
 
-abbrev acted : (state : Path) (rules : Rules) (looks : Looks) (remembered : Remembered) (clock : Clock) (asked : Asked) (ready : Ready) (x y : Progress) (sights : StateSights) (reads ls us : List Entry) (of_looks : List Fault) (marks : List Mark) (of_plan of_state : List Fault)
-    → ReadyFor state clock.now remembered looks.kept (PlanFor rules looks remembered clock asked) ready x y → IsKnown state sights (Ok remembered) → ShowsState state 65_536 sights reads
+abbrev acted : (state : Path) (rules : Rules) (looks : Looks) (remembered : Remembered) (clock : Clock) (asked : Asked) (ready : Ready) (x y : Progress) (sights : StateSights) (reads ls us : List Entry) (of_looks : List Fault) (marks : List Mark) (dirs : List Path) (of_plan of_state : List Fault)
+    → ReadyFor state clock.now remembered looks.kept (PlanFor rules looks remembered clock asked) ready x y → AreBehind ready marks dirs → IsKnown state sights (Ok remembered) → ShowsState state 65_536 sights reads
     → (shown : ShowsLooks (reserved_by state) rules.sets looks.sets of_looks ls) → looks.kept ≡ paths_of shown.kept
-    → Then (SetsDone ready.steps marks of_plan) (Course (state_steps ready.writing.state ready.writing.stale ready.writing.dirs (text_of (map (stamped (rotated_logs marks) clock.now.civil) ready.table))) [] of_state) us
+    → Then (SetsDone ready.steps marks of_plan) (Course (state_steps ready.writing.state ready.writing.stale dirs (text_of (map (stamped (rotated_logs marks) clock.now.civil) ready.table))) [] of_state) us
     → Worked state rules.sets clock asked (of_looks ++ ((PlanFor rules looks remembered clock asked).faults ++ (of_plan ++ of_state))) (reads ++ (ls ++ us))
-acted state rules looks remembered clock asked ready x y sights reads ls us of_looks marks of_plan of_state r known read shown kept t = record {
+acted state rules looks remembered clock asked ready x y sights reads ls us of_looks marks dirs of_plan of_state r behind known read shown kept t = record {
   looked = record { sights = sights; remembered = remembered; known = known; sets = looks.sets; of_looks = of_looks; reads = reads; looks = ls; acts = us; joined = refl; read = read; shown = shown };
   acted = record {
     small = subst (λ (ks : List Path). length (measured_text (logs_in (PlanFor rules looks remembered clock asked)) clock.now.civil (after remembered.table [] ks clock.now.civil)) ≤ 67_108_864) kept r.small;
-    dirs = r.is.writes.0;
-    dirs_are = r.is.writes.1;
+    dirs = dirs;
     marks = marks;
+    dirs_are = behind (PlanFor rules looks remembered clock asked).sets r.is.directories;
     of_acts = of_plan ++ of_state;
     faults_are = refl;
     entries = record {
@@ -262,7 +262,7 @@ acted state rules looks remembered clock asked ready x y sights reads ls us of_l
         back = t.back;
         joined = t.joined;
         first = subst (λ (ss : List SetSteps). SetsDone ss marks of_plan t.front) r.is.steps t.first;
-        second = writes_state state remembered.stale (PlanFor rules looks remembered clock asked) ready.writing (text_of (map (stamped (rotated_logs marks) clock.now.civil) ready.table)) (text_of (after remembered.table (rotated_logs marks) (paths_of shown.kept) clock.now.civil)) of_state t.back
+        second = writes_state state remembered.stale dirs ready.writing (text_of (map (stamped (rotated_logs marks) clock.now.civil) ready.table)) (text_of (after remembered.table (rotated_logs marks) (paths_of shown.kept) clock.now.civil)) of_state t.back
             r.is.writes
             (state_text_is clock.now.civil (rotated_logs marks) looks.kept remembered.table ready.table r.is.table_is ∙ ap (λ (ks : List Path). text_of (after remembered.table (rotated_logs marks) ks clock.now.civil)) kept)
             t.second;
@@ -277,7 +277,7 @@ pub carried_out : {T : Type 0} (r : Result T Memory) (state : Path) (rules : Rul
 carried_out (Ok u) state rules looks remembered clock asked plan ready x y z m n k l is r h = left_as h.entries (λ us t. record {
   own = (PlanFor rules looks remembered clock asked).faults ++ (h.of_plan ++ h.of_state);
   faults_are = h.faults_are ∙ (ap (λ (fs : List Fault). fs ++ (h.of_plan ++ h.of_state)) r.is.faults ∙ append_assoc x.faults.items (PlanFor rules looks remembered clock asked).faults (h.of_plan ++ h.of_state));
-  works = λ sights reads ls own known read shown kept. worked (acted state rules looks remembered clock asked ready x y sights reads ls us own h.marks h.of_plan h.of_state r known read shown kept t) is;
+  works = λ sights reads ls own known read shown kept. worked (acted state rules looks remembered clock asked ready x y sights reads ls us own h.marks h.dirs h.of_plan h.of_state r h.dirs_are known read shown kept t) is;
 })
 carried_out (Err u) state rules looks remembered clock asked plan ready x y z m n k l is r h = tt
 

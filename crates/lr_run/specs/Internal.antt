@@ -24,11 +24,13 @@ use Rattle.lr_state.specs.Written.{text_of}
 use Rattle.lr_plan.specs.Asked.{Asked}
 use Rattle.lr_plan.specs.declared.looks.Looks.{Looks}
 use Rattle.lr_plan.specs.declared.mark.Mark.{Mark}
+use Rattle.lr_plan.specs.declared.planned.SetPlan.{SetPlan}
 use Rattle.lr_plan.specs.declared.planned.Plan.{Plan}
 use Rattle.lr_host.specs.Counted.{AreCounted}
 use Rattle.lr_plan.specs.Course.{Course}
 use Rattle.lr_plan.specs.declared.step.SetSteps.{SetSteps}
 use Rattle.lr_plan.specs.Done.{SetsDone, rotated_logs}
+use Rattle.lr_plan.specs.Internal.Asking.{CanMake}
 use Rattle.lr_plan.specs.Internal.Cut.{SetsCut}
 use Rattle.lr_plan.specs.Outcomes.{Maybe}
 use Rattle.lr_plan.specs.Steps.{steps_of_plan, state_steps}
@@ -44,15 +46,15 @@ use Rattle.lr_reading.specs.Sights.{StateSights, ShowsState}
 use Rattle.lr_record.specs.After.{after, stamped}
 use Rattle.lr_record.specs.Measured.{measured_text}
 use Rattle.lr_seen.specs.Free.{reserved_by}
-use Rattle.lr_writing.specs.Directories.{AreDirectoriesOf}
-use Rattle.lr_writing.specs.Target.{Target}
+use Rattle.lr_synced.specs.Internal.{IsBy}
+use Rattle.lr_synced.specs.Synced.{AreSynced}
 use Rattle.lr_run.specs.declared.answer.RunStop.{RunStop}
 use Rattle.lr_run.specs.declared.answer.RunStop.TheVariants as stop
 use Rattle.lr_run.specs.declared.directory.DirStop.{DirStop}
 use Rattle.lr_run.specs.declared.directory.DirStop.TheVariants as dir
 use Rattle.lr_run.specs.declared.ready.Ready.{Ready}
 use Rattle.lr_run.specs.Dry.{Plans, PlansBy, Tries}
-use Rattle.lr_run.specs.Runs.{logs_in, changed_in, Works, Runs, SomeSeen, BrokeOff, LacksMemory}
+use Rattle.lr_run.specs.Runs.{logs_in, Works, Runs, SomeSeen, BrokeOff, LacksMemory}
 
 -- the directory wasn't seen as one
 abbrev pub NotSeen : Path → DirStop → List Entry → Type 0
@@ -67,14 +69,11 @@ dir_fault_of dir.Call path = fault.Call call.Look path
 
 -- ---- what is ready
 
--- the writing is of this state, and syncs the directories in which the plan renames
-abbrev pub WritesTo : Path → Bool → Plan → Target → Type 0
-WritesTo state stale plan target = (dirs : List Path) × AreDirectoriesOf (changed_in plan) dirs × (target ≡ record { state = state; stale = stale; dirs = dirs })
-
--- The steps of the plan, with room for what they come to, and what the writing needs; the faults of the plan were added.
+-- The steps of the plan, with room for what they come to, and what the writing needs and the syncs before it; the faults of the plan were added.
 pub record IsReady (state : Path) (stale : Bool) (plan : Plan) (table : List Row) (ready : Ready) (before now : Progress) : Type 0 where
   pub steps : ready.steps ≡ steps_of_plan plan
-  pub writes : WritesTo state stale plan ready.writing
+  pub writes : ready.writing ≡ record { state = state; stale = stale }
+  pub directories : IsBy plan.sets ready.directories
   pub table_is : ready.table ≡ table
   pub faults : now.faults.items ≡ before.faults.items ++ plan.faults
   pub room : HasRoom (length (all_of_sets ready.steps)) now
@@ -91,16 +90,26 @@ MayBeReady state now remembered kept plan None before later = (67_108_864 < leng
 
 -- ---- what was done
 
+-- these are the directories that are synced behind acts that left these marks
+abbrev pub AreBehind : Ready → List Mark → List Path → Type 0
+AreBehind ready marks dirs = (sets : List SetPlan) → IsBy sets ready.directories → AreSynced sets marks dirs
+
+-- Wherever the acts end, the state can be written behind them.
+abbrev pub CanWrite : Ready → Option Journal → Type 0
+CanWrite ready told = (later : Option Journal) (marks : List Mark) (faults : List Fault) (dirs : List Path) (text : List ℕ) → AreBehind ready marks dirs → Left (SetsDone ready.steps marks faults) told later → CanMake later (state_steps ready.writing.state ready.writing.stale dirs text)
+
 -- The acts, and then the state, with this moment for the logs that were rotated; the faults of both were added.
 pub record ActsAndWrites (ready : Ready) (now : Civil) (before later : Progress) (told then : Option Journal) (counted counts : Counts) : Type 0 where
   pub marks : List Mark
+  pub dirs : List Path
+  pub dirs_are : AreBehind ready marks dirs
   pub of_plan : List Fault
   pub of_state : List Fault
   pub faults_are : later.faults.items ≡ before.faults.items ++ (of_plan ++ of_state)
-  pub entries : Left (Then (SetsDone ready.steps marks of_plan) (Course (state_steps ready.writing.state ready.writing.stale ready.writing.dirs (text_of (map (stamped (rotated_logs marks) now) ready.table))) [] of_state)) told then
+  pub entries : Left (Then (SetsDone ready.steps marks of_plan) (Course (state_steps ready.writing.state ready.writing.stale dirs (text_of (map (stamped (rotated_logs marks) now) ready.table))) [] of_state)) told then
   pub are_counted : AreCounted (of_plan ++ of_state) counted counts
   pub text : List ℕ
-  pub taken : TakenOnly (all_of_sets ready.steps ++ state_steps ready.writing.state ready.writing.stale ready.writing.dirs text) (of_plan ++ of_state) told then
+  pub taken : TakenOnly (all_of_sets ready.steps ++ state_steps ready.writing.state ready.writing.stale dirs text) (of_plan ++ of_state) told then
 
 -- ---- the parts of the work
 

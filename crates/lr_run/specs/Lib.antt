@@ -2,6 +2,7 @@ pub mod Answers
 pub mod Copied
 pub mod Dry
 pub mod Internal
+pub mod Met
 pub mod Rotated
 pub mod Runs
 pub mod Scripts

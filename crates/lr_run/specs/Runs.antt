@@ -35,7 +35,7 @@ use Rattle.lr_reading.specs.Sights.{StateSights, ShowsState}
 use Rattle.lr_record.specs.After.{after}
 use Rattle.lr_record.specs.Measured.{measured_text}
 use Rattle.lr_seen.specs.Free.{reserved_by}
-use Rattle.lr_writing.specs.Directories.{AreDirectoriesOf}
+use Rattle.lr_synced.specs.Synced.{all_to_make_of, AreSynced}
 
 -- ---- the paths of a plan
 
@@ -49,15 +49,9 @@ all_logs_of sets = flat_map (λ set. logs_of set.logs) sets
 abbrev pub logs_in : Plan → List Path
 logs_in plan = all_logs_of plan.sets
 
--- each of them, and the path that it gets
-abbrev pub changed_of : List LogPlan → List Path
-changed_of logs = flat_map (λ log. log.ready.log ∷ log.ready.target ∷ []) logs
-
-abbrev pub all_changed_of : List SetPlan → List Path
-all_changed_of sets = flat_map (λ set. changed_of set.logs) sets
-
-abbrev pub changed_in : Plan → List Path
-changed_in plan = all_changed_of plan.sets
+-- the directories that it makes
+abbrev pub dirs_in : Plan → List Path
+dirs_in plan = all_to_make_of plan.sets
 
 -- ---- what was seen
 
@@ -93,12 +87,12 @@ state_text state rules ts l clock rotated = text_of (after l.remembered.table ro
 
 -- ---- what was done
 
--- The acts of the plan, and then the writing of the state. Before the rename that gives the state its new text, the directories are synced in which the plan renames logs. The faults are those of the looks, of the plan and of the acts, in this order.
+-- The acts of the plan, and then the writing of the state. Before the rename that gives the state its new text, the directories are synced in which the plan changes names, without those that were to be made and weren't. The faults are those of the looks, of the plan and of the acts, in this order.
 pub record Acted (state : Path) (rules : List Rule) (clock : Clock) (asked : Asked) (ts : List Entry) (l : Looked state rules ts) (faults : List Fault) : Type 0 where
   pub small : length (measured_in state rules ts l clock asked) ≤ 67_108_864
   pub dirs : List Path
-  pub dirs_are : AreDirectoriesOf (changed_in (plan_in state rules ts l clock asked)) dirs
   pub marks : List Mark
+  pub dirs_are : AreSynced (plan_in state rules ts l clock asked).sets marks dirs
   pub of_acts : List Fault
   pub faults_are : faults ≡ l.of_looks ++ ((plan_in state rules ts l clock asked).faults ++ of_acts)
   pub entries : ActsDone (plan_in state rules ts l clock asked) state l.remembered.stale (λ made. dirs) (state_text state rules ts l clock) marks of_acts l.acts

@@ -1,7 +1,7 @@
-// The paths that a run reserves, and those of its plan.
+// The paths that a run reserves, and the logs of its plan.
 ghost use Rattle.std.specs.Prelude.{◌≡◌, ◌∷◌, ◌++◌, [], IfOk, OnOk};
 ghost use Rattle.lr_seen.specs.Free.{reserved_by};
-ghost use Rattle.lr_run.specs.Runs.{logs_of, changed_of, all_logs_of, all_changed_of};
+ghost use Rattle.lr_run.specs.Runs.{logs_of, all_logs_of};
 
 use lr_plan::{LogPlan, SetPlan};
 use lr_rules::{Memory, Path};
@@ -66,27 +66,6 @@ pub fn logs_of_plan(alloc: Global, sets: &[SetPlan]) -> Result<Vec<Path>, Memory
     let mut paths = Vec::new(alloc);
     for set in sets {
         add_logs(alloc, set.logs.as_slice(), &mut paths)?;
-    }
-    Ok(paths)
-}
-
-fn add_changed(alloc: Global, logs: &[LogPlan], paths: &mut Vec<Path>) -> Result<(), Memory>
-    ensures { OnOk result (paths.new.items ≡ paths.old.items ++ changed_of logs.now) }
-{
-    for log in logs {
-        paths.push(log.ready.log.copy(alloc)?)?;
-        paths.push(log.ready.target.copy(alloc)?)?;
-    }
-    Ok(())
-}
-
-/// The path of each log that a plan rotates, and the one that it gets.
-pub fn changed_by_plan(alloc: Global, sets: &[SetPlan]) -> Result<Vec<Path>, Memory>
-    ensures { IfOk result (λ paths. paths.items ≡ all_changed_of sets.now) }
-{
-    let mut paths = Vec::new(alloc);
-    for set in sets {
-        add_changed(alloc, set.logs.as_slice(), &mut paths)?;
     }
     Ok(paths)
 }

@@ -7,25 +7,26 @@ ghost use Rattle.lr_plan.specs.Steps.{steps_of_plan};
 ghost use Rattle.lr_reading.specs.Sights.{state_part};
 ghost use Rattle.lr_record.specs.After.{after};
 ghost use Rattle.lr_record.specs.Measured.{measured_text};
-ghost use Rattle.lr_writing.specs.Directories.{AreDirectoriesOf};
-ghost use Rattle.lr_run.specs.Runs.{logs_in, changed_in};
-ghost use Rattle.lr_run.specs.Internal.{IsReady, MayBeReady, WritesTo};
+ghost use Rattle.lr_run.specs.Runs.{logs_in};
+ghost use Rattle.lr_run.specs.Internal.{IsReady, MayBeReady};
 
-use crate::paths::{changed_by_plan, logs_of_plan};
+use crate::paths::logs_of_plan;
 use lr_acts::{Progress, take_room};
 use lr_plan::{Plan, SetSteps, steps_of};
 use lr_reading::Remembered;
 use lr_record::{bring_up, fits};
 use lr_rules::{Civil, Fault, Listed, Memory, Moment, Path};
 use lr_state::State;
-use lr_writing::{Writing, directories_of, prepare};
+use lr_synced::{Directories, directories_by};
+use lr_writing::{Writing, prepare};
 use std::alloc::Global;
 
-/// All that a run needs for its acts: the steps of its plan, the state's writing, and the table that is written, in which
-/// no log is rotated yet.
+/// All that a run needs for its acts: the steps of its plan, the directories that are synced behind them, the state's
+/// writing, and the table that is written, in which no log is rotated yet.
 #[derive(Drop)]
 pub struct Ready {
     pub steps: Listed<SetSteps>,
+    pub directories: Directories,
     pub writing: Writing,
     pub table: State,
 }
@@ -44,22 +45,6 @@ pub fn bring_up_to(
     bring_up(alloc, table, kept, now)?;
     let due = logs_of_plan(alloc, plan.sets.as_slice())?;
     fits(alloc, table, &due, now)
-}
-
-// Takes what the state's writing needs.
-fn writing_for(
-    alloc: Global,
-    state: &Path,
-    part: Path,
-    stale: bool,
-    plan: &Plan,
-) -> Result<Writing, Memory>
-    requires { part ≡ state_part state.now }
-    ensures { IfOk result (λ writing. WritesTo state.now stale plan.now writing) }
-{
-    let paths = changed_by_plan(alloc, plan.sets.as_slice())?;
-    let dirs = directories_of(alloc, &paths)?;
-    prepare(alloc, state, part, stale, dirs)
 }
 
 /// Adds the faults of the plan.
@@ -91,7 +76,7 @@ fn steps_ready(
     Ok(steps)
 }
 
-// Takes what the state's writing and the steps need.
+// Takes what the state's writing, the syncs before it and the steps need.
 fn all_ready(
     alloc: Global,
     state: &Path,
@@ -104,10 +89,12 @@ fn all_ready(
     requires { part ≡ state_part state.now }
     ensures { IfOk result (λ ready. IsReady state.now stale plan table ready progress.old progress.new) }
 {
-    let writing = writing_for(alloc, state, part, stale, &plan)?;
+    let writing = prepare(alloc, state, part, stale)?;
+    let directories = directories_by(alloc, plan.sets.as_slice())?;
     let steps = steps_ready(alloc, plan, progress)?;
     Ok(Ready {
         steps,
+        directories,
         writing,
         table,
     })

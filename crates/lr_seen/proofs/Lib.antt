@@ -1,6 +1,7 @@
 pub mod Apart
 pub mod Built
 pub mod Coming
+mod Directory
 pub mod Elements
 pub mod Free
 mod Gives

@@ -5,85 +5,200 @@ use Rattle.std.proofs.lemmas.List.Sorted.{Contains-permutation, IsPermutation-sy
 use Rattle.lr_rules.specs.declared.path.Path.{Path}
 use Rattle.lr_rules.specs.declared.rule.Format.{Format}
 use Rattle.lr_rules.specs.declared.rule.Naming.{Naming}
+use Rattle.lr_rules.specs.Path.{parent_of}
 use Rattle.lr_host.specs.declared.thing.Kind.{Kind}
 use Rattle.lr_host.specs.declared.thing.Kind.TheVariants as kind
 use Rattle.lr_host.specs.declared.thing.Seen.{Seen}
 use Rattle.lr_host.specs.declared.entry.Entry.{Entry}
 use Rattle.lr_host.specs.declared.entry.Entry.TheVariants as entry
 use Rattle.lr_host.specs.Lists.{IsIn}
-use Rattle.lr_host.specs.Looks.{Sees, IsDir}
+use Rattle.lr_host.specs.Looks.{Sees, IsDir, is_dir}
 use Rattle.lr_host.specs.Told.{Then}
 use Rattle.lr_host.proofs.Lists.{in_from, in_to, in_map, in_unmap, in_front, in_back, in_append}
 use Rattle.lr_family.specs.declared.listing.Listing.{Listing}
 use Rattle.lr_family.specs.declared.spot.Spot.{Spot}
 use Rattle.lr_family.specs.declared.stand.Member.{Member}
 use Rattle.lr_family.specs.declared.stand.Stand.{Stand}
-use Rattle.lr_family.specs.Among.{StandsAmong, ShowsMembers, ShowsIn}
+use Rattle.lr_family.specs.Among.{StandsAmong, ShowsMembers}
 use Rattle.lr_family.specs.Listed.{HasListed, ShowsListing}
 use Rattle.lr_family.specs.Looks.{Sight, look_of, seen_at, member_of}
 use Rattle.lr_family.specs.Named.{member_name}
-use Rattle.lr_family.specs.Parts.{part_if_file, part_seen, part_in, part_look, ShowsParts}
+use Rattle.lr_family.specs.Parts.{part_if_file, part_seen, part_in, part_look, PartsAmong, ShowsParts}
 use Rattle.lr_family.specs.Spots.{path_at, spot_at, AreSpots}
 use Rattle.lr_family.specs.Stands.{number_in}
-use Rattle.lr_days.specs.Among.{ShowsMembers as ShowsDays, ShowsIn as ShowsDaysIn}
+use Rattle.lr_days.specs.Among.{StandsAmong as DaysAmong, ShowsMembers as ShowsDays}
 use Rattle.lr_chain.specs.Rotation.{places_of}
 use Rattle.lr_looks.specs.Families.{FamilySight, Stood, Stopped, ShowsBy, ShowsFamily, behind_listing, with_listing, not_listed, ShowFamilies, LookedLog, looked_by, looked_of}
 use Rattle.lr_looks.specs.Found.{FoundLog}
 use Rattle.lr_dated_seen.specs.Shown.{ShownDated}
 use Rattle.lr_dated_seen.proofs.Shows.{members_shown as looks_shown}
-use Rattle.lr_rotations.specs.Shown.{Shown, SawMembers}
+use Rattle.lr_rotations.specs.Shown.{SawDir, Shown, SawMembers}
 use Rattle.lr_rotations.proofs.Shown.{stands_shown}
 use Rattle.lr_seen.proofs.Elements.{in_list, in_flat}
 
 -- ---- listings
 
--- The directory of the listing was seen, and listed with these names in some order, among all entries.
-record IsTold (all : List Entry) (l : Listing) : Type 0 where
-  parent : l.parent ≡ true
-  seen : Seen
-  is_dir : seen.kind ≡ kind.Dir
-  look : IsIn (entry.Look l.dir (Some seen)) all
-  names : List (List ℕ)
-  same : IsPermutation names l.names
-  list : IsIn (entry.List l.dir names) all
+-- a look at the parent of this directory saw a directory, or none
+abbrev pub SawParent : Path → Bool → List Entry → Type 0
+SawParent dir there all = (o : Option Seen) × (is_dir o ≡ there) × IsIn (entry.Look (parent_of dir) o) all
 
--- so was each of the listings whose directory is there
+-- The directory was listed with these names, or seen to be missing: the looks that show it are among all entries.
+record IsTold (all : List Entry) (dir : Path) (there parent : Bool) (names : List (List ℕ)) : Type 0 where
+  ts : List Entry
+  in_all : (e : Entry) → IsIn e ts → IsIn e all
+  shown : ShowsListing dir there parent names ts
+
 abbrev AreTold : List Entry → List Listing → Type 0
-AreTold all known = (l : Listing) → IsIn l known → l.there ≡ true → IsTold all l
-
-dir_seen : (x : Path) (ts : List Entry) → Sees x IsDir ts → (seen : Seen) × (seen.kind ≡ kind.Dir) × IsIn (entry.Look x (Some seen)) ts
-dir_seen x ts s = go s.seen s.is s.look
-  where
-    go : (o : Option Seen) → IsDir o → ts ≡ entry.Look x o ∷ [] → (seen : Seen) × (seen.kind ≡ kind.Dir) × IsIn (entry.Look x (Some seen)) ts
-    go None d e = absurd d
-    go (Some seen) d e = (seen, d, subst (IsIn (entry.Look x (Some seen))) (sym e) (inl refl))
-
--- a listing that was taken now was told
-told_listing : (all ts : List Entry) (l : Listing) (dir : Path) → l.dir ≡ dir → ((e : Entry) → IsIn e ts → IsIn e all) → ShowsListing dir l.there l.parent l.names ts → l.there ≡ true → IsTold all l
-told_listing all ts l dir same in_all h there = go (subst (λ b. ShowsListing dir b l.parent l.names ts) there h)
-  where
-    go : (l.parent ≡ true) × Then (Sees dir IsDir) (HasListed dir l.names) ts → IsTold all l
-    go t =
-        let d = dir_seen dir t.1.front t.1.first in
-        let names = t.1.second.listed in
-        record {
-          parent = t.0;
-          seen = d.0;
-          is_dir = d.1;
-          look = subst (λ (x : Path). IsIn (entry.Look x (Some d.0)) all) (sym same) (in_all (entry.Look dir (Some d.0)) (subst (IsIn (entry.Look dir (Some d.0))) (sym t.1.joined) (in_front (entry.Look dir (Some d.0)) t.1.front t.1.back d.2)));
-          names = names;
-          same = t.1.second.same;
-          list = subst (λ (x : Path). IsIn (entry.List x names) all) (sym same) (in_all (entry.List dir names) (subst (IsIn (entry.List dir names)) (sym t.1.joined) (in_back (entry.List dir names) t.1.front t.1.back (subst (IsIn (entry.List dir names)) (sym t.1.second.list) (inl refl)))));
-        }
+AreTold all known = (l : Listing) → IsIn l known → IsTold all l.dir l.there l.parent l.names
 
 -- those that are known behind a family were told, as those before it were
 told_next : (all : List Entry) (known : List Listing) (n : Naming) (after : List Listing) (s : FamilySight) (ts : List Entry) → ((e : Entry) → IsIn e ts → IsIn e all) → AreTold all known → ShowsFamily known n after s ts → AreTold all after
 told_next all known n after s ts in_all told (behind_listing l was same m) = subst (AreTold all) (sym same) told
-told_next all known n after s ts in_all told (with_listing l new e same t) = subst (AreTold all) (sym same) (λ k i there. ⊎_elim
-    (λ a. told k a there)
-    (λ b. ⊎_elim (λ is. subst (λ (x : Listing). x.there ≡ true → IsTold all x) is (told_listing all t.front l n.dir e (λ x j. in_all x (subst (IsIn x) (sym t.joined) (in_front x t.front t.back j))) t.first) there) (λ none. absurd none) b)
+told_next all known n after s ts in_all told (with_listing l new e same t) = subst (AreTold all) (sym same) (λ k i. ⊎_elim
+    (λ a. told k a)
+    (λ b. ⊎_elim (λ is. subst (λ (x : Listing). IsTold all x.dir x.there x.parent x.names) is now) (λ none. absurd none) b)
     (in_append k known (l ∷ []) i))
+  where
+    now : IsTold all l.dir l.there l.parent l.names
+    now = subst (λ (x : Path). IsTold all x l.there l.parent l.names) (sym e) (record { ts = t.front; in_all = λ x j. in_all x (subst (IsIn x) (sym t.joined) (in_front x t.front t.back j)); shown = t.first })
 told_next all known n after s ts in_all told (not_listed why new same e h) = subst (AreTold all) (sym same) told
+
+module _ (all : List Entry) (dir : Path) (parent : Bool) (names : List (List ℕ)) where
+  -- the directory was seen
+  dir_told : IsTold all dir true parent names → SawDir dir all
+  dir_told t = go h.first.seen h.first.is h.first.look
+    where
+      h : Then (Sees dir IsDir) (HasListed dir names) t.ts
+      h = t.shown.1
+
+      go : (o : Option Seen) → IsDir o → h.front ≡ entry.Look dir o ∷ [] → SawDir dir all
+      go None is look = absurd is
+      go (Some seen) is look = (seen, is, t.in_all (entry.Look dir (Some seen)) (subst (IsIn (entry.Look dir (Some seen))) (sym h.joined) (in_front (entry.Look dir (Some seen)) h.front h.back (subst (IsIn (entry.Look dir (Some seen))) (sym look) (inl refl)))))
+
+  -- the list, in whatever order
+  list_told : IsTold all dir true parent names → (listed : List (List ℕ)) × IsPermutation listed names × IsIn (entry.List dir listed) all
+  list_told t =
+      let h = t.shown.1 in
+      let l = h.second in
+      (l.listed, l.same, t.in_all (entry.List dir l.listed) (subst (IsIn (entry.List dir l.listed)) (sym h.joined) (in_back (entry.List dir l.listed) h.front h.back (subst (IsIn (entry.List dir l.listed)) (sym l.list) (inl refl)))))
+
+  -- the look that saw nothing
+  missing_told : IsTold all dir false parent names → IsIn (entry.Look dir None) all
+  missing_told t =
+      let h = t.shown.1 in
+      let s = h.first in
+      t.in_all (entry.Look dir None) (subst (IsIn (entry.Look dir None)) (sym h.joined) (in_front (entry.Look dir None) h.front h.back
+      (subst (λ (o : Option Seen). IsIn (entry.Look dir o) h.front) s.is (subst (IsIn (entry.Look dir s.seen)) (sym s.look) (inl refl)))))
+
+  -- and the one behind it, at the parent
+  parent_told : IsTold all dir false parent names → SawParent dir parent all
+  parent_told t =
+      let h = t.shown.1 in
+      let s = h.second in
+      (s.seen, s.is, t.in_all (entry.Look (parent_of dir) s.seen) (subst (IsIn (entry.Look (parent_of dir) s.seen)) (sym h.joined) (in_back (entry.Look (parent_of dir) s.seen) h.front h.back (subst (IsIn (entry.Look (parent_of dir) s.seen)) (sym s.look) (inl refl)))))
+
+-- ---- families
+
+-- looks at the members among the names of a listing, numbered ones or dated ones
+abbrev pub StandBy : Option Format → Naming → List (List ℕ) → List Member → List Entry → Type 0
+StandBy None n names members ts = StandsAmong n names members ts
+StandBy (Some format) n names members ts = DaysAmong n names members ts
+
+-- The family's directory was seen, and listed with these names in some order. The looks at the members among them, and those at the part files, are among all entries.
+pub record IsListed (d : Option Format) (n : Naming) (stand : Stand) (all : List Entry) : Type 0 where
+  pub dir : SawDir n.dir all
+  pub names : List (List ℕ)
+  pub listed : List (List ℕ)
+  pub same : IsPermutation listed names
+  pub list : IsIn (entry.List n.dir listed) all
+  pub front : List Entry
+  pub members : StandBy d n names stand.members front
+  pub front_in : (e : Entry) → IsIn e front → IsIn e all
+  pub back : List Entry
+  pub parts : PartsAmong n names stand.parts back
+  pub back_in : (e : Entry) → IsIn e back → IsIn e all
+
+-- The directory was seen to be missing, and its parent to be there or not; nothing of the family stands.
+pub record IsMissing (n : Naming) (stand : Stand) (all : List Entry) : Type 0 where
+  pub members : stand.members ≡ []
+  pub parts : stand.parts ≡ []
+  pub look : IsIn (entry.Look n.dir None) all
+  pub parent : SawParent n.dir stand.parent all
+
+-- by whether it is there
+abbrev pub WasToldBy : Option Format → Naming → Stand → List Entry → Type 0
+WasToldBy d n stand all = (stand.there ≡ true → IsListed d n stand all) × (stand.there ≡ false → IsMissing n stand all)
+
+-- whatever the looks at members show, of which none stands where the directory isn't there
+told_among : (all : List Entry) (n : Naming) (l : Listing) (stand : Stand) (d : Option Format) (M : Bool → List Entry → Type 0) (ts : List Entry) → ((us : List Entry) → M false us → stand.members ≡ []) → ((us : List Entry) → M true us → StandBy d n l.names stand.members us)
+    → ((e : Entry) → IsIn e ts → IsIn e all) → IsTold all n.dir l.there l.parent l.names → stand.there ≡ l.there → stand.parent ≡ l.parent → Then (M l.there) (ShowsParts n l.there l.names stand.parts) ts → WasToldBy d n stand all
+told_among all n l stand d M ts none some in_all told there parent h = go l.there there told h.first h.second
+  where
+    go : (b : Bool) → stand.there ≡ b → IsTold all n.dir b l.parent l.names → M b h.front → ShowsParts n b l.names stand.parts h.back → WasToldBy d n stand all
+    go true is t m p =
+        let list = list_told all n.dir l.parent l.names t in (
+          (λ yes. record {
+            dir = dir_told all n.dir l.parent l.names t;
+            names = l.names;
+            listed = list.0;
+            same = list.1;
+            list = list.2;
+            front = h.front;
+            members = some h.front m;
+            front_in = λ e i. in_all e (subst (IsIn e) (sym h.joined) (in_front e h.front h.back i));
+            back = h.back;
+            parts = p;
+            back_in = λ e i. in_all e (subst (IsIn e) (sym h.joined) (in_back e h.front h.back i));
+          }),
+          λ no. absurd (cc),
+        )
+    go false is t m p = (
+      (λ yes. absurd (cc)),
+      λ no. record { members = none h.front m; parts = p.0; look = missing_told all n.dir l.parent l.names t; parent = subst (λ b. SawParent n.dir b all) (sym parent) (parent_told all n.dir l.parent l.names t) },
+    )
+
+-- of a numbered family and of a dated one
+told_by : (all : List Entry) (n : Naming) (l : Listing) (stand : Stand) (ts : List Entry) → ((e : Entry) → IsIn e ts → IsIn e all) → IsTold all n.dir l.there l.parent l.names → (d : Option Format) → ShowsBy d n l stand ts → WasToldBy d n stand all
+told_by all n l stand ts in_all told None h = told_among all n l stand None (λ b. ShowsMembers n b l.names stand.members) ts (λ us m. m.0) (λ us m. m) in_all told h.0 h.1 h.2
+told_by all n l stand ts in_all told (Some format) h = told_among all n l stand (Some format) (λ b. ShowsDays n b l.names stand.members) ts (λ us m. m.0) (λ us m. m) in_all told h.0 h.1 h.2
+
+-- a family, whether its directory was listed before or is listed now
+family_told : (all : List Entry) (known : List Listing) (n : Naming) (after : List Listing) (stand : Stand) (s : FamilySight) (ts : List Entry) → s ≡ Stood stand → ((e : Entry) → IsIn e ts → IsIn e all) → AreTold all known → AreTold all after
+    → ShowsFamily known n after s ts → WasToldBy n.dated n stand all
+family_told all known n after stand s ts is in_all told next f = go (subst (λ (x : FamilySight). ShowsFamily known n after x ts) is f)
+  where
+    go : ShowsFamily known n after (Stood stand) ts → WasToldBy n.dated n stand all
+    go (behind_listing l was same m) = told_by all n l stand ts in_all (subst (λ (x : Path). IsTold all x l.there l.parent l.names) was.same (told l (in_list known was.place l was.there))) n.dated m
+    go (with_listing l new e same t) =
+        told_by all n l stand t.back (λ x i. in_all x (subst (IsIn x) (sym t.joined) (in_back x t.front t.back i)))
+        (subst (λ (x : Path). IsTold all x l.there l.parent l.names) e (next l (subst (IsIn l) (sym same) (in_back l known (l ∷ []) (inl refl))))) n.dated t.second
+    go (not_listed why new same e h) = absurd (cc)
+
+-- of each log that was looked at whole
+families_told : (all : List Entry) (known : List Listing) (fs : List FoundLog) (after : List Listing) (ss : List FamilySight) (ts : List Entry) → ((e : Entry) → IsIn e ts → IsIn e all) → AreTold all known → ShowFamilies known fs after ss ts
+    → (x : LookedLog) → IsIn x (looked_of fs ss) → WasToldBy x.naming.dated x.naming x.stand all
+families_told all known [] after [] ts in_all told h x i = absurd i
+families_told all known [] after (s ∷ ss) ts in_all told h x i = absurd i
+families_told all known (f ∷ fs) after [] ts in_all told h x i = absurd i
+families_told all known (f ∷ fs) after (s ∷ ss) ts in_all told h x i = ⊎_elim
+    (λ a. own s refl a)
+    (λ b. families_told all h.0 fs after ss h.1.back (λ e j. in_all e (subst (IsIn e) (sym h.1.joined) (in_back e h.1.front h.1.back j))) next h.1.second x b)
+    (in_append x (looked_by f s) (looked_of fs ss) i)
+  where
+    in_front_all : (e : Entry) → IsIn e h.1.front → IsIn e all
+    in_front_all e j = in_all e (subst (IsIn e) (sym h.1.joined) (in_front e h.1.front h.1.back j))
+
+    next : AreTold all h.0
+    next = told_next all known f.log.naming h.0 s h.1.front in_front_all told h.1.first
+
+    own : (r : FamilySight) → s ≡ r → IsIn x (looked_by f r) → WasToldBy x.naming.dated x.naming x.stand all
+    own (Stood stand) is (inl e) = subst (λ (y : LookedLog). WasToldBy y.naming.dated y.naming y.stand all) e (family_told all known f.log.naming h.0 stand s h.1.front is in_front_all told next h.1.first)
+    own (Stood stand) is (inr none) = absurd none
+    own (Stopped why) is none = absurd none
+
+pub all_told : (all : List Entry) (fs : List FoundLog) (after : List Listing) (ss : List FamilySight) (ts : List Entry) → ((e : Entry) → IsIn e ts → IsIn e all) → ShowFamilies [] fs after ss ts
+    → (x : LookedLog) → IsIn x (looked_of fs ss) → WasToldBy x.naming.dated x.naming x.stand all
+all_told all fs after ss ts in_all h = families_told all [] fs after ss ts in_all (λ l i. absurd i) h
 
 -- ---- members
 
@@ -129,46 +244,6 @@ sights_among n names members us all in_all s m i = in_all (entry.Look (path_at n
     look : look_of g.0 ≡ entry.Look (path_at n (number_in m.place)) (Some m.seen)
     look = ap (λ (x : Path). entry.Look x g.0.seen) path ∙ ap (entry.Look (path_at n (number_in m.place))) of.1
 
--- looks at the members, behind a listing that was told anywhere among all entries
-members_shown : (all : List Entry) (n : Naming) (l : Listing) (stand : Stand) (ts : List Entry) → ((e : Entry) → IsIn e ts → IsIn e all) → AreTold all (l ∷ []) → l.dir ≡ n.dir → stand.there ≡ true
-    → ShowsIn n l.there l.parent l.names stand ts → Shown n (places_of stand.members) all × SawMembers n stand.members all
-members_shown all n l stand ts in_all told dir there h = (
-  stands_shown n t.names stand.members h.2.front all more (t.seen, t.is_dir, subst (λ (x : Path). IsIn (entry.Look x (Some t.seen)) all) dir t.look)
-      (subst (λ (x : Path). IsIn (entry.List x t.names) all) dir t.list) among,
-  sights_among n l.names stand.members h.2.front all more s,
-)
-  where
-    more : (e : Entry) → IsIn e h.2.front → IsIn e all
-    more e i = in_all e (subst (IsIn e) (sym h.2.joined) (in_front e h.2.front h.2.back i))
-
-    listed : l.there ≡ true
-    listed = sym h.0 ∙ there
-
-    t : IsTold all l
-    t = told l (inl refl) listed
-
-    s : StandsAmong n l.names stand.members h.2.front
-    s = subst (λ b. ShowsMembers n b l.names stand.members h.2.front) listed h.2.first
-
-    among : StandsAmong n t.names stand.members h.2.front
-    among = record { spots = s.spots; spots_are = spots_as n l.names t.names s.spots t.same s.spots_are; shown = s.shown; each = s.each; newest_first = s.newest_first; looks = s.looks }
-
--- looks at dated members, behind such a listing
-days_shown : (all : List Entry) (n : Naming) (l : Listing) (stand : Stand) (ts : List Entry) → ((e : Entry) → IsIn e ts → IsIn e all) → AreTold all (l ∷ []) → l.dir ≡ n.dir → stand.there ≡ true
-    → ShowsDaysIn n l.there l.parent l.names stand ts → ShownDated n stand.members all
-days_shown all n l stand ts in_all told dir there h =
-    looks_shown n t.names l.names stand.members h.2.front all (t.seen, t.is_dir, subst (λ (x : Path). IsIn (entry.Look x (Some t.seen)) all) dir t.look) t.same
-    (subst (λ (x : Path). IsIn (entry.List x t.names) all) dir t.list) more (subst (λ b. ShowsDays n b l.names stand.members h.2.front) listed h.2.first)
-  where
-    more : (e : Entry) → IsIn e h.2.front → IsIn e all
-    more e i = in_all e (subst (IsIn e) (sym h.2.joined) (in_front e h.2.front h.2.back i))
-
-    listed : l.there ≡ true
-    listed = sym h.0 ∙ there
-
-    t : IsTold all l
-    t = told l (inl refl) listed
-
 -- ---- part files
 
 -- of each of these paths a look saw a regular file
@@ -186,80 +261,46 @@ part_of_sight path x (Some seen) i = go seen.kind refl i
     go kind.Dir is none = absurd none
     go kind.Other is none = absurd none
 
-parts_among : (all : List Entry) (n : Naming) (l : Listing) (stand : Stand) (M : List Entry → Type 0) (ts : List Entry) → ((e : Entry) → IsIn e ts → IsIn e all) → Then M (ShowsParts n l.there l.names stand.parts) ts → SawFiles stand.parts all
-parts_among all n l stand M ts in_all h x i = go l.there h.second
-  where
-    go : (b : Bool) → ShowsParts n b l.names stand.parts h.back → (seen : Seen) × (seen.kind ≡ kind.File) × IsIn (entry.Look x (Some seen)) all
-    go false none = absurd (subst (IsIn x) none.0 i)
-    go true p =
-        let g = in_flat part_in p.sights x (subst (IsIn x) p.parts_are i) in
-        let s = part_of_sight g.0.path x g.0.seen g.2 in
-        let e : entry.Look g.0.path g.0.seen ≡ entry.Look x (Some s.1.0) = ap (λ (y : Path). entry.Look y g.0.seen) s.0 ∙ ap (entry.Look x) s.1.2 in (
-          s.1.0,
-          s.1.1,
-          in_all (entry.Look x (Some s.1.0)) (subst (IsIn (entry.Look x (Some s.1.0))) (sym h.joined) (in_back (entry.Look x (Some s.1.0)) h.front h.back
-              (subst (IsIn (entry.Look x (Some s.1.0))) (sym p.looks) (subst (λ (d : Entry). IsIn d (map part_look p.sights)) e (in_map part_look g.0 p.sights g.1))))),
-        )
+parts_shown : (all : List Entry) (n : Naming) (names : List (List ℕ)) (parts : List Path) (ts : List Entry) → ((e : Entry) → IsIn e ts → IsIn e all) → PartsAmong n names parts ts → SawFiles parts all
+parts_shown all n names parts ts in_all p x i =
+    let g = in_flat part_in p.sights x (subst (IsIn x) p.parts_are i) in
+    let s = part_of_sight g.0.path x g.0.seen g.2 in
+    let e : entry.Look g.0.path g.0.seen ≡ entry.Look x (Some s.1.0) = ap (λ (y : Path). entry.Look y g.0.seen) s.0 ∙ ap (entry.Look x) s.1.2 in (
+      s.1.0,
+      s.1.1,
+      in_all (entry.Look x (Some s.1.0)) (subst (IsIn (entry.Look x (Some s.1.0))) (sym p.looks) (subst (λ (d : Entry). IsIn d (map part_look p.sights)) e (in_map part_look g.0 p.sights g.1))),
+    )
 
--- of a numbered family and of a dated one alike
-parts_shown : (all : List Entry) (n : Naming) (l : Listing) (stand : Stand) (ts : List Entry) → ((e : Entry) → IsIn e ts → IsIn e all) → (d : Option Format) → ShowsBy d n l stand ts → SawFiles stand.parts all
-parts_shown all n l stand ts in_all None h = parts_among all n l stand (ShowsMembers n l.there l.names stand.members) ts in_all h.2
-parts_shown all n l stand ts in_all (Some format) h = parts_among all n l stand (ShowsDays n l.there l.names stand.members) ts in_all h.2
-
--- ---- families
+-- ---- what was shown of a family
 
 -- The members of a family were seen: numbered ones each by a look that tells what was seen of it, dated ones the newest first.
 abbrev pub ShownBy : Option Format → Naming → Stand → List Entry → Type 0
 ShownBy None n stand all = Shown n (places_of stand.members) all × SawMembers n stand.members all
 ShownBy (Some format) n stand all = ShownDated n stand.members all
 
--- So they were where its directory is there, and the part files of every one.
+-- So they were where its directory is there, which was seen too, and the part files of every one. Where it isn't, that was seen, and nothing stands.
 abbrev pub WasShown : Naming → Stand → List Entry → Type 0
-WasShown n stand all = (stand.there ≡ true → ShownBy n.dated n stand all) × SawFiles stand.parts all
+WasShown n stand all = (stand.there ≡ true → SawDir n.dir all × ShownBy n.dated n stand all) × SawFiles stand.parts all × (stand.there ≡ false → IsMissing n stand all)
 
-shown_by : (all : List Entry) (n : Naming) (l : Listing) (stand : Stand) (ts : List Entry) → ((e : Entry) → IsIn e ts → IsIn e all) → AreTold all (l ∷ []) → l.dir ≡ n.dir → stand.there ≡ true
-    → (d : Option Format) → ShowsBy d n l stand ts → ShownBy d n stand all
-shown_by all n l stand ts in_all told dir there None h = members_shown all n l stand ts in_all told dir there h
-shown_by all n l stand ts in_all told dir there (Some format) h = days_shown all n l stand ts in_all told dir there h
-
--- a family, whether its directory was listed before or is listed now
-family_shown : (all : List Entry) (known : List Listing) (n : Naming) (after : List Listing) (stand : Stand) (s : FamilySight) (ts : List Entry) → s ≡ Stood stand → ((e : Entry) → IsIn e ts → IsIn e all) → AreTold all known → AreTold all after
-    → ShowsFamily known n after s ts → WasShown n stand all
-family_shown all known n after stand s ts is in_all told next f = go (subst (λ (x : FamilySight). ShowsFamily known n after x ts) is f)
+shown_by : (all : List Entry) (n : Naming) (stand : Stand) (d : Option Format) → IsListed d n stand all → ShownBy d n stand all
+shown_by all n stand None l = (
+  stands_shown n l.listed stand.members l.front all l.front_in l.list
+      (record { spots = s.spots; spots_are = spots_as n l.names l.listed s.spots l.same s.spots_are; shown = s.shown; each = s.each; newest_first = s.newest_first; looks = s.looks }),
+  sights_among n l.names stand.members l.front all l.front_in s,
+)
   where
-    alone : (ls : List Listing) (l : Listing) → AreTold all ls → IsIn l ls → AreTold all (l ∷ [])
-    alone ls l told i k (inl e) b = subst (λ (x : Listing). x.there ≡ true → IsTold all x) e (told l i) b
-    alone ls l told i k (inr none) b = absurd none
+    s : StandsAmong n l.names stand.members l.front
+    s = l.members
+shown_by all n stand (Some format) l = looks_shown n l.listed l.names stand.members l.front all l.same l.list l.front_in l.members
 
-    go : ShowsFamily known n after (Stood stand) ts → WasShown n stand all
-    go (behind_listing l was same m) = ((λ there. shown_by all n l stand ts in_all (alone known l told (in_list known was.place l was.there)) was.same there n.dated m), parts_shown all n l stand ts in_all n.dated m)
-    go (with_listing l new e same t) =
-        let more = λ (x : Entry) (i : IsIn x t.back). in_all x (subst (IsIn x) (sym t.joined) (in_back x t.front t.back i)) in
-        ((λ there. shown_by all n l stand t.back more (alone after l next (subst (IsIn l) (sym same) (in_back l known (l ∷ []) (inl refl)))) e there n.dated t.second), parts_shown all n l stand t.back more n.dated t.second)
-    go (not_listed why new same e h) = absurd (cc)
+was_shown : (all : List Entry) (n : Naming) (stand : Stand) → WasToldBy n.dated n stand all → WasShown n stand all
+was_shown all n stand told = ((λ there. let l = told.0 there in (l.dir, shown_by all n stand n.dated l)), parts stand.there refl, told.1)
+  where
+    parts : (b : Bool) → stand.there ≡ b → SawFiles stand.parts all
+    parts true there = let l = told.0 there in parts_shown all n l.names stand.parts l.back l.back_in l.parts
+    parts false gone = λ x i. absurd (subst (IsIn x) (told.1 gone).parts i)
 
 -- of each log that was looked at whole
-families_shown : (all : List Entry) (known : List Listing) (fs : List FoundLog) (after : List Listing) (ss : List FamilySight) (ts : List Entry) → ((e : Entry) → IsIn e ts → IsIn e all) → AreTold all known → ShowFamilies known fs after ss ts
-    → (x : LookedLog) → IsIn x (looked_of fs ss) → WasShown x.naming x.stand all
-families_shown all known [] after [] ts in_all told h x i = absurd i
-families_shown all known [] after (s ∷ ss) ts in_all told h x i = absurd i
-families_shown all known (f ∷ fs) after [] ts in_all told h x i = absurd i
-families_shown all known (f ∷ fs) after (s ∷ ss) ts in_all told h x i = ⊎_elim
-    (λ a. own s refl a)
-    (λ b. families_shown all h.0 fs after ss h.1.back (λ e j. in_all e (subst (IsIn e) (sym h.1.joined) (in_back e h.1.front h.1.back j))) next h.1.second x b)
-    (in_append x (looked_by f s) (looked_of fs ss) i)
-  where
-    in_front_all : (e : Entry) → IsIn e h.1.front → IsIn e all
-    in_front_all e j = in_all e (subst (IsIn e) (sym h.1.joined) (in_front e h.1.front h.1.back j))
-
-    next : AreTold all h.0
-    next = told_next all known f.log.naming h.0 s h.1.front in_front_all told h.1.first
-
-    own : (r : FamilySight) → s ≡ r → IsIn x (looked_by f r) → WasShown x.naming x.stand all
-    own (Stood stand) is (inl e) = subst (λ (y : LookedLog). WasShown y.naming y.stand all) e (family_shown all known f.log.naming h.0 stand s h.1.front is in_front_all told next h.1.first)
-    own (Stood stand) is (inr none) = absurd none
-    own (Stopped why) is none = absurd none
-
 pub all_shown : (all : List Entry) (fs : List FoundLog) (after : List Listing) (ss : List FamilySight) (ts : List Entry) → ((e : Entry) → IsIn e ts → IsIn e all) → ShowFamilies [] fs after ss ts
     → (x : LookedLog) → IsIn x (looked_of fs ss) → WasShown x.naming x.stand all
-all_shown all fs after ss ts in_all h = families_shown all [] fs after ss ts in_all (λ l i. absurd i) h
+all_shown all fs after ss ts in_all h x i = was_shown all x.naming x.stand (all_told all fs after ss ts in_all h x i)

@@ -21,14 +21,14 @@ use Rattle.lr_plan.specs.declared.looks.LogLook.{LogLook}
 use Rattle.lr_plan.specs.declared.looks.SetLooks.{SetLooks}
 use Rattle.lr_plan.specs.declared.planned.LogPlan.{LogPlan}
 use Rattle.lr_commands.specs.Commands.{spaced, script, where_so, mail, with_programs}
-use Rattle.lr_plan.specs.Planned.{copy_job, job_by, going_by, ready_by, ready_for, with_removals, dressed, hindrances, plan_with, log_plan, none_hinders, plans_of, where_due, log_plans, all_plans}
+use Rattle.lr_plan.specs.Planned.{standing, copy_job, job_by, going_by, ready_by, ready_for, with_removals, dressed, hindrances, plan_with, log_plan, none_hinders, plans_of, where_due, log_plans, all_plans}
 use Rattle.lr_looks.specs.Shown.{ShowsLooks}
 use Rattle.lr_dated.specs.Steps.{Ranked}
 use Rattle.lr_dated_chain.specs.Ready.{removal_of}
 use Rattle.lr_targets.specs.Target.{Target, IsJob, HasJob}
 use Rattle.lr_weave.specs.Fitting.{ReadsNothing, ReadsThis, ReadThemselves, ReadsOwn, ReadOwn, ReadOnlyOwn}
-use Rattle.lr_weave.specs.Planned.{bare_removal, bare, IsAtLog, IsReadyFor, AreReadyFor, HaveLogs}
-use Rattle.lr_seen.specs.Targets.{target_by, target_of, where_free, targets_of, groups_of}
+use Rattle.lr_weave.specs.Planned.{bare_removal, bare, IsReadyFor, AreReadyFor, HaveLogs}
+use Rattle.lr_seen.specs.Targets.{target_of, where_free, targets_of, groups_of}
 
 -- ---- programs
 
@@ -63,7 +63,7 @@ ask_both [] ys a b = b
 ask_both (x ∷ xs) ys a b = (a.0, ask_both xs ys a.1 b)
 
 ask_free : (clock : Clock) (fs : List Fault) (mailer : Path) (rule : Rule) (look : LogLook) → ReadOwn (none_hinders fs (log_plan clock mailer rule look ∷ []))
-ask_free clock [] mailer rule look = (asks mailer rule look (ready_for clock rule look), tt)
+ask_free clock [] mailer rule look = (asks mailer rule (standing rule look) (ready_for clock rule look), tt)
 ask_free clock (f ∷ fs) mailer rule look = tt
 
 ask_where : (d : Due) (xs : List LogPlan) → ReadOwn xs → ReadOwn (where_due d xs)
@@ -103,7 +103,7 @@ by_copy way.CopyTruncate look target job is = (true, cc)
 
 pub target_job : (clock : Clock) (rule : Rule) (look : LogLook) → HasJob (target_of clock rule look)
 target_job clock rule look job is =
-    let by = by_copy rule.way look (ready_for clock rule look).target job is in subst (IsJob (target_of clock rule look)) by.1 (record { from_is = refl; to_is = refl; part_is = refl; dir_is = refl })
+    let by = by_copy rule.way (standing rule look) (ready_for clock rule look).target job is in subst (IsJob (target_of clock rule look)) by.1 (record { from_is = refl; to_is = refl; part_is = refl; dir_is = refl })
 
 -- by rename exactly where there is no copy
 pub by_rename : (w : Way) (look : LogLook) (target : Path) → (w ≡ way.Rename) ↔ (job_by w look target ≡ None)
@@ -138,16 +138,16 @@ ready_bare mailer rule ready first last =
     ap (λ (rs : List Removal). with_removals rs (map bare_removal (map (with_programs rule mailer ready.log) ready.retire)) ready) (bare_are mailer rule ready.log ready.leftovers ∙ first)
     ∙ ap (λ (rs : List Removal). with_removals ready.leftovers rs ready) (bare_are mailer rule ready.log ready.retire ∙ last)
 
--- the rotation makes no directory, and begins at the log
-at_log : (d : Option Format) (clock : Clock) (rule : Rule) (look : LogLook) → IsAtLog (target_by d clock rule look)
-at_log None clock rule look = record { no_dir = refl; log_is = refl }
-at_log (Some format) clock rule look = record { no_dir = refl; log_is = refl }
+-- the rotation begins at the log
+at_log : (d : Option Format) (clock : Clock) (rule : Rule) (look : LogLook) → (ready_by d clock rule look).log ≡ look.path
+at_log None clock rule look = refl
+at_log (Some format) clock rule look = refl
 
 ready_log : (clock : Clock) (mailer : Path) (rule : Rule) (look : LogLook) → IsReadyFor (target_of clock rule look) (log_plan clock mailer rule look)
 ready_log clock mailer rule look = record {
-  ready = at_log look.family.naming.dated clock rule look;
+  log_is = at_log look.family.naming.dated clock rule (standing rule look);
   job = target_job clock rule look;
-  ready_is = ready_bare mailer rule (ready_for clock rule look) (bare_leftovers look.family.naming.dated clock rule look) (bare_retired look.family.naming.dated clock rule look);
+  ready_is = ready_bare mailer rule (ready_for clock rule look) (bare_leftovers look.family.naming.dated clock rule (standing rule look)) (bare_retired look.family.naming.dated clock rule (standing rule look));
   job_is = refl;
 }
 

@@ -1,7 +1,9 @@
 -- Each log that a plan rotates was seen, with its members.
-use Rattle.std.proofs.Common.{◌≡◌, ◌↔◌, inl, inr, ℕ, ◌+◌, ◌&&◌, ◌||◌, bytes_eq, Bool, true, false, cond, List, [], ◌∷◌, ◌++◌, Option, Some, None, slice_get, refl, sym, ap, ◌∙◌, subst, arith, eq-eqb}
+use Rattle.std.proofs.Common.{◌≡◌, ◌≢◌, ◌↔◌, inl, inr, ℕ, ◌+◌, ◌&&◌, ◌||◌, bytes_eq, Bool, true, false, not, cond, if◌then◌else◌, true≢false, List, [], ◌∷◌, ◌++◌, Option, Some, None, slice_get, refl, sym, ap, ◌∙◌, subst, arith, eq-eqb}
 use Rattle.std.specs.List.{list_any}
+use Rattle.std.specs.List.Sorted.{IsStrictlySortedBy}
 use Rattle.std.specs.Prelude.{ℤ, IsSome}
+use Rattle.std.proofs.lemmas.Bool.{and_parts, not-true}
 use Rattle.std.proofs.lemmas.List.Folds.{list_any_at}
 use Rattle.std.proofs.lemmas.Slice.Eq.{bytes_eq-Decides}
 use Rattle.lr_rules.specs.declared.clock.Clock.{Clock}
@@ -12,24 +14,27 @@ use Rattle.lr_rules.specs.declared.rule.Count.{Count}
 use Rattle.lr_rules.specs.declared.rule.Format.{Format}
 use Rattle.lr_rules.specs.declared.rule.Naming.{Naming}
 use Rattle.lr_rules.specs.declared.rule.Rule.{Rule}
+use Rattle.lr_rules.specs.declared.rule.Way.{Way}
 use Rattle.lr_rules.specs.declared.rule.Way.TheVariants.{Rename}
 use Rattle.lr_rules.specs.declared.rules.Rules.{Rules}
 use Rattle.lr_rules.specs.Names.{naming_of}
 use Rattle.lr_rules.specs.Limits.{is_format, or_none, meets_limits}
-use Rattle.lr_rules.specs.Path.{path_fault}
+use Rattle.lr_rules.specs.Path.{path_fault, parent_of}
 use Rattle.lr_due.specs.declared.answer.Due.{Due}
 use Rattle.lr_host.specs.declared.entry.Entry.{Entry}
 use Rattle.lr_host.specs.declared.entry.Entry.TheVariants as entry
+use Rattle.lr_host.specs.declared.thing.Kind.{Kind}
 use Rattle.lr_host.specs.declared.thing.Kind.TheVariants as kind
 use Rattle.lr_host.specs.declared.thing.Seen.{Seen}
 use Rattle.lr_host.specs.Lists.{IsIn}
-use Rattle.lr_host.specs.Looks.{Sees, IsFile}
-use Rattle.lr_host.proofs.Lists.{in_to, in_front, in_back}
+use Rattle.lr_host.specs.Looks.{Sees, IsFile, is_dir_kind, is_dir}
+use Rattle.lr_host.proofs.Lists.{in_from, in_to, in_front, in_back}
 use Rattle.lr_family.specs.declared.stand.Member.{Member}
 use Rattle.lr_family.specs.declared.stand.Stand.{Stand}
 use Rattle.lr_family.specs.Kin.{IsKin}
 use Rattle.lr_family.specs.Parts.{part_of}
 use Rattle.lr_family.specs.Stands.{number_in}
+use Rattle.lr_days.specs.Newest.{AreNewestFirst}
 use Rattle.lr_glob.proofs.Seeking.{found_were_seen}
 use Rattle.lr_kept.specs.declared.choice.Choice.TheVariants.{Kept}
 use Rattle.lr_kept.proofs.Elements.{same_read}
@@ -37,7 +42,7 @@ use Rattle.lr_copy.specs.declared.job.Job.{Job}
 use Rattle.lr_chain.specs.Ready.{is_highest, highest_path}
 use Rattle.lr_plan.specs.declared.looks.LogLook.{LogLook}
 use Rattle.lr_plan.specs.declared.looks.SetLooks.{SetLooks}
-use Rattle.lr_plan.specs.Planned.{keeps_all, is_too_high, numbered_hindrances, hindrances_by, ready_for}
+use Rattle.lr_plan.specs.Planned.{is_made, mode_of, makes_dir, dir_of, empty_stand, stand_for, with_stand, standing, keeps_all, is_too_high, numbered_hindrances, hindrances_by, ready_for, job_by}
 use Rattle.lr_looks.specs.Asked.{CanAsk}
 use Rattle.lr_looks.specs.Families.{LookedLog}
 use Rattle.lr_looks.specs.Choices.{kept_of}
@@ -46,10 +51,12 @@ use Rattle.lr_looks.specs.Sets.{looked_in}
 use Rattle.lr_looks.specs.Shown.{ShowsLooks}
 use Rattle.lr_looks.proofs.Kindred.{kin_of}
 use Rattle.lr_rotations.specs.Members.{IsFamily}
-use Rattle.lr_targets.specs.Target.{Target, IsOneTooHigh, Gives}
+use Rattle.lr_rotations.specs.Shown.{SawDir, no_dir as number_no_dir}
+use Rattle.lr_targets.specs.Target.{Target, IsOneTooHigh, IsDirSeenBy, Gives}
 use Rattle.lr_rotations.specs.Weave.{Among}
 use Rattle.lr_dated_ready.specs.Hindrances.{dated_hindrances}
 use Rattle.lr_dated_seen.specs.Family.{IsDatedFamily}
+use Rattle.lr_dated_seen.specs.Shown.{no_dir}
 use Rattle.lr_dated_seen.proofs.Names.{log_apart}
 use Rattle.lr_dated_run.specs.Own.{HaveAnyNames}
 use Rattle.lr_mixed.specs.Seen.{IsSeenBy, IsLogSeen, AreLogsSeen}
@@ -58,8 +65,9 @@ use Rattle.lr_seen.specs.Targets.{target_by, target_of, all_targets}
 use Rattle.lr_seen.proofs.Elements.{in_list}
 use Rattle.lr_seen.proofs.Apart.{kept_at}
 use Rattle.lr_seen.proofs.Coming.{Comes, comes_from, was_looked, in_kept, IsFrom, came_from}
+use Rattle.lr_seen.proofs.Directory.{dir_apart}
 use Rattle.lr_seen.proofs.Gives.{all_in, gives_kept}
-use Rattle.lr_seen.proofs.Listed.{ShownBy, WasShown, all_shown}
+use Rattle.lr_seen.proofs.Listed.{SawParent, ShownBy, WasShown, all_shown}
 use Rattle.lr_seen.proofs.Ready.{by_copy, by_rename, target_job}
 
 -- ---- the family
@@ -115,6 +123,9 @@ module _ {reserved : List Path} (rules : Rules) (sets : List SetLooks) (faults :
   rule_dated : x.naming.dated ≡ of.by_word.word.rule.dated
   rule_dated = ap (λ (n : Naming). n.dated) (sym of.naming_is ∙ sym by_rule)
 
+  looked_format : or_none is_format x.naming.dated ≡ true
+  looked_format = subst (λ (n : Naming). or_none is_format n.dated ≡ true) of.naming_is fits.format
+
   looked_family : x.naming.dated ≡ None → IsFamily x.path x.naming
   looked_family numbered = subst (λ (p : Path). IsFamily p x.naming) of.path_is (subst (IsFamily of.found.log.path) of.naming_is (is_family of.by_word.word.rule of.found (sym rule_dated ∙ numbered) can fits by_rule))
 
@@ -144,10 +155,10 @@ has_in x (y ∷ ys) h = go (λ k. has_in x ys k) (bytes_eq x y) refl h
     go further true e h = inl (sym ((bytes_eq-Decides x y).0 e))
     go further false e h = inr (further h)
 
--- one that goes before the copy stood
-stale_stands : (clock : Clock) (rule : Rule) (look : LogLook) (job : Job) → (target_of clock rule look).job ≡ Some job → job.stale ≡ true → IsIn job.part look.stand.parts
-stale_stands clock rule look job is stale = let by = by_copy rule.way look (ready_for clock rule look).target job is in
-    subst (λ (j : Job). IsIn j.part look.stand.parts) by.1 (has_in (part_of (ready_for clock rule look).target) look.stand.parts (ap (λ (j : Job). j.stale) by.1 ∙ stale))
+-- one that goes before the copy stood as the rotation begins
+stale_stands : (clock : Clock) (rule : Rule) (look : LogLook) (job : Job) → (target_of clock rule look).job ≡ Some job → job.stale ≡ true → IsIn job.part (stand_for rule look).parts
+stale_stands clock rule look job is stale = let by = by_copy rule.way (standing rule look) (ready_for clock rule look).target job is in
+    subst (λ (j : Job). IsIn j.part (stand_for rule look).parts) by.1 (has_in (part_of (ready_for clock rule look).target) (stand_for rule look).parts (ap (λ (j : Job). j.stale) by.1 ∙ stale))
 
 -- ---- nothing hinders
 
@@ -177,26 +188,113 @@ not_high n c members e h =
     clash true false p q r = cc
     clash true true p q r = cc
 
+-- of either kind: its directory is there
+there_of : (d : Option Format) (clock : Clock) (rule : Rule) (look : LogLook) → hindrances_by d clock rule look ≡ [] → look.stand.there ≡ true
+there_of None clock rule look free = (is_free rule look free).0
+there_of (Some format) clock rule look free = dated_free look.family.naming look.stand _ free
+
+-- ---- what stands as the rotation begins
+
+-- A directory that is made was missing, in a directory that was there; and its path isn't the log's.
+record IsToMake (look : LogLook) : Type 0 where
+  gone : look.stand.there ≡ false
+  parent : look.stand.parent ≡ true
+  other : look.family.naming.dir ≢ look.path
+
+to_make : (rule : Rule) (look : LogLook) → makes_dir rule look ≡ true → IsToMake look
+to_make rule look is =
+    let asked = and_parts (is_made rule.createolddir) _ is in
+    let missing = and_parts (not look.stand.there) _ asked.1 in
+    let where_ = and_parts look.stand.parent _ missing.1 in
+    let apart : bytes_eq look.family.naming.dir look.path ≡ false = not-true _ where_.1 in
+    record { gone = not-true look.stand.there missing.0; parent = where_.0; other = λ e. true≢false (sym ((bytes_eq-Decides look.family.naming.dir look.path).1 e) ∙ apart) }
+
+none_fall : AreNewestFirst []
+unfolding IsStrictlySortedBy
+none_fall = tt
+
+-- a directory that is missing has no member
+none_shown : (n : Naming) (ts : List Entry) → IsIn (entry.Look n.dir None) ts → (d : Option Format) → ShownBy d n empty_stand ts
+none_shown n ts gone None = (
+  record {
+    falling = λ k lt. absurd (omega (arith, lt));
+    named = λ place c. absurd (in_from place [] c);
+    files = λ place c. absurd (in_from place [] c);
+    others = λ place named out. number_no_dir gone;
+  },
+  λ m i. absurd i,
+)
+none_shown n ts gone (Some format) = record {
+  newest_first = none_fall;
+  named = λ at m lt. absurd (omega (arith, lt));
+  files = λ at m lt. absurd (omega (arith, lt));
+  others = λ x seconds serial is none. no_dir gone;
+}
+
+dir_kind : (k : Kind) → is_dir_kind k ≡ true → k ≡ kind.Dir
+dir_kind kind.Dir is = refl
+dir_kind kind.File is = absurd (cc)
+dir_kind kind.Other is = absurd (cc)
+
+-- the parent was seen where it is there
+parent_seen : (dir : Path) (parent : Bool) (ts : List Entry) → SawParent dir parent ts → parent ≡ true → SawDir (parent_of dir) ts
+parent_seen dir parent ts saw there = go saw.0 (saw.1 ∙ there) saw.2
+  where
+    go : (o : Option Seen) → is_dir o ≡ true → IsIn (entry.Look (parent_of dir) o) ts → SawDir (parent_of dir) ts
+    go None is i = absurd (cc)
+    go (Some seen) is i = (seen, dir_kind seen.kind is, i)
+
+none_stale : (look : LogLook) (way : Way) (target : Path) (job : Job) → job_by way (with_stand empty_stand look) target ≡ Some job → job.stale ≡ false
+none_stale look way target job is = let by = by_copy way (with_stand empty_stand look) target job is in sym (ap (λ (j : Job). j.stale) by.1)
+
+module _ (rule : Rule) (look : LogLook) (ts : List Entry) (shown : WasShown look.family.naming look.stand ts) where
+  -- the members that stand as the rotation begins were seen
+  stand_shown : (made : Bool) → makes_dir rule look ≡ made → (if made then empty_stand else look.stand).there ≡ true → ShownBy look.family.naming.dated look.family.naming (if made then empty_stand else look.stand) ts
+  stand_shown false is there = (shown.0 there).1
+  stand_shown true is there = none_shown look.family.naming ts (shown.2 (to_make rule look is).gone).look look.family.naming.dated
+
+  -- a part file that stands then stood
+  part_stood : (made : Bool) (x : Path) → IsIn x (if made then empty_stand else look.stand).parts → IsIn x look.stand.parts
+  part_stood false x i = i
+  part_stood true x i = absurd i
+
+  -- the directory was seen, or it was missing and is made
+  dir_seen : (target : Path) → or_none is_format look.family.naming.dated ≡ true → (made : Bool) → makes_dir rule look ≡ made → (if made then empty_stand else look.stand).there ≡ true
+      → IsDirSeenBy (if made then Some (look.family.naming.dir, mode_of rule.createolddir) else None) look.path look.family.naming (if made then empty_stand else look.stand).members (job_by rule.way (with_stand (if made then empty_stand else look.stand) look) target) ts
+  dir_seen target format false is there = (shown.0 there).0
+  dir_seen target format true is there =
+      let m = to_make rule look is in
+      let missing = shown.2 m.gone in
+      record {
+        dir_is = refl;
+        apart = dir_apart look.path look.family.naming format m.other;
+        gone = missing.look;
+        parent = parent_seen look.family.naming.dir look.stand.parent ts missing.parent m.parent;
+        no_members = refl;
+        not_stale = λ job is_job. none_stale look rule.way target job is_job;
+      }
+
 -- ---- one log, and all
 
--- its members were seen, and its rotation is theirs
+-- its members were seen, and its rotation is theirs, where this stands of its family
 shows_by : {reserved : List Path} (rules : Rules) (sets : List SetLooks) (faults : List Fault) (ts : List Entry) (clock : Clock) (rule : Rule) (look : LogLook) (k : ℕ) (s : ShowsLooks reserved rules.sets sets faults ts) → IsIn (looked_in k look) s.looked
-    → (look.stand.there ≡ true → ShownBy look.family.naming.dated look.family.naming look.stand ts) → (d : Option Format) → look.family.naming.dated ≡ d → hindrances_by d clock rule look ≡ [] → IsSeenBy d rule.maxage clock ts (target_by d clock rule look)
-shows_by rules sets faults ts clock rule look k s looked shown None e free =
-    let f = is_free rule look free in
-    let members : ShownBy None look.family.naming look.stand ts = subst (λ d. ShownBy d look.family.naming look.stand ts) e (shown f.0) in
+    → (dir : Option (Path × Option ℕ)) (stand : Stand) → (stand.there ≡ true → ShownBy look.family.naming.dated look.family.naming stand ts) → (d : Option Format) → look.family.naming.dated ≡ d → hindrances_by d clock rule (with_stand stand look) ≡ []
+    → IsSeenBy d rule.maxage clock ts (target_by d dir clock rule (with_stand stand look))
+shows_by rules sets faults ts clock rule look k s looked dir stand shown None e free =
+    let f = is_free rule (with_stand stand look) free in
+    let members : ShownBy None look.family.naming stand ts = subst (λ d. ShownBy d look.family.naming stand ts) e (shown f.0) in
     record {
       family = looked_family rules sets faults ts (looked_in k look) s looked e;
       seen = members.0;
       sights = members.1;
       from_is = refl;
-      low = not_high look.family.naming rule.count look.stand.members f.1;
+      low = not_high look.family.naming rule.count stand.members f.1;
       ready = record { leftovers_are = refl; no_dir = refl; moves_are = refl; log_is = refl; target_is = refl; make_is = refl; retire_is = refl };
     }
-shows_by rules sets faults ts clock rule look k s looked shown (Some format) e free =
+shows_by rules sets faults ts clock rule look k s looked dir stand shown (Some format) e free =
     record {
       family = looked_dated_family rules sets faults ts (looked_in k look) s looked (subst IsSome (sym e) refl);
-      seen = subst (λ d. ShownBy d look.family.naming look.stand ts) e (shown (dated_free look.family.naming look.stand _ free));
+      seen = subst (λ d. ShownBy d look.family.naming stand ts) e (shown (dated_free look.family.naming stand _ free));
       free = free;
       ready = refl;
     }
@@ -217,11 +315,14 @@ target_seen rules sets faults ts clock t s c = subst (IsLogSeen rules clock ts) 
     };
     naming_is = ap (naming_of o.by_word.word.rule) (sym o.path_is) ∙ (by_rule rules sets faults ts x s looked ∙ o.naming_is);
     count_is = ap (λ (r : Rule). r.count) (sym same);
-    way_is = subst (λ (r : Rule). (r.way ≡ Rename) ↔ ((target_of clock c.rule c.look).job ≡ None)) same (by_rename c.rule.way c.look (ready_for clock c.rule c.look).target);
+    way_is = subst (λ (r : Rule). (r.way ≡ Rename) ↔ ((target_of clock c.rule c.look).job ≡ None)) same (by_rename c.rule.way (standing c.rule c.look) (ready_for clock c.rule c.look).target);
   };
   log_seen = sees_file x.path o.found.seen ts o.file (subst (λ (p : Path). IsIn (entry.Look p (Some o.found.seen)) ts) o.path_is look);
-  shows = subst (λ (r : Rule). IsSeenBy c.look.family.naming.dated r.maxage clock ts (target_of clock c.rule c.look)) same (shows_by rules sets faults ts clock c.rule c.look (0 + c.place) s looked shown.0 c.look.family.naming.dated refl c.free);
-  job = λ job is. (target_job clock c.rule c.look job is, λ stale. let old = shown.1 job.part (stale_stands clock c.rule c.look job is stale) in sees_file job.part old.0 ts old.1 old.2);
+  shows = subst (λ (r : Rule). IsSeenBy c.look.family.naming.dated r.maxage clock ts (target_of clock c.rule c.look)) same
+      (shows_by rules sets faults ts clock c.rule c.look (0 + c.place) s looked (dir_of c.rule c.look) (stand_for c.rule c.look) (stand_shown c.rule c.look ts shown (makes_dir c.rule c.look) refl) c.look.family.naming.dated refl c.free);
+  maxage_is = ap (λ (r : Rule). r.maxage) (sym same);
+  dir = dir_seen c.rule c.look ts shown (ready_for clock c.rule c.look).target (looked_format rules sets faults ts x s looked) (makes_dir c.rule c.look) refl (there_of c.look.family.naming.dated clock c.rule (standing c.rule c.look) c.free);
+  job = λ job is. (target_job clock c.rule c.look job is, λ stale. let old = shown.1 job.part (part_stood c.rule c.look ts shown (makes_dir c.rule c.look) job.part (stale_stands clock c.rule c.look job is stale)) in sees_file job.part old.0 ts old.1 old.2);
 })
   where
     x : LookedLog

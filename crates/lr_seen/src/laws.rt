@@ -30,7 +30,8 @@ pub fn looks_are_quiet()
 {}
 
 /// Each log that a plan rotates was seen as a file, and its members were: a word of its rule gives it, and there are names
-/// for all its members. At the clock's moment the members go that the rule lets go.
+/// for all its members. At the clock's moment the members go that the rule lets go. Its family's directory was seen too; or
+/// it was missing, in a directory that was seen, and the rotation makes it.
 pub fn looks_see_targets()
     ensures seen { (reserved : List Path) (rules : Rules) (sets : List SetLooks) (faults : List Fault) (ts : List Entry) (clock : Clock) (decide : Rule → LogLook → Due)
         → ShowsLooks reserved rules.sets sets faults ts → AreLogsSeen rules clock ts (all_targets clock decide rules.sets sets) }

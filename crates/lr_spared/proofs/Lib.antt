@@ -1,9 +1,13 @@
 pub mod Clearing
 pub mod Courses
+pub mod Dirs
+pub mod Hindering
 pub mod Long
+pub mod Making
 pub mod Members
 pub mod Naming
 pub mod Once
+pub mod Sighted
 pub mod Smooth
 pub mod Stale
 pub mod Steps

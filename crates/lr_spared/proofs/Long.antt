@@ -138,7 +138,7 @@ pub record At (p q : Past) (e : Entry) : Type 0 where
   pub fits : Fits (world mid) e
   pub second : Made mid new q
 
-made_at : (p q : Past) (es : List Entry) (e : Entry) → Made p es q → IsIn e es → At p q e
+pub made_at : (p q : Past) (es : List Entry) (e : Entry) → Made p es q → IsIn e es → At p q e
 made_at p _ _ e at_first i = absurd i
 made_at p _ es e (by_writer {q = q} {e = d} m w f) i = let r = made_at p q es e m i in record { mid = r.mid; old = r.old; new = r.new; first = r.first; fits = r.fits; second = by_writer r.second w f }
 made_at p _ _ e (by_tool {es = es} {q = q} {e = d} m w f) i = ⊎_elim

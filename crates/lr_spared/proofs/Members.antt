@@ -28,7 +28,7 @@ use Rattle.lr_rotations.specs.Members.{HasName}
 use Rattle.lr_rotations.proofs.Fitting.{kept_next, first_named, retire_named}
 use Rattle.lr_rotations.proofs.Outside.{place_shape, place_name}
 use Rattle.lr_targets.specs.Apart.{HasNames}
-use Rattle.lr_targets.specs.Target.{Target, HasJob, IsOneOf}
+use Rattle.lr_targets.specs.Target.{Target, HasDir, HasJob, IsOneOf}
 use Rattle.lr_targets.proofs.PartFile.{part_no_member}
 use Rattle.lr_targets.proofs.SeenFits.{seen_names}
 use Rattle.lr_dated_seen.specs.Family.{IsDatedFamily}
@@ -48,12 +48,13 @@ AreOfMembers n rs = AllByRecursion (λ (r : Removal). IsMember n r.path) rs
 abbrev pub GiveMembers : Naming → List Move → Type 0
 GiveMembers n ms = AllByRecursion (λ (m : Move). IsMember n m.to) ms
 
--- The removals of the rotation are of members, its moves give members' paths, and the log comes to one; so does its copy, where it is copied. The part file of that path is no member.
+-- The removals of the rotation are of members, its moves give members' paths, and the log comes to one; so does its copy, where it is copied. The part file of that path is no member. The directory that is made, if any, is that of the family, and no other name of it.
 pub record HasMembers (t : Target) : Type 0 where
   pub leftovers : AreOfMembers t.naming t.ready.leftovers
   pub moves : GiveMembers t.naming t.ready.moves
   pub target : IsMember t.naming t.ready.target
   pub retire : AreOfMembers t.naming t.ready.retire
+  pub dir : HasDir t
   pub job : HasJob t
   pub apart : IsMember t.naming (part_of t.ready.target) → ⊥
 
@@ -123,6 +124,7 @@ module _ (t : Target) (h : HasNames t) where
     moves = subst (GiveMembers n) (sym h.ready.moves_are) (moves_at (kept t.count ps) (kept_next n t.count ps h.next));
     target = subst (IsMember n) (sym h.ready.target_is) (at_place 0 first);
     retire = subst (AreOfMembers n) (sym h.ready.retire_is) (removals_at (retired t.count t.from) (retire_named n t.count ps t.from h.next h.going));
+    dir = h.dir;
     job = h.job;
     apart = numbered_apart;
   }
@@ -159,6 +161,7 @@ module _ (t : Target) (family : IsDatedFamily t.log t.naming) (h : HasDatedNames
     moves = subst (GiveMembers t.naming) (sym h.ready.no_moves) tt;
     target = inr (h.seconds, h.ready.serial, h.ready.target_is);
     retire = subst (AreOfMembers t.naming) (sym h.ready.retire_is) retired_members;
+    dir = h.dir;
     job = h.job;
     apart = dated_apart;
   }

@@ -70,7 +70,7 @@ dropped n y x = go (bytes_eq y x)
     go false = inr refl
 
 -- so the path names nothing behind it, or what it named
-avoided : (p : Past) (e : Entry) (x : Path) → IsTools e → Avoids x e → (names (world (p ▸ e)) x ≡ thing.Nothing) ⊎ (names (world (p ▸ e)) x ≡ names (world p) x)
+pub avoided : (p : Past) (e : Entry) (x : Path) → IsTools e → Avoids x e → (names (world (p ▸ e)) x ≡ thing.Nothing) ⊎ (names (world (p ▸ e)) x ≡ names (world p) x)
 avoided p (Renames from to) x i a = ⊎_elim (λ none. inl (moved ∙ none)) (λ same. inr (moved ∙ same)) (dropped (names (world p)) from x)
   where
     moved : names (world (p ▸ Renames from to)) x ≡ cond (bytes_eq from x) thing.Nothing (names (world p) x)

@@ -7,7 +7,7 @@ use Rattle.lr_rules.specs.declared.fault.Phase.TheVariants as phase
 use Rattle.lr_rules.specs.declared.rule.Make.{Make}
 use Rattle.lr_rules.specs.declared.rule.Make.TheVariants as make
 use Rattle.lr_rules.specs.declared.rule.Naming.{Naming}
-use Rattle.lr_rules.specs.Names.{IsOwnName, the_log, Meet}
+use Rattle.lr_rules.specs.Names.{IsOwnName, the_log, IsName, Meet}
 use Rattle.lr_family.specs.Parts.{IsMember}
 use Rattle.lr_scripts.specs.declared.command.Command.{Command}
 use Rattle.lr_scripts.specs.declared.removal.Removal.{Removal}
@@ -20,6 +20,7 @@ use Rattle.lr_plan.specs.declared.step.Step.{Step}
 use Rattle.lr_plan.specs.declared.step.Step.TheVariants as step
 use Rattle.lr_plan.specs.Steps.{on_of, program, removal, removals, directory, move, step_if, copy, transfer, made_anew, rotation_of, retirement_of, steps_of_log, shared_steps, by_logs, steps_of_set}
 use Rattle.lr_acts.specs.Making.{all_of_each, all_of_set, all_of_sets}
+use Rattle.lr_targets.specs.AllTurns.{IsItsDir}
 use Rattle.lr_targets.specs.Target.{Target, IsOneOf}
 use Rattle.lr_weave.specs.Fitting.{NoneMeets, DontMeet}
 use Rattle.lr_weave.specs.Planned.{bare_removal, IsReadyFor, AreReadyFor, HaveLogs}
@@ -50,9 +51,9 @@ module _ (x : Path) where
       (none_on x (program phase.Preremove r.preremove) _ (program_none phase.Preremove r.preremove) (none_on x (program phase.Mail r.mail) _ (program_none phase.Mail r.mail) ((λ h. h), (λ gone. out (subst (IsMember n) gone h.0)), tt)))
       (removals_none n out rs h.1)
 
-  directory_none : (d : Option (Path × Option ℕ)) → d ≡ None → NoneTouches x (directory d)
-  directory_none None e = tt
-  directory_none (Some d) e = absurd (cc)
+  directory_none : (d : Option (Path × Option ℕ)) → ((mode : Option ℕ) → d ≡ Some (x, mode) → ⊥) → NoneTouches x (directory d)
+  directory_none None other = tt
+  directory_none (Some (path, mode)) other = ((λ same. other mode (ap (λ (y : Path). Some (y, mode)) same)), (λ h. h), tt)
 
   moves_none : (n : Naming) → (IsMember n x → ⊥) → (ms : List Move) → GiveMembers n ms → NoneTouches x (map move ms)
   moves_none n out [] h = tt
@@ -97,18 +98,21 @@ module _ (x : Path) where
     n = t.naming
 
     log_is : l.ready.log ≡ t.log
-    log_is = ap (λ (y : Ready). y.log) r.ready_is ∙ r.ready.log_is
+    log_is = ap (λ (y : Ready). y.log) r.ready_is ∙ r.log_is
 
     target_is : l.ready.target ≡ t.ready.target
     target_is = ap (λ (y : Ready). y.target) r.ready_is
 
-    -- of what is no member's
-    module _ (out : IsMember n x → ⊥) where
+    dir_is : l.ready.dir ≡ t.ready.dir
+    dir_is = ap (λ (y : Ready). y.dir) r.ready_is
+
+    -- of what is no member's, nor the directory that it makes
+    module _ (out : IsMember n x → ⊥) (away : IsItsDir t x → ⊥) where
       leftovers_none : NoneTouches x (removals l.ready.leftovers)
       leftovers_none = removals_none n out l.ready.leftovers (subst (AreOfMembers n) (sym (ap (λ (y : Ready). y.leftovers) r.ready_is)) h.leftovers)
 
       dir_none : NoneTouches x (directory l.ready.dir)
-      dir_none = directory_none l.ready.dir (ap (λ (y : Ready). y.dir) r.ready_is ∙ r.ready.no_dir)
+      dir_none = directory_none l.ready.dir (λ mode is. away (mode, sym dir_is ∙ is))
 
       chain_none : NoneTouches x (map move l.ready.moves)
       chain_none = moves_none n out l.ready.moves (subst (GiveMembers n) (sym (ap (λ (y : Ready). y.moves) r.ready_is)) h.moves)
@@ -134,29 +138,35 @@ module _ (x : Path) where
       around_once : OnceNamed x way → NoneTouches x last → OnceNamed x (rotation_of l)
       around_once a b = once_later x (removals l.ready.leftovers) _ leftovers_none (once_later x (directory l.ready.dir) _ dir_none (once_later x (map move l.ready.moves) _ chain_none (once_first x way last a b)))
 
-    no_member : (IsOwnName t.log n x → ⊥) → IsMember n x → ⊥
-    no_member other m = other (member_own t.log n x m)
-
     -- the path is no name of the log
-    pub log_aside : (IsOwnName t.log n x → ⊥) → IsAside x l
-    log_aside other = (around_none (no_member other) (by l.job refl) ((λ h. h), (λ h. h), anew_none l.ready.make l.ready.log l.job (λ same. other (the_log (sym same ∙ log_is)))), retire_none (no_member other))
+    pub log_aside : (IsName t.log n x → ⊥) → IsAside x l
+    log_aside other = (around_none no_member no_dir (by l.job refl) ((λ h. h), (λ h. h), anew_none l.ready.make l.ready.log l.job (λ same. other (inl (the_log (sym same ∙ log_is))))), retire_none no_member no_dir)
       where
+        no_member : IsMember n x → ⊥
+        no_member m = other (inl (member_own t.log n x m))
+
+        no_dir : IsItsDir t x → ⊥
+        no_dir d = other (inr (h.dir x d.0 d.1).0)
+
         by : (j : Option Job) → l.job ≡ j → NoneTouches x (transfer l.ready.log l.ready.target j)
-        by None e = (to_other (no_member other) l.ready.target target_is, λ h. h, tt)
+        by None e = (to_other no_member no_dir l.ready.target target_is, λ h. h, tt)
         by (Some job) e = let is : t.job ≡ Some job = sym r.job_is ∙ e in
-            copy_none job (λ same. other (subst (IsOwnName t.log n) same (part_own t h job is))) (to_other (no_member other) job.to (job_to t h job is))
+            copy_none job (λ same. other (inl (subst (IsOwnName t.log n) same (part_own t h job is)))) (to_other no_member no_dir job.to (job_to t h job is))
 
     -- the path is that of the part file of its copy
     log_once : (job : Job) → t.job ≡ Some job → job.part ≡ x → IsOnce x l
-    log_once job is same = (around_once out (by l.job (r.job_is ∙ is)) (last_none l.job (r.job_is ∙ is)), retire_none out)
+    log_once job is same = (around_once out away (by l.job (r.job_is ∙ is)) (last_none l.job (r.job_is ∙ is)), retire_none out away)
       where
         out : IsMember n x → ⊥
         out m = h.apart (subst (IsMember n) (sym same ∙ job_part t h job is) m)
 
+        away : IsItsDir t x → ⊥
+        away d = (h.dir x d.0 d.1).1 (subst (IsOwnName t.log n) same (part_own t h job is))
+
         by : (j : Option Job) → j ≡ Some job → OnceNamed x (transfer l.ready.log l.ready.target j)
         by None e = absurd (cc)
         by (Some other) e = let one : other ≡ job = cc in
-            subst (λ (k : Job). OnceNamed x (copy k)) (sym one) (copy_once job (to_other out job.to (job_to t h job is)))
+            subst (λ (k : Job). OnceNamed x (copy k)) (sym one) (copy_once job (to_other out away job.to (job_to t h job is)))
 
         last_none : (j : Option Job) → j ≡ Some job → NoneTouches x (step.Rotated l.ready.log ∷ made_anew l.ready.make l.ready.log j)
         last_none None e = absurd (cc)
@@ -172,13 +182,13 @@ abbrev pub OneAtMost : Path → List LogPlan → Type 0
 OneAtMost x [] = Unit {0}
 OneAtMost x (l ∷ ls) = (IsOnce x l × AreAside x ls) ⊎ (IsAside x l × OneAtMost x ls)
 
-meets_none : (t u : Target) (ts : List Target) → NoneMeets t ts → IsOneOf u ts → Meet u.log u.naming t.log t.naming → ⊥
+pub meets_none : (t u : Target) (ts : List Target) → NoneMeets t ts → IsOneOf u ts → Meet u.log u.naming t.log t.naming → ⊥
 meets_none t u [] n i = absurd i
 meets_none t u (v ∷ ts) n (inl same) = subst (λ (w : Target). Meet w.log w.naming t.log t.naming → ⊥) same n.0
 meets_none t u (v ∷ ts) n (inr i) = meets_none t u ts n.1 i
 
 module _ (x : Path) where
-  pub logs_aside : (ts : List Target) (ls : List LogPlan) → AreReadyFor ts ls → HaveMembers ts → ((t : Target) → IsOneOf t ts → IsOwnName t.log t.naming x → ⊥) → AreAside x ls
+  pub logs_aside : (ts : List Target) (ls : List LogPlan) → AreReadyFor ts ls → HaveMembers ts → ((t : Target) → IsOneOf t ts → IsName t.log t.naming x → ⊥) → AreAside x ls
   logs_aside [] [] r h other = tt
   logs_aside [] (l ∷ ls) r h other = absurd r
   logs_aside (t ∷ ts) [] r h other = absurd r
@@ -189,13 +199,13 @@ module _ (x : Path) where
   logs_at_most (u ∷ ts) [] r h d t i job is same = absurd r
   logs_at_most (u ∷ ts) (l ∷ ls) r h d t (inl e) job is same = inl (
     log_once x u l (h u (inl refl)) r.0 job (ap (λ (v : Target). v.job) e ∙ is) same,
-    logs_aside ts ls r.1 (λ v i. h v (inr i)) (λ v i own. meets_none u v ts d.0 i (x, inl (own, inl own_u))),
+    logs_aside ts ls r.1 (λ v i. h v (inr i)) (λ v i named. meets_none u v ts d.0 i (x, inr (named, own_u))),
   )
     where
       own_u : IsOwnName u.log u.naming x
       own_u = subst (IsOwnName u.log u.naming) same (part_own u (h u (inl refl)) job (ap (λ (v : Target). v.job) e ∙ is))
   logs_at_most (u ∷ ts) (l ∷ ls) r h d t (inr i) job is same = inr (
-    log_aside x u l (h u (inl refl)) r.0 (λ own. meets_none u t ts d.0 i (x, inl (subst (IsOwnName t.log t.naming) same (part_own t (h t (inr i)) job is), inl own))),
+    log_aside x u l (h u (inl refl)) r.0 (λ named. meets_none u t ts d.0 i (x, inl (subst (IsOwnName t.log t.naming) same (part_own t (h t (inr i)) job is), named))),
     logs_at_most ts ls r.1 (λ v j. h v (inr j)) d.1 t i job is same,
   )
 

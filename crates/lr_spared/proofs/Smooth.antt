@@ -1,5 +1,6 @@
 -- Where nothing is in the way of a run and no count of failures rose, nothing failed.
-use Rattle.std.proofs.Common.{◌≡◌, ◌≢◌, ◌⊎◌, inl, inr, ⊎_elim, ◌≤◌, ℕ, suc, zero, Bool, true, false, bytes_eq, refl, sym, ◌∙◌, ap, subst, arith, List, [], ◌∷◌, ◌++◌, reverse, append_assoc, length, Some, None}
+use Rattle.std.proofs.Common.{◌≡◌, ◌≢◌, ◌⊎◌, inl, inr, ⊎_elim, ◌≤◌, ℕ, suc, zero, Bool, true, false, bytes_eq, refl, sym, ◌∙◌, ap, subst, arith, List, [], ◌∷◌, ◌++◌, map, reverse, append_assoc, length, Option, Some, None}
+use Rattle.std.specs.Prelude.{filter}
 use Rattle.std.specs.List.{flat_map}
 use Rattle.std.proofs.lemmas.Slice.Eq.{bytes_eq-Decides}
 use Rattle.lr_rules.specs.declared.clock.Clock.{Clock}
@@ -7,25 +8,28 @@ use Rattle.lr_rules.specs.declared.fault.Fault.{Fault}
 use Rattle.lr_rules.specs.declared.fault.Fault.TheVariants as fault
 use Rattle.lr_rules.specs.declared.fault.Phase.{Phase}
 use Rattle.lr_rules.specs.declared.path.Path.{Path}
+use Rattle.lr_rules.specs.declared.rule.Naming.{Naming}
 use Rattle.lr_rules.specs.declared.rule.Rule.{Rule}
 use Rattle.lr_rules.specs.declared.rules.Rules.{Rules}
 use Rattle.lr_rules.specs.Match.{part_end, EndsWith}
-use Rattle.lr_rules.specs.Names.{IsOwnName}
+use Rattle.lr_rules.specs.Names.{IsOwnName, IsName}
 use Rattle.lr_rules.specs.Path.{parent_of}
 use Rattle.lr_due.specs.declared.answer.Due.{Due}
 use Rattle.lr_host.specs.declared.entry.Entry.{Entry}
 use Rattle.lr_host.specs.declared.entry.Entry.TheVariants as entry
 use Rattle.lr_host.specs.declared.journal.Journal.{Journal}
+use Rattle.lr_host.specs.declared.thing.Seen.{Seen}
+use Rattle.lr_host.specs.declared.thing.Thing.{Thing}
 use Rattle.lr_host.specs.declared.thing.Thing.TheVariants as thing
 use Rattle.lr_host.specs.Counted.{calls_in, scripts_in, RoseBy, AreCounted}
-use Rattle.lr_host.specs.Fits.{IsFileAt}
+use Rattle.lr_host.specs.Fits.{IsFileAt, Sees}
 use Rattle.lr_host.specs.Lists.{IsIn}
 use Rattle.lr_host.specs.Looks.{IsDir}
 use Rattle.lr_host.specs.Opening.{IsJournal}
 use Rattle.lr_host.specs.Quiet.{IsQuiet, AreQuiet, ChangeNothing}
 use Rattle.lr_host.specs.Steps.{is_change}
 use Rattle.lr_host.specs.Told.{Counts, Each, Made, by_tool, Rose}
-use Rattle.lr_host.specs.World.{Past, ◌▸◌, past, world, names}
+use Rattle.lr_host.specs.World.{Past, ◌▸◌, past, World, world, names}
 use Rattle.lr_host.proofs.Each.{each_append, each_as, each_in_order}
 use Rattle.lr_host.proofs.Lists.{in_front, in_back, in_append, in_reverse, from_reverse}
 use Rattle.lr_host.proofs.Looked.{seen_none}
@@ -36,47 +40,56 @@ use Rattle.lr_scripts.specs.declared.command.Command.{Command}
 use Rattle.lr_copy.specs.declared.job.Job.{Job}
 use Rattle.lr_plan.specs.Asked.{Asked}
 use Rattle.lr_plan.specs.declared.looks.LogLook.{LogLook}
+use Rattle.lr_plan.specs.declared.mark.Mark.{Mark}
 use Rattle.lr_plan.specs.declared.planned.Plan.{Plan}
 use Rattle.lr_plan.specs.declared.planned.SetPlan.{SetPlan}
 use Rattle.lr_plan.specs.declared.step.Step.{Step}
 use Rattle.lr_plan.specs.declared.step.Step.TheVariants.{Runs}
+use Rattle.lr_plan.specs.Course.{Course}
 use Rattle.lr_plan.specs.Done.{ActsDone, rotated_logs}
 use Rattle.lr_plan.specs.Planned.{decision}
-use Rattle.lr_plan.specs.Steps.{steps_of_plan, state_part, state_steps}
+use Rattle.lr_plan.specs.Steps.{steps_of_plan, state_part, steps_of_set, state_steps}
 use Rattle.lr_acts.specs.Making.{all_of_sets}
 use Rattle.lr_acts.specs.Taken.{OneTakes}
 use Rattle.lr_looks.specs.Found.{FoundLog}
 use Rattle.lr_reading.specs.Sights.{entries_of}
-use Rattle.lr_targets.specs.Target.{Target, IsOneOf}
+use Rattle.lr_targets.specs.AllTurns.{IsOfSome, IsOfState}
+use Rattle.lr_targets.specs.Target.{Target, IsMissingDir, IsDirSeenBy, IsOneOf}
 use Rattle.lr_rotations.proofs.OrMade.{made_behind}
 use Rattle.lr_mixed.specs.Seen.{AreLogsSeen}
 use Rattle.lr_mixed.proofs.Seen.{log_among}
 use Rattle.lr_weave.specs.Fitting.{DontMeet}
 use Rattle.lr_weave.specs.Planned.{AreReadyFor}
+use Rattle.lr_weave.proofs.Parting.{done_some}
+use Rattle.lr_weave.proofs.Planning.{ready_planned}
 use Rattle.lr_seen.specs.Free.{reserved_by, IsFreeOf}
 use Rattle.lr_seen.specs.Targets.{groups_of, all_targets}
-use Rattle.lr_seen.proofs.Apart.{targets_dont_meet}
+use Rattle.lr_seen.proofs.Apart.{targets_apart, targets_dont_meet}
 use Rattle.lr_seen.proofs.Coming.{Comes, comes_from}
 use Rattle.lr_seen.proofs.Elements.{each_in, in_each}
 use Rattle.lr_seen.proofs.Free.{targets_free}
 use Rattle.lr_seen.proofs.Ready.{plans_have_logs}
-use Rattle.lr_seen.proofs.Seen.{targets_seen}
+use Rattle.lr_seen.proofs.Seen.{targets_have_names, targets_seen}
 use Rattle.lr_stood.specs.True.{AreTrue}
 use Rattle.lr_run.specs.Copied.{IsOfCopy}
-use Rattle.lr_run.specs.Runs.{Inside, Looked, Worked, plan_in, state_text}
+use Rattle.lr_run.specs.Runs.{Inside, Looked, Worked, dirs_in, plan_in, state_text}
 use Rattle.lr_run.specs.Taken.{TakenBy}
 use Rattle.lr_run.proofs.Hindered.{taken_member}
-use Rattle.lr_run.proofs.Shape.{sees_quiet, seen_quiet, looked_parts}
-use Rattle.lr_run.proofs.Taken.{IsOfNew, looks_none, plan_none_long}
+use Rattle.lr_run.proofs.Shape.{sees_quiet, seen_quiet, looked_parts, all_of_state}
+use Rattle.lr_run.proofs.Taken.{IsOfNew, looks_none}
 use Rattle.lr_fulfilled.specs.Fulfilled.{NothingFailed}
 use Rattle.lr_fulfilled.proofs.Truth.{Looking, looking, looks_stand}
-use Rattle.lr_spared.specs.Smooth.{NoneRose, IsPartOfOne, IsWrittenFirst, IsSmooth}
+use Rattle.lr_spared.specs.Smooth.{NoneRose, IsPartOfOne, IsDirOfOne, IsWrittenFirst, IsSmooth}
 use Rattle.lr_spared.proofs.Clearing.{ClearsFirst, clears_on, clears_log, course_clears}
 use Rattle.lr_spared.proofs.Courses.{OfLog, sets_done, either, sets_so, all_sets}
+use Rattle.lr_spared.proofs.Dirs.{IsMadeBy, made_by_one, dir_apart, some_give, state_gives, calm_gives, of_changes, course_saw}
+use Rattle.lr_spared.proofs.Hindering.{plan_hinders}
 use Rattle.lr_spared.proofs.Long.{FitCopies, fit_on, fit_log, ReadsOver, over_in, over_back, course_over, never_over}
+use Rattle.lr_spared.proofs.Making.{GivesNoFile, SawOther, other_front, other_back, never_other}
 use Rattle.lr_spared.proofs.Members.{HaveMembers, seen_members, part_own}
 use Rattle.lr_spared.proofs.Naming.{Avoids, Spared}
 use Rattle.lr_spared.proofs.Once.{all_ready, each_ready, logs_aside, logs_at_most, sets_aside, sets_once}
+use Rattle.lr_spared.proofs.Sighted.{looks_saw}
 use Rattle.lr_spared.proofs.Stale.{IsKeptAs, kept_as, job_limit, part_of_one, part_seen, part_known}
 use Rattle.lr_spared.proofs.Steps.{OnceNamed, once_first, once_last, once_later, one_split, Tells, course_tells, sets_tell, tells_on}
 use Rattle.lr_spared.proofs.Taken.{never_taken}
@@ -90,14 +103,11 @@ none_rose (suc n) before now r none = absurd (none (omega (arith, r)))
 
 -- ---- quiet entries
 
-quiet_avoids : (x : Path) (ts : List Entry) → AreQuiet ts → Each (Avoids x) ts
-quiet_avoids x ts q = each_as IsQuiet (Avoids x) ts one q
-  where
-    one : (e : Entry) → IsQuiet e → Avoids x e
-    one (entry.Renames from to) i = let h : is_change (entry.Renames from to) ≡ false = i.1 in absurd (cc)
-    one (entry.Makes y mode) i = let h : is_change (entry.Makes y mode) ≡ false = i.1 in absurd (cc)
-    one (entry.MakesDir y mode) i = let h : is_change (entry.MakesDir y mode) ≡ false = i.1 in absurd (cc)
-    one _ i = tt
+quiet_avoids : (x : Path) (e : Entry) → IsQuiet e → Avoids x e
+quiet_avoids x (entry.Renames from to) i = let h : is_change (entry.Renames from to) ≡ false = i.1 in absurd (cc)
+quiet_avoids x (entry.Makes y mode) i = let h : is_change (entry.Makes y mode) ≡ false = i.1 in absurd (cc)
+quiet_avoids x (entry.MakesDir y mode) i = let h : is_change (entry.MakesDir y mode) ≡ false = i.1 in absurd (cc)
+quiet_avoids x _ i = tt
 
 same_path : (x y : Path) → (x ≡ y) ⊎ (x ≡ y → ⊥)
 same_path x y = go (bytes_eq x y) refl
@@ -171,11 +181,11 @@ module _ (state : Path) (asked : Asked) (clock : Clock) (rules : Rules) (own : L
   free : (t : Target) → IsOneOf t targets → IsFreeOf (reserved_by state) t
   free t one = in_each (IsFreeOf (reserved_by state)) targets t (targets_free rules.sets l.sets l.of_looks l.looks clock decide l.shown) (one_in t targets one)
 
-  no_state : (t : Target) → IsOneOf t targets → (x : Path) → IsOwnName t.log t.naming x → state ≡ x → ⊥
-  no_state t one x mine same = free t one x (inl same) (inl mine)
+  no_state : (t : Target) → IsOneOf t targets → (x : Path) → IsName t.log t.naming x → state ≡ x → ⊥
+  no_state t one x named same = free t one x (inl same) named
 
-  no_part : (t : Target) → IsOneOf t targets → (x : Path) → IsOwnName t.log t.naming x → state_part state ≡ x → ⊥
-  no_part t one x mine same = free t one x (inr (inl same)) (inl mine)
+  no_part : (t : Target) → IsOneOf t targets → (x : Path) → IsName t.log t.naming x → state_part state ≡ x → ⊥
+  no_part t one x named same = free t one x (inr (inl same)) named
 
   -- ---- its moments
 
@@ -203,26 +213,37 @@ module _ (state : Path) (asked : Asked) (clock : Clock) (rules : Rules) (own : L
   looked_still : ChangeNothing (reverse seen ++ (start ∷ reverse front))
   looked_still = still_both (reverse seen) (start ∷ reverse front) (still_reverse seen (quiet_still seen (seen_quiet state rules.sets i.between l))) began_still
 
+  -- ---- what the looks saw
+
+  -- no writer was attached to such a path, nor to that of such a directory
+  spared_at : (x : Path) → ((y : Path) → (IsWrittenFirst state l.shown.kept y → ⊥) × (IsDirOfOne l.shown.kept y → ⊥) → y ≡ x → ⊥) → Spared x p q
+  spared_at x other = since_as (λ y. (IsWrittenFirst state l.shown.kept y → ⊥) × (IsDirOfOne l.shown.kept y → ⊥)) (λ y. y ≢ x) p q other smooth.spared
+
+  -- so a look at it saw what stood there at first
+  seen_at_first : (x : Path) (o : Option Seen) → Spared x p q → IsIn (entry.Look x o) seen → (w : World) × Sees w (names (world p) x) o
+  seen_at_first x o spared i = (world t.at, subst (λ (there : Thing). Sees (world t.at) there o) (quiet_same (λ y. y ≢ x) p t.at x t.since (λ no. no refl)) t.fits)
+    where
+      t : Look (λ y. y ≢ x) p at.looked (entry.Look x o)
+      t = moment (λ y. y ≢ x) p at.looked (entry.Look x o) (reverse seen ++ (start ∷ reverse front))
+          (since_before (λ y. y ≢ x) p at.looked q (reverse seen ++ (start ∷ reverse front)) (reverse later) looked at.until spared) looked looked_still
+          (in_front (entry.Look x o) (reverse seen) (start ∷ reverse front) (in_reverse (entry.Look x o) seen i))
+
+  none_at_first : (x : Path) → Spared x p q → IsIn (entry.Look x None) seen → names (world p) x ≡ thing.Nothing
+  none_at_first x spared i = let s = seen_at_first x None spared i in seen_none s.0 (names (world p) x) s.1
+
   -- ---- old part files
 
   seen_stale : (t : Target) → IsOneOf t targets → (job : Job) → t.job ≡ Some job → IsFileAt (names (world p)) job.part → job.stale ≡ true
   seen_stale t one job is file = part_seen rules.sets l.sets l.of_looks l.looks l.shown t (comes t one) (at.at ▸ start) at.looked are_true (members t one) job is (file_stands job.part file)
 
   state_spared : Spared (state_part state) p q
-  state_spared = since_as (λ y. IsWrittenFirst state l.shown.kept y → ⊥) (λ y. y ≢ state_part state) p q (λ y none same. none (inl same)) smooth.spared
+  state_spared = spared_at (state_part state) (λ y free same. free.0 (inl same))
 
   state_stale : (names (world p) (state_part state) ≡ thing.Nothing) ⊎ (l.remembered.stale ≡ true)
   state_stale = ⊎_elim (λ stale. inr stale) (λ none. inl (nothing none)) (part_known state l.remembered l.sights l.known)
     where
       nothing : IsIn (entry.Look (state_part state) None) (entries_of state l.sights) → names (world p) (state_part state) ≡ thing.Nothing
-      nothing h = sym (quiet_same (λ y. y ≢ state_part state) p t.at (state_part state) t.since (λ no. no refl)) ∙ seen_none (world t.at) (names (world t.at) (state_part state)) t.fits
-        where
-          among : IsIn (entry.Look (state_part state) None) (reverse seen ++ (start ∷ reverse front))
-          among = in_front (entry.Look (state_part state) None) (reverse seen) _ (in_reverse (entry.Look (state_part state) None) seen (in_front (entry.Look (state_part state) None) l.reads l.looks (subst (IsIn (entry.Look (state_part state) None)) (sym l.read.entries) h)))
-
-          t : Look (λ y. y ≢ state_part state) p at.looked (entry.Look (state_part state) None)
-          t = moment (λ y. y ≢ state_part state) p at.looked (entry.Look (state_part state) None) (reverse seen ++ (start ∷ reverse front))
-              (since_before (λ y. y ≢ state_part state) p at.looked q (reverse seen ++ (start ∷ reverse front)) (reverse later) looked at.until state_spared) looked looked_still among
+      nothing h = none_at_first (state_part state) state_spared (in_front (entry.Look (state_part state) None) l.reads l.looks (subst (IsIn (entry.Look (state_part state) None)) (sym l.read.entries) h))
 
   -- ---- all entries
 
@@ -232,10 +253,11 @@ module _ (state : Path) (asked : Asked) (clock : Clock) (rules : Rules) (own : L
   in_all : (e : Entry) → IsIn e l.acts → IsIn e es
   in_all e h = from_reverse e es (subst (IsIn e) (sym whole) (in_back e front _ (inr (in_front e i.between (entry.Ends ∷ []) (subst (IsIn e) (sym (looked_parts state rules.sets i.between l)) (in_back e seen l.acts h))))))
 
-  all_avoid : (x : Path) → Each (Avoids x) l.acts → Each (Avoids x) es
-  all_avoid x a = each_in_order (Avoids x) es (subst (Each (Avoids x)) (sym whole)
-      (each_append (Avoids x) front _ (quiet_avoids x front front_quiet)
-      (tt, each_append (Avoids x) i.between (entry.Ends ∷ []) (subst (Each (Avoids x)) (sym (looked_parts state rules.sets i.between l)) (each_append (Avoids x) seen l.acts (quiet_avoids x seen (seen_quiet state rules.sets i.between l)) a)) (tt, tt))))
+  -- what holds of each quiet one, of the start and of the end, holds of all where it holds of the acts
+  all_are : (P : Entry → Type 0) → ((e : Entry) → IsQuiet e → P e) → P start → P entry.Ends → Each P l.acts → Each P es
+  all_are P quiets starts ends a = each_in_order P es (subst (Each P) (sym whole)
+      (each_append P front _ (each_as IsQuiet P front quiets front_quiet)
+      (starts, each_append P i.between (entry.Ends ∷ []) (subst (Each P) (sym (looked_parts state rules.sets i.between l)) (each_append P seen l.acts (each_as IsQuiet P seen quiets (seen_quiet state rules.sets i.between l)) a)) (ends, tt))))
 
   -- ---- its acts
 
@@ -300,24 +322,24 @@ module _ (state : Path) (asked : Asked) (clock : Clock) (rules : Rules) (own : L
     not_so : (x : Path) → Spared x p q → ((stale : Bool) (dirs : List Path) (bytes : List ℕ) → OnceNamed x (all_of_sets (steps_of_plan plan) ++ state_steps state stale dirs bytes))
         → (names (world p) x ≡ thing.Nothing) ⊎ IsIn (entry.Unlinks x) l.acts → IsIn (fault.Taken x) w.acted.of_acts → ⊥
     not_so x spared once at_first h = never_taken x j k es made spared
-        (all_avoid x ((tells x).once (once l.remembered.stale w.acted.dirs text) h))
+        (all_are (Avoids x) (quiet_avoids x) tt tt ((tells x).once (once l.remembered.stale w.acted.dirs text) h))
         (⊎_elim (λ nothing. inl nothing) (λ gone. inr (in_all (entry.Unlinks x) gone)) at_first)
         (taken.taken x (once_last x _ (once taken.stale taken.dirs taken.text)) (in_own (fault.Taken x) h))
 
     state_not : IsIn (fault.Taken (state_part state)) w.acted.of_acts → ⊥
     state_not h = not_so (state_part state) state_spared
         (λ stale dirs bytes. once_later (state_part state) (all_of_sets (steps_of_plan plan)) (state_steps state stale dirs bytes)
-        (sets_aside (state_part state) plan.sets (logs_aside (state_part state) targets _ ready members (λ t one mine. no_part t one (state_part state) mine refl))) (state_once state stale dirs bytes))
+        (sets_aside (state_part state) plan.sets (logs_aside (state_part state) targets _ ready members (λ t one named. no_part t one (state_part state) named refl))) (state_once state stale dirs bytes))
         (⊎_elim (λ nothing. inl nothing) (λ stale. inr (cleared (state_part state)
-        (λ t one job is same. absurd (no_part t one (state_part state) (subst (IsOwnName t.log t.naming) same (part_own t (members t one) job is)) refl)) (λ same. stale) h))
+        (λ t one job is same. absurd (no_part t one (state_part state) (inl (subst (IsOwnName t.log t.naming) same (part_own t (members t one) job is))) refl)) (λ same. stale) h))
         state_stale) h
 
     part_not : (x : Path) → IsPartOf x → IsIn (fault.Taken x) w.acted.of_acts → ⊥
     part_not x o h = not_so x spared
         (λ stale dirs bytes. once_first x (all_of_sets (steps_of_plan plan)) (state_steps state stale dirs bytes)
         (sets_once x plan.sets (logs_at_most x targets _ ready members apart o.target o.one o.job o.is o.part))
-        (state_none state stale dirs bytes x (no_state o.target o.one x mine) (no_part o.target o.one x mine)))
-        (⊎_elim (λ nothing. inl nothing) (λ file. inr (cleared x (λ t one job is same. seen_stale t one job is (subst (IsFileAt (names (world p))) (sym same) file)) (λ same. absurd (no_part o.target o.one x mine same)) h))
+        (state_none state stale dirs bytes x (no_state o.target o.one x (inl mine)) (no_part o.target o.one x (inl mine))))
+        (⊎_elim (λ nothing. inl nothing) (λ file. inr (cleared x (λ t one job is same. seen_stale t one job is (subst (IsFileAt (names (world p))) (sym same) file)) (λ same. absurd (no_part o.target o.one x (inl mine) same)) h))
         (smooth.free x part)) h
       where
         mine : IsOwnName o.target.log o.target.naming x
@@ -327,7 +349,7 @@ module _ (state : Path) (asked : Asked) (clock : Clock) (rules : Rules) (own : L
         part = subst (IsPartOfOne l.shown.kept) o.part (part_of_one rules.sets l.sets l.of_looks l.looks l.shown o.target (comes o.target o.one) (members o.target o.one) o.job o.is)
 
         spared : Spared x p q
-        spared = since_as (λ y. IsWrittenFirst state l.shown.kept y → ⊥) (λ y. y ≢ x) p q (λ y none same. none (inr (subst (IsPartOfOne l.shown.kept) (sym same) part))) smooth.spared
+        spared = spared_at x (λ y free same. free.0 (inr (subst (IsPartOfOne l.shown.kept) (sym same) part)))
 
     -- by the acts
     acts_take_none : (x : Path) → IsIn (fault.Taken x) w.acted.of_acts → ⊥
@@ -368,17 +390,88 @@ module _ (state : Path) (asked : Asked) (clock : Clock) (rules : Rules) (own : L
       (λ limit c m old new first second g is. subst (λ (n : ℕ). length ((world m).files g).bytes ≤ n) (sym c.0) (smooth.short c.1.0 c.1.1 m (made_behind p m old first) (made_behind m q new second) g (subst (λ (y : Path). names (world m) y ≡ thing.File g) (sym c.1.2) is)))
     where
       r : ReadsOver IsLimited x l.acts
-      r = read_over x (⊎_elim (λ b. absurd (plan_none_long clock decide rules.sets l.sets x b)) (λ b. b) (of_plan_or_acts (fault.TooLong x) tt h))
+      r = read_over x (⊎_elim (λ b. absurd (plan_hinders (fault.TooLong x) clock decide rules.sets l.sets b)) (λ b. b) (of_plan_or_acts (fault.TooLong x) tt h))
+
+  -- ---- nothing else stood at the path of a directory that is made
+
+  no_other : (dir : Path) → IsIn dir (dirs_in plan) → IsIn (fault.NotFile dir) own → ⊥
+  no_other dir making told = ⊎_elim by_looks (λ b. ⊎_elim (λ c. plan_hinders (fault.NotFile dir) clock decide rules.sets l.sets c) by_acts (in_append (fault.NotFile dir) plan.faults w.acted.of_acts b))
+      (in_append (fault.NotFile dir) l.of_looks (plan.faults ++ w.acted.of_acts) (subst (IsIn (fault.NotFile dir)) w.acted.faults_are told))
+    where
+      -- it is that of a log that is kept, and the looks saw nothing there
+      m : IsMadeBy targets dir
+      m = made_by_one targets plan.sets dir ready making
+
+      t : Target
+      t = m.target
+
+      missing : IsMissingDir t.log t.naming t.stand.members t.job l.looks dir
+      missing = subst (λ (d : Option (Path × Option ℕ)). IsDirSeenBy d t.log t.naming t.stand.members t.job l.looks) m.its.1 (log_among rules clock l.looks targets logs_seen t m.one).dir
+
+      kept : IsKeptAs l.shown.kept t
+      kept = kept_as rules.sets l.sets l.of_looks l.looks l.shown t (comes t m.one)
+
+      of_one : IsDirOfOne l.shown.kept dir
+      of_one = record { found = kept.found; among = kept.among; dir = ap (λ (n : Naming). n.dir) kept.naming ∙ sym missing.dir_is }
+
+      spared : Spared dir p q
+      spared = spared_at dir (λ y free same. free.1 (subst (IsDirOfOne l.shown.kept) (sym same) of_one))
+
+      nothing : names (world p) dir ≡ thing.Nothing
+      nothing = none_at_first dir spared (in_back (entry.Look dir None) l.reads l.looks missing.gone)
+
+      -- so no look saw something there
+      by_looks : IsIn (fault.NotFile dir) l.of_looks → ⊥
+      by_looks b =
+          let saw : (seen : Seen) × IsIn (entry.Look dir (Some seen)) l.looks = looks_saw dir rules.sets l.sets l.of_looks l.looks l.shown b in
+          let s = seen_at_first dir (Some saw.0) spared (in_back (entry.Look dir (Some saw.0)) l.reads l.looks saw.1) in
+          let clash : Some saw.0 ≡ None = subst (λ (there : Thing). Sees s.0 there (Some saw.0)) nothing s.1 in cc
+
+      -- none of the acts gives it a file
+      no_own : (u : Target) → IsOneOf u targets → IsOwnName u.log u.naming dir → ⊥
+      no_own u one = dir_apart targets apart t u dir m.one one (members t m.one).dir m.its
+
+      of_plan : Each (GivesNoFile dir) a.entries.front
+      of_plan = of_changes dir a.entries.front (each_as (IsOfSome targets) (GivesNoFile dir) (filter is_change a.entries.front)
+          (some_give dir targets (targets_have_names rules l.sets l.of_looks l.looks clock decide l.shown) members no_own)
+          (done_some targets (map steps_of_set plan.sets) w.acted.marks a.of_plan a.entries.front
+          (ready_planned (groups_of clock decide rules.sets l.sets) plan.sets (plans_have_logs rules.sets l.sets l.of_looks l.looks clock asked.mailer decide l.shown) (targets_apart rules.sets l.sets l.of_looks l.looks clock decide l.shown)) a.entries.first))
+
+      of_writing : Each (GivesNoFile dir) a.entries.back
+      of_writing = of_changes dir a.entries.back (each_as (IsOfState state) (GivesNoFile dir) (filter is_change a.entries.back)
+          (state_gives dir state (no_state t m.one dir (inr missing.dir_is)) (no_part t m.one dir (inr missing.dir_is)))
+          (all_of_state state rules.sets clock asked own i.between w))
+
+      given : Each (GivesNoFile dir) es
+      given = all_are (GivesNoFile dir) (λ e quiet. calm_gives dir e quiet.1) tt tt (subst (Each (GivesNoFile dir)) (sym a.entries.joined) (each_append (GivesNoFile dir) a.entries.front a.entries.back of_plan of_writing))
+
+      -- so none of the looks of the acts saw another kind of thing there
+      Any : List Step → Type 0
+      Any steps = Unit {0}
+
+      course : (steps : List Step) (ms : List Mark) (fs : List Fault) (ts : List Entry) → Any steps → Course steps ms fs ts → IsIn (fault.NotFile dir) fs → SawOther dir ts
+      course steps ms fs ts any c = course_saw dir steps ms fs ts c
+
+      by_acts : IsIn (fault.NotFile dir) w.acted.of_acts → ⊥
+      by_acts b = never_other dir p q es made spared given nothing (record { seen = s.seen; other = s.other; look = in_all (entry.Look dir (Some s.seen)) s.look })
+        where
+          s : SawOther dir l.acts
+          s = either Any (fault.NotFile dir) (SawOther dir) (other_front dir) (other_back dir) course w.acted.of_acts a.of_plan a.of_state l.acts a.entries.front a.entries.back a.faults_are a.entries.joined
+              (sets_done Any (fault.NotFile dir) (SawOther dir) (other_front dir) (other_back dir) course (steps_of_plan plan) w.acted.marks a.of_plan a.entries.front
+              (sets_so Any tt (λ xs ys h k. tt) (λ phase about c. tt) plan.sets (each_ready (OfLog Any tt (λ xs ys h k. tt) (λ phase about c. tt)) targets plan.sets ready (λ u log one r. (tt, tt))))
+              a.entries.first)
+              (course_saw dir (state_steps state l.remembered.stale w.acted.dirs text) [] a.of_state a.entries.back a.entries.second)
+              b
 
   -- ---- nothing failed
 
-  pub nothing_fails : TakenBy state plan own (Some j) (Some k) → calls_in own ≡ 0 → scripts_in own ≡ 0 → NothingFailed state own
-  nothing_fails taken no_call no_end = record { no_call = no_call; no_end = no_end; no_copy = each_in (λ f. IsOfCopy f → ⊥) own no_copy; not_taken = state_not_taken taken }
+  pub nothing_fails : TakenBy state plan own (Some j) (Some k) → calls_in own ≡ 0 → scripts_in own ≡ 0 → NothingFailed state (dirs_in plan) own
+  nothing_fails taken no_call no_end = record { met = record { no_call = no_call; no_end = no_end; no_copy = each_in (λ f. IsOfCopy f → ⊥) own no_copy; no_other = no_other }; not_taken = state_not_taken taken }
     where
       no_copy : (f : Fault) → IsIn f own → IsOfCopy f → ⊥
       no_copy (fault.TooLong x) h c = not_long x h
       no_copy (fault.Taken x) h c = no_part_taken taken x c h
       no_copy _ h c = c
 
-  pub smooth_fails_nothing : TakenBy state plan own (Some j) (Some k) → (counted counts : Counts) → AreCounted own counted counts → NoneRose counted counts → NothingFailed state own
+  pub smooth_fails_nothing : TakenBy state plan own (Some j) (Some k) → (counted counts : Counts) → AreCounted own counted counts → NoneRose counted counts → NothingFailed state (dirs_in plan) own
   smooth_fails_nothing taken counted counts are none = nothing_fails taken (none_rose (calls_in own) counted.faults counts.faults are.calls none.0) (none_rose (scripts_in own) counted.bad_ends counts.bad_ends are.scripts none.1)

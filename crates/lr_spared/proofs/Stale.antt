@@ -1,7 +1,8 @@
 -- An old part file that stands as the run begins is seen.
-use Rattle.std.proofs.Common.{◌≡◌, ◌⊎◌, inl, inr, ⊎_elim, ◌+◌, ℕ, Bool, true, false, bytes_eq, refl, sym, ap, ◌∙◌, subst, List, [], ◌∷◌, Some, None, Result, Ok, Err}
+use Rattle.std.proofs.Common.{◌≡◌, ◌⊎◌, inl, inr, ⊎_elim, ◌+◌, ℕ, Bool, true, false, not, if◌then◌else◌, bytes_eq, refl, sym, ap, ◌∙◌, subst, List, [], ◌∷◌, Some, None, Result, Ok, Err}
 use Rattle.std.specs.Prelude.{◌||◌}
 use Rattle.std.specs.List.{list_any}
+use Rattle.std.proofs.lemmas.Bool.{and_parts, not-true}
 use Rattle.std.proofs.lemmas.Slice.Eq.{bytes_eq-Decides}
 use Rattle.lr_rules.specs.declared.clock.Clock.{Clock}
 use Rattle.lr_rules.specs.declared.path.Path.{Path}
@@ -18,8 +19,9 @@ use Rattle.lr_host.specs.World.{Past, world, names}
 use Rattle.lr_host.proofs.Lists.{in_back}
 use Rattle.lr_family.specs.Parts.{part_of, IsMembersPart}
 use Rattle.lr_copy.specs.declared.job.Job.{Job}
+use Rattle.lr_plan.specs.declared.looks.LogLook.{LogLook}
 use Rattle.lr_plan.specs.declared.looks.SetLooks.{SetLooks}
-use Rattle.lr_plan.specs.Planned.{copy_job, ready_for}
+use Rattle.lr_plan.specs.Planned.{is_made, makes_dir, empty_stand, stand_for, standing, copy_job, ready_for}
 use Rattle.lr_looks.specs.Families.{LookedLog}
 use Rattle.lr_looks.specs.Found.{FoundLog}
 use Rattle.lr_looks.specs.Sets.{looked_in}
@@ -32,6 +34,7 @@ use Rattle.lr_reading.specs.Sights.{Sight, Failed, Nothing, Saw, StateSights, fo
 use Rattle.lr_plan.specs.Steps.{state_part}
 use Rattle.lr_targets.specs.Target.{Target}
 use Rattle.lr_seen.proofs.Coming.{Comes, was_looked, in_looked}
+use Rattle.lr_seen.proofs.Listed.{WasShown, all_shown}
 use Rattle.lr_seen.proofs.Ready.{by_copy}
 use Rattle.lr_stood.specs.True.{IsTrueFamily, AreTrue}
 use Rattle.lr_spared.specs.Smooth.{IsPartOfOne}
@@ -47,6 +50,10 @@ in_has x (y ∷ ys) (inr i) = go (bytes_eq x y) (in_has x ys i)
     go : (b : Bool) → list_any (bytes_eq x) ys ≡ true → (b || list_any (bytes_eq x) ys) ≡ true
     go true e = refl
     go false e = e
+
+-- a directory that is made was missing
+made_gone : (rule : Rule) (look : LogLook) → makes_dir rule look ≡ true → look.stand.there ≡ false
+made_gone rule look is = not-true look.stand.there (and_parts (not look.stand.there) _ (and_parts (is_made rule.createolddir) _ is).1).0
 
 -- the log is one of those that are kept
 pub record IsKeptAs (logs : List FoundLog) (t : Target) : Type 0 where
@@ -69,9 +76,21 @@ module _ {reserved : List Path} {clock : Clock} (rules : List Rule) (sets : List
         naming = ap (λ (y : LookedLog). y.naming) (sym g.2.1) ∙ ap (λ (u : Target). u.naming) (sym c.is);
       }
 
-  -- its copy is the one that the look asks for
-  copied : (job : Job) → t.job ≡ Some job → (cut : Bool) × (copy_job c.look (ready_for clock c.rule c.look).target cut ≡ job)
-  copied job is = by_copy c.rule.way c.look (ready_for clock c.rule c.look).target job (sym (ap (λ (u : Target). u.job) c.is) ∙ is)
+  -- its copy is the one that the look asks for, by what stands as the rotation begins
+  copied : (job : Job) → t.job ≡ Some job → (cut : Bool) × (copy_job (standing c.rule c.look) (ready_for clock c.rule c.look).target cut ≡ job)
+  copied job is = by_copy c.rule.way (standing c.rule c.look) (ready_for clock c.rule c.look).target job (sym (ap (λ (u : Target). u.job) c.is) ∙ is)
+
+  -- each part file that was seen stands then: where the directory was missing none was
+  stands_then : (x : Path) → IsIn x c.look.stand.parts → IsIn x (stand_for c.rule c.look).parts
+  stands_then x i = go (makes_dir c.rule c.look) refl
+    where
+      shown : WasShown c.look.family.naming c.look.stand ts
+      shown = all_shown ts s.kept s.entries.second.listings s.entries.second.families.sights s.entries.back (λ e j. subst (IsIn e) (sym s.entries.joined) (in_back e s.entries.front s.entries.back j)) s.entries.second.families.shown
+          (looked_in (0 + c.place) c.look) (subst (IsIn (looked_in (0 + c.place) c.look)) s.entries.second.families.looked_are looked)
+
+      go : (made : Bool) → makes_dir c.rule c.look ≡ made → IsIn x (if made then empty_stand else c.look.stand).parts
+      go false is = i
+      go true is = absurd (subst (IsIn x) (shown.2 (made_gone c.rule c.look is)).parts i)
 
   pub job_limit : (job : Job) → t.job ≡ Some job → job.limit ≡ 1_099_511_627_776
   job_limit job is = ap (λ (k : Job). k.limit) (sym (copied job is).1)
@@ -80,15 +99,15 @@ module _ {reserved : List Path} {clock : Clock} (rules : List Rule) (sets : List
   part_of_one h job is = record { found = kept_as.found; among = kept_as.among; part = subst (λ (n : Naming). IsMembersPart n job.part) (sym kept_as.naming) (part_is_members t h job is) }
 
   pub part_seen : (p q : Past) → AreTrue rules sets faults ts s p q → HasMembers t → (job : Job) → t.job ≡ Some job → IsFileAt (names (world p)) job.part → job.stale ≡ true
-  part_seen p q a h job is file = subst (λ (k : Job). k.stale ≡ true) by.1 (in_has (part_of to) c.look.stand.parts
+  part_seen p q a h job is file = subst (λ (k : Job). k.stale ≡ true) by.1 (in_has (part_of to) (stand_for c.rule c.look).parts (stands_then (part_of to)
       (f.parts (part_of to)
       (subst (IsMembersPart c.look.family.naming) part (subst (λ (n : Naming). IsMembersPart n job.part) (ap (λ (u : Target). u.naming) c.is) (part_is_members t h job is)))
-      (subst (IsFileAt (names (world p))) part file)))
+      (subst (IsFileAt (names (world p))) part file))))
     where
       to : Path
       to = (ready_for clock c.rule c.look).target
 
-      by : (cut : Bool) × (copy_job c.look (ready_for clock c.rule c.look).target cut ≡ job)
+      by : (cut : Bool) × (copy_job (standing c.rule c.look) (ready_for clock c.rule c.look).target cut ≡ job)
       by = copied job is
 
       f : IsTrueFamily c.look.family.naming c.look.stand p q

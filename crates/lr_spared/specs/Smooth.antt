@@ -23,14 +23,20 @@ pub record IsPartOfOne (logs : List FoundLog) (x : Path) : Type 0 where
   pub among : IsIn found logs
   pub part : IsMembersPart found.log.naming x
 
+-- the path is that of the directory in which the members of one of these logs stand
+pub record IsDirOfOne (logs : List FoundLog) (x : Path) : Type 0 where
+  pub found : FoundLog
+  pub among : IsIn found logs
+  pub dir : found.log.naming.dir ≡ x
+
 -- the path is that of a file that gets its name by a rename once it is whole: of a new state, or of such a part file
 abbrev pub IsWrittenFirst : Path → List FoundLog → Path → Type 0
 IsWrittenFirst state logs x = (x ≡ state_part state) ⊎ IsPartOfOne logs x
 
 -- Between the two pasts nothing is in the way of a run with this state that keeps these logs.
 pub record IsSmooth (state : Path) (logs : List FoundLog) (before after : Past) : Type 0 where
-  -- no writer was attached to such a path
-  pub spared : AttachedOnlySince (λ x. IsWrittenFirst state logs x → ⊥) before after
+  -- no writer was attached to such a path, nor to that of such a directory: where the directory is missing, the writer's file would stand in the way of its making
+  pub spared : AttachedOnlySince (λ x. (IsWrittenFirst state logs x → ⊥) × (IsDirOfOne logs x → ⊥)) before after
   -- at first nothing stood at the path of a part file, or a regular file did
   pub free : (x : Path) → IsPartOfOne logs x → (names (world before) x ≡ thing.Nothing) ⊎ IsFileAt (names (world before)) x
   -- no dated member of these has a name that ends as a part file's does, so that one that is taken isn't told in the words of a copy that broke off

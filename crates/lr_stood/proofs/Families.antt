@@ -27,7 +27,7 @@ use Rattle.lr_laws.proofs.StandsIn.{stands_in}
 use Rattle.lr_family.specs.declared.stand.Member.{Member}
 use Rattle.lr_family.specs.declared.stand.Stand.{Stand}
 use Rattle.lr_family.specs.Parts.{IsMember, IsMembersPart}
-use Rattle.lr_dated_seen.specs.Shown.{IsUnlisted}
+use Rattle.lr_dated_seen.specs.Shown.{IsUnlisted, IsUnseen, unlisted, gone, no_dir}
 use Rattle.lr_dated_seen.proofs.Picking.{has_or_none}
 use Rattle.lr_seen.proofs.Listed.{WasShown}
 use Rattle.lr_sought.specs.Finds.{StoodOrCame}
@@ -104,21 +104,23 @@ module _ (log : Path) (n : Naming) (stand : Stand) (p q : Past) (es : List Entry
   -- ---- members
 
   seen : stand.there ≡ true → WereSeen n stand.members (reverse es)
-  seen there = members_seen n stand (reverse es) n.dated refl (shown.0 there) (sought.0 there).members
+  seen there = members_seen n stand (reverse es) n.dated refl (shown.0 there).1 (sought there).members
 
   member_stood : (x : Path) → IsMember n x → IsFileAt (names (world p)) x → (b : Bool) → stand.there ≡ b → HasMember stand.members x
-  member_stood x member file true there = ⊎_elim (λ h. h) (λ none. absurd (⊎_elim
-      (λ absent. not_listed x s.listed (member_in log n x family member) s.list absent file)
-      (λ h. none_stood x None (λ f. f) h file)
-      (s.others x member none))) (has_or_none x stand.members)
+  member_stood x member file true there = ⊎_elim (λ h. h) (λ none. absurd (unseen (s.others x member none))) (has_or_none x stand.members)
     where
+      unseen : IsUnseen n.dir x (reverse es) → ⊥
+      unseen (unlisted names i absent) = not_listed x names (member_in log n x family member) i absent file
+      unseen (gone i) = none_stood x None (λ f. f) i file
+      unseen (no_dir i) = no_directory x (member_in log n x family member) i file
+
       s : WereSeen n stand.members (reverse es)
       s = seen there
-  member_stood x member file false there = absurd (no_directory x (member_in log n x family member) (sought.1 there).look file)
+  member_stood x member file false there = absurd (no_directory x (member_in log n x family member) (shown.2 there).look file)
 
   member_came : (m : Member) → IsIn m stand.members → (b : Bool) → stand.there ≡ b → StoodOrCame m.path p q
   member_came m i true there = let f = (seen there).files m i in came m.path f.0 f.1 f.2
-  member_came m i false there = absurd (subst (IsIn m) (sought.1 there).members i)
+  member_came m i false there = absurd (subst (IsIn m) (shown.2 there).members i)
 
   -- ---- part files
 
@@ -129,8 +131,8 @@ module _ (log : Path) (n : Naming) (stand : Stand) (p q : Past) (es : List Entry
       (s.others x part out))) (path_or_not x stand.parts)
     where
       s : WereSought n stand.parts (reverse es)
-      s = (sought.0 there).parts
-  part_stood x part file false there = absurd (no_directory x (part_in log n x family part) (sought.1 there).look file)
+      s = (sought there).parts
+  part_stood x part file false there = absurd (no_directory x (part_in log n x family part) (shown.2 there).look file)
 
   pub true_family : IsTrueFamily n stand p q
   true_family = record {

@@ -1,5 +1,5 @@
 -- The names of a family's members and of their part files, and what was seen of the members.
-use Rattle.std.proofs.Common.{◌≡◌, ◌⊎◌, inl, inr, ⊎_elim, ℕ, ◌+◌, true, false, List, [], ◌∷◌, ◌++◌, map, Option, Some, None, refl, sym, ◌∙◌, ap, subst, append_assoc, Contains, if◌then◌else◌}
+use Rattle.std.proofs.Common.{◌≡◌, inl, inr, ℕ, ◌+◌, true, false, List, [], ◌∷◌, ◌++◌, map, Option, Some, None, refl, sym, ◌∙◌, ap, subst, append_assoc, Contains, if◌then◌else◌}
 use Rattle.std.specs.Prelude.{◌==◌, length}
 use Rattle.std.proofs.lemmas.List.Elements.{All-contains}
 use Rattle.lr_rules.specs.declared.path.Path.{Path}
@@ -28,10 +28,10 @@ use Rattle.lr_family.specs.Stands.{number_in}
 use Rattle.lr_family.proofs.Paths.{name_part as numbered_part}
 use Rattle.lr_family.proofs.Unique.{joined_same}
 use Rattle.lr_chain.specs.Rotation.{places_of}
-use Rattle.lr_dated_seen.specs.Shown.{SawFile, WasSeen, HasNone, IsUnlisted, ShownDated}
+use Rattle.lr_dated_seen.specs.Shown.{SawFile, WasSeen, HasNone, IsUnseen, unlisted, gone, no_dir, ShownDated}
 use Rattle.lr_dated_seen.proofs.Names.{name_of, name_part as dated_part}
 use Rattle.lr_dated_seen.proofs.Picking.{not_none}
-use Rattle.lr_rotations.specs.Shown.{Shown}
+use Rattle.lr_rotations.specs.Shown.{Shown, IsUnseen as IsNumberUnseen, unlisted as number_unlisted, gone as number_gone, no_dir as number_no_dir}
 use Rattle.lr_seen.proofs.Listed.{ShownBy}
 use Rattle.lr_stood.proofs.Sought.{HavePlaces}
 
@@ -72,12 +72,10 @@ part_in log n x family (member, is, part) =
 
 -- ---- what was seen of members
 
--- The directory was listed; each of the members was seen, a regular file; any other isn't in the list, or a look at it saw nothing.
+-- Each of the members was seen, a regular file; any other isn't in a list of the directory, or a look at it saw nothing, or one at the directory.
 pub record WereSeen (n : Naming) (members : List Member) (all : List Entry) : Type 0 where
-  pub listed : List (List ℕ)
-  pub list : IsIn (entry.List n.dir listed) all
   pub files : (m : Member) → IsIn m members → SawFile m.path all
-  pub others : (x : Path) → IsMember n x → HasNone members x → IsUnlisted n.dir listed x ⊎ IsIn (entry.Look x None) all
+  pub others : (x : Path) → IsMember n x → HasNone members x → IsUnseen n.dir x all
 
 member_at : (n : Naming) (place : Place) (x : Path) → IsPlaceOf n place x → IsMemberAt n (number_in place) x
 member_at n (at.Number place) x is = is
@@ -85,7 +83,7 @@ member_at n (at.Stamp seconds serial) x none = absurd none
 
 module _ (n : Naming) (members : List Member) (all : List Entry) where
   numbered_seen : n.dated ≡ None → Shown n (places_of members) all → AreNamed n members → WereSeen n members all
-  numbered_seen numbered s named = record { listed = s.names; list = s.list; files = files; others = others }
+  numbered_seen numbered s named = record { files = files; others = others }
     where
       at_place : (m : Member) → IsIn m members → IsMemberAt n (number_in m.place) m.path
       at_place m i = member_at n m.place m.path (All-contains (λ (m : Member). IsPlaceOf n m.place m.path) members m named (in_to m members i))
@@ -100,20 +98,22 @@ module _ (n : Naming) (members : List Member) (all : List Entry) where
           let m = in_unmap (λ (m : Member). number_in m.place) place members (from_reverse place (map (λ (m : Member). number_in m.place) members) (in_from place (places_of members) c)) in
           not_none x m.0 members none m.1 ((at_place m.0 m.1).named ∙ (ap (path_at n) m.2 ∙ sym is.named))
 
-      others : (x : Path) → IsMember n x → HasNone members x → IsUnlisted n.dir s.names x ⊎ IsIn (entry.Look x None) all
-      others x (inl (undated, (place, is))) none = ⊎_elim
-          (λ absent. inl (λ name c same. absent (subst (Contains s.names) (joined_same n.dir name (member_name n (n.start + place)) (sym same ∙ is.named)) c)))
-          (λ h. inr (subst (λ (y : Path). IsIn (entry.Look y None) all) (sym is.named) h))
-          (s.others place is.bound (apart x place is none))
+      of_place : (x : Path) (place : ℕ) → IsMemberAt n place x → IsNumberUnseen n place all → IsUnseen n.dir x all
+      of_place x place is (number_unlisted names i absent) = unlisted names i (λ name c same. absent (subst (Contains names) (joined_same n.dir name (member_name n (n.start + place)) (sym same ∙ is.named)) c))
+      of_place x place is (number_gone i) = gone (subst (λ (y : Path). IsIn (entry.Look y None) all) (sym is.named) i)
+      of_place x place is (number_no_dir i) = no_dir i
+
+      others : (x : Path) → IsMember n x → HasNone members x → IsUnseen n.dir x all
+      others x (inl (undated, (place, is))) none = of_place x place is (s.others place is.bound (apart x place is none))
       others x (inr (seconds, serial, is)) none = absurd (not_both n.dated is.format numbered is.dated)
 
   dated_seen : (format : Format) → n.dated ≡ Some format → ShownDated n members all → WereSeen n members all
-  dated_seen format dated s = record { listed = s.names; list = s.list; files = files; others = others }
+  dated_seen format dated s = record { files = files; others = others }
     where
       files : (m : Member) → IsIn m members → SawFile m.path all
       files m i = let w = All-contains (WasSeen all) members m s.files (in_to m members i) in (m.seen, w.0, w.1)
 
-      others : (x : Path) → IsMember n x → HasNone members x → IsUnlisted n.dir s.names x ⊎ IsIn (entry.Look x None) all
+      others : (x : Path) → IsMember n x → HasNone members x → IsUnseen n.dir x all
       others x (inl (undated, numbered)) none = absurd (not_both n.dated format undated dated)
       others x (inr (seconds, serial, is)) none = s.others x seconds serial is none
 

@@ -1,4 +1,4 @@
--- What the entries tell of each family that was looked at: its directory was seen to be missing; or it was listed, and each member and each part file among its names was looked at.
+-- What the entries tell of each family whose directory was listed: each member and each part file among its names was looked at.
 use Rattle.std.proofs.Common.{◌≡◌, ◌⊎◌, inl, inr, ⊎_elim, ℕ, Bool, true, false, bytes_eq, List, [], ◌∷◌, map, Option, Some, None, refl, sym, subst}
 use Rattle.std.specs.List.{flat_map}
 use Rattle.std.specs.List.Sorted.{IsPermutation}
@@ -15,62 +15,21 @@ use Rattle.lr_host.specs.declared.entry.Entry.{Entry}
 use Rattle.lr_host.specs.declared.entry.Entry.TheVariants as entry
 use Rattle.lr_host.specs.Lists.{IsIn}
 use Rattle.lr_host.specs.Looks.{IsFile}
-use Rattle.lr_host.specs.Told.{Then}
-use Rattle.lr_host.proofs.Lists.{in_from, in_map, in_front, in_back, in_append}
+use Rattle.lr_host.proofs.Lists.{in_from, in_map, in_front, in_back}
 use Rattle.lr_family.specs.declared.listing.Listing.{Listing}
 use Rattle.lr_family.specs.declared.spot.Spot.{Spot}
 use Rattle.lr_family.specs.declared.stand.Member.{Member}
 use Rattle.lr_family.specs.declared.stand.Stand.{Stand}
-use Rattle.lr_family.specs.Among.{StandsAmong, ShowsMembers}
-use Rattle.lr_family.specs.Listed.{ShowsListing}
+use Rattle.lr_family.specs.Among.{StandsAmong}
 use Rattle.lr_family.specs.Looks.{Sight, seen_at, member_of}
-use Rattle.lr_family.specs.Parts.{IsMembersPart, PartSight, part_if_file, part_seen, part_in, part_look, PartsAmong, ShowsParts}
+use Rattle.lr_family.specs.Parts.{IsMembersPart, PartSight, part_if_file, part_seen, part_in, part_look, PartsAmong}
 use Rattle.lr_family.specs.Places.{IsPlaceOf, AreNamed}
 use Rattle.lr_family.specs.Spots.{HavePaths}
 use Rattle.lr_family.proofs.Placed.{spots_named, named_sorted}
-use Rattle.lr_days.specs.Among.{ShowsMembers as ShowsDays}
 use Rattle.lr_dated_seen.specs.Shown.{IsUnlisted}
-use Rattle.lr_looks.specs.Families.{FamilySight, Stood, Stopped, ShowsBy, ShowsFamily, behind_listing, with_listing, not_listed, ShowFamilies, LookedLog, looked_by, looked_of}
+use Rattle.lr_looks.specs.Families.{FamilySight, ShowFamilies, LookedLog, looked_of}
 use Rattle.lr_looks.specs.Found.{FoundLog}
-use Rattle.lr_seen.proofs.Elements.{in_list}
-
--- ---- listings
-
--- The directory was listed with these names, or seen to be missing: the looks that show it are among all entries.
-pub record IsTold (all : List Entry) (dir : Path) (there parent : Bool) (names : List (List ℕ)) : Type 0 where
-  pub ts : List Entry
-  pub in_all : (e : Entry) → IsIn e ts → IsIn e all
-  pub shown : ShowsListing dir there parent names ts
-
-abbrev AreTold : List Entry → List Listing → Type 0
-AreTold all known = (l : Listing) → IsIn l known → IsTold all l.dir l.there l.parent l.names
-
--- those that are known behind a family were told, as those before it were
-told_next : (all : List Entry) (known : List Listing) (n : Naming) (after : List Listing) (s : FamilySight) (ts : List Entry) → ((e : Entry) → IsIn e ts → IsIn e all) → AreTold all known → ShowsFamily known n after s ts → AreTold all after
-told_next all known n after s ts in_all told (behind_listing l was same m) = subst (AreTold all) (sym same) told
-told_next all known n after s ts in_all told (with_listing l new e same t) = subst (AreTold all) (sym same) (λ k i. ⊎_elim
-    (λ a. told k a)
-    (λ b. ⊎_elim (λ is. subst (λ (x : Listing). IsTold all x.dir x.there x.parent x.names) is now) (λ none. absurd none) b)
-    (in_append k known (l ∷ []) i))
-  where
-    now : IsTold all l.dir l.there l.parent l.names
-    now = subst (λ (x : Path). IsTold all x l.there l.parent l.names) (sym e) (record { ts = t.front; in_all = λ x j. in_all x (subst (IsIn x) (sym t.joined) (in_front x t.front t.back j)); shown = t.first })
-told_next all known n after s ts in_all told (not_listed why new same e h) = subst (AreTold all) (sym same) told
-
--- the list, in whatever order
-list_told : (all : List Entry) (dir : Path) (parent : Bool) (names : List (List ℕ)) → IsTold all dir true parent names → (listed : List (List ℕ)) × IsPermutation listed names × IsIn (entry.List dir listed) all
-list_told all dir parent names t =
-    let h = t.shown.1 in
-    let l = h.second in
-    (l.listed, l.same, t.in_all (entry.List dir l.listed) (subst (IsIn (entry.List dir l.listed)) (sym h.joined) (in_back (entry.List dir l.listed) h.front h.back (subst (IsIn (entry.List dir l.listed)) (sym l.list) (inl refl)))))
-
--- the look that saw nothing
-missing_told : (all : List Entry) (dir : Path) (parent : Bool) (names : List (List ℕ)) → IsTold all dir false parent names → IsIn (entry.Look dir None) all
-missing_told all dir parent names t =
-    let h = t.shown.1 in
-    let s = h.first in
-    t.in_all (entry.Look dir None) (subst (IsIn (entry.Look dir None)) (sym h.joined) (in_front (entry.Look dir None) h.front h.back
-    (subst (λ (o : Option Seen). IsIn (entry.Look dir o) h.front) s.is (subst (IsIn (entry.Look dir s.seen)) (sym s.look) (inl refl)))))
+use Rattle.lr_seen.proofs.Listed.{StandBy, all_told}
 
 -- ---- members
 
@@ -138,76 +97,23 @@ parts_sought all n names listed parts ts in_all same list p = record { listed = 
 
 -- ---- families
 
--- The directory was seen to be missing, and nothing of the family stands.
-pub record IsMissing (n : Naming) (stand : Stand) (all : List Entry) : Type 0 where
-  pub members : stand.members ≡ []
-  pub parts : stand.parts ≡ []
-  pub look : IsIn (entry.Look n.dir None) all
-
 -- It was listed, the members have the paths of their places where those are numbers, and their part files are those that were seen.
 pub record AreThose (d : Option Format) (n : Naming) (stand : Stand) (all : List Entry) : Type 0 where
   pub members : HavePlaces d n stand.members
   pub parts : WereSought n stand.parts all
 
--- by whether it is there
-abbrev BySight : Option Format → Naming → Stand → List Entry → Type 0
-BySight d n stand all = (stand.there ≡ true → AreThose d n stand all) × (stand.there ≡ false → IsMissing n stand all)
-
+-- so it is where its directory is there
 abbrev pub WasSought : Naming → Stand → List Entry → Type 0
-WasSought n stand all = BySight n.dated n stand all
-
--- whatever the looks at members show, of which none stands where the directory isn't there
-sought_among : (all : List Entry) (n : Naming) (l : Listing) (stand : Stand) (d : Option Format) (M : Bool → List Entry → Type 0) (ts : List Entry) → ((us : List Entry) → M false us → stand.members ≡ [])
-    → ((us : List Entry) → M true us → HavePlaces d n stand.members)
-    → ((e : Entry) → IsIn e ts → IsIn e all) → IsTold all n.dir l.there l.parent l.names → stand.there ≡ l.there → Then (M l.there) (ShowsParts n l.there l.names stand.parts) ts → BySight d n stand all
-sought_among all n l stand d M ts none some in_all told there h = go l.there there told h.first h.second
-  where
-    in_parts : (e : Entry) → IsIn e h.back → IsIn e all
-    in_parts e i = in_all e (subst (IsIn e) (sym h.joined) (in_back e h.front h.back i))
-
-    go : (b : Bool) → stand.there ≡ b → IsTold all n.dir b l.parent l.names → M b h.front → ShowsParts n b l.names stand.parts h.back → BySight d n stand all
-    go true is t m p =
-        let list = list_told all n.dir l.parent l.names t in
-        ((λ yes. record { members = some h.front m; parts = parts_sought all n l.names list.0 stand.parts h.back in_parts list.1 list.2 p }), λ no. absurd (cc))
-    go false is t m p = ((λ yes. absurd (cc)), λ no. record { members = none h.front m; parts = p.0; look = missing_told all n.dir l.parent l.names t })
+WasSought n stand all = stand.there ≡ true → AreThose n.dated n stand all
 
 -- of a numbered family and of a dated one
-sought_in : (all : List Entry) (n : Naming) (l : Listing) (stand : Stand) (ts : List Entry) → ((e : Entry) → IsIn e ts → IsIn e all) → IsTold all n.dir l.there l.parent l.names → (d : Option Format) → ShowsBy d n l stand ts → BySight d n stand all
-sought_in all n l stand ts in_all told None h = sought_among all n l stand None (λ b. ShowsMembers n b l.names stand.members) ts (λ us m. m.0) (λ us m. members_named n l.names stand.members us m) in_all told h.0 h.2
-sought_in all n l stand ts in_all told (Some format) h = sought_among all n l stand (Some format) (λ b. ShowsDays n b l.names stand.members) ts (λ us m. m.0) (λ us m. tt) in_all told h.0 h.2
+places_had : (n : Naming) (names : List (List ℕ)) (members : List Member) (ts : List Entry) → (d : Option Format) → StandBy d n names members ts → HavePlaces d n members
+places_had n names members ts None s = members_named n names members ts s
+places_had n names members ts (Some format) s = tt
 
-family_sought : (all : List Entry) (known : List Listing) (n : Naming) (after : List Listing) (stand : Stand) (s : FamilySight) (ts : List Entry) → s ≡ Stood stand → ((e : Entry) → IsIn e ts → IsIn e all) → AreTold all known → AreTold all after
-    → ShowsFamily known n after s ts → WasSought n stand all
-family_sought all known n after stand s ts is in_all told next f = go (subst (λ (x : FamilySight). ShowsFamily known n after x ts) is f)
-  where
-    go : ShowsFamily known n after (Stood stand) ts → WasSought n stand all
-    go (behind_listing l was same m) = sought_in all n l stand ts in_all (subst (λ (x : Path). IsTold all x l.there l.parent l.names) was.same (told l (in_list known was.place l was.there))) n.dated m
-    go (with_listing l new e same t) =
-        sought_in all n l stand t.back (λ x i. in_all x (subst (IsIn x) (sym t.joined) (in_back x t.front t.back i)))
-        (subst (λ (x : Path). IsTold all x l.there l.parent l.names) e (next l (subst (IsIn l) (sym same) (in_back l known (l ∷ []) (inl refl))))) n.dated t.second
-    go (not_listed why new same e h) = absurd (cc)
-
-families_sought : (all : List Entry) (known : List Listing) (fs : List FoundLog) (after : List Listing) (ss : List FamilySight) (ts : List Entry) → ((e : Entry) → IsIn e ts → IsIn e all) → AreTold all known → ShowFamilies known fs after ss ts
-    → (x : LookedLog) → IsIn x (looked_of fs ss) → WasSought x.naming x.stand all
-families_sought all known [] after [] ts in_all told h x i = absurd i
-families_sought all known [] after (s ∷ ss) ts in_all told h x i = absurd i
-families_sought all known (f ∷ fs) after [] ts in_all told h x i = absurd i
-families_sought all known (f ∷ fs) after (s ∷ ss) ts in_all told h x i = ⊎_elim
-    (λ a. own s refl a)
-    (λ b. families_sought all h.0 fs after ss h.1.back (λ e j. in_all e (subst (IsIn e) (sym h.1.joined) (in_back e h.1.front h.1.back j))) next h.1.second x b)
-    (in_append x (looked_by f s) (looked_of fs ss) i)
-  where
-    in_front_all : (e : Entry) → IsIn e h.1.front → IsIn e all
-    in_front_all e j = in_all e (subst (IsIn e) (sym h.1.joined) (in_front e h.1.front h.1.back j))
-
-    next : AreTold all h.0
-    next = told_next all known f.log.naming h.0 s h.1.front in_front_all told h.1.first
-
-    own : (r : FamilySight) → s ≡ r → IsIn x (looked_by f r) → WasSought x.naming x.stand all
-    own (Stood stand) is (inl e) = subst (λ (y : LookedLog). WasSought y.naming y.stand all) e (family_sought all known f.log.naming h.0 stand s h.1.front is in_front_all told next h.1.first)
-    own (Stood stand) is (inr none) = absurd none
-    own (Stopped why) is none = absurd none
-
+-- of each log that was looked at whole
 pub all_sought : (all : List Entry) (fs : List FoundLog) (after : List Listing) (ss : List FamilySight) (ts : List Entry) → ((e : Entry) → IsIn e ts → IsIn e all) → ShowFamilies [] fs after ss ts
     → (x : LookedLog) → IsIn x (looked_of fs ss) → WasSought x.naming x.stand all
-all_sought all fs after ss ts in_all h = families_sought all [] fs after ss ts in_all (λ l i. absurd i) h
+all_sought all fs after ss ts in_all h x i there =
+    let l = (all_told all fs after ss ts in_all h x i).0 there in
+    record { members = places_had x.naming l.names x.stand.members l.front x.naming.dated l.members; parts = parts_sought all x.naming l.names l.listed x.stand.parts l.back l.back_in l.same l.list l.parts }

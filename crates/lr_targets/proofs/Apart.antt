@@ -1,9 +1,9 @@
--- What a log's rotation changes are names of its own family.
+-- What a log's rotation changes are names of its own family, the directory that it makes among them.
 use Rattle.std.proofs.Common.{◌≡◌, inl, inr, ℕ, ◌+◌, Bool, true, false, not, cond, refl, sym, ◌∙◌, subst, Option, Some, None, List, [], ◌∷◌}
 use Rattle.lr_rules.specs.declared.path.Path.{Path}
 use Rattle.lr_rules.specs.declared.rule.Count.{Count}
 use Rattle.lr_rules.specs.declared.rule.Naming.{Naming}
-use Rattle.lr_rules.specs.Names.{IsOwnName, the_log, a_part}
+use Rattle.lr_rules.specs.Names.{IsOwnName, IsName, the_log, a_part}
 use Rattle.lr_host.specs.declared.entry.Entry.{Entry}
 use Rattle.lr_host.specs.declared.entry.Entry.TheVariants as entry
 use Rattle.lr_host.specs.declared.entry.Entry.TheVariants.{Renames, Unlinks}
@@ -105,19 +105,28 @@ own_paths t h = each_part P t
     P : Entry → Type 0
     P = AllOwn t.log t.naming
 
+-- each is one of the set's, which may be the family's directory
+abbrev pub AllNames : Path → Naming → Entry → Type 0
+AllNames log n e = (x : Path) → IsIn x (changed_paths e) → IsName log n x
+
+own_names : (log : Path) (n : Naming) (e : Entry) → AllOwn log n e → AllNames log n e
+own_names log n e own x i = inl (own x i)
+
 -- of all that is done besides
-also_own : (t : Target) (e : Entry) → HasNames t → AlsoDoes t e → AllOwn t.log t.naming e
-also_own t (entry.Makes y mode) h (inl is) x (inl same) = the_log (sym same ∙ is)
+also_own : (t : Target) (e : Entry) → HasNames t → AlsoDoes t e → AllNames t.log t.naming e
+also_own t (entry.MakesDir y mode) h d x (inl same) = inr (sym same ∙ (h.dir y d.0 d.1).0)
+also_own t (entry.MakesDir y mode) h d x (inr none) = absurd none
+also_own t (entry.Makes y mode) h (inl is) x (inl same) = inl (the_log (sym same ∙ is))
 also_own t (entry.Makes y mode) h (inl is) x (inr none) = absurd none
-also_own t (entry.Makes y mode) h (inr p) x (inl same) = subst (IsOwnName t.log t.naming) (sym p.2 ∙ same) (part_own t h p.0 p.1)
+also_own t (entry.Makes y mode) h (inr p) x (inl same) = inl (subst (IsOwnName t.log t.naming) (sym p.2 ∙ same) (part_own t h p.0 p.1))
 also_own t (entry.Makes y mode) h (inr p) x (inr none) = absurd none
-also_own t (entry.Appends y bytes) h p x (inl same) = subst (IsOwnName t.log t.naming) (sym p.2 ∙ same) (part_own t h p.0 p.1)
+also_own t (entry.Appends y bytes) h p x (inl same) = inl (subst (IsOwnName t.log t.naming) (sym p.2 ∙ same) (part_own t h p.0 p.1))
 also_own t (entry.Appends y bytes) h p x (inr none) = absurd none
-also_own t (entry.Truncates y) h p x (inl same) = the_log (sym same ∙ p.1)
+also_own t (entry.Truncates y) h p x (inl same) = inl (the_log (sym same ∙ p.1))
 also_own t (entry.Truncates y) h p x (inr none) = absurd none
 also_own t _ h none x i = absurd none
 
 -- of all that is done to the log
-pub own_change : (t : Target) (e : Entry) → HasNames t → IsOf t e → AllOwn t.log t.naming e
-own_change t e h (inl i) = each_in (AllOwn t.log t.naming) (rotation_of t) e (own_paths t h) i
+pub own_change : (t : Target) (e : Entry) → HasNames t → IsOf t e → AllNames t.log t.naming e
+own_change t e h (inl i) = own_names t.log t.naming e (each_in (AllOwn t.log t.naming) (rotation_of t) e (own_paths t h) i)
 own_change t e h (inr also) = also_own t e h also

@@ -142,7 +142,7 @@ stood_before x p _ es (by_writer {q = q} {e = e} m i f) a s = stood_before x p q
 stood_before x p _ _ (by_tool {es = es} {q = q} {e = e} m i f) a s = stood_before x p q es m a.1 (quiet_stood x q e a.0 s)
 
 -- what the journal of a disk begins with is one
-journal_before : (p q : Past) (es : List Entry) → Made p es q → IsJournal q → IsJournal p
+pub journal_before : (p q : Past) (es : List Entry) → Made p es q → IsJournal q → IsJournal p
 journal_before p _ _ at_first j = j
 journal_before p _ es (by_writer {q = q} m i f) j = journal_before p q es m j.0
 journal_before p _ _ (by_tool {es = es} {q = q} m i f) j = journal_before p q es m j.0

@@ -1,5 +1,5 @@
--- What stands between a log's own steps is on the paths of other logs and of the state.
-use Rattle.std.proofs.Common.{◌≡◌, ◌⊎◌, inl, inr, Bool, true, false, cond, bytes_eq, refl, sym, ◌∙◌, ap, subst, Option, Some, None, List, [], ◌∷◌, ◌++◌, append_assoc}
+-- What stands between a log's own steps is on the paths of other logs and of the state, or makes the family's directory.
+use Rattle.std.proofs.Common.{◌≡◌, ◌⊎◌, inl, inr, ℕ, Bool, true, false, cond, bytes_eq, refl, sym, ◌∙◌, ap, subst, Option, Some, None, List, [], ◌∷◌, ◌++◌, append_assoc}
 use Rattle.std.specs.Prelude.{filter}
 use Rattle.std.specs.List.{flat_map}
 use Rattle.std.proofs.lemmas.Slice.Eq.{bytes_eq-Decides}
@@ -20,8 +20,8 @@ use Rattle.lr_host.proofs.Quiet.{disk_of_changes, quiet_still, still_both}
 use Rattle.lr_laws.specs.Follow.{changed_paths}
 use Rattle.lr_copy.specs.declared.job.Job.{Job}
 use Rattle.lr_chain.specs.Rotation.{places_of}
-use Rattle.lr_targets.specs.AllTurns.{IsStatePath, IsOfState, IsPartFile, AlsoDoes, IsOf, IsOfOther, StandsBetween, part_paths, paths_of, paths_of_others, other_paths}
-use Rattle.lr_rotations.specs.Rotated.{IsOn, MakesAt, IsBeside, RotatesAmong}
+use Rattle.lr_targets.specs.AllTurns.{IsStatePath, IsOfState, IsPartFile, IsItsDir, AlsoDoes, IsOf, IsOfOther, StandsBetween, part_paths, dir_paths, paths_of, paths_of_others, other_paths, paths_beside}
+use Rattle.lr_rotations.specs.Rotated.{IsOn, IsBeside, RotatesAmong}
 use Rattle.lr_targets.specs.Target.{Target, rotation_of, IsSeen}
 use Rattle.lr_rotations.specs.Weave.{Among, Weave}
 use Rattle.lr_rotations.proofs.Fed.{IsTurn}
@@ -56,13 +56,14 @@ in_on (x ∷ xs) e (inr i) t = on_more (flat_map changed_paths xs) (flat_map cha
 pub rotation_turns : (t : Target) → Each IsTurn (rotation_of t)
 rotation_turns t = each_turn IsTurn (λ x. tt) (λ x y. tt) t
 
--- the entry renames or unlinks a file, or makes, fills or empties one
+-- the entry renames or unlinks a file, or makes, fills or empties one; or it makes a directory
 abbrev pub IsFileChange : Entry → Type 0
 IsFileChange (Renames from to) = Unit {0}
 IsFileChange (Unlinks x) = Unit {0}
 IsFileChange (Makes x mode) = Unit {0}
 IsFileChange (Appends x bytes) = Unit {0}
 IsFileChange (Truncates x) = Unit {0}
+IsFileChange (MakesDir x mode) = Unit {0}
 IsFileChange _ = ⊥
 
 turn_changes : (e : Entry) → IsTurn e → IsFileChange e
@@ -74,6 +75,7 @@ also_changes : (t : Target) (e : Entry) → AlsoDoes t e → IsFileChange e
 also_changes t (Makes x mode) h = tt
 also_changes t (Appends x bytes) h = tt
 also_changes t (Truncates x) h = tt
+also_changes t (MakesDir x mode) h = tt
 also_changes t _ h = absurd h
 
 -- all that is done to a log is such a change
@@ -81,12 +83,16 @@ pub own_turns : (t : Target) (e : Entry) → IsOf t e → IsFileChange e
 own_turns t e (inl i) = turn_changes e (each_in IsTurn (rotation_of t) e (rotation_turns t) i)
 own_turns t e (inr also) = also_changes t e also
 
--- where it isn't copied, it is made anew besides, and nothing more
+-- where it isn't copied, its directory may be made, and it is made anew besides, and nothing more
 no_job : (j : Option Job) (job : Job) → j ≡ Some job → j ≡ None → ⊥
 no_job j job a b = cc
 
-pub also_made : (t : Target) (e : Entry) → t.job ≡ None → AlsoDoes t e → MakesAt t.log e
-also_made t (Makes x mode) none (inl is) = is
+dir_in : (t : Target) (x : Path) → IsItsDir t x → IsIn x (dir_paths t.ready.dir)
+dir_in t x d = subst (λ (o : Option (Path × Option ℕ)). IsIn x (dir_paths o)) (sym d.1) (inl refl)
+
+pub also_made : (t : Target) (e : Entry) → t.job ≡ None → AlsoDoes t e → IsBeside (dir_paths t.ready.dir) t.log e
+also_made t (MakesDir x mode) none d = inl (dir_in t x d)
+also_made t (Makes x mode) none (inl is) = inr is
 also_made t (Makes x mode) none (inr p) = absurd (no_job t.job p.0 p.1 none)
 also_made t (Appends x bytes) none p = absurd (no_job t.job p.0 p.1 none)
 also_made t (Truncates x) none p = absurd (no_job t.job p.0.0 p.0.1 none)
@@ -99,10 +105,15 @@ either true log other xs ys x e (inr i) differ = i
 either false log other xs ys x e (inl i) differ = in_front x xs ys i
 either false log other xs ys x e (inr i) differ = in_back x xs ys i
 
+-- behind the log's path and the part file's those of the directory and of the rotation
+behind_part : (t : Target) (x : Path) → IsIn x (dir_paths t.ready.dir ++ flat_map changed_paths (rotation_of t)) → IsIn x (paths_of t)
+behind_part t x i = inr (in_back x (part_paths t.job) (dir_paths t.ready.dir ++ flat_map changed_paths (rotation_of t)) i)
+
 part_in : (t : Target) (x : Path) → IsPartFile t x → IsIn x (paths_of t)
-part_in t x p = inr (in_front x (part_paths t.job) (flat_map changed_paths (rotation_of t)) (subst (λ (j : Option Job). IsIn x (part_paths j)) (sym p.1) (inl (sym p.2))))
+part_in t x p = inr (in_front x (part_paths t.job) (dir_paths t.ready.dir ++ flat_map changed_paths (rotation_of t)) (subst (λ (j : Option Job). IsIn x (part_paths j)) (sym p.1) (inl (sym p.2))))
 
 also_on : (t : Target) (e : Entry) → AlsoDoes t e → IsOn (paths_of t) e
+also_on t (MakesDir x mode) d = behind_part t x (in_front x (dir_paths t.ready.dir) (flat_map changed_paths (rotation_of t)) (dir_in t x d))
 also_on t (Makes x mode) (inl is) = inl (sym is)
 also_on t (Makes x mode) (inr p) = part_in t x p
 also_on t (Appends x bytes) p = part_in t x p
@@ -110,7 +121,7 @@ also_on t (Truncates x) p = inl (sym p.1)
 also_on t _ h = absurd h
 
 own_on : (t : Target) (e : Entry) → IsOf t e → IsOn (paths_of t) e
-own_on t e (inl i) = on_more (flat_map changed_paths (rotation_of t)) (paths_of t) e (λ x j. inr (in_back x (part_paths t.job) (flat_map changed_paths (rotation_of t)) j)) (in_on (rotation_of t) e i (each_in IsTurn (rotation_of t) e (rotation_turns t) i))
+own_on t e (inl i) = on_more (flat_map changed_paths (rotation_of t)) (paths_of t) e (λ x j. behind_part t x (in_back x (dir_paths t.ready.dir) (flat_map changed_paths (rotation_of t)) j)) (in_on (rotation_of t) e i (each_in IsTurn (rotation_of t) e (rotation_turns t) i))
 own_on t e (inr also) = also_on t e also
 
 other_on : (log : Path) (ts : List Target) (e : Entry) → IsOfOther log ts e → IsOn (paths_of_others log ts) e
@@ -134,10 +145,21 @@ state_on state log ts (Appends x bytes) h = state_in state log ts x h
 state_on state log ts (Unlinks x) h = state_in state log ts x h
 state_on state log ts _ h = absurd h
 
-between_beside : (state : Path) (t : Target) (ts : List Target) (e : Entry) → t.job ≡ None → StandsBetween state t ts e → IsBeside (other_paths state t.log ts) t.log e
-between_beside state t ts e none (inl h) = inl (on_more (paths_of_others t.log ts) (other_paths state t.log ts) e (λ x i. inr (inr i)) (other_on t.log ts e h))
-between_beside state t ts e none (inr (inl h)) = inl (state_on state t.log ts e h)
-between_beside state t ts e none (inr (inr also)) = inr (also_made t e none also)
+between_beside : (state : Path) (t : Target) (ts : List Target) (e : Entry) → t.job ≡ None → StandsBetween state t ts e → IsBeside (paths_beside state t ts) t.log e
+between_beside state t ts e none between = go between
+  where
+    -- the paths of others stand behind that of the directory
+    others : IsOn (other_paths state t.log ts) e → IsBeside (paths_beside state t ts) t.log e
+    others on = inl (on_more (other_paths state t.log ts) (paths_beside state t ts) e (λ x i. in_back x (dir_paths t.ready.dir) (other_paths state t.log ts) i) on)
+
+    own : IsBeside (dir_paths t.ready.dir) t.log e → IsBeside (paths_beside state t ts) t.log e
+    own (inl on) = inl (on_more (dir_paths t.ready.dir) (paths_beside state t ts) e (λ x i. in_front x (dir_paths t.ready.dir) (other_paths state t.log ts) i) on)
+    own (inr anew) = inr anew
+
+    go : StandsBetween state t ts e → IsBeside (paths_beside state t ts) t.log e
+    go (inl h) = others (on_more (paths_of_others t.log ts) (other_paths state t.log ts) e (λ x i. inr (inr i)) (other_on t.log ts e h))
+    go (inr (inl h)) = others (state_on state t.log ts e h)
+    go (inr (inr also)) = own (also_made t e none also)
 
 -- ---- all are changes of the disk
 
@@ -172,18 +194,18 @@ among_behind P e xs ys a = record {
 }
 
 -- the changes of the disk are its rotation, with others on their paths between
-pub rotates_beside : (state : Path) (x : Target) (ts : List Target) (acts : List Entry) → x.job ≡ None → Weave (StandsBetween state x ts) (rotation_of x) (filter is_change acts) → Weave (IsBeside (other_paths state x.log ts) x.log) (rotation_of x) (filter is_disk_change acts)
+pub rotates_beside : (state : Path) (x : Target) (ts : List Target) (acts : List Entry) → x.job ≡ None → Weave (StandsBetween state x ts) (rotation_of x) (filter is_change acts) → Weave (IsBeside (paths_beside state x ts) x.log) (rotation_of x) (filter is_disk_change acts)
 rotates_beside state x ts acts none w = subst (Weave (IsBeside paths x.log) (rotation_of x)) (disk_changes paths x acts on) on
   where
     paths : List Path
-    paths = other_paths state x.log ts
+    paths = paths_beside state x ts
 
     on : Weave (IsBeside paths x.log) (rotation_of x) (filter is_change acts)
     on = weave_as (StandsBetween state x ts) (IsBeside paths x.log) (rotation_of x) (filter is_change acts) (λ e h. between_beside state x ts e none h) w
 
 -- where its rotation is whole
 pub one_rotates : (state : Path) (now : Moment) (rules : Rules) (reads tail looks acts : List Entry) (ts : List Target) (x : Target) → tail ≡ looks ++ acts → AreQuiet reads → AreQuiet looks → IsSeen rules now.seconds looks x
-    → Weave (StandsBetween state x ts) (rotation_of x) (filter is_change acts) → x.job ≡ None → RotatesAmong (other_paths state x.log ts) x.log x.naming x.count x.from x.stand (reads ++ entry.Starts state now rules ∷ tail)
+    → Weave (StandsBetween state x ts) (rotation_of x) (filter is_change acts) → x.job ≡ None → RotatesAmong (paths_beside state x ts) x.log x.naming x.count x.from x.stand (reads ++ entry.Starts state now rules ∷ tail)
 one_rotates state now rules reads tail looks acts ts x joined read quiet seen w none = record {
   front = reads ++ starts ∷ looks;
   back = acts;
@@ -192,7 +214,7 @@ one_rotates state now rules reads tail looks acts ts x joined read quiet seen w 
   log_seen = among_behind (Sees x.log IsFile) starts reads looks seen.log_seen;
   seen = shown_in x.naming (places_of x.stand.members) looks (reads ++ starts ∷ looks) (λ e h. in_back e reads (starts ∷ looks) (inr h)) seen.seen;
   going = (seen_names rules now.seconds looks x seen).going;
-  changes = subst (λ (steps : List Entry). Weave (IsBeside (other_paths state x.log ts) x.log) steps (filter is_disk_change acts)) (rotation_is x seen.ready none) (rotates_beside state x ts acts none w);
+  changes = subst (λ (steps : List Entry). Weave (IsBeside (paths_beside state x ts) x.log) steps (filter is_disk_change acts)) (rotation_is x seen.ready none) (rotates_beside state x ts acts none w);
 }
   where
     starts : Entry

@@ -11,7 +11,7 @@ use Rattle.lr_copy.specs.declared.job.Job.{Job}
 use Rattle.lr_copy.specs.Copying.{clearing}
 use Rattle.lr_chain.specs.Ready.{removal_at, move_from, move_step}
 use Rattle.lr_chain.specs.Rotation.{places_of, leftovers, kept, retired, unlink_at, move_at, leftover_steps, shift_steps, retire_steps, rotation}
-use Rattle.lr_targets.specs.Calls.{transfer_calls, calls_of}
+use Rattle.lr_targets.specs.Calls.{transfer_calls, dir_calls, calls_of}
 use Rattle.lr_targets.specs.Target.{Target, unlinks, transfer_of, rotation_of, HasReady}
 
 -- ---- the parts
@@ -36,11 +36,11 @@ retire_are t r = ap unlinks r.retire_is ∙ unlinks_are t.naming (retired t.coun
 pub two : {xs ys xs' ys' : List Entry} → xs ≡ xs' → ys ≡ ys' → xs ++ ys ≡ xs' ++ ys'
 two {ys = ys} {xs' = xs'} a b = ap (λ x. x ++ ys) a ∙ ap (λ y. xs' ++ y) b
 
--- with the log's own way left open
-pub calls_by_parts : (t : Target) → HasReady t → (j : Option Job) → t.job ≡ j
+-- with the directory and the log's own way left open
+pub calls_by_parts : (t : Target) → HasReady t → (d : Option (Path × Option ℕ)) (j : Option Job) → t.ready.dir ≡ d → t.job ≡ j
     → calls_of t ≡ leftover_steps t.naming t.count (places_of t.stand.members)
-    ++ (shift_steps t.naming t.count (places_of t.stand.members) ++ (transfer_calls t.ready j ++ Reads (path_at t.naming 0) 0 [] ∷ retire_steps t.naming t.count t.from))
-calls_by_parts t r j is = two (left_are t r) (two (shift_are t r) (two (ap (transfer_calls t.ready) is) (two (ap (λ (x : Path). Reads x 0 [] ∷ []) r.target_is) (retire_are t r))))
+    ++ (dir_calls d ++ (shift_steps t.naming t.count (places_of t.stand.members) ++ (transfer_calls t.ready j ++ Reads (path_at t.naming 0) 0 [] ∷ retire_steps t.naming t.count t.from)))
+calls_by_parts t r d j made is = two (left_are t r) (two (ap dir_calls made) (two (shift_are t r) (two (ap (transfer_calls t.ready) is) (two (ap (λ (x : Path). Reads x 0 [] ∷ []) r.target_is) (retire_are t r)))))
 
 -- ---- by rename
 

@@ -16,7 +16,7 @@ use Rattle.lr_host.specs.declared.journal.Journal.{Journal}
 use Rattle.lr_host.specs.World.{Past, ◌▸◌, past, world, names}
 use Rattle.lr_host.specs.Fits.{IsFileAt}
 use Rattle.lr_host.specs.Told.{Each, IsWriters, Made, at_first, by_writer, by_tool, Left, not_told, is_told}
-use Rattle.lr_host.specs.Steps.{is_change, FitAll}
+use Rattle.lr_host.specs.Steps.{is_change}
 use Rattle.lr_host.specs.Opening.{IsJournal}
 use Rattle.lr_host.specs.Released.{ByAge}
 use Rattle.lr_host.specs.Quiet.{IsQuiet, AreQuiet}
@@ -26,7 +26,6 @@ use Rattle.lr_host.specs.Safe.{IsSafe, KeepsSafe}
 use Rattle.lr_host.specs.Steady.{IsSteady, IsSteadyAt, NoneAttached}
 use Rattle.lr_host.specs.Looks.{Sees, IsFile}
 use Rattle.lr_host.proofs.Each.{filter_reverse, each_reverse}
-use Rattle.lr_host.proofs.Left.{later_fit}
 use Rattle.lr_host.proofs.Made.{Cut, cut, CutAt, cut_one, made_journal, made_on}
 use Rattle.lr_host.proofs.Steady.{steady_before, steady_at, none_attached}
 use Rattle.lr_laws.specs.Rotation.{IsRotation, LogFits}
@@ -35,6 +34,7 @@ use Rattle.lr_laws.proofs.Calls.{rotation_filter, later_rotation}
 use Rattle.lr_laws.proofs.Outside.{in_set_own}
 use Rattle.lr_laws.proofs.Stated.{quiet_safe}
 use Rattle.lr_laws.proofs.Walk.{walk, log_filter}
+use Rattle.lr_family.proofs.Numbers.{every_all}
 use Rattle.lr_chain.specs.Rotation.{places_of, rotation}
 use Rattle.lr_targets.specs.AllTurns.{IsStatePath, IsOfState}
 use Rattle.lr_targets.specs.Apart.{HasNames}
@@ -43,8 +43,8 @@ use Rattle.lr_rotations.specs.Shown.{Shown, SawMembers}
 use Rattle.lr_targets.specs.Target.{Target, rotation_of, IsSeen, IsOneOf}
 use Rattle.lr_rotations.specs.Weave.{Among, FirstWoven}
 use Rattle.lr_rotations.proofs.Aged.{looked_run, may_go}
-use Rattle.lr_rotations.proofs.Fitting.{fits}
-use Rattle.lr_targets.proofs.Given.{gives, naming_same, no_copy, by_rule}
+use Rattle.lr_rotations.proofs.LogFitting.{log_fits, log_fits_first}
+use Rattle.lr_targets.proofs.Given.{gives, journal_before, naming_same, no_copy, by_rule}
 use Rattle.lr_rotations.proofs.Moments.{saw_file, shown_members}
 use Rattle.lr_targets.proofs.Rotating.{rotation_is}
 use Rattle.lr_targets.proofs.SeenFits.{seen_names}
@@ -163,7 +163,7 @@ module _ (s : LogSet) (state : Path) (now : ℤ) (rules : Rules) (u v : Past) (l
       stands : AreThere t.naming (names (world v)) places
       stands =
           subst (λ (x : Naming). AreThere x (names (world v)) places) naming
-          (shown_members s u v (reverse looks) places family m quiet_in_order none_at
+          (shown_members s u v (reverse looks) places family (journal_before u v (reverse looks) m here.journal) m quiet_in_order none_at
           (subst (λ (x : Naming). Shown x places (reverse (reverse looks))) (sym naming) (subst (Shown t.naming places) (sym in_order) seen.seen)))
 
       -- it isn't copied
@@ -188,7 +188,8 @@ module _ (s : LogSet) (state : Path) (now : ℤ) (rules : Rules) (u v : Past) (l
       all : IsWoven s v rotates.limit (reverse w.made) (reverse (filter is_change acts))
       all = woven s v rotates.limit (reverse w.made) (reverse (filter is_change acts)) (weave_back (IsApartOrMakes s) w.made (filter is_change acts) w.woven)
           (later_rotation s v rotates.limit (reverse w.first.0) (reverse w.made) (subst (IsRotation s v rotates.limit) split rotates.rotation))
-          (later_fit (names (world v)) (reverse w.first.0) (reverse w.made) (subst (FitAll (names (world v))) split (fits (names (world v)) t.log t.naming t.count places t.from seen.family k.file stands k.names_all.next k.names_all.going)))
+          (log_fits_first s (names (world v)) (reverse w.first.0) (reverse w.made) (subst (LogFits s (names (world v))) split
+          (log_fits s (names (world v)) t.log t.naming t.count places t.from same seen.family k.file (every_all (HasName t.naming) places k.names_all.named) k.names_all.next k.names_all.going)))
 
 -- ---- the whole run
 

@@ -1,5 +1,5 @@
 -- What a run does to its logs: the entries of each rotation, of the others, and of the state.
-use Rattle.std.specs.Prelude.{◌≡◌, ◌≢◌, ◌⊎◌, List, [], ◌∷◌, ◌++◌, codes, cond, bytes_eq, Option, Some, None}
+use Rattle.std.specs.Prelude.{◌≡◌, ◌≢◌, ◌⊎◌, ℕ, List, [], ◌∷◌, ◌++◌, codes, cond, bytes_eq, Option, Some, None}
 use Rattle.std.specs.List.{flat_map}
 use Rattle.lr_rules.specs.declared.path.Path.{Path}
 use Rattle.lr_host.specs.declared.entry.Entry.{Entry}
@@ -29,8 +29,13 @@ IsCopied t = (job : Job) × (t.job ≡ Some job)
 abbrev pub IsPartFile : Target → Path → Type 0
 IsPartFile t x = (job : Job) × (t.job ≡ Some job) × (x ≡ job.part)
 
--- What a rotation does besides its renames and unlinks: the log is made anew; where it is copied, its part file is made and filled, and the log is emptied.
+-- the path is that of the directory that its rotation makes
+abbrev pub IsItsDir : Target → Path → Type 0
+IsItsDir t x = (mode : Option ℕ) × (t.ready.dir ≡ Some (x, mode))
+
+-- What a rotation does besides its renames and unlinks: the family's directory is made where it wasn't there; the log is made anew; where it is copied, its part file is made and filled, and the log is emptied.
 abbrev pub AlsoDoes : Target → Entry → Type 0
+AlsoDoes t (entry.MakesDir x mode) = IsItsDir t x
 AlsoDoes t (entry.Makes x mode) = (x ≡ t.log) ⊎ IsPartFile t x
 AlsoDoes t (entry.Appends x bytes) = IsPartFile t x
 AlsoDoes t (entry.Truncates x) = IsCopied t × (x ≡ t.log)
@@ -59,9 +64,14 @@ abbrev pub part_paths : Option Job → List Path
 part_paths None = []
 part_paths (Some job) = job.part ∷ []
 
+-- the path of the directory that is made, if any
+abbrev pub dir_paths : Option (Path × Option ℕ) → List Path
+dir_paths None = []
+dir_paths (Some (dir, mode)) = dir ∷ []
+
 -- all paths that a rotation changes
 abbrev pub paths_of : Target → List Path
-paths_of t = t.log ∷ (part_paths t.job ++ flat_map changed_paths (rotation_of t))
+paths_of t = t.log ∷ (part_paths t.job ++ (dir_paths t.ready.dir ++ flat_map changed_paths (rotation_of t)))
 
 -- the paths that the rotations of other logs change, and those of the state
 abbrev pub paths_of_others : Path → List Target → List Path
@@ -70,3 +80,7 @@ paths_of_others log (t ∷ ts) = cond (bytes_eq t.log log) (paths_of_others log 
 
 abbrev pub other_paths : Path → Path → List Target → List Path
 other_paths state log targets = state ∷ (state ++ codes ".tmp") ∷ paths_of_others log targets
+
+-- the paths that a run changes besides the names of this log's family: those of others, and of the directory that its rotation makes
+abbrev pub paths_beside : Path → Target → List Target → List Path
+paths_beside state t targets = dir_paths t.ready.dir ++ other_paths state t.log targets

@@ -1,5 +1,5 @@
 -- The logs that a run may rotate, and what it saw of each.
-use Rattle.std.specs.Prelude.{◌≡◌, ◌≢◌, ◌⊎◌, ◌↔◌, ◌+◌, ℕ, ℤ, true, List, [], ◌∷◌, ◌++◌, map, reverse, Option, Some, None, Any, Contains}
+use Rattle.std.specs.Prelude.{◌≡◌, ◌≢◌, ◌⊎◌, ◌↔◌, ◌+◌, ℕ, ℤ, true, false, List, [], ◌∷◌, ◌++◌, map, reverse, Option, Some, None, Any, Contains}
 use Rattle.lr_rules.specs.declared.path.Path.{Path}
 use Rattle.lr_rules.specs.declared.rule.Count.{Count}
 use Rattle.lr_rules.specs.declared.rule.Count.TheVariants as count
@@ -8,11 +8,13 @@ use Rattle.lr_rules.specs.declared.rule.Rule.{Rule}
 use Rattle.lr_rules.specs.declared.rule.Way.TheVariants.{Rename}
 use Rattle.lr_rules.specs.declared.rules.Rules.{Rules}
 use Rattle.lr_rules.specs.Match.{WordGives, is_wildcard}
-use Rattle.lr_rules.specs.Names.{naming_of}
-use Rattle.lr_rules.specs.Path.{path_fault}
+use Rattle.lr_rules.specs.Names.{naming_of, IsOwnName}
+use Rattle.lr_rules.specs.Path.{path_fault, parent_of}
 use Rattle.lr_host.specs.declared.entry.Entry.{Entry}
+use Rattle.lr_host.specs.declared.entry.Entry.TheVariants as entry
 use Rattle.lr_host.specs.declared.entry.Entry.TheVariants.{Renames, Unlinks}
 use Rattle.lr_host.specs.Fits.{IsFileAt}
+use Rattle.lr_host.specs.Lists.{IsIn}
 use Rattle.lr_host.specs.Looks.{Sees, IsFile}
 use Rattle.lr_host.specs.Opening.{IsJournal}
 use Rattle.lr_host.specs.Runs.{SomeRule}
@@ -26,10 +28,10 @@ use Rattle.lr_scripts.specs.declared.removal.Removal.{Removal}
 use Rattle.lr_copy.specs.declared.job.Job.{Job}
 use Rattle.lr_copy.specs.Copying.{clearing}
 use Rattle.lr_chain.specs.declared.ready.Ready.{Ready}
-use Rattle.lr_chain.specs.Ready.{IsReady, move_step}
+use Rattle.lr_chain.specs.Ready.{IsReady, with_dir, move_step}
 use Rattle.lr_chain.specs.Rotation.{places_of, going}
 use Rattle.lr_rotations.specs.Members.{IsFamily}
-use Rattle.lr_rotations.specs.Shown.{Shown, SawMembers}
+use Rattle.lr_rotations.specs.Shown.{SawDir, Shown, SawMembers}
 use Rattle.lr_rotations.specs.Weave.{Among}
 
 -- What looks and listings tell of a log where they are true: this word of one of the rules gives it. Where the word is a wildcard that gives another log too, which named a file before and of which it is a member, by numbers or dates, it is none by the naming of a rule that gives that log.
@@ -54,11 +56,12 @@ pub record IsGiven (rules : List Rule) (looks : List Entry) (log : Path) (n : Na
 abbrev pub IsOneTooHigh : Naming → Count → List Member → Type 0
 IsOneTooHigh n c members = (c ≡ count.Always) × Any (λ m. n.start + number_in m.place ≡ 4294967295) members
 
--- A log that a run may rotate: its naming and count, what stood of its family, the places from which members come that go, its rotation, which is ready, and the copy that stands in the place of the log's rename, if any.
+-- A log that a run may rotate: its naming, count and age in days, what stood of its family, the places from which members come that go, its rotation, which is ready, and the copy that stands in the place of the log's rename, if any.
 pub record Target : Type 0 where
   pub log : Path
   pub naming : Naming
   pub count : Count
+  pub maxage : Option ℕ
   pub stand : Stand
   pub from : List ℕ
   pub ready : Ready
@@ -77,9 +80,30 @@ transfer_of ready (Some job) = clearing job ++ Renames job.part job.to ∷ []
 abbrev pub rotation_of : Target → List Entry
 rotation_of t = unlinks t.ready.leftovers ++ (map move_step t.ready.moves ++ (transfer_of t.ready t.job ++ unlinks t.ready.retire))
 
--- the rotation that is ready is that of the members that stood
+-- the rotation that is ready is that of the members that stood, whether a directory is made or not
 abbrev pub HasReady : Target → Type 0
-HasReady t = IsReady t.log t.naming t.count t.ready.make t.stand.members t.from t.ready
+HasReady t = IsReady t.log t.naming t.count t.ready.make t.stand.members t.from (with_dir None t.ready)
+
+-- the directory that is made, if any, is that of the family, and no other name of the set
+abbrev pub HasDir : Target → Type 0
+HasDir t = (dir : Path) (mode : Option ℕ) → t.ready.dir ≡ Some (dir, mode) → (dir ≡ t.naming.dir) × (IsOwnName t.log t.naming dir → ⊥)
+
+-- The directory is that of the family, and no other name of the set. These looks saw nothing at its path, and its parent; so no member stood, and no part file.
+pub record IsMissingDir (log : Path) (n : Naming) (members : List Member) (job : Option Job) (looks : List Entry) (dir : Path) : Type 0 where
+  pub dir_is : dir ≡ n.dir
+  pub apart : IsOwnName log n dir → ⊥
+  pub gone : IsIn (entry.Look dir None) looks
+  pub parent : SawDir (parent_of dir) looks
+  pub no_members : members ≡ []
+  pub not_stale : (j : Job) → job ≡ Some j → j.stale ≡ false
+
+-- where no directory is made, these looks saw the family's; where one is, it was missing
+abbrev pub IsDirSeenBy : Option (Path × Option ℕ) → Path → Naming → List Member → Option Job → List Entry → Type 0
+IsDirSeenBy None log n members job looks = SawDir n.dir looks
+IsDirSeenBy (Some (dir, mode)) log n members job looks = IsMissingDir log n members job looks dir
+
+abbrev pub IsDirSeen : Target → List Entry → Type 0
+IsDirSeen t looks = IsDirSeenBy t.ready.dir t.log t.naming t.stand.members t.job looks
 
 -- The job copies the log, by a part file in the family's directory, to the final path.
 pub record IsJob (t : Target) (job : Job) : Type 0 where
@@ -106,6 +130,7 @@ pub record IsSeen (rules : Rules) (now : ℤ) (looks : List Entry) (t : Target) 
   pub from_is : t.from ≡ going t.count given.rule.maxage now t.stand.members
   pub low : IsOneTooHigh t.naming t.count t.stand.members → ⊥
   pub ready : HasReady t
+  pub dir : IsDirSeen t looks
   pub job : IsJobOf t looks
 
 abbrev pub IsOneOf : Target → List Target → Type 0

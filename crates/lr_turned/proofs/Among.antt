@@ -25,7 +25,7 @@ use Rattle.lr_copied.specs.Whole.{Named}
 use Rattle.lr_chain.specs.Rotation.{places_of, is_left, leftovers, kept, retired, leftover_steps, shift_steps, retire_steps}
 use Rattle.lr_durable.proofs.Lists.{each_last}
 use Rattle.lr_emptied.specs.Emptied.{CopiedLast, EmptiesCopied}
-use Rattle.lr_targets.specs.AllTurns.{StandsBetween, other_paths}
+use Rattle.lr_targets.specs.AllTurns.{StandsBetween, paths_beside}
 use Rattle.lr_targets.specs.Apart.{HasNames}
 use Rattle.lr_rotations.specs.Members.{HasName}
 use Rattle.lr_rotations.specs.Rotated.{IsBeside, AreOutside}
@@ -77,9 +77,9 @@ these_change Own _ h = absurd h
 -- The copy of a log stands whole among the acts of a run that rotated it whole, with steps on certain paths before and behind the copy, those of its members: the first steps are then all before the copy, with changes of others between, the last all behind it, and nothing but the copy empties the log.
 module _ (state : Path) (x : Target) (targets : List Target) (acts : List Entry) (job : Job) (Own : Path → Type 0) (first last : List Entry) (job_is : x.job ≡ Some job) (from_is : x.log ≡ job.from)
     (whole : Weave (StandsBetween state x targets) (rotation_of x) (filter is_change acts)) (steps_are : rotation_of x ≡ (first ++ clearing job) ++ (Renames job.part job.to ∷ last)) (first_own : Each (IsOfThese Own) first) (last_own : Each (IsOfThese Own) last)
-    (own_to : Own job.to) (out : (y : Path) → IsIn y (job.part ∷ other_paths state x.log targets) → Own y → ⊥) (stands : CopyStands job acts) (copies : EmptiesCopied (IsSameFor job) acts) where
+    (own_to : Own job.to) (out : (y : Path) → IsIn y (job.part ∷ paths_beside state x targets) → Own y → ⊥) (stands : CopyStands job acts) (copies : EmptiesCopied (IsSameFor job) acts) where
   abbrev paths : List Path
-  paths = job.part ∷ other_paths state x.log targets
+  paths = job.part ∷ paths_beside state x targets
 
   -- the rename to the final path, and the truncation
   abbrev r : Entry
@@ -264,7 +264,7 @@ module _ (state : Path) (x : Target) (targets : List Target) (acts : List Entry)
 
 -- The run rotated each log whole, and this one it copied, one entry behind another, emptying it behind that copy alone.
 module _ (state : Path) (clock : Clock) (rules : Rules) (reads tail : List Entry) (t : AllTurnedBy state clock rules tail) (x : Target) (job : Job) (quiet : AreQuiet reads) (one : IsOneOf x t.turns.targets) (job_is : x.job ≡ Some job) (none : x.naming.dated ≡ None)
-    (outside : AreOutside (job.part ∷ other_paths state x.log t.turns.targets) job.from x.naming) (copy_stands : CopyStands job t.turns.acts) (empties : EmptiesCopied (IsSameFor job) t.turns.acts) where
+    (outside : AreOutside (job.part ∷ paths_beside state x t.turns.targets) job.from x.naming) (copy_stands : CopyStands job t.turns.acts) (empties : EmptiesCopied (IsSameFor job) t.turns.acts) where
   abbrev n : Naming
   n = x.naming
 
@@ -310,7 +310,7 @@ module _ (state : Path) (clock : Clock) (rules : Rules) (reads tail : List Entry
   to_member : IsMember n job.to
   to_member = (0, first_named n x.count places has.next, job_target x job seen.ready (seen.job job job_is).0)
 
-  no_member : (y : Path) → IsIn y (job.part ∷ other_paths state x.log t.turns.targets) → IsMember n y → ⊥
+  no_member : (y : Path) → IsIn y (job.part ∷ paths_beside state x t.turns.targets) → IsMember n y → ⊥
   no_member y i member = (outside y i).1 member.0 member.1 member.2
 
   -- ---- the whole
@@ -319,7 +319,7 @@ module _ (state : Path) (clock : Clock) (rules : Rules) (reads tail : List Entry
   starts = entry.Starts state clock.now rules
 
   -- so its copy stands amid its rotation
-  pub copies_among : CopiesAmong (other_paths state x.log t.turns.targets) job x.naming x.count x.from x.stand (reads ++ entry.Starts state clock.now rules ∷ tail)
+  pub copies_among : CopiesAmong (paths_beside state x t.turns.targets) job x.naming x.count x.from x.stand (reads ++ entry.Starts state clock.now rules ∷ tail)
   copies_among = record {
     front = reads ++ starts ∷ t.turns.looks;
     early = copy_stands.before;

@@ -1,5 +1,5 @@
--- What stands between the steps of a log that is copied: it is on the paths of other logs and of the state, and on the part file's; or it makes the log anew, or empties it.
-use Rattle.std.proofs.Common.{◌≡◌, ◌⊎◌, inl, inr, Bool, true, false, cond, bytes_eq, refl, sym, ◌∙◌, ap, subst, Option, Some, List, [], ◌∷◌, ◌++◌}
+-- What stands between the steps of a log that is copied: it is on the paths of other logs and of the state, on the part file's, and on that of the family's directory, which it makes; or it makes the log anew, or empties it.
+use Rattle.std.proofs.Common.{◌≡◌, ◌⊎◌, inl, inr, ℕ, Bool, true, false, cond, bytes_eq, refl, sym, ◌∙◌, ap, subst, Option, Some, List, [], ◌∷◌, ◌++◌}
 use Rattle.std.specs.List.{flat_map}
 use Rattle.std.proofs.lemmas.Slice.Eq.{bytes_eq-Decides}
 use Rattle.lr_rules.specs.declared.path.Path.{Path}
@@ -10,7 +10,7 @@ use Rattle.lr_host.specs.Quiet.{is_disk_change}
 use Rattle.lr_host.proofs.Lists.{in_front, in_back}
 use Rattle.lr_laws.specs.Follow.{changed_paths}
 use Rattle.lr_copy.specs.declared.job.Job.{Job}
-use Rattle.lr_targets.specs.AllTurns.{IsStatePath, IsOfState, IsPartFile, AlsoDoes, IsOf, IsOfOther, StandsBetween, part_paths, paths_of, paths_of_others, other_paths}
+use Rattle.lr_targets.specs.AllTurns.{IsStatePath, IsOfState, IsPartFile, IsItsDir, AlsoDoes, IsOf, IsOfOther, StandsBetween, part_paths, dir_paths, paths_of, paths_of_others, other_paths, paths_beside}
 use Rattle.lr_rotations.specs.Rotated.{IsOn, IsBeside}
 use Rattle.lr_targets.specs.Target.{Target, rotation_of}
 use Rattle.lr_rotations.proofs.Fed.{IsTurn}
@@ -39,9 +39,16 @@ in_on (x ∷ xs) e (inl is) t = on_more (changed_paths e) (flat_map changed_path
 in_on (x ∷ xs) e (inr i) t = on_more (flat_map changed_paths xs) (flat_map changed_paths (x ∷ xs)) e (λ y h. in_back y (changed_paths x) (flat_map changed_paths xs) h) (in_on xs e i t)
 
 part_in : (t : Target) (x : Path) → IsPartFile t x → IsIn x (paths_of t)
-part_in t x p = inr (in_front x (part_paths t.job) (flat_map changed_paths (rotation_of t)) (subst (λ (j : Option Job). IsIn x (part_paths j)) (sym p.1) (inl (sym p.2))))
+part_in t x p = inr (in_front x (part_paths t.job) (dir_paths t.ready.dir ++ flat_map changed_paths (rotation_of t)) (subst (λ (j : Option Job). IsIn x (part_paths j)) (sym p.1) (inl (sym p.2))))
+
+dir_among : (t : Target) (x : Path) → IsItsDir t x → IsIn x (dir_paths t.ready.dir)
+dir_among t x d = subst (λ (dir : Option (Path × Option ℕ)). IsIn x (dir_paths dir)) (sym d.1) (inl refl)
+
+dir_in : (t : Target) (x : Path) → IsItsDir t x → IsIn x (paths_of t)
+dir_in t x d = inr (in_back x (part_paths t.job) (dir_paths t.ready.dir ++ flat_map changed_paths (rotation_of t)) (in_front x (dir_paths t.ready.dir) (flat_map changed_paths (rotation_of t)) (dir_among t x d)))
 
 also_on : (t : Target) (e : Entry) → AlsoDoes t e → IsOn (paths_of t) e
+also_on t (MakesDir x mode) d = dir_in t x d
 also_on t (Makes x mode) (inl is) = inl (sym is)
 also_on t (Makes x mode) (inr p) = part_in t x p
 also_on t (Appends x bytes) p = part_in t x p
@@ -49,7 +56,7 @@ also_on t (Truncates x) p = inl (sym p.1)
 also_on t _ h = absurd h
 
 own_on : (t : Target) (e : Entry) → IsOf t e → IsOn (paths_of t) e
-own_on t e (inl i) = on_more (flat_map changed_paths (rotation_of t)) (paths_of t) e (λ x j. inr (in_back x (part_paths t.job) (flat_map changed_paths (rotation_of t)) j)) (in_on (rotation_of t) e i (each_in IsTurn (rotation_of t) e (rotation_turns t) i))
+own_on t e (inl i) = on_more (flat_map changed_paths (rotation_of t)) (paths_of t) e (λ x j. inr (in_back x (part_paths t.job) (dir_paths t.ready.dir ++ flat_map changed_paths (rotation_of t)) (in_back x (dir_paths t.ready.dir) (flat_map changed_paths (rotation_of t)) j))) (in_on (rotation_of t) e i (each_in IsTurn (rotation_of t) e (rotation_turns t) i))
 own_on t e (inr also) = also_on t e also
 
 either : (b : Bool) (log other : Path) (xs ys : List Path) (x : Path) → bytes_eq other log ≡ b → IsIn x xs → ((b ≡ true) → ⊥) → IsIn x (cond b ys (xs ++ ys))
@@ -88,17 +95,18 @@ one_job o a b p q = cc
 abbrev pub IsBesideOrCut : List Path → Path → Entry → Type 0
 IsBesideOrCut paths log e = IsBeside paths log e ⊎ (e ≡ Truncates log)
 
-also_beside : (t : Target) (job : Job) (paths : List Path) (e : Entry) → t.job ≡ Some job → t.log ≡ job.from → AlsoDoes t e → IsBesideOrCut (job.part ∷ paths) job.from e
-also_beside t job paths (Makes x mode) has from (inl is) = inl (inr (is ∙ from))
-also_beside t job paths (Makes x mode) has from (inr p) = inl (inl (inl (ap (λ (j : Job). j.part) (one_job t.job job p.0 has p.1) ∙ sym p.2)))
-also_beside t job paths (Appends x bytes) has from p = inl (inl (inl (ap (λ (j : Job). j.part) (one_job t.job job p.0 has p.1) ∙ sym p.2)))
-also_beside t job paths (Truncates x) has from p = inr (ap Truncates (p.1 ∙ from))
-also_beside t job paths _ has from h = absurd h
+also_beside : (t : Target) (job : Job) (paths : List Path) (e : Entry) → t.job ≡ Some job → t.log ≡ job.from → ((x : Path) → IsItsDir t x → IsIn x paths) → AlsoDoes t e → IsBesideOrCut (job.part ∷ paths) job.from e
+also_beside t job paths (MakesDir x mode) has from dir d = inl (inl (inr (dir x d)))
+also_beside t job paths (Makes x mode) has from dir (inl is) = inl (inr (is ∙ from))
+also_beside t job paths (Makes x mode) has from dir (inr p) = inl (inl (inl (ap (λ (j : Job). j.part) (one_job t.job job p.0 has p.1) ∙ sym p.2)))
+also_beside t job paths (Appends x bytes) has from dir p = inl (inl (inl (ap (λ (j : Job). j.part) (one_job t.job job p.0 has p.1) ∙ sym p.2)))
+also_beside t job paths (Truncates x) has from dir p = inr (ap Truncates (p.1 ∙ from))
+also_beside t job paths _ has from dir h = absurd h
 
-pub between_beside : (state : Path) (t : Target) (ts : List Target) (job : Job) (e : Entry) → t.job ≡ Some job → t.log ≡ job.from → StandsBetween state t ts e → IsBesideOrCut (job.part ∷ other_paths state t.log ts) job.from e
-between_beside state t ts job e has from (inl h) = inl (inl (on_more (paths_of_others t.log ts) (job.part ∷ other_paths state t.log ts) e (λ x i. inr (inr (inr i))) (other_on t.log ts e h)))
-between_beside state t ts job e has from (inr (inl h)) = inl (inl (on_more (other_paths state t.log ts) (job.part ∷ other_paths state t.log ts) e (λ x i. inr i) (state_on state t.log ts e h)))
-between_beside state t ts job e has from (inr (inr also)) = also_beside t job (other_paths state t.log ts) e has from also
+pub between_beside : (state : Path) (t : Target) (ts : List Target) (job : Job) (e : Entry) → t.job ≡ Some job → t.log ≡ job.from → StandsBetween state t ts e → IsBesideOrCut (job.part ∷ paths_beside state t ts) job.from e
+between_beside state t ts job e has from (inl h) = inl (inl (on_more (paths_of_others t.log ts) (job.part ∷ paths_beside state t ts) e (λ x i. inr (in_back x (dir_paths t.ready.dir) (other_paths state t.log ts) (inr (inr i)))) (other_on t.log ts e h)))
+between_beside state t ts job e has from (inr (inl h)) = inl (inl (on_more (other_paths state t.log ts) (job.part ∷ paths_beside state t ts) e (λ x i. inr (in_back x (dir_paths t.ready.dir) (other_paths state t.log ts) i)) (state_on state t.log ts e h)))
+between_beside state t ts job e has from (inr (inr also)) = also_beside t job (paths_beside state t ts) e has from (λ x d. in_front x (dir_paths t.ready.dir) (other_paths state t.log ts) (dir_among t x d)) also
 
 -- ---- all are changes of the disk
 

@@ -19,7 +19,7 @@ use Rattle.lr_host.specs.Told.{Each, Made}
 use Rattle.lr_host.proofs.Each.{each_append, each_as, each_reverse, filter_reverse}
 use Rattle.lr_host.proofs.Left.{changes_split}
 use Rattle.lr_host.proofs.Lists.{in_reverse}
-use Rattle.lr_host.proofs.Looked.{same_file, file_no_dir, seen_file}
+use Rattle.lr_host.proofs.Looked.{same_file, seen_file}
 use Rattle.lr_host.proofs.Made.{made_on, made_journal}
 use Rattle.lr_host.proofs.More.{file_more}
 use Rattle.lr_host.proofs.Names.{put_here, put_other}
@@ -211,10 +211,10 @@ module _ (paths : List Path) (job : Job) (n : Naming) (c : Count) (from : List �
 
   -- the members that were seen stood as the run began
   pub seen_stood : AreThere n (names (world p)) places
-  seen_stood = members_before log n places p v (reverse over.front) family none_v m.to_first still_v shown
+  seen_stood = members_before log n places p v (reverse over.front) family journal none_v m.to_first still_v shown
 
   stands : AreThere n (names (world v)) places
-  stands = members_behind log n places p v (reverse over.front) family none_v m.to_first still_v shown
+  stands = members_behind log n places p v (reverse over.front) family journal none_v m.to_first still_v shown
 
   quiet : Quiet (IsNoMember n) p v
   quiet = made_quiet (IsNoMember n) p v (reverse over.front) none_v m.to_first still_v
@@ -440,7 +440,6 @@ module _ (paths : List Path) (job : Job) (n : Naming) (c : Count) (from : List �
 
   stands_m0 : AreThere n m0 places
   stands_m0 = record {
-    dir = put_other (names (world v)) log n.dir (thing.File copy) (λ e. file_no_dir (names (world v) log) g log_v (ap (names (world v)) (sym e) ∙ stands.dir)) ∙ stands.dir;
     falling = stands.falling;
     named = stands.named;
     files = λ k d. let f = stands.files k d in (f.0, sym (alike_v k (over.seen.named k d)) ∙ f.1);

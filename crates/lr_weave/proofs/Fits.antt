@@ -3,6 +3,7 @@ use Rattle.std.proofs.Common.{◌≡◌, ◌⊎◌, inl, inr, ⊎_elim, ℕ, Boo
 use Rattle.std.specs.Prelude.{pos, filter}
 use Rattle.std.proofs.lemmas.List.{reverse-reverse}
 use Rattle.std.proofs.lemmas.List.Concat.{flat_map-append}
+use Rattle.std.proofs.lemmas.Slice.Eq.{bytes_eq-Decides}
 use Rattle.lr_rules.specs.declared.path.Path.{Path}
 use Rattle.lr_rules.specs.declared.fault.Ended.TheVariants as ended
 use Rattle.lr_rules.specs.declared.fault.Fault.{Fault}
@@ -12,34 +13,41 @@ use Rattle.lr_rules.specs.declared.rule.Make.{Make}
 use Rattle.lr_rules.specs.declared.rule.Make.TheVariants as make
 use Rattle.lr_rules.specs.Names.{IsOwnName, the_log, Meet}
 use Rattle.lr_rules.specs.Path.{parent_of}
+use Rattle.lr_host.specs.declared.thing.Seen.{Seen}
 use Rattle.lr_host.specs.declared.thing.Thing.TheVariants as thing
 use Rattle.lr_host.specs.declared.entry.Entry.{Entry}
 use Rattle.lr_host.specs.declared.entry.Entry.TheVariants as entry
 use Rattle.lr_host.specs.declared.journal.Journal.{Journal}
 use Rattle.lr_host.specs.World.{Past, ◌▸◌, past, world, put, Names, names}
 use Rattle.lr_host.specs.Fits.{MaybeFileAt, IsDirectoryAt}
+use Rattle.lr_host.specs.Lists.{IsIn}
+use Rattle.lr_host.specs.Looks.{IsDir}
 use Rattle.lr_host.specs.Told.{Each, Then, Made, at_first, by_writer, by_tool, Left, not_told, is_told, CanCall, Can}
 use Rattle.lr_host.specs.Steps.{is_naming, CanAll}
 use Rattle.lr_host.proofs.More.{IsMoreAt, more_at_on, wrote_names}
 use Rattle.lr_host.proofs.Names.{put_other}
-use Rattle.lr_host.proofs.Each.{filter_reverse, each_append, each_reverse, each_first}
+use Rattle.lr_host.proofs.Each.{filter_reverse, none_pass, each_append, each_as, each_reverse, each_first}
 use Rattle.lr_host.proofs.Left.{left_first, left_then, can_as, still_step}
-use Rattle.lr_host.proofs.Looked.{file_no_dir}
+use Rattle.lr_host.proofs.Known.{ever_says}
+use Rattle.lr_host.proofs.Looked.{file_no_dir, seen_dir}
 use Rattle.lr_scripts.specs.declared.command.Command.{Command}
 use Rattle.lr_scripts.specs.declared.removal.Removal.{Removal}
 use Rattle.lr_scripts.specs.Programs.{runs}
 use Rattle.lr_copy.specs.declared.job.Job.{Job}
 use Rattle.lr_copy.specs.Copying.{clearing}
+use Rattle.lr_copy.specs.Bytes.{AllBytes}
+use Rattle.lr_copy.proofs.EachOfBytes.{each_all}
 use Rattle.lr_chain.specs.declared.ready.Move.{Move}
 use Rattle.lr_chain.specs.declared.ready.Ready.{Ready}
 use Rattle.lr_chain.specs.Ready.{move_step}
 use Rattle.lr_rotations.specs.Calls.{after_call, FitCalls, CanCalls}
-use Rattle.lr_targets.specs.Calls.{transfer_calls, calls_of}
-use Rattle.lr_targets.specs.Target.{Target, unlinks, transfer_of, rotation_of, IsJob, HasJob}
-use Rattle.lr_dated_run.specs.Own.{ChangesOwn, HasAnyNames}
-use Rattle.lr_dated_run.proofs.Own.{dated_change}
+use Rattle.lr_targets.specs.AllTurns.{AlsoDoes}
+use Rattle.lr_targets.specs.Calls.{transfer_calls, dir_calls, calls_of}
+use Rattle.lr_targets.specs.Target.{Target, unlinks, transfer_of, rotation_of, IsJob, HasJob, HasDir}
+use Rattle.lr_dated_run.specs.Own.{ChangesDated, ChangesOwn, HasAnyNames}
+use Rattle.lr_dated_run.proofs.Own.{changes_own, turns_own}
 use Rattle.lr_rotations.specs.Weave.{IsFirstOf}
-use Rattle.lr_rotations.proofs.Alike.{IsLike, AreLike, Reads, fit_like, more_like, calls_as, calls_made, calls_still}
+use Rattle.lr_rotations.proofs.Alike.{IsLike, like_self, AreLike, Anywhere, more_like, put_like, Reads, can_like, after_like, fit_like, each_anywhere, calls_as, calls_made, calls_still}
 use Rattle.lr_targets.proofs.Apart.{own_paths}
 use Rattle.lr_rotations.proofs.Fed.{IsTurn}
 use Rattle.lr_targets.proofs.Others.{rotation_turns}
@@ -55,20 +63,23 @@ use Rattle.lr_plan.specs.Course.{Course}
 use Rattle.lr_weave.specs.Fitting.{IsFit, AreFit, NoneMeets, DontMeet, ReadsNothing, ReadsThis, ReadThemselves, ReadsOwn, ReadOwn}
 use Rattle.lr_weave.specs.Planned.{IsReadyFor, AreReadyFor}
 use Rattle.lr_weave.proofs.Lasting.{dir_walk, makes_later}
-use Rattle.lr_weave.proofs.Parting.{bytes_none, course_first}
-use Rattle.lr_weave.proofs.Planning.{Anything, each_every, back_of, back_calls, calls_of_step, calls_by, no_dir_is, log_is, front_asks, call_halves, removals_ask, log_plain, program_none, program_asks, program_plain}
+use Rattle.lr_weave.specs.Parts.{takes_name, MakesOnly, changes_by}
+use Rattle.lr_weave.proofs.Parting.{Begun, course_first}
+use Rattle.lr_weave.proofs.Planning.{back_of, back_calls, calls_of_step, calls_by, log_is, front_asks, call_halves, removals_ask, log_plain, program_none, program_asks, program_plain}
 
 -- ---- entries that change other paths
 
 abbrev pub Avoids : (Path → Type 0) → Entry → Type 0
 Avoids X (entry.Renames from to) = (X from → ⊥) × (X to → ⊥)
 Avoids X (entry.Unlinks x) = X x → ⊥
+Avoids X (entry.MakesDir x mode) = X x → ⊥
 Avoids X _ = ⊥
 
 avoided : (X : Path → Type 0) (q : Past) (e : Entry) (y : Path) → Avoids X e → X y → names (world (q ▸ e)) y ≡ names (world q) y
 avoided X q (entry.Renames from to) y a i =
     put_other (put (names (world q)) from thing.Nothing) to y (names (world q) from) (λ same. a.1 (subst X same i)) ∙ put_other (names (world q)) from y thing.Nothing (λ same. a.0 (subst X same i))
 avoided X q (entry.Unlinks x) y a i = put_other (names (world q)) x y thing.Nothing (λ same. a (subst X same i))
+avoided X q (entry.MakesDir x mode) y a i = put_other (names (world q)) x y thing.Directory (λ same. a (subst X same i))
 avoided X q _ y a i = absurd a
 
 more_made : (X : Path → Type 0) (p q : Past) (es : List Entry) → Made p es q → Each (Avoids X) (filter is_naming es) → (y : Path) → X y → IsMoreAt y (names (world p)) (names (world q))
@@ -80,9 +91,28 @@ more_made X p _ _ (by_tool {es = es} {q = q} {e = e} m t f) a y i = go (λ b. mo
     go further true h a = more_at_on (names (world p)) (names (world q)) (names (world (q ▸ e))) y (further a.1) (inl (avoided X q e y a.0 i))
     go further false h a = more_at_on (names (world p)) (names (world q)) (names (world (q ▸ e))) y (further a) (still_step q e t f h y)
 
+-- by the entries that take names, and what is made besides
+pub naming_avoids : (X : Path → Type 0) (P : Entry → Type 0) (ts : List Entry) → Each (Avoids X) (filter takes_name ts) → Each (MakesOnly P) ts → ((y : Path) (mode : Option ℕ) → P (entry.MakesDir y mode) → X y → ⊥) → Each (Avoids X) (filter is_naming ts)
+naming_avoids X P [] a m f = tt
+naming_avoids X P (entry.Renames from to ∷ ts) a m f = (a.0, naming_avoids X P ts a.1 m.1 f)
+naming_avoids X P (entry.Unlinks x ∷ ts) a m f = (a.0, naming_avoids X P ts a.1 m.1 f)
+naming_avoids X P (entry.MakesDir x mode ∷ ts) a m f = (f x mode m.0, naming_avoids X P ts a m.1 f)
+naming_avoids X P (_ ∷ ts) a m f = naming_avoids X P ts a m.1 f
+
+abbrev pub Never : Entry → Type 0
+Never e = ⊥
+
+-- where nothing is made, and no name goes
+pub none_named : (ts : List Entry) → filter takes_name ts ≡ [] → Each (MakesOnly Never) ts → filter is_naming ts ≡ []
+none_named [] n m = refl
+none_named (entry.Renames from to ∷ ts) n m = absurd (cc)
+none_named (entry.Unlinks x ∷ ts) n m = absurd (cc)
+none_named (entry.MakesDir x mode ∷ ts) n m = absurd m.0
+none_named (_ ∷ ts) n m = none_named ts n m.1
+
 -- ---- what a call asks of the paths that it names
 
--- It is a call of a rotation, and the paths that it names as files have X. Of directories nothing is said, since each stands whatever is called.
+-- It is a call of a rotation but the making of a directory, and the paths that it names as files have X. Of directories nothing is said, since each stands whatever is called.
 abbrev pub Asks : (Path → Type 0) → Entry → Type 0
 Asks X (entry.Reads x from piece) = X x
 Asks X (entry.Renames from to) = X from × X to
@@ -135,15 +165,39 @@ call_reads X m n (entry.SyncsFile x) f a can = inl a
 call_reads X m n (entry.SyncsDir x) f a can = inr (f x can)
 call_reads X m n _ f a can = absurd a
 
--- so do calls that fit one after another
-calls_read : (X : Path → Type 0) (m n : Names) (es : List Entry) → ((d : Path) → IsDirectoryAt n d → IsDirectoryAt m d) → Each (Asks X) es → FitCalls n es → Each (Reads (OrDirectory X m)) es
-calls_read X m n [] f a fit = tt
-calls_read X m n (e ∷ es) f a fit = (call_reads X m n e f a.0 fit.0, calls_read X m (after_call n e) es (λ d h. f d (dir_first X n e d a.0 fit.0 h)) a.1 fit.1)
+-- or it makes a directory
+abbrev pub AsksFor : (Path → Type 0) → Entry → Type 0
+AsksFor X (entry.MakesDir x mode) = Unit {0}
+AsksFor X e = Asks X e
+
+pub asks_for : (X : Path → Type 0) (es : List Entry) → Each (Asks X) es → Each (AsksFor X) es
+asks_for X es a = each_as (Asks X) (AsksFor X) es (λ e h. one e h) a
+  where
+    one : (e : Entry) → Asks X e → AsksFor X e
+    one (entry.MakesDir x mode) h = tt
+    one e h = h
+
+reads_for : (X : Path → Type 0) (n : Names) (e : Entry) → AsksFor X e → CanCall n e → Reads (OrDirectory X n) e
+reads_for X n (entry.MakesDir x mode) a can = inr can
+reads_for X n e a can = call_reads X n n e (λ d h. h) a can
+
+-- behind such a call the second names are like the first at these paths, and at the directories
+like_after : (X : Path → Type 0) (n n' : Names) (e : Entry) → AsksFor X e → CanCall n e → AreLike (OrDirectory X n) n n' → AreLike (OrDirectory X (after_call n e)) (after_call n e) (after_call n' e)
+like_after X n n' (entry.MakesDir x mode) a can l = λ y i. ⊎_elim (λ own. put_like n n' x thing.Directory thing.Directory y refl (l y (inl own))) (λ dir. at_dir y (bytes_eq x y) dir) i
+  where
+    at_dir : (y : Path) (b : Bool) → cond b thing.Directory (n y) ≡ thing.Directory → IsLike (cond b thing.Directory (n y)) (cond b thing.Directory (n' y))
+    at_dir y true e = refl
+    at_dir y false e = l y (inr e)
+like_after X n n' e a can l = λ y i. after_like (OrDirectory X n) n n' e (reads_for X n e a can) l y (⊎_elim (λ own. inl own) (λ dir. inr (dir_first X n e y a can dir)) i)
+
+calls_far : (X : Path → Type 0) (n n' : Names) (es : List Entry) → Each (AsksFor X) es → AreLike (OrDirectory X n) n n' → FitCalls n es → FitCalls n' es
+calls_far X n n' [] a l fit = tt
+calls_far X n n' (e ∷ es) a l fit = (can_like (OrDirectory X n) n n' e (reads_for X n e a.0 fit.0) l fit.0, calls_far X (after_call n e) (after_call n' e) es a.1 (like_after X n n' e a.0 fit.0 l) fit.1)
 
 -- what fits goes on fitting over calls that leave its paths alone
-pub can_far : (X : Path → Type 0) (calls : List Entry) {P : List Entry → Type 0} {o m : Option Journal} → Each (Asks X) calls → CanCalls o calls → Left P o m → ((ts : List Entry) → P ts → Each (Avoids X) (filter is_naming ts)) → CanCalls m calls
+pub can_far : (X : Path → Type 0) (calls : List Entry) {P : List Entry → Type 0} {o m : Option Journal} → Each (AsksFor X) calls → CanCalls o calls → Left P o m → ((ts : List Entry) → P ts → Each (Avoids X) (filter is_naming ts)) → CanCalls m calls
 can_far X calls ask can not_told f = record { can = tt }
-can_far X calls ask can (is_told {j = j} {k = k} {es = es} m h) f = record { can = fit_like (OrDirectory X here) here there calls (calls_read X here here calls (λ d is. is) ask can.can) like can.can }
+can_far X calls ask can (is_told {j = j} {k = k} {es = es} m h) f = record { can = calls_far X here there calls ask like can.can }
   where
     here : Names
     here = names (world (past j))
@@ -177,7 +231,7 @@ NamesOf t y = IsOwnName t.log t.naming y
 -- what the rotation changes are own names
 own_changes : (t : Target) → HasAnyNames t → Each (ChangesOwn t.log t.naming) (rotation_of t)
 own_changes t (inl h) = own_paths t h
-own_changes t (inr h) = each_every (ChangesOwn t.log t.naming) (rotation_of t) (λ e i. dated_change t e h (inl i))
+own_changes t (inr h) = each_as (ChangesDated t.log t.naming) (ChangesOwn t.log t.naming) (rotation_of t) (λ e d. changes_own t.log t.naming e d) (turns_own t h)
 
 -- the copy goes by a part file to the final path
 job_of : (t : Target) → HasAnyNames t → HasJob t
@@ -235,14 +289,20 @@ module _ (t : Target) (h : HasAnyNames t) where
   pub back_asks : Each (Asks (NamesOf t)) (back_calls t)
   back_asks = (transferred.1, each_end (Asks (NamesOf t)) (transfer_of t.ready t.job) (back_of t) behind_moves)
 
-  -- so do all calls of the rotation
-  calls_ask : Each (Asks (NamesOf t)) (calls_of t)
+  -- so do all calls of the rotation, which may make a directory besides
+  calls_ask : Each (AsksFor (NamesOf t)) (calls_of t)
   calls_ask =
-      each_append (Asks (NamesOf t)) (unlinks t.ready.leftovers) (map move_step t.ready.moves ++ (transfer_calls t.ready t.job ++ back_calls t))
-      (each_first (Asks (NamesOf t)) (unlinks t.ready.leftovers) (map move_step t.ready.moves ++ (transfer_of t.ready t.job ++ back_of t)) turns_ask)
+      each_append (AsksFor (NamesOf t)) (unlinks t.ready.leftovers) (dir_calls t.ready.dir ++ (map move_step t.ready.moves ++ (transfer_calls t.ready t.job ++ back_calls t)))
+      (asks_for (NamesOf t) (unlinks t.ready.leftovers) (each_first (Asks (NamesOf t)) (unlinks t.ready.leftovers) (map move_step t.ready.moves ++ (transfer_of t.ready t.job ++ back_of t)) turns_ask))
+      (each_append (AsksFor (NamesOf t)) (dir_calls t.ready.dir) (map move_step t.ready.moves ++ (transfer_calls t.ready t.job ++ back_calls t)) (dir_asks t.ready.dir)
+      (asks_for (NamesOf t) (map move_step t.ready.moves ++ (transfer_calls t.ready t.job ++ back_calls t))
       (each_append (Asks (NamesOf t)) (map move_step t.ready.moves) (transfer_calls t.ready t.job ++ back_calls t)
       (each_first (Asks (NamesOf t)) (map move_step t.ready.moves) (transfer_of t.ready t.job ++ back_of t) behind_leftovers)
-      (each_append (Asks (NamesOf t)) (transfer_calls t.ready t.job) (back_calls t) transferred.0 back_asks))
+      (each_append (Asks (NamesOf t)) (transfer_calls t.ready t.job) (back_calls t) transferred.0 back_asks))))
+    where
+      dir_asks : (d : Option (Path × Option ℕ)) → Each (AsksFor (NamesOf t)) (dir_calls d)
+      dir_asks None = tt
+      dir_asks (Some (dir, mode)) = (tt, tt)
 
 -- what one rotation changes is no name of a set that it doesn't meet
 far : (x t : Target) (e : Entry) → (Meet x.log x.naming t.log t.naming → ⊥) → IsTurn e → ChangesOwn t.log t.naming e → Avoids (NamesOf x) e
@@ -253,15 +313,23 @@ far x t _ apart turn own = absurd turn
 pub rotation_far : {o : Option Journal} (x t : Target) → IsFit o t → (Meet x.log x.naming t.log t.naming → ⊥) → Each (Avoids (NamesOf x)) (rotation_of t)
 rotation_far x t fit apart = each_two IsTurn (ChangesOwn t.log t.naming) (Avoids (NamesOf x)) (rotation_of t) (λ e turn own. far x t e apart turn own) (rotation_turns t) (own_changes t fit.names)
 
+-- nor is the directory that it makes
+has_dir : (t : Target) → HasAnyNames t → HasDir t
+has_dir t (inl h) = h.dir
+has_dir t (inr h) = h.dir
+
+pub made_far : (x t : Target) → HasAnyNames t → (Meet x.log x.naming t.log t.naming → ⊥) → (y : Path) (mode : Option ℕ) → AlsoDoes t (entry.MakesDir y mode) → NamesOf x y → ⊥
+made_far x t h apart y mode made i = apart (y, inl (i, inr (has_dir t h y made.0 made.1).0))
+
 -- ---- what goes on fitting
 
 pub fit_later : (x : Target) {P : List Entry → Type 0} {o m : Option Journal} → IsFit o x → Left P o m → ((ts : List Entry) → P ts → Each (Avoids (NamesOf x)) (filter is_naming ts)) → IsFit m x
 fit_later x fit left f = record { names = fit.names; fits = can_far (NamesOf x) (calls_of x) (calls_ask x fit.names) fit.fits left f; anew = makes_later x.log None left fit.anew }
 
-begun_far : {o : Option Journal} (x t : Target) (ts : List Entry) → IsFit o t → (Meet x.log x.naming t.log t.naming → ⊥) → IsFirstOf (rotation_of t) (filter is_naming ts) → Each (Avoids (NamesOf x)) (filter is_naming ts)
-begun_far x t ts fit apart first = each_first (Avoids (NamesOf x)) (filter is_naming ts) first.0 (subst (Each (Avoids (NamesOf x))) first.1 (rotation_far x t fit apart))
+begun_far : {o : Option Journal} (x t : Target) (ts : List Entry) → IsFit o t → (Meet x.log x.naming t.log t.naming → ⊥) → Begun (AlsoDoes t) (rotation_of t) ts → Each (Avoids (NamesOf x)) (filter is_naming ts)
+begun_far x t ts fit apart b = naming_avoids (NamesOf x) (AlsoDoes t) ts (each_first (Avoids (NamesOf x)) (filter takes_name ts) b.first.0 (subst (Each (Avoids (NamesOf x))) b.first.1 (rotation_far x t fit apart))) b.only (made_far x t fit.names apart)
 
-all_later : (t : Target) (xs : List Target) {P : List Entry → Type 0} {o m : Option Journal} → IsFit o t → NoneMeets t xs → AreFit o xs → Left P o m → ((ts : List Entry) → P ts → IsFirstOf (rotation_of t) (filter is_naming ts)) → AreFit m xs
+all_later : (t : Target) (xs : List Target) {P : List Entry → Type 0} {o m : Option Journal} → IsFit o t → NoneMeets t xs → AreFit o xs → Left P o m → ((ts : List Entry) → P ts → Begun (AlsoDoes t) (rotation_of t) ts) → AreFit m xs
 all_later t [] fit none fits left f = tt
 all_later t (x ∷ xs) fit none fits left f = (fit_later x fits.0 left (λ ts p. begun_far x t ts fit none.0 (f ts p)), all_later t xs fit none.1 fits.1 left f)
 
@@ -278,11 +346,10 @@ IsRead (Some file) [] = ⊥
 IsRead (Some file) (entry.Unlinks path ∷ es) = path ≡ file
 IsRead (Some file) (_ ∷ es) = ⊥
 
--- A step of a rotation, the making of a log in a directory that stands, or a program that reads no file but the one that is unlinked next; these calls come behind it.
+-- A step of a rotation, among them the making of a directory, the making of a log in a directory that stands, or a program that reads no file but the one that is unlinked next; these calls come behind it.
 abbrev pub IsBareStep : Option Journal → Step → List Entry → Type 0
 IsBareStep o (step.Runs p on command) es = IsRead command.input es
 IsBareStep o (step.Creates path mode) es = Can o (entry.Makes path mode)
-IsBareStep o (step.MakesDir path mode) es = ⊥
 IsBareStep o (step.Appends path text) es = ⊥
 IsBareStep o _ es = Unit {0}
 
@@ -293,7 +360,6 @@ AreBareSteps o (s ∷ ss) = IsBareStep o s (calls_by ss) × AreBareSteps o ss
 bare_one : (s : Step) (es : List Entry) {P : List Entry → Type 0} {o m : Option Journal} → Left P o m → IsBareStep o s es → IsBareStep m s es
 bare_one (step.Creates path mode) es left i = makes_later path mode left i
 bare_one (step.Runs p on command) es left i = i
-bare_one (step.MakesDir path mode) es left i = i
 bare_one (step.Appends path text) es left i = i
 bare_one _ es left i = tt
 
@@ -312,7 +378,6 @@ read_more (Some file) (_ ∷ xs) es i = absurd i
 bare_more : (o : Option Journal) (s : Step) (xs es : List Entry) → IsBareStep o s xs → IsBareStep o s (xs ++ es)
 bare_more o (step.Runs p on command) xs es i = read_more command.input xs es i
 bare_more o (step.Creates path mode) xs es i = i
-bare_more o (step.MakesDir path mode) xs es i = i
 bare_more o (step.Appends path text) xs es i = i
 bare_more o _ xs es i = tt
 
@@ -350,6 +415,7 @@ bytes_asked from to es (Some j) c = record { can = ((tt, c.can.0), c.can.1.0) }
 asked : (s : Step) (es : List Entry) (o : Option Journal) → IsBareStep o s es → CanCalls o (calls_of_step s ++ es) → CanAll o (asks s)
 asked (step.Runs p on command) es o bare c = run_asked command es o bare c
 asked (step.Removes path) es o bare c = one_asked (entry.Unlinks path) es o c
+asked (step.MakesDir path mode) es o bare c = one_asked (entry.MakesDir path mode) es o c
 asked (step.Renames from to) es o bare c = one_asked (entry.Renames from to) es o c
 asked (step.Creates path mode) es o bare c = makes_asked path mode o bare
 asked (step.Takes path mode) es o bare c = one_asked (entry.Makes path mode) es o c
@@ -360,14 +426,45 @@ asked (step.Truncates path) es o bare c = one_asked (entry.Truncates path) es o 
 asked (step.Rotated log) es o bare c = none_asked o
 asked _ es o bare c = absurd bare
 
+-- reads and appends change no names
+bytes_unnamed : (from to : Path) (limit count : ℕ) (ts : List Entry) → AllBytes from to limit count ts → filter is_naming ts ≡ []
+bytes_unnamed from to limit count ts w = none_pass is_naming ts (each_all (λ e. is_naming e ≡ false) from to (λ k piece. refl) (λ piece. refl) limit count ts w)
+
+-- a directory was made, or one was seen
+saw_dir : (path : Path) (o : Option Seen) {j m : Option Journal} → IsDir o → Left (λ ts. ts ≡ entry.Look path o ∷ []) j m → Can m (entry.SyncsDir path)
+saw_dir path None d left = absurd d
+saw_dir path (Some seen) d left = ever_says {e = entry.Look path (Some seen)} {e' = entry.SyncsDir path} left (λ ts w. (subst (IsIn (entry.Look path (Some seen))) (sym w) (inl refl), ap (filter is_naming) w)) (λ w fits. seen_dir (world w) (names (world w) path) seen fits d)
+
+there_already : (path : Path) (n : Names) (es : List Entry) → IsDirectoryAt n path → FitCalls (put n path thing.Directory) es → FitCalls n es
+there_already path n es is fit = fit_like Anywhere (put n path thing.Directory) n es (each_anywhere es) (λ y i. go y (bytes_eq path y) refl) fit
+  where
+    go : (y : Path) (b : Bool) → bytes_eq path y ≡ b → IsLike (cond b thing.Directory (n y)) (n y)
+    go y true e = ap n (sym ((bytes_eq-Decides path y).0 e)) ∙ is
+    go y false e = like_self (n y)
+
+behind_dir : (path : Path) (mode : Option ℕ) (es : List Entry) {o m : Option Journal} → CanCalls o (entry.MakesDir path mode ∷ es) → Left (Succeeds (step.MakesDir path mode)) o m → CanCalls m es
+behind_dir path mode es c not_told = record { can = tt }
+behind_dir path mode es c (is_told {j = j} {k = k} {es = us} made (inl one)) = calls_made (entry.MakesDir path mode) es c new (λ ts w. w)
+  where
+    new : Left (λ ts. ts ≡ entry.MakesDir path mode ∷ []) (Some j) (Some k)
+    new = is_told {j = j} {k = k} {es = us} made one
+behind_dir path mode es c (is_told {j = j} {k = k} {es = us} made (inr saw)) = record {
+  can = there_already path (names (world (past k))) es (saw_dir path saw.seen saw.is looked).can
+      (calls_still (entry.MakesDir path mode ∷ es) c looked (λ ts w. ap (filter is_naming) w)).can.1;
+}
+  where
+    looked : Left (λ ts. ts ≡ entry.Look path saw.seen ∷ []) (Some j) (Some k)
+    looked = is_told {j = j} {k = k} {es = us} made saw.look
+
 -- and where it was made, what follows fits
 behind : (s : Step) (es : List Entry) {o m : Option Journal} → IsBareStep o s es → CanCalls o (calls_of_step s ++ es) → Left (Succeeds s) o m → CanCalls m es
 behind (step.Runs p on command) es bare c left = calls_still es c left (λ ts w. ap (filter is_naming) w)
 behind (step.Removes path) es bare c left = calls_made (entry.Unlinks path) es c left (λ ts w. w)
 behind (step.Renames from to) es bare c left = calls_made (entry.Renames from to) es c left (λ ts w. w)
+behind (step.MakesDir path mode) es bare c left = behind_dir path mode es c left
 behind (step.Creates path mode) es bare c left = calls_still es c left (λ ts w. ⊎_elim (λ none. ap (filter is_naming) none) (λ one. ap (filter is_naming) one) w)
 behind (step.Takes path mode) es bare c left = calls_made (entry.Makes path mode) es c left (λ ts w. w)
-behind (step.Copies from to limit) es bare c left = calls_still es (calls_as c (λ n fit. fit.1.1)) left (λ ts w. bytes_none from to limit w.0 ts w.1)
+behind (step.Copies from to limit) es bare c left = calls_still es (calls_as c (λ n fit. fit.1.1)) left (λ ts w. bytes_unnamed from to limit w.0 ts w.1)
 behind (step.SyncsFile path) es bare c left = calls_made (entry.SyncsFile path) es c left (λ ts w. w)
 behind (step.SyncsDir path) es bare c left = calls_made (entry.SyncsDir path) es c left (λ ts w. w)
 behind (step.Truncates path) es bare c left = calls_made (entry.Truncates path) es c left (λ ts w. w)
@@ -420,9 +517,9 @@ moves_bare : (o : Option Journal) (ms : List Move) → AreBareSteps o (map move 
 moves_bare o [] = tt
 moves_bare o (m ∷ ms) = (tt, moves_bare o ms)
 
-dir_bare : (o : Option Journal) (d : Option (Path × Option ℕ)) → d ≡ None → AreBareSteps o (directory d)
-dir_bare o None e = tt
-dir_bare o (Some x) e = absurd (cc)
+dir_bare : (o : Option Journal) (d : Option (Path × Option ℕ)) → AreBareSteps o (directory d)
+dir_bare o None = tt
+dir_bare o (Some (dir, mode)) = (tt, tt)
 
 copy_bare : (o : Option Journal) (job : Job) (b c : Bool) → AreBareSteps o (step_if b (step.Removes job.part) ++ (step.Takes job.part job.mode ∷ step.Copies job.from job.part job.limit ∷ step.SyncsFile job.part ∷ step.Renames job.part job.to ∷ step.SyncsDir job.dir ∷ step_if c (step.Truncates job.from)))
 copy_bare o job true true = (tt, (tt, (tt, (tt, (tt, (tt, (tt, tt)))))))
@@ -438,9 +535,9 @@ transfer_bare o log target m (Some job) c = bare_on o (copy job) (step.Rotated l
 front_bare : (o : Option Journal) (t : Target) (log : LogPlan) → Can o (entry.Makes t.log None) → IsReadyFor t log → ReadsOwn log → AreBareSteps o (steps.rotation_of log)
 front_bare o t log c r q =
     bare_on o (removals log.ready.leftovers) _ (removals_bare o log.ready.leftovers q.leftovers)
-    (bare_on o (directory log.ready.dir) _ (dir_bare o log.ready.dir (no_dir_is t log r))
+    (bare_on o (directory log.ready.dir) _ (dir_bare o log.ready.dir)
     (bare_on o (map move log.ready.moves) _ (moves_bare o log.ready.moves)
-    (transfer_bare o log.ready.log log.ready.target log.ready.make log.job (subst (λ (x : Path). Can o (entry.Makes x None)) (sym (ap (λ (x : Ready). x.log) r.ready_is ∙ r.ready.log_is)) c))))
+    (transfer_bare o log.ready.log log.ready.target log.ready.make log.job (subst (λ (x : Path). Can o (entry.Makes x None)) (sym (ap (λ (x : Ready). x.log) r.ready_is ∙ r.log_is)) c))))
 
 -- a program that reads a file, where that can be read
 reading_asked : (file : Path) (es : List Entry) (o : Option Journal) (command : Command) → command.input ≡ Some file → CanCalls o (entry.Reads file 0 [] ∷ es) → CanAll o (runs command (ended.Exit (pos 0)) ∷ [])
@@ -480,7 +577,7 @@ can_each o (t ∷ ts) [] r q fits dont = absurd r
 can_each o (t ∷ ts) (log ∷ logs) r q fits dont = (
   log_can o t log fits.0 r.0 q.0,
   λ m leads. can_each m ts logs r.1 q.1 (all_later t ts fits.0 dont.0 fits.1 leads.2
-      (λ us c. subst (λ steps. IsFirstOf steps (filter is_naming us)) (log_is t log r.0) (course_first Anything (steps_of_log log) leads.0 leads.1 us (log_plain Anything t log (λ e also. tt) r.0) c).first)) dont.1,
+      (λ us c. subst (λ steps. Begun (AlsoDoes t) steps us) (log_is t log r.0) (course_first (AlsoDoes t) (steps_of_log log) leads.0 leads.1 us (log_plain (AlsoDoes t) t log (λ e also. also) r.0) c))) dont.1,
 )
 
 nil_first : (xs : List Entry) → IsFirstOf [] xs → xs ≡ []
@@ -488,7 +585,9 @@ nil_first [] f = refl
 nil_first (x ∷ xs) f = absurd (let e : [] ≡ x ∷ (xs ++ f.0) = f.1 in cc)
 
 pub program_changes : (p : Phase) (o : Option Command) (t : List Mark) (f : List Fault) (us : List Entry) → Course (program p o) t f us → filter is_naming us ≡ []
-program_changes p o t f us c = nil_first (filter is_naming us) (subst (λ steps. IsFirstOf steps (filter is_naming us)) (program_none p o) (course_first Anything (program p o) t f us (program_plain Anything p o) c).first)
+program_changes p o t f us c =
+    let b : Begun Never (changes_by (program p o)) us = course_first Never (program p o) t f us (program_plain Never p o) c in
+    none_named us (nil_first (filter takes_name us) (subst (λ steps. IsFirstOf steps (filter takes_name us)) (program_none p o) b.first)) b.only
 
 pub program_can : (p : Phase) (c : Option Command) (o : Option Journal) → ReadsNothing c → CanMake o (program p c)
 program_can p c o r = can_make (program p c) (program_bare o p c r) (subst (CanCalls o) (sym (program_asks p c)) (none_called o))

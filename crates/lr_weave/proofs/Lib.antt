@@ -1,6 +1,9 @@
 pub mod Firsts
 pub mod Fits
+pub mod Guarded
+pub mod Guarding
 pub mod Lasting
+pub mod Marked
 pub mod Parting
 pub mod Planning
 pub mod Seen

@@ -11,7 +11,7 @@ use Rattle.lr_rules.specs.declared.fault.Fault.{Fault}
 use Rattle.lr_host.specs.declared.entry.Entry.{Entry}
 use Rattle.lr_host.specs.declared.entry.Entry.TheVariants as entry
 use Rattle.lr_host.specs.Told.{Each}
-use Rattle.lr_host.specs.Steps.{is_change, is_naming}
+use Rattle.lr_host.specs.Steps.{is_change}
 use Rattle.lr_host.proofs.Each.{each_append, each_first, each_as, none_pass}
 use Rattle.lr_rotations.specs.Weave.{IsFirstOf}
 use Rattle.lr_host.specs.Quiet.{AreQuiet}
@@ -23,12 +23,12 @@ use Rattle.lr_plan.specs.declared.mark.Mark.{Mark}
 use Rattle.lr_plan.specs.declared.step.Step.{Step}
 use Rattle.lr_plan.specs.declared.step.Step.TheVariants as step
 use Rattle.lr_plan.specs.declared.step.SetSteps.{SetSteps}
-use Rattle.lr_plan.specs.Outcomes.{Succeeds, Fails, badly, not_run, maybe_run}
+use Rattle.lr_plan.specs.Outcomes.{Succeeds, Fails, badly, not_run, maybe_run, at_make, at_look, no_dir}
 use Rattle.lr_plan.specs.Course.{Course}
 use Rattle.lr_plan.specs.Internal.Cut.{CourseCut, ListCut, LogsCut, in_each, in_last, SetCut, in_first, in_logs, SetsCut}
 use Rattle.lr_plan.specs.Done.{EachDone, LogsDone, is_rotated, if_rotated, SetDone, broke_off, went_on, SetsDone}
 use Rattle.lr_rotations.specs.Weave.{Weave, none, own, other, FirstWoven}
-use Rattle.lr_weave.specs.Parts.{change_of, changes_by, IsPlain, ArePlain, EachPlain, IsPlainSet, ArePlainSets, MakesOnly, MakesOne, parts_of_set, parts_of_sets, FirstParts, AllOf, ArePlanned}
+use Rattle.lr_weave.specs.Parts.{takes_name, change_of, changes_by, IsPlain, ArePlain, EachPlain, IsPlainSet, ArePlainSets, MakesOnly, MakesOne, parts_of_set, parts_of_sets, FirstParts, AllOf, ArePlanned}
 use Rattle.lr_weave.specs.Planned.{NoneHas, AreApart}
 use Rattle.lr_targets.specs.Target.{Target, rotation_of, IsOneOf}
 use Rattle.lr_targets.specs.AllTurns.{AlsoDoes, IsOf, IsOfSome, IsOfOther, IsOfState, StandsBetween}
@@ -39,21 +39,22 @@ use Rattle.lr_rules.specs.declared.rules.Rules.{Rules}
 
 -- ---- one step
 
-changes_are : (ts us : List Entry) → ts ≡ us → filter is_naming ts ≡ filter is_naming us
-changes_are ts us e = ap (filter is_naming) e
+changes_are : (ts us : List Entry) → ts ≡ us → filter takes_name ts ≡ filter takes_name us
+changes_are ts us e = ap (filter takes_name) e
 
 -- reads and appends change no names
-pub bytes_none : (from to : Path) (limit count : ℕ) (ts : List Entry) → AllBytes from to limit count ts → filter is_naming ts ≡ []
-bytes_none from to limit count ts w = none_pass is_naming ts (each_all (λ e. is_naming e ≡ false) from to (λ k piece. refl) (λ piece. refl) limit count ts w)
+bytes_none : (from to : Path) (limit count : ℕ) (ts : List Entry) → AllBytes from to limit count ts → filter takes_name ts ≡ []
+bytes_none from to limit count ts w = none_pass takes_name ts (each_all (λ e. takes_name e ≡ false) from to (λ k piece. refl) (λ piece. refl) limit count ts w)
 
-broke_none : (from to : Path) (limit : ℕ) (why : BytesStop) (ts : List Entry) → BytesBroke from to limit why ts → filter is_naming ts ≡ []
-broke_none from to limit why ts w = none_pass is_naming ts (each_broke (λ e. is_naming e ≡ false) from to (λ k piece. refl) (λ piece. refl) limit why ts w)
+broke_none : (from to : Path) (limit : ℕ) (why : BytesStop) (ts : List Entry) → BytesBroke from to limit why ts → filter takes_name ts ≡ []
+broke_none from to limit why ts w = none_pass takes_name ts (each_broke (λ e. takes_name e ≡ false) from to (λ k piece. refl) (λ piece. refl) limit why ts w)
 
-pub went_changes : (P : Entry → Type 0) (s : Step) (ts : List Entry) → IsPlain P s → Succeeds s ts → filter is_naming ts ≡ change_of s
+pub went_changes : (P : Entry → Type 0) (s : Step) (ts : List Entry) → IsPlain P s → Succeeds s ts → filter takes_name ts ≡ change_of s
 went_changes P (step.Runs phase on command) ts i w = changes_are ts _ w
 went_changes P (step.Removes path) ts i w = changes_are ts _ w
 went_changes P (step.Renames from to) ts i w = changes_are ts _ w
 went_changes P (step.Creates path mode) ts i w = ⊎_elim (λ none. changes_are ts [] none) (λ one. changes_are ts (entry.Makes path mode ∷ []) one) w
+went_changes P (step.MakesDir path mode) ts i w = ⊎_elim (λ one. changes_are ts (entry.MakesDir path mode ∷ []) one) (λ saw. changes_are ts (entry.Look path saw.seen ∷ []) saw.look) w
 went_changes P (step.Takes path mode) ts i w = changes_are ts _ w
 went_changes P (step.Copies from to limit) ts i w = bytes_none from to limit w.0 ts w.1
 went_changes P (step.Truncates path) ts i w = changes_are ts _ w
@@ -62,19 +63,22 @@ went_changes P (step.SyncsDir path) ts i w = changes_are ts _ w
 went_changes P (step.Rotated log) ts i w = changes_are ts [] w
 went_changes P _ ts i w = absurd i
 
-maybe_first : (e : Entry) (ts : List Entry) → (ts ≡ []) ⊎ (ts ≡ e ∷ []) → IsFirstOf (filter is_naming (e ∷ [])) (filter is_naming ts)
-maybe_first e ts h = ⊎_elim (λ nothing. (filter is_naming (e ∷ []), sym (ap (λ us. us ++ filter is_naming (e ∷ [])) (changes_are ts [] nothing)))) (λ one. ([], sym (append-nil (filter is_naming ts) ∙ changes_are ts (e ∷ []) one))) h
+maybe_first : (e : Entry) (ts : List Entry) → (ts ≡ []) ⊎ (ts ≡ e ∷ []) → IsFirstOf (filter takes_name (e ∷ [])) (filter takes_name ts)
+maybe_first e ts h = ⊎_elim (λ nothing. (filter takes_name (e ∷ []), sym (ap (λ us. us ++ filter takes_name (e ∷ [])) (changes_are ts [] nothing)))) (λ one. ([], sym (append-nil (filter takes_name ts) ∙ changes_are ts (e ∷ []) one))) h
 
-failed_changes : (P : Entry → Type 0) (s : Step) (f : Fault) (ts : List Entry) → IsPlain P s → Fails s f ts → IsFirstOf (change_of s) (filter is_naming ts)
-failed_changes P (step.Runs phase on command) f ts i (badly end ne is one) = ([], sym (append-nil (filter is_naming ts) ∙ changes_are ts _ one))
-failed_changes P (step.Runs phase on command) f ts i (not_run is nothing) = ([], sym (append-nil (filter is_naming ts) ∙ changes_are ts [] nothing))
-failed_changes P (step.Runs phase on command) f ts i (maybe_run end is one) = ([], sym (append-nil (filter is_naming ts) ∙ changes_are ts _ one))
+pub failed_changes : (P : Entry → Type 0) (s : Step) (f : Fault) (ts : List Entry) → IsPlain P s → Fails s f ts → IsFirstOf (change_of s) (filter takes_name ts)
+failed_changes P (step.Runs phase on command) f ts i (badly end ne is one) = ([], sym (append-nil (filter takes_name ts) ∙ changes_are ts _ one))
+failed_changes P (step.Runs phase on command) f ts i (not_run is nothing) = ([], sym (append-nil (filter takes_name ts) ∙ changes_are ts [] nothing))
+failed_changes P (step.Runs phase on command) f ts i (maybe_run end is one) = ([], sym (append-nil (filter takes_name ts) ∙ changes_are ts _ one))
 failed_changes P (step.Removes path) f ts i h = maybe_first (entry.Unlinks path) ts h.1
 failed_changes P (step.Renames from to) f ts i h = maybe_first (entry.Renames from to) ts h.1
 failed_changes P (step.Creates path mode) f ts i h = maybe_first (entry.Makes path mode) ts h.1
+failed_changes P (step.MakesDir path mode) f ts i (at_make h) = maybe_first (entry.MakesDir path mode) ts h.1
+failed_changes P (step.MakesDir path mode) f ts i (at_look is nothing) = ([], sym (append-nil (filter takes_name ts) ∙ changes_are ts [] nothing))
+failed_changes P (step.MakesDir path mode) f ts i (no_dir is saw) = ([], sym (append-nil (filter takes_name ts) ∙ changes_are ts _ saw.look))
 failed_changes P (step.Takes path mode) f ts i (inl h) = maybe_first (entry.Makes path mode) ts h.1
-failed_changes P (step.Takes path mode) f ts i (inr h) = ([], sym (append-nil (filter is_naming ts) ∙ changes_are ts [] h.1))
-failed_changes P (step.Copies from to limit) f ts i h = ([], sym (append-nil (filter is_naming ts) ∙ broke_none from to limit h.0 ts h.2))
+failed_changes P (step.Takes path mode) f ts i (inr h) = ([], sym (append-nil (filter takes_name ts) ∙ changes_are ts [] h.1))
+failed_changes P (step.Copies from to limit) f ts i h = ([], sym (append-nil (filter takes_name ts) ∙ broke_none from to limit h.0 ts h.2))
 failed_changes P (step.Truncates path) f ts i h = maybe_first (entry.Truncates path) ts h.1
 failed_changes P (step.SyncsFile path) f ts i h = maybe_first (entry.SyncsFile path) ts h.1
 failed_changes P (step.SyncsDir path) f ts i h = maybe_first (entry.SyncsDir path) ts h.1
@@ -91,11 +95,12 @@ one_only P e ts i is = subst (Each (MakesOnly P)) (sym is) (i, tt)
 maybe_only : (P : Entry → Type 0) (e : Entry) (ts : List Entry) → MakesOnly P e → (ts ≡ []) ⊎ (ts ≡ e ∷ []) → Each (MakesOnly P) ts
 maybe_only P e ts i h = ⊎_elim (λ none. none_only P ts none) (λ one. one_only P e ts i one) h
 
-went_only : (P : Entry → Type 0) (s : Step) (ts : List Entry) → IsPlain P s → Succeeds s ts → Each (MakesOnly P) ts
+pub went_only : (P : Entry → Type 0) (s : Step) (ts : List Entry) → IsPlain P s → Succeeds s ts → Each (MakesOnly P) ts
 went_only P (step.Runs phase on command) ts i w = one_only P _ ts tt w
 went_only P (step.Removes path) ts i w = one_only P (entry.Unlinks path) ts tt w
 went_only P (step.Renames from to) ts i w = one_only P (entry.Renames from to) ts tt w
 went_only P (step.Creates path mode) ts i w = maybe_only P (entry.Makes path mode) ts i w
+went_only P (step.MakesDir path mode) ts i w = ⊎_elim (λ one. one_only P (entry.MakesDir path mode) ts i one) (λ saw. one_only P (entry.Look path saw.seen) ts tt saw.look) w
 went_only P (step.Takes path mode) ts i w = one_only P (entry.Makes path mode) ts i w
 went_only P (step.Copies from to limit) ts i w = each_all (MakesOnly P) from to (λ k piece. tt) i limit w.0 ts w.1
 went_only P (step.Truncates path) ts i w = one_only P (entry.Truncates path) ts i w
@@ -104,13 +109,16 @@ went_only P (step.SyncsDir path) ts i w = one_only P (entry.SyncsDir path) ts tt
 went_only P (step.Rotated log) ts i w = none_only P ts w
 went_only P _ ts i w = absurd i
 
-failed_only : (P : Entry → Type 0) (s : Step) (f : Fault) (ts : List Entry) → IsPlain P s → Fails s f ts → Each (MakesOnly P) ts
+pub failed_only : (P : Entry → Type 0) (s : Step) (f : Fault) (ts : List Entry) → IsPlain P s → Fails s f ts → Each (MakesOnly P) ts
 failed_only P (step.Runs phase on command) f ts i (badly end ne is one) = one_only P _ ts tt one
 failed_only P (step.Runs phase on command) f ts i (not_run is nothing) = none_only P ts nothing
 failed_only P (step.Runs phase on command) f ts i (maybe_run end is one) = one_only P _ ts tt one
 failed_only P (step.Removes path) f ts i h = maybe_only P (entry.Unlinks path) ts tt h.1
 failed_only P (step.Renames from to) f ts i h = maybe_only P (entry.Renames from to) ts tt h.1
 failed_only P (step.Creates path mode) f ts i h = maybe_only P (entry.Makes path mode) ts i h.1
+failed_only P (step.MakesDir path mode) f ts i (at_make h) = maybe_only P (entry.MakesDir path mode) ts i h.1
+failed_only P (step.MakesDir path mode) f ts i (at_look is nothing) = none_only P ts nothing
+failed_only P (step.MakesDir path mode) f ts i (no_dir is saw) = one_only P (entry.Look path saw.seen) ts tt saw.look
 failed_only P (step.Takes path mode) f ts i (inl h) = maybe_only P (entry.Makes path mode) ts i h.1
 failed_only P (step.Takes path mode) f ts i (inr h) = none_only P ts h.1
 failed_only P (step.Copies from to limit) f ts i h = each_broke (MakesOnly P) from to (λ k piece. tt) i limit h.0 ts h.2
@@ -124,7 +132,7 @@ failed_only P _ f ts i h = absurd i
 
 -- A first part of these changes of names, in order; and of what was made, filled or emptied P holds.
 pub record Begun (P : Entry → Type 0) (steps : List Entry) (ts : List Entry) : Type 0 where
-  pub first : IsFirstOf steps (filter is_naming ts)
+  pub first : IsFirstOf steps (filter takes_name ts)
   pub only : Each (MakesOnly P) ts
 
 first_none : (xs : List Entry) → IsFirstOf xs []
@@ -134,12 +142,12 @@ first_same : (xs ts us : List Entry) → ts ≡ us → IsFirstOf xs us → IsFir
 first_same xs ts us e f = subst (IsFirstOf xs) (sym e) f
 
 pub course_first : (P : Entry → Type 0) (ss : List Step) (t : List Mark) (f : List Fault) (ts : List Entry) → ArePlain P ss → Course ss t f ts → Begun P (changes_by ss) ts
-course_first P [] t f ts plain c = record { first = first_same [] (filter is_naming ts) [] (changes_are ts [] c.2) (first_none []); only = none_only P ts c.2 }
-course_first P (s ∷ ss) t f ts plain (inl h) = record { first = first_longer (change_of s) (changes_by ss) (filter is_naming ts) (failed_changes P s h.fault ts plain.0 h.failed); only = failed_only P s h.fault ts plain.0 h.failed }
+course_first P [] t f ts plain c = record { first = first_same [] (filter takes_name ts) [] (changes_are ts [] c.2) (first_none []); only = none_only P ts c.2 }
+course_first P (s ∷ ss) t f ts plain (inl h) = record { first = first_longer (change_of s) (changes_by ss) (filter takes_name ts) (failed_changes P s h.fault ts plain.0 h.failed); only = failed_only P s h.fault ts plain.0 h.failed }
 course_first P (s ∷ ss) t f ts plain (inr g) = let rest = course_first P ss g.later f g.entries.back plain.1 g.entries.second in record {
-  first = first_same (change_of s ++ changes_by ss) (filter is_naming ts) (change_of s ++ filter is_naming g.entries.back)
-      (changes_are ts _ g.entries.joined ∙ (filter-append is_naming g.entries.front g.entries.back ∙ ap (λ us. us ++ filter is_naming g.entries.back) (went_changes P s g.entries.front plain.0 g.entries.first)))
-      (first_behind (change_of s) (changes_by ss) (filter is_naming g.entries.back) rest.first);
+  first = first_same (change_of s ++ changes_by ss) (filter takes_name ts) (change_of s ++ filter takes_name g.entries.back)
+      (changes_are ts _ g.entries.joined ∙ (filter-append takes_name g.entries.front g.entries.back ∙ ap (λ us. us ++ filter takes_name g.entries.back) (went_changes P s g.entries.front plain.0 g.entries.first)))
+      (first_behind (change_of s) (changes_by ss) (filter takes_name g.entries.back) rest.first);
   only = subst (Each (MakesOnly P)) (sym g.entries.joined) (each_append (MakesOnly P) g.entries.front g.entries.back (went_only P s g.entries.front plain.0 g.entries.first) rest.only);
 }
 
@@ -148,7 +156,7 @@ plain_part P [] ys a = tt
 plain_part P (x ∷ xs) ys a = (a.0, plain_part P xs ys a.1)
 
 begun_longer : (P : Entry → Type 0) (xs ys ts : List Entry) → Begun P xs ts → Begun P (xs ++ ys) ts
-begun_longer P xs ys ts b = record { first = first_longer xs ys (filter is_naming ts) b.first; only = b.only }
+begun_longer P xs ys ts b = record { first = first_longer xs ys (filter takes_name ts) b.first; only = b.only }
 
 pub cut_first : (P : Entry → Type 0) (ss : List Step) (t : List Mark) (f : List Fault) (ts : List Entry) → ArePlain P ss → CourseCut ss t f ts → Begun P (changes_by ss) ts
 cut_first P ss t f ts plain c = subst (λ xs. Begun P xs ts) (sym (ap changes_by c.steps_are ∙ flat_map-append change_of c.made c.rest))
@@ -162,14 +170,14 @@ parts_none (p ∷ ps) = record { front = []; back = []; joined = refl; first = f
 
 -- A first part of each part of these changes of names, one behind another; and of what was made, filled or emptied P holds.
 pub record BegunParts (P : Entry → Type 0) (parts : List (List Entry)) (ts : List Entry) : Type 0 where
-  pub first : FirstParts parts (filter is_naming ts)
+  pub first : FirstParts parts (filter takes_name ts)
   pub only : Each (MakesOnly P) ts
 
 first_one : (p : List Entry) (ts : List Entry) → IsFirstOf p ts → FirstParts (p ∷ []) ts
 first_one p ts f = record { front = ts; back = []; joined = sym (append-nil ts); first = f; second = refl }
 
 parts_one : (P : Entry → Type 0) (p : List Entry) (ts : List Entry) → Begun P p ts → BegunParts P (p ∷ []) ts
-parts_one P p ts b = record { first = first_one p (filter is_naming ts) b.first; only = b.only }
+parts_one P p ts b = record { first = first_one p (filter takes_name ts) b.first; only = b.only }
 
 pub parts_on : (ps qs : List (List Entry)) (ts us : List Entry) → FirstParts ps ts → FirstParts qs us → FirstParts (ps ++ qs) (ts ++ us)
 parts_on [] qs ts us p q = subst (FirstParts qs) (sym (ap (λ x. x ++ us) p)) q
@@ -184,20 +192,20 @@ parts_on (p ∷ ps) qs ts us h q = record {
 parts_as : (ps : List (List Entry)) (ts us : List Entry) → ts ≡ us → FirstParts ps us → FirstParts ps ts
 parts_as ps ts us e p = subst (FirstParts ps) (sym e) p
 
-pub joined_changes : (ts front back : List Entry) → ts ≡ front ++ back → filter is_naming ts ≡ filter is_naming front ++ filter is_naming back
-joined_changes ts front back e = changes_are ts (front ++ back) e ∙ filter-append is_naming front back
+pub joined_changes : (ts front back : List Entry) → ts ≡ front ++ back → filter takes_name ts ≡ filter takes_name front ++ filter takes_name back
+joined_changes ts front back e = changes_are ts (front ++ back) e ∙ filter-append takes_name front back
 
 -- one behind another
 parts_both : (P : Entry → Type 0) (ps qs : List (List Entry)) (ts front back : List Entry) → ts ≡ front ++ back → BegunParts P ps front → BegunParts P qs back → BegunParts P (ps ++ qs) ts
 parts_both P ps qs ts front back e p q = record {
-  first = parts_as (ps ++ qs) (filter is_naming ts) (filter is_naming front ++ filter is_naming back) (joined_changes ts front back e) (parts_on ps qs (filter is_naming front) (filter is_naming back) p.first q.first);
+  first = parts_as (ps ++ qs) (filter takes_name ts) (filter takes_name front ++ filter takes_name back) (joined_changes ts front back e) (parts_on ps qs (filter takes_name front) (filter takes_name back) p.first q.first);
   only = subst (Each (MakesOnly P)) (sym e) (each_append (MakesOnly P) front back p.only q.only);
 }
 
 -- parts behind which nothing was done
 parts_more : (P : Entry → Type 0) (ps qs : List (List Entry)) (ts : List Entry) → BegunParts P ps ts → BegunParts P (ps ++ qs) ts
 parts_more P ps qs ts p = record {
-  first = parts_as (ps ++ qs) (filter is_naming ts) (filter is_naming ts ++ []) (sym (append-nil (filter is_naming ts))) (parts_on ps qs (filter is_naming ts) [] p.first (parts_none qs));
+  first = parts_as (ps ++ qs) (filter takes_name ts) (filter takes_name ts ++ []) (sym (append-nil (filter takes_name ts))) (parts_on ps qs (filter takes_name ts) [] p.first (parts_none qs));
   only = p.only;
 }
 
@@ -213,7 +221,7 @@ last_first P marks last t f ts plain c = go (list_any is_rotated marks) c
   where
     go : (b : Bool) → Course (cond b last []) t f ts → Begun P (changes_by last) ts
     go true c = course_first P last t f ts plain c
-    go false c = record { first = first_same (changes_by last) (filter is_naming ts) [] (changes_are ts [] c.2) (first_none (changes_by last)); only = none_only P ts c.2 }
+    go false c = record { first = first_same (changes_by last) (filter takes_name ts) [] (changes_are ts [] c.2) (first_none (changes_by last)); only = none_only P ts c.2 }
 
 last_cut_first : (P : Entry → Type 0) (marks : List Mark) (last : List Step) (t : List Mark) (f : List Fault) (ts : List Entry) → ArePlain P last → CourseCut (if_rotated marks last) t f ts → Begun P (changes_by last) ts
 last_cut_first P marks last t f ts plain c = go (list_any is_rotated marks) c
@@ -224,7 +232,7 @@ last_cut_first P marks last t f ts plain c = go (list_any is_rotated marks) c
 
     go : (b : Bool) → CourseCut (cond b last []) t f ts → Begun P (changes_by last) ts
     go true c = cut_first P last t f ts plain c
-    go false c = let k = cut_first P [] t f ts tt c in record { first = first_same (changes_by last) (filter is_naming ts) [] (none_of ts (filter is_naming ts) k.first) (first_none (changes_by last)); only = k.only }
+    go false c = let k = cut_first P [] t f ts tt c in record { first = first_same (changes_by last) (filter takes_name ts) [] (none_of ts (filter takes_name ts) k.first) (first_none (changes_by last)); only = k.only }
 
 logs_parts : (P : Entry → Type 0) (each : List (List Step)) (last : List Step) (t : List Mark) (f : List Fault) (ts : List Entry) → EachPlain P each → ArePlain P last → LogsDone each last t f ts → BegunParts P (map changes_by each ++ changes_by last ∷ []) ts
 logs_parts P each last t f ts plain plain_last d =
@@ -341,12 +349,12 @@ one_part P steps (p ∷ ps) part after ts b w a f = subst (FirstWoven P steps) (
 
 -- ---- the shape
 
--- all changes: those of names, and what files are made, filled or emptied
-pub each_change : (P : Entry → Type 0) (ts : List Entry) → Each P (filter is_naming ts) → Each (MakesOnly P) ts → Each P (filter is_change ts)
+-- all changes: those by which names go, and what is made, filled or emptied
+pub each_change : (P : Entry → Type 0) (ts : List Entry) → Each P (filter takes_name ts) → Each (MakesOnly P) ts → Each P (filter is_change ts)
 each_change P [] a m = tt
 each_change P (entry.Renames from to ∷ ts) a m = (a.0, each_change P ts a.1 m.1)
 each_change P (entry.Unlinks x ∷ ts) a m = (a.0, each_change P ts a.1 m.1)
-each_change P (entry.MakesDir x mode ∷ ts) a m = (a.0, each_change P ts a.1 m.1)
+each_change P (entry.MakesDir x mode ∷ ts) a m = (m.0, each_change P ts a m.1)
 each_change P (entry.Makes x mode ∷ ts) a m = (m.0, each_change P ts a m.1)
 each_change P (entry.Starts state now rules ∷ ts) a m = absurd m.0
 each_change P (entry.Appends x bytes ∷ ts) a m = (m.0, each_change P ts a m.1)
@@ -359,11 +367,11 @@ weave_one P _ e xs ys (own {steps = os} x w) f = own e (f os w)
 weave_one P os e xs ys (other x p w) f = other e p (f os w)
 
 -- what files are made, filled or emptied stands between
-pub weave_change : (P : Entry → Type 0) (os ts : List Entry) → Weave P os (filter is_naming ts) → Each (MakesOnly P) ts → Weave P os (filter is_change ts)
+pub weave_change : (P : Entry → Type 0) (os ts : List Entry) → Weave P os (filter takes_name ts) → Each (MakesOnly P) ts → Weave P os (filter is_change ts)
 weave_change P os [] w m = w
-weave_change P os (entry.Renames from to ∷ ts) w m = weave_one P os (entry.Renames from to) (filter is_naming ts) (filter is_change ts) w (λ us v. weave_change P us ts v m.1)
-weave_change P os (entry.Unlinks x ∷ ts) w m = weave_one P os (entry.Unlinks x) (filter is_naming ts) (filter is_change ts) w (λ us v. weave_change P us ts v m.1)
-weave_change P os (entry.MakesDir x mode ∷ ts) w m = weave_one P os (entry.MakesDir x mode) (filter is_naming ts) (filter is_change ts) w (λ us v. weave_change P us ts v m.1)
+weave_change P os (entry.Renames from to ∷ ts) w m = weave_one P os (entry.Renames from to) (filter takes_name ts) (filter is_change ts) w (λ us v. weave_change P us ts v m.1)
+weave_change P os (entry.Unlinks x ∷ ts) w m = weave_one P os (entry.Unlinks x) (filter takes_name ts) (filter is_change ts) w (λ us v. weave_change P us ts v m.1)
+weave_change P os (entry.MakesDir x mode ∷ ts) w m = other (entry.MakesDir x mode) m.0 (weave_change P os ts w m.1)
 weave_change P os (entry.Makes x mode ∷ ts) w m = other (entry.Makes x mode) m.0 (weave_change P os ts w m.1)
 weave_change P os (entry.Starts state now rules ∷ ts) w m = absurd m.0
 weave_change P os (entry.Appends x bytes ∷ ts) w m = other (entry.Appends x bytes) m.0 (weave_change P os ts w m.1)
@@ -373,6 +381,7 @@ weave_change P os (_ ∷ ts) w m = weave_change P os ts w m.1
 -- for one condition of what is made another
 only_one : (P Q : Entry → Type 0) (e : Entry) → ((e : Entry) → P e → Q e) → MakesOnly P e → MakesOnly Q e
 only_one P Q (entry.Makes x mode) f m = f (entry.Makes x mode) m
+only_one P Q (entry.MakesDir x mode) f m = f (entry.MakesDir x mode) m
 only_one P Q (entry.Starts state now rules) f m = m
 only_one P Q (entry.Appends x bytes) f m = f (entry.Appends x bytes) m
 only_one P Q (entry.Truncates x) f m = f (entry.Truncates x) m
@@ -389,7 +398,7 @@ made_some (t ∷ ts) e (inl h) = inl (inr h)
 made_some (t ∷ ts) e (inr h) = inr (made_some ts e h)
 
 -- by which log
-made_by : (ts : List Target) (e : Entry) → MakesOne ts e → (t : Target) × IsOneOf t ts × AlsoDoes t e
+pub made_by : (ts : List Target) (e : Entry) → MakesOne ts e → (t : Target) × IsOneOf t ts × AlsoDoes t e
 made_by [] e h = absurd h
 made_by (t ∷ ts) e (inl h) = (t, inl refl, h)
 made_by (t ∷ ts) e (inr h) = let r = made_by ts e h in (r.0, inr r.1, r.2)
@@ -424,7 +433,7 @@ made_between state ts t a i e h = go (bytes_eq by.0.log t.log) refl
 
 -- each change of the acts is of one of the logs
 pub changes_of_some : (targets : List Target) (sets : List SetSteps) (ts : List Entry) → ArePlanned targets sets → BegunParts (MakesOne targets) (parts_of_sets sets) ts → Each (IsOfSome targets) (filter is_change ts)
-changes_of_some targets sets ts planned f = each_change (IsOfSome targets) ts (all_parts (IsOfSome targets) (parts_of_sets sets) (filter is_naming ts) planned.all f.first) (only_as (MakesOne targets) (IsOfSome targets) ts (made_some targets) f.only)
+changes_of_some targets sets ts planned f = each_change (IsOfSome targets) ts (all_parts (IsOfSome targets) (parts_of_sets sets) (filter takes_name ts) planned.all f.first) (only_as (MakesOne targets) (IsOfSome targets) ts (made_some targets) f.only)
 
 pub done_some : (targets : List Target) (sets : List SetSteps) (t : List Mark) (f : List Fault) (ts : List Entry) → ArePlanned targets sets → SetsDone sets t f ts → Each (IsOfSome targets) (filter is_change ts)
 done_some targets sets t f ts planned d = changes_of_some targets sets ts planned (sets_parts (MakesOne targets) sets t f ts planned.plain d)
@@ -445,11 +454,11 @@ turns_by state clock rules looks targets sets ts quiet seen planned f = record {
   all = each_as (IsOfSome targets) (λ e. IsOfSome targets e ⊎ IsOfState state e) (filter is_change ts) (λ e h. inl h) (changes_of_some targets sets ts planned f);
   each = λ t i.
       let o = planned.each t i in
-      let w = one_part (IsOfOther t.log targets) (rotation_of t) o.before o.part o.after (filter is_naming ts) o.first o.woven o.rest (subst (λ ps. FirstParts ps (filter is_naming ts)) o.parts_are f.first) in
+      let w = one_part (IsOfOther t.log targets) (rotation_of t) o.before o.part o.after (filter takes_name ts) o.first o.woven o.rest (subst (λ ps. FirstParts ps (filter takes_name ts)) o.parts_are f.first) in
       record {
         made = w.made;
         first = w.first;
-        woven = weave_change (StandsBetween state t targets) w.made ts (weave_as (IsOfOther t.log targets) (StandsBetween state t targets) w.made (filter is_naming ts) (λ e h. inl h) w.woven)
+        woven = weave_change (StandsBetween state t targets) w.made ts (weave_as (IsOfOther t.log targets) (StandsBetween state t targets) w.made (filter takes_name ts) (λ e h. inl h) w.woven)
             (only_as (MakesOne targets) (StandsBetween state t targets) ts (made_between state targets t planned.apart i) f.only);
       };
 }

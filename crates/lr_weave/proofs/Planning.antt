@@ -24,21 +24,26 @@ use Rattle.lr_plan.specs.declared.step.Step.{Step}
 use Rattle.lr_plan.specs.declared.step.Step.TheVariants as step
 use Rattle.lr_plan.specs.Internal.Asking.{asks}
 use Rattle.lr_plan.specs.Steps.{on_of, program, removal, removals, directory, move, step_if, transfer, made_anew, rotation as steps_of_rotation, retirement as steps_of_retirement, rotation_of as rotation, retirement_of as retirement, steps_of_log, shared_steps, by_logs, steps_of_set}
-use Rattle.lr_targets.specs.Calls.{transfer_calls, calls_of}
+use Rattle.lr_targets.specs.Calls.{transfer_calls, dir_calls, calls_of}
 use Rattle.lr_rotations.specs.Weave.{Weave}
 use Rattle.lr_targets.specs.Target.{Target, unlinks, transfer_of, rotation_of, IsJob, HasJob, IsOneOf}
 use Rattle.lr_targets.specs.AllTurns.{AlsoDoes, IsOf, IsOfSome, IsOfOther}
 use Rattle.lr_targets.proofs.Rotating.{two}
 use Rattle.lr_rotations.proofs.Weaving.{weave_on, weave_own, weave_others}
 use Rattle.lr_weave.specs.Parts.{change_of, changes_by, ArePlain, EachPlain, IsPlainSet, ArePlainSets, MakesOne, parts_of_set, parts_of_sets, AllOf, InOnePart, ArePlanned}
-use Rattle.lr_weave.specs.Planned.{bare_removal, bare, IsAtLog, IsReadyFor, AreReadyFor, HaveLogs, NoneHas, AreApart}
+use Rattle.lr_weave.specs.Planned.{bare_removal, bare, IsReadyFor, AreReadyFor, HaveLogs, NoneHas, AreApart}
 use Rattle.lr_weave.proofs.Parting.{none_has, of_other}
 
 -- ---- what the steps of one log ask for
 
--- of each kind of step a list: none of a program and of what may be left out, just their entries of removals and renames
+-- what is listed for the making of a directory, if any
+abbrev made_by : (Path → Option ℕ → List Entry) → Option (Path × Option ℕ) → List Entry
+made_by making None = []
+made_by making (Some (x, mode)) = making x mode
+
+-- of each kind of step a list: none of a program and of the making of a log, just their entries of removals and renames
 module _ (f : Step → List Entry) (runs : (p : Phase) (on : List ℕ) (c : Command) → f (step.Runs p on c) ≡ []) (removes : (x : Path) → f (step.Removes x) ≡ entry.Unlinks x ∷ []) (renames : (x y : Path) → f (step.Renames x y) ≡ entry.Renames x y ∷ []) (creates : (x : Path) (mode : Option ℕ) → f (step.Creates x mode) ≡ [])
-    (rotated : (x : Path) → f (step.Rotated x) ≡ []) where
+    (rotated : (x : Path) → f (step.Rotated x) ≡ []) (making : Path → Option ℕ → List Entry) (makes : (x : Path) (mode : Option ℕ) → f (step.MakesDir x mode) ≡ making x mode) where
   on_by : (xs ys : List Step) → flat_map f (xs ++ ys) ≡ flat_map f xs ++ flat_map f ys
   on_by xs ys = flat_map-append f xs ys
 
@@ -62,21 +67,21 @@ module _ (f : Step → List Entry) (runs : (p : Phase) (on : List ℕ) (c : Comm
   moves_by [] = refl
   moves_by (m ∷ ms) = one_by (step.Renames m.from m.to) (map move ms) (entry.Renames m.from m.to ∷ []) (renames m.from m.to) ∙ ap (λ xs. entry.Renames m.from m.to ∷ xs) (moves_by ms)
 
-  no_dir : (d : Option (Path × Option ℕ)) → d ≡ None → flat_map f (directory d) ≡ []
-  no_dir None e = refl
-  no_dir (Some x) e = absurd (cc)
+  dir_by : (d : Option (Path × Option ℕ)) → flat_map f (directory d) ≡ made_by making d
+  dir_by None = refl
+  dir_by (Some (x, mode)) = one_by (step.MakesDir x mode) [] (making x mode) (makes x mode) ∙ append-nil (making x mode)
 
   anew_by : (m : Make) (log : Path) (j : Option Job) → flat_map f (made_anew m log j) ≡ []
   anew_by make.No log None = refl
   anew_by (make.Yes mode) log None = one_by (step.Creates log mode) [] [] (creates log mode)
   anew_by m log (Some job) = refl
 
-  rotation_by : (ready : Ready) (j : Option Job) (es : List Entry) → ready.dir ≡ None → flat_map f (transfer ready.log ready.target j) ≡ es → flat_map f (steps_of_rotation ready j) ≡ unlinks ready.leftovers ++ (map move_step ready.moves ++ es)
-  rotation_by ready j es none e =
+  rotation_by : (ready : Ready) (j : Option Job) (es : List Entry) → flat_map f (transfer ready.log ready.target j) ≡ es → flat_map f (steps_of_rotation ready j) ≡ unlinks ready.leftovers ++ (made_by making ready.dir ++ (map move_step ready.moves ++ es))
+  rotation_by ready j es e =
       on_by (removals ready.leftovers) (directory ready.dir ++ (map move ready.moves ++ (transfer ready.log ready.target j ++ rest)))
       ∙ two (removals_by ready.leftovers)
       (on_by (directory ready.dir) (map move ready.moves ++ (transfer ready.log ready.target j ++ rest))
-      ∙ two (no_dir ready.dir none)
+      ∙ two (dir_by ready.dir)
       (on_by (map move ready.moves) (transfer ready.log ready.target j ++ rest)
       ∙ two (moves_by ready.moves)
       (on_by (transfer ready.log ready.target j) rest ∙ (two e (one_by (step.Rotated ready.log) (made_anew ready.make ready.log j) [] (rotated ready.log) ∙ anew_by ready.make ready.log j) ∙ append-nil es))))
@@ -112,7 +117,7 @@ on : (xs ys : List Step) → changes_by (xs ++ ys) ≡ changes_by xs ++ changes_
 on xs ys = flat_map-append change_of xs ys
 
 pub program_none : (p : Phase) (o : Option Command) → changes_by (program p o) ≡ []
-program_none p o = program_by change_of (λ p on c. refl) (λ x. refl) (λ x y. refl) (λ x mode. refl) (λ x. refl) p o
+program_none p o = program_by change_of (λ p on c. refl) (λ x. refl) (λ x y. refl) (λ x mode. refl) (λ x. refl) (λ x mode. []) (λ x mode. refl) p o
 
 copy_changes : (job : Job) (b c : Bool) → changes_by (step_if b (step.Removes job.part) ++ (step.Takes job.part job.mode ∷ step.Copies job.from job.part job.limit ∷ step.SyncsFile job.part ∷ step.Renames job.part job.to ∷ step.SyncsDir job.dir ∷ step_if c (step.Truncates job.from)))
     ≡ cond b (entry.Unlinks job.part ∷ []) [] ++ entry.Renames job.part job.to ∷ []
@@ -131,19 +136,24 @@ bare_unlinks [] = refl
 bare_unlinks (r ∷ rs) = ap (λ es. entry.Unlinks r.path ∷ es) (bare_unlinks rs)
 
 -- nor to what is done first, and then to what is left
-front_as : (t : Target) (log : LogPlan) (f : Ready → Option Job → List Entry) → IsReadyFor t log → ((j : Option Job) → f log.ready j ≡ f (bare log.ready) j)
-    → unlinks log.ready.leftovers ++ (map move_step log.ready.moves ++ f log.ready log.job) ≡ unlinks t.ready.leftovers ++ (map move_step t.ready.moves ++ f t.ready t.job)
-front_as t log f r same =
-    ap (λ es. es ++ (map move_step log.ready.moves ++ f log.ready log.job)) (bare_unlinks log.ready.leftovers)
-    ∙ (ap (λ es. unlinks (map bare_removal log.ready.leftovers) ++ (map move_step log.ready.moves ++ es)) (same log.job)
-    ∙ (ap (λ (x : Ready). unlinks x.leftovers ++ (map move_step x.moves ++ f x log.job)) r.ready_is
-    ∙ ap (λ (j : Option Job). unlinks t.ready.leftovers ++ (map move_step t.ready.moves ++ f t.ready j)) r.job_is))
+front_as : (t : Target) (log : LogPlan) (g : Option (Path × Option ℕ) → List Entry) (f : Ready → Option Job → List Entry) → IsReadyFor t log → ((j : Option Job) → f log.ready j ≡ f (bare log.ready) j)
+    → unlinks log.ready.leftovers ++ (g log.ready.dir ++ (map move_step log.ready.moves ++ f log.ready log.job)) ≡ unlinks t.ready.leftovers ++ (g t.ready.dir ++ (map move_step t.ready.moves ++ f t.ready t.job))
+front_as t log g f r same =
+    ap (λ es. es ++ (g log.ready.dir ++ (map move_step log.ready.moves ++ f log.ready log.job))) (bare_unlinks log.ready.leftovers)
+    ∙ (ap (λ es. unlinks (map bare_removal log.ready.leftovers) ++ (g log.ready.dir ++ (map move_step log.ready.moves ++ es))) (same log.job)
+    ∙ (ap (λ (x : Ready). unlinks x.leftovers ++ (g x.dir ++ (map move_step x.moves ++ f x log.job))) r.ready_is
+    ∙ ap (λ (j : Option Job). unlinks t.ready.leftovers ++ (g t.ready.dir ++ (map move_step t.ready.moves ++ f t.ready j))) r.job_is))
 
 back_as : (t : Target) (log : LogPlan) → IsReadyFor t log → unlinks log.ready.retire ≡ back_of t
 back_as t log r = bare_unlinks log.ready.retire ∙ ap (λ (x : Ready). unlinks x.retire) r.ready_is
 
-pub no_dir_is : (t : Target) (log : LogPlan) → IsReadyFor t log → log.ready.dir ≡ None
-no_dir_is t log r = ap (λ (x : Ready). x.dir) r.ready_is ∙ r.ready.no_dir
+-- nor to the directory that is made
+pub dir_is : (t : Target) (log : LogPlan) → IsReadyFor t log → log.ready.dir ≡ t.ready.dir
+dir_is t log r = ap (λ (x : Ready). x.dir) r.ready_is
+
+none_made : (d : Option (Path × Option ℕ)) → made_by (λ x mode. []) d ≡ []
+none_made None = refl
+none_made (Some (x, mode)) = refl
 
 bare_transfer : (ready : Ready) (j : Option Job) → transfer_of ready j ≡ transfer_of (bare ready) j
 bare_transfer ready None = refl
@@ -151,14 +161,14 @@ bare_transfer ready (Some job) = refl
 
 pub front_is : (t : Target) (log : LogPlan) → IsReadyFor t log → changes_by (rotation log) ≡ front_of t
 front_is t log r =
-    rotation_by change_of (λ p on c. refl) (λ x. refl) (λ x y. refl) (λ x mode. refl) (λ x. refl) log.ready log.job (transfer_of log.ready log.job) (no_dir_is t log r) (transfer_is log.ready log.job)
-    ∙ front_as t log transfer_of r (bare_transfer log.ready)
+    rotation_by change_of (λ p on c. refl) (λ x. refl) (λ x y. refl) (λ x mode. refl) (λ x. refl) (λ x mode. []) (λ x mode. refl) log.ready log.job (transfer_of log.ready log.job) (transfer_is log.ready log.job)
+    ∙ (ap (λ ds. unlinks log.ready.leftovers ++ (ds ++ (map move_step log.ready.moves ++ transfer_of log.ready log.job))) (none_made log.ready.dir) ∙ front_as t log (λ d. []) transfer_of r (bare_transfer log.ready))
 
 pub back_is : (t : Target) (log : LogPlan) → IsReadyFor t log → changes_by (retirement log) ≡ back_of t
-back_is t log r = retirement_by change_of (λ p on c. refl) (λ x. refl) (λ x y. refl) (λ x mode. refl) (λ x. refl) log.first_mail log.ready.retire ∙ back_as t log r
+back_is t log r = retirement_by change_of (λ p on c. refl) (λ x. refl) (λ x y. refl) (λ x mode. refl) (λ x. refl) (λ x mode. []) (λ x mode. refl) log.first_mail log.ready.retire ∙ back_as t log r
 
 pub log_is : (t : Target) (log : LogPlan) → IsReadyFor t log → changes_by (steps_of_log log) ≡ rotation_of t
-log_is t log r = log_by change_of (λ p on c. refl) (λ x. refl) (λ x y. refl) (λ x mode. refl) (λ x. refl) log (front_of t) (back_of t) (front_is t log r) (back_is t log r) ∙ halves t
+log_is t log r = log_by change_of (λ p on c. refl) (λ x. refl) (λ x y. refl) (λ x mode. refl) (λ x. refl) (λ x mode. []) (λ x mode. refl) log (front_of t) (back_of t) (front_is t log r) (back_is t log r) ∙ halves t
 
 -- ---- and their calls
 
@@ -172,17 +182,24 @@ abbrev pub calls_by : List Step → List Entry
 calls_by ss = flat_map calls_of_step ss
 
 abbrev pub front_calls : Target → List Entry
-front_calls t = unlinks t.ready.leftovers ++ (map move_step t.ready.moves ++ transfer_calls t.ready t.job)
+front_calls t = unlinks t.ready.leftovers ++ (dir_calls t.ready.dir ++ (map move_step t.ready.moves ++ transfer_calls t.ready t.job))
+
+dirs_made : (d : Option (Path × Option ℕ)) → made_by (λ x mode. entry.MakesDir x mode ∷ []) d ≡ dir_calls d
+dirs_made None = refl
+dirs_made (Some (x, mode)) = refl
 
 -- the final path can be read, and then the removals
 abbrev pub back_calls : Target → List Entry
 back_calls t = entry.Reads t.ready.target 0 [] ∷ back_of t
 
 pub call_halves : (t : Target) → front_calls t ++ back_calls t ≡ calls_of t
-call_halves t = halves_on t (transfer_calls t.ready t.job) (back_calls t)
+call_halves t =
+    append_assoc (unlinks t.ready.leftovers) (dir_calls t.ready.dir ++ (map move_step t.ready.moves ++ transfer_calls t.ready t.job)) (back_calls t)
+    ∙ ap (λ xs. unlinks t.ready.leftovers ++ xs) (append_assoc (dir_calls t.ready.dir) (map move_step t.ready.moves ++ transfer_calls t.ready t.job) (back_calls t)
+    ∙ ap (λ xs. dir_calls t.ready.dir ++ xs) (append_assoc (map move_step t.ready.moves) (transfer_calls t.ready t.job) (back_calls t)))
 
 pub program_asks : (p : Phase) (o : Option Command) → calls_by (program p o) ≡ []
-program_asks p o = program_by calls_of_step (λ p on c. refl) (λ x. refl) (λ x y. refl) (λ x mode. refl) (λ x. refl) p o
+program_asks p o = program_by calls_of_step (λ p on c. refl) (λ x. refl) (λ x y. refl) (λ x mode. refl) (λ x. refl) (λ x mode. entry.MakesDir x mode ∷ []) (λ x mode. refl) p o
 
 copy_asks : (job : Job) (b c : Bool) → calls_by (step_if b (step.Removes job.part) ++ (step.Takes job.part job.mode ∷ step.Copies job.from job.part job.limit ∷ step.SyncsFile job.part ∷ step.Renames job.part job.to ∷ step.SyncsDir job.dir ∷ step_if c (step.Truncates job.from)))
     ≡ cond b (entry.Unlinks job.part ∷ []) [] ++ (entry.Makes job.part job.mode ∷ entry.Reads job.from 0 [] ∷ entry.Appends job.part [] ∷ entry.SyncsFile job.part ∷ entry.Renames job.part job.to ∷ entry.SyncsDir job.dir ∷ cond c (entry.Truncates job.from ∷ []) [])
@@ -201,11 +218,11 @@ bare_calls ready (Some job) = refl
 
 pub front_asks : (t : Target) (log : LogPlan) → IsReadyFor t log → calls_by (rotation log) ≡ front_calls t
 front_asks t log r =
-    rotation_by calls_of_step (λ p on c. refl) (λ x. refl) (λ x y. refl) (λ x mode. refl) (λ x. refl) log.ready log.job (transfer_calls log.ready log.job) (no_dir_is t log r) (transfer_asks log.ready log.job)
-    ∙ front_as t log transfer_calls r (bare_calls log.ready)
+    rotation_by calls_of_step (λ p on c. refl) (λ x. refl) (λ x y. refl) (λ x mode. refl) (λ x. refl) (λ x mode. entry.MakesDir x mode ∷ []) (λ x mode. refl) log.ready log.job (transfer_calls log.ready log.job) (transfer_asks log.ready log.job)
+    ∙ (ap (λ ds. unlinks log.ready.leftovers ++ (ds ++ (map move_step log.ready.moves ++ transfer_calls log.ready log.job))) (dirs_made log.ready.dir) ∙ front_as t log dir_calls transfer_calls r (bare_calls log.ready))
 
 pub removals_ask : (t : Target) (log : LogPlan) → IsReadyFor t log → calls_by (removals log.ready.retire) ≡ back_of t
-removals_ask t log r = removals_by calls_of_step (λ p on c. refl) (λ x. refl) (λ x y. refl) (λ x mode. refl) (λ x. refl) log.ready.retire ∙ back_as t log r
+removals_ask t log r = removals_by calls_of_step (λ p on c. refl) (λ x. refl) (λ x y. refl) (λ x mode. refl) (λ x. refl) (λ x mode. entry.MakesDir x mode ∷ []) (λ x mode. refl) log.ready.retire ∙ back_as t log r
 
 -- ---- plain steps
 
@@ -227,13 +244,13 @@ moves_plain : (P : Entry → Type 0) (ms : List Move) → ArePlain P (map move m
 moves_plain P [] = tt
 moves_plain P (m ∷ ms) = (tt, moves_plain P ms)
 
-dir_plain : (P : Entry → Type 0) (d : Option (Path × Option ℕ)) → d ≡ None → ArePlain P (directory d)
-dir_plain P None e = tt
-dir_plain P (Some x) e = absurd (cc)
-
 -- P holds of what the rotation does besides
 abbrev pub OfMaking : (Entry → Type 0) → Target → Type 0
 OfMaking P t = (e : Entry) → AlsoDoes t e → P e
+
+dir_plain : (P : Entry → Type 0) (t : Target) (d : Option (Path × Option ℕ)) → OfMaking P t → t.ready.dir ≡ d → ArePlain P (directory d)
+dir_plain P t None h is = tt
+dir_plain P t (Some (x, mode)) h is = (h (entry.MakesDir x mode) (mode, is), tt)
 
 copy_plain : (P : Entry → Type 0) (t : Target) (job : Job) (b c : Bool) → OfMaking P t → IsJob t job → t.job ≡ Some job
     → ArePlain P (step_if b (step.Removes job.part) ++ (step.Takes job.part job.mode ∷ step.Copies job.from job.part job.limit ∷ step.SyncsFile job.part ∷ step.Renames job.part job.to ∷ step.SyncsDir job.dir ∷ step_if c (step.Truncates job.from)))
@@ -253,21 +270,21 @@ copy_plain P t job b c h shape is = plain_on P (step_if b (step.Removes job.part
     emptied true = (h (entry.Truncates job.from) ((job, is), shape.from_is), tt)
     emptied false = tt
 
-transfer_plain : (P : Entry → Type 0) (t : Target) (j : Option Job) → OfMaking P t → IsAtLog t → HasJob t → t.job ≡ j → ArePlain P (transfer t.ready.log t.ready.target j ++ step.Rotated t.ready.log ∷ made_anew t.ready.make t.ready.log j)
+transfer_plain : (P : Entry → Type 0) (t : Target) (j : Option Job) → OfMaking P t → t.ready.log ≡ t.log → HasJob t → t.job ≡ j → ArePlain P (transfer t.ready.log t.ready.target j ++ step.Rotated t.ready.log ∷ made_anew t.ready.make t.ready.log j)
 transfer_plain P t None h r shape is = (tt, (tt, anew t.ready.make))
   where
     anew : (m : Make) → ArePlain P (made_anew m t.ready.log None)
     anew make.No = tt
-    anew (make.Yes mode) = (h (entry.Makes t.ready.log mode) (inl r.log_is), tt)
+    anew (make.Yes mode) = (h (entry.Makes t.ready.log mode) (inl r), tt)
 transfer_plain P t (Some job) h r shape is = plain_on P (transfer t.ready.log t.ready.target (Some job)) (step.Rotated t.ready.log ∷ []) (copy_plain P t job job.stale job.cut h (shape job is) is) (tt, tt)
 
 pub front_plain : (P : Entry → Type 0) (t : Target) (log : LogPlan) → OfMaking P t → IsReadyFor t log → ArePlain P (rotation log)
 front_plain P t log h r =
     plain_on P (removals log.ready.leftovers) _ (removals_plain P log.ready.leftovers)
-    (plain_on P (directory log.ready.dir) _ (dir_plain P log.ready.dir (no_dir_is t log r))
+    (plain_on P (directory log.ready.dir) _ (dir_plain P t log.ready.dir h (sym (dir_is t log r)))
     (plain_on P (map move log.ready.moves) _ (moves_plain P log.ready.moves)
     (subst (λ (x : Ready). ArePlain P (transfer x.log x.target log.job ++ step.Rotated x.log ∷ made_anew x.make x.log log.job)) (sym r.ready_is)
-    (subst (λ (j : Option Job). ArePlain P (transfer t.ready.log t.ready.target j ++ step.Rotated t.ready.log ∷ made_anew t.ready.make t.ready.log j)) (sym r.job_is) (transfer_plain P t t.job h r.ready r.job refl)))))
+    (subst (λ (j : Option Job). ArePlain P (transfer t.ready.log t.ready.target j ++ step.Rotated t.ready.log ∷ made_anew t.ready.make t.ready.log j)) (sym r.job_is) (transfer_plain P t t.job h r.log_is r.job refl)))))
 
 pub back_plain : (P : Entry → Type 0) (log : LogPlan) → ArePlain P (retirement log)
 back_plain P log = plain_on P (program phase.Mail log.first_mail) (removals log.ready.retire) (program_plain P phase.Mail log.first_mail) (removals_plain P log.ready.retire)
@@ -537,7 +554,7 @@ one_made [] t e i h = absurd i
 one_made (x ∷ xs) t e (inl is) h = inl (subst (λ (y : Target). AlsoDoes y e) (sym is) h)
 one_made (x ∷ xs) t e (inr i) h = inr (one_made xs t e i h)
 
-own_makings : (all ts : List Target) → ((t : Target) → IsOneOf t ts → IsOneOf t all) → OfMakings (MakesOne all) ts
+pub own_makings : (all ts : List Target) → ((t : Target) → IsOneOf t ts → IsOneOf t all) → OfMakings (MakesOne all) ts
 own_makings all [] f = tt
 own_makings all (t ∷ ts) f = (λ e h. one_made all t e (f t (inl refl)) h, own_makings all ts (λ x i. f x (inr i)))
 

@@ -46,6 +46,6 @@ seen_makes rules clock t o m valid disk (is_told {j = j} {k = k} {es = es} made 
 pub seen_fit : (rules : Rules) (clock : Clock) (ts : List Target) (o m : Option Journal) → HaveAnyNames ts → HaveLogPaths ts → WhereTold o IsJournal → Left (λ us. AreQuiet us × AreLogsSeen rules clock us ts) o m → AreFit m ts
 seen_fit rules clock [] o m h paths disk left = tt
 seen_fit rules clock (t ∷ ts) o m h paths disk left = (
-  record { names = h.0; fits = log_can rules clock t o m (left_as left (λ us s. (s.0, s.1.0))); anew = seen_makes rules clock t o m (paths t (inl refl)) disk (left_as left (λ us s. (s.0, s.1.0))) },
+  record { names = h.0; fits = log_can rules clock t o m disk (left_as left (λ us s. (s.0, s.1.0))); anew = seen_makes rules clock t o m (paths t (inl refl)) disk (left_as left (λ us s. (s.0, s.1.0))) },
   seen_fit rules clock ts o m h.1 (λ u i. paths u (inr i)) disk (left_as left (λ us s. (s.0, s.1.1))),
 )

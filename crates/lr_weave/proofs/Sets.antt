@@ -1,5 +1,5 @@
 -- The steps of definitions whose logs don't meet fit, wherever those before them ended.
-use Rattle.std.proofs.Common.{Bool, true, false, Option, List, [], ◌∷◌, ◌++◌, map}
+use Rattle.std.proofs.Common.{ℕ, inl, inr, sym, subst, Bool, true, false, Option, List, [], ◌∷◌, ◌++◌, map}
 use Rattle.std.specs.Prelude.{filter}
 use Rattle.std.specs.List.{flat_map}
 use Rattle.lr_rules.specs.declared.fault.Phase.TheVariants as phase
@@ -10,15 +10,20 @@ use Rattle.lr_plan.specs.declared.planned.SetPlan.{SetPlan}
 use Rattle.lr_plan.specs.Steps.{by_logs, steps_of_set}
 use Rattle.lr_plan.specs.Internal.Asking.{LeadsTo, CanSet, CanSets}
 use Rattle.lr_plan.specs.Done.{SetDone}
-use Rattle.lr_targets.specs.Target.{Target}
+use Rattle.lr_rules.specs.declared.path.Path.{Path}
+use Rattle.lr_host.specs.declared.entry.Entry.{Entry}
+use Rattle.lr_host.specs.declared.entry.Entry.TheVariants as entry
+use Rattle.lr_host.specs.Told.{Each}
+use Rattle.lr_targets.specs.AllTurns.{AlsoDoes}
+use Rattle.lr_targets.specs.Target.{Target, IsOneOf}
 use Rattle.lr_weave.specs.Fitting.{AreFit, NoneMeets, DontMeet}
-use Rattle.lr_weave.specs.Parts.{parts_of_set}
+use Rattle.lr_weave.specs.Parts.{takes_name, MakesOne, parts_of_set}
 use Rattle.lr_weave.specs.Planned.{AreReadyFor, HaveLogs}
-use Rattle.lr_weave.proofs.Parting.{set_parts, all_parts}
-use Rattle.lr_weave.proofs.Planning.{Anything, anything, AllLogs, set_is, set_out}
+use Rattle.lr_weave.proofs.Parting.{set_parts, all_parts, made_by}
+use Rattle.lr_weave.proofs.Planning.{OfMakings, own_makings, AllLogs, set_is, set_out}
 use Rattle.lr_weave.specs.Fitting.{SetReadsOwn, ReadOnlyOwn}
 use Rattle.lr_weave.proofs.Shared.{can_shared}
-use Rattle.lr_weave.proofs.Fits.{Avoids, NamesOf, can_each, unchanged, program_changes, program_can, fit_later, rotation_far}
+use Rattle.lr_weave.proofs.Fits.{Avoids, NamesOf, naming_avoids, made_far, can_each, unchanged, program_changes, program_can, fit_later, rotation_far}
 
 can_set : (set : SetPlan) (ts : List Target) {o : Option Journal} → SetReadsOwn set → AreReadyFor ts set.logs → AreFit o ts → DontMeet ts → CanSet o (steps_of_set set)
 can_set set ts {o} q r fits dont = go set.shared set.logs
@@ -59,6 +64,12 @@ far_all : (o : Option Journal) (g : List Target) (x : Target) (ys : List Target)
 far_all o [] x ys fits n = tt
 far_all o (t ∷ g) x ys fits n = (rotation_far x t fits.0 n.0.0, far_all o g x ys fits.1 n.1)
 
+-- nor is the directory that one of them makes
+none_made : (o : Option Journal) (g : List Target) (x : Target) (ys : List Target) → AreFit o g → NoneBehind g (x ∷ ys) → (y : Path) (mode : Option ℕ) → ((t : Target) × IsOneOf t g × AlsoDoes t (entry.MakesDir y mode)) → NamesOf x y → ⊥
+none_made o [] x ys fits n y mode h i = absurd h.1
+none_made o (t ∷ g) x ys fits n y mode (u, inl is, also) i = made_far x t fits.0.names n.0.0 y mode (subst (λ (v : Target). AlsoDoes v (entry.MakesDir y mode)) (sym is) also) i
+none_made o (t ∷ g) x ys fits n y mode (u, inr j, also) i = none_made o g x ys fits.1 n.1 y mode (u, j, also) i
+
 behind_less : (g : List Target) (x : Target) (ys : List Target) → NoneBehind g (x ∷ ys) → NoneBehind g ys
 behind_less [] x ys n = tt
 behind_less (t ∷ g) x ys n = (n.0.1, behind_less g x ys n.1)
@@ -66,10 +77,19 @@ behind_less (t ∷ g) x ys n = (n.0.1, behind_less g x ys n.1)
 set_later : (o m : Option Journal) (set : SetPlan) (g ys : List Target) → AreReadyFor g set.logs → AreFit o g → NoneBehind g ys → AreFit o ys → LeadsTo (SetDone (steps_of_set set)) o m → AreFit m ys
 set_later o m set g [] r fits n later leads = tt
 set_later o m set g (x ∷ ys) r fits n later leads = (
-  fit_later x later.0 leads.2 (λ us d. all_parts (Avoids (NamesOf x)) (parts_of_set (steps_of_set set)) (filter is_naming us) (set_out (Avoids (NamesOf x)) g (parts_of_set (steps_of_set set)) (set_is Anything set g (anything g) r).0 (far_all o g x ys fits n))
-      (set_parts Anything (steps_of_set set) leads.0 leads.1 us (set_is Anything set g (anything g) r).1 d).first),
+  fit_later x later.0 leads.2 (λ us d. set_avoids us d),
   set_later o m set g ys r fits (behind_less g x ys n) later.1 leads,
 )
+  where
+    made : OfMakings (MakesOne g) g
+    made = own_makings g g (λ t i. i)
+
+    set_avoids : (us : List Entry) → SetDone (steps_of_set set) leads.0 leads.1 us → Each (Avoids (NamesOf x)) (filter is_naming us)
+    set_avoids us d =
+        let b = set_parts (MakesOne g) (steps_of_set set) leads.0 leads.1 us (set_is (MakesOne g) set g made r).1 d in
+        naming_avoids (NamesOf x) (MakesOne g) us
+        (all_parts (Avoids (NamesOf x)) (parts_of_set (steps_of_set set)) (filter takes_name us) (set_out (Avoids (NamesOf x)) g (parts_of_set (steps_of_set set)) (set_is (MakesOne g) set g made r).0 (far_all o g x ys fits n)) b.first)
+        b.only (λ y mode h i. none_made o g x ys fits n y mode (made_by g (entry.MakesDir y mode) h) i)
 
 pub can_sets : (o : Option Journal) (groups : List (List Target)) (sets : List SetPlan) → HaveLogs groups sets → ReadOnlyOwn sets → AreFit o (flat_map (λ ts. ts) groups) → DontMeet (flat_map (λ ts. ts) groups) → CanSets o (map steps_of_set sets)
 can_sets o [] [] h q fits dont = tt

@@ -8,7 +8,7 @@ use Rattle.lr_host.specs.declared.entry.Entry.{Entry}
 use Rattle.lr_host.specs.declared.journal.Journal.{Journal}
 use Rattle.lr_host.specs.Told.{Each, Left}
 use Rattle.lr_host.specs.Steps.{is_naming}
-use Rattle.lr_host.proofs.Each.{each_first}
+use Rattle.lr_host.proofs.Each.{each_append, each_first}
 use Rattle.lr_host.proofs.Left.{left_first, left_then}
 use Rattle.lr_plan.specs.declared.planned.LogPlan.{LogPlan}
 use Rattle.lr_plan.specs.declared.planned.SetPlan.{SetPlan}
@@ -17,13 +17,14 @@ use Rattle.lr_plan.specs.Steps.{program, shared_steps}
 use Rattle.lr_plan.specs.Steps as steps
 use Rattle.lr_plan.specs.Internal.Asking.{CanMake}
 use Rattle.lr_rotations.specs.Calls.{CanCalls}
+use Rattle.lr_targets.specs.AllTurns.{AlsoDoes}
 use Rattle.lr_targets.specs.Target.{Target, IsOneOf}
 use Rattle.lr_weave.specs.Fitting.{IsFit, AreFit, NoneMeets, DontMeet, ReadOwn, ReadsNothing}
-use Rattle.lr_weave.specs.Parts.{changes_by, ArePlain}
+use Rattle.lr_weave.specs.Parts.{takes_name, change_of, changes_by, ArePlain, MakesOnly}
 use Rattle.lr_weave.specs.Planned.{IsReadyFor, AreReadyFor}
-use Rattle.lr_weave.proofs.Parting.{went_changes, joined_changes}
-use Rattle.lr_weave.proofs.Planning.{Anything, front_of, back_of, back_calls, front_is, back_is, halves, front_plain, back_plain, program_none, program_plain}
-use Rattle.lr_weave.proofs.Fits.{Avoids, NamesOf, AllSucceed, Asks, each_end, can_far, front_then, back_can, back_asks, rotation_far, fit_later, program_can, unchanged}
+use Rattle.lr_weave.proofs.Parting.{went_changes, went_only, joined_changes}
+use Rattle.lr_weave.proofs.Planning.{front_of, back_of, back_calls, front_is, back_is, halves, front_plain, back_plain, program_none, program_plain}
+use Rattle.lr_weave.proofs.Fits.{Avoids, NamesOf, AllSucceed, Asks, asks_for, Never, none_named, naming_avoids, made_far, each_end, can_far, front_then, back_can, back_asks, rotation_far, fit_later, program_can, unchanged}
 
 -- ---- one list behind another
 
@@ -31,9 +32,17 @@ can_on : (xs ys : List Step) {o : Option Journal} → CanMake o xs → ((m : Opt
 can_on [] ys {o} can f = f o (left_first (AllSucceed []) o refl)
 can_on (x ∷ xs) ys {o} can f = (can.0, λ m l. can_on xs ys (can.1 m l) (λ k l'. f k (left_then l l' (λ ts us p q. record { front = ts; back = us; joined = refl; first = p; second = q }))))
 
-went_all : (ss : List Step) (ts : List Entry) → ArePlain Anything ss → AllSucceed ss ts → filter is_naming ts ≡ changes_by ss
-went_all [] ts plain w = ap (filter is_naming) w
-went_all (s ∷ ss) ts plain w = joined_changes ts w.front w.back w.joined ∙ (ap (λ us. us ++ filter is_naming w.back) (went_changes Anything s w.front plain.0 w.first) ∙ ap (λ us. filter is_naming (Rattle.lr_plan.specs.Internal.Asking.asks s) ++ us) (went_all ss w.back plain.1 w.second))
+-- these names went, and of what was made besides P holds
+record Went (P : Entry → Type 0) (steps ts : List Entry) : Type 0 where
+  are : filter takes_name ts ≡ steps
+  only : Each (MakesOnly P) ts
+
+went_all : (P : Entry → Type 0) (ss : List Step) (ts : List Entry) → ArePlain P ss → AllSucceed ss ts → Went P (changes_by ss) ts
+went_all P [] ts plain w = record { are = ap (filter takes_name) w; only = subst (Each (MakesOnly P)) (sym w) tt }
+went_all P (s ∷ ss) ts plain w = let rest = went_all P ss w.back plain.1 w.second in record {
+  are = joined_changes ts w.front w.back w.joined ∙ (ap (λ us. us ++ filter takes_name w.back) (went_changes P s w.front plain.0 w.first) ∙ ap (λ us. change_of s ++ us) rest.are);
+  only = subst (Each (MakesOnly P)) (sym w.joined) (each_append (MakesOnly P) w.front w.back (went_only P s w.front plain.0 w.first) rest.only);
+}
 
 -- ---- what is left of one log
 
@@ -54,17 +63,21 @@ back_left o m t fit can = record {
 }
 
 back_later : (x : Target) {P : List Entry → Type 0} {o m : Option Journal} → HasBack o x → Left P o m → ((ts : List Entry) → P ts → Each (Avoids (NamesOf x)) (filter is_naming ts)) → HasBack m x
-back_later x b left f = record { asks = b.asks; far_from = b.far_from; fits = can_far (NamesOf x) (back_calls x) b.asks b.fits left f }
+back_later x b left f = record { asks = b.asks; far_from = b.far_from; fits = can_far (NamesOf x) (back_calls x) (asks_for (NamesOf x) (back_calls x) b.asks) b.fits left f }
 
 turned_about : (x t : Target) → (Meet x.log x.naming t.log t.naming → ⊥) → Meet t.log t.naming x.log x.naming → ⊥
 turned_about x t f m = f (m.0, ⊎_elim (λ a. inr (a.1, a.0)) (λ b. inl (b.1, b.0)) m.1)
 
--- the changes of the rotation's own steps
-front_same : (t : Target) (log : LogPlan) (ts : List Entry) → IsReadyFor t log → AllSucceed (steps.rotation_of log) ts → filter is_naming ts ≡ front_of t
-front_same t log ts r w = went_all (steps.rotation_of log) ts (front_plain Anything t log (λ e also. tt) r) w ∙ front_is t log r
+-- the rotation's own steps leave the names of a set alone that it doesn't meet
+front_avoids : (o : Option Journal) (x t : Target) (log : LogPlan) (ts : List Entry) → IsFit o t → (Meet x.log x.naming t.log t.naming → ⊥) → IsReadyFor t log → AllSucceed (steps.rotation_of log) ts → Each (Avoids (NamesOf x)) (filter is_naming ts)
+front_avoids o x t log ts fit apart r w =
+    let all = went_all (AlsoDoes t) (steps.rotation_of log) ts (front_plain (AlsoDoes t) t log (λ e also. also) r) w in
+    naming_avoids (NamesOf x) (AlsoDoes t) ts (subst (Each (Avoids (NamesOf x))) (sym (all.are ∙ front_is t log r)) (front_far o x t fit apart)) all.only (made_far x t fit.names apart)
 
-back_same : (t : Target) (log : LogPlan) (ts : List Entry) → IsReadyFor t log → AllSucceed (steps.retirement_of log) ts → filter is_naming ts ≡ back_of t
-back_same t log ts r w = went_all (steps.retirement_of log) ts (back_plain Anything log) w ∙ back_is t log r
+back_avoids : (x t : Target) (log : LogPlan) (ts : List Entry) → Each (Avoids (NamesOf x)) (back_of t) → IsReadyFor t log → AllSucceed (steps.retirement_of log) ts → Each (Avoids (NamesOf x)) (filter is_naming ts)
+back_avoids x t log ts far r w =
+    let all = went_all Never (steps.retirement_of log) ts (back_plain Never log) w in
+    naming_avoids (NamesOf x) Never ts (subst (Each (Avoids (NamesOf x))) (sym (all.are ∙ back_is t log r)) far) all.only (λ y mode never i. never)
 
 none_in : (t : Target) (xs : List Target) (x : Target) → NoneMeets t xs → IsOneOf x xs → Meet x.log x.naming t.log t.naming → ⊥
 none_in t [] x n i = absurd i
@@ -87,10 +100,10 @@ fronts_can rest o (t ∷ ts) (log ∷ logs) gone r q fits dont apart done k =
     subst (CanMake o) (sym (append_assoc (steps.rotation_of log) (flat_map steps.rotation_of logs) rest))
     (front_then t log (flat_map steps.rotation_of logs ++ rest) r.0 q.0 fits.0.anew fits.0.fits
     (λ m l can. fronts_can rest m ts logs (t ∷ gone) r.1 q.1
-    (fits_later o m t ts dont.0 fits.1 l (λ x ne us w. subst (Each (Avoids (NamesOf x))) (sym (front_same t log us r.0 w)) (front_far o x t fits.0 ne))) dont.1
+    (fits_later o m t ts dont.0 fits.1 l (λ x ne us w. front_avoids o x t log us fits.0 ne r.0 w)) dont.1
     (λ d j x i. ⊎_elim (λ is. subst (λ (z : Target). Meet z.log z.naming x.log x.naming → ⊥) is (turned_about x t (none_in t ts x dont.0 i))) (λ old. apart d old x (inr i)) j)
     (λ d j. ⊎_elim (λ is. subst (HasBack m) is (back_left o m t fits.0 can))
-    (λ old. back_later d (done d old) l (λ us w. subst (Each (Avoids (NamesOf d))) (sym (front_same t log us r.0 w)) (front_far o d t fits.0 (apart d old t (inl refl))))) j)
+    (λ old. back_later d (done d old) l (λ us w. front_avoids o d t log us fits.0 (apart d old t (inl refl)) r.0 w)) j)
     (λ n h. k n (λ x i. h x (⊎_elim (λ a. ⊎_elim (λ is. inr (inl is)) (λ b. inl b) a) (λ j. inr (inr j)) i)))))
 
 backs_can : (rest : List Step) (o : Option Journal) (ts : List Target) (logs : List LogPlan) → AreReadyFor ts logs → ReadOwn logs → DontMeet ts → ((x : Target) → IsOneOf x ts → HasBack o x)
@@ -102,12 +115,12 @@ backs_can rest o (t ∷ ts) (log ∷ logs) r q dont h k =
     subst (CanMake o) (sym (append_assoc (steps.retirement_of log) (flat_map steps.retirement_of logs) rest))
     (can_on (steps.retirement_of log) (flat_map steps.retirement_of logs ++ rest) (back_can o t log r.0 q.0 (h t (inl refl)).fits)
     (λ m l. backs_can rest m ts logs r.1 q.1 dont.1
-    (λ x i. back_later x (h x (inr i)) l (λ us w. subst (Each (Avoids (NamesOf x))) (sym (back_same t log us r.0 w)) ((h t (inl refl)).far_from x (none_in t ts x dont.0 i)))) k))
+    (λ x i. back_later x (h x (inr i)) l (λ us w. back_avoids x t log us ((h t (inl refl)).far_from x (none_in t ts x dont.0 i)) r.0 w)) k))
 
 -- ---- a definition with shared scripts
 
 program_still : (p : _) (c : _) (us : List Entry) → AllSucceed (program p c) us → filter is_naming us ≡ []
-program_still p c us w = went_all (program p c) us (program_plain Anything p c) w ∙ program_none p c
+program_still p c us w = let all = went_all Never (program p c) us (program_plain Never p c) w in none_named us (all.are ∙ program_none p c) all.only
 
 pub can_shared : (set : SetPlan) (ts : List Target) (o : Option Journal) → ReadsNothing set.first → ReadsNothing set.pre → ReadsNothing set.post → ReadsNothing set.last → ReadOwn set.logs → AreReadyFor ts set.logs → AreFit o ts → DontMeet ts → CanMake o (shared_steps set)
 can_shared set ts o first pre post last q r fits dont =

@@ -6,7 +6,6 @@ use Rattle.lr_rules.specs.declared.clock.Clock.{Clock}
 use Rattle.lr_rules.specs.declared.path.Path.{Path}
 use Rattle.lr_rules.specs.declared.rules.Rules.{Rules}
 use Rattle.lr_host.specs.declared.entry.Entry.{Entry}
-use Rattle.lr_host.specs.Steps.{is_naming}
 use Rattle.lr_host.specs.Quiet.{AreQuiet}
 use Rattle.lr_plan.specs.declared.planned.SetPlan.{SetPlan}
 use Rattle.lr_plan.specs.Steps.{steps_of_set}
@@ -15,7 +14,7 @@ use Rattle.lr_targets.specs.Target.{Target, rotation_of}
 use Rattle.lr_targets.specs.AllTurns.{IsOfOther, StandsBetween}
 use Rattle.lr_mixed.specs.AllTurns.{AllTurnedBy}
 use Rattle.lr_mixed.specs.Seen.{AreLogsSeen}
-use Rattle.lr_weave.specs.Parts.{MakesOne, ArePlanned, parts_of_sets}
+use Rattle.lr_weave.specs.Parts.{takes_name, MakesOne, ArePlanned, parts_of_sets}
 use Rattle.lr_rotations.specs.Weave.{Weave}
 use Rattle.lr_weave.proofs.Parting.{only_as, made_between, sets_parts, weave_change, done_turns}
 use Rattle.lr_rotations.proofs.Weaving.{weave_as}
@@ -26,7 +25,7 @@ abbrev pub done_turned : (state : Path) (clock : Clock) (rules : Rules) (looks :
 done_turned state clock rules looks targets sets t ts quiet seen planned d = record {
   turns = done_turns state clock rules looks targets (map steps_of_set sets) t [] ts quiet seen planned d;
   whole = λ x i. weave_change (StandsBetween state x targets) (rotation_of x) ts
-      (weave_as (IsOfOther x.log targets) (StandsBetween state x targets) (rotation_of x) (filter is_naming ts) (λ e h. inl h)
+      (weave_as (IsOfOther x.log targets) (StandsBetween state x targets) (rotation_of x) (filter takes_name ts) (λ e h. inl h)
       (subst (Weave (IsOfOther x.log targets) (rotation_of x)) (sym (done_whole (MakesOne targets) sets t ts planned.plain d)) (one_joined (IsOfOther x.log targets) (rotation_of x) (parts_of_sets (map steps_of_set sets)) (planned.each x i))))
       (only_as (MakesOne targets) (StandsBetween state x targets) ts (made_between state targets x planned.apart i) (sets_parts (MakesOne targets) (map steps_of_set sets) t [] ts planned.plain d).only);
 }

@@ -1,3 +1,4 @@
 pub mod Fitting
+pub mod Guarded
 pub mod Parts
 pub mod Planned

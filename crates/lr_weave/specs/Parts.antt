@@ -1,10 +1,9 @@
 -- The changes of the steps of a plan, part by part.
-use Rattle.std.specs.Prelude.{◌≡◌, ◌⊎◌, ℕ, List, [], ◌∷◌, ◌++◌, map, filter}
+use Rattle.std.specs.Prelude.{◌≡◌, ◌⊎◌, ℕ, Bool, true, false, List, [], ◌∷◌, ◌++◌, map, filter}
 use Rattle.std.specs.List.{flat_map}
 use Rattle.lr_host.specs.declared.entry.Entry.{Entry}
 use Rattle.lr_host.specs.declared.entry.Entry.TheVariants as entry
 use Rattle.lr_host.specs.Told.{Each, Then}
-use Rattle.lr_host.specs.Steps.{is_naming}
 use Rattle.lr_rotations.specs.Weave.{IsFirstOf}
 use Rattle.lr_plan.specs.declared.step.Step.{Step}
 use Rattle.lr_plan.specs.declared.step.Step.TheVariants.{MakesDir, Creates, Takes, Copies, Appends, Truncates}
@@ -15,17 +14,23 @@ use Rattle.lr_targets.specs.Target.{Target, rotation_of, IsOneOf}
 use Rattle.lr_targets.specs.AllTurns.{AlsoDoes, IsOfSome, IsOfOther}
 use Rattle.lr_weave.specs.Planned.{AreApart}
 
--- the change by which a step takes or gives names, if any; the making of a log isn't one, since it is left out where the log is there
+-- an entry by which a name goes
+abbrev pub takes_name : Entry → Bool
+takes_name (entry.Renames from to) = true
+takes_name (entry.Unlinks x) = true
+takes_name _ = false
+
+-- the change by which a step takes names, if any; the making of a log or of a directory isn't one, since it is left out where that is there
 abbrev pub change_of : Step → List Entry
-change_of step = filter is_naming (asks step)
+change_of step = filter takes_name (asks step)
 
 abbrev pub changes_by : List Step → List Entry
 changes_by steps = flat_map change_of steps
 
--- It makes no directory and appends no text; and where it makes, fills or empties a file, P holds of that.
+-- It appends no text; and where it makes a directory or makes, fills or empties a file, P holds of that.
 abbrev pub IsPlain : (Entry → Type 0) → Step → Type 0
 IsPlain P (Creates path mode) = P (entry.Makes path mode)
-IsPlain P (MakesDir path mode) = ⊥
+IsPlain P (MakesDir path mode) = P (entry.MakesDir path mode)
 IsPlain P (Takes path mode) = P (entry.Makes path mode)
 IsPlain P (Copies from to limit) = (piece : List ℕ) → P (entry.Appends to piece)
 IsPlain P (Appends path text) = ⊥
@@ -49,8 +54,9 @@ abbrev pub ArePlainSets : (Entry → Type 0) → List SetSteps → Type 0
 ArePlainSets P [] = Unit {0}
 ArePlainSets P (s ∷ sets) = IsPlainSet P s × ArePlainSets P sets
 
--- The entry starts no run; and where it makes, fills or empties a file, P holds of it.
+-- The entry starts no run; and where it makes a directory or makes, fills or empties a file, P holds of it.
 abbrev pub MakesOnly : (Entry → Type 0) → Entry → Type 0
+MakesOnly P (entry.MakesDir path mode) = P (entry.MakesDir path mode)
 MakesOnly P (entry.Makes path mode) = P (entry.Makes path mode)
 MakesOnly P (entry.Starts state now rules) = ⊥
 MakesOnly P (entry.Appends path bytes) = P (entry.Appends path bytes)

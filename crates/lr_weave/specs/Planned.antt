@@ -15,14 +15,9 @@ bare_removal r = record { path = r.path; preremove = None; mail = None }
 abbrev pub bare : Ready → Ready
 bare ready = with_removals (map bare_removal ready.leftovers) (map bare_removal ready.retire) ready
 
--- the rotation begins at the log, in a directory that is there
-pub record IsAtLog (t : Target) : Type 0 where
-  pub no_dir : t.ready.dir ≡ None
-  pub log_is : t.ready.log ≡ t.log
-
 -- The rotation of the log is ready, and its copy, where it is copied; and they are what the plan does with it, besides the programs.
 pub record IsReadyFor (t : Target) (log : LogPlan) : Type 0 where
-  pub ready : IsAtLog t
+  pub log_is : t.ready.log ≡ t.log
   pub job : HasJob t
   pub ready_is : bare log.ready ≡ t.ready
   pub job_is : log.job ≡ t.job

@@ -9,8 +9,12 @@ ghost use Rattle.lr_host.specs.declared.entry.Entry.{Entry};
 ghost use Rattle.lr_host.specs.declared.journal.Journal.{Journal};
 ghost use Rattle.lr_host.specs.Quiet.{AreQuiet};
 ghost use Rattle.lr_host.specs.Opening.{IsJournal};
+ghost use Rattle.lr_host.specs.Fits.{IsDirectoryAt};
+ghost use Rattle.lr_host.specs.Lists.{IsIn};
 ghost use Rattle.lr_host.specs.Told.{Left, WhereTold};
+ghost use Rattle.lr_host.specs.World.{world, names};
 ghost use Rattle.lr_plan.specs.declared.mark.Mark.{Mark};
+ghost use Rattle.lr_plan.specs.declared.mark.Mark.TheVariants as mark;
 ghost use Rattle.lr_plan.specs.declared.planned.SetPlan.{SetPlan};
 ghost use Rattle.lr_plan.specs.declared.step.SetSteps.{SetSteps};
 ghost use Rattle.lr_plan.specs.Steps.{steps_of_set};
@@ -64,4 +68,11 @@ pub fn whole_acts_turn_all()
     ensures { (state : Path) (clock : Clock) (rules : Rules) (looks : List Entry) (targets : List Target) (sets : List SetPlan) (marks : List Mark) (ts : List Entry)
         → AreQuiet looks → AreLogsSeen rules clock looks targets → ArePlanned targets (map steps_of_set sets) → SetsDone (map steps_of_set sets) marks [] ts
         → AllTurnedBy state clock rules (looks ++ ts) }
+{}
+
+/// A directory that the marks of the acts tell of stands behind them.
+pub fn marked_directories_stand()
+    ensures { (sets : List SetSteps) (marks : List Mark) (faults : List Fault) (dir : Path) (before now : Option Journal)
+        → IsIn (mark.Directory dir) marks → Left (SetsDone sets marks faults) before now
+        → WhereTold now (λ p. IsDirectoryAt (names (world p)) dir) }
 {}

@@ -138,9 +138,9 @@ pub map_both : (f : Path → Step) (xs ys : List Path) → map f (xs ++ ys) ≡ 
 map_both f [] ys = refl
 map_both f (x ∷ xs) ys = ap (λ zs. f x ∷ zs) (map_both f xs ys)
 
-pub whole_is : (part state dir : Path) (stale : Bool) (dirs : List Path) (text : List ℕ) (w : Target) → record { state = state; stale = stale; dirs = dirs } ≡ w → part ≡ state_part state → dir ≡ parent_of state
-    → part_steps part stale text ++ (map SyncsDir dirs ++ name_steps part state dir) ≡ state_steps w.state w.stale w.dirs text
+pub whole_is : (part state dir : Path) (stale : Bool) (dirs : List Path) (text : List ℕ) (w : Target) → record { state = state; stale = stale } ≡ w → part ≡ state_part state → dir ≡ parent_of state
+    → part_steps part stale text ++ (map SyncsDir dirs ++ name_steps part state dir) ≡ state_steps w.state w.stale dirs text
 whole_is part state dir stale dirs text w v p d =
-    subst (λ (x : Target). part_steps part stale text ++ (map SyncsDir dirs ++ name_steps part state dir) ≡ state_steps x.state x.stale x.dirs text) v
+    subst (λ (x : Target). part_steps part stale text ++ (map SyncsDir dirs ++ name_steps part state dir) ≡ state_steps x.state x.stale dirs text) v
     (subst (λ (q : Path). part_steps q stale text ++ (map SyncsDir dirs ++ name_steps q state dir) ≡ state_steps state stale dirs text) (sym p)
     (subst (λ (e : Path). part_steps (state_part state) stale text ++ (map SyncsDir dirs ++ name_steps (state_part state) state e) ≡ state_steps state stale dirs text) (sym d) (whole_steps state stale dirs text)))

@@ -10,8 +10,8 @@
 //! ```text
 //! let part = part_of(alloc, &state)?;                               // STATE.tmp, which the run looks at
 //! let dirs = directories_of(alloc, &changed)?;                      // of the paths whose names the run changes
-//! let writing = prepare(alloc, &state, part, stale, dirs)?;         // behind the looks, before the first change
-//! write_state(&mut host, writing, &table, &mut faults);             // behind the acts
+//! let writing = prepare(alloc, &state, part, stale)?;               // behind the looks, before the first change
+//! write_state(&mut host, writing, dirs, &table, &mut faults);       // behind the acts
 //! ```
 #![tactic(auto)]
 

@@ -3,18 +3,17 @@ ghost use Rattle.std.specs.Prelude.{◌≡◌, ◌++◌, IfOk, MatchResult, None
 ghost use Rattle.lr_rules.specs.Path.{path_fault, IsRefusal};
 ghost use Rattle.lr_plan.specs.Steps.{state_part};
 
-use lr_rules::{Listed, Memory, Path, PathFault};
+use lr_rules::{Memory, Path, PathFault};
 use std::alloc::{AllocError, Global};
 use std::marker::Model;
 
 /// All that the writing of a state file needs: its paths, and a buffer of 65,536 bytes. Contracts see the path of the
-/// state, whether an old part file was seen, and the directories that are synced before the state gets its name.
+/// state, and whether an old part file was seen.
 #[derive(Drop)]
 pub struct Writing {
     pub(crate) part: Path,
     pub(crate) state: Path,
     pub(crate) dir: Path,
-    pub(crate) dirs: Listed<Path>,
     pub(crate) stale: bool,
     pub(crate) buffer: Vec<u8>,
 }
@@ -27,7 +26,7 @@ impl Model for Writing {
 
     ghost Value = { Target };
 
-    ghost view = { λ w. record { state = w.state; stale = w.stale; dirs = w.dirs } };
+    ghost view = { λ w. record { state = w.state; stale = w.stale } };
 
     ghost invariant = { λ w. (w.part ≡ state_part w.state) × (w.dir ≡ parent_of w.state) × (length w.buffer.items ≡ 65_536) };
 }
@@ -52,16 +51,10 @@ pub fn part_of(alloc: Global, state: &Path) -> Result<Path, PathFault>
 }
 
 /// Takes all the memory that the writing needs. `part` is the path that `part_of` gave for the state; `stale` tells
-/// whether a file was seen there; `dirs` are the directories whose names are to be durable before the state gets its own.
-pub fn prepare(
-    alloc: Global,
-    state: &Path,
-    part: Path,
-    stale: bool,
-    dirs: Listed<Path>,
-) -> Result<Writing, Memory>
+/// whether a file was seen there.
+pub fn prepare(alloc: Global, state: &Path, part: Path, stale: bool) -> Result<Writing, Memory>
     requires part { part ≡ state_part state.now }
-    ensures { IfOk result (λ writing. writing ≡ record { state = state.now; stale = stale; dirs = dirs }) }
+    ensures { IfOk result (λ writing. writing ≡ record { state = state.now; stale = stale }) }
 {
     let dir = state.parent(alloc)?;
     let state = state.copy(alloc)?;
@@ -70,7 +63,6 @@ pub fn prepare(
         part,
         state,
         dir,
-        dirs,
         stale,
         buffer,
     })

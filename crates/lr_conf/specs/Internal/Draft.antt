@@ -8,7 +8,6 @@ use Rattle.lr_rules.specs.declared.fault.Notice.{Notice}
 use Rattle.lr_rules.specs.declared.fault.Phase.{Phase}
 use Rattle.lr_rules.specs.declared.rule.Rule.{Rule}
 use Rattle.lr_fields.specs.declared.fields.Fields.{Fields}
-use Rattle.lr_forms.specs.declared.built.Built.{Built}
 use Rattle.lr_forms.specs.declared.set.Set.TheVariants as set
 use Rattle.lr_forms.specs.declared.said.Said.{Said}
 use Rattle.lr_forms.specs.declared.said.Said.TheVariants as says
@@ -81,26 +80,26 @@ abbrev pub scripted : State → Phase → List ℕ → Option ConfKind → State
 scripted s p text None = record s { fields = with_set s.fields (set.Script p text); scripts = s.scripts ++ p ∷ [] }
 scripted s p text (Some k) = record s { place = Dropped }
 
-abbrev pub with_said : Built → State → Said → State
-with_said b s (says.Sets v) = record s { fields = with_set s.fields v }
-with_said b s (says.OwnerPassed v) = record s { fields = with_set s.fields v }
-with_said b s (says.Script p text stray) = scripted s p text (script_fault b s.scripts p stray)
-with_said b s (says.Bad k) = record s { place = Dropped }
-with_said b s v = s
+abbrev pub with_said : State → Said → State
+with_said s (says.Sets v) = record s { fields = with_set s.fields v }
+with_said s (says.OwnerPassed v) = record s { fields = with_set s.fields v }
+with_said s (says.Script p text stray) = scripted s p text (script_fault s.scripts p stray)
+with_said s (says.Bad k) = record s { place = Dropped }
+with_said s v = s
 
-abbrev pub good : Built → State → Line → State
-good b s (Read file i) = if closes i then record s { place = Outside; words = []; first = None; fields = default_fields } else with_said b s (said b true i)
-good b s (Spoiled f) = record s { place = Dropped }
-good b s (End file) = left s
-good b s Cut = left s
+abbrev pub good : State → Line → State
+good s (Read file i) = if closes i then record s { place = Outside; words = []; first = None; fields = default_fields } else with_said s (said true i)
+good s (Spoiled f) = record s { place = Dropped }
+good s (End file) = left s
+good s Cut = left s
 
 abbrev pub dropped : State → Line → State
 dropped s e = if ends e then left s else s
 
-abbrev pub step : Built → Place → State → Line → State
-step b Outside s e = outside s (past b e)
-step b Good s e = good b s e
-step b Dropped s e = dropped s e
+abbrev pub step : Place → State → Line → State
+step Outside s e = outside s (past e)
+step Good s e = good s e
+step Dropped s e = dropped s e
 
 -- ---- what a line gives
 
@@ -110,26 +109,26 @@ said_inside file at v = record { rules = []; notices = list_of (notice_of file a
 abbrev pub first_of : State → ℕ
 first_of s = or_line s.first 0
 
-abbrev pub gives_good : Built → State → Line → Meaning
-gives_good b s (Read file i) =
+abbrev pub gives_good : State → Line → Meaning
+gives_good s (Read file i) =
     if closes i then record { rules = rule_of file (first_of s) s.words s.fields ∷ []; notices = []; faults = [] }
-    else said_inside file (line_of i) (said_behind b s.scripts (said b true i))
-gives_good b s (Spoiled f) = told (f ∷ [])
-gives_good b s (End file) = told (conf file kind.NoBrace (first_of s) ∷ [])
-gives_good b s Cut = nothing
+    else said_inside file (line_of i) (said_behind s.scripts (said true i))
+gives_good s (Spoiled f) = told (f ∷ [])
+gives_good s (End file) = told (conf file kind.NoBrace (first_of s) ∷ [])
+gives_good s Cut = nothing
 
-abbrev pub gives_outside : Built → State → Line → Meaning
-gives_outside b s e = of_line (file_of e) s.first (past b e)
+abbrev pub gives_outside : State → Line → Meaning
+gives_outside s e = of_line (file_of e) s.first (past e)
 
-abbrev pub gives : Built → Place → State → Line → Meaning
-gives b Outside s e = gives_outside b s e
-gives b Good s e = gives_good b s e
-gives b Dropped s e = of_spoilt (e ∷ [])
+abbrev pub gives : Place → State → Line → Meaning
+gives Outside s e = gives_outside s e
+gives Good s e = gives_good s e
+gives Dropped s e = of_spoilt (e ∷ [])
 
 -- what lines give from a state on
-abbrev pub run : Built → State → List Line → Meaning
-run b s [] = nothing
-run b s (e ∷ es) = gives b s.place s e and run b (step b s.place s e) es
+abbrev pub run : State → List Line → Meaning
+run s [] = nothing
+run s (e ∷ es) = gives s.place s e and run (step s.place s e) es
 
 -- ---- other files
 
@@ -139,13 +138,13 @@ is_inside Outside = false
 is_inside p = true
 
 -- the file that a line asks for, and what it makes taboo
-abbrev pub asks_at : Built → Place → Line → Option Include
-asks_at b Outside e = asks (past b e)
-asks_at b p e = None
+abbrev pub asks_at : Place → Line → Option Include
+asks_at Outside e = asks (past e)
+asks_at p e = None
 
-abbrev pub bans_at : Built → Place → Line → Option (Bool × TabooItems)
-bans_at b Outside e = bans (past b e)
-bans_at b p e = None
+abbrev pub bans_at : Place → Line → Option (Bool × TabooItems)
+bans_at Outside e = bans (past e)
+bans_at p e = None
 
 -- ---- drafts
 
@@ -158,32 +157,30 @@ state_of k = record { place = k.place; defaults = k.defaults; words = k.words.it
 
 -- what is kept, and what lines give from then on
 abbrev pub coming_from : Draft → List Line → Meaning
-coming_from k lines = kept k.rules.items k.notices.items and run k.built (state_of k) lines
+coming_from k lines = kept k.rules.items k.notices.items and run (state_of k) lines
 
 -- the files that lines ask for from then on
 abbrev pub asking_from : Draft → List Line → List Include
-asking_from k lines = asked k.built (is_inside k.place) lines
+asking_from k lines = asked (is_inside k.place) lines
 
 -- the taboo list behind lines from then on
 abbrev pub banning_from : Draft → List Line → Taboo
-banning_from k lines = banned k.built (is_inside k.place) k.taboo lines
+banning_from k lines = banned (is_inside k.place) k.taboo lines
 
 -- all but the state is the same, rules and notices aside
 pub record SameTable (old : Draft) (new : Draft) : Type 0 where
   pub files : new.files ≡ old.files
-  pub built : new.built ≡ old.built
   pub taboo : new.taboo ≡ old.taboo
 
 -- one line was taken in
 pub record Stepped (old : Draft) (new : Draft) (e : Line) (faults : List Fault) (includes : List Include) : Type 0 where
-  pub state : state_of new ≡ step old.built old.place (state_of old) e
-  pub rules : new.rules.items ≡ old.rules.items ++ (gives old.built old.place (state_of old) e).rules
-  pub notices : new.notices.items ≡ old.notices.items ++ (gives old.built old.place (state_of old) e).notices
-  pub faults_are : (gives old.built old.place (state_of old) e).faults ≡ faults
+  pub state : state_of new ≡ step old.place (state_of old) e
+  pub rules : new.rules.items ≡ old.rules.items ++ (gives old.place (state_of old) e).rules
+  pub notices : new.notices.items ≡ old.notices.items ++ (gives old.place (state_of old) e).notices
+  pub faults_are : (gives old.place (state_of old) e).faults ≡ faults
   pub files : new.files ≡ old.files
-  pub built : new.built ≡ old.built
-  pub includes_are : list_of (asks_at old.built old.place e) ≡ includes
-  pub taboo : new.taboo ≡ after_bans old.taboo (list_of (bans_at old.built old.place e))
+  pub includes_are : list_of (asks_at old.place e) ≡ includes
+  pub taboo : new.taboo ≡ after_bans old.taboo (list_of (bans_at old.place e))
 
 -- nothing was taken in
 pub record Unchanged (old : Draft) (new : Draft) : Type 0 where
@@ -252,7 +249,6 @@ pub record Banned (old : Draft) (new : Draft) (patterns : Bool) (items : TabooIt
   pub rules : new.rules.items ≡ old.rules.items
   pub notices : new.notices.items ≡ old.notices.items
   pub files : new.files ≡ old.files
-  pub built : new.built ≡ old.built
   pub taboo : new.taboo ≡ taboo_after old.taboo items.items patterns items.adding
 
 abbrev pub answer_of : Option ℕ → ℕ → Option ConfKind → Result (Option Include) LayerStop
@@ -278,7 +274,6 @@ pub record Spoke (old : Draft) (new : Draft) (file : Path) (p : Past) (faults : 
   pub notices : new.notices.items ≡ old.notices.items ++ list_of (notice_past file p)
   pub faults_are : line_faults file old.first p ≡ faults
   pub files : new.files ≡ old.files
-  pub built : new.built ≡ old.built
   pub includes_are : list_of (asks p) ≡ includes
   pub taboo : new.taboo ≡ after_bans old.taboo (list_of (bans p))
 
@@ -313,10 +308,10 @@ Closes old new file (Err fault) = ⊥
 
 -- a line in a definition that doesn't end it was taken in
 pub record SaidInside (old : Draft) (new : Draft) (file : Path) (at : ℕ) (v : Said) (faults : List Fault) : Type 0 where
-  pub state : state_of new ≡ with_said old.built (state_of old) v
+  pub state : state_of new ≡ with_said (state_of old) v
   pub rules : new.rules.items ≡ old.rules.items
-  pub notices : new.notices.items ≡ old.notices.items ++ list_of (notice_of file at (said_behind old.built old.scripts.items v))
-  pub faults_are : list_of (fault_of file at (said_behind old.built old.scripts.items v)) ≡ faults
+  pub notices : new.notices.items ≡ old.notices.items ++ list_of (notice_of file at (said_behind old.scripts.items v))
+  pub faults_are : list_of (fault_of file at (said_behind old.scripts.items v)) ≡ faults
   pub table : SameTable old new
 
 abbrev pub SaysInside : Draft → Draft → Path → ℕ → Said → Result (Option Include) LayerStop → Type 0

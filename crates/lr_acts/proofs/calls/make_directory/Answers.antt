@@ -1,8 +1,8 @@
-use Rattle.std.proofs.Common.{refl, inl, ◌≢◌}
+use Rattle.std.proofs.Common.{refl, inl, ◌≢◌, ap, Ok}
 use Rattle.lr_host.specs.declared.thing.Kind.TheVariants as kind
 use Rattle.lr_host.proofs.Left.{left_as}
 use Rattle.lr_plan.specs.Outcomes.{at_make}
-use Rattle.lr_acts.proofs.Dirs.{look_failed, is_none, is_one, nothing, no_dir_kind, dir_kind}
+use Rattle.lr_acts.proofs.Dirs.{look_failed, is_none, is_one, none_seen, no_dir_kind, dir_kind}
 use Rattle.lr_acts.proofs.calls.make_directory.Goals as goal
 
 pub returns-in_default-clause-told : goal.returns-in_default-clause-told
@@ -15,7 +15,7 @@ pub returns-in_default-look-clause-told : goal.returns-in_default-look-clause-to
 returns-in_default-look-clause-told g c = look_failed c.args.path c.args.mode (rw c.if-made.false at c.in-Ok.ensures.told) c.in_default-look.ensures.told
 
 pub returns-in_default-look-2-clause-told : goal.returns-in_default-look-2-clause-told
-returns-in_default-look-2-clause-told g c = is_none c.args.path c.args.mode c.in-Ok-look.look (nothing c.in-Ok-look.look c.in_default-look-2.is) (rw c.if-made.false at c.in-Ok.ensures.told) c.in-Ok-look.ensures.told
+returns-in_default-look-2-clause-told g c = none_seen c.args.path c.in-Ok-look.look c.in_default-look-2.is (c.in-Ok.ensures.named (ap Ok c.if-made.false)) (rw c.if-made.false at c.in-Ok.ensures.told) c.in-Ok-look.ensures.told
 
 pub returns-in-Dir-clause-told : goal.returns-in-Dir-clause-told
 returns-in-Dir-clause-told g c = is_one c.args.path c.args.mode c.in-Ok-look.look (dir_kind c.in-Ok-look.look c.in-Some.seen c.in-Some.is c.in-Dir.is) (rw c.if-made.false at c.in-Ok.ensures.told) c.in-Ok-look.ensures.told

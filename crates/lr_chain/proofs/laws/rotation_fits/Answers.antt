@@ -10,7 +10,7 @@ use Rattle.lr_chain.proofs.Going.{going_are}
 use Rattle.lr_family.proofs.Numbers.{every_all}
 
 pub returns : goal.returns
-returns c = λ names s.
+returns c = λ names dir s.
     fitting.rotation_fits c.args.family.now.log c.args.family.now.naming c.args.family.now.kin c.requires.numbered
     (subst (λ (m : Naming). path_fault m.dir ≡ None) c.naming.ensures c.bytes-dir.ensures.path)
     names c.args.count (places_of c.args.stand.now.members) (going c.args.count c.args.maxage c.args.now c.args.stand.now.members) (top_number c.args.family.now.naming c.args.count c.requires.start c.requires.count)
@@ -20,4 +20,4 @@ returns c = λ names s.
     (have_next c.args.family.now.naming c.args.count c.args.stand.now.members c.requires.start c.requires.count c.requires.named
     (none_too_high c.args.family.now.naming c.args.stand.now c.args.count c.requires.there c.requires.named c.requires.low)))
     (going_are c.args.count c.args.maxage c.args.now c.args.stand.now.members s.falling)
-    s
+    dir s

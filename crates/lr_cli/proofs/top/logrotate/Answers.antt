@@ -80,10 +80,10 @@ pub returns-clause-reached : goal.returns-clause-reached
 returns-clause-reached g c = λ request report asks dry done. let s = returns-clause-told g c in left_tells c.args.here.now c.args.words.now request c.args.zone.now c.args.now s.plan _ report asks dry done s.shown
 
 pub returns-clause-rotated : goal.returns-clause-rotated
-returns-clause-rotated g c = λ request report before after asks dry done all told_before told_after journal. let s = returns-clause-told g c in answered_rotated c.args.here.now c.args.words.now request c.args.zone.now c.args.now s.plan _ report _ _ before after asks dry s.shown done all told_before told_after journal
+returns-clause-rotated g c = λ request report before after asks dry done all told_before told_after journal makes. let s = returns-clause-told g c in answered_rotated c.args.here.now c.args.words.now request c.args.zone.now c.args.now s.plan _ report _ _ before after asks dry s.shown done all told_before told_after journal makes
 
 pub returns-clause-fulfilled : goal.returns-clause-fulfilled
-returns-clause-fulfilled g c = λ request report before after asks dry done none told_before told_after journal. let s = returns-clause-told g c in answered_fulfilled c.args.here.now c.args.words.now request c.args.zone.now c.args.now s.plan _ report _ _ before after asks dry s.shown done none told_before told_after journal
+returns-clause-fulfilled g c = λ request report before after asks dry done none told_before told_after journal makes. let s = returns-clause-told g c in answered_fulfilled c.args.here.now c.args.words.now request c.args.zone.now c.args.now s.plan _ report _ _ before after asks dry s.shown done none told_before told_after journal makes
 
 pub returns-clause-clock : goal.returns-clause-clock
 returns-clause-clock g c = λ report done. has_clocked c.args.zone.now _ c.args.now c.run_at-run.result _ report (own_seconds c.args.now c.ranges.now.sfits) c.finish.ensures.answer done c.run_at-run.ensures.clock

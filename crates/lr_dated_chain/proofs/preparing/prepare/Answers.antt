@@ -6,7 +6,7 @@ use Rattle.lr_dated_chain.proofs.Stops.{passed, none_passed, high_there, taken_t
 use Rattle.lr_dated_chain.proofs.preparing.prepare.Goals as goal
 
 pub returns-in-Ok-ready_of-clause-fits : goal.returns-in-Ok-ready_of-clause-fits
-returns-in-Ok-ready_of-clause-fits c = λ serial m st. fits c.args.family.now.naming c.args.count c.args.family.now.log c.in-Ok-ready_of.ready.target _ m c.requires.format st
+returns-in-Ok-ready_of-clause-fits c = λ serial m dir st. fits c.args.family.now.naming c.args.count c.args.family.now.log c.in-Ok-ready_of.ready.target _ m c.requires.format dir st
 
 pub returns-in-Ok-ready_of-clause-turns : goal.returns-in-Ok-ready_of-clause-turns
 returns-in-Ok-ready_of-clause-turns c = λ serial m st. turns c.args.family.now.naming c.args.count c.args.family.now.log c.in-Ok-ready_of.ready.target _ m c.requires.format st

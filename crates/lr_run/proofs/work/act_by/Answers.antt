@@ -16,7 +16,7 @@ carry_out-requires-clause-fits g c =
 pub carry_out-requires-clause-fits_state : goal.carry_out-requires-clause-fits_state
 carry_out-requires-clause-fits_state g c =
     let r = ready_of c.args.settings.now.state c.args.clock.now c.args.remembered _ _ c.in_ok-plan.plan _ c.in_ok-ready.field-0 c.in-Some.ready c.args.progress.now c.make_ready.new.progress c.as_slice-kept.ensures c.in_ok-plan.ensures c.in-Some.is c.in_ok-ready.ensures in
-    λ later text l. fits_behind_acts c.args.settings.now.state c.args.rules.now c.args.looks.now c.args.remembered c.args.clock.now (asking c.args.settings.now.force c.args.settings.now.mailer) c.in-Some.ready c.args.progress.now c.make_ready.new.progress text _ later r c.requires.seen l
+    fits_behind_acts c.args.settings.now.state c.args.rules.now c.args.looks.now c.args.remembered c.args.clock.now (asking c.args.settings.now.force c.args.settings.now.mailer) c.in-Some.ready c.args.progress.now c.make_ready.new.progress _ r c.requires.seen
 
 pub returns-in-Some-clause-told : goal.returns-in-Some-clause-told
 returns-in-Some-clause-told g c =

@@ -13,30 +13,30 @@ pub write_part-requires-clause-fits : goal.write_part-requires-clause-fits
 write_part-requires-clause-fits g c =
     let w = c.writing.inside in
     let text = text_of c.args.table.now in
-    let all = whole_is w.part w.state w.dir w.stale w.dirs text c.args.writing c.writing.view_is c.writing.invariant.0 c.writing.invariant.1 in
-    fits_first (g.H.Host.told c.args.host.now) (part_steps w.part w.stale text) (map step.SyncsDir w.dirs ++ name_steps w.part w.state w.dir) (subst (CanMake (g.H.Host.told c.args.host.now)) (sym all) c.requires)
+    let all = whole_is w.part w.state w.dir w.stale c.args.dirs text c.args.writing c.writing.view_is c.writing.invariant.0 c.writing.invariant.1 in
+    fits_first (g.H.Host.told c.args.host.now) (part_steps w.part w.stale text) (map step.SyncsDir c.args.dirs ++ name_steps w.part w.state w.dir) (subst (CanMake (g.H.Host.told c.args.host.now)) (sym all) c.requires)
 
 pub returns-in-Err : goal.returns-in-Err
 returns-in-Err g c =
     let w = c.writing.inside in
     let text = text_of c.args.table.now in
-    let all = whole_is w.part w.state w.dir w.stale w.dirs text c.args.writing c.writing.view_is c.writing.invariant.0 c.writing.invariant.1 in
-    subst (λ (f : Fault). ComesTo (state_steps c.args.writing.state c.args.writing.stale c.args.writing.dirs text) (f ∷ []) (g.H.Host.told c.args.host.now) (g.H.Host.told c.write_part.new.host) (g.H.Host.counts c.args.host.now) (g.H.Host.counts c.write_part.new.host)) (sym c.fault_at.ensures)
+    let all = whole_is w.part w.state w.dir w.stale c.args.dirs text c.args.writing c.writing.view_is c.writing.invariant.0 c.writing.invariant.1 in
+    subst (λ (f : Fault). ComesTo (state_steps c.args.writing.state c.args.writing.stale c.args.dirs text) (f ∷ []) (g.H.Host.told c.args.host.now) (g.H.Host.told c.write_part.new.host) (g.H.Host.counts c.args.host.now) (g.H.Host.counts c.write_part.new.host)) (sym c.fault_at.ensures)
     (subst (λ (ss : List Step). ComesTo ss (fault_of w.part c.in-Err.why ∷ []) (g.H.Host.told c.args.host.now) (g.H.Host.told c.write_part.new.host) (g.H.Host.counts c.args.host.now) (g.H.Host.counts c.write_part.new.host)) all
-    (comes_short (part_steps w.part w.stale text) (map step.SyncsDir w.dirs ++ name_steps w.part w.state w.dir) (fault_of w.part c.in-Err.why) c.in-Err.ensures))
+    (comes_short (part_steps w.part w.stale text) (map step.SyncsDir c.args.dirs ++ name_steps w.part w.state w.dir) (fault_of w.part c.in-Err.why) c.in-Err.ensures))
 
 pub name_synced-requires : goal.name_synced-requires
 name_synced-requires g c =
     let w = c.writing.inside in
     let text = text_of c.args.table.now in
-    let all = whole_is w.part w.state w.dir w.stale w.dirs text c.args.writing c.writing.view_is c.writing.invariant.0 c.writing.invariant.1 in
-    c.in_default.ensures.next refl (map step.SyncsDir w.dirs ++ name_steps w.part w.state w.dir) (subst (CanMake (g.H.Host.told c.args.host.now)) (sym all) c.requires)
+    let all = whole_is w.part w.state w.dir w.stale c.args.dirs text c.args.writing c.writing.view_is c.writing.invariant.0 c.writing.invariant.1 in
+    c.in_default.ensures.next refl (map step.SyncsDir c.args.dirs ++ name_steps w.part w.state w.dir) (subst (CanMake (g.H.Host.told c.args.host.now)) (sym all) c.requires)
 
 pub returns : goal.returns
 returns g c =
     let w = c.writing.inside in
     let text = text_of c.args.table.now in
-    let all = whole_is w.part w.state w.dir w.stale w.dirs text c.args.writing c.writing.view_is c.writing.invariant.0 c.writing.invariant.1 in
+    let all = whole_is w.part w.state w.dir w.stale c.args.dirs text c.args.writing c.writing.view_is c.writing.invariant.0 c.writing.invariant.1 in
     let fs = faults_in c.name_synced.result in
     subst (λ (ss : List Step). ComesTo ss fs (g.H.Host.told c.args.host.now) (g.H.Host.told c.name_synced.new.host) (g.H.Host.counts c.args.host.now) (g.H.Host.counts c.name_synced.new.host)) all
-    (comes_on (part_steps w.part w.stale text) (map step.SyncsDir w.dirs ++ name_steps w.part w.state w.dir) fs c.in_default.ensures c.name_synced.ensures)
+    (comes_on (part_steps w.part w.stale text) (map step.SyncsDir c.args.dirs ++ name_steps w.part w.state w.dir) fs c.in_default.ensures c.name_synced.ensures)

@@ -2,4 +2,4 @@ use Rattle.lr_conf.proofs.Limits.{from_new}
 use Rattle.lr_conf.proofs.layer.Layer.new.Goals as goal
 
 pub invariant_of-result : goal.invariant_of-result
-invariant_of-result c = record { limits = from_new c.in_ok-new.field-0 c.args.built c.in_ok-new.ensures.means }
+invariant_of-result c = record { limits = from_new c.in_ok-new.field-0 c.in_ok-new.ensures.means }

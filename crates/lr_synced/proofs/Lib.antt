@@ -1,0 +1,4 @@
+pub mod Kept
+pub mod Laws
+mod Striking
+pub mod Telling
