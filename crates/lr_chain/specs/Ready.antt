@@ -1,5 +1,5 @@
 -- What makes a rotation ready, what keeps it from being prepared, and the steps of a ready one.
-use Rattle.std.specs.Prelude.{◌≡◌, ◌≤◌, ◌+◌, ◌==◌, ℕ, Bool, true, false, List, [], ◌∷◌, ◌++◌, map, All, Any, Option, None}
+use Rattle.std.specs.Prelude.{◌≡◌, ◌≤◌, ◌+◌, ◌==◌, ◌⊎◌, ℕ, Bool, true, false, List, [], ◌∷◌, ◌++◌, map, All, Any, Option, Some, None}
 use Rattle.std.specs.List.{flat_map, list_any}
 use Rattle.lr_rules.specs.declared.path.Path.{Path}
 use Rattle.lr_rules.specs.declared.rule.Count.{Count}
@@ -8,7 +8,9 @@ use Rattle.lr_rules.specs.declared.rule.Make.{Make}
 use Rattle.lr_rules.specs.declared.rule.Naming.{Naming}
 use Rattle.lr_rules.specs.Path.{joined}
 use Rattle.lr_host.specs.declared.entry.Entry.{Entry}
-use Rattle.lr_host.specs.declared.entry.Entry.TheVariants.{Renames}
+use Rattle.lr_host.specs.declared.entry.Entry.TheVariants.{Renames, MakesDir}
+use Rattle.lr_host.specs.Looks.{Sees, IsDir}
+use Rattle.lr_host.specs.Told.{Then}
 use Rattle.lr_family.specs.declared.stand.Member.{Member}
 use Rattle.lr_family.specs.declared.stand.Stand.{Stand}
 use Rattle.lr_family.specs.Named.{member_name}
@@ -110,3 +112,19 @@ turn_of ready = shift_of ready ++ Renames ready.log ready.target ∷ []
 
 abbrev pub removals_of : List Removal → List Entry
 removals_of list = flat_map steps_of_removal list
+
+-- ---- the directory of a ready rotation, where one is to be made
+
+-- the call that makes it, as it is asked for
+abbrev pub dir_calls : Option (Path × Option ℕ) → List Entry
+dir_calls None = []
+dir_calls (Some (dir, mode)) = MakesDir dir mode ∷ []
+
+-- It was made, or it was there: then a look saw it.
+abbrev pub DirMade : Path → Option ℕ → List Entry → Type 0
+DirMade dir mode ts = (ts ≡ MakesDir dir mode ∷ []) ⊎ Sees dir IsDir ts
+
+-- entries of this kind, behind those of the directory
+abbrev pub BehindDir : Option (Path × Option ℕ) → (List Entry → Type 0) → List Entry → Type 0
+BehindDir None P = P
+BehindDir (Some (dir, mode)) P = Then (DirMade dir mode) P

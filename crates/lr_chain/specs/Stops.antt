@@ -1,9 +1,10 @@
 -- Where a rotation breaks off, and why.
-use Rattle.std.specs.Prelude.{◌≡◌, ◌⊎◌, ℕ, List, [], ◌∷◌, ◌++◌, length}
+use Rattle.std.specs.Prelude.{◌≡◌, ◌⊎◌, ℕ, List, [], ◌∷◌, ◌++◌, length, Option, Some, None}
 use Rattle.lr_rules.specs.declared.path.Path.{Path}
 use Rattle.lr_rules.specs.declared.fault.CallKind.TheVariants as call
 use Rattle.lr_host.specs.declared.entry.Entry.{Entry}
-use Rattle.lr_host.specs.declared.entry.Entry.TheVariants.{Renames}
+use Rattle.lr_host.specs.declared.entry.Entry.TheVariants.{Renames, MakesDir}
+use Rattle.lr_host.specs.Looks.{Sees, IsNoDir}
 use Rattle.lr_host.specs.Told.{Counts, Rose, Then, Are}
 use Rattle.lr_host.specs.Lists.{IsIn}
 use Rattle.lr_scripts.specs.declared.command.Bad.{Bad}
@@ -11,7 +12,7 @@ use Rattle.lr_scripts.specs.declared.removal.Removal.{Removal}
 use Rattle.lr_scripts.specs.Removals.{RemovalRefused, RemovalCause}
 use Rattle.lr_chain.specs.declared.chain.ChainStop.{ChainStop}
 use Rattle.lr_chain.specs.declared.chain.ChainStop.TheVariants as stop
-use Rattle.lr_chain.specs.Ready.{removals_of}
+use Rattle.lr_chain.specs.Ready.{BehindDir, removals_of}
 
 -- The steps before the refused one were made, and that one was refused: its entry stands or not.
 pub record StopsAt (steps : List Entry) (refused : Entry) (ts : List Entry) : Type 0 where
@@ -25,18 +26,36 @@ pub record StopsFrom (steps : List Entry) (from : Path) (ts : List Entry) : Type
   pub to : Path
   pub stops : StopsAt steps (Renames from to) ts
 
-abbrev pub ChainStopped : List Entry → ChainStop → List Entry → Type 0
-ChainStopped steps (stop.Call call.Rename path) ts = StopsFrom steps path.now ts
-ChainStopped steps _ ts = ⊥
+-- The directory couldn't be made, or a look saw something else that has its path.
+abbrev pub DirRefused : Option (Path × Option ℕ) → ChainStop → List Entry → Type 0
+DirRefused (Some (dir, mode)) (stop.Call call.MakeDir path) ts = (path.now ≡ dir) × ((ts ≡ []) ⊎ (ts ≡ MakesDir dir mode ∷ []))
+DirRefused (Some (dir, mode)) (stop.Call call.Look path) ts = (path.now ≡ dir) × (ts ≡ [])
+DirRefused (Some (dir, mode)) (stop.NotFile path) ts = (path.now ≡ dir) × Sees dir IsNoDir ts
+DirRefused _ _ ts = ⊥
+
+-- One of the steps was refused, behind the directory; or that was.
+abbrev pub ChainStopped : Option (Path × Option ℕ) → List Entry → ChainStop → List Entry → Type 0
+ChainStopped dir steps (stop.Call call.Rename path) ts = BehindDir dir (StopsFrom steps path.now) ts
+ChainStopped dir steps why ts = DirRefused dir why ts
 
 -- one of the steps is a rename from this path
 abbrev pub IsFrom : List Entry → Path → Type 0
 IsFrom steps path = (to : Path) × IsIn (Renames path to) steps
 
--- A rename failed, and faults rose; it is one of the steps.
-abbrev pub ChainCause : List Entry → ChainStop → Counts → Counts → Type 0
-ChainCause steps (stop.Call kind path) before now = (kind ≡ call.Rename) × IsFrom steps path.now × Rose before.faults now.faults
-ChainCause steps (stop.NotFile path) before now = ⊥
+-- the path is that of the directory
+abbrev pub IsOfDir : Option (Path × Option ℕ) → Path → Type 0
+IsOfDir None path = ⊥
+IsOfDir (Some (dir, mode)) path = path ≡ dir
+
+-- The making of the directory failed, or the look at it, and faults rose; or something else has its path.
+abbrev pub DirCause : Option (Path × Option ℕ) → ChainStop → Counts → Counts → Type 0
+DirCause dir (stop.Call kind path) before now = ((kind ≡ call.MakeDir) ⊎ (kind ≡ call.Look)) × IsOfDir dir path.now × Rose before.faults now.faults
+DirCause dir (stop.NotFile path) before now = IsOfDir dir path.now
+
+-- A rename failed, and faults rose; it is one of the steps. Or the directory has the cause.
+abbrev pub ChainCause : Option (Path × Option ℕ) → List Entry → ChainStop → Counts → Counts → Type 0
+ChainCause dir steps (stop.Call call.Rename path) before now = IsFrom steps path.now × Rose before.faults now.faults
+ChainCause dir steps why before now = DirCause dir why before now
 
 -- The removal at this place of the list was refused: the removals before it were made, and it left what it left.
 pub record RetireStopped (list : List Removal) (place : ℕ) (why : Bad) (ts : List Entry) : Type 0 where

@@ -1,21 +1,65 @@
-// The renames of one rotation.
-ghost use Rattle.std.specs.Prelude.{◌≡◌, None, OnOk, OnErr, IfErr};
+// The renames of one rotation, and the directory before them.
+ghost use Rattle.std.specs.Prelude.{◌≡◌, ◌++◌, Some, None, OnOk, OnErr, IfErr};
+ghost use Rattle.lr_host.specs.declared.entry.Entry.TheVariants as entry;
+ghost use Rattle.lr_host.specs.Looks.{is_dir};
 ghost use Rattle.lr_host.specs.Told.{Left, Are, Did, Can, Onward, Rose};
 ghost use Rattle.lr_host.specs.Steps.{CanAll};
-ghost use Rattle.lr_chain.specs.Ready.{move_step, shift_of, turn_of};
-ghost use Rattle.lr_chain.specs.Stops.{ChainStopped, ChainCause};
+ghost use Rattle.lr_chain.specs.Ready.{move_step, shift_of, turn_of, dir_calls, DirMade, BehindDir};
+ghost use Rattle.lr_chain.specs.Stops.{DirRefused, DirCause, ChainStopped, ChainCause};
 
 use crate::ready::{Move, Ready};
-use lr_host::{CallFault, Host};
+use lr_host::{CallFault, Host, Kind, Seen};
 use lr_rules::{CallKind, Path};
 
-/// Why the renames of a rotation broke off.
+/// Why a rotation broke off, its removals aside.
 #[derive(Clone, Copy)]
 pub enum ChainStop<'a> {
-    /// The call failed; the path is the one that it would take the name from.
+    /// The call failed. The path is the directory's, or of a rename the one that it would take the name from.
     Call(CallKind, &'a Path),
-    /// Another kind of thing has the path. It doesn't come, since no directory is made here.
+    /// Another kind of thing has the path of the directory.
     NotFile(&'a Path),
+}
+
+fn shows_dir(look: Option<Seen>) -> bool
+    ensures { result ≡ is_dir look }
+{
+    match look {
+        Some(seen) => match seen.kind {
+            Kind::Dir => true,
+            Kind::File => false,
+            Kind::Other => false,
+        },
+        None => false,
+    }
+}
+
+// Makes the directory; where something has the path, that has to be one. Links are followed.
+fn make_directory<'a, H: Host>(
+    host: &mut H,
+    dir: &'a Path,
+    mode: Option<u32>,
+) -> Result<(), ChainStop<'a>>
+    requires { Can (H.told host.old) (entry.MakesDir dir.now mode) }
+    ensures told { OnOk result (Left (DirMade dir.now mode) (H.told host.old) (H.told host.new)) }
+    ensures refused { IfErr result (λ stop. Left (DirRefused (Some (dir.now, mode)) stop) (H.told host.old) (H.told host.new)) }
+    ensures cause { IfErr result (λ stop. DirCause (Some (dir.now, mode)) stop (H.counts host.old) (H.counts host.new)) }
+    ensures counts { Onward (H.counts host.old) (H.counts host.new) }
+{
+    let Ok(made) = host.make_dir(dir, mode) else {
+        return Err(ChainStop::Call(CallKind::MakeDir, dir));
+    };
+    if made {
+        return Ok(());
+    }
+    let Ok(look) = host.look(dir, true) else {
+        return Err(ChainStop::Call(CallKind::Look, dir));
+    };
+    // What had the path when the make found it named is still there, so a look that saw nothing doesn't come.
+    if shows_dir(look) {
+        Ok(())
+    } else {
+        Err(ChainStop::NotFile(dir))
+    }
 }
 
 fn move_one<H: Host>(host: &mut H, step: &Move) -> Result<(), CallFault>
@@ -27,14 +71,12 @@ fn move_one<H: Host>(host: &mut H, step: &Move) -> Result<(), CallFault>
     host.rename(&step.from, &step.to)
 }
 
-/// Makes the moves of the members, in order: of what `prepare` gave, each goes one place on, the highest place first. It
-/// takes no memory.
-pub fn shift<'a, H: Host>(host: &mut H, ready: &'a Ready) -> Result<(), ChainStop<'a>>
-    requires no_dir { ready.now.dir ≡ None }
-    requires fits { CanAll (H.told host.old) (shift_of ready.now) }
+// Makes the moves of the members alone.
+fn move_members<'a, H: Host>(host: &mut H, ready: &'a Ready) -> Result<(), ChainStop<'a>>
+    requires { CanAll (H.told host.old) (shift_of ready.now) }
     ensures told { OnOk result (Left (Are (shift_of ready.now)) (H.told host.old) (H.told host.new)) }
-    ensures refused { IfErr result (λ stop. Left (ChainStopped (shift_of ready.now) stop) (H.told host.old) (H.told host.new)) }
-    ensures cause { IfErr result (λ stop. ChainCause (shift_of ready.now) stop (H.counts host.old) (H.counts host.new)) }
+    ensures refused { IfErr result (λ stop. Left (ChainStopped None (shift_of ready.now) stop) (H.told host.old) (H.told host.new)) }
+    ensures cause { IfErr result (λ stop. ChainCause None (shift_of ready.now) stop (H.counts host.old) (H.counts host.new)) }
     ensures counts { Onward (H.counts host.old) (H.counts host.new) }
 {
     let moves = ready.moves.as_slice();
@@ -47,13 +89,31 @@ pub fn shift<'a, H: Host>(host: &mut H, ready: &'a Ready) -> Result<(), ChainSto
     Ok(())
 }
 
-/// Moves the members, and then the log to its target. It takes no memory.
+/// Makes the directory, where one is to be made, and then the moves of the members, in order: of what `prepare` gave, each
+/// goes one place on, the highest place first. Where something has the path of the directory, it goes on behind a look that
+/// sees a directory there, and else answers `NotFile`. It takes no memory.
+pub fn shift<'a, H: Host>(host: &mut H, ready: &'a Ready) -> Result<(), ChainStop<'a>>
+    requires fits { CanAll (H.told host.old) (dir_calls ready.now.dir ++ shift_of ready.now) }
+    ensures told { OnOk result (Left (BehindDir ready.now.dir (Are (shift_of ready.now))) (H.told host.old) (H.told host.new)) }
+    ensures refused { IfErr result (λ stop. Left (ChainStopped ready.now.dir (shift_of ready.now) stop) (H.told host.old) (H.told host.new)) }
+    ensures cause { IfErr result (λ stop. ChainCause ready.now.dir (shift_of ready.now) stop (H.counts host.old) (H.counts host.new)) }
+    ensures counts { Onward (H.counts host.old) (H.counts host.new) }
+{
+    match &ready.dir {
+        Some((dir, mode)) => match make_directory(host, dir, *mode) {
+            Ok(()) => move_members(host, ready),
+            Err(stop) => Err(stop),
+        },
+        None => move_members(host, ready),
+    }
+}
+
+/// Makes the directory, where one is to be made, moves the members, and then the log to its target. It takes no memory.
 pub fn turn<'a, H: Host>(host: &mut H, ready: &'a Ready) -> Result<(), ChainStop<'a>>
-    requires no_dir { ready.now.dir ≡ None }
-    requires fits { CanAll (H.told host.old) (turn_of ready.now) }
-    ensures told { OnOk result (Left (Are (turn_of ready.now)) (H.told host.old) (H.told host.new)) }
-    ensures refused { IfErr result (λ stop. Left (ChainStopped (turn_of ready.now) stop) (H.told host.old) (H.told host.new)) }
-    ensures cause { IfErr result (λ stop. ChainCause (turn_of ready.now) stop (H.counts host.old) (H.counts host.new)) }
+    requires fits { CanAll (H.told host.old) (dir_calls ready.now.dir ++ turn_of ready.now) }
+    ensures told { OnOk result (Left (BehindDir ready.now.dir (Are (turn_of ready.now))) (H.told host.old) (H.told host.new)) }
+    ensures refused { IfErr result (λ stop. Left (ChainStopped ready.now.dir (turn_of ready.now) stop) (H.told host.old) (H.told host.new)) }
+    ensures cause { IfErr result (λ stop. ChainCause ready.now.dir (turn_of ready.now) stop (H.counts host.old) (H.counts host.new)) }
     ensures counts { Onward (H.counts host.old) (H.counts host.new) }
 {
     if let Err(stop) = shift(host, ready) {

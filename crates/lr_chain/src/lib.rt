@@ -1,4 +1,4 @@
-//! One rotation of a log: the chain of renames, and the removals before and behind it.
+//! One rotation of a log: the chain of renames, the directory that is made before them, and the removals before and behind.
 //!
 //! The contract above it: what is prepared are the steps of one rotation, and each call leaves just the entries of its
 //! steps, in order. Begin with `prepare`:

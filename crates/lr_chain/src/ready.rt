@@ -14,7 +14,8 @@ pub struct Move {
 pub struct Ready {
     /// The members that the count leaves no room for, the highest place first; they are removed before the rest.
     pub leftovers: Listed<Removal>,
-    /// The directory that is to be made, with its mode (permission bits), if any. [`crate::prepare`] gives none.
+    /// The directory that is to be made before the moves, with its mode (permission bits), if any. [`crate::prepare`] gives
+    /// none.
     pub dir: Option<(Path, Option<u32>)>,
     /// The moves of the members, the highest place first.
     pub moves: Listed<Move>,

@@ -1,31 +1,32 @@
-use Rattle.std.proofs.Common.{[], refl, rules, arith, sym, subst, map}
-use Rattle.lr_host.specs.Told.{Are, Rose}
-use Rattle.lr_host.specs.Steps.{CanAll}
-use Rattle.lr_host.proofs.Left.{left_first}
-use Rattle.lr_host.proofs.Loops.{next_can, next_left}
-use Rattle.lr_chain.specs.Ready.{move_step}
-use Rattle.lr_chain.proofs.Chaining.{move_refused, move_from}
+use Rattle.std.proofs.Common.{Option, sym, subst}
+use Rattle.std.specs.Prelude.{ℕ, OnOk, IfErr}
+use Rattle.std.proofs.lemmas.Result.{on_ok_weaker, IfErr-weaker}
+use Rattle.lr_rules.specs.declared.path.Path.{Path}
+use Rattle.lr_host.specs.Told.{Left, Are}
+use Rattle.lr_chain.specs.Ready.{shift_of, BehindDir}
+use Rattle.lr_chain.specs.Stops.{ChainStopped}
+use Rattle.lr_chain.proofs.Directory.{dir_can, moves_can, and_behind, dir_refused, moves_stopped}
 use Rattle.lr_chain.proofs.chain.shift.Goals as goal
 
-pub loop-at-init : goal.loop-at-init
-loop-at-init g c = record { told = left_first (Are []) _ refl; counts = search rules }
+pub make_directory-requires : goal.make_directory-requires
+make_directory-requires g c = dir_can c.args.ready.now.dir c.in-Some.dir c.in-Some.mode (shift_of c.args.ready.now) c.in-Some.is c.requires.fits
 
-pub move_one-requires : goal.move_one-requires
-move_one-requires g c =
-    next_can move_step c.as_slice-moves.result.now c.loop-at.at c.index-moves-at.result c.index-moves-at.is c.loop-at-test.true
-    (subst (λ ms. CanAll (g.H.Host.told c.args.host.now) (map move_step ms)) (sym c.as_slice-moves.ensures) c.requires.fits) c.loop-at.invariant.told
+pub move_members-requires : goal.move_members-requires
+move_members-requires g c = moves_can c.args.ready.now.dir c.in-Some.dir c.in-Some.mode (shift_of c.args.ready.now) c.in-Some.is c.requires.fits c.in-Ok.ensures.told
 
-pub returns-in_default-clause-refused : goal.returns-in_default-clause-refused
-returns-in_default-clause-refused g c =
-    move_refused c.as_slice-moves.result.now c.args.ready.now.moves c.loop-at.at c.index-moves-at.result c.as_slice-moves.ensures c.index-moves-at.is c.loop-at-test.true c.loop-at.invariant.told c.in_default.ensures.told
+pub returns-in-Ok-clause-told : goal.returns-in-Ok-clause-told
+returns-in-Ok-clause-told g c = on_ok_weaker c.move_members.result (λ l. and_behind c.args.ready.now.dir c.in-Some.dir c.in-Some.mode {P = Are (shift_of c.args.ready.now)} c.in-Some.is c.in-Ok.ensures.told l) c.move_members.ensures.told
 
-pub loop-at-preserved : goal.loop-at-preserved
-loop-at-preserved g c = record {
-  told = next_left move_step c.as_slice-moves.result.now c.loop-at.at c.index-moves-at.result c.index-moves-at.is c.loop-at-test.true c.loop-at.invariant.told c.in-Ok.ensures.told;
-  counts = search rules;
-}
+pub returns-in-Ok-clause-refused : goal.returns-in-Ok-clause-refused
+returns-in-Ok-clause-refused g c = IfErr-weaker c.move_members.result _ _ (λ why l. moves_stopped c.args.ready.now.dir c.in-Some.dir c.in-Some.mode (shift_of c.args.ready.now) why c.in-Some.is c.in-Ok.ensures.told l) c.move_members.ensures.refused
 
-pub returns-in_default-clause-cause : goal.returns-in_default-clause-cause
-returns-in_default-clause-cause g c =
-    let rose : Rose (g.H.Host.counts c.args.host.now).faults (g.H.Host.counts c.move_one.new.host).faults = omega (arith, c.loop-at.invariant.counts, c.in_default.ensures.cause) in
-    (refl, move_from c.as_slice-moves.result.now c.args.ready.now.moves c.loop-at.at c.index-moves-at.result c.as_slice-moves.ensures c.index-moves-at.is c.loop-at-test.true, rose)
+pub returns-in-Err-clause-refused : goal.returns-in-Err-clause-refused
+returns-in-Err-clause-refused g c = dir_refused c.args.ready.now.dir c.in-Some.dir c.in-Some.mode (shift_of c.args.ready.now) c.in-Err.stop c.in-Some.is c.in-Err.ensures.refused
+
+pub returns-in-None-clause-told : goal.returns-in-None-clause-told
+returns-in-None-clause-told g c =
+    subst (λ (d : Option (Path × Option ℕ)). OnOk c.move_members-in-None.result (Left (BehindDir d (Are (shift_of c.args.ready.now))) (g.H.Host.told c.args.host.now) (g.H.Host.told c.move_members-in-None.new.host))) (sym c.in-None.is) c.move_members-in-None.ensures.told
+
+pub returns-in-None-clause-refused : goal.returns-in-None-clause-refused
+returns-in-None-clause-refused g c =
+    subst (λ (d : Option (Path × Option ℕ)). IfErr c.move_members-in-None.result (λ stop. Left (ChainStopped d (shift_of c.args.ready.now) stop) (g.H.Host.told c.args.host.now) (g.H.Host.told c.move_members-in-None.new.host))) (sym c.in-None.is) c.move_members-in-None.ensures.refused

@@ -1,7 +1,7 @@
 use Rattle.std.proofs.Common.{map, take}
 use Rattle.lr_host.specs.Told.{Left, Are, Onward}
 use Rattle.lr_chain.specs.Ready.{move_step}
-use Rattle.lr_chain.proofs.chain.shift.Given as goal
+use Rattle.lr_chain.proofs.chain.move_members.Given as goal
 
 abbrev pub invariant-loop-at : goal.invariant-loop-at
 invariant-loop-at g l = record {
