@@ -11,7 +11,7 @@ use Rattle.lr_scripts.specs.declared.command.Bad.TheVariants as bad
 use Rattle.lr_scripts.specs.declared.command.Command.{Command}
 use Rattle.lr_plan.specs.declared.mark.Mark.{Mark}
 use Rattle.lr_plan.specs.declared.step.Step.{Step}
-use Rattle.lr_plan.specs.declared.step.Step.TheVariants.{Runs, Creates}
+use Rattle.lr_plan.specs.declared.step.Step.TheVariants.{Creates}
 use Rattle.lr_plan.specs.declared.step.SetSteps.{SetSteps}
 use Rattle.lr_plan.specs.Outcomes.{Succeeds, Fails, marks_of}
 use Rattle.lr_plan.specs.Course.{Part, Nothing, Course, StepFails, Unbroken, BrokenOff}

@@ -1,5 +1,5 @@
 // One step of the acts, made on a host.
-ghost use Rattle.std.specs.Prelude.{◌≡◌, ◌<◌, length, Err, IfOk, IfErr};
+ghost use Rattle.std.specs.Prelude.{◌≡◌, ◌<◌, ◌≤◌, length, Err, IfOk, IfErr};
 ghost use Rattle.lr_host.specs.Told.{Left, Onward};
 ghost use Rattle.lr_host.specs.Steps.{CanAll};
 ghost use Rattle.lr_plan.specs.Internal.Asking.{asks};

@@ -35,7 +35,8 @@ use Rattle.lr_cli.specs.Answer.{at_first as lacks_first, Answers, AnswersAt, no_
 use Rattle.lr_cli.specs.Clock.{ShowsClock, ClockStopped, HasClock, IsClockFault, IsClocked, with_clock, without_clock}
 use Rattle.lr_cli.specs.Faults.{answer_of, clock_answer, HasCounted, HasFault}
 use Rattle.lr_cli.specs.Asked.{AskFor, planned_text}
-use Rattle.lr_cli.specs.Safe.{HadClock, KeepsSafeByClock, no_clock as safe_without, by_clock, TurnsByClock, only_looked, ran}
+use Rattle.lr_cli.specs.Internal.{TurnsByClock, only_looked, ran}
+use Rattle.lr_cli.specs.Safe.{HadClock, KeepsSafeByClock, no_clock as safe_without, by_clock}
 use Rattle.lr_cli.specs.Printed.{text_of, without_out, printed_of}
 use Rattle.lr_cli.specs.Says.{asked_text, Prints, Says}
 use Rattle.lr_cli.proofs.OutAside.{report_with}

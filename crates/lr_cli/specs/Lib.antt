@@ -4,6 +4,7 @@ pub mod Clock
 pub mod Copied
 pub mod Faults
 pub mod Fulfilled
+pub mod Internal
 pub mod Printed
 pub mod Reached
 pub mod Rotated

@@ -2,11 +2,12 @@
 use Rattle.std.specs.Prelude.{◌≡◌, ℤ, List, reverse, Some, None, IsSome}
 use Rattle.lr_host.specs.declared.entry.Entry.{Entry}
 use Rattle.lr_host.specs.declared.journal.Journal.{Journal}
+use Rattle.lr_host.specs.Lists.{IsIn}
 use Rattle.lr_host.specs.World.{past}
 use Rattle.lr_host.specs.Told.{Made}
 use Rattle.lr_copy.specs.declared.job.Job.{Job}
 use Rattle.lr_due.specs.declared.tz.Zone.{Zone}
-use Rattle.lr_targets.specs.Target.{Target, IsOneOf}
+use Rattle.lr_targets.specs.Target.{Target}
 use Rattle.lr_run.specs.Rotated.{rotated_in, IsRotatedAmong, IsDatedRotatedAmong}
 use Rattle.lr_run.specs.Turned.{IsTurnedAmong, IsDatedTurnedAmong}
 use Rattle.lr_plan.specs.Asked.{asking}
@@ -24,7 +25,7 @@ pub record RotatesAll (request : Request) (zone : Zone) (seconds : ℤ) (report 
   pub entries : List Entry
   pub made : Made (past before) entries (past after)
   pub plan : ReachesPlan request zone seconds report (reverse entries)
-  pub each : (t : Target) → IsOneOf t (rotated_by request zone seconds report (reverse entries) plan) → t.job ≡ None → t.naming.dated ≡ None → IsRotatedAmong request.state (rotated_by request zone seconds report (reverse entries) plan) (past before) (past after) t
-  pub each_dated : (t : Target) → IsOneOf t (rotated_by request zone seconds report (reverse entries) plan) → t.job ≡ None → IsSome t.naming.dated → IsDatedRotatedAmong request.state (rotated_by request zone seconds report (reverse entries) plan) plan.clock (past before) (past after) t
-  pub copied : (t : Target) → IsOneOf t (rotated_by request zone seconds report (reverse entries) plan) → (job : Job) → t.job ≡ Some job → t.naming.dated ≡ None → IsTurnedAmong request.state (rotated_by request zone seconds report (reverse entries) plan) (past before) (past after) t job
-  pub copied_dated : (t : Target) → IsOneOf t (rotated_by request zone seconds report (reverse entries) plan) → (job : Job) → t.job ≡ Some job → IsSome t.naming.dated → IsDatedTurnedAmong request.state (rotated_by request zone seconds report (reverse entries) plan) plan.clock (past before) (past after) t job
+  pub each : (t : Target) → IsIn t (rotated_by request zone seconds report (reverse entries) plan) → t.job ≡ None → t.naming.dated ≡ None → IsRotatedAmong request.state (rotated_by request zone seconds report (reverse entries) plan) (past before) (past after) t
+  pub each_dated : (t : Target) → IsIn t (rotated_by request zone seconds report (reverse entries) plan) → t.job ≡ None → IsSome t.naming.dated → IsDatedRotatedAmong request.state (rotated_by request zone seconds report (reverse entries) plan) plan.clock (past before) (past after) t
+  pub copied : (t : Target) → IsIn t (rotated_by request zone seconds report (reverse entries) plan) → (job : Job) → t.job ≡ Some job → t.naming.dated ≡ None → IsTurnedAmong request.state (rotated_by request zone seconds report (reverse entries) plan) (past before) (past after) t job
+  pub copied_dated : (t : Target) → IsIn t (rotated_by request zone seconds report (reverse entries) plan) → (job : Job) → t.job ≡ Some job → IsSome t.naming.dated → IsDatedTurnedAmong request.state (rotated_by request zone seconds report (reverse entries) plan) plan.clock (past before) (past after) t job

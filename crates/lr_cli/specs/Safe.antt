@@ -3,12 +3,10 @@ use Rattle.std.specs.Prelude.{ℤ, Option}
 use Rattle.lr_rules.specs.declared.clock.Clock.{Clock}
 use Rattle.lr_due.specs.declared.tz.Zone.{Zone}
 use Rattle.lr_host.specs.declared.journal.Journal.{Journal}
-use Rattle.lr_host.specs.Quiet.{AreQuiet}
 use Rattle.lr_host.specs.Safe.{KeepsSafe}
 use Rattle.lr_host.specs.Told.{Left, Then}
 use Rattle.lr_dated.specs.Forward.{IsForwardFor}
 use Rattle.lr_dated.specs.Stays.{KeepsSafeWhere}
-use Rattle.lr_mixed.specs.AllTurns.{IsWholeRunBy}
 use Rattle.lr_cli.specs.Clock.{ShowsClock}
 use Rattle.lr_cli.specs.Copied.{Whatever}
 
@@ -20,8 +18,3 @@ HadClock zone seconds clock told later = Left (Then (ShowsClock zone seconds clo
 pub data KeepsSafeByClock (zone : Zone) (seconds : ℤ) (told later : Option Journal) : Type 0 where
   no_clock : KeepsSafe told later → KeepsSafeByClock zone seconds told later
   by_clock : (clock : Clock) → HadClock zone seconds clock told later → KeepsSafeWhere (IsForwardFor clock) told later → KeepsSafeByClock zone seconds told later
-
--- For proofs: where there was no clock, the call only looked and listed and read; by a clock it made a run, as far as it came.
-pub data TurnsByClock (zone : Zone) (seconds : ℤ) (told later : Option Journal) : Type 0 where
-  only_looked : Left AreQuiet told later → TurnsByClock zone seconds told later
-  ran : (clock : Clock) → HadClock zone seconds clock told later → Left (IsWholeRunBy clock) told later → TurnsByClock zone seconds told later

@@ -4,7 +4,7 @@ ghost use Rattle.lr_host.specs.Opening.{IsJournal};
 ghost use Rattle.lr_host.specs.Told.{Left, Onward, Rose, WhereTold};
 ghost use Rattle.lr_host.specs.Counted.{AreCounted};
 ghost use Rattle.lr_mixed.specs.AllTurns.{IsWholeRunBy};
-ghost use Rattle.lr_cli.specs.Safe.{TurnsByClock};
+ghost use Rattle.lr_cli.specs.Internal.{TurnsByClock};
 ghost use Rattle.lr_command.specs.Words.{can_be_state};
 ghost use Rattle.lr_cli.specs.Answer.{Answers, AnswersAt};
 ghost use Rattle.lr_cli.specs.Clock.{IsClocked};

@@ -75,7 +75,7 @@ named = record {
           front = entry.Reads log 0 (codes "C") ∷ entry.Appends part (codes "C") ∷ [];
           back = entry.Reads log 1 [] ∷ [];
           joined = refl;
-          first = took_more (codes "C") [] (read_more none_read (codes "C") (λ e. cc));
+          first = took_more (codes "C") [] (read_more none_read (codes "C") (λ e. cc) (omega arith));
           second = refl;
         };
       };

@@ -33,7 +33,7 @@ use Rattle.lr_rotations.proofs.Members.{IsOfThese}
 use Rattle.lr_rotations.proofs.Moments.{saw_one}
 use Rattle.lr_rotations.proofs.Splitting.{weave_each}
 use Rattle.lr_targets.specs.AllTurns.{paths_beside}
-use Rattle.lr_targets.specs.Target.{Target, unlinks, transfer_of, rotation_of, IsJob, IsOneOf}
+use Rattle.lr_targets.specs.Target.{Target, unlinks, transfer_of, rotation_of, IsJob}
 use Rattle.lr_dated_seen.specs.Shown.{SawFile}
 use Rattle.lr_dated_turned.specs.Rotated.{AreDatedOutside}
 use Rattle.lr_dated_turned.proofs.Members.{IsDated, gone_these}
@@ -48,7 +48,7 @@ use Rattle.lr_turned.proofs.Among.{CopyStands, IsSameFor, early_woven, late_wove
 use Rattle.lr_dated_copied.specs.Turned.{DatedCopiesAmong}
 
 -- The run rotated each log whole, and this dated one it copied, one entry behind another, emptying it behind that copy alone.
-module _ (state : Path) (clock : Clock) (rules : Rules) (reads tail : List Entry) (t : AllTurnedBy state clock rules tail) (x : Target) (job : Job) (quiet : AreQuiet reads) (one : IsOneOf x t.turns.targets) (job_is : x.job ≡ Some job)
+module _ (state : Path) (clock : Clock) (rules : Rules) (reads tail : List Entry) (t : AllTurnedBy state clock rules tail) (x : Target) (job : Job) (quiet : AreQuiet reads) (one : IsIn x t.turns.targets) (job_is : x.job ≡ Some job)
     (l : IsLogSeen rules clock t.turns.looks x) (format : Format) (dated : x.naming.dated ≡ Some format) (outside : AreDatedOutside (job.part ∷ paths_beside state x t.turns.targets) job.from x.naming) (stands : CopyStands job t.turns.acts) (empties : EmptiesCopied (IsSameFor job) t.turns.acts) where
   abbrev n : Naming
   n = x.naming

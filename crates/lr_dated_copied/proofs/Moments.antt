@@ -1,32 +1,17 @@
 -- The moments of a copy amid a rotation, from its first change on.
-use Rattle.std.proofs.Common.{Bool, true, false, cond, sym, subst, List, [], ◌∷◌, ◌++◌, reverse}
+use Rattle.std.proofs.Common.{sym, subst, List, ◌++◌, reverse}
 use Rattle.std.proofs.lemmas.List.{reverse-append}
 use Rattle.lr_rules.specs.declared.path.Path.{Path}
 use Rattle.lr_host.specs.declared.entry.Entry.{Entry}
-use Rattle.lr_host.specs.declared.entry.Entry.TheVariants.{Truncates}
 use Rattle.lr_host.specs.Quiet.{AttachedOnlySince}
-use Rattle.lr_host.specs.Told.{Made, at_first, by_tool}
-use Rattle.lr_host.specs.World.{Past, ◌▸◌}
+use Rattle.lr_host.specs.Told.{Made}
+use Rattle.lr_host.specs.World.{Past}
 use Rattle.lr_host.proofs.Made.{made_on}
 use Rattle.lr_copy.specs.declared.job.Job.{Job}
 use Rattle.lr_copy.specs.Copying.{cutting}
-use Rattle.lr_durable.proofs.Lists.{middle, at}
+use Rattle.lr_durable.proofs.Lists.{middle}
 use Rattle.lr_turned.specs.Turned.{emptied}
-
--- From a moment on: the copy, the truncation where there is one, and what stands behind.
-record Ending (X : Path → Type 0) (log : Path) (cut : Bool) (p q : Past) (named late : List Entry) : Type 0 where
-  mid : Past
-  first : Made p (reverse named) mid
-  cuts : Made mid (reverse (cond cut (Truncates log ∷ []) [])) (cond cut (mid ▸ Truncates log) mid)
-  second : Made (cond cut (mid ▸ Truncates log) mid) (reverse late) q
-  only_first : AttachedOnlySince X p mid
-  only_second : AttachedOnlySince X (cond cut (mid ▸ Truncates log) mid) q
-
-ending : (X : Path → Type 0) (log : Path) (cut : Bool) (p q : Past) (named late : List Entry) → Made p (reverse (named ++ (cond cut (Truncates log ∷ []) [] ++ late))) q → AttachedOnlySince X p q → Ending X log cut p q named late
-ending X log true p q named late m only = let k = at X p q named (Truncates log) late tt m only in
-    record { mid = k.mid; first = k.first; cuts = by_tool at_first tt k.fits; second = k.second; only_first = k.only_first; only_second = k.only_second }
-ending X log false p q named late m only = let k = middle X p q named late m only in
-    record { mid = k.mid; first = k.first; cuts = at_first; second = k.second; only_first = k.only_first; only_second = k.only_second }
+use Rattle.lr_turned.proofs.Moments.{ending}
 
 -- Just before the copy, and behind it, while writers were attached to such paths alone.
 pub record CopyMoments (X : Path → Type 0) (job : Job) (v q : Past) (early named late : List Entry) : Type 0 where

@@ -1,5 +1,5 @@
 -- A log that is copied to a dated name amid its rotation: what becomes of its dated family.
-use Rattle.std.proofs.Common.{◌≡◌, ◌≢◌, ◌⊎◌, inl, inr, ⊎_elim, ℕ, ℤ, ◌+◌, ◌<◌, ◌≤◌, Bool, true, false, cond, nat_eq, nat_le, leb-true, refl, sym, ◌∙◌, ap, subst, arith, List, [], ◌∷◌, ◌++◌, append-nil, map, length, drop, reverse, Option}
+use Rattle.std.proofs.Common.{◌≡◌, ◌≢◌, ◌⊎◌, inl, inr, ⊎_elim, ℕ, ℤ, ◌+◌, ◌<◌, ◌≤◌, Bool, true, false, cond, nat_le, refl, sym, ◌∙◌, ap, subst, arith, List, [], ◌∷◌, ◌++◌, append-nil, map, length, drop, reverse, Option}
 use Rattle.std.specs.Prelude.{filter}
 use Rattle.std.proofs.lemmas.List.{reverse-reverse}
 use Rattle.lr_rules.specs.declared.path.Path.{Path}
@@ -8,8 +8,8 @@ use Rattle.lr_rules.specs.declared.rule.Naming.{Naming}
 use Rattle.lr_rules.specs.Dated.{IsDatedAt}
 use Rattle.lr_host.specs.declared.thing.Thing.TheVariants as thing
 use Rattle.lr_host.specs.declared.entry.Entry.{Entry}
-use Rattle.lr_host.specs.declared.entry.Entry.TheVariants.{Renames, Makes, MakesDir, Appends, Truncates, Unlinks}
-use Rattle.lr_host.specs.World.{Past, ◌▸◌, world, names, names_after, put, is_file}
+use Rattle.lr_host.specs.declared.entry.Entry.TheVariants.{Renames, Makes, Appends, Truncates, Unlinks}
+use Rattle.lr_host.specs.World.{Past, ◌▸◌, world, names, names_after, put}
 use Rattle.lr_host.specs.Fits.{IsFileAt}
 use Rattle.lr_host.specs.Opening.{IsJournal}
 use Rattle.lr_host.specs.Lists.{IsIn}
@@ -35,7 +35,7 @@ use Rattle.lr_dated.proofs.Falling.{AreOthers, others_gone, unlinked_same, remov
 use Rattle.lr_dated.proofs.Whole.{HasStamp, one_stamp, keyed_by, moved_other}
 use Rattle.lr_dated_chain.specs.Next.{IsNext}
 use Rattle.lr_dated_chain.specs.Ready.{all_of}
-use Rattle.lr_rotations.specs.Rotated.{fed, IsOn, MakesAt, IsBeside, IsNeverAt}
+use Rattle.lr_rotations.specs.Rotated.{fed, IsOn, IsBeside, IsNeverAt}
 use Rattle.lr_rotations.specs.Weave.{Weave}
 use Rattle.lr_rotations.proofs.BehindLooks.{BehindLooks, behind_looks, file_first, never_all}
 use Rattle.lr_rotations.proofs.Fed.{IsTurnOrMake, fed_bytes}
@@ -44,6 +44,7 @@ use Rattle.lr_rotations.proofs.Never.{IsInto, inside_own, never_into}
 use Rattle.lr_rotations.proofs.OrMade.{IsOrMade, Spares, SparesOrMakes, spared_or_made, spared_or_anew, made_drawn, made_behind, behind_on}
 use Rattle.lr_rotations.proofs.Splitting.{weave_each}
 use Rattle.lr_rotations.proofs.Weaving.{weave_as, weave_back}
+use Rattle.lr_rotations.proofs.AnyFamily.{beside_on, anew_spares, anew_turns, these_turn, stays_file}
 use Rattle.lr_dated_seen.specs.Family.{IsNoDated, IsDatedFamily}
 use Rattle.lr_dated_seen.specs.Shown.{SawFile, ShownDated}
 use Rattle.lr_dated_seen.specs.There.{NoDatedAttached, AreDatedThere}
@@ -53,32 +54,13 @@ use Rattle.lr_dated_turned.specs.Rotated.{AreDatedOutside, IsOfMember}
 use Rattle.lr_dated_turned.proofs.Members.{IsDated, gone_these, turned_as}
 use Rattle.lr_turned.specs.Turned.{emptied}
 use Rattle.lr_turned.proofs.Changes.{Changes, changes_both, changes_back, named_changes, cutting_changes}
-use Rattle.lr_turned.proofs.Walks.{stays_same, stays_file, never_elsewhere}
+use Rattle.lr_turned.proofs.Walks.{stays_same, never_elsewhere}
+use Rattle.lr_turned.proofs.Turned.{emptied_bytes, emptied_names, none_either, not_new}
 use Rattle.lr_dated_copied.specs.Turned.{IsFarFromDated, NoneOfDatedSetAttached, DatedCopiesAmong, IsDatedTurnedByCopy}
 use Rattle.lr_dated_copied.proofs.Copy.{whole_copy, copy_new}
 use Rattle.lr_dated_copied.proofs.Moments.{CopyMoments, copy_moments}
 
 -- ---- what stands beside the family's own steps
-
--- it is on these paths and on the log's
-beside_on : (paths : List Path) (log : Path) (e : Entry) → IsBeside paths log e → IsOn (log ∷ paths) e
-beside_on paths log (Renames from to) (inl h) = (inr h.0, inr h.1)
-beside_on paths log (Makes x mode) (inl h) = inr h
-beside_on paths log (MakesDir x mode) (inl h) = inr h
-beside_on paths log (Appends x bytes) (inl h) = inr h
-beside_on paths log (Truncates x) (inl h) = inr h
-beside_on paths log (Unlinks x) (inl h) = inr h
-beside_on paths log (Makes x mode) (inr h) = inl (sym h)
-beside_on paths log _ (inl h) = absurd h
-beside_on paths log _ (inr h) = absurd h
-
-anew_spares : (log x : Path) (e : Entry) → x ≢ log → MakesAt log e → Spares x e
-anew_spares log x (Makes y mode) l h = λ same. l (same ∙ h)
-anew_spares log x _ l h = absurd h
-
-anew_turns : (log : Path) (e : Entry) → MakesAt log e → IsTurnOrMake e
-anew_turns log (Makes x mode) h = tt
-anew_turns log _ h = absurd h
 
 -- a step of these paths goes to one of them, and is a rename or an unlink
 these_into : (Own : Path → Type 0) (e : Entry) → IsOfThese Own e → IsInto Own e
@@ -86,40 +68,7 @@ these_into Own (Renames from to) h = h.1
 these_into Own (Unlinks x) h = tt
 these_into Own _ h = absurd h
 
-these_turn : (Own : Path → Type 0) (e : Entry) → IsOfThese Own e → IsTurnOrMake e
-these_turn Own (Renames from to) h = tt
-these_turn Own (Unlinks x) h = tt
-these_turn Own _ h = absurd h
-
 -- ---- small facts
-
-same_eq : (g : ℕ) → nat_eq g g ≡ true
-same_eq g = grind arith
-
-emptied_bytes : (u : Past) (log : Path) (g : ℕ) → names (world u) log ≡ thing.File g → ((world (u ▸ Truncates log)).files g).bytes ≡ []
-emptied_bytes u log g is = ap (λ t. cond (is_file t g) [] ((world u).files g).bytes) is ∙ ap (λ b. cond b [] ((world u).files g).bytes) (same_eq g)
-
-emptied_names : (job : Job) (u : Past) (x : Path) → names (world (emptied job u)) x ≡ names (world u) x
-emptied_names job u x = go job.cut
-  where
-    go : (b : Bool) → names (world (cond b (u ▸ Truncates job.from) u)) x ≡ names (world u) x
-    go true = refl
-    go false = refl
-
-abbrev no_bytes : List ℕ
-no_bytes = []
-
-none_either : (b : Bool) → cond b no_bytes no_bytes ≡ no_bytes
-none_either true = refl
-none_either false = refl
-
--- a file that is there isn't new
-not_new : (drawn g : ℕ) → g < drawn → nat_le (drawn + 1) (g + 1) ≡ false
-not_new drawn g lt = go (nat_le (drawn + 1) (g + 1)) refl
-  where
-    go : (b : Bool) → nat_le (drawn + 1) (g + 1) ≡ b → b ≡ false
-    go true e = absurd (let le : drawn + 1 ≤ g + 1 = leb-true (drawn + 1) (g + 1) e in omega (arith, le, lt))
-    go false e = refl
 
 -- a path that none of them has is another than each of theirs
 outside_others : (x : Path) (ms : List Ranked) → IsOutside x ms → AreOthers x ms

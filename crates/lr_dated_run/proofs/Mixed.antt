@@ -18,7 +18,7 @@ use Rattle.lr_copy.specs.declared.job.Job.{Job}
 use Rattle.lr_targets.specs.AllTurns.{IsStatePath, IsOfState, IsItsDir, AlsoDoes, IsOf, IsOfOther, StandsBetween, part_paths, dir_paths, paths_of, paths_of_others, other_paths}
 use Rattle.lr_rotations.specs.Members.{IsFamily, IsNoMember}
 use Rattle.lr_rotations.specs.Rotated.{AreOutside}
-use Rattle.lr_targets.specs.Target.{Target, HasDir, rotation_of, IsOneOf}
+use Rattle.lr_targets.specs.Target.{Target, HasDir, rotation_of}
 use Rattle.lr_targets.proofs.Apart.{own_change}
 use Rattle.lr_targets.proofs.Others.{IsFileChange, own_turns}
 use Rattle.lr_rotations.proofs.Outside.{place_name}
@@ -87,12 +87,12 @@ module _ (s : LogSet) (state : Path) (no_state : IsName s.log s.naming state →
   state_beside (entry.Unlinks x) h = (state_out x h, tt)
   state_beside _ h = absurd h
 
-  others_beside : (ts : List Target) → HaveAnyNames ts → ((x : Target) → IsOneOf x ts → x.log ≢ s.log → Meet s.log s.naming x.log x.naming → ⊥) → (e : Entry) → IsOfOther s.log ts e → LiesBeside s e
+  others_beside : (ts : List Target) → HaveAnyNames ts → ((x : Target) → IsIn x ts → x.log ≢ s.log → Meet s.log s.naming x.log x.naming → ⊥) → (e : Entry) → IsOfOther s.log ts e → LiesBeside s e
   others_beside [] h apart e i = absurd i
   others_beside (t ∷ ts) h apart e (inl i) = any_beside s t e h.0 (apart t (inl refl) i.0) i.1
   others_beside (t ∷ ts) h apart e (inr i) = others_beside ts h.1 (λ x j. apart x (inr j)) e i
 
-  pub between_beside : (t : Target) (ts : List Target) (e : Entry) → t.log ≡ s.log → t.naming ≡ s.naming → HasDir t → t.job ≡ None → HaveAnyNames ts → ((x : Target) → IsOneOf x ts → x.log ≢ s.log → Meet s.log s.naming x.log x.naming → ⊥) → StandsBetween state t ts e → IsBesideSet s e
+  pub between_beside : (t : Target) (ts : List Target) (e : Entry) → t.log ≡ s.log → t.naming ≡ s.naming → HasDir t → t.job ≡ None → HaveAnyNames ts → ((x : Target) → IsIn x ts → x.log ≢ s.log → Meet s.log s.naming x.log x.naming → ⊥) → StandsBetween state t ts e → IsBesideSet s e
   between_beside t ts e same naming_is dir none h apart (inl o) = inl (others_beside ts h apart e (subst (λ (x : Path). IsOfOther x ts e) same o))
   between_beside t ts e same naming_is dir none h apart (inr (inl o)) = inl (state_beside e o)
   between_beside t ts e same naming_is dir none h apart (inr (inr also)) = also_beside s t e same naming_is dir none also
@@ -140,7 +140,7 @@ module _ (log : Path) (n : Naming) where
   dated_outside t h apart x i = dated_out x (no_own t h apart x i)
 
   -- of all other logs, and of the state
-  others_no_own : (ts : List Target) → HaveAnyNames ts → ((x : Target) → IsOneOf x ts → x.log ≢ log → Meet x.log x.naming log n → ⊥) → (y : Path) → IsIn y (paths_of_others log ts) → IsOwnName log n y → ⊥
+  others_no_own : (ts : List Target) → HaveAnyNames ts → ((x : Target) → IsIn x ts → x.log ≢ log → Meet x.log x.naming log n → ⊥) → (y : Path) → IsIn y (paths_of_others log ts) → IsOwnName log n y → ⊥
   others_no_own [] h apart y i own = i
   others_no_own (x ∷ xs) h apart y i own = go (λ i. others_no_own xs h.1 (λ z j. apart z (inr j)) y i own) (bytes_eq x.log log) refl i
     where
@@ -151,7 +151,7 @@ module _ (log : Path) (n : Naming) where
       go further true e i = further i
       go further false e i = ⊎_elim (λ j. no_own x h.0 (apart x (inl refl) (differ e)) y j own) further (in_append y (paths_of x) (paths_of_others log xs) i)
 
-  module _ (state : Path) (ts : List Target) (h : HaveAnyNames ts) (apart : (x : Target) → IsOneOf x ts → x.log ≢ log → Meet x.log x.naming log n → ⊥) (no_state : IsName log n state → ⊥) (no_part : IsName log n (state ++ codes ".tmp") → ⊥) where
+  module _ (state : Path) (ts : List Target) (h : HaveAnyNames ts) (apart : (x : Target) → IsIn x ts → x.log ≢ log → Meet x.log x.naming log n → ⊥) (no_state : IsName log n state → ⊥) (no_part : IsName log n (state ++ codes ".tmp") → ⊥) where
     none_own : (x : Path) → IsIn x (other_paths state log ts) → IsOwnName log n x → ⊥
     none_own x (inl is) own = no_state (inl (subst (IsOwnName log n) (sym is) own))
     none_own x (inr (inl is)) own = no_part (inl (subst (IsOwnName log n) (sym is) own))

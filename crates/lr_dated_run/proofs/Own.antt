@@ -40,7 +40,7 @@ pub dated_own : (log : Path) (n : Naming) (t : ℤ) (k : ℕ) (x : Path) → IsD
 dated_own log n t k x at = let h = dated_shape n t k x at in a_member h.0 h.1 h.2
 
 -- and so is its part file
-named_own : (log : Path) (n : Naming) (x : Path) → IsDatedName log n x → IsOwnName log n x
+pub named_own : (log : Path) (n : Naming) (x : Path) → IsDatedName log n x → IsOwnName log n x
 named_own log n x (inl is) = the_log is
 named_own log n x (inr (inl m)) = dated_own log n m.0 m.1 x m.2
 named_own log n x (inr (inr (member, m, is))) = let h = dated_shape n m.0 m.1 member m.2 in a_part h.0 h.1 (is ∙ part_joined n.dir h.0 member h.2)

@@ -1,13 +1,12 @@
 -- The part file of a dated copy stands in the family's directory, and is neither the log nor a dated member.
-use Rattle.std.proofs.Common.{◌≡◌, ◌≢◌, ◌⊎◌, inl, inr, ℕ, suc, ℤ, ◌+◌, ◌-◌, ◌<◌, ◌≤◌, Bool, true, false, cond, ◌&&◌, refl, sym, ◌∙◌, ap, subst, arith, eqb-true, List, [], ◌∷◌, ◌++◌, length, take, append_assoc, Some}
+use Rattle.std.proofs.Common.{◌≡◌, ◌≢◌, ◌⊎◌, inl, inr, ℕ, suc, ℤ, ◌+◌, ◌-◌, ◌<◌, ◌≤◌, Bool, true, false, cond, ◌&&◌, refl, sym, ◌∙◌, ap, subst, arith, eqb-true, List, [], ◌∷◌, ◌++◌, length, append_assoc, Some}
 use Rattle.std.specs.Prelude.{nat_le, ◌==◌}
 use Rattle.std.specs.List.{list_any}
 use Rattle.std.proofs.lemmas.Bool.{le-leb}
-use Rattle.std.proofs.lemmas.List.{length-append, length-take-le}
+use Rattle.std.proofs.lemmas.List.{length-append}
 use Rattle.std.proofs.lemmas.List.Elements.{All-head, All-tail}
 use Rattle.lr_rules.specs.declared.path.Path.{Path}
 use Rattle.lr_rules.specs.declared.rule.Field.{Field}
-use Rattle.lr_rules.specs.declared.rule.Field.TheVariants as field
 use Rattle.lr_rules.specs.declared.rule.Format.{Format}
 use Rattle.lr_rules.specs.declared.rule.Naming.{Naming}
 use Rattle.lr_rules.specs.declared.rule.Piece.{Piece}
@@ -15,14 +14,14 @@ use Rattle.lr_rules.specs.declared.rule.Piece.TheVariants as piece
 use Rattle.lr_rules.specs.declared.rule.Rule.{Rule}
 use Rattle.lr_rules.specs.Dated.{IsDatedAt}
 use Rattle.lr_rules.specs.Match.{part_end}
-use Rattle.lr_rules.specs.Names.{AreDigits, IsFieldShape, IsStampShape, number_pieces, IsMiddleShape, ends_with, without, ext_of, base_of, naming_of}
+use Rattle.lr_rules.specs.Names.{AreDigits, IsStampShape, number_pieces, IsMiddleShape, ext_of, naming_of}
 use Rattle.lr_rules.specs.Path.{joined, parent_of, last_of, is_slash}
 use Rattle.lr_rules.proofs.PathLemmas.{plain_both, parent_joined, last_joined}
 use Rattle.lr_stamps.proofs.Members.{joined_same}
 use Rattle.lr_stamps.proofs.StampShapes.{numbered_shape}
 use Rattle.lr_family.specs.Parts.{part_of}
 use Rattle.lr_dated_seen.specs.Family.{IsDatedFamily}
-use Rattle.lr_dated_seen.proofs.Names.{name_of, name_part, longer}
+use Rattle.lr_dated_seen.proofs.Names.{name_of, name_part, longer, field_digits, base_long}
 
 -- ---- bytes that are no digits
 
@@ -51,15 +50,6 @@ digit_is d r = ap (λ b. b && nat_le d 57) (le-leb 48 d r.0) ∙ le-leb d 57 r.1
 no_marks : (ds : List ℕ) → AreDigits ds → marks ds ≡ 0
 no_marks [] h = refl
 no_marks (d ∷ ds) h = ap (λ b. cond b (marks ds) (suc (marks ds))) (digit_is d (All-head IsDigit d ds h)) ∙ no_marks ds (All-tail IsDigit d ds h)
-
-field_digits : (f : Field) (ds : List ℕ) → IsFieldShape f ds → AreDigits ds
-field_digits field.Year ds h = h.1
-field_digits field.Epoch ds h = h.1
-field_digits field.Month ds h = h.1
-field_digits field.Day ds h = h.1
-field_digits field.Hour ds h = h.1
-field_digits field.Minute ds h = h.1
-field_digits field.Second ds h = h.1
 
 -- ---- those of a stamp
 
@@ -103,18 +93,11 @@ format_same f g e = cc
 
 -- ---- paths
 
-base_long : (ext name : List ℕ) → length name ≤ length (base_of ext name) + length ext
-base_long ext name = go (ends_with ext name)
-  where
-    go : (b : Bool) → length name ≤ length (cond b (without ext name) name) + length ext
-    go true = let l : length (take (length name - length ext) name) ≡ length name - length ext = length-take-le (length name - length ext) name (omega arith) in omega (arith, l)
-    go false = omega arith
-
 log_short : (rule : Rule) (log : Path) (n : Naming) → naming_of rule log ≡ n → length (last_of log) ≤ length n.base + length n.ext
 log_short rule log n is = subst (λ (m : Naming). length (last_of log) ≤ length m.base + length m.ext) is (base_long (ext_of rule.addextension rule.extension (last_of log)) (last_of log))
 
 -- what stands in a directory isn't that directory
-joined_no_dir : (dir name : List ℕ) → 0 < length name → joined dir name ≢ dir
+pub joined_no_dir : (dir name : List ℕ) → 0 < length name → joined dir name ≢ dir
 joined_no_dir dir name some is = go (length dir == 1) refl
   where
     go : (b : Bool) → (length dir == 1) ≡ b → ⊥

@@ -19,7 +19,7 @@ ghost use Rattle.lr_dated_chain.specs.Ready.{all_of, IsDatedReady};
 ghost use Rattle.lr_targets.specs.AllTurns.{IsOf, StandsBetween, paths_of, other_paths};
 ghost use Rattle.lr_rotations.specs.Members.{IsFamily};
 ghost use Rattle.lr_rotations.specs.Rotated.{AreOutside};
-ghost use Rattle.lr_targets.specs.Target.{Target, HasDir, IsDirSeen, rotation_of, IsOneOf};
+ghost use Rattle.lr_targets.specs.Target.{Target, HasDir, IsDirSeen, rotation_of};
 ghost use Rattle.lr_dated_seen.specs.Shown.{ShownDated};
 ghost use Rattle.lr_dated_turned.specs.Rotated.{AreDatedOutside};
 ghost use Rattle.lr_dated_run.specs.Beside.{LiesBeside, IsBesideSet};
@@ -57,7 +57,7 @@ pub fn dated_changes_are_own()
 pub fn dated_rotation_is_apart()
     ensures one { (s : LogSet) (t : Target) (e : Entry) → HasAnyNames t → (Meet s.log s.naming t.log t.naming → ⊥) → IsOf t e → LiesBeside s e }
     ensures between { (s : LogSet) (state : Path) (t : Target) (ts : List Target) (e : Entry) → t.log ≡ s.log → t.naming ≡ s.naming → HasDir t → t.job ≡ None → HaveAnyNames ts
-        → ((x : Target) → IsOneOf x ts → x.log ≢ s.log → Meet s.log s.naming x.log x.naming → ⊥)
+        → ((x : Target) → IsIn x ts → x.log ≢ s.log → Meet s.log s.naming x.log x.naming → ⊥)
         → (IsName s.log s.naming state → ⊥) → (IsName s.log s.naming (state ++ codes ".tmp") → ⊥)
         → StandsBetween state t ts e → IsBesideSet s e }
 {}
@@ -69,9 +69,9 @@ pub fn dated_paths_are_outside()
         → AreOutside (paths_of t) log n }
     ensures dated { (log : Path) (n : Naming) (t : Target) → HasAnyNames t → (Meet t.log t.naming log n → ⊥) → AreDatedOutside (paths_of t) log n }
     ensures numbered_of_all { (state log : Path) (n : Naming) (ts : List Target) → IsFamily log n → HaveAnyNames ts
-        → ((x : Target) → IsOneOf x ts → x.log ≢ log → Meet x.log x.naming log n → ⊥)
+        → ((x : Target) → IsIn x ts → x.log ≢ log → Meet x.log x.naming log n → ⊥)
         → (IsName log n state → ⊥) → (IsName log n (state ++ codes ".tmp") → ⊥) → AreOutside (other_paths state log ts) log n }
     ensures dated_of_all { (state log : Path) (n : Naming) (ts : List Target) → HaveAnyNames ts
-        → ((x : Target) → IsOneOf x ts → x.log ≢ log → Meet x.log x.naming log n → ⊥)
+        → ((x : Target) → IsIn x ts → x.log ≢ log → Meet x.log x.naming log n → ⊥)
         → (IsName log n state → ⊥) → (IsName log n (state ++ codes ".tmp") → ⊥) → AreDatedOutside (other_paths state log ts) log n }
 {}

@@ -45,7 +45,7 @@ digits_plain : (ds : List ℕ) → AreDigits ds → list_any is_slash ds ≡ fal
 digits_plain [] h = refl
 digits_plain (d ∷ ds) h = or_from (is_slash d) (list_any is_slash ds) (no_slash d (All-head IsDigit d ds h)) (digits_plain ds (All-tail IsDigit d ds h))
 
-field_digits : (f : Field) (ds : List ℕ) → IsFieldShape f ds → AreDigits ds
+pub field_digits : (f : Field) (ds : List ℕ) → IsFieldShape f ds → AreDigits ds
 field_digits field.Year ds h = h.1
 field_digits field.Epoch ds h = h.1
 field_digits field.Month ds h = h.1
@@ -112,18 +112,18 @@ middle_plain : (f : Format) (w : List ℕ) → is_format f ≡ true → IsMiddle
 middle_plain f w good (inl h) = shape_plain f.pieces w (pieces_plain f good) h
 middle_plain f w good (inr h) = shape_plain (f.pieces ++ number_pieces) w (list_all-append is_plain_piece f.pieces number_pieces ∙ ap (λ b. b && true) (pieces_plain f good)) h.1
 
-middle_some : (f : Format) (w : List ℕ) → is_format f ≡ true → IsMiddleShape (Some f) w → is_empty w ≡ false
+pub middle_some : (f : Format) (w : List ℕ) → is_format f ≡ true → IsMiddleShape (Some f) w → is_empty w ≡ false
 middle_some f w good (inl h) = shape_some f.pieces w (pieces_some f good) h
 middle_some f w good (inr h) = shape_some (f.pieces ++ number_pieces) w (more_some f.pieces number_pieces (pieces_some f good)) h.1
 
 -- ---- lengths
 
-some_long : (xs : List ℕ) → is_empty xs ≡ false → 0 < length xs
+pub some_long : (xs : List ℕ) → is_empty xs ≡ false → 0 < length xs
 some_long [] h = absurd (cc h)
 some_long (x ∷ xs) h = omega arith
 
 -- a base and an extension together are as long as the log's name, or longer
-base_long : (ext name : List ℕ) → length name ≤ length (base_of ext name) + length ext
+pub base_long : (ext name : List ℕ) → length name ≤ length (base_of ext name) + length ext
 base_long ext name = go (ends_with ext name)
   where
     cut : length (take (length name - length ext) name) ≡ min (length name - length ext) (length name)

@@ -21,8 +21,8 @@ ghost use Rattle.lr_dated_seen.specs.Family.{IsDatedFamily};
 ghost use Rattle.lr_dated_seen.specs.Shown.{ShownDated};
 ghost use Rattle.lr_dated_seen.specs.There.{NoDatedAttached, AreDatedThere};
 
-/// In a journal, where the tool changed nothing and no writer was attached to a member, the members that were seen are just those that
-/// stood before these entries and that stand behind them; so it is for a set.
+/// In a journal, where the tool changed nothing and no writer was attached to a member, the members that were seen are just
+/// those that stood before these entries and that stand behind them; so it is for a set.
 pub fn shown_members_stand()
     ensures before { (log : Path) (n : Naming) (members : List Member) (p q : Past) (es : List Entry) → IsDatedFamily log n
         → IsJournal p → NoDatedAttached n p q → Made p es q → ChangeNothing es → ShownDated n members (reverse es)

@@ -12,7 +12,7 @@ use Rattle.lr_host.specs.Steps.{is_change}
 use Rattle.lr_host.specs.Told.{Each}
 use Rattle.lr_host.proofs.Each.{each_append, each_first, each_as, all_pass}
 use Rattle.lr_targets.specs.AllTurns.{IsOfState, IsOfSome, StandsBetween}
-use Rattle.lr_targets.specs.Target.{Target, rotation_of, IsOneOf}
+use Rattle.lr_targets.specs.Target.{Target, rotation_of}
 use Rattle.lr_rotations.specs.Weave.{Weave, IsFirstOf, FirstWoven}
 use Rattle.lr_targets.proofs.Rotating.{each_turn}
 use Rattle.lr_rotations.proofs.Weaving.{weave_on, weave_own, weave_others}
@@ -117,7 +117,7 @@ module _ (state : Path) (clock : Clock) (rules : Rules) (looks : List Entry) (x 
     abbrev SeenFrom : Target → Type 0
     SeenFrom t = FirstWoven (StandsBetween state t targets) (rotation_of t) (filter is_change acts)
 
-    each : (t : Target) → IsOneOf t targets → SeenFrom t
+    each : (t : Target) → IsIn t targets → SeenFrom t
     each t (inl is) = subst SeenFrom is (record { made = us; first = first; woven = by_first })
     each t (inr (inl is)) = subst SeenFrom is (record { made = vs; first = second; woven = by_second })
     each t (inr (inr none)) = absurd none
@@ -136,7 +136,7 @@ module _ (state : Path) (clock : Clock) (rules : Rules) (looks : List Entry) (x 
     abbrev IsWhole : Target → Type 0
     IsWhole t = Weave (StandsBetween state t targets) (rotation_of t) (filter is_change (us ++ (vs ++ behind)))
 
-    whole : (t : Target) → IsOneOf t targets → IsWhole t
+    whole : (t : Target) → IsIn t targets → IsWhole t
     whole t (inl is) = subst IsWhole is (subst (λ steps. Weave (StandsBetween state x targets) steps (filter is_change (us ++ (vs ++ behind)))) (sym first) (by_first us vs behind first_whole second_whole of_state))
     whole t (inr (inl is)) = subst IsWhole is (subst (λ steps. Weave (StandsBetween state y targets) steps (filter is_change (us ++ (vs ++ behind)))) (sym second) (by_second us vs behind first_whole second_whole of_state))
     whole t (inr (inr none)) = absurd none

@@ -18,6 +18,7 @@ use Rattle.lr_chain.specs.Rotation.{places_of, rotation}
 use Rattle.lr_targets.specs.Target.{HasReady}
 use Rattle.lr_examples.specs.Logs.{a_log, a_first, a_second, a_third, a_count, a_naming, a_stand, a_from, a_ready, a_target, b_log, b_first, b_naming, b_target}
 use Rattle.lr_examples.specs.TwoLogs.{a_steps}
+use Rattle.lr_mixed.proofs.Example.{path_w}
 
 -- ---- names and paths of members
 
@@ -59,18 +60,9 @@ ascii_v zero = omega arith
 ascii_v (suc zero) = omega arith
 ascii_v (suc (suc i)) = omega arith
 
-ascii_w : IsAscii (codes "/w")
-ascii_w zero = omega arith
-ascii_w (suc zero) = omega arith
-ascii_w (suc (suc i)) = omega arith
-
 path_v : path_fault (codes "/v") ≡ None
 unfolding path_fault
 path_v = let t : is_utf8 (codes "/v") ≡ true = is_utf8-from_IsUtf8 (codes "/v") (IsUtf8-from_ascii (codes "/v") ascii_v) in rw t
-
-path_w : path_fault (codes "/w") ≡ None
-unfolding path_fault
-path_w = let t : is_utf8 (codes "/w") ≡ true = is_utf8-from_IsUtf8 (codes "/w") (IsUtf8-from_ascii (codes "/w") ascii_w) in rw t
 
 pub a_family : IsFamily a_log a_naming
 a_family = record {

@@ -9,6 +9,7 @@ use Rattle.lr_rules.specs.declared.rules.Rules.{Rules}
 use Rattle.lr_rules.specs.Path.{parent_of}
 use Rattle.lr_host.specs.declared.entry.Entry.{Entry}
 use Rattle.lr_host.specs.declared.entry.Entry.TheVariants as entry
+use Rattle.lr_host.specs.Lists.{IsIn}
 use Rattle.lr_host.specs.Opening.{IsJournal}
 use Rattle.lr_host.specs.declared.thing.Seen.{Seen}
 use Rattle.lr_host.specs.Looks.{Sees, IsDir, IsNotDir}
@@ -26,7 +27,7 @@ use Rattle.lr_plan.specs.Asked.{Asked}
 use Rattle.lr_plan.specs.Outcomes.{Maybe}
 use Rattle.lr_plan.specs.Planned.{decision}
 use Rattle.lr_reading.proofs.Quiet.{state_quiet}
-use Rattle.lr_targets.specs.Target.{Target, IsOneOf}
+use Rattle.lr_targets.specs.Target.{Target}
 use Rattle.lr_rotations.proofs.Still.{quiet_safe_on}
 use Rattle.lr_mixed.specs.AllTurns.{AllTurnsBy}
 use Rattle.lr_mixed.proofs.Safety.{others_are_left}
@@ -66,7 +67,7 @@ still_member s p u ts still made steady y k key = quiet_same (IsKeyless s) p u y
     calm = made_quiet (IsKeyless s) p u (reverse ts) (since_of (IsKeyless s) p u (reverse ts) made (none_attached s u steady)) made (still_reverse ts still)
 
 pub left_alone : (s : LogSet) (state : Path) (asked : Asked) (clock : Clock) (rules : Rules) (own : List Fault) (p q : Past) (es reads acts : List Entry) → Made p es q → IsJournal p → reverse es ≡ reads ++ acts → AreQuiet reads
-    → (i : Inside state clock rules (Worked state rules.sets clock asked own) acts) → IsSafe s p → IsSteady s q → ((t : Target) → IsOneOf t (rotated_in state rules.sets i.between i.within.looked clock asked) → t.log ≢ s.log)
+    → (i : Inside state clock rules (Worked state rules.sets clock asked own) acts) → IsSafe s p → IsSteady s q → ((t : Target) → IsIn t (rotated_in state rules.sets i.between i.within.looked clock asked) → t.log ≢ s.log)
     → (y : Path) (k : ℤ) → s.key y ≡ Some k → names (world q) y ≡ names (world p) y
 left_alone s state asked clock rules own p q es reads acts made journal joined quiet i safe steady apart y k key =
     others_are_left clock s a.mid q state rules tail turns behind_start (journal_u, a.fits) (quiet_safe s a.mid starts (journal_u, a.fits) safe_u (tt, refl)) steady apart y k key

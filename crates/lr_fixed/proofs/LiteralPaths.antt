@@ -1,5 +1,5 @@
 -- A literal word of rules that meet their limits is a path, without the backslashes that escape.
-use Rattle.std.proofs.Common.{◌≡◌, inl, inr, ⊎_elim, ℕ, suc, ◌+◌, ◌<◌, ◌≤◌, Bool, true, false, cond, not, nat_lt, nat_le, ◌==◌, ◌&&◌, List, [], ◌∷◌, ◌++◌, Some, None, length, get_or, refl, sym, ap, ◌∙◌, subst, arith}
+use Rattle.std.proofs.Common.{◌≡◌, ⊎_elim, ℕ, suc, ◌+◌, ◌<◌, ◌≤◌, Bool, true, false, cond, not, nat_lt, nat_le, ◌==◌, ◌&&◌, List, [], ◌∷◌, ◌++◌, Some, None, length, get_or, refl, sym, ap, ◌∙◌, subst, arith}
 use Rattle.std.specs.Prelude.{IsUtf8}
 use Rattle.std.specs.List.{list_all}
 use Rattle.std.specs.Str.{is_utf8}
@@ -17,6 +17,7 @@ use Rattle.lr_host.specs.Lists.{IsIn}
 use Rattle.lr_host.proofs.Lists.{in_unmap, in_append}
 use Rattle.lr_glob.proofs.Literals.{literal_scalars}
 use Rattle.lr_looks.specs.Asked.{Word, word_of, words_of, words_from, asked_by, AreTexts}
+use Rattle.lr_seen.proofs.Gives.{all_in, text_in}
 
 -- ---- the bytes of a character
 
@@ -143,16 +144,6 @@ literal_valid word text h literal =
     path_valid (literal_path word) (literal_utf8 word text) p.0 (not_long (length (literal_path word)) (and_parts (nat_le (length (literal_path word)) 2048) _ p.1).0)
 
 -- ---- the words of rules
-
-all_in : {A : Type 0} (f : A → Bool) (xs : List A) (x : A) → list_all f xs ≡ true → IsIn x xs → f x ≡ true
-all_in f [] x h i = absurd i
-all_in f (y ∷ ys) x h (inl e) = subst (λ z. f z ≡ true) e (and_parts (f y) (list_all f ys) h).0
-all_in f (y ∷ ys) x h (inr i) = all_in f ys x (and_parts (f y) (list_all f ys) h).1 i
-
-text_in : (words : List Word) (w : Word) → AreTexts words → IsIn w words → IsUtf8 w.text
-text_in [] w h i = absurd i
-text_in (v ∷ ws) w h (inl e) = subst (λ (x : Word). IsUtf8 x.text) e h.0
-text_in (v ∷ ws) w h (inr i) = text_in ws w h.1 i
 
 -- the literal ones of these words are paths
 abbrev pub HavePaths : List Word → Type 0

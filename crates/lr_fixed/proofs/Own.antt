@@ -3,7 +3,7 @@ use Rattle.std.proofs.Common.{◌≡◌, inl, inr, ⊎_elim, refl, None, Some}
 use Rattle.lr_rules.specs.Names.{IsOwnName}
 use Rattle.lr_host.specs.declared.entry.Entry.TheVariants as entry
 use Rattle.lr_copy.specs.declared.job.Job.{Job}
-use Rattle.lr_targets.specs.Target.{Target, HasJob}
+use Rattle.lr_targets.specs.Target.{Target}
 use Rattle.lr_targets.proofs.Apart.{part_own as numbered_part_own}
 use Rattle.lr_dated_run.specs.Own.{HasAnyNames}
 use Rattle.lr_dated_run.proofs.Own.{changes_own, dated_turns}
@@ -12,10 +12,6 @@ use Rattle.lr_dated_run.proofs.Own.{changes_own, dated_turns}
 pub log_is : (t : Target) → HasAnyNames t → t.ready.log ≡ t.log
 log_is t (inl h) = h.ready.log_is
 log_is t (inr h) = h.ready.log_is
-
-pub job_is : (t : Target) → HasAnyNames t → HasJob t
-job_is t (inl h) = h.job
-job_is t (inr h) = h.job
 
 -- the part file of the copy has a name of the family
 pub part_own : (t : Target) → HasAnyNames t → (job : Job) → t.job ≡ Some job → IsOwnName t.log t.naming job.part

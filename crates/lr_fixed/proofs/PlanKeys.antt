@@ -35,6 +35,7 @@ use Rattle.lr_targets.specs.Target.{Target}
 use Rattle.lr_dated_run.specs.Own.{HasAnyNames, HaveAnyNames}
 use Rattle.lr_weave.specs.Fitting.{NoneMeets, DontMeet}
 use Rattle.lr_weave.specs.Planned.{bare, AreReadyFor, HaveLogs, NoneHas, AreApart}
+use Rattle.lr_weave.proofs.Fits.{job_of}
 use Rattle.lr_seen.specs.Free.{AreFreeOf}
 use Rattle.lr_seen.specs.Targets.{groups_of, all_targets}
 use Rattle.lr_seen.proofs.Apart.{targets_apart, targets_dont_meet}
@@ -42,7 +43,7 @@ use Rattle.lr_seen.proofs.Free.{targets_free}
 use Rattle.lr_seen.proofs.Ready.{plans_have_logs}
 use Rattle.lr_seen.proofs.Seen.{targets_have_names}
 use Rattle.lr_fixed.proofs.Keys.{Key, Made, WasRead, keys, keys_of, HaveNoneOf, once_both}
-use Rattle.lr_fixed.proofs.Own.{log_is, job_is, part_own}
+use Rattle.lr_fixed.proofs.Own.{log_is, part_own}
 
 -- ---- what the steps of one log may do
 
@@ -211,7 +212,7 @@ key_of t k h i = go t.job refl i
     go : (o : Option Job) → t.job ≡ o → IsIn k (log_keys t.ready o) → IsKeyOf t k
     go None is x = anew_of t t.ready.make t.ready.log k (log_is t h) x
     go (Some job) is (inl e) = subst (IsKeyOf t) e (part_own t h job is)
-    go (Some job) is (inr (inl e)) = subst (IsKeyOf t) e (job_is t h job is).from_is
+    go (Some job) is (inr (inl e)) = subst (IsKeyOf t) e (job_of t h job is).from_is
     go (Some job) is (inr (inr none)) = absurd none
 
 -- what the rotation of another log may do is something else

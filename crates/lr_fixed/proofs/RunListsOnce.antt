@@ -51,7 +51,7 @@ looked_once p q state rules ts dir m l none =
     let d : Cut c.mid q (reverse l.acts) (reverse l.looks) = cut_at c.mid q (l.looks ++ l.acts) l.looks l.acts refl c.second in
     let j = count_joined dir ts l.reads (l.looks ++ l.acts) l.joined in
     let k = count_joined dir (l.looks ++ l.acts) l.looks l.acts refl in
-    let a = count_none dir l.reads (state_read_none state 65_536 l.sights l.reads l.read) in
+    let a = count_none dir l.reads (state_read_none state l.sights l.reads l.read) in
     let b = looks_once c.mid d.mid (reserved_by state) rules l.sets l.of_looks l.looks dir d.first l.shown in
     let e = count_none dir l.acts none in
     omega (arith, j, k, a, b, e)
@@ -63,7 +63,7 @@ acts_none state rules clock asked faults ts w = none_both w.looked.acts
     (λ us h. state_written_none state w.looked.remembered.stale w.acted.dirs _ w.acted.entries.of_state us h) w.acted.entries.entries
 
 works_once : (p q : Past) (state : Path) (rules : List Rule) (clock : Clock) (asked : Asked) (plan : Option Plan) (faults : List Fault) (ts : List Entry) (dir : Path) → Made p (reverse ts) q → Works state rules clock asked plan faults ts → listings_of dir ts ≤ wildcards_of rules + 1
-works_once p q state rules clock asked plan faults ts dir m (not_known sights f known lost is shown) = none_once (wildcards_of rules) dir ts (state_read_none state 65_536 sights ts shown)
+works_once p q state rules clock asked plan faults ts dir m (not_known sights f known lost is shown) = none_once (wildcards_of rules) dir ts (state_read_none state sights ts shown)
 works_once p q state rules clock asked plan faults ts dir m (too_big l big lost is none) = looked_once p q state rules ts dir m l (none_empty l.acts none)
 works_once p q state rules clock asked plan faults ts dir m (worked w is) = looked_once p q state rules ts dir m w.looked (acts_none state rules clock asked faults ts w)
 

@@ -19,6 +19,7 @@ use Rattle.lr_plan.specs.Course.{Course}
 use Rattle.lr_plan.specs.Done.{EachDone, LogsDone, SetDone, broke_off, went_on, SetsDone, if_rotated, is_rotated}
 use Rattle.lr_plan.specs.Outcomes.{Succeeds, marks_of}
 use Rattle.lr_fulfilled.specs.Acts.{is_act, ActsBy, AreActsOf}
+use Rattle.lr_weave.proofs.Whole.{one_none, nil_split}
 
 -- ---- one step
 
@@ -73,14 +74,6 @@ went_both xs ys ms ns all us vs ts e d a b = record {
 went_none : (ms : List Mark) (ts : List Entry) → ms ≡ [] → ts ≡ [] → Went [] ms ts
 went_none ms ts e d = record { acts = ap (filter is_act) d; marks_are = e }
 
-one_none : {A : Type 0} (x : A) (xs : List A) → xs ≡ x ∷ [] → xs ≡ [] → ⊥
-one_none x xs a b = cc
-
--- no faults are none of each part
-pub none_of : {A : Type 0} (xs ys zs : List A) → xs ≡ ys ++ zs → xs ≡ [] → (ys ≡ []) × (zs ≡ [])
-none_of xs [] zs e n = (refl, sym e ∙ n)
-none_of xs (y ∷ ys) zs e n = absurd (cc)
-
 pub course_went : (steps : List Step) (ms : List Mark) (fs : List Fault) (ts : List Entry) → fs ≡ [] → Course steps ms fs ts → Went steps ms ts
 course_went [] ms fs ts n c = went_none ms ts c.0 c.2
 course_went (s ∷ ss) ms fs ts n (inl h) = absurd (one_none h.fault fs h.told n)
@@ -94,7 +87,7 @@ course_went (s ∷ ss) ms fs ts n (inr g) =
 each_went : (each : List (List Step)) (ms : List Mark) (fs : List Fault) (ts : List Entry) → fs ≡ [] → EachDone each ms fs ts → Went (all_of_each each) ms ts
 each_went [] ms fs ts n d = went_none ms ts d.0 d.2
 each_went (ss ∷ each) ms fs ts n d =
-    let parts = none_of fs d.first_faults d.second_faults d.faults_are n in
+    let parts = nil_split fs d.first_faults d.second_faults d.faults_are n in
     went_both ss (all_of_each each) d.first_marks d.second_marks ms d.entries.front d.entries.back ts d.marks_are d.entries.joined
     (course_went ss d.first_marks d.first_faults d.entries.front parts.0 d.entries.first) (each_went each d.second_marks d.second_faults d.entries.back parts.1 d.entries.second)
 
@@ -114,7 +107,7 @@ last_went s made ms fs ts stands e n c = go stands (list_any is_rotated made) re
 
 logs_went : (s : SetSteps) (ms : List Mark) (fs : List Fault) (ts : List Entry) → LastStands s → fs ≡ [] → LogsDone s.each s.last ms fs ts → Went (all_of_each s.each ++ s.last) ms ts
 logs_went s ms fs ts stands n d =
-    let parts = none_of fs d.of_each d.of_last d.faults_are n in
+    let parts = nil_split fs d.of_each d.of_last d.faults_are n in
     let each = each_went s.each d.by_each d.of_each d.entries.front parts.0 d.entries.first in
     went_both (all_of_each s.each) s.last d.by_each d.by_last ms d.entries.front d.entries.back ts d.marks_are d.entries.joined each
     (last_went s d.by_each d.by_last d.of_last d.entries.back stands each.marks_are parts.1 d.entries.second)
@@ -122,7 +115,7 @@ logs_went s ms fs ts stands n d =
 set_went : (s : SetSteps) (ms : List Mark) (fs : List Fault) (ts : List Entry) → LastStands s → fs ≡ [] → SetDone s ms fs ts → Went (all_of_set s) ms ts
 set_went s ms fs ts stands n (broke_off b) = absurd (one_none b.fault fs b.told n)
 set_went s ms fs ts stands n (went_on b) =
-    let parts = none_of fs b.first_faults b.second_faults b.faults_are n in
+    let parts = nil_split fs b.first_faults b.second_faults b.faults_are n in
     went_both s.first (all_of_each s.each ++ s.last) b.first_marks b.second_marks ms b.entries.front b.entries.back ts b.marks_are b.entries.joined
     (course_went s.first b.first_marks b.first_faults b.entries.front parts.0 b.entries.first.1) (logs_went s b.second_marks b.second_faults b.entries.back stands parts.1 b.entries.second)
 
@@ -133,6 +126,6 @@ LastsStand (s ∷ sets) = LastStands s × LastsStand sets
 pub sets_went : (sets : List SetSteps) (ms : List Mark) (fs : List Fault) (ts : List Entry) → LastsStand sets → fs ≡ [] → SetsDone sets ms fs ts → Went (all_of_sets sets) ms ts
 sets_went [] ms fs ts stand n d = went_none ms ts d.0 d.2
 sets_went (s ∷ sets) ms fs ts stand n d =
-    let parts = none_of fs d.first_faults d.second_faults d.faults_are n in
+    let parts = nil_split fs d.first_faults d.second_faults d.faults_are n in
     went_both (all_of_set s) (all_of_sets sets) d.first_marks d.second_marks ms d.entries.front d.entries.back ts d.marks_are d.entries.joined
     (set_went s d.first_marks d.first_faults d.entries.front stand.0 parts.0 d.entries.first) (sets_went sets d.second_marks d.second_faults d.entries.back stand.1 parts.1 d.entries.second)

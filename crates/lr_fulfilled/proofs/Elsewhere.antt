@@ -28,7 +28,7 @@ use Rattle.lr_plan.specs.declared.looks.SetLooks.{SetLooks}
 use Rattle.lr_plan.specs.Planned.{makes_dir, mode_of}
 use Rattle.lr_plan.specs.Steps.{state_part}
 use Rattle.lr_targets.specs.AllTurns.{IsStatePath, IsItsDir, IsOfState, IsOfSome}
-use Rattle.lr_targets.specs.Target.{Target, IsOneOf}
+use Rattle.lr_targets.specs.Target.{Target}
 use Rattle.lr_dated_run.specs.Own.{HaveAnyNames}
 use Rattle.lr_mixed.specs.AllTurns.{AllTurnsBy}
 use Rattle.lr_mixed.proofs.Seen.{have_names}
@@ -43,7 +43,7 @@ use Rattle.lr_fulfilled.proofs.Left.{left_alone}
 
 -- ---- one change
 
-some_aside : (x : Path) (ts : List Target) (e : Entry) → HaveAnyNames ts → ((t : Target) → IsOneOf t ts → IsOwnName t.log t.naming x → ⊥) → ((t : Target) → IsOneOf t ts → IsItsDir t x → ⊥) → IsOfSome ts e → IsAsideOf x e
+some_aside : (x : Path) (ts : List Target) (e : Entry) → HaveAnyNames ts → ((t : Target) → IsIn t ts → IsOwnName t.log t.naming x → ⊥) → ((t : Target) → IsIn t ts → IsItsDir t x → ⊥) → IsOfSome ts e → IsAsideOf x e
 some_aside x [] e h none no_dir i = absurd i
 some_aside x (t ∷ ts) e h none no_dir (inl i) = λ at. ⊎_elim (none t (inl refl)) (no_dir t (inl refl)) (own_or_dir t h.0 e i x at)
 some_aside x (t ∷ ts) e h none no_dir (inr i) = some_aside x ts e h.1 (λ u j. none u (inr j)) (λ u j. no_dir u (inr j)) i
@@ -111,16 +111,11 @@ its_dir rules sets clock decide t x i h = subst (λ (u : Target). IsItsDir u x �
     go true mode e = let same : (c.look.family.naming.dir, mode_of c.rule.createolddir) ≡ (x, mode) = cc in sym (ap (λ (d : Path × Option ℕ). d.0) same)
     go false mode e = let clash : None ≡ Some (x, mode) = e in cc
 
-one_in : (t : Target) (ts : List Target) → IsOneOf t ts → IsIn t ts
-one_in t [] i = i
-one_in t (u ∷ us) (inl is) = inl is
-one_in t (u ∷ us) (inr i) = inr (one_in t us i)
-
 pub kept_elsewhere : (state : Path) (rules : List Rule) (sets : List SetLooks) (faults : List Fault) (ts : List Entry) (clock : Clock) (decide : Rule → LogLook → Due) (f : FoundLog) (x : Path) → (s : ShowsLooks (reserved_by state) rules sets faults ts) → IsIn f s.kept
     → HasNone (all_targets clock decide rules sets) f.log.path → IsOwnName f.log.path f.log.naming x → IsElsewhere state (all_targets clock decide rules sets) x
 kept_elsewhere state rules sets faults ts clock decide f x s kept none own = record {
   no_state = λ same. kept_has_none rules sets faults ts s f kept state (inl refl) (inl (subst (IsOwnName f.log.path f.log.naming) same own));
   no_part = λ same. kept_has_none rules sets faults ts s f kept (state_part state) (inr (inl refl)) (inl (subst (IsOwnName f.log.path f.log.naming) same own));
   no_name = λ t one named. kept_meets_none rules sets faults ts s f kept clock decide t one (none t one) (x, inl (named, inl own));
-  no_dir = λ t one dir. kept_meets_none rules sets faults ts s f kept clock decide t one (none t one) (x, inr (inr (its_dir rules sets clock decide t x (one_in t (all_targets clock decide rules sets) one) dir), own));
+  no_dir = λ t one dir. kept_meets_none rules sets faults ts s f kept clock decide t one (none t one) (x, inr (inr (its_dir rules sets clock decide t x one dir), own));
 }

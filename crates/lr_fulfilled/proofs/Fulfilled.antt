@@ -36,6 +36,7 @@ use Rattle.lr_rotations.proofs.Weaving.{each_in}
 use Rattle.lr_weave.specs.Parts.{ArePlanned}
 use Rattle.lr_weave.proofs.Parting.{done_some}
 use Rattle.lr_weave.proofs.Planning.{ready_planned}
+use Rattle.lr_weave.proofs.Whole.{nil_split}
 use Rattle.lr_seen.specs.Targets.{groups_of, all_targets}
 use Rattle.lr_seen.proofs.Apart.{targets_apart}
 use Rattle.lr_seen.proofs.Ready.{plans_have_logs}
@@ -53,7 +54,6 @@ use Rattle.lr_run.proofs.Shape.{sees_quiet, seen_quiet, looked_parts, in_parts, 
 use Rattle.lr_fulfilled.specs.Acts.{is_act, AreActsOf}
 use Rattle.lr_fulfilled.specs.Fulfilled.{NothingFailed, steps_in, IsElsewhere, IsFulfilled}
 use Rattle.lr_fulfilled.specs.Left.{IsLeftAlone}
-use Rattle.lr_fulfilled.proofs.Acts.{none_of}
 use Rattle.lr_fulfilled.proofs.Elsewhere.{IsOfRun, elsewhere_left, kept_elsewhere, behind_start}
 use Rattle.lr_writing.specs.Directories.{AreDirectoriesOf}
 use Rattle.lr_synced.specs.Synced.{all_changed_of}
@@ -178,7 +178,7 @@ module _ (state : Path) (asked : Asked) (clock : Clock) (rules : Rules) (own : L
 
   wrote : IsNamed state w.acted.dirs text w.acted.entries.entries.back
   wrote = named_whole state l.remembered.stale w.acted.dirs text w.acted.entries.entries.back
-      (subst (λ (fs : List Fault). Course (state_steps state l.remembered.stale w.acted.dirs text) [] fs w.acted.entries.entries.back) (none_of w.acted.of_acts w.acted.entries.of_plan w.acted.entries.of_state w.acted.entries.faults_are none).1 w.acted.entries.entries.second)
+      (subst (λ (fs : List Fault). Course (state_steps state l.remembered.stale w.acted.dirs text) [] fs w.acted.entries.entries.back) (nil_split w.acted.of_acts w.acted.entries.of_plan w.acted.entries.of_state w.acted.entries.faults_are none).1 w.acted.entries.entries.second)
 
   -- the rename to the state's path is among the entries
   renames : IsIn (entry.Renames (state_part state) state) (reverse es)

@@ -13,12 +13,13 @@ use Rattle.lr_synced.specs.Synced.{made_in, all_to_make_of}
 use Rattle.lr_synced.proofs.Telling.{plan_dirs}
 use Rattle.lr_run.specs.Runs.{logs_in}
 use Rattle.lr_fulfilled.specs.Acts.{is_act, AreActsOf}
-use Rattle.lr_fulfilled.proofs.Acts.{acts_both, Went, none_of, course_went, sets_went}
+use Rattle.lr_fulfilled.proofs.Acts.{acts_both, Went, course_went, sets_went}
 use Rattle.lr_fulfilled.proofs.Logs.{plan_logs, sets_stand}
+use Rattle.lr_weave.proofs.Whole.{nil_split}
 
 module _ (plan : Plan) (state : Path) (stale : Bool) (dirs : List Mark → List Path) (text : List Path → List ℕ) (marks : List Mark) (ts : List Entry) (d : ActsDone plan state stale dirs text marks [] ts) where
   parts : (d.of_plan ≡ []) × (d.of_state ≡ [])
-  parts = none_of [] d.of_plan d.of_state d.faults_are refl
+  parts = nil_split [] d.of_plan d.of_state d.faults_are refl
 
   went : Went (all_of_sets (steps_of_plan plan)) marks d.entries.front
   went = sets_went (steps_of_plan plan) marks d.of_plan d.entries.front (sets_stand plan.sets) parts.0 d.entries.first

@@ -18,7 +18,7 @@ use Rattle.lr_plan.specs.Asked.{Asked}
 use Rattle.lr_plan.specs.declared.step.Step.{Step}
 use Rattle.lr_plan.specs.Steps.{steps_of_plan, state_part, state_steps}
 use Rattle.lr_targets.specs.AllTurns.{IsItsDir}
-use Rattle.lr_targets.specs.Target.{Target, IsOneOf}
+use Rattle.lr_targets.specs.Target.{Target}
 use Rattle.lr_run.specs.Met.{MetNothing}
 use Rattle.lr_run.specs.Rotated.{rotated_in, IsRotatedAmong, IsDatedRotatedAmong}
 use Rattle.lr_run.specs.Turned.{IsTurnedAmong, IsDatedTurnedAmong}
@@ -42,12 +42,12 @@ steps_in state rules ts l clock asked dirs =
 pub record IsElsewhere (state : Path) (targets : List Target) (x : Path) : Type 0 where
   pub no_state : x ≢ state
   pub no_part : x ≢ state_part state
-  pub no_name : (t : Target) → IsOneOf t targets → IsOwnName t.log t.naming x → ⊥
-  pub no_dir : (t : Target) → IsOneOf t targets → IsItsDir t x → ⊥
+  pub no_name : (t : Target) → IsIn t targets → IsOwnName t.log t.naming x → ⊥
+  pub no_dir : (t : Target) → IsIn t targets → IsItsDir t x → ⊥
 
 -- none of these has the log
 abbrev pub HasNone : List Target → Path → Type 0
-HasNone targets log = (t : Target) → IsOneOf t targets → t.log ≢ log
+HasNone targets log = (t : Target) → IsIn t targets → t.log ≢ log
 
 -- Of a run that came to its plan by these looks, with these faults of its own, and of all entries between the two pasts: what it planned was done, and nothing else.
 pub record IsFulfilled (state : Path) (rules : List Rule) (clock : Clock) (asked : Asked) (ts : List Entry) (l : Looked state rules ts) (own : List Fault) (all : List Entry) (before after : Past) : Type 0 where
@@ -58,8 +58,8 @@ pub record IsFulfilled (state : Path) (rules : List Rule) (clock : Clock) (asked
   pub dirs_are : AreDirectoriesOf (all_changed_of (plan_in state rules ts l clock asked).sets ++ dirs_in (plan_in state rules ts l clock asked)) dirs
   pub acts : AreActsOf (steps_in state rules ts l clock asked dirs) (filter is_act all)
   -- each log of the plan that is renamed was rotated, file by file: of numbered members, and of dated ones
-  pub rotated : (t : Target) → IsOneOf t (rotated_in state rules ts l clock asked) → t.job ≡ None → t.naming.dated ≡ None → IsRotatedAmong state (rotated_in state rules ts l clock asked) before after t
-  pub dated_rotated : (t : Target) → IsOneOf t (rotated_in state rules ts l clock asked) → t.job ≡ None → IsSome t.naming.dated → IsDatedRotatedAmong state (rotated_in state rules ts l clock asked) clock before after t
+  pub rotated : (t : Target) → IsIn t (rotated_in state rules ts l clock asked) → t.job ≡ None → t.naming.dated ≡ None → IsRotatedAmong state (rotated_in state rules ts l clock asked) before after t
+  pub dated_rotated : (t : Target) → IsIn t (rotated_in state rules ts l clock asked) → t.job ≡ None → IsSome t.naming.dated → IsDatedRotatedAmong state (rotated_in state rules ts l clock asked) clock before after t
   -- each that is copied was turned by its copy
   pub turned : (t : Target) → IsOneOf t (rotated_in state rules ts l clock asked) → (job : Job) → t.job ≡ Some job → t.naming.dated ≡ None → IsTurnedAmong state (rotated_in state rules ts l clock asked) before after t job
   pub dated_turned : (t : Target) → IsOneOf t (rotated_in state rules ts l clock asked) → (job : Job) → t.job ≡ Some job → IsSome t.naming.dated → IsDatedTurnedAmong state (rotated_in state rules ts l clock asked) clock before after t job

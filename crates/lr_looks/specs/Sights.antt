@@ -23,7 +23,7 @@ abbrev pub found_by : Word → WordSight → List FoundLog
 found_by w (Ok found) = map (found_at w) found
 found_by w (Err why) = []
 
--- the fault of a word that gives nothing: there is none of the definition's that may be missing
+-- the fault of a word that gives nothing; there is none where the definition's logs may be missing
 abbrev pub missing : Word → List Fault
 missing w = if w.rule.missingok then [] else fault.Missing w.text ∷ []
 

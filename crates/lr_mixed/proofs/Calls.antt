@@ -15,10 +15,10 @@ use Rattle.lr_host.proofs.Quiet.{quiet_still, still_in_order}
 use Rattle.lr_family.specs.Parts.{part_of}
 use Rattle.lr_copy.specs.declared.job.Job.{Job}
 use Rattle.lr_copy.specs.Fits.{ArePaths}
-use Rattle.lr_chain.specs.Ready.{move_step}
+use Rattle.lr_chain.specs.Ready.{move_step, dir_calls}
 use Rattle.lr_rotations.specs.Calls.{FitCalls, CanCalls}
 use Rattle.lr_rotations.proofs.Moments.{saw_one}
-use Rattle.lr_targets.specs.Calls.{transfer_calls, dir_calls, calls_of}
+use Rattle.lr_targets.specs.Calls.{transfer_calls, calls_of}
 use Rattle.lr_targets.specs.Target.{unlinks, Target, IsDirSeenBy}
 use Rattle.lr_targets.proofs.SeenFits.{seen_paths, seen_fits}
 use Rattle.lr_dated_run.specs.Calls.{renamed_calls, copied_calls, removal_calls, IsDatedJob}

@@ -12,13 +12,14 @@ use Rattle.lr_rules.specs.declared.rules.Rules.{Rules}
 use Rattle.lr_rules.specs.Limits.{meets_limits, is_format}
 use Rattle.lr_rules.specs.Path.{path_fault}
 use Rattle.lr_host.specs.declared.entry.Entry.TheVariants as entry
+use Rattle.lr_host.specs.Lists.{IsIn}
 use Rattle.lr_host.specs.Looks.{Sees, IsFile}
 use Rattle.lr_host.proofs.Lists.{in_from}
 use Rattle.lr_family.specs.Kin.{IsKin}
 use Rattle.lr_days.specs.Newest.{AreNewestFirst}
 use Rattle.lr_rotations.specs.Weave.{Among, none, own, FirstWoven}
 use Rattle.lr_targets.specs.AllTurns.{StandsBetween}
-use Rattle.lr_targets.specs.Target.{IsGiven, Target, rotation_of, IsOneOf}
+use Rattle.lr_targets.specs.Target.{IsGiven, Target, rotation_of}
 use Rattle.lr_targets.proofs.Given.{literal_gives}
 use Rattle.lr_dated_seen.specs.Family.{IsDatedFamily}
 use Rattle.lr_dated_seen.specs.Shown.{unlisted, ShownDated}
@@ -34,7 +35,7 @@ ascii_w zero = omega arith
 ascii_w (suc zero) = omega arith
 ascii_w (suc (suc i)) = omega arith
 
-path_w : path_fault (codes "/w") ≡ None
+pub path_w : path_fault (codes "/w") ≡ None
 unfolding path_fault
 path_w = let t : is_utf8 (codes "/w") ≡ true = is_utf8-from_IsUtf8 (codes "/w") (IsUtf8-from_ascii (codes "/w") ascii_w) in rw t
 
@@ -98,7 +99,7 @@ turns state clock = record {
   each = λ t i. each t i;
 }
   where
-    each : (t : Target) → IsOneOf t (target clock ∷ []) → FirstWoven (StandsBetween state t (target clock ∷ [])) (rotation_of t) (turn clock ∷ [])
+    each : (t : Target) → IsIn t (target clock ∷ []) → FirstWoven (StandsBetween state t (target clock ∷ [])) (rotation_of t) (turn clock ∷ [])
     each t (inl is) = subst (λ (x : Target). FirstWoven (StandsBetween state x (target clock ∷ [])) (rotation_of x) (turn clock ∷ [])) is (record { made = turn clock ∷ []; first = ([], refl); woven = own (turn clock) none })
     each t (inr other) = absurd other
 

@@ -15,6 +15,7 @@ use Rattle.lr_host.specs.declared.entry.Entry.{Entry}
 use Rattle.lr_host.specs.declared.entry.Entry.TheVariants as entry
 use Rattle.lr_host.specs.declared.journal.Journal.{Journal}
 use Rattle.lr_host.specs.Fits.{Fits, IsFileAt}
+use Rattle.lr_host.specs.Lists.{IsIn}
 use Rattle.lr_host.specs.Looks.{Sees, IsFile}
 use Rattle.lr_host.specs.Opening.{IsJournal}
 use Rattle.lr_host.specs.Quiet.{is_disk_change, AreQuiet, here as at_once, looked}
@@ -41,7 +42,7 @@ use Rattle.lr_rotations.proofs.Moments.{saw_one, saw_file}
 use Rattle.lr_rotations.proofs.Over.{first_aside}
 use Rattle.lr_rotations.proofs.Weaving.{weave_as, IsApart, IsApartOrMakes, apart_aside}
 use Rattle.lr_targets.specs.AllTurns.{IsOfState, IsOfSome, StandsBetween}
-use Rattle.lr_targets.specs.Target.{Target, rotation_of, IsOneOf}
+use Rattle.lr_targets.specs.Target.{Target, rotation_of}
 use Rattle.lr_targets.proofs.Given.{journal_before, gives, no_meet, naming_same, no_copy, by_rule}
 use Rattle.lr_targets.proofs.LeftAlone.{apart_left}
 use Rattle.lr_targets.proofs.SeenFits.{has_dir}
@@ -71,7 +72,7 @@ module _ (clock : Clock) (s : LogSet) (state : Path) (rules : Rules) (u v : Past
   no_meeting t l other meet = no_meet s u v rules.sets looks t.log t.naming t.count t.job quiet m begun_u here.journal here.steady here.rules_are l.given (file_of t l) other meet
 
   -- what is done to other logs lies beside
-  some_beside : (ts : List Target) → AreLogsSeen rules clock looks ts → ((t : Target) → IsOneOf t ts → t.log ≢ s.log) → (e : Entry) → IsOfSome ts e → LiesBeside s e
+  some_beside : (ts : List Target) → AreLogsSeen rules clock looks ts → ((t : Target) → IsIn t ts → t.log ≢ s.log) → (e : Entry) → IsOfSome ts e → LiesBeside s e
   some_beside [] seen ne e h = absurd h
   some_beside (t ∷ ts) seen ne e (inl h) = any_beside s t e (any_names rules clock looks t seen.0) (no_meeting t seen.0 (ne t (inl refl))) h
   some_beside (t ∷ ts) seen ne e (inr h) = some_beside ts seen.1 (λ x i. ne x (inr i)) e h
@@ -140,20 +141,20 @@ module _ (clock : Clock) (s : LogSet) (state : Path) (rules : Rules) (u v : Past
       go (Some format) is = dated_safe t l format is same acts q forward w mq none_q
 
   acts_safe : (ts : List Target) → AreLogsSeen rules clock looks ts → (acts : List Entry) (q : Past) → IsForwardFor clock s v → Each (λ e. IsOfSome ts e ⊎ IsOfState state e) (filter is_change acts)
-      → ((t : Target) → IsOneOf t ts → FirstWoven (StandsBetween state t ts) (rotation_of t) (filter is_change acts)) → Made v (reverse acts) q → NoneAttached s q → IsSafe s q
+      → ((t : Target) → IsIn t ts → FirstWoven (StandsBetween state t ts) (rotation_of t) (filter is_change acts)) → Made v (reverse acts) q → NoneAttached s q → IsSafe s q
   acts_safe ts seen acts q forward all each mq none_q = ⊎_elim own others (find s ts)
     where
-      own : ((t : Target) × IsOneOf t ts × (t.log ≡ s.log)) → IsSafe s q
+      own : ((t : Target) × IsIn t ts × (t.log ≡ s.log)) → IsSafe s q
       own f =
           let l = log_among rules clock looks ts seen f.0 f.1 in
           let w = each f.0 f.1 in
           either_safe f.0 l f.2 acts q forward (record { made = w.made; first = w.first; woven = weave_as (StandsBetween state f.0 ts) (IsBesideSet s) w.made (filter is_change acts) (between f.0 ts l seen f.2 (not_copied f.0 l f.2)) w.woven }) mq none_q
 
-      aside : ((t : Target) → IsOneOf t ts → t.log ≢ s.log) → (e : Entry) → IsOfSome ts e ⊎ IsOfState state e → IsAside s e
+      aside : ((t : Target) → IsIn t ts → t.log ≢ s.log) → (e : Entry) → IsOfSome ts e ⊎ IsOfState state e → IsAside s e
       aside ne e (inl o) = (some_beside ts seen ne e o).0
       aside ne e (inr o) = apart_aside s e (state_apart s state clock.now.seconds rules v here e o)
 
-      others : ((t : Target) → IsOneOf t ts → t.log ≢ s.log) → IsSafe s q
+      others : ((t : Target) → IsIn t ts → t.log ≢ s.log) → IsSafe s q
       others ne = aside_walked s v q (reverse acts) here.journal here.safe mq
           (first_aside s (filter is_change acts) acts v q ([], sym (append-nil (filter is_change acts))) (each_as (λ e. IsOfSome ts e ⊎ IsOfState state e) (IsAside s) (filter is_change acts) (aside ne) all) mq) none_q
 
@@ -192,7 +193,7 @@ all_safe clock o n (is_told {j = j} {k = k} {es = es} m run) = λ s forward jour
 
 -- where none of the logs is the set's, each change lies apart of it
 acts_apart : (clock : Clock) (s : LogSet) (u q : Past) (state : Path) (rules : Rules) (tail : List Entry) (t : AllTurnsBy state clock rules tail) → Made (u ▸ entry.Starts state clock.now rules) (reverse tail) q
-    → IsJournal (u ▸ entry.Starts state clock.now rules) → IsSafe s (u ▸ entry.Starts state clock.now rules) → IsSteady s q → ((x : Target) → IsOneOf x t.targets → x.log ≢ s.log) → Each (IsApart s) (filter is_change t.acts)
+    → IsJournal (u ▸ entry.Starts state clock.now rules) → IsSafe s (u ▸ entry.Starts state clock.now rules) → IsSteady s q → ((x : Target) → IsIn x t.targets → x.log ≢ s.log) → Each (IsApart s) (filter is_change t.acts)
 acts_apart clock s u q state rules tail t m journal safe st ne = each_as (λ e. IsOfSome t.targets e ⊎ IsOfState state e) (IsApart s) (filter is_change t.acts) apart t.all
   where
     k : Looked s state clock.now.seconds rules (u ▸ entry.Starts state clock.now rules) q t.looks t.acts
@@ -203,6 +204,6 @@ acts_apart clock s u q state rules tail t m journal safe st ne = each_as (λ e. 
     apart e (inr o) = state_apart s state clock.now.seconds rules k.mid k.here e o
 
 pub others_are_left : (clock : Clock) (s : LogSet) (u q : Past) (state : Path) (rules : Rules) (tail : List Entry) (t : AllTurnsBy state clock rules tail) → Made (u ▸ entry.Starts state clock.now rules) (reverse tail) q
-    → IsJournal (u ▸ entry.Starts state clock.now rules) → IsSafe s (u ▸ entry.Starts state clock.now rules) → IsSteady s q → ((x : Target) → IsOneOf x t.targets → x.log ≢ s.log) → (y : Path) (k : ℤ) → s.key y ≡ Some k → names (world q) y ≡ names (world u) y
+    → IsJournal (u ▸ entry.Starts state clock.now rules) → IsSafe s (u ▸ entry.Starts state clock.now rules) → IsSteady s q → ((x : Target) → IsIn x t.targets → x.log ≢ s.log) → (y : Path) (k : ℤ) → s.key y ≡ Some k → names (world q) y ≡ names (world u) y
 others_are_left clock s u q state rules tail t m journal safe st ne y k key =
     apart_left s (u ▸ entry.Starts state clock.now rules) q tail t.looks t.acts t.joined t.quiet (acts_apart clock s u q state rules tail t m journal safe st ne) m (none_attached s q st) y k key

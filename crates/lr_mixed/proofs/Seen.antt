@@ -5,11 +5,12 @@ use Rattle.lr_rules.specs.declared.rule.Format.{Format}
 use Rattle.lr_rules.specs.declared.rules.Rules.{Rules}
 use Rattle.lr_stamps.specs.Dated.{clock_seconds}
 use Rattle.lr_host.specs.declared.entry.Entry.{Entry}
+use Rattle.lr_host.specs.Lists.{IsIn}
 use Rattle.lr_chain.specs.declared.ready.Ready.{Ready}
 use Rattle.lr_chain.specs.Ready.{with_dir}
 use Rattle.lr_dated_chain.specs.Ready.{IsDatedReady}
 use Rattle.lr_dated_ready.proofs.Whole.{ready_back}
-use Rattle.lr_targets.specs.Target.{Target, IsSeen, IsOneOf}
+use Rattle.lr_targets.specs.Target.{Target, IsSeen}
 use Rattle.lr_targets.proofs.SeenFits.{has_dir, seen_names}
 use Rattle.lr_dated_run.specs.Own.{HasDatedNames, HasAnyNames, HaveAnyNames}
 use Rattle.lr_mixed.specs.Seen.{IsNumberedSeen, IsDatedSeen, IsSeenBy, IsLogSeen, AreLogsSeen}
@@ -52,7 +53,7 @@ module _ (rules : Rules) (clock : Clock) (looks : List Entry) where
   have_names [] seen = tt
   have_names (t ∷ ts) seen = (any_names t seen.0, have_names ts seen.1)
 
-  pub log_among : (ts : List Target) → AreLogsSeen rules clock looks ts → (t : Target) → IsOneOf t ts → IsLogSeen rules clock looks t
+  pub log_among : (ts : List Target) → AreLogsSeen rules clock looks ts → (t : Target) → IsIn t ts → IsLogSeen rules clock looks t
   log_among [] seen t i = absurd i
   log_among (x ∷ xs) seen t (inl is) = subst (IsLogSeen rules clock looks) is seen.0
   log_among (x ∷ xs) seen t (inr i) = log_among xs seen.1 t i

@@ -24,7 +24,7 @@ use Rattle.lr_rotations.specs.Rotated.{IsBeside, RotatesAmong}
 use Rattle.lr_rotations.specs.Weave.{Weave}
 use Rattle.lr_rotations.proofs.Moments.{saw_one}
 use Rattle.lr_targets.specs.AllTurns.{paths_beside}
-use Rattle.lr_targets.specs.Target.{Target, rotation_of, IsOneOf}
+use Rattle.lr_targets.specs.Target.{Target, rotation_of}
 use Rattle.lr_targets.proofs.Others.{rotates_beside, one_rotates}
 use Rattle.lr_dated_seen.specs.Shown.{SawFile, WasSeen, IsUnseen, unlisted, gone, no_dir, ShownDated}
 use Rattle.lr_dated_turned.specs.Rotated.{DatedRotatesAmong}
@@ -49,7 +49,7 @@ shown_more n members ts us more s = record {
   others = λ x seconds serial is none. unseen_more n.dir x ts us more (s.others x seconds serial is none);
 }
 
-module _ (state : Path) (clock : Clock) (rules : Rules) (reads tail : List Entry) (t : AllTurnedBy state clock rules tail) (x : Target) (read : AreQuiet reads) (i : IsOneOf x t.turns.targets) (none : x.job ≡ None) where
+module _ (state : Path) (clock : Clock) (rules : Rules) (reads tail : List Entry) (t : AllTurnedBy state clock rules tail) (x : Target) (read : AreQuiet reads) (i : IsIn x t.turns.targets) (none : x.job ≡ None) where
   abbrev paths : List Path
   paths = paths_beside state x t.turns.targets
 

@@ -7,6 +7,7 @@ ghost use Rattle.lr_rules.specs.declared.rules.Rules.{Rules};
 ghost use Rattle.lr_host.specs.declared.entry.Entry.{Entry};
 ghost use Rattle.lr_host.specs.declared.entry.Entry.TheVariants.{Starts};
 ghost use Rattle.lr_host.specs.declared.journal.Journal.{Journal};
+ghost use Rattle.lr_host.specs.Lists.{IsIn};
 ghost use Rattle.lr_host.specs.Opening.{IsJournal};
 ghost use Rattle.lr_host.specs.Quiet.{AreQuiet};
 ghost use Rattle.lr_host.specs.Safe.{IsSafe};
@@ -23,7 +24,7 @@ ghost use Rattle.lr_rotations.specs.Calls.{CanCalls};
 ghost use Rattle.lr_rotations.specs.Rotated.{RotatesAmong};
 ghost use Rattle.lr_targets.specs.AllTurns.{paths_beside};
 ghost use Rattle.lr_targets.specs.Calls.{calls_of};
-ghost use Rattle.lr_targets.specs.Target.{Target, IsOneOf};
+ghost use Rattle.lr_targets.specs.Target.{Target};
 ghost use Rattle.lr_dated_turned.specs.Rotated.{DatedRotatesAmong};
 ghost use Rattle.lr_dated_run.specs.Own.{HasAnyNames};
 ghost use Rattle.lr_mixed.specs.AllTurns.{AllTurnsBy, AllTurnedBy, IsWholeRunBy};
@@ -40,7 +41,8 @@ pub fn all_logs_stay_safe()
 {}
 
 /// In a journal, behind looks that saw a log and its family, the calls of its rotation fit by themselves, one after another,
-/// whatever writers did meanwhile, also where the log is copied, and where the family's directory was missing and is made; the part file of a copy is neither the log nor the final path.
+/// whatever writers did meanwhile, also where the log is copied, and where the family's directory was missing and is made;
+/// the part file of a copy is neither the log nor the final path.
 pub fn seen_log_can_be_rotated()
     ensures fits { (rules : Rules) (clock : Clock) (t : Target) (before now : Option Journal) → WhereTold before IsJournal
         → Left (λ ts. AreQuiet ts × IsLogSeen rules clock ts t) before now
@@ -49,14 +51,15 @@ pub fn seen_log_can_be_rotated()
 {}
 
 /// Where each log was rotated whole, the entries are, for each of them that isn't copied, the looks at it and its rotation,
-/// with others between on the paths of other logs and of the state, and the making of the log's own directory: `family_is_rotated` and `dated_family_is_rotated` say
-/// what becomes of its files. A dated log goes to the clock's stamp, and those go that the count and the age of its rule let go.
+/// with others between on the paths of other logs and of the state, and the making of the log's own directory:
+/// `family_is_rotated` and `dated_family_is_rotated` say what becomes of its files. A dated log goes to the clock's stamp, and
+/// those go that the count and the age of its rule let go.
 pub fn whole_run_rotates_all()
     ensures numbered { (state : Path) (clock : Clock) (rules : Rules) (reads tail : List Entry) (t : AllTurnedBy state clock rules tail)
-        (x : Target) → AreQuiet reads → IsOneOf x t.turns.targets → x.job ≡ None → x.naming.dated ≡ None
+        (x : Target) → AreQuiet reads → IsIn x t.turns.targets → x.job ≡ None → x.naming.dated ≡ None
         → RotatesAmong (paths_beside state x t.turns.targets) x.log x.naming x.count x.from x.stand (reads ++ Starts state clock.now rules ∷ tail) }
     ensures dated { (state : Path) (clock : Clock) (rules : Rules) (reads tail : List Entry) (t : AllTurnedBy state clock rules tail)
-        (x : Target) → AreQuiet reads → IsOneOf x t.turns.targets → x.job ≡ None
+        (x : Target) → AreQuiet reads → IsIn x t.turns.targets → x.job ≡ None
         → (format : Format) → x.naming.dated ≡ Some format
         → DatedRotatesAmong (paths_beside state x t.turns.targets) x.log x.naming x.count (dated_target x.naming clock x.stand.members)
         (all_by x.naming x.maxage clock x.stand.members) x.stand.members (reads ++ Starts state clock.now rules ∷ tail) }
@@ -68,7 +71,7 @@ pub fn sets_of_others_are_left()
     ensures { (clock : Clock) (s : LogSet) (u q : Past) (state : Path) (rules : Rules) (tail : List Entry)
         (t : AllTurnsBy state clock rules tail) → Made (u ▸ Starts state clock.now rules) (reverse tail) q
         → IsJournal (u ▸ Starts state clock.now rules) → IsSafe s (u ▸ Starts state clock.now rules) → IsSteady s q
-        → ((x : Target) → IsOneOf x t.targets → x.log ≢ s.log)
+        → ((x : Target) → IsIn x t.targets → x.log ≢ s.log)
         → (y : Path) (k : ℤ) → s.key y ≡ Some k → names (world q) y ≡ names (world u) y }
 {}
 

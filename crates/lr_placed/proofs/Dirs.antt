@@ -1,6 +1,7 @@
 -- The directories that a run syncs are those of its logs, and those of what it makes.
 use Rattle.std.proofs.Common.{◌≡◌, ◌⊎◌, inl, inr, ⊎_elim, ℕ, Bool, true, false, true≢false, refl, sym, ◌∙◌, ap, subst, List, [], ◌∷◌, ◌++◌, Option, Some, None}
-use Rattle.std.specs.List.{flat_map}
+use Rattle.std.specs.List.{flat_map, list_any}
+use Rattle.std.specs.Str.{bytes_eq}
 use Rattle.lr_rules.specs.declared.path.Path.{Path}
 use Rattle.lr_rules.specs.Path.{parent_of}
 use Rattle.lr_host.specs.Lists.{IsIn}
@@ -10,11 +11,11 @@ use Rattle.lr_plan.specs.declared.mark.Mark.{Mark}
 use Rattle.lr_plan.specs.declared.mark.Mark.TheVariants as mark
 use Rattle.lr_plan.specs.declared.planned.LogPlan.{LogPlan}
 use Rattle.lr_plan.specs.declared.planned.SetPlan.{SetPlan}
-use Rattle.lr_synced.specs.Synced.{AreSynced, changed_of, all_changed_of, made_of, to_make_of, all_to_make_of, made_in, is_among}
+use Rattle.lr_synced.specs.Synced.{AreSynced, changed_of, all_changed_of, made_of, to_make_of, all_to_make_of, made_in}
 use Rattle.lr_synced.proofs.Kept.{among_from, among_to}
 use Rattle.lr_synced.proofs.Laws.{IsTouched, made_mark, unmade_is, of_touched, none_unmade}
 use Rattle.lr_targets.specs.AllTurns.{IsItsDir}
-use Rattle.lr_targets.specs.Target.{Target, IsOneOf}
+use Rattle.lr_targets.specs.Target.{Target}
 use Rattle.lr_weave.specs.Planned.{IsReadyFor, AreReadyFor, HaveLogs}
 
 -- The directory of the log; that of the path that it gets, of whose making a mark tells where the rotation makes it; or that in which the rotation makes one.
@@ -23,14 +24,14 @@ IsDirOfLog t marks dir = (dir ≡ parent_of t.log) ⊎ (((dir ≡ parent_of t.re
 
 -- each of these is such a directory of one of the logs
 abbrev pub AreDirsOfLogs : List Target → List Mark → List Path → Type 0
-AreDirsOfLogs ts marks dirs = (dir : Path) → IsIn dir dirs → (t : Target) × IsOneOf t ts × IsDirOfLog t marks dir
+AreDirsOfLogs ts marks dirs = (dir : Path) → IsIn dir dirs → (t : Target) × IsIn t ts × IsDirOfLog t marks dir
 
 -- ---- a path that the plan changes or makes
 
 -- This is the path of one of the logs, the one that it gets, or the directory that its rotation makes; such a directory is one of these.
 record IsOfOne (ts : List Target) (to_make : List Path) (path : Path) : Type 0 where
   target : Target
-  one : IsOneOf target ts
+  one : IsIn target ts
   made : (dir : Path) → IsItsDir target dir → IsIn dir to_make
   is : (path ≡ target.log) ⊎ ((path ≡ target.ready.target) ⊎ IsItsDir target path)
 
@@ -76,20 +77,11 @@ of_made (t ∷ ts) (l ∷ ls) path r i = ⊎_elim
 
 -- ---- of all definitions
 
-one_front : (t : Target) (xs ys : List Target) → IsOneOf t xs → IsOneOf t (xs ++ ys)
-one_front t [] ys i = absurd i
-one_front t (x ∷ xs) ys (inl e) = inl e
-one_front t (x ∷ xs) ys (inr i) = inr (one_front t xs ys i)
-
-one_back : (t : Target) (xs ys : List Target) → IsOneOf t ys → IsOneOf t (xs ++ ys)
-one_back t [] ys i = i
-one_back t (x ∷ xs) ys i = inr (one_back t xs ys i)
-
 of_front : (xs ys : List Target) (cs ds : List Path) (path : Path) → IsOfOne xs cs path → IsOfOne (xs ++ ys) (cs ++ ds) path
-of_front xs ys cs ds path o = record { target = o.target; one = one_front o.target xs ys o.one; made = λ dir d. in_front dir cs ds (o.made dir d); is = o.is }
+of_front xs ys cs ds path o = record { target = o.target; one = in_front o.target xs ys o.one; made = λ dir d. in_front dir cs ds (o.made dir d); is = o.is }
 
 of_back : (xs ys : List Target) (cs ds : List Path) (path : Path) → IsOfOne ys ds path → IsOfOne (xs ++ ys) (cs ++ ds) path
-of_back xs ys cs ds path o = record { target = o.target; one = one_back o.target xs ys o.one; made = λ dir d. in_back dir cs ds (o.made dir d); is = o.is }
+of_back xs ys cs ds path o = record { target = o.target; one = in_back o.target xs ys o.one; made = λ dir d. in_back dir cs ds (o.made dir d); is = o.is }
 
 of_set : (groups : List (List Target)) (sets : List SetPlan) (path : Path) → HaveLogs groups sets → IsTouched sets path → IsOfOne (flat_map (λ ts. ts) groups) (all_to_make_of sets) path
 of_set [] [] path h (inl i) = absurd i
@@ -109,9 +101,9 @@ of_set (ts ∷ groups) (s ∷ ss) path h (inr i) = ⊎_elim
 
 -- a mark tells of each of them that was to be made
 is_marked : (sets : List SetPlan) (marks : List Mark) (dirs : List Path) (dir : Path) → AreSynced sets marks dirs → IsIn dir dirs → IsIn dir (all_to_make_of sets) → IsIn (mark.Directory dir) marks
-is_marked sets marks dirs dir s i to_make = go (is_among (made_in marks) dir) refl
+is_marked sets marks dirs dir s i to_make = go (list_any (bytes_eq dir) (made_in marks)) refl
   where
-    go : (b : Bool) → is_among (made_in marks) dir ≡ b → IsIn (mark.Directory dir) marks
+    go : (b : Bool) → list_any (bytes_eq dir) (made_in marks) ≡ b → IsIn (mark.Directory dir) marks
     go true e = made_mark dir marks (among_from (made_in marks) dir e)
     go false e = absurd (true≢false (sym ((unmade_is (all_to_make_of sets) (made_in marks) dir).1 (to_make, λ made. true≢false (sym (among_to (made_in marks) dir made) ∙ e))) ∙ none_unmade sets marks dirs s dir i))
 

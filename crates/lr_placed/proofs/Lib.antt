@@ -1,6 +1,6 @@
 mod Acts
 mod Dirs
 pub mod Lasting
-mod Listed
+pub mod Listed
 pub mod Placed
 mod Reading

@@ -30,7 +30,7 @@ use Rattle.lr_placed.proofs.Dirs.{IsDirOfLog}
 use Rattle.lr_placed.proofs.Lasting.{Says}
 
 -- the directory was seen
-says_seen : (dir : Path) (looks : List Entry) → SawDir dir looks → Says (λ n. IsDirectoryAt n dir) looks
+pub says_seen : (dir : Path) (looks : List Entry) → SawDir dir looks → Says (λ n. IsDirectoryAt n dir) looks
 says_seen dir looks saw = record { entry = entry.Look dir (Some saw.0); among = saw.2; so = λ w j f. seen_dir (world w) (names (world w) dir) saw.0 f saw.1 }
 
 -- ---- the directory of the members
@@ -60,16 +60,16 @@ says_listed rules clock looks t none l = subst (λ (d : Path). Says (λ n. IsDir
     (says_seen t.naming.dir looks (subst (λ (d : Option (Path × Option ℕ)). IsDirSeenBy d t.log t.naming t.stand.members t.job looks) none l.dir))
 
 -- where it makes it, it was missing, and its own directory was seen
-was_missing : (rules : Rules) (clock : Clock) (looks : List Entry) (t : Target) (made : Path) → IsItsDir t made → IsLogSeen rules clock looks t → IsMissingDir t.log t.naming t.stand.members t.job looks made
+pub was_missing : (rules : Rules) (clock : Clock) (looks : List Entry) (t : Target) (made : Path) → IsItsDir t made → IsLogSeen rules clock looks t → IsMissingDir t.log t.naming t.stand.members t.job looks made
 was_missing rules clock looks t made its l = subst (λ (d : Option (Path × Option ℕ)). IsDirSeenBy d t.log t.naming t.stand.members t.job looks) its.1 l.dir
 
-says_parent : (rules : Rules) (clock : Clock) (looks : List Entry) (t : Target) (made : Path) → IsItsDir t made → IsLogSeen rules clock looks t → Says (λ n. IsDirectoryAt n (parent_of made)) looks
+pub says_parent : (rules : Rules) (clock : Clock) (looks : List Entry) (t : Target) (made : Path) → IsItsDir t made → IsLogSeen rules clock looks t → Says (λ n. IsDirectoryAt n (parent_of made)) looks
 says_parent rules clock looks t made its l = says_seen (parent_of made) looks (was_missing rules clock looks t made its l).parent
 
 -- ---- each directory of a log
 
 -- that of the log has a file
-says_own : (rules : Rules) (clock : Clock) (looks : List Entry) (t : Target) → path_fault t.log ≡ None → IsLogSeen rules clock looks t → Says (λ n. IsDirectoryAt n (parent_of t.log)) looks
+pub says_own : (rules : Rules) (clock : Clock) (looks : List Entry) (t : Target) → path_fault t.log ≡ None → IsLogSeen rules clock looks t → Says (λ n. IsDirectoryAt n (parent_of t.log)) looks
 says_own rules clock looks t valid seen = record { entry = entry.Look t.log (Some saw.0); among = saw.2; so = λ w j f. log_dir t w valid j (seen_file (world w) (names (world w) t.log) saw.0 f saw.1) }
   where
     saw : SawFile t.log looks

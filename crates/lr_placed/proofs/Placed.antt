@@ -26,7 +26,7 @@ use Rattle.lr_looks.specs.Shown.{ShowsLooks}
 use Rattle.lr_reading.specs.declared.remembered.Remembered.{Remembered}
 use Rattle.lr_reading.specs.Answers.{ReadsState}
 use Rattle.lr_reading.proofs.Quiet.{state_quiet}
-use Rattle.lr_targets.specs.Target.{Target, IsOneOf}
+use Rattle.lr_targets.specs.Target.{Target}
 use Rattle.lr_mixed.specs.Seen.{IsLogSeen}
 use Rattle.lr_mixed.proofs.Seen.{log_among}
 use Rattle.lr_weave.specs.Parts.{ArePlanned}
@@ -92,11 +92,6 @@ placed free state size r rules sets clock mailer decide marks faults dirs before
       (said (λ n. IsFileAt n (state_part state)) (file_stays (state_part state)) disk reading quiet (reading_says_part state size r stale)));
 }
   where
-    is_in : (t : Target) (ts : List Target) → IsOneOf t ts → IsIn t ts
-    is_in t [] i = absurd i
-    is_in t (x ∷ xs) (inl e) = inl e
-    is_in t (x ∷ xs) (inr i) = inr (is_in t xs i)
-
     reserved : List Path
     reserved = reserved_by state
 
@@ -115,7 +110,7 @@ placed free state size r rules sets clock mailer decide marks faults dirs before
     of_logs : AreDirsOfLogs targets marks dirs
     of_logs = dirs_of_logs (groups_of clock decide rules.sets sets) (all_plans clock mailer decide rules.sets sets) marks dirs plans_are_of synced
 
-    seen : (t : Target) → IsOneOf t targets → (ts : List Entry) → LooksCameTo (reserved_by state) rules.sets sets ts → IsLogSeen rules clock ts t
+    seen : (t : Target) → IsIn t targets → (ts : List Entry) → LooksCameTo (reserved_by state) rules.sets sets ts → IsLogSeen rules clock ts t
     seen t i ts s = log_among rules clock ts targets (targets_seen rules sets s.0 ts clock decide s.1) t i
 
     planned : ArePlanned targets (map steps_of_set (all_plans clock mailer decide rules.sets sets))
@@ -126,11 +121,11 @@ placed free state size r rules sets clock mailer decide marks faults dirs before
         acts_spare reserved targets (map steps_of_set (all_plans clock mailer decide rules.sets sets)) marks faults ts (targets_have_names rules sets shown.0 us clock decide shown.1) (free reserved rules.sets sets shown.0 us clock decide shown.1) planned d) h
 
     -- a directory that was seen, or of which a mark tells
-    stands : (dir : Path) (t : Target) → IsOneOf t targets → IsDirOfLog t marks dir → Holds (λ n. IsDirectoryAt n dir) acted
+    stands : (dir : Path) (t : Target) → IsIn t targets → IsDirOfLog t marks dir → Holds (λ n. IsDirectoryAt n dir) acted
     stands dir t i of = ⊎_elim
         (λ made. marked_stands (map steps_of_set (all_plans clock mailer decide rules.sets sets)) marks faults dir looked acted made acts)
         (λ says. over_acts (λ n. IsDirectoryAt n dir) (dir_stays dir) (dir_kept reserved dir) (said (λ n. IsDirectoryAt n dir) (dir_stays dir) (disk_on reading disk) looks quiet_looks (λ ts s. says ts (seen t i ts s))))
-        (says_dir rules clock us t marks dir (targets_have_paths rules.sets sets shown.0 us clock decide shown.1 t (is_in t targets i)) (seen t i us shown) of)
+        (says_dir rules clock us t marks dir (targets_have_paths rules.sets sets shown.0 us clock decide shown.1 t i) (seen t i us shown) of)
 
     on : (Q : Names → Type 0) → Stays Q → IsKeptBy (Spares reserved) Q → Holds Q read → Holds Q acted
     on Q stays kept h = over_acts Q stays kept (lasts_quiet Q stays looks quiet_looks h)

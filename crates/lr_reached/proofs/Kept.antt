@@ -1,5 +1,5 @@
 -- What the choice among logs is told of ends no run: those that are kept have no name that the run reserves for itself.
-use Rattle.std.proofs.Common.{◌≡◌, inl, inr, ℕ, zero, suc, Bool, true, false, cond, List, [], ◌∷◌, ◌++◌, map, Option, Some, None, slice_get, refl, sym, ap, ◌∙◌, subst}
+use Rattle.std.proofs.Common.{◌≡◌, inl, inr, ℕ, suc, Bool, true, false, cond, List, [], ◌∷◌, ◌++◌, Option, Some, None, slice_get, refl, sym, ap, ◌∙◌, subst}
 use Rattle.std.specs.Borrow.{Bor}
 use Rattle.std.specs.List.{flat_map, AllByRecursion}
 use Rattle.lr_rules.specs.declared.fault.Fault.TheVariants as fault
@@ -14,6 +14,7 @@ use Rattle.lr_looks.specs.Choices.{names_of, found_names, IsChoiceAmong, duplica
 use Rattle.lr_looks.specs.Found.{FoundLog, Hold}
 use Rattle.lr_seen.specs.Free.{reserved_by}
 use Rattle.lr_seen.proofs.Apart.{kept_each}
+use Rattle.lr_seen.proofs.Elements.{map_at, unmap_at}
 use Rattle.lr_reached.specs.Ending.{EndsRun, NoneEnds}
 use Rattle.lr_reached.proofs.Ends.{none_both}
 
@@ -27,18 +28,6 @@ place_of : (xs : List Path) (x : Path) → IsIn x xs → (k : ℕ) × (slice_get
 place_of [] x h = absurd h
 place_of (y ∷ ys) x (inl e) = (0, ap (λ z. Some z) e)
 place_of (y ∷ ys) x (inr i) = let r = place_of ys x i in (suc r.0, r.1)
-
-map_at : {A B : Type 0} (f : A → B) (xs : List A) (k : ℕ) (x : A) → slice_get xs k ≡ Some x → slice_get (map f xs) k ≡ Some (f x)
-map_at f [] zero x h = absurd (cc)
-map_at f [] (suc k) x h = absurd (cc)
-map_at f (y ∷ ys) zero x h = let e : y ≡ x = cc in ap (λ z. Some (f z)) e
-map_at f (y ∷ ys) (suc k) x h = map_at f ys k x h
-
-unmap_at : {A B : Type 0} (f : A → B) (xs : List A) (k : ℕ) (y : B) → slice_get (map f xs) k ≡ Some y → (x : A) × (slice_get xs k ≡ Some x) × (f x ≡ y)
-unmap_at f [] zero y h = absurd (cc)
-unmap_at f [] (suc k) y h = absurd (cc)
-unmap_at f (x ∷ xs) zero y h = (x, refl, cc)
-unmap_at f (x ∷ xs) (suc k) y h = unmap_at f xs k y h
 
 abbrev HasPath : Path → (Path × Naming) → Type 0
 HasPath path n = IsName n.0 n.1 path

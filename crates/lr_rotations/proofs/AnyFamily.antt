@@ -18,14 +18,14 @@ use Rattle.lr_host.proofs.Looked.{nothing_no_file}
 use Rattle.lr_host.proofs.Made.{made_on}
 use Rattle.lr_host.proofs.Names.{put_here, put_other}
 use Rattle.lr_host.proofs.Quiet.{since_before, since_behind}
-use Rattle.lr_laws.proofs.Disk.{leaves_now}
+use Rattle.lr_laws.proofs.Disk.{leaves_now, drawn_grows}
 use Rattle.lr_laws.proofs.Single.{single}
 use Rattle.lr_rotations.specs.Rotated.{IsOn, MakesAt, IsBeside, IsBehind, IsNeverAt}
 use Rattle.lr_rotations.specs.Weave.{Weave}
 use Rattle.lr_rotations.proofs.Fed.{IsTurnOrMake}
 use Rattle.lr_rotations.proofs.Members.{IsOfThese, AreAlikeAt, these_spare, on_spares, spared_alone, these_walk}
 use Rattle.lr_rotations.proofs.Never.{IsInto, inside_own, never_into}
-use Rattle.lr_rotations.proofs.OrMade.{IsOrMade, Spares, SparesOrMakes, spared_or_made, spared_or_anew, drawn_grows, made_behind, made_one, made_more}
+use Rattle.lr_rotations.proofs.OrMade.{IsOrMade, Spares, SparesOrMakes, spared_or_made, spared_or_anew, made_behind, made_one, made_more}
 use Rattle.lr_rotations.proofs.Splitting.{SplitAt, split, weave_each}
 use Rattle.lr_rotations.proofs.Weaving.{weave_as, both_put}
 
@@ -58,7 +58,7 @@ these_into log Own (Renames from to) h = inr h.1
 these_into log Own (Unlinks x) h = tt
 these_into log Own _ h = absurd h
 
-these_turn : (Own : Path → Type 0) (e : Entry) → IsOfThese Own e → IsTurnOrMake e
+pub these_turn : (Own : Path → Type 0) (e : Entry) → IsOfThese Own e → IsTurnOrMake e
 these_turn Own (Renames from to) h = tt
 these_turn Own (Unlinks x) h = tt
 these_turn Own _ h = absurd h
@@ -69,16 +69,16 @@ anew_into : (log : Path) (Own : Path → Type 0) (e : Entry) → MakesAt log e �
 anew_into log Own (Makes x mode) h = tt
 anew_into log Own _ h = absurd h
 
-anew_turns : (log : Path) (e : Entry) → MakesAt log e → IsTurnOrMake e
+pub anew_turns : (log : Path) (e : Entry) → MakesAt log e → IsTurnOrMake e
 anew_turns log (Makes x mode) h = tt
 anew_turns log _ h = absurd h
 
-anew_spares : (log x : Path) (e : Entry) → x ≢ log → MakesAt log e → Spares x e
+pub anew_spares : (log x : Path) (e : Entry) → x ≢ log → MakesAt log e → Spares x e
 anew_spares log x (Makes y mode) l h = λ same. l (same ∙ h)
 anew_spares log x _ l h = absurd h
 
 -- so what stands between is on these paths and on the log's
-beside_on : (paths : List Path) (log : Path) (e : Entry) → IsBeside paths log e → IsOn (log ∷ paths) e
+pub beside_on : (paths : List Path) (log : Path) (e : Entry) → IsBeside paths log e → IsOn (log ∷ paths) e
 beside_on paths log (Renames from to) (inl h) = (inr h.0, inr h.1)
 beside_on paths log (Makes x mode) (inl h) = inr h
 beside_on paths log (MakesDir x mode) (inl h) = inr h
@@ -89,7 +89,7 @@ beside_on paths log (Makes x mode) (inr h) = inl (sym h)
 beside_on paths log _ (inl h) = absurd h
 beside_on paths log _ (inr h) = absurd h
 
-stays_file : (p q : Past) (x : Path) (g : ℕ) → IsOrMade p q x → names (world p) x ≡ thing.File g → names (world q) x ≡ thing.File g
+pub stays_file : (p q : Past) (x : Path) (g : ℕ) → IsOrMade p q x → names (world p) x ≡ thing.File g → names (world q) x ≡ thing.File g
 stays_file p q x g h is = ⊎_elim (λ same. same ∙ is) (λ new. absurd (nothing_no_file (names (world p) x) g new.0 is)) h
 
 -- ---- where the log is a file

@@ -15,9 +15,9 @@ use Rattle.lr_host.specs.Quiet.{is_disk_change}
 use Rattle.lr_host.proofs.Made.{made_journal}
 use Rattle.lr_host.proofs.Quiet.{size, made_size}
 use Rattle.lr_laws.proofs.Sound.{is_file_true}
+use Rattle.lr_laws.proofs.Disk.{drawn_grows}
 use Rattle.lr_rotations.specs.Rotated.{fed, IsOn, IsAtNone, IsNeverAt, not_here, nor_then}
 use Rattle.lr_rotations.proofs.Drawn.{IsDrawn, journal_drawn}
-use Rattle.lr_rotations.proofs.OrMade.{drawn_grows}
 
 -- the file wasn't made yet
 abbrev pub is_new : Past → ℕ → Bool

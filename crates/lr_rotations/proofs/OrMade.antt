@@ -6,7 +6,7 @@ use Rattle.lr_host.specs.declared.thing.Thing.TheVariants as thing
 use Rattle.lr_host.specs.declared.entry.Entry.{Entry}
 use Rattle.lr_host.specs.declared.entry.Entry.TheVariants as entry
 use Rattle.lr_host.specs.declared.entry.Entry.TheVariants.{Attach, Feed, Flush, Detach, Renames, Makes, MakesDir, Unlinks}
-use Rattle.lr_host.specs.World.{World, Past, ◌▸◌, world, names, Step, Stays, Adds, Settles, Keeps, step, drawn_after, put}
+use Rattle.lr_host.specs.World.{Past, ◌▸◌, world, names, step, put}
 use Rattle.lr_host.specs.Fits.{Fits}
 use Rattle.lr_host.specs.Told.{Each, IsTools, IsWriters, Made, at_first, by_writer, by_tool}
 use Rattle.lr_host.specs.Quiet.{is_disk_change}
@@ -15,16 +15,11 @@ use Rattle.lr_host.proofs.Each.{each_as}
 use Rattle.lr_host.proofs.Names.{put_here, put_other}
 use Rattle.lr_host.proofs.Quiet.{looked_names}
 use Rattle.lr_rotations.specs.Rotated.{MakesAt, IsBehind, itself, one_more}
+use Rattle.lr_laws.proofs.Disk.{drawn_grows}
 
 -- the path names what it named, or a file that was made since
 abbrev pub IsOrMade : Past → Past → Path → Type 0
 IsOrMade p q x = (names (world q) x ≡ names (world p) x) ⊎ ((names (world p) x ≡ thing.Nothing) × ((g : ℕ) × (names (world q) x ≡ thing.File g) × ((world p).drawn ≤ g)))
-
-pub drawn_grows : (w : World) (st : Step) → w.drawn ≤ drawn_after w st
-drawn_grows w Stays = omega arith
-drawn_grows w (Adds c) = omega arith
-drawn_grows w (Settles dir) = omega arith
-drawn_grows w (Keeps kept) = omega arith
 
 pub made_drawn : (p q : Past) (es : List Entry) → Made p es q → (world p).drawn ≤ (world q).drawn
 made_drawn p _ _ at_first = omega arith

@@ -9,15 +9,12 @@ use Rattle.lr_rules.specs.declared.path.Path.{Path}
 use Rattle.lr_rules.specs.declared.rules.Rules.{Rules}
 use Rattle.lr_rules.specs.Path.{path_fault, parent_of}
 use Rattle.lr_host.specs.declared.entry.Entry.{Entry}
-use Rattle.lr_host.specs.declared.entry.Entry.TheVariants as entry
 use Rattle.lr_host.specs.Fits.{IsDirectoryAt}
 use Rattle.lr_host.specs.Lists.{IsIn}
 use Rattle.lr_host.specs.Steps.{is_change}
 use Rattle.lr_host.specs.Told.{Each}
-use Rattle.lr_host.specs.World.{world, names}
 use Rattle.lr_host.proofs.Each.{each_as}
 use Rattle.lr_host.proofs.Lists.{in_append, in_front, in_back}
-use Rattle.lr_host.proofs.Looked.{seen_file, seen_dir}
 use Rattle.lr_durable.specs.Renewing.{IsWithin}
 use Rattle.lr_durable.specs.StateWhole.{renamed_paths}
 use Rattle.lr_chain.specs.declared.ready.Ready.{Ready}
@@ -27,34 +24,22 @@ use Rattle.lr_plan.specs.declared.planned.LogPlan.{LogPlan}
 use Rattle.lr_plan.specs.declared.planned.SetPlan.{SetPlan}
 use Rattle.lr_plan.specs.Done.{SetsDone}
 use Rattle.lr_plan.specs.Steps.{steps_of_set}
-use Rattle.lr_rotations.specs.Shown.{SawDir}
-use Rattle.lr_rotations.proofs.Moments.{SawFile, saw_one}
 use Rattle.lr_targets.specs.AllTurns.{IsItsDir, IsOf}
-use Rattle.lr_targets.specs.Target.{Target, IsMissingDir, IsDirSeenBy, IsOneOf}
+use Rattle.lr_targets.specs.Target.{Target, IsDirSeenBy}
 use Rattle.lr_mixed.specs.Seen.{IsLogSeen, AreLogsSeen}
 use Rattle.lr_mixed.proofs.Seen.{log_among}
-use Rattle.lr_weave.specs.Guarded.{HasAll, Allowed, AllowsMore, AllowsLog}
+use Rattle.lr_weave.proofs.Allowed.{HasAll, Allowed, AllowsMore, AllowsLog}
 use Rattle.lr_weave.specs.Planned.{IsReadyFor, AreReadyFor, HaveLogs}
 use Rattle.lr_weave.proofs.Guarding.{acts_guarded}
 use Rattle.lr_weave.proofs.Planning.{dir_is}
-use Rattle.lr_weave.proofs.Seen.{log_dir}
 use Rattle.lr_synced.specs.Synced.{changed_of, all_changed_of, made_of, to_make_of, all_to_make_of, made_in, is_unmade, AreSynced}
 use Rattle.lr_synced.proofs.Laws.{IsTouched, mark_made, made_mark, unmade_is, made_isnt, other_isnt, has_parent}
 use Rattle.lr_placed.proofs.Lasting.{Says}
+use Rattle.lr_placed.proofs.Listed.{says_seen, says_own, was_missing, says_parent}
 use Rattle.lr_run.proofs.Covering.{IsPlaced, log_placed}
 use Rattle.lr_run.proofs.Made.{DontClash}
 
 -- ---- the paths of a plan, and those of its logs
-
-pub one_in : (t : Target) (ts : List Target) → IsOneOf t ts → IsIn t ts
-one_in t [] i = absurd i
-one_in t (x ∷ xs) (inl e) = inl e
-one_in t (x ∷ xs) (inr i) = inr (one_in t xs i)
-
-one_of_two : (t : Target) (xs ys : List Target) → IsOneOf t (xs ++ ys) → IsOneOf t xs ⊎ IsOneOf t ys
-one_of_two t [] ys i = inr i
-one_of_two t (x ∷ xs) ys (inl e) = inl (inl e)
-one_of_two t (x ∷ xs) ys (inr i) = ⊎_elim (λ a. inl (inr a)) (λ b. inr b) (one_of_two t xs ys i)
 
 -- the log's path, the one that it gets and the directory that its rotation makes are among these
 record IsCovered (changed to_make : List Path) (t : Target) : Type 0 where
@@ -76,34 +61,25 @@ covered_own t log r = record {
   dir = λ x i. subst (λ (d : Option (Path × Option ℕ)). IsIn x (made_of d)) (sym (dir_is t log r ∙ i.1)) (inl refl);
 }
 
-covered_log : (t : Target) (ts : List Target) (logs : List LogPlan) → AreReadyFor ts logs → IsOneOf t ts → IsCovered (changed_of logs) (to_make_of logs) t
+covered_log : (t : Target) (ts : List Target) (logs : List LogPlan) → AreReadyFor ts logs → IsIn t ts → IsCovered (changed_of logs) (to_make_of logs) t
 covered_log t [] logs r i = absurd i
 covered_log t (u ∷ us) [] r i = absurd r
 covered_log t (u ∷ us) (l ∷ ls) r (inl e) = covered_in t (l.ready.log ∷ l.ready.target ∷ []) (changed_of ls) (made_of l.ready.dir) (to_make_of ls) (subst (IsCovered (l.ready.log ∷ l.ready.target ∷ []) (made_of l.ready.dir)) e (covered_own u l r.0))
 covered_log t (u ∷ us) (l ∷ ls) r (inr i) = covered_by t (l.ready.log ∷ l.ready.target ∷ []) (changed_of ls) (made_of l.ready.dir) (to_make_of ls) (covered_log t us ls r.1 i)
 
-covered : (t : Target) (groups : List (List Target)) (sets : List SetPlan) → HaveLogs groups sets → IsOneOf t (flat_map (λ ts. ts) groups) → IsCovered (all_changed_of sets) (all_to_make_of sets) t
+covered : (t : Target) (groups : List (List Target)) (sets : List SetPlan) → HaveLogs groups sets → IsIn t (flat_map (λ ts. ts) groups) → IsCovered (all_changed_of sets) (all_to_make_of sets) t
 covered t [] sets h i = absurd i
 covered t (ts ∷ groups) [] h i = absurd h
 covered t (ts ∷ groups) (s ∷ ss) h i = ⊎_elim
     (λ a. covered_in t (changed_of s.logs) (all_changed_of ss) (to_make_of s.logs) (all_to_make_of ss) (covered_log t ts s.logs h.0 a))
     (λ b. covered_by t (changed_of s.logs) (all_changed_of ss) (to_make_of s.logs) (all_to_make_of ss) (covered t groups ss h.1 b))
-    (one_of_two t ts (flat_map (λ ts. ts) groups) i)
+    (in_append t ts (flat_map (λ ts. ts) groups) i)
 
 -- the rotation of one of these makes the directory
 record IsOfOne (ts : List Target) (dir : Path) : Type 0 where
   target : Target
-  one : IsOneOf target ts
+  one : IsIn target ts
   its : IsItsDir target dir
-
-one_front : (t : Target) (xs ys : List Target) → IsOneOf t xs → IsOneOf t (xs ++ ys)
-one_front t [] ys i = absurd i
-one_front t (x ∷ xs) ys (inl e) = inl e
-one_front t (x ∷ xs) ys (inr i) = inr (one_front t xs ys i)
-
-one_back : (t : Target) (xs ys : List Target) → IsOneOf t ys → IsOneOf t (xs ++ ys)
-one_back t [] ys i = i
-one_back t (x ∷ xs) ys i = inr (one_back t xs ys i)
 
 made_log : (ts : List Target) (logs : List LogPlan) (dir : Path) → AreReadyFor ts logs → IsIn dir (to_make_of logs) → IsOfOne ts dir
 made_log [] [] dir r i = absurd i
@@ -121,21 +97,9 @@ made_one [] [] dir h i = absurd i
 made_one [] (s ∷ ss) dir h i = absurd h
 made_one (ts ∷ groups) [] dir h i = absurd h
 made_one (ts ∷ groups) (s ∷ ss) dir h i = ⊎_elim
-    (λ a. let o = made_log ts s.logs dir h.0 a in record { target = o.target; one = one_front o.target ts (flat_map (λ ts. ts) groups) o.one; its = o.its })
-    (λ b. let o = made_one groups ss dir h.1 b in record { target = o.target; one = one_back o.target ts (flat_map (λ ts. ts) groups) o.one; its = o.its })
+    (λ a. let o = made_log ts s.logs dir h.0 a in record { target = o.target; one = in_front o.target ts (flat_map (λ ts. ts) groups) o.one; its = o.its })
+    (λ b. let o = made_one groups ss dir h.1 b in record { target = o.target; one = in_back o.target ts (flat_map (λ ts. ts) groups) o.one; its = o.its })
     (in_append dir (to_make_of s.logs) (all_to_make_of ss) i)
-
--- ---- what looks tell of directories
-
-says_seen : (dir : Path) (looks : List Entry) → SawDir dir looks → Says (λ n. IsDirectoryAt n dir) looks
-says_seen dir looks saw = record { entry = entry.Look dir (Some saw.0); among = saw.2; so = λ w j f. seen_dir (world w) (names (world w) dir) saw.0 f saw.1 }
-
--- that of a log that was seen stands
-says_own : (rules : Rules) (clock : Clock) (looks : List Entry) (t : Target) → path_fault t.log ≡ None → IsLogSeen rules clock looks t → Says (λ n. IsDirectoryAt n (parent_of t.log)) looks
-says_own rules clock looks t valid seen = record { entry = entry.Look t.log (Some saw.0); among = saw.2; so = λ w j f. log_dir t w valid j (seen_file (world w) (names (world w) t.log) saw.0 f saw.1) }
-  where
-    saw : SawFile t.log looks
-    saw = saw_one t.log looks seen.log_seen
 
 -- ---- what the marks allow
 
@@ -166,18 +130,15 @@ module _ (sets : List SetPlan) where
 
   -- of logs that were seen on a disk
   module _ (rules : Rules) (clock : Clock) (looks : List Entry) (groups : List (List Target)) (logs : HaveLogs groups sets) (seen : AreLogsSeen rules clock looks (flat_map (λ ts. ts) groups))
-      (valid : (t : Target) → IsOneOf t (flat_map (λ ts. ts) groups) → path_fault t.log ≡ None) (apart : DontClash looks) where
+      (valid : (t : Target) → IsIn t (flat_map (λ ts. ts) groups) → path_fault t.log ≡ None) (apart : DontClash looks) where
     abbrev targets : List Target
     targets = flat_map (λ ts. ts) groups
 
-    missing : (t : Target) (dir : Path) (mode : Option ℕ) → IsLogSeen rules clock looks t → t.ready.dir ≡ Some (dir, mode) → IsMissingDir t.log t.naming t.stand.members t.job looks dir
-    missing t dir mode l is = subst (λ (d : Option (Path × Option ℕ)). IsDirSeenBy d t.log t.naming t.stand.members t.job looks) is l.dir
-
     -- a directory that stands isn't to be made
     stands : (dir : Path) → Says (λ n. IsDirectoryAt n dir) looks → IsIn dir (all_to_make_of sets) → ⊥
-    stands dir says i = let o = made_one groups sets dir logs i in apart dir (missing o.target dir o.its.0 (log_among rules clock looks targets seen o.target o.one) o.its.1).gone says
+    stands dir says i = let o = made_one groups sets dir logs i in apart dir (was_missing rules clock looks o.target dir o.its (log_among rules clock looks targets seen o.target o.one)).gone says
 
-    module _ (t : Target) (i : IsOneOf t targets) where
+    module _ (t : Target) (i : IsIn t targets) where
       l : IsLogSeen rules clock looks t
       l = log_among rules clock looks targets seen t i
 
@@ -203,7 +164,7 @@ module _ (sets : List SetPlan) where
         path = x;
         touched = inr (c.dir x its);
         beside = refl;
-        made = other_isnt (all_to_make_of sets) (made_in marks) (parent_of x) (stands (parent_of x) (says_seen (parent_of x) looks (missing t x its.0 l its.1).parent));
+        made = other_isnt (all_to_make_of sets) (made_in marks) (parent_of x) (stands (parent_of x) (says_parent rules clock looks t x its l));
       }
 
       all_at : (marks : List Mark) (e : Entry) → is_unmade (all_to_make_of sets) (made_in marks) t.naming.dir ≡ false → IsOf t e → AreSyncedAt marks e
@@ -218,8 +179,8 @@ module _ (sets : List SetPlan) where
         plain = λ none marks e o. all_at marks e (seen_dir_made marks none) o;
         made = λ dir mode is marks x j. ⊎_elim (λ same. at_dir marks x (mode, is ∙ ap (λ (y : Path). Some (y, mode)) same)) (λ none. absurd none) j;
         behind = λ dir mode is marks told e o.
-            all_at marks e (made_isnt (all_to_make_of sets) (made_in marks) t.naming.dir (subst (λ (d : Path). IsIn d (made_in marks)) (missing t dir mode l is).dir_is (mark_made dir marks told))) o;
-        no_leftovers = λ dir mode is. placed.no_leftovers (missing t dir mode l is).no_members;
+            all_at marks e (made_isnt (all_to_make_of sets) (made_in marks) t.naming.dir (subst (λ (d : Path). IsIn d (made_in marks)) (was_missing rules clock looks t dir (mode, is) l).dir_is (mark_made dir marks told))) o;
+        no_leftovers = λ dir mode is. placed.no_leftovers (was_missing rules clock looks t dir (mode, is) l).no_members;
       }
 
     -- each change of the acts is in one of these directories

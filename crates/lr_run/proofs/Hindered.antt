@@ -53,7 +53,7 @@ use Rattle.lr_looks.specs.Found.{FoundLog}
 use Rattle.lr_looks.specs.Sets.{looked_in}
 use Rattle.lr_looks.specs.Shown.{ShowsLooks}
 use Rattle.lr_targets.specs.AllTurns.{IsOf, IsOfSome, IsOfState}
-use Rattle.lr_targets.specs.Target.{Target, IsOneOf}
+use Rattle.lr_targets.specs.Target.{Target}
 use Rattle.lr_dated_seen.specs.Shown.{WasSeen, ShownDated}
 use Rattle.lr_dated_seen.proofs.Rotating.{file_stands}
 use Rattle.lr_dated_run.specs.Own.{HasAnyNames, HaveAnyNames}
@@ -203,7 +203,7 @@ unlinks_own : (t : Target) (path : Path) (e : Entry) → HasAnyNames t → (IsOw
 unlinks_own t path (entry.Unlinks x) h none i = λ same. none (subst (IsOwnName t.log t.naming) same (unlinked_own t h x i))
 unlinks_own t path _ h none i = tt
 
-some_spare : (path : Path) (ts : List Target) → HaveAnyNames ts → ((t : Target) → IsOneOf t ts → IsOwnName t.log t.naming path → ⊥) → (e : Entry) → IsOfSome ts e → Spares path e
+some_spare : (path : Path) (ts : List Target) → HaveAnyNames ts → ((t : Target) → IsIn t ts → IsOwnName t.log t.naming path → ⊥) → (e : Entry) → IsOfSome ts e → Spares path e
 some_spare path [] h none e i = absurd i
 some_spare path (t ∷ ts) h none e (inl i) = unlinks_own t path e h.0 (none t (inl refl)) i
 some_spare path (t ∷ ts) h none e (inr i) = some_spare path ts h.1 (λ u j. none u (inr j)) e i
@@ -273,17 +273,12 @@ module _ (state : Path) (rules : Rules) (sets : List SetLooks) (faults : List Fa
   no_reserved y i same = kept_has_none rules.sets sets faults looks s kept.0 kept.1 y i (inl (subst (IsOwnName kept.0.log.path kept.0.log.naming) same own_kept))
 
   -- it is no name of a log that is rotated
-  no_name : (t : Target) → IsOneOf t (all_targets clock decide rules.sets sets) → IsOwnName t.log t.naming path → ⊥
+  no_name : (t : Target) → IsIn t (all_targets clock decide rules.sets sets) → IsOwnName t.log t.naming path → ⊥
   no_name t one mine = ⊎_elim same (λ off. ⊎_elim (λ (a : OffLooked y x). a.1 (path, inl (mine_of, inl own))) (λ (b : OffLooked x y). b.1 (path, inl (own, inl mine_of))) off)
       (pairs_two OffLooked (looked_of s.kept s.entries.second.families.sights) (looked_pairs s.kept s.entries.second.families.sights (kept_off rules.sets sets faults looks s)) y x in_y in_sights)
     where
-      in_list : (us : List Target) → IsOneOf t us → IsIn t us
-      in_list [] i = i
-      in_list (u ∷ us) (inl e) = inl e
-      in_list (u ∷ us) (inr i) = inr (in_list us i)
-
       c : Comes clock rules.sets sets t
-      c = comes_from clock decide rules.sets sets t (in_list (all_targets clock decide rules.sets sets) one)
+      c = comes_from clock decide rules.sets sets t one
 
       y : LookedLog
       y = looked_in (0 + c.place) c.look

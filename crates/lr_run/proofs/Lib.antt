@@ -17,6 +17,8 @@ pub mod Taken
 pub mod Rotating
 pub mod Turning
 pub mod Owned
+pub mod Courses
+pub mod Members
 mod Covering
 pub mod Made
 mod Guarding

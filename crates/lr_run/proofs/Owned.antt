@@ -1,9 +1,7 @@
 -- What is done to a log changes own names of it, or makes the directory of its family.
-use Rattle.std.proofs.Common.{◌⊎◌, inl, inr, ⊎_elim, refl, sym, ◌∙◌, subst, [], ◌∷◌}
+use Rattle.std.proofs.Common.{◌⊎◌, inl, inr, ⊎_elim, refl, sym, subst, [], ◌∷◌}
 use Rattle.lr_rules.specs.declared.path.Path.{Path}
-use Rattle.lr_rules.specs.declared.rule.Naming.{Naming}
-use Rattle.lr_rules.specs.Names.{IsOwnName, the_log, a_part}
-use Rattle.lr_stamps.proofs.StampShapes.{dated_shape}
+use Rattle.lr_rules.specs.Names.{IsOwnName, the_log}
 use Rattle.lr_host.specs.declared.entry.Entry.{Entry}
 use Rattle.lr_host.specs.declared.entry.Entry.TheVariants as entry
 use Rattle.lr_host.specs.Lists.{IsIn}
@@ -13,9 +11,8 @@ use Rattle.lr_targets.specs.Apart.{HasNames}
 use Rattle.lr_targets.specs.Target.{Target, rotation_of}
 use Rattle.lr_targets.proofs.Apart.{AllOwn, part_own, own_paths}
 use Rattle.lr_rotations.proofs.Weaving.{each_in}
-use Rattle.lr_dated_run.specs.Own.{IsDatedName, ChangesOwn, MakesItsDir, HasAnyNames}
-use Rattle.lr_dated_run.proofs.Own.{dated_own, dated_turns}
-use Rattle.lr_dated_run.proofs.PartFile.{part_joined}
+use Rattle.lr_dated_run.specs.Own.{ChangesOwn, MakesItsDir, HasAnyNames}
+use Rattle.lr_dated_run.proofs.Own.{dated_turns, named_own}
 
 -- ---- what is done to a log
 
@@ -32,16 +29,10 @@ also_own t h (entry.Appends y bytes) p = inl (λ x i. in_one (IsOwnName t.log t.
 also_own t h (entry.Truncates y) p = inl (λ x i. in_one (IsOwnName t.log t.naming) y x (the_log p.1) i)
 also_own t h _ none = absurd none
 
--- a dated member and its part file are own names, and so is the log
-dated_name_own : (log : Path) (n : Naming) (x : Path) → IsDatedName log n x → IsOwnName log n x
-dated_name_own log n x (inl is) = the_log is
-dated_name_own log n x (inr (inl m)) = dated_own log n m.0 m.1 x m.2
-dated_name_own log n x (inr (inr (member, m, is))) = let h = dated_shape n m.0 m.1 member m.2 in a_part h.0 h.1 (is ∙ part_joined n.dir h.0 member h.2)
-
 own_or_makes : (t : Target) → HasAnyNames t → (e : Entry) → IsOf t e → ChangesOwn t.log t.naming e ⊎ MakesItsDir t e
 own_or_makes t (inl h) e (inl i) = inl (each_in (AllOwn t.log t.naming) (rotation_of t) e (own_paths t h) i)
 own_or_makes t (inl h) e (inr also) = also_own t h e also
-own_or_makes t (inr h) e i = ⊎_elim (λ changes. inl (λ x j. dated_name_own t.log t.naming x (changes x j))) (λ makes. inr makes) (dated_turns t e h i)
+own_or_makes t (inr h) e i = ⊎_elim (λ changes. inl (λ x j. named_own t.log t.naming x (changes x j))) (λ makes. inr makes) (dated_turns t e h i)
 
 made_its : (t : Target) (e : Entry) → MakesItsDir t e → (x : Path) → IsIn x (changed_paths e) → IsItsDir t x
 made_its t (entry.MakesDir y mode) d x i = in_one (IsItsDir t) y x d i

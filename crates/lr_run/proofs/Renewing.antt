@@ -12,6 +12,7 @@ use Rattle.lr_rules.specs.Path.{path_fault, parent_of}
 use Rattle.lr_host.specs.declared.entry.Entry.{Entry}
 use Rattle.lr_host.specs.declared.entry.Entry.TheVariants as entry
 use Rattle.lr_host.specs.declared.journal.Journal.{Journal}
+use Rattle.lr_host.specs.Lists.{IsIn}
 use Rattle.lr_host.specs.Looks.{IsDir}
 use Rattle.lr_host.specs.Quiet.{IsQuiet, AreQuiet, is_disk_change}
 use Rattle.lr_host.specs.Steps.{is_change}
@@ -32,11 +33,11 @@ use Rattle.lr_plan.specs.Planned.{decision}
 use Rattle.lr_plan.specs.Steps.{steps_of_set}
 use Rattle.lr_targets.specs.AllTurns.{IsOfSome}
 use Rattle.lr_dated_run.specs.Own.{HaveAnyNames}
-use Rattle.lr_targets.specs.Target.{Target, IsOneOf}
+use Rattle.lr_targets.specs.Target.{Target}
 use Rattle.lr_weave.specs.Parts.{ArePlanned}
 use Rattle.lr_weave.specs.Planned.{HaveLogs}
 use Rattle.lr_weave.proofs.Parting.{done_some, cut_some}
-use Rattle.lr_weave.proofs.Planning.{ready_planned}
+use Rattle.lr_weave.proofs.Planning.{ready_planned, each_end}
 use Rattle.lr_seen.specs.Targets.{groups_of, all_targets}
 use Rattle.lr_seen.proofs.Apart.{targets_apart}
 use Rattle.lr_seen.proofs.Free.{targets_free}
@@ -53,10 +54,10 @@ use Rattle.lr_run.specs.declared.answer.RunStop.{RunStop}
 use Rattle.lr_run.specs.declared.answer.RunStop.TheVariants as stop
 use Rattle.lr_run.specs.Runs as runs
 use Rattle.lr_run.specs.Answers.{Answers}
-use Rattle.lr_run.specs.Runs.{Inside, Looked, Worked, Works, not_known, too_big, worked, Runs, no_directory, not_seen, not_begun, BrokeOff, at_first, in_looks, in_acts, plan_in, state_text}
+use Rattle.lr_run.specs.Runs.{Looked, Worked, Works, not_known, too_big, worked, Runs, no_directory, not_seen, not_begun, BrokeOff, at_first, in_looks, in_acts, plan_in, state_text}
 use Rattle.lr_run.specs.State.{Tells, IsNewText}
 use Rattle.lr_run.proofs.Covering.{none_changed, none_aside, none_within, of_changes, some_aside}
-use Rattle.lr_run.proofs.Guarding.{one_in, changes_within}
+use Rattle.lr_run.proofs.Guarding.{changes_within}
 use Rattle.lr_run.proofs.Made.{AreMade, are_made, made_by_tools, made_first, made_later, DontClash, dont_clash}
 use Rattle.lr_run.proofs.Shape.{sees_quiet, some_quiet, seen_quiet, looked_parts, in_parts}
 
@@ -83,10 +84,6 @@ spares_aside x _ i s c = c
 all_aside : (x : Path) (ts : List Entry) → Each IsTools ts → Each (Spares x) ts → Each (IsAsideOf x) ts
 all_aside x [] i s = tt
 all_aside x (t ∷ ts) i s = (spares_aside x t i.0 s.0, all_aside x ts i.1 s.1)
-
-pub each_later : (P : Entry → Type 0) (xs ys : List Entry) → Each P (xs ++ ys) → Each P ys
-each_later P [] ys a = a
-each_later P (x ∷ xs) ys a = each_later P xs ys a.1
 
 -- the pieces of a text
 record InPieces (to : Path) (text : List ℕ) (ts : List Entry) : Type 0 where
@@ -189,8 +186,8 @@ module _ (state : Path) (rules : Rules) (clock : Clock) (asked : Asked) where
     have_names : HaveAnyNames targets
     have_names = targets_have_names rules l.sets l.of_looks l.looks clock decide l.shown
 
-    valid : (t : Target) → IsOneOf t targets → path_fault t.log ≡ None
-    valid t i = targets_have_paths rules.sets l.sets l.of_looks l.looks clock decide l.shown t (one_in t targets i)
+    valid : (t : Target) → IsIn t targets → path_fault t.log ≡ None
+    valid t i = targets_have_paths rules.sets l.sets l.of_looks l.looks clock decide l.shown t i
 
     -- the looks were made on a disk, so what one of them tells of a directory none denies
     looks_agree : AreMade ts → DontClash l.looks
@@ -213,7 +210,7 @@ module _ (state : Path) (rules : Rules) (clock : Clock) (asked : Asked) where
   -- a first part of the acts
   broke_aside : (ts : List Entry) → AreMade ts → BrokeOff state rules.sets clock asked ts → Each (IsAsideOf state) ts
   broke_aside ts made b = subst (Each (IsAsideOf state)) (sym parts)
-      (behind_aside ts b.looked b.looked.acts (each_later IsTools (b.looked.reads ++ b.looked.looks) b.looked.acts (subst (Each IsTools) parts (made_by_tools ts made)))
+      (behind_aside ts b.looked b.looked.acts (each_end IsTools (b.looked.reads ++ b.looked.looks) b.looked.acts (subst (Each IsTools) parts (made_by_tools ts made)))
       (cut_some (targets ts b.looked) (map steps_of_set (plan_in state rules.sets ts b.looked clock asked).sets) b.marks b.of_acts b.looked.acts (planned ts b.looked) b.part))
     where
       parts : ts ≡ (b.looked.reads ++ b.looked.looks) ++ b.looked.acts
@@ -237,10 +234,10 @@ module _ (state : Path) (rules : Rules) (clock : Clock) (asked : Asked) where
     tools_of = subst (Each IsTools) in_three (made_by_tools ts made)
 
     acts_tools : Each IsTools acts
-    acts_tools = each_later IsTools (seen ts l) acts (each_first IsTools (seen ts l ++ acts) w.acted.entries.entries.back tools_of)
+    acts_tools = each_end IsTools (seen ts l) acts (each_first IsTools (seen ts l ++ acts) w.acted.entries.entries.back tools_of)
 
     back_tools : Each IsTools w.acted.entries.entries.back
-    back_tools = each_later IsTools (seen ts l ++ acts) w.acted.entries.entries.back tools_of
+    back_tools = each_end IsTools (seen ts l ++ acts) w.acted.entries.entries.back tools_of
 
     acts_aside : Each (IsAsideOf state) (seen ts l ++ acts)
     acts_aside = behind_aside ts l acts acts_tools of_logs

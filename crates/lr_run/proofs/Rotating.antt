@@ -40,7 +40,7 @@ use Rattle.lr_targets.specs.Apart.{HasNames}
 use Rattle.lr_rotations.specs.Members.{IsNoMember}
 use Rattle.lr_rotations.specs.Rotated.{AreOutside, RotatesAmong}
 use Rattle.lr_rotations.proofs.Outside.{place_name}
-use Rattle.lr_targets.specs.Target.{Target, HasDir, IsOneOf}
+use Rattle.lr_targets.specs.Target.{Target, HasDir}
 use Rattle.lr_targets.proofs.SeenFits.{has_dir, seen_names}
 use Rattle.lr_rotations.proofs.WholeRotated.{seen_members, rotated_whole}
 use Rattle.lr_dated_seen.specs.Family.{IsNoDated, IsDatedFamily}
@@ -79,7 +79,7 @@ seen_kin rules clock looks t l = go t.naming.dated refl
     go None is = (numbered_seen rules clock looks t l is).family.kin
     go (Some format) is = (dated_seen rules clock looks t format l is).family.kin
 
-none_of : (t x : Target) (xs : List Target) → NoneMeets t xs → IsOneOf x xs → Meet x.log x.naming t.log t.naming → ⊥
+none_of : (t x : Target) (xs : List Target) → NoneMeets t xs → IsIn x xs → Meet x.log x.naming t.log t.naming → ⊥
 none_of t x [] n i m = i
 none_of t x (y ∷ ys) n (inl e) m = n.0 (subst (λ (z : Target). Meet z.log z.naming t.log t.naming) (sym e) m)
 none_of t x (y ∷ ys) n (inr i) m = none_of t x ys n.1 i m
@@ -88,7 +88,7 @@ meets_back : (x t : Target) → IsKin x.log x.naming → IsKin t.log t.naming �
 meets_back x t h g m = meet_back (record { log = x.log; naming = x.naming; kin = h }) (record { log = t.log; naming = t.naming; kin = g }) m
 
 -- none of the others meets it, whichever stands first
-apart_of : (t x : Target) (ts : List Target) → ((y : Target) → IsOneOf y ts → IsKin y.log y.naming) → DontMeet ts → IsOneOf x ts → IsOneOf t ts → x.log ≢ t.log → Meet x.log x.naming t.log t.naming → ⊥
+apart_of : (t x : Target) (ts : List Target) → ((y : Target) → IsIn y ts → IsKin y.log y.naming) → DontMeet ts → IsIn x ts → IsIn t ts → x.log ≢ t.log → Meet x.log x.naming t.log t.naming → ⊥
 apart_of t x [] kin d i j ne m = i
 apart_of t x (y ∷ ys) kin d (inl e) (inl f) ne m = ne (ap (λ (z : Target). z.log) (sym e ∙ f))
 apart_of t x (y ∷ ys) kin d (inl e) (inr j) ne m = none_of y t ys d.0 j (subst (λ (z : Target). Meet t.log t.naming z.log z.naming) (sym e) (meets_back x t (kin x (inl e)) (kin t (inr j)) m))
@@ -140,7 +140,7 @@ module _ (rules : Rules) (clock : Clock) (looks : List Entry) (t : Target) (form
 
 -- ---- the run
 
-free_one : (reserved : List Path) (t : Target) (ts : List Target) → AreFreeOf reserved ts → IsOneOf t ts → IsFreeOf reserved t
+free_one : (reserved : List Path) (t : Target) (ts : List Target) → AreFreeOf reserved ts → IsIn t ts → IsFreeOf reserved t
 free_one reserved t [] f i = absurd i
 free_one reserved t (x ∷ xs) f (inl e) = subst (IsFreeOf reserved) e f.0
 free_one reserved t (x ∷ xs) f (inr i) = free_one reserved t xs f.1 i
@@ -206,7 +206,7 @@ module _ (state : Path) (asked : Asked) (clock : Clock) (rules : Rules) (own : L
   known_dir : HasDir t
   known_dir = has_dir t turned.turns.looks seen.dir
 
-  others_apart : (x : Target) → IsOneOf x targets → x.log ≢ t.log → Meet x.log x.naming t.log t.naming → ⊥
+  others_apart : (x : Target) → IsIn x targets → x.log ≢ t.log → Meet x.log x.naming t.log t.naming → ⊥
   others_apart x j = apart_of t x targets (λ y k. seen_kin rules clock turned.turns.looks y (log_among rules clock turned.turns.looks turned.turns.targets turned.turns.seen y k)) (targets_dont_meet rules.sets l.sets l.of_looks l.looks clock decide l.shown) j one
 
   -- ---- a log with numbers

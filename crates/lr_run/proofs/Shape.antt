@@ -14,13 +14,13 @@ use Rattle.lr_rules.specs.declared.rules.Rules.{Rules}
 use Rattle.lr_rules.specs.Path.{parent_of}
 use Rattle.lr_host.specs.declared.entry.Entry.{Entry}
 use Rattle.lr_host.specs.declared.entry.Entry.TheVariants as entry
-use Rattle.lr_host.specs.Lists.{IsIn}
 use Rattle.lr_host.specs.Looks.{Sees, IsDir, IsFile}
 use Rattle.lr_host.specs.declared.thing.Seen.{Seen}
 use Rattle.lr_host.specs.Quiet.{AreQuiet}
 use Rattle.lr_host.specs.Steps.{is_change}
 use Rattle.lr_host.specs.Told.{Each}
 use Rattle.lr_host.proofs.Each.{each_append, each_as}
+use Rattle.lr_host.proofs.Lists.{in_back}
 use Rattle.lr_host.proofs.Quiet.{quiet_both}
 use Rattle.lr_family.specs.declared.stand.Member.{Member}
 use Rattle.lr_family.specs.Spots.{path_at}
@@ -125,10 +125,6 @@ written_whole state clock rules ts us t a = record {
 
 -- ---- what was seen behind a reading
 
-in_behind : (e : Entry) (xs ys : List Entry) → IsIn e ys → IsIn e (xs ++ ys)
-in_behind e [] ys i = i
-in_behind e (x ∷ xs) ys i = inr (in_behind e xs ys i)
-
 among_later : (P : List Entry → Type 0) (xs ys : List Entry) → Among P ys → Among P (xs ++ ys)
 among_later P xs ys a = record { before = xs ++ a.before; part = a.part; after = a.after; joined = ap (λ zs. xs ++ zs) a.joined ∙ sym (append_assoc xs a.before (a.part ++ a.after)); is = a.is }
 
@@ -148,27 +144,27 @@ given_later xs looks g = record {
 shows_later : (maxage : Option ℕ) (clock : Clock) (xs looks : List Entry) (t : Target) (d : Option Format) → IsSeenBy d maxage clock looks t → IsSeenBy d maxage clock (xs ++ looks) t
 shows_later maxage clock xs looks t None s = record {
   family = s.family;
-  seen = shown_in t.naming (places_of t.stand.members) looks (xs ++ looks) (λ e i. in_behind e xs looks i) s.seen;
-  sights = λ m i. in_behind (entry.Look (path_at t.naming (number_in m.place)) (Some m.seen)) xs looks (s.sights m i);
+  seen = shown_in t.naming (places_of t.stand.members) looks (xs ++ looks) (λ e i. in_back e xs looks i) s.seen;
+  sights = λ m i. in_back (entry.Look (path_at t.naming (number_in m.place)) (Some m.seen)) xs looks (s.sights m i);
   from_is = s.from_is;
   low = s.low;
   ready = s.ready;
 }
 shows_later maxage clock xs looks t (Some format) s = record {
   family = s.family;
-  seen = shown_more t.naming t.stand.members looks (xs ++ looks) (λ e i. in_behind e xs looks i) s.seen;
+  seen = shown_more t.naming t.stand.members looks (xs ++ looks) (λ e i. in_back e xs looks i) s.seen;
   free = s.free;
   ready = s.ready;
 }
 
 -- the directory was seen, or was missing
 dir_later : (log : Path) (n : Naming) (members : List Member) (job : Option Job) (xs looks : List Entry) (d : Option (Path × Option ℕ)) → IsDirSeenBy d log n members job looks → IsDirSeenBy d log n members job (xs ++ looks)
-dir_later log n members job xs looks None s = (s.0, s.1, in_behind _ xs looks s.2)
+dir_later log n members job xs looks None s = (s.0, s.1, in_back _ xs looks s.2)
 dir_later log n members job xs looks (Some (dir, mode)) s = record {
   dir_is = s.dir_is;
   apart = s.apart;
-  gone = in_behind _ xs looks s.gone;
-  parent = (s.parent.0, s.parent.1, in_behind _ xs looks s.parent.2);
+  gone = in_back _ xs looks s.gone;
+  parent = (s.parent.0, s.parent.1, in_back _ xs looks s.parent.2);
   no_members = s.no_members;
   not_stale = s.not_stale;
 }

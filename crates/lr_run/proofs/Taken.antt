@@ -1,17 +1,14 @@
 -- The faults of a run by which a path was taken that a new file needs.
-use Rattle.std.proofs.Common.{◌≡◌, ⊎_elim, ℕ, Bool, true, false, cond, List, [], ◌∷◌, ◌++◌, map, reverse, Option, Some, None, Result, Ok, Err, OnOk, refl, sym, ap, ◌∙◌, subst, append_assoc}
-use Rattle.std.specs.Prelude.{slice_get, ℤ}
+use Rattle.std.proofs.Common.{◌≡◌, ⊎_elim, Bool, true, false, cond, List, [], ◌∷◌, ◌++◌, map, reverse, Option, Some, None, Result, Ok, Err, OnOk, refl, sym, ap, ◌∙◌, subst, append_assoc}
+use Rattle.std.specs.Prelude.{slice_get}
 use Rattle.std.specs.List.{flat_map}
 use Rattle.lr_rules.specs.declared.path.Path.{Path}
 use Rattle.lr_rules.specs.declared.clock.Clock.{Clock}
 use Rattle.lr_rules.specs.declared.fault.Fault.{Fault}
 use Rattle.lr_rules.specs.declared.fault.Fault.TheVariants as fault
 use Rattle.lr_rules.specs.declared.memory.Memory.{Memory}
-use Rattle.lr_rules.specs.declared.rule.Format.{Format}
-use Rattle.lr_rules.specs.declared.rule.Naming.{Naming}
 use Rattle.lr_rules.specs.declared.rule.Rule.{Rule}
 use Rattle.lr_rules.specs.declared.rules.Rules.{Rules}
-use Rattle.lr_stamps.specs.Dated.{clock_seconds}
 use Rattle.lr_host.specs.declared.entry.Entry.{Entry}
 use Rattle.lr_host.specs.declared.entry.Entry.TheVariants.{Ends}
 use Rattle.lr_host.specs.declared.journal.Journal.{Journal}
@@ -20,8 +17,6 @@ use Rattle.lr_host.specs.Lists.{IsIn}
 use Rattle.lr_host.specs.Told.{Are, Counts, Each, Left, Then, not_told, is_told}
 use Rattle.lr_host.proofs.Left.{left_as}
 use Rattle.lr_host.proofs.Lists.{in_append}
-use Rattle.lr_due.specs.declared.answer.Due.{Due}
-use Rattle.lr_due.specs.declared.answer.Due.TheVariants as due
 use Rattle.lr_family.specs.declared.stand.StandStop.{StandStop}
 use Rattle.lr_family.specs.declared.stand.StandStop.TheVariants as halt
 use Rattle.lr_glob.specs.declared.found.GlobStop.{GlobStop}
@@ -35,20 +30,15 @@ use Rattle.lr_looks.specs.Asked.{Word}
 use Rattle.lr_looks.specs.Sights.{WordSight, missing, glob_fault, fault_of, faults_of}
 use Rattle.lr_looks.specs.Shown.{ShowsLooks, LooksAtAll}
 use Rattle.lr_plan.specs.Asked.{Asked}
-use Rattle.lr_plan.specs.declared.looks.LogLook.{LogLook}
 use Rattle.lr_plan.specs.declared.looks.Looks.{Looks}
 use Rattle.lr_plan.specs.declared.looks.SetLooks.{SetLooks}
 use Rattle.lr_plan.specs.declared.planned.Plan.{Plan}
 use Rattle.lr_plan.specs.declared.step.SetSteps.{SetSteps}
-use Rattle.lr_plan.specs.Planned.{decision, stand_for, standing, numbered_hindrances, hindrances_by, hindrances, is_too_high, where_due, log_faults, all_faults}
+use Rattle.lr_plan.specs.Planned.{decision, all_faults}
 use Rattle.lr_plan.specs.Steps.{steps_of_plan, state_steps}
 use Rattle.lr_plan.specs.Course.{Course}
 use Rattle.lr_plan.specs.Done.{SetsDone, rotated_logs}
-use Rattle.lr_family.specs.declared.stand.Member.{Member}
-use Rattle.lr_family.specs.declared.stand.Stand.{Stand}
-use Rattle.lr_chain.specs.Ready.{highest_path}
-use Rattle.lr_dated_chain.specs.Next.{has_serials}
-use Rattle.lr_dated_ready.specs.Hindrances.{is_stamp, fault_at, too_high, taken, dated_hindrances}
+use Rattle.lr_dated_ready.specs.Hindrances.{taken}
 use Rattle.lr_record.specs.After.{stamped}
 use Rattle.lr_state.specs.Written.{text_of}
 use Rattle.lr_seen.specs.Free.{reserved_by}
@@ -164,71 +154,6 @@ looks_none reserved rules sets own ts h =
     (subst NoneOfNew (sym words.faults_are) (words_none _ words.sights))
     (no_on (choice_faults reserved h.found h.found h.keeps.choices) (flat_map kind_fault (kept_of h.found h.keeps.choices)) (choices_none reserved h.found h.found h.keeps.choices) (kinds_none (kept_of h.found h.keeps.choices)))))
     (families_none families.sights))
-
--- of a plan: none tells of a file that is too long
-abbrev IsLong : Fault → Type 0
-IsLong (fault.TooLong path) = Unit {0}
-IsLong _ = ⊥
-
-abbrev NoneLong : List Fault → Type 0
-NoneLong fs = (f : Fault) → IsLong f → IsIn f fs → ⊥
-
-none_long : NoneLong []
-none_long f k i = i
-
-long_on : (xs ys : List Fault) → NoneLong xs → NoneLong ys → NoneLong (xs ++ ys)
-long_on xs ys p q f k i = ⊎_elim (p f k) (q f k) (in_append f xs ys i)
-
-one_long : (f : Fault) → (IsLong f → ⊥) → NoneLong (f ∷ [])
-one_long f other g k i = ⊎_elim (λ same. other (subst IsLong (sym same) k)) (λ none. none) i
-
-numbered_long : (rule : Rule) (look : LogLook) → NoneLong (numbered_hindrances rule look)
-numbered_long rule look = go look.stand.there (is_too_high rule look)
-  where
-    go : (a b : Bool) → NoneLong (cond a (cond b (fault.TooHigh (highest_path look.family.naming) ∷ []) []) (fault.NoDir look.family.naming.dir ∷ []))
-    go true true = one_long (fault.TooHigh (highest_path look.family.naming)) (λ h. h)
-    go true false = none_long
-    go false b = one_long (fault.NoDir look.family.naming.dir) (λ h. h)
-
-at_long : (why : Path → Fault) → ((path : Path) → IsLong (why path) → ⊥) → (seconds : ℤ) (serial : ℕ) (ms : List Member) → NoneLong (fault_at why seconds serial ms)
-at_long why other seconds serial [] = none_long
-at_long why other seconds serial (m ∷ ms) = go (is_stamp seconds serial m.place) (at_long why other seconds serial ms)
-  where
-    go : (b : Bool) → NoneLong (fault_at why seconds serial ms) → NoneLong (cond b (why m.path ∷ []) (fault_at why seconds serial ms))
-    go true rest = one_long (why m.path) (other m.path)
-    go false rest = rest
-
-dated_long : (n : Naming) (stand : Stand) (seconds : ℤ) → NoneLong (dated_hindrances n stand seconds)
-dated_long n stand seconds = go stand.there (has_serials n.dated)
-  where
-    go : (a b : Bool) → NoneLong (cond a (cond b (fault_at too_high seconds 4294967295 stand.members) (fault_at taken seconds 0 stand.members)) (fault.NoDir n.dir ∷ []))
-    go true true = at_long too_high (λ path h. h) seconds 4294967295 stand.members
-    go true false = at_long taken (λ path h. h) seconds 0 stand.members
-    go false b = one_long (fault.NoDir n.dir) (λ h. h)
-
-hindered_long : (clock : Clock) (rule : Rule) (look : LogLook) → NoneLong (hindrances clock rule look)
-hindered_long clock rule look = go look.family.naming.dated
-  where
-    go : (d : Option Format) → NoneLong (hindrances_by d clock rule (standing rule look))
-    go None = numbered_long rule (standing rule look)
-    go (Some format) = dated_long look.family.naming (stand_for rule look) (clock_seconds look.family.naming.dated clock)
-
-due_long : (d : Due) (fs : List Fault) → NoneLong fs → NoneLong (where_due d fs)
-due_long (due.Yes why) fs h = h
-due_long (due.No why) fs h = none_long
-
-logs_long : (clock : Clock) (rule : Rule) (decide : LogLook → Due) (looks : List LogLook) → NoneLong (log_faults clock rule decide looks)
-logs_long clock rule decide [] = none_long
-logs_long clock rule decide (l ∷ ls) = long_on (where_due (decide l) (hindrances clock rule l)) (log_faults clock rule decide ls) (due_long (decide l) (hindrances clock rule l) (hindered_long clock rule l)) (logs_long clock rule decide ls)
-
-all_long : (clock : Clock) (decide : Rule → LogLook → Due) (rules : List Rule) (sets : List SetLooks) → NoneLong (all_faults clock decide rules sets)
-all_long clock decide [] [] = none_long
-all_long clock decide [] (s ∷ ss) = none_long
-all_long clock decide (r ∷ rs) [] = none_long
-all_long clock decide (r ∷ rs) (s ∷ ss) = long_on (log_faults clock r (decide r) s.logs) (all_faults clock decide rs ss) (logs_long clock r (decide r) s.logs) (all_long clock decide rs ss)
-
-pub plan_none_long : (clock : Clock) (decide : Rule → LogLook → Due) (rules : List Rule) (sets : List SetLooks) (path : Path) → IsIn (fault.TooLong path) (all_faults clock decide rules sets) → ⊥
-plan_none_long clock decide rules sets path i = all_long clock decide rules sets (fault.TooLong path) tt i
 
 -- ---- from part to part
 

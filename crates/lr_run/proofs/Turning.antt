@@ -10,6 +10,7 @@ use Rattle.lr_rules.specs.Dated.{IsDatedAt}
 use Rattle.lr_stamps.specs.Dated.{clock_seconds}
 use Rattle.lr_host.specs.declared.entry.Entry.{Entry}
 use Rattle.lr_host.specs.declared.entry.Entry.TheVariants as entry
+use Rattle.lr_host.specs.Lists.{IsIn}
 use Rattle.lr_host.specs.Opening.{IsJournal}
 use Rattle.lr_host.specs.Quiet.{AreQuiet}
 use Rattle.lr_host.specs.Told.{Made}
@@ -27,7 +28,7 @@ use Rattle.lr_targets.specs.AllTurns.{paths_beside}
 use Rattle.lr_targets.specs.Apart.{HasNames}
 use Rattle.lr_rotations.specs.Members.{IsFamily, IsNoMember}
 use Rattle.lr_rotations.specs.Rotated.{AreOutside}
-use Rattle.lr_targets.specs.Target.{Target, IsJob, IsOneOf}
+use Rattle.lr_targets.specs.Target.{Target, IsJob}
 use Rattle.lr_rotations.proofs.Fitting.{first_named}
 use Rattle.lr_targets.proofs.PartFile.{job_target, job_part, part_no_member}
 use Rattle.lr_chain.specs.Rotation.{places_of}

@@ -6,12 +6,13 @@ ghost use Rattle.lr_rules.specs.declared.clock.Clock.{Clock};
 ghost use Rattle.lr_rules.specs.declared.fault.Fault.{Fault};
 ghost use Rattle.lr_rules.specs.declared.rules.Rules.{Rules};
 ghost use Rattle.lr_host.specs.declared.entry.Entry.{Entry};
+ghost use Rattle.lr_host.specs.Lists.{IsIn};
 ghost use Rattle.lr_host.specs.World.{Past};
 ghost use Rattle.lr_host.specs.Opening.{IsJournal};
 ghost use Rattle.lr_host.specs.Quiet.{AreQuiet};
 ghost use Rattle.lr_host.specs.Told.{Made};
 ghost use Rattle.lr_copy.specs.declared.job.Job.{Job};
-ghost use Rattle.lr_targets.specs.Target.{Target, IsOneOf};
+ghost use Rattle.lr_targets.specs.Target.{Target};
 ghost use Rattle.lr_plan.specs.Asked.{Asked};
 ghost use Rattle.lr_run.specs.Met.{MetNothing};
 ghost use Rattle.lr_run.specs.Rotated.{rotated_in, IsRotatedAmong, IsDatedRotatedAmong};
@@ -25,11 +26,11 @@ ghost use Rattle.lr_run.specs.Turned.{IsTurnedAmong, IsDatedTurnedAmong};
 pub fn run_rotates_all()
     ensures numbered { (state : Path) (asked : Asked) (clock : Clock) (rules : Rules) (own : List Fault) (p q : Past) (es reads acts : List Entry)
         → Made p es q → IsJournal p → reverse es ≡ reads ++ acts → AreQuiet reads → (i : Inside state clock rules (Worked state rules.sets clock asked own) acts) → MetNothing (dirs_in (plan_in state rules.sets i.between i.within.looked clock asked)) own
-        → (t : Target) → IsOneOf t (rotated_in state rules.sets i.between i.within.looked clock asked) → t.job ≡ None → t.naming.dated ≡ None
+        → (t : Target) → IsIn t (rotated_in state rules.sets i.between i.within.looked clock asked) → t.job ≡ None → t.naming.dated ≡ None
         → IsRotatedAmong state (rotated_in state rules.sets i.between i.within.looked clock asked) p q t }
     ensures dated { (state : Path) (asked : Asked) (clock : Clock) (rules : Rules) (own : List Fault) (p q : Past) (es reads acts : List Entry)
         → Made p es q → IsJournal p → reverse es ≡ reads ++ acts → AreQuiet reads → (i : Inside state clock rules (Worked state rules.sets clock asked own) acts) → MetNothing (dirs_in (plan_in state rules.sets i.between i.within.looked clock asked)) own
-        → (t : Target) → IsOneOf t (rotated_in state rules.sets i.between i.within.looked clock asked) → t.job ≡ None → IsSome t.naming.dated
+        → (t : Target) → IsIn t (rotated_in state rules.sets i.between i.within.looked clock asked) → t.job ≡ None → IsSome t.naming.dated
         → IsDatedRotatedAmong state (rotated_in state rules.sets i.between i.within.looked clock asked) clock p q t }
 {}
 
@@ -38,10 +39,10 @@ pub fn run_rotates_all()
 pub fn run_turns_copied()
     ensures numbered { (state : Path) (asked : Asked) (clock : Clock) (rules : Rules) (own : List Fault) (p q : Past) (es reads acts : List Entry)
         → Made p es q → IsJournal p → reverse es ≡ reads ++ acts → AreQuiet reads → (i : Inside state clock rules (Worked state rules.sets clock asked own) acts) → MetNothing (dirs_in (plan_in state rules.sets i.between i.within.looked clock asked)) own
-        → (t : Target) → IsOneOf t (rotated_in state rules.sets i.between i.within.looked clock asked) → (job : Job) → t.job ≡ Some job → t.naming.dated ≡ None
+        → (t : Target) → IsIn t (rotated_in state rules.sets i.between i.within.looked clock asked) → (job : Job) → t.job ≡ Some job → t.naming.dated ≡ None
         → IsTurnedAmong state (rotated_in state rules.sets i.between i.within.looked clock asked) p q t job }
     ensures dated { (state : Path) (asked : Asked) (clock : Clock) (rules : Rules) (own : List Fault) (p q : Past) (es reads acts : List Entry)
         → Made p es q → IsJournal p → reverse es ≡ reads ++ acts → AreQuiet reads → (i : Inside state clock rules (Worked state rules.sets clock asked own) acts) → MetNothing (dirs_in (plan_in state rules.sets i.between i.within.looked clock asked)) own
-        → (t : Target) → IsOneOf t (rotated_in state rules.sets i.between i.within.looked clock asked) → (job : Job) → t.job ≡ Some job → IsSome t.naming.dated
+        → (t : Target) → IsIn t (rotated_in state rules.sets i.between i.within.looked clock asked) → (job : Job) → t.job ≡ Some job → IsSome t.naming.dated
         → IsDatedTurnedAmong state (rotated_in state rules.sets i.between i.within.looked clock asked) clock p q t job }
 {}

@@ -69,7 +69,7 @@ full_pattern word h wild =
     let parts = (and_parts (is_absolute word) _ behind).1 in
     not_true (has_empty_part word) (and_parts (not (has_empty_part word)) (not (has_dot_part word)) parts).0
 
-text_in : (words : List Word) (w : Word) → AreTexts words → IsIn w words → IsUtf8 w.text
+pub text_in : (words : List Word) (w : Word) → AreTexts words → IsIn w words → IsUtf8 w.text
 text_in [] w h i = absurd i
 text_in (v ∷ ws) w h (inl e) = subst (λ (x : Word). IsUtf8 x.text) e h.0
 text_in (v ∷ ws) w h (inr i) = text_in ws w h.1 i

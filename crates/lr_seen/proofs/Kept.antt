@@ -1,5 +1,5 @@
 -- A log that the looks kept: none of its names is reserved, and it meets no other log of the plan.
-use Rattle.std.proofs.Common.{◌≡◌, ◌≢◌, inl, inr, ⊎_elim, ◌+◌, List, [], ◌∷◌, sym, ap, ◌∙◌, subst}
+use Rattle.std.proofs.Common.{◌≡◌, ◌≢◌, ⊎_elim, ◌+◌, List, sym, ap, ◌∙◌, subst}
 use Rattle.lr_rules.specs.declared.clock.Clock.{Clock}
 use Rattle.lr_rules.specs.declared.fault.Fault.{Fault}
 use Rattle.lr_rules.specs.declared.path.Path.{Path}
@@ -16,7 +16,7 @@ use Rattle.lr_looks.specs.Families.{LookedLog}
 use Rattle.lr_looks.specs.Found.{FoundLog}
 use Rattle.lr_looks.specs.Sets.{looked_in}
 use Rattle.lr_looks.specs.Shown.{ShowsLooks}
-use Rattle.lr_targets.specs.Target.{Target, IsOneOf}
+use Rattle.lr_targets.specs.Target.{Target}
 use Rattle.lr_seen.specs.Targets.{all_targets}
 use Rattle.lr_seen.proofs.Apart.{OffFound, kept_off}
 use Rattle.lr_seen.proofs.Coming.{Comes, comes_from, was_looked, in_looked, in_files}
@@ -45,13 +45,8 @@ module _ {reserved : List Path} (rules : List Rule) (sets : List SetLooks) (faul
         naming = ap (λ (y : LookedLog). y.naming) (sym g.2.1) ∙ ap (λ (u : Target). u.naming) (sym c.is);
       }
 
-  one_in : (t : Target) (us : List Target) → IsOneOf t us → IsIn t us
-  one_in t [] i = i
-  one_in t (u ∷ us) (inl e) = inl e
-  one_in t (u ∷ us) (inr i) = inr (one_in t us i)
-
-  pub kept_meets_none : (clock : Clock) (decide : Rule → LogLook → Due) (t : Target) → IsOneOf t (all_targets clock decide rules sets) → t.log ≢ f.log.path → Meet t.log t.naming f.log.path f.log.naming → ⊥
-  kept_meets_none clock decide t i ne m = go (kept_as clock t (comes_from clock decide rules sets t (one_in t (all_targets clock decide rules sets) i)))
+  pub kept_meets_none : (clock : Clock) (decide : Rule → LogLook → Due) (t : Target) → IsIn t (all_targets clock decide rules sets) → t.log ≢ f.log.path → Meet t.log t.naming f.log.path f.log.naming → ⊥
+  kept_meets_none clock decide t i ne m = go (kept_as clock t (comes_from clock decide rules sets t i))
     where
       go : IsKeptAs t → ⊥
       go k = ⊎_elim (λ same. ne (sym k.path ∙ ap (λ (g : FoundLog). g.log.path) same)) (λ off. ⊎_elim (λ (a : OffFound k.found f). a.1 met) (λ (b : OffFound f k.found). b.2 met) off)

@@ -4,7 +4,7 @@ pub mod Coming
 mod Directory
 pub mod Elements
 pub mod Free
-mod Gives
+pub mod Gives
 pub mod Kept
 pub mod Listed
 pub mod Quiet

@@ -151,7 +151,7 @@ ready_log clock mailer rule look = record {
   job_is = refl;
 }
 
-ready_both : (ts us : List Target) (xs ys : List LogPlan) → AreReadyFor ts xs → AreReadyFor us ys → AreReadyFor (ts ++ us) (xs ++ ys)
+pub ready_both : (ts us : List Target) (xs ys : List LogPlan) → AreReadyFor ts xs → AreReadyFor us ys → AreReadyFor (ts ++ us) (xs ++ ys)
 ready_both [] us [] ys a b = b
 ready_both [] us (x ∷ xs) ys a b = absurd a
 ready_both (t ∷ ts) us [] ys a b = absurd a

@@ -95,7 +95,7 @@ is_dated_family rule f some can fit is = subst (IsDatedFamily f.log.path) is (re
     kin : IsKin f.log.path (naming_of rule f.log.path)
     kin = kin_of rule f.log.path can fit.path fit.size fit.last
 
-log_path : (found : List FoundLog) (f : FoundLog) → HaveLogPaths found → IsIn f found → HasLogPath f
+pub log_path : (found : List FoundLog) (f : FoundLog) → HaveLogPaths found → IsIn f found → HasLogPath f
 log_path [] f h i = absurd i
 log_path (g ∷ gs) f h (inl e) = subst HasLogPath e h.0
 log_path (g ∷ gs) f h (inr i) = log_path gs f h.1 i

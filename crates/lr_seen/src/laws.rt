@@ -15,7 +15,7 @@ ghost use Rattle.lr_plan.specs.declared.looks.SetLooks.{SetLooks};
 ghost use Rattle.lr_plan.specs.Planned.{all_plans};
 ghost use Rattle.lr_looks.specs.Found.{FoundLog};
 ghost use Rattle.lr_looks.specs.Shown.{ShowsLooks, ShowsSomeLooks};
-ghost use Rattle.lr_targets.specs.Target.{Target, IsOneOf};
+ghost use Rattle.lr_targets.specs.Target.{Target};
 ghost use Rattle.lr_dated_run.specs.Own.{HaveAnyNames};
 ghost use Rattle.lr_mixed.specs.Seen.{AreLogsSeen};
 ghost use Rattle.lr_weave.specs.Fitting.{DontMeet, ReadOnlyOwn};
@@ -58,7 +58,7 @@ pub fn kept_are_apart()
     ensures free { (reserved : List Path) (rules : List Rule) (sets : List SetLooks) (faults : List Fault) (ts : List Entry) (f : FoundLog) (path : Path)
         → (s : ShowsLooks reserved rules sets faults ts) → IsIn f s.kept → IsIn path reserved → IsName f.log.path f.log.naming path → ⊥ }
     ensures meet { (reserved : List Path) (rules : List Rule) (sets : List SetLooks) (faults : List Fault) (ts : List Entry) (clock : Clock) (decide : Rule → LogLook → Due) (f : FoundLog) (t : Target)
-        → (s : ShowsLooks reserved rules sets faults ts) → IsIn f s.kept → IsOneOf t (all_targets clock decide rules sets) → t.log ≢ f.log.path → Meet t.log t.naming f.log.path f.log.naming → ⊥ }
+        → (s : ShowsLooks reserved rules sets faults ts) → IsIn f s.kept → IsIn t (all_targets clock decide rules sets) → t.log ≢ f.log.path → Meet t.log t.naming f.log.path f.log.naming → ⊥ }
 {}
 
 /// The plan has just them, each with its rotation ready; of its programs a mail alone reads a file, the one that is removed

@@ -17,7 +17,7 @@ use Rattle.lr_plan.specs.Course.{Course}
 use Rattle.lr_plan.specs.Outcomes.{Succeeds}
 use Rattle.lr_plan.specs.Steps.{step_if, copy, rotation_of, retirement_of}
 use Rattle.lr_acts.specs.Taken.{TakesAt, RemovesAt}
-use Rattle.lr_spared.proofs.Courses.{IsNoCopy, a_rotation, a_retirement}
+use Rattle.lr_run.proofs.Courses.{IsNoCopy, a_rotation, a_retirement}
 use Rattle.lr_spared.proofs.Steps.{takes_it}
 
 -- one of the steps unlinks the path, and none before takes it; or none takes it

@@ -13,7 +13,6 @@ use Rattle.lr_host.specs.Lists.{IsIn}
 use Rattle.lr_host.specs.Looks.{IsNoDir}
 use Rattle.lr_host.specs.Steps.{is_change}
 use Rattle.lr_host.specs.Told.{Each}
-use Rattle.lr_host.proofs.Each.{each_as}
 use Rattle.lr_chain.specs.declared.ready.Ready.{Ready}
 use Rattle.lr_copy.specs.declared.job.BytesStop.TheVariants as broke
 use Rattle.lr_plan.specs.declared.mark.Mark.{Mark}
@@ -27,22 +26,21 @@ use Rattle.lr_plan.specs.Steps.{state_part}
 use Rattle.lr_synced.specs.Synced.{made_of, to_make_of, all_to_make_of}
 use Rattle.lr_rotations.proofs.Weaving.{each_in}
 use Rattle.lr_targets.specs.AllTurns.{IsStatePath, IsOfState, IsItsDir, IsOf, IsOfSome}
-use Rattle.lr_targets.specs.Target.{Target, HasDir, rotation_of, IsOneOf}
-use Rattle.lr_targets.proofs.Apart.{own_paths}
-use Rattle.lr_dated_run.specs.Own.{ChangesDated, ChangesOwn, HasAnyNames, HaveAnyNames}
-use Rattle.lr_dated_run.proofs.Own.{changes_own, turns_own}
+use Rattle.lr_targets.specs.Target.{Target, HasDir, rotation_of}
+use Rattle.lr_dated_run.specs.Own.{ChangesOwn, HasAnyNames, HaveAnyNames}
 use Rattle.lr_weave.specs.Fitting.{DontMeet}
 use Rattle.lr_weave.specs.Planned.{IsReadyFor, AreReadyFor}
+use Rattle.lr_weave.proofs.Fits.{own_changes}
 use Rattle.lr_seen.proofs.Elements.{in_flat, in_each}
 use Rattle.lr_spared.proofs.Making.{GivesNoFile, SawOther, other_back}
-use Rattle.lr_spared.proofs.Members.{HasMembers, HaveMembers, part_own}
-use Rattle.lr_spared.proofs.Once.{meets_none, each_ready}
+use Rattle.lr_run.proofs.Members.{HasMembers, HaveMembers, part_own, meets_none}
+use Rattle.lr_spared.proofs.Once.{each_ready}
 
 -- ---- whose they are
 
 pub record IsMadeBy (ts : List Target) (dir : Path) : Type 0 where
   pub target : Target
-  pub one : IsOneOf target ts
+  pub one : IsIn target ts
   pub its : IsItsDir target dir
 
 of_ready : (dir : Option (Path × Option ℕ)) (x : Path) → IsIn x (made_of dir) → (mode : Option ℕ) × (dir ≡ Some (x, mode))
@@ -60,13 +58,13 @@ made_by_one ts sets dir r i =
     G : LogPlan → Type 0
     G log = IsIn dir (made_of log.ready.dir) → IsMadeBy ts dir
 
-    of_log : (t : Target) (log : LogPlan) → IsOneOf t ts → IsReadyFor t log → G log
+    of_log : (t : Target) (log : LogPlan) → IsIn t ts → IsReadyFor t log → G log
     of_log t log one ready j =
         let d : (mode : Option ℕ) × (log.ready.dir ≡ Some (dir, mode)) = of_ready log.ready.dir dir j in
         record { target = t; one = one; its = (d.0, sym (ap (λ (y : Ready). y.dir) ready.ready_is) ∙ d.1) }
 
 -- none of the logs has the path of the directory that one of them makes
-pub dir_apart : (ts : List Target) → DontMeet ts → (u t : Target) (dir : Path) → IsOneOf u ts → IsOneOf t ts → HasDir u → IsItsDir u dir → IsOwnName t.log t.naming dir → ⊥
+pub dir_apart : (ts : List Target) → DontMeet ts → (u t : Target) (dir : Path) → IsIn u ts → IsIn t ts → HasDir u → IsItsDir u dir → IsOwnName t.log t.naming dir → ⊥
 dir_apart [] d u t dir i j h its own = i
 dir_apart (v ∷ ts) d u t dir (inl a) (inl b) h its own = (h dir its.0 its.1).1 (subst (λ (w : Target). IsOwnName w.log w.naming dir) (sym b ∙ a) own)
 dir_apart (v ∷ ts) d u t dir (inl a) (inr j) h its own = meets_none v t ts d.0 j (dir, inl (own, inr (subst (λ (w : Target). dir ≡ w.naming.dir) (sym a) (h dir its.0 its.1).0)))
@@ -75,21 +73,17 @@ dir_apart (v ∷ ts) d u t dir (inr i) (inr j) h its own = dir_apart ts d.1 u t 
 
 -- ---- what is done
 
-own_names : (t : Target) → HasAnyNames t → Each (ChangesOwn t.log t.naming) (rotation_of t)
-own_names t (inl h) = own_paths t h
-own_names t (inr h) = each_as (ChangesDated t.log t.naming) (ChangesOwn t.log t.naming) (rotation_of t) (λ e d. changes_own t.log t.naming e d) (turns_own t h)
-
 module _ (x : Path) where
   -- to a log that doesn't have the path
   one_gives : (t : Target) → HasAnyNames t → HasMembers t → (IsOwnName t.log t.naming x → ⊥) → (e : Entry) → IsOf t e → GivesNoFile x e
-  one_gives t h members none (entry.Renames from to) (inl i) = λ same. none (subst (IsOwnName t.log t.naming) same (each_in (ChangesOwn t.log t.naming) (rotation_of t) (entry.Renames from to) (own_names t h) i to (inr (inl refl))))
+  one_gives t h members none (entry.Renames from to) (inl i) = λ same. none (subst (IsOwnName t.log t.naming) same (each_in (ChangesOwn t.log t.naming) (rotation_of t) (entry.Renames from to) (own_changes t h) i to (inr (inl refl))))
   one_gives t h members none (entry.Renames from to) (inr nothing) = absurd nothing
-  one_gives t h members none (entry.Makes y mode) (inl i) = λ same. none (subst (IsOwnName t.log t.naming) same (each_in (ChangesOwn t.log t.naming) (rotation_of t) (entry.Makes y mode) (own_names t h) i y (inl refl)))
+  one_gives t h members none (entry.Makes y mode) (inl i) = λ same. none (subst (IsOwnName t.log t.naming) same (each_in (ChangesOwn t.log t.naming) (rotation_of t) (entry.Makes y mode) (own_changes t h) i y (inl refl)))
   one_gives t h members none (entry.Makes y mode) (inr (inl is)) = λ same. none (the_log (sym same ∙ is))
   one_gives t h members none (entry.Makes y mode) (inr (inr p)) = λ same. none (subst (IsOwnName t.log t.naming) (sym p.2 ∙ same) (part_own t members p.0 p.1))
   one_gives t h members none _ i = tt
 
-  pub some_give : (ts : List Target) → HaveAnyNames ts → HaveMembers ts → ((t : Target) → IsOneOf t ts → IsOwnName t.log t.naming x → ⊥) → (e : Entry) → IsOfSome ts e → GivesNoFile x e
+  pub some_give : (ts : List Target) → HaveAnyNames ts → HaveMembers ts → ((t : Target) → IsIn t ts → IsOwnName t.log t.naming x → ⊥) → (e : Entry) → IsOfSome ts e → GivesNoFile x e
   some_give [] h members none e i = absurd i
   some_give (t ∷ ts) h members none e (inl i) = one_gives t h.0 (members t (inl refl)) (none t (inl refl)) e i
   some_give (t ∷ ts) h members none e (inr i) = some_give ts h.1 (λ u j. members u (inr j)) (λ u j. none u (inr j)) e i

@@ -1,10 +1,8 @@
 pub mod Clearing
-pub mod Courses
 pub mod Dirs
 pub mod Hindering
 pub mod Long
 pub mod Making
-pub mod Members
 pub mod Naming
 pub mod Once
 pub mod Sighted

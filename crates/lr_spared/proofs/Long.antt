@@ -24,7 +24,7 @@ use Rattle.lr_plan.specs.declared.step.Step.TheVariants as step
 use Rattle.lr_plan.specs.Course.{Course}
 use Rattle.lr_plan.specs.Outcomes.{Fails, badly, not_run, maybe_run, at_make, at_look, no_dir, bytes_fault}
 use Rattle.lr_plan.specs.Steps.{step_if, copy, rotation_of, retirement_of}
-use Rattle.lr_spared.proofs.Courses.{IsNoCopy, a_rotation, a_retirement}
+use Rattle.lr_run.proofs.Courses.{IsNoCopy, a_rotation, a_retirement}
 
 -- ---- the copies of steps
 

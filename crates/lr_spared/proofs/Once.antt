@@ -7,7 +7,8 @@ use Rattle.lr_rules.specs.declared.fault.Phase.TheVariants as phase
 use Rattle.lr_rules.specs.declared.rule.Make.{Make}
 use Rattle.lr_rules.specs.declared.rule.Make.TheVariants as make
 use Rattle.lr_rules.specs.declared.rule.Naming.{Naming}
-use Rattle.lr_rules.specs.Names.{IsOwnName, the_log, IsName, Meet}
+use Rattle.lr_rules.specs.Names.{IsOwnName, the_log, IsName}
+use Rattle.lr_host.specs.Lists.{IsIn}
 use Rattle.lr_family.specs.Parts.{IsMember}
 use Rattle.lr_scripts.specs.declared.command.Command.{Command}
 use Rattle.lr_scripts.specs.declared.removal.Removal.{Removal}
@@ -21,11 +22,11 @@ use Rattle.lr_plan.specs.declared.step.Step.TheVariants as step
 use Rattle.lr_plan.specs.Steps.{on_of, program, removal, removals, directory, move, step_if, copy, transfer, made_anew, rotation_of, retirement_of, steps_of_log, shared_steps, by_logs, steps_of_set}
 use Rattle.lr_acts.specs.Making.{all_of_each, all_of_set, all_of_sets}
 use Rattle.lr_targets.specs.AllTurns.{IsItsDir}
-use Rattle.lr_targets.specs.Target.{Target, IsOneOf}
-use Rattle.lr_weave.specs.Fitting.{NoneMeets, DontMeet}
-use Rattle.lr_weave.specs.Planned.{bare_removal, IsReadyFor, AreReadyFor, HaveLogs}
-use Rattle.lr_spared.proofs.Courses.{set_so, all_set}
-use Rattle.lr_spared.proofs.Members.{AreOfMembers, GiveMembers, HasMembers, HaveMembers, member_own, job_to, job_part, part_own}
+use Rattle.lr_targets.specs.Target.{Target}
+use Rattle.lr_weave.specs.Fitting.{DontMeet}
+use Rattle.lr_weave.specs.Planned.{bare_removal, IsReadyFor, AreReadyFor}
+use Rattle.lr_run.proofs.Courses.{set_so, all_set}
+use Rattle.lr_run.proofs.Members.{AreOfMembers, GiveMembers, HasMembers, HaveMembers, member_own, job_to, job_part, part_own, meets_none}
 use Rattle.lr_spared.proofs.Steps.{NoneTouches, OnceNamed, none_on, none_once, once_first, once_later}
 
 -- ---- one log
@@ -182,19 +183,14 @@ abbrev pub OneAtMost : Path → List LogPlan → Type 0
 OneAtMost x [] = Unit {0}
 OneAtMost x (l ∷ ls) = (IsOnce x l × AreAside x ls) ⊎ (IsAside x l × OneAtMost x ls)
 
-pub meets_none : (t u : Target) (ts : List Target) → NoneMeets t ts → IsOneOf u ts → Meet u.log u.naming t.log t.naming → ⊥
-meets_none t u [] n i = absurd i
-meets_none t u (v ∷ ts) n (inl same) = subst (λ (w : Target). Meet w.log w.naming t.log t.naming → ⊥) same n.0
-meets_none t u (v ∷ ts) n (inr i) = meets_none t u ts n.1 i
-
 module _ (x : Path) where
-  pub logs_aside : (ts : List Target) (ls : List LogPlan) → AreReadyFor ts ls → HaveMembers ts → ((t : Target) → IsOneOf t ts → IsName t.log t.naming x → ⊥) → AreAside x ls
+  pub logs_aside : (ts : List Target) (ls : List LogPlan) → AreReadyFor ts ls → HaveMembers ts → ((t : Target) → IsIn t ts → IsName t.log t.naming x → ⊥) → AreAside x ls
   logs_aside [] [] r h other = tt
   logs_aside [] (l ∷ ls) r h other = absurd r
   logs_aside (t ∷ ts) [] r h other = absurd r
   logs_aside (t ∷ ts) (l ∷ ls) r h other = (log_aside x t l (h t (inl refl)) r.0 (other t (inl refl)), logs_aside ts ls r.1 (λ u i. h u (inr i)) (λ u i. other u (inr i)))
 
-  pub logs_at_most : (ts : List Target) (ls : List LogPlan) → AreReadyFor ts ls → HaveMembers ts → DontMeet ts → (t : Target) → IsOneOf t ts → (job : Job) → t.job ≡ Some job → job.part ≡ x → OneAtMost x ls
+  pub logs_at_most : (ts : List Target) (ls : List LogPlan) → AreReadyFor ts ls → HaveMembers ts → DontMeet ts → (t : Target) → IsIn t ts → (job : Job) → t.job ≡ Some job → job.part ≡ x → OneAtMost x ls
   logs_at_most [] ls r h d t i job is same = absurd i
   logs_at_most (u ∷ ts) [] r h d t i job is same = absurd r
   logs_at_most (u ∷ ts) (l ∷ ls) r h d t (inl e) job is same = inl (
@@ -288,23 +284,11 @@ module _ (x : Path) where
 
 -- ---- the logs and their targets
 
-ready_on : (ts us : List Target) (xs ys : List LogPlan) → AreReadyFor ts xs → AreReadyFor us ys → AreReadyFor (ts ++ us) (xs ++ ys)
-ready_on [] us [] ys a b = b
-ready_on [] us (x ∷ xs) ys a b = absurd a
-ready_on (t ∷ ts) us [] ys a b = absurd a
-ready_on (t ∷ ts) us (x ∷ xs) ys a b = (a.0, ready_on ts us xs ys a.1 b)
-
-pub all_ready : (groups : List (List Target)) (sets : List SetPlan) → HaveLogs groups sets → AreReadyFor (flat_map (λ ts. ts) groups) (flat_map (λ (set : SetPlan). set.logs) sets)
-all_ready [] [] h = tt
-all_ready [] (set ∷ sets) h = absurd h
-all_ready (ts ∷ groups) [] h = absurd h
-all_ready (ts ∷ groups) (set ∷ sets) h = ready_on ts (flat_map (λ us. us) groups) set.logs (flat_map (λ (s : SetPlan). s.logs) sets) h.0 (all_ready groups sets h.1)
-
 -- what follows for each log from its target, definition by definition
-pub each_ready : (G : LogPlan → Type 0) (ts : List Target) (sets : List SetPlan) → AreReadyFor ts (flat_map (λ (set : SetPlan). set.logs) sets) → ((t : Target) (l : LogPlan) → IsOneOf t ts → IsReadyFor t l → G l) → AllByRecursion (λ (set : SetPlan). AllByRecursion G set.logs) sets
+pub each_ready : (G : LogPlan → Type 0) (ts : List Target) (sets : List SetPlan) → AreReadyFor ts (flat_map (λ (set : SetPlan). set.logs) sets) → ((t : Target) (l : LogPlan) → IsIn t ts → IsReadyFor t l → G l) → AllByRecursion (λ (set : SetPlan). AllByRecursion G set.logs) sets
 each_ready G ts sets r g = by_set sets (by_log ts (flat_map (λ (set : SetPlan). set.logs) sets) r g)
   where
-    by_log : (ts : List Target) (ls : List LogPlan) → AreReadyFor ts ls → ((t : Target) (l : LogPlan) → IsOneOf t ts → IsReadyFor t l → G l) → AllByRecursion G ls
+    by_log : (ts : List Target) (ls : List LogPlan) → AreReadyFor ts ls → ((t : Target) (l : LogPlan) → IsIn t ts → IsReadyFor t l → G l) → AllByRecursion G ls
     by_log [] [] r g = tt
     by_log [] (l ∷ ls) r g = absurd r
     by_log (t ∷ ts) [] r g = absurd r

@@ -54,7 +54,7 @@ use Rattle.lr_acts.specs.Taken.{OneTakes}
 use Rattle.lr_looks.specs.Found.{FoundLog}
 use Rattle.lr_reading.specs.Sights.{entries_of}
 use Rattle.lr_targets.specs.AllTurns.{IsOfSome, IsOfState}
-use Rattle.lr_targets.specs.Target.{Target, IsMissingDir, IsDirSeenBy, IsOneOf}
+use Rattle.lr_targets.specs.Target.{Target, IsMissingDir, IsDirSeenBy}
 use Rattle.lr_rotations.proofs.OrMade.{made_behind}
 use Rattle.lr_mixed.specs.Seen.{AreLogsSeen}
 use Rattle.lr_mixed.proofs.Seen.{log_among}
@@ -81,14 +81,14 @@ use Rattle.lr_fulfilled.specs.Fulfilled.{NothingFailed}
 use Rattle.lr_fulfilled.proofs.Truth.{Looking, looking, looks_stand}
 use Rattle.lr_spared.specs.Smooth.{NoneRose, IsPartOfOne, IsDirOfOne, IsWrittenFirst, IsSmooth}
 use Rattle.lr_spared.proofs.Clearing.{ClearsFirst, clears_on, clears_log, course_clears}
-use Rattle.lr_spared.proofs.Courses.{OfLog, sets_done, either, sets_so, all_sets}
+use Rattle.lr_run.proofs.Courses.{OfLog, sets_done, either, sets_so, all_sets}
 use Rattle.lr_spared.proofs.Dirs.{IsMadeBy, made_by_one, dir_apart, some_give, state_gives, calm_gives, of_changes, course_saw}
 use Rattle.lr_spared.proofs.Hindering.{plan_hinders}
 use Rattle.lr_spared.proofs.Long.{FitCopies, fit_on, fit_log, ReadsOver, over_in, over_back, course_over, never_over}
 use Rattle.lr_spared.proofs.Making.{GivesNoFile, SawOther, other_front, other_back, never_other}
-use Rattle.lr_spared.proofs.Members.{HaveMembers, seen_members, part_own}
+use Rattle.lr_run.proofs.Members.{HaveMembers, seen_members, part_own, all_ready}
 use Rattle.lr_spared.proofs.Naming.{Avoids, Spared}
-use Rattle.lr_spared.proofs.Once.{all_ready, each_ready, logs_aside, logs_at_most, sets_aside, sets_once}
+use Rattle.lr_spared.proofs.Once.{each_ready, logs_aside, logs_at_most, sets_aside, sets_once}
 use Rattle.lr_spared.proofs.Sighted.{looks_saw}
 use Rattle.lr_spared.proofs.Stale.{IsKeptAs, kept_as, job_limit, part_of_one, part_seen, part_known}
 use Rattle.lr_spared.proofs.Steps.{OnceNamed, once_first, once_last, once_later, one_split, Tells, course_tells, sets_tell, tells_on}
@@ -115,11 +115,6 @@ same_path x y = go (bytes_eq x y) refl
     go : (b : Bool) → bytes_eq x y ≡ b → (x ≡ y) ⊎ (x ≡ y → ⊥)
     go true e = inl ((bytes_eq-Decides x y).0 e)
     go false e = inr (λ same. let t : bytes_eq x y ≡ true = (bytes_eq-Decides x y).1 same in cc)
-
-one_in : (t : Target) (ts : List Target) → IsOneOf t ts → IsIn t ts
-one_in t [] i = i
-one_in t (u ∷ ts) (inl same) = inl same
-one_in t (u ∷ ts) (inr i) = inr (one_in t ts i)
 
 -- ---- the run
 
@@ -175,16 +170,16 @@ module _ (state : Path) (asked : Asked) (clock : Clock) (rules : Rules) (own : L
   ready : AreReadyFor targets (flat_map (λ (set : SetPlan). set.logs) plan.sets)
   ready = all_ready (groups_of clock decide rules.sets l.sets) plan.sets (plans_have_logs rules.sets l.sets l.of_looks l.looks clock asked.mailer decide l.shown)
 
-  comes : (t : Target) → IsOneOf t targets → Comes clock rules.sets l.sets t
-  comes t one = comes_from clock decide rules.sets l.sets t (one_in t targets one)
+  comes : (t : Target) → IsIn t targets → Comes clock rules.sets l.sets t
+  comes t one = comes_from clock decide rules.sets l.sets t one
 
-  free : (t : Target) → IsOneOf t targets → IsFreeOf (reserved_by state) t
-  free t one = in_each (IsFreeOf (reserved_by state)) targets t (targets_free rules.sets l.sets l.of_looks l.looks clock decide l.shown) (one_in t targets one)
+  free : (t : Target) → IsIn t targets → IsFreeOf (reserved_by state) t
+  free t one = in_each (IsFreeOf (reserved_by state)) targets t (targets_free rules.sets l.sets l.of_looks l.looks clock decide l.shown) one
 
-  no_state : (t : Target) → IsOneOf t targets → (x : Path) → IsName t.log t.naming x → state ≡ x → ⊥
+  no_state : (t : Target) → IsIn t targets → (x : Path) → IsName t.log t.naming x → state ≡ x → ⊥
   no_state t one x named same = free t one x (inl same) named
 
-  no_part : (t : Target) → IsOneOf t targets → (x : Path) → IsName t.log t.naming x → state_part state ≡ x → ⊥
+  no_part : (t : Target) → IsIn t targets → (x : Path) → IsName t.log t.naming x → state_part state ≡ x → ⊥
   no_part t one x named same = free t one x (inr (inl same)) named
 
   -- ---- its moments
@@ -233,7 +228,7 @@ module _ (state : Path) (asked : Asked) (clock : Clock) (rules : Rules) (own : L
 
   -- ---- old part files
 
-  seen_stale : (t : Target) → IsOneOf t targets → (job : Job) → t.job ≡ Some job → IsFileAt (names (world p)) job.part → job.stale ≡ true
+  seen_stale : (t : Target) → IsIn t targets → (job : Job) → t.job ≡ Some job → IsFileAt (names (world p)) job.part → job.stale ≡ true
   seen_stale t one job is file = part_seen rules.sets l.sets l.of_looks l.looks l.shown t (comes t one) (at.at ▸ start) at.looked are_true (members t one) job is (file_stands job.part file)
 
   state_spared : Spared (state_part state) p q
@@ -278,7 +273,7 @@ module _ (state : Path) (asked : Asked) (clock : Clock) (rules : Rules) (own : L
       (sets_tell x (steps_of_plan plan) w.acted.marks a.of_plan a.entries.front a.entries.first) (course_tells x (state_steps state l.remembered.stale w.acted.dirs text) [] a.of_state a.entries.back a.entries.second)
 
   -- where an old file at the path was seen, it was unlinked
-  cleared : (x : Path) → ((t : Target) → IsOneOf t targets → (job : Job) → t.job ≡ Some job → job.part ≡ x → job.stale ≡ true) → (state_part state ≡ x → l.remembered.stale ≡ true) → IsIn (fault.Taken x) w.acted.of_acts → IsIn (entry.Unlinks x) l.acts
+  cleared : (x : Path) → ((t : Target) → IsIn t targets → (job : Job) → t.job ≡ Some job → job.part ≡ x → job.stale ≡ true) → (state_part state ≡ x → l.remembered.stale ≡ true) → IsIn (fault.Taken x) w.acted.of_acts → IsIn (entry.Unlinks x) l.acts
   cleared x logs own_stale h = either (ClearsFirst x) (fault.Taken x) (IsIn (entry.Unlinks x)) (in_front (entry.Unlinks x)) (in_back (entry.Unlinks x)) (course_clears x) w.acted.of_acts a.of_plan a.of_state l.acts a.entries.front a.entries.back a.faults_are a.entries.joined
       (sets_done (ClearsFirst x) (fault.Taken x) (IsIn (entry.Unlinks x)) (in_front (entry.Unlinks x)) (in_back (entry.Unlinks x)) (course_clears x) (steps_of_plan plan) w.acted.marks a.of_plan a.entries.front
       (sets_so (ClearsFirst x) tt (clears_on x) (λ phase about c. inr (λ none. none, tt)) plan.sets
@@ -291,7 +286,7 @@ module _ (state : Path) (asked : Asked) (clock : Clock) (rules : Rules) (own : L
 
   record IsPartOf (x : Path) : Type 0 where
     target : Target
-    one : IsOneOf target targets
+    one : IsIn target targets
     job : Job
     is : target.job ≡ Some job
     part : job.part ≡ x
@@ -369,7 +364,7 @@ module _ (state : Path) (asked : Asked) (clock : Clock) (rules : Rules) (own : L
   abbrev IsLimited : Path → ℕ → Type 0
   IsLimited from limit = (limit ≡ 1_099_511_627_776) × ((f : FoundLog) × IsIn f l.shown.kept × (f.log.path ≡ from))
 
-  limited : (t : Target) (one : IsOneOf t targets) (job : Job) → t.job ≡ Some job → IsLimited job.from job.limit
+  limited : (t : Target) (one : IsIn t targets) (job : Job) → t.job ≡ Some job → IsLimited job.from job.limit
   limited t one job is = (job_limit rules.sets l.sets l.of_looks l.looks l.shown t (comes t one) job is, (f.found, f.among, f.path ∙ sym ((members t one).job job is).from_is))
     where
       f : IsKeptAs l.shown.kept t
@@ -428,7 +423,7 @@ module _ (state : Path) (asked : Asked) (clock : Clock) (rules : Rules) (own : L
           let clash : Some saw.0 ≡ None = subst (λ (there : Thing). Sees s.0 there (Some saw.0)) nothing s.1 in cc
 
       -- none of the acts gives it a file
-      no_own : (u : Target) → IsOneOf u targets → IsOwnName u.log u.naming dir → ⊥
+      no_own : (u : Target) → IsIn u targets → IsOwnName u.log u.naming dir → ⊥
       no_own u one = dir_apart targets apart t u dir m.one one (members t m.one).dir m.its
 
       of_plan : Each (GivesNoFile dir) a.entries.front

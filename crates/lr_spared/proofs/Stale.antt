@@ -38,7 +38,7 @@ use Rattle.lr_seen.proofs.Listed.{WasShown, all_shown}
 use Rattle.lr_seen.proofs.Ready.{by_copy}
 use Rattle.lr_stood.specs.True.{IsTrueFamily, AreTrue}
 use Rattle.lr_spared.specs.Smooth.{IsPartOfOne}
-use Rattle.lr_spared.proofs.Members.{HasMembers, part_is_members}
+use Rattle.lr_run.proofs.Members.{HasMembers, part_is_members}
 
 -- ---- the part file of a copy
 

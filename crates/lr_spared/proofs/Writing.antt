@@ -10,7 +10,7 @@ use Rattle.lr_plan.specs.declared.step.Step.TheVariants as step
 use Rattle.lr_plan.specs.Steps.{step_if, copy, state_part, state_steps, rotation_of, retirement_of}
 use Rattle.lr_acts.specs.Taken.{OneTakes}
 use Rattle.lr_spared.proofs.Clearing.{ClearsFirst, clears_on}
-use Rattle.lr_spared.proofs.Courses.{IsNoCopy, a_rotation, a_retirement}
+use Rattle.lr_run.proofs.Courses.{IsNoCopy, a_rotation, a_retirement}
 use Rattle.lr_spared.proofs.Long.{FitCopies, fit_on}
 use Rattle.lr_spared.proofs.Steps.{NoneTouches, OnceNamed, none_on, none_once, one_split}
 

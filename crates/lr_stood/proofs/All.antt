@@ -1,5 +1,5 @@
 -- All looks of a run.
-use Rattle.std.proofs.Common.{◌≡◌, inl, inr, ℕ, List, [], ◌∷◌, ◌++◌, reverse, Some, Ok, slice_get, sym, ap, ◌∙◌, subst, append_assoc}
+use Rattle.std.proofs.Common.{◌≡◌, ℕ, List, ◌++◌, reverse, Some, Ok, slice_get, sym, ap, ◌∙◌, subst, append_assoc}
 use Rattle.std.proofs.lemmas.List.Elements.{All-contains}
 use Rattle.std.proofs.lemmas.List.Sums.{AllPass-from_list_all}
 use Rattle.lr_rules.specs.declared.fault.Fault.{Fault}
@@ -22,13 +22,14 @@ use Rattle.lr_plan.specs.declared.looks.SetLooks.{SetLooks}
 use Rattle.lr_looks.specs.Asked.{CanAsk, Word, asked_by}
 use Rattle.lr_looks.specs.Choices.{kept_of}
 use Rattle.lr_looks.specs.Families.{LookedLog}
-use Rattle.lr_looks.specs.Found.{FoundLog, HasLogPath, HaveLogPaths}
+use Rattle.lr_looks.specs.Found.{FoundLog, HasLogPath}
 use Rattle.lr_looks.specs.Shown.{ShowsLooks}
 use Rattle.lr_looks.proofs.Kindred.{kin_of}
 use Rattle.lr_seen.proofs.Coming.{in_kept, IsFrom, came_from}
 use Rattle.lr_seen.proofs.Elements.{in_list}
 use Rattle.lr_seen.proofs.Listed.{all_shown}
 use Rattle.lr_seen.proofs.Quiet.{whole_quiet}
+use Rattle.lr_seen.proofs.Seen.{log_path}
 use Rattle.lr_stood.specs.True.{IsTrueWord, IsTrueFamily, AreTrue}
 use Rattle.lr_stood.proofs.Families.{true_family}
 use Rattle.lr_stood.proofs.Members.{IsAnyFamily}
@@ -36,11 +37,6 @@ use Rattle.lr_stood.proofs.Sought.{all_sought}
 use Rattle.lr_stood.proofs.Words.{WasShown, word_shown, text_at, true_word}
 
 -- ---- a log and its family
-
-log_path : (found : List FoundLog) (f : FoundLog) → HaveLogPaths found → IsIn f found → HasLogPath f
-log_path [] f h i = absurd i
-log_path (g ∷ gs) f h (inl e) = subst HasLogPath e h.0
-log_path (g ∷ gs) f h (inr i) = log_path gs f h.1 i
 
 -- the log and the naming that its rule gives it are a family
 is_family : (rule : Rule) (f : FoundLog) → CanAsk rule → HasLogPath f → naming_of rule f.log.path ≡ f.log.naming → IsAnyFamily f.log.path f.log.naming

@@ -2,9 +2,9 @@
 use Rattle.std.proofs.Common.{◌≡◌, ◌∙◌, sym, ap, subst, refl, inl, inr, List, [], ◌∷◌, Bool, true, false, true≢false, cond, ◌||◌, filter}
 use Rattle.std.specs.Str.{bytes_eq}
 use Rattle.std.proofs.lemmas.Slice.Eq.{bytes_eq-Decides}
+use Rattle.std.specs.List.{list_any}
 use Rattle.lr_rules.specs.declared.path.Path.{Path}
 use Rattle.lr_host.specs.Lists.{IsIn}
-use Rattle.lr_synced.specs.Synced.{is_among}
 
 pub in_filter : {X : Type 0} (test : X → Bool) (x : X) (xs : List X) → IsIn x xs → test x ≡ true → IsIn x (filter test xs)
 in_filter test x [] h passes = absurd h
@@ -34,15 +34,15 @@ pub all_kept : {X : Type 0} (test : X → Bool) (xs : List X) → ((x : X) → t
 all_kept test [] all = refl
 all_kept test (x ∷ xs) all = ap (λ b. cond b (x ∷ filter test xs) (filter test xs)) (all x) ∙ ap (λ ys. x ∷ ys) (all_kept test xs all)
 
-pub among_from : (dirs : List Path) (dir : Path) → is_among dirs dir ≡ true → IsIn dir dirs
+pub among_from : (dirs : List Path) (dir : Path) → list_any (bytes_eq dir) dirs ≡ true → IsIn dir dirs
 among_from [] dir h = absurd (true≢false (sym h))
 among_from (x ∷ xs) dir h = by (bytes_eq dir x) refl h (among_from xs dir)
   where
-    by : (b : Bool) → bytes_eq dir x ≡ b → (b || is_among xs dir) ≡ true → (is_among xs dir ≡ true → IsIn dir xs) → IsIn dir (x ∷ xs)
+    by : (b : Bool) → bytes_eq dir x ≡ b → (b || list_any (bytes_eq dir) xs) ≡ true → (list_any (bytes_eq dir) xs ≡ true → IsIn dir xs) → IsIn dir (x ∷ xs)
     by true same h rest = inl (sym ((bytes_eq-Decides dir x).0 same))
     by false same h rest = inr (rest h)
 
-pub among_to : (dirs : List Path) (dir : Path) → IsIn dir dirs → is_among dirs dir ≡ true
+pub among_to : (dirs : List Path) (dir : Path) → IsIn dir dirs → list_any (bytes_eq dir) dirs ≡ true
 among_to [] dir h = absurd h
 among_to (x ∷ xs) dir h = by h (among_to xs dir)
   where
@@ -50,6 +50,6 @@ among_to (x ∷ xs) dir h = by h (among_to xs dir)
     last true c h = refl
     last false c h = h
 
-    by : IsIn dir (x ∷ xs) → (IsIn dir xs → is_among xs dir ≡ true) → is_among (x ∷ xs) dir ≡ true
-    by (inl same) rest = ap (λ b. b || is_among xs dir) ((bytes_eq-Decides dir x).1 (sym same))
-    by (inr i) rest = last (bytes_eq dir x) (is_among xs dir) (rest i)
+    by : IsIn dir (x ∷ xs) → (IsIn dir xs → list_any (bytes_eq dir) xs ≡ true) → list_any (bytes_eq dir) (x ∷ xs) ≡ true
+    by (inl same) rest = ap (λ b. b || list_any (bytes_eq dir) xs) ((bytes_eq-Decides dir x).1 (sym same))
+    by (inr i) rest = last (bytes_eq dir x) (list_any (bytes_eq dir) xs) (rest i)

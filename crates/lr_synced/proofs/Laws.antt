@@ -2,7 +2,7 @@
 use Rattle.std.proofs.Common.{◌≡◌, ◌⊎◌, ◌∙◌, sym, ap, subst, refl, inl, inr, List, [], ◌∷◌, ◌++◌, Bool, true, false, true≢false, not, ◌&&◌}
 use Rattle.std.specs.Prelude.{◌↔◌}
 use Rattle.std.specs.Cmp.Lexicographic.{slice_cmp}
-use Rattle.std.specs.List.{AllByRecursion}
+use Rattle.std.specs.List.{AllByRecursion, list_any}
 use Rattle.std.specs.List.Sorted.{IsStrictlySortedBy}
 use Rattle.std.specs.Ordering.{nat_cmp}
 use Rattle.std.specs.declared.cmp.Ordering.TheVariants.{Less}
@@ -10,6 +10,7 @@ use Rattle.std.proofs.lemmas.Bool.{not-true, and_parts, and_from, and_left, and_
 use Rattle.std.proofs.lemmas.Cmp.{nat_list_cmp_total, tied_itself}
 use Rattle.std.proofs.lemmas.List.Kept.{IsStrictlySortedBy-filter}
 use Rattle.std.proofs.lemmas.Map.Keys.{sorted_head, sorted_tail}
+use Rattle.std.specs.Str.{bytes_eq}
 use Rattle.lr_rules.specs.declared.path.Path.{Path}
 use Rattle.lr_rules.specs.Path.{parent_of}
 use Rattle.lr_host.specs.Lists.{IsIn, IsNotIn, AreDistinct}
@@ -18,7 +19,7 @@ use Rattle.lr_plan.specs.declared.mark.Mark.{Mark}
 use Rattle.lr_plan.specs.declared.mark.Mark.TheVariants.{Rotated, Directory, Created}
 use Rattle.lr_plan.specs.declared.planned.SetPlan.{SetPlan}
 use Rattle.lr_writing.specs.Directories.{AreDirectoriesOf}
-use Rattle.lr_synced.specs.Synced.{AreSynced, all_changed_of, all_to_make_of, made_in, is_among, is_unmade}
+use Rattle.lr_synced.specs.Synced.{AreSynced, all_changed_of, all_to_make_of, made_in, is_unmade}
 use Rattle.lr_synced.proofs.Kept.{in_filter, from_filter, all_kept, among_from, among_to}
 
 -- ---- what was made
@@ -42,18 +43,18 @@ made_mark dir (Created x ∷ ms) h = inr (made_mark dir ms h)
 pub unmade_is : (to_make made : List Path) (dir : Path) → (is_unmade to_make made dir ≡ true) ↔ (IsIn dir to_make × (IsIn dir made → ⊥))
 unmade_is to_make made dir = (
   λ h.
-      let parts = and_parts (is_among to_make dir) (not (is_among made dir)) h in
-      (among_from to_make dir parts.0, λ i. true≢false (sym (among_to made dir i) ∙ not-true (is_among made dir) parts.1)),
-  λ h. and_from (is_among to_make dir) (not (is_among made dir)) (among_to to_make dir h.0) (ap not (false_from_ne_true (is_among made dir) (λ t. h.1 (among_from made dir t)))),
+      let parts = and_parts (list_any (bytes_eq dir) to_make) (not (list_any (bytes_eq dir) made)) h in
+      (among_from to_make dir parts.0, λ i. true≢false (sym (among_to made dir i) ∙ not-true (list_any (bytes_eq dir) made) parts.1)),
+  λ h. and_from (list_any (bytes_eq dir) to_make) (not (list_any (bytes_eq dir) made)) (among_to to_make dir h.0) (ap not (false_from_ne_true (list_any (bytes_eq dir) made) (λ t. h.1 (among_from made dir t)))),
 )
 
 -- one that was made isn't
 pub made_isnt : (to_make made : List Path) (dir : Path) → IsIn dir made → is_unmade to_make made dir ≡ false
-made_isnt to_make made dir i = and_right (is_among to_make dir) (not (is_among made dir)) (ap not (among_to made dir i))
+made_isnt to_make made dir i = and_right (list_any (bytes_eq dir) to_make) (not (list_any (bytes_eq dir) made)) (ap not (among_to made dir i))
 
 -- nor is one that wasn't to be made
 pub other_isnt : (to_make made : List Path) (dir : Path) → (IsIn dir to_make → ⊥) → is_unmade to_make made dir ≡ false
-other_isnt to_make made dir none = and_left (is_among to_make dir) (not (is_among made dir)) (false_from_ne_true (is_among to_make dir) (λ t. none (among_from to_make dir t)))
+other_isnt to_make made dir none = and_left (list_any (bytes_eq dir) to_make) (not (list_any (bytes_eq dir) made)) (false_from_ne_true (list_any (bytes_eq dir) to_make) (λ t. none (among_from to_make dir t)))
 
 -- ---- what is synced
 
@@ -105,8 +106,8 @@ module _ (sets : List SetPlan) (marks : List Mark) (dirs : List Path) (s : AreSy
 
   -- where each that was to be made was, they are those of all paths that the plan changes or makes
   pub all_synced : ((dir : Path) → IsIn dir (all_to_make_of sets) → IsIn dir (made_in marks)) → AreDirectoriesOf (all_changed_of sets ++ all_to_make_of sets) dirs
-  all_synced made = subst (AreDirectoriesOf (all_changed_of sets ++ all_to_make_of sets)) (sym (s.dirs_are ∙ all_kept (passes sets marks) s.all (λ dir. go dir (is_among (all_to_make_of sets) dir) refl))) s.are
+  all_synced made = subst (AreDirectoriesOf (all_changed_of sets ++ all_to_make_of sets)) (sym (s.dirs_are ∙ all_kept (passes sets marks) s.all (λ dir. go dir (list_any (bytes_eq dir) (all_to_make_of sets)) refl))) s.are
     where
-      go : (dir : Path) (b : Bool) → is_among (all_to_make_of sets) dir ≡ b → not (b && not (is_among (made_in marks) dir)) ≡ true
+      go : (dir : Path) (b : Bool) → list_any (bytes_eq dir) (all_to_make_of sets) ≡ b → not (b && not (list_any (bytes_eq dir) (made_in marks))) ≡ true
       go dir true e = ap not (ap not (among_to (made_in marks) dir (made dir (among_from (all_to_make_of sets) dir e))))
       go dir false e = refl

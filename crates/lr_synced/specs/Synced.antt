@@ -42,12 +42,9 @@ made_by (Created path) = []
 abbrev pub made_in : List Mark → List Path
 made_in marks = flat_map made_by marks
 
-abbrev pub is_among : List Path → Path → Bool
-is_among dirs dir = list_any (bytes_eq dir) dirs
-
 -- the directory was to be made, and wasn't
 abbrev pub is_unmade : (to_make made : List Path) → Path → Bool
-is_unmade to_make made dir = is_among to_make dir && not (is_among made dir)
+is_unmade to_make made dir = list_any (bytes_eq dir) to_make && not (list_any (bytes_eq dir) made)
 
 -- ---- what is synced
 

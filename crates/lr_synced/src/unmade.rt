@@ -1,8 +1,9 @@
 // The directories that are to be made, and of which no mark tells so far.
 ghost use Rattle.std.specs.Prelude.{◌≡◌, ◌||◌, ◌&&◌, not, List, ℕ, IfOk, OnOk};
+ghost use Rattle.std.specs.List.{list_any};
 ghost use Rattle.std.specs.Str.{bytes_eq};
 ghost use Rattle.std.specs.BTreeSet.{contains_text};
-ghost use Rattle.lr_synced.specs.Synced.{is_among, made_by, made_in};
+ghost use Rattle.lr_synced.specs.Synced.{made_by, made_in};
 
 use lr_plan::Mark;
 use lr_rules::{Memory, Path};
@@ -19,7 +20,7 @@ fn add_dir(alloc: Global, unmade: &mut BTreeSet<String>, dir: &Path) -> Result<(
 
 /// The set of these directories.
 pub fn set_of(alloc: Global, dirs: &[Path]) -> Result<BTreeSet<String>, Memory>
-    ensures { IfOk result (λ unmade. (path : List ℕ) → contains_text unmade path ≡ is_among dirs.now path) }
+    ensures { IfOk result (λ unmade. (path : List ℕ) → contains_text unmade path ≡ list_any (bytes_eq path) dirs.now) }
 {
     let mut unmade = BTreeSet::new(alloc);
     for dir in dirs {
@@ -30,7 +31,7 @@ pub fn set_of(alloc: Global, dirs: &[Path]) -> Result<BTreeSet<String>, Memory>
 
 // Strikes the directory of which the mark tells, if any.
 fn strike(unmade: &mut BTreeSet<String>, mark: &Mark)
-    ensures { (path : List ℕ) → contains_text unmade.new path ≡ (contains_text unmade.old path && not (is_among (made_by mark.now) path)) }
+    ensures { (path : List ℕ) → contains_text unmade.new path ≡ (contains_text unmade.old path && not (list_any (bytes_eq path) (made_by mark.now))) }
 {
     if let Mark::Directory(dir) = mark {
         unmade.remove(dir.as_str());
@@ -39,7 +40,7 @@ fn strike(unmade: &mut BTreeSet<String>, mark: &Mark)
 
 /// Strikes the directories of which marks tell.
 pub fn strike_all(unmade: &mut BTreeSet<String>, marks: &[Mark])
-    ensures { (path : List ℕ) → contains_text unmade.new path ≡ (contains_text unmade.old path && not (is_among (made_in marks.now) path)) }
+    ensures { (path : List ℕ) → contains_text unmade.new path ≡ (contains_text unmade.old path && not (list_any (bytes_eq path) (made_in marks.now))) }
 {
     for mark in marks {
         strike(unmade, mark);

@@ -33,7 +33,7 @@ use Rattle.lr_rotations.proofs.Weaving.{weave_as, each_in}
 
 -- ---- on which paths
 
-on_more : (xs ys : List Path) (e : Entry) → ((x : Path) → IsIn x xs → IsIn x ys) → IsOn xs e → IsOn ys e
+pub on_more : (xs ys : List Path) (e : Entry) → ((x : Path) → IsIn x xs → IsIn x ys) → IsOn xs e → IsOn ys e
 on_more xs ys (Renames from to) f h = (f from h.0, f to h.1)
 on_more xs ys (Makes x mode) f h = f x h
 on_more xs ys (MakesDir x mode) f h = f x h
@@ -87,7 +87,7 @@ own_turns t e (inr also) = also_changes t e also
 no_job : (j : Option Job) (job : Job) → j ≡ Some job → j ≡ None → ⊥
 no_job j job a b = cc
 
-dir_in : (t : Target) (x : Path) → IsItsDir t x → IsIn x (dir_paths t.ready.dir)
+pub dir_in : (t : Target) (x : Path) → IsItsDir t x → IsIn x (dir_paths t.ready.dir)
 dir_in t x d = subst (λ (o : Option (Path × Option ℕ)). IsIn x (dir_paths o)) (sym d.1) (inl refl)
 
 pub also_made : (t : Target) (e : Entry) → t.job ≡ None → AlsoDoes t e → IsBeside (dir_paths t.ready.dir) t.log e
@@ -120,11 +120,11 @@ also_on t (Appends x bytes) p = part_in t x p
 also_on t (Truncates x) p = inl (sym p.1)
 also_on t _ h = absurd h
 
-own_on : (t : Target) (e : Entry) → IsOf t e → IsOn (paths_of t) e
+pub own_on : (t : Target) (e : Entry) → IsOf t e → IsOn (paths_of t) e
 own_on t e (inl i) = on_more (flat_map changed_paths (rotation_of t)) (paths_of t) e (λ x j. behind_part t x (in_back x (dir_paths t.ready.dir) (flat_map changed_paths (rotation_of t)) j)) (in_on (rotation_of t) e i (each_in IsTurn (rotation_of t) e (rotation_turns t) i))
 own_on t e (inr also) = also_on t e also
 
-other_on : (log : Path) (ts : List Target) (e : Entry) → IsOfOther log ts e → IsOn (paths_of_others log ts) e
+pub other_on : (log : Path) (ts : List Target) (e : Entry) → IsOfOther log ts e → IsOn (paths_of_others log ts) e
 other_on log [] e h = absurd h
 other_on log (t ∷ ts) e (inl h) = on_more (paths_of t) (paths_of_others log (t ∷ ts)) e
     (λ x i. either (bytes_eq t.log log) log t.log (paths_of t) (paths_of_others log ts) x refl (inl i) (λ same j. h.0 ((bytes_eq-Decides t.log log).0 same))) (own_on t e h.1)
@@ -138,7 +138,7 @@ state_in : (state log : Path) (ts : List Target) (x : Path) → IsStatePath stat
 state_in state log ts x (inl is) = inl (sym is)
 state_in state log ts x (inr is) = inr (inl (sym is))
 
-state_on : (state log : Path) (ts : List Target) (e : Entry) → IsOfState state e → IsOn (other_paths state log ts) e
+pub state_on : (state log : Path) (ts : List Target) (e : Entry) → IsOfState state e → IsOn (other_paths state log ts) e
 state_on state log ts (Renames from to) h = (state_in state log ts from h.0, state_in state log ts to h.1)
 state_on state log ts (Makes x mode) h = state_in state log ts x h
 state_on state log ts (Appends x bytes) h = state_in state log ts x h
@@ -172,7 +172,7 @@ on_changes paths (entry.Truncates x) h = refl
 on_changes paths (Unlinks x) h = refl
 on_changes paths _ h = absurd h
 
-beside_changes : (paths : List Path) (log : Path) (e : Entry) → IsBeside paths log e → is_disk_change e ≡ true
+pub beside_changes : (paths : List Path) (log : Path) (e : Entry) → IsBeside paths log e → is_disk_change e ≡ true
 beside_changes paths log e (inl h) = on_changes paths e h
 beside_changes paths log (Makes x mode) (inr h) = refl
 beside_changes paths log _ (inr h) = absurd h

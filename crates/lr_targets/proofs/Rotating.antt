@@ -9,9 +9,9 @@ use Rattle.lr_host.proofs.Each.{each_append, each_map}
 use Rattle.lr_family.specs.Spots.{path_at}
 use Rattle.lr_copy.specs.declared.job.Job.{Job}
 use Rattle.lr_copy.specs.Copying.{clearing}
-use Rattle.lr_chain.specs.Ready.{removal_at, move_from, move_step}
+use Rattle.lr_chain.specs.Ready.{removal_at, move_from, move_step, dir_calls}
 use Rattle.lr_chain.specs.Rotation.{places_of, leftovers, kept, retired, unlink_at, move_at, leftover_steps, shift_steps, retire_steps, rotation}
-use Rattle.lr_targets.specs.Calls.{transfer_calls, dir_calls, calls_of}
+use Rattle.lr_targets.specs.Calls.{transfer_calls, calls_of}
 use Rattle.lr_targets.specs.Target.{Target, unlinks, transfer_of, rotation_of, HasReady}
 
 -- ---- the parts

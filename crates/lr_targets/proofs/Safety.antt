@@ -13,6 +13,7 @@ use Rattle.lr_rules.specs.Names.{IsName}
 use Rattle.lr_host.specs.declared.entry.Entry.{Entry}
 use Rattle.lr_host.specs.declared.entry.Entry.TheVariants as entry
 use Rattle.lr_host.specs.declared.journal.Journal.{Journal}
+use Rattle.lr_host.specs.Lists.{IsIn}
 use Rattle.lr_host.specs.World.{Past, ◌▸◌, past, world, names}
 use Rattle.lr_host.specs.Fits.{IsFileAt}
 use Rattle.lr_host.specs.Told.{Each, IsWriters, Made, at_first, by_writer, by_tool, Left, not_told, is_told}
@@ -40,7 +41,7 @@ use Rattle.lr_targets.specs.AllTurns.{IsStatePath, IsOfState}
 use Rattle.lr_targets.specs.Apart.{HasNames}
 use Rattle.lr_rotations.specs.Members.{IsFamily, HasName, AreThere, HaveNext, MayGo}
 use Rattle.lr_rotations.specs.Shown.{Shown, SawMembers}
-use Rattle.lr_targets.specs.Target.{Target, rotation_of, IsSeen, IsOneOf}
+use Rattle.lr_targets.specs.Target.{Target, rotation_of, IsSeen}
 use Rattle.lr_rotations.specs.Weave.{Among, FirstWoven}
 use Rattle.lr_rotations.proofs.Aged.{looked_run, may_go}
 use Rattle.lr_rotations.proofs.LogFitting.{log_fits, log_fits_first}
@@ -100,11 +101,11 @@ module _ (s : LogSet) (state : Path) (now : ℤ) (rules : Rules) (v : Past) (her
 -- ---- the set's own log
 
 -- the set's log is among these, or it isn't
-pub find : (s : LogSet) (ts : List Target) → ((t : Target) × IsOneOf t ts × (t.log ≡ s.log)) ⊎ ((t : Target) → IsOneOf t ts → t.log ≢ s.log)
+pub find : (s : LogSet) (ts : List Target) → ((t : Target) × IsIn t ts × (t.log ≡ s.log)) ⊎ ((t : Target) → IsIn t ts → t.log ≢ s.log)
 find s [] = inr (λ t i. absurd i)
 find s (t ∷ ts) = ⊎_elim (λ same. inl (t, inl refl, (bytes_eq-Decides t.log s.log).0 same)) (λ differ. ⊎_elim (λ f. inl (f.0, inr f.1, f.2)) (λ ne. inr (none_of differ ne)) (find s ts)) (true_or_not (bytes_eq t.log s.log))
   where
-    none_of : bytes_eq t.log s.log ≡ false → ((x : Target) → IsOneOf x ts → x.log ≢ s.log) → (x : Target) → IsOneOf x (t ∷ ts) → x.log ≢ s.log
+    none_of : bytes_eq t.log s.log ≡ false → ((x : Target) → IsIn x ts → x.log ≢ s.log) → (x : Target) → IsIn x (t ∷ ts) → x.log ≢ s.log
     none_of differ ne x (inl is) same = let e : bytes_eq t.log s.log ≡ true = (bytes_eq-Decides t.log s.log).1 (ap (λ (y : Target). y.log) is ∙ same) in cc
     none_of differ ne x (inr i) same = ne x i same
 

@@ -1,11 +1,10 @@
 -- The calls of a rotation, as they are asked for; what a call will give or take makes no difference.
-use Rattle.std.specs.Prelude.{ℕ, List, [], ◌∷◌, ◌++◌, map, Option, Some, None}
-use Rattle.lr_rules.specs.declared.path.Path.{Path}
+use Rattle.std.specs.Prelude.{List, [], ◌∷◌, ◌++◌, map, Option, Some, None}
 use Rattle.lr_host.specs.declared.entry.Entry.{Entry}
-use Rattle.lr_host.specs.declared.entry.Entry.TheVariants.{Reads, Renames, MakesDir}
+use Rattle.lr_host.specs.declared.entry.Entry.TheVariants.{Reads, Renames}
 use Rattle.lr_copy.specs.declared.job.Job.{Job}
 use Rattle.lr_chain.specs.declared.ready.Ready.{Ready}
-use Rattle.lr_chain.specs.Ready.{move_step}
+use Rattle.lr_chain.specs.Ready.{move_step, dir_calls}
 use Rattle.lr_rotations.specs.Calls.{copy_calls}
 use Rattle.lr_targets.specs.Target.{Target, unlinks}
 
@@ -13,11 +12,6 @@ use Rattle.lr_targets.specs.Target.{Target, unlinks}
 abbrev pub transfer_calls : Ready → Option Job → List Entry
 transfer_calls ready None = Renames ready.log ready.target ∷ []
 transfer_calls ready (Some job) = copy_calls job
-
--- that of the directory, where it is to be made
-abbrev pub dir_calls : Option (Path × Option ℕ) → List Entry
-dir_calls None = []
-dir_calls (Some (dir, mode)) = MakesDir dir mode ∷ []
 
 -- All of them, but for the making of the log anew, which may be left out. The final path is a file behind the transfer: the mail of the first file can read it.
 abbrev pub calls_of : Target → List Entry

@@ -1,5 +1,5 @@
 -- The logs that a run may rotate, and what it saw of each.
-use Rattle.std.specs.Prelude.{◌≡◌, ◌≢◌, ◌⊎◌, ◌↔◌, ◌+◌, ℕ, ℤ, true, false, List, [], ◌∷◌, ◌++◌, map, reverse, Option, Some, None, Any, Contains}
+use Rattle.std.specs.Prelude.{◌≡◌, ◌≢◌, ◌↔◌, ◌+◌, ℕ, ℤ, true, false, List, [], ◌∷◌, ◌++◌, map, reverse, Option, Some, None, Any, Contains}
 use Rattle.lr_rules.specs.declared.path.Path.{Path}
 use Rattle.lr_rules.specs.declared.rule.Count.{Count}
 use Rattle.lr_rules.specs.declared.rule.Count.TheVariants as count
@@ -88,7 +88,7 @@ HasReady t = IsReady t.log t.naming t.count t.ready.make t.stand.members t.from 
 abbrev pub HasDir : Target → Type 0
 HasDir t = (dir : Path) (mode : Option ℕ) → t.ready.dir ≡ Some (dir, mode) → (dir ≡ t.naming.dir) × (IsOwnName t.log t.naming dir → ⊥)
 
--- The directory is that of the family, and no other name of the set. These looks saw nothing at its path, and its parent; so no member stood, and no part file.
+-- The directory is that of the family, and no other name of the set. These looks saw nothing at its path, and saw its parent, a directory; so no member stood, and no part file.
 pub record IsMissingDir (log : Path) (n : Naming) (members : List Member) (job : Option Job) (looks : List Entry) (dir : Path) : Type 0 where
   pub dir_is : dir ≡ n.dir
   pub apart : IsOwnName log n dir → ⊥
@@ -132,7 +132,3 @@ pub record IsSeen (rules : Rules) (now : ℤ) (looks : List Entry) (t : Target) 
   pub ready : HasReady t
   pub dir : IsDirSeen t looks
   pub job : IsJobOf t looks
-
-abbrev pub IsOneOf : Target → List Target → Type 0
-IsOneOf t [] = ⊥
-IsOneOf t (x ∷ xs) = (x ≡ t) ⊎ IsOneOf t xs

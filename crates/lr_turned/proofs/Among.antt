@@ -8,7 +8,7 @@ use Rattle.lr_rules.specs.declared.rule.Naming.{Naming}
 use Rattle.lr_rules.specs.declared.rules.Rules.{Rules}
 use Rattle.lr_host.specs.declared.entry.Entry.{Entry}
 use Rattle.lr_host.specs.declared.entry.Entry.TheVariants as entry
-use Rattle.lr_host.specs.declared.entry.Entry.TheVariants.{Renames, Makes, Appends, Truncates, Unlinks, SyncsFile, SyncsDir}
+use Rattle.lr_host.specs.declared.entry.Entry.TheVariants.{Renames, Makes, Truncates, Unlinks, SyncsFile, SyncsDir}
 use Rattle.lr_host.specs.Lists.{IsIn}
 use Rattle.lr_host.specs.Looks.{Sees, IsFile}
 use Rattle.lr_host.specs.Quiet.{is_disk_change, AreQuiet}
@@ -29,7 +29,7 @@ use Rattle.lr_targets.specs.AllTurns.{StandsBetween, paths_beside}
 use Rattle.lr_targets.specs.Apart.{HasNames}
 use Rattle.lr_rotations.specs.Members.{HasName}
 use Rattle.lr_rotations.specs.Rotated.{IsBeside, AreOutside}
-use Rattle.lr_targets.specs.Target.{Target, transfer_of, rotation_of, IsSeen, IsOneOf}
+use Rattle.lr_targets.specs.Target.{Target, transfer_of, rotation_of, IsSeen}
 use Rattle.lr_rotations.specs.Weave.{Among, Weave}
 use Rattle.lr_rotations.proofs.Fitting.{kept_next, first_named, retire_named}
 use Rattle.lr_rotations.proofs.Members.{IsOfThese, IsOfMembers, IsMember, members_these, unlinks_of, moves_of}
@@ -37,12 +37,13 @@ use Rattle.lr_rotations.proofs.Moments.{shown_in}
 use Rattle.lr_targets.proofs.PartFile.{job_target}
 use Rattle.lr_targets.proofs.Rotating.{left_are, shift_are, retire_are, two}
 use Rattle.lr_targets.proofs.SeenFits.{seen_names}
+use Rattle.lr_targets.proofs.Others.{among_behind, beside_changes}
 use Rattle.lr_rotations.proofs.Splitting.{weave_each}
 use Rattle.lr_rotations.proofs.Weaving.{weave_as}
 use Rattle.lr_mixed.specs.AllTurns.{AllTurnedBy}
 use Rattle.lr_mixed.proofs.Seen.{numbered_seen, log_among}
 use Rattle.lr_turned.specs.Turned.{CopiesAmong}
-use Rattle.lr_turned.proofs.Beside.{IsBesideOrCut, between_beside, beside_changes}
+use Rattle.lr_turned.proofs.Beside.{IsBesideOrCut, between_beside}
 use Rattle.lr_turned.proofs.Changes.{CopyParts, copy_parts}
 use Rattle.lr_turned.proofs.Weaves.{IsOther, stands_once, all_other, each_filter, other_unfiltered, weave_at, weave_front, weave_behind, weave_less, weave_drop}
 
@@ -58,15 +59,6 @@ pub record CopyStands (job : Job) (ts : List Entry) : Type 0 where
 -- of the jobs of one log it is this one
 abbrev pub IsSameFor : Job → Job → Type 0
 IsSameFor job other = other.from ≡ job.from → other ≡ job
-
-among_behind : (P : List Entry → Type 0) (e : Entry) (xs ys : List Entry) → Among P ys → Among P (xs ++ e ∷ ys)
-among_behind P e xs ys a = record {
-  before = xs ++ e ∷ a.before;
-  part = a.part;
-  after = a.after;
-  joined = ap (λ zs. xs ++ e ∷ zs) a.joined ∙ sym (append_assoc xs (e ∷ a.before) (a.part ++ a.after));
-  is = a.is;
-}
 
 -- a rename or an unlink of certain paths changes the disk
 these_change : (Own : Path → Type 0) (e : Entry) → IsOfThese Own e → is_disk_change e ≡ true
@@ -263,7 +255,7 @@ module _ (state : Path) (x : Target) (targets : List Target) (acts : List Entry)
 -- ---- a log with numbers
 
 -- The run rotated each log whole, and this one it copied, one entry behind another, emptying it behind that copy alone.
-module _ (state : Path) (clock : Clock) (rules : Rules) (reads tail : List Entry) (t : AllTurnedBy state clock rules tail) (x : Target) (job : Job) (quiet : AreQuiet reads) (one : IsOneOf x t.turns.targets) (job_is : x.job ≡ Some job) (none : x.naming.dated ≡ None)
+module _ (state : Path) (clock : Clock) (rules : Rules) (reads tail : List Entry) (t : AllTurnedBy state clock rules tail) (x : Target) (job : Job) (quiet : AreQuiet reads) (one : IsIn x t.turns.targets) (job_is : x.job ≡ Some job) (none : x.naming.dated ≡ None)
     (outside : AreOutside (job.part ∷ paths_beside state x t.turns.targets) job.from x.naming) (copy_stands : CopyStands job t.turns.acts) (empties : EmptiesCopied (IsSameFor job) t.turns.acts) where
   abbrev n : Naming
   n = x.naming

@@ -15,15 +15,15 @@ use Rattle.lr_durable.proofs.Lists.{middle, at}
 use Rattle.lr_turned.specs.Turned.{IsFarFrom, NoneOfSetAttached, emptied}
 
 -- From a moment on: the copy, the truncation where there is one, and what stands behind.
-record Ending (X : Path → Type 0) (log : Path) (cut : Bool) (p q : Past) (named late : List Entry) : Type 0 where
-  mid : Past
-  first : Made p (reverse named) mid
-  cuts : Made mid (reverse (cond cut (Truncates log ∷ []) [])) (cond cut (mid ▸ Truncates log) mid)
-  second : Made (cond cut (mid ▸ Truncates log) mid) (reverse late) q
-  only_first : AttachedOnlySince X p mid
-  only_second : AttachedOnlySince X (cond cut (mid ▸ Truncates log) mid) q
+pub record Ending (X : Path → Type 0) (log : Path) (cut : Bool) (p q : Past) (named late : List Entry) : Type 0 where
+  pub mid : Past
+  pub first : Made p (reverse named) mid
+  pub cuts : Made mid (reverse (cond cut (Truncates log ∷ []) [])) (cond cut (mid ▸ Truncates log) mid)
+  pub second : Made (cond cut (mid ▸ Truncates log) mid) (reverse late) q
+  pub only_first : AttachedOnlySince X p mid
+  pub only_second : AttachedOnlySince X (cond cut (mid ▸ Truncates log) mid) q
 
-ending : (X : Path → Type 0) (log : Path) (cut : Bool) (p q : Past) (named late : List Entry) → Made p (reverse (named ++ (cond cut (Truncates log ∷ []) [] ++ late))) q → AttachedOnlySince X p q → Ending X log cut p q named late
+pub ending : (X : Path → Type 0) (log : Path) (cut : Bool) (p q : Past) (named late : List Entry) → Made p (reverse (named ++ (cond cut (Truncates log ∷ []) [] ++ late))) q → AttachedOnlySince X p q → Ending X log cut p q named late
 ending X log true p q named late m only = let k = at X p q named (Truncates log) late tt m only in
     record { mid = k.mid; first = k.first; cuts = by_tool at_first tt k.fits; second = k.second; only_first = k.only_first; only_second = k.only_second }
 ending X log false p q named late m only = let k = middle X p q named late m only in

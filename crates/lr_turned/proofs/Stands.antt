@@ -6,7 +6,7 @@ use Rattle.lr_rules.specs.declared.fault.Phase.TheVariants as phase
 use Rattle.lr_host.specs.declared.entry.Entry.{Entry}
 use Rattle.lr_host.specs.declared.entry.Entry.TheVariants as entry
 use Rattle.lr_host.specs.Lists.{IsIn}
-use Rattle.lr_host.proofs.Lists.{in_append}
+use Rattle.lr_host.proofs.Lists.{in_append, in_front, in_back}
 use Rattle.lr_copy.specs.declared.job.Job.{Job}
 use Rattle.lr_copy.specs.Copying.{cutting}
 use Rattle.lr_chain.specs.declared.ready.Ready.{Ready}
@@ -24,18 +24,12 @@ use Rattle.lr_emptied.specs.Steps.{named_steps}
 use Rattle.lr_emptied.proofs.Acts.{sets_copying}
 use Rattle.lr_emptied.proofs.Made.{AllMade, made_split, named_made}
 use Rattle.lr_emptied.proofs.Steps.{plan_copied}
-use Rattle.lr_targets.specs.Target.{Target, IsJob, IsOneOf}
+use Rattle.lr_targets.specs.Target.{Target, IsJob}
 use Rattle.lr_weave.specs.Planned.{AreReadyFor, HaveLogs, NoneHas, AreApart}
+use Rattle.lr_weave.proofs.Whole.{one_none, nil_split}
 use Rattle.lr_turned.proofs.Among.{CopyStands, IsSameFor}
 
 -- ---- steps that were all made
-
-one_none : {A : Type 0} (x : A) (xs : List A) → xs ≡ x ∷ [] → xs ≡ [] → ⊥
-one_none x xs a b = cc
-
-nil_split : {A : Type 0} (xs ys zs : List A) → xs ≡ ys ++ zs → xs ≡ [] → (ys ≡ []) × (zs ≡ [])
-nil_split xs [] zs e n = (refl, sym e ∙ n)
-nil_split xs (y ∷ ys) zs e n = absurd (cc)
 
 all_made : (ss : List Step) (t : List Mark) (f : List Fault) (ts : List Entry) → f ≡ [] → Course ss t f ts → AllMade ss ts
 all_made [] t f ts n c = c.2
@@ -155,34 +149,29 @@ set_stands job set t f ts one n d = go set.shared set.logs one one d
         (stands_first job d.entries.front d.entries.back b.entries.back d.entries.joined (each_stands job set.logs d.by_each d.of_each d.entries.front one ends.0 d.entries.first))
 
 -- the plan of one of these logs
-ready_one : (t : Target) (job : Job) (ts : List Target) (logs : List LogPlan) → AreReadyFor ts logs → IsOneOf t ts → t.job ≡ Some job → CopiesOne job logs
+ready_one : (t : Target) (job : Job) (ts : List Target) (logs : List LogPlan) → AreReadyFor ts logs → IsIn t ts → t.job ≡ Some job → CopiesOne job logs
 ready_one t job [] logs ready i is = absurd i
 ready_one t job (x ∷ ts) [] ready i is = absurd ready
 ready_one t job (x ∷ ts) (log ∷ logs) ready (inl same) is = (log, inl refl, ready.0.job_is ∙ (ap (λ (y : Target). y.job) same ∙ is))
 ready_one t job (x ∷ ts) (log ∷ logs) ready (inr i) is = let k = ready_one t job ts logs ready.1 i is in (k.0, inr k.1, k.2)
 
-one_append : (t : Target) (xs ys : List Target) → IsOneOf t (xs ++ ys) → IsOneOf t xs ⊎ IsOneOf t ys
-one_append t [] ys i = inr i
-one_append t (x ∷ xs) ys (inl is) = inl (inl is)
-one_append t (x ∷ xs) ys (inr i) = ⊎_elim (λ h. inl (inr h)) (λ h. inr h) (one_append t xs ys i)
-
 abbrev pub all_of : List (List Target) → List Target
 all_of groups = flat_map (λ ts. ts) groups
 
-pub plan_stands : (t : Target) (job : Job) (groups : List (List Target)) (sets : List SetPlan) (ms : List Mark) (f : List Fault) (ts : List Entry) → HaveLogs groups sets → IsOneOf t (all_of groups) → t.job ≡ Some job → f ≡ [] → SetsDone (map steps_of_set sets) ms f ts → CopyStands job ts
+pub plan_stands : (t : Target) (job : Job) (groups : List (List Target)) (sets : List SetPlan) (ms : List Mark) (f : List Fault) (ts : List Entry) → HaveLogs groups sets → IsIn t (all_of groups) → t.job ≡ Some job → f ≡ [] → SetsDone (map steps_of_set sets) ms f ts → CopyStands job ts
 plan_stands t job [] sets ms f ts logs i is n d = absurd i
 plan_stands t job (g ∷ groups) [] ms f ts logs i is n d = absurd logs
 plan_stands t job (g ∷ groups) (set ∷ sets) ms f ts logs i is n d =
     let parts = nil_split f d.first_faults d.second_faults d.faults_are n in
     ⊎_elim (λ h. stands_first job d.entries.front d.entries.back ts d.entries.joined (set_stands job set d.first_marks d.first_faults d.entries.front (ready_one t job g set.logs logs.0 h is) parts.0 d.entries.first))
     (λ h. stands_behind job d.entries.front d.entries.back ts d.entries.joined (plan_stands t job groups sets d.second_marks d.second_faults d.entries.back logs.1 h is parts.1 d.entries.second))
-    (one_append t g (all_of groups) i)
+    (in_append t g (all_of groups) i)
 
 -- ---- the jobs of a plan
 
 -- the job is that of one of these logs
 abbrev IsOfOne : List Target → Job → Type 0
-IsOfOne ts job = (t : Target) × IsOneOf t ts × (t.job ≡ Some job) × IsJob t job
+IsOfOne ts job = (t : Target) × IsIn t ts × (t.job ≡ Some job) × IsJob t job
 
 job_has : (o : Option Job) (job : Job) → IsIn job (job_in o) → o ≡ Some job
 job_has None job i = absurd i
@@ -201,15 +190,6 @@ jobs_ready (t ∷ ts) (log ∷ logs) job ready i = ⊎_elim here (λ h. there (j
     there : IsOfOne ts job → IsOfOne (t ∷ ts) job
     there k = (k.0, inr k.1, k.2, k.3)
 
-one_front : (t : Target) (xs ys : List Target) → IsOneOf t xs → IsOneOf t (xs ++ ys)
-one_front t [] ys i = absurd i
-one_front t (x ∷ xs) ys (inl is) = inl is
-one_front t (x ∷ xs) ys (inr i) = inr (one_front t xs ys i)
-
-one_back : (t : Target) (xs ys : List Target) → IsOneOf t ys → IsOneOf t (xs ++ ys)
-one_back t [] ys i = i
-one_back t (x ∷ xs) ys i = inr (one_back t xs ys i)
-
 jobs_planned : (groups : List (List Target)) (sets : List SetPlan) (job : Job) → HaveLogs groups sets → IsIn job (jobs_of sets) → IsOfOne (all_of groups) job
 jobs_planned [] [] job logs i = absurd i
 jobs_planned [] (set ∷ sets) job logs i = absurd logs
@@ -217,18 +197,18 @@ jobs_planned (g ∷ groups) [] job logs i = absurd i
 jobs_planned (g ∷ groups) (set ∷ sets) job logs i = ⊎_elim here (λ h. there (jobs_planned groups sets job logs.1 h)) (in_append job (jobs_in set.logs) (jobs_of sets) i)
   where
     here : IsIn job (jobs_in set.logs) → IsOfOne (g ++ all_of groups) job
-    here h = let k = jobs_ready g set.logs job logs.0 h in (k.0, one_front k.0 g (all_of groups) k.1, k.2, k.3)
+    here h = let k = jobs_ready g set.logs job logs.0 h in (k.0, in_front k.0 g (all_of groups) k.1, k.2, k.3)
 
     there : IsOfOne (all_of groups) job → IsOfOne (g ++ all_of groups) job
-    there k = (k.0, one_back k.0 g (all_of groups) k.1, k.2, k.3)
+    there k = (k.0, in_back k.0 g (all_of groups) k.1, k.2, k.3)
 
 -- no log stands twice
-none_has : (t x : Target) (ts : List Target) → NoneHas t.log ts → IsOneOf x ts → x.log ≢ t.log
+none_has : (t x : Target) (ts : List Target) → NoneHas t.log ts → IsIn x ts → x.log ≢ t.log
 none_has t x [] none i = absurd i
 none_has t x (y ∷ ys) none (inl is) = λ e. none.0 (ap (λ (z : Target). z.log) is ∙ e)
 none_has t x (y ∷ ys) none (inr i) = none_has t x ys none.1 i
 
-same_target : (t x : Target) (ts : List Target) → AreApart ts → IsOneOf t ts → IsOneOf x ts → x.log ≡ t.log → x ≡ t
+same_target : (t x : Target) (ts : List Target) → AreApart ts → IsIn t ts → IsIn x ts → x.log ≡ t.log → x ≡ t
 same_target t x [] apart i j e = absurd i
 same_target t x (y ∷ ys) apart (inl a) (inl b) e = sym b ∙ a
 same_target t x (y ∷ ys) apart (inl a) (inr j) e = absurd (none_has y x ys apart.0 j (e ∙ ap (λ (z : Target). z.log) (sym a)))
@@ -239,13 +219,13 @@ one_job : (o : Option Job) (a b : Job) → o ≡ Some a → o ≡ Some b → a �
 one_job o a b p q = cc
 
 -- so a log has one job
-plan_same : (t : Target) (job : Job) (groups : List (List Target)) (sets : List SetPlan) → HaveLogs groups sets → AreApart (all_of groups) → IsOneOf t (all_of groups) → t.job ≡ Some job → t.log ≡ job.from → (other : Job) → IsIn other (jobs_of sets) → IsSameFor job other
+plan_same : (t : Target) (job : Job) (groups : List (List Target)) (sets : List SetPlan) → HaveLogs groups sets → AreApart (all_of groups) → IsIn t (all_of groups) → t.job ≡ Some job → t.log ≡ job.from → (other : Job) → IsIn other (jobs_of sets) → IsSameFor job other
 plan_same t job groups sets logs apart i is from other h from_same =
     let k = jobs_planned groups sets other logs h in
     let same : k.0 ≡ t = same_target t k.0 (all_of groups) apart i k.1 (sym k.3.from_is ∙ (from_same ∙ sym from)) in
     one_job t.job other job (ap (λ (x : Target). x.job) (sym same) ∙ k.2) is
 
 -- and whatever empties it in the entries of the plan is behind that copy
-pub plan_empties : (t : Target) (job : Job) (groups : List (List Target)) (sets : List SetPlan) (ms : List Mark) (f : List Fault) (ts : List Entry) → HaveLogs groups sets → AreApart (all_of groups) → IsOneOf t (all_of groups) → t.job ≡ Some job → t.log ≡ job.from
+pub plan_empties : (t : Target) (job : Job) (groups : List (List Target)) (sets : List SetPlan) (ms : List Mark) (f : List Fault) (ts : List Entry) → HaveLogs groups sets → AreApart (all_of groups) → IsIn t (all_of groups) → t.job ≡ Some job → t.log ≡ job.from
     → SetsDone (map steps_of_set sets) ms f ts → EmptiesCopied (IsSameFor job) ts
 plan_empties t job groups sets ms f ts logs apart i is from d = sets_copying (IsSameFor job) (map steps_of_set sets) (plan_copied (IsSameFor job) sets (plan_same t job groups sets logs apart i is from)) ms f ts d

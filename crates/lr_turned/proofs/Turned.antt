@@ -1,5 +1,5 @@
 -- A log that is copied amid its rotation: what becomes of its family.
-use Rattle.std.proofs.Common.{◌≡◌, ◌≢◌, ◌⊎◌, inl, inr, ⊎_elim, ℕ, zero, suc, ◌+◌, ◌<◌, ◌≤◌, Bool, true, false, not, cond, nat_eq, nat_le, leb-true, refl, sym, ◌∙◌, ap, subst, append_assoc, arith, List, [], ◌∷◌, ◌++◌, length, drop, reverse, Some}
+use Rattle.std.proofs.Common.{◌≡◌, ◌≢◌, ◌⊎◌, inl, inr, ⊎_elim, ℕ, zero, suc, ◌+◌, ◌<◌, ◌≤◌, Bool, true, false, not, cond, nat_eq, nat_le, leb-true, refl, sym, ◌∙◌, ap, subst, arith, List, [], ◌∷◌, ◌++◌, length, drop, reverse, Some}
 use Rattle.std.specs.Prelude.{filter}
 use Rattle.std.proofs.lemmas.List.{reverse-append, reverse-reverse}
 use Rattle.lr_rules.specs.declared.path.Path.{Path}
@@ -8,7 +8,7 @@ use Rattle.lr_rules.specs.declared.rule.Naming.{Naming}
 use Rattle.lr_host.specs.declared.thing.Thing.{Thing}
 use Rattle.lr_host.specs.declared.thing.Thing.TheVariants as thing
 use Rattle.lr_host.specs.declared.entry.Entry.{Entry}
-use Rattle.lr_host.specs.declared.entry.Entry.TheVariants.{Look, Renames, Makes, MakesDir, Appends, Truncates, Unlinks}
+use Rattle.lr_host.specs.declared.entry.Entry.TheVariants.{Look, Renames, Makes, Appends, Truncates, Unlinks}
 use Rattle.lr_host.specs.World.{Names, Past, ◌▸◌, world, names, names_after, put, is_file}
 use Rattle.lr_host.specs.Fits.{IsFileAt}
 use Rattle.lr_host.specs.Opening.{IsJournal}
@@ -39,10 +39,10 @@ use Rattle.lr_chain.proofs.Falling.{falls_all}
 use Rattle.lr_chain.proofs.Turned as chain
 use Rattle.lr_durable.proofs.Lists.{prefix_on, made_prefix}
 use Rattle.lr_rotations.specs.Members.{IsFamily, HasName, IsNoMember, NoMemberAttached, AreThere, HaveNext}
-use Rattle.lr_rotations.specs.Rotated.{fed, IsOn, MakesAt, IsBeside, AreOutside, IsNeverAt}
+use Rattle.lr_rotations.specs.Rotated.{fed, IsOn, IsBeside, AreOutside, IsNeverAt}
 use Rattle.lr_rotations.specs.Shown.{Shown}
 use Rattle.lr_rotations.specs.Weave.{Weave}
-use Rattle.lr_rotations.proofs.FamilyRotated.{turned_as}
+use Rattle.lr_rotations.proofs.FamilyRotated.{turned_as, turned_round, older, newer}
 use Rattle.lr_rotations.proofs.Fed.{IsTurnOrMake, fed_bytes, never_first}
 use Rattle.lr_rotations.proofs.Fitting.{kept_next, first_named, top_named, next_named, so_standing, retire_named}
 use Rattle.lr_rotations.proofs.Members.{IsOfMembers, unlinks_of, moves_of, AreAlike, members_spare, on_spares, spared_alone, members_walk}
@@ -56,29 +56,10 @@ use Rattle.lr_turned.specs.Turned.{IsFarFrom, NoneOfSetAttached, emptied, Copies
 use Rattle.lr_turned.proofs.Changes.{Changes, changes_both, changes_back, named_changes, cutting_changes}
 use Rattle.lr_turned.proofs.Copy.{whole_copy, copy_new}
 use Rattle.lr_turned.proofs.Moments.{CopyMoments, copy_moments}
-use Rattle.lr_turned.proofs.Walks.{stays_same, stays_file, never_elsewhere}
+use Rattle.lr_turned.proofs.Walks.{stays_same, never_elsewhere}
+use Rattle.lr_rotations.proofs.AnyFamily.{beside_on, anew_spares, anew_turns, stays_file}
 
 -- ---- what stands beside the family's own steps
-
--- it is on these paths and on the log's
-beside_on : (paths : List Path) (log : Path) (e : Entry) → IsBeside paths log e → IsOn (log ∷ paths) e
-beside_on paths log (Renames from to) (inl h) = (inr h.0, inr h.1)
-beside_on paths log (Makes x mode) (inl h) = inr h
-beside_on paths log (MakesDir x mode) (inl h) = inr h
-beside_on paths log (Appends x bytes) (inl h) = inr h
-beside_on paths log (Truncates x) (inl h) = inr h
-beside_on paths log (Unlinks x) (inl h) = inr h
-beside_on paths log (Makes x mode) (inr h) = inl (sym h)
-beside_on paths log _ (inl h) = absurd h
-beside_on paths log _ (inr h) = absurd h
-
-anew_spares : (log x : Path) (e : Entry) → x ≢ log → MakesAt log e → Spares x e
-anew_spares log x (Makes y mode) l h = λ same. l (same ∙ h)
-anew_spares log x _ l h = absurd h
-
-anew_turns : (log : Path) (e : Entry) → MakesAt log e → IsTurnOrMake e
-anew_turns log (Makes x mode) h = tt
-anew_turns log _ h = absurd h
 
 members_turn : (n : Naming) (e : Entry) → IsOfMembers n e → IsTurnOrMake e
 members_turn n (Renames from to) h = tt
@@ -95,56 +76,30 @@ members_within log n _ h = absurd h
 same_eq : (g : ℕ) → nat_eq g g ≡ true
 same_eq g = grind arith
 
-emptied_bytes : (u : Past) (log : Path) (g : ℕ) → names (world u) log ≡ thing.File g → ((world (u ▸ Truncates log)).files g).bytes ≡ []
+pub emptied_bytes : (u : Past) (log : Path) (g : ℕ) → names (world u) log ≡ thing.File g → ((world (u ▸ Truncates log)).files g).bytes ≡ []
 emptied_bytes u log g is = ap (λ t. cond (is_file t g) [] ((world u).files g).bytes) is ∙ ap (λ b. cond b [] ((world u).files g).bytes) (same_eq g)
 
-emptied_names : (job : Job) (u : Past) (x : Path) → names (world (emptied job u)) x ≡ names (world u) x
+pub emptied_names : (job : Job) (u : Past) (x : Path) → names (world (emptied job u)) x ≡ names (world u) x
 emptied_names job u x = go job.cut
   where
     go : (b : Bool) → names (world (cond b (u ▸ Truncates job.from) u)) x ≡ names (world u) x
     go true = refl
     go false = refl
 
-abbrev no_bytes : List ℕ
+abbrev pub no_bytes : List ℕ
 no_bytes = []
 
-none_either : (b : Bool) → cond b no_bytes no_bytes ≡ no_bytes
+pub none_either : (b : Bool) → cond b no_bytes no_bytes ≡ no_bytes
 none_either true = refl
 none_either false = refl
 
 -- a file that is there isn't new
-not_new : (drawn g : ℕ) → g < drawn → nat_le (drawn + 1) (g + 1) ≡ false
+pub not_new : (drawn g : ℕ) → g < drawn → nat_le (drawn + 1) (g + 1) ≡ false
 not_new drawn g lt = go (nat_le (drawn + 1) (g + 1)) refl
   where
     go : (b : Bool) → nat_le (drawn + 1) (g + 1) ≡ b → b ≡ false
     go true e = absurd (let le : drawn + 1 ≤ g + 1 = leb-true (drawn + 1) (g + 1) e in omega (arith, le, lt))
     go false e = refl
-
--- ---- the rotation, the newest step first
-
-abbrev older : Naming → Count → List ℕ → List Entry
-older n c places = reverse (shift_steps n c places) ++ reverse (leftover_steps n c places)
-
-abbrev newer : Naming → Count → List ℕ → List Entry
-newer n c from = reverse (retire_steps n c from)
-
-turned_round : (n : Naming) (c : Count) (log : Path) (places from : List ℕ) → reverse (rotation n c log places from) ≡ newer n c from ++ Renames log (path_at n 0) ∷ older n c places
-turned_round n c log places from =
-    reverse-append ls ((ss ++ r ∷ []) ++ ts)
-    ∙ (ap (λ xs. xs ++ reverse ls) (reverse-append (ss ++ r ∷ []) ts ∙ ap (λ xs. reverse ts ++ xs) (reverse-append ss (r ∷ [])))
-    ∙ append_assoc (reverse ts) (r ∷ reverse ss) (reverse ls))
-  where
-    r : Entry
-    r = Renames log (path_at n 0)
-
-    ls : List Entry
-    ls = leftover_steps n c places
-
-    ss : List Entry
-    ss = shift_steps n c places
-
-    ts : List Entry
-    ts = retire_steps n c from
 
 -- ---- the whole
 

@@ -1,5 +1,5 @@
 -- What paths name while the tool's changes spare them, and files that are never at certain paths.
-use Rattle.std.proofs.Common.{◌≡◌, ⊎_elim, ℕ, Bool, true, false, cond, refl, ◌∙◌, subst, List, [], ◌∷◌}
+use Rattle.std.proofs.Common.{◌≡◌, ℕ, Bool, true, false, cond, refl, ◌∙◌, subst, List, [], ◌∷◌}
 use Rattle.std.specs.Prelude.{filter}
 use Rattle.lr_rules.specs.declared.path.Path.{Path}
 use Rattle.lr_host.specs.declared.thing.Thing.TheVariants as thing
@@ -9,13 +9,13 @@ use Rattle.lr_host.specs.Opening.{IsJournal}
 use Rattle.lr_host.specs.Quiet.{is_disk_change, AttachedOnlySince}
 use Rattle.lr_host.specs.Told.{Each, Made, at_first, by_writer, by_tool}
 use Rattle.lr_host.specs.Lists.{IsIn}
-use Rattle.lr_host.proofs.Looked.{nothing_no_file}
 use Rattle.lr_host.proofs.Made.{made_journal}
 use Rattle.lr_host.proofs.Quiet.{before_last, wrote_same, looked_names}
 use Rattle.lr_laws.proofs.Disk.{leaves_now}
 use Rattle.lr_laws.proofs.Single.{single}
 use Rattle.lr_rotations.specs.Rotated.{IsAtNone, IsNeverAt, not_here, nor_then}
-use Rattle.lr_rotations.proofs.OrMade.{IsOrMade, Spares, SparesOrMakes, spared_names, spared_or_anew}
+use Rattle.lr_rotations.proofs.OrMade.{Spares, SparesOrMakes, spared_names, spared_or_anew}
+use Rattle.lr_rotations.proofs.AnyFamily.{stays_file}
 use Rattle.lr_turned.proofs.Changes.{Changes}
 
 -- a path that is spared, and to which no writer is attached, names what it named
@@ -28,10 +28,6 @@ stays_same X p _ _ x (by_tool {es = es} {q = q} {e = e} m i f) only free s = go 
     go : (Changes (Spares x) es → names (world q) x ≡ names (world p) x) → (b : Bool) → is_disk_change e ≡ b → Each (Spares x) (cond b (e ∷ filter is_disk_change es) (filter is_disk_change es)) → names (world (q ▸ e)) x ≡ names (world p) x
     go further true h s = spared_names q e x s.0 ∙ further s.1
     go further false h s = looked_names q e x i h ∙ further s
-
--- a file that has a name keeps it
-pub stays_file : (p q : Past) (x : Path) (g : ℕ) → IsOrMade p q x → names (world p) x ≡ thing.File g → names (world q) x ≡ thing.File g
-stays_file p q x g h is = ⊎_elim (λ same. same ∙ is) (λ new. absurd (nothing_no_file (names (world p) x) g new.0 is)) h
 
 -- where at each moment on the way none of the paths names the file
 pub never_by : (paths : List Path) (id : ℕ) (S : Entry → Type 0) (p q : Past) (es : List Entry) → Made p es q → Changes S es → ((r : Past) (fs : List Entry) → Made p fs r → Changes S fs → IsAtNone paths r id) → IsNeverAt paths id p q

@@ -39,10 +39,10 @@ use Rattle.lr_copy.specs.Bytes.{AllBytes}
 use Rattle.lr_copy.proofs.EachOfBytes.{each_all}
 use Rattle.lr_chain.specs.declared.ready.Move.{Move}
 use Rattle.lr_chain.specs.declared.ready.Ready.{Ready}
-use Rattle.lr_chain.specs.Ready.{move_step}
+use Rattle.lr_chain.specs.Ready.{move_step, dir_calls}
 use Rattle.lr_rotations.specs.Calls.{after_call, FitCalls, CanCalls}
 use Rattle.lr_targets.specs.AllTurns.{AlsoDoes}
-use Rattle.lr_targets.specs.Calls.{transfer_calls, dir_calls, calls_of}
+use Rattle.lr_targets.specs.Calls.{transfer_calls, calls_of}
 use Rattle.lr_targets.specs.Target.{Target, unlinks, transfer_of, rotation_of, IsJob, HasJob, HasDir}
 use Rattle.lr_dated_run.specs.Own.{ChangesDated, ChangesOwn, HasAnyNames}
 use Rattle.lr_dated_run.proofs.Own.{changes_own, turns_own}
@@ -65,7 +65,7 @@ use Rattle.lr_weave.specs.Planned.{IsReadyFor, AreReadyFor}
 use Rattle.lr_weave.proofs.Lasting.{dir_walk, makes_later}
 use Rattle.lr_weave.specs.Parts.{takes_name, MakesOnly, changes_by}
 use Rattle.lr_weave.proofs.Parting.{Begun, course_first}
-use Rattle.lr_weave.proofs.Planning.{back_of, back_calls, calls_of_step, calls_by, log_is, front_asks, call_halves, removals_ask, log_plain, program_none, program_asks, program_plain}
+use Rattle.lr_weave.proofs.Planning.{back_of, back_calls, calls_of_step, calls_by, log_is, front_asks, call_halves, removals_ask, log_plain, program_none, program_asks, program_plain, each_end}
 
 -- ---- entries that change other paths
 
@@ -214,11 +214,6 @@ can_far X calls ask can (is_told {j = j} {k = k} {es = es} m h) f = record { can
 
 -- ---- the calls of a rotation
 
--- what holds of each of both lists holds of each of the second
-pub each_end : (P : Entry → Type 0) (xs ys : List Entry) → Each P (xs ++ ys) → Each P ys
-each_end P [] ys a = a
-each_end P (x ∷ xs) ys a = each_end P xs ys a.1
-
 -- of what two conditions hold a third holds
 each_two : (P Q R : Entry → Type 0) (es : List Entry) → ((e : Entry) → P e → Q e → R e) → Each P es → Each Q es → Each R es
 each_two P Q R [] f a b = tt
@@ -229,12 +224,12 @@ abbrev pub NamesOf : Target → Path → Type 0
 NamesOf t y = IsOwnName t.log t.naming y
 
 -- what the rotation changes are own names
-own_changes : (t : Target) → HasAnyNames t → Each (ChangesOwn t.log t.naming) (rotation_of t)
+pub own_changes : (t : Target) → HasAnyNames t → Each (ChangesOwn t.log t.naming) (rotation_of t)
 own_changes t (inl h) = own_paths t h
 own_changes t (inr h) = each_as (ChangesDated t.log t.naming) (ChangesOwn t.log t.naming) (rotation_of t) (λ e d. changes_own t.log t.naming e d) (turns_own t h)
 
 -- the copy goes by a part file to the final path
-job_of : (t : Target) → HasAnyNames t → HasJob t
+pub job_of : (t : Target) → HasAnyNames t → HasJob t
 job_of t (inl h) = h.job
 job_of t (inr h) = h.job
 

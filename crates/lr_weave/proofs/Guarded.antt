@@ -16,7 +16,7 @@ use Rattle.lr_plan.specs.declared.step.Step.{Step}
 use Rattle.lr_plan.specs.Course.{Course}
 use Rattle.lr_plan.specs.Done.{EachDone, is_rotated, if_rotated, SetDone, broke_off, went_on, SetsDone}
 use Rattle.lr_plan.specs.Outcomes.{Succeeds, Fails, marks_of}
-use Rattle.lr_weave.specs.Guarded.{HasAll, Allowed, AllowsMore}
+use Rattle.lr_weave.proofs.Allowed.{HasAll, Allowed, AllowsMore}
 use Rattle.lr_weave.specs.Parts.{takes_name, change_of, IsPlain}
 use Rattle.lr_weave.proofs.Parting.{went_changes, failed_changes, went_only, failed_only, each_change}
 

@@ -27,13 +27,12 @@ use Rattle.lr_plan.specs.Done.{SetsDone}
 use Rattle.lr_plan.specs.Outcomes.{marks_of}
 use Rattle.lr_plan.specs.Steps.{program, removals, directory, move, transfer, made_anew, rotation_of as rotation, retirement_of as retirement, steps_of_log, shared_steps, by_logs, steps_of_set}
 use Rattle.lr_targets.specs.AllTurns.{AlsoDoes, IsOf}
-use Rattle.lr_targets.specs.Target.{Target, rotation_of, IsOneOf}
-use Rattle.lr_weave.specs.Guarded.{HasAll, Allowed, AllowsMore, AllowsLog}
+use Rattle.lr_targets.specs.Target.{Target, rotation_of}
+use Rattle.lr_weave.proofs.Allowed.{HasAll, Allowed, AllowsMore, AllowsLog}
 use Rattle.lr_weave.specs.Parts.{change_of, changes_by, IsPlain, ArePlain}
 use Rattle.lr_weave.specs.Planned.{bare_removal, IsReadyFor, AreReadyFor, HaveLogs}
-use Rattle.lr_weave.proofs.Fits.{each_end}
 use Rattle.lr_weave.proofs.Guarded.{has_front, has_back, has_on, IsGuarded, AreGuarded, EachGuarded, IsGuardedSet, AreGuardedSets, sets_guarded}
-use Rattle.lr_weave.proofs.Planning.{front_of, back_of, halves, dir_is, each_every, front_is, back_is, front_plain, back_plain}
+use Rattle.lr_weave.proofs.Planning.{front_of, back_of, halves, dir_is, each_every, front_is, back_is, front_plain, back_plain, each_end}
 
 -- ---- steps of one log
 
@@ -217,16 +216,16 @@ module _ (P : Allowed) (allows : AllowsMore P) where
 
   -- ---- all definitions
 
-  allow_split : (xs ys : List Target) → ((t : Target) → IsOneOf t (xs ++ ys) → AllowsLog P t) → AllowLogs xs × ((t : Target) → IsOneOf t ys → AllowsLog P t)
+  allow_split : (xs ys : List Target) → ((t : Target) → IsIn t (xs ++ ys) → AllowsLog P t) → AllowLogs xs × ((t : Target) → IsIn t ys → AllowsLog P t)
   allow_split [] ys f = (tt, f)
   allow_split (x ∷ xs) ys f = let more = allow_split xs ys (λ t i. f t (inr i)) in ((f x (inl refl), more.0), more.1)
 
-  plan_guarded : (groups : List (List Target)) (sets : List SetPlan) → HaveLogs groups sets → ((t : Target) → IsOneOf t (flat_map (λ ts. ts) groups) → AllowsLog P t) → AreGuardedSets P allows (map steps_of_set sets)
+  plan_guarded : (groups : List (List Target)) (sets : List SetPlan) → HaveLogs groups sets → ((t : Target) → IsIn t (flat_map (λ ts. ts) groups) → AllowsLog P t) → AreGuardedSets P allows (map steps_of_set sets)
   plan_guarded [] [] h f = tt
   plan_guarded [] (s ∷ sets) h f = absurd h
   plan_guarded (g ∷ gs) [] h f = tt
   plan_guarded (g ∷ gs) (s ∷ sets) h f = let both = allow_split g (flat_map (λ ts. ts) gs) f in (set_guarded s g h.0 both.0, plan_guarded gs sets h.1 both.1)
 
-  pub acts_guarded : (groups : List (List Target)) (sets : List SetPlan) (marks : List Mark) (faults : List Fault) (ts : List Entry) → HaveLogs groups sets → ((t : Target) → IsOneOf t (flat_map (λ ts. ts) groups) → AllowsLog P t) → SetsDone (map steps_of_set sets) marks faults ts
+  pub acts_guarded : (groups : List (List Target)) (sets : List SetPlan) (marks : List Mark) (faults : List Fault) (ts : List Entry) → HaveLogs groups sets → ((t : Target) → IsIn t (flat_map (λ ts. ts) groups) → AllowsLog P t) → SetsDone (map steps_of_set sets) marks faults ts
       → Each (P marks) (filter is_change ts)
   acts_guarded groups sets marks faults ts h f done = sets_guarded P allows (map steps_of_set sets) marks faults ts (plan_guarded groups sets h f) done

@@ -10,6 +10,7 @@ use Rattle.lr_rules.specs.declared.path.Path.{Path}
 use Rattle.lr_rules.specs.declared.fault.Fault.{Fault}
 use Rattle.lr_host.specs.declared.entry.Entry.{Entry}
 use Rattle.lr_host.specs.declared.entry.Entry.TheVariants as entry
+use Rattle.lr_host.specs.Lists.{IsIn}
 use Rattle.lr_host.specs.Told.{Each}
 use Rattle.lr_host.specs.Steps.{is_change}
 use Rattle.lr_host.proofs.Each.{each_append, each_first, each_as, none_pass}
@@ -30,7 +31,7 @@ use Rattle.lr_plan.specs.Done.{EachDone, LogsDone, is_rotated, if_rotated, SetDo
 use Rattle.lr_rotations.specs.Weave.{Weave, none, own, other, FirstWoven}
 use Rattle.lr_weave.specs.Parts.{takes_name, change_of, changes_by, IsPlain, ArePlain, EachPlain, IsPlainSet, ArePlainSets, MakesOnly, MakesOne, parts_of_set, parts_of_sets, FirstParts, AllOf, ArePlanned}
 use Rattle.lr_weave.specs.Planned.{NoneHas, AreApart}
-use Rattle.lr_targets.specs.Target.{Target, rotation_of, IsOneOf}
+use Rattle.lr_targets.specs.Target.{Target, rotation_of}
 use Rattle.lr_targets.specs.AllTurns.{AlsoDoes, IsOf, IsOfSome, IsOfOther, IsOfState, StandsBetween}
 use Rattle.lr_mixed.specs.AllTurns.{AllTurnsBy}
 use Rattle.lr_mixed.specs.Seen.{AreLogsSeen}
@@ -159,8 +160,8 @@ begun_longer : (P : Entry → Type 0) (xs ys ts : List Entry) → Begun P xs ts 
 begun_longer P xs ys ts b = record { first = first_longer xs ys (filter takes_name ts) b.first; only = b.only }
 
 pub cut_first : (P : Entry → Type 0) (ss : List Step) (t : List Mark) (f : List Fault) (ts : List Entry) → ArePlain P ss → CourseCut ss t f ts → Begun P (changes_by ss) ts
-cut_first P ss t f ts plain c = subst (λ xs. Begun P xs ts) (sym (ap changes_by c.steps_are ∙ flat_map-append change_of c.made c.rest))
-    (begun_longer P (changes_by c.made) (changes_by c.rest) ts (course_first P c.made t f ts (plain_part P c.made c.rest (subst (ArePlain P) c.steps_are plain)) c.part.1))
+cut_first P ss t f ts plain c = subst (λ xs. Begun P xs ts) (sym (ap changes_by c.steps_are ∙ flat_map-append change_of c.made (c.next ∷ c.rest)))
+    (begun_longer P (changes_by c.made) (changes_by (c.next ∷ c.rest)) ts (course_first P c.made t f ts (plain_part P c.made (c.next ∷ c.rest) (subst (ArePlain P) c.steps_are plain)) c.part.1))
 
 -- ---- parts
 
@@ -398,33 +399,33 @@ made_some (t ∷ ts) e (inl h) = inl (inr h)
 made_some (t ∷ ts) e (inr h) = inr (made_some ts e h)
 
 -- by which log
-pub made_by : (ts : List Target) (e : Entry) → MakesOne ts e → (t : Target) × IsOneOf t ts × AlsoDoes t e
+pub made_by : (ts : List Target) (e : Entry) → MakesOne ts e → (t : Target) × IsIn t ts × AlsoDoes t e
 made_by [] e h = absurd h
 made_by (t ∷ ts) e (inl h) = (t, inl refl, h)
 made_by (t ∷ ts) e (inr h) = let r = made_by ts e h in (r.0, inr r.1, r.2)
 
-pub of_other : (log : Path) (ts : List Target) (t : Target) (e : Entry) → IsOneOf t ts → t.log ≢ log → IsOf t e → IsOfOther log ts e
+pub of_other : (log : Path) (ts : List Target) (t : Target) (e : Entry) → IsIn t ts → t.log ≢ log → IsOf t e → IsOfOther log ts e
 of_other log [] t e i ne h = absurd i
 of_other log (x ∷ xs) t e (inl is) ne h = inl (subst (λ (y : Target). (y.log ≢ log) × IsOf y e) (sym is) (ne, h))
 of_other log (x ∷ xs) t e (inr i) ne h = inr (of_other log xs t e i ne h)
 
-pub none_has : (log : Path) (ts : List Target) (t : Target) → NoneHas log ts → IsOneOf t ts → t.log ≢ log
+pub none_has : (log : Path) (ts : List Target) (t : Target) → NoneHas log ts → IsIn t ts → t.log ≢ log
 none_has log [] t n i = absurd i
 none_has log (x ∷ xs) t n (inl is) = subst (λ (y : Target). y.log ≢ log) is n.0
 none_has log (x ∷ xs) t n (inr i) = none_has log xs t n.1 i
 
 -- of logs of which none stands twice
-one_log : (ts : List Target) (x t : Target) → AreApart ts → IsOneOf x ts → IsOneOf t ts → x.log ≡ t.log → x ≡ t
+one_log : (ts : List Target) (x t : Target) → AreApart ts → IsIn x ts → IsIn t ts → x.log ≡ t.log → x ≡ t
 one_log [] x t a i j same = absurd i
 one_log (y ∷ ys) x t a (inl is) (inl it) same = sym is ∙ it
 one_log (y ∷ ys) x t a (inl is) (inr j) same = absurd (none_has y.log ys t a.0 j (sym (ap (λ (z : Target). z.log) is ∙ same)))
 one_log (y ∷ ys) x t a (inr i) (inl it) same = absurd (none_has y.log ys x a.0 i (same ∙ sym (ap (λ (z : Target). z.log) it)))
 one_log (y ∷ ys) x t a (inr i) (inr j) same = one_log ys x t a.1 i j same
 
-pub made_between : (state : Path) (ts : List Target) (t : Target) → AreApart ts → IsOneOf t ts → (e : Entry) → MakesOne ts e → StandsBetween state t ts e
+pub made_between : (state : Path) (ts : List Target) (t : Target) → AreApart ts → IsIn t ts → (e : Entry) → MakesOne ts e → StandsBetween state t ts e
 made_between state ts t a i e h = go (bytes_eq by.0.log t.log) refl
   where
-    by : (x : Target) × IsOneOf x ts × AlsoDoes x e
+    by : (x : Target) × IsIn x ts × AlsoDoes x e
     by = made_by ts e h
 
     go : (b : Bool) → bytes_eq by.0.log t.log ≡ b → StandsBetween state t ts e

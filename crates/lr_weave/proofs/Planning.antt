@@ -12,21 +12,22 @@ use Rattle.lr_host.specs.declared.entry.Entry.TheVariants as entry
 use Rattle.lr_host.specs.Lists.{IsIn}
 use Rattle.lr_host.specs.Told.{Each}
 use Rattle.lr_host.proofs.Each.{each_append, each_first}
+use Rattle.lr_host.proofs.Lists.{in_append}
 use Rattle.lr_scripts.specs.declared.command.Command.{Command}
 use Rattle.lr_scripts.specs.declared.removal.Removal.{Removal}
 use Rattle.lr_copy.specs.declared.job.Job.{Job}
 use Rattle.lr_chain.specs.declared.ready.Move.{Move}
 use Rattle.lr_chain.specs.declared.ready.Ready.{Ready}
-use Rattle.lr_chain.specs.Ready.{move_step}
+use Rattle.lr_chain.specs.Ready.{move_step, dir_calls}
 use Rattle.lr_plan.specs.declared.planned.LogPlan.{LogPlan}
 use Rattle.lr_plan.specs.declared.planned.SetPlan.{SetPlan}
 use Rattle.lr_plan.specs.declared.step.Step.{Step}
 use Rattle.lr_plan.specs.declared.step.Step.TheVariants as step
 use Rattle.lr_plan.specs.Internal.Asking.{asks}
 use Rattle.lr_plan.specs.Steps.{on_of, program, removal, removals, directory, move, step_if, transfer, made_anew, rotation as steps_of_rotation, retirement as steps_of_retirement, rotation_of as rotation, retirement_of as retirement, steps_of_log, shared_steps, by_logs, steps_of_set}
-use Rattle.lr_targets.specs.Calls.{transfer_calls, dir_calls, calls_of}
+use Rattle.lr_targets.specs.Calls.{transfer_calls, calls_of}
 use Rattle.lr_rotations.specs.Weave.{Weave}
-use Rattle.lr_targets.specs.Target.{Target, unlinks, transfer_of, rotation_of, IsJob, HasJob, IsOneOf}
+use Rattle.lr_targets.specs.Target.{Target, unlinks, transfer_of, rotation_of, IsJob, HasJob}
 use Rattle.lr_targets.specs.AllTurns.{AlsoDoes, IsOf, IsOfSome, IsOfOther}
 use Rattle.lr_targets.proofs.Rotating.{two}
 use Rattle.lr_rotations.proofs.Weaving.{weave_on, weave_own, weave_others}
@@ -369,9 +370,10 @@ anything (t ∷ ts) = (λ e also. tt, anything ts)
 
 -- ---- seen from one log
 
-each_behind : (P : Entry → Type 0) (xs ys : List Entry) → Each P (xs ++ ys) → Each P ys
-each_behind P [] ys a = a
-each_behind P (x ∷ xs) ys a = each_behind P xs ys a.1
+-- what holds of each of both lists holds of each of the second
+pub each_end : (P : Entry → Type 0) (xs ys : List Entry) → Each P (xs ++ ys) → Each P ys
+each_end P [] ys a = a
+each_end P (x ∷ xs) ys a = each_end P xs ys a.1
 
 -- P holds of all steps of these logs
 abbrev pub AllLogs : (Entry → Type 0) → List Target → Type 0
@@ -391,7 +393,7 @@ in_front : (P : Entry → Type 0) (t : Target) → Each P (rotation_of t) → Ea
 in_front P t a = each_first P (front_of t) (back_of t) (subst (Each P) (sym (halves t)) a)
 
 in_back : (P : Entry → Type 0) (t : Target) → Each P (rotation_of t) → Each P (back_of t)
-in_back P t a = each_behind P (front_of t) (back_of t) (subst (Each P) (sym (halves t)) a)
+in_back P t a = each_end P (front_of t) (back_of t) (subst (Each P) (sym (halves t)) a)
 
 flat_fronts : (P : Entry → Type 0) (ts : List Target) → AllLogs P ts → Each P (flat_map front_of ts)
 flat_fronts P [] a = tt
@@ -417,12 +419,12 @@ set_out P ts ps (by_logs_each e) a = subst (AllOf P) (sym e) (tt, all_on P (map 
 own_first : (P : Entry → Type 0) (xs ys : List Entry) → Each P ys → Weave P xs (xs ++ ys)
 own_first P xs ys a = subst (λ os. Weave P os (xs ++ ys)) (append-nil xs) (weave_on P xs xs [] ys (weave_own P xs) (weave_others P ys a))
 
-weave_fronts : (P : Entry → Type 0) (ts : List Target) (t : Target) → IsOneOf t ts → AreApart ts → AllBut P t.log ts → Weave P (front_of t) (flat_map front_of ts)
+weave_fronts : (P : Entry → Type 0) (ts : List Target) (t : Target) → IsIn t ts → AreApart ts → AllBut P t.log ts → Weave P (front_of t) (flat_map front_of ts)
 weave_fronts P [] t i ap a = absurd i
 weave_fronts P (x ∷ xs) t (inl is) ap a = subst (λ (y : Target). AllBut P y.log xs → Weave P (front_of y) (front_of x ++ flat_map front_of xs)) is (λ b. own_first P (front_of x) (flat_map front_of xs) (flat_fronts P xs (all_of P x.log xs ap.0 b))) a.1
 weave_fronts P (x ∷ xs) t (inr i) ap a = weave_on P [] (front_of x) (front_of t) (flat_map front_of xs) (weave_others P (front_of x) (in_front P x (a.0 (λ e. none_has x.log xs t ap.0 i (sym e))))) (weave_fronts P xs t i ap.1 a.1)
 
-weave_backs : (P : Entry → Type 0) (ts : List Target) (t : Target) → IsOneOf t ts → AreApart ts → AllBut P t.log ts → Weave P (back_of t) (flat_map back_of ts)
+weave_backs : (P : Entry → Type 0) (ts : List Target) (t : Target) → IsIn t ts → AreApart ts → AllBut P t.log ts → Weave P (back_of t) (flat_map back_of ts)
 weave_backs P [] t i ap a = absurd i
 weave_backs P (x ∷ xs) t (inl is) ap a = subst (λ (y : Target). AllBut P y.log xs → Weave P (back_of y) (back_of x ++ flat_map back_of xs)) is (λ b. own_first P (back_of x) (flat_map back_of xs) (flat_backs P xs (all_of P x.log xs ap.0 b))) a.1
 weave_backs P (x ∷ xs) t (inr i) ap a = weave_on P [] (back_of x) (back_of t) (flat_map back_of xs) (weave_others P (back_of x) (in_back P x (a.0 (λ e. none_has x.log xs t ap.0 i (sym e))))) (weave_backs P xs t i ap.1 a.1)
@@ -445,14 +447,14 @@ all_behind P steps ps qs o a = record {
   rest = all_on P o.after qs o.rest a;
 }
 
-one_of_map : (P : Entry → Type 0) (ts : List Target) (t : Target) → IsOneOf t ts → AreApart ts → AllBut P t.log ts → InOnePart P (rotation_of t) (map rotation_of ts)
+one_of_map : (P : Entry → Type 0) (ts : List Target) (t : Target) → IsIn t ts → AreApart ts → AllBut P t.log ts → InOnePart P (rotation_of t) (map rotation_of ts)
 one_of_map P [] t i ap a = absurd i
 one_of_map P (x ∷ xs) t (inl is) ap a = subst (λ (y : Target). AllBut P y.log xs → InOnePart P (rotation_of y) (rotation_of x ∷ map rotation_of xs)) is
     (λ b. record { before = []; part = rotation_of x; after = map rotation_of xs; parts_are = refl; first = tt; woven = weave_own P (rotation_of x); rest = map_all P xs (all_of P x.log xs ap.0 b) }) a.1
 one_of_map P (x ∷ xs) t (inr i) ap a = more_before P (rotation_of t) (rotation_of x) (map rotation_of xs) (a.0 (λ e. none_has x.log xs t ap.0 i (sym e))) (one_of_map P xs t i ap.1 a.1)
 
 -- the definition with the log
-set_in : (P : Entry → Type 0) (ts : List Target) (ps : List (List Entry)) (t : Target) → ArePartsOf ts ps → IsOneOf t ts → AreApart ts → AllBut P t.log ts → InOnePart P (rotation_of t) ps
+set_in : (P : Entry → Type 0) (ts : List Target) (ps : List (List Entry)) (t : Target) → ArePartsOf ts ps → IsIn t ts → AreApart ts → AllBut P t.log ts → InOnePart P (rotation_of t) ps
 set_in P ts ps t (together e) i ap a = subst (InOnePart P (rotation_of t)) (sym e) (record {
   before = [];
   part = flat_map front_of ts ++ flat_map back_of ts;
@@ -470,32 +472,27 @@ set_in P ts ps t (by_logs_each e) i ap a = subst (InOnePart P (rotation_of t)) (
 abbrev all_targets : List (List Target) → List Target
 all_targets groups = flat_map (λ ts. ts) groups
 
-none_split : (log : Path) (xs ys : List Target) → NoneHas log (xs ++ ys) → NoneHas log xs × NoneHas log ys
-none_split log [] ys n = (tt, n)
-none_split log (x ∷ xs) ys n = let r = none_split log xs ys n.1 in ((n.0, r.0), r.1)
+nin_append : (log : Path) (xs ys : List Target) → NoneHas log (xs ++ ys) → NoneHas log xs × NoneHas log ys
+nin_append log [] ys n = (tt, n)
+nin_append log (x ∷ xs) ys n = let r = nin_append log xs ys n.1 in ((n.0, r.0), r.1)
 
 apart_split : (xs ys : List Target) → AreApart (xs ++ ys) → AreApart xs × AreApart ys
 apart_split [] ys ap = (tt, ap)
-apart_split (x ∷ xs) ys ap = let r = apart_split xs ys ap.1 in (((none_split x.log xs ys ap.0).0, r.0), r.1)
+apart_split (x ∷ xs) ys ap = let r = apart_split xs ys ap.1 in (((nin_append x.log xs ys ap.0).0, r.0), r.1)
 
 but_split : (P : Entry → Type 0) (log : Path) (xs ys : List Target) → AllBut P log (xs ++ ys) → AllBut P log xs × AllBut P log ys
 but_split P log [] ys a = (tt, a)
 but_split P log (x ∷ xs) ys a = let r = but_split P log xs ys a.1 in ((a.0, r.0), r.1)
 
-one_split : (t : Target) (xs ys : List Target) → IsOneOf t (xs ++ ys) → IsOneOf t xs ⊎ IsOneOf t ys
-one_split t [] ys i = inr i
-one_split t (x ∷ xs) ys (inl is) = inl (inl is)
-one_split t (x ∷ xs) ys (inr i) = ⊎_elim (λ a. inl (inr a)) (λ b. inr b) (one_split t xs ys i)
-
 -- a log of the first isn't among the second, nor the other way
-not_behind : (t : Target) (xs ys : List Target) → AreApart (xs ++ ys) → IsOneOf t xs → NoneHas t.log ys
+not_behind : (t : Target) (xs ys : List Target) → AreApart (xs ++ ys) → IsIn t xs → NoneHas t.log ys
 not_behind t [] ys ap i = absurd i
-not_behind t (x ∷ xs) ys ap (inl is) = subst (λ (u : Target). NoneHas u.log ys) is (none_split x.log xs ys ap.0).1
+not_behind t (x ∷ xs) ys ap (inl is) = subst (λ (u : Target). NoneHas u.log ys) is (nin_append x.log xs ys ap.0).1
 not_behind t (x ∷ xs) ys ap (inr i) = not_behind t xs ys ap.1 i
 
-not_before : (t : Target) (xs ys : List Target) → AreApart (xs ++ ys) → IsOneOf t ys → NoneHas t.log xs
+not_before : (t : Target) (xs ys : List Target) → AreApart (xs ++ ys) → IsIn t ys → NoneHas t.log xs
 not_before t [] ys ap i = tt
-not_before t (x ∷ xs) ys ap i = ((λ e. none_has x.log ys t (none_split x.log xs ys ap.0).1 i (sym e)), not_before t xs ys ap.1 i)
+not_before t (x ∷ xs) ys ap i = ((λ e. none_has x.log ys t (nin_append x.log xs ys ap.0).1 i (sym e)), not_before t xs ys ap.1 i)
 
 sets_out : (P : Entry → Type 0) (groups : List (List Target)) (sets : List SetPlan) → HaveLogs groups sets → AllLogs P (all_targets groups) → AllOf P (parts_of_sets (map steps_of_set sets))
 sets_out P [] [] h a = tt
@@ -507,7 +504,7 @@ sets_out P (g ∷ gs) (s ∷ sets) h a = let r = logs_split g (flat_map (λ ts. 
     logs_split [] ys a = (tt, a)
     logs_split (x ∷ xs) ys a = let r = logs_split xs ys a.1 in ((a.0, r.0), r.1)
 
-sets_in : (P : Entry → Type 0) (groups : List (List Target)) (sets : List SetPlan) (t : Target) → HaveLogs groups sets → IsOneOf t (all_targets groups) → AreApart (all_targets groups) → AllBut P t.log (all_targets groups)
+sets_in : (P : Entry → Type 0) (groups : List (List Target)) (sets : List SetPlan) (t : Target) → HaveLogs groups sets → IsIn t (all_targets groups) → AreApart (all_targets groups) → AllBut P t.log (all_targets groups)
     → InOnePart P (rotation_of t) (parts_of_sets (map steps_of_set sets))
 sets_in P [] sets t h i ap a = absurd i
 sets_in P (g ∷ gs) [] t h i ap a = absurd h
@@ -518,7 +515,7 @@ sets_in P (g ∷ gs) (s ∷ sets) t h i ap a = ⊎_elim
     (λ there. all_before P (rotation_of t) (parts_of_set (steps_of_set s)) (parts_of_sets (map steps_of_set sets))
     (set_out P g (parts_of_set (steps_of_set s)) (set_is Anything s g (anything g) h.0).0 (all_of P t.log g (not_before t g (all_targets gs) ap there) (but_split P t.log g (all_targets gs) a).0))
     (sets_in P gs sets t h.1 there (apart_split g (all_targets gs) ap).1 (but_split P t.log g (all_targets gs) a).1))
-    (one_split t g (all_targets gs) i)
+    (in_append t g (all_targets gs) i)
 
 makings_split : (P : Entry → Type 0) (xs ys : List Target) → OfMakings P (xs ++ ys) → OfMakings P xs × OfMakings P ys
 makings_split P [] ys m = (tt, m)
@@ -536,25 +533,25 @@ pub each_every : (P : Entry → Type 0) (es : List Entry) → ((e : Entry) → I
 each_every P [] f = tt
 each_every P (x ∷ xs) f = (f x (inl refl), each_every P xs (λ e i. f e (inr i)))
 
-of_some : (ts : List Target) (t : Target) (e : Entry) → IsOneOf t ts → IsIn e (rotation_of t) → IsOfSome ts e
+of_some : (ts : List Target) (t : Target) (e : Entry) → IsIn t ts → IsIn e (rotation_of t) → IsOfSome ts e
 of_some [] t e i h = absurd i
 of_some (x ∷ xs) t e (inl is) h = inl (subst (λ (y : Target). IsOf y e) (sym is) (inl h))
 of_some (x ∷ xs) t e (inr i) h = inr (of_some xs t e i h)
 
-others : (log : Path) (all ts : List Target) → ((t : Target) → IsOneOf t ts → IsOneOf t all) → AllBut (IsOfOther log all) log ts
+others : (log : Path) (all ts : List Target) → ((t : Target) → IsIn t ts → IsIn t all) → AllBut (IsOfOther log all) log ts
 others log all [] f = tt
 others log all (t ∷ ts) f = ((λ ne. each_every (IsOfOther log all) (rotation_of t) (λ e i. of_other log all t e (f t (inl refl)) ne (inl i))), others log all ts (λ x i. f x (inr i)))
 
-somes : (all ts : List Target) → ((t : Target) → IsOneOf t ts → IsOneOf t all) → AllLogs (IsOfSome all) ts
+somes : (all ts : List Target) → ((t : Target) → IsIn t ts → IsIn t all) → AllLogs (IsOfSome all) ts
 somes all [] f = tt
 somes all (t ∷ ts) f = (each_every (IsOfSome all) (rotation_of t) (λ e i. of_some all t e (f t (inl refl)) i), somes all ts (λ x i. f x (inr i)))
 
-one_made : (ts : List Target) (t : Target) (e : Entry) → IsOneOf t ts → AlsoDoes t e → MakesOne ts e
+one_made : (ts : List Target) (t : Target) (e : Entry) → IsIn t ts → AlsoDoes t e → MakesOne ts e
 one_made [] t e i h = absurd i
 one_made (x ∷ xs) t e (inl is) h = inl (subst (λ (y : Target). AlsoDoes y e) (sym is) h)
 one_made (x ∷ xs) t e (inr i) h = inr (one_made xs t e i h)
 
-pub own_makings : (all ts : List Target) → ((t : Target) → IsOneOf t ts → IsOneOf t all) → OfMakings (MakesOne all) ts
+pub own_makings : (all ts : List Target) → ((t : Target) → IsIn t ts → IsIn t all) → OfMakings (MakesOne all) ts
 own_makings all [] f = tt
 own_makings all (t ∷ ts) f = (λ e h. one_made all t e (f t (inl refl)) h, own_makings all ts (λ x i. f x (inr i)))
 

@@ -4,6 +4,7 @@ use Rattle.std.specs.Prelude.{filter}
 use Rattle.std.specs.List.{flat_map}
 use Rattle.lr_rules.specs.declared.fault.Phase.TheVariants as phase
 use Rattle.lr_host.specs.declared.journal.Journal.{Journal}
+use Rattle.lr_host.specs.Lists.{IsIn}
 use Rattle.lr_host.specs.Steps.{is_naming}
 use Rattle.lr_plan.specs.declared.planned.LogPlan.{LogPlan}
 use Rattle.lr_plan.specs.declared.planned.SetPlan.{SetPlan}
@@ -15,7 +16,7 @@ use Rattle.lr_host.specs.declared.entry.Entry.{Entry}
 use Rattle.lr_host.specs.declared.entry.Entry.TheVariants as entry
 use Rattle.lr_host.specs.Told.{Each}
 use Rattle.lr_targets.specs.AllTurns.{AlsoDoes}
-use Rattle.lr_targets.specs.Target.{Target, IsOneOf}
+use Rattle.lr_targets.specs.Target.{Target}
 use Rattle.lr_weave.specs.Fitting.{AreFit, NoneMeets, DontMeet}
 use Rattle.lr_weave.specs.Parts.{takes_name, MakesOne, parts_of_set}
 use Rattle.lr_weave.specs.Planned.{AreReadyFor, HaveLogs}
@@ -65,7 +66,7 @@ far_all o [] x ys fits n = tt
 far_all o (t ∷ g) x ys fits n = (rotation_far x t fits.0 n.0.0, far_all o g x ys fits.1 n.1)
 
 -- nor is the directory that one of them makes
-none_made : (o : Option Journal) (g : List Target) (x : Target) (ys : List Target) → AreFit o g → NoneBehind g (x ∷ ys) → (y : Path) (mode : Option ℕ) → ((t : Target) × IsOneOf t g × AlsoDoes t (entry.MakesDir y mode)) → NamesOf x y → ⊥
+none_made : (o : Option Journal) (g : List Target) (x : Target) (ys : List Target) → AreFit o g → NoneBehind g (x ∷ ys) → (y : Path) (mode : Option ℕ) → ((t : Target) × IsIn t g × AlsoDoes t (entry.MakesDir y mode)) → NamesOf x y → ⊥
 none_made o [] x ys fits n y mode h i = absurd h.1
 none_made o (t ∷ g) x ys fits n y mode (u, inl is, also) i = made_far x t fits.0.names n.0.0 y mode (subst (λ (v : Target). AlsoDoes v (entry.MakesDir y mode)) (sym is) also) i
 none_made o (t ∷ g) x ys fits n y mode (u, inr j, also) i = none_made o g x ys fits.1 n.1 y mode (u, j, also) i

@@ -6,6 +6,7 @@ use Rattle.lr_rules.specs.declared.fault.Phase.TheVariants as phase
 use Rattle.lr_rules.specs.Names.{Meet}
 use Rattle.lr_host.specs.declared.entry.Entry.{Entry}
 use Rattle.lr_host.specs.declared.journal.Journal.{Journal}
+use Rattle.lr_host.specs.Lists.{IsIn}
 use Rattle.lr_host.specs.Told.{Each, Left}
 use Rattle.lr_host.specs.Steps.{is_naming}
 use Rattle.lr_host.proofs.Each.{each_append, each_first}
@@ -18,13 +19,13 @@ use Rattle.lr_plan.specs.Steps as steps
 use Rattle.lr_plan.specs.Internal.Asking.{CanMake}
 use Rattle.lr_rotations.specs.Calls.{CanCalls}
 use Rattle.lr_targets.specs.AllTurns.{AlsoDoes}
-use Rattle.lr_targets.specs.Target.{Target, IsOneOf}
+use Rattle.lr_targets.specs.Target.{Target}
 use Rattle.lr_weave.specs.Fitting.{IsFit, AreFit, NoneMeets, DontMeet, ReadOwn, ReadsNothing}
 use Rattle.lr_weave.specs.Parts.{takes_name, change_of, changes_by, ArePlain, MakesOnly}
 use Rattle.lr_weave.specs.Planned.{IsReadyFor, AreReadyFor}
 use Rattle.lr_weave.proofs.Parting.{went_changes, went_only, joined_changes}
-use Rattle.lr_weave.proofs.Planning.{front_of, back_of, back_calls, front_is, back_is, halves, front_plain, back_plain, program_none, program_plain}
-use Rattle.lr_weave.proofs.Fits.{Avoids, NamesOf, AllSucceed, Asks, asks_for, Never, none_named, naming_avoids, made_far, each_end, can_far, front_then, back_can, back_asks, rotation_far, fit_later, program_can, unchanged}
+use Rattle.lr_weave.proofs.Planning.{front_of, back_of, back_calls, front_is, back_is, halves, front_plain, back_plain, program_none, program_plain, each_end}
+use Rattle.lr_weave.proofs.Fits.{Avoids, NamesOf, AllSucceed, Asks, asks_for, Never, none_named, naming_avoids, made_far, can_far, front_then, back_can, back_asks, rotation_far, fit_later, program_can, unchanged}
 
 -- ---- one list behind another
 
@@ -79,7 +80,7 @@ back_avoids x t log ts far r w =
     let all = went_all Never (steps.retirement_of log) ts (back_plain Never log) w in
     naming_avoids (NamesOf x) Never ts (subst (Each (Avoids (NamesOf x))) (sym (all.are ∙ back_is t log r)) far) all.only (λ y mode never i. never)
 
-none_in : (t : Target) (xs : List Target) (x : Target) → NoneMeets t xs → IsOneOf x xs → Meet x.log x.naming t.log t.naming → ⊥
+none_in : (t : Target) (xs : List Target) (x : Target) → NoneMeets t xs → IsIn x xs → Meet x.log x.naming t.log t.naming → ⊥
 none_in t [] x n i = absurd i
 none_in t (y ∷ ys) x n (inl is) = subst (λ (z : Target). Meet z.log z.naming t.log t.naming → ⊥) is n.0
 none_in t (y ∷ ys) x n (inr i) = none_in t ys x n.1 i
@@ -91,8 +92,8 @@ fits_later o m t (x ∷ xs) n fits left f = (fit_later x fits.0 left (f x n.0), 
 -- ---- all rotations, and then the rest
 
 fronts_can : (rest : List Step) (o : Option Journal) (ts : List Target) (logs : List LogPlan) (gone : List Target) → AreReadyFor ts logs → ReadOwn logs → AreFit o ts → DontMeet ts
-    → ((d : Target) → IsOneOf d gone → (t : Target) → IsOneOf t ts → Meet d.log d.naming t.log t.naming → ⊥) → ((d : Target) → IsOneOf d gone → HasBack o d)
-    → ((m : Option Journal) → ((x : Target) → IsOneOf x ts ⊎ IsOneOf x gone → HasBack m x) → CanMake m rest) → CanMake o (flat_map steps.rotation_of logs ++ rest)
+    → ((d : Target) → IsIn d gone → (t : Target) → IsIn t ts → Meet d.log d.naming t.log t.naming → ⊥) → ((d : Target) → IsIn d gone → HasBack o d)
+    → ((m : Option Journal) → ((x : Target) → IsIn x ts ⊎ IsIn x gone → HasBack m x) → CanMake m rest) → CanMake o (flat_map steps.rotation_of logs ++ rest)
 fronts_can rest o [] [] gone r q fits dont apart done k = k o (λ x i. ⊎_elim (λ none. absurd none) (λ j. done x j) i)
 fronts_can rest o [] (log ∷ logs) gone r q fits dont apart done k = absurd r
 fronts_can rest o (t ∷ ts) [] gone r q fits dont apart done k = absurd r
@@ -106,7 +107,7 @@ fronts_can rest o (t ∷ ts) (log ∷ logs) gone r q fits dont apart done k =
     (λ old. back_later d (done d old) l (λ us w. front_avoids o d t log us fits.0 (apart d old t (inl refl)) r.0 w)) j)
     (λ n h. k n (λ x i. h x (⊎_elim (λ a. ⊎_elim (λ is. inr (inl is)) (λ b. inl b) a) (λ j. inr (inr j)) i)))))
 
-backs_can : (rest : List Step) (o : Option Journal) (ts : List Target) (logs : List LogPlan) → AreReadyFor ts logs → ReadOwn logs → DontMeet ts → ((x : Target) → IsOneOf x ts → HasBack o x)
+backs_can : (rest : List Step) (o : Option Journal) (ts : List Target) (logs : List LogPlan) → AreReadyFor ts logs → ReadOwn logs → DontMeet ts → ((x : Target) → IsIn x ts → HasBack o x)
     → ((m : Option Journal) → CanMake m rest) → CanMake o (flat_map steps.retirement_of logs ++ rest)
 backs_can rest o [] [] r q dont h k = k o
 backs_can rest o [] (log ∷ logs) r q dont h k = absurd r

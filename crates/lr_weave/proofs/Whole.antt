@@ -25,10 +25,10 @@ use Rattle.lr_rotations.proofs.Weaving.{weave_on, weave_others}
 whole_of : List (List Entry) → List Entry
 whole_of parts = flat_map (λ part. part) parts
 
-one_none : {A : Type 0} (x : A) (xs : List A) → xs ≡ x ∷ [] → xs ≡ [] → ⊥
+pub one_none : {A : Type 0} (x : A) (xs : List A) → xs ≡ x ∷ [] → xs ≡ [] → ⊥
 one_none x xs a b = cc
 
-nil_split : {A : Type 0} (xs ys zs : List A) → xs ≡ ys ++ zs → xs ≡ [] → (ys ≡ []) × (zs ≡ [])
+pub nil_split : {A : Type 0} (xs ys zs : List A) → xs ≡ ys ++ zs → xs ≡ [] → (ys ≡ []) × (zs ≡ [])
 nil_split xs [] zs e n = (refl, sym e ∙ n)
 nil_split xs (y ∷ ys) zs e n = absurd (cc)
 

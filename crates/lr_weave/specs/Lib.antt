@@ -1,4 +1,3 @@
 pub mod Fitting
-pub mod Guarded
 pub mod Parts
 pub mod Planned

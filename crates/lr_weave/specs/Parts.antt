@@ -3,6 +3,7 @@ use Rattle.std.specs.Prelude.{◌≡◌, ◌⊎◌, ℕ, Bool, true, false, List
 use Rattle.std.specs.List.{flat_map}
 use Rattle.lr_host.specs.declared.entry.Entry.{Entry}
 use Rattle.lr_host.specs.declared.entry.Entry.TheVariants as entry
+use Rattle.lr_host.specs.Lists.{IsIn}
 use Rattle.lr_host.specs.Told.{Each, Then}
 use Rattle.lr_rotations.specs.Weave.{IsFirstOf}
 use Rattle.lr_plan.specs.declared.step.Step.{Step}
@@ -10,7 +11,7 @@ use Rattle.lr_plan.specs.declared.step.Step.TheVariants.{MakesDir, Creates, Take
 use Rattle.lr_plan.specs.declared.step.SetSteps.{SetSteps}
 use Rattle.lr_plan.specs.Internal.Asking.{asks}
 use Rattle.lr_rotations.specs.Weave.{Weave}
-use Rattle.lr_targets.specs.Target.{Target, rotation_of, IsOneOf}
+use Rattle.lr_targets.specs.Target.{Target, rotation_of}
 use Rattle.lr_targets.specs.AllTurns.{AlsoDoes, IsOfSome, IsOfOther}
 use Rattle.lr_weave.specs.Planned.{AreApart}
 
@@ -100,4 +101,4 @@ pub record ArePlanned (targets : List Target) (sets : List SetSteps) : Type 0 wh
   pub apart : AreApart targets
   pub plain : ArePlainSets (MakesOne targets) sets
   pub all : AllOf (IsOfSome targets) (parts_of_sets sets)
-  pub each : (t : Target) → IsOneOf t targets → InOnePart (IsOfOther t.log targets) (rotation_of t) (parts_of_sets sets)
+  pub each : (t : Target) → IsIn t targets → InOnePart (IsOfOther t.log targets) (rotation_of t) (parts_of_sets sets)
