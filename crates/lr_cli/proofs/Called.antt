@@ -1,5 +1,5 @@
 -- The answers of a call of the program.
-use Rattle.std.proofs.Common.{◌≡◌, ◌⊎◌, inl, inr, ℕ, List, [], ◌∷◌, ◌++◌, Option, Some, None, Result, Ok, Err, IfOk, OnOk, OnErr, refl, sym, ap, ◌∙◌, subst}
+use Rattle.std.proofs.Common.{◌≡◌, ◌⊎◌, inl, inr, ℕ, List, [], ◌∷◌, ◌++◌, Option, Some, None, Result, Ok, Err, IfOk, OnOk, OnErr, refl, sym, ap, ◌∙◌, subst, false}
 use Rattle.std.specs.Prelude.{ℤ, Contains}
 use Rattle.lr_rules.specs.declared.clock.Clock.{Clock}
 use Rattle.lr_rules.specs.declared.path.Path.{Path}
@@ -43,6 +43,7 @@ use Rattle.lr_cli.proofs.OutAside.{report_with}
 use Rattle.lr_cli.specs.Zone.{at_first}
 use Rattle.lr_cli.proofs.Reading.{no_out_among, run_behind}
 use Rattle.lr_cli.proofs.Still.{clock_quiet, stop_quiet}
+use Rattle.lr_cli.specs.Smooth.{TellsTaken}
 
 -- ---- a run where there is no clock
 
@@ -146,15 +147,17 @@ says_nothing here words zone seconds a o j x y low high same which i w v p t = r
   plan = None;
   shown = nothing_called here words zone seconds (without_out a) o j (w ∙ v) which;
   prints = prints_line (asked_text (asked here words) None) o a x y low high i (none_asked (asked here words)) same p t;
+  taken = λ request report asks acts done p some. absurd (cc);
 }
 
 -- a request's
 pub says_so : (here : Path) (words : List (List ℕ)) (zone : Zone) (seconds : ℤ) (request : Request) (plan : Option Plan) (a : Outcome) (j k : Option Journal) (x y : Option (List ℕ)) (low high : ℕ) → AskFor here words request → Left (Answered here words zone seconds plan (without_out a)) j k → Prints (printed_of (planned_text request plan) a) a x y low high
-    → Says here words zone seconds a j k x y low high
-says_so here words zone seconds request plan a j k x y low high w l p = record {
+    → ((other : Request) (report : Report) → AskFor here words other → other.debug ≡ false → without_out a ≡ Done report → TellsTaken other.state plan report.faults j k) → Says here words zone seconds a j k x y low high
+says_so here words zone seconds request plan a j k x y low high w l p t = record {
   plan = plan;
   shown = l;
   prints = subst (λ (r : Option Request). Prints (printed_of (asked_text r plan) a) a x y low high) (sym w) p;
+  taken = t;
 }
 
 -- what was put of a report

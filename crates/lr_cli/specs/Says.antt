@@ -1,5 +1,5 @@
 -- What a call shows and prints.
-use Rattle.std.specs.Prelude.{◌≡◌, ◌⊎◌, ℕ, ℤ, List, [], Option, Some, None, Contains}
+use Rattle.std.specs.Prelude.{◌≡◌, ◌⊎◌, ℕ, ℤ, List, [], Option, Some, None, Contains, false}
 use Rattle.lr_rules.specs.declared.path.Path.{Path}
 use Rattle.lr_rules.specs.declared.fault.Fault.TheVariants as fault
 use Rattle.lr_host.specs.declared.journal.Journal.{Journal}
@@ -13,8 +13,9 @@ use Rattle.lr_cli.specs.declared.outcome.Outcome.{Outcome}
 use Rattle.lr_cli.specs.declared.outcome.Outcome.TheVariants.{Done}
 use Rattle.lr_cli.specs.declared.outcome.Report.{Report}
 use Rattle.lr_cli.specs.Answer.{Answered}
-use Rattle.lr_cli.specs.Asked.{planned_text}
+use Rattle.lr_cli.specs.Asked.{AskFor, planned_text}
 use Rattle.lr_cli.specs.Printed.{printed_of, without_out}
+use Rattle.lr_cli.specs.Smooth.{TellsTaken}
 
 -- the text of the plan that words ask to print
 abbrev pub asked_text : Option Request → Option Plan → List ℕ
@@ -29,8 +30,9 @@ pub record Prints (text : List ℕ) (outcome : Outcome) (before after : Option (
   -- A report that wasn't printed whole has `Out`.
   pub broken_off : (report : Report) → outcome ≡ Done report → Took text before after ⊎ Contains report.faults fault.Out
 
--- Of the plan that a call came to: what the calls showed, and what the answer has to do with it, its `Out` left aside: the zone, what was read, the looks, and in a run that acts the begin, the acts of this plan, and the end; and what was printed of it and of the answer.
+-- Of the plan that a call came to: what the calls showed, and what the answer has to do with it, its `Out` left aside: the zone, what was read, the looks, and in a run that acts the begin, the acts of this plan, and the end; and what was printed of it and of the answer. Each path that its report tells as taken, because a new file needs it, was named as the steps of the plan have it.
 pub record Says (here : Path) (words : List (List ℕ)) (zone : Zone) (seconds : ℤ) (outcome : Outcome) (told later : Option Journal) (before after : Option (List ℕ)) (low high : ℕ) : Type 0 where
   pub plan : Option Plan
   pub shown : Left (Answered here words zone seconds plan (without_out outcome)) told later
   pub prints : Prints (printed_of (asked_text (asked here words) plan) outcome) outcome before after low high
+  pub taken : (request : Request) (report : Report) → AskFor here words request → request.debug ≡ false → without_out outcome ≡ Done report → TellsTaken request.state plan report.faults told later
