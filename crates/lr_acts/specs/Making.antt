@@ -15,7 +15,7 @@ use Rattle.lr_plan.specs.declared.step.Step.TheVariants.{Creates}
 use Rattle.lr_plan.specs.declared.step.SetSteps.{SetSteps}
 use Rattle.lr_plan.specs.Outcomes.{Succeeds, Fails, marks_of}
 use Rattle.lr_plan.specs.Course.{Part, Nothing, Course, StepFails, Unbroken, BrokenOff}
-use Rattle.lr_plan.specs.Internal.Cut.{CourseCut}
+use Rattle.lr_plan.specs.Internal.Cut.{IsProgram, CourseCut}
 use Rattle.lr_acts.specs.declared.stop.Stop.{Stop}
 use Rattle.lr_acts.specs.declared.stop.Stop.TheVariants as stop
 use Rattle.lr_acts.specs.Named.{IsNamed}
@@ -90,11 +90,7 @@ all_of_sets (set ∷ sets) = all_of_set set ++ all_of_sets sets
 
 -- ---- what takes memory: programs alone
 
--- the step runs a program; one of the steps does
-abbrev pub IsProgram : Step → Type 0
-IsProgram (Runs phase on command) = Unit {0}
-IsProgram _ = ⊥
-
+-- one of the steps runs a program
 abbrev pub HasProgram : List Step → Type 0
 HasProgram [] = ⊥
 HasProgram (step ∷ steps) = IsProgram step ⊎ HasProgram steps

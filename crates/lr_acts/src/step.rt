@@ -3,9 +3,10 @@ ghost use Rattle.std.specs.Prelude.{◌≡◌, ◌<◌, ◌≤◌, length, Err, 
 ghost use Rattle.lr_host.specs.Told.{Left, Onward};
 ghost use Rattle.lr_host.specs.Steps.{CanAll};
 ghost use Rattle.lr_plan.specs.Internal.Asking.{asks};
+ghost use Rattle.lr_plan.specs.Internal.Cut.{IsProgram};
 ghost use Rattle.lr_plan.specs.Outcomes.{marks_of};
 ghost use Rattle.lr_acts.specs.declared.stop.Stop.TheVariants as stop;
-ghost use Rattle.lr_acts.specs.Making.{IsProgram, StepLeft, StepNames, StopCause, list_of};
+ghost use Rattle.lr_acts.specs.Making.{StepLeft, StepNames, StopCause, list_of};
 
 use crate::bytes::copy_file;
 use crate::calls::{

@@ -28,7 +28,7 @@ IsStill _ = ⊥
 abbrev pub AreStill : List Entry → Type 0
 AreStill ts = Each IsStill ts
 
--- The configuration was read, and a run over its rules, of which not all run no program, broke off amid its acts.
+-- The configuration was read, and a run over its rules, of which not all run no program, broke off amid its acts, just before a program.
 pub record BrokeOffAmidActs (here : Path) (words : List (List ℕ)) (zone : Zone) (seconds : ℤ) (ts : List Entry) : Type 0 where
   pub request : Request
   pub asked : AskFor here words request
@@ -39,7 +39,7 @@ pub record BrokeOffAmidActs (here : Path) (words : List (List ℕ)) (zone : Zone
   pub some_program : RunNothing meaning.rules → ⊥
   pub entries : Then (ShowsClock zone seconds clock) (Then (Reads request.confs meaning) (Inside request.state clock rules (BrokeOff request.state rules.sets clock (asking request.force request.mailer)))) ts
 
--- Where there was no memory the call changed nothing and started no program; or it broke off amid the acts of a run, which it can only where a rule has a script or mails.
+-- Where there was no memory the call changed nothing and started no program; or it broke off amid the acts of a run, just before a program, which it can only where a rule has a script or mails.
 pub data WasShort (here : Path) (words : List (List ℕ)) (zone : Zone) (seconds : ℤ) (ts : List Entry) : Type 0 where
   all_still : AreStill ts → WasShort here words zone seconds ts
   broke_off : BrokeOffAmidActs here words zone seconds ts → WasShort here words zone seconds ts

@@ -83,7 +83,7 @@ module _ (P : Job → Type 0) where
   -- ---- broken off for want of memory
 
   course_cut_copying : (ss : List Step) → AreCopySteps P ss → IsCopying (CourseCut ss)
-  course_cut_copying ss a = λ t f ts c. whole_copying c.made (first_copied P c.made c.rest (subst (AreCopySteps P) c.steps_are a)) t f ts c.part
+  course_cut_copying ss a = λ t f ts c. whole_copying c.made (first_copied P c.made (c.next ∷ c.rest) (subst (AreCopySteps P) c.steps_are a)) t f ts c.part
 
   list_cut_copying : {A : Type 0} (Q R : A → Part) (S : A → Type 0) → ((x : A) → S x → IsCopying (Q x)) → ((x : A) → S x → IsCopying (R x)) → (xs : List A) → All S xs → IsCopying (ListCut Q R xs)
   list_cut_copying Q R S g h xs a = λ t f ts c.

@@ -120,7 +120,7 @@ steps_of_plan plan = map steps_of_set plan.sets
 abbrev pub state_part : Path → Path
 state_part state = state ++ codes ".tmp"
 
--- The text is written into that file, of mode 0640, which is synced. Then the directories are in which the run renamed, so that the state never gets its name before what it tells; and then the file gets the state's path. An old one that was seen is removed before.
+-- The text is written into that file, of mode 0640, which is synced. Then these directories are synced, so that the state never gets its name before what it tells; then the file gets the state's path, and the directory of that is synced. An old one that was seen is removed before.
 abbrev pub state_steps : Path → Bool → List Path → List ℕ → List Step
 state_steps state stale dirs text =
     step_if stale (Removes (state_part state)) ++ (Takes (state_part state) (Some 416) ∷ Appends (state_part state) text ∷ SyncsFile (state_part state)

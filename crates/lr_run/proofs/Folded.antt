@@ -65,7 +65,7 @@ acts_fold I F k (s ∷ ss) ms fs ts i h = let r = step_split I (all_of_set s) (a
 -- ---- of a first part of them, where there was no memory to run a program
 
 cut_folds : (I : Step → Type 0) (F : List Fault → List Entry → Type 0) → Folds I F → (steps : List Step) (ms : List Mark) (fs : List Fault) (ts : List Entry) → EachStep I steps → CourseCut steps ms fs ts → F fs ts
-cut_folds I F k steps ms fs ts i c = course_folds I F k c.made ms fs ts (step_split I c.made c.rest (subst (EachStep I) c.steps_are i)).0 c.part.1
+cut_folds I F k steps ms fs ts i c = course_folds I F k c.made ms fs ts (step_split I c.made (c.next ∷ c.rest) (subst (EachStep I) c.steps_are i)).0 c.part.1
 
 each_split : (I : Step → Type 0) (xs ys : List (List Step)) → EachStep I (all_of_each (xs ++ ys)) → EachStep I (all_of_each xs) × EachStep I (all_of_each ys)
 each_split I [] ys i = (tt, i)

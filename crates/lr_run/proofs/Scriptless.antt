@@ -11,7 +11,8 @@ use Rattle.lr_plan.specs.Asked.{Asked}
 use Rattle.lr_plan.specs.declared.step.Step.{Step}
 use Rattle.lr_plan.specs.Planned.{decision}
 use Rattle.lr_plan.specs.Steps.{program}
-use Rattle.lr_acts.specs.Making.{IsProgram, HasProgram}
+use Rattle.lr_plan.specs.Internal.Cut.{IsProgram}
+use Rattle.lr_acts.specs.Making.{HasProgram}
 use Rattle.lr_run.specs.Runs.{BrokeOff}
 use Rattle.lr_run.specs.Scripts.{RunNothing}
 use Rattle.lr_run.proofs.Simple.{EachStep, IsOfSteps, AreOfScripts, plan_so}

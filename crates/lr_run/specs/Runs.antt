@@ -130,7 +130,7 @@ pub data SomeSeen (state : Path) (rules : List Rule) (ts : List Entry) : Type 0 
   of_state : (sights : StateSights) → ShowsState state 65_536 sights ts → SomeSeen state rules ts
   of_looks : (sights : StateSights) (remembered : Remembered) → IsKnown state sights (Ok remembered) → Then (ShowsState state 65_536 sights) (ShowsSomeLooks (reserved_by state) rules) ts → SomeSeen state rules ts
 
--- The state was read and the logs were looked at, and of the acts of the plan, among which there is a program, a first part was done. There was no memory to run a program behind that, and the state was not written.
+-- The state was read and the logs were looked at, and of the acts of the plan, among which there is a program, a first part was done, up to a step that would run one. For that there was no memory, and the state was not written.
 pub record BrokeOff (state : Path) (rules : List Rule) (clock : Clock) (asked : Asked) (ts : List Entry) : Type 0 where
   pub looked : Looked state rules ts
   pub small : length (measured_in state rules ts looked clock asked) ≤ 67_108_864

@@ -5,14 +5,22 @@ use Rattle.lr_host.specs.declared.entry.Entry.{Entry}
 use Rattle.lr_plan.specs.declared.mark.Mark.{Mark}
 use Rattle.lr_plan.specs.declared.step.SetSteps.{SetSteps}
 use Rattle.lr_plan.specs.declared.step.Step.{Step}
+use Rattle.lr_plan.specs.declared.step.Step.TheVariants.{Runs}
 use Rattle.lr_plan.specs.Course.{Part, Course, Unbroken, Both, Every}
 use Rattle.lr_plan.specs.Done.{LogsThen, SetDone}
 
--- the first of the steps were made
+-- the step runs a program: that alone takes memory
+abbrev pub IsProgram : Step → Type 0
+IsProgram (Runs phase on command) = Unit {0}
+IsProgram _ = ⊥
+
+-- the first of the steps were made, and the next would run a program
 pub record CourseCut (steps : List Step) (marks : List Mark) (faults : List Fault) (ts : List Entry) : Type 0 where
   pub made : List Step
+  pub next : Step
   pub rest : List Step
-  pub steps_are : steps ≡ made ++ rest
+  pub steps_are : steps ≡ made ++ next ∷ rest
+  pub program : IsProgram next
   pub part : Unbroken (Course made) marks faults ts
 
 -- the first parts of the list were done, and of the next this

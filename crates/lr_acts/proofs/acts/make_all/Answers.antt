@@ -39,7 +39,7 @@ returns-in_err-went-clause-told g c =
     let is : c.from_residual.result ≡ Err c.in_err-went.field-0.0 = search rules in
     subst (λ r. Adds (StepsEnd c.args.steps r) c.args.steps c.args.progress.now c.take_step.new.progress (g.H.Host.told c.args.host.now) (g.H.Host.told c.take_step.new.host) (g.H.Host.counts c.args.host.now) (g.H.Host.counts c.take_step.new.host)) (sym is)
     (adds_of_more (at.yielded ++ x ∷ []) rest c.args.steps (sym all ∙ sym (append_assoc at.yielded (x ∷ []) rest))
-    (adds_on at.yielded (x ∷ []) at.invariant.added c.in_err-went.ensures.told (λ ms ms' f f' ts ts' w n. course_cut at.yielded (x ∷ rest) c.args.steps ms ms' f f' ts ts' (sym all) w n)))
+    (adds_on at.yielded (x ∷ []) at.invariant.added c.in_err-went.ensures.told (λ ms ms' f f' ts ts' w n. course_cut at.yielded rest c.args.steps x ms ms' f f' ts ts' (sym all) c.in_err-went.ensures.memory w n)))
 
 pub returns-in_err-went-clause-memory : goal.returns-in_err-went-clause-memory
 returns-in_err-went-clause-memory g c =
