@@ -41,7 +41,7 @@ abbrev pub HasCounted : Outcome → Counts → Counts → Type 0
 HasCounted (Done report) counted counts = AreCounted report.faults counted counts
 HasCounted _ counted counts = Unit {0}
 
--- The faults stopped nothing that was planned: none of them ends a run, and none tells of a call that failed, of a program that ended badly, or of a copy that broke off. So each is one of the configuration, of what the looks at the logs saw, or of the plan.
+-- None of the faults ends a run, and none tells of a call that failed, of a program that ended badly, or of a copy that broke off. What they may tell of the acts is that something else stood where a directory was to be made, or at the path that a new state is first written to.
 pub record StopNothing (state : Path) (faults : List Fault) : Type 0 where
   pub none_ends : NoneEnds state faults
   pub no_call : calls_in faults ≡ 0

@@ -19,7 +19,7 @@ use Rattle.lr_cli.specs.Reached.{ReachesPlan}
 abbrev pub TellsTaken : Path → Option Plan → List Fault → Option Journal → Option Journal → Type 0
 TellsTaken state plan faults told later = (p : Plan) → plan ≡ Some p → TakenBy state p faults told later
 
--- What a call is in whose way nothing was: its faults tell of nothing that failed, and it did its plan.
+-- What holds of a call in whose way nothing was: its faults tell of nothing that failed, and it did its plan.
 pub record IsDone (request : Request) (zone : Zone) (seconds : ℤ) (report : Report) (before after : Journal) : Type 0 where
   pub none : FailNothing request.state report.faults
   pub plan : FulfillsPlan request zone seconds report before after

@@ -1,9 +1,9 @@
 //! The top call: from the words of the command line to the exit status.
 //!
-//! The contract above it: a log that stood as a file is under one name of its set, with its bytes, until its count of
-//! later rotations were begun or a look saw it older than its rule's `maxage`, whatever call failed and wherever the run
-//! stopped (`safe`); and the report is what the bytes of the configuration mean and the entries of the run show (`told`).
-//! Begin with `logrotate`:
+//! The contract above it: a file that was a log is under one name of its set, with all its bytes that the disk kept, until its
+//! count of later rotations were begun or a look saw it older than its rule's `maxage`, whatever call failed and wherever the
+//! run stopped, if the set was safe before, is steady and isn't ahead of the clock (`safe`); and the report is what the bytes
+//! of the configuration mean and the entries of the run show (`told`). Begin with `logrotate`:
 //!
 //! ```text
 //! let outcome = logrotate(alloc, &words, &here, &Zone::Utc, now, &mut host, &mut out);

@@ -20,8 +20,8 @@ pub enum Outcome {
     BadWords,
     /// Another run holds the lock.
     Held,
-    /// There was no memory. Nothing was changed and no program was started, unless a rule has a script: then a program may
-    /// have found none, and what was done before it stands.
+    /// There was no memory. Nothing was changed and no program was started, unless a rule has a script or mails: then a program
+    /// may have found none, and what was done before it stands.
     OutOfMemory,
 }
 

@@ -53,7 +53,7 @@ HasNone targets log = (t : Target) → IsIn t targets → t.log ≢ log
 pub record IsFulfilled (state : Path) (rules : List Rule) (clock : Clock) (asked : Asked) (ts : List Entry) (l : Looked state rules ts) (own : List Fault) (all : List Entry) (before after : Past) : Type 0 where
   -- its faults are those of the looks and of the plan, and no other
   pub faults : own ≡ l.of_looks ++ (plan_in state rules ts l clock asked).faults
-  -- the acts, in order, are those of the plan's steps and then those of the state's writing, before which the directories are synced of all paths that the plan changes or makes
+  -- the acts, in order, are those of the plan's steps and then those of the state's writing, within which, before the state gets its name, the directories of all paths that the plan changes or makes are synced
   pub dirs : List Path
   pub dirs_are : AreDirectoriesOf (all_changed_of (plan_in state rules ts l clock asked).sets ++ dirs_in (plan_in state rules ts l clock asked)) dirs
   pub acts : AreActsOf (steps_in state rules ts l clock asked dirs) (filter is_act all)

@@ -29,12 +29,12 @@ rotated_logs rules table clock asked sets = all_targets clock (decision table cl
 abbrev pub rotated_in : (state : Path) (rules : List Rule) (ts : List Entry) → Looked state rules ts → Clock → Asked → List Target
 rotated_in state rules ts l clock asked = rotated_logs rules l.remembered.table clock asked l.sets
 
--- Between the two pasts the log was rotated whole: the members that were seen are those that stood, and each file is where the rotation takes it, by identity and with its bytes, while the tool's other changes were on the paths of the other logs and of the state, and made the log's own directory, where that was missing. A writer attached no member.
+-- Between the two pasts the log was rotated whole, where no writer was attached to a member: the members that were seen are those that stood, and each file is where the rotation takes it, by identity and with its bytes, while the tool's other changes were on the paths of the other logs and of the state, and made the log's own directory, where that was missing.
 abbrev pub IsRotatedAmong : Path → List Target → Past → Past → Target → Type 0
 IsRotatedAmong state targets before after t =
     NoMemberAttached t.naming before after → AreThere t.naming (names (world before)) (places_of t.stand.members) × IsRotatedWhole (paths_beside state t targets) t.naming t.count t.from t.log before after
 
--- The same of a log with dates, which goes to the clock's stamp; of the members and the log those go that the count and the age of its rule let go. A writer attached no dated member.
+-- The same of a log with dates, where no writer was attached to a dated member: it goes to the clock's stamp; of the members and the log those go that the count and the age of its rule let go.
 abbrev pub IsDatedRotatedAmong : Path → List Target → Clock → Past → Past → Target → Type 0
 IsDatedRotatedAmong state targets clock before after t =
     NoDatedAttached t.naming before after

@@ -14,7 +14,7 @@ use Rattle.lr_dated_copied.specs.Turned.{NoneOfDatedSetAttached, IsDatedTurnedBy
 use Rattle.lr_mixed.specs.Rotated.{all_by}
 use Rattle.lr_turned.specs.Turned.{NoneOfSetAttached, IsTurnedByCopy}
 
--- Between the two pasts the log was copied by this job, and its family turned: the members that were seen are those that stood, the copy's file is the newest member, each other member is where the rotation takes it, by identity and with its bytes, and the log keeps its file, while the tool's other changes were on the paths of the other logs and of the state, and made the log's own directory, where that was missing. A writer attached no member, and nothing at the part file's path.
+-- Between the two pasts the log was copied by this job, and its family turned, where no writer was attached to a member, nor to anything at the part file's path: the members that were seen are those that stood, the copy's file is the newest member, each other member is where the rotation takes it, by identity and with its bytes, and the log keeps its file, while the tool's other changes were on the paths of the other logs and of the state, and made the log's own directory, where that was missing.
 abbrev pub IsTurnedAmong : Path → List Target → Past → Past → Target → Job → Type 0
 IsTurnedAmong state targets before after t job =
     NoneOfSetAttached job t.naming before after → AreThere t.naming (names (world before)) (places_of t.stand.members) × IsTurnedByCopy (paths_beside state t targets) job t.naming t.count t.from before after

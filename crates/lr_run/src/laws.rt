@@ -20,9 +20,9 @@ ghost use Rattle.lr_run.specs.Runs.{Inside, Worked, dirs_in, plan_in};
 ghost use Rattle.lr_run.specs.Turned.{IsTurnedAmong, IsDatedTurnedAmong};
 
 /// A run that came to its plan and tells no failed call, no program that ended badly, no copy that broke off and no directory
-/// that couldn't be made, behind reads that change nothing, rotates each log of its plan that isn't copied whole, whatever
-/// writers do meanwhile, and whatever else it tells: of a log that isn't there, or that meets another, say. A log with numbers goes to the first of
-/// them, one with dates to the clock's stamp.
+/// that couldn't be made, behind reads that change nothing, rotates whole each log of its plan that isn't copied and to whose
+/// members no writer is attached, whatever else it tells: of a log that isn't there, or that meets another, say. A log with
+/// numbers goes to the first of them, one with dates to the clock's stamp.
 pub fn run_rotates_all()
     ensures numbered { (state : Path) (asked : Asked) (clock : Clock) (rules : Rules) (own : List Fault) (p q : Past) (es reads acts : List Entry)
         → Made p es q → IsJournal p → reverse es ≡ reads ++ acts → AreQuiet reads → (i : Inside state clock rules (Worked state rules.sets clock asked own) acts) → MetNothing (dirs_in (plan_in state rules.sets i.between i.within.looked clock asked)) own
