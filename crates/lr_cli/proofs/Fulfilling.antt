@@ -1,5 +1,5 @@
 -- From what a call is told to have left: where it tells of nothing that failed, it fulfilled its plan.
-use Rattle.std.proofs.Common.{◌≡◌, ℕ, false, List, ◌++◌, Option, Some, reverse, sym, ap, ◌∙◌, subst}
+use Rattle.std.proofs.Common.{◌≡◌, ⊎_elim, ℕ, false, List, ◌++◌, Option, Some, reverse, sym, ap, ◌∙◌, subst}
 use Rattle.std.specs.Prelude.{ℤ}
 use Rattle.lr_rules.specs.declared.fault.Fault.{Fault}
 use Rattle.lr_rules.specs.declared.fault.Fault.TheVariants as fault
@@ -17,7 +17,8 @@ use Rattle.lr_include.proofs.AllQuiet.{all_so}
 use Rattle.lr_plan.specs.Asked.{asking}
 use Rattle.lr_plan.specs.declared.planned.Plan.{Plan}
 use Rattle.lr_plan.specs.Steps.{state_part}
-use Rattle.lr_run.specs.Met.{IsNoOther}
+use Rattle.lr_run.specs.Anew.{AnewAt, NamesAnew}
+use Rattle.lr_run.specs.Met.{IsNoOther, MetNothing}
 use Rattle.lr_run.specs.Runs.{dirs_in}
 use Rattle.lr_run.specs.Dry.{IsSight, AreSights}
 use Rattle.lr_fulfilled.specs.Fulfilled.{NothingFailed, IsFulfilled}
@@ -30,8 +31,8 @@ use Rattle.lr_cli.specs.Answer.{Answered}
 use Rattle.lr_cli.specs.Asked.{AskFor}
 use Rattle.lr_cli.specs.Fulfilled.{FailNothing, MakesDirs, FulfillsPlan, plan_by}
 use Rattle.lr_cli.specs.Reached.{ReachesPlan}
-use Rattle.lr_cli.proofs.Reached.{plan_joined}
-use Rattle.lr_cli.proofs.Rotating.{own_met, came_to_plan}
+use Rattle.lr_cli.proofs.Reached.{plan_joined, call_came}
+use Rattle.lr_cli.proofs.Rotating.{nothing_stopped, own_met}
 use Rattle.lr_cli.proofs.Still.{zone_so}
 
 -- what comes before the run are looks, listings and reads
@@ -46,8 +47,9 @@ own_failed state all xs own dirs e n clear = record {
   not_taken = λ i. n.not_taken (subst (IsIn (fault.Taken (state_part state))) (sym e) (in_back _ xs own i));
 }
 
-pub plan_fulfils : (request : Request) (zone : Zone) (seconds : ℤ) (report : Report) (j k : Journal) (es : List Entry) → Made (past j) es (past k) → IsJournal (past j) → (p : ReachesPlan request zone seconds report (reverse es)) → NothingFailed request.state (dirs_in (plan_by request zone seconds report (reverse es) p)) p.own → FulfillsPlan request zone seconds report j k
-plan_fulfils request zone seconds report j k es made journal p none = record {
+pub plan_fulfils : (request : Request) (zone : Zone) (seconds : ℤ) (report : Report) (j k : Journal) (es : List Entry) → Made (past j) es (past k) → IsJournal (past j) → (p : ReachesPlan request zone seconds report (reverse es)) → NothingFailed request.state (dirs_in (plan_by request zone seconds report (reverse es) p)) p.own
+    → MetNothing (dirs_in (plan_by request zone seconds report (reverse es) p)) report.faults → AnewAt (plan_by request zone seconds report (reverse es) p) report.faults (past k) → FulfillsPlan request zone seconds report j k
+plan_fulfils request zone seconds report j k es made journal p none met anew = record {
   entries = es;
   made = made;
   plan = p;
@@ -57,19 +59,23 @@ plan_fulfils request zone seconds report j k es made journal p none = record {
   where
     f : IsFulfilled request.state p.rules.sets p.clock (asking request.force request.mailer) p.run.between p.run.within.looked p.own (reverse es) (past j) (past k)
     f = fulfilled request.state (asking request.force request.mailer) p.clock p.rules p.own (past j) (past k) es (p.of_clock ++ p.reads) p.acts made journal
-        (plan_joined request zone seconds report (reverse es) p) (plan_sights request zone seconds report (reverse es) p) p.run none
+        (plan_joined request zone seconds report (reverse es) p) (plan_sights request zone seconds report (reverse es) p) p.run none report.faults met anew
 
 from_entries : (here : Path) (words : List (List ℕ)) (request : Request) (zone : Zone) (seconds : ℤ) (plan : Option Plan) (report : Report) (j k : Journal) → AskFor here words request → request.debug ≡ false → Left (Answered here words zone seconds plan (Done report)) (Some j) (Some k) → FailNothing request.state report.faults → IsJournal (past j)
-    → MakesDirs request zone seconds report j k → FulfillsPlan request zone seconds report j k
-from_entries here words request zone seconds plan report j k asks dry (is_told {es = es} made a) none journal makes =
-    let p = came_to_plan here words request zone seconds plan report (reverse es) asks dry a none.stop_nothing in
-    plan_fulfils request zone seconds report j k es made journal p (own_failed request.state report.faults p.meaning.faults p.own (dirs_in (plan_by request zone seconds report (reverse es) p)) p.faults_are none (makes es made p))
+    → MakesDirs request zone seconds report j k → NamesAnew plan report.faults (Some k) → FulfillsPlan request zone seconds report j k
+from_entries here words request zone seconds plan report j k asks dry (is_told {es = es} made a) none journal makes anew =
+    ⊎_elim (λ came. by came.0 came.1) (λ u. absurd (nothing_stopped request.state zone report.faults _ u none.stop_nothing.none_ends none.stop_nothing.no_call)) (call_came request zone seconds report (reverse es) here words plan asks dry a)
+  where
+    by : (p : ReachesPlan request zone seconds report (reverse es)) → plan ≡ Some (plan_by request zone seconds report (reverse es) p) → FulfillsPlan request zone seconds report j k
+    by p is = plan_fulfils request zone seconds report j k es made journal p (own_failed request.state report.faults p.meaning.faults p.own (dirs_in (plan_by request zone seconds report (reverse es) p)) p.faults_are none (makes es made p))
+        (record { no_call = none.stop_nothing.no_call; no_end = none.stop_nothing.no_script; no_copy = none.stop_nothing.no_copy; no_other = makes es made p }) (anew (plan_by request zone seconds report (reverse es) p) is)
 
 -- that a call with these words left its answer
 pub answered_fulfilled : (here : Path) (words : List (List ℕ)) (request : Request) (zone : Zone) (seconds : ℤ) (plan : Option Plan) (outcome : Outcome) (report : Report) (o n : Option Journal) (j k : Journal) → AskFor here words request → request.debug ≡ false → Left (Answered here words zone seconds plan outcome) o n → outcome ≡ Done report
-    → FailNothing request.state report.faults → o ≡ Some j → n ≡ Some k → IsJournal (past j) → MakesDirs request zone seconds report j k → FulfillsPlan request zone seconds report j k
-answered_fulfilled here words request zone seconds plan outcome report o n j k asks dry left done none told_j told_k journal makes =
+    → FailNothing request.state report.faults → o ≡ Some j → n ≡ Some k → IsJournal (past j) → MakesDirs request zone seconds report j k → NamesAnew plan report.faults n → FulfillsPlan request zone seconds report j k
+answered_fulfilled here words request zone seconds plan outcome report o n j k asks dry left done none told_j told_k journal makes anew =
     from_entries here words request zone seconds plan report j k asks dry
     (subst (λ (m : Option Journal). Left (Answered here words zone seconds plan (Done report)) (Some j) m) told_k
     (subst (λ (m : Option Journal). Left (Answered here words zone seconds plan (Done report)) m n) told_j
     (subst (λ (r : Outcome). Left (Answered here words zone seconds plan r) o n) done left))) none journal makes
+    (subst (λ (m : Option Journal). NamesAnew plan report.faults m) told_k anew)

@@ -10,6 +10,7 @@ use Rattle.lr_rules.specs.declared.fault.Fault.TheVariants as fault
 use Rattle.lr_rules.specs.declared.path.Path.{Path}
 use Rattle.lr_host.specs.declared.entry.Entry.{Entry}
 use Rattle.lr_host.specs.declared.journal.Journal.{Journal}
+use Rattle.lr_host.specs.Lists.{IsIn}
 use Rattle.lr_host.specs.Quiet.{AreQuiet}
 use Rattle.lr_host.specs.Told.{Left, Then, Made, not_told, is_told}
 use Rattle.lr_host.specs.World.{Past, past}
@@ -68,6 +69,15 @@ conf_none state (_ ∷ fs) h = absurd h.0
 -- and none of it is of a new file
 pub means_no_new : (confs : List Path) (m : Meaning) (ts : List Entry) → Reads confs m ts → NoneOfNew m.faults
 means_no_new confs m ts r = subst (λ (x : Meaning). NoneOfNew x.faults) (sym r.means) (conf_no_new (visits_mean confs r.visits).faults (recursion_from_All IsConfOrCall (visits_mean confs r.visits).faults (only_those confs r.visits)))
+
+-- nor does any tell that another kind of thing stood at a path
+conf_no_kind : (fs : List Fault) → Every IsConfOrCall fs → (path : Path) → IsIn (fault.NotFile path) fs → ⊥
+conf_no_kind [] h path i = i
+conf_no_kind (g ∷ fs) h path (inl same) = subst IsConfOrCall same h.0
+conf_no_kind (g ∷ fs) h path (inr later) = conf_no_kind fs h.1 path later
+
+pub means_no_kind : (confs : List Path) (m : Meaning) (ts : List Entry) → Reads confs m ts → (path : Path) → IsIn (fault.NotFile path) m.faults → ⊥
+means_no_kind confs m ts r path i = conf_no_kind (visits_mean confs r.visits).faults (recursion_from_All IsConfOrCall (visits_mean confs r.visits).faults (only_those confs r.visits)) path (subst (λ (x : Meaning). IsIn (fault.NotFile path) x.faults) r.means i)
 
 pub means_none : (state : Path) (confs : List Path) (m : Meaning) (ts : List Entry) → Reads confs m ts → NoneEnds state m.faults
 means_none state confs m ts r = subst (λ (x : Meaning). NoneEnds state x.faults) (sym r.means) (conf_none state (visits_mean confs r.visits).faults (recursion_from_All IsConfOrCall (visits_mean confs r.visits).faults (only_those confs r.visits)))

@@ -21,7 +21,9 @@ use Rattle.lr_plan.specs.declared.planned.Plan.{Plan}
 use Rattle.lr_plan.specs.declared.settings.Settings.{Settings}
 use Rattle.lr_plan.specs.Steps.{state_part}
 use Rattle.lr_run.specs.declared.answer.RunStop.{RunStop}
+use Rattle.lr_run.specs.Anew.{NamesAnew}
 use Rattle.lr_run.specs.Copied.{IsOfCopy}
+use Rattle.lr_run.specs.Met.{MetNothing}
 use Rattle.lr_run.specs.Runs.{dirs_in}
 use Rattle.lr_run.specs.Taken.{TakenBy, AddsTaken}
 use Rattle.lr_run.proofs.Taken.{IsOfNew, adds_behind}
@@ -43,7 +45,7 @@ use Rattle.lr_cli.specs.Reached.{ReachesPlan}
 use Rattle.lr_cli.specs.Settled.{AreSettingsOf}
 use Rattle.lr_cli.specs.Smooth.{TellsTaken, IsDone, IsSmoothCall}
 use Rattle.lr_cli.proofs.Fulfilling.{plan_fulfils}
-use Rattle.lr_cli.proofs.Reached.{conf_no_new, means_no_new, plan_joined, plan_quiet, call_came}
+use Rattle.lr_cli.proofs.Reached.{conf_no_new, means_no_new, means_no_kind, plan_joined, plan_quiet, call_came}
 use Rattle.lr_cli.proofs.Still.{same_Some}
 use Rattle.lr_cli.proofs.Rotating.{nothing_stopped, own_calls, own_ends}
 
@@ -92,17 +94,37 @@ pub taken_of : (here : Path) (words : List (List ℕ)) (other request : Request)
     → IfOk r (λ told. TellsTaken request.state told.plan told.faults.items o n)
 taken_of here words other request r o n asked asks t = subst (λ (q : Request). q.debug ≡ false → IfOk r (λ told. TellsTaken q.state told.plan told.faults.items o n)) (same_Some other request (sym asked ∙ asks)) t
 
+-- ---- the logs that are made anew
+
+-- where there was no clock, there is no plan
+pub none_anew : (request : Request) (r : Result Told RunStop) (n : Option Journal) → plan_told r ≡ None → request.debug ≡ false → IfOk r (λ told. NamesAnew told.plan told.faults.items n)
+none_anew request (Ok told) n none dry = λ p is. absurd (let no : None ≡ Some p = sym none ∙ is in cc)
+none_anew request (Err why) n none dry = tt
+
+-- of the report of what a run told
+pub has_anew : (r : Result Told RunStop) (a : Outcome) (report : Report) (n : Option Journal) → a ≡ answer_of r → a ≡ Done report → IfOk r (λ told. NamesAnew told.plan told.faults.items n) → NamesAnew (plan_told r) report.faults n
+has_anew (Ok told) a report n is done h = subst (λ (fs : List Fault). NamesAnew told.plan fs n) (faults_in (sym is ∙ done)) h
+  where
+    faults_in : answer_of (Ok told) ≡ Done report → told.faults.items ≡ report.faults
+    faults_in e = cc
+has_anew (Err why) a report n is done h = λ p some. absurd (cc)
+
+-- of the request that the words ask for
+pub anew_of : (here : Path) (words : List (List ℕ)) (other request : Request) (r : Result Told RunStop) (n : Option Journal) → AskFor here words other → AskFor here words request → (other.debug ≡ false → IfOk r (λ told. NamesAnew told.plan told.faults.items n)) → request.debug ≡ false
+    → IfOk r (λ told. NamesAnew told.plan told.faults.items n)
+anew_of here words other request r n asked asks h = subst (λ (q : Request). q.debug ≡ false → IfOk r (λ told. NamesAnew told.plan told.faults.items n)) (same_Some other request (sym asked ∙ asks)) h
+
 -- ---- the call
 
 module _ (request : Request) (zone : Zone) (seconds : ℤ) (report : Report) (plan : Option Plan) (j k : Journal) (es : List Entry) (made : Made (past j) es (past k)) (journal : IsJournal (past j)) (none_ends : NoneEnds request.state report.faults) (no_call : calls_in report.faults ≡ 0) (no_end : scripts_in report.faults ≡ 0)
-    (taken : TellsTaken request.state plan report.faults (Some j) (Some k)) (smooth : IsSmoothCall request zone seconds report j k) where
+    (taken : TellsTaken request.state plan report.faults (Some j) (Some k)) (anew : NamesAnew plan report.faults (Some k)) (smooth : IsSmoothCall request zone seconds report j k) where
   plan_fails_nothing : (p : ReachesPlan request zone seconds report (reverse es)) → plan ≡ Some (plan_by request zone seconds report (reverse es) p) → IsDone request zone seconds report j k
   plan_fails_nothing p is = record {
     none = record {
       stop_nothing = record { none_ends = none_ends; no_call = no_call; no_script = no_end; no_copy = each_in (λ f. IsOfCopy f → ⊥) report.faults (λ f i c. no_copy f i c) };
       not_taken = λ i. ⊎_elim (λ a. means_no_new request.confs p.meaning p.reads p.read (fault.Taken (state_part request.state)) tt a) (λ b. own.not_taken b) (split (fault.Taken (state_part request.state)) i);
     };
-    plan = plan_fulfils request zone seconds report j k es made journal p own;
+    plan = plan_fulfils request zone seconds report j k es made journal p own met (anew (plan_by request zone seconds report (reverse es) p) is);
   }
     where
       split : (f : Fault) → IsIn f report.faults → IsIn f p.meaning.faults ⊎ IsIn f p.own
@@ -126,25 +148,34 @@ module _ (request : Request) (zone : Zone) (seconds : ℤ) (report : Report) (pl
       no_copy : (f : Fault) → IsIn f report.faults → IsOfCopy f → ⊥
       no_copy f i c = ⊎_elim (λ a. means_no_new request.confs p.meaning p.reads p.read f (is_new f c) a) (λ b. in_each (λ g. IsOfCopy g → ⊥) p.own f own.met.no_copy b c) (split f i)
 
+      met : MetNothing (dirs_in (plan_by request zone seconds report (reverse es) p)) report.faults
+      met = record {
+        no_call = no_call;
+        no_end = no_end;
+        no_copy = each_in (λ f. IsOfCopy f → ⊥) report.faults (λ f i c. no_copy f i c);
+        no_other = λ dir i j. ⊎_elim (λ a. means_no_kind request.confs p.meaning p.reads p.read dir a) (λ b. own.met.no_other dir i b) (split (fault.NotFile dir) j);
+      }
+
   fails_nothing : (here : Path) (words : List (List ℕ)) → AskFor here words request → request.debug ≡ false → Answered here words zone seconds plan (Done report) (reverse es) → IsDone request zone seconds report j k
   fails_nothing here words asks dry a = ⊎_elim (λ came. plan_fails_nothing came.0 came.1) (λ u. absurd (nothing_stopped request.state zone report.faults _ u none_ends no_call)) (call_came request zone seconds report (reverse es) here words plan asks dry a)
 
 from_entries : (here : Path) (words : List (List ℕ)) (request : Request) (zone : Zone) (seconds : ℤ) (plan : Option Plan) (report : Report) (j k : Journal) → AskFor here words request → request.debug ≡ false → Left (Answered here words zone seconds plan (Done report)) (Some j) (Some k) → IsJournal (past j)
-    → NoneEnds request.state report.faults → calls_in report.faults ≡ 0 → scripts_in report.faults ≡ 0 → TellsTaken request.state plan report.faults (Some j) (Some k) → IsSmoothCall request zone seconds report j k → IsDone request zone seconds report j k
-from_entries here words request zone seconds plan report j k asks dry (is_told {es = es} made a) journal none_ends no_call no_end taken smooth =
-    fails_nothing request zone seconds report plan j k es made journal none_ends no_call no_end taken smooth here words asks dry a
+    → NoneEnds request.state report.faults → calls_in report.faults ≡ 0 → scripts_in report.faults ≡ 0 → TellsTaken request.state plan report.faults (Some j) (Some k) → NamesAnew plan report.faults (Some k) → IsSmoothCall request zone seconds report j k → IsDone request zone seconds report j k
+from_entries here words request zone seconds plan report j k asks dry (is_told {es = es} made a) journal none_ends no_call no_end taken anew smooth =
+    fails_nothing request zone seconds report plan j k es made journal none_ends no_call no_end taken anew smooth here words asks dry a
 
 counted_so : (outcome : Outcome) (report : Report) (counted counts : Counts) → outcome ≡ Done report → HasCounted outcome counted counts → AreCounted report.faults counted counts
 counted_so outcome report counted counts done h = subst (λ (o : Outcome). HasCounted o counted counts) done h
 
 -- that a call with these words left its answer
 pub answered_smooth : (here : Path) (words : List (List ℕ)) (request : Request) (zone : Zone) (seconds : ℤ) (plan : Option Plan) (outcome : Outcome) (report : Report) (o n : Option Journal) (j k : Journal) (counted counts : Counts) → AskFor here words request → request.debug ≡ false → Left (Answered here words zone seconds plan outcome) o n → outcome ≡ Done report
-    → NoneEnds request.state report.faults → HasCounted outcome counted counts → NoneRose counted counts → TellsTaken request.state plan report.faults o n → o ≡ Some j → n ≡ Some k → IsJournal (past j) → IsSmoothCall request zone seconds report j k → IsDone request zone seconds report j k
-answered_smooth here words request zone seconds plan outcome report o n j k counted counts asks dry left done none_ends are none taken told_j told_k journal smooth =
+    → NoneEnds request.state report.faults → HasCounted outcome counted counts → NoneRose counted counts → TellsTaken request.state plan report.faults o n → NamesAnew plan report.faults n → o ≡ Some j → n ≡ Some k → IsJournal (past j) → IsSmoothCall request zone seconds report j k → IsDone request zone seconds report j k
+answered_smooth here words request zone seconds plan outcome report o n j k counted counts asks dry left done none_ends are none taken anew told_j told_k journal smooth =
     from_entries here words request zone seconds plan report j k asks dry
     (subst (λ (m : Option Journal). Left (Answered here words zone seconds plan (Done report)) (Some j) m) told_k
     (subst (λ (m : Option Journal). Left (Answered here words zone seconds plan (Done report)) m n) told_j
     (subst (λ (r : Outcome). Left (Answered here words zone seconds plan r) o n) done left))) journal none_ends
     (none_rose (calls_in report.faults) counted.faults counts.faults (counted_so outcome report counted counts done are).calls none.0)
     (none_rose (scripts_in report.faults) counted.bad_ends counts.bad_ends (counted_so outcome report counted counts done are).scripts none.1)
-    (subst (λ (m : Option Journal). TellsTaken request.state plan report.faults (Some j) m) told_k (subst (λ (m : Option Journal). TellsTaken request.state plan report.faults m n) told_j taken)) smooth
+    (subst (λ (m : Option Journal). TellsTaken request.state plan report.faults (Some j) m) told_k (subst (λ (m : Option Journal). TellsTaken request.state plan report.faults m n) told_j taken))
+    (subst (λ (m : Option Journal). NamesAnew plan report.faults m) told_k anew) smooth

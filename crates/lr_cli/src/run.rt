@@ -4,6 +4,7 @@ ghost use Rattle.lr_host.specs.Opening.{IsJournal};
 ghost use Rattle.lr_host.specs.Told.{Left, Onward, Rose, WhereTold};
 ghost use Rattle.lr_host.specs.Counted.{AreCounted};
 ghost use Rattle.lr_mixed.specs.AllTurns.{IsWholeRunBy};
+ghost use Rattle.lr_run.specs.Anew.{NamesAnew};
 ghost use Rattle.lr_cli.specs.Internal.{TurnsByClock};
 ghost use Rattle.lr_command.specs.Words.{can_be_state};
 ghost use Rattle.lr_cli.specs.Answer.{Answers, AnswersAt};
@@ -38,6 +39,7 @@ pub fn run_confs<H: Host>(
     ensures told { Left (Answers request.now clock.entry.now (plan_told result) (answer_of result)) (H.told host.old) (H.told host.new) }
     ensures shape { Left (IsWholeRunBy clock.entry.now) (H.told host.old) (H.told host.new) }
     ensures taken { request.now.debug ≡ false → IfOk result (λ told. TellsTaken request.now.state told.plan told.faults.items (H.told host.old) (H.told host.new)) }
+    ensures anew { request.now.debug ≡ false → IfOk result (λ told. NamesAnew told.plan told.faults.items (H.told host.new)) }
     ensures counted { IfOk result (λ told. AreCounted told.faults.items (H.counts host.old) (H.counts host.new)) }
     ensures room { IfOk result (λ told. vec_len told.faults + 1 ≤ vec_capacity told.faults) }
     ensures held { result ≡ Err RunStop.Held → Rose (H.counts host.old).held (H.counts host.new).held }
@@ -73,6 +75,7 @@ pub fn run_by<H: Host>(
     ensures told { Left (Answers request.now clock.entry.now (plan_told result) (answer_of result)) (H.told host.old) (H.told host.new) }
     ensures shape { Left (IsWholeRunBy clock.entry.now) (H.told host.old) (H.told host.new) }
     ensures taken { request.now.debug ≡ false → IfOk result (λ told. TellsTaken request.now.state told.plan told.faults.items (H.told host.old) (H.told host.new)) }
+    ensures anew { request.now.debug ≡ false → IfOk result (λ told. NamesAnew told.plan told.faults.items (H.told host.new)) }
     ensures counted { IfOk result (λ told. AreCounted told.faults.items (H.counts host.old) (H.counts host.new)) }
     ensures room { IfOk result (λ told. vec_len told.faults + 1 ≤ vec_capacity told.faults) }
     ensures held { result ≡ Err RunStop.Held → Rose (H.counts host.old).held (H.counts host.new).held }
@@ -120,6 +123,7 @@ pub fn run_at<H: Host>(
     ensures clock { IfOk result (λ told. IsClocked zone.now seconds told.notices told.faults.items) }
     ensures shape { TurnsByClock zone.now seconds (H.told host.old) (H.told host.new) }
     ensures taken { request.now.debug ≡ false → IfOk result (λ told. TellsTaken request.now.state told.plan told.faults.items (H.told host.old) (H.told host.new)) }
+    ensures anew { request.now.debug ≡ false → IfOk result (λ told. NamesAnew told.plan told.faults.items (H.told host.new)) }
     ensures counted { IfOk result (λ told. AreCounted told.faults.items (H.counts host.old) (H.counts host.new)) }
     ensures room { IfOk result (λ told. vec_len told.faults + 1 ≤ vec_capacity told.faults) }
     ensures held { result ≡ Err RunStop.Held → Rose (H.counts host.old).held (H.counts host.new).held }

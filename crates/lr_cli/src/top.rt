@@ -53,9 +53,10 @@ pub fn logrotate<H: Host, K: Sink>(
     requires { WhereTold (H.told host.old) IsJournal }
 
     // Where its faults tell of nothing that failed, and of nothing that stood where the plan was to make a directory, the call
-    // did its plan, and nothing else: its acts are the plan's, in order, each of its logs was rotated, or its family turned by a
-    // copy of it, file by file, the state tells of all of them, and all else was left alone. Faults of the configuration, of the
-    // looks and of the plan may stand there, and no others do.
+    // did its plan, and nothing else: its acts are the plan's, in order; each of its logs was rotated, or its family turned by a
+    // copy of it, file by file, where no writer was attached to a member; each that is made anew is named; the state tells of all
+    // of them, where no writer was attached to its paths; and all else was left alone. Faults of the configuration, of the looks
+    // and of the plan may stand there, and no others do.
     ensures fulfilled { (request : Request) (report : Report) (before after : Journal) → AskFor here.now words.now request → request.debug ≡ false → without_out result ≡ Outcome.Done report → FailNothing request.state report.faults
         → H.told host.old ≡ Some before → H.told host.new ≡ Some after → IsJournal (past before) → MakesDirs request zone.now now report before after → FulfillsPlan request zone.now now report before after }
 

@@ -1,5 +1,5 @@
 -- A run of which nothing failed fulfils its plan.
-use Rattle.std.proofs.Common.{◌≡◌, ◌≢◌, inl, inr, ℕ, false, refl, sym, ◌∙◌, ap, subst, List, [], ◌∷◌, ◌++◌, map, reverse, append_assoc, append-nil}
+use Rattle.std.proofs.Common.{◌≡◌, ◌≢◌, inl, inr, ⊎_elim, ℕ, false, refl, sym, ◌∙◌, ap, subst, List, [], ◌∷◌, ◌++◌, map, reverse, append_assoc, append-nil}
 use Rattle.std.specs.Prelude.{filter}
 use Rattle.std.proofs.lemmas.List.Elements.{filter-append}
 use Rattle.lr_rules.specs.declared.clock.Clock.{Clock}
@@ -43,8 +43,11 @@ use Rattle.lr_seen.proofs.Ready.{plans_have_logs}
 use Rattle.lr_seen.proofs.Seen.{targets_have_names}
 use Rattle.lr_writing.specs.Named.{IsNamed}
 use Rattle.lr_writing.proofs.Named.{named_whole}
+use Rattle.lr_run.specs.Anew.{AnewAt}
 use Rattle.lr_run.specs.Dry.{IsSight, AreSights}
+use Rattle.lr_run.specs.Met.{MetNothing}
 use Rattle.lr_run.specs.Runs.{Inside, Looked, Worked, plan_in, logs_in, dirs_in, state_text}
+use Rattle.lr_run.proofs.Called.{nothing_stops}
 use Rattle.lr_run.proofs.Made.{are_made}
 use Rattle.lr_run.proofs.Renewing.{behind_quiet, between_made, worked_may}
 use Rattle.lr_run.proofs.Rotating.{run_rotated, run_dated_rotated}
@@ -87,7 +90,8 @@ behind_sights xs ys a = filter-append is_act xs ys ∙ ap (λ (zs : List Entry).
 
 -- ---- the run
 
-module _ (state : Path) (asked : Asked) (clock : Clock) (rules : Rules) (own : List Fault) (p q : Past) (es reads acts : List Entry) (made : Made p es q) (journal : IsJournal p) (joined : reverse es ≡ reads ++ acts) (sights : AreSights reads) (i : Inside state clock rules (Worked state rules.sets clock asked own) acts) (nothing : NothingFailed state (dirs_in (plan_in state rules.sets i.between i.within.looked clock asked)) own) where
+module _ (state : Path) (asked : Asked) (clock : Clock) (rules : Rules) (own : List Fault) (p q : Past) (es reads acts : List Entry) (made : Made p es q) (journal : IsJournal p) (joined : reverse es ≡ reads ++ acts) (sights : AreSights reads) (i : Inside state clock rules (Worked state rules.sets clock asked own) acts) (nothing : NothingFailed state (dirs_in (plan_in state rules.sets i.between i.within.looked clock asked)) own)
+    (told : List Fault) (met : MetNothing (dirs_in (plan_in state rules.sets i.between i.within.looked clock asked)) told) (anew_at : AnewAt (plan_in state rules.sets i.between i.within.looked clock asked) told q) where
   abbrev w : Worked state rules.sets clock asked own i.between
   w = i.within
 
@@ -218,6 +222,7 @@ module _ (state : Path) (asked : Asked) (clock : Clock) (rules : Rules) (own : L
     dated_rotated = λ t one by_rename dated. run_dated_rotated state asked clock rules own p q es reads acts made journal joined (sights_quiet reads sights) i nothing.met t one by_rename dated;
     turned = λ t one job is numbered. run_turned state asked clock rules own p q es reads acts made journal joined (sights_quiet reads sights) i nothing.met t one job is numbered;
     dated_turned = λ t one job is dated. run_dated_turned state asked clock rules own p q es reads acts made journal joined (sights_quiet reads sights) i nothing.met t one job is dated;
+    anew = λ x one. ⊎_elim (λ there. there) (λ s. absurd (nothing_stops rules.sets l.sets l.remembered.table clock asked told s.0 x met s.1 s.2)) (anew_at x one);
     written = written;
     kept = λ f kept free x is. others_left x (kept_elsewhere state rules.sets l.sets l.of_looks l.looks clock decide f x l.shown kept free is);
     others = others_left;

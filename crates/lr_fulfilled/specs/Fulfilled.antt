@@ -7,12 +7,14 @@ use Rattle.lr_rules.specs.declared.path.Path.{Path}
 use Rattle.lr_rules.specs.declared.rule.Rule.{Rule}
 use Rattle.lr_rules.specs.Names.{IsOwnName}
 use Rattle.lr_host.specs.declared.entry.Entry.{Entry}
+use Rattle.lr_host.specs.declared.thing.Thing.TheVariants as thing
 use Rattle.lr_host.specs.Lists.{IsIn}
 use Rattle.lr_host.specs.Quiet.{AttachedOnlySince}
-use Rattle.lr_host.specs.World.{Past}
+use Rattle.lr_host.specs.World.{Past, world, names}
 use Rattle.lr_copy.specs.declared.job.Job.{Job}
 use Rattle.lr_durable.specs.Renewing.{HasText}
 use Rattle.lr_acts.specs.Making.{all_of_sets}
+use Rattle.lr_acts.specs.Named.{OneCreates}
 use Rattle.lr_looks.specs.Found.{FoundLog}
 use Rattle.lr_plan.specs.Asked.{Asked}
 use Rattle.lr_plan.specs.declared.step.Step.{Step}
@@ -61,9 +63,11 @@ pub record IsFulfilled (state : Path) (rules : List Rule) (clock : Clock) (asked
   pub rotated : (t : Target) → IsIn t (rotated_in state rules ts l clock asked) → t.job ≡ None → t.naming.dated ≡ None → IsRotatedAmong state (rotated_in state rules ts l clock asked) before after t
   pub dated_rotated : (t : Target) → IsIn t (rotated_in state rules ts l clock asked) → t.job ≡ None → IsSome t.naming.dated → IsDatedRotatedAmong state (rotated_in state rules ts l clock asked) clock before after t
   -- each that is copied was turned by its copy
-  pub turned : (t : Target) → IsOneOf t (rotated_in state rules ts l clock asked) → (job : Job) → t.job ≡ Some job → t.naming.dated ≡ None → IsTurnedAmong state (rotated_in state rules ts l clock asked) before after t job
-  pub dated_turned : (t : Target) → IsOneOf t (rotated_in state rules ts l clock asked) → (job : Job) → t.job ≡ Some job → IsSome t.naming.dated → IsDatedTurnedAmong state (rotated_in state rules ts l clock asked) clock before after t job
-  -- the state tells of each of them, where no writer was attached to its path or to that of its part file
+  pub turned : (t : Target) → IsIn t (rotated_in state rules ts l clock asked) → (job : Job) → t.job ≡ Some job → t.naming.dated ≡ None → IsTurnedAmong state (rotated_in state rules ts l clock asked) before after t job
+  pub dated_turned : (t : Target) → IsIn t (rotated_in state rules ts l clock asked) → (job : Job) → t.job ≡ Some job → IsSome t.naming.dated → IsDatedTurnedAmong state (rotated_in state rules ts l clock asked) clock before after t job
+  -- each log that a step of the plan makes anew is named behind the run: it was made, or something had its path
+  pub anew : (x : Path) → OneCreates x (all_of_sets (steps_of_plan (plan_in state rules ts l clock asked))) → names (world after) x ≢ thing.Nothing
+  -- the state tells of each of the logs, where no writer was attached to its path or to that of its part file
   pub written : AttachedOnlySince (λ x. (x ≢ state) × (x ≢ state_part state)) before after → HasText state (state_text state rules ts l clock (logs_in (plan_in state rules ts l clock asked))) after
   -- each other log that is kept was left alone, with its members
   pub kept : (f : FoundLog) → IsIn f l.shown.kept → HasNone (rotated_in state rules ts l clock asked) f.log.path → (x : Path) → IsOwnName f.log.path f.log.naming x → IsLeftAlone before after x

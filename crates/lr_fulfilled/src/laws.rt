@@ -25,7 +25,9 @@ ghost use Rattle.lr_plan.specs.declared.planned.Plan.{Plan};
 ghost use Rattle.lr_plan.specs.Done.{ActsDone, rotated_logs};
 ghost use Rattle.lr_plan.specs.Steps.{steps_of_plan, state_steps};
 ghost use Rattle.lr_mixed.specs.AllTurns.{AllTurnsBy};
+ghost use Rattle.lr_run.specs.Anew.{AnewAt};
 ghost use Rattle.lr_run.specs.Dry.{AreSights};
+ghost use Rattle.lr_run.specs.Met.{MetNothing};
 ghost use Rattle.lr_run.specs.Runs.{Inside, Worked, logs_in, dirs_in, plan_in};
 ghost use Rattle.lr_seen.specs.Free.{reserved_by};
 ghost use Rattle.lr_seen.specs.Targets.{all_targets};
@@ -34,13 +36,15 @@ ghost use Rattle.lr_fulfilled.specs.Fulfilled.{NothingFailed, IsElsewhere, HasNo
 ghost use Rattle.lr_fulfilled.specs.Left.{IsLeftAlone};
 ghost use Rattle.lr_fulfilled.specs.Truth.{LooksAreTrue};
 
-/// A run that came to its plan, behind looks, listings and reads, and whose own faults tell of nothing that failed,
-/// fulfilled it, whatever writers did meanwhile: its acts are those of the plan, each log of the plan was rotated, the state
-/// tells of them, and all else was left alone.
+/// A run that came to its plan, behind looks, listings and reads, and whose own faults tell of nothing that failed, fulfilled
+/// it: its acts are those of the plan, whatever writers did meanwhile; each log of the plan was rotated, where no writer is
+/// attached to a member of it; each that is made anew is named, as the run's contract tells by faults of which none tells of
+/// anything that was met; the state tells of the logs, where none is attached to its paths; and all else was left alone.
 pub fn run_is_fulfilled()
     ensures { (state : Path) (asked : Asked) (clock : Clock) (rules : Rules) (own : List Fault) (p q : Past) (es reads acts : List Entry)
         → Made p es q → IsJournal p → reverse es ≡ reads ++ acts → AreSights reads → (i : Inside state clock rules (Worked state rules.sets clock asked own) acts)
         → NothingFailed state (dirs_in (plan_in state rules.sets i.between i.within.looked clock asked)) own
+        → (told : List Fault) → MetNothing (dirs_in (plan_in state rules.sets i.between i.within.looked clock asked)) told → AnewAt (plan_in state rules.sets i.between i.within.looked clock asked) told q
         → IsFulfilled state rules.sets clock asked i.between i.within.looked own (reverse es) p q }
 {}
 

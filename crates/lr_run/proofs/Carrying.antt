@@ -104,6 +104,9 @@ module _ (ready : Ready) (x y : Progress) (before : ℕ) (dirs : List Path) (o m
     are_counted = counted_on a.faults s.added j k l a.are_counted s.are_counted;
     text = Text ready now y before;
     taken = taken_on (all_of_sets ready.steps) (state_steps ready.writing.state ready.writing.stale dirs (Text ready now y before)) a.faults s.added a.entries s.entries a.taken s.taken;
+    middle = m;
+    names = a.names;
+    wrote = left_as s.entries (λ (ts : List Entry) w. w.0);
   }
 
 -- ---- a first part of the acts

@@ -19,6 +19,9 @@ pub mod Turning
 pub mod Owned
 pub mod Courses
 pub mod Members
+mod Keeping
+mod Lasting
+pub mod Anew
 mod Covering
 pub mod Made
 mod Guarding

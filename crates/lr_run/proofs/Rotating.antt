@@ -156,7 +156,7 @@ worked_whole state rules clock asked own ts w none =
     (subst (λ (fs : List Fault). PlanDone (plan_in state rules.sets ts w.looked clock asked) w.acted.marks fs w.acted.entries.entries.front) none w.acted.entries.entries.first)
 
 module _ (state : Path) (asked : Asked) (clock : Clock) (rules : Rules) (own : List Fault) (p q : Past) (es reads acts : List Entry) (made : Made p es q) (journal : IsJournal p) (joined : reverse es ≡ reads ++ acts) (quiet : AreQuiet reads)
-    (i : Inside state clock rules (Worked state rules.sets clock asked own) acts) (met : MetNothing (dirs_in (plan_in state rules.sets i.between i.within.looked clock asked)) own) (t : Target) (one : IsOneOf t (rotated_in state rules.sets i.between i.within.looked clock asked)) where
+    (i : Inside state clock rules (Worked state rules.sets clock asked own) acts) (met : MetNothing (dirs_in (plan_in state rules.sets i.between i.within.looked clock asked)) own) (t : Target) (one : IsIn t (rotated_in state rules.sets i.between i.within.looked clock asked)) where
   abbrev w : Worked state rules.sets clock asked own i.between
   w = i.within
 

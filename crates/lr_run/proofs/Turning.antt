@@ -60,7 +60,7 @@ use Rattle.lr_run.specs.Turned.{IsTurnedAmong, IsDatedTurnedAmong}
 use Rattle.lr_run.proofs.Rotating as rotating
 
 module _ (state : Path) (asked : Asked) (clock : Clock) (rules : Rules) (own : List Fault) (p q : Past) (es reads acts : List Entry) (made : Made p es q) (journal : IsJournal p) (joined : reverse es ≡ reads ++ acts) (quiet : AreQuiet reads)
-    (i : Inside state clock rules (Worked state rules.sets clock asked own) acts) (met : MetNothing (dirs_in (plan_in state rules.sets i.between i.within.looked clock asked)) own) (t : Target) (one : IsOneOf t (rotated_in state rules.sets i.between i.within.looked clock asked)) (job : Job) (job_is : t.job ≡ Some job) where
+    (i : Inside state clock rules (Worked state rules.sets clock asked own) acts) (met : MetNothing (dirs_in (plan_in state rules.sets i.between i.within.looked clock asked)) own) (t : Target) (one : IsIn t (rotated_in state rules.sets i.between i.within.looked clock asked)) (job : Job) (job_is : t.job ≡ Some job) where
   abbrev all : AllTurnedBy state clock rules ((((i.within.looked.reads ++ i.within.looked.looks) ++ i.within.acted.entries.entries.front) ++ i.within.acted.entries.entries.back) ++ entry.Ends ∷ [])
   all = rotating.turned state asked clock rules own p q es reads acts made journal joined quiet i met t one
 

@@ -37,6 +37,7 @@ use Rattle.lr_plan.specs.Steps.{steps_of_plan, state_steps}
 use Rattle.lr_acts.specs.declared.progress.Progress.{Progress}
 use Rattle.lr_acts.specs.Adding.{HasRoom}
 use Rattle.lr_acts.specs.Making.{all_of_sets}
+use Rattle.lr_acts.specs.Named.{KeepsNames}
 use Rattle.lr_acts.specs.Taken.{TakenOnly}
 use Rattle.lr_looks.specs.Found.{paths_of}
 use Rattle.lr_looks.specs.Shown.{ShowsLooks, LooksAtAll}
@@ -110,6 +111,10 @@ pub record ActsAndWrites (ready : Ready) (now : Civil) (before later : Progress)
   pub are_counted : AreCounted (of_plan ++ of_state) counted counts
   pub text : List ℕ
   pub taken : TakenOnly (all_of_sets ready.steps ++ state_steps ready.writing.state ready.writing.stale dirs text) (of_plan ++ of_state) told then
+  -- which names the acts left, and what came behind them
+  pub middle : Option Journal
+  pub names : KeepsNames (all_of_sets ready.steps) marks told middle
+  pub wrote : Left (Course (state_steps ready.writing.state ready.writing.stale dirs text) [] of_state) middle then
 
 -- ---- the parts of the work
 

@@ -1,3 +1,4 @@
+pub mod Anew
 pub mod Answers
 pub mod Copied
 pub mod Dry

@@ -14,6 +14,7 @@ ghost use Rattle.lr_run.specs.Answers.{Answers};
 ghost use Rattle.lr_run.specs.Copied.{IsCopyBy};
 ghost use Rattle.lr_run.specs.Dry.{AreSights};
 ghost use Rattle.lr_run.specs.State.{IsNewText};
+ghost use Rattle.lr_run.specs.Anew.{NamesAnew};
 ghost use Rattle.lr_run.specs.Taken.{AddsTaken};
 
 use crate::answer::{Ran, RunStop};
@@ -47,6 +48,7 @@ pub fn run<H: Host>(
     ensures shape { Left (IsWholeRunBy clock.entry.now) (H.told host.old) (H.told host.new) }
     ensures counted { IfOk result (λ ran. AddsFaults earlier.items ran.faults.items (H.counts host.old) (H.counts host.new)) }
     ensures taken { settings.now.debug ≡ false → IfOk result (λ ran. AddsTaken settings.now.state ran.plan earlier.items ran.faults.items (H.told host.old) (H.told host.new)) }
+    ensures anew { settings.now.debug ≡ false → IfOk result (λ ran. NamesAnew ran.plan ran.faults.items (H.told host.new)) }
     ensures held { result ≡ Err RunStop.Held → Rose (H.counts host.old).held (H.counts host.new).held }
     ensures room { IfOk result (λ ran. vec_len ran.faults + 1 ≤ vec_capacity ran.faults) }
     ensures counts { Onward (H.counts host.old) (H.counts host.new) }

@@ -10,6 +10,7 @@ ghost use Rattle.lr_emptied.specs.Emptied.{EmptiesWhole};
 ghost use Rattle.lr_dated.specs.Forward.{IsForwardFor};
 ghost use Rattle.lr_dated.specs.Stays.{KeepsSafeWhere};
 ghost use Rattle.lr_mixed.specs.AllTurns.{IsWholeRunBy};
+ghost use Rattle.lr_run.specs.Anew.{NamesAnew};
 ghost use Rattle.lr_run.specs.Taken.{AddsTaken};
 ghost use Rattle.lr_plan.specs.Asked.{asking};
 ghost use Rattle.lr_run.specs.Internal.{RunsOn, StopsSo, dir_fault_of};
@@ -74,6 +75,7 @@ fn make_run<H: Host>(
     ensures room { OnOk result (vec_len progress.new.faults + 1 ≤ vec_capacity progress.new.faults) }
     ensures counted { OnOk result (AddsFaults progress.old.faults.items progress.new.faults.items (H.counts host.old) (H.counts host.new)) }
     ensures taken { OnOk result (AddsTaken settings.now.state reached.new progress.old.faults.items progress.new.faults.items (H.told host.old) (H.told host.new)) }
+    ensures anew { OnOk result (NamesAnew reached.new progress.new.faults.items (H.told host.new)) }
     ensures counts { Onward (H.counts host.old) (H.counts host.new) }
 {
     match look_for_dir(host, &names.dir) {
@@ -133,6 +135,7 @@ pub fn real_run<H: Host>(
     ensures shape { Left (IsWholeRunBy clock.entry.now) (H.told host.old) (H.told host.new) }
     ensures counted { IfOk result (λ ran. AddsFaults earlier.items ran.faults.items (H.counts host.old) (H.counts host.new)) }
     ensures taken { IfOk result (λ ran. AddsTaken settings.now.state ran.plan earlier.items ran.faults.items (H.told host.old) (H.told host.new)) }
+    ensures anew { IfOk result (λ ran. NamesAnew ran.plan ran.faults.items (H.told host.new)) }
     ensures held { result ≡ Err RunStop.Held → Rose (H.counts host.old).held (H.counts host.new).held }
     ensures room { IfOk result (λ ran. vec_len ran.faults + 1 ≤ vec_capacity ran.faults) }
     ensures counts { Onward (H.counts host.old) (H.counts host.new) }

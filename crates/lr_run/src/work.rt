@@ -11,6 +11,7 @@ ghost use Rattle.lr_host.specs.Counted.{AddsFaults};
 ghost use Rattle.lr_plan.specs.Asked.{asking};
 ghost use Rattle.lr_plan.specs.Planned.{CanPlanAll, plan_of};
 ghost use Rattle.lr_reading.specs.Sights.{state_part};
+ghost use Rattle.lr_run.specs.Anew.{NamesAnew};
 ghost use Rattle.lr_run.specs.Taken.{AddsTaken};
 ghost use Rattle.lr_run.specs.Internal.{WorkDone, LookedDone, KnownBefore, SeenBefore, Carries, SomeWork, EndsBehindLooks, EndsBehindState};
 
@@ -70,6 +71,7 @@ fn act_by<H: Host>(
     ensures room { OnOk result (vec_len progress.new.faults + 1 ≤ vec_capacity progress.new.faults) }
     ensures counted { OnOk result (AddsFaults progress.old.faults.items progress.new.faults.items (H.counts host.old) (H.counts host.new)) }
     ensures taken { OnOk result (AddsTaken settings.now.state reached.new progress.old.faults.items progress.new.faults.items (H.told host.old) (H.told host.new)) }
+    ensures anew { OnOk result (NamesAnew reached.new progress.new.faults.items (H.told host.new)) }
     ensures counts { Onward (H.counts host.old) (H.counts host.new) }
 {
     let plan = plan(alloc, rules, looks, &remembered.table, clock, settings)?;
@@ -114,6 +116,7 @@ fn plan_and_act<H: Host>(
     ensures room { OnOk result (vec_len progress.new.faults + 1 ≤ vec_capacity progress.new.faults) }
     ensures counted { OnOk result (AddsFaults progress.old.faults.items progress.new.faults.items (H.counts host.old) (H.counts host.new)) }
     ensures taken { OnOk result (AddsTaken settings.now.state reached.new progress.old.faults.items progress.new.faults.items (H.told host.old) (H.told host.new)) }
+    ensures anew { OnOk result (NamesAnew reached.new progress.new.faults.items (H.told host.new)) }
     ensures counts { Onward (H.counts host.old) (H.counts host.new) }
 {
     let told = plan(alloc, rules, looks, &remembered.table, clock, settings)?;
@@ -142,6 +145,7 @@ fn look_and_act<H: Host>(
     ensures room { OnOk result (vec_len progress.new.faults + 1 ≤ vec_capacity progress.new.faults) }
     ensures counted { OnOk result (AddsFaults progress.old.faults.items progress.new.faults.items (H.counts host.old) (H.counts host.new)) }
     ensures taken { OnOk result (AddsTaken settings.now.state reached.new progress.old.faults.items progress.new.faults.items (H.told host.old) (H.told host.new)) }
+    ensures anew { OnOk result (NamesAnew reached.new progress.new.faults.items (H.told host.new)) }
     ensures counts { Onward (H.counts host.old) (H.counts host.new) }
 {
     let looks = look_at_logs(alloc, host, rules, &settings.state, &mut progress.faults)?;
@@ -179,6 +183,7 @@ pub fn work<H: Host>(
     ensures room { OnOk result (vec_len progress.new.faults + 1 ≤ vec_capacity progress.new.faults) }
     ensures counted { OnOk result (AddsFaults progress.old.faults.items progress.new.faults.items (H.counts host.old) (H.counts host.new)) }
     ensures taken { OnOk result (AddsTaken settings.now.state reached.new progress.old.faults.items progress.new.faults.items (H.told host.old) (H.told host.new)) }
+    ensures anew { OnOk result (NamesAnew reached.new progress.new.faults.items (H.told host.new)) }
     ensures counts { Onward (H.counts host.old) (H.counts host.new) }
 {
     let part = part_path(alloc, &settings.state)?;

@@ -5,7 +5,7 @@ use Rattle.lr_cli.specs.Faults.{answer_of, plan_told}
 use Rattle.lr_cli.specs.Internal.{only_looked}
 use Rattle.lr_cli.proofs.Clocked.{own_seconds}
 use Rattle.lr_cli.proofs.Called.{at_none, at_stop, stop_shape, stop_clocked, at_clock, clock_shape, clock_clocked}
-use Rattle.lr_cli.proofs.Smooth.{clock_taken, none_told}
+use Rattle.lr_cli.proofs.Smooth.{clock_taken, none_told, none_anew}
 use Rattle.lr_cli.proofs.run.run_at.Goals as goal
 
 pub returns-in_default-clause-told : goal.returns-in_default-clause-told
@@ -40,3 +40,6 @@ returns-in-Ok-clock_in-clause-taken g c = clock_taken c.args.request.now c.run_b
 
 pub returns-in-Err-clause-taken : goal.returns-in-Err-clause-taken
 returns-in-Err-clause-taken g c = none_told c.args.request.now c.without_clock.result _ _ c.without_clock.ensures.plan
+
+pub returns-in-Err-clause-anew : goal.returns-in-Err-clause-anew
+returns-in-Err-clause-anew g c = none_anew c.args.request.now c.without_clock.result _ c.without_clock.ensures.plan

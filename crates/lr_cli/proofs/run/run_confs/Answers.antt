@@ -1,3 +1,4 @@
+use Rattle.std.proofs.Common.{◌∙◌}
 use Rattle.lr_placed.proofs.Lasting.{disk_on}
 use Rattle.lr_cli.proofs.Reading.{reports, stopped, lacks_at_confs, reading_counted, both_counted, confs_shape, lacking_shape}
 use Rattle.lr_cli.proofs.Smooth.{confs_taken}
@@ -31,3 +32,6 @@ returns-clause-shape g c = confs_shape c.args.clock.now c.as_slice.result.now _ 
 
 pub returns-in-Ok-run-clause-taken : goal.returns-in-Ok-run-clause-taken
 returns-in-Ok-run-clause-taken g c = confs_taken c.args.request.now c.args.settings.now c.in-Ok-run.ran.plan c.into_vec.result.items c.in-Ok.reading.faults c.in-Ok-run.ran.faults.items c.requires.settled c.into_vec.ensures c.in-Ok.ensures.only c.in-Ok.ensures.told c.in-Ok-run.ensures.taken
+
+pub returns-in-Ok-run-clause-anew : goal.returns-in-Ok-run-clause-anew
+returns-in-Ok-run-clause-anew g c = λ dry. c.in-Ok-run.ensures.anew (c.requires.settled.debug ∙ dry)

@@ -11,7 +11,7 @@ use Rattle.lr_cli.proofs.Called.{nothing_called, answered, has_counted, has_cloc
 use Rattle.lr_cli.proofs.Fulfilling.{answered_fulfilled}
 use Rattle.lr_cli.proofs.Reached.{left_tells}
 use Rattle.lr_cli.proofs.Rotating.{answered_rotated}
-use Rattle.lr_cli.proofs.Smooth.{answered_smooth, has_taken, taken_of}
+use Rattle.lr_cli.proofs.Smooth.{answered_smooth, has_anew, anew_of, has_taken, taken_of}
 use Rattle.lr_cli.proofs.Still.{left_short, left_dry}
 use Rattle.lr_cli.proofs.Tried.{left_tries}
 use Rattle.lr_cli.proofs.Whole.{answered_whole}
@@ -84,7 +84,11 @@ pub returns-clause-rotated : goal.returns-clause-rotated
 returns-clause-rotated g c = λ request report before after asks dry done all told_before told_after journal makes. let s = returns-clause-told g c in answered_rotated c.args.here.now c.args.words.now request c.args.zone.now c.args.now s.plan _ report _ _ before after asks dry s.shown done all told_before told_after journal makes
 
 pub returns-clause-fulfilled : goal.returns-clause-fulfilled
-returns-clause-fulfilled g c = λ request report before after asks dry done none told_before told_after journal makes. let s = returns-clause-told g c in answered_fulfilled c.args.here.now c.args.words.now request c.args.zone.now c.args.now s.plan _ report _ _ before after asks dry s.shown done none told_before told_after journal makes
+returns-clause-fulfilled g c = λ request report before after asks dry done none told_before told_after journal makes.
+    answered_fulfilled c.args.here.now c.args.words.now request c.args.zone.now c.args.now (plan_told c.run_at-run.result) _ report _ _ before after asks dry
+    (answered c.args.here.now c.args.words.now c.args.zone.now _ c.args.now c.in-Ok.request (plan_told c.run_at-run.result) _ (answer_of c.run_at-run.result) _ _ (own_seconds c.args.now c.ranges.now.sfits) c.finish.ensures.answer c.in-Ok.ensures.request c.run_at-run.ensures.told)
+    done none told_before told_after journal makes
+    (has_anew c.run_at-run.result _ report _ c.finish.ensures.answer done (anew_of c.args.here.now c.args.words.now c.in-Ok.request request c.run_at-run.result _ c.in-Ok.ensures.request asks c.run_at-run.ensures.anew dry))
 
 pub returns-clause-clock : goal.returns-clause-clock
 returns-clause-clock g c = λ report done. has_clocked c.args.zone.now _ c.args.now c.run_at-run.result _ report (own_seconds c.args.now c.ranges.now.sfits) c.finish.ensures.answer done c.run_at-run.ensures.clock
@@ -110,4 +114,5 @@ returns-clause-smooth g c = λ request report before after asks dry done none_en
     (answered c.args.here.now c.args.words.now c.args.zone.now _ c.args.now c.in-Ok.request (plan_told c.run_at-run.result) _ (answer_of c.run_at-run.result) _ _ (own_seconds c.args.now c.ranges.now.sfits) c.finish.ensures.answer c.in-Ok.ensures.request c.run_at-run.ensures.told)
     done none_ends (returns-clause-counted g c) none_rose
     (has_taken request.state c.run_at-run.result _ report _ _ c.finish.ensures.answer done (taken_of c.args.here.now c.args.words.now c.in-Ok.request request c.run_at-run.result _ _ c.in-Ok.ensures.request asks c.run_at-run.ensures.taken dry))
+    (has_anew c.run_at-run.result _ report _ c.finish.ensures.answer done (anew_of c.args.here.now c.args.words.now c.in-Ok.request request c.run_at-run.result _ c.in-Ok.ensures.request asks c.run_at-run.ensures.anew dry))
     told_before told_after journal smooth

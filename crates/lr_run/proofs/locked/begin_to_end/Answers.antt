@@ -7,6 +7,7 @@ use Rattle.std.specs.Prelude.{filter}
 use Rattle.lr_host.specs.Steps.{is_naming}
 use Rattle.lr_host.proofs.Left.{can_as, can_stay}
 use Rattle.lr_run.proofs.Taken.{adds_behind, none_adds}
+use Rattle.lr_run.proofs.Anew.{none_anew}
 use Rattle.lr_run.proofs.locked.begin_to_end.Goals as goal
 
 pub work_to_end-requires-clause-disk : goal.work_to_end-requires-clause-disk
@@ -37,3 +38,6 @@ returns-in-Ok-clause-taken g c = adds_behind c.args.settings.now.state c.work_to
 
 pub returns-clause-taken : goal.returns-clause-taken
 returns-clause-taken g c = none_adds c.args.settings.now.state c.args.reached.now c.args.progress.now.faults.items c.add_not_begun.new.faults.items _ _ _ c.requires.none c.add_not_begun.ensures.faults
+
+pub returns-clause-anew : goal.returns-clause-anew
+returns-clause-anew g c = none_anew c.args.reached.now c.add_not_begun.new.faults.items _ c.requires.none

@@ -1,6 +1,7 @@
 use Rattle.lr_plan.specs.Asked.{asking}
 use Rattle.lr_run.proofs.Ending.{end_there, work_ended, work_lacked, adds_wider}
 use Rattle.lr_run.proofs.Taken.{taken_to_end}
+use Rattle.lr_run.proofs.Anew.{anew_to_end}
 use Rattle.lr_run.proofs.locked.work_to_end.Goals as goal
 
 pub end-requires : goal.end-requires
@@ -17,3 +18,6 @@ returns-clause-counted g c = adds_wider c.work-done.result c.args.progress.now.f
 
 pub returns-clause-taken : goal.returns-clause-taken
 returns-clause-taken g c = taken_to_end c.work-done.result c.args.settings.now.state c.work-done.new.reached c.args.progress.now.faults.items c.work-done.new.progress.faults.items _ c.end.ensures.told c.work-done.ensures.taken
+
+pub returns-clause-anew : goal.returns-clause-anew
+returns-clause-anew g c = anew_to_end c.work-done.result c.work-done.new.reached c.work-done.new.progress.faults.items c.end.ensures.told c.work-done.ensures.anew

@@ -6,6 +6,7 @@ use Rattle.lr_plan.specs.Asked.{asking}
 use Rattle.lr_run.proofs.Ending.{adds_later, dir_counted}
 use Rattle.lr_run.proofs.Parts.{behind_dir, stopped_behind, no_dir}
 use Rattle.lr_run.proofs.Taken.{taken_behind, none_adds}
+use Rattle.lr_run.proofs.Anew.{none_anew}
 use Rattle.lr_run.proofs.whole.make_run.Goals as goal
 
 pub begin_to_end-requires-clause-disk : goal.begin_to_end-requires-clause-disk
@@ -34,3 +35,6 @@ returns-in-Ok-clause-taken g c = taken_behind c.begin_to_end.result c.args.setti
 
 pub returns-in-Err-clause-taken : goal.returns-in-Err-clause-taken
 returns-in-Err-clause-taken g c = none_adds c.args.settings.now.state c.args.reached.now c.args.progress.now.faults.items c.add_dir_fault.new.faults.items _ _ _ c.requires.none c.add_dir_fault.ensures.faults
+
+pub returns-in-Err-clause-anew : goal.returns-in-Err-clause-anew
+returns-in-Err-clause-anew g c = none_anew c.args.reached.now c.add_dir_fault.new.faults.items _ c.requires.none

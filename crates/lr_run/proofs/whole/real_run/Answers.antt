@@ -14,6 +14,7 @@ use Rattle.lr_run.proofs.Parts.{ran_so, stopped_so}
 use Rattle.lr_run.proofs.Shape.{none_run, whole_run}
 use Rattle.lr_run.proofs.Renewing.{run_whole}
 use Rattle.lr_run.specs.Taken.{AddsTaken}
+use Rattle.lr_run.specs.Anew.{NamesAnew}
 use Rattle.lr_run.proofs.whole.real_run.Goals as goal
 
 pub returns-in_default-clause-told : goal.returns-in_default-clause-told
@@ -80,3 +81,6 @@ returns-in-Err-clause-copied g c = run_copied c.args.settings.now.state (asking 
 pub returns-in-Ok-make_run-clause-taken : goal.returns-in-Ok-make_run-clause-taken
 returns-in-Ok-make_run-clause-taken g c = subst (λ (ran : Ran). AddsTaken c.args.settings.now.state ran.plan c.args.earlier.items ran.faults.items (g.H.Host.told c.args.host.now) (g.H.Host.told c.make_run.new.host)) (sym c.ran_of.ensures)
     (subst (λ (fs : List Fault). AddsTaken c.args.settings.now.state c.make_run.new.reached fs c.make_run.new.progress.faults.items (g.H.Host.told c.args.host.now) (g.H.Host.told c.make_run.new.host)) c.in-Ok-progress_from.ensures.faults c.in-Ok-make_run.ensures.taken)
+
+pub returns-in-Ok-make_run-clause-anew : goal.returns-in-Ok-make_run-clause-anew
+returns-in-Ok-make_run-clause-anew g c = subst (λ (ran : Ran). NamesAnew ran.plan ran.faults.items (g.H.Host.told c.make_run.new.host)) (sym c.ran_of.ensures) c.in-Ok-make_run.ensures.anew

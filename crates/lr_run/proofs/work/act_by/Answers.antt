@@ -6,6 +6,7 @@ use Rattle.lr_plan.specs.Asked.{asking}
 use Rattle.lr_run.proofs.Placing.{fits_behind_acts}
 use Rattle.lr_run.proofs.Works.{ready_of, not_ready, ready_fit, carried_out, carried_counted, too_big_told, none_acted, some_acted}
 use Rattle.lr_run.proofs.Taken.{carried_taken, too_big_taken}
+use Rattle.lr_run.proofs.Anew.{carried_anew, no_anew}
 use Rattle.lr_run.proofs.work.act_by.Goals as goal
 
 pub carry_out-requires-clause-fits : goal.carry_out-requires-clause-fits
@@ -56,3 +57,11 @@ pub returns-in-None-clause-taken : goal.returns-in-None-clause-taken
 returns-in-None-clause-taken g c =
     too_big_taken c.add_too_big.result c.args.settings.now.state c.args.reached.now c.args.progress.now c.make_ready.new.progress c.add_too_big.new.faults.items (fault.State 0 kind.TooBig ∷ []) _ c.requires.none
     (not_ready c.args.settings.now.state c.args.clock.now c.args.remembered _ _ c.in_ok-plan.plan _ c.in_ok-ready.field-0 c.args.progress.now c.make_ready.new.progress c.as_slice-kept.ensures c.in_ok-plan.ensures c.in-None.is c.in_ok-ready.ensures).1 c.add_too_big.ensures.faults
+
+pub returns-in-Some-clause-anew : goal.returns-in-Some-clause-anew
+returns-in-Some-clause-anew g c =
+    let r = ready_of c.args.settings.now.state c.args.clock.now c.args.remembered _ _ c.in_ok-plan.plan _ c.in_ok-ready.field-0 c.in-Some.ready c.args.progress.now c.make_ready.new.progress c.as_slice-kept.ensures c.in_ok-plan.ensures c.in-Some.is c.in_ok-ready.ensures in
+    carried_anew c.carry_out.result c.args.settings.now.state c.args.rules.now c.args.looks.now c.args.remembered c.args.clock.now (asking c.args.settings.now.force c.args.settings.now.mailer) c.reach.new.reached c.in-Some.ready c.args.progress.now c.make_ready.new.progress c.carry_out.new.progress _ _ _ _ (c.reach.ensures ∙ ap Some c.requires.told) r c.requires.seen c.carry_out.ensures.told
+
+pub returns-in-None-clause-anew : goal.returns-in-None-clause-anew
+returns-in-None-clause-anew g c = no_anew c.add_too_big.result c.args.reached.now c.add_too_big.new.faults.items _ c.requires.none

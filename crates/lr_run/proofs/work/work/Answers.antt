@@ -2,6 +2,7 @@ use Rattle.std.proofs.Common.{◌∙◌, Ok, Err, ap}
 use Rattle.lr_plan.specs.Asked.{asking}
 use Rattle.lr_run.proofs.Works.{none_seen, some_read, known_done, behind_state, unknown_done, unknown_counted}
 use Rattle.lr_run.proofs.Taken.{taken_behind, none_adds}
+use Rattle.lr_run.proofs.Anew.{none_anew}
 use Rattle.lr_run.proofs.work.work.Goals as goal
 
 pub returns-in_err-part-clause-some : goal.returns-in_err-part-clause-some
@@ -30,3 +31,6 @@ returns-in-Ok-clause-taken g c = taken_behind c.look_and_act.result c.args.setti
 
 pub returns-in-Err-clause-taken : goal.returns-in-Err-clause-taken
 returns-in-Err-clause-taken g c = none_adds c.args.settings.now.state c.args.reached.now c.args.progress.now.faults.items c.add_unknown.new.faults.items _ _ _ c.requires.none c.add_unknown.ensures.faults
+
+pub returns-in-Err-clause-anew : goal.returns-in-Err-clause-anew
+returns-in-Err-clause-anew g c = none_anew c.args.reached.now c.add_unknown.new.faults.items _ c.requires.none
