@@ -138,13 +138,14 @@ step_failed step f x y {o = o} {n = n} {a = a} {b = b} ms fs l cause onward = re
 -- ---- room
 
 pub room_part : (m n k : ℕ) (x : Progress) → m + n ≤ k → HasRoom k x → HasRoom m x
-room_part m n k x e r = record { marks = omega (arith, e, r.marks); faults = omega (arith, e, r.faults); buffer = r.buffer }
+room_part m n k x e r = record { marks = omega (arith, e, r.marks); faults = omega (arith, e, r.faults); buffer = r.buffer; short = r.short }
 
 pub room_rest : (m n k : ℕ) (x y : Progress) → m + n ≤ k → HasRoom k x → Fills m x y → HasRoom n y
 room_rest m n k x y e r f = record {
   marks = omega (arith, e, r.marks, f.marks, f.marks_room);
   faults = omega (arith, e, r.faults, f.faults, f.faults_room);
   buffer = omega (arith, r.buffer, f.buffer);
+  short = omega (arith, r.short, f.buffer);
 }
 
 pub fills_none : (x : Progress) → Fills 0 x x

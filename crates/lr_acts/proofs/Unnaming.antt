@@ -51,7 +51,7 @@ module _ (P : Entry → Type 0) (other : (e : Entry) → unnames e ≡ false →
   each_made (step.Renames from to) ts k w = each_one P w k
   each_made (step.Creates path mode) ts k w = each_maybe P (Makes path mode) w (other _ refl)
   each_made (step.Takes path mode) ts k w = each_one P w (other _ refl)
-  each_made (step.Copies from to limit) ts k w = each_all P from to (λ k piece. other _ refl) (λ piece. other _ refl) limit w.0 ts w.1
+  each_made (step.Copies from to limit) ts k w = each_all P from to (λ k piece short. other _ refl) (λ piece. other _ refl) limit w.0 ts w.1
   each_made (step.Appends path text) ts k w = appended_each path text ts w
   each_made (step.SyncsFile path) ts k w = each_one P w (other _ refl)
   each_made (step.SyncsDir path) ts k w = each_one P w (other _ refl)
@@ -76,7 +76,7 @@ module _ (P : Entry → Type 0) (other : (e : Entry) → unnames e ≡ false →
   each_failed (step.Renames from to) f ts k h = each_maybe P (Renames from to) h.1 k
   each_failed (step.Creates path mode) f ts k h = each_maybe P (Makes path mode) h.1 (other _ refl)
   each_failed (step.Takes path mode) f ts k h = ⊎_elim (λ c. each_maybe P (Makes path mode) c.1 (other _ refl)) (λ taken. each_none P taken.1) h
-  each_failed (step.Copies from to limit) f ts k h = each_broke P from to (λ k piece. other _ refl) (λ piece. other _ refl) limit h.0 ts h.2
+  each_failed (step.Copies from to limit) f ts k h = each_broke P from to (λ k piece short. other _ refl) (λ piece. other _ refl) limit h.0 ts h.2
   each_failed (step.Appends path text) f ts k h = append_broke_each path text ts h.1
   each_failed (step.SyncsFile path) f ts k h = each_maybe P (entry.SyncsFile path) h.1 (other _ refl)
   each_failed (step.SyncsDir path) f ts k h = each_maybe P (entry.SyncsDir path) h.1 (other _ refl)

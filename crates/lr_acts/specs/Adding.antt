@@ -24,11 +24,12 @@ pub record Adds (P : Part) (steps : List Step) (before now : Progress) (told lat
   pub names : KeepsNames steps marks told later
   pub onward : Onward counted counts
 
--- there is room for so many marks, and for so many faults, and a buffer
+-- there is room for so many marks, and for so many faults, and a buffer of 65,536 bytes at most
 pub record HasRoom (n : ℕ) (progress : Progress) : Type 0 where
   pub marks : vec_len progress.marks + n ≤ vec_capacity progress.marks
   pub faults : vec_len progress.faults + n ≤ vec_capacity progress.faults
   pub buffer : 0 < vec_len progress.buffer
+  pub short : vec_len progress.buffer ≤ 65536
 
 -- at most so many of each were added, and the buffer has its length still
 pub record Fills (n : ℕ) (before now : Progress) : Type 0 where

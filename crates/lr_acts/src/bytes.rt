@@ -24,7 +24,7 @@ fn bytes_fault(from: Path, to: Path, why: BytesStop) -> Fault
     }
 }
 
-/// Copies all bytes of a file behind those of another, through the buffer.
+/// Copies all bytes of a file behind those of another, through the buffer, of 65,536 bytes at most.
 pub fn copy_file<H: Host>(
     host: &mut H,
     from: Path,
@@ -33,6 +33,7 @@ pub fn copy_file<H: Host>(
     buffer: &mut [u8],
 ) -> Result<Option<Mark>, Stop>
     requires room { 0 < length buffer.old }
+    requires short { length buffer.old ≤ 65536 }
     requires read { Can (H.told host.old) (entry.Reads from 0 []) }
     requires append { Can (H.told host.old) (entry.Appends to []) }
     ensures told { Left (StepLeft (step.Copies from to limit) result) (H.told host.old) (H.told host.new) }

@@ -19,7 +19,7 @@ use lr_host::Host;
 use lr_plan::{Mark, Step};
 use std::alloc::Global;
 
-/// Makes one step, a copy through the buffer; the answer is what it tells the steps behind it, if anything. Only a program
+/// Makes one step, a copy through the buffer, of 65,536 bytes at most; the answer is what it tells the steps behind it, if anything. Only a program
 /// takes memory.
 pub fn make<H: Host>(
     alloc: Global,
@@ -28,6 +28,7 @@ pub fn make<H: Host>(
     buffer: &mut [u8],
 ) -> Result<Option<Mark>, Stop>
     requires room { 0 < length buffer.old }
+    requires short { length buffer.old ≤ 65536 }
     requires fits { CanAll (H.told host.old) (asks step) }
     ensures told { Left (StepLeft step result) (H.told host.old) (H.told host.new) }
     ensures marks { IfOk result (λ told. list_of told ≡ marks_of step) }

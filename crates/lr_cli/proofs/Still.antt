@@ -135,7 +135,7 @@ lacking_still = lacking_so IsStill (λ x seen. tt) (λ x names. tt) (λ x from p
 -- a run that broke off while it looked
 looks_still : (state : Path) (clock : Clock) (rules : Rules) (ts : List Entry) → Inside state clock rules (SomeSeen state rules.sets) ts → AreStill ts
 looks_still state clock rules ts i = subst AreStill (sym i.entries) (each_append IsStill i.before (entry.Starts state clock.now rules ∷ (i.between ++ entry.Ends ∷ [])) (sees_still (parent_of state) IsDir i.before i.directory)
-    (tt, each_append IsStill i.between (entry.Ends ∷ []) (some_so IsStill (λ x seen. tt) (λ x names. tt) (λ x place piece. tt) state rules.sets i.between i.within) (tt, tt)))
+    (tt, each_append IsStill i.between (entry.Ends ∷ []) (some_so IsStill (λ x seen. tt) (λ x names. tt) (λ x place piece short. tt) state rules.sets i.between i.within) (tt, tt)))
 
 -- ---- a call
 
@@ -169,7 +169,7 @@ module _ (here : Path) (words : List (List ℕ)) (zone : Zone) (seconds : ℤ) w
     where
       go : (b : Bool) → Lacks b request.state (asking request.force request.mailer) clock rules acts → WasShort here words zone seconds ts
       go true l = all_still (subst AreStill (sym joined) (each_append IsStill front us (clock_still zone seconds clock front shown) (subst AreStill (sym parts) (each_append IsStill reads acts (confs_still request.confs meaning reads of_confs)
-          (lacks_so IsStill (λ x seen. tt) (λ x names. tt) (λ x place piece. tt) request.state rules.sets acts l)))))
+          (lacks_so IsStill (λ x seen. tt) (λ x names. tt) (λ x place piece short. tt) request.state rules.sets acts l)))))
       go false l = run_short request asked clock meaning rules ts us reads acts front same joined parts shown of_confs l
 
   lacks_short : (request : Request) → AskFor here words request → (clock : Clock) (ts us front : List Entry) → ts ≡ front ++ us → ShowsClock zone seconds clock front → LacksMemory request clock us → WasShort here words zone seconds ts
@@ -218,7 +218,7 @@ module _ (here : Path) (words : List (List ℕ)) (zone : Zone) (seconds : ℤ) w
 
     answers_dry : (request : Request) (clock : Clock) (plan : Option Plan) (outcome : Outcome) (ts : List Entry) → request.debug ≡ true → Answers request clock plan outcome ts → Each P ts
     answers_dry request clock plan (Done report) ts dry h = then_so P look reads _ _ ts (λ us r. confs_so request.confs h.meaning us r)
-        (λ us r. tries_so P look list reads request.state h.rules.sets clock (asking request.force request.mailer) plan h.own us (subst (λ (b : Bool). Leaves b request.state (asking request.force request.mailer) clock h.rules plan h.own us) dry r)) h.entries
+        (λ us r. tries_so P look list (λ x place piece short. reads x place piece) request.state h.rules.sets clock (asking request.force request.mailer) plan h.own us (subst (λ (b : Bool). Leaves b request.state (asking request.force request.mailer) clock h.rules plan h.own us) dry r)) h.entries
     answers_dry request clock plan Held ts dry h = then_so P look reads _ _ ts (λ us r. confs_so request.confs h.1.meaning us r) (λ us r. absurd (subst (λ (b : Bool). Holds b request.state us) dry r)) h.1.entries
     answers_dry request clock plan BadWords ts dry h = absurd h
     answers_dry request clock plan OutOfMemory ts dry h = go h.1
@@ -227,7 +227,7 @@ module _ (here : Path) (words : List (List ℕ)) (zone : Zone) (seconds : ℤ) w
         go (at_first none) = none_so P look reads ts none
         go (at_confs l) = lacking_so P look list (λ x from piece le. reads x from piece) request.confs ts l
         go (at_run meaning rules same t) = then_so P look reads _ _ ts (λ us r. confs_so request.confs meaning us r)
-            (λ us r. lacks_so P look list reads request.state rules.sets us (subst (λ (b : Bool). Lacks b request.state (asking request.force request.mailer) clock rules us) dry r)) t
+            (λ us r. lacks_so P look list (λ x place piece short. reads x place piece) request.state rules.sets us (subst (λ (b : Bool). Lacks b request.state (asking request.force request.mailer) clock rules us) dry r)) t
 
     at_dry : (request : Request) (plan : Option Plan) (outcome : Outcome) (ts : List Entry) → request.debug ≡ true → AnswersAt request zone seconds plan outcome ts → Each P ts
     at_dry request plan outcome ts dry (no_clock f lost is l) = lost_clock_so f ts l

@@ -31,7 +31,7 @@ no_cut_opening job = each_append EmptiesNone (clearing job) (entry.Makes job.par
 
 no_cut_filling : (job : Job) (count : ℕ) (ts : List Entry) → Fills job count ts → Each EmptiesNone ts
 no_cut_filling job count ts f = subst (Each EmptiesNone) (sym f.joined)
-    (each_append EmptiesNone f.front f.back (each_all EmptiesNone job.from job.part (λ k piece. tt) (λ piece. tt) job.limit count f.front f.first) (subst (Each EmptiesNone) (sym f.second) (tt, tt)))
+    (each_append EmptiesNone f.front f.back (each_all EmptiesNone job.from job.part (λ k piece short. tt) (λ piece. tt) job.limit count f.front f.first) (subst (Each EmptiesNone) (sym f.second) (tt, tt)))
 
 -- it stands last
 ends_there : (b : Bool) (e : Entry) (ns xs ys : List Entry) → (EmptiesNone e → ⊥) → Each EmptiesNone ns → ns ++ cond b (e ∷ []) [] ≡ xs ++ (e ∷ ys) → xs ≡ ns

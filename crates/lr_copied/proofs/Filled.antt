@@ -160,7 +160,7 @@ module _ (P : Path → Type 0) (from part : Path) (h : ℕ) (far : (y : Path) �
   -- the whole copying
   pub under_copies : (bytes owed : List ℕ) (ts : List Entry) → Copying from part bytes owed ts → (p q : Past) → IsJournal p → Made p (reverse ts) q → AttachedOnlySince P p q → IsOwn part h [] p → Under bytes owed q
   under_copies _ _ _ none_read p q j m only own = under_waits [] [] p q j m only (not_read refl refl own)
-  under_copies _ _ _ (read_more {bytes = bytes} {ts = ts} c piece some) p q j m only own =
+  under_copies _ _ _ (read_more {bytes = bytes} {ts = ts} c piece some short) p q j m only own =
       let e = entry.Reads from (length bytes) piece in
       let a = at P p q ts e [] tt m only in
       let k : IsJournal a.mid = made_journal p a.mid (reverse ts) a.first j in

@@ -1,5 +1,5 @@
 -- What holds of each entry of a copy of bytes.
-use Rattle.std.proofs.Common.{⊎_elim, sym, subst, ℕ, List, [], ◌∷◌, ◌++◌, length}
+use Rattle.std.proofs.Common.{⊎_elim, sym, subst, ℕ, ◌≤◌, arith, List, [], ◌∷◌, ◌++◌, length}
 use Rattle.lr_rules.specs.declared.path.Path.{Path}
 use Rattle.lr_host.specs.declared.entry.Entry.{Entry}
 use Rattle.lr_host.specs.declared.entry.Entry.TheVariants.{Reads, Appends}
@@ -15,10 +15,10 @@ each_both P Q R ts f g h = subst (Each P) (sym h.joined) (each_append P h.front 
 pub each_are : (P : Entry → Type 0) (es ts : List Entry) → Each P es → Are es ts → Each P ts
 each_are P es ts a is = subst (Each P) (sym is) a
 
-module _ (P : Entry → Type 0) (from to : Path) (reads : (k : ℕ) (piece : List ℕ) → P (Reads from k piece)) (appends : (piece : List ℕ) → P (Appends to piece)) where
+module _ (P : Entry → Type 0) (from to : Path) (reads : (k : ℕ) (piece : List ℕ) → length piece ≤ 65536 → P (Reads from k piece)) (appends : (piece : List ℕ) → P (Appends to piece)) where
   pub each_copying : (bytes owed : List ℕ) (ts : List Entry) → Copying from to bytes owed ts → Each P ts
   each_copying _ _ _ none_read = tt
-  each_copying _ _ _ (read_more {bytes = bytes} {ts = ts} c piece some) = each_append P ts (Reads from (length bytes) piece ∷ []) (each_copying bytes [] ts c) (reads (length bytes) piece, tt)
+  each_copying _ _ _ (read_more {bytes = bytes} {ts = ts} c piece some short) = each_append P ts (Reads from (length bytes) piece ∷ []) (each_copying bytes [] ts c) (reads (length bytes) piece short, tt)
   each_copying bytes owed _ (took_more {ts = ts} piece _ c) = each_append P ts (Appends to piece ∷ []) (each_copying bytes (piece ++ owed) ts c) (appends piece, tt)
 
   each_part : (owed : List ℕ) (ts : List Entry) → TakesPart to owed ts → Each P ts
@@ -26,7 +26,7 @@ module _ (P : Entry → Type 0) (from to : Path) (reads : (k : ℕ) (piece : Lis
 
   -- of all bytes
   pub each_all : (limit count : ℕ) (ts : List Entry) → AllBytes from to limit count ts → Each P ts
-  each_all limit count ts c = each_both P (Copying from to c.bytes []) (Are (Reads from (length c.bytes) [] ∷ [])) ts (λ us h. each_copying c.bytes [] us h) (λ us is. each_are P (Reads from (length c.bytes) [] ∷ []) us (reads (length c.bytes) [], tt) is) c.entries
+  each_all limit count ts c = each_both P (Copying from to c.bytes []) (Are (Reads from (length c.bytes) [] ∷ [])) ts (λ us h. each_copying c.bytes [] us h) (λ us is. each_are P (Reads from (length c.bytes) [] ∷ []) us (reads (length c.bytes) [] (omega arith), tt) is) c.entries
 
   -- of those up to where it broke off
   pub each_broke : (limit : ℕ) (why : BytesStop) (ts : List Entry) → BytesBroke from to limit why ts → Each P ts

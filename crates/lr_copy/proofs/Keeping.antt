@@ -29,7 +29,7 @@ module _ (job : Job) (P : Entry → Type 0) (unlinks : P (Unlinks job.part)) (ma
   opens = each_append P (clearing job) (Makes job.part job.mode ∷ []) clears (makes, tt)
 
   copies : (count : ℕ) (ts : List Entry) → Copies job count ts → Each P ts
-  copies count ts c = each_all P job.from job.part reads appends job.limit count ts c
+  copies count ts c = each_all P job.from job.part (λ k piece short. reads k piece) appends job.limit count ts c
 
   fills : (count : ℕ) (ts : List Entry) → Fills job count ts → Each P ts
   fills count ts f = each_both P (Copies job count) (Are (SyncsFile job.part ∷ [])) ts (λ us h. copies count us h) (λ us is. each_are P (SyncsFile job.part ∷ []) us (syncs, tt) is) f
@@ -41,9 +41,9 @@ module _ (job : Job) (P : Entry → Type 0) (unlinks : P (Unlinks job.part)) (ma
   open_stops _ ts h = absurd h
 
   fill_stops : (why : CopyStop) (ts : List Entry) → FillStopped job why ts → Each P ts
-  fill_stops (stop.Call call.Read path) ts h = each_broke P job.from job.part reads appends job.limit broke.Read ts h.1
-  fill_stops (stop.Call call.Append path) ts h = each_broke P job.from job.part reads appends job.limit broke.Append ts h.1
-  fill_stops (stop.TooLong path) ts h = each_broke P job.from job.part reads appends job.limit broke.TooLong ts h.1
+  fill_stops (stop.Call call.Read path) ts h = each_broke P job.from job.part (λ k piece short. reads k piece) appends job.limit broke.Read ts h.1
+  fill_stops (stop.Call call.Append path) ts h = each_broke P job.from job.part (λ k piece short. reads k piece) appends job.limit broke.Append ts h.1
+  fill_stops (stop.TooLong path) ts h = each_broke P job.from job.part (λ k piece short. reads k piece) appends job.limit broke.TooLong ts h.1
   fill_stops (stop.Call call.Sync path) ts h = each_both P (Copies job h.1.0) (Maybe (SyncsFile job.part)) ts (λ us c. copies h.1.0 us c) (λ us m. each_maybe P (SyncsFile job.part) us syncs m) h.1.1
   fill_stops _ ts h = absurd h
 

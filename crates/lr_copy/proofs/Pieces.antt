@@ -61,8 +61,8 @@ pub owes_first : (from to : Path) (o : Option Journal) → Left (Owes from to 0 
 owes_first from to o = left_first (Owes from to 0 []) o ([], refl, none_read)
 
 -- a read gave bytes
-pub owes_more : (from to : Path) (count more : ℕ) (into : List ℕ) {o m n : Option Journal} → more ≤ length into → (more ≡ 0 → ⊥) → Left (Owes from to count []) o m → Left (λ ts. ts ≡ Reads from count (take more into) ∷ []) m n → Left (Owes from to (count + more) (take more into)) o n
-owes_more from to count more into le some l r = left_then l r (λ ts us h e. (h.0 ++ take more into, longer h.0 h.1, subst (λ (vs : List Entry). Copying from to (h.0 ++ take more into) (take more into) (ts ++ vs)) (sym (at_end h.0 us h.1 e)) (read_more h.2 (take more into) (λ none. some (sym long ∙ ap length none)))))
+pub owes_more : (from to : Path) (count more : ℕ) (into : List ℕ) {o m n : Option Journal} → more ≤ length into → length into ≤ 65536 → (more ≡ 0 → ⊥) → Left (Owes from to count []) o m → Left (λ ts. ts ≡ Reads from count (take more into) ∷ []) m n → Left (Owes from to (count + more) (take more into)) o n
+owes_more from to count more into le small some l r = left_then l r (λ ts us h e. (h.0 ++ take more into, longer h.0 h.1, subst (λ (vs : List Entry). Copying from to (h.0 ++ take more into) (take more into) (ts ++ vs)) (sym (at_end h.0 us h.1 e)) (read_more h.2 (take more into) (λ none. some (sym long ∙ ap length none)) (omega (arith, long, le, small)))))
   where
     long : length (take more into) ≡ more
     long = length-take-le more into le
@@ -112,7 +112,7 @@ copies_all from to limit count more into le none l r = left_then l r (λ ts us h
 -- neither reads nor appends name anything
 copying_names : (from to : Path) (bytes owed : List ℕ) (ts : List Entry) → Copying from to bytes owed ts → filter is_naming ts ≡ []
 copying_names from to _ _ _ none_read = refl
-copying_names from to _ _ _ (read_more {bytes = bytes} {ts = ts} c piece some) = named_both ts (Reads from (length bytes) piece ∷ []) (copying_names from to bytes [] ts c) refl
+copying_names from to _ _ _ (read_more {bytes = bytes} {ts = ts} c piece some short) = named_both ts (Reads from (length bytes) piece ∷ []) (copying_names from to bytes [] ts c) refl
 copying_names from to bytes owed _ (took_more {ts = ts} piece _ c) = named_both ts (Appends to piece ∷ []) (copying_names from to bytes (piece ++ owed) ts c) refl
 
 pub all_name_none : (from to : Path) (limit count : ℕ) (ts : List Entry) → AllBytes from to limit count ts → filter is_naming ts ≡ []
@@ -136,7 +136,7 @@ joined_both place (_ ∷ xs) ys a b = joined_both place xs ys a b
 
 pub shows : (from to : Path) (bytes owed : List ℕ) (ts : List Entry) → Copying from to bytes owed ts → (text ts ≡ bytes) × AreJoined 0 ts × (appended ts ++ owed ≡ bytes)
 shows from to _ _ _ none_read = (refl, tt, refl)
-shows from to _ _ _ (read_more {bytes = bytes} {ts = ts} c piece some) =
+shows from to _ _ _ (read_more {bytes = bytes} {ts = ts} c piece some short) =
     let h = shows from to bytes [] ts c in
     let e = Reads from (length bytes) piece in (
       text_both ts (e ∷ []) ∙ (ap (λ xs. text ts ++ xs) (append-nil piece) ∙ ap (λ xs. xs ++ piece) h.0),

@@ -13,10 +13,10 @@ appended [] = []
 appended (Appends x piece ∷ ts) = piece ++ appended ts
 appended (_ ∷ ts) = appended ts
 
--- Of the one path these bytes were read, from its first byte on, each piece behind the end of the one before; and before each further read all of them were appended to the other, in pieces. Now they are, but for those at the end that are owed.
+-- Of the one path these bytes were read, from its first byte on, in pieces of 65,536 bytes at most, each behind the end of the one before; and before each further read all of them were appended to the other, in pieces. Now they are, but for those at the end that are owed.
 pub data Copying (from to : Path) : List ℕ → List ℕ → List Entry → Type 0 where
   none_read : Copying from to [] [] []
-  read_more : {bytes : List ℕ} {ts : List Entry} → Copying from to bytes [] ts → (piece : List ℕ) → piece ≢ [] → Copying from to (bytes ++ piece) piece (ts ++ Reads from (length bytes) piece ∷ [])
+  read_more : {bytes : List ℕ} {ts : List Entry} → Copying from to bytes [] ts → (piece : List ℕ) → piece ≢ [] → length piece ≤ 65536 → Copying from to (bytes ++ piece) piece (ts ++ Reads from (length bytes) piece ∷ [])
   took_more : {bytes : List ℕ} {ts : List Entry} (piece owed : List ℕ) → Copying from to bytes (piece ++ owed) ts → Copying from to bytes owed (ts ++ Appends to piece ∷ [])
 
 -- a first part of what was owed was appended, in pieces, and this is left of it

@@ -1,5 +1,5 @@
 // The bytes of a file, read and put behind those of another through a buffer.
-ghost use Rattle.std.specs.Prelude.{◌<◌, [], length, OnOk, OnErr, IfOk, IfErr};
+ghost use Rattle.std.specs.Prelude.{◌<◌, ◌≤◌, [], length, OnOk, OnErr, IfOk, IfErr};
 ghost use Rattle.lr_host.specs.declared.entry.Entry.TheVariants as entry;
 ghost use Rattle.lr_host.specs.Told.{Left, Can, Onward, Rose};
 ghost use Rattle.lr_copy.specs.Bytes.{Takes, TakesBroke, AllBytes, BytesBroke, BytesCause};
@@ -26,8 +26,8 @@ fn append_all<H: Host>(host: &mut H, path: &Path, bytes: &[u8]) -> Result<(), Ca
     Ok(())
 }
 
-/// Reads a file from its first byte on, and puts what was read behind the bytes of another, through the buffer, up to a read
-/// that gives nothing; the answer is how many bytes that were. What fails leaves the rest undone: a read (`Read`), an append,
+/// Reads a file from its first byte on, and puts what was read behind the bytes of another, through the buffer, of 65,536
+/// bytes at most, up to a read that gives nothing; the answer is how many bytes that were. What fails leaves the rest undone: a read (`Read`), an append,
 /// of which a first part may stand (`Append`), or more bytes than the limit (`TooLong`). It takes no memory.
 pub fn copy_bytes<H: Host>(
     host: &mut H,
@@ -37,6 +37,7 @@ pub fn copy_bytes<H: Host>(
     buffer: &mut [u8],
 ) -> Result<u64, BytesStop>
     requires room { 0 < length buffer.old }
+    requires short { length buffer.old ≤ 65536 }
     requires read { Can (H.told host.old) (entry.Reads from.now 0 []) }
     requires append { Can (H.told host.old) (entry.Appends to.now []) }
     ensures told { IfOk result (λ count. Left (AllBytes from.now to.now limit count) (H.told host.old) (H.told host.new)) }

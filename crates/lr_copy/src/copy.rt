@@ -1,5 +1,5 @@
 // The copy of a log.
-ghost use Rattle.std.specs.Prelude.{◌<◌, length, IfOk, IfErr};
+ghost use Rattle.std.specs.Prelude.{◌<◌, ◌≤◌, length, IfOk, IfErr};
 ghost use Rattle.lr_host.specs.Told.{Left, Onward};
 ghost use Rattle.lr_copy.specs.Copying.{Copied};
 ghost use Rattle.lr_copy.specs.Fits.{ArePaths, CanCopy};
@@ -11,7 +11,7 @@ use crate::opening::{fill_part, open_part};
 use lr_host::Host;
 
 /// Copies the log: an old part file that was seen is unlinked, a new one of this mode is made and gets the bytes of the log,
-/// through the buffer, up to a read that gives nothing; it is synced, gets the final path, and the directory is synced; then
+/// through the buffer, of 65,536 bytes at most, up to a read that gives nothing; it is synced, gets the final path, and the directory is synced; then
 /// the log is emptied, where that is asked for. The answer is how many bytes were copied. It takes no memory. What fails
 /// leaves the rest undone: a call with or without its effect (`Call`); a part file's path that is named (`Taken`); more bytes
 /// than the limit (`TooLong`). So the log is whole after each refusal but that of its truncation.
@@ -21,6 +21,7 @@ pub fn copy_out<'a, H: Host>(
     buffer: &mut [u8],
 ) -> Result<u64, CopyStop<'a>>
     requires room { 0 < length buffer.old }
+    requires short { length buffer.old ≤ 65536 }
     requires paths { ArePaths job.now }
     requires fits { CanCopy (H.told host.old) job.now }
     ensures told { IfOk result (λ count. Left (Copied job.now count) (H.told host.old) (H.told host.new)) }

@@ -1,5 +1,5 @@
 // The part file, from its making up to its sync.
-ghost use Rattle.std.specs.Prelude.{◌<◌, length, OnOk, IfOk, IfErr};
+ghost use Rattle.std.specs.Prelude.{◌<◌, ◌≤◌, length, OnOk, IfOk, IfErr};
 ghost use Rattle.lr_host.specs.Told.{Left, Are, Onward};
 ghost use Rattle.lr_copy.specs.Copying.{clearing, opening, Copies, Fills};
 ghost use Rattle.lr_copy.specs.Fits.{ArePaths, CanCopy, CanOpen, CanName};
@@ -58,6 +58,7 @@ fn fill_bytes<'a, H: Host>(
     buffer: &mut [u8],
 ) -> Result<u64, CopyStop<'a>>
     requires room { 0 < length buffer.old }
+    requires short { length buffer.old ≤ 65536 }
     requires fits { CanName (H.told host.old) job.now }
     ensures told { IfOk result (λ count. Left (Copies job.now count) (H.told host.old) (H.told host.new)) }
     ensures next { OnOk result (CanName (H.told host.new) job.now) }
@@ -81,6 +82,7 @@ pub fn fill_part<'a, H: Host>(
     buffer: &mut [u8],
 ) -> Result<u64, CopyStop<'a>>
     requires room { 0 < length buffer.old }
+    requires short { length buffer.old ≤ 65536 }
     requires fits { CanName (H.told host.old) job.now }
     ensures told { IfOk result (λ count. Left (Fills job.now count) (H.told host.old) (H.told host.new)) }
     ensures next { OnOk result (CanName (H.told host.new) job.now) }

@@ -122,10 +122,10 @@ bytes_told from to broke.TooLong f e z = e
 
 -- by them no program is run, no directory is made, and nothing is looked at
 bytes_none : (from to : Path) (limit count : ℕ) (ts : List Entry) → AllBytes from to limit count ts → ends_in ts ≡ []
-bytes_none from to limit count ts w = none_pass shows_end ts (each_all (λ e. shows_end e ≡ false) from to (λ k piece. refl) (λ piece. refl) limit count ts w)
+bytes_none from to limit count ts w = none_pass shows_end ts (each_all (λ e. shows_end e ≡ false) from to (λ k piece short. refl) (λ piece. refl) limit count ts w)
 
 broke_none : (from to : Path) (limit : ℕ) (why : BytesStop) (ts : List Entry) → BytesBroke from to limit why ts → ends_in ts ≡ []
-broke_none from to limit why ts w = none_pass shows_end ts (each_broke (λ e. shows_end e ≡ false) from to (λ k piece. refl) (λ piece. refl) limit why ts w)
+broke_none from to limit why ts w = none_pass shows_end ts (each_broke (λ e. shows_end e ≡ false) from to (λ k piece short. refl) (λ piece. refl) limit why ts w)
 
 -- ---- one step
 

@@ -173,10 +173,10 @@ append_only : (from to : Path) (piece : List ℕ) → ShowsOnly (WasRead from �
 append_only from to piece k i = absurd i
 
 all_left : (from to : Path) (limit count : ℕ) (ts : List Entry) → AllBytes from to limit count ts → (k : Key) → IsIn k (shown ts) → IsIn k (WasRead from ∷ [])
-all_left from to limit count ts w = each_shown (WasRead from ∷ []) ts (each_all (ShowsOnly (WasRead from ∷ [])) from to (read_only from) (append_only from to) limit count ts w)
+all_left from to limit count ts w = each_shown (WasRead from ∷ []) ts (each_all (ShowsOnly (WasRead from ∷ [])) from to (λ k piece short. read_only from k piece) (append_only from to) limit count ts w)
 
 broke_left : (from to : Path) (limit : ℕ) (why : BytesStop) (ts : List Entry) → BytesBroke from to limit why ts → (k : Key) → IsIn k (shown ts) → IsIn k (WasRead from ∷ [])
-broke_left from to limit why ts w = each_shown (WasRead from ∷ []) ts (each_broke (ShowsOnly (WasRead from ∷ [])) from to (read_only from) (append_only from to) limit why ts w)
+broke_left from to limit why ts w = each_shown (WasRead from ∷ []) ts (each_broke (ShowsOnly (WasRead from ∷ [])) from to (λ k piece short. read_only from k piece) (append_only from to) limit why ts w)
 
 -- a read that gave something didn't find the end
 some_read : (from : Path) (piece : List ℕ) → piece ≢ [] → read_by from piece ≡ []
@@ -186,7 +186,7 @@ some_read from (b ∷ bs) some = refl
 -- while bytes come, none did
 copying_none : (from to : Path) (bytes owed : List ℕ) (ts : List Entry) → Copying from to bytes owed ts → shown ts ≡ []
 copying_none from to _ _ _ none_read = refl
-copying_none from to _ _ _ (read_more {bytes = bytes} {ts = ts} c piece some) =
+copying_none from to _ _ _ (read_more {bytes = bytes} {ts = ts} c piece some short) =
     flat_map-append shown_by ts (entry.Reads from _ piece ∷ []) ∙ (ap (λ ks. ks ++ shown (entry.Reads from 0 piece ∷ [])) (copying_none from to bytes [] ts c) ∙ ap (λ (ks : List Key). ks ++ []) (some_read from piece some))
 copying_none from to bytes owed _ (took_more {ts = ts} piece _ c) =
     flat_map-append shown_by ts (entry.Appends to piece ∷ []) ∙ ap (λ (ks : List Key). ks ++ []) (copying_none from to bytes (piece ++ owed) ts c)

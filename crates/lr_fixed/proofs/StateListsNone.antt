@@ -13,8 +13,8 @@ use Rattle.lr_run.proofs.Stating.{IsWrite, IsWriting, state_writing}
 use Rattle.lr_fixed.proofs.CountedListings.{IsNoListing, AreNoListings}
 use Rattle.lr_fixed.proofs.Ends.{shows_end, ends_in}
 
-pub state_read_none : (state : Path) (size : ℕ) (s : StateSights) (ts : List Entry) → ShowsState state size s ts → AreNoListings ts
-state_read_none = state_so IsNoListing (λ x seen. tt) (λ x place piece. tt)
+pub state_read_none : (state : Path) (s : StateSights) (ts : List Entry) → ShowsState state 65_536 s ts → AreNoListings ts
+state_read_none = state_so IsNoListing (λ x seen. tt) (λ x place piece short. tt)
 
 no_listing : (e : Entry) → IsWrite e → IsNoListing e
 no_listing (entry.List dir names) i = absurd i

@@ -26,7 +26,7 @@ use Rattle.lr_weave.proofs.Whole.{one_none, nil_split}
 -- reads and appends are no acts
 copying_none : (from to : Path) (bytes owed : List ℕ) (ts : List Entry) → Copying from to bytes owed ts → filter is_act ts ≡ []
 copying_none from to _ _ _ none_read = refl
-copying_none from to _ _ _ (read_more {bytes = bytes} {ts = ts} c piece some) = filter-append is_act ts (entry.Reads from (length bytes) piece ∷ []) ∙ (append-nil (filter is_act ts) ∙ copying_none from to bytes [] ts c)
+copying_none from to _ _ _ (read_more {bytes = bytes} {ts = ts} c piece some short) = filter-append is_act ts (entry.Reads from (length bytes) piece ∷ []) ∙ (append-nil (filter is_act ts) ∙ copying_none from to bytes [] ts c)
 copying_none from to bytes _ _ (took_more {ts = ts} piece owed c) = filter-append is_act ts (entry.Appends to piece ∷ []) ∙ (append-nil (filter is_act ts) ∙ copying_none from to bytes (piece ++ owed) ts c)
 
 copied_none : (from to : Path) (limit count : ℕ) (ts : List Entry) → AllBytes from to limit count ts → filter is_act ts ≡ []

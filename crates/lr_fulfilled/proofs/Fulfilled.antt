@@ -116,7 +116,7 @@ module _ (state : Path) (asked : Asked) (clock : Clock) (rules : Rules) (own : L
   run_sees = subst AreSights (sym i.directory.look) (tt, tt)
 
   looks_see : AreSights (l.reads ++ l.looks)
-  looks_see = seen_so IsSight (λ x seen. tt) (λ x names. tt) (λ x from piece. tt) state rules.sets i.between l
+  looks_see = seen_so IsSight (λ x seen. tt) (λ x names. tt) (λ x from piece short. tt) state rules.sets i.between l
 
   acts_of : filter is_act (reverse es) ≡ filter is_act l.acts
   acts_of =

@@ -1,5 +1,5 @@
 // The copy of a log.
-ghost use Rattle.std.specs.Prelude.{◌≡◌, ◌<◌, length, true, Some, OnOk, IfOk};
+ghost use Rattle.std.specs.Prelude.{◌≡◌, ◌<◌, ◌≤◌, length, true, Some, OnOk, IfOk};
 ghost use Rattle.lr_rules.specs.Path.{parent_of};
 ghost use Rattle.lr_host.specs.World.{world, past, names};
 ghost use Rattle.lr_host.specs.Fits.{IsFileAt};
@@ -33,7 +33,7 @@ fn behind(cursor: &mut Cursor, word: &[u8], otherwise: u64) -> Result<u64, Troub
 }
 
 fn buffer_size(cursor: &mut Cursor) -> Result<usize, Trouble>
-    ensures { IfOk result (λ size. 0 < size) }
+    ensures { IfOk result (λ size. (0 < size) × (size ≤ 65536)) }
 {
     let size = behind(cursor, b"buffer", 65_536)?;
     if size == 0 || size > 65_536 {
@@ -43,7 +43,7 @@ fn buffer_size(cursor: &mut Cursor) -> Result<usize, Trouble>
 }
 
 fn manner(cursor: &mut Cursor) -> Result<Wanted, Trouble>
-    ensures { IfOk result (λ manner. 0 < manner.buffer) }
+    ensures { IfOk result (λ manner. (0 < manner.buffer) × (manner.buffer ≤ 65536)) }
 {
     let stale = cursor.takes(b"stale");
     let cut = cursor.takes(b"cut");
@@ -134,6 +134,7 @@ fn copied(
 ) -> Result<Vec<u8>, Trouble>
     requires dir { job.now.dir ≡ parent_of job.now.to }
     requires room { 0 < length buffer.old }
+    requires short { length buffer.old ≤ 65536 }
 {
     are_paths(alloc, job)?;
     is_there(host, job)?;

@@ -1,5 +1,5 @@
 -- A dry run, put together of its parts.
-use Rattle.std.proofs.Common.{◌≡◌, ℕ, Bool, true, false, List, [], ◌∷◌, ◌++◌, length, Option, Some, None, Result, Ok, Err, OnOk, OnErr, IfOk, refl, sym, ap, ◌∙◌, subst, append_assoc}
+use Rattle.std.proofs.Common.{◌≡◌, ◌≤◌, ℕ, Bool, true, false, List, [], ◌∷◌, ◌++◌, length, Option, Some, None, Result, Ok, Err, OnOk, OnErr, IfOk, refl, sym, ap, ◌∙◌, subst, append_assoc}
 use Rattle.std.specs.Prelude.{nat_le}
 use Rattle.std.proofs.lemmas.Bool.{leb-true, leb-false}
 use Rattle.lr_rules.specs.declared.path.Path.{Path}
@@ -164,7 +164,7 @@ lacks_looks (Err y) state rules x n is l h = left_then l h (λ ts us p q. amid_l
 
 -- ---- looks, listings and reads alone
 
-module _ (P : Entry → Type 0) (look : (x : Path) (seen : Option Seen) → P (entry.Look x seen)) (list : (x : Path) (names : List (List ℕ)) → P (entry.List x names)) (read : (x : Path) (place : ℕ) (piece : List ℕ) → P (entry.Reads x place piece)) where
+module _ (P : Entry → Type 0) (look : (x : Path) (seen : Option Seen) → P (entry.Look x seen)) (list : (x : Path) (names : List (List ℕ)) → P (entry.List x names)) (read : (x : Path) (place : ℕ) (piece : List ℕ) → length piece ≤ 65536 → P (entry.Reads x place piece)) where
   sees_so : (x : Path) (Q : Option Seen → Type 0) (ts : List Entry) → Sees x Q ts → Each P ts
   sees_so x Q ts s = subst (Each P) (sym s.look) (look x s.seen, tt)
 
@@ -175,8 +175,8 @@ module _ (P : Entry → Type 0) (look : (x : Path) (seen : Option Seen) → P (e
   plans_so state rules table clock asked plan own ts p = looks_so P look list read ts (whole_looking rules p.sets p.of_looks ts p.shown)
 
   plans_by_so : (state : Path) (rules : List Rule) (clock : Clock) (asked : Asked) (plan : Option Plan) (own : List Fault) (ts : List Entry) → PlansBy state rules clock asked plan own ts → Each P ts
-  plans_by_so state rules clock asked plan own ts (unknown sights f k lost is shown) = state_so P look read state 65_536 sights ts shown
-  plans_by_so state rules clock asked plan own ts (known sights remembered k t) = then_so _ _ ts (λ us h. state_so P look read state 65_536 sights us h) (λ us h. plans_so state rules remembered.table clock asked plan own us h) t
+  plans_by_so state rules clock asked plan own ts (unknown sights f k lost is shown) = state_so P look read state sights ts shown
+  plans_by_so state rules clock asked plan own ts (known sights remembered k t) = then_so _ _ ts (λ us h. state_so P look read state sights us h) (λ us h. plans_so state rules remembered.table clock asked plan own us h) t
 
   pub tries_so : (state : Path) (rules : List Rule) (clock : Clock) (asked : Asked) (plan : Option Plan) (own : List Fault) (ts : List Entry) → Tries state rules clock asked plan own ts → Each P ts
   tries_so state rules clock asked plan own ts (unseen lost is none) = subst (Each P) (sym none) tt
@@ -195,10 +195,10 @@ module _ (P : Entry → Type 0) (look : (x : Path) (seen : Option Seen) → P (e
   answers_so state asked clock rules earlier (Err stop.Memory) ts h = lacks_so state rules.sets ts h
 
 pub answers_sights : (state : Path) (asked : Asked) (clock : Clock) (rules : Rules) (earlier : List Fault) (r : Result Ran RunStop) (ts : List Entry) → Answers state true asked clock rules earlier r ts → AreSights ts
-answers_sights = answers_so IsSight (λ x seen. tt) (λ x names. tt) (λ x place piece. tt)
+answers_sights = answers_so IsSight (λ x seen. tt) (λ x names. tt) (λ x place piece short. tt)
 
 pub answers_quiet : (state : Path) (asked : Asked) (clock : Clock) (rules : Rules) (earlier : List Fault) (r : Result Ran RunStop) (ts : List Entry) → Answers state true asked clock rules earlier r ts → AreQuiet ts
-answers_quiet = answers_so IsQuiet (λ x seen. (tt, refl)) (λ x names. (tt, refl)) (λ x place piece. (tt, refl))
+answers_quiet = answers_so IsQuiet (λ x seen. (tt, refl)) (λ x names. (tt, refl)) (λ x place piece short. (tt, refl))
 
 -- so a dry run has the shape of one
 pub dry_shape : (state : Path) (asked : Asked) (clock : Clock) (rules : Rules) (earlier : List Fault) (r : Result Ran RunStop) (ts : List Entry) → Answers state true asked clock rules earlier r ts → IsWholeRunBy clock ts
@@ -221,20 +221,20 @@ tried_so state asked clock rules earlier first ran e l = left_as l (λ ts h. (h.
 -- ---- a run that is dry, or isn't
 
 pub leaves_may : (debug : Bool) (state : Path) (asked : Asked) (clock : Clock) (rules : Rules) (plan : Option Plan) (own : List Fault) (ts : List Entry) → AreMade ts → Leaves debug state asked clock rules plan own ts → MayRenew state (IsNewText state clock asked rules ts) ts
-leaves_may true state asked clock rules plan own ts made h = quiet_alone state (IsNewText state clock asked rules ts) ts (tries_so IsQuiet (λ x seen. (tt, refl)) (λ x names. (tt, refl)) (λ x place piece. (tt, refl)) state rules.sets clock asked plan own ts h)
+leaves_may true state asked clock rules plan own ts made h = quiet_alone state (IsNewText state clock asked rules ts) ts (tries_so IsQuiet (λ x seen. (tt, refl)) (λ x names. (tt, refl)) (λ x place piece short. (tt, refl)) state rules.sets clock asked plan own ts h)
 leaves_may false state asked clock rules plan own ts made h = runs_may state rules clock asked plan own ts made h
 
 pub lacks_may : (debug : Bool) (state : Path) (asked : Asked) (clock : Clock) (rules : Rules) (ts : List Entry) → AreMade ts → Lacks debug state asked clock rules ts → MayRenew state (IsNewText state clock asked rules ts) ts
-lacks_may true state asked clock rules ts made h = quiet_alone state (IsNewText state clock asked rules ts) ts (lacks_so IsQuiet (λ x seen. (tt, refl)) (λ x names. (tt, refl)) (λ x place piece. (tt, refl)) state rules.sets ts h)
+lacks_may true state asked clock rules ts made h = quiet_alone state (IsNewText state clock asked rules ts) ts (lacks_so IsQuiet (λ x seen. (tt, refl)) (λ x names. (tt, refl)) (λ x place piece short. (tt, refl)) state rules.sets ts h)
 lacks_may false state asked clock rules ts made h = answers_may state rules clock asked [] (Err stop.Memory) ts made h
 
 -- each log that it empties it copied just before
 pub leaves_copied : (debug : Bool) (state : Path) (rules : Rules) (clock : Clock) (asked : Asked) → (plan : Option Plan) (own : List Fault) (ts : List Entry) → Leaves debug state asked clock rules plan own ts → EmptiesCopied (IsCopyBy rules.sets clock) ts
-leaves_copied true state rules clock asked plan own ts h = quiet_empties (IsCopyBy rules.sets clock) ts (tries_so IsQuiet (λ x seen. (tt, refl)) (λ x names. (tt, refl)) (λ x place piece. (tt, refl)) state rules.sets clock asked plan own ts h)
+leaves_copied true state rules clock asked plan own ts h = quiet_empties (IsCopyBy rules.sets clock) ts (tries_so IsQuiet (λ x seen. (tt, refl)) (λ x names. (tt, refl)) (λ x place piece short. (tt, refl)) state rules.sets clock asked plan own ts h)
 leaves_copied false state rules clock asked plan own ts h = runs_copied state rules clock asked plan own ts h
 
 pub lacks_copied : (debug : Bool) (state : Path) (rules : Rules) (clock : Clock) (asked : Asked) → (ts : List Entry) → Lacks debug state asked clock rules ts → EmptiesCopied (IsCopyBy rules.sets clock) ts
-lacks_copied true state rules clock asked ts h = quiet_empties (IsCopyBy rules.sets clock) ts (lacks_so IsQuiet (λ x seen. (tt, refl)) (λ x names. (tt, refl)) (λ x place piece. (tt, refl)) state rules.sets ts h)
+lacks_copied true state rules clock asked ts h = quiet_empties (IsCopyBy rules.sets clock) ts (lacks_so IsQuiet (λ x seen. (tt, refl)) (λ x names. (tt, refl)) (λ x place piece short. (tt, refl)) state rules.sets ts h)
 lacks_copied false state rules clock asked ts h = answers_copied state rules clock asked [] (Err stop.Memory) ts h
 
 pub holds_quiet : (debug : Bool) (state : Path) (ts : List Entry) → Holds debug state ts → AreQuiet ts

@@ -11,6 +11,7 @@ pub mod Stating
 pub mod Called
 pub mod Shape
 mod Parts
+mod Entries
 mod Ending
 pub mod Hindered
 pub mod Taken
@@ -28,3 +29,4 @@ mod Guarding
 pub mod Renewing
 pub mod Emptying
 pub mod Drying
+mod Short

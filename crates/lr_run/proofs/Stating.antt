@@ -17,7 +17,7 @@ use Rattle.lr_plan.specs.Course.{Course}
 use Rattle.lr_plan.specs.Outcomes.{Succeeds, Fails}
 use Rattle.lr_plan.specs.Steps.{state_part, state_steps, step_if}
 use Rattle.lr_targets.specs.AllTurns.{IsOfState}
-use Rattle.lr_run.proofs.Working.{IsWork, AreWork}
+use Rattle.lr_run.proofs.Working.{IsDoing}
 
 -- ---- steps of which each entry is so
 
@@ -129,18 +129,18 @@ steps_leave state stale dirs text = leave_both (IsWriting state) (step_if stale 
 pub state_writing : (state : Path) (stale : Bool) (dirs : List Path) (text : List ℕ) (fs : List Fault) (ts : List Entry) → Course (state_steps state stale dirs text) [] fs ts → Each (IsWriting state) ts
 state_writing state stale dirs text fs ts h = course_leaves (IsWriting state) (state_steps state stale dirs text) [] fs ts (steps_leave state stale dirs text) h
 
--- it leaves the run on
-write_work : (e : Entry) → IsWrite e → IsWork e
-write_work (entry.Renames from to) i = i
-write_work (entry.Makes x mode) i = i
-write_work (entry.Appends x piece) i = i
-write_work (entry.Unlinks x) i = i
-write_work (entry.SyncsFile x) i = i
-write_work (entry.SyncsDir x) i = i
-write_work _ i = absurd i
+-- it reads nothing, and leaves the run on
+write_does : (e : Entry) → IsWrite e → IsDoing e
+write_does (entry.Renames from to) i = i
+write_does (entry.Makes x mode) i = i
+write_does (entry.Appends x piece) i = i
+write_does (entry.Unlinks x) i = i
+write_does (entry.SyncsFile x) i = i
+write_does (entry.SyncsDir x) i = i
+write_does _ i = absurd i
 
-pub writing_work : (state : Path) (ts : List Entry) → Each (IsWriting state) ts → AreWork ts
-writing_work state ts a = each_as (IsWriting state) IsWork ts (λ e h. write_work e h.0) a
+pub writing_does : (state : Path) (ts : List Entry) → Each (IsWriting state) ts → Each IsDoing ts
+writing_does state ts a = each_as (IsWriting state) IsDoing ts (λ e h. write_does e h.0) a
 
 pub changes_of_state : (state : Path) (ts : List Entry) → Each (IsWriting state) ts → Each (IsOfState state) (filter is_change ts)
 changes_of_state state [] a = tt

@@ -1,5 +1,5 @@
 -- Between its begin and its end a run leaves looks, listings, reads, changes, syncs and programs alone, so it goes on.
-use Rattle.std.proofs.Common.{◌≡◌, ◌⊎◌, inl, inr, ⊎_elim, ℕ, true, List, [], ◌∷◌, reverse, Option, refl, sym, ap, ◌∙◌, subst}
+use Rattle.std.proofs.Common.{◌≡◌, ◌≤◌, ◌⊎◌, inl, inr, ⊎_elim, ℕ, true, List, [], ◌∷◌, length, reverse, Option, refl, sym, ap, ◌∙◌, subst}
 use Rattle.std.proofs.lemmas.List.{reverse-reverse}
 use Rattle.lr_rules.specs.declared.path.Path.{Path}
 use Rattle.lr_rules.specs.declared.clock.Clock.{Clock}
@@ -44,73 +44,80 @@ IsWork _ = ⊥
 abbrev pub AreWork : List Entry → Type 0
 AreWork ts = Each IsWork ts
 
--- ---- one step
+-- of these, all but the reads
+abbrev pub IsDoing : Entry → Type 0
+IsDoing (entry.Reads x at piece) = ⊥
+IsDoing e = IsWork e
 
-are_work : (ts us : List Entry) → ts ≡ us → AreWork us → AreWork ts
-are_work ts us e h = subst AreWork (sym e) h
+-- ---- what holds of these, and of reads of 65,536 bytes at most, holds of the acts of a plan
 
-maybe_work : (e : Entry) (ts : List Entry) → IsWork e → (ts ≡ []) ⊎ (ts ≡ e ∷ []) → AreWork ts
-maybe_work e ts w (inl h) = are_work ts [] h tt
-maybe_work e ts w (inr h) = are_work ts (e ∷ []) h (w, tt)
+module _ (P : Entry → Type 0) (read : (x : Path) (place : ℕ) (piece : List ℕ) → length piece ≤ 65536 → P (entry.Reads x place piece)) (other : (e : Entry) → IsDoing e → P e) where
+  are_so : (ts us : List Entry) → ts ≡ us → Each P us → Each P ts
+  are_so ts us e h = subst (Each P) (sym e) h
 
-made_work : (s : Step) (ts : List Entry) → IsSimple s → Succeeds s ts → AreWork ts
-made_work (Runs p on command) ts i h = are_work ts _ h (tt, tt)
-made_work (Removes path) ts i h = are_work ts _ h (tt, tt)
-made_work (Renames from to) ts i h = are_work ts _ h (tt, tt)
-made_work (MakesDir path mode) ts i h = ⊎_elim (λ one. are_work ts _ one (tt, tt)) (λ saw. are_work ts _ saw.look (tt, tt)) h
-made_work (Creates path mode) ts i h = maybe_work (entry.Makes path mode) ts tt h
-made_work (Takes path mode) ts i h = are_work ts _ h (tt, tt)
-made_work (Copies from to limit) ts i h = each_all IsWork from to (λ k piece. tt) (λ piece. tt) limit h.0 ts h.1
-made_work (SyncsFile path) ts i h = are_work ts _ h (tt, tt)
-made_work (SyncsDir path) ts i h = are_work ts _ h (tt, tt)
-made_work (Truncates path) ts i h = are_work ts _ h (tt, tt)
-made_work (Rotated log) ts i h = are_work ts [] h tt
-made_work _ ts i h = absurd i
+  maybe_so : (e : Entry) (ts : List Entry) → P e → (ts ≡ []) ⊎ (ts ≡ e ∷ []) → Each P ts
+  maybe_so e ts p (inl h) = are_so ts [] h tt
+  maybe_so e ts p (inr h) = are_so ts (e ∷ []) h (p, tt)
 
-program_work : (p : Phase) (on : List ℕ) (c : Command) (f : Fault) (ts : List Entry) → ProgramFailed p on c f ts → AreWork ts
-program_work p on c f ts (badly end bad e o) = are_work ts _ o (tt, tt)
-program_work p on c f ts (not_run e o) = are_work ts [] o tt
-program_work p on c f ts (maybe_run end e o) = are_work ts _ o (tt, tt)
+  made_so : (s : Step) (ts : List Entry) → IsSimple s → Succeeds s ts → Each P ts
+  made_so (Runs p on command) ts i h = are_so ts _ h (other _ tt, tt)
+  made_so (Removes path) ts i h = are_so ts _ h (other _ tt, tt)
+  made_so (Renames from to) ts i h = are_so ts _ h (other _ tt, tt)
+  made_so (MakesDir path mode) ts i h = ⊎_elim (λ one. are_so ts _ one (other _ tt, tt)) (λ saw. are_so ts _ saw.look (other _ tt, tt)) h
+  made_so (Creates path mode) ts i h = maybe_so (entry.Makes path mode) ts (other _ tt) h
+  made_so (Takes path mode) ts i h = are_so ts _ h (other _ tt, tt)
+  made_so (Copies from to limit) ts i h = each_all P from to (read from) (λ piece. other _ tt) limit h.0 ts h.1
+  made_so (SyncsFile path) ts i h = are_so ts _ h (other _ tt, tt)
+  made_so (SyncsDir path) ts i h = are_so ts _ h (other _ tt, tt)
+  made_so (Truncates path) ts i h = are_so ts _ h (other _ tt, tt)
+  made_so (Rotated log) ts i h = are_so ts [] h tt
+  made_so _ ts i h = absurd i
 
-take_work : (path : Path) (mode : Option ℕ) (f : Fault) (ts : List Entry) → Fails (Takes path mode) f ts → AreWork ts
-take_work path mode f ts (inl h) = maybe_work (entry.Makes path mode) ts tt h.1
-take_work path mode f ts (inr h) = are_work ts [] h.1 tt
+  program_so : (p : Phase) (on : List ℕ) (c : Command) (f : Fault) (ts : List Entry) → ProgramFailed p on c f ts → Each P ts
+  program_so p on c f ts (badly end bad e o) = are_so ts _ o (other _ tt, tt)
+  program_so p on c f ts (not_run e o) = are_so ts [] o tt
+  program_so p on c f ts (maybe_run end e o) = are_so ts _ o (other _ tt, tt)
 
-dir_work : (path : Path) (mode : Option ℕ) (f : Fault) (ts : List Entry) → DirFailed path mode f ts → AreWork ts
-dir_work path mode f ts (at_make h) = maybe_work (entry.MakesDir path mode) ts tt h.1
-dir_work path mode f ts (at_look e o) = are_work ts [] o tt
-dir_work path mode f ts (no_dir e saw) = are_work ts _ saw.look (tt, tt)
+  take_so : (path : Path) (mode : Option ℕ) (f : Fault) (ts : List Entry) → Fails (Takes path mode) f ts → Each P ts
+  take_so path mode f ts (inl h) = maybe_so (entry.Makes path mode) ts (other _ tt) h.1
+  take_so path mode f ts (inr h) = are_so ts [] h.1 tt
 
-failed_work : (s : Step) (f : Fault) (ts : List Entry) → IsSimple s → Fails s f ts → AreWork ts
-failed_work (Runs p on command) f ts i h = program_work p on command f ts h
-failed_work (Removes path) f ts i h = maybe_work (entry.Unlinks path) ts tt h.1
-failed_work (Renames from to) f ts i h = maybe_work (entry.Renames from to) ts tt h.1
-failed_work (MakesDir path mode) f ts i h = dir_work path mode f ts h
-failed_work (Creates path mode) f ts i h = maybe_work (entry.Makes path mode) ts tt h.1
-failed_work (Takes path mode) f ts i h = take_work path mode f ts h
-failed_work (Copies from to limit) f ts i h = each_broke IsWork from to (λ k piece. tt) (λ piece. tt) limit h.0 ts h.2
-failed_work (SyncsFile path) f ts i h = maybe_work (entry.SyncsFile path) ts tt h.1
-failed_work (SyncsDir path) f ts i h = maybe_work (entry.SyncsDir path) ts tt h.1
-failed_work (Truncates path) f ts i h = maybe_work (entry.Truncates path) ts tt h.1
-failed_work (Rotated log) f ts i h = absurd h
-failed_work _ f ts i h = absurd i
+  dir_so : (path : Path) (mode : Option ℕ) (f : Fault) (ts : List Entry) → DirFailed path mode f ts → Each P ts
+  dir_so path mode f ts (at_make h) = maybe_so (entry.MakesDir path mode) ts (other _ tt) h.1
+  dir_so path mode f ts (at_look e o) = are_so ts [] o tt
+  dir_so path mode f ts (no_dir e saw) = are_so ts _ saw.look (other _ tt, tt)
 
--- ---- all of them
+  failed_so : (s : Step) (f : Fault) (ts : List Entry) → IsSimple s → Fails s f ts → Each P ts
+  failed_so (Runs p on command) f ts i h = program_so p on command f ts h
+  failed_so (Removes path) f ts i h = maybe_so (entry.Unlinks path) ts (other _ tt) h.1
+  failed_so (Renames from to) f ts i h = maybe_so (entry.Renames from to) ts (other _ tt) h.1
+  failed_so (MakesDir path mode) f ts i h = dir_so path mode f ts h
+  failed_so (Creates path mode) f ts i h = maybe_so (entry.Makes path mode) ts (other _ tt) h.1
+  failed_so (Takes path mode) f ts i h = take_so path mode f ts h
+  failed_so (Copies from to limit) f ts i h = each_broke P from to (read from) (λ piece. other _ tt) limit h.0 ts h.2
+  failed_so (SyncsFile path) f ts i h = maybe_so (entry.SyncsFile path) ts (other _ tt) h.1
+  failed_so (SyncsDir path) f ts i h = maybe_so (entry.SyncsDir path) ts (other _ tt) h.1
+  failed_so (Truncates path) f ts i h = maybe_so (entry.Truncates path) ts (other _ tt) h.1
+  failed_so (Rotated log) f ts i h = absurd h
+  failed_so _ f ts i h = absurd i
 
--- the acts leave work alone
-work_folds : Folds IsSimple (λ fs ts. AreWork ts)
-work_folds = record {
-  none = tt;
-  made = made_work;
-  failed = failed_work;
-  both = λ fs gs ts us h g. each_append IsWork ts us h g;
-}
+  all_fold : Folds IsSimple (λ fs ts. Each P ts)
+  all_fold = record {
+    none = tt;
+    made = made_so;
+    failed = failed_so;
+    both = λ fs gs ts us h g. each_append P ts us h g;
+  }
 
-pub sets_work : (sets : List SetSteps) (ms : List Mark) (fs : List Fault) (ts : List Entry) → AreSimple (all_of_sets sets) → SetsDone sets ms fs ts → AreWork ts
-sets_work sets ms fs ts i h = acts_fold IsSimple (λ fs ts. AreWork ts) work_folds sets ms fs ts i h
+  pub acts_so : (sets : List SetSteps) (ms : List Mark) (fs : List Fault) (ts : List Entry) → AreSimple (all_of_sets sets) → SetsDone sets ms fs ts → Each P ts
+  acts_so sets ms fs ts i h = acts_fold IsSimple (λ fs ts. Each P ts) all_fold sets ms fs ts i h
 
-pub cut_sets_work : (sets : List SetSteps) (ms : List Mark) (fs : List Fault) (ts : List Entry) → AreSimple (all_of_sets sets) → SetsCut sets ms fs ts → AreWork ts
-cut_sets_work sets ms fs ts i c = cut_acts_fold IsSimple (λ fs ts. AreWork ts) work_folds sets ms fs ts i c
+  pub cut_acts_so : (sets : List SetSteps) (ms : List Mark) (fs : List Fault) (ts : List Entry) → AreSimple (all_of_sets sets) → SetsCut sets ms fs ts → Each P ts
+  cut_acts_so sets ms fs ts i c = cut_acts_fold IsSimple (λ fs ts. Each P ts) all_fold sets ms fs ts i c
+
+pub does_work : (e : Entry) → IsDoing e → IsWork e
+does_work (entry.Reads x at piece) i = absurd i
+does_work _ i = i
 
 -- ---- the run goes on
 

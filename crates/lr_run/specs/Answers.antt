@@ -1,11 +1,13 @@
 -- What a run leaves, by its answer: a dry one, or one that acts.
-use Rattle.std.specs.Prelude.{◌≡◌, Bool, true, false, List, ◌++◌, Option, Result, Ok, Err}
+use Rattle.std.specs.Prelude.{◌≡◌, ◌≤◌, ℕ, Bool, true, false, List, ◌++◌, length, Option, Result, Ok, Err}
 use Rattle.lr_rules.specs.declared.path.Path.{Path}
 use Rattle.lr_rules.specs.declared.clock.Clock.{Clock}
 use Rattle.lr_rules.specs.declared.rules.Rules.{Rules}
 use Rattle.lr_rules.specs.declared.fault.Fault.{Fault}
 use Rattle.lr_rules.specs.Path.{parent_of}
 use Rattle.lr_host.specs.declared.entry.Entry.{Entry}
+use Rattle.lr_host.specs.declared.entry.Entry.TheVariants.{Reads}
+use Rattle.lr_host.specs.Lists.{IsIn}
 use Rattle.lr_host.specs.Looks.{Sees, IsDir}
 use Rattle.lr_plan.specs.Asked.{Asked}
 use Rattle.lr_plan.specs.declared.planned.Plan.{Plan}
@@ -35,3 +37,7 @@ abbrev pub Answers : Path → Bool → Asked → Clock → Rules → List Fault 
 Answers state debug asked clock rules earlier (Ok ran) ts = (own : List Fault) × (ran.faults.items ≡ earlier ++ own) × Leaves debug state asked clock rules ran.plan own ts
 Answers state debug asked clock rules earlier (Err stop.Held) ts = Holds debug state ts
 Answers state debug asked clock rules earlier (Err stop.Memory) ts = Lacks debug state asked clock rules ts
+
+-- each read gave 65,536 bytes at most
+abbrev pub HasShortReads : List Entry → Type 0
+HasShortReads ts = (x : Path) (place : ℕ) (piece : List ℕ) → IsIn (Reads x place piece) ts → length piece ≤ 65_536

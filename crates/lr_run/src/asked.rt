@@ -10,7 +10,7 @@ ghost use Rattle.lr_dated.specs.Forward.{IsForwardFor};
 ghost use Rattle.lr_dated.specs.Stays.{KeepsSafeWhere};
 ghost use Rattle.lr_mixed.specs.AllTurns.{IsWholeRunBy};
 ghost use Rattle.lr_plan.specs.Asked.{asking};
-ghost use Rattle.lr_run.specs.Answers.{Answers};
+ghost use Rattle.lr_run.specs.Answers.{Answers, HasShortReads};
 ghost use Rattle.lr_run.specs.Copied.{IsCopyBy};
 ghost use Rattle.lr_run.specs.Dry.{AreSights};
 ghost use Rattle.lr_run.specs.State.{IsNewText};
@@ -51,6 +51,7 @@ pub fn run<H: Host>(
     ensures anew { settings.now.debug ≡ false → IfOk result (λ ran. NamesAnew ran.plan ran.faults.items (H.told host.new)) }
     ensures held { result ≡ Err RunStop.Held → Rose (H.counts host.old).held (H.counts host.new).held }
     ensures room { IfOk result (λ ran. vec_len ran.faults + 1 ≤ vec_capacity ran.faults) }
+    ensures short { Left HasShortReads (H.told host.old) (H.told host.new) }
     ensures counts { Onward (H.counts host.old) (H.counts host.new) }
 
     // A dry run takes no lock, changes nothing and starts no program.

@@ -81,7 +81,7 @@ record ReadsTo (x : Path) (count : ℕ) (ts : List Entry) : Type 0 where
 
 last_read : (from to : Path) (bytes owed : List ℕ) (ts : List Entry) → Copying from to bytes owed ts → 0 < length bytes → ReadsTo from (length bytes) ts
 last_read from to _ _ _ none_read lt = absurd (omega (arith, lt))
-last_read from to _ _ _ (read_more {bytes = bytes} {ts = ts} c piece some) lt = record { place = length bytes; piece = piece; some = some; to = length-append bytes piece; read = in_back (Reads from (length bytes) piece) ts _ (inl refl) }
+last_read from to _ _ _ (read_more {bytes = bytes} {ts = ts} c piece some short) lt = record { place = length bytes; piece = piece; some = some; to = length-append bytes piece; read = in_back (Reads from (length bytes) piece) ts _ (inl refl) }
 last_read from to bytes _ _ (took_more {ts = ts} piece owed c) lt =
     let r = last_read from to bytes (piece ++ owed) ts c lt in
     record { place = r.place; piece = r.piece; some = r.some; to = r.to; read = in_front (Reads from r.place r.piece) ts _ r.read }

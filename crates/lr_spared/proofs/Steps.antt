@@ -164,7 +164,7 @@ module _ (x : Path) where
   made_avoids (step.Renames from to) ts k w = each_one P w k
   made_avoids (step.Creates path mode) ts k w = each_maybe P (entry.Makes path mode) w k
   made_avoids (step.Takes path mode) ts k w = each_one P w k
-  made_avoids (step.Copies from to limit) ts k w = each_all P from to (λ k piece. tt) (λ piece. tt) limit w.0 ts w.1
+  made_avoids (step.Copies from to limit) ts k w = each_all P from to (λ k piece short. tt) (λ piece. tt) limit w.0 ts w.1
   made_avoids (step.Appends path text) ts k w = appended_avoids path text ts w
   made_avoids (step.SyncsFile path) ts k w = each_one P w tt
   made_avoids (step.SyncsDir path) ts k w = each_one P w tt
@@ -189,7 +189,7 @@ module _ (x : Path) where
   failed_avoids (step.Renames from to) f ts k h = each_maybe P (entry.Renames from to) h.1 k
   failed_avoids (step.Creates path mode) f ts k h = each_maybe P (entry.Makes path mode) h.1 k
   failed_avoids (step.Takes path mode) f ts k h = ⊎_elim (λ c. each_maybe P (entry.Makes path mode) c.1 k) (λ taken. each_none P taken.1) h
-  failed_avoids (step.Copies from to limit) f ts k h = each_broke P from to (λ k piece. tt) (λ piece. tt) limit h.0 ts h.2
+  failed_avoids (step.Copies from to limit) f ts k h = each_broke P from to (λ k piece short. tt) (λ piece. tt) limit h.0 ts h.2
   failed_avoids (step.Appends path text) f ts k h = broke_avoids path text ts h.1
   failed_avoids (step.SyncsFile path) f ts k h = each_maybe P (entry.SyncsFile path) h.1 tt
   failed_avoids (step.SyncsDir path) f ts k h = each_maybe P (entry.SyncsDir path) h.1 tt

@@ -212,7 +212,7 @@ module _ (state : Path) (x : Target) (targets : List Target) (acts : List Entry)
   filled_apart = each_append NoneOfThese (clearing job) (Makes job.part job.mode ∷ parts.filling) (go job.stale) (
     (λ h. absurd h),
     each_both NoneOfThese (Copies job stands.count) (Are (SyncsFile job.part ∷ [])) parts.filling
-        (λ us c. each_all NoneOfThese job.from job.part (λ k piece. λ h. absurd h) (λ piece. λ h. absurd h) job.limit stands.count us c)
+        (λ us c. each_all NoneOfThese job.from job.part (λ k piece short. λ h. absurd h) (λ piece. λ h. absurd h) job.limit stands.count us c)
         (λ us is. each_are NoneOfThese (SyncsFile job.part ∷ []) us ((λ h. absurd h), tt) is) parts.fills,
   )
     where

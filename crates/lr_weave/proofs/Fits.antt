@@ -423,7 +423,7 @@ asked _ es o bare c = absurd bare
 
 -- reads and appends change no names
 bytes_unnamed : (from to : Path) (limit count : ℕ) (ts : List Entry) → AllBytes from to limit count ts → filter is_naming ts ≡ []
-bytes_unnamed from to limit count ts w = none_pass is_naming ts (each_all (λ e. is_naming e ≡ false) from to (λ k piece. refl) (λ piece. refl) limit count ts w)
+bytes_unnamed from to limit count ts w = none_pass is_naming ts (each_all (λ e. is_naming e ≡ false) from to (λ k piece short. refl) (λ piece. refl) limit count ts w)
 
 -- a directory was made, or one was seen
 saw_dir : (path : Path) (o : Option Seen) {j m : Option Journal} → IsDir o → Left (λ ts. ts ≡ entry.Look path o ∷ []) j m → Can m (entry.SyncsDir path)

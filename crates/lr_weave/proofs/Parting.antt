@@ -45,10 +45,10 @@ changes_are ts us e = ap (filter takes_name) e
 
 -- reads and appends change no names
 bytes_none : (from to : Path) (limit count : ℕ) (ts : List Entry) → AllBytes from to limit count ts → filter takes_name ts ≡ []
-bytes_none from to limit count ts w = none_pass takes_name ts (each_all (λ e. takes_name e ≡ false) from to (λ k piece. refl) (λ piece. refl) limit count ts w)
+bytes_none from to limit count ts w = none_pass takes_name ts (each_all (λ e. takes_name e ≡ false) from to (λ k piece short. refl) (λ piece. refl) limit count ts w)
 
 broke_none : (from to : Path) (limit : ℕ) (why : BytesStop) (ts : List Entry) → BytesBroke from to limit why ts → filter takes_name ts ≡ []
-broke_none from to limit why ts w = none_pass takes_name ts (each_broke (λ e. takes_name e ≡ false) from to (λ k piece. refl) (λ piece. refl) limit why ts w)
+broke_none from to limit why ts w = none_pass takes_name ts (each_broke (λ e. takes_name e ≡ false) from to (λ k piece short. refl) (λ piece. refl) limit why ts w)
 
 pub went_changes : (P : Entry → Type 0) (s : Step) (ts : List Entry) → IsPlain P s → Succeeds s ts → filter takes_name ts ≡ change_of s
 went_changes P (step.Runs phase on command) ts i w = changes_are ts _ w
@@ -103,7 +103,7 @@ went_only P (step.Renames from to) ts i w = one_only P (entry.Renames from to) t
 went_only P (step.Creates path mode) ts i w = maybe_only P (entry.Makes path mode) ts i w
 went_only P (step.MakesDir path mode) ts i w = ⊎_elim (λ one. one_only P (entry.MakesDir path mode) ts i one) (λ saw. one_only P (entry.Look path saw.seen) ts tt saw.look) w
 went_only P (step.Takes path mode) ts i w = one_only P (entry.Makes path mode) ts i w
-went_only P (step.Copies from to limit) ts i w = each_all (MakesOnly P) from to (λ k piece. tt) i limit w.0 ts w.1
+went_only P (step.Copies from to limit) ts i w = each_all (MakesOnly P) from to (λ k piece short. tt) i limit w.0 ts w.1
 went_only P (step.Truncates path) ts i w = one_only P (entry.Truncates path) ts i w
 went_only P (step.SyncsFile path) ts i w = one_only P (entry.SyncsFile path) ts tt w
 went_only P (step.SyncsDir path) ts i w = one_only P (entry.SyncsDir path) ts tt w
@@ -122,7 +122,7 @@ failed_only P (step.MakesDir path mode) f ts i (at_look is nothing) = none_only 
 failed_only P (step.MakesDir path mode) f ts i (no_dir is saw) = one_only P (entry.Look path saw.seen) ts tt saw.look
 failed_only P (step.Takes path mode) f ts i (inl h) = maybe_only P (entry.Makes path mode) ts i h.1
 failed_only P (step.Takes path mode) f ts i (inr h) = none_only P ts h.1
-failed_only P (step.Copies from to limit) f ts i h = each_broke (MakesOnly P) from to (λ k piece. tt) i limit h.0 ts h.2
+failed_only P (step.Copies from to limit) f ts i h = each_broke (MakesOnly P) from to (λ k piece short. tt) i limit h.0 ts h.2
 failed_only P (step.Truncates path) f ts i h = maybe_only P (entry.Truncates path) ts i h.1
 failed_only P (step.SyncsFile path) f ts i h = maybe_only P (entry.SyncsFile path) ts tt h.1
 failed_only P (step.SyncsDir path) f ts i h = maybe_only P (entry.SyncsDir path) ts tt h.1

@@ -10,6 +10,7 @@ invariant-loop-count g l = record {
   read : Can (g.H.Host.told l.host) (Reads l.from 0 []);
   append : Can (g.H.Host.told l.host) (Appends l.to []);
   room : 0 < length l.buffer;
+  short : length l.buffer ≤ 65536;
   within : l.copied ≤ l.limit;
   counts : Onward (g.H.Host.counts l.initial.host) (g.H.Host.counts l.host);
 }

@@ -3,6 +3,7 @@ use Rattle.lr_host.proofs.Left.{left_as}
 use Rattle.lr_mixed.proofs.Safety.{all_safe}
 use Rattle.lr_plan.specs.Asked.{asking}
 use Rattle.lr_run.proofs.Drying.{asked_so, answers_sights, dry_shape, dry_whole, dry_copied}
+use Rattle.lr_run.proofs.Short.{answers_short}
 use Rattle.lr_run.proofs.asked.run.Goals as goal
 
 pub returns-then-settings-clause-shape : goal.returns-then-settings-clause-shape
@@ -31,3 +32,15 @@ returns-then-settings-clause-taken g c = λ e. absurd (let yes = c.if-settings.t
 
 pub returns-else-settings-clause-taken : goal.returns-else-settings-clause-taken
 returns-else-settings-clause-taken g c = λ e. c.real_run.ensures.taken
+
+pub returns-then-settings-clause-anew : goal.returns-then-settings-clause-anew
+returns-then-settings-clause-anew g c = λ e. absurd (let yes = c.if-settings.true in cc)
+
+pub returns-else-settings-clause-anew : goal.returns-else-settings-clause-anew
+returns-else-settings-clause-anew g c = λ e. c.real_run.ensures.anew
+
+pub returns-then-settings-clause-short : goal.returns-then-settings-clause-short
+returns-then-settings-clause-short g c = left_as c.dry_run.ensures.told (answers_short c.args.settings.now.state true (asking c.args.settings.now.force c.args.settings.now.mailer) c.args.clock.now c.args.rules.now c.args.earlier.items c.dry_run.result)
+
+pub returns-else-settings-clause-short : goal.returns-else-settings-clause-short
+returns-else-settings-clause-short g c = left_as c.real_run.ensures.told (answers_short c.args.settings.now.state false (asking c.args.settings.now.force c.args.settings.now.mailer) c.args.clock.now c.args.rules.now c.args.earlier.items c.real_run.result)
