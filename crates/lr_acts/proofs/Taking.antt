@@ -16,7 +16,8 @@ use Rattle.lr_host.proofs.Made.{made_on}
 use Rattle.lr_copy.specs.declared.job.BytesStop.TheVariants as broke
 use Rattle.lr_plan.specs.declared.step.Step.{Step}
 use Rattle.lr_plan.specs.declared.step.Step.TheVariants as step
-use Rattle.lr_plan.specs.Outcomes.{Succeeds, Fails, badly, not_run, maybe_run, at_make, at_look, no_dir, bytes_fault}
+use Rattle.lr_chain.specs.declared.directory.DirStop.TheVariants as unmade
+use Rattle.lr_plan.specs.Outcomes.{Succeeds, Fails, badly, not_run, maybe_run, bytes_fault}
 use Rattle.lr_acts.specs.Making.{FaultCause}
 use Rattle.lr_acts.specs.Named.{IsNamed, WasNamed, untold, at_moment}
 use Rattle.lr_acts.specs.Taken.{Spares, WasTaken, no_journal, at_last, TakesAt, OneTakes, RemovesAt, NoneRemoves, LastTaken, TakenOnly}
@@ -60,9 +61,9 @@ taker x (step.Runs phase on command) f ts is (badly end ne same one) = absurd (c
 taker x (step.Runs phase on command) f ts is (not_run same none) = absurd (cc)
 taker x (step.Runs phase on command) f ts is (maybe_run end same one) = absurd (cc)
 taker x (step.Removes path) f ts is h = let same = h.0 in absurd (cc)
-taker x (step.MakesDir path mode) f ts is (at_make c) = let same = c.0 in absurd (cc)
-taker x (step.MakesDir path mode) f ts is (at_look same none) = absurd (cc)
-taker x (step.MakesDir path mode) f ts is (no_dir same saw) = absurd (cc)
+taker x (step.MakesDir path mode) f ts is (unmade.Make, same, made) = absurd (cc)
+taker x (step.MakesDir path mode) f ts is (unmade.Look, same, none) = absurd (cc)
+taker x (step.MakesDir path mode) f ts is (unmade.NotDir, same, saw) = absurd (cc)
 taker x (step.Renames from to) f ts is h = let same = h.0 in absurd (cc)
 taker x (step.Creates path mode) f ts is h = let same = h.0 in absurd (cc)
 taker x (step.Takes path mode) f ts is h = ⊎_elim (λ c. let same = c.0 in absurd (cc)) (λ t. let same = t.0 in cc) h

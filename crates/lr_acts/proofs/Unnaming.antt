@@ -10,7 +10,8 @@ use Rattle.lr_copy.proofs.EachOfBytes.{each_all, each_broke}
 use Rattle.lr_plan.specs.declared.step.Step.{Step}
 use Rattle.lr_plan.specs.declared.step.Step.TheVariants as step
 use Rattle.lr_plan.specs.Appending.{Appended, no_more, piece_more, AppendBroke, at_piece, in_piece, piece_on}
-use Rattle.lr_plan.specs.Outcomes.{Succeeds, Fails, ProgramFailed, badly, not_run, maybe_run, DirFailed, at_make, at_look, no_dir}
+use Rattle.lr_chain.specs.declared.directory.DirStop.TheVariants as unmade
+use Rattle.lr_plan.specs.Outcomes.{Succeeds, Fails, ProgramFailed, badly, not_run, maybe_run}
 
 -- an entry that takes a name away
 abbrev pub unnames : Entry → Bool
@@ -63,10 +64,10 @@ module _ (P : Entry → Type 0) (other : (e : Entry) → unnames e ≡ false →
   program_each phase on command f ts (not_run is none) = each_none P none
   program_each phase on command f ts (maybe_run end is one) = each_one P one (other _ refl)
 
-  dir_each : (path : Path) (mode : Option ℕ) (f : Fault) (ts : List Entry) → DirFailed path mode f ts → Each P ts
-  dir_each path mode f ts (at_make c) = each_maybe P (MakesDir path mode) c.1 (other _ refl)
-  dir_each path mode f ts (at_look is none) = each_none P none
-  dir_each path mode f ts (no_dir is saw) = each_one P saw.look (other _ refl)
+  dir_each : (path : Path) (mode : Option ℕ) (f : Fault) (ts : List Entry) → Fails (step.MakesDir path mode) f ts → Each P ts
+  dir_each path mode f ts (unmade.Make, is, made) = each_maybe P (MakesDir path mode) made (other _ refl)
+  dir_each path mode f ts (unmade.Look, is, none) = each_none P none
+  dir_each path mode f ts (unmade.NotDir, is, saw) = each_one P saw.look (other _ refl)
 
   -- of one that failed
   pub each_failed : (s : Step) (f : Fault) (ts : List Entry) → OfUnnaming P s → Fails s f ts → Each P ts

@@ -4,6 +4,7 @@ ghost use Rattle.lr_rules.specs.declared.fault.Ended.TheVariants as ended;
 ghost use Rattle.lr_host.specs.declared.entry.Entry.TheVariants as entry;
 ghost use Rattle.lr_host.specs.Told.{Left, Can, Onward};
 ghost use Rattle.lr_scripts.specs.Programs.{runs};
+ghost use Rattle.lr_plan.specs.Outcomes.{dir_fault};
 ghost use Rattle.lr_plan.specs.declared.mark.Mark.TheVariants as mark;
 ghost use Rattle.lr_plan.specs.declared.step.Step.TheVariants as step;
 ghost use Rattle.lr_acts.specs.declared.stop.Stop.TheVariants as stop;
@@ -11,7 +12,8 @@ ghost use Rattle.lr_acts.specs.Making.{StepLeft, StopCause, list_of, program_sto
 ghost use Rattle.lr_acts.specs.Named.{IsNamed};
 
 use crate::stop::Stop;
-use lr_host::{Host, Kind};
+use lr_chain::DirStop;
+use lr_host::Host;
 use lr_plan::Mark;
 use lr_rules::{CallKind, Fault, Path, Phase, Text};
 use lr_scripts::{Bad, Command, run_phase};
@@ -81,6 +83,17 @@ pub fn rename_file<H: Host>(host: &mut H, from: Path, to: Path) -> Result<Option
     }
 }
 
+// The fault of a directory that wasn't made.
+fn dir_fault(path: Path, why: DirStop) -> Fault
+    ensures { result ≡ dir_fault path why }
+{
+    match why {
+        DirStop::Make => Fault::Call(CallKind::MakeDir, path),
+        DirStop::Look => Fault::Call(CallKind::Look, path),
+        DirStop::NotDir => Fault::NotFile(path),
+    }
+}
+
 /// Makes a directory; where the path is named, looks whether it is one.
 pub fn make_directory<H: Host>(
     host: &mut H,
@@ -94,23 +107,9 @@ pub fn make_directory<H: Host>(
     ensures memory { result ≢ Err stop.Memory }
     ensures counts { Onward (H.counts host.old) (H.counts host.new) }
 {
-    let Ok(made) = host.make_dir(&path, mode) else {
-        return Err(Stop::Fault(Fault::Call(CallKind::MakeDir, path)));
-    };
-    if made {
-        return Ok(Some(Mark::Directory(path)));
-    }
-    let Ok(look) = host.look(&path, true) else {
-        return Err(Stop::Fault(Fault::Call(CallKind::Look, path)));
-    };
-    // What had the path when the make found it named is still there, so this doesn't come.
-    let Some(seen) = look else {
-        return Err(Stop::Fault(Fault::NotFile(path)));
-    };
-    match seen.kind {
-        Kind::Dir => Ok(Some(Mark::Directory(path))),
-        Kind::File => Err(Stop::Fault(Fault::NotFile(path))),
-        Kind::Other => Err(Stop::Fault(Fault::NotFile(path))),
+    match lr_chain::make_directory(host, &path, mode) {
+        Ok(()) => Ok(Some(Mark::Directory(path))),
+        Err(why) => Err(Stop::Fault(dir_fault(path, why))),
     }
 }
 

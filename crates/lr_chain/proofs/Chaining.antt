@@ -16,7 +16,7 @@ use Rattle.lr_chain.specs.declared.chain.ChainStop.{ChainStop}
 use Rattle.lr_chain.specs.declared.chain.ChainStop.TheVariants as stop
 use Rattle.lr_chain.specs.Ready.{move_step, dir_calls, BehindDir}
 use Rattle.lr_chain.specs.Stops.{StopsAt, StopsFrom, ChainStopped, IsFrom, ChainCause}
-use Rattle.lr_chain.proofs.Directory.{behind_can, behind_then, behind_as}
+use Rattle.lr_chain.proofs.Dirs.{behind_can, behind_then, behind_as}
 
 -- the step behind these was refused
 stops_behind : (before : List Entry) (e : Entry) (after xs ys : List Entry) → xs ≡ before → (ys ≡ []) ⊎ (ys ≡ e ∷ []) → StopsAt (before ++ e ∷ after) e (xs ++ ys)

@@ -1,6 +1,6 @@
 pub mod Bounds
 pub mod Chaining
-pub mod Directory
+pub mod Dirs
 pub mod Falling
 pub mod Fitting
 pub mod Going

@@ -1,3 +1,4 @@
+pub mod Directory
 pub mod Ready
 pub mod Rotation
 pub mod Standing

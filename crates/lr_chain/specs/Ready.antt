@@ -1,5 +1,5 @@
 -- What makes a rotation ready, what keeps it from being prepared, and the steps of a ready one.
-use Rattle.std.specs.Prelude.{◌≡◌, ◌≤◌, ◌+◌, ◌==◌, ◌⊎◌, ℕ, Bool, true, false, List, [], ◌∷◌, ◌++◌, map, All, Any, Option, Some, None}
+use Rattle.std.specs.Prelude.{◌≡◌, ◌≤◌, ◌+◌, ◌==◌, ℕ, Bool, true, false, List, [], ◌∷◌, ◌++◌, map, All, Any, Option, Some, None}
 use Rattle.std.specs.List.{flat_map, list_any}
 use Rattle.lr_rules.specs.declared.path.Path.{Path}
 use Rattle.lr_rules.specs.declared.rule.Count.{Count}
@@ -9,7 +9,6 @@ use Rattle.lr_rules.specs.declared.rule.Naming.{Naming}
 use Rattle.lr_rules.specs.Path.{joined}
 use Rattle.lr_host.specs.declared.entry.Entry.{Entry}
 use Rattle.lr_host.specs.declared.entry.Entry.TheVariants.{Renames, MakesDir}
-use Rattle.lr_host.specs.Looks.{Sees, IsDir}
 use Rattle.lr_host.specs.Told.{Then}
 use Rattle.lr_family.specs.declared.stand.Member.{Member}
 use Rattle.lr_family.specs.declared.stand.Stand.{Stand}
@@ -20,6 +19,7 @@ use Rattle.lr_scripts.specs.declared.removal.Removal.{Removal}
 use Rattle.lr_scripts.specs.Removals.{steps_of_removal}
 use Rattle.lr_chain.specs.declared.ready.Move.{Move}
 use Rattle.lr_chain.specs.declared.ready.Ready.{Ready}
+use Rattle.lr_chain.specs.Directory.{DirMade}
 use Rattle.lr_chain.specs.Rotation.{places_of, is_left, leftovers, kept, retired}
 
 -- the removal of the member at this place: its unlink alone
@@ -119,10 +119,6 @@ removals_of list = flat_map steps_of_removal list
 abbrev pub dir_calls : Option (Path × Option ℕ) → List Entry
 dir_calls None = []
 dir_calls (Some (dir, mode)) = MakesDir dir mode ∷ []
-
--- It was made, or it was there: then a look saw it.
-abbrev pub DirMade : Path → Option ℕ → List Entry → Type 0
-DirMade dir mode ts = (ts ≡ MakesDir dir mode ∷ []) ⊎ Sees dir IsDir ts
 
 -- entries of this kind, behind those of the directory
 abbrev pub BehindDir : Option (Path × Option ℕ) → (List Entry → Type 0) → List Entry → Type 0

@@ -3,8 +3,7 @@ use Rattle.std.specs.Prelude.{◌≡◌, ◌⊎◌, ℕ, List, [], ◌∷◌, �
 use Rattle.lr_rules.specs.declared.path.Path.{Path}
 use Rattle.lr_rules.specs.declared.fault.CallKind.TheVariants as call
 use Rattle.lr_host.specs.declared.entry.Entry.{Entry}
-use Rattle.lr_host.specs.declared.entry.Entry.TheVariants.{Renames, MakesDir}
-use Rattle.lr_host.specs.Looks.{Sees, IsNoDir}
+use Rattle.lr_host.specs.declared.entry.Entry.TheVariants.{Renames}
 use Rattle.lr_host.specs.Told.{Counts, Rose, Then, Are}
 use Rattle.lr_host.specs.Lists.{IsIn}
 use Rattle.lr_scripts.specs.declared.command.Bad.{Bad}
@@ -12,6 +11,8 @@ use Rattle.lr_scripts.specs.declared.removal.Removal.{Removal}
 use Rattle.lr_scripts.specs.Removals.{RemovalRefused, RemovalCause}
 use Rattle.lr_chain.specs.declared.chain.ChainStop.{ChainStop}
 use Rattle.lr_chain.specs.declared.chain.ChainStop.TheVariants as stop
+use Rattle.lr_chain.specs.declared.directory.DirStop.TheVariants as unmade
+use Rattle.lr_chain.specs.Directory.{DirStopped}
 use Rattle.lr_chain.specs.Ready.{BehindDir, removals_of}
 
 -- The steps before the refused one were made, and that one was refused: its entry stands or not.
@@ -26,11 +27,11 @@ pub record StopsFrom (steps : List Entry) (from : Path) (ts : List Entry) : Type
   pub to : Path
   pub stops : StopsAt steps (Renames from to) ts
 
--- The directory couldn't be made, or a look saw something else that has its path.
+-- The directory wasn't made, for the reason that is told.
 abbrev pub DirRefused : Option (Path × Option ℕ) → ChainStop → List Entry → Type 0
-DirRefused (Some (dir, mode)) (stop.Call call.MakeDir path) ts = (path.now ≡ dir) × ((ts ≡ []) ⊎ (ts ≡ MakesDir dir mode ∷ []))
-DirRefused (Some (dir, mode)) (stop.Call call.Look path) ts = (path.now ≡ dir) × (ts ≡ [])
-DirRefused (Some (dir, mode)) (stop.NotFile path) ts = (path.now ≡ dir) × Sees dir IsNoDir ts
+DirRefused (Some (dir, mode)) (stop.Call call.MakeDir path) ts = (path.now ≡ dir) × DirStopped dir mode unmade.Make ts
+DirRefused (Some (dir, mode)) (stop.Call call.Look path) ts = (path.now ≡ dir) × DirStopped dir mode unmade.Look ts
+DirRefused (Some (dir, mode)) (stop.NotFile path) ts = (path.now ≡ dir) × DirStopped dir mode unmade.NotDir ts
 DirRefused _ _ ts = ⊥
 
 -- One of the steps was refused, behind the directory; or that was.
@@ -48,14 +49,14 @@ IsOfDir None path = ⊥
 IsOfDir (Some (dir, mode)) path = path ≡ dir
 
 -- The making of the directory failed, or the look at it, and faults rose; or something else has its path.
-abbrev pub DirCause : Option (Path × Option ℕ) → ChainStop → Counts → Counts → Type 0
-DirCause dir (stop.Call kind path) before now = ((kind ≡ call.MakeDir) ⊎ (kind ≡ call.Look)) × IsOfDir dir path.now × Rose before.faults now.faults
-DirCause dir (stop.NotFile path) before now = IsOfDir dir path.now
+abbrev pub DirRefusedCause : Option (Path × Option ℕ) → ChainStop → Counts → Counts → Type 0
+DirRefusedCause dir (stop.Call kind path) before now = ((kind ≡ call.MakeDir) ⊎ (kind ≡ call.Look)) × IsOfDir dir path.now × Rose before.faults now.faults
+DirRefusedCause dir (stop.NotFile path) before now = IsOfDir dir path.now
 
 -- A rename failed, and faults rose; it is one of the steps. Or the directory has the cause.
 abbrev pub ChainCause : Option (Path × Option ℕ) → List Entry → ChainStop → Counts → Counts → Type 0
 ChainCause dir steps (stop.Call call.Rename path) before now = IsFrom steps path.now × Rose before.faults now.faults
-ChainCause dir steps why before now = DirCause dir why before now
+ChainCause dir steps why before now = DirRefusedCause dir why before now
 
 -- The removal at this place of the list was refused: the removals before it were made, and it left what it left.
 pub record RetireStopped (list : List Removal) (place : ℕ) (why : Bad) (ts : List Entry) : Type 0 where

@@ -1,14 +1,15 @@
 // The renames of one rotation, and the directory before them.
-ghost use Rattle.std.specs.Prelude.{◌≡◌, ◌++◌, Some, None, OnOk, OnErr, IfErr};
+ghost use Rattle.std.specs.Prelude.{◌++◌, Some, None, OnOk, OnErr, IfErr};
 ghost use Rattle.lr_host.specs.declared.entry.Entry.TheVariants as entry;
-ghost use Rattle.lr_host.specs.Looks.{is_dir};
 ghost use Rattle.lr_host.specs.Told.{Left, Are, Did, Can, Onward, Rose};
 ghost use Rattle.lr_host.specs.Steps.{CanAll};
-ghost use Rattle.lr_chain.specs.Ready.{move_step, shift_of, turn_of, dir_calls, DirMade, BehindDir};
-ghost use Rattle.lr_chain.specs.Stops.{DirRefused, DirCause, ChainStopped, ChainCause};
+ghost use Rattle.lr_chain.specs.Directory.{DirMade};
+ghost use Rattle.lr_chain.specs.Ready.{move_step, shift_of, turn_of, dir_calls, BehindDir};
+ghost use Rattle.lr_chain.specs.Stops.{DirRefused, DirRefusedCause, ChainStopped, ChainCause};
 
+use crate::directory::{DirStop, make_directory};
 use crate::ready::{Move, Ready};
-use lr_host::{CallFault, Host, Kind, Seen};
+use lr_host::{CallFault, Host};
 use lr_rules::{CallKind, Path};
 
 /// Why a rotation broke off, its removals aside.
@@ -20,21 +21,8 @@ pub enum ChainStop<'a> {
     NotFile(&'a Path),
 }
 
-fn shows_dir(look: Option<Seen>) -> bool
-    ensures { result ≡ is_dir look }
-{
-    match look {
-        Some(seen) => match seen.kind {
-            Kind::Dir => true,
-            Kind::File => false,
-            Kind::Other => false,
-        },
-        None => false,
-    }
-}
-
-// Makes the directory; where something has the path, that has to be one. Links are followed.
-fn make_directory<'a, H: Host>(
+// Makes the directory of a rotation.
+fn make_own_directory<'a, H: Host>(
     host: &mut H,
     dir: &'a Path,
     mode: Option<u32>,
@@ -42,23 +30,14 @@ fn make_directory<'a, H: Host>(
     requires { Can (H.told host.old) (entry.MakesDir dir.now mode) }
     ensures told { OnOk result (Left (DirMade dir.now mode) (H.told host.old) (H.told host.new)) }
     ensures refused { IfErr result (λ stop. Left (DirRefused (Some (dir.now, mode)) stop) (H.told host.old) (H.told host.new)) }
-    ensures cause { IfErr result (λ stop. DirCause (Some (dir.now, mode)) stop (H.counts host.old) (H.counts host.new)) }
+    ensures cause { IfErr result (λ stop. DirRefusedCause (Some (dir.now, mode)) stop (H.counts host.old) (H.counts host.new)) }
     ensures counts { Onward (H.counts host.old) (H.counts host.new) }
 {
-    let Ok(made) = host.make_dir(dir, mode) else {
-        return Err(ChainStop::Call(CallKind::MakeDir, dir));
-    };
-    if made {
-        return Ok(());
-    }
-    let Ok(look) = host.look(dir, true) else {
-        return Err(ChainStop::Call(CallKind::Look, dir));
-    };
-    // What had the path when the make found it named is still there, so a look that saw nothing doesn't come.
-    if shows_dir(look) {
-        Ok(())
-    } else {
-        Err(ChainStop::NotFile(dir))
+    match make_directory(host, dir, mode) {
+        Ok(()) => Ok(()),
+        Err(DirStop::Make) => Err(ChainStop::Call(CallKind::MakeDir, dir)),
+        Err(DirStop::Look) => Err(ChainStop::Call(CallKind::Look, dir)),
+        Err(DirStop::NotDir) => Err(ChainStop::NotFile(dir)),
     }
 }
 
@@ -100,7 +79,7 @@ pub fn shift<'a, H: Host>(host: &mut H, ready: &'a Ready) -> Result<(), ChainSto
     ensures counts { Onward (H.counts host.old) (H.counts host.new) }
 {
     match &ready.dir {
-        Some((dir, mode)) => match make_directory(host, dir, *mode) {
+        Some((dir, mode)) => match make_own_directory(host, dir, *mode) {
             Ok(()) => move_members(host, ready),
             Err(stop) => Err(stop),
         },

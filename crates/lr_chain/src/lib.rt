@@ -16,6 +16,7 @@
 
 mod behind;
 mod chain;
+mod directory;
 mod laws;
 mod place;
 mod plan;
@@ -25,6 +26,7 @@ mod retirement;
 
 pub use behind::is_expired;
 pub use chain::{ChainStop, shift, turn};
+pub use directory::{DirStop, make_directory};
 pub use laws::{rotation_fits, rotation_turns, steps_of_ready};
 pub use preparing::prepare;
 pub use ready::{Move, PrepareStop, Ready};

@@ -16,7 +16,8 @@ use Rattle.lr_plan.specs.declared.step.Step.{Step}
 use Rattle.lr_plan.specs.declared.step.Step.TheVariants as step
 use Rattle.lr_plan.specs.Appending.{Appended, no_more, piece_more, AppendBroke, at_piece, in_piece, piece_on}
 use Rattle.lr_plan.specs.Course.{Course}
-use Rattle.lr_plan.specs.Outcomes.{Succeeds, Fails, badly, not_run, maybe_run, at_make, at_look, no_dir}
+use Rattle.lr_chain.specs.declared.directory.DirStop.TheVariants as unmade
+use Rattle.lr_plan.specs.Outcomes.{Succeeds, Fails, badly, not_run, maybe_run}
 use Rattle.lr_plan.specs.Steps.{step_if}
 use Rattle.lr_emptied.specs.Steps.{named_steps}
 use Rattle.lr_emptied.proofs.Lists.{Stands, in_first, in_second, stands, not_in_none, only_one}
@@ -64,9 +65,9 @@ failed_none (step.Runs phase on command) f ts i (badly end ne is one) = one_none
 failed_none (step.Runs phase on command) f ts i (not_run is none) = none_at_all ts none
 failed_none (step.Runs phase on command) f ts i (maybe_run end is one) = one_none _ ts tt one
 failed_none (step.Removes path) f ts i h = maybe_none (entry.Unlinks path) ts tt h.1
-failed_none (step.MakesDir path mode) f ts i (at_make h) = maybe_none (entry.MakesDir path mode) ts tt h.1
-failed_none (step.MakesDir path mode) f ts i (at_look is none) = none_at_all ts none
-failed_none (step.MakesDir path mode) f ts i (no_dir is s) = one_none (entry.Look path s.seen) ts tt s.look
+failed_none (step.MakesDir path mode) f ts i (unmade.Make, is, made) = maybe_none (entry.MakesDir path mode) ts tt made
+failed_none (step.MakesDir path mode) f ts i (unmade.Look, is, none) = none_at_all ts none
+failed_none (step.MakesDir path mode) f ts i (unmade.NotDir, is, s) = one_none (entry.Look path s.seen) ts tt s.look
 failed_none (step.Renames from to) f ts i h = maybe_none (entry.Renames from to) ts tt h.1
 failed_none (step.Creates path mode) f ts i h = maybe_none (entry.Makes path mode) ts tt h.1
 failed_none (step.Takes path mode) f ts i h = ⊎_elim (λ c. maybe_none (entry.Makes path mode) ts tt c.1) (λ t. none_at_all ts t.1) h

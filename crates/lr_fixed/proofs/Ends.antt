@@ -29,7 +29,8 @@ use Rattle.lr_plan.specs.declared.step.Step.{Step}
 use Rattle.lr_plan.specs.declared.step.Step.TheVariants.{Runs, Removes, MakesDir, Renames, Creates, Takes, Copies, SyncsFile, SyncsDir, Truncates, Rotated}
 use Rattle.lr_plan.specs.Course.{Part, Nothing, Course, Unbroken, Both}
 use Rattle.lr_plan.specs.Done.{EachDone, LogsDone, SetDone, broke_off, went_on, SetsDone, if_rotated, is_rotated}
-use Rattle.lr_plan.specs.Outcomes.{Maybe, bytes_fault, Succeeds, Fails, marks_of, ProgramFailed, badly, not_run, maybe_run, DirFailed, at_make, at_look, no_dir}
+use Rattle.lr_chain.specs.declared.directory.DirStop.TheVariants as unmade
+use Rattle.lr_plan.specs.Outcomes.{Maybe, bytes_fault, Succeeds, Fails, marks_of, ProgramFailed, badly, not_run, maybe_run}
 use Rattle.lr_acts.specs.Making.{all_of_each, all_of_set, all_of_sets}
 use Rattle.lr_run.proofs.Called.{none_before, none_behind}
 use Rattle.lr_run.proofs.Folded.{last_so}
@@ -85,10 +86,10 @@ told_end p on c f ts (maybe_run end e o) z = absurd (no_call f (fault.Call call.
 -- ---- one directory
 
 -- where no call failed, something else had the path
-other_told : (path : Path) (mode : Option ℕ) (f : Fault) (ts : List Entry) → DirFailed path mode f ts → call_in f ≡ 0 → (f ≡ fault.NotFile path) × Sees path IsNoDir ts
-other_told path mode f ts (at_make h) z = absurd (no_call f (fault.Call call.MakeDir path) h.0 refl z)
-other_told path mode f ts (at_look e o) z = absurd (no_call f (fault.Call call.Look path) e refl z)
-other_told path mode f ts (no_dir e saw) z = (e, saw)
+other_told : (path : Path) (mode : Option ℕ) (f : Fault) (ts : List Entry) → Fails (MakesDir path mode) f ts → call_in f ≡ 0 → (f ≡ fault.NotFile path) × Sees path IsNoDir ts
+other_told path mode f ts (unmade.Make, is, made) z = absurd (no_call f (fault.Call call.MakeDir path) is refl z)
+other_told path mode f ts (unmade.Look, e, o) z = absurd (no_call f (fault.Call call.Look path) e refl z)
+other_told path mode f ts (unmade.NotDir, e, saw) z = (e, saw)
 
 -- it is made, or is there: by one entry
 dir_end : (path : Path) (mode : Option ℕ) (ts : List Entry) → Succeeds (MakesDir path mode) ts → (x : Entry) × (ends_in ts ≡ x ∷ [])

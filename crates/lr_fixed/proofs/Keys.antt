@@ -25,7 +25,8 @@ use Rattle.lr_plan.specs.declared.step.Step.{Step}
 use Rattle.lr_plan.specs.declared.step.Step.TheVariants.{Runs, Removes, MakesDir, Renames, Creates, Takes, Copies, SyncsFile, SyncsDir, Truncates, Rotated}
 use Rattle.lr_plan.specs.Course.{Course}
 use Rattle.lr_plan.specs.Done.{EachDone, LogsDone, SetDone, broke_off, went_on, SetsDone, is_rotated}
-use Rattle.lr_plan.specs.Outcomes.{Maybe, bytes_fault, Succeeds, Fails, ProgramFailed, badly, not_run, maybe_run, DirFailed, at_make, at_look, no_dir}
+use Rattle.lr_chain.specs.declared.directory.DirStop.TheVariants as unmade
+use Rattle.lr_plan.specs.Outcomes.{Maybe, bytes_fault, Succeeds, Fails, ProgramFailed, badly, not_run, maybe_run}
 use Rattle.lr_acts.specs.Making.{all_of_each, all_of_set, all_of_sets}
 use Rattle.lr_run.proofs.Simple.{IsSimple, AreSimple, simple_split}
 
@@ -241,10 +242,10 @@ program_keep p on c f ts (badly end bad e o) = plain [] f (fault.Script p on end
 program_keep p on c f ts (not_run e o) = plain [] f (fault.Call call.Run c.program) ts e refl (empty_left [] ts o)
 program_keep p on c f ts (maybe_run end e o) = plain [] f (fault.Call call.Run c.program) ts e refl (one_left [] (runs c end) ts (λ k x. x) o)
 
-dir_keep : (path : Path) (mode : Option ℕ) (f : Fault) (ts : List Entry) → DirFailed path mode f ts → Keep [] (f ∷ []) ts
-dir_keep path mode f ts (at_make h) = plain [] f (fault.Call call.MakeDir path) ts h.0 refl (maybe_left [] (entry.MakesDir path mode) ts (λ k x. x) h.1)
-dir_keep path mode f ts (at_look e o) = plain [] f (fault.Call call.Look path) ts e refl (empty_left [] ts o)
-dir_keep path mode f ts (no_dir e saw) = plain [] f (fault.NotFile path) ts e refl (one_left [] (entry.Look path saw.seen) ts (λ k x. x) saw.look)
+dir_keep : (path : Path) (mode : Option ℕ) (f : Fault) (ts : List Entry) → Fails (MakesDir path mode) f ts → Keep [] (f ∷ []) ts
+dir_keep path mode f ts (unmade.Make, is, made) = plain [] f (fault.Call call.MakeDir path) ts is refl (maybe_left [] (entry.MakesDir path mode) ts (λ k x. x) made)
+dir_keep path mode f ts (unmade.Look, e, o) = plain [] f (fault.Call call.Look path) ts e refl (empty_left [] ts o)
+dir_keep path mode f ts (unmade.NotDir, e, saw) = plain [] f (fault.NotFile path) ts e refl (one_left [] (entry.Look path saw.seen) ts (λ k x. x) saw.look)
 
 take_keep : (path : Path) (mode : Option ℕ) (f : Fault) (ts : List Entry) → Fails (Takes path mode) f ts → Keep (Made path ∷ []) (f ∷ []) ts
 take_keep path mode f ts (inl h) = plain (Made path ∷ []) f (fault.Call call.Make path) ts h.0 refl (maybe_left (Made path ∷ []) (entry.Makes path mode) ts (λ k x. x) h.1)

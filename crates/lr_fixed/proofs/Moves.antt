@@ -22,7 +22,8 @@ use Rattle.lr_plan.specs.declared.mark.Mark.{Mark}
 use Rattle.lr_plan.specs.declared.step.SetSteps.{SetSteps}
 use Rattle.lr_plan.specs.declared.step.Step.{Step}
 use Rattle.lr_plan.specs.declared.step.Step.TheVariants.{Runs, Removes, MakesDir, Renames, Creates, Takes, Copies, SyncsFile, SyncsDir, Truncates, Rotated}
-use Rattle.lr_plan.specs.Outcomes.{Succeeds, Fails, ProgramFailed, badly, not_run, maybe_run, DirFailed, at_make, at_look, no_dir}
+use Rattle.lr_chain.specs.declared.directory.DirStop.TheVariants as unmade
+use Rattle.lr_plan.specs.Outcomes.{Succeeds, Fails, ProgramFailed, badly, not_run, maybe_run}
 use Rattle.lr_plan.specs.Done.{SetsDone}
 use Rattle.lr_plan.specs.Planned.{all_plans}
 use Rattle.lr_plan.specs.Steps.{steps_of_set}
@@ -88,10 +89,10 @@ program_moves p on c f ts (badly end bad e o) = one_leaves IsMove _ ts tt o
 program_moves p on c f ts (not_run e o) = none_leaves IsMove ts o
 program_moves p on c f ts (maybe_run end e o) = one_leaves IsMove _ ts tt o
 
-dir_failed_moves : (path : Path) (mode : Option ℕ) (f : Fault) (ts : List Entry) → DirFailed path mode f ts → Each IsMove ts
-dir_failed_moves path mode f ts (at_make h) = maybe_leaves IsMove (entry.MakesDir path mode) ts tt h.1
-dir_failed_moves path mode f ts (at_look e o) = none_leaves IsMove ts o
-dir_failed_moves path mode f ts (no_dir e saw) = one_leaves IsMove (entry.Look path saw.seen) ts tt saw.look
+dir_failed_moves : (path : Path) (mode : Option ℕ) (f : Fault) (ts : List Entry) → Fails (MakesDir path mode) f ts → Each IsMove ts
+dir_failed_moves path mode f ts (unmade.Make, is, made) = maybe_leaves IsMove (entry.MakesDir path mode) ts tt made
+dir_failed_moves path mode f ts (unmade.Look, e, o) = none_leaves IsMove ts o
+dir_failed_moves path mode f ts (unmade.NotDir, e, saw) = one_leaves IsMove (entry.Look path saw.seen) ts tt saw.look
 
 failed_moves : (s : Step) (f : Fault) (ts : List Entry) → IsSimple s → Fails s f ts → Each IsMove ts
 failed_moves (Runs p on command) f ts i h = program_moves p on command f ts h

@@ -1,5 +1,5 @@
 -- What a step leaves: where it was made, and where it failed.
-use Rattle.std.specs.Prelude.{◌≡◌, ◌≢◌, ◌⊎◌, pos, ℕ, List, [], ◌∷◌, Option}
+use Rattle.std.specs.Prelude.{◌≡◌, ◌≢◌, ◌⊎◌, pos, ℕ, List, [], ◌∷◌}
 use Rattle.lr_rules.specs.declared.path.Path.{Path}
 use Rattle.lr_rules.specs.declared.fault.CallKind.TheVariants as call
 use Rattle.lr_rules.specs.declared.fault.Ended.{Ended}
@@ -9,9 +9,11 @@ use Rattle.lr_rules.specs.declared.fault.Fault.TheVariants as fault
 use Rattle.lr_rules.specs.declared.fault.Phase.{Phase}
 use Rattle.lr_host.specs.declared.entry.Entry.{Entry}
 use Rattle.lr_host.specs.declared.entry.Entry.TheVariants as entry
-use Rattle.lr_host.specs.Looks.{Sees, IsDir, IsNoDir}
 use Rattle.lr_scripts.specs.declared.command.Command.{Command}
 use Rattle.lr_scripts.specs.Programs.{runs}
+use Rattle.lr_chain.specs.declared.directory.DirStop.{DirStop}
+use Rattle.lr_chain.specs.declared.directory.DirStop.TheVariants as unmade
+use Rattle.lr_chain.specs.Directory.{DirMade, DirStopped}
 use Rattle.lr_copy.specs.declared.job.BytesStop.{BytesStop}
 use Rattle.lr_copy.specs.declared.job.BytesStop.TheVariants as broke
 use Rattle.lr_copy.specs.Bytes.{AllBytes, BytesBroke}
@@ -32,7 +34,7 @@ Maybe e ts = (ts ≡ []) ⊎ (ts ≡ e ∷ [])
 abbrev pub Succeeds : Step → List Entry → Type 0
 Succeeds (Runs phase on command) ts = One (runs command (ended.Exit (pos 0))) ts
 Succeeds (Removes path) ts = One (entry.Unlinks path) ts
-Succeeds (MakesDir path mode) ts = One (entry.MakesDir path mode) ts ⊎ Sees path IsDir ts
+Succeeds (MakesDir path mode) ts = DirMade path mode ts
 Succeeds (Renames from to) ts = One (entry.Renames from to) ts
 Succeeds (Creates path mode) ts = Maybe (entry.Makes path mode) ts
 Succeeds (Takes path mode) ts = One (entry.Makes path mode) ts
@@ -60,11 +62,11 @@ pub data ProgramFailed (phase : Phase) (on : List ℕ) (command : Command) (f : 
   not_run : f ≡ fault.Call call.Run command.program → ts ≡ [] → ProgramFailed phase on command f ts
   maybe_run : (end : Ended) → f ≡ fault.Call call.Run command.program → One (runs command end) ts → ProgramFailed phase on command f ts
 
--- a directory couldn't be made, or something else has the path
-pub data DirFailed (path : Path) (mode : Option ℕ) (f : Fault) (ts : List Entry) : Type 0 where
-  at_make : CallFailed (fault.Call call.MakeDir path) f (entry.MakesDir path mode) ts → DirFailed path mode f ts
-  at_look : f ≡ fault.Call call.Look path → ts ≡ [] → DirFailed path mode f ts
-  no_dir : f ≡ fault.NotFile path → Sees path IsNoDir ts → DirFailed path mode f ts
+-- what is told of a directory that wasn't made
+abbrev pub dir_fault : Path → DirStop → Fault
+dir_fault path unmade.Make = fault.Call call.MakeDir path
+dir_fault path unmade.Look = fault.Call call.Look path
+dir_fault path unmade.NotDir = fault.NotFile path
 
 -- what is told of a copy of bytes that broke off
 abbrev pub bytes_fault : Path → Path → BytesStop → Fault
@@ -76,7 +78,7 @@ bytes_fault from to broke.TooLong = fault.TooLong from
 abbrev pub Fails : Step → Fault → List Entry → Type 0
 Fails (Runs phase on command) f ts = ProgramFailed phase on command f ts
 Fails (Removes path) f ts = CallFailed (fault.Call call.Unlink path) f (entry.Unlinks path) ts
-Fails (MakesDir path mode) f ts = DirFailed path mode f ts
+Fails (MakesDir path mode) f ts = (why : DirStop) × (f ≡ dir_fault path why) × DirStopped path mode why ts
 Fails (Renames from to) f ts = CallFailed (fault.Call call.Rename from) f (entry.Renames from to) ts
 Fails (Creates path mode) f ts = CallFailed (fault.Call call.Make path) f (entry.Makes path mode) ts
 Fails (Takes path mode) f ts = CallFailed (fault.Call call.Make path) f (entry.Makes path mode) ts ⊎ ((f ≡ fault.Taken path) × (ts ≡ []))

@@ -12,7 +12,8 @@ use Rattle.lr_copy.specs.declared.job.BytesStop.{BytesStop}
 use Rattle.lr_copy.specs.declared.job.BytesStop.TheVariants as broke
 use Rattle.lr_plan.specs.declared.step.Step.{Step}
 use Rattle.lr_plan.specs.declared.step.Step.TheVariants.{Runs, Removes, MakesDir, Renames, Creates, Takes, Copies, Appends, SyncsFile, SyncsDir, Truncates, Rotated}
-use Rattle.lr_plan.specs.Outcomes.{bytes_fault, Fails, ProgramFailed, badly, not_run, maybe_run, DirFailed, at_make, at_look, no_dir}
+use Rattle.lr_chain.specs.declared.directory.DirStop.TheVariants as unmade
+use Rattle.lr_plan.specs.Outcomes.{bytes_fault, Fails, ProgramFailed, badly, not_run, maybe_run}
 use Rattle.lr_reached.specs.Ending.{NoneEnds}
 use Rattle.lr_reached.proofs.Ends.{is_none}
 
@@ -39,10 +40,10 @@ IsAside state x = (x ≢ state) × (x ≢ state ++ codes ".tmp")
 pub makes_dir : (state x : Path) (mode : Option ℕ) → IsAside state x → FailsPlainly state (MakesDir x mode)
 makes_dir state x mode aside f ts h = go h
   where
-    go : DirFailed x mode f ts → NoneEnds state (f ∷ [])
-    go (at_make h) = is_none state f (fault.Call call.MakeDir x) h.0 (λ e. e)
-    go (at_look e o) = is_none state f (fault.Call call.Look x) e (λ e. e)
-    go (no_dir e saw) = is_none state f (fault.NotFile x) e (λ e. ⊎_elim aside.0 aside.1 e)
+    go : Fails (MakesDir x mode) f ts → NoneEnds state (f ∷ [])
+    go (unmade.Make, is, made) = is_none state f (fault.Call call.MakeDir x) is (λ e. e)
+    go (unmade.Look, e, o) = is_none state f (fault.Call call.Look x) e (λ e. e)
+    go (unmade.NotDir, e, saw) = is_none state f (fault.NotFile x) e (λ e. ⊎_elim aside.0 aside.1 e)
 
 pub renames : (state from to : Path) → FailsPlainly state (Renames from to)
 renames state from to f ts h = is_none state f (fault.Call call.Rename from) h.0 (λ e. e)

@@ -24,7 +24,8 @@ use Rattle.lr_plan.specs.declared.step.Step.{Step}
 use Rattle.lr_plan.specs.declared.step.Step.TheVariants.{Runs, Removes, MakesDir, Renames, Creates, Takes, Copies, SyncsFile, SyncsDir, Truncates, Rotated}
 use Rattle.lr_host.specs.Counted.{call_in, calls_in, script_in, scripts_in}
 use Rattle.lr_plan.specs.Done.{PlanDone}
-use Rattle.lr_plan.specs.Outcomes.{bytes_fault, Fails, ProgramFailed, badly, not_run, maybe_run, DirFailed, at_make, at_look, no_dir}
+use Rattle.lr_chain.specs.declared.directory.DirStop.TheVariants as unmade
+use Rattle.lr_plan.specs.Outcomes.{bytes_fault, Fails, ProgramFailed, badly, not_run, maybe_run}
 use Rattle.lr_plan.specs.Planned.{plan_of}
 use Rattle.lr_plan.specs.Steps.{steps_of_plan}
 use Rattle.lr_host.proofs.Counts.{calls_on, scripts_on}
@@ -118,10 +119,10 @@ bytes_stopped dirs from to broke.Read f e = is_stop dirs f (fault.Call call.Read
 bytes_stopped dirs from to broke.Append f e = is_stop dirs f (fault.Call call.Append to) e refl
 bytes_stopped dirs from to broke.TooLong f e = is_copy dirs f (fault.TooLong from) e tt
 
-dir_stopped : (dirs : List Path) (path : Path) (mode : Option ℕ) (f : Fault) (ts : List Entry) → IsIn path dirs → DirFailed path mode f ts → AreStops dirs (f ∷ [])
-dir_stopped dirs path mode f ts i (at_make h) = is_stop dirs f (fault.Call call.MakeDir path) h.0 refl
-dir_stopped dirs path mode f ts i (at_look e o) = is_stop dirs f (fault.Call call.Look path) e refl
-dir_stopped dirs path mode f ts i (no_dir e saw) = (inr (inr (path, i, e)), tt)
+dir_stopped : (dirs : List Path) (path : Path) (mode : Option ℕ) (f : Fault) (ts : List Entry) → IsIn path dirs → Fails (MakesDir path mode) f ts → AreStops dirs (f ∷ [])
+dir_stopped dirs path mode f ts i (unmade.Make, is, made) = is_stop dirs f (fault.Call call.MakeDir path) is refl
+dir_stopped dirs path mode f ts i (unmade.Look, e, o) = is_stop dirs f (fault.Call call.Look path) e refl
+dir_stopped dirs path mode f ts i (unmade.NotDir, e, saw) = (inr (inr (path, i, e)), tt)
 
 -- a simple step, which makes no directory but one of these
 abbrev IsStep : List Path → Step → Type 0

@@ -18,7 +18,8 @@ use Rattle.lr_plan.specs.declared.mark.Mark.{Mark}
 use Rattle.lr_plan.specs.declared.step.SetSteps.{SetSteps}
 use Rattle.lr_plan.specs.declared.step.Step.{Step}
 use Rattle.lr_plan.specs.declared.step.Step.TheVariants.{Runs, Removes, MakesDir, Renames, Creates, Takes, Copies, SyncsFile, SyncsDir, Truncates, Rotated}
-use Rattle.lr_plan.specs.Outcomes.{Succeeds, Fails, ProgramFailed, badly, not_run, maybe_run, DirFailed, at_make, at_look, no_dir}
+use Rattle.lr_chain.specs.declared.directory.DirStop.TheVariants as unmade
+use Rattle.lr_plan.specs.Outcomes.{Succeeds, Fails, ProgramFailed, badly, not_run, maybe_run}
 use Rattle.lr_plan.specs.Done.{SetsDone}
 use Rattle.lr_plan.specs.Internal.Cut.{SetsCut}
 use Rattle.lr_acts.specs.Making.{all_of_sets}
@@ -82,10 +83,10 @@ module _ (P : Entry → Type 0) (read : (x : Path) (place : ℕ) (piece : List �
   take_so path mode f ts (inl h) = maybe_so (entry.Makes path mode) ts (other _ tt) h.1
   take_so path mode f ts (inr h) = are_so ts [] h.1 tt
 
-  dir_so : (path : Path) (mode : Option ℕ) (f : Fault) (ts : List Entry) → DirFailed path mode f ts → Each P ts
-  dir_so path mode f ts (at_make h) = maybe_so (entry.MakesDir path mode) ts (other _ tt) h.1
-  dir_so path mode f ts (at_look e o) = are_so ts [] o tt
-  dir_so path mode f ts (no_dir e saw) = are_so ts _ saw.look (other _ tt, tt)
+  dir_so : (path : Path) (mode : Option ℕ) (f : Fault) (ts : List Entry) → Fails (MakesDir path mode) f ts → Each P ts
+  dir_so path mode f ts (unmade.Make, is, made) = maybe_so (entry.MakesDir path mode) ts (other _ tt) made
+  dir_so path mode f ts (unmade.Look, e, o) = are_so ts [] o tt
+  dir_so path mode f ts (unmade.NotDir, e, saw) = are_so ts _ saw.look (other _ tt, tt)
 
   failed_so : (s : Step) (f : Fault) (ts : List Entry) → IsSimple s → Fails s f ts → Each P ts
   failed_so (Runs p on command) f ts i h = program_so p on command f ts h

@@ -21,7 +21,8 @@ use Rattle.lr_plan.specs.declared.planned.SetPlan.{SetPlan}
 use Rattle.lr_plan.specs.declared.step.Step.{Step}
 use Rattle.lr_plan.specs.declared.step.Step.TheVariants as step
 use Rattle.lr_plan.specs.Course.{Course}
-use Rattle.lr_plan.specs.Outcomes.{Fails, badly, not_run, maybe_run, at_make, at_look, no_dir, bytes_fault}
+use Rattle.lr_chain.specs.declared.directory.DirStop.TheVariants as unmade
+use Rattle.lr_plan.specs.Outcomes.{Fails, badly, not_run, maybe_run, bytes_fault}
 use Rattle.lr_plan.specs.Steps.{state_part}
 use Rattle.lr_synced.specs.Synced.{made_of, to_make_of, all_to_make_of}
 use Rattle.lr_rotations.proofs.Weaving.{each_in}
@@ -124,9 +125,9 @@ module _ (x : Path) where
   step_saw (step.Runs phase on command) f ts is (not_run same none) = absurd (cc)
   step_saw (step.Runs phase on command) f ts is (maybe_run end same one) = absurd (cc)
   step_saw (step.Removes path) f ts is h = let same = h.0 in absurd (cc)
-  step_saw (step.MakesDir path mode) f ts is (at_make h) = let same = h.0 in absurd (cc)
-  step_saw (step.MakesDir path mode) f ts is (at_look same none) = absurd (cc)
-  step_saw (step.MakesDir path mode) f ts is (no_dir same saw) = saw_it path saw.seen ts (let both : fault.NotFile path ≡ fault.NotFile x = sym same ∙ is in cc) saw.is saw.look
+  step_saw (step.MakesDir path mode) f ts is (unmade.Make, same, made) = absurd (cc)
+  step_saw (step.MakesDir path mode) f ts is (unmade.Look, same, none) = absurd (cc)
+  step_saw (step.MakesDir path mode) f ts is (unmade.NotDir, same, saw) = saw_it path saw.seen ts (let both : fault.NotFile path ≡ fault.NotFile x = sym same ∙ is in cc) saw.is saw.look
   step_saw (step.Renames from to) f ts is h = let same = h.0 in absurd (cc)
   step_saw (step.Creates path mode) f ts is h = let same = h.0 in absurd (cc)
   step_saw (step.Takes path mode) f ts is h = ⊎_elim (λ a. let same = a.0 in absurd (cc)) (λ t. let same = t.0 in absurd (cc)) h

@@ -22,7 +22,8 @@ use Rattle.lr_plan.specs.declared.planned.LogPlan.{LogPlan}
 use Rattle.lr_plan.specs.declared.step.Step.{Step}
 use Rattle.lr_plan.specs.declared.step.Step.TheVariants as step
 use Rattle.lr_plan.specs.Course.{Course}
-use Rattle.lr_plan.specs.Outcomes.{Fails, badly, not_run, maybe_run, at_make, at_look, no_dir, bytes_fault}
+use Rattle.lr_chain.specs.declared.directory.DirStop.TheVariants as unmade
+use Rattle.lr_plan.specs.Outcomes.{Fails, badly, not_run, maybe_run, bytes_fault}
 use Rattle.lr_plan.specs.Steps.{step_if, copy, rotation_of, retirement_of}
 use Rattle.lr_run.proofs.Courses.{IsNoCopy, a_rotation, a_retirement}
 
@@ -108,9 +109,9 @@ module _ (C : Path → ℕ → Type 0) (x : Path) where
   step_over (step.Runs phase on command) f ts is c (not_run same none) = absurd (cc)
   step_over (step.Runs phase on command) f ts is c (maybe_run end same one) = absurd (cc)
   step_over (step.Removes path) f ts is c h = let same = h.0 in absurd (cc)
-  step_over (step.MakesDir path mode) f ts is c (at_make h) = let same = h.0 in absurd (cc)
-  step_over (step.MakesDir path mode) f ts is c (at_look same none) = absurd (cc)
-  step_over (step.MakesDir path mode) f ts is c (no_dir same saw) = absurd (cc)
+  step_over (step.MakesDir path mode) f ts is c (unmade.Make, same, made) = absurd (cc)
+  step_over (step.MakesDir path mode) f ts is c (unmade.Look, same, none) = absurd (cc)
+  step_over (step.MakesDir path mode) f ts is c (unmade.NotDir, same, saw) = absurd (cc)
   step_over (step.Renames from to) f ts is c h = let same = h.0 in absurd (cc)
   step_over (step.Creates path mode) f ts is c h = let same = h.0 in absurd (cc)
   step_over (step.Takes path mode) f ts is c h = ⊎_elim (λ a. let same = a.0 in absurd (cc)) (λ t. let same = t.0 in absurd (cc)) h

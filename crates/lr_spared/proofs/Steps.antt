@@ -19,7 +19,8 @@ use Rattle.lr_plan.specs.declared.step.Step.TheVariants as step
 use Rattle.lr_plan.specs.Appending.{Appended, no_more, piece_more, AppendBroke, at_piece, in_piece, piece_on}
 use Rattle.lr_plan.specs.Course.{Course}
 use Rattle.lr_plan.specs.Done.{EachDone, LogsDone, SetDone, broke_off, went_on, SetsDone, is_rotated}
-use Rattle.lr_plan.specs.Outcomes.{Succeeds, Fails, ProgramFailed, badly, not_run, maybe_run, DirFailed, at_make, at_look, no_dir, bytes_fault}
+use Rattle.lr_chain.specs.declared.directory.DirStop.TheVariants as unmade
+use Rattle.lr_plan.specs.Outcomes.{Succeeds, Fails, ProgramFailed, badly, not_run, maybe_run, bytes_fault}
 use Rattle.lr_acts.specs.Making.{all_of_each, all_of_set, all_of_sets}
 use Rattle.lr_acts.specs.Taken.{TakesAt, OneTakes, RemovesAt, NoneRemoves, LastTaken}
 use Rattle.lr_spared.proofs.Naming.{Avoids}
@@ -176,10 +177,10 @@ module _ (x : Path) where
   program_avoids phase on command f ts (not_run is none) = each_none P none
   program_avoids phase on command f ts (maybe_run end is one) = each_one P one tt
 
-  dir_avoids : (path : Path) (mode : Option ℕ) (f : Fault) (ts : List Entry) → (path ≡ x → ⊥) → DirFailed path mode f ts → Each P ts
-  dir_avoids path mode f ts k (at_make c) = each_maybe P (entry.MakesDir path mode) c.1 k
-  dir_avoids path mode f ts k (at_look is none) = each_none P none
-  dir_avoids path mode f ts k (no_dir is saw) = each_one P saw.look tt
+  dir_avoids : (path : Path) (mode : Option ℕ) (f : Fault) (ts : List Entry) → (path ≡ x → ⊥) → Fails (step.MakesDir path mode) f ts → Each P ts
+  dir_avoids path mode f ts k (unmade.Make, is, made) = each_maybe P (entry.MakesDir path mode) made k
+  dir_avoids path mode f ts k (unmade.Look, is, none) = each_none P none
+  dir_avoids path mode f ts k (unmade.NotDir, is, saw) = each_one P saw.look tt
 
   -- of one that failed
   failed_avoids : (s : Step) (f : Fault) (ts : List Entry) → (NamesAt x s → ⊥) → Fails s f ts → Each P ts
@@ -202,9 +203,9 @@ takes_it x (step.Runs phase on command) f ts is (badly end ne same one) = absurd
 takes_it x (step.Runs phase on command) f ts is (not_run same none) = absurd (cc)
 takes_it x (step.Runs phase on command) f ts is (maybe_run end same one) = absurd (cc)
 takes_it x (step.Removes path) f ts is h = let same = h.0 in absurd (cc)
-takes_it x (step.MakesDir path mode) f ts is (at_make c) = let same = c.0 in absurd (cc)
-takes_it x (step.MakesDir path mode) f ts is (at_look same none) = absurd (cc)
-takes_it x (step.MakesDir path mode) f ts is (no_dir same saw) = absurd (cc)
+takes_it x (step.MakesDir path mode) f ts is (unmade.Make, same, made) = absurd (cc)
+takes_it x (step.MakesDir path mode) f ts is (unmade.Look, same, none) = absurd (cc)
+takes_it x (step.MakesDir path mode) f ts is (unmade.NotDir, same, saw) = absurd (cc)
 takes_it x (step.Renames from to) f ts is h = let same = h.0 in absurd (cc)
 takes_it x (step.Creates path mode) f ts is h = let same = h.0 in absurd (cc)
 takes_it x (step.Takes path mode) f ts is h = ⊎_elim (λ c. let same = c.0 in absurd (cc)) (λ t. (let same = t.0 in cc, t.1)) h

@@ -24,7 +24,8 @@ use Rattle.lr_plan.specs.declared.mark.Mark.{Mark}
 use Rattle.lr_plan.specs.declared.step.Step.{Step}
 use Rattle.lr_plan.specs.declared.step.Step.TheVariants as step
 use Rattle.lr_plan.specs.declared.step.SetSteps.{SetSteps}
-use Rattle.lr_plan.specs.Outcomes.{Succeeds, Fails, badly, not_run, maybe_run, at_make, at_look, no_dir}
+use Rattle.lr_chain.specs.declared.directory.DirStop.TheVariants as unmade
+use Rattle.lr_plan.specs.Outcomes.{Succeeds, Fails, badly, not_run, maybe_run}
 use Rattle.lr_plan.specs.Course.{Course}
 use Rattle.lr_plan.specs.Internal.Cut.{CourseCut, ListCut, LogsCut, in_each, in_last, SetCut, in_first, in_logs, SetsCut}
 use Rattle.lr_plan.specs.Done.{EachDone, LogsDone, is_rotated, if_rotated, SetDone, broke_off, went_on, SetsDone}
@@ -74,9 +75,9 @@ failed_changes P (step.Runs phase on command) f ts i (maybe_run end is one) = ([
 failed_changes P (step.Removes path) f ts i h = maybe_first (entry.Unlinks path) ts h.1
 failed_changes P (step.Renames from to) f ts i h = maybe_first (entry.Renames from to) ts h.1
 failed_changes P (step.Creates path mode) f ts i h = maybe_first (entry.Makes path mode) ts h.1
-failed_changes P (step.MakesDir path mode) f ts i (at_make h) = maybe_first (entry.MakesDir path mode) ts h.1
-failed_changes P (step.MakesDir path mode) f ts i (at_look is nothing) = ([], sym (append-nil (filter takes_name ts) ∙ changes_are ts [] nothing))
-failed_changes P (step.MakesDir path mode) f ts i (no_dir is saw) = ([], sym (append-nil (filter takes_name ts) ∙ changes_are ts _ saw.look))
+failed_changes P (step.MakesDir path mode) f ts i (unmade.Make, is, made) = maybe_first (entry.MakesDir path mode) ts made
+failed_changes P (step.MakesDir path mode) f ts i (unmade.Look, is, nothing) = ([], sym (append-nil (filter takes_name ts) ∙ changes_are ts [] nothing))
+failed_changes P (step.MakesDir path mode) f ts i (unmade.NotDir, is, saw) = ([], sym (append-nil (filter takes_name ts) ∙ changes_are ts _ saw.look))
 failed_changes P (step.Takes path mode) f ts i (inl h) = maybe_first (entry.Makes path mode) ts h.1
 failed_changes P (step.Takes path mode) f ts i (inr h) = ([], sym (append-nil (filter takes_name ts) ∙ changes_are ts [] h.1))
 failed_changes P (step.Copies from to limit) f ts i h = ([], sym (append-nil (filter takes_name ts) ∙ broke_none from to limit h.0 ts h.2))
@@ -117,9 +118,9 @@ failed_only P (step.Runs phase on command) f ts i (maybe_run end is one) = one_o
 failed_only P (step.Removes path) f ts i h = maybe_only P (entry.Unlinks path) ts tt h.1
 failed_only P (step.Renames from to) f ts i h = maybe_only P (entry.Renames from to) ts tt h.1
 failed_only P (step.Creates path mode) f ts i h = maybe_only P (entry.Makes path mode) ts i h.1
-failed_only P (step.MakesDir path mode) f ts i (at_make h) = maybe_only P (entry.MakesDir path mode) ts i h.1
-failed_only P (step.MakesDir path mode) f ts i (at_look is nothing) = none_only P ts nothing
-failed_only P (step.MakesDir path mode) f ts i (no_dir is saw) = one_only P (entry.Look path saw.seen) ts tt saw.look
+failed_only P (step.MakesDir path mode) f ts i (unmade.Make, is, made) = maybe_only P (entry.MakesDir path mode) ts i made
+failed_only P (step.MakesDir path mode) f ts i (unmade.Look, is, nothing) = none_only P ts nothing
+failed_only P (step.MakesDir path mode) f ts i (unmade.NotDir, is, saw) = one_only P (entry.Look path saw.seen) ts tt saw.look
 failed_only P (step.Takes path mode) f ts i (inl h) = maybe_only P (entry.Makes path mode) ts i h.1
 failed_only P (step.Takes path mode) f ts i (inr h) = none_only P ts h.1
 failed_only P (step.Copies from to limit) f ts i h = each_broke (MakesOnly P) from to (λ k piece short. tt) i limit h.0 ts h.2

@@ -5,11 +5,11 @@ use Rattle.lr_rules.specs.declared.path.Path.{Path}
 use Rattle.lr_host.specs.Told.{Left, Are}
 use Rattle.lr_chain.specs.Ready.{shift_of, BehindDir}
 use Rattle.lr_chain.specs.Stops.{ChainStopped}
-use Rattle.lr_chain.proofs.Directory.{dir_can, moves_can, and_behind, dir_refused, moves_stopped}
+use Rattle.lr_chain.proofs.Dirs.{dir_can, moves_can, and_behind, dir_refused, moves_stopped}
 use Rattle.lr_chain.proofs.chain.shift.Goals as goal
 
-pub make_directory-requires : goal.make_directory-requires
-make_directory-requires g c = dir_can c.args.ready.now.dir c.in-Some.dir c.in-Some.mode (shift_of c.args.ready.now) c.in-Some.is c.requires.fits
+pub make_own_directory-requires : goal.make_own_directory-requires
+make_own_directory-requires g c = dir_can c.args.ready.now.dir c.in-Some.dir c.in-Some.mode (shift_of c.args.ready.now) c.in-Some.is c.requires.fits
 
 pub move_members-requires : goal.move_members-requires
 move_members-requires g c = moves_can c.args.ready.now.dir c.in-Some.dir c.in-Some.mode (shift_of c.args.ready.now) c.in-Some.is c.requires.fits c.in-Ok.ensures.told

@@ -22,7 +22,8 @@ use Rattle.lr_host.proofs.Looked.{seen_dir, seen_none}
 use Rattle.lr_host.proofs.More.{IsMore, dir_before, nothing_before}
 use Rattle.lr_chain.specs.declared.chain.ChainStop.{ChainStop}
 use Rattle.lr_chain.specs.declared.chain.ChainStop.TheVariants as stop
-use Rattle.lr_chain.specs.Ready.{dir_calls, DirMade, BehindDir}
+use Rattle.lr_chain.specs.Directory.{DirMade}
+use Rattle.lr_chain.specs.Ready.{dir_calls, BehindDir}
 use Rattle.lr_chain.specs.Stops.{DirRefused, ChainStopped}
 
 -- ---- what fits behind the directory
@@ -123,8 +124,8 @@ moves_stopped d dir mode steps why {o} {m} {n} is a b = subst (λ (z : Option (P
 
 -- ---- the looks
 
-pub look_failed : (dir : Path) {o m n : Option Journal} → Left (λ ts. ts ≡ []) o m → Left (λ ts. ts ≡ []) m n → Left (λ ts. (dir ≡ dir) × (ts ≡ [])) o n
-look_failed dir a b = left_then a b (λ xs ys p q. (refl, ap (λ zs. zs ++ ys) p ∙ q))
+pub look_failed : {o m n : Option Journal} → Left (λ ts. ts ≡ []) o m → Left (λ ts. ts ≡ []) m n → Left (λ ts. ts ≡ []) o n
+look_failed a b = left_then a b (λ xs ys p q. ap (λ zs. zs ++ ys) p ∙ q)
 
 pub look_saw : (dir : Path) (seen : Option Seen) {P : Option Seen → Type 0} {o m n : Option Journal} → P seen → Left (λ ts. ts ≡ []) o m → Left (λ ts. ts ≡ Look dir seen ∷ []) m n → Left (Sees dir P) o n
 look_saw dir seen is a b = left_then a b (λ xs ys p q. record { seen = seen; is = is; look = ap (λ zs. zs ++ ys) p ∙ q })

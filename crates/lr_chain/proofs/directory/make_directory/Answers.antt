@@ -1,17 +1,14 @@
-use Rattle.std.proofs.Common.{refl, inl, inr, ap, Ok, sym, ◌∙◌}
+use Rattle.std.proofs.Common.{inl, inr, ap, Ok, sym, ◌∙◌}
 use Rattle.lr_host.specs.Looks.{IsDir}
 use Rattle.lr_host.proofs.Left.{left_as}
-use Rattle.lr_chain.proofs.Directory.{look_failed, look_saw, look_missed, shown_dir}
-use Rattle.lr_chain.proofs.chain.make_directory.Goals as goal
-
-pub returns-in_default-clause-refused : goal.returns-in_default-clause-refused
-returns-in_default-clause-refused g c = left_as c.in_default.ensures.told (λ ts t. (refl, t))
+use Rattle.lr_chain.proofs.Dirs.{look_failed, look_saw, look_missed, shown_dir}
+use Rattle.lr_chain.proofs.directory.make_directory.Goals as goal
 
 pub returns-then-made-clause-told : goal.returns-then-made-clause-told
 returns-then-made-clause-told g c = left_as (rw c.if-made.true at c.in-Ok.ensures.told) (λ ts t. inl t)
 
 pub returns-in_default-look-clause-refused : goal.returns-in_default-look-clause-refused
-returns-in_default-look-clause-refused g c = look_failed c.args.dir.now (rw c.if-made.false at c.in-Ok.ensures.told) c.in_default-look.ensures.told
+returns-in_default-look-clause-refused g c = look_failed (rw c.if-made.false at c.in-Ok.ensures.told) c.in_default-look.ensures.told
 
 pub returns-then-shows_dir-clause-told : goal.returns-then-shows_dir-clause-told
 returns-then-shows_dir-clause-told g c =
@@ -19,4 +16,4 @@ returns-then-shows_dir-clause-told g c =
 
 pub returns-else-shows_dir-clause-refused : goal.returns-else-shows_dir-clause-refused
 returns-else-shows_dir-clause-refused g c =
-    left_as (look_missed c.args.dir.now c.in-Ok-look.look (sym c.shows_dir.ensures ∙ c.if-shows_dir.false) (c.in-Ok.ensures.named (ap Ok c.if-made.false)) (rw c.if-made.false at c.in-Ok.ensures.told) c.in-Ok-look.ensures.told) (λ ts t. (refl, t))
+    look_missed c.args.dir.now c.in-Ok-look.look (sym c.shows_dir.ensures ∙ c.if-shows_dir.false) (c.in-Ok.ensures.named (ap Ok c.if-made.false)) (rw c.if-made.false at c.in-Ok.ensures.told) c.in-Ok-look.ensures.told
