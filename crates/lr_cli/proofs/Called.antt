@@ -17,7 +17,7 @@ use Rattle.lr_host.specs.Counted.{AreCounted}
 use Rattle.lr_targets.proofs.Safety.{quiet_call_safe}
 use Rattle.lr_mixed.specs.AllTurns.{IsWholeRunBy}
 use Rattle.lr_mixed.proofs.Safety.{all_safe}
-use Rattle.lr_plan.specs.declared.planned.Plan.{Plan}
+use Rattle.lr_plan.specs.declared.plan.Plan.{Plan}
 use Rattle.lr_report.specs.Lines.{lines}
 use Rattle.lr_report.specs.Puts.{Took, TookPart}
 use Rattle.lr_shown.specs.Puts.{Puts}

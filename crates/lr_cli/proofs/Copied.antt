@@ -19,7 +19,7 @@ use Rattle.lr_emptied.proofs.Whole.{empties_whole}
 use Rattle.lr_include.specs.Stages.{Reads}
 use Rattle.lr_include.proofs.AllQuiet.{reads_quiet as confs_quiet, lacking_quiet}
 use Rattle.lr_plan.specs.Asked.{asking}
-use Rattle.lr_plan.specs.declared.planned.Plan.{Plan}
+use Rattle.lr_plan.specs.declared.plan.Plan.{Plan}
 use Rattle.lr_run.specs.Copied.{IsCopyBy}
 use Rattle.lr_run.proofs.Drying.{holds_quiet, leaves_copied, lacks_copied}
 use Rattle.lr_cli.specs.declared.clock.ClockStop.TheVariants as stop

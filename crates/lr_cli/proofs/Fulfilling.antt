@@ -15,7 +15,7 @@ use Rattle.lr_host.proofs.Lists.{in_back}
 use Rattle.lr_due.specs.declared.tz.Zone.{Zone}
 use Rattle.lr_include.proofs.AllQuiet.{all_so}
 use Rattle.lr_plan.specs.Asked.{asking}
-use Rattle.lr_plan.specs.declared.planned.Plan.{Plan}
+use Rattle.lr_plan.specs.declared.plan.Plan.{Plan}
 use Rattle.lr_plan.specs.Steps.{state_part}
 use Rattle.lr_run.specs.Anew.{AnewAt, NamesAnew}
 use Rattle.lr_run.specs.Met.{IsNoOther, MetNothing}

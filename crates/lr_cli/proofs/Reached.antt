@@ -24,7 +24,7 @@ use Rattle.lr_include.proofs.Allowed.{only_those}
 use Rattle.lr_due.specs.declared.tz.Zone.{Zone}
 use Rattle.lr_due.specs.declared.tz.Zone.TheVariants.{File}
 use Rattle.lr_plan.specs.Asked.{asking}
-use Rattle.lr_plan.specs.declared.planned.Plan.{Plan as RunPlan}
+use Rattle.lr_plan.specs.declared.plan.Plan.{Plan as RunPlan}
 use Rattle.lr_run.specs.Answers.{Leaves}
 use Rattle.lr_run.specs.Runs.{Runs}
 use Rattle.lr_run.proofs.Taken.{IsOfNew, NoneOfNew}

@@ -25,7 +25,7 @@ use Rattle.lr_include.proofs.AllQuiet.{reads_quiet as confs_quiet, lacking_quiet
 use Rattle.lr_mixed.specs.AllTurns.{IsWholeRunBy}
 use Rattle.lr_mixed.proofs.Shapes.{quiet_run_by}
 use Rattle.lr_plan.specs.Asked.{asking}
-use Rattle.lr_plan.specs.declared.planned.Plan.{Plan}
+use Rattle.lr_plan.specs.declared.plan.Plan.{Plan}
 use Rattle.lr_plan.specs.declared.settings.Settings.{Settings}
 use Rattle.lr_run.specs.Answers.{Leaves, Holds, Lacks}
 use Rattle.lr_run.specs.Answers.{Answers as RunAnswers}

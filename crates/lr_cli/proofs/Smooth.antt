@@ -17,7 +17,7 @@ use Rattle.lr_acts.proofs.Taking.{taken_later}
 use Rattle.lr_due.specs.declared.tz.Zone.{Zone}
 use Rattle.lr_include.specs.Readers.{IsConfOrCall}
 use Rattle.lr_plan.specs.Asked.{asking}
-use Rattle.lr_plan.specs.declared.planned.Plan.{Plan}
+use Rattle.lr_plan.specs.declared.plan.Plan.{Plan}
 use Rattle.lr_plan.specs.declared.settings.Settings.{Settings}
 use Rattle.lr_plan.specs.Steps.{state_part}
 use Rattle.lr_run.specs.declared.answer.RunStop.{RunStop}

@@ -26,7 +26,7 @@ use Rattle.lr_include.specs.Lacking.{LacksReading}
 use Rattle.lr_include.specs.Stages.{Reads}
 use Rattle.lr_include.proofs.AllQuiet.{all_so, lacking_so}
 use Rattle.lr_plan.specs.Asked.{asking}
-use Rattle.lr_plan.specs.declared.planned.Plan.{Plan}
+use Rattle.lr_plan.specs.declared.plan.Plan.{Plan}
 use Rattle.lr_run.specs.Answers.{Leaves, Holds, Lacks}
 use Rattle.lr_run.specs.Dry.{IsSight, AreSights}
 use Rattle.lr_run.specs.Runs.{Inside, SomeSeen, in_looks, in_acts}

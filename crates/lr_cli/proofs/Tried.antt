@@ -13,7 +13,7 @@ use Rattle.lr_host.proofs.Left.{left_as}
 use Rattle.lr_due.specs.declared.tz.Zone.{Zone}
 use Rattle.lr_due.specs.declared.tz.Zone.TheVariants.{File}
 use Rattle.lr_plan.specs.Asked.{asking}
-use Rattle.lr_plan.specs.declared.planned.Plan.{Plan}
+use Rattle.lr_plan.specs.declared.plan.Plan.{Plan}
 use Rattle.lr_run.specs.Answers.{Leaves}
 use Rattle.lr_reached.specs.Tried.{EndsTry, NoneEndsTry}
 use Rattle.lr_reached.proofs.Ends.{last_in}

@@ -15,7 +15,7 @@ use Rattle.lr_conf.specs.Meaning.{Meaning}
 use Rattle.lr_due.specs.declared.tz.Zone.{Zone}
 use Rattle.lr_include.specs.Stages.{Reads}
 use Rattle.lr_plan.specs.Asked.{asking}
-use Rattle.lr_plan.specs.declared.planned.Plan.{Plan}
+use Rattle.lr_plan.specs.declared.plan.Plan.{Plan}
 use Rattle.lr_run.specs.State.{IsNewText as IsTextOfRun}
 use Rattle.lr_run.proofs.Drying.{leaves_may, lacks_may, holds_quiet}
 use Rattle.lr_run.proofs.Made.{AreMade, made_later}

@@ -12,7 +12,7 @@ use Rattle.lr_include.specs.Stages.{Reads}
 use Rattle.lr_include.specs.Lacking.{LacksReading}
 use Rattle.lr_due.specs.declared.tz.Zone.{Zone}
 use Rattle.lr_plan.specs.Asked.{asking}
-use Rattle.lr_plan.specs.declared.planned.Plan.{Plan}
+use Rattle.lr_plan.specs.declared.plan.Plan.{Plan}
 use Rattle.lr_run.specs.Answers.{Leaves, Holds, Lacks}
 use Rattle.lr_command.specs.declared.request.Request.{Request}
 use Rattle.lr_cli.specs.declared.outcome.Outcome.{Outcome}

@@ -1,7 +1,7 @@
 -- The request of a call.
 use Rattle.std.specs.Prelude.{◌≡◌, ◌||◌, ℕ, List, [], Option, Some, None, if◌then◌else◌}
 use Rattle.lr_rules.specs.declared.path.Path.{Path}
-use Rattle.lr_plan.specs.declared.planned.Plan.{Plan}
+use Rattle.lr_plan.specs.declared.plan.Plan.{Plan}
 use Rattle.lr_command.specs.declared.request.Request.{Request}
 use Rattle.lr_command.specs.Words.{asked}
 use Rattle.lr_shown.specs.Lines.{plan_text}

@@ -2,7 +2,7 @@
 use Rattle.std.specs.Prelude.{◌≡◌, Contains, List, [], ◌∷◌, Option, None, Result, Ok, Err}
 use Rattle.lr_rules.specs.declared.fault.Fault.{Fault}
 use Rattle.lr_rules.specs.declared.path.Path.{Path}
-use Rattle.lr_plan.specs.declared.planned.Plan.{Plan}
+use Rattle.lr_plan.specs.declared.plan.Plan.{Plan}
 use Rattle.lr_host.specs.Told.{Counts}
 use Rattle.lr_host.specs.Counted.{calls_in, scripts_in, AreCounted}
 use Rattle.lr_run.specs.declared.answer.RunStop.{RunStop}

@@ -10,7 +10,7 @@ use Rattle.lr_host.specs.Told.{Made}
 use Rattle.lr_host.specs.World.{past}
 use Rattle.lr_due.specs.declared.tz.Zone.{Zone}
 use Rattle.lr_plan.specs.Asked.{asking}
-use Rattle.lr_plan.specs.declared.planned.Plan.{Plan}
+use Rattle.lr_plan.specs.declared.plan.Plan.{Plan}
 use Rattle.lr_plan.specs.Steps.{state_part}
 use Rattle.lr_run.specs.Met.{IsNoOther}
 use Rattle.lr_run.specs.Runs.{plan_in, dirs_in}

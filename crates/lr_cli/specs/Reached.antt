@@ -14,7 +14,7 @@ use Rattle.lr_include.specs.Stages.{Reads}
 use Rattle.lr_due.specs.declared.tz.Zone.{Zone}
 use Rattle.lr_due.specs.declared.tz.Zone.TheVariants.{File}
 use Rattle.lr_plan.specs.Asked.{asking}
-use Rattle.lr_plan.specs.declared.planned.Plan.{Plan}
+use Rattle.lr_plan.specs.declared.plan.Plan.{Plan}
 use Rattle.lr_run.specs.Dry.{Tries}
 use Rattle.lr_reached.specs.Ending.{EndsRun, NoneEnds, MayEnd}
 use Rattle.lr_reached.specs.Tried.{EndsTry, NoneEndsTry, MayEndTry}

@@ -7,7 +7,7 @@ use Rattle.lr_host.specs.declared.journal.Journal.{Journal}
 use Rattle.lr_host.specs.Told.{Made}
 use Rattle.lr_host.specs.World.{past}
 use Rattle.lr_due.specs.declared.tz.Zone.{Zone}
-use Rattle.lr_plan.specs.declared.planned.Plan.{Plan}
+use Rattle.lr_plan.specs.declared.plan.Plan.{Plan}
 use Rattle.lr_run.specs.Taken.{TakenBy}
 use Rattle.lr_spared.specs.Smooth.{IsSmooth}
 use Rattle.lr_command.specs.declared.request.Request.{Request}

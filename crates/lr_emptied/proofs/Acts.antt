@@ -9,7 +9,7 @@ use Rattle.lr_host.specs.declared.entry.Entry.{Entry}
 use Rattle.lr_host.specs.Lists.{IsIn}
 use Rattle.lr_copy.specs.declared.job.Job.{Job}
 use Rattle.lr_plan.specs.declared.mark.Mark.{Mark}
-use Rattle.lr_plan.specs.declared.planned.Plan.{Plan}
+use Rattle.lr_plan.specs.declared.plan.Plan.{Plan}
 use Rattle.lr_plan.specs.declared.step.SetSteps.{SetSteps}
 use Rattle.lr_plan.specs.declared.step.Step.{Step}
 use Rattle.lr_plan.specs.Course.{Part, Nothing, Course, Unbroken, Both, Every}

@@ -14,7 +14,7 @@ use Rattle.lr_due.specs.declared.answer.Due.TheVariants as due
 use Rattle.lr_copy.specs.declared.job.Job.{Job}
 use Rattle.lr_plan.specs.declared.looks.LogLook.{LogLook}
 use Rattle.lr_plan.specs.declared.looks.SetLooks.{SetLooks}
-use Rattle.lr_plan.specs.declared.planned.LogPlan.{LogPlan}
+use Rattle.lr_plan.specs.declared.plan.LogPlan.{LogPlan}
 use Rattle.lr_plan.specs.Planned.{job_by, standing, ready_for, log_plan, none_hinders, hindrances, plans_of, where_due, log_plans, all_plans}
 use Rattle.lr_emptied.specs.Jobs.{job_in, jobs_in, jobs_of, AsksFor, IsAskedFor}
 

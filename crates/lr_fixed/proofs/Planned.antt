@@ -17,7 +17,7 @@ use Rattle.lr_chain.specs.Ready.{with_dir}
 use Rattle.lr_plan.specs.Asked.{Asked}
 use Rattle.lr_plan.specs.declared.looks.LogLook.{LogLook}
 use Rattle.lr_plan.specs.declared.looks.SetLooks.{SetLooks}
-use Rattle.lr_plan.specs.declared.planned.LogPlan.{LogPlan}
+use Rattle.lr_plan.specs.declared.plan.LogPlan.{LogPlan}
 use Rattle.lr_plan.specs.Planned.{decision, dir_of, stand_for, standing, hindrances_by, hindrances, ready_by, ready_for, job_by, plan_with, log_plan, none_hinders, plans_of, where_due, log_plans, log_faults, set_plan, all_plans, all_faults}
 use Rattle.lr_looks.specs.Families.{LookedLog}
 use Rattle.lr_looks.specs.Sets.{looked_in}

@@ -27,7 +27,7 @@ use Rattle.lr_due.specs.declared.zone.ZoneText.TheVariants.{Bytes}
 use Rattle.lr_due.specs.Zone.{IsClockIn}
 use Rattle.lr_host.specs.Counted.{call_in, calls_in}
 use Rattle.lr_plan.specs.Asked.{Asked, asking}
-use Rattle.lr_plan.specs.declared.planned.Plan.{Plan}
+use Rattle.lr_plan.specs.declared.plan.Plan.{Plan}
 use Rattle.lr_run.specs.Answers.{Leaves}
 use Rattle.lr_run.specs.Runs.{Runs, no_directory, not_seen, not_begun, began}
 use Rattle.lr_cli.specs.declared.outcome.Outcome.TheVariants.{Done}

@@ -14,7 +14,7 @@ use Rattle.lr_rules.specs.declared.rules.Rules.{Rules}
 use Rattle.lr_host.specs.declared.entry.Entry.{Entry}
 use Rattle.lr_host.specs.Counted.{calls_in}
 use Rattle.lr_plan.specs.Asked.{Asked}
-use Rattle.lr_plan.specs.declared.planned.SetPlan.{SetPlan}
+use Rattle.lr_plan.specs.declared.plan.SetPlan.{SetPlan}
 use Rattle.lr_plan.specs.declared.step.SetSteps.{SetSteps}
 use Rattle.lr_plan.specs.Done.{SetsDone}
 use Rattle.lr_plan.specs.Planned.{decision}
@@ -22,7 +22,7 @@ use Rattle.lr_plan.specs.Steps.{state_part, steps_of_set, steps_of_plan}
 use Rattle.lr_reading.specs.declared.remembered.Remembered.{Remembered}
 use Rattle.lr_reading.specs.Answers.{Known, IsKnown}
 use Rattle.lr_reading.specs.Sights.{StateSights, ShowsState}
-use Rattle.lr_plan.specs.declared.planned.Plan.{Plan}
+use Rattle.lr_plan.specs.declared.plan.Plan.{Plan}
 use Rattle.lr_run.specs.Runs.{Looked, Worked, Works, not_known, too_big, worked, plan_in, measured_in}
 use Rattle.lr_run.proofs.Called.{none_before, none_behind}
 use Rattle.lr_run.proofs.Stating.{state_writing}

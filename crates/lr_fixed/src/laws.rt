@@ -17,7 +17,7 @@ ghost use Rattle.lr_host.specs.World.{Past, world, names};
 ghost use Rattle.lr_due.specs.declared.tz.Zone.{Zone};
 ghost use Rattle.lr_plan.specs.Asked.{Asked};
 ghost use Rattle.lr_plan.specs.declared.looks.SetLooks.{SetLooks};
-ghost use Rattle.lr_plan.specs.declared.planned.Plan.{Plan};
+ghost use Rattle.lr_plan.specs.declared.plan.Plan.{Plan};
 ghost use Rattle.lr_host.specs.Counted.{calls_in};
 ghost use Rattle.lr_looks.specs.Shown.{ShowsLooks};
 ghost use Rattle.lr_targets.specs.Target.{Target};

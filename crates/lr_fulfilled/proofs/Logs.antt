@@ -5,9 +5,9 @@ use Rattle.lr_rules.specs.declared.path.Path.{Path}
 use Rattle.lr_acts.specs.Making.{all_of_each, all_of_sets}
 use Rattle.lr_plan.specs.declared.mark.Mark.{Mark}
 use Rattle.lr_plan.specs.declared.mark.Mark.TheVariants as mark
-use Rattle.lr_plan.specs.declared.planned.LogPlan.{LogPlan}
-use Rattle.lr_plan.specs.declared.planned.Plan.{Plan}
-use Rattle.lr_plan.specs.declared.planned.SetPlan.{SetPlan}
+use Rattle.lr_plan.specs.declared.plan.LogPlan.{LogPlan}
+use Rattle.lr_plan.specs.declared.plan.Plan.{Plan}
+use Rattle.lr_plan.specs.declared.plan.SetPlan.{SetPlan}
 use Rattle.lr_plan.specs.Done.{rotated_logs, is_rotated}
 use Rattle.lr_plan.specs.Outcomes.{marks_of}
 use Rattle.lr_plan.specs.Steps.{directory, steps_of_log, by_logs, steps_of_set, steps_of_plan}

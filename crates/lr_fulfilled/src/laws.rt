@@ -21,7 +21,7 @@ ghost use Rattle.lr_plan.specs.Asked.{Asked};
 ghost use Rattle.lr_plan.specs.declared.looks.LogLook.{LogLook};
 ghost use Rattle.lr_plan.specs.declared.looks.SetLooks.{SetLooks};
 ghost use Rattle.lr_plan.specs.declared.mark.Mark.{Mark};
-ghost use Rattle.lr_plan.specs.declared.planned.Plan.{Plan};
+ghost use Rattle.lr_plan.specs.declared.plan.Plan.{Plan};
 ghost use Rattle.lr_plan.specs.Done.{ActsDone, rotated_logs};
 ghost use Rattle.lr_plan.specs.Steps.{steps_of_plan, state_steps};
 ghost use Rattle.lr_mixed.specs.AllTurns.{AllTurnsBy};

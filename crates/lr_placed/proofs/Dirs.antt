@@ -9,8 +9,8 @@ use Rattle.lr_host.proofs.Lists.{in_append, in_front, in_back}
 use Rattle.lr_chain.specs.declared.ready.Ready.{Ready}
 use Rattle.lr_plan.specs.declared.mark.Mark.{Mark}
 use Rattle.lr_plan.specs.declared.mark.Mark.TheVariants as mark
-use Rattle.lr_plan.specs.declared.planned.LogPlan.{LogPlan}
-use Rattle.lr_plan.specs.declared.planned.SetPlan.{SetPlan}
+use Rattle.lr_plan.specs.declared.plan.LogPlan.{LogPlan}
+use Rattle.lr_plan.specs.declared.plan.SetPlan.{SetPlan}
 use Rattle.lr_synced.specs.Synced.{AreSynced, changed_of, all_changed_of, made_of, to_make_of, all_to_make_of, made_in}
 use Rattle.lr_synced.proofs.Kept.{among_from, among_to}
 use Rattle.lr_synced.proofs.Laws.{IsTouched, made_mark, unmade_is, of_touched, none_unmade}

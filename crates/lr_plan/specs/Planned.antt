@@ -40,9 +40,9 @@ use Rattle.lr_dated_ready.specs.Ready.{dated_ready}
 use Rattle.lr_plan.specs.Asked.{Asked}
 use Rattle.lr_plan.specs.declared.looks.LogLook.{LogLook}
 use Rattle.lr_plan.specs.declared.looks.SetLooks.{SetLooks}
-use Rattle.lr_plan.specs.declared.planned.LogPlan.{LogPlan}
-use Rattle.lr_plan.specs.declared.planned.SetPlan.{SetPlan}
-use Rattle.lr_plan.specs.declared.planned.Plan.{Plan}
+use Rattle.lr_plan.specs.declared.plan.LogPlan.{LogPlan}
+use Rattle.lr_plan.specs.declared.plan.SetPlan.{SetPlan}
+use Rattle.lr_plan.specs.declared.plan.Plan.{Plan}
 
 -- ---- one log
 

@@ -19,7 +19,7 @@ use Rattle.lr_looks.specs.Found.{paths_of}
 use Rattle.lr_plan.specs.Asked.{Asked}
 use Rattle.lr_plan.specs.declared.looks.LogLook.{LogLook}
 use Rattle.lr_plan.specs.declared.looks.SetLooks.{SetLooks}
-use Rattle.lr_plan.specs.declared.planned.Plan.{Plan}
+use Rattle.lr_plan.specs.declared.plan.Plan.{Plan}
 use Rattle.lr_plan.specs.Planned.{hindrances, where_due, log_faults, all_faults, decision}
 use Rattle.lr_run.specs.Dry.{Follows, Plans, PlansBy, unknown, known, Tries, unseen, not_directory, by_none, by_state}
 use Rattle.lr_reached.specs.Ending.{EndsRun, NoneEnds}

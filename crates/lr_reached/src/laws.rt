@@ -9,7 +9,7 @@ ghost use Rattle.lr_host.specs.Lists.{IsIn};
 ghost use Rattle.lr_host.specs.Told.{Made};
 ghost use Rattle.lr_host.specs.World.{Past};
 ghost use Rattle.lr_plan.specs.Asked.{Asked};
-ghost use Rattle.lr_plan.specs.declared.planned.Plan.{Plan};
+ghost use Rattle.lr_plan.specs.declared.plan.Plan.{Plan};
 ghost use Rattle.lr_run.specs.Dry.{Tries};
 ghost use Rattle.lr_run.specs.Runs.{Runs};
 ghost use Rattle.lr_reached.specs.Ending.{NoneEnds, MayEnd, SaysWhy};

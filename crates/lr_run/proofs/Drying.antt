@@ -27,7 +27,7 @@ use Rattle.lr_looks.specs.Shown.{LooksAtAll, ShowsSomeLooks}
 use Rattle.lr_plan.specs.Asked.{Asked}
 use Rattle.lr_plan.specs.declared.looks.Looks.{Looks}
 use Rattle.lr_plan.specs.declared.looks.SetLooks.{SetLooks}
-use Rattle.lr_plan.specs.declared.planned.Plan.{Plan}
+use Rattle.lr_plan.specs.declared.plan.Plan.{Plan}
 use Rattle.lr_plan.specs.Planned.{decision, plan_of}
 use Rattle.lr_reading.specs.declared.remembered.Remembered.{Remembered}
 use Rattle.lr_reading.specs.Answers.{ReadsState}

@@ -31,9 +31,9 @@ use Rattle.lr_chain.specs.Rotation.{places_of}
 use Rattle.lr_plan.specs.Asked.{Asked}
 use Rattle.lr_plan.specs.declared.looks.LogLook.{LogLook}
 use Rattle.lr_plan.specs.declared.looks.SetLooks.{SetLooks}
-use Rattle.lr_plan.specs.declared.planned.LogPlan.{LogPlan}
-use Rattle.lr_plan.specs.declared.planned.Plan.{Plan}
-use Rattle.lr_plan.specs.declared.planned.SetPlan.{SetPlan}
+use Rattle.lr_plan.specs.declared.plan.LogPlan.{LogPlan}
+use Rattle.lr_plan.specs.declared.plan.Plan.{Plan}
+use Rattle.lr_plan.specs.declared.plan.SetPlan.{SetPlan}
 use Rattle.lr_plan.specs.Planned.{standing, job_by, decision, all_plans}
 use Rattle.lr_plan.specs.Steps.{steps_of_plan}
 use Rattle.lr_emptied.specs.Emptied.{IsJobIn, EmptiesCopied, EmptiesWhole}

@@ -12,7 +12,7 @@ use Rattle.lr_host.specs.Told.{Counts, NoneFell, Rose, Left, Then, WhereTold}
 use Rattle.lr_host.proofs.Left.{left_both}
 use Rattle.lr_host.specs.Counted.{AreCounted, AddsFaults}
 use Rattle.lr_plan.specs.Asked.{Asked}
-use Rattle.lr_plan.specs.declared.planned.Plan.{Plan}
+use Rattle.lr_plan.specs.declared.plan.Plan.{Plan}
 use Rattle.lr_host.proofs.Counts.{adds_free, adds_call}
 use Rattle.lr_run.specs.declared.directory.DirStop.{DirStop}
 use Rattle.lr_run.specs.declared.directory.DirStop.TheVariants as dir

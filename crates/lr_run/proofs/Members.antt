@@ -36,7 +36,7 @@ use Rattle.lr_dated_run.specs.Own.{HasDatedNames, all_members}
 use Rattle.lr_dated_run.proofs.CallsFit.{dated_gone}
 use Rattle.lr_dated_run.proofs.Own.{dated_own}
 use Rattle.lr_dated_run.proofs.PartFile.{part_joined, part_no_dated}
-use Rattle.lr_plan.specs.declared.planned.SetPlan.{SetPlan}
+use Rattle.lr_plan.specs.declared.plan.SetPlan.{SetPlan}
 use Rattle.lr_weave.specs.Fitting.{NoneMeets}
 use Rattle.lr_weave.specs.Planned.{AreReadyFor, HaveLogs}
 use Rattle.lr_mixed.specs.Seen.{IsLogSeen}

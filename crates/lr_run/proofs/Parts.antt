@@ -18,7 +18,7 @@ use Rattle.lr_host.specs.Looks.{Sees, IsDir, IsNoDir, IsNothing, IsNotDir}
 use Rattle.lr_host.specs.Told.{DidWhere, Left, Then, Are}
 use Rattle.lr_host.proofs.Left.{left_as, left_then}
 use Rattle.lr_plan.specs.Asked.{Asked}
-use Rattle.lr_plan.specs.declared.planned.Plan.{Plan}
+use Rattle.lr_plan.specs.declared.plan.Plan.{Plan}
 use Rattle.lr_run.specs.declared.answer.Ran.{Ran}
 use Rattle.lr_run.specs.declared.answer.RunStop.{RunStop}
 use Rattle.lr_run.specs.declared.answer.RunStop.TheVariants as stop

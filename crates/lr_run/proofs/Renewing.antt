@@ -48,7 +48,7 @@ use Rattle.lr_reading.proofs.Quiet.{state_quiet}
 use Rattle.lr_synced.specs.Synced.{AreSynced}
 use Rattle.lr_writing.specs.Named.{Spares, NamedLast, not_named, named}
 use Rattle.lr_writing.proofs.Named.{named_last}
-use Rattle.lr_plan.specs.declared.planned.Plan.{Plan}
+use Rattle.lr_plan.specs.declared.plan.Plan.{Plan}
 use Rattle.lr_run.specs.declared.answer.Ran.{Ran}
 use Rattle.lr_run.specs.declared.answer.RunStop.{RunStop}
 use Rattle.lr_run.specs.declared.answer.RunStop.TheVariants as stop

@@ -46,7 +46,7 @@ use Rattle.lr_mixed.proofs.Shapes.{quiet_run_by}
 use Rattle.lr_mixed.proofs.Whole.{shown_more}
 use Rattle.lr_run.specs.declared.answer.Ran.{Ran}
 use Rattle.lr_run.specs.declared.answer.RunStop.{RunStop}
-use Rattle.lr_plan.specs.declared.planned.Plan.{Plan}
+use Rattle.lr_plan.specs.declared.plan.Plan.{Plan}
 use Rattle.lr_run.specs.declared.answer.RunStop.TheVariants as stop
 use Rattle.lr_run.specs.Answers.{Answers}
 use Rattle.lr_run.specs.Runs as runs

@@ -12,7 +12,7 @@ use Rattle.lr_host.specs.Looks.{Sees, IsDir, IsNotDir}
 use Rattle.lr_host.specs.Told.{Each}
 use Rattle.lr_host.proofs.Each.{each_append}
 use Rattle.lr_plan.specs.Asked.{Asked}
-use Rattle.lr_plan.specs.declared.planned.Plan.{Plan}
+use Rattle.lr_plan.specs.declared.plan.Plan.{Plan}
 use Rattle.lr_rotations.proofs.Weaving.{each_in}
 use Rattle.lr_run.specs.declared.answer.Ran.{Ran}
 use Rattle.lr_run.specs.declared.answer.RunStop.{RunStop}

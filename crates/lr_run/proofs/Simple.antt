@@ -21,8 +21,8 @@ use Rattle.lr_scripts.specs.declared.removal.Removal.{Removal}
 use Rattle.lr_commands.specs.Commands.{script, where_so, mail, with_programs}
 use Rattle.lr_plan.specs.declared.looks.LogLook.{LogLook}
 use Rattle.lr_plan.specs.declared.looks.SetLooks.{SetLooks}
-use Rattle.lr_plan.specs.declared.planned.LogPlan.{LogPlan}
-use Rattle.lr_plan.specs.declared.planned.SetPlan.{SetPlan}
+use Rattle.lr_plan.specs.declared.plan.LogPlan.{LogPlan}
+use Rattle.lr_plan.specs.declared.plan.SetPlan.{SetPlan}
 use Rattle.lr_plan.specs.declared.step.Step.{Step}
 use Rattle.lr_plan.specs.declared.step.Step.TheVariants.{Runs, Removes, MakesDir, Renames, Creates, Takes, Copies, SyncsFile, SyncsDir, Truncates, Rotated}
 use Rattle.lr_plan.specs.Planned.{copy_job, job_by, hindrances, standing, ready_for, plan_with, log_plan, none_hinders, plans_of, where_due, log_plans, set_plan, all_plans}

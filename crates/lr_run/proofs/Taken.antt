@@ -32,7 +32,7 @@ use Rattle.lr_looks.specs.Shown.{ShowsLooks, LooksAtAll}
 use Rattle.lr_plan.specs.Asked.{Asked}
 use Rattle.lr_plan.specs.declared.looks.Looks.{Looks}
 use Rattle.lr_plan.specs.declared.looks.SetLooks.{SetLooks}
-use Rattle.lr_plan.specs.declared.planned.Plan.{Plan}
+use Rattle.lr_plan.specs.declared.plan.Plan.{Plan}
 use Rattle.lr_plan.specs.declared.step.SetSteps.{SetSteps}
 use Rattle.lr_plan.specs.Planned.{decision, all_faults}
 use Rattle.lr_plan.specs.Steps.{steps_of_plan, state_steps}

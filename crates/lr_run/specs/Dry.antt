@@ -15,7 +15,7 @@ use Rattle.lr_host.specs.Looks.{Sees, IsDir, IsNoDir, IsNothing}
 use Rattle.lr_state.specs.Table.{Entry as Row}
 use Rattle.lr_plan.specs.Asked.{Asked}
 use Rattle.lr_plan.specs.declared.looks.SetLooks.{SetLooks}
-use Rattle.lr_plan.specs.declared.planned.Plan.{Plan}
+use Rattle.lr_plan.specs.declared.plan.Plan.{Plan}
 use Rattle.lr_plan.specs.Planned.{plan_of}
 use Rattle.lr_looks.specs.Found.{paths_of}
 use Rattle.lr_looks.specs.Shown.{ShowsLooks, ShowsSomeLooks}

@@ -18,9 +18,9 @@ use Rattle.lr_state.specs.Written.{text_of}
 use Rattle.lr_plan.specs.Asked.{Asked}
 use Rattle.lr_plan.specs.declared.looks.SetLooks.{SetLooks}
 use Rattle.lr_plan.specs.declared.mark.Mark.{Mark}
-use Rattle.lr_plan.specs.declared.planned.LogPlan.{LogPlan}
-use Rattle.lr_plan.specs.declared.planned.SetPlan.{SetPlan}
-use Rattle.lr_plan.specs.declared.planned.Plan.{Plan}
+use Rattle.lr_plan.specs.declared.plan.LogPlan.{LogPlan}
+use Rattle.lr_plan.specs.declared.plan.SetPlan.{SetPlan}
+use Rattle.lr_plan.specs.declared.plan.Plan.{Plan}
 use Rattle.lr_acts.specs.Making.{HasProgram, all_of_sets}
 use Rattle.lr_plan.specs.Done.{ActsDone}
 use Rattle.lr_plan.specs.Internal.Cut.{SetsCut}

@@ -5,7 +5,7 @@ use Rattle.lr_rules.specs.declared.fault.Fault.{Fault}
 use Rattle.lr_rules.specs.declared.fault.Fault.TheVariants as fault
 use Rattle.lr_host.specs.declared.journal.Journal.{Journal}
 use Rattle.lr_host.specs.Lists.{IsIn}
-use Rattle.lr_plan.specs.declared.planned.Plan.{Plan}
+use Rattle.lr_plan.specs.declared.plan.Plan.{Plan}
 use Rattle.lr_plan.specs.Steps.{steps_of_plan, state_steps}
 use Rattle.lr_acts.specs.Making.{all_of_sets}
 use Rattle.lr_acts.specs.Taken.{WasTaken, LastTaken}

@@ -1,5 +1,5 @@
 // What is made ready behind the looks, before the first act.
-ghost use Rattle.std.specs.Prelude.{◌≡◌, ◌≤◌, ◌<◌, ◌+◌, ◌++◌, [], IfOk, OnOk, length, nat_le, vec_len};
+ghost use Rattle.std.specs.Prelude.{◌≡◌, ◌≤◌, ◌+◌, ◌++◌, [], IfOk, OnOk, length, nat_le, vec_len};
 ghost use Rattle.std.specs.Vec.{vec_capacity};
 ghost use Rattle.lr_acts.specs.Adding.{HasRoom};
 ghost use Rattle.lr_acts.specs.Making.{all_of_sets};
@@ -12,11 +12,12 @@ ghost use Rattle.lr_run.specs.Internal.{IsReady, MayBeReady};
 
 use crate::paths::logs_of_plan;
 use lr_acts::{Progress, take_room};
-use lr_plan::{Plan, SetSteps, steps_of};
+use lr_plan::{Plan, SetSteps};
 use lr_reading::Remembered;
 use lr_record::{bring_up, fits};
 use lr_rules::{Civil, Fault, Listed, Memory, Moment, Path};
 use lr_state::State;
+use lr_steps::steps_of;
 use lr_synced::{Directories, directories_by};
 use lr_writing::{Writing, prepare};
 use std::alloc::Global;

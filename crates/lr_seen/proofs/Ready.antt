@@ -19,7 +19,7 @@ use Rattle.lr_copy.specs.declared.job.Job.{Job}
 use Rattle.lr_host.specs.declared.entry.Entry.{Entry}
 use Rattle.lr_plan.specs.declared.looks.LogLook.{LogLook}
 use Rattle.lr_plan.specs.declared.looks.SetLooks.{SetLooks}
-use Rattle.lr_plan.specs.declared.planned.LogPlan.{LogPlan}
+use Rattle.lr_plan.specs.declared.plan.LogPlan.{LogPlan}
 use Rattle.lr_commands.specs.Commands.{spaced, script, where_so, mail, with_programs}
 use Rattle.lr_plan.specs.Planned.{standing, copy_job, job_by, going_by, ready_by, ready_for, with_removals, dressed, hindrances, plan_with, log_plan, none_hinders, plans_of, where_due, log_plans, all_plans}
 use Rattle.lr_looks.specs.Shown.{ShowsLooks}

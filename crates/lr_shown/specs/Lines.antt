@@ -12,7 +12,7 @@ use Rattle.lr_due.specs.declared.answer.Why.TheVariants as why
 use Rattle.lr_due.specs.declared.answer.WhyNot.{WhyNot}
 use Rattle.lr_due.specs.declared.answer.WhyNot.TheVariants as why_not
 use Rattle.lr_scripts.specs.declared.command.Command.{Command}
-use Rattle.lr_plan.specs.declared.planned.Plan.{Plan}
+use Rattle.lr_plan.specs.declared.plan.Plan.{Plan}
 use Rattle.lr_plan.specs.declared.step.SetSteps.{SetSteps}
 use Rattle.lr_plan.specs.declared.step.Step.{Step}
 use Rattle.lr_plan.specs.declared.step.Step.TheVariants.{Runs, Removes, MakesDir, Renames, Creates, Copies, Truncates}

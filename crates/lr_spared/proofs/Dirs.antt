@@ -16,8 +16,8 @@ use Rattle.lr_host.specs.Told.{Each}
 use Rattle.lr_chain.specs.declared.ready.Ready.{Ready}
 use Rattle.lr_copy.specs.declared.job.BytesStop.TheVariants as broke
 use Rattle.lr_plan.specs.declared.mark.Mark.{Mark}
-use Rattle.lr_plan.specs.declared.planned.LogPlan.{LogPlan}
-use Rattle.lr_plan.specs.declared.planned.SetPlan.{SetPlan}
+use Rattle.lr_plan.specs.declared.plan.LogPlan.{LogPlan}
+use Rattle.lr_plan.specs.declared.plan.SetPlan.{SetPlan}
 use Rattle.lr_plan.specs.declared.step.Step.{Step}
 use Rattle.lr_plan.specs.declared.step.Step.TheVariants as step
 use Rattle.lr_plan.specs.Course.{Course}

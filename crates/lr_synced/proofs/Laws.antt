@@ -17,7 +17,7 @@ use Rattle.lr_host.specs.Lists.{IsIn, IsNotIn, AreDistinct}
 use Rattle.lr_host.proofs.Lists.{in_append, in_back, in_front, in_unmap}
 use Rattle.lr_plan.specs.declared.mark.Mark.{Mark}
 use Rattle.lr_plan.specs.declared.mark.Mark.TheVariants.{Rotated, Directory, Created}
-use Rattle.lr_plan.specs.declared.planned.SetPlan.{SetPlan}
+use Rattle.lr_plan.specs.declared.plan.SetPlan.{SetPlan}
 use Rattle.lr_writing.specs.Directories.{AreDirectoriesOf}
 use Rattle.lr_synced.specs.Synced.{AreSynced, all_changed_of, all_to_make_of, made_in, is_unmade}
 use Rattle.lr_synced.proofs.Kept.{in_filter, from_filter, all_kept, among_from, among_to}

@@ -1,7 +1,7 @@
 // The directories that a run syncs.
 ghost use Rattle.std.specs.Prelude.{◌≡◌, List, filter, not, IfOk};
 ghost use Rattle.std.specs.BTreeSet.{contains_text};
-ghost use Rattle.lr_plan.specs.declared.planned.SetPlan.{SetPlan};
+ghost use Rattle.lr_plan.specs.declared.plan.SetPlan.{SetPlan};
 ghost use Rattle.lr_synced.specs.Internal.{IsBy};
 ghost use Rattle.lr_synced.specs.Synced.{AreSynced};
 

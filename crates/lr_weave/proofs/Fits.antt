@@ -52,7 +52,7 @@ use Rattle.lr_targets.proofs.Apart.{own_paths}
 use Rattle.lr_rotations.proofs.Fed.{IsTurn}
 use Rattle.lr_targets.proofs.Others.{rotation_turns}
 use Rattle.lr_plan.specs.declared.mark.Mark.{Mark}
-use Rattle.lr_plan.specs.declared.planned.LogPlan.{LogPlan}
+use Rattle.lr_plan.specs.declared.plan.LogPlan.{LogPlan}
 use Rattle.lr_plan.specs.declared.step.Step.{Step}
 use Rattle.lr_plan.specs.declared.step.Step.TheVariants as step
 use Rattle.lr_plan.specs.Outcomes.{Succeeds}

@@ -6,8 +6,8 @@ use Rattle.lr_rules.specs.declared.fault.Phase.TheVariants as phase
 use Rattle.lr_host.specs.declared.journal.Journal.{Journal}
 use Rattle.lr_host.specs.Lists.{IsIn}
 use Rattle.lr_host.specs.Steps.{is_naming}
-use Rattle.lr_plan.specs.declared.planned.LogPlan.{LogPlan}
-use Rattle.lr_plan.specs.declared.planned.SetPlan.{SetPlan}
+use Rattle.lr_plan.specs.declared.plan.LogPlan.{LogPlan}
+use Rattle.lr_plan.specs.declared.plan.SetPlan.{SetPlan}
 use Rattle.lr_plan.specs.Steps.{by_logs, steps_of_set}
 use Rattle.lr_plan.specs.Internal.Asking.{LeadsTo, CanSet, CanSets}
 use Rattle.lr_plan.specs.Done.{SetDone}

@@ -11,8 +11,8 @@ use Rattle.lr_host.specs.Told.{Each, Left}
 use Rattle.lr_host.specs.Steps.{is_naming}
 use Rattle.lr_host.proofs.Each.{each_append, each_first}
 use Rattle.lr_host.proofs.Left.{left_first, left_then}
-use Rattle.lr_plan.specs.declared.planned.LogPlan.{LogPlan}
-use Rattle.lr_plan.specs.declared.planned.SetPlan.{SetPlan}
+use Rattle.lr_plan.specs.declared.plan.LogPlan.{LogPlan}
+use Rattle.lr_plan.specs.declared.plan.SetPlan.{SetPlan}
 use Rattle.lr_plan.specs.declared.step.Step.{Step}
 use Rattle.lr_plan.specs.Steps.{program, shared_steps}
 use Rattle.lr_plan.specs.Steps as steps

@@ -7,7 +7,7 @@ use Rattle.lr_rules.specs.declared.path.Path.{Path}
 use Rattle.lr_rules.specs.declared.rules.Rules.{Rules}
 use Rattle.lr_host.specs.declared.entry.Entry.{Entry}
 use Rattle.lr_host.specs.Quiet.{AreQuiet}
-use Rattle.lr_plan.specs.declared.planned.SetPlan.{SetPlan}
+use Rattle.lr_plan.specs.declared.plan.SetPlan.{SetPlan}
 use Rattle.lr_plan.specs.Steps.{steps_of_set}
 use Rattle.lr_plan.specs.Done.{SetsDone}
 use Rattle.lr_targets.specs.Target.{Target, rotation_of}

@@ -12,8 +12,8 @@ use Rattle.lr_scripts.specs.declared.removal.Removal.{Removal}
 use Rattle.lr_dated_run.specs.Own.{HasAnyNames}
 use Rattle.lr_rotations.specs.Calls.{CanCalls}
 use Rattle.lr_targets.specs.Calls.{calls_of}
-use Rattle.lr_plan.specs.declared.planned.LogPlan.{LogPlan}
-use Rattle.lr_plan.specs.declared.planned.SetPlan.{SetPlan}
+use Rattle.lr_plan.specs.declared.plan.LogPlan.{LogPlan}
+use Rattle.lr_plan.specs.declared.plan.SetPlan.{SetPlan}
 use Rattle.lr_targets.specs.Target.{Target}
 
 -- The rotation of the log has names for all its members, numbers or dates, and its calls fit where the calls are now; and the log can be made anew.

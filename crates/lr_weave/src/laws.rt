@@ -15,7 +15,7 @@ ghost use Rattle.lr_host.specs.Told.{Left, WhereTold};
 ghost use Rattle.lr_host.specs.World.{world, names};
 ghost use Rattle.lr_plan.specs.declared.mark.Mark.{Mark};
 ghost use Rattle.lr_plan.specs.declared.mark.Mark.TheVariants as mark;
-ghost use Rattle.lr_plan.specs.declared.planned.SetPlan.{SetPlan};
+ghost use Rattle.lr_plan.specs.declared.plan.SetPlan.{SetPlan};
 ghost use Rattle.lr_plan.specs.declared.step.SetSteps.{SetSteps};
 ghost use Rattle.lr_plan.specs.Steps.{steps_of_set};
 ghost use Rattle.lr_plan.specs.Done.{SetsDone};

@@ -2,7 +2,7 @@ use Rattle.std.proofs.Common.{rules, ◌≡◌, ◌++◌, Ok, Err, ap, List}
 use Rattle.std.specs.List.{flat_map}
 use Rattle.lr_rules.specs.declared.fault.Phase.TheVariants as phase
 use Rattle.lr_plan.specs.Steps.{program, rotation_of}
-use Rattle.lr_plan.specs.declared.planned.LogPlan.{LogPlan}
+use Rattle.lr_plan.specs.declared.plan.LogPlan.{LogPlan}
 use Rattle.lr_shown.specs.Lines.{lines_of}
 use Rattle.lr_shown.proofs.Joined.{program_as, puts_as, steps_on, steps_stop}
 use Rattle.lr_shown.proofs.plan.put_shared_front.Goals as goal

@@ -4,7 +4,7 @@ use Rattle.lr_rules.specs.declared.fault.Phase.TheVariants as phase
 use Rattle.lr_plan.specs.Steps.{program, steps_of_log}
 use Rattle.lr_shown.specs.Lines.{lines_of}
 use Rattle.lr_shown.proofs.Texts.{texts_map}
-use Rattle.lr_plan.specs.declared.planned.LogPlan.{LogPlan}
+use Rattle.lr_plan.specs.declared.plan.LogPlan.{LogPlan}
 use Rattle.lr_shown.proofs.Joined.{program_as, puts_as, steps_on, steps_stop}
 use Rattle.lr_shown.proofs.plan.put_single.Goals as goal
 

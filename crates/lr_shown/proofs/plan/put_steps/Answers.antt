@@ -2,7 +2,7 @@ use Rattle.std.proofs.Common.{rules, ◌≡◌, Ok, Err, codes, map, ap, List}
 use Rattle.std.specs.List.{flat_map}
 use Rattle.lr_plan.specs.Steps.{steps_of_set}
 use Rattle.lr_shown.specs.Lines.{path_line, set_lines}
-use Rattle.lr_plan.specs.declared.planned.SetPlan.{SetPlan}
+use Rattle.lr_plan.specs.declared.plan.SetPlan.{SetPlan}
 use Rattle.lr_shown.proofs.Joined.{puts_as, puts_on, puts_stop}
 use Rattle.lr_shown.proofs.plan.put_steps.Goals as goal
 

@@ -1,0 +1,4 @@
+mod Hindrances
+mod Making
+mod Short
+mod Standing

@@ -1,0 +1,54 @@
+-- The stand that a rotation goes by: its members are what is asked of them, also where its directory is made; and what is said of a stand that is the same.
+use Rattle.std.proofs.Common.{◌≡◌, Bool, true, false, [], ◌∷◌, Option, Some, None, Ok, sym, ap, ◌∙◌, subst, arith}
+use Rattle.std.specs.Prelude.{if◌then◌else◌}
+use Rattle.std.specs.List.Sorted.{IsStrictlySortedBy}
+use Rattle.lr_rules.specs.declared.clock.Clock.{Clock}
+use Rattle.lr_rules.specs.declared.fault.Fault.{Fault}
+use Rattle.lr_rules.specs.declared.rule.Format.{Format}
+use Rattle.lr_rules.specs.declared.rule.Naming.{Naming}
+use Rattle.lr_rules.specs.declared.rule.Rule.{Rule}
+use Rattle.lr_family.specs.declared.stand.Stand.{Stand}
+use Rattle.lr_days.specs.Newest.{AreNewestFirst}
+use Rattle.lr_chain.specs.declared.ready.Ready.{Ready}
+use Rattle.lr_chain.specs.declared.ready.PrepareStop.{PrepareStop}
+use Rattle.lr_chain.specs.Ready.{with_dir}
+use Rattle.lr_dated_ready.specs.Hindrances.{IsHindered}
+use Rattle.lr_plan.specs.declared.looks.LogLook.{LogLook}
+use Rattle.lr_planning.specs.Hindered.{fault_of}
+use Rattle.lr_plan.specs.Planned.{makes_dir, dir_of, empty_stand, stand_for, with_stand, standing, hindrances_by, hindrances, ready_by, ready_for, AreMembersBy, CanPlan}
+use Rattle.lr_planning.proofs.Hindrances.{fault_hinders}
+
+none_fall : AreNewestFirst []
+unfolding IsStrictlySortedBy
+none_fall = tt
+
+-- no members meet all that is asked of members; the format of their dates meets its limits as before
+none_are : (d : Option Format) (n : Naming) (stand : Stand) → AreMembersBy d n stand.members → AreMembersBy d n []
+none_are None n stand h = λ at m lt. absurd (omega arith)
+none_are (Some format) n stand h = (h.0, (λ at m lt. absurd (omega arith)), none_fall)
+
+members_are : (made : Bool) (look : LogLook) → AreMembersBy look.family.naming.dated look.family.naming look.stand.members → AreMembersBy look.family.naming.dated look.family.naming (if made then empty_stand else look.stand).members
+members_are true look h = none_are look.family.naming.dated look.family.naming look.stand h
+members_are false look h = h
+
+standing_can : (rule : Rule) (look : LogLook) → CanPlan look → CanPlan (standing rule look)
+standing_can rule look can = record { log = can.log; start = can.start; members = members_are (makes_dir rule look) look can.members }
+
+module _ (rule : Rule) (look : LogLook) (stand : Stand) (is : stand ≡ stand_for rule look) where
+  -- the look can be planned for where this stands of its family
+  pub can_stand : CanPlan look → CanPlan (with_stand stand look)
+  can_stand can = subst (λ (s : Stand). CanPlan (with_stand s look)) (sym is) (standing_can rule look can)
+
+  -- what is ready there is planned, with the directory
+  pub ready_stands : (clock : Clock) (ready : Ready) → ready ≡ ready_by look.family.naming.dated clock rule (with_stand stand look) → with_dir (dir_of rule look) ready ≡ ready_for clock rule look
+  ready_stands clock ready h = ap (with_dir (dir_of rule look)) (subst (λ (s : Stand). ready ≡ ready_by look.family.naming.dated clock rule (with_stand s look)) is h)
+
+  -- what hinders there is all that does
+  hindrances_stand : (clock : Clock) → hindrances_by look.family.naming.dated clock rule (with_stand stand look) ≡ hindrances clock rule look
+  hindrances_stand clock = ap (λ (s : Stand). hindrances_by look.family.naming.dated clock rule (with_stand s look)) is
+
+  pub free_stands : (clock : Clock) → hindrances_by look.family.naming.dated clock rule (with_stand stand look) ≡ [] → hindrances clock rule look ≡ []
+  free_stands clock h = sym (hindrances_stand clock) ∙ h
+
+  pub fault_stands : (clock : Clock) (stop : PrepareStop) (f : Fault) → IsHindered (hindrances_by look.family.naming.dated clock rule (with_stand stand look)) stop → Ok f ≡ fault_of stop → hindrances clock rule look ≡ f ∷ []
+  fault_stands clock stop f h told = sym (hindrances_stand clock) ∙ fault_hinders _ stop f h told
