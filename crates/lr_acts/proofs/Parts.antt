@@ -12,9 +12,9 @@ use Rattle.lr_host.proofs.Left.{left_as}
 use Rattle.lr_plan.specs.declared.mark.Mark.{Mark}
 use Rattle.lr_plan.specs.declared.step.Step.{Step}
 use Rattle.lr_plan.specs.declared.step.SetSteps.{SetSteps}
-use Rattle.lr_plan.specs.Internal.Asking.{LeadsTo}
+use Rattle.lr_plan.specs.Asking.{LeadsTo}
 use Rattle.lr_plan.specs.Course.{Part, Course, Unbroken}
-use Rattle.lr_plan.specs.Internal.Cut.{LogsCut, SetCut, in_logs}
+use Rattle.lr_plan.specs.Cut.{LogsCut, SetCut, in_logs}
 use Rattle.lr_plan.specs.Done.{is_rotated, EachDone, LogsThen, LogsDone, if_rotated, SetDone, went_on}
 use Rattle.lr_plan.proofs.Courses.{both_of}
 use Rattle.lr_acts.specs.declared.progress.Progress.{Progress}

@@ -15,7 +15,7 @@ use Rattle.lr_plan.specs.declared.step.Step.TheVariants.{Creates}
 use Rattle.lr_plan.specs.declared.step.SetSteps.{SetSteps}
 use Rattle.lr_plan.specs.Outcomes.{Succeeds, Fails, marks_of}
 use Rattle.lr_plan.specs.Course.{Part, Nothing, Course, StepFails, Unbroken, BrokenOff}
-use Rattle.lr_plan.specs.Internal.Cut.{IsProgram, CourseCut}
+use Rattle.lr_plan.specs.Cut.{IsProgram, CourseCut}
 use Rattle.lr_acts.specs.declared.stop.Stop.{Stop}
 use Rattle.lr_acts.specs.declared.stop.Stop.TheVariants as stop
 use Rattle.lr_acts.specs.Named.{IsNamed}

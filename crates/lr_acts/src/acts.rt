@@ -1,10 +1,10 @@
 // The acts of a plan, definition by definition and log by log.
 ghost use Rattle.std.specs.Prelude.{length, ◌++◌, ◌∷◌, [], Option, OnErr};
 ghost use Rattle.lr_host.specs.Steps.{CanAll};
-ghost use Rattle.lr_plan.specs.Internal.Asking.{asks, LeadsTo, CanMake, CanEach, CanSet, CanSets};
+ghost use Rattle.lr_plan.specs.Asking.{asks, LeadsTo, CanMake, CanEach, CanSet, CanSets};
 ghost use Rattle.lr_plan.specs.Course.{Course};
 ghost use Rattle.lr_host.specs.declared.journal.Journal.{Journal};
-ghost use Rattle.lr_plan.specs.Internal.Cut.{IsProgram, CourseCut, ListCut, LogsCut, SetCut, SetsCut};
+ghost use Rattle.lr_plan.specs.Cut.{IsProgram, CourseCut, ListCut, LogsCut, SetCut, SetsCut};
 ghost use Rattle.lr_plan.specs.Done.{EachDone, LogsDone, SetDone, SetsDone};
 ghost use Rattle.lr_acts.specs.Adding.{Adds, HasRoom, Fills};
 ghost use Rattle.lr_acts.specs.Making.{HasProgram, StepEnds, StepsEnd, Ends, all_of_each, all_of_set, all_of_sets};

@@ -2,8 +2,8 @@
 ghost use Rattle.std.specs.Prelude.{◌≡◌, ◌<◌, ◌≤◌, length, Err, IfOk, IfErr};
 ghost use Rattle.lr_host.specs.Told.{Left, Onward};
 ghost use Rattle.lr_host.specs.Steps.{CanAll};
-ghost use Rattle.lr_plan.specs.Internal.Asking.{asks};
-ghost use Rattle.lr_plan.specs.Internal.Cut.{IsProgram};
+ghost use Rattle.lr_plan.specs.Asking.{asks};
+ghost use Rattle.lr_plan.specs.Cut.{IsProgram};
 ghost use Rattle.lr_plan.specs.Outcomes.{marks_of};
 ghost use Rattle.lr_acts.specs.declared.stop.Stop.TheVariants as stop;
 ghost use Rattle.lr_acts.specs.Making.{StepLeft, StepNames, StopCause, list_of};

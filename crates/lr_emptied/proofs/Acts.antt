@@ -14,7 +14,7 @@ use Rattle.lr_plan.specs.declared.step.SetSteps.{SetSteps}
 use Rattle.lr_plan.specs.declared.step.Step.{Step}
 use Rattle.lr_plan.specs.Course.{Part, Nothing, Course, Unbroken, Both, Every}
 use Rattle.lr_plan.specs.Done.{LogsThen, LogsDone, is_rotated, if_rotated, SetDone, broke_off, went_on, SetsDone, ActsDone}
-use Rattle.lr_plan.specs.Internal.Cut.{CourseCut, ListCut, LogsCut, in_each, in_last, SetCut, in_first, in_logs, SetsCut}
+use Rattle.lr_plan.specs.Cut.{CourseCut, ListCut, LogsCut, in_each, in_last, SetCut, in_first, in_logs, SetsCut}
 use Rattle.lr_plan.specs.Steps.{steps_of_plan, state_steps}
 use Rattle.lr_emptied.specs.Emptied.{CopiedLast, EmptiesCopied}
 use Rattle.lr_emptied.specs.Jobs.{jobs_of}

@@ -23,7 +23,7 @@ ghost use Rattle.lr_plan.specs.declared.plan.SetPlan.{SetPlan};
 ghost use Rattle.lr_plan.specs.declared.step.SetSteps.{SetSteps};
 ghost use Rattle.lr_plan.specs.Course.{Course};
 ghost use Rattle.lr_plan.specs.Done.{SetsDone, ActsDone};
-ghost use Rattle.lr_plan.specs.Internal.Cut.{SetsCut};
+ghost use Rattle.lr_plan.specs.Cut.{SetsCut};
 ghost use Rattle.lr_plan.specs.Planned.{job_by, plan_of};
 ghost use Rattle.lr_plan.specs.Steps.{steps_of_set, steps_of_plan, state_steps};
 ghost use Rattle.lr_emptied.specs.Emptied.{IsJobIn, EmptiesCopied, EmptiesWhole};

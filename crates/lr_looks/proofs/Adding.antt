@@ -9,7 +9,7 @@ use Rattle.lr_family.specs.declared.stand.Stand.{Stand}
 use Rattle.lr_rules.specs.declared.path.Path.{Path}
 use Rattle.lr_looks.specs.Families.{LookedLog, looked_at}
 use Rattle.lr_looks.specs.Found.{FoundLog}
-use Rattle.lr_looks.specs.Internal.{Each}
+use Rattle.lr_looks.specs.Ready.{Each}
 use Rattle.lr_looks.specs.Sets.{where_in, of_set, looked_in, HaveLooksFrom}
 
 differs : (j k : ℕ) → (j ≡ k → ⊥) → eqb j k ≡ false

@@ -8,12 +8,10 @@ use Rattle.lr_rules.specs.declared.fault.Fault.{Fault}
 use Rattle.lr_host.specs.declared.entry.Entry.{Entry}
 use Rattle.lr_host.specs.declared.journal.Journal.{Journal}
 use Rattle.lr_host.specs.Told.{Left}
-use Rattle.lr_plan.specs.declared.looks.LogLook.{LogLook}
 use Rattle.lr_plan.specs.declared.looks.SetLooks.{SetLooks}
 use Rattle.lr_family.specs.declared.listing.Listing.{Listing}
 use Rattle.lr_family.specs.declared.stand.StandStop.{StandStop}
 use Rattle.lr_family.specs.declared.stand.StandStop.TheVariants as stop
-use Rattle.lr_plan.specs.Planned.{CanPlan}
 use Rattle.lr_family.specs.Listed.{ShowsListing, NotListed}
 use Rattle.lr_kept.specs.Begun.{place_in}
 use Rattle.lr_looks.specs.declared.listings.Listings.{Listings}
@@ -104,13 +102,3 @@ pub record LooksBySets (logs : List FoundLog) (faults all_faults : List Fault) (
 -- each of these logs is of one of so many definitions
 abbrev pub AreOf : ℕ → List FoundLog → Type 0
 AreOf count found = Hold (λ f. f.log.set < count) found
-
--- ---- what is asked of a plan
-
--- P holds of each of these logs
-abbrev pub Each : (LogLook → Type 0) → List SetLooks → Type 0
-Each P [] = Unit {0}
-Each P (set ∷ sets) = All P set.logs × Each P sets
-
-abbrev pub AreReady : List SetLooks → Type 0
-AreReady sets = Each CanPlan sets

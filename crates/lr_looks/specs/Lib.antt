@@ -3,6 +3,7 @@ pub mod Choices
 pub mod Families
 pub mod Found
 pub mod Internal
+pub mod Ready
 pub mod Sets
 pub mod Shown
 pub mod Sights

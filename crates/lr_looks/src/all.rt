@@ -3,7 +3,7 @@ ghost use Rattle.std.specs.Prelude.{◌≡◌, OnErr, IfOk, length};
 ghost use Rattle.lr_host.specs.Told.{Left, Onward};
 ghost use Rattle.lr_looks.specs.Asked.{CanAskAll};
 ghost use Rattle.lr_host.specs.Counted.{AddsFaults};
-ghost use Rattle.lr_looks.specs.Internal.{AreReady};
+ghost use Rattle.lr_looks.specs.Ready.{AreReady};
 ghost use Rattle.lr_looks.specs.Shown.{LooksAtAll, ShowsSomeLooks};
 
 use crate::families::look_at_families;

@@ -1,15 +1,15 @@
 // The looks at the families of logs.
 ghost use Rattle.std.specs.Prelude.{◌≡◌, ◌≢◌, ◌<◌, ◌++◌, ◌∷◌, [], true, OnOk, OnErr, IfOk, IfErr, Err, length};
-ghost use Rattle.lr_host.specs.declared.journal.Journal.{Journal};
 ghost use Rattle.lr_rules.specs.Limits.{is_format, or_none};
 ghost use Rattle.lr_host.specs.Told.{Left, Onward, Rose};
 ghost use Rattle.lr_family.specs.Stands.{IsFailedCall};
 ghost use Rattle.lr_family.specs.declared.stand.StandStop.TheVariants as stop;
 ghost use Rattle.lr_host.specs.Counted.{AddsFaults};
-ghost use Rattle.lr_looks.specs.Families.{LookedLog, looked_at, looked_by, ShowsMembersIn, ShowsFamily, sight_of, stop_fault, LookedAtFamilies, LooksAtFamilies, LookedAtSomeFamilies};
+ghost use Rattle.lr_looks.specs.Families.{looked_at, ShowsMembersIn, ShowsFamily, sight_of, stop_fault, LookedAtSomeFamilies};
 ghost use Rattle.lr_plan.specs.Planned.{AreMembersBy};
 ghost use Rattle.lr_looks.specs.Found.{found_in, all_found_in, paths_of, HasBounds, HaveBounds};
-ghost use Rattle.lr_looks.specs.Internal.{AreListings, FamilyPart, AddsLooked, AddsFamily, AddsFamilies, LooksBySets, AreReady, AreOf};
+ghost use Rattle.lr_looks.specs.Internal.{AreListings, FamilyPart, AddsLooked, AddsFamily, AddsFamilies, LooksBySets, AreOf};
+ghost use Rattle.lr_looks.specs.Ready.{AreReady};
 ghost use Rattle.lr_looks.specs.Sets.{HaveLooks};
 
 use crate::found::Found;
@@ -192,8 +192,8 @@ fn paths_of(alloc: Global, found: &[Found]) -> Result<Listed<Path>, Memory>
 }
 
 /// Looks at the families of these logs, in order: the paths of all, and the logs of each of so many definitions with what
-/// stands of their families. The faults of those of which it isn't known are added. No directory is listed twice; one that couldn't be is
-/// tried again at the next log in it.
+/// stands of their families. The faults of those of which it isn't known are added. No directory is listed twice; one that
+/// couldn't be is tried again at the next log in it.
 pub fn look_at_families<H: Host>(
     alloc: Global,
     host: &mut H,

@@ -5,7 +5,7 @@ use Rattle.lr_rules.specs.declared.fault.Fault.{Fault}
 use Rattle.lr_host.specs.declared.entry.Entry.{Entry}
 use Rattle.lr_plan.specs.declared.step.Step.{Step}
 use Rattle.lr_plan.specs.Course.{Part, Nothing, Course, Unbroken, Every}
-use Rattle.lr_plan.specs.Internal.Cut.{IsProgram, CourseCut, ListCut}
+use Rattle.lr_plan.specs.Cut.{IsProgram, CourseCut, ListCut}
 use Rattle.lr_plan.proofs.Courses.{part_as, both_of}
 
 pub then_nothing : (P : Part) (t t' : List Mark) (f f' : List Fault) (ts ts' : List Entry) → P t f ts → Nothing t' f' ts' → P (t ++ t') (f ++ f') (ts ++ ts')

@@ -1,8 +1,9 @@
 pub mod Appending
 pub mod Asked
+pub mod Asking
 pub mod Course
+pub mod Cut
 pub mod Done
-pub mod Internal
 pub mod Outcomes
 pub mod Planned
 pub mod Settings

@@ -2,8 +2,8 @@
 //! steps (`lr_steps`) and make these (`lr_acts`), as values and as definitions of contracts.
 //!
 //! Read `specs/Planned.antt` (the plan is a function of the rules, what was seen, the state and the clock), `Steps.antt` (its steps
-//! are one of the plan), `Outcomes.antt` (what one step leaves, made or failed), `Course.antt` and `Done.antt` (what all leave, and
-//! what a failed one ends). `specs/Internal` is for proofs: what steps ask of the disk, and their first parts.
+//! are one of the plan), `Asking.antt` (what they ask of the disk), `Outcomes.antt` (what one step leaves, made or failed),
+//! `Course.antt` and `Done.antt` (what all leave, and what a failed one ends), and `Cut.antt` (a first part of that).
 #![tactic(auto)]
 
 mod looks;

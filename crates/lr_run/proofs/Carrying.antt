@@ -19,8 +19,8 @@ use Rattle.lr_plan.specs.declared.step.SetSteps.{SetSteps}
 use Rattle.lr_plan.specs.declared.step.Step.{Step}
 use Rattle.lr_plan.specs.Course.{Course}
 use Rattle.lr_plan.specs.Done.{SetsDone, rotated_logs}
-use Rattle.lr_plan.specs.Internal.Asking.{CanMake}
-use Rattle.lr_plan.specs.Internal.Cut.{SetsCut}
+use Rattle.lr_plan.specs.Asking.{CanMake}
+use Rattle.lr_plan.specs.Cut.{SetsCut}
 use Rattle.lr_plan.specs.Steps.{state_steps}
 use Rattle.lr_host.proofs.Counts.{counted_on}
 use Rattle.lr_acts.specs.declared.progress.Progress.{Progress}

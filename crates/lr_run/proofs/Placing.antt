@@ -10,7 +10,7 @@ use Rattle.lr_plan.specs.Asked.{Asked}
 use Rattle.lr_plan.specs.declared.looks.Looks.{Looks}
 use Rattle.lr_plan.specs.declared.step.SetSteps.{SetSteps}
 use Rattle.lr_plan.specs.Done.{SetsDone}
-use Rattle.lr_plan.specs.Internal.Asking.{CanMake}
+use Rattle.lr_plan.specs.Asking.{CanMake}
 use Rattle.lr_plan.specs.Planned.{decision}
 use Rattle.lr_plan.specs.Steps.{state_steps}
 use Rattle.lr_acts.specs.declared.progress.Progress.{Progress}

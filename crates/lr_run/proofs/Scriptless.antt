@@ -11,7 +11,7 @@ use Rattle.lr_plan.specs.Asked.{Asked}
 use Rattle.lr_plan.specs.declared.step.Step.{Step}
 use Rattle.lr_plan.specs.Planned.{decision}
 use Rattle.lr_plan.specs.Steps.{program}
-use Rattle.lr_plan.specs.Internal.Cut.{IsProgram}
+use Rattle.lr_plan.specs.Cut.{IsProgram}
 use Rattle.lr_acts.specs.Making.{HasProgram}
 use Rattle.lr_run.specs.Runs.{BrokeOff}
 use Rattle.lr_run.specs.Scripts.{RunNothing}

@@ -21,7 +21,7 @@ use Rattle.lr_plan.specs.declared.step.Step.TheVariants.{Runs, Removes, MakesDir
 use Rattle.lr_chain.specs.declared.directory.DirStop.TheVariants as unmade
 use Rattle.lr_plan.specs.Outcomes.{Succeeds, Fails, ProgramFailed, badly, not_run, maybe_run}
 use Rattle.lr_plan.specs.Done.{SetsDone}
-use Rattle.lr_plan.specs.Internal.Cut.{SetsCut}
+use Rattle.lr_plan.specs.Cut.{SetsCut}
 use Rattle.lr_acts.specs.Making.{all_of_sets}
 use Rattle.lr_run.proofs.Folded.{Folds, acts_fold, cut_acts_fold}
 use Rattle.lr_run.proofs.Simple.{IsSimple, AreSimple}

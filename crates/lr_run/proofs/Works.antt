@@ -47,8 +47,8 @@ use Rattle.lr_plan.specs.declared.step.Step.{Step}
 use Rattle.lr_host.specs.Counted.{AddsFaults}
 use Rattle.lr_plan.specs.Course.{Course}
 use Rattle.lr_plan.specs.Done.{SetsDone, rotated_logs}
-use Rattle.lr_plan.specs.Internal.Cut.{SetsCut}
-use Rattle.lr_plan.specs.Internal.Asking.{asks, CanMake, CanEach, CanSet, CanSets}
+use Rattle.lr_plan.specs.Cut.{SetsCut}
+use Rattle.lr_plan.specs.Asking.{asks, CanMake, CanEach, CanSet, CanSets}
 use Rattle.lr_plan.specs.Planned.{decision, stand_for, standing, numbered_hindrances, hindrances_by, hindrances, is_too_high, where_due, log_faults, all_plans, all_faults, plan_of, CanPlanAll}
 use Rattle.lr_plan.specs.Steps.{steps_of_set, steps_of_plan, state_steps}
 use Rattle.lr_host.proofs.Counts.{AreFree, free_none, free_on, adds_on, adds_free, adds_call}
@@ -56,7 +56,7 @@ use Rattle.lr_acts.specs.declared.progress.Progress.{Progress}
 use Rattle.lr_acts.specs.Making.{HasProgram, all_of_sets}
 use Rattle.lr_looks.specs.Families.{ShowFamilies, LooksAtFamilies, LookedAtSomeFamilies}
 use Rattle.lr_looks.specs.Found.{FoundLog, paths_of}
-use Rattle.lr_looks.specs.Internal.{AreReady}
+use Rattle.lr_looks.specs.Ready.{AreReady}
 use Rattle.lr_looks.specs.Shown.{ShowsLooks, LooksAtAll, ShowsSomeLooks, at_words, at_families}
 use Rattle.lr_looks.proofs.Behind.{as_many_sights}
 use Rattle.lr_reading.specs.declared.remembered.Remembered.{Remembered}

@@ -30,8 +30,8 @@ use Rattle.lr_host.specs.Counted.{AreCounted}
 use Rattle.lr_plan.specs.Course.{Course}
 use Rattle.lr_plan.specs.declared.step.SetSteps.{SetSteps}
 use Rattle.lr_plan.specs.Done.{SetsDone, rotated_logs}
-use Rattle.lr_plan.specs.Internal.Asking.{CanMake}
-use Rattle.lr_plan.specs.Internal.Cut.{SetsCut}
+use Rattle.lr_plan.specs.Asking.{CanMake}
+use Rattle.lr_plan.specs.Cut.{SetsCut}
 use Rattle.lr_plan.specs.Outcomes.{Maybe}
 use Rattle.lr_plan.specs.Steps.{steps_of_plan, state_steps}
 use Rattle.lr_acts.specs.declared.progress.Progress.{Progress}
@@ -47,7 +47,7 @@ use Rattle.lr_reading.specs.Sights.{StateSights, ShowsState}
 use Rattle.lr_record.specs.After.{after, stamped}
 use Rattle.lr_record.specs.Measured.{measured_text}
 use Rattle.lr_seen.specs.Free.{reserved_by}
-use Rattle.lr_synced.specs.Internal.{IsBy}
+use Rattle.lr_synced.specs.Before.{IsBy}
 use Rattle.lr_synced.specs.Synced.{AreSynced}
 use Rattle.lr_run.specs.declared.answer.RunStop.{RunStop}
 use Rattle.lr_run.specs.declared.answer.RunStop.TheVariants as stop

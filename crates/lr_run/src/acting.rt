@@ -6,7 +6,7 @@ ghost use Rattle.lr_host.specs.Told.{Left, Onward};
 ghost use Rattle.lr_acts.specs.Adding.{HasRoom};
 ghost use Rattle.lr_acts.specs.Making.{HasProgram, all_of_sets};
 ghost use Rattle.lr_plan.specs.Done.{SetsDone, rotated_logs};
-ghost use Rattle.lr_plan.specs.Internal.Asking.{CanMake, CanSets};
+ghost use Rattle.lr_plan.specs.Asking.{CanMake, CanSets};
 ghost use Rattle.lr_plan.specs.Steps.{state_steps};
 ghost use Rattle.lr_record.specs.After.{stamped};
 ghost use Rattle.lr_state.specs.Written.{text_of};

@@ -1,2 +1,2 @@
-pub mod Internal
+pub mod Before
 pub mod Synced

@@ -2,7 +2,7 @@
 ghost use Rattle.std.specs.Prelude.{◌≡◌, List, filter, not, IfOk};
 ghost use Rattle.std.specs.BTreeSet.{contains_text};
 ghost use Rattle.lr_plan.specs.declared.plan.SetPlan.{SetPlan};
-ghost use Rattle.lr_synced.specs.Internal.{IsBy};
+ghost use Rattle.lr_synced.specs.Before.{IsBy};
 ghost use Rattle.lr_synced.specs.Synced.{AreSynced};
 
 use crate::paths::{changed_by_plan, to_make_by_plan};

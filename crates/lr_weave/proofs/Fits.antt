@@ -58,7 +58,7 @@ use Rattle.lr_plan.specs.declared.step.Step.TheVariants as step
 use Rattle.lr_plan.specs.Outcomes.{Succeeds}
 use Rattle.lr_plan.specs.Steps as steps
 use Rattle.lr_plan.specs.Steps.{program, removal, removals, directory, move, step_if, copy, transfer, made_anew, steps_of_log}
-use Rattle.lr_plan.specs.Internal.Asking.{asks, CanMake, CanEach}
+use Rattle.lr_plan.specs.Asking.{asks, CanMake, CanEach}
 use Rattle.lr_plan.specs.Course.{Course}
 use Rattle.lr_weave.specs.Fitting.{IsFit, AreFit, NoneMeets, DontMeet, ReadsNothing, ReadsThis, ReadThemselves, ReadsOwn, ReadOwn}
 use Rattle.lr_weave.specs.Planned.{IsReadyFor, AreReadyFor}

@@ -27,7 +27,7 @@ use Rattle.lr_plan.specs.declared.step.SetSteps.{SetSteps}
 use Rattle.lr_chain.specs.declared.directory.DirStop.TheVariants as unmade
 use Rattle.lr_plan.specs.Outcomes.{Succeeds, Fails, badly, not_run, maybe_run}
 use Rattle.lr_plan.specs.Course.{Course}
-use Rattle.lr_plan.specs.Internal.Cut.{CourseCut, ListCut, LogsCut, in_each, in_last, SetCut, in_first, in_logs, SetsCut}
+use Rattle.lr_plan.specs.Cut.{CourseCut, ListCut, LogsCut, in_each, in_last, SetCut, in_first, in_logs, SetsCut}
 use Rattle.lr_plan.specs.Done.{EachDone, LogsDone, is_rotated, if_rotated, SetDone, broke_off, went_on, SetsDone}
 use Rattle.lr_rotations.specs.Weave.{Weave, none, own, other, FirstWoven}
 use Rattle.lr_weave.specs.Parts.{takes_name, change_of, changes_by, IsPlain, ArePlain, EachPlain, IsPlainSet, ArePlainSets, MakesOnly, MakesOne, parts_of_set, parts_of_sets, FirstParts, AllOf, ArePlanned}

@@ -23,7 +23,7 @@ use Rattle.lr_plan.specs.declared.plan.LogPlan.{LogPlan}
 use Rattle.lr_plan.specs.declared.plan.SetPlan.{SetPlan}
 use Rattle.lr_plan.specs.declared.step.Step.{Step}
 use Rattle.lr_plan.specs.declared.step.Step.TheVariants as step
-use Rattle.lr_plan.specs.Internal.Asking.{asks}
+use Rattle.lr_plan.specs.Asking.{asks}
 use Rattle.lr_plan.specs.Steps.{on_of, program, removal, removals, directory, move, step_if, transfer, made_anew, rotation as steps_of_rotation, retirement as steps_of_retirement, rotation_of as rotation, retirement_of as retirement, steps_of_log, shared_steps, by_logs, steps_of_set}
 use Rattle.lr_targets.specs.Calls.{transfer_calls, calls_of}
 use Rattle.lr_rotations.specs.Weave.{Weave}

@@ -9,7 +9,7 @@ use Rattle.lr_host.specs.Steps.{is_naming}
 use Rattle.lr_plan.specs.declared.plan.LogPlan.{LogPlan}
 use Rattle.lr_plan.specs.declared.plan.SetPlan.{SetPlan}
 use Rattle.lr_plan.specs.Steps.{by_logs, steps_of_set}
-use Rattle.lr_plan.specs.Internal.Asking.{LeadsTo, CanSet, CanSets}
+use Rattle.lr_plan.specs.Asking.{LeadsTo, CanSet, CanSets}
 use Rattle.lr_plan.specs.Done.{SetDone}
 use Rattle.lr_rules.specs.declared.path.Path.{Path}
 use Rattle.lr_host.specs.declared.entry.Entry.{Entry}

@@ -16,7 +16,7 @@ use Rattle.lr_plan.specs.declared.plan.SetPlan.{SetPlan}
 use Rattle.lr_plan.specs.declared.step.Step.{Step}
 use Rattle.lr_plan.specs.Steps.{program, shared_steps}
 use Rattle.lr_plan.specs.Steps as steps
-use Rattle.lr_plan.specs.Internal.Asking.{CanMake}
+use Rattle.lr_plan.specs.Asking.{CanMake}
 use Rattle.lr_rotations.specs.Calls.{CanCalls}
 use Rattle.lr_targets.specs.AllTurns.{AlsoDoes}
 use Rattle.lr_targets.specs.Target.{Target}

@@ -9,7 +9,7 @@ use Rattle.lr_rotations.specs.Weave.{IsFirstOf}
 use Rattle.lr_plan.specs.declared.step.Step.{Step}
 use Rattle.lr_plan.specs.declared.step.Step.TheVariants.{MakesDir, Creates, Takes, Copies, Appends, Truncates}
 use Rattle.lr_plan.specs.declared.step.SetSteps.{SetSteps}
-use Rattle.lr_plan.specs.Internal.Asking.{asks}
+use Rattle.lr_plan.specs.Asking.{asks}
 use Rattle.lr_rotations.specs.Weave.{Weave}
 use Rattle.lr_targets.specs.Target.{Target, rotation_of}
 use Rattle.lr_targets.specs.AllTurns.{AlsoDoes, IsOfSome, IsOfOther}

@@ -12,7 +12,7 @@ use Rattle.lr_plan.specs.declared.step.Step.{Step}
 use Rattle.lr_plan.specs.declared.step.Step.TheVariants.{SyncsDir}
 use Rattle.lr_plan.specs.Steps.{state_part, state_steps}
 use Rattle.lr_plan.specs.Course.{Course, StepThen}
-use Rattle.lr_plan.specs.Internal.Asking.{CanMake}
+use Rattle.lr_plan.specs.Asking.{CanMake}
 use Rattle.lr_plan.specs.Outcomes.{Succeeds, Fails, marks_of}
 use Rattle.lr_host.proofs.Counts.{counted_free, free_none}
 use Rattle.lr_plan.proofs.Courses.{course_then}

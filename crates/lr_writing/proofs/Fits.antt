@@ -21,7 +21,7 @@ use Rattle.lr_host.proofs.More.{IsMore, more_on, made_more, wrote_names, file_sa
 use Rattle.lr_host.proofs.Names.{put_here, put_other}
 use Rattle.lr_plan.specs.declared.step.Step.TheVariants.{Renames, Takes, Appends, SyncsFile, SyncsDir}
 use Rattle.lr_plan.specs.Appending.{Appended, no_more, piece_more}
-use Rattle.lr_plan.specs.Internal.Asking.{CanMake}
+use Rattle.lr_plan.specs.Asking.{CanMake}
 use Rattle.lr_plan.specs.Steps.{state_part, state_steps}
 use Rattle.lr_writing.specs.Fits.{AreDirectories, HasPlace, CanBegin}
 use Rattle.lr_writing.proofs.Named.{part_apart}

@@ -12,7 +12,7 @@ use Rattle.lr_plan.specs.declared.step.Step.TheVariants.{Removes, Renames, Takes
 use Rattle.lr_plan.specs.Steps.{step_if}
 use Rattle.lr_host.specs.Counted.{AreCounted}
 use Rattle.lr_plan.specs.Course.{Course}
-use Rattle.lr_plan.specs.Internal.Asking.{CanMake}
+use Rattle.lr_plan.specs.Asking.{CanMake}
 use Rattle.lr_acts.specs.Making.{FaultCause}
 use Rattle.lr_acts.specs.Taken.{TakenOnly}
 use Rattle.lr_writing.specs.declared.refused.Refused.{Refused}

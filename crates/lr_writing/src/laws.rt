@@ -6,7 +6,7 @@ ghost use Rattle.lr_host.specs.declared.entry.Entry.{Entry};
 ghost use Rattle.lr_host.specs.declared.journal.Journal.{Journal};
 ghost use Rattle.lr_plan.specs.Steps.{state_steps};
 ghost use Rattle.lr_plan.specs.Course.{Course};
-ghost use Rattle.lr_plan.specs.Internal.Asking.{CanMake};
+ghost use Rattle.lr_plan.specs.Asking.{CanMake};
 ghost use Rattle.lr_writing.specs.Fits.{CanBegin};
 ghost use Rattle.lr_writing.specs.Named.{IsNamed, NamedLast};
 

@@ -1,7 +1,7 @@
 // How the part file gets the state's path.
 ghost use Rattle.std.specs.Prelude.{[], ◌∷◌, ◌++◌, map};
 ghost use Rattle.lr_plan.specs.declared.step.Step.TheVariants as step;
-ghost use Rattle.lr_plan.specs.Internal.Asking.{CanMake};
+ghost use Rattle.lr_plan.specs.Asking.{CanMake};
 ghost use Rattle.lr_writing.specs.Writes.{ComesTo, faults_in, name_steps};
 
 use lr_host::Host;

@@ -3,7 +3,7 @@ ghost use Rattle.std.specs.Prelude.{◌≡◌, [], ◌∷◌, length, Some};
 ghost use Rattle.lr_state.specs.Written.{text_of};
 ghost use Rattle.lr_plan.specs.declared.step.Step.TheVariants as step;
 ghost use Rattle.lr_plan.specs.Steps.{step_if};
-ghost use Rattle.lr_plan.specs.Internal.Asking.{CanMake};
+ghost use Rattle.lr_plan.specs.Asking.{CanMake};
 ghost use Rattle.lr_writing.specs.Writes.{ComesTo, fault_of, refusal, part_steps};
 
 use crate::refused::Refused;

@@ -3,7 +3,7 @@ ghost use Rattle.std.specs.Prelude.{◌≡◌, ◌+◌, ◌≤◌, [], ◌∷◌
 ghost use Rattle.std.specs.Vec.{vec_capacity};
 ghost use Rattle.lr_state.specs.Written.{text_of};
 ghost use Rattle.lr_plan.specs.Steps.{state_steps};
-ghost use Rattle.lr_plan.specs.Internal.Asking.{CanMake};
+ghost use Rattle.lr_plan.specs.Asking.{CanMake};
 ghost use Rattle.lr_writing.specs.Writes.{ComesTo, AddsCourse, faults_in};
 
 use crate::naming::name_synced;

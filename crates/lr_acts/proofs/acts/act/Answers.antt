@@ -3,8 +3,8 @@ use Rattle.std.proofs.lemmas.List.{length-append}
 use Rattle.std.specs.Vec.Iter.{into_iter_items}
 use Rattle.lr_plan.specs.declared.step.SetSteps.{SetSteps}
 use Rattle.lr_plan.specs.declared.step.Step.{Step}
-use Rattle.lr_plan.specs.Internal.Asking.{CanSets}
-use Rattle.lr_plan.specs.Internal.Cut.{SetCut, SetsCut}
+use Rattle.lr_plan.specs.Asking.{CanSets}
+use Rattle.lr_plan.specs.Cut.{SetCut, SetsCut}
 use Rattle.lr_plan.specs.Done.{SetDone, SetsDone}
 use Rattle.lr_plan.proofs.Courses.{every_more}
 use Rattle.lr_plan.proofs.Cuts.{list_cut}

@@ -4,7 +4,7 @@ use Rattle.std.specs.Vec.Iter.{into_iter_items}
 use Rattle.lr_host.specs.Told.{Left}
 use Rattle.lr_host.proofs.Left.{left_as}
 use Rattle.lr_plan.specs.declared.step.Step.{Step}
-use Rattle.lr_plan.specs.Internal.Asking.{CanMake}
+use Rattle.lr_plan.specs.Asking.{CanMake}
 use Rattle.lr_plan.specs.Outcomes.{Succeeds}
 use Rattle.lr_plan.specs.Course.{Course, BrokenOff}
 use Rattle.lr_plan.proofs.Courses.{course_more, course_stops}

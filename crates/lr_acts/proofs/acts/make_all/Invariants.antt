@@ -1,6 +1,6 @@
 use Rattle.std.proofs.Common.{◌≡◌, ◌++◌, length}
 use Rattle.std.specs.Vec.Iter.{into_iter_items, into_iter_len}
-use Rattle.lr_plan.specs.Internal.Asking.{CanMake}
+use Rattle.lr_plan.specs.Asking.{CanMake}
 use Rattle.lr_plan.specs.Course.{Course, Unbroken}
 use Rattle.lr_acts.specs.Adding.{Adds, HasRoom, Fills}
 use Rattle.lr_acts.proofs.acts.make_all.Given as goal

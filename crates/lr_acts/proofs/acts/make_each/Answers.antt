@@ -2,8 +2,8 @@ use Rattle.std.proofs.Common.{◌≡◌, ◌+◌, List, [], ◌∷◌, ◌++◌,
 use Rattle.std.proofs.lemmas.List.{length-append}
 use Rattle.std.specs.Vec.Iter.{into_iter_items}
 use Rattle.lr_plan.specs.declared.step.Step.{Step}
-use Rattle.lr_plan.specs.Internal.Asking.{CanEach}
-use Rattle.lr_plan.specs.Internal.Cut.{CourseCut, ListCut}
+use Rattle.lr_plan.specs.Asking.{CanEach}
+use Rattle.lr_plan.specs.Cut.{CourseCut, ListCut}
 use Rattle.lr_plan.specs.Course.{Course}
 use Rattle.lr_plan.specs.Done.{EachDone}
 use Rattle.lr_plan.proofs.Courses.{every_more}

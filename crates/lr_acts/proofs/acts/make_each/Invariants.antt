@@ -1,6 +1,6 @@
 use Rattle.std.proofs.Common.{◌≡◌, ◌++◌, length}
 use Rattle.std.specs.Vec.Iter.{into_iter_items, into_iter_len}
-use Rattle.lr_plan.specs.Internal.Asking.{CanEach}
+use Rattle.lr_plan.specs.Asking.{CanEach}
 use Rattle.lr_plan.specs.Done.{EachDone}
 use Rattle.lr_acts.specs.Adding.{Adds, HasRoom, Fills}
 use Rattle.lr_acts.specs.Making.{all_of_each}

@@ -1,7 +1,7 @@
 use Rattle.std.proofs.Common.{◌≡◌, ◌++◌, length, true, false, Err, Ok, refl, sym, ◌∙◌, ap, subst, rules, arith}
 use Rattle.std.proofs.lemmas.List.{length-append}
 use Rattle.lr_plan.specs.Course.{Course}
-use Rattle.lr_plan.specs.Internal.Cut.{CourseCut, LogsCut, in_each, in_last}
+use Rattle.lr_plan.specs.Cut.{CourseCut, LogsCut, in_each, in_last}
 use Rattle.lr_plan.specs.Done.{LogsDone}
 use Rattle.lr_acts.specs.Adding.{Adds}
 use Rattle.lr_acts.specs.Making.{Ends, HasProgram, StepsEnd, all_of_each}

@@ -1,7 +1,7 @@
 use Rattle.std.proofs.Common.{◌≡◌, ◌++◌, length, true, false, Err, refl, sym, subst, rules, arith}
 use Rattle.std.proofs.lemmas.List.{length-append}
 use Rattle.std.proofs.lemmas.Result.{IfErr-weaker}
-use Rattle.lr_plan.specs.Internal.Cut.{SetCut, in_first}
+use Rattle.lr_plan.specs.Cut.{SetCut, in_first}
 use Rattle.lr_plan.specs.Done.{SetDone, broke_off}
 use Rattle.lr_acts.specs.Adding.{Adds}
 use Rattle.lr_acts.specs.Making.{Ends, HasProgram, all_of_each, all_of_set}

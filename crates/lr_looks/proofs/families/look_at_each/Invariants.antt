@@ -3,7 +3,8 @@ use Rattle.std.specs.Vec.Iter.{into_iter_items, into_iter_len}
 use Rattle.lr_host.specs.Told.{Onward}
 use Rattle.lr_looks.specs.declared.found.Found.{Found}
 use Rattle.lr_host.specs.Counted.{AddsFaults}
-use Rattle.lr_looks.specs.Internal.{AreListings, AreReady}
+use Rattle.lr_looks.specs.Internal.{AreListings}
+use Rattle.lr_looks.specs.Ready.{AreReady}
 use Rattle.lr_looks.proofs.Behind.{SoFar}
 use Rattle.lr_looks.proofs.families.look_at_each.Given as goal
 

@@ -1,6 +1,7 @@
 use Rattle.std.proofs.Common.{sym, ap, ◌∙◌, subst, length}
 use Rattle.lr_looks.specs.Found.{all_found_in}
-use Rattle.lr_looks.specs.Internal.{AreOf, AreReady}
+use Rattle.lr_looks.specs.Internal.{AreOf}
+use Rattle.lr_looks.specs.Ready.{AreReady}
 use Rattle.lr_looks.proofs.Behind.{sets_all, no_families}
 use Rattle.lr_looks.proofs.families.look_at_families.Goals as goal
 

@@ -1,7 +1,7 @@
 use Rattle.std.proofs.Common.{◌+◌, ◌∷◌, [], length, sym, ap, ◌∙◌, subst}
 use Rattle.std.proofs.lemmas.List.{length-append}
 use Rattle.lr_plan.specs.Planned.{CanPlan}
-use Rattle.lr_looks.specs.Internal.{AreReady}
+use Rattle.lr_looks.specs.Ready.{AreReady}
 use Rattle.lr_looks.specs.Sets.{HaveLooks}
 use Rattle.lr_looks.proofs.Adding.{none_more, each_none}
 use Rattle.lr_looks.proofs.families.no_looks.Goals as goal

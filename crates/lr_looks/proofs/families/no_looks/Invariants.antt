@@ -1,5 +1,5 @@
 use Rattle.std.proofs.Common.{◌≡◌, [], length}
-use Rattle.lr_looks.specs.Internal.{AreReady}
+use Rattle.lr_looks.specs.Ready.{AreReady}
 use Rattle.lr_looks.specs.Sets.{HaveLooks}
 use Rattle.lr_looks.proofs.families.no_looks.Given as goal
 

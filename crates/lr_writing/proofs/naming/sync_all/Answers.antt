@@ -3,7 +3,7 @@ use Rattle.std.specs.Vec.Iter.{into_iter_items}
 use Rattle.lr_rules.specs.declared.path.Path.{Path}
 use Rattle.lr_plan.specs.declared.step.Step.{Step}
 use Rattle.lr_plan.specs.declared.step.Step.TheVariants as step
-use Rattle.lr_plan.specs.Internal.Asking.{CanMake}
+use Rattle.lr_plan.specs.Asking.{CanMake}
 use Rattle.lr_writing.specs.Writes.{ComesTo, faults_in}
 use Rattle.lr_writing.proofs.Coming.{comes_nothing, comes_on, comes_short, map_both}
 use Rattle.lr_writing.proofs.naming.sync_all.Goals as goal

@@ -4,7 +4,7 @@ use Rattle.lr_state.specs.Written.{text_of}
 use Rattle.lr_plan.specs.declared.step.Step.{Step}
 use Rattle.lr_plan.specs.declared.step.Step.TheVariants as step
 use Rattle.lr_plan.specs.Steps.{state_steps}
-use Rattle.lr_plan.specs.Internal.Asking.{CanMake}
+use Rattle.lr_plan.specs.Asking.{CanMake}
 use Rattle.lr_writing.specs.Writes.{ComesTo, faults_in, fault_of, part_steps, name_steps}
 use Rattle.lr_writing.proofs.Coming.{comes_on, comes_short, fits_first, whole_is}
 use Rattle.lr_writing.proofs.write.make_all.Goals as goal
