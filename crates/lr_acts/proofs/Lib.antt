@@ -2,6 +2,7 @@ mod Adding
 mod Copies
 mod Counting
 mod Dirs
+pub mod Keeping
 mod Naming
 mod Parts
 mod Programs
