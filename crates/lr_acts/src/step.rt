@@ -19,8 +19,8 @@ use lr_host::Host;
 use lr_plan::{Mark, Step};
 use std::alloc::Global;
 
-/// Makes one step, a copy through the buffer, of 65,536 bytes at most; the answer is what it tells the steps behind it, if anything. Only a program
-/// takes memory.
+/// Makes one step, a copy through the buffer, of 65,536 bytes at most; the answer is what it tells the steps behind it, if
+/// anything. Only a program takes memory.
 pub fn make<H: Host>(
     alloc: Global,
     host: &mut H,

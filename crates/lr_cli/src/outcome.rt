@@ -1,5 +1,5 @@
 // What the top call answers.
-ghost use Rattle.std.specs.Prelude.{◌≡◌, [], ◌∷◌};
+ghost use Rattle.std.specs.Prelude.{◌≡◌};
 ghost use Rattle.lr_cli.specs.Status.{status_of};
 
 use lr_rules::{Fault, Listed, Notice};

@@ -25,8 +25,8 @@ use lr_rules::{Clock, Fault, Listed};
 use lr_run::{RunStop, run};
 use std::alloc::Global;
 
-/// Reads the configuration of a request, and makes a run over its rules, by the settings of the request. All memory but that of programs is taken before
-/// the first change.
+/// Reads the configuration of a request, and makes a run over its rules, by the settings of the request. All memory but that
+/// of programs is taken before the first change.
 pub fn run_confs<H: Host>(
     alloc: Global,
     host: &mut H,

@@ -1,8 +1,8 @@
 // The text of the zone that a call is to use.
-ghost use Rattle.std.specs.Prelude.{◌≡◌, ◌≤◌, [], ◌∷◌, true, false, Ok, Err, IfOk, IfErr, OnErr};
+ghost use Rattle.std.specs.Prelude.{◌≡◌, [], ◌∷◌, true, false, Ok, Err, IfOk, IfErr, OnErr};
 ghost use Rattle.lr_rules.specs.declared.fault.Fault.{Fault};
 ghost use Rattle.lr_host.specs.declared.entry.Entry.TheVariants as entry;
-ghost use Rattle.lr_host.specs.Told.{Left, Are, Then, Can, Onward, Rose};
+ghost use Rattle.lr_host.specs.Told.{Left, Are, Can, Onward, Rose};
 ghost use Rattle.lr_host.specs.Looks.{Sees, IsFile};
 ghost use Rattle.lr_due.specs.declared.tz.Zone.TheVariants as asked;
 ghost use Rattle.lr_due.specs.declared.zone.ZoneText.TheVariants as text;

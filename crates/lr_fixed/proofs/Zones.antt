@@ -16,7 +16,7 @@ use Rattle.jiff_tz.specs.declared.tzif.transition.Transition.{Transition}
 use Rattle.jiff_tz.specs.PosixRule.{match_some, rule_nanos, utc_window, in_window, dst_at_by}
 use Rattle.jiff_tz.specs.PosixRule as PosixRule
 use Rattle.jiff_tz.specs.PosixText.{DstText, TzText, day_time_view, dst_view, tz_view}
-use Rattle.jiff_tz.specs.Tzif.{floor_second, count_at, no_transition, transition_at, type_after, rule_after, tzif_view}
+use Rattle.jiff_tz.specs.Tzif.{floor_second, count_at, no_transition, transition_at, type_after, tzif_view}
 use Rattle.jiff_tz.specs.Tzif as TableRule
 use Rattle.jiff_tz.specs.TzifReader.{TzifText, read_tzif}
 use Rattle.jiff_tz.specs.TzifText.{TypeText, TransitionText, type_view, transition_text}

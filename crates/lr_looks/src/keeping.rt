@@ -1,5 +1,5 @@
 // Which of the logs that were found are kept.
-ghost use Rattle.std.specs.Prelude.{◌≡◌, ◌<◌, ◌++◌, OnOk, IfOk, length, map, slice_get, slice_index_or, Some, None, ◌∷◌, []};
+ghost use Rattle.std.specs.Prelude.{◌≡◌, ◌++◌, OnOk, IfOk, length, map, Some, ◌∷◌, []};
 ghost use Rattle.lr_rules.specs.declared.fault.Fault.TheVariants as fault;
 ghost use Rattle.std.specs.List.{flat_map};
 ghost use Rattle.lr_looks.specs.Found.{found_in, all_found_in, HaveLogPaths};

@@ -9,7 +9,7 @@ ghost use Rattle.lr_glob.specs.declared.found.GlobStop.TheVariants as stop;
 ghost use Rattle.lr_looks.specs.Asked.{CanAsk, CanAskAll, AreTexts, word_of, words_of, asked_by};
 ghost use Rattle.lr_host.specs.Counted.{AddsFaults};
 ghost use Rattle.lr_looks.specs.Found.{all_found_in, HasLogPath, HaveLogPaths};
-ghost use Rattle.lr_looks.specs.Sights.{WordSight, found_at, found_by, missing, glob_fault, fault_of, AreFoundOf, LookedAt, LookedAtSome};
+ghost use Rattle.lr_looks.specs.Sights.{found_at, found_by, missing, glob_fault, fault_of, AreFoundOf, LookedAt, LookedAtSome};
 ghost use Rattle.lr_looks.specs.Internal.{AddsFound};
 
 use crate::found::Found;

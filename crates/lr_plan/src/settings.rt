@@ -1,5 +1,5 @@
 // What a call asks for besides its configuration.
-ghost use Rattle.std.specs.Prelude.{◌≡◌, ◌≤◌, length, true};
+ghost use Rattle.std.specs.Prelude.{◌≡◌, true};
 ghost use Rattle.lr_plan.specs.Settings.{can_be_state};
 
 use lr_rules::Path;

@@ -1,5 +1,5 @@
 // By what it is known whether a run reached its plan.
-ghost use Rattle.std.specs.Prelude.{◌≡◌, ◌↔◌, reverse, Bool, List, Option, None};
+ghost use Rattle.std.specs.Prelude.{◌≡◌, ◌↔◌, reverse, List, Option, None};
 ghost use Rattle.lr_rules.specs.declared.clock.Clock.{Clock};
 ghost use Rattle.lr_rules.specs.declared.fault.Fault.{Fault};
 ghost use Rattle.lr_rules.specs.declared.path.Path.{Path};

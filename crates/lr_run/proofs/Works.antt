@@ -79,7 +79,7 @@ use Rattle.lr_seen.proofs.Seen.{targets_seen, targets_have_names, targets_have_p
 use Rattle.lr_run.specs.declared.ready.Ready.{Ready}
 use Rattle.lr_run.specs.Internal.{AreBehind, ReadyFor, MayBeReady, ActsAndWrites, SomeActs, CarriesOn, Carries, LookedDone, WorkDone, SomeWork, some_seen, some_done, EndsBehindLooks, EndsBehindState}
 use Rattle.lr_run.specs.Runs as runs
-use Rattle.lr_run.specs.Runs.{logs_in, Looked, Worked, worked, too_big, not_known}
+use Rattle.lr_run.specs.Runs.{logs_in, Worked, worked, too_big, not_known}
 use Rattle.lr_run.proofs.Simple.{AreSimple, plan_simple}
 
 -- ---- rules within their limits can be planned for

@@ -1,11 +1,10 @@
 // The acts of a run, and the state behind them.
-ghost use Rattle.std.specs.Prelude.{◌≡◌, ◌+◌, ◌≤◌, ◌∷◌, [], List, ℕ, drop, map, length, vec_len, OnOk, OnErr, Option};
+ghost use Rattle.std.specs.Prelude.{◌≡◌, ◌+◌, ◌≤◌, ◌∷◌, [], List, ℕ, drop, map, length, vec_len, OnOk, OnErr};
 ghost use Rattle.std.specs.Vec.{vec_capacity};
-ghost use Rattle.lr_rules.specs.declared.fault.Fault.{Fault};
 ghost use Rattle.lr_host.specs.Told.{Left, Onward};
 ghost use Rattle.lr_acts.specs.Adding.{HasRoom};
 ghost use Rattle.lr_acts.specs.Making.{HasProgram, all_of_sets};
-ghost use Rattle.lr_plan.specs.Done.{SetsDone, rotated_logs};
+ghost use Rattle.lr_plan.specs.Done.{rotated_logs};
 ghost use Rattle.lr_plan.specs.Asking.{CanMake, CanSets};
 ghost use Rattle.lr_plan.specs.Steps.{state_steps};
 ghost use Rattle.lr_record.specs.After.{stamped};

@@ -48,8 +48,8 @@ fn add_fault(faults: &mut Vec<Fault>, fault: Fault)
 
 /// Writes the text of the table as the state file: an old part file that was seen is unlinked; the text goes to a new one
 /// of mode 0640, which is synced; so are these directories, so that the names in them are durable before the state gets its
-/// own; then the part file gets the state's path, and the directory of that is synced. It takes no memory. A call that fails leaves the rest undone; its fault is added, for which
-/// there has to be room.
+/// own; then the part file gets the state's path, and the directory of that is synced. It takes no memory. A call that fails
+/// leaves the rest undone; its fault is added, for which there has to be room.
 pub fn write_state<H: Host>(
     host: &mut H,
     writing: Writing,

@@ -1,5 +1,5 @@
 // What the writing of a state file needs.
-ghost use Rattle.std.specs.Prelude.{◌≡◌, ◌++◌, IfOk, MatchResult, None};
+ghost use Rattle.std.specs.Prelude.{◌≡◌, IfOk, MatchResult, None};
 ghost use Rattle.lr_rules.specs.Path.{path_fault, IsRefusal};
 ghost use Rattle.lr_plan.specs.Steps.{state_part};
 
