@@ -27,4 +27,4 @@ pub record IsDone (request : Request) (zone : Zone) (seconds : ℤ) (report : Re
 -- Nothing was in the way of the call: of its state, and of the logs that its looks kept, as its entries show them.
 abbrev pub IsSmoothCall : Request → Zone → ℤ → Report → Journal → Journal → Type 0
 IsSmoothCall request zone seconds report before after =
-    (es : List Entry) → Made (past before) es (past after) → (p : ReachesPlan request zone seconds report (reverse es)) → IsSmooth request.state p.run.within.looked.shown.kept (past before) (past after)
+    (es : List Entry) → Made (past before) es (past after) → (p : ReachesPlan request zone seconds report (reverse es)) → IsSmooth request.state p.rules.sets p.run.within.looked.shown.kept (past before) (past after)

@@ -79,7 +79,7 @@ use Rattle.lr_run.proofs.Shape.{sees_quiet, seen_quiet, looked_parts, all_of_sta
 use Rattle.lr_run.proofs.Taken.{IsOfNew, looks_none}
 use Rattle.lr_fulfilled.specs.Fulfilled.{NothingFailed}
 use Rattle.lr_fulfilled.proofs.Truth.{Looking, looking, looks_stand}
-use Rattle.lr_spared.specs.Smooth.{NoneRose, IsPartOfOne, IsDirOfOne, IsWrittenFirst, IsSmooth}
+use Rattle.lr_spared.specs.Smooth.{NoneRose, IsCopied, IsPartOfOne, IsDirOfOne, IsWrittenFirst, IsSmooth}
 use Rattle.lr_spared.proofs.Clearing.{ClearsFirst, clears_on, clears_log, course_clears}
 use Rattle.lr_run.proofs.Courses.{OfLog, sets_done, either, sets_so, all_sets}
 use Rattle.lr_spared.proofs.Dirs.{IsMadeBy, made_by_one, dir_apart, some_give, state_gives, calm_gives, of_changes, course_saw}
@@ -90,7 +90,7 @@ use Rattle.lr_run.proofs.Members.{HaveMembers, seen_members, part_own, all_ready
 use Rattle.lr_spared.proofs.Naming.{Avoids, Spared}
 use Rattle.lr_spared.proofs.Once.{each_ready, logs_aside, logs_at_most, sets_aside, sets_once}
 use Rattle.lr_spared.proofs.Sighted.{looks_saw}
-use Rattle.lr_spared.proofs.Stale.{IsKeptAs, kept_as, job_limit, part_of_one, part_seen, part_known}
+use Rattle.lr_spared.proofs.Stale.{IsKeptAs, kept_as, is_copied, job_limit, part_of_one, part_seen, part_known}
 use Rattle.lr_spared.proofs.Steps.{OnceNamed, once_first, once_last, once_later, one_split, Tells, course_tells, sets_tell, tells_on}
 use Rattle.lr_spared.proofs.Taken.{never_taken}
 use Rattle.lr_spared.proofs.Writing.{state_none, state_clears, state_takes, state_once, state_fits, log_takes}
@@ -119,7 +119,7 @@ same_path x y = go (bytes_eq x y) refl
 -- ---- the run
 
 module _ (state : Path) (asked : Asked) (clock : Clock) (rules : Rules) (own : List Fault) (j k : Journal) (es reads acts : List Entry) (made : Made (past j) es (past k)) (journal : IsJournal (past j)) (joined : reverse es ≡ reads ++ acts) (quiet : AreQuiet reads)
-    (i : Inside state clock rules (Worked state rules.sets clock asked own) acts) (smooth : IsSmooth state i.within.looked.shown.kept (past j) (past k)) where
+    (i : Inside state clock rules (Worked state rules.sets clock asked own) acts) (smooth : IsSmooth state rules.sets i.within.looked.shown.kept (past j) (past k)) where
   abbrev p : Past
   p = past j
 
@@ -211,8 +211,8 @@ module _ (state : Path) (asked : Asked) (clock : Clock) (rules : Rules) (own : L
   -- ---- what the looks saw
 
   -- no writer was attached to such a path, nor to that of such a directory
-  spared_at : (x : Path) → ((y : Path) → (IsWrittenFirst state l.shown.kept y → ⊥) × (IsDirOfOne l.shown.kept y → ⊥) → y ≡ x → ⊥) → Spared x p q
-  spared_at x other = since_as (λ y. (IsWrittenFirst state l.shown.kept y → ⊥) × (IsDirOfOne l.shown.kept y → ⊥)) (λ y. y ≢ x) p q other smooth.spared
+  spared_at : (x : Path) → ((y : Path) → (IsWrittenFirst state rules.sets l.shown.kept y → ⊥) × (IsDirOfOne l.shown.kept y → ⊥) → y ≡ x → ⊥) → Spared x p q
+  spared_at x other = since_as (λ y. (IsWrittenFirst state rules.sets l.shown.kept y → ⊥) × (IsDirOfOne l.shown.kept y → ⊥)) (λ y. y ≢ x) p q other smooth.spared
 
   -- so a look at it saw what stood there at first
   seen_at_first : (x : Path) (o : Option Seen) → Spared x p q → IsIn (entry.Look x o) seen → (w : World) × Sees w (names (world p) x) o
@@ -340,11 +340,11 @@ module _ (state : Path) (asked : Asked) (clock : Clock) (rules : Rules) (own : L
         mine : IsOwnName o.target.log o.target.naming x
         mine = subst (IsOwnName o.target.log o.target.naming) o.part (part_own o.target (members o.target o.one) o.job o.is)
 
-        part : IsPartOfOne l.shown.kept x
-        part = subst (IsPartOfOne l.shown.kept) o.part (part_of_one rules.sets l.sets l.of_looks l.looks l.shown o.target (comes o.target o.one) (members o.target o.one) o.job o.is)
+        part : IsPartOfOne rules.sets l.shown.kept x
+        part = subst (IsPartOfOne rules.sets l.shown.kept) o.part (part_of_one rules.sets l.sets l.of_looks l.looks l.shown o.target (comes o.target o.one) (members o.target o.one) o.job o.is)
 
         spared : Spared x p q
-        spared = spared_at x (λ y free same. free.0 (inr (subst (IsPartOfOne l.shown.kept) (sym same) part)))
+        spared = spared_at x (λ y free same. free.0 (inr (subst (IsPartOfOne rules.sets l.shown.kept) (sym same) part)))
 
     -- by the acts
     acts_take_none : (x : Path) → IsIn (fault.Taken x) w.acted.of_acts → ⊥
@@ -360,14 +360,14 @@ module _ (state : Path) (asked : Asked) (clock : Clock) (rules : Rules) (own : L
 
   -- ---- no file was too long
 
-  -- the file is a log that is kept, and the limit of its copy is this
+  -- the file is a log that is kept and copied, and the limit of its copy is this
   abbrev IsLimited : Path → ℕ → Type 0
-  IsLimited from limit = (limit ≡ 1_099_511_627_776) × ((f : FoundLog) × IsIn f l.shown.kept × (f.log.path ≡ from))
+  IsLimited from limit = (limit ≡ 1_099_511_627_776) × ((f : FoundLog) × IsIn f l.shown.kept × IsCopied rules.sets f × (f.log.path ≡ from))
 
   limited : (t : Target) (one : IsIn t targets) (job : Job) → t.job ≡ Some job → IsLimited job.from job.limit
-  limited t one job is = (job_limit rules.sets l.sets l.of_looks l.looks l.shown t (comes t one) job is, (f.found, f.among, f.path ∙ sym ((members t one).job job is).from_is))
+  limited t one job is = (job_limit rules.sets l.sets l.of_looks l.looks l.shown t (comes t one) job is, (f.found, f.among, is_copied rules.sets l.sets l.of_looks l.looks l.shown t (comes t one) job is, f.path ∙ sym ((members t one).job job is).from_is))
     where
-      f : IsKeptAs l.shown.kept t
+      f : IsKeptAs l.shown.kept t (comes t one).place
       f = kept_as rules.sets l.sets l.of_looks l.looks l.shown t (comes t one)
 
   read_over : (x : Path) → IsIn (fault.TooLong x) w.acted.of_acts → ReadsOver IsLimited x l.acts
@@ -382,7 +382,7 @@ module _ (state : Path) (asked : Asked) (clock : Clock) (rules : Rules) (own : L
   not_long : (x : Path) → IsIn (fault.TooLong x) own → ⊥
   not_long x h = never_over IsLimited x p q es made
       (record { limit = r.limit; fits = r.fits; place = r.place; piece = r.piece; some = r.some; over = r.over; read = in_all (entry.Reads x r.place r.piece) r.read })
-      (λ limit c m old new first second g is. subst (λ (n : ℕ). length ((world m).files g).bytes ≤ n) (sym c.0) (smooth.short c.1.0 c.1.1 m (made_behind p m old first) (made_behind m q new second) g (subst (λ (y : Path). names (world m) y ≡ thing.File g) (sym c.1.2) is)))
+      (λ limit c m old new first second g is. subst (λ (n : ℕ). length ((world m).files g).bytes ≤ n) (sym c.0) (smooth.short c.1.0 c.1.1 c.1.2 m (made_behind p m old first) (made_behind m q new second) g (subst (λ (y : Path). names (world m) y ≡ thing.File g) (sym c.1.3) is)))
     where
       r : ReadsOver IsLimited x l.acts
       r = read_over x (⊎_elim (λ b. absurd (plan_hinders (fault.TooLong x) clock decide rules.sets l.sets b)) (λ b. b) (of_plan_or_acts (fault.TooLong x) tt h))
@@ -403,7 +403,7 @@ module _ (state : Path) (asked : Asked) (clock : Clock) (rules : Rules) (own : L
       missing : IsMissingDir t.log t.naming t.stand.members t.job l.looks dir
       missing = subst (λ (d : Option (Path × Option ℕ)). IsDirSeenBy d t.log t.naming t.stand.members t.job l.looks) m.its.1 (log_among rules clock l.looks targets logs_seen t m.one).dir
 
-      kept : IsKeptAs l.shown.kept t
+      kept : IsKeptAs l.shown.kept t (comes t m.one).place
       kept = kept_as rules.sets l.sets l.of_looks l.looks l.shown t (comes t m.one)
 
       of_one : IsDirOfOne l.shown.kept dir

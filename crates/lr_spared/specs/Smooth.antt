@@ -1,6 +1,8 @@
 -- Calls in which nothing is in the way of a run.
-use Rattle.std.specs.Prelude.{◌≡◌, ◌≤◌, ◌⊎◌, ℕ, List, length}
+use Rattle.std.specs.Prelude.{◌≡◌, ◌≢◌, ◌≤◌, ◌⊎◌, ℕ, List, Some, length, slice_get}
 use Rattle.lr_rules.specs.declared.path.Path.{Path}
+use Rattle.lr_rules.specs.declared.rule.Rule.{Rule}
+use Rattle.lr_rules.specs.declared.rule.Way.TheVariants as way
 use Rattle.lr_rules.specs.Match.{part_end, EndsWith}
 use Rattle.lr_host.specs.declared.thing.Thing.TheVariants as thing
 use Rattle.lr_host.specs.Fits.{IsFileAt}
@@ -17,10 +19,17 @@ use Rattle.lr_rotations.specs.Rotated.{IsBehind}
 abbrev pub NoneRose : Counts → Counts → Type 0
 NoneRose before now = (Rose before.faults now.faults → ⊥) × (Rose before.bad_ends now.bad_ends → ⊥)
 
--- the path is that of the part file of a member of one of these logs
-pub record IsPartOfOne (logs : List FoundLog) (x : Path) : Type 0 where
+-- by the rule of its definition the log is copied, in the place of its rename
+pub record IsCopied (rules : List Rule) (found : FoundLog) : Type 0 where
+  pub rule : Rule
+  pub at : slice_get rules found.log.set ≡ Some rule
+  pub way : rule.way ≢ way.Rename
+
+-- the path is that of the part file of a member of one of these logs that is copied
+pub record IsPartOfOne (rules : List Rule) (logs : List FoundLog) (x : Path) : Type 0 where
   pub found : FoundLog
   pub among : IsIn found logs
+  pub copied : IsCopied rules found
   pub part : IsMembersPart found.log.naming x
 
 -- the path is that of the directory in which the members of one of these logs stand
@@ -30,16 +39,16 @@ pub record IsDirOfOne (logs : List FoundLog) (x : Path) : Type 0 where
   pub dir : found.log.naming.dir ≡ x
 
 -- the path is that of a file that gets its name by a rename once it is whole: of a new state, or of such a part file
-abbrev pub IsWrittenFirst : Path → List FoundLog → Path → Type 0
-IsWrittenFirst state logs x = (x ≡ state_part state) ⊎ IsPartOfOne logs x
+abbrev pub IsWrittenFirst : Path → List Rule → List FoundLog → Path → Type 0
+IsWrittenFirst state rules logs x = (x ≡ state_part state) ⊎ IsPartOfOne rules logs x
 
--- Between the two pasts nothing is in the way of a run with this state that keeps these logs.
-pub record IsSmooth (state : Path) (logs : List FoundLog) (before after : Past) : Type 0 where
+-- Between the two pasts nothing is in the way of a run with this state and these rules that keeps these logs.
+pub record IsSmooth (state : Path) (rules : List Rule) (logs : List FoundLog) (before after : Past) : Type 0 where
   -- no writer was attached to such a path, nor to that of such a directory: where the directory is missing, the writer's file would stand in the way of its making
-  pub spared : AttachedOnlySince (λ x. (IsWrittenFirst state logs x → ⊥) × (IsDirOfOne logs x → ⊥)) before after
+  pub spared : AttachedOnlySince (λ x. (IsWrittenFirst state rules logs x → ⊥) × (IsDirOfOne logs x → ⊥)) before after
   -- at first nothing stood at the path of a part file, or a regular file did
-  pub free : (x : Path) → IsPartOfOne logs x → (names (world before) x ≡ thing.Nothing) ⊎ IsFileAt (names (world before)) x
+  pub free : (x : Path) → IsPartOfOne rules logs x → (names (world before) x ≡ thing.Nothing) ⊎ IsFileAt (names (world before)) x
   -- no dated member of these has a name that ends as a part file's does, so that one that is taken isn't told in the words of a copy that broke off
   pub told_apart : (f : FoundLog) → IsIn f logs → (x : Path) → IsDated f.log.naming x → EndsWith x part_end → ⊥
-  -- no file was ever a log of these with more than 2^40 bytes
-  pub short : (f : FoundLog) → IsIn f logs → (m : Past) → IsBehind before m → IsBehind m after → (g : ℕ) → names (world m) f.log.path ≡ thing.File g → length ((world m).files g).bytes ≤ 1_099_511_627_776
+  -- no file was ever a log of these that is copied with more than 2^40 bytes
+  pub short : (f : FoundLog) → IsIn f logs → IsCopied rules f → (m : Past) → IsBehind before m → IsBehind m after → (g : ℕ) → names (world m) f.log.path ≡ thing.File g → length ((world m).files g).bytes ≤ 1_099_511_627_776

@@ -24,6 +24,6 @@ ghost use Rattle.lr_spared.specs.Smooth.{NoneRose, IsSmooth};
 pub fn smooth_run_fails_nothing()
     ensures { (state : Path) (asked : Asked) (clock : Clock) (rules : Rules) (own : List Fault) (j k : Journal) (es reads acts : List Entry)
         → Made (past j) es (past k) → IsJournal (past j) → reverse es ≡ reads ++ acts → AreQuiet reads → (i : Inside state clock rules (Worked state rules.sets clock asked own) acts)
-        → IsSmooth state i.within.looked.shown.kept (past j) (past k) → TakenBy state (plan_in state rules.sets i.between i.within.looked clock asked) own (Some j) (Some k)
+        → IsSmooth state rules.sets i.within.looked.shown.kept (past j) (past k) → TakenBy state (plan_in state rules.sets i.between i.within.looked clock asked) own (Some j) (Some k)
         → (counted counts : Counts) → AreCounted own counted counts → NoneRose counted counts → NothingFailed state (dirs_in (plan_in state rules.sets i.between i.within.looked clock asked)) own }
 {}
