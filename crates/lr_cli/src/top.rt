@@ -62,7 +62,8 @@ pub fn logrotate<H: Host, K: Sink>(
 
     // Where none of its faults ends a run, neither count of failures rose, and nothing was in its way, its faults tell of nothing
     // that failed, and it did its plan. Nothing is in its way where writers spared the files that it writes first and the
-    // directories of the logs, nothing stood at the part file's path of a log that is copied, and none was too long for it.
+    // directories of the logs, nothing but a file stood at the part file's path of a log that is copied, none of these was too
+    // long for it, and no dated name ends as a part file's does.
     ensures smooth { (request : Request) (report : Report) (before after : Journal) → AskFor here.now words.now request → request.debug ≡ false → without_out result ≡ Outcome.Done report → NoneEnds request.state report.faults → NoneRose (H.counts host.old) (H.counts host.new)
         → H.told host.old ≡ Some before → H.told host.new ≡ Some after → IsJournal (past before) → IsSmoothCall request zone.now now report before after → IsDone request zone.now now report before after }
 
