@@ -3,7 +3,7 @@ ghost use Rattle.std.specs.Prelude.{◌≡◌, ◌↔◌, IsSome, IfSome, pos, �
 ghost use Rattle.jiff_core.specs.Calendar.{days_from_civil, IsEpochDay};
 ghost use Rattle.lr_rules.specs.Civil.{IsMoment, moment_seconds};
 
-use jiff::civil::Date;
+use jiff_core::civil::Date;
 
 /// A moment of the years 1 to 9999 on a calendar and a clock.
 #[derive(Clone, Copy)]
@@ -48,7 +48,7 @@ impl Civil {
         let Ok(date) = Date::new(self.year, self.month as i8, self.day as i8) else {
             unreachable!()
         };
-        i64::from(date.to_plain().to_unix_epoch_day())
+        i64::from(date.to_unix_epoch_day())
     }
 
     fn second_of_day(&self) -> u32
