@@ -1,5 +1,0 @@
-use Rattle.lr_kept.specs.Chosen.{HaveFormats}
-use Rattle.lr_bench.proofs.kept.measure_all.Given as goal
-
-abbrev pub invariant-loop-family : goal.invariant-loop-family
-invariant-loop-family l = record { formats : HaveFormats l.logs.items }

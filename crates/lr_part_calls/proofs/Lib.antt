@@ -1,2 +1,0 @@
-mod CanCopy
-mod Removing
