@@ -304,6 +304,7 @@ impl Disk {
                     size: file.bytes.len() as u64,
                     mtime: file.mtime,
                     mode: file.mode,
+                    exposed: is_exposed(file.mode),
                 })
             }
             Thing::Directory => Some(seen_as(Kind::Dir)),
@@ -367,6 +368,14 @@ impl Disk {
     }
 }
 
+// Whether its group or others may write a file of this mode, where one is told.
+fn is_exposed(mode: Option<u32>) -> bool {
+    match mode {
+        Some(mode) => mode & 0o022 != 0,
+        None => false,
+    }
+}
+
 fn seen_as(kind: Kind) -> Seen
     ensures { result.kind ≡ kind }
 {
@@ -375,5 +384,6 @@ fn seen_as(kind: Kind) -> Seen
         size: 0,
         mtime: 0,
         mode: None,
+        exposed: false,
     }
 }

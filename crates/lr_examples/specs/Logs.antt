@@ -106,10 +106,10 @@ b_naming = record { dir = codes "/w"; base = codes "b.log"; ext = []; start = 1;
 
 -- a file of one byte, and a directory
 abbrev pub file : Seen
-file = record { kind = kind.File; size = 1; mtime = pos 0; mode = None }
+file = record { kind = kind.File; size = 1; mtime = pos 0; mode = None; exposed = false }
 
 abbrev pub directory : Seen
-directory = record { kind = kind.Dir; size = 0; mtime = pos 0; mode = None }
+directory = record { kind = kind.Dir; size = 0; mtime = pos 0; mode = None; exposed = false }
 
 abbrev pub a_members : List Member
 a_members = record { path = a_first; place = at.Number 0; seen = file } ∷ record { path = a_second; place = at.Number 1; seen = file } ∷ []

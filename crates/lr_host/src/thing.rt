@@ -28,4 +28,6 @@ pub struct Seen {
     pub size: u64,
     pub mtime: i64,
     pub mode: Option<u32>,
+    /// Whether a user other than root and the one that runs the program may write it.
+    pub exposed: bool,
 }

@@ -1,5 +1,5 @@
 -- What is so of each entry of a reading.
-use Rattle.std.proofs.Common.{◌≡◌, ◌≤◌, ◌+◌, ℕ, Bool, true, false, List, [], ◌∷◌, length, refl, sym, subst, inl, inr, Option, Some, None}
+use Rattle.std.proofs.Common.{◌≡◌, ◌≤◌, ◌+◌, ◌⊎◌, ℕ, Bool, true, false, List, [], ◌∷◌, length, refl, sym, subst, inl, inr, Option, Some, None}
 use Rattle.lr_rules.specs.declared.path.Path.{Path}
 use Rattle.lr_conf.specs.Meaning.{Meaning}
 use Rattle.lr_host.specs.declared.entry.Entry.{Entry}
@@ -8,14 +8,14 @@ use Rattle.lr_host.specs.declared.thing.Seen.{Seen}
 use Rattle.lr_host.specs.Told.{Then, Each}
 use Rattle.lr_host.specs.Looks.{Sees}
 use Rattle.lr_host.specs.Quiet.{IsQuiet, AreQuiet}
-use Rattle.lr_host.specs.Reading.{IsReadOf}
+use Rattle.lr_host.specs.Reading.{IsReadOf, ReadsOf, ReadsAll}
 use Rattle.lr_host.proofs.Each.{each_append}
 use Rattle.lr_host.proofs.Reading.{reads_only}
 use Rattle.lr_visits.specs.declared.part.TextEnd.{TextEnd}
 use Rattle.lr_visits.specs.declared.part.TextEnd.TheVariants as end
 use Rattle.lr_visits.specs.declared.visit.Visit.{Visit}
 use Rattle.lr_visits.specs.declared.visit.Visit.TheVariants as visit
-use Rattle.lr_visits.specs.Visits.{ReadsPart, IsShortRead, IsShortReadOf, ShowsNames, ShowsBytes, ShowsFile, ShowsDir, ShowsVisit, look_failed, nothing, directory, file, PartVisit}
+use Rattle.lr_visits.specs.Visits.{ReadsPart, IsShortRead, ShowsNames, ShowsBytes, ShowsFile, ShowsDir, ShowsVisit, look_failed, nothing, exposed, directory, file, PartText, PartFile, PartVisit}
 use Rattle.lr_include.specs.declared.task.Task.{Task}
 use Rattle.lr_include.specs.declared.task.Task.TheVariants as task
 use Rattle.lr_include.specs.Stages.{Stage, settled, visited, at_visits, begun, is_shallow, room_for, ShowsNext, ShowsVisits, Reads}
@@ -25,6 +25,13 @@ part_reads : (x : Path) (room : ℕ) (bytes : List ℕ) (how : TextEnd) (ts : Li
 part_reads x room bytes end.Whole ts r = reads_only x (room + 1) bytes ts r.1
 part_reads x room bytes end.TooMany ts r = reads_only x (room + 1) bytes ts r.1
 part_reads x room bytes end.Failed ts r = r.1.only
+
+some_only : (x : Path) (room : ℕ) (bytes : List ℕ) (ts : List Entry) → ((length bytes ≤ room) × ReadsOf x bytes ts) ⊎ ReadsAll x (room + 1) bytes ts → Each (IsReadOf x) ts
+some_only x room bytes ts (inl r) = r.1.only
+some_only x room bytes ts (inr r) = reads_only x (room + 1) bytes ts r
+
+part_only : (x : Path) (room : ℕ) (ts : List Entry) → PartText x room ts → Each (IsReadOf x) ts
+part_only x room ts p = some_only x room p.bytes ts p.reads
 
 -- of looks, listings and short reads
 module _ (P : Entry → Type 0) (look : (x : Path) (seen : Option Seen) → P (entry.Look x seen)) (list : (x : Path) (names : List (List ℕ)) → P (entry.List x names)) (read : (x : Path) (from : ℕ) (piece : List ℕ) → length piece ≤ 65536 → P (entry.Reads x from piece)) where
@@ -42,10 +49,9 @@ module _ (P : Entry → Type 0) (look : (x : Path) (seen : Option Seen) → P (e
   reads_so x (entry.Reads y from piece ∷ ts) each short = (read y from piece short.0, reads_so x ts each.1 short.1)
   reads_so x (_ ∷ ts) each short = absurd each.0
 
-  part_so : (x : Path) (ts : List Entry) → Each (IsShortReadOf x) ts → Each P ts
-  part_so x [] each = tt
-  part_so x (entry.Reads y from piece ∷ ts) each = (read y from piece each.0.1, part_so x ts each.1)
-  part_so x (_ ∷ ts) each = absurd each.0.0
+  part_so : (x : Path) (room : Option ℕ) (ts : List Entry) → PartFile x room ts → Each P ts
+  part_so x None ts p = absurd p
+  part_so x (Some room) ts p = reads_so x ts (part_only x room ts p) p.short
 
   names_so : (x : Path) (v : Visit) (ts : List Entry) → ShowsNames x v ts → Each P ts
   names_so x (visit.Holds names) ts h = subst (Each P) (sym h.1.list) (list x h.1.listed, tt)
@@ -67,6 +73,7 @@ module _ (P : Entry → Type 0) (look : (x : Path) (seen : Option Seen) → P (e
   visit_so : (x : Path) (lists : Bool) (room : Option ℕ) (v : Visit) (ts : List Entry) → ShowsVisit x lists room v ts → Each P ts
   visit_so x lists room v ts (look_failed is e) = none_so ts e
   visit_so x lists room v ts (nothing is s) = sees_so x ts s
+  visit_so x lists room v ts (exposed is s) = sees_so x ts s
   visit_so x lists room v ts (directory r) = then_so ts (λ us s. sees_so x us s) (λ us h. dir_so x lists v us h) r
   visit_so x lists room v ts (file r) = then_so ts (λ us s. sees_so x us s) (λ us h. file_so x room v us h) r
 
@@ -87,14 +94,14 @@ module _ (P : Entry → Type 0) (look : (x : Path) (seen : Option Seen) → P (e
 
   -- ---- where it ends for want of memory
 
-  part_visit_so : (x : Path) (ts : List Entry) → PartVisit x ts → Each P ts
-  part_visit_so x ts (inl none) = none_so ts none
-  part_visit_so x ts (inr (inl s)) = sees_so x ts s
-  part_visit_so x ts (inr (inr t)) = then_so ts (λ us s. sees_so x us s) (λ us h. part_so x us h) t
+  part_visit_so : (x : Path) (room : Option ℕ) (ts : List Entry) → PartVisit x room ts → Each P ts
+  part_visit_so x room ts (inl none) = none_so ts none
+  part_visit_so x room ts (inr (inl s)) = sees_so x ts s
+  part_visit_so x room ts (inr (inr t)) = then_so ts (λ us s. sees_so x us s) (λ us h. part_so x room us h) t
 
   part_next_so : (s : Stage) (todo : List Task) (ts : List Entry) → PartNext s todo ts → Each P ts
-  part_next_so s (task.Ask a ∷ todo) ts h = part_visit_so a.path ts h
-  part_next_so s (task.Name a ∷ todo) ts h = part_visit_so a.path ts h.1
+  part_next_so s (task.Ask a ∷ todo) ts h = part_visit_so a.path (room_for s) ts h
+  part_next_so s (task.Name a ∷ todo) ts h = part_visit_so a.path (room_for s) ts h.1
   part_next_so s (task.Line p ∷ todo) ts h = none_so ts h
   part_next_so s [] ts h = none_so ts h
 

@@ -1,6 +1,7 @@
 -- The faults of lines are those of the configuration, and of failed calls only where a line has one.
 use Rattle.std.proofs.Common.{ℕ, Bool, true, false, cond, List, [], ◌∷◌, ◌++◌, map, Option, Some, None, Ok, Err, refl, is_none}
 use Rattle.std.specs.List.{AllByRecursion as Each, filter_map, list_any, find}
+use Rattle.std.specs.Str.{bytes_eq}
 use Rattle.std.specs.Prelude.{All}
 use Rattle.std.proofs.lemmas.List.Elements.{All-from_recursion}
 use Rattle.lr_rules.specs.declared.path.Path.{Path}
@@ -18,7 +19,7 @@ use Rattle.lr_forms.specs.declared.said.Said.{Said}
 use Rattle.lr_forms.specs.declared.said.Said.TheVariants as says
 use Rattle.lr_fields.specs.Fields.{fields_of, last_or}
 use Rattle.lr_conf.specs.declared.stop.Include.{Include}
-use Rattle.lr_conf.specs.Meaning.{Line, Read, Spoiled, End, Cut, Past, stands, spoiled, Meaning, nothing, file_of, first_pending, words_pending, words_with, settings, opened, opens, past, before, through, behind, ends, Within, states, broken, left_open, within, body_of, drops, set_in, fault_of, fault_in, broken_fault, spoilt_fault, told, at_line, left_names, stray_at, own_fault, line_faults, of_end, of_body, of_opening, meaning}
+use Rattle.lr_conf.specs.Meaning.{Line, Read, Spoiled, End, Cut, Past, stands, spoiled, Meaning, conf, nothing, file_of, first_pending, words_pending, words_with, settings, opened, opens, past, before, through, behind, ends, Within, states, broken, left_open, within, body_of, drops, set_in, fault_of, fault_in, broken_fault, spoilt_fault, told, at_line, left_names, stray_at, own_fault, line_faults, of_end, of_body, of_opening, meaning}
 use Rattle.lr_conf.proofs.Each.{append, front, Given, one_more, mapped}
 use Rattle.lr_visits.specs.declared.part.TextEnd.{TextEnd}
 use Rattle.lr_visits.specs.declared.part.TextEnd.TheVariants as end
@@ -31,7 +32,7 @@ use Rattle.lr_include.specs.declared.task.Task.{Task}
 use Rattle.lr_include.specs.declared.task.Task.TheVariants as task
 use Rattle.lr_include.specs.Lines.{conf_kind}
 use Rattle.lr_include.specs.Allowed.{IsAllowed, IsAllowedVisit, AreAllowedVisits}
-use Rattle.lr_include.specs.Stages.{Stage, lines_in, lines_now, ask_of, asked_at, asks_in, asks_now, taken, before_asks, settled_from, settled, kind_piece, piece_of, last_piece, line_tasks, entering, name_task, name_tasks, behind_names, after_ask, after_name, visited, visited_by, at_visits, begun, line_ask, visits_mean}
+use Rattle.lr_include.specs.Stages.{Stage, lines_in, lines_now, ask_of, asked_at, asks_in, asks_now, taken, before_asks, settled_from, settled, kind_piece, piece_of, last_piece, line_tasks, entering, name_task, name_tasks, telling_exposed, behind_names, after_ask, after_name, visited, visited_by, at_visits, begun, line_ask, visits_mean}
 
 through_each : {A : Type 0} (P : A → Type 0) (p : A → Bool) (xs : List A) → Each P xs → Each P (through p xs)
 through_each P p [] a = tt
@@ -256,10 +257,18 @@ entering_fine : (calls : Bool) (s : Stage) (file : Path) (told : List Told) (siz
 entering_fine calls s file told size how todo ok l t =
     (l, append (FineTask calls) (line_tasks told) (task.Line (last_piece file how) ∷ todo) (tasks_fine calls (filter_map piece_of told) (pieces_fine calls told)) (last_fine calls file told size how ok, t))
 
+exposed_fine : (calls : Bool) (s : Stage) (file : Path) (todo : List Task) → Each (IsFine calls) s.lines → Each (FineTask calls) todo → FineStage calls (telling_exposed s file todo)
+exposed_fine calls s file todo l t = by (list_any (bytes_eq file) s.exposed)
+  where
+    by : (b : Bool) → FineStage calls (cond b (record s { todo = todo }) (record s { lines = s.lines ++ Spoiled (conf file kind.Writable 0) ∷ []; exposed = s.exposed ++ file ∷ []; todo = todo }))
+    by true = (l, t)
+    by false = (append (IsFine calls) s.lines _ l (tt, tt), t)
+
 ask_fine : (calls : Bool) (s : Stage) (a : Ask) (v : Visit) (todo : List Task) → IsAllowedVisit calls v → Each (IsFine calls) s.lines → Each (FineTask calls) todo → FineStage calls (after_ask s a v todo)
 ask_fine calls s a visit.Unseen todo ok l t = (append (IsFine calls) s.lines _ l (ok tt, tt), t)
 ask_fine calls s a visit.Nothing todo ok l t = (append (IsFine calls) s.lines _ l (tt, tt), t)
 ask_fine calls s a visit.File todo ok l t = (append (IsFine calls) s.lines _ l (tt, tt), t)
+ask_fine calls s a visit.Exposed todo ok l t = exposed_fine calls s a.path todo l t
 ask_fine calls s a visit.Dir todo ok l t = (append (IsFine calls) s.lines _ l (tt, tt), t)
 ask_fine calls s a visit.Unlisted todo ok l t = (append (IsFine calls) s.lines _ l (ok tt, tt), t)
 ask_fine calls s a (visit.Holds names) todo ok l t = (l, append (FineTask calls) (name_tasks a names) todo (names_fine calls a names) t)
@@ -269,6 +278,7 @@ name_fine : (calls : Bool) (s : Stage) (a : Ask) (v : Visit) (todo : List Task) 
 name_fine calls s a visit.Unseen todo ok l t = (append (IsFine calls) s.lines _ l (ok tt, tt), t)
 name_fine calls s a visit.Nothing todo ok l t = (l, t)
 name_fine calls s a visit.File todo ok l t = (append (IsFine calls) s.lines _ l (tt, tt), behind_fine calls todo t)
+name_fine calls s a visit.Exposed todo ok l t = exposed_fine calls s a.path todo l t
 name_fine calls s a visit.Dir todo ok l t = (l, t)
 name_fine calls s a visit.Unlisted todo ok l t = (l, t)
 name_fine calls s a (visit.Holds names) todo ok l t = (l, t)

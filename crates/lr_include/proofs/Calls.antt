@@ -2,6 +2,7 @@
 use Rattle.std.proofs.Common.{◌≡◌, ◌≤◌, ◌+◌, ◌-◌, ◌^◌, min, ℕ, zero, suc, get_or, Bool, true, false, cond, ◌||◌, List, [], ◌∷◌, ◌++◌, map, take, length, refl, sym, ap, ◌∙◌, Option, Some, None, Ok, Err, is_none, arith}
 use Rattle.std.specs.Prelude.{Contains, find}
 use Rattle.std.specs.List.{filter_map, cons_option, list_any}
+use Rattle.std.specs.Str.{bytes_eq}
 use Rattle.std.proofs.lemmas.List.{length-take, length-append}
 use Rattle.lr_rules.specs.declared.path.Path.{Path}
 use Rattle.lr_rules.specs.declared.fault.CallKind.{CallKind}
@@ -17,13 +18,13 @@ use Rattle.lr_forms.specs.declared.set.Set.{Set}
 use Rattle.lr_fields.specs.declared.fields.Fields.{Fields}
 use Rattle.lr_fields.specs.Fields.{fields_of, last_or}
 use Rattle.lr_conf.specs.declared.stop.Include.{Include}
-use Rattle.lr_conf.specs.Meaning.{Line, Read, Spoiled, End, Cut, Past, stands, spoiled, Meaning, nothing, file_of, first_pending, words_pending, words_with, settings, opened, opens, past, before, through, behind, ends, Within, states, broken, left_open, within, body_of, drops, set_in, fault_of, fault_in, broken_fault, spoilt_fault, told, at_line, left_names, stray_at, own_fault, line_faults, of_end, of_body, of_opening, meaning}
+use Rattle.lr_conf.specs.Meaning.{Line, Read, Spoiled, End, Cut, Past, stands, spoiled, Meaning, conf, nothing, file_of, first_pending, words_pending, words_with, settings, opened, opens, past, before, through, behind, ends, Within, states, broken, left_open, within, body_of, drops, set_in, fault_of, fault_in, broken_fault, spoilt_fault, told, at_line, left_names, stray_at, own_fault, line_faults, of_end, of_body, of_opening, meaning}
 use Rattle.lr_host.specs.declared.entry.Entry.{Entry}
 use Rattle.lr_visits.specs.declared.part.TextEnd.{TextEnd}
 use Rattle.lr_visits.specs.declared.part.TextEnd.TheVariants as end
 use Rattle.lr_visits.specs.declared.visit.Visit.{Visit}
 use Rattle.lr_visits.specs.declared.visit.Visit.TheVariants as visit
-use Rattle.lr_visits.specs.Visits.{ShowsVisit, look_failed as unseen, nothing as saw_nothing, directory as saw_dir, file as saw_file}
+use Rattle.lr_visits.specs.Visits.{ShowsVisit, look_failed as unseen, nothing as saw_nothing, exposed as saw_exposed, directory as saw_dir, file as saw_file}
 use Rattle.lr_include.specs.declared.task.Ask.{Ask}
 use Rattle.lr_include.specs.declared.task.Piece.{Piece}
 use Rattle.lr_include.specs.declared.task.Piece.TheVariants as piece
@@ -32,7 +33,7 @@ use Rattle.lr_include.specs.declared.task.Task.TheVariants as task
 use Rattle.lr_include.specs.Lines.{conf_kind}
 use Rattle.lr_host.specs.Counted.{call_in, calls_in, RoseBy}
 use Rattle.lr_include.specs.Allowed.{failed_read, failed_visit, failed_in}
-use Rattle.lr_include.specs.Stages.{Stage, lines_now, open_behind, ask_of, asked_at, asks_now, taken, before_asks, settled_from, settled, room_for, kind_piece, piece_of, last_piece, line_tasks, entering, name_tasks, behind_names, visited, visited_by, at_visits, ShowsNext, ShowsVisits, begun, line_ask, visits_mean, Reads}
+use Rattle.lr_include.specs.Stages.{Stage, lines_now, open_behind, ask_of, asked_at, asks_now, taken, before_asks, settled_from, settled, room_for, kind_piece, piece_of, last_piece, line_tasks, entering, name_tasks, telling_exposed, behind_names, visited, visited_by, at_visits, ShowsNext, ShowsVisits, begun, line_ask, visits_mean, Reads}
 
 -- ---- sums over lists
 
@@ -363,6 +364,14 @@ entering_sums n s file told size how todo e f =
 told_sums : (n : ℕ) (s : Stage) (f : Fault) (todo : List Task) → total calls_line s.lines + total calls_task todo ≡ n → total ends_task todo ≡ length s.inside → Sums (n + call_in f) (record s { lines = s.lines ++ Spoiled f ∷ []; todo = todo })
 told_sums n s f todo e g = let a = total_both calls_line s.lines (Spoiled f ∷ []) in record { calls = omega (arith, a, e); ends_are = g }
 
+-- that others may write a file is no failed call
+exposed_sums : (n : ℕ) (s : Stage) (file : Path) (todo : List Task) → total calls_line s.lines + total calls_task todo ≡ n → total ends_task todo ≡ length s.inside → Sums (n + 0) (telling_exposed s file todo)
+exposed_sums n s file todo e f = by (list_any (bytes_eq file) s.exposed)
+  where
+    by : (b : Bool) → Sums (n + 0) (cond b (record s { todo = todo }) (record s { lines = s.lines ++ Spoiled (conf file kind.Writable 0) ∷ []; exposed = s.exposed ++ file ∷ []; todo = todo }))
+    by true = record { calls = omega (arith, e); ends_are = f }
+    by false = let h = told_sums n s (conf file kind.Writable 0) todo e f in record { calls = h.calls; ends_are = h.ends_are }
+
 -- a visit that the entries show tells its failed call
 abbrev failed_one : Option Visit → ℕ
 failed_one None = 0
@@ -384,6 +393,7 @@ ask_tells : (n : ℕ) (s : Stage) (a : Ask) (v : Visit) (todo : List Task) → t
 ask_tells n s a visit.Unseen todo e f = tells_all n (n + 1) s (task.Ask a ∷ todo) (Some visit.Unseen) (told_sums n s _ todo e f) refl
 ask_tells n s a visit.Nothing todo e f = tells_all n (n + 0) s (task.Ask a ∷ todo) (Some visit.Nothing) (told_sums n s _ todo e f) refl
 ask_tells n s a visit.File todo e f = tells_all n (n + 0) s (task.Ask a ∷ todo) (Some visit.File) (told_sums n s _ todo e f) refl
+ask_tells n s a visit.Exposed todo e f = tells_all n (n + 0) s (task.Ask a ∷ todo) (Some visit.Exposed) (exposed_sums n s a.path todo e f) refl
 ask_tells n s a visit.Dir todo e f = tells_all n (n + 0) s (task.Ask a ∷ todo) (Some visit.Dir) (told_sums n s _ todo e f) refl
 ask_tells n s a visit.Unlisted todo e f = tells_all n (n + 1) s (task.Ask a ∷ todo) (Some visit.Unlisted) (told_sums n s _ todo e f) refl
 ask_tells n s a (visit.Holds names) todo e f =
@@ -398,6 +408,7 @@ ask_tells n s a (visit.Reads told size how) todo e f = tells_all n (n + failed_r
 not_unlisted : (x : Path) (room : Option ℕ) (ts : List Entry) → ShowsVisit x false room visit.Unlisted ts → ⊥
 not_unlisted x room ts (unseen is e) = cc
 not_unlisted x room ts (saw_nothing is s) = cc
+not_unlisted x room ts (saw_exposed is s) = cc
 not_unlisted x room ts (saw_dir r) = let odd : visit.Unlisted ≡ visit.Dir = r.second.0 in cc
 not_unlisted x None ts (saw_file r) = let odd : visit.Unlisted ≡ visit.File = r.second.0 in cc
 not_unlisted x (Some room) ts (saw_file r) = r.second
@@ -409,6 +420,7 @@ name_tells n s a visit.File todo e f =
     let b = behind_none calls_task (λ x. refl) todo in
     let c = behind_none ends_task (λ x. refl) todo in
     tells_all n (n + 0) s (task.Name a ∷ todo) (Some visit.File) (told_sums n s _ (behind_names todo) (omega (arith, b, e)) (omega (arith, c, f))) refl
+name_tells n s a visit.Exposed todo e f = tells_all n (n + 0) s (task.Name a ∷ todo) (Some visit.Exposed) (exposed_sums n s a.path todo e f) refl
 name_tells n s a visit.Dir todo e f = tells_all n n s (task.Name a ∷ todo) (Some visit.Dir) (record { calls = e; ends_are = f }) (omega arith)
 name_tells n s a visit.Unlisted todo e f = tells_never n s (task.Name a ∷ todo) (Some visit.Unlisted) (record { calls = e; ends_are = f }) (λ ts h. not_unlisted a.path (room_for s) ts h.1)
 name_tells n s a (visit.Holds names) todo e f = tells_all n n s (task.Name a ∷ todo) (Some (visit.Holds names)) (record { calls = e; ends_are = f }) (omega arith)

@@ -1,6 +1,7 @@
 -- Readings that end for want of memory.
 use Rattle.std.proofs.Common.{◌≡◌, ◌++◌, ℕ, List, [], ◌∷◌, false, refl, sym, ap, ◌∙◌, subst, inl, append-nil, append_assoc, reverse, Option, Some, Result, Ok, Err}
 use Rattle.std.specs.Prelude.{OnErr}
+use Rattle.lr_rules.specs.declared.path.Path.{Path}
 use Rattle.lr_host.specs.declared.entry.Entry.{Entry}
 use Rattle.lr_host.specs.declared.journal.Journal.{Journal}
 use Rattle.lr_host.specs.Told.{Left}
@@ -59,11 +60,14 @@ lacks_behind s a o n i j g = lacks_on s a i j g (λ t st. lacks_here t n)
 -- ---- visits
 
 -- the visit ended
-pub ask_lacks : (s : Stage) (a : Ask) {o n : Option Journal} → Left (PartVisit a.path) o n → Left (LacksFrom (record s { todo = task.Ask a ∷ s.todo })) o n
+pub ask_lacks : (s : Stage) (a : Ask) {o n : Option Journal} → Left (PartVisit a.path (room_for s)) o n → Left (LacksFrom (record s { todo = task.Ask a ∷ s.todo })) o n
 ask_lacks s a l = left_as l (λ ts h. record { visits = []; shown = record { front = []; back = ts; joined = refl; first = refl; second = h } })
 
-pub name_lacks : (s : Stage) (a : Ask) {o n : Option Journal} → (IsBarred s.lines a.path → ⊥) → Left (PartVisit a.path) o n → Left (LacksFrom (record s { todo = task.Name a ∷ s.todo })) o n
+pub name_lacks : (s : Stage) (a : Ask) {o n : Option Journal} → (IsBarred s.lines a.path → ⊥) → Left (PartVisit a.path (room_for s)) o n → Left (LacksFrom (record s { todo = task.Name a ∷ s.todo })) o n
 name_lacks s a free l = left_as l (λ ts h. record { visits = []; shown = record { front = []; back = ts; joined = refl; first = refl; second = (λ bars. absurd (free bars), h) } })
+
+pub part_at : (x : Path) (room room' : Option ℕ) {o n : Option Journal} → room ≡ room' → Left (PartVisit x room) o n → Left (PartVisit x room') o n
+part_at x room room' {o = o} {n = n} e l = subst (λ (k : Option ℕ). Left (PartVisit x k) o n) e l
 
 -- it was made
 pub ask_made_lacks : (s : Stage) (a : Ask) (v : Visit) {o n : Option Journal} → Left (ShowsVisit a.path (is_shallow s) (room_for s) v) o n → Left (LacksFrom (record s { todo = task.Ask a ∷ s.todo })) o n
@@ -80,8 +84,8 @@ name_made_lacks s a v free l = left_as l (λ ts h. record {
 
 -- ---- turns
 
-pub lacks_stepped : (old popped : Course) (t : Task) (s : Stage) (o n : Option Journal) → popped.layer ≡ old.layer → popped.faults.items ≡ old.faults.items → popped.files ≡ old.files → popped.bytes ≡ old.bytes → old.todo.items ≡ popped.todo.items ++ t ∷ []
+pub lacks_stepped : (old popped : Course) (t : Task) (s : Stage) (o n : Option Journal) → popped.layer ≡ old.layer → popped.faults.items ≡ old.faults.items → popped.files ≡ old.files → popped.bytes ≡ old.bytes → popped.exposed.items ≡ old.exposed.items → old.todo.items ≡ popped.todo.items ++ t ∷ []
     → ((m : Stage) → StandsAt popped m → Left (LacksFrom (record m { todo = t ∷ m.todo })) o n) → StandsAt old s → Left (LacksFrom s) o n
-lacks_stepped old popped t s o n layer faults files bytes todo f st =
+lacks_stepped old popped t s o n layer faults files bytes exposed todo f st =
     subst (λ (ts : List Task). Left (LacksFrom (record s { todo = ts })) o n) (next_was old popped t s todo st)
-    (f (record s { todo = reverse popped.todo.items }) (popped_stands old popped s layer faults files bytes st))
+    (f (record s { todo = reverse popped.todo.items }) (popped_stands old popped s layer faults files bytes exposed st))

@@ -1,11 +1,14 @@
 -- How a reading goes on from one stage to another.
 use Rattle.std.specs.Prelude.{◌≡◌, ◌+◌, ◌≤◌, ◌^◌, min}
-use Rattle.std.proofs.Common.{◌-◌, ◌<◌, ◌⊎◌, inl, inr, arith, ℕ, Bool, true, false, List, [], ◌∷◌, ◌++◌, map, filter_map, reverse, length, take, drop, refl, sym, ap, ◌∙◌, subst, append-nil, append_assoc, Option, Some, None, Result, Ok, Err, OnOk}
+use Rattle.std.proofs.Common.{◌-◌, ◌<◌, ◌⊎◌, inl, inr, arith, ℕ, Bool, true, false, cond, List, [], ◌∷◌, ◌++◌, map, filter_map, reverse, length, take, drop, refl, sym, ap, ◌∙◌, subst, append-nil, append_assoc, Option, Some, None, Result, Ok, Err, OnOk}
+use Rattle.std.specs.List.{list_any}
+use Rattle.std.specs.Str.{bytes_eq}
 use Rattle.std.proofs.Math.Seq.{drop-append_seam}
 use Rattle.std.proofs.lemmas.List.{reverse-append, map-append}
 use Rattle.std.proofs.lemmas.List.Elements.{filter_map-append}
 use Rattle.lr_rules.specs.declared.path.Path.{Path}
 use Rattle.lr_rules.specs.declared.fault.ConfKind.{ConfKind}
+use Rattle.lr_rules.specs.declared.fault.ConfKind.TheVariants as kind
 use Rattle.lr_rules.specs.declared.fault.Fault.{Fault}
 use Rattle.lr_rules.specs.declared.fault.Notice.{Notice}
 use Rattle.lr_rules.specs.declared.rule.Rule.{Rule}
@@ -37,7 +40,7 @@ use Rattle.lr_include.specs.declared.task.Piece.{Piece}
 use Rattle.lr_include.specs.declared.task.Piece.TheVariants as piece
 use Rattle.lr_include.specs.declared.task.Task.{Task}
 use Rattle.lr_include.specs.declared.task.Task.TheVariants as task
-use Rattle.lr_include.specs.Stages.{Stage, piece_of, line_tasks, ask_of, asked_at, lines_in, lines_now, open_behind, asks_in, asks_now, taken, before_asks, settled_from, settled, is_shallow, room_for, telling, name_task, name_tasks, behind_names, after_ask, after_name, IsBarred, visited, at_visits, ShowsNext, ShowsVisits, begun, visits_mean, Reads}
+use Rattle.lr_include.specs.Stages.{Stage, piece_of, line_tasks, ask_of, asked_at, lines_in, lines_now, open_behind, asks_in, asks_now, taken, before_asks, settled_from, settled, is_shallow, room_for, telling, telling_exposed, name_task, name_tasks, behind_names, after_ask, after_name, IsBarred, visited, at_visits, ShowsNext, ShowsVisits, begun, visits_mean, Reads}
 use Rattle.lr_include.specs.Course.{Knows, StandsAt, SameRest, SameButTodo, Tells, TellsAnswer, TookPiece, TakesPiece, ToldFault, ClosesFile, WentOn, GoesOn}
 
 -- ---- one more line
@@ -124,7 +127,7 @@ asks_of_open (f ∷ fs) lines p some = refl
 
 -- Nothing but the layer, and what is told, is another.
 abbrev Beside : Course → Course → Type 0
-Beside old new = (new.faults.items ≡ old.faults.items) × (new.files ≡ old.files) × (new.bytes ≡ old.bytes) × (new.todo.items ≡ old.todo.items)
+Beside old new = (new.faults.items ≡ old.faults.items) × (new.files ≡ old.files) × (new.bytes ≡ old.bytes) × (new.todo.items ≡ old.todo.items) × (new.exposed.items ≡ old.exposed.items)
 
 some_file : (L : Layer) → 0 < length (entered L) → (entered L ≡ []) → ⊥
 some_file L pos e = let none : length (entered L) ≡ 0 = ap length e in absurd (omega (arith, none, pos))
@@ -149,6 +152,7 @@ took_item old mid new item r same files pos took asks bans tells = by_entered ol
           (subst (λ (x : Layer). Knows x new.faults.items (lines ++ Read file item ∷ []) (entered old.layer)) (sym t.layer) one.0);
       files = t.files ∙ same.1;
       bytes = t.bytes ∙ same.2;
+      exposed = t.exposed ∙ same.4;
       todo = on_top file a.1 a.4 mid.todo.items new.todo.items a.5 t.todo
           ∙ (ap (λ (ts : List Task). map (ask_of file) a.1 ++ reverse ts) same.3
           ∙ ap (λ (ts : List Task). ts ++ reverse old.todo.items) (sym (asks_of_open (entered old.layer) lines (piece.Item item) (some_file old.layer pos) ∙ ap (map (ask_of file)) one.1)));
@@ -160,7 +164,7 @@ told_fault old mid new f same means passes files layer told_it rest = record {
   knows = λ lines inside k. subst (λ (x : Layer). Knows x new.faults.items (lines ++ Spoiled f ∷ []) inside) (sym layer)
       (passed_line old.layer mid.layer old.faults.items new.faults.items (f ∷ []) lines inside (Spoiled f) (means f) (passes f).asks (passes f).bans files (told_it ∙ ap (λ (fs : List Fault). fs ++ f ∷ []) same.0) k);
   entered_are = ap entered layer ∙ files;
-  rest = record { files = rest.files ∙ same.1; bytes = rest.bytes ∙ same.2; todo = rest.todo ∙ same.3 };
+  rest = record { files = rest.files ∙ same.1; bytes = rest.bytes ∙ same.2; exposed = rest.exposed ∙ same.4; todo = rest.todo ∙ same.3 };
 }
 
 took_fault : (old new : Course) (line : ℕ) (kind : ConfKind) → ToldFault old new (conf (file_of_layer old.layer) kind line) → 0 < length (entered old.layer) → TakesPiece old new (piece.Fault line kind)
@@ -168,6 +172,7 @@ took_fault old new line kind t pos = by_entered old new (piece.Fault line kind) 
   knows = subst (λ (ls : List Line). Knows new.layer new.faults.items (lines ++ ls) (entered old.layer)) (sym (lines_of_open (entered old.layer) (piece.Fault line kind) (some_file old.layer pos))) (t.knows lines (entered old.layer) k);
   files = t.rest.files;
   bytes = t.rest.bytes;
+  exposed = t.rest.exposed;
   todo = ap reverse t.rest.todo ∙ ap (λ (ts : List Task). ts ++ reverse old.todo.items) (sym (asks_of_open (entered old.layer) lines (piece.Fault line kind) (some_file old.layer pos)));
 })
 
@@ -180,7 +185,7 @@ pub closed_quiet : (old new : Course) → Beside old new → ((more : List Line)
 closed_quiet old new same means passes files = record {
   knows = λ lines inside k. passed_line old.layer new.layer old.faults.items new.faults.items [] lines inside (End (file_of_layer old.layer)) means passes.asks passes.bans files (same.0 ∙ sym (append-nil old.faults.items)) k;
   entered_are = files;
-  rest = record { files = same.1; bytes = same.2; todo = same.3 };
+  rest = record { files = same.1; bytes = same.2; exposed = same.4; todo = same.3 };
 }
 
 pub closed_told : (old mid new : Course) (f : Fault) → Beside old mid → ((more : List Line) → coming old.layer (End (file_of_layer old.layer) ∷ more) ≡ (told (f ∷ []) and coming mid.layer more)) → Passes old.layer mid.layer (End (file_of_layer old.layer))
@@ -189,7 +194,7 @@ closed_told old mid new f same means passes files layer told_it rest = record {
   knows = λ lines inside k. subst (λ (x : Layer). Knows x new.faults.items (lines ++ End (file_of_layer old.layer) ∷ []) inside) (sym layer)
       (passed_line old.layer mid.layer old.faults.items new.faults.items (f ∷ []) lines inside (End (file_of_layer old.layer)) means passes.asks passes.bans files (told_it ∙ ap (λ (fs : List Fault). fs ++ f ∷ []) same.0) k);
   entered_are = ap entered layer ∙ files;
-  rest = record { files = rest.files ∙ same.1; bytes = rest.bytes ∙ same.2; todo = rest.todo ∙ same.3 };
+  rest = record { files = rest.files ∙ same.1; bytes = rest.bytes ∙ same.2; exposed = rest.exposed ∙ same.4; todo = rest.todo ∙ same.3 };
 }
 
 -- the file is left
@@ -205,6 +210,7 @@ took_end old mid new t same c a e pos = by_entered old new piece.End (λ lines k
       (left_layer mid.layer new.layer mid.faults.items (lines ++ End (file_of_layer old.layer) ∷ []) (entered old.layer) c a e (t.knows lines (entered old.layer) k)));
   files = same.1 ∙ t.rest.files;
   bytes = same.2 ∙ t.rest.bytes;
+  exposed = same.4 ∙ t.rest.exposed;
   todo = ap reverse (same.3 ∙ t.rest.todo) ∙ ap (λ (ts : List Task). ts ++ reverse old.todo.items) (sym (asks_of_open (entered old.layer) lines piece.End (some_file old.layer pos)));
 })
 
@@ -220,6 +226,7 @@ took_break old mid new cut f t means passes files same c a e pos = by_entered ol
           (left_layer cut new.layer mid.faults.items ((lines ++ Spoiled f ∷ []) ++ Cut ∷ []) (entered old.layer) c a e behind)));
       files = same.1 ∙ t.rest.files;
       bytes = same.2 ∙ t.rest.bytes;
+      exposed = same.4 ∙ t.rest.exposed;
       todo = ap reverse (same.3 ∙ t.rest.todo) ∙ ap (λ (ts : List Task). ts ++ reverse old.todo.items) (sym (asks_of_open (entered old.layer) lines (piece.Break f) (some_file old.layer pos)));
     })
 
@@ -238,6 +245,7 @@ took_none c p e lines inside k = by inside p (sym (ap length k.files) ∙ e) k
       knows = subst (λ (files : List Path). Knows c.layer c.faults.items (lines ++ []) files) (sym (none p)) (subst (λ (ls : List Line). Knows c.layer c.faults.items ls []) (sym (append-nil lines)) k);
       files = refl;
       bytes = refl;
+      exposed = refl;
       todo = refl;
     }
     by (f ∷ fs) p e k = absurd (omega (arith, e))
@@ -316,7 +324,7 @@ line_turned old new p s o b t st =
     let k = t s.lines s.inside st.knows in
     record {
       stage = record (taken s p) { todo = asks_now s.inside s.lines p ++ s.todo };
-      stands = record { knows = k.knows; files = k.files ∙ st.files; bytes = k.bytes ∙ st.bytes; todo = k.todo ∙ ap (λ (ts : List Task). asks_now s.inside s.lines p ++ ts) st.todo };
+      stands = record { knows = k.knows; files = k.files ∙ st.files; bytes = k.bytes ∙ st.bytes; exposed = k.exposed ∙ st.exposed; todo = k.todo ∙ ap (λ (ts : List Task). asks_now s.inside s.lines p ++ ts) st.todo };
       went = went_same _ _ o b (behind_piece s p);
     }
 
@@ -326,6 +334,7 @@ after_ask_any : (s : Stage) (x : List Task) (a : Ask) (v : Visit) (todo : List T
 after_ask_any s x a visit.Unseen todo = refl
 after_ask_any s x a visit.Nothing todo = refl
 after_ask_any s x a visit.File todo = refl
+after_ask_any s x a visit.Exposed todo = refl
 after_ask_any s x a visit.Dir todo = refl
 after_ask_any s x a visit.Unlisted todo = refl
 after_ask_any s x a (visit.Holds names) todo = refl
@@ -335,6 +344,7 @@ after_name_any : (s : Stage) (x : List Task) (a : Ask) (v : Visit) (todo : List 
 after_name_any s x a visit.Unseen todo = refl
 after_name_any s x a visit.Nothing todo = refl
 after_name_any s x a visit.File todo = refl
+after_name_any s x a visit.Exposed todo = refl
 after_name_any s x a visit.Dir todo = refl
 after_name_any s x a visit.Unlisted todo = refl
 after_name_any s x a (visit.Holds names) todo = refl
@@ -344,6 +354,7 @@ one_failed : (v : Visit) (b a : ℕ) → b ≤ a → (HasFailed v → min (b + 1
 one_failed visit.Unseen b a le h = let f = h tt in omega (arith, f)
 one_failed visit.Nothing b a le h = omega (arith, le)
 one_failed visit.File b a le h = omega (arith, le)
+one_failed visit.Exposed b a le h = omega (arith, le)
 one_failed visit.Dir b a le h = omega (arith, le)
 one_failed visit.Unlisted b a le h = let f = h tt in omega (arith, f)
 one_failed (visit.Holds names) b a le h = omega (arith, le)
@@ -398,8 +409,26 @@ told_stands old new f s t st = record {
   knows = t.knows s.lines s.inside st.knows;
   files = t.rest.files ∙ st.files;
   bytes = t.rest.bytes ∙ st.bytes;
+  exposed = t.rest.exposed ∙ st.exposed;
   todo = ap reverse t.rest.todo ∙ st.todo;
 }
+
+-- it was told before that others may write the file
+pub exposed_again : (c : Course) (file : Path) (s : Stage) → list_any (bytes_eq file) c.exposed.items ≡ true → StandsAt c s → StandsAt c (telling_exposed s file s.todo)
+exposed_again c file s again st = subst (λ (b : Bool). StandsAt c (cond b s (record (telling s (conf file kind.Writable 0) s.todo) { exposed = s.exposed ++ file ∷ [] }))) (sym again ∙ ap (list_any (bytes_eq file)) st.exposed) st
+
+-- it is told now
+pub exposed_first : (old mid new : Course) (file : Path) (s : Stage) → ToldFault mid new (conf file kind.Writable 0) → list_any (bytes_eq file) old.exposed.items ≡ false → mid.layer ≡ old.layer → mid.faults.items ≡ old.faults.items → mid.files ≡ old.files → mid.bytes ≡ old.bytes → mid.todo.items ≡ old.todo.items
+    → mid.exposed.items ≡ old.exposed.items ++ file ∷ [] → StandsAt old s → StandsAt new (telling_exposed s file s.todo)
+exposed_first old mid new file s t first layer faults files bytes todo exposed st =
+    subst (λ (b : Bool). StandsAt new (cond b s (record (telling s (conf file kind.Writable 0) s.todo) { exposed = s.exposed ++ file ∷ [] }))) (sym first ∙ ap (list_any (bytes_eq file)) st.exposed)
+    (told_stands mid new (conf file kind.Writable 0) (record s { exposed = s.exposed ++ file ∷ [] }) t (record {
+      knows = subst (λ (x : Layer). Knows x mid.faults.items s.lines s.inside) (sym layer) (subst (λ (fs : List Fault). Knows old.layer fs s.lines s.inside) (sym faults) st.knows);
+      files = files ∙ st.files;
+      bytes = bytes ∙ st.bytes;
+      exposed = exposed ∙ ap (λ (xs : List Path). xs ++ file ∷ []) st.exposed;
+      todo = ap reverse todo ∙ st.todo;
+    }))
 
 -- the rest of the directory was passed over
 pub passed_stands : (old new : Course) (s : Stage) → SameButTodo old new → reverse new.todo.items ≡ behind_names (reverse old.todo.items) → StandsAt old s → StandsAt new (record s { todo = behind_names s.todo })
@@ -407,6 +436,7 @@ passed_stands old new s same todo st = record {
   knows = subst (λ (x : Layer). Knows x new.faults.items s.lines s.inside) (sym same.layer) (subst (λ (fs : List Fault). Knows old.layer fs s.lines s.inside) (sym same.faults) st.knows);
   files = same.files ∙ st.files;
   bytes = same.bytes ∙ st.bytes;
+  exposed = same.exposed ∙ st.exposed;
   todo = todo ∙ ap behind_names st.todo;
 }
 
@@ -443,16 +473,17 @@ finished layer faults kept rules notices r n f =
     ∙ ap (λ (fs : List Fault). made (coming layer []).rules (coming layer []).notices fs) (f ∙ sym (append-nil faults)))
 
 pub same_then : (a b c : Course) → SameButTodo a b → SameButTodo b c → SameButTodo a c
-same_then a b c x y = record { layer = y.layer ∙ x.layer; faults = y.faults ∙ x.faults; files = y.files ∙ x.files; bytes = y.bytes ∙ x.bytes }
+same_then a b c x y = record { layer = y.layer ∙ x.layer; faults = y.faults ∙ x.faults; files = y.files ∙ x.files; bytes = y.bytes ∙ x.bytes; exposed = y.exposed ∙ x.exposed }
 
 -- ---- turns
 
 -- what was next was taken off
-pub popped_stands : (old popped : Course) (s : Stage) → popped.layer ≡ old.layer → popped.faults.items ≡ old.faults.items → popped.files ≡ old.files → popped.bytes ≡ old.bytes → StandsAt old s → StandsAt popped (record s { todo = reverse popped.todo.items })
-popped_stands old popped s layer faults files bytes st = record {
+pub popped_stands : (old popped : Course) (s : Stage) → popped.layer ≡ old.layer → popped.faults.items ≡ old.faults.items → popped.files ≡ old.files → popped.bytes ≡ old.bytes → popped.exposed.items ≡ old.exposed.items → StandsAt old s → StandsAt popped (record s { todo = reverse popped.todo.items })
+popped_stands old popped s layer faults files bytes exposed st = record {
   knows = subst (λ (x : Layer). Knows x popped.faults.items s.lines s.inside) (sym layer) (subst (λ (fs : List Fault). Knows old.layer fs s.lines s.inside) (sym faults) st.knows);
   files = files ∙ st.files;
   bytes = bytes ∙ st.bytes;
+  exposed = exposed ∙ st.exposed;
   todo = refl;
 }
 
@@ -460,20 +491,21 @@ pub next_was : (old popped : Course) (t : Task) (s : Stage) → old.todo.items �
 next_was old popped t s todo st = sym (reverse-append popped.todo.items (t ∷ [])) ∙ (sym (ap reverse todo) ∙ st.todo)
 
 -- and read on by
-pub stepped : (old popped new : Course) (t : Task) (s : Stage) (o n : Option Journal) (i j : ℕ) → popped.layer ≡ old.layer → popped.faults.items ≡ old.faults.items → popped.files ≡ old.files → popped.bytes ≡ old.bytes → old.todo.items ≡ popped.todo.items ++ t ∷ []
+pub stepped : (old popped new : Course) (t : Task) (s : Stage) (o n : Option Journal) (i j : ℕ) → popped.layer ≡ old.layer → popped.faults.items ≡ old.faults.items → popped.files ≡ old.files → popped.bytes ≡ old.bytes → popped.exposed.items ≡ old.exposed.items → old.todo.items ≡ popped.todo.items ++ t ∷ []
     → ((m : Stage) → StandsAt popped m → GoesOn (record m { todo = t ∷ m.todo }) new o n i j) → StandsAt old s → GoesOn s new o n i j
-stepped old popped new t s o n i j layer faults files bytes todo f st =
-    let g = f (record s { todo = reverse popped.todo.items }) (popped_stands old popped s layer faults files bytes st) in
+stepped old popped new t s o n i j layer faults files bytes exposed todo f st =
+    let g = f (record s { todo = reverse popped.todo.items }) (popped_stands old popped s layer faults files bytes exposed st) in
     subst (λ (ts : List Task). GoesOn (record s { todo = ts }) new o n i j) (next_was old popped t s todo st) g
 
 pub stayed : (c : Course) (s : Stage) (o : Option Journal) (i : ℕ) → StandsAt c s → GoesOn s c o o i i
 stayed c s o i st = record { stage = s; stands = st; went = went_same s s o i refl }
 
-pub popped_none : (old new : Course) (s : Stage) (o : Option Journal) (i : ℕ) → new.layer ≡ old.layer → new.faults.items ≡ old.faults.items → new.files ≡ old.files → new.bytes ≡ old.bytes → old.todo.items ≡ new.todo.items ++ [] → StandsAt old s → GoesOn s new o o i i
-popped_none old new s o i layer faults files bytes todo st = stayed new s o i (record {
+pub popped_none : (old new : Course) (s : Stage) (o : Option Journal) (i : ℕ) → new.layer ≡ old.layer → new.faults.items ≡ old.faults.items → new.files ≡ old.files → new.bytes ≡ old.bytes → new.exposed.items ≡ old.exposed.items → old.todo.items ≡ new.todo.items ++ [] → StandsAt old s → GoesOn s new o o i i
+popped_none old new s o i layer faults files bytes exposed todo st = stayed new s o i (record {
   knows = subst (λ (x : Layer). Knows x new.faults.items s.lines s.inside) (sym layer) (subst (λ (fs : List Fault). Knows old.layer fs s.lines s.inside) (sym faults) st.knows);
   files = files ∙ st.files;
   bytes = bytes ∙ st.bytes;
+  exposed = exposed ∙ st.exposed;
   todo = ap reverse (sym (todo ∙ append-nil new.todo.items)) ∙ st.todo;
 })
 

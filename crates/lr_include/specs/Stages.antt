@@ -1,6 +1,7 @@
 -- What is read of the paths of a command line: the lines in order of reading, as what the visits gave has them.
 use Rattle.std.specs.Prelude.{◌≡◌, ◌-◌, ℕ, min, Bool, true, false, ◌&&◌, List, [], ◌∷◌, ◌++◌, map, Option, Some, None, Ok, Err, length, take, drop, is_none, nat_lt, if◌then◌else◌}
-use Rattle.std.specs.List.{filter_map}
+use Rattle.std.specs.List.{filter_map, list_any}
+use Rattle.std.specs.Str.{bytes_eq}
 use Rattle.lr_rules.specs.declared.path.Path.{Path}
 use Rattle.lr_rules.specs.declared.fault.CallKind.TheVariants as call
 use Rattle.lr_rules.specs.declared.fault.ConfKind.{ConfKind}
@@ -27,11 +28,12 @@ use Rattle.lr_include.specs.declared.task.Task.{Task}
 use Rattle.lr_include.specs.declared.task.Task.TheVariants as task
 use Rattle.lr_include.specs.Lines.{conf_kind}
 
--- A stage of a reading: the lines so far; the files that are being read, the last of them now; how many files, and how many
--- bytes, may still be read; and what is still to be read, in order.
+-- A stage of a reading: the lines so far; the files that are being read, the last of them now; those of which it was told
+-- that others may write them; how many files, and how many bytes, may still be read; and what is still to be read, in order.
 pub record Stage : Type 0 where
   pub lines : List Line
   pub inside : List Path
+  pub exposed : List Path
   pub files : ℕ
   pub bytes : ℕ
   pub todo : List Task
@@ -135,6 +137,7 @@ abbrev pub entering : Stage → Path → List Told → ℕ → TextEnd → List 
 entering s file told size how todo = record {
   lines = s.lines;
   inside = s.inside ++ file ∷ [];
+  exposed = s.exposed;
   files = s.files - 1;
   bytes = s.bytes - min size (room_of s);
   todo = line_tasks told ++ task.Line (last_piece file how) ∷ todo;
@@ -143,6 +146,11 @@ entering s file told size how todo = record {
 -- a fault of the visit, told where it was asked for
 abbrev pub telling : Stage → Fault → List Task → Stage
 telling s f todo = record s { lines = s.lines ++ Spoiled f ∷ []; todo = todo }
+
+-- others may write the file, which is told once
+abbrev pub telling_exposed : Stage → Path → List Task → Stage
+telling_exposed s file todo =
+    if list_any (bytes_eq file) s.exposed then record s { todo = todo } else record s { lines = s.lines ++ Spoiled (conf file kind.Writable 0) ∷ []; exposed = s.exposed ++ file ∷ []; todo = todo }
 
 -- the names in a directory that make a path
 abbrev pub name_task : Ask → List ℕ → Option Task
@@ -165,16 +173,18 @@ abbrev pub after_ask : Stage → Ask → Visit → List Task → Stage
 after_ask s a visit.Unseen todo = telling s (fault.Call call.Look a.path) todo
 after_ask s a visit.Nothing todo = telling s (conf a.file kind.NoFile a.line) todo
 after_ask s a visit.File todo = telling s (conf a.file (limit_kind s) a.line) todo
+after_ask s a visit.Exposed todo = telling_exposed s a.path todo
 after_ask s a visit.Dir todo = telling s (conf a.file kind.TooDeep a.line) todo
 after_ask s a visit.Unlisted todo = telling s (fault.Call call.List a.path) todo
 after_ask s a (visit.Holds names) todo = record s { todo = name_tasks a names ++ todo }
 after_ask s a (visit.Reads told size how) todo = entering s a.path told size how todo
 
 -- Behind the visit of a name in a directory: what is no file is passed over. Where no file more may be read, that is told
--- once, and the rest of the directory is passed over.
+-- once, and the rest of the directory is passed over. A file that others may write is told, and the others are read.
 abbrev pub after_name : Stage → Ask → Visit → List Task → Stage
 after_name s a visit.Unseen todo = telling s (fault.Call call.Look a.path) todo
 after_name s a visit.File todo = telling s (conf a.file (limit_kind s) a.line) (behind_names todo)
+after_name s a visit.Exposed todo = telling_exposed s a.path todo
 after_name s a (visit.Reads told size how) todo = entering s a.path told size how todo
 after_name s a v todo = record s { todo = todo }
 
@@ -219,7 +229,7 @@ line_ask path = task.Ask (record { file = path; line = 0; path = path })
 
 -- it asks for these
 abbrev pub begun : List Path → Stage
-begun paths = record { lines = []; inside = []; files = 4096; bytes = 16777216; todo = map line_ask paths }
+begun paths = record { lines = []; inside = []; exposed = []; files = 4096; bytes = 16777216; todo = map line_ask paths }
 
 -- What the configuration of these paths means, as these visits have it.
 abbrev pub visits_mean : List Path → List (Option Visit) → Meaning

@@ -90,6 +90,7 @@ impl Course {
             faults: Vec::new(alloc),
             files: 4_096,
             bytes: 16_777_216,
+            exposed: Vec::new(alloc),
             todo,
         })
     }
@@ -112,7 +113,8 @@ impl Course {
 /// that moment. What an `include` asks for is read in its place; links are followed.
 ///
 /// At most 8 files are open at once (TooDeep), 4,096 are read (TooManyFiles), 1,048,576 bytes of each and 16,777,216 of
-/// all (TooBig). A failed call is told, and what was read before it counts.
+/// all (TooBig). A file that others may write isn't read, which is told once (Writable). A failed call is told, and what
+/// was read before it counts.
 pub fn read_all<H: Host>(alloc: Global, host: &mut H, paths: &[Path]) -> Result<Reading, Memory>
     ensures told { IfOk result (λ r. Left (Reads paths.now (meaning_of r)) (H.told host.old) (H.told host.new)) }
     ensures lacking { OnErr result (Left (LacksReading paths.now) (H.told host.old) (H.told host.new)) }

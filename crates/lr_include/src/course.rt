@@ -1,7 +1,7 @@
 // A reading under way.
 use crate::task::Task;
 use lr_conf::Layer;
-use lr_rules::Fault;
+use lr_rules::{Fault, Path};
 use std::alloc::Global;
 
 /// What was read so far, and what is still to be read.
@@ -13,6 +13,8 @@ pub struct Course {
     /// How many files may still be read, and how many bytes.
     pub files: u32,
     pub bytes: usize,
+    /// The files of which it was told that others may write them.
+    pub exposed: Vec<Path>,
     /// The last is read next.
     pub todo: Vec<Task>,
 }

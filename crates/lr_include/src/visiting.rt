@@ -1,11 +1,13 @@
 // Visits of the paths that are asked for.
 ghost use Rattle.std.specs.Prelude.{◌≡◌, ◌<◌, ◌≤◌, ◌+◌, ◌^◌, ◌↔◌, ◌∷◌, ◌++◌, [], true, Some, option_copied, length, reverse, IfOk, OnOk, OnErr};
+ghost use Rattle.std.specs.Str.{bytes_eq};
+ghost use Rattle.std.specs.List.{list_any};
 ghost use Rattle.lr_host.specs.Told.{Left, Onward};
 ghost use Rattle.lr_conf.specs.Meaning.{conf};
 ghost use Rattle.lr_conf.specs.Fold.{entered};
 ghost use Rattle.lr_visits.specs.Visits.{IsRead, HasRoom};
 ghost use Rattle.lr_include.specs.declared.task.Task.TheVariants as task;
-ghost use Rattle.lr_include.specs.Stages.{Stage, is_shallow, room_of, room_for, limit_kind, line_tasks, name_tasks, is_name, behind_names, entering, after_ask, after_name, IsBarred};
+ghost use Rattle.lr_include.specs.Stages.{Stage, is_shallow, room_of, room_for, limit_kind, telling_exposed, line_tasks, name_tasks, is_name, behind_names, entering, after_ask, after_name, IsBarred};
 ghost use Rattle.lr_include.specs.Course.{StandsAt, SameButTodo, ToldFault, GoesOn};
 ghost use Rattle.lr_include.specs.Lacking.{LacksFrom};
 
@@ -176,6 +178,30 @@ impl Course {
         self.tell_fault(Fault::Conf { file, line, kind })
     }
 
+    // Whether it was told that others may write the file.
+    fn told_exposed(&self, file: &Path) -> bool
+        ensures { result ≡ list_any (bytes_eq file.now) self.now.exposed.items }
+    {
+        self.exposed.iter().any(|one| file.is(one))
+    }
+
+    // Tells that others may write the file, where that wasn't told before.
+    fn tell_exposed(&mut self, file: Path) -> Result<(), Memory>
+        ensures { OnOk result ((s : Stage) → StandsAt self.old s → StandsAt self.new (telling_exposed s file s.todo)) }
+    {
+        let told = self.told_exposed(&file);
+        if told {
+            return Ok(());
+        }
+        let copy = file.copy(self.alloc)?;
+        self.exposed.push(copy)?;
+        self.tell_fault(Fault::Conf {
+            file,
+            line: 0,
+            kind: ConfKind::Writable,
+        })
+    }
+
     fn after_ask(&mut self, ask: Ask, visit: Visit) -> Result<(), Memory>
         requires { IsRead visit → length (entered self.old.layer) < 8 }
         ensures { OnOk result ((s : Stage) → StandsAt self.old s → StandsAt self.new (after_ask s ask visit s.todo)) }
@@ -187,6 +213,7 @@ impl Course {
                 let kind = self.limit_kind();
                 self.tell_at(ask, kind)
             }
+            Visit::Exposed => self.tell_exposed(ask.path),
             Visit::Dir => self.tell_at(ask, ConfKind::TooDeep),
             Visit::Unlisted => self.tell_fault(Fault::Call(CallKind::List, ask.path)),
             Visit::Holds(names) => self.push_names(&ask, names),
@@ -205,6 +232,7 @@ impl Course {
                 let kind = self.limit_kind();
                 self.tell_at(ask, kind)
             }
+            Visit::Exposed => self.tell_exposed(ask.path),
             Visit::Reads(told, size, how) => self.enter(ask.path, told, size, how),
             _ => Ok(()),
         }

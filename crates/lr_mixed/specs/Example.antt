@@ -60,10 +60,10 @@ naming = record { dir = codes "/w"; base = codes "b.log"; ext = []; start = 1; d
 
 -- a file of one byte, and a directory
 abbrev pub file : Seen
-file = record { kind = kind.File; size = 1; mtime = pos 0; mode = None }
+file = record { kind = kind.File; size = 1; mtime = pos 0; mode = None; exposed = false }
 
 abbrev pub directory : Seen
-directory = record { kind = kind.Dir; size = 0; mtime = pos 0; mode = None }
+directory = record { kind = kind.Dir; size = 0; mtime = pos 0; mode = None; exposed = false }
 
 abbrev pub stand : Stand
 stand = record { there = true; parent = true; members = []; parts = [] }

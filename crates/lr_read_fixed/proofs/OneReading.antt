@@ -7,14 +7,14 @@ use Rattle.lr_lex.specs.Items.{Told}
 use Rattle.lr_host.specs.declared.thing.Seen.{Seen}
 use Rattle.lr_host.specs.declared.entry.Entry.{Entry}
 use Rattle.lr_host.specs.declared.entry.Entry.TheVariants as entry
-use Rattle.lr_host.specs.Looks.{IsFile, IsDir, IsNothingOrOther}
+use Rattle.lr_host.specs.Looks.{IsDir, IsNothingOrOther}
 use Rattle.lr_host.specs.Reading.{text, ReadsAll}
 use Rattle.lr_host.proofs.Reading.{reads_text, reads_one}
 use Rattle.lr_visits.specs.declared.part.TextEnd.{TextEnd}
 use Rattle.lr_visits.specs.declared.part.TextEnd.TheVariants as end
 use Rattle.lr_visits.specs.declared.visit.Visit.{Visit}
 use Rattle.lr_visits.specs.declared.visit.Visit.TheVariants as visit
-use Rattle.lr_visits.specs.Visits.{ReadsPart, ShowsText, told_by, ShowsNames, ShowsBytes, ShowsFile, ShowsDir, ShowsVisit, look_failed, nothing, directory, file}
+use Rattle.lr_visits.specs.Visits.{IsKeptFile, IsExposedFile, ReadsPart, ShowsText, told_by, ShowsNames, ShowsBytes, ShowsFile, ShowsDir, ShowsVisit, look_failed, nothing, exposed, directory, file}
 use Rattle.lr_include.specs.declared.task.Task.{Task}
 use Rattle.lr_include.specs.declared.task.Task.TheVariants as task
 use Rattle.lr_host.specs.Counted.{calls_in}
@@ -114,7 +114,8 @@ dir_one x true v w ts us vs ws r s f g e = names_one x v w ts us vs ws r s f g e
 
 -- what a visit shows behind its look
 abbrev Behind : Path → Bool → Option ℕ → Visit → Option Seen → List Entry → Type 0
-Behind x lists room v seen ts = (IsNothingOrOther seen × (v ≡ visit.Nothing) × (ts ≡ [])) ⊎ ((IsDir seen × ShowsDir x lists v ts) ⊎ (IsFile seen × ShowsFile x room v ts))
+Behind x lists room v seen ts = (IsNothingOrOther seen × (v ≡ visit.Nothing) × (ts ≡ []))
+    ⊎ ((IsExposedFile seen × (v ≡ visit.Exposed) × (ts ≡ [])) ⊎ ((IsDir seen × ShowsDir x lists v ts) ⊎ (IsKeptFile seen × ShowsFile x room v ts)))
 
 record Looks (x : Path) (lists : Bool) (room : Option ℕ) (v : Visit) (ts : List Entry) : Type 0 where
   seen : Option Seen
@@ -125,31 +126,52 @@ record Looks (x : Path) (lists : Bool) (room : Option ℕ) (v : Visit) (ts : Lis
 looks : (x : Path) (lists : Bool) (room : Option ℕ) (v : Visit) (ts : List Entry) → failed_visit v ≡ 0 → ShowsVisit x lists room v ts → Looks x lists room v ts
 looks x lists room v ts z (look_failed is e) = absurd (let a : failed_visit v ≡ 1 = ap failed_visit is in omega (arith, a, z))
 looks x lists room v ts z (nothing is s) = record { seen = s.seen; back = []; are = s.look; shown = inl (s.is, is, refl) }
-looks x lists room v ts z (directory r) = record { seen = r.first.seen; back = r.back; are = r.joined ∙ ap (λ es. es ++ r.back) r.first.look; shown = inr (inl (r.first.is, r.second)) }
-looks x lists room v ts z (file r) = record { seen = r.first.seen; back = r.back; are = r.joined ∙ ap (λ es. es ++ r.back) r.first.look; shown = inr (inr (r.first.is, r.second)) }
+looks x lists room v ts z (exposed is s) = record { seen = s.seen; back = []; are = s.look; shown = inr (inl (s.is, is, refl)) }
+looks x lists room v ts z (directory r) = record { seen = r.first.seen; back = r.back; are = r.joined ∙ ap (λ es. es ++ r.back) r.first.look; shown = inr (inr (inl (r.first.is, r.second))) }
+looks x lists room v ts z (file r) = record { seen = r.first.seen; back = r.back; are = r.joined ∙ ap (λ es. es ++ r.back) r.first.look; shown = inr (inr (inr (r.first.is, r.second))) }
 
+-- what was seen is one of these alone
 not_dir : (seen : Option Seen) → IsNothingOrOther seen → IsDir seen → ⊥
 not_dir None a b = b
 not_dir (Some s) a b = cc (a, b)
 
-not_file : (seen : Option Seen) → IsNothingOrOther seen → IsFile seen → ⊥
+not_file : (seen : Option Seen) → IsNothingOrOther seen → IsKeptFile seen → ⊥
 not_file None a b = b
-not_file (Some s) a b = cc (a, b)
+not_file (Some s) a b = let k = b.0 in cc (a, k)
 
-not_both : (seen : Option Seen) → IsDir seen → IsFile seen → ⊥
-not_both None a b = b
-not_both (Some s) a b = cc (a, b)
+not_exposed : (seen : Option Seen) → IsNothingOrOther seen → IsExposedFile seen → ⊥
+not_exposed None a b = b
+not_exposed (Some s) a b = let k = b.0 in cc (a, k)
+
+dir_or_file : (seen : Option Seen) → IsDir seen → IsKeptFile seen → ⊥
+dir_or_file None a b = b
+dir_or_file (Some s) a b = let k = b.0 in cc (a, k)
+
+dir_or_exposed : (seen : Option Seen) → IsDir seen → IsExposedFile seen → ⊥
+dir_or_exposed None a b = b
+dir_or_exposed (Some s) a b = let k = b.0 in cc (a, k)
+
+kept_or_exposed : (seen : Option Seen) → IsKeptFile seen → IsExposedFile seen → ⊥
+kept_or_exposed None a b = b
+kept_or_exposed (Some s) a b = let k = a.1 in let l = b.1 in cc (k, l)
 
 behind_one : (x : Path) (lists : Bool) (room : Option ℕ) (v w : Visit) (seen : Option Seen) (ts us vs ws : List Entry) → failed_visit v ≡ 0 → failed_visit w ≡ 0 → Behind x lists room v seen ts → Behind x lists room w seen us → ts ++ vs ≡ us ++ ws → AreOne Visit v w ts us vs ws
 behind_one x lists room v w seen ts us vs ws f g (inl a) (inl b) e = none_one v w visit.Nothing ts us vs ws a.1 b.1 a.2 b.2 e
-behind_one x lists room v w seen ts us vs ws f g (inl a) (inr (inl b)) e = absurd (not_dir seen a.0 b.0)
-behind_one x lists room v w seen ts us vs ws f g (inl a) (inr (inr b)) e = absurd (not_file seen a.0 b.0)
-behind_one x lists room v w seen ts us vs ws f g (inr (inl a)) (inl b) e = absurd (not_dir seen b.0 a.0)
-behind_one x lists room v w seen ts us vs ws f g (inr (inl a)) (inr (inl b)) e = dir_one x lists v w ts us vs ws a.1 b.1 f g e
-behind_one x lists room v w seen ts us vs ws f g (inr (inl a)) (inr (inr b)) e = absurd (not_both seen a.0 b.0)
-behind_one x lists room v w seen ts us vs ws f g (inr (inr a)) (inl b) e = absurd (not_file seen b.0 a.0)
-behind_one x lists room v w seen ts us vs ws f g (inr (inr a)) (inr (inl b)) e = absurd (not_both seen b.0 a.0)
-behind_one x lists room v w seen ts us vs ws f g (inr (inr a)) (inr (inr b)) e = file_one x room v w ts us vs ws a.1 b.1 f g e
+behind_one x lists room v w seen ts us vs ws f g (inl a) (inr (inl b)) e = absurd (not_exposed seen a.0 b.0)
+behind_one x lists room v w seen ts us vs ws f g (inl a) (inr (inr (inl b))) e = absurd (not_dir seen a.0 b.0)
+behind_one x lists room v w seen ts us vs ws f g (inl a) (inr (inr (inr b))) e = absurd (not_file seen a.0 b.0)
+behind_one x lists room v w seen ts us vs ws f g (inr (inl a)) (inl b) e = absurd (not_exposed seen b.0 a.0)
+behind_one x lists room v w seen ts us vs ws f g (inr (inl a)) (inr (inl b)) e = none_one v w visit.Exposed ts us vs ws a.1 b.1 a.2 b.2 e
+behind_one x lists room v w seen ts us vs ws f g (inr (inl a)) (inr (inr (inl b))) e = absurd (dir_or_exposed seen b.0 a.0)
+behind_one x lists room v w seen ts us vs ws f g (inr (inl a)) (inr (inr (inr b))) e = absurd (kept_or_exposed seen b.0 a.0)
+behind_one x lists room v w seen ts us vs ws f g (inr (inr (inl a))) (inl b) e = absurd (not_dir seen b.0 a.0)
+behind_one x lists room v w seen ts us vs ws f g (inr (inr (inl a))) (inr (inl b)) e = absurd (dir_or_exposed seen a.0 b.0)
+behind_one x lists room v w seen ts us vs ws f g (inr (inr (inl a))) (inr (inr (inl b))) e = dir_one x lists v w ts us vs ws a.1 b.1 f g e
+behind_one x lists room v w seen ts us vs ws f g (inr (inr (inl a))) (inr (inr (inr b))) e = absurd (dir_or_file seen a.0 b.0)
+behind_one x lists room v w seen ts us vs ws f g (inr (inr (inr a))) (inl b) e = absurd (not_file seen b.0 a.0)
+behind_one x lists room v w seen ts us vs ws f g (inr (inr (inr a))) (inr (inl b)) e = absurd (kept_or_exposed seen a.0 b.0)
+behind_one x lists room v w seen ts us vs ws f g (inr (inr (inr a))) (inr (inr (inl b))) e = absurd (dir_or_file seen b.0 a.0)
+behind_one x lists room v w seen ts us vs ws f g (inr (inr (inr a))) (inr (inr (inr b))) e = file_one x room v w ts us vs ws a.1 b.1 f g e
 
 visit_one : (x : Path) (lists : Bool) (room : Option ℕ) (v w : Visit) (ts us vs ws : List Entry) → failed_visit v ≡ 0 → failed_visit w ≡ 0 → ShowsVisit x lists room v ts → ShowsVisit x lists room w us → ts ++ vs ≡ us ++ ws → AreOne Visit v w ts us vs ws
 visit_one x lists room v w ts us vs ws f g a b e =

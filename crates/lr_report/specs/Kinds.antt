@@ -36,6 +36,7 @@ conf_kind_text conf_kind.NoFile = codes "NoFile"
 conf_kind_text conf_kind.TooDeep = codes "TooDeep"
 conf_kind_text conf_kind.TooManyFiles = codes "TooManyFiles"
 conf_kind_text conf_kind.TooBig = codes "TooBig"
+conf_kind_text conf_kind.Writable = codes "Writable"
 
 -- the name of the kind
 abbrev pub state_kind_text : StateKind → List ℕ

@@ -32,6 +32,7 @@ pub fn conf_kind_name(kind: ConfKind) -> &'static [u8]
         ConfKind::TooDeep => b"TooDeep",
         ConfKind::TooManyFiles => b"TooManyFiles",
         ConfKind::TooBig => b"TooBig",
+        ConfKind::Writable => b"Writable",
     }
 }
 

@@ -74,6 +74,8 @@ pub enum ConfKind {
     TooDeep,
     TooManyFiles,
     TooBig,
+    /// Others than root and the one that runs the program may write the file, which isn't read.
+    Writable,
 }
 
 /// The kinds of faults of the state file, in the order in which they apply.

@@ -7,8 +7,10 @@ use Rattle.lr_rules.specs.declared.path.Path.{Path}
 use Rattle.lr_lex.specs.Items.{Told, items}
 use Rattle.lr_host.specs.declared.entry.Entry.{Entry}
 use Rattle.lr_host.specs.declared.entry.Entry.TheVariants as entry
+use Rattle.lr_host.specs.declared.thing.Kind.TheVariants as kind
+use Rattle.lr_host.specs.declared.thing.Seen.{Seen}
 use Rattle.lr_host.specs.Told.{Then, Each}
-use Rattle.lr_host.specs.Looks.{Sees, IsFile, IsDir, IsNothingOrOther}
+use Rattle.lr_host.specs.Looks.{Sees, IsDir, IsNothingOrOther}
 use Rattle.lr_host.specs.Reading.{IsReadOf, ReadsOf, ReadsAll}
 use Rattle.lr_visits.specs.Whole.{whole_items}
 use Rattle.lr_visits.specs.declared.look.Sight.{Sight}
@@ -20,10 +22,20 @@ use Rattle.lr_visits.specs.declared.visit.Visit.TheVariants as visit
 
 -- ---- looks
 
+-- a regular file was seen that only root and the one that runs the program may write; one that others may, too
+abbrev pub IsKeptFile : Option Seen → Type 0
+IsKeptFile None = ⊥
+IsKeptFile (Some seen) = (seen.kind ≡ kind.File) × (seen.exposed ≡ false)
+
+abbrev pub IsExposedFile : Option Seen → Type 0
+IsExposedFile None = ⊥
+IsExposedFile (Some seen) = (seen.kind ≡ kind.File) × (seen.exposed ≡ true)
+
 -- one look at the path, which saw this
 abbrev pub SeesAs : Path → Sight → List Entry → Type 0
 SeesAs x sight.Nothing = Sees x IsNothingOrOther
-SeesAs x sight.File = Sees x IsFile
+SeesAs x sight.File = Sees x IsKeptFile
+SeesAs x sight.Exposed = Sees x IsExposedFile
 SeesAs x sight.Dir = Sees x IsDir
 
 -- ---- names
@@ -91,12 +103,13 @@ ShowsDir x false v ts = (v ≡ visit.Dir) × (ts ≡ [])
 ShowsDir x true v ts = ShowsNames x v ts
 
 -- The entries show what the visit gave, where a directory is listed or not, and a file is read, of which there is room for
--- so many bytes, or isn't.
+-- so many bytes, or isn't. A file that others may write is never read.
 pub data ShowsVisit (x : Path) (lists : Bool) (room : Option ℕ) (v : Visit) (ts : List Entry) : Type 0 where
   look_failed : v ≡ visit.Unseen → ts ≡ [] → ShowsVisit x lists room v ts
   nothing : v ≡ visit.Nothing → Sees x IsNothingOrOther ts → ShowsVisit x lists room v ts
+  exposed : v ≡ visit.Exposed → Sees x IsExposedFile ts → ShowsVisit x lists room v ts
   directory : Then (Sees x IsDir) (ShowsDir x lists v) ts → ShowsVisit x lists room v ts
-  file : Then (Sees x IsFile) (ShowsFile x room v) ts → ShowsVisit x lists room v ts
+  file : Then (Sees x IsKeptFile) (ShowsFile x room v) ts → ShowsVisit x lists room v ts
 
 -- a file was read
 abbrev pub IsRead : Visit → Type 0
@@ -114,6 +127,18 @@ HasFailed visit.Unlisted = Unit {0}
 HasFailed (visit.Reads told size how) = how ≡ end.Failed
 HasFailed _ = ⊥
 
--- A first part of what a visit leaves: no entry, or a look at a directory, or a look at a file and reads of it.
-abbrev pub PartVisit : Path → List Entry → Type 0
-PartVisit x ts = (ts ≡ []) ⊎ (Sees x IsDir ts ⊎ Then (Sees x IsFile) (Each (IsShortReadOf x)) ts)
+-- A first part of a reading where there is room for so many bytes: reads from the first byte on, each of 65,536 bytes at
+-- most, or all of them.
+pub record PartText (x : Path) (room : ℕ) (ts : List Entry) : Type 0 where
+  pub bytes : List ℕ
+  pub reads : ((length bytes ≤ room) × ReadsOf x bytes ts) ⊎ ReadsAll x (room + 1) bytes ts
+  pub short : Each IsShortRead ts
+
+abbrev pub PartFile : Path → Option ℕ → List Entry → Type 0
+PartFile x None ts = ⊥
+PartFile x (Some room) ts = PartText x room ts
+
+-- A first part of what a visit leaves: no entry, or a look at a directory, or a look at a file and a first part of its
+-- reading.
+abbrev pub PartVisit : Path → Option ℕ → List Entry → Type 0
+PartVisit x room ts = (ts ≡ []) ⊎ (Sees x IsDir ts ⊎ Then (Sees x IsKeptFile) (PartFile x room) ts)

@@ -14,6 +14,8 @@ pub enum Sight {
     /// Nothing, or neither a file nor a directory.
     Nothing,
     File,
+    /// A file that others may write.
+    Exposed,
     Dir,
 }
 
@@ -33,7 +35,13 @@ pub fn look_at<H: Host>(host: &mut H, path: &Path) -> Result<Sight, CallFault>
         return Ok(Sight::Nothing);
     };
     match seen.kind {
-        Kind::File => Ok(Sight::File),
+        Kind::File => {
+            if seen.exposed {
+                Ok(Sight::Exposed)
+            } else {
+                Ok(Sight::File)
+            }
+        }
         Kind::Dir => Ok(Sight::Dir),
         Kind::Other => Ok(Sight::Nothing),
     }

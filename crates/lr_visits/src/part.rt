@@ -3,7 +3,7 @@ ghost use Rattle.std.specs.Prelude.{◌≡◌, ◌≤◌, ◌<◌, ◌+◌, ◌^
 ghost use Rattle.lr_host.specs.declared.entry.Entry.TheVariants as entry;
 ghost use Rattle.lr_host.specs.declared.journal.Journal.{Journal};
 ghost use Rattle.lr_host.specs.Told.{Left, Each, Can, Onward, Rose};
-ghost use Rattle.lr_visits.specs.Visits.{ShowsText, IsShortReadOf};
+ghost use Rattle.lr_visits.specs.Visits.{ShowsText, IsShortReadOf, PartText};
 ghost use Rattle.lr_visits.specs.Taken.{IsOpen, Brings, TookFrom, GoesOn};
 ghost use Rattle.lr_visits.specs.declared.part.TextEnd.TheVariants as end;
 
@@ -70,13 +70,14 @@ fn read_on<H: Host>(
     requires file { Can (H.told host.old) (entry.Reads path.now 0 []) }
     ensures told { IfOk result (λ how. (before : Option Journal) → TookFrom path.now taking.old before (H.told host.old) → GoesOn path.now room taking.new before (H.told host.new) how) }
     ensures more { result ≡ Ok None → IsOpen taking.new × (taking.new.size ≤ room) × (taking.old.size < taking.new.size) }
+    ensures lacking { OnErr result ((before : Option Journal) → TookFrom path.now taking.old before (H.told host.old) → Left (PartText path.now room) before (H.told host.new)) }
     ensures only { Left (Each (IsShortReadOf path.now)) (H.told host.old) (H.told host.new) }
     ensures cause { result ≡ Ok (Some end.Failed) → Rose (H.counts host.old).faults (H.counts host.new).faults }
     ensures counts { Onward (H.counts host.old) (H.counts host.new) }
 {
     let limit = next_count(room, taking.size, buffer.len());
     let piece = &mut buffer[..limit];
-    let Ok(count) = host.read(path, taking.size as u64, piece) else {
+    let Ok(count) = host.read(path, true, taking.size as u64, piece) else {
         return Ok(Some(TextEnd::Failed));
     };
     take_in(taking, &piece[..count], room)
@@ -98,7 +99,7 @@ pub fn read_pieces<H: Host>(
     requires file { Can (H.told host.old) (entry.Reads path.now 0 []) }
     requires begun { TookFrom path.now taking.old (H.told host.old) (H.told host.old) }
     ensures told { IfOk result (λ how. Left (ShowsText path.now room taking.new.told.items taking.new.size how) (H.told host.old) (H.told host.new)) }
-    ensures only { Left (Each (IsShortReadOf path.now)) (H.told host.old) (H.told host.new) }
+    ensures lacking { OnErr result (Left (PartText path.now room) (H.told host.old) (H.told host.new)) }
     ensures cause { result ≡ Ok end.Failed → Rose (H.counts host.old).faults (H.counts host.new).faults }
     ensures counts { Onward (H.counts host.old) (H.counts host.new) }
 {

@@ -1,8 +1,8 @@
 // One visit of a path.
 ghost use Rattle.std.specs.Prelude.{◌≡◌, ◌<◌, ◌+◌, ◌^◌, [], Some, IfOk, OnErr};
 ghost use Rattle.lr_host.specs.declared.entry.Entry.TheVariants as entry;
-ghost use Rattle.lr_host.specs.Told.{Left, Are, Each, Can, Onward, Rose};
-ghost use Rattle.lr_visits.specs.Visits.{ShowsNames, ShowsBytes, ShowsDir, ShowsFile, ShowsVisit, IsRead, IsShortReadOf, HasRoom, HasFailed, PartVisit};
+ghost use Rattle.lr_host.specs.Told.{Left, Are, Can, Onward, Rose};
+ghost use Rattle.lr_visits.specs.Visits.{ShowsNames, ShowsBytes, ShowsDir, ShowsFile, ShowsVisit, IsRead, HasRoom, HasFailed, PartText, PartFile, PartVisit};
 
 use crate::listing::list_rising;
 use crate::look::{Sight, look_at};
@@ -22,6 +22,8 @@ pub enum Visit {
     Nothing,
     /// A regular file, which isn't read.
     File,
+    /// A regular file that others than root and the one that runs the program may write. It is never read.
+    Exposed,
     /// A directory, which isn't listed.
     Dir,
     /// A directory, and its listing failed.
@@ -69,7 +71,7 @@ fn bytes_of<H: Host>(alloc: Global, host: &mut H, file: &Path, room: usize) -> R
     requires file { Can (H.told host.old) (entry.Reads file.now 0 []) }
     requires room { room + 1 < 2 ^ 32 }
     ensures told { IfOk result (λ v. Left (ShowsBytes file.now room v) (H.told host.old) (H.told host.new)) }
-    ensures lacking { OnErr result (Left (Each (IsShortReadOf file.now)) (H.told host.old) (H.told host.new)) }
+    ensures lacking { OnErr result (Left (PartText file.now room) (H.told host.old) (H.told host.new)) }
     ensures cause { IfOk result (λ v. HasFailed v → Rose (H.counts host.old).faults (H.counts host.new).faults) }
     ensures counts { Onward (H.counts host.old) (H.counts host.new) }
 {
@@ -92,7 +94,7 @@ fn in_file<H: Host>(
     requires file { Can (H.told host.old) (entry.Reads file.now 0 []) }
     requires room { (n : _) → room ≡ Some n → n + 1 < 2 ^ 32 }
     ensures told { IfOk result (λ v. Left (ShowsFile file.now room v) (H.told host.old) (H.told host.new)) }
-    ensures lacking { OnErr result (Left (Each (IsShortReadOf file.now)) (H.told host.old) (H.told host.new)) }
+    ensures lacking { OnErr result (Left (PartFile file.now room) (H.told host.old) (H.told host.new)) }
     ensures read { IfOk result (λ v. IsRead v → HasRoom room) }
     ensures cause { IfOk result (λ v. HasFailed v → Rose (H.counts host.old).faults (H.counts host.new).faults) }
     ensures counts { Onward (H.counts host.old) (H.counts host.new) }
@@ -104,7 +106,7 @@ fn in_file<H: Host>(
 }
 
 /// What stands at the path: of a directory its names, where it is to be listed, and of a file its bytes, where there is
-/// room for any. Links are followed.
+/// room for any. A file that others may write isn't read. Links are followed.
 ///
 /// A call that fails is told in what the visit gave. Where it ends for want of memory, a first part of it was made.
 pub fn visit_path<H: Host>(
@@ -116,13 +118,14 @@ pub fn visit_path<H: Host>(
 ) -> Result<Visit, Memory>
     requires { (n : _) → room ≡ Some n → n + 1 < 2 ^ 32 }
     ensures told { IfOk result (λ v. Left (ShowsVisit path.now lists room v) (H.told host.old) (H.told host.new)) }
-    ensures lacking { OnErr result (Left (PartVisit path.now) (H.told host.old) (H.told host.new)) }
+    ensures lacking { OnErr result (Left (PartVisit path.now room) (H.told host.old) (H.told host.new)) }
     ensures read { IfOk result (λ v. IsRead v → HasRoom room) }
     ensures cause { IfOk result (λ v. HasFailed v → Rose (H.counts host.old).faults (H.counts host.new).faults) }
     ensures counts { Onward (H.counts host.old) (H.counts host.new) }
 {
     match look_at(host, path) {
         Ok(Sight::File) => in_file(alloc, host, path, room),
+        Ok(Sight::Exposed) => Ok(Visit::Exposed),
         Ok(Sight::Dir) => in_dir(alloc, host, path, lists),
         Ok(Sight::Nothing) => Ok(Visit::Nothing),
         Err(_) => Ok(Visit::Unseen),

@@ -1,17 +1,21 @@
 use Rattle.std.proofs.Common.{sym, subst}
 use Rattle.lr_host.proofs.Known.{seen_can_read}
-use Rattle.lr_host.specs.Looks.{IsFile, IsDir, IsNothingOrOther}
+use Rattle.lr_host.specs.Looks.{IsDir, IsNothingOrOther}
+use Rattle.lr_visits.specs.Visits.{IsKeptFile, IsExposedFile}
 use Rattle.lr_visits.proofs.Visiting.{sees, can_list}
 use Rattle.lr_visits.proofs.look.look_at.Goals as goal
 
 pub returns-in_default-look-clause-told : goal.returns-in_default-look-clause-told
 returns-in_default-look-clause-told g c = sees c.args.path.now IsNothingOrOther c.in-Ok.look c.in-Ok.ensures.told (subst IsNothingOrOther (sym c.in_default-look.is) tt)
 
-pub returns-in-File-clause-told : goal.returns-in-File-clause-told
-returns-in-File-clause-told g c = sees c.args.path.now IsFile c.in-Ok.look c.in-Ok.ensures.told (subst IsFile (sym c.in-Some.is) c.in-File.is)
+pub returns-then-seen-clause-told : goal.returns-then-seen-clause-told
+returns-then-seen-clause-told g c = sees c.args.path.now IsExposedFile c.in-Ok.look c.in-Ok.ensures.told (subst IsExposedFile (sym c.in-Some.is) (c.in-File.is, c.if-seen.true))
 
-pub returns-in-File-clause-reads : goal.returns-in-File-clause-reads
-returns-in-File-clause-reads g c = λ ok. seen_can_read (rw c.in-Some.is at c.in-Ok.ensures.told) c.in-File.is
+pub returns-else-seen-clause-told : goal.returns-else-seen-clause-told
+returns-else-seen-clause-told g c = sees c.args.path.now IsKeptFile c.in-Ok.look c.in-Ok.ensures.told (subst IsKeptFile (sym c.in-Some.is) (c.in-File.is, c.if-seen.false))
+
+pub returns-else-seen-clause-reads : goal.returns-else-seen-clause-reads
+returns-else-seen-clause-reads g c = λ ok. seen_can_read (rw c.in-Some.is at c.in-Ok.ensures.told) c.in-File.is
 
 pub returns-in-Dir-clause-told : goal.returns-in-Dir-clause-told
 returns-in-Dir-clause-told g c = sees c.args.path.now IsDir c.in-Ok.look c.in-Ok.ensures.told (subst IsDir (sym c.in-Some.is) c.in-Dir.is)

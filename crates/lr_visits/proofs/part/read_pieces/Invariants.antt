@@ -1,7 +1,6 @@
 use Rattle.std.proofs.Common.{◌≡◌, ◌≤◌, ◌+◌, ◌-◌, [], length}
 use Rattle.lr_host.specs.declared.entry.Entry.TheVariants as entry
-use Rattle.lr_host.specs.Told.{Left, Each, Can, Onward}
-use Rattle.lr_visits.specs.Visits.{IsShortReadOf}
+use Rattle.lr_host.specs.Told.{Can, Onward}
 use Rattle.lr_visits.specs.Taken.{IsOpen, TookFrom}
 use Rattle.lr_visits.proofs.part.read_pieces.Given as goal
 
@@ -10,7 +9,6 @@ invariant-loop-how g l = record {
   took : TookFrom l.path l.taking (g.H.Host.told l.initial.host) (g.H.Host.told l.host);
   ready : IsOpen l.taking;
   small : l.taking.size ≤ l.room;
-  only : Left (Each (IsShortReadOf l.path)) (g.H.Host.told l.initial.host) (g.H.Host.told l.host);
   file : Can (g.H.Host.told l.host) (entry.Reads l.path 0 []);
   buffer : length l.buffer ≡ length l.initial.buffer;
   counts : Onward (g.H.Host.counts l.initial.host) (g.H.Host.counts l.host);

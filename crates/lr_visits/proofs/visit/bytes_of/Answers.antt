@@ -1,13 +1,12 @@
 use Rattle.std.proofs.Common.{List, sym, subst}
 use Rattle.lr_lex.specs.Items.{Told}
-use Rattle.lr_host.specs.Told.{Left, Each}
-use Rattle.lr_host.proofs.Left.{left_first}
-use Rattle.lr_visits.specs.Visits.{ShowsText, IsShortReadOf}
-use Rattle.lr_visits.proofs.Going.{goes_first}
+use Rattle.lr_host.specs.Told.{Left}
+use Rattle.lr_visits.specs.Visits.{ShowsText}
+use Rattle.lr_visits.proofs.Going.{goes_first, none_read}
 use Rattle.lr_visits.proofs.visit.bytes_of.Goals as goal
 
 pub returns-in_default-clause-lacking : goal.returns-in_default-clause-lacking
-returns-in_default-clause-lacking g c = left_first (Each (IsShortReadOf c.args.file.now)) _ tt
+returns-in_default-clause-lacking g c = none_read c.args.file.now c.args.room _
 
 pub read_pieces-requires-clause-begun : goal.read_pieces-requires-clause-begun
 read_pieces-requires-clause-begun g c = goes_first c.args.file.now c.new-taking.result _ c.new-taking.ensures.none c.new-taking.ensures.text c.new-taking.ensures.size

@@ -24,3 +24,6 @@ pub returns-in-File : goal.returns-in-File
 returns-in-File c = on_ok_as c.tell_at-in-File.result _ _ c.tell_at-in-File.ensures (λ t s st.
     subst (λ (v : Visit). StandsAt c.tell_at-in-File.new.self (after_ask s c.args.ask v s.todo)) (sym c.in-File.is)
     (subst (λ (k : ConfKind). StandsAt c.tell_at-in-File.new.self (telling s (conf c.args.ask.file k c.args.ask.line) s.todo)) (c.limit_kind-kind.ensures s st) (told_stands c.args.self.now c.tell_at-in-File.new.self _ s t st)))
+
+pub returns-in-Exposed : goal.returns-in-Exposed
+returns-in-Exposed c = on_ok_as c.tell_exposed.result _ _ c.tell_exposed.ensures (λ f s st. subst (λ (v : Visit). StandsAt c.tell_exposed.new.self (after_ask s c.args.ask v s.todo)) (sym c.in-Exposed.is) (f s st))

@@ -18,3 +18,6 @@ returns-in-File c = on_ok_as c.tell_at.result _ _ c.tell_at.ensures (λ t s st.
     subst (λ (v : Visit). StandsAt c.tell_at.new.self (after_name s c.args.ask v s.todo)) (sym c.in-File.is)
     (subst (λ (k : ConfKind). StandsAt c.tell_at.new.self (telling s (conf c.args.ask.file k c.args.ask.line) (behind_names s.todo))) (c.limit_kind-kind.ensures (record s { todo = behind_names s.todo }) passed)
     (told_stands c.pass_names.new.self c.tell_at.new.self _ (record s { todo = behind_names s.todo }) t passed)))
+
+pub returns-in-Exposed : goal.returns-in-Exposed
+returns-in-Exposed c = on_ok_as c.tell_exposed.result _ _ c.tell_exposed.ensures (λ f s st. subst (λ (v : Visit). StandsAt c.tell_exposed.new.self (after_name s c.args.ask v s.todo)) (sym c.in-Exposed.is) (f s st))

@@ -8,4 +8,4 @@ leave-requires c = still_some (entered c.args.self.now.layer) (entered c.cut_fil
 
 pub returns : goal.returns
 returns c = took_break c.args.self.now c.tell_fault.new.self _ c.cut_file.new.self c.args.fault c.in_ok-tell_fault.ensures c.cut_file.ensures.means c.cut_file.ensures.passes c.cut_file.ensures.files
-    (refl, refl, refl, refl) c.leave.ensures.same c.leave.ensures.alike c.leave.ensures.files c.requires
+    (refl, refl, refl, refl, refl) c.leave.ensures.same c.leave.ensures.alike c.leave.ensures.files c.requires

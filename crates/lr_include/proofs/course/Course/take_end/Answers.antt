@@ -7,4 +7,4 @@ pub leave-requires : goal.leave-requires
 leave-requires c = still_some (entered c.args.self.now.layer) (entered c.close.new.self.layer) c.in_ok-close.ensures.entered_are c.requires
 
 pub returns : goal.returns
-returns c = took_end c.args.self.now c.close.new.self _ c.in_ok-close.ensures (refl, refl, refl, refl) c.leave.ensures.same c.leave.ensures.alike c.leave.ensures.files c.requires
+returns c = took_end c.args.self.now c.close.new.self _ c.in_ok-close.ensures (refl, refl, refl, refl, refl) c.leave.ensures.same c.leave.ensures.alike c.leave.ensures.files c.requires
