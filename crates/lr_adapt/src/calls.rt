@@ -1,15 +1,26 @@
 // The calls of the system that the real host makes.
-ghost use Rattle.std.specs.Prelude.{◌≡◌, ◌≤◌, ◌<◌, IfOk, length, take};
+ghost use Rattle.std.specs.Prelude.{◌≡◌, ◌≤◌, IfOk, length, take};
 
+use crate::opened::{
+    Opened, Owner, is_exposed, open_dir, open_followed, open_lock, open_to_read, owner_of,
+};
+use crate::ways::Ways;
 use lr_host::{Kind, Seen};
 use lr_rules::{Ended, Path, Text, TextFault};
 use std::alloc::{AllocError, Global};
-use std::fs::{DirBuilder, DirEntry, File, OpenOptions, Permissions, TryLockError};
-use std::io::{ErrorKind, Write};
-use std::os::unix::fs::{DirBuilderExt, FileExt, MetadataExt, OpenOptionsExt, PermissionsExt};
+use std::fs::{DirBuilder, DirEntry, File, Metadata, Permissions, TryLockError};
+use std::io::ErrorKind;
+use std::os::unix::fs::{DirBuilderExt, FileExt, MetadataExt, PermissionsExt};
 use std::process::{Command, Processes};
 use std::rt::Files;
+use std::time::{Clock, SystemTime, UNIX_EPOCH};
 use std::{fs, io};
+
+// A tick of the clock by which a file system tells moments takes less, in nanoseconds: 10 milliseconds at most.
+const TICK: i64 = 20_000_000;
+
+// How often the clock is looked at, at most: a fifth of a second or so.
+const LOOKS: u32 = 2_000_000;
 
 fn kind_of(seen: &fs::Metadata) -> Kind {
     if seen.is_file() {
@@ -21,19 +32,34 @@ fn kind_of(seen: &fs::Metadata) -> Kind {
     }
 }
 
+// What the path names. With links followed its text serves: what isn't to be followed is opened otherwise.
+fn seen_at<R: Files<File = File> + AllocGlobal>(
+    rt: &R,
+    ways: &mut Ways,
+    path: &Path,
+    follow: bool,
+) -> io::Result<Metadata> {
+    if follow {
+        return fs::metadata(rt, path.as_str());
+    }
+    let at = ways.place(rt, path)?;
+    fs::symlink_metadata(rt, at.as_str())
+}
+
 /// What stands at the path. Nothing is there where a part of the path is missing or no directory.
-pub(crate) fn look_at<R: Files>(rt: &R, path: &str, follow: bool) -> io::Result<Option<Seen>> {
-    let got = if follow {
-        fs::metadata(rt, path)
-    } else {
-        fs::symlink_metadata(rt, path)
-    };
-    match got {
+pub(crate) fn look_at<R: Files<File = File> + AllocGlobal>(
+    rt: &R,
+    ways: &mut Ways,
+    path: &Path,
+    follow: bool,
+) -> io::Result<Option<Seen>> {
+    match seen_at(rt, ways, path, follow) {
         Ok(seen) => Ok(Some(Seen {
             kind: kind_of(&seen),
             size: seen.len(),
             mtime: seen.mtime(),
             mode: Some(seen.mode() & 0o7777),
+            exposed: is_exposed(&seen, ways.caller()),
         })),
         Err(e) if e.kind() == ErrorKind::NotFound || e.kind() == ErrorKind::NotADirectory => {
             Ok(None)
@@ -42,13 +68,22 @@ pub(crate) fn look_at<R: Files>(rt: &R, path: &str, follow: bool) -> io::Result<
     }
 }
 
-/// Adds the names in the directory that are texts without a newline; any other name is passed over.
-pub(crate) fn names_in<R: Files>(
+/// Adds the names in the directory, where it is found.
+pub(crate) fn names_at<R: Files<File = File> + AllocGlobal>(
     rt: &R,
+    ways: &mut Ways,
     alloc: Global,
-    dir: &str,
+    dir: &Path,
     names: &mut Vec<Text>,
 ) -> io::Result<()>
+    ensures { take (length names.old.items) names.new.items ≡ names.old.items }
+{
+    let at = ways.place_dir(rt, dir)?;
+    names_in(rt, alloc, at.as_str(), names)
+}
+
+// Adds the names in the directory that are texts without a newline; any other name is passed over.
+fn names_in<R: Files>(rt: &R, alloc: Global, dir: &str, names: &mut Vec<Text>) -> io::Result<()>
     ensures { take (length names.old.items) names.new.items ≡ names.old.items }
 {
     for entry in fs::read_dir(&(rt, alloc), dir)? {
@@ -98,8 +133,8 @@ fn add_name(alloc: Global, name: &str, names: &mut Vec<Text>) -> io::Result<()>
     }
 }
 
-/// Bytes of a file from a place on.
-pub(crate) fn read_at<R: Files<File = File>>(
+/// Bytes of a file from a place on, with the links in its path followed.
+pub(crate) fn read_followed<R: Files<File = File>>(
     rt: &R,
     path: &str,
     from: u64,
@@ -107,98 +142,193 @@ pub(crate) fn read_at<R: Files<File = File>>(
 ) -> io::Result<usize>
     ensures { IfOk result (λ count. count ≤ length into.new) }
 {
-    let file = File::open(rt, path)?;
-    file.read_at(into, from)
+    let opened = open_followed(rt, path)?;
+    opened.file.read_at(into, from)
 }
 
-/// Appends a first part of the piece.
-pub(crate) fn append_to<R: Files>(rt: &R, path: &str, piece: &[u8]) -> io::Result<usize>
-    ensures bound { IfOk result (λ count. count ≤ length piece.now) }
-    ensures some { IfOk result (λ count. 0 < length piece.now → 0 < count) }
-{
-    let mut file = OpenOptions::new().append(true).open(rt, path)?;
-    let count = file.write(piece)?;
-    if count == 0 && !piece.is_empty() {
-        return Err(io::Error::from(ErrorKind::WriteZero));
-    }
-    Ok(count)
+/// The last file that was renamed: the path that it had, and whose it is.
+#[derive(Drop)]
+pub(crate) struct Moved {
+    pub(crate) from: Path,
+    pub(crate) owner: Owner,
 }
 
-/// Makes an empty file; false where the path is named. A mode is given at the making, and again behind it, since the
-/// process's mask cuts the first.
-pub(crate) fn make_file_at<R: Files<File = File>>(
+/// Renames a file. There is room for what is noted before it is done.
+pub(crate) fn rename_at<R: Files<File = File> + AllocGlobal>(
     rt: &R,
-    path: &str,
+    ways: &mut Ways,
+    from: &Path,
+    to: &Path,
+) -> io::Result<Moved> {
+    let kept = from.copy(rt.alloc())?;
+    let here = ways.place(rt, from)?;
+    let there = ways.place(rt, to)?;
+    let seen = fs::symlink_metadata(rt, here.as_str())?;
+    fs::rename(rt, here.as_str(), there.as_str())?;
+    Ok(Moved {
+        from: kept,
+        owner: owner_of(&seen),
+    })
+}
+
+/// Takes a file's path away.
+pub(crate) fn unlink_at<R: Files<File = File> + AllocGlobal>(
+    rt: &R,
+    ways: &mut Ways,
+    path: &Path,
+) -> io::Result<()> {
+    let at = ways.place(rt, path)?;
+    fs::remove_file(rt, at.as_str())
+}
+
+/// Makes a directory; false where the path is named. A mode is given at the making, and by a handle behind it where the
+/// process's mask cut it.
+pub(crate) fn make_dir_at<R: Files<File = File> + AllocGlobal + Clock>(
+    rt: &R,
+    ways: &mut Ways,
+    path: &Path,
     mode: Option<u32>,
 ) -> io::Result<bool> {
-    let mut options = OpenOptions::new();
-    options.write(true).create_new(true);
-    if let Some(mode) = mode {
-        options.mode(mode);
+    let at = ways.place(rt, path)?;
+    match mode {
+        Some(mode) => make_dir_with(rt, at.as_str(), mode),
+        None => was_made(DirBuilder::new().create(rt, at.as_str())),
     }
-    match options.open(rt, path) {
-        Ok(file) => {
-            if let Some(mode) = mode {
-                file.set_permissions(Permissions::from_mode(mode))?;
-            }
-            Ok(true)
-        }
+}
+
+// False where the path is named.
+fn was_made(got: io::Result<()>) -> io::Result<bool> {
+    match got {
+        Ok(()) => Ok(true),
         Err(e) if e.kind() == ErrorKind::AlreadyExists => Ok(false),
         Err(e) => Err(e),
     }
 }
 
-/// Makes a directory; false where the path is named. A mode is given as to a file.
-pub(crate) fn make_dir_at<R: Files>(rt: &R, path: &str, mode: Option<u32>) -> io::Result<bool> {
-    let mut builder = DirBuilder::new();
-    if let Some(mode) = mode {
-        builder.mode(mode);
+fn make_dir_with<R: Files<File = File> + AllocGlobal + Clock>(
+    rt: &R,
+    path: &str,
+    mode: u32,
+) -> io::Result<bool> {
+    let before = parent_changed(rt, path)?;
+    wait_for_tick(rt, before)?;
+    let made = was_made(DirBuilder::new().mode(mode).create(rt, path))?;
+    if made {
+        set_mode(rt, path, mode, before)?;
     }
-    match builder.create(rt, path) {
-        Ok(()) => {
-            if let Some(mode) = mode {
-                fs::set_permissions(rt, path, Permissions::from_mode(mode))?;
-            }
-            Ok(true)
-        }
-        Err(e) if e.kind() == ErrorKind::AlreadyExists => Ok(false),
-        Err(e) => Err(e),
-    }
+    Ok(made)
 }
 
-/// Empties a file.
-pub(crate) fn truncate_at<R: Files>(rt: &R, path: &str) -> io::Result<()> {
-    let mut options = OpenOptions::new();
-    let _file = options.write(true).truncate(true).open(rt, path)?;
+// Waits until the clock by which a file system tells births has moved on since the parent's last change: so what is made
+// behind it is told as younger. That takes some milliseconds where the parent has just changed, and else nothing.
+fn wait_for_tick<R: Clock>(rt: &R, before: (i64, i64)) -> io::Result<()> {
+    for _ in 0..LOOKS {
+        if has_ticked(rt, before)? {
+            return Ok(());
+        }
+    }
     Ok(())
 }
 
-/// Syncs a file or a directory.
-pub(crate) fn sync_at<R: Files<File = File>>(rt: &R, path: &str) -> io::Result<()> {
-    let file = File::open(rt, path)?;
-    file.sync_all()
+// Whether that moment is more than a tick ago; also where it is ahead, since then there is nothing to wait for.
+fn has_ticked<R: Clock>(rt: &R, before: (i64, i64)) -> io::Result<bool> {
+    let Ok(since) = SystemTime::now(rt)?.duration_since(UNIX_EPOCH) else {
+        return Ok(true);
+    };
+    let seconds = i64::try_from(since.as_secs()).unwrap_or(i64::MAX);
+    let late = seconds.saturating_sub(before.0);
+    let nanoseconds = late
+        .saturating_mul(1_000_000_000)
+        .saturating_add(i64::from(since.subsec_nanos()))
+        .saturating_sub(before.1);
+    Ok(nanoseconds < 0 || nanoseconds > TICK)
 }
 
-/// Runs a program to its end.
-pub(crate) fn run_program<R: Files<File = File> + Processes>(
+// When a name in the parent of this path changed last, in seconds and nanoseconds since 1970: no user can set that.
+fn parent_changed<R: Files>(rt: &R, path: &str) -> io::Result<(i64, i64)> {
+    match std::path::Path::new(path).parent() {
+        Some(parent) => {
+            let seen = fs::metadata(rt, parent)?;
+            Ok((seen.ctime(), seen.ctime_nsec()))
+        }
+        None => Err(io::Error::from(ErrorKind::InvalidInput)),
+    }
+}
+
+// Whether it was made behind that moment. Where the file system tells no births, it isn't asked.
+fn is_younger(seen: &fs::Metadata, before: (i64, i64)) -> bool {
+    let Ok(born) = seen.created() else {
+        return true;
+    };
+    let Ok(since) = born.duration_since(UNIX_EPOCH) else {
+        return false;
+    };
+    let Ok(seconds) = i64::try_from(since.as_secs()) else {
+        return false;
+    };
+    seconds > before.0 || (seconds == before.0 && i64::from(since.subsec_nanos()) > before.1)
+}
+
+// Gives the directory that was just made its mode, where it lacks it. One that stood in the same directory before, and got
+// this name since, was made before its parent changed last.
+fn set_mode<R: Files<File = File> + AllocGlobal>(
+    rt: &R,
+    path: &str,
+    mode: u32,
+    before: (i64, i64),
+) -> io::Result<()> {
+    let opened = open_dir(rt, path, false)?;
+    if opened.seen.mode() & 0o7777 == mode {
+        return Ok(());
+    }
+    if !is_younger(&opened.seen, before) {
+        return Err(io::Error::other("another directory got the path"));
+    }
+    opened.file.set_permissions(Permissions::from_mode(mode))
+}
+
+/// Syncs a directory. Its text ends with `/.`, by which nothing but a directory can be opened, and nothing is waited for.
+pub(crate) fn sync_dir_at<R: Files<File = File> + AllocGlobal>(
+    rt: &R,
+    ways: &mut Ways,
+    path: &Path,
+) -> io::Result<()> {
+    let at = ways.place_dir(rt, path)?;
+    let dir = File::open(rt, at.as_str())?;
+    dir.sync_all()
+}
+
+/// The file that a program is given to read. Without one its input is empty: it doesn't read what this process may be given.
+pub(crate) fn input_of<R: Files<File = File> + AllocGlobal>(
+    rt: &R,
+    ways: &mut Ways,
+    input: Option<&Path>,
+) -> io::Result<File> {
+    match input {
+        Some(path) => {
+            let at = ways.place(rt, path)?;
+            let Opened { file, .. } = open_to_read(rt, at.as_str(), true)?;
+            Ok(file)
+        }
+        None => File::open(rt, "/dev/null"),
+    }
+}
+
+/// Runs a program to its end, with this input.
+pub(crate) fn run_program<R: Processes>(
     rt: &R,
     alloc: Global,
     program: &Path,
     args: &[Text],
-    input: Option<&Path>,
+    input: File,
 ) -> io::Result<Ended> {
     let mut command = Command::new(alloc, program.as_str())?;
-    run_command(rt, &mut command, args, input)
+    command.stdin(input);
+    run_command(rt, &mut command, args)
 }
 
-fn run_command<R: Files<File = File> + Processes>(
-    rt: &R,
-    command: &mut Command,
-    args: &[Text],
-    input: Option<&Path>,
-) -> io::Result<Ended> {
+fn run_command<R: Processes>(rt: &R, command: &mut Command, args: &[Text]) -> io::Result<Ended> {
     add_args(command, args)?;
-    give_input(rt, command, input)?;
     let status = command.status(rt)?;
     Ok(end_of(status.code()))
 }
@@ -207,20 +337,6 @@ fn add_args(command: &mut Command, args: &[Text]) -> io::Result<()> {
     for arg in args {
         command.arg(arg.as_str())?;
     }
-    Ok(())
-}
-
-// Without a file the program's input is empty: it doesn't read what this process may be given.
-fn give_input<R: Files<File = File>>(
-    rt: &R,
-    command: &mut Command,
-    input: Option<&Path>,
-) -> io::Result<()> {
-    let file = match input {
-        Some(path) => File::open(rt, path.as_str())?,
-        None => File::open(rt, "/dev/null")?,
-    };
-    command.stdin(file);
     Ok(())
 }
 
@@ -236,16 +352,13 @@ fn end_of(code: Option<i32>) -> Ended {
 /// that no other user can hold it.
 pub(crate) fn take_lock<R: Files<File = File> + AllocGlobal>(
     rt: &R,
-    state: &str,
+    ways: &mut Ways,
+    state: &Path,
 ) -> io::Result<Option<File>> {
-    let path = format!(in rt.alloc(); "{state}.lock")?;
+    let at = ways.place(rt, state)?;
+    let path = format!(in rt.alloc(); "{at}.lock")?;
     let file = open_lock(rt, path.as_str())?;
     lock_of(file)
-}
-
-fn open_lock<R: Files<File = File>>(rt: &R, path: &str) -> io::Result<File> {
-    let mut options = OpenOptions::new();
-    options.write(true).create(true).mode(0o600).open(rt, path)
 }
 
 // The file with its lock; None where another has it.

@@ -13,22 +13,38 @@
 //! | `end` | closes that file, which gives the lock back, as the end of the process does; the file stays |
 //! | `look` | `lstat`, or `stat` where links are followed; a part that is missing or no directory means that nothing is there |
 //! | `list` | the names of the directory, but for `.` and `..`, those that aren't UTF-8, and those with a newline |
-//! | `read` | opens the file, and reads once from the place on |
-//! | `rename` | `rename` |
-//! | `make_new` | opens with `O_EXCL`, so a link that leads nowhere is a name too; then `fchmod`, since the process's mask cuts the mode |
-//! | `append` | opens for appending, and writes once; a file that is missing isn't made |
-//! | `truncate` | opens the file and cuts it to nothing |
+//! | `read` | reads once from the place on; the file is held open while `lstat` says that the path names it, and another that got its path isn't read on from its middle. Behind a making, up to the sync of what was made, it is read for a copy: then it has one name, and the first such file has the mode that the copy was made with |
+//! | `rename` | `rename`; whose the file is is noted |
+//! | `make_new` | opens with `O_EXCL`, so a link that leads nowhere is a name too; then `fchown` to whom the file belonged that the last rename took from this path, and `fchmod`, since the process's mask cuts the mode; where one is refused the name is taken away again. The file is held open |
+//! | `append` | writes once behind the end: of the file that was made last, where it was made by this path and the path names it still; else of one that the path names, which has one name; one that is missing isn't made |
+//! | `truncate` | cuts to nothing (`ftruncate`) what was read last, where it was read by this path and the path names it still; else a file that the path names; it has one name |
 //! | `unlink` | `unlink` |
-//! | `sync_file`, `sync_dir` | opens the file or the directory for reading, then `fsync` |
-//! | `make_dir` | `mkdir`, then `chmod` |
-//! | `run` | starts the program, with the environment, working directory and output of this one, and waits for its end; without a file its input is empty (`/dev/null`) |
+//! | `sync_file`, `sync_dir` | `fsync` of the file that was made last, where it was made by this path and the path names it still, else of what the path names, or of the directory; a file that was made, and behind whose making another was read, is given to whom that belongs before |
+//! | `make_dir` | `mkdir`, then `fchmod`, where the process's mask cut the mode, on a directory that is younger than its parent's last change before |
+//! | `run` | starts the program, with the environment, working directory and output of this one, and waits for its end; without a file its input is empty (`/dev/null`), and a file that it gets has one name |
+//!
+//! **What others may change.** Each file that is opened, but for what `read` follows, is a regular one that its own path names: its
+//! device and number are those that `lstat` tells behind the opening; else the call fails. The directories above it, but for
+//! what is followed, are walked to part by part: the text of a path serves while each of them is root's or the caller's alone to
+//! write, by owner and mode. From the first one on that isn't, the directory is held open, and what stands in it is reached by
+//! `/proc/self/fd/N/NAME`; without /proc such a call fails. A link on the way is followed only out of a directory that is root's
+//! or the caller's alone. A walk is made once for a directory, as long as no program runs.
+//!
+//! Not kept off: another regular file that the directory's owner gives the path of a log, with the log's mode, before a run
+//! reads it. A device may be opened, and closed, where a link to it comes between the look and the opening.
+//!
+//! Each call that fails is told in a line to standard error, with the system's reason.
 //!
 //! The mode that a look tells is the permission bits, with those behind `u+s`, `g+s` and `+t`.
 #![tactic(auto)]
 
 mod calls;
+mod held;
+mod made;
+mod opened;
 mod real;
 mod sink;
+mod ways;
 
 pub use real::RealHost;
 pub use sink::RealSink;

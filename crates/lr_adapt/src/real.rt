@@ -4,17 +4,22 @@ ghost use Rattle.std.specs.Prelude.{◌≡◌, ◌≤◌, is_some, false, Ok, If
 ghost use Rattle.lr_host.specs.Told.{Rose};
 
 use crate::calls::{
-    append_to, look_at, make_dir_at, make_file_at, names_in, read_at, run_program, sync_at,
-    take_lock, truncate_at,
+    Moved, input_of, look_at, make_dir_at, names_at, read_followed, rename_at, run_program,
+    sync_dir_at, take_lock, unlink_at,
 };
+use crate::held::{Held, read_held, truncate_held};
+use crate::made::{Made, append_made, make_new_at, sync_made};
+use crate::opened::Owner;
+use crate::ways::Ways;
 use lr_host::{CallFault, Host, ListFault, RunFault, Seen};
 use lr_rules::{Ended, Moment, Path, Rules, Text};
 use std::alloc::Global;
 use std::fs::File;
+use std::io;
 use std::io::ErrorKind;
 use std::process::Processes;
 use std::rt::Files;
-use std::{fs, io};
+use std::time::Clock;
 
 /// One more; a count at its type's end stands still.
 pub(crate) fn raise(count: &mut u64)
@@ -34,9 +39,15 @@ pub struct RealHost<R> {
     faults: u64,
     bad_ends: u64,
     held: u64,
+    // The directories that the calls' paths stand in.
+    ways: Ways,
+    moved: Option<Moved>,
+    made: Option<Made>,
+    // The file that the last read opened.
+    reading: Option<Held>,
 }
 
-impl<R> RealHost<R> {
+impl<R: Files> RealHost<R> {
     /// The file system that the runtime reaches.
     pub fn new(rt: R) -> RealHost<R>
         ensures faults { result.faults ≡ 0 }
@@ -44,17 +55,80 @@ impl<R> RealHost<R> {
         ensures held { result.held ≡ 0 }
         ensures lock { is_some result.lock ≡ false }
     {
+        let ways = Ways::new(&rt);
         RealHost {
             rt,
             lock: None,
             faults: 0,
             bad_ends: 0,
             held: 0,
+            ways,
+            moved: None,
+            made: None,
+            reading: None,
+        }
+    }
+}
+
+impl<R> RealHost<R> {
+    // Whose the file was that this path had before the last rename.
+    fn owner_before(&self, path: &Path) -> Option<Owner> {
+        match &self.moved {
+            Some(moved) if moved.from.is(path) => Some(moved.owner),
+            _ => None,
         }
     }
 
-    // The answer of a call, with each error counted as a fault.
-    fn count<T>(&mut self, got: io::Result<T>) -> Result<T, CallFault>
+    // Whether what is read by this path is read for a copy: another file was made, and isn't synced yet.
+    fn copies(&self, path: &Path) -> bool {
+        match &self.made {
+            Some(made) => !made.path.is(path),
+            None => false,
+        }
+    }
+
+    // Lets go of what is held open: a program may put others in its place, and behind a run nothing is held.
+    fn let_go(&mut self)
+        ensures faults { self.old.faults ≡ self.new.faults }
+        ensures bad_ends { self.old.bad_ends ≡ self.new.bad_ends }
+        ensures held { self.old.held ≡ self.new.held }
+        ensures lock { is_some self.old.lock ≡ is_some self.new.lock }
+    {
+        self.ways.forget();
+        self.made = None;
+        self.reading = None;
+    }
+
+    // Whether a file may be read: the first behind a making has the mode with which its copy was made. So a file that stands
+    // in the log's place now can't be copied into one that others may read.
+    fn fits(&self, owner: Owner) -> bool {
+        match &self.made {
+            Some(made) if made.owner.is_none() => match made.mode {
+                Some(mode) => mode == owner.mode,
+                None => true,
+            },
+            _ => true,
+        }
+    }
+
+    // Notes whose the first file is that is read behind a making.
+    fn note_read(&mut self, owner: Owner)
+        ensures faults { self.old.faults ≡ self.new.faults }
+        ensures bad_ends { self.old.bad_ends ≡ self.new.bad_ends }
+        ensures held { self.old.held ≡ self.new.held }
+        ensures lock { is_some self.old.lock ≡ is_some self.new.lock }
+    {
+        if let Some(made) = &mut self.made {
+            if made.owner.is_none() {
+                made.owner = Some(owner);
+            }
+        }
+    }
+}
+
+impl<R: Eprint> RealHost<R> {
+    // The answer of a call, with each error counted as a fault and told, in a line to standard error.
+    fn count<T>(&mut self, call: &str, path: &Path, got: io::Result<T>) -> Result<T, CallFault>
         ensures failed { OnErr result (Rose self.old.faults self.new.faults) }
         ensures grows { self.old.faults ≤ self.new.faults }
         ensures bad_ends { self.old.bad_ends ≡ self.new.bad_ends }
@@ -64,13 +138,22 @@ impl<R> RealHost<R> {
     {
         match got {
             Ok(value) => Ok(value),
-            Err(_) => {
+            Err(e) => {
+                self.tell(call, path, e);
                 raise(&mut self.faults);
                 Err(CallFault::Failed)
             }
         }
     }
 
+    // A line to standard error; where that takes none, the report still has the fault.
+    fn tell(&self, call: &str, path: &Path, why: io::Error) {
+        let path = path.as_str();
+        let _ = eprintln!(self.rt; "logrotate: {call} {path}: {why}");
+    }
+}
+
+impl<R> RealHost<R> {
     // Keeps the lock, whether it was got; another holds it where it wasn't.
     fn keep(&mut self, lock: Option<File>) -> bool
         ensures lock { is_some self.new.lock ≡ result }
@@ -89,7 +172,7 @@ impl<R> RealHost<R> {
 }
 
 #[tactic(auto, using(lr_host::proofs::Entered::untold))]
-impl<R: Files<File = File> + Processes + AllocGlobal + Drop> Host for RealHost<R> {
+impl<R: Files<File = File> + Processes + AllocGlobal + Eprint + Clock + Drop> Host for RealHost<R> {
     ghost use Rattle.std.specs.Prelude.{None, is_some};
     ghost use Rattle.lr_host.specs.Told.{Counts};
 
@@ -104,76 +187,125 @@ impl<R: Files<File = File> + Processes + AllocGlobal + Drop> Host for RealHost<R
             raise(&mut self.held);
             return Ok(false);
         }
-        let got = take_lock(&self.rt, state.as_str());
-        match self.count(got) {
+        let got = take_lock(&self.rt, &mut self.ways, state);
+        match self.count("lock", state, got) {
             Ok(lock) => Ok(self.keep(lock)),
             Err(fault) => Err(fault),
         }
     }
 
     fn end(&mut self) {
+        self.let_go();
         self.lock = None;
     }
 
     fn look(&mut self, path: &Path, follow: bool) -> Result<Option<Seen>, CallFault> {
-        let got = look_at(&self.rt, path.as_str(), follow);
-        self.count(got)
+        let got = look_at(&self.rt, &mut self.ways, path, follow);
+        self.count("look", path, got)
     }
 
     fn list(&mut self, alloc: Global, dir: &Path, names: &mut Vec<Text>) -> Result<(), ListFault> {
-        match names_in(&self.rt, alloc, dir.as_str(), names) {
+        match names_at(&self.rt, &mut self.ways, alloc, dir, names) {
             Ok(()) => Ok(()),
             Err(e) if e.kind() == ErrorKind::OutOfMemory => Err(ListFault::Memory),
-            Err(_) => {
+            Err(e) => {
+                self.tell("list", dir, e);
                 raise(&mut self.faults);
                 Err(ListFault::Failed)
             }
         }
     }
 
-    fn read(&mut self, path: &Path, from: u64, into: &mut [u8]) -> Result<usize, CallFault> {
-        let got = read_at(&self.rt, path.as_str(), from, into);
-        self.count(got)
+    fn read(
+        &mut self,
+        path: &Path,
+        follow: bool,
+        from: u64,
+        into: &mut [u8],
+    ) -> Result<usize, CallFault> {
+        if follow {
+            let got = read_followed(&self.rt, path.as_str(), from, into);
+            return self.count("read", path, got);
+        }
+        let sole = self.copies(path);
+        let got = read_held(
+            &self.rt,
+            &mut self.ways,
+            &mut self.reading,
+            path,
+            sole,
+            from,
+            into,
+        );
+        match self.count("read", path, got) {
+            Ok((count, owner)) => {
+                if !self.fits(owner) {
+                    self.tell("read", path, io::Error::other("not of its copy's mode"));
+                    raise(&mut self.faults);
+                    return Err(CallFault::Failed);
+                }
+                self.note_read(owner);
+                Ok(count)
+            }
+            Err(fault) => Err(fault),
+        }
     }
 
     fn rename(&mut self, from: &Path, to: &Path) -> Result<(), CallFault> {
-        let got = fs::rename(&self.rt, from.as_str(), to.as_str());
-        self.count(got)
+        let got = rename_at(&self.rt, &mut self.ways, from, to);
+        match self.count("rename", from, got) {
+            Ok(moved) => {
+                self.moved = Some(moved);
+                Ok(())
+            }
+            Err(fault) => Err(fault),
+        }
     }
 
+    /// The file belongs to whom the file belonged that had this path before the last rename, if that is so.
     fn make_new(&mut self, path: &Path, mode: Option<u32>) -> Result<bool, CallFault> {
-        let got = make_file_at(&self.rt, path.as_str(), mode);
-        self.count(got)
+        let owner = self.owner_before(path);
+        let got = make_new_at(&self.rt, &mut self.ways, path, mode, owner);
+        match self.count("make", path, got) {
+            Ok(Some(made)) => {
+                self.made = Some(made);
+                Ok(true)
+            }
+            Ok(None) => Ok(false),
+            Err(fault) => Err(fault),
+        }
     }
 
     fn append(&mut self, path: &Path, piece: &[u8]) -> Result<usize, CallFault> {
-        let got = append_to(&self.rt, path.as_str(), piece);
-        self.count(got)
+        let got = append_made(&self.rt, &mut self.ways, &mut self.made, path, piece);
+        self.count("append", path, got)
     }
 
     fn truncate(&mut self, path: &Path) -> Result<(), CallFault> {
-        let got = truncate_at(&self.rt, path.as_str());
-        self.count(got)
+        let got = truncate_held(&self.rt, &mut self.ways, &self.reading, path);
+        self.count("truncate", path, got)
     }
 
     fn unlink(&mut self, path: &Path) -> Result<(), CallFault> {
-        let got = fs::remove_file(&self.rt, path.as_str());
-        self.count(got)
+        let got = unlink_at(&self.rt, &mut self.ways, path);
+        self.count("unlink", path, got)
     }
 
+    /// A file that was made, and behind whose making another was read, is a copy of that: it gets its owner.
     fn sync_file(&mut self, path: &Path) -> Result<(), CallFault> {
-        let got = sync_at(&self.rt, path.as_str());
-        self.count(got)
+        let got = sync_made(&self.rt, &mut self.ways, &self.made, path);
+        self.made = None;
+        self.count("sync", path, got)
     }
 
     fn sync_dir(&mut self, path: &Path) -> Result<(), CallFault> {
-        let got = sync_at(&self.rt, path.as_str());
-        self.count(got)
+        let got = sync_dir_at(&self.rt, &mut self.ways, path);
+        self.count("sync", path, got)
     }
 
     fn make_dir(&mut self, path: &Path, mode: Option<u32>) -> Result<bool, CallFault> {
-        let got = make_dir_at(&self.rt, path.as_str(), mode);
-        self.count(got)
+        let got = make_dir_at(&self.rt, &mut self.ways, path, mode);
+        self.count("make directory", path, got)
     }
 
     fn run(
@@ -183,14 +315,24 @@ impl<R: Files<File = File> + Processes + AllocGlobal + Drop> Host for RealHost<R
         args: &[Text],
         input: Option<&Path>,
     ) -> Result<Ended, RunFault> {
-        match run_program(&self.rt, alloc, program, args, input) {
+        let given = match input_of(&self.rt, &mut self.ways, input) {
+            Ok(given) => given,
+            Err(e) => {
+                self.tell("give", input.unwrap_or(program), e);
+                raise(&mut self.faults);
+                return Err(RunFault::Failed);
+            }
+        };
+        self.let_go();
+        match run_program(&self.rt, alloc, program, args, given) {
             Ok(Ended::Exit(0)) => Ok(Ended::Exit(0)),
             Ok(ended) => {
                 raise(&mut self.bad_ends);
                 Ok(ended)
             }
             Err(e) if e.kind() == ErrorKind::OutOfMemory => Err(RunFault::Memory),
-            Err(_) => {
+            Err(e) => {
+                self.tell("run", program, e);
                 raise(&mut self.faults);
                 Err(RunFault::Failed)
             }

@@ -1,0 +1,171 @@
+// The files that are made, and to whom they are given.
+//
+// The file that was made last is held open: only that file gets what is appended to its path and the owner of a copy, whatever
+// else gets the path meanwhile.
+ghost use Rattle.std.specs.Prelude.{◌≤◌, ◌<◌, length, IfOk};
+
+use crate::opened::{Opened, Owner, is_same, named, open_to_append, still_named};
+use crate::ways::Ways;
+use lr_rules::Path;
+use std::fs::{File, OpenOptions, Permissions};
+use std::io::{Error, ErrorKind, Write};
+use std::os::unix::fs::{MetadataExt, OpenOptionsExt, PermissionsExt, fchown};
+use std::rt::Files;
+use std::{fs, io};
+
+/// The last file that was made: its path and mode, and whose the file is that was read first since.
+#[derive(Drop)]
+pub(crate) struct Made {
+    pub(crate) path: Path,
+    pub(crate) mode: Option<u32>,
+    pub(crate) owner: Option<Owner>,
+    pub(crate) opened: Opened,
+}
+
+// Gives an open file to this owner, where it isn't theirs, and then this mode, since a change of owner takes bits away.
+fn give(file: &File, owner: Option<Owner>, mode: Option<u32>) -> io::Result<()> {
+    if let Some(owner) = owner {
+        let seen = file.metadata()?;
+        if seen.uid() != owner.user || seen.gid() != owner.group {
+            fchown(file, Some(owner.user), Some(owner.group))?;
+        }
+    }
+    if let Some(mode) = mode {
+        file.set_permissions(Permissions::from_mode(mode))?;
+    }
+    Ok(())
+}
+
+// Takes the name of a file away that is half made, where it is still its name.
+fn unmake<R: Files>(rt: &R, at: &str, file: &File) -> io::Result<()> {
+    let seen = file.metadata()?;
+    if is_same(&seen, &named(rt, at, false)?) {
+        fs::remove_file(rt, at)?;
+    }
+    Ok(())
+}
+
+// What the file is, with its owner and mode.
+fn given(file: &File, mode: Option<u32>, owner: Option<Owner>) -> io::Result<fs::Metadata> {
+    give(file, owner, mode)?;
+    file.metadata()
+}
+
+// The file with its owner and mode; else its name is gone.
+fn finished<R: Files>(
+    rt: &R,
+    at: &str,
+    file: File,
+    mode: Option<u32>,
+    owner: Option<Owner>,
+) -> io::Result<Opened> {
+    match given(&file, mode, owner) {
+        Ok(seen) => Ok(Opened { file, seen }),
+        Err(e) => {
+            let _ = unmake(rt, at, &file);
+            Err(e)
+        }
+    }
+}
+
+// Makes an empty file; None where the path is named. A mode is given at the making, and again behind it, since the process's
+// mask cuts the first.
+fn make_file<R: Files<File = File>>(
+    rt: &R,
+    at: &str,
+    mode: Option<u32>,
+    owner: Option<Owner>,
+) -> io::Result<Option<Opened>> {
+    let mut options = OpenOptions::new();
+    options.append(true).create_new(true);
+    if let Some(mode) = mode {
+        options.mode(mode);
+    }
+    match options.open(rt, at) {
+        Ok(file) => Ok(Some(finished(rt, at, file, mode, owner)?)),
+        Err(e) if e.kind() == ErrorKind::AlreadyExists => Ok(None),
+        Err(e) => Err(e),
+    }
+}
+
+/// Makes an empty file, and gives it to this owner; None where the path is named. One that can't be given its owner or mode is
+/// unlinked.
+pub(crate) fn make_new_at<R: Files<File = File> + AllocGlobal>(
+    rt: &R,
+    ways: &mut Ways,
+    path: &Path,
+    mode: Option<u32>,
+    owner: Option<Owner>,
+) -> io::Result<Option<Made>> {
+    let at = ways.place(rt, path)?;
+    let kept = path.copy(rt.alloc())?;
+    match make_file(rt, at.as_str(), mode, owner)? {
+        Some(opened) => Ok(Some(Made {
+            path: kept,
+            mode,
+            owner: None,
+            opened,
+        })),
+        None => Ok(None),
+    }
+}
+
+/// Appends a first part of the piece: to the file that was made last, where it was made by this path, else to what the path
+/// itself names.
+pub(crate) fn append_made<R: Files<File = File> + AllocGlobal>(
+    rt: &R,
+    ways: &mut Ways,
+    made: &mut Option<Made>,
+    path: &Path,
+    piece: &[u8],
+) -> io::Result<usize>
+    ensures bound { IfOk result (λ count. count ≤ length piece.now) }
+    ensures some { IfOk result (λ count. 0 < length piece.now → 0 < count) }
+{
+    let at = ways.place(rt, path)?;
+    match made {
+        Some(made) if made.path.is(path) => {
+            still_named(rt, at.as_str(), &made.opened.seen, false)?;
+            append(&mut made.opened.file, piece)
+        }
+        _ => {
+            let mut opened = open_to_append(rt, at.as_str(), true)?;
+            append(&mut opened.file, piece)
+        }
+    }
+}
+
+fn append(file: &mut File, piece: &[u8]) -> io::Result<usize>
+    ensures bound { IfOk result (λ count. count ≤ length piece.now) }
+    ensures some { IfOk result (λ count. 0 < length piece.now → 0 < count) }
+{
+    let count = file.write(piece)?;
+    if count == 0 && !piece.is_empty() {
+        return Err(Error::from(ErrorKind::WriteZero));
+    }
+    Ok(count)
+}
+
+/// Syncs a file. The one that was made last, where it was made by this path, is a copy if another was read since: it is given to
+/// whom that belongs before.
+pub(crate) fn sync_made<R: Files<File = File> + AllocGlobal>(
+    rt: &R,
+    ways: &mut Ways,
+    made: &Option<Made>,
+    path: &Path,
+) -> io::Result<()> {
+    let at = ways.place(rt, path)?;
+    match made {
+        Some(made) if made.path.is(path) => {
+            still_named(rt, at.as_str(), &made.opened.seen, false)?;
+            if made.owner.is_some() {
+                give(&made.opened.file, made.owner, made.mode)?;
+            }
+            made.opened.file.sync_all()
+        }
+        _ => {
+            let opened = open_to_append(rt, at.as_str(), false)?;
+            opened.file.sync_all()
+        }
+    }
+}
