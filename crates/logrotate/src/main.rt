@@ -2,41 +2,30 @@
 //!
 //! `logrotate CONF..`, or `logrotate -f CONF..` by force, ends with 0 where there was no fault, with 1 where there was one,
 //! with 2 for other words, with 3 where another run holds the lock, and with 4 for want of memory. Standard output gets a
-//! line for each notice and each fault, or one line that says why there is no report.
+//! line for each notice and each fault, or one line that says why there is no report. Standard error gets a line for each call
+//! that failed, with the system's reason, and the usage behind other words. `--help` and `--version`, each alone, are answered
+//! here.
+//!
+//! The time zone is that of the variable TZ, which may also be the name of a file below /usr/share/zoneinfo, and where it isn't
+//! set that of /etc/localtime.
 //! The contract above it is that of `lr_cli::logrotate`; begin there.
 #![tactic(auto)]
 
+mod said;
+mod stop;
+mod zone;
+
+use crate::said::{USAGE, put_version};
+use crate::stop::{Stop, outcome_of, stop_of};
+use crate::zone::zone_given;
 use lr_adapt::{RealHost, RealSink};
-use lr_cli::{Outcome, Zone, logrotate, printed, status, zone_of};
+use lr_cli::{Outcome, Zone, logrotate, printed, status};
 use lr_host::Sink;
 use lr_rules::{Path, PathFault, Text};
 use std::alloc::Global;
 use std::env;
-use std::env::VarError;
-use std::io::ErrorKind;
 use std::process::ExitCode;
 use std::time::{SystemTime, UNIX_EPOCH};
-
-// Why the machine gives no words, directory or zone: they are no texts or no paths, or there is no memory.
-enum Stop {
-    BadWords,
-    Memory,
-}
-
-fn outcome_of(stop: Stop) -> Outcome {
-    match stop {
-        Stop::BadWords => Outcome::BadWords,
-        Stop::Memory => Outcome::OutOfMemory,
-    }
-}
-
-fn stop_of(kind: ErrorKind) -> Stop {
-    if kind == ErrorKind::OutOfMemory {
-        Stop::Memory
-    } else {
-        Stop::BadWords
-    }
-}
 
 // The words of the command line behind the program's name.
 fn words_of(rt: &HostRuntime, alloc: Global) -> Result<Vec<Text>, Stop> {
@@ -76,28 +65,6 @@ fn here_of(rt: &HostRuntime, alloc: Global) -> Result<Path, Stop> {
     }
 }
 
-// The value of the variable TZ, where it is set.
-fn zone_text(rt: &HostRuntime, alloc: Global) -> Result<Option<Text>, Stop> {
-    match env::var(rt, "TZ") {
-        Ok(value) => match Text::new(alloc, value.as_bytes()) {
-            Ok(text) => Ok(Some(text)),
-            Err(_) => Err(Stop::Memory),
-        },
-        Err(VarError::NotPresent) => Ok(None),
-        Err(VarError::NotUnicode) => Err(Stop::BadWords),
-        Err(VarError::OutOfMemory) => Err(Stop::Memory),
-    }
-}
-
-fn zone_given(rt: &HostRuntime, alloc: Global) -> Result<Zone, Stop> {
-    let value = zone_text(rt, alloc)?;
-    match zone_of(alloc, value.as_ref()) {
-        Ok(zone) => Ok(zone),
-        Err(PathFault::Memory) => Err(Stop::Memory),
-        Err(_) => Err(Stop::BadWords),
-    }
-}
-
 // The clock's seconds since 1970; -1 where it can't be read or shows an earlier time.
 fn seconds(rt: &HostRuntime) -> i64 {
     let Ok(now) = SystemTime::now(rt) else {
@@ -114,17 +81,15 @@ fn seconds(rt: &HostRuntime) -> i64 {
 struct Asked {
     zone: Zone,
     here: Path,
-    words: Vec<Text>,
 }
 
 fn asked_of(rt: &HostRuntime, alloc: Global) -> Result<Asked, Stop> {
-    let words = words_of(rt, alloc)?;
     let here = here_of(rt, alloc)?;
     let zone = zone_given(rt, alloc)?;
-    Ok(Asked { zone, here, words })
+    Ok(Asked { zone, here })
 }
 
-fn run<K: Sink>(rt: &HostRuntime, out: &mut K) -> Outcome {
+fn run<K: Sink>(rt: &HostRuntime, words: &[Text], out: &mut K) -> Outcome {
     let alloc = rt.alloc();
     let asked = match asked_of(rt, alloc) {
         Ok(asked) => asked,
@@ -136,7 +101,7 @@ fn run<K: Sink>(rt: &HostRuntime, out: &mut K) -> Outcome {
     let mut host = RealHost::new(files);
     logrotate(
         alloc,
-        &asked.words,
+        words,
         &asked.here,
         &asked.zone,
         seconds(rt),
@@ -145,11 +110,39 @@ fn run<K: Sink>(rt: &HostRuntime, out: &mut K) -> Outcome {
     )
 }
 
+// The status of a call. Behind bad words the usage is told, on standard error.
+fn ended(rt: &HostRuntime, outcome: &Outcome) -> ExitCode {
+    if let Outcome::BadWords = outcome {
+        let _ = eprint!(rt; "{USAGE}");
+    }
+    ExitCode::from(status(outcome))
+}
+
+// The words whose answer is of the program itself.
+fn is_alone(words: &[Text], wanted: &[u8]) -> bool {
+    match words {
+        [word] => word.bytes() == wanted,
+        _ => false,
+    }
+}
+
 // Without a runtime for it there is no output, so nothing is said then.
 fn main(rt: HostRuntime) -> ExitCode {
-    let outcome = match rt.clone() {
-        Ok(output) => run(&rt, &mut RealSink::new(output)),
-        Err(_) => Outcome::OutOfMemory,
+    let Ok(output) = rt.clone() else {
+        return ExitCode::from(status(&Outcome::OutOfMemory));
     };
-    ExitCode::from(status(&outcome))
+    let mut out = RealSink::new(output);
+    let words = match words_of(&rt, rt.alloc()) {
+        Ok(words) => words,
+        Err(stop) => return ended(&rt, &printed(outcome_of(stop), &mut out)),
+    };
+    if is_alone(&words, b"--help".as_slice()) {
+        let _ = print!(rt; "{USAGE}");
+        return ExitCode::from(0);
+    }
+    if is_alone(&words, b"--version".as_slice()) {
+        put_version(&rt);
+        return ExitCode::from(0);
+    }
+    ended(&rt, &run(&rt, &words, &mut out))
 }
