@@ -1,12 +1,14 @@
 #!/bin/sh
-# Installs the program, its manual page, a systemd service with its daily timer, completion for bash, /etc/logrotate.conf, an
-# empty /etc/logrotate.d and /var/lib/logrotate; or takes away again what it installed.
+# Installs the program, its manual page, a systemd service with its daily timer, completion for bash, pages for administrators,
+# /etc/logrotate.conf, an empty /etc/logrotate.d and /var/lib/logrotate; or takes away again what it installed.
 #
-#     install.sh [PREFIX]                 below PREFIX, which is /usr/local where none is given
+#     install.sh [--trial] [--as NAME] [PREFIX]       below PREFIX, which is /usr/local where none is given
 #     install.sh --uninstall [PREFIX]
 #
-# DESTDIR is put before each path, for a scratch root or a package. The program is built by demo/build, without its proof and
-# with run-time checks, unless PROGRAM names one: demo/rotate-once leaves a proved one at crates/logrotate/out/logrotate.
+# The program is that of the release which this script is part of. In the sources there is none: it is proved and built then,
+# or with --trial built without its proof, for a look. PROGRAM names another in place of these. `--as ninethread` gives it
+# another name than `logrotate`, so that it stands beside the distribution's. DESTDIR is put before each path, for a scratch
+# root or a package.
 #
 # No file that stands is overwritten, but one that this script installed and that is unchanged since. One that stands with
 # other bytes is left, and the new one is put beside it with `.new` behind its name. Each path is told in a line. What is
@@ -19,7 +21,11 @@ umask 022
 here=$(cd "$(dirname "$0")" && pwd)
 
 usage() {
-    echo 'usage: install.sh [--uninstall] [PREFIX]' >&2
+    sed -n '5,6s/^# *//p' "$here/install.sh"
+}
+
+refuse() {
+    usage >&2
     exit 2
 }
 
@@ -28,17 +34,34 @@ fail() {
     exit 1
 }
 
-prefix='' uninstall=''
-for word in "$@"; do
-    case $word in
+prefix='' uninstall='' trial='' name=logrotate
+while [ $# -gt 0 ]; do
+    case $1 in
     --uninstall) uninstall=yes ;;
-    -*) usage ;;
+    --trial) trial=yes ;;
+    --as)
+        [ $# -gt 1 ] || refuse
+        name=$2
+        shift
+        ;;
+    --help | -h)
+        usage
+        exit 0
+        ;;
+    -*) refuse ;;
     *)
-        [ -z "$prefix" ] || usage
-        prefix=$word
+        [ -z "$prefix" ] || refuse
+        prefix=$1
         ;;
     esac
+    shift
 done
+case $name in
+'' | -* | *[!a-z0-9-]*)
+    echo "install.sh: $name: a name has small letters, digits and - alone" >&2
+    exit 2
+    ;;
+esac
 prefix=${prefix:-/usr/local}
 # It stands in a line of the unit.
 case $prefix in
@@ -149,38 +172,105 @@ file() {
     fi
 }
 
+# ---- the program
+
+# Without words it ends with 2.
+runs_here() {
+    status=0
+    "$1" >/dev/null 2>&1 </dev/null || status=$?
+    [ "$status" = 2 ]
+}
+
+need_toolchain() {
+    command -v rt >/dev/null || fail "there is no program here, and no Rattle toolchain (rt) to build it: take a release, or name a program (PROGRAM=..)"
+}
+
+# Sets `program` to what is installed.
+choose_program() {
+    if [ -n "${PROGRAM:-}" ]; then
+        program=$(realpath "$PROGRAM")
+    elif [ -n "$trial" ]; then
+        need_toolchain
+        echo 'a trial build: not proved, with AddressSanitizer, 30 to 100 times slower, and without much memory it ends: for a look, not for a server'
+        program=$scratch/program
+        "$here/demo/build" "$program"
+    elif [ -f "$here/logrotate" ]; then
+        program=$here/logrotate
+        if ! runs_here "$program" && [ -f "$program-static" ]; then
+            echo "the program needs a newer libc than this machine's, so the one that brings its own is taken"
+            program=$program-static
+        fi
+    else
+        need_toolchain
+        echo 'the program is proved and built: some seconds where this tree has passed the gate on this machine, else about an hour of four processors'
+        # Each other status than the program's own is that of a build that failed; demo/logrotate says why.
+        status=0
+        "$here/demo/logrotate" >/dev/null || status=$?
+        [ "$status" = 2 ] || fail 'the program was not built'
+        program=$here/crates/logrotate/out/logrotate
+    fi
+    runs_here "$program" || fail "$program does not run on this machine"
+}
+
+# The texts that have the program's name in them, under the one that it gets. Its messages begin with `logrotate` all the same.
+name_texts() {
+    sed "s#^ExecStart=/usr/local/sbin/logrotate#ExecStart=$prefix/sbin/$name#; s#man:logrotate(8)#man:$name(8)#" \
+        "$here/systemd/ninethread.service" >"$scratch/service"
+    sed "s#man:logrotate(8)#man:$name(8)#" "$here/systemd/ninethread.timer" >"$scratch/timer"
+    cp "$here/man/logrotate.8" "$scratch/page"
+    cp "$here/completions/logrotate" "$scratch/completion"
+    [ "$name" != logrotate ] || return 0
+    upper=$(echo "$name" | tr a-z A-Z)
+    sed "s/^\.TH LOGROTATE /.TH $upper /; s/^logrotate \\\\-/$name \\\\-/; s/^\.B logrotate\$/.B $name/" \
+        "$here/man/logrotate.8" >"$scratch/page"
+    sed "s/_logrotate/_$(echo "$name" | tr - _)/; s/ logrotate\$/ $name/" "$here/completions/logrotate" >"$scratch/completion"
+}
+
+# ---- what is left to do
+
+# What the distribution starts each night: no log may be rotated by both.
+tell_the_rest() {
+    [ -f /etc/localtime ] || echo 'there is no /etc/localtime: put it there, or take TZ out of ninethread.service'
+    steps=''
+    for unit in /etc/systemd/system/logrotate.timer /usr/lib/systemd/system/logrotate.timer /lib/systemd/system/logrotate.timer; do
+        [ ! -e "$unit" ] || steps='systemctl disable --now logrotate.timer'
+    done
+    for job in /etc/cron.daily/logrotate /etc/cron.hourly/logrotate /etc/periodic/daily/logrotate; do
+        [ ! -x "$job" ] || steps="${steps:+$steps && }chmod -x $job"
+    done
+    echo "nothing runs by itself yet. A look first, which changes nothing: $prefix/sbin/$name -d /etc/logrotate.conf"
+    [ -z "$steps" ] || echo "the distribution's logrotate runs each night, and no log may be rotated by both: $steps"
+    if [ -d "$root/run/systemd/system" ]; then
+        echo 'then, each night: systemctl daemon-reload && systemctl enable --now ninethread.timer'
+    else
+        echo "then, each night, by cron (no systemd runs here): $prefix/sbin/$name /etc/logrotate.conf"
+    fi
+}
+
+# ---- all of it
+
 install_all() {
     scratch=$(mktemp -d)
     trap 'rm -rf "$scratch"' EXIT
-    trap 'exit 130' INT TERM
-    program=${PROGRAM:-}
-    if [ -z "$program" ]; then
-        echo 'the program is built without its proof, with run-time checks'
-        program=$scratch/program
-        "$here/demo/build" "$program"
-    fi
-    program=$(realpath "$program")
-    # Without words it ends with 2.
-    status=0
-    "$program" >/dev/null 2>&1 </dev/null || status=$?
-    [ "$status" = 2 ] || fail "$program does not run on this machine"
-    sed "s#^ExecStart=/usr/local/#ExecStart=$prefix/#" "$here/systemd/ninethread.service" >"$scratch/service"
+    trap 'exit 130' INT TERM HUP
+    choose_program
+    name_texts
 
     [ -z "$root" ] || mkdir -p "$root"
     make_directory "$own"
     enter_made
-    file "$program" "$prefix/sbin/logrotate" 755
-    file "$here/man/logrotate.8" "$prefix/share/man/man8/logrotate.8" 644
-    file "$here/completions/logrotate" "$prefix/share/bash-completion/completions/logrotate" 644
+    file "$program" "$prefix/sbin/$name" 755
+    file "$scratch/page" "$prefix/share/man/man8/$name.8" 644
+    file "$scratch/completion" "$prefix/share/bash-completion/completions/$name" 644
     file "$scratch/service" "$prefix/lib/systemd/system/ninethread.service" 644
-    file "$here/systemd/ninethread.timer" "$prefix/lib/systemd/system/ninethread.timer" 644
+    file "$scratch/timer" "$prefix/lib/systemd/system/ninethread.timer" 644
+    for page in docs/FAULTS.md docs/MOVING.md SECURITY.md CHANGELOG.md PROVED-BY; do
+        [ ! -f "$here/$page" ] || file "$here/$page" "$prefix/share/doc/ninethread/${page#docs/}" 644
+    done
     directory /etc/logrotate.d
     file "$here/etc/logrotate.conf" /etc/logrotate.conf 644
     directory /var/lib/logrotate
-    if [ -z "$root" ]; then
-        [ -f /etc/localtime ] || echo 'there is no /etc/localtime: put it there, or take TZ out of ninethread.service'
-        echo 'each night: systemctl daemon-reload && systemctl enable --now ninethread.timer'
-    fi
+    [ -n "$root" ] || tell_the_rest
 }
 
 # ---- taking away
