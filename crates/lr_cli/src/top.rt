@@ -52,21 +52,6 @@ pub fn logrotate<H: Host, K: Sink>(
     // A journal that the host tells is one of a disk.
     requires { WhereTold (H.told host.old) IsJournal }
 
-    // Where its faults tell of nothing that failed, and of nothing that stood where the plan was to make a directory, the call
-    // did its plan, and nothing else: its acts are the plan's, in order; each of its logs was rotated, or its family turned by a
-    // copy of it, file by file, where no writer was attached to a member; each that is made anew is named; the state tells of all
-    // of them, where no writer was attached to its paths; and all else was left alone. Faults of the configuration, of the looks
-    // and of the plan may stand there, and no others do.
-    ensures fulfilled { (request : Request) (report : Report) (before after : Journal) → AskFor here.now words.now request → request.debug ≡ false → without_out result ≡ Outcome.Done report → FailNothing request.state report.faults
-        → H.told host.old ≡ Some before → H.told host.new ≡ Some after → IsJournal (past before) → MakesDirs request zone.now now report before after → FulfillsPlan request zone.now now report before after }
-
-    // Where none of its faults ends a run, neither count of failures rose, and nothing was in its way, its faults tell of nothing
-    // that failed, and it did its plan. Nothing is in its way where writers spared the files that it writes first and the
-    // directories of the logs, nothing but a file stood at the part file's path of a log that is copied, none of these was too
-    // long for it, and no dated name ends as a part file's does.
-    ensures smooth { (request : Request) (report : Report) (before after : Journal) → AskFor here.now words.now request → request.debug ≡ false → without_out result ≡ Outcome.Done report → NoneEnds request.state report.faults → NoneRose (H.counts host.old) (H.counts host.new)
-        → H.told host.old ≡ Some before → H.told host.new ≡ Some after → IsJournal (past before) → IsSmoothCall request zone.now now report before after → IsDone request zone.now now report before after }
-
     // A set that was safe in the journal before is safe in the journal after, where it is steady there, and none of its stamps
     // had gone ahead of the call's clock: whatever failed, and wherever the run stopped. Of a numbered set the clock asks nothing.
     ensures safe { KeepsSafeByClock zone.now now (H.told host.old) (H.told host.new) }
@@ -85,6 +70,21 @@ pub fn logrotate<H: Host, K: Sink>(
 
     // Of the plan that the call came to: what the calls showed, what the answer has to do with it, and what was printed.
     ensures told { Says here.now words.now zone.now now result (H.told host.old) (H.told host.new) (K.taken out.old) (K.taken out.new) (K.faults out.old) (K.faults out.new) }
+
+    // Where its faults tell of nothing that failed, and of nothing that stood where the plan was to make a directory, the call
+    // did its plan, and nothing else: its acts are the plan's, in order; each of its logs was rotated, or its family turned by a
+    // copy of it, file by file, where no writer was attached to a member; each that is made anew is named; the state tells of all
+    // of them, where no writer was attached to its paths; and all else was left alone. Faults of the configuration, of the looks
+    // and of the plan may stand there, and no others do.
+    ensures fulfilled { (request : Request) (report : Report) (before after : Journal) → AskFor here.now words.now request → request.debug ≡ false → without_out result ≡ Outcome.Done report → FailNothing request.state report.faults
+        → H.told host.old ≡ Some before → H.told host.new ≡ Some after → IsJournal (past before) → MakesDirs request zone.now now report before after → FulfillsPlan request zone.now now report before after }
+
+    // Where none of its faults ends a run, neither count of failures rose, and nothing was in its way, its faults tell of nothing
+    // that failed, and it did its plan. Nothing is in its way where writers spared the files that it writes first and the
+    // directories of the logs, nothing but a file stood at the part file's path of a log that is copied, none of these was too
+    // long for it, and no dated name ends as a part file's does.
+    ensures smooth { (request : Request) (report : Report) (before after : Journal) → AskFor here.now words.now request → request.debug ≡ false → without_out result ≡ Outcome.Done report → NoneEnds request.state report.faults → NoneRose (H.counts host.old) (H.counts host.new)
+        → H.told host.old ≡ Some before → H.told host.new ≡ Some after → IsJournal (past before) → IsSmoothCall request zone.now now report before after → IsDone request zone.now now report before after }
 
     // A dry run only looks, lists and reads: it takes no lock, changes nothing, and starts no program.
     ensures dry { (request : Request) → AskFor here.now words.now request → request.debug ≡ true → Left AreSights (H.told host.old) (H.told host.new) }
