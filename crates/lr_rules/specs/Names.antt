@@ -1,10 +1,12 @@
 -- How the members of a log are named, and when the names of two logs meet.
-use Rattle.std.specs.Prelude.{◌≡◌, ◌⊎◌, ◌+◌, ◌-◌, ◌≤◌, ◌<◌, ℕ, List, [], ◌∷◌, ◌++◌, length, take, drop, filter, flat_map, All, Option, Some, None, Bool, true, not, cond, ◌&&◌, ◌||◌, nat_le, bytes_eq, decimal}
+use Rattle.std.specs.Prelude.{◌≡◌, ◌⊎◌, ◌+◌, ◌-◌, ◌≤◌, ◌<◌, ℕ, List, [], ◌∷◌, ◌++◌, length, take, drop, filter, flat_map, All, Option, Some, None, Bool, true, false, not, cond, ◌&&◌, ◌||◌, nat_le, bytes_eq, decimal, codes}
 use Rattle.std.specs.List.{slice_split}
 use Rattle.lr_rules.specs.declared.path.Path.{Path}
 use Rattle.lr_rules.specs.declared.rule.Rule.{Rule}
 use Rattle.lr_rules.specs.declared.rule.Naming.{Naming}
 use Rattle.lr_rules.specs.declared.rule.Format.{Format}
+use Rattle.lr_rules.specs.declared.rule.Way.{Way}
+use Rattle.lr_rules.specs.declared.rule.Way.TheVariants as way
 use Rattle.lr_rules.specs.declared.rule.Piece.{Piece}
 use Rattle.lr_rules.specs.declared.rule.Piece.TheVariants as piece
 use Rattle.lr_rules.specs.declared.rule.Field.{Field}
@@ -52,6 +54,17 @@ ext_of None None name = []
 abbrev pub base_of : List ℕ → List ℕ → List ℕ
 base_of ext name = cond (ends_with ext name) (without ext name) name
 
+-- ---- a log that is set aside
+
+-- where a log waits that is set aside
+abbrev pub aside_path : Path → Path
+aside_path log = log ++ codes ".tmp"
+
+-- the way sets the log aside before it is copied
+abbrev pub is_aside : Way → Bool
+is_aside way.RenameCopy = true
+is_aside _ = false
+
 -- the naming that the rule gives the log
 abbrev pub naming_of : Rule → Path → Naming
 naming_of r log = record {
@@ -60,6 +73,7 @@ naming_of r log = record {
   ext = ext_of r.addextension r.extension (last_of log);
   start = r.start;
   dated = r.dated;
+  aside = is_aside r.way;
 }
 
 -- ---- members
@@ -109,9 +123,10 @@ HasMemberShape n x = (last : List ℕ) × IsMemberShape n last × (x ≡ joined 
 
 -- ---- the names of a set
 
--- The path is the log, has a member's shape, or that shape with the ending of a copy that isn't whole.
+-- The path is the log, where it waits while it is set aside, has a member's shape, or that shape with the ending of a copy that isn't whole.
 pub data IsOwnName (log : Path) (n : Naming) (x : Path) : Type 0 where
   the_log : x ≡ log → IsOwnName log n x
+  set_aside : n.aside ≡ true → x ≡ aside_path log → IsOwnName log n x
   a_member : (last : List ℕ) → IsMemberShape n last → x ≡ joined n.dir last → IsOwnName log n x
   a_part : (last : List ℕ) → IsMemberShape n last → x ≡ joined n.dir (last ++ part_end) → IsOwnName log n x
 

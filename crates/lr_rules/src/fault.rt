@@ -31,6 +31,8 @@ pub enum Fault {
     Overlap(Path, Path),
     /// The name is taken.
     Taken(Path),
+    /// An earlier run set this log aside and didn't finish; it is taken up again.
+    Unfinished(Path),
     /// The number of the member would pass the highest one.
     TooHigh(Path),
     /// A path that the word matches is too long to be a log's.

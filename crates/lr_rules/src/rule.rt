@@ -29,6 +29,8 @@ pub enum Way {
     Rename,
     Copy,
     CopyTruncate,
+    /// The log is renamed to its path with `.tmp`, and copied from there.
+    RenameCopy,
 }
 
 /// Of which moment a stamp tells: that of the run, the same time of the day before, or an hour before.
@@ -125,4 +127,6 @@ pub struct Naming {
     pub ext: Text,
     pub start: u32,
     pub dated: Option<Format>,
+    /// Whether the log's path with `.tmp` is a name of the set, under which a log waits that is set aside.
+    pub aside: bool,
 }
