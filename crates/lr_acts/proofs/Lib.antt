@@ -7,5 +7,5 @@ mod Naming
 mod Parts
 mod Programs
 pub mod Taking
-mod Texts
+pub mod Texts
 mod Unnaming

@@ -5,6 +5,7 @@ use Rattle.std.proofs.lemmas.List.Elements.{recursion_from_All}
 use Rattle.lr_rules.specs.declared.fault.Fault.{Fault}
 use Rattle.lr_rules.specs.declared.fault.Fault.TheVariants as fault
 use Rattle.lr_rules.specs.declared.path.Path.{Path}
+use Rattle.lr_rules.specs.StatePath.{state_part}
 use Rattle.lr_host.specs.declared.entry.Entry.{Entry}
 use Rattle.lr_host.specs.declared.journal.Journal.{Journal}
 use Rattle.lr_host.specs.Counted.{calls_in, scripts_in, AreCounted}
@@ -19,7 +20,6 @@ use Rattle.lr_include.specs.Readers.{IsConfOrCall}
 use Rattle.lr_plan.specs.Asked.{asking}
 use Rattle.lr_plan.specs.declared.plan.Plan.{Plan}
 use Rattle.lr_plan.specs.declared.settings.Settings.{Settings}
-use Rattle.lr_plan.specs.Steps.{state_part}
 use Rattle.lr_run.specs.declared.answer.RunStop.{RunStop}
 use Rattle.lr_run.specs.Anew.{NamesAnew}
 use Rattle.lr_run.specs.Copied.{IsOfCopy}

@@ -3,6 +3,7 @@ use Rattle.std.specs.Prelude.{◌≡◌, ℤ, List, ◌++◌, reverse}
 use Rattle.lr_rules.specs.declared.fault.Fault.{Fault}
 use Rattle.lr_rules.specs.declared.fault.Fault.TheVariants as fault
 use Rattle.lr_rules.specs.declared.path.Path.{Path}
+use Rattle.lr_rules.specs.StatePath.{state_part}
 use Rattle.lr_host.specs.declared.entry.Entry.{Entry}
 use Rattle.lr_host.specs.declared.journal.Journal.{Journal}
 use Rattle.lr_host.specs.Lists.{IsIn}
@@ -11,7 +12,6 @@ use Rattle.lr_host.specs.World.{past}
 use Rattle.lr_due.specs.declared.tz.Zone.{Zone}
 use Rattle.lr_plan.specs.Asked.{asking}
 use Rattle.lr_plan.specs.declared.plan.Plan.{Plan}
-use Rattle.lr_plan.specs.Steps.{state_part}
 use Rattle.lr_run.specs.Met.{IsNoOther}
 use Rattle.lr_run.specs.Runs.{plan_in, dirs_in}
 use Rattle.lr_fulfilled.specs.Fulfilled.{IsFulfilled}

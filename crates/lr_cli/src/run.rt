@@ -6,7 +6,7 @@ ghost use Rattle.lr_host.specs.Counted.{AreCounted};
 ghost use Rattle.lr_mixed.specs.AllTurns.{IsWholeRunBy};
 ghost use Rattle.lr_run.specs.Anew.{NamesAnew};
 ghost use Rattle.lr_cli.specs.Internal.{TurnsByClock};
-ghost use Rattle.lr_command.specs.Words.{can_be_state};
+ghost use Rattle.lr_rules.specs.StatePath.{can_be_state};
 ghost use Rattle.lr_cli.specs.Answer.{Answers, AnswersAt};
 ghost use Rattle.lr_cli.specs.Clock.{IsClocked};
 ghost use Rattle.lr_cli.specs.Faults.{answer_of, clock_answer, plan_told};

@@ -1,6 +1,6 @@
 // What a request asks for besides its configurations.
 ghost use Rattle.std.specs.Prelude.{◌≡◌, IfOk, true};
-ghost use Rattle.lr_command.specs.Words.{can_be_state};
+ghost use Rattle.lr_rules.specs.StatePath.{can_be_state};
 ghost use Rattle.lr_cli.specs.Settled.{AreSettingsOf};
 
 use lr_command::Request;

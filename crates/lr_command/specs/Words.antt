@@ -4,6 +4,7 @@ use Rattle.std.specs.List.{list_all}
 use Rattle.clap.specs.Words.{Row}
 use Rattle.lr_rules.specs.declared.path.Path.{Path}
 use Rattle.lr_rules.specs.Path.{cleaned, last_of, word_fault}
+use Rattle.lr_rules.specs.StatePath.{can_be_state}
 use Rattle.lr_command.specs.declared.request.Request.{Request}
 use Rattle.lr_command.specs.Command.{are_taken, found_in, has_flag, value_of, words_of}
 
@@ -22,10 +23,6 @@ may_be_path here (Some word) = is_path here word
 abbrev pub path_or : Path → Path → Option (List ℕ) → Path
 path_or here other None = other
 path_or here other (Some word) = cleaned here word
-
--- what a state file's path may be: at most 4,000 bytes, and a last part
-abbrev pub can_be_state : List ℕ → Bool
-can_be_state path = nat_le (length path) 4000 && nat_le 1 (length (last_of path))
 
 -- ---- the request
 

@@ -2,7 +2,8 @@
 ghost use Rattle.std.specs.Prelude.{◌≡◌, ◌&&◌, IfOk, Some, None, true, false, codes};
 ghost use Rattle.clap.specs.Words.{found_of, rows_of};
 ghost use Rattle.lr_command.specs.Command.{has_flag};
-ghost use Rattle.lr_command.specs.Words.{asked, can_be_state, confs_in, has_confs, has_mailer, has_state, mailer_in, request_in, request_where, state_in};
+ghost use Rattle.lr_command.specs.Words.{asked, confs_in, has_confs, has_mailer, has_state, mailer_in, request_in, request_where, state_in};
+ghost use Rattle.lr_rules.specs.StatePath.{can_be_state};
 
 use crate::found::{find, has_flag, texts_of, value_of};
 use crate::paths::{path_or, paths_of};

@@ -3,13 +3,13 @@ use Rattle.std.proofs.Common.{⊎_elim, sym, subst, ℕ, Bool, true, false, cond
 use Rattle.lr_rules.specs.declared.fault.CallKind.TheVariants as call
 use Rattle.lr_host.specs.declared.entry.Entry.{Entry}
 use Rattle.lr_host.specs.declared.entry.Entry.TheVariants.{Reads, Renames, Makes, Appends, Unlinks, SyncsFile, SyncsDir}
-use Rattle.lr_host.specs.Told.{Each, Then, Are}
+use Rattle.lr_host.specs.Told.{Each, Then, Are, Maybe}
 use Rattle.lr_host.proofs.Each.{each_append}
 use Rattle.lr_copy.specs.declared.job.Job.{Job}
 use Rattle.lr_copy.specs.declared.job.CopyStop.{CopyStop}
 use Rattle.lr_copy.specs.declared.job.CopyStop.TheVariants as stop
 use Rattle.lr_copy.specs.declared.job.BytesStop.TheVariants as broke
-use Rattle.lr_copy.specs.Copying.{Maybe, Copies, clearing, opening, Fills}
+use Rattle.lr_copy.specs.Copying.{Copies, clearing, opening, Fills}
 use Rattle.lr_copy.proofs.EachOfBytes.{each_both, each_are, each_all, each_broke}
 use Rattle.lr_copy.specs.Stops.{OpenStopped, FillStopped, NameStopped, CutStopped, CloseStopped, at_name, at_cut, CopyStopped, at_open, at_fill, at_close, EmptiesNone, RenamesNone, IsCutStop, IsEarly}
 

@@ -2,13 +2,9 @@
 use Rattle.std.specs.Prelude.{◌≡◌, ◌⊎◌, ℕ, List, [], ◌∷◌, ◌++◌, cond}
 use Rattle.lr_host.specs.declared.entry.Entry.{Entry}
 use Rattle.lr_host.specs.declared.entry.Entry.TheVariants.{Renames, Makes, Truncates, Unlinks, SyncsFile, SyncsDir}
-use Rattle.lr_host.specs.Told.{Then, Are}
+use Rattle.lr_host.specs.Told.{Then, Are, Maybe}
 use Rattle.lr_copy.specs.declared.job.Job.{Job}
 use Rattle.lr_copy.specs.Bytes.{AllBytes}
-
--- this entry, or none
-abbrev pub Maybe : Entry → List Entry → Type 0
-Maybe e ts = (ts ≡ []) ⊎ (ts ≡ e ∷ [])
 
 -- the bytes of the log go to the part file, so many and no more than the limit
 abbrev pub Copies : Job → ℕ → List Entry → Type 0

@@ -6,13 +6,13 @@ use Rattle.lr_host.specs.declared.entry.Entry.{Entry}
 use Rattle.lr_host.specs.declared.entry.Entry.TheVariants.{Renames, Makes, Truncates, Unlinks, SyncsFile, SyncsDir}
 use Rattle.lr_host.specs.declared.journal.Journal.{Journal}
 use Rattle.lr_host.specs.World.{world, names}
-use Rattle.lr_host.specs.Told.{Then, Are, Counts, Rose, WhereTold}
+use Rattle.lr_host.specs.Told.{Then, Are, Counts, Rose, WhereTold, Maybe}
 use Rattle.lr_copy.specs.declared.job.BytesStop.TheVariants as broke
 use Rattle.lr_copy.specs.declared.job.Job.{Job}
 use Rattle.lr_copy.specs.declared.job.CopyStop.{CopyStop}
 use Rattle.lr_copy.specs.declared.job.CopyStop.TheVariants as stop
 use Rattle.lr_copy.specs.Bytes.{BytesBroke}
-use Rattle.lr_copy.specs.Copying.{Maybe, Copies, clearing, opening, Fills, naming}
+use Rattle.lr_copy.specs.Copying.{Copies, clearing, opening, Fills, naming}
 
 -- The part file wasn't made: the unlink of an old one failed, or the make, with its entry or without; or the path is named, and no make stands.
 abbrev pub OpenStopped : Job → CopyStop → List Entry → Type 0

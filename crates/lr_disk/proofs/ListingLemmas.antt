@@ -8,6 +8,7 @@ use Rattle.std.proofs.lemmas.List.Folds.{list_any-append}
 use Rattle.lr_rules.specs.declared.path.Path.{Path}
 use Rattle.lr_rules.specs.Path.{path_fault, is_slash, is_empty, joined, parent_of, last_of}
 use Rattle.lr_rules.proofs.PathLemmas.{parent_joined, last_joined, joined_parts, last_plain}
+use Rattle.lr_rules.proofs.Bools.{both}
 use Rattle.lr_host.specs.declared.thing.Thing.{Thing}
 use Rattle.lr_host.specs.declared.thing.Thing.TheVariants as thing
 use Rattle.lr_host.specs.Fits.{IsPart, AreNamesIn}
@@ -28,10 +29,6 @@ itself p q e = (bytes_tell p q).1 e
 pub or_cases : (a b : Bool) (P : Type 0) → (a || b) ≡ true → (a ≡ true → P) → (b ≡ true → P) → P
 or_cases true b P h f g = f refl
 or_cases false b P h f g = g h
-
-and_true : (a b : Bool) → (a && b) ≡ true → (a ≡ true) × (b ≡ true)
-and_true true b h = (refl, h)
-and_true false b h = absurd (cc)
 
 not_true : (b : Bool) → not b ≡ true → b ≡ false
 not_true true h = absurd (cc)
@@ -62,8 +59,8 @@ record Inside (dir : Path) (n : Pair) : Type 0 where
 
 inside : (dir : Path) (n : Pair) → is_in dir n ≡ true → Inside dir n
 inside dir n h =
-    let a = and_true (not (is_nothing n.1)) (bytes_eq (parent_of n.0) dir && not (is_empty (last_of n.0))) h in
-    let b = and_true (bytes_eq (parent_of n.0) dir) (not (is_empty (last_of n.0))) a.1 in
+    let a = both (not (is_nothing n.1)) (bytes_eq (parent_of n.0) dir && not (is_empty (last_of n.0))) h in
+    let b = both (bytes_eq (parent_of n.0) dir) (not (is_empty (last_of n.0))) a.1 in
     record { named = nothing n.1 (not_true _ a.0); parent = same (parent_of n.0) dir b.0; some = not_true _ b.1 }
 
 -- what one pair lists

@@ -5,6 +5,7 @@ use Rattle.std.proofs.lemmas.Bool.{or_from}
 use Rattle.std.proofs.lemmas.List.{reverse-reverse}
 use Rattle.lr_rules.specs.declared.path.Path.{Path}
 use Rattle.lr_rules.specs.Path.{parent_of}
+use Rattle.lr_rules.specs.StatePath.{state_part}
 use Rattle.lr_host.specs.declared.thing.Thing.{Thing}
 use Rattle.lr_host.specs.declared.thing.Thing.TheVariants as thing
 use Rattle.lr_host.specs.declared.entry.Entry.{Entry}
@@ -19,7 +20,7 @@ use Rattle.lr_host.proofs.Each.{each_as, each_reverse}
 use Rattle.lr_host.proofs.Looked.{same_file}
 use Rattle.lr_host.proofs.Quiet.{before_last}
 use Rattle.lr_durable.specs.Renewing.{Renews, IsWritten, HasText}
-use Rattle.lr_durable.specs.StateWhole.{part_of, renamed_paths, IsSettled, WritersSpare}
+use Rattle.lr_durable.specs.StateWhole.{renamed_paths, IsSettled, WritersSpare}
 use Rattle.lr_durable.proofs.Files.{LeavesFile}
 use Rattle.lr_durable.proofs.Lists.{At, at, each_last}
 use Rattle.lr_durable.proofs.Parts.{IsOwn, own_walk}
@@ -96,7 +97,7 @@ none_walk P x p _ _ far (by_tool {es = es} {q = q} {e = e} m i f) only a none = 
 
 module _ (state : Path) (dirs : List Path) (text : List ℕ) (p q : Past) (ts : List Entry) (m : Made p (reverse ts) q) (j : IsJournal p) (r : Renews state dirs text ts) (only : AttachedOnlySince (Spared state) p q) where
   abbrev part : Path
-  part = part_of state
+  part = state_part state
 
   abbrev firsts : List Entry
   firsts = r.front ++ filling part r.mode r.pieces dirs

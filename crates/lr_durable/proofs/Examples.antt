@@ -3,6 +3,7 @@ use Rattle.std.proofs.Common.{◌≡◌, ◌≢◌, inl, inr, ⊎_elim, ◌≤�
 use Rattle.std.proofs.lemmas.Slice.Eq.{bytes_eq-Decides}
 use Rattle.lr_rules.specs.declared.path.Path.{Path}
 use Rattle.lr_rules.specs.Path.{parent_of}
+use Rattle.lr_rules.specs.StatePath.{state_part}
 use Rattle.lr_host.specs.declared.thing.Thing.TheVariants as thing
 use Rattle.lr_host.specs.declared.entry.Entry.{Entry}
 use Rattle.lr_host.specs.declared.entry.Entry.TheVariants as entry
@@ -16,13 +17,13 @@ use Rattle.lr_host.proofs.Quiet.{size}
 use Rattle.lr_laws.specs.Chain.{second, third, found}
 use Rattle.lr_laws.proofs.Example.{found_valid}
 use Rattle.lr_durable.specs.Renewing.{MayRenew, renewed}
-use Rattle.lr_durable.specs.StateWhole.{part_of, IsSettled, WritersSpare, LeftAs, by_last, still, IsOldOrNew, IsWholeAt}
+use Rattle.lr_durable.specs.StateWhole.{IsSettled, WritersSpare, LeftAs, by_last, still, IsOldOrNew, IsWholeAt}
 use Rattle.lr_durable.specs.Worked.{state, text, filled, in_order, not_synced, too_early, in_place}
 use Rattle.lr_durable.proofs.Lists.{prefix_size, prefix_last}
 use Rattle.lr_durable.proofs.Whole.{whole_at}
 
 abbrev part : Path
-part = part_of state
+part = state_part state
 
 abbrev start : Past
 start = Opens found

@@ -2,6 +2,7 @@
 use Rattle.std.proofs.Common.{◌≡◌, ◌⊎◌, inl, inr, ◌≤◌, refl, sym, ◌∙◌, ap, subst, arith, List, [], ◌∷◌, ◌++◌, reverse, append_assoc}
 use Rattle.std.proofs.lemmas.List.{append-nil, reverse-append}
 use Rattle.lr_rules.specs.declared.path.Path.{Path}
+use Rattle.lr_rules.proofs.Heads.{heads, tails}
 use Rattle.lr_host.specs.declared.entry.Entry.{Entry}
 use Rattle.lr_host.specs.Fits.{Fits}
 use Rattle.lr_host.specs.Safe.{IsPrefix, whole, shorter}
@@ -111,12 +112,6 @@ at P p q xs e ys i m only = one (middle P p q (xs ++ e ∷ []) ys (subst (λ (es
 pub data FirstPart (xs : List Entry) (e : Entry) (ys fs bs : List Entry) : Type 0 where
   ends_before : (rest : List Entry) → xs ≡ fs ++ rest → FirstPart xs e ys fs bs
   has_it : (more : List Entry) → fs ≡ xs ++ (e ∷ more) → ys ≡ more ++ bs → FirstPart xs e ys fs bs
-
-heads : (x y : Entry) (xs ys : List Entry) → x ∷ xs ≡ y ∷ ys → x ≡ y
-heads x y xs ys e = cc
-
-tails : (x y : Entry) (xs ys : List Entry) → x ∷ xs ≡ y ∷ ys → xs ≡ ys
-tails x y xs ys e = cc
 
 pub first_part : (xs : List Entry) (e : Entry) (ys fs bs : List Entry) → xs ++ (e ∷ ys) ≡ fs ++ bs → FirstPart xs e ys fs bs
 first_part xs e ys [] bs is = ends_before xs refl

@@ -4,6 +4,7 @@ use Rattle.std.proofs.lemmas.List.{append-nil, length-append}
 use Rattle.std.specs.Prelude.{codes, suc}
 use Rattle.std.specs.List.{flat_map}
 use Rattle.lr_rules.specs.declared.path.Path.{Path}
+use Rattle.lr_rules.specs.StatePath.{state_part}
 use Rattle.lr_host.specs.declared.thing.Thing.{Thing}
 use Rattle.lr_host.specs.declared.thing.Thing.TheVariants as thing
 use Rattle.lr_host.specs.declared.entry.Entry.{Entry}
@@ -19,13 +20,12 @@ use Rattle.lr_host.proofs.Quiet.{before_last}
 use Rattle.lr_laws.proofs.Disk.{leaves_now, drawn_grows}
 use Rattle.lr_laws.proofs.Single.{single}
 use Rattle.lr_laws.proofs.Sound.{true_is_file}
-use Rattle.lr_durable.specs.StateWhole.{part_of}
 use Rattle.lr_durable.proofs.Files.{IsGuarded, IsSynced, LeavesFile, writer_guards, tool_guards}
 use Rattle.lr_durable.proofs.Lists.{at}
 use Rattle.lr_host.specs.Lists.{IsIn}
 use Rattle.lr_durable.proofs.Walks.{NamesNone, tool_same, far_attached}
 
-pub part_apart : (state : Path) → part_of state ≢ state
+pub part_apart : (state : Path) → state_part state ≢ state
 part_apart state e =
     let long : length (state ++ codes ".tmp") ≡ length state + 4 = length-append state (codes ".tmp") in
     let same : length (state ++ codes ".tmp") ≡ length state = ap length e in

@@ -3,6 +3,7 @@ use Rattle.std.proofs.Common.{◌+◌, ◌<◌, ◌≡◌, ◌≢◌, ◌⊎◌,
 use Rattle.std.specs.List.{flat_map}
 use Rattle.lr_rules.specs.declared.path.Path.{Path}
 use Rattle.lr_rules.specs.Path.{parent_of}
+use Rattle.lr_rules.specs.StatePath.{state_part}
 use Rattle.lr_host.specs.declared.thing.Thing.{Thing}
 use Rattle.lr_host.specs.declared.thing.Thing.TheVariants as thing
 use Rattle.lr_host.specs.declared.entry.Entry.{Entry}
@@ -17,7 +18,7 @@ use Rattle.lr_host.proofs.Looked.{nothing_no_file}
 use Rattle.lr_host.proofs.Made.{made_on, made_journal}
 use Rattle.lr_host.proofs.Names.{put_cases, put_here}
 use Rattle.lr_durable.specs.Renewing.{IsWithin, Renews}
-use Rattle.lr_durable.specs.StateWhole.{part_of, LeftAs, StandsAs}
+use Rattle.lr_durable.specs.StateWhole.{LeftAs, StandsAs}
 use Rattle.lr_durable.proofs.Files.{IsGuarded, IsSynced, LeavesFile}
 use Rattle.lr_durable.proofs.Leaving.{Lasts, stands_made}
 use Rattle.lr_durable.proofs.Lists.{middle, at}
@@ -30,7 +31,7 @@ use Rattle.lr_durable.proofs.Walks.{IsSafeFile, NamesNone, made_drawn, stands_no
 -- the part file has its text, synced
 pub record IsFilled (state : Path) (text : List ℕ) (p : Past) : Type 0 where
   pub file : ℕ
-  pub own : IsOwn (part_of state) file text p
+  pub own : IsOwn (state_part state) file text p
   pub synced : IsSynced file text (world p)
 
 same_eq : (n : ℕ) → nat_eq n n ≡ true
@@ -59,9 +60,9 @@ syncs_calm x (d ∷ dirs) = ((tt, refl), syncs_calm x dirs)
 abbrev pub filling : Path → Option ℕ → List (List ℕ) → List Path → List Entry
 filling part mode pieces dirs = entry.Makes part mode ∷ (map (entry.Appends part) pieces ++ (entry.SyncsFile part ∷ map entry.SyncsDir dirs))
 
-module _ (state : Path) (P : Path → Type 0) (far : (y : Path) → P y → y ≢ part_of state) where
+module _ (state : Path) (P : Path → Type 0) (far : (y : Path) → P y → y ≢ state_part state) where
   abbrev part : Path
-  part = part_of state
+  part = state_part state
 
   behind_sync : (text : List ℕ) (dirs : List Path) (f : ℕ) (b q : Past) → Made b (reverse (map entry.SyncsDir dirs)) q → AttachedOnlySince P b q → IsOwn part f text b × IsSynced f text (world b) → IsFilled state text q
   behind_sync text dirs f b q m only h = record {
@@ -86,14 +87,14 @@ module _ (state : Path) (P : Path → Type 0) (far : (y : Path) → P y → y �
 
 -- what writers are not attached to
 abbrev pub Spared : Path → Path → Type 0
-Spared state x = (x ≢ state) × (x ≢ part_of state)
+Spared state x = (x ≢ state) × (x ≢ state_part state)
 
 -- the part file has the state's path
-pub renamed_own : (state : Path) (text : List ℕ) (r : Past) → (f : IsFilled state text r) → IsOwn state f.file text (r ▸ entry.Renames (part_of state) state) × IsSafeFile state f.file text (r ▸ entry.Renames (part_of state) state)
+pub renamed_own : (state : Path) (text : List ℕ) (r : Past) → (f : IsFilled state text r) → IsOwn state f.file text (r ▸ entry.Renames (state_part state) state) × IsSafeFile state f.file text (r ▸ entry.Renames (state_part state) state)
 renamed_own state text r f = (record { named = put_here (put (names (world r)) part thing.Nothing) state state (names (world r) part) refl ∙ f.own.named; guarded = guarded }, (guarded, f.synced))
   where
     part : Path
-    part = part_of state
+    part = state_part state
 
     known : f.file < (world r).drawn → f.file < (world r).drawn + 0
     known lt = omega arith
@@ -105,10 +106,10 @@ renamed_own state text r f = (record { named = put_here (put (names (world r)) p
     guarded = record { known = known f.own.guarded.known; only = only; unheld = f.own.guarded.unheld; has = f.own.guarded.has }
 
 -- the entries of a renewing, up to the rename and from it on
-pub in_two : (state : Path) (dirs : List Path) (text : List ℕ) (ts : List Entry) → (r : Renews state dirs text ts) → ts ≡ (r.front ++ filling (part_of state) r.mode r.pieces dirs) ++ (entry.Renames (part_of state) state ∷ r.after)
+pub in_two : (state : Path) (dirs : List Path) (text : List ℕ) (ts : List Entry) → (r : Renews state dirs text ts) → ts ≡ (r.front ++ filling (state_part state) r.mode r.pieces dirs) ++ (entry.Renames (state_part state) state ∷ r.after)
 in_two state dirs text ts r = r.ts_are
-    ∙ (ap (λ es. r.front ++ (entry.Makes (part_of state) r.mode ∷ es)) (sym (append_assoc (map (entry.Appends (part_of state)) r.pieces) (entry.SyncsFile (part_of state) ∷ map entry.SyncsDir dirs) (entry.Renames (part_of state) state ∷ r.after)))
-    ∙ sym (append_assoc r.front (filling (part_of state) r.mode r.pieces dirs) (entry.Renames (part_of state) state ∷ r.after)))
+    ∙ (ap (λ es. r.front ++ (entry.Makes (state_part state) r.mode ∷ es)) (sym (append_assoc (map (entry.Appends (state_part state)) r.pieces) (entry.SyncsFile (state_part state) ∷ map entry.SyncsDir dirs) (entry.Renames (state_part state) state ∷ r.after)))
+    ∙ sym (append_assoc r.front (filling (state_part state) r.mode r.pieces dirs) (entry.Renames (state_part state) state ∷ r.after)))
 
 -- ---- the names
 

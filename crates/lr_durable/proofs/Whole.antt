@@ -2,6 +2,7 @@
 use Rattle.std.proofs.Common.{◌≡◌, ◌≢◌, ◌⊎◌, inl, inr, ⊎_elim, ◌≤◌, ℕ, false, refl, sym, ◌∙◌, ap, subst, arith, List, [], ◌∷◌, ◌++◌, map, reverse, append_assoc, Option, Some}
 use Rattle.std.proofs.lemmas.List.{reverse-append, reverse-reverse}
 use Rattle.lr_rules.specs.declared.path.Path.{Path}
+use Rattle.lr_rules.specs.StatePath.{state_part}
 use Rattle.lr_host.specs.declared.thing.Thing.{Thing}
 use Rattle.lr_host.specs.declared.thing.Thing.TheVariants as thing
 use Rattle.lr_host.specs.declared.entry.Entry.{Entry}
@@ -21,7 +22,7 @@ use Rattle.lr_host.proofs.Quiet.{since_before}
 use Rattle.lr_laws.specs.Follow.{changed_paths}
 use Rattle.lr_laws.proofs.Disk.{AgreeOn, leaves_now, cut_leaves, fits_closed}
 use Rattle.lr_durable.specs.Renewing.{IsAsideOf, Renews, MayRenew, left_alone, renewed}
-use Rattle.lr_durable.specs.StateWhole.{part_of, IsSettled, WritersSpare, renamed_paths, LeftAs, StandsAs, AreApplied, IsAsBefore, IsOldOrNew, IsWholeAt}
+use Rattle.lr_durable.specs.StateWhole.{IsSettled, WritersSpare, renamed_paths, LeftAs, StandsAs, AreApplied, IsAsBefore, IsOldOrNew, IsWholeAt}
 use Rattle.lr_durable.proofs.Files.{LeavesFile, tool_guards, tool_synced, cut_whole}
 use Rattle.lr_durable.proofs.Leaving.{Lasts, lasts_on, stands_made, alike}
 use Rattle.lr_durable.proofs.Lists.{made_prefix, IsOnWay, on_way, at, FirstPart, ends_before, has_it, first_part}
@@ -67,7 +68,7 @@ aside_leaves x _ a = tt
 
 module _ (state : Path) (p : Past) (j : IsJournal p) (settled : IsSettled state p) (held : (v g : ℕ) → (world p).holds v ≡ Some g → names (world p) state ≢ thing.File g) where
   abbrev part : Path
-  part = part_of state
+  part = state_part state
 
   abbrev old : Thing
   old = names (world p) state

@@ -3,6 +3,7 @@ use Rattle.std.specs.Prelude.{◌≡◌, ◌⊎◌, ℕ, false, List, ◌∷◌,
 use Rattle.std.specs.List.{flat_map}
 use Rattle.lr_rules.specs.declared.path.Path.{Path}
 use Rattle.lr_rules.specs.Path.{parent_of}
+use Rattle.lr_rules.specs.StatePath.{state_part}
 use Rattle.lr_host.specs.declared.thing.Thing.TheVariants as thing
 use Rattle.lr_host.specs.declared.entry.Entry.{Entry}
 use Rattle.lr_host.specs.declared.entry.Entry.TheVariants.{Makes, Appends, SyncsFile, SyncsDir, Renames}
@@ -11,7 +12,7 @@ use Rattle.lr_host.specs.Quiet.{is_disk_change}
 use Rattle.lr_host.specs.Told.{Each}
 use Rattle.lr_host.specs.World.{Past, world, names}
 use Rattle.lr_laws.specs.Follow.{changed_paths}
-use Rattle.lr_durable.specs.StateWhole.{part_of, renamed_paths}
+use Rattle.lr_durable.specs.StateWhole.{renamed_paths}
 
 -- the entry changes neither what the path names nor bytes of a file at that path
 abbrev pub IsAsideOf : Path → Entry → Type 0
@@ -27,9 +28,9 @@ pub record Renews (state : Path) (dirs : List Path) (text : List ℕ) (ts : List
   pub mode : Option ℕ
   pub pieces : List (List ℕ)
   pub after : List Entry
-  pub ts_are : ts ≡ front ++ (Makes (part_of state) mode ∷ (map (Appends (part_of state)) pieces ++ (SyncsFile (part_of state) ∷ (map SyncsDir dirs ++ (Renames (part_of state) state ∷ after)))))
+  pub ts_are : ts ≡ front ++ (Makes (state_part state) mode ∷ (map (Appends (state_part state)) pieces ++ (SyncsFile (state_part state) ∷ (map SyncsDir dirs ++ (Renames (state_part state) state ∷ after)))))
   pub aside : Each (IsAsideOf state) front
-  pub within : Each (IsWithin (part_of state) dirs) front
+  pub within : Each (IsWithin (state_part state) dirs) front
   pub text_is : flat_map (λ piece. piece) pieces ≡ text
   pub nothing_more : Each (λ e. is_disk_change e ≡ false) after
 

@@ -2,6 +2,7 @@
 use Rattle.std.specs.Prelude.{◌≡◌, ◌≢◌, ◌⊎◌, ◌≤◌, ℕ, false, List, [], ◌∷◌, ◌++◌, length, reverse, codes, Option, Some, None}
 use Rattle.std.specs.List.{list_any}
 use Rattle.lr_rules.specs.declared.path.Path.{Path}
+use Rattle.lr_rules.specs.StatePath.{state_part}
 use Rattle.lr_host.specs.declared.thing.Thing.{Thing}
 use Rattle.lr_host.specs.declared.thing.Thing.TheVariants as thing
 use Rattle.lr_host.specs.declared.entry.Entry.{Entry}
@@ -17,10 +18,6 @@ use Rattle.lr_host.specs.World.{Past, ◌▸◌, past, world, Names, names, in_l
 
 -- ---- what a call begins with
 
--- the file that a new state is first written to
-abbrev pub part_of : Path → Path
-part_of state = state ++ codes ".tmp"
-
 -- The state's file is synced whole, and no change of names that a cut may undo has the state's path.
 pub record IsSettled (state : Path) (p : Past) : Type 0 where
   pub synced : (g : ℕ) → names (world p) state ≡ thing.File g → length ((world p).files g).bytes ≤ ((world p).files g).synced
@@ -29,7 +26,7 @@ pub record IsSettled (state : Path) (p : Past) : Type 0 where
 -- No writer holds the state's file as the call begins, and in the call none is attached to the state's path or to that of its part file.
 pub record WritersSpare (state : Path) (before after : Past) : Type 0 where
   pub held : (v g : ℕ) → (world before).holds v ≡ Some g → names (world before) state ≢ thing.File g
-  pub attached : AttachedOnlySince (λ x. (x ≢ state) × (x ≢ part_of state)) before after
+  pub attached : AttachedOnlySince (λ x. (x ≢ state) × (x ≢ state_part state)) before after
 
 -- ---- what the tool changed
 
@@ -66,11 +63,11 @@ pub record IsRenewed (state : Path) (IsText : List ℕ → Type 0) (before p now
   -- just before that rename
   pub turning : Past
   pub since : IsPrefix before turning
-  pub until : IsPrefix (turning ▸ Renames (part_of state) state) p
+  pub until : IsPrefix (turning ▸ Renames (state_part state) state) p
   pub file : ℕ
   pub named : names (world now) state ≡ thing.File file
   pub text : IsText ((world now).files file).bytes
-  pub applied : AreApplied before (turning ▸ Renames (part_of state) state) (names (world now))
+  pub applied : AreApplied before (turning ▸ Renames (state_part state) state) (names (world now))
 
 -- The state of `now`, the moment p or a cut then, is the old one or a new one, whole.
 abbrev pub IsOldOrNew : Path → (List ℕ → Type 0) → Past → Past → Past → Type 0

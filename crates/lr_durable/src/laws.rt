@@ -2,6 +2,7 @@
 ghost use Rattle.std.specs.Prelude.{◌≡◌, ◌≢◌, ℕ, List, reverse};
 ghost use Rattle.lr_rules.specs.declared.path.Path.{Path};
 ghost use Rattle.lr_rules.specs.Path.{parent_of};
+ghost use Rattle.lr_rules.specs.StatePath.{state_part};
 ghost use Rattle.lr_host.specs.declared.entry.Entry.{Entry};
 ghost use Rattle.lr_host.specs.declared.entry.Entry.TheVariants as entry;
 ghost use Rattle.lr_host.specs.Kept.{Leaves};
@@ -11,7 +12,7 @@ ghost use Rattle.lr_host.specs.Safe.{IsPrefix};
 ghost use Rattle.lr_host.specs.Told.{Made};
 ghost use Rattle.lr_host.specs.World.{Past, ◌▸◌, world, Names, names, Change};
 ghost use Rattle.lr_durable.specs.Renewing.{MayRenew, Renews, IsWritten, HasText};
-ghost use Rattle.lr_durable.specs.StateWhole.{part_of, IsSettled, WritersSpare, IsWholeAt};
+ghost use Rattle.lr_durable.specs.StateWhole.{IsSettled, WritersSpare, IsWholeAt};
 
 /// Where a tool leaves its state alone, or writes it last, behind the syncs of its file and of all directories in which it
 /// changed a name, the state is the old one or the new one, whole, at each moment from the first to the last and after each
@@ -34,7 +35,7 @@ pub fn written_state_is_settled()
 /// path nor to that of its part file.
 pub fn renewed_state_has_its_text()
     ensures { (state : Path) (dirs : List Path) (text : List ℕ) (p q : Past) (es : List Entry) → Made p es q → IsJournal p
-        → Renews state dirs text (reverse es) → AttachedOnlySince (λ x. (x ≢ state) × (x ≢ part_of state)) p q → HasText state text q }
+        → Renews state dirs text (reverse es) → AttachedOnlySince (λ x. (x ≢ state) × (x ≢ state_part state)) p q → HasText state text q }
 {}
 
 /// Behind the sync of a directory each path right in it names, after each cut, what it names now.

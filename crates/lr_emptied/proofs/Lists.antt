@@ -1,16 +1,11 @@
 -- A value in a list that is two joined.
 use Rattle.std.proofs.Common.{◌≡◌, refl, sym, ◌∙◌, ap, List, [], ◌∷◌, ◌++◌}
+use Rattle.lr_rules.proofs.Heads.{heads, tails}
 
 -- it stands in the first of them, or in the second
 pub data Stands {A : Type 0} (x : A) (xs ys before after : List A) : Type 0 where
   in_first : (rest : List A) → xs ≡ before ++ (x ∷ rest) → Stands x xs ys before after
   in_second : (more : List A) → before ≡ xs ++ more → ys ≡ more ++ (x ∷ after) → Stands x xs ys before after
-
-heads : {A : Type 0} (x y : A) (xs ys : List A) → x ∷ xs ≡ y ∷ ys → x ≡ y
-heads x y xs ys e = cc
-
-tails : {A : Type 0} (x y : A) (xs ys : List A) → x ∷ xs ≡ y ∷ ys → xs ≡ ys
-tails x y xs ys e = cc
 
 pub stands : {A : Type 0} (x : A) (xs ys before after : List A) → xs ++ ys ≡ before ++ (x ∷ after) → Stands x xs ys before after
 stands x [] ys before after is = in_second before refl is

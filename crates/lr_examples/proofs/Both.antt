@@ -5,6 +5,7 @@ use Rattle.std.proofs.lemmas.List.Elements.{filter-append}
 use Rattle.lr_rules.specs.declared.path.Path.{Path}
 use Rattle.lr_rules.specs.declared.clock.Clock.{Clock}
 use Rattle.lr_rules.specs.declared.rules.Rules.{Rules}
+use Rattle.lr_rules.proofs.Heads.{heads, tails}
 use Rattle.lr_host.specs.declared.entry.Entry.{Entry}
 use Rattle.lr_host.specs.Lists.{IsIn}
 use Rattle.lr_host.specs.Quiet.{AreQuiet}
@@ -28,12 +29,6 @@ pub record FirstOfBoth (xs ys made : List Entry) : Type 0 where
   pub joined : made ≡ front ++ back
   pub first : IsFirstOf xs front
   pub second : IsFirstOf ys back
-
-heads : (x y : Entry) (xs ys : List Entry) → x ∷ xs ≡ y ∷ ys → x ≡ y
-heads x y xs ys e = cc
-
-tails : (x y : Entry) (xs ys : List Entry) → x ∷ xs ≡ y ∷ ys → xs ≡ ys
-tails x y xs ys e = cc
 
 pub first_of_both : (xs ys made rest : List Entry) → xs ++ ys ≡ made ++ rest → FirstOfBoth xs ys made
 first_of_both [] ys made rest e = record { front = []; back = made; joined = refl; first = ([], refl); second = (rest, e) }

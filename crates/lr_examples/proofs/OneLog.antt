@@ -6,6 +6,7 @@ use Rattle.std.proofs.lemmas.Slice.Eq.{bytes_eq-Decides}
 use Rattle.lr_rules.specs.declared.path.Path.{Path}
 use Rattle.lr_rules.specs.declared.civil.Moment.{Moment}
 use Rattle.lr_rules.specs.Path.{parent_of, joined}
+use Rattle.lr_rules.proofs.Bools.{both}
 use Rattle.lr_host.specs.declared.thing.Thing.TheVariants as thing
 use Rattle.lr_host.specs.declared.entry.Entry.{Entry}
 use Rattle.lr_host.specs.declared.entry.Entry.TheVariants as entry
@@ -209,10 +210,6 @@ is_new x (y ∷ ys) = not (bytes_eq x y) && is_new x ys
 abbrev are_new : List Path → Bool
 are_new [] = true
 are_new (y ∷ ys) = is_new y ys && are_new ys
-
-both : (a b : Bool) → (a && b) ≡ true → (a ≡ true) × (b ≡ true)
-both true b h = (refl, h)
-both false b h = absurd (cc)
 
 not_in : (x : Path) (ys : List Path) → is_new x ys ≡ true → IsNotIn x ys
 not_in x [] h = tt

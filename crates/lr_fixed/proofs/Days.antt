@@ -8,6 +8,7 @@ use Rattle.lr_rules.specs.declared.path.Path.{Path}
 use Rattle.lr_rules.specs.declared.rule.Naming.{Naming}
 use Rattle.lr_rules.specs.Dated.{IsDatedAt}
 use Rattle.lr_rules.specs.Limits.{is_format, or_none}
+use Rattle.lr_rules.proofs.Heads.{heads, tails}
 use Rattle.lr_stamps.proofs.Naming.{one_stamp_at}
 use Rattle.lr_host.specs.declared.thing.Seen.{Seen}
 use Rattle.lr_host.specs.declared.entry.Entry.{Entry}
@@ -24,7 +25,7 @@ use Rattle.lr_days.specs.Looks.{Glance, look_of, member_of, AreFilesOrGone, Show
 use Rattle.lr_days.specs.Newest.{AreNewestFirst}
 use Rattle.lr_days.proofs.Ages.{by_age_total}
 use Rattle.lr_days.proofs.Rising.{total, days_more}
-use Rattle.lr_fixed.proofs.Peeled.{front_same, first_same, others_same, saw_same, file_or_not}
+use Rattle.lr_fixed.proofs.Peeled.{front_same, saw_same, file_or_not}
 use Rattle.lr_fixed.proofs.Rising.{same_strict}
 
 abbrev days_of : List Glance → List Day
@@ -78,8 +79,8 @@ same_glances [] [] vs ws p e = (refl, e)
 same_glances [] (b ∷ bs) vs ws p e = absurd (cc p)
 same_glances (a ∷ as') [] vs ws p e = absurd (cc p)
 same_glances (a ∷ as') (b ∷ bs) vs ws p e =
-    let one = glance_same a b (head_day a.day b.day (days_of as') (days_of bs) p) (saw_same a.day.path b.day.path a.seen b.seen (first_same (look_of a) (look_of b) (map look_of as' ++ vs) (map look_of bs ++ ws) e)) in
-    let r = same_glances as' bs vs ws (tail_days a.day b.day (days_of as') (days_of bs) p) (others_same (look_of a) (look_of b) (map look_of as' ++ vs) (map look_of bs ++ ws) e) in
+    let one = glance_same a b (head_day a.day b.day (days_of as') (days_of bs) p) (saw_same a.day.path b.day.path a.seen b.seen (heads (look_of a) (look_of b) (map look_of as' ++ vs) (map look_of bs ++ ws) e)) in
+    let r = same_glances as' bs vs ws (tail_days a.day b.day (days_of as') (days_of bs) p) (tails (look_of a) (look_of b) (map look_of as' ++ vs) (map look_of bs ++ ws) e) in
     (ap (λ s. s ∷ as') one ∙ ap (λ ss. b ∷ ss) r.0, r.1)
 
 files_first : (a : Glance) (as' : List Glance) → AreFilesOrGone (a ∷ as') → IsFileOrGone a.seen
@@ -91,21 +92,21 @@ files_rest a as' h = All-tail (λ (g : Glance). IsFileOrGone g.seen) a as' h
 -- the first that is no file is one
 same_stop : (as' bs : List Glance) (x y : Day) (cs ds : List Day) (s t : Option Seen) (vs ws : List Entry) → days_of as' ++ x ∷ cs ≡ days_of bs ++ y ∷ ds → AreFilesOrGone as' → AreFilesOrGone bs → IsNoFile s → IsNoFile t
     → map look_of as' ++ entry.Look x.path s ∷ vs ≡ map look_of bs ++ entry.Look y.path t ∷ ws → (as' ≡ bs) × (x ≡ y) × (s ≡ t) × (vs ≡ ws)
-same_stop [] [] x y cs ds s t vs ws p f g h k e = (refl, head_day x y cs ds p, saw_same x.path y.path s t (first_same (entry.Look x.path s) (entry.Look y.path t) vs ws e), others_same (entry.Look x.path s) (entry.Look y.path t) vs ws e)
-same_stop [] (b ∷ bs) x y cs ds s t vs ws p f g h k e = absurd (file_or_not b.seen s (files_first b bs g) h (sym (saw_same x.path b.day.path s b.seen (first_same (entry.Look x.path s) (look_of b) vs (map look_of bs ++ entry.Look y.path t ∷ ws) e))))
-same_stop (a ∷ as') [] x y cs ds s t vs ws p f g h k e = absurd (file_or_not a.seen t (files_first a as' f) k (saw_same a.day.path y.path a.seen t (first_same (look_of a) (entry.Look y.path t) (map look_of as' ++ entry.Look x.path s ∷ vs) ws e)))
+same_stop [] [] x y cs ds s t vs ws p f g h k e = (refl, head_day x y cs ds p, saw_same x.path y.path s t (heads (entry.Look x.path s) (entry.Look y.path t) vs ws e), tails (entry.Look x.path s) (entry.Look y.path t) vs ws e)
+same_stop [] (b ∷ bs) x y cs ds s t vs ws p f g h k e = absurd (file_or_not b.seen s (files_first b bs g) h (sym (saw_same x.path b.day.path s b.seen (heads (entry.Look x.path s) (look_of b) vs (map look_of bs ++ entry.Look y.path t ∷ ws) e))))
+same_stop (a ∷ as') [] x y cs ds s t vs ws p f g h k e = absurd (file_or_not a.seen t (files_first a as' f) k (saw_same a.day.path y.path a.seen t (heads (look_of a) (entry.Look y.path t) (map look_of as' ++ entry.Look x.path s ∷ vs) ws e)))
 same_stop (a ∷ as') (b ∷ bs) x y cs ds s t vs ws p f g h k e =
-    let one = glance_same a b (head_day a.day b.day (days_of as' ++ x ∷ cs) (days_of bs ++ y ∷ ds) p) (saw_same a.day.path b.day.path a.seen b.seen (first_same (look_of a) (look_of b) (map look_of as' ++ entry.Look x.path s ∷ vs) (map look_of bs ++ entry.Look y.path t ∷ ws) e)) in
+    let one = glance_same a b (head_day a.day b.day (days_of as' ++ x ∷ cs) (days_of bs ++ y ∷ ds) p) (saw_same a.day.path b.day.path a.seen b.seen (heads (look_of a) (look_of b) (map look_of as' ++ entry.Look x.path s ∷ vs) (map look_of bs ++ entry.Look y.path t ∷ ws) e)) in
     let r = same_stop as' bs x y cs ds s t vs ws (tail_days a.day b.day (days_of as' ++ x ∷ cs) (days_of bs ++ y ∷ ds) p) (files_rest a as' f) (files_rest b bs g) h k
-    (others_same (look_of a) (look_of b) (map look_of as' ++ entry.Look x.path s ∷ vs) (map look_of bs ++ entry.Look y.path t ∷ ws) e) in
+    (tails (look_of a) (look_of b) (map look_of as' ++ entry.Look x.path s ∷ vs) (map look_of bs ++ entry.Look y.path t ∷ ws) e) in
     (ap (λ q. q ∷ as') one ∙ ap (λ qs. b ∷ qs) r.0, r.1, r.2, r.3)
 
 -- where all are files or gone, none stops
 no_stop : (as' bs : List Glance) (y : Day) (ds : List Day) (t : Option Seen) (vs ws : List Entry) → days_of as' ≡ days_of bs ++ y ∷ ds → AreFilesOrGone as' → IsNoFile t → map look_of as' ++ vs ≡ map look_of bs ++ entry.Look y.path t ∷ ws → ⊥
 no_stop [] [] y ds t vs ws p f k e = cc p
 no_stop [] (b ∷ bs) y ds t vs ws p f k e = cc p
-no_stop (a ∷ as') [] y ds t vs ws p f k e = file_or_not a.seen t (files_first a as' f) k (saw_same a.day.path y.path a.seen t (first_same (look_of a) (entry.Look y.path t) (map look_of as' ++ vs) ws e))
-no_stop (a ∷ as') (b ∷ bs) y ds t vs ws p f k e = no_stop as' bs y ds t vs ws (tail_days a.day b.day (days_of as') (days_of bs ++ y ∷ ds) p) (files_rest a as' f) k (others_same (look_of a) (look_of b) (map look_of as' ++ vs) (map look_of bs ++ entry.Look y.path t ∷ ws) e)
+no_stop (a ∷ as') [] y ds t vs ws p f k e = file_or_not a.seen t (files_first a as' f) k (saw_same a.day.path y.path a.seen t (heads (look_of a) (entry.Look y.path t) (map look_of as' ++ vs) ws e))
+no_stop (a ∷ as') (b ∷ bs) y ds t vs ws p f k e = no_stop as' bs y ds t vs ws (tail_days a.day b.day (days_of as') (days_of bs ++ y ∷ ds) p) (files_rest a as' f) k (tails (look_of a) (look_of b) (map look_of as' ++ vs) (map look_of bs ++ entry.Look y.path t ∷ ws) e)
 
 -- ---- members among names
 

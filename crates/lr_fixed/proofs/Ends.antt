@@ -10,6 +10,7 @@ use Rattle.lr_rules.specs.declared.fault.Fault.{Fault}
 use Rattle.lr_rules.specs.declared.fault.Fault.TheVariants as fault
 use Rattle.lr_rules.specs.declared.fault.Phase.{Phase}
 use Rattle.lr_rules.specs.declared.path.Path.{Path}
+use Rattle.lr_rules.proofs.Heads.{heads, tails}
 use Rattle.lr_host.specs.declared.entry.Entry.{Entry}
 use Rattle.lr_host.specs.declared.entry.Entry.TheVariants as entry
 use Rattle.lr_host.specs.declared.thing.Seen.{Seen}
@@ -17,6 +18,7 @@ use Rattle.lr_host.specs.Counted.{call_in, calls_in}
 use Rattle.lr_host.specs.Lists.{IsIn}
 use Rattle.lr_host.specs.Looks.{Sees, IsNoDir}
 use Rattle.lr_host.proofs.Each.{none_pass}
+use Rattle.lr_host.specs.Told.{Maybe}
 use Rattle.lr_scripts.specs.declared.command.Command.{Command}
 use Rattle.lr_scripts.specs.Programs.{runs}
 use Rattle.lr_copy.specs.declared.job.BytesStop.{BytesStop}
@@ -30,14 +32,14 @@ use Rattle.lr_plan.specs.declared.step.Step.TheVariants.{Runs, Removes, MakesDir
 use Rattle.lr_plan.specs.Course.{Part, Nothing, Course, Unbroken, Both}
 use Rattle.lr_plan.specs.Done.{EachDone, LogsDone, SetDone, broke_off, went_on, SetsDone, if_rotated, is_rotated}
 use Rattle.lr_chain.specs.declared.directory.DirStop.TheVariants as unmade
-use Rattle.lr_plan.specs.Outcomes.{Maybe, bytes_fault, Succeeds, Fails, marks_of, ProgramFailed, badly, not_run, maybe_run}
+use Rattle.lr_plan.specs.Outcomes.{bytes_fault, Succeeds, Fails, marks_of, ProgramFailed, badly, not_run, maybe_run}
 use Rattle.lr_acts.specs.Making.{all_of_each, all_of_set, all_of_sets}
 use Rattle.lr_run.proofs.Called.{none_before, none_behind}
 use Rattle.lr_run.proofs.Folded.{last_so}
 use Rattle.lr_run.proofs.Simple.{IsSimple, AreSimple, simple_split}
 use Rattle.lr_fixed.proofs.Called.{one_uncalled, no_call}
 use Rattle.lr_fixed.proofs.Keys.{Key, Made, WasRead, denied, shown, all_shown, Agree, agree_first, agree_second}
-use Rattle.lr_fixed.proofs.Peeled.{first_same, others_same, saw_same, dir_or_not}
+use Rattle.lr_fixed.proofs.Peeled.{saw_same, dir_or_not}
 
 -- ---- the entries that show how a step ended
 
@@ -103,10 +105,10 @@ not_made path seen mode e = cc
 other_or_dir : (path : Path) (mode : Option ℕ) (ts us vs ws : List Entry) → Sees path IsNoDir ts → Succeeds (MakesDir path mode) us → ends_in ts ++ vs ≡ ends_in us ++ ws → ⊥
 other_or_dir path mode ts us vs ws other (inl one) e =
     let x : Entry = entry.Look path other.seen in let y : Entry = entry.MakesDir path mode in
-    not_made path other.seen mode (first_same x y vs ws (ends_are ts us (x ∷ []) (y ∷ []) vs ws (ap ends_in other.look) (ap ends_in one) e))
+    not_made path other.seen mode (heads x y vs ws (ends_are ts us (x ∷ []) (y ∷ []) vs ws (ap ends_in other.look) (ap ends_in one) e))
 other_or_dir path mode ts us vs ws other (inr saw) e =
     let x : Entry = entry.Look path other.seen in let y : Entry = entry.Look path saw.seen in
-    dir_or_not saw.seen other.seen saw.is other.is (sym (saw_same path path other.seen saw.seen (first_same x y vs ws (ends_are ts us (x ∷ []) (y ∷ []) vs ws (ap ends_in other.look) (ap ends_in saw.look) e))))
+    dir_or_not saw.seen other.seen saw.is other.is (sym (saw_same path path other.seen saw.seen (heads x y vs ws (ends_are ts us (x ∷ []) (y ∷ []) vs ws (ap ends_in other.look) (ap ends_in saw.look) e))))
 
 -- ---- a part file, and the bytes that are copied into it
 
@@ -140,7 +142,7 @@ fails_one (Removes path) f g ts us vs ws i h k y z e = absurd (no_call f (fault.
 fails_one (MakesDir path mode) f g ts us vs ws i h k y z e =
     let a = other_told path mode f ts h y in let b = other_told path mode g us k z in
     let x : Entry = entry.Look path a.1.seen in let u : Entry = entry.Look path b.1.seen in
-    (a.0 ∙ sym b.0, others_same x u vs ws (ends_are ts us (x ∷ []) (u ∷ []) vs ws (ap ends_in a.1.look) (ap ends_in b.1.look) e))
+    (a.0 ∙ sym b.0, tails x u vs ws (ends_are ts us (x ∷ []) (u ∷ []) vs ws (ap ends_in a.1.look) (ap ends_in b.1.look) e))
 fails_one (Renames from to) f g ts us vs ws i h k y z e = absurd (no_call f (fault.Call call.Rename from) h.0 refl y)
 fails_one (Creates path mode) f g ts us vs ws i h k y z e = absurd (no_call f (fault.Call call.Make path) h.0 refl y)
 fails_one (Takes path mode) f g ts us vs ws i h k y z e =
@@ -189,7 +191,7 @@ succeeds_one (Runs p on c) ts us vs ws i h k e =
 succeeds_one (Removes path) ts us vs ws i h k e = ends_are ts us [] [] vs ws (ap ends_in h) (ap ends_in k) e
 succeeds_one (MakesDir path mode) ts us vs ws i h k e =
     let a = dir_end path mode ts h in let b = dir_end path mode us k in
-    others_same a.0 b.0 vs ws (ends_are ts us (a.0 ∷ []) (b.0 ∷ []) vs ws a.1 b.1 e)
+    tails a.0 b.0 vs ws (ends_are ts us (a.0 ∷ []) (b.0 ∷ []) vs ws a.1 b.1 e)
 succeeds_one (Renames from to) ts us vs ws i h k e = ends_are ts us [] [] vs ws (ap ends_in h) (ap ends_in k) e
 succeeds_one (Creates path mode) ts us vs ws i h k e = ends_are ts us [] [] vs ws (created_none (entry.Makes path mode) ts refl h) (created_none (entry.Makes path mode) us refl k) e
 succeeds_one (Takes path mode) ts us vs ws i h k e = ends_are ts us [] [] vs ws (ap ends_in h) (ap ends_in k) e

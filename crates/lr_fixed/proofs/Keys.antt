@@ -11,7 +11,7 @@ use Rattle.lr_rules.specs.declared.path.Path.{Path}
 use Rattle.lr_host.specs.declared.entry.Entry.{Entry}
 use Rattle.lr_host.specs.declared.entry.Entry.TheVariants as entry
 use Rattle.lr_host.specs.Lists.{IsNotIn, AreDistinct, IsIn}
-use Rattle.lr_host.specs.Told.{Each}
+use Rattle.lr_host.specs.Told.{Each, Maybe}
 use Rattle.lr_host.proofs.Lists.{in_front, in_back, in_append}
 use Rattle.lr_scripts.specs.declared.command.Command.{Command}
 use Rattle.lr_scripts.specs.Programs.{runs}
@@ -26,7 +26,7 @@ use Rattle.lr_plan.specs.declared.step.Step.TheVariants.{Runs, Removes, MakesDir
 use Rattle.lr_plan.specs.Course.{Course}
 use Rattle.lr_plan.specs.Done.{EachDone, LogsDone, SetDone, broke_off, went_on, SetsDone, is_rotated}
 use Rattle.lr_chain.specs.declared.directory.DirStop.TheVariants as unmade
-use Rattle.lr_plan.specs.Outcomes.{Maybe, bytes_fault, Succeeds, Fails, ProgramFailed, badly, not_run, maybe_run}
+use Rattle.lr_plan.specs.Outcomes.{bytes_fault, Succeeds, Fails, ProgramFailed, badly, not_run, maybe_run}
 use Rattle.lr_acts.specs.Making.{all_of_each, all_of_set, all_of_sets}
 use Rattle.lr_run.proofs.Simple.{IsSimple, AreSimple, simple_split}
 

@@ -17,14 +17,13 @@ use Rattle.lr_host.specs.Quiet.{AreQuiet, ChangeNothing, Quiet}
 use Rattle.lr_host.specs.Safe.{IsSafe}
 use Rattle.lr_host.specs.Sets.{LogSet}
 use Rattle.lr_host.specs.Steady.{IsSteady, IsKeyless}
-use Rattle.lr_host.specs.Told.{Made}
+use Rattle.lr_host.specs.Told.{Made, Maybe}
 use Rattle.lr_host.specs.World.{Past, ◌▸◌, world, names}
 use Rattle.lr_host.proofs.Made.{Cut, cut, CutAt, cut_one, made_journal, made_on}
 use Rattle.lr_host.proofs.Quiet.{quiet_both, quiet_still, sees_quiet, still_both, then_still, still_reverse, since_of, made_quiet, quiet_same}
 use Rattle.lr_host.proofs.Steady.{steady_before, none_attached}
 use Rattle.lr_laws.proofs.Stated.{quiet_safe}
 use Rattle.lr_plan.specs.Asked.{Asked}
-use Rattle.lr_plan.specs.Outcomes.{Maybe}
 use Rattle.lr_plan.specs.Planned.{decision}
 use Rattle.lr_reading.proofs.Quiet.{state_quiet}
 use Rattle.lr_targets.specs.Target.{Target}

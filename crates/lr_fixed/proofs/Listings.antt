@@ -4,6 +4,7 @@ use Rattle.std.specs.List.Sorted.{IsPermutation}
 use Rattle.std.proofs.lemmas.List.Sorted.{IsPermutation-refl, IsPermutation-sym, IsPermutation-trans}
 use Rattle.lr_rules.specs.declared.path.Path.{Path}
 use Rattle.lr_rules.specs.Path.{parent_of}
+use Rattle.lr_rules.proofs.Heads.{heads, tails}
 use Rattle.lr_host.specs.declared.entry.Entry.{Entry}
 use Rattle.lr_host.specs.declared.entry.Entry.TheVariants as entry
 use Rattle.lr_host.specs.Looks.{is_dir}
@@ -11,7 +12,7 @@ use Rattle.lr_family.specs.declared.listing.Listing.{Listing}
 use Rattle.lr_family.specs.Listed.{ShowsListing, ShowsNoDir}
 use Rattle.lr_kept.proofs.Elements.{read_push_cases}
 use Rattle.lr_looks.specs.Families.{WasListed, WasNotListed}
-use Rattle.lr_fixed.proofs.Peeled.{front_same, then_same, joined_same, first_same, others_same, names_same, OneLook, one_look, dir_or_not, dir_or_nothing, not_or_nothing}
+use Rattle.lr_fixed.proofs.Peeled.{front_same, then_same, joined_same, names_same, OneLook, one_look, dir_or_not, dir_or_nothing, not_or_nothing}
 
 -- ---- one directory
 
@@ -30,7 +31,7 @@ both_there dir parent parent' names names' ts us vs ws h g e = record {
   parent_is = h.0 ∙ sym g.0;
   names_are = IsPermutation-trans names h.1.second.listed names' (IsPermutation-sym h.1.second.listed names h.1.second.same) (subst (λ l. IsPermutation l names') (sym listed) g.1.second.same);
   looks_are = joined_same ts us h.1 g.1 look.looks_are (h.1.second.list ∙ (ap (λ x. x ∷ []) one ∙ sym g.1.second.list));
-  rest_is = others_same (entry.List dir h.1.second.listed) (entry.List dir g.1.second.listed) vs ws both;
+  rest_is = tails (entry.List dir h.1.second.listed) (entry.List dir g.1.second.listed) vs ws both;
 }
   where
     look : OneLook h.1.first.seen g.1.first.seen h.1.front g.1.front (h.1.back ++ vs) (g.1.back ++ ws)
@@ -40,7 +41,7 @@ both_there dir parent parent' names names' ts us vs ws h g e = record {
     both = front_same h.1.back g.1.back (entry.List dir h.1.second.listed ∷ []) (entry.List dir g.1.second.listed ∷ []) vs ws h.1.second.list g.1.second.list look.rest_is
 
     one : entry.List dir h.1.second.listed ≡ entry.List dir g.1.second.listed
-    one = first_same (entry.List dir h.1.second.listed) (entry.List dir g.1.second.listed) vs ws both
+    one = heads (entry.List dir h.1.second.listed) (entry.List dir g.1.second.listed) vs ws both
 
     listed : h.1.second.listed ≡ g.1.second.listed
     listed = names_same dir dir h.1.second.listed g.1.second.listed one

@@ -7,6 +7,7 @@ use Rattle.std.proofs.lemmas.List.Sorted.{Contains-permutation, IsPermutation-sy
 use Rattle.std.proofs.lemmas.Map.Lookups.{exact_bytes}
 use Rattle.lr_rules.specs.declared.path.Path.{Path}
 use Rattle.lr_rules.specs.declared.rule.Naming.{Naming}
+use Rattle.lr_rules.proofs.Heads.{heads, tails}
 use Rattle.lr_host.specs.declared.thing.Seen.{Seen}
 use Rattle.lr_host.specs.declared.entry.Entry.{Entry}
 use Rattle.lr_family.specs.declared.stand.StandStop.TheVariants as stop
@@ -14,7 +15,7 @@ use Rattle.lr_family.specs.Among.{StopsBehind}
 use Rattle.lr_days.specs.Among.{StopsBehind as StopsBehindDays}
 use Rattle.lr_family.specs.Parts.{IsPartAmong, AreParts, PartSight, part_look, part_in, PartsAmong, StopsBefore, ShowsNoParts}
 use Rattle.lr_family.proofs.Ordered.{same_rising}
-use Rattle.lr_fixed.proofs.Peeled.{front_same, first_same, others_same, saw_same}
+use Rattle.lr_fixed.proofs.Peeled.{front_same, saw_same}
 
 -- ---- part files among names
 
@@ -49,8 +50,8 @@ same_sights [] [] vs ws p e = (refl, e)
 same_sights [] (b ∷ bs) vs ws p e = absurd (cc p)
 same_sights (a ∷ as') [] vs ws p e = absurd (cc p)
 same_sights (a ∷ as') (b ∷ bs) vs ws p e =
-    let one = sight_same a b (head_path a.path b.path (paths_of as') (paths_of bs) p) (saw_same a.path b.path a.seen b.seen (first_same (part_look a) (part_look b) (map part_look as' ++ vs) (map part_look bs ++ ws) e)) in
-    let r = same_sights as' bs vs ws (tail_paths a.path b.path (paths_of as') (paths_of bs) p) (others_same (part_look a) (part_look b) (map part_look as' ++ vs) (map part_look bs ++ ws) e) in
+    let one = sight_same a b (head_path a.path b.path (paths_of as') (paths_of bs) p) (saw_same a.path b.path a.seen b.seen (heads (part_look a) (part_look b) (map part_look as' ++ vs) (map part_look bs ++ ws) e)) in
+    let r = same_sights as' bs vs ws (tail_paths a.path b.path (paths_of as') (paths_of bs) p) (tails (part_look a) (part_look b) (map part_look as' ++ vs) (map part_look bs ++ ws) e) in
     (ap (λ s. s ∷ as') one ∙ ap (λ ss. b ∷ ss) r.0, r.1)
 
 -- the same part files stand

@@ -2,6 +2,7 @@
 use Rattle.std.proofs.Common.{◌≡◌, ℕ, List, [], ◌∷◌, ◌++◌, Option, None, Some, sym, ap, ◌∙◌, subst, append_assoc}
 use Rattle.std.proofs.lemmas.Option.{same_Some}
 use Rattle.lr_rules.specs.declared.path.Path.{Path}
+use Rattle.lr_rules.proofs.Heads.{heads, tails}
 use Rattle.lr_host.specs.declared.thing.Seen.{Seen}
 use Rattle.lr_host.specs.declared.entry.Entry.{Entry}
 use Rattle.lr_host.specs.declared.entry.Entry.TheVariants as entry
@@ -20,14 +21,6 @@ then_same ts us vs ws t u e = sym (append_assoc t.front t.back vs) ∙ (front_sa
 pub joined_same : {P Q R S : List Entry → Type 0} (ts us : List Entry) → (t : Then P Q ts) → (u : Then R S us) → t.front ≡ u.front → t.back ≡ u.back → ts ≡ us
 joined_same ts us t u p q = t.joined ∙ (ap (λ l. l ++ t.back) p ∙ (ap (λ l. u.front ++ l) q ∙ sym u.joined))
 
--- the first entries are one
-pub first_same : (x y : Entry) (xs ys : List Entry) → x ∷ xs ≡ y ∷ ys → x ≡ y
-first_same x y xs ys e = cc
-
--- and the others are the same
-pub others_same : (x y : Entry) (xs ys : List Entry) → x ∷ xs ≡ y ∷ ys → xs ≡ ys
-others_same x y xs ys e = cc
-
 -- two looks that are one entry saw one thing
 pub saw_same : (x y : Path) (s t : Option Seen) → entry.Look x s ≡ entry.Look y t → s ≡ t
 saw_same x y s t e = cc
@@ -44,13 +37,13 @@ pub record OneLook (seen more : Option Seen) (ts us vs ws : List Entry) : Type 0
 
 -- two looks at the front of the same entries are one
 pub one_look : (path other : Path) {P Q : Option Seen → Type 0} (ts us vs ws : List Entry) → (s : Sees path P ts) → (t : Sees other Q us) → ts ++ vs ≡ us ++ ws → OneLook s.seen t.seen ts us vs ws
-one_look path other ts us vs ws s t e = record { seen_is = saw_same path other s.seen t.seen one; looks_are = s.look ∙ (ap (λ x. x ∷ []) one ∙ sym t.look); rest_is = others_same (entry.Look path s.seen) (entry.Look other t.seen) vs ws both }
+one_look path other ts us vs ws s t e = record { seen_is = saw_same path other s.seen t.seen one; looks_are = s.look ∙ (ap (λ x. x ∷ []) one ∙ sym t.look); rest_is = tails (entry.Look path s.seen) (entry.Look other t.seen) vs ws both }
   where
     both : entry.Look path s.seen ∷ vs ≡ entry.Look other t.seen ∷ ws
     both = front_same ts us (entry.Look path s.seen ∷ []) (entry.Look other t.seen ∷ []) vs ws s.look t.look e
 
     one : entry.Look path s.seen ≡ entry.Look other t.seen
-    one = first_same (entry.Look path s.seen) (entry.Look other t.seen) vs ws both
+    one = heads (entry.Look path s.seen) (entry.Look other t.seen) vs ws both
 
 -- ---- what one look can't have shown
 

@@ -6,6 +6,7 @@ use Rattle.lr_rules.specs.declared.fault.Fault.{Fault}
 use Rattle.lr_rules.specs.declared.path.Path.{Path}
 use Rattle.lr_rules.specs.declared.rules.Rules.{Rules}
 use Rattle.lr_rules.specs.Path.{parent_of}
+use Rattle.lr_rules.proofs.Heads.{tails}
 use Rattle.lr_host.specs.declared.entry.Entry.{Entry}
 use Rattle.lr_host.specs.declared.entry.Entry.TheVariants as entry
 use Rattle.lr_host.specs.Looks.{Sees, IsDir, IsNotDir}
@@ -14,7 +15,7 @@ use Rattle.lr_plan.specs.Asked.{Asked}
 use Rattle.lr_plan.specs.declared.plan.Plan.{Plan}
 use Rattle.lr_run.specs.Runs.{Runs, no_directory, not_seen, not_begun, began}
 use Rattle.lr_fixed.proofs.Called.{one_called}
-use Rattle.lr_fixed.proofs.Peeled.{one_look, others_same}
+use Rattle.lr_fixed.proofs.Peeled.{one_look}
 use Rattle.lr_fixed.proofs.Works.{works_one}
 
 -- a look alone isn't a look with a start behind it
@@ -27,7 +28,7 @@ alone_or_begun path state clock rules rest before ts s b e = ends (one_look path
 -- what lies between the starts and the ends of the same entries is the same
 between_same : (path : Path) (state : Path) (clock : Clock) (rules : Rules) (before others xs ys ts : List Entry) → Sees path IsDir before → Sees path IsDir others
     → ts ≡ before ++ (entry.Starts state clock.now rules ∷ (xs ++ entry.Ends ∷ [])) → ts ≡ others ++ (entry.Starts state clock.now rules ∷ (ys ++ entry.Ends ∷ [])) → xs ≡ ys
-between_same path state clock rules before others xs ys ts s t e f = append_cancel_right xs ys (entry.Ends ∷ []) (others_same _ _ (xs ++ entry.Ends ∷ []) (ys ++ entry.Ends ∷ [])
+between_same path state clock rules before others xs ys ts s t e f = append_cancel_right xs ys (entry.Ends ∷ []) (tails _ _ (xs ++ entry.Ends ∷ []) (ys ++ entry.Ends ∷ [])
     (one_look path path before others (entry.Starts state clock.now rules ∷ (xs ++ entry.Ends ∷ [])) (entry.Starts state clock.now rules ∷ (ys ++ entry.Ends ∷ [])) s t (sym e ∙ f)).rest_is)
 
 -- two runs that left the same entries, and of which no call failed, met the same faults

@@ -10,12 +10,11 @@ use Rattle.lr_rules.specs.Path.{parent_of}
 use Rattle.lr_host.specs.declared.entry.Entry.{Entry}
 use Rattle.lr_host.specs.declared.entry.Entry.TheVariants as entry
 use Rattle.lr_host.specs.Looks.{IsDir, IsNotDir}
-use Rattle.lr_host.specs.Told.{Made}
+use Rattle.lr_host.specs.Told.{Made, Maybe}
 use Rattle.lr_host.specs.World.{Past}
 use Rattle.lr_host.proofs.Made.{Cut}
 use Rattle.lr_plan.specs.Asked.{Asked}
 use Rattle.lr_plan.specs.declared.looks.SetLooks.{SetLooks}
-use Rattle.lr_plan.specs.Outcomes.{Maybe}
 use Rattle.lr_plan.specs.Planned.{decision}
 use Rattle.lr_looks.specs.Shown.{ShowsLooks}
 use Rattle.lr_seen.specs.Free.{reserved_by}

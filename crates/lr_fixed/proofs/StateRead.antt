@@ -5,15 +5,17 @@ use Rattle.lr_rules.specs.declared.fault.CallKind.TheVariants as call
 use Rattle.lr_rules.specs.declared.fault.Fault.{Fault}
 use Rattle.lr_rules.specs.declared.fault.Fault.TheVariants as fault
 use Rattle.lr_rules.specs.declared.path.Path.{Path}
+use Rattle.lr_rules.specs.StatePath.{state_part}
+use Rattle.lr_rules.proofs.Heads.{heads, tails}
 use Rattle.lr_host.specs.declared.entry.Entry.{Entry}
 use Rattle.lr_host.specs.declared.entry.Entry.TheVariants as entry
 use Rattle.lr_host.specs.Counted.{call_in}
 use Rattle.lr_reading.specs.declared.look.LookStop.{LookStop}
 use Rattle.lr_reading.specs.Answers.{Known, IsKnownBy, IsKnownBehind, IsKnownOf, IsKnown, text_of}
 use Rattle.lr_reading.specs.Pieces.{Reading, Whole, Broken, AreSome, IsLast, IsReading, bytes_of, reads_from}
-use Rattle.lr_reading.specs.Sights.{Sight, Failed, Nothing, Saw, StateSights, ShowsState, found, look_of, state_part, text_entries, behind_part, part_entries, behind_state, entries_of}
+use Rattle.lr_reading.specs.Sights.{Sight, Failed, Nothing, Saw, StateSights, ShowsState, found, look_of, text_entries, behind_part, part_entries, behind_state, entries_of}
 use Rattle.lr_reading.proofs.One.{one_answer}
-use Rattle.lr_fixed.proofs.Peeled.{front_same, first_same, others_same, saw_same}
+use Rattle.lr_fixed.proofs.Peeled.{front_same, saw_same}
 
 -- it isn't a failed call by which nothing is known
 abbrev pub NoCall : Known → Type 0
@@ -40,12 +42,12 @@ same_sight : (path : Path) (a b : Sight) (vs ws : List Entry) → (a ≡ Failed 
 same_sight path Failed b vs ws f g e = absurd (f refl)
 same_sight path Nothing Failed vs ws f g e = absurd (g refl)
 same_sight path (Saw s) Failed vs ws f g e = absurd (g refl)
-same_sight path Nothing Nothing vs ws f g e = record { sight_is = refl; rest_is = others_same (entry.Look path None) (entry.Look path None) vs ws e }
-same_sight path Nothing (Saw t) vs ws f g e = absurd (let seen = saw_same path path None (Some t) (first_same (entry.Look path None) (entry.Look path (Some t)) vs ws e) in cc)
-same_sight path (Saw s) Nothing vs ws f g e = absurd (let seen = saw_same path path (Some s) None (first_same (entry.Look path (Some s)) (entry.Look path None) vs ws e) in cc)
+same_sight path Nothing Nothing vs ws f g e = record { sight_is = refl; rest_is = tails (entry.Look path None) (entry.Look path None) vs ws e }
+same_sight path Nothing (Saw t) vs ws f g e = absurd (let seen = saw_same path path None (Some t) (heads (entry.Look path None) (entry.Look path (Some t)) vs ws e) in cc)
+same_sight path (Saw s) Nothing vs ws f g e = absurd (let seen = saw_same path path (Some s) None (heads (entry.Look path (Some s)) (entry.Look path None) vs ws e) in cc)
 same_sight path (Saw s) (Saw t) vs ws f g e = record {
-  sight_is = ap Saw (same_Some s t (saw_same path path (Some s) (Some t) (first_same (entry.Look path (Some s)) (entry.Look path (Some t)) vs ws e)));
-  rest_is = others_same (entry.Look path (Some s)) (entry.Look path (Some t)) vs ws e;
+  sight_is = ap Saw (same_Some s t (saw_same path path (Some s) (Some t) (heads (entry.Look path (Some s)) (entry.Look path (Some t)) vs ws e)));
+  rest_is = tails (entry.Look path (Some s)) (entry.Look path (Some t)) vs ws e;
 }
 
 -- ---- one text
@@ -86,17 +88,17 @@ piece_same path place x y e = cc
 pieces_one : (size : ℕ) (path : Path) (place : ℕ) (ps qs : List (List ℕ)) (l m : List ℕ) (vs ws : List Entry) → EndsAt size place ps l → EndsAt size place qs m
     → reads_from path place (ps ++ l ∷ []) ++ vs ≡ reads_from path place (qs ++ m ∷ []) ++ ws → OnePart (reads_from path place (ps ++ l ∷ [])) (reads_from path place (qs ++ m ∷ [])) vs ws
 pieces_one size path place [] [] l m vs ws h g e =
-    record { entries_are = ap (λ (x : Entry). x ∷ []) (first_same (entry.Reads path place l) (entry.Reads path place m) vs ws e); rest_is = others_same (entry.Reads path place l) (entry.Reads path place m) vs ws e }
+    record { entries_are = ap (λ (x : Entry). x ∷ []) (heads (entry.Reads path place l) (entry.Reads path place m) vs ws e); rest_is = tails (entry.Reads path place l) (entry.Reads path place m) vs ws e }
 pieces_one size path place [] (q ∷ qs) l m vs ws h g e =
-    absurd (not_last size place l q qs m (piece_same path place l q (first_same (entry.Reads path place l) (entry.Reads path place q) vs (reads_from path (place + length q) (qs ++ m ∷ []) ++ ws) e)) h g)
+    absurd (not_last size place l q qs m (piece_same path place l q (heads (entry.Reads path place l) (entry.Reads path place q) vs (reads_from path (place + length q) (qs ++ m ∷ []) ++ ws) e)) h g)
 pieces_one size path place (p ∷ ps) [] l m vs ws h g e =
-    absurd (not_last size place m p ps l (sym (piece_same path place p m (first_same (entry.Reads path place p) (entry.Reads path place m) (reads_from path (place + length p) (ps ++ l ∷ []) ++ vs) ws e))) g h)
+    absurd (not_last size place m p ps l (sym (piece_same path place p m (heads (entry.Reads path place p) (entry.Reads path place m) (reads_from path (place + length p) (ps ++ l ∷ []) ++ vs) ws e))) g h)
 pieces_one size path place (p ∷ ps) (q ∷ qs) l m vs ws h g e = first_one
     (pieces_one size path (place + length p) ps qs l m vs ws (ends_on size place p ps l h) (ends_on size place p qs m (subst (λ (x : List ℕ). EndsAt size place (x ∷ qs) m) (sym same) g))
-    (others_same (entry.Reads path place p) (entry.Reads path place q) (reads_from path (place + length p) (ps ++ l ∷ []) ++ vs) (reads_from path (place + length q) (qs ++ m ∷ []) ++ ws) e ∙ ap (λ xs. xs ++ ws) (sym back)))
+    (tails (entry.Reads path place p) (entry.Reads path place q) (reads_from path (place + length p) (ps ++ l ∷ []) ++ vs) (reads_from path (place + length q) (qs ++ m ∷ []) ++ ws) e ∙ ap (λ xs. xs ++ ws) (sym back)))
   where
     one : entry.Reads path place p ≡ entry.Reads path place q
-    one = first_same (entry.Reads path place p) (entry.Reads path place q) (reads_from path (place + length p) (ps ++ l ∷ []) ++ vs) (reads_from path (place + length q) (qs ++ m ∷ []) ++ ws) e
+    one = heads (entry.Reads path place p) (entry.Reads path place q) (reads_from path (place + length p) (ps ++ l ∷ []) ++ vs) (reads_from path (place + length q) (qs ++ m ∷ []) ++ ws) e
 
     same : p ≡ q
     same = piece_same path place p q one

@@ -11,6 +11,7 @@ use Rattle.lr_rules.specs.declared.fault.StateKind.TheVariants as kind
 use Rattle.lr_rules.specs.declared.path.Path.{Path}
 use Rattle.lr_rules.specs.declared.rule.Rule.{Rule}
 use Rattle.lr_rules.specs.declared.rules.Rules.{Rules}
+use Rattle.lr_rules.specs.StatePath.{state_part}
 use Rattle.lr_host.specs.declared.entry.Entry.{Entry}
 use Rattle.lr_host.specs.Counted.{calls_in}
 use Rattle.lr_plan.specs.Asked.{Asked}
@@ -18,7 +19,7 @@ use Rattle.lr_plan.specs.declared.plan.SetPlan.{SetPlan}
 use Rattle.lr_plan.specs.declared.step.SetSteps.{SetSteps}
 use Rattle.lr_plan.specs.Done.{SetsDone}
 use Rattle.lr_plan.specs.Planned.{decision}
-use Rattle.lr_plan.specs.Steps.{state_part, steps_of_set, steps_of_plan}
+use Rattle.lr_plan.specs.Steps.{steps_of_set, steps_of_plan}
 use Rattle.lr_reading.specs.declared.remembered.Remembered.{Remembered}
 use Rattle.lr_reading.specs.Answers.{Known, IsKnown}
 use Rattle.lr_reading.specs.Sights.{StateSights, ShowsState}

@@ -6,6 +6,7 @@ use Rattle.lr_rules.specs.declared.fault.Fault.{Fault}
 use Rattle.lr_rules.specs.declared.fault.Fault.TheVariants as fault
 use Rattle.lr_rules.specs.declared.path.Path.{Path}
 use Rattle.lr_rules.specs.Path.{parent_of}
+use Rattle.lr_rules.specs.StatePath.{state_part}
 use Rattle.lr_host.specs.declared.entry.Entry.{Entry}
 use Rattle.lr_host.specs.declared.entry.Entry.TheVariants as entry
 use Rattle.lr_plan.specs.declared.mark.Mark.{Mark}
@@ -14,7 +15,7 @@ use Rattle.lr_plan.specs.declared.step.Step.TheVariants.{Renames, Takes, Appends
 use Rattle.lr_host.specs.Counted.{call_in, calls_in}
 use Rattle.lr_plan.specs.Course.{Course}
 use Rattle.lr_plan.specs.Outcomes.{Fails}
-use Rattle.lr_plan.specs.Steps.{state_part, state_steps}
+use Rattle.lr_plan.specs.Steps.{state_steps}
 use Rattle.lr_fixed.proofs.Called.{one_called}
 
 -- ---- steps that fail by a call alone

@@ -9,6 +9,7 @@ use Rattle.lr_rules.specs.declared.path.Path.{Path}
 use Rattle.lr_rules.specs.declared.rule.Rule.{Rule}
 use Rattle.lr_rules.specs.declared.rules.Rules.{Rules}
 use Rattle.lr_rules.specs.Names.{IsOwnName}
+use Rattle.lr_rules.specs.StatePath.{state_part}
 use Rattle.lr_due.specs.declared.answer.Due.{Due}
 use Rattle.lr_host.specs.declared.entry.Entry.{Entry}
 use Rattle.lr_host.specs.declared.entry.Entry.TheVariants as entry
@@ -26,7 +27,6 @@ use Rattle.lr_looks.specs.Shown.{ShowsLooks}
 use Rattle.lr_plan.specs.declared.looks.LogLook.{LogLook}
 use Rattle.lr_plan.specs.declared.looks.SetLooks.{SetLooks}
 use Rattle.lr_plan.specs.Planned.{makes_dir, mode_of}
-use Rattle.lr_plan.specs.Steps.{state_part}
 use Rattle.lr_targets.specs.AllTurns.{IsStatePath, IsItsDir, IsOfState, IsOfSome}
 use Rattle.lr_targets.specs.Target.{Target}
 use Rattle.lr_dated_run.specs.Own.{HaveAnyNames}

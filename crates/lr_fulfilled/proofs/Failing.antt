@@ -7,6 +7,7 @@ use Rattle.lr_rules.specs.declared.fault.Fault.TheVariants as fault
 use Rattle.lr_rules.specs.declared.path.Path.{Path}
 use Rattle.lr_rules.specs.declared.rule.Rule.{Rule}
 use Rattle.lr_rules.specs.Path.{parent_of}
+use Rattle.lr_rules.specs.StatePath.{state_part}
 use Rattle.lr_host.specs.declared.entry.Entry.{Entry}
 use Rattle.lr_host.specs.Counted.{call_in, calls_in}
 use Rattle.lr_host.specs.Lists.{IsIn}
@@ -18,7 +19,7 @@ use Rattle.lr_plan.specs.declared.step.Step.TheVariants.{Removes, Renames, Takes
 use Rattle.lr_plan.specs.Course.{Course}
 use Rattle.lr_plan.specs.Done.{ActsDone}
 use Rattle.lr_plan.specs.Outcomes.{Fails}
-use Rattle.lr_plan.specs.Steps.{state_part, step_if, state_steps}
+use Rattle.lr_plan.specs.Steps.{step_if, state_steps}
 use Rattle.lr_run.specs.Runs.{Worked, plan_in, dirs_in, state_text}
 use Rattle.lr_run.proofs.Called.{none_behind, worked_met_none}
 use Rattle.lr_fulfilled.specs.Fulfilled.{NothingFailed}

@@ -8,6 +8,7 @@ use Rattle.lr_rules.specs.declared.path.Path.{Path}
 use Rattle.lr_rules.specs.declared.rule.Rule.{Rule}
 use Rattle.lr_rules.specs.declared.rules.Rules.{Rules}
 use Rattle.lr_rules.specs.Path.{parent_of}
+use Rattle.lr_rules.specs.StatePath.{state_part}
 use Rattle.lr_due.specs.declared.answer.Due.{Due}
 use Rattle.lr_host.specs.declared.entry.Entry.{Entry}
 use Rattle.lr_host.specs.declared.entry.Entry.TheVariants as entry
@@ -28,7 +29,7 @@ use Rattle.lr_plan.specs.declared.looks.LogLook.{LogLook}
 use Rattle.lr_plan.specs.Course.{Course}
 use Rattle.lr_plan.specs.Done.{ActsDone, rotated_logs}
 use Rattle.lr_plan.specs.Planned.{decision}
-use Rattle.lr_plan.specs.Steps.{state_part, state_steps, steps_of_set}
+use Rattle.lr_plan.specs.Steps.{state_steps, steps_of_set}
 use Rattle.lr_targets.specs.AllTurns.{IsOfSome, IsOfState}
 use Rattle.lr_targets.specs.Target.{Target}
 use Rattle.lr_dated_run.specs.Own.{HaveAnyNames}

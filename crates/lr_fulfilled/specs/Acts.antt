@@ -3,11 +3,11 @@ use Rattle.std.specs.Prelude.{◌≡◌, pos, Bool, true, false, List, [], ◌�
 use Rattle.lr_rules.specs.declared.fault.Ended.TheVariants as ended
 use Rattle.lr_host.specs.declared.entry.Entry.{Entry}
 use Rattle.lr_host.specs.declared.entry.Entry.TheVariants as entry
-use Rattle.lr_host.specs.Told.{Then}
+use Rattle.lr_host.specs.Told.{Then, Maybe}
 use Rattle.lr_scripts.specs.Programs.{runs}
 use Rattle.lr_plan.specs.declared.step.Step.{Step}
 use Rattle.lr_plan.specs.declared.step.Step.TheVariants.{Runs, Removes, MakesDir, Renames, Creates, Takes, SyncsFile, SyncsDir, Truncates}
-use Rattle.lr_plan.specs.Outcomes.{One, Maybe}
+use Rattle.lr_plan.specs.Outcomes.{One}
 
 -- an entry by which the tool changes a name, truncates, syncs, or runs a program: all that it does to a disk but appends
 abbrev pub is_act : Entry → Bool

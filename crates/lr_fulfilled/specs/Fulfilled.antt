@@ -6,6 +6,7 @@ use Rattle.lr_rules.specs.declared.fault.Fault.TheVariants as fault
 use Rattle.lr_rules.specs.declared.path.Path.{Path}
 use Rattle.lr_rules.specs.declared.rule.Rule.{Rule}
 use Rattle.lr_rules.specs.Names.{IsOwnName}
+use Rattle.lr_rules.specs.StatePath.{state_part}
 use Rattle.lr_host.specs.declared.entry.Entry.{Entry}
 use Rattle.lr_host.specs.declared.thing.Thing.TheVariants as thing
 use Rattle.lr_host.specs.Lists.{IsIn}
@@ -18,7 +19,7 @@ use Rattle.lr_acts.specs.Named.{OneCreates}
 use Rattle.lr_looks.specs.Found.{FoundLog}
 use Rattle.lr_plan.specs.Asked.{Asked}
 use Rattle.lr_plan.specs.declared.step.Step.{Step}
-use Rattle.lr_plan.specs.Steps.{steps_of_plan, state_part, state_steps}
+use Rattle.lr_plan.specs.Steps.{steps_of_plan, state_steps}
 use Rattle.lr_targets.specs.AllTurns.{IsItsDir}
 use Rattle.lr_targets.specs.Target.{Target}
 use Rattle.lr_run.specs.Met.{MetNothing}

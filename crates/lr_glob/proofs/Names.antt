@@ -7,6 +7,7 @@ use Rattle.std.proofs.lemmas.List.{append-nil}
 use Rattle.lr_rules.specs.declared.path.Path.{Path}
 use Rattle.lr_rules.specs.Path.{joined, is_slash, is_empty, is_absolute, has_empty_part}
 use Rattle.lr_rules.specs.Match.{literal_path}
+use Rattle.lr_rules.proofs.Heads.{tails}
 use Rattle.lr_host.specs.Fits.{IsPart}
 use Rattle.lr_host.specs.Lists.{IsIn}
 use Rattle.lr_glob.specs.Parts.{parts_in}
@@ -60,9 +61,6 @@ split_parts (b ∷ bs) = by (is_slash b) (slice_split is_slash bs)
     by true ps = some_parts [] ps
     by false [] = some_parts (b ∷ []) []
     by false (q ∷ qs) = some_parts (b ∷ q) qs
-
-tails : (x y : ℕ) (xs ys : List ℕ) → x ∷ xs ≡ y ∷ ys → xs ≡ ys
-tails x y xs ys e = cc
 
 split_behind : (bs : List ℕ) → behind (slice_split is_slash bs) ≡ 47 ∷ bs
 split_behind [] = refl

@@ -3,6 +3,7 @@ use Rattle.std.proofs.Common.{◌≡◌, ◌<◌, ◌≤◌, ◌+◌, ◌⊎◌,
 use Rattle.std.specs.List.{list_any}
 use Rattle.lr_rules.specs.declared.path.Path.{Path}
 use Rattle.lr_rules.specs.Path.{is_empty}
+use Rattle.lr_rules.proofs.Heads.{heads, tails}
 use Rattle.lr_host.specs.declared.entry.Entry.{Entry}
 use Rattle.lr_host.specs.declared.entry.Entry.TheVariants.{Reads}
 use Rattle.lr_host.specs.Told.{Each, Are, Then}
@@ -73,12 +74,6 @@ all_end path limit bytes ts (to_limit e r) = limit_ends path limit 0 ts r.only r
 all_end path limit bytes ts (to_end lt t) =
     subst (Ends limit 0) (sym (t.joined ∙ ap (λ us. t.front ++ us) t.second)) (end_ends path limit 0 (length bytes) t.front t.first.only t.first.some (omega (arith, ap length t.first.bytes_are, lt)))
 
-first_same : (x y : Entry) (xs ys : List Entry) → x ∷ xs ≡ y ∷ ys → x ≡ y
-first_same x y xs ys e = cc
-
-others_same : (x y : Entry) (xs ys : List Entry) → x ∷ xs ≡ y ∷ ys → xs ≡ ys
-others_same x y xs ys e = cc
-
 -- the one that has entries left read below the limit, where the other had read to it
 not_before : (limit size : ℕ) (t : Entry) (ts : List Entry) → size ≡ limit → Ends limit size (t ∷ ts) → ⊥
 not_before limit size (Reads x from piece) ts e h = let lt = h.0 in omega (arith, e, lt)
@@ -103,8 +98,8 @@ ends_one limit size [] [] vs ws h k e = (refl, e)
 ends_one limit size [] (u ∷ us) vs ws h k e = absurd (not_before limit size u us h k)
 ends_one limit size (t ∷ ts) [] vs ws h k e = absurd (not_before limit size t ts k h)
 ends_one limit size (t ∷ ts) (u ∷ us) vs ws h k e =
-    let one = first_same t u (ts ++ vs) (us ++ ws) e in
-    let rest = others_same t u (ts ++ vs) (us ++ ws) e in
+    let one = heads t u (ts ++ vs) (us ++ ws) e in
+    let rest = tails t u (ts ++ vs) (us ++ ws) e in
     let more = both_end limit size t ts us vs ws h (subst (λ (v : Entry). Ends limit size (v ∷ us)) (sym one) k) rest (λ size a b. ends_one limit size ts us vs ws a b rest) in
     (ap (λ y. y ∷ ts) one ∙ ap (λ ys. u ∷ ys) more.0, more.1)
 

@@ -66,6 +66,10 @@ Each P (e ∷ es) = P e × Each P es
 abbrev pub Are : List Entry → List Entry → Type 0
 Are es ts = ts ≡ es
 
+-- this entry, or none
+abbrev pub Maybe : Entry → List Entry → Type 0
+Maybe e ts = (ts ≡ []) ⊎ (ts ≡ e ∷ [])
+
 -- of a call that changes nothing: its entry, none where it failed
 abbrev pub Gave : {T E : Type 0} → Result T E → (T → Entry) → List Entry → Type 0
 Gave (Ok x) e ts = ts ≡ e x ∷ []

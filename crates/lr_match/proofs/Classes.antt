@@ -5,6 +5,7 @@ use Rattle.std.proofs.lemmas.Bool.{or_parts}
 use Rattle.std.proofs.lemmas.Bool.Decides.{nat_tests}
 use Rattle.std.proofs.lemmas.List.Folds.{list_any-append}
 use Rattle.lr_rules.specs.Match.{ranges_have, is_close, IsClass}
+use Rattle.lr_rules.proofs.Heads.{heads, tails}
 use Rattle.lr_match.specs.Classes.{before_close, signs_of, Turned, HasNoClass}
 
 -- ---- ranges
@@ -105,12 +106,6 @@ none_by cs bs false h n = tail_free cs (ap (λ xs. list_any is_close (drop 1 xs)
 
 closed_behind : (sign : ℕ) (bs more rest : List ℕ) → bs ≡ sign ∷ more ++ 93 ∷ rest → list_any is_close (drop 1 bs) ≡ false → ⊥
 closed_behind sign bs more rest e n = let t = sym (some_closes more rest) ∙ (ap (λ xs. list_any is_close (drop 1 xs)) (sym e) ∙ n) in absurd (cc)
-
-heads : (x y : ℕ) (xs ys : List ℕ) → x ∷ xs ≡ y ∷ ys → x ≡ y
-heads x y xs ys e = cc
-
-tails : (x y : ℕ) (xs ys : List ℕ) → x ∷ xs ≡ y ∷ ys → xs ≡ ys
-tails x y xs ys e = cc
 
 pub no_class_by : (cs bs : List ℕ) (t : Bool) → Turned cs t bs → list_any is_close (drop 1 bs) ≡ false → (u : Bool) (signs rest : List ℕ) → IsClass cs u signs rest → ⊥
 no_class_by cs bs true h n _ _ _ (IsClass.straight sign more rest other none e) = other (heads sign 33 (more ++ 93 ∷ rest) bs (sym e ∙ h))

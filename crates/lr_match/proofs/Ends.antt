@@ -9,14 +9,10 @@ use Rattle.std.proofs.Math.Seq.{drop-append_seam}
 use Rattle.std.proofs.lemmas.List.{take-append-drop, length-append, get_or_default}
 use Rattle.std.proofs.lemmas.Slice.Eq.{bytes_eq-Decides}
 use Rattle.lr_rules.specs.Match.{EndsWith}
+use Rattle.lr_rules.proofs.Bools.{both}
 
 begins_at : (name front end : List ℕ) → name ≡ front ++ end → length name - length end ≡ length front
 begins_at name front end e = let l = ap length e in let m = length-append front end in omega arith
-
-both : (a b : Bool) → (a && b) ≡ true → (a ≡ true) × (b ≡ true)
-both true true h = (refl, refl)
-both true false h = absurd (cc)
-both false b h = absurd (cc)
 
 -- the test tells it
 pub ends_tell : (name end : List ℕ) → Decides (ends_with end name) (EndsWith name end)

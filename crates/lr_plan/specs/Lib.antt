@@ -6,5 +6,4 @@ pub mod Cut
 pub mod Done
 pub mod Outcomes
 pub mod Planned
-pub mod Settings
 pub mod Steps

@@ -9,6 +9,7 @@ use Rattle.lr_rules.specs.declared.fault.Fault.TheVariants as fault
 use Rattle.lr_rules.specs.declared.fault.Phase.{Phase}
 use Rattle.lr_host.specs.declared.entry.Entry.{Entry}
 use Rattle.lr_host.specs.declared.entry.Entry.TheVariants as entry
+use Rattle.lr_host.specs.Told.{Maybe}
 use Rattle.lr_scripts.specs.declared.command.Command.{Command}
 use Rattle.lr_scripts.specs.Programs.{runs}
 use Rattle.lr_chain.specs.declared.directory.DirStop.{DirStop}
@@ -23,12 +24,9 @@ use Rattle.lr_plan.specs.declared.mark.Mark.TheVariants as mark
 use Rattle.lr_plan.specs.declared.step.Step.{Step}
 use Rattle.lr_plan.specs.declared.step.Step.TheVariants.{Runs, Removes, MakesDir, Renames, Creates, Takes, Copies, Appends, SyncsFile, SyncsDir, Truncates, Rotated}
 
--- this entry alone; this entry or none
+-- this entry alone
 abbrev pub One : Entry → List Entry → Type 0
 One e ts = ts ≡ e ∷ []
-
-abbrev pub Maybe : Entry → List Entry → Type 0
-Maybe e ts = (ts ≡ []) ⊎ (ts ≡ e ∷ [])
 
 -- The step was made: each of its calls answered Ok, a program with 0. A make of a path that is named leaves nothing.
 abbrev pub Succeeds : Step → List Entry → Type 0

@@ -7,6 +7,7 @@ use Rattle.lr_rules.specs.declared.rule.Make.TheVariants as make
 use Rattle.lr_rules.specs.declared.fault.Phase.{Phase}
 use Rattle.lr_rules.specs.declared.fault.Phase.TheVariants as phase
 use Rattle.lr_rules.specs.Path.{parent_of}
+use Rattle.lr_rules.specs.StatePath.{state_part}
 use Rattle.lr_scripts.specs.declared.command.Command.{Command}
 use Rattle.lr_scripts.specs.declared.removal.Removal.{Removal}
 use Rattle.lr_chain.specs.declared.ready.Move.{Move}
@@ -115,10 +116,6 @@ abbrev pub steps_of_plan : Plan → List SetSteps
 steps_of_plan plan = map steps_of_set plan.sets
 
 -- ---- the state text
-
--- the file that the text is first written to
-abbrev pub state_part : Path → Path
-state_part state = state ++ codes ".tmp"
 
 -- The text is written into that file, of mode 0640, which is synced. Then these directories are synced, so that the state never gets its name before what it tells; then the file gets the state's path, and the directory of that is synced. An old one that was seen is removed before.
 abbrev pub state_steps : Path → Bool → List Path → List ℕ → List Step

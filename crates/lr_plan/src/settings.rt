@@ -1,6 +1,6 @@
 // What a call asks for besides its configuration.
 ghost use Rattle.std.specs.Prelude.{◌≡◌, true};
-ghost use Rattle.lr_plan.specs.Settings.{can_be_state};
+ghost use Rattle.lr_rules.specs.StatePath.{can_be_state};
 
 use lr_rules::Path;
 

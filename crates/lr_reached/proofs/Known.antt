@@ -8,6 +8,7 @@ use Rattle.lr_rules.specs.declared.fault.Fault.{Fault}
 use Rattle.lr_rules.specs.declared.fault.Fault.TheVariants as fault
 use Rattle.lr_rules.specs.declared.fault.StateKind.TheVariants as state_kind
 use Rattle.lr_rules.specs.declared.path.Path.{Path}
+use Rattle.lr_rules.specs.StatePath.{state_part}
 use Rattle.lr_host.specs.declared.thing.Kind.{Kind}
 use Rattle.lr_host.specs.declared.thing.Kind.TheVariants as kind
 use Rattle.lr_host.specs.declared.thing.Seen.{Seen}
@@ -21,7 +22,7 @@ use Rattle.lr_reading.specs.declared.look.LookStop.TheVariants as stop
 use Rattle.lr_reading.specs.declared.remembered.Remembered.{Remembered}
 use Rattle.lr_reading.specs.Answers.{Known, fault_of, known_of, text_of, IsKnownBy, IsKnownOf, IsKnown}
 use Rattle.lr_reading.specs.Pieces.{Reading, Whole, Broken, bytes_of, AreSome, IsLast, IsReading, reads_from}
-use Rattle.lr_reading.specs.Sights.{Sight, Failed, Nothing, Saw, StateSights, ShowsState, found, found_kind, look_of, state_part, text_entries, behind_part, part_entries, behind_state}
+use Rattle.lr_reading.specs.Sights.{Sight, Failed, Nothing, Saw, StateSights, ShowsState, found, found_kind, look_of, text_entries, behind_part, part_entries, behind_state}
 use Rattle.lr_reached.specs.Ending.{EndsRun, MayEnd}
 use Rattle.lr_reached.specs.Looked.{WasLookedAt, WasReadToEnd, SawState}
 

@@ -14,12 +14,11 @@ use Rattle.lr_rules.specs.Path.{parent_of}
 use Rattle.lr_host.specs.declared.entry.Entry.{Entry}
 use Rattle.lr_host.specs.declared.entry.Entry.TheVariants as entry
 use Rattle.lr_host.specs.Lists.{IsIn}
-use Rattle.lr_host.specs.Told.{Made}
+use Rattle.lr_host.specs.Told.{Made, Maybe}
 use Rattle.lr_host.specs.World.{Past}
 use Rattle.lr_host.proofs.Lists.{in_append, in_front}
 use Rattle.lr_host.proofs.Quiet.{sees_quiet}
 use Rattle.lr_plan.specs.Asked.{Asked}
-use Rattle.lr_plan.specs.Outcomes.{Maybe}
 use Rattle.lr_plan.specs.declared.plan.Plan.{Plan}
 use Rattle.lr_run.specs.Runs.{Inside, Worked, Works, not_known, too_big, worked, Runs, no_directory, not_seen, not_begun, began, plan_in}
 use Rattle.lr_reached.specs.Ending.{EndsRun, NoneEnds, MayEnd, SaysWhy}

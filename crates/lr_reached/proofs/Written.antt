@@ -3,12 +3,13 @@ use Rattle.std.proofs.Common.{inl, inr, ℕ, Bool, true, false, List, [], ◌∷
 use Rattle.lr_rules.specs.declared.fault.Fault.{Fault}
 use Rattle.lr_rules.specs.declared.path.Path.{Path}
 use Rattle.lr_rules.specs.Path.{parent_of}
+use Rattle.lr_rules.specs.StatePath.{state_part}
 use Rattle.lr_host.specs.declared.entry.Entry.{Entry}
 use Rattle.lr_plan.specs.declared.mark.Mark.{Mark}
 use Rattle.lr_plan.specs.declared.step.Step.{Step}
 use Rattle.lr_plan.specs.declared.step.Step.TheVariants.{Removes, SyncsDir}
 use Rattle.lr_plan.specs.Course.{Course}
-use Rattle.lr_plan.specs.Steps.{state_part, state_steps, step_if}
+use Rattle.lr_plan.specs.Steps.{state_steps, step_if}
 use Rattle.lr_reached.specs.Ending.{NoneEnds}
 use Rattle.lr_reached.proofs.Plainly.{FailsPlainly, removes, renames, takes, appends, syncs_file, syncs_dir}
 

@@ -2,6 +2,7 @@
 use Rattle.std.proofs.Common.{◌≡◌, ◌+◌, ◌⊎◌, inl, inr, ℕ, Bool, true, false, List, [], ◌∷◌, ◌++◌, length, refl, sym, ap, ◌∙◌, subst, append_assoc, Option, Some, None, arith}
 use Rattle.std.specs.List.Sorted.{IsPermutation}
 use Rattle.lr_rules.specs.declared.path.Path.{Path}
+use Rattle.lr_rules.proofs.Heads.{heads, tails}
 use Rattle.lr_conf.specs.Meaning.{Meaning}
 use Rattle.lr_lex.specs.Items.{Told}
 use Rattle.lr_host.specs.declared.thing.Seen.{Seen}
@@ -24,12 +25,6 @@ use Rattle.lr_include.proofs.Calls.{calls_are_failed}
 use Rattle.lr_sought.proofs.OneOrder.{one_order}
 
 -- ---- entries, taken apart from the front
-
-first_same : (x y : Entry) (xs ys : List Entry) → x ∷ xs ≡ y ∷ ys → x ≡ y
-first_same x y xs ys e = cc
-
-others_same : (x y : Entry) (xs ys : List Entry) → x ∷ xs ≡ y ∷ ys → xs ≡ ys
-others_same x y xs ys e = cc
 
 saw_same : (x y : Path) (s t : Option Seen) → entry.Look x s ≡ entry.Look y t → s ≡ t
 saw_same x y s t e = cc
@@ -94,10 +89,10 @@ names_both x a b ts us vs ws r s e =
     let one = r.1 in
     let other = s.1 in
     let split = front_same ts us (entry.List x one.listed ∷ []) (entry.List x other.listed ∷ []) vs ws one.list other.list e in
-    let first = first_same (entry.List x one.listed) (entry.List x other.listed) vs ws split in
+    let first = heads (entry.List x one.listed) (entry.List x other.listed) vs ws split in
     let listed = listed_same x x one.listed other.listed first in
     let names = one_order one.listed a b (record { same = one.same; rising = r.0 }) (record { same = subst (λ (ns : List (List ℕ)). IsPermutation ns b) (sym listed) other.same; rising = s.0 }) in
-    record { gave = ap visit.Holds names; left = one.list ∙ (ap (λ y. y ∷ []) first ∙ sym other.list); behind = others_same (entry.List x one.listed) (entry.List x other.listed) vs ws split }
+    record { gave = ap visit.Holds names; left = one.list ∙ (ap (λ y. y ∷ []) first ∙ sym other.list); behind = tails (entry.List x one.listed) (entry.List x other.listed) vs ws split }
 
 names_one : (x : Path) (v w : Visit) (ts us vs ws : List Entry) → ShowsNames x v ts → ShowsNames x w us → failed_visit v ≡ 0 → failed_visit w ≡ 0 → ts ++ vs ≡ us ++ ws → AreOne Visit v w ts us vs ws
 names_one x (visit.Holds a) (visit.Holds b) ts us vs ws r s f g e = names_both x a b ts us vs ws r s e
@@ -178,8 +173,8 @@ visit_one x lists room v w ts us vs ws f g a b e =
     let one = looks x lists room v ts f a in
     let other = looks x lists room w us g b in
     let split = front_same ts us (entry.Look x one.seen ∷ one.back) (entry.Look x other.seen ∷ other.back) vs ws one.are other.are e in
-    let first = first_same (entry.Look x one.seen) (entry.Look x other.seen) (one.back ++ vs) (other.back ++ ws) split in
-    let rest = others_same (entry.Look x one.seen) (entry.Look x other.seen) (one.back ++ vs) (other.back ++ ws) split in
+    let first = heads (entry.Look x one.seen) (entry.Look x other.seen) (one.back ++ vs) (other.back ++ ws) split in
+    let rest = tails (entry.Look x one.seen) (entry.Look x other.seen) (one.back ++ vs) (other.back ++ ws) split in
     let saw = saw_same x x one.seen other.seen first in
     let same = behind_one x lists room v w one.seen one.back other.back vs ws f g one.shown (subst (λ (s : Option Seen). Behind x lists room w s other.back) (sym saw) other.shown) rest in
     record { gave = same.gave; left = one.are ∙ (ap (λ y. y ∷ one.back) first ∙ (ap (λ ys. entry.Look x other.seen ∷ ys) same.left ∙ sym other.are)); behind = same.behind }

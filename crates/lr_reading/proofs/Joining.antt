@@ -5,6 +5,7 @@ use Rattle.std.proofs.lemmas.Bool.{ltb-true, ltb-false}
 use Rattle.std.proofs.lemmas.List.{append-nil}
 use Rattle.lr_rules.specs.declared.path.Path.{Path}
 use Rattle.lr_rules.specs.declared.memory.Memory.{Memory}
+use Rattle.lr_rules.specs.StatePath.{state_part}
 use Rattle.lr_rules.specs.declared.fault.CallKind.TheVariants as call
 use Rattle.lr_rules.specs.declared.fault.Fault.TheVariants as fault
 use Rattle.lr_host.specs.declared.entry.Entry.{Entry}
@@ -25,7 +26,7 @@ use Rattle.lr_reading.specs.declared.pieces.ReadStop.TheVariants as read
 use Rattle.lr_reading.specs.Answers.{Known, IsKnownBy, IsKnownBehind, IsKnownOf, ReadsState, fault_of, text_of}
 use Rattle.lr_reading.specs.Internal.{IsKnownByReader, Finds, ReadsOn, StopsAt, ReadsWhole, ReadsSo, IsBroken, Stops, ReadsText, ReadsPart}
 use Rattle.lr_reading.specs.Pieces.{Reading, Whole, Broken, AreSome, GoOn, IsLast, bytes_of, reads_from}
-use Rattle.lr_reading.specs.Sights.{Sight, Failed, Nothing, Saw, found, look_of, state_part, behind_part, behind_state}
+use Rattle.lr_reading.specs.Sights.{Sight, Failed, Nothing, Saw, found, look_of, behind_part, behind_state}
 
 -- ---- one piece more
 

@@ -2,12 +2,13 @@
 use Rattle.std.proofs.Common.{◌≡◌, ◌≤◌, ◌<◌, inl, inr, ℕ, ◌+◌, Bool, true, false, List, [], ◌∷◌, ◌++◌, length, refl, sym, ap, ◌∙◌, subst, arith, length-append, Some, None, Result, Ok, Err}
 use Rattle.lr_rules.specs.declared.path.Path.{Path}
 use Rattle.lr_rules.specs.declared.fault.Fault.{Fault}
+use Rattle.lr_rules.specs.StatePath.{state_part}
 use Rattle.lr_host.specs.declared.entry.Entry.{Entry}
 use Rattle.lr_host.specs.declared.entry.Entry.TheVariants as entry
 use Rattle.lr_reading.specs.declared.look.LookStop.{LookStop}
 use Rattle.lr_reading.specs.Answers.{Known, IsKnownBy, IsKnownBehind, IsKnownOf, IsKnown, known_of, text_of}
 use Rattle.lr_reading.specs.Pieces.{Reading, Whole, Broken, AreSome, GoOn, IsLast, IsReading, bytes_of, reads_from, reads_of}
-use Rattle.lr_reading.specs.Sights.{Sight, Failed, Nothing, Saw, StateSights, ShowsState, found, look_of, state_part, text_entries, behind_part, behind_state}
+use Rattle.lr_reading.specs.Sights.{Sight, Failed, Nothing, Saw, StateSights, ShowsState, found, look_of, text_entries, behind_part, behind_state}
 use Rattle.lr_reading.proofs.Joining.{bytes_more}
 
 -- ---- one look

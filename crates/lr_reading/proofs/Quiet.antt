@@ -1,12 +1,13 @@
 -- All entries of a reading are looks and reads, so they change nothing.
 use Rattle.std.proofs.Common.{◌+◌, Bool, true, false, ℕ, List, [], ◌∷◌, ◌++◌, length, refl, sym, subst, Result, Ok, Err}
 use Rattle.lr_rules.specs.declared.path.Path.{Path}
+use Rattle.lr_rules.specs.StatePath.{state_part}
 use Rattle.lr_host.specs.declared.entry.Entry.{Entry}
 use Rattle.lr_host.specs.Quiet.{IsQuiet, AreQuiet}
 use Rattle.lr_host.proofs.Each.{each_append}
 use Rattle.lr_reading.specs.declared.look.LookStop.{LookStop}
 use Rattle.lr_reading.specs.Pieces.{Reading, Whole, Broken, reads_from, reads_of}
-use Rattle.lr_reading.specs.Sights.{Sight, Failed, Nothing, Saw, StateSights, ShowsState, found, look_of, state_part, text_entries, behind_part, behind_state}
+use Rattle.lr_reading.specs.Sights.{Sight, Failed, Nothing, Saw, StateSights, ShowsState, found, look_of, text_entries, behind_part, behind_state}
 
 reads_quiet : (path : Path) (place : ℕ) (pieces : List (List ℕ)) → AreQuiet (reads_from path place pieces)
 reads_quiet path place [] = tt

@@ -4,6 +4,7 @@ use Rattle.lr_rules.specs.declared.path.Path.{Path}
 use Rattle.lr_rules.specs.declared.memory.Memory.{Memory}
 use Rattle.lr_rules.specs.declared.fault.CallKind.TheVariants as call
 use Rattle.lr_rules.specs.declared.fault.Fault.{Fault}
+use Rattle.lr_rules.specs.StatePath.{state_part}
 use Rattle.lr_rules.specs.declared.fault.Fault.TheVariants as fault
 use Rattle.lr_host.specs.declared.entry.Entry.{Entry}
 use Rattle.lr_state.specs.Grammar.{Said, TextSays}
@@ -11,7 +12,7 @@ use Rattle.lr_reading.specs.declared.look.LookStop.{LookStop}
 use Rattle.lr_reading.specs.declared.look.LookStop.TheVariants as stop
 use Rattle.lr_reading.specs.declared.remembered.Remembered.{Remembered}
 use Rattle.lr_reading.specs.Pieces.{Reading, Whole, Broken, bytes_of}
-use Rattle.lr_reading.specs.Sights.{StateSights, ShowsState, found, state_part}
+use Rattle.lr_reading.specs.Sights.{StateSights, ShowsState, found}
 
 -- what is remembered, or the fault that tells why nothing is
 abbrev pub Known : Type 0

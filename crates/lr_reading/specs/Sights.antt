@@ -1,6 +1,7 @@
 -- What the looks at the state's files and the reading of its text came to, and the entries that they left.
 use Rattle.std.specs.Prelude.{◌≡◌, Bool, true, false, ℕ, List, [], ◌∷◌, ◌++◌, Some, None, Result, Ok, Err, codes}
 use Rattle.lr_rules.specs.declared.path.Path.{Path}
+use Rattle.lr_rules.specs.StatePath.{state_part}
 use Rattle.lr_host.specs.declared.thing.Kind.{Kind}
 use Rattle.lr_host.specs.declared.thing.Kind.TheVariants as kind
 use Rattle.lr_host.specs.declared.thing.Seen.{Seen}
@@ -9,10 +10,6 @@ use Rattle.lr_host.specs.declared.entry.Entry.TheVariants as entry
 use Rattle.lr_reading.specs.declared.look.LookStop.{LookStop}
 use Rattle.lr_reading.specs.declared.look.LookStop.TheVariants as stop
 use Rattle.lr_reading.specs.Pieces.{Reading, IsReading, reads_of}
-
--- the file that a new text is first written to
-abbrev pub state_part : Path → Path
-state_part state = state ++ codes ".tmp"
 
 -- What a look came to: it failed, saw nothing, or saw this.
 pub data Sight : Type 0 where

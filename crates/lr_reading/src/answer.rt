@@ -4,10 +4,10 @@ ghost use Rattle.lr_rules.specs.declared.fault.CallKind.{CallKind};
 ghost use Rattle.lr_rules.specs.declared.fault.Fault.{Fault};
 ghost use Rattle.lr_rules.specs.declared.fault.Fault.TheVariants as fault;
 ghost use Rattle.lr_rules.specs.declared.path.Path.{Path};
+ghost use Rattle.lr_rules.specs.StatePath.{state_part};
 ghost use Rattle.lr_host.specs.declared.entry.Entry.TheVariants as entry;
 ghost use Rattle.lr_host.specs.Told.{Left, Can, Onward, Rose};
 ghost use Rattle.lr_reading.specs.Answers.{IsStateFault, ReadsState, fault_of};
-ghost use Rattle.lr_reading.specs.Sights.{state_part};
 ghost use Rattle.lr_reading.specs.Internal.{ReadsPart};
 
 use crate::look::{LookStop, look_at, look_fault};

@@ -1,7 +1,7 @@
 // The path of the state's part file.
 ghost use Rattle.std.specs.Prelude.{◌≡◌, ◌≤◌, length, IfOk, None};
 ghost use Rattle.lr_rules.specs.Path.{parent_of, path_fault};
-ghost use Rattle.lr_reading.specs.Sights.{state_part};
+ghost use Rattle.lr_rules.specs.StatePath.{state_part};
 
 use lr_rules::{Memory, Path, PathFault};
 use std::alloc::{AllocError, Global};

@@ -8,3 +8,4 @@ pub mod Names
 pub mod Path
 pub mod StampParts
 pub mod Stamps
+pub mod StatePath

@@ -9,6 +9,7 @@ use Rattle.lr_rules.specs.declared.path.Path.{Path}
 use Rattle.lr_rules.specs.declared.rule.Rule.{Rule}
 use Rattle.lr_rules.specs.declared.rules.Rules.{Rules}
 use Rattle.lr_rules.specs.Path.{path_fault, parent_of}
+use Rattle.lr_rules.specs.StatePath.{state_part}
 use Rattle.lr_host.specs.declared.entry.Entry.{Entry}
 use Rattle.lr_host.specs.declared.entry.Entry.TheVariants as entry
 use Rattle.lr_host.specs.declared.journal.Journal.{Journal}
@@ -16,11 +17,11 @@ use Rattle.lr_host.specs.Lists.{IsIn}
 use Rattle.lr_host.specs.Looks.{IsDir}
 use Rattle.lr_host.specs.Quiet.{IsQuiet, AreQuiet, is_disk_change}
 use Rattle.lr_host.specs.Steps.{is_change}
-use Rattle.lr_host.specs.Told.{Each, IsTools, Left, not_told, is_told}
+use Rattle.lr_host.specs.Told.{Each, IsTools, Left, not_told, is_told, Maybe}
 use Rattle.lr_host.specs.World.{past}
 use Rattle.lr_host.proofs.Each.{each_append, each_as, each_first}
 use Rattle.lr_durable.specs.Renewing.{IsAsideOf, IsWithin, MayRenew, left_alone, renewed}
-use Rattle.lr_durable.specs.StateWhole.{part_of, KeepsWhole}
+use Rattle.lr_durable.specs.StateWhole.{KeepsWhole}
 use Rattle.lr_durable.proofs.Whole.{whole_at}
 use Rattle.lr_due.specs.declared.answer.Due.{Due}
 use Rattle.lr_plan.specs.Asked.{Asked}
@@ -28,7 +29,6 @@ use Rattle.lr_plan.specs.declared.looks.LogLook.{LogLook}
 use Rattle.lr_plan.specs.Appending.{Appended, no_more, piece_more}
 use Rattle.lr_plan.specs.declared.mark.Mark.{Mark}
 use Rattle.lr_plan.specs.Done.{SetsDone, rotated_logs}
-use Rattle.lr_plan.specs.Outcomes.{Maybe}
 use Rattle.lr_plan.specs.Planned.{decision}
 use Rattle.lr_plan.specs.Steps.{steps_of_set}
 use Rattle.lr_targets.specs.AllTurns.{IsOfSome}
@@ -104,7 +104,7 @@ synced_calm dir ts (inl e) = subst (Each (λ e. is_disk_change e ≡ false)) (sy
 synced_calm dir ts (inr e) = subst (Each (λ e. is_disk_change e ≡ false)) (sym e) (refl, tt)
 
 -- Behind entries that leave the state alone, in these directories, the state is left alone or renewed.
-module _ (state : Path) (dirs : List Path) (text : List ℕ) (IsText : List ℕ → Type 0) (is : IsText text) (front : List Entry) (aside : Each (IsAsideOf state) front) (within : Each (IsWithin (part_of state) dirs) front) where
+module _ (state : Path) (dirs : List Path) (text : List ℕ) (IsText : List ℕ → Type 0) (is : IsText text) (front : List Entry) (aside : Each (IsAsideOf state) front) (within : Each (IsWithin (state_part state) dirs) front) where
   back_may : (back ends : List Entry) → Each IsTools back → Each (IsAsideOf state) ends → Each (λ e. is_disk_change e ≡ false) ends → NamedLast state dirs text back → MayRenew state IsText (front ++ (back ++ ends))
   back_may back ends tools far calm (not_named s) = left_alone (each_append (IsAsideOf state) front (back ++ ends) aside (each_append (IsAsideOf state) back ends (all_aside state back tools s) far))
   back_may back ends tools far calm (named before after e ready spared behind) = renewed dirs text is (record {
@@ -120,7 +120,7 @@ module _ (state : Path) (dirs : List Path) (text : List ℕ) (IsText : List ℕ 
   })
     where
       part : Path
-      part = part_of state
+      part = state_part state
 
       p : InPieces part text ready.pieces
       p = in_pieces part text ready.pieces ready.text_is
@@ -159,7 +159,7 @@ behind_quiet state I J f xs ts q (renewed dirs text is r) = renewed dirs text (f
   after = r.after;
   ts_are = ap (λ es. xs ++ es) r.ts_are ∙ sym (append_assoc xs r.front _);
   aside = each_append (IsAsideOf state) xs r.front (calm_aside state xs q) r.aside;
-  within = each_append (IsWithin (part_of state) dirs) xs r.front (calm_within (part_of state) dirs xs q) r.within;
+  within = each_append (IsWithin (state_part state) dirs) xs r.front (calm_within (state_part state) dirs xs q) r.within;
   text_is = r.text_is;
   nothing_more = r.nothing_more;
 })
@@ -202,10 +202,10 @@ module _ (state : Path) (rules : Rules) (clock : Clock) (asked : Asked) where
         (of_changes (IsAsideOf state) acts (λ e i h. none_aside state e (none_changed e i h)) tools (each_as (IsOfSome targets) (IsAsideOf state) (filter is_change acts) (λ e i. some_aside state targets e have_names (targets_free rules.sets l.sets l.of_looks l.looks clock decide l.shown) i) of_logs))
 
     behind_within : (dirs : List Path) (marks : List Mark) (faults : List Fault) (acts : List Entry) → AreMade ts → Each IsTools acts → AreSynced (plan_in state rules.sets ts l clock asked).sets marks dirs → SetsDone (map steps_of_set (plan_in state rules.sets ts l clock asked).sets) marks faults acts
-        → Each (IsWithin (part_of state) dirs) (seen ++ acts)
-    behind_within dirs marks faults acts made tools synced done = each_append (IsWithin (part_of state) dirs) seen acts (calm_within (part_of state) dirs seen (seen_quiet state rules.sets ts l))
-        (of_changes (IsWithin (part_of state) dirs) acts (λ e i h. none_within (part_of state) dirs e (none_changed e i h)) tools
-        (changes_within (plan_in state rules.sets ts l clock asked).sets rules clock l.looks (groups_of clock decide rules.sets l.sets) logs (targets_seen rules l.sets l.of_looks l.looks clock decide l.shown) valid (looks_agree made) (part_of state) dirs marks faults acts synced done))
+        → Each (IsWithin (state_part state) dirs) (seen ++ acts)
+    behind_within dirs marks faults acts made tools synced done = each_append (IsWithin (state_part state) dirs) seen acts (calm_within (state_part state) dirs seen (seen_quiet state rules.sets ts l))
+        (of_changes (IsWithin (state_part state) dirs) acts (λ e i h. none_within (state_part state) dirs e (none_changed e i h)) tools
+        (changes_within (plan_in state rules.sets ts l clock asked).sets rules clock l.looks (groups_of clock decide rules.sets l.sets) logs (targets_seen rules l.sets l.of_looks l.looks clock decide l.shown) valid (looks_agree made) (state_part state) dirs marks faults acts synced done))
 
   -- a first part of the acts
   broke_aside : (ts : List Entry) → AreMade ts → BrokeOff state rules.sets clock asked ts → Each (IsAsideOf state) ts
@@ -242,16 +242,16 @@ module _ (state : Path) (rules : Rules) (clock : Clock) (asked : Asked) where
     acts_aside : Each (IsAsideOf state) (seen ts l ++ acts)
     acts_aside = behind_aside ts l acts acts_tools of_logs
 
-    acts_within : Each (IsWithin (part_of state) w.acted.dirs) (seen ts l ++ acts)
+    acts_within : Each (IsWithin (state_part state) w.acted.dirs) (seen ts l ++ acts)
     acts_within = behind_within ts l w.acted.dirs w.acted.marks w.acted.entries.of_plan acts made acts_tools w.acted.dirs_are w.acted.entries.entries.first
 
     abbrev text : List ℕ
     text = state_text state rules.sets ts l clock (rotated_logs w.acted.marks)
 
     -- behind more that leaves the state alone, and before its end
-    pub worked_may : (IsText : List ℕ → Type 0) → IsText text → (front : List Entry) → Each (IsAsideOf state) front → Each (IsWithin (part_of state) w.acted.dirs) front → MayRenew state IsText (front ++ (ts ++ entry.Ends ∷ []))
+    pub worked_may : (IsText : List ℕ → Type 0) → IsText text → (front : List Entry) → Each (IsAsideOf state) front → Each (IsWithin (state_part state) w.acted.dirs) front → MayRenew state IsText (front ++ (ts ++ entry.Ends ∷ []))
     worked_may IsText is front aside within = subst (MayRenew state IsText) (sym in_order)
-        (back_may state w.acted.dirs text IsText is (front ++ (seen ts l ++ acts)) (each_append (IsAsideOf state) front (seen ts l ++ acts) aside acts_aside) (each_append (IsWithin (part_of state) w.acted.dirs) front (seen ts l ++ acts) within acts_within)
+        (back_may state w.acted.dirs text IsText is (front ++ (seen ts l ++ acts)) (each_append (IsAsideOf state) front (seen ts l ++ acts) aside acts_aside) (each_append (IsWithin (state_part state) w.acted.dirs) front (seen ts l ++ acts) within acts_within)
         w.acted.entries.entries.back (entry.Ends ∷ []) back_tools ((λ i. i), tt) (refl, tt)
         (named_last state l.remembered.stale w.acted.dirs text w.acted.entries.of_state w.acted.entries.entries.back w.acted.entries.entries.second))
       where
@@ -267,7 +267,7 @@ module _ (state : Path) (rules : Rules) (clock : Clock) (asked : Asked) where
   works_may plan own before between q made (worked w is) IsText tells = subst (MayRenew state IsText) (append_assoc before (entry.Starts state clock.now rules ∷ []) (between ++ entry.Ends ∷ []))
       (worked_may own between w made IsText (tells _ (record { own = own; worked = w; text_is = refl })) (before ++ entry.Starts state clock.now rules ∷ [])
       (each_append (IsAsideOf state) before (entry.Starts state clock.now rules ∷ []) (calm_aside state before q) ((λ i. i), tt))
-      (each_append (IsWithin (part_of state) w.acted.dirs) before (entry.Starts state clock.now rules ∷ []) (calm_within (part_of state) w.acted.dirs before q) ((λ x i. absurd i), tt)))
+      (each_append (IsWithin (state_part state) w.acted.dirs) before (entry.Starts state clock.now rules ∷ []) (calm_within (state_part state) w.acted.dirs before q) ((λ x i. absurd i), tt)))
 
   -- what a run leaves
   pub between_made : (before between ts : List Entry) → ts ≡ before ++ (entry.Starts state clock.now rules ∷ (between ++ entry.Ends ∷ [])) → AreMade ts → AreMade between

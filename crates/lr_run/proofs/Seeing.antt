@@ -2,13 +2,13 @@
 use Rattle.std.proofs.Common.{◌+◌, ◌≤◌, ℕ, Bool, true, false, List, [], ◌∷◌, ◌++◌, length, Option, Result, Ok, Err, sym, subst}
 use Rattle.lr_rules.specs.declared.path.Path.{Path}
 use Rattle.lr_rules.specs.declared.rule.Rule.{Rule}
+use Rattle.lr_rules.specs.StatePath.{state_part}
 use Rattle.lr_host.specs.declared.entry.Entry.{Entry}
 use Rattle.lr_host.specs.declared.entry.Entry.TheVariants as entry
 use Rattle.lr_host.specs.declared.thing.Seen.{Seen}
 use Rattle.lr_host.specs.Told.{Each}
 use Rattle.lr_host.proofs.Each.{each_append, each_as}
 use Rattle.lr_family.proofs.OnlyLooks.{IsLooking, AreLooking}
-use Rattle.lr_plan.specs.Steps.{state_part}
 use Rattle.lr_reading.specs.declared.look.LookStop.{LookStop}
 use Rattle.lr_reading.specs.Pieces.{Reading, Whole, Broken, AreSome, IsReading, reads_from, reads_of}
 use Rattle.lr_reading.specs.Sights.{Sight, Failed, Nothing, Saw, StateSights, ShowsState, found, look_of, text_entries, behind_part, behind_state}

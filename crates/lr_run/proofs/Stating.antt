@@ -4,6 +4,7 @@ use Rattle.std.specs.Prelude.{filter}
 use Rattle.lr_rules.specs.declared.fault.Fault.{Fault}
 use Rattle.lr_rules.specs.declared.path.Path.{Path}
 use Rattle.lr_rules.specs.Path.{parent_of}
+use Rattle.lr_rules.specs.StatePath.{state_part}
 use Rattle.lr_host.specs.declared.entry.Entry.{Entry}
 use Rattle.lr_host.specs.declared.entry.Entry.TheVariants as entry
 use Rattle.lr_host.specs.Steps.{is_change}
@@ -15,7 +16,7 @@ use Rattle.lr_plan.specs.declared.step.Step.TheVariants.{Removes, Renames, Takes
 use Rattle.lr_plan.specs.Appending.{Appended, no_more, piece_more, AppendBroke, at_piece, in_piece, piece_on}
 use Rattle.lr_plan.specs.Course.{Course}
 use Rattle.lr_plan.specs.Outcomes.{Succeeds, Fails}
-use Rattle.lr_plan.specs.Steps.{state_part, state_steps, step_if}
+use Rattle.lr_plan.specs.Steps.{state_steps, step_if}
 use Rattle.lr_targets.specs.AllTurns.{IsOfState}
 use Rattle.lr_run.proofs.Working.{IsDoing}
 

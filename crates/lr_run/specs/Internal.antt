@@ -17,7 +17,7 @@ use Rattle.lr_host.specs.declared.entry.Entry.TheVariants as entry
 use Rattle.lr_host.specs.declared.entry.Entry.TheVariants.{Starts, Ends}
 use Rattle.lr_host.specs.declared.journal.Journal.{Journal}
 use Rattle.lr_host.specs.Opening.{IsJournal}
-use Rattle.lr_host.specs.Told.{Left, Then, Can, Counts, WhereTold}
+use Rattle.lr_host.specs.Told.{Left, Then, Can, Counts, WhereTold, Maybe}
 use Rattle.lr_host.specs.Looks.{Sees, IsDir, IsNoDir, IsNothing}
 use Rattle.lr_state.specs.Table.{Entry as Row}
 use Rattle.lr_state.specs.Written.{text_of}
@@ -32,7 +32,6 @@ use Rattle.lr_plan.specs.declared.step.SetSteps.{SetSteps}
 use Rattle.lr_plan.specs.Done.{SetsDone, rotated_logs}
 use Rattle.lr_plan.specs.Asking.{CanMake}
 use Rattle.lr_plan.specs.Cut.{SetsCut}
-use Rattle.lr_plan.specs.Outcomes.{Maybe}
 use Rattle.lr_plan.specs.Steps.{steps_of_plan, state_steps}
 use Rattle.lr_acts.specs.declared.progress.Progress.{Progress}
 use Rattle.lr_acts.specs.Adding.{HasRoom}

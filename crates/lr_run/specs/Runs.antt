@@ -12,7 +12,7 @@ use Rattle.lr_rules.specs.declared.fault.StateKind.TheVariants as kind
 use Rattle.lr_rules.specs.Path.{parent_of}
 use Rattle.lr_host.specs.declared.entry.Entry.{Entry}
 use Rattle.lr_host.specs.declared.entry.Entry.TheVariants.{Starts, Ends}
-use Rattle.lr_host.specs.Told.{Then}
+use Rattle.lr_host.specs.Told.{Then, Maybe}
 use Rattle.lr_host.specs.Looks.{Sees, IsDir, IsNotDir}
 use Rattle.lr_state.specs.Written.{text_of}
 use Rattle.lr_plan.specs.Asked.{Asked}
@@ -24,7 +24,6 @@ use Rattle.lr_plan.specs.declared.plan.Plan.{Plan}
 use Rattle.lr_acts.specs.Making.{HasProgram, all_of_sets}
 use Rattle.lr_plan.specs.Done.{ActsDone}
 use Rattle.lr_plan.specs.Cut.{SetsCut}
-use Rattle.lr_plan.specs.Outcomes.{Maybe}
 use Rattle.lr_plan.specs.Planned.{plan_of}
 use Rattle.lr_plan.specs.Steps.{steps_of_plan}
 use Rattle.lr_looks.specs.Found.{paths_of}

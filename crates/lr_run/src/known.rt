@@ -4,9 +4,9 @@ ghost use Rattle.lr_rules.specs.declared.fault.CallKind.{CallKind};
 ghost use Rattle.lr_rules.specs.declared.fault.Fault.{Fault};
 ghost use Rattle.lr_rules.specs.declared.fault.Fault.TheVariants as fault;
 ghost use Rattle.lr_rules.specs.declared.path.Path.{Path};
+ghost use Rattle.lr_rules.specs.StatePath.{state_part};
 ghost use Rattle.lr_host.specs.Told.{Left, Onward, Rose};
 ghost use Rattle.lr_reading.specs.Answers.{ReadsState, IsStateFault};
-ghost use Rattle.lr_reading.specs.Sights.{state_part};
 
 use lr_host::Host;
 use lr_reading::{Remembered, read_state};

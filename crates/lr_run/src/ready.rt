@@ -4,7 +4,7 @@ ghost use Rattle.std.specs.Vec.{vec_capacity};
 ghost use Rattle.lr_acts.specs.Adding.{HasRoom};
 ghost use Rattle.lr_acts.specs.Making.{all_of_sets};
 ghost use Rattle.lr_plan.specs.Steps.{steps_of_plan};
-ghost use Rattle.lr_reading.specs.Sights.{state_part};
+ghost use Rattle.lr_rules.specs.StatePath.{state_part};
 ghost use Rattle.lr_record.specs.After.{after};
 ghost use Rattle.lr_record.specs.Measured.{measured_text};
 ghost use Rattle.lr_run.specs.Runs.{logs_in};

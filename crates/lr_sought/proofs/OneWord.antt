@@ -5,6 +5,7 @@ use Rattle.std.specs.Str.{chars}
 use Rattle.lr_rules.specs.declared.path.Path.{Path}
 use Rattle.lr_rules.specs.Match.{Matches, is_wildcard, literal_path}
 use Rattle.lr_rules.specs.Path.{path_fault, joined}
+use Rattle.lr_rules.proofs.Heads.{heads, tails}
 use Rattle.lr_host.specs.declared.thing.Seen.{Seen}
 use Rattle.lr_host.specs.declared.entry.Entry.{Entry}
 use Rattle.lr_host.specs.declared.entry.Entry.TheVariants as entry
@@ -20,12 +21,6 @@ use Rattle.lr_glob.specs.Words.{root, SearchThen, Gave, Comes}
 use Rattle.lr_sought.proofs.OneOrder.{one_order}
 
 -- ---- entries, taken apart from the front
-
-first_same : (x y : Entry) (xs ys : List Entry) → x ∷ xs ≡ y ∷ ys → x ≡ y
-first_same x y xs ys e = cc
-
-others_same : (x y : Entry) (xs ys : List Entry) → x ∷ xs ≡ y ∷ ys → xs ≡ ys
-others_same x y xs ys e = cc
 
 saw_same : (x y : Path) (s t : Option Seen) → entry.Look x s ≡ entry.Look y t → s ≡ t
 saw_same x y s t e = cc
@@ -104,16 +99,16 @@ picks_one part dir other names more a b d e g h = gathered (PickOf part dir) (pi
 one_listing : (b c : Bool) → b ≡ c → (d f : Path) (l m : List (List ℕ)) (vs ws : List Entry) → d ≡ f → cond b (entry.List d l ∷ []) [] ++ vs ≡ cond c (entry.List f m ∷ []) [] ++ ws
     → AreOne (List (List ℕ)) (cond b l []) (cond c m []) (cond b (entry.List d l ∷ []) []) (cond c (entry.List f m ∷ []) []) vs ws
 one_listing true true s d f l m vs ws p e =
-    let one = first_same (entry.List d l) (entry.List f m) vs ws e in
-    record { came = names_same d f l m one; left = ap (λ x. x ∷ []) one; behind = others_same (entry.List d l) (entry.List f m) vs ws e }
+    let one = heads (entry.List d l) (entry.List f m) vs ws e in
+    record { came = names_same d f l m one; left = ap (λ x. x ∷ []) one; behind = tails (entry.List d l) (entry.List f m) vs ws e }
 one_listing true false s d f l m vs ws p e = absurd (true≢false s)
 one_listing false true s d f l m vs ws p e = absurd (true≢false (sym s))
 one_listing false false s d f l m vs ws p e = record { came = refl; left = refl; behind = e }
 
 one_visit : (v w : Visit) (vs ws : List Entry) → v.dir ≡ w.dir → visit_entries v ++ vs ≡ visit_entries w ++ ws → AreOne (List (List ℕ)) (names_of v) (names_of w) (visit_entries v) (visit_entries w) vs ws
 one_visit v w vs ws d e =
-    let one = first_same (entry.Look v.dir v.seen) (entry.Look w.dir w.seen) (cond (is_dir v.seen) (entry.List v.dir v.listed ∷ []) [] ++ vs) (cond (is_dir w.seen) (entry.List w.dir w.listed ∷ []) [] ++ ws) e in
-    let rest = others_same (entry.Look v.dir v.seen) (entry.Look w.dir w.seen) (cond (is_dir v.seen) (entry.List v.dir v.listed ∷ []) [] ++ vs) (cond (is_dir w.seen) (entry.List w.dir w.listed ∷ []) [] ++ ws) e in
+    let one = heads (entry.Look v.dir v.seen) (entry.Look w.dir w.seen) (cond (is_dir v.seen) (entry.List v.dir v.listed ∷ []) [] ++ vs) (cond (is_dir w.seen) (entry.List w.dir w.listed ∷ []) [] ++ ws) e in
+    let rest = tails (entry.Look v.dir v.seen) (entry.Look w.dir w.seen) (cond (is_dir v.seen) (entry.List v.dir v.listed ∷ []) [] ++ vs) (cond (is_dir w.seen) (entry.List w.dir w.listed ∷ []) [] ++ ws) e in
     let same = one_listing (is_dir v.seen) (is_dir w.seen) (ap is_dir (saw_same v.dir w.dir v.seen w.seen one)) v.dir w.dir v.listed w.listed vs ws d rest in
     record {
       came = same.came;
@@ -193,8 +188,8 @@ sights_one (s ∷ ss) [] vs ws m e = absurd (cc m)
 sights_one (s ∷ ss) (t ∷ ts) vs ws m e =
     let d : s.path ≡ t.path = cc m in
     let ds : map (λ x. x.path) ss ≡ map (λ x. x.path) ts = cc m in
-    let one = first_same (look_of s) (look_of t) (map look_of ss ++ vs) (map look_of ts ++ ws) e in
-    let rest = sights_one ss ts vs ws ds (others_same (look_of s) (look_of t) (map look_of ss ++ vs) (map look_of ts ++ ws) e) in
+    let one = heads (look_of s) (look_of t) (map look_of ss ++ vs) (map look_of ts ++ ws) e in
+    let rest = sights_one ss ts vs ws ds (tails (look_of s) (look_of t) (map look_of ss ++ vs) (map look_of ts ++ ws) e) in
     (ap (λ x. x ∷ ss) (sight_same s t d (saw_same s.path t.path s.seen t.seen one)) ∙ ap (λ xs. t ∷ xs) rest.0, rest.1)
 
 looked_one : (paths others : List Path) (a b : List Found) (ts us vs ws : List Entry) → paths ≡ others → LookedAt paths a ts → LookedAt others b us → ts ++ vs ≡ us ++ ws → AreOne (List Found) a b ts us vs ws
@@ -225,11 +220,11 @@ search_one word a b ts us vs ws g h e =
 look_one : (path : Path) (a b : List Found) (ts us vs ws : List Entry) → Sees path (λ seen. a ≡ seen_at path seen) ts → Sees path (λ seen. b ≡ seen_at path seen) us → ts ++ vs ≡ us ++ ws → AreOne (List Found) a b ts us vs ws
 look_one path a b ts us vs ws g h e =
     let split = front_same ts us (entry.Look path g.seen ∷ []) (entry.Look path h.seen ∷ []) vs ws g.look h.look e in
-    let one = first_same (entry.Look path g.seen) (entry.Look path h.seen) vs ws split in
+    let one = heads (entry.Look path g.seen) (entry.Look path h.seen) vs ws split in
     record {
       came = g.is ∙ (ap (seen_at path) (saw_same path path g.seen h.seen one) ∙ sym h.is);
       left = g.look ∙ (ap (λ x. x ∷ []) one ∙ sym h.look);
-      behind = others_same (entry.Look path g.seen) (entry.Look path h.seen) vs ws split;
+      behind = tails (entry.Look path g.seen) (entry.Look path h.seen) vs ws split;
     }
 
 nothing_one : (a b : List Found) (ts us vs ws : List Entry) → a ≡ [] → b ≡ [] → ts ≡ [] → us ≡ [] → ts ++ vs ≡ us ++ ws → AreOne (List Found) a b ts us vs ws

@@ -6,6 +6,7 @@ use Rattle.lr_rules.specs.declared.fault.Fault.{Fault}
 use Rattle.lr_rules.specs.declared.fault.Fault.TheVariants as fault
 use Rattle.lr_rules.specs.declared.path.Path.{Path}
 use Rattle.lr_rules.specs.Names.{IsOwnName, the_log}
+use Rattle.lr_rules.specs.StatePath.{state_part}
 use Rattle.lr_host.specs.declared.entry.Entry.{Entry}
 use Rattle.lr_host.specs.declared.entry.Entry.TheVariants as entry
 use Rattle.lr_host.specs.declared.thing.Seen.{Seen}
@@ -23,7 +24,6 @@ use Rattle.lr_plan.specs.declared.step.Step.TheVariants as step
 use Rattle.lr_plan.specs.Course.{Course}
 use Rattle.lr_chain.specs.declared.directory.DirStop.TheVariants as unmade
 use Rattle.lr_plan.specs.Outcomes.{Fails, badly, not_run, maybe_run, bytes_fault}
-use Rattle.lr_plan.specs.Steps.{state_part}
 use Rattle.lr_synced.specs.Synced.{made_of, to_make_of, all_to_make_of}
 use Rattle.lr_rotations.proofs.Weaving.{each_in}
 use Rattle.lr_targets.specs.AllTurns.{IsStatePath, IsOfState, IsItsDir, IsOf, IsOfSome}

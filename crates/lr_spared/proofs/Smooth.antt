@@ -14,6 +14,7 @@ use Rattle.lr_rules.specs.declared.rules.Rules.{Rules}
 use Rattle.lr_rules.specs.Match.{part_end, EndsWith}
 use Rattle.lr_rules.specs.Names.{IsOwnName, IsName}
 use Rattle.lr_rules.specs.Path.{parent_of}
+use Rattle.lr_rules.specs.StatePath.{state_part}
 use Rattle.lr_due.specs.declared.answer.Due.{Due}
 use Rattle.lr_host.specs.declared.entry.Entry.{Entry}
 use Rattle.lr_host.specs.declared.entry.Entry.TheVariants as entry
@@ -48,7 +49,7 @@ use Rattle.lr_plan.specs.declared.step.Step.TheVariants.{Runs}
 use Rattle.lr_plan.specs.Course.{Course}
 use Rattle.lr_plan.specs.Done.{ActsDone, rotated_logs}
 use Rattle.lr_plan.specs.Planned.{decision}
-use Rattle.lr_plan.specs.Steps.{steps_of_plan, state_part, steps_of_set, state_steps}
+use Rattle.lr_plan.specs.Steps.{steps_of_plan, steps_of_set, state_steps}
 use Rattle.lr_acts.specs.Making.{all_of_sets}
 use Rattle.lr_acts.specs.Taken.{OneTakes}
 use Rattle.lr_looks.specs.Found.{FoundLog}

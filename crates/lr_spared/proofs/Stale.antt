@@ -10,6 +10,7 @@ use Rattle.lr_rules.specs.declared.fault.Fault.{Fault}
 use Rattle.lr_rules.specs.declared.rule.Naming.{Naming}
 use Rattle.lr_rules.specs.declared.rule.Rule.{Rule}
 use Rattle.lr_rules.specs.declared.rule.Way.{Way}
+use Rattle.lr_rules.specs.StatePath.{state_part}
 use Rattle.lr_rules.specs.declared.rule.Way.TheVariants as way
 use Rattle.lr_host.specs.declared.entry.Entry.{Entry}
 use Rattle.lr_host.specs.declared.entry.Entry.TheVariants as entry
@@ -33,7 +34,6 @@ use Rattle.lr_reading.specs.declared.remembered.Remembered.{Remembered}
 use Rattle.lr_reading.specs.Answers.{IsKnown, IsKnownBy, IsKnownBehind, IsKnownOf, known_of, text_of}
 use Rattle.lr_reading.specs.Pieces.{Reading}
 use Rattle.lr_reading.specs.Sights.{Sight, Failed, Nothing, Saw, StateSights, found, found_kind, look_of, behind_state, entries_of}
-use Rattle.lr_plan.specs.Steps.{state_part}
 use Rattle.lr_targets.specs.Target.{Target}
 use Rattle.lr_seen.proofs.Coming.{Comes, was_looked, in_looked}
 use Rattle.lr_seen.proofs.Listed.{WasShown, all_shown}

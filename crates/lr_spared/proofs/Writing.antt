@@ -3,11 +3,12 @@ use Rattle.std.proofs.Common.{◌≡◌, ◌⊎◌, inl, inr, ⊎_elim, ◌+◌,
 use Rattle.std.specs.Prelude.{codes}
 use Rattle.lr_rules.specs.declared.path.Path.{Path}
 use Rattle.lr_rules.specs.Path.{parent_of}
+use Rattle.lr_rules.specs.StatePath.{state_part}
 use Rattle.lr_copy.specs.declared.job.Job.{Job}
 use Rattle.lr_plan.specs.declared.plan.LogPlan.{LogPlan}
 use Rattle.lr_plan.specs.declared.step.Step.{Step}
 use Rattle.lr_plan.specs.declared.step.Step.TheVariants as step
-use Rattle.lr_plan.specs.Steps.{step_if, copy, state_part, state_steps, rotation_of, retirement_of}
+use Rattle.lr_plan.specs.Steps.{step_if, copy, state_steps, rotation_of, retirement_of}
 use Rattle.lr_acts.specs.Taken.{OneTakes}
 use Rattle.lr_spared.proofs.Clearing.{ClearsFirst, clears_on}
 use Rattle.lr_run.proofs.Courses.{IsNoCopy, a_rotation, a_retirement}

@@ -4,6 +4,7 @@ use Rattle.lr_rules.specs.declared.path.Path.{Path}
 use Rattle.lr_rules.specs.declared.rule.Rule.{Rule}
 use Rattle.lr_rules.specs.declared.rule.Way.TheVariants as way
 use Rattle.lr_rules.specs.Match.{part_end, EndsWith}
+use Rattle.lr_rules.specs.StatePath.{state_part}
 use Rattle.lr_host.specs.declared.thing.Thing.TheVariants as thing
 use Rattle.lr_host.specs.Fits.{IsFileAt}
 use Rattle.lr_host.specs.Lists.{IsIn}
@@ -12,7 +13,6 @@ use Rattle.lr_host.specs.Told.{Counts, Rose}
 use Rattle.lr_host.specs.World.{Past, world, names}
 use Rattle.lr_family.specs.Parts.{IsDated, IsMembersPart}
 use Rattle.lr_looks.specs.Found.{FoundLog}
-use Rattle.lr_plan.specs.Steps.{state_part}
 use Rattle.lr_rotations.specs.Rotated.{IsBehind}
 
 -- neither the count of failed calls rose nor that of bad ends; at its greatest value a count counts as risen

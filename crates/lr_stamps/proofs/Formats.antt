@@ -11,6 +11,7 @@ use Rattle.lr_rules.specs.declared.rule.Piece.{Piece}
 use Rattle.lr_rules.specs.declared.rule.Piece.TheVariants as piece
 use Rattle.lr_rules.specs.Limits.{rank, is_rank, times, is_plain_piece, written, are_first, is_epoch_alone, is_format}
 use Rattle.lr_rules.specs.Stamps.{is_in}
+use Rattle.lr_rules.proofs.Bools.{both}
 use Rattle.lr_stamps.specs.Asked.{are_bytes, AreApart}
 
 -- ---- counting fields
@@ -104,10 +105,6 @@ apart_epoch (piece.Field f ∷ ps) h o = here f (count_here f ps) h o
     here field.Second e h o = absurd (never field.Second (omega arith) e h)
 
 -- ---- what the test of a format says
-
-both : (a b : Bool) → (a && b) ≡ true → (a ≡ true) × (b ≡ true)
-both true b e = (refl, e)
-both false b e = absurd (cc)
 
 either : (a b : Bool) → (a || b) ≡ true → (a ≡ true) ⊎ (b ≡ true)
 either true b e = inl refl

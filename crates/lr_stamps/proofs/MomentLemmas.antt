@@ -10,6 +10,7 @@ use Rattle.lr_rules.specs.declared.stamp_parts.StampParts.{StampParts}
 use Rattle.lr_rules.specs.StampParts.{part}
 use Rattle.lr_rules.specs.Stamps.{bound}
 use Rattle.lr_rules.specs.Moments.{AreOfMoment}
+use Rattle.lr_rules.proofs.Bools.{both, also}
 
 few_days : (y : ℤ) (m : ℕ) → days_in_month y m ≤ 31
 few_days y m = go (m == 2) (is_leap_year y) ((m == 4) || (m == 6) || (m == 9) || (m == 11))
@@ -33,13 +34,6 @@ small_parts p a e field.Epoch = e
 
 abbrev pub is_moment : StampParts → Bool
 is_moment p = nat_le 1 p.year && (nat_le p.year 9999 && (nat_le 1 p.month && (nat_le p.month 12 && (nat_le 1 p.day && (nat_le p.day (days_in_month (pos p.year) p.month) && (nat_le p.hour 23 && (nat_le p.minute 59 && nat_le p.second 59)))))))
-
-both : (a b : Bool) → (a && b) ≡ true → (a ≡ true) × (b ≡ true)
-both true b e = (refl, e)
-both false b e = absurd (cc)
-
-also : (a b : Bool) → a ≡ true → b ≡ true → (a && b) ≡ true
-also a b p q = cc
 
 pub moment_told : (p : StampParts) → is_moment p ≡ true → AreOfMoment p
 moment_told p e = (

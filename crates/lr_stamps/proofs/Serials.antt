@@ -17,6 +17,7 @@ use Rattle.lr_stamps.specs.Asked.{are_bytes, AreApart}
 use Rattle.lr_rules.specs.Moments.{IsStamp, seconds_by}
 use Rattle.lr_rules.specs.Dated.{serial_text, IsSerial, IsNumberedStamp}
 use Rattle.lr_rules.proofs.Digits.{decimal_run}
+use Rattle.lr_rules.proofs.Heads.{heads, tails}
 use Rattle.lr_stamps.specs.Serials.{is_dot, IsCounted}
 use Rattle.lr_stamps.proofs.Readings.{one_reading}
 
@@ -52,12 +53,6 @@ no_dot_within bytes front end none e = absurd (let d : list_any is_dot (front ++
 pub record IsOneSplit (a b c d : List ℕ) : Type 0 where
   pub fronts : a ≡ c
   pub ends : b ≡ d
-
-heads : (x y : ℕ) (xs ys : List ℕ) → x ∷ xs ≡ y ∷ ys → x ≡ y
-heads x y xs ys e = cc
-
-tails : (x y : ℕ) (xs ys : List ℕ) → x ∷ xs ≡ y ∷ ys → xs ≡ ys
-tails x y xs ys e = cc
 
 -- what has its last dot at one place has it at no other
 pub one_split : (a b c d : List ℕ) → list_any is_dot b ≡ false → list_any is_dot d ≡ false → a ++ 46 ∷ b ≡ c ++ 46 ∷ d → IsOneSplit a b c d

@@ -10,7 +10,7 @@ use Rattle.lr_host.specs.Steps.{is_naming}
 use Rattle.lr_host.specs.Told.{Left, Can, Each}
 use Rattle.lr_host.proofs.Left.{left_first, left_then, left_as, can_stay}
 use Rattle.lr_plan.specs.Appending.{Appended, no_more, piece_more, AppendBroke, at_piece, in_piece, piece_on}
-use Rattle.lr_writing.proofs.Pieces.{append_more, append_stops}
+use Rattle.lr_acts.proofs.Texts.{append_more, append_stops}
 use Rattle.lr_writing.specs.Buffer.{Wrote, WriteBroke, HoldsBack}
 use Rattle.lr_writing.specs.Writes.{IsShort}
 

@@ -5,6 +5,7 @@ use Rattle.std.specs.List.{suffix_len, prefix_len}
 use Rattle.std.proofs.lemmas.List.{length-append, reverse-append, reverse-reverse, take-append-le}
 use Rattle.lr_rules.specs.declared.path.Path.{Path}
 use Rattle.lr_rules.specs.Path.{parent_of, last_start_of, is_no_slash}
+use Rattle.lr_rules.specs.StatePath.{state_part}
 use Rattle.lr_host.specs.declared.thing.Thing.{Thing}
 use Rattle.lr_host.specs.declared.thing.Thing.TheVariants as thing
 use Rattle.lr_host.specs.declared.entry.Entry.{Entry}
@@ -19,10 +20,11 @@ use Rattle.lr_host.proofs.Left.{still_step}
 use Rattle.lr_host.proofs.Looked.{nothing_no_dir, file_no_dir}
 use Rattle.lr_host.proofs.More.{IsMore, more_on, made_more, wrote_names, file_same}
 use Rattle.lr_host.proofs.Names.{put_here, put_other}
+use Rattle.lr_host.proofs.Stays.{Stays, left_still, left_one, told_as, told_both, dir_more, file_more, dir_put, no_dir}
 use Rattle.lr_plan.specs.declared.step.Step.TheVariants.{Renames, Takes, Appends, SyncsFile, SyncsDir}
 use Rattle.lr_plan.specs.Appending.{Appended, no_more, piece_more}
 use Rattle.lr_plan.specs.Asking.{CanMake}
-use Rattle.lr_plan.specs.Steps.{state_part, state_steps}
+use Rattle.lr_plan.specs.Steps.{state_steps}
 use Rattle.lr_writing.specs.Fits.{AreDirectories, HasPlace, CanBegin}
 use Rattle.lr_writing.proofs.Named.{part_apart}
 
@@ -46,39 +48,6 @@ parent_same path = ap (λ s. cond (nat_lt 1 s) (take (s - 1) (path ++ codes ".tm
 
 -- ---- what entries do to facts of names
 
--- a fact that stays where files come
-abbrev Stays : (Names → Type 0) → Type 0
-Stays Q = (n n' : Names) → IsMore n n' → Q n → Q n'
-
-still_walk : (p q : Past) (es : List Entry) → Made p es q → filter is_naming es ≡ [] → IsMore (names (world p)) (names (world q))
-still_walk p _ _ at_first h = λ y. inl refl
-still_walk p _ es (by_writer {q = q} {e = e} m i f) h = more_on (names (world p)) (names (world q)) (names (world (q ▸ e))) (still_walk p q es m h) (λ y. wrote_names q e y i)
-still_walk p _ _ (by_tool {es = es} {q = q} {e = e} m i f) h = let s = none_passed is_naming e es h in
-    more_on (names (world p)) (names (world q)) (names (world (q ▸ e))) (still_walk p q es m s.1) (still_step q e i f s.0)
-
--- entries by which no name goes
-left_still : {P : List Entry → Type 0} {o m : Option Journal} (Q : Names → Type 0) → Stays Q → Left P o m → ((ts : List Entry) → P ts → filter is_naming ts ≡ []) → WhereTold o (λ p. Q (names (world p))) → WhereTold m (λ p. Q (names (world p)))
-left_still Q stays not_told f h = tt
-left_still Q stays (is_told {j = j} {k = k} {es = es} m l) f h = stays (names (world (past j))) (names (world (past k))) (still_walk (past j) (past k) es m (none (f (reverse es) l))) h
-  where
-    none : filter is_naming (reverse es) ≡ [] → filter is_naming es ≡ []
-    none e = sym (reverse-reverse (filter is_naming es)) ∙ (ap reverse (sym (filter_reverse is_naming es) ∙ e))
-
-one_walk : (Q R : Names → Type 0) → Stays Q → Stays R → (e : Entry) → ((r : Past) → Q (names (world r)) → Fits (world r) e → R (names (world (r ▸ e))))
-    → (p q : Past) (es : List Entry) → Made p es q → es ≡ e ∷ [] → Q (names (world p)) → R (names (world q))
-one_walk Q R sq sr e f p _ _ at_first is h = absurd (cc)
-one_walk Q R sq sr e f p _ es (by_writer {q = q} {e = w} m i t) is h = sr (names (world q)) (names (world (q ▸ w))) (λ y. wrote_names q w y i) (one_walk Q R sq sr e f p q es m is h)
-one_walk Q R sq sr e f p _ _ (by_tool {es = es} {q = q} {e = t} m i fits) is h =
-    let same : e ≡ t = cc in
-    let none : es ≡ [] = cc in
-    subst (λ (s : Entry). R (names (world (q ▸ s)))) same (f q (sq (names (world p)) (names (world q)) (still_walk p q es m (ap (filter is_naming) none)) h) (subst (λ (s : Entry). Fits (world q) s) (sym same) fits))
-
--- one entry
-left_one : {o m : Option Journal} (Q R : Names → Type 0) → Stays Q → Stays R → (e : Entry) → ((r : Past) → Q (names (world r)) → Fits (world r) e → R (names (world (r ▸ e))))
-    → Left (λ ts. ts ≡ e ∷ []) o m → WhereTold o (λ p. Q (names (world p))) → WhereTold m (λ p. R (names (world p)))
-left_one Q R sq sr e f not_told h = tt
-left_one Q R sq sr e f (is_told {j = j} {k = k} {es = es} m l) h = one_walk Q R sq sr e f (past j) (past k) es m (sym (reverse-reverse es) ∙ ap reverse l) h
-
 can_by : (Q : Names → Type 0) (e : Entry) (o : Option Journal) → ((n : Names) → Q n → CanCall n e) → WhereTold o (λ p. Q (names (world p))) → CanAll o (e ∷ [])
 can_by Q e o f h = record { can = go o h }
   where
@@ -86,18 +55,7 @@ can_by Q e o f h = record { can = go o h }
     go None h = tt
     go (Some j) h = (tt, f (names (world (past j))) h)
 
-told_as : (Q R : Names → Type 0) (o : Option Journal) → ((n : Names) → Q n → R n) → WhereTold o (λ p. Q (names (world p))) → WhereTold o (λ p. R (names (world p)))
-told_as Q R None f h = tt
-told_as Q R (Some j) f h = f (names (world (past j))) h
-
-told_both : (Q R : Names → Type 0) (o : Option Journal) → WhereTold o (λ p. Q (names (world p))) → WhereTold o (λ p. R (names (world p))) → WhereTold o (λ p. Q (names (world p)) × R (names (world p)))
-told_both Q R None a b = tt
-told_both Q R (Some j) a b = (a, b)
-
 -- ---- the place of a state
-
-dir_more : (x : Path) → Stays (λ n. IsDirectoryAt n x)
-dir_more x n n' more h = ⊎_elim (λ same. same ∙ h) (λ new. absurd (nothing_no_dir (n x) new.0 h)) (more x)
 
 dirs_more : (dirs : List Path) → Stays (λ n. AreDirectories n dirs)
 dirs_more [] n n' more h = tt
@@ -111,19 +69,9 @@ place_more state dirs n n' more h = record {
   directories = dirs_more dirs n n' more h.directories;
 }
 
-file_more : (x : Path) → Stays (λ n. IsFileAt n x)
-file_more x n n' more h = (h.0, file_same n n' x more h ∙ h.1)
-
--- a directory stays where the name of a file changes
-dir_put : (n : Names) (x y : Path) (t : Thing) → n x ≢ thing.Directory → IsDirectoryAt n y → IsDirectoryAt (put n x t) y
-dir_put n x y t ne h = put_other n x y t (λ same. ne (subst (λ z. n z ≡ thing.Directory) same h)) ∙ h
-
 dirs_put : (n : Names) (x : Path) (dirs : List Path) (t : Thing) → n x ≢ thing.Directory → AreDirectories n dirs → AreDirectories (put n x t) dirs
 dirs_put n x [] t ne h = tt
 dirs_put n x (d ∷ dirs) t ne h = (dir_put n x d t ne h.0, dirs_put n x dirs t ne h.1)
-
-no_dir : (n : Names) (x : Path) → IsFileAt n x → n x ≢ thing.Directory
-no_dir n x f is = file_no_dir (n x) f.0 f.1 is
 
 -- an old part file goes
 place_dropped : (state part : Path) (dirs : List Path) (n : Names) → part ≢ state → IsFileAt n part → HasPlace state dirs n → HasPlace state dirs (put n part thing.Nothing)

@@ -4,5 +4,4 @@ mod Coming
 pub mod Fits
 pub mod Named
 mod Once
-mod Pieces
 mod Tables

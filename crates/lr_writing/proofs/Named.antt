@@ -5,16 +5,17 @@ use Rattle.std.proofs.lemmas.List.{length-append}
 use Rattle.lr_rules.specs.declared.path.Path.{Path}
 use Rattle.lr_rules.specs.Path.{parent_of}
 use Rattle.lr_rules.specs.declared.fault.Fault.{Fault}
+use Rattle.lr_rules.specs.StatePath.{state_part}
 use Rattle.lr_host.specs.declared.entry.Entry.{Entry}
 use Rattle.lr_host.specs.declared.entry.Entry.TheVariants as entry
-use Rattle.lr_host.specs.Told.{Each}
+use Rattle.lr_host.specs.Told.{Each, Maybe}
 use Rattle.lr_plan.specs.declared.mark.Mark.{Mark}
 use Rattle.lr_plan.specs.declared.step.Step.{Step}
 use Rattle.lr_plan.specs.declared.step.Step.TheVariants.{Removes, Renames, Takes, Appends, SyncsFile, SyncsDir}
 use Rattle.lr_plan.specs.Appending.{Appended, no_more, piece_more, AppendBroke, at_piece, in_piece, piece_on}
 use Rattle.lr_plan.specs.Course.{Course, StepThen}
-use Rattle.lr_plan.specs.Outcomes.{Succeeds, Fails, Maybe, marks_of}
-use Rattle.lr_plan.specs.Steps.{state_part, state_steps}
+use Rattle.lr_plan.specs.Outcomes.{Succeeds, Fails, marks_of}
+use Rattle.lr_plan.specs.Steps.{state_steps}
 use Rattle.lr_writing.specs.Named.{Spares, IsReady, IsNamed, NamedLast, not_named, named}
 use Rattle.lr_writing.specs.Writes.{part_steps, name_steps}
 use Rattle.lr_writing.proofs.Coming.{whole_steps}

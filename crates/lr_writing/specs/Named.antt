@@ -2,12 +2,11 @@
 use Rattle.std.specs.Prelude.{◌≡◌, ◌≢◌, ℕ, List, [], ◌∷◌, ◌++◌, map, Some}
 use Rattle.lr_rules.specs.declared.path.Path.{Path}
 use Rattle.lr_rules.specs.Path.{parent_of}
+use Rattle.lr_rules.specs.StatePath.{state_part}
 use Rattle.lr_host.specs.declared.entry.Entry.{Entry}
 use Rattle.lr_host.specs.declared.entry.Entry.TheVariants.{Renames, Makes, Appends, Truncates, Unlinks, SyncsFile, SyncsDir, MakesDir}
-use Rattle.lr_host.specs.Told.{Each}
+use Rattle.lr_host.specs.Told.{Each, Maybe}
 use Rattle.lr_plan.specs.Appending.{Appended}
-use Rattle.lr_plan.specs.Outcomes.{Maybe}
-use Rattle.lr_plan.specs.Steps.{state_part}
 
 -- an entry of the tool that changes neither what the path names nor the bytes of a file at that path
 abbrev pub Spares : Path → Entry → Type 0

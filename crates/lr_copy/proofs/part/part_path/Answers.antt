@@ -1,7 +1,8 @@
 use Rattle.std.proofs.Common.{◌≡◌, ◌++◌, ap, ◌∙◌, subst, List, ℕ}
 use Rattle.lr_rules.specs.Match.{part_end}
 use Rattle.lr_rules.specs.Path.{path_fault, parent_of, IsRefusal}
-use Rattle.lr_copy.proofs.Endings.{part_fault, part_parent, path_unrefused}
+use Rattle.lr_rules.proofs.Endings.{path_unrefused}
+use Rattle.lr_copy.proofs.Endings.{part_fault, part_parent}
 use Rattle.lr_copy.proofs.part.part_path.Goals as goal
 
 pub lacks_memory-requires : goal.lacks_memory-requires
