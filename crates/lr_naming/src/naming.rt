@@ -1,9 +1,9 @@
 // The names of a log's members, as its rule gives them.
 ghost use Rattle.std.specs.Prelude.{◌≡◌, ◌≤◌, None, IfOk, length};
-ghost use Rattle.lr_rules.specs.Names.{naming_of, family_dir, ext_of, base_of, ends_with};
+ghost use Rattle.lr_rules.specs.Names.{naming_of, family_dir, ext_of, base_of, ends_with, is_aside};
 ghost use Rattle.lr_rules.specs.Path.{path_fault, parent_of, last_of};
 
-use lr_rules::{Memory, Naming, Path, Rule, Text, copy_format};
+use lr_rules::{Memory, Naming, Path, Rule, Text, Way, copy_format};
 use std::alloc::Global;
 
 fn ends_with(end: &[u8], name: &[u8]) -> bool
@@ -74,10 +74,21 @@ fn text_of(alloc: Global, bytes: &[u8]) -> Result<Text, Memory>
     }
 }
 
+// Whether the way sets the log aside before it is copied.
+fn is_aside(way: Way) -> bool
+    ensures { result ≡ is_aside way }
+{
+    match way {
+        Way::RenameCopy => true,
+        Way::Rename | Way::Copy | Way::CopyTruncate => false,
+    }
+}
+
 /// How the members of a log are named, by its rule: their directory is that of the log, or `olddir`, which a relative
 /// word names from there on; their extension is `addextension`, or `extension` where the log's name ends with it; their
-/// base is the log's name, without the extension where it ends with that. The rule is one of `Rules`, whose limits keep
-/// the directory a path of 2,561 bytes at most.
+/// base is the log's name, without the extension where it ends with that. A name under which the log waits is among them
+/// where the rule's way sets it aside. The rule is one of `Rules`, whose limits keep the directory a path of 2,561 bytes
+/// at most.
 pub fn naming_of(alloc: Global, rule: &Rule, log: &Path) -> Result<Naming, Memory>
     requires size { length log.now ≤ 2048 }
     ensures naming { IfOk result (λ naming. naming ≡ naming_of rule.now log.now) }
@@ -95,5 +106,6 @@ pub fn naming_of(alloc: Global, rule: &Rule, log: &Path) -> Result<Naming, Memor
         ext,
         start: rule.start,
         dated,
+        aside: is_aside(rule.way),
     })
 }
