@@ -95,6 +95,7 @@ fn put_text<K: Sink>(fault: &Fault, out: &mut K) -> Result<(), SinkFault>
             put_three(out, path.bytes(), b": names meet those of ", other.bytes())
         }
         Fault::Taken(path) => put_two(out, path.bytes(), b": name is taken"),
+        Fault::Unfinished(path) => put_two(out, path.bytes(), b": taken up again"),
         Fault::TooHigh(path) => put_two(out, path.bytes(), b": number is too high"),
         Fault::LongName(word) => put_two(out, word.bytes(), b": name is too long"),
         Fault::TooMany(word) => put_two(out, word.bytes(), b": too many logs"),

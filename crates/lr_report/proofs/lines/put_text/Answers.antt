@@ -28,6 +28,12 @@ returns-in-Taken-clause-whole g c = whole_as c.put_two-in-Taken.result _ _ _ _ (
 pub returns-in-Taken-clause-part : goal.returns-in-Taken-clause-part
 returns-in-Taken-clause-part g c = part_as _ _ _ _ (ap (λ w. concat (w ∷ codes ": name is taken" ∷ [])) c.bytes-in-Taken.ensures.bytes ∙ ap fault_text (sym c.in-Taken.is)) c.put_two-in-Taken.ensures.part
 
+pub returns-in-Unfinished-clause-whole : goal.returns-in-Unfinished-clause-whole
+returns-in-Unfinished-clause-whole g c = whole_as c.put_two-in-Unfinished.result _ _ _ _ (ap (λ w. concat (w ∷ codes ": taken up again" ∷ [])) c.bytes-in-Unfinished.ensures.bytes ∙ ap fault_text (sym c.in-Unfinished.is)) c.put_two-in-Unfinished.ensures.whole
+
+pub returns-in-Unfinished-clause-part : goal.returns-in-Unfinished-clause-part
+returns-in-Unfinished-clause-part g c = part_as _ _ _ _ (ap (λ w. concat (w ∷ codes ": taken up again" ∷ [])) c.bytes-in-Unfinished.ensures.bytes ∙ ap fault_text (sym c.in-Unfinished.is)) c.put_two-in-Unfinished.ensures.part
+
 pub returns-in-TooHigh-clause-whole : goal.returns-in-TooHigh-clause-whole
 returns-in-TooHigh-clause-whole g c = whole_as c.put_two-in-TooHigh.result _ _ _ _ (ap (λ w. concat (w ∷ codes ": number is too high" ∷ [])) c.bytes-in-TooHigh.ensures.bytes ∙ ap fault_text (sym c.in-TooHigh.is)) c.put_two-in-TooHigh.ensures.whole
 
