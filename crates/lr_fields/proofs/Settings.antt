@@ -59,6 +59,7 @@ still_rename (set.Way w) h = absurd (cc)
 still_rename (set.NotWay way.Rename) h = refl
 still_rename (set.NotWay way.Copy) h = refl
 still_rename (set.NotWay way.CopyTruncate) h = refl
+still_rename (set.NotWay way.RenameCopy) h = refl
 still_rename (set.Criterion c) h = refl
 still_rename (set.Count n) h = refl
 still_rename (set.IfEmpty b) h = refl
@@ -88,12 +89,19 @@ undone w (set.Way x) h = absurd (cc)
 undone way.Rename (set.NotWay way.Rename) h = refl
 undone way.Rename (set.NotWay way.Copy) h = refl
 undone way.Rename (set.NotWay way.CopyTruncate) h = refl
+undone way.Rename (set.NotWay way.RenameCopy) h = refl
 undone way.Copy (set.NotWay way.Rename) h = refl
 undone way.Copy (set.NotWay way.Copy) h = refl
 undone way.Copy (set.NotWay way.CopyTruncate) h = refl
+undone way.Copy (set.NotWay way.RenameCopy) h = refl
 undone way.CopyTruncate (set.NotWay way.Rename) h = refl
 undone way.CopyTruncate (set.NotWay way.Copy) h = refl
 undone way.CopyTruncate (set.NotWay way.CopyTruncate) h = refl
+undone way.CopyTruncate (set.NotWay way.RenameCopy) h = refl
+undone way.RenameCopy (set.NotWay way.Rename) h = refl
+undone way.RenameCopy (set.NotWay way.Copy) h = refl
+undone way.RenameCopy (set.NotWay way.CopyTruncate) h = refl
+undone way.RenameCopy (set.NotWay way.RenameCopy) h = refl
 undone way.Rename v h = still_rename v h
 undone way.Copy v h = plain v h
   where
@@ -102,6 +110,7 @@ undone way.Copy v h = plain v h
     plain (set.NotWay way.Rename) h = refl
     plain (set.NotWay way.Copy) h = refl
     plain (set.NotWay way.CopyTruncate) h = refl
+    plain (set.NotWay way.RenameCopy) h = refl
     plain v h = refl
 undone way.CopyTruncate v h = plain v h
   where
@@ -110,6 +119,16 @@ undone way.CopyTruncate v h = plain v h
     plain (set.NotWay way.Rename) h = refl
     plain (set.NotWay way.Copy) h = refl
     plain (set.NotWay way.CopyTruncate) h = refl
+    plain (set.NotWay way.RenameCopy) h = refl
+    plain v h = refl
+undone way.RenameCopy v h = plain v h
+  where
+    plain : (v : Set) → names_way v ≡ false → cond (undoes way.RenameCopy v) way.Rename way.RenameCopy ≡ way_behind v way.RenameCopy
+    plain (set.Way w) h = absurd (cc)
+    plain (set.NotWay way.Rename) h = refl
+    plain (set.NotWay way.Copy) h = refl
+    plain (set.NotWay way.CopyTruncate) h = refl
+    plain (set.NotWay way.RenameCopy) h = refl
     plain v h = refl
 
 -- the way of a setting and what stands behind it
@@ -168,6 +187,7 @@ way-push [] (set.Way w) = refl
 way-push [] (set.NotWay way.Rename) = refl
 way-push [] (set.NotWay way.Copy) = refl
 way-push [] (set.NotWay way.CopyTruncate) = refl
+way-push [] (set.NotWay way.RenameCopy) = refl
 way-push [] v = refl
 way-push (set.Way w ∷ us) v = way-step w us v (way-push us v)
 way-push (u ∷ us) v = way-push us v

@@ -146,6 +146,7 @@ names_way s = false
 abbrev pub undoes : Way → Set → Bool
 undoes way.Copy (set.NotWay way.Copy) = true
 undoes way.CopyTruncate (set.NotWay way.CopyTruncate) = true
+undoes way.RenameCopy (set.NotWay way.RenameCopy) = true
 undoes w s = false
 
 -- the way of the last setting that names one, unless one behind it undoes that way

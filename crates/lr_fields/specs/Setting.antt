@@ -18,6 +18,7 @@ default_fields = fields_of []
 abbrev pub without : Way → Way → Way
 without way.Copy way.Copy = way.Rename
 without way.CopyTruncate way.CopyTruncate = way.Rename
+without way.RenameCopy way.RenameCopy = way.Rename
 without n w = w
 
 abbrev pub with_script : Phase → List ℕ → Scripts → Scripts

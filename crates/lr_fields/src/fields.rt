@@ -102,6 +102,7 @@ fn without(not: Way, way: Way) -> Way
     match (not, way) {
         (Way::Copy, Way::Copy) => Way::Rename,
         (Way::CopyTruncate, Way::CopyTruncate) => Way::Rename,
+        (Way::RenameCopy, Way::RenameCopy) => Way::Rename,
         _ => way,
     }
 }
