@@ -1,5 +1,5 @@
 -- The fronts of all logs.
-use Rattle.std.proofs.Common.{◌≡◌, sym, ap, subst, inl, inr, ⊎_elim, ℕ, ◌<◌, ◌≤◌, ◌+◌, List, [], ◌∷◌, ◌++◌, length, slice_get, arith}
+use Rattle.std.proofs.Common.{◌≡◌, sym, ap, subst, inl, inr, ⊎_elim, ℕ, ◌<◌, ◌≤◌, ◌+◌, Bool, true, false, cond, List, [], ◌∷◌, ◌++◌, length, slice_get, arith}
 use Rattle.std.specs.Prelude.{All, Contains}
 use Rattle.std.specs.Borrow.{Bor}
 use Rattle.std.specs.List.Sorted.{IsPermutation}
@@ -7,11 +7,12 @@ use Rattle.std.proofs.lemmas.Bool.{cases_lt}
 use Rattle.std.proofs.lemmas.List.Elements.{All-nil, All-cons, All-append, All-weaker, All-contains_itself, Contains-append_left, Contains-append_right}
 use Rattle.std.proofs.lemmas.List.Sorted.{Contains-permutation, All-permutation}
 use Rattle.std.proofs.lemmas.Option.{slice_get_within}
+use Rattle.lr_rules.specs.Names.{aside_path}
 use Rattle.lr_family.specs.declared.family.Family.{Family}
 use Rattle.lr_kept.specs.declared.choice.Choice.{Choice}
 use Rattle.lr_kept.specs.declared.front.Front.{Front}
 use Rattle.lr_kept.specs.Chosen.{IsKeptAt}
-use Rattle.lr_kept.specs.Fronts.{HaveFronts, AddsFronts, fronts_at, front_at, member_front, below}
+use Rattle.lr_kept.specs.Fronts.{HaveFronts, AddsFronts, aside_front, fronts_at, front_at, member_front, below}
 
 pub no_fronts : (logs : List (Bor Family)) (choices : List Choice) → HaveFronts logs choices 0 []
 no_fronts logs choices = record { places = All-nil (λ f. f.place < length logs); each = λ k f lt. absurd (let l : k < 0 = lt in omega arith) }
@@ -28,9 +29,13 @@ IsWithin logs x = x.place < length logs
 
 own_places : (logs : List (Bor Family)) (f : Family) (n : ℕ) → n < length logs → All (λ (x : Front). x.place < length logs) (fronts_at f n)
 own_places logs f n lt =
-    All-cons (IsWithin logs) (front_at n f.log) (front_at n (member_front f.naming) ∷ front_at n (below f.naming.dir) ∷ []) lt
-    (All-cons (IsWithin logs) (front_at n (member_front f.naming)) (front_at n (below f.naming.dir) ∷ []) lt
-    (All-cons (IsWithin logs) (front_at n (below f.naming.dir)) [] lt (All-nil (IsWithin logs))))
+    All-cons (IsWithin logs) (front_at n f.log) (front_at n (member_front f.naming) ∷ front_at n (below f.naming.dir) ∷ aside_front f n) lt
+    (All-cons (IsWithin logs) (front_at n (member_front f.naming)) (front_at n (below f.naming.dir) ∷ aside_front f n) lt
+    (All-cons (IsWithin logs) (front_at n (below f.naming.dir)) (aside_front f n) lt (where_aside f.naming.aside)))
+  where
+    where_aside : (b : Bool) → All (IsWithin logs) (cond b (front_at n (aside_path f.log) ∷ []) [])
+    where_aside true = All-cons (IsWithin logs) (front_at n (aside_path f.log)) [] lt (All-nil (IsWithin logs))
+    where_aside false = All-nil (IsWithin logs)
 
 pub more_fronts : (logs : List (Bor Family)) (choices : List Choice) (n : ℕ) (old new : List Front) → HaveFronts logs choices n old → AddsFronts logs choices n old new → HaveFronts logs choices (n + 1) new
 more_fronts logs choices n old new so_far (inl h) = subst (λ (fs : List Front). HaveFronts logs choices (n + 1) fs) (sym h.2) (record {

@@ -1,5 +1,6 @@
 -- Of two logs that meet the one finds the other.
-use Rattle.std.proofs.Common.{◌≡◌, ◌∙◌, sym, ap, subst, refl, inl, inr, ⊎_elim, ◌⊎◌, ℕ, List, [], ◌∷◌, ◌++◌, append_assoc, append-nil, Option, Some, None, length, if◌then◌else◌}
+use Rattle.std.proofs.Common.{◌≡◌, ◌∙◌, sym, ap, subst, refl, inl, inr, ⊎_elim, ◌⊎◌, ℕ, true, List, [], ◌∷◌, ◌++◌, append_assoc, append-nil, Option, Some, None, length, codes, if◌then◌else◌}
+use Rattle.std.proofs.lemmas.List.{append_cancel_right}
 use Rattle.std.specs.Prelude.{◌==◌}
 use Rattle.std.proofs.Math.Logic.{⊎_swap}
 use Rattle.lr_rules.specs.declared.rule.Naming.{Naming}
@@ -7,7 +8,7 @@ use Rattle.lr_rules.specs.declared.rule.Format.{Format}
 use Rattle.lr_rules.specs.declared.rule.Piece.{Piece}
 use Rattle.lr_rules.specs.declared.rule.Piece.TheVariants as piece
 use Rattle.lr_rules.specs.Match.{part_end}
-use Rattle.lr_rules.specs.Names.{IsStampShape, number_pieces, IsMiddleShape, IsMemberShape, IsOwnName, the_log, a_member, a_part, IsName, Meet}
+use Rattle.lr_rules.specs.Names.{aside_path, IsStampShape, number_pieces, IsMiddleShape, IsMemberShape, IsOwnName, the_log, set_aside, a_member, a_part, IsName, Meet}
 use Rattle.lr_rules.specs.Path.{joined}
 use Rattle.lr_family.specs.declared.family.Family.{Family}
 use Rattle.lr_kept.specs.Fronts.{Begins, before_field, middle_front, member_front, below, Finds}
@@ -46,10 +47,19 @@ member_begins n last end h =
           ∙ spelled (if length n.dir == 1 then [] else n.dir) n.base (middle_front n.dated) more.0 n.ext end,
     )
 
-own_begins : (log : List ℕ) (n : Naming) (x : List ℕ) → IsOwnName log n x → (x ≡ log) ⊎ Begins (member_front n) x
+-- the path is that where the log waits that is set aside
+abbrev IsAside : List ℕ → Naming → List ℕ → Type 0
+IsAside log n x = (n.aside ≡ true) × (x ≡ aside_path log)
+
+-- what a name of the log's own is or begins with
+abbrev OwnBegins : List ℕ → Naming → List ℕ → Type 0
+OwnBegins log n x = (x ≡ log) ⊎ (Begins (member_front n) x ⊎ IsAside log n x)
+
+own_begins : (log : List ℕ) (n : Naming) (x : List ℕ) → IsOwnName log n x → OwnBegins log n x
 own_begins log n x (the_log e) = inl e
-own_begins log n x (a_member last shape e) = inr (subst (λ (y : List ℕ). Begins (member_front n) y) (ap (λ ys. joined n.dir ys) (append-nil last) ∙ sym e) (member_begins n last [] shape))
-own_begins log n x (a_part last shape e) = inr (subst (λ (y : List ℕ). Begins (member_front n) y) (sym e) (member_begins n last part_end shape))
+own_begins log n x (set_aside on e) = inr (inr (on, e))
+own_begins log n x (a_member last shape e) = inr (inl (subst (λ (y : List ℕ). Begins (member_front n) y) (ap (λ ys. joined n.dir ys) (append-nil last) ∙ sym e) (member_begins n last [] shape)))
+own_begins log n x (a_part last shape e) = inr (inl (subst (λ (y : List ℕ). Begins (member_front n) y) (sym e) (member_begins n last part_end shape)))
 
 -- of two that begin the same bytes the one begins the other
 begin_alike : (f g x : List ℕ) → Begins f x → Begins g x → Begins f g ⊎ Begins g f
@@ -66,24 +76,47 @@ begin_alike (c ∷ f) (d ∷ g) x h k =
 
 -- the bytes are a front of the log
 abbrev pub IsFrontOf : Family → List ℕ → Type 0
-IsFrontOf f bytes = (bytes ≡ f.log) ⊎ ((bytes ≡ member_front f.naming) ⊎ (bytes ≡ below f.naming.dir))
+IsFrontOf f bytes = (bytes ≡ f.log) ⊎ ((bytes ≡ member_front f.naming) ⊎ ((bytes ≡ below f.naming.dir) ⊎ IsAside f.log f.naming bytes))
 
 -- the one finds a front of the other
 abbrev pub FindsIt : Family → Family → Type 0
 FindsIt f g = (bytes : List ℕ) × IsFrontOf g bytes × Finds f bytes
 
-by_name : (f g : Family) → (f.log ≡ g.log → ⊥) → (x : List ℕ) → (x ≡ f.log) ⊎ Begins (member_front f.naming) x → ((x ≡ g.log) ⊎ Begins (member_front g.naming) x) ⊎ (x ≡ g.naming.dir) → FindsIt f g ⊎ FindsIt g f
-by_name f g apart x (inl e) (inl (inl k)) = absurd (apart (sym e ∙ k))
-by_name f g apart x (inl e) (inl (inr k)) = inr (f.log, inl refl, inl (subst (λ (y : List ℕ). Begins (member_front g.naming) y) e k))
-by_name f g apart x (inl e) (inr k) = inl (below g.naming.dir, inr (inr refl), inr ([], ap (λ xs. below xs) (sym k ∙ e) ∙ sym (append-nil (below f.log))))
-by_name f g apart x (inr h) (inl (inl k)) = inl (g.log, inl refl, inl (subst (λ (y : List ℕ). Begins (member_front f.naming) y) k h))
-by_name f g apart x (inr h) (inl (inr k)) = ⊎_elim
+-- the same bytes
+begins_same : (front bytes : List ℕ) → bytes ≡ front → Begins front bytes
+begins_same front bytes e = ([], e ∙ sym (append-nil front))
+
+-- what a name of the log is or begins with
+abbrev NameBegins : Family → List ℕ → Type 0
+NameBegins g x = OwnBegins g.log g.naming x ⊎ (x ≡ g.naming.dir)
+
+by_log : (f g : Family) → (f.log ≡ g.log → ⊥) → (x : List ℕ) → x ≡ f.log → NameBegins g x → FindsIt f g ⊎ FindsIt g f
+by_log f g apart x e (inl (inl k)) = absurd (apart (sym e ∙ k))
+by_log f g apart x e (inl (inr (inl k))) = inr (f.log, inl refl, inl (subst (λ (y : List ℕ). Begins (member_front g.naming) y) e k))
+by_log f g apart x e (inl (inr (inr k))) = inr (f.log, inl refl, inr (inr (k.0, begins_same (aside_path g.log) f.log (sym e ∙ k.1))))
+by_log f g apart x e (inr k) = inl (below g.naming.dir, inr (inr (inl refl)), inr (inl (begins_same (below f.log) (below g.naming.dir) (ap (λ xs. below xs) (sym k ∙ e)))))
+
+by_members : (f g : Family) (x : List ℕ) → Begins (member_front f.naming) x → NameBegins g x → FindsIt f g ⊎ FindsIt g f
+by_members f g x h (inl (inl k)) = inl (g.log, inl refl, inl (subst (λ (y : List ℕ). Begins (member_front f.naming) y) k h))
+by_members f g x h (inl (inr (inl k))) = ⊎_elim
     (λ (m : Begins (member_front f.naming) (member_front g.naming)). inl (member_front g.naming, inr (inl refl), inl m))
     (λ (m : Begins (member_front g.naming) (member_front f.naming)). inr (member_front f.naming, inr (inl refl), inl m))
     (begin_alike (member_front f.naming) (member_front g.naming) x h k)
-by_name f g apart x (inr h) (inr k) = inl (below g.naming.dir, inr (inr refl), inl (begins_more (member_front f.naming) g.naming.dir (47 ∷ []) (subst (λ (y : List ℕ). Begins (member_front f.naming) y) k h)))
+by_members f g x h (inl (inr (inr k))) = inl (aside_path g.log, inr (inr (inr (k.0, refl))), inl (subst (λ (y : List ℕ). Begins (member_front f.naming) y) k.1 h))
+by_members f g x h (inr k) = inl (below g.naming.dir, inr (inr (inl refl)), inl (begins_more (member_front f.naming) g.naming.dir (47 ∷ []) (subst (λ (y : List ℕ). Begins (member_front f.naming) y) k h)))
 
-name_begins : (g : Family) (x : List ℕ) → IsName g.log g.naming x → ((x ≡ g.log) ⊎ Begins (member_front g.naming) x) ⊎ (x ≡ g.naming.dir)
+by_aside : (f g : Family) → (f.log ≡ g.log → ⊥) → (x : List ℕ) → IsAside f.log f.naming x → NameBegins g x → FindsIt f g ⊎ FindsIt g f
+by_aside f g apart x h (inl (inl k)) = inl (g.log, inl refl, inr (inr (h.0, begins_same (aside_path f.log) g.log (sym k ∙ h.1))))
+by_aside f g apart x h (inl (inr (inl k))) = inr (aside_path f.log, inr (inr (inr (h.0, refl))), inl (subst (λ (y : List ℕ). Begins (member_front g.naming) y) h.1 k))
+by_aside f g apart x h (inl (inr (inr k))) = absurd (apart (append_cancel_right f.log g.log (codes ".tmp") (sym h.1 ∙ k.1)))
+by_aside f g apart x h (inr k) = inl (below g.naming.dir, inr (inr (inl refl)), inr (inr (h.0, (47 ∷ [], ap (λ xs. below xs) (sym k ∙ h.1)))))
+
+by_name : (f g : Family) → (f.log ≡ g.log → ⊥) → (x : List ℕ) → OwnBegins f.log f.naming x → NameBegins g x → FindsIt f g ⊎ FindsIt g f
+by_name f g apart x (inl e) k = by_log f g apart x e k
+by_name f g apart x (inr (inl h)) k = by_members f g x h k
+by_name f g apart x (inr (inr h)) k = by_aside f g apart x h k
+
+name_begins : (g : Family) (x : List ℕ) → IsName g.log g.naming x → NameBegins g x
 name_begins g x (inl own) = inl (own_begins g.log g.naming x own)
 name_begins g x (inr e) = inr e
 

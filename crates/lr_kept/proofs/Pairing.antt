@@ -1,5 +1,5 @@
 -- The pairs of logs that meet.
-use Rattle.std.proofs.Common.{◌≡◌, ◌≢◌, ◌∙◌, sym, ap, subst, inl, inr, ⊎_elim, ℕ, ◌<◌, ◌≤◌, ◌+◌, List, [], ◌∷◌, ◌++◌, length, Bool, true, false, not, cond, Some, slice_get, arith}
+use Rattle.std.proofs.Common.{◌≡◌, ◌≢◌, ◌∙◌, sym, ap, subst, inl, inr, ⊎_elim, ℕ, ◌<◌, ◌≤◌, ◌+◌, List, [], ◌∷◌, ◌++◌, length, Bool, true, false, not, cond, Some, slice_get, true≢false, arith}
 use Rattle.std.specs.Prelude.{All, Contains, ◌↔◌}
 use Rattle.std.specs.Borrow.{Bor}
 use Rattle.std.specs.List.Sorted.{IsPermutation}
@@ -7,14 +7,14 @@ use Rattle.std.proofs.lemmas.Bool.{not-true, lt-ltb, le-ltb, cases_order, cases_
 use Rattle.std.proofs.lemmas.List.Elements.{All-nil, All-push, All-weaker, Contains-append_left, Contains-push, All-head, All-tail}
 use Rattle.std.proofs.lemmas.List.Sorted.{Contains-permutation, All-permutation}
 use Rattle.std.proofs.lemmas.Option.{slice_get_within}
-use Rattle.lr_rules.specs.Names.{Meet}
+use Rattle.lr_rules.specs.Names.{aside_path, Meet}
 use Rattle.lr_family.specs.declared.family.Family.{Family}
 use Rattle.lr_kept.specs.declared.choice.Choice.{Choice}
 use Rattle.lr_kept.specs.declared.front.Front.{Front}
 use Rattle.lr_kept.specs.declared.pair.Pair.{Pair}
 use Rattle.lr_kept.specs.Chosen.{MeetAt, IsNew, IsKeptAt}
-use Rattle.lr_kept.specs.Fronts.{Begins, Finds, HaveFronts, front_at, fronts_at, below, member_front}
-use Rattle.lr_kept.specs.Pairs.{pair_at, pair_of, IsPair, Grows, HasPair, AddsPair, AddsPairs, AddsBetween, AddsFound, HaveFound, HavePairs}
+use Rattle.lr_kept.specs.Fronts.{Begins, Finds, HaveFronts, aside_front, front_at, fronts_at, below, member_front}
+use Rattle.lr_kept.specs.Pairs.{pair_at, pair_of, IsPair, Grows, HasPair, AddsAside, AddsPair, AddsPairs, AddsBetween, AddsFound, HaveFound, HavePairs}
 use Rattle.lr_kept.proofs.Finding.{IsFrontOf, FindsIt, one_finds, meet_back}
 use Rattle.lr_kept.proofs.Elements.{contains_read, same_read}
 
@@ -93,16 +93,29 @@ module _ (logs : List (Bor Family)) (fronts : List Front) (place from : ℕ) whe
         all.found read.0 (front_at k bytes) read.2 here.0 (omega (arith, here.1));
   }
 
-pub found_all : (logs : List (Bor Family)) (choices : List Choice) (fronts : List Front) (place : ℕ) (f : Bor Family) (old mid new : List Pair) → slice_get logs place ≡ Some f → AddsPairs logs fronts place (member_front f.now.naming) old mid → AddsPairs logs fronts place (below f.now.log) mid new
-    → AddsFound logs choices fronts place old new
-found_all logs choices fronts place f old mid new at a b = record {
-  grows = grows_on logs old mid new a.grows b.grows;
-  found = λ g bytes k here kept c finds. by g bytes k c (cc (at, here)) finds;
+pub aside_found : (logs : List (Bor Family)) (fronts : List Front) (place : ℕ) (f : Bor Family) (old new : List Pair) → slice_get logs place ≡ Some f → AddsPairs logs fronts place (aside_path f.now.log) old new → AddsAside logs fronts place old new
+aside_found logs fronts place f old new at a = record {
+  grows = a.grows;
+  found = λ g bytes k here on c h. a.found bytes k c (subst (λ (x : Bor Family). Begins (aside_path x.now.log) bytes) (same_read logs place g f here at) h);
+}
+
+pub aside_none : (logs : List (Bor Family)) (fronts : List Front) (place : ℕ) (f : Bor Family) (old : List Pair) → slice_get logs place ≡ Some f → f.now.naming.aside ≡ false → AddsAside logs fronts place old old
+aside_none logs fronts place f old at off = record {
+  grows = stays logs old;
+  found = λ g bytes k here on c h. absurd (let same : g ≡ f = same_read logs place g f here at in true≢false (sym on ∙ (ap (λ (x : Bor Family). x.now.naming.aside) same ∙ off)));
+}
+
+pub found_all : (logs : List (Bor Family)) (choices : List Choice) (fronts : List Front) (place : ℕ) (f : Bor Family) (old mid more new : List Pair) → slice_get logs place ≡ Some f → AddsPairs logs fronts place (member_front f.now.naming) old mid → AddsPairs logs fronts place (below f.now.log) mid more
+    → AddsAside logs fronts place more new → AddsFound logs choices fronts place old new
+found_all logs choices fronts place f old mid more new at a b d = record {
+  grows = grows_on logs old mid new a.grows (grows_on logs mid more new b.grows d.grows);
+  found = λ g bytes k here kept c finds. by g bytes k c (cc (at, here)) here finds;
 }
   where
-    by : (g : Bor Family) (bytes : List ℕ) (k : ℕ) → Contains fronts (front_at k bytes) → f ≡ g → Finds g.now bytes → HasPair logs new place k
-    by g bytes k c same (inl h) = has_still logs mid new place k b.grows (a.found bytes k c (subst (λ (x : Bor Family). Begins (member_front x.now.naming) bytes) (sym same) h))
-    by g bytes k c same (inr h) = b.found bytes k c (subst (λ (x : Bor Family). Begins (below x.now.log) bytes) (sym same) h)
+    by : (g : Bor Family) (bytes : List ℕ) (k : ℕ) → Contains fronts (front_at k bytes) → f ≡ g → slice_get logs place ≡ Some g → Finds g.now bytes → HasPair logs new place k
+    by g bytes k c same here (inl h) = has_still logs mid new place k (grows_on logs mid more new b.grows d.grows) (a.found bytes k c (subst (λ (x : Bor Family). Begins (member_front x.now.naming) bytes) (sym same) h))
+    by g bytes k c same here (inr (inl h)) = has_still logs more new place k d.grows (b.found bytes k c (subst (λ (x : Bor Family). Begins (below x.now.log) bytes) (sym same) h))
+    by g bytes k c same here (inr (inr h)) = d.found g bytes k here h.0 c h.1
 
 pub found_none : (logs : List (Bor Family)) (choices : List Choice) (fronts : List Front) (place : ℕ) (old : List Pair) → (IsKeptAt choices place → ⊥) → AddsFound logs choices fronts place old old
 found_none logs choices fronts place old none = record { grows = stays logs old; found = λ g bytes k here kept c finds. absurd (none kept) }
@@ -122,17 +135,27 @@ more_found logs choices fronts n mid new so_far adds = record {
       (cases_lt i n);
 }
 
+-- the fronts of a log behind that of its path, and behind that of its members
+abbrev behind_members : Family → ℕ → List Front
+behind_members f k = front_at k (below f.naming.dir) ∷ aside_front f k
+
+abbrev behind_log : Family → ℕ → List Front
+behind_log f k = front_at k (member_front f.naming) ∷ behind_members f k
+
+from_dir : (fronts : List Front) (f : Family) (k : ℕ) → All (Contains fronts) (fronts_at f k) → All (Contains fronts) (behind_members f k)
+from_dir fronts f k all = All-tail (Contains fronts) (front_at k (member_front f.naming)) (behind_members f k) (All-tail (Contains fronts) (front_at k f.log) (behind_log f k) all)
+
 -- each front of a log is among them
 pub has_front : (fronts : List Front) (f : Family) (k : ℕ) (bytes : List ℕ) → All (Contains fronts) (fronts_at f k) → IsFrontOf f bytes → Contains fronts (front_at k bytes)
 has_front fronts f k bytes all (inl e) =
-    subst (λ (b : List ℕ). Contains fronts (front_at k b)) (sym e) (All-head (Contains fronts) (front_at k f.log) (front_at k (member_front f.naming) ∷ front_at k (below f.naming.dir) ∷ []) all)
+    subst (λ (b : List ℕ). Contains fronts (front_at k b)) (sym e) (All-head (Contains fronts) (front_at k f.log) (behind_log f k) all)
 has_front fronts f k bytes all (inr (inl e)) =
-    subst (λ (b : List ℕ). Contains fronts (front_at k b)) (sym e) (All-head (Contains fronts) (front_at k (member_front f.naming)) (front_at k (below f.naming.dir) ∷ [])
-    (All-tail (Contains fronts) (front_at k f.log) (front_at k (member_front f.naming) ∷ front_at k (below f.naming.dir) ∷ []) all))
-has_front fronts f k bytes all (inr (inr e)) =
-    subst (λ (b : List ℕ). Contains fronts (front_at k b)) (sym e) (All-head (Contains fronts) (front_at k (below f.naming.dir)) []
-    (All-tail (Contains fronts) (front_at k (member_front f.naming)) (front_at k (below f.naming.dir) ∷ [])
-    (All-tail (Contains fronts) (front_at k f.log) (front_at k (member_front f.naming) ∷ front_at k (below f.naming.dir) ∷ []) all)))
+    subst (λ (b : List ℕ). Contains fronts (front_at k b)) (sym e) (All-head (Contains fronts) (front_at k (member_front f.naming)) (behind_members f k) (All-tail (Contains fronts) (front_at k f.log) (behind_log f k) all))
+has_front fronts f k bytes all (inr (inr (inl e))) =
+    subst (λ (b : List ℕ). Contains fronts (front_at k b)) (sym e) (All-head (Contains fronts) (front_at k (below f.naming.dir)) (aside_front f k) (from_dir fronts f k all))
+has_front fronts f k bytes all (inr (inr (inr h))) = subst (λ (b : List ℕ). Contains fronts (front_at k b)) (sym h.1)
+    (All-head (Contains fronts) (front_at k (aside_path f.log)) []
+    (subst (λ (b : Bool). All (Contains fronts) (cond b (front_at k (aside_path f.log) ∷ []) [])) h.0 (All-tail (Contains fronts) (front_at k (below f.naming.dir)) (aside_front f k) (from_dir fronts f k all))))
 
 pub all_pairs : (logs : List (Bor Family)) (choices : List Choice) (fronts : List Front) (pairs : List Pair) → ((k : ℕ) → IsKeptAt choices k → IsNew logs k) → HaveFronts logs choices (length logs) fronts → HaveFound logs choices fronts (length logs) pairs → HavePairs logs choices pairs
 all_pairs logs choices fronts pairs new have found = record {

@@ -1,10 +1,11 @@
 -- What the names of a log begin with, and how the logs that a log may meet are found by that.
-use Rattle.std.specs.Prelude.{◌≡◌, ◌⊎◌, ◌<◌, ℕ, List, [], ◌∷◌, ◌++◌, Option, Some, None, length, slice_get, All, Contains}
+use Rattle.std.specs.Prelude.{◌≡◌, ◌⊎◌, ◌<◌, ℕ, true, List, [], ◌∷◌, ◌++◌, Option, Some, None, length, slice_get, All, Contains, if◌then◌else◌}
 use Rattle.std.specs.Borrow.{Bor}
 use Rattle.std.specs.Ordering.{nat_cmp}
 use Rattle.std.specs.Cmp.Lexicographic.{slice_cmp}
 use Rattle.std.specs.List.Sorted.{IsSortedByKey}
 use Rattle.lr_rules.specs.Path.{joined}
+use Rattle.lr_rules.specs.Names.{aside_path}
 use Rattle.lr_rules.specs.declared.rule.Naming.{Naming}
 use Rattle.lr_rules.specs.declared.rule.Format.{Format}
 use Rattle.lr_rules.specs.declared.rule.Piece.{Piece}
@@ -40,9 +41,13 @@ below dir = dir ++ 47 ∷ []
 abbrev pub front_at : ℕ → List ℕ → Front
 front_at place bytes = record { bytes = bytes; place = place }
 
--- the fronts of a log: its path, that of its members, and the family's directory as what stands in it has it
+-- the path where the log waits, where it is set aside
+abbrev pub aside_front : Family → ℕ → List Front
+aside_front f place = if f.naming.aside then front_at place (aside_path f.log) ∷ [] else []
+
+-- the fronts of a log: its path, that of its members, the family's directory as what stands in it has it, and where it waits
 abbrev pub fronts_at : Family → ℕ → List Front
-fronts_at f place = front_at place f.log ∷ front_at place (member_front f.naming) ∷ front_at place (below f.naming.dir) ∷ []
+fronts_at f place = front_at place f.log ∷ front_at place (member_front f.naming) ∷ front_at place (below f.naming.dir) ∷ aside_front f place
 
 -- they stand in order of bytes
 abbrev pub AreInOrder : List Front → Type 0
@@ -57,6 +62,6 @@ pub record HaveFronts (logs : List (Bor Family)) (choices : List Choice) (n : �
 abbrev pub AddsFronts : List (Bor Family) → List Choice → ℕ → List Front → List Front → Type 0
 AddsFronts logs choices place old new = ((f : Bor Family) × (slice_get logs place ≡ Some f) × (new ≡ old ++ fronts_at f.now place)) ⊎ ((IsKeptAt choices place → ⊥) × (new ≡ old))
 
--- a log looks for those that it may meet among what begins with its members' front, and in the directory that is its path
+-- a log looks for those that it may meet among what begins with its members' front, in the directory that is its path, and among what begins with the path where it waits
 abbrev pub Finds : Family → List ℕ → Type 0
-Finds f bytes = Begins (member_front f.naming) bytes ⊎ Begins (below f.log) bytes
+Finds f bytes = Begins (member_front f.naming) bytes ⊎ (Begins (below f.log) bytes ⊎ ((f.naming.aside ≡ true) × Begins (aside_path f.log) bytes))

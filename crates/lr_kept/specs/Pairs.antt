@@ -1,7 +1,8 @@
 -- The pairs of logs that meet.
-use Rattle.std.specs.Prelude.{◌≡◌, ◌≢◌, ◌⊎◌, ◌<◌, ◌≤◌, ℕ, nat_lt, List, Some, length, slice_get, slice_set, All, Contains, if◌then◌else◌}
+use Rattle.std.specs.Prelude.{◌≡◌, ◌≢◌, ◌⊎◌, ◌<◌, ◌≤◌, ℕ, true, nat_lt, List, Some, length, slice_get, slice_set, All, Contains, if◌then◌else◌}
 use Rattle.std.specs.Borrow.{Bor}
 use Rattle.std.specs.List.Sorted.{IsNonDecreasingBy}
+use Rattle.lr_rules.specs.Names.{aside_path}
 use Rattle.lr_family.specs.declared.family.Family.{Family}
 use Rattle.lr_kept.specs.declared.choice.Choice.{Choice}
 use Rattle.lr_kept.specs.declared.choice.Choice.TheVariants.{Again, MemberOf, Reserved, Meets}
@@ -44,6 +45,11 @@ pub record AddsPairs (logs : List (Bor Family)) (fronts : List Front) (place : �
 pub record AddsBetween (logs : List (Bor Family)) (fronts : List Front) (place from to : ℕ) (old new : List Pair) : Type 0 where
   pub grows : Grows logs old new
   pub found : (t : ℕ) (f : Front) → slice_get fronts t ≡ Some f → from ≤ t → t < to → HasPair logs new place f.place
+
+-- Of this place the pairs come with all whose fronts begin with the path where its log waits, where that is set aside.
+pub record AddsAside (logs : List (Bor Family)) (fronts : List Front) (place : ℕ) (old new : List Pair) : Type 0 where
+  pub grows : Grows logs old new
+  pub found : (f : Bor Family) (bytes : List ℕ) (k : ℕ) → slice_get logs place ≡ Some f → f.now.naming.aside ≡ true → Contains fronts (front_at k bytes) → Begins (aside_path f.now.log) bytes → HasPair logs new place k
 
 -- Of this place, unless it is left out, the pairs come with all that its log finds.
 pub record AddsFound (logs : List (Bor Family)) (choices : List Choice) (fronts : List Front) (place : ℕ) (old new : List Pair) : Type 0 where

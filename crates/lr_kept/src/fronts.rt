@@ -3,8 +3,9 @@ ghost use Rattle.std.specs.Prelude.{◌≡◌, ◌<◌, [], ◌∷◌, ◌++◌,
 ghost use Rattle.std.specs.Ordering.{nat_cmp};
 ghost use Rattle.std.specs.Cmp.Lexicographic.{slice_cmp};
 ghost use Rattle.std.specs.List.Sorted.{IsPermutation};
+ghost use Rattle.lr_rules.specs.Names.{aside_path};
 ghost use Rattle.lr_rules.specs.Path.{joined};
-ghost use Rattle.lr_kept.specs.Fronts.{before_field, middle_front, member_front, below, front_at, fronts_at, AddsFronts, AreInOrder, HaveFronts};
+ghost use Rattle.lr_kept.specs.Fronts.{aside_front, before_field, middle_front, member_front, below, front_at, fronts_at, AddsFronts, AreInOrder, HaveFronts};
 
 use crate::choice::Choice;
 use crate::front::Front;
@@ -68,6 +69,15 @@ pub fn front_below(alloc: Global, dir: &[u8]) -> Result<Vec<u8>, Memory>
     Ok(bytes)
 }
 
+/// The path where a log of this path waits that is set aside.
+pub fn front_aside(alloc: Global, log: &[u8]) -> Result<Vec<u8>, Memory>
+    ensures { IfOk result (λ bytes. bytes.items ≡ aside_path log.now) }
+{
+    let mut bytes = log.to_vec(alloc)?;
+    bytes.extend_from_slice(b".tmp")?;
+    Ok(bytes)
+}
+
 fn add_front(fronts: &mut Vec<Front>, bytes: Vec<u8>, place: usize) -> Result<(), Memory>
     ensures { OnOk result (fronts.new.items ≡ fronts.old.items ++ front_at place bytes.items ∷ []) }
 {
@@ -76,6 +86,22 @@ fn add_front(fronts: &mut Vec<Front>, bytes: Vec<u8>, place: usize) -> Result<()
         place,
     })?;
     Ok(())
+}
+
+// Adds the path where the log waits, where it is set aside.
+fn add_aside(
+    alloc: Global,
+    fronts: &mut Vec<Front>,
+    log: &Family,
+    place: usize,
+) -> Result<(), Memory>
+    ensures { OnOk result (fronts.new.items ≡ fronts.old.items ++ aside_front log.now place) }
+{
+    if !log.naming().aside {
+        return Ok(());
+    }
+    let aside = front_aside(alloc, log.log().bytes())?;
+    add_front(fronts, aside, place)
 }
 
 // Adds the fronts of a log.
@@ -92,7 +118,8 @@ fn add_fronts(
     let members = front_of_members(alloc, log.naming())?;
     add_front(fronts, members, place)?;
     let dir = front_below(alloc, log.naming().dir.bytes())?;
-    add_front(fronts, dir, place)
+    add_front(fronts, dir, place)?;
+    add_aside(alloc, fronts, log, place)
 }
 
 // Adds the fronts of the log at a place, unless it is left out.

@@ -3,11 +3,11 @@ ghost use Rattle.std.specs.Prelude.{◌≡◌, ◌≢◌, ◌<◌, ◌↔◌, �
 ghost use Rattle.std.specs.List.Sorted.{IsPermutation};
 ghost use Rattle.lr_kept.specs.Chosen.{IsKeptAt, IsNew, MeetAt};
 ghost use Rattle.lr_kept.specs.Fronts.{AreInOrder, HaveFronts};
-ghost use Rattle.lr_kept.specs.Pairs.{AddsPair, AddsPairs, AddsFound, HaveFound, HavePairs, AreRising, pair_of};
+ghost use Rattle.lr_kept.specs.Pairs.{AddsAside, AddsPair, AddsPairs, AddsFound, HaveFound, HavePairs, AreRising, pair_of};
 
 use crate::choice::Choice;
 use crate::front::Front;
-use crate::fronts::{front_below, front_of_members};
+use crate::fronts::{front_aside, front_below, front_of_members};
 use crate::pair::Pair;
 use crate::range::beginning_with;
 use crate::settling::is_kept;
@@ -75,6 +75,28 @@ fn add_pairs(
     Ok(())
 }
 
+// Adds the pairs of a place with all whose fronts begin with the path where its log waits, where that is set aside.
+fn add_aside(
+    alloc: Global,
+    pairs: &mut Vec<Pair>,
+    logs: &[&Family],
+    fronts: &[Front],
+    place: usize,
+) -> Result<(), Memory>
+    requires place { place < length logs.now }
+    requires order { AreInOrder fronts.now }
+    requires places { All (λ f. f.place < length logs.now) fronts.now }
+    ensures { OnOk result (AddsAside logs.now fronts.now place pairs.old.items pairs.new.items) }
+{
+    let log = logs[place];
+    if !log.naming().aside {
+        return Ok(());
+    }
+    let aside = front_aside(alloc, log.log().bytes())?;
+    add_pairs(pairs, logs, fronts, place, &aside)?;
+    Ok(())
+}
+
 // Adds the pairs of a place with all that its log finds, unless it is left out.
 fn add_found(
     alloc: Global,
@@ -98,6 +120,7 @@ fn add_found(
     add_pairs(pairs, logs, fronts, place, &members)?;
     let below = front_below(alloc, log.log().bytes())?;
     add_pairs(pairs, logs, fronts, place, &below)?;
+    add_aside(alloc, pairs, logs, fronts, place)?;
     Ok(())
 }
 
