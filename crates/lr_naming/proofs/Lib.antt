@@ -1,1 +1,2 @@
+mod Aside
 mod FromWord

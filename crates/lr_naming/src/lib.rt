@@ -10,4 +10,4 @@
 
 mod naming;
 
-pub use naming::naming_of;
+pub use naming::{is_aside_path, naming_of};

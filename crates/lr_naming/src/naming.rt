@@ -1,6 +1,6 @@
 // The names of a log's members, as its rule gives them.
-ghost use Rattle.std.specs.Prelude.{◌≡◌, ◌≤◌, None, IfOk, length};
-ghost use Rattle.lr_rules.specs.Names.{naming_of, family_dir, ext_of, base_of, ends_with, is_aside};
+ghost use Rattle.std.specs.Prelude.{◌≡◌, ◌≤◌, ◌&&◌, None, IfOk, bytes_eq, length};
+ghost use Rattle.lr_rules.specs.Names.{naming_of, family_dir, ext_of, base_of, ends_with, without, aside_path, is_aside};
 ghost use Rattle.lr_rules.specs.Path.{path_fault, parent_of, last_of};
 
 use lr_rules::{Memory, Naming, Path, Rule, Text, Way, copy_format};
@@ -72,6 +72,21 @@ fn text_of(alloc: Global, bytes: &[u8]) -> Result<Text, Memory>
         // A part of a text is a text, where another text is what is left of it, so this is want of memory.
         Err(_) => Err(Memory),
     }
+}
+
+// Whether the path has this ending, behind the log's path.
+fn has_end(path: &[u8], log: &[u8], end: &[u8]) -> bool
+    ensures { result ≡ (ends_with end.now path.now && bytes_eq (without end.now path.now) log.now) }
+{
+    ends_with(end, path) && &path[..path.len() - end.len()] == log
+}
+
+/// Whether the path is that where a log of this path waits that is set aside: the log's with `.tmp` behind it. It takes no
+/// memory.
+pub fn is_aside_path(path: &Path, log: &Path) -> bool
+    ensures { result ≡ bytes_eq path.now (aside_path log.now) }
+{
+    has_end(path.bytes(), log.bytes(), b".tmp")
 }
 
 // Whether the way sets the log aside before it is copied.
