@@ -15,7 +15,7 @@ use Rattle.lr_copy.specs.declared.job.Job.{Job}
 use Rattle.lr_plan.specs.declared.looks.LogLook.{LogLook}
 use Rattle.lr_plan.specs.declared.looks.SetLooks.{SetLooks}
 use Rattle.lr_plan.specs.declared.plan.LogPlan.{LogPlan}
-use Rattle.lr_plan.specs.Planned.{job_by, standing, ready_for, log_plan, none_hinders, hindrances, plans_of, where_due, log_plans, all_plans}
+use Rattle.lr_plan.specs.Planned.{copy_job, job_by, standing, ready_for, log_plan, none_hinders, hindrances, plans_of, where_due, log_plans, all_plans}
 use Rattle.lr_emptied.specs.Jobs.{job_in, jobs_in, jobs_of, AsksFor, IsAskedFor}
 
 -- of one log
@@ -49,17 +49,18 @@ of_plans clock mailer decide (rule ∷ rules) (set ∷ sets) job i = ⊎_elim (�
 pub cut_way : (rule : Rule) (look : LogLook) (target : Path) (job : Job) → job_by rule.way look target ≡ Some job → job.cut ≡ true → rule.way ≡ way.CopyTruncate
 cut_way rule look target job is cut = go rule.way is
   where
+    cut_of : Option Job → Bool
+    cut_of None = false
+    cut_of (Some j) = j.cut
+
+    clash : false ≡ true → ⊥
+    clash e = cc
+
+    not_cut : Some (copy_job look target false) ≡ Some job → ⊥
+    not_cut same = let kept : false ≡ job.cut = ap cut_of same in clash (kept ∙ cut)
+
     go : (w : Way) → job_by w look target ≡ Some job → w ≡ way.CopyTruncate
     go way.Rename is = absurd (cc)
-    go way.Copy is = absurd (let kept : false ≡ job.cut = cuts is in clash (kept ∙ cut))
-      where
-        cut_of : Option Job → Bool
-        cut_of None = false
-        cut_of (Some j) = j.cut
-
-        cuts : job_by way.Copy look target ≡ Some job → false ≡ job.cut
-        cuts is = ap cut_of is
-
-        clash : false ≡ true → ⊥
-        clash e = cc
+    go way.Copy is = absurd (not_cut is)
     go way.CopyTruncate is = refl
+    go way.RenameCopy is = absurd (not_cut is)

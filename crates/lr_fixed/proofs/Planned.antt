@@ -62,6 +62,7 @@ module _ (set : ℕ) (x y : LogLook) (e : looked_in set x ≡ looked_in set y) w
   job_same way.Rename target = refl
   job_same way.Copy target = rw (path_is, naming_is, seen_is, stand_is) refl
   job_same way.CopyTruncate target = rw (path_is, naming_is, seen_is, stand_is) refl
+  job_same way.RenameCopy target = rw (path_is, naming_is, seen_is, stand_is) refl
 
   -- so what is done with it is the same
   done_same : (mailer : Path) (rule : Rule) (ready : Ready) → plan_with mailer rule x ready ≡ plan_with mailer rule y ready

@@ -1,6 +1,6 @@
 -- The plan that the rules, what was seen of their logs, the table of the state, the clock of the run, `--force` and the
 -- program that mails files make together.
-use Rattle.std.specs.Prelude.{◌≡◌, ◌≤◌, ◌&&◌, ℕ, Bool, true, false, not, List, [], ◌∷◌, ◌++◌, map, All, Option, Some, None, if◌then◌else◌}
+use Rattle.std.specs.Prelude.{◌≡◌, ◌≤◌, ◌&&◌, ◌||◌, ℕ, Bool, true, false, not, List, [], ◌∷◌, ◌++◌, map, All, Option, Some, None, if◌then◌else◌}
 use Rattle.std.specs.List.{flat_map, list_any}
 use Rattle.std.specs.Str.{bytes_eq}
 use Rattle.lr_rules.specs.declared.path.Path.{Path}
@@ -18,6 +18,7 @@ use Rattle.lr_rules.specs.declared.rule.Rule.{Rule}
 use Rattle.lr_rules.specs.declared.rule.Way.{Way}
 use Rattle.lr_rules.specs.declared.rule.Way.TheVariants as way
 use Rattle.lr_rules.specs.Limits.{is_format}
+use Rattle.lr_rules.specs.Names.{aside_path}
 use Rattle.lr_stamps.specs.Dated.{clock_seconds}
 use Rattle.lr_host.specs.declared.thing.Seen.{Seen}
 use Rattle.lr_scripts.specs.declared.removal.Removal.{Removal}
@@ -62,9 +63,13 @@ abbrev pub mode_of : Make → Option ℕ
 mode_of make.No = None
 mode_of (make.Yes mode) = mode
 
--- The rotation makes the family's directory: the rule says so, and where the directory would stand there was nothing, in a directory that was there. The log's own path isn't made a directory.
+-- the family's directory has the log's path, or that where the log waits that is set aside
+abbrev pub dir_is_log : Naming → Path → Bool
+dir_is_log n log = bytes_eq n.dir log || (n.aside && bytes_eq n.dir (aside_path log))
+
+-- The rotation makes the family's directory: the rule says so, and where the directory would stand there was nothing, in a directory that was there. No path of the log's own file is made a directory.
 abbrev pub makes_dir : Rule → LogLook → Bool
-makes_dir rule look = is_made rule.createolddir && (not look.stand.there && (look.stand.parent && not (bytes_eq look.family.naming.dir look.path)))
+makes_dir rule look = is_made rule.createolddir && (not look.stand.there && (look.stand.parent && not (dir_is_log look.family.naming look.path)))
 
 -- the directory that the rotation makes, if any, and the mode that the rule gives it
 abbrev pub dir_of : Rule → LogLook → Option (Path × Option ℕ)
@@ -160,11 +165,12 @@ copy_job look target cut = record {
   limit = 1099511627776;
 }
 
--- the copy in place of the log's rename, where the rule's way is one; the log is emptied behind it, or stays as it is
+-- The copy in place of the log's rename, where the rule's way is one; the log is emptied behind it, or stays as it is. A log that the way would set aside is copied where it stands: the steps of that way aren't built, and no configuration asks for it.
 abbrev pub job_by : Way → LogLook → Path → Option Job
 job_by way.Rename look target = None
 job_by way.Copy look target = Some (copy_job look target false)
 job_by way.CopyTruncate look target = Some (copy_job look target true)
+job_by way.RenameCopy look target = Some (copy_job look target false)
 
 -- what is done with it: its own scripts where the definition doesn't share them, this rotation, by rename or by copy, and with `mailfirst` the mail of the file that was the log
 abbrev pub plan_with : Path → Rule → LogLook → Ready → LogPlan

@@ -68,7 +68,8 @@ pub fn job_of(
 {
     let cut = match rule.way {
         Way::Rename => return Ok(None),
-        Way::Copy => false,
+        // A log that the way would set aside is copied where it stands: the steps of that way aren't built.
+        Way::Copy | Way::RenameCopy => false,
         Way::CopyTruncate => true,
     };
     let job = copy_job(alloc, look, stand, target, cut)?;

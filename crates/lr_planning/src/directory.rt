@@ -1,22 +1,31 @@
 // The directory that a rotation makes, where that of the log's family is missing.
 ghost use Rattle.std.specs.Prelude.{◌≡◌, IfOk};
-ghost use Rattle.lr_plan.specs.Planned.{makes_dir, dir_of, empty_stand};
+ghost use Rattle.lr_plan.specs.Planned.{dir_is_log, makes_dir, dir_of, empty_stand};
 
 use lr_family::Stand;
+use lr_naming::is_aside_path;
 use lr_plan::LogLook;
-use lr_rules::{Listed, Make, Memory, Path, Rule};
+use lr_rules::{Listed, Make, Memory, Naming, Path, Rule};
 use std::alloc::Global;
 
+// Whether the family's directory has the log's path, or that where the log waits that is set aside.
+fn dir_is_log(naming: &Naming, log: &Path) -> bool
+    ensures { result ≡ dir_is_log naming.now log.now }
+{
+    naming.dir.is(log) || naming.aside && is_aside_path(&naming.dir, log)
+}
+
 /// Whether the rotation of the log makes its family's directory: its rule says so, and nothing was there, in a directory
-/// that was; and the log itself hasn't that path.
+/// that was; and the log's own file has that path at no moment.
 pub fn makes_dir(rule: &Rule, look: &LogLook) -> bool
     ensures { result ≡ makes_dir rule.now look.now }
 {
     let stand = &look.stand;
-    let dir = &look.family.naming().dir;
     match rule.createolddir {
         Make::No => false,
-        Make::Yes(_) => !stand.there && stand.parent && !dir.is(&look.path),
+        Make::Yes(_) => {
+            !stand.there && stand.parent && !dir_is_log(look.family.naming(), &look.path)
+        }
     }
 }
 

@@ -117,11 +117,13 @@ module _ (P : Step → Type 0) (Q : Option (List ℕ) → Type 0) (k : IsOfSteps
   transfer_so way.Rename look log target = (k.renames log target, tt)
   transfer_so way.Copy look log target = copy_so look target false
   transfer_so way.CopyTruncate look log target = copy_so look target true
+  transfer_so way.RenameCopy look log target = copy_so look target false
 
   made_so : (w : Way) (look : LogLook) (target : Path) (m : Make) (log : Path) → EachStep P (made_anew m log (job_by w look target))
   made_so way.Rename look target m log = anew_so m log
   made_so way.Copy look target m log = tt
   made_so way.CopyTruncate look target m log = tt
+  made_so way.RenameCopy look target m log = tt
 
   -- of each log: its rotation, its retirement, and its programs
   record IsLogSo (log : LogPlan) : Type 0 where

@@ -1,11 +1,11 @@
--- The directory of a family is no other name of the set, unless it is the log's.
+-- The directory of a family is no other name of the set, unless it is the log's, or that where the log waits.
 use Rattle.std.proofs.Common.{◌≡◌, ◌≢◌, ℕ, ◌+◌, ◌<◌, true, List, ◌∷◌, ◌++◌, length, length-append, Option, Some, None, sym, ap, ◌∙◌, arith}
 use Rattle.lr_rules.specs.declared.path.Path.{Path}
 use Rattle.lr_rules.specs.declared.rule.Format.{Format}
 use Rattle.lr_rules.specs.declared.rule.Naming.{Naming}
 use Rattle.lr_rules.specs.Limits.{is_format, or_none}
 use Rattle.lr_rules.specs.Match.{part_end}
-use Rattle.lr_rules.specs.Names.{IsMiddleShape, IsMemberShape, IsOwnName, the_log, a_member, a_part}
+use Rattle.lr_rules.specs.Names.{aside_path, IsMiddleShape, IsMemberShape, IsOwnName, the_log, set_aside, a_member, a_part}
 use Rattle.lr_dated_seen.proofs.Names.{middle_some, some_long}
 use Rattle.lr_dated_run.proofs.PartFile.{joined_no_dir}
 
@@ -22,7 +22,8 @@ last_some n last good h =
     let some : 0 < length h.0 = middle_long n.dated h.0 good h.1 in
     omega (arith, whole, front, some)
 
-pub dir_apart : (log : Path) (n : Naming) → or_none is_format n.dated ≡ true → n.dir ≢ log → IsOwnName log n n.dir → ⊥
-dir_apart log n good other (the_log is) = other is
-dir_apart log n good other (a_member last shape is) = joined_no_dir n.dir last (last_some n last good shape) (sym is)
-dir_apart log n good other (a_part last shape is) = joined_no_dir n.dir (last ++ part_end) (let l : length (last ++ part_end) ≡ length last + length part_end = length-append last part_end in omega (arith, l)) (sym is)
+pub dir_apart : (log : Path) (n : Naming) → or_none is_format n.dated ≡ true → n.dir ≢ log → (n.aside ≡ true → n.dir ≢ aside_path log) → IsOwnName log n n.dir → ⊥
+dir_apart log n good other beside (the_log is) = other is
+dir_apart log n good other beside (set_aside on is) = beside on is
+dir_apart log n good other beside (a_member last shape is) = joined_no_dir n.dir last (last_some n last good shape) (sym is)
+dir_apart log n good other beside (a_part last shape is) = joined_no_dir n.dir (last ++ part_end) (let l : length (last ++ part_end) ≡ length last + length part_end = length-append last part_end in omega (arith, l)) (sym is)

@@ -100,6 +100,7 @@ pub by_copy : (w : Way) (look : LogLook) (target : Path) (job : Job) → job_by 
 by_copy way.Rename look target job is = absurd (cc)
 by_copy way.Copy look target job is = (false, cc)
 by_copy way.CopyTruncate look target job is = (true, cc)
+by_copy way.RenameCopy look target job is = (false, cc)
 
 pub target_job : (clock : Clock) (rule : Rule) (look : LogLook) → HasJob (target_of clock rule look)
 target_job clock rule look job is =
@@ -110,6 +111,7 @@ pub by_rename : (w : Way) (look : LogLook) (target : Path) → (w ≡ way.Rename
 by_rename way.Rename look target = ((λ e. refl), (λ e. refl))
 by_rename way.Copy look target = ((λ e. absurd (cc)), (λ e. absurd (cc)))
 by_rename way.CopyTruncate look target = ((λ e. absurd (cc)), (λ e. absurd (cc)))
+by_rename way.RenameCopy look target = ((λ e. absurd (cc)), (λ e. absurd (cc)))
 
 -- without their programs the removals are those of the rotation
 bare_are : (mailer : Path) (rule : Rule) (log : Path) (rs : List Removal) → map bare_removal (map (with_programs rule mailer log) rs) ≡ map bare_removal rs

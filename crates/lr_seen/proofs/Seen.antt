@@ -3,7 +3,7 @@ use Rattle.std.proofs.Common.{◌≡◌, ◌≢◌, ◌↔◌, inl, inr, ℕ, �
 use Rattle.std.specs.List.{list_any}
 use Rattle.std.specs.List.Sorted.{IsStrictlySortedBy}
 use Rattle.std.specs.Prelude.{ℤ, IsSome}
-use Rattle.std.proofs.lemmas.Bool.{and_parts, not-true}
+use Rattle.std.proofs.lemmas.Bool.{and_parts, not-true, or_left, or_right}
 use Rattle.std.proofs.lemmas.List.Folds.{list_any_at}
 use Rattle.std.proofs.lemmas.Slice.Eq.{bytes_eq-Decides}
 use Rattle.lr_rules.specs.declared.clock.Clock.{Clock}
@@ -17,7 +17,7 @@ use Rattle.lr_rules.specs.declared.rule.Rule.{Rule}
 use Rattle.lr_rules.specs.declared.rule.Way.{Way}
 use Rattle.lr_rules.specs.declared.rule.Way.TheVariants.{Rename}
 use Rattle.lr_rules.specs.declared.rules.Rules.{Rules}
-use Rattle.lr_rules.specs.Names.{naming_of}
+use Rattle.lr_rules.specs.Names.{aside_path, naming_of}
 use Rattle.lr_rules.specs.Limits.{is_format, or_none, meets_limits}
 use Rattle.lr_rules.specs.Path.{path_fault, parent_of}
 use Rattle.lr_due.specs.declared.answer.Due.{Due}
@@ -42,7 +42,7 @@ use Rattle.lr_copy.specs.declared.job.Job.{Job}
 use Rattle.lr_chain.specs.Ready.{is_highest, highest_path}
 use Rattle.lr_plan.specs.declared.looks.LogLook.{LogLook}
 use Rattle.lr_plan.specs.declared.looks.SetLooks.{SetLooks}
-use Rattle.lr_plan.specs.Planned.{is_made, mode_of, makes_dir, dir_of, empty_stand, stand_for, with_stand, standing, keeps_all, is_too_high, numbered_hindrances, hindrances_by, ready_for, job_by}
+use Rattle.lr_plan.specs.Planned.{is_made, mode_of, dir_is_log, makes_dir, dir_of, empty_stand, stand_for, with_stand, standing, keeps_all, is_too_high, numbered_hindrances, hindrances_by, ready_for, job_by}
 use Rattle.lr_looks.specs.Asked.{CanAsk}
 use Rattle.lr_looks.specs.Families.{LookedLog}
 use Rattle.lr_looks.specs.Choices.{kept_of}
@@ -195,19 +195,26 @@ there_of (Some format) clock rule look free = dated_free look.family.naming look
 
 -- ---- what stands as the rotation begins
 
--- A directory that is made was missing, in a directory that was there; and its path isn't the log's.
+-- A directory that is made was missing, in a directory that was there; and its path is neither the log's nor that where the log waits.
 record IsToMake (look : LogLook) : Type 0 where
   gone : look.stand.there ≡ false
   parent : look.stand.parent ≡ true
   other : look.family.naming.dir ≢ look.path
+  beside : look.family.naming.aside ≡ true → look.family.naming.dir ≢ aside_path look.path
 
 to_make : (rule : Rule) (look : LogLook) → makes_dir rule look ≡ true → IsToMake look
 to_make rule look is =
     let asked = and_parts (is_made rule.createolddir) _ is in
     let missing = and_parts (not look.stand.there) _ asked.1 in
     let where_ = and_parts look.stand.parent _ missing.1 in
-    let apart : bytes_eq look.family.naming.dir look.path ≡ false = not-true _ where_.1 in
-    record { gone = not-true look.stand.there missing.0; parent = where_.0; other = λ e. true≢false (sym ((bytes_eq-Decides look.family.naming.dir look.path).1 e) ∙ apart) }
+    let n = look.family.naming in
+    let apart : dir_is_log n look.path ≡ false = not-true _ where_.1 in
+    record {
+      gone = not-true look.stand.there missing.0;
+      parent = where_.0;
+      other = λ e. true≢false (sym (or_left (bytes_eq n.dir look.path) (n.aside && bytes_eq n.dir (aside_path look.path)) ((bytes_eq-Decides n.dir look.path).1 e)) ∙ apart);
+      beside = λ on e. true≢false (sym (or_right (bytes_eq n.dir look.path) (n.aside && bytes_eq n.dir (aside_path look.path)) (ap (λ b. b && bytes_eq n.dir (aside_path look.path)) on ∙ (bytes_eq-Decides n.dir (aside_path look.path)).1 e)) ∙ apart);
+    }
 
 none_fall : AreNewestFirst []
 unfolding IsStrictlySortedBy
@@ -267,7 +274,7 @@ module _ (rule : Rule) (look : LogLook) (ts : List Entry) (shown : WasShown look
       let missing = shown.2 m.gone in
       record {
         dir_is = refl;
-        apart = dir_apart look.path look.family.naming format m.other;
+        apart = dir_apart look.path look.family.naming format m.other m.beside;
         gone = missing.look;
         parent = parent_seen look.family.naming.dir look.stand.parent ts missing.parent m.parent;
         no_members = refl;

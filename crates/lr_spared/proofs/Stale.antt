@@ -103,6 +103,7 @@ module _ {reserved : List Path} {clock : Clock} (rules : List Rule) (sets : List
       no_job way.Rename same e = cc
       no_job way.Copy same e = cc
       no_job way.CopyTruncate same e = cc
+      no_job way.RenameCopy same e = cc
 
   pub job_limit : (job : Job) → t.job ≡ Some job → job.limit ≡ 1_099_511_627_776
   job_limit job is = ap (λ (k : Job). k.limit) (sym (copied job is).1)
