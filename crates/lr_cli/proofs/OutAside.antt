@@ -31,6 +31,7 @@ stays (fault.NoDir path) other = refl
 stays (fault.Duplicate path) other = refl
 stays (fault.Overlap path by) other = refl
 stays (fault.Taken path) other = refl
+stays (fault.Unfinished path) other = refl
 stays (fault.TooHigh path) other = refl
 stays (fault.LongName word) other = refl
 stays (fault.TooMany word) other = refl
