@@ -97,10 +97,10 @@ rules = record { sets = sets; limits = within_limits }
 
 -- the members stand beside their log, from number 1 on
 abbrev pub a_naming : Naming
-a_naming = record { dir = codes "/v"; base = codes "a.log"; ext = []; start = 1; dated = None }
+a_naming = record { dir = codes "/v"; base = codes "a.log"; ext = []; start = 1; dated = None; aside = false }
 
 abbrev pub b_naming : Naming
-b_naming = record { dir = codes "/w"; base = codes "b.log"; ext = []; start = 1; dated = None }
+b_naming = record { dir = codes "/w"; base = codes "b.log"; ext = []; start = 1; dated = None; aside = false }
 
 -- ---- what stands
 

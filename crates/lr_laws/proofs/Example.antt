@@ -13,7 +13,7 @@ use Rattle.lr_rules.specs.Match.{WordGives, literal, wildcard, literal_path, is_
 use Rattle.lr_rules.specs.declared.rule.Rule.{Rule}
 use Rattle.lr_rules.specs.declared.rule.Way.TheVariants.{Rename}
 use Rattle.std.specs.Prelude.{get_or}
-use Rattle.lr_rules.specs.Names.{naming_of, IsMemberAt, the_log, a_member, a_part, IsName, Meet}
+use Rattle.lr_rules.specs.Names.{naming_of, IsMemberAt, the_log, set_aside, a_member, a_part, IsName, Meet}
 use Rattle.lr_host.specs.Steady.{IsSteady, IsSteadyAt, IsPassedOver, AttachesNoMember}
 use Rattle.lr_host.specs.declared.thing.Thing.{Thing}
 use Rattle.lr_host.specs.declared.thing.Thing.TheVariants as thing
@@ -350,6 +350,7 @@ gives_only x (suc k, word, lt, is, g) = absurd (omega arith)
 -- names of the set stand in `/v`
 not_name : (y : Path) → get_or y 1 0 ≡ 115 → IsName log (naming_of rule log) y → ⊥
 not_name y at (inl (the_log e)) = let h : get_or y 1 0 ≡ 118 = ap (λ (z : Path). get_or z 1 0) e in omega (arith, at, h)
+not_name y at (inl (set_aside on e)) = let h : get_or y 1 0 ≡ 118 = ap (λ (z : Path). get_or z 1 0) e in omega (arith, at, h)
 not_name y at (inl (a_member last shape e)) = let h : get_or y 1 0 ≡ 118 = ap (λ (z : Path). get_or z 1 0) e in omega (arith, at, h)
 not_name y at (inl (a_part last shape e)) = let h : get_or y 1 0 ≡ 118 = ap (λ (z : Path). get_or z 1 0) e in omega (arith, at, h)
 not_name y at (inr e) = let h : get_or y 1 0 ≡ 118 = ap (λ (z : Path). get_or z 1 0) e in omega (arith, at, h)

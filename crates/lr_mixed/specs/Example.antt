@@ -56,7 +56,7 @@ rule = record {
 }
 
 abbrev pub naming : Naming
-naming = record { dir = codes "/w"; base = codes "b.log"; ext = []; start = 1; dated = Some format }
+naming = record { dir = codes "/w"; base = codes "b.log"; ext = []; start = 1; dated = Some format; aside = false }
 
 -- a file of one byte, and a directory
 abbrev pub file : Seen
