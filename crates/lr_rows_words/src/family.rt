@@ -1,5 +1,6 @@
 // A log with its members: `LOG DIRECTORY BASE EXTENSION NUMBER`, or in place of the newest member's number the stamp of
 // dated ones. A stamp that ends with `%n` has serial numbers; `yesterday` or `hour-ago` behind it says which moment it tells.
+// A log that is set aside has `aside` last.
 ghost use Rattle.std.specs.Prelude.{◌≡◌, true, IfOk};
 ghost use Rattle.lr_rules.specs.Limits.{is_format, or_none};
 
@@ -49,12 +50,14 @@ fn naming(cursor: &mut Cursor) -> Result<Naming, Trouble>
     let base = text(cursor)?;
     let ext = text(cursor)?;
     let (start, dated) = numbers(cursor)?;
+    let aside = cursor.takes(b"aside");
     Ok(Naming {
         dir,
         base,
         ext,
         start,
         dated,
+        aside,
     })
 }
 
