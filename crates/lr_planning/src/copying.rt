@@ -68,9 +68,10 @@ pub fn job_of(
 {
     let cut = match rule.way {
         Way::Rename => return Ok(None),
-        // A log that the way would set aside is copied where it stands: the steps of that way aren't built.
-        Way::Copy | Way::RenameCopy => false,
+        Way::Copy => false,
         Way::CopyTruncate => true,
+        // The steps by which this way sets the log aside aren't built: it is copied where it stands.
+        Way::RenameCopy => false,
     };
     let job = copy_job(alloc, look, stand, target, cut)?;
     Ok(Some(job))
