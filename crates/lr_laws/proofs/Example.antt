@@ -350,7 +350,7 @@ gives_only x (suc k, word, lt, is, g) = absurd (omega arith)
 -- names of the set stand in `/v`
 not_name : (y : Path) → get_or y 1 0 ≡ 115 → IsName log (naming_of rule log) y → ⊥
 not_name y at (inl (the_log e)) = let h : get_or y 1 0 ≡ 118 = ap (λ (z : Path). get_or z 1 0) e in omega (arith, at, h)
-not_name y at (inl (set_aside on e)) = let h : get_or y 1 0 ≡ 118 = ap (λ (z : Path). get_or z 1 0) e in omega (arith, at, h)
+not_name y at (inl (set_aside asked e)) = absurd (cc asked)
 not_name y at (inl (a_member last shape e)) = let h : get_or y 1 0 ≡ 118 = ap (λ (z : Path). get_or z 1 0) e in omega (arith, at, h)
 not_name y at (inl (a_part last shape e)) = let h : get_or y 1 0 ≡ 118 = ap (λ (z : Path). get_or z 1 0) e in omega (arith, at, h)
 not_name y at (inr e) = let h : get_or y 1 0 ≡ 118 = ap (λ (z : Path). get_or z 1 0) e in omega (arith, at, h)
