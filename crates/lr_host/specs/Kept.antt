@@ -5,16 +5,16 @@ use Rattle.lr_host.specs.declared.thing.Thing.TheVariants as thing
 use Rattle.lr_host.specs.declared.entry.Entry.TheVariants.{Feed, Cut}
 use Rattle.lr_host.specs.World.{MayLeave, Names, Change, Past, Opens, ◌▸◌, world, names, step, makes, length_of, cut_to, holds_file, opening_file}
 use Rattle.lr_host.specs.Fits.{IsNamed}
-use Rattle.lr_host.specs.Sets.{LogSet, order, IsWithin}
+use Rattle.lr_host.specs.Sets.{LogSet, order, IsUnplaced, IsWithin}
 use Rattle.lr_host.specs.Later.{IsGeneration, later}
 use Rattle.lr_host.specs.Released.{IsUnnamed, IsMadeIn, IsReleased}
 
--- Exactly one path names the file, and it is the log, or a member whose place is at most the limit.
+-- Exactly one path names the file, and it is the log, the path where the log waits while it is set aside, or a member whose place is at most the limit.
 pub record Stands (s : LogSet) (n : Names) (limit g : ℕ) : Type 0 where
   pub at : Path
   pub named : n at ≡ thing.File g
   pub only : (y : Path) → n y ≡ thing.File g → y ≡ at
-  pub placed : (at ≡ s.log) ⊎ IsWithin (order s) s.key n at limit
+  pub placed : IsUnplaced s at ⊎ IsWithin (order s) s.key n at limit
 
 -- the bytes that a file must have: those at the opening, or none as it is made; then what writers fed it, in order, cut where a cut lists it
 abbrev pub content : Past → ℕ → List ℕ

@@ -1,9 +1,9 @@
 -- A log and its members, and the place of a member.
-use Rattle.std.specs.Prelude.{◌≡◌, ◌↔◌, ◌≤◌, ℕ, Bool, ◌||◌, List, [], ◌∷◌, length, bytes_eq, ℤ, pos, ◌<ℤ◌, Option, Some, None, is_some}
+use Rattle.std.specs.Prelude.{◌≡◌, ◌⊎◌, ◌↔◌, ◌≤◌, ℕ, Bool, true, ◌||◌, ◌&&◌, List, [], ◌∷◌, length, bytes_eq, ℤ, pos, ◌<ℤ◌, Option, Some, None, is_some}
 use Rattle.lr_rules.specs.declared.path.Path.{Path}
 use Rattle.lr_rules.specs.declared.rule.Naming.{Naming}
 use Rattle.lr_rules.specs.declared.rule.Format.{Format}
-use Rattle.lr_rules.specs.Names.{IsMemberAt}
+use Rattle.lr_rules.specs.Names.{aside_path, IsMemberAt}
 use Rattle.lr_rules.specs.Dated.{stamp_key, IsDatedAt}
 use Rattle.lr_rules.specs.Path.{path_fault}
 use Rattle.lr_host.specs.Lists.{AreDistinct}
@@ -40,6 +40,24 @@ order s = order_of s.naming.dated
 -- the path is the log or a member
 abbrev pub in_set : LogSet → Path → Bool
 in_set s x = bytes_eq s.log x || is_some (s.key x)
+
+-- The path is that where the log waits while it is set aside: the naming asks for one, and no member has it.
+pub record IsAsideOf (s : LogSet) (x : Path) : Type 0 where
+  pub asked : s.naming.aside ≡ true
+  pub path : x ≡ aside_path s.log
+  pub keyless : s.key x ≡ None
+
+-- the path is the log, or that where the log waits while it is set aside: what stands there has no place
+abbrev pub IsUnplaced : LogSet → Path → Type 0
+IsUnplaced s x = (x ≡ s.log) ⊎ IsAsideOf s x
+
+-- the same as a test, where the path is no member
+abbrev pub is_unplaced : LogSet → Path → Bool
+is_unplaced s x = bytes_eq s.log x || (s.naming.aside && bytes_eq (aside_path s.log) x)
+
+-- the path is the log, that where it waits while it is set aside, or a member
+abbrev pub in_reach : LogSet → Path → Bool
+in_reach s x = is_unplaced s x || is_some (s.key x)
 
 -- a member that names a file and has a later stamp
 abbrev pub IsLaterMember : (Path → Option ℤ) → Names → ℤ → Path → Type 0
