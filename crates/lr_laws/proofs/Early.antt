@@ -1,8 +1,9 @@
 -- The log with two members, where a member goes that the rule keeps.
-use Rattle.std.proofs.Common.{◌≡◌, ◌⊎◌, inl, inr, ℕ, zero, suc, ◌+◌, ◌≤◌, Bool, true, false, not, cond, ◌&&◌, ◌||◌, bytes_eq, refl, ◌∙◌, ap, arith, Option, Some, None, [], pos, codes}
+use Rattle.std.proofs.Common.{◌≡◌, ◌⊎◌, inl, inr, ℕ, zero, suc, ◌+◌, ◌≤◌, Bool, true, false, not, cond, ◌&&◌, ◌||◌, bytes_eq, refl, sym, ◌∙◌, ap, arith, Option, Some, None, [], pos, codes}
 use Rattle.lr_rules.specs.declared.path.Path.{Path}
 use Rattle.lr_rules.specs.declared.civil.Moment.{Moment}
 use Rattle.lr_rules.specs.declared.rule.Rule.{Rule}
+use Rattle.lr_rules.specs.declared.rule.Naming.{Naming}
 use Rattle.lr_rules.specs.declared.rule.Count.TheVariants.{Keep}
 use Rattle.lr_host.specs.declared.entry.Entry.{Entry}
 use Rattle.lr_host.specs.declared.entry.Entry.TheVariants.{Starts, Ends, Renames, Unlinks}
@@ -97,9 +98,13 @@ early_lost s now c kept = go (kept 1 (inr (record { at = first; key = pos 0; mem
     gone x (moved z i j) = cc
     gone x (stayed i l) = l (sound.unique (names (world (turned now))) [] (leaves_now (world (turned now))) second x 1 refl i)
 
+    never_aside : true ≡ false → ⊥
+    never_aside e = cc
+
     cause : Releases s (turned now) (Unlinks second) 1 → ⊥
-    cause (zero, r, lt, is, (gives, why)) = no_cause s (turned now) (later s (turned now ▸ Unlinks second) 1) r is (few_later s now c) why
-    cause (suc k, r, lt, is, (gives, why)) = omega arith
+    cause (inl a) = never_aside (sym a.asked ∙ ap (λ (n : Naming). n.aside) c.naming_is)
+    cause (inr (zero, r, lt, is, (gives, why))) = no_cause s (turned now) (later s (turned now ▸ Unlinks second) 1) r is (few_later s now c) why
+    cause (inr (suc k, r, lt, is, (gives, why))) = omega arith
 
     go : IsReleased s (turned now ▸ Unlinks second) 1 ⊎ (Stands s (names (world (turned now ▸ Unlinks second))) (later s (turned now ▸ Unlinks second) 1) 1 × IsWhole (turned now ▸ Unlinks second) 1) → ⊥
     go (inl (un, inl (named, release))) = cause release

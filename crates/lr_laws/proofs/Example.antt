@@ -176,7 +176,7 @@ moved_on s c p from to place limit g r lt is is' file free dir other = record {
     fits = rename_fits (world p) from to g file free dir other
 
 pub turned_on : (s : LogSet) → IsOfChain s → (p : Past) (g : ℕ) → IsGood s p → names (world p) log ≡ thing.File g → names (world p) first ≡ thing.Nothing → names (world p) (parent_of first) ≡ thing.Directory → IsGood s (p ▸ Renames log first)
-turned_on s c p g good file free dir = good_on s p (Renames log first) good (rename_fits (world p) log first g file free dir refl) (subst (λ (x : Path). MayFollow s p (Renames x first)) c.log_is (may_turn s p first (numbered s c) (key_first s c) free))
+turned_on s c p g good file free dir = good_on s p (Renames log first) good (rename_fits (world p) log first g file free dir refl) (subst (λ (x : Path). MayFollow s p (Renames x first)) c.log_is (may_turn s p s.log first (numbered s c) (key_first s c) free))
 
 pub gone_on : (s : LogSet) → IsOfChain s → (p : Past) (g : ℕ) → rules_of p ≡ rule ∷ [] → IsGood s p → names (world p) third ≡ thing.File g → IsGood s (p ▸ Unlinks third)
 gone_on s c p g same good file = good_on s p (Unlinks third) good (g, file) (unlinks s p third 2 2 good.journal good.safe (numbered s c) (key_third s c) (omega arith) (subst (λ rs. SomeRule rs s.log (λ r. r.count ≡ Keep 2)) (sym same) (some_rule s c)))

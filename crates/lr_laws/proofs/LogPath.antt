@@ -27,7 +27,7 @@ moved_aside from to n n' y other is = at_to (bytes_eq to y) refl
     at_to true e = absurd (other ((bytes_eq-Decides to y).0 e))
     at_to false e = at_from (bytes_eq from y)
 
-more_moved : (from to : Path) (n n' : Names) (y : Path) → (to ≡ y → ⊥) → IsMoreAt y n n' → IsMoreAt y (changed (Moves from to) n) (changed (Moves from to) n')
+pub more_moved : (from to : Path) (n n' : Names) (y : Path) → (to ≡ y → ⊥) → IsMoreAt y n n' → IsMoreAt y (changed (Moves from to) n) (changed (Moves from to) n')
 more_moved from to n n' y other h = at_to (bytes_eq to y) refl
   where
     at_from : (b : Bool) → (cond b thing.Nothing (n' y) ≡ cond b thing.Nothing (n y)) ⊎ ((cond b thing.Nothing (n y) ≡ thing.Nothing) × ((g : ℕ) × (cond b thing.Nothing (n' y) ≡ thing.File g)))

@@ -3,7 +3,7 @@ use Rattle.std.proofs.Common.{◌≡◌, ◌⊎◌, inl, inr, ⊎_elim, ℕ, ◌
 use Rattle.lr_rules.specs.declared.path.Path.{Path}
 use Rattle.lr_host.specs.declared.entry.Entry.{Entry}
 use Rattle.lr_host.specs.World.{Names, names, Past, Opens, ◌▸◌, world, is_file, opening_names}
-use Rattle.lr_host.specs.Sets.{Order, Numbered, Dated, IsWithin, AreLaterMembers, LogSet, order}
+use Rattle.lr_host.specs.Sets.{Order, Numbered, Dated, IsUnplaced, IsWithin, AreLaterMembers, LogSet, order}
 use Rattle.lr_laws.specs.Follow.{KeepsPlaces}
 use Rattle.lr_host.specs.Later.{stood, IsGeneration, later, leaves}
 use Rattle.lr_host.specs.Kept.{IsWhole, Stands, IsKept}
@@ -23,7 +23,7 @@ within_more Dated key n x l l' le (t, q, f) = (t, q, λ ys d a. more (length ys)
     more : (k : ℕ) → k ≤ l → k ≤ l'
     more k i = omega arith
 
-pub placed_more : (s : LogSet) (n : Names) (x : Path) (l l' : ℕ) → l ≤ l' → (x ≡ s.log) ⊎ IsWithin (order s) s.key n x l → (x ≡ s.log) ⊎ IsWithin (order s) s.key n x l'
+pub placed_more : (s : LogSet) (n : Names) (x : Path) (l l' : ℕ) → l ≤ l' → IsUnplaced s x ⊎ IsWithin (order s) s.key n x l → IsUnplaced s x ⊎ IsWithin (order s) s.key n x l'
 placed_more s n x l l' le (inl a) = inl a
 placed_more s n x l l' le (inr w) = inr (within_more (order s) s.key n x l l' le w)
 

@@ -1,5 +1,5 @@
 -- The entries of one rotation of a numbered set, as a list.
-use Rattle.std.specs.Prelude.{◌≡◌, ◌⊎◌, ℕ, ◌+◌, ◌≤◌, ◌<◌, Bool, true, false, bytes_eq, List, [], ◌∷◌, ℤ, pos, negsuc, Option, Some, None}
+use Rattle.std.specs.Prelude.{◌≡◌, ◌⊎◌, ℕ, ◌+◌, ◌≤◌, ◌<◌, Bool, true, false, List, [], ◌∷◌, ℤ, pos, negsuc, Option, Some, None}
 use Rattle.lr_rules.specs.declared.path.Path.{Path}
 use Rattle.lr_rules.specs.declared.rule.Count.TheVariants.{Keep}
 use Rattle.lr_host.specs.declared.thing.Thing.TheVariants as thing
@@ -8,7 +8,7 @@ use Rattle.lr_host.specs.declared.entry.Entry.TheVariants.{Attach, Feed, Flush, 
 use Rattle.lr_host.specs.World.{Names, Past, world, names, names_after}
 use Rattle.lr_host.specs.Fits.{IsFileAt}
 use Rattle.lr_host.specs.Steps.{changes_of}
-use Rattle.lr_host.specs.Sets.{LogSet}
+use Rattle.lr_host.specs.Sets.{LogSet, IsAsideOf, is_unplaced}
 use Rattle.lr_host.specs.Runs.{rules_of, SomeRule}
 use Rattle.lr_host.specs.Released.{ByAge}
 use Rattle.lr_laws.specs.Follow.{IsElsewhere}
@@ -20,24 +20,30 @@ IsPastCount s p place = (count : ℕ) × SomeRule (rules_of p) s.log (λ r. r.co
 abbrev pub IsPastAge : LogSet → Past → Names → Path → Type 0
 IsPastAge s p n x = (g : ℕ) → n x ≡ thing.File g → SomeRule (rules_of p) s.log (ByAge p g)
 
--- A step of a rotation that began behind p, where the names are n and members below the limit haven't moved: such a member goes one place further, or the log goes to place 0, to a path that names nothing; a member goes that may; the log is made anew.
+-- The rename turns the log, where the names are n: the log goes to the member with the newest key, or to where it waits while it is set aside; or what waits there is taken up again, and goes to that member.
+pub data IsTurn (s : LogSet) (n : Names) (newest : ℤ) (from to : Path) : Type 0 where
+  turned : from ≡ s.log → s.key to ≡ Some newest → IsTurn s n newest from to
+  put_aside : from ≡ s.log → IsAsideOf s to → IsTurn s n newest from to
+  taken_up : IsAsideOf s from → IsFileAt n from → s.key to ≡ Some newest → IsTurn s n newest from to
+
+-- A step of a rotation that began behind p, where the names are n and members below the limit haven't moved: such a member goes one place further, or the log turns, to a path that names nothing; what waited aside goes, or a member that may; the log is made anew.
 abbrev pub IsStep : LogSet → Past → ℕ → Names → Entry → Type 0
 IsStep s p limit n (Renames from to) = (n to ≡ thing.Nothing)
-    × (((place : ℕ) × (place < limit) × (s.key from ≡ Some (pos place)) × (s.key to ≡ Some (pos (place + 1)))) ⊎ ((from ≡ s.log) × (s.key to ≡ Some (pos 0))))
-IsStep s p limit n (Unlinks x) = (place : ℕ) × (s.key x ≡ Some (pos place)) × (IsPastCount s p place ⊎ IsPastAge s p n x)
+    × (((place : ℕ) × (place < limit) × (s.key from ≡ Some (pos place)) × (s.key to ≡ Some (pos (place + 1)))) ⊎ IsTurn s n (pos 0) from to)
+IsStep s p limit n (Unlinks x) = IsAsideOf s x ⊎ ((place : ℕ) × (s.key x ≡ Some (pos place)) × (IsPastCount s p place ⊎ IsPastAge s p n x))
 IsStep s p limit n (Makes x mode) = x ≡ s.log
 IsStep s p limit n _ = ⊥
 
 abbrev pub limit_by : Option ℤ → Bool → ℕ → ℕ
-limit_by (Some (pos place)) is_log limit = place
-limit_by (Some (negsuc k)) is_log limit = 0
+limit_by (Some (pos place)) turns limit = place
+limit_by (Some (negsuc k)) turns limit = 0
 limit_by None true limit = 0
 limit_by None false limit = limit
 
 -- the place below which members haven't moved
 abbrev pub limit_after : LogSet → ℕ → List Entry → ℕ
 limit_after s limit [] = limit
-limit_after s limit (Renames from to ∷ es) = limit_by (s.key from) (bytes_eq s.log from) (limit_after s limit es)
+limit_after s limit (Renames from to ∷ es) = limit_by (s.key from) (is_unplaced s from) (limit_after s limit es)
 limit_after s limit (_ ∷ es) = limit_after s limit es
 
 -- an entry of the tool in this run, on no path of the set

@@ -28,7 +28,7 @@ pub fn changes_keep()
         → MayFollow s p e → IsKept s (p ▸ e) }
 {}
 
-/// It does so without a condition where its paths are neither the log nor members.
+/// It does so without a condition where its paths are neither the log, nor where it waits while it is set aside, nor members.
 pub fn elsewhere_keeps()
     ensures { (s : LogSet) (p : Past) (e : Entry) → IsJournal (p ▸ e) → NoneToLog s p → IsKept s p → ChangesSomething e
         → IsElsewhere s e → IsKept s (p ▸ e) }

@@ -11,16 +11,16 @@ ghost use Rattle.lr_host.specs.Lists.{AreDistinct};
 ghost use Rattle.lr_host.specs.World.{Past, ◌▸◌, world, names};
 ghost use Rattle.lr_host.specs.Told.{IsWriters};
 ghost use Rattle.lr_host.specs.Opening.{IsJournal};
-ghost use Rattle.lr_host.specs.Sets.{LogSet, Numbered, Dated, order, in_set, AreLaterMembers};
+ghost use Rattle.lr_host.specs.Sets.{LogSet, Numbered, Dated, order, IsAsideOf, in_reach, AreLaterMembers};
 ghost use Rattle.lr_host.specs.Runs.{rules_of, SomeRule, has_begun};
 ghost use Rattle.lr_host.specs.Released.{ByAge};
 ghost use Rattle.lr_host.specs.Safe.{IsSafe};
 ghost use Rattle.lr_host.specs.Steady.{AttachesNoMember};
 ghost use Rattle.lr_host.specs.Forward.{IsForward};
-ghost use Rattle.lr_laws.specs.Follow.{MayFollow, IsElsewhere, MeetsNone};
-ghost use Rattle.lr_laws.specs.Room.{HasRoom, IsReady};
+ghost use Rattle.lr_laws.specs.Follow.{NamesNone, MayFollow, IsElsewhere, MeetsNone};
+ghost use Rattle.lr_laws.specs.Room.{HasRoom, HasRoomForOne, IsReady};
 
-/// An entry whose paths are neither the log nor members meets its condition.
+/// An entry whose paths are neither the log, nor where it waits while it is set aside, nor members meets its condition.
 pub fn elsewhere_may_follow()
     ensures { (s : LogSet) (p : Past) (e : Entry) → IsJournal p → IsSafe s p → IsElsewhere s e → MayFollow s p e }
 {}
@@ -30,10 +30,11 @@ pub fn no_name_is_elsewhere()
     ensures { (s : LogSet) (e : Entry) → MeetsNone s e → IsElsewhere s e }
 {}
 
-/// What is a name of a set that this one doesn't meet is neither its log nor a member.
+/// What is a name of a set that this one doesn't meet is neither its log, nor where it waits while it is set aside, nor a
+/// member.
 pub fn apart_is_outside()
     ensures { (s : LogSet) (other : Path) (n : Naming) (x : Path) → (Meet s.log s.naming other n → ⊥) → IsName other n x
-        → in_set s x ≡ false }
+        → in_reach s x ≡ false }
 {}
 
 /// A writer's entry meets it; of a dated set, where it attaches no member.
@@ -99,4 +100,27 @@ pub fn dated_log_may_turn()
     ensures { (s : LogSet) (p : Past) (to : Path) (stamp : ℤ) → IsJournal p → IsSafe s p → order s ≡ Dated
         → s.key to ≡ Some stamp → names (world p) to ≡ thing.Nothing → has_begun s p ≡ false → IsForward s p stamp
         → MayFollow s p (entry.Renames s.log to) }
+{}
+
+/// In such a run each generation that a dated member names may get one more later member.
+pub fn room_for_one_at_start()
+    ensures { (s : LogSet) (p : Past) → IsJournal p → IsSafe s p → order s ≡ Dated → has_begun s p ≡ false → HasRoomForOne s p }
+{}
+
+/// A file may be renamed to the newest name where that names nothing, whatever path it has, so also a copy: of a numbered
+/// set to place 0; of a dated one to a member whose stamp none is later than, now or after a cut, where each generation that
+/// a member names may get one more later member.
+pub fn copy_may_get_its_name()
+    ensures numbered { (s : LogSet) (p : Past) (from to : Path) → order s ≡ Numbered → s.key to ≡ Some (pos 0)
+        → names (world p) to ≡ thing.Nothing → MayFollow s p (entry.Renames from to) }
+    ensures dated { (s : LogSet) (p : Past) (from to : Path) (stamp : ℤ) → IsJournal p → IsSafe s p → order s ≡ Dated
+        → s.key to ≡ Some stamp → names (world p) to ≡ thing.Nothing → HasRoomForOne s p → IsForward s p stamp
+        → MayFollow s p (entry.Renames from to) }
+{}
+
+/// The log may be set aside where its path for that names no generation, and what waits there may be unlinked.
+pub fn log_may_be_set_aside()
+    ensures there { (s : LogSet) (p : Past) (to : Path) → IsJournal p → IsSafe s p → IsAsideOf s to → NamesNone s p to
+        → MayFollow s p (entry.Renames s.log to) }
+    ensures gone { (s : LogSet) (p : Past) (x : Path) → IsAsideOf s x → MayFollow s p (entry.Unlinks x) }
 {}
