@@ -1,8 +1,13 @@
 // When the entries of a rotation meet their conditions.
-ghost use Rattle.std.specs.Prelude.{◌≡◌, ◌+◌, ◌≤◌, ◌<◌, ℕ, ℤ, pos, List, length, false, Some};
+ghost use Rattle.std.specs.Prelude.{◌≡◌, ◌+◌, ◌≤◌, ◌<◌, ℕ, ℤ, pos, List, length, true, false, None, Some};
 ghost use Rattle.lr_rules.specs.declared.path.Path.{Path};
 ghost use Rattle.lr_rules.specs.declared.rule.Naming.{Naming};
-ghost use Rattle.lr_rules.specs.Names.{IsName, Meet};
+ghost use Rattle.lr_rules.specs.declared.rule.Rule.{Rule};
+ghost use Rattle.lr_rules.specs.declared.rule.Way.TheVariants.{RenameCopy};
+ghost use Rattle.lr_rules.specs.Dated.{IsDatedAt};
+ghost use Rattle.lr_rules.specs.Limits.{meets_limits};
+ghost use Rattle.lr_rules.specs.Names.{IsMemberAt, IsName, Meet, aside_path, naming_of};
+ghost use Rattle.lr_rules.specs.Path.{path_fault};
 ghost use Rattle.lr_rules.specs.declared.rule.Count.TheVariants.{Keep};
 ghost use Rattle.lr_host.specs.declared.thing.Thing.TheVariants as thing;
 ghost use Rattle.lr_host.specs.declared.entry.Entry.{Entry};
@@ -123,4 +128,15 @@ pub fn log_may_be_set_aside()
     ensures there { (s : LogSet) (p : Past) (to : Path) → IsJournal p → IsSafe s p → IsAsideOf s to → NamesNone s p to
         → MayFollow s p (entry.Renames s.log to) }
     ensures gone { (s : LogSet) (p : Past) (x : Path) → IsAsideOf s x → MayFollow s p (entry.Unlinks x) }
+{}
+
+/// Of the naming that a rule gives the log, the path where it waits is no member's. So it is one at which a generation may
+/// stand, where the rule sets the log aside.
+pub fn aside_is_no_member()
+    ensures numbered { (r : Rule) (log : Path) (place : ℕ) → path_fault log ≡ None → meets_limits r ≡ true
+        → IsMemberAt (naming_of r log) place (aside_path log) → ⊥ }
+    ensures dated { (r : Rule) (log : Path) (seconds : ℤ) (serial : ℕ) → path_fault log ≡ None → meets_limits r ≡ true
+        → IsDatedAt (naming_of r log) seconds serial (aside_path log) → ⊥ }
+    ensures waits { (s : LogSet) (r : Rule) → meets_limits r ≡ true → r.way ≡ RenameCopy → naming_of r s.log ≡ s.naming
+        → IsAsideOf s (aside_path s.log) }
 {}
