@@ -1,5 +1,5 @@
 -- The path where a log waits while it is set aside is no member's: its last part has the digits of the log's name, and that of a member has more.
-use Rattle.std.proofs.Common.{◌≡◌, ◌⊎◌, inl, inr, ⊎_elim, ℕ, suc, ◌+◌, ◌-◌, ◌<◌, ◌≤◌, ◌^◌, Bool, true, false, not, cond, ◌&&◌, ◌||◌, bytes_eq, refl, sym, ◌∙◌, ap, subst, arith, append_assoc, List, [], ◌∷◌, ◌++◌, length, take, drop, Option, Some, None, ℤ, pos, eqb-true}
+use Rattle.std.proofs.Common.{◌≡◌, ◌⊎◌, inl, inr, ⊎_elim, ℕ, suc, ◌+◌, ◌-◌, ◌<◌, ◌≤◌, ◌^◌, Bool, true, false, not, cond, ◌&&◌, ◌||◌, bytes_eq, refl, sym, ◌∙◌, ap, subst, arith, append_assoc, List, [], ◌∷◌, ◌++◌, length, take, drop, Option, Some, None, ℤ}
 use Rattle.std.specs.Prelude.{nat_le, ◌==◌, decimal, codes}
 use Rattle.std.specs.List.{list_any, list_all}
 use Rattle.std.specs.Str.{is_utf8}
@@ -8,14 +8,13 @@ use Rattle.std.proofs.lemmas.List.{take-append-drop}
 use Rattle.std.proofs.lemmas.List.Elements.{All-head, All-tail}
 use Rattle.std.proofs.lemmas.Slice.Eq.{bytes_eq-Decides}
 use Rattle.lr_rules.specs.declared.path.Path.{Path}
-use Rattle.lr_rules.specs.declared.rule.Field.{Field}
 use Rattle.lr_rules.specs.declared.rule.Format.{Format}
 use Rattle.lr_rules.specs.declared.rule.Naming.{Naming}
 use Rattle.lr_rules.specs.declared.rule.Piece.{Piece}
 use Rattle.lr_rules.specs.declared.rule.Piece.TheVariants as piece
 use Rattle.lr_rules.specs.declared.rule.Rule.{Rule}
 use Rattle.lr_rules.specs.declared.rule.Way.TheVariants.{RenameCopy}
-use Rattle.lr_rules.specs.Dated.{stamp_key, IsDatedAt}
+use Rattle.lr_rules.specs.Dated.{IsDatedAt}
 use Rattle.lr_rules.specs.Limits.{is_log_word, is_olddir, is_extension, is_address, is_small, is_size, is_count, is_criterion, is_make, is_plain_piece, written, are_first, is_epoch_alone, is_format, times, or_none, meets_limits}
 use Rattle.lr_rules.specs.Names.{AreDigits, IsStampShape, number_pieces, IsMiddleShape, IsMemberAt, ends_with, ext_of, base_of, aside_path, is_aside, naming_of}
 use Rattle.lr_rules.specs.Path.{path_fault, parent_of, last_of, joined, is_slash}

@@ -1,5 +1,5 @@
 -- The paths that a set reaches: its log, that where it waits while it is set aside, and its members.
-use Rattle.std.proofs.Common.{◌≡◌, ◌⊎◌, inl, inr, ℕ, ◌+◌, Bool, true, false, ◌||◌, ◌&&◌, bytes_eq, refl, sym, ◌∙◌, ap, arith, length-append, ◌++◌, length, Option, Some, None, is_some, ℤ}
+use Rattle.std.proofs.Common.{◌≡◌, inl, inr, ◌+◌, Bool, true, false, ◌&&◌, bytes_eq, sym, ◌∙◌, ap, arith, length-append, ◌++◌, length, Option, Some, None, is_some, ℤ}
 use Rattle.std.specs.Prelude.{codes}
 use Rattle.std.proofs.lemmas.Bool.{or_left, or_right, or_parts, or_from}
 use Rattle.std.proofs.lemmas.Slice.Eq.{bytes_eq-Decides}

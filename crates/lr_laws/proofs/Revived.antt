@@ -2,6 +2,7 @@
 use Rattle.std.proofs.Common.{◌≡◌, inl, arith, refl, subst, Some, None, [], ◌∷◌, pos}
 use Rattle.std.specs.Prelude.{codes}
 use Rattle.lr_rules.specs.declared.path.Path.{Path}
+use Rattle.lr_rules.specs.declared.rule.Way.TheVariants.{Rename}
 use Rattle.lr_rules.specs.declared.civil.Moment.{Moment}
 use Rattle.lr_host.specs.declared.entry.Entry.TheVariants.{Starts, Ends, Attach, Feed, Look, Renames, Unlinks, Cut}
 use Rattle.lr_host.specs.World.{Past, Opens, ◌▸◌, world}
@@ -49,7 +50,7 @@ revived_steady s now again c = steady_on s c _ Ends refl refl tt (steady_on s c 
     (steady_on s c _ (Renames second third) refl refl tt (steady_on s c _ (Starts (codes "/s/status") again rules) refl refl tt (broken_off_steady s now c))))))
 
 was_attached : (s : LogSet) (now : Moment) → IsOfChain s → IsGood s (attached now)
-was_attached s now c = record { journal = journal; safe = writers_safe s (begins (Opens found) now) (Attach 1 log (pos 0)) journal begun.good.safe tt (attached_steady s now c) }
+was_attached s now c = record { journal = journal; safe = writers_safe Rename s (begins (Opens found) now) (Attach 1 log (pos 0)) journal begun.good.safe tt (attached_steady s now c) }
   where
     begun : IsReadyGood s (begins (Opens found) now) 2
     begun = begun_on s c (Opens found) now (opens s) refl
@@ -76,7 +77,7 @@ was_moved s now c = (moved_on s c (looked now) second third 1 2 2 ready (omega a
     ready = record { good = before; ready = ready_first s (looked now) 2 before.safe (numbered s c) refl }
 
 was_fed : (s : LogSet) (now : Moment) → IsOfChain s → IsGood s (looked now ▸ Renames second third ▸ Feed 1 (codes "D") (pos 9))
-was_fed s now c = record { journal = journal; safe = writers_safe s (looked now ▸ Renames second third) (Feed 1 (codes "D") (pos 9)) journal before.safe tt (fed_steady s now c) }
+was_fed s now c = record { journal = journal; safe = writers_safe Rename s (looked now ▸ Renames second third) (Feed 1 (codes "D") (pos 9)) journal before.safe tt (fed_steady s now c) }
   where
     before : IsGood s (looked now ▸ Renames second third)
     before = was_moved s now c

@@ -22,7 +22,7 @@ IsPastAge s p n x = (g : ℕ) → n x ≡ thing.File g → SomeRule (rules_of p)
 
 -- The rename turns the log, where the names are n: the log goes to the member with the newest key, or to where it waits while it is set aside; or what waits there is taken up again, and goes to that member.
 pub data IsTurn (s : LogSet) (n : Names) (newest : ℤ) (from to : Path) : Type 0 where
-  turned : from ≡ s.log → s.key to ≡ Some newest → IsTurn s n newest from to
+  straight : from ≡ s.log → s.key to ≡ Some newest → IsTurn s n newest from to
   put_aside : from ≡ s.log → IsAsideOf s to → IsTurn s n newest from to
   taken_up : IsAsideOf s from → IsFileAt n from → s.key to ≡ Some newest → IsTurn s n newest from to
 

@@ -1,5 +1,6 @@
 // How the promise goes on.
 ghost use Rattle.std.specs.Prelude.{◌≡◌, ℕ, Bool, List, Option};
+ghost use Rattle.lr_rules.specs.declared.rule.Way.{Way};
 ghost use Rattle.lr_host.specs.declared.entry.Entry.{Entry};
 ghost use Rattle.lr_host.specs.declared.journal.Opening.{Opening};
 ghost use Rattle.lr_host.specs.World.{Past, Opens, ◌▸◌, world, names};
@@ -8,7 +9,7 @@ ghost use Rattle.lr_host.specs.Opening.{IsJournal, IsValid};
 ghost use Rattle.lr_host.specs.Told.{IsWriters, Made, Each, Left};
 ghost use Rattle.lr_host.specs.Sets.{LogSet, Numbered, order};
 ghost use Rattle.lr_host.specs.Safe.{IsSafe, IsMachines};
-ghost use Rattle.lr_host.specs.Steady.{IsSteady, NoneAttached};
+ghost use Rattle.lr_host.specs.Steady.{IsSteadyBy, NoneAttached};
 ghost use Rattle.lr_laws.specs.Follow.{MayFollow};
 ghost use Rattle.lr_host.specs.Steps.{CanAll, Took};
 ghost use Rattle.lr_laws.specs.Room.{IsReady};
@@ -27,9 +28,10 @@ pub fn safe_goes_on()
     ensures { (s : LogSet) (p : Past) (e : Entry) → IsJournal (p ▸ e) → IsSafe s p → MayFollow s p e → IsSafe s (p ▸ e) }
 {}
 
-/// So it is behind each entry of a writer in a steady journal.
+/// So it is behind each entry of a writer in a steady journal, in whichever way logs are rotated.
 pub fn writers_stay_safe()
-    ensures { (s : LogSet) (p : Past) (e : Entry) → IsJournal (p ▸ e) → IsSafe s p → IsWriters e → IsSteady s (p ▸ e) → IsSafe s (p ▸ e) }
+    ensures { (way : Way) (s : LogSet) (p : Past) (e : Entry) → IsJournal (p ▸ e) → IsSafe s p → IsWriters e
+        → IsSteadyBy way s (p ▸ e) → IsSafe s (p ▸ e) }
 {}
 
 /// So it is behind each entry of the tool that changes no name and no byte.
@@ -43,8 +45,8 @@ pub fn cut_stays_safe()
 {}
 
 /// So it is behind the entries of one rotation of a numbered set, with entries aside and writers' entries between them:
-/// members below the limit move up, highest place first, then the log, which is a file there; those past the count or too
-/// old go. Of the entries aside nothing else is asked.
+/// members below the limit move up, highest place first, then the log, which is a file there, or it is set aside, or what
+/// waits there is taken up again; those past the count or too old go. Of the entries aside nothing else is asked.
 pub fn rotation_stays_safe()
     ensures { (s : LogSet) (p q : Past) (limit : ℕ) (es : List Entry) → order s ≡ Numbered → IsJournal p → IsSafe s p
         → IsReady s p limit → Made p es q → LogFits s (names (world p)) es → IsRotation s p limit es → NoneAttached s q → IsSafe s q }
