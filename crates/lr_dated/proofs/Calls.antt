@@ -1,5 +1,5 @@
 -- Safe goes on over calls that make the steps of a dated rotation.
-use Rattle.std.proofs.Common.{◌≡◌, ◌⊎◌, inl, Bool, true, false, cond, ◌||◌, refl, sym, ap, ◌∙◌, subst, bytes_eq, List, [], ◌∷◌, ◌++◌, Option, Some, None, ℤ}
+use Rattle.std.proofs.Common.{◌≡◌, ◌⊎◌, inl, Bool, true, false, cond, ◌||◌, refl, sym, ap, ◌∙◌, subst, is_some, List, [], ◌∷◌, ◌++◌, Option, Some, None, ℤ}
 use Rattle.std.specs.Prelude.{filter}
 use Rattle.lr_host.specs.declared.entry.Entry.{Entry}
 use Rattle.lr_host.specs.declared.entry.Entry.TheVariants as entry
@@ -16,14 +16,14 @@ use Rattle.lr_laws.proofs.Calls.{passed_aside, taken}
 use Rattle.lr_laws.proofs.Walk.{log_fits, log_filter}
 use Rattle.lr_dated.specs.Rotation.{has_turned, IsDatedStep, IsDatedRotation}
 use Rattle.lr_dated.specs.Stays.{RotatesDated, KeepsSafeWhere}
-use Rattle.lr_dated.proofs.Walk.{walk}
+use Rattle.lr_dated.proofs.Walk.{dated_walked}
 
 turned_filter : (s : LogSet) (es : List Entry) → has_turned s (filter is_change es) ≡ has_turned s es
 turned_filter s [] = refl
 turned_filter s (e ∷ es) = go (is_change e) refl (turned_filter s es)
   where
     over : (e : Entry) → has_turned s (filter is_change es) ≡ has_turned s es → has_turned s (e ∷ filter is_change es) ≡ has_turned s (e ∷ es)
-    over (entry.Renames from to) r = ap (λ (b : Bool). bytes_eq s.log from || b) r
+    over (entry.Renames from to) r = ap (λ (b : Bool). is_some (s.key to) || b) r
     over _ r = r
 
     passed : (e : Entry) → is_change e ≡ false → has_turned s (e ∷ es) ≡ has_turned s es
@@ -58,7 +58,7 @@ took_dated {steps} {ok} (is_told {j = j} {k = k} {es = es} m h) can = λ s r a v
     let t = taken steps ok es h in
     let fit : FitAll (names (world (past j))) (filter is_change es) = later_fit (names (world (past j))) t.0 (filter is_change es) (subst (λ (xs : List Entry). FitAll (names (world (past j))) xs) t.1 can.can) in
     let rot : IsDatedRotation s (past j) r.newest (filter is_change es) = later_rotation s (past j) r.newest t.0 (filter is_change es) (subst (λ (xs : List Entry). IsDatedRotation s (past j) r.newest xs) t.1 r.rotation) in
-    (walk s (past j) (past k) r.newest es r.dated m (log_filter s (names (world (past j))) es (log_fits s (names (world (past j))) (filter is_change es) fit)) (rotation_filter s r.newest (past j) (past k) es m rot) a v safe r.not_begun r.forward).safe
+    dated_walked s (past j) (past k) r.newest es r.dated v safe r.not_begun r.forward m (log_filter s (names (world (past j))) es (log_fits s (names (world (past j))) (filter is_change es) fit)) (rotation_filter s r.newest (past j) (past k) es m rot) a
 
 pub dated_took : (steps : List Entry) (ok : Bool) (o n : Option Journal) → Left (Took steps ok) o n → CanAll o steps → StaysSafe (RotatesDated steps) o n
 dated_took steps ok o n left can = took_dated left can

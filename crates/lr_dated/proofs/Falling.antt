@@ -17,7 +17,7 @@ use Rattle.lr_host.specs.Sets.{LogSet, AreLaterMembers}
 use Rattle.lr_host.specs.Runs.{rules_of, SomeRule}
 use Rattle.lr_host.proofs.Names.{put_other}
 use Rattle.lr_laws.specs.Rotation.{IsPastAge}
-use Rattle.lr_dated.specs.Rotation.{IsPastLater, has_turned, IsDatedStep, IsDatedRotation}
+use Rattle.lr_dated.specs.Rotation.{IsPastLater, turned_behind, IsDatedStep, IsDatedRotationBy}
 use Rattle.lr_dated.specs.Steps.{Ranked, key_of, is_left, gone, unlink, AreBelow, AreFalling}
 use Rattle.lr_dated.specs.Turned.{AreFiles, AreTurned, AreOld}
 
@@ -68,9 +68,9 @@ pub unlinked_same : (n : Names) (base : List Entry) (y : Path) (xs : List Ranked
 unlinked_same n base y [] h = refl
 unlinked_same n base y (x ∷ xs) h = put_other (names_after n (changes_of (map unlink xs ++ base))) x.path y thing.Nothing h.0 ∙ unlinked_same n base y xs h.1
 
-turned_unlinks : (s : LogSet) (base : List Entry) (xs : List Ranked) → has_turned s (map unlink xs ++ base) ≡ has_turned s base
-turned_unlinks s base [] = refl
-turned_unlinks s base (x ∷ xs) = turned_unlinks s base xs
+turned_unlinks : (s : LogSet) (turned : Bool) (base : List Entry) (xs : List Ranked) → turned_behind s turned (map unlink xs ++ base) ≡ turned_behind s turned base
+turned_unlinks s turned base [] = refl
+turned_unlinks s turned base (x ∷ xs) = turned_unlinks s turned base xs
 
 -- ---- each removal is a step
 
@@ -115,12 +115,12 @@ left_count (count.Keep n) i e = (n, refl, leb-true n i e)
 left_count count.Always i e = absurd (cc)
 
 -- Down the members, those that were passed are the later ones of each that goes.
-pub removals_rotate : (s : LogSet) (p : Past) (newest : ℤ) (c : Count) (base : List Entry) → has_turned s base ≡ true → IsDatedRotation s p newest base → SomeRule (rules_of p) s.log (λ r. r.count ≡ c)
+pub removals_rotate : (s : LogSet) (p : Past) (newest : ℤ) (turned : Bool) (c : Count) (base : List Entry) → turned_behind s turned base ≡ true → IsDatedRotationBy s p newest turned base → SomeRule (rules_of p) s.log (λ r. r.count ≡ c)
     → (ms : List Ranked) (i : ℕ) (ys : List Path) → length ys ≡ i → AreDistinct ys → AreLaterThan s (names_after (names (world p)) (changes_of base)) ys ms → AreFalling ms → AreKeyed (HasKey s) ms
-    → AreFiles (names_after (names (world p)) (changes_of base)) ms → AreOld s p (names_after (names (world p)) (changes_of base)) ms → IsDatedRotation s p newest (map unlink (gone c i ms) ++ base)
-removals_rotate s p newest c base tb rot rule [] i ys size d later fall keyed files old = rot
-removals_rotate s p newest c base tb rot rule (m ∷ ms) i ys size d later fall keyed files old =
-    go (is_left c i || m.old) refl (removals_rotate s p newest c base tb rot rule ms (suc i) (m.path ∷ ys) (omega arith) (not_in s n m.path (key_of m) ys keyed.0 later, d) (next_later s n m ys ms keyed.0 files.0 fall.0 later) fall.1 keyed.1 files.1 old.1)
+    → AreFiles (names_after (names (world p)) (changes_of base)) ms → AreOld s p (names_after (names (world p)) (changes_of base)) ms → IsDatedRotationBy s p newest turned (map unlink (gone c i ms) ++ base)
+removals_rotate s p newest turned c base tb rot rule [] i ys size d later fall keyed files old = rot
+removals_rotate s p newest turned c base tb rot rule (m ∷ ms) i ys size d later fall keyed files old =
+    go (is_left c i || m.old) refl (removals_rotate s p newest turned c base tb rot rule ms (suc i) (m.path ∷ ys) (omega arith) (not_in s n m.path (key_of m) ys keyed.0 later, d) (next_later s n m ys ms keyed.0 files.0 fall.0 later) fall.1 keyed.1 files.1 old.1)
   where
     n : Names
     n = names_after (names (world p)) (changes_of base)
@@ -147,10 +147,10 @@ removals_rotate s p newest c base tb rot rule (m ∷ ms) i ys size d later fall 
     aged : m.old ≡ true → IsPastAge s p (names_after (names (world p)) (changes_of (map unlink (gone c (suc i) ms) ++ base))) m.path
     aged o g is = old.0 o g (sym (same m.path mine) ∙ is)
 
-    step : (is_left c i || m.old) ≡ true → IsDatedStep s p newest (names_after (names (world p)) (changes_of (map unlink (gone c (suc i) ms) ++ base))) (has_turned s (map unlink (gone c (suc i) ms) ++ base)) (Unlinks m.path)
-    step e = (turned_unlinks s base (gone c (suc i) ms) ∙ tb, key_of m, keyed.0, ⊎_elim (λ l. inl (many l)) (λ o. inr (aged o)) (either (is_left c i) m.old e))
+    step : (is_left c i || m.old) ≡ true → IsDatedStep s p newest (names_after (names (world p)) (changes_of (map unlink (gone c (suc i) ms) ++ base))) (turned_behind s turned (map unlink (gone c (suc i) ms) ++ base)) (Unlinks m.path)
+    step e = inr (turned_unlinks s turned base (gone c (suc i) ms) ∙ tb, key_of m, keyed.0, ⊎_elim (λ l. inl (many l)) (λ o. inr (aged o)) (either (is_left c i) m.old e))
 
-    go : (b : Bool) → (is_left c i || m.old) ≡ b → IsDatedRotation s p newest (map unlink (gone c (suc i) ms) ++ base) → IsDatedRotation s p newest (map unlink (cond b (m ∷ gone c (suc i) ms) (gone c (suc i) ms)) ++ base)
+    go : (b : Bool) → (is_left c i || m.old) ≡ b → IsDatedRotationBy s p newest turned (map unlink (gone c (suc i) ms) ++ base) → IsDatedRotationBy s p newest turned (map unlink (cond b (m ∷ gone c (suc i) ms) (gone c (suc i) ms)) ++ base)
     go true e rest = (rest, inr (step e))
     go false e rest = rest
 

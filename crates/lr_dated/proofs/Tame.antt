@@ -12,17 +12,16 @@ use Rattle.lr_host.specs.Kept.{Leaves}
 use Rattle.lr_host.specs.Later.{IsGeneration}
 use Rattle.lr_host.specs.Quiet.{ChangesNothing}
 use Rattle.lr_host.specs.Safe.{IsToLog}
-use Rattle.lr_host.specs.Sets.{LogSet, in_set, AreLaterMembers}
+use Rattle.lr_host.specs.Sets.{LogSet, in_reach, AreLaterMembers}
 use Rattle.lr_host.specs.Steady.{AttachesNoMember}
 use Rattle.lr_host.specs.Told.{IsWriters}
-use Rattle.lr_laws.specs.Room.{later_once_begun}
+use Rattle.lr_laws.specs.Room.{later_once_begun, HasRoomForOne}
 use Rattle.lr_laws.specs.Rotation.{IsAside}
 use Rattle.lr_laws.proofs.Disk.{KeepsClosed, Came, made, moved, stayed, came, LeftBy, as_it_was, taken_back, kept_too, by_cut, left_by}
 use Rattle.lr_laws.proofs.Entries.{split}
 use Rattle.lr_laws.proofs.Moves.{keyless}
 use Rattle.lr_laws.proofs.Rising.{IsStarts, next_grows}
 use Rattle.lr_laws.proofs.Sound.{IsSound}
-use Rattle.lr_laws.proofs.Stamps.{HasRoomForOne}
 use Rattle.lr_laws.proofs.Writing.{member_apart, no_key}
 
 -- the change gives no member a file
@@ -93,17 +92,17 @@ tame_puts s x t h = record { adds = λ c e. let same : Puts x t ≡ c = cc in re
     by : (y : Path) (g : ℕ) → Puts x t ≡ Puts y (thing.File g) → s.key y ≡ None
     by y g i = let one : x ≡ y = cc in let two : t ≡ thing.File g = cc in ap s.key (sym one) ∙ h g two
 
-tame_moves : (s : LogSet) (from to : Path) → s.key to ≡ None → IsTame s (Adds (Moves from to))
+pub tame_moves : (s : LogSet) (from to : Path) → s.key to ≡ None → IsTame s (Adds (Moves from to))
 tame_moves s from to h = record { adds = λ c e. let same : Moves from to ≡ c = cc in record { made = λ y g i. absurd (let j : Moves from to ≡ Puts y (thing.File g) = same ∙ i in cc); moved = λ u y i. by u y (same ∙ i) }; keeps = λ k e. cc }
   where
     by : (u y : Path) → Moves from to ≡ Moves u y → s.key y ≡ None
     by u y i = let one : to ≡ y = cc in ap s.key (sym one) ∙ h
 
-tame_drops : (s : LogSet) (x : Path) → IsTame s (Adds (Drops x))
+pub tame_drops : (s : LogSet) (x : Path) → IsTame s (Adds (Drops x))
 tame_drops s x = record { adds = λ c e. let same : Drops x ≡ c = cc in record { made = λ y g i. absurd (let j : Drops x ≡ Puts y (thing.File g) = same ∙ i in cc); moved = λ u y i. absurd (let j : Drops x ≡ Moves u y = same ∙ i in cc) }; keeps = λ k e. cc }
 
--- a path outside the set has no key
-out_key : (s : LogSet) (x : Path) → in_set s x ≡ false → s.key x ≡ None
+-- a path that the set doesn't reach has no key
+out_key : (s : LogSet) (x : Path) → in_reach s x ≡ false → s.key x ≡ None
 out_key s x out = go (s.key x) (λ u. keyless s x u out)
   where
     go : (o : Option ℤ) → ((u : ℤ) → o ≡ Some u → ⊥) → o ≡ None

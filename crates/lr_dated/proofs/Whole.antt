@@ -1,5 +1,5 @@
 -- A whole dated rotation.
-use Rattle.std.proofs.Common.{◌≡◌, inl, inr, ℕ, suc, Bool, true, false, cond, ◌||◌, bytes_eq, refl, sym, ◌∙◌, ap, subst, Some, List, [], ◌∷◌, ◌++◌, map, reverse, ℤ}
+use Rattle.std.proofs.Common.{◌≡◌, inl, inr, ℕ, suc, Bool, true, false, cond, ◌||◌, refl, sym, ◌∙◌, ap, subst, Option, Some, is_some, List, [], ◌∷◌, ◌++◌, map, reverse, ℤ}
 use Rattle.std.specs.Prelude.{◌≢◌}
 use Rattle.std.proofs.lemmas.List.{reverse-append, reverse-reverse}
 use Rattle.std.proofs.lemmas.Slice.Eq.{bytes_eq-Decides}
@@ -26,7 +26,7 @@ use Rattle.lr_host.specs.World.{Names, put, Moves, changed, names_after, Past, w
 use Rattle.lr_host.proofs.Each.{each_reverse}
 use Rattle.lr_host.proofs.Looked.{nothing_no_file}
 use Rattle.lr_host.proofs.Names.{put_other}
-use Rattle.lr_laws.specs.Rotation.{IsAside}
+use Rattle.lr_laws.specs.Rotation.{IsAside, straight}
 use Rattle.lr_laws.proofs.Outside.{apart_outside}
 use Rattle.lr_dated.specs.Stays.{RotatesDated}
 use Rattle.lr_dated.specs.Steps.{Ranked, is_left, gone, unlink, AreDatedAt, dated_rotation}
@@ -118,11 +118,11 @@ is_one s p c target all seconds serial dated nb at forward st old rule = record 
   newest = stamp_key seconds serial;
   forward = forward;
   rotation = subst (IsDatedRotation s p (stamp_key seconds serial)) (sym (steps_are c s.log target all))
-      (removals_rotate s p (stamp_key seconds serial) c (Renames s.log target ∷ []) turned (tt, inr (refl, refl, keyed s dated target seconds serial at, st.free)) rule all 0 [] refl tt (none_later all) st.falling (all_keyed s dated all st.named) st.files old);
+      (removals_rotate s p (stamp_key seconds serial) false c (Renames s.log target ∷ []) turned (tt, inr (refl, st.free, straight refl (keyed s dated target seconds serial at))) rule all 0 [] refl tt (none_later all) st.falling (all_keyed s dated all st.named) st.files old);
 }
   where
-    turned : (bytes_eq s.log s.log || false) ≡ true
-    turned = ap (λ b. b || false) ((bytes_eq-Decides s.log s.log).1 refl)
+    turned : (is_some (s.key target) || false) ≡ true
+    turned = ap (λ (o : Option ℤ). is_some o || false) (keyed s dated target seconds serial at)
 
     none_later : (ms : List Ranked) → AreLaterThan s (changed (Moves s.log target) (names (world p))) [] ms
     none_later [] = tt

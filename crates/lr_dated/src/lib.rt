@@ -13,4 +13,7 @@ pub use forward::{forward_goes_on, moment_is_forward, moments_stay_forward};
 pub use rotation::{
     dated_rotation_fits, dated_rotation_is_aside, dated_rotation_is_one, dated_rotation_turns,
 };
-pub use safety::{dated_rotation_stays_safe, dated_steps_stay_safe, safe_without_clock};
+pub use safety::{
+    dated_retirement_stays_safe, dated_rotation_stays_open, dated_rotation_stays_safe,
+    dated_steps_stay_safe, safe_without_clock,
+};

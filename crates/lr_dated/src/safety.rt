@@ -12,20 +12,37 @@ ghost use Rattle.lr_host.specs.Runs.{has_begun};
 ghost use Rattle.lr_host.specs.Forward.{IsForward};
 ghost use Rattle.lr_host.specs.Safe.{IsSafe, KeepsSafe};
 ghost use Rattle.lr_host.specs.Steady.{NoneAttached};
+ghost use Rattle.lr_laws.specs.Room.{HasRoomForOne};
 ghost use Rattle.lr_laws.specs.Rotation.{LogFits};
 ghost use Rattle.lr_laws.specs.Stays.{StaysSafe};
 ghost use Rattle.lr_dated.specs.Forward.{IsForwardFor};
-ghost use Rattle.lr_dated.specs.Rotation.{IsDatedRotation};
+ghost use Rattle.lr_dated.specs.Rotation.{has_turned, IsDatedRotation, IsDatedRetirement};
 ghost use Rattle.lr_dated.specs.Stays.{RotatesDated, KeepsSafeWhere};
 
 /// A dated set that is safe is safe behind the entries of one rotation to a member that none is later than, with entries
 /// aside and writers' entries between them, in a run that has begun no rotation of the set: the log, which is a file there,
-/// goes to that member, which names nothing; then those go that as many later ones follow as the count says, or that are
-/// too old; and the log is made anew. Of the entries aside nothing else is asked.
+/// goes to that member, which names nothing, or it is set aside, or what waits there is taken up again; then those go that
+/// as many later ones follow as the count says, or that are too old; and the log is made anew. Of the entries aside nothing
+/// else is asked.
 pub fn dated_rotation_stays_safe()
     ensures { (s : LogSet) (p q : Past) (newest : ℤ) (es : List Entry) → order s ≡ Dated → IsJournal p → IsSafe s p
         → has_begun s p ≡ false → IsForward s p newest → Made p es q → LogFits s (names (world p)) es
         → IsDatedRotation s p newest es → NoneAttached s q → IsSafe s q }
+{}
+
+/// As long as no member got a file by such entries, each that a member names may get one more later member, and none is later
+/// than the one that the rotation is to: so a copy may get that name.
+pub fn dated_rotation_stays_open()
+    ensures { (s : LogSet) (p q : Past) (newest : ℤ) (es : List Entry) → order s ≡ Dated → IsJournal p → IsSafe s p
+        → has_begun s p ≡ false → IsForward s p newest → Made p es q → LogFits s (names (world p)) es
+        → IsDatedRotation s p newest es → NoneAttached s q → has_turned s es ≡ false → HasRoomForOne s q × IsForward s q newest }
+{}
+
+/// Behind that, where members go that may and what waited aside, with entries aside and writers' between them, the set stays
+/// safe.
+pub fn dated_retirement_stays_safe()
+    ensures { (s : LogSet) (p q : Past) (es : List Entry) → order s ≡ Dated → IsJournal p → IsSafe s p → Made p es q
+        → IsDatedRetirement s p es → NoneAttached s q → IsSafe s q }
 {}
 
 /// Over calls that leave the change entries of a first part of these steps, each set is safe of which they are such a
