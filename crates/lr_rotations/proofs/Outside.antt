@@ -8,7 +8,7 @@ use Rattle.lr_rules.specs.Names.{IsMiddleShape, IsMemberShape, IsOwnName, the_lo
 use Rattle.lr_rules.proofs.Digits.{decimal_run}
 use Rattle.lr_host.specs.declared.entry.Entry.TheVariants as entry
 use Rattle.lr_host.specs.Told.{Each}
-use Rattle.lr_host.specs.Sets.{LogSet, in_set}
+use Rattle.lr_host.specs.Sets.{LogSet, in_reach}
 use Rattle.lr_host.proofs.Each.{each_append}
 use Rattle.lr_laws.specs.Rotation.{IsAside}
 use Rattle.lr_laws.proofs.Outside.{apart_outside}
@@ -35,10 +35,10 @@ pub place_name : (log : Path) (n : Naming) (place : ℕ) → n.dated ≡ None �
 place_name log n place numbered i = a_member (member_name n (n.start + place)) (place_shape n place numbered i) refl
 
 module _ (s : LogSet) (log : Path) (n : Naming) (numbered : n.dated ≡ None) (apart : Meet s.log s.naming log n → ⊥) where
-  place_out : (place : ℕ) → HasName n place → in_set s (path_at n place) ≡ false
+  place_out : (place : ℕ) → HasName n place → in_reach s (path_at n place) ≡ false
   place_out place i = apart_outside s log n (path_at n place) apart (inl (place_name log n place numbered i))
 
-  pub log_out : in_set s log ≡ false
+  pub log_out : in_reach s log ≡ false
   log_out = apart_outside s log n log apart (inl (the_log refl))
 
   unlinks_aside : (ls : List ℕ) → Every (HasName n) ls → Each (IsAside s) (map (unlink_at n) ls)

@@ -17,6 +17,7 @@ use Rattle.lr_host.proofs.Each.{each_reverse, each_as}
 use Rattle.lr_host.specs.Quiet.{IsQuiet, AreQuiet}
 use Rattle.lr_laws.specs.Rotation.{IsAside}
 use Rattle.lr_laws.proofs.Calls.{aside_walked, passed_aside}
+use Rattle.lr_laws.proofs.Reach.{reach_set}
 
 quiet_aside : (s : LogSet) (es : List Entry) → AreQuiet es → Each (IsAside s) es
 quiet_aside s es quiet = each_as IsQuiet (IsAside s) es (λ e i. passed_aside s e i.0 i.1) quiet
@@ -46,9 +47,9 @@ still_on s p q r a b = record { rules = b.rules ∙ a.rules; begun = λ h. b.beg
 -- ---- entries aside
 
 aside_still : (s : LogSet) (p : Past) (e : Entry) → IsAside s e → IsStill s p (p ▸ e)
-aside_still s p (entry.Renames from to) out = record { rules = refl; begun = λ h. or_from (has_begun s p) (in_set s from || in_set s to) h (or_from (in_set s from) (in_set s to) out.0 out.1) }
-aside_still s p (entry.Unlinks x) out = record { rules = refl; begun = λ h. or_from (has_begun s p) (in_set s x) h out }
-aside_still s p (entry.Makes x mode) out = record { rules = refl; begun = λ h. or_from (has_begun s p) (in_set s x) h out }
+aside_still s p (entry.Renames from to) out = record { rules = refl; begun = λ h. or_from (has_begun s p) (in_set s from || in_set s to) h (or_from (in_set s from) (in_set s to) (reach_set s from out.0) (reach_set s to out.1)) }
+aside_still s p (entry.Unlinks x) out = record { rules = refl; begun = λ h. or_from (has_begun s p) (in_set s x) h (reach_set s x out) }
+aside_still s p (entry.Makes x mode) out = record { rules = refl; begun = λ h. or_from (has_begun s p) (in_set s x) h (reach_set s x out) }
 aside_still s p (entry.Starts state now rules) out = absurd out
 aside_still s p (entry.Attach writer x at) out = absurd out
 aside_still s p (entry.Feed writer bytes at) out = absurd out

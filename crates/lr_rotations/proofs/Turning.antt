@@ -1,5 +1,5 @@
 -- The steps of a rotation are those of one rotation of the set, each while its limit allows it.
-use Rattle.std.proofs.Common.{◌≡◌, ◌≢◌, ◌⊎◌, inl, inr, ⊎_elim, ℕ, suc, ◌+◌, ◌<◌, ◌≤◌, Bool, true, false, not, cond, bytes_eq, List, [], ◌∷◌, ◌++◌, map, reverse, refl, sym, ap, ◌∙◌, subst, append_assoc, arith, nat_le, ℤ, pos, Option, Some}
+use Rattle.std.proofs.Common.{◌≡◌, ◌≢◌, ◌⊎◌, inl, inr, ⊎_elim, ℕ, suc, ◌+◌, ◌<◌, ◌≤◌, Bool, true, false, not, cond, List, [], ◌∷◌, ◌++◌, map, reverse, refl, sym, ap, ◌∙◌, subst, append_assoc, arith, nat_le, ℤ, pos, Option, Some}
 use Rattle.std.specs.Prelude.{Contains}
 use Rattle.std.proofs.lemmas.List.{reverse-append, append-nil}
 use Rattle.std.proofs.lemmas.Bool.Decides.{nat_tests}
@@ -11,12 +11,12 @@ use Rattle.lr_host.specs.declared.entry.Entry.TheVariants as entry
 use Rattle.lr_host.specs.World.{Names, put, Past, world, names, names_after}
 use Rattle.lr_host.specs.Fits.{IsFileAt}
 use Rattle.lr_host.specs.Steps.{changes_of}
-use Rattle.lr_host.specs.Sets.{LogSet, Order, Numbered, order, order_of, IsKeyBy}
+use Rattle.lr_host.specs.Sets.{LogSet, Order, Numbered, order, order_of, is_unplaced, IsKeyBy}
 use Rattle.lr_host.specs.Released.{ByAge}
 use Rattle.lr_host.specs.Runs.{rules_of, SomeRule, has_begun}
 use Rattle.lr_host.specs.Safe.{IsSafe}
 use Rattle.lr_host.proofs.Names.{put_other}
-use Rattle.lr_laws.specs.Rotation.{IsPastCount, IsStep, limit_by, limit_after, IsRotation}
+use Rattle.lr_laws.specs.Rotation.{IsPastCount, straight, IsStep, limit_by, limit_after, IsRotation}
 use Rattle.lr_laws.specs.Stays.{Rotates}
 use Rattle.lr_laws.proofs.Stated.{ready_first}
 use Rattle.lr_family.specs.Spots.{path_at}
@@ -79,7 +79,7 @@ module _ (s : LogSet) (p : Past) (family : IsFamily s.log s.naming) (c : Count) 
       → ((v : Names) → Before s.log s.naming v limit [] ks → TurnsOn s p limit v rest) → TurnsOn s p limit m (map (unlink_at s.naming) ls ++ rest)
   unlinks_turn m limit [] ks rest il ik falls apart may b then = then m b
   unlinks_turn m limit (l ∷ ls) ks rest il ik falls apart may b then = (
-    (l, key_at s l (numbered s family) il.0, inl (left_may c refl l may.0)),
+    inr (l, key_at s l (numbered s family) il.0, inl (left_may c refl l may.0)),
     unlinks_turn (put m (path_at s.naming l) thing.Nothing) limit ls ks rest il.1 ik falls.1 apart.1 may.1
         (unlinked s.log s.naming family m limit l ls ks il.0 il.1 ik (every_as (λ k. k < l) (λ k. k ≢ l) ls (λ k lt e. omega (arith, lt, e)) falls.0) apart.0 b) then,
   )
@@ -99,11 +99,11 @@ module _ (s : LogSet) (p : Past) (family : IsFamily s.log s.naming) (c : Count) 
       after : Names
       after = put (put m (path_at s.naming k) thing.Nothing) (path_at s.naming (k + 1)) (m (path_at s.naming k))
 
-      at_limit : limit_by (s.key (path_at s.naming k)) (bytes_eq s.log (path_at s.naming k)) limit ≡ k
-      at_limit = ap (λ (o : Option ℤ). limit_by o (bytes_eq s.log (path_at s.naming k)) limit) (key_at s k (numbered s family) ik.0)
+      at_limit : limit_by (s.key (path_at s.naming k)) (is_unplaced s (path_at s.naming k)) limit ≡ k
+      at_limit = ap (λ (o : Option ℤ). limit_by o (is_unplaced s (path_at s.naming k)) limit) (key_at s k (numbered s family) ik.0)
 
   log_turns : (m : Names) (limit : ℕ) → HasName s.naming 0 → Before s.log s.naming m limit [] [] → TurnsOn s p limit m (entry.Renames s.log (path_at s.naming 0) ∷ [])
-  log_turns m limit first b = ((log_free s.log s.naming family m limit first b, inr (refl, key_at s 0 (numbered s family) first)), tt)
+  log_turns m limit first b = ((log_free s.log s.naming family m limit first b, inr (straight refl (key_at s 0 (numbered s family) first))), tt)
 
   -- ---- those that go behind them
 
@@ -119,10 +119,10 @@ module _ (s : LogSet) (p : Past) (family : IsFamily s.log s.naming) (c : Count) 
   retires_turn m limit [] first falls come may = none (is_left c 0) refl
     where
       none : (b : Bool) → is_left c 0 ≡ b → TurnsOn s p limit m (map (unlink_at s.naming) (cond b (0 ∷ []) []))
-      none true e = ((0, key_at s 0 (numbered s family) first, inl (left_may c refl 0 e)), tt)
+      none true e = (inr (0, key_at s 0 (numbered s family) first, inl (left_may c refl 0 e)), tt)
       none false e = tt
   retires_turn m limit (k ∷ ks) first falls come may = (
-    (suc k, key_at s (suc k) (numbered s family) come.0.0, ⊎_elim (λ full. inl (left_may c refl (suc k) full)) (λ old. inr (λ g is. old g (sym come.0.1 ∙ is))) may.0),
+    inr (suc k, key_at s (suc k) (numbered s family) come.0.0, ⊎_elim (λ full. inl (left_may c refl (suc k) full)) (λ old. inr (λ g is. old g (sym come.0.1 ∙ is))) may.0),
     retires_turn (put m (path_at s.naming (suc k)) thing.Nothing) limit ks first falls.1 (every_both (λ j. j < k) (HasCome m) (HasCome (put m (path_at s.naming (suc k)) thing.Nothing)) ks others falls.0 come.1) may.1,
   )
     where

@@ -1,8 +1,6 @@
 -- Entries woven into others.
 use Rattle.std.proofs.Common.{◌≡◌, ◌⊎◌, inl, inr, ℕ, Bool, true, false, cond, refl, sym, ◌∙◌, ap, subst, Option, Some, None, is_some, bytes_eq, List, [], ◌∷◌, ◌++◌, ◌<◌, reverse, append-nil, ℤ, pos}
 use Rattle.std.proofs.lemmas.List.{reverse-append}
-use Rattle.std.proofs.lemmas.Bool.{or_left, or_right, or_parts}
-use Rattle.std.proofs.lemmas.Slice.Eq.{bytes_eq-Decides}
 use Rattle.lr_rules.specs.declared.path.Path.{Path}
 use Rattle.lr_host.specs.declared.thing.Thing.{Thing}
 use Rattle.lr_host.specs.declared.thing.Thing.TheVariants as thing
@@ -14,9 +12,10 @@ use Rattle.lr_host.specs.Fits.{IsFileAt}
 use Rattle.lr_host.specs.Lists.{IsIn}
 use Rattle.lr_host.specs.Told.{CanCall, Each}
 use Rattle.lr_host.specs.Steps.{changes_of}
-use Rattle.lr_host.specs.Sets.{LogSet, in_set}
+use Rattle.lr_host.specs.Sets.{LogSet, is_unplaced, in_reach}
 use Rattle.lr_host.proofs.Names.{put_other}
-use Rattle.lr_laws.specs.Rotation.{IsAside, IsStep, limit_by, limit_after, IsRotation, LogFits}
+use Rattle.lr_laws.specs.Rotation.{IsAside, IsTurn, straight, put_aside, taken_up, IsStep, limit_by, limit_after, IsRotation, LogFits}
+use Rattle.lr_laws.proofs.Reach.{unplaced_reach, keyed_reach, reach_unplaced, reach_keyless}
 use Rattle.lr_rotations.specs.Rotated.{MakesAt}
 use Rattle.lr_rotations.specs.Weave.{Weave, none, own, other}
 
@@ -60,7 +59,7 @@ weave_own P (e ∷ es) = own e (weave_own P es)
 
 -- the entry lies aside, and makes no directory at a path of the set
 abbrev pub IsApart : LogSet → Entry → Type 0
-IsApart s (MakesDir x mode) = in_set s x ≡ false
+IsApart s (MakesDir x mode) = in_reach s x ≡ false
 IsApart s e = IsAside s e
 
 pub apart_aside : (s : LogSet) (e : Entry) → IsApart s e → IsAside s e
@@ -80,8 +79,8 @@ apart_aside s _ out = tt
 
 -- ---- the names of a set, under its own steps alone and under all
 
-abbrev AreAlike : LogSet → Names → Names → Type 0
-AreAlike s n n' = (y : Path) → in_set s y ≡ true → n y ≡ n' y
+abbrev pub AreAlike : LogSet → Names → Names → Type 0
+AreAlike s n n' = (y : Path) → in_reach s y ≡ true → n y ≡ n' y
 
 clash : (b : Bool) → b ≡ true → b ≡ false → ⊥
 clash b p q = cc
@@ -95,21 +94,39 @@ both_put x y t u n n' tu is = go (bytes_eq x y)
 
 pub apart_alike : (s : LogSet) (n : Names) (es : List Entry) (e : Entry) → IsApart s e → AreAlike s (names_after n (changes_of es)) (names_after n (changes_of (e ∷ es)))
 apart_alike s n es (Renames from to) out = λ y i.
-    sym (put_other (put (names_after n (changes_of es)) from thing.Nothing) to y (names_after n (changes_of es) from) (λ same. clash (in_set s y) i (ap (in_set s) same ∙ out.1))
-    ∙ put_other (names_after n (changes_of es)) from y thing.Nothing (λ same. clash (in_set s y) i (ap (in_set s) same ∙ out.0)))
-apart_alike s n es (Unlinks x) out = λ y i. sym (put_other (names_after n (changes_of es)) x y thing.Nothing (λ same. clash (in_set s y) i (ap (in_set s) same ∙ out)))
-apart_alike s n es (MakesDir x mode) out = λ y i. sym (put_other (names_after n (changes_of es)) x y thing.Directory (λ same. clash (in_set s y) i (ap (in_set s) same ∙ out)))
+    sym (put_other (put (names_after n (changes_of es)) from thing.Nothing) to y (names_after n (changes_of es) from) (λ same. clash (in_reach s y) i (ap (in_reach s) same ∙ out.1))
+    ∙ put_other (names_after n (changes_of es)) from y thing.Nothing (λ same. clash (in_reach s y) i (ap (in_reach s) same ∙ out.0)))
+apart_alike s n es (Unlinks x) out = λ y i. sym (put_other (names_after n (changes_of es)) x y thing.Nothing (λ same. clash (in_reach s y) i (ap (in_reach s) same ∙ out)))
+apart_alike s n es (MakesDir x mode) out = λ y i. sym (put_other (names_after n (changes_of es)) x y thing.Directory (λ same. clash (in_reach s y) i (ap (in_reach s) same ∙ out)))
 apart_alike s n es _ out = λ y i. refl
 
-pub keyed : (s : LogSet) (x : Path) (k : ℤ) → s.key x ≡ Some k → in_set s x ≡ true
-keyed s x k is = or_right (bytes_eq s.log x) (is_some (s.key x)) (ap is_some is)
+pub keyed : (s : LogSet) (x : Path) (k : ℤ) → s.key x ≡ Some k → in_reach s x ≡ true
+keyed s x k is = keyed_reach s x k is
 
-pub logged : (s : LogSet) → in_set s s.log ≡ true
-logged s = or_left (bytes_eq s.log s.log) (is_some (s.key s.log)) ((bytes_eq-Decides s.log s.log).1 refl)
+pub logged : (s : LogSet) → in_reach s s.log ≡ true
+logged s = unplaced_reach s s.log (inl refl)
 
-from_in : (s : LogSet) (p : Past) (l : ℕ) (n : Names) (from to : Path) → IsStep s p l n (Renames from to) → in_set s from ≡ true
+-- what turns is the log, or what waits aside
+pub turn_from : (s : LogSet) (n : Names) (newest : ℤ) (from to : Path) → IsTurn s n newest from to → in_reach s from ≡ true
+turn_from s n newest from to (straight at_log pt) = unplaced_reach s from (inl at_log)
+turn_from s n newest from to (put_aside at_log a) = unplaced_reach s from (inl at_log)
+turn_from s n newest from to (taken_up a file pt) = unplaced_reach s from (inr a)
+
+-- it goes to a path that the set reaches
+pub turn_to : (s : LogSet) (n : Names) (newest : ℤ) (from to : Path) → IsTurn s n newest from to → in_reach s to ≡ true
+turn_to s n newest from to (straight at_log pt) = keyed s to newest pt
+turn_to s n newest from to (put_aside at_log a) = unplaced_reach s to (inr a)
+turn_to s n newest from to (taken_up a file pt) = keyed s to newest pt
+
+-- the same under names that are alike
+pub turn_as : (s : LogSet) (n n' : Names) (newest : ℤ) (from to : Path) → AreAlike s n n' → IsTurn s n newest from to → IsTurn s n' newest from to
+turn_as s n n' newest from to alike (straight at_log pt) = straight at_log pt
+turn_as s n n' newest from to alike (put_aside at_log a) = put_aside at_log a
+turn_as s n n' newest from to alike (taken_up a file pt) = taken_up a (file.0, sym (alike from (unplaced_reach s from (inr a))) ∙ file.1) pt
+
+from_in : (s : LogSet) (p : Past) (l : ℕ) (n : Names) (from to : Path) → IsStep s p l n (Renames from to) → in_reach s from ≡ true
 from_in s p l n from to (free, inl (k, lt, pf, pt)) = keyed s from (pos k) pf
-from_in s p l n from to (free, inr (at_log, pt)) = ap (in_set s) at_log ∙ logged s
+from_in s p l n from to (free, inr turn) = turn_from s n (pos 0) from to turn
 
 own_alike : (s : LogSet) (p : Past) (l : ℕ) (n : Names) (os es : List Entry) (e : Entry) → IsAside s e ⊎ IsStep s p l (names_after n (changes_of os)) e → AreAlike s (names_after n (changes_of os)) (names_after n (changes_of es))
     → AreAlike s (names_after n (changes_of (e ∷ os))) (names_after n (changes_of (e ∷ es)))
@@ -130,20 +147,21 @@ out_limit None true l p q = absurd (cc)
 out_limit None false l p q = refl
 
 apart_limit : (s : LogSet) (limit : ℕ) (es : List Entry) (e : Entry) → IsApart s e → limit_after s limit (e ∷ es) ≡ limit_after s limit es
-apart_limit s limit es (Renames from to) out = let h = or_parts (bytes_eq s.log from) (is_some (s.key from)) out.0 in out_limit (s.key from) (bytes_eq s.log from) (limit_after s limit es) h.1 h.0
+apart_limit s limit es (Renames from to) out = out_limit (s.key from) (is_unplaced s from) (limit_after s limit es) (reach_keyless s from out.0) (reach_unplaced s from out.0)
 apart_limit s limit es _ out = refl
 
 own_limit : (s : LogSet) (limit : ℕ) (os es : List Entry) (e : Entry) → limit_after s limit os ≡ limit_after s limit es → limit_after s limit (e ∷ os) ≡ limit_after s limit (e ∷ es)
-own_limit s limit os es (Renames from to) same = ap (limit_by (s.key from) (bytes_eq s.log from)) same
+own_limit s limit os es (Renames from to) same = ap (limit_by (s.key from) (is_unplaced s from)) same
 own_limit s limit os es _ same = same
 
 -- ---- a rotation with others between its steps
 
 step_as : (s : LogSet) (p : Past) (l l' : ℕ) (n n' : Names) (e : Entry) → l ≡ l' → AreAlike s n n' → IsStep s p l n e → IsStep s p l' n' e
 step_as s p l l' n n' (Renames from to) same alike (free, inl (k, lt, pf, pt)) = (sym (alike to (keyed s to _ pt)) ∙ free, inl (k, subst (λ m. k < m) same lt, pf, pt))
-step_as s p l l' n n' (Renames from to) same alike (free, inr (at_log, pt)) = (sym (alike to (keyed s to (pos 0) pt)) ∙ free, inr (at_log, pt))
-step_as s p l l' n n' (Unlinks x) same alike (k, pl, inl count) = (k, pl, inl count)
-step_as s p l l' n n' (Unlinks x) same alike (k, pl, inr old) = (k, pl, inr (λ g is. old g (alike x (keyed s x (pos k) pl) ∙ is)))
+step_as s p l l' n n' (Renames from to) same alike (free, inr turn) = (sym (alike to (turn_to s n (pos 0) from to turn)) ∙ free, inr (turn_as s n n' (pos 0) from to alike turn))
+step_as s p l l' n n' (Unlinks x) same alike (inl a) = inl a
+step_as s p l l' n n' (Unlinks x) same alike (inr (k, pl, inl count)) = inr (k, pl, inl count)
+step_as s p l l' n n' (Unlinks x) same alike (inr (k, pl, inr old)) = inr (k, pl, inr (λ g is. old g (alike x (keyed s x (pos k) pl) ∙ is)))
 step_as s p l l' n n' (Makes x mode) same alike st = st
 step_as s p l l' n n' _ same alike st = absurd st
 
@@ -190,7 +208,7 @@ woven s p limit os _ (other {all = es} e (inl out) w) rot fit = more (woven s p 
     n = names (world p)
 
     none_to : (e : Entry) → IsApart s e → (to : Path) → e ≡ Renames s.log to → ⊥
-    none_to e out to is = let o = subst (IsApart s) is out in clash (in_set s s.log) (logged s) o.0
+    none_to e out to is = let o = subst (IsApart s) is out in clash (in_reach s s.log) (logged s) o.0
 
     more : IsWoven s p limit os es → IsWoven s p limit os (e ∷ es)
     more k = record {
