@@ -8,7 +8,7 @@ use Rattle.lr_host.specs.declared.entry.Entry.{Entry}
 use Rattle.lr_host.specs.declared.entry.Entry.TheVariants as entry
 use Rattle.lr_host.specs.declared.entry.Entry.TheVariants.{Renames, Unlinks}
 use Rattle.lr_host.specs.World.{Past, ◌▸◌, world, names, put}
-use Rattle.lr_host.specs.Sets.{LogSet, in_set}
+use Rattle.lr_host.specs.Sets.{LogSet, in_reach}
 use Rattle.lr_host.specs.Steady.{NoneAttached}
 use Rattle.lr_host.specs.Steps.{is_change}
 use Rattle.lr_host.specs.Told.{Each, IsTools, Made, at_first, by_writer, by_tool}
@@ -23,13 +23,13 @@ clash : (b : Bool) → b ≡ true → b ≡ false → ⊥
 clash b p q = cc
 
 -- an entry apart leaves the names of the set alone
-apart_names : (s : LogSet) (q : Past) (e : Entry) (y : Path) → IsTools e → is_change e ≡ true → IsApart s e → in_set s y ≡ true → names (world (q ▸ e)) y ≡ names (world q) y
+apart_names : (s : LogSet) (q : Past) (e : Entry) (y : Path) → IsTools e → is_change e ≡ true → IsApart s e → in_reach s y ≡ true → names (world (q ▸ e)) y ≡ names (world q) y
 apart_names s q (Renames from to) y i c out h =
-    put_other (put (names (world q)) from thing.Nothing) to y (names (world q) from) (λ same. clash (in_set s y) h (ap (in_set s) same ∙ out.1))
-    ∙ put_other (names (world q)) from y thing.Nothing (λ same. clash (in_set s y) h (ap (in_set s) same ∙ out.0))
-apart_names s q (Unlinks x) y i c out h = put_other (names (world q)) x y thing.Nothing (λ same. clash (in_set s y) h (ap (in_set s) same ∙ out))
-apart_names s q (entry.MakesDir x mode) y i c out h = put_other (names (world q)) x y thing.Directory (λ same. clash (in_set s y) h (ap (in_set s) same ∙ out))
-apart_names s q (entry.Makes x mode) y i c out h = put_other (names (world q)) x y (thing.File (world q).drawn) (λ same. clash (in_set s y) h (ap (in_set s) same ∙ out))
+    put_other (put (names (world q)) from thing.Nothing) to y (names (world q) from) (λ same. clash (in_reach s y) h (ap (in_reach s) same ∙ out.1))
+    ∙ put_other (names (world q)) from y thing.Nothing (λ same. clash (in_reach s y) h (ap (in_reach s) same ∙ out.0))
+apart_names s q (Unlinks x) y i c out h = put_other (names (world q)) x y thing.Nothing (λ same. clash (in_reach s y) h (ap (in_reach s) same ∙ out))
+apart_names s q (entry.MakesDir x mode) y i c out h = put_other (names (world q)) x y thing.Directory (λ same. clash (in_reach s y) h (ap (in_reach s) same ∙ out))
+apart_names s q (entry.Makes x mode) y i c out h = put_other (names (world q)) x y (thing.File (world q).drawn) (λ same. clash (in_reach s y) h (ap (in_reach s) same ∙ out))
 apart_names s q (entry.Appends x bytes) y i c out h = refl
 apart_names s q (entry.Truncates x) y i c out h = refl
 apart_names s q (entry.Starts state now rules) y i c out h = absurd out

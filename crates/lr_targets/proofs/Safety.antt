@@ -21,7 +21,7 @@ use Rattle.lr_host.specs.Steps.{is_change}
 use Rattle.lr_host.specs.Opening.{IsJournal}
 use Rattle.lr_host.specs.Released.{ByAge}
 use Rattle.lr_host.specs.Quiet.{IsQuiet, AreQuiet}
-use Rattle.lr_host.specs.Sets.{LogSet, in_set}
+use Rattle.lr_host.specs.Sets.{LogSet, in_reach}
 use Rattle.lr_host.specs.Runs.{rules_of, state_of, SomeRule, has_begun}
 use Rattle.lr_host.specs.Safe.{IsSafe, KeepsSafe}
 use Rattle.lr_host.specs.Steady.{IsSteady, IsSteadyAt, NoneAttached}
@@ -32,7 +32,7 @@ use Rattle.lr_host.proofs.Steady.{steady_before, steady_at, none_attached}
 use Rattle.lr_laws.specs.Rotation.{IsRotation, LogFits}
 use Rattle.lr_laws.specs.Stays.{Rotates}
 use Rattle.lr_laws.proofs.Calls.{rotation_filter, later_rotation}
-use Rattle.lr_laws.proofs.Outside.{in_set_own}
+use Rattle.lr_laws.proofs.Outside.{in_reach_own}
 use Rattle.lr_laws.proofs.Stated.{quiet_safe}
 use Rattle.lr_laws.proofs.Walk.{walk, log_filter}
 use Rattle.lr_family.proofs.Numbers.{every_all}
@@ -83,11 +83,11 @@ true_or_not : (b : Bool) → (b ≡ true) ⊎ (b ≡ false)
 true_or_not true = inl refl
 true_or_not false = inr refl
 
-no_name_out : (s : LogSet) (x : Path) → (IsName s.log s.naming x → ⊥) → in_set s x ≡ false
-no_name_out s x none = ⊎_elim (λ t. absurd (none (inl (in_set_own s x t)))) (λ f. f) (true_or_not (in_set s x))
+no_name_out : (s : LogSet) (x : Path) → (IsName s.log s.naming x → ⊥) → in_reach s x ≡ false
+no_name_out s x none = ⊎_elim (λ t. absurd (none (inl (in_reach_own s x t)))) (λ f. f) (true_or_not (in_reach s x))
 
 module _ (s : LogSet) (state : Path) (now : ℤ) (rules : Rules) (v : Past) (here : Here s state now rules v) where
-  state_out : (x : Path) → IsStatePath state x → in_set s x ≡ false
+  state_out : (x : Path) → IsStatePath state x → in_reach s x ≡ false
   state_out x (inl is) = no_name_out s x (λ n. here.steady.state state here.state_is (subst (IsName s.log s.naming) is n))
   state_out x (inr is) = no_name_out s x (λ n. here.steady.new_state state here.state_is (subst (IsName s.log s.naming) is n))
 
