@@ -21,7 +21,8 @@ use Rattle.lr_stamps.proofs.Members.{joined_same}
 use Rattle.lr_stamps.proofs.StampShapes.{numbered_shape}
 use Rattle.lr_family.specs.Parts.{part_of}
 use Rattle.lr_dated_seen.specs.Family.{IsDatedFamily}
-use Rattle.lr_dated_seen.proofs.Names.{name_of, name_part, longer, field_digits, base_long}
+use Rattle.lr_laws.proofs.PlainStamps.{field_digits}
+use Rattle.lr_dated_seen.proofs.Names.{name_of, name_part, longer, base_long}
 
 -- ---- bytes that are no digits
 

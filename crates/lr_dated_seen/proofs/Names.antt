@@ -1,13 +1,9 @@
 -- The names of dated members: they have no slash, and aren't empty. Each stands in the family's directory.
-use Rattle.std.proofs.Common.{◌≡◌, ◌+◌, ◌-◌, min, take, cond, length-append, inl, inr, ℕ, ℤ, ◌<◌, ◌≤◌, Bool, true, false, ◌&&◌, ◌||◌, refl, sym, ◌∙◌, ap, subst, arith, List, [], ◌∷◌, ◌++◌, length, Option, Some, None, eqb-true, true≢false}
+use Rattle.std.proofs.Common.{◌≡◌, ◌+◌, ◌-◌, min, take, cond, length-append, inl, inr, ℕ, ℤ, ◌<◌, ◌≤◌, Bool, true, false, ◌&&◌, ◌||◌, refl, sym, ◌∙◌, ap, subst, arith, List, [], ◌∷◌, ◌++◌, length, Option, Some, None, true≢false}
 use Rattle.std.specs.List.{list_any, list_all}
-use Rattle.std.proofs.lemmas.Bool.{and_parts, or_parts, or_from, not-true}
+use Rattle.std.proofs.lemmas.Bool.{and_parts, or_parts, or_from}
 use Rattle.std.proofs.lemmas.List.{length-take}
-use Rattle.std.proofs.lemmas.List.Elements.{All-head, All-tail}
-use Rattle.std.proofs.lemmas.List.Folds.{list_all-append}
 use Rattle.lr_rules.specs.declared.path.Path.{Path}
-use Rattle.lr_rules.specs.declared.rule.Field.{Field}
-use Rattle.lr_rules.specs.declared.rule.Field.TheVariants as field
 use Rattle.lr_rules.specs.declared.rule.Format.{Format}
 use Rattle.lr_rules.specs.declared.rule.Naming.{Naming}
 use Rattle.lr_rules.specs.declared.rule.Piece.{Piece}
@@ -15,7 +11,7 @@ use Rattle.lr_rules.specs.declared.rule.Piece.TheVariants as piece
 use Rattle.lr_rules.specs.declared.rule.Rule.{Rule}
 use Rattle.lr_rules.specs.Dated.{IsDatedAt}
 use Rattle.lr_rules.specs.Limits.{is_plain_piece, are_first, is_epoch_alone, is_format, or_none}
-use Rattle.lr_rules.specs.Names.{AreDigits, IsFieldShape, IsStampShape, number_pieces, IsMiddleShape, naming_of, ext_of, base_of, ends_with}
+use Rattle.lr_rules.specs.Names.{IsStampShape, number_pieces, IsMiddleShape, naming_of, ext_of, base_of, ends_with}
 use Rattle.lr_rules.specs.Path.{path_fault, joined, parent_of, last_of, is_bad, is_slash, is_empty}
 use Rattle.lr_rules.proofs.PathLemmas.{parent_joined, last_joined, plain_both}
 use Rattle.lr_stamps.proofs.StampShapes.{numbered_shape}
@@ -25,55 +21,12 @@ use Rattle.lr_host.specs.Opening.{IsJournal}
 use Rattle.lr_host.specs.World.{Past, world, names}
 use Rattle.lr_host.proofs.Looked.{is_nothing, nothing_no_dir}
 use Rattle.lr_laws.specs.Rooted.{IsParted}
+use Rattle.lr_laws.proofs.PlainStamps.{field_some, middle_plain}
 use Rattle.lr_laws.proofs.StandsIn.{stands_in as stands}
 use Rattle.lr_family.specs.Kin.{IsKin, is_barred}
 use Rattle.lr_dated_seen.specs.Family.{IsNoDated}
 
--- ---- digits
-
-abbrev IsDigit : ℕ → Type 0
-IsDigit d = (48 ≤ d) × (d ≤ 57)
-
-no_slash : (d : ℕ) → IsDigit d → is_slash d ≡ false
-no_slash d r = go (is_slash d) refl
-  where
-    go : (b : Bool) → is_slash d ≡ b → b ≡ false
-    go true e = let same : d ≡ 47 = eqb-true d 47 e in let low : 48 ≤ d = r.0 in absurd (omega arith)
-    go false e = refl
-
-digits_plain : (ds : List ℕ) → AreDigits ds → list_any is_slash ds ≡ false
-digits_plain [] h = refl
-digits_plain (d ∷ ds) h = or_from (is_slash d) (list_any is_slash ds) (no_slash d (All-head IsDigit d ds h)) (digits_plain ds (All-tail IsDigit d ds h))
-
-pub field_digits : (f : Field) (ds : List ℕ) → IsFieldShape f ds → AreDigits ds
-field_digits field.Year ds h = h.1
-field_digits field.Epoch ds h = h.1
-field_digits field.Month ds h = h.1
-field_digits field.Day ds h = h.1
-field_digits field.Hour ds h = h.1
-field_digits field.Minute ds h = h.1
-field_digits field.Second ds h = h.1
-
-field_some : (f : Field) (ds : List ℕ) → IsFieldShape f ds → 0 < length ds
-field_some field.Year ds h = let l : length ds ≡ 4 = h.0 in omega arith
-field_some field.Epoch ds h = h.0
-field_some field.Month ds h = let l : length ds ≡ 2 = h.0 in omega arith
-field_some field.Day ds h = let l : length ds ≡ 2 = h.0 in omega arith
-field_some field.Hour ds h = let l : length ds ≡ 2 = h.0 in omega arith
-field_some field.Minute ds h = let l : length ds ≡ 2 = h.0 in omega arith
-field_some field.Second ds h = let l : length ds ≡ 2 = h.0 in omega arith
-
 -- ---- shapes of stamps
-
-byte_plain : (b : ℕ) → is_plain_piece (piece.Byte b) ≡ true → is_slash b ≡ false
-byte_plain b h = (or_parts (is_slash b) (is_bad b) (or_parts _ (is_slash b || is_bad b) (not-true _ h)).1).0
-
-shape_plain : (ps : List Piece) (w : List ℕ) → list_all is_plain_piece ps ≡ true → IsStampShape ps w → list_any is_slash w ≡ false
-shape_plain [] w good h = ap (list_any is_slash) h
-shape_plain (piece.Byte b ∷ ps) w good h =
-    let g = and_parts (is_plain_piece (piece.Byte b)) (list_all is_plain_piece ps) good in
-    ap (list_any is_slash) h.1 ∙ or_from (is_slash b) (list_any is_slash h.0) (byte_plain b g.0) (shape_plain ps h.0 g.1 h.2)
-shape_plain (piece.Field f ∷ ps) w good h = ap (list_any is_slash) h.2 ∙ plain_both h.0 h.1 (digits_plain h.0 (field_digits f h.0 h.3)) (shape_plain ps h.1 good h.4)
 
 left_some : (xs ys : List ℕ) → is_empty xs ≡ false → is_empty (xs ++ ys) ≡ false
 left_some [] ys h = absurd (cc h)
@@ -94,9 +47,6 @@ shape_some (piece.Field f ∷ ps) w some h = ap is_empty h.2 ∙ left_some h.0 h
 
 -- ---- formats within their limits
 
-pieces_plain : (f : Format) → is_format f ≡ true → list_all is_plain_piece f.pieces ≡ true
-pieces_plain f good = (and_parts (list_all is_plain_piece f.pieces) _ good).0
-
 pieces_some : (f : Format) → is_format f ≡ true → f.pieces ≡ [] → ⊥
 pieces_some f good none =
     let a = (and_parts (list_all is_plain_piece f.pieces) _ good).1 in
@@ -107,10 +57,6 @@ pieces_some f good none =
 more_some : (ps qs : List Piece) → (ps ≡ [] → ⊥) → ps ++ qs ≡ [] → ⊥
 more_some [] qs some e = some refl
 more_some (p ∷ ps) qs some e = cc
-
-middle_plain : (f : Format) (w : List ℕ) → is_format f ≡ true → IsMiddleShape (Some f) w → list_any is_slash w ≡ false
-middle_plain f w good (inl h) = shape_plain f.pieces w (pieces_plain f good) h
-middle_plain f w good (inr h) = shape_plain (f.pieces ++ number_pieces) w (list_all-append is_plain_piece f.pieces number_pieces ∙ ap (λ b. b && true) (pieces_plain f good)) h.1
 
 pub middle_some : (f : Format) (w : List ℕ) → is_format f ≡ true → IsMiddleShape (Some f) w → is_empty w ≡ false
 middle_some f w good (inl h) = shape_some f.pieces w (pieces_some f good) h
