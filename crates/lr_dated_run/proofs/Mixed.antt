@@ -10,10 +10,10 @@ use Rattle.lr_rules.specs.Names.{IsOwnName, the_log, IsName, Meet}
 use Rattle.lr_host.specs.declared.entry.Entry.{Entry}
 use Rattle.lr_host.specs.declared.entry.Entry.TheVariants as entry
 use Rattle.lr_host.specs.Lists.{IsIn}
-use Rattle.lr_host.specs.Sets.{LogSet, in_set}
+use Rattle.lr_host.specs.Sets.{LogSet, in_reach}
 use Rattle.lr_host.proofs.Lists.{in_append}
 use Rattle.lr_laws.specs.Follow.{changed_paths}
-use Rattle.lr_laws.proofs.Outside.{in_set_own, no_name_elsewhere, apart_outside}
+use Rattle.lr_laws.proofs.Outside.{in_reach_own, no_name_elsewhere, apart_outside}
 use Rattle.lr_copy.specs.declared.job.Job.{Job}
 use Rattle.lr_targets.specs.AllTurns.{IsStatePath, IsOfState, IsItsDir, AlsoDoes, IsOf, IsOfOther, StandsBetween, part_paths, dir_paths, paths_of, paths_of_others, other_paths}
 use Rattle.lr_rotations.specs.Members.{IsFamily, IsNoMember}
@@ -36,7 +36,7 @@ any_change t e (inr h) i = dated_change t e h i
 -- ---- beside a set
 
 -- a change at paths outside of the set lies beside it
-out_beside : (s : LogSet) (e : Entry) → IsFileChange e → ((x : Path) → IsIn x (changed_paths e) → in_set s x ≡ false) → LiesBeside s e
+out_beside : (s : LogSet) (e : Entry) → IsFileChange e → ((x : Path) → IsIn x (changed_paths e) → in_reach s x ≡ false) → LiesBeside s e
 out_beside s (entry.Renames from to) c out = ((out from (inl refl), out to (inr (inl refl))), tt)
 out_beside s (entry.Unlinks x) c out = (out x (inl refl), tt)
 out_beside s (entry.Makes x mode) c out = (out x (inl refl), tt)
@@ -49,15 +49,15 @@ pub any_beside : (s : LogSet) (t : Target) (e : Entry) → HasAnyNames t → (Me
 any_beside s t e h not i = out_beside s e (own_turns t e i) (λ x j. apart_outside s t.log t.naming x not (any_change t e h i x j))
 
 -- what is none of the set's own names lies outside of it
-no_own_out : (s : LogSet) (x : Path) → (IsOwnName s.log s.naming x → ⊥) → in_set s x ≡ false
-no_own_out s x none = go (in_set s x) refl
+no_own_out : (s : LogSet) (x : Path) → (IsOwnName s.log s.naming x → ⊥) → in_reach s x ≡ false
+no_own_out s x none = go (in_reach s x) refl
   where
-    go : (b : Bool) → in_set s x ≡ b → in_set s x ≡ false
-    go true e = absurd (none (in_set_own s x e))
+    go : (b : Bool) → in_reach s x ≡ b → in_reach s x ≡ false
+    go true e = absurd (none (in_reach_own s x e))
     go false e = e
 
 -- such is the directory of the set's own log
-own_dir_out : (s : LogSet) (t : Target) (x : Path) → t.log ≡ s.log → t.naming ≡ s.naming → HasDir t → IsItsDir t x → in_set s x ≡ false
+own_dir_out : (s : LogSet) (t : Target) (x : Path) → t.log ≡ s.log → t.naming ≡ s.naming → HasDir t → IsItsDir t x → in_reach s x ≡ false
 own_dir_out s t x log_is naming_is h d = no_own_out s x (λ own. (h x d.0 d.1).1 (subst (λ (l : Path). IsOwnName l t.naming x) (sym log_is) (subst (λ (n : Naming). IsOwnName s.log n x) (sym naming_is) own)))
 
 no_job : (j : Option Job) (job : Job) → j ≡ Some job → j ≡ None → ⊥
@@ -72,11 +72,11 @@ also_beside s t (entry.Appends x bytes) log_is naming_is h none p = absurd (no_j
 also_beside s t (entry.Truncates x) log_is naming_is h none p = absurd (no_job t.job p.0.0 p.0.1 none)
 also_beside s t _ log_is naming_is h none p = absurd p
 
-no_name_out : (s : LogSet) (x : Path) → (IsName s.log s.naming x → ⊥) → in_set s x ≡ false
+no_name_out : (s : LogSet) (x : Path) → (IsName s.log s.naming x → ⊥) → in_reach s x ≡ false
 no_name_out s x none = no_name_elsewhere s (entry.Unlinks x) (All-cons (λ y. IsName s.log s.naming y → ⊥) x [] none (All-nil (λ y. IsName s.log s.naming y → ⊥)))
 
 module _ (s : LogSet) (state : Path) (no_state : IsName s.log s.naming state → ⊥) (no_part : IsName s.log s.naming (state ++ codes ".tmp") → ⊥) where
-  state_out : (x : Path) → IsStatePath state x → in_set s x ≡ false
+  state_out : (x : Path) → IsStatePath state x → in_reach s x ≡ false
   state_out x (inl is) = no_name_out s x (λ h. no_state (subst (IsName s.log s.naming) is h))
   state_out x (inr is) = no_name_out s x (λ h. no_part (subst (IsName s.log s.naming) is h))
 

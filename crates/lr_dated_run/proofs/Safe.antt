@@ -1,5 +1,5 @@
 -- The set of a dated log stays safe over its rotation, with others between its steps.
-use Rattle.std.proofs.Common.{◌≡◌, ◌⊎◌, inl, ℕ, ℤ, Bool, true, false, cond, ◌||◌, bytes_eq, refl, sym, ◌∙◌, ap, subst, List, [], ◌∷◌, ◌++◌, map, reverse, Option}
+use Rattle.std.proofs.Common.{◌≡◌, ◌⊎◌, inl, ℕ, ℤ, Bool, true, false, cond, ◌||◌, is_some, refl, sym, ◌∙◌, ap, subst, List, [], ◌∷◌, ◌++◌, map, reverse, Option}
 use Rattle.std.specs.Prelude.{filter}
 use Rattle.std.proofs.lemmas.List.{reverse-append, reverse-reverse}
 use Rattle.lr_rules.specs.declared.clock.Clock.{Clock}
@@ -51,7 +51,7 @@ turned_filter s [] = refl
 turned_filter s (e ∷ es) = go (is_change e) refl (turned_filter s es)
   where
     over : (e : Entry) → has_turned s (filter is_change es) ≡ has_turned s es → has_turned s (e ∷ filter is_change es) ≡ has_turned s (e ∷ es)
-    over (entry.Renames from to) r = ap (λ (b : Bool). bytes_eq s.log from || b) r
+    over (entry.Renames from to) r = ap (λ (b : Bool). is_some (s.key to) || b) r
     over _ r = r
 
     passed : (e : Entry) → is_change e ≡ false → has_turned s (e ∷ es) ≡ has_turned s es

@@ -1,5 +1,5 @@
 -- The steps of a dated rotation, with others between.
-use Rattle.std.proofs.Common.{◌≡◌, ◌⊎◌, inl, inr, Bool, true, false, ◌||◌, refl, sym, ◌∙◌, ap, subst, bytes_eq, List, [], ◌∷◌, ℤ}
+use Rattle.std.proofs.Common.{◌≡◌, ◌⊎◌, inl, inr, Bool, true, false, ◌||◌, refl, sym, ◌∙◌, ap, subst, is_some, List, [], ◌∷◌, ℤ}
 use Rattle.lr_rules.specs.declared.path.Path.{Path}
 use Rattle.lr_host.specs.declared.thing.Thing.TheVariants as thing
 use Rattle.lr_host.specs.declared.entry.Entry.{Entry}
@@ -7,13 +7,13 @@ use Rattle.lr_host.specs.declared.entry.Entry.TheVariants as entry
 use Rattle.lr_host.specs.declared.entry.Entry.TheVariants.{Renames, Unlinks, Makes, MakesDir}
 use Rattle.lr_host.specs.World.{Names, put, names_after, Past, world, names}
 use Rattle.lr_host.specs.Steps.{changes_of}
-use Rattle.lr_host.specs.Sets.{LogSet, in_set, AreLaterMembers}
+use Rattle.lr_host.specs.Sets.{LogSet, in_reach, AreLaterMembers}
 use Rattle.lr_laws.specs.Rotation.{IsAside, LogFits}
 use Rattle.lr_dated.specs.Rotation.{has_turned, IsDatedStep, IsDatedRotation}
 use Rattle.lr_dated.proofs.Aside.{aside_turned}
 use Rattle.lr_rotations.specs.Rotated.{MakesAt}
 use Rattle.lr_rotations.specs.Weave.{Weave, none, own, other}
-use Rattle.lr_rotations.proofs.Weaving.{both_put, keyed, logged, IsApart, IsApartOrMakes, apart_aside, apart_alike}
+use Rattle.lr_rotations.proofs.Weaving.{both_put, AreAlike, keyed, logged, turn_from, turn_to, turn_as, IsApart, IsApartOrMakes, apart_aside, apart_alike}
 use Rattle.lr_dated_run.specs.Beside.{MakesNoDir, IsBesideSet}
 
 -- ---- entries beside the set
@@ -39,10 +39,7 @@ beside_apart s e (inr anew) = inr anew
 
 -- ---- the names of the set, under its own steps alone and under all
 
-abbrev AreAlike : LogSet → Names → Names → Type 0
-AreAlike s n n' = (y : Path) → in_set s y ≡ true → n y ≡ n' y
-
-renames_alike : (s : LogSet) (n n' : Names) (from to : Path) → in_set s from ≡ true → AreAlike s n n' → AreAlike s (put (put n from thing.Nothing) to (n from)) (put (put n' from thing.Nothing) to (n' from))
+renames_alike : (s : LogSet) (n n' : Names) (from to : Path) → in_reach s from ≡ true → AreAlike s n n' → AreAlike s (put (put n from thing.Nothing) to (n from)) (put (put n' from thing.Nothing) to (n' from))
 renames_alike s n n' from to inside alike = λ y i.
     both_put to y (n from) (n' from) (put n from thing.Nothing) (put n' from thing.Nothing) (alike from inside) (both_put from y thing.Nothing thing.Nothing n n' refl (alike y i))
 
@@ -50,15 +47,15 @@ own_alike : (s : LogSet) (p : Past) (newest : ℤ) (n : Names) (b : Bool) (os es
     → AreAlike s (names_after n (changes_of (e ∷ os))) (names_after n (changes_of (e ∷ es)))
 own_alike s p newest n b os es (Renames from to) (inl out) alike = λ y i.
     sym (apart_alike s n os (Renames from to) out y i) ∙ (alike y i ∙ apart_alike s n es (Renames from to) out y i)
-own_alike s p newest n b os es (Renames from to) (inr st) alike = renames_alike s (names_after n (changes_of os)) (names_after n (changes_of es)) from to (ap (in_set s) st.1 ∙ logged s) alike
+own_alike s p newest n b os es (Renames from to) (inr st) alike = renames_alike s (names_after n (changes_of os)) (names_after n (changes_of es)) from to (turn_from s (names_after n (changes_of os)) newest from to st.2) alike
 own_alike s p newest n b os es (Unlinks x) st alike = λ y i. both_put x y thing.Nothing thing.Nothing (names_after n (changes_of os)) (names_after n (changes_of es)) refl (alike y i)
 own_alike s p newest n b os es (MakesDir x mode) st alike = λ y i. both_put x y thing.Directory thing.Directory (names_after n (changes_of os)) (names_after n (changes_of es)) refl (alike y i)
 own_alike s p newest n b os es _ st alike = alike
 
--- ---- whether the log was renamed
+-- ---- whether a member got a file
 
 own_turned : (s : LogSet) (os es : List Entry) (e : Entry) → has_turned s os ≡ has_turned s es → has_turned s (e ∷ os) ≡ has_turned s (e ∷ es)
-own_turned s os es (Renames from to) same = ap (λ (b : Bool). bytes_eq s.log from || b) same
+own_turned s os es (Renames from to) same = ap (λ (b : Bool). is_some (s.key to) || b) same
 own_turned s os es _ same = same
 
 -- ---- a rotation with others between its steps
@@ -68,14 +65,15 @@ later_alike s n n' t [] alike h = tt
 later_alike s n n' t (y ∷ ys) alike h = (((h.0.0.0, sym (alike y (keyed s y h.0.1.0 h.0.1.1)) ∙ h.0.0.1), h.0.1), later_alike s n n' t ys alike h.1)
 
 step_as : (s : LogSet) (p : Past) (newest : ℤ) (b b' : Bool) (n n' : Names) (e : Entry) → b ≡ b' → AreAlike s n n' → IsDatedStep s p newest n b e → IsDatedStep s p newest n' b' e
-step_as s p newest b b' n n' (Renames from to) same alike (unturned, at_log, at_newest, free) = (sym same ∙ unturned, at_log, at_newest, sym (alike to (keyed s to newest at_newest)) ∙ free)
-step_as s p newest b b' n n' (Unlinks x) same alike (turned, k, is, inl l) = (
+step_as s p newest b b' n n' (Renames from to) same alike (unturned, free, turn) = (sym same ∙ unturned, sym (alike to (turn_to s n newest from to turn)) ∙ free, turn_as s n n' newest from to alike turn)
+step_as s p newest b b' n n' (Unlinks x) same alike (inl a) = inl a
+step_as s p newest b b' n n' (Unlinks x) same alike (inr (turned, k, is, inl l)) = inr (
   sym same ∙ turned,
   k,
   is,
   inl (record { count = l.count; rule = l.rule; later = l.later; distinct = l.distinct; each = later_alike s n n' k l.later alike l.each; enough = l.enough }),
 )
-step_as s p newest b b' n n' (Unlinks x) same alike (turned, k, is, inr old) = (sym same ∙ turned, k, is, inr (λ g names_it. old g (alike x (keyed s x k is) ∙ names_it)))
+step_as s p newest b b' n n' (Unlinks x) same alike (inr (turned, k, is, inr old)) = inr (sym same ∙ turned, k, is, inr (λ g names_it. old g (alike x (keyed s x k is) ∙ names_it)))
 step_as s p newest b b' n n' (Makes x mode) same alike st = st
 step_as s p newest b b' n n' _ same alike st = absurd st
 
@@ -92,7 +90,7 @@ anew_more s p newest os es _ is k = absurd is
 
 -- what lies apart renames no log
 none_to : (s : LogSet) (e : Entry) → IsApart s e → (to : Path) → e ≡ Renames s.log to → ⊥
-none_to s e out to is = clash (in_set s s.log) (logged s) (subst (IsApart s) is out).0
+none_to s e out to is = clash (in_reach s s.log) (logged s) (subst (IsApart s) is out).0
   where
     clash : (b : Bool) → b ≡ true → b ≡ false → ⊥
     clash b p q = cc
@@ -101,7 +99,7 @@ apart_more : (s : LogSet) (p : Past) (newest : ℤ) (os es : List Entry) (e : En
 apart_more s p newest os es e out k = record {
   rotation = (k.rotation, inl (apart_aside s e out));
   fits = (k.fits, λ to is. absurd (none_to s e out to is));
-  turned = k.turned ∙ sym (aside_turned s e es (apart_aside s e out));
+  turned = k.turned ∙ sym (aside_turned s false e es (apart_aside s e out));
   alike = λ y i. k.alike y i ∙ apart_alike s (names (world p)) es e out y i;
 }
 
