@@ -24,7 +24,7 @@ use Rattle.lr_durable.proofs.Leaving.{Lasts, stands_made}
 use Rattle.lr_durable.proofs.Lists.{middle, at}
 use Rattle.lr_durable.proofs.Parts.{named_drawn, held_drawn, IsOwn, own_filled, own_waits, own_sync, own_walk}
 use Rattle.lr_durable.proofs.Syncs.{synced_durable}
-use Rattle.lr_durable.proofs.Walks.{IsSafeFile, NamesNone, made_drawn, stands_now, left_since, left_of, calm_walk, safe_walk}
+use Rattle.lr_durable.proofs.Walks.{IsSafeFile, NamesNone, left_drawn, stands_now, left_since, left_of, calm_walk, safe_walk}
 
 -- ---- the file
 
@@ -130,11 +130,12 @@ sync_of dir (d ∷ dirs) (inl e) = record { before = []; after = map entry.Syncs
 sync_of dir (d ∷ dirs) (inr i) = let r = sync_of dir dirs i in record { before = entry.SyncsDir d ∷ r.before; after = r.after; ss_are = ap (λ es. entry.SyncsDir d ∷ es) r.ss_are; calm = r.calm }
 
 -- what was left in a directory that was synced since stands there, whatever a cut leaves
-stands_behind : (P : Path → Type 0) (p z q : Past) (xs ys : List Entry) (x : Path) (t : Thing) (dir : Path) → Made p (reverse xs) z → Made (z ▸ entry.SyncsDir dir) (reverse ys) q → AttachedOnlySince P (z ▸ entry.SyncsDir dir) q → Each NamesNone ys → parent_of x ≡ dir → LeftAs p x t q → Made z (entry.SyncsDir dir ∷ []) (z ▸ entry.SyncsDir dir) → Lasts (λ n. StandsAs (world p).drawn t (n x)) q
-stands_behind P p z q xs ys x t dir first second only calm e l one =
-    calm_walk P (world p).drawn (λ n. StandsAs (world p).drawn t (n x)) (z ▸ entry.SyncsDir dir) q (reverse ys) (λ m y f at none le h. stands_made (world p).drawn f t m y x none le h) second only (each_reverse NamesNone ys calm)
-    (made_drawn p z (reverse xs) first)
-    (λ n undone leaves. subst (λ (u : Thing). StandsAs (world p).drawn t u) (sym (synced_durable z dir x e n undone leaves)) (stands_now p z (reverse xs) x t first (left_since p z q (reverse ys ++ entry.SyncsDir dir ∷ []) x t (made_on z (z ▸ entry.SyncsDir dir) q (entry.SyncsDir dir ∷ []) (reverse ys) one second) (each_append NamesNone (reverse ys) (entry.SyncsDir dir ∷ []) (each_reverse NamesNone ys calm) (refl, tt)) l)))
+stands_behind : (P : Path → Type 0) (p z q : Past) (xs ys : List Entry) (x : Path) (t : Thing) (d : ℕ) (dir : Path) → Made p (reverse xs) z → Made (z ▸ entry.SyncsDir dir) (reverse ys) q → AttachedOnlySince P (z ▸ entry.SyncsDir dir) q → Each NamesNone ys → parent_of x ≡ dir → LeftAs p x t d q → Made z (entry.SyncsDir dir ∷ []) (z ▸ entry.SyncsDir dir) → Lasts (λ n. StandsAs d t (n x)) q
+stands_behind P p z q xs ys x t d dir first second only calm e l one =
+    let earlier : LeftAs p x t d z = left_since p z q (reverse ys ++ entry.SyncsDir dir ∷ []) x t d (made_on z (z ▸ entry.SyncsDir dir) q (entry.SyncsDir dir ∷ []) (reverse ys) one second) (each_append NamesNone (reverse ys) (entry.SyncsDir dir ∷ []) (each_reverse NamesNone ys calm) (refl, tt)) l in
+    calm_walk P d (λ n. StandsAs d t (n x)) (z ▸ entry.SyncsDir dir) q (reverse ys) (λ m y f at none le h. stands_made d f t m y x none le h) second only (each_reverse NamesNone ys calm)
+    (left_drawn p z (reverse xs) x t d first earlier)
+    (λ n undone leaves. subst (λ (u : Thing). StandsAs d t u) (sym (synced_durable z dir x e n undone leaves)) (stands_now p z (reverse xs) x t d first earlier))
 
 within_filling : (part : Path) (mode : Option ℕ) (pieces : List (List ℕ)) (dirs : List Path) → Each (IsWithin part dirs) (filling part mode pieces dirs)
 within_filling part mode pieces dirs = ((λ x i. ⊎_elim (λ e. inl (sym e)) (λ n. absurd n) i), each_append (IsWithin part dirs) (map (entry.Appends part) pieces) (entry.SyncsFile part ∷ map entry.SyncsDir dirs) (appends pieces) ((λ x i. absurd i), each_map (IsWithin part dirs) entry.SyncsDir dirs (λ d x i. absurd i)))
@@ -144,9 +145,9 @@ within_filling part mode pieces dirs = ((λ x i. ⊎_elim (λ e. inl (sym e)) (�
 
 -- Just before the part file gets the state's path, each path but its own stands as it was left, whatever a cut leaves.
 pub all_stand : (P : Path → Type 0) (part : Path) (dirs : List Path) (front : List Entry) (mode : Option ℕ) (pieces : List (List ℕ)) (p q : Past) → Made p (reverse (front ++ filling part mode pieces dirs)) q → AttachedOnlySince P p q → Each (IsWithin part dirs) front
-    → (x : Path) (t : Thing) → LeftAs p x t q → x ≢ part → Lasts (λ n. StandsAs (world p).drawn t (n x)) q
-all_stand P part dirs front mode pieces p q m only within x t l other = ⊎_elim (λ e. absurd (other e)) (λ i. go (sync_of (parent_of x) dirs i))
-    (left_of (λ y. (y ≡ part) ⊎ IsIn (parent_of y) dirs) p q (reverse ts) x t m (each_reverse (IsWithin part dirs) ts (each_append (IsWithin part dirs) front (filling part mode pieces dirs) within (within_filling part mode pieces dirs))) l)
+    → (x : Path) (t : Thing) (d : ℕ) → LeftAs p x t d q → x ≢ part → Lasts (λ n. StandsAs d t (n x)) q
+all_stand P part dirs front mode pieces p q m only within x t d l other = ⊎_elim (λ e. absurd (other e)) (λ i. go (sync_of (parent_of x) dirs i))
+    (left_of (λ y. (y ≡ part) ⊎ IsIn (parent_of y) dirs) p q (reverse ts) x t d m (each_reverse (IsWithin part dirs) ts (each_append (IsWithin part dirs) front (filling part mode pieces dirs) within (within_filling part mode pieces dirs))) l)
   where
     ts : List Entry
     ts = front ++ filling part mode pieces dirs
@@ -158,8 +159,8 @@ all_stand P part dirs front mode pieces p q m only within x t l other = ⊎_elim
     in_order : (ss : List Entry) → front ++ (entry.Makes part mode ∷ (map (entry.Appends part) pieces ++ (entry.SyncsFile part ∷ ss))) ≡ firsts ++ ss
     in_order ss = ap (λ es. front ++ (entry.Makes part mode ∷ es)) (sym (append_assoc (map (entry.Appends part) pieces) (entry.SyncsFile part ∷ []) ss)) ∙ sym (append_assoc front (entry.Makes part mode ∷ (map (entry.Appends part) pieces ++ entry.SyncsFile part ∷ [])) ss)
 
-    go : IsSync (parent_of x) (map entry.SyncsDir dirs) → Lasts (λ n. StandsAs (world p).drawn t (n x)) q
+    go : IsSync (parent_of x) (map entry.SyncsDir dirs) → Lasts (λ n. StandsAs d t (n x)) q
     go s =
         let same = in_order (map entry.SyncsDir dirs) ∙ (ap (λ ss. firsts ++ ss) s.ss_are ∙ sym (append_assoc firsts s.before (entry.SyncsDir (parent_of x) ∷ s.after))) in
         let a = at P p q (firsts ++ s.before) (entry.SyncsDir (parent_of x)) s.after tt (subst (λ (es : List Entry). Made p (reverse es) q) same m) only in
-        stands_behind P p a.mid q (firsts ++ s.before) s.after x t (parent_of x) a.first a.second a.only_second s.calm refl l (by_tool at_first tt a.fits)
+        stands_behind P p a.mid q (firsts ++ s.before) s.after x t d (parent_of x) a.first a.second a.only_second s.calm refl l (by_tool at_first tt a.fits)

@@ -48,29 +48,29 @@ tool_same q (entry.Attach v y at) x i n = absurd i
 tool_same q (entry.Cut kept lengths) x i n = absurd i
 tool_same q _ x i n = refl
 
-pub data LeftLast (p : Past) (x : Path) (t : Thing) (q : Past) (e : Entry) : Type 0 where
-  now_left : IsIn x (renamed_paths e) → names (world (q ▸ e)) x ≡ t → LeftLast p x t q e
-  left_before : LeftAs p x t q → (IsIn x (renamed_paths e) → ⊥) → LeftLast p x t q e
+pub data LeftLast (p : Past) (x : Path) (t : Thing) (d : ℕ) (q : Past) (e : Entry) : Type 0 where
+  now_left : IsIn x (renamed_paths e) → names (world (q ▸ e)) x ≡ t → (world (q ▸ e)).drawn ≡ d → LeftLast p x t d q e
+  left_before : LeftAs p x t d q → (IsIn x (renamed_paths e) → ⊥) → LeftLast p x t d q e
 
-pub left_last : (p : Past) (x : Path) (t : Thing) (r q : Past) (e : Entry) → LeftAs p x t r → r ≡ q ▸ e → LeftLast p x t q e
-left_last p x t _ q e (by_last {q = r} {e = d} i n is) same = now_left (subst (λ (d : Entry). IsIn x (renamed_paths d)) last n) (ap (λ (v : Past). names (world v) x) (sym same) ∙ is)
+pub left_last : (p : Past) (x : Path) (t : Thing) (d : ℕ) (r q : Past) (e : Entry) → LeftAs p x t d r → r ≡ q ▸ e → LeftLast p x t d q e
+left_last p x t d _ q e (by_last {q = r} {e = f} i n is drawn) same = now_left (subst (λ (g : Entry). IsIn x (renamed_paths g)) last n) (ap (λ (v : Past). names (world v) x) (sym same) ∙ is) (ap (λ (v : Past). (world v).drawn) (sym same) ∙ drawn)
   where
-    last : d ≡ e
+    last : f ≡ e
     last = cc
-left_last p x t _ q e (still {q = r} {e = d} l n) same = left_before (subst (LeftAs p x t) first l) (subst (λ (d : Entry). IsIn x (renamed_paths d) → ⊥) last n)
+left_last p x t d _ q e (still {q = r} {e = f} l n) same = left_before (subst (LeftAs p x t d) first l) (subst (λ (g : Entry). IsIn x (renamed_paths g) → ⊥) last n)
   where
     first : r ≡ q
     first = cc
 
-    last : d ≡ e
+    last : f ≡ e
     last = cc
 
-left_longer : (p : Past) (x : Path) (t : Thing) (q : Past) → LeftAs p x t q → size p < size q
-left_longer p x t _ (by_last {q = q} i n is) = let r = prefix_size p q i in omega arith
-left_longer p x t _ (still {q = q} l n) = let r = left_longer p x t q l in omega arith
+left_longer : (p : Past) (x : Path) (t : Thing) (d : ℕ) (q : Past) → LeftAs p x t d q → size p < size q
+left_longer p x t d _ (by_last {q = q} i n is drawn) = let r = prefix_size p q i in omega arith
+left_longer p x t d _ (still {q = q} l n) = let r = left_longer p x t d q l in omega arith
 
-never_left : (p : Past) (x : Path) (t : Thing) → LeftAs p x t p → ⊥
-never_left p x t l = absurd (let r = left_longer p x t p l in omega (arith, r))
+never_left : (p : Past) (x : Path) (t : Thing) (d : ℕ) → LeftAs p x t d p → ⊥
+never_left p x t d l = absurd (let r = left_longer p x t d p l in omega (arith, r))
 
 -- what was left stands, but for files that were made
 wrote_stands : (q : Past) (e : Entry) (x : Path) (d : ℕ) (t : Thing) → IsWriters e → d ≤ (world q).drawn → StandsAs d t (names (world q) x) → StandsAs d t (names (world (q ▸ e)) x)
@@ -80,18 +80,32 @@ wrote_stands q (entry.Flush v) x d t i le h = h
 wrote_stands q (entry.Detach v) x d t i le h = h
 wrote_stands q _ x d t i le h = absurd i
 
-pub stands_now : (p q : Past) (es : List Entry) (x : Path) (t : Thing) → Made p es q → LeftAs p x t q → StandsAs (world p).drawn t (names (world q) x)
-stands_now p _ _ x t at_first l = absurd (never_left p x t l)
-stands_now p _ es x t (by_writer {q = q} {e = e} m i f) l = go (λ l. stands_now p q es x t m l) (left_last p x t (q ▸ e) q e l refl)
+-- no more were drawn by then than by now
+pub left_drawn : (p q : Past) (es : List Entry) (x : Path) (t : Thing) (d : ℕ) → Made p es q → LeftAs p x t d q → d ≤ (world q).drawn
+left_drawn p _ _ x t d at_first l = absurd (never_left p x t d l)
+left_drawn p _ es x t d (by_writer {q = q} {e = e} m i f) l = go (λ l. left_drawn p q es x t d m l) (left_last p x t d (q ▸ e) q e l refl)
   where
-    go : (LeftAs p x t q → StandsAs (world p).drawn t (names (world q) x)) → LeftLast p x t q e → StandsAs (world p).drawn t (names (world (q ▸ e)) x)
-    go rest (now_left n is) = absurd (none_written e x i n)
-    go rest (left_before k n) = wrote_stands q e x (world p).drawn t i (made_drawn p q es m) (rest k)
-stands_now p _ _ x t (by_tool {es = es} {q = q} {e = e} m i f) l = go (λ l. stands_now p q es x t m l) (left_last p x t (q ▸ e) q e l refl)
+    go : (LeftAs p x t d q → d ≤ (world q).drawn) → LeftLast p x t d q e → d ≤ (world (q ▸ e)).drawn
+    go rest (now_left n is drawn) = absurd (none_written e x i n)
+    go rest (left_before k n) = let r = rest k in let s = drawn_grows (world q) (step (world q) e) in omega (arith, r, s)
+left_drawn p _ _ x t d (by_tool {es = es} {q = q} {e = e} m i f) l = go (λ l. left_drawn p q es x t d m l) (left_last p x t d (q ▸ e) q e l refl)
   where
-    go : (LeftAs p x t q → StandsAs (world p).drawn t (names (world q) x)) → LeftLast p x t q e → StandsAs (world p).drawn t (names (world (q ▸ e)) x)
-    go rest (now_left n is) = inl is
-    go rest (left_before k n) = subst (λ (u : Thing). StandsAs (world p).drawn t u) (sym (tool_same q e x i n)) (rest k)
+    go : (LeftAs p x t d q → d ≤ (world q).drawn) → LeftLast p x t d q e → d ≤ (world (q ▸ e)).drawn
+    go rest (now_left n is drawn) = omega (arith, drawn)
+    go rest (left_before k n) = let r = rest k in let s = drawn_grows (world q) (step (world q) e) in omega (arith, r, s)
+
+pub stands_now : (p q : Past) (es : List Entry) (x : Path) (t : Thing) (d : ℕ) → Made p es q → LeftAs p x t d q → StandsAs d t (names (world q) x)
+stands_now p _ _ x t d at_first l = absurd (never_left p x t d l)
+stands_now p _ es x t d (by_writer {q = q} {e = e} m i f) l = go (λ l. stands_now p q es x t d m l) (left_last p x t d (q ▸ e) q e l refl)
+  where
+    go : (LeftAs p x t d q → StandsAs d t (names (world q) x)) → LeftLast p x t d q e → StandsAs d t (names (world (q ▸ e)) x)
+    go rest (now_left n is drawn) = absurd (none_written e x i n)
+    go rest (left_before k n) = wrote_stands q e x d t i (left_drawn p q es x t d m k) (rest k)
+stands_now p _ _ x t d (by_tool {es = es} {q = q} {e = e} m i f) l = go (λ l. stands_now p q es x t d m l) (left_last p x t d (q ▸ e) q e l refl)
+  where
+    go : (LeftAs p x t d q → StandsAs d t (names (world q) x)) → LeftLast p x t d q e → StandsAs d t (names (world (q ▸ e)) x)
+    go rest (now_left n is drawn) = inl is
+    go rest (left_before k n) = subst (λ (u : Thing). StandsAs d t u) (sym (tool_same q e x i n)) (rest k)
 
 -- the entry changes no name
 abbrev pub NamesNone : Entry → Type 0
@@ -108,31 +122,31 @@ calm_entry x (entry.Truncates y) h = absurd (cc)
 calm_entry x _ h = (tt, refl)
 
 -- it was left so before entries that change no name
-pub left_since : (p r q : Past) (es : List Entry) (x : Path) (t : Thing) → Made r es q → Each NamesNone es → LeftAs p x t q → LeftAs p x t r
-left_since p r _ _ x t at_first a l = l
-left_since p r _ es x t (by_writer {q = q} {e = e} m i f) a l = go (λ l. left_since p r q es x t m a l) (left_last p x t (q ▸ e) q e l refl)
+pub left_since : (p r q : Past) (es : List Entry) (x : Path) (t : Thing) (d : ℕ) → Made r es q → Each NamesNone es → LeftAs p x t d q → LeftAs p x t d r
+left_since p r _ _ x t d at_first a l = l
+left_since p r _ es x t d (by_writer {q = q} {e = e} m i f) a l = go (λ l. left_since p r q es x t d m a l) (left_last p x t d (q ▸ e) q e l refl)
   where
-    go : (LeftAs p x t q → LeftAs p x t r) → LeftLast p x t q e → LeftAs p x t r
-    go rest (now_left n is) = absurd (none_written e x i n)
+    go : (LeftAs p x t d q → LeftAs p x t d r) → LeftLast p x t d q e → LeftAs p x t d r
+    go rest (now_left n is drawn) = absurd (none_written e x i n)
     go rest (left_before k n) = rest k
-left_since p r _ _ x t (by_tool {es = es} {q = q} {e = e} m i f) a l = go (λ l. left_since p r q es x t m a.1 l) (left_last p x t (q ▸ e) q e l refl)
+left_since p r _ _ x t d (by_tool {es = es} {q = q} {e = e} m i f) a l = go (λ l. left_since p r q es x t d m a.1 l) (left_last p x t d (q ▸ e) q e l refl)
   where
-    go : (LeftAs p x t q → LeftAs p x t r) → LeftLast p x t q e → LeftAs p x t r
-    go rest (now_left n is) = absurd (let i : IsIn x [] = subst (λ (xs : List Path). IsIn x xs) a.0 n in i)
+    go : (LeftAs p x t d q → LeftAs p x t d r) → LeftLast p x t d q e → LeftAs p x t d r
+    go rest (now_left n is drawn) = absurd (let i : IsIn x [] = subst (λ (xs : List Path). IsIn x xs) a.0 n in i)
     go rest (left_before k n) = rest k
 
 -- what holds of all paths that entries change holds of each that was left
-pub left_of : (R : Path → Type 0) (p q : Past) (es : List Entry) (x : Path) (t : Thing) → Made p es q → Each (λ e. (y : Path) → IsIn y (renamed_paths e) → R y) es → LeftAs p x t q → R x
-left_of R p _ _ x t at_first a l = absurd (never_left p x t l)
-left_of R p _ es x t (by_writer {q = q} {e = e} m i f) a l = go (λ l. left_of R p q es x t m a l) (left_last p x t (q ▸ e) q e l refl)
+pub left_of : (R : Path → Type 0) (p q : Past) (es : List Entry) (x : Path) (t : Thing) (d : ℕ) → Made p es q → Each (λ e. (y : Path) → IsIn y (renamed_paths e) → R y) es → LeftAs p x t d q → R x
+left_of R p _ _ x t d at_first a l = absurd (never_left p x t d l)
+left_of R p _ es x t d (by_writer {q = q} {e = e} m i f) a l = go (λ l. left_of R p q es x t d m a l) (left_last p x t d (q ▸ e) q e l refl)
   where
-    go : (LeftAs p x t q → R x) → LeftLast p x t q e → R x
-    go rest (now_left n is) = absurd (none_written e x i n)
+    go : (LeftAs p x t d q → R x) → LeftLast p x t d q e → R x
+    go rest (now_left n is drawn) = absurd (none_written e x i n)
     go rest (left_before k n) = rest k
-left_of R p _ _ x t (by_tool {es = es} {q = q} {e = e} m i f) a l = go (λ l. left_of R p q es x t m a.1 l) (left_last p x t (q ▸ e) q e l refl)
+left_of R p _ _ x t d (by_tool {es = es} {q = q} {e = e} m i f) a l = go (λ l. left_of R p q es x t d m a.1 l) (left_last p x t d (q ▸ e) q e l refl)
   where
-    go : (LeftAs p x t q → R x) → LeftLast p x t q e → R x
-    go rest (now_left n is) = a.0 x n
+    go : (LeftAs p x t d q → R x) → LeftLast p x t d q e → R x
+    go rest (now_left n is drawn) = a.0 x n
     go rest (left_before k n) = rest k
 
 -- ---- the names that cuts may leave

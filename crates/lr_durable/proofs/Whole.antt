@@ -13,7 +13,7 @@ use Rattle.lr_host.specs.Lists.{IsIn}
 use Rattle.lr_host.specs.Opening.{IsJournal}
 use Rattle.lr_host.specs.Quiet.{is_disk_change, AttachedOnlySince}
 use Rattle.lr_host.specs.Safe.{IsMachines, IsPrefix}
-use Rattle.lr_host.specs.Told.{Each, Made}
+use Rattle.lr_host.specs.Told.{Each, Made, by_tool}
 use Rattle.lr_host.specs.World.{Past, ◌▸◌, world, Names, names, put, Change, Moves, changed, Adds, step}
 use Rattle.lr_host.proofs.Closed.{Touches, untouched}
 use Rattle.lr_host.proofs.Each.{each_append, each_as, each_first, each_map, each_reverse}
@@ -29,7 +29,7 @@ use Rattle.lr_durable.proofs.Lists.{made_prefix, IsOnWay, on_way, at, FirstPart,
 use Rattle.lr_durable.proofs.Parts.{part_apart, guarded_first}
 use Rattle.lr_durable.proofs.Renewed.{IsFilled, filling, filled, Spared, renamed_own, in_two, all_stand}
 use Rattle.lr_durable.proofs.Syncs.{none_left, none_listed}
-use Rattle.lr_durable.proofs.Walks.{IsSafeFile, LeftLast, now_left, left_before, left_last, NamesNone, AllowsNew, made_drawn, calm_entry, calm_walk, named_walk, safe_walk}
+use Rattle.lr_durable.proofs.Walks.{IsSafeFile, LeftLast, now_left, left_before, left_last, NamesNone, AllowsNew, left_drawn, calm_entry, calm_walk, named_walk, safe_walk}
 
 -- ---- what is seen of a moment: it, or a cut there
 
@@ -113,23 +113,23 @@ module _ (state : Path) (p : Past) (j : IsJournal p) (settled : IsSettled state 
     new_safe = (renamed_own state text r f).1
 
     -- the change of this rename, kept by a cut
-    applied_all : ((x : Path) (t : Thing) → LeftAs p x t r → x ≢ part → Lasts (λ n. StandsAs (world p).drawn t (n x)) r) → (m : Names) (undone : List Change) → Leaves r m undone → AgreeOn (Moves part state) m (names (world r)) → AreApplied p turned (changed (Moves part state) m)
-    applied_all stand m undone leaves ag x t l = go (left_last p x t turned r (entry.Renames part state) l refl)
+    applied_all : ((x : Path) (t : Thing) (d : ℕ) → LeftAs p x t d r → x ≢ part → Lasts (λ n. StandsAs d t (n x)) r) → (m : Names) (undone : List Change) → Leaves r m undone → AgreeOn (Moves part state) m (names (world r)) → AreApplied p turned (changed (Moves part state) m)
+    applied_all stand m undone leaves ag x t d l = go (left_last p x t d turned r (entry.Renames part state) l refl)
       where
         touched : IsIn x (renamed_paths (entry.Renames part state)) → Touches (Moves part state) x
         touched (inl e) = inl e
         touched (inr (inl e)) = inr e
         touched (inr (inr e)) = absurd e
 
-        go : LeftLast p x t r (entry.Renames part state) → StandsAs (world p).drawn t (changed (Moves part state) m x)
-        go (now_left n is) = inl (alike (Moves part state) m (names (world r)) ag x (touched n) ∙ is)
-        go (left_before k n) = subst (λ (u : Thing). StandsAs (world p).drawn t u) (sym (untouched (Moves part state) m x (λ touch. n (⊎_elim (λ e. inl e) (λ e. inr (inl e)) touch)))) (stand x t k (λ e. n (inl (sym e))) m undone leaves)
+        go : LeftLast p x t d r (entry.Renames part state) → StandsAs d t (changed (Moves part state) m x)
+        go (now_left n is drawn) = inl (alike (Moves part state) m (names (world r)) ag x (touched n) ∙ is)
+        go (left_before k n) = subst (λ (u : Thing). StandsAs d t u) (sym (untouched (Moves part state) m x (λ touch. n (⊎_elim (λ e. inl e) (λ e. inr (inl e)) touch)))) (stand x t d k (λ e. n (inl (sym e))) m undone leaves)
 
     -- the old name, with the way in which a cut leaves it
     abbrev Held : Names → Type 0
     Held n = ((undone : List Change) × Leaves r n undone) × (n state ≡ old)
 
-    turned_named : ((x : Path) (t : Thing) → LeftAs p x t r → x ≢ part → Lasts (λ n. StandsAs (world p).drawn t (n x)) r) → Lasts (λ n. n state ≡ old) r → Lasts EitherNamed turned
+    turned_named : ((x : Path) (t : Thing) (d : ℕ) → LeftAs p x t d r → x ≢ part → Lasts (λ n. StandsAs d t (n x)) r) → Lasts (λ n. n state ≡ old) r → Lasts EitherNamed turned
     turned_named stand is = lasts_on Held EitherNamed r (entry.Renames part state) fits (λ n h. inl h.1) own (λ n undone l. ((undone, l), is n undone l))
       where
         move : (c : Change) → step (world r) (entry.Renames part state) ≡ Adds c → Moves part state ≡ c
@@ -145,12 +145,12 @@ module _ (state : Path) (p : Past) (j : IsJournal p) (settled : IsSettled state 
             there = put_here (put m part thing.Nothing) state state (m part) refl ∙ (agree.0 ∙ f.own.named)
 
     -- a file that a writer makes elsewhere
-    allows_new : AllowsNew (Spared state) (world p).drawn EitherNamed
-    allows_new m x g spared none le (inl is) = inl (put_other m x state (thing.File g) (λ e. spared.0 (sym e)) ∙ is)
-    allows_new m x g spared none le (inr (is, applied)) = inr (put_other m x state (thing.File g) (λ e. spared.0 (sym e)) ∙ is, λ y t l. stands_made (world p).drawn g t m x y none le (applied y t l))
+    allows_new : (es : List Entry) → Made p es turned → AllowsNew (Spared state) (world turned).drawn EitherNamed
+    allows_new es made m x g spared none le (inl is) = inl (put_other m x state (thing.File g) (λ e. spared.0 (sym e)) ∙ is)
+    allows_new es made m x g spared none le (inr (is, applied)) = inr (put_other m x state (thing.File g) (λ e. spared.0 (sym e)) ∙ is, λ y t d l. stands_made d g t m x y none (let drawn = left_drawn p turned es y t d made l in omega (arith, drawn, le)) (applied y t d l))
 
     -- behind the rename, and entries that change nothing
-    behind : (IsText : List ℕ → Type 0) (u v : Past) (after : List Entry) → IsText text → (ts : List Entry) → Made p (reverse ts) r → ((x : Path) (t : Thing) → LeftAs p x t r → x ≢ part → Lasts (λ n. StandsAs (world p).drawn t (n x)) r) → Lasts (λ n. n state ≡ old) r → IsOldSafe r
+    behind : (IsText : List ℕ → Type 0) (u v : Past) (after : List Entry) → IsText text → (ts : List Entry) → Made p (reverse ts) r → ((x : Path) (t : Thing) (d : ℕ) → LeftAs p x t d r → x ≢ part → Lasts (λ n. StandsAs d t (n x)) r) → Lasts (λ n. n state ≡ old) r → IsOldSafe r
         → Made turned (reverse after) u → AttachedOnlySince (Spared state) turned u → Each (λ e. is_disk_change e ≡ false) after → IsView u v → IsOldOrNew state IsText p u v
     behind IsText u v after is ts first stand named safe second only calm view = ⊎_elim (λ same. inl (as_before u v view old_safe same))
         (λ new. inr (record {
@@ -174,11 +174,8 @@ module _ (state : Path) (p : Past) (j : IsJournal p) (settled : IsSettled state 
         safe_new : IsSafeFile state f.file text u
         safe_new = safe_walk (Spared state) state f.file text turned u (reverse after) (λ y s. s.0) second only leaves new_safe
 
-        until_turned : (world p).drawn ≤ (world turned).drawn
-        until_turned = let le = made_drawn p r (reverse ts) first in omega (arith, le)
-
         either : Lasts EitherNamed u
-        either = calm_walk (Spared state) (world p).drawn EitherNamed turned u (reverse after) allows_new second only (each_reverse NamesNone after (each_as (λ e. is_disk_change e ≡ false) NamesNone after (λ e c. (calm_entry state e c).1) calm)) until_turned (turned_named stand named)
+        either = calm_walk (Spared state) (world turned).drawn EitherNamed turned u (reverse after) (allows_new (entry.Renames part state ∷ reverse ts) (by_tool first tt fits)) second only (each_reverse NamesNone after (each_as (λ e. is_disk_change e ≡ false) NamesNone after (λ e c. (calm_entry state e c).1) calm)) (omega arith) (turned_named stand named)
 
   -- ---- what the tool left
 

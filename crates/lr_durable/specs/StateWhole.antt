@@ -38,18 +38,18 @@ renamed_paths (Unlinks x) = x ∷ []
 renamed_paths (MakesDir x mode) = x ∷ []
 renamed_paths _ = []
 
--- The last change that the tool made of this path's name, behind the first past, left it naming this.
-pub data LeftAs (before : Past) (x : Path) (left : Thing) : Past → Type 0 where
-  by_last : {q : Past} {e : Entry} → IsPrefix before q → IsIn x (renamed_paths e) → names (world (q ▸ e)) x ≡ left → LeftAs before x left (q ▸ e)
-  still : {q : Past} {e : Entry} → LeftAs before x left q → (IsIn x (renamed_paths e) → ⊥) → LeftAs before x left (q ▸ e)
+-- The last change that the tool made of this path's name, behind the first past, left it naming this; so many files were drawn by then.
+pub data LeftAs (before : Past) (x : Path) (left : Thing) (drawn : ℕ) : Past → Type 0 where
+  by_last : {q : Past} {e : Entry} → IsPrefix before q → IsIn x (renamed_paths e) → names (world (q ▸ e)) x ≡ left → (world (q ▸ e)).drawn ≡ drawn → LeftAs before x left drawn (q ▸ e)
+  still : {q : Past} {e : Entry} → LeftAs before x left drawn q → (IsIn x (renamed_paths e) → ⊥) → LeftAs before x left drawn (q ▸ e)
 
 -- The path names what it was left with; where that is nothing, it may name a file that was made since so many were drawn.
 abbrev pub StandsAs : ℕ → Thing → Thing → Type 0
 StandsAs drawn left now = (now ≡ left) ⊎ ((left ≡ thing.Nothing) × ((g : ℕ) × (now ≡ thing.File g) × (drawn ≤ g)))
 
--- Under these names all changes of names are applied that the tool made between the two pasts: each path that it changed names what the last of them left it with, or, where that is nothing, maybe a file that a writer made in the call.
+-- Under these names all changes of names are applied that the tool made between the two pasts: each path that it changed names what the last of them left it with, or, where that is nothing, maybe a file that a writer made behind that change.
 abbrev pub AreApplied : Past → Past → Names → Type 0
-AreApplied before until n = (x : Path) (left : Thing) → LeftAs before x left until → StandsAs (world before).drawn left (n x)
+AreApplied before until n = (x : Path) (left : Thing) (drawn : ℕ) → LeftAs before x left drawn until → StandsAs drawn left (n x)
 
 -- ---- the state
 

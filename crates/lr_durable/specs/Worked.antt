@@ -1,9 +1,9 @@
--- A state that is written behind one rename, in four ways. A text is written where no state was, of a disk with a log and
+-- A state that is written behind one rename, in several ways. A text is written where no state was, of a disk with a log and
 -- two members, of which the older is renamed.
-use Rattle.std.specs.Prelude.{ℕ, List, None, codes}
+use Rattle.std.specs.Prelude.{ℕ, List, None, codes, pos}
 use Rattle.lr_rules.specs.declared.path.Path.{Path}
 use Rattle.lr_rules.specs.StatePath.{state_part}
-use Rattle.lr_host.specs.declared.entry.Entry.TheVariants.{Renames, Makes, Appends, SyncsFile, SyncsDir}
+use Rattle.lr_host.specs.declared.entry.Entry.TheVariants.{Attach, Renames, Makes, Appends, Unlinks, SyncsFile, SyncsDir}
 use Rattle.lr_host.specs.World.{Past, Opens, ◌▸◌}
 use Rattle.lr_laws.specs.Chain.{second, third, found}
 
@@ -24,6 +24,10 @@ in_order = filled (Opens found ▸ Renames second third) ▸ SyncsDir (codes "/v
 -- that directory isn't synced
 abbrev pub not_synced : Past
 not_synced = filled (Opens found ▸ Renames second third) ▸ Renames (state_part state) state
+
+-- nor that of an unlink, of a file that a writer made in the call
+abbrev pub made_since : Past
+made_since = filled (Opens found ▸ Attach 0 third (pos 0) ▸ Unlinks third) ▸ Renames (state_part state) state
 
 -- the state gets the file before this is synced
 abbrev pub too_early : Past

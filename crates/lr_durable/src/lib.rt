@@ -12,5 +12,6 @@ pub use laws::{
     written_state_is_settled,
 };
 pub use worked::{
-    in_order_is_whole, in_place_is_not_whole, not_synced_is_not_whole, too_early_is_not_whole,
+    file_made_since_is_not_whole, in_order_is_whole, in_place_is_not_whole,
+    not_synced_is_not_whole, too_early_is_not_whole,
 };

@@ -5,7 +5,7 @@ ghost use Rattle.lr_host.specs.Safe.{IsPrefix};
 ghost use Rattle.lr_host.specs.World.{Past, Opens};
 ghost use Rattle.lr_laws.specs.Chain.{found};
 ghost use Rattle.lr_durable.specs.StateWhole.{IsSettled, IsWholeAt};
-ghost use Rattle.lr_durable.specs.Worked.{state, text, in_order, not_synced, too_early, in_place};
+ghost use Rattle.lr_durable.specs.Worked.{state, text, in_order, not_synced, made_since, too_early, in_place};
 
 /// Where the directory of the rename is synced before the state gets its new file, the state is whole at each moment, and
 /// after each cut.
@@ -18,6 +18,12 @@ pub fn in_order_is_whole()
 pub fn not_synced_is_not_whole()
     ensures journal { IsJournal not_synced }
     ensures lost { IsWholeAt state (λ bytes. bytes ≡ text) (Opens found) not_synced → ⊥ }
+{}
+
+/// Nor where it unlinks a file that a writer made in the call: a cut may leave the new state and bring the file back.
+pub fn file_made_since_is_not_whole()
+    ensures journal { IsJournal made_since }
+    ensures lost { IsWholeAt state (λ bytes. bytes ≡ text) (Opens found) made_since → ⊥ }
 {}
 
 /// Where the state gets a file that isn't synced, a cut may leave a state without its text.
