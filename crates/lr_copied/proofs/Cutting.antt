@@ -1,23 +1,23 @@
 -- The moment just before the log is emptied.
-use Rattle.std.proofs.Common.{◌≡◌, refl, sym, ◌∙◌, ap, subst, arith, ℕ, Bool, true, false, cond, List, [], ◌∷◌, ◌++◌, reverse, append_assoc}
+use Rattle.std.proofs.Common.{◌≡◌, refl, sym, ◌∙◌, ap, subst, ℕ, Bool, true, false, cond, List, [], ◌∷◌, ◌++◌, reverse, append_assoc}
 use Rattle.std.proofs.lemmas.List.{reverse-append}
 use Rattle.lr_host.specs.declared.entry.Entry.{Entry}
 use Rattle.lr_host.specs.declared.entry.Entry.TheVariants as entry
-use Rattle.lr_host.specs.Fits.{Fits}
 use Rattle.lr_host.specs.Opening.{IsJournal}
 use Rattle.lr_host.specs.Safe.{IsPrefix, shorter}
-use Rattle.lr_host.specs.Told.{Each, Made, at_first, by_writer, by_tool, IsWriters}
-use Rattle.lr_host.specs.World.{Past, ◌▸◌, world}
+use Rattle.lr_host.specs.Told.{Each, Made, at_first, by_tool}
+use Rattle.lr_host.specs.World.{Past, ◌▸◌}
 use Rattle.lr_host.proofs.Each.{each_append}
 use Rattle.lr_host.proofs.Made.{made_on}
-use Rattle.lr_host.proofs.Quiet.{size, since_before}
+use Rattle.lr_host.proofs.Quiet.{since_before}
 use Rattle.lr_copy.specs.declared.job.Job.{Job}
 use Rattle.lr_copy.specs.Copying.{clearing, opening, Fills, naming, cutting, Copied}
 use Rattle.lr_copy.specs.Fits.{ArePaths}
 use Rattle.lr_copy.specs.Stops.{EmptiesNone}
 use Rattle.lr_copy.proofs.EachOfBytes.{each_all}
-use Rattle.lr_durable.proofs.Lists.{IsOnWay, on_way, prefix_size}
+use Rattle.lr_durable.proofs.Lists.{IsOnWay, on_way}
 use Rattle.lr_copied.specs.Whole.{Named, WritersSpare, IsWhole}
+use Rattle.lr_copied.proofs.Moments.{IsLast, is_last}
 use Rattle.lr_copied.proofs.Named.{whole}
 
 -- ---- the one truncation
@@ -53,33 +53,6 @@ ends_there b e (n ∷ ns) (x ∷ xs) ys cut a is = ap (λ z. z ∷ xs) (sym head
 
     tail : ns ++ cond b (e ∷ []) [] ≡ xs ++ (e ∷ ys)
     tail = cc
-
--- ---- the moment before an entry of the tool
-
-pub record IsLast (p u : Past) (e : Entry) (es : List Entry) : Type 0 where
-  pub front : List Entry
-  pub es_are : es ≡ e ∷ front
-  pub made : Made p front u
-  pub fits : Fits (world u) e
-
-pub is_last : (p u r : Past) (e : Entry) (es : List Entry) → (IsWriters e → ⊥) → IsPrefix p u → Made p es r → r ≡ u ▸ e → IsLast p u e es
-is_last p u _ e _ tools i at_first is = absurd (let le = prefix_size p u i in let long : size p ≡ size (u ▸ e) = ap size is in omega (arith, le, long))
-is_last p u _ e es tools i (by_writer {q = q} {e = d} m w f) is = absurd (tools (subst IsWriters same w))
-  where
-    same : d ≡ e
-    same = cc
-is_last p u _ e _ tools i (by_tool {es = es} {q = q} {e = d} m t f) is = record {
-  front = es;
-  es_are = ap (λ z. z ∷ es) last;
-  made = subst (λ (v : Past). Made p es v) first m;
-  fits = subst (λ (v : Past). Fits (world v) e) first (subst (λ (z : Entry). Fits (world q) z) last f);
-}
-  where
-    last : d ≡ e
-    last = cc
-
-    first : q ≡ u
-    first = cc
 
 -- ---- the law
 

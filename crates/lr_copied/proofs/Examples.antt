@@ -1,5 +1,5 @@
 -- A log that is copied, in order and not.
-use Rattle.std.proofs.Common.{◌≡◌, ◌≢◌, ℕ, Bool, true, false, refl, subst, arith, List, [], ◌∷◌, reverse, codes, None, bytes_eq}
+use Rattle.std.proofs.Common.{◌≡◌, ◌≢◌, ⊎_elim, inl, ℕ, Bool, true, false, refl, subst, arith, List, [], ◌∷◌, length, reverse, codes, None, bytes_eq}
 use Rattle.std.proofs.lemmas.Slice.Eq.{bytes_eq-Decides}
 use Rattle.lr_rules.specs.declared.path.Path.{Path}
 use Rattle.lr_host.specs.declared.thing.Thing.TheVariants as thing
@@ -8,15 +8,17 @@ use Rattle.lr_host.specs.declared.entry.Entry.TheVariants as entry
 use Rattle.lr_host.specs.Fits.{Fits}
 use Rattle.lr_host.specs.Opening.{IsJournal}
 use Rattle.lr_host.specs.Quiet.{from_here, further}
+use Rattle.lr_host.specs.Safe.{whole as all_of}
 use Rattle.lr_host.specs.Told.{Made, at_first, by_tool}
 use Rattle.lr_host.specs.World.{Past, Opens, ◌▸◌, world}
 use Rattle.lr_laws.specs.Chain.{log, third, found}
 use Rattle.lr_laws.proofs.Example.{found_valid}
+use Rattle.lr_durable.proofs.Lists.{prefix_last}
 use Rattle.lr_copy.specs.Bytes.{none_read, read_more, took_more}
 use Rattle.lr_copy.specs.Copying.{opening, naming}
 use Rattle.lr_copy.specs.Fits.{ArePaths}
 use Rattle.lr_copied.specs.Whole.{Named, WritersSpare, Has, IsWhole}
-use Rattle.lr_copied.specs.Worked.{part, job, filled, in_order, name_pending, bytes_pending}
+use Rattle.lr_copied.specs.Worked.{part, job, filled, in_order, name_pending, bytes_pending, fed_since, read_on}
 use Rattle.lr_copied.proofs.Named.{whole}
 
 abbrev pub start : Past
@@ -109,3 +111,14 @@ bytes_lost h = go h.copy h.bytes h.copied (h.cut (entry.Cut [] ((3, 0) ∷ [])) 
         let full : codes "C" ≡ bytes = subst (λ (g : ℕ). ((world bytes_pending).files g).bytes ≡ bytes) three a.bytes_are in
         let none : [] ≡ bytes = subst (λ (g : ℕ). ((world (bytes_pending ▸ entry.Cut [] ((3, 0) ∷ []))).files g).bytes ≡ bytes) three b.bytes_are in
         cc
+
+-- ---- read on
+
+pub read_on_journal : IsJournal read_on
+read_on_journal = ((((name_journal, refl), (inl (0, refl), refl)), (0, refl)), record { part = refl; ended = λ e. absurd (cc) })
+
+pub read_on_lost : IsWhole log third start read_on → ⊥
+read_on_lost h = ⊎_elim last_one (λ i. h.unread fed_since 1 (codes "D") i all_of) (prefix_last (h.last ▸ entry.Reads log (length h.bytes) []) read_on fed_since (entry.Reads log 1 (codes "D")) h.read refl)
+  where
+    last_one : h.last ▸ entry.Reads log (length h.bytes) [] ≡ fed_since ▸ entry.Reads log 1 (codes "D") → ⊥
+    last_one e = cc

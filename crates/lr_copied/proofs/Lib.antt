@@ -2,4 +2,5 @@ pub mod Cutting
 pub mod Examples
 mod Filled
 mod Logs
+pub mod Moments
 pub mod Named

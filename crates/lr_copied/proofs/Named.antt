@@ -28,6 +28,7 @@ use Rattle.lr_durable.proofs.Syncs.{synced_durable}
 use Rattle.lr_durable.proofs.Walks.{IsSafeFile, named_walk, safe_walk}
 use Rattle.lr_copied.specs.Whole.{Named, WritersSpare, Has, IsWhole}
 use Rattle.lr_copied.proofs.Logs.{LeavesLog, HasMore, log_walk}
+use Rattle.lr_copied.proofs.Moments.{is_unread}
 use Rattle.lr_copied.proofs.Filled.{IsSoFar, made_own, read_none, read_file, so_far, under_copies}
 
 -- ---- the rename
@@ -127,6 +128,7 @@ module _ (P : Path → Type 0) (job : Job) (paths : ArePaths job) (far_part : (y
       last = b;
       since = since;
       read = made_prefix (b ▸ e) q (reverse behind) m;
+      unread = is_unread job.from (b ▸ e) q (reverse behind) m (tt, (tt, (tt, tt)));
       log_then = has;
       later = r.later;
       fed = r.fed;

@@ -36,16 +36,21 @@ pub record Has (x : Path) (g : ℕ) (bytes : List ℕ) (p : Past) : Type 0 where
   pub named : names (world p) x ≡ thing.File g
   pub bytes_are : ((world p).files g).bytes ≡ bytes
 
+-- The path wasn't read between the two pasts.
+abbrev pub IsUnread : Path → Past → Past → Type 0
+IsUnread x p q = (r : Past) (place : ℕ) (piece : List ℕ) → IsPrefix p r → IsPrefix (r ▸ Reads x place piece) q → ⊥
+
 -- The final path names a file that has, now and after each cut that is allowed now, just the bytes that the log's file had at its last read, which was made at the end of them and gave nothing. The log's path names the same file still; that has these bytes first, and then what writers fed it since.
 pub record IsWhole (from to : Path) (before now : Past) : Type 0 where
   -- the log's file, and that of the copy
   pub log : ℕ
   pub copy : ℕ
   pub bytes : List ℕ
-  -- just before the last read
+  -- just before the last read of the log's path
   pub last : Past
   pub since : IsPrefix before last
   pub read : IsPrefix (last ▸ Reads from (length bytes) []) now
+  pub unread : IsUnread from (last ▸ Reads from (length bytes) []) now
   pub log_then : Has from log bytes last
   pub later : List ℕ
   pub fed : Fed log last later now

@@ -1,7 +1,7 @@
--- A log that is copied, in three ways: a disk with a log and two members, whose log is copied to a path that is free.
-use Rattle.std.specs.Prelude.{[], ◌++◌, codes, true, false, None}
+-- A log that is copied, in several ways: a disk with a log and two members, whose log is copied to a path that is free.
+use Rattle.std.specs.Prelude.{[], ◌++◌, codes, pos, true, false, None}
 use Rattle.lr_rules.specs.declared.path.Path.{Path}
-use Rattle.lr_host.specs.declared.entry.Entry.TheVariants.{Reads, Renames, Makes, Appends, SyncsFile, SyncsDir}
+use Rattle.lr_host.specs.declared.entry.Entry.TheVariants.{Attach, Feed, Reads, Renames, Makes, Appends, SyncsFile, SyncsDir}
 use Rattle.lr_host.specs.World.{Past, Opens, ◌▸◌}
 use Rattle.lr_laws.specs.Chain.{log, third, found}
 use Rattle.lr_copy.specs.declared.job.Job.{Job}
@@ -27,3 +27,10 @@ name_pending = filled ▸ SyncsFile part ▸ Renames part third
 -- the part file isn't synced
 abbrev pub bytes_pending : Past
 bytes_pending = filled ▸ Renames part third ▸ SyncsDir (codes "/v")
+
+-- the log is fed behind its copy, and read on
+abbrev pub fed_since : Past
+fed_since = in_order ▸ Attach 0 log (pos 0) ▸ Feed 0 (codes "D") (pos 0)
+
+abbrev pub read_on : Past
+read_on = fed_since ▸ Reads log 1 (codes "D")

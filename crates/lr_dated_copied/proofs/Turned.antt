@@ -292,6 +292,7 @@ module _ (paths : List Path) (job : Job) (n : Naming) (c : Count) (maxage : Opti
     last = done.last;
     since = prefix_on p a done.last (made_prefix p a (reverse over.early ++ reverse front) to_a) done.since;
     read = done.read;
+    unread = done.unread;
     log_then = done.log_then;
     later = done.later;
     fed = done.fed;

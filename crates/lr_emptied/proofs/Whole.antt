@@ -15,7 +15,7 @@ use Rattle.lr_copy.specs.declared.job.Job.{Job}
 use Rattle.lr_copy.specs.Fits.{ArePaths}
 use Rattle.lr_durable.proofs.Lists.{IsOnWay, on_way, made_prefix, prefix_on}
 use Rattle.lr_copied.specs.Whole.{Named, WritersSpare, IsWhole}
-use Rattle.lr_copied.proofs.Cutting.{IsLast, is_last}
+use Rattle.lr_copied.proofs.Moments.{IsLast, is_last}
 use Rattle.lr_copied.proofs.Named.{whole}
 use Rattle.lr_emptied.specs.Emptied.{CopiedLast, EmptiesCopied, IsCopied, EmptiesWhole}
 
@@ -28,6 +28,7 @@ whole_since from to p b u i w = record {
   last = w.last;
   since = prefix_on p b w.last i w.since;
   read = w.read;
+  unread = w.unread;
   log_then = w.log_then;
   later = w.later;
   fed = w.fed;
