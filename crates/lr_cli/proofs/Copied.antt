@@ -10,6 +10,7 @@ use Rattle.lr_host.specs.declared.entry.Entry.{Entry}
 use Rattle.lr_host.specs.declared.journal.Journal.{Journal}
 use Rattle.lr_host.specs.Quiet.{AreQuiet}
 use Rattle.lr_host.specs.Told.{Left, Then, not_told, is_told}
+use Rattle.lr_host.specs.World.{past}
 use Rattle.lr_host.proofs.Quiet.{quiet_both}
 use Rattle.lr_conf.specs.Meaning.{Meaning}
 use Rattle.lr_due.specs.declared.tz.Zone.{Zone}
@@ -22,6 +23,7 @@ use Rattle.lr_plan.specs.Asked.{asking}
 use Rattle.lr_plan.specs.declared.plan.Plan.{Plan}
 use Rattle.lr_run.specs.Copied.{IsCopyBy}
 use Rattle.lr_run.proofs.Drying.{holds_quiet, leaves_copied, lacks_copied}
+use Rattle.lr_run.proofs.Made.{AreMade, are_made, made_later}
 use Rattle.lr_cli.specs.declared.clock.ClockStop.TheVariants as stop
 use Rattle.lr_cli.specs.declared.outcome.Outcome.{Outcome}
 use Rattle.lr_cli.specs.declared.outcome.Outcome.TheVariants.{Done, BadWords, Held, OutOfMemory}
@@ -36,24 +38,24 @@ module _ (request : Request) (zone : Zone) (seconds : ℤ) where
   -- None of these entries empties a log; or the configuration was read, and each log that they empty was copied just before, by a copy that one of its rules asks for.
   data Copies (ts : List Entry) : Type 0 where
     none_copied : EmptiesCopied (λ job. ⊥) ts → Copies ts
-    copied_by : (clock : Clock) (rules : List Rule) → ReadsRules request zone seconds clock rules ts → EmptiesCopied (IsCopyBy rules clock) ts → Copies ts
+    copied_by : (clock : Clock) (rules : List Rule) → ReadsRules request zone seconds clock rules ts → (AreMade ts → EmptiesCopied (IsCopyBy rules clock) ts) → Copies ts
 
   quiet_copies : (ts : List Entry) → AreQuiet ts → Copies ts
   quiet_copies ts q = none_copied (quiet_empties (λ job. ⊥) ts q)
 
   -- behind the clock and the reading, as the run does
   behind_copies : (clock : Clock) (meaning : Meaning) (rules : Rules) (ts us reads acts front : List Entry) → rules.sets ≡ meaning.rules → ts ≡ front ++ us → us ≡ reads ++ acts → ShowsClock zone seconds clock front → Reads request.confs meaning reads
-      → EmptiesCopied (IsCopyBy rules.sets clock) acts → Copies ts
+      → (AreMade acts → EmptiesCopied (IsCopyBy rules.sets clock) acts) → Copies ts
   behind_copies clock meaning rules ts us reads acts front same joined parts shown of_confs e = copied_by clock rules.sets
       (record { meaning = meaning; rules_are = same; entries = record { front = front; back = us; joined = joined; first = shown; second = record { front = reads; back = acts; joined = parts; first = of_confs; second = tt } } })
-      (same_empties (IsCopyBy rules.sets clock) (front ++ us) ts joined (both_empty (IsCopyBy rules.sets clock) front us (quiet_empties (IsCopyBy rules.sets clock) front (clock_quiet zone seconds clock front shown))
-      (same_empties (IsCopyBy rules.sets clock) (reads ++ acts) us parts (both_empty (IsCopyBy rules.sets clock) reads acts (quiet_empties (IsCopyBy rules.sets clock) reads (confs_quiet request.confs meaning reads of_confs)) e))))
+      (λ made. same_empties (IsCopyBy rules.sets clock) (front ++ us) ts joined (both_empty (IsCopyBy rules.sets clock) front us (quiet_empties (IsCopyBy rules.sets clock) front (clock_quiet zone seconds clock front shown))
+      (same_empties (IsCopyBy rules.sets clock) (reads ++ acts) us parts (both_empty (IsCopyBy rules.sets clock) reads acts (quiet_empties (IsCopyBy rules.sets clock) reads (confs_quiet request.confs meaning reads of_confs)) (e (made_later reads acts (subst AreMade parts (made_later front us (subst AreMade joined made))))))))
 
   -- a run was made
   reports_copies : (clock : Clock) (plan : Option Plan) (ts : List Entry) (us front : List Entry) (notices : List _) (faults : List Fault) → ts ≡ front ++ us → ShowsClock zone seconds clock front → Reports request clock plan notices faults us → Copies ts
   reports_copies clock plan ts us front notices faults joined shown r =
       behind_copies clock r.meaning r.rules ts us r.entries.front r.entries.back front r.rules_are joined r.entries.joined shown r.entries.first
-      (leaves_copied request.debug request.state r.rules clock (asking request.force request.mailer) plan r.own r.entries.back r.entries.second)
+      (λ made. leaves_copied request.debug request.state r.rules clock (asking request.force request.mailer) plan r.own r.entries.back made r.entries.second)
 
   -- there was no memory
   lost_copies : (clock : Clock) (ts us front : List Entry) → ts ≡ front ++ us → ShowsClock zone seconds clock front → LacksMemory request clock us → Copies ts
@@ -61,7 +63,7 @@ module _ (request : Request) (zone : Zone) (seconds : ℤ) where
   lost_copies clock ts us front joined shown (at_confs l) = quiet_copies ts (subst AreQuiet (sym joined) (quiet_both front us (clock_quiet zone seconds clock front shown) (lacking_quiet request.confs us l)))
   lost_copies clock ts us front joined shown (at_run meaning rules same t) =
       behind_copies clock meaning rules ts us t.front t.back front same joined t.joined shown t.first
-      (lacks_copied request.debug request.state rules clock (asking request.force request.mailer) t.back t.second)
+      (λ made. lacks_copied request.debug request.state rules clock (asking request.force request.mailer) t.back made t.second)
 
   lock_quiet : (ts : List Entry) → FindsLock request ts → AreQuiet ts
   lock_quiet ts f = subst AreQuiet (sym f.entries.joined) (quiet_both f.entries.front f.entries.back (confs_quiet request.confs f.meaning f.entries.front f.entries.first) (holds_quiet request.debug request.state f.entries.back f.entries.second))
@@ -89,4 +91,4 @@ module _ (request : Request) (zone : Zone) (seconds : ℤ) where
     where
       go : Copies (reverse es) → CopiesWhole request zone seconds (Some j) (Some k)
       go (none_copied e) = none_read (empties_whole (λ job. ⊥) (λ job no. absurd no) (is_told {j = j} {k = k} {es = es} made e))
-      go (copied_by clock rules means e) = by_rules clock rules (is_told {j = j} {k = k} {es = es} made means) (empties_whole (IsCopyBy rules clock) (λ job copy. copy.paths) (is_told {j = j} {k = k} {es = es} made e))
+      go (copied_by clock rules means e) = by_rules clock rules (is_told {j = j} {k = k} {es = es} made means) (λ disk. empties_whole (IsCopyBy rules clock) (λ job copy. copy.paths) (is_told {j = j} {k = k} {es = es} made (e (are_made (past j) (past k) es made disk))) disk)

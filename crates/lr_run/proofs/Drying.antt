@@ -211,7 +211,7 @@ dry_whole state asked clock rules earlier r l = left_whole state (IsNewText stat
 
 -- it empties nothing
 pub dry_copied : (state : Path) (asked : Asked) (clock : Clock) (rules : Rules) (earlier : List Fault) (r : Result Ran RunStop) {o n : Option Journal} → Left (Answers state true asked clock rules earlier r) o n → EmptiesWhole (IsCopyBy rules.sets clock) o n
-dry_copied state asked clock rules earlier r l = left_copied rules.sets clock (Answers state true asked clock rules earlier r) l (λ ts h. quiet_empties (IsCopyBy rules.sets clock) ts (answers_quiet state asked clock rules earlier r ts h))
+dry_copied state asked clock rules earlier r l = left_copied rules.sets clock (Answers state true asked clock rules earlier r) l (λ ts made h. quiet_empties (IsCopyBy rules.sets clock) ts (answers_quiet state asked clock rules earlier r ts h))
 
 -- ---- the answer
 
@@ -229,13 +229,13 @@ lacks_may true state asked clock rules ts made h = quiet_alone state (IsNewText 
 lacks_may false state asked clock rules ts made h = answers_may state rules clock asked [] (Err stop.Memory) ts made h
 
 -- each log that it empties it copied just before
-pub leaves_copied : (debug : Bool) (state : Path) (rules : Rules) (clock : Clock) (asked : Asked) → (plan : Option Plan) (own : List Fault) (ts : List Entry) → Leaves debug state asked clock rules plan own ts → EmptiesCopied (IsCopyBy rules.sets clock) ts
-leaves_copied true state rules clock asked plan own ts h = quiet_empties (IsCopyBy rules.sets clock) ts (tries_so IsQuiet (λ x seen. (tt, refl)) (λ x names. (tt, refl)) (λ x place piece short. (tt, refl)) state rules.sets clock asked plan own ts h)
-leaves_copied false state rules clock asked plan own ts h = runs_copied state rules clock asked plan own ts h
+pub leaves_copied : (debug : Bool) (state : Path) (rules : Rules) (clock : Clock) (asked : Asked) → (plan : Option Plan) (own : List Fault) (ts : List Entry) → AreMade ts → Leaves debug state asked clock rules plan own ts → EmptiesCopied (IsCopyBy rules.sets clock) ts
+leaves_copied true state rules clock asked plan own ts made h = quiet_empties (IsCopyBy rules.sets clock) ts (tries_so IsQuiet (λ x seen. (tt, refl)) (λ x names. (tt, refl)) (λ x place piece short. (tt, refl)) state rules.sets clock asked plan own ts h)
+leaves_copied false state rules clock asked plan own ts made h = runs_copied state rules clock asked plan own ts made h
 
-pub lacks_copied : (debug : Bool) (state : Path) (rules : Rules) (clock : Clock) (asked : Asked) → (ts : List Entry) → Lacks debug state asked clock rules ts → EmptiesCopied (IsCopyBy rules.sets clock) ts
-lacks_copied true state rules clock asked ts h = quiet_empties (IsCopyBy rules.sets clock) ts (lacks_so IsQuiet (λ x seen. (tt, refl)) (λ x names. (tt, refl)) (λ x place piece short. (tt, refl)) state rules.sets ts h)
-lacks_copied false state rules clock asked ts h = answers_copied state rules clock asked [] (Err stop.Memory) ts h
+pub lacks_copied : (debug : Bool) (state : Path) (rules : Rules) (clock : Clock) (asked : Asked) → (ts : List Entry) → AreMade ts → Lacks debug state asked clock rules ts → EmptiesCopied (IsCopyBy rules.sets clock) ts
+lacks_copied true state rules clock asked ts made h = quiet_empties (IsCopyBy rules.sets clock) ts (lacks_so IsQuiet (λ x seen. (tt, refl)) (λ x names. (tt, refl)) (λ x place piece short. (tt, refl)) state rules.sets ts h)
+lacks_copied false state rules clock asked ts made h = answers_copied state rules clock asked [] (Err stop.Memory) ts made h
 
 pub holds_quiet : (debug : Bool) (state : Path) (ts : List Entry) → Holds debug state ts → AreQuiet ts
 holds_quiet true state ts h = absurd h

@@ -10,7 +10,7 @@ use Rattle.lr_rules.specs.declared.rule.Naming.{Naming}
 use Rattle.lr_rules.specs.declared.rule.Rule.{Rule}
 use Rattle.lr_rules.specs.declared.rule.Way.TheVariants as way
 use Rattle.lr_rules.specs.Dated.{IsDatedAt}
-use Rattle.lr_rules.specs.Match.{part_end, EndsWith}
+use Rattle.lr_rules.specs.Match.{part_end, EndsWith, RuleGives}
 use Rattle.lr_rules.specs.Names.{IsMemberAt, naming_of}
 use Rattle.lr_stamps.specs.Dated.{clock_seconds}
 use Rattle.lr_family.specs.Parts.{part_of}
@@ -25,10 +25,11 @@ IsNewestBy (Some format) n clock x = (serial : ℕ) × IsDatedAt n (clock_second
 abbrev pub IsNewest : Naming → Clock → Path → Type 0
 IsNewest n clock x = IsNewestBy n.dated n clock x
 
--- One of the rules has `copytruncate`, and of the names that it gives the log the copy gets that of the newest member, by that member's part file.
+-- One of the rules gives the log, and has `copytruncate`; of the names that it gives the log the copy gets that of the newest member, by that member's part file.
 pub record IsCopyBy (rules : List Rule) (clock : Clock) (job : Job) : Type 0 where
   pub rule : Rule
   pub among : Contains rules rule
+  pub given : RuleGives rule job.from
   pub way_is : rule.way ≡ way.CopyTruncate
   pub newest : IsNewest (naming_of rule job.from) clock job.to
   pub part_is : job.part ≡ part_of job.to
