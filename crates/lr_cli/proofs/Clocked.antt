@@ -1,5 +1,5 @@
 -- The clock of a call, put together of the zone's text and what it shows.
-use Rattle.std.proofs.Common.{◌≡◌, List, [], ◌∷◌, Bool, false, Option, Result, Ok, Err, IfOk, IfErr, IsTrue, ◌<◌, ◌^◌, w64, to_z, of_z, T, refl, sym, subst}
+use Rattle.std.proofs.Common.{◌≡◌, inr, List, [], ◌∷◌, Bool, false, Option, Result, Ok, Err, IfOk, IfErr, IsTrue, ◌<◌, ◌^◌, w64, to_z, of_z, T, refl, sym, subst}
 use Rattle.std.specs.Prelude.{◌↔◌, ℤ}
 use Rattle.std.proofs.Math.Facts.{to_z-of_z, sfits_lit}
 use Rattle.std.proofs.lemmas.Bool.{lt-ltb}
@@ -12,7 +12,6 @@ use Rattle.lr_host.specs.declared.entry.Entry.{Entry}
 use Rattle.lr_host.specs.declared.journal.Journal.{Journal}
 use Rattle.lr_host.specs.Told.{Counts, NoneFell, Left}
 use Rattle.lr_host.proofs.Left.{left_as, left_first}
-use Rattle.lr_host.proofs.Reading.{reads_only}
 use Rattle.lr_due.specs.declared.tz.Zone.{Zone}
 use Rattle.lr_due.specs.declared.tz.Zone.TheVariants.{Utc, Rule, File}
 use Rattle.lr_due.specs.declared.zone.ZoneText.{ZoneText}
@@ -49,7 +48,7 @@ clock_told zone seconds t (Err said) o n range l is = tt
 table_lacks : (zone : Zone) (t : ZoneText) (ts : List Entry) → IsTable t → ShowsZone zone t ts → LacksZoneMemory zone ts
 table_lacks Utc t ts is h = absurd (subst IsTable h.0 is)
 table_lacks (Rule rule) t ts is h = absurd (subst IsTable h.0 is)
-table_lacks (File path) t ts is h = let read = h.2 in at_file path refl (record { front = read.front; back = read.back; joined = read.joined; first = read.first; second = reads_only path 1048577 h.0 read.back read.second.1 })
+table_lacks (File path) t ts is h = let read = h.2 in at_file path refl (record { front = read.front; back = read.back; joined = read.joined; first = read.first; second = (h.0, inr read.second.1) })
 
 pub clock_stopped : (zone : Zone) (seconds : ℤ) (t : ZoneText) (r : Result Clock ClockStop) (o n : Option Journal) → IsInRange seconds → Left (ShowsZone zone t) o n → ((f : Fault) → r ≡ Err (stop.Fault f) → (f ≡ fault.Zone why.Refused) × IsRefusedZone t) → (r ≡ Err stop.Memory → IsTable t)
     → IfErr r (λ said. Left (ClockStopped zone seconds said) o n)

@@ -24,7 +24,8 @@ use Rattle.lr_due.specs.declared.tz.Zone.TheVariants.{Utc, Rule, File}
 use Rattle.lr_due.specs.declared.zone.ZoneText.{ZoneText}
 use Rattle.lr_include.specs.Lacking.{LacksReading}
 use Rattle.lr_include.specs.Stages.{Reads}
-use Rattle.lr_include.proofs.AllQuiet.{all_so, lacking_so}
+use Rattle.lr_visits.specs.Visits.{ReadsBroken, ReadsPartly}
+use Rattle.lr_include.proofs.AllQuiet.{all_so, lacking_so, some_only}
 use Rattle.lr_plan.specs.Asked.{asking}
 use Rattle.lr_plan.specs.declared.plan.Plan.{Plan}
 use Rattle.lr_run.specs.Answers.{Leaves, Holds, Lacks}
@@ -51,8 +52,11 @@ reads_quiet conf [] each = tt
 reads_quiet conf (entry.Reads x from piece ∷ ts) each = ((tt, refl), reads_quiet conf ts each.1)
 reads_quiet conf (_ ∷ ts) each = absurd each.0
 
-pub file_quiet : (conf : Path) (ts : List Entry) → Then (Sees conf IsFile) (Each (IsReadOf conf)) ts → AreQuiet ts
-file_quiet conf ts t = subst AreQuiet (sym t.joined) (quiet_both t.front t.back (sees_quiet conf t.front t.first) (reads_quiet conf t.back t.second))
+broken_quiet : (conf : Path) (ts : List Entry) → Then (Sees conf IsFile) (ReadsBroken conf 1048577) ts → AreQuiet ts
+broken_quiet conf ts t = subst AreQuiet (sym t.joined) (quiet_both t.front t.back (sees_quiet conf t.front t.first) (reads_quiet conf t.back t.second.2.only))
+
+part_quiet : (conf : Path) (ts : List Entry) → Then (Sees conf IsFile) (ReadsPartly conf 1048577) ts → AreQuiet ts
+part_quiet conf ts t = subst AreQuiet (sym t.joined) (quiet_both t.front t.back (sees_quiet conf t.front t.first) (reads_quiet conf t.back (some_only conf 1048577 t.second.0 t.back t.second.1)))
 
 whole_quiet : (conf : Path) (bytes : List ℕ) (ts : List Entry) → Then (Sees conf IsFile) (ReadsAll conf 1048577 bytes) ts → AreQuiet ts
 whole_quiet conf bytes ts t = subst AreQuiet (sym t.joined) (quiet_both t.front t.back (sees_quiet conf t.front t.first) (reads_quiet conf t.back (reads_only conf 1048577 bytes t.back t.second)))
@@ -71,14 +75,14 @@ text_quiet : (zone : Zone) (f : Fault) (ts : List Entry) → LacksText zone f ts
 text_quiet zone f ts (not_file path z e s) = sees_quiet path ts s
 text_quiet zone f ts (too_big path bytes z e n t) = whole_quiet path bytes ts t
 text_quiet zone f ts (text_look_failed path z e none) = subst AreQuiet (sym none) tt
-text_quiet zone f ts (text_read_failed path z e t) = file_quiet path ts t
+text_quiet zone f ts (text_read_failed path z e t) = broken_quiet path ts t
 
 pub stop_quiet : (zone : Zone) (seconds : ℤ) (why : ClockStop) (ts : List Entry) → ClockStopped zone seconds why ts → AreQuiet ts
 stop_quiet zone seconds (stop.Fault f) ts (out_of_range out e none) = subst AreQuiet (sym none) tt
 stop_quiet zone seconds (stop.Fault f) ts (no_text range h) = text_quiet zone f ts h
 stop_quiet zone seconds (stop.Fault f) ts (refused text range e r h) = zone_quiet zone text ts h
 stop_quiet zone seconds stop.Memory ts (zone_at_first none) = subst AreQuiet (sym none) tt
-stop_quiet zone seconds stop.Memory ts (at_file path z t) = file_quiet path ts t
+stop_quiet zone seconds stop.Memory ts (at_file path z t) = part_quiet path ts t
 
 -- ---- what looks and reads come to
 
@@ -124,7 +128,7 @@ clock_still zone seconds clock ts h = zone_still zone h.text ts h.shows
 
 pub zone_memory_still : (zone : Zone) (ts : List Entry) → LacksZoneMemory zone ts → AreStill ts
 zone_memory_still zone ts (zone_at_first none) = none_still ts none
-zone_memory_still zone ts (at_file path z t) = then_both ts (λ us s. sees_still path IsFile us s) (λ us g. only_reads_still path us g) t
+zone_memory_still zone ts (at_file path z t) = then_both ts (λ us s. sees_still path IsFile us s) (λ us g. only_reads_still path us (some_only path 1048577 g.0 us g.1)) t
 
 confs_still : (confs : List Path) (m : Meaning) (ts : List Entry) → Reads confs m ts → AreStill ts
 confs_still = all_so IsStill (λ x seen. tt) (λ x names. tt) (λ x from piece le. tt)
@@ -195,14 +199,17 @@ module _ (here : Path) (words : List (List ℕ)) (zone : Zone) (seconds : ℤ) w
     whole_so : (path : Path) (bytes : List ℕ) (ts : List Entry) → Then (Sees path IsFile) (ReadsAll path 1048577 bytes) ts → Each P ts
     whole_so path bytes ts t = then_so P look reads _ _ ts (λ us s. sees_so P look reads path IsFile us s) (λ us g. only_reads_so P look reads path us (reads_only path 1048577 bytes us g)) t
 
-    file_so : (path : Path) (ts : List Entry) → Then (Sees path IsFile) (Each (IsReadOf path)) ts → Each P ts
-    file_so path ts t = then_so P look reads _ _ ts (λ us s. sees_so P look reads path IsFile us s) (λ us g. only_reads_so P look reads path us g) t
+    broken_so : (path : Path) (ts : List Entry) → Then (Sees path IsFile) (ReadsBroken path 1048577) ts → Each P ts
+    broken_so path ts t = then_so P look reads _ _ ts (λ us s. sees_so P look reads path IsFile us s) (λ us g. only_reads_so P look reads path us g.2.only) t
+
+    part_so : (path : Path) (ts : List Entry) → Then (Sees path IsFile) (ReadsPartly path 1048577) ts → Each P ts
+    part_so path ts t = then_so P look reads _ _ ts (λ us s. sees_so P look reads path IsFile us s) (λ us g. only_reads_so P look reads path us (some_only path 1048577 g.0 us g.1)) t
 
     text_so : (f : Fault) (ts : List Entry) → LacksText zone f ts → Each P ts
     text_so f ts (not_file path z e s) = sees_so P look reads path _ ts s
     text_so f ts (too_big path bytes z e n t) = whole_so path bytes ts t
     text_so f ts (text_look_failed path z e none) = none_so P look reads ts none
-    text_so f ts (text_read_failed path z e t) = file_so path ts t
+    text_so f ts (text_read_failed path z e t) = broken_so path ts t
 
     lost_clock_so : (f : Fault) (ts : List Entry) → LacksClock zone seconds f ts → Each P ts
     lost_clock_so f ts (out_of_range out e none) = none_so P look reads ts none
@@ -211,7 +218,7 @@ module _ (here : Path) (words : List (List ℕ)) (zone : Zone) (seconds : ℤ) w
 
     lost_memory_so : (ts : List Entry) → LacksZoneMemory zone ts → Each P ts
     lost_memory_so ts (zone_at_first none) = none_so P look reads ts none
-    lost_memory_so ts (at_file path z t) = file_so path ts t
+    lost_memory_so ts (at_file path z t) = part_so path ts t
 
     confs_so : (confs : List Path) (m : Meaning) (ts : List Entry) → Reads confs m ts → Each P ts
     confs_so = all_so P look list (λ x from piece le. reads x from piece)

@@ -8,9 +8,10 @@ use Rattle.lr_rules.specs.declared.fault.ZoneWhy.TheVariants as why
 use Rattle.lr_host.specs.declared.thing.Kind.TheVariants as kind
 use Rattle.lr_host.specs.declared.thing.Seen.{Seen}
 use Rattle.lr_host.specs.declared.entry.Entry.{Entry}
-use Rattle.lr_host.specs.Told.{Then, Each}
-use Rattle.lr_host.specs.Reading.{IsReadOf, ReadsAll}
+use Rattle.lr_host.specs.Told.{Then}
+use Rattle.lr_host.specs.Reading.{ReadsAll}
 use Rattle.lr_host.specs.Looks.{Sees, IsFile}
+use Rattle.lr_visits.specs.Visits.{ReadsBroken, ReadsPartly}
 use Rattle.lr_due.specs.declared.tz.Zone.{Zone}
 use Rattle.lr_due.specs.declared.tz.Zone.TheVariants.{Utc, Rule, File}
 use Rattle.lr_due.specs.declared.zone.ZoneText.{ZoneText}
@@ -29,11 +30,11 @@ IsNotFile (Some seen) = seen.kind ≢ kind.File
 abbrev pub GivesBytes : Path → List ℕ → List Entry → Type 0
 GivesBytes path bytes ts = (length bytes ≤ 1048576) × ReadsAll path 1048577 bytes ts
 
--- its bytes aren't had: there are more, a read failed, or there was no memory
+-- its bytes aren't had: there are more, a read failed before it was known that there are no more, or there was no memory
 abbrev pub ReadStopped : Path → ZoneFileStop → List Entry → Type 0
 ReadStopped path stop.TooBig ts = (bytes : List ℕ) × (1048576 < length bytes) × ReadsAll path 1048577 bytes ts
-ReadStopped path stop.Read ts = Each (IsReadOf path) ts
-ReadStopped path stop.Memory ts = Each (IsReadOf path) ts
+ReadStopped path stop.Read ts = ReadsBroken path 1048577 ts
+ReadStopped path stop.Memory ts = ReadsPartly path 1048577 ts
 ReadStopped path _ ts = ⊥
 
 -- the file wasn't seen as one, the look failed, or its bytes aren't had
@@ -53,12 +54,12 @@ pub data LacksText (zone : Zone) (f : Fault) (ts : List Entry) : Type 0 where
   not_file : (path : Path) → zone ≡ File path → f ≡ fault.Zone why.NotFile → Sees path IsNotFile ts → LacksText zone f ts
   too_big : (path : Path) (bytes : List ℕ) → zone ≡ File path → f ≡ fault.Zone why.TooBig → 1048576 < length bytes → Then (Sees path IsFile) (ReadsAll path 1048577 bytes) ts → LacksText zone f ts
   look_failed : (path : Path) → zone ≡ File path → f ≡ fault.Call call.Look path → ts ≡ [] → LacksText zone f ts
-  read_failed : (path : Path) → zone ≡ File path → f ≡ fault.Call call.Read path → Then (Sees path IsFile) (Each (IsReadOf path)) ts → LacksText zone f ts
+  read_failed : (path : Path) → zone ≡ File path → f ≡ fault.Call call.Read path → Then (Sees path IsFile) (ReadsBroken path 1048577) ts → LacksText zone f ts
 
--- Where there was no memory for it: nothing was called, or its file was seen as one, and maybe read.
+-- Where there was no memory for it: nothing was called, or its file was seen as one, and a first part of it was read, or all.
 pub data LacksZoneMemory (zone : Zone) (ts : List Entry) : Type 0 where
   at_first : ts ≡ [] → LacksZoneMemory zone ts
-  at_file : (path : Path) → zone ≡ File path → Then (Sees path IsFile) (Each (IsReadOf path)) ts → LacksZoneMemory zone ts
+  at_file : (path : Path) → zone ≡ File path → Then (Sees path IsFile) (ReadsPartly path 1048577) ts → LacksZoneMemory zone ts
 
 abbrev pub ZoneStopped : Zone → ClockStop → List Entry → Type 0
 ZoneStopped zone (clock_stop.Fault f) ts = LacksText zone f ts

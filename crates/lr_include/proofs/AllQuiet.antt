@@ -1,5 +1,5 @@
 -- What is so of each entry of a reading.
-use Rattle.std.proofs.Common.{◌≡◌, ◌≤◌, ◌+◌, ◌⊎◌, ℕ, Bool, true, false, List, [], ◌∷◌, length, refl, sym, subst, inl, inr, Option, Some, None}
+use Rattle.std.proofs.Common.{◌≡◌, ◌≤◌, ◌+◌, ℕ, Bool, true, false, List, [], ◌∷◌, length, refl, sym, subst, inl, inr, Option, Some, None}
 use Rattle.lr_rules.specs.declared.path.Path.{Path}
 use Rattle.lr_conf.specs.Meaning.{Meaning}
 use Rattle.lr_host.specs.declared.entry.Entry.{Entry}
@@ -8,14 +8,14 @@ use Rattle.lr_host.specs.declared.thing.Seen.{Seen}
 use Rattle.lr_host.specs.Told.{Then, Each}
 use Rattle.lr_host.specs.Looks.{Sees}
 use Rattle.lr_host.specs.Quiet.{IsQuiet, AreQuiet}
-use Rattle.lr_host.specs.Reading.{IsReadOf, ReadsOf, ReadsAll}
+use Rattle.lr_host.specs.Reading.{IsReadOf}
 use Rattle.lr_host.proofs.Each.{each_append}
 use Rattle.lr_host.proofs.Reading.{reads_only}
 use Rattle.lr_visits.specs.declared.part.TextEnd.{TextEnd}
 use Rattle.lr_visits.specs.declared.part.TextEnd.TheVariants as end
 use Rattle.lr_visits.specs.declared.visit.Visit.{Visit}
 use Rattle.lr_visits.specs.declared.visit.Visit.TheVariants as visit
-use Rattle.lr_visits.specs.Visits.{ReadsPart, IsShortRead, ShowsNames, ShowsBytes, ShowsFile, ShowsDir, ShowsVisit, look_failed, nothing, exposed, directory, file, PartText, PartFile, PartVisit}
+use Rattle.lr_visits.specs.Visits.{ReadsSome, ReadsPart, IsShortRead, ShowsNames, ShowsBytes, ShowsFile, ShowsDir, ShowsVisit, look_failed, nothing, exposed, directory, file, PartText, PartFile, PartVisit}
 use Rattle.lr_include.specs.declared.task.Task.{Task}
 use Rattle.lr_include.specs.declared.task.Task.TheVariants as task
 use Rattle.lr_include.specs.Stages.{Stage, settled, visited, at_visits, begun, is_shallow, room_for, ShowsNext, ShowsVisits, Reads}
@@ -26,12 +26,13 @@ part_reads x room bytes end.Whole ts r = reads_only x (room + 1) bytes ts r.1
 part_reads x room bytes end.TooMany ts r = reads_only x (room + 1) bytes ts r.1
 part_reads x room bytes end.Failed ts r = r.1.only
 
-some_only : (x : Path) (room : ℕ) (bytes : List ℕ) (ts : List Entry) → ((length bytes ≤ room) × ReadsOf x bytes ts) ⊎ ReadsAll x (room + 1) bytes ts → Each (IsReadOf x) ts
-some_only x room bytes ts (inl r) = r.1.only
-some_only x room bytes ts (inr r) = reads_only x (room + 1) bytes ts r
+-- those of a first part are of that path
+pub some_only : (x : Path) (limit : ℕ) (bytes : List ℕ) (ts : List Entry) → ReadsSome x limit bytes ts → Each (IsReadOf x) ts
+some_only x limit bytes ts (inl r) = r.1.only
+some_only x limit bytes ts (inr r) = reads_only x limit bytes ts r
 
 part_only : (x : Path) (room : ℕ) (ts : List Entry) → PartText x room ts → Each (IsReadOf x) ts
-part_only x room ts p = some_only x room p.bytes ts p.reads
+part_only x room ts p = some_only x (room + 1) p.bytes ts p.reads
 
 -- of looks, listings and short reads
 module _ (P : Entry → Type 0) (look : (x : Path) (seen : Option Seen) → P (entry.Look x seen)) (list : (x : Path) (names : List (List ℕ)) → P (entry.List x names)) (read : (x : Path) (from : ℕ) (piece : List ℕ) → length piece ≤ 65536 → P (entry.Reads x from piece)) where

@@ -1,5 +1,5 @@
 -- How a reading goes on by one read more.
-use Rattle.std.proofs.Common.{◌≡◌, ◌≤◌, ◌<◌, ◌+◌, ◌-◌, ◌⊎◌, inl, inr, ℕ, zero, suc, List, [], ◌∷◌, ◌++◌, length, take, false, refl, sym, ap, ◌∙◌, subst, append_assoc, append-nil, length-append, Option, Some, None, Result, Ok, Err, arith}
+use Rattle.std.proofs.Common.{◌≡◌, ◌≤◌, ◌<◌, ◌+◌, ◌-◌, inl, inr, ℕ, List, [], ◌∷◌, ◌++◌, length, take, false, refl, sym, ap, ◌∙◌, subst, append_assoc, append-nil, length-append, Option, Some, None, Result, Ok, Err, arith}
 use Rattle.std.specs.Prelude.{IfOk, filter}
 use Rattle.lr_rules.specs.declared.path.Path.{Path}
 use Rattle.lr_rules.specs.Path.{is_empty}
@@ -18,7 +18,7 @@ use Rattle.lr_visits.specs.declared.part.TextEnd.TheVariants as end
 use Rattle.lr_visits.specs.declared.taking.Taking.{Taking}
 use Rattle.lr_visits.specs.Visits.{ShowsText, IsShortRead, IsShortReadOf, PartText}
 use Rattle.lr_visits.specs.Taken.{IsOpen, Brings, ShortReads, TookFrom, GoesOn}
-use Rattle.lr_visits.proofs.Texts.{read_more}
+use Rattle.lr_visits.proofs.Texts.{read_more, reads_so_far}
 use Rattle.lr_visits.proofs.Telling.{told_whole, take_both}
 
 -- a read failed
@@ -86,18 +86,8 @@ goes_first path t o none text size = record {
 
 -- ---- without memory
 
-at_most : (n room : ℕ) → n ≤ room + 1 → (n ≤ room) ⊎ (n ≡ room + 1)
-at_most zero room le = inl (omega arith)
-at_most (suc n) zero le = inr (omega (arith, le))
-at_most (suc n) (suc room) le = more (at_most n room (omega (arith, le)))
-  where
-    more : (n ≤ room) ⊎ (n ≡ room + 1) → (suc n ≤ suc room) ⊎ (suc n ≡ suc room + 1)
-    more (inl few) = inl (omega (arith, few))
-    more (inr all) = inr (omega (arith, all))
-
-part_of : (path : Path) (room : ℕ) (bytes : List ℕ) (ts : List Entry) → ShortReads path bytes ts → (length bytes ≤ room) ⊎ (length bytes ≡ room + 1) → PartText path room ts
-part_of path room bytes ts r (inl few) = record { bytes = bytes; reads = inl (few, r.0); short = r.1 }
-part_of path room bytes ts r (inr all) = record { bytes = bytes; reads = inr (to_limit all r.0); short = r.1 }
+part_of : (path : Path) (room : ℕ) (bytes : List ℕ) (ts : List Entry) → ShortReads path bytes ts → length bytes ≤ room + 1 → PartText path room ts
+part_of path room bytes ts r le = record { bytes = bytes; reads = reads_so_far path (room + 1) bytes ts le r.0; short = r.1 }
 
 -- a read gave these bytes, and there is no memory for what they tell
 pub goes_lacking : (path : Path) (room : ℕ) (old : Taking) (piece : List ℕ) {before mid after : Option Journal} → old.size ≤ room → old.size + length piece ≤ room + 1 → length piece ≤ 65536
@@ -111,7 +101,7 @@ goes_lacking path room old [] {before = before} {mid = mid} {after = after} smal
     })
 goes_lacking path room old (b ∷ piece) {before = before} {mid = mid} {after = after} small within le took read =
     left_as (short_more path took.bytes (b ∷ piece) refl le took.reads (subst (λ (k : ℕ). Left (Are (Reads path k (b ∷ piece) ∷ [])) mid after) took.size read))
-    (λ ts r. part_of path room (took.bytes ++ b ∷ piece) ts r (at_most (length (took.bytes ++ b ∷ piece)) room (omega (arith, within, took.size, length-append took.bytes (b ∷ piece)))))
+    (λ ts r. part_of path room (took.bytes ++ b ∷ piece) ts r (omega (arith, within, took.size, length-append took.bytes (b ∷ piece))))
 
 -- nothing was read
 pub none_read : (path : Path) (room : ℕ) (o : Option Journal) → Left (PartText path room) o o

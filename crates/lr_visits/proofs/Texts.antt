@@ -1,25 +1,17 @@
 -- What reads of one path leave.
-use Rattle.std.proofs.Common.{◌≡◌, ◌≤◌, ◌<◌, ℕ, zero, suc, ◌+◌, take, false, List, [], ◌∷◌, ◌++◌, length, refl, sym, ap, ◌∙◌, subst, arith, length-append, length-drop, drop, Option, Result, Ok, Err, OnErr}
+use Rattle.std.proofs.Common.{◌≡◌, ◌≤◌, ◌<◌, ◌⊎◌, inl, inr, ℕ, zero, suc, ◌+◌, take, false, List, [], ◌∷◌, ◌++◌, length, refl, sym, ap, ◌∙◌, subst, arith, length-append, length-drop, drop, Option, Result, Ok, Err, OnErr}
 use Rattle.std.proofs.lemmas.List.{append-nil, nil_from_length}
 use Rattle.lr_rules.specs.declared.path.Path.{Path}
 use Rattle.lr_rules.specs.Path.{is_empty}
 use Rattle.lr_host.specs.declared.entry.Entry.{Entry}
 use Rattle.lr_host.specs.declared.entry.Entry.TheVariants.{Reads}
 use Rattle.lr_host.specs.declared.journal.Journal.{Journal}
-use Rattle.lr_host.specs.Told.{Left, Each, Are}
+use Rattle.lr_host.specs.Told.{Left, Are}
 use Rattle.lr_host.specs.Reading.{IsReadOf, text, AreJoined, ReadsOf, ReadsAll, to_limit, to_end}
 use Rattle.lr_host.proofs.Left.{left_first, left_as, left_then}
 use Rattle.lr_host.proofs.Each.{each_append}
 use Rattle.lr_host.proofs.Reading.{text_both, some_more}
-
-pub no_reads : (path : Path) {o n : Option Journal} → Left (λ ts. ts ≡ []) o n → Left (Each (IsReadOf path)) o n
-no_reads path l = left_as l (λ ts e. subst (Each (IsReadOf path)) (sym e) tt)
-
-pub one_read : (path : Path) (from : ℕ) (piece : List ℕ) {o n : Option Journal} → Left (λ ts. ts ≡ Reads path from piece ∷ []) o n → Left (Each (IsReadOf path)) o n
-one_read path from piece l = left_as l (λ ts e. subst (Each (IsReadOf path)) (sym e) (refl, tt))
-
-pub reads_on : (path : Path) (bytes : List ℕ) {o m n : Option Journal} → Left (ReadsOf path bytes) o m → Left (Each (IsReadOf path)) m n → Left (Each (IsReadOf path)) o n
-reads_on path bytes a b = left_then a b (λ xs ys p q. each_append (IsReadOf path) xs ys p.only q)
+use Rattle.lr_visits.specs.Visits.{ReadsBroken, ReadsSome, ReadsPartly, ReadsOnce}
 
 pub reads_first : (path : Path) (bytes : List ℕ) (o : Option Journal) → bytes ≡ [] → Left (ReadsOf path bytes) o o
 reads_first path bytes o e = left_first (ReadsOf path bytes) o (record { only = tt; joined = tt; some = refl; bytes_are = sym e })
@@ -50,6 +42,46 @@ reads_end path limit bytes all lt a b e = left_then a b (λ ts us r q. subst (λ
 -- as many bytes as the limit
 pub reads_full : (path : Path) (limit : ℕ) (bytes : List ℕ) {o n : Option Journal} → Left (ReadsOf path bytes) o n → length bytes ≡ limit → Left (ReadsAll path limit bytes) o n
 reads_full path limit bytes l e = left_as l (λ ts r. to_limit e r)
+
+-- ---- a first part of a reading
+
+at_limit : (n limit : ℕ) → n ≤ limit → (n < limit) ⊎ (n ≡ limit)
+at_limit zero zero le = inr refl
+at_limit zero (suc limit) le = inl (omega arith)
+at_limit (suc n) zero le = absurd (omega (arith, le))
+at_limit (suc n) (suc limit) le = more (at_limit n limit (omega (arith, le)))
+  where
+    more : (n < limit) ⊎ (n ≡ limit) → (suc n < suc limit) ⊎ (suc n ≡ suc limit)
+    more (inl few) = inl (omega (arith, few))
+    more (inr all) = inr (ap suc all)
+
+-- what was read so far
+pub reads_so_far : (path : Path) (limit : ℕ) (bytes : List ℕ) (ts : List Entry) → length bytes ≤ limit → ReadsOf path bytes ts → ReadsSome path limit bytes ts
+reads_so_far path limit bytes ts le r = go (at_limit (length bytes) limit le)
+  where
+    go : (length bytes < limit) ⊎ (length bytes ≡ limit) → ReadsSome path limit bytes ts
+    go (inl few) = inl (few, r)
+    go (inr all) = inr (to_limit all r)
+
+pub none_so_far : (path : Path) (limit : ℕ) (o : Option Journal) → Left (ReadsPartly path limit) o o
+none_so_far path limit o = left_first (ReadsPartly path limit) o ([], reads_so_far path limit [] [] (omega arith) (record { only = tt; joined = tt; some = refl; bytes_are = refl }))
+
+pub one_read : (path : Path) (from size : ℕ) (piece : List ℕ) {o n : Option Journal} → length piece ≤ size → Left (λ ts. ts ≡ Reads path from piece ∷ []) o n → Left (ReadsOnce path from size) o n
+one_read path from size piece le l = left_as l (λ ts e. (piece, le, e))
+
+-- one read more, of so many bytes at most, for which there was no memory
+pub reads_partly : (path : Path) (limit size : ℕ) (bytes : List ℕ) {o m n : Option Journal} → length bytes < limit → length bytes + size ≤ limit → Left (ReadsOf path bytes) o m → Left (ReadsOnce path (length bytes) size) m n → Left (ReadsPartly path limit) o n
+reads_partly path limit size bytes lt le a b = left_then a b (λ ts us r q. some_by q.0 ts us q.1 r q.2)
+  where
+    some_by : (piece : List ℕ) (ts us : List Entry) → length piece ≤ size → ReadsOf path bytes ts → us ≡ Reads path (length bytes) piece ∷ [] → ReadsPartly path limit (ts ++ us)
+    some_by [] ts us short r e = (bytes, inr (to_end lt (record { front = ts; back = us; joined = refl; first = r; second = e })))
+    some_by (b ∷ piece) ts us short r e = (bytes ++ (b ∷ piece), reads_so_far path limit (bytes ++ (b ∷ piece)) (ts ++ us) (omega (arith, le, short, length-append bytes (b ∷ piece))) (read_more path bytes (b ∷ piece) ts us refl r e))
+
+-- none more, since it failed
+pub reads_broken : (path : Path) (limit : ℕ) (bytes : List ℕ) {o m n : Option Journal} → length bytes < limit → Left (ReadsOf path bytes) o m → Left (Are []) m n → Left (ReadsBroken path limit) o n
+reads_broken path limit bytes lt a b = left_then a b (λ ts us r e. (bytes, lt, subst (ReadsOf path bytes) (sym (ap (λ (vs : List Entry). ts ++ vs) e ∙ append-nil ts)) r))
+
+-- ---- what a read gave
 
 -- a read by its place and its piece
 pub read_as : (path : Path) (from from' : ℕ) (piece piece' : List ℕ) {o n : Option Journal} → Left (λ ts. ts ≡ Reads path from piece ∷ []) o n → from ≡ from' → piece ≡ piece' → Left (Are (Reads path from' piece' ∷ [])) o n

@@ -10,7 +10,6 @@ use Rattle.lr_host.specs.declared.journal.Journal.{Journal}
 use Rattle.lr_host.specs.World.{world, names}
 use Rattle.lr_host.specs.Told.{Left, Are, Can}
 use Rattle.lr_host.specs.Looks.{Sees, IsDir, IsNothingOrOther}
-use Rattle.lr_host.specs.Reading.{ReadsOf}
 use Rattle.lr_host.proofs.Left.{left_as, left_then}
 use Rattle.lr_host.proofs.Known.{entry_says}
 use Rattle.lr_host.proofs.Looked.{seen_dir}
@@ -33,13 +32,6 @@ listed_rising dir old now sorted none same l = left_as l (λ ts e. record {
   same = same;
   list = e ∙ ap (λ (before : List (List ℕ)). entry.List dir (drop (length before) now) ∷ []) none;
 })
-
--- ---- bytes
-
--- a read that failed leaves nothing
-pub reads_none : (path : Path) (bytes all : List ℕ) {o m n : Option Journal} → all ≡ bytes → Left (ReadsOf path bytes) o m → Left (Are []) m n → Left (ReadsOf path all) o n
-reads_none path bytes all is a b = left_then a b (λ xs ys r e.
-    subst (λ bs. ReadsOf path bs (xs ++ ys)) (sym is) (subst (λ vs. ReadsOf path bytes (xs ++ vs)) (sym e) (subst (ReadsOf path bytes) (sym (append-nil xs)) r)))
 
 -- ---- visits
 

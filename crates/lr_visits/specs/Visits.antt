@@ -52,6 +52,21 @@ pub record HasListed (dir : Path) (names : List (List ℕ)) (ts : List Entry) : 
 
 -- ---- bytes
 
+-- A reading broke off: so far it gave fewer bytes than the limit, and wasn't at the end of the file.
+abbrev pub ReadsBroken : Path → ℕ → List Entry → Type 0
+ReadsBroken x limit ts = (bytes : List ℕ) × (length bytes < limit) × ReadsOf x bytes ts
+
+-- a first part of a reading up to the limit, or all of it
+abbrev pub ReadsSome : Path → ℕ → List ℕ → List Entry → Type 0
+ReadsSome x limit bytes ts = ((length bytes < limit) × ReadsOf x bytes ts) ⊎ ReadsAll x limit bytes ts
+
+abbrev pub ReadsPartly : Path → ℕ → List Entry → Type 0
+ReadsPartly x limit ts = (bytes : List ℕ) × ReadsSome x limit bytes ts
+
+-- one read at this place, of so many bytes at most
+abbrev pub ReadsOnce : Path → ℕ → ℕ → List Entry → Type 0
+ReadsOnce x from size ts = (piece : List ℕ) × (length piece ≤ size) × (ts ≡ entry.Reads x from piece ∷ [])
+
 -- These bytes were read of a file where there is room for so many: all of them, one more than there is room for, or those
 -- before a read that failed.
 abbrev pub ReadsPart : Path → ℕ → List ℕ → TextEnd → List Entry → Type 0
@@ -131,7 +146,7 @@ HasFailed _ = ⊥
 -- most, or all of them.
 pub record PartText (x : Path) (room : ℕ) (ts : List Entry) : Type 0 where
   pub bytes : List ℕ
-  pub reads : ((length bytes ≤ room) × ReadsOf x bytes ts) ⊎ ReadsAll x (room + 1) bytes ts
+  pub reads : ReadsSome x (room + 1) bytes ts
   pub short : Each IsShortRead ts
 
 abbrev pub PartFile : Path → Option ℕ → List Entry → Type 0

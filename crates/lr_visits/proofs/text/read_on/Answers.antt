@@ -1,13 +1,13 @@
-use Rattle.std.proofs.Common.{drop, length, sym, ap, ◌∙◌, arith}
+use Rattle.std.proofs.Common.{drop, take, length, refl, sym, ap, ◌∙◌, arith}
+use Rattle.std.proofs.lemmas.List.{length-take}
 use Rattle.std.proofs.Math.Seq.{drop-append_seam}
-use Rattle.lr_visits.proofs.Texts.{no_reads, one_read, read_as}
+use Rattle.lr_visits.proofs.Texts.{one_read, read_as, take_short}
 use Rattle.lr_visits.proofs.text.read_on.Goals as goal
 
-pub returns-in_default-clause-stopped : goal.returns-in_default-clause-stopped
-returns-in_default-clause-stopped g c = no_reads c.args.path.now c.in_default.ensures.told
-
-pub returns-in_default-extend_from_slice-clause-stopped : goal.returns-in_default-extend_from_slice-clause-stopped
-returns-in_default-extend_from_slice-clause-stopped g c = one_read c.args.path.now _ _ c.in-Ok.ensures.told
+pub returns-in_default-extend_from_slice-clause-lacking : goal.returns-in_default-extend_from_slice-clause-lacking
+returns-in_default-extend_from_slice-clause-lacking g c = λ e. one_read c.args.path.now (length c.args.bytes.now.items) (length c.args.piece.now) (take c.in-Ok.count c.read.new.into)
+    (omega (arith, length-take c.in-Ok.count c.read.new.into, c.read.auto.into, take_short c.in-Ok.count c.read.new.into, c.in-Ok.ensures.bound))
+    (read_as c.args.path.now _ (length c.args.bytes.now.items) _ (take c.in-Ok.count c.read.new.into) c.in-Ok.ensures.told (omega (arith, c.len.ensures)) refl)
 
 pub returns-clause-told : goal.returns-clause-told
 returns-clause-told g c =

@@ -4,23 +4,24 @@ use Rattle.lr_host.specs.Steps.{is_naming}
 use Rattle.lr_host.proofs.Left.{can_stay}
 use Rattle.lr_visits.specs.declared.text.ReadStop.{ReadStop}
 use Rattle.lr_visits.specs.declared.text.ReadStop.TheVariants as stop
-use Rattle.lr_visits.proofs.Texts.{reads_first, reads_on, reads_more, reads_end, reads_full, read_as, none_added, some_added, same_bytes, take_short}
-use Rattle.lr_visits.proofs.Visiting.{reads_none}
+use Rattle.lr_visits.proofs.Texts.{reads_first, reads_broken, reads_partly, reads_more, reads_end, reads_full, read_as, none_added, some_added, same_bytes, take_short}
 use Rattle.lr_visits.proofs.text.read_up_to.Goals as goal
 
 pub loop-piece-init : goal.loop-piece-init
 loop-piece-init g c = record { told = reads_first c.args.path.now c.args.bytes.now.items _ c.requires.none; file = c.requires.file; within = omega (arith, ap length c.requires.none); counts = search rules }
 
-pub returns-in-Err-clause-stopped : goal.returns-in-Err-clause-stopped
-returns-in-Err-clause-stopped g c = reads_on c.args.path.now c.loop-piece.bytes.items c.loop-piece.invariant.told c.in-Err.ensures.stopped
-
 pub returns-in-Err-clause-failed : goal.returns-in-Err-clause-failed
 returns-in-Err-clause-failed g c = λ e.
     let why : c.in-Err.why ≡ stop.Call = cc e in
-    let f = c.read_on.ensures.failed (subst (λ (w : ReadStop). c.read_on.result ≡ Err w) why c.in-Err.is) in (
-      omega (arith, ap length f.0, c.loop-piece-test.true, c.loop-piece.auto.piece, c.len.ensures),
-      reads_none c.args.path.now c.loop-piece.bytes.items c.read_on.new.bytes.items f.0 c.loop-piece.invariant.told f.1,
-    )
+    reads_broken c.args.path.now (length c.args.piece.now) c.loop-piece.bytes.items (omega (arith, c.loop-piece-test.true, c.loop-piece.auto.piece, c.len.ensures))
+    c.loop-piece.invariant.told (c.read_on.ensures.failed (subst (λ (w : ReadStop). c.read_on.result ≡ Err w) why c.in-Err.is))
+
+pub returns-in-Err-clause-lacking : goal.returns-in-Err-clause-lacking
+returns-in-Err-clause-lacking g c = λ e.
+    let why : c.in-Err.why ≡ stop.Memory = cc e in
+    reads_partly c.args.path.now (length c.args.piece.now) _ c.loop-piece.bytes.items (omega (arith, c.loop-piece-test.true, c.loop-piece.auto.piece, c.len.ensures))
+    (omega (arith, c.loop-piece.auto.piece, c.loop-piece.invariant.within, c.len-in-loop-piece.ensures, take_short (length c.loop-piece.piece - c.len-in-loop-piece.result) c.loop-piece.piece))
+    c.loop-piece.invariant.told (c.read_on.ensures.lacking (subst (λ (w : ReadStop). c.read_on.result ≡ Err w) why c.in-Err.is))
 
 pub returns-then-count-eq0-clause-told : goal.returns-then-count-eq0-clause-told
 returns-then-count-eq0-clause-told g c =
