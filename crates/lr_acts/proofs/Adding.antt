@@ -103,8 +103,10 @@ no_fault x = sym (append-nil x.faults.items)
 counted_one : (f : Fault) (a b : Counts) (o n : Option Journal) → FaultCause f a b o n → NoneFell a b → AreCounted (f ∷ []) a b
 counted_one (fault.Call kind path) a b o n h le = counted_call kind path a b h le
 counted_one (fault.Script phase on end) a b o n h le = counted_script phase on end a b h le
+counted_one fault.Clock a b o n h le = absurd h
+counted_one (fault.Zone why) a b o n h le = absurd h
 counted_one fault.Out a b o n h le = absurd h
-counted_one f a b o n h le = counted_free (f ∷ []) a b (record { calls = refl; scripts = refl; no_out = ((λ h. h), tt) }) le
+counted_one f a b o n h le = counted_free (f ∷ []) a b (record { calls = refl; scripts = refl; none_around = ((λ h. h), tt) }) le
 
 -- one step was made
 pub step_made : (step : Step) (told : Option Mark) (x y : Progress) {o n : Option Journal} {a b : Counts} → list_of told ≡ marks_of step → y.marks.items ≡ x.marks.items ++ list_of told → y.faults.items ≡ x.faults.items ++ []

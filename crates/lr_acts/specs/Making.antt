@@ -44,11 +44,13 @@ abbrev pub list_of : Option Mark → List Mark
 list_of None = []
 list_of (Some m) = m ∷ []
 
--- A failed call is told only where faults rose, a bad end only where bad ends did, a taken path only where it is named; the output has no fault here.
+-- A failed call is told only where faults rose, a bad end only where bad ends did, a taken path only where it is named; the clock, the zone and the output have no fault here.
 abbrev pub FaultCause : Fault → Counts → Counts → Option Journal → Option Journal → Type 0
 FaultCause (fault.Call kind path) before now told later = Rose before.faults now.faults
 FaultCause (fault.Script phase on end) before now told later = Rose before.bad_ends now.bad_ends
 FaultCause (fault.Taken path) before now told later = WasTaken path told later
+FaultCause fault.Clock before now told later = ⊥
+FaultCause (fault.Zone why) before now told later = ⊥
 FaultCause fault.Out before now told later = ⊥
 FaultCause _ before now told later = Unit {0}
 

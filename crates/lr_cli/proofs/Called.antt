@@ -1,5 +1,5 @@
 -- The answers of a call of the program.
-use Rattle.std.proofs.Common.{◌≡◌, ◌⊎◌, inl, inr, ℕ, List, [], ◌∷◌, ◌++◌, Option, Some, None, Result, Ok, Err, IfOk, OnOk, OnErr, refl, sym, ap, ◌∙◌, subst, false}
+use Rattle.std.proofs.Common.{◌≡◌, ◌≤◌, ◌⊎◌, inl, inr, arith, ℕ, List, [], ◌∷◌, ◌++◌, Option, Some, None, Result, Ok, Err, IfOk, OnOk, OnErr, refl, sym, ap, ◌∙◌, subst, false}
 use Rattle.std.specs.Prelude.{ℤ, Contains}
 use Rattle.lr_rules.specs.declared.clock.Clock.{Clock}
 use Rattle.lr_rules.specs.declared.path.Path.{Path}
@@ -10,10 +10,10 @@ use Rattle.lr_host.specs.declared.journal.Journal.{Journal}
 use Rattle.lr_host.specs.declared.sink.SinkFault.{SinkFault}
 use Rattle.lr_host.specs.Quiet.{AreQuiet}
 use Rattle.lr_host.specs.Safe.{KeepsSafe}
-use Rattle.lr_host.specs.Told.{Counts, Left, Rose}
+use Rattle.lr_host.specs.Told.{Counts, NoneFell, Left, Rose}
 use Rattle.lr_host.proofs.Left.{left_as, left_first, left_both, left_then}
 use Rattle.lr_due.specs.declared.tz.Zone.{Zone}
-use Rattle.lr_host.specs.Counted.{AreCounted}
+use Rattle.lr_host.specs.Counted.{AreCounted, IsAround, NoneAround}
 use Rattle.lr_targets.proofs.Safety.{quiet_call_safe}
 use Rattle.lr_mixed.specs.AllTurns.{IsWholeRunBy}
 use Rattle.lr_mixed.proofs.Safety.{all_safe}
@@ -33,7 +33,7 @@ use Rattle.lr_command.specs.declared.request.Request.{Request}
 use Rattle.lr_command.specs.Words.{asked}
 use Rattle.lr_cli.specs.Answer.{at_first as lacks_first, Answers, AnswersAt, no_clock, no_memory, called, Answered, not_read, read}
 use Rattle.lr_cli.specs.Clock.{ShowsClock, ClockStopped, HasClock, IsClockFault, IsClocked, with_clock, without_clock}
-use Rattle.lr_cli.specs.Faults.{answer_of, clock_answer, HasCounted, HasFault}
+use Rattle.lr_cli.specs.Faults.{answer_of, clock_answer, IsOut, HasNoOut, AreReported, HasCounted, HasFault}
 use Rattle.lr_cli.specs.Asked.{AskFor, planned_text}
 use Rattle.lr_cli.specs.Internal.{TurnsByClock, only_looked, ran}
 use Rattle.lr_cli.specs.Safe.{HadClock, KeepsSafeByClock, no_clock as safe_without, by_clock}
@@ -92,9 +92,27 @@ clock_shape zone s seconds clock same a b = ran clock
     (left_then a b (λ xs ys p q. record { front = xs; back = ys; joined = refl; first = subst (λ (z : ℤ). ShowsClock zone z clock xs) same p; second = tt }))
     (left_then a b (λ xs ys p q. run_behind clock xs ys (clock_quiet zone s clock xs p) q))
 
-pub clock_clocked : (zone : Zone) (s seconds : ℤ) (clock : Clock) (r : Result Told RunStop) → s ≡ seconds → HasClock zone s clock → IfOk r (λ told. IsClocked zone seconds told.notices told.faults.items)
-clock_clocked zone s seconds clock (Ok told) same h = with_clock clock (subst (λ (z : ℤ). HasClock zone z clock) same h)
-clock_clocked zone s seconds clock (Err w) same h = tt
+pub clock_clocked : (zone : Zone) (s seconds : ℤ) (clock : Clock) (r : Result Told RunStop) {k l : Counts} → s ≡ seconds → HasClock zone s clock → IfOk r (λ told. AreCounted told.faults.items k l) → IfOk r (λ told. IsClocked zone seconds told.notices told.faults.items)
+clock_clocked zone s seconds clock (Ok told) same h c = with_clock clock (subst (λ (z : ℤ). HasClock zone z clock) same h) c.none_around
+clock_clocked zone s seconds clock (Err w) same h c = tt
+
+-- none of the output among them
+out_around : (f : Fault) → (IsAround f → ⊥) → IsOut f → ⊥
+out_around fault.Out other i = other tt
+out_around _ other i = i
+
+no_out_of : (fs : List Fault) → NoneAround fs → HasNoOut fs
+no_out_of [] none = tt
+no_out_of (f ∷ fs) none = (out_around f none.0, no_out_of fs none.1)
+
+-- the counts rose as much since a moment before
+pub clock_reported : (r : Result Told RunStop) (j k l : Counts) → NoneFell j k → IfOk r (λ told. AreCounted told.faults.items k l) → IfOk r (λ told. AreReported told.faults.items j l)
+clock_reported (Ok told) j k l le c = record {
+  calls = (let rose = c.calls in let more : j.faults ≤ k.faults = le.0 in omega (arith, rose, more));
+  scripts = (let rose = c.scripts in let more : j.bad_ends ≤ k.bad_ends = le.1 in omega (arith, rose, more));
+  no_out = no_out_of told.faults.items c.none_around;
+}
+clock_reported (Err w) j k l le c = tt
 
 -- ---- the call
 
@@ -177,7 +195,7 @@ pub report_out : (put : Result (Unit {0}) SinkFault) (text : List ℕ) (ns : Lis
 report_out (Ok u) text ns fs o x y low high p e lost h = absurd (lost (subst (λ (r : Outcome). HasFault r fault.Out) e h))
 report_out (Err f) text ns fs o x y low high p e lost h = p.cause
 
-pub has_counted : (r : Result Told RunStop) (a : Outcome) (k l : Counts) → a ≡ answer_of r → IfOk r (λ told. AreCounted told.faults.items k l) → HasCounted a k l
+pub has_counted : (r : Result Told RunStop) (a : Outcome) (k l : Counts) → a ≡ answer_of r → IfOk r (λ told. AreReported told.faults.items k l) → HasCounted a k l
 has_counted (Ok told) a k l same h = subst (λ (o : Outcome). HasCounted o k l) (sym same) h
 has_counted (Err stop.Held) a k l same h = subst (λ (o : Outcome). HasCounted o k l) (sym same) tt
 has_counted (Err stop.Memory) a k l same h = subst (λ (o : Outcome). HasCounted o k l) (sym same) tt
@@ -197,6 +215,6 @@ pub not_counted : (a o : Outcome) (k l : Counts) → a ≡ o → (o ≡ BadWords
 not_counted a o k l same (inl e) = subst (λ (r : Outcome). HasCounted r k l) (sym (same ∙ e)) tt
 not_counted a o k l same (inr e) = subst (λ (r : Outcome). HasCounted r k l) (sym (same ∙ e)) tt
 
-pub none_out : (r : Result Told RunStop) (k l : Counts) → IfOk r (λ told. AreCounted told.faults.items k l) → IfOk r (λ told. Contains told.faults.items fault.Out → ⊥)
+pub none_out : (r : Result Told RunStop) (k l : Counts) → IfOk r (λ told. AreReported told.faults.items k l) → IfOk r (λ told. Contains told.faults.items fault.Out → ⊥)
 none_out (Ok told) k l h = no_out_among told.faults.items h.no_out
 none_out (Err s) k l h = tt

@@ -1,5 +1,5 @@
 -- The clock of a call, put together of the zone's text and what it shows.
-use Rattle.std.proofs.Common.{◌≡◌, inr, List, [], ◌∷◌, Bool, false, Option, Result, Ok, Err, IfOk, IfErr, IsTrue, ◌<◌, ◌^◌, w64, to_z, of_z, T, refl, sym, subst}
+use Rattle.std.proofs.Common.{◌≡◌, ◌≤◌, inr, arith, List, [], ◌∷◌, Bool, false, Option, Result, Ok, Err, IfOk, IfErr, IsTrue, ◌<◌, ◌^◌, w64, to_z, of_z, T, refl, sym, subst}
 use Rattle.std.specs.Prelude.{◌↔◌, ℤ}
 use Rattle.std.proofs.Math.Facts.{to_z-of_z, sfits_lit}
 use Rattle.std.proofs.lemmas.Bool.{lt-ltb}
@@ -16,10 +16,9 @@ use Rattle.lr_due.specs.declared.tz.Zone.{Zone}
 use Rattle.lr_due.specs.declared.tz.Zone.TheVariants.{Utc, Rule, File}
 use Rattle.lr_due.specs.declared.zone.ZoneText.{ZoneText}
 use Rattle.lr_due.specs.Zone.{IsInRange, IsRefusedZone, IsTable, IsClockIn}
-use Rattle.lr_host.specs.Counted.{AreCounted}
-use Rattle.lr_host.proofs.Counts.{counted_free}
 use Rattle.lr_cli.specs.declared.clock.ClockStop.{ClockStop}
 use Rattle.lr_cli.specs.declared.clock.ClockStop.TheVariants as stop
+use Rattle.lr_cli.specs.Faults.{AreReported}
 use Rattle.lr_cli.specs.Clock.{ShowsClock, ClockStopped, out_of_range, no_text, refused, HasClock, IsClockFault, is_refused}
 use Rattle.lr_cli.specs.Zone.{ShowsZone, ZoneStopped, LacksZoneMemory, at_file, IsTextOf}
 
@@ -60,8 +59,12 @@ pub has_clock : (zone : Zone) (seconds : ℤ) (t : ZoneText) (r : Result Clock C
 has_clock zone seconds t (Ok clock) range of_zone good is = record { text = t; in_range = range; text_is = of_zone; not_refused = good; clock_is = is }
 has_clock zone seconds t (Err said) range of_zone good is = tt
 
-pub refused_fault : (zone : Zone) (seconds : ℤ) (t : ZoneText) (f : Fault) (j k : Counts) → IsInRange seconds → IsTextOf zone t → (f ≡ fault.Zone why.Refused) × IsRefusedZone t → NoneFell j k → IsClockFault zone seconds f × AreCounted (f ∷ []) j k
+pub refused_fault : (zone : Zone) (seconds : ℤ) (t : ZoneText) (f : Fault) (j k : Counts) → IsInRange seconds → IsTextOf zone t → (f ≡ fault.Zone why.Refused) × IsRefusedZone t → NoneFell j k → IsClockFault zone seconds f × AreReported (f ∷ []) j k
 refused_fault zone seconds t f j k range of_zone bad le = (
   is_refused t range of_zone bad.0 bad.1,
-  subst (λ (g : Fault). AreCounted (g ∷ []) j k) (sym bad.0) (counted_free (fault.Zone why.Refused ∷ []) j k (record { calls = refl; scripts = refl; no_out = ((λ h. h), tt) }) le),
+  subst (λ (g : Fault). AreReported (g ∷ []) j k) (sym bad.0) (record {
+    calls = (let more : j.faults ≤ k.faults = le.0 in omega (arith, more));
+    scripts = (let more : j.bad_ends ≤ k.bad_ends = le.1 in omega (arith, more));
+    no_out = ((λ h. h), tt);
+  }),
 )

@@ -15,7 +15,7 @@ use Rattle.lr_host.proofs.Left.{left_as, left_both, left_then}
 use Rattle.lr_conf.specs.Meaning.{Meaning}
 use Rattle.lr_host.specs.Quiet.{AreQuiet}
 use Rattle.lr_host.proofs.Quiet.{quiet_both}
-use Rattle.lr_host.specs.Counted.{calls_in, scripts_in, HasNoOut, IsOut, RoseBy, AreCounted, AddsFaults}
+use Rattle.lr_host.specs.Counted.{calls_in, scripts_in, NoneAround, RoseBy, AreCounted, AddsFaults}
 use Rattle.lr_host.proofs.Counts.{counted_on}
 use Rattle.lr_include.specs.declared.reading.Reading.{Reading}
 use Rattle.lr_include.specs.Readers.{meaning_of, IsConfOrCall}
@@ -32,7 +32,7 @@ use Rattle.lr_run.specs.Answers.{Answers as RunAnswers}
 use Rattle.lr_run.specs.declared.answer.RunStop.{RunStop}
 use Rattle.lr_run.specs.declared.answer.RunStop.TheVariants as stop
 use Rattle.lr_command.specs.declared.request.Request.{Request}
-use Rattle.lr_cli.specs.Faults.{answer_of}
+use Rattle.lr_cli.specs.Faults.{answer_of, IsOut, HasNoOut}
 use Rattle.lr_cli.proofs.OutAside.{Contains-only}
 use Rattle.lr_cli.specs.declared.outcome.Outcome.TheVariants.{OutOfMemory}
 use Rattle.lr_cli.specs.Answer.{Answers, Reports, FindsLock, LacksMemory, at_confs, at_run}
@@ -96,8 +96,8 @@ stopped request settings clock r earlier stop.Memory at a b = left_as (lacks_at_
 no_more : (fs : List Fault) → scripts_in fs ≡ 0 → 0 + scripts_in fs ≡ 0
 no_more fs z = omega (arith, z)
 
--- they tell of no script and of no output
-none_scripted : (fs : List Fault) → Every IsConfOrCall fs → (scripts_in fs ≡ 0) × HasNoOut fs
+-- they tell of no script, and of nothing around a run
+none_scripted : (fs : List Fault) → Every IsConfOrCall fs → (scripts_in fs ≡ 0) × NoneAround fs
 none_scripted [] h = (refl, tt)
 none_scripted (fault.Conf file line kind ∷ fs) h = (no_more fs (none_scripted fs h.1).0, ((λ x. x), (none_scripted fs h.1).1))
 none_scripted (fault.Call call.Look path ∷ fs) h = (no_more fs (none_scripted fs h.1).0, ((λ x. x), (none_scripted fs h.1).1))
@@ -112,7 +112,7 @@ reading_counted fs j k only rose le =
     record {
       calls = rose;
       scripts = (let z = n.0 in let fell : j.bad_ends ≤ k.bad_ends = le.1 in omega (arith, z, fell));
-      no_out = n.1;
+      none_around = n.1;
     }
 
 pub both_counted : (earlier faults all : List Fault) (j k l : Counts) → earlier ≡ faults → AreCounted faults j k → AddsFaults earlier all k l → AreCounted all j l

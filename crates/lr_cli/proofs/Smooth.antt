@@ -8,7 +8,7 @@ use Rattle.lr_rules.specs.declared.path.Path.{Path}
 use Rattle.lr_rules.specs.StatePath.{state_part}
 use Rattle.lr_host.specs.declared.entry.Entry.{Entry}
 use Rattle.lr_host.specs.declared.journal.Journal.{Journal}
-use Rattle.lr_host.specs.Counted.{calls_in, scripts_in, AreCounted}
+use Rattle.lr_host.specs.Counted.{calls_in, scripts_in}
 use Rattle.lr_host.specs.Lists.{IsIn}
 use Rattle.lr_host.specs.Opening.{IsJournal}
 use Rattle.lr_host.specs.Told.{Counts, Left, is_told, Made}
@@ -39,7 +39,7 @@ use Rattle.lr_cli.specs.declared.outcome.Report.{Report}
 use Rattle.lr_cli.specs.declared.told.Told.{Told}
 use Rattle.lr_cli.specs.Answer.{Answered}
 use Rattle.lr_cli.specs.Asked.{AskFor}
-use Rattle.lr_cli.specs.Faults.{answer_of, plan_told, HasCounted}
+use Rattle.lr_cli.specs.Faults.{answer_of, plan_told, AreReported, HasCounted}
 use Rattle.lr_cli.specs.Fulfilled.{plan_by}
 use Rattle.lr_cli.specs.Reached.{ReachesPlan}
 use Rattle.lr_cli.specs.Settled.{AreSettingsOf}
@@ -164,7 +164,7 @@ from_entries : (here : Path) (words : List (List ℕ)) (request : Request) (zone
 from_entries here words request zone seconds plan report j k asks dry (is_told {es = es} made a) journal none_ends no_call no_end taken anew smooth =
     fails_nothing request zone seconds report plan j k es made journal none_ends no_call no_end taken anew smooth here words asks dry a
 
-counted_so : (outcome : Outcome) (report : Report) (counted counts : Counts) → outcome ≡ Done report → HasCounted outcome counted counts → AreCounted report.faults counted counts
+counted_so : (outcome : Outcome) (report : Report) (counted counts : Counts) → outcome ≡ Done report → HasCounted outcome counted counts → AreReported report.faults counted counts
 counted_so outcome report counted counts done h = subst (λ (o : Outcome). HasCounted o counted counts) done h
 
 -- that a call with these words left its answer

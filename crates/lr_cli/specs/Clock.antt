@@ -6,6 +6,7 @@ use Rattle.lr_rules.specs.declared.fault.Fault.TheVariants as fault
 use Rattle.lr_rules.specs.declared.fault.Notice.{Notice}
 use Rattle.lr_rules.specs.declared.fault.ZoneWhy.TheVariants as why
 use Rattle.lr_host.specs.declared.entry.Entry.{Entry}
+use Rattle.lr_host.specs.Counted.{NoneAround}
 use Rattle.lr_due.specs.declared.tz.Zone.{Zone}
 use Rattle.lr_due.specs.declared.zone.ZoneText.{ZoneText}
 use Rattle.lr_due.specs.Zone.{IsInRange, IsRefusedZone, IsClockIn}
@@ -46,7 +47,7 @@ pub data IsClockFault (zone : Zone) (seconds : ℤ) (f : Fault) : Type 0 where
   is_text : IsInRange seconds → IsTextFault zone f → IsClockFault zone seconds f
   is_refused : (text : ZoneText) → IsInRange seconds → IsTextOf zone text → f ≡ fault.Zone why.Refused → IsRefusedZone text → IsClockFault zone seconds f
 
--- A report has a clock behind it, or it tells one fault alone, that there is none.
+-- A report has a clock behind it, and tells no fault of the clock or the zone; or it tells one fault alone, that there is none.
 pub data IsClocked (zone : Zone) (seconds : ℤ) (notices : List Notice) (faults : List Fault) : Type 0 where
-  with_clock : (clock : Clock) → HasClock zone seconds clock → IsClocked zone seconds notices faults
+  with_clock : (clock : Clock) → HasClock zone seconds clock → NoneAround faults → IsClocked zone seconds notices faults
   without_clock : (f : Fault) → notices ≡ [] → faults ≡ f ∷ [] → IsClockFault zone seconds f → IsClocked zone seconds notices faults

@@ -1,10 +1,11 @@
 -- The faults of a call's answer.
 use Rattle.std.specs.Prelude.{◌≡◌, Contains, List, [], ◌∷◌, Option, None, Result, Ok, Err}
 use Rattle.lr_rules.specs.declared.fault.Fault.{Fault}
+use Rattle.lr_rules.specs.declared.fault.Fault.TheVariants as fault
 use Rattle.lr_rules.specs.declared.path.Path.{Path}
 use Rattle.lr_plan.specs.declared.plan.Plan.{Plan}
 use Rattle.lr_host.specs.Told.{Counts}
-use Rattle.lr_host.specs.Counted.{calls_in, scripts_in, AreCounted}
+use Rattle.lr_host.specs.Counted.{calls_in, scripts_in, RoseBy}
 use Rattle.lr_run.specs.declared.answer.RunStop.{RunStop}
 use Rattle.lr_run.specs.declared.answer.RunStop.TheVariants as stop
 use Rattle.lr_run.specs.Copied.{NoneOfCopy}
@@ -36,9 +37,24 @@ abbrev pub HasFault : Outcome → Fault → Type 0
 HasFault (Done report) f = Contains report.faults f
 HasFault _ f = ⊥
 
--- the report has no more failed calls, and no more bad ends, than the counts of the host rose by, and no fault of the output
+-- none is of the output
+abbrev pub IsOut : Fault → Type 0
+IsOut fault.Out = Unit {0}
+IsOut _ = ⊥
+
+abbrev pub HasNoOut : List Fault → Type 0
+HasNoOut [] = Unit {0}
+HasNoOut (f ∷ fs) = (IsOut f → ⊥) × HasNoOut fs
+
+-- These faults came: no more failed calls, and no more bad ends, than the counts of the host rose by, and none of the output.
+pub record AreReported (faults : List Fault) (counted counts : Counts) : Type 0 where
+  pub calls : RoseBy (calls_in faults) counted.faults counts.faults
+  pub scripts : RoseBy (scripts_in faults) counted.bad_ends counts.bad_ends
+  pub no_out : HasNoOut faults
+
+-- the faults of the report
 abbrev pub HasCounted : Outcome → Counts → Counts → Type 0
-HasCounted (Done report) counted counts = AreCounted report.faults counted counts
+HasCounted (Done report) counted counts = AreReported report.faults counted counts
 HasCounted _ counted counts = Unit {0}
 
 -- None of the faults ends a run, and none tells of a call that failed, of a program that ended badly, or of a copy that broke off. What they may tell of the acts is that something else stood where a directory was to be made, or at the path that a new state is first written to.

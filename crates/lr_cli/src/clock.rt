@@ -5,8 +5,8 @@ ghost use Rattle.lr_rules.specs.declared.fault.Fault.TheVariants as fault;
 ghost use Rattle.lr_rules.specs.declared.fault.ZoneWhy.TheVariants as why;
 ghost use Rattle.lr_host.specs.Told.{Left, Onward};
 ghost use Rattle.lr_due.specs.Zone.{IsInRange, IsRefusedZone, IsTable, IsClockIn};
-ghost use Rattle.lr_host.specs.Counted.{AreCounted};
 ghost use Rattle.lr_cli.specs.declared.clock.ClockStop.TheVariants as stop;
+ghost use Rattle.lr_cli.specs.Faults.{AreReported};
 ghost use Rattle.lr_cli.specs.Clock.{ShowsClock, ClockStopped, HasClock, IsClockFault};
 
 use crate::zone::zone_text;
@@ -56,7 +56,7 @@ fn clock_here<H: Host>(
     ensures told { IfOk result (λ clock. Left (ShowsClock zone.now seconds clock) (H.told host.old) (H.told host.new)) }
     ensures stopped { IfErr result (λ why. Left (ClockStopped zone.now seconds why) (H.told host.old) (H.told host.new)) }
     ensures clock { IfOk result (HasClock zone.now seconds) }
-    ensures fault { (f : Fault) → result ≡ Err (stop.Fault f) → IsClockFault zone.now seconds f × AreCounted (f ∷ []) (H.counts host.old) (H.counts host.new) }
+    ensures fault { (f : Fault) → result ≡ Err (stop.Fault f) → IsClockFault zone.now seconds f × AreReported (f ∷ []) (H.counts host.old) (H.counts host.new) }
     ensures counts { Onward (H.counts host.old) (H.counts host.new) }
 {
     match zone_text(alloc, host, zone) {
@@ -79,7 +79,7 @@ pub fn clock_in<H: Host>(
 
     // Also where the host tells nothing.
     ensures clock { IfOk result (HasClock zone.now seconds) }
-    ensures fault { (f : Fault) → result ≡ Err (stop.Fault f) → IsClockFault zone.now seconds f × AreCounted (f ∷ []) (H.counts host.old) (H.counts host.new) }
+    ensures fault { (f : Fault) → result ≡ Err (stop.Fault f) → IsClockFault zone.now seconds f × AreReported (f ∷ []) (H.counts host.old) (H.counts host.new) }
     ensures counts { Onward (H.counts host.old) (H.counts host.new) }
 {
     if !is_in_range(seconds) {

@@ -9,7 +9,7 @@ ghost use Rattle.lr_cli.specs.Internal.{TurnsByClock};
 ghost use Rattle.lr_rules.specs.StatePath.{can_be_state};
 ghost use Rattle.lr_cli.specs.Answer.{Answers, AnswersAt};
 ghost use Rattle.lr_cli.specs.Clock.{IsClocked};
-ghost use Rattle.lr_cli.specs.Faults.{answer_of, clock_answer, plan_told};
+ghost use Rattle.lr_cli.specs.Faults.{AreReported, answer_of, clock_answer, plan_told};
 ghost use Rattle.lr_cli.specs.Settled.{AreSettingsOf};
 ghost use Rattle.lr_cli.specs.Smooth.{TellsTaken};
 
@@ -124,7 +124,7 @@ pub fn run_at<H: Host>(
     ensures shape { TurnsByClock zone.now seconds (H.told host.old) (H.told host.new) }
     ensures taken { request.now.debug ≡ false → IfOk result (λ told. TellsTaken request.now.state told.plan told.faults.items (H.told host.old) (H.told host.new)) }
     ensures anew { request.now.debug ≡ false → IfOk result (λ told. NamesAnew told.plan told.faults.items (H.told host.new)) }
-    ensures counted { IfOk result (λ told. AreCounted told.faults.items (H.counts host.old) (H.counts host.new)) }
+    ensures counted { IfOk result (λ told. AreReported told.faults.items (H.counts host.old) (H.counts host.new)) }
     ensures room { IfOk result (λ told. vec_len told.faults + 1 ≤ vec_capacity told.faults) }
     ensures held { result ≡ Err RunStop.Held → Rose (H.counts host.old).held (H.counts host.new).held }
     ensures counts { Onward (H.counts host.old) (H.counts host.new) }

@@ -8,7 +8,7 @@ use Rattle.lr_rules.specs.declared.fault.Fault.TheVariants as fault
 use Rattle.lr_rules.specs.declared.fault.Phase.{Phase}
 use Rattle.lr_rules.specs.declared.path.Path.{Path}
 use Rattle.lr_host.specs.Told.{Counts, NoneFell, Rose}
-use Rattle.lr_host.specs.Counted.{calls_in, scripts_in, HasNoOut, RoseBy, AreCounted, AddsFaults}
+use Rattle.lr_host.specs.Counted.{calls_in, scripts_in, NoneAround, RoseBy, AreCounted, AddsFaults}
 
 none_more : (n : ℕ) → 0 + n ≡ n
 none_more n = omega arith
@@ -21,9 +21,9 @@ pub scripts_on : (xs ys : List Fault) → scripts_in (xs ++ ys) ≡ scripts_in x
 scripts_on [] ys = sym (none_more (scripts_in ys))
 scripts_on (x ∷ xs) ys = let e : scripts_in (xs ++ ys) ≡ scripts_in xs + scripts_in ys = scripts_on xs ys in omega (arith, e)
 
-pub no_out_on : (xs ys : List Fault) → HasNoOut xs → HasNoOut ys → HasNoOut (xs ++ ys)
-no_out_on [] ys h g = g
-no_out_on (x ∷ xs) ys h g = (h.0, no_out_on xs ys h.1 g)
+pub none_around_on : (xs ys : List Fault) → NoneAround xs → NoneAround ys → NoneAround (xs ++ ys)
+none_around_on [] ys h g = g
+none_around_on (x ∷ xs) ys h g = (h.0, none_around_on xs ys h.1 g)
 
 pub rose_on : (a b c m n : ℕ) → RoseBy m a b → RoseBy n b c → RoseBy (m + n) a c
 rose_on a b c m n e f = omega (arith, e, f)
@@ -32,11 +32,11 @@ pub counted_on : (xs ys : List Fault) (k l m : Counts) → AreCounted xs k l →
 counted_on xs ys k l m x y = record {
   calls = subst (λ n. RoseBy n k.faults m.faults) (sym (calls_on xs ys)) (rose_on k.faults l.faults m.faults (calls_in xs) (calls_in ys) x.calls y.calls);
   scripts = subst (λ n. RoseBy n k.bad_ends m.bad_ends) (sym (scripts_on xs ys)) (rose_on k.bad_ends l.bad_ends m.bad_ends (scripts_in xs) (scripts_in ys) x.scripts y.scripts);
-  no_out = no_out_on xs ys x.no_out y.no_out;
+  none_around = none_around_on xs ys x.none_around y.none_around;
 }
 
 pub counted_none : (k : Counts) → AreCounted [] k k
-counted_none k = record { calls = omega arith; scripts = omega arith; no_out = tt }
+counted_none k = record { calls = omega arith; scripts = omega arith; none_around = tt }
 
 pub adds_on : (a b c : List Fault) (k l m : Counts) → AddsFaults a b k l → AddsFaults b c l m → AddsFaults a c k m
 adds_on a b c k l m x y = record {
@@ -50,27 +50,27 @@ adds_none a k = record { added = []; after_is = sym (append-nil a); are_counted 
 
 -- ---- faults that no count tells of
 
--- neither a failed call, nor a script, nor the output's
+-- neither a failed call, nor a script, nor one of the clock, the zone or the output
 pub record AreFree (added : List Fault) : Type 0 where
   pub calls : calls_in added ≡ 0
   pub scripts : scripts_in added ≡ 0
-  pub no_out : HasNoOut added
+  pub none_around : NoneAround added
 
 pub free_none : AreFree []
-free_none = record { calls = refl; scripts = refl; no_out = tt }
+free_none = record { calls = refl; scripts = refl; none_around = tt }
 
 pub free_on : (xs ys : List Fault) → AreFree xs → AreFree ys → AreFree (xs ++ ys)
 free_on xs ys h g = record {
   calls = calls_on xs ys ∙ (let a = h.calls in let b = g.calls in omega (arith, a, b));
   scripts = scripts_on xs ys ∙ (let a = h.scripts in let b = g.scripts in omega (arith, a, b));
-  no_out = no_out_on xs ys h.no_out g.no_out;
+  none_around = none_around_on xs ys h.none_around g.none_around;
 }
 
 pub counted_free : (added : List Fault) (k l : Counts) → AreFree added → NoneFell k l → AreCounted added k l
 counted_free added k l h f = record {
   calls = (let z = h.calls in let le : k.faults ≤ l.faults = f.0 in omega (arith, z, le));
   scripts = (let z = h.scripts in let le : k.bad_ends ≤ l.bad_ends = f.1 in omega (arith, z, le));
-  no_out = h.no_out;
+  none_around = h.none_around;
 }
 
 pub adds_free : (a b added : List Fault) (k l : Counts) → b ≡ a ++ added → AreFree added → NoneFell k l → AddsFaults a b k l
@@ -82,14 +82,14 @@ pub counted_call : (kind : CallKind) (path : Path) (k l : Counts) → Rose k.fau
 counted_call kind path k l r f = record {
   calls = r;
   scripts = (let le : k.bad_ends ≤ l.bad_ends = f.1 in omega (arith, le));
-  no_out = ((λ h. h), tt);
+  none_around = ((λ h. h), tt);
 }
 
 pub counted_script : (phase : Phase) (on : List ℕ) (end : Ended) (k l : Counts) → Rose k.bad_ends l.bad_ends → NoneFell k l → AreCounted (fault.Script phase on end ∷ []) k l
 counted_script phase on end k l r f = record {
   calls = (let le : k.faults ≤ l.faults = f.0 in omega (arith, le));
   scripts = r;
-  no_out = ((λ h. h), tt);
+  none_around = ((λ h. h), tt);
 }
 
 pub adds_call : (a b : List Fault) (kind : CallKind) (path : Path) (k l : Counts) → b ≡ a ++ fault.Call kind path ∷ [] → Rose k.faults l.faults → NoneFell k l → AddsFaults a b k l

@@ -22,24 +22,27 @@ abbrev pub scripts_in : List Fault → ℕ
 scripts_in [] = 0
 scripts_in (f ∷ fs) = script_in f + scripts_in fs
 
--- none is of the output
-abbrev pub IsOut : Fault → Type 0
-IsOut fault.Out = Unit {0}
-IsOut _ = ⊥
+-- what is told around a run: a fault of the clock, of the zone or of the output
+abbrev pub IsAround : Fault → Type 0
+IsAround fault.Clock = Unit {0}
+IsAround (fault.Zone why) = Unit {0}
+IsAround fault.Out = Unit {0}
+IsAround _ = ⊥
 
-abbrev pub HasNoOut : List Fault → Type 0
-HasNoOut [] = Unit {0}
-HasNoOut (f ∷ fs) = (IsOut f → ⊥) × HasNoOut fs
+-- none is such a fault
+abbrev pub NoneAround : List Fault → Type 0
+NoneAround [] = Unit {0}
+NoneAround (f ∷ fs) = (IsAround f → ⊥) × NoneAround fs
 
 -- the count rose by no fewer than so many; at its greatest value it counts as risen
 abbrev pub RoseBy : ℕ → ℕ → ℕ → Type 0
 RoseBy n before now = min (before + n) (2 ^ 64 - 1) ≤ now
 
--- These faults came: no more failed calls than `faults` rose by, no more bad ends than `bad_ends` rose by, none of the output.
+-- These faults came: no more failed calls than `faults` rose by, no more bad ends than `bad_ends` rose by, none of the clock, the zone or the output.
 pub record AreCounted (faults : List Fault) (counted counts : Counts) : Type 0 where
   pub calls : RoseBy (calls_in faults) counted.faults counts.faults
   pub scripts : RoseBy (scripts_in faults) counted.bad_ends counts.bad_ends
-  pub no_out : HasNoOut faults
+  pub none_around : NoneAround faults
 
 -- such faults were added
 pub record AddsFaults (before after : List Fault) (counted counts : Counts) : Type 0 where

@@ -134,7 +134,7 @@ some_told (Err x) known f s l = left_as l (λ ts h. record {
 
 pub stop_counted : {T E : Type 0} (r : Result T E) (why : StandStop) (faults all : List Fault) (a b : Counts) → (IsFailedCall why → Rose a.faults b.faults) → NoneFell a b → OnOk r (all ≡ faults ++ stop_fault why) → OnOk r (AddsFaults faults all a b)
 stop_counted (Ok x) (stop.Call kind path) faults all a b rose le e = adds_call faults all kind path a b e (rose (record {})) le
-stop_counted (Ok x) (stop.NotFile path) faults all a b rose le e = adds_free faults all (stop_fault (stop.NotFile path)) a b e (record { calls = refl; scripts = refl; no_out = ((λ h. h), tt) }) le
+stop_counted (Ok x) (stop.NotFile path) faults all a b rose le e = adds_free faults all (stop_fault (stop.NotFile path)) a b e (record { calls = refl; scripts = refl; none_around = ((λ h. h), tt) }) le
 stop_counted (Ok x) stop.Memory faults all a b rose le e = adds_free faults all [] a b e free_none le
 stop_counted (Err x) why faults all a b rose le e = tt
 

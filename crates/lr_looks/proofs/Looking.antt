@@ -221,7 +221,7 @@ found_all all words found e l = record { sights = l.sights; found_are = l.found_
 
 missing_free : (b : Bool) (word : List ℕ) → AreFree (cond b [] (fault.Missing word ∷ []))
 missing_free true word = free_none
-missing_free false word = record { calls = refl; scripts = refl; no_out = ((λ h. h), tt) }
+missing_free false word = record { calls = refl; scripts = refl; none_around = ((λ h. h), tt) }
 
 given_free : (w : Word) (matches : List Match) → AreFree (fault_of w (Ok matches))
 given_free w [] = missing_free w.rule.missingok w.text
@@ -232,8 +232,8 @@ given_counted r w matches faults all a b le h = on_ok r (λ e. adds_free faults 
 
 one_counted : (w : Word) (why : GlobStop) (faults all : List Fault) (a b : Counts) → (IsFailedCall why → Rose a.faults b.faults) → NoneFell a b → all ≡ faults ++ glob_fault w why → AddsFaults faults all a b
 one_counted w (stop.Call kind path) faults all a b rose le e = adds_call faults all kind path a b e (rose tt) le
-one_counted w stop.LongName faults all a b rose le e = adds_free faults all (fault.LongName w.text ∷ []) a b e (record { calls = refl; scripts = refl; no_out = ((λ h. h), tt) }) le
-one_counted w stop.TooMany faults all a b rose le e = adds_free faults all (fault.TooMany w.text ∷ []) a b e (record { calls = refl; scripts = refl; no_out = ((λ h. h), tt) }) le
+one_counted w stop.LongName faults all a b rose le e = adds_free faults all (fault.LongName w.text ∷ []) a b e (record { calls = refl; scripts = refl; none_around = ((λ h. h), tt) }) le
+one_counted w stop.TooMany faults all a b rose le e = adds_free faults all (fault.TooMany w.text ∷ []) a b e (record { calls = refl; scripts = refl; none_around = ((λ h. h), tt) }) le
 one_counted w stop.Memory faults all a b rose le e = adds_free faults all [] a b e free_none le
 
 pub stopped_counted : {T E : Type 0} (r : Result T E) (w : Word) (why : GlobStop) (faults all : List Fault) (a b : Counts) → (IsFailedCall why → Rose a.faults b.faults) → NoneFell a b → OnOk r (all ≡ faults ++ glob_fault w why) → OnOk r (AddsFaults faults all a b)

@@ -81,15 +81,15 @@ again_free f (Some first) = go first.log.ignore
   where
     go : (b : Bool) → AreFree (cond b [] (fault.Duplicate f.log.path ∷ []))
     go true = free_none
-    go false = record { calls = refl; scripts = refl; no_out = ((λ h. h), tt) }
+    go false = record { calls = refl; scripts = refl; none_around = ((λ h. h), tt) }
 
 met_free : (f : FoundLog) (o : Option FoundLog) → AreFree (overlap f o)
 met_free f None = free_none
-met_free f (Some other) = record { calls = refl; scripts = refl; no_out = ((λ h. h), tt) }
+met_free f (Some other) = record { calls = refl; scripts = refl; none_around = ((λ h. h), tt) }
 
 barred_free : (f : FoundLog) (o : Option Path) → AreFree (barred f o)
 barred_free f None = free_none
-barred_free f (Some path) = record { calls = refl; scripts = refl; no_out = ((λ h. h), tt) }
+barred_free f (Some path) = record { calls = refl; scripts = refl; none_around = ((λ h. h), tt) }
 
 choice_free : (reserved : List Path) (all : List FoundLog) (f : FoundLog) (c : Choice) → AreFree (choice_fault reserved all f c)
 choice_free reserved all f Kept = free_none
@@ -109,7 +109,7 @@ kind_free f = go (is_file f.seen.kind)
   where
     go : (b : Bool) → AreFree (cond b [] (fault.NotFile f.log.path ∷ []))
     go true = free_none
-    go false = record { calls = refl; scripts = refl; no_out = ((λ h. h), tt) }
+    go false = record { calls = refl; scripts = refl; none_around = ((λ h. h), tt) }
 
 kinds_free : (fs : List FoundLog) → AreFree (flat_map kind_fault fs)
 kinds_free [] = free_none

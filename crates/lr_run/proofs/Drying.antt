@@ -83,7 +83,7 @@ follows_free : (rules : List Rule) (sets : List SetLooks) (kept : List Path) (ta
 follows_free rules sets kept table clock asked (Some plan) own x y k f e = adds_free x y own k k e
     (subst (λ fs. AreFree fs) (sym (f.2 ∙ ap (λ (p : Plan). p.faults) f.1)) (plan_free clock (decision table clock.now asked.force) rules sets)) (none_fell k)
 follows_free rules sets kept table clock asked None own x y k f e = adds_free x y own k k e
-    (subst (λ fs. AreFree fs) (sym f.1) (record { calls = refl; scripts = refl; no_out = ((λ h. h), tt) })) (none_fell k)
+    (subst (λ fs. AreFree fs) (sym f.1) (record { calls = refl; scripts = refl; none_around = ((λ h. h), tt) })) (none_fell k)
 
 -- ---- the looks
 

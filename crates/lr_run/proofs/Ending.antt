@@ -40,14 +40,14 @@ counted_wider : (fs : List Fault) (k l m : Counts) → NoneFell l m → AreCount
 counted_wider fs k l m le c = record {
   calls = (let a = c.calls in let b : l.faults ≤ m.faults = le.0 in omega (arith, a, b));
   scripts = (let a = c.scripts in let b : l.bad_ends ≤ m.bad_ends = le.1 in omega (arith, a, b));
-  no_out = c.no_out;
+  none_around = c.none_around;
 }
 
 counted_later : (fs : List Fault) (j k l : Counts) → NoneFell j k → AreCounted fs k l → AreCounted fs j l
 counted_later fs j k l le c = record {
   calls = (let a = c.calls in let b : j.faults ≤ k.faults = le.0 in omega (arith, a, b));
   scripts = (let a = c.scripts in let b : j.bad_ends ≤ k.bad_ends = le.1 in omega (arith, a, b));
-  no_out = c.no_out;
+  none_around = c.none_around;
 }
 
 pub adds_wider : {T E : Type 0} (r : Result T E) (a b : List Fault) (k l m : Counts) → NoneFell l m → OnOk r (AddsFaults a b k l) → OnOk r (AddsFaults a b k m)
@@ -59,6 +59,6 @@ adds_later (Ok x) a b j k l le h = record { added = h.added; after_is = h.after_
 adds_later (Err x) a b j k l le h = tt
 
 pub dir_counted : (why : DirStop) (x : Path) (a b : List Fault) (k l : Counts) → b ≡ a ++ dir_fault_of why x ∷ [] → (why ≡ dir.Call → Rose k.faults l.faults) → NoneFell k l → AddsFaults a b k l
-dir_counted dir.Nothing x a b k l e r le = adds_free a b (fault.NoDir x ∷ []) k l e (record { calls = refl; scripts = refl; no_out = ((λ h. h), tt) }) le
-dir_counted dir.NoDir x a b k l e r le = adds_free a b (fault.NoDir x ∷ []) k l e (record { calls = refl; scripts = refl; no_out = ((λ h. h), tt) }) le
+dir_counted dir.Nothing x a b k l e r le = adds_free a b (fault.NoDir x ∷ []) k l e (record { calls = refl; scripts = refl; none_around = ((λ h. h), tt) }) le
+dir_counted dir.NoDir x a b k l e r le = adds_free a b (fault.NoDir x ∷ []) k l e (record { calls = refl; scripts = refl; none_around = ((λ h. h), tt) }) le
 dir_counted dir.Call x a b k l e r le = adds_call a b call.Look x k l e (r refl) le

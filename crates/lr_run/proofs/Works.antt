@@ -95,13 +95,13 @@ can_plan (x ∷ xs) (s ∷ ss) limits r e =
 -- ---- the faults of a plan
 
 no_dir_free : (dir : Path) → AreFree (fault.NoDir dir ∷ [])
-no_dir_free dir = record { calls = refl; scripts = refl; no_out = ((λ h. h), tt) }
+no_dir_free dir = record { calls = refl; scripts = refl; none_around = ((λ h. h), tt) }
 
 high_free : (path : Path) → AreFree (fault.TooHigh path ∷ [])
-high_free path = record { calls = refl; scripts = refl; no_out = ((λ h. h), tt) }
+high_free path = record { calls = refl; scripts = refl; none_around = ((λ h. h), tt) }
 
 taken_free : (path : Path) → AreFree (fault.Taken path ∷ [])
-taken_free path = record { calls = refl; scripts = refl; no_out = ((λ h. h), tt) }
+taken_free path = record { calls = refl; scripts = refl; none_around = ((λ h. h), tt) }
 
 -- of a log with numbers
 numbered_free : (rule : Rule) (look : LogLook) → AreFree (numbered_hindrances rule look)
@@ -308,7 +308,7 @@ carried_counted (Ok u) state rules looks remembered clock asked ready x y z m n 
 carried_counted (Err u) state rules looks remembered clock asked ready x y z m n k l r h = tt
 
 pub too_big_counted : {T E : Type 0} (r : Result T E) (a b : List Fault) (k : Counts) → OnOk r (b ≡ a ++ fault.State 0 kind.TooBig ∷ []) → OnOk r (AddsFaults a b k k)
-too_big_counted (Ok u) a b k e = adds_free a b (fault.State 0 kind.TooBig ∷ []) k k e (record { calls = refl; scripts = refl; no_out = ((λ h. h), tt) }) (none_fell k)
+too_big_counted (Ok u) a b k e = adds_free a b (fault.State 0 kind.TooBig ∷ []) k k e (record { calls = refl; scripts = refl; none_around = ((λ h. h), tt) }) (none_fell k)
 too_big_counted (Err u) a b k e = tt
 
 pub looked_counted : {T E : Type 0} (r : Result T E) (a b c : List Fault) (k l m : Counts) → AddsFaults a b k l → OnOk r (AddsFaults b c l m) → OnOk r (AddsFaults a c k m)
@@ -334,8 +334,8 @@ none_shown state = record { reading = (tt, omega arith); entries = refl }
 -- the counts tell of the fault by which nothing is known
 pub unknown_counted : (state : Path) (f : Fault) (a b : List Fault) (k l : Counts) → b ≡ a ++ f ∷ [] → IsStateFault state f → ((kind : CallKind) (path : Path) → f ≡ fault.Call kind path → Rose k.faults l.faults) → NoneFell k l → AddsFaults a b k l
 unknown_counted state (fault.Call kind path) a b k l e i r le = adds_call a b kind path k l e (r kind path refl) le
-unknown_counted state (fault.NotFile path) a b k l e i r le = adds_free a b (fault.NotFile path ∷ []) k l e (record { calls = refl; scripts = refl; no_out = ((λ h. h), tt) }) le
-unknown_counted state (fault.State line why) a b k l e i r le = adds_free a b (fault.State line why ∷ []) k l e (record { calls = refl; scripts = refl; no_out = ((λ h. h), tt) }) le
+unknown_counted state (fault.NotFile path) a b k l e i r le = adds_free a b (fault.NotFile path ∷ []) k l e (record { calls = refl; scripts = refl; none_around = ((λ h. h), tt) }) le
+unknown_counted state (fault.State line why) a b k l e i r le = adds_free a b (fault.State line why ∷ []) k l e (record { calls = refl; scripts = refl; none_around = ((λ h. h), tt) }) le
 unknown_counted state _ a b k l e i r le = absurd i
 
 -- nothing was read

@@ -22,7 +22,7 @@ use Rattle.lr_host.specs.declared.journal.Journal.{Journal}
 use Rattle.lr_host.specs.declared.thing.Seen.{Seen}
 use Rattle.lr_host.specs.declared.thing.Thing.{Thing}
 use Rattle.lr_host.specs.declared.thing.Thing.TheVariants as thing
-use Rattle.lr_host.specs.Counted.{calls_in, scripts_in, RoseBy, AreCounted}
+use Rattle.lr_host.specs.Counted.{calls_in, scripts_in, RoseBy}
 use Rattle.lr_host.specs.Fits.{IsFileAt, Sees}
 use Rattle.lr_host.specs.Lists.{IsIn}
 use Rattle.lr_host.specs.Looks.{IsDir}
@@ -469,5 +469,5 @@ module _ (state : Path) (asked : Asked) (clock : Clock) (rules : Rules) (own : L
       no_copy (fault.Taken x) h c = no_part_taken taken x c h
       no_copy _ h c = c
 
-  pub smooth_fails_nothing : TakenBy state plan own (Some j) (Some k) → (counted counts : Counts) → AreCounted own counted counts → NoneRose counted counts → NothingFailed state (dirs_in plan) own
-  smooth_fails_nothing taken counted counts are none = nothing_fails taken (none_rose (calls_in own) counted.faults counts.faults are.calls none.0) (none_rose (scripts_in own) counted.bad_ends counts.bad_ends are.scripts none.1)
+  pub smooth_fails_nothing : TakenBy state plan own (Some j) (Some k) → (counted counts : Counts) → RoseBy (calls_in own) counted.faults counts.faults → RoseBy (scripts_in own) counted.bad_ends counts.bad_ends → NoneRose counted counts → NothingFailed state (dirs_in plan) own
+  smooth_fails_nothing taken counted counts calls scripts none = nothing_fails taken (none_rose (calls_in own) counted.faults counts.faults calls none.0) (none_rose (scripts_in own) counted.bad_ends counts.bad_ends scripts none.1)

@@ -6,7 +6,7 @@ ghost use Rattle.lr_rules.specs.declared.path.Path.{Path};
 ghost use Rattle.lr_rules.specs.declared.rules.Rules.{Rules};
 ghost use Rattle.lr_host.specs.declared.entry.Entry.{Entry};
 ghost use Rattle.lr_host.specs.declared.journal.Journal.{Journal};
-ghost use Rattle.lr_host.specs.Counted.{AreCounted};
+ghost use Rattle.lr_host.specs.Counted.{calls_in, scripts_in, RoseBy};
 ghost use Rattle.lr_host.specs.Opening.{IsJournal};
 ghost use Rattle.lr_host.specs.Quiet.{AreQuiet};
 ghost use Rattle.lr_host.specs.Told.{Counts, Made};
@@ -25,5 +25,5 @@ pub fn smooth_run_fails_nothing()
     ensures { (state : Path) (asked : Asked) (clock : Clock) (rules : Rules) (own : List Fault) (j k : Journal) (es reads acts : List Entry)
         → Made (past j) es (past k) → IsJournal (past j) → reverse es ≡ reads ++ acts → AreQuiet reads → (i : Inside state clock rules (Worked state rules.sets clock asked own) acts)
         → IsSmooth state rules.sets i.within.looked.shown.kept (past j) (past k) → TakenBy state (plan_in state rules.sets i.between i.within.looked clock asked) own (Some j) (Some k)
-        → (counted counts : Counts) → AreCounted own counted counts → NoneRose counted counts → NothingFailed state (dirs_in (plan_in state rules.sets i.between i.within.looked clock asked)) own }
+        → (counted counts : Counts) → RoseBy (calls_in own) counted.faults counts.faults → RoseBy (scripts_in own) counted.bad_ends counts.bad_ends → NoneRose counted counts → NothingFailed state (dirs_in (plan_in state rules.sets i.between i.within.looked clock asked)) own }
 {}

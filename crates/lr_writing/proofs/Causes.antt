@@ -21,6 +21,8 @@ cause_later : {P : List Entry → Type 0} {o m : Option Journal} (n : Option Jou
 cause_later n (fault.Call kind path) a b c before p h = omega (arith, p.0.0, h)
 cause_later n (fault.Script phase on end) a b c before p h = omega (arith, p.0.1, h)
 cause_later n (fault.Taken path) a b c before p h = taken_later path before h
+cause_later n fault.Clock a b c before p h = absurd h
+cause_later n (fault.Zone why) a b c before p h = absurd h
 cause_later n fault.Out a b c before p h = absurd h
 cause_later n _ a b c before p h = tt
 
@@ -33,5 +35,7 @@ caused_later n (f ∷ fs) a b c before p h = (cause_later n f a b c before p h.0
 pub counted_one : (f : Fault) (a b : Counts) (o n : Option Journal) → FaultCause f a b o n → NoneFell a b → AreCounted (f ∷ []) a b
 counted_one (fault.Call kind path) a b o n h le = counted_call kind path a b h le
 counted_one (fault.Script phase on end) a b o n h le = counted_script phase on end a b h le
+counted_one fault.Clock a b o n h le = absurd h
+counted_one (fault.Zone why) a b o n h le = absurd h
 counted_one fault.Out a b o n h le = absurd h
-counted_one f a b o n h le = counted_free (f ∷ []) a b (record { calls = refl; scripts = refl; no_out = ((λ h. h), tt) }) le
+counted_one f a b o n h le = counted_free (f ∷ []) a b (record { calls = refl; scripts = refl; none_around = ((λ h. h), tt) }) le

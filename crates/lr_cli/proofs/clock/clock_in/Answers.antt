@@ -1,8 +1,8 @@
 use Rattle.std.proofs.Common.{[], ◌∷◌, IfErr, subst}
 use Rattle.std.specs.Prelude.{ℤ}
 use Rattle.lr_host.specs.Told.{Left}
-use Rattle.lr_host.specs.Counted.{AreCounted}
 use Rattle.lr_cli.specs.Clock.{ClockStopped, IsClockFault}
+use Rattle.lr_cli.specs.Faults.{AreReported}
 use Rattle.lr_cli.proofs.Clocked.{own_seconds, is_out, range_told}
 use Rattle.lr_cli.proofs.clock.clock_in.Goals as goal
 
@@ -13,4 +13,4 @@ pub returns-clause-stopped : goal.returns-clause-stopped
 returns-clause-stopped g c = subst (λ (z : ℤ). IfErr c.clock_here.result (λ why. Left (ClockStopped c.args.zone.now z why) (g.H.Host.told c.args.host.now) (g.H.Host.told c.clock_here.new.host))) (own_seconds c.args.seconds c.ranges.seconds.sfits) c.clock_here.ensures.stopped
 
 pub returns-clause-fault : goal.returns-clause-fault
-returns-clause-fault g c = λ f e. subst (λ (z : ℤ). IsClockFault c.args.zone.now z f × AreCounted (f ∷ []) (g.H.Host.counts c.args.host.now) (g.H.Host.counts c.clock_here.new.host)) (own_seconds c.args.seconds c.ranges.seconds.sfits) (c.clock_here.ensures.fault f e)
+returns-clause-fault g c = λ f e. subst (λ (z : ℤ). IsClockFault c.args.zone.now z f × AreReported (f ∷ []) (g.H.Host.counts c.args.host.now) (g.H.Host.counts c.clock_here.new.host)) (own_seconds c.args.seconds c.ranges.seconds.sfits) (c.clock_here.ensures.fault f e)

@@ -4,7 +4,7 @@ use Rattle.lr_host.specs.Quiet.{AreQuiet}
 use Rattle.lr_cli.specs.Faults.{answer_of, plan_told}
 use Rattle.lr_cli.specs.Internal.{only_looked}
 use Rattle.lr_cli.proofs.Clocked.{own_seconds}
-use Rattle.lr_cli.proofs.Called.{at_none, at_stop, stop_shape, stop_clocked, at_clock, clock_shape, clock_clocked}
+use Rattle.lr_cli.proofs.Called.{at_none, at_stop, stop_shape, stop_clocked, at_clock, clock_shape, clock_clocked, clock_reported}
 use Rattle.lr_cli.proofs.Smooth.{clock_taken, none_told, none_anew}
 use Rattle.lr_cli.proofs.run.run_at.Goals as goal
 
@@ -21,7 +21,10 @@ pub returns-in-Ok-clock_in-clause-told : goal.returns-in-Ok-clock_in-clause-told
 returns-in-Ok-clock_in-clause-told g c = at_clock c.args.request.now c.args.zone.now _ c.args.seconds c.in-Ok-clock_in.clock (plan_told c.run_by.result) (answer_of c.run_by.result) (own_seconds c.args.seconds c.ranges.seconds.sfits) c.in-Ok-clock_in.ensures.told c.run_by.ensures.told
 
 pub returns-in-Ok-clock_in-clause-clock : goal.returns-in-Ok-clock_in-clause-clock
-returns-in-Ok-clock_in-clause-clock g c = clock_clocked c.args.zone.now _ c.args.seconds c.in-Ok-clock_in.clock c.run_by.result (own_seconds c.args.seconds c.ranges.seconds.sfits) c.in-Ok-clock_in.ensures.clock
+returns-in-Ok-clock_in-clause-clock g c = clock_clocked c.args.zone.now _ c.args.seconds c.in-Ok-clock_in.clock c.run_by.result (own_seconds c.args.seconds c.ranges.seconds.sfits) c.in-Ok-clock_in.ensures.clock c.run_by.ensures.counted
+
+pub returns-in-Ok-clock_in-clause-counted : goal.returns-in-Ok-clock_in-clause-counted
+returns-in-Ok-clock_in-clause-counted g c = clock_reported c.run_by.result _ _ _ c.in-Ok-clock_in.ensures.counts.0 c.run_by.ensures.counted
 
 pub returns-in-Ok-clock_in-clause-shape : goal.returns-in-Ok-clock_in-clause-shape
 returns-in-Ok-clock_in-clause-shape g c = clock_shape c.args.zone.now _ c.args.seconds c.in-Ok-clock_in.clock (own_seconds c.args.seconds c.ranges.seconds.sfits) c.in-Ok-clock_in.ensures.told c.run_by.ensures.shape
