@@ -22,17 +22,24 @@ pub enum Tally {
     Entries,
 }
 
-fn seen_text(alloc: Global, seen: &Seen) -> Result<String, AllocError> {
+fn file_text(alloc: Global, seen: &Seen) -> Result<String, AllocError> {
     let (size, mtime) = (seen.size, seen.mtime);
-    match (seen.kind, seen.mode) {
-        (Kind::File, Some(mode)) => format!(in alloc; "file {size} {mtime} {mode:o}"),
-        (Kind::File, None) => format!(in alloc; "file {size} {mtime}"),
-        (Kind::Dir, _) => String::from_str(alloc, "directory"),
-        (Kind::Other, _) => String::from_str(alloc, "other"),
+    let exposed = if seen.exposed { " exposed" } else { "" };
+    match seen.mode {
+        Some(mode) => format!(in alloc; "file {size} {mtime} {mode:o}{exposed}"),
+        None => format!(in alloc; "file {size} {mtime}{exposed}"),
     }
 }
 
-/// `look PATH`: what stands there, of a file its size, modification moment and mode.
+fn seen_text(alloc: Global, seen: &Seen) -> Result<String, AllocError> {
+    match seen.kind {
+        Kind::File => file_text(alloc, seen),
+        Kind::Dir => String::from_str(alloc, "directory"),
+        Kind::Other => String::from_str(alloc, "other"),
+    }
+}
+
+/// `look PATH`: what stands there, of a file its size, modification moment and mode, and `exposed` where it is.
 pub fn look(host: &mut MemHost, cursor: &mut Cursor) -> Result<Vec<u8>, Trouble> {
     let path = cursor.path()?;
     match host.look(&path, true) {

@@ -57,7 +57,7 @@ fn end(host: &mut Machine, out: &mut Answer) -> Result<(), Trouble> {
     Ok(())
 }
 
-// The kind, the size, the second of the last change and the mode, in decimal.
+// The kind, the size, the second of the last change and the mode, in decimal; of a file `exposed`, where it is.
 fn put_seen(seen: Seen, out: &mut Answer) {
     out.put(match seen.kind {
         Kind::File => "file",
@@ -69,6 +69,9 @@ fn put_seen(seen: Seen, out: &mut Answer) {
     out.put(format_args!(" {size} {mtime}"));
     if let Some(mode) = seen.mode {
         out.put(format_args!(" mode {mode}"));
+    }
+    if seen.exposed && seen.kind == Kind::File {
+        out.put(" exposed");
     }
 }
 

@@ -50,14 +50,15 @@ fn put_begin(
 
 fn put_file(into: &mut Vec<u8>, alloc: Global, seen: &Seen) -> Result<(), AllocError> {
     let (size, mtime) = (seen.size, seen.mtime);
+    let exposed = if seen.exposed { " exposed" } else { "" };
     let text = match seen.mode {
-        Some(mode) => format!(in alloc; " file {size} {mtime} {mode:o}")?,
-        None => format!(in alloc; " file {size} {mtime}")?,
+        Some(mode) => format!(in alloc; " file {size} {mtime} {mode:o}{exposed}")?,
+        None => format!(in alloc; " file {size} {mtime}{exposed}")?,
     };
     into.extend_from_slice(text.as_bytes())
 }
 
-// A look, with what it saw: of a file the size, the modification moment and the mode.
+// A look, with what it saw: of a file the size, the modification moment and the mode, and `exposed` where it is.
 fn put_look(
     into: &mut Vec<u8>,
     alloc: Global,
