@@ -84,7 +84,7 @@ name_made_lacks s a v free l = left_as l (λ ts h. record {
 
 -- ---- turns
 
-pub lacks_stepped : (old popped : Course) (t : Task) (s : Stage) (o n : Option Journal) → popped.layer ≡ old.layer → popped.faults.items ≡ old.faults.items → popped.files ≡ old.files → popped.bytes ≡ old.bytes → popped.exposed.items ≡ old.exposed.items → old.todo.items ≡ popped.todo.items ++ t ∷ []
+pub lacks_stepped : (old popped : Course) (t : Task) (s : Stage) (o n : Option Journal) → popped.layer ≡ old.layer → popped.faults.items ≡ old.faults.items → popped.files ≡ old.files → popped.bytes ≡ old.bytes → popped.exposed ≡ old.exposed → old.todo.items ≡ popped.todo.items ++ t ∷ []
     → ((m : Stage) → StandsAt popped m → Left (LacksFrom (record m { todo = t ∷ m.todo })) o n) → StandsAt old s → Left (LacksFrom s) o n
 lacks_stepped old popped t s o n layer faults files bytes exposed todo f st =
     subst (λ (ts : List Task). Left (LacksFrom (record s { todo = ts })) o n) (next_was old popped t s todo st)

@@ -4,3 +4,4 @@ pub mod Calls
 pub mod Lacking
 pub mod Readers
 pub mod Stages
+mod Views

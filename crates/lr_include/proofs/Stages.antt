@@ -127,7 +127,7 @@ asks_of_open (f ∷ fs) lines p some = refl
 
 -- Nothing but the layer, and what is told, is another.
 abbrev Beside : Course → Course → Type 0
-Beside old new = (new.faults.items ≡ old.faults.items) × (new.files ≡ old.files) × (new.bytes ≡ old.bytes) × (new.todo.items ≡ old.todo.items) × (new.exposed.items ≡ old.exposed.items)
+Beside old new = (new.faults.items ≡ old.faults.items) × (new.files ≡ old.files) × (new.bytes ≡ old.bytes) × (new.todo.items ≡ old.todo.items) × (new.exposed ≡ old.exposed)
 
 some_file : (L : Layer) → 0 < length (entered L) → (entered L ≡ []) → ⊥
 some_file L pos e = let none : length (entered L) ≡ 0 = ap length e in absurd (omega (arith, none, pos))
@@ -414,12 +414,12 @@ told_stands old new f s t st = record {
 }
 
 -- it was told before that others may write the file
-pub exposed_again : (c : Course) (file : Path) (s : Stage) → list_any (bytes_eq file) c.exposed.items ≡ true → StandsAt c s → StandsAt c (telling_exposed s file s.todo)
+pub exposed_again : (c : Course) (file : Path) (s : Stage) → list_any (bytes_eq file) c.exposed ≡ true → StandsAt c s → StandsAt c (telling_exposed s file s.todo)
 exposed_again c file s again st = subst (λ (b : Bool). StandsAt c (cond b s (record (telling s (conf file kind.Writable 0) s.todo) { exposed = s.exposed ++ file ∷ [] }))) (sym again ∙ ap (list_any (bytes_eq file)) st.exposed) st
 
 -- it is told now
-pub exposed_first : (old mid new : Course) (file : Path) (s : Stage) → ToldFault mid new (conf file kind.Writable 0) → list_any (bytes_eq file) old.exposed.items ≡ false → mid.layer ≡ old.layer → mid.faults.items ≡ old.faults.items → mid.files ≡ old.files → mid.bytes ≡ old.bytes → mid.todo.items ≡ old.todo.items
-    → mid.exposed.items ≡ old.exposed.items ++ file ∷ [] → StandsAt old s → StandsAt new (telling_exposed s file s.todo)
+pub exposed_first : (old mid new : Course) (file : Path) (s : Stage) → ToldFault mid new (conf file kind.Writable 0) → list_any (bytes_eq file) old.exposed ≡ false → mid.layer ≡ old.layer → mid.faults.items ≡ old.faults.items → mid.files ≡ old.files → mid.bytes ≡ old.bytes → mid.todo.items ≡ old.todo.items
+    → mid.exposed ≡ old.exposed ++ file ∷ [] → StandsAt old s → StandsAt new (telling_exposed s file s.todo)
 exposed_first old mid new file s t first layer faults files bytes todo exposed st =
     subst (λ (b : Bool). StandsAt new (cond b s (record (telling s (conf file kind.Writable 0) s.todo) { exposed = s.exposed ++ file ∷ [] }))) (sym first ∙ ap (list_any (bytes_eq file)) st.exposed)
     (told_stands mid new (conf file kind.Writable 0) (record s { exposed = s.exposed ++ file ∷ [] }) t (record {
@@ -478,7 +478,7 @@ same_then a b c x y = record { layer = y.layer ∙ x.layer; faults = y.faults �
 -- ---- turns
 
 -- what was next was taken off
-pub popped_stands : (old popped : Course) (s : Stage) → popped.layer ≡ old.layer → popped.faults.items ≡ old.faults.items → popped.files ≡ old.files → popped.bytes ≡ old.bytes → popped.exposed.items ≡ old.exposed.items → StandsAt old s → StandsAt popped (record s { todo = reverse popped.todo.items })
+pub popped_stands : (old popped : Course) (s : Stage) → popped.layer ≡ old.layer → popped.faults.items ≡ old.faults.items → popped.files ≡ old.files → popped.bytes ≡ old.bytes → popped.exposed ≡ old.exposed → StandsAt old s → StandsAt popped (record s { todo = reverse popped.todo.items })
 popped_stands old popped s layer faults files bytes exposed st = record {
   knows = subst (λ (x : Layer). Knows x popped.faults.items s.lines s.inside) (sym layer) (subst (λ (fs : List Fault). Knows old.layer fs s.lines s.inside) (sym faults) st.knows);
   files = files ∙ st.files;
@@ -491,7 +491,7 @@ pub next_was : (old popped : Course) (t : Task) (s : Stage) → old.todo.items �
 next_was old popped t s todo st = sym (reverse-append popped.todo.items (t ∷ [])) ∙ (sym (ap reverse todo) ∙ st.todo)
 
 -- and read on by
-pub stepped : (old popped new : Course) (t : Task) (s : Stage) (o n : Option Journal) (i j : ℕ) → popped.layer ≡ old.layer → popped.faults.items ≡ old.faults.items → popped.files ≡ old.files → popped.bytes ≡ old.bytes → popped.exposed.items ≡ old.exposed.items → old.todo.items ≡ popped.todo.items ++ t ∷ []
+pub stepped : (old popped new : Course) (t : Task) (s : Stage) (o n : Option Journal) (i j : ℕ) → popped.layer ≡ old.layer → popped.faults.items ≡ old.faults.items → popped.files ≡ old.files → popped.bytes ≡ old.bytes → popped.exposed ≡ old.exposed → old.todo.items ≡ popped.todo.items ++ t ∷ []
     → ((m : Stage) → StandsAt popped m → GoesOn (record m { todo = t ∷ m.todo }) new o n i j) → StandsAt old s → GoesOn s new o n i j
 stepped old popped new t s o n i j layer faults files bytes exposed todo f st =
     let g = f (record s { todo = reverse popped.todo.items }) (popped_stands old popped s layer faults files bytes exposed st) in
@@ -500,7 +500,7 @@ stepped old popped new t s o n i j layer faults files bytes exposed todo f st =
 pub stayed : (c : Course) (s : Stage) (o : Option Journal) (i : ℕ) → StandsAt c s → GoesOn s c o o i i
 stayed c s o i st = record { stage = s; stands = st; went = went_same s s o i refl }
 
-pub popped_none : (old new : Course) (s : Stage) (o : Option Journal) (i : ℕ) → new.layer ≡ old.layer → new.faults.items ≡ old.faults.items → new.files ≡ old.files → new.bytes ≡ old.bytes → new.exposed.items ≡ old.exposed.items → old.todo.items ≡ new.todo.items ++ [] → StandsAt old s → GoesOn s new o o i i
+pub popped_none : (old new : Course) (s : Stage) (o : Option Journal) (i : ℕ) → new.layer ≡ old.layer → new.faults.items ≡ old.faults.items → new.files ≡ old.files → new.bytes ≡ old.bytes → new.exposed ≡ old.exposed → old.todo.items ≡ new.todo.items ++ [] → StandsAt old s → GoesOn s new o o i i
 popped_none old new s o i layer faults files bytes exposed todo st = stayed new s o i (record {
   knows = subst (λ (x : Layer). Knows x new.faults.items s.lines s.inside) (sym layer) (subst (λ (fs : List Fault). Knows old.layer fs s.lines s.inside) (sym faults) st.knows);
   files = files ∙ st.files;

@@ -33,7 +33,7 @@ pub record StandsAt (c : Course) (s : Stage) : Type 0 where
   pub knows : Knows c.layer c.faults.items s.lines s.inside
   pub files : c.files ≡ s.files
   pub bytes : c.bytes ≡ s.bytes
-  pub exposed : c.exposed.items ≡ s.exposed
+  pub exposed : c.exposed ≡ s.exposed
   pub todo : reverse c.todo.items ≡ s.todo
 
 -- A piece was taken in behind these lines.
@@ -41,7 +41,7 @@ pub record TookPiece (old new : Course) (p : Piece) (lines : List Line) (inside 
   pub knows : Knows new.layer new.faults.items (lines ++ lines_now inside p) (open_behind inside p)
   pub files : new.files ≡ old.files
   pub bytes : new.bytes ≡ old.bytes
-  pub exposed : new.exposed.items ≡ old.exposed.items
+  pub exposed : new.exposed ≡ old.exposed
   pub todo : reverse new.todo.items ≡ asks_now inside lines p ++ reverse old.todo.items
 
 abbrev pub TakesPiece : Course → Course → Piece → Type 0
@@ -67,7 +67,7 @@ pub record GoesOn (s : Stage) (c : Course) (before after : Option Journal) (low 
 pub record SameRest (old new : Course) : Type 0 where
   pub files : new.files ≡ old.files
   pub bytes : new.bytes ≡ old.bytes
-  pub exposed : new.exposed.items ≡ old.exposed.items
+  pub exposed : new.exposed ≡ old.exposed
   pub todo : new.todo.items ≡ old.todo.items
 
 -- These faults were told, and these files of it are asked for.
@@ -76,7 +76,7 @@ pub record Tells (old new : Course) (file : Path) (faults : List Fault) (include
   pub faults_are : new.faults.items ≡ old.faults.items ++ faults
   pub files : new.files ≡ old.files
   pub bytes : new.bytes ≡ old.bytes
-  pub exposed : new.exposed.items ≡ old.exposed.items
+  pub exposed : new.exposed ≡ old.exposed
   pub todo : new.todo.items ≡ old.todo.items ++ map (ask_of file) includes
 
 -- what a layer answered was told
@@ -103,4 +103,4 @@ pub record SameButTodo (old new : Course) : Type 0 where
   pub faults : new.faults.items ≡ old.faults.items
   pub files : new.files ≡ old.files
   pub bytes : new.bytes ≡ old.bytes
-  pub exposed : new.exposed.items ≡ old.exposed.items
+  pub exposed : new.exposed ≡ old.exposed

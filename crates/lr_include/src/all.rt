@@ -13,6 +13,7 @@ ghost use Rattle.lr_include.specs.Course.{StandsAt, GoesOn};
 ghost use Rattle.lr_include.specs.Lacking.{LacksFrom, LacksReading};
 
 use crate::course::Course;
+use crate::exposed::Exposed;
 use crate::reading::Reading;
 use crate::task::{Ask, Task};
 use lr_conf::Layer;
@@ -90,7 +91,7 @@ impl Course {
             faults: Vec::new(alloc),
             files: 4_096,
             bytes: 16_777_216,
-            exposed: Vec::new(alloc),
+            exposed: Exposed::new(alloc),
             todo,
         })
     }

@@ -1,7 +1,8 @@
 // A reading under way.
+use crate::exposed::Exposed;
 use crate::task::Task;
 use lr_conf::Layer;
-use lr_rules::{Fault, Path};
+use lr_rules::Fault;
 use std::alloc::Global;
 
 /// What was read so far, and what is still to be read.
@@ -14,7 +15,7 @@ pub struct Course {
     pub files: u32,
     pub bytes: usize,
     /// The files of which it was told that others may write them.
-    pub exposed: Vec<Path>,
+    pub exposed: Exposed,
     /// The last is read next.
     pub todo: Vec<Task>,
 }

@@ -16,6 +16,7 @@
 
 mod all;
 mod course;
+mod exposed;
 mod kind;
 mod laws;
 mod pieces;

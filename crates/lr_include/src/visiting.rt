@@ -1,7 +1,5 @@
 // Visits of the paths that are asked for.
 ghost use Rattle.std.specs.Prelude.{◌≡◌, ◌<◌, ◌≤◌, ◌+◌, ◌^◌, ◌↔◌, ◌∷◌, ◌++◌, [], true, Some, option_copied, length, reverse, IfOk, OnOk, OnErr};
-ghost use Rattle.std.specs.Str.{bytes_eq};
-ghost use Rattle.std.specs.List.{list_any};
 ghost use Rattle.lr_host.specs.Told.{Left, Onward};
 ghost use Rattle.lr_conf.specs.Meaning.{conf};
 ghost use Rattle.lr_conf.specs.Fold.{entered};
@@ -178,23 +176,15 @@ impl Course {
         self.tell_fault(Fault::Conf { file, line, kind })
     }
 
-    // Whether it was told that others may write the file.
-    fn told_exposed(&self, file: &Path) -> bool
-        ensures { result ≡ list_any (bytes_eq file.now) self.now.exposed.items }
-    {
-        self.exposed.iter().any(|one| file.is(one))
-    }
-
     // Tells that others may write the file, where that wasn't told before.
     fn tell_exposed(&mut self, file: Path) -> Result<(), Memory>
         ensures { OnOk result ((s : Stage) → StandsAt self.old s → StandsAt self.new (telling_exposed s file s.todo)) }
     {
-        let told = self.told_exposed(&file);
+        let told = self.exposed.has(&file);
         if told {
             return Ok(());
         }
-        let copy = file.copy(self.alloc)?;
-        self.exposed.push(copy)?;
+        self.exposed.add(&file)?;
         self.tell_fault(Fault::Conf {
             file,
             line: 0,
