@@ -56,3 +56,12 @@ lay_lines() {
     lay_entries 1
     { seq -f 'rotate %.0f' "$1" && cat "$conf"; } >"$scratch/lines" && mv "$scratch/lines" "$conf"
 }
+
+# A configuration of so many files that others may write: each is told, and none is read.
+lay_exposed() {
+    rm -rf "$logs"
+    rm -f "$state"
+    mkdir "$logs"
+    (cd "$logs" && umask 000 && seq -f 'n%05.0f' "$1" | xargs touch)
+    printf 'include %s\n' "$logs" >"$conf"
+}
