@@ -4,7 +4,7 @@ ghost use Rattle.std.specs.Prelude.{◌≡◌, ◌≤◌, IfOk, length, take};
 use crate::opened::{
     Opened, Owner, is_exposed, open_dir, open_followed, open_lock, open_to_read, owner_of,
 };
-use crate::ways::Ways;
+use crate::ways::{Ways, parted};
 use lr_host::{Kind, Seen};
 use lr_rules::{Ended, Path, Text, TextFault};
 use std::alloc::{AllocError, Global};
@@ -43,7 +43,7 @@ fn seen_at<R: Files<File = File> + AllocGlobal>(
         return fs::metadata(rt, path.as_str());
     }
     let at = ways.place(rt, path)?;
-    fs::symlink_metadata(rt, at.as_str())
+    fs::symlink_metadata(rt, at.text(path))
 }
 
 /// What stands at the path. Nothing is there where a part of the path is missing or no directory.
@@ -146,11 +146,43 @@ pub(crate) fn read_followed<R: Files<File = File>>(
     opened.file.read_at(into, from)
 }
 
-/// The last file that was renamed: the path that it had, and whose it is.
+/// The last file that was renamed: its two paths, and whose it is, where it left its directory.
 #[derive(Drop)]
 pub(crate) struct Moved {
-    pub(crate) from: Path,
-    pub(crate) owner: Owner,
+    from: Path,
+    to: Path,
+    owner: Option<Owner>,
+}
+
+// Whether both paths stand in one directory, by its text.
+fn are_beside(one: &Path, other: &Path) -> bool {
+    let (dir, _) = parted(one.as_str());
+    let (other_dir, _) = parted(other.as_str());
+    dir == other_dir
+}
+
+// Whose a file is that leaves its directory. Who may change the one that it comes to may be another user than who may change
+// this one: so it is asked before.
+fn leaving<R: Files>(rt: &R, here: &str, from: &Path, to: &Path) -> io::Result<Option<Owner>> {
+    if are_beside(from, to) {
+        return Ok(None);
+    }
+    let seen = fs::symlink_metadata(rt, here)?;
+    Ok(Some(owner_of(&seen)))
+}
+
+fn rename_texts<R: Files<File = File> + AllocGlobal>(
+    rt: &R,
+    ways: &mut Ways,
+    from: &Path,
+    to: &Path,
+) -> io::Result<Option<Owner>> {
+    let here = ways.place(rt, from)?;
+    let there = ways.place(rt, to)?;
+    let here = here.text(from);
+    let owner = leaving(rt, here, from, to)?;
+    fs::rename(rt, here, there.text(to))?;
+    Ok(owner)
 }
 
 /// Renames a file. There is room for what is noted before it is done.
@@ -161,14 +193,44 @@ pub(crate) fn rename_at<R: Files<File = File> + AllocGlobal>(
     to: &Path,
 ) -> io::Result<Moved> {
     let kept = from.copy(rt.alloc())?;
-    let here = ways.place(rt, from)?;
-    let there = ways.place(rt, to)?;
-    let seen = fs::symlink_metadata(rt, here.as_str())?;
-    fs::rename(rt, here.as_str(), there.as_str())?;
+    let kept_to = to.copy(rt.alloc())?;
+    let owner = rename_texts(rt, ways, from, to)?;
     Ok(Moved {
         from: kept,
-        owner: owner_of(&seen),
+        to: kept_to,
+        owner,
     })
+}
+
+// Whose the file is that has this path now; nobody's where none has.
+fn owner_at<R: Files<File = File> + AllocGlobal>(
+    rt: &R,
+    ways: &mut Ways,
+    path: &Path,
+) -> io::Result<Option<Owner>> {
+    let at = ways.place(rt, path)?;
+    match fs::symlink_metadata(rt, at.text(path)) {
+        Ok(seen) => Ok(Some(owner_of(&seen))),
+        Err(e) if e.kind() == ErrorKind::NotFound => Ok(None),
+        Err(e) => Err(e),
+    }
+}
+
+/// Whose the file was that had this path before the last rename. One that stayed in its directory is asked for there: who may
+/// change that could as well have changed it before.
+pub(crate) fn owner_before<R: Files<File = File> + AllocGlobal>(
+    rt: &R,
+    ways: &mut Ways,
+    moved: &Option<Moved>,
+    path: &Path,
+) -> io::Result<Option<Owner>> {
+    match moved {
+        Some(moved) if moved.from.is(path) => match moved.owner {
+            Some(owner) => Ok(Some(owner)),
+            None => owner_at(rt, ways, &moved.to),
+        },
+        _ => Ok(None),
+    }
 }
 
 /// Takes a file's path away.
@@ -178,7 +240,7 @@ pub(crate) fn unlink_at<R: Files<File = File> + AllocGlobal>(
     path: &Path,
 ) -> io::Result<()> {
     let at = ways.place(rt, path)?;
-    fs::remove_file(rt, at.as_str())
+    fs::remove_file(rt, at.text(path))
 }
 
 /// Makes a directory; false where the path is named. A mode is given at the making, and by a handle behind it where the
@@ -191,8 +253,8 @@ pub(crate) fn make_dir_at<R: Files<File = File> + AllocGlobal + Clock>(
 ) -> io::Result<bool> {
     let at = ways.place(rt, path)?;
     match mode {
-        Some(mode) => make_dir_with(rt, at.as_str(), mode),
-        None => was_made(DirBuilder::new().create(rt, at.as_str())),
+        Some(mode) => make_dir_with(rt, at.text(path), mode),
+        None => was_made(DirBuilder::new().create(rt, at.text(path))),
     }
 }
 
@@ -307,7 +369,7 @@ pub(crate) fn input_of<R: Files<File = File> + AllocGlobal>(
     match input {
         Some(path) => {
             let at = ways.place(rt, path)?;
-            let Opened { file, .. } = open_to_read(rt, at.as_str(), true)?;
+            let Opened { file, .. } = open_to_read(rt, at.text(path), true)?;
             Ok(file)
         }
         None => File::open(rt, "/dev/null"),
@@ -356,6 +418,7 @@ pub(crate) fn take_lock<R: Files<File = File> + AllocGlobal>(
     state: &Path,
 ) -> io::Result<Option<File>> {
     let at = ways.place(rt, state)?;
+    let at = at.text(state);
     let path = format!(in rt.alloc(); "{at}.lock")?;
     let file = open_lock(rt, path.as_str())?;
     lock_of(file)

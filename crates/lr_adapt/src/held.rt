@@ -71,7 +71,7 @@ pub(crate) fn read_held<R: Files<File = File> + AllocGlobal>(
     ensures { IfOk result (λ got. got.0 ≤ length into.new) }
 {
     let at = ways.place(rt, path)?;
-    hold_to_read(rt, held, path, at.as_str(), sole, from)?;
+    hold_to_read(rt, held, path, at.text(path), sole, from)?;
     match held {
         Some(held) => {
             let count = held.opened.file.read_at(into, from)?;
@@ -91,11 +91,11 @@ pub(crate) fn truncate_held<R: Files<File = File> + AllocGlobal>(
     let at = ways.place(rt, path)?;
     match held {
         Some(held) if held.path.is(path) => {
-            still_named(rt, at.as_str(), &held.opened.seen, true)?;
+            still_named(rt, at.text(path), &held.opened.seen, true)?;
             held.opened.file.set_len(0)
         }
         _ => {
-            let opened = open_to_cut(rt, at.as_str())?;
+            let opened = open_to_cut(rt, at.text(path))?;
             opened.file.set_len(0)
         }
     }

@@ -14,8 +14,8 @@
 //! | `look` | `lstat`, or `stat` where links are followed; a part that is missing or no directory means that nothing is there |
 //! | `list` | the names of the directory, but for `.` and `..`, those that aren't UTF-8, and those with a newline |
 //! | `read` | reads once from the place on; the file is held open while `lstat` says that the path names it, and another that got its path isn't read on from its middle. Behind a making, up to the sync of what was made, it is read for a copy: then it has one name, and the first such file has the mode that the copy was made with |
-//! | `rename` | `rename`; whose the file is is noted |
-//! | `make_new` | opens with `O_EXCL`, so a link that leads nowhere is a name too; then `fchown` to whom the file belonged that the last rename took from this path, and `fchmod`, since the process's mask cuts the mode; where one is refused the name is taken away again. The file is held open |
+//! | `rename` | `rename`; where the file went is noted, and whose it is where it leaves its directory |
+//! | `make_new` | opens with `O_EXCL`, so a link that leads nowhere is a name too; then `fchown` to whom the file belongs that the last rename took from this path, and `fchmod`, since the process's mask cuts the mode; where one is refused the name is taken away again. The file is held open |
 //! | `append` | writes once behind the end: of the file that was made last, where it was made by this path and the path names it still; else of one that the path names, which has one name; one that is missing isn't made |
 //! | `truncate` | cuts to nothing (`ftruncate`) what was read last, where it was read by this path and the path names it still; else a file that the path names; it has one name |
 //! | `unlink` | `unlink` |

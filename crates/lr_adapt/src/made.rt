@@ -4,6 +4,7 @@
 // else gets the path meanwhile.
 ghost use Rattle.std.specs.Prelude.{◌≤◌, ◌<◌, length, IfOk};
 
+use crate::calls::{Moved, owner_before};
 use crate::opened::{Opened, Owner, is_same, named, open_to_append, still_named};
 use crate::ways::Ways;
 use lr_rules::Path;
@@ -88,18 +89,19 @@ fn make_file<R: Files<File = File>>(
     }
 }
 
-/// Makes an empty file, and gives it to this owner; None where the path is named. One that can't be given its owner or mode is
-/// unlinked.
+/// Makes an empty file, and gives it to whom the file belonged that had this path before the last rename; None where the path is
+/// named. One that can't be given its owner or mode is unlinked.
 pub(crate) fn make_new_at<R: Files<File = File> + AllocGlobal>(
     rt: &R,
     ways: &mut Ways,
+    moved: &Option<Moved>,
     path: &Path,
     mode: Option<u32>,
-    owner: Option<Owner>,
 ) -> io::Result<Option<Made>> {
+    let owner = owner_before(rt, ways, moved, path)?;
     let at = ways.place(rt, path)?;
     let kept = path.copy(rt.alloc())?;
-    match make_file(rt, at.as_str(), mode, owner)? {
+    match make_file(rt, at.text(path), mode, owner)? {
         Some(opened) => Ok(Some(Made {
             path: kept,
             mode,
@@ -125,11 +127,11 @@ pub(crate) fn append_made<R: Files<File = File> + AllocGlobal>(
     let at = ways.place(rt, path)?;
     match made {
         Some(made) if made.path.is(path) => {
-            still_named(rt, at.as_str(), &made.opened.seen, false)?;
+            still_named(rt, at.text(path), &made.opened.seen, false)?;
             append(&mut made.opened.file, piece)
         }
         _ => {
-            let mut opened = open_to_append(rt, at.as_str(), true)?;
+            let mut opened = open_to_append(rt, at.text(path), true)?;
             append(&mut opened.file, piece)
         }
     }
@@ -157,14 +159,14 @@ pub(crate) fn sync_made<R: Files<File = File> + AllocGlobal>(
     let at = ways.place(rt, path)?;
     match made {
         Some(made) if made.path.is(path) => {
-            still_named(rt, at.as_str(), &made.opened.seen, false)?;
+            still_named(rt, at.text(path), &made.opened.seen, false)?;
             if made.owner.is_some() {
                 give(&made.opened.file, made.owner, made.mode)?;
             }
             made.opened.file.sync_all()
         }
         _ => {
-            let opened = open_to_append(rt, at.as_str(), false)?;
+            let opened = open_to_append(rt, at.text(path), false)?;
             opened.file.sync_all()
         }
     }

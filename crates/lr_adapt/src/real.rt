@@ -71,14 +71,6 @@ impl<R: Files> RealHost<R> {
 }
 
 impl<R> RealHost<R> {
-    // Whose the file was that this path had before the last rename.
-    fn owner_before(&self, path: &Path) -> Option<Owner> {
-        match &self.moved {
-            Some(moved) if moved.from.is(path) => Some(moved.owner),
-            _ => None,
-        }
-    }
-
     // Whether what is read by this path is read for a copy: another file was made, and isn't synced yet.
     fn copies(&self, path: &Path) -> bool {
         match &self.made {
@@ -264,8 +256,7 @@ impl<R: Files<File = File> + Processes + AllocGlobal + Eprint + Clock + Drop> Ho
 
     /// The file belongs to whom the file belonged that had this path before the last rename, if that is so.
     fn make_new(&mut self, path: &Path, mode: Option<u32>) -> Result<bool, CallFault> {
-        let owner = self.owner_before(path);
-        let got = make_new_at(&self.rt, &mut self.ways, path, mode, owner);
+        let got = make_new_at(&self.rt, &mut self.ways, &self.moved, path, mode);
         match self.count("make", path, got) {
             Ok(Some(made)) => {
                 self.made = Some(made);

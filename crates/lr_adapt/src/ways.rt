@@ -43,6 +43,25 @@ struct Stand {
 struct Way {
     dir: String,
     stand: Stand,
+    // Whether the directory's own path leads to it.
+    plain: bool,
+}
+
+/// The text by which the system finds what a path itself names.
+#[derive(Drop)]
+pub(crate) struct At {
+    // None where it is the path's own.
+    made: Option<String>,
+}
+
+impl At {
+    /// The text, of the path by which this was found.
+    pub(crate) fn text<'a>(&'a self, path: &'a Path) -> &'a str {
+        match &self.made {
+            Some(made) => made.as_str(),
+            None => path.as_str(),
+        }
+    }
 }
 
 /// The directories that were walked to last, the last one first: in a run they are those of the logs, of the old logs and of
@@ -63,8 +82,8 @@ fn caller_of<R: Files>(rt: &R) -> u32 {
     }
 }
 
-// A path's directory, empty for the root, and the name in it.
-fn parted(path: &str) -> (&str, &str) {
+/// A path's directory, empty for the root, and the name in it.
+pub(crate) fn parted(path: &str) -> (&str, &str) {
     match path.rsplit_once('/') {
         Some(parts) => parts,
         None => ("", path),
@@ -300,9 +319,11 @@ fn walked<R: Files<File = File> + AllocGlobal>(
 
 fn way_to<R: Files<File = File> + AllocGlobal>(rt: &R, caller: u32, dir: &str) -> io::Result<Way> {
     let stand = walked(rt, caller, dir)?;
+    let plain = stand.handle.is_none() && stand.at.as_str() == dir;
     Ok(Way {
         dir: String::from_str(rt.alloc(), dir)?,
         stand,
+        plain,
     })
 }
 
@@ -374,15 +395,28 @@ impl Ways {
         }
     }
 
+    // Whether the directory that was found last is found by its own path.
+    fn is_plain(&self) -> bool {
+        match &self.first {
+            Some(way) => way.plain,
+            None => false,
+        }
+    }
+
     /// The text by which the system finds what the path itself names. It holds until two further directories are found.
     pub(crate) fn place<R: Files<File = File> + AllocGlobal>(
         &mut self,
         rt: &R,
         path: &Path,
-    ) -> io::Result<String> {
+    ) -> io::Result<At> {
         let (dir, name) = parted(path.as_str());
         self.find(rt, dir)?;
-        self.text(rt, name)
+        if self.is_plain() {
+            return Ok(At { made: None });
+        }
+        Ok(At {
+            made: Some(self.text(rt, name)?),
+        })
     }
 
     /// The text by which the system finds this directory, with `/.` behind it. A link in the place of its last part is followed as
