@@ -21,7 +21,8 @@ use Rattle.lr_family.specs.Listed.{ShowsListing, ShowsNoDir, NotListed}
 use Rattle.lr_family.specs.Standing.{ShowsStand, ShowsStop, ShowsNoFile, IsExactly}
 use Rattle.lr_family.proofs.Exact.{is_named, no_dir, listing_names, never_stops, why_exactly, err_exactly, ok_exactly}
 use Rattle.lr_family.proofs.Few.{listing_pair, not_listed_one}
-use Rattle.lr_family.proofs.Ordered.{AreAmong, spots_more}
+use Rattle.lr_family.proofs.Ordered.{AreAmong}
+use Rattle.lr_family.proofs.Rising.{spots_more}
 
 -- the entries of a listing of a directory that is there
 record Opened (dir : Path) (names : List (List ℕ)) (ts : List Entry) : Type 0 where
@@ -114,8 +115,6 @@ module _ (dir : Path) (P : List (List ℕ) → List Entry → Type 0) (more : (n
   stopped_exactly N why path ts none exact (inl t) = unlisted_exactly why path ts t
   stopped_exactly N why path ts none exact (inr (true, parent, names, t)) = listed_exactly (N true names) why path parent names ts t (exact names)
   stopped_exactly N why path ts none exact (inr (false, parent, names, t)) = absurd (none names t.back t.second)
-
--- ---- of a numbered family
 
 -- members among the same names, in another order
 pub stops_more : (n : Naming) (s : StandStop) (names others : List (List ℕ)) (ts : List Entry) → AreAmong names others → AreAmong others names → StopsAmong n names s ts → StopsAmong n others s ts

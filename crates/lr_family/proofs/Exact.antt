@@ -23,8 +23,8 @@ use Rattle.lr_family.specs.Looks.{Sight, look_of, AreFilesOrGone, ShowsTo}
 use Rattle.lr_family.specs.Parts.{ShowsNoParts}
 use Rattle.lr_family.specs.Stops.{SomeStopped}
 use Rattle.lr_family.proofs.Few.{all_shown, some_stopped}
-use Rattle.lr_family.proofs.Ordered.{as_many_spots}
 use Rattle.lr_family.proofs.PartLooks.{never_no_file}
+use Rattle.lr_family.proofs.Rising.{as_many_spots}
 use Rattle.lr_family.proofs.Wrong.{by_look, wrong, past_list, wrong_member, no_dir_wrong, no_file_wrong, sights_passed, saw_dir}
 
 -- ---- what the looks show
@@ -88,7 +88,7 @@ past_members n names members path ts us t q = none_shown n names path (ts ++ us)
         let all = all_shown t.spots t.shown ts t.looks in
         let some = some_stopped q.spots (stop.NotFile path) (ts ++ us) q.looks in
         let size = length-append ts us in
-        let many = as_many_spots n names names t.spots q.spots (λ name c. c) (λ name c. c) t.spots_are q.spots_are in
+        let many = as_many_spots n names t.spots q.spots t.spots_are q.spots_are in
         omega (arith, all, some, size, many)
 
     whole : ts ++ us ≡ ts

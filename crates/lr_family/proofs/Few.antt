@@ -1,11 +1,11 @@
 -- How many entries the looks at a family leave.
-use Rattle.std.proofs.Common.{◌≡◌, inl, inr, ℕ, ◌+◌, ◌≤◌, ◌<◌, Bool, true, false, List, [], ◌∷◌, ◌++◌, length, map, Option, Result, Ok, Err, sym, ap, ◌∙◌, subst, arith}
+use Rattle.std.proofs.Common.{◌≡◌, inl, inr, ℕ, ◌+◌, ◌≤◌, ◌<◌, Bool, true, false, List, [], ◌∷◌, ◌++◌, length, map, Option, Result, Ok, Err, refl, sym, ap, ◌∙◌, subst, arith}
 use Rattle.std.specs.Prelude.{IfOk, IfErr, All, Contains}
-use Rattle.std.specs.List.Sorted.{IsStrictlyIncreasing}
+use Rattle.std.specs.List.Sorted.{IsStrictlySortedBy}
 use Rattle.std.proofs.lemmas.Grind.{flat_map-append}
 use Rattle.std.proofs.lemmas.List.{append-nil, length-append, length-map}
-use Rattle.std.proofs.lemmas.List.Elements.{All-nil, All-weaker, All-contains_itself, Contains-append_left}
-use Rattle.std.proofs.lemmas.List.Sorted.{Contains-permutation, IsPermutation-sym, length_permutation}
+use Rattle.std.proofs.lemmas.List.Elements.{All-nil, All-map, All-weaker, All-contains_itself, Contains-append_left}
+use Rattle.std.proofs.lemmas.List.Sorted.{Contains-permutation, IsPermutation-sym}
 use Rattle.lr_rules.specs.declared.path.Path.{Path}
 use Rattle.lr_rules.specs.declared.rule.Naming.{Naming}
 use Rattle.lr_rules.specs.declared.fault.CallKind.{CallKind}
@@ -24,12 +24,12 @@ use Rattle.lr_family.specs.declared.stand.StandStop.TheVariants as stop
 use Rattle.lr_family.specs.Among.{StandsAmong, ShowsIn, ShowsNoneIn, AreFewAmong, names_told, AreFew}
 use Rattle.lr_family.specs.Listed.{ShowsListing, NotListedAt, NotListed, AreAtMost}
 use Rattle.lr_family.specs.Looks.{Sight, look_of, Shows, ShowsTo, ShowsSome}
-use Rattle.lr_family.specs.Named.{member_name}
-use Rattle.lr_family.specs.Parts.{IsPartAmong, SomeParts}
-use Rattle.lr_family.specs.Spots.{spot_at, IsListedAt, AreSpots}
+use Rattle.lr_family.specs.Parts.{IsPartAmong, SomeParts, by_bytes}
+use Rattle.lr_family.specs.Spots.{IsListed, AreSpots}
 use Rattle.lr_family.specs.Stops.{SomeStopped}
 use Rattle.lr_family.proofs.Ordered.{AreAmong, part_more}
-use Rattle.lr_family.proofs.PartLooks.{FewLooks, none_of_them, few_looks, few_stopped}
+use Rattle.lr_family.proofs.PartLooks.{FewLooks, none_rise, none_of_them, few_looks, few_stopped}
+use Rattle.lr_family.proofs.Rising.{paths_rise}
 
 one : (x : Path) (P : Option Seen → Type 0) (ts : List Entry) → Sees x P ts → length ts ≡ 1
 one x P ts s = ap length s.look
@@ -64,31 +64,28 @@ at_most_three dir there parent names (Err s) a b = left_as b (λ ts t. let few =
 
 -- ---- of the members among names
 
-pub none_once : IsStrictlyIncreasing []
-none_once k lt = absurd (omega arith)
-
 -- so many members
 record FewMembers (n : Naming) (names : List (List ℕ)) (ts : List Entry) : Type 0 where
-  places : List ℕ
-  once : IsStrictlyIncreasing places
-  listed : All (IsListedAt n names) places
-  few : length ts ≤ length places
+  paths : List Path
+  once : IsStrictlySortedBy by_bytes paths
+  listed : All (IsListed n names) paths
+  few : length ts ≤ length paths
 
 few_of : (n : Naming) (names : List (List ℕ)) (spots : List Spot) (ts : List Entry) → AreSpots n names spots → length ts ≤ length spots → FewMembers n names ts
 few_of n names spots ts are le = record {
-  places = are.places;
-  once = are.once;
-  listed = All-weaker (Contains are.places) (IsListedAt n names) (λ place c. (are.all place).0 c) are.places (All-contains_itself are.places);
-  few = let same : length spots ≡ length (map (spot_at n) are.places) = length_permutation (map (spot_at n) are.places) spots are.each in let places = length-map are.places (spot_at n) in omega arith;
+  paths = map (λ (s : Spot). s.path) spots;
+  once = paths_rise spots are.rising;
+  listed = All-map (IsListed n names) (λ (s : Spot). s.path) spots (All-weaker (Contains spots) (λ s. IsListed n names s.path) (λ s c. (are.has.all s.path).0 (s, c, refl)) spots (All-contains_itself spots));
+  few = let same = length-map spots (λ (s : Spot). s.path) in omega (arith, same, le);
 }
 
 few_none : (n : Naming) (names : List (List ℕ)) (ts : List Entry) → ts ≡ [] → FewMembers n names ts
-few_none n names ts e = record { places = []; once = none_once; listed = All-nil (IsListedAt n names); few = let none : length ts ≡ 0 = ap length e in omega arith }
+few_none n names ts e = record { paths = []; once = none_rise; listed = All-nil (IsListed n names); few = let none : length ts ≡ 0 = ap length e in omega arith }
 
 -- looks at members, and then at part files
 few_both : (n : Naming) (names : List (List ℕ)) (ts us : List Entry) → FewMembers n names ts → FewLooks n names us → AreFewAmong n names (ts ++ us)
 few_both n names ts us f g = record {
-  places = f.places;
+  paths = f.paths;
   once = f.once;
   listed = f.listed;
   parts = g.0;
@@ -115,7 +112,7 @@ to_few spots path ts f s =
     let front : length s.looks.front ≡ length (map look_of s.before) = ap length s.looks.first in
     let many = sights_many s.before in
     let back = f s.looks.back s.looks.second in
-    let rest : List Spot = record { place = s.place; path = path } ∷ s.after in
+    let rest : List Spot = s.spot ∷ s.after in
     let more : length rest ≡ length s.after + 1 = omega arith in
     let each : length spots ≡ length (map (λ (g : Sight). g.spot) s.before) + length rest = ap length s.each ∙ length-append (map (λ (g : Sight). g.spot) s.before) rest in omega arith
 
@@ -157,18 +154,18 @@ parts_told n names more f some = record { paths = some.paths; once = some.once; 
 
 pub few_then : (n : Naming) (dir : Path) (there parent : Bool) (names : List (List ℕ)) {o m k : Option Journal} → Left (ShowsListing dir there parent names) o m → Left (AreFewAmong n names) m k → Left (AreFew n) o k
 few_then n dir there parent names a b = left_then a b (λ ts us t f. record {
-  places = f.places;
+  paths = f.paths;
   once = f.once;
-  listed = All-weaker (IsListedAt n names) (IsListedAt n (names_told (ts ++ us))) (λ place h. (h.0, told dir there parent names ts us t (member_name n (n.start + place)) h.1)) f.places f.listed;
+  listed = All-weaker (IsListed n names) (IsListed n (names_told (ts ++ us))) (λ x l. record { member = l.member; name = l.name; listed = told dir there parent names ts us t l.name l.listed; named = l.named }) f.paths f.listed;
   parts = parts_told n names (names_told (ts ++ us)) (told dir there parent names ts us t) f.parts;
   few = let all = length-append ts us in let two = listing_pair dir there parent names ts t in let few = f.few in omega (arith, all, two, few);
 })
 
 pub few_unlisted : (n : Naming) (dir : Path) (s : StandStop) {o m : Option Journal} → Left (NotListed dir s) o m → Left (AreFew n) o m
 few_unlisted n dir s a = left_as a (λ ts t. record {
-  places = [];
-  once = none_once;
-  listed = All-nil (IsListedAt n (names_told ts));
+  paths = [];
+  once = none_rise;
+  listed = All-nil (IsListed n (names_told ts));
   parts = none_of_them n (names_told ts);
   few = let few = not_listed_one dir s ts t in omega (arith, few);
 })

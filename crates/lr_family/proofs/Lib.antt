@@ -4,6 +4,8 @@ pub mod Exact
 pub mod Few
 pub mod Looking
 pub mod Middles
+pub mod Names
+pub mod Newness
 pub mod Numbers
 pub mod OnlyLooks
 pub mod Ordered
@@ -12,6 +14,8 @@ pub mod PartNames
 pub mod Paths
 pub mod Placed
 pub mod Prefixes
+pub mod Rising
+pub mod Shown
 pub mod Stamped
 pub mod Unique
 pub mod Whole

@@ -17,7 +17,7 @@ use Rattle.lr_family.specs.declared.look.LookStop.TheVariants as look
 use Rattle.lr_family.specs.declared.spot.Spot.{Spot}
 use Rattle.lr_family.specs.declared.stand.Member.{Member}
 use Rattle.lr_host.specs.Looks.{Sees, IsNoFile, IsFileOrGone}
-use Rattle.lr_family.specs.Looks.{Sight, look_of, seen_at, member_of, Shows, ShowsTo, ShowsSome}
+use Rattle.lr_family.specs.Looks.{Sight, look_of, seen_at, member_of, AreSeen, Shows, ShowsTo, ShowsSome}
 use Rattle.lr_family.specs.Stops.{stop_of, OneStopped, SomeStopped}
 
 -- a look, and what it saw
@@ -57,8 +57,9 @@ shows_more spots members new spot seen a b file grown = left_then a b (λ ts us 
 to_here : (spots done rest : List Spot) (members : List Member) (spot : Spot) (P : List Entry → Type 0) {o m n : Option Journal} → spots ≡ done ++ spot ∷ rest → Left (Shows done members) o m → Left P m n → Left (ShowsTo spots spot.path P) o n
 to_here spots done rest members spot P seam a b = left_then a b (λ ts us s p. record {
   before = s.sights;
-  place = spot.place;
+  spot = spot;
   after = rest;
+  is = refl;
   each = seam ∙ ap (λ ss. ss ++ spot ∷ rest) (sym s.each);
   files = s.files;
   looks = record { front = ts; back = us; joined = refl; first = s.looks; second = p };
@@ -77,3 +78,17 @@ shows_some spots done rest members spot seen seam a b file = left_as (shows_more
   files = s.files;
   looks = s.looks;
 })
+
+-- ---- what was seen, whatever is told
+
+pub seen_none : (members : List Member) → members ≡ [] → AreSeen [] members
+seen_none members e = record { sights = []; each = refl; members_are = e }
+
+pub seen_more : (spots : List Spot) (members new : List Member) (spot : Spot) (seen : Option Seen) → AreSeen spots members → new ≡ members ++ seen_at spot seen → AreSeen (spots ++ spot ∷ []) new
+seen_more spots members new spot seen s grown =
+    let sight : Sight = record { spot = spot; seen = seen } in
+    record {
+      sights = s.sights ++ sight ∷ [];
+      each = map-append (λ (g : Sight). g.spot) s.sights (sight ∷ []) ∙ ap (λ ss. ss ++ spot ∷ []) s.each;
+      members_are = grown ∙ (ap (λ ms. ms ++ seen_at spot seen) s.members_are ∙ (ap (λ ms. flat_map member_of s.sights ++ ms) (sym (append-nil (seen_at spot seen))) ∙ sym (flat_map-append member_of s.sights (sight ∷ []))));
+    }

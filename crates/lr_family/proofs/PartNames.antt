@@ -1,11 +1,10 @@
 -- The part files of members: which names are theirs.
-use Rattle.std.proofs.Common.{◌≡◌, ◌≢◌, ◌⊎◌, inl, inr, ⊎_elim, ℕ, ℤ, ◌+◌, ◌-◌, ◌<◌, ◌≤◌, Bool, true, false, cond, nat_eq, List, [], ◌∷◌, ◌++◌, length, take, get_or, Option, Some, None, Result, Ok, Err, Vec, refl, sym, ap, ◌∙◌, subst, arith, append_assoc, bytes_eq}
-use Rattle.std.specs.Prelude.{◌↔◌, Contains, Any, IfOk, MatchOption, decimal}
+use Rattle.std.proofs.Common.{◌≡◌, ◌≢◌, ◌⊎◌, inl, inr, ⊎_elim, ℕ, ◌+◌, ◌-◌, ◌<◌, ◌≤◌, Bool, true, false, cond, nat_eq, List, [], ◌∷◌, ◌++◌, length, take, get_or, Result, Ok, Err, Vec, refl, sym, ap, ◌∙◌, subst, arith, append_assoc, bytes_eq}
+use Rattle.std.specs.Prelude.{◌↔◌, Contains, Any, IfOk}
 use Rattle.std.specs.Cmp.{IsEquivalence}
 use Rattle.std.specs.Cmp.Lexicographic.{slice_cmp}
 use Rattle.std.specs.List.{dedup}
 use Rattle.std.specs.List.Sorted.{IsSorted, IsStrictlySortedBy}
-use Rattle.std.specs.Option.{is_some}
 use Rattle.std.specs.Ordering.{nat_cmp, is_lt, ordering_then, eq_by_cmp}
 use Rattle.std.proofs.lemmas.Bool.{cases_lt}
 use Rattle.std.proofs.lemmas.Cmp.{nat_list_cmp_total, eq_by_cmp_equiv}
@@ -17,46 +16,15 @@ use Rattle.std.proofs.lemmas.List.Sorted.{sorted_far}
 use Rattle.std.proofs.lemmas.Map.Text.{is_eq-slice_cmp}
 use Rattle.std.proofs.lemmas.Slice.Eq.{bytes_eq-Decides}
 use Rattle.lr_rules.specs.declared.path.Path.{Path}
-use Rattle.lr_rules.specs.declared.rule.Format.{Format}
 use Rattle.lr_rules.specs.declared.rule.Naming.{Naming}
-use Rattle.lr_rules.specs.Dated.{IsDatedAt}
 use Rattle.lr_rules.specs.Match.{part_end}
 use Rattle.lr_rules.specs.Path.{joined}
-use Rattle.lr_stamps.specs.Dated.{IsNamedBy}
-use Rattle.lr_stamps.proofs.Members.{by_path}
 use Rattle.lr_family.specs.InternalParts.{AddsPart, HasParts}
 use Rattle.lr_family.specs.Listed.{AreRising}
-use Rattle.lr_family.specs.Named.{IsNamedAt}
-use Rattle.lr_family.specs.Parts.{part_of, IsDated, IsMember, IsMembersPart, IsPartAmong, AreParts, by_bytes}
+use Rattle.lr_family.specs.Parts.{part_of, IsMember, IsMembersPart, IsPartAmong, AreParts, by_bytes}
+use Rattle.lr_family.proofs.Names.{member_begins}
 use Rattle.lr_family.proofs.Prefixes.{same_number}
-use Rattle.lr_family.proofs.Unique.{joined_same, as_named, as_member}
-
--- ---- the name of a member
-
-no_format : {f : Format} (d : Option Format) → d ≡ None → d ≡ Some f → ⊥
-no_format d p q = cc
-
-pub dated_member : (n : Naming) (f : Format) (name : List ℕ) (r : Option (ℤ × ℕ)) → n.dated ≡ Some f → ((t : ℤ) (k : ℕ) → (r ≡ Some (t, k)) ↔ IsNamedBy n f t k name) → (is_some r ≡ true) ↔ IsMember n (joined n.dir name)
-dated_member n f name r d h = go r (by_path n f (joined n.dir name) name r d refl h)
-  where
-    lost : (v : ℤ × ℕ) → None ≡ Some v → ⊥
-    lost v e = cc
-
-    go : (r : Option (ℤ × ℕ)) → ((t : ℤ) (k : ℕ) → (r ≡ Some (t, k)) ↔ IsDatedAt n t k (joined n.dir name)) → (is_some r ≡ true) ↔ IsMember n (joined n.dir name)
-    go None g = (λ e. absurd (cc), λ m. ⊎_elim (λ a. absurd (no_format n.dated a.0 d)) (λ b. absurd (lost (b.0, b.1) ((g b.0 b.1).1 b.2))) m)
-    go (Some v) g = (λ e. inr (v.0, v.1, (g v.0 v.1).0 refl), λ m. refl)
-
-pub numbered_member : (n : Naming) (name : List ℕ) (r : Option ℕ) → n.dated ≡ None → MatchOption r ((place : ℕ) → IsNamedAt n place name → ⊥) (λ place. IsNamedAt n place name) → (is_some r ≡ true) ↔ IsMember n (joined n.dir name)
-numbered_member n name None d h = (
-  λ e. absurd (cc),
-  λ m. ⊎_elim (λ a. absurd (h a.1.0 (as_named n a.1.0 (joined n.dir name) name refl a.1.1))) (λ (b : IsDated n (joined n.dir name)). absurd (no_format n.dated d b.2.dated)) m,
-)
-numbered_member n name (Some place) d h = (λ e. inl (d, (place, as_member n place (joined n.dir name) name refl h)), λ m. refl)
-
--- a member stands in the directory, and its name begins with the base
-member_begins : (n : Naming) (x : Path) → IsMember n x → (rest : List ℕ) × (x ≡ joined n.dir (n.base ++ rest))
-member_begins n x (inl a) = (46 ∷ (decimal (n.start + a.1.0) ++ n.ext), a.1.1.named ∙ ap (joined n.dir) (append_assoc n.base (46 ∷ decimal (n.start + a.1.0)) n.ext))
-member_begins n x (inr b) = (b.2.middle ++ n.ext, b.2.named ∙ ap (joined n.dir) (append_assoc n.base b.2.middle n.ext))
+use Rattle.lr_family.proofs.Unique.{joined_same}
 
 -- ---- the name of a part file
 

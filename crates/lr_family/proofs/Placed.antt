@@ -1,38 +1,54 @@
--- Each member that was looked at has the path of its place.
-use Rattle.std.proofs.Common.{◌≡◌, ◌≤◌, ◌+◌, ℕ, List, [], ◌∷◌, ◌++◌, Option, Some, None, refl, sym, subst, map}
-use Rattle.std.specs.Prelude.{Contains}
-use Rattle.std.proofs.lemmas.List.Elements.{All-append, All-nil, All-cons, All-map, All-weaker, All-contains, All-contains_itself, Contains-append_left, Contains-push}
-use Rattle.std.proofs.lemmas.List.Sorted.{All-permutation}
+-- Each member that was seen has the path of its place.
+use Rattle.std.proofs.Common.{◌≡◌, ℕ, ℤ, false, List, [], ◌∷◌, Option, Some, None, sym, ap, subst, map}
+use Rattle.std.specs.Prelude.{All, IsSome, flat_map}
 use Rattle.std.specs.List.Sorted.{IsPermutation}
+use Rattle.std.specs.Option.{is_some}
+use Rattle.std.proofs.lemmas.List.Elements.{All-append, All-nil, All-cons, All-head, All-tail}
+use Rattle.std.proofs.lemmas.List.Sorted.{All-permutation}
+use Rattle.lr_rules.specs.declared.path.Path.{Path}
 use Rattle.lr_rules.specs.declared.rule.Naming.{Naming}
+use Rattle.lr_rules.specs.Dated.{IsDatedAt}
 use Rattle.lr_rules.specs.Names.{IsMemberAt}
 use Rattle.lr_host.specs.declared.thing.Seen.{Seen}
+use Rattle.lr_family.specs.declared.place.Place.{Place}
+use Rattle.lr_family.specs.declared.place.Place.TheVariants as at
 use Rattle.lr_family.specs.declared.spot.Spot.{Spot}
 use Rattle.lr_family.specs.declared.stand.Member.{Member}
-use Rattle.lr_family.specs.Looks.{seen_at}
+use Rattle.lr_family.specs.Looks.{Sight, seen_at, member_of, AreSeen}
+use Rattle.lr_family.specs.Parts.{IsDated}
 use Rattle.lr_family.specs.Places.{IsPlaceOf, AreNamed}
-use Rattle.lr_family.specs.Spots.{spot_at, HavePaths, AreSpots}
-use Rattle.lr_family.proofs.Among.{all_bound}
+use Rattle.lr_family.specs.Spots.{HasPath}
+use Rattle.lr_family.specs.Stands.{number_in}
+use Rattle.lr_family.proofs.Names.{no_format}
 
--- the members among the names
-pub spots_named : (n : Naming) (names : List (List ℕ)) (spots : List Spot) → AreSpots n names spots → HavePaths n spots
-spots_named n names spots are = All-permutation (λ s. IsMemberAt n s.place s.path) (map (spot_at n) are.places) spots are.each
-    (All-map (λ s. IsMemberAt n s.place s.path) (spot_at n) are.places (All-weaker (λ place. n.start + place ≤ 4294967295) (λ place. IsMemberAt n place (spot_at n place).path) (λ place b. record { bound = b; named = refl }) are.places (all_bound n names are.places are.all)))
+one_named : (n : Naming) (spot : Spot) (seen : Option Seen) → HasPath n spot → AreNamed n (seen_at spot seen)
+one_named n spot None is = All-nil (λ (m : Member). IsPlaceOf n m.place m.path)
+one_named n spot (Some seen) is = All-cons (λ (m : Member). IsPlaceOf n m.place m.path) _ [] is (All-nil (λ (m : Member). IsPlaceOf n m.place m.path))
 
--- before the first look
-pub named_none : (n : Naming) (members : List Member) → members ≡ [] → AreNamed n members
-named_none n members e = subst (AreNamed n) (sym e) (All-nil (λ m. IsPlaceOf n m.place m.path))
+pub sights_named : (n : Naming) (gs : List Sight) → All (HasPath n) (map (λ (g : Sight). g.spot) gs) → AreNamed n (flat_map member_of gs)
+sights_named n [] h = All-nil (λ (m : Member). IsPlaceOf n m.place m.path)
+sights_named n (g ∷ gs) h = All-append (λ (m : Member). IsPlaceOf n m.place m.path) (seen_at g.spot g.seen) (flat_map member_of gs)
+    (one_named n g.spot g.seen (All-head (HasPath n) g.spot (map (λ (g : Sight). g.spot) gs) h)) (sights_named n gs (All-tail (HasPath n) g.spot (map (λ (g : Sight). g.spot) gs) h))
 
-seen_named : (n : Naming) (spot : Spot) (seen : Option Seen) → IsMemberAt n spot.place spot.path → AreNamed n (seen_at spot seen)
-seen_named n spot None is = All-nil (λ m. IsPlaceOf n m.place m.path)
-seen_named n spot (Some seen) is = All-cons (λ m. IsPlaceOf n m.place m.path) _ [] is (All-nil (λ m. IsPlaceOf n m.place m.path))
+pub seen_named : (n : Naming) (spots : List Spot) (members : List Member) → All (HasPath n) spots → AreSeen spots members → AreNamed n members
+seen_named n spots members h s = subst (AreNamed n) (sym s.members_are) (sights_named n s.sights (subst (All (HasPath n)) (sym s.each) h))
 
--- one look more
-pub named_more : (n : Naming) (spots : List Spot) (members new : List Member) (spot : Spot) (seen : Option Seen) → (HavePaths n spots → AreNamed n members) → new ≡ members ++ seen_at spot seen → HavePaths n (spots ++ spot ∷ []) → AreNamed n new
-named_more n spots members new spot seen so_far grown paths = subst (AreNamed n) (sym grown) (All-append (λ m. IsPlaceOf n m.place m.path) members (seen_at spot seen)
-    (so_far (All-weaker (Contains spots) (λ s. IsMemberAt n s.place s.path) (λ s c. All-contains (λ t. IsMemberAt n t.place t.path) (spots ++ spot ∷ []) s paths (Contains-append_left spots (spot ∷ []) s c)) spots (All-contains_itself spots)))
-    (seen_named n spot seen (All-contains (λ s. IsMemberAt n s.place s.path) (spots ++ spot ∷ []) spot paths (Contains-push spots spot))))
+-- in a numbered family each place is a number
+pub numbered_at : (n : Naming) (p : Place) (x : Path) → n.dated ≡ None → IsPlaceOf n p x → IsMemberAt n (number_in p) x
+numbered_at n (at.Number place) x numbered m = m.1
+numbered_at n (at.Stamp seconds serial) x numbered m = absurd (no_format n.dated numbered m.dated)
+
+-- in a dated family each place is a stamp
+pub some_dated : (n : Naming) (t : ℤ) (k : ℕ) (x : Path) → IsDatedAt n t k x → IsSome n.dated
+some_dated n t k x m = ap is_some m.dated
+
+pub no_number : (n : Naming) (place : ℕ) (x : Path) → IsSome n.dated → IsPlaceOf n (at.Number place) x → ⊥
+no_number n place x some m = let none : is_some n.dated ≡ false = ap is_some m.0 in cc
+
+pub dated_at : (n : Naming) (p : Place) (x : Path) → IsSome n.dated → IsPlaceOf n p x → IsDated n x
+dated_at n (at.Number place) x some m = absurd (no_number n place x some m)
+dated_at n (at.Stamp seconds serial) x some m = (seconds, serial, m)
 
 -- the same members in another order
 pub named_sorted : (n : Naming) (shown members : List Member) → IsPermutation shown members → AreNamed n shown → AreNamed n members
-named_sorted n shown members p named = All-permutation (λ m. IsPlaceOf n m.place m.path) shown members p named
+named_sorted n shown members p named = All-permutation (λ (m : Member). IsPlaceOf n m.place m.path) shown members p named

@@ -1,6 +1,6 @@
 -- What the looks at the members among the names of a listing, and behind them at their part files, show.
 use Rattle.std.specs.Prelude.{◌≡◌, ◌≤◌, ◌+◌, ◌⊎◌, ◌↔◌, ℕ, Bool, true, false, List, [], flat_map, length, All, Result, Err}
-use Rattle.std.specs.List.Sorted.{IsPermutation, IsStrictlyIncreasing}
+use Rattle.std.specs.List.Sorted.{IsPermutation, IsStrictlySortedBy}
 use Rattle.lr_rules.specs.declared.path.Path.{Path}
 use Rattle.lr_rules.specs.declared.rule.Naming.{Naming}
 use Rattle.lr_host.specs.declared.entry.Entry.{Entry}
@@ -12,8 +12,8 @@ use Rattle.lr_family.specs.declared.stand.Stand.{Stand}
 use Rattle.lr_family.specs.declared.stand.StandStop.{StandStop}
 use Rattle.lr_family.specs.declared.stand.StandStop.TheVariants as stop
 use Rattle.lr_family.specs.Looks.{Shows}
-use Rattle.lr_family.specs.Parts.{SomeParts, ShowsParts, ShowsNoParts}
-use Rattle.lr_family.specs.Spots.{IsListedAt, AreSpots}
+use Rattle.lr_family.specs.Parts.{SomeParts, ShowsParts, ShowsNoParts, by_bytes}
+use Rattle.lr_family.specs.Spots.{IsListed, AreSpots}
 use Rattle.lr_family.specs.Stands.{AreNewestFirst}
 use Rattle.lr_family.specs.Stops.{SomeStopped}
 
@@ -56,13 +56,13 @@ IsExactlyAmong n names result ts = (path : Path) → (result ≡ Err (stop.NotFi
 
 -- ---- how many entries
 
--- At most one entry for each member and each part file among the names: these places are different, and so are the paths of the part files.
+-- At most one entry for each member and each part file among the names: the paths of the members are different, and so are those of the part files.
 pub record AreFewAmong (n : Naming) (names : List (List ℕ)) (ts : List Entry) : Type 0 where
-  pub places : List ℕ
-  pub once : IsStrictlyIncreasing places
-  pub listed : All (IsListedAt n names) places
+  pub paths : List Path
+  pub once : IsStrictlySortedBy by_bytes paths
+  pub listed : All (IsListed n names) paths
   pub parts : SomeParts n names
-  pub few : length ts ≤ length places + length parts.paths
+  pub few : length ts ≤ length paths + length parts.paths
 
 -- the names that listings told
 abbrev pub names_in : Entry → List (List ℕ)
@@ -74,8 +74,8 @@ names_told ts = flat_map names_in ts
 
 -- At most four entries more than there are members and part files among the names that were listed.
 pub record AreFew (n : Naming) (ts : List Entry) : Type 0 where
-  pub places : List ℕ
-  pub once : IsStrictlyIncreasing places
-  pub listed : All (IsListedAt n (names_told ts)) places
+  pub paths : List Path
+  pub once : IsStrictlySortedBy by_bytes paths
+  pub listed : All (IsListed n (names_told ts)) paths
   pub parts : SomeParts n (names_told ts)
-  pub few : length ts ≤ length places + length parts.paths + 4
+  pub few : length ts ≤ length paths + length parts.paths + 4

@@ -1,12 +1,11 @@
--- What looks showed.
-use Rattle.std.specs.Prelude.{◌≡◌, ℕ, List, [], ◌∷◌, ◌++◌, map, flat_map, All, Option, Some, None}
+-- What looks at members showed, one after another.
+use Rattle.std.specs.Prelude.{◌≡◌, List, [], ◌∷◌, ◌++◌, map, flat_map, All, Option, Some, None}
 use Rattle.lr_rules.specs.declared.path.Path.{Path}
 use Rattle.lr_host.specs.declared.thing.Seen.{Seen}
 use Rattle.lr_host.specs.declared.entry.Entry.{Entry}
 use Rattle.lr_host.specs.declared.entry.Entry.TheVariants as entry
 use Rattle.lr_host.specs.Looks.{IsFileOrGone}
 use Rattle.lr_host.specs.Told.{Then, Are}
-use Rattle.lr_family.specs.declared.place.Place.TheVariants as at
 use Rattle.lr_family.specs.declared.spot.Spot.{Spot}
 use Rattle.lr_family.specs.declared.stand.Member.{Member}
 
@@ -21,10 +20,16 @@ look_of sight = entry.Look sight.spot.path sight.seen
 -- the member that was seen, where one was
 abbrev pub seen_at : Spot → Option Seen → List Member
 seen_at spot None = []
-seen_at spot (Some seen) = record { path = spot.path; place = at.Number spot.place; seen = seen } ∷ []
+seen_at spot (Some seen) = record { path = spot.path; place = spot.place; seen = seen } ∷ []
 
 abbrev pub member_of : Sight → List Member
 member_of sight = seen_at sight.spot sight.seen
+
+-- These members are those of a look at each of these, in order.
+pub record AreSeen (spots : List Spot) (members : List Member) : Type 0 where
+  pub sights : List Sight
+  pub each : map (λ sight. sight.spot) sights ≡ spots
+  pub members_are : members ≡ flat_map member_of sights
 
 abbrev pub AreFilesOrGone : List Sight → Type 0
 AreFilesOrGone sights = All (λ sight. IsFileOrGone sight.seen) sights
@@ -40,9 +45,10 @@ pub record Shows (spots : List Spot) (members : List Member) (ts : List Entry) :
 -- The first of these were looked at so, and behind them P holds of the one at this path.
 pub record ShowsTo (spots : List Spot) (path : Path) (P : List Entry → Type 0) (ts : List Entry) : Type 0 where
   pub before : List Sight
-  pub place : ℕ
+  pub spot : Spot
   pub after : List Spot
-  pub each : spots ≡ map (λ sight. sight.spot) before ++ record { place = place; path = path } ∷ after
+  pub each : spots ≡ map (λ sight. sight.spot) before ++ spot ∷ after
+  pub is : spot.path ≡ path
   pub files : AreFilesOrGone before
   pub looks : Then (Are (map look_of before)) P ts
 

@@ -10,7 +10,7 @@ ghost use Rattle.lr_family.specs.Among.{ShowsIn, ShowsNoneIn, IsExactlyAmong, Ar
 ghost use Rattle.lr_family.specs.Kin.{IsKin};
 ghost use Rattle.lr_family.specs.Places.{AreNamed};
 ghost use Rattle.lr_family.specs.Standing.{ShowsStand, ShowsStop, IsExactly};
-ghost use Rattle.lr_family.specs.Stands.{IsFailedCall};
+ghost use Rattle.lr_family.specs.Stands.{AreNewestFirst, IsFailedCall};
 
 use crate::listing::Listing;
 use crate::number::{member_path, place_of_path};
@@ -124,21 +124,23 @@ impl Family {
         lr_shapes::meets(&self.log, &self.naming, path)
     }
 
-    /// Which members of a numbered family stand, and which of their part files, in a directory that was listed: looks at
-    /// each member among its names, in order of bytes, then at each part file of one, and at nothing else. A name that is
-    /// gone since it was listed is no member. Each member has the path of its place. `NotFile` comes exactly where a
-    /// member isn't a regular file; a part file that isn't one is left out.
+    /// Which members of the family stand, the newest first, and which of their part files, in a directory that was listed:
+    /// looks at each member among its names, in order of bytes, then at each part file of one, and at nothing else. A name
+    /// that is gone since it was listed is no member. Each member has the path of its place: of a numbered family its
+    /// number, of a dated one its stamp and serial number. `NotFile` comes exactly where a member isn't a regular file; a
+    /// part file that isn't one is left out.
     pub fn stand_in<H: Host>(
         &self,
         alloc: Global,
         host: &mut H,
         listing: &Listing,
     ) -> Result<Stand, StandStop>
-        requires numbered { self.now.naming.dated ≡ None }
+        requires format { or_none is_format self.now.naming.dated ≡ true }
         requires dir { listing.now.dir ≡ self.now.naming.dir }
         ensures told { IfOk result (λ stand. Left (ShowsIn self.now.naming listing.now.there listing.now.parent listing.now.names stand) (H.told host.old) (H.told host.new)) }
         ensures stopped { IfErr result (λ stop. Left (ShowsNoneIn self.now.naming listing.now.there listing.now.names stop) (H.told host.old) (H.told host.new)) }
         ensures named { IfOk result (λ stand. AreNamed self.now.naming stand.members) }
+        ensures newest { IfOk result (λ stand. AreNewestFirst stand.members) }
         ensures exactly { Left (IsExactlyAmong self.now.naming listing.now.names result) (H.told host.old) (H.told host.new) }
         ensures few { Left (AreFewAmong self.now.naming listing.now.names) (H.told host.old) (H.told host.new) }
         ensures cause { IfErr result (λ stop. IsFailedCall stop → Rose (H.counts host.old).faults (H.counts host.new).faults) }
@@ -147,15 +149,16 @@ impl Family {
         stand_among(alloc, host, &self.naming, listing)
     }
 
-    /// Which members of a numbered family stand, and which of their part files: looks for the directory, lists it, and
-    /// looks as `stand_in` does. Where the directory isn't there, looks for its parent. Each member has the path of its
+    /// Which members of the family stand, the newest first, and which of their part files: looks for the directory, lists
+    /// it, and looks as `stand_in` does. Where the directory isn't there, looks for its parent. Each member has the path of its
     /// place. `NotFile` comes exactly where the directory is named but is no directory, or a member isn't a regular file.
     /// Who asks for several families of a directory lists it once (`Listing::take`, `stand_in`).
     pub fn stand<H: Host>(&self, alloc: Global, host: &mut H) -> Result<Stand, StandStop>
-        requires numbered { self.now.naming.dated ≡ None }
+        requires format { or_none is_format self.now.naming.dated ≡ true }
         ensures told { IfOk result (λ stand. Left (ShowsStand self.now.naming stand) (H.told host.old) (H.told host.new)) }
         ensures stopped { IfErr result (λ stop. Left (ShowsStop self.now.naming stop) (H.told host.old) (H.told host.new)) }
         ensures named { IfOk result (λ stand. AreNamed self.now.naming stand.members) }
+        ensures newest { IfOk result (λ stand. AreNewestFirst stand.members) }
         ensures exactly { Left (IsExactly self.now.naming result) (H.told host.old) (H.told host.new) }
         ensures few { Left (AreFew self.now.naming) (H.told host.old) (H.told host.new) }
         ensures cause { IfErr result (λ stop. IsFailedCall stop → Rose (H.counts host.old).faults (H.counts host.new).faults) }

@@ -1,16 +1,12 @@
 // The looks at a family's members.
 ghost use Rattle.std.specs.Prelude.{◌≡◌, [], ◌∷◌, ◌++◌, IfOk, IfErr, OnOk, Err};
-ghost use Rattle.lr_rules.specs.declared.rule.Naming.{Naming};
 ghost use Rattle.lr_host.specs.declared.entry.Entry.TheVariants as entry;
 ghost use Rattle.lr_host.specs.Told.{Left, Are, Onward, Rose};
 ghost use Rattle.lr_host.specs.Looks.{IsFileOrGone};
-ghost use Rattle.lr_family.specs.Looks.{Shows, seen_at};
-ghost use Rattle.lr_family.specs.Places.{AreNamed};
-ghost use Rattle.lr_family.specs.Spots.{HavePaths};
+ghost use Rattle.lr_family.specs.Looks.{AreSeen, Shows, seen_at};
 ghost use Rattle.lr_family.specs.Stands.{IsFailedCall};
 ghost use Rattle.lr_family.specs.Stops.{OneStopped, SomeStopped, stop_of};
 
-use crate::place::Place;
 use crate::spot::Spot;
 use crate::stand::{Member, StandStop};
 use lr_host::{Host, Kind, Seen};
@@ -64,7 +60,7 @@ fn add_seen(members: &mut Vec<Member>, spot: Spot, seen: Option<Seen>) -> Result
     if let Some(seen) = seen {
         members.push(Member {
             path: spot.path,
-            place: Place::Number(spot.place),
+            place: spot.place,
             seen,
         })?;
     }
@@ -78,8 +74,8 @@ pub fn look_at_all<H: Host>(
     spots: Vec<Spot>,
 ) -> Result<Vec<Member>, StandStop>
     ensures told { IfOk result (λ members. Left (Shows spots.items members.items) (H.told host.old) (H.told host.new)) }
+    ensures seen { IfOk result (λ members. AreSeen spots.items members.items) }
     ensures stopped { IfErr result (λ stop. Left (SomeStopped spots.items stop) (H.told host.old) (H.told host.new)) }
-    ensures named { IfOk result (λ members. (n : Naming) → HavePaths n spots.items → AreNamed n members.items) }
     ensures cause { IfErr result (λ stop. IsFailedCall stop → Rose (H.counts host.old).faults (H.counts host.new).faults) }
     ensures counts { Onward (H.counts host.old) (H.counts host.new) }
 {

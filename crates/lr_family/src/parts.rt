@@ -8,36 +8,21 @@ ghost use Rattle.lr_family.specs.Listed.{AreRising};
 ghost use Rattle.lr_family.specs.Parts.{IsMember, IsMembersPart, AreParts, PartsAmong, ShowsNoParts, part_seen};
 ghost use Rattle.lr_family.specs.Stands.{IsFailedCall};
 
-use crate::number::place_of_name;
+use crate::name::{path_in, place_in};
 use crate::prefix::names_with;
 use crate::stand::StandStop;
 use lr_host::{Host, Kind, Seen};
 use lr_rules::{CallKind, Listed, Memory, Naming, Path, Text};
-use lr_stamps::stamp_in;
 use std::alloc::Global;
 
 const PART_END: &[u8] = b".logrotate-part";
-
-/// The path of this name in the directory, for a name that is short enough to be one there: every refusal is taken for
-/// want of memory.
-pub fn path_in(alloc: Global, dir: &Path, name: &Text) -> Result<Path, Memory>
-    ensures { IfOk result (λ path. path ≡ joined dir.now name.now) }
-{
-    match dir.join(alloc, name.bytes()) {
-        Ok(path) => Ok(path),
-        Err(_) => Err(Memory),
-    }
-}
 
 // Whether the name is a member's.
 fn is_member(naming: &Naming, name: &[u8]) -> bool
     requires { or_none is_format naming.now.dated ≡ true }
     ensures { (result ≡ true) ↔ IsMember naming.now (joined naming.now.dir name.now) }
 {
-    match &naming.dated {
-        Some(format) => stamp_in(naming, format, name).is_some(),
-        None => place_of_name(naming, name).is_some(),
-    }
+    place_in(naming, name).is_some()
 }
 
 // Whether the name is that of a member's part file.

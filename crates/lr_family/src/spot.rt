@@ -1,93 +1,92 @@
 // The members that a listing names.
-ghost use Rattle.std.specs.Prelude.{◌≡◌, ◌≤◌, ◌+◌, ◌↔◌, ℕ, map, All, Contains, IfOk, OnOk};
-ghost use Rattle.std.specs.Ordering.{nat_cmp};
-ghost use Rattle.std.specs.Cmp.Lexicographic.{slice_cmp};
-ghost use Rattle.std.specs.List.Sorted.{IsStrictlyIncreasing};
+ghost use Rattle.std.specs.Prelude.{◌≡◌, bytes_eq, true, IfOk, OnOk};
+ghost use Rattle.std.specs.Ordering.{is_lt};
+ghost use Rattle.std.specs.List.Sorted.{IsPermutation, IsStrictlySortedBy};
+ghost use Rattle.std.specs.List.{dedup};
+ghost use Rattle.lr_rules.specs.Limits.{is_format, or_none};
 ghost use Rattle.lr_family.specs.Listed.{AreRising};
-ghost use Rattle.lr_family.specs.Spots.{spot_at, HasPlaces, AddsPlace, AreSpots};
+ghost use Rattle.lr_family.specs.Spots.{by_path, HasSpots, AreSpots, AddsSpot};
 
-use crate::number::{member_path, place_of_name};
+use crate::name::{path_in, place_in};
+use crate::place::Place;
 use crate::prefix::names_with;
 use lr_rules::{Memory, Naming, Path, Text};
 use std::alloc::Global;
 use std::cmp::Ordering;
 
-/// A member that is to be looked at: its place, from 0 for the newest, and its path.
+/// A member that is to be looked at.
 #[derive(Drop)]
 pub struct Spot {
-    pub place: u32,
     pub path: Path,
+    pub place: Place,
 }
 
-// Adds the place of the member with this name, where it is one.
-fn add_place(places: &mut Vec<u32>, naming: &Naming, name: &Text) -> Result<(), Memory>
-    ensures { OnOk result (AddsPlace naming.now name.now places.old.items places.new.items) }
+// Adds the member with this name, where it is one.
+fn add_spot(
+    alloc: Global,
+    spots: &mut Vec<Spot>,
+    naming: &Naming,
+    name: &Text,
+) -> Result<(), Memory>
+    requires format { or_none is_format naming.now.dated ≡ true }
+    ensures { OnOk result (AddsSpot naming.now name.now spots.old.items spots.new.items) }
 {
-    match place_of_name(naming, name.bytes()) {
-        Some(place) => places.push(place)?,
-        None => {}
+    if let Some(place) = place_in(naming, name.bytes()) {
+        let path = path_in(alloc, &naming.dir, name)?;
+        spots.push(Spot { path, place })?;
     }
     Ok(())
 }
 
-// The places of the members among the names, in the order of the names.
-fn places_among(alloc: Global, naming: &Naming, names: &[Text]) -> Result<Vec<u32>, Memory>
-    ensures { IfOk result (λ places. HasPlaces naming.now names.now places.items) }
-{
-    let mut places = Vec::new(alloc);
-    for name in names {
-        add_place(&mut places, naming, name)?;
-    }
-    Ok(places)
-}
-
-// The same of names in order of bytes: those that begin as a member's are enough.
-fn places_in(alloc: Global, naming: &Naming, names: &[Text]) -> Result<Vec<u32>, Memory>
-    requires { AreRising names.now }
-    ensures { IfOk result (λ places. HasPlaces naming.now names.now places.items) }
-{
-    places_among(alloc, naming, names_with(names, naming.base.bytes()))
-}
-
-// The same places, each once, the newest first.
-fn sort_rising(places: &mut Vec<u32>)
-    ensures rising { IsStrictlyIncreasing places.new.items }
-    ensures same { (place : ℕ) → Contains places.new.items place ↔ Contains places.old.items place }
-{
-    places.sort_unstable();
-    places.dedup();
-}
-
-// The paths of the members at these places.
-fn spots_at(alloc: Global, naming: &Naming, places: &[u32]) -> Result<Vec<Spot>, Memory>
-    requires { All (λ place. naming.now.start + place ≤ 4294967295) places.now }
-    ensures { IfOk result (λ spots. spots.items ≡ map (spot_at naming.now) places.now) }
+// The members among the names, in the order of the names.
+fn spots_in(alloc: Global, naming: &Naming, names: &[Text]) -> Result<Vec<Spot>, Memory>
+    requires format { or_none is_format naming.now.dated ≡ true }
+    ensures { IfOk result (λ spots. HasSpots naming.now names.now spots.items) }
 {
     let mut spots = Vec::new(alloc);
-    for place in places {
-        let path = member_path(alloc, naming, naming.start + *place)?;
-        spots.push(Spot {
-            place: *place,
-            path,
-        })?;
+    for name in names {
+        add_spot(alloc, &mut spots, naming, name)?;
     }
     Ok(spots)
 }
 
+// The same of names in order of bytes: those that begin as a member's are enough.
+fn spots_with(alloc: Global, naming: &Naming, names: &[Text]) -> Result<Vec<Spot>, Memory>
+    requires format { or_none is_format naming.now.dated ≡ true }
+    requires rising { AreRising names.now }
+    ensures { IfOk result (λ spots. HasSpots naming.now names.now spots.items) }
+{
+    spots_in(alloc, naming, names_with(names, naming.base.bytes()))
+}
+
 fn by_bytes(a: &Spot, b: &Spot) -> Ordering
-    ensures { result ≡ slice_cmp nat_cmp a.now.path b.now.path }
+    ensures { result ≡ by_path a.now b.now }
 {
     a.path.bytes().cmp(b.path.bytes())
 }
 
+fn are_same(a: &Spot, b: &Spot) -> bool
+    ensures { result ≡ bytes_eq a.now.path b.now.path }
+{
+    a.path.bytes() == b.path.bytes()
+}
+
+// The same members, each once, in order of the bytes of their paths.
+fn sort_rising(naming: &Naming, names: &[Text], spots: &mut Vec<Spot>)
+    requires { HasSpots naming.now names.now spots.old.items }
+    ensures { AreSpots naming.now names.now spots.new.items }
+{
+    spots.sort_unstable_by(|a, b| by_bytes(a, b));
+    spots.dedup_by(|a, b| are_same(a, b));
+}
+
 /// The members among the names, each once, in order of the bytes of their paths.
 pub fn spots_among(alloc: Global, naming: &Naming, names: &[Text]) -> Result<Vec<Spot>, Memory>
-    requires { AreRising names.now }
+    requires format { or_none is_format naming.now.dated ≡ true }
+    requires rising { AreRising names.now }
     ensures { IfOk result (λ spots. AreSpots naming.now names.now spots.items) }
 {
-    let mut places = places_in(alloc, naming, names)?;
-    sort_rising(&mut places);
-    let mut spots = spots_at(alloc, naming, &places)?;
-    spots.sort_unstable_by(|a, b| by_bytes(a, b));
+    let mut spots = spots_with(alloc, naming, names)?;
+    sort_rising(naming, names, &mut spots);
     Ok(spots)
 }

@@ -1,9 +1,10 @@
 // What stands of a family in a directory that was listed.
-ghost use Rattle.std.specs.Prelude.{◌≡◌, None, IfOk, IfErr};
+ghost use Rattle.std.specs.Prelude.{◌≡◌, true, IfOk, IfErr};
+ghost use Rattle.lr_rules.specs.Limits.{is_format, or_none};
 ghost use Rattle.lr_host.specs.Told.{Left, Onward, Rose};
 ghost use Rattle.lr_family.specs.Among.{ShowsIn, ShowsNoneIn};
 ghost use Rattle.lr_family.specs.Places.{AreNamed};
-ghost use Rattle.lr_family.specs.Stands.{IsFailedCall};
+ghost use Rattle.lr_family.specs.Stands.{AreNewestFirst, IsFailedCall};
 
 use crate::listing::Listing;
 use crate::members::members_among;
@@ -21,10 +22,11 @@ pub fn stand_among<H: Host>(
     naming: &Naming,
     listing: &Listing,
 ) -> Result<Stand, StandStop>
-    requires numbered { naming.now.dated ≡ None }
+    requires format { or_none is_format naming.now.dated ≡ true }
     ensures told { IfOk result (λ stand. Left (ShowsIn naming.now listing.now.there listing.now.parent listing.now.names stand) (H.told host.old) (H.told host.new)) }
     ensures stopped { IfErr result (λ stop. Left (ShowsNoneIn naming.now listing.now.there listing.now.names stop) (H.told host.old) (H.told host.new)) }
     ensures named { IfOk result (λ stand. AreNamed naming.now stand.members) }
+    ensures newest { IfOk result (λ stand. AreNewestFirst stand.members) }
     ensures cause { IfErr result (λ stop. IsFailedCall stop → Rose (H.counts host.old).faults (H.counts host.new).faults) }
     ensures counts { Onward (H.counts host.old) (H.counts host.new) }
 {

@@ -3,8 +3,7 @@ use Rattle.std.specs.Result.{is_err}
 use Rattle.lr_host.specs.Told.{Left}
 use Rattle.lr_family.specs.declared.spot.Spot.{Spot}
 use Rattle.lr_family.specs.Stops.{SomeStopped}
-use Rattle.lr_family.proofs.Looking.{shows_none, shows_more, shows_stop, shows_some}
-use Rattle.lr_family.proofs.Placed.{named_none, named_more}
+use Rattle.lr_family.proofs.Looking.{shows_none, shows_more, shows_stop, shows_some, seen_none, seen_more}
 use Rattle.lr_family.proofs.look.look_at_all.Goals as goal
 
 on_ok : {T E : Type 0} (r : Result T E) {P : Type 0} → is_err r ≡ false → OnOk r P → P
@@ -12,7 +11,7 @@ on_ok (Ok x) e p = p
 on_ok (Err x) e p = absurd (cc)
 
 pub loop-spot-init : goal.loop-spot-init
-loop-spot-init g c = record { done = []; seam = refl; told = shows_none c.new-members.result.items _ c.new-members.ensures.items; named = λ n p. named_none n c.new-members.result.items c.new-members.ensures.items; counts = search rules }
+loop-spot-init g c = record { done = []; seam = refl; told = shows_none c.new-members.result.items _ c.new-members.ensures.items; seen = seen_none c.new-members.result.items c.new-members.ensures.items; counts = search rules }
 
 pub returns-in-Err-clause-stopped : goal.returns-in-Err-clause-stopped
 returns-in-Err-clause-stopped g c =
@@ -29,6 +28,6 @@ loop-spot-preserved g c = record {
   done = c.loop-spot.invariant.done ++ c.in-Some.spot ∷ [];
   seam = c.loop-spot.invariant.seam ∙ (ap (λ (ss : List Spot). c.loop-spot.invariant.done ++ ss) c.in-Some.ensures.steps.0 ∙ sym (append_assoc c.loop-spot.invariant.done (c.in-Some.spot ∷ []) _));
   told = shows_more c.loop-spot.invariant.done c.loop-spot.members.items c.add_seen.new.members.items c.in-Some.spot c.in-Ok.seen c.loop-spot.invariant.told c.in-Ok.ensures.told c.in-Ok.ensures.file (on_ok c.add_seen.result (sym c.is_err.ensures.value ∙ c.if-is_err.false) c.add_seen.ensures);
-  named = λ n p. named_more n c.loop-spot.invariant.done c.loop-spot.members.items c.add_seen.new.members.items c.in-Some.spot c.in-Ok.seen (c.loop-spot.invariant.named n) (on_ok c.add_seen.result (sym c.is_err.ensures.value ∙ c.if-is_err.false) c.add_seen.ensures) p;
+  seen = seen_more c.loop-spot.invariant.done c.loop-spot.members.items c.add_seen.new.members.items c.in-Some.spot c.in-Ok.seen c.loop-spot.invariant.seen (on_ok c.add_seen.result (sym c.is_err.ensures.value ∙ c.if-is_err.false) c.add_seen.ensures);
   counts = search rules;
 }

@@ -1,0 +1,52 @@
+-- The names of members: which place each has.
+use Rattle.std.proofs.Common.{◌≡◌, inl, inr, ⊎_elim, ℕ, ℤ, ◌+◌, true, List, ◌∷◌, ◌++◌, Option, Some, None, refl, sym, ap, ◌∙◌, subst, append_assoc}
+use Rattle.std.specs.Prelude.{◌↔◌, MatchOption, decimal}
+use Rattle.std.specs.Option.{is_some}
+use Rattle.lr_rules.specs.declared.path.Path.{Path}
+use Rattle.lr_rules.specs.declared.rule.Format.{Format}
+use Rattle.lr_rules.specs.declared.rule.Naming.{Naming}
+use Rattle.lr_rules.specs.Dated.{IsDatedAt}
+use Rattle.lr_rules.specs.Path.{joined}
+use Rattle.lr_stamps.specs.Dated.{IsNamedBy}
+use Rattle.lr_stamps.proofs.Members.{by_path}
+use Rattle.lr_family.specs.declared.place.Place.{Place}
+use Rattle.lr_family.specs.declared.place.Place.TheVariants as at
+use Rattle.lr_family.specs.Named.{IsNamedAt}
+use Rattle.lr_family.specs.Parts.{IsDated, IsMember}
+use Rattle.lr_family.specs.Places.{IsPlaceOf}
+use Rattle.lr_family.proofs.Unique.{as_named}
+
+pub no_format : {f : Format} (d : Option Format) → d ≡ None → d ≡ Some f → ⊥
+no_format d p q = cc
+
+-- what stands at a place is a member
+pub placed_member : (n : Naming) (p : Place) (x : Path) → IsPlaceOf n p x → IsMember n x
+placed_member n (at.Number place) x m = inl (m.0, (place, m.1))
+placed_member n (at.Stamp seconds serial) x m = inr (seconds, serial, m)
+
+-- a member stands in the directory, and its name begins with the base
+pub member_begins : (n : Naming) (x : Path) → IsMember n x → (rest : List ℕ) × (x ≡ joined n.dir (n.base ++ rest))
+member_begins n x (inl a) = (46 ∷ (decimal (n.start + a.1.0) ++ n.ext), a.1.1.named ∙ ap (joined n.dir) (append_assoc n.base (46 ∷ decimal (n.start + a.1.0)) n.ext))
+member_begins n x (inr b) = (b.2.middle ++ n.ext, b.2.named ∙ ap (joined n.dir) (append_assoc n.base b.2.middle n.ext))
+
+-- ---- what is read of a name
+
+pub not_numbered : (n : Naming) (name : List ℕ) → n.dated ≡ None → ((place : ℕ) → IsNamedAt n place name → ⊥) → IsMember n (joined n.dir name) → ⊥
+not_numbered n name d h m = ⊎_elim (λ a. h a.1.0 (as_named n a.1.0 (joined n.dir name) name refl a.1.1)) (λ (b : IsDated n (joined n.dir name)). no_format n.dated d b.2.dated) m
+
+abbrev pub Reads : Naming → Format → List ℕ → Option (ℤ × ℕ) → Type 0
+Reads n f name r = (t : ℤ) (k : ℕ) → (r ≡ Some (t, k)) ↔ IsNamedBy n f t k name
+
+pub stamped : (n : Naming) (f : Format) (name : List ℕ) (r : Option (ℤ × ℕ)) (t v : ℤ) (k : ℕ) → n.dated ≡ Some f → Reads n f name r → r ≡ Some (t, k) → v ≡ t → IsPlaceOf n (at.Stamp v k) (joined n.dir name)
+stamped n f name r t v k d h is back = subst (λ (u : ℤ). IsDatedAt n u k (joined n.dir name)) (sym back) ((by_path n f (joined n.dir name) name r d refl h t k).0 is)
+
+pub not_stamped : (n : Naming) (f : Format) (name : List ℕ) (r : Option (ℤ × ℕ)) → n.dated ≡ Some f → Reads n f name r → r ≡ None → IsMember n (joined n.dir name) → ⊥
+not_stamped n f name r d h none m = ⊎_elim (λ a. no_format n.dated a.0 d) (λ b. lost r (b.0, b.1) none ((by_path n f (joined n.dir name) name r d refl h b.0 b.1).1 b.2)) m
+  where
+    lost : (r : Option (ℤ × ℕ)) (v : ℤ × ℕ) → r ≡ None → r ≡ Some v → ⊥
+    lost r v p q = cc
+
+-- whether it is a member's
+pub is_place : (n : Naming) (x : Path) (r : Option Place) → MatchOption r (IsMember n x → ⊥) (λ place. IsPlaceOf n place x) → (is_some r ≡ true) ↔ IsMember n x
+is_place n x None h = (λ e. absurd (cc), λ m. absurd (h m))
+is_place n x (Some place) h = (λ e. placed_member n place x h, λ m. refl)
